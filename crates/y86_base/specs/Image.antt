@@ -1,0 +1,19 @@
+-- The memory image as a list of bytes. A word is 8 bytes, the lowest first (CS:APP 3e, section 2.1.3).
+use Rattle.std.specs.Prelude.{◌≡◌, ℕ, ◌+◌, ◌%◌, ◌≤◌, List, ◌++◌, length, take, drop, Option, Some, None, nat_le, if◌then◌else◌}
+use Rattle.std.specs.Int.{from_le_bytes, to_le_bytes, w64}
+
+-- the sizes that an image takes, in bytes: the multiples of 8 from 64 to 1,048,576
+pub record IsSize (size : ℕ) : Type 0 where
+  pub least : 64 ≤ size
+  pub most : size ≤ 1048576
+  pub whole_words : size % 8 ≡ 0
+
+-- the word at an address, where all its 8 bytes are inside
+abbrev pub word_at : List ℕ → ℕ → Option ℕ
+word_at memory address =
+    if nat_le (address + 8) (length memory) then Some (from_le_bytes w64 (take 8 (drop address memory))) else None
+
+-- the memory with a word put at an address; nothing changes where one of its 8 bytes is outside
+abbrev pub put_word : List ℕ → ℕ → ℕ → List ℕ
+put_word memory address word =
+    if nat_le (address + 8) (length memory) then take address memory ++ (to_le_bytes w64 word ++ drop (address + 8) memory) else memory

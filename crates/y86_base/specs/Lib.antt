@@ -1,0 +1,4 @@
+pub mod Stat
+pub mod Image
+pub mod Registers
+pub mod Text

@@ -1,0 +1,10 @@
+-- The register file as a list of 15 numbers. Number 15 means no register (CS:APP 3e, figure 4.4).
+use Rattle.std.specs.Prelude.{ℕ, List, slice_index, slice_set, nat_lt, if◌then◌else◌}
+
+-- what a register number reads: 0 for a number over 14
+abbrev pub register : List ℕ → ℕ → ℕ
+register registers number = if nat_lt number 15 then slice_index registers number else 0
+
+-- the registers with a word written to one of them; a number over 14 writes nothing
+abbrev pub with_register : List ℕ → ℕ → ℕ → List ℕ
+with_register registers number word = if nat_lt number 15 then slice_set registers number word else registers

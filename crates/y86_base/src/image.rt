@@ -1,0 +1,120 @@
+ghost use Rattle.std.specs.Prelude.{◌≡◌, ◌+◌, ◌≤◌, IfOk, IsErrOf, OnOk, length, nat_le, nat_lt, replicate, slice_get, slice_set};
+ghost use Rattle.y86_base.specs.Image.{IsSize, put_word, word_at};
+
+use crate::parts::Memory;
+use std::alloc::Global;
+use std::marker::Model;
+
+/// The bytes of a memory, seen as their list. Its size never changes.
+#[derive(Debug, Drop)]
+pub struct Image {
+    bytes: Vec<u8>,
+}
+
+impl Model for Image {
+    ghost use Rattle.std.specs.Prelude.{List, ℕ, length};
+    ghost use Rattle.y86_base.specs.Image.{IsSize};
+
+    ghost Value = { List ℕ };
+
+    ghost view = { λ image. image.bytes.items };
+
+    ghost invariant = { λ image. IsSize (length image.bytes.items) };
+}
+
+/// Why there is no image of a size.
+#[derive(Clone, Copy, Debug, PartialEq, Eq)]
+pub enum ImageFault {
+    Size,
+    Memory,
+}
+
+impl Image {
+    /// The smallest and the largest size, in bytes.
+    pub const LEAST: u64 = 64;
+
+    pub const MOST: u64 = 1_048_576;
+
+    /// An image of `size` bytes, all 0.
+    pub fn new(alloc: Global, size: u64) -> Result<Image, ImageFault>
+        ensures zeros { IfOk result (λ image. image ≡ replicate size 0) }
+        ensures sized { OnOk result (IsSize size) }
+        ensures size_only_where_bad { IsErrOf result ImageFault.Size → IsSize size → ⊥ }
+    {
+        if size < Image::LEAST || size > Image::MOST || size % 8 != 0 {
+            return Err(ImageFault::Size);
+        }
+        match vec![in alloc; 0; size as usize] {
+            Ok(bytes) => Ok(Image { bytes }),
+            Err(_) => Err(ImageFault::Memory),
+        }
+    }
+
+    /// The size in bytes.
+    pub fn size(&self) -> u64
+        ensures size { result ≡ length self.now }
+        ensures legal { IsSize result }
+    {
+        self.bytes.len() as u64
+    }
+
+    pub fn byte(&self, address: u64) -> Option<u8>
+        ensures { result ≡ slice_get self.now address }
+    {
+        self.bytes.get(address as usize).copied()
+    }
+
+    /// The word whose first byte is at `address`, little-endian.
+    pub fn word(&self, address: u64) -> Option<u64>
+        ensures { result ≡ word_at self.now address }
+    {
+        let size = self.bytes.len() as u64;
+        if address > size || size - address < 8 {
+            return None;
+        }
+        let at = address as usize;
+        let bytes = &self.bytes[at..at + 8];
+        Some(u64::from_le_bytes([
+            bytes[0], bytes[1], bytes[2], bytes[3], bytes[4], bytes[5], bytes[6], bytes[7],
+        ]))
+    }
+
+    /// Writes a word, little-endian, and says whether all its bytes are inside.
+    pub fn put(&mut self, address: u64, word: u64) -> bool
+        ensures inside { result ≡ nat_le (address + 8) (length self.old) }
+        ensures written { self.new ≡ put_word self.old address word }
+    {
+        let size = self.bytes.len() as u64;
+        if address > size || size - address < 8 {
+            return false;
+        }
+        let at = address as usize;
+        let bytes = &mut self.bytes[at..at + 8];
+        bytes.copy_from_slice(&word.to_le_bytes());
+        true
+    }
+
+    /// Writes a byte, and says whether it is inside.
+    pub fn put_byte(&mut self, address: u64, byte: u8) -> bool
+        ensures inside { result ≡ nat_lt address (length self.old) }
+        ensures written { self.new ≡ slice_set self.old address byte }
+    {
+        match self.bytes.get_mut(address as usize) {
+            Some(place) => {
+                *place = byte;
+                true
+            }
+            None => false,
+        }
+    }
+
+    /// A copy in memory of its own.
+    pub fn copy(&self, alloc: Global) -> Result<Image, Memory>
+        ensures { IfOk result (λ image. image ≡ self.now) }
+    {
+        match Vec::from_slice(alloc, self.bytes.as_slice()) {
+            Ok(bytes) => Ok(Image { bytes }),
+            Err(_) => Err(Memory),
+        }
+    }
+}

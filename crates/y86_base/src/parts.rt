@@ -1,0 +1,51 @@
+ghost use Rattle.std.specs.Prelude.{◌≡◌};
+ghost use Rattle.y86_base.specs.Stat.{stat_of};
+
+/// Want of memory: an allocation was refused.
+#[derive(Clone, Copy, Debug, PartialEq, Eq)]
+pub struct Memory;
+
+/// Which instruction set is meant. `Base` is the Y86-64 of CS:APP 3e, section 4.1.
+#[derive(Clone, Copy, Debug, PartialEq, Eq)]
+pub enum Variant {
+    Base,
+}
+
+/// The condition codes of CS:APP 3e, section 4.1.1: zero, sign and signed overflow.
+#[derive(Clone, Copy, Debug, PartialEq, Eq)]
+pub struct Flags {
+    pub zf: bool,
+    pub sf: bool,
+    pub of: bool,
+}
+
+/// The status of a machine, of an instruction or of a pipeline stage (CS:APP 3e, figure 4.5).
+///
+/// `Bub` is that of a bubble, `Pip` that of a pipeline register which is stalled and bubbled at once, and
+/// `Bad` stands for a number that is no status.
+#[derive(Clone, Copy, Debug, PartialEq, Eq)]
+pub enum Stat {
+    Bub,
+    Aok,
+    Hlt,
+    Adr,
+    Ins,
+    Pip,
+    Bad,
+}
+
+impl Stat {
+    /// The status of a number: bubble 0, AOK 1, HLT 2, ADR 3, INS 4, and `Bad` for more.
+    pub fn of(n: u64) -> Stat
+        ensures { result ≡ stat_of n }
+    {
+        match n {
+            0 => Stat::Bub,
+            1 => Stat::Aok,
+            2 => Stat::Hlt,
+            3 => Stat::Adr,
+            4 => Stat::Ins,
+            _ => Stat::Bad,
+        }
+    }
+}
