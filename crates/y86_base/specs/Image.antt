@@ -1,5 +1,5 @@
 -- The memory image as a list of bytes. A word is 8 bytes, the lowest first (CS:APP 3e, section 2.1.3).
-use Rattle.std.specs.Prelude.{◌≡◌, ℕ, ◌+◌, ◌%◌, ◌≤◌, List, ◌++◌, length, take, drop, Option, Some, None, nat_le, if◌then◌else◌}
+use Rattle.std.specs.Prelude.{◌≡◌, ℕ, ◌+◌, ◌%◌, ◌≤◌, ◌<◌, All, List, ◌++◌, length, take, drop, Option, Some, None, nat_le, if◌then◌else◌}
 use Rattle.std.specs.Int.{from_le_bytes, to_le_bytes, w64}
 
 -- the sizes that an image takes, in bytes: the multiples of 8 from 64 to 1,048,576
@@ -7,6 +7,10 @@ pub record IsSize (size : ℕ) : Type 0 where
   pub least : 64 ≤ size
   pub most : size ≤ 1048576
   pub whole_words : size % 8 ≡ 0
+
+-- numbers that each fit a byte
+abbrev pub AreBytes : List ℕ → Type 0
+AreBytes bytes = All (λ byte. byte < 256) bytes
 
 -- the word at an address, where all its 8 bytes are inside
 abbrev pub word_at : List ℕ → ℕ → Option ℕ

@@ -1,5 +1,5 @@
 ghost use Rattle.std.specs.Prelude.{◌≡◌, ◌+◌, ◌≤◌, IfOk, IsErrOf, OnOk, length, nat_le, nat_lt, replicate, slice_get, slice_set};
-ghost use Rattle.y86_base.specs.Image.{IsSize, put_word, word_at};
+ghost use Rattle.y86_base.specs.Image.{AreBytes, IsSize, put_word, word_at};
 
 use crate::parts::Memory;
 use std::alloc::Global;
@@ -40,6 +40,7 @@ impl Image {
         ensures zeros { IfOk result (λ image. image ≡ replicate size 0) }
         ensures sized { OnOk result (IsSize size) }
         ensures size_only_where_bad { IsErrOf result ImageFault.Size → IsSize size → ⊥ }
+        ensures memory_only_where_good { IsErrOf result ImageFault.Memory → IsSize size }
     {
         if size < Image::LEAST || size > Image::MOST || size % 8 != 0 {
             return Err(ImageFault::Size);
@@ -50,12 +51,14 @@ impl Image {
         }
     }
 
-    /// The size in bytes.
+    /// The size in bytes. It takes no time, and tells a caller what holds of every image.
     pub fn size(&self) -> u64
         ensures size { result ≡ length self.now }
         ensures legal { IsSize result }
+        ensures bytes { AreBytes self.now }
     {
-        self.bytes.len() as u64
+        let bytes = self.bytes.as_slice();
+        bytes.len() as u64
     }
 
     pub fn byte(&self, address: u64) -> Option<u8>

@@ -2,12 +2,18 @@
 //! status, the words of text that all formats share.
 #![tactic(auto)]
 
+mod cursor;
 mod image;
+mod items;
+mod numeral;
 mod parts;
 mod registers;
 mod text;
 
+pub use cursor::Cursor;
 pub use image::{Image, ImageFault};
+pub use items::Items;
+pub use numeral::Numeral;
 pub use parts::{Flags, Memory, Stat, Variant};
 pub use registers::Regs;
 pub use text::{first_line, hex_value, is_blank, is_hex};
