@@ -53,7 +53,7 @@ pub fn load(alloc: Global, bytes: &[u8], size: u64) -> Result<Image, YoFault>
         }
     };
     let mut rest = bytes;
-    let mut number = 1;
+    let mut number: u64 = 1;
     while let Some((line, behind)) = first_line(rest) {
         match put_line(&mut image, line) {
             Ok(()) => {}
