@@ -1,0 +1,110 @@
+ghost use Rattle.std.specs.Prelude.{◌≡◌, ◌<◌, ◌≤◌, List, ℕ, length, None, IfSome};
+
+use crate::counts::one_more;
+use crate::files::{Files, ReadErr};
+use crate::sinks::{Failed, Sink};
+use std::alloc::Global;
+use std::io::{ErrorKind, Read, Write};
+use std::{fs, io, rt};
+
+/// The files of the system. It tells no contents, and has one count for all names.
+#[derive(Drop)]
+pub struct HostFiles<'a, R> {
+    runtime: &'a R,
+    faults: u64,
+}
+
+impl<'a, R: rt::Files> HostFiles<'a, R> {
+    pub fn new(runtime: &'a R) -> HostFiles<'a, R>
+        ensures { (name : List ℕ) → ⟦<HostFiles<'a, R> as Files>⟧.faults result name ≡ 0 }
+    {
+        HostFiles { runtime, faults: 0 }
+    }
+}
+
+/// The bytes of a file, but no more than one over the limit.
+fn read_up_to<R: rt::Files>(
+    runtime: &R,
+    alloc: Global,
+    name: &str,
+    limit: u64,
+) -> io::Result<Vec<u8>> {
+    let mut bytes = Vec::new(alloc);
+    let mut file = fs::open(runtime, name)?.take(limit.saturating_add(1));
+    file.read_to_end(&mut bytes)?;
+    Ok(bytes)
+}
+
+impl<'a, R: rt::Files> Files for HostFiles<'a, R> {
+    ghost told = { λ files name. None };
+
+    ghost faults = { λ files name. files.faults };
+
+    fn read(&mut self, alloc: Global, name: &str, limit: u64) -> Result<Vec<u8>, ReadErr> {
+        match read_up_to(self.runtime, alloc, name, limit) {
+            Ok(bytes) => {
+                if bytes.len() as u64 > limit {
+                    Err(ReadErr::TooLong)
+                } else {
+                    Ok(bytes)
+                }
+            }
+            Err(e) => {
+                if e.kind() == ErrorKind::OutOfMemory {
+                    return Err(ReadErr::Memory);
+                }
+                self.faults = one_more(self.faults);
+                Err(ReadErr::Failed)
+            }
+        }
+    }
+}
+
+/// Standard output, standard error or another writer of the system. It tells no contents.
+///
+/// Each write is flushed. A write that takes no byte of a piece which isn't empty is a fault, and so is a
+/// flush that fails, though the writer may then have taken bytes.
+#[derive(Drop)]
+pub struct HostSink<W> {
+    writer: W,
+    faults: u64,
+}
+
+impl<W: Write> HostSink<W> {
+    pub fn new(writer: W) -> HostSink<W>
+        ensures { ⟦<HostSink<W> as Sink>⟧.faults result ≡ 0 }
+    {
+        HostSink { writer, faults: 0 }
+    }
+}
+
+/// How many bytes a write took, with a flush behind it; None where one of them failed, or where no byte was
+/// taken of a piece that isn't empty.
+fn write_and_flush<W: Write>(writer: &mut W, piece: &[u8]) -> Option<usize>
+    ensures within { IfSome result (λ n. n ≤ length piece.now) }
+    ensures progress { IfSome result (λ n. 0 < length piece.now → 0 < n) }
+{
+    match writer.write(piece) {
+        Ok(count) if count > 0 || piece.is_empty() => match writer.flush() {
+            Ok(()) => Some(count),
+            Err(_) => None,
+        },
+        _ => None,
+    }
+}
+
+impl<W: Write> Sink for HostSink<W> {
+    ghost taken = { λ sink. None };
+
+    ghost faults = { λ sink. sink.faults };
+
+    fn write(&mut self, piece: &[u8]) -> Result<usize, Failed> {
+        match write_and_flush(&mut self.writer, piece) {
+            Some(count) => Ok(count),
+            None => {
+                self.faults = one_more(self.faults);
+                Err(Failed)
+            }
+        }
+    }
+}

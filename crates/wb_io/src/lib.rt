@@ -1,0 +1,14 @@
+//! The outside world with its faults: sources of files and sinks of bytes, each with a count of the faults
+//! that it had. Generic code can't raise such a count, so it can't answer a fault that didn't happen.
+#![tactic(auto)]
+
+mod counts;
+mod files;
+mod host;
+mod memory_sink;
+mod sinks;
+
+pub use files::{Files, ReadErr};
+pub use host::{HostFiles, HostSink};
+pub use memory_sink::MemSink;
+pub use sinks::{Failed, Sink, put_all, put_pieces};

@@ -1,0 +1,20 @@
+-- Bytes put into a memory one after another, and all at once.
+use Rattle.std.proofs.Common.{◌≡◌, ℕ, ◌+◌, ◌/◌, ◌≤◌, List, [], ◌∷◌, length, refl, ◌∙◌, arith, add-zero, append-nil}
+use Rattle.std.proofs.Math.Seq.{sets}
+use Rattle.std.proofs.lemmas.List.{take-append-drop}
+use Rattle.std.proofs.lemmas.List.Edits.{sets-eq}
+use Rattle.yo_object.specs.ObjectText.{with_bytes, bytes_of_pairs}
+
+-- what is left to put is nothing
+pub put_all : (image start left bytes : List ℕ) (at address : ℕ) → left ≡ [] → sets image at left ≡ sets start address bytes →
+    address + length bytes ≤ length start → image ≡ with_bytes start address bytes
+put_all image start left bytes at address none same h =
+    (rw none at same) ∙ sets-eq bytes start address h
+
+pub put_nothing : (memory : List ℕ) (address : ℕ) → with_bytes memory address [] ≡ memory
+put_nothing memory address = simp (add-zero, append-nil) (take-append-drop address memory)
+
+pub pairs_length : (digits : List ℕ) → length (bytes_of_pairs digits) ≡ length digits / 2
+pairs_length [] = refl
+pairs_length (high ∷ []) = refl
+pairs_length (high ∷ low ∷ digits) = omega (arith, pairs_length digits)

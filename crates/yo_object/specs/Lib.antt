@@ -1,0 +1,3 @@
+pub mod ObjectText
+pub mod Loads
+pub mod Lines

@@ -1,0 +1,88 @@
+-- Object text, as the assembler of CS:APP 3e prints it (figure 4.8): lines that put bytes at addresses.
+use Rattle.std.specs.Prelude.{ℕ, ◌+◌, ◌*◌, ◌/◌, ◌%◌, Bool, true, ◌&&◌, ◌==◌, nat_lt, if◌then◌else◌, List, [], ◌∷◌, ◌++◌, length, take, drop, fold, replicate, Option, Some, None, option_and_then, Result, Ok, Err, take_while}
+use Rattle.std.specs.List.{prefix_len}
+use Rattle.y86_base.specs.Text.{is_blank, is_hex, hex_value, lines}
+use Rattle.yo_object.specs.declared.object.YoWhy.{YoWhy}
+use Rattle.yo_object.specs.declared.object.YoWhy.TheVariants.{Syntax, OddDigits, OutsideMemory, AddressTooWide}
+use Rattle.yo_object.specs.declared.object.YoFault.{YoFault}
+
+-- what stands behind the bytes at the front that pass
+abbrev pub behind : (ℕ → Bool) → List ℕ → List ℕ
+behind passes text = drop (prefix_len passes text) text
+
+-- what stands behind a byte, where the text begins with it
+abbrev pub after_byte : ℕ → List ℕ → Option (List ℕ)
+after_byte byte [] = None
+after_byte byte (first ∷ rest) = if first == byte then Some rest else None
+
+-- what stands behind `0x`, where the text begins with it
+abbrev pub after_prefix : List ℕ → Option (List ℕ)
+after_prefix text = option_and_then (after_byte 120) (after_byte 48 text)
+
+-- the end of the line, or `|` with anything after it
+abbrev pub is_line_end : List ℕ → Bool
+is_line_end [] = true
+is_line_end (first ∷ rest) = first == 124
+
+-- the digits of a line: those of its address, and those of its bytes
+pub record Digits : Type 0 where
+  pub address : List ℕ
+  pub bytes : List ℕ
+
+abbrev pub digits_behind_colon : List ℕ → List ℕ → Option Digits
+digits_behind_colon address text =
+    if nat_lt 0 (length address) && is_line_end (behind is_blank (behind is_hex (behind is_blank text)))
+    then Some (record { address = address; bytes = take_while is_hex (behind is_blank text) })
+    else None
+
+-- behind `0x`: address digits, `:`, blanks, byte digits, blanks, and the line's end or `|`
+unfoldable pub digits_of : List ℕ → Option Digits
+digits_of text = option_and_then (digits_behind_colon (take_while is_hex text)) (after_byte 58 (behind is_hex text))
+
+-- the number that hex digits write, the highest digit first
+abbrev pub hex_number : List ℕ → ℕ
+hex_number digits = fold (λ number digit. 16 * number + hex_value digit) 0 digits
+
+-- the bytes that pairs of hex digits write
+abbrev pub bytes_of_pairs : List ℕ → List ℕ
+bytes_of_pairs [] = []
+bytes_of_pairs (high ∷ []) = []
+bytes_of_pairs (high ∷ low ∷ digits) = (16 * hex_value high + hex_value low) ∷ bytes_of_pairs digits
+
+-- a memory with bytes put at an address
+abbrev pub with_bytes : List ℕ → ℕ → List ℕ → List ℕ
+with_bytes memory address bytes = take address memory ++ bytes ++ drop (address + length bytes) memory
+
+-- the memory after a line of the form, or the first of its faults
+unfoldable pub put_digits : List ℕ → Digits → Result (List ℕ) YoWhy
+put_digits memory digits =
+    if nat_lt 16 (length digits.address) then Err AddressTooWide
+    else (if length digits.bytes % 2 == 1 then Err OddDigits
+    else (if nat_lt 0 (length digits.bytes) && nat_lt (length memory) (hex_number digits.address + length digits.bytes / 2) then Err OutsideMemory
+    else Ok (with_bytes memory (hex_number digits.address) (bytes_of_pairs digits.bytes))))
+
+abbrev pub put_record : List ℕ → Option Digits → Result (List ℕ) YoWhy
+put_record memory None = Err Syntax
+put_record memory (Some digits) = put_digits memory digits
+
+abbrev pub put_text : List ℕ → Option (List ℕ) → Result (List ℕ) YoWhy
+put_text memory None = Ok memory
+put_text memory (Some text) = put_record memory (digits_of text)
+
+-- the memory after a line, or its fault: a line that doesn't begin with `0x` behind its blanks is skipped
+unfoldable pub put_line : List ℕ → List ℕ → Result (List ℕ) YoWhy
+put_line memory line = put_text memory (after_prefix (behind is_blank line))
+
+-- what a line's memory goes on to, or the line's fault
+abbrev pub after_line : ℕ → (List ℕ → Result (List ℕ) YoFault) → Result (List ℕ) YoWhy → Result (List ℕ) YoFault
+after_line number rest (Ok memory) = rest memory
+after_line number rest (Err why) = Err (record { line = number; why = why })
+
+-- the memory after the lines from a number on, or the first line with a fault
+unfoldable pub put_lines : ℕ → List ℕ → List (List ℕ) → Result (List ℕ) YoFault
+put_lines number memory [] = Ok memory
+put_lines number memory (line ∷ rest) = after_line number (λ after. put_lines (number + 1) after rest) (put_line memory line)
+
+-- the image of an object text at a size, or the first line with a fault and why; lines count from 1
+unfoldable pub object_of : List ℕ → ℕ → Result (List ℕ) YoFault
+object_of text size = put_lines 1 (replicate size 0) (lines text)

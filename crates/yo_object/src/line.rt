@@ -1,0 +1,169 @@
+ghost use Rattle.std.specs.Prelude.{◌≡◌, ◌<◌, ◌≤◌, ◌+◌, ◌∷◌, [], IfSome, MatchOption, length, take_while};
+ghost use Rattle.std.specs.List.{prefix_len};
+ghost use Rattle.std.specs.Option.{option_copied, option_map};
+ghost use Rattle.y86_base.specs.Text as words;
+ghost use Rattle.yo_object.specs.Loads.{Leaves};
+ghost use Rattle.yo_object.specs.Lines.{digits_in};
+ghost use Rattle.yo_object.specs.ObjectText as definition;
+
+use crate::object::YoWhy;
+use y86_base::{Image, hex_value, is_blank, is_hex};
+
+/// The digits of a line: those of its address, and those of its bytes.
+#[derive(Clone, Copy)]
+struct Record<'a> {
+    address: &'a [u8],
+    bytes: &'a [u8],
+}
+
+/// How many blanks stand at the front.
+fn blank_count(text: &[u8]) -> usize
+    ensures count { result ≡ prefix_len words.is_blank text.now }
+    ensures within { result ≤ length text.now }
+{
+    text.iter().take_while(|byte| is_blank(**byte)).count()
+}
+
+/// What stands behind the blanks at the front.
+fn after_blanks(text: &[u8]) -> &[u8]
+    ensures { result.now ≡ definition.behind words.is_blank text.now }
+{
+    text.split_at(blank_count(text)).1
+}
+
+/// How many hex digits stand at the front.
+fn hex_count(text: &[u8]) -> usize
+    ensures count { result ≡ prefix_len words.is_hex text.now }
+    ensures within { result ≤ length text.now }
+{
+    text.iter().take_while(|byte| is_hex(**byte)).count()
+}
+
+/// The hex digits at the front, and what stands behind them.
+fn split_hex(text: &[u8]) -> (&[u8], &[u8])
+    ensures digits { result.0.now ≡ take_while words.is_hex text.now }
+    ensures rest { result.1.now ≡ definition.behind words.is_hex text.now }
+{
+    text.split_at(hex_count(text))
+}
+
+/// What stands behind a byte, where the text begins with it.
+fn after_byte(text: &[u8], byte: u8) -> Option<&[u8]>
+    ensures { option_copied result ≡ definition.after_byte byte text.now }
+{
+    let (first, rest) = text.split_first()?;
+    if *first == byte { Some(rest) } else { None }
+}
+
+/// What stands behind `0x`, where the text begins with it.
+fn after_prefix(text: &[u8]) -> Option<&[u8]>
+    ensures { option_copied result ≡ definition.after_prefix text.now }
+{
+    let rest = after_byte(text, b'0')?;
+    after_byte(rest, b'x')
+}
+
+/// The end of the line, or `|` with anything after it.
+fn is_line_end(text: &[u8]) -> bool
+    ensures { result ≡ definition.is_line_end text.now }
+{
+    match text.split_first() {
+        None => true,
+        Some((first, _)) => *first == b'|',
+    }
+}
+
+/// The digits of a line that is of the form, behind its `0x`.
+#[tactic(auto, unfolding(crate::specs::ObjectText::digits_of))]
+fn record_behind(text: &[u8]) -> Option<Record<'_>>
+    ensures { option_map digits_in result ≡ definition.digits_of text.now }
+{
+    let (address, rest) = split_hex(text);
+    let Some(data) = after_byte(rest, b':') else {
+        return None;
+    };
+    let (bytes, rest) = split_hex(after_blanks(data));
+    if !address.is_empty() && is_line_end(after_blanks(rest)) {
+        Some(Record { address, bytes })
+    } else {
+        None
+    }
+}
+
+/// The number that up to 16 hex digits write.
+fn hex_number(digits: &[u8]) -> u64
+    requires { length digits.now ≤ 16 }
+    ensures { result ≡ definition.hex_number digits.now }
+{
+    let mut number = 0;
+    for digit in digits {
+        number = 16 * number + u64::from(hex_value(*digit));
+    }
+    number
+}
+
+/// The byte that the first two hex digits write, and the digits behind them.
+fn first_pair(digits: &[u8]) -> Option<(u8, &[u8])>
+    ensures pair { MatchOption result (definition.bytes_of_pairs digits.now ≡ [])
+        (λ x. definition.bytes_of_pairs digits.now ≡ x.0 ∷ definition.bytes_of_pairs x.1.now) }
+    ensures shorter { IfSome result (λ x. length x.1.now < length digits.now) }
+{
+    let (high, behind) = digits.split_first()?;
+    let (low, rest) = behind.split_first()?;
+    Some((16 * hex_value(*high) + hex_value(*low), rest))
+}
+
+/// Puts the bytes that pairs of digits write.
+fn put_bytes(image: &mut Image, address: u64, digits: &[u8])
+    requires { address + length (definition.bytes_of_pairs digits.now) ≤ length image.old }
+    ensures { image.new ≡ definition.with_bytes image.old address (definition.bytes_of_pairs digits.now) }
+{
+    let size = image.size();
+    let mut at = address;
+    let mut rest = digits;
+    'pairs: while let Some((byte, behind)) = first_pair(rest) {
+        image.put_byte(at, byte);
+        if at < size {
+            at += 1;
+        }
+        rest = behind;
+    }
+}
+
+#[tactic(auto, using(crate::proofs::Bytes::put_nothing, crate::proofs::Bytes::pairs_length), unfolding(crate::specs::ObjectText::put_digits))]
+/// Puts the bytes of a line of the form, or tells the first of its faults.
+fn put_digits(image: &mut Image, digits: &Record<'_>) -> Result<(), YoWhy>
+    ensures { Leaves result image.new (definition.put_digits image.old (digits_in digits.now)) }
+{
+    if digits.address.len() > 16 {
+        return Err(YoWhy::AddressTooWide);
+    }
+    if digits.bytes.len() % 2 == 1 {
+        return Err(YoWhy::OddDigits);
+    }
+    let address = hex_number(digits.address);
+    let count = digits.bytes.len() as u64 / 2;
+    if count == 0 {
+        return Ok(());
+    }
+    let size = image.size();
+    if address > size || size - address < count {
+        return Err(YoWhy::OutsideMemory);
+    }
+    put_bytes(image, address, digits.bytes);
+    Ok(())
+}
+
+#[tactic(auto, unfolding(crate::specs::ObjectText::put_line))]
+/// Puts the bytes of a line, or tells its fault.
+pub fn put_line(image: &mut Image, line: &[u8]) -> Result<(), YoWhy>
+    ensures { Leaves result image.new (definition.put_line image.old line.now) }
+{
+    let Some(text) = after_prefix(after_blanks(line)) else {
+        return Ok(());
+    };
+    match record_behind(text) {
+        None => Err(YoWhy::Syntax),
+        Some(digits) => put_digits(image, &digits),
+    }
+}
