@@ -1,0 +1,95 @@
+-- Runs and their records: no step, one step more, a machine that has stopped.
+use Rattle.std.proofs.Common.{◌≡◌, ◌≢◌, ℕ, zero, suc, ◌+◌, ◌⊎◌, inl, inr, Bool, true, false, cond, List, [], ◌++◌, Option, Some, None, refl, sym, ◌∙◌, add-one, append_assoc, append-nil}
+use Rattle.std.specs.Option.{option_to_list}
+use Rattle.y86_base.specs.declared.parts.Stat.{Stat}
+use Rattle.y86_base.specs.declared.parts.Stat.TheVariants.{Bub, Aok, Hlt, Adr, Ins, Pip, Bad}
+use Rattle.y86_base.specs.declared.parts.Variant.{Variant}
+use Rattle.y86_isa.specs.declared.machine.Machine.{Machine}
+use Rattle.y86_isa.specs.declared.machine.Rec.{Rec}
+use Rattle.y86_isa.specs.Machine.{is_aok}
+use Rattle.y86_isa.specs.Step.{step, advance, retired}
+use Rattle.y86_isa.specs.Run.{run_from, records_from}
+
+-- ---- whether a machine has stopped
+
+pub is_aok-from_not : (s : Stat) → s ≢ Aok → is_aok s ≡ false
+is_aok-from_not Bub h = refl
+is_aok-from_not Aok h = absurd (h refl)
+is_aok-from_not Hlt h = refl
+is_aok-from_not Adr h = refl
+is_aok-from_not Ins h = refl
+is_aok-from_not Pip h = refl
+is_aok-from_not Bad h = refl
+
+pub aok_or_stopped : (s : Stat) → (s ≡ Aok) ⊎ (is_aok s ≡ false)
+aok_or_stopped Bub = inr refl
+aok_or_stopped Aok = inl refl
+aok_or_stopped Hlt = inr refl
+aok_or_stopped Adr = inr refl
+aok_or_stopped Ins = inr refl
+aok_or_stopped Pip = inr refl
+aok_or_stopped Bad = inr refl
+
+-- a machine that has stopped stays as it is, and leaves no record
+pub advance-stopped : (v : Variant) (m : Machine) → is_aok m.stat ≡ false → advance v m ≡ m
+unfolding advance
+advance-stopped v m h = rw h refl
+
+pub retired-stopped : (v : Variant) (m : Machine) → is_aok m.stat ≡ false → retired v m ≡ None
+unfolding retired
+retired-stopped v m h = rw h refl
+
+stopped_by : (b : Bool) (r : Rec) → cond b (Some r) None ≡ None → b ≡ false
+stopped_by true r h = cc
+stopped_by false r h = refl
+
+-- a machine that leaves no record has stopped
+pub stopped-from_none : (v : Variant) (m : Machine) → retired v m ≡ None → is_aok m.stat ≡ false
+unfolding retired
+stopped-from_none v m h = stopped_by (is_aok m.stat) (step v m).1 h
+
+-- ---- the machine after n steps
+
+pub run_from-none : (v : Variant) (m : Machine) → run_from v m 0 ≡ m
+unfolding run_from
+run_from-none v m = refl
+
+-- the first of several steps
+pub run_from-more : (v : Variant) (m : Machine) (n : ℕ) → run_from v m (n + 1) ≡ run_from v (advance v m) n
+unfolding run_from
+run_from-more v m n = rw add-one refl
+
+-- the last of several steps
+pub run_from-last : (v : Variant) (m : Machine) (n : ℕ) → run_from v m (n + 1) ≡ advance v (run_from v m n)
+unfolding run_from
+run_from-last v m zero = refl
+run_from-last v m (suc n) = rw (← add-one n) (run_from-more v m (n + 1) ∙ run_from-last v (advance v m) n)
+
+pub run_from-stopped : (v : Variant) (m : Machine) (n : ℕ) → is_aok m.stat ≡ false → run_from v m n ≡ m
+unfolding run_from
+run_from-stopped v m zero h = refl
+run_from-stopped v m (suc n) h = rw (advance-stopped v m h) (run_from-stopped v m n h)
+
+-- ---- the records of n steps
+
+pub records_from-none : (v : Variant) (m : Machine) → records_from v m 0 ≡ []
+unfolding records_from
+records_from-none v m = refl
+
+pub records_from-more : (v : Variant) (m : Machine) (n : ℕ) →
+    records_from v m (n + 1) ≡ option_to_list (retired v m) ++ records_from v (advance v m) n
+unfolding records_from
+records_from-more v m n = rw add-one refl
+
+pub records_from-stopped : (v : Variant) (m : Machine) (n : ℕ) → is_aok m.stat ≡ false → records_from v m n ≡ []
+unfolding records_from
+records_from-stopped v m zero h = refl
+records_from-stopped v m (suc n) h = rw (retired-stopped v m h, advance-stopped v m h) (records_from-stopped v m n h)
+
+pub records_from-last : (v : Variant) (m : Machine) (n : ℕ) →
+    records_from v m (n + 1) ≡ records_from v m n ++ option_to_list (retired v (run_from v m n))
+unfolding records_from run_from
+records_from-last v m zero = append-nil (option_to_list (retired v m))
+records_from-last v m (suc n) =
+    rw (← add-one n, records_from-more v m (n + 1), records_from-last v (advance v m) n)
+    (sym (append_assoc (option_to_list (retired v m)) (records_from v (advance v m) n) (option_to_list (retired v (run_from v (advance v m) n)))))

@@ -1,0 +1,14 @@
+use Rattle.y86_isa.proofs.Runs.{records_from-none, records_from-more, records_from-last, records_from-stopped, is_aok-from_not}
+use Rattle.y86_isa.proofs.laws.law_of_records.Goals as goal
+
+pub returns-clause-no_step : goal.returns-clause-no_step
+returns-clause-no_step c = records_from-none
+
+pub returns-clause-one_more : goal.returns-clause-one_more
+returns-clause-one_more c = records_from-more
+
+pub returns-clause-last : goal.returns-clause-last
+returns-clause-last c = records_from-last
+
+pub returns-clause-stopped : goal.returns-clause-stopped
+returns-clause-stopped c = λ v m n h. records_from-stopped v m n (is_aok-from_not m.stat h)

@@ -1,0 +1,260 @@
+-- What the parts of a processor compute, on numbers and lists of bytes (CS:APP 3e, sections 4.1 and 4.3.2 to 4.3.4).
+-- An address is taken modulo 2^64; a truth that a block takes, such as need_regids, is one of its arguments.
+use Rattle.std.specs.Prelude.{◌≡◌, ℕ, ◌+◌, ◌-◌, ◌*◌, ◌/◌, ◌%◌, ◌^◌, Bool, true, false, ◌&&◌, ◌||◌, not, nat_lt, nat_le, ◌==◌, List, [], ◌∷◌, length, map, slice_get, Option, Some, None, unwrap_or, is_none, if◌then◌else◌, ℤ, pos, negsuc, ◌+ℤ◌, ◌-ℤ◌, bit_and, bit_xor}
+use Rattle.std.specs.Int.{from_le_bytes, w64, cast_signed}
+use Rattle.y86_base.specs.Image.{word_at, put_word}
+use Rattle.y86_base.specs.declared.parts.Flags.{Flags}
+use Rattle.y86_base.specs.declared.parts.Stat.{Stat}
+use Rattle.y86_base.specs.declared.parts.Stat.TheVariants.{Aok, Hlt, Adr, Ins}
+use Rattle.y86_base.specs.declared.parts.Variant.{Variant}
+use Rattle.y86_isa.specs.declared.columns.Row.{Row}
+use Rattle.y86_isa.specs.declared.columns.Field.{Field}
+use Rattle.y86_isa.specs.declared.columns.Field.TheVariants.{Dash, FieldA, FieldB, Stack}
+use Rattle.y86_isa.specs.declared.columns.TermA.{TermA}
+use Rattle.y86_isa.specs.declared.columns.TermA.TheVariants.{NoA, ValA, ValC, Minus8, Plus8}
+use Rattle.y86_isa.specs.declared.columns.TermB.{TermB}
+use Rattle.y86_isa.specs.declared.columns.TermB.TheVariants.{NoB, Zero, ValB}
+use Rattle.y86_isa.specs.declared.columns.Access.{Access}
+use Rattle.y86_isa.specs.declared.columns.Access.TheVariants.{NoMem, StoreA, StoreP, LoadE, LoadA}
+use Rattle.y86_isa.specs.declared.columns.Next.{Next}
+use Rattle.y86_isa.specs.declared.columns.Next.TheVariants.{Itself, Fall, Branch, Target, Loaded}
+use Rattle.y86_isa.specs.declared.fetch.Fetched.{Fetched}
+use Rattle.y86_isa.specs.declared.fetch.Reading.{Reading}
+use Rattle.y86_isa.specs.declared.machine.Store.{Store}
+use Rattle.y86_isa.specs.declared.unit.AluOut.{AluOut}
+use Rattle.y86_isa.specs.Table.{row, is_instruction}
+
+-- ---- fetch (section 4.3.1, "Fetch", and figure 4.27)
+
+-- register number 15 means no register
+abbrev pub no_register : ℕ
+no_register = 15
+
+-- the byte at an address, and 0 outside
+abbrev pub byte_at : List ℕ → ℕ → ℕ
+byte_at memory address = unwrap_or (slice_get memory (address % 2 ^ 64)) 0
+
+-- the halves of a byte
+abbrev pub high_half : ℕ → ℕ
+high_half byte = byte / 16
+
+abbrev pub low_half : ℕ → ℕ
+low_half byte = byte % 16
+
+-- rA and rB: the halves of the byte behind the first, where there is a register byte
+abbrev pub field_a : List ℕ → ℕ → Bool → ℕ
+field_a memory pc need_regids = if need_regids then high_half (byte_at memory (pc + 1)) else no_register
+
+abbrev pub field_b : List ℕ → ℕ → Bool → ℕ
+field_b memory pc need_regids = if need_regids then low_half (byte_at memory (pc + 1)) else no_register
+
+-- the 8 bytes from an address on as a word, lowest first
+unfoldable pub word_from : List ℕ → ℕ → ℕ
+word_from memory address =
+    from_le_bytes w64 (map (λ k. byte_at memory (address + k)) (0 ∷ 1 ∷ 2 ∷ 3 ∷ 4 ∷ 5 ∷ 6 ∷ 7 ∷ []))
+
+-- valC: the constant behind the first byte and the register byte
+abbrev pub const_at : List ℕ → ℕ → Bool → Bool → ℕ
+const_at memory pc need_regids need_valC =
+    if need_valC then word_from memory (pc + (if need_regids then 2 else 1)) else 0
+
+-- valP: the address behind the instruction
+abbrev pub after : ℕ → Bool → Bool → ℕ
+after pc need_regids need_valC =
+    (pc + 1 + (if need_regids then 1 else 0) + (if need_valC then 8 else 0)) % 2 ^ 64
+
+-- an instruction that isn't all inside reads as a nop with an address error, and one that is invalid has icode 15
+abbrev pub outside : Reading
+outside = record { error = true; icode = 1; ifun = 0 }
+
+abbrev pub invalid : Reading
+invalid = record { error = false; icode = 15; ifun = 0 }
+
+-- a register field that is used names no register
+abbrev pub lacks_register : List ℕ → ℕ → Row → Bool
+lacks_register memory pc r =
+    (r.uses_a && (field_a memory pc r.has_byte == no_register)) || (r.uses_b && (field_b memory pc r.has_byte == no_register))
+
+-- what a first byte of these halves, which is inside, reads as: it begins no instruction; a later byte of the
+-- instruction is outside; a used register field names none; else an instruction. The first case that applies decides
+abbrev pub reading_of : List ℕ → ℕ → Bool → Row → ℕ → ℕ → Reading
+reading_of memory pc begins r icode ifun =
+    if not begins then invalid
+    else (if not (nat_le (pc + r.length) (length memory)) then outside
+    else (if lacks_register memory pc r then invalid
+    else record { error = false; icode = icode; ifun = ifun }))
+
+abbrev pub reading_by : Variant → List ℕ → ℕ → ℕ → ℕ → Reading
+reading_by v memory pc icode ifun = reading_of memory pc (is_instruction v icode ifun) (row v icode) icode ifun
+
+-- what the first byte reads as; before all other cases, it may itself be outside
+abbrev pub reading_first : Variant → List ℕ → ℕ → Option ℕ → Reading
+reading_first v memory pc None = outside
+reading_first v memory pc (Some byte) = reading_by v memory pc (high_half byte) (low_half byte)
+
+-- the reading at a PC
+unfoldable pub reading : Variant → List ℕ → ℕ → Reading
+reading v memory pc = reading_first v memory pc (slice_get memory pc)
+
+-- all that is fetched, with the needs of the row of the icode that was read
+abbrev pub fetched_by : List ℕ → ℕ → Reading → Row → Fetched
+fetched_by memory pc read r =
+    record {
+      error = read.error;
+      icode = read.icode;
+      ifun = read.ifun;
+      r_a = field_a memory pc r.has_byte;
+      r_b = field_b memory pc r.has_byte;
+      val_c = const_at memory pc r.has_byte r.has_const;
+      val_p = after pc r.has_byte r.has_const;
+    }
+
+abbrev pub fetched_as : Variant → List ℕ → ℕ → Reading → Fetched
+fetched_as v memory pc read = fetched_by memory pc read (row v read.icode)
+
+unfoldable pub fetched : Variant → List ℕ → ℕ → Fetched
+fetched v memory pc = fetched_as v memory pc (reading v memory pc)
+
+-- the status by what was fetched: an address error, an invalid instruction, halt, or all well
+abbrev pub fetch_status : Bool → ℕ → Stat
+fetch_status error icode =
+    if error then Adr else (if icode == 15 then Ins else (if icode == 0 then Hlt else Aok))
+
+-- ---- decode (figure 4.28)
+
+-- the register number that a column names
+abbrev pub register_number : Field → ℕ → ℕ → ℕ
+register_number Dash r_a r_b = no_register
+register_number FieldA r_a r_b = r_a
+register_number FieldB r_a r_b = r_b
+register_number Stack r_a r_b = 4
+
+-- ---- execute (figure 4.29)
+
+-- aluA and aluB; where the table has a dash, 0
+abbrev pub operand_a : TermA → ℕ → ℕ → ℕ
+operand_a NoA val_a val_c = 0
+operand_a ValA val_a val_c = val_a
+operand_a ValC val_a val_c = val_c
+operand_a Minus8 val_a val_c = 2 ^ 64 - 8
+operand_a Plus8 val_a val_c = 8
+
+abbrev pub operand_b : TermB → ℕ → ℕ
+operand_b NoB val_b = 0
+operand_b Zero val_b = 0
+operand_b ValB val_b = val_b
+
+-- the result of the ALU (figure 4.3): addq, subq, andq and xorq by their ifun, and 0 for any other function
+unfoldable pub alu_value : ℕ → ℕ → ℕ → ℕ
+alu_value f a b =
+    if f == 0 then (b + a) % 2 ^ 64
+    else (if f == 1 then (b + (2 ^ 64 - a)) % 2 ^ 64
+    else (if f == 2 then bit_and b a
+    else (if f == 3 then bit_xor b a else 0)))
+
+-- the number that a word stands for in two's complement, and whether a number is one of a word
+abbrev pub signed : ℕ → ℤ
+signed word = cast_signed w64 word
+
+abbrev pub fits_word : ℤ → Bool
+fits_word (pos n) = nat_lt n (2 ^ 63)
+fits_word (negsuc n) = nat_lt n (2 ^ 63)
+
+-- signed overflow, of a sum or a difference alone
+abbrev pub alu_overflows : ℕ → ℕ → ℕ → Bool
+alu_overflows f a b =
+    if f == 0 then not (fits_word (signed b +ℤ signed a))
+    else (if f == 1 then not (fits_word (signed b -ℤ signed a)) else false)
+
+-- the condition codes of a result
+unfoldable pub alu_flags : ℕ → ℕ → ℕ → Flags
+alu_flags f a b =
+    record { zf = alu_value f a b == 0; sf = nat_le (2 ^ 63) (alu_value f a b); of = alu_overflows f a b }
+
+-- what a bitwise function gives, which never overflows
+abbrev pub bitwise : ℕ → AluOut
+bitwise value = record { val = value; flags = record { zf = value == 0; sf = nat_le (2 ^ 63) value; of = false } }
+
+abbrev pub alu : ℕ → ℕ → ℕ → AluOut
+alu f a b = record { val = alu_value f a b; flags = alu_flags f a b }
+
+-- the function of the ALU: the ifun where the row selects by it, else addition
+abbrev pub alu_function : Bool → ℕ → ℕ
+alu_function selects ifun = if selects then ifun else 0
+
+-- the last operation came out less: the sign and overflow flags differ
+abbrev pub is_less : Flags → Bool
+is_less flags = if flags.sf then not flags.of else flags.of
+
+-- the condition of a jump or a move (figure 3.15): unconditional, le, l, e, ne, ge, g by their ifun, and false for any other number
+unfoldable pub condition : ℕ → Flags → Bool
+condition f flags =
+    if f == 0 then true
+    else (if f == 1 then is_less flags || flags.zf
+    else (if f == 2 then is_less flags
+    else (if f == 3 then flags.zf
+    else (if f == 4 then not flags.zf
+    else (if f == 5 then not (is_less flags)
+    else (if f == 6 then not (is_less flags) && not flags.zf else false))))))
+
+-- the destination of valE, which an unmet condition takes away
+abbrev pub destination_e : Bool → Bool → ℕ → ℕ
+destination_e conditional cnd raw = if conditional && not cnd then no_register else raw
+
+-- ---- memory (figure 4.30)
+
+abbrev pub is_store : Access → Bool
+is_store NoMem = false
+is_store StoreA = true
+is_store StoreP = true
+is_store LoadE = false
+is_store LoadA = false
+
+abbrev pub is_load : Access → Bool
+is_load NoMem = false
+is_load StoreA = false
+is_load StoreP = false
+is_load LoadE = true
+is_load LoadA = true
+
+-- the address of the data, and 0 where there is no access
+abbrev pub data_address : Access → ℕ → ℕ → ℕ
+data_address NoMem val_a val_e = 0
+data_address StoreA val_a val_e = val_e
+data_address StoreP val_a val_e = val_e
+data_address LoadE val_a val_e = val_e
+data_address LoadA val_a val_e = val_a
+
+-- the word that is stored, and 0 where none is
+abbrev pub data_word : Access → ℕ → ℕ → ℕ
+data_word NoMem val_a val_p = 0
+data_word StoreA val_a val_p = val_a
+data_word StoreP val_a val_p = val_p
+data_word LoadE val_a val_p = 0
+data_word LoadA val_a val_p = 0
+
+-- dmem_error: the word is to be read or written, and not all of it is inside
+abbrev pub data_error : List ℕ → ℕ → Bool → Bool → Bool
+data_error memory address reads writes = (reads || writes) && is_none (word_at memory address)
+
+-- the word that is read, and 0 where none is
+abbrev pub data_read : List ℕ → ℕ → Bool → ℕ
+data_read memory address reads = if reads then unwrap_or (word_at memory address) 0 else 0
+
+-- the store that is done, and the memory after it
+abbrev pub data_store : ℕ → ℕ → Bool → Bool → Option Store
+data_store address word writes error =
+    if writes && not error then Some (record { addr = address; word = word }) else None
+
+abbrev pub stored : List ℕ → Option Store → List ℕ
+stored memory None = memory
+stored memory (Some store) = put_word memory store.addr store.word
+
+-- ---- PC update (figure 4.31)
+
+abbrev pub next_address : Next → ℕ → ℕ → ℕ → ℕ → Bool → ℕ
+next_address Itself pc val_p val_c val_m cnd = pc
+next_address Fall pc val_p val_c val_m cnd = val_p
+next_address Branch pc val_p val_c val_m cnd = if cnd then val_c else val_p
+next_address Target pc val_p val_c val_m cnd = val_c
+next_address Loaded pc val_p val_c val_m cnd = val_m

@@ -1,0 +1,6 @@
+pub mod Table
+pub mod Blocks
+pub mod Machine
+pub mod Work
+pub mod Step
+pub mod Run

@@ -1,0 +1,77 @@
+-- The instruction table of Y86-64 (CS:APP 3e, figures 4.2, 4.3 and 4.18 to 4.21).
+use Rattle.std.specs.Prelude.{ℕ, Bool, true, false, ◌&&◌, nat_lt, nat_le, ◌==◌, List, [], ◌∷◌, length, slice_get, unwrap_or, if◌then◌else◌}
+use Rattle.y86_base.specs.declared.parts.Variant.{Variant}
+use Rattle.y86_base.specs.declared.parts.Variant.TheVariants.{Base}
+use Rattle.y86_isa.specs.declared.columns.Row.{Row}
+use Rattle.y86_isa.specs.declared.columns.Field.{Field}
+use Rattle.y86_isa.specs.declared.columns.Field.TheVariants.{Dash, FieldA, FieldB, Stack}
+use Rattle.y86_isa.specs.declared.columns.TermA.{TermA}
+use Rattle.y86_isa.specs.declared.columns.TermA.TheVariants.{NoA, ValA, ValC, Minus8, Plus8}
+use Rattle.y86_isa.specs.declared.columns.TermB.{TermB}
+use Rattle.y86_isa.specs.declared.columns.TermB.TheVariants.{NoB, Zero, ValB}
+use Rattle.y86_isa.specs.declared.columns.Access.{Access}
+use Rattle.y86_isa.specs.declared.columns.Access.TheVariants.{NoMem, StoreA, StoreP, LoadE, LoadA}
+use Rattle.y86_isa.specs.declared.columns.Next.{Next}
+use Rattle.y86_isa.specs.declared.columns.Next.TheVariants.{Itself, Fall, Branch, Target, Loaded}
+
+abbrev yes : Bool
+yes = true
+
+abbrev no : Bool
+no = false
+
+-- a row, from its columns in the order of the table below
+abbrev line : ℕ → Bool → Bool → Bool → Bool → ℕ → Field → Field → Field → Field → Bool → TermA → TermB → Bool → Bool → Access → Next → Row
+line length uses_a uses_b has_byte has_const ifun_top src_a src_b dst_e dst_m conditional alu_a alu_b selects sets_flags memory next =
+    record {
+      length = length;
+      uses_a = uses_a;
+      uses_b = uses_b;
+      has_byte = has_byte;
+      has_const = has_const;
+      ifun_top = ifun_top;
+      src_a = src_a;
+      src_b = src_b;
+      dst_e = dst_e;
+      dst_m = dst_m;
+      conditional = conditional;
+      alu_a = alu_a;
+      alu_b = alu_b;
+      selects = selects;
+      sets_flags = sets_flags;
+      memory = memory;
+      next = next;
+    }
+
+-- the rows of a variant, by icode. The columns are:
+--   length in bytes; are the fields rA, rB used; are there a register byte, a constant; the largest ifun, 15 where it is ignored;
+--   srcA, srcB, dstE, dstM; is dstE written only where the condition holds; aluA, aluB; is the ALU's function the ifun (else it adds);
+--   are the flags set; the access to memory; the next PC
+abbrev pub rows : Variant → List Row
+rows Base =
+    line 1 no no no no 15 Dash Dash Dash Dash no NoA NoB no no NoMem Itself ∷  -- 0 halt
+    (line 1 no no no no 15 Dash Dash Dash Dash no NoA NoB no no NoMem Fall ∷  -- 1 nop
+    (line 2 yes yes yes no 6 FieldA Dash FieldB Dash yes ValA Zero no no NoMem Fall ∷  -- 2 rrmovq, cmovXX
+    (line 10 no yes yes yes 15 Dash Dash FieldB Dash no ValC Zero no no NoMem Fall ∷  -- 3 irmovq
+    (line 10 yes yes yes yes 15 FieldA FieldB Dash Dash no ValC ValB no no StoreA Fall ∷  -- 4 rmmovq
+    (line 10 yes yes yes yes 15 Dash FieldB Dash FieldA no ValC ValB no no LoadE Fall ∷  -- 5 mrmovq
+    (line 2 yes yes yes no 3 FieldA FieldB FieldB Dash no ValA ValB yes yes NoMem Fall ∷  -- 6 OPq
+    (line 9 no no no yes 6 Dash Dash Dash Dash no NoA NoB no no NoMem Branch ∷  -- 7 jXX
+    (line 9 no no no yes 15 Dash Stack Stack Dash no Minus8 ValB no no StoreP Target ∷  -- 8 call
+    (line 1 no no no no 15 Stack Stack Stack Dash no Plus8 ValB no no LoadA Loaded ∷  -- 9 ret
+    (line 2 yes no yes no 15 FieldA Stack Stack Dash no Minus8 ValB no no StoreA Fall ∷  -- 10 pushq
+    (line 2 yes no yes no 15 Stack Stack Stack FieldA no Plus8 ValB no no LoadA Fall ∷  -- 11 popq
+    [])))))))))))
+
+-- the row of no instruction: one byte, and a dash in each column
+abbrev pub dash_row : Row
+dash_row =
+    line 1 no no no no 0 Dash Dash Dash Dash no NoA NoB no no NoMem Itself
+
+-- the row of an icode; an icode without a row has the row of dashes
+unfoldable pub row : Variant → ℕ → Row
+row v icode = unwrap_or (slice_get (rows v) icode) dash_row
+
+-- does a first byte begin an instruction: its icode has a row, and its ifun is one that the icode takes
+abbrev pub is_instruction : Variant → ℕ → ℕ → Bool
+is_instruction v icode ifun = nat_lt icode (length (rows v)) && nat_le ifun (row v icode).ifun_top

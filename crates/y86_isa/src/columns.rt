@@ -1,0 +1,87 @@
+/// Which register a column of the instruction table names.
+#[derive(Clone, Copy, Debug, PartialEq, Eq)]
+pub enum Field {
+    /// No register, number 15.
+    Dash,
+    /// The field `rA` of the register byte.
+    FieldA,
+    /// The field `rB` of the register byte.
+    FieldB,
+    /// The stack pointer `%rsp`, number 4.
+    Stack,
+}
+
+/// The first operand of the ALU.
+#[derive(Clone, Copy, Debug, PartialEq, Eq)]
+pub enum TermA {
+    NoA,
+    ValA,
+    ValC,
+    Minus8,
+    Plus8,
+}
+
+/// The second operand of the ALU, to which the first is added or from which it is subtracted.
+#[derive(Clone, Copy, Debug, PartialEq, Eq)]
+pub enum TermB {
+    NoB,
+    Zero,
+    ValB,
+}
+
+/// What an instruction does at memory, besides being fetched.
+#[derive(Clone, Copy, Debug, PartialEq, Eq)]
+pub enum Access {
+    NoMem,
+    /// Writes valA at valE.
+    StoreA,
+    /// Writes valP at valE.
+    StoreP,
+    /// Reads valM at valE.
+    LoadE,
+    /// Reads valM at valA.
+    LoadA,
+}
+
+/// Where the next instruction is.
+#[derive(Clone, Copy, Debug, PartialEq, Eq)]
+pub enum Next {
+    /// At the PC itself: nothing follows.
+    Itself,
+    /// At valP, behind the instruction.
+    Fall,
+    /// At valC where the condition holds, else at valP.
+    Branch,
+    /// At valC.
+    Target,
+    /// At valM.
+    Loaded,
+}
+
+/// A row of the instruction table: what CS:APP 3e, figures 4.18 to 4.21, say of one icode.
+#[derive(Clone, Copy, Debug, PartialEq, Eq)]
+pub struct Row {
+    /// How many bytes the instruction has.
+    pub length: u64,
+    /// Whether the fields `rA` and `rB` have to name a register.
+    pub uses_a: bool,
+    pub uses_b: bool,
+    /// Whether there is a register byte, and an 8-byte constant.
+    pub has_byte: bool,
+    pub has_const: bool,
+    /// The largest ifun that the icode takes; 15 where it ignores its ifun.
+    pub ifun_top: u64,
+    pub src_a: Field,
+    pub src_b: Field,
+    pub dst_e: Field,
+    pub dst_m: Field,
+    /// Whether the destination of valE is written only where the condition holds.
+    pub conditional: bool,
+    pub alu_a: TermA,
+    pub alu_b: TermB,
+    /// Whether the function of the ALU is the ifun; else it adds.
+    pub selects: bool,
+    pub sets_flags: bool,
+    pub memory: Access,
+    pub next: Next,
+}

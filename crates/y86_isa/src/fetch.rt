@@ -1,0 +1,156 @@
+ghost use Rattle.std.specs.Prelude.{◌≡◌, ◌+◌, ◌/◌, ◌%◌, nat_le, nat_lt, length};
+ghost use Rattle.y86_isa.specs.Blocks as blocks;
+ghost use Rattle.y86_isa.specs.Table as table;
+
+use crate::columns::Row;
+use crate::table::{icode_count, row};
+use y86_base::{Image, Variant};
+
+/// What the bytes at a PC read as.
+///
+/// `error` says that a byte of the instruction is outside the memory; the icode is then 1 and the ifun 0. An
+/// invalid instruction has icode 15 and ifun 0.
+#[derive(Clone, Copy, Debug, PartialEq, Eq)]
+pub struct Reading {
+    pub error: bool,
+    pub icode: u64,
+    pub ifun: u64,
+}
+
+/// An instruction as it is fetched (CS:APP 3e, figure 4.27).
+///
+/// `error` says that a byte is outside the memory. The icode is then 1, and it is 15 for an invalid
+/// instruction; in both cases the register fields are 15, `val_c` is 0 and `val_p` is the PC plus 1.
+#[derive(Clone, Copy, Debug, PartialEq, Eq)]
+pub struct Fetched {
+    pub error: bool,
+    pub icode: u64,
+    pub ifun: u64,
+    pub r_a: u64,
+    pub r_b: u64,
+    pub val_c: u64,
+    pub val_p: u64,
+}
+
+fn byte_at(memory: &Image, address: u64) -> u8
+    ensures { result ≡ blocks.byte_at memory.now address }
+{
+    memory.byte(address).unwrap_or(0)
+}
+
+/// The fields `rA` and `rB` behind the first byte where there is a register byte, and 15 where there is none.
+pub fn register_fields(memory: &Image, pc: u64, need_regids: bool) -> (u64, u64)
+    ensures a { result.0 ≡ blocks.field_a memory.now pc need_regids }
+    ensures b { result.1 ≡ blocks.field_b memory.now pc need_regids }
+{
+    if !need_regids {
+        return (15, 15);
+    }
+    let byte = u64::from(byte_at(memory, pc.wrapping_add(1)));
+    (byte / 16, byte % 16)
+}
+
+/// The constant behind the first byte and the register byte, little-endian, and 0 where there is none. A byte
+/// outside the memory counts as 0.
+#[tactic(auto, unfolding(crate::specs::Blocks::word_from))]
+pub fn constant(memory: &Image, pc: u64, need_regids: bool, need_const: bool) -> u64
+    ensures { result ≡ blocks.const_at memory.now pc need_regids need_const }
+{
+    if !need_const {
+        return 0;
+    }
+    let at = pc.wrapping_add(if need_regids { 2 } else { 1 });
+    u64::from_le_bytes([
+        byte_at(memory, at),
+        byte_at(memory, at.wrapping_add(1)),
+        byte_at(memory, at.wrapping_add(2)),
+        byte_at(memory, at.wrapping_add(3)),
+        byte_at(memory, at.wrapping_add(4)),
+        byte_at(memory, at.wrapping_add(5)),
+        byte_at(memory, at.wrapping_add(6)),
+        byte_at(memory, at.wrapping_add(7)),
+    ])
+}
+
+/// The address behind an instruction at `pc`.
+pub fn behind(pc: u64, need_regids: bool, need_const: bool) -> u64
+    ensures { result ≡ blocks.after pc need_regids need_const }
+{
+    let first = pc.wrapping_add(1);
+    let fields = first.wrapping_add(if need_regids { 1 } else { 0 });
+    fields.wrapping_add(if need_const { 8 } else { 0 })
+}
+
+fn is_inside(memory: &Image, pc: u64, bytes: u64) -> bool
+    ensures { result ≡ nat_le (pc + bytes) (length memory.now) }
+{
+    let size = memory.size();
+    bytes <= size && pc <= size - bytes
+}
+
+/// Whether a register field that the row uses names no register.
+fn lacks_register(memory: &Image, pc: u64, row: &Row) -> bool
+    ensures { result ≡ blocks.lacks_register memory.now pc row.now }
+{
+    let (r_a, r_b) = register_fields(memory, pc, row.has_byte);
+    (row.uses_a && r_a == 15) || (row.uses_b && r_b == 15)
+}
+
+const OUTSIDE: Reading = Reading {
+    error: true,
+    icode: 1,
+    ifun: 0,
+};
+
+const INVALID: Reading = Reading {
+    error: false,
+    icode: 15,
+    ifun: 0,
+};
+
+/// Reads the instruction at `pc`. The first of these cases that applies decides: its first byte is outside;
+/// its first byte begins no instruction; a later byte is outside; a register field that it uses is 15.
+#[tactic(auto, unfolding(crate::specs::Blocks::reading))]
+pub fn read(v: Variant, memory: &Image, pc: u64) -> Reading
+    ensures { result ≡ blocks.reading v memory.now pc }
+{
+    let Some(first) = memory.byte(pc) else {
+        return OUTSIDE;
+    };
+    let icode = u64::from(first / 16);
+    let ifun = u64::from(first % 16);
+    let row = row(v, icode);
+    if icode >= icode_count(v) || ifun > row.ifun_top {
+        return INVALID;
+    }
+    if !is_inside(memory, pc, row.length) {
+        return OUTSIDE;
+    }
+    if lacks_register(memory, pc, &row) {
+        return INVALID;
+    }
+    Reading {
+        error: false,
+        icode,
+        ifun,
+    }
+}
+
+/// Fetches the instruction at `pc`: reads it, and splits it into its fields.
+#[tactic(auto, unfolding(crate::specs::Blocks::fetched))]
+pub fn split(v: Variant, memory: &Image, pc: u64) -> Fetched
+    ensures { result ≡ blocks.fetched v memory.now pc }
+{
+    let read = read(v, memory, pc);
+    let row = row(v, read.icode);
+    let (r_a, r_b) = register_fields(memory, pc, row.has_byte);
+    Fetched {
+        error: read.error,
+        icode: read.icode,
+        ifun: read.ifun,
+        r_a,
+        r_b,
+        val_c: constant(memory, pc, row.has_byte, row.has_const),
+        val_p: behind(pc, row.has_byte, row.has_const),
+    }
+}

@@ -1,0 +1,21 @@
+//! The Y86-64 instruction set of CS:APP 3e, section 4.1: the instruction table as data, one step of a machine
+//! through the intermediate values of section 4.3.1, and the ALU and conditions that all datapaths share.
+#![tactic(auto)]
+
+mod advance;
+mod columns;
+mod fetch;
+mod laws;
+mod machine;
+mod table;
+mod unit;
+mod work;
+
+pub use advance::step;
+pub use columns::{Access, Field, Next, Row, TermA, TermB};
+pub use fetch::{Fetched, Reading, behind, constant, read, register_fields, split};
+pub use laws::{law_of_records, law_of_runs};
+pub use machine::{Machine, Rec, Store};
+pub use table::{icode_count, row};
+pub use unit::{AluOut, alu, cond};
+pub use work::Work;

@@ -1,0 +1,82 @@
+ghost use Rattle.std.specs.Prelude.{◌≡◌};
+
+use y86_base::{Flags, Image, Regs, Stat};
+
+/// What a program sees of the processor (CS:APP 3e, figure 4.1): the registers, the flags, the address of the
+/// next instruction, the status and the memory.
+#[derive(Debug, Drop)]
+pub struct Machine {
+    pub regs: Regs,
+    pub flags: Flags,
+    pub pc: u64,
+    pub stat: Stat,
+    pub mem: Image,
+}
+
+impl Machine {
+    ghost use Rattle.y86_isa.specs.Machine.{start};
+
+    /// The machine before its first instruction: registers and PC 0, flags ZF=1 SF=0 OF=0, status AOK.
+    pub fn start(mem: Image) -> Machine
+        ensures { result ≡ start mem }
+    {
+        Machine {
+            regs: Regs::zero(),
+            flags: Flags {
+                zf: true,
+                sf: false,
+                of: false,
+            },
+            pc: 0,
+            stat: Stat::Aok,
+            mem,
+        }
+    }
+}
+
+/// A word that an instruction writes to memory, and the address of its first byte.
+#[derive(Clone, Copy, Debug, PartialEq, Eq)]
+pub struct Store {
+    pub addr: u64,
+    pub word: u64,
+}
+
+/// What one instruction did.
+///
+/// A destination that is no register is 15, and its value then 0. A record whose status isn't AOK has no
+/// destination and no store. The flags are those after the instruction.
+#[derive(Clone, Copy, Debug, PartialEq, Eq)]
+pub struct Rec {
+    pub pc: u64,
+    pub icode: u64,
+    pub ifun: u64,
+    pub dst_e: u64,
+    pub val_e: u64,
+    pub dst_m: u64,
+    pub val_m: u64,
+    pub store: Option<Store>,
+    pub flags: Flags,
+    pub stat: Stat,
+}
+
+impl Rec {
+    ghost use Rattle.y86_isa.specs.Machine.{normal};
+
+    /// The record in its normal form: what isn't done is left out, and number 15 stands for any destination
+    /// that is no register.
+    pub fn normal(self) -> Rec
+        ensures { result ≡ normal self }
+    {
+        let done = matches!(self.stat, Stat::Aok);
+        let writes_e = done && self.dst_e < 15;
+        let writes_m = done && self.dst_m < 15;
+        Rec {
+            dst_e: if writes_e { self.dst_e } else { 15 },
+            val_e: if writes_e { self.val_e } else { 0 },
+            dst_m: if writes_m { self.dst_m } else { 15 },
+            val_m: if writes_m { self.val_m } else { 0 },
+            store: if done { self.store } else { None },
+            ..self
+        }
+    }
+}

@@ -1,0 +1,212 @@
+ghost use Rattle.std.specs.Prelude.{◌≡◌, ◌≤◌, length};
+ghost use Rattle.y86_isa.specs.Table as table;
+
+use crate::columns::{Access, Field, Next, Row, TermA, TermB};
+use y86_base::Variant;
+
+/// A row of one byte with a dash in each column.
+const DASH: Row = Row {
+    length: 1,
+    uses_a: false,
+    uses_b: false,
+    has_byte: false,
+    has_const: false,
+    ifun_top: 0,
+    src_a: Field::Dash,
+    src_b: Field::Dash,
+    dst_e: Field::Dash,
+    dst_m: Field::Dash,
+    conditional: false,
+    alu_a: TermA::NoA,
+    alu_b: TermB::NoB,
+    selects: false,
+    sets_flags: false,
+    memory: Access::NoMem,
+    next: Next::Itself,
+};
+
+const HALT: Row = Row {
+    ifun_top: 15,
+    ..DASH
+};
+
+const NOP: Row = Row {
+    ifun_top: 15,
+    next: Next::Fall,
+    ..DASH
+};
+
+const RRMOVQ: Row = Row {
+    length: 2,
+    uses_a: true,
+    uses_b: true,
+    has_byte: true,
+    ifun_top: 6,
+    src_a: Field::FieldA,
+    dst_e: Field::FieldB,
+    conditional: true,
+    alu_a: TermA::ValA,
+    alu_b: TermB::Zero,
+    next: Next::Fall,
+    ..DASH
+};
+
+const IRMOVQ: Row = Row {
+    length: 10,
+    uses_b: true,
+    has_byte: true,
+    has_const: true,
+    ifun_top: 15,
+    dst_e: Field::FieldB,
+    alu_a: TermA::ValC,
+    alu_b: TermB::Zero,
+    next: Next::Fall,
+    ..DASH
+};
+
+const RMMOVQ: Row = Row {
+    length: 10,
+    uses_a: true,
+    uses_b: true,
+    has_byte: true,
+    has_const: true,
+    ifun_top: 15,
+    src_a: Field::FieldA,
+    src_b: Field::FieldB,
+    alu_a: TermA::ValC,
+    alu_b: TermB::ValB,
+    memory: Access::StoreA,
+    next: Next::Fall,
+    ..DASH
+};
+
+const MRMOVQ: Row = Row {
+    length: 10,
+    uses_a: true,
+    uses_b: true,
+    has_byte: true,
+    has_const: true,
+    ifun_top: 15,
+    src_b: Field::FieldB,
+    dst_m: Field::FieldA,
+    alu_a: TermA::ValC,
+    alu_b: TermB::ValB,
+    memory: Access::LoadE,
+    next: Next::Fall,
+    ..DASH
+};
+
+const OPQ: Row = Row {
+    length: 2,
+    uses_a: true,
+    uses_b: true,
+    has_byte: true,
+    ifun_top: 3,
+    src_a: Field::FieldA,
+    src_b: Field::FieldB,
+    dst_e: Field::FieldB,
+    alu_a: TermA::ValA,
+    alu_b: TermB::ValB,
+    selects: true,
+    sets_flags: true,
+    next: Next::Fall,
+    ..DASH
+};
+
+const JXX: Row = Row {
+    length: 9,
+    has_const: true,
+    ifun_top: 6,
+    next: Next::Branch,
+    ..DASH
+};
+
+const CALL: Row = Row {
+    length: 9,
+    has_const: true,
+    ifun_top: 15,
+    src_b: Field::Stack,
+    dst_e: Field::Stack,
+    alu_a: TermA::Minus8,
+    alu_b: TermB::ValB,
+    memory: Access::StoreP,
+    next: Next::Target,
+    ..DASH
+};
+
+const RET: Row = Row {
+    ifun_top: 15,
+    src_a: Field::Stack,
+    src_b: Field::Stack,
+    dst_e: Field::Stack,
+    alu_a: TermA::Plus8,
+    alu_b: TermB::ValB,
+    memory: Access::LoadA,
+    next: Next::Loaded,
+    ..DASH
+};
+
+const PUSHQ: Row = Row {
+    length: 2,
+    uses_a: true,
+    has_byte: true,
+    ifun_top: 15,
+    src_a: Field::FieldA,
+    src_b: Field::Stack,
+    dst_e: Field::Stack,
+    alu_a: TermA::Minus8,
+    alu_b: TermB::ValB,
+    memory: Access::StoreA,
+    next: Next::Fall,
+    ..DASH
+};
+
+const POPQ: Row = Row {
+    length: 2,
+    uses_a: true,
+    has_byte: true,
+    ifun_top: 15,
+    src_a: Field::Stack,
+    src_b: Field::Stack,
+    dst_e: Field::Stack,
+    dst_m: Field::FieldA,
+    alu_a: TermA::Plus8,
+    alu_b: TermB::ValB,
+    memory: Access::LoadA,
+    next: Next::Fall,
+    ..DASH
+};
+
+/// The number of icodes that have a row in the variant; they are those below it.
+pub fn icode_count(v: Variant) -> u64
+    ensures { result ≡ length (table.rows v) }
+{
+    match v {
+        Variant::Base => 12,
+    }
+}
+
+/// The row of an icode in the instruction table, and the row of dashes for an icode that has none.
+#[tactic(auto, unfolding(crate::specs::Table::row))]
+pub fn row(v: Variant, icode: u64) -> Row
+    ensures row { result ≡ table.row v icode }
+    ensures length { result.length ≤ 10 }
+{
+    if icode >= icode_count(v) {
+        return DASH;
+    }
+    match icode {
+        0 => HALT,
+        1 => NOP,
+        2 => RRMOVQ,
+        3 => IRMOVQ,
+        4 => RMMOVQ,
+        5 => MRMOVQ,
+        6 => OPQ,
+        7 => JXX,
+        8 => CALL,
+        9 => RET,
+        10 => PUSHQ,
+        _ => POPQ,
+    }
+}

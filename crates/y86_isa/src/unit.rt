@@ -1,0 +1,94 @@
+ghost use Rattle.std.specs.Prelude.{◌≡◌};
+ghost use Rattle.y86_isa.specs.Blocks as blocks;
+
+use y86_base::Flags;
+
+/// What the arithmetic/logic unit gives: the result and its condition codes.
+#[derive(Clone, Copy, Debug, PartialEq, Eq)]
+pub struct AluOut {
+    pub val: u64,
+    pub flags: Flags,
+}
+
+/// The sign bit of a word.
+const SIGN: u64 = 1 << 63;
+
+#[tactic(auto, unfolding(crate::specs::Blocks::alu_value, crate::specs::Blocks::alu_flags))]
+fn sum(a: u64, b: u64) -> AluOut
+    ensures { result ≡ blocks.alu 0 a b }
+{
+    let val = b.wrapping_add(a);
+    let same = (a >= SIGN) == (b >= SIGN);
+    AluOut {
+        val,
+        flags: Flags {
+            zf: val == 0,
+            sf: val >= SIGN,
+            of: same && (val >= SIGN) != (b >= SIGN),
+        },
+    }
+}
+
+#[tactic(auto, unfolding(crate::specs::Blocks::alu_value, crate::specs::Blocks::alu_flags))]
+fn difference(a: u64, b: u64) -> AluOut
+    ensures { result ≡ blocks.alu 1 a b }
+{
+    let val = b.wrapping_sub(a);
+    let same = (a >= SIGN) == (b >= SIGN);
+    AluOut {
+        val,
+        flags: Flags {
+            zf: val == 0,
+            sf: val >= SIGN,
+            of: !same && (val >= SIGN) != (b >= SIGN),
+        },
+    }
+}
+
+/// The result of a bitwise function, which never overflows.
+fn bitwise(val: u64) -> AluOut
+    ensures { result ≡ blocks.bitwise val }
+{
+    AluOut {
+        val,
+        flags: Flags {
+            zf: val == 0,
+            sf: val >= SIGN,
+            of: false,
+        },
+    }
+}
+
+/// The ALU (CS:APP 3e, figures 4.3 and 4.29). Function 0 is `b + a`, 1 is `b - a`, 2 is `b & a` and 3 is
+/// `b ^ a`, modulo 2^64; any other function gives 0.
+#[tactic(auto, unfolding(crate::specs::Blocks::alu_value, crate::specs::Blocks::alu_flags))]
+pub fn alu(f: u64, a: u64, b: u64) -> AluOut
+    ensures { result ≡ blocks.alu f a b }
+{
+    match f {
+        0 => sum(a, b),
+        1 => difference(a, b),
+        2 => bitwise(b & a),
+        3 => bitwise(b ^ a),
+        _ => bitwise(0),
+    }
+}
+
+/// Whether a condition holds of the flags: always for 0, then le, l, e, ne, ge and g for 1 to 6 (CS:APP 3e,
+/// figures 3.15 and 4.3), and never for any other number.
+#[tactic(auto, unfolding(crate::specs::Blocks::condition))]
+pub fn cond(f: u64, flags: Flags) -> bool
+    ensures { result ≡ blocks.condition f flags }
+{
+    let less = flags.sf != flags.of;
+    match f {
+        0 => true,
+        1 => less || flags.zf,
+        2 => less,
+        3 => flags.zf,
+        4 => !flags.zf,
+        5 => !less,
+        6 => !less && !flags.zf,
+        _ => false,
+    }
+}
