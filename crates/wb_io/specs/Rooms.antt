@@ -1,5 +1,5 @@
--- A sink in memory with a fixed room.
-use Rattle.std.specs.Prelude.{ℕ, Bool, ◌||◌, ◌&&◌, ◌==◌, not, List, length}
+-- Sinks in memory with a fixed room.
+use Rattle.std.specs.Prelude.{ℕ, ◌-◌, Bool, ◌||◌, ◌&&◌, ◌==◌, not, nat_lt, List, ◌++◌, length, take, Option, Some, None, if◌then◌else◌}
 use Rattle.std.specs.List.{list_any}
 
 pub record Room : Type 0 where
@@ -17,3 +17,24 @@ pub record Room : Type 0 where
 -- the next write fails: its number is one of those that fail, or its piece is not empty and no room is left
 abbrev pub refuses : Room → List ℕ → Bool
 refuses room piece = list_any (λ n. n == room.writes) room.fail || (not (length piece == 0) && room.left == 0)
+
+-- a sink that keeps what fits its room, and drops the rest
+pub record Kept : Type 0 where
+  -- the bytes that fitted
+  pub kept : List ℕ
+  -- how many bytes still fit
+  pub left : ℕ
+  -- whether some bytes were dropped
+  pub dropped : Bool
+
+-- what it tells: the bytes that it took, until some are dropped
+abbrev pub told_of : Kept → Option (List ℕ)
+told_of sink = if sink.dropped then None else Some sink.kept
+
+-- the sink after the write of a piece
+abbrev pub kept_after : Kept → List ℕ → Kept
+kept_after sink piece = record {
+  kept = sink.kept ++ take sink.left piece;
+  left = sink.left - length piece;
+  dropped = sink.dropped || nat_lt sink.left (length piece);
+}

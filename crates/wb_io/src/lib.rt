@@ -5,10 +5,14 @@
 mod counts;
 mod files;
 mod host;
+mod memory_files;
 mod memory_sink;
 mod sinks;
+mod sure;
 
 pub use files::{Files, ReadErr};
 pub use host::{HostFiles, HostSink};
+pub use memory_files::MemFiles;
 pub use memory_sink::MemSink;
 pub use sinks::{Failed, Sink, put_all, put_pieces};
+pub use sure::{SureFiles, SureSink};

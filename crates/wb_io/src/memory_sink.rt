@@ -1,7 +1,6 @@
 ghost use Rattle.std.specs.Prelude.{◌≡◌, ◌-◌, ◌≤◌, min, max, [], ◌++◌, take, length, is_err, Some, IfOk, OnOk, OnErr};
 ghost use Rattle.wb_io.specs.Causes.{counted};
 ghost use Rattle.wb_io.specs.Rooms.{refuses};
-ghost use Rattle.wb_io.specs.Sinks.{Took};
 
 use crate::counts::{is_among, one_more};
 use crate::sinks::{Failed, Sink};

@@ -1,4 +1,4 @@
-ghost use Rattle.std.specs.Prelude.{◌≡◌, ℕ, ◌<◌, ◌≤◌, List, [], take, length, Option, IfOk, IsErr, OnErr};
+ghost use Rattle.std.specs.Prelude.{◌≡◌, ℕ, ◌<◌, ◌≤◌, List, [], take, length, Option, IfOk, OnErr};
 ghost use Rattle.wb_io.specs.Causes.{Rose};
 ghost use Rattle.wb_io.specs.Sinks.{Took, Puts, joined};
 

@@ -4,3 +4,4 @@ pub mod Machine
 pub mod Work
 pub mod Step
 pub mod Run
+pub mod Encoding

@@ -191,6 +191,7 @@ pub fn icode_count(v: Variant) -> u64
 pub fn row(v: Variant, icode: u64) -> Row
     ensures row { result ≡ table.row v icode }
     ensures length { result.length ≤ 10 }
+    ensures ifun_top { result.ifun_top ≤ 15 }
 {
     if icode >= icode_count(v) {
         return DASH;

@@ -1,3 +1,4 @@
 pub mod ObjectText
 pub mod Loads
 pub mod Lines
+pub mod Grammar

@@ -1,7 +1,9 @@
 //! Object text: the lines of addresses and bytes that an assembler prints and a simulator loads.
 #![tactic(auto)]
 
+mod laws;
 mod line;
 mod object;
 
+pub use laws::line_grammar;
 pub use object::{YoFault, YoWhy, load};

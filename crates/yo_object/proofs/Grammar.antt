@@ -1,0 +1,202 @@
+-- The definition of an object line reads the grammar's form.
+use Rattle.std.proofs.Common.{◌≡◌, ℕ, suc, ◌+◌, ◌<◌, Bool, true, false, cond, ◌&&◌, nat_lt, eqb, List, [], ◌∷◌, ◌++◌, length, take, refl, sym, ap, ◌∙◌, Option, Some, None, take_while, arith}
+use Rattle.std.specs.List.{list_all, prefix_len}
+use Rattle.std.proofs.Math.Numerals.{one-add}
+use Rattle.std.proofs.Math.Seq.{drop-append_seam, take-append_seam}
+use Rattle.std.proofs.lemmas.Bool.{eqb-true, lt-ltb, ltb-true}
+use Rattle.std.proofs.lemmas.Bool.Decides.{nat_tests}
+use Rattle.std.proofs.lemmas.List.{take-append-drop, append_assoc}
+use Rattle.std.proofs.lemmas.Option.{option_and_then_some}
+use Rattle.y86_base.specs.Text.{is_blank, is_hex}
+use Rattle.yo_object.specs.ObjectText.{behind, after_byte, after_prefix, is_line_end, Digits, digits_behind_colon, digits_of}
+use Rattle.yo_object.specs.Grammar.{IsObjectLine, BeginsObjectLine, digits_in_line, ReadsTheForm, SkipsTheRest}
+
+-- a text doesn't begin with a byte that passes
+abbrev Stops : (ℕ → Bool) → List ℕ → Type 0
+Stops passes [] = Unit {0}
+Stops passes (first ∷ rest) = passes first ≡ false
+
+both_true : (a b : Bool) → (a && b) ≡ true → (a ≡ true) × (b ≡ true)
+both_true true b h = (refl, h)
+both_true false b h = absurd (cc)
+
+step_true : (b : Bool) (n : ℕ) → b ≡ true → cond b (1 + n) 0 ≡ suc n
+step_true b n e = rw (e, one-add) refl
+
+prefix_len-run : (passes : ℕ → Bool) (run text : List ℕ) → list_all passes run ≡ true → Stops passes text → prefix_len passes (run ++ text) ≡ length run
+prefix_len-run passes [] [] h stops = refl
+prefix_len-run passes [] (first ∷ rest) h stops = rw stops refl
+prefix_len-run passes (x ∷ run) text h stops =
+    let b = both_true (passes x) (list_all passes run) h in
+    step_true (passes x) _ b.0 ∙ ap suc (prefix_len-run passes run text b.1 stops)
+
+behind-run : (passes : ℕ → Bool) (run text : List ℕ) → list_all passes run ≡ true → Stops passes text → behind passes (run ++ text) ≡ text
+behind-run passes run text h stops = rw (prefix_len-run passes run text h stops) (drop-append_seam run text)
+
+take_while-run : (passes : ℕ → Bool) (run text : List ℕ) → list_all passes run ≡ true → Stops passes text → take_while passes (run ++ text) ≡ run
+take_while-run passes run text h stops = rw (prefix_len-run passes run text h stops) (take-append_seam run text)
+
+run_and_rest : (passes : ℕ → Bool) (text : List ℕ) → text ≡ take_while passes text ++ behind passes text
+run_and_rest passes text = sym (take-append-drop (prefix_len passes text) text)
+
+first_passes : (b : Bool) (passes : ℕ → Bool) (x : ℕ) (text : List ℕ) → passes x ≡ b → list_all passes (take_while passes text) ≡ true →
+    list_all passes (take (cond b (1 + prefix_len passes text) 0) (x ∷ text)) ≡ true
+first_passes true passes x text e h = rw (one-add, e) h
+first_passes false passes x text e h = refl
+
+run_passes : (passes : ℕ → Bool) (text : List ℕ) → list_all passes (take_while passes text) ≡ true
+run_passes passes [] = refl
+run_passes passes (x ∷ text) = first_passes (passes x) passes x text refl (run_passes passes text)
+
+after_byte_some : (byte : ℕ) (text rest : List ℕ) → after_byte byte text ≡ Some rest → text ≡ byte ∷ rest
+after_byte_some byte [] rest h = absurd (cc)
+after_byte_some byte (first ∷ text) rest h = at (eqb first byte) refl h
+  where
+    at : (same : Bool) → eqb first byte ≡ same → cond same (Some text) None ≡ Some rest → first ∷ text ≡ byte ∷ rest
+    at true e found = let this : first ≡ byte = eqb-true first byte e in cc
+    at false e found = absurd (cc)
+
+after_prefix_some : (text rest : List ℕ) → after_prefix text ≡ Some rest → text ≡ 48 ∷ 120 ∷ rest
+after_prefix_some text rest h =
+    option_and_then_some (after_byte 120) (after_byte 48 text) rest h
+    (λ behind_zero first second. after_byte_some 48 text behind_zero first ∙ ap (λ t. 48 ∷ t) (after_byte_some 120 behind_zero rest second))
+
+hex_not_blank : (byte : ℕ) → is_hex byte ≡ true → is_blank byte ≡ false
+hex_not_blank byte h = grind (arith, nat_tests)
+
+blank_not_hex : (byte : ℕ) → is_blank byte ≡ true → is_hex byte ≡ false
+blank_not_hex byte h = grind (arith, nat_tests)
+
+-- a line's end stops blanks and hex digits
+end_stops_blanks : (comment : List ℕ) → is_line_end comment ≡ true → Stops is_blank comment
+end_stops_blanks [] h = tt
+end_stops_blanks (first ∷ comment) h = let e : first ≡ 124 = eqb-true first 124 h in rw e refl
+
+end_stops_hex : (comment : List ℕ) → is_line_end comment ≡ true → Stops is_hex comment
+end_stops_hex [] h = tt
+end_stops_hex (first ∷ comment) h = let e : first ≡ 124 = eqb-true first 124 h in rw e refl
+
+-- blanks, and then what hex digits stop at, stop hex digits
+blanks_stop_hex : (trail comment : List ℕ) → list_all is_blank trail ≡ true → Stops is_hex comment → Stops is_hex (trail ++ comment)
+blanks_stop_hex [] comment h stops = stops
+blanks_stop_hex (first ∷ trail) comment h stops = blank_not_hex first (both_true (is_blank first) (list_all is_blank trail) h).0
+
+list_all-append : (passes : ℕ → Bool) (xs ys : List ℕ) → list_all passes xs ≡ true → list_all passes ys ≡ true → list_all passes (xs ++ ys) ≡ true
+list_all-append passes [] ys h k = k
+list_all-append passes (x ∷ xs) ys h k =
+    let b = both_true (passes x) (list_all passes xs) h in rw (b.0, list_all-append passes xs ys b.1 k) refl
+
+-- what is read behind the colon
+pub record IsData (text bytes : List ℕ) : Type 0 where
+  pub digits : take_while is_hex (behind is_blank text) ≡ bytes
+  pub ends : is_line_end (behind is_blank (behind is_hex (behind is_blank text))) ≡ true
+
+data_read : (gap bytes trail comment : List ℕ) → list_all is_blank gap ≡ true → list_all is_hex bytes ≡ true → list_all is_blank trail ≡ true →
+    is_line_end comment ≡ true → IsData (gap ++ (bytes ++ (trail ++ comment))) bytes
+data_read gap [] trail comment blank_gap hex blank_trail ends =
+    let regroup : gap ++ (trail ++ comment) ≡ (gap ++ trail) ++ comment = sym (append_assoc gap trail comment) in
+    let at : behind is_blank (gap ++ (trail ++ comment)) ≡ comment =
+    rw regroup (behind-run is_blank (gap ++ trail) comment (list_all-append is_blank gap trail blank_gap blank_trail) (end_stops_blanks comment ends)) in
+    record {
+      digits = rw at (take_while-run is_hex [] comment refl (end_stops_hex comment ends));
+      ends = rw (at, behind-run is_hex [] comment refl (end_stops_hex comment ends), behind-run is_blank [] comment refl (end_stops_blanks comment ends)) ends;
+    }
+data_read gap (first ∷ bytes) trail comment blank_gap hex blank_trail ends =
+    let stops : Stops is_hex (trail ++ comment) = blanks_stop_hex trail comment blank_trail (end_stops_hex comment ends) in
+    let at : behind is_blank (gap ++ (first ∷ (bytes ++ (trail ++ comment)))) ≡ (first ∷ bytes) ++ (trail ++ comment) =
+    behind-run is_blank gap _ blank_gap (hex_not_blank first (both_true (is_hex first) (list_all is_hex bytes) hex).0) in
+    record {
+      digits = rw at (take_while-run is_hex (first ∷ bytes) (trail ++ comment) hex stops);
+      ends = rw (at, behind-run is_hex (first ∷ bytes) (trail ++ comment) hex stops, behind-run is_blank trail comment blank_trail (end_stops_blanks comment ends)) ends;
+    }
+
+data_found : (address text bytes : List ℕ) → 0 < length address → IsData text bytes → digits_behind_colon address text ≡ Some (record { address = address; bytes = bytes })
+data_found address text bytes some d =
+    rw (lt-ltb 0 (length address) some, d.ends, d.digits) refl
+
+form_read : (line address bytes : List ℕ) → IsObjectLine line address bytes → digits_in_line line ≡ Some (record { address = address; bytes = bytes })
+unfolding digits_of
+form_read line address bytes form =
+    let data_text : List ℕ = form.gap ++ (bytes ++ (form.trail ++ form.comment)) in
+    let body : List ℕ = address ++ (58 ∷ data_text) in
+    let start : behind is_blank line ≡ 48 ∷ 120 ∷ body = rw form.text (behind-run is_blank form.lead (48 ∷ 120 ∷ body) form.lead_blank refl) in
+    let colon : behind is_hex body ≡ 58 ∷ data_text = behind-run is_hex address (58 ∷ data_text) form.address_hex refl in
+    let digits : take_while is_hex body ≡ address = take_while-run is_hex address (58 ∷ data_text) form.address_hex refl in
+    rw (start, colon, digits) (data_found address data_text bytes form.address_some
+    (data_read form.gap bytes form.trail form.comment form.gap_blank form.bytes_hex form.trail_blank form.comment_ends))
+
+-- what the definition found behind the colon
+record IsFound (read text address bytes : List ℕ) : Type 0 where
+  some : 0 < length read
+  ends : is_line_end (behind is_blank (behind is_hex (behind is_blank text))) ≡ true
+  address_is : read ≡ address
+  bytes_are : take_while is_hex (behind is_blank text) ≡ bytes
+
+colon_found : (read text address bytes : List ℕ) → digits_behind_colon read text ≡ Some (record { address = address; bytes = bytes }) → IsFound read text address bytes
+colon_found read text address bytes h =
+    at (nat_lt 0 (length read) && is_line_end (behind is_blank (behind is_hex (behind is_blank text)))) refl h
+  where
+    at : (b : Bool) → (nat_lt 0 (length read) && is_line_end (behind is_blank (behind is_hex (behind is_blank text)))) ≡ b →
+        cond {A = Option Digits} b (Some (record { address = read; bytes = take_while is_hex (behind is_blank text) })) None ≡ Some (record { address = address; bytes = bytes }) →
+        IsFound read text address bytes
+    at true e found =
+        let both : (nat_lt 0 (length read) ≡ true) × (is_line_end (behind is_blank (behind is_hex (behind is_blank text))) ≡ true) = both_true _ _ e in
+        let mine : Digits = record { address = read; bytes = take_while is_hex (behind is_blank text) } in
+        let theirs : Digits = record { address = address; bytes = bytes } in
+        let same : mine ≡ theirs = cc in
+        record {
+          some = ltb-true 0 (length read) both.0;
+          ends = both.1;
+          address_is = ap (λ (d : Digits). d.address) same;
+          bytes_are = ap (λ (d : Digits). d.bytes) same;
+        }
+    at false e found = absurd (cc)
+
+form_found : (line address bytes : List ℕ) → digits_in_line line ≡ Some (record { address = address; bytes = bytes }) → IsObjectLine line address bytes
+unfolding digits_of
+form_found line address bytes h =
+    option_and_then_some digits_of (after_prefix (behind is_blank line)) _ h (λ body prefix read.
+    option_and_then_some (digits_behind_colon (take_while is_hex body)) (after_byte 58 (behind is_hex body)) _ read (λ rest colon found_.
+    whole body rest (after_prefix_some _ body prefix) (after_byte_some 58 _ rest colon) (colon_found _ rest address bytes found_)))
+  where
+    whole : (body rest : List ℕ) → behind is_blank line ≡ 48 ∷ 120 ∷ body → behind is_hex body ≡ 58 ∷ rest →
+        IsFound (take_while is_hex body) rest address bytes → IsObjectLine line address bytes
+    whole body rest start colon f =
+        let digits : List ℕ = behind is_blank rest in
+        let tail : behind is_hex digits ≡ take_while is_blank (behind is_hex digits) ++ behind is_blank (behind is_hex digits) = run_and_rest is_blank (behind is_hex digits) in
+        let at_digits : digits ≡ bytes ++ (take_while is_blank (behind is_hex digits) ++ behind is_blank (behind is_hex digits)) =
+        run_and_rest is_hex digits ∙ (ap (λ x. x ++ behind is_hex digits) f.bytes_are ∙ ap (λ x. bytes ++ x) tail) in
+        let at_rest : rest ≡ take_while is_blank rest ++ (bytes ++ (take_while is_blank (behind is_hex digits) ++ behind is_blank (behind is_hex digits))) =
+        run_and_rest is_blank rest ∙ ap (λ x. take_while is_blank rest ++ x) at_digits in
+        let at_body : body ≡ address ++ (58 ∷ (take_while is_blank rest ++ (bytes ++ (take_while is_blank (behind is_hex digits) ++ behind is_blank (behind is_hex digits))))) =
+        run_and_rest is_hex body ∙ (ap (λ x. x ++ behind is_hex body) f.address_is ∙ ap (λ x. address ++ x) (colon ∙ ap (λ x. 58 ∷ x) at_rest)) in
+        record {
+          lead = take_while is_blank line;
+          gap = take_while is_blank rest;
+          trail = take_while is_blank (behind is_hex digits);
+          comment = behind is_blank (behind is_hex digits);
+          text = run_and_rest is_blank line ∙ ap (λ x. take_while is_blank line ++ x) (start ∙ ap (λ x. 48 ∷ 120 ∷ x) at_body);
+          lead_blank = run_passes is_blank line;
+          address_hex = rw (← f.address_is) (run_passes is_hex body);
+          address_some = rw (← f.address_is) f.some;
+          gap_blank = run_passes is_blank rest;
+          bytes_hex = rw (← f.bytes_are) (run_passes is_hex digits);
+          trail_blank = run_passes is_blank (behind is_hex digits);
+          comment_ends = f.ends;
+        }
+
+begin_read : (line rest : List ℕ) → BeginsObjectLine line rest → after_prefix (behind is_blank line) ≡ Some rest
+begin_read line rest begins = rw (begins.text, behind-run is_blank begins.lead (48 ∷ 120 ∷ rest) begins.lead_blank refl) refl
+
+begin_found : (line rest : List ℕ) → after_prefix (behind is_blank line) ≡ Some rest → BeginsObjectLine line rest
+begin_found line rest h = record {
+  lead = take_while is_blank line;
+  text = run_and_rest is_blank line ∙ ap (λ x. take_while is_blank line ++ x) (after_prefix_some _ rest h);
+  lead_blank = run_passes is_blank line;
+}
+
+pub reads_the_form : ReadsTheForm
+reads_the_form line address bytes = (form_found line address bytes, form_read line address bytes)
+
+pub skips_the_rest : SkipsTheRest
+skips_the_rest line rest = (begin_found line rest, begin_read line rest)
