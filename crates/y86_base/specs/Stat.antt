@@ -1,9 +1,19 @@
--- The numbers of the statuses, as HCL's constants SBUB, SAOK, SHLT, SADR and SINS have them.
-use Rattle.std.specs.Prelude.{ℕ, if◌then◌else◌, ◌==◌}
+-- The numbers of the statuses, as HCL's constants SBUB, SAOK, SHLT, SADR and SINS have them, and their names.
+use Rattle.std.specs.Prelude.{ℕ, List, codes, if◌then◌else◌, ◌==◌}
 use Rattle.y86_base.specs.declared.parts.Stat.{Stat}
-use Rattle.y86_base.specs.declared.parts.Stat.TheVariants.{Bub, Aok, Hlt, Adr, Ins, Bad}
+use Rattle.y86_base.specs.declared.parts.Stat.TheVariants.{Bub, Aok, Hlt, Adr, Ins, Pip, Bad}
 
 -- the status of a number; a number over 4 is none
 abbrev pub stat_of : ℕ → Stat
 stat_of n =
     if n == 0 then Bub else (if n == 1 then Aok else (if n == 2 then Hlt else (if n == 3 then Adr else (if n == 4 then Ins else Bad))))
+
+-- the name of a status in texts
+abbrev pub stat_name : Stat → List ℕ
+stat_name Bub = codes "BUB"
+stat_name Aok = codes "AOK"
+stat_name Hlt = codes "HLT"
+stat_name Adr = codes "ADR"
+stat_name Ins = codes "INS"
+stat_name Pip = codes "PIP"
+stat_name Bad = codes "BAD"

@@ -67,12 +67,19 @@ impl Image {
         self.bytes.get(address as usize).copied()
     }
 
+    /// Whether the 8 bytes from an address on are inside.
+    fn is_word_inside(&self, address: u64) -> bool
+        ensures { result ≡ nat_le (address + 8) (length self.now) }
+    {
+        let size = self.bytes.len() as u64;
+        address <= size && size - address >= 8
+    }
+
     /// The word whose first byte is at `address`, little-endian.
     pub fn word(&self, address: u64) -> Option<u64>
         ensures { result ≡ word_at self.now address }
     {
-        let size = self.bytes.len() as u64;
-        if address > size || size - address < 8 {
+        if !self.is_word_inside(address) {
             return None;
         }
         let at = address as usize;
@@ -87,8 +94,7 @@ impl Image {
         ensures inside { result ≡ nat_le (address + 8) (length self.old) }
         ensures written { self.new ≡ put_word self.old address word }
     {
-        let size = self.bytes.len() as u64;
-        if address > size || size - address < 8 {
+        if !self.is_word_inside(address) {
             return false;
         }
         let at = address as usize;

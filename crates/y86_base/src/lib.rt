@@ -8,6 +8,8 @@ mod items;
 mod numeral;
 mod parts;
 mod registers;
+#[cfg(test)]
+mod tests;
 mod text;
 
 pub use cursor::Cursor;

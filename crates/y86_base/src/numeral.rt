@@ -1,5 +1,6 @@
 ghost use Rattle.std.specs.Prelude.{◌≡◌, ◌≤◌, ◌<◌, ◌+◌, false, length, take, drop};
 ghost use Rattle.std.specs.Fmt.{digit_glyph, digits};
+ghost use Rattle.std.specs.Str.Parse.{digits_value};
 ghost use Rattle.y86_base.specs.Numeral.{numeral};
 
 use std::marker::Model;
@@ -70,7 +71,8 @@ impl Numeral {
 
     /// The decimal digits of `n`, without leading zeros.
     pub fn decimal(n: u64) -> Numeral
-        ensures { result ≡ numeral 10 1 n }
+        ensures text { result ≡ numeral 10 1 n }
+        ensures value { digits_value 10 result ≡ n }
     {
         Numeral::in_base(10, 1, n)
     }
@@ -78,7 +80,9 @@ impl Numeral {
     /// The lower-case hex digits of `n`, with `0` in front up to `least` digits.
     pub fn hex(least: usize, n: u64) -> Numeral
         requires { least ≤ 64 }
-        ensures { result ≡ numeral 16 least n }
+        ensures text { result ≡ numeral 16 least n }
+        ensures value { digits_value 16 result ≡ n }
+        ensures width { least ≤ length result }
     {
         Numeral::in_base(16, least, n)
     }

@@ -1,5 +1,5 @@
 ghost use Rattle.std.specs.Prelude.{◌≡◌};
-ghost use Rattle.y86_base.specs.Stat.{stat_of};
+ghost use Rattle.y86_base.specs.Stat.{stat_name, stat_of};
 
 /// Want of memory: an allocation was refused.
 #[derive(Clone, Copy, Debug, PartialEq, Eq)]
@@ -46,6 +46,20 @@ impl Stat {
             3 => Stat::Adr,
             4 => Stat::Ins,
             _ => Stat::Bad,
+        }
+    }
+    /// The name of a status in texts.
+    pub fn name(self) -> &'static [u8]
+        ensures { result.now ≡ stat_name self }
+    {
+        match self {
+            Stat::Bub => b"BUB",
+            Stat::Aok => b"AOK",
+            Stat::Hlt => b"HLT",
+            Stat::Adr => b"ADR",
+            Stat::Ins => b"INS",
+            Stat::Pip => b"PIP",
+            Stat::Bad => b"BAD",
         }
     }
 }

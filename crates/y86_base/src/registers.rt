@@ -1,5 +1,5 @@
 ghost use Rattle.std.specs.Prelude.{◌≡◌, ◌<◌, replicate};
-ghost use Rattle.y86_base.specs.Registers.{register, with_register};
+ghost use Rattle.y86_base.specs.Registers.{register, register_name, with_register};
 
 use std::marker::Model;
 
@@ -40,6 +40,30 @@ impl Regs {
     {
         if n < 15 {
             self.words[n as usize] = word;
+        }
+    }
+    /// The name of the register numbered `n`, as `%rax`; no bytes for a number over 14.
+    #[tactic(auto, unfolding(crate::specs::Registers::register_name, crate::specs::Registers::register_names))]
+    pub fn name(n: u64) -> &'static [u8]
+        ensures { result.now ≡ register_name n }
+    {
+        match n {
+            0 => b"%rax",
+            1 => b"%rcx",
+            2 => b"%rdx",
+            3 => b"%rbx",
+            4 => b"%rsp",
+            5 => b"%rbp",
+            6 => b"%rsi",
+            7 => b"%rdi",
+            8 => b"%r8",
+            9 => b"%r9",
+            10 => b"%r10",
+            11 => b"%r11",
+            12 => b"%r12",
+            13 => b"%r13",
+            14 => b"%r14",
+            _ => b"",
         }
     }
 }

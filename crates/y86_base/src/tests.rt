@@ -1,0 +1,118 @@
+use crate::{Cursor, Image, ImageFault, Items, Numeral, first_line};
+use std::test::Fail;
+
+#[test]
+fn images_at_their_edges(rt: HostRuntime) -> Result<(), Fail> {
+    static SIZES: [(u64, bool); 10] = [
+        (0, false),
+        (8, false),
+        (56, false),
+        (64, true),
+        (68, false),
+        (72, true),
+        (1_048_568, true),
+        (1_048_576, true),
+        (1_048_584, false),
+        (u64::MAX - 7, false),
+    ];
+    for (size, legal) in &SIZES {
+        match Image::new(rt.alloc(), *size) {
+            Ok(image) => assert!(rt; *legal && image.size() == *size, "{size}"),
+            Err(fault) => assert!(rt; !*legal && fault == ImageFault::Size, "{size}"),
+        }
+    }
+
+    // An image of 64 bytes: the word put, at an address; whether it is inside; then the byte at the address.
+    static WORDS: [(u64, u64, bool, Option<u8>); 7] = [
+        (0, 0x1122_3344_5566_7788, true, Some(0x88)),
+        (56, 0x0102_0304_0506_0708, true, Some(0x08)),
+        (57, u64::MAX, false, Some(0x07)),
+        (63, u64::MAX, false, Some(0x01)),
+        (64, u64::MAX, false, None),
+        (u64::MAX - 7, u64::MAX, false, None),
+        (u64::MAX, u64::MAX, false, None),
+    ];
+    let mut image = Image::new(rt.alloc(), 64)?;
+    for (address, word, inside, byte) in &WORDS {
+        let read = if *inside { Some(*word) } else { None };
+        assert_eq!(rt; image.put(*address, *word), *inside, "put at {address}");
+        assert_eq!(rt; image.word(*address), read, "word at {address}");
+        assert_eq!(rt; image.byte(*address), *byte, "byte at {address}");
+        assert_eq!(rt;
+            image.put_byte(*address, 0xff),
+            byte.is_some(),
+            "put_byte at {address}"
+        );
+        if let Some(byte) = byte {
+            image.put_byte(*address, *byte);
+        }
+    }
+    let copy = image.copy(rt.alloc())?;
+    image.put(0, 0);
+    assert_eq!(rt;
+        (copy.word(0), copy.word(56)),
+        (Some(0x1122_3344_5566_7788), Some(0x0102_0304_0506_0708))
+    );
+    assert_eq!(rt;
+        (copy.word(1), image.word(1)),
+        (Some(0x0011_2233_4455_6677), Some(0))
+    );
+    Ok(())
+}
+
+#[test]
+fn texts(rt: HostRuntime) -> Result<(), Fail> {
+    // The place of each byte, and the place of the end.
+    static PLACES: [(Option<u8>, u64, u64); 8] = [
+        (Some(b'a'), 1, 1),
+        (Some(b'\r'), 1, 2),
+        (Some(b'\n'), 1, 3),
+        (Some(b'b'), 2, 1),
+        (Some(b'\n'), 2, 2),
+        (Some(b'\n'), 3, 1),
+        (Some(b'\r'), 4, 1),
+        (None, 4, 2),
+    ];
+    let mut cursor = Cursor::new(b"a\r\nb\n\n\r");
+    for (byte, line, column) in &PLACES {
+        assert_eq!(rt; (cursor.line(), cursor.col()), (*line, *column));
+        assert_eq!(rt; cursor.peek(), *byte, "{line}:{column}");
+        assert_eq!(rt; cursor.next(), *byte, "{line}:{column}");
+    }
+    assert_eq!(rt; (cursor.next(), cursor.line(), cursor.col()), (None, 4, 2));
+
+    static DECIMALS: [(u64, &str); 4] = [
+        (0, "0"),
+        (9, "9"),
+        (10, "10"),
+        (u64::MAX, "18446744073709551615"),
+    ];
+    for (n, text) in &DECIMALS {
+        assert_eq!(rt; Numeral::decimal(*n).as_bytes(), text.as_bytes(), "{n}");
+    }
+    static HEXES: [(usize, u64, &str); 7] = [
+        (0, 0, "0"),
+        (1, 0, "0"),
+        (3, 0xa, "00a"),
+        (4, 0x1234, "1234"),
+        (4, 0xf_edcb, "fedcb"),
+        (16, 0xd, "000000000000000d"),
+        (16, u64::MAX, "ffffffffffffffff"),
+    ];
+    for (least, n, text) in &HEXES {
+        assert_eq!(rt; Numeral::hex(*least, *n).as_bytes(), text.as_bytes(), "{n}");
+    }
+
+    let (first, rest) = first_line(b"x y\r\n\nz").ok_or("no line")?;
+    assert_eq!(rt; (first, rest), (b"x y\r".as_slice(), b"\nz".as_slice()));
+    let (second, rest) = first_line(rest).ok_or("no line")?;
+    assert_eq!(rt; (second, rest), (b"".as_slice(), b"z".as_slice()));
+
+    let mut items = Items::of([3, 1, 4].to_vec(rt.alloc())?);
+    let same = Items::of([3, 9, 4].to_vec(rt.alloc())?);
+    assert!(rt; items != same);
+    items.items_mut()[1] = 9;
+    assert!(rt; items == same);
+    assert_eq!(rt; items.items(), same.into_vec().as_slice());
+    Ok(())
+}

@@ -1,0 +1,57 @@
+-- The report of a run as text: how it stopped, the registers that aren't 0, and the words of memory that changed.
+use Rattle.std.specs.Prelude.{ℕ, zero, suc, ◌*◌, ◌/◌, Bool, ◌==◌, codes, List, [], ◌∷◌, ◌++◌, length, unwrap_or, if◌then◌else◌}
+use Rattle.std.specs.List.{concat}
+use Rattle.y86_base.specs.Image.{word_at}
+use Rattle.y86_base.specs.Numeral.{numeral}
+use Rattle.y86_base.specs.Registers.{register, register_name}
+use Rattle.y86_base.specs.Stat.{stat_name}
+use Rattle.y86_base.specs.declared.parts.Flags.{Flags}
+use Rattle.y86_base.specs.declared.parts.Stat.{Stat}
+use Rattle.y86_isa.specs.declared.machine.Machine.{Machine}
+use Rattle.yis_run.specs.declared.outcome.End.{End}
+
+-- a flag as a digit
+abbrev pub flag : Bool → List ℕ
+flag b = if b then codes "1" else codes "0"
+
+-- how a run stopped: after how many steps, where, with which status and which condition codes
+unfoldable pub stopped : ℕ → ℕ → Stat → Flags → List ℕ
+stopped steps pc stat flags =
+    concat (codes "Stopped in " ∷ numeral 10 1 steps ∷ codes " steps at PC = 0x" ∷ numeral 16 1 pc ∷ codes ".  Status '" ∷ stat_name stat ∷
+    codes "', CC Z=" ∷ flag flags.zf ∷ codes " S=" ∷ flag flags.sf ∷ codes " O=" ∷ flag flags.of ∷ codes "\n" ∷ [])
+
+-- a change: what changed, its word at the start and its word at the end
+unfoldable pub change : List ℕ → ℕ → ℕ → List ℕ
+change name old new =
+    name ++ concat (codes ":\t0x" ∷ numeral 16 16 old ∷ codes "\t0x" ∷ numeral 16 16 new ∷ codes "\n" ∷ [])
+
+-- the line of a register, which is 0 at the start; none where it is 0 at the end too
+unfoldable pub register_line : List ℕ → ℕ → List ℕ
+register_line registers number =
+    if register registers number == 0 then [] else change (register_name number) 0 (register registers number)
+
+-- the aligned word of a number, counted from 0
+abbrev pub aligned_word : List ℕ → ℕ → ℕ
+aligned_word memory number = unwrap_or (word_at memory (8 * number)) 0
+
+-- the line of an aligned word of memory; none where it is as at the start
+unfoldable pub memory_line : List ℕ → List ℕ → ℕ → List ℕ
+memory_line first memory number =
+    if aligned_word first number == aligned_word memory number then []
+    else change (codes "0x" ++ numeral 16 4 (8 * number)) (aligned_word first number) (aligned_word memory number)
+
+-- the texts of 0 up to n - 1, one after another
+unfoldable pub each_below : ℕ → (ℕ → List ℕ) → List ℕ
+each_below zero text = []
+each_below (suc n) text = each_below n text ++ text n
+
+-- the report of a run that began on a memory, ended with a machine, and took so many steps
+unfoldable pub report : List ℕ → Machine → ℕ → List ℕ
+report first machine steps =
+    stopped steps machine.pc machine.stat machine.flags
+    ++ codes "Changes to registers:\n" ++ each_below 15 (register_line machine.regs)
+    ++ codes "\nChanges to memory:\n" ++ each_below (length first / 8) (memory_line first machine.mem)
+
+-- the machine that a run ended with
+abbrev pub ended : End → Machine
+ended end = record { regs = end.regs.now; flags = end.flags; pc = end.pc; stat = end.stat; mem = end.mem.now }

@@ -1,0 +1,11 @@
+//! Runs at the level of instructions, and the report of a run.
+#![tactic(auto)]
+
+mod lines;
+mod outcome;
+mod printer;
+mod stepping;
+
+pub use outcome::End;
+pub use printer::report;
+pub use stepping::{Ran, run};

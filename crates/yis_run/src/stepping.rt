@@ -1,0 +1,27 @@
+ghost use Rattle.std.specs.Prelude.{◌≡◌, length};
+ghost use Rattle.y86_isa.specs.Run.{records_from, run_from};
+
+use y86_base::Variant;
+use y86_isa::{Machine, step};
+
+/// What a run did.
+#[derive(Clone, Copy, Debug, PartialEq, Eq)]
+pub struct Ran {
+    /// How many instructions it did.
+    pub steps: u64,
+}
+
+/// Runs a machine until it stops, but for at most `limit` steps. It takes no memory.
+pub fn run(v: Variant, m: &mut Machine, limit: u64) -> Ran
+    ensures machine { m.new ≡ run_from v m.old limit }
+    ensures steps { result.steps ≡ length (records_from v m.old limit) }
+{
+    let mut steps = 0;
+    while steps < limit {
+        match step(v, m) {
+            Some(_) => steps += 1,
+            None => break,
+        }
+    }
+    Ran { steps }
+}
