@@ -102,12 +102,14 @@ pub data Command : Type 0 where
   -- run an object file at the level of instructions: its name, the size of the memory in bytes, the limit of steps
   yis : List ℕ → ℕ → ℕ → Command
 
+-- `yis` with an object file, a size and a limit, where there are all of them
+abbrev pub yis_with : Option (List ℕ) → Option ℕ → Option ℕ → Option Command
+yis_with (Some object) (Some size) (Some steps) = Some (yis object size steps)
+yis_with _ _ _ = None
+
 -- `yis OBJ`, with `--mem N` (8192 where absent) and `--limit N` (10000 where absent), each at most once
 abbrev pub yis_of : List Argument → Option Command
-yis_of found =
-    option_and_then (λ object.
-    option_and_then (λ size.
-    option_map (λ steps. yis object size steps) (at_most_one 10000 (limits found))) (at_most_one 8192 (memories found))) (the_one (places found))
+yis_of found = yis_with (the_one (places found)) (at_most_one 8192 (memories found)) (at_most_one 10000 (limits found))
 
 -- the command that words are, if any
 unfoldable pub form_of : List (List ℕ) → Option Command
