@@ -1,2 +1,4 @@
 pub mod Words
 pub mod Read
+pub mod Answer
+pub mod Stops

@@ -1,5 +1,6 @@
 #![tactic(auto)]
 
 mod cmd;
+mod stop;
 
 fn main() {}
