@@ -5,6 +5,7 @@ use Rattle.std.specs.Global.{Global}
 use Rattle.std.specs.Option.{option_copied, option_map, option_to_list}
 use Rattle.std.specs.Prelude.{string_bytes, String, codes}
 use Rattle.std.specs.Str.{bytes_eq}
+use Rattle.y86_base.specs.declared.parts.Variant.TheVariants.{Base}
 use Rattle.y86_cli.specs.declared.cmd.Found as code_found
 use Rattle.y86_cli.specs.Words.{Argument, Command, yis, arguments, places, memories, limits, the_one, at_most_one, yis_with, yis_of, form_of}
 use Rattle.y86_cli.specs.Read.{HasTwo, IsFound, ReadsArguments, yis_found}
@@ -35,7 +36,7 @@ HasTwo-yis_of done (inr (inr h)) = rw (two_at_most 10000 (limits done) h) (no_st
 
 with_found : (place : Option (Bor (List ℕ))) (size steps : Option ℕ) →
     yis_with (the_one (option_to_list (option_copied place))) (at_most_one 8192 (option_to_list size)) (at_most_one 10000 (option_to_list steps))
-    ≡ option_map (λ object. yis object.now (unwrap_or size 8192) (unwrap_or steps 10000)) place
+    ≡ option_map (λ object. yis object.now (unwrap_or size 8192) (unwrap_or steps 10000) Base) place
 with_found None size steps = refl
 with_found (Some object) None None = refl
 with_found (Some object) None (Some steps) = refl

@@ -5,7 +5,7 @@ use Rattle.std.specs.List.{concat}
 use Rattle.y86_base.specs.Numeral.{numeral}
 use Rattle.y86_base.specs.declared.parts.Stat.{Stat}
 use Rattle.y86_base.specs.declared.parts.Stat.TheVariants.{Bub, Aok, Hlt, Adr, Ins, Pip, Bad}
-use Rattle.y86_base.specs.declared.parts.Variant.TheVariants.{Base}
+use Rattle.y86_base.specs.declared.parts.Variant.{Variant}
 use Rattle.y86_isa.specs.declared.machine.Machine.{Machine}
 use Rattle.y86_isa.specs.Run.{run, records}
 use Rattle.yis_run.specs.Report.{report}
@@ -79,16 +79,16 @@ run_status Pip = 1
 run_status Bad = 1
 
 -- the answer to the run of an image
-unfoldable pub yis_run : List ℕ → ℕ → Answered
-yis_run image limit = record {
-  status = run_status (run Base image limit).stat;
-  out = report image (run Base image limit) (length (records Base image limit));
+unfoldable pub yis_run : Variant → List ℕ → ℕ → Answered
+yis_run v image limit = record {
+  status = run_status (run v image limit).stat;
+  out = report image (run v image limit) (length (records v image limit));
   err = [];
 }
 
-abbrev pub yis_answer : ℕ → Result (List ℕ) Answered → Answered
-yis_answer limit (Ok image) = yis_run image limit
-yis_answer limit (Err answer) = answer
+abbrev pub yis_answer : Variant → ℕ → Result (List ℕ) Answered → Answered
+yis_answer v limit (Ok image) = yis_run v image limit
+yis_answer v limit (Err answer) = answer
 
 -- the contents of the first of the files
 abbrev pub first_content : List (Option (List ℕ)) → Option (List ℕ)
@@ -96,7 +96,7 @@ first_content [] = None
 first_content (content ∷ rest) = content
 
 abbrev pub answer_to : Command → List (Option (List ℕ)) → Answered
-answer_to (yis object size limit) contents = yis_answer limit (object_image object size (first_content contents))
+answer_to (yis object size limit v) contents = yis_answer v limit (object_image object size (first_content contents))
 
 abbrev pub answer_of : Option Command → List (Option (List ℕ)) → Answered
 answer_of None contents = refused 2 usage_line

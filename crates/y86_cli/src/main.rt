@@ -2,5 +2,6 @@
 
 mod cmd;
 mod stop;
+mod yis;
 
 fn main() {}
