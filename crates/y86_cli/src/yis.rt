@@ -1,4 +1,4 @@
-ghost use Rattle.std.specs.Prelude.{◌≡◌, ◌≤◌, List, ℕ, Option, Some, IfErr, IfOk, IfSome, length};
+ghost use Rattle.std.specs.Prelude.{◌≡◌, ◌≤◌, List, ℕ, Option, Some, IfErr, IfOk};
 ghost use Rattle.wb_io.specs.Causes.{Rose};
 ghost use Rattle.y86_base.specs.Image.{IsSize};
 ghost use Rattle.y86_cli.specs.Answer.{image_of_text, object_image, run_status, yis_run};
@@ -20,7 +20,6 @@ const OBJECT_LIMIT: u64 = 1_048_576;
 fn load_image<'a>(alloc: Global, name: &'a str, bytes: &[u8], size: u64) -> Result<Image, Stop<'a>>
     requires { IsSize size }
     ensures image { GivesImage (image_of_text name.now (object_of bytes.now size)) result }
-    ensures sized { IfOk result (λ image. length image ≡ size) }
     ensures no_read { IfErr result (λ stop. OnRead stop (λ n. ⊥)) }
     ensures no_write { IfErr result (λ stop. OnWrite stop ⊥) }
 {
@@ -34,6 +33,7 @@ fn load_image<'a>(alloc: Global, name: &'a str, bytes: &[u8], size: u64) -> Resu
 }
 
 /// Reads an object file and loads its image.
+#[tactic(auto, using(crate::proofs::Runs::content_read, crate::proofs::Runs::content_too_long))]
 pub fn read_image<'a, F: Files>(
     alloc: Global,
     name: &'a str,
@@ -44,7 +44,6 @@ pub fn read_image<'a, F: Files>(
     ensures counts { (n : List ℕ) → F.faults files.old n ≤ F.faults files.new n }
     ensures image { (content : Option (List ℕ)) → F.told files.old name.now ≡ Some content →
         GivesImage (object_image name.now size content) result }
-    ensures sized { IfOk result (λ image. length image ≡ size) }
     ensures read_failed { IfErr result (λ stop. OnRead stop
         (λ n. (n ≡ name.now) × Rose (F.faults files.old n) (F.faults files.new n))) }
     ensures no_write { IfErr result (λ stop. OnWrite stop ⊥) }
@@ -68,7 +67,7 @@ fn status(stat: Stat) -> u8
 }
 
 /// Runs an image and writes the report. All memory is taken before the first step.
-#[tactic(auto, unfolding(crate::specs::Answer::yis_run))]
+#[tactic(auto, using(crate::proofs::Runs::run_keeps_size), unfolding(crate::specs::Answer::yis_run))]
 pub fn run_image<'a, O: Sink>(
     alloc: Global,
     variant: Variant,
