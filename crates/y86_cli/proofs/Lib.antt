@@ -1,3 +1,5 @@
 pub mod Arguments
 pub mod Forms
 pub mod Runs
+pub mod Legal
+pub mod Outcomes

@@ -3,3 +3,4 @@ pub mod Read
 pub mod Answer
 pub mod Stops
 pub mod Reads
+pub mod Outcomes

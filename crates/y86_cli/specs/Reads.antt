@@ -1,9 +1,12 @@
 -- What the steps of the program give, against the definition of its answers.
-use Rattle.std.specs.Prelude.{◌≡◌, ◌⊎◌, ℕ, List, [], Option, Result, Ok, Err}
+use Rattle.std.specs.Prelude.{◌≡◌, ◌⊎◌, ◌≤◌, ℕ, List, [], Option, None, Result, Ok, Err, IfOk, IfErr, Contains}
+use Rattle.wb_io.specs.Causes.{Rose}
 use Rattle.wb_io.specs.Sinks.{Took, TookPart}
 use Rattle.y86_cli.specs.declared.stop.Stop as code
 use Rattle.y86_cli.specs.declared.stop.Stop.TheVariants.{Usage, Read, Write, Object, Memory, TooLong}
-use Rattle.y86_cli.specs.Answer.{Answered}
+use Rattle.y86_cli.specs.Answer.{Answered, answer}
+use Rattle.y86_cli.specs.Outcomes.{Tells, names_in}
+use Rattle.y86_cli.specs.Words.{form_of}
 use Rattle.y86_cli.specs.Stops.{answer_at}
 
 -- a stop that the contents of the files don't decide: a failed read, a failed write, want of memory
@@ -51,3 +54,51 @@ StoppedAt old new text (TooLong name limit) = Took old new []
 abbrev pub WritesOut : {A : Type 0} → Option (List ℕ) → Option (List ℕ) → Result A code.Stop → List ℕ → Type 0
 WritesOut old new (Ok done) text = Took old new text
 WritesOut old new (Err stop) text = StoppedAt old new text stop
+
+-- nothing went out, but where a write failed
+abbrev pub NothingOut : code.Stop → Option (List ℕ) → Option (List ℕ) → Type 0
+NothingOut Usage old new = Took old new []
+NothingOut (Read name) old new = Took old new []
+NothingOut Write old new = Unit {0}
+NothingOut (Object name fault) old new = Took old new []
+NothingOut Memory old new = Took old new []
+NothingOut (TooLong name limit) old new = Took old new []
+
+-- the fact holds where the words are no command
+abbrev pub OnUsage : code.Stop → Type 0 → Type 0
+OnUsage Usage P = P
+OnUsage (Read name) P = Unit {0}
+OnUsage Write P = Unit {0}
+OnUsage (Object name fault) P = Unit {0}
+OnUsage Memory P = Unit {0}
+OnUsage (TooLong name limit) P = Unit {0}
+
+-- a stop as it is defined; where a write failed, a proper prefix of the defined text went out
+abbrev pub StopsAs : Answered → Option (List ℕ) → Option (List ℕ) → code.Stop → Type 0
+StopsAs answered old new Usage = answered ≡ answer_at Usage
+StopsAs answered old new (Read name) = Unit {0}
+StopsAs answered old new Write = TookPart old new answered.out
+StopsAs answered old new (Object name fault) = answered ≡ answer_at (Object name fault)
+StopsAs answered old new Memory = Unit {0}
+StopsAs answered old new (TooLong name limit) = answered ≡ answer_at (TooLong name limit)
+
+-- the defined status came, the defined text went out, and nothing is to be told on standard error
+pub record AnswersWhole (answered : Answered) (old new : Option (List ℕ)) (status : ℕ) : Type 0 where
+  pub status_is : status ≡ answered.status
+  pub out : Took old new answered.out
+  pub err : answered.err ≡ []
+
+abbrev pub AnswersAs : Answered → Option (List ℕ) → Option (List ℕ) → Result ℕ code.Stop → Type 0
+AnswersAs answered old new (Ok status) = AnswersWhole answered old new status
+AnswersAs answered old new (Err stop) = StopsAs answered old new stop
+
+-- what the words and the contents of the files say was done, up to the first stop
+pub record IsOutcome (words : List (List ℕ)) (told : List ℕ → Option (Option (List ℕ))) (faults_before faults_after : List ℕ → ℕ)
+    (old new : Option (List ℕ)) (out_before out_after : ℕ) (result : Result ℕ code.Stop) : Type 0 where
+  pub answers : (contents : List (Option (List ℕ))) → Tells told words contents → AnswersAs (answer words contents) old new result
+  pub low : IfOk result (λ status. status ≤ 1)
+  pub nothing_out : IfErr result (λ stop. NothingOut stop old new)
+  pub read_failed : IfErr result (λ stop. OnRead stop (λ name. Contains (names_in (form_of words)) name × Rose (faults_before name) (faults_after name)))
+  pub write_failed : IfErr result (λ stop. OnWrite stop (Rose out_before out_after))
+  pub usage_only : IfErr result (λ stop. OnUsage stop (form_of words ≡ None))
+  pub usage_where : form_of words ≡ None → result ≡ Err Usage

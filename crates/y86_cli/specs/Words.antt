@@ -1,8 +1,9 @@
 -- The words of a command, behind the program's own name, and what command they are.
-use Rattle.std.specs.Prelude.{◌≡◌, ℕ, ◌+◌, ◌-◌, ◌*◌, ◌%◌, ◌^◌, Bool, true, ◌&&◌, ◌==◌, nat_lt, nat_le, nat_eq, if◌then◌else◌, List, [], ◌∷◌, length, codes, fold, Option, Some, None, option_and_then}
+use Rattle.std.specs.Prelude.{◌≡◌, ◌≤◌, ℕ, ◌+◌, ◌-◌, ◌*◌, ◌%◌, ◌^◌, Bool, true, ◌&&◌, ◌==◌, nat_lt, nat_le, nat_eq, if◌then◌else◌, List, [], ◌∷◌, length, codes, fold, Option, Some, None, option_and_then}
 use Rattle.std.specs.List.{list_all, starts_with}
 use Rattle.std.specs.Option.{option_map}
 use Rattle.std.specs.Str.{bytes_eq}
+use Rattle.y86_base.specs.Image.{IsSize}
 use Rattle.y86_base.specs.Text.{is_decimal}
 use Rattle.y86_base.specs.declared.parts.Variant.{Variant}
 use Rattle.y86_base.specs.declared.parts.Variant.TheVariants.{Base}
@@ -121,3 +122,7 @@ form_of (name ∷ rest) = if bytes_eq name (codes "yis") then option_and_then yi
 -- the file names in the words of a command, in their order
 abbrev pub names_of : Command → List (List ℕ)
 names_of (yis object size steps variant) = object ∷ []
+
+-- the numbers of a command are in range: a size that an image takes, and a limit from 1 to 100,000,000
+abbrev pub IsLegal : Command → Type 0
+IsLegal (yis object size steps variant) = IsSize size × (1 ≤ steps) × (steps ≤ 100000000)

@@ -217,6 +217,7 @@ fn yis<'a>(found: Found<'a>) -> Option<Cmd<'a>>
 #[tactic(auto, using(crate::proofs::Forms::no_words_no_form, crate::proofs::Forms::other_name_no_form, crate::proofs::Forms::no_arguments_no_form, crate::proofs::Forms::no_object_no_form, crate::proofs::Forms::yis_form))]
 pub fn words<'a>(words: &'a [String]) -> Result<Cmd<'a>, Usage>
     ensures command { IfOk result (λ command. spec.form_of (map string_bytes words.now) ≡ Some (command_in command)) }
+    ensures legal { IfOk result (λ command. spec.IsLegal (command_in command)) }
     ensures usage { OnErr result (spec.form_of (map string_bytes words.now) ≡ None) }
 {
     let Some((name, rest)) = words.split_first() else {

@@ -1,6 +1,7 @@
 #![tactic(auto)]
 
 mod cmd;
+mod run;
 mod stop;
 mod yis;
 

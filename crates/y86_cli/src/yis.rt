@@ -2,7 +2,7 @@ ghost use Rattle.std.specs.Prelude.{◌≡◌, ◌≤◌, List, ℕ, Option, Som
 ghost use Rattle.wb_io.specs.Causes.{Rose};
 ghost use Rattle.y86_base.specs.Image.{IsSize};
 ghost use Rattle.y86_cli.specs.Answer.{image_of_text, object_image, run_status, yis_run};
-ghost use Rattle.y86_cli.specs.Reads.{GivesImage, IsFree, OnRead, OnWrite, WritesOut};
+ghost use Rattle.y86_cli.specs.Reads.{GivesImage, IsFree, OnRead, OnUsage, OnWrite, WritesOut};
 ghost use Rattle.yo_object.specs.ObjectText.{object_of};
 
 use crate::stop::Stop;
@@ -22,6 +22,7 @@ fn load_image<'a>(alloc: Global, name: &'a str, bytes: &[u8], size: u64) -> Resu
     ensures image { GivesImage (image_of_text name.now (object_of bytes.now size)) result }
     ensures no_read { IfErr result (λ stop. OnRead stop (λ n. ⊥)) }
     ensures no_write { IfErr result (λ stop. OnWrite stop ⊥) }
+    ensures not_usage { IfErr result (λ stop. OnUsage stop ⊥) }
 {
     match load(alloc, bytes, size) {
         Ok(image) => Ok(image),
@@ -47,6 +48,7 @@ pub fn read_image<'a, F: Files>(
     ensures read_failed { IfErr result (λ stop. OnRead stop
         (λ n. (n ≡ name.now) × Rose (F.faults files.old n) (F.faults files.new n))) }
     ensures no_write { IfErr result (λ stop. OnWrite stop ⊥) }
+    ensures not_usage { IfErr result (λ stop. OnUsage stop ⊥) }
 {
     match files.read(alloc, name, OBJECT_LIMIT) {
         Ok(bytes) => load_image(alloc, name, bytes.as_slice(), size),
@@ -58,7 +60,8 @@ pub fn read_image<'a, F: Files>(
 
 /// 0 where a run ended at a halt, else 1.
 fn status(stat: Stat) -> u8
-    ensures { result ≡ run_status stat }
+    ensures status { result ≡ run_status stat }
+    ensures low { result ≤ 1 }
 {
     match stat {
         Stat::Hlt => 0,
@@ -77,6 +80,7 @@ pub fn run_image<'a, O: Sink>(
 ) -> Result<u8, Stop<'a>>
     ensures counts { O.faults out.old ≤ O.faults out.new }
     ensures status { IfOk result (λ status. status ≡ (yis_run variant image limit).status) }
+    ensures low { IfOk result (λ status. status ≤ 1) }
     ensures out { WritesOut (O.taken out.old) (O.taken out.new) result (yis_run variant image limit).out }
     ensures no_read { IfErr result (λ stop. OnRead stop (λ n. ⊥)) }
     ensures write_failed { IfErr result (λ stop. OnWrite stop (Rose (O.faults out.old) (O.faults out.new))) }
