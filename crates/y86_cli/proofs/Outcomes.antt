@@ -1,14 +1,21 @@
 -- The outcome of a command, and the clauses of the whole program.
-use Rattle.std.proofs.Common.{◌≡◌, ◌≢◌, ◌⊎◌, ◌↔◌, ℕ, ◌<◌, ◌≤◌, List, [], ◌∷◌, length, refl, sym, ◌∙◌, ap, subst, inl, inr, Option, Some, None, Result, Ok, Err, IfOk, IfErr, arith}
+use Rattle.std.proofs.Common.{◌≡◌, ◌≢◌, ◌⊎◌, ◌↔◌, ℕ, ◌<◌, ◌≤◌, List, [], ◌∷◌, length, refl, sym, ◌∙◌, ap, subst, inl, inr, Option, Some, None, Result, Ok, Err, IfOk, IfErr, Contains, IsOk, lit<, lit≤, zero, suc, arith}
 use Rattle.wb_io.specs.Causes.{Rose}
 use Rattle.wb_io.specs.Sinks.{Took, TookPart}
 use Rattle.wb_io.proofs.Writes.{took_nothing}
+use Rattle.y86_base.specs.declared.parts.Stat.{Stat}
+use Rattle.y86_base.specs.declared.parts.Stat.TheVariants.{Bub, Aok, Hlt, Adr, Ins, Pip, Bad}
 use Rattle.y86_base.specs.declared.parts.Variant.{Variant}
+use Rattle.yo_object.specs.ObjectText.{object_of}
+use Rattle.yo_object.specs.declared.object.YoFault.{YoFault}
 use Rattle.y86_cli.specs.declared.stop.Stop as code
 use Rattle.y86_cli.specs.declared.stop.Stop.TheVariants.{Usage, Read, Write, Object, Memory, TooLong}
-use Rattle.y86_cli.specs.Answer.{Answered, refused, object_image, yis_run, yis_answer}
-use Rattle.y86_cli.specs.Reads.{IsFree, GivesImage, OnRead, OnWrite, OnUsage, StoppedAt, WritesOut, NothingOut, StopsAs, AnswersWhole, AnswersAs}
-use Rattle.y86_cli.specs.Stops.{answer_at}
+use Rattle.y86_cli.specs.Answer.{Answered, refused, answer, answer_to, image_of_text, object_image, run_status, yis_run, yis_answer}
+use Rattle.y86_cli.specs.Outcomes.{IsFaultless, NoneRose, Tells, TellsOf, names_in}
+use Rattle.y86_cli.specs.Words.{Command, yis, form_of, names_of}
+use Rattle.y86_cli.specs.Reads.{IsFree, GivesImage, OnRead, OnWrite, OnUsage, StoppedAt, WritesOut, NothingOut, StopsAs, AnswersWhole, AnswersAs, IsDone, IsOutcome}
+use Rattle.y86_cli.specs.Stops.{answer_at, status_of}
+use Rattle.y86_cli.proofs.Runs.{within}
 
 -- no image: the defined refusal, or a free stop, which is no failed write here
 stops : (answered : Answered) (old new : Option (List ℕ)) (stop : code.Stop) → IsFree stop ⊎ (answered ≡ answer_at stop) → OnWrite stop ⊥ → StopsAs answered old new stop
@@ -48,3 +55,128 @@ pub image_runs : (v : Variant) (limit : ℕ) (defined : Result (List ℕ) Answer
     GivesImage defined (Ok image) → IfOk result (λ status. status ≡ (yis_run v image limit).status) → WritesOut old new result (yis_run v image limit).out →
     IfErr result IsFree → AnswersAs (yis_answer v limit defined) old new result
 image_runs v limit defined image old new result gives s w free = rw gives (after_run v image limit old new result s w free)
+
+-- words that are no command
+pub no_command : (words : List (List ℕ)) (told : List ℕ → Option (Option (List ℕ))) (faults : List ℕ → ℕ) (taken : Option (List ℕ)) (out_faults : ℕ) →
+    form_of words ≡ None → IsOutcome words told faults faults taken taken out_faults out_faults (Err Usage)
+unfolding answer
+no_command words told faults taken out_faults none = record {
+  answers = λ contents tells. rw none refl;
+  low = tt;
+  nothing_out = took_nothing taken;
+  read_failed = tt;
+  write_failed = tt;
+  usage_only = none;
+  usage_where = λ _. refl;
+}
+
+-- the contents that are told of one name
+one_content : (told : List ℕ → Option (Option (List ℕ))) (name : List ℕ) (contents : List (Option (List ℕ))) → TellsOf told (name ∷ []) contents →
+    (content : Option (List ℕ)) × (contents ≡ content ∷ []) × (told name ≡ Some content)
+one_content told name [] tells = absurd tells
+one_content told name (content ∷ []) tells = (content, refl, tells.0)
+one_content told name (content ∷ other ∷ rest) tells = absurd tells.1
+
+never_usage : (P : Type 0) (result : Result ℕ code.Stop) → IfErr result (λ stop. OnUsage stop ⊥) → IfErr result (λ stop. OnUsage stop P)
+never_usage P (Ok status) h = tt
+never_usage P (Err Usage) h = absurd h
+never_usage P (Err (Read name)) h = tt
+never_usage P (Err Write) h = tt
+never_usage P (Err (Object name fault)) h = tt
+never_usage P (Err Memory) h = tt
+never_usage P (Err (TooLong name limit)) h = tt
+
+read_more : (P Q : List ℕ → Type 0) (result : Result ℕ code.Stop) → ((name : List ℕ) → P name → Q name) → IfErr result (λ stop. OnRead stop P) → IfErr result (λ stop. OnRead stop Q)
+read_more P Q (Ok status) f h = tt
+read_more P Q (Err Usage) f h = tt
+read_more P Q (Err (Read name)) f h = f name.now h
+read_more P Q (Err Write) f h = tt
+read_more P Q (Err (Object name fault)) f h = tt
+read_more P Q (Err Memory) f h = tt
+read_more P Q (Err (TooLong name limit)) f h = tt
+
+the_only_name : (object name : List ℕ) → name ≡ object → Contains (object ∷ []) name
+the_only_name object name e = (0, lit< tt, sym e)
+
+-- `yis`, by what it gives for one file
+pub yis_done : (told : List ℕ → Option (Option (List ℕ))) (faults_before faults_after : List ℕ → ℕ) (old new : Option (List ℕ))
+    (out_before out_after : ℕ) (result : Result ℕ code.Stop) (object : List ℕ) (size limit : ℕ) (v : Variant) →
+    ((content : Option (List ℕ)) → told object ≡ Some content → AnswersAs (yis_answer v limit (object_image object size content)) old new result) →
+    IfOk result (λ status. status ≤ 1) → IfErr result (λ stop. OnUsage stop ⊥) → IfErr result (λ stop. NothingOut stop old new) →
+    IfErr result (λ stop. OnRead stop (λ n. (n ≡ object) × Rose (faults_before n) (faults_after n))) → IfErr result (λ stop. OnWrite stop (Rose out_before out_after)) →
+    IsDone (yis object size limit v) told faults_before faults_after old new out_before out_after result
+yis_done told faults_before faults_after old new out_before out_after result object size limit v answers low usage nothing read write = record {
+  answers = λ contents tells. let one = one_content told object contents tells in rw one.1 (answers one.0 one.2);
+  low = low;
+  not_usage = usage;
+  nothing_out = nothing;
+  read_failed = read_more _ _ result (λ name h. (the_only_name object name h.0, h.1)) read;
+  write_failed = write;
+}
+
+-- the command that the words are was done
+pub command_outcome : (words : List (List ℕ)) (told : List ℕ → Option (Option (List ℕ))) (faults_before faults_after : List ℕ → ℕ) (old new : Option (List ℕ))
+    (out_before out_after : ℕ) (result : Result ℕ code.Stop) (command : Command) →
+    form_of words ≡ Some command → IsDone command told faults_before faults_after old new out_before out_after result →
+    IsOutcome words told faults_before faults_after old new out_before out_after result
+unfolding answer
+command_outcome words told faults_before faults_after old new out_before out_after result command form done = record {
+  answers = λ contents tells. rw form (done.answers contents (rw form at tells));
+  low = done.low;
+  nothing_out = done.nothing_out;
+  read_failed = read_more _ _ result (λ name h. (rw form h.0, h.1)) done.read_failed;
+  write_failed = done.write_failed;
+  usage_only = never_usage _ result done.not_usage;
+  usage_where = λ none. absurd (cc);
+}
+
+run_status_low : (stat : Stat) → run_status stat ≤ 1
+run_status_low Bub = lit≤ tt
+run_status_low Aok = lit≤ tt
+run_status_low Hlt = lit≤ tt
+run_status_low Adr = lit≤ tt
+run_status_low Ins = lit≤ tt
+run_status_low Pip = lit≤ tt
+run_status_low Bad = lit≤ tt
+
+run_low : (v : Variant) (image : List ℕ) (limit : ℕ) → (yis_run v image limit).status ≤ 1
+unfolding yis_run
+run_low v image limit = run_status_low _
+
+loaded_low : (v : Variant) (limit : ℕ) (name : List ℕ) (loaded : Result (List ℕ) YoFault) → IsOk loaded → (yis_answer v limit (image_of_text name loaded)).status ≤ 1
+loaded_low v limit name (Ok image) ok = run_low v image limit
+loaded_low v limit name (Err fault) ok = absurd (cc (ok))
+
+faultless_low : (command : Command) (contents : List (Option (List ℕ))) → IsFaultless command contents → (answer_to command contents).status ≤ 1
+faultless_low (yis object size limit v) contents h =
+    rw (h.1, within object h.0 size h.2) (loaded_low v limit object (object_of h.0 size) h.3)
+
+-- a name whose count rose is none of those of which none rose
+none_rose : (names : List (List ℕ)) (before after : List ℕ → ℕ) (name : List ℕ) → NoneRose names before after → Contains names name → Rose (before name) (after name) → ⊥
+none_rose [] before after name none (k, inside, same) rose = absurd (omega (arith, inside))
+none_rose (first ∷ names) before after name none (zero, inside, same) rose =
+    let P : List ℕ → Type 0 = λ n. Rose (before n) (after n) in none.0 (subst P (sym same) rose)
+none_rose (first ∷ names) before after name none (suc k, inside, same) rose =
+    none_rose names before after name none.1 (k, omega (arith, inside), same) rose
+
+-- a stop where no file has a fault and nothing outside failed is a want of memory
+pub stop_is_memory : (words : List (List ℕ)) (told : List ℕ → Option (Option (List ℕ))) (faults_before faults_after : List ℕ → ℕ) (old new : Option (List ℕ))
+    (out_before out_after : ℕ) (stop : code.Stop) (contents : List (Option (List ℕ))) (command : Command) →
+    IsOutcome words told faults_before faults_after old new out_before out_after (Err stop) → Tells told words contents → form_of words ≡ Some command →
+    IsFaultless command contents → NoneRose (names_of command) faults_before faults_after → (Rose out_before out_after → ⊥) → status_of stop ≡ 6
+unfolding answer
+stop_is_memory words told faults_before faults_after old new out_before out_after Usage contents command o tells form faultless none write = absurd (cc (o.usage_only, form))
+stop_is_memory words told faults_before faults_after old new out_before out_after (Read name) contents command o tells form faultless none write =
+    absurd (none_rose (names_of command) faults_before faults_after name.now none (rw form at o.read_failed.0) o.read_failed.1)
+stop_is_memory words told faults_before faults_after old new out_before out_after Write contents command o tells form faultless none write = absurd (write o.write_failed)
+stop_is_memory words told faults_before faults_after old new out_before out_after (Object name fault) contents command o tells form faultless none write =
+    let said : answer words contents ≡ answer_at (Object name fault) = o.answers contents tells in
+    let low : (answer_to command contents).status ≤ 1 = faultless_low command contents faultless in
+    let status : (answer_to command contents).status ≡ 5 = ap (λ a. a.status) (rw form at said) in
+    absurd (omega arith)
+stop_is_memory words told faults_before faults_after old new out_before out_after Memory contents command o tells form faultless none write = refl
+stop_is_memory words told faults_before faults_after old new out_before out_after (TooLong name limit) contents command o tells form faultless none write =
+    let said : answer words contents ≡ answer_at (TooLong name limit) = o.answers contents tells in
+    let low : (answer_to command contents).status ≤ 1 = faultless_low command contents faultless in
+    let status : (answer_to command contents).status ≡ 7 = ap (λ a. a.status) (rw form at said) in
+    absurd (omega arith)

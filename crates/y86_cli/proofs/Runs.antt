@@ -18,7 +18,7 @@ not_long : (b : Bool) (bytes : List ℕ) (long short : Result (List ℕ) Answere
 not_long true bytes long short h e = absurd (omega (arith, ltb-true object_limit (length bytes) e))
 not_long false bytes long short h e = refl
 
-within : (name bytes : List ℕ) (size : ℕ) → length bytes ≤ object_limit → object_image name size (Some bytes) ≡ image_of_text name (object_of bytes size)
+pub within : (name bytes : List ℕ) (size : ℕ) → length bytes ≤ object_limit → object_image name size (Some bytes) ≡ image_of_text name (object_of bytes size)
 unfolding object_image
 within name bytes size h = not_long _ bytes _ _ h refl
 

@@ -4,9 +4,9 @@ use Rattle.wb_io.specs.Causes.{Rose}
 use Rattle.wb_io.specs.Sinks.{Took, TookPart}
 use Rattle.y86_cli.specs.declared.stop.Stop as code
 use Rattle.y86_cli.specs.declared.stop.Stop.TheVariants.{Usage, Read, Write, Object, Memory, TooLong}
-use Rattle.y86_cli.specs.Answer.{Answered, answer}
-use Rattle.y86_cli.specs.Outcomes.{Tells, names_in}
-use Rattle.y86_cli.specs.Words.{form_of}
+use Rattle.y86_cli.specs.Answer.{Answered, answer, answer_to}
+use Rattle.y86_cli.specs.Outcomes.{Tells, TellsOf, names_in}
+use Rattle.y86_cli.specs.Words.{Command, form_of, names_of}
 use Rattle.y86_cli.specs.Stops.{answer_at}
 
 -- a stop that the contents of the files don't decide: a failed read, a failed write, want of memory
@@ -91,6 +91,16 @@ pub record AnswersWhole (answered : Answered) (old new : Option (List ℕ)) (sta
 abbrev pub AnswersAs : Answered → Option (List ℕ) → Option (List ℕ) → Result ℕ code.Stop → Type 0
 AnswersAs answered old new (Ok status) = AnswersWhole answered old new status
 AnswersAs answered old new (Err stop) = StopsAs answered old new stop
+
+-- a command was done as the contents of its files say, up to the first stop
+pub record IsDone (command : Command) (told : List ℕ → Option (Option (List ℕ))) (faults_before faults_after : List ℕ → ℕ)
+    (old new : Option (List ℕ)) (out_before out_after : ℕ) (result : Result ℕ code.Stop) : Type 0 where
+  pub answers : (contents : List (Option (List ℕ))) → TellsOf told (names_of command) contents → AnswersAs (answer_to command contents) old new result
+  pub low : IfOk result (λ status. status ≤ 1)
+  pub not_usage : IfErr result (λ stop. OnUsage stop ⊥)
+  pub nothing_out : IfErr result (λ stop. NothingOut stop old new)
+  pub read_failed : IfErr result (λ stop. OnRead stop (λ name. Contains (names_of command) name × Rose (faults_before name) (faults_after name)))
+  pub write_failed : IfErr result (λ stop. OnWrite stop (Rose out_before out_after))
 
 -- what the words and the contents of the files say was done, up to the first stop
 pub record IsOutcome (words : List (List ℕ)) (told : List ℕ → Option (Option (List ℕ))) (faults_before faults_after : List ℕ → ℕ)

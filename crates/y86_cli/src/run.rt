@@ -4,9 +4,10 @@ ghost use Rattle.wb_io.specs.Sinks.{Took};
 ghost use Rattle.y86_base.specs.Image.{IsSize};
 ghost use Rattle.y86_cli.specs.Answer.{answer, memory_line, object_image, yis_answer};
 ghost use Rattle.y86_cli.specs.Outcomes.{IsFaultless, IsFreeStatus, NoneRose, ReadFailed, Tells, WentOut, names_in};
+ghost use Rattle.y86_cli.specs.Read.{command_in};
 ghost use Rattle.y86_cli.specs.Stops.{line_of, status_of};
-ghost use Rattle.y86_cli.specs.Reads.{AnswersAs, IsOutcome, NothingOut, OnRead, OnUsage, OnWrite};
-ghost use Rattle.y86_cli.specs.Words.{Command, form_of, names_of};
+ghost use Rattle.y86_cli.specs.Reads.{AnswersAs, IsDone, IsOutcome, NothingOut, OnRead, OnUsage, OnWrite};
+ghost use Rattle.y86_cli.specs.Words.{Command, IsLegal, form_of, names_of};
 
 use crate::cmd::{Cmd, Usage, words};
 use crate::stop::Stop;
@@ -34,8 +35,6 @@ fn yis<'a, F: Files, O: Sink>(
     out: &mut O,
 ) -> Result<Status, Stop<'a>>
     requires { IsSize mem }
-    ensures file_counts { (n : List ℕ) → F.faults files.old n ≤ F.faults files.new n }
-    ensures out_count { O.faults out.old ≤ O.faults out.new }
     ensures answer { (content : Option (List ℕ)) → F.told files.old obj.now ≡ Some content →
         AnswersAs (yis_answer variant limit (object_image obj.now mem content)) (O.taken out.old) (O.taken out.new) result }
     ensures low { IfOk result (λ status. status ≤ 1) }
@@ -51,6 +50,28 @@ fn yis<'a, F: Files, O: Sink>(
     }
 }
 
+/// Does a command, up to the first stop.
+#[tactic(auto, using(crate::proofs::Outcomes::yis_done))]
+fn execute<'a, F: Files, O: Sink>(
+    alloc: Global,
+    command: Cmd<'a>,
+    files: &mut F,
+    out: &mut O,
+) -> Result<Status, Stop<'a>>
+    requires { IsLegal (command_in command) }
+    ensures done { IsDone (command_in command.entry) (F.told files.old) (F.faults files.old) (F.faults files.new)
+        (O.taken out.old) (O.taken out.new) (O.faults out.old) (O.faults out.new) result }
+{
+    match command {
+        Cmd::Yis {
+            obj,
+            mem,
+            limit,
+            variant,
+        } => yis(alloc, obj, mem, limit, variant, files, out),
+    }
+}
+
 /// Does what the words say, up to the first stop.
 fn outcome<'a, F: Files, O: Sink>(
     alloc: Global,
@@ -58,21 +79,12 @@ fn outcome<'a, F: Files, O: Sink>(
     files: &mut F,
     out: &mut O,
 ) -> Result<Status, Stop<'a>>
-    ensures file_counts { (n : List ℕ) → F.faults files.old n ≤ F.faults files.new n }
-    ensures out_count { O.faults out.old ≤ O.faults out.new }
-    ensures outcome { IsOutcome (map string_bytes command_words.now) (F.told files.old) (F.faults files.old) (F.faults files.new)
+    ensures { IsOutcome (map string_bytes command_words.now) (F.told files.old) (F.faults files.old) (F.faults files.new)
         (O.taken out.old) (O.taken out.new) (O.faults out.old) (O.faults out.new) result }
 {
     match words(command_words) {
         Err(Usage) => Err(Stop::Usage),
-        Ok(
-            Cmd::Yis {
-                obj,
-                mem,
-                limit,
-                variant,
-            },
-        ) => yis(alloc, obj, mem, limit, variant, files, out),
+        Ok(command) => execute(alloc, command, files, out),
     }
 }
 
