@@ -9,6 +9,8 @@ mod fetch;
 mod laws;
 mod machine;
 mod table;
+#[cfg(test)]
+mod tests;
 mod unit;
 mod work;
 
