@@ -1,6 +1,7 @@
 //! Single steps, and instructions with their bytes, against results worked out by hand.
-use crate::{Instr, Machine, Rec, Store, encode, split, step, valid};
+use crate::{Fetched, Instr, Machine, Rec, Store, encode, split, step, valid};
 use std::alloc::Global;
+use std::process::Abort;
 use std::test::Fail;
 use y86_base::{Flags, Image, Stat, Variant};
 
@@ -25,6 +26,20 @@ const O: Flags = Flags { of: true, ..NONE };
 const SO: Flags = Flags { sf: true, ..O };
 
 const ZO: Flags = Flags { zf: true, ..O };
+
+/// The record of an instruction at 0 that changes nothing and ends with AOK.
+const NOTHING: Rec = Rec {
+    pc: 0,
+    icode: 1,
+    ifun: 0,
+    dst_e: 15,
+    val_e: 0,
+    dst_m: 15,
+    val_m: 0,
+    store: None,
+    flags: NONE,
+    stat: Stat::Aok,
+};
 
 /// Steps that end with another status than AOK, on 64 bytes of memory: the PC, the bytes there, the word in every
 /// register, and then the status, icode and ifun of the record.
@@ -352,6 +367,49 @@ fn machine(alloc: Global, pc: u64, code: &[u8]) -> Result<Machine, Fail> {
     Ok(m)
 }
 
+/// Takes a step, and compares its record and the machine after it.
+fn check_step(rt: &impl Abort, m: &mut Machine, wanted: &Rec, next: u64) {
+    let mut left = m.regs;
+    left.set(wanted.dst_e, wanted.val_e);
+    left.set(wanted.dst_m, wanted.val_m);
+    let record = step(Variant::Base, m);
+    assert_eq!(rt; record, Some(*wanted));
+    assert_eq!(rt; m.regs, left, "after {wanted:?}");
+    assert_eq!(rt;
+        (m.pc, m.flags, m.stat),
+        (next, wanted.flags, wanted.stat),
+        "after {wanted:?}"
+    );
+    if let Some(store) = wanted.store {
+        assert_eq!(rt;
+            m.mem.word(store.addr),
+            Some(store.word),
+            "after {wanted:?}"
+        );
+    }
+}
+
+fn check_move(rt: &impl Abort, m: &mut Machine, case: &Done) {
+    m.regs.set(1, case.registers.0);
+    m.regs.set(2, case.registers.1);
+    m.regs.set(4, case.registers.2);
+    m.flags = case.flags;
+    assert!(rt; case.word.1 == 0 || m.mem.put(case.word.0, case.word.1));
+    let wanted = Rec {
+        pc: case.pc,
+        icode: case.icode,
+        ifun: case.ifun,
+        dst_e: case.e.0,
+        val_e: case.e.1,
+        dst_m: case.m.0,
+        val_m: case.m.1,
+        store: case.store.map(|(addr, word)| Store { addr, word }),
+        flags: case.flags,
+        stat: Stat::Aok,
+    };
+    check_step(rt, m, &wanted, case.next);
+}
+
 #[test]
 fn steps(rt: HostRuntime) -> Result<(), Fail> {
     for (pc, code, word, stat, icode, ifun) in &REFUSED {
@@ -359,204 +417,174 @@ fn steps(rt: HostRuntime) -> Result<(), Fail> {
         for n in 0..15 {
             m.regs.set(n, *word);
         }
-        let r = step(Variant::Base, &mut m).ok_or("no record")?;
-        assert_eq!(rt;
-            (r.icode, r.ifun, r.stat),
-            (*icode, *ifun, *stat),
-            "at {pc}: {code:?}"
-        );
-        assert_eq!(rt;
-            (r.pc, r.dst_e, r.val_e, r.dst_m, r.val_m, r.flags),
-            (*pc, 15, 0, 15, 0, Z)
-        );
-        assert_eq!(rt; (r.store, m.pc, m.stat, m.flags), (None, *pc, *stat, Z));
-        for n in 0..15 {
-            assert_eq!(rt; m.regs.get(n), *word);
-        }
+        let wanted = Rec {
+            pc: *pc,
+            icode: *icode,
+            ifun: *ifun,
+            flags: Z,
+            stat: *stat,
+            ..NOTHING
+        };
+        check_step(&rt, &mut m, &wanted, *pc);
         assert_eq!(rt; step(Variant::Base, &mut m), None);
     }
     for case in &MOVES {
         let mut m = machine(rt.alloc(), case.pc, case.code)?;
-        m.regs.set(1, case.registers.0);
-        m.regs.set(2, case.registers.1);
-        m.regs.set(4, case.registers.2);
-        m.flags = case.flags;
-        let before = m.regs;
-        assert!(rt; case.word.1 == 0 || m.mem.put(case.word.0, case.word.1));
-        let r = step(Variant::Base, &mut m).ok_or("no record")?;
-        let code = case.code;
-        assert_eq!(rt;
-            (r.pc, r.icode, r.ifun, r.stat),
-            (case.pc, case.icode, case.ifun, Stat::Aok),
-            "{code:?}"
-        );
-        assert_eq!(rt; (r.dst_e, r.val_e), case.e, "{code:?}");
-        assert_eq!(rt; (r.dst_m, r.val_m), case.m, "{code:?}");
-        assert_eq!(rt; r.store.map(|s| (s.addr, s.word)), case.store, "{code:?}");
-        assert_eq!(rt; (m.pc, m.stat), (case.next, Stat::Aok), "{code:?}");
-        assert_eq!(rt; (m.flags, r.flags), (case.flags, case.flags));
-        if let Some((address, word)) = case.store {
-            assert_eq!(rt; m.mem.word(address), Some(word), "{code:?}");
-        }
-        for n in 0..15 {
-            let left = if n == case.m.0 {
-                case.m.1
-            } else if n == case.e.0 {
-                case.e.1
-            } else {
-                before.get(n)
-            };
-            assert_eq!(rt; m.regs.get(n), left, "register {n} after {code:?}");
-        }
+        check_move(&rt, &mut m, case);
     }
     Ok(())
+}
+
+/// An instruction of two bytes at 0, of which the second is `12`, with 7 in `%rcx`.
+fn pair(alloc: Global, first: u8, flags: Flags) -> Result<Machine, Fail> {
+    let mut m = machine(alloc, 0, &[first, 0x12])?;
+    m.regs.set(1, 7);
+    m.flags = flags;
+    Ok(m)
+}
+
+fn check_condition(
+    rt: &impl Abort,
+    moved: &mut Machine,
+    jumped: &mut Machine,
+    ifun: u64,
+    held: bool,
+) {
+    let cmov = Rec {
+        icode: 2,
+        ifun,
+        dst_e: if held { 2 } else { 15 },
+        val_e: if held { 7 } else { 0 },
+        flags: moved.flags,
+        ..NOTHING
+    };
+    check_step(rt, moved, &cmov, 2);
+    let jump = Rec {
+        icode: 7,
+        ifun,
+        flags: jumped.flags,
+        ..NOTHING
+    };
+    check_step(rt, jumped, &jump, if held { 0x12 } else { 9 });
 }
 
 #[test]
 fn operations_and_conditions(rt: HostRuntime) -> Result<(), Fail> {
     for (ifun, a, b, left, flags) in &OPERATIONS {
-        let mut m = machine(rt.alloc(), 0, &[0x60 | *ifun, 0x12])?;
+        let mut m = pair(rt.alloc(), 0x60 | *ifun, SO)?;
         m.regs.set(1, *a);
         m.regs.set(2, *b);
-        m.flags = SO;
-        let r = step(Variant::Base, &mut m).ok_or("no record")?;
-        assert_eq!(rt;
-            (r.dst_e, r.val_e, r.flags),
-            (2, *left, *flags),
-            "OPq {ifun} of {a} and {b}"
-        );
-        assert_eq!(rt; (m.regs.get(2), m.flags, m.pc), (*left, *flags, 2));
+        let wanted = Rec {
+            icode: 6,
+            ifun: u64::from(*ifun),
+            dst_e: 2,
+            val_e: *left,
+            flags: *flags,
+            ..NOTHING
+        };
+        check_step(&rt, &mut m, &wanted, 2);
     }
     for (flags, holds) in &CONDITIONS {
-        for (ifun, held) in holds.iter().enumerate() {
-            let number = ifun as u8;
-            let mut moved = machine(rt.alloc(), 0, &[0x20 | number, 0x12])?;
-            moved.regs.set(1, 7);
-            moved.flags = *flags;
-            let r = step(Variant::Base, &mut moved).ok_or("no record")?;
-            assert_eq!(rt;
-                (r.dst_e, r.val_e),
-                if *held { (2, 7) } else { (15, 0) },
-                "cmov {ifun} at {flags:?}"
-            );
-            assert_eq!(rt; moved.regs.get(2), if *held { 7 } else { 0 });
-
-            let mut jumped = machine(rt.alloc(), 0, &[0x70 | number, 40])?;
-            jumped.flags = *flags;
-            assert!(rt; step(Variant::Base, &mut jumped).is_some());
-            assert_eq!(rt;
-                jumped.pc,
-                if *held { 40 } else { 9 },
-                "jump {ifun} at {flags:?}"
-            );
+        let mut ifun = 0u8;
+        for held in holds {
+            let mut moved = pair(rt.alloc(), 0x20 | ifun, *flags)?;
+            let mut jumped = pair(rt.alloc(), 0x70 | ifun, *flags)?;
+            check_condition(&rt, &mut moved, &mut jumped, u64::from(ifun), *held);
+            ifun = ifun.wrapping_add(1);
         }
     }
     Ok(())
 }
 
 /// For each icode its largest ifun in a valid instruction, the register fields and the constant of an example, and
-/// the bytes of the example with ifun 0.
-static ENCODINGS: [(u8, u8, u8, u8, u64, &[u8]); 12] = [
-    (0, 0, 15, 15, 0, &[0x00]),
-    (1, 0, 15, 15, 0, &[0x10]),
-    (2, 6, 1, 14, 0, &[0x20, 0x1e]),
+/// the bytes of the example with ifun 0: the first, and those behind it.
+static ENCODINGS: [(u8, u8, u8, u8, u64, u8, &[u8]); 12] = [
+    (0, 0, 15, 15, 0, 0x00, &[]),
+    (1, 0, 15, 15, 0, 0x10, &[]),
+    (2, 6, 1, 14, 0, 0x20, &[0x1e]),
     (
         3,
         0,
         15,
         2,
-        0x0102_0304_0506_0708,
-        &[0x30, 0xf2, 8, 7, 6, 5, 4, 3, 2, 1],
+        0x01020304,
+        0x30,
+        &[0xf2, 4, 3, 2, 1, 0, 0, 0, 0],
     ),
-    (
-        4,
-        0,
-        1,
-        2,
-        MAX,
-        &[0x40, 0x12, 255, 255, 255, 255, 255, 255, 255, 255],
-    ),
-    (5, 0, 14, 0, 8, &[0x50, 0xe0, 8, 0, 0, 0, 0, 0, 0, 0]),
-    (6, 3, 3, 3, 0, &[0x60, 0x33]),
-    (7, 6, 15, 15, 0x1234, &[0x70, 0x34, 0x12, 0, 0, 0, 0, 0, 0]),
-    (8, 0, 15, 15, LOW, &[0x80, 0, 0, 0, 0, 0, 0, 0, 0x80]),
-    (9, 0, 15, 15, 0, &[0x90]),
-    (10, 0, 4, 15, 0, &[0xa0, 0x4f]),
-    (11, 0, 0, 15, 0, &[0xb0, 0x0f]),
+    (4, 0, 1, 2, LOW, 0x40, &[0x12, 0, 0, 0, 0, 0, 0, 0, 0x80]),
+    (5, 0, 14, 0, 8, 0x50, &[0xe0, 8, 0, 0, 0, 0, 0, 0, 0]),
+    (6, 3, 3, 3, 0, 0x60, &[0x33]),
+    (7, 6, 15, 15, 0x1234, 0x70, &[0x34, 0x12, 0, 0, 0, 0, 0, 0]),
+    (8, 0, 15, 15, LOW, 0x80, &[0, 0, 0, 0, 0, 0, 0, 0x80]),
+    (9, 0, 15, 15, 0, 0x90, &[]),
+    (10, 0, 4, 15, 0, 0xa0, &[0x4f]),
+    (11, 0, 0, 15, 0, 0xb0, &[0x0f]),
 ];
+
+fn same_bytes(a: &[u8], b: &[u8]) -> bool {
+    a == b
+}
+
+/// Encodes a valid instruction, compares its bytes, and splits them again in the last bytes of a memory.
+fn check_encoding(
+    rt: &impl Abort,
+    alloc: Global,
+    i: &Instr,
+    first: u8,
+    rest: &[u8],
+) -> Result<(), Fail> {
+    assert!(rt; valid(Variant::Base, i));
+    let code = encode(i);
+    let bytes = code.as_slice();
+    let (head, tail) = bytes.split_first().ok_or("no byte")?;
+    assert_eq!(rt; *head, first, "{i:?}");
+    assert!(rt; same_bytes(tail, rest), "{i:?}");
+    let pc = 64u64.saturating_sub(bytes.len() as u64);
+    let mem = machine(alloc, pc, bytes)?.mem;
+    let wanted = Fetched {
+        error: false,
+        icode: u64::from(i.icode),
+        ifun: u64::from(i.ifun),
+        r_a: u64::from(i.r_a),
+        r_b: u64::from(i.r_b),
+        val_c: i.val_c,
+        val_p: 64,
+    };
+    assert_eq!(rt; split(Variant::Base, &mem, pc), wanted);
+    Ok(())
+}
+
+/// What isn't valid beside a valid instruction: a used register field of 15, an unused one of another number, and a
+/// constant where the instruction has none.
+fn check_invalid(rt: &impl Abort, i: &Instr, has_const: bool) {
+    let r_a = if i.r_a == 15 { 0 } else { 15 };
+    assert!(rt; !valid(Variant::Base, &Instr { r_a, ..*i }), "{i:?}");
+    let r_b = if i.r_b == 15 { 0 } else { 15 };
+    assert!(rt; !valid(Variant::Base, &Instr { r_b, ..*i }), "{i:?}");
+    assert_eq!(rt;
+        valid(Variant::Base, &Instr { val_c: 1, ..*i }),
+        has_const,
+        "{i:?}"
+    );
+}
 
 #[test]
 fn encodings(rt: HostRuntime) -> Result<(), Fail> {
-    for (icode, top, r_a, r_b, val_c, bytes) in &ENCODINGS {
-        let icode = *icode;
-        for ifun in 0..16 {
+    for (icode, top, r_a, r_b, val_c, first, rest) in &ENCODINGS {
+        for ifun in 0..=255u8 {
             let i = Instr {
-                icode,
+                icode: *icode,
                 ifun,
                 r_a: *r_a,
                 r_b: *r_b,
                 val_c: *val_c,
             };
-            assert_eq!(rt;
-                valid(Variant::Base, &i),
-                ifun <= *top,
-                "icode {icode}, ifun {ifun}"
-            );
-            if !valid(Variant::Base, &i) {
-                continue;
+            if ifun <= *top {
+                check_encoding(&rt, rt.alloc(), &i, *first | ifun, rest)?;
+                check_invalid(&rt, &i, rest.len() > 1);
+            } else {
+                assert!(rt; !valid(Variant::Base, &i), "{i:?}");
             }
-            let code = encode(&i);
-            assert_eq!(rt; code.len(), bytes.len());
-            for (at, byte) in code.iter().enumerate() {
-                let base = bytes.get(at).copied().ok_or("too long")?;
-                assert_eq!(rt;
-                    *byte,
-                    if at == 0 { base | ifun } else { base },
-                    "byte {at} of icode {icode}"
-                );
-            }
-            // in the last bytes of the memory
-            let pc = 64 - bytes.len() as u64;
-            let mem = machine(rt.alloc(), pc, code.as_slice())?.mem;
-            let f = split(Variant::Base, &mem, pc);
-            assert_eq!(rt;
-                (f.error, f.icode, f.ifun),
-                (false, u64::from(icode), u64::from(ifun))
-            );
-            assert_eq!(rt;
-                (f.r_a, f.r_b),
-                (u64::from(*r_a), u64::from(*r_b)),
-                "icode {icode}"
-            );
-            assert_eq!(rt; (f.val_c, f.val_p), (*val_c, 64), "icode {icode}");
-
-            // a used field of 15, an unused one of another number, a constant where there is none
-            let used = |field: u8| if field == 15 { 0 } else { 15 };
-            assert!(rt;
-                !valid(
-                    Variant::Base,
-                    &Instr {
-                        r_a: used(*r_a),
-                        ..i
-                    }
-                ),
-                "icode {icode}"
-            );
-            assert!(rt;
-                !valid(
-                    Variant::Base,
-                    &Instr {
-                        r_b: used(*r_b),
-                        ..i
-                    }
-                ),
-                "icode {icode}"
-            );
-            assert_eq!(rt;
-                valid(Variant::Base, &Instr { val_c: 1, ..i }),
-                bytes.len() > 2,
-                "icode {icode}"
-            );
         }
     }
     for icode in 12..=255u8 {
