@@ -1,13 +1,11 @@
 -- What a step may change of the registers, the flags and the PC.
-use Rattle.std.proofs.Common.{◌≡◌, ◌≢◌, ℕ, ◌+◌, ◌%◌, ◌^◌, ◌<◌, ◌≤◌, ◌⊎◌, inl, inr, Bool, true, false, cond, not, ◌&&◌, ◌||◌, nat_lt, ◌==◌, List, length, get_or, Option, Some, None, IfSome, refl, sym, ap, ◌∙◌, arith}
-use Rattle.std.specs.Prelude.{slice_set, slice_index}
-use Rattle.std.proofs.lemmas.Bool.{cases_lt, cases_eq, cond_both, ltb-true, lt-ltb, le-ltb, and_parts, leb-true, false≢true, cases_Bool}
+use Rattle.std.proofs.Common.{◌≡◌, ◌≢◌, ℕ, ◌+◌, ◌%◌, ◌^◌, ◌<◌, ◌⊎◌, inl, inr, Bool, true, false, cond, ◌||◌, nat_lt, ◌==◌, List, length, Option, IfSome, refl, sym, ap, ◌∙◌, arith}
+use Rattle.std.specs.Prelude.{slice_set}
+use Rattle.std.proofs.lemmas.Bool.{cases_lt, cond_both, ltb-true, lt-ltb, le-ltb, and_parts, false≢true, cases_Bool}
 use Rattle.std.proofs.lemmas.List.{get_or-set_other}
 use Rattle.y86_base.specs.Registers.{register, with_register}
-use Rattle.y86_base.specs.declared.parts.Stat.{Stat}
-use Rattle.y86_base.specs.declared.parts.Stat.TheVariants.{Bub, Aok, Hlt, Adr, Ins, Pip, Bad}
+use Rattle.y86_base.specs.declared.parts.Stat.TheVariants.{Aok, Hlt, Adr, Ins}
 use Rattle.y86_base.specs.declared.parts.Variant.{Variant}
-use Rattle.y86_isa.specs.declared.columns.Row.{Row}
 use Rattle.y86_isa.specs.declared.columns.Field.{Field}
 use Rattle.y86_isa.specs.declared.columns.Field.TheVariants.{Dash, FieldA, FieldB, Stack}
 use Rattle.y86_isa.specs.declared.columns.Next.TheVariants.{Fall}
@@ -16,9 +14,9 @@ use Rattle.y86_isa.specs.declared.machine.Machine.{Machine}
 use Rattle.y86_isa.specs.declared.machine.Rec.{Rec}
 use Rattle.y86_isa.specs.Table.{rows, row}
 use Rattle.y86_isa.specs.Machine.{is_aok}
-use Rattle.y86_isa.specs.Blocks.{register_number, destination_e, fetched, reading, after}
+use Rattle.y86_isa.specs.Blocks.{register_number, destination_e, fetched, reading}
 use Rattle.y86_isa.specs.Work.{work}
-use Rattle.y86_isa.specs.Step.{finished, record_of, advance, retired}
+use Rattle.y86_isa.specs.Step.{finished, advance, retired}
 use Rattle.y86_isa.specs.Laws.{ChangesOneRegister, KeepsFlags, FallsThrough}
 use Rattle.y86_isa.proofs.Rows.{one_destination, is_dash, is_stack, opq-from_flags, fall-from_icode, row-length}
 use Rattle.y86_isa.proofs.Readings.{ReadsAs, reads_as}

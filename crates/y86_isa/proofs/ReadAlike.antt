@@ -1,16 +1,15 @@
 -- Two memories that agree on the fetched bytes of an instruction read alike there.
-use Rattle.std.proofs.Common.{◌≡◌, ℕ, ◌+◌, ◌^◌, ◌%◌, ◌<◌, ◌≤◌, ◌⊎◌, inl, inr, Bool, true, false, cond, ◌&&◌, ◌||◌, nat_le, ◌==◌, List, length, Option, Some, None, slice_get, refl, sym, ap, ◌∙◌, arith, add_assoc, add-zero}
+use Rattle.std.proofs.Common.{◌≡◌, ℕ, ◌+◌, ◌^◌, ◌<◌, ◌≤◌, inl, inr, Bool, true, false, cond, List, length, Some, None, slice_get, refl, sym, ap, ◌∙◌, arith, add_assoc}
 use Rattle.std.proofs.lemmas.Bool.{leb-true, cases_lt}
 use Rattle.std.proofs.lemmas.Option.{slice_get_past, slice_get_within, slice_get-get_or, none-some}
 use Rattle.std.proofs.Math.Nat.{mod-eq_of_lt}
-use Rattle.y86_base.specs.Image.{IsSize}
 use Rattle.y86_base.specs.declared.parts.Variant.{Variant}
 use Rattle.y86_base.specs.declared.parts.Variant.TheVariants.{Base}
 use Rattle.y86_isa.specs.declared.columns.Row.{Row}
 use Rattle.y86_isa.specs.declared.fetch.Reading.{Reading}
 use Rattle.y86_isa.specs.Table.{row, is_instruction}
-use Rattle.y86_isa.specs.Blocks.{high_half, low_half, byte_at, field_a, field_b, const_at, word_from, lacks_register, outside, invalid, reading, fetched, fetched_by}
-use Rattle.y86_isa.specs.Run.{IsFetched, count_from, SameFetch}
+use Rattle.y86_isa.specs.Blocks.{high_half, low_half, byte_at, field_a, field_b, const_at, word_from, lacks_register, reading, fetched, fetched_by}
+use Rattle.y86_isa.specs.Run.{count_from, SameFetch}
 use Rattle.y86_isa.proofs.Rows.{row-length}
 use Rattle.y86_isa.proofs.Readings.{ReadsAs, reads_as}
 use Rattle.y86_isa.proofs.Readings.ReadsAs.{first_outside, bad_first, later_outside, no_register, good}

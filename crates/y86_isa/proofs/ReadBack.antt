@@ -1,18 +1,18 @@
 -- An instruction is read back from its bytes.
-use Rattle.std.proofs.Common.{◌≡◌, ℕ, ◌+◌, ◌*◌, ◌%◌, ◌^◌, ◌<◌, ◌≤◌, Bool, true, false, cond, not, ◌&&◌, ◌||◌, nat_le, nat_lt, ◌==◌, List, [], ◌∷◌, ◌++◌, length, drop, get_or, Option, Some, slice_get, MatchBool, refl, sym, ap, ◌∙◌, arith, add_assoc, add-zero}
-use Rattle.std.specs.Int.{from_le_bytes, to_le_bytes, w64}
+use Rattle.std.proofs.Common.{◌≡◌, ℕ, ◌+◌, ◌*◌, ◌%◌, ◌^◌, ◌<◌, ◌≤◌, Bool, true, false, cond, ◌&&◌, nat_le, ◌==◌, List, [], ◌∷◌, ◌++◌, length, get_or, Some, slice_get, refl, sym, ap, ◌∙◌, arith, add_assoc, add-zero}
+use Rattle.std.specs.Int.{to_le_bytes, w64}
 use Rattle.std.proofs.lemmas.List.{get_or-drop}
 use Rattle.std.proofs.lemmas.Nat.{from_le_bytes-to_le_bytes_8}
-use Rattle.std.proofs.lemmas.Bool.{and_from, le-leb, lt-ltb, ne_eqb, not_from_true}
+use Rattle.std.proofs.lemmas.Bool.{and_from, le-leb, lt-ltb, ne_eqb}
 use Rattle.std.proofs.lemmas.Bool.Decides.{nat_tests}
 use Rattle.y86_base.specs.Image.{IsSize}
 use Rattle.y86_base.specs.declared.parts.Variant.{Variant}
 use Rattle.y86_base.specs.declared.parts.Variant.TheVariants.{Base}
 use Rattle.y86_isa.specs.declared.columns.Row.{Row}
 use Rattle.y86_isa.specs.declared.encoding.Instr.{Instr}
-use Rattle.y86_isa.specs.Table.{rows, row, is_instruction}
+use Rattle.y86_isa.specs.Table.{row, is_instruction}
 use Rattle.y86_isa.specs.Blocks.{high_half, low_half, byte_at, field_a, field_b, const_at, after, lacks_register, reading, fetched}
-use Rattle.y86_isa.specs.Encoding.{NamesRegister, written_top, FitsRow, IsValid, encoded, encoded_by, Holds, fields_of, widest}
+use Rattle.y86_isa.specs.Encoding.{NamesRegister, FitsRow, IsValid, encoded, encoded_by, Holds, fields_of, widest}
 use Rattle.y86_isa.proofs.Encodings.{field_most}
 use Rattle.y86_isa.proofs.Rows.{row-length, has_byte-from_a, has_byte-from_b, ifun_top-le}
 use Rattle.y86_isa.proofs.Fetching.{held_at, held_whole, held_byte_at, word_from-bytes}

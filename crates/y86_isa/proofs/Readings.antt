@@ -1,17 +1,9 @@
 -- How an instruction reads, case by case, and what of the memory its reading depends on.
-use Rattle.std.proofs.Common.{◌≡◌, ℕ, ◌+◌, ◌-◌, ◌*◌, ◌/◌, ◌%◌, ◌^◌, ◌<◌, ◌≤◌, ◌⊎◌, inl, inr, Bool, true, false, cond, not, ◌&&◌, ◌||◌, nat_le, nat_lt, ◌==◌, List, [], ◌∷◌, length, Option, Some, None, slice_get, refl, sym, ap, ◌∙◌, arith, add_assoc}
-use Rattle.std.proofs.lemmas.Bool.{leb-true, cases_Bool, and_parts, ltb-true}
-use Rattle.std.proofs.lemmas.Option.{slice_get_past, slice_get_within}
-use Rattle.std.proofs.Math.Nat.{mod-eq_of_lt}
-use Rattle.y86_base.specs.Image.{IsSize}
+use Rattle.std.proofs.Common.{◌≡◌, ℕ, ◌+◌, Bool, true, false, nat_le, List, length, Option, Some, None, slice_get, refl}
 use Rattle.y86_base.specs.declared.parts.Variant.{Variant}
-use Rattle.y86_base.specs.declared.parts.Variant.TheVariants.{Base}
-use Rattle.y86_isa.specs.declared.columns.Row.{Row}
 use Rattle.y86_isa.specs.declared.fetch.Reading.{Reading}
-use Rattle.y86_isa.specs.Table.{rows, row, is_instruction}
-use Rattle.y86_isa.specs.Blocks.{high_half, low_half, byte_at, field_a, field_b, const_at, word_from, lacks_register, outside, invalid, reading, reading_of, fetched, fetched_by}
-use Rattle.y86_isa.specs.Run.{IsFetched, fetched_count}
-use Rattle.y86_isa.proofs.Rows.{row-length}
+use Rattle.y86_isa.specs.Table.{row, is_instruction}
+use Rattle.y86_isa.specs.Blocks.{high_half, low_half, lacks_register, outside, invalid, reading, reading_of}
 
 -- the cases of a reading, in their order
 pub data ReadsAs (v : Variant) (memory : List ℕ) (pc : ℕ) : Reading → Type 0 where

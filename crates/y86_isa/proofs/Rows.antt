@@ -1,6 +1,7 @@
 -- Facts that hold of each row of the instruction table: a test that computes at every row holds at each icode.
-use Rattle.std.proofs.Common.{◌≡◌, ◌≢◌, ℕ, zero, suc, ◌+◌, ◌<◌, ◌≤◌, Bool, true, false, cond, not, ◌&&◌, ◌||◌, nat_le, ◌==◌, List, [], ◌∷◌, Option, unwrap_or, slice_get, length, refl, sym, ◌∙◌, subst, arith, add-zero, zero-add}
+use Rattle.std.proofs.Common.{◌≡◌, ◌≢◌, ℕ, zero, suc, ◌+◌, ◌<◌, ◌≤◌, Bool, true, false, cond, not, ◌&&◌, ◌||◌, nat_le, ◌==◌, List, [], ◌∷◌, unwrap_or, slice_get, length, refl, sym, ◌∙◌, subst, arith, add-zero, zero-add}
 use Rattle.std.specs.List.{list_all}
+use Rattle.std.proofs.lemmas.Option.{slice_get_past}
 use Rattle.std.proofs.lemmas.Bool.{and_parts, eqb-true, leb-true, ne_eqb, false≢true}
 use Rattle.y86_base.specs.declared.parts.Variant.{Variant}
 use Rattle.y86_base.specs.declared.parts.Variant.TheVariants.{Base}
@@ -20,6 +21,14 @@ in_list p (r ∷ rs) d h e (suc i) = in_list p rs d (and_parts (p r) (list_all p
 pub row-test : (p : Row → Bool) (v : Variant) → list_all p (rows v) ≡ true → p dash_row ≡ true → (icode : ℕ) → p (row v icode) ≡ true
 unfolding row
 row-test p v h e icode = in_list p (rows v) dash_row h e icode
+
+past_rows : (rs : List Row) (d : Row) (i : ℕ) → length rs ≤ i → unwrap_or (slice_get rs i) d ≡ d
+past_rows rs d i le = rw (slice_get_past rs i le) refl
+
+-- an icode without a row has the row of dashes
+pub row-unknown : (v : Variant) (icode : ℕ) → length (rows v) ≤ icode → row v icode ≡ dash_row
+unfolding row
+row-unknown v icode le = past_rows (rows v) dash_row icode le
 
 -- the columns of one row agree: the length is that of the parts, and a register field that is used is there
 abbrev sized : Row → Bool

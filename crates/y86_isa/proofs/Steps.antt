@@ -1,11 +1,6 @@
 -- A step, case by case, and what it leaves as it was.
-use Rattle.std.proofs.Common.{◌≡◌, ◌≢◌, ℕ, zero, suc, ◌+◌, ◌%◌, ◌^◌, ◌<◌, ◌≤◌, ◌⊎◌, inl, inr, Bool, true, false, cond, not, ◌&&◌, ◌||◌, nat_lt, ◌==◌, List, [], ◌∷◌, length, set, get_or, Option, Some, None, slice_get, refl, sym, ap, ◌∙◌, arith}
-use Rattle.std.specs.Prelude.{slice_set, slice_index}
-use Rattle.std.proofs.lemmas.Bool.{cases_lt, cond_both, ltb-true, ltb-false, lt-ltb, le-ltb}
-use Rattle.std.proofs.lemmas.List.{get_or-set_other}
-use Rattle.y86_base.specs.Registers.{register, with_register}
-use Rattle.y86_base.specs.declared.parts.Stat.{Stat}
-use Rattle.y86_base.specs.declared.parts.Stat.TheVariants.{Bub, Aok, Hlt, Adr, Ins, Pip, Bad}
+use Rattle.std.proofs.Common.{◌≡◌, ℕ, ◌+◌, ◌<◌, ◌≤◌, ◌⊎◌, inl, inr, Bool, true, false, cond, List, length, Option, Some, None, slice_get, refl}
+use Rattle.std.proofs.lemmas.Bool.{cases_lt}
 use Rattle.y86_base.specs.declared.parts.Variant.{Variant}
 use Rattle.y86_isa.specs.declared.machine.Machine.{Machine}
 use Rattle.y86_isa.specs.declared.machine.Rec.{Rec}
@@ -13,7 +8,7 @@ use Rattle.y86_isa.specs.declared.machine.Store.{Store}
 use Rattle.y86_isa.specs.Machine.{is_aok}
 use Rattle.y86_isa.specs.Blocks.{stored}
 use Rattle.y86_isa.specs.Work.{work}
-use Rattle.y86_isa.specs.Step.{finished, machine_after, record_of, step, advance, retired}
+use Rattle.y86_isa.specs.Step.{finished, record_of, step, advance, retired}
 use Rattle.y86_isa.specs.Run.{IsImage, IsStoredBy, IsInStore}
 use Rattle.y86_isa.proofs.Memories.{length-stored, IsImage-stored, get_or-put_word_other, length-put_word, same_byte}
 

@@ -1,6 +1,6 @@
 -- What the parts of a processor compute, on numbers and lists of bytes (CS:APP 3e, sections 4.1 and 4.3.2 to 4.3.4).
 -- An address is taken modulo 2^64; a truth that a block takes, such as need_regids, is one of its arguments.
-use Rattle.std.specs.Prelude.{◌≡◌, ℕ, ◌+◌, ◌-◌, ◌*◌, ◌/◌, ◌%◌, ◌^◌, Bool, true, false, ◌&&◌, ◌||◌, not, nat_lt, nat_le, ◌==◌, List, [], ◌∷◌, length, map, slice_get, Option, Some, None, unwrap_or, is_none, if◌then◌else◌, ℤ, pos, negsuc, ◌+ℤ◌, ◌-ℤ◌, bit_and, bit_xor}
+use Rattle.std.specs.Prelude.{ℕ, ◌+◌, ◌-◌, ◌/◌, ◌%◌, ◌^◌, Bool, true, false, ◌&&◌, ◌||◌, not, nat_lt, nat_le, ◌==◌, List, [], ◌∷◌, length, map, slice_get, Option, Some, None, unwrap_or, is_none, if◌then◌else◌, ℤ, pos, negsuc, ◌+ℤ◌, ◌-ℤ◌, bit_and, bit_xor}
 use Rattle.std.specs.Int.{from_le_bytes, w64, cast_signed}
 use Rattle.y86_base.specs.Image.{word_at, put_word}
 use Rattle.y86_base.specs.declared.parts.Flags.{Flags}

@@ -1,5 +1,5 @@
 -- The machine at the level of instructions, and the record of an instruction (CS:APP 3e, section 4.1.1).
-use Rattle.std.specs.Prelude.{ℕ, Bool, true, false, ◌&&◌, nat_lt, List, replicate, Option, None, if◌then◌else◌}
+use Rattle.std.specs.Prelude.{ℕ, Bool, true, false, ◌&&◌, nat_lt, List, replicate, None, if◌then◌else◌}
 use Rattle.y86_base.specs.declared.parts.Stat.{Stat}
 use Rattle.y86_base.specs.declared.parts.Stat.TheVariants.{Bub, Aok, Hlt, Adr, Ins, Pip, Bad}
 use Rattle.y86_isa.specs.declared.machine.Machine.{Machine}

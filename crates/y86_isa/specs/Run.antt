@@ -1,9 +1,10 @@
 -- Runs: the machine after n steps, and the records of these steps.
-use Rattle.std.specs.Prelude.{◌≡◌, ℕ, zero, suc, ◌+◌, ◌<◌, ◌≤◌, List, [], ◌++◌, length, All, Option, Some, None, slice_get, if◌then◌else◌}
+use Rattle.std.specs.Prelude.{◌≡◌, ℕ, zero, suc, ◌+◌, ◌^◌, ◌<◌, ◌≤◌, List, [], ◌++◌, length, All, Option, Some, None, slice_get, if◌then◌else◌}
 use Rattle.std.specs.Option.{option_to_list}
 use Rattle.y86_base.specs.Image.{IsSize}
 use Rattle.y86_base.specs.declared.parts.Stat.TheVariants.{Aok}
 use Rattle.y86_base.specs.declared.parts.Variant.{Variant}
+use Rattle.y86_isa.specs.declared.fetch.Fetched.{Fetched}
 use Rattle.y86_isa.specs.declared.machine.Machine.{Machine}
 use Rattle.y86_isa.specs.declared.machine.Rec.{Rec}
 use Rattle.y86_isa.specs.declared.machine.Store.{Store}
@@ -16,6 +17,20 @@ use Rattle.y86_isa.specs.Step.{advance, retired}
 pub record IsImage (image : List ℕ) : Type 0 where
   pub sized : IsSize (length image)
   pub bytes : All (λ byte. byte < 256) image
+
+-- a machine of the processor's sizes: 15 registers, words below 2^64, and a memory that is an image
+pub record IsMachine (m : Machine) : Type 0 where
+  pub memory : IsImage m.mem
+  pub registers : length m.regs ≡ 15
+  pub words : All (λ word. word < 2 ^ 64) m.regs
+  pub pc : m.pc < 2 ^ 64
+
+-- the register fields of a fetched instruction are halves of a byte, and its other numbers are words
+pub record FitsFields (f : Fetched) : Type 0 where
+  pub r_a : f.r_a ≤ 15
+  pub r_b : f.r_b ≤ 15
+  pub val_c : f.val_c < 2 ^ 64
+  pub val_p : f.val_p < 2 ^ 64
 
 -- the machine n steps later
 unfoldable pub run_from : Variant → Machine → ℕ → Machine

@@ -1,7 +1,6 @@
 -- One instruction, through all that it reads and computes (CS:APP 3e, section 4.3.1 and figures 4.18 to 4.21).
-use Rattle.std.specs.Prelude.{ℕ, Bool, Option, if◌then◌else◌}
+use Rattle.std.specs.Prelude.{if◌then◌else◌}
 use Rattle.y86_base.specs.Registers.{register}
-use Rattle.y86_base.specs.declared.parts.Stat.{Stat}
 use Rattle.y86_base.specs.declared.parts.Stat.TheVariants.{Adr}
 use Rattle.y86_base.specs.declared.parts.Variant.{Variant}
 use Rattle.y86_isa.specs.declared.columns.Row.{Row}

@@ -1,5 +1,6 @@
 //! Theorems about steps and runs. Each is a function that does nothing and whose contract is the theorem.
-ghost use Rattle.std.specs.Prelude.{◌≡◌, ◌≢◌, ℕ, ◌+◌, ◌^◌, ◌<◌, ◌≤◌, List, [], ◌++◌, length, slice_get, None};
+ghost use Rattle.std.specs.Prelude.{◌≡◌, ◌≢◌, ℕ, ◌+◌, ◌^◌, ◌<◌, ◌≤◌, Bool, IsTrue, if◌then◌else◌, List, [], ◌++◌, length, slice_get, None};
+ghost use Rattle.std.specs.List.{list_all};
 ghost use Rattle.std.specs.Option.{option_to_list};
 ghost use Rattle.y86_base.specs.Image.{IsSize};
 ghost use Rattle.y86_base.specs.declared.parts.Stat.TheVariants.{Aok};
@@ -7,11 +8,23 @@ ghost use Rattle.y86_base.specs.declared.parts.Variant.{Variant};
 ghost use Rattle.y86_isa.specs.Blocks.{fetched};
 ghost use Rattle.y86_isa.specs.Encoding.{Holds, IsValid, encoded, fields_of, widest};
 ghost use Rattle.y86_isa.specs.Laws.{ChangesOneRegister, FallsThrough, KeepsFlags};
-ghost use Rattle.y86_isa.specs.Run.{IsImage, IsStoredBy, Pure, SameFetch, records_from, run_from};
+ghost use Rattle.y86_isa.specs.Machine.{start};
+ghost use Rattle.y86_isa.specs.Run.{FitsFields, IsImage, IsMachine, IsStoredBy, Pure, SameFetch, records_from, run_from};
 ghost use Rattle.y86_isa.specs.Step.{advance, retired};
-ghost use Rattle.y86_isa.specs.Table.{row};
+ghost use Rattle.y86_isa.specs.Table.{dash_row, row, rows};
+ghost use Rattle.y86_isa.specs.declared.columns.Row.{Row};
 ghost use Rattle.y86_isa.specs.declared.encoding.Instr.{Instr};
 ghost use Rattle.y86_isa.specs.declared.machine.Machine.{Machine};
+
+/// What holds of every row, that of dashes included, holds of the row of each icode; an icode that has no row has
+/// that of dashes. The length of an instruction is that of its parts.
+pub fn law_of_rows()
+    ensures every { (p : Row → Bool) (v : Variant) (icode : ℕ) → IsTrue (list_all p (rows v)) →
+        IsTrue (p dash_row) → IsTrue (p (row v icode)) }
+    ensures unknown { (v : Variant) (icode : ℕ) → length (rows v) ≤ icode → row v icode ≡ dash_row }
+    ensures length { (v : Variant) (icode : ℕ) → (row v icode).length
+        ≡ 1 + (if (row v icode).has_byte then 1 else 0) + (if (row v icode).has_const then 8 else 0) }
+{}
 
 /// What one step may change. At most one register beside `%rsp`; of the memory, the 8 bytes of the record's
 /// store and nothing else; the flags by an OPq alone. The PC moves behind the instruction unless that is a halt,
@@ -54,6 +67,15 @@ pub fn law_of_images()
     ensures image { (v : Variant) (m : Machine) (n : ℕ) → IsImage m.mem → IsImage (run_from v m n).mem }
     ensures size { (v : Variant) (m : Machine) (n : ℕ) → length (run_from v m n).mem ≡ length m.mem }
     ensures pure { (v : Variant) (image : List ℕ) (n k : ℕ) → k ≤ n → Pure v image n → Pure v image k }
+{}
+
+/// A machine that starts on an image has 15 registers, words below 2^64 and an image for its memory; so has every
+/// machine of its run. What is fetched from an image are halves of bytes and words.
+pub fn law_of_machines()
+    ensures start { (image : List ℕ) → IsImage image → IsMachine (start image) }
+    ensures run { (v : Variant) (m : Machine) (n : ℕ) → IsMachine m → IsMachine (run_from v m n) }
+    ensures fetched { (v : Variant) (memory : List ℕ) (pc : ℕ) → IsImage memory →
+        FitsFields (fetched v memory pc) }
 {}
 
 /// What is fetched depends on nothing but the fetched bytes and the size of the memory.
