@@ -5,7 +5,7 @@ ghost use Rattle.std.specs.Option.{option_copied, option_map};
 ghost use Rattle.std.specs.Str.{bytes_eq};
 ghost use Rattle.wb_io.specs.Causes.{counted};
 ghost use Rattle.wb_io.specs.Files.{HasMore};
-ghost use Rattle.wb_io.specs.Shelves.{with_fault, file_of, bytes_of, count_of, share_count, read_fails};
+ghost use Rattle.wb_io.specs.Directories.{with_fault, file_of, bytes_of, count_of, share_count, read_fails};
 
 use crate::counts::{is_among, one_more};
 use crate::files::{Files, ReadErr};
@@ -22,7 +22,7 @@ pub(crate) struct MemFile {
 }
 
 impl Model for MemFile {
-    ghost use Rattle.wb_io.specs.Shelves.{File};
+    ghost use Rattle.wb_io.specs.Directories.{File};
 
     ghost Value = { File };
 
@@ -105,9 +105,9 @@ pub struct MemFiles {
 impl Model for MemFiles {
     ghost use Rattle.std.specs.Prelude.{map};
     ghost use Rattle.std.specs.String.{string_bytes};
-    ghost use Rattle.wb_io.specs.Shelves.{Shelf};
+    ghost use Rattle.wb_io.specs.Directories.{Directory};
 
-    ghost Value = { Shelf };
+    ghost Value = { Directory };
 
     ghost view = { λ s. record {
       files = map (λ entry. (string_bytes entry.0, entry.1)) s.files.entries;
@@ -144,7 +144,8 @@ impl MemFiles {
         self.files.get(name)
     }
 
-    fn count(&self, name: &str) -> u64
+    /// How many reads of a name failed, with those of the names that share its count.
+    pub(crate) fn count(&self, name: &str) -> u64
         ensures { result ≡ count_of self.now name.now }
     {
         match self.file(name) {
@@ -195,9 +196,9 @@ impl MemFiles {
 }
 
 impl Files for MemFiles {
-    ghost told = { λ shelf name. Some (bytes_of shelf name) };
+    ghost told = { λ directory name. Some (bytes_of directory name) };
 
-    ghost faults = { λ shelf name. count_of shelf name };
+    ghost faults = { λ directory name. count_of directory name };
 
     fn read(&mut self, alloc: Global, name: &str, limit: u64) -> Result<Vec<u8>, ReadErr>
         ensures failed { (result ≡ Err ReadErr.Failed) ↔ IsTrue (read_fails self.old name.now) }

@@ -1,6 +1,6 @@
 ghost use Rattle.std.specs.Prelude.{◌≡◌, ◌≢◌, ◌<◌, ◌≤◌, [], length, Some, false, IfOk, IsErrOf};
-ghost use Rattle.wb_io.specs.Rooms.{kept_after, told_of};
-ghost use Rattle.wb_io.specs.Shelves.{bytes_or_none};
+ghost use Rattle.wb_io.specs.Buffers.{after_write, told_of};
+ghost use Rattle.wb_io.specs.Directories.{bytes_or_none};
 
 use crate::files::{Files, ReadErr};
 use crate::memory_files::MemFiles;
@@ -16,9 +16,9 @@ pub struct SureFiles {
 }
 
 impl Model for SureFiles {
-    ghost use Rattle.wb_io.specs.Shelves.{Shelf};
+    ghost use Rattle.wb_io.specs.Directories.{Directory};
 
-    ghost Value = { Shelf };
+    ghost Value = { Directory };
 
     ghost view = { λ s. s.files };
 }
@@ -32,9 +32,9 @@ impl SureFiles {
 }
 
 impl Files for SureFiles {
-    ghost told = { λ shelf name. Some (Some (bytes_or_none shelf name)) };
+    ghost told = { λ directory name. Some (Some (bytes_or_none directory name)) };
 
-    ghost faults = { λ shelf name. 0 };
+    ghost faults = { λ directory name. 0 };
 
     fn read(&mut self, alloc: Global, name: &str, limit: u64) -> Result<Vec<u8>, ReadErr>
         ensures never_failed { result ≢ Err ReadErr.Failed }
@@ -61,9 +61,9 @@ pub struct SureSink<'a> {
 
 impl<'a> Model for SureSink<'a> {
     ghost use Rattle.std.specs.Prelude.{◌-◌, ◌≤◌, length, take};
-    ghost use Rattle.wb_io.specs.Rooms.{Kept};
+    ghost use Rattle.wb_io.specs.Buffers.{DroppingBuffer};
 
-    ghost Value = { Kept };
+    ghost Value = { DroppingBuffer };
 
     ghost view = { λ sink. record {
       kept = take sink.used sink.room.now;
@@ -100,7 +100,7 @@ impl<'a> Sink for SureSink<'a> {
 
     fn write(&mut self, piece: &[u8]) -> Result<usize, Failed>
         ensures takes_all { result ≡ Ok (length piece.now) }
-        ensures keeps_what_fits { self.new ≡ kept_after self.old piece.now }
+        ensures keeps_what_fits { self.new ≡ after_write self.old piece.now }
     {
         let count = piece.len().min(self.room.len() - self.used);
         let end = self.used + count;
