@@ -7,7 +7,10 @@ use std::alloc::Global;
 use std::io::{ErrorKind, Read, Write};
 use std::{fs, io, rt};
 
-/// The files of the system. It tells no contents, and has one count for all names.
+/// The files of the system, under the names that the system knows them by.
+///
+/// It tells no contents, and has one count of faults for all names. A read that the system refused for want of
+/// memory is `Memory`, and any other refusal is a counted fault.
 #[derive(Drop)]
 pub struct HostFiles<'a, R> {
     runtime: &'a R,
@@ -15,6 +18,7 @@ pub struct HostFiles<'a, R> {
 }
 
 impl<'a, R: rt::Files> HostFiles<'a, R> {
+    /// The files that the runtime reaches; no read has failed yet.
     pub fn new(runtime: &'a R) -> HostFiles<'a, R>
         ensures { (name : List ℕ) → ⟦<HostFiles<'a, R> as Files>⟧.faults result name ≡ 0 }
     {
@@ -71,6 +75,7 @@ pub struct HostSink<W> {
 }
 
 impl<W: Write> HostSink<W> {
+    /// A sink over a writer; no write has failed yet.
     pub fn new(writer: W) -> HostSink<W>
         ensures { ⟦<HostSink<W> as Sink>⟧.faults result ≡ 0 }
     {
