@@ -4,10 +4,10 @@ use crate::{
     Failed, Files, HostFiles, HostSink, MemFiles, MemSink, ReadErr, Sink, SureFiles, SureSink,
     put_all, put_pieces,
 };
-use std::fs;
-use std::io::Cursor;
+use std::io::{Cursor, Write};
 use std::process::Abort;
 use std::test::Fail;
+use std::{fs, io};
 
 struct Read {
     name: &'static str,
@@ -253,6 +253,20 @@ fn sinks_in_memory(rt: HostRuntime) -> Result<(), Fail> {
     Ok(())
 }
 
+/// Takes every byte, and can't be flushed.
+#[derive(Drop)]
+struct Unflushed;
+
+impl Write for Unflushed {
+    fn write(&mut self, buf: &[u8]) -> io::Result<usize> {
+        Ok(buf.len())
+    }
+
+    fn flush(&mut self) -> io::Result<()> {
+        Err(io::Error::from(io::ErrorKind::Other))
+    }
+}
+
 static REAL: [Read; 5] = [
     Read {
         name: "input",
@@ -290,6 +304,9 @@ fn the_host(rt: HostRuntime) -> Result<(), Fail> {
     assert!(rt; put_pieces(&mut out, &[b"standard", b"", b" output\n"]).is_ok());
     let mut err = HostSink::new(rt.stderr());
     assert!(rt; put_all(&mut err, b"standard error\n").is_ok());
+
+    let mut unflushed = HostSink::new(Unflushed);
+    assert!(rt; put_all(&mut unflushed, b"a").is_err());
 
     // a writer that is full takes no byte
     let mut full = HostSink::new(Cursor::new([0u8; 3]));
