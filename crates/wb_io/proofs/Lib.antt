@@ -1,2 +1,3 @@
+pub mod Rises
+pub mod Directories
 pub mod Writes
-pub mod Shelving

@@ -49,15 +49,15 @@ pub took_next : (first second third : Option (List ℕ)) (text : List ℕ) (at n
 took_next first second third text at n p q =
     rw (take-add at n text) (took_more first second third (take at text) (take n (drop at text)) p (rw take_rest at q))
 
-pub joined-append : (front back : List (Bor (List ℕ))) → joined (front ++ back) ≡ joined front ++ joined back
-joined-append [] back = refl
-joined-append (piece ∷ front) back = rw (joined-append front back) (sym (append_assoc piece.now (joined front) (joined back)))
+pub joined_append : (front back : List (Bor (List ℕ))) → joined (front ++ back) ≡ joined front ++ joined back
+joined_append [] back = refl
+joined_append (piece ∷ front) back = rw (joined_append front back) (sym (append_assoc piece.now (joined front) (joined back)))
 
 -- the first pieces and one more
 pub joined_more : (pieces : List (Bor (List ℕ))) (i : ℕ) (d : Bor (List ℕ)) → i < length pieces →
     joined (take (i + 1) pieces) ≡ joined (take i pieces) ++ (get_or pieces i d).now
 joined_more pieces i d h =
-    ap joined (take_more pieces i d h) ∙ joined-append (take i pieces) (get_or pieces i d ∷ []) ∙ ap (λ text. joined (take i pieces) ++ text) (sym (append_none (get_or pieces i d).now))
+    ap joined (take_more pieces i d h) ∙ joined_append (take i pieces) (get_or pieces i d ∷ []) ∙ ap (λ text. joined (take i pieces) ++ text) (sym (append_none (get_or pieces i d).now))
 
 -- the first pieces whole, and then the next
 pub took_piece : (first second third : Option (List ℕ)) (pieces : List (Bor (List ℕ))) (i : ℕ) (d : Bor (List ℕ)) → i < length pieces →
@@ -71,5 +71,5 @@ pub part_piece : (first second third : Option (List ℕ)) (pieces : List (Bor (L
     Took first second (joined (take i pieces)) → TookPart second third (get_or pieces i d).now → TookPart first third (joined pieces)
 part_piece first second third pieces i d h p q =
     let P : List ℕ → Type 0 = λ text. TookPart first third text in
-    let whole : joined (take (i + 1) pieces) ++ joined (drop (i + 1) pieces) ≡ joined pieces = sym (joined-append (take (i + 1) pieces) (drop (i + 1) pieces)) ∙ ap joined (take-append-drop (i + 1) pieces) in
+    let whole : joined (take (i + 1) pieces) ++ joined (drop (i + 1) pieces) ≡ joined pieces = sym (joined_append (take (i + 1) pieces) (drop (i + 1) pieces)) ∙ ap joined (take-append-drop (i + 1) pieces) in
     subst P whole (part_more first third _ (joined (drop (i + 1) pieces)) (subst P (sym (joined_more pieces i d h)) (part_after first second third _ _ p q)))

@@ -1,4 +1,6 @@
-ghost use Rattle.std.specs.Prelude.{◌≡◌, ◌<◌, ◌≤◌, List, ℕ, length, None, IfSome};
+ghost use Rattle.std.specs.Prelude.{◌≡◌, ◌≢◌, ◌<◌, ◌≤◌, ◌↔◌, List, ℕ, length, take, None, IfSome, IfOk, IsErrOf};
+ghost use Rattle.std.specs.Io.KnownBytes.{Appends};
+ghost use Rattle.std.specs.IoError.{error_kind};
 
 use crate::counts::one_more;
 use crate::files::{Files, ReadErr};
@@ -7,7 +9,10 @@ use std::alloc::Global;
 use std::io::{ErrorKind, Read, Write};
 use std::{fs, io, rt};
 
-/// The files of the system. It tells no contents, and has one count for all names.
+/// The files of the system, under the names that the system knows them by.
+///
+/// It tells no contents, and has one count of faults for all names. A read that the system refused for want of
+/// memory is `Memory`, and any other refusal is a counted fault.
 #[derive(Drop)]
 pub struct HostFiles<'a, R> {
     runtime: &'a R,
@@ -15,6 +20,7 @@ pub struct HostFiles<'a, R> {
 }
 
 impl<'a, R: rt::Files> HostFiles<'a, R> {
+    /// The files that the runtime reaches; no read has failed yet.
     pub fn new(runtime: &'a R) -> HostFiles<'a, R>
         ensures { (name : List ℕ) → ⟦<HostFiles<'a, R> as Files>⟧.faults result name ≡ 0 }
     {
@@ -22,17 +28,58 @@ impl<'a, R: rt::Files> HostFiles<'a, R> {
     }
 }
 
-/// The bytes of a file, but no more than one over the limit.
-fn read_up_to<R: rt::Files>(
+/// Whether an error is want of memory, or else a failed read.
+fn cause_of(error: &io::Error) -> ReadErr
+    ensures memory { (result ≡ ReadErr.Memory) ↔ (error_kind error.now ≡ ErrorKind.OutOfMemory) }
+    ensures failed { (result ≡ ReadErr.Failed) ↔ (error_kind error.now ≢ ErrorKind.OutOfMemory) }
+{
+    if error.kind() == ErrorKind::OutOfMemory {
+        ReadErr::Memory
+    } else {
+        ReadErr::Failed
+    }
+}
+
+/// The first bytes of a reader: all of them, or `most` where there are more.
+fn first_bytes<R: Read + Drop>(reader: R, alloc: Global, most: u64) -> io::Result<Vec<u8>>
+    ensures { IfOk result (λ bytes. IfSome (R.remaining reader) (λ left. bytes.items ≡ take most left)) }
+{
+    let mut bytes = Vec::new(alloc);
+    reader.take(most).read_to_end(&mut bytes)?;
+    Ok(bytes)
+}
+
+/// All bytes of a reader, where there are at most `limit`.
+fn all_bytes<R: Read + Drop>(reader: R, alloc: Global, limit: u64) -> Result<Vec<u8>, ReadErr>
+    ensures bytes { IfOk result (λ bytes. IfSome (R.remaining reader) (λ left. bytes.items ≡ left)) }
+    ensures limit { IfOk result (λ bytes. length bytes.items ≤ limit) }
+    ensures too_long { IsErrOf result ReadErr.TooLong
+        → IfSome (R.remaining reader) (λ left. limit < length left) }
+{
+    match first_bytes(reader, alloc, limit.saturating_add(1)) {
+        Ok(bytes) => {
+            if bytes.len() as u64 > limit {
+                return Err(ReadErr::TooLong);
+            }
+            Ok(bytes)
+        }
+        Err(error) => Err(cause_of(&error)),
+    }
+}
+
+/// All bytes of a file of the system, where there are at most `limit`.
+fn file_bytes<R: rt::Files>(
     runtime: &R,
     alloc: Global,
     name: &str,
     limit: u64,
-) -> io::Result<Vec<u8>> {
-    let mut bytes = Vec::new(alloc);
-    let mut file = fs::open(runtime, name)?.take(limit.saturating_add(1));
-    file.read_to_end(&mut bytes)?;
-    Ok(bytes)
+) -> Result<Vec<u8>, ReadErr>
+    ensures { IfOk result (λ bytes. length bytes.items ≤ limit) }
+{
+    match fs::open(runtime, name) {
+        Ok(file) => all_bytes(file, alloc, limit),
+        Err(error) => Err(cause_of(&error)),
+    }
 }
 
 impl<'a, R: rt::Files> Files for HostFiles<'a, R> {
@@ -41,21 +88,12 @@ impl<'a, R: rt::Files> Files for HostFiles<'a, R> {
     ghost faults = { λ files name. files.faults };
 
     fn read(&mut self, alloc: Global, name: &str, limit: u64) -> Result<Vec<u8>, ReadErr> {
-        match read_up_to(self.runtime, alloc, name, limit) {
-            Ok(bytes) => {
-                if bytes.len() as u64 > limit {
-                    Err(ReadErr::TooLong)
-                } else {
-                    Ok(bytes)
-                }
-            }
-            Err(e) => {
-                if e.kind() == ErrorKind::OutOfMemory {
-                    return Err(ReadErr::Memory);
-                }
+        match file_bytes(self.runtime, alloc, name, limit) {
+            Err(ReadErr::Failed) => {
                 self.faults = one_more(self.faults);
                 Err(ReadErr::Failed)
             }
+            answer => answer,
         }
     }
 }
@@ -71,6 +109,7 @@ pub struct HostSink<W> {
 }
 
 impl<W: Write> HostSink<W> {
+    /// A sink over a writer; no write has failed yet.
     pub fn new(writer: W) -> HostSink<W>
         ensures { ⟦<HostSink<W> as Sink>⟧.faults result ≡ 0 }
     {
@@ -83,6 +122,8 @@ impl<W: Write> HostSink<W> {
 fn write_and_flush<W: Write>(writer: &mut W, piece: &[u8]) -> Option<usize>
     ensures within { IfSome result (λ n. n ≤ length piece.now) }
     ensures progress { IfSome result (λ n. 0 < length piece.now → 0 < n) }
+    ensures appends { IfSome result
+        (λ n. Appends (W.contents writer.old) (W.contents writer.new) (take n piece.now)) }
 {
     match writer.write(piece) {
         Ok(count) if count > 0 || piece.is_empty() => match writer.flush() {

@@ -16,3 +16,6 @@ pub use memory_files::MemFiles;
 pub use memory_sink::MemSink;
 pub use sinks::{Failed, Sink, put_all, put_pieces};
 pub use sure::{SureFiles, SureSink};
+
+#[cfg(test)]
+mod tests;

@@ -1,6 +1,6 @@
 ghost use Rattle.std.specs.Prelude.{◌≡◌, ◌-◌, ◌≤◌, min, max, [], ◌++◌, take, length, is_err, Some, IfOk, OnOk, OnErr};
 ghost use Rattle.wb_io.specs.Causes.{counted};
-ghost use Rattle.wb_io.specs.Rooms.{refuses};
+ghost use Rattle.wb_io.specs.Buffers.{refuses};
 
 use crate::counts::{is_among, one_more};
 use crate::sinks::{Failed, Sink};
@@ -22,9 +22,9 @@ pub struct MemSink {
 
 impl Model for MemSink {
     ghost use Rattle.std.specs.Prelude.{◌+◌, ◌≤◌, vec_len, vec_capacity};
-    ghost use Rattle.wb_io.specs.Rooms.{Room};
+    ghost use Rattle.wb_io.specs.Buffers.{Buffer};
 
-    ghost Value = { Room };
+    ghost Value = { Buffer };
 
     ghost view = { λ sink. record {
       taken = sink.bytes.items;

@@ -2,7 +2,7 @@
 use Rattle.std.specs.Prelude.{ℕ, ◌-◌, Bool, ◌||◌, ◌&&◌, ◌==◌, not, nat_lt, List, ◌++◌, length, take, Option, Some, None, if◌then◌else◌}
 use Rattle.std.specs.List.{list_any}
 
-pub record Room : Type 0 where
+pub record Buffer : Type 0 where
   -- all bytes that it has taken
   pub taken : List ℕ
   -- how many bytes it can still take
@@ -15,11 +15,11 @@ pub record Room : Type 0 where
   pub faults : ℕ
 
 -- the next write fails: its number is one of those that fail, or its piece is not empty and no room is left
-abbrev pub refuses : Room → List ℕ → Bool
-refuses room piece = list_any (λ n. n == room.writes) room.fail || (not (length piece == 0) && room.left == 0)
+abbrev pub refuses : Buffer → List ℕ → Bool
+refuses sink piece = list_any (λ n. n == sink.writes) sink.fail || (not (length piece == 0) && sink.left == 0)
 
 -- a sink that keeps what fits its room, and drops the rest
-pub record Kept : Type 0 where
+pub record DroppingBuffer : Type 0 where
   -- the bytes that fitted
   pub kept : List ℕ
   -- how many bytes still fit
@@ -28,12 +28,12 @@ pub record Kept : Type 0 where
   pub dropped : Bool
 
 -- what it tells: the bytes that it took, until some are dropped
-abbrev pub told_of : Kept → Option (List ℕ)
+abbrev pub told_of : DroppingBuffer → Option (List ℕ)
 told_of sink = if sink.dropped then None else Some sink.kept
 
 -- the sink after the write of a piece
-abbrev pub kept_after : Kept → List ℕ → Kept
-kept_after sink piece = record {
+abbrev pub after_write : DroppingBuffer → List ℕ → DroppingBuffer
+after_write sink piece = record {
   kept = sink.kept ++ take sink.left piece;
   left = sink.left - length piece;
   dropped = sink.dropped || nat_lt sink.left (length piece);
