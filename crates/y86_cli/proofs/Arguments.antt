@@ -1,10 +1,12 @@
 -- The arguments of words, one by one.
-use Rattle.std.proofs.Common.{◌≡◌, ℕ, ◌<◌, ◌≤◌, Bool, true, false, nat_eq, List, [], ◌∷◌, ◌++◌, length, map, inl, inr, refl, sym, ap, append_assoc, length-append, Option, Some, None, arith}
+use Rattle.std.proofs.Common.{◌≡◌, ℕ, ◌<◌, ◌≤◌, Bool, true, false, nat_eq, List, [], ◌∷◌, ◌++◌, length, map, inl, inr, refl, sym, ap, subst, append_assoc, append-nil, length-append, lit≤, Option, Some, None, arith}
 use Rattle.std.specs.Prelude.{string_bytes, String}
 use Rattle.std.specs.Global.{Global}
 use Rattle.std.specs.List.{starts_with}
 use Rattle.y86_cli.specs.Words.{Argument, place, memory, limit, is_option, option_of, place_of, arguments, in_front, places, memories, limits}
-use Rattle.y86_cli.specs.Read.{HasTwo}
+use Rattle.std.specs.Borrow.{Bor}
+use Rattle.y86_cli.specs.declared.cmd.Found as code_found
+use Rattle.y86_cli.specs.Read.{HasTwo, IsFound}
 
 pub option_alone : (name : List ℕ) (behind : List (String Global)) → is_option name ≡ true → length behind ≡ 0 → arguments (name ∷ map string_bytes behind) ≡ None
 unfolding arguments
@@ -65,3 +67,56 @@ pub HasTwo-append : (xs ys : List Argument) → HasTwo xs → HasTwo (xs ++ ys)
 HasTwo-append xs ys (inl h) = inl (rw (places-append xs ys) (omega (arith, length-append (places xs) (places ys), h)))
 HasTwo-append xs ys (inr (inl h)) = inr (inl (rw (memories-append xs ys) (omega (arith, length-append (memories xs) (memories ys), h))))
 HasTwo-append xs ys (inr (inr h)) = inr (inr (rw (limits-append xs ys) (omega (arith, length-append (limits xs) (limits ys), h))))
+
+-- one more argument of a kind that isn't found yet, and one of a kind that is
+pub one_more_place : (done : List Argument) (found : code_found.Found) (word : Bor (List ℕ)) → found.place ≡ None → IsFound done found →
+    IsFound (done ++ (place word.now ∷ [])) (record found { place = Some word })
+one_more_place done found word none f = record {
+  place = rw (places-append done (place word.now ∷ []), f.place, none) refl;
+  memory = rw memories-append (simp append-nil f.memory);
+  limit = rw limits-append (simp append-nil f.limit);
+}
+
+pub one_more_memory : (done : List Argument) (found : code_found.Found) (n : ℕ) → found.memory ≡ None → IsFound done found →
+    IsFound (done ++ (memory n ∷ [])) (record found { memory = Some n })
+one_more_memory done found n none f = record {
+  place = rw places-append (simp append-nil f.place);
+  memory = rw (memories-append done (memory n ∷ []), f.memory, none) refl;
+  limit = rw limits-append (simp append-nil f.limit);
+}
+
+pub one_more_limit : (done : List Argument) (found : code_found.Found) (n : ℕ) → found.limit ≡ None → IsFound done found →
+    IsFound (done ++ (limit n ∷ [])) (record found { limit = Some n })
+one_more_limit done found n none f = record {
+  place = rw places-append (simp append-nil f.place);
+  memory = rw memories-append (simp append-nil f.memory);
+  limit = rw (limits-append done (limit n ∷ []), f.limit, none) refl;
+}
+
+pub second_place : (done : List Argument) (found : code_found.Found) (word : List ℕ) (old : Bor (List ℕ)) → found.place ≡ Some old → IsFound done found →
+    HasTwo (done ++ (place word ∷ []))
+second_place done found word old some f = inl (rw (places-append done (place word ∷ []), f.place, some) (lit≤ tt))
+
+pub second_memory : (done : List Argument) (found : code_found.Found) (n old : ℕ) → found.memory ≡ Some old → IsFound done found →
+    HasTwo (done ++ (memory n ∷ []))
+second_memory done found n old some f = inr (inl (rw (memories-append done (memory n ∷ []), f.memory, some) (lit≤ tt)))
+
+pub second_limit : (done : List Argument) (found : code_found.Found) (n old : ℕ) → found.limit ≡ Some old → IsFound done found →
+    HasTwo (done ++ (limit n ∷ []))
+second_limit done found n old some f = inr (inr (rw (limits-append done (limit n ∷ []), f.limit, some) (lit≤ tt)))
+
+-- the arguments of all words, by those that were read and those of the words that are left
+pub two_refused : (all front rest : Option (List Argument)) (done : List Argument) (argument : Argument) → all ≡ in_front_all done front →
+    front ≡ in_front (Some argument) rest → HasTwo (done ++ (argument ∷ [])) → (found : List Argument) → all ≡ Some found → HasTwo found
+two_refused all front None done argument e f two found g = absurd (cc (e, f, g))
+two_refused all front (Some rest) done argument e f two found g =
+    let same : (done ++ (argument ∷ [])) ++ rest ≡ found = cc (e, f, g, in_front_all-more done argument (Some rest)) in
+    subst HasTwo same (HasTwo-append (done ++ (argument ∷ [])) rest two)
+
+pub all_read : (all front : Option (List Argument)) (done : List Argument) → all ≡ in_front_all done front → front ≡ Some [] → all ≡ Some done
+all_read all front done e f = rw (e, f, append-nil) refl
+
+pub no_words : (words : List (String Global)) → length words ≡ 0 → arguments (map string_bytes words) ≡ Some []
+unfolding arguments
+no_words [] none = refl
+no_words (word ∷ words) none = absurd (omega arith)

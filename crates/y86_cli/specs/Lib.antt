@@ -1,2 +1,5 @@
 pub mod Words
 pub mod Read
+pub mod Answer
+pub mod Stops
+pub mod Reads

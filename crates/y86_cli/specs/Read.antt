@@ -1,9 +1,10 @@
 -- What the reader of the words keeps, against their definitions.
-use Rattle.std.specs.Prelude.{◌≡◌, ◌⊎◌, ◌≤◌, ℕ, List, [], ◌∷◌, ◌++◌, length, map, string_bytes, Option, Some, None, MatchOption}
-use Rattle.std.specs.Option.{option_copied, option_to_list}
+use Rattle.std.specs.Prelude.{◌≡◌, ◌⊎◌, ◌≤◌, ℕ, List, [], ◌∷◌, ◌++◌, length, map, string_bytes, Option, Some, None, MatchOption, unwrap_or}
+use Rattle.std.specs.Option.{option_copied, option_map, option_to_list}
 use Rattle.std.specs.declared.string.String.{String}
 use Rattle.std.specs.declared.alloc.Global.{Global}
 use Rattle.std.specs.Borrow.{Bor}
+use Rattle.y86_base.specs.declared.parts.Variant.TheVariants.{Base}
 use Rattle.y86_cli.specs.declared.cmd.Argument as code
 use Rattle.y86_cli.specs.declared.cmd.Argument.TheVariants as code_variants
 use Rattle.y86_cli.specs.declared.cmd.Found as code_found
@@ -52,4 +53,8 @@ ReadsArguments words (Some found) = (done : List Argument) × (arguments words �
 
 -- the command that the code answers
 abbrev pub command_in : code_command.Cmd → Command
-command_in (code_commands.Yis object size steps variant) = yis object.now size steps
+command_in (code_commands.Yis object size steps variant) = yis object.now size steps variant
+
+-- `yis` with the arguments that were found
+abbrev pub yis_found : code_found.Found → Option Command
+yis_found found = option_map (λ object. yis object.now (unwrap_or found.memory 8192) (unwrap_or found.limit 10000) Base) found.place

@@ -4,6 +4,8 @@ use Rattle.std.specs.List.{list_all, starts_with}
 use Rattle.std.specs.Option.{option_map}
 use Rattle.std.specs.Str.{bytes_eq}
 use Rattle.y86_base.specs.Text.{is_decimal}
+use Rattle.y86_base.specs.declared.parts.Variant.{Variant}
+use Rattle.y86_base.specs.declared.parts.Variant.TheVariants.{Base}
 
 -- ---- numbers
 
@@ -99,15 +101,17 @@ at_most_one default (x ∷ y ∷ rest) = None
 -- ---- commands
 
 pub data Command : Type 0 where
-  -- run an object file at the level of instructions: its name, the size of the memory in bytes, the limit of steps
-  yis : List ℕ → ℕ → ℕ → Command
+  -- run an object file at the level of instructions: its name, the size of the memory in bytes, the limit of steps, the instruction set
+  yis : List ℕ → ℕ → ℕ → Variant → Command
+
+-- `yis` with an object file, a size and a limit, where there are all of them
+abbrev pub yis_with : Option (List ℕ) → Option ℕ → Option ℕ → Option Command
+yis_with (Some object) (Some size) (Some steps) = Some (yis object size steps Base)
+yis_with _ _ _ = None
 
 -- `yis OBJ`, with `--mem N` (8192 where absent) and `--limit N` (10000 where absent), each at most once
 abbrev pub yis_of : List Argument → Option Command
-yis_of found =
-    option_and_then (λ object.
-    option_and_then (λ size.
-    option_map (λ steps. yis object size steps) (at_most_one 10000 (limits found))) (at_most_one 8192 (memories found))) (the_one (places found))
+yis_of found = yis_with (the_one (places found)) (at_most_one 8192 (memories found)) (at_most_one 10000 (limits found))
 
 -- the command that words are, if any
 unfoldable pub form_of : List (List ℕ) → Option Command
@@ -116,4 +120,4 @@ form_of (name ∷ rest) = if bytes_eq name (codes "yis") then option_and_then yi
 
 -- the file names in the words of a command, in their order
 abbrev pub names_of : Command → List (List ℕ)
-names_of (yis object size steps) = object ∷ []
+names_of (yis object size steps variant) = object ∷ []

@@ -2,7 +2,8 @@ ghost use Rattle.std.specs.Prelude.{◌≡◌, ◌<◌, ◌≤◌, ◌∷◌, If
 ghost use Rattle.std.specs.List.{list_all};
 ghost use Rattle.y86_base.specs.Text.{is_decimal};
 ghost use Rattle.std.specs.Option.{option_map};
-ghost use Rattle.y86_cli.specs.Read.{argument_in, command_in, FirstArgument, ReadsArguments, split_in, WithArgument};
+ghost use Rattle.std.specs.Str.{bytes_eq};
+ghost use Rattle.y86_cli.specs.Read.{argument_in, command_in, FirstArgument, ReadsArguments, split_in, WithArgument, yis_found};
 ghost use Rattle.y86_cli.specs.Words as spec;
 
 use y86_base::Variant;
@@ -193,7 +194,27 @@ pub enum Cmd<'a> {
     },
 }
 
+fn is_word(word: &String, text: &str) -> bool
+    ensures { result ≡ bytes_eq (string_bytes word.now) text.now }
+{
+    word.as_str() == text
+}
+
+/// `yis` with its arguments, where they name an object file.
+fn yis<'a>(found: Found<'a>) -> Option<Cmd<'a>>
+    ensures { option_map command_in result ≡ yis_found found.entry }
+{
+    let obj = found.place?;
+    Some(Cmd::Yis {
+        obj,
+        mem: found.memory.unwrap_or(8192),
+        limit: found.limit.unwrap_or(10000),
+        variant: Variant::Base,
+    })
+}
+
 /// The command that the words behind the program's own name are.
+#[tactic(auto, using(crate::proofs::Forms::no_words_no_form, crate::proofs::Forms::other_name_no_form, crate::proofs::Forms::no_arguments_no_form, crate::proofs::Forms::no_object_no_form, crate::proofs::Forms::yis_form))]
 pub fn words<'a>(words: &'a [String]) -> Result<Cmd<'a>, Usage>
     ensures command { IfOk result (λ command. spec.form_of (map string_bytes words.now) ≡ Some (command_in command)) }
     ensures usage { OnErr result (spec.form_of (map string_bytes words.now) ≡ None) }
@@ -201,19 +222,14 @@ pub fn words<'a>(words: &'a [String]) -> Result<Cmd<'a>, Usage>
     let Some((name, rest)) = words.split_first() else {
         return Err(Usage);
     };
-    if name.as_str() != "yis" {
+    if !is_word(name, "yis") {
         return Err(Usage);
     }
-    let Some(found) = found_in(rest) else {
-        return Err(Usage);
-    };
-    let Some(obj) = found.place else {
-        return Err(Usage);
-    };
-    Ok(Cmd::Yis {
-        obj,
-        mem: found.memory.unwrap_or(8192),
-        limit: found.limit.unwrap_or(10000),
-        variant: Variant::Base,
-    })
+    match found_in(rest) {
+        None => Err(Usage),
+        Some(found) => match yis(found) {
+            None => Err(Usage),
+            Some(command) => Ok(command),
+        },
+    }
 }

@@ -1,5 +1,7 @@
 #![tactic(auto)]
 
 mod cmd;
+mod stop;
+mod yis;
 
 fn main() {}

@@ -11,7 +11,7 @@ use Rattle.y86_base.specs.declared.parts.Variant.TheVariants.{Base}
 use Rattle.y86_isa.specs.declared.columns.Row.{Row}
 use Rattle.y86_isa.specs.declared.encoding.Instr.{Instr}
 use Rattle.y86_isa.specs.Table.{rows, row, is_instruction}
-use Rattle.y86_isa.specs.Blocks.{high_half, low_half, byte_at, field_a, field_b, const_at, after, lacks_register, reading, reading_of, reading_first, fetched}
+use Rattle.y86_isa.specs.Blocks.{high_half, low_half, byte_at, field_a, field_b, const_at, after, lacks_register, reading, fetched}
 use Rattle.y86_isa.specs.Encoding.{NamesRegister, written_top, FitsRow, IsValid, encoded, encoded_by, Holds, fields_of, widest}
 use Rattle.y86_isa.proofs.Encodings.{field_most}
 use Rattle.y86_isa.proofs.Rows.{row-length, has_byte-from_a, has_byte-from_b, ifun_top-le}

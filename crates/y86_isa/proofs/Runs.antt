@@ -1,5 +1,5 @@
 -- Runs and their records: no step, one step more, a machine that has stopped.
-use Rattle.std.proofs.Common.{◌≡◌, ◌≢◌, ℕ, zero, suc, ◌+◌, ◌⊎◌, inl, inr, Bool, true, false, cond, List, [], ◌++◌, Option, Some, None, refl, sym, ◌∙◌, add-one, append_assoc, append-nil}
+use Rattle.std.proofs.Common.{◌≡◌, ◌≢◌, ℕ, zero, suc, ◌+◌, ◌<◌, ◌≤◌, ◌⊎◌, inl, inr, Bool, true, false, cond, List, [], ◌++◌, length, Option, Some, None, refl, sym, ap, ◌∙◌, arith, add-one, append_assoc, append-nil, length-append}
 use Rattle.std.specs.Option.{option_to_list}
 use Rattle.y86_base.specs.declared.parts.Stat.{Stat}
 use Rattle.y86_base.specs.declared.parts.Stat.TheVariants.{Bub, Aok, Hlt, Adr, Ins, Pip, Bad}
@@ -93,3 +93,32 @@ records_from-last v m zero = append-nil (option_to_list (retired v m))
 records_from-last v m (suc n) =
     rw (← add-one n, records_from-more v m (n + 1), records_from-last v (advance v m) n)
     (sym (append_assoc (option_to_list (retired v m)) (records_from v (advance v m) n) (option_to_list (retired v (run_from v (advance v m) n)))))
+
+-- ---- how many records there are
+
+retired_some : (v : Variant) (m : Machine) → m.stat ≡ Aok → length (option_to_list (retired v m)) ≡ 1
+unfolding retired
+retired_some v m e = rw e refl
+
+length_more : (v : Variant) (m : Machine) (n : ℕ) → length (records_from v m (suc n)) ≡ length (option_to_list (retired v m)) + length (records_from v (advance v m) n)
+length_more v m n = rw (← add-one n, records_from-more v m n) (length-append (option_to_list (retired v m)) (records_from v (advance v m) n))
+
+pub length-records_from : (v : Variant) (m : Machine) (n : ℕ) → length (records_from v m n) ≤ n
+length-records_from v m zero = omega (arith, ap length (records_from-none v m))
+length-records_from v m (suc n) =
+    elim (aok_or_stopped m.stat) [
+      | inl e ↦
+          omega (arith, length_more v m n, retired_some v m e, length-records_from v (advance v m) n)
+      | inr e ↦ omega (arith, ap length (records_from-stopped v m (suc n) e))
+    ]
+
+-- with fewer records than steps, the run stopped at the step behind the last record
+pub stopped-from_few : (v : Variant) (m : Machine) (n : ℕ) → length (records_from v m n) < n → is_aok (run_from v m (length (records_from v m n))).stat ≡ false
+stopped-from_few v m zero h = absurd (omega arith)
+stopped-from_few v m (suc n) h =
+    elim (aok_or_stopped m.stat) [
+      | inl e ↦
+          let more : length (records_from v m (suc n)) ≡ length (records_from v (advance v m) n) + 1 = omega (arith, length_more v m n, retired_some v m e) in
+          rw (more, run_from-more) (stopped-from_few v (advance v m) n (omega arith))
+      | inr e ↦ rw (records_from-stopped v m (suc n) e, run_from-none v m) e
+    ]

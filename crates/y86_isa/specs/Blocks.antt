@@ -75,17 +75,18 @@ abbrev pub lacks_register : List ℕ → ℕ → Row → Bool
 lacks_register memory pc r =
     (r.uses_a && (field_a memory pc r.has_byte == no_register)) || (r.uses_b && (field_b memory pc r.has_byte == no_register))
 
--- what a first byte of these halves, which is inside, reads as: it begins no instruction; a later byte of the
--- instruction is outside; a used register field names none; else an instruction. The first case that applies decides
-abbrev pub reading_of : List ℕ → ℕ → Bool → Row → ℕ → ℕ → Reading
-reading_of memory pc begins r icode ifun =
+-- what a first byte inside reads as, by three tests: it begins an instruction; all bytes of the instruction are inside;
+-- a used register field names no register. The first case that applies decides
+abbrev pub reading_of : Bool → Bool → Bool → ℕ → ℕ → Reading
+reading_of begins whole lacks icode ifun =
     if not begins then invalid
-    else (if not (nat_le (pc + r.length) (length memory)) then outside
-    else (if lacks_register memory pc r then invalid
+    else (if not whole then outside
+    else (if lacks then invalid
     else record { error = false; icode = icode; ifun = ifun }))
 
 abbrev pub reading_by : Variant → List ℕ → ℕ → ℕ → ℕ → Reading
-reading_by v memory pc icode ifun = reading_of memory pc (is_instruction v icode ifun) (row v icode) icode ifun
+reading_by v memory pc icode ifun =
+    reading_of (is_instruction v icode ifun) (nat_le (pc + (row v icode).length) (length memory)) (lacks_register memory pc (row v icode)) icode ifun
 
 -- what the first byte reads as; before all other cases, it may itself be outside
 abbrev pub reading_first : Variant → List ℕ → ℕ → Option ℕ → Reading

@@ -5,3 +5,4 @@ pub mod Work
 pub mod Step
 pub mod Run
 pub mod Encoding
+pub mod Laws

@@ -1,11 +1,14 @@
 -- Runs: the machine after n steps, and the records of these steps.
-use Rattle.std.specs.Prelude.{◌≡◌, ℕ, zero, suc, ◌+◌, ◌<◌, ◌≤◌, List, [], ◌++◌, length, All, IsSomeAnd}
+use Rattle.std.specs.Prelude.{◌≡◌, ℕ, zero, suc, ◌+◌, ◌<◌, ◌≤◌, List, [], ◌++◌, length, All, Option, Some, None, slice_get, if◌then◌else◌}
 use Rattle.std.specs.Option.{option_to_list}
 use Rattle.y86_base.specs.Image.{IsSize}
 use Rattle.y86_base.specs.declared.parts.Stat.TheVariants.{Aok}
 use Rattle.y86_base.specs.declared.parts.Variant.{Variant}
 use Rattle.y86_isa.specs.declared.machine.Machine.{Machine}
 use Rattle.y86_isa.specs.declared.machine.Rec.{Rec}
+use Rattle.y86_isa.specs.declared.machine.Store.{Store}
+use Rattle.y86_isa.specs.Table.{row, is_instruction}
+use Rattle.y86_isa.specs.Blocks.{high_half, low_half}
 use Rattle.y86_isa.specs.Machine.{start}
 use Rattle.y86_isa.specs.Step.{advance, retired}
 
@@ -30,3 +33,39 @@ run v image n = run_from v (start image) n
 
 abbrev pub records : Variant → List ℕ → ℕ → List Rec
 records v image n = records_from v (start image) n
+
+-- how many bytes from the PC on an instruction fetches, those outside counted too: none where its first byte is outside,
+-- that byte alone where it begins no instruction, else as many as its row says
+abbrev pub count_from : Variant → Option ℕ → ℕ
+count_from v None = 0
+count_from v (Some byte) = if is_instruction v (high_half byte) (low_half byte) then (row v (high_half byte)).length else 1
+
+abbrev pub fetched_count : Variant → List ℕ → ℕ → ℕ
+fetched_count v memory pc = count_from v (slice_get memory pc)
+
+-- the address is that of a byte that the instruction at the PC fetches
+pub record IsFetched (v : Variant) (memory : List ℕ) (pc address : ℕ) : Type 0 where
+  pub from : pc ≤ address
+  pub to : address < pc + fetched_count v memory pc
+  pub inside : address < length memory
+
+-- a memory of the same size has the same bytes where the instruction at the PC is fetched
+pub record SameFetch (v : Variant) (memory other : List ℕ) (pc : ℕ) : Type 0 where
+  pub sized : IsSize (length memory)
+  pub size : length other ≡ length memory
+  pub bytes : (address : ℕ) → IsFetched v memory pc address → slice_get other address ≡ slice_get memory address
+
+-- the address is one of the 8 bytes of a store, or of the store of a record
+abbrev pub IsInStore : Option Store → ℕ → Type 0
+IsInStore None address = ⊥
+IsInStore (Some store) address = (store.addr ≤ address) × (address < store.addr + 8)
+
+abbrev pub IsStoredBy : Option Rec → ℕ → Type 0
+IsStoredBy None address = ⊥
+IsStoredBy (Some r) address = IsInStore r.store address
+
+-- no instruction among the first n fetches a byte that an earlier one stored
+abbrev pub Pure : Variant → List ℕ → ℕ → Type 0
+Pure v image n =
+    (i j address : ℕ) → i < n → j < i → (run v image i).stat ≡ Aok → IsFetched v (run v image i).mem (run v image i).pc address →
+    IsStoredBy (retired v (run v image j)) address → ⊥

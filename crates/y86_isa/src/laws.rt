@@ -1,27 +1,42 @@
-//! Theorems about the definitions, for the crates above. Each is a function that does nothing and whose
-//! contract is the theorem.
-ghost use Rattle.std.specs.Prelude.{◌≡◌, ◌≢◌, ℕ, ◌+◌, ◌^◌, ◌<◌, List, [], ◌++◌, length};
+//! Theorems about steps and runs. Each is a function that does nothing and whose contract is the theorem.
+ghost use Rattle.std.specs.Prelude.{◌≡◌, ◌≢◌, ℕ, ◌+◌, ◌^◌, ◌<◌, ◌≤◌, List, [], ◌++◌, length, slice_get, None};
 ghost use Rattle.std.specs.Option.{option_to_list};
+ghost use Rattle.y86_base.specs.Image.{IsSize};
 ghost use Rattle.y86_base.specs.declared.parts.Stat.TheVariants.{Aok};
 ghost use Rattle.y86_base.specs.declared.parts.Variant.{Variant};
-ghost use Rattle.y86_base.specs.Image.{IsSize};
 ghost use Rattle.y86_isa.specs.Blocks.{fetched};
 ghost use Rattle.y86_isa.specs.Encoding.{Holds, IsValid, encoded, fields_of, widest};
-ghost use Rattle.y86_isa.specs.Run.{records_from, run_from};
+ghost use Rattle.y86_isa.specs.Laws.{ChangesOneRegister, FallsThrough, KeepsFlags};
+ghost use Rattle.y86_isa.specs.Run.{IsImage, IsStoredBy, Pure, SameFetch, records_from, run_from};
 ghost use Rattle.y86_isa.specs.Step.{advance, retired};
 ghost use Rattle.y86_isa.specs.Table.{row};
 ghost use Rattle.y86_isa.specs.declared.encoding.Instr.{Instr};
 ghost use Rattle.y86_isa.specs.declared.machine.Machine.{Machine};
 
+/// What one step may change. At most one register beside `%rsp`; of the memory, the 8 bytes of the record's
+/// store and nothing else; the flags by an OPq alone. The PC moves behind the instruction unless that is a halt,
+/// jXX, call or ret, or ends with another status than AOK. A machine that has stopped stays as it is.
+pub fn law_of_steps()
+    ensures registers { (v : Variant) (m : Machine) → ChangesOneRegister m.regs (advance v m).regs }
+    ensures memory { (v : Variant) (m : Machine) (address : ℕ) → (IsStoredBy (retired v m) address → ⊥) →
+        slice_get (advance v m).mem address ≡ slice_get m.mem address }
+    ensures flags { (v : Variant) (m : Machine) → KeepsFlags v m }
+    ensures pc { (v : Variant) (m : Machine) → FallsThrough v m }
+    ensures stopped { (v : Variant) (m : Machine) → m.stat ≢ Aok → (advance v m ≡ m) × (retired v m ≡ None) }
+{}
+
 /// A run of no step, of one step more, and of a machine that has stopped.
 pub fn law_of_runs()
     ensures no_step { (v : Variant) (m : Machine) → run_from v m 0 ≡ m }
-    ensures one_more { (v : Variant) (m : Machine) (n : ℕ) → run_from v m (n + 1) ≡ run_from v (advance v m) n }
-    ensures last { (v : Variant) (m : Machine) (n : ℕ) → run_from v m (n + 1) ≡ advance v (run_from v m n) }
+    ensures one_more { (v : Variant) (m : Machine) (n : ℕ) →
+        run_from v m (n + 1) ≡ run_from v (advance v m) n }
+    ensures last { (v : Variant) (m : Machine) (n : ℕ) →
+        run_from v m (n + 1) ≡ advance v (run_from v m n) }
     ensures stopped { (v : Variant) (m : Machine) (n : ℕ) → m.stat ≢ Aok → run_from v m n ≡ m }
 {}
 
-/// The records of no step, of one step more, and of a machine that has stopped.
+/// The records of no step, of one step more, and of a machine that has stopped. The records of n steps are at
+/// most n, and fewer only where the run has stopped by the step behind the last of them.
 pub fn law_of_records()
     ensures no_step { (v : Variant) (m : Machine) → records_from v m 0 ≡ [] }
     ensures one_more { (v : Variant) (m : Machine) (n : ℕ) →
@@ -29,12 +44,29 @@ pub fn law_of_records()
     ensures last { (v : Variant) (m : Machine) (n : ℕ) →
         records_from v m (n + 1) ≡ records_from v m n ++ option_to_list (retired v (run_from v m n)) }
     ensures stopped { (v : Variant) (m : Machine) (n : ℕ) → m.stat ≢ Aok → records_from v m n ≡ [] }
+    ensures at_most { (v : Variant) (m : Machine) (n : ℕ) → length (records_from v m n) ≤ n }
+    ensures fewer { (v : Variant) (m : Machine) (n : ℕ) → length (records_from v m n) < n →
+        (run_from v m (length (records_from v m n))).stat ≢ Aok }
+{}
+
+/// A run keeps an image an image, of the same size. An image that is pure for some steps is pure for fewer.
+pub fn law_of_images()
+    ensures image { (v : Variant) (m : Machine) (n : ℕ) → IsImage m.mem → IsImage (run_from v m n).mem }
+    ensures size { (v : Variant) (m : Machine) (n : ℕ) → length (run_from v m n).mem ≡ length m.mem }
+    ensures pure { (v : Variant) (image : List ℕ) (n k : ℕ) → k ≤ n → Pure v image n → Pure v image k }
+{}
+
+/// What is fetched depends on nothing but the fetched bytes and the size of the memory.
+pub fn law_of_reading()
+    ensures { (v : Variant) (memory other : List ℕ) (pc : ℕ) → SameFetch v memory other pc →
+        fetched v other pc ≡ fetched v memory pc }
 {}
 
 /// An instruction has as many bytes as its row says, and a memory that holds those of a valid instruction at an
 /// address splits to its fields there.
 pub fn law_of_encoding()
     ensures length { (i : Instr) → length (encoded i) ≡ (row widest i.icode).length }
-    ensures read_back { (v : Variant) (i : Instr) (memory : List ℕ) (pc : ℕ) → IsValid v i → i.val_c < 2 ^ 64 →
-        IsSize (length memory) → Holds memory pc (encoded i) → fetched v memory pc ≡ fields_of i pc }
+    ensures read_back { (v : Variant) (i : Instr) (memory : List ℕ) (pc : ℕ) → IsValid v i →
+        i.val_c < 2 ^ 64 → IsSize (length memory) → Holds memory pc (encoded i) →
+        fetched v memory pc ≡ fields_of i pc }
 {}

@@ -16,7 +16,9 @@ pub use advance::step;
 pub use columns::{Access, Field, Next, Row, TermA, TermB};
 pub use encoding::{Instr, encode, valid};
 pub use fetch::{Fetched, Reading, behind, constant, read, register_fields, split};
-pub use laws::{law_of_encoding, law_of_records, law_of_runs};
+pub use laws::{
+    law_of_encoding, law_of_images, law_of_reading, law_of_records, law_of_runs, law_of_steps,
+};
 pub use machine::{Machine, Rec, Store};
 pub use table::{icode_count, row};
 pub use unit::{AluOut, alu, cond};
