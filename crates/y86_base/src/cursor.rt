@@ -1,4 +1,4 @@
-ghost use Rattle.std.specs.Prelude.{◌≡◌, ◌∷◌, ◌++◌, [], MatchOption, slice_get};
+ghost use Rattle.std.specs.Prelude.{◌≡◌, ◌∷◌, ◌++◌, [], ◌↔◌, IfNone, IfSome, IsNone, slice_get};
 ghost use Rattle.y86_base.specs.Cursor.{column_behind, line_behind};
 
 use std::marker::Model;
@@ -47,8 +47,10 @@ impl<'a> Cursor<'a> {
 
     /// Reads the byte at the place; None, and no move, exactly at the end.
     pub fn next(&mut self) -> Option<u8>
-        ensures { MatchOption result ((self.old.left ≡ []) × (self.new ≡ self.old))
-            (λ byte. (self.old.left ≡ byte ∷ self.new.left) × (self.new.done ≡ self.old.done ++ byte ∷ [])) }
+        ensures none_at_the_end { IsNone result ↔ (self.old.left ≡ []) }
+        ensures first_of_the_rest { IfSome result (λ byte. self.old.left ≡ byte ∷ self.new.left) }
+        ensures then_done { IfSome result (λ byte. self.new.done ≡ self.old.done ++ byte ∷ []) }
+        ensures stays_at_the_end { IfNone result (self.new ≡ self.old) }
     {
         if self.at >= self.bytes.len() {
             return None;

@@ -51,7 +51,7 @@ impl Image {
         }
     }
 
-    /// The size in bytes. It takes no time, and tells a caller what holds of every image.
+    /// The size in bytes. It takes no time, and its contract says what holds of every image.
     pub fn size(&self) -> u64
         ensures size { result ≡ length self.now }
         ensures legal { IsSize result }

@@ -1,4 +1,5 @@
-ghost use Rattle.std.specs.Prelude.{◌≡◌, ◌<◌, ◌≤◌, ◌∷◌, [], length, MatchOption, IfSome};
+ghost use Rattle.std.specs.Prelude.{◌≡◌, ◌<◌, ◌≤◌, ◌∷◌, [], length, true, MatchOption, IfSome};
+ghost use Rattle.std.specs.Char.{digit_value};
 ghost use Rattle.std.specs.List.{position_or_len};
 ghost use Rattle.y86_base.specs.Text as text;
 
@@ -22,6 +23,7 @@ pub fn is_hex(byte: u8) -> bool
 pub fn hex_value(byte: u8) -> u8
     ensures value { result ≡ text.hex_value byte }
     ensures digit { result < 16 }
+    ensures in_numerals { text.is_hex byte ≡ true → result ≡ digit_value byte }
 {
     if b'0' <= byte && byte <= b'9' {
         byte - b'0'

@@ -5,6 +5,8 @@ mod lines;
 mod outcome;
 mod printer;
 mod stepping;
+#[cfg(test)]
+mod tests;
 
 pub use outcome::End;
 pub use printer::report;

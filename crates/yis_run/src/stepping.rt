@@ -1,7 +1,7 @@
-ghost use Rattle.std.specs.Prelude.{◌≡◌, length};
+ghost use Rattle.std.specs.Prelude.{◌≡◌, ◌≢◌, ◌<◌, ◌≤◌, length};
 ghost use Rattle.y86_isa.specs.Run.{records_from, run_from};
 
-use y86_base::Variant;
+use y86_base::{Stat, Variant};
 use y86_isa::{Machine, step};
 
 /// What a run did.
@@ -15,6 +15,8 @@ pub struct Ran {
 pub fn run(v: Variant, m: &mut Machine, limit: u64) -> Ran
     ensures machine { m.new ≡ run_from v m.old limit }
     ensures steps { result.steps ≡ length (records_from v m.old limit) }
+    ensures within { result.steps ≤ limit }
+    ensures fewer_only_where_stopped { result.steps < limit → m.new.stat ≢ Stat.Aok }
 {
     let mut steps = 0;
     while steps < limit {

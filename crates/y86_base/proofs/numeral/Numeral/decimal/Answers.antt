@@ -1,4 +1,4 @@
-use Rattle.std.proofs.Common.{◌≡◌, ◌<◌, ◌^◌, ap, ◌∙◌, arith}
+use Rattle.std.proofs.Common.{ap, ◌∙◌, arith}
 use Rattle.std.specs.Str.Parse.{digits_value}
 use Rattle.y86_base.proofs.Numerals.{numeral_value}
 use Rattle.y86_base.proofs.numeral.Numeral.decimal.Goals as goal
