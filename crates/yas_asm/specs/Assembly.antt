@@ -1,0 +1,248 @@
+-- What a source assembles to. The address before each line follows from the lines before it; from the lines at their addresses
+-- follow the labels, a map from names to addresses, and from both follow the bytes of each line and its faults.
+use Rattle.std.specs.Prelude.{ℕ, zero, suc, ◌+◌, ◌-◌, ◌*◌, ◌^◌, ◌%◌, Bool, false, not, ◌&&◌, ◌||◌, ◌==◌, nat_le, nat_lt, nat_eq, if◌then◌else◌, List, [], ◌∷◌, ◌++◌, length, take, fold, Option, Some, None, is_some, is_none, unwrap_or, Result, Ok, Err}
+use Rattle.std.specs.List.{list_any, range_with_len, flat_map}
+use Rattle.std.specs.Int.{to_le_bytes, w64}
+use Rattle.y86_base.specs.declared.parts.Variant.{Variant}
+use Rattle.y86_isa.specs.Table.{row}
+use Rattle.yas_asm.specs.declared.fault.AsmWhy.{AsmWhy}
+use Rattle.yas_asm.specs.declared.fault.AsmWhy.TheVariants.{NumberTooWide, LabelTwice, LabelUnknown, OutsideMemory, Overlap, LabelLimit}
+use Rattle.yas_asm.specs.declared.fault.AsmFault.{AsmFault}
+use Rattle.yas_asm.specs.declared.listing.Line.{Line}
+use Rattle.yas_asm.specs.declared.statement.Width.{Width}
+use Rattle.yas_asm.specs.declared.statement.Width.TheVariants.{Eight}
+use Rattle.yas_asm.specs.declared.statement.Operand.{Operand}
+use Rattle.yas_asm.specs.declared.statement.Operand.TheVariants.{Word, Label, Wide}
+use Rattle.yas_asm.specs.declared.statement.Statement.{Statement}
+use Rattle.yas_asm.specs.declared.statement.Statement.TheVariants as statements
+use Rattle.yas_asm.specs.declared.statement.Parsed.{Parsed}
+use Rattle.y86_base.specs.Text.{lines}
+use Rattle.yas_asm.specs.Tokens.{meaning_of}
+use Rattle.yas_asm.specs.Grammar.{bytes_of, read_line}
+use Rattle.y86_isa.specs.Encoding.{encoded}
+
+-- addresses
+
+-- how many bytes a statement emits
+unfoldable pub width_of : Variant → Statement → ℕ
+width_of variant statements.Nothing = 0
+width_of variant (statements.Instruction icode ifun a b constant) = (row variant icode).length
+width_of variant (statements.Data width value) = bytes_of width
+width_of variant (statements.Position n) = 0
+width_of variant (statements.Align n) = 0
+width_of variant statements.Wide = 0
+
+-- the least multiple of a number that is not below an address
+abbrev pub next_multiple : ℕ → ℕ → ℕ
+next_multiple n address = if address % n == 0 then address else address + (n - address % n)
+
+-- where a statement at an address leads, whatever the size
+unfoldable pub destination : Variant → ℕ → Statement → ℕ
+destination variant address statements.Nothing = address
+destination variant address (statements.Instruction icode ifun a b constant) = address + (row variant icode).length
+destination variant address (statements.Data width value) = address + bytes_of width
+destination variant address (statements.Position n) = n
+destination variant address (statements.Align n) = next_multiple n address
+destination variant address statements.Wide = address
+
+-- the address behind a statement; None where it goes past the size
+unfoldable pub place : Variant → ℕ → ℕ → Statement → Option ℕ
+place variant size address statement =
+    if nat_le (destination variant address statement) size then Some (destination variant address statement) else None
+
+-- the address behind a line; a line that has a fault by itself or goes past the size leaves it as it was
+unfoldable pub address_after : Variant → ℕ → ℕ → Result Parsed AsmWhy → ℕ
+address_after variant size address (Err why) = address
+address_after variant size address (Ok parsed) = unwrap_or (place variant size address parsed.statement) address
+
+-- a line of the source at its address
+pub record Placed : Type 0 where
+  pub text : List ℕ
+  pub address : ℕ
+  pub read : Result Parsed AsmWhy
+
+-- the lines from an address on
+unfoldable pub placed : Variant → ℕ → ℕ → List (List ℕ) → List Placed
+placed variant size address [] = []
+placed variant size address (text ∷ texts) =
+    record { text = text; address = address; read = read_line variant text }
+    ∷ placed variant size (address_after variant size address (read_line variant text)) texts
+
+-- labels
+
+-- how many labels there may be
+abbrev pub label_limit : ℕ
+label_limit = 65535
+
+abbrev pub label_of : Result Parsed AsmWhy → Option (List ℕ)
+label_of (Err why) = None
+label_of (Ok parsed) = parsed.label
+
+-- the labels with one more: the first definition of a name stands, and only the first 65,535 names are defined
+unfoldable pub with_name : List (List ℕ × ℕ) → List ℕ → ℕ → List (List ℕ × ℕ)
+with_name table name address =
+    if is_some (meaning_of table name) || nat_le label_limit (length table) then table else table ++ (name, address) ∷ []
+
+abbrev pub with_label : List (List ℕ × ℕ) → ℕ → Option (List ℕ) → List (List ℕ × ℕ)
+with_label table address None = table
+with_label table address (Some name) = with_name table name address
+
+-- the labels that some lines define, with their addresses; a label is the address before its line's statement
+unfoldable pub labels : List Placed → List (List ℕ × ℕ)
+labels placed = fold (λ table line. with_label table line.address (label_of line.read)) [] placed
+
+-- bytes
+
+-- the number that an operand stands for; 0 for a label that is not defined
+unfoldable pub value_of : List (List ℕ × ℕ) → Operand → ℕ
+value_of table (Word n) = n
+value_of table (Label name) = unwrap_or (meaning_of table name) 0
+value_of table Wide = 0
+
+unfoldable pub bytes_at : List (List ℕ × ℕ) → Statement → List ℕ
+bytes_at table statements.Nothing = []
+bytes_at table (statements.Instruction icode ifun a b constant) =
+    encoded (record { icode = icode; ifun = ifun; r_a = a; r_b = b; val_c = value_of table constant })
+bytes_at table (statements.Data width value) = take (bytes_of width) (to_le_bytes w64 (value_of table value))
+bytes_at table (statements.Position n) = []
+bytes_at table (statements.Align n) = []
+bytes_at table statements.Wide = []
+
+-- the addresses at which a statement emits bytes: none where it goes past the size
+unfoldable pub emitted : Variant → ℕ → ℕ → Statement → List ℕ
+emitted variant size address statement =
+    if is_some (place variant size address statement) then range_with_len address (width_of variant statement) else []
+
+-- the addresses at which a line emits bytes: none where it has a fault by itself
+abbrev pub addresses : Variant → ℕ → ℕ → Result Parsed AsmWhy → List ℕ
+addresses variant size address (Err why) = []
+addresses variant size address (Ok parsed) = emitted variant size address parsed.statement
+
+-- the addresses that have a byte from some lines
+unfoldable pub filled : Variant → ℕ → List Placed → List ℕ
+filled variant size placed = flat_map (λ line. addresses variant size line.address line.read) placed
+
+-- faults
+
+-- a label whose value does not fit a width
+abbrev pub is_wide_label : List (List ℕ × ℕ) → Width → Operand → Bool
+is_wide_label table width (Word n) = false
+is_wide_label table width (Label name) = not (nat_lt (unwrap_or (meaning_of table name) 0) (2 ^ (8 * bytes_of width)))
+is_wide_label table width Wide = false
+
+abbrev pub is_unknown_label : List (List ℕ × ℕ) → Operand → Bool
+is_unknown_label table (Word n) = false
+is_unknown_label table (Label name) = is_none (meaning_of table name)
+is_unknown_label table Wide = false
+
+-- a statement names a label whose value is too wide for it
+unfoldable pub names_wide : List (List ℕ × ℕ) → Statement → Bool
+names_wide table statements.Nothing = false
+names_wide table (statements.Instruction icode ifun a b constant) = is_wide_label table Eight constant
+names_wide table (statements.Data width value) = is_wide_label table width value
+names_wide table (statements.Position n) = false
+names_wide table (statements.Align n) = false
+names_wide table statements.Wide = false
+
+-- a statement names a label that is not defined
+unfoldable pub names_unknown : List (List ℕ × ℕ) → Statement → Bool
+names_unknown table statements.Nothing = false
+names_unknown table (statements.Instruction icode ifun a b constant) = is_unknown_label table constant
+names_unknown table (statements.Data width value) = is_unknown_label table value
+names_unknown table (statements.Position n) = false
+names_unknown table (statements.Align n) = false
+names_unknown table statements.Wide = false
+
+-- a label is defined already
+abbrev pub is_defined : List (List ℕ × ℕ) → Option (List ℕ) → Bool
+is_defined known None = false
+is_defined known (Some name) = is_some (meaning_of known name)
+
+-- a label is one more than there may be
+abbrev pub is_past_limit : List (List ℕ × ℕ) → Option (List ℕ) → Bool
+is_past_limit known None = false
+is_past_limit known (Some name) = is_none (meaning_of known name) && nat_le label_limit (length known)
+
+-- one of n bytes from an address on is at an address that has a byte
+unfoldable pub overlaps : List ℕ → ℕ → ℕ → Bool
+overlaps used address zero = false
+overlaps used address (suc n) = list_any (nat_eq address) used || overlaps used (address + 1) n
+
+-- the first reason that holds
+abbrev pub first_reason : List (Bool × AsmWhy) → Option AsmWhy
+first_reason [] = None
+first_reason (reason ∷ reasons) = if reason.0 then Some reason.1 else first_reason reasons
+
+-- the least fault of a line of the form, where `table` are the labels of the source, `known` those of the lines before, and `used` the
+-- addresses that have a byte from the lines before
+unfoldable pub statement_fault : Variant → ℕ → List (List ℕ × ℕ) → List (List ℕ × ℕ) → List ℕ → ℕ → Parsed → Option AsmWhy
+statement_fault variant size table known used address parsed =
+    first_reason (
+    (names_wide table parsed.statement, NumberTooWide)
+    ∷ (is_defined known parsed.label, LabelTwice)
+    ∷ (names_unknown table parsed.statement, LabelUnknown)
+    ∷ (is_none (place variant size address parsed.statement), OutsideMemory)
+    ∷ (overlaps used address (width_of variant parsed.statement), Overlap)
+    ∷ (is_past_limit known parsed.label, LabelLimit)
+    ∷ []
+    )
+
+unfoldable pub line_fault : Variant → ℕ → List (List ℕ × ℕ) → List (List ℕ × ℕ) → List ℕ → ℕ → Result Parsed AsmWhy → Option AsmWhy
+line_fault variant size table known used address (Err why) = Some why
+line_fault variant size table known used address (Ok parsed) = statement_fault variant size table known used address parsed
+
+abbrev pub fault_or : Option AsmWhy → ℕ → Option AsmFault → Option AsmFault
+fault_or None number later = later
+fault_or (Some why) number later = Some (record { line = number; why = why })
+
+-- the first line with a fault, and its least fault; `before` are the lines before these
+unfoldable pub first_fault : Variant → ℕ → List (List ℕ × ℕ) → List Placed → List Placed → Option AsmFault
+first_fault variant size table before [] = None
+first_fault variant size table before (line ∷ rest) =
+    fault_or (line_fault variant size table (labels before) (filled variant size before) line.address line.read) (length before + 1)
+    (first_fault variant size table (before ++ line ∷ []) rest)
+
+-- the listing
+
+-- the address that a line shows: that before it, or the one that `.pos` or `.align` sets; none where it has neither label nor statement
+abbrev pub shown_at : Option (List ℕ) → ℕ → Option ℕ → Statement → Option ℕ
+shown_at label address next statements.Nothing = if is_some label then Some address else None
+shown_at label address next (statements.Instruction icode ifun a b constant) = Some address
+shown_at label address next (statements.Data width value) = Some address
+shown_at label address next (statements.Position n) = next
+shown_at label address next (statements.Align n) = next
+shown_at label address next statements.Wide = None
+
+-- a line at an address in the listing, whose text stands from `from` to `to` in the source
+unfoldable pub listed : Variant → ℕ → List (List ℕ × ℕ) → ℕ → ℕ → ℕ → Result Parsed AsmWhy → Line
+listed variant size table from to address (Err why) = record { addr = None; bytes = record { items = [] }; from = from; to = to }
+listed variant size table from to address (Ok parsed) =
+    record {
+      addr = shown_at parsed.label address (place variant size address parsed.statement) parsed.statement;
+      bytes = record { items = bytes_at table parsed.statement };
+      from = from;
+      to = to;
+    }
+
+-- the listing of some lines, the first of which begins at `from` in the source; behind each stands its line feed
+unfoldable pub listing : Variant → ℕ → List (List ℕ × ℕ) → ℕ → List Placed → List Line
+listing variant size table from [] = []
+listing variant size table from (line ∷ rest) =
+    listed variant size table from (from + length line.text) line.address line.read
+    ∷ listing variant size table (from + length line.text + 1) rest
+
+abbrev pub listing_unless : Option AsmFault → List Line → Result (List Line) AsmFault
+listing_unless None lines = Ok lines
+listing_unless (Some fault) lines = Err fault
+
+-- what some lines assemble to with a table of labels: their listing, or the first line with a fault
+unfoldable pub assembled_with : Variant → ℕ → List (List ℕ × ℕ) → List Placed → Result (List Line) AsmFault
+assembled_with variant size table all = listing_unless (first_fault variant size table [] all) (listing variant size table 0 all)
+
+-- the lines of a source at their addresses
+unfoldable pub source_lines : Variant → ℕ → List ℕ → List Placed
+source_lines variant size source = placed variant size 0 (lines source)
+
+-- what a source assembles to in a memory of a size, with the labels that it defines
+unfoldable pub assembled : Variant → List ℕ → ℕ → Result (List Line) AsmFault
+assembled variant source size = assembled_with variant size (labels (source_lines variant size source)) (source_lines variant size source)

@@ -1,0 +1,11 @@
+pub mod Reads
+pub mod Keyword
+pub mod Tokens
+pub mod Comments
+pub mod Tables
+pub mod Grammar
+pub mod Assembly
+pub mod Listing
+pub mod Sound
+pub mod LabelMap
+pub mod Outcome

@@ -1,0 +1,26 @@
+//! The assembler of Y86-64: from assembly text to a listing of its lines with their addresses and bytes.
+#![tactic(auto)]
+
+mod address;
+mod assembler;
+mod bytes;
+mod check;
+mod comment;
+mod fault;
+mod grammar;
+mod keyword;
+mod labels;
+mod listing;
+mod name;
+mod number;
+mod passes;
+mod reader;
+mod statement;
+mod tables;
+#[cfg(test)]
+mod tests;
+mod used;
+
+pub use assembler::assemble;
+pub use fault::{AsmFault, AsmWhy};
+pub use listing::{Line, Listing};

@@ -1,0 +1,182 @@
+ghost use Rattle.std.specs.Prelude.{IfNone, ◌≡◌, ◌≤◌, ◌<◌, List, ℕ, length, drop};
+ghost use Rattle.std.specs.List.{prefix_len};
+ghost use Rattle.y86_base.specs.Text as text;
+ghost use Rattle.yas_asm.specs.Comments as comments;
+ghost use Rattle.yas_asm.specs.Tokens as tokens;
+ghost use Rattle.yas_asm.specs.Tables as tables;
+ghost use Rattle.yas_asm.specs.Grammar as grammar;
+ghost use Rattle.yas_asm.specs.Reads.{Reads, Passes};
+
+use crate::comment::comment_length;
+use crate::keyword::keyword_at;
+use crate::name::Name;
+use crate::number::{Number, number_at};
+use crate::statement::Directive;
+use crate::tables::{directives, registers};
+use std::marker::Model;
+use y86_base::is_blank;
+
+/// What is left of a line as it is read, seen as its bytes.
+#[derive(Drop)]
+pub struct Reader<'a> {
+    rest: &'a [u8],
+}
+
+impl<'a> Model for Reader<'a> {
+    ghost use Rattle.std.specs.Prelude.{List, ℕ};
+
+    ghost Value = { List ℕ };
+
+    ghost view = { λ reader. reader.rest.now };
+}
+
+fn is_letter(byte: u8) -> bool
+    ensures { result ≡ tokens.is_letter byte }
+{
+    (b'a' <= byte && byte <= b'z') || (b'A' <= byte && byte <= b'Z') || byte == b'_'
+}
+
+fn is_name_byte(byte: u8) -> bool
+    ensures { result ≡ tokens.is_name_byte byte }
+{
+    is_letter(byte) || (b'0' <= byte && byte <= b'9')
+}
+
+#[tactic(auto, unfolding(crate::specs::Tokens::after_blanks))]
+fn after_blanks(bytes: &[u8]) -> &[u8]
+    ensures { result.now ≡ tokens.after_blanks bytes.now }
+{
+    bytes.split_at(blank_length(bytes)).1
+}
+
+fn blank_length(bytes: &[u8]) -> usize
+    ensures count { result ≡ prefix_len text.is_blank bytes.now }
+    ensures within { result ≤ length bytes.now }
+{
+    bytes.iter().take_while(|byte| is_blank(**byte)).count()
+}
+
+fn name_length(bytes: &[u8]) -> usize
+    ensures count { result ≡ prefix_len tokens.is_name_byte bytes.now }
+    ensures within { result ≤ length bytes.now }
+{
+    bytes.iter().take_while(|byte| is_name_byte(**byte)).count()
+}
+
+impl<'a> Reader<'a> {
+    /// A reader at the begin of a line.
+    pub fn new(line: &'a [u8]) -> Reader<'a>
+        ensures { result ≡ line.now }
+    {
+        Reader { rest: line }
+    }
+
+    /// Reads a sign.
+    #[tactic(auto, unfolding(crate::specs::Tokens::sign))]
+    pub fn sign(&mut self, wanted: u8) -> Option<()>
+        ensures { Passes result (tokens.sign wanted self.old) self.new }
+    {
+        let (first, behind) = after_blanks(self.rest).split_first()?;
+        if *first != wanted {
+            return None;
+        }
+        self.rest = behind;
+        Some(())
+    }
+
+    /// Reads a name.
+    #[tactic(auto, unfolding(crate::specs::Tokens::name))]
+    pub fn name(&mut self) -> Option<Name<'a>>
+        ensures { Reads result (tokens.name self.old) self.new }
+    {
+        let text = after_blanks(self.rest);
+        if !is_letter(*text.first()?) {
+            return None;
+        }
+        let (bytes, behind) = text.split_at(name_length(text));
+        self.rest = behind;
+        Some(Name::new(bytes))
+    }
+
+    /// Passes a sign that may be absent.
+    #[tactic(auto, unfolding(crate::specs::Tokens::after_sign, crate::specs::Tokens::sign))]
+    pub fn skip_sign(&mut self, wanted: u8)
+        ensures { self.new ≡ tokens.after_sign wanted self.old }
+    {
+        if let Some((first, behind)) = after_blanks(self.rest).split_first() {
+            if *first == wanted {
+                self.rest = behind;
+            }
+        }
+    }
+
+    /// Whether a sign comes next.
+    #[tactic(auto, unfolding(crate::specs::Tokens::next_is))]
+    pub fn next_is(&self, wanted: u8) -> bool
+        ensures { result ≡ tokens.next_is wanted self.now }
+    {
+        match after_blanks(self.rest).first() {
+            None => false,
+            Some(first) => *first == wanted,
+        }
+    }
+
+    /// Reads a number.
+    #[tactic(auto, unfolding(crate::specs::Tokens::number))]
+    pub fn number(&mut self) -> Option<Number>
+        ensures read { Reads result (tokens.number self.old) self.new }
+        ensures stays { IfNone result (self.new ≡ self.old) }
+    {
+        let (number, behind) = number_at(after_blanks(self.rest))?;
+        self.rest = behind;
+        Some(number)
+    }
+
+    /// Reads a register.
+    #[tactic(auto, unfolding(crate::specs::Tables::register))]
+    pub fn register(&mut self) -> Option<u8>
+        ensures { Reads result (tables.register self.old) self.new }
+    {
+        let (number, behind) = keyword_at(registers(), after_blanks(self.rest))?;
+        self.rest = behind;
+        Some(number)
+    }
+
+    /// Reads a directive.
+    #[tactic(auto, unfolding(crate::specs::Tables::directive))]
+    pub fn directive(&mut self) -> Option<Directive>
+        ensures read { Reads result (tables.directive self.old) self.new }
+        ensures stays { IfNone result (self.new ≡ self.old) }
+    {
+        let (directive, behind) = keyword_at(directives(), after_blanks(self.rest))?;
+        self.rest = behind;
+        Some(directive)
+    }
+
+    /// Reads a label, if one stands in front.
+    #[tactic(auto, unfolding(crate::specs::Grammar::label))]
+    pub fn label(&mut self) -> Option<Name<'a>>
+        ensures { (result, self.new) ≡ grammar.label self.old }
+    {
+        let start = self.rest;
+        if let Some(name) = self.name() {
+            if let Some(()) = self.sign(b':') {
+                return Some(name);
+            }
+        }
+        self.rest = start;
+        None
+    }
+
+    /// Whether the line ends here, a comment apart.
+    #[tactic(auto, unfolding(crate::specs::Comments::ends))]
+    pub fn ends(&self) -> bool
+        ensures { result ≡ comments.ends self.now }
+    {
+        let text = after_blanks(self.rest);
+        text.split_at(comment_length(text))
+            .1
+            .iter()
+            .all(|byte| is_blank(*byte))
+    }
+}
