@@ -7,7 +7,7 @@ use Rattle.std.proofs.lemmas.Bool.{eqb-true, leb-true}
 use Rattle.y86_base.specs.Image.{IsSize}
 use Rattle.y86_base.specs.declared.parts.Variant.{Variant}
 use Rattle.y86_base.specs.declared.parts.Variant.TheVariants.{Base}
-use Rattle.y86_cli.specs.Words.{number_of, number_that, is_image_size, is_step_limit, Argument, place, memory, limit, is_option, place_of, option_of, in_front, arguments, places, memories, limits, the_one, at_most_one, Command, yis, yis_with, yis_of, form_of, IsLegal}
+use Rattle.y86_cli.specs.Words.{number_of, number_that, is_image_size, is_step_limit, Argument, place, memory, limit, is_option, place_of, option_of, in_front, arguments, places, memories, limits, the_one, at_most_one, Command, yas, yas_with, yis, yis_with, yis_of, command_of, form_of, IsLegal}
 
 abbrev IsStepLimit : ℕ → Type 0
 IsStepLimit n = (1 ≤ n) × (n ≤ 100000000)
@@ -117,19 +117,34 @@ with_legal (Some object) (Some size) (Some steps) command e p q =
     let same : yis object size steps Base ≡ command = cc in
     subst IsLegal same (p size refl, (q steps refl).0, (q steps refl).1)
 
-yis_legal : (found : Option (List Argument)) (command : Command) → option_and_then yis_of found ≡ Some command →
+source_legal : (source : Option (List ℕ)) (size : Option ℕ) (command : Command) → yas_with source size ≡ Some command →
+    ((n : ℕ) → size ≡ Some n → IsSize n) → IsLegal command
+source_legal None size command e p = absurd (cc)
+source_legal (Some source) None command e p = absurd (cc)
+source_legal (Some source) (Some size) command e p = let same : yas source size Base ≡ command = cc in subst IsLegal same (p size refl)
+
+command_legal : (name : List ℕ) (done : List Argument) (command : Command) → command_of name done ≡ Some command → AllLegal done → IsLegal command
+unfolding command_of
+command_legal name done command e h = at (bytes_eq name (codes "yas")) (bytes_eq name (codes "yis")) (eqb (length (limits done)) 0) e
+  where
+    sizes : (n : ℕ) → at_most_one 8192 (memories done) ≡ Some n → IsSize n
+    sizes n = one_legal IsSize 8192 n (memories done) default_size (memories_legal done h)
+
+    at : (a b none : Bool) →
+        cond a (cond none (yas_with (the_one (places done)) (at_most_one 8192 (memories done))) None) (cond b (yis_of done) None) ≡ Some command → IsLegal command
+    at true b true e = source_legal (the_one (places done)) (at_most_one 8192 (memories done)) command e sizes
+    at true b false e = absurd (cc)
+    at false true none e =
+        with_legal (the_one (places done)) (at_most_one 8192 (memories done)) (at_most_one 10000 (limits done)) command e sizes
+        (λ n. one_legal IsStepLimit 10000 n (limits done) (lit≤ tt, lit≤ tt) (limits_legal done h))
+    at false false none e = absurd (cc)
+
+found_legal : (name : List ℕ) (found : Option (List Argument)) (command : Command) → option_and_then (command_of name) found ≡ Some command →
     ((done : List Argument) → found ≡ Some done → AllLegal done) → IsLegal command
-yis_legal None command e h = absurd (cc)
-yis_legal (Some done) command e h =
-    with_legal (the_one (places done)) (at_most_one 8192 (memories done)) (at_most_one 10000 (limits done)) command e
-    (λ n. one_legal IsSize 8192 n (memories done) default_size (memories_legal done (h done refl)))
-    (λ n. one_legal IsStepLimit 10000 n (limits done) (lit≤ tt, lit≤ tt) (limits_legal done (h done refl)))
+found_legal name None command e h = absurd (cc)
+found_legal name (Some done) command e h = command_legal name done command e (h done refl)
 
 pub form_legal : (words : List (List ℕ)) (command : Command) → form_of words ≡ Some command → IsLegal command
 unfolding form_of
 form_legal [] command e = absurd (cc)
-form_legal (name ∷ rest) command e = at (bytes_eq name (codes "yis")) e
-  where
-    at : (b : Bool) → cond b (option_and_then yis_of (arguments rest)) None ≡ Some command → IsLegal command
-    at true e = yis_legal (arguments rest) command e (arguments_legal rest)
-    at false e = absurd (cc)
+form_legal (name ∷ rest) command e = found_legal name (arguments rest) command e (arguments_legal rest)

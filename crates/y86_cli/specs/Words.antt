@@ -102,6 +102,8 @@ at_most_one default (x ∷ y ∷ rest) = None
 -- ---- commands
 
 pub data Command : Type 0 where
+  -- print the object text of an assembly file: its name, the size of the memory in bytes, the instruction set
+  yas : List ℕ → ℕ → Variant → Command
   -- run an object file at the level of instructions: its name, the size of the memory in bytes, the limit of steps, the instruction set
   yis : List ℕ → ℕ → ℕ → Variant → Command
 
@@ -114,15 +116,31 @@ yis_with _ _ _ = None
 abbrev pub yis_of : List Argument → Option Command
 yis_of found = yis_with (the_one (places found)) (at_most_one 8192 (memories found)) (at_most_one 10000 (limits found))
 
+-- `yas` with an assembly file and a size, where there are both
+abbrev pub yas_with : Option (List ℕ) → Option ℕ → Option Command
+yas_with (Some source) (Some size) = Some (yas source size Base)
+yas_with _ _ = None
+
+-- `yas ASM`, with `--mem N` (8192 where absent) at most once, and no `--limit`
+abbrev pub yas_of : List Argument → Option Command
+yas_of found = if length (limits found) == 0 then yas_with (the_one (places found)) (at_most_one 8192 (memories found)) else None
+
+-- the command of a name with arguments
+unfoldable pub command_of : List ℕ → List Argument → Option Command
+command_of name found =
+    if bytes_eq name (codes "yas") then yas_of found else (if bytes_eq name (codes "yis") then yis_of found else None)
+
 -- the command that words are, if any
 unfoldable pub form_of : List (List ℕ) → Option Command
 form_of [] = None
-form_of (name ∷ rest) = if bytes_eq name (codes "yis") then option_and_then yis_of (arguments rest) else None
+form_of (name ∷ rest) = option_and_then (command_of name) (arguments rest)
 
 -- the file names in the words of a command, in their order
 abbrev pub names_of : Command → List (List ℕ)
+names_of (yas source size variant) = source ∷ []
 names_of (yis object size steps variant) = object ∷ []
 
 -- the numbers of a command are in range: a size that an image takes, and a limit from 1 to 100,000,000
 abbrev pub IsLegal : Command → Type 0
+IsLegal (yas source size variant) = IsSize size
 IsLegal (yis object size steps variant) = IsSize size × (1 ≤ steps) × (steps ≤ 100000000)

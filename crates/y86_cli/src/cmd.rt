@@ -3,7 +3,7 @@ ghost use Rattle.std.specs.List.{list_all};
 ghost use Rattle.y86_base.specs.Text.{is_decimal};
 ghost use Rattle.std.specs.Option.{option_map};
 ghost use Rattle.std.specs.Str.{bytes_eq};
-ghost use Rattle.y86_cli.specs.Read.{argument_in, command_in, FirstArgument, ReadsArguments, split_in, WithArgument, yis_found};
+ghost use Rattle.y86_cli.specs.Read.{argument_in, command_found, command_in, FirstArgument, ReadsArguments, split_in, WithArgument, yas_found, yis_found};
 ghost use Rattle.y86_cli.specs.Words as spec;
 
 use y86_base::Variant;
@@ -184,6 +184,12 @@ fn found_in<'a>(words: &'a [String]) -> Option<Found<'a>>
 /// A command with its file names and numbers.
 #[derive(Clone, Copy, Debug, PartialEq, Eq)]
 pub enum Cmd<'a> {
+    /// Prints the object text of an assembly file. `mem` is the size of the memory in bytes.
+    Yas {
+        asm: &'a str,
+        mem: u64,
+        variant: Variant,
+    },
     /// Runs an object file at the level of instructions. `mem` is the size of the memory in bytes, and `limit`
     /// the most steps that are done.
     Yis {
@@ -213,8 +219,36 @@ fn yis<'a>(found: Found<'a>) -> Option<Cmd<'a>>
     })
 }
 
+/// `yas` with its arguments, where they name an assembly file and no limit.
+fn yas<'a>(found: Found<'a>) -> Option<Cmd<'a>>
+    ensures { option_map command_in result ≡ yas_found found.entry }
+{
+    if found.limit.is_some() {
+        return None;
+    }
+    let asm = found.place?;
+    Some(Cmd::Yas {
+        asm,
+        mem: found.memory.unwrap_or(8192),
+        variant: Variant::Base,
+    })
+}
+
+/// The command of a name with arguments.
+#[tactic(auto, unfolding(crate::specs::Read::command_found))]
+fn named<'a>(name: &String, found: Found<'a>) -> Option<Cmd<'a>>
+    ensures { option_map command_in result ≡ command_found (string_bytes name.now) found.entry }
+{
+    if is_word(name, "yas") {
+        return yas(found);
+    }
+    if is_word(name, "yis") {
+        return yis(found);
+    }
+    None
+}
+
 /// The command that the words behind the program's own name are.
-#[tactic(auto, using(crate::proofs::Forms::no_words_no_form, crate::proofs::Forms::other_name_no_form, crate::proofs::Forms::no_arguments_no_form, crate::proofs::Forms::no_object_no_form, crate::proofs::Forms::yis_form))]
 pub fn words<'a>(words: &'a [String]) -> Result<Cmd<'a>, Usage>
     ensures command { IfOk result (λ command. spec.form_of (map string_bytes words.now) ≡ Some (command_in command)) }
     ensures legal { IfOk result (λ command. spec.IsLegal (command_in command)) }
@@ -223,12 +257,9 @@ pub fn words<'a>(words: &'a [String]) -> Result<Cmd<'a>, Usage>
     let Some((name, rest)) = words.split_first() else {
         return Err(Usage);
     };
-    if !is_word(name, "yis") {
-        return Err(Usage);
-    }
     match found_in(rest) {
         None => Err(Usage),
-        Some(found) => match yis(found) {
+        Some(found) => match named(name, found) {
             None => Err(Usage),
             Some(command) => Ok(command),
         },

@@ -63,6 +63,7 @@ fn execute<'a, F: Files, O: Sink>(
         (O.taken out.old) (O.taken out.new) (O.faults out.old) (O.faults out.new) result }
 {
     match command {
+        Cmd::Yas { .. } => Err(Stop::Memory),
         Cmd::Yis {
             obj,
             mem,

@@ -2,3 +2,4 @@ pub mod ObjectText
 pub mod Loads
 pub mod Lines
 pub mod Grammar
+pub mod Printed

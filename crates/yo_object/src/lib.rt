@@ -4,6 +4,8 @@
 mod laws;
 mod line;
 mod object;
+mod printer;
 
 pub use laws::line_grammar;
 pub use object::{YoFault, YoWhy, load};
+pub use printer::print;
