@@ -43,10 +43,10 @@ line length uses_a uses_b has_byte has_const ifun_top src_a src_b dst_e dst_m co
       next = next;
     }
 
--- the rows of a variant, by icode. The columns are:
---   length in bytes; are the fields rA, rB used; are there a register byte, a constant; the largest ifun, 15 where it is ignored;
---   srcA, srcB, dstE, dstM; is dstE written only where the condition holds; aluA, aluB; is the ALU's function the ifun (else it adds);
---   are the flags set; the access to memory; the next PC
+-- the rows of a variant, by icode. The columns are, from left to right:
+--   length in bytes; is the field rA used, is rB; is there a register byte, is there a constant; the largest ifun (15 where it is ignored);
+--   srcA, srcB, dstE, dstM; is dstE written only where the condition holds; aluA, aluB; is the function of the ALU the ifun (else it adds);
+--   are the flags set; what is done at memory; the next PC
 abbrev pub rows : Variant → List Row
 rows Base =
     line 1 no no no no 15 Dash Dash Dash Dash no NoA NoB no no NoMem Itself ∷  -- 0 halt

@@ -7,11 +7,12 @@ ghost use Rattle.y86_base.specs.declared.parts.Stat.TheVariants.{Aok};
 ghost use Rattle.y86_base.specs.declared.parts.Variant.{Variant};
 ghost use Rattle.y86_isa.specs.Blocks.{fetched};
 ghost use Rattle.y86_isa.specs.Encoding.{Holds, IsValid, encoded, fields_of, widest};
-ghost use Rattle.y86_isa.specs.Laws.{ChangesOneRegister, FallsThrough, KeepsFlags};
+ghost use Rattle.y86_isa.specs.Laws.{ChangesOneRegister, FallsThrough, FollowsFetch, FollowsRow, KeepsFlags};
 ghost use Rattle.y86_isa.specs.Machine.{start};
 ghost use Rattle.y86_isa.specs.Run.{FitsFields, IsImage, IsMachine, IsStoredBy, Pure, SameFetch, records_from, run_from};
 ghost use Rattle.y86_isa.specs.Step.{advance, retired};
 ghost use Rattle.y86_isa.specs.Table.{dash_row, row, rows};
+ghost use Rattle.y86_isa.specs.Work.{work};
 ghost use Rattle.y86_isa.specs.declared.columns.Row.{Row};
 ghost use Rattle.y86_isa.specs.declared.encoding.Instr.{Instr};
 ghost use Rattle.y86_isa.specs.declared.machine.Machine.{Machine};
@@ -24,6 +25,12 @@ pub fn law_of_rows()
     ensures unknown { (v : Variant) (icode : ℕ) → length (rows v) ≤ icode → row v icode ≡ dash_row }
     ensures length { (v : Variant) (icode : ℕ) → (row v icode).length
         ≡ 1 + (if (row v icode).has_byte then 1 else 0) + (if (row v icode).has_const then 8 else 0) }
+{}
+
+/// The work of an instruction follows what is fetched at the PC, and the row of its icode.
+pub fn law_of_work()
+    ensures fetch { (v : Variant) (m : Machine) → FollowsFetch (fetched v m.mem m.pc) (work v m) }
+    ensures row { (v : Variant) (m : Machine) → FollowsRow (row v (work v m).icode) m (work v m) }
 {}
 
 /// What one step may change. At most one register beside `%rsp`; of the memory, the 8 bytes of the record's

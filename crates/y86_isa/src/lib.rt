@@ -20,7 +20,7 @@ pub use encoding::{Instr, encode, valid};
 pub use fetch::{Fetched, Reading, behind, constant, read, register_fields, split};
 pub use laws::{
     law_of_encoding, law_of_images, law_of_machines, law_of_reading, law_of_records, law_of_rows,
-    law_of_runs, law_of_steps,
+    law_of_runs, law_of_steps, law_of_work,
 };
 pub use machine::{Machine, Rec, Store};
 pub use table::{icode_count, row};
