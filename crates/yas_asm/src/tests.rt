@@ -3,99 +3,575 @@ use std::process::Abort;
 use std::test::Fail;
 use y86_base::Variant;
 
+/// A line that is accepted, with the address that it shows and its bytes.
+struct Accepted {
+    source: &'static [u8],
+    addr: u64,
+    bytes: &'static [u8],
+}
+
+/// A source that is refused, with the first line with a fault and its least reason.
+struct Refused {
+    source: &'static [u8],
+    size: u64,
+    line: u64,
+    why: AsmWhy,
+}
+
+static ACCEPTED: [Accepted; 49] = [
+    Accepted {
+        source: b"halt",
+        addr: 0,
+        bytes: &[0x00],
+    },
+    Accepted {
+        source: b"nop",
+        addr: 0,
+        bytes: &[0x10],
+    },
+    Accepted {
+        source: b"ret",
+        addr: 0,
+        bytes: &[0x90],
+    },
+    Accepted {
+        source: b"rrmovq %rax,%rcx",
+        addr: 0,
+        bytes: &[0x20, 0x01],
+    },
+    Accepted {
+        source: b"cmovle %rdx,%rbx",
+        addr: 0,
+        bytes: &[0x21, 0x23],
+    },
+    Accepted {
+        source: b"cmovl %rsp,%rbp",
+        addr: 0,
+        bytes: &[0x22, 0x45],
+    },
+    Accepted {
+        source: b"cmove %rsi,%rdi",
+        addr: 0,
+        bytes: &[0x23, 0x67],
+    },
+    Accepted {
+        source: b"cmovne %r8,%r9",
+        addr: 0,
+        bytes: &[0x24, 0x89],
+    },
+    Accepted {
+        source: b"cmovge %r10,%r11",
+        addr: 0,
+        bytes: &[0x25, 0xab],
+    },
+    Accepted {
+        source: b"cmovg %r12,%r13",
+        addr: 0,
+        bytes: &[0x26, 0xcd],
+    },
+    Accepted {
+        source: b"irmovq $-1,%r14",
+        addr: 0,
+        bytes: &[0x30, 0xfe, 0xff, 0xff, 0xff, 0xff, 0xff, 0xff, 0xff, 0xff],
+    },
+    Accepted {
+        source: b"irmovq 0x0123456789aBcDeF,%rax",
+        addr: 0,
+        bytes: &[0x30, 0xf0, 0xef, 0xcd, 0xab, 0x89, 0x67, 0x45, 0x23, 0x01],
+    },
+    Accepted {
+        source: b"rmmovq %rcx,8(%rsp)",
+        addr: 0,
+        bytes: &[0x40, 0x14, 8, 0, 0, 0, 0, 0, 0, 0],
+    },
+    Accepted {
+        source: b"rmmovq %rcx , ( %rsp )",
+        addr: 0,
+        bytes: &[0x40, 0x14, 0, 0, 0, 0, 0, 0, 0, 0],
+    },
+    Accepted {
+        source: b"mrmovq -8(%rbp),%rdx",
+        addr: 0,
+        bytes: &[0x50, 0x25, 0xf8, 0xff, 0xff, 0xff, 0xff, 0xff, 0xff, 0xff],
+    },
+    Accepted {
+        source: b"addq %rdx,%rax",
+        addr: 0,
+        bytes: &[0x60, 0x20],
+    },
+    Accepted {
+        source: b"subq %rax,%rcx",
+        addr: 0,
+        bytes: &[0x61, 0x01],
+    },
+    Accepted {
+        source: b"andq %rcx,%rcx",
+        addr: 0,
+        bytes: &[0x62, 0x11],
+    },
+    Accepted {
+        source: b"xorq %r14,%rax",
+        addr: 0,
+        bytes: &[0x63, 0xe0],
+    },
+    Accepted {
+        source: b"jmp 0x100",
+        addr: 0,
+        bytes: &[0x70, 0, 1, 0, 0, 0, 0, 0, 0],
+    },
+    Accepted {
+        source: b"jle 1",
+        addr: 0,
+        bytes: &[0x71, 1, 0, 0, 0, 0, 0, 0, 0],
+    },
+    Accepted {
+        source: b"jl 1",
+        addr: 0,
+        bytes: &[0x72, 1, 0, 0, 0, 0, 0, 0, 0],
+    },
+    Accepted {
+        source: b"je 1",
+        addr: 0,
+        bytes: &[0x73, 1, 0, 0, 0, 0, 0, 0, 0],
+    },
+    Accepted {
+        source: b"jne 1",
+        addr: 0,
+        bytes: &[0x74, 1, 0, 0, 0, 0, 0, 0, 0],
+    },
+    Accepted {
+        source: b"jge 1",
+        addr: 0,
+        bytes: &[0x75, 1, 0, 0, 0, 0, 0, 0, 0],
+    },
+    Accepted {
+        source: b"jg $1",
+        addr: 0,
+        bytes: &[0x76, 1, 0, 0, 0, 0, 0, 0, 0],
+    },
+    Accepted {
+        source: b"call 0x20",
+        addr: 0,
+        bytes: &[0x80, 0x20, 0, 0, 0, 0, 0, 0, 0],
+    },
+    Accepted {
+        source: b"pushq %rbx",
+        addr: 0,
+        bytes: &[0xa0, 0x3f],
+    },
+    Accepted {
+        source: b"popq %r14",
+        addr: 0,
+        bytes: &[0xb0, 0xef],
+    },
+    Accepted {
+        source: b".pos 0x10",
+        addr: 16,
+        bytes: &[],
+    },
+    Accepted {
+        source: b".pos0x10",
+        addr: 16,
+        bytes: &[],
+    },
+    Accepted {
+        source: b"a: .pos 64",
+        addr: 64,
+        bytes: &[],
+    },
+    Accepted {
+        source: b".pos -0",
+        addr: 0,
+        bytes: &[],
+    },
+    Accepted {
+        source: b".align 8",
+        addr: 0,
+        bytes: &[],
+    },
+    Accepted {
+        source: b".byte 255",
+        addr: 0,
+        bytes: &[0xff],
+    },
+    Accepted {
+        source: b".byte $ -128",
+        addr: 0,
+        bytes: &[0x80],
+    },
+    Accepted {
+        source: b".word 0x1234",
+        addr: 0,
+        bytes: &[0x34, 0x12],
+    },
+    Accepted {
+        source: b".long -2",
+        addr: 0,
+        bytes: &[0xfe, 0xff, 0xff, 0xff],
+    },
+    Accepted {
+        source: b".quad 18446744073709551615",
+        addr: 0,
+        bytes: &[0xff, 0xff, 0xff, 0xff, 0xff, 0xff, 0xff, 0xff],
+    },
+    Accepted {
+        source: b".quad -9223372036854775808",
+        addr: 0,
+        bytes: &[0, 0, 0, 0, 0, 0, 0, 0x80],
+    },
+    Accepted {
+        source: b".quad-1",
+        addr: 0,
+        bytes: &[0xff, 0xff, 0xff, 0xff, 0xff, 0xff, 0xff, 0xff],
+    },
+    Accepted {
+        source: b"halt: jmp halt",
+        addr: 0,
+        bytes: &[0x70, 0, 0, 0, 0, 0, 0, 0, 0],
+    },
+    Accepted {
+        source: b"irmovq$1,%rax",
+        addr: 0,
+        bytes: &[0x30, 0xf0, 1, 0, 0, 0, 0, 0, 0, 0],
+    },
+    Accepted {
+        source: b" \t halt\r",
+        addr: 0,
+        bytes: &[0x00],
+    },
+    Accepted {
+        source: b"halt # \xff",
+        addr: 0,
+        bytes: &[0x00],
+    },
+    Accepted {
+        source: b"halt//\x01",
+        addr: 0,
+        bytes: &[0x00],
+    },
+    Accepted {
+        source: b"halt /* \x01 */ ",
+        addr: 0,
+        bytes: &[0x00],
+    },
+    Accepted {
+        source: b"halt/**/",
+        addr: 0,
+        bytes: &[0x00],
+    },
+    Accepted {
+        source: b"_a1:",
+        addr: 0,
+        bytes: &[],
+    },
+];
+
+static REFUSED: [Refused; 47] = [
+    Refused {
+        source: b"a: halt\na: nop",
+        size: 64,
+        line: 2,
+        why: AsmWhy::LabelTwice,
+    },
+    Refused {
+        source: b"jmp b",
+        size: 64,
+        line: 1,
+        why: AsmWhy::LabelUnknown,
+    },
+    Refused {
+        source: b"halt\n.pos 0\nnop",
+        size: 64,
+        line: 3,
+        why: AsmWhy::Overlap,
+    },
+    Refused {
+        source: b".pos 64\nhalt",
+        size: 64,
+        line: 2,
+        why: AsmWhy::OutsideMemory,
+    },
+    Refused {
+        source: b".byte 256",
+        size: 64,
+        line: 1,
+        why: AsmWhy::NumberTooWide,
+    },
+    Refused {
+        source: b".byte -129",
+        size: 64,
+        line: 1,
+        why: AsmWhy::NumberTooWide,
+    },
+    Refused {
+        source: b".quad -9223372036854775809",
+        size: 64,
+        line: 1,
+        why: AsmWhy::NumberTooWide,
+    },
+    Refused {
+        source: b"rmmovq %rax,0",
+        size: 64,
+        line: 1,
+        why: AsmWhy::Syntax,
+    },
+    Refused {
+        source: b"iaddq $1,%rax",
+        size: 64,
+        line: 1,
+        why: AsmWhy::Syntax,
+    },
+    // Tokens are read as long as they go, and a name ends where a blank stands.
+    Refused {
+        source: b"jmp5",
+        size: 64,
+        line: 1,
+        why: AsmWhy::Syntax,
+    },
+    Refused {
+        source: b"callmain",
+        size: 64,
+        line: 1,
+        why: AsmWhy::Syntax,
+    },
+    Refused {
+        source: b"Halt",
+        size: 64,
+        line: 1,
+        why: AsmWhy::Syntax,
+    },
+    Refused {
+        source: b"pushq %r15",
+        size: 64,
+        line: 1,
+        why: AsmWhy::Syntax,
+    },
+    Refused {
+        source: b".byte 0x",
+        size: 64,
+        line: 1,
+        why: AsmWhy::Syntax,
+    },
+    Refused {
+        source: b".byte 0X1",
+        size: 64,
+        line: 1,
+        why: AsmWhy::Syntax,
+    },
+    Refused {
+        source: b".byte -0x1",
+        size: 64,
+        line: 1,
+        why: AsmWhy::Syntax,
+    },
+    Refused {
+        source: b"a: b: halt",
+        size: 64,
+        line: 1,
+        why: AsmWhy::Syntax,
+    },
+    // One comment, and last on its line.
+    Refused {
+        source: b"/* a */ halt",
+        size: 64,
+        line: 1,
+        why: AsmWhy::Syntax,
+    },
+    Refused {
+        source: b"a: /* x */ halt",
+        size: 64,
+        line: 1,
+        why: AsmWhy::Syntax,
+    },
+    Refused {
+        source: b"halt /* a */ # b",
+        size: 64,
+        line: 1,
+        why: AsmWhy::Syntax,
+    },
+    Refused {
+        source: b"/* \x01 */ halt",
+        size: 64,
+        line: 1,
+        why: AsmWhy::Syntax,
+    },
+    Refused {
+        source: b"halt /*/",
+        size: 64,
+        line: 1,
+        why: AsmWhy::Syntax,
+    },
+    Refused {
+        source: b"halt /* /* \x01",
+        size: 64,
+        line: 1,
+        why: AsmWhy::BadByte,
+    },
+    Refused {
+        source: b"\nx /* a */ \x7f # b",
+        size: 64,
+        line: 2,
+        why: AsmWhy::BadByte,
+    },
+    // The operands of `.pos` and `.align`.
+    Refused {
+        source: b".align 0",
+        size: 64,
+        line: 1,
+        why: AsmWhy::Syntax,
+    },
+    Refused {
+        source: b".align -0",
+        size: 64,
+        line: 1,
+        why: AsmWhy::Syntax,
+    },
+    Refused {
+        source: b".pos -99999999999999999999",
+        size: 64,
+        line: 1,
+        why: AsmWhy::Syntax,
+    },
+    Refused {
+        source: b".pos $5",
+        size: 64,
+        line: 1,
+        why: AsmWhy::Syntax,
+    },
+    Refused {
+        source: b".pos a",
+        size: 64,
+        line: 1,
+        why: AsmWhy::Syntax,
+    },
+    Refused {
+        source: b".pos 0x10000000000000000",
+        size: 64,
+        line: 1,
+        why: AsmWhy::NumberTooWide,
+    },
+    Refused {
+        source: b".pos 0xffffffffffffffff",
+        size: 64,
+        line: 1,
+        why: AsmWhy::OutsideMemory,
+    },
+    Refused {
+        source: b"halt\n.align 0xffffffffffffffff",
+        size: 64,
+        line: 2,
+        why: AsmWhy::OutsideMemory,
+    },
+    Refused {
+        source: b"jmp 0",
+        size: 8,
+        line: 1,
+        why: AsmWhy::OutsideMemory,
+    },
+    // Which faulty lines move the address: a later label decides on the first line.
+    Refused {
+        source: b".byte c\n.pos 256\nc:",
+        size: 512,
+        line: 1,
+        why: AsmWhy::NumberTooWide,
+    },
+    Refused {
+        source: b".byte c\na: .pos 255\na: nop\nc:",
+        size: 512,
+        line: 1,
+        why: AsmWhy::NumberTooWide,
+    },
+    Refused {
+        source: b".byte c\n.pos 255\n.byte x\nc:",
+        size: 512,
+        line: 1,
+        why: AsmWhy::NumberTooWide,
+    },
+    Refused {
+        source: b".byte c\n.pos 255\n.byte d\nc:\n.pos 256\nd:",
+        size: 512,
+        line: 1,
+        why: AsmWhy::NumberTooWide,
+    },
+    Refused {
+        source: b".byte c\n.pos 255\n.byte 256\nc:",
+        size: 512,
+        line: 3,
+        why: AsmWhy::NumberTooWide,
+    },
+    Refused {
+        source: b".byte c\n.pos 255\nhalt x\nc:",
+        size: 512,
+        line: 3,
+        why: AsmWhy::Syntax,
+    },
+    Refused {
+        source: b".byte c\n.pos 255\n.quad 0\nc:",
+        size: 256,
+        line: 3,
+        why: AsmWhy::OutsideMemory,
+    },
+    // Which faulty lines define their label.
+    Refused {
+        source: b"jmp b\nb: halt x",
+        size: 64,
+        line: 1,
+        why: AsmWhy::LabelUnknown,
+    },
+    Refused {
+        source: b"jmp b\nb: .byte 256",
+        size: 64,
+        line: 1,
+        why: AsmWhy::LabelUnknown,
+    },
+    Refused {
+        source: b"jmp b\nb: .quad 0",
+        size: 16,
+        line: 2,
+        why: AsmWhy::OutsideMemory,
+    },
+    // Of several faults on a line the least.
+    Refused {
+        source: b"a:\na: .byte 256",
+        size: 64,
+        line: 2,
+        why: AsmWhy::NumberTooWide,
+    },
+    Refused {
+        source: b"a:\na: jmp x",
+        size: 8,
+        line: 2,
+        why: AsmWhy::LabelTwice,
+    },
+    Refused {
+        source: b"jmp x",
+        size: 8,
+        line: 1,
+        why: AsmWhy::LabelUnknown,
+    },
+    Refused {
+        source: b"nop\n.pos 0\njmp 0",
+        size: 8,
+        line: 3,
+        why: AsmWhy::OutsideMemory,
+    },
+];
+
 /// Each kind of statement once, and what blanks, comments and numbers may look like, with bytes assembled by hand.
 #[test]
 fn assembles_statements(rt: HostRuntime) {
-    for (source, addr, bytes) in [
-        (&b"halt"[..], 0, &[0x00][..]),
-        (b"nop", 0, &[0x10]),
-        (b"ret", 0, &[0x90]),
-        (b"rrmovq %rax,%rcx", 0, &[0x20, 0x01]),
-        (b"cmovle %rdx,%rbx", 0, &[0x21, 0x23]),
-        (b"cmovl %rsp,%rbp", 0, &[0x22, 0x45]),
-        (b"cmove %rsi,%rdi", 0, &[0x23, 0x67]),
-        (b"cmovne %r8,%r9", 0, &[0x24, 0x89]),
-        (b"cmovge %r10,%r11", 0, &[0x25, 0xab]),
-        (b"cmovg %r12,%r13", 0, &[0x26, 0xcd]),
-        (
-            b"irmovq $-1,%r14",
-            0,
-            &[0x30, 0xfe, 0xff, 0xff, 0xff, 0xff, 0xff, 0xff, 0xff, 0xff],
-        ),
-        (
-            b"irmovq 0x0123456789aBcDeF,%rax",
-            0,
-            &[0x30, 0xf0, 0xef, 0xcd, 0xab, 0x89, 0x67, 0x45, 0x23, 0x01],
-        ),
-        (
-            b"rmmovq %rcx,8(%rsp)",
-            0,
-            &[0x40, 0x14, 8, 0, 0, 0, 0, 0, 0, 0],
-        ),
-        (
-            b"rmmovq %rcx , ( %rsp )",
-            0,
-            &[0x40, 0x14, 0, 0, 0, 0, 0, 0, 0, 0],
-        ),
-        (
-            b"mrmovq -8(%rbp),%rdx",
-            0,
-            &[0x50, 0x25, 0xf8, 0xff, 0xff, 0xff, 0xff, 0xff, 0xff, 0xff],
-        ),
-        (b"addq %rdx,%rax", 0, &[0x60, 0x20]),
-        (b"subq %rax,%rcx", 0, &[0x61, 0x01]),
-        (b"andq %rcx,%rcx", 0, &[0x62, 0x11]),
-        (b"xorq %r14,%rax", 0, &[0x63, 0xe0]),
-        (b"jmp 0x100", 0, &[0x70, 0, 1, 0, 0, 0, 0, 0, 0]),
-        (b"jle 1", 0, &[0x71, 1, 0, 0, 0, 0, 0, 0, 0]),
-        (b"jl 1", 0, &[0x72, 1, 0, 0, 0, 0, 0, 0, 0]),
-        (b"je 1", 0, &[0x73, 1, 0, 0, 0, 0, 0, 0, 0]),
-        (b"jne 1", 0, &[0x74, 1, 0, 0, 0, 0, 0, 0, 0]),
-        (b"jge 1", 0, &[0x75, 1, 0, 0, 0, 0, 0, 0, 0]),
-        (b"jg $1", 0, &[0x76, 1, 0, 0, 0, 0, 0, 0, 0]),
-        (b"call 0x20", 0, &[0x80, 0x20, 0, 0, 0, 0, 0, 0, 0]),
-        (b"pushq %rbx", 0, &[0xa0, 0x3f]),
-        (b"popq %r14", 0, &[0xb0, 0xef]),
-        (b".pos 0x10", 16, &[]),
-        (b".pos0x10", 16, &[]),
-        (b"a: .pos 64", 64, &[]),
-        (b".pos -0", 0, &[]),
-        (b".align 8", 0, &[]),
-        (b".byte 255", 0, &[0xff]),
-        (b".byte $ -128", 0, &[0x80]),
-        (b".word 0x1234", 0, &[0x34, 0x12]),
-        (b".long -2", 0, &[0xfe, 0xff, 0xff, 0xff]),
-        (
-            b".quad 18446744073709551615",
-            0,
-            &[0xff, 0xff, 0xff, 0xff, 0xff, 0xff, 0xff, 0xff],
-        ),
-        (
-            b".quad -9223372036854775808",
-            0,
-            &[0, 0, 0, 0, 0, 0, 0, 0x80],
-        ),
-        (
-            b".quad-1",
-            0,
-            &[0xff, 0xff, 0xff, 0xff, 0xff, 0xff, 0xff, 0xff],
-        ),
-        (b"halt: jmp halt", 0, &[0x70, 0, 0, 0, 0, 0, 0, 0, 0]),
-        (b"irmovq$1,%rax", 0, &[0x30, 0xf0, 1, 0, 0, 0, 0, 0, 0, 0]),
-        (b" \t halt\r", 0, &[0x00]),
-        (b"halt # \xff", 0, &[0x00]),
-        (b"halt//\x01", 0, &[0x00]),
-        (b"halt /* \x01 */ ", 0, &[0x00]),
-        (b"halt/**/", 0, &[0x00]),
-        (b"_a1:", 0, &[]),
-    ] {
+    for Accepted {
+        source,
+        addr,
+        bytes,
+    } in &ACCEPTED {
         match assemble(rt.alloc(), Variant::Base, source, 64) {
             Err(fault) => panic!(rt; "{fault} in {source:?}"),
             Ok(listing) => {
                 assert_eq!(rt; listing.lines().len(), 1);
                 let line = &listing.lines()[0];
-                assert_eq!(rt; line.addr, Some(addr), "{source:?}");
-                assert_eq!(rt; line.bytes.as_slice(), bytes, "{source:?}");
+                assert_eq!(rt; line.addr, Some(*addr), "{source:?}");
+                assert_eq!(rt; line.bytes.as_slice(), *bytes, "{source:?}");
             }
         }
     }
@@ -135,96 +611,17 @@ fn lists_lines(rt: HostRuntime) -> Result<(), Fail> {
 /// The first line with a fault and the least fault on it.
 #[test]
 fn tells_faults(rt: HostRuntime) {
-    for (source, size, line, why) in [
-        (&b"a: halt\na: nop"[..], 64, 2, AsmWhy::LabelTwice),
-        (b"jmp b", 64, 1, AsmWhy::LabelUnknown),
-        (b"halt\n.pos 0\nnop", 64, 3, AsmWhy::Overlap),
-        (b".pos 64\nhalt", 64, 2, AsmWhy::OutsideMemory),
-        (b".byte 256", 64, 1, AsmWhy::NumberTooWide),
-        (b".byte -129", 64, 1, AsmWhy::NumberTooWide),
-        (b".quad -9223372036854775809", 64, 1, AsmWhy::NumberTooWide),
-        (b"rmmovq %rax,0", 64, 1, AsmWhy::Syntax),
-        (b"iaddq $1,%rax", 64, 1, AsmWhy::Syntax),
-        // Tokens are read as long as they go, and a name ends where a blank stands.
-        (b"jmp5", 64, 1, AsmWhy::Syntax),
-        (b"callmain", 64, 1, AsmWhy::Syntax),
-        (b"Halt", 64, 1, AsmWhy::Syntax),
-        (b"pushq %r15", 64, 1, AsmWhy::Syntax),
-        (b".byte 0x", 64, 1, AsmWhy::Syntax),
-        (b".byte 0X1", 64, 1, AsmWhy::Syntax),
-        (b".byte -0x1", 64, 1, AsmWhy::Syntax),
-        (b"a: b: halt", 64, 1, AsmWhy::Syntax),
-        // One comment, and last on its line.
-        (b"/* a */ halt", 64, 1, AsmWhy::Syntax),
-        (b"a: /* x */ halt", 64, 1, AsmWhy::Syntax),
-        (b"halt /* a */ # b", 64, 1, AsmWhy::Syntax),
-        (b"/* \x01 */ halt", 64, 1, AsmWhy::Syntax),
-        (b"halt /*/", 64, 1, AsmWhy::Syntax),
-        (b"halt /* /* \x01", 64, 1, AsmWhy::BadByte),
-        (b"\nx /* a */ \x7f # b", 64, 2, AsmWhy::BadByte),
-        // The operands of `.pos` and `.align`.
-        (b".align 0", 64, 1, AsmWhy::Syntax),
-        (b".align -0", 64, 1, AsmWhy::Syntax),
-        (b".pos -99999999999999999999", 64, 1, AsmWhy::Syntax),
-        (b".pos $5", 64, 1, AsmWhy::Syntax),
-        (b".pos a", 64, 1, AsmWhy::Syntax),
-        (b".pos 0x10000000000000000", 64, 1, AsmWhy::NumberTooWide),
-        (b".pos 0xffffffffffffffff", 64, 1, AsmWhy::OutsideMemory),
-        (
-            b"halt\n.align 0xffffffffffffffff",
-            64,
-            2,
-            AsmWhy::OutsideMemory,
-        ),
-        (b"jmp 0", 8, 1, AsmWhy::OutsideMemory),
-        // Which faulty lines move the address: a later label decides on the first line.
-        (b".byte c\n.pos 256\nc:", 512, 1, AsmWhy::NumberTooWide),
-        (
-            b".byte c\na: .pos 255\na: nop\nc:",
-            512,
-            1,
-            AsmWhy::NumberTooWide,
-        ),
-        (
-            b".byte c\n.pos 255\n.byte x\nc:",
-            512,
-            1,
-            AsmWhy::NumberTooWide,
-        ),
-        (
-            b".byte c\n.pos 255\n.byte d\nc:\n.pos 256\nd:",
-            512,
-            1,
-            AsmWhy::NumberTooWide,
-        ),
-        (
-            b".byte c\n.pos 255\n.byte 256\nc:",
-            512,
-            3,
-            AsmWhy::NumberTooWide,
-        ),
-        (b".byte c\n.pos 255\nhalt x\nc:", 512, 3, AsmWhy::Syntax),
-        (
-            b".byte c\n.pos 255\n.quad 0\nc:",
-            256,
-            3,
-            AsmWhy::OutsideMemory,
-        ),
-        // Which faulty lines define their label.
-        (b"jmp b\nb: halt x", 64, 1, AsmWhy::LabelUnknown),
-        (b"jmp b\nb: .byte 256", 64, 1, AsmWhy::LabelUnknown),
-        (b"jmp b\nb: .quad 0", 16, 2, AsmWhy::OutsideMemory),
-        // Of several faults on a line the least.
-        (b"a:\na: .byte 256", 64, 2, AsmWhy::NumberTooWide),
-        (b"a:\na: jmp x", 8, 2, AsmWhy::LabelTwice),
-        (b"jmp x", 8, 1, AsmWhy::LabelUnknown),
-        (b"nop\n.pos 0\njmp 0", 8, 3, AsmWhy::OutsideMemory),
-    ] {
-        match assemble(rt.alloc(), Variant::Base, source, size) {
+    for Refused {
+        source,
+        size,
+        line,
+        why,
+    } in &REFUSED {
+        match assemble(rt.alloc(), Variant::Base, source, *size) {
             Ok(_) => panic!(rt; "accepted {source:?}"),
             Err(fault) => {
-                assert_eq!(rt; fault.line, line, "{source:?}");
-                assert_eq!(rt; fault.why, why, "{source:?}");
+                assert_eq!(rt; fault.line, *line, "{source:?}");
+                assert_eq!(rt; fault.why, *why, "{source:?}");
             }
         }
     }
