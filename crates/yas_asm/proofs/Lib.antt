@@ -4,3 +4,4 @@ pub mod LabelLemmas
 pub mod SoundLemmas
 pub mod PassLemmas
 pub mod SoundGrammar
+pub mod LawLemmas

@@ -35,14 +35,14 @@ labels_end variant size address table rest e = rw e refl
 
 pub ruleset collecting = (labels_begin, labels_more, labels_end)
 
-not_here : {A : Type 0} (b : Bool) (x : A) (rest : Option A) → cond b (Some x) rest ≡ None → (b ≡ false) × (rest ≡ None)
+pub not_here : {A : Type 0} (b : Bool) (x : A) (rest : Option A) → cond b (Some x) rest ≡ None → (b ≡ false) × (rest ≡ None)
 not_here {A} true x rest e = absurd (no x e)
   where
     no : (x : A) → Some x ≡ None → ⊥
     no x e = cc
 not_here false x rest e = (refl, e)
 
-some_from_none : {A : Type 0} (o : Option A) → is_none o ≡ false → is_some o ≡ true
+pub some_from_none : {A : Type 0} (o : Option A) → is_none o ≡ false → is_some o ≡ true
 some_from_none None e = cc
 some_from_none (Some x) e = refl
 
@@ -79,15 +79,15 @@ fold_push : {A B : Type 0} (f : B → A → B) (b : B) (xs : List A) (x : A) →
 fold_push f b [] x = refl
 fold_push f b (y ∷ xs) x = fold_push f (f b y) xs x
 
-labels-push : (before : List Placed) (line : Placed) → labels (before ++ line ∷ []) ≡ with_label (labels before) line.address (label_of line.read)
+pub labels-push : (before : List Placed) (line : Placed) → labels (before ++ line ∷ []) ≡ with_label (labels before) line.address (label_of line.read)
 unfolding labels
 labels-push before line = fold_push _ _ before line
 
-append_nil : {A : Type 0} (xs : List A) → xs ++ [] ≡ xs
+pub append_nil : {A : Type 0} (xs : List A) → xs ++ [] ≡ xs
 append_nil [] = refl
 append_nil (x ∷ xs) = ap (λ rest. x ∷ rest) (append_nil xs)
 
-append_twice : {A : Type 0} (xs ys zs : List A) → (xs ++ ys) ++ zs ≡ xs ++ (ys ++ zs)
+pub append_twice : {A : Type 0} (xs ys zs : List A) → (xs ++ ys) ++ zs ≡ xs ++ (ys ++ zs)
 append_twice [] ys zs = refl
 append_twice (x ∷ xs) ys zs = ap (λ rest. x ∷ rest) (append_twice xs ys zs)
 
@@ -95,7 +95,7 @@ flat_map_push : {A B : Type 0} (f : A → List B) (xs : List A) (x : A) → flat
 flat_map_push f [] x = append_nil (f x)
 flat_map_push f (y ∷ xs) x = ap (λ rest. f y ++ rest) (flat_map_push f xs x) ∙ sym (append_twice (f y) (flat_map f xs) (f x))
 
-filled-push : (variant : Variant) (size : ℕ) (before : List Placed) (line : Placed)
+pub filled-push : (variant : Variant) (size : ℕ) (before : List Placed) (line : Placed)
     → filled variant size (before ++ line ∷ []) ≡ filled variant size before ++ addresses variant size line.address line.read
 unfolding filled
 filled-push variant size before line = flat_map_push _ before line

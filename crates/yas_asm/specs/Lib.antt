@@ -9,3 +9,4 @@ pub mod Listing
 pub mod Sound
 pub mod LabelMap
 pub mod Outcome
+pub mod Laws

@@ -190,8 +190,8 @@ fn load<'a>(reader: &mut Reader<'a>, operation: Operation) -> Option<Statement<'
 {
     let (displacement, base) = memory(reader)?;
     reader.sign(b',')?;
-    let a = reader.register()?;
-    Some(instruction(operation, a, base, displacement))
+    let destination = reader.register()?;
+    Some(instruction(operation, destination, base, displacement))
 }
 
 #[tactic(auto, unfolding(crate::specs::Grammar::target))]

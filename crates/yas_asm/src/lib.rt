@@ -10,6 +10,7 @@ mod fault;
 mod grammar;
 mod keyword;
 mod labels;
+mod laws;
 mod listing;
 mod name;
 mod number;
@@ -23,4 +24,5 @@ mod used;
 
 pub use assembler::assemble;
 pub use fault::{AsmFault, AsmWhy};
+pub use laws::law_of_labels;
 pub use listing::{Line, Listing};
