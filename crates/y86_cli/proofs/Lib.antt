@@ -3,3 +3,4 @@ pub mod Forms
 pub mod Runs
 pub mod Legal
 pub mod Outcomes
+pub mod Contents

@@ -9,13 +9,13 @@ use Rattle.y86_base.specs.declared.parts.Variant.{Variant}
 use Rattle.yo_object.specs.ObjectText.{object_of}
 use Rattle.yo_object.specs.declared.object.YoFault.{YoFault}
 use Rattle.y86_cli.specs.declared.stop.Stop as code
-use Rattle.y86_cli.specs.declared.stop.Stop.TheVariants.{Usage, Read, Write, Object, Memory, TooLong}
+use Rattle.y86_cli.specs.declared.stop.Stop.TheVariants.{Usage, Read, Write, Assembly, Object, Memory, TooLong}
 use Rattle.y86_cli.specs.Answer.{Answered, refused, answer, answer_to, image_of_text, object_image, run_status, yis_run, yis_answer}
 use Rattle.y86_cli.specs.Outcomes.{IsFaultless, NoneRose, Tells, TellsOf, names_in}
 use Rattle.y86_cli.specs.Words.{Command, yis, form_of, names_of}
 use Rattle.y86_cli.specs.Reads.{IsFree, GivesImage, OnRead, OnWrite, OnUsage, StoppedAt, WritesOut, NothingOut, StopsAs, AnswersWhole, AnswersAs, IsDone, IsOutcome}
 use Rattle.y86_cli.specs.Stops.{answer_at, status_of}
-use Rattle.y86_cli.proofs.Runs.{within}
+use Rattle.y86_cli.proofs.Contents.{within, source_within}
 
 -- no image: the defined refusal, or a free stop, which is no failed write here
 stops : (answered : Answered) (old new : Option (List ℕ)) (stop : code.Stop) → IsFree stop ⊎ (answered ≡ answer_at stop) → OnWrite stop ⊥ → StopsAs answered old new stop
@@ -23,7 +23,9 @@ stops answered old new Usage (inl free) w = absurd free
 stops answered old new Usage (inr same) w = same
 stops answered old new (Read name) h w = tt
 stops answered old new Write h w = absurd w
+stops answered old new (Assembly name fault) (inl free) w = absurd free
 stops answered old new (Object name fault) (inl free) w = absurd free
+stops answered old new (Assembly name fault) (inr same) w = same
 stops answered old new (Object name fault) (inr same) w = same
 stops answered old new Memory h w = tt
 stops answered old new (TooLong name limit) (inl free) w = absurd free
@@ -47,6 +49,7 @@ after_run v image limit old new (Ok status) s w free = record { status_is = s; o
 after_run v image limit old new (Err Usage) s w free = absurd free
 after_run v image limit old new (Err (Read name)) s w free = tt
 after_run v image limit old new (Err Write) s w free = w
+after_run v image limit old new (Err (Assembly name fault)) s w free = absurd free
 after_run v image limit old new (Err (Object name fault)) s w free = absurd free
 after_run v image limit old new (Err Memory) s w free = tt
 after_run v image limit old new (Err (TooLong name bytes)) s w free = absurd free
@@ -82,6 +85,7 @@ never_usage P (Ok status) h = tt
 never_usage P (Err Usage) h = absurd h
 never_usage P (Err (Read name)) h = tt
 never_usage P (Err Write) h = tt
+never_usage P (Err (Assembly name fault)) h = tt
 never_usage P (Err (Object name fault)) h = tt
 never_usage P (Err Memory) h = tt
 never_usage P (Err (TooLong name limit)) h = tt
@@ -91,6 +95,7 @@ read_more P Q (Ok status) f h = tt
 read_more P Q (Err Usage) f h = tt
 read_more P Q (Err (Read name)) f h = f name.now h
 read_more P Q (Err Write) f h = tt
+read_more P Q (Err (Assembly name fault)) f h = tt
 read_more P Q (Err (Object name fault)) f h = tt
 read_more P Q (Err Memory) f h = tt
 read_more P Q (Err (TooLong name limit)) f h = tt
@@ -169,6 +174,11 @@ stop_is_memory words told faults_before faults_after old new out_before out_afte
 stop_is_memory words told faults_before faults_after old new out_before out_after (Read name) contents command o tells form faultless none write =
     absurd (none_rose (names_of command) faults_before faults_after name.now none (rw form at o.read_failed.0) o.read_failed.1)
 stop_is_memory words told faults_before faults_after old new out_before out_after Write contents command o tells form faultless none write = absurd (write o.write_failed)
+stop_is_memory words told faults_before faults_after old new out_before out_after (Assembly name fault) contents command o tells form faultless none write =
+    let said : answer words contents ≡ answer_at (Assembly name fault) = o.answers contents tells in
+    let low : (answer_to command contents).status ≤ 1 = faultless_low command contents faultless in
+    let status : (answer_to command contents).status ≡ 5 = ap (λ a. a.status) (rw form at said) in
+    absurd (omega arith)
 stop_is_memory words told faults_before faults_after old new out_before out_after (Object name fault) contents command o tells form faultless none write =
     let said : answer words contents ≡ answer_at (Object name fault) = o.answers contents tells in
     let low : (answer_to command contents).status ≤ 1 = faultless_low command contents faultless in

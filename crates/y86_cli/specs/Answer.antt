@@ -13,7 +13,13 @@ use Rattle.yo_object.specs.ObjectText.{object_of}
 use Rattle.yo_object.specs.declared.object.YoFault.{YoFault}
 use Rattle.yo_object.specs.declared.object.YoWhy.{YoWhy}
 use Rattle.yo_object.specs.declared.object.YoWhy.TheVariants.{Syntax, OddDigits, OutsideMemory, AddressTooWide, Memory}
-use Rattle.y86_cli.specs.Words.{Command, yis, form_of, names_of}
+use Rattle.yas_asm.specs.Assembly.{assembled}
+use Rattle.yas_asm.specs.declared.fault.AsmFault.{AsmFault}
+use Rattle.yas_asm.specs.declared.fault.AsmWhy.{AsmWhy}
+use Rattle.yas_asm.specs.declared.fault.AsmWhy.TheVariants as assembly
+use Rattle.yas_asm.specs.declared.listing.Line.{Line}
+use Rattle.yo_object.specs.Printed.{printed}
+use Rattle.y86_cli.specs.Words.{Command, yas, yis, form_of}
 
 -- ---- the lines on standard error
 
@@ -43,6 +49,20 @@ fault_line name line reason = concat (name ∷ codes ":" ∷ numeral 10 1 line �
 abbrev pub object_fault_line : List ℕ → YoFault → List ℕ
 object_fault_line name fault = fault_line name fault.line (object_reason fault.why)
 
+abbrev pub assembly_reason : AsmWhy → List ℕ
+assembly_reason assembly.Syntax = codes "Syntax"
+assembly_reason assembly.BadByte = codes "BadByte"
+assembly_reason assembly.NumberTooWide = codes "NumberTooWide"
+assembly_reason assembly.LabelTwice = codes "LabelTwice"
+assembly_reason assembly.LabelUnknown = codes "LabelUnknown"
+assembly_reason assembly.OutsideMemory = codes "OutsideMemory"
+assembly_reason assembly.Overlap = codes "Overlap"
+assembly_reason assembly.LabelLimit = codes "LabelLimit"
+assembly_reason assembly.Memory = codes "Memory"
+
+abbrev pub assembly_fault_line : List ℕ → AsmFault → List ℕ
+assembly_fault_line name fault = fault_line name fault.line (assembly_reason fault.why)
+
 -- ---- answers
 
 pub record Answered : Type 0 where
@@ -54,9 +74,9 @@ pub record Answered : Type 0 where
 abbrev pub refused : ℕ → List ℕ → Answered
 refused status err = record { status = status; out = []; err = err }
 
--- the most bytes that an object file has
-abbrev pub object_limit : ℕ
-object_limit = 1048576
+-- the most bytes that an object file or an assembly file has
+abbrev pub file_limit : ℕ
+file_limit = 1048576
 
 -- the image of an object file, or the answer where there is none: the file can't be read, it is too long, or its text has a fault
 abbrev pub image_of_text : List ℕ → Result (List ℕ) YoFault → Result (List ℕ) Answered
@@ -66,7 +86,7 @@ image_of_text name (Err fault) = Err (refused 5 (object_fault_line name fault))
 unfoldable pub object_image : List ℕ → ℕ → Option (List ℕ) → Result (List ℕ) Answered
 object_image name size None = Err (refused 3 (read_fault_line name))
 object_image name size (Some bytes) =
-    if nat_lt object_limit (length bytes) then Err (refused 7 (too_long_line name object_limit)) else image_of_text name (object_of bytes size)
+    if nat_lt file_limit (length bytes) then Err (refused 7 (too_long_line name file_limit)) else image_of_text name (object_of bytes size)
 
 -- 0 where a run ended at a halt, else 1
 abbrev pub run_status : Stat → ℕ
@@ -90,12 +110,24 @@ abbrev pub yis_answer : Variant → ℕ → Result (List ℕ) Answered → Answe
 yis_answer v limit (Ok image) = yis_run v image limit
 yis_answer v limit (Err answer) = answer
 
+-- the answer to the assembly of a source
+abbrev pub listing_answer : List ℕ → List ℕ → Result (List Line) AsmFault → Answered
+listing_answer name source (Ok lines) = record { status = 0; out = printed (record { lines = lines; source = source }); err = [] }
+listing_answer name source (Err fault) = refused 5 (assembly_fault_line name fault)
+
+-- the answer to an assembly file: it can't be read, it is too long, its text has a fault, or its object text
+unfoldable pub yas_answer : Variant → List ℕ → ℕ → Option (List ℕ) → Answered
+yas_answer v name size None = refused 3 (read_fault_line name)
+yas_answer v name size (Some source) =
+    if nat_lt file_limit (length source) then refused 7 (too_long_line name file_limit) else listing_answer name source (assembled v source size)
+
 -- the contents of the first of the files
 abbrev pub first_content : List (Option (List ℕ)) → Option (List ℕ)
 first_content [] = None
 first_content (content ∷ rest) = content
 
 abbrev pub answer_to : Command → List (Option (List ℕ)) → Answered
+answer_to (yas source size v) contents = yas_answer v source size (first_content contents)
 answer_to (yis object size limit v) contents = yis_answer v limit (object_image object size (first_content contents))
 
 abbrev pub answer_of : Option Command → List (Option (List ℕ)) → Answered

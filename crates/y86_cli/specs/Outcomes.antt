@@ -2,9 +2,10 @@
 use Rattle.std.specs.Prelude.{◌≡◌, ◌≢◌, ◌⊎◌, ℕ, ◌≤◌, List, [], ◌∷◌, length, Option, Some, None, Ok, IfSome, IsOk, Contains}
 use Rattle.wb_io.specs.Causes.{Rose}
 use Rattle.wb_io.specs.Sinks.{Took, TookPart}
+use Rattle.yas_asm.specs.Assembly.{assembled}
 use Rattle.yo_object.specs.ObjectText.{object_of}
-use Rattle.y86_cli.specs.Words.{Command, yis, form_of, names_of}
-use Rattle.y86_cli.specs.Answer.{Answered, answer, object_limit, read_fault_line, memory_line}
+use Rattle.y86_cli.specs.Words.{Command, yas, yis, form_of, names_of}
+use Rattle.y86_cli.specs.Answer.{Answered, answer, file_limit, read_fault_line, memory_line}
 
 -- the files tell the contents of these names: of each, its bytes or that it has none
 abbrev pub TellsOf : (List ℕ → Option (Option (List ℕ))) → List (List ℕ) → List (Option (List ℕ)) → Type 0
@@ -41,8 +42,10 @@ pub record ReadFailed (names : List (List ℕ)) (faults_before faults_after : Li
 
 -- the files of a command have bytes, within their limits, and none of the faults that the command looks for
 abbrev pub IsFaultless : Command → List (Option (List ℕ)) → Type 0
+IsFaultless (yas source size variant) contents =
+    (bytes : List ℕ) × (contents ≡ Some bytes ∷ []) × (length bytes ≤ file_limit) × IsOk (assembled variant bytes size)
 IsFaultless (yis object size steps variant) contents =
-    (bytes : List ℕ) × (contents ≡ Some bytes ∷ []) × (length bytes ≤ object_limit) × IsOk (object_of bytes size)
+    (bytes : List ℕ) × (contents ≡ Some bytes ∷ []) × (length bytes ≤ file_limit) × IsOk (object_of bytes size)
 
 -- no count of these names rose
 abbrev pub NoneRose : List (List ℕ) → (List ℕ → ℕ) → (List ℕ → ℕ) → Type 0

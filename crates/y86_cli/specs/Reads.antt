@@ -1,10 +1,11 @@
 -- What the steps of the program give, against the definition of its answers.
-use Rattle.std.specs.Prelude.{◌≡◌, ◌⊎◌, ◌≤◌, ℕ, List, [], Option, None, Result, Ok, Err, IfOk, IfErr, Contains}
+use Rattle.std.specs.Prelude.{◌≡◌, ◌⊎◌, ◌≤◌, ℕ, List, [], ◌<◌, length, Option, Some, None, IsSomeAnd, Result, Ok, Err, IfOk, IfErr, Contains, Vec}
+use Rattle.std.specs.Global.{Global}
 use Rattle.wb_io.specs.Causes.{Rose}
 use Rattle.wb_io.specs.Sinks.{Took, TookPart}
 use Rattle.y86_cli.specs.declared.stop.Stop as code
-use Rattle.y86_cli.specs.declared.stop.Stop.TheVariants.{Usage, Read, Write, Object, Memory, TooLong}
-use Rattle.y86_cli.specs.Answer.{Answered, answer, answer_to}
+use Rattle.y86_cli.specs.declared.stop.Stop.TheVariants.{Usage, Read, Write, Assembly, Object, Memory, TooLong}
+use Rattle.y86_cli.specs.Answer.{Answered, refused, answer, answer_to, file_limit, too_long_line}
 use Rattle.y86_cli.specs.Outcomes.{Tells, TellsOf, names_in}
 use Rattle.y86_cli.specs.Words.{Command, form_of, names_of}
 use Rattle.y86_cli.specs.Stops.{answer_at}
@@ -14,6 +15,7 @@ abbrev pub IsFree : code.Stop → Type 0
 IsFree Usage = ⊥
 IsFree (Read name) = Unit {0}
 IsFree Write = Unit {0}
+IsFree (Assembly name fault) = ⊥
 IsFree (Object name fault) = ⊥
 IsFree Memory = Unit {0}
 IsFree (TooLong name limit) = ⊥
@@ -23,6 +25,7 @@ abbrev pub OnRead : code.Stop → (List ℕ → Type 0) → Type 0
 OnRead Usage P = Unit {0}
 OnRead (Read name) P = P name.now
 OnRead Write P = Unit {0}
+OnRead (Assembly name fault) P = Unit {0}
 OnRead (Object name fault) P = Unit {0}
 OnRead Memory P = Unit {0}
 OnRead (TooLong name limit) P = Unit {0}
@@ -32,9 +35,21 @@ abbrev pub OnWrite : code.Stop → Type 0 → Type 0
 OnWrite Usage P = Unit {0}
 OnWrite (Read name) P = Unit {0}
 OnWrite Write P = P
+OnWrite (Assembly name fault) P = Unit {0}
 OnWrite (Object name fault) P = Unit {0}
 OnWrite Memory P = Unit {0}
 OnWrite (TooLong name limit) P = Unit {0}
+
+-- the bytes of a file are its contents, within the limit; else a free stop, or the file is too long
+abbrev pub ReadsFile : List ℕ → Option (List ℕ) → Result (Vec ℕ Global) code.Stop → Type 0
+ReadsFile name content (Ok bytes) = (content ≡ Some bytes.items) × (length bytes.items ≤ file_limit)
+ReadsFile name content (Err stop) =
+    IsFree stop ⊎ (IsSomeAnd content (λ bytes. file_limit < length bytes) × (answer_at stop ≡ refused 7 (too_long_line name file_limit)))
+
+-- a text as it is defined, with status 0, or a free stop, or the refusal that is defined
+abbrev pub GivesText : Answered → Result (Vec ℕ Global) code.Stop → Type 0
+GivesText defined (Ok text) = defined ≡ record { status = 0; out = text.items; err = [] }
+GivesText defined (Err stop) = IsFree stop ⊎ (defined ≡ answer_at stop)
 
 -- an image as it is defined, or a free stop, or the refusal that is defined
 abbrev pub GivesImage : Result (List ℕ) Answered → Result (List ℕ) code.Stop → Type 0
@@ -46,6 +61,7 @@ abbrev pub StoppedAt : Option (List ℕ) → Option (List ℕ) → List ℕ → 
 StoppedAt old new text Usage = Took old new []
 StoppedAt old new text (Read name) = Took old new []
 StoppedAt old new text Write = TookPart old new text
+StoppedAt old new text (Assembly name fault) = Took old new []
 StoppedAt old new text (Object name fault) = Took old new []
 StoppedAt old new text Memory = Took old new []
 StoppedAt old new text (TooLong name limit) = Took old new []
@@ -60,6 +76,7 @@ abbrev pub NothingOut : code.Stop → Option (List ℕ) → Option (List ℕ) �
 NothingOut Usage old new = Took old new []
 NothingOut (Read name) old new = Took old new []
 NothingOut Write old new = Unit {0}
+NothingOut (Assembly name fault) old new = Took old new []
 NothingOut (Object name fault) old new = Took old new []
 NothingOut Memory old new = Took old new []
 NothingOut (TooLong name limit) old new = Took old new []
@@ -69,6 +86,7 @@ abbrev pub OnUsage : code.Stop → Type 0 → Type 0
 OnUsage Usage P = P
 OnUsage (Read name) P = Unit {0}
 OnUsage Write P = Unit {0}
+OnUsage (Assembly name fault) P = Unit {0}
 OnUsage (Object name fault) P = Unit {0}
 OnUsage Memory P = Unit {0}
 OnUsage (TooLong name limit) P = Unit {0}
@@ -78,6 +96,7 @@ abbrev pub StopsAs : Answered → Option (List ℕ) → Option (List ℕ) → co
 StopsAs answered old new Usage = answered ≡ answer_at Usage
 StopsAs answered old new (Read name) = Unit {0}
 StopsAs answered old new Write = TookPart old new answered.out
+StopsAs answered old new (Assembly name fault) = answered ≡ answer_at (Assembly name fault)
 StopsAs answered old new (Object name fault) = answered ≡ answer_at (Object name fault)
 StopsAs answered old new Memory = Unit {0}
 StopsAs answered old new (TooLong name limit) = answered ≡ answer_at (TooLong name limit)

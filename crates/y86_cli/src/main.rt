@@ -2,8 +2,10 @@
 #![tactic(auto)]
 
 mod cmd;
+mod files;
 mod run;
 mod stop;
+mod yas;
 mod yis;
 
 use crate::run::{Status, run};

@@ -2,7 +2,7 @@ ghost use Rattle.std.specs.Prelude.{◌≡◌, ◌≢◌, ◌⊎◌, ◌↔◌, 
 ghost use Rattle.wb_io.specs.Causes.{Rose};
 ghost use Rattle.wb_io.specs.Sinks.{Took};
 ghost use Rattle.y86_base.specs.Image.{IsSize};
-ghost use Rattle.y86_cli.specs.Answer.{answer, memory_line, object_image, yis_answer};
+ghost use Rattle.y86_cli.specs.Answer.{answer, memory_line, object_image, yas_answer, yis_answer};
 ghost use Rattle.y86_cli.specs.Outcomes.{IsFaultless, IsFreeStatus, NoneRose, ReadFailed, Tells, WentOut, names_in};
 ghost use Rattle.y86_cli.specs.Read.{command_in};
 ghost use Rattle.y86_cli.specs.Stops.{line_of, status_of};
@@ -11,9 +11,10 @@ ghost use Rattle.y86_cli.specs.Words.{Command, IsLegal, form_of, names_of};
 
 use crate::cmd::{Cmd, Usage, words};
 use crate::stop::Stop;
+use crate::yas::read_text;
 use crate::yis::{read_image, run_image};
 use std::alloc::Global;
-use wb_io::{Files, Sink};
+use wb_io::{Files, Sink, put_all};
 use y86_base::Variant;
 
 /// The status that the program ends with.
@@ -50,8 +51,38 @@ fn yis<'a, F: Files, O: Sink>(
     }
 }
 
+/// `yas`: prints the object text of an assembly file.
+#[tactic(auto, using(crate::proofs::Outcomes::text_written, crate::proofs::Outcomes::text_part, crate::proofs::Outcomes::text_stops))]
+fn yas<'a, F: Files, O: Sink>(
+    alloc: Global,
+    asm: &'a str,
+    mem: u64,
+    variant: Variant,
+    files: &mut F,
+    out: &mut O,
+) -> Result<Status, Stop<'a>>
+    ensures file_counts { (n : List ℕ) → F.faults files.old n ≤ F.faults files.new n }
+    ensures out_count { O.faults out.old ≤ O.faults out.new }
+    ensures answer { (content : Option (List ℕ)) → F.told files.old asm.now ≡ Some content →
+        AnswersAs (yas_answer variant asm.now mem content) (O.taken out.old) (O.taken out.new) result }
+    ensures low { IfOk result (λ status. status ≤ 1) }
+    ensures not_usage { IfErr result (λ stop. OnUsage stop ⊥) }
+    ensures nothing_out { IfErr result (λ stop. NothingOut stop (O.taken out.old) (O.taken out.new)) }
+    ensures read_failed { IfErr result (λ stop. OnRead stop
+        (λ n. (n ≡ asm.now) × Rose (F.faults files.old n) (F.faults files.new n))) }
+    ensures write_failed { IfErr result (λ stop. OnWrite stop (Rose (O.faults out.old) (O.faults out.new))) }
+{
+    match read_text(alloc, variant, asm, mem, files) {
+        Ok(text) => match put_all(out, text.as_slice()) {
+            Ok(()) => Ok(0),
+            Err(_) => Err(Stop::Write),
+        },
+        Err(stop) => Err(stop),
+    }
+}
+
 /// Does a command, up to the first stop.
-#[tactic(auto, using(crate::proofs::Outcomes::yis_done))]
+#[tactic(auto, using(crate::proofs::Outcomes::yas_done, crate::proofs::Outcomes::yis_done))]
 fn execute<'a, F: Files, O: Sink>(
     alloc: Global,
     command: Cmd<'a>,
@@ -63,7 +94,7 @@ fn execute<'a, F: Files, O: Sink>(
         (O.taken out.old) (O.taken out.new) (O.faults out.old) (O.faults out.new) result }
 {
     match command {
-        Cmd::Yas { .. } => Err(Stop::Memory),
+        Cmd::Yas { asm, mem, variant } => yas(alloc, asm, mem, variant, files, out),
         Cmd::Yis {
             obj,
             mem,

@@ -5,16 +5,14 @@ ghost use Rattle.y86_cli.specs.Answer.{image_of_text, object_image, run_status, 
 ghost use Rattle.y86_cli.specs.Reads.{GivesImage, IsFree, OnRead, OnUsage, OnWrite, WritesOut};
 ghost use Rattle.yo_object.specs.ObjectText.{object_of};
 
+use crate::files::read_file;
 use crate::stop::Stop;
 use std::alloc::Global;
-use wb_io::{Files, ReadErr, Sink};
+use wb_io::{Files, Sink};
 use y86_base::{Image, Stat, Variant};
 use y86_isa::Machine;
 use yis_run::{End, report, run};
 use yo_object::{YoWhy, load};
-
-/// The most bytes that an object file has.
-const OBJECT_LIMIT: u64 = 1_048_576;
 
 /// The image of an object text under a name.
 fn load_image<'a>(alloc: Global, name: &'a str, bytes: &[u8], size: u64) -> Result<Image, Stop<'a>>
@@ -34,7 +32,7 @@ fn load_image<'a>(alloc: Global, name: &'a str, bytes: &[u8], size: u64) -> Resu
 }
 
 /// Reads an object file and loads its image.
-#[tactic(auto, using(crate::proofs::Runs::content_read, crate::proofs::Runs::content_too_long))]
+#[tactic(auto, using(crate::proofs::Contents::image_read, crate::proofs::Contents::image_refused))]
 pub fn read_image<'a, F: Files>(
     alloc: Global,
     name: &'a str,
@@ -50,11 +48,9 @@ pub fn read_image<'a, F: Files>(
     ensures no_write { IfErr result (λ stop. OnWrite stop ⊥) }
     ensures not_usage { IfErr result (λ stop. OnUsage stop ⊥) }
 {
-    match files.read(alloc, name, OBJECT_LIMIT) {
+    match read_file(alloc, name, files) {
         Ok(bytes) => load_image(alloc, name, bytes.as_slice(), size),
-        Err(ReadErr::Failed) => Err(Stop::Read(name)),
-        Err(ReadErr::TooLong) => Err(Stop::TooLong(name, OBJECT_LIMIT)),
-        Err(ReadErr::Memory) => Err(Stop::Memory),
+        Err(stop) => Err(stop),
     }
 }
 
