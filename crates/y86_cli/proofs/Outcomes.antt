@@ -1,19 +1,23 @@
 -- The outcome of a command, and the clauses of the whole program.
-use Rattle.std.proofs.Common.{◌≡◌, ◌≢◌, ◌⊎◌, ◌↔◌, ℕ, ◌<◌, ◌≤◌, List, [], ◌∷◌, length, refl, sym, ◌∙◌, ap, subst, inl, inr, Option, Some, None, Result, Ok, Err, IfOk, IfErr, Contains, IsOk, lit<, lit≤, zero, suc, arith}
+use Rattle.std.proofs.Common.{◌≡◌, ◌≢◌, ◌⊎◌, ◌↔◌, ℕ, ◌<◌, ◌≤◌, List, [], ◌∷◌, length, refl, sym, ◌∙◌, ap, subst, inl, inr, Option, Some, None, Result, Ok, Err, IfOk, IfErr, Contains, IsOk, lit<, lit≤, Vec, zero, suc, arith}
+use Rattle.std.specs.Global.{Global}
 use Rattle.wb_io.specs.Causes.{Rose}
 use Rattle.wb_io.specs.Sinks.{Took, TookPart}
 use Rattle.wb_io.proofs.Writes.{took_nothing}
 use Rattle.y86_base.specs.declared.parts.Stat.{Stat}
 use Rattle.y86_base.specs.declared.parts.Stat.TheVariants.{Bub, Aok, Hlt, Adr, Ins, Pip, Bad}
 use Rattle.y86_base.specs.declared.parts.Variant.{Variant}
+use Rattle.yas_asm.specs.Assembly.{assembled}
+use Rattle.yas_asm.specs.declared.fault.AsmFault.{AsmFault}
+use Rattle.yas_asm.specs.declared.listing.Line.{Line}
 use Rattle.yo_object.specs.ObjectText.{object_of}
 use Rattle.yo_object.specs.declared.object.YoFault.{YoFault}
 use Rattle.y86_cli.specs.declared.stop.Stop as code
 use Rattle.y86_cli.specs.declared.stop.Stop.TheVariants.{Usage, Read, Write, Assembly, Object, Memory, TooLong}
-use Rattle.y86_cli.specs.Answer.{Answered, refused, answer, answer_to, image_of_text, object_image, run_status, yis_run, yis_answer}
+use Rattle.y86_cli.specs.Answer.{Answered, refused, answer, answer_to, image_of_text, listing_answer, object_image, run_status, yas_answer, yis_run, yis_answer}
 use Rattle.y86_cli.specs.Outcomes.{IsFaultless, NoneRose, Tells, TellsOf, names_in}
-use Rattle.y86_cli.specs.Words.{Command, yis, form_of, names_of}
-use Rattle.y86_cli.specs.Reads.{IsFree, GivesImage, OnRead, OnWrite, OnUsage, StoppedAt, WritesOut, NothingOut, StopsAs, AnswersWhole, AnswersAs, IsDone, IsOutcome}
+use Rattle.y86_cli.specs.Words.{Command, yas, yis, form_of, names_of}
+use Rattle.y86_cli.specs.Reads.{IsFree, GivesImage, GivesText, OnRead, OnWrite, OnUsage, StoppedAt, WritesOut, NothingOut, StopsAs, AnswersWhole, AnswersAs, IsDone, IsOutcome}
 use Rattle.y86_cli.specs.Stops.{answer_at, status_of}
 use Rattle.y86_cli.proofs.Contents.{within, source_within}
 
@@ -103,21 +107,51 @@ read_more P Q (Err (TooLong name limit)) f h = tt
 the_only_name : (object name : List ℕ) → name ≡ object → Contains (object ∷ []) name
 the_only_name object name e = (0, lit< tt, sym e)
 
--- `yis`, by what it gives for one file
+-- a command of one file, by what it gives for the content of that file
+one_file : (command : Command) (name : List ℕ) (told : List ℕ → Option (Option (List ℕ))) (faults_before faults_after : List ℕ → ℕ) (old new : Option (List ℕ))
+    (out_before out_after : ℕ) (result : Result ℕ code.Stop) → names_of command ≡ name ∷ [] →
+    ((content : Option (List ℕ)) → told name ≡ Some content → AnswersAs (answer_to command (content ∷ [])) old new result) →
+    IfOk result (λ status. status ≤ 1) → IfErr result (λ stop. OnUsage stop ⊥) → IfErr result (λ stop. NothingOut stop old new) →
+    IfErr result (λ stop. OnRead stop (λ n. (n ≡ name) × Rose (faults_before n) (faults_after n))) → IfErr result (λ stop. OnWrite stop (Rose out_before out_after)) →
+    IsDone command told faults_before faults_after old new out_before out_after result
+one_file command name told faults_before faults_after old new out_before out_after result named answers low usage nothing read write = record {
+  answers = λ contents tells. let one = one_content told name contents (rw named at tells) in rw one.1 (answers one.0 one.2);
+  low = low;
+  not_usage = usage;
+  nothing_out = nothing;
+  read_failed = read_more _ _ result (λ n h. (rw named (the_only_name name n h.0), h.1)) read;
+  write_failed = write;
+}
+
 pub yis_done : (told : List ℕ → Option (Option (List ℕ))) (faults_before faults_after : List ℕ → ℕ) (old new : Option (List ℕ))
     (out_before out_after : ℕ) (result : Result ℕ code.Stop) (object : List ℕ) (size limit : ℕ) (v : Variant) →
     ((content : Option (List ℕ)) → told object ≡ Some content → AnswersAs (yis_answer v limit (object_image object size content)) old new result) →
     IfOk result (λ status. status ≤ 1) → IfErr result (λ stop. OnUsage stop ⊥) → IfErr result (λ stop. NothingOut stop old new) →
     IfErr result (λ stop. OnRead stop (λ n. (n ≡ object) × Rose (faults_before n) (faults_after n))) → IfErr result (λ stop. OnWrite stop (Rose out_before out_after)) →
     IsDone (yis object size limit v) told faults_before faults_after old new out_before out_after result
-yis_done told faults_before faults_after old new out_before out_after result object size limit v answers low usage nothing read write = record {
-  answers = λ contents tells. let one = one_content told object contents tells in rw one.1 (answers one.0 one.2);
-  low = low;
-  not_usage = usage;
-  nothing_out = nothing;
-  read_failed = read_more _ _ result (λ name h. (the_only_name object name h.0, h.1)) read;
-  write_failed = write;
-}
+yis_done told faults_before faults_after old new out_before out_after result object size limit v answers low usage nothing read write =
+    one_file (yis object size limit v) object told faults_before faults_after old new out_before out_after result refl answers low usage nothing read write
+
+pub yas_done : (told : List ℕ → Option (Option (List ℕ))) (faults_before faults_after : List ℕ → ℕ) (old new : Option (List ℕ))
+    (out_before out_after : ℕ) (result : Result ℕ code.Stop) (source : List ℕ) (size : ℕ) (v : Variant) →
+    ((content : Option (List ℕ)) → told source ≡ Some content → AnswersAs (yas_answer v source size content) old new result) →
+    IfOk result (λ status. status ≤ 1) → IfErr result (λ stop. OnUsage stop ⊥) → IfErr result (λ stop. NothingOut stop old new) →
+    IfErr result (λ stop. OnRead stop (λ n. (n ≡ source) × Rose (faults_before n) (faults_after n))) → IfErr result (λ stop. OnWrite stop (Rose out_before out_after)) →
+    IsDone (yas source size v) told faults_before faults_after old new out_before out_after result
+yas_done told faults_before faults_after old new out_before out_after result source size v answers low usage nothing read write =
+    one_file (yas source size v) source told faults_before faults_after old new out_before out_after result refl answers low usage nothing read write
+
+-- a text that was written whole, in part or not at all
+pub text_written : (defined : Answered) (text : Vec ℕ Global) (old new : Option (List ℕ)) → GivesText defined (Ok text) → Took old new text.items →
+    AnswersAs defined old new (Ok 0)
+text_written defined text old new gives took = rw gives (record { status_is = refl; out = took; err = refl })
+
+pub text_part : (defined : Answered) (text : Vec ℕ Global) (old new : Option (List ℕ)) → GivesText defined (Ok text) → TookPart old new text.items →
+    AnswersAs defined old new (Err Write)
+text_part defined text old new gives part = rw gives part
+
+pub text_stops : (defined : Answered) (old new : Option (List ℕ)) (stop : code.Stop) → GivesText defined (Err stop) → OnWrite stop ⊥ → AnswersAs defined old new (Err stop)
+text_stops defined old new stop gives w = stops defined old new stop gives w
 
 -- the command that the words are was done
 pub command_outcome : (words : List (List ℕ)) (told : List ℕ → Option (Option (List ℕ))) (faults_before faults_after : List ℕ → ℕ) (old new : Option (List ℕ))
@@ -152,7 +186,13 @@ loaded_low : (v : Variant) (limit : ℕ) (name : List ℕ) (loaded : Result (Lis
 loaded_low v limit name (Ok image) ok = run_low v image limit
 loaded_low v limit name (Err fault) ok = absurd (cc (ok))
 
+listed_low : (name source : List ℕ) (listed : Result (List Line) AsmFault) → IsOk listed → (listing_answer name source listed).status ≤ 1
+listed_low name source (Ok lines) ok = lit≤ tt
+listed_low name source (Err fault) ok = absurd (cc (ok))
+
 faultless_low : (command : Command) (contents : List (Option (List ℕ))) → IsFaultless command contents → (answer_to command contents).status ≤ 1
+faultless_low (yas source size v) contents h =
+    rw (h.1, source_within v source h.0 size h.2) (listed_low source h.0 (assembled v h.0 size) h.3)
 faultless_low (yis object size limit v) contents h =
     rw (h.1, within object h.0 size h.2) (loaded_low v limit object (object_of h.0 size) h.3)
 
