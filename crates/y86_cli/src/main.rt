@@ -5,6 +5,8 @@ mod cmd;
 mod files;
 mod run;
 mod stop;
+#[cfg(test)]
+mod tests;
 mod yas;
 mod yis;
 

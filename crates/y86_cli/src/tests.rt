@@ -1,0 +1,586 @@
+//! The worked examples of the whole program, over files and sinks in memory.
+use crate::run::{Status, run};
+use std::alloc::Global;
+use std::test::Fail;
+use wb_io::{MemFiles, MemSink};
+
+/// A call of the program: its words, the one file that there is, and what it answers.
+struct Case {
+    shows: &'static str,
+    words: &'static [&'static str],
+    name: &'static str,
+    bytes: &'static [u8],
+    status: Status,
+    out: &'static [u8],
+    err: &'static [u8],
+}
+
+static CASES: [Case; 53] = [
+    Case {
+        shows: "a halt",
+        words: &["yis", "p.yo"],
+        name: "p.yo",
+        bytes: b"0x000: 00\n",
+        status: 0,
+        out: b"Stopped in 1 steps at PC = 0x0.  Status 'HLT', CC Z=1 S=0 O=0\nChanges to registers:\n\nChanges to memory:\n",
+        err: b"",
+    },
+    Case {
+        shows: "an addition",
+        words: &["yis", "p.yo"],
+        name: "p.yo",
+        bytes: b"0x000: 30f20a00000000000000\n0x00a: 30f00300000000000000\n0x014: 6020\n0x016: 00\n",
+        status: 0,
+        out: b"Stopped in 4 steps at PC = 0x16.  Status 'HLT', CC Z=0 S=0 O=0\nChanges to registers:\n%rax:\t0x0000000000000000\t0x000000000000000d\n%rdx:\t0x0000000000000000\t0x000000000000000a\n\nChanges to memory:\n",
+        err: b"",
+    },
+    Case {
+        shows: "a load and its use",
+        words: &["yis", "p.yo"],
+        name: "p.yo",
+        bytes: b"0x000: 50071000000000000000\n0x00a: 6000\n0x00c: 00\n0x010: 0500000000000000\n",
+        status: 0,
+        out: b"Stopped in 3 steps at PC = 0xc.  Status 'HLT', CC Z=0 S=0 O=0\nChanges to registers:\n%rax:\t0x0000000000000000\t0x000000000000000a\n\nChanges to memory:\n",
+        err: b"",
+    },
+    Case {
+        shows: "a jump not taken",
+        words: &["yis", "p.yo"],
+        name: "p.yo",
+        bytes: b"0x000: 30f10100000000000000\n0x00a: 6300\n0x00c: 741600000000000000\n0x015: 00\n0x016: 40130001000000000000\n0x020: 00\n",
+        status: 0,
+        out: b"Stopped in 4 steps at PC = 0x15.  Status 'HLT', CC Z=1 S=0 O=0\nChanges to registers:\n%rcx:\t0x0000000000000000\t0x0000000000000001\n\nChanges to memory:\n",
+        err: b"",
+    },
+    Case {
+        shows: "a call and a return",
+        words: &["yis", "p.yo"],
+        name: "p.yo",
+        bytes: b"0x000: 30f40001000000000000\n0x00a: 801400000000000000\n0x013: 00\n0x014: 90\n",
+        status: 0,
+        out: b"Stopped in 4 steps at PC = 0x13.  Status 'HLT', CC Z=1 S=0 O=0\nChanges to registers:\n%rsp:\t0x0000000000000000\t0x0000000000000100\n\nChanges to memory:\n0x00f8:\t0x0000000000000000\t0x0000000000000013\n",
+        err: b"",
+    },
+    Case {
+        shows: "popq and pushq of the stack pointer",
+        words: &["yis", "p.yo"],
+        name: "p.yo",
+        bytes: b"0x000: 30f44000000000000000\n0x00a: b04f\n0x00c: a04f\n0x00e: 00\n0x040: 0001000000000000\n",
+        status: 0,
+        out: b"Stopped in 4 steps at PC = 0xe.  Status 'HLT', CC Z=1 S=0 O=0\nChanges to registers:\n%rsp:\t0x0000000000000000\t0x00000000000000f8\n\nChanges to memory:\n0x00f8:\t0x0000000000000000\t0x0000000000000100\n",
+        err: b"",
+    },
+    Case {
+        shows: "a bad data address",
+        words: &["yis", "p.yo"],
+        name: "p.yo",
+        bytes: b"0x000: 30f10100000000000000\n0x00a: 5001f81f000000000000\n0x014: 6011\n0x016: 00\n",
+        status: 1,
+        out: b"Stopped in 2 steps at PC = 0xa.  Status 'ADR', CC Z=1 S=0 O=0\nChanges to registers:\n%rcx:\t0x0000000000000000\t0x0000000000000001\n\nChanges to memory:\n",
+        err: b"",
+    },
+    Case {
+        shows: "an icode without a row",
+        words: &["yis", "p.yo"],
+        name: "p.yo",
+        bytes: b"0x000: c0f00500000000000000\n",
+        status: 1,
+        out: b"Stopped in 1 steps at PC = 0x0.  Status 'INS', CC Z=1 S=0 O=0\nChanges to registers:\n\nChanges to memory:\n",
+        err: b"",
+    },
+    Case {
+        shows: "a register field without a register",
+        words: &["yis", "p.yo"],
+        name: "p.yo",
+        bytes: b"0x000: 400f0000000000000000\n",
+        status: 1,
+        out: b"Stopped in 1 steps at PC = 0x0.  Status 'INS', CC Z=1 S=0 O=0\nChanges to registers:\n\nChanges to memory:\n",
+        err: b"",
+    },
+    Case {
+        shows: "a store of a loaded register",
+        words: &["yis", "p.yo"],
+        name: "p.yo",
+        bytes: b"0x000: 50074000000000000000\n0x00a: 40074800000000000000\n0x014: 00\n0x040: 0500000000000000\n",
+        status: 0,
+        out: b"Stopped in 3 steps at PC = 0x14.  Status 'HLT', CC Z=1 S=0 O=0\nChanges to registers:\n%rax:\t0x0000000000000000\t0x0000000000000005\n\nChanges to memory:\n0x0048:\t0x0000000000000000\t0x0000000000000005\n",
+        err: b"",
+    },
+    Case {
+        shows: "an option that is not known",
+        words: &["yis", "p.yo", "--full"],
+        name: "p.yo",
+        bytes: b"0x000: c0f00500000000000000\n",
+        status: 2,
+        out: b"",
+        err: b"usage: y86 yas|yis|hcl|ssim|psim|check|sample|big\n",
+    },
+    Case {
+        shows: "an address without a base register",
+        words: &["yas", "a.ys"],
+        name: "a.ys",
+        bytes: b"rmmovq %rax,0\n",
+        status: 5,
+        out: b"",
+        err: b"a.ys:1: Syntax\n",
+    },
+    Case {
+        shows: "an empty object text",
+        words: &["yis", "p.yo"],
+        name: "p.yo",
+        bytes: b"",
+        status: 0,
+        out: b"Stopped in 1 steps at PC = 0x0.  Status 'HLT', CC Z=1 S=0 O=0\nChanges to registers:\n\nChanges to memory:\n",
+        err: b"",
+    },
+    Case {
+        shows: "an empty source",
+        words: &["yas", "a.ys"],
+        name: "a.ys",
+        bytes: b"",
+        status: 0,
+        out: b"",
+        err: b"",
+    },
+    Case {
+        shows: "a store over the next instruction",
+        words: &["yis", "p.yo"],
+        name: "p.yo",
+        bytes: b"0x000: 30f01010101010101010\n0x00a: 40071400000000000000\n0x014: 00\n",
+        status: 0,
+        out: b"Stopped in 11 steps at PC = 0x1c.  Status 'HLT', CC Z=1 S=0 O=0\nChanges to registers:\n%rax:\t0x0000000000000000\t0x1010101010101010\n\nChanges to memory:\n0x0010:\t0x0000000000000000\t0x1010101000000000\n0x0018:\t0x0000000000000000\t0x0000000010101010\n",
+        err: b"",
+    },
+    Case {
+        shows: "a limit of steps",
+        words: &["yis", "p.yo", "--limit", "5"],
+        name: "p.yo",
+        bytes: b"0x000: 700000000000000000\n",
+        status: 1,
+        out: b"Stopped in 5 steps at PC = 0x0.  Status 'AOK', CC Z=1 S=0 O=0\nChanges to registers:\n\nChanges to memory:\n",
+        err: b"",
+    },
+    Case {
+        shows: "a listing with comments",
+        words: &["yas", "a.ys"],
+        name: "a.ys",
+        bytes: b"    irmovq $10,%rdx\nloop: addq %rdx,%rax # add\n    jmp loop\n",
+        status: 0,
+        out: b"0x000: 30f20a00000000000000 |     irmovq $10,%rdx\n0x00a: 6020                 | loop: addq %rdx,%rax # add\n0x00c: 700a00000000000000   |     jmp loop\n",
+        err: b"",
+    },
+    Case {
+        shows: "an odd byte digit",
+        words: &["yis", "p.yo"],
+        name: "p.yo",
+        bytes: b"0x000: 30f\n",
+        status: 5,
+        out: b"",
+        err: b"p.yo:1: OddDigits\n",
+    },
+    Case {
+        shows: "a byte outside",
+        words: &["yis", "p.yo"],
+        name: "p.yo",
+        bytes: b"0x1fff: 0000\n",
+        status: 5,
+        out: b"",
+        err: b"p.yo:1: OutsideMemory\n",
+    },
+    Case {
+        shows: "a missing file",
+        words: &["yis", "q.yo"],
+        name: "other.yo",
+        bytes: b"",
+        status: 3,
+        out: b"",
+        err: b"read fault q.yo\n",
+    },
+    Case {
+        shows: "no words",
+        words: &[],
+        name: "other.yo",
+        bytes: b"",
+        status: 2,
+        out: b"",
+        err: b"usage: y86 yas|yis|hcl|ssim|psim|check|sample|big\n",
+    },
+    Case {
+        shows: "a listing with .pos",
+        words: &["yas", "a.ys"],
+        name: "a.ys",
+        bytes: b"    .pos 0\n    irmovq stack, %rsp  # set up\n    call main\n    halt\nmain: ret\n    .pos 0x40\nstack:\n",
+        status: 0,
+        out: b"0x000:                      |     .pos 0\n0x000: 30f44000000000000000 |     irmovq stack, %rsp  # set up\n0x00a: 801400000000000000   |     call main\n0x013: 00                   |     halt\n0x014: 90                   | main: ret\n0x040:                      |     .pos 0x40\n0x040:                      | stack:\n",
+        err: b"",
+    },
+    Case {
+        shows: "a last line without a line feed",
+        words: &["yas", "a.ys"],
+        name: "a.ys",
+        bytes: b"    .pos 0\n    irmovq stack, %rsp  # set up\n    call main\n    halt\nmain: ret\n    .pos 0x40\nstack:",
+        status: 0,
+        out: b"0x000:                      |     .pos 0\n0x000: 30f44000000000000000 |     irmovq stack, %rsp  # set up\n0x00a: 801400000000000000   |     call main\n0x013: 00                   |     halt\n0x014: 90                   | main: ret\n0x040:                      |     .pos 0x40\n0x040:                      | stack:\n",
+        err: b"",
+    },
+    Case {
+        shows: "a printed listing runs",
+        words: &["yis", "p.yo"],
+        name: "p.yo",
+        bytes: b"0x000:                      |     .pos 0\n0x000: 30f44000000000000000 |     irmovq stack, %rsp  # set up\n0x00a: 801400000000000000   |     call main\n0x013: 00                   |     halt\n0x014: 90                   | main: ret\n0x040:                      |     .pos 0x40\n0x040:                      | stack:\n",
+        status: 0,
+        out: b"Stopped in 4 steps at PC = 0x13.  Status 'HLT', CC Z=1 S=0 O=0\nChanges to registers:\n%rsp:\t0x0000000000000000\t0x0000000000000040\n\nChanges to memory:\n0x0038:\t0x0000000000000000\t0x0000000000000013\n",
+        err: b"",
+    },
+    Case {
+        shows: "a label twice",
+        words: &["yas", "a.ys"],
+        name: "a.ys",
+        bytes: b"a: halt\na: nop\n",
+        status: 5,
+        out: b"",
+        err: b"a.ys:2: LabelTwice\n",
+    },
+    Case {
+        shows: "an unknown label",
+        words: &["yas", "a.ys"],
+        name: "a.ys",
+        bytes: b"jmp b\n",
+        status: 5,
+        out: b"",
+        err: b"a.ys:1: LabelUnknown\n",
+    },
+    Case {
+        shows: "an overlap",
+        words: &["yas", "a.ys"],
+        name: "a.ys",
+        bytes: b"halt\n.pos 0\nnop\n",
+        status: 5,
+        out: b"",
+        err: b"a.ys:3: Overlap\n",
+    },
+    Case {
+        shows: "a byte past the size",
+        words: &["yas", "a.ys", "--mem", "64"],
+        name: "a.ys",
+        bytes: b".pos 64\nhalt\n",
+        status: 5,
+        out: b"",
+        err: b"a.ys:2: OutsideMemory\n",
+    },
+    Case {
+        shows: "a byte too wide",
+        words: &["yas", "a.ys"],
+        name: "a.ys",
+        bytes: b".byte 256\n",
+        status: 5,
+        out: b"",
+        err: b"a.ys:1: NumberTooWide\n",
+    },
+    Case {
+        shows: "a limit of 0",
+        words: &["yis", "p.yo", "--limit", "0"],
+        name: "p.yo",
+        bytes: b"0x000: 00\n",
+        status: 2,
+        out: b"",
+        err: b"usage: y86 yas|yis|hcl|ssim|psim|check|sample|big\n",
+    },
+    Case {
+        shows: "a size that no image takes",
+        words: &["yis", "p.yo", "--mem", "100"],
+        name: "p.yo",
+        bytes: b"0x000: 00\n",
+        status: 2,
+        out: b"",
+        err: b"usage: y86 yas|yis|hcl|ssim|psim|check|sample|big\n",
+    },
+    Case {
+        shows: "an instruction of another variant",
+        words: &["yas", "a.ys"],
+        name: "a.ys",
+        bytes: b"iaddq $5,%rax\n",
+        status: 5,
+        out: b"",
+        err: b"a.ys:1: Syntax\n",
+    },
+    Case {
+        shows: "an alignment of 0",
+        words: &["yas", "a.ys"],
+        name: "a.ys",
+        bytes: b".align 0\n",
+        status: 5,
+        out: b"",
+        err: b"a.ys:1: Syntax\n",
+    },
+    Case {
+        shows: "two labels on a line",
+        words: &["yas", "a.ys"],
+        name: "a.ys",
+        bytes: b"a: b: halt\n",
+        status: 5,
+        out: b"",
+        err: b"a.ys:1: Syntax\n",
+    },
+    Case {
+        shows: "an address too wide",
+        words: &["yis", "p.yo"],
+        name: "p.yo",
+        bytes: b"0x00000000000000000: 00\n",
+        status: 5,
+        out: b"",
+        err: b"p.yo:1: AddressTooWide\n",
+    },
+    Case {
+        shows: "an address that does not wrap",
+        words: &["yis", "p.yo"],
+        name: "p.yo",
+        bytes: b"0xfffffffffffffffe: 000000\n",
+        status: 5,
+        out: b"",
+        err: b"p.yo:1: OutsideMemory\n",
+    },
+    Case {
+        shows: "no address",
+        words: &["yis", "p.yo"],
+        name: "p.yo",
+        bytes: b"0x: 00\n",
+        status: 5,
+        out: b"",
+        err: b"p.yo:1: Syntax\n",
+    },
+    Case {
+        shows: "no colon",
+        words: &["yis", "p.yo"],
+        name: "p.yo",
+        bytes: b"0x000 00\n",
+        status: 5,
+        out: b"",
+        err: b"p.yo:1: Syntax\n",
+    },
+    Case {
+        shows: "no byte outside",
+        words: &["yis", "p.yo"],
+        name: "p.yo",
+        bytes: b"0x9999:\n",
+        status: 0,
+        out: b"Stopped in 1 steps at PC = 0x0.  Status 'HLT', CC Z=1 S=0 O=0\nChanges to registers:\n\nChanges to memory:\n",
+        err: b"",
+    },
+    Case {
+        shows: "a bad byte",
+        words: &["yas", "a.ys"],
+        name: "a.ys",
+        bytes: b"halt\x80\n",
+        status: 5,
+        out: b"",
+        err: b"a.ys:1: BadByte\n",
+    },
+    Case {
+        shows: "a loop",
+        words: &["yis", "p.yo"],
+        name: "p.yo",
+        bytes: b"0x000: 30f10100000000000000\n0x00a: 30f20300000000000000\n0x014: 6112\n0x016: 741400000000000000\n0x01f: 00\n",
+        status: 0,
+        out: b"Stopped in 9 steps at PC = 0x1f.  Status 'HLT', CC Z=1 S=0 O=0\nChanges to registers:\n%rcx:\t0x0000000000000000\t0x0000000000000001\n\nChanges to memory:\n",
+        err: b"",
+    },
+    Case {
+        shows: "a file twice",
+        words: &["yis", "p.yo", "p.yo"],
+        name: "p.yo",
+        bytes: b"0x000: 00\n",
+        status: 2,
+        out: b"",
+        err: b"usage: y86 yas|yis|hcl|ssim|psim|check|sample|big\n",
+    },
+    Case {
+        shows: "an option twice",
+        words: &["yis", "--mem", "64", "p.yo", "--mem", "64"],
+        name: "p.yo",
+        bytes: b"0x000: 00\n",
+        status: 2,
+        out: b"",
+        err: b"usage: y86 yas|yis|hcl|ssim|psim|check|sample|big\n",
+    },
+    Case {
+        shows: "an option without its number",
+        words: &["yis", "p.yo", "--limit"],
+        name: "p.yo",
+        bytes: b"0x000: 00\n",
+        status: 2,
+        out: b"",
+        err: b"usage: y86 yas|yis|hcl|ssim|psim|check|sample|big\n",
+    },
+    Case {
+        shows: "a sign before a number",
+        words: &["yis", "p.yo", "--limit", "+5"],
+        name: "p.yo",
+        bytes: b"0x000: 00\n",
+        status: 2,
+        out: b"",
+        err: b"usage: y86 yas|yis|hcl|ssim|psim|check|sample|big\n",
+    },
+    Case {
+        shows: "a number of 21 digits",
+        words: &["yis", "p.yo", "--limit", "000000000000000000005"],
+        name: "p.yo",
+        bytes: b"0x000: 00\n",
+        status: 2,
+        out: b"",
+        err: b"usage: y86 yas|yis|hcl|ssim|psim|check|sample|big\n",
+    },
+    Case {
+        shows: "a limit over the largest",
+        words: &["yis", "p.yo", "--limit", "100000001"],
+        name: "p.yo",
+        bytes: b"0x000: 00\n",
+        status: 2,
+        out: b"",
+        err: b"usage: y86 yas|yis|hcl|ssim|psim|check|sample|big\n",
+    },
+    Case {
+        shows: "a number of 2^64 and more",
+        words: &["yis", "p.yo", "--mem", "18446744073709551680"],
+        name: "p.yo",
+        bytes: b"0x000: 00\n",
+        status: 2,
+        out: b"",
+        err: b"usage: y86 yas|yis|hcl|ssim|psim|check|sample|big\n",
+    },
+    Case {
+        shows: "a limit at an assembly file",
+        words: &["yas", "p.yo", "--limit", "5"],
+        name: "p.yo",
+        bytes: b"0x000: 00\n",
+        status: 2,
+        out: b"",
+        err: b"usage: y86 yas|yis|hcl|ssim|psim|check|sample|big\n",
+    },
+    Case {
+        shows: "a command in upper case",
+        words: &["YIS", "p.yo"],
+        name: "p.yo",
+        bytes: b"0x000: 00\n",
+        status: 2,
+        out: b"",
+        err: b"usage: y86 yas|yis|hcl|ssim|psim|check|sample|big\n",
+    },
+    Case {
+        shows: "an empty name",
+        words: &["yis", ""],
+        name: "p.yo",
+        bytes: b"0x000: 00\n",
+        status: 2,
+        out: b"",
+        err: b"usage: y86 yas|yis|hcl|ssim|psim|check|sample|big\n",
+    },
+    Case {
+        shows: "help",
+        words: &["--help"],
+        name: "p.yo",
+        bytes: b"0x000: 00\n",
+        status: 2,
+        out: b"",
+        err: b"usage: y86 yas|yis|hcl|ssim|psim|check|sample|big\n",
+    },
+    Case {
+        shows: "options before the file, and a number of 20 digits",
+        words: &[
+            "yis",
+            "--limit",
+            "00000000000000000001",
+            "--mem",
+            "64",
+            "p.yo",
+        ],
+        name: "p.yo",
+        bytes: b"0x000: 00\n",
+        status: 0,
+        out: b"Stopped in 1 steps at PC = 0x0.  Status 'HLT', CC Z=1 S=0 O=0\nChanges to registers:\n\nChanges to memory:\n",
+        err: b"",
+    },
+];
+
+/// The words of a call.
+fn words_of(alloc: Global, texts: &[&str]) -> Result<Vec<String>, Fail> {
+    let mut words = Vec::new(alloc);
+    for text in texts {
+        words.push(String::from_str(alloc, text)?)?;
+    }
+    Ok(words)
+}
+
+/// A sink with room for `room` bytes, of which the writes with these numbers fail.
+fn sink(alloc: Global, fail: &[u64], room: u64) -> Result<MemSink, Fail> {
+    let mut sink = MemSink::new(alloc, Vec::from_slice(alloc, fail)?);
+    sink.reserve(room)?;
+    Ok(sink)
+}
+
+fn files_with(alloc: Global, name: &str, bytes: &[u8]) -> Result<MemFiles, Fail> {
+    let mut files = MemFiles::new(alloc, Vec::new(alloc));
+    files.add(name, bytes)?;
+    Ok(files)
+}
+
+#[test]
+fn worked_examples(rt: HostRuntime) -> Result<(), Fail> {
+    for case in CASES.iter() {
+        let words = words_of(rt.alloc(), case.words)?;
+        let mut files = files_with(rt.alloc(), case.name, case.bytes)?;
+        let mut out = sink(rt.alloc(), &[], 4096)?;
+        let mut err = sink(rt.alloc(), &[], 256)?;
+        let status = run(rt.alloc(), words.as_slice(), &mut files, &mut out, &mut err);
+        assert_eq!(rt; status, case.status, "{}", case.shows);
+        assert_eq!(rt; out.bytes(), case.out, "{}", case.shows);
+        assert_eq!(rt; err.bytes(), case.err, "{}", case.shows);
+    }
+    Ok(())
+}
+
+/// Each write that fails in turn leaves a proper prefix; a fault on standard error changes no status.
+#[test]
+fn writes_that_fail(rt: HostRuntime) -> Result<(), Fail> {
+    let report =
+        b"Stopped in 1 steps at PC = 0x0.  Status 'HLT', CC Z=1 S=0 O=0\nChanges to registers:\n\nChanges to memory:\n";
+    let words = words_of(rt.alloc(), &["yis", "p.yo"])?;
+    let mut failed = 0;
+    for number in 0..32 {
+        let mut files = files_with(rt.alloc(), "p.yo", b"0x000: 00")?;
+        let mut out = sink(rt.alloc(), &[number], 4096)?;
+        let mut err = sink(rt.alloc(), &[], 256)?;
+        let status = run(rt.alloc(), words.as_slice(), &mut files, &mut out, &mut err);
+        assert!(rt; report.starts_with(out.bytes()));
+        assert!(rt; err.bytes().is_empty());
+        if out.bytes().len() < report.len() {
+            failed += 1;
+            assert_eq!(rt; status, 4);
+        } else {
+            assert_eq!(rt; status, 0);
+        }
+    }
+    assert!(rt; 2 < failed && failed < 32);
+    let mut files = files_with(rt.alloc(), "p.yo", b"0x000: 00")?;
+    let mut full = sink(rt.alloc(), &[], 10)?;
+    let mut err = sink(rt.alloc(), &[], 256)?;
+    let status = run(
+        rt.alloc(),
+        words.as_slice(),
+        &mut files,
+        &mut full,
+        &mut err,
+    );
+    assert_eq!(rt; status, 4);
+    assert_eq!(rt; full.bytes(), b"Stopped in".as_slice());
+    for number in 0..4 {
+        let words = words_of(rt.alloc(), &["yis", "q.yo"])?;
+        let mut out = sink(rt.alloc(), &[], 64)?;
+        let mut err = sink(rt.alloc(), &[number], 256)?;
+        let status = run(rt.alloc(), words.as_slice(), &mut files, &mut out, &mut err);
+        assert_eq!(rt; status, 3);
+        assert!(rt; b"read fault q.yo\n".starts_with(err.bytes()));
+        assert!(rt; out.bytes().is_empty());
+    }
+    Ok(())
+}
