@@ -1,6 +1,7 @@
 //! The worked examples of the whole program, over files and sinks in memory.
 use crate::run::{Status, run};
 use std::alloc::Global;
+use std::process::Abort;
 use std::test::Fail;
 use wb_io::{MemFiles, MemSink};
 
@@ -15,7 +16,8 @@ struct Case {
     err: &'static [u8],
 }
 
-static CASES: [Case; 53] = [
+/// Runs and their reports.
+static RUNS_1: [Case; 6] = [
     Case {
         shows: "a halt",
         words: &["yis", "p.yo"],
@@ -70,6 +72,10 @@ static CASES: [Case; 53] = [
         out: b"Stopped in 4 steps at PC = 0xe.  Status 'HLT', CC Z=1 S=0 O=0\nChanges to registers:\n%rsp:\t0x0000000000000000\t0x00000000000000f8\n\nChanges to memory:\n0x00f8:\t0x0000000000000000\t0x0000000000000100\n",
         err: b"",
     },
+];
+
+/// Runs and their reports.
+static RUNS_2: [Case; 6] = [
     Case {
         shows: "a bad data address",
         words: &["yis", "p.yo"],
@@ -107,39 +113,12 @@ static CASES: [Case; 53] = [
         err: b"",
     },
     Case {
-        shows: "an option that is not known",
-        words: &["yis", "p.yo", "--full"],
-        name: "p.yo",
-        bytes: b"0x000: c0f00500000000000000\n",
-        status: 2,
-        out: b"",
-        err: b"usage: y86 yas|yis|hcl|ssim|psim|check|sample|big\n",
-    },
-    Case {
-        shows: "an address without a base register",
-        words: &["yas", "a.ys"],
-        name: "a.ys",
-        bytes: b"rmmovq %rax,0\n",
-        status: 5,
-        out: b"",
-        err: b"a.ys:1: Syntax\n",
-    },
-    Case {
         shows: "an empty object text",
         words: &["yis", "p.yo"],
         name: "p.yo",
         bytes: b"",
         status: 0,
         out: b"Stopped in 1 steps at PC = 0x0.  Status 'HLT', CC Z=1 S=0 O=0\nChanges to registers:\n\nChanges to memory:\n",
-        err: b"",
-    },
-    Case {
-        shows: "an empty source",
-        words: &["yas", "a.ys"],
-        name: "a.ys",
-        bytes: b"",
-        status: 0,
-        out: b"",
         err: b"",
     },
     Case {
@@ -151,6 +130,10 @@ static CASES: [Case; 53] = [
         out: b"Stopped in 11 steps at PC = 0x1c.  Status 'HLT', CC Z=1 S=0 O=0\nChanges to registers:\n%rax:\t0x0000000000000000\t0x1010101010101010\n\nChanges to memory:\n0x0010:\t0x0000000000000000\t0x1010101000000000\n0x0018:\t0x0000000000000000\t0x0000000010101010\n",
         err: b"",
     },
+];
+
+/// Runs and their reports.
+static RUNS_3: [Case; 5] = [
     Case {
         shows: "a limit of steps",
         words: &["yis", "p.yo", "--limit", "5"],
@@ -161,6 +144,62 @@ static CASES: [Case; 53] = [
         err: b"",
     },
     Case {
+        shows: "a printed listing runs",
+        words: &["yis", "p.yo"],
+        name: "p.yo",
+        bytes: b"0x000:                      |     .pos 0\n0x000: 30f44000000000000000 |     irmovq stack, %rsp  # set up\n0x00a: 801400000000000000   |     call main\n0x013: 00                   |     halt\n0x014: 90                   | main: ret\n0x040:                      |     .pos 0x40\n0x040:                      | stack:\n",
+        status: 0,
+        out: b"Stopped in 4 steps at PC = 0x13.  Status 'HLT', CC Z=1 S=0 O=0\nChanges to registers:\n%rsp:\t0x0000000000000000\t0x0000000000000040\n\nChanges to memory:\n0x0038:\t0x0000000000000000\t0x0000000000000013\n",
+        err: b"",
+    },
+    Case {
+        shows: "no byte outside",
+        words: &["yis", "p.yo"],
+        name: "p.yo",
+        bytes: b"0x9999:\n",
+        status: 0,
+        out: b"Stopped in 1 steps at PC = 0x0.  Status 'HLT', CC Z=1 S=0 O=0\nChanges to registers:\n\nChanges to memory:\n",
+        err: b"",
+    },
+    Case {
+        shows: "a loop",
+        words: &["yis", "p.yo"],
+        name: "p.yo",
+        bytes: b"0x000: 30f10100000000000000\n0x00a: 30f20300000000000000\n0x014: 6112\n0x016: 741400000000000000\n0x01f: 00\n",
+        status: 0,
+        out: b"Stopped in 9 steps at PC = 0x1f.  Status 'HLT', CC Z=1 S=0 O=0\nChanges to registers:\n%rcx:\t0x0000000000000000\t0x0000000000000001\n\nChanges to memory:\n",
+        err: b"",
+    },
+    Case {
+        shows: "options before the file, and a number of 20 digits",
+        words: &[
+            "yis",
+            "--limit",
+            "00000000000000000001",
+            "--mem",
+            "64",
+            "p.yo",
+        ],
+        name: "p.yo",
+        bytes: b"0x000: 00\n",
+        status: 0,
+        out: b"Stopped in 1 steps at PC = 0x0.  Status 'HLT', CC Z=1 S=0 O=0\nChanges to registers:\n\nChanges to memory:\n",
+        err: b"",
+    },
+];
+
+/// Listings.
+static LISTINGS: [Case; 4] = [
+    Case {
+        shows: "an empty source",
+        words: &["yas", "a.ys"],
+        name: "a.ys",
+        bytes: b"",
+        status: 0,
+        out: b"",
+        err: b"",
+    },
+    Case {
         shows: "a listing with comments",
         words: &["yas", "a.ys"],
         name: "a.ys",
@@ -168,6 +207,37 @@ static CASES: [Case; 53] = [
         status: 0,
         out: b"0x000: 30f20a00000000000000 |     irmovq $10,%rdx\n0x00a: 6020                 | loop: addq %rdx,%rax # add\n0x00c: 700a00000000000000   |     jmp loop\n",
         err: b"",
+    },
+    Case {
+        shows: "a listing with .pos",
+        words: &["yas", "a.ys"],
+        name: "a.ys",
+        bytes: b"    .pos 0\n    irmovq stack, %rsp  # set up\n    call main\n    halt\nmain: ret\n    .pos 0x40\nstack:\n",
+        status: 0,
+        out: b"0x000:                      |     .pos 0\n0x000: 30f44000000000000000 |     irmovq stack, %rsp  # set up\n0x00a: 801400000000000000   |     call main\n0x013: 00                   |     halt\n0x014: 90                   | main: ret\n0x040:                      |     .pos 0x40\n0x040:                      | stack:\n",
+        err: b"",
+    },
+    Case {
+        shows: "a last line without a line feed",
+        words: &["yas", "a.ys"],
+        name: "a.ys",
+        bytes: b"    .pos 0\n    irmovq stack, %rsp  # set up\n    call main\n    halt\nmain: ret\n    .pos 0x40\nstack:",
+        status: 0,
+        out: b"0x000:                      |     .pos 0\n0x000: 30f44000000000000000 |     irmovq stack, %rsp  # set up\n0x00a: 801400000000000000   |     call main\n0x013: 00                   |     halt\n0x014: 90                   | main: ret\n0x040:                      |     .pos 0x40\n0x040:                      | stack:\n",
+        err: b"",
+    },
+];
+
+/// Files that are missing or refused.
+static REFUSED_1: [Case; 8] = [
+    Case {
+        shows: "an address without a base register",
+        words: &["yas", "a.ys"],
+        name: "a.ys",
+        bytes: b"rmmovq %rax,0\n",
+        status: 5,
+        out: b"",
+        err: b"a.ys:1: Syntax\n",
     },
     Case {
         shows: "an odd byte digit",
@@ -195,42 +265,6 @@ static CASES: [Case; 53] = [
         status: 3,
         out: b"",
         err: b"read fault q.yo\n",
-    },
-    Case {
-        shows: "no words",
-        words: &[],
-        name: "other.yo",
-        bytes: b"",
-        status: 2,
-        out: b"",
-        err: b"usage: y86 yas|yis|hcl|ssim|psim|check|sample|big\n",
-    },
-    Case {
-        shows: "a listing with .pos",
-        words: &["yas", "a.ys"],
-        name: "a.ys",
-        bytes: b"    .pos 0\n    irmovq stack, %rsp  # set up\n    call main\n    halt\nmain: ret\n    .pos 0x40\nstack:\n",
-        status: 0,
-        out: b"0x000:                      |     .pos 0\n0x000: 30f44000000000000000 |     irmovq stack, %rsp  # set up\n0x00a: 801400000000000000   |     call main\n0x013: 00                   |     halt\n0x014: 90                   | main: ret\n0x040:                      |     .pos 0x40\n0x040:                      | stack:\n",
-        err: b"",
-    },
-    Case {
-        shows: "a last line without a line feed",
-        words: &["yas", "a.ys"],
-        name: "a.ys",
-        bytes: b"    .pos 0\n    irmovq stack, %rsp  # set up\n    call main\n    halt\nmain: ret\n    .pos 0x40\nstack:",
-        status: 0,
-        out: b"0x000:                      |     .pos 0\n0x000: 30f44000000000000000 |     irmovq stack, %rsp  # set up\n0x00a: 801400000000000000   |     call main\n0x013: 00                   |     halt\n0x014: 90                   | main: ret\n0x040:                      |     .pos 0x40\n0x040:                      | stack:\n",
-        err: b"",
-    },
-    Case {
-        shows: "a printed listing runs",
-        words: &["yis", "p.yo"],
-        name: "p.yo",
-        bytes: b"0x000:                      |     .pos 0\n0x000: 30f44000000000000000 |     irmovq stack, %rsp  # set up\n0x00a: 801400000000000000   |     call main\n0x013: 00                   |     halt\n0x014: 90                   | main: ret\n0x040:                      |     .pos 0x40\n0x040:                      | stack:\n",
-        status: 0,
-        out: b"Stopped in 4 steps at PC = 0x13.  Status 'HLT', CC Z=1 S=0 O=0\nChanges to registers:\n%rsp:\t0x0000000000000000\t0x0000000000000040\n\nChanges to memory:\n0x0038:\t0x0000000000000000\t0x0000000000000013\n",
-        err: b"",
     },
     Case {
         shows: "a label twice",
@@ -268,6 +302,10 @@ static CASES: [Case; 53] = [
         out: b"",
         err: b"a.ys:2: OutsideMemory\n",
     },
+];
+
+/// Files that are missing or refused.
+static REFUSED_2: [Case; 8] = [
     Case {
         shows: "a byte too wide",
         words: &["yas", "a.ys"],
@@ -276,24 +314,6 @@ static CASES: [Case; 53] = [
         status: 5,
         out: b"",
         err: b"a.ys:1: NumberTooWide\n",
-    },
-    Case {
-        shows: "a limit of 0",
-        words: &["yis", "p.yo", "--limit", "0"],
-        name: "p.yo",
-        bytes: b"0x000: 00\n",
-        status: 2,
-        out: b"",
-        err: b"usage: y86 yas|yis|hcl|ssim|psim|check|sample|big\n",
-    },
-    Case {
-        shows: "a size that no image takes",
-        words: &["yis", "p.yo", "--mem", "100"],
-        name: "p.yo",
-        bytes: b"0x000: 00\n",
-        status: 2,
-        out: b"",
-        err: b"usage: y86 yas|yis|hcl|ssim|psim|check|sample|big\n",
     },
     Case {
         shows: "an instruction of another variant",
@@ -358,32 +378,56 @@ static CASES: [Case; 53] = [
         out: b"",
         err: b"p.yo:1: Syntax\n",
     },
+];
+
+/// Files that are missing or refused.
+static REFUSED_3: [Case; 1] = [Case {
+    shows: "a bad byte",
+    words: &["yas", "a.ys"],
+    name: "a.ys",
+    bytes: b"halt\x80\n",
+    status: 5,
+    out: b"",
+    err: b"a.ys:1: BadByte\n",
+}];
+
+/// Words that are no command.
+static USAGE_1: [Case; 8] = [
     Case {
-        shows: "no byte outside",
-        words: &["yis", "p.yo"],
+        shows: "an option that is not known",
+        words: &["yis", "p.yo", "--full"],
         name: "p.yo",
-        bytes: b"0x9999:\n",
-        status: 0,
-        out: b"Stopped in 1 steps at PC = 0x0.  Status 'HLT', CC Z=1 S=0 O=0\nChanges to registers:\n\nChanges to memory:\n",
-        err: b"",
-    },
-    Case {
-        shows: "a bad byte",
-        words: &["yas", "a.ys"],
-        name: "a.ys",
-        bytes: b"halt\x80\n",
-        status: 5,
+        bytes: b"0x000: c0f00500000000000000\n",
+        status: 2,
         out: b"",
-        err: b"a.ys:1: BadByte\n",
+        err: b"usage: y86 yas|yis|hcl|ssim|psim|check|sample|big\n",
     },
     Case {
-        shows: "a loop",
-        words: &["yis", "p.yo"],
+        shows: "no words",
+        words: &[],
+        name: "other.yo",
+        bytes: b"",
+        status: 2,
+        out: b"",
+        err: b"usage: y86 yas|yis|hcl|ssim|psim|check|sample|big\n",
+    },
+    Case {
+        shows: "a limit of 0",
+        words: &["yis", "p.yo", "--limit", "0"],
         name: "p.yo",
-        bytes: b"0x000: 30f10100000000000000\n0x00a: 30f20300000000000000\n0x014: 6112\n0x016: 741400000000000000\n0x01f: 00\n",
-        status: 0,
-        out: b"Stopped in 9 steps at PC = 0x1f.  Status 'HLT', CC Z=1 S=0 O=0\nChanges to registers:\n%rcx:\t0x0000000000000000\t0x0000000000000001\n\nChanges to memory:\n",
-        err: b"",
+        bytes: b"0x000: 00\n",
+        status: 2,
+        out: b"",
+        err: b"usage: y86 yas|yis|hcl|ssim|psim|check|sample|big\n",
+    },
+    Case {
+        shows: "a size that no image takes",
+        words: &["yis", "p.yo", "--mem", "100"],
+        name: "p.yo",
+        bytes: b"0x000: 00\n",
+        status: 2,
+        out: b"",
+        err: b"usage: y86 yas|yis|hcl|ssim|psim|check|sample|big\n",
     },
     Case {
         shows: "a file twice",
@@ -421,6 +465,10 @@ static CASES: [Case; 53] = [
         out: b"",
         err: b"usage: y86 yas|yis|hcl|ssim|psim|check|sample|big\n",
     },
+];
+
+/// Words that are no command.
+static USAGE_2: [Case; 7] = [
     Case {
         shows: "a number of 21 digits",
         words: &["yis", "p.yo", "--limit", "000000000000000000005"],
@@ -484,22 +532,6 @@ static CASES: [Case; 53] = [
         out: b"",
         err: b"usage: y86 yas|yis|hcl|ssim|psim|check|sample|big\n",
     },
-    Case {
-        shows: "options before the file, and a number of 20 digits",
-        words: &[
-            "yis",
-            "--limit",
-            "00000000000000000001",
-            "--mem",
-            "64",
-            "p.yo",
-        ],
-        name: "p.yo",
-        bytes: b"0x000: 00\n",
-        status: 0,
-        out: b"Stopped in 1 steps at PC = 0x0.  Status 'HLT', CC Z=1 S=0 O=0\nChanges to registers:\n\nChanges to memory:\n",
-        err: b"",
-    },
 ];
 
 /// The words of a call.
@@ -524,43 +556,122 @@ fn files_with(alloc: Global, name: &str, bytes: &[u8]) -> Result<MemFiles, Fail>
     Ok(files)
 }
 
-#[test]
-fn worked_examples(rt: HostRuntime) -> Result<(), Fail> {
-    for case in CASES.iter() {
-        let words = words_of(rt.alloc(), case.words)?;
-        let mut files = files_with(rt.alloc(), case.name, case.bytes)?;
-        let mut out = sink(rt.alloc(), &[], 4096)?;
-        let mut err = sink(rt.alloc(), &[], 256)?;
-        let status = run(rt.alloc(), words.as_slice(), &mut files, &mut out, &mut err);
-        assert_eq!(rt; status, case.status, "{}", case.shows);
-        assert_eq!(rt; out.bytes(), case.out, "{}", case.shows);
-        assert_eq!(rt; err.bytes(), case.err, "{}", case.shows);
+fn runs_1_cases() -> &'static [Case] {
+    &RUNS_1
+}
+
+fn runs_2_cases() -> &'static [Case] {
+    &RUNS_2
+}
+
+fn runs_3_cases() -> &'static [Case] {
+    &RUNS_3
+}
+
+fn listings_cases() -> &'static [Case] {
+    &LISTINGS
+}
+
+fn refused_1_cases() -> &'static [Case] {
+    &REFUSED_1
+}
+
+fn refused_2_cases() -> &'static [Case] {
+    &REFUSED_2
+}
+
+fn refused_3_cases() -> &'static [Case] {
+    &REFUSED_3
+}
+
+fn usage_1_cases() -> &'static [Case] {
+    &USAGE_1
+}
+
+fn usage_2_cases() -> &'static [Case] {
+    &USAGE_2
+}
+
+/// One call of the program over files and sinks in memory.
+fn check(rt: &impl Abort, alloc: Global, case: &Case) -> Result<(), Fail> {
+    let words = words_of(alloc, case.words)?;
+    let mut files = files_with(alloc, case.name, case.bytes)?;
+    let mut out = sink(alloc, &[], 4096)?;
+    let mut err = sink(alloc, &[], 256)?;
+    let status = run(alloc, words.as_slice(), &mut files, &mut out, &mut err);
+    assert_eq!(rt; status, case.status, "{}", case.shows);
+    assert_eq!(rt; out.bytes(), case.out, "{}", case.shows);
+    assert_eq!(rt; err.bytes(), case.err, "{}", case.shows);
+    Ok(())
+}
+
+fn check_all(rt: &impl Abort, alloc: Global, cases: &[Case]) -> Result<(), Fail> {
+    for case in cases {
+        check(rt, alloc, case)?;
     }
     Ok(())
 }
 
-/// Each write that fails in turn leaves a proper prefix; a fault on standard error changes no status.
+#[test]
+fn worked_examples(rt: HostRuntime) -> Result<(), Fail> {
+    check_all(&rt, rt.alloc(), runs_1_cases())?;
+    check_all(&rt, rt.alloc(), runs_2_cases())?;
+    check_all(&rt, rt.alloc(), runs_3_cases())?;
+    check_all(&rt, rt.alloc(), listings_cases())?;
+    check_all(&rt, rt.alloc(), refused_1_cases())?;
+    check_all(&rt, rt.alloc(), refused_2_cases())?;
+    check_all(&rt, rt.alloc(), refused_3_cases())?;
+    check_all(&rt, rt.alloc(), usage_1_cases())?;
+    check_all(&rt, rt.alloc(), usage_2_cases())?;
+    Ok(())
+}
+
+fn report() -> &'static [u8] {
+    b"Stopped in 1 steps at PC = 0x0.  Status 'HLT', CC Z=1 S=0 O=0\nChanges to registers:\n\nChanges to memory:\n"
+}
+
+/// A run of one halt whose write of this number fails: a proper prefix of the report went out, with status 4, or
+/// there was no such write.
+fn check_write(rt: &impl Abort, alloc: Global, number: u64) -> Result<bool, Fail> {
+    let words = words_of(alloc, &["yis", "p.yo"])?;
+    let mut files = files_with(alloc, "p.yo", b"0x000: 00")?;
+    let mut out = sink(alloc, &[number], 4096)?;
+    let mut err = sink(alloc, &[], 256)?;
+    let status = run(alloc, words.as_slice(), &mut files, &mut out, &mut err);
+    assert!(rt; report().starts_with(out.bytes()));
+    assert!(rt; err.bytes().is_empty());
+    let failed = out.bytes().len() < report().len();
+    assert_eq!(rt; status, if failed { 4 } else { 0 });
+    Ok(failed)
+}
+
+/// A missing file whose line on standard error fails at the write of this number: the status stays 3.
+fn check_line(rt: &impl Abort, alloc: Global, number: u64) -> Result<(), Fail> {
+    let words = words_of(alloc, &["yis", "q.yo"])?;
+    let mut files = files_with(alloc, "p.yo", b"0x000: 00")?;
+    let mut out = sink(alloc, &[], 64)?;
+    let mut err = sink(alloc, &[number], 256)?;
+    let status = run(alloc, words.as_slice(), &mut files, &mut out, &mut err);
+    assert_eq!(rt; status, 3);
+    assert!(rt; b"read fault q.yo\n".starts_with(err.bytes()));
+    assert!(rt; out.bytes().is_empty());
+    Ok(())
+}
+
+/// Each write that fails in turn leaves a proper prefix; a fault on standard error changes no status; a full sink
+/// has what fits.
 #[test]
 fn writes_that_fail(rt: HostRuntime) -> Result<(), Fail> {
-    let report =
-        b"Stopped in 1 steps at PC = 0x0.  Status 'HLT', CC Z=1 S=0 O=0\nChanges to registers:\n\nChanges to memory:\n";
-    let words = words_of(rt.alloc(), &["yis", "p.yo"])?;
-    let mut failed = 0;
+    assert!(rt; check_write(&rt, rt.alloc(), 0)?);
+    assert!(rt; check_write(&rt, rt.alloc(), 9)?);
+    assert!(rt; !check_write(&rt, rt.alloc(), 31)?);
     for number in 0..32 {
-        let mut files = files_with(rt.alloc(), "p.yo", b"0x000: 00")?;
-        let mut out = sink(rt.alloc(), &[number], 4096)?;
-        let mut err = sink(rt.alloc(), &[], 256)?;
-        let status = run(rt.alloc(), words.as_slice(), &mut files, &mut out, &mut err);
-        assert!(rt; report.starts_with(out.bytes()));
-        assert!(rt; err.bytes().is_empty());
-        if out.bytes().len() < report.len() {
-            failed += 1;
-            assert_eq!(rt; status, 4);
-        } else {
-            assert_eq!(rt; status, 0);
-        }
+        let _ = check_write(&rt, rt.alloc(), number)?;
     }
-    assert!(rt; 2 < failed && failed < 32);
+    for number in 0..4 {
+        check_line(&rt, rt.alloc(), number)?;
+    }
+    let words = words_of(rt.alloc(), &["yis", "p.yo"])?;
     let mut files = files_with(rt.alloc(), "p.yo", b"0x000: 00")?;
     let mut full = sink(rt.alloc(), &[], 10)?;
     let mut err = sink(rt.alloc(), &[], 256)?;
@@ -573,14 +684,5 @@ fn writes_that_fail(rt: HostRuntime) -> Result<(), Fail> {
     );
     assert_eq!(rt; status, 4);
     assert_eq!(rt; full.bytes(), b"Stopped in".as_slice());
-    for number in 0..4 {
-        let words = words_of(rt.alloc(), &["yis", "q.yo"])?;
-        let mut out = sink(rt.alloc(), &[], 64)?;
-        let mut err = sink(rt.alloc(), &[number], 256)?;
-        let status = run(rt.alloc(), words.as_slice(), &mut files, &mut out, &mut err);
-        assert_eq!(rt; status, 3);
-        assert!(rt; b"read fault q.yo\n".starts_with(err.bytes()));
-        assert!(rt; out.bytes().is_empty());
-    }
     Ok(())
 }
