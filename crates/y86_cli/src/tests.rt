@@ -534,6 +534,39 @@ static USAGE_2: [Case; 7] = [
     },
 ];
 
+/// The programs of the folder `examples`, whose object text stands beside each source.
+static EXAMPLE_ADD: [Case; 1] = [Case {
+    shows: "the example add",
+    words: &["yas", "add.ys"],
+    name: "add.ys",
+    bytes: b"# Adds two numbers.\n    irmovq $10, %rdx\n    irmovq $3, %rax\n    addq %rdx, %rax     # %rax is 13\n    halt\n",
+    status: 0,
+    out: b"                            | # Adds two numbers.\n0x000: 30f20a00000000000000 |     irmovq $10, %rdx\n0x00a: 30f00300000000000000 |     irmovq $3, %rax\n0x014: 6020                 |     addq %rdx, %rax     # %rax is 13\n0x016: 00                   |     halt\n",
+    err: b"",
+}];
+
+/// As above.
+static EXAMPLE_ASUM: [Case; 1] = [Case {
+    shows: "the example asum",
+    words: &["yas", "asum.ys"],
+    name: "asum.ys",
+    bytes: b"# The sum of an array, by a function with a loop (after CS:APP 3e, figure 4.7).\n    .pos 0\n    irmovq stack, %rsp  # the stack grows down from here\n    call main\n    halt\n\n    .align 8\narray:                  # four words\n    .quad 0x000d000d000d\n    .quad 0x00c000c000c0\n    .quad 0x0b000b000b00\n    .quad 0xa000a000a000\n\nmain:\n    irmovq array, %rdi\n    irmovq $4, %rsi\n    call sum            # sum(array, 4)\n    ret\n\nsum:                    # %rdi: address, %rsi: how many words; the sum goes to %rax\n    irmovq $8, %r8\n    irmovq $1, %r9\n    xorq %rax, %rax\n    andq %rsi, %rsi     # is there a word?\n    jmp test\nloop:\n    mrmovq (%rdi), %r10\n    addq %r10, %rax\n    addq %r8, %rdi\n    subq %r9, %rsi      # one word less\ntest:\n    jne loop\n    ret\n\n    .pos 0x200\nstack:\n",
+    status: 0,
+    out: b"                            | # The sum of an array, by a function with a loop (after CS:APP 3e, figure 4.7).\n0x000:                      |     .pos 0\n0x000: 30f40002000000000000 |     irmovq stack, %rsp  # the stack grows down from here\n0x00a: 803800000000000000   |     call main\n0x013: 00                   |     halt\n                            | \n0x018:                      |     .align 8\n0x018:                      | array:                  # four words\n0x018: 0d000d000d000000     |     .quad 0x000d000d000d\n0x020: c000c000c0000000     |     .quad 0x00c000c000c0\n0x028: 000b000b000b0000     |     .quad 0x0b000b000b00\n0x030: 00a000a000a00000     |     .quad 0xa000a000a000\n                            | \n0x038:                      | main:\n0x038: 30f71800000000000000 |     irmovq array, %rdi\n0x042: 30f60400000000000000 |     irmovq $4, %rsi\n0x04c: 805600000000000000   |     call sum            # sum(array, 4)\n0x055: 90                   |     ret\n                            | \n0x056:                      | sum:                    # %rdi: address, %rsi: how many words; the sum goes to %rax\n0x056: 30f80800000000000000 |     irmovq $8, %r8\n0x060: 30f90100000000000000 |     irmovq $1, %r9\n0x06a: 6300                 |     xorq %rax, %rax\n0x06c: 6266                 |     andq %rsi, %rsi     # is there a word?\n0x06e: 708700000000000000   |     jmp test\n0x077:                      | loop:\n0x077: 50a70000000000000000 |     mrmovq (%rdi), %r10\n0x081: 60a0                 |     addq %r10, %rax\n0x083: 6087                 |     addq %r8, %rdi\n0x085: 6196                 |     subq %r9, %rsi      # one word less\n0x087:                      | test:\n0x087: 747700000000000000   |     jne loop\n0x090: 90                   |     ret\n                            | \n0x200:                      |     .pos 0x200\n0x200:                      | stack:\n",
+    err: b"",
+}];
+
+/// As above.
+static EXAMPLE_FAULT: [Case; 1] = [Case {
+    shows: "the example fault",
+    words: &["yas", "fault.ys"],
+    name: "fault.ys",
+    bytes: b"# A load from an address outside the memory stops the program with status ADR.\n    irmovq $0x2000, %rbx    # the first address behind the default memory of 8192 bytes\n    mrmovq 0(%rbx), %rax    # faults here\n    halt                    # is never reached\n",
+    status: 0,
+    out: b"                            | # A load from an address outside the memory stops the program with status ADR.\n0x000: 30f30020000000000000 |     irmovq $0x2000, %rbx    # the first address behind the default memory of 8192 bytes\n0x00a: 50030000000000000000 |     mrmovq 0(%rbx), %rax    # faults here\n0x014: 00                   |     halt                    # is never reached\n",
+    err: b"",
+}];
+
 /// The words of a call.
 fn words_of(alloc: Global, texts: &[&str]) -> Result<Vec<String>, Fail> {
     let mut words = Vec::new(alloc);
@@ -592,11 +625,23 @@ fn usage_2_cases() -> &'static [Case] {
     &USAGE_2
 }
 
+fn example_add_cases() -> &'static [Case] {
+    &EXAMPLE_ADD
+}
+
+fn example_asum_cases() -> &'static [Case] {
+    &EXAMPLE_ASUM
+}
+
+fn example_fault_cases() -> &'static [Case] {
+    &EXAMPLE_FAULT
+}
+
 /// One call of the program over files and sinks in memory.
 fn check(rt: &impl Abort, alloc: Global, case: &Case) -> Result<(), Fail> {
     let words = words_of(alloc, case.words)?;
     let mut files = files_with(alloc, case.name, case.bytes)?;
-    let mut out = sink(alloc, &[], 4096)?;
+    let mut out = sink(alloc, &[], 8192)?;
     let mut err = sink(alloc, &[], 256)?;
     let status = run(alloc, words.as_slice(), &mut files, &mut out, &mut err);
     assert_eq!(rt; status, case.status, "{}", case.shows);
@@ -623,6 +668,9 @@ fn worked_examples(rt: HostRuntime) -> Result<(), Fail> {
     check_all(&rt, rt.alloc(), refused_3_cases())?;
     check_all(&rt, rt.alloc(), usage_1_cases())?;
     check_all(&rt, rt.alloc(), usage_2_cases())?;
+    check_all(&rt, rt.alloc(), example_add_cases())?;
+    check_all(&rt, rt.alloc(), example_asum_cases())?;
+    check_all(&rt, rt.alloc(), example_fault_cases())?;
     Ok(())
 }
 
