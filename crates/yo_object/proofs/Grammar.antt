@@ -30,7 +30,7 @@ prefix_len-run passes (x ∷ run) text h stops =
     let b = both_true (passes x) (list_all passes run) h in
     step_true (passes x) _ b.0 ∙ ap suc (prefix_len-run passes run text b.1 stops)
 
-behind-run : (passes : ℕ → Bool) (run text : List ℕ) → list_all passes run ≡ true → Stops passes text → behind passes (run ++ text) ≡ text
+pub behind-run : (passes : ℕ → Bool) (run text : List ℕ) → list_all passes run ≡ true → Stops passes text → behind passes (run ++ text) ≡ text
 behind-run passes run text h stops = rw (prefix_len-run passes run text h stops) (drop-append_seam run text)
 
 take_while-run : (passes : ℕ → Bool) (run text : List ℕ) → list_all passes run ≡ true → Stops passes text → take_while passes (run ++ text) ≡ run
@@ -81,7 +81,7 @@ blanks_stop_hex : (trail comment : List ℕ) → list_all is_blank trail ≡ tru
 blanks_stop_hex [] comment h stops = stops
 blanks_stop_hex (first ∷ trail) comment h stops = blank_not_hex first (both_true (is_blank first) (list_all is_blank trail) h).0
 
-list_all-append : (passes : ℕ → Bool) (xs ys : List ℕ) → list_all passes xs ≡ true → list_all passes ys ≡ true → list_all passes (xs ++ ys) ≡ true
+pub list_all-append : (passes : ℕ → Bool) (xs ys : List ℕ) → list_all passes xs ≡ true → list_all passes ys ≡ true → list_all passes (xs ++ ys) ≡ true
 list_all-append passes [] ys h k = k
 list_all-append passes (x ∷ xs) ys h k =
     let b = both_true (passes x) (list_all passes xs) h in rw (b.0, list_all-append passes xs ys b.1 k) refl
@@ -114,7 +114,7 @@ data_found : (address text bytes : List ℕ) → 0 < length address → IsData t
 data_found address text bytes some d =
     rw (lt-ltb 0 (length address) some, d.ends, d.digits) refl
 
-form_read : (line address bytes : List ℕ) → IsObjectLine line address bytes → digits_in_line line ≡ Some (record { address = address; bytes = bytes })
+pub form_read : (line address bytes : List ℕ) → IsObjectLine line address bytes → digits_in_line line ≡ Some (record { address = address; bytes = bytes })
 unfolding digits_of
 form_read line address bytes form =
     let data_text : List ℕ = form.gap ++ (bytes ++ (form.trail ++ form.comment)) in

@@ -1,3 +1,7 @@
 pub mod Bytes
 pub mod Texts
 pub mod Grammar
+pub mod HexDigits
+pub mod PrintedLines
+pub mod ListedLines
+pub mod ReadBack

@@ -3,3 +3,4 @@ pub mod Loads
 pub mod Lines
 pub mod Grammar
 pub mod Printed
+pub mod ReadBack

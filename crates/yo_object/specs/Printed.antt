@@ -1,6 +1,6 @@
 -- The object text of a listing: each line of the source with its address and its bytes in front.
-use Rattle.std.specs.Prelude.{ℕ, ◌-◌, ◌+◌, List, [], ◌∷◌, ◌++◌, codes, length, take, drop, replicate, Option, Some, None}
-use Rattle.std.specs.List.{concat, flat_map}
+use Rattle.std.specs.Prelude.{ℕ, ◌-◌, List, ◌++◌, codes, length, take, drop, replicate, Option, Some, None}
+use Rattle.std.specs.List.{flat_map}
 use Rattle.y86_base.specs.Numeral.{numeral}
 use Rattle.yas_asm.specs.declared.listing.Line.{Line}
 use Rattle.yas_asm.specs.Listing.{Listed}

@@ -6,6 +6,6 @@ mod line;
 mod object;
 mod printer;
 
-pub use laws::line_grammar;
+pub use laws::{line_grammar, read_back};
 pub use object::{YoFault, YoWhy, load};
 pub use printer::print;

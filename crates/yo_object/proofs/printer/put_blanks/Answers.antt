@@ -1,4 +1,4 @@
-use Rattle.std.proofs.Common.{◌≡◌, ℕ, List, take, replicate}
+use Rattle.std.proofs.Common.{◌≡◌, ℕ, take, replicate}
 use Rattle.std.proofs.lemmas.List.{take-replicate}
 use Rattle.yo_object.proofs.printer.put_blanks.Goals as goal
 

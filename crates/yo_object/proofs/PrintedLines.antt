@@ -1,0 +1,190 @@
+-- A printed line is read as its address and its bytes, and the printed lines are the lines of the text.
+use Rattle.std.proofs.Common.{◌≡◌, ℕ, zero, suc, ◌+◌, ◌-◌, ◌/◌, ◌%◌, ◌^◌, ◌<◌, ◌≤◌, Bool, true, false, not, ◌&&◌, nat_lt, eqb, List, [], ◌∷◌, ◌++◌, length, codes, take, drop, fold, replicate, All, IfSome, Option, Some, None, Ok, refl, ap, sym, subst, ◌∙◌, arith, append_assoc, length-append, length-take, length-drop, le-ltb, ltb-true, ne_eqb}
+use Rattle.std.specs.Prelude.{option_and_then}
+use Rattle.std.specs.List.{list_all, flat_map}
+use Rattle.std.proofs.lemmas.Bool.{false≢true}
+use Rattle.std.proofs.lemmas.Bool.Decides.{nat_tests}
+use Rattle.std.proofs.lemmas.List.Elements.{All-head, All-tail}
+use Rattle.y86_base.specs.Image.{AreBytes}
+use Rattle.y86_base.specs.Text.{is_blank, is_hex, is_line_feed, lines}
+use Rattle.y86_base.specs.Numeral.{numeral}
+use Rattle.yas_asm.specs.declared.listing.Line.{Line}
+use Rattle.yo_object.specs.ObjectText.{behind, after_prefix, digits_of, hex_number, with_bytes, put_digits, put_text, put_line, put_lines}
+use Rattle.yo_object.specs.Grammar.{IsObjectLine}
+use Rattle.yo_object.specs.Printed.{hex_bytes, front, text_of, printed_line}
+use Rattle.yo_object.specs.ReadBack.{IsInside, with_bytes_at, with_line}
+use Rattle.yo_object.proofs.Bytes.{put_nothing}
+use Rattle.yo_object.proofs.Texts.{text_end, text_more}
+use Rattle.yo_object.proofs.Grammar.{behind-run, form_read, list_all-append}
+use Rattle.yo_object.proofs.HexDigits.{IsHexOf, numeral_is_hex, ArePairsOf, hex_bytes_are_pairs}
+
+-- lines without line feeds
+
+abbrev pub is_plain : ℕ → Bool
+is_plain byte = not (is_line_feed byte)
+
+hex_plain : (byte : ℕ) → is_hex byte ≡ true → is_plain byte ≡ true
+hex_plain byte h = grind (arith, nat_tests)
+
+both : (a b : Bool) → (a && b) ≡ true → (a ≡ true) × (b ≡ true)
+both true b h = (refl, h)
+both false b h = absurd (false≢true h)
+
+all_plain : (digits : List ℕ) → list_all is_hex digits ≡ true → list_all is_plain digits ≡ true
+all_plain [] h = refl
+all_plain (digit ∷ digits) h =
+    let b = both (is_hex digit) (list_all is_hex digits) h in
+    rw (hex_plain digit b.0, all_plain digits b.1) refl
+
+blanks_plain : (count : ℕ) → list_all is_plain (replicate count 32) ≡ true
+blanks_plain zero = refl
+blanks_plain (suc count) = blanks_plain count
+
+not_is : (b : Bool) → not b ≡ true → b ≡ false
+not_is true h = absurd (false≢true h)
+not_is false h = refl
+
+-- a text up to a line feed is the first line, and the lines behind it are the others
+next_line : (line rest : List ℕ) → list_all is_plain line ≡ true → lines (line ++ (10 ∷ rest)) ≡ line ∷ lines rest
+next_line [] rest h = refl
+next_line (byte ∷ line) rest h =
+    let b = both (is_plain byte) (list_all is_plain line) h in
+    rw (not_is (is_line_feed byte) b.0, next_line line rest b.1) refl
+
+-- the text of a line
+
+blanks_blank : (count : ℕ) → list_all is_blank (replicate count 32) ≡ true
+blanks_blank zero = refl
+blanks_blank (suc count) = blanks_blank count
+
+regroup : (digits pairs trail text : List ℕ) →
+    48 ∷ 120 ∷ (((digits ++ (58 ∷ 32 ∷ [])) ++ (pairs ++ trail)) ++ (32 ∷ 124 ∷ 32 ∷ text))
+    ≡ 48 ∷ 120 ∷ (digits ++ (58 ∷ 32 ∷ (pairs ++ ((trail ++ (32 ∷ [])) ++ (124 ∷ 32 ∷ text)))))
+regroup digits pairs trail text = simp append_assoc
+
+-- digits of an address and of bytes, between the fixed signs, are a line of the form
+form_of : (digits pairs trail text : List ℕ) → list_all is_hex digits ≡ true → 0 < length digits → list_all is_hex pairs ≡ true → list_all is_blank trail ≡ true →
+    IsObjectLine ((codes "0x" ++ digits ++ codes ": " ++ (pairs ++ trail)) ++ (codes " | " ++ text)) digits pairs
+form_of digits pairs trail text digits_hex some pairs_hex trail_blank = record {
+  lead = [];
+  gap = 32 ∷ [];
+  trail = trail ++ (32 ∷ []);
+  comment = 124 ∷ 32 ∷ text;
+  text = regroup digits pairs trail text;
+  lead_blank = refl;
+  address_hex = digits_hex;
+  address_some = some;
+  gap_blank = refl;
+  bytes_hex = pairs_hex;
+  trail_blank = list_all-append is_blank trail (32 ∷ []) trail_blank refl;
+  comment_ends = refl;
+}
+
+-- a line of the form is read as its digits
+put_form : (memory line address bytes : List ℕ) → IsObjectLine line address bytes →
+    put_line memory line ≡ put_digits memory (record { address = address; bytes = bytes })
+unfolding put_line
+put_form memory line address bytes form = by (after_prefix (behind is_blank line)) (form_read line address bytes form)
+  where
+    by : (p : Option (List ℕ)) → option_and_then digits_of p ≡ Some (record { address = address; bytes = bytes }) →
+        put_text memory p ≡ put_digits memory (record { address = address; bytes = bytes })
+    by None e = absurd (cc)
+    by (Some text) e = rw e refl
+
+not_both : (a b : Bool) → (a ≡ true → b ≡ false) → (a && b) ≡ false
+not_both true b h = h refl
+not_both false b h = refl
+
+-- and puts its bytes at its address
+put_bytes : (memory digits pairs bytes : List ℕ) (address : ℕ) → IsHexOf address digits → ArePairsOf bytes pairs →
+    (0 < length bytes → address + length bytes ≤ length memory) →
+    put_digits memory (record { address = digits; bytes = pairs }) ≡ Ok (with_bytes memory address bytes)
+unfolding put_digits
+put_bytes memory digits pairs bytes address hex two inside =
+    let wide : nat_lt 16 (length digits) ≡ false = le-ltb 16 (length digits) hex.few in
+    let odd : eqb (length pairs % 2) 1 ≡ false = ne_eqb (length pairs % 2) 1 (λ e. omega (arith, two.double)) in
+    let outside : (nat_lt 0 (length pairs) && nat_lt (length memory) (hex_number digits + length pairs / 2)) ≡ false =
+    not_both _ _ (λ e. le-ltb (length memory) _ (let some : 0 < length pairs = ltb-true 0 (length pairs) e in omega (arith, hex.number, two.double, inside))) in
+    rw (wide, odd, outside) (λ i. Ok (with_bytes memory (hex.number i) (two.bytes_are i)))
+
+put_blanks : (memory bytes text : List ℕ) → put_line memory (front None bytes ++ (codes " | " ++ text)) ≡ Ok memory
+unfolding put_line front
+put_blanks memory bytes text =
+    let e : behind is_blank (replicate 28 32 ++ (124 ∷ 32 ∷ text)) ≡ 124 ∷ 32 ∷ text = behind-run is_blank (replicate 28 32) (124 ∷ 32 ∷ text) refl refl in
+    ap (λ t. put_text memory (after_prefix t)) e
+
+-- a printed line puts its bytes at its address
+put_at : (memory bytes text : List ℕ) (addr : Option ℕ) → AreBytes bytes → IfSome addr (λ a. a < 16 ^ 16) →
+    IfSome addr (λ a. 0 < length bytes → a + length bytes ≤ length memory) →
+    put_line memory (front addr bytes ++ (codes " | " ++ text)) ≡ Ok (with_bytes_at memory addr bytes)
+unfolding front
+put_at memory bytes text None small narrow inside = put_blanks memory bytes text
+put_at memory bytes text (Some a) small narrow inside =
+    let hex = numeral_is_hex a narrow in
+    let two = hex_bytes_are_pairs bytes small in
+    put_form memory _ (numeral 16 3 a) (hex_bytes bytes)
+    (form_of (numeral 16 3 a) (hex_bytes bytes) (replicate (20 - length (hex_bytes bytes)) 32) text hex.hex hex.some two.hex (blanks_blank (20 - length (hex_bytes bytes))))
+    ∙ put_bytes memory (numeral 16 3 a) (hex_bytes bytes) bytes a hex two inside
+
+-- what stands in front of a line's text is no line feed
+front_plain : (bytes : List ℕ) (addr : Option ℕ) → AreBytes bytes → IfSome addr (λ a. a < 16 ^ 16) → list_all is_plain (front addr bytes) ≡ true
+unfolding front
+front_plain bytes None small narrow = refl
+front_plain bytes (Some a) small narrow =
+    let hex = numeral_is_hex a narrow in
+    let two = hex_bytes_are_pairs bytes small in
+    let blanks : List ℕ = replicate (20 - length (hex_bytes bytes)) 32 in
+    let back : list_all is_plain (hex_bytes bytes ++ blanks) ≡ true =
+    list_all-append is_plain (hex_bytes bytes) blanks (all_plain (hex_bytes bytes) two.hex) (blanks_plain (20 - length (hex_bytes bytes))) in
+    let whole : list_all is_plain (numeral 16 3 a ++ (58 ∷ 32 ∷ (hex_bytes bytes ++ blanks))) ≡ true =
+    list_all-append is_plain (numeral 16 3 a) (58 ∷ 32 ∷ (hex_bytes bytes ++ blanks)) (all_plain (numeral 16 3 a) hex.hex) back in
+    let same : (numeral 16 3 a ++ (58 ∷ 32 ∷ [])) ++ (hex_bytes bytes ++ blanks) ≡ numeral 16 3 a ++ (58 ∷ 32 ∷ (hex_bytes bytes ++ blanks)) =
+    append_assoc (numeral 16 3 a) (58 ∷ 32 ∷ []) (hex_bytes bytes ++ blanks) in
+    ap (list_all is_plain) same ∙ whole
+
+-- bytes that are inside leave the size of a memory
+size_kept : (memory bytes : List ℕ) (addr : Option ℕ) → IfSome addr (λ a. 0 < length bytes → a + length bytes ≤ length memory) →
+    length (with_bytes_at memory addr bytes) ≡ length memory
+size_kept memory bytes None inside = refl
+size_kept memory [] (Some a) inside = ap length (put_nothing memory a)
+size_kept memory (byte ∷ bytes) (Some a) inside =
+    let le : a + length (byte ∷ bytes) ≤ length memory = inside (omega arith) in
+    let behind_them : List ℕ = drop (a + length (byte ∷ bytes)) memory in
+    let long : length ((take a memory ++ (byte ∷ bytes)) ++ behind_them) ≡ length memory =
+    omega (arith, le, length-append (take a memory ++ (byte ∷ bytes)) behind_them, length-append (take a memory) (byte ∷ bytes), length-take a memory, length-drop (a + length (byte ∷ bytes)) memory) in
+    long
+
+-- the lines of a printed text
+
+-- a printed line without its line feed
+abbrev line_body : List ℕ → Line → List ℕ
+line_body source line = front line.addr line.bytes.items ++ (codes " | " ++ text_of source line.from line.to)
+
+-- what a line needs so that it is read back in a memory of a size
+pub record IsPrintable (source : List ℕ) (size : ℕ) (line : Line) : Type 0 where
+  pub plain : list_all is_plain (text_of source line.from line.to) ≡ true
+  pub bytes : AreBytes line.bytes.items
+  pub narrow : IfSome line.addr (λ address. address < 16 ^ 16)
+  pub inside : IsInside size line
+
+first_printed : (source : List ℕ) (size : ℕ) (line : Line) (rest : List ℕ) → IsPrintable source size line →
+    lines (printed_line source line ++ rest) ≡ line_body source line ∷ lines rest
+unfolding printed_line
+first_printed source size line rest p =
+    let text : List ℕ = text_of source line.from line.to in
+    let start : List ℕ = front line.addr line.bytes.items in
+    let plain : list_all is_plain (line_body source line) ≡ true =
+    list_all-append is_plain start (codes " | " ++ text) (front_plain line.bytes.items line.addr p.bytes p.narrow) p.plain in
+    let regroup : printed_line source line ++ rest ≡ line_body source line ++ (10 ∷ rest) = simp append_assoc in
+    ap lines regroup ∙ next_line (line_body source line) rest plain
+
+pub all_put : (source : List ℕ) (number : ℕ) (memory : List ℕ) (listing : List Line) → All (IsPrintable source (length memory)) listing →
+    put_lines number memory (lines (flat_map (printed_line source) listing)) ≡ Ok (fold with_line memory listing)
+all_put source number memory [] h = text_end number memory [] refl
+all_put source number memory (line ∷ listing) h =
+    let p = All-head (IsPrintable source (length memory)) line listing h in
+    let rest = All-tail (IsPrintable source (length memory)) line listing h in
+    let same : length (with_line memory line) ≡ length memory = size_kept memory line.bytes.items line.addr p.inside in
+    text_more number memory (with_line memory line) (line_body source line) _ _ (first_printed source (length memory) line (flat_map (printed_line source) listing) p)
+    (put_at memory line.bytes.items (text_of source line.from line.to) line.addr p.bytes p.narrow p.inside)
+    ∙ all_put source (number + 1) (with_line memory line) listing (subst (λ n. All (IsPrintable source n) listing) (sym same) rest)
