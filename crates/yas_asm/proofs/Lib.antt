@@ -5,3 +5,5 @@ pub mod SoundLemmas
 pub mod PassLemmas
 pub mod SoundGrammar
 pub mod LawLemmas
+pub mod ByteLemmas
+pub mod ImageLemmas
