@@ -152,14 +152,28 @@ listing-split variant size table from [] [] rest line e = absurd (no_cons line r
 listing-split variant size table from [] (other ∷ before) rest line e = absurd (no_cons other _ e)
 listing-split variant size table from (p ∷ all) [] rest line e =
     record {
-      before = []; placed = p; after = all; from = from; to = from + length p.text; next = from + length p.text + 1;
-      parts = refl; line_is = sym (head_is _ _ _ _ e); rest_is = sym (tail_is _ _ _ _ e);
+      before = [];
+      placed = p;
+      after = all;
+      from = from;
+      to = from + length p.text;
+      next = from + length p.text + 1;
+      parts = refl;
+      line_is = sym (head_is _ _ _ _ e);
+      rest_is = sym (tail_is _ _ _ _ e);
     }
 listing-split variant size table from (p ∷ all) (other ∷ before) rest line e =
     let found = listing-split variant size table (from + length p.text + 1) all before rest line (tail_is _ _ _ _ e) in
     record {
-      before = p ∷ found.before; placed = found.placed; after = found.after; from = found.from; to = found.to; next = found.next;
-      parts = ap (λ xs. p ∷ xs) found.parts; line_is = found.line_is; rest_is = found.rest_is;
+      before = p ∷ found.before;
+      placed = found.placed;
+      after = found.after;
+      from = found.from;
+      to = found.to;
+      next = found.next;
+      parts = ap (λ xs. p ∷ xs) found.parts;
+      line_is = found.line_is;
+      rest_is = found.rest_is;
     }
 
 emits-err : (variant : Variant) (size : ℕ) (table : List (List ℕ × ℕ)) (from to address a : ℕ) (why : AsmWhy) → emits (listed variant size table from to address (Err why)) a ≡ true → ⊥
@@ -200,11 +214,11 @@ bytes_have_one_line variant source size lines e before between after one other a
     let first = listing-split variant size table 0 all before (between ++ other ∷ after) one (good.1 ∙ split) in
     let second = listing-split variant size table first.next first.after between after other (sym first.rest_is) in
     let none : first_fault variant size table [] (first.before ++ first.placed ∷ first.after) ≡ None =
-        subst (λ (xs : List Placed). first_fault variant size table [] xs ≡ None) first.parts good.0 in
+    subst (λ (xs : List Placed). first_fault variant size table [] xs ≡ None) first.parts good.0 in
     let here = fault_at variant size table [] first.before first.after first.placed none in
     let none' : first_fault variant size table [] ((first.before ++ first.placed ∷ second.before) ++ second.placed ∷ second.after) ≡ None =
-        subst (λ (xs : List Placed). first_fault variant size table [] xs ≡ None)
-          (ap (λ xs. first.before ++ first.placed ∷ xs) second.parts ∙ append_line first.before second.before second.after first.placed second.placed) none in
+    subst (λ (xs : List Placed). first_fault variant size table [] xs ≡ None)
+    (ap (λ xs. first.before ++ first.placed ∷ xs) second.parts ∙ append_line first.before second.before second.after first.placed second.placed) none in
     let there = fault_at variant size table [] (first.before ++ first.placed ∷ second.before) second.after second.placed none' in
     let x' : emits (listed variant size table first.from first.to first.placed.address first.placed.read) a ≡ true = subst (λ (l : Line). emits l a ≡ true) first.line_is x in
     let y' : emits (listed variant size table second.from second.to second.placed.address second.placed.read) a ≡ true = subst (λ (l : Line). emits l a ≡ true) second.line_is y in

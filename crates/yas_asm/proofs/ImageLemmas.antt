@@ -160,7 +160,7 @@ none_emits a (line ∷ lines) none =
 fold-parts : (before after : List Line) (line : Line) (memory : List ℕ)
     → fold (λ memory line. put_at line.addr line.bytes.items memory) memory (before ++ line ∷ after)
     ≡ fold (λ memory line. put_at line.addr line.bytes.items memory)
-        (put_at line.addr line.bytes.items (fold (λ memory line. put_at line.addr line.bytes.items memory) memory before)) after
+    (put_at line.addr line.bytes.items (fold (λ memory line. put_at line.addr line.bytes.items memory) memory before)) after
 fold-parts [] after line memory = refl
 fold-parts (other ∷ before) after line memory = fold-parts before after line (put_at other.addr other.bytes.items memory)
 
@@ -179,5 +179,5 @@ image_has_lines variant source size lines e before after line a split x =
     let long = length-fold size before (zero_bytes size) parts.0 (length-zeros size) in
     let none = none_emits a after (λ between rest other f y. bytes_have_one_line variant source size lines e before between rest line other a (split ∙ ap (λ xs. before ++ line ∷ xs) f) x y) in
     rw split (rw (fold-parts before after line (zero_bytes size))
-      (fold-kept size a after (put_at line.addr line.bytes.items memory) parts.2 (length-put_at size line.addr line.bytes.items memory parts.1 long) none
-      ∙ put_at-inside size line.addr line.bytes.items memory a parts.1 long x))
+    (fold-kept size a after (put_at line.addr line.bytes.items memory) parts.2 (length-put_at size line.addr line.bytes.items memory parts.1 long) none
+    ∙ put_at-inside size line.addr line.bytes.items memory a parts.1 long x))

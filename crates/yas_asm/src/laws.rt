@@ -10,12 +10,10 @@ pub fn law_of_labels()
 #[tactic(auto, using(crate::proofs::ByteLemmas::bytes_have_one_line))]
 pub fn law_of_bytes()
     ensures { BytesHaveOneLine }
-{
-}
+{}
 
 /// The memory image of an accepted source has the bytes of each line at its address, and zeros elsewhere.
 pub fn law_of_images()
     ensures lines { ImageHasLines }
     ensures zeros { ImageIsZeroElsewhere }
-{
-}
+{}
