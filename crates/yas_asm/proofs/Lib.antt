@@ -7,3 +7,6 @@ pub mod SoundGrammar
 pub mod LawLemmas
 pub mod ByteLemmas
 pub mod ImageLemmas
+pub mod SpacingLemmas
+pub mod SpacingGrammar
+pub mod SpacingLaw

@@ -1,3 +1,4 @@
+ghost use Rattle.yas_asm.specs.Spacing.{SpacingIsFree};
 ghost use Rattle.yas_asm.specs.Laws.{BytesHaveOneLine, ImageHasLines, ImageIsZeroElsewhere, LabelsAreAddresses};
 
 /// In an accepted source the value of a label is the address before its line's statement.
@@ -16,4 +17,10 @@ pub fn law_of_bytes()
 pub fn law_of_images()
     ensures lines { ImageHasLines }
     ensures zeros { ImageIsZeroElsewhere }
+{}
+
+/// Two accepted sources that differ in comments and blanks alone have the same addresses and bytes, line for line.
+
+pub fn law_of_spacing()
+    ensures { SpacingIsFree }
 {}
