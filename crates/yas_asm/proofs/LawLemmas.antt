@@ -1,6 +1,6 @@
 -- What follows from the definition of an assembled source.
-use Rattle.std.proofs.Common.{◌≡◌, ◌+◌, ◌<◌, ◌≤◌, ap, sym, subst, ◌∙◌, ℕ, zero, suc, Bool, true, false, cond, List, [], ◌∷◌, ◌++◌, length, fold, Option, None, Some, Result, Ok, Err, refl, arith}
-use Rattle.std.specs.Prelude.{is_some, is_none, nat_eq, nat_le, nat_lt, ◌&&◌, ◌||◌}
+use Rattle.std.proofs.Common.{◌≡◌, ap, sym, subst, ◌∙◌, ℕ, Bool, true, false, cond, List, [], ◌∷◌, ◌++◌, length, fold, Option, None, Some, Result, Ok, Err, refl}
+use Rattle.std.specs.Prelude.{is_some, is_none, nat_le, ◌&&◌, ◌||◌}
 use Rattle.std.specs.Str.{bytes_eq}
 use Rattle.std.proofs.lemmas.Slice.Eq.{bytes_eq-Decides}
 use Rattle.std.proofs.lemmas.Bool.{false≢true}
@@ -8,10 +8,9 @@ use Rattle.y86_base.specs.declared.parts.Variant.{Variant}
 use Rattle.yas_asm.specs.declared.fault.AsmWhy.{AsmWhy}
 use Rattle.yas_asm.specs.declared.fault.AsmFault.{AsmFault}
 use Rattle.yas_asm.specs.declared.listing.Line.{Line}
-use Rattle.yas_asm.specs.declared.statement.Statement.{Statement}
 use Rattle.yas_asm.specs.declared.statement.Parsed.{Parsed}
 use Rattle.yas_asm.specs.Tokens.{meaning_of}
-use Rattle.yas_asm.specs.Assembly.{Placed, placed, source_lines, labels, label_of, label_limit, with_label, with_name, assembled, assembled_with, first_fault, fault_or, listing, listing_unless, line_fault, statement_fault, first_reason, filled, names_wide, names_unknown, is_defined, is_past_limit, place, overlaps, width_of}
+use Rattle.yas_asm.specs.Assembly.{Placed, source_lines, labels, label_of, label_limit, with_label, with_name, assembled, assembled_with, first_fault, fault_or, listing, listing_unless, line_fault, statement_fault, filled, names_wide, names_unknown, is_defined, is_past_limit, place, overlaps, width_of}
 use Rattle.yas_asm.specs.Laws.{LabelsAreAddresses}
 use Rattle.yas_asm.proofs.PassLemmas.{not_here, some_from_none, append_nil, append_twice}
 
@@ -94,7 +93,7 @@ faultless variant size table known used address parsed e =
     let limit = not_here (is_past_limit known parsed.label) _ _ overlap.1 in
     record { new_label = twice.0; inside = some_from_none _ outside.0; free = overlap.0; within_limit = limit.0 }
 
-no_fault : (found : Option AsmWhy) (n : ℕ) (later : Option AsmFault) → fault_or found n later ≡ None → (found ≡ None) × (later ≡ None)
+pub no_fault : (found : Option AsmWhy) (n : ℕ) (later : Option AsmFault) → fault_or found n later ≡ None → (found ≡ None) × (later ≡ None)
 no_fault None n later e = (refl, e)
 no_fault (Some why) n later e = absurd (no (record { line = n; why = why }) e)
   where
@@ -102,7 +101,7 @@ no_fault (Some why) n later e = absurd (no (record { line = n; why = why }) e)
     no fault e = cc
 
 -- where no line has a fault, a line in their midst has none behind those before it
-fault_at : (variant : Variant) (size : ℕ) (table : List (List ℕ × ℕ)) (first before after : List Placed) (line : Placed)
+pub fault_at : (variant : Variant) (size : ℕ) (table : List (List ℕ × ℕ)) (first before after : List Placed) (line : Placed)
     → first_fault variant size table first (before ++ line ∷ after) ≡ None
     → line_fault variant size table (labels (first ++ before)) (filled variant size (first ++ before)) line.address line.read ≡ None
 unfolding first_fault
@@ -126,7 +125,7 @@ listing_ok None lines listing e = (refl, ap ok_lines e)
 listing_ok (Some fault) lines listing e = absurd (false≢true (ap is_accepted e))
 
 -- an accepted source has no line with a fault, and its listing is that of its lines
-accepted : (variant : Variant) (source : List ℕ) (size : ℕ) (lines : List Line) → assembled variant source size ≡ Ok lines
+pub accepted : (variant : Variant) (source : List ℕ) (size : ℕ) (lines : List Line) → assembled variant source size ≡ Ok lines
     → (first_fault variant size (labels (source_lines variant size source)) [] (source_lines variant size source) ≡ None)
     × (listing variant size (labels (source_lines variant size source)) 0 (source_lines variant size source) ≡ lines)
 unfolding assembled assembled_with

@@ -5,3 +5,8 @@ pub mod SoundLemmas
 pub mod PassLemmas
 pub mod SoundGrammar
 pub mod LawLemmas
+pub mod ByteLemmas
+pub mod ImageLemmas
+pub mod SpacingLemmas
+pub mod SpacingGrammar
+pub mod SpacingLaw

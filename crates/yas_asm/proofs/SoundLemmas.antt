@@ -24,7 +24,7 @@ sound_instruction variant table statement icode ifun a b constant value e v soun
     let here = subst (IsSound variant) e sound in
     here value (λ w. v ∙ value_of-word table constant w)
 
-within : (size n : ℕ) → is_some (cond (nat_le n size) (Some n) None) ≡ true → n ≤ size
+pub within : (size n : ℕ) → is_some (cond (nat_le n size) (Some n) None) ≡ true → n ≤ size
 within size n e = below (nat_le n size) refl e
   where
     below : (b : Bool) → nat_le n size ≡ b → is_some (cond b (Some n) None) ≡ true → n ≤ size

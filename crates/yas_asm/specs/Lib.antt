@@ -10,3 +10,4 @@ pub mod Sound
 pub mod LabelMap
 pub mod Outcome
 pub mod Laws
+pub mod Spacing

@@ -16,8 +16,8 @@ const NO_MEMORY: AsmFault = AsmFault {
 };
 
 /// Assembles a source for a memory of `size` bytes: its listing, or the first line with a fault and the least
-/// reason there. The language is that of CS:APP 3e, section 4.1, with the directives of its figure 4.8 and
-/// data directives of one, two, four and eight bytes.
+/// reason there. The language is that of CS:APP 3e, section 4.1.5 and figure 4.7, with data directives of one, two,
+/// four and eight bytes. Any size is taken; after a refusal nothing is kept.
 pub fn assemble(alloc: Global, v: Variant, src: &[u8], size: u64) -> Result<Listing, AsmFault>
     ensures lines { Gives lines_of result (assembled v src.now size) }
     ensures source { IfOk result (λ listing. listing.source ≡ src.now) }

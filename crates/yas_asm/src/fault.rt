@@ -3,22 +3,32 @@ use thiserror::Error;
 /// Why a source is refused. Of several reasons on one line the first in this order is told.
 #[derive(Clone, Copy, Debug, PartialEq, Eq, Error)]
 pub enum AsmWhy {
+    /// The line is not of the form of the language, and no bad byte stands on it.
     #[error("Syntax")]
     Syntax,
+    /// A byte that is not a blank and not 0x21 to 0x7e stands outside a comment.
     #[error("BadByte")]
     BadByte,
+    /// A number, written or a label's value, is out of the bounds of its place: -2^63 to 2^64-1, and in a
+    /// directive of w bytes -2^(8w-1) to 2^(8w)-1.
     #[error("NumberTooWide")]
     NumberTooWide,
+    /// The line's label is defined on an earlier line.
     #[error("LabelTwice")]
     LabelTwice,
+    /// The line names a label that is defined nowhere.
     #[error("LabelUnknown")]
     LabelUnknown,
+    /// The line emits a byte at or past the size, or goes to an address past the size.
     #[error("OutsideMemory")]
     OutsideMemory,
+    /// The line emits a byte at an address that already has one.
     #[error("Overlap")]
     Overlap,
+    /// The line's label is the 65,536th different one.
     #[error("LabelLimit")]
     LabelLimit,
+    /// An allocation was refused.
     #[error("Memory")]
     Memory,
 }

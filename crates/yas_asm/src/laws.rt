@@ -1,7 +1,26 @@
-ghost use Rattle.yas_asm.specs.Laws.{LabelsAreAddresses};
+ghost use Rattle.yas_asm.specs.Spacing.{SpacingIsFree};
+ghost use Rattle.yas_asm.specs.Laws.{BytesHaveOneLine, ImageHasLines, ImageIsZeroElsewhere, LabelsAreAddresses};
 
 /// In an accepted source the value of a label is the address before its line's statement.
 #[tactic(auto, using(crate::proofs::LawLemmas::labels_are_addresses))]
 pub fn law_of_labels()
     ensures { LabelsAreAddresses }
+{}
+
+/// In the listing of an accepted source no two lines emit a byte at one address.
+#[tactic(auto, using(crate::proofs::ByteLemmas::bytes_have_one_line))]
+pub fn law_of_bytes()
+    ensures { BytesHaveOneLine }
+{}
+
+/// The memory image of an accepted source has the bytes of each line at its address, and zeros elsewhere.
+pub fn law_of_images()
+    ensures lines { ImageHasLines }
+    ensures zeros { ImageIsZeroElsewhere }
+{}
+
+/// Two accepted sources that differ in comments and blanks alone have the same addresses and bytes, line for line.
+
+pub fn law_of_spacing()
+    ensures { SpacingIsFree }
 {}

@@ -24,5 +24,5 @@ mod used;
 
 pub use assembler::assemble;
 pub use fault::{AsmFault, AsmWhy};
-pub use laws::law_of_labels;
+pub use laws::{law_of_bytes, law_of_images, law_of_labels, law_of_spacing};
 pub use listing::{Line, Listing};

@@ -1,0 +1,33 @@
+-- Lines that differ in comments and blanks alone.
+use Rattle.std.specs.Prelude.{◌≡◌, ℕ, Bool, true, ◌||◌, ◌==◌, if◌then◌else◌, List, [], ◌∷◌, map, Option, Ok}
+use Rattle.y86_base.specs.declared.parts.Variant.{Variant}
+use Rattle.y86_base.specs.Text.{is_blank, lines}
+use Rattle.yas_asm.specs.declared.listing.Line.{Line}
+use Rattle.yas_asm.specs.Tokens.{begins}
+use Rattle.yas_asm.specs.Comments.{ends}
+use Rattle.yas_asm.specs.Assembly.{assembled}
+
+-- `$` `,` `(` `)` or `:`
+abbrev pub is_sign : ℕ → Bool
+is_sign byte = byte == 36 || byte == 44 || byte == 40 || byte == 41 || byte == 58
+
+-- a line without its comment and with the blanks alone that keep its tokens apart: none at its ends and beside a sign, and else one
+-- space. `close` says that none is wanted in front. A `/` that begins no last comment is in no line of the form, and nothing changes from it on
+unfoldable pub squeezed : Bool → List ℕ → List ℕ
+squeezed close [] = []
+squeezed close (byte ∷ bytes) =
+    if ends (byte ∷ bytes) then []
+    else (if is_blank byte then (if close || begins (λ next. is_blank next || is_sign next) bytes then squeezed close bytes else 32 ∷ squeezed close bytes)
+    else (if byte == 47 then byte ∷ bytes else byte ∷ squeezed (is_sign byte) bytes))
+
+-- the address and the bytes that a line shows
+abbrev pub place_of : Line → Option ℕ × List ℕ
+place_of line = (line.addr, line.bytes.items)
+
+-- two accepted sources that differ in comments and blanks alone have the same addresses and bytes, line for line
+abbrev pub SpacingIsFree : Type 0
+SpacingIsFree =
+    (variant : Variant) (size : ℕ) (one other : List ℕ) (listing listing' : List Line)
+    → assembled variant one size ≡ Ok listing → assembled variant other size ≡ Ok listing'
+    → map (squeezed true) (lines one) ≡ map (squeezed true) (lines other)
+    → map place_of listing ≡ map place_of listing'
