@@ -1,9 +1,8 @@
 -- The arguments of words, one by one.
-use Rattle.std.proofs.Common.{◌≡◌, ℕ, ◌<◌, ◌≤◌, Bool, true, false, nat_eq, List, [], ◌∷◌, ◌++◌, length, map, inl, inr, refl, sym, ap, subst, append_assoc, append-nil, length-append, lit≤, Option, Some, None, arith}
+use Rattle.std.proofs.Common.{◌≡◌, ℕ, ◌<◌, true, false, List, [], ◌∷◌, ◌++◌, length, map, inl, inr, refl, sym, ap, subst, append_assoc, append-nil, length-append, lit≤, Option, Some, None, arith}
 use Rattle.std.specs.Prelude.{string_bytes, String}
 use Rattle.std.specs.Global.{Global}
-use Rattle.std.specs.List.{starts_with}
-use Rattle.y86_cli.specs.Words.{Argument, place, memory, limit, is_option, option_of, place_of, arguments, in_front, places, memories, limits}
+use Rattle.y86_cli.specs.Words.{Argument, place, memory, limit, is_option, option_of, arguments, in_front, places, memories, limits}
 use Rattle.std.specs.Borrow.{Bor}
 use Rattle.y86_cli.specs.declared.cmd.Found as code_found
 use Rattle.y86_cli.specs.Read.{HasTwo, IsFound}

@@ -1,11 +1,10 @@
 -- The numbers of a command are in range.
-use Rattle.std.proofs.Common.{◌≡◌, ℕ, ◌<◌, ◌≤◌, ◌%◌, Bool, true, false, cond, ◌&&◌, nat_le, nat_eq, eqb, List, [], ◌∷◌, length, refl, sym, ap, subst, Option, Some, None, option_and_then, arith, lit≤}
+use Rattle.std.proofs.Common.{◌≡◌, ℕ, ◌≤◌, ◌%◌, Bool, true, false, cond, ◌&&◌, nat_le, nat_eq, eqb, List, [], ◌∷◌, length, refl, subst, Option, Some, None, option_and_then, lit≤}
 use Rattle.std.specs.Option.{option_map}
 use Rattle.std.specs.Prelude.{codes}
 use Rattle.std.specs.Str.{bytes_eq}
 use Rattle.std.proofs.lemmas.Bool.{eqb-true, leb-true}
 use Rattle.y86_base.specs.Image.{IsSize}
-use Rattle.y86_base.specs.declared.parts.Variant.{Variant}
 use Rattle.y86_base.specs.declared.parts.Variant.TheVariants.{Base}
 use Rattle.y86_cli.specs.Words.{number_of, number_that, is_image_size, is_step_limit, Argument, place, memory, limit, is_option, place_of, option_of, in_front, arguments, places, memories, limits, the_one, at_most_one, Command, yas, yas_with, yis, yis_with, yis_of, command_of, form_of, IsLegal}
 

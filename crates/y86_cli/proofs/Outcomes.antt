@@ -1,5 +1,5 @@
 -- The outcome of a command, and the clauses of the whole program.
-use Rattle.std.proofs.Common.{◌≡◌, ◌≢◌, ◌⊎◌, ◌↔◌, ℕ, ◌<◌, ◌≤◌, List, [], ◌∷◌, length, refl, sym, ◌∙◌, ap, subst, inl, inr, Option, Some, None, Result, Ok, Err, IfOk, IfErr, Contains, IsOk, lit<, lit≤, Vec, zero, suc, arith}
+use Rattle.std.proofs.Common.{◌≡◌, ◌⊎◌, ℕ, ◌≤◌, List, [], ◌∷◌, refl, sym, ap, subst, inl, inr, Option, Some, None, Result, Ok, Err, IfOk, IfErr, Contains, IsOk, lit<, lit≤, Vec, zero, suc, arith}
 use Rattle.std.specs.Global.{Global}
 use Rattle.wb_io.specs.Causes.{Rose}
 use Rattle.wb_io.specs.Sinks.{Took, TookPart}
@@ -14,10 +14,10 @@ use Rattle.yo_object.specs.ObjectText.{object_of}
 use Rattle.yo_object.specs.declared.object.YoFault.{YoFault}
 use Rattle.y86_cli.specs.declared.stop.Stop as code
 use Rattle.y86_cli.specs.declared.stop.Stop.TheVariants.{Usage, Read, Write, Assembly, Object, Memory, TooLong}
-use Rattle.y86_cli.specs.Answer.{Answered, refused, answer, answer_to, image_of_text, listing_answer, object_image, run_status, yas_answer, yis_run, yis_answer}
-use Rattle.y86_cli.specs.Outcomes.{IsFaultless, NoneRose, Tells, TellsOf, names_in}
+use Rattle.y86_cli.specs.Answer.{Answered, answer, answer_to, image_of_text, listing_answer, object_image, run_status, yas_answer, yis_run, yis_answer}
+use Rattle.y86_cli.specs.Outcomes.{IsFaultless, NoneRose, Tells, TellsOf}
 use Rattle.y86_cli.specs.Words.{Command, yas, yis, form_of, names_of}
-use Rattle.y86_cli.specs.Reads.{IsFree, GivesImage, GivesText, OnRead, OnWrite, OnUsage, StoppedAt, WritesOut, NothingOut, StopsAs, AnswersWhole, AnswersAs, IsDone, IsOutcome}
+use Rattle.y86_cli.specs.Reads.{IsFree, GivesImage, GivesText, OnRead, OnWrite, OnUsage, WritesOut, NothingOut, StopsAs, AnswersAs, IsDone, IsOutcome}
 use Rattle.y86_cli.specs.Stops.{answer_at, status_of}
 use Rattle.y86_cli.proofs.Contents.{within, source_within}
 

@@ -1,11 +1,11 @@
 -- The relations between a call of the program, its answer and the faults of the outside.
-use Rattle.std.specs.Prelude.{◌≡◌, ◌≢◌, ◌⊎◌, ℕ, ◌≤◌, List, [], ◌∷◌, length, Option, Some, None, Ok, IfSome, IsOk, Contains}
+use Rattle.std.specs.Prelude.{◌≡◌, ◌⊎◌, ℕ, ◌≤◌, List, [], ◌∷◌, length, Option, Some, None, IsOk, Contains}
 use Rattle.wb_io.specs.Causes.{Rose}
 use Rattle.wb_io.specs.Sinks.{Took, TookPart}
 use Rattle.yas_asm.specs.Assembly.{assembled}
 use Rattle.yo_object.specs.ObjectText.{object_of}
 use Rattle.y86_cli.specs.Words.{Command, yas, yis, form_of, names_of}
-use Rattle.y86_cli.specs.Answer.{Answered, answer, file_limit, read_fault_line, memory_line}
+use Rattle.y86_cli.specs.Answer.{file_limit, read_fault_line}
 
 -- the files tell the contents of these names: of each, its bytes or that it has none
 abbrev pub TellsOf : (List ℕ → Option (Option (List ℕ))) → List (List ℕ) → List (Option (List ℕ)) → Type 0

@@ -1,5 +1,5 @@
 -- The stops of the program, against the definition of its answers.
-use Rattle.std.specs.Prelude.{◌≡◌, ℕ, codes, List, []}
+use Rattle.std.specs.Prelude.{ℕ, List, []}
 use Rattle.y86_cli.specs.declared.stop.Stop as code
 use Rattle.y86_cli.specs.declared.stop.Stop.TheVariants.{Usage, Read, Write, Assembly, Object, Memory, TooLong}
 use Rattle.y86_cli.specs.Answer.{Answered, refused, usage_line, read_fault_line, memory_line, too_long_line, assembly_fault_line, object_fault_line}
