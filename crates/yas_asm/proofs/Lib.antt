@@ -10,3 +10,4 @@ pub mod ImageLemmas
 pub mod SpacingLemmas
 pub mod SpacingGrammar
 pub mod SpacingLaw
+pub mod TextLemmas

@@ -1,10 +1,11 @@
 -- What follows from the definition of an assembled source, in the words of its reader.
-use Rattle.std.specs.Prelude.{◌≡◌, ℕ, ◌+◌, ◌-◌, ◌<◌, Bool, true, false, ◌&&◌, nat_le, nat_lt, List, ◌∷◌, ◌++◌, length, take, drop, fold, replicate, slice_index, Option, Some, None, unwrap_or, Ok}
+use Rattle.std.specs.Prelude.{◌≡◌, ℕ, ◌+◌, ◌-◌, ◌<◌, Bool, true, false, ◌&&◌, nat_le, nat_lt, List, ◌∷◌, ◌++◌, length, take, drop, fold, replicate, slice_index, Option, Some, None, unwrap_or, Ok, ◌%◌, ◌≤◌, map, slice_range}
 use Rattle.std.specs.List.{list_any}
 use Rattle.y86_base.specs.declared.parts.Variant.{Variant}
 use Rattle.yas_asm.specs.declared.listing.Line.{Line}
+use Rattle.y86_base.specs.Text.{lines}
 use Rattle.yas_asm.specs.Tokens.{meaning_of}
-use Rattle.yas_asm.specs.Assembly.{Placed, source_lines, labels, label_of, assembled}
+use Rattle.yas_asm.specs.Assembly.{Placed, source_lines, labels, label_of, assembled, next_multiple}
 
 -- in an accepted source the value of a label is the address before its line's statement
 abbrev pub LabelsAreAddresses : Type 0
@@ -51,3 +52,15 @@ ImageIsZeroElsewhere =
     (variant : Variant) (source : List ℕ) (size : ℕ) (listing : List Line) → assembled variant source size ≡ Ok listing
     → (address : ℕ) → address < size → list_any (λ line. emits line address) listing ≡ false
     → slice_index (image size listing) address ≡ 0
+
+-- `.align` goes to the least multiple of its number that is not below the address
+abbrev pub AlignIsLeast : Type 0
+AlignIsLeast =
+    (n address : ℕ) → 0 < n
+    → (next_multiple n address % n ≡ 0) × (address ≤ next_multiple n address) × ((m : ℕ) → m % n ≡ 0 → address ≤ m → next_multiple n address ≤ m)
+
+-- the listing of an accepted source says where the text of each of its lines stands
+abbrev pub TextsStandThere : Type 0
+TextsStandThere =
+    (variant : Variant) (source : List ℕ) (size : ℕ) (listing : List Line) → assembled variant source size ≡ Ok listing
+    → map (λ line. slice_range source line.from line.to) listing ≡ lines source

@@ -1,5 +1,5 @@
 ghost use Rattle.yas_asm.specs.Spacing.{SpacingIsFree};
-ghost use Rattle.yas_asm.specs.Laws.{BytesHaveOneLine, ImageHasLines, ImageIsZeroElsewhere, LabelsAreAddresses};
+ghost use Rattle.yas_asm.specs.Laws.{AlignIsLeast, BytesHaveOneLine, ImageHasLines, ImageIsZeroElsewhere, LabelsAreAddresses, TextsStandThere};
 
 /// In an accepted source the value of a label is the address before its line's statement.
 #[tactic(auto, using(crate::proofs::LawLemmas::labels_are_addresses))]
@@ -23,4 +23,14 @@ pub fn law_of_images()
 
 pub fn law_of_spacing()
     ensures { SpacingIsFree }
+{}
+
+/// `.align` goes to the least multiple of its number that is not below the address.
+pub fn law_of_align()
+    ensures { AlignIsLeast }
+{}
+
+/// The listing of an accepted source says where the text of each of its lines stands.
+pub fn law_of_texts()
+    ensures { TextsStandThere }
 {}

@@ -24,5 +24,7 @@ mod used;
 
 pub use assembler::assemble;
 pub use fault::{AsmFault, AsmWhy};
-pub use laws::{law_of_bytes, law_of_images, law_of_labels, law_of_spacing};
+pub use laws::{
+    law_of_align, law_of_bytes, law_of_images, law_of_labels, law_of_spacing, law_of_texts,
+};
 pub use listing::{Line, Listing};
