@@ -5,6 +5,8 @@ mod laws;
 mod line;
 mod object;
 mod printer;
+#[cfg(test)]
+mod tests;
 
 pub use laws::{line_grammar, read_back};
 pub use object::{YoFault, YoWhy, load};
