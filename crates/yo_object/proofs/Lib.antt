@@ -5,3 +5,5 @@ pub mod HexDigits
 pub mod PrintedLines
 pub mod ListedLines
 pub mod ReadBack
+pub mod Images
+pub mod Apart

@@ -143,7 +143,7 @@ front_plain bytes (Some a) small narrow =
     ap (list_all is_plain) same ∙ whole
 
 -- bytes that are inside leave the size of a memory
-size_kept : (memory bytes : List ℕ) (addr : Option ℕ) → IfSome addr (λ a. 0 < length bytes → a + length bytes ≤ length memory) →
+pub size_kept : (memory bytes : List ℕ) (addr : Option ℕ) → IfSome addr (λ a. 0 < length bytes → a + length bytes ≤ length memory) →
     length (with_bytes_at memory addr bytes) ≡ length memory
 size_kept memory bytes None inside = refl
 size_kept memory [] (Some a) inside = ap length (put_nothing memory a)

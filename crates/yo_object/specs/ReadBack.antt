@@ -1,5 +1,5 @@
 -- What is printed of an accepted source is read back as the image of its listing.
-use Rattle.std.specs.Prelude.{◌≡◌, ℕ, ◌+◌, ◌^◌, ◌<◌, ◌≤◌, All, IfSome, List, length, fold, replicate, Option, Some, None, Ok}
+use Rattle.std.specs.Prelude.{◌≡◌, ◌⊎◌, ℕ, ◌+◌, ◌^◌, ◌<◌, ◌≤◌, All, IfSome, List, [], ◌∷◌, ◌++◌, slice_index, length, fold, replicate, Option, Some, None, Ok}
 use Rattle.y86_base.specs.declared.parts.Variant.{Variant}
 use Rattle.y86_base.specs.Image.{IsSize}
 use Rattle.yas_asm.specs.declared.listing.Line.{Line}
@@ -11,7 +11,7 @@ abbrev pub with_bytes_at : List ℕ → Option ℕ → List ℕ → List ℕ
 with_bytes_at memory None bytes = memory
 with_bytes_at memory (Some address) bytes = with_bytes memory address bytes
 
--- a memory with the bytes of a line put at its address; a line without an address has none
+-- a memory with the bytes of a line put at its address
 abbrev pub with_line : List ℕ → Line → List ℕ
 with_line memory line = with_bytes_at memory line.addr line.bytes.items
 
@@ -30,3 +30,31 @@ IsReadBack =
     (variant : Variant) (source : List ℕ) (assembled_size size : ℕ) (lines : List Line) → assembled variant source assembled_size ≡ Ok lines
     → assembled_size < 2 ^ 64 → IsSize size → All (IsInside size) lines
     → object_of (printed (record { lines = lines; source = source })) size ≡ Ok (image_of lines size)
+
+-- the size for which a source was assembled holds the bytes of its listing
+abbrev pub FitsItsSize : Type 0
+FitsItsSize = (variant : Variant) (source : List ℕ) (size : ℕ) (lines : List Line) → assembled variant source size ≡ Ok lines → All (IsInside size) lines
+
+-- a line without an address has no bytes
+abbrev pub IsAddressed : Line → Type 0
+IsAddressed line = line.addr ≡ None → line.bytes.items ≡ []
+
+abbrev pub EmitsAtAddresses : Type 0
+EmitsAtAddresses = (variant : Variant) (source : List ℕ) (size : ℕ) (lines : List Line) → assembled variant source size ≡ Ok lines → All IsAddressed lines
+
+-- each byte of a line of the listing stands at its address in the image: no other line puts a byte there
+abbrev pub HasItsBytes : Type 0
+HasItsBytes =
+    (variant : Variant) (source : List ℕ) (assembled_size size : ℕ) (before after : List Line) (line : Line)
+    → assembled variant source assembled_size ≡ Ok (before ++ (line ∷ after)) → All (IsInside size) (before ++ (line ∷ after))
+    → (first k : ℕ) → line.addr ≡ Some first → k < length line.bytes.items
+    → slice_index (image_of (before ++ (line ∷ after)) size) (first + k) ≡ slice_index line.bytes.items k
+
+-- a line has no byte at an address
+abbrev pub Misses : ℕ → Line → Type 0
+Misses address line = IfSome line.addr (λ first. (address < first) ⊎ (first + length line.bytes.items ≤ address))
+
+-- and 0 stands at each address at which no line has a byte
+abbrev pub IsZeroElsewhere : Type 0
+IsZeroElsewhere =
+    (lines : List Line) (size address : ℕ) → All (IsInside size) lines → All (Misses address) lines → slice_index (image_of lines size) address ≡ 0
