@@ -577,35 +577,154 @@ fn assembles_statements(rt: HostRuntime) {
     }
 }
 
-/// Addresses, labels that are defined later, the places of the lines and the copy of the source.
+/// A line of a listing: its address, its bytes, and where its text begins and ends.
+struct Listed {
+    addr: Option<u64>,
+    bytes: &'static [u8],
+    from: u64,
+    to: u64,
+}
+
+static LOOP: &[u8] = b"    irmovq $10,%rdx\nloop: addq %rdx,%rax # add\n    jmp loop\n";
+
+static LOOP_LINES: [Listed; 3] = [
+    Listed {
+        addr: Some(0),
+        bytes: &[0x30, 0xf2, 0x0a, 0, 0, 0, 0, 0, 0, 0],
+        from: 0,
+        to: 19,
+    },
+    Listed {
+        addr: Some(10),
+        bytes: &[0x60, 0x20],
+        from: 20,
+        to: 46,
+    },
+    Listed {
+        addr: Some(12),
+        bytes: &[0x70, 0x0a, 0, 0, 0, 0, 0, 0, 0],
+        from: 47,
+        to: 59,
+    },
+];
+
+static CALL: &[u8] =
+    b"    .pos 0\n    irmovq stack, %rsp  # set up\n    call main\n    halt\nmain: ret\r\n    .pos 0x40\nstack:";
+
+static CALL_LINES: [Listed; 7] = [
+    Listed {
+        addr: Some(0),
+        bytes: &[],
+        from: 0,
+        to: 10,
+    },
+    Listed {
+        addr: Some(0),
+        bytes: &[0x30, 0xf4, 0x40, 0, 0, 0, 0, 0, 0, 0],
+        from: 11,
+        to: 43,
+    },
+    Listed {
+        addr: Some(10),
+        bytes: &[0x80, 0x14, 0, 0, 0, 0, 0, 0, 0],
+        from: 44,
+        to: 57,
+    },
+    Listed {
+        addr: Some(19),
+        bytes: &[0x00],
+        from: 58,
+        to: 66,
+    },
+    Listed {
+        addr: Some(20),
+        bytes: &[0x90],
+        from: 67,
+        to: 77,
+    },
+    Listed {
+        addr: Some(64),
+        bytes: &[],
+        from: 78,
+        to: 91,
+    },
+    Listed {
+        addr: Some(64),
+        bytes: &[],
+        from: 92,
+        to: 98,
+    },
+];
+
+static DATA: &[u8] = b"nop\n\n .align 64\n.align 0x40\n.byte end\nend: .word end # 65\n# end";
+
+static DATA_LINES: [Listed; 7] = [
+    Listed {
+        addr: Some(0),
+        bytes: &[0x10],
+        from: 0,
+        to: 3,
+    },
+    Listed {
+        addr: None,
+        bytes: &[],
+        from: 4,
+        to: 4,
+    },
+    Listed {
+        addr: Some(64),
+        bytes: &[],
+        from: 5,
+        to: 15,
+    },
+    Listed {
+        addr: Some(64),
+        bytes: &[],
+        from: 16,
+        to: 27,
+    },
+    Listed {
+        addr: Some(64),
+        bytes: &[65],
+        from: 28,
+        to: 37,
+    },
+    Listed {
+        addr: Some(65),
+        bytes: &[65, 0],
+        from: 38,
+        to: 57,
+    },
+    Listed {
+        addr: None,
+        bytes: &[],
+        from: 58,
+        to: 63,
+    },
+];
+
+/// Compares a listing line by line.
+fn compare(rt: &(impl Abort + AllocGlobal), source: &[u8], lines: &[Listed]) -> Result<(), Fail> {
+    let listing = assemble(rt.alloc(), Variant::Base, source, 67)?;
+    assert_eq!(rt; listing.source(), source);
+    assert_eq!(rt; listing.lines().len(), lines.len());
+    for (line, wanted) in listing.lines().iter().zip(lines) {
+        let at = wanted.from;
+        assert_eq!(rt; line.addr, wanted.addr, "at {at}");
+        assert_eq!(rt; line.bytes.as_slice(), wanted.bytes, "at {at}");
+        assert_eq!(rt; line.from, wanted.from, "at {at}");
+        assert_eq!(rt; line.to, wanted.to, "at {at}");
+    }
+    Ok(())
+}
+
+/// Listings with their addresses, labels that are defined later, and the copy of the source.
 #[test]
 fn lists_lines(rt: HostRuntime) -> Result<(), Fail> {
-    let source =
-        b"\t.pos 0\n  irmovq stack, %rsp # set up\n call main\n halt\nmain: ret\r\n\n .align 0x40\nstack:\n.align 64\n.byte main\n# end";
-    let listing = assemble(rt.alloc(), Variant::Base, source, 65)?;
-    assert_eq!(rt; listing.source(), &source[..]);
-    assert_eq!(rt; listing.lines().len(), 11);
-    for (line, (addr, from, to, first)) in listing.lines().iter().zip([
-        (Some(0), 0, 7, None),
-        (Some(0), 8, 37, Some(0x30)),
-        (Some(10), 38, 48, Some(0x80)),
-        (Some(19), 49, 54, Some(0x00)),
-        (Some(20), 55, 65, Some(0x90)),
-        (None, 66, 66, None),
-        (Some(64), 67, 79, None),
-        (Some(64), 80, 86, None),
-        (Some(64), 87, 96, None),
-        (Some(64), 97, 107, Some(20)),
-        (None, 108, 113, None),
-    ]) {
-        assert_eq!(rt; line.addr, addr, "at {from}");
-        assert_eq!(rt; line.from, from);
-        assert_eq!(rt; line.to, to, "at {from}");
-        assert_eq!(rt; line.bytes.first().copied(), first, "at {from}");
-    }
-    let empty = assemble(rt.alloc(), Variant::Base, b"", 0)?;
-    assert_eq!(rt; empty.lines().len(), 0);
-    Ok(())
+    compare(&rt, LOOP, &LOOP_LINES)?;
+    compare(&rt, CALL, &CALL_LINES)?;
+    compare(&rt, DATA, &DATA_LINES)?;
+    compare(&rt, b"", &[])
 }
 
 /// The first line with a fault and the least fault on it.
