@@ -22,7 +22,9 @@ use Rattle.yas_asm.specs.declared.statement.Parsed.{Parsed}
 use Rattle.yas_asm.specs.Grammar.{bytes_of}
 use Rattle.yas_asm.specs.Assembly.{Placed, place, destination, width_of, source_lines, labels, value_of, bytes_at, shown_at, addresses, filled, overlaps, line_fault, fault_or, first_fault, listed, listing, listing_unless, assembled, assembled_with}
 use Rattle.yas_asm.proofs.PassLemmas.{free_without_fault, emitted-free}
-use Rattle.yo_object.specs.ReadBack.{image_of, IsInside, IsAddressed, EmitsAtAddresses, Misses, FitsItsSize, HasItsBytes}
+use Rattle.yas_asm.specs.Laws.{image}
+use Rattle.yo_object.proofs.ListingImage.{image_same}
+use Rattle.yo_object.specs.ReadBack.{IsInside, IsAddressed, EmitsAtAddresses, Misses, FitsItsSize, HasItsBytes}
 use Rattle.yo_object.proofs.Images.{zeros_inside, byte_kept}
 
 -- addresses that have a byte
@@ -276,10 +278,11 @@ fits_its_size variant source size lines e =
     subst (All (IsInside size)) a.1 (all_inside variant size (labels (source_lines variant size source)) [] (source_lines variant size source) 0 a.0)
 
 pub has_its_bytes : HasItsBytes
-unfolding image_of
 has_its_bytes variant source assembled_size size before after line e inside first k at lt =
     let a = accepted variant source assembled_size (before ++ (line ∷ after)) e in
     image_byte (later_miss variant assembled_size (labels (source_lines variant assembled_size source)) [] (source_lines variant assembled_size source) 0 before after line first k a.0 a.1 at lt)
   where
-    image_byte : All (Misses (first + k)) after → slice_index (image_of (before ++ (line ∷ after)) size) (first + k) ≡ slice_index line.bytes.items k
-    image_byte misses = byte_kept (replicate size 0) before after line first k (zeros_inside size (before ++ (line ∷ after)) inside) at lt misses
+    image_byte : All (Misses (first + k)) after → slice_index (image size (before ++ (line ∷ after))) (first + k) ≡ slice_index line.bytes.items k
+    image_byte misses =
+        ap (λ memory. slice_index memory (first + k)) (sym (image_same (before ++ (line ∷ after)) size))
+        ∙ byte_kept (replicate size 0) before after line first k (zeros_inside size (before ++ (line ∷ after)) inside) at lt misses

@@ -5,7 +5,8 @@ use Rattle.std.proofs.lemmas.List.{get_or_append_left, get_or-append-add, get_or
 use Rattle.std.proofs.lemmas.List.Elements.{All-head, All-tail}
 use Rattle.yas_asm.specs.declared.listing.Line.{Line}
 use Rattle.yo_object.specs.ObjectText.{with_bytes}
-use Rattle.yo_object.specs.ReadBack.{with_bytes_at, with_line, image_of, IsInside, Misses, IsZeroElsewhere}
+use Rattle.yo_object.specs.ReadBack.{IsInside, Misses, IsZeroElsewhere}
+use Rattle.yo_object.proofs.ListingImage.{with_bytes_at, with_line, image_same}
 use Rattle.yo_object.proofs.Bytes.{put_nothing}
 use Rattle.yo_object.proofs.PrintedLines.{size_kept}
 
@@ -69,8 +70,9 @@ pub zeros_inside : (size : ℕ) (listing : List Line) → All (IsInside size) li
 zeros_inside size listing inside = subst (λ n. All (IsInside n) listing) (sym (length-replicate {A = ℕ} size 0)) inside
 
 pub is_zero_elsewhere : IsZeroElsewhere
-unfolding image_of
-is_zero_elsewhere listing size a inside misses = all_missed (replicate size 0) listing a (zeros_inside size listing inside) misses ∙ zeros_are_zero size a
+is_zero_elsewhere listing size a inside misses =
+    ap (λ memory. get_or memory a 0) (sym (image_same listing size))
+    ∙ all_missed (replicate size 0) listing a (zeros_inside size listing inside) misses ∙ zeros_are_zero size a
 
 -- the bytes of a line, where the lines behind it miss them
 pub byte_kept : (memory : List ℕ) (before after : List Line) (line : Line) (first k : ℕ) → All (IsInside (length memory)) (before ++ (line ∷ after)) →

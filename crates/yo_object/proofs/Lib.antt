@@ -2,6 +2,7 @@ pub mod Bytes
 pub mod Texts
 pub mod Grammar
 pub mod HexDigits
+pub mod ListingImage
 pub mod PrintedLines
 pub mod ListedLines
 pub mod ReadBack

@@ -12,7 +12,8 @@ use Rattle.yas_asm.specs.declared.listing.Line.{Line}
 use Rattle.yo_object.specs.ObjectText.{behind, after_prefix, digits_of, hex_number, with_bytes, put_digits, put_text, put_line, put_lines}
 use Rattle.yo_object.specs.Grammar.{IsObjectLine}
 use Rattle.yo_object.specs.Printed.{hex_bytes, front, text_of, printed_line}
-use Rattle.yo_object.specs.ReadBack.{IsInside, with_bytes_at, with_line}
+use Rattle.yo_object.specs.ReadBack.{IsInside}
+use Rattle.yo_object.proofs.ListingImage.{with_bytes_at, with_line}
 use Rattle.yo_object.proofs.Bytes.{put_nothing}
 use Rattle.yo_object.proofs.Texts.{text_end, text_more}
 use Rattle.yo_object.proofs.Grammar.{behind-run, form_read, list_all-append}

@@ -1,23 +1,12 @@
 -- What is printed of an accepted source is read back as the image of its listing.
-use Rattle.std.specs.Prelude.{◌≡◌, ◌⊎◌, ℕ, ◌+◌, ◌^◌, ◌<◌, ◌≤◌, All, IfSome, List, [], ◌∷◌, ◌++◌, slice_index, length, fold, replicate, Option, Some, None, Ok}
+use Rattle.std.specs.Prelude.{◌≡◌, ◌⊎◌, ℕ, ◌+◌, ◌^◌, ◌<◌, ◌≤◌, All, IfSome, List, [], ◌∷◌, ◌++◌, slice_index, length, None, Some, Ok}
 use Rattle.y86_base.specs.declared.parts.Variant.{Variant}
 use Rattle.y86_base.specs.Image.{IsSize}
 use Rattle.yas_asm.specs.declared.listing.Line.{Line}
 use Rattle.yas_asm.specs.Assembly.{assembled}
-use Rattle.yo_object.specs.ObjectText.{with_bytes, object_of}
+use Rattle.yas_asm.specs.Laws.{image}
+use Rattle.yo_object.specs.ObjectText.{object_of}
 use Rattle.yo_object.specs.Printed.{printed}
-
-abbrev pub with_bytes_at : List ℕ → Option ℕ → List ℕ → List ℕ
-with_bytes_at memory None bytes = memory
-with_bytes_at memory (Some address) bytes = with_bytes memory address bytes
-
--- a memory with the bytes of a line put at its address
-abbrev pub with_line : List ℕ → Line → List ℕ
-with_line memory line = with_bytes_at memory line.addr line.bytes.items
-
--- the image of a listing: zeros, and the bytes of its lines at their addresses
-unfoldable pub image_of : List Line → ℕ → List ℕ
-image_of lines size = fold with_line (replicate size 0) lines
 
 -- each byte of a line is inside a memory of a size
 abbrev pub IsInside : ℕ → Line → Type 0
@@ -29,7 +18,7 @@ abbrev pub IsReadBack : Type 0
 IsReadBack =
     (variant : Variant) (source : List ℕ) (assembled_size size : ℕ) (lines : List Line) → assembled variant source assembled_size ≡ Ok lines
     → assembled_size < 2 ^ 64 → IsSize size → All (IsInside size) lines
-    → object_of (printed (record { lines = lines; source = source })) size ≡ Ok (image_of lines size)
+    → object_of (printed (record { lines = lines; source = source })) size ≡ Ok (image size lines)
 
 -- the size for which a source was assembled holds the bytes of its listing
 abbrev pub FitsItsSize : Type 0
@@ -48,7 +37,7 @@ HasItsBytes =
     (variant : Variant) (source : List ℕ) (assembled_size size : ℕ) (before after : List Line) (line : Line)
     → assembled variant source assembled_size ≡ Ok (before ++ (line ∷ after)) → All (IsInside size) (before ++ (line ∷ after))
     → (first k : ℕ) → line.addr ≡ Some first → k < length line.bytes.items
-    → slice_index (image_of (before ++ (line ∷ after)) size) (first + k) ≡ slice_index line.bytes.items k
+    → slice_index (image size (before ++ (line ∷ after))) (first + k) ≡ slice_index line.bytes.items k
 
 -- a line has no byte at an address
 abbrev pub Misses : ℕ → Line → Type 0
@@ -57,4 +46,4 @@ Misses address line = IfSome line.addr (λ first. (address < first) ⊎ (first +
 -- and 0 stands at each address at which no line has a byte
 abbrev pub IsZeroElsewhere : Type 0
 IsZeroElsewhere =
-    (lines : List Line) (size address : ℕ) → All (IsInside size) lines → All (Misses address) lines → slice_index (image_of lines size) address ≡ 0
+    (lines : List Line) (size address : ℕ) → All (IsInside size) lines → All (Misses address) lines → slice_index (image size lines) address ≡ 0
