@@ -66,7 +66,7 @@ fn status(stat: Stat) -> u8
 }
 
 /// Runs an image and writes the report. All memory is taken before the first step.
-#[tactic(auto, using(crate::proofs::Runs::run_keeps_size), unfolding(crate::specs::Answer::yis_run))]
+#[tactic(auto, unfolding(crate::specs::Answer::yis_run))]
 pub fn run_image<'a, O: Sink>(
     alloc: Global,
     variant: Variant,
@@ -87,13 +87,7 @@ pub fn run_image<'a, O: Sink>(
     };
     let mut machine = Machine::start(image);
     let ran = run(variant, &mut machine, limit);
-    let end = End {
-        regs: &machine.regs,
-        flags: machine.flags,
-        pc: machine.pc,
-        stat: machine.stat,
-        mem: &machine.mem,
-    };
+    let end = End::of(&machine);
     match report(&first, &end, ran.steps, out) {
         Ok(()) => Ok(status(machine.stat)),
         Err(_) => Err(Stop::Write),
