@@ -10,7 +10,9 @@ mod tests;
 mod yas;
 mod yis;
 
-use crate::run::{Status, run};
+use crate::run::{Status, run, tell};
+use crate::stop::Stop;
+use std::io::ErrorKind;
 use std::process::ExitCode;
 use std::{env, io};
 use wb_io::{HostFiles, HostSink};
@@ -30,7 +32,8 @@ fn main(rt: HostRuntime) -> ExitCode {
     let mut err = HostSink::new(rt.stderr());
     let status: Status = match words_of_call(&rt) {
         Ok(words) => run(rt.alloc(), words.as_slice(), &mut files, &mut out, &mut err),
-        Err(_) => run(rt.alloc(), &[], &mut files, &mut out, &mut err),
+        Err(e) if e.kind() == ErrorKind::OutOfMemory => tell(&Stop::Memory, &mut err),
+        Err(_) => tell(&Stop::Usage, &mut err),
     };
     ExitCode::from(status)
 }

@@ -121,7 +121,7 @@ fn outcome<'a, F: Files, O: Sink>(
 }
 
 /// Tells a stop on standard error, and gives its status. A write that fails there changes no status.
-fn tell<E: Sink>(stop: &Stop<'_>, err: &mut E) -> Status
+pub fn tell<E: Sink>(stop: &Stop<'_>, err: &mut E) -> Status
     ensures status { result ≡ status_of stop.now }
     ensures counts { E.faults err.old ≤ E.faults err.new }
     ensures line { (Rose (E.faults err.old) (E.faults err.new) → ⊥) → Took (E.taken err.old) (E.taken err.new) (line_of stop.now) }
