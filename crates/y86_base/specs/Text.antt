@@ -1,6 +1,6 @@
--- The words that all texts share: blanks, hex digits and lines.
-use Rattle.std.specs.Prelude.{ℕ, ◌-◌, Bool, ◌&&◌, ◌||◌, nat_le, ◌==◌, if◌then◌else◌, List, [], ◌∷◌}
-use Rattle.std.specs.List.{onto_first}
+-- The words that all texts share: blanks, digits, numbers and lines.
+use Rattle.std.specs.Prelude.{ℕ, ◌-◌, ◌^◌, Bool, ◌&&◌, ◌||◌, nat_le, nat_lt, ◌==◌, if◌then◌else◌, List, [], ◌∷◌, drop, Option, Some, None}
+use Rattle.std.specs.List.{onto_first, prefix_len}
 
 -- a space, a tab or a carriage return
 abbrev pub is_blank : ℕ → Bool
@@ -10,6 +10,7 @@ is_blank byte = byte == 32 || byte == 9 || byte == 13
 abbrev pub is_line_feed : ℕ → Bool
 is_line_feed byte = byte == 10
 
+-- `0` to `9`
 abbrev pub is_decimal : ℕ → Bool
 is_decimal byte = nat_le 48 byte && nat_le byte 57
 
@@ -27,6 +28,14 @@ is_hex byte = is_decimal byte || is_lower_hex byte || is_upper_hex byte
 abbrev pub hex_value : ℕ → ℕ
 hex_value byte =
     if is_decimal byte then byte - 48 else (if is_lower_hex byte then byte - 87 else (if is_upper_hex byte then byte - 55 else 0))
+
+-- what stands behind the bytes at the front that pass a test
+abbrev pub behind : (ℕ → Bool) → List ℕ → List ℕ
+behind passes text = drop (prefix_len passes text) text
+
+-- a number as a word, where it is below 2^64
+abbrev pub below_word : ℕ → Option ℕ
+below_word n = if nat_lt n (2 ^ 64) then Some n else None
 
 -- the lines of a text: each ends at a line feed or at the end of the text, and behind a last line feed stands none
 abbrev pub lines : List ℕ → List (List ℕ)

@@ -18,4 +18,6 @@ pub use items::Items;
 pub use numeral::Numeral;
 pub use parts::{Flags, Memory, Stat, Variant};
 pub use registers::Regs;
-pub use text::{first_line, hex_value, is_blank, is_hex};
+pub use text::{
+    after_blanks, first_line, hex_value, is_blank, is_decimal, is_hex, number_in_base, split_hex,
+};

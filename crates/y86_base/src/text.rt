@@ -1,6 +1,7 @@
-ghost use Rattle.std.specs.Prelude.{◌≡◌, ◌<◌, ◌≤◌, ◌∷◌, [], length, true, MatchOption, IfSome};
+ghost use Rattle.std.specs.Prelude.{◌≡◌, ◌<◌, ◌≤◌, ◌+◌, ◌*◌, ℕ, ◌∷◌, [], length, take_while, true, MatchOption, IfSome};
 ghost use Rattle.std.specs.Char.{digit_value};
-ghost use Rattle.std.specs.List.{position_or_len};
+ghost use Rattle.std.specs.List.{position_or_len, prefix_len};
+ghost use Rattle.std.specs.Str.Parse.{digits_value};
 ghost use Rattle.y86_base.specs.Text as text;
 
 /// A space, a tab or a carriage return.
@@ -8,6 +9,13 @@ pub fn is_blank(byte: u8) -> bool
     ensures { result ≡ text.is_blank byte }
 {
     byte == b' ' || byte == b'\t' || byte == b'\r'
+}
+
+/// A decimal digit.
+pub fn is_decimal(byte: u8) -> bool
+    ensures { result ≡ text.is_decimal byte }
+{
+    b'0' <= byte && byte <= b'9'
 }
 
 /// A hex digit of either case.
@@ -34,6 +42,67 @@ pub fn hex_value(byte: u8) -> u8
     } else {
         0
     }
+}
+
+/// The value of a digit or letter in the largest base, and 36 for any other byte.
+fn value_of_digit(byte: u8) -> u64
+    ensures { result ≡ digit_value byte }
+{
+    match char::from(byte).to_digit(36) {
+        Some(value) => u64::from(value),
+        None => 36,
+    }
+}
+
+/// A number with one more digit behind it, where it is below 2^64.
+fn with_digit(value: Option<u64>, base: u64, digit: u64) -> Option<u64>
+    requires { 1 ≤ base }
+    ensures { (n : ℕ) → value ≡ text.below_word n → result ≡ text.below_word (n * base + digit) }
+{
+    value?.checked_mul(base)?.checked_add(digit)
+}
+
+/// The number that digits write in a base, the highest digit first; None for 2^64 or more.
+pub fn number_in_base(base: u64, digits: &[u8]) -> Option<u64>
+    requires { 1 ≤ base }
+    ensures { result ≡ text.below_word (digits_value base digits.now) }
+{
+    let mut value = Some(0);
+    for digit in digits {
+        value = with_digit(value, base, value_of_digit(*digit));
+    }
+    value
+}
+
+/// How many blanks stand at the front.
+fn blank_count(bytes: &[u8]) -> usize
+    ensures count { result ≡ prefix_len text.is_blank bytes.now }
+    ensures within { result ≤ length bytes.now }
+{
+    bytes.iter().take_while(|byte| is_blank(**byte)).count()
+}
+
+/// What stands behind the blanks at the front.
+pub fn after_blanks(bytes: &[u8]) -> &[u8]
+    ensures { result.now ≡ text.behind text.is_blank bytes.now }
+{
+    bytes.split_at(blank_count(bytes)).1
+}
+
+/// How many hex digits stand at the front.
+fn hex_count(bytes: &[u8]) -> usize
+    ensures count { result ≡ prefix_len text.is_hex bytes.now }
+    ensures within { result ≤ length bytes.now }
+{
+    bytes.iter().take_while(|byte| is_hex(**byte)).count()
+}
+
+/// The hex digits at the front, and what stands behind them.
+pub fn split_hex(bytes: &[u8]) -> (&[u8], &[u8])
+    ensures digits { result.0.now ≡ take_while text.is_hex bytes.now }
+    ensures rest { result.1.now ≡ text.behind text.is_hex bytes.now }
+{
+    bytes.split_at(hex_count(bytes))
 }
 
 /// How many bytes the first line has, its line feed apart.
