@@ -11,7 +11,7 @@ mod sinks;
 mod sure;
 
 pub use files::{Files, ReadErr};
-pub use host::{HostFiles, HostSink};
+pub use host::{HostFiles, HostSink, Opens};
 pub use memory_files::MemFiles;
 pub use memory_sink::MemSink;
 pub use sinks::{Failed, Sink, put_all, put_pieces};

@@ -29,7 +29,7 @@ pub fn put_all<S: Sink>(sink: &mut S, piece: &[u8]) -> Result<(), Failed>
     ensures puts { Puts (S.taken sink.old) (S.taken sink.new) result piece.now }
     ensures counts { S.faults sink.old ≤ S.faults sink.new }
     ensures failed_only_with_a_fault { OnErr result (Rose (S.faults sink.old) (S.faults sink.new)) }
-    ensures empty_is_not_written { piece.now ≡ [] → sink.new ≡ sink.old }
+    ensures empty_is_not_written { piece.now ≡ [] → (sink.new ≡ sink.old) × (result ≡ Ok tt) }
 {
     let mut at = 0;
     while at < piece.len() {
@@ -41,11 +41,12 @@ pub fn put_all<S: Sink>(sink: &mut S, piece: &[u8]) -> Result<(), Failed>
     Ok(())
 }
 
-/// Writes several pieces, one after another.
+/// Writes several pieces, one after another. Empty pieces are never written.
 pub fn put_pieces<S: Sink>(sink: &mut S, pieces: &[&[u8]]) -> Result<(), Failed>
     ensures puts { Puts (S.taken sink.old) (S.taken sink.new) result (joined pieces.now) }
     ensures counts { S.faults sink.old ≤ S.faults sink.new }
     ensures failed_only_with_a_fault { OnErr result (Rose (S.faults sink.old) (S.faults sink.new)) }
+    ensures empty_is_not_written { joined pieces.now ≡ [] → (sink.new ≡ sink.old) × (result ≡ Ok tt) }
 {
     for piece in pieces {
         match put_all(sink, piece) {
