@@ -4,6 +4,16 @@ ghost use Rattle.y86_isa.specs.Table as table;
 use crate::columns::{Access, Field, Next, Row, TermA, TermB};
 use y86_base::Variant;
 
+/// The icodes that the code names beside the table (CS:APP 3e, figure 4.26), and the one that stands for an
+/// invalid instruction.
+pub const IHALT: u64 = 0;
+pub const INOP: u64 = 1;
+pub const INVALID_ICODE: u64 = 15;
+
+/// The numbers of no register and of `%rsp`.
+pub const NO_REGISTER: u64 = 15;
+pub const STACK_POINTER: u64 = 4;
+
 /// A row of one byte with a dash in each column.
 const DASH: Row = Row {
     length: 1,
