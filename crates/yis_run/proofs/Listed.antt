@@ -70,12 +70,11 @@ module _ (start end : ℕ → ℕ) (n : ℕ) where
   contains : (number : ℕ) → Contains differing number ↔ ((number < n) × (end number ≢ start number))
   contains number =
       let all = is_member-Decides Decides-eqb (range_with_len 0 n) number in
-      let some = is_member-Decides Decides-eqb differing number in
-      (
+      let some = is_member-Decides Decides-eqb differing number in (
         λ h.
-        let both = and_parts _ _ (sym (member number) ∙ some.1 h) in
-        (below-from_contained n number (all.0 both.0), differ (start number) (end number) both.1),
-        λ h. some.0 (member number ∙ and_from _ _ (all.1 (contained-from_below n number h.0)) (differ_test (start number) (end number) h.1))
+            let both = and_parts _ _ (sym (member number) ∙ some.1 h) in
+            (below-from_contained n number (all.0 both.0), differ (start number) (end number) both.1),
+        λ h. some.0 (member number ∙ and_from _ _ (all.1 (contained-from_below n number h.0)) (differ_test (start number) (end number) h.1)),
       )
 
 -- lines that are left out where two words are alike list the changes
@@ -105,7 +104,7 @@ zero_at_start first number =
 
 line_from_start : (first registers : List ℕ) (number : ℕ) →
     cond (register (start first).regs number == register registers number) []
-      (change (register_name number) (register (start first).regs number) (register registers number))
+    (change (register_name number) (register (start first).regs number) (register registers number))
     ≡ register_line registers number
 unfolding register_line
 line_from_start first registers number = rw (zero_at_start first number, nat_eq_equiv.symm 0 (register registers number)) refl
