@@ -7,9 +7,9 @@ use Rattle.y86_base.specs.declared.parts.Variant.{Variant}
 use Rattle.y86_base.specs.declared.parts.Variant.TheVariants.{Base}
 use Rattle.y86_isa.specs.declared.columns.Row.{Row}
 use Rattle.y86_isa.specs.declared.fetch.Reading.{Reading}
-use Rattle.y86_isa.specs.Table.{row, is_instruction}
+use Rattle.y86_isa.specs.Table.{inop, iinvalid, row, is_instruction}
 use Rattle.y86_isa.specs.Blocks.{high_half, low_half, byte_at, field_a, field_b, const_at, word_from, lacks_register, reading, fetched, fetched_by}
-use Rattle.y86_isa.specs.Run.{count_from, SameFetch}
+use Rattle.y86_isa.specs.Run.{count_by_first, SameFetch}
 use Rattle.y86_isa.proofs.Rows.{row-length}
 use Rattle.y86_isa.proofs.Readings.{ReadsAs, reads_as}
 use Rattle.y86_isa.proofs.Readings.ReadsAs.{first_outside, bad_first, later_outside, no_register, good}
@@ -79,11 +79,11 @@ lacks_alike memory other pc r h =
 bare_alike : (memory other : List ℕ) (pc : ℕ) (r : Row) → r.has_byte ≡ false → r.has_const ≡ false → Alike memory other pc r
 bare_alike memory other pc r b c k some lt = absurd (omega (arith, rw (b, c) at lt))
 
-bare_nop : (v : Variant) → ((row v 1).has_byte ≡ false) × ((row v 1).has_const ≡ false)
+bare_nop : (v : Variant) → ((row v inop).has_byte ≡ false) × ((row v inop).has_const ≡ false)
 unfolding row
 bare_nop Base = (refl, refl)
 
-bare_invalid : (v : Variant) → ((row v 15).has_byte ≡ false) × ((row v 15).has_const ≡ false)
+bare_invalid : (v : Variant) → ((row v iinvalid).has_byte ≡ false) × ((row v iinvalid).has_const ≡ false)
 unfolding row
 bare_invalid Base = (refl, refl)
 
@@ -93,7 +93,7 @@ past : (xs : List ℕ) (k : ℕ) → slice_get xs k ≡ None → length xs ≤ k
 past xs k e = elim (cases_lt k (length xs)) [ inl lt ↦ absurd (none-some _ (sym e ∙ slice_get-get_or xs k 0 lt)) | inr le ↦ le ]
 
 same_first : (v : Variant) (memory other : List ℕ) (pc byte : ℕ) → SameFetch v memory other pc → slice_get memory pc ≡ Some byte →
-    0 < count_from v (Some byte) → slice_get other pc ≡ Some byte
+    0 < count_by_first v (Some byte) → slice_get other pc ≡ Some byte
 same_first v memory other pc byte s e some =
     s.bytes pc (record { from = omega arith; to = rw e (omega arith); inside = slice_get_within memory pc byte e }) ∙ e
 
@@ -107,7 +107,7 @@ whole_alike v memory other pc byte s e b whole k some lt =
     byte_at-same memory other (pc + k) (omega arith)
     (s.bytes (pc + k) (record { from = omega arith; to = rw (e, b) (omega arith); inside = omega arith }))
 
-some_bytes : (v : Variant) (byte : ℕ) (begins : Bool) → is_instruction v (high_half byte) (low_half byte) ≡ begins → 0 < count_from v (Some byte)
+some_bytes : (v : Variant) (byte : ℕ) (begins : Bool) → is_instruction v (high_half byte) (low_half byte) ≡ begins → 0 < count_by_first v (Some byte)
 some_bytes v byte true b = rw (b, row-length v (high_half byte)) (omega arith)
 some_bytes v byte false b = rw b (omega arith)
 
@@ -142,10 +142,10 @@ pub reading-same : (v : Variant) (memory other : List ℕ) (pc : ℕ) → SameFe
 reading-same v memory other pc s = reading_as-same v memory other pc (reading v memory pc) s (reads_as v memory pc)
 
 row_alike : (v : Variant) (memory other : List ℕ) (pc : ℕ) (read : Reading) → SameFetch v memory other pc → ReadsAs v memory pc read → Alike memory other pc (row v read.icode)
-row_alike v memory other pc _ s (first_outside e) = bare_alike memory other pc (row v 1) (bare_nop v).0 (bare_nop v).1
-row_alike v memory other pc _ s (bad_first byte e b) = bare_alike memory other pc (row v 15) (bare_invalid v).0 (bare_invalid v).1
-row_alike v memory other pc _ s (later_outside byte e b w) = bare_alike memory other pc (row v 1) (bare_nop v).0 (bare_nop v).1
-row_alike v memory other pc _ s (no_register byte e b w l) = bare_alike memory other pc (row v 15) (bare_invalid v).0 (bare_invalid v).1
+row_alike v memory other pc _ s (first_outside e) = bare_alike memory other pc (row v inop) (bare_nop v).0 (bare_nop v).1
+row_alike v memory other pc _ s (bad_first byte e b) = bare_alike memory other pc (row v iinvalid) (bare_invalid v).0 (bare_invalid v).1
+row_alike v memory other pc _ s (later_outside byte e b w) = bare_alike memory other pc (row v inop) (bare_nop v).0 (bare_nop v).1
+row_alike v memory other pc _ s (no_register byte e b w l) = bare_alike memory other pc (row v iinvalid) (bare_invalid v).0 (bare_invalid v).1
 row_alike v memory other pc _ s (good byte e b w l) = whole_alike v memory other pc byte s e b (leb-true _ _ w)
 
 pub fetched-same : (v : Variant) (memory other : List ℕ) (pc : ℕ) → SameFetch v memory other pc → fetched v other pc ≡ fetched v memory pc

@@ -1,9 +1,9 @@
 -- How an instruction reads, case by case, and what of the memory its reading depends on.
-use Rattle.std.proofs.Common.{◌≡◌, ℕ, ◌+◌, Bool, true, false, nat_le, List, length, Option, Some, None, slice_get, refl}
+use Rattle.std.proofs.Common.{◌≡◌, ℕ, ◌+◌, Bool, true, false, not, cond, nat_le, List, length, Option, Some, None, slice_get, refl}
 use Rattle.y86_base.specs.declared.parts.Variant.{Variant}
 use Rattle.y86_isa.specs.declared.fetch.Reading.{Reading}
 use Rattle.y86_isa.specs.Table.{row, is_instruction}
-use Rattle.y86_isa.specs.Blocks.{high_half, low_half, lacks_register, outside, invalid, reading, reading_of}
+use Rattle.y86_isa.specs.Blocks.{high_half, low_half, lacks_register, outside, invalid, reading}
 
 -- the cases of a reading, in their order
 pub data ReadsAs (v : Variant) (memory : List ℕ) (pc : ℕ) : Reading → Type 0 where
@@ -16,6 +16,11 @@ pub data ReadsAs (v : Variant) (memory : List ℕ) (pc : ℕ) : Reading → Type
   good : (byte : ℕ) → slice_get memory pc ≡ Some byte → is_instruction v (high_half byte) (low_half byte) ≡ true →
       nat_le (pc + (row v (high_half byte)).length) (length memory) ≡ true → lacks_register memory pc (row v (high_half byte)) ≡ false →
       ReadsAs v memory pc (record { error = false; icode = high_half byte; ifun = low_half byte })
+
+-- the reading of a first byte inside, by its three tests
+abbrev reading_of : Bool → Bool → Bool → ℕ → ℕ → Reading
+reading_of begins whole lacks icode ifun =
+    cond (not begins) invalid (cond (not whole) outside (cond lacks invalid (record { error = false; icode = icode; ifun = ifun })))
 
 by_tests : (v : Variant) (memory : List ℕ) (pc byte : ℕ) → slice_get memory pc ≡ Some byte → (begins whole lacks : Bool) →
     is_instruction v (high_half byte) (low_half byte) ≡ begins → nat_le (pc + (row v (high_half byte)).length) (length memory) ≡ whole →

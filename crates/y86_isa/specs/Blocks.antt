@@ -22,13 +22,9 @@ use Rattle.y86_isa.specs.declared.fetch.Fetched.{Fetched}
 use Rattle.y86_isa.specs.declared.fetch.Reading.{Reading}
 use Rattle.y86_isa.specs.declared.machine.Store.{Store}
 use Rattle.y86_isa.specs.declared.unit.AluOut.{AluOut}
-use Rattle.y86_isa.specs.Table.{row, is_instruction}
+use Rattle.y86_isa.specs.Table.{ihalt, inop, iinvalid, no_register, stack_pointer, row, is_instruction}
 
 -- ---- fetch (section 4.3.1, "Fetch", and figure 4.27)
-
--- register number 15 means no register
-abbrev pub no_register : ℕ
-no_register = 15
 
 -- the byte at an address, and 0 outside
 abbrev pub byte_at : List ℕ → ℕ → ℕ
@@ -63,41 +59,36 @@ abbrev pub after : ℕ → Bool → Bool → ℕ
 after pc need_regids need_valC =
     (pc + 1 + (if need_regids then 1 else 0) + (if need_valC then 8 else 0)) % 2 ^ 64
 
--- an instruction that isn't all inside reads as a nop with an address error, and one that is invalid has icode 15
+-- an instruction that isn't all inside reads as a nop with an address error (imem_error), and one that is invalid has an
+-- icode of its own
 abbrev pub outside : Reading
-outside = record { error = true; icode = 1; ifun = 0 }
+outside = record { error = true; icode = inop; ifun = 0 }
 
 abbrev pub invalid : Reading
-invalid = record { error = false; icode = 15; ifun = 0 }
+invalid = record { error = false; icode = iinvalid; ifun = 0 }
 
 -- a register field that is used names no register
 abbrev pub lacks_register : List ℕ → ℕ → Row → Bool
 lacks_register memory pc r =
     (r.uses_a && (field_a memory pc r.has_byte == no_register)) || (r.uses_b && (field_b memory pc r.has_byte == no_register))
 
--- what a first byte inside reads as, by three tests: it begins an instruction; all bytes of the instruction are inside;
--- a used register field names no register. The first case that applies decides
-abbrev pub reading_of : Bool → Bool → Bool → ℕ → ℕ → Reading
-reading_of begins whole lacks icode ifun =
-    if not begins then invalid
-    else (if not whole then outside
-    else (if lacks then invalid
+-- what the bytes at a PC read as, by the first of them. The first case that applies decides: it is outside; it begins no
+-- instruction; a later byte is outside; a register field that is used names no register
+abbrev pub reading_by_first : Variant → List ℕ → ℕ → Option ℕ → Reading
+reading_by_first v memory pc None = outside
+reading_by_first v memory pc (Some byte) =
+    let icode = high_half byte in
+    let ifun = low_half byte in
+    let r = row v icode in
+    if not (is_instruction v icode ifun) then invalid
+    else (if not (nat_le (pc + r.length) (length memory)) then outside
+    else (if lacks_register memory pc r then invalid
     else record { error = false; icode = icode; ifun = ifun }))
 
-abbrev pub reading_by : Variant → List ℕ → ℕ → ℕ → ℕ → Reading
-reading_by v memory pc icode ifun =
-    reading_of (is_instruction v icode ifun) (nat_le (pc + (row v icode).length) (length memory)) (lacks_register memory pc (row v icode)) icode ifun
-
--- what the first byte reads as; before all other cases, it may itself be outside
-abbrev pub reading_first : Variant → List ℕ → ℕ → Option ℕ → Reading
-reading_first v memory pc None = outside
-reading_first v memory pc (Some byte) = reading_by v memory pc (high_half byte) (low_half byte)
-
--- the reading at a PC
 unfoldable pub reading : Variant → List ℕ → ℕ → Reading
-reading v memory pc = reading_first v memory pc (slice_get memory pc)
+reading v memory pc = reading_by_first v memory pc (slice_get memory pc)
 
--- all that is fetched, with the needs of the row of the icode that was read
+-- the fields of an instruction that was read, where its row says which it has
 abbrev pub fetched_by : List ℕ → ℕ → Reading → Row → Fetched
 fetched_by memory pc read r =
     record {
@@ -110,16 +101,18 @@ fetched_by memory pc read r =
       val_p = after pc r.has_byte r.has_const;
     }
 
-abbrev pub fetched_as : Variant → List ℕ → ℕ → Reading → Fetched
-fetched_as v memory pc read = fetched_by memory pc read (row v read.icode)
-
+-- all that is fetched at a PC
 unfoldable pub fetched : Variant → List ℕ → ℕ → Fetched
-fetched v memory pc = fetched_as v memory pc (reading v memory pc)
+fetched v memory pc =
+    let read = reading v memory pc in
+    fetched_by memory pc read (row v read.icode)
 
--- the status by what was fetched: an address error, an invalid instruction, halt, or all well
+-- the status as far as what was fetched decides it (the signal Stat of section 4.3.4)
 abbrev pub fetch_status : Bool → ℕ → Stat
 fetch_status error icode =
-    if error then Adr else (if icode == 15 then Ins else (if icode == 0 then Hlt else Aok))
+    if error then Adr
+    else (if icode == iinvalid then Ins
+    else (if icode == ihalt then Hlt else Aok))
 
 -- ---- decode (figure 4.28)
 
@@ -128,7 +121,7 @@ abbrev pub register_number : Field → ℕ → ℕ → ℕ
 register_number Dash r_a r_b = no_register
 register_number FieldA r_a r_b = r_a
 register_number FieldB r_a r_b = r_b
-register_number Stack r_a r_b = 4
+register_number Stack r_a r_b = stack_pointer
 
 -- ---- execute (figure 4.29)
 
@@ -167,14 +160,12 @@ alu_overflows f a b =
     if f == 0 then not (fits_word (signed b +ℤ signed a))
     else (if f == 1 then not (fits_word (signed b -ℤ signed a)) else false)
 
--- the condition codes of a result
-unfoldable pub alu_flags : ℕ → ℕ → ℕ → Flags
-alu_flags f a b =
-    record { zf = alu_value f a b == 0; sf = nat_le (2 ^ 63) (alu_value f a b); of = alu_overflows f a b }
+-- the condition codes ZF, SF and OF of a result (section 4.1.1)
+abbrev pub condition_codes : ℕ → Bool → Flags
+condition_codes value overflows = record { zf = value == 0; sf = nat_le (2 ^ 63) value; of = overflows }
 
--- what a bitwise function gives, which never overflows
-abbrev pub bitwise : ℕ → AluOut
-bitwise value = record { val = value; flags = record { zf = value == 0; sf = nat_le (2 ^ 63) value; of = false } }
+unfoldable pub alu_flags : ℕ → ℕ → ℕ → Flags
+alu_flags f a b = condition_codes (alu_value f a b) (alu_overflows f a b)
 
 abbrev pub alu : ℕ → ℕ → ℕ → AluOut
 alu f a b = record { val = alu_value f a b; flags = alu_flags f a b }
@@ -183,7 +174,7 @@ alu f a b = record { val = alu_value f a b; flags = alu_flags f a b }
 abbrev pub alu_function : Bool → ℕ → ℕ
 alu_function selects ifun = if selects then ifun else 0
 
--- the last operation came out less: the sign and overflow flags differ
+-- SF ^ OF, the condition l: the last operation came out less
 abbrev pub is_less : Flags → Bool
 is_less flags = if flags.sf then not flags.of else flags.of
 

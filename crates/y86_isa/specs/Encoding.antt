@@ -6,7 +6,7 @@ use Rattle.y86_base.specs.declared.parts.Variant.TheVariants.{Base}
 use Rattle.y86_isa.specs.declared.columns.Row.{Row}
 use Rattle.y86_isa.specs.declared.fetch.Fetched.{Fetched}
 use Rattle.y86_isa.specs.declared.encoding.Instr.{Instr}
-use Rattle.y86_isa.specs.Table.{rows, row}
+use Rattle.y86_isa.specs.Table.{no_register, rows, row}
 
 -- the variant that has every instruction
 abbrev pub widest : Variant
@@ -16,9 +16,9 @@ widest = Base
 abbrev pub written_top : Row → ℕ
 written_top r = if r.ifun_top == 15 then 0 else r.ifun_top
 
--- a register field that is used names a register, and one that isn't is 15
+-- a register field that is used names a register, and one that isn't says no register
 abbrev pub NamesRegister : Bool → ℕ → Type 0
-NamesRegister used field = MatchBool used (field < 15) (field ≡ 15)
+NamesRegister used field = MatchBool used (field < no_register) (field ≡ no_register)
 
 -- the fields are those of an instruction with this row
 pub record FitsRow (r : Row) (i : Instr) : Type 0 where

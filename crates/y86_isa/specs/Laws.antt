@@ -8,7 +8,7 @@ use Rattle.y86_isa.specs.declared.fetch.Fetched.{Fetched}
 use Rattle.y86_isa.specs.declared.machine.Machine.{Machine}
 use Rattle.y86_isa.specs.declared.work.Work.{Work}
 use Rattle.y86_isa.specs.Blocks.{fetch_status, register_number, operand_a, operand_b, alu_value, alu_flags, alu_function, condition, destination_e, is_load, is_store, data_address, data_word, data_error, data_read, data_store, next_address}
-use Rattle.y86_isa.specs.Table.{row}
+use Rattle.y86_isa.specs.Table.{ihalt, iopq, ijxx, icall, iret, stack_pointer, row}
 use Rattle.y86_isa.specs.Step.{advance, retired}
 
 -- the work of an instruction, by one equation for each value that its row and the machine give
@@ -44,15 +44,15 @@ pub record FollowsFetch (f : Fetched) (w : Work) : Type 0 where
 -- beside %rsp, at most one register differs
 pub record ChangesOneRegister (old new : List ℕ) : Type 0 where
   pub changed : ℕ
-  pub others : (number : ℕ) → number ≢ 4 → number ≢ changed → register new number ≡ register old number
+  pub others : (number : ℕ) → number ≢ stack_pointer → number ≢ changed → register new number ≡ register old number
 
 -- the flags are as before, unless the instruction is an OPq
 abbrev pub KeepsFlags : Variant → Machine → Type 0
-KeepsFlags v m = IfSome (retired v m) (λ r. r.icode ≢ 6 → (advance v m).flags ≡ m.flags)
+KeepsFlags v m = IfSome (retired v m) (λ r. r.icode ≢ iopq → (advance v m).flags ≡ m.flags)
 
 -- behind an instruction that ends with AOK and isn't a halt, jXX, call or ret, the PC is at the next one
 abbrev pub FallsThrough : Variant → Machine → Type 0
 FallsThrough v m =
     IfSome (retired v m)
-    (λ r. r.stat ≡ Aok → r.icode ≢ 0 → r.icode ≢ 7 → r.icode ≢ 8 → r.icode ≢ 9 →
+    (λ r. r.stat ≡ Aok → r.icode ≢ ihalt → r.icode ≢ ijxx → r.icode ≢ icall → r.icode ≢ iret →
     (advance v m).pc ≡ (m.pc + (row v r.icode).length) % 2 ^ 64)

@@ -4,6 +4,7 @@ use Rattle.y86_base.specs.declared.parts.Stat.{Stat}
 use Rattle.y86_base.specs.declared.parts.Stat.TheVariants.{Bub, Aok, Hlt, Adr, Ins, Pip, Bad}
 use Rattle.y86_isa.specs.declared.machine.Machine.{Machine}
 use Rattle.y86_isa.specs.declared.machine.Rec.{Rec}
+use Rattle.y86_isa.specs.Table.{no_register}
 
 -- all is well, and there is a next instruction
 abbrev pub is_aok : Stat → Bool
@@ -22,12 +23,12 @@ start memory =
 
 -- a register number that is written, and the word that it gets; else no register and 0
 abbrev pub written_number : Bool → ℕ → ℕ
-written_number done number = if done && nat_lt number 15 then number else 15
+written_number done number = if done && nat_lt number no_register then number else no_register
 
 abbrev pub written_word : Bool → ℕ → ℕ → ℕ
-written_word done number word = if done && nat_lt number 15 then word else 0
+written_word done number word = if done && nat_lt number no_register then word else 0
 
--- the normal form of a record: destinations that are no register are 15 with the word 0, and an
+-- the normal form of a record: a destination that is none has the word 0, and an
 -- instruction that ends with another status than AOK has neither destinations nor a store
 abbrev pub normal : Rec → Rec
 normal r =

@@ -51,12 +51,12 @@ records v image n = records_from v (start image) n
 
 -- how many bytes from the PC on an instruction fetches, those outside counted too: none where its first byte is outside,
 -- that byte alone where it begins no instruction, else as many as its row says
-abbrev pub count_from : Variant → Option ℕ → ℕ
-count_from v None = 0
-count_from v (Some byte) = if is_instruction v (high_half byte) (low_half byte) then (row v (high_half byte)).length else 1
+abbrev pub count_by_first : Variant → Option ℕ → ℕ
+count_by_first v None = 0
+count_by_first v (Some byte) = if is_instruction v (high_half byte) (low_half byte) then (row v (high_half byte)).length else 1
 
 abbrev pub fetched_count : Variant → List ℕ → ℕ → ℕ
-fetched_count v memory pc = count_from v (slice_get memory pc)
+fetched_count v memory pc = count_by_first v (slice_get memory pc)
 
 -- the address is that of a byte that the instruction at the PC fetches
 pub record IsFetched (v : Variant) (memory : List ℕ) (pc address : ℕ) : Type 0 where

@@ -3,7 +3,7 @@ ghost use Rattle.y86_isa.specs.Blocks as blocks;
 ghost use Rattle.y86_isa.specs.Table as table;
 
 use crate::columns::Row;
-use crate::table::{icode_count, row};
+use crate::table::{INOP, INVALID_ICODE, NO_REGISTER, icode_count, row};
 use y86_base::{Image, Variant};
 
 /// What the bytes at a PC read as.
@@ -44,7 +44,7 @@ pub fn register_fields(memory: &Image, pc: u64, need_regids: bool) -> (u64, u64)
     ensures b { result.1 ≡ blocks.field_b memory.now pc need_regids }
 {
     if !need_regids {
-        return (15, 15);
+        return (NO_REGISTER, NO_REGISTER);
     }
     let byte = u64::from(byte_at(memory, pc.wrapping_add(1)));
     (byte / 16, byte % 16)
@@ -93,18 +93,18 @@ fn lacks_register(memory: &Image, pc: u64, row: &Row) -> bool
     ensures { result ≡ blocks.lacks_register memory.now pc row.now }
 {
     let (r_a, r_b) = register_fields(memory, pc, row.has_byte);
-    (row.uses_a && r_a == 15) || (row.uses_b && r_b == 15)
+    (row.uses_a && r_a == NO_REGISTER) || (row.uses_b && r_b == NO_REGISTER)
 }
 
 const OUTSIDE: Reading = Reading {
     error: true,
-    icode: 1,
+    icode: INOP,
     ifun: 0,
 };
 
 const INVALID: Reading = Reading {
     error: false,
-    icode: 15,
+    icode: INVALID_ICODE,
     ifun: 0,
 };
 

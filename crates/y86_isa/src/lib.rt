@@ -8,6 +8,7 @@ mod encoding;
 mod fetch;
 mod laws;
 mod machine;
+mod stages;
 mod table;
 #[cfg(test)]
 mod tests;

@@ -1,5 +1,6 @@
 ghost use Rattle.std.specs.Prelude.{◌≡◌};
 
+use crate::table::NO_REGISTER;
 use y86_base::{Flags, Image, Regs, Stat};
 
 /// What a program sees of the processor (CS:APP 3e, figure 4.1): the registers, the flags, the address of the
@@ -68,12 +69,12 @@ impl Rec {
         ensures { result ≡ normal self }
     {
         let done = matches!(self.stat, Stat::Aok);
-        let writes_e = done && self.dst_e < 15;
-        let writes_m = done && self.dst_m < 15;
+        let writes_e = done && self.dst_e < NO_REGISTER;
+        let writes_m = done && self.dst_m < NO_REGISTER;
         Rec {
-            dst_e: if writes_e { self.dst_e } else { 15 },
+            dst_e: if writes_e { self.dst_e } else { NO_REGISTER },
             val_e: if writes_e { self.val_e } else { 0 },
-            dst_m: if writes_m { self.dst_m } else { 15 },
+            dst_m: if writes_m { self.dst_m } else { NO_REGISTER },
             val_m: if writes_m { self.val_m } else { 0 },
             store: if done { self.store } else { None },
             ..self

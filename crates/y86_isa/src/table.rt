@@ -4,6 +4,18 @@ ghost use Rattle.y86_isa.specs.Table as table;
 use crate::columns::{Access, Field, Next, Row, TermA, TermB};
 use y86_base::Variant;
 
+/// The icode of halt (CS:APP 3e, figure 4.26).
+pub const IHALT: u64 = 0;
+/// The icode of nop, as which an instruction outside the memory reads.
+pub const INOP: u64 = 1;
+/// The icode that stands for an invalid instruction.
+pub const INVALID_ICODE: u64 = 15;
+
+/// The number that stands for no register.
+pub const NO_REGISTER: u64 = 15;
+/// The number of `%rsp`.
+pub const STACK_POINTER: u64 = 4;
+
 /// A row of one byte with a dash in each column.
 const DASH: Row = Row {
     length: 1,

@@ -2,12 +2,12 @@ ghost use Rattle.std.specs.Prelude.{◌≡◌};
 ghost use Rattle.y86_isa.specs.Blocks as blocks;
 ghost use Rattle.y86_isa.specs.Work as spec;
 
-use crate::columns::{Access, Field, Next, Row, TermA, TermB};
+use crate::columns::{Next, Row};
 use crate::fetch::{Fetched, split};
 use crate::machine::{Machine, Store};
-use crate::table::row;
-use crate::unit::{alu, cond};
-use y86_base::{Flags, Image, Stat, Variant};
+use crate::stages::{access, decode, execute};
+use crate::table::{IHALT, INVALID_ICODE, row};
+use y86_base::{Flags, Stat, Variant};
 
 /// What one instruction reads and computes, stage by stage, under the names of CS:APP 3e, section 4.3.1.
 #[derive(Clone, Copy, Debug)]
@@ -54,74 +54,10 @@ fn fetch_status(fetched: &Fetched) -> Stat
         return Stat::Adr;
     }
     match fetched.icode {
-        15 => Stat::Ins,
-        0 => Stat::Hlt,
+        INVALID_ICODE => Stat::Ins,
+        IHALT => Stat::Hlt,
         _ => Stat::Aok,
     }
-}
-
-fn register_number(field: Field, fetched: &Fetched) -> u64
-    ensures { result ≡ blocks.register_number field fetched.now.r_a fetched.now.r_b }
-{
-    match field {
-        Field::Dash => 15,
-        Field::FieldA => fetched.r_a,
-        Field::FieldB => fetched.r_b,
-        Field::Stack => 4,
-    }
-}
-
-fn operand_a(term: TermA, val_a: u64, val_c: u64) -> u64
-    ensures { result ≡ blocks.operand_a term val_a val_c }
-{
-    match term {
-        TermA::NoA => 0,
-        TermA::ValA => val_a,
-        TermA::ValC => val_c,
-        TermA::Minus8 => u64::MAX - 7,
-        TermA::Plus8 => 8,
-    }
-}
-
-fn operand_b(term: TermB, val_b: u64) -> u64
-    ensures { result ≡ blocks.operand_b term val_b }
-{
-    match term {
-        TermB::NoB | TermB::Zero => 0,
-        TermB::ValB => val_b,
-    }
-}
-
-fn data_address(access: Access, val_a: u64, val_e: u64) -> u64
-    ensures { result ≡ blocks.data_address access val_a val_e }
-{
-    match access {
-        Access::NoMem => 0,
-        Access::LoadA => val_a,
-        Access::StoreA | Access::StoreP | Access::LoadE => val_e,
-    }
-}
-
-fn data_word(access: Access, val_a: u64, val_p: u64) -> u64
-    ensures { result ≡ blocks.data_word access val_a val_p }
-{
-    match access {
-        Access::StoreA => val_a,
-        Access::StoreP => val_p,
-        Access::NoMem | Access::LoadE | Access::LoadA => 0,
-    }
-}
-
-fn is_load(access: Access) -> bool
-    ensures { result ≡ blocks.is_load access }
-{
-    matches!(access, Access::LoadE | Access::LoadA)
-}
-
-fn is_store(access: Access) -> bool
-    ensures { result ≡ blocks.is_store access }
-{
-    matches!(access, Access::StoreA | Access::StoreP)
 }
 
 fn next_address(next: Next, pc: u64, fetched: &Fetched, val_m: u64, cnd: bool) -> u64
@@ -136,60 +72,14 @@ fn next_address(next: Next, pc: u64, fetched: &Fetched, val_m: u64, cnd: bool) -
     }
 }
 
-/// What becomes of the data word: whether it isn't inside, the word that is read, and the store that is done.
-#[derive(Clone, Copy)]
-struct Outcome {
-    fault: bool,
-    val_m: u64,
-    store: Option<Store>,
-}
-
-fn data(memory: &Image, access: Access, address: u64, word: u64) -> Outcome
-    ensures fault { result.fault ≡ blocks.data_error memory.now address (blocks.is_load access) (blocks.is_store access) }
-    ensures read { result.val_m ≡ blocks.data_read memory.now address (blocks.is_load access) }
-    ensures store { result.store ≡ blocks.data_store address word (blocks.is_store access) result.fault }
-{
-    let loads = is_load(access);
-    let stores = is_store(access);
-    let place = memory.word(address);
-    let fault = (loads || stores) && place.is_none();
-    Outcome {
-        fault,
-        val_m: if loads { place.unwrap_or(0) } else { 0 },
-        store: if stores && !fault {
-            Some(Store {
-                addr: address,
-                word,
-            })
-        } else {
-            None
-        },
-    }
-}
-
 impl Work {
     /// The work of an instruction that was fetched.
     fn after_fetch(m: &Machine, row: &Row, fetched: &Fetched) -> Work
         ensures { result ≡ spec.worked m.now row.now fetched.now }
     {
-        let src_a = register_number(row.src_a, fetched);
-        let src_b = register_number(row.src_b, fetched);
-        let raw_dst_e = register_number(row.dst_e, fetched);
-        let dst_m = register_number(row.dst_m, fetched);
-        let val_a = m.regs.get(src_a);
-        let val_b = m.regs.get(src_b);
-
-        let function = if row.selects { fetched.ifun } else { 0 };
-        let out = alu(
-            function,
-            operand_a(row.alu_a, val_a, fetched.val_c),
-            operand_b(row.alu_b, val_b),
-        );
-        let cnd = cond(fetched.ifun, m.flags);
-
-        let address = data_address(row.memory, val_a, out.val);
-        let word = data_word(row.memory, val_a, fetched.val_p);
-        let data = data(&m.mem, row.memory, address, word);
+        let decoded = decode(&m.regs, row, fetched);
+        let executed = execute(m.flags, row, fetched, &decoded);
+        let data = access(&m.mem, row, fetched, decoded.val_a, executed.val_e);
         let fetch_stat = fetch_status(fetched);
         Work {
             fetch_stat,
@@ -199,25 +89,21 @@ impl Work {
             r_b: fetched.r_b,
             val_c: fetched.val_c,
             val_p: fetched.val_p,
-            src_a,
-            src_b,
-            raw_dst_e,
-            dst_m,
-            val_a,
-            val_b,
-            val_e: out.val,
-            flags: if row.sets_flags { out.flags } else { m.flags },
-            cnd,
-            dst_e: if row.conditional && !cnd {
-                15
-            } else {
-                raw_dst_e
-            },
-            address,
+            src_a: decoded.src_a,
+            src_b: decoded.src_b,
+            raw_dst_e: decoded.raw_dst_e,
+            dst_m: decoded.dst_m,
+            val_a: decoded.val_a,
+            val_b: decoded.val_b,
+            val_e: executed.val_e,
+            flags: executed.flags,
+            cnd: executed.cnd,
+            dst_e: executed.dst_e,
+            address: data.address,
             fault: data.fault,
             val_m: data.val_m,
             store: data.store,
-            next_pc: next_address(row.next, m.pc, fetched, data.val_m, cnd),
+            next_pc: next_address(row.next, m.pc, fetched, data.val_m, executed.cnd),
             stat: if data.fault { Stat::Adr } else { fetch_stat },
         }
     }

@@ -1,6 +1,9 @@
 -- Texts of 0 up to a number, written one after another.
-use Rattle.std.proofs.Common.{◌≡◌, ℕ, zero, suc, ◌+◌, ◌<◌, ◌≤◌, List, [], ◌++◌, Option, refl, ap, sym, subst, ◌∙◌, arith, append_assoc, append-nil, inl, inr, ◌⊎◌, add-one}
+use Rattle.std.proofs.Common.{◌≡◌, ℕ, zero, suc, ◌+◌, ◌<◌, ◌≤◌, List, [], ◌∷◌, ◌++◌, map, Option, refl, ap, sym, subst, ◌∙◌, arith, append_assoc, append-nil, inl, inr, ◌⊎◌, add-one}
+use Rattle.std.specs.List.{concat, range_with_len}
 use Rattle.std.proofs.lemmas.Bool.{cases_lt}
+use Rattle.std.proofs.lemmas.List.Folds.{concat-append}
+use Rattle.std.proofs.lemmas.List.FromFn.{map-range_with_len_more}
 use Rattle.wb_io.specs.Sinks.{Took, TookPart}
 use Rattle.wb_io.proofs.Writes.{took_nothing, took_more, part_more, part_after}
 use Rattle.yis_run.specs.Report.{each_below}
@@ -9,12 +12,15 @@ pub each_below-zero : (text : ℕ → List ℕ) → each_below 0 text ≡ []
 unfolding each_below
 each_below-zero text = refl
 
-pub each_below-suc : (n : ℕ) (text : ℕ → List ℕ) → each_below (suc n) text ≡ each_below n text ++ text n
-unfolding each_below
-each_below-suc n text = refl
-
 pub each_below-more : (n : ℕ) (text : ℕ → List ℕ) → each_below (n + 1) text ≡ each_below n text ++ text n
-each_below-more n text = rw add-one (each_below-suc n text)
+unfolding each_below
+each_below-more n text =
+    ap concat (map-range_with_len_more text 0 n n (omega arith))
+    ∙ concat-append (map text (range_with_len 0 n)) (text n ∷ [])
+    ∙ ap (λ xs. concat (map text (range_with_len 0 n)) ++ xs) (append-nil (text n))
+
+pub each_below-suc : (n : ℕ) (text : ℕ → List ℕ) → each_below (suc n) text ≡ each_below n text ++ text n
+each_below-suc n text = rw (← add-one n) (each_below-more n text)
 
 -- no text is written yet
 pub took_none : (sink : Option (List ℕ)) (text : ℕ → List ℕ) → Took sink sink (each_below 0 text)

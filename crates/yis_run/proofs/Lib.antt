@@ -1,2 +1,4 @@
 pub mod Each
+pub mod Listed
 pub mod Runs
+pub mod Unlisted

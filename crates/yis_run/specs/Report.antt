@@ -1,6 +1,7 @@
--- The report of a run as text: how it stopped, the registers that aren't 0, and the words of memory that changed.
-use Rattle.std.specs.Prelude.{ℕ, zero, suc, ◌*◌, ◌/◌, Bool, ◌==◌, codes, List, [], ◌∷◌, ◌++◌, length, unwrap_or, if◌then◌else◌}
-use Rattle.std.specs.List.{concat}
+-- The report of a run as text, as the simulator yis of CS:APP prints it: how the run stopped, the registers that aren't 0, and the
+-- words of memory that changed.
+use Rattle.std.specs.Prelude.{ℕ, ◌*◌, ◌/◌, Bool, ◌==◌, codes, List, [], ◌∷◌, ◌++◌, length, map, unwrap_or, if◌then◌else◌}
+use Rattle.std.specs.List.{concat, range_with_len}
 use Rattle.y86_base.specs.Image.{word_at}
 use Rattle.y86_base.specs.Numeral.{numeral}
 use Rattle.y86_base.specs.Registers.{register, register_name}
@@ -30,27 +31,37 @@ unfoldable pub register_line : List ℕ → ℕ → List ℕ
 register_line registers number =
     if register registers number == 0 then [] else change (register_name number) 0 (register registers number)
 
--- the aligned word of a number, counted from 0
+-- the number-th aligned word of a memory, counted from 0
 abbrev pub aligned_word : List ℕ → ℕ → ℕ
 aligned_word memory number = unwrap_or (word_at memory (8 * number)) 0
+
+-- its address, as it is printed
+abbrev pub word_name : ℕ → List ℕ
+word_name number = codes "0x" ++ numeral 16 4 (8 * number)
 
 -- the line of an aligned word of memory; none where it is as at the start
 unfoldable pub memory_line : List ℕ → List ℕ → ℕ → List ℕ
 memory_line first memory number =
     if aligned_word first number == aligned_word memory number then []
-    else change (codes "0x" ++ numeral 16 4 (8 * number)) (aligned_word first number) (aligned_word memory number)
+    else change (word_name number) (aligned_word first number) (aligned_word memory number)
 
 -- the texts of 0 up to n - 1, one after another
 unfoldable pub each_below : ℕ → (ℕ → List ℕ) → List ℕ
-each_below zero text = []
-each_below (suc n) text = each_below n text ++ text n
+each_below n text = concat (map text (range_with_len 0 n))
+
+-- the lines of the registers, and those of the words of a memory that began as another
+abbrev pub register_lines : List ℕ → List ℕ
+register_lines registers = each_below 15 (register_line registers)
+
+abbrev pub memory_lines : List ℕ → List ℕ → List ℕ
+memory_lines first memory = each_below (length first / 8) (memory_line first memory)
 
 -- the report of a run that began on a memory, ended with a machine, and took so many steps
 unfoldable pub report : List ℕ → Machine → ℕ → List ℕ
 report first machine steps =
     stopped steps machine.pc machine.stat machine.flags
-    ++ codes "Changes to registers:\n" ++ each_below 15 (register_line machine.regs)
-    ++ codes "\nChanges to memory:\n" ++ each_below (length first / 8) (memory_line first machine.mem)
+    ++ codes "Changes to registers:\n" ++ register_lines machine.regs
+    ++ codes "\nChanges to memory:\n" ++ memory_lines first machine.mem
 
 -- the machine that a run ended with
 abbrev pub ended : End → Machine

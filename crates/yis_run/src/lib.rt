@@ -1,6 +1,7 @@
 //! Runs at the level of instructions, and the report of a run.
 #![tactic(auto)]
 
+mod laws;
 mod lines;
 mod outcome;
 mod printer;
@@ -8,6 +9,7 @@ mod stepping;
 #[cfg(test)]
 mod tests;
 
+pub use laws::law_of_report;
 pub use outcome::End;
 pub use printer::report;
 pub use stepping::{Ran, run};

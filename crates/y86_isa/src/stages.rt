@@ -1,0 +1,167 @@
+ghost use Rattle.std.specs.Prelude.{◌≡◌};
+ghost use Rattle.y86_isa.specs.Blocks as blocks;
+ghost use Rattle.y86_isa.specs.Work as spec;
+
+use crate::columns::{Access, Field, Row, TermA, TermB};
+use crate::fetch::Fetched;
+use crate::machine::Store;
+use crate::table::{NO_REGISTER, STACK_POINTER};
+use crate::unit::{alu, cond};
+use y86_base::{Flags, Image, Regs};
+
+/// What an instruction decodes to: the numbers of its sources and destinations, and the words of its sources.
+#[derive(Clone, Copy)]
+pub struct Decoded {
+    pub src_a: u64,
+    pub src_b: u64,
+    pub raw_dst_e: u64,
+    pub dst_m: u64,
+    pub val_a: u64,
+    pub val_b: u64,
+}
+
+/// What the execute stage gives: the ALU's result, the flags after it, the condition and the destination.
+#[derive(Clone, Copy)]
+pub struct Executed {
+    pub val_e: u64,
+    pub flags: Flags,
+    pub cnd: bool,
+    pub dst_e: u64,
+}
+
+/// What the memory stage gives: the address of the data, whether the word there isn't inside, the word that is
+/// read, and the store that is done.
+#[derive(Clone, Copy)]
+pub struct Accessed {
+    pub address: u64,
+    pub fault: bool,
+    pub val_m: u64,
+    pub store: Option<Store>,
+}
+
+fn register_number(field: Field, fetched: &Fetched) -> u64
+    ensures { result ≡ blocks.register_number field fetched.now.r_a fetched.now.r_b }
+{
+    match field {
+        Field::Dash => NO_REGISTER,
+        Field::FieldA => fetched.r_a,
+        Field::FieldB => fetched.r_b,
+        Field::Stack => STACK_POINTER,
+    }
+}
+
+fn operand_a(term: TermA, val_a: u64, val_c: u64) -> u64
+    ensures { result ≡ blocks.operand_a term val_a val_c }
+{
+    match term {
+        TermA::NoA => 0,
+        TermA::ValA => val_a,
+        TermA::ValC => val_c,
+        TermA::Minus8 => u64::MAX - 7,
+        TermA::Plus8 => 8,
+    }
+}
+
+fn operand_b(term: TermB, val_b: u64) -> u64
+    ensures { result ≡ blocks.operand_b term val_b }
+{
+    match term {
+        TermB::NoB | TermB::Zero => 0,
+        TermB::ValB => val_b,
+    }
+}
+
+fn data_address(access: Access, val_a: u64, val_e: u64) -> u64
+    ensures { result ≡ blocks.data_address access val_a val_e }
+{
+    match access {
+        Access::NoMem => 0,
+        Access::LoadA => val_a,
+        Access::StoreA | Access::StoreP | Access::LoadE => val_e,
+    }
+}
+
+fn data_word(access: Access, val_a: u64, val_p: u64) -> u64
+    ensures { result ≡ blocks.data_word access val_a val_p }
+{
+    match access {
+        Access::StoreA => val_a,
+        Access::StoreP => val_p,
+        Access::NoMem | Access::LoadE | Access::LoadA => 0,
+    }
+}
+
+fn is_load(access: Access) -> bool
+    ensures { result ≡ blocks.is_load access }
+{
+    matches!(access, Access::LoadE | Access::LoadA)
+}
+
+fn is_store(access: Access) -> bool
+    ensures { result ≡ blocks.is_store access }
+{
+    matches!(access, Access::StoreA | Access::StoreP)
+}
+
+/// The decode stage.
+pub fn decode(regs: &Regs, row: &Row, fetched: &Fetched) -> Decoded
+    ensures { result ≡ spec.decoded regs.now row.now fetched.now }
+{
+    let src_a = register_number(row.src_a, fetched);
+    let src_b = register_number(row.src_b, fetched);
+    Decoded {
+        src_a,
+        src_b,
+        raw_dst_e: register_number(row.dst_e, fetched),
+        dst_m: register_number(row.dst_m, fetched),
+        val_a: regs.get(src_a),
+        val_b: regs.get(src_b),
+    }
+}
+
+/// The execute stage, under the flags before the instruction.
+pub fn execute(before: Flags, row: &Row, fetched: &Fetched, decoded: &Decoded) -> Executed
+    ensures { result ≡ spec.executed before row.now fetched.now decoded.now }
+{
+    let out = alu(
+        if row.selects { fetched.ifun } else { 0 },
+        operand_a(row.alu_a, decoded.val_a, fetched.val_c),
+        operand_b(row.alu_b, decoded.val_b),
+    );
+    let cnd = cond(fetched.ifun, before);
+    Executed {
+        val_e: out.val,
+        flags: if row.sets_flags { out.flags } else { before },
+        cnd,
+        dst_e: if row.conditional && !cnd {
+            NO_REGISTER
+        } else {
+            decoded.raw_dst_e
+        },
+    }
+}
+
+/// The memory stage. Nothing is written yet.
+pub fn access(memory: &Image, row: &Row, fetched: &Fetched, val_a: u64, val_e: u64) -> Accessed
+    ensures { result ≡ spec.accessed memory.now row.now fetched.now val_a val_e }
+{
+    let loads = is_load(row.memory);
+    let stores = is_store(row.memory);
+    let address = data_address(row.memory, val_a, val_e);
+    let place = memory.word(address);
+    let fault = (loads || stores) && place.is_none();
+    let word = data_word(row.memory, val_a, fetched.val_p);
+    Accessed {
+        address,
+        fault,
+        val_m: if loads { place.unwrap_or(0) } else { 0 },
+        store: if stores && !fault {
+            Some(Store {
+                addr: address,
+                word,
+            })
+        } else {
+            None
+        },
+    }
+}
