@@ -7,6 +7,7 @@ use Rattle.std.proofs.lemmas.Bool.{false≢true}
 use Rattle.std.proofs.lemmas.Bool.Decides.{nat_tests}
 use Rattle.y86_base.specs.declared.parts.Variant.{Variant}
 use Rattle.y86_base.specs.declared.parts.Variant.TheVariants.{Base}
+use Rattle.y86_base.proofs.Booleans.{both_true, both_false}
 use Rattle.y86_isa.specs.Table.{row}
 use Rattle.y86_isa.specs.Encoding.{encoded}
 use Rattle.y86_isa.proofs.ReadBack.{length-encoded}
@@ -20,11 +21,9 @@ use Rattle.yas_asm.specs.declared.statement.Parsed.{Parsed}
 use Rattle.yas_asm.specs.Grammar.{bytes_of}
 use Rattle.yas_asm.specs.Assembly.{Placed, source_lines, labels, first_fault, listing, listed, line_fault, filled, addresses, emitted, place, overlaps, width_of, bytes_at, shown_at, value_of}
 use Rattle.yas_asm.specs.Laws.{emits_at, emits, BytesHaveOneLine}
-use Rattle.yas_asm.proofs.LawLemmas.{fault_at, accepted, faultless}
-
-and_two : (a b : Bool) → (a && b) ≡ true → (a ≡ true) × (b ≡ true)
-and_two true b e = (refl, e)
-and_two false b e = absurd (false≢true e)
+use Rattle.yas_asm.proofs.Parts.{head_is, tail_is, no_cons}
+use Rattle.yas_asm.proofs.PassLemmas.{faultless}
+use Rattle.yas_asm.proofs.LawLemmas.{fault_at, accepted}
 
 at_most : (n m : ℕ) → nat_le n m ≡ true → n ≤ m
 at_most n m e = grind (arith, nat_tests)
@@ -35,7 +34,7 @@ below n m e = grind (arith, nat_tests)
 -- where a line emits
 pub emits_within : (first count a : ℕ) → emits_at (Some first) count a ≡ true → (first ≤ a) × (a < first + count)
 emits_within first count a e =
-    let two = and_two (nat_le first a) (nat_lt a (first + count)) e in
+    let two = both_true (nat_le first a) (nat_lt a (first + count)) e in
     (at_most first a two.0, below a (first + count) two.1)
 
 emits_none : (addr : Option ℕ) (a : ℕ) → emits_at addr 0 a ≡ true → ⊥
@@ -123,15 +122,6 @@ unfolding filled
 filled-has variant size a [] between line e = any_left (nat_eq a) _ _ e
 filled-has variant size a (other ∷ before) between line e =
     any_right (nat_eq a) (addresses variant size other.address other.read) _ (filled-has variant size a before between line e)
-
-head_is : {A : Type 0} (x y : A) (xs ys : List A) → x ∷ xs ≡ y ∷ ys → x ≡ y
-head_is x y xs ys e = cc
-
-tail_is : {A : Type 0} (x y : A) (xs ys : List A) → x ∷ xs ≡ y ∷ ys → xs ≡ ys
-tail_is x y xs ys e = cc
-
-no_cons : {A : Type 0} (x : A) (xs : List A) → [] ≡ x ∷ xs → ⊥
-no_cons x xs e = cc
 
 -- a line of a listing and those behind it come from a line of the source and those behind it
 pub record IsFrom (variant : Variant) (size : ℕ) (table : List (List ℕ × ℕ)) (all : List Placed) (line : Line) (rest : List Line) : Type 0 where

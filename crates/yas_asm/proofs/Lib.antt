@@ -1,3 +1,4 @@
+pub mod Parts
 pub mod CommentLemmas
 pub mod UsedLemmas
 pub mod LabelLemmas

@@ -20,7 +20,6 @@ pub fn law_of_images()
 {}
 
 /// Two accepted sources that differ in comments and blanks alone have the same addresses and bytes, line for line.
-
 pub fn law_of_spacing()
     ensures { SpacingIsFree }
 {}

@@ -1,0 +1,24 @@
+-- What equations of lists, of options and of tests say of their parts.
+use Rattle.std.proofs.Common.{◌≡◌, sym, Bool, true, false, cond, List, [], ◌∷◌, Option, None, Some, refl}
+use Rattle.std.specs.Prelude.{is_some, is_none}
+use Rattle.std.proofs.lemmas.Option.{none-some}
+
+pub head_is : {A : Type 0} (x y : A) (xs ys : List A) → x ∷ xs ≡ y ∷ ys → x ≡ y
+head_is x y xs ys e = cc
+
+pub tail_is : {A : Type 0} (x y : A) (xs ys : List A) → x ∷ xs ≡ y ∷ ys → xs ≡ ys
+tail_is x y xs ys e = cc
+
+pub no_cons : {A : Type 0} (x : A) (xs : List A) → [] ≡ x ∷ xs → ⊥
+no_cons x xs e = cc
+
+pub some_is : {A : Type 0} (x y : A) → Some x ≡ Some y → x ≡ y
+some_is x y e = cc
+
+pub not_here : {A : Type 0} (b : Bool) (x : A) (rest : Option A) → cond b (Some x) rest ≡ None → (b ≡ false) × (rest ≡ None)
+not_here true x rest e = absurd (none-some x (sym e))
+not_here false x rest e = (refl, e)
+
+pub some_from_none : {A : Type 0} (o : Option A) → is_none o ≡ false → is_some o ≡ true
+some_from_none None e = cc
+some_from_none (Some x) e = refl
