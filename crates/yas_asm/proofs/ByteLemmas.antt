@@ -1,6 +1,6 @@
 -- The bytes of an accepted source: each belongs to one line, and the image has them.
 use Rattle.std.proofs.Common.{◌≡◌, ◌+◌, ◌<◌, ◌≤◌, ap, sym, subst, ◌∙◌, ℕ, zero, suc, Bool, true, false, List, [], ◌∷◌, ◌++◌, length, take, Option, None, Some, Result, Ok, Err, refl, arith}
-use Rattle.std.specs.Prelude.{nat_eq, nat_le, nat_lt, ◌&&◌, ◌||◌}
+use Rattle.std.specs.Prelude.{nat_eq, nat_le, nat_lt, ◌||◌}
 use Rattle.std.specs.List.{list_any, range_with_len}
 use Rattle.std.specs.Int.{to_le_bytes, w64}
 use Rattle.std.proofs.lemmas.Bool.{false≢true}
@@ -21,15 +21,9 @@ use Rattle.yas_asm.specs.declared.statement.Parsed.{Parsed}
 use Rattle.yas_asm.specs.Grammar.{bytes_of}
 use Rattle.yas_asm.specs.Assembly.{Placed, source_lines, labels, first_fault, listing, listed, line_fault, filled, addresses, emitted, place, overlaps, width_of, bytes_at, shown_at, value_of}
 use Rattle.yas_asm.specs.Laws.{emits_at, emits, BytesHaveOneLine}
-use Rattle.yas_asm.proofs.Parts.{head_is, tail_is, no_cons}
+use Rattle.yas_asm.proofs.Parts.{head_is, tail_is, no_cons, at_most, below, eq_is}
 use Rattle.yas_asm.proofs.PassLemmas.{faultless}
 use Rattle.yas_asm.proofs.LawLemmas.{fault_at, accepted}
-
-at_most : (n m : ℕ) → nat_le n m ≡ true → n ≤ m
-at_most n m e = grind (arith, nat_tests)
-
-below : (n m : ℕ) → nat_lt n m ≡ true → n < m
-below n m e = grind (arith, nat_tests)
 
 -- where a line emits
 pub emits_within : (first count a : ℕ) → emits_at (Some first) count a ≡ true → (first ≤ a) × (a < first + count)
@@ -83,21 +77,11 @@ apart used address zero a o u h k = omega arith
 apart used address (suc n) a o u h k =
     by (nat_eq a address) refl o (λ (p : overlaps used (address + 1) n ≡ false) (l : address + 1 ≤ a). apart used (address + 1) n a p u l (omega arith))
   where
-    same : (x y : ℕ) → nat_eq x y ≡ true → x ≡ y
-    same x y e = grind (arith, nat_tests)
-
     by : (b : Bool) → nat_eq a address ≡ b → (list_any (nat_eq address) used || overlaps used (address + 1) n) ≡ false
         → (overlaps used (address + 1) n ≡ false → address + 1 ≤ a → ⊥) → ⊥
-    by true t o later = no (list_any (nat_eq address) used) (subst (λ (x : ℕ). list_any (nat_eq x) used ≡ true) (same a address t) u) o
-      where
-        no : (b : Bool) → b ≡ true → (b || overlaps used (address + 1) n) ≡ false → ⊥
-        no true e o = false≢true (sym o)
-        no false e o = false≢true e
-    by false t o later = later (rest (list_any (nat_eq address) used) o) (grind (arith, nat_tests))
-      where
-        rest : (b : Bool) → (b || overlaps used (address + 1) n) ≡ false → overlaps used (address + 1) n ≡ false
-        rest true o = absurd (false≢true (sym o))
-        rest false o = o
+    by true t o later =
+        false≢true (sym (both_false _ _ o).0 ∙ subst (λ (x : ℕ). list_any (nat_eq x) used ≡ true) (eq_is a address t) u)
+    by false t o later = later (both_false _ _ o).1 (grind (arith, nat_tests))
 
 any_left : (test : ℕ → Bool) (xs ys : List ℕ) → list_any test xs ≡ true → list_any test (xs ++ ys) ≡ true
 any_left test [] ys e = absurd (false≢true e)

@@ -1,5 +1,5 @@
 -- The label table: what a look-up finds, and that a new name goes last.
-use Rattle.std.proofs.Common.{◌≡◌, ap, ℕ, Bool, true, false, cond, List, [], ◌∷◌, ◌++◌, map, Option, None, Some, refl}
+use Rattle.std.proofs.Common.{◌≡◌, ap, ℕ, cond, List, [], ◌∷◌, ◌++◌, map, None, Some, refl}
 use Rattle.std.specs.Prelude.{Vec, nat_eq}
 use Rattle.std.specs.Cmp.Lexicographic.{pointwise}
 use Rattle.std.specs.Map.{lookup}

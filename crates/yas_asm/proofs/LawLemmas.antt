@@ -13,7 +13,7 @@ use Rattle.yas_asm.specs.declared.fault.AsmFault.{AsmFault}
 use Rattle.yas_asm.specs.declared.listing.Line.{Line}
 use Rattle.yas_asm.specs.declared.statement.Parsed.{Parsed}
 use Rattle.yas_asm.specs.Tokens.{meaning_of}
-use Rattle.yas_asm.specs.Assembly.{Placed, source_lines, labels, label_of, label_limit, with_label, with_name, assembled, assembled_with, first_fault, fault_or, listing, listing_unless, line_fault, statement_fault, filled, names_wide, names_unknown, is_defined, is_past_limit, place, overlaps, width_of}
+use Rattle.yas_asm.specs.Assembly.{Placed, source_lines, labels, label_of, label_limit, with_label, with_name, assembled, assembled_with, first_fault, fault_or, listing, listing_unless, line_fault, filled, is_defined, is_past_limit}
 use Rattle.yas_asm.specs.Laws.{LabelsAreAddresses}
 use Rattle.yas_asm.proofs.Parts.{not_here}
 use Rattle.yas_asm.proofs.PassLemmas.{faultless}

@@ -15,7 +15,6 @@ use Rattle.yas_asm.specs.declared.fault.AsmWhy.{AsmWhy}
 use Rattle.yas_asm.specs.declared.fault.AsmFault.{AsmFault}
 use Rattle.yas_asm.specs.Assembly.{Placed, placed, labels, with_label, label_of, address_after, source_lines, statement_fault, names_wide, names_unknown, is_defined, is_past_limit, place, width_of, overlaps, emitted, addresses, filled, fault_or, line_fault, first_fault, listed, listing, listing_unless, assembled_with}
 use Rattle.yas_asm.specs.declared.listing.Line.{Line}
-use Rattle.yas_asm.specs.declared.statement.Statement.{Statement}
 use Rattle.yas_asm.specs.declared.statement.Parsed.{Parsed}
 
 -- the labels with those of some further lines

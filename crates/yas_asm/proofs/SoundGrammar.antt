@@ -1,5 +1,5 @@
 -- Every statement that the grammar reads is sound: its instruction is valid, its `.align` has a number that is at least 1.
-use Rattle.std.proofs.Common.{◌≡◌, ◌<◌, ◌≤◌, ap, sym, subst, ◌∙◌, ℕ, Bool, true, false, cond, List, [], ◌∷◌, length, Option, None, Some, refl, arith}
+use Rattle.std.proofs.Common.{◌≡◌, ◌<◌, ap, sym, subst, ◌∙◌, ℕ, Bool, true, false, cond, List, [], ◌∷◌, length, Option, None, Some, refl, arith}
 use Rattle.std.specs.Prelude.{nat_lt, nat_le, nat_eq, not, ◌&&◌, ◌||◌, ◌==◌}
 use Rattle.std.specs.List.{list_all, starts_with}
 use Rattle.std.specs.Str.{bytes_eq}
@@ -27,7 +27,7 @@ use Rattle.yas_asm.specs.Tokens.{keyword_at, meaning_of, name, sign}
 use Rattle.yas_asm.specs.Tables.{registers, register, base_mnemonics, mnemonic, directive}
 use Rattle.yas_asm.specs.Comments.{ends}
 use Rattle.yas_asm.specs.Grammar.{◌>>=◌, instruction, two_registers, immediate, store, load, target, single, operands_as, operands_of, memory, operand, displacement, natural, is_zero, position_at, align_at, position_operand, align_operand, data_operand, directive_operand, instruction_text, statement_from, statement, last_statement, line, label}
-use Rattle.yas_asm.proofs.Parts.{some_is}
+use Rattle.yas_asm.proofs.Parts.{some_is, at_most, below}
 use Rattle.yas_asm.specs.Sound.{IsSound}
 
 -- where a step of a reading gives something, the step before it did
@@ -60,12 +60,6 @@ module _ {A : Type 0} (test : A → Bool) where
   meaning_of-test (row ∷ rows) text x all e =
       from_meaning (bytes_eq text row.0) row (meaning_of rows text) x (both_true (test row.1) _ all).0
       (meaning_of-test rows text x (both_true (test row.1) _ all).1) e
-
-below : (n m : ℕ) → nat_lt n m ≡ true → n < m
-below n m e = grind (arith, nat_tests)
-
-at_most : (n m : ℕ) → nat_le n m ≡ true → n ≤ m
-at_most n m e = grind (arith, nat_tests)
 
 -- a register that is read has a number below 15
 pub register-below : (bytes : List ℕ) (x : ℕ × List ℕ) → register bytes ≡ Some x → x.0 < 15

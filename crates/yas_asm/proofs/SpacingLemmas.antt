@@ -12,6 +12,7 @@ use Rattle.yas_asm.specs.declared.number.Number.{Number}
 use Rattle.yas_asm.specs.Tokens.{is_letter, is_name_byte, begins, sign_at, sign, name_at, name, digits_at, is_hex_number, decimal_at, number_at, number, keyword_at, next_is}
 use Rattle.yas_asm.specs.Comments.{comment_length, close_length, ends_at, ends}
 use Rattle.yas_asm.specs.Tables.{registers, register, directives, directive}
+use Rattle.yas_asm.proofs.Parts.{eq_is}
 use Rattle.yas_asm.specs.Spacing.{is_sign, squeezed}
 
 -- a byte that ends each token: a blank, a sign, `#` or `/`
@@ -355,9 +356,6 @@ is_plain_text text = list_all (λ byte. not (stops byte)) text
 not_is : (b : Bool) → not b ≡ true → b ≡ false
 not_is true e = absurd (false≢true e)
 not_is false e = refl
-
-eq_is : (a b : ℕ) → nat_eq a b ≡ true → a ≡ b
-eq_is a b e = grind (arith, nat_tests)
 
 eq_outer : (c : ℕ) → stops c ≡ false → IsOuter (λ byte. nat_eq c byte)
 unfolding IsOuter

@@ -1,4 +1,4 @@
-ghost use Rattle.std.specs.Prelude.{◌≡◌, ◌+◌, ◌^◌, ◌<◌, IfOk};
+ghost use Rattle.std.specs.Prelude.{◌≡◌, ◌<◌, IfOk};
 ghost use Rattle.y86_base.specs.Text.{below_word};
 ghost use Rattle.yas_asm.specs.Grammar as grammar;
 ghost use Rattle.yas_asm.specs.Assembly as assembly;

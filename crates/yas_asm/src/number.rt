@@ -1,4 +1,4 @@
-ghost use Rattle.std.specs.Prelude.{MatchOption, None, Some, length, Bool, List, drop, IsTrue, ◌≡◌, ◌≤◌, ◌<◌, ◌*◌, ◌+◌, ℕ};
+ghost use Rattle.std.specs.Prelude.{MatchOption, None, Some, length, IsTrue, ◌≡◌, ◌≤◌};
 ghost use Rattle.std.specs.List.{prefix_len};
 ghost use Rattle.y86_base.specs.Text as text;
 ghost use Rattle.yas_asm.specs.Tokens as tokens;

@@ -1,4 +1,4 @@
-ghost use Rattle.std.specs.Prelude.{IfNone, ◌≡◌, ◌≤◌, ◌<◌, List, ℕ, length, drop};
+ghost use Rattle.std.specs.Prelude.{IfNone, ◌≡◌, ◌≤◌, List, ℕ, length};
 ghost use Rattle.std.specs.List.{prefix_len};
 ghost use Rattle.yas_asm.specs.Comments as comments;
 ghost use Rattle.yas_asm.specs.Tokens as tokens;
