@@ -163,7 +163,7 @@ emits-addresses variant size table known used from to address a (Err why) f e = 
 emits-addresses variant size table known used from to address a (Ok parsed) f e =
     let tests = faultless variant size table known used address parsed f in
     let two = emits-listed variant size table from to address a parsed e in
-    rw tests.inside (range_has address (width_of variant parsed.statement) a two.0 two.1)
+    rw tests.emits.inside (range_has address (width_of variant parsed.statement) a two.0 two.1)
 
 -- and is at no address that is used
 emits-unused : (variant : Variant) (size : ℕ) (table known : List (List ℕ × ℕ)) (used : List ℕ) (from to address a : ℕ) (read : Result Parsed AsmWhy)
@@ -174,7 +174,7 @@ emits-unused variant size table known used from to address a (Err why) f e u = e
 emits-unused variant size table known used from to address a (Ok parsed) f e u =
     let tests = faultless variant size table known used address parsed f in
     let two = emits-listed variant size table from to address a parsed e in
-    apart used address (width_of variant parsed.statement) a tests.free u two.0 two.1
+    apart used address (width_of variant parsed.statement) a tests.emits.free u two.0 two.1
 
 append_line : (before between after : List Placed) (one other : Placed) → before ++ one ∷ (between ++ other ∷ after) ≡ (before ++ one ∷ between) ++ other ∷ after
 append_line [] between after one other = refl

@@ -118,7 +118,7 @@ fits-line : (variant : Variant) (size : ℕ) (table known : List (List ℕ × �
 unfolding line_fault listed
 fits-line variant size table known used from to address (Err why) e = tt
 fits-line variant size table known used from to address (Ok parsed) e =
-    fits-listed variant size table from to address parsed (faultless variant size table known used address parsed e).inside
+    fits-listed variant size table from to address parsed (faultless variant size table known used address parsed e).emits.inside
 
 -- in an accepted source all bytes lie within the size
 all_fit : (variant : Variant) (size : ℕ) (table : List (List ℕ × ℕ)) (before rest : List Placed) (from : ℕ) → first_fault variant size table before rest ≡ None → AllFit size (listing variant size table from rest)

@@ -15,6 +15,7 @@ use Rattle.yas_asm.specs.declared.fault.AsmWhy.{AsmWhy}
 use Rattle.yas_asm.specs.declared.fault.AsmFault.{AsmFault}
 use Rattle.yas_asm.specs.Assembly.{Placed, placed, labels, with_label, label_of, address_after, source_lines, statement_fault, names_wide, names_unknown, is_defined, is_past_limit, place, width_of, overlaps, emitted, addresses, filled, fault_or, line_fault, first_fault, listed, listing, listing_unless, assembled_with}
 use Rattle.yas_asm.specs.declared.listing.Line.{Line}
+use Rattle.yas_asm.specs.declared.statement.Statement.{Statement}
 use Rattle.yas_asm.specs.declared.statement.Parsed.{Parsed}
 
 -- the labels with those of some further lines
@@ -37,12 +38,16 @@ labels_end variant size address table rest e = rw e refl
 
 pub ruleset collecting = (labels_begin, labels_more, labels_end)
 
+-- a statement keeps within the size, and its bytes are at addresses that have none
+pub record IsFree (variant : Variant) (size : ℕ) (used : List ℕ) (address : ℕ) (statement : Statement) : Type 0 where
+  pub inside : is_some (place variant size address statement) ≡ true
+  pub free : overlaps used address (width_of variant statement) ≡ false
+
 -- the tests of a line without a fault
 pub record IsFaultless (variant : Variant) (size : ℕ) (known : List (List ℕ × ℕ)) (used : List ℕ) (address : ℕ) (parsed : Parsed) : Type 0 where
   pub new_label : is_defined known parsed.label ≡ false
-  pub inside : is_some (place variant size address parsed.statement) ≡ true
-  pub free : overlaps used address (width_of variant parsed.statement) ≡ false
   pub within_limit : is_past_limit known parsed.label ≡ false
+  pub emits : IsFree variant size used address parsed.statement
 
 pub faultless : (variant : Variant) (size : ℕ) (table known : List (List ℕ × ℕ)) (used : List ℕ) (address : ℕ) (parsed : Parsed)
     → statement_fault variant size table known used address parsed ≡ None → IsFaultless variant size known used address parsed
@@ -54,13 +59,17 @@ faultless variant size table known used address parsed e =
     let outside = not_here (is_none (place variant size address parsed.statement)) _ _ unknown.1 in
     let overlap = not_here (overlaps used address (width_of variant parsed.statement)) _ _ outside.1 in
     let limit = not_here (is_past_limit known parsed.label) _ _ overlap.1 in
-    record { new_label = twice.0; inside = some_from_none _ outside.0; free = overlap.0; within_limit = limit.0 }
+    record { new_label = twice.0; within_limit = limit.0; emits = record { inside = some_from_none _ outside.0; free = overlap.0 } }
+
+pub free_without_fault : (variant : Variant) (size : ℕ) (table known : List (List ℕ × ℕ)) (used : List ℕ) (address : ℕ) (parsed : Parsed)
+    → statement_fault variant size table known used address parsed ≡ None → IsFree variant size used address parsed.statement
+free_without_fault variant size table known used address parsed e = (faultless variant size table known used address parsed e).emits
 
 -- the bytes of a line without a fault are from its address on
-pub emitted-faultless : (variant : Variant) (size : ℕ) (known : List (List ℕ × ℕ)) (used : List ℕ) (address : ℕ) (parsed : Parsed) → IsFaultless variant size known used address parsed
-    → emitted variant size address parsed.statement ≡ range_with_len address (width_of variant parsed.statement)
+pub emitted-free : (variant : Variant) (size : ℕ) (used : List ℕ) (address : ℕ) (statement : Statement) → IsFree variant size used address statement
+    → emitted variant size address statement ≡ range_with_len address (width_of variant statement)
 unfolding emitted
-emitted-faultless variant size known used address parsed h = rw h.inside refl
+emitted-free variant size used address statement h = rw h.inside refl
 
 -- the first line with a fault, from what the lines before it left: their labels, their addresses and their number
 unfoldable pub faults_from : Variant → ℕ → List (List ℕ × ℕ) → List (List ℕ × ℕ) → List ℕ → ℕ → List Placed → Option AsmFault

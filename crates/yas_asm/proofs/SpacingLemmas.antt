@@ -43,7 +43,7 @@ starts_other : (byte c : ℕ) (bytes w : List ℕ) → nat_eq byte c ≡ false �
 starts_other byte c bytes w e = starts_more byte c bytes w ∙ ap (λ b. b && starts_with nat_eq bytes w) (eq_turned byte c e)
 
 -- no comment begins at a byte other than `#` and `/`
-no_comment : (byte : ℕ) (bytes : List ℕ) → (byte == 35) ≡ false → (byte == 47) ≡ false → comment_length (byte ∷ bytes) ≡ 0
+pub no_comment : (byte : ℕ) (bytes : List ℕ) → (byte == 35) ≡ false → (byte == 47) ≡ false → comment_length (byte ∷ bytes) ≡ 0
 unfolding comment_length
 no_comment byte bytes h s =
     by (byte == 35) (starts_with nat_eq (byte ∷ bytes) (codes "//")) (starts_with nat_eq (byte ∷ bytes) (codes "/*")) h

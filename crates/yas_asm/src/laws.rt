@@ -1,5 +1,24 @@
 ghost use Rattle.yas_asm.specs.Spacing.{SpacingIsFree};
-ghost use Rattle.yas_asm.specs.Laws.{AlignIsLeast, BytesHaveOneLine, ImageHasLines, ImageIsZeroElsewhere, LabelsAreAddresses, TextsStandThere};
+ghost use Rattle.yas_asm.specs.Laws.{AcceptedWithoutFault, AlignIsLeast, BytesHaveOneLine, FirstFaultIsTold, ImageHasLines, ImageIsZeroElsewhere, LabelsAreAddresses, LeastReasonIsTold, LinesFollow, SweepPassesComments, TextsStandThere};
+
+/// The sweep for bad bytes passes a comment as a whole and any other byte by itself.
+pub fn law_of_comments()
+    ensures { SweepPassesComments }
+{}
+
+/// The lines of a source have its texts, each is read by itself, the first stands at address 0, and each other where the line before
+/// it leads.
+pub fn law_of_lines()
+    ensures { LinesFollow }
+{}
+
+/// A source is accepted exactly where no line has a fault. Otherwise the first line with a fault is told, and of the reasons that hold
+/// there the first in the order of `AsmWhy`.
+pub fn law_of_faults()
+    ensures accepted { AcceptedWithoutFault }
+    ensures first { FirstFaultIsTold }
+    ensures least { LeastReasonIsTold }
+{}
 
 /// In an accepted source the value of a label is the address before its line's statement.
 #[tactic(auto, using(crate::proofs::LawLemmas::labels_are_addresses))]
