@@ -83,7 +83,7 @@ module _ (variant : Variant) (size : ℕ) (table : List (List ℕ × ℕ)) where
             parts = refl;
             number = sym (ap (λ (f : AsmFault). f.line) same) ∙ ap (λ (xs : List Placed). length xs + 1) (sym (append-nil before));
             reason =
-              ap (λ (xs : List Placed). fault_behind variant size table xs line) (append-nil before) ∙ h ∙ ap (λ (f : AsmFault). Some f.why) same;
+                ap (λ (xs : List Placed). fault_behind variant size table xs line) (append-nil before) ∙ h ∙ ap (λ (f : AsmFault). Some f.why) same;
             none_before = λ first last other e. absurd (no_front first last other e);
           }
         where
@@ -150,7 +150,7 @@ is_accepted variant source size none = by (first_fault variant size (labels (sou
 pub accepted_without_fault : AcceptedWithoutFault
 accepted_without_fault = record {
   none = λ variant source size listing e before after line split.
-    fault_at variant size (labels (source_lines variant size source)) [] before after line
-    (subst (λ (xs : List Placed). first_fault variant size (labels (source_lines variant size source)) [] xs ≡ None) split (accepted variant source size listing e).0);
+      fault_at variant size (labels (source_lines variant size source)) [] before after line
+      (subst (λ (xs : List Placed). first_fault variant size (labels (source_lines variant size source)) [] xs ≡ None) split (accepted variant source size listing e).0);
   accepted = is_accepted;
 }

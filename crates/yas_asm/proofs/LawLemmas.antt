@@ -1,11 +1,11 @@
 -- What follows from the definition of an assembled source.
-use Rattle.std.proofs.Common.{◌≡◌, ap, sym, subst, ◌∙◌, ℕ, Bool, true, false, cond, List, [], ◌∷◌, ◌++◌, length, fold, Option, None, Some, Result, Ok, Err, refl}
-use Rattle.std.specs.Prelude.{is_some, is_none, nat_le, ◌&&◌, ◌||◌}
+use Rattle.std.proofs.Common.{◌≡◌, ap, sym, subst, ◌∙◌, ℕ, Bool, true, false, cond, List, [], ◌∷◌, ◌++◌, length, fold, Option, None, Some, Result, Ok, Err, refl, inl, inr}
+use Rattle.std.specs.Prelude.{is_some, is_none, nat_le, ◌&&◌, ◌||◌, ◌⊎◌}
 use Rattle.std.specs.Str.{bytes_eq}
 use Rattle.std.proofs.lemmas.Slice.Eq.{bytes_eq-Decides}
 use Rattle.std.proofs.lemmas.Bool.{false≢true}
 use Rattle.std.proofs.lemmas.List.{append-nil, append_assoc}
-use Rattle.std.proofs.lemmas.Option.{none-some}
+use Rattle.std.proofs.lemmas.Option.{none-some, cond_some}
 use Rattle.std.proofs.lemmas.Grind.{fold-append}
 use Rattle.y86_base.specs.declared.parts.Variant.{Variant}
 use Rattle.yas_asm.specs.declared.fault.AsmWhy.{AsmWhy}
@@ -14,7 +14,7 @@ use Rattle.yas_asm.specs.declared.listing.Line.{Line}
 use Rattle.yas_asm.specs.declared.statement.Parsed.{Parsed}
 use Rattle.yas_asm.specs.Tokens.{meaning_of}
 use Rattle.yas_asm.specs.Assembly.{Placed, source_lines, labels, label_of, label_limit, with_label, with_name, assembled, assembled_with, first_fault, fault_or, listing, listing_unless, line_fault, filled, is_defined, is_past_limit}
-use Rattle.yas_asm.specs.Laws.{LabelsAreAddresses}
+use Rattle.yas_asm.specs.Laws.{LabelsAreAddresses, LabelsAreOfLines, IsLabelled}
 use Rattle.yas_asm.proofs.Parts.{not_here}
 use Rattle.yas_asm.proofs.PassLemmas.{faultless}
 
@@ -112,3 +112,57 @@ labels_are_addresses variant source size lines e before after line name split l 
     let none = subst (λ (xs : List Placed). first_fault variant size (labels (source_lines variant size source)) [] xs ≡ None) split (accepted variant source size lines e).0 in
     let here = fault_at variant size (labels (source_lines variant size source)) [] before after line none in
     rw split (rw (fold-append (λ table line. with_label table line.address (label_of line.read)) [] before (line ∷ after)) (fold-kept _ after name line.address (label_at variant size _ (labels before) _ line.address line.read name here l)))
+
+-- a look-up in a table with one more name behind finds what it found, or that name
+from_new : (table : List (List ℕ × ℕ)) (entry : List ℕ × ℕ) (name : List ℕ) (a : ℕ) → meaning_of (table ++ entry ∷ []) name ≡ Some a
+    → (meaning_of table name ≡ Some a) ⊎ ((name ≡ entry.0) × (entry.1 ≡ a))
+unfolding meaning_of
+from_new [] entry name a e =
+    let two = cond_some (bytes_eq name entry.0) entry.1 a e in
+    inr ((bytes_eq-Decides name entry.0).0 two.0, two.1)
+from_new (row ∷ table) entry name a e = by (bytes_eq name row.0) (from_new table entry name a) e
+  where
+    by : (b : Bool) → (meaning_of (table ++ entry ∷ []) name ≡ Some a → (meaning_of table name ≡ Some a) ⊎ ((name ≡ entry.0) × (entry.1 ≡ a)))
+        → cond b (Some row.1) (meaning_of (table ++ entry ∷ []) name) ≡ Some a → (cond b (Some row.1) (meaning_of table name) ≡ Some a) ⊎ ((name ≡ entry.0) × (entry.1 ≡ a))
+    by true later e = inl e
+    by false later e = later e
+
+from_label : (table : List (List ℕ × ℕ)) (address : ℕ) (label : Option (List ℕ)) (name : List ℕ) (a : ℕ) → meaning_of (with_label table address label) name ≡ Some a
+    → (meaning_of table name ≡ Some a) ⊎ ((label ≡ Some name) × (address ≡ a))
+unfolding with_name
+from_label table address None name a e = inl e
+from_label table address (Some other) name a e = by (is_some (meaning_of table other) || nat_le label_limit (length table)) e
+  where
+    named : (meaning_of table name ≡ Some a) ⊎ ((name ≡ other) × (address ≡ a)) → (meaning_of table name ≡ Some a) ⊎ ((Some other ≡ Some name) × (address ≡ a))
+    named (inl e) = inl e
+    named (inr e) = inr (ap Some (sym e.0), e.1)
+
+    by : (b : Bool) → meaning_of (cond b table (table ++ (other, address) ∷ [])) name ≡ Some a
+        → (meaning_of table name ≡ Some a) ⊎ ((Some other ≡ Some name) × (address ≡ a))
+    by true e = inl e
+    by false e = named (from_new table (other, address) name a e)
+
+from_lines : (table : List (List ℕ × ℕ)) (all : List Placed) (name : List ℕ) (a : ℕ)
+    → meaning_of (fold (λ table line. with_label table line.address (label_of line.read)) table all) name ≡ Some a
+    → (meaning_of table name ≡ Some a) ⊎ IsLabelled all name a
+from_lines table [] name a e = inl e
+from_lines table (line ∷ all) name a e =
+    later (from_lines (with_label table line.address (label_of line.read)) all name a e)
+  where
+    here : (meaning_of table name ≡ Some a) ⊎ ((label_of line.read ≡ Some name) × (line.address ≡ a)) → (meaning_of table name ≡ Some a) ⊎ IsLabelled (line ∷ all) name a
+    here (inl e) = inl e
+    here (inr e) = inr (record { before = []; line = line; after = all; parts = refl; label = e.0; at = e.1 })
+
+    later : (meaning_of (with_label table line.address (label_of line.read)) name ≡ Some a) ⊎ IsLabelled all name a
+        → (meaning_of table name ≡ Some a) ⊎ IsLabelled (line ∷ all) name a
+    later (inl e) = here (from_label table line.address (label_of line.read) name a e)
+    later (inr h) =
+        inr (record { before = line ∷ h.before; line = h.line; after = h.after; parts = ap (λ xs. line ∷ xs) h.parts; label = h.label; at = h.at })
+
+pub labels_are_of_lines : LabelsAreOfLines
+unfolding labels meaning_of
+labels_are_of_lines variant source size name a e = by (from_lines [] (source_lines variant size source) name a e)
+  where
+    by : (meaning_of [] name ≡ Some a) ⊎ IsLabelled (source_lines variant size source) name a → IsLabelled (source_lines variant size source) name a
+    by (inl e) = absurd (none-some a e)
+    by (inr h) = h

@@ -4,7 +4,7 @@ use Rattle.std.specs.Prelude.{◌⊎◌, is_some, is_none}
 use Rattle.std.proofs.Common.{inl, inr}
 use Rattle.std.proofs.lemmas.List.{append-nil, append_assoc}
 use Rattle.std.proofs.lemmas.Grind.{fold-append, flat_map-append}
-use Rattle.std.specs.List.{range_with_len, flat_map, onto_first}
+use Rattle.std.specs.List.{range_with_len, onto_first}
 use Rattle.y86_base.specs.declared.parts.Variant.{Variant}
 use Rattle.y86_base.specs.Text.{lines, is_line_feed}
 use Rattle.yas_asm.specs.Grammar.{read_line}
@@ -44,13 +44,13 @@ pub record IsFree (variant : Variant) (size : ℕ) (used : List ℕ) (address : 
   pub free : overlaps used address (width_of variant statement) ≡ false
 
 -- the tests of a line without a fault
-pub record IsFaultless (variant : Variant) (size : ℕ) (known : List (List ℕ × ℕ)) (used : List ℕ) (address : ℕ) (parsed : Parsed) : Type 0 where
+pub record IsWithoutFault (variant : Variant) (size : ℕ) (known : List (List ℕ × ℕ)) (used : List ℕ) (address : ℕ) (parsed : Parsed) : Type 0 where
   pub new_label : is_defined known parsed.label ≡ false
   pub within_limit : is_past_limit known parsed.label ≡ false
   pub emits : IsFree variant size used address parsed.statement
 
 pub faultless : (variant : Variant) (size : ℕ) (table known : List (List ℕ × ℕ)) (used : List ℕ) (address : ℕ) (parsed : Parsed)
-    → statement_fault variant size table known used address parsed ≡ None → IsFaultless variant size known used address parsed
+    → statement_fault variant size table known used address parsed ≡ None → IsWithoutFault variant size known used address parsed
 unfolding statement_fault
 faultless variant size table known used address parsed e =
     let wide = not_here (names_wide table parsed.statement) _ _ e in

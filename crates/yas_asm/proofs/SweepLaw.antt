@@ -1,11 +1,12 @@
 -- The sweep for bad bytes: what it passes, and two lines on which it is plain what it finds.
-use Rattle.std.proofs.Common.{◌≡◌, ap, sym, ◌∙◌, ℕ, zero, suc, ◌-◌, Bool, true, false, cond, List, [], ◌∷◌, ◌++◌, drop, refl, arith}
-use Rattle.std.specs.Prelude.{not, ◌||◌, ◌==◌}
-use Rattle.std.specs.List.{list_all}
+use Rattle.std.proofs.Common.{◌≡◌, ◌+◌, ◌<◌, ◌≤◌, ap, sym, ◌∙◌, ℕ, zero, suc, ◌-◌, Bool, true, false, cond, List, [], ◌∷◌, ◌++◌, length, drop, refl, arith}
+use Rattle.std.specs.Prelude.{nat_eq, not, ◌&&◌, ◌||◌, ◌==◌, codes}
+use Rattle.std.specs.List.{list_all, starts_with}
 use Rattle.std.proofs.lemmas.Bool.{false≢true}
+use Rattle.std.proofs.lemmas.Bool.Decides.{nat_tests}
 use Rattle.y86_base.proofs.Booleans.{both_true}
-use Rattle.yas_asm.specs.Comments.{comment_length, is_good, bad_outside}
-use Rattle.yas_asm.specs.Laws.{begins_no_comment, SweepPassesComments}
+use Rattle.yas_asm.specs.Comments.{close_length, comment_length, is_good, bad_outside}
+use Rattle.yas_asm.specs.Laws.{begins_no_comment, CloseIsFirst, SweepPassesComments}
 use Rattle.yas_asm.proofs.Parts.{eq_is}
 use Rattle.yas_asm.proofs.CommentLemmas.{bad_outside-comment, bad_outside-plain}
 use Rattle.yas_asm.proofs.SpacingLemmas.{no_comment}
@@ -62,3 +63,57 @@ sweep_passes_comments = record {
   good = all_good 0;
   bad = first_bad;
 }
+
+-- where a text begins with `*/`
+star_slash : (text : List ℕ) → starts_with nat_eq text (codes "*/") ≡ true → text ≡ 42 ∷ 47 ∷ drop 2 text
+star_slash [] e = absurd (false≢true e)
+star_slash (a ∷ []) e = absurd (false≢true (sym (neither (nat_eq 42 a)) ∙ e))
+  where
+    neither : (b : Bool) → (b && false) ≡ false
+    neither true = refl
+    neither false = refl
+star_slash (a ∷ b ∷ text) e =
+    let two = both_true (nat_eq 42 a) (nat_eq 47 b && true) e in
+    let next = both_true (nat_eq 47 b) true two.1 in
+    λ i. sym (eq_is 42 a two.0) i ∷ sym (eq_is 47 b next.0) i ∷ text
+
+module _ (byte : ℕ) (bytes : List ℕ) where
+  close_there : (here : Bool) (n : ℕ) → starts_with nat_eq (byte ∷ bytes) (codes "*/") ≡ here
+      → (0 < n → (2 ≤ n) × (drop (n - 2) bytes ≡ 42 ∷ 47 ∷ drop n bytes)) → 0 < cond here 2 (cond (n == 0) 0 (n + 1))
+      → (2 ≤ cond here 2 (cond (n == 0) 0 (n + 1)))
+      × (drop (cond here 2 (cond (n == 0) 0 (n + 1)) - 2) (byte ∷ bytes) ≡ 42 ∷ 47 ∷ drop (cond here 2 (cond (n == 0) 0 (n + 1))) (byte ∷ bytes))
+  close_there true n s later some = (omega arith, star_slash (byte ∷ bytes) s)
+  close_there false zero s later some = absurd (omega arith)
+  close_there false (suc n) s later some = behind (suc n == 0) (grind (arith, nat_tests)) some
+    where
+      behind : (b : Bool) → b ≡ false → 0 < cond b 0 (suc n + 1)
+          → (2 ≤ cond b 0 (suc n + 1)) × (drop (cond b 0 (suc n + 1) - 2) (byte ∷ bytes) ≡ 42 ∷ 47 ∷ drop (cond b 0 (suc n + 1)) (byte ∷ bytes))
+      behind true e some = absurd (false≢true (sym e))
+      behind false e some =
+          let h = later (omega arith) in
+          let at : suc n + 1 - 2 ≡ suc (suc n - 2) = omega (arith, h.0) in
+          let end : suc n + 1 ≡ suc (suc n) = omega arith in
+          (omega arith, ap (λ k. drop k (byte ∷ bytes)) at ∙ h.1 ∙ ap (λ k. 42 ∷ 47 ∷ drop k (byte ∷ bytes)) (sym end))
+
+  close_first : (here : Bool) (n m : ℕ) → (0 < n) × (n ≤ m + 2) → (0 < cond here 2 (cond (n == 0) 0 (n + 1))) × (cond here 2 (cond (n == 0) 0 (n + 1)) ≤ m + 3)
+  close_first true n m h = (omega arith, omega arith)
+  close_first false n m h = by (n == 0) (grind (arith, nat_tests, h.0))
+    where
+      by : (b : Bool) → b ≡ false → (0 < cond b 0 (n + 1)) × (cond b 0 (n + 1) ≤ m + 3)
+      by true e = absurd (false≢true (sym e))
+      by false e = (omega arith, omega (arith, h.1))
+
+found_there : (text : List ℕ) → 0 < close_length text → (2 ≤ close_length text) × (drop (close_length text - 2) text ≡ 42 ∷ 47 ∷ drop (close_length text) text)
+unfolding close_length
+found_there [] some = absurd (omega arith)
+found_there (byte ∷ bytes) some = close_there byte bytes (starts_with nat_eq (byte ∷ bytes) (codes "*/")) (close_length bytes) refl (found_there bytes) some
+
+found_first : (before after : List ℕ) → (0 < close_length (before ++ 42 ∷ 47 ∷ after)) × (close_length (before ++ 42 ∷ 47 ∷ after) ≤ length before + 2)
+unfolding close_length
+found_first [] after = (omega arith, omega arith)
+found_first (byte ∷ before) after =
+    let two = close_first byte (before ++ 42 ∷ 47 ∷ after) (starts_with nat_eq (byte ∷ before ++ 42 ∷ 47 ∷ after) (codes "*/")) (close_length (before ++ 42 ∷ 47 ∷ after)) (length before) (found_first before after) in
+    (two.0, omega (arith, two.1))
+
+pub close_is_first : CloseIsFirst
+close_is_first = record { there = found_there; first = found_first }

@@ -1,5 +1,6 @@
--- What a source assembles to. The address before each line follows from the lines before it; from the lines at their addresses
--- follow the labels, a map from names to addresses, and from both follow the bytes of each line and its faults.
+-- What a source assembles to: a listing like that of CS:APP 3e, figure 4.8, or its first fault. The address before each line follows from
+-- the lines before it; from the lines at their addresses follow the labels, a map from names to addresses, and from both follow the bytes
+-- of each line and its faults. What follows from these definitions in the words of a reader is in Laws.
 use Rattle.std.specs.Prelude.{ℕ, ◌+◌, ◌-◌, ◌*◌, ◌^◌, ◌%◌, Bool, false, not, ◌&&◌, ◌||◌, ◌==◌, nat_le, nat_lt, nat_eq, if◌then◌else◌, List, [], ◌∷◌, ◌++◌, length, take, fold, Option, Some, None, is_some, is_none, unwrap_or, Result, Ok, Err}
 use Rattle.std.specs.List.{list_any, range_with_len, flat_map}
 use Rattle.std.specs.Int.{to_le_bytes, w64}
@@ -57,7 +58,7 @@ pub record Placed : Type 0 where
   pub address : ℕ
   pub read : Result Parsed AsmWhy
 
--- the lines from an address on
+-- the lines from an address on, which `LinesFollow` of Laws says line by line
 unfoldable pub placed : Variant → ℕ → ℕ → List (List ℕ) → List Placed
 placed variant size address [] = []
 placed variant size address (text ∷ texts) =
@@ -181,7 +182,7 @@ abbrev pub fault_or : Option AsmWhy → ℕ → Option AsmFault → Option AsmFa
 fault_or None number later = later
 fault_or (Some why) number later = Some (record { line = number; why = why })
 
--- the first line with a fault, and its least fault; `before` are the lines before these
+-- the first line with a fault, and its least fault; `before` are the lines before these. Laws says when there is none, and what it tells
 unfoldable pub first_fault : Variant → ℕ → List (List ℕ × ℕ) → List Placed → List Placed → Option AsmFault
 first_fault variant size table before [] = None
 first_fault variant size table before (line ∷ rest) =

@@ -1,4 +1,4 @@
--- Comments of assembly text, and the bytes that may stand outside them.
+-- Comments of assembly text, and the bytes that may stand outside them. `law_of_comments` says what `close_length` and `bad_outside` come to.
 use Rattle.std.specs.Prelude.{ℕ, zero, suc, ◌+◌, ◌-◌, Bool, false, not, ◌&&◌, ◌||◌, ◌==◌, nat_le, nat_eq, if◌then◌else◌, List, [], ◌∷◌, length, drop, codes}
 use Rattle.std.specs.List.{starts_with, list_all}
 use Rattle.y86_base.specs.Text.{is_blank, behind}

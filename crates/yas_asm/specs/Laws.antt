@@ -9,9 +9,16 @@ use Rattle.yas_asm.specs.declared.statement.Parsed.{Parsed}
 use Rattle.yas_asm.specs.declared.listing.Line.{Line}
 use Rattle.y86_base.specs.Text.{lines}
 use Rattle.yas_asm.specs.Tokens.{meaning_of}
-use Rattle.yas_asm.specs.Comments.{comment_length, is_good, bad_outside}
+use Rattle.yas_asm.specs.Comments.{close_length, comment_length, is_good, bad_outside}
 use Rattle.yas_asm.specs.Grammar.{is_wide, line, read_line}
 use Rattle.yas_asm.specs.Assembly.{Placed, source_lines, width_of, place, address_after, labels, label_of, filled, names_wide, names_unknown, is_defined, is_past_limit, overlaps, fault_behind, assembled, next_multiple}
+
+-- what `close_length` finds is the first `*/`: one stands where it says, and it says none further behind than any that stands there
+pub record CloseIsFirst : Type 0 where
+  pub there :
+      (text : List ℕ) → 0 < close_length text → (2 ≤ close_length text) × (drop (close_length text - 2) text ≡ 42 ∷ 47 ∷ drop (close_length text) text)
+  pub first :
+      (before after : List ℕ) → (0 < close_length (before ++ 42 ∷ 47 ∷ after)) × (close_length (before ++ 42 ∷ 47 ∷ after) ≤ length before + 2)
 
 -- neither `#` nor `/`, with which comments begin
 abbrev pub begins_no_comment : ℕ → Bool
@@ -24,19 +31,19 @@ pub record SweepPassesComments : Type 0 where
   pub plain : (byte : ℕ) (bytes : List ℕ) → comment_length (byte ∷ bytes) ≡ 0 → bad_outside 0 (byte ∷ bytes) ≡ (not (is_good byte) || bad_outside 0 bytes)
   pub good : (text : List ℕ) → list_all is_good text ≡ true → bad_outside 0 text ≡ false
   pub bad :
-    (before after : List ℕ) (byte : ℕ) → list_all begins_no_comment before ≡ true → is_good byte ≡ false
-    → bad_outside 0 (before ++ byte ∷ after) ≡ true
+      (before after : List ℕ) (byte : ℕ) → list_all begins_no_comment before ≡ true → is_good byte ≡ false
+      → bad_outside 0 (before ++ byte ∷ after) ≡ true
 
 -- the lines of a source have its texts, each is read by itself, the first stands at address 0, and each other where the line before it leads
 pub record LinesFollow : Type 0 where
   pub texts : (variant : Variant) (source : List ℕ) (size : ℕ) → map (λ line. line.text) (source_lines variant size source) ≡ lines source
   pub reads :
-    (variant : Variant) (source : List ℕ) (size : ℕ) (before after : List Placed) (line : Placed) → source_lines variant size source ≡ before ++ line ∷ after
-    → line.read ≡ read_line variant line.text
+      (variant : Variant) (source : List ℕ) (size : ℕ) (before after : List Placed) (line : Placed) → source_lines variant size source ≡ before ++ line ∷ after
+      → line.read ≡ read_line variant line.text
   pub first : (variant : Variant) (source : List ℕ) (size : ℕ) (after : List Placed) (line : Placed) → source_lines variant size source ≡ line ∷ after → line.address ≡ 0
   pub next :
-    (variant : Variant) (source : List ℕ) (size : ℕ) (before after : List Placed) (line other : Placed) → source_lines variant size source ≡ before ++ line ∷ other ∷ after
-    → other.address ≡ address_after variant size line.address line.read
+      (variant : Variant) (source : List ℕ) (size : ℕ) (before after : List Placed) (line other : Placed) → source_lines variant size source ≡ before ++ line ∷ other ∷ after
+      → other.address ≡ address_after variant size line.address line.read
 
 -- the fault of a source's line by the labels of the whole source and by the lines before it
 abbrev pub fault_of : Variant → ℕ → List ℕ → List Placed → Placed → Option AsmWhy
@@ -115,6 +122,21 @@ LabelsAreAddresses =
     → (before after : List Placed) (line : Placed) (name : List ℕ)
     → source_lines variant size source ≡ before ++ line ∷ after → label_of line.read ≡ Some name
     → meaning_of (labels (source_lines variant size source)) name ≡ Some line.address
+
+-- a line of a source has a label, and stands at an address
+pub record IsLabelled (all : List Placed) (name : List ℕ) (address : ℕ) : Type 0 where
+  pub before : List Placed
+  pub line : Placed
+  pub after : List Placed
+  pub parts : all ≡ before ++ line ∷ after
+  pub label : label_of line.read ≡ Some name
+  pub at : line.address ≡ address
+
+-- and in every source each label with a value is that of a line, at its address
+abbrev pub LabelsAreOfLines : Type 0
+LabelsAreOfLines =
+    (variant : Variant) (source : List ℕ) (size : ℕ) (name : List ℕ) (address : ℕ)
+    → meaning_of (labels (source_lines variant size source)) name ≡ Some address → IsLabelled (source_lines variant size source) name address
 
 -- a line of a listing emits a byte at an address
 abbrev pub emits_at : Option ℕ → ℕ → ℕ → Bool

@@ -1,9 +1,10 @@
 ghost use Rattle.yas_asm.specs.Spacing.{SpacingIsFree};
-ghost use Rattle.yas_asm.specs.Laws.{AcceptedWithoutFault, AlignIsLeast, BytesHaveOneLine, FirstFaultIsTold, ImageHasLines, ImageIsZeroElsewhere, LabelsAreAddresses, LeastReasonIsTold, LinesFollow, SweepPassesComments, TextsStandThere};
+ghost use Rattle.yas_asm.specs.Laws.{AcceptedWithoutFault, AlignIsLeast, BytesHaveOneLine, CloseIsFirst, FirstFaultIsTold, ImageHasLines, ImageIsZeroElsewhere, LabelsAreAddresses, LabelsAreOfLines, LeastReasonIsTold, LinesFollow, SweepPassesComments, TextsStandThere};
 
-/// The sweep for bad bytes passes a comment as a whole and any other byte by itself.
+/// A `/*` goes to the first `*/`, and the sweep for bad bytes passes a comment as a whole and any other byte by itself.
 pub fn law_of_comments()
-    ensures { SweepPassesComments }
+    ensures close { CloseIsFirst }
+    ensures sweep { SweepPassesComments }
 {}
 
 /// The lines of a source have its texts, each is read by itself, the first stands at address 0, and each other where the line before
@@ -20,10 +21,11 @@ pub fn law_of_faults()
     ensures least { LeastReasonIsTold }
 {}
 
-/// In an accepted source the value of a label is the address before its line's statement.
-#[tactic(auto, using(crate::proofs::LawLemmas::labels_are_addresses))]
+/// In an accepted source the value of a label is the address before its line's statement. In every source a label with a value is that
+/// of a line at this address.
 pub fn law_of_labels()
-    ensures { LabelsAreAddresses }
+    ensures addresses { LabelsAreAddresses }
+    ensures lines { LabelsAreOfLines }
 {}
 
 /// In the listing of an accepted source no two lines emit a byte at one address.
