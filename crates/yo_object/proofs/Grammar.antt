@@ -7,18 +7,15 @@ use Rattle.std.proofs.lemmas.Bool.{eqb-true, lt-ltb, ltb-true}
 use Rattle.std.proofs.lemmas.Bool.Decides.{nat_tests}
 use Rattle.std.proofs.lemmas.List.{take-append-drop, append_assoc}
 use Rattle.std.proofs.lemmas.Option.{option_and_then_some}
-use Rattle.y86_base.specs.Text.{is_blank, is_hex}
-use Rattle.yo_object.specs.ObjectText.{behind, after_byte, after_prefix, is_line_end, Digits, digits_behind_colon, digits_of}
+use Rattle.y86_base.specs.Text.{is_blank, is_hex, behind}
+use Rattle.y86_base.proofs.Booleans.{both_true}
+use Rattle.yo_object.specs.ObjectText.{after_byte, after_prefix, is_line_end, Digits, digits_behind_colon, digits_of}
 use Rattle.yo_object.specs.Grammar.{IsObjectLine, BeginsObjectLine, digits_in_line, ReadsTheForm, SkipsTheRest}
 
 -- a text doesn't begin with a byte that passes
 abbrev Stops : (ℕ → Bool) → List ℕ → Type 0
 Stops passes [] = Unit {0}
 Stops passes (first ∷ rest) = passes first ≡ false
-
-both_true : (a b : Bool) → (a && b) ≡ true → (a ≡ true) × (b ≡ true)
-both_true true b h = (refl, h)
-both_true false b h = absurd (cc)
 
 step_true : (b : Bool) (n : ℕ) → b ≡ true → cond b (1 + n) 0 ≡ suc n
 step_true b n e = rw (e, one-add) refl
