@@ -119,7 +119,7 @@ is_accepted : Result (List Line) AsmFault → Bool
 is_accepted (Ok lines) = true
 is_accepted (Err fault) = false
 
-listing_ok : (fault : Option AsmFault) (lines listing : List Line) → listing_unless fault lines ≡ Ok listing → (fault ≡ None) × (lines ≡ listing)
+pub listing_ok : (fault : Option AsmFault) (lines listing : List Line) → listing_unless fault lines ≡ Ok listing → (fault ≡ None) × (lines ≡ listing)
 unfolding ok_lines is_accepted
 listing_ok None lines listing e = (refl, ap ok_lines e)
 listing_ok (Some fault) lines listing e = absurd (false≢true (ap is_accepted e))
