@@ -149,7 +149,7 @@ colon_found read text address bytes h =
         }
     at false e found = absurd (cc)
 
-form_found : (line address bytes : List ℕ) → digits_in_line line ≡ Some (record { address = address; bytes = bytes }) → IsObjectLine line address bytes
+pub form_found : (line address bytes : List ℕ) → digits_in_line line ≡ Some (record { address = address; bytes = bytes }) → IsObjectLine line address bytes
 unfolding digits_of
 form_found line address bytes h =
     option_and_then_some digits_of (after_prefix (behind is_blank line)) _ h (λ body prefix read.
@@ -182,10 +182,10 @@ form_found line address bytes h =
           comment_ends = f.ends;
         }
 
-begin_read : (line rest : List ℕ) → BeginsObjectLine line rest → after_prefix (behind is_blank line) ≡ Some rest
+pub begin_read : (line rest : List ℕ) → BeginsObjectLine line rest → after_prefix (behind is_blank line) ≡ Some rest
 begin_read line rest begins = rw (begins.text, behind-run is_blank begins.lead (48 ∷ 120 ∷ rest) begins.lead_blank refl) refl
 
-begin_found : (line rest : List ℕ) → after_prefix (behind is_blank line) ≡ Some rest → BeginsObjectLine line rest
+pub begin_found : (line rest : List ℕ) → after_prefix (behind is_blank line) ≡ Some rest → BeginsObjectLine line rest
 begin_found line rest h = record {
   lead = take_while is_blank line;
   text = run_and_rest is_blank line ∙ ap (λ x. take_while is_blank line ++ x) (after_prefix_some _ rest h);

@@ -14,13 +14,14 @@ use Rattle.y86_base.specs.Numeral.{numeral}
 use Rattle.yas_asm.specs.declared.listing.Line.{Line}
 use Rattle.yo_object.specs.declared.object.YoWhy.TheVariants.{Syntax}
 use Rattle.yo_object.specs.ObjectText.{after_prefix, digits_of, with_bytes, put_digits, put_line, put_lines}
-use Rattle.yo_object.specs.Grammar.{IsObjectLine}
+use Rattle.yo_object.specs.Grammar.{IsObjectLine, BeginsObjectLine}
 use Rattle.yo_object.specs.Printed.{hex_bytes, front, text_of, printed_line}
 use Rattle.yo_object.specs.ReadBack.{IsInside}
 use Rattle.yo_object.proofs.ListingImage.{with_bytes_at, with_line}
 use Rattle.yo_object.proofs.Bytes.{put_nothing}
+use Rattle.yo_object.proofs.LoadedLines.{line_put, line_skipped}
 use Rattle.yo_object.proofs.Texts.{text_end, text_more}
-use Rattle.yo_object.proofs.Grammar.{behind-run, form_read, list_all-append}
+use Rattle.yo_object.proofs.Grammar.{behind-run, begin_read, list_all-append}
 use Rattle.yo_object.proofs.HexDigits.{IsHexOf, numeral_is_hex, ArePairsOf, hex_bytes_are_pairs}
 
 -- lines without line feeds
@@ -81,51 +82,35 @@ form_of digits pairs trail text digits_hex some pairs_hex trail_blank = record {
   comment_ends = refl;
 }
 
--- a line of the form is read as its digits
-put_form : (memory line address bytes : List ℕ) → IsObjectLine line address bytes →
-    put_line memory line ≡ put_digits memory (record { address = address; bytes = bytes })
-unfolding put_line
-put_form memory line address bytes form = by (after_prefix (behind is_blank line)) (form_read line address bytes form)
+-- a line without an address is skipped
+blanks_skipped : (bytes text rest : List ℕ) → BeginsObjectLine (front None bytes ++ (codes " | " ++ text)) rest → ⊥
+unfolding front
+blanks_skipped bytes text rest begins = no (sym (begin_read _ rest begins) ∙ ap after_prefix (behind-run is_blank (replicate 28 32) (124 ∷ 32 ∷ text) refl refl))
   where
-    by : (p : Option (List ℕ)) → option_and_then digits_of p ≡ Some (record { address = address; bytes = bytes }) →
-        option_map_or (λ text. option_map_or (put_digits memory) (digits_of text) (Err Syntax)) p (Ok memory) ≡ put_digits memory (record { address = address; bytes = bytes })
-    by None e = absurd (cc)
-    by (Some text) e = rw e refl
-
-not_both : (a b : Bool) → (a ≡ true → b ≡ false) → (a && b) ≡ false
-not_both true b h = h refl
-not_both false b h = refl
-
--- and puts its bytes at its address
-put_bytes : (memory digits pairs bytes : List ℕ) (address : ℕ) → IsHexOf 3 16 address digits → ArePairsOf bytes pairs →
-    (0 < length bytes → address + length bytes ≤ length memory) →
-    put_digits memory (record { address = digits; bytes = pairs }) ≡ Ok (with_bytes memory address bytes)
-unfolding put_digits
-put_bytes memory digits pairs bytes address hex two inside =
-    let wide : nat_lt 16 (length digits) ≡ false = le-ltb 16 (length digits) hex.few in
-    let odd : eqb (length pairs % 2) 1 ≡ false = ne_eqb (length pairs % 2) 1 (λ e. omega (arith, two.double)) in
-    let outside : (nat_lt 0 (length pairs) && nat_lt (length memory) (digits_value 16 digits + length pairs / 2)) ≡ false =
-    not_both _ _ (λ e. le-ltb (length memory) _ (let some : 0 < length pairs = ltb-true 0 (length pairs) e in omega (arith, hex.number, two.double, inside))) in
-    rw (wide, odd, outside) (λ i. Ok (with_bytes memory (hex.number i) (two.bytes_are i)))
-
-put_blanks : (memory bytes text : List ℕ) → put_line memory (front None bytes ++ (codes " | " ++ text)) ≡ Ok memory
-unfolding put_line front
-put_blanks memory bytes text =
-    let e : behind is_blank (replicate 28 32 ++ (124 ∷ 32 ∷ text)) ≡ 124 ∷ 32 ∷ text = behind-run is_blank (replicate 28 32) (124 ∷ 32 ∷ text) refl refl in
-    ap (λ t. option_map_or (λ text. option_map_or (put_digits memory) (digits_of text) (Err Syntax)) (after_prefix t) (Ok memory)) e
+    no : Some rest ≡ None → ⊥
+    no e = cc
 
 -- a printed line puts its bytes at its address
 put_at : (memory bytes text : List ℕ) (addr : Option ℕ) → AreBytes bytes → IfSome addr (λ a. a < 16 ^ 16) →
     IfSome addr (λ a. 0 < length bytes → a + length bytes ≤ length memory) →
     put_line memory (front addr bytes ++ (codes " | " ++ text)) ≡ Ok (with_bytes_at memory addr bytes)
 unfolding front
-put_at memory bytes text None small narrow inside = put_blanks memory bytes text
+put_at memory bytes text None small narrow inside = line_skipped memory _ (blanks_skipped bytes text)
 put_at memory bytes text (Some a) small narrow inside =
     let hex = numeral_is_hex 3 15 a (omega arith) (omega arith) narrow (omega (arith, narrow)) in
     let two = hex_bytes_are_pairs bytes small in
-    put_form memory _ (numeral 16 3 a) (hex_bytes bytes)
-    (form_of (numeral 16 3 a) (hex_bytes bytes) (replicate (20 - length (hex_bytes bytes)) 32) text hex.hex (omega (arith, hex.wide)) two.hex (blanks_blank (20 - length (hex_bytes bytes))))
-    ∙ put_bytes memory (numeral 16 3 a) (hex_bytes bytes) bytes a hex two inside
+    line_put (length memory) memory _ (record {
+      address = a;
+      bytes = bytes;
+      digits = numeral 16 3 a;
+      pairs = hex_bytes bytes;
+      form = form_of (numeral 16 3 a) (hex_bytes bytes) (replicate (20 - length (hex_bytes bytes)) 32) text hex.hex (omega (arith, hex.wide)) two.hex (blanks_blank (20 - length (hex_bytes bytes)));
+      narrow = hex.few;
+      number = hex.number;
+      written = two.bytes_are;
+      double = two.double;
+      inside = inside;
+    }) refl
 
 -- what stands in front of a line's text is no line feed
 front_plain : (bytes : List ℕ) (addr : Option ℕ) → AreBytes bytes → IfSome addr (λ a. a < 16 ^ 16) → list_all is_plain (front addr bytes) ≡ true
