@@ -1,6 +1,6 @@
 -- The lines of an accepted source don't overlap, and their bytes are inside the size for which it was assembled.
-use Rattle.std.proofs.Common.{◌≡◌, ◌⊎◌, ℕ, suc, ◌+◌, ◌-◌, ◌<◌, ◌≤◌, Bool, true, false, List, [], ◌∷◌, ◌++◌, length, take, drop, replicate, get_or, All, IfSome, Option, Some, None, Result, Ok, Err, refl, ap, sym, subst, ◌∙◌, inl, inr, arith, drop-cons}
-use Rattle.std.specs.Prelude.{is_some, nat_le, nat_lt, ◌&&◌, slice_index}
+use Rattle.std.proofs.Common.{◌≡◌, ◌⊎◌, ℕ, suc, ◌+◌, ◌-◌, ◌<◌, ◌≤◌, true, List, [], ◌∷◌, ◌++◌, length, take, drop, replicate, get_or, All, IfSome, Option, Some, None, Result, Ok, Err, refl, ap, sym, subst, ◌∙◌, inl, inr, arith, drop-cons}
+use Rattle.std.specs.Prelude.{is_some, slice_index}
 use Rattle.std.proofs.lemmas.Bool.{cases_lt, le-leb, lt-ltb}
 use Rattle.std.proofs.lemmas.List.{take-append-drop}
 use Rattle.std.proofs.lemmas.List.Elements.{All-nil, All-cons}
@@ -11,7 +11,7 @@ use Rattle.yas_asm.specs.declared.statement.Statement.{Statement}
 use Rattle.yas_asm.specs.declared.statement.Statement.TheVariants as statements
 use Rattle.yas_asm.specs.declared.statement.Parsed.{Parsed}
 use Rattle.yas_asm.specs.Assembly.{Placed, place, destination, width_of, source_lines, labels, bytes_at, shown_at, line_fault, first_fault, listed, listing, assembled}
-use Rattle.yas_asm.specs.Laws.{image, emits}
+use Rattle.yas_asm.specs.Laws.{emits}
 use Rattle.yas_asm.proofs.SoundLemmas.{within}
 use Rattle.yas_asm.proofs.LawLemmas.{accepted, no_fault, faultless}
 use Rattle.yas_asm.proofs.ByteLemmas.{emits-listed, bytes_have_one_line}

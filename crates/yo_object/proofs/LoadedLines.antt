@@ -1,5 +1,5 @@
 -- What the definition of object text says of a line: it is skipped, it puts its bytes, or it has a fault.
-use Rattle.std.proofs.Common.{◌≡◌, ◌⊎◌, ℕ, ◌+◌, ◌*◌, ◌/◌, ◌%◌, ◌<◌, ◌≤◌, Bool, true, false, cond, ◌&&◌, nat_lt, eqb, List, length, Option, Some, None, Result, Ok, Err, refl, ap, sym, subst, ◌∙◌, inl, inr, arith, le-ltb, ltb-true, ltb-false, ne_eqb}
+use Rattle.std.proofs.Common.{◌≡◌, ◌⊎◌, ℕ, ◌+◌, ◌/◌, ◌%◌, ◌<◌, ◌≤◌, Bool, true, false, cond, ◌&&◌, nat_lt, eqb, List, length, Option, Some, None, Result, Ok, Err, refl, ap, sym, subst, ◌∙◌, inl, inr, arith, le-ltb, ltb-true, ltb-false, ne_eqb}
 use Rattle.std.specs.Prelude.{option_and_then}
 use Rattle.std.specs.Option.{option_map_or}
 use Rattle.std.specs.Str.Parse.{digits_value}
@@ -79,18 +79,21 @@ of_the_form : (memory line : List ℕ) (digits : Digits) (put : Result (List ℕ
 of_the_form memory line digits (Err why) form said = inr (digits.address, digits.bytes, form, said)
 of_the_form memory line digits (Ok after) form said =
     let count : length (bytes_of_pairs digits.bytes) ≡ length digits.bytes / 2 = pairs_length digits.bytes in
-    inr (record {
-      address = digits_value 16 digits.address;
-      bytes = bytes_of_pairs digits.bytes;
-      digits = digits.address;
-      pairs = digits.bytes;
-      form = form;
-      narrow = said.narrow;
-      number = refl;
-      written = refl;
-      double = omega (arith, count, said.even);
-      inside = λ some. omega (arith, count, said.inside (omega (arith, count)));
-    }, said.after_is)
+    inr (
+      record {
+        address = digits_value 16 digits.address;
+        bytes = bytes_of_pairs digits.bytes;
+        digits = digits.address;
+        pairs = digits.bytes;
+        form = form;
+        narrow = said.narrow;
+        number = refl;
+        written = refl;
+        double = omega (arith, count, said.even);
+        inside = λ some. omega (arith, count, said.inside (omega (arith, count)));
+      },
+      said.after_is,
+    )
 
 say_line : (memory line : List ℕ) → SayLine memory line (put_line memory line)
 unfolding put_line
@@ -98,11 +101,14 @@ say_line memory line = by (after_prefix (behind is_blank line)) refl
   where
     read : (text : List ℕ) (found : Option Digits) → after_prefix (behind is_blank line) ≡ Some text → digits_of text ≡ found →
         SayLine memory line (option_map_or (put_digits memory) found (Err Syntax))
-    read text None e f = inl (refl, record {
-      rest = text;
-      begins = begin_found line text e;
-      formless = λ digits pairs form. no_digits _ (sym (ap (option_and_then digits_of) e ∙ f) ∙ form_read line digits pairs form);
-    })
+    read text None e f = inl (
+      refl,
+      record {
+        rest = text;
+        begins = begin_found line text e;
+        formless = λ digits pairs form. no_digits _ (sym (ap (option_and_then digits_of) e ∙ f) ∙ form_read line digits pairs form);
+      },
+    )
     read text (Some digits) e f =
         of_the_form memory line digits (put_digits memory digits) (form_found line digits.address digits.bytes (ap (option_and_then digits_of) e ∙ f)) (say_digits memory digits)
 

@@ -1,11 +1,11 @@
 -- What a load leaves, line after line.
-use Rattle.std.proofs.Common.{◌≡◌, ◌⊎◌, ℕ, ◌+◌, ◌<◌, ◌≤◌, List, [], ◌∷◌, ◌++◌, length, get_or, replicate, All, Some, Result, Ok, Err, refl, ap, sym, subst, ◌∙◌, inl, inr, arith}
+use Rattle.std.proofs.Common.{◌≡◌, ℕ, ◌+◌, ◌<◌, ◌≤◌, List, [], ◌∷◌, ◌++◌, length, get_or, replicate, All, Some, Result, Ok, Err, refl, ap, sym, subst, ◌∙◌, inl, inr, arith}
 use Rattle.std.proofs.lemmas.List.{length-replicate}
 use Rattle.std.proofs.lemmas.List.Elements.{All-nil, All-cons, All-head, All-tail}
 use Rattle.y86_base.specs.Text.{lines}
 use Rattle.yo_object.specs.declared.object.YoWhy.{YoWhy}
 use Rattle.yo_object.specs.declared.object.YoFault.{YoFault}
-use Rattle.yo_object.specs.ObjectText.{with_bytes, after_line, put_line, put_lines, object_of}
+use Rattle.yo_object.specs.ObjectText.{with_bytes, after_line, put_line, put_lines}
 use Rattle.yo_object.specs.LoadedText.{Puts, IsGood, HasFault, PutsNoneAt, IsFirstFault, AcceptsGoodLines, RefusesFirstFault, HasItsSize, LastLineWins, IsZeroWithoutLine}
 use Rattle.yo_object.proofs.Texts.{text_start, text_end, text_more}
 use Rattle.yo_object.proofs.LoadedLines.{IsPut, is_put, is_faulty, line_put, line_skipped}
@@ -155,9 +155,9 @@ refuses_first_fault text size fault e = refused size 1 (replicate size 0) (lines
 
 pub accepts_good_lines : AcceptsGoodLines
 accepts_good_lines text size = (
-    (λ accepted_. (accepted size 1 (replicate size 0) accepted_.0 (lines text) (starts size) (text_start text size ∙ accepted_.1)).good),
-    (λ good. let put = all_put size 1 (replicate size 0) (lines text) (starts size) good in (put.0, sym (text_start text size) ∙ put.1)),
-  )
+  (λ accepted_. (accepted size 1 (replicate size 0) accepted_.0 (lines text) (starts size) (text_start text size ∙ accepted_.1)).good),
+  (λ good. let put = all_put size 1 (replicate size 0) (lines text) (starts size) good in (put.0, sym (text_start text size) ∙ put.1)),
+)
 
 pub has_its_size : HasItsSize
 has_its_size text size image e = (accepted size 1 (replicate size 0) image (lines text) (starts size) (text_start text size ∙ e)).long

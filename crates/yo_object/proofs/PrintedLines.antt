@@ -1,19 +1,15 @@
 -- A printed line is read as its address and its bytes, and the printed lines are the lines of the text.
-use Rattle.std.proofs.Common.{◌≡◌, ℕ, zero, suc, ◌+◌, ◌-◌, ◌/◌, ◌%◌, ◌^◌, ◌<◌, ◌≤◌, Bool, true, false, not, ◌&&◌, nat_lt, eqb, List, [], ◌∷◌, ◌++◌, length, codes, take, drop, fold, replicate, All, IfSome, Option, Some, None, Ok, Err, refl, ap, sym, subst, ◌∙◌, arith, append_assoc, length-append, length-take, length-drop, le-ltb, ltb-true, ne_eqb}
-use Rattle.std.specs.Prelude.{option_and_then}
+use Rattle.std.proofs.Common.{◌≡◌, ℕ, zero, suc, ◌+◌, ◌-◌, ◌^◌, ◌<◌, ◌≤◌, Bool, true, false, not, List, [], ◌∷◌, ◌++◌, length, codes, take, drop, fold, replicate, All, IfSome, Option, Some, None, Ok, refl, ap, sym, subst, ◌∙◌, arith, append_assoc, length-append, length-take, length-drop}
 use Rattle.std.specs.List.{list_all, flat_map}
-use Rattle.std.specs.Option.{option_map_or}
-use Rattle.std.specs.Str.Parse.{digits_value}
 use Rattle.std.proofs.lemmas.Bool.{false≢true}
 use Rattle.std.proofs.lemmas.Bool.Decides.{nat_tests}
 use Rattle.std.proofs.lemmas.List.Elements.{All-head, All-tail}
 use Rattle.y86_base.specs.Image.{AreBytes}
-use Rattle.y86_base.specs.Text.{is_blank, is_hex, is_line_feed, behind, lines}
+use Rattle.y86_base.specs.Text.{is_blank, is_hex, is_line_feed, lines}
 use Rattle.y86_base.proofs.Booleans.{both_true}
 use Rattle.y86_base.specs.Numeral.{numeral}
 use Rattle.yas_asm.specs.declared.listing.Line.{Line}
-use Rattle.yo_object.specs.declared.object.YoWhy.TheVariants.{Syntax}
-use Rattle.yo_object.specs.ObjectText.{after_prefix, digits_of, with_bytes, put_digits, put_line, put_lines}
+use Rattle.yo_object.specs.ObjectText.{after_prefix, put_line, put_lines}
 use Rattle.yo_object.specs.Grammar.{IsObjectLine, BeginsObjectLine}
 use Rattle.yo_object.specs.Printed.{hex_bytes, front, text_of, printed_line}
 use Rattle.yo_object.specs.ReadBack.{IsInside}
@@ -22,7 +18,7 @@ use Rattle.yo_object.proofs.Bytes.{put_nothing}
 use Rattle.yo_object.proofs.LoadedLines.{line_put, line_skipped}
 use Rattle.yo_object.proofs.Texts.{text_end, text_more}
 use Rattle.yo_object.proofs.Grammar.{behind-run, begin_read, list_all-append}
-use Rattle.yo_object.proofs.HexDigits.{IsHexOf, numeral_is_hex, ArePairsOf, hex_bytes_are_pairs}
+use Rattle.yo_object.proofs.HexDigits.{numeral_is_hex, hex_bytes_are_pairs}
 
 -- lines without line feeds
 

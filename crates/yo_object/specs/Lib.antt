@@ -5,3 +5,4 @@ pub mod Grammar
 pub mod LoadedText
 pub mod Printed
 pub mod ReadBack
+pub mod Reasons
