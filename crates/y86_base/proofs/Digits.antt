@@ -49,5 +49,5 @@ padded bytes text size at least within long fits behind before =
     let whole : bytes ≡ replicate at 48 ++ text = sym (take-append-drop at bytes) ∙ (λ i. front i ++ behind i) in
     let size_of : length text ≡ size - at = sym (ap length behind) ∙ length-drop at bytes ∙ ap (λ n. n - at) long in
     let width : at - start ≡ least - length text = omega arith in
-    ap (drop start) whole ∙ drop-append-le start (replicate at 48) text inside ∙ ap (λ xs. xs ++ text) (drop-replicate start at 48)
+    ap (drop start) {x = bytes} {y = replicate at 48 ++ text} whole ∙ drop-append-le start (replicate at 48) text inside ∙ ap (λ xs. xs ++ text) {x = drop start (replicate at 48)} {y = replicate (at - start) 48} (drop-replicate start at 48)
     ∙ ap (λ n. replicate n 48 ++ text) width

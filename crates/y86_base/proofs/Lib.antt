@@ -1,4 +1,5 @@
 pub mod Booleans
 pub mod Lines
+pub mod Places
 pub mod Digits
 pub mod Numerals

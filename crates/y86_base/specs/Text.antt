@@ -1,5 +1,5 @@
 -- The words that all texts share: blanks, digits, numbers and lines.
-use Rattle.std.specs.Prelude.{ℕ, ◌-◌, ◌^◌, Bool, ◌&&◌, ◌||◌, nat_le, nat_lt, ◌==◌, if◌then◌else◌, List, [], ◌∷◌, drop, Option, Some, None}
+use Rattle.std.specs.Prelude.{◌≡◌, ℕ, ◌-◌, ◌^◌, Bool, false, ◌&&◌, ◌||◌, nat_le, nat_lt, ◌==◌, if◌then◌else◌, All, List, [], ◌∷◌, ◌++◌, drop, Option, Some, None}
 use Rattle.std.specs.List.{onto_first, prefix_len}
 
 -- a space, a tab or a carriage return
@@ -37,7 +37,17 @@ behind passes text = drop (prefix_len passes text) text
 abbrev pub below_word : ℕ → Option ℕ
 below_word n = if nat_lt n (2 ^ 64) then Some n else None
 
+-- a text without a line feed
+abbrev pub HasNoLineFeed : List ℕ → Type 0
+HasNoLineFeed text = All (λ byte. is_line_feed byte ≡ false) text
+
+-- the text of some lines, each with a line feed behind it
+abbrev pub with_line_feeds : List (List ℕ) → List ℕ
+with_line_feeds [] = []
+with_line_feeds (line ∷ lines) = line ++ (10 ∷ with_line_feeds lines)
+
 -- the lines of a text: each ends at a line feed or at the end of the text, and behind a last line feed stands none
+-- (`law_of_lines`)
 abbrev pub lines : List ℕ → List (List ℕ)
 lines [] = []
 lines (byte ∷ bytes) = if is_line_feed byte then [] ∷ lines bytes else onto_first byte (lines bytes)

@@ -5,6 +5,7 @@
 mod cursor;
 mod image;
 mod items;
+mod laws;
 mod numeral;
 mod parts;
 mod registers;
@@ -15,6 +16,7 @@ mod text;
 pub use cursor::Cursor;
 pub use image::{Image, ImageFault};
 pub use items::Items;
+pub use laws::{law_of_digits, law_of_lines, law_of_numerals, law_of_places};
 pub use numeral::Numeral;
 pub use parts::{Flags, Memory, Stat, Variant};
 pub use registers::Regs;

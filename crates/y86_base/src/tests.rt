@@ -1,4 +1,6 @@
-use crate::{Cursor, Image, ImageFault, Items, Numeral, first_line};
+use crate::{
+    Cursor, Image, ImageFault, Items, Numeral, after_blanks, first_line, number_in_base, split_hex,
+};
 use std::test::Fail;
 
 #[test]
@@ -114,5 +116,50 @@ fn texts(rt: HostRuntime) -> Result<(), Fail> {
     items.items_mut()[1] = 9;
     assert!(rt; items == same);
     assert_eq!(rt; items.items(), same.into_vec().as_slice());
+    Ok(())
+}
+
+#[test]
+fn fronts_and_numbers(rt: HostRuntime) -> Result<(), Fail> {
+    // The base and the digits, and the number.
+    static NUMBERS: [(u64, &str, Option<u64>); 13] = [
+        (10, "", Some(0)),
+        (16, "", Some(0)),
+        (10, "0", Some(0)),
+        (10, "00907", Some(907)),
+        (10, "18446744073709551615", Some(u64::MAX)),
+        (10, "18446744073709551616", None),
+        (10, "99999999999999999999999", None),
+        (16, "fFfFfFfFfFfFfFfF", Some(u64::MAX)),
+        (16, "10000000000000000", None),
+        (16, "100000000000000000000", None),
+        (16, "00000000000000000a0", Some(160)),
+        (2, "101", Some(5)),
+        (36, "zz", Some(1295)),
+    ];
+    for (base, digits, number) in &NUMBERS {
+        assert!(rt;
+            number_in_base(*base, digits.as_bytes()) == *number,
+            "{digits}"
+        );
+    }
+
+    // A text, what stands behind its blanks, the hex digits at its front, and what stands behind them.
+    static FRONTS: [(&str, &str, &str, &str); 6] = [
+        ("", "", "", ""),
+        (" \t\r", "", "", " \t\r"),
+        (" \t\r\n a", "\n a", "", " \t\r\n a"),
+        ("09afAF", "09afAF", "09afAF", ""),
+        ("0g1", "0g1", "0", "g1"),
+        ("@`:/G 1", "@`:/G 1", "", "@`:/G 1"),
+    ];
+    for (text, behind, digits, rest) in &FRONTS {
+        let text = text.as_bytes();
+        assert!(rt; after_blanks(text) == behind.as_bytes(), "{behind}");
+        assert!(rt;
+            split_hex(text) == (digits.as_bytes(), rest.as_bytes()),
+            "{rest}"
+        );
+    }
     Ok(())
 }

@@ -9,5 +9,5 @@ loop-digit-preserved c =
     let base = c.args.base in
     let before = digits_value base (take c.loop-digit.digit-index c.args.digits.now) in
     c.with_digit-value.ensures before c.loop-digit.invariant
-      ∙ ap (λ digit. below_word (before * base + digit)) c.value_of_digit.ensures
-      ∙ ap below_word (sym (digits_value_more base c.args.digits.now c.loop-digit.digit-index c.loop-digit-test.true))
+    ∙ ap (λ digit. below_word (before * base + digit)) c.value_of_digit.ensures
+    ∙ ap below_word (sym (digits_value_more base c.args.digits.now c.loop-digit.digit-index c.loop-digit-test.true))

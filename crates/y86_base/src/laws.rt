@@ -1,0 +1,49 @@
+//! Theorems about the definitions of texts. Each is a function that does nothing and whose contract is the theorem.
+ghost use Rattle.std.specs.Prelude.{◌≡◌, ◌≢◌, ◌⊎◌, ℕ, ◌+◌, ◌^◌, ◌<◌, ◌≤◌, ◌↔◌, ◌||◌, true, max, All, List, [], ◌∷◌, ◌++◌, length, slice_get, Some};
+ghost use Rattle.std.specs.Char.{digit_value};
+ghost use Rattle.std.specs.Str.Parse.{IsNumeral, digits_value};
+ghost use Rattle.y86_base.specs.Cursor.{column_behind, line_behind};
+ghost use Rattle.y86_base.specs.Numeral.{numeral};
+ghost use Rattle.y86_base.specs.Text.{HasNoLineFeed, hex_value, is_decimal, is_hex, is_lower_hex, lines, with_line_feeds};
+
+/// No line has a line feed, and the lines with a line feed behind each are the text again, but perhaps for one
+/// more at its end. Some lines with a line feed behind each are the lines of their text, also with a last line
+/// behind them that isn't empty and has no line feed of its own.
+pub fn law_of_lines()
+    ensures no_line_feed { (text : List ℕ) → All HasNoLineFeed (lines text) }
+    ensures again { (text : List ℕ) →
+        (with_line_feeds (lines text) ≡ text) ⊎ (with_line_feeds (lines text) ≡ text ++ 10 ∷ []) }
+    ensures ended { (some : List (List ℕ)) → All HasNoLineFeed some → lines (with_line_feeds some) ≡ some }
+    ensures last { (some : List (List ℕ)) (last : List ℕ) → All HasNoLineFeed some → HasNoLineFeed last →
+        0 < length last → lines (with_line_feeds some ++ last) ≡ some ++ last ∷ [] }
+{}
+
+/// The line of a place is one more than the line feeds before it. Its column is one more than the bytes since the
+/// last of them, or since the beginning where there is none.
+pub fn law_of_places()
+    ensures first_line { (done : List ℕ) → HasNoLineFeed done →
+        (line_behind done ≡ 1) × (column_behind done ≡ length done + 1) }
+    ensures later_line { (before since : List ℕ) → HasNoLineFeed since →
+        (line_behind (before ++ 10 ∷ since) ≡ line_behind before + 1)
+        × (column_behind (before ++ 10 ∷ since) ≡ length since + 1) }
+{}
+
+/// The digits are those that the standard library reads, with their values.
+pub fn law_of_digits()
+    ensures decimal { (byte : ℕ) → (is_decimal byte ≡ true) ↔ (digit_value byte < 10) }
+    ensures hex { (byte : ℕ) → (is_hex byte ≡ true) ↔ (digit_value byte < 16) }
+    ensures value { (byte : ℕ) → is_hex byte ≡ true → hex_value byte ≡ digit_value byte }
+{}
+
+/// The text of a number is a numeral of its base in lower case, which has its value and its least width. Where it
+/// is wider, it doesn't begin with `0`.
+pub fn law_of_numerals()
+    ensures numeral { (base least n : ℕ) → 2 ≤ base → base ≤ 16 → n < 2 ^ 64 → IsNumeral base (numeral base least n) }
+    ensures lower_case { (base least n : ℕ) → 2 ≤ base → base ≤ 16 → n < 2 ^ 64 →
+        All (λ digit. (is_decimal digit || is_lower_hex digit) ≡ true) (numeral base least n) }
+    ensures value { (base least n : ℕ) → 2 ≤ base → base ≤ 16 → n < 2 ^ 64 →
+        digits_value base (numeral base least n) ≡ n }
+    ensures width { (base least n : ℕ) → least ≤ length (numeral base least n) }
+    ensures no_wider { (base least n : ℕ) → 2 ≤ base → base ≤ 16 → n < 2 ^ 64 →
+        max least 1 < length (numeral base least n) → slice_get (numeral base least n) 0 ≢ Some 48 }
+{}
