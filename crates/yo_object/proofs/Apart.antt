@@ -13,7 +13,8 @@ use Rattle.yas_asm.specs.declared.statement.Parsed.{Parsed}
 use Rattle.yas_asm.specs.Assembly.{Placed, place, destination, width_of, source_lines, labels, bytes_at, shown_at, line_fault, first_fault, listed, listing, assembled}
 use Rattle.yas_asm.specs.Laws.{emits}
 use Rattle.yas_asm.proofs.SoundLemmas.{within}
-use Rattle.yas_asm.proofs.LawLemmas.{accepted, no_fault, faultless}
+use Rattle.yas_asm.proofs.LawLemmas.{accepted, no_fault}
+use Rattle.yas_asm.proofs.PassLemmas.{free_without_fault}
 use Rattle.yas_asm.proofs.ByteLemmas.{emits-listed, bytes_have_one_line}
 use Rattle.yo_object.proofs.ListingImage.{image_same}
 use Rattle.yo_object.specs.ReadBack.{IsInside, IsAddressed, EmitsAtAddresses, Misses, FitsItsSize, HasItsBytes}
@@ -88,7 +89,7 @@ unfolding line_fault
 emitted_inside variant size table known used from to address (Err why) e = absurd (no_why why e)
 emitted_inside variant size table known used from to address (Ok parsed) e =
     let line : Line = listed variant size table from to address (Ok parsed) in
-    let tests = faultless variant size table known used address parsed e in
+    let tests = free_without_fault variant size table known used address parsed e in
     inside_at line.addr (length line.bytes.items) size (λ first at some.
     let last : ℕ = first + length line.bytes.items - 1 in
     let two = emits-listed variant size table from to address last parsed (emits_its line first last at (omega arith) (omega arith)) in
