@@ -1,12 +1,13 @@
 -- The bytes of an accepted source: each belongs to one line, and the image has them.
 use Rattle.std.proofs.Common.{◌≡◌, ◌+◌, ◌<◌, ◌≤◌, ap, sym, subst, ◌∙◌, ℕ, zero, suc, Bool, true, false, List, [], ◌∷◌, ◌++◌, length, take, Option, None, Some, Result, Ok, Err, refl, arith}
-use Rattle.std.specs.Prelude.{nat_eq, nat_le, nat_lt, ◌&&◌, ◌||◌}
+use Rattle.std.specs.Prelude.{nat_eq, nat_le, nat_lt, ◌||◌}
 use Rattle.std.specs.List.{list_any, range_with_len}
 use Rattle.std.specs.Int.{to_le_bytes, w64}
 use Rattle.std.proofs.lemmas.Bool.{false≢true}
 use Rattle.std.proofs.lemmas.Bool.Decides.{nat_tests}
 use Rattle.y86_base.specs.declared.parts.Variant.{Variant}
 use Rattle.y86_base.specs.declared.parts.Variant.TheVariants.{Base}
+use Rattle.y86_base.proofs.Booleans.{both_true, both_false}
 use Rattle.y86_isa.specs.Table.{row}
 use Rattle.y86_isa.specs.Encoding.{encoded}
 use Rattle.y86_isa.proofs.ReadBack.{length-encoded}
@@ -20,22 +21,14 @@ use Rattle.yas_asm.specs.declared.statement.Parsed.{Parsed}
 use Rattle.yas_asm.specs.Grammar.{bytes_of}
 use Rattle.yas_asm.specs.Assembly.{Placed, source_lines, labels, first_fault, listing, listed, line_fault, filled, addresses, emitted, place, overlaps, width_of, bytes_at, shown_at, value_of}
 use Rattle.yas_asm.specs.Laws.{emits_at, emits, BytesHaveOneLine}
-use Rattle.yas_asm.proofs.LawLemmas.{fault_at, accepted, faultless}
-
-and_two : (a b : Bool) → (a && b) ≡ true → (a ≡ true) × (b ≡ true)
-and_two true b e = (refl, e)
-and_two false b e = absurd (false≢true e)
-
-at_most : (n m : ℕ) → nat_le n m ≡ true → n ≤ m
-at_most n m e = grind (arith, nat_tests)
-
-below : (n m : ℕ) → nat_lt n m ≡ true → n < m
-below n m e = grind (arith, nat_tests)
+use Rattle.yas_asm.proofs.Parts.{head_is, tail_is, no_cons, at_most, below, eq_is}
+use Rattle.yas_asm.proofs.PassLemmas.{faultless}
+use Rattle.yas_asm.proofs.LawLemmas.{fault_at, accepted}
 
 -- where a line emits
 pub emits_within : (first count a : ℕ) → emits_at (Some first) count a ≡ true → (first ≤ a) × (a < first + count)
 emits_within first count a e =
-    let two = and_two (nat_le first a) (nat_lt a (first + count)) e in
+    let two = both_true (nat_le first a) (nat_lt a (first + count)) e in
     (at_most first a two.0, below a (first + count) two.1)
 
 emits_none : (addr : Option ℕ) (a : ℕ) → emits_at addr 0 a ≡ true → ⊥
@@ -84,21 +77,11 @@ apart used address zero a o u h k = omega arith
 apart used address (suc n) a o u h k =
     by (nat_eq a address) refl o (λ (p : overlaps used (address + 1) n ≡ false) (l : address + 1 ≤ a). apart used (address + 1) n a p u l (omega arith))
   where
-    same : (x y : ℕ) → nat_eq x y ≡ true → x ≡ y
-    same x y e = grind (arith, nat_tests)
-
     by : (b : Bool) → nat_eq a address ≡ b → (list_any (nat_eq address) used || overlaps used (address + 1) n) ≡ false
         → (overlaps used (address + 1) n ≡ false → address + 1 ≤ a → ⊥) → ⊥
-    by true t o later = no (list_any (nat_eq address) used) (subst (λ (x : ℕ). list_any (nat_eq x) used ≡ true) (same a address t) u) o
-      where
-        no : (b : Bool) → b ≡ true → (b || overlaps used (address + 1) n) ≡ false → ⊥
-        no true e o = false≢true (sym o)
-        no false e o = false≢true e
-    by false t o later = later (rest (list_any (nat_eq address) used) o) (grind (arith, nat_tests))
-      where
-        rest : (b : Bool) → (b || overlaps used (address + 1) n) ≡ false → overlaps used (address + 1) n ≡ false
-        rest true o = absurd (false≢true (sym o))
-        rest false o = o
+    by true t o later =
+        false≢true (sym (both_false _ _ o).0 ∙ subst (λ (x : ℕ). list_any (nat_eq x) used ≡ true) (eq_is a address t) u)
+    by false t o later = later (both_false _ _ o).1 (grind (arith, nat_tests))
 
 any_left : (test : ℕ → Bool) (xs ys : List ℕ) → list_any test xs ≡ true → list_any test (xs ++ ys) ≡ true
 any_left test [] ys e = absurd (false≢true e)
@@ -123,15 +106,6 @@ unfolding filled
 filled-has variant size a [] between line e = any_left (nat_eq a) _ _ e
 filled-has variant size a (other ∷ before) between line e =
     any_right (nat_eq a) (addresses variant size other.address other.read) _ (filled-has variant size a before between line e)
-
-head_is : {A : Type 0} (x y : A) (xs ys : List A) → x ∷ xs ≡ y ∷ ys → x ≡ y
-head_is x y xs ys e = cc
-
-tail_is : {A : Type 0} (x y : A) (xs ys : List A) → x ∷ xs ≡ y ∷ ys → xs ≡ ys
-tail_is x y xs ys e = cc
-
-no_cons : {A : Type 0} (x : A) (xs : List A) → [] ≡ x ∷ xs → ⊥
-no_cons x xs e = cc
 
 -- a line of a listing and those behind it come from a line of the source and those behind it
 pub record IsFrom (variant : Variant) (size : ℕ) (table : List (List ℕ × ℕ)) (all : List Placed) (line : Line) (rest : List Line) : Type 0 where
@@ -189,7 +163,7 @@ emits-addresses variant size table known used from to address a (Err why) f e = 
 emits-addresses variant size table known used from to address a (Ok parsed) f e =
     let tests = faultless variant size table known used address parsed f in
     let two = emits-listed variant size table from to address a parsed e in
-    rw tests.inside (range_has address (width_of variant parsed.statement) a two.0 two.1)
+    rw tests.emits.inside (range_has address (width_of variant parsed.statement) a two.0 two.1)
 
 -- and is at no address that is used
 emits-unused : (variant : Variant) (size : ℕ) (table known : List (List ℕ × ℕ)) (used : List ℕ) (from to address a : ℕ) (read : Result Parsed AsmWhy)
@@ -200,7 +174,7 @@ emits-unused variant size table known used from to address a (Err why) f e u = e
 emits-unused variant size table known used from to address a (Ok parsed) f e u =
     let tests = faultless variant size table known used address parsed f in
     let two = emits-listed variant size table from to address a parsed e in
-    apart used address (width_of variant parsed.statement) a tests.free u two.0 two.1
+    apart used address (width_of variant parsed.statement) a tests.emits.free u two.0 two.1
 
 append_line : (before between after : List Placed) (one other : Placed) → before ++ one ∷ (between ++ other ∷ after) ≡ (before ++ one ∷ between) ++ other ∷ after
 append_line [] between after one other = refl

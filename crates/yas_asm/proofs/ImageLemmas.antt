@@ -6,6 +6,7 @@ use Rattle.std.proofs.lemmas.Bool.{false≢true}
 use Rattle.std.proofs.lemmas.Bool.Decides.{nat_tests}
 use Rattle.std.proofs.lemmas.Grind.{elements, common_steps}
 use Rattle.y86_base.specs.declared.parts.Variant.{Variant}
+use Rattle.y86_base.proofs.Booleans.{both_false}
 use Rattle.y86_isa.specs.Table.{row}
 use Rattle.yas_asm.specs.declared.fault.AsmWhy.{AsmWhy}
 use Rattle.yas_asm.specs.declared.listing.Line.{Line}
@@ -16,7 +17,8 @@ use Rattle.yas_asm.specs.Grammar.{bytes_of}
 use Rattle.yas_asm.specs.Assembly.{Placed, source_lines, labels, first_fault, listing, listed, line_fault, place, destination, bytes_at, shown_at, value_of}
 use Rattle.yas_asm.specs.Laws.{emits_at, emits, put_at, image, ImageHasLines, ImageIsZeroElsewhere}
 use Rattle.yas_asm.proofs.SoundLemmas.{within}
-use Rattle.yas_asm.proofs.LawLemmas.{no_fault, accepted, faultless}
+use Rattle.yas_asm.proofs.PassLemmas.{faultless}
+use Rattle.yas_asm.proofs.LawLemmas.{no_fault, accepted}
 use Rattle.yas_asm.proofs.ByteLemmas.{bytes_have_one_line, emits_within, row_length, length-data}
 
 -- what a place of a memory holds after some bytes were put into it
@@ -74,16 +76,12 @@ length-fold size [] memory f e = e
 length-fold size (line ∷ lines) memory f e =
     length-fold size lines (put_at line.addr line.bytes.items memory) f.1 (length-put_at size line.addr line.bytes.items memory f.0 e)
 
-neither : (a b : Bool) → (a || b) ≡ false → (a ≡ false) × (b ≡ false)
-neither true b e = absurd (false≢true (sym e))
-neither false b e = (refl, e)
-
 fold-kept : (size a : ℕ) (lines : List Line) (memory : List ℕ) → AllFit size lines → length memory ≡ size → list_any (λ line. emits line a) lines ≡ false
     → get_or (fold (λ memory line. put_at line.addr line.bytes.items memory) memory lines) a 0 ≡ get_or memory a 0
 unfolding AllFit
 fold-kept size a [] memory f e n = refl
 fold-kept size a (line ∷ lines) memory f e n =
-    let two = neither (emits line a) (list_any (λ line. emits line a) lines) n in
+    let two = both_false (emits line a) (list_any (λ line. emits line a) lines) n in
     fold-kept size a lines (put_at line.addr line.bytes.items memory) f.1 (length-put_at size line.addr line.bytes.items memory f.0 e) two.1
     ∙ put_at-outside size line.addr line.bytes.items memory a f.0 e two.0
 
@@ -120,7 +118,7 @@ fits-line : (variant : Variant) (size : ℕ) (table known : List (List ℕ × �
 unfolding line_fault listed
 fits-line variant size table known used from to address (Err why) e = tt
 fits-line variant size table known used from to address (Ok parsed) e =
-    fits-listed variant size table from to address parsed (faultless variant size table known used address parsed e).inside
+    fits-listed variant size table from to address parsed (faultless variant size table known used address parsed e).emits.inside
 
 -- in an accepted source all bytes lie within the size
 all_fit : (variant : Variant) (size : ℕ) (table : List (List ℕ × ℕ)) (before rest : List Placed) (from : ℕ) → first_fault variant size table before rest ≡ None → AllFit size (listing variant size table from rest)

@@ -1,18 +1,12 @@
 -- The label table: what a look-up finds, and that a new name goes last.
-use Rattle.std.proofs.Common.{◌≡◌, ap, ℕ, Bool, true, false, cond, List, [], ◌∷◌, ◌++◌, map, Option, None, Some, refl}
+use Rattle.std.proofs.Common.{◌≡◌, ap, ℕ, cond, List, [], ◌∷◌, ◌++◌, map, None, Some, refl}
 use Rattle.std.specs.Prelude.{Vec, nat_eq}
 use Rattle.std.specs.Cmp.Lexicographic.{pointwise}
 use Rattle.std.specs.Map.{lookup}
 use Rattle.indexmap.specs.IndexMap.{insert_entry}
+use Rattle.yas_asm.proofs.Parts.{not_here}
 use Rattle.yas_asm.specs.Tokens.{meaning_of}
 use Rattle.yas_asm.specs.LabelMap.{named}
-
-absent : (found : Bool) (x : ℕ) (rest : Option ℕ) → cond found (Some x) rest ≡ None → (found ≡ false) × (rest ≡ None)
-absent true x rest e = absurd (no x e)
-  where
-    no : (x : ℕ) → Some x ≡ None → ⊥
-    no x e = cc
-absent false x rest e = (refl, e)
 
 module _ {A : Type 0} where
   pub lookup_named : (es : List (Vec ℕ A × ℕ)) (name : List ℕ) → lookup (λ key. pointwise nat_eq name key.items) es ≡ meaning_of (map named es) name
@@ -26,5 +20,5 @@ module _ {A : Type 0} where
   unfolding meaning_of
   insert_named [] key address e = refl
   insert_named (entry ∷ es) key address e =
-      let two = absent (pointwise nat_eq key.items entry.0.items) entry.1 (meaning_of (map named es) key.items) e in
+      let two = not_here (pointwise nat_eq key.items entry.0.items) entry.1 (meaning_of (map named es) key.items) e in
       rw two.0 (ap (λ rest. named entry ∷ rest) (insert_named es key address two.1))

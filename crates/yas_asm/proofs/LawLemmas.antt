@@ -1,26 +1,27 @@
 -- What follows from the definition of an assembled source.
-use Rattle.std.proofs.Common.{◌≡◌, ap, sym, subst, ◌∙◌, ℕ, Bool, true, false, cond, List, [], ◌∷◌, ◌++◌, length, fold, Option, None, Some, Result, Ok, Err, refl}
-use Rattle.std.specs.Prelude.{is_some, is_none, nat_le, ◌&&◌, ◌||◌}
+use Rattle.std.proofs.Common.{◌≡◌, ap, sym, subst, ◌∙◌, ℕ, Bool, true, false, cond, List, [], ◌∷◌, ◌++◌, length, fold, Option, None, Some, Result, Ok, Err, refl, inl, inr}
+use Rattle.std.specs.Prelude.{is_some, is_none, nat_le, ◌&&◌, ◌||◌, ◌⊎◌}
 use Rattle.std.specs.Str.{bytes_eq}
 use Rattle.std.proofs.lemmas.Slice.Eq.{bytes_eq-Decides}
 use Rattle.std.proofs.lemmas.Bool.{false≢true}
+use Rattle.std.proofs.lemmas.List.{append-nil, append_assoc}
+use Rattle.std.proofs.lemmas.Option.{none-some, cond_some}
+use Rattle.std.proofs.lemmas.Grind.{fold-append}
 use Rattle.y86_base.specs.declared.parts.Variant.{Variant}
 use Rattle.yas_asm.specs.declared.fault.AsmWhy.{AsmWhy}
 use Rattle.yas_asm.specs.declared.fault.AsmFault.{AsmFault}
 use Rattle.yas_asm.specs.declared.listing.Line.{Line}
 use Rattle.yas_asm.specs.declared.statement.Parsed.{Parsed}
 use Rattle.yas_asm.specs.Tokens.{meaning_of}
-use Rattle.yas_asm.specs.Assembly.{Placed, source_lines, labels, label_of, label_limit, with_label, with_name, assembled, assembled_with, first_fault, fault_or, listing, listing_unless, line_fault, statement_fault, filled, names_wide, names_unknown, is_defined, is_past_limit, place, overlaps, width_of}
-use Rattle.yas_asm.specs.Laws.{LabelsAreAddresses}
-use Rattle.yas_asm.proofs.PassLemmas.{not_here, some_from_none, append_nil, append_twice}
+use Rattle.yas_asm.specs.Assembly.{Placed, source_lines, labels, label_of, label_limit, with_label, with_name, assembled, assembled_with, first_fault, fault_or, listing, listing_unless, line_fault, filled, is_defined, is_past_limit}
+use Rattle.yas_asm.specs.Laws.{LabelsAreAddresses, LabelsAreOfLines, IsLabelled}
+use Rattle.yas_asm.proofs.Parts.{not_here}
+use Rattle.yas_asm.proofs.PassLemmas.{faultless}
 
 -- a look-up finds what it found when further names are put behind
 meaning_of-kept : (table : List (List ℕ × ℕ)) (entry : List ℕ × ℕ) (name : List ℕ) (a : ℕ) → meaning_of table name ≡ Some a → meaning_of (table ++ entry ∷ []) name ≡ Some a
 unfolding meaning_of
-meaning_of-kept [] entry name a e = absurd (no a e)
-  where
-    no : (a : ℕ) → None ≡ Some a → ⊥
-    no a e = cc
+meaning_of-kept [] entry name a e = absurd (none-some a e)
 meaning_of-kept (row ∷ table) entry name a e = by (bytes_eq name row.0) (meaning_of-kept table entry name a) e
   where
     by : (b : Bool) → (meaning_of table name ≡ Some a → meaning_of (table ++ entry ∷ []) name ≡ Some a)
@@ -50,12 +51,6 @@ fold-kept : (table : List (List ℕ × ℕ)) (after : List Placed) (name : List 
 fold-kept table [] name a e = e
 fold-kept table (line ∷ after) name a e = fold-kept (with_label table line.address (label_of line.read)) after name a (with_label-kept table line.address (label_of line.read) name a e)
 
-fold-append : (table : List (List ℕ × ℕ)) (before after : List Placed)
-    → fold (λ table line. with_label table line.address (label_of line.read)) table (before ++ after)
-    ≡ fold (λ table line. with_label table line.address (label_of line.read)) (fold (λ table line. with_label table line.address (label_of line.read)) table before) after
-fold-append table [] after = refl
-fold-append table (line ∷ before) after = fold-append (with_label table line.address (label_of line.read)) before after
-
 -- a label that is neither defined nor past the limit is defined by its line
 with_label-new : (known : List (List ℕ × ℕ)) (address : ℕ) (label : Option (List ℕ)) (name : List ℕ) → label ≡ Some name → is_defined known label ≡ false → is_past_limit known label ≡ false
     → meaning_of (with_label known address label) name ≡ Some address
@@ -65,40 +60,12 @@ with_label-new known address label name e d p = rw e (by (meaning_of known name)
     by : (m : Option ℕ) (full : Bool) → meaning_of known name ≡ m → is_some m ≡ false → (is_none m && full) ≡ false
         → meaning_of (cond (is_some m || full) known (known ++ (name, address) ∷ [])) name ≡ Some address
     by None false m d p = meaning_of-new known name address m
-    by None true m d p = absurd (no p)
-      where
-        no : true ≡ false → ⊥
-        no p = cc
-    by (Some a) full m d p = absurd (no d)
-      where
-        no : true ≡ false → ⊥
-        no p = cc
-
--- the tests of a line without a fault
-pub record IsFaultless (variant : Variant) (size : ℕ) (known : List (List ℕ × ℕ)) (used : List ℕ) (address : ℕ) (parsed : Parsed) : Type 0 where
-  pub new_label : is_defined known parsed.label ≡ false
-  pub inside : is_some (place variant size address parsed.statement) ≡ true
-  pub free : overlaps used address (width_of variant parsed.statement) ≡ false
-  pub within_limit : is_past_limit known parsed.label ≡ false
-
-pub faultless : (variant : Variant) (size : ℕ) (table known : List (List ℕ × ℕ)) (used : List ℕ) (address : ℕ) (parsed : Parsed)
-    → statement_fault variant size table known used address parsed ≡ None → IsFaultless variant size known used address parsed
-unfolding statement_fault
-faultless variant size table known used address parsed e =
-    let wide = not_here (names_wide table parsed.statement) _ _ e in
-    let twice = not_here (is_defined known parsed.label) _ _ wide.1 in
-    let unknown = not_here (names_unknown table parsed.statement) _ _ twice.1 in
-    let outside = not_here (is_none (place variant size address parsed.statement)) _ _ unknown.1 in
-    let overlap = not_here (overlaps used address (width_of variant parsed.statement)) _ _ outside.1 in
-    let limit = not_here (is_past_limit known parsed.label) _ _ overlap.1 in
-    record { new_label = twice.0; inside = some_from_none _ outside.0; free = overlap.0; within_limit = limit.0 }
+    by None true m d p = absurd (false≢true (sym p))
+    by (Some a) full m d p = absurd (false≢true (sym d))
 
 pub no_fault : (found : Option AsmWhy) (n : ℕ) (later : Option AsmFault) → fault_or found n later ≡ None → (found ≡ None) × (later ≡ None)
 no_fault None n later e = (refl, e)
-no_fault (Some why) n later e = absurd (no (record { line = n; why = why }) e)
-  where
-    no : (fault : AsmFault) → Some fault ≡ None → ⊥
-    no fault e = cc
+no_fault (Some why) n later e = absurd (none-some (record { line = n; why = why }) (sym e))
 
 -- where no line has a fault, a line in their midst has none behind those before it
 pub fault_at : (variant : Variant) (size : ℕ) (table : List (List ℕ × ℕ)) (first before after : List Placed) (line : Placed)
@@ -106,9 +73,9 @@ pub fault_at : (variant : Variant) (size : ℕ) (table : List (List ℕ × ℕ))
     → line_fault variant size table (labels (first ++ before)) (filled variant size (first ++ before)) line.address line.read ≡ None
 unfolding first_fault
 fault_at variant size table first [] after line e =
-    subst (λ (xs : List Placed). line_fault variant size table (labels xs) (filled variant size xs) line.address line.read ≡ None) (sym (append_nil first)) (no_fault _ _ _ e).0
+    subst (λ (xs : List Placed). line_fault variant size table (labels xs) (filled variant size xs) line.address line.read ≡ None) (sym (append-nil first)) (no_fault _ _ _ e).0
 fault_at variant size table first (other ∷ before) after line e =
-    subst (λ (xs : List Placed). line_fault variant size table (labels xs) (filled variant size xs) line.address line.read ≡ None) (append_twice first (other ∷ []) before)
+    subst (λ (xs : List Placed). line_fault variant size table (labels xs) (filled variant size xs) line.address line.read ≡ None) (append_assoc first (other ∷ []) before)
     (fault_at variant size table (first ++ other ∷ []) before after line (no_fault _ _ _ e).1)
 
 ok_lines : Result (List Line) AsmFault → List Line
@@ -134,10 +101,7 @@ accepted variant source size lines e = listing_ok _ _ lines e
 label_at : (variant : Variant) (size : ℕ) (table known : List (List ℕ × ℕ)) (used : List ℕ) (address : ℕ) (read : Result Parsed AsmWhy) (name : List ℕ)
     → line_fault variant size table known used address read ≡ None → label_of read ≡ Some name → meaning_of (with_label known address (label_of read)) name ≡ Some address
 unfolding line_fault
-label_at variant size table known used address (Err why) name e l = absurd (no name l)
-  where
-    no : (name : List ℕ) → None ≡ Some name → ⊥
-    no name l = cc
+label_at variant size table known used address (Err why) name e l = absurd (none-some name l)
 label_at variant size table known used address (Ok parsed) name e l =
     let tests = faultless variant size table known used address parsed e in
     with_label-new known address parsed.label name l tests.new_label tests.within_limit
@@ -147,4 +111,58 @@ unfolding labels
 labels_are_addresses variant source size lines e before after line name split l =
     let none = subst (λ (xs : List Placed). first_fault variant size (labels (source_lines variant size source)) [] xs ≡ None) split (accepted variant source size lines e).0 in
     let here = fault_at variant size (labels (source_lines variant size source)) [] before after line none in
-    rw split (rw (fold-append [] before (line ∷ after)) (fold-kept _ after name line.address (label_at variant size _ (labels before) _ line.address line.read name here l)))
+    rw split (rw (fold-append (λ table line. with_label table line.address (label_of line.read)) [] before (line ∷ after)) (fold-kept _ after name line.address (label_at variant size _ (labels before) _ line.address line.read name here l)))
+
+-- a look-up in a table with one more name behind finds what it found, or that name
+from_new : (table : List (List ℕ × ℕ)) (entry : List ℕ × ℕ) (name : List ℕ) (a : ℕ) → meaning_of (table ++ entry ∷ []) name ≡ Some a
+    → (meaning_of table name ≡ Some a) ⊎ ((name ≡ entry.0) × (entry.1 ≡ a))
+unfolding meaning_of
+from_new [] entry name a e =
+    let two = cond_some (bytes_eq name entry.0) entry.1 a e in
+    inr ((bytes_eq-Decides name entry.0).0 two.0, two.1)
+from_new (row ∷ table) entry name a e = by (bytes_eq name row.0) (from_new table entry name a) e
+  where
+    by : (b : Bool) → (meaning_of (table ++ entry ∷ []) name ≡ Some a → (meaning_of table name ≡ Some a) ⊎ ((name ≡ entry.0) × (entry.1 ≡ a)))
+        → cond b (Some row.1) (meaning_of (table ++ entry ∷ []) name) ≡ Some a → (cond b (Some row.1) (meaning_of table name) ≡ Some a) ⊎ ((name ≡ entry.0) × (entry.1 ≡ a))
+    by true later e = inl e
+    by false later e = later e
+
+from_label : (table : List (List ℕ × ℕ)) (address : ℕ) (label : Option (List ℕ)) (name : List ℕ) (a : ℕ) → meaning_of (with_label table address label) name ≡ Some a
+    → (meaning_of table name ≡ Some a) ⊎ ((label ≡ Some name) × (address ≡ a))
+unfolding with_name
+from_label table address None name a e = inl e
+from_label table address (Some other) name a e = by (is_some (meaning_of table other) || nat_le label_limit (length table)) e
+  where
+    named : (meaning_of table name ≡ Some a) ⊎ ((name ≡ other) × (address ≡ a)) → (meaning_of table name ≡ Some a) ⊎ ((Some other ≡ Some name) × (address ≡ a))
+    named (inl e) = inl e
+    named (inr e) = inr (ap Some (sym e.0), e.1)
+
+    by : (b : Bool) → meaning_of (cond b table (table ++ (other, address) ∷ [])) name ≡ Some a
+        → (meaning_of table name ≡ Some a) ⊎ ((Some other ≡ Some name) × (address ≡ a))
+    by true e = inl e
+    by false e = named (from_new table (other, address) name a e)
+
+from_lines : (table : List (List ℕ × ℕ)) (all : List Placed) (name : List ℕ) (a : ℕ)
+    → meaning_of (fold (λ table line. with_label table line.address (label_of line.read)) table all) name ≡ Some a
+    → (meaning_of table name ≡ Some a) ⊎ IsLabelled all name a
+from_lines table [] name a e = inl e
+from_lines table (line ∷ all) name a e =
+    later (from_lines (with_label table line.address (label_of line.read)) all name a e)
+  where
+    here : (meaning_of table name ≡ Some a) ⊎ ((label_of line.read ≡ Some name) × (line.address ≡ a)) → (meaning_of table name ≡ Some a) ⊎ IsLabelled (line ∷ all) name a
+    here (inl e) = inl e
+    here (inr e) = inr (record { before = []; line = line; after = all; parts = refl; label = e.0; at = e.1 })
+
+    later : (meaning_of (with_label table line.address (label_of line.read)) name ≡ Some a) ⊎ IsLabelled all name a
+        → (meaning_of table name ≡ Some a) ⊎ IsLabelled (line ∷ all) name a
+    later (inl e) = here (from_label table line.address (label_of line.read) name a e)
+    later (inr h) =
+        inr (record { before = line ∷ h.before; line = h.line; after = h.after; parts = ap (λ xs. line ∷ xs) h.parts; label = h.label; at = h.at })
+
+pub labels_are_of_lines : LabelsAreOfLines
+unfolding labels meaning_of
+labels_are_of_lines variant source size name a e = by (from_lines [] (source_lines variant size source) name a e)
+  where
+    by : (meaning_of [] name ≡ Some a) ⊎ IsLabelled (source_lines variant size source) name a → IsLabelled (source_lines variant size source) name a
+    by (inl e) = absurd (none-some a e)
+    by (inr h) = h

@@ -1,3 +1,4 @@
+pub mod Parts
 pub mod CommentLemmas
 pub mod UsedLemmas
 pub mod LabelLemmas
@@ -5,9 +6,12 @@ pub mod SoundLemmas
 pub mod PassLemmas
 pub mod SoundGrammar
 pub mod LawLemmas
+pub mod FaultLemmas
+pub mod ReasonLemmas
 pub mod ByteLemmas
 pub mod ImageLemmas
 pub mod SpacingLemmas
+pub mod SweepLaw
 pub mod SpacingGrammar
 pub mod SpacingLaw
 pub mod TextLemmas

@@ -2,15 +2,18 @@
 use Rattle.std.proofs.Common.{◌≡◌, ◌+◌, ◌≤◌, ap, sym, subst, ◌∙◌, ℕ, Bool, true, false, cond, List, [], ◌∷◌, ◌++◌, length, fold, Option, None, Some, Result, Ok, Err, refl, arith}
 use Rattle.std.specs.Prelude.{◌⊎◌, is_some, is_none}
 use Rattle.std.proofs.Common.{inl, inr}
-use Rattle.std.specs.List.{range_with_len, flat_map, onto_first}
+use Rattle.std.proofs.lemmas.List.{append-nil, append_assoc}
+use Rattle.std.proofs.lemmas.Grind.{fold-append, flat_map-append}
+use Rattle.std.specs.List.{range_with_len, onto_first}
 use Rattle.y86_base.specs.declared.parts.Variant.{Variant}
 use Rattle.y86_base.specs.Text.{lines, is_line_feed}
 use Rattle.yas_asm.specs.Grammar.{read_line}
 use Rattle.yas_asm.specs.declared.fault.AsmWhy.TheVariants.{Memory, Syntax, BadByte, NumberTooWide, LabelTwice, LabelUnknown, OutsideMemory, Overlap, LabelLimit}
+use Rattle.yas_asm.proofs.Parts.{not_here, some_from_none}
 use Rattle.yas_asm.specs.Outcome.{line_for}
 use Rattle.yas_asm.specs.declared.fault.AsmWhy.{AsmWhy}
 use Rattle.yas_asm.specs.declared.fault.AsmFault.{AsmFault}
-use Rattle.yas_asm.specs.Assembly.{Placed, placed, labels, with_label, label_of, address_after, source_lines, statement_fault, names_wide, names_unknown, is_defined, place, width_of, overlaps, emitted, addresses, filled, fault_or, line_fault, first_fault, listed, listing, listing_unless, assembled_with}
+use Rattle.yas_asm.specs.Assembly.{Placed, placed, labels, with_label, label_of, address_after, source_lines, statement_fault, names_wide, names_unknown, is_defined, is_past_limit, place, width_of, overlaps, emitted, addresses, filled, fault_or, line_fault, first_fault, listed, listing, listing_unless, assembled_with}
 use Rattle.yas_asm.specs.declared.listing.Line.{Line}
 use Rattle.yas_asm.specs.declared.statement.Statement.{Statement}
 use Rattle.yas_asm.specs.declared.statement.Parsed.{Parsed}
@@ -35,34 +38,34 @@ labels_end variant size address table rest e = rw e refl
 
 pub ruleset collecting = (labels_begin, labels_more, labels_end)
 
-pub not_here : {A : Type 0} (b : Bool) (x : A) (rest : Option A) → cond b (Some x) rest ≡ None → (b ≡ false) × (rest ≡ None)
-not_here {A} true x rest e = absurd (no x e)
-  where
-    no : (x : A) → Some x ≡ None → ⊥
-    no x e = cc
-not_here false x rest e = (refl, e)
-
-pub some_from_none : {A : Type 0} (o : Option A) → is_none o ≡ false → is_some o ≡ true
-some_from_none None e = cc
-some_from_none (Some x) e = refl
-
--- a line without a fault keeps within the size, and its bytes are at addresses that have none
+-- a statement keeps within the size, and its bytes are at addresses that have none
 pub record IsFree (variant : Variant) (size : ℕ) (used : List ℕ) (address : ℕ) (statement : Statement) : Type 0 where
   pub inside : is_some (place variant size address statement) ≡ true
   pub free : overlaps used address (width_of variant statement) ≡ false
 
-pub free_without_fault : (variant : Variant) (size : ℕ) (table known : List (List ℕ × ℕ)) (used : List ℕ) (address : ℕ) (parsed : Parsed)
-    → statement_fault variant size table known used address parsed ≡ None → IsFree variant size used address parsed.statement
+-- the tests of a line without a fault
+pub record IsWithoutFault (variant : Variant) (size : ℕ) (known : List (List ℕ × ℕ)) (used : List ℕ) (address : ℕ) (parsed : Parsed) : Type 0 where
+  pub new_label : is_defined known parsed.label ≡ false
+  pub within_limit : is_past_limit known parsed.label ≡ false
+  pub emits : IsFree variant size used address parsed.statement
+
+pub faultless : (variant : Variant) (size : ℕ) (table known : List (List ℕ × ℕ)) (used : List ℕ) (address : ℕ) (parsed : Parsed)
+    → statement_fault variant size table known used address parsed ≡ None → IsWithoutFault variant size known used address parsed
 unfolding statement_fault
-free_without_fault variant size table known used address parsed e =
+faultless variant size table known used address parsed e =
     let wide = not_here (names_wide table parsed.statement) _ _ e in
     let twice = not_here (is_defined known parsed.label) _ _ wide.1 in
     let unknown = not_here (names_unknown table parsed.statement) _ _ twice.1 in
     let outside = not_here (is_none (place variant size address parsed.statement)) _ _ unknown.1 in
     let overlap = not_here (overlaps used address (width_of variant parsed.statement)) _ _ outside.1 in
-    record { inside = some_from_none _ outside.0; free = overlap.0 }
+    let limit = not_here (is_past_limit known parsed.label) _ _ overlap.1 in
+    record { new_label = twice.0; within_limit = limit.0; emits = record { inside = some_from_none _ outside.0; free = overlap.0 } }
 
--- its bytes are then from its address on
+pub free_without_fault : (variant : Variant) (size : ℕ) (table known : List (List ℕ × ℕ)) (used : List ℕ) (address : ℕ) (parsed : Parsed)
+    → statement_fault variant size table known used address parsed ≡ None → IsFree variant size used address parsed.statement
+free_without_fault variant size table known used address parsed e = (faultless variant size table known used address parsed e).emits
+
+-- the bytes of a line without a fault are from its address on
 pub emitted-free : (variant : Variant) (size : ℕ) (used : List ℕ) (address : ℕ) (statement : Statement) → IsFree variant size used address statement
     → emitted variant size address statement ≡ range_with_len address (width_of variant statement)
 unfolding emitted
@@ -75,30 +78,14 @@ faults_from variant size table known used passed (line ∷ rest) =
     fault_or (line_fault variant size table known used line.address line.read) (passed + 1)
     (faults_from variant size table (with_label known line.address (label_of line.read)) (used ++ addresses variant size line.address line.read) (passed + 1) rest)
 
-fold_push : {A B : Type 0} (f : B → A → B) (b : B) (xs : List A) (x : A) → fold f b (xs ++ x ∷ []) ≡ f (fold f b xs) x
-fold_push f b [] x = refl
-fold_push f b (y ∷ xs) x = fold_push f (f b y) xs x
-
 pub labels-push : (before : List Placed) (line : Placed) → labels (before ++ line ∷ []) ≡ with_label (labels before) line.address (label_of line.read)
 unfolding labels
-labels-push before line = fold_push _ _ before line
-
-pub append_nil : {A : Type 0} (xs : List A) → xs ++ [] ≡ xs
-append_nil [] = refl
-append_nil (x ∷ xs) = ap (λ rest. x ∷ rest) (append_nil xs)
-
-pub append_twice : {A : Type 0} (xs ys zs : List A) → (xs ++ ys) ++ zs ≡ xs ++ (ys ++ zs)
-append_twice [] ys zs = refl
-append_twice (x ∷ xs) ys zs = ap (λ rest. x ∷ rest) (append_twice xs ys zs)
-
-flat_map_push : {A B : Type 0} (f : A → List B) (xs : List A) (x : A) → flat_map f (xs ++ x ∷ []) ≡ flat_map f xs ++ f x
-flat_map_push f [] x = append_nil (f x)
-flat_map_push f (y ∷ xs) x = ap (λ rest. f y ++ rest) (flat_map_push f xs x) ∙ sym (append_twice (f y) (flat_map f xs) (f x))
+labels-push before line = fold-append _ [] before (line ∷ [])
 
 pub filled-push : (variant : Variant) (size : ℕ) (before : List Placed) (line : Placed)
     → filled variant size (before ++ line ∷ []) ≡ filled variant size before ++ addresses variant size line.address line.read
 unfolding filled
-filled-push variant size before line = flat_map_push _ before line
+filled-push variant size before line = flat_map-append _ before (line ∷ []) ∙ ap (λ xs. filled variant size before ++ xs) (append-nil _)
 
 length_push : {A : Type 0} (xs : List A) (x : A) → length (xs ++ x ∷ []) ≡ length xs + 1
 length_push [] x = refl
@@ -128,7 +115,7 @@ outcome_begin variant size table source =
 pub outcome_end : (variant : Variant) (size address : ℕ) (table known : List (List ℕ × ℕ)) (used : List ℕ) (passed from : ℕ) (done : List Line) (rest : List ℕ)
     → rest ≡ [] → outcome_from variant size table known used passed from done (placed variant size address (lines rest)) ≡ Ok done
 unfolding outcome_from placed faults_from listing
-outcome_end variant size address table known used passed from done rest e = rw e (ap Ok (append_nil done))
+outcome_end variant size address table known used passed from done rest e = rw e (ap Ok (append-nil done))
 
 pub outcome_more : (variant : Variant) (size address : ℕ) (table known : List (List ℕ × ℕ)) (used : List ℕ) (passed from : ℕ) (done : List Line) (rest text behind : List ℕ)
     → lines rest ≡ text ∷ lines behind → line_fault variant size table known used address (read_line variant text) ≡ None
@@ -139,7 +126,7 @@ pub outcome_more : (variant : Variant) (size address : ℕ) (table known : List 
     (placed variant size (address_after variant size address (read_line variant text)) (lines behind))
 unfolding outcome_from placed faults_from listing
 outcome_more variant size address table known used passed from done rest text behind e f =
-    rw (e, f) (ap (listing_unless _) (sym (append_twice done _ _)))
+    rw (e, f) (ap (listing_unless _) (sym (append_assoc done _ _)))
 
 pub outcome_fault : (variant : Variant) (size address : ℕ) (table known : List (List ℕ × ℕ)) (used : List ℕ) (passed from : ℕ) (done : List Line) (rest text behind : List ℕ) (why : AsmWhy)
     → lines rest ≡ text ∷ lines behind → line_fault variant size table known used address (read_line variant text) ≡ Some why

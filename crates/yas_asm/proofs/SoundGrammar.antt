@@ -1,12 +1,15 @@
 -- Every statement that the grammar reads is sound: its instruction is valid, its `.align` has a number that is at least 1.
-use Rattle.std.proofs.Common.{◌≡◌, ◌<◌, ◌≤◌, ap, sym, subst, ◌∙◌, ℕ, Bool, true, false, cond, List, [], ◌∷◌, length, Option, None, Some, refl, arith}
+use Rattle.std.proofs.Common.{◌≡◌, ◌<◌, ap, sym, subst, ◌∙◌, ℕ, Bool, true, false, cond, List, [], ◌∷◌, length, Option, None, Some, refl, arith}
 use Rattle.std.specs.Prelude.{nat_lt, nat_le, nat_eq, not, ◌&&◌, ◌||◌, ◌==◌}
 use Rattle.std.specs.List.{list_all, starts_with}
 use Rattle.std.specs.Str.{bytes_eq}
+use Rattle.std.proofs.lemmas.Option.{none-some}
 use Rattle.std.proofs.lemmas.Bool.{false≢true}
 use Rattle.std.proofs.lemmas.Bool.Decides.{nat_tests}
 use Rattle.y86_base.specs.declared.parts.Variant.{Variant}
 use Rattle.y86_base.specs.declared.parts.Variant.TheVariants.{Base}
+use Rattle.y86_base.specs.Text.{is_blank, behind}
+use Rattle.y86_base.proofs.Booleans.{both_true}
 use Rattle.y86_isa.specs.Table.{rows, row}
 use Rattle.y86_isa.specs.Encoding.{NamesRegister, written_top}
 use Rattle.yas_asm.specs.declared.statement.Width.TheVariants.{Eight}
@@ -20,33 +23,17 @@ use Rattle.yas_asm.specs.declared.statement.Operand.TheVariants.{Word}
 use Rattle.yas_asm.specs.declared.statement.Statement.{Statement}
 use Rattle.yas_asm.specs.declared.statement.Statement.TheVariants as statements
 use Rattle.yas_asm.specs.declared.statement.Parsed.{Parsed}
-use Rattle.yas_asm.specs.Tokens.{keyword_at, meaning_of, name, sign, after_blanks}
+use Rattle.yas_asm.specs.Tokens.{keyword_at, meaning_of, name, sign}
 use Rattle.yas_asm.specs.Tables.{registers, register, base_mnemonics, mnemonic, directive}
 use Rattle.yas_asm.specs.Comments.{ends}
 use Rattle.yas_asm.specs.Grammar.{◌>>=◌, instruction, two_registers, immediate, store, load, target, single, operands_as, operands_of, memory, operand, displacement, natural, is_zero, position_at, align_at, position_operand, align_operand, data_operand, directive_operand, instruction_text, statement_from, statement, last_statement, line, label}
+use Rattle.yas_asm.proofs.Parts.{some_is, at_most, below}
 use Rattle.yas_asm.specs.Sound.{IsSound}
 
 -- where a step of a reading gives something, the step before it did
 pub then_some : {A B : Type 0} (o : Option A) (f : A → Option B) (y : B) → (o >>= f) ≡ Some y → (x : A) × (o ≡ Some x) × (f x ≡ Some y)
-then_some {A} {B} None f y e = absurd (no y e)
-  where
-    no : (y : B) → None ≡ Some y → ⊥
-    no y e = cc
+then_some None f y e = absurd (none-some y e)
 then_some (Some x) f y e = (x, refl, e)
-
-some_is : {A : Type 0} (x y : A) → Some x ≡ Some y → x ≡ y
-some_is x y e = cc
-
-not_none : {A : Type 0} (y : A) → None ≡ Some y → ⊥
-not_none y e = cc
-
-and_left : (a b : Bool) → (a && b) ≡ true → a ≡ true
-and_left true b e = refl
-and_left false b e = e
-
-and_right : (a b : Bool) → (a && b) ≡ true → b ≡ true
-and_right true b e = e
-and_right false b e = absurd (false≢true e)
 
 module _ {A : Type 0} (test : A → Bool) where
   from_row : (found : Bool) (row : List ℕ × A) (behind : List ℕ) (rest : Option (A × List ℕ)) (x : A × List ℕ) → test row.1 ≡ true
@@ -57,10 +44,10 @@ module _ {A : Type 0} (test : A → Bool) where
   -- what holds of each meaning of a table holds of the one that is read
   pub keyword_at-test : (rows : List (List ℕ × A)) (text : List ℕ) (x : A × List ℕ) → list_all (λ row. test row.1) rows ≡ true → keyword_at rows text ≡ Some x → test x.0 ≡ true
   unfolding keyword_at
-  keyword_at-test [] text x all e = absurd (not_none x e)
+  keyword_at-test [] text x all e = absurd (none-some x e)
   keyword_at-test (row ∷ rows) text x all e =
-      from_row (starts_with nat_eq text row.0) row _ (keyword_at rows text) x (and_left (test row.1) _ all)
-      (keyword_at-test rows text x (and_right (test row.1) _ all)) e
+      from_row (starts_with nat_eq text row.0) row _ (keyword_at rows text) x (both_true (test row.1) _ all).0
+      (keyword_at-test rows text x (both_true (test row.1) _ all).1) e
 
   from_meaning : (found : Bool) (row : List ℕ × A) (rest : Option A) (x : A) → test row.1 ≡ true
       → (rest ≡ Some x → test x ≡ true) → cond found (Some row.1) rest ≡ Some x → test x ≡ true
@@ -69,21 +56,15 @@ module _ {A : Type 0} (test : A → Bool) where
 
   pub meaning_of-test : (rows : List (List ℕ × A)) (text : List ℕ) (x : A) → list_all (λ row. test row.1) rows ≡ true → meaning_of rows text ≡ Some x → test x ≡ true
   unfolding meaning_of
-  meaning_of-test [] text x all e = absurd (not_none x e)
+  meaning_of-test [] text x all e = absurd (none-some x e)
   meaning_of-test (row ∷ rows) text x all e =
-      from_meaning (bytes_eq text row.0) row (meaning_of rows text) x (and_left (test row.1) _ all)
-      (meaning_of-test rows text x (and_right (test row.1) _ all)) e
-
-below : (n m : ℕ) → nat_lt n m ≡ true → n < m
-below n m e = grind (arith, nat_tests)
-
-at_most : (n m : ℕ) → nat_le n m ≡ true → n ≤ m
-at_most n m e = grind (arith, nat_tests)
+      from_meaning (bytes_eq text row.0) row (meaning_of rows text) x (both_true (test row.1) _ all).0
+      (meaning_of-test rows text x (both_true (test row.1) _ all).1) e
 
 -- a register that is read has a number below 15
 pub register-below : (bytes : List ℕ) (x : ℕ × List ℕ) → register bytes ≡ Some x → x.0 < 15
 unfolding register registers
-register-below bytes x e = below _ _ (keyword_at-test (λ n. nat_lt n 15) registers (after_blanks bytes) x refl e)
+register-below bytes x e = below _ _ (keyword_at-test (λ n. nat_lt n 15) registers (behind is_blank bytes) x refl e)
 
 -- whether a shape has rA, rB, a constant
 abbrev takes_a : Shape → Bool
@@ -150,16 +131,16 @@ sound_with variant operation a b constant e fa fb fc =
     let t3 = same r.uses_a (takes_a operation.shape) in
     let t4 = same r.uses_b (takes_b operation.shape) in
     let t5 = not (takes_const operation.shape) || r.has_const in
-    let e2 = and_right t1 (t2 && (t3 && (t4 && t5))) e in
-    let e3 = and_right t2 (t3 && (t4 && t5)) e2 in
-    let e4 = and_right t3 (t4 && t5) e3 in
+    let e2 = (both_true t1 (t2 && (t3 && (t4 && t5))) e).1 in
+    let e3 = (both_true t2 (t3 && (t4 && t5)) e2).1 in
+    let e4 = (both_true t3 (t4 && t5) e3).1 in
     λ value w. record {
-      known = below operation.icode (length (rows variant)) (and_left t1 (t2 && (t3 && (t4 && t5))) e);
+      known = below operation.icode (length (rows variant)) (both_true t1 (t2 && (t3 && (t4 && t5))) e).0;
       fits = record {
-        ifun = at_most operation.ifun (written_top r) (and_left t2 (t3 && (t4 && t5)) e2);
-        field_a = subst (λ (u : Bool). NamesRegister u a) (sym (same_is r.uses_a (takes_a operation.shape) (and_left t3 (t4 && t5) e3))) fa;
-        field_b = subst (λ (u : Bool). NamesRegister u b) (sym (same_is r.uses_b (takes_b operation.shape) (and_left t4 t5 e4))) fb;
-        constant = λ none. no_constant (takes_const operation.shape) r.has_const (value ≡ 0) (and_right t4 t5 e4) none (λ f. w (fc f));
+        ifun = at_most operation.ifun (written_top r) (both_true t2 (t3 && (t4 && t5)) e2).0;
+        field_a = subst (λ (u : Bool). NamesRegister u a) (sym (same_is r.uses_a (takes_a operation.shape) (both_true t3 (t4 && t5) e3).0)) fa;
+        field_b = subst (λ (u : Bool). NamesRegister u b) (sym (same_is r.uses_b (takes_b operation.shape) (both_true t4 t5 e4).0)) fb;
+        constant = λ none. no_constant (takes_const operation.shape) r.has_const (value ≡ 0) (both_true t4 t5 e4).1 none (λ f. w (fc f));
       };
     }
 
@@ -271,7 +252,7 @@ module _ (variant : Variant) where
   align_good (Some n) behind x e = by (n == 0) refl e
     where
       by : (b : Bool) → (n == 0) ≡ b → cond b None (Some (statements.Align n, behind)) ≡ Some x → Good x
-      by true t e = absurd (not_none x e)
+      by true t e = absurd (none-some x e)
       by false t e = is_good _ _ x e (grind (arith, nat_tests))
 
   directive_sound : (d : Directive) (bytes : List ℕ) (x : Statement × List ℕ) → directive_operand d bytes ≡ Some x → Good x
@@ -300,7 +281,7 @@ module _ (variant : Variant) where
     where
       kept : (b : Bool) (t : Statement) → IsSound variant t → cond b (Some t) None ≡ Some s → IsSound variant s
       kept true t h e = subst (IsSound variant) (some_is _ _ e) h
-      kept false t h e = absurd (not_none s e)
+      kept false t h e = absurd (none-some s e)
 
       by : (b : Bool) → cond b (Some statements.Nothing) (statement variant bytes >>= (λ t. cond (ends t.1) (Some t.0) None)) ≡ Some s → IsSound variant s
       by true e = subst (IsSound variant) (some_is _ _ e) tt

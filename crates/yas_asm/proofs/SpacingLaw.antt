@@ -1,6 +1,7 @@
 -- Two accepted sources that differ in comments and blanks alone have the same addresses and bytes.
-use Rattle.std.proofs.Common.{◌≡◌, ◌+◌, ap, sym, subst, ◌∙◌, ℕ, Bool, true, false, cond, List, [], ◌∷◌, ◌++◌, length, map, fold, Option, None, Some, Result, Ok, Err, refl}
+use Rattle.std.proofs.Common.{◌≡◌, ◌+◌, ap, sym, subst, ◌∙◌, ℕ, Bool, true, false, cond, List, [], ◌∷◌, ◌++◌, length, map, fold, Option, None, Result, Ok, Err, refl}
 use Rattle.std.proofs.lemmas.Bool.{false≢true}
+use Rattle.std.proofs.lemmas.Option.{none-some}
 use Rattle.y86_base.specs.declared.parts.Variant.{Variant}
 use Rattle.y86_base.specs.Text.{lines}
 use Rattle.yas_asm.specs.declared.fault.AsmWhy.{AsmWhy}
@@ -10,6 +11,7 @@ use Rattle.yas_asm.specs.Comments.{bad_outside}
 use Rattle.yas_asm.specs.Grammar.{line, checked, read_line}
 use Rattle.yas_asm.specs.Assembly.{Placed, placed, source_lines, labels, label_of, with_label, address_after, first_fault, line_fault, listing, listed}
 use Rattle.yas_asm.specs.Spacing.{squeezed, place_of, SpacingIsFree}
+use Rattle.yas_asm.proofs.Parts.{head_is, tail_is, no_cons}
 use Rattle.yas_asm.proofs.LawLemmas.{no_fault, accepted}
 use Rattle.yas_asm.proofs.SpacingGrammar.{line-squeezed}
 
@@ -17,15 +19,12 @@ is_read : Result Parsed AsmWhy → Bool
 is_read (Ok parsed) = true
 is_read (Err why) = false
 
-not_some : {A : Type 0} (x : A) → Some x ≡ None → ⊥
-not_some x e = cc
-
 -- a line without a fault is read
 fault_none-read : (variant : Variant) (size : ℕ) (table known : List (List ℕ × ℕ)) (used : List ℕ) (address : ℕ) (read : Result Parsed AsmWhy)
     → line_fault variant size table known used address read ≡ None → is_read read ≡ true
 unfolding line_fault is_read
 fault_none-read variant size table known used address (Ok parsed) e = refl
-fault_none-read variant size table known used address (Err why) e = absurd (not_some why e)
+fault_none-read variant size table known used address (Err why) e = absurd (none-some why (sym e))
 
 read-line : (variant : Variant) (text : List ℕ) → is_read (read_line variant text) ≡ true → read_line variant text ≡ checked (line variant text)
 unfolding read_line is_read
@@ -44,18 +43,6 @@ reads_alike variant one other a b e =
 abbrev stripped : Placed → ℕ × Result Parsed AsmWhy
 stripped line = (line.address, line.read)
 
-head_is : {A : Type 0} (x y : A) (xs ys : List A) → x ∷ xs ≡ y ∷ ys → x ≡ y
-head_is x y xs ys e = cc
-
-tail_is : {A : Type 0} (x y : A) (xs ys : List A) → x ∷ xs ≡ y ∷ ys → xs ≡ ys
-tail_is x y xs ys e = cc
-
-no_cons : {A : Type 0} (x : A) (xs : List A) → [] ≡ x ∷ xs → ⊥
-no_cons x xs e = cc
-
-cons_none : {A : Type 0} (x : A) (xs : List A) → x ∷ xs ≡ [] → ⊥
-cons_none x xs e = cc
-
 lines_alike : (variant : Variant) (size : ℕ) (ones others : List (List ℕ)) (address : ℕ) (table table' : List (List ℕ × ℕ)) (before before' : List Placed)
     → map (squeezed true) ones ≡ map (squeezed true) others
     → first_fault variant size table before (placed variant size address ones) ≡ None → first_fault variant size table' before' (placed variant size address others) ≡ None
@@ -63,7 +50,7 @@ lines_alike : (variant : Variant) (size : ℕ) (ones others : List (List ℕ)) (
 unfolding placed first_fault
 lines_alike variant size [] [] address table table' before before' e f g = refl
 lines_alike variant size [] (other ∷ others) address table table' before before' e f g = absurd (no_cons _ _ e)
-lines_alike variant size (one ∷ ones) [] address table table' before before' e f g = absurd (cons_none _ _ e)
+lines_alike variant size (one ∷ ones) [] address table table' before before' e f g = absurd (no_cons _ _ (sym e))
 lines_alike variant size (one ∷ ones) (other ∷ others) address table table' before before' e f g =
     let x : Placed = record { text = one; address = address; read = read_line variant one } in
     let y : Placed = record { text = other; address = address; read = read_line variant other } in

@@ -1,24 +1,23 @@
 -- Every reader of tokens gives the same from a line and from the line squeezed.
 use Rattle.std.proofs.Common.{◌≡◌, ◌+◌, ap, sym, subst, ◌∙◌, ℕ, suc, Bool, true, false, cond, List, [], ◌∷◌, length, take, drop, Option, None, Some, refl, arith}
-use Rattle.std.specs.Prelude.{nat_eq, not, ◌&&◌, ◌||◌, ◌==◌, codes, unwrap_or}
+use Rattle.std.specs.Prelude.{nat_eq, not, ◌&&◌, ◌||◌, ◌==◌, codes, take_while, unwrap_or}
 use Rattle.std.specs.List.{list_all, starts_with, prefix_len}
 use Rattle.std.proofs.Math.Numerals.{one-add}
 use Rattle.std.proofs.lemmas.Bool.{false≢true}
 use Rattle.std.proofs.lemmas.Bool.Decides.{nat_tests}
-use Rattle.y86_base.specs.Text.{is_blank, is_decimal, is_hex}
+use Rattle.std.specs.Str.Parse.{digits_value}
+use Rattle.y86_base.specs.Text.{is_blank, is_decimal, is_hex, behind, below_word}
+use Rattle.y86_base.proofs.Booleans.{both_true, both_false}
 use Rattle.yas_asm.specs.declared.number.Number.{Number}
-use Rattle.yas_asm.specs.Tokens.{is_letter, is_name_byte, begins, after_blanks, sign_at, sign, name_at, name, digits_at, digits_value, below_word, is_hex_number, decimal_at, number_at, number, keyword_at, next_is}
+use Rattle.yas_asm.specs.Tokens.{is_letter, is_name_byte, begins, sign_at, sign, name_at, name, digits_at, is_hex_number, decimal_at, number_at, number, keyword_at, next_is}
 use Rattle.yas_asm.specs.Comments.{comment_length, close_length, ends_at, ends}
 use Rattle.yas_asm.specs.Tables.{registers, register, directives, directive}
+use Rattle.yas_asm.proofs.Parts.{eq_is}
 use Rattle.yas_asm.specs.Spacing.{is_sign, squeezed}
 
 -- a byte that ends each token: a blank, a sign, `#` or `/`
 abbrev pub stops : ℕ → Bool
 stops byte = is_blank byte || is_sign byte || byte == 35 || byte == 47
-
-or_none : (a b : Bool) → (a || b) ≡ false → (a ≡ false) × (b ≡ false)
-or_none true b e = absurd (false≢true (sym e))
-or_none false b e = (refl, e)
 
 -- what a byte that stops no token isn't
 pub record IsPlain (byte : ℕ) : Type 0 where
@@ -29,9 +28,9 @@ pub record IsPlain (byte : ℕ) : Type 0 where
 
 plain : (byte : ℕ) → stops byte ≡ false → IsPlain byte
 plain byte e =
-    let slash = or_none (is_blank byte || is_sign byte || byte == 35) (byte == 47) e in
-    let hash = or_none (is_blank byte || is_sign byte) (byte == 35) slash.0 in
-    let sign = or_none (is_blank byte) (is_sign byte) hash.0 in
+    let slash = both_false (is_blank byte || is_sign byte || byte == 35) (byte == 47) e in
+    let hash = both_false (is_blank byte || is_sign byte) (byte == 35) slash.0 in
+    let sign = both_false (is_blank byte) (is_sign byte) hash.0 in
     record { blank = sign.0; sign = sign.1; hash = hash.1; slash = slash.1 }
 
 starts_more : (byte c : ℕ) (bytes w : List ℕ) → starts_with nat_eq (byte ∷ bytes) (c ∷ w) ≡ (nat_eq c byte && starts_with nat_eq bytes w)
@@ -44,7 +43,7 @@ starts_other : (byte c : ℕ) (bytes w : List ℕ) → nat_eq byte c ≡ false �
 starts_other byte c bytes w e = starts_more byte c bytes w ∙ ap (λ b. b && starts_with nat_eq bytes w) (eq_turned byte c e)
 
 -- no comment begins at a byte other than `#` and `/`
-no_comment : (byte : ℕ) (bytes : List ℕ) → (byte == 35) ≡ false → (byte == 47) ≡ false → comment_length (byte ∷ bytes) ≡ 0
+pub no_comment : (byte : ℕ) (bytes : List ℕ) → (byte == 35) ≡ false → (byte == 47) ≡ false → comment_length (byte ∷ bytes) ≡ 0
 unfolding comment_length
 no_comment byte bytes h s =
     by (byte == 35) (starts_with nat_eq (byte ∷ bytes) (codes "//")) (starts_with nat_eq (byte ∷ bytes) (codes "/*")) h
@@ -57,16 +56,14 @@ no_comment byte bytes h s =
     by false false true h s t = absurd (false≢true (sym t))
     by false false false h s t = refl
 
-after_blanks-other : (byte : ℕ) (bytes : List ℕ) → is_blank byte ≡ false → after_blanks (byte ∷ bytes) ≡ byte ∷ bytes
-unfolding after_blanks
+after_blanks-other : (byte : ℕ) (bytes : List ℕ) → is_blank byte ≡ false → behind is_blank (byte ∷ bytes) ≡ byte ∷ bytes
 after_blanks-other byte bytes e = by (is_blank byte) e
   where
     by : (b : Bool) → b ≡ false → drop (cond b (1 + prefix_len is_blank bytes) 0) (byte ∷ bytes) ≡ byte ∷ bytes
     by true e = absurd (false≢true (sym e))
     by false e = refl
 
-after_blanks-blank : (byte : ℕ) (bytes : List ℕ) → is_blank byte ≡ true → after_blanks (byte ∷ bytes) ≡ after_blanks bytes
-unfolding after_blanks
+after_blanks-blank : (byte : ℕ) (bytes : List ℕ) → is_blank byte ≡ true → behind is_blank (byte ∷ bytes) ≡ behind is_blank bytes
 after_blanks-blank byte bytes e = by (is_blank byte) e
   where
     by : (b : Bool) → b ≡ true → drop (cond b (1 + prefix_len is_blank bytes) 0) (byte ∷ bytes) ≡ drop (prefix_len is_blank bytes) bytes
@@ -74,12 +71,11 @@ after_blanks-blank byte bytes e = by (is_blank byte) e
     by false e = absurd (false≢true e)
 
 -- what stands behind blanks begins with none
-no_blank : (bytes : List ℕ) → begins is_blank (after_blanks bytes) ≡ false
-unfolding after_blanks
+no_blank : (bytes : List ℕ) → begins is_blank (behind is_blank bytes) ≡ false
 no_blank [] = refl
 no_blank (byte ∷ bytes) = by (is_blank byte) refl (no_blank bytes)
   where
-    by : (b : Bool) → is_blank byte ≡ b → begins is_blank (after_blanks bytes) ≡ false → begins is_blank (after_blanks (byte ∷ bytes)) ≡ false
+    by : (b : Bool) → is_blank byte ≡ b → begins is_blank (behind is_blank bytes) ≡ false → begins is_blank (behind is_blank (byte ∷ bytes)) ≡ false
     by true e rest = ap (begins is_blank) (after_blanks-blank byte bytes e) ∙ rest
     by false e rest = ap (begins is_blank) (after_blanks-other byte bytes e) ∙ e
 
@@ -174,37 +170,36 @@ squeezed-head f g byte bytes b = by (ends (byte ∷ bytes)) (byte == 47) refl re
     by false true e t = squeezed-slash f byte bytes e b t ∙ sym (squeezed-slash g byte bytes e b t)
     by false false e t = squeezed-other f byte bytes e b t ∙ sym (squeezed-other g byte bytes e b t)
 
-after_blanks-none : after_blanks [] ≡ []
-unfolding after_blanks
+after_blanks-none : behind is_blank [] ≡ []
 after_blanks-none = refl
 
-squeezed-ended : (g : Bool) (bytes : List ℕ) → ends bytes ≡ true → squeezed g (after_blanks bytes) ≡ []
+squeezed-ended : (g : Bool) (bytes : List ℕ) → ends bytes ≡ true → squeezed g (behind is_blank bytes) ≡ []
 squeezed-ended g [] e = ap (squeezed g) after_blanks-none ∙ squeezed-none g
 squeezed-ended g (byte ∷ bytes) e = by (is_blank byte) refl (squeezed-ended g bytes)
   where
-    by : (b : Bool) → is_blank byte ≡ b → (ends bytes ≡ true → squeezed g (after_blanks bytes) ≡ []) → squeezed g (after_blanks (byte ∷ bytes)) ≡ []
+    by : (b : Bool) → is_blank byte ≡ b → (ends bytes ≡ true → squeezed g (behind is_blank bytes) ≡ []) → squeezed g (behind is_blank (byte ∷ bytes)) ≡ []
     by true b rest = ap (squeezed g) (after_blanks-blank byte bytes b) ∙ rest (sym (ends-blank byte bytes b) ∙ e)
     by false b rest = ap (squeezed g) (after_blanks-other byte bytes b) ∙ squeezed-end g byte bytes e
 
 -- blanks in front of a line are skipped alike before and after it is squeezed
-pub after_blanks-squeezed : (f g : Bool) (bytes : List ℕ) → after_blanks (squeezed f bytes) ≡ squeezed g (after_blanks bytes)
-after_blanks-squeezed f g [] = ap after_blanks (squeezed-none f) ∙ after_blanks-none ∙ sym (squeezed-none g) ∙ sym (ap (squeezed g) after_blanks-none)
+pub after_blanks-squeezed : (f g : Bool) (bytes : List ℕ) → behind is_blank (squeezed f bytes) ≡ squeezed g (behind is_blank bytes)
+after_blanks-squeezed f g [] = ap (behind is_blank) (squeezed-none f) ∙ after_blanks-none ∙ sym (squeezed-none g) ∙ sym (ap (squeezed g) after_blanks-none)
 after_blanks-squeezed f g (byte ∷ bytes) = by (ends (byte ∷ bytes)) (is_blank byte) refl refl (after_blanks-squeezed f g bytes)
   where
-    skip : (c : Bool) → after_blanks (squeezed f bytes) ≡ squeezed g (after_blanks bytes)
-        → after_blanks (cond c (squeezed f bytes) (32 ∷ squeezed f bytes)) ≡ squeezed g (after_blanks bytes)
+    skip : (c : Bool) → behind is_blank (squeezed f bytes) ≡ squeezed g (behind is_blank bytes)
+        → behind is_blank (cond c (squeezed f bytes) (32 ∷ squeezed f bytes)) ≡ squeezed g (behind is_blank bytes)
     skip true rest = rest
     skip false rest = after_blanks-blank 32 (squeezed f bytes) refl ∙ rest
 
-    kept : (s : Bool) → ends (byte ∷ bytes) ≡ false → is_blank byte ≡ false → (byte == 47) ≡ s → after_blanks (squeezed f (byte ∷ bytes)) ≡ squeezed f (byte ∷ bytes)
-    kept true e b t = ap after_blanks (squeezed-slash f byte bytes e b t) ∙ after_blanks-other byte bytes b ∙ sym (squeezed-slash f byte bytes e b t)
-    kept false e b t = ap after_blanks (squeezed-other f byte bytes e b t) ∙ after_blanks-other byte _ b ∙ sym (squeezed-other f byte bytes e b t)
+    kept : (s : Bool) → ends (byte ∷ bytes) ≡ false → is_blank byte ≡ false → (byte == 47) ≡ s → behind is_blank (squeezed f (byte ∷ bytes)) ≡ squeezed f (byte ∷ bytes)
+    kept true e b t = ap (behind is_blank) (squeezed-slash f byte bytes e b t) ∙ after_blanks-other byte bytes b ∙ sym (squeezed-slash f byte bytes e b t)
+    kept false e b t = ap (behind is_blank) (squeezed-other f byte bytes e b t) ∙ after_blanks-other byte _ b ∙ sym (squeezed-other f byte bytes e b t)
 
-    by : (e b : Bool) → ends (byte ∷ bytes) ≡ e → is_blank byte ≡ b → after_blanks (squeezed f bytes) ≡ squeezed g (after_blanks bytes)
-        → after_blanks (squeezed f (byte ∷ bytes)) ≡ squeezed g (after_blanks (byte ∷ bytes))
-    by true b e t rest = ap after_blanks (squeezed-end f byte bytes e) ∙ after_blanks-none ∙ sym (squeezed-ended g (byte ∷ bytes) e)
+    by : (e b : Bool) → ends (byte ∷ bytes) ≡ e → is_blank byte ≡ b → behind is_blank (squeezed f bytes) ≡ squeezed g (behind is_blank bytes)
+        → behind is_blank (squeezed f (byte ∷ bytes)) ≡ squeezed g (behind is_blank (byte ∷ bytes))
+    by true b e t rest = ap (behind is_blank) (squeezed-end f byte bytes e) ∙ after_blanks-none ∙ sym (squeezed-ended g (byte ∷ bytes) e)
     by false true e t rest =
-        ap after_blanks (squeezed-blank f byte bytes e t) ∙ skip (f || begins skips bytes) rest ∙ sym (ap (squeezed g) (after_blanks-blank byte bytes t))
+        ap (behind is_blank) (squeezed-blank f byte bytes e t) ∙ skip (f || begins skips bytes) rest ∙ sym (ap (squeezed g) (after_blanks-blank byte bytes t))
     by false false e t rest =
         kept (byte == 47) e t refl ∙ squeezed-head f g byte bytes t ∙ sym (ap (squeezed g) (after_blanks-other byte bytes t))
 
@@ -223,8 +218,8 @@ outer test inner byte s = by (test byte) refl
     by : (b : Bool) → test byte ≡ b → test byte ≡ false
     by false e = e
     by true e =
-        let two = or_none (skips byte || byte == 35) (byte == 47) (inner byte e) in
-        absurd (false≢true (sym (or_none (skips byte) (byte == 35) two.0).0 ∙ s))
+        let two = both_false (skips byte || byte == 35) (byte == 47) (inner byte e) in
+        absurd (false≢true (sym (both_false (skips byte) (byte == 35) two.0).0 ∙ s))
 
 begins_skip : (test : ℕ → Bool) → IsOuter test → (bytes : List ℕ) → begins skips bytes ≡ true → begins test bytes ≡ false
 unfolding IsOuter
@@ -254,7 +249,7 @@ begins-squeezed test outer (byte ∷ bytes) e = by (ends (byte ∷ bytes)) (is_b
 
 -- the bytes in front that pass a test, and those behind them
 abbrev pub split : (ℕ → Bool) → List ℕ → List ℕ × List ℕ
-split test bytes = (take (prefix_len test bytes) bytes, drop (prefix_len test bytes) bytes)
+split test bytes = (take_while test bytes, behind test bytes)
 
 split_none : (test : ℕ → Bool) (bytes : List ℕ) → begins test bytes ≡ false → split test bytes ≡ ([], bytes)
 split_none test [] e = refl
@@ -339,9 +334,9 @@ inner_hex byte e = grind (arith, nat_tests)
 
 -- each reader reads behind the blanks in front
 module _ {A : Type 0} (read : List ℕ → Option (A × List ℕ)) (at : (text : List ℕ) → Moved (read (squeezed false text)) (read text)) where
-  behind_blanks : (close : Bool) (bytes : List ℕ) → Moved (read (after_blanks (squeezed close bytes))) (read (after_blanks bytes))
+  behind_blanks : (close : Bool) (bytes : List ℕ) → Moved (read (behind is_blank (squeezed close bytes))) (read (behind is_blank bytes))
   behind_blanks close bytes =
-      subst (λ (text : List ℕ). Moved (read text) (read (after_blanks bytes))) (sym (after_blanks-squeezed close false bytes)) (at (after_blanks bytes))
+      subst (λ (text : List ℕ). Moved (read text) (read (behind is_blank bytes))) (sym (after_blanks-squeezed close false bytes)) (at (behind is_blank bytes))
 
 name_at-moved : (text : List ℕ) → Moved (name_at (squeezed false text)) (name_at text)
 name_at-moved text =
@@ -362,13 +357,6 @@ not_is : (b : Bool) → not b ≡ true → b ≡ false
 not_is true e = absurd (false≢true e)
 not_is false e = refl
 
-and_both : (a b : Bool) → (a && b) ≡ true → (a ≡ true) × (b ≡ true)
-and_both true b e = (refl, e)
-and_both false b e = absurd (false≢true e)
-
-eq_is : (a b : ℕ) → nat_eq a b ≡ true → a ≡ b
-eq_is a b e = grind (arith, nat_tests)
-
 eq_outer : (c : ℕ) → stops c ≡ false → IsOuter (λ byte. nat_eq c byte)
 unfolding IsOuter
 eq_outer c p byte s = by (nat_eq c byte) refl
@@ -376,8 +364,8 @@ eq_outer c p byte s = by (nat_eq c byte) refl
     by : (b : Bool) → nat_eq c byte ≡ b → nat_eq c byte ≡ false
     by false e = e
     by true e =
-        let two = or_none (skips c || c == 35) (c == 47) p in
-        absurd (false≢true (sym (or_none (skips c) (c == 35) two.0).0 ∙ ap skips (eq_is c byte e) ∙ s))
+        let two = both_false (skips c || c == 35) (c == 47) p in
+        absurd (false≢true (sym (both_false (skips c) (c == 35) two.0).0 ∙ ap skips (eq_is c byte e) ∙ s))
 
 starts_none : (c : ℕ) (w text : List ℕ) → begins (λ byte. nat_eq c byte) text ≡ false → starts_with nat_eq text (c ∷ w) ≡ false
 starts_none c w [] e = refl
@@ -386,10 +374,10 @@ starts_none c w (byte ∷ text) e = starts_more byte c text w ∙ ap (λ b. b &&
 starts-squeezed : (word text : List ℕ) → is_plain_text word ≡ true → starts_with nat_eq (squeezed false text) word ≡ starts_with nat_eq text word
 starts-squeezed [] text p = refl
 starts-squeezed (c ∷ word) [] p = ap (λ xs. starts_with nat_eq xs (c ∷ word)) (squeezed-none false)
-starts-squeezed (c ∷ word) (byte ∷ text) p = by (nat_eq c byte) refl (starts-squeezed word text (and_both (not (stops c)) (is_plain_text word) p).1)
+starts-squeezed (c ∷ word) (byte ∷ text) p = by (nat_eq c byte) refl (starts-squeezed word text (both_true (not (stops c)) (is_plain_text word) p).1)
   where
     here : stops c ≡ false
-    here = not_is (stops c) (and_both (not (stops c)) (is_plain_text word) p).0
+    here = not_is (stops c) (both_true (not (stops c)) (is_plain_text word) p).0
 
     by : (b : Bool) → nat_eq c byte ≡ b → starts_with nat_eq (squeezed false text) word ≡ starts_with nat_eq text word
         → starts_with nat_eq (squeezed false (byte ∷ text)) (c ∷ word) ≡ starts_with nat_eq (byte ∷ text) (c ∷ word)
@@ -404,8 +392,8 @@ drop-squeezed : (word text : List ℕ) → is_plain_text word ≡ true → start
 drop-squeezed [] text p s = refl
 drop-squeezed (c ∷ word) [] p s = absurd (false≢true s)
 drop-squeezed (c ∷ word) (byte ∷ text) p s =
-    let two = and_both (nat_eq c byte) (starts_with nat_eq text word) (sym (starts_more byte c text word) ∙ s) in
-    let parts = and_both (not (stops c)) (is_plain_text word) p in
+    let two = both_true (nat_eq c byte) (starts_with nat_eq text word) (sym (starts_more byte c text word) ∙ s) in
+    let parts = both_true (not (stops c)) (is_plain_text word) p in
     ap (drop (length (c ∷ word))) (squeezed-plain false byte text (sym (ap stops (eq_is c byte two.0)) ∙ not_is (stops c) parts.0))
     ∙ drop-squeezed word text parts.1 two.1
 
@@ -422,7 +410,7 @@ module _ {A : Type 0} where
   unfolding keyword_at
   keyword_at-moved [] text p = tt
   keyword_at-moved (row ∷ rows) text p =
-      let parts = and_both (is_plain_text row.0) (list_all (λ row. is_plain_text row.0) rows) p in
+      let parts = both_true (is_plain_text row.0) (list_all (λ row. is_plain_text row.0) rows) p in
       keyword-step (starts_with nat_eq (squeezed false text) row.0) (starts_with nat_eq text row.0) row text (keyword_at rows text) (keyword_at rows (squeezed false text))
       (starts-squeezed row.0 text parts.0) (drop-squeezed row.0 text parts.0) (keyword_at-moved rows text parts.1)
 
@@ -501,7 +489,7 @@ number_at-moved text =
     hex_step (is_hex_number (squeezed false text)) (is_hex_number text) (digits_at false 16 is_hex (drop 2 (squeezed false text))) (digits_at false 16 is_hex (drop 2 text)) _ _
     (is_hex_number-squeezed text)
     (λ h. digits-squeezed false 16 is_hex inner_hex (drop 2 text) (drop 2 (squeezed false text))
-    (drop-squeezed (codes "0x") text refl (and_both (starts_with nat_eq text (codes "0x")) (begins is_hex (drop 2 text)) h).0))
+    (drop-squeezed (codes "0x") text refl (both_true (starts_with nat_eq text (codes "0x")) (begins is_hex (drop 2 text)) h).0))
     (decimal_at-moved (begins (λ byte. byte == 45) text) (begins (λ byte. byte == 45) (squeezed false text)) (unwrap_or (sign_at 45 text) text) _
     (begins_inner (λ byte. byte == 45) inner_minus text) (minus-squeezed text))
 
@@ -550,11 +538,11 @@ module _ (w : ℕ) (b : is_blank w ≡ false) (h : (w == 35) ≡ false) (s : (w 
   pub sign-passed : (close : Bool) (bytes : List ℕ) → Passed (sign w (squeezed close bytes)) (sign w bytes)
   unfolding sign
   sign-passed close bytes =
-      subst (λ (text : List ℕ). Passed (sign_at w text) (sign_at w (after_blanks bytes))) (sym (after_blanks-squeezed close false bytes)) (sign_at-passed (after_blanks bytes) (no_blank bytes))
+      subst (λ (text : List ℕ). Passed (sign_at w text) (sign_at w (behind is_blank bytes))) (sym (after_blanks-squeezed close false bytes)) (sign_at-passed (behind is_blank bytes) (no_blank bytes))
 
   pub next_is-squeezed : (close : Bool) (bytes : List ℕ) → next_is w (squeezed close bytes) ≡ next_is w bytes
   unfolding next_is
-  next_is-squeezed close bytes = ap (begins (λ b. b == w)) (after_blanks-squeezed close false bytes) ∙ sign_begins (after_blanks bytes) (no_blank bytes)
+  next_is-squeezed close bytes = ap (begins (λ b. b == w)) (after_blanks-squeezed close false bytes) ∙ sign_begins (behind is_blank bytes) (no_blank bytes)
 
 -- the end of a line
 ends_at-none : ends_at [] ≡ true
@@ -574,4 +562,4 @@ ends_at-squeezed (byte ∷ text) n = by (ends_at (byte ∷ text)) (byte == 35) (
 
 pub ends-squeezed : (close : Bool) (bytes : List ℕ) → ends (squeezed close bytes) ≡ ends bytes
 unfolding ends
-ends-squeezed close bytes = ap ends_at (after_blanks-squeezed close false bytes) ∙ ends_at-squeezed (after_blanks bytes) (no_blank bytes)
+ends-squeezed close bytes = ap ends_at (after_blanks-squeezed close false bytes) ∙ ends_at-squeezed (behind is_blank bytes) (no_blank bytes)

@@ -14,6 +14,7 @@ use Rattle.yas_asm.specs.declared.statement.Parsed.{Parsed}
 use Rattle.yas_asm.specs.Grammar.{read_line}
 use Rattle.yas_asm.specs.Assembly.{placed, source_lines, labels, address_after, listing, listed}
 use Rattle.yas_asm.specs.Laws.{AlignIsLeast, TextsStandThere}
+use Rattle.yas_asm.proofs.Parts.{head_is, tail_is, no_cons}
 use Rattle.yas_asm.proofs.LawLemmas.{accepted}
 
 -- the next multiple of a number that does not divide the address
@@ -49,15 +50,6 @@ drop_twice n m bytes = grind (arith, common_steps)
 
 length_first : (bytes : List ℕ) → length (take (position_or_len is_line_feed bytes) bytes) ≡ position_or_len is_line_feed bytes
 length_first bytes = length-prefix_len (λ byte. not (is_line_feed byte)) bytes
-
-head_is : {A : Type 0} (x y : A) (xs ys : List A) → x ∷ xs ≡ y ∷ ys → x ≡ y
-head_is x y xs ys e = cc
-
-tail_is : {A : Type 0} (x y : A) (xs ys : List A) → x ∷ xs ≡ y ∷ ys → xs ≡ ys
-tail_is x y xs ys e = cc
-
-no_cons : {A : Type 0} (x : A) (xs : List A) → [] ≡ x ∷ xs → ⊥
-no_cons x xs e = cc
 
 -- the first line of a text is its beginning, and the other lines are those of what stands behind its line feed
 first_text : (bytes text : List ℕ) (texts : List (List ℕ)) → lines bytes ≡ text ∷ texts

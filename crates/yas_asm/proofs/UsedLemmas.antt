@@ -1,8 +1,10 @@
 -- Addresses that have a byte: one more address, one byte more.
-use Rattle.std.proofs.Common.{◌≡◌, ◌<◌, sym, ap, ◌∙◌, ℕ, zero, suc, ◌+◌, ◌-◌, Bool, true, false, List, [], ◌∷◌, ◌++◌, refl, arith}
+use Rattle.std.proofs.Common.{◌≡◌, ◌<◌, sym, ap, ◌∙◌, ℕ, zero, suc, ◌+◌, ◌-◌, false, List, [], ◌∷◌, ◌++◌, refl, arith}
 use Rattle.std.specs.Prelude.{nat_eq, ◌||◌}
 use Rattle.std.specs.List.{list_any, range_with_len}
 use Rattle.std.proofs.lemmas.Bool.Decides.{nat_tests}
+use Rattle.std.proofs.lemmas.List.{append-nil, append_assoc}
+use Rattle.y86_base.proofs.Booleans.{both_false}
 use Rattle.yas_asm.specs.Assembly.{overlaps}
 
 pub overlaps_none : (used : List ℕ) (address n : ℕ) → n ≡ 0 → overlaps used address n ≡ false
@@ -14,19 +16,12 @@ unfolding overlaps
 overlaps_more used address zero h = absurd (omega arith)
 overlaps_more used address (suc n) h = let m : suc n - 1 ≡ n = omega arith in rw m refl
 
-or_false : (a b : Bool) → (a || b) ≡ false → (a ≡ false) × (b ≡ false)
-or_false true b e = (e, absurd (true_is e))
-  where
-    true_is : true ≡ false → ⊥
-    true_is e = cc
-or_false false b e = (refl, e)
-
 -- a byte that is emitted is at an address that has none, and the bytes behind it too
 pub free_here : (used : List ℕ) (address n : ℕ) → 0 < n → overlaps used address n ≡ false → list_any (nat_eq address) used ≡ false
-free_here used address n h e = (or_false _ _ (sym (overlaps_more used address n h) ∙ e)).0
+free_here used address n h e = (both_false _ _ (sym (overlaps_more used address n h) ∙ e)).0
 
 free_behind : (used : List ℕ) (address n : ℕ) → 0 < n → overlaps used address n ≡ false → overlaps used (address + 1) (n - 1) ≡ false
-free_behind used address n h e = (or_false _ _ (sym (overlaps_more used address n h) ∙ e)).1
+free_behind used address n h e = (both_false _ _ (sym (overlaps_more used address n h) ∙ e)).1
 
 has_other : (used : List ℕ) (a b : ℕ) → a < b → list_any (nat_eq b) (used ++ a ∷ []) ≡ list_any (nat_eq b) used
 has_other [] a b h = grind (arith, nat_tests)
@@ -41,19 +36,11 @@ pub free_after : (old new : List ℕ) (address n : ℕ) → 0 < n → overlaps o
 free_after old new address n h e f = rw f (overlaps_other old address (address + 1) (n - 1) (omega arith) ∙ free_behind old address n h e)
 
 pub range_none : (used : List ℕ) (address n : ℕ) → n ≡ 0 → used ++ range_with_len address n ≡ used
-range_none used address n e = rw e (append_nil used)
-  where
-    append_nil : (xs : List ℕ) → xs ++ [] ≡ xs
-    append_nil [] = refl
-    append_nil (x ∷ xs) = ap (λ rest. x ∷ rest) (append_nil xs)
-
-range_push : (used : List ℕ) (address n : ℕ) → (used ++ address ∷ []) ++ range_with_len (address + 1) n ≡ used ++ address ∷ range_with_len (address + 1) n
-range_push [] address n = refl
-range_push (x ∷ used) address n = ap (λ rest. x ∷ rest) (range_push used address n)
+range_none used address n e = rw e (append-nil used)
 
 pub range_more : (old new : List ℕ) (address n : ℕ) → 0 < n → new ≡ old ++ address ∷ [] → new ++ range_with_len (address + 1) (n - 1) ≡ old ++ range_with_len address n
 range_more old new address zero h e = absurd (omega arith)
-range_more old new address (suc n) h e = let m : suc n - 1 ≡ n = omega arith in rw (e, m) (range_push old address n)
+range_more old new address (suc n) h e = let m : suc n - 1 ≡ n = omega arith in rw (e, m) (append_assoc old (address ∷ []) (range_with_len (address + 1) n))
 
 pub ruleset overlapping = (overlaps_none, overlaps_more)
 

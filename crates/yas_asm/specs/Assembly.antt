@@ -1,8 +1,10 @@
--- What a source assembles to. The address before each line follows from the lines before it; from the lines at their addresses
--- follow the labels, a map from names to addresses, and from both follow the bytes of each line and its faults.
-use Rattle.std.specs.Prelude.{ℕ, zero, suc, ◌+◌, ◌-◌, ◌*◌, ◌^◌, ◌%◌, Bool, false, not, ◌&&◌, ◌||◌, ◌==◌, nat_le, nat_lt, nat_eq, if◌then◌else◌, List, [], ◌∷◌, ◌++◌, length, take, fold, Option, Some, None, is_some, is_none, unwrap_or, Result, Ok, Err}
+-- What a source assembles to: a listing like that of CS:APP 3e, figure 4.8, or its first fault. The address before each line follows from
+-- the lines before it; from the lines at their addresses follow the labels, a map from names to addresses, and from both follow the bytes
+-- of each line and its faults. What follows from these definitions in the words of a reader is in Laws.
+use Rattle.std.specs.Prelude.{ℕ, ◌+◌, ◌-◌, ◌*◌, ◌^◌, ◌%◌, Bool, false, not, ◌&&◌, ◌||◌, ◌==◌, nat_le, nat_lt, nat_eq, if◌then◌else◌, List, [], ◌∷◌, ◌++◌, length, take, fold, Option, Some, None, is_some, is_none, unwrap_or, Result, Ok, Err}
 use Rattle.std.specs.List.{list_any, range_with_len, flat_map}
 use Rattle.std.specs.Int.{to_le_bytes, w64}
+use Rattle.std.specs.Option.{option_map_or}
 use Rattle.y86_base.specs.declared.parts.Variant.{Variant}
 use Rattle.y86_isa.specs.Table.{row}
 use Rattle.yas_asm.specs.declared.fault.AsmWhy.{AsmWhy}
@@ -10,7 +12,6 @@ use Rattle.yas_asm.specs.declared.fault.AsmWhy.TheVariants.{NumberTooWide, Label
 use Rattle.yas_asm.specs.declared.fault.AsmFault.{AsmFault}
 use Rattle.yas_asm.specs.declared.listing.Line.{Line}
 use Rattle.yas_asm.specs.declared.statement.Width.{Width}
-use Rattle.yas_asm.specs.declared.statement.Width.TheVariants.{Eight}
 use Rattle.yas_asm.specs.declared.statement.Operand.{Operand}
 use Rattle.yas_asm.specs.declared.statement.Operand.TheVariants.{Word, Label, Wide}
 use Rattle.yas_asm.specs.declared.statement.Statement.{Statement}
@@ -18,19 +19,16 @@ use Rattle.yas_asm.specs.declared.statement.Statement.TheVariants as statements
 use Rattle.yas_asm.specs.declared.statement.Parsed.{Parsed}
 use Rattle.y86_base.specs.Text.{lines}
 use Rattle.yas_asm.specs.Tokens.{meaning_of}
-use Rattle.yas_asm.specs.Grammar.{bytes_of, read_line}
+use Rattle.yas_asm.specs.Grammar.{bytes_of, operand_of, read_line}
 use Rattle.y86_isa.specs.Encoding.{encoded}
 
 -- addresses
 
 -- how many bytes a statement emits
 unfoldable pub width_of : Variant → Statement → ℕ
-width_of variant statements.Nothing = 0
 width_of variant (statements.Instruction icode ifun a b constant) = (row variant icode).length
 width_of variant (statements.Data width value) = bytes_of width
-width_of variant (statements.Position n) = 0
-width_of variant (statements.Align n) = 0
-width_of variant statements.Wide = 0
+width_of variant _ = 0
 
 -- the least multiple of a number that is not below an address
 abbrev pub next_multiple : ℕ → ℕ → ℕ
@@ -38,12 +36,11 @@ next_multiple n address = if address % n == 0 then address else address + (n - a
 
 -- where a statement at an address leads, whatever the size
 unfoldable pub destination : Variant → ℕ → Statement → ℕ
-destination variant address statements.Nothing = address
-destination variant address (statements.Instruction icode ifun a b constant) = address + (row variant icode).length
-destination variant address (statements.Data width value) = address + bytes_of width
 destination variant address (statements.Position n) = n
 destination variant address (statements.Align n) = next_multiple n address
-destination variant address statements.Wide = address
+destination variant address (statements.Instruction icode ifun a b constant) = address + (row variant icode).length
+destination variant address (statements.Data width value) = address + bytes_of width
+destination variant address _ = address
 
 -- the address behind a statement; None where it goes past the size
 unfoldable pub place : Variant → ℕ → ℕ → Statement → Option ℕ
@@ -61,7 +58,7 @@ pub record Placed : Type 0 where
   pub address : ℕ
   pub read : Result Parsed AsmWhy
 
--- the lines from an address on
+-- the lines from an address on, which `LinesFollow` of Laws says line by line
 unfoldable pub placed : Variant → ℕ → ℕ → List (List ℕ) → List Placed
 placed variant size address [] = []
 placed variant size address (text ∷ texts) =
@@ -99,14 +96,12 @@ value_of table (Word n) = n
 value_of table (Label name) = unwrap_or (meaning_of table name) 0
 value_of table Wide = 0
 
+-- the bytes that a statement emits: an instruction as figure 4.2 of CS:APP 3e encodes it, and data with the lowest byte first
 unfoldable pub bytes_at : List (List ℕ × ℕ) → Statement → List ℕ
-bytes_at table statements.Nothing = []
 bytes_at table (statements.Instruction icode ifun a b constant) =
     encoded (record { icode = icode; ifun = ifun; r_a = a; r_b = b; val_c = value_of table constant })
 bytes_at table (statements.Data width value) = take (bytes_of width) (to_le_bytes w64 (value_of table value))
-bytes_at table (statements.Position n) = []
-bytes_at table (statements.Align n) = []
-bytes_at table statements.Wide = []
+bytes_at table _ = []
 
 -- the addresses at which a statement emits bytes: none where it goes past the size
 unfoldable pub emitted : Variant → ℕ → ℕ → Statement → List ℕ
@@ -126,32 +121,20 @@ filled variant size placed = flat_map (λ line. addresses variant size line.addr
 
 -- a label whose value does not fit a width
 abbrev pub is_wide_label : List (List ℕ × ℕ) → Width → Operand → Bool
-is_wide_label table width (Word n) = false
 is_wide_label table width (Label name) = not (nat_lt (unwrap_or (meaning_of table name) 0) (2 ^ (8 * bytes_of width)))
-is_wide_label table width Wide = false
+is_wide_label table width _ = false
 
 abbrev pub is_unknown_label : List (List ℕ × ℕ) → Operand → Bool
-is_unknown_label table (Word n) = false
 is_unknown_label table (Label name) = is_none (meaning_of table name)
-is_unknown_label table Wide = false
+is_unknown_label table _ = false
 
 -- a statement names a label whose value is too wide for it
 unfoldable pub names_wide : List (List ℕ × ℕ) → Statement → Bool
-names_wide table statements.Nothing = false
-names_wide table (statements.Instruction icode ifun a b constant) = is_wide_label table Eight constant
-names_wide table (statements.Data width value) = is_wide_label table width value
-names_wide table (statements.Position n) = false
-names_wide table (statements.Align n) = false
-names_wide table statements.Wide = false
+names_wide table statement = option_map_or (λ o. is_wide_label table o.0 o.1) (operand_of statement) false
 
 -- a statement names a label that is not defined
 unfoldable pub names_unknown : List (List ℕ × ℕ) → Statement → Bool
-names_unknown table statements.Nothing = false
-names_unknown table (statements.Instruction icode ifun a b constant) = is_unknown_label table constant
-names_unknown table (statements.Data width value) = is_unknown_label table value
-names_unknown table (statements.Position n) = false
-names_unknown table (statements.Align n) = false
-names_unknown table statements.Wide = false
+names_unknown table statement = option_map_or (λ o. is_unknown_label table o.1) (operand_of statement) false
 
 -- a label is defined already
 abbrev pub is_defined : List (List ℕ × ℕ) → Option (List ℕ) → Bool
@@ -165,8 +148,7 @@ is_past_limit known (Some name) = is_none (meaning_of known name) && nat_le labe
 
 -- one of n bytes from an address on is at an address that has a byte
 unfoldable pub overlaps : List ℕ → ℕ → ℕ → Bool
-overlaps used address zero = false
-overlaps used address (suc n) = list_any (nat_eq address) used || overlaps used (address + 1) n
+overlaps used address n = list_any (λ at. list_any (nat_eq at) used) (range_with_len address n)
 
 -- the first reason that holds
 abbrev pub first_reason : List (Bool × AsmWhy) → Option AsmWhy
@@ -191,27 +173,30 @@ unfoldable pub line_fault : Variant → ℕ → List (List ℕ × ℕ) → List 
 line_fault variant size table known used address (Err why) = Some why
 line_fault variant size table known used address (Ok parsed) = statement_fault variant size table known used address parsed
 
+-- the least fault of a line at its address, where `before` are the lines before it
+abbrev pub fault_behind : Variant → ℕ → List (List ℕ × ℕ) → List Placed → Placed → Option AsmWhy
+fault_behind variant size table before line =
+    line_fault variant size table (labels before) (filled variant size before) line.address line.read
+
 abbrev pub fault_or : Option AsmWhy → ℕ → Option AsmFault → Option AsmFault
 fault_or None number later = later
 fault_or (Some why) number later = Some (record { line = number; why = why })
 
--- the first line with a fault, and its least fault; `before` are the lines before these
+-- the first line with a fault, and its least fault; `before` are the lines before these. Laws says when there is none, and what it tells
 unfoldable pub first_fault : Variant → ℕ → List (List ℕ × ℕ) → List Placed → List Placed → Option AsmFault
 first_fault variant size table before [] = None
 first_fault variant size table before (line ∷ rest) =
-    fault_or (line_fault variant size table (labels before) (filled variant size before) line.address line.read) (length before + 1)
-    (first_fault variant size table (before ++ line ∷ []) rest)
+    fault_or (fault_behind variant size table before line) (length before + 1) (first_fault variant size table (before ++ line ∷ []) rest)
 
 -- the listing
 
 -- the address that a line shows: that before it, or the one that `.pos` or `.align` sets; none where it has neither label nor statement
 abbrev pub shown_at : Option (List ℕ) → ℕ → Option ℕ → Statement → Option ℕ
-shown_at label address next statements.Nothing = if is_some label then Some address else None
-shown_at label address next (statements.Instruction icode ifun a b constant) = Some address
-shown_at label address next (statements.Data width value) = Some address
 shown_at label address next (statements.Position n) = next
 shown_at label address next (statements.Align n) = next
+shown_at label address next statements.Nothing = if is_some label then Some address else None
 shown_at label address next statements.Wide = None
+shown_at label address next _ = Some address
 
 -- a line at an address in the listing, whose text stands from `from` to `to` in the source
 unfoldable pub listed : Variant → ℕ → List (List ℕ × ℕ) → ℕ → ℕ → ℕ → Result Parsed AsmWhy → Line

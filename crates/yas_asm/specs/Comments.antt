@@ -1,8 +1,8 @@
--- Comments of assembly text, and the bytes that may stand outside them.
+-- Comments of assembly text, and the bytes that may stand outside them. `law_of_comments` says what `close_length` and `bad_outside` come to.
 use Rattle.std.specs.Prelude.{ℕ, zero, suc, ◌+◌, ◌-◌, Bool, false, not, ◌&&◌, ◌||◌, ◌==◌, nat_le, nat_eq, if◌then◌else◌, List, [], ◌∷◌, length, drop, codes}
 use Rattle.std.specs.List.{starts_with, list_all}
-use Rattle.y86_base.specs.Text.{is_blank}
-use Rattle.yas_asm.specs.Tokens.{begins, after_blanks}
+use Rattle.y86_base.specs.Text.{is_blank, behind}
+use Rattle.yas_asm.specs.Tokens.{begins}
 
 -- how many bytes there are up to the first `*/` and with it; 0 where none stands there
 unfoldable pub close_length : List ℕ → ℕ
@@ -35,4 +35,4 @@ abbrev pub ends_at : List ℕ → Bool
 ends_at text = list_all is_blank (drop (comment_length text) text)
 
 unfoldable pub ends : List ℕ → Bool
-ends bytes = ends_at (after_blanks bytes)
+ends bytes = ends_at (behind is_blank bytes)

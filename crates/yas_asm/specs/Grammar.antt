@@ -1,6 +1,8 @@
--- The grammar of a line: an optional label, an optional statement, an optional comment. Each reader gives what it read with the bytes
+-- The grammar of a line: an optional label, an optional statement, an optional comment, as the programs of CS:APP 3e, section 4.1.5, are
+-- written; the operands of each instruction are those of figure 4.2. Each reader gives what it read with the bytes
 -- behind it, or None where the bytes are not of its form.
 use Rattle.std.specs.Prelude.{ℕ, ◌-◌, ◌*◌, ◌^◌, ◌%◌, Bool, true, false, not, ◌&&◌, ◌==◌, nat_le, nat_lt, if◌then◌else◌, List, Option, Some, None, Result, Ok, Err, option_and_then}
+use Rattle.std.specs.Option.{option_map_or}
 use Rattle.y86_base.specs.declared.parts.Variant.{Variant}
 use Rattle.yas_asm.specs.declared.number.Number.{Number}
 use Rattle.yas_asm.specs.declared.fault.AsmWhy.{AsmWhy}
@@ -199,19 +201,20 @@ line variant bytes = do
   s ← last_statement variant (label bytes).1
   Some (record { label = (label bytes).0; statement = s })
 
+-- the number or label of a statement, and the width that it must fit
+abbrev pub operand_of : Statement → Option (Width × Operand)
+operand_of (statements.Instruction icode ifun a b constant) = Some (Eight, constant)
+operand_of (statements.Data width value) = Some (width, value)
+operand_of _ = None
+
 -- a written number is outside its bounds
 abbrev pub is_wide_operand : Operand → Bool
-is_wide_operand (operands.Word n) = false
-is_wide_operand (operands.Label text) = false
 is_wide_operand operands.Wide = true
+is_wide_operand _ = false
 
 unfoldable pub is_wide : Statement → Bool
-is_wide statements.Nothing = false
-is_wide (statements.Instruction icode ifun a b constant) = is_wide_operand constant
-is_wide (statements.Data width value) = is_wide_operand value
-is_wide (statements.Position n) = false
-is_wide (statements.Align n) = false
 is_wide statements.Wide = true
+is_wide statement = option_map_or (λ o. is_wide_operand o.1) (operand_of statement) false
 
 abbrev pub checked : Option Parsed → Result Parsed AsmWhy
 checked None = Err Syntax

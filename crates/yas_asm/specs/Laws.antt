@@ -1,11 +1,119 @@
 -- What follows from the definition of an assembled source, in the words of its reader.
-use Rattle.std.specs.Prelude.{◌≡◌, ℕ, ◌+◌, ◌-◌, ◌<◌, Bool, true, false, ◌&&◌, nat_le, nat_lt, List, ◌∷◌, ◌++◌, length, take, drop, fold, replicate, slice_index, Option, Some, None, unwrap_or, Ok, ◌%◌, ◌≤◌, map, slice_range}
-use Rattle.std.specs.List.{list_any}
+use Rattle.std.specs.Prelude.{◌≡◌, ℕ, ◌+◌, ◌-◌, ◌<◌, Bool, true, false, ◌&&◌, ◌||◌, ◌==◌, not, nat_le, nat_lt, List, ◌∷◌, ◌++◌, length, take, drop, fold, replicate, slice_index, Option, Some, None, is_none, unwrap_or, Ok, Err, is_ok, ◌%◌, ◌≤◌, map, slice_range}
+use Rattle.std.specs.List.{list_all, list_any}
 use Rattle.y86_base.specs.declared.parts.Variant.{Variant}
+use Rattle.yas_asm.specs.declared.fault.AsmWhy.{AsmWhy}
+use Rattle.yas_asm.specs.declared.fault.AsmWhy.TheVariants.{Syntax, BadByte, NumberTooWide, LabelTwice, LabelUnknown, OutsideMemory, Overlap, LabelLimit, Memory}
+use Rattle.yas_asm.specs.declared.fault.AsmFault.{AsmFault}
+use Rattle.yas_asm.specs.declared.statement.Parsed.{Parsed}
 use Rattle.yas_asm.specs.declared.listing.Line.{Line}
 use Rattle.y86_base.specs.Text.{lines}
 use Rattle.yas_asm.specs.Tokens.{meaning_of}
-use Rattle.yas_asm.specs.Assembly.{Placed, source_lines, labels, label_of, assembled, next_multiple}
+use Rattle.yas_asm.specs.Comments.{close_length, comment_length, is_good, bad_outside}
+use Rattle.yas_asm.specs.Grammar.{is_wide, line, read_line}
+use Rattle.yas_asm.specs.Assembly.{Placed, source_lines, width_of, place, address_after, labels, label_of, filled, names_wide, names_unknown, is_defined, is_past_limit, overlaps, fault_behind, assembled, next_multiple}
+
+-- what `close_length` finds is the first `*/`: one stands where it says, and it says none further behind than any that stands there
+pub record CloseIsFirst : Type 0 where
+  pub there :
+      (text : List ℕ) → 0 < close_length text → (2 ≤ close_length text) × (drop (close_length text - 2) text ≡ 42 ∷ 47 ∷ drop (close_length text) text)
+  pub first :
+      (before after : List ℕ) → (0 < close_length (before ++ 42 ∷ 47 ∷ after)) × (close_length (before ++ 42 ∷ 47 ∷ after) ≤ length before + 2)
+
+-- neither `#` nor `/`, with which comments begin
+abbrev pub begins_no_comment : ℕ → Bool
+begins_no_comment byte = not (byte == 35) && not (byte == 47)
+
+-- what the sweep for bad bytes comes to: a comment is passed as a whole and any other byte by itself; so a line of good bytes has no bad
+-- one outside its comments, and a bad byte in front of which neither `#` nor `/` stands is one
+pub record SweepPassesComments : Type 0 where
+  pub comment : (text : List ℕ) → 0 < comment_length text → bad_outside 0 text ≡ bad_outside 0 (drop (comment_length text) text)
+  pub plain : (byte : ℕ) (bytes : List ℕ) → comment_length (byte ∷ bytes) ≡ 0 → bad_outside 0 (byte ∷ bytes) ≡ (not (is_good byte) || bad_outside 0 bytes)
+  pub good : (text : List ℕ) → list_all is_good text ≡ true → bad_outside 0 text ≡ false
+  pub bad :
+      (before after : List ℕ) (byte : ℕ) → list_all begins_no_comment before ≡ true → is_good byte ≡ false
+      → bad_outside 0 (before ++ byte ∷ after) ≡ true
+
+-- the lines of a source have its texts, each is read by itself, the first stands at address 0, and each other where the line before it leads
+pub record LinesFollow : Type 0 where
+  pub texts : (variant : Variant) (source : List ℕ) (size : ℕ) → map (λ line. line.text) (source_lines variant size source) ≡ lines source
+  pub reads :
+      (variant : Variant) (source : List ℕ) (size : ℕ) (before after : List Placed) (line : Placed) → source_lines variant size source ≡ before ++ line ∷ after
+      → line.read ≡ read_line variant line.text
+  pub first : (variant : Variant) (source : List ℕ) (size : ℕ) (after : List Placed) (line : Placed) → source_lines variant size source ≡ line ∷ after → line.address ≡ 0
+  pub next :
+      (variant : Variant) (source : List ℕ) (size : ℕ) (before after : List Placed) (line other : Placed) → source_lines variant size source ≡ before ++ line ∷ other ∷ after
+      → other.address ≡ address_after variant size line.address line.read
+
+-- the fault of a source's line by the labels of the whole source and by the lines before it
+abbrev pub fault_of : Variant → ℕ → List ℕ → List Placed → Placed → Option AsmWhy
+fault_of variant size source before line = fault_behind variant size (labels (source_lines variant size source)) before line
+
+-- no line of a source has a fault
+abbrev pub IsFaultless : Variant → ℕ → List ℕ → Type 0
+IsFaultless variant size source =
+    (before after : List Placed) (line : Placed) → source_lines variant size source ≡ before ++ line ∷ after → fault_of variant size source before line ≡ None
+
+-- a source is accepted exactly where no line has a fault
+pub record AcceptedWithoutFault : Type 0 where
+  pub none : (variant : Variant) (source : List ℕ) (size : ℕ) (listing : List Line) → assembled variant source size ≡ Ok listing → IsFaultless variant size source
+  pub accepted : (variant : Variant) (source : List ℕ) (size : ℕ) → IsFaultless variant size source → is_ok (assembled variant source size) ≡ true
+
+-- a fault is that of a line before which no line has one, and tells the line's number and its reason
+pub record IsFirstFault (variant : Variant) (size : ℕ) (source : List ℕ) (fault : AsmFault) : Type 0 where
+  pub before : List Placed
+  pub line : Placed
+  pub after : List Placed
+  pub parts : source_lines variant size source ≡ before ++ line ∷ after
+  pub number : fault.line ≡ length before + 1
+  pub reason : fault_of variant size source before line ≡ Some fault.why
+  pub none_before : (first rest : List Placed) (other : Placed) → before ≡ first ++ other ∷ rest → fault_of variant size source first other ≡ None
+
+abbrev pub FirstFaultIsTold : Type 0
+FirstFaultIsTold =
+    (variant : Variant) (source : List ℕ) (size : ℕ) (fault : AsmFault) → assembled variant source size ≡ Err fault → IsFirstFault variant size source fault
+
+-- the reasons in the order in which they are told
+abbrev pub rank : AsmWhy → ℕ
+rank Syntax = 1
+rank BadByte = 2
+rank NumberTooWide = 3
+rank LabelTwice = 4
+rank LabelUnknown = 5
+rank OutsideMemory = 6
+rank Overlap = 7
+rank LabelLimit = 8
+rank Memory = 9
+
+-- where a reason holds of a line of the form, with the labels of the source and the lines before it
+abbrev pub holds_of : Variant → ℕ → List (List ℕ × ℕ) → List Placed → ℕ → Parsed → AsmWhy → Bool
+holds_of variant size table before address parsed NumberTooWide = is_wide parsed.statement || names_wide table parsed.statement
+holds_of variant size table before address parsed LabelTwice = is_defined (labels before) parsed.label
+holds_of variant size table before address parsed LabelUnknown = names_unknown table parsed.statement
+holds_of variant size table before address parsed OutsideMemory = is_none (place variant size address parsed.statement)
+holds_of variant size table before address parsed Overlap = overlaps (filled variant size before) address (width_of variant parsed.statement)
+holds_of variant size table before address parsed LabelLimit = is_past_limit (labels before) parsed.label
+holds_of variant size table before address parsed _ = false
+
+-- and of any line, where `bad` tells of a byte that is not allowed, and `form` is what a line of the form says
+abbrev pub holds : Variant → ℕ → List (List ℕ × ℕ) → List Placed → ℕ → Bool → Option Parsed → AsmWhy → Bool
+holds variant size table before address true form BadByte = true
+holds variant size table before address true form _ = false
+holds variant size table before address false None Syntax = true
+holds variant size table before address false None _ = false
+holds variant size table before address false (Some parsed) why = holds_of variant size table before address parsed why
+
+-- the least of the reasons that hold
+abbrev pub IsLeast : (AsmWhy → Bool) → Option AsmWhy → Type 0
+IsLeast test None = (why : AsmWhy) → test why ≡ false
+IsLeast test (Some why) = (test why ≡ true) × ((other : AsmWhy) → test other ≡ true → rank why ≤ rank other)
+
+-- of the reasons that hold of a line the least is its fault
+abbrev pub LeastReasonIsTold : Type 0
+LeastReasonIsTold =
+    (variant : Variant) (source : List ℕ) (size : ℕ) (before after : List Placed) (here : Placed) → source_lines variant size source ≡ before ++ here ∷ after
+    → IsLeast (holds variant size (labels (source_lines variant size source)) before here.address (bad_outside 0 here.text) (line variant here.text))
+    (fault_of variant size source before here)
 
 -- in an accepted source the value of a label is the address before its line's statement
 abbrev pub LabelsAreAddresses : Type 0
@@ -14,6 +122,21 @@ LabelsAreAddresses =
     → (before after : List Placed) (line : Placed) (name : List ℕ)
     → source_lines variant size source ≡ before ++ line ∷ after → label_of line.read ≡ Some name
     → meaning_of (labels (source_lines variant size source)) name ≡ Some line.address
+
+-- a line of a source has a label, and stands at an address
+pub record IsLabelled (all : List Placed) (name : List ℕ) (address : ℕ) : Type 0 where
+  pub before : List Placed
+  pub line : Placed
+  pub after : List Placed
+  pub parts : all ≡ before ++ line ∷ after
+  pub label : label_of line.read ≡ Some name
+  pub at : line.address ≡ address
+
+-- and in every source each label with a value is that of a line, at its address
+abbrev pub LabelsAreOfLines : Type 0
+LabelsAreOfLines =
+    (variant : Variant) (source : List ℕ) (size : ℕ) (name : List ℕ) (address : ℕ)
+    → meaning_of (labels (source_lines variant size source)) name ≡ Some address → IsLabelled (source_lines variant size source) name address
 
 -- a line of a listing emits a byte at an address
 abbrev pub emits_at : Option ℕ → ℕ → ℕ → Bool

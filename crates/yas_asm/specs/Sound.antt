@@ -8,11 +8,8 @@ use Rattle.yas_asm.specs.declared.statement.Statement.TheVariants as statements
 
 -- an instruction is valid whatever its constant stands for; where it has none, that is the number 0
 abbrev pub IsSound : Variant → Statement → Type 0
-IsSound variant statements.Nothing = Unit {0}
 IsSound variant (statements.Instruction icode ifun a b constant) =
     (value : ℕ) → (constant ≡ Word 0 → value ≡ 0)
     → IsValid variant (record { icode = icode; ifun = ifun; r_a = a; r_b = b; val_c = value })
-IsSound variant (statements.Data width value) = Unit {0}
-IsSound variant (statements.Position n) = Unit {0}
 IsSound variant (statements.Align n) = 0 < n
-IsSound variant statements.Wide = Unit {0}
+IsSound variant _ = Unit {0}

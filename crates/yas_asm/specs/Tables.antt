@@ -8,7 +8,8 @@ use Rattle.yas_asm.specs.declared.statement.Directive.TheVariants.{Position, Ali
 use Rattle.yas_asm.specs.declared.statement.Shape.{Shape}
 use Rattle.yas_asm.specs.declared.statement.Shape.TheVariants.{Alone, Registers, Immediate, Store, Load, Target, Single}
 use Rattle.yas_asm.specs.declared.statement.Operation.{Operation}
-use Rattle.yas_asm.specs.Tokens.{after_blanks, keyword_at, meaning_of}
+use Rattle.y86_base.specs.Text.{is_blank, behind}
+use Rattle.yas_asm.specs.Tokens.{keyword_at, meaning_of}
 
 -- the registers with their numbers (CS:APP 3e, figure 4.4)
 unfoldable pub registers : List (List ℕ × ℕ)
@@ -18,7 +19,7 @@ registers =
     ∷ (codes "%r12", 12) ∷ (codes "%r13", 13) ∷ (codes "%r14", 14) ∷ []
 
 unfoldable pub register : List ℕ → Option (ℕ × List ℕ)
-register bytes = keyword_at registers (after_blanks bytes)
+register bytes = keyword_at registers (behind is_blank bytes)
 
 unfoldable pub directives : List (List ℕ × Directive)
 directives =
@@ -26,7 +27,7 @@ directives =
     ∷ (codes ".long", Data Four) ∷ (codes ".quad", Data Eight) ∷ []
 
 unfoldable pub directive : List ℕ → Option (Directive × List ℕ)
-directive bytes = keyword_at directives (after_blanks bytes)
+directive bytes = keyword_at directives (behind is_blank bytes)
 
 abbrev op : Shape → ℕ → ℕ → Operation
 op shape icode ifun = record { shape = shape; icode = icode; ifun = ifun }

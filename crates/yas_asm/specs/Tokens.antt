@@ -1,10 +1,11 @@
 -- The tokens of assembly text. Each reader skips the blanks in front of its token, reads the token as long as it goes and gives it
 -- with the bytes behind it, or None where another thing stands there.
-use Rattle.std.specs.Prelude.{ℕ, ◌+◌, ◌*◌, ◌^◌, nat_lt, nat_eq, codes, fold, length, Bool, false, ◌&&◌, ◌||◌, ◌==◌, nat_le, if◌then◌else◌, List, [], ◌∷◌, Option, Some, None, take, drop, unwrap_or}
-use Rattle.std.specs.List.{prefix_len, starts_with}
+use Rattle.std.specs.Prelude.{ℕ, nat_eq, codes, length, Bool, false, ◌&&◌, ◌||◌, ◌==◌, nat_le, if◌then◌else◌, List, [], ◌∷◌, Option, Some, None, drop, take_while, unwrap_or}
+use Rattle.std.specs.List.{starts_with}
 use Rattle.std.specs.Str.{bytes_eq}
+use Rattle.std.specs.Str.Parse.{digits_value}
 use Rattle.yas_asm.specs.declared.number.Number.{Number}
-use Rattle.y86_base.specs.Text.{is_blank, is_decimal, is_hex, hex_value}
+use Rattle.y86_base.specs.Text.{is_blank, is_decimal, is_hex, behind, below_word}
 
 -- a letter or `_`
 abbrev pub is_letter : ℕ → Bool
@@ -18,15 +19,12 @@ abbrev pub begins : (ℕ → Bool) → List ℕ → Bool
 begins test [] = false
 begins test (byte ∷ bytes) = test byte
 
-unfoldable pub after_blanks : List ℕ → List ℕ
-after_blanks bytes = drop (prefix_len is_blank bytes) bytes
-
 -- one of the signs `$` `,` `(` `)` `:`
 abbrev pub sign_at : ℕ → List ℕ → Option (List ℕ)
 sign_at wanted text = if begins (λ byte. byte == wanted) text then Some (drop 1 text) else None
 
 unfoldable pub sign : ℕ → List ℕ → Option (List ℕ)
-sign wanted bytes = sign_at wanted (after_blanks bytes)
+sign wanted bytes = sign_at wanted (behind is_blank bytes)
 
 -- the bytes behind a sign that may be absent
 unfoldable pub after_sign : ℕ → List ℕ → List ℕ
@@ -35,25 +33,15 @@ after_sign wanted bytes = unwrap_or (sign wanted bytes) bytes
 -- a name is a letter or `_` and then letters, digits or `_`
 abbrev pub name_at : List ℕ → Option (List ℕ × List ℕ)
 name_at text =
-    if begins is_letter text then Some (take (prefix_len is_name_byte text) text, drop (prefix_len is_name_byte text) text) else None
+    if begins is_letter text then Some (take_while is_name_byte text, behind is_name_byte text) else None
 
 unfoldable pub name : List ℕ → Option (List ℕ × List ℕ)
-name bytes = name_at (after_blanks bytes)
+name bytes = name_at (behind is_blank bytes)
 
--- a number below 2^64; None stands for 2^64 or more, which no bound of the language allows
-abbrev pub below_word : ℕ → Option ℕ
-below_word n = if nat_lt n (2 ^ 64) then Some n else None
-
--- the number that digits write in a base
-unfoldable pub digits_value : ℕ → List ℕ → ℕ
-digits_value base digits = fold (λ n digit. n * base + hex_value digit) 0 digits
-
--- the digits in front, as long as they go, as a number
+-- the digits in front, as long as they go, as a number; a magnitude of 2^64 or more, which no bound of the language allows, is None
 abbrev pub digits_at : Bool → ℕ → (ℕ → Bool) → List ℕ → Number × List ℕ
-digits_at negative base is_digit text = (
-  record { negative = negative; magnitude = below_word (digits_value base (take (prefix_len is_digit text) text)) },
-  drop (prefix_len is_digit text) text,
-)
+digits_at negative base is_digit text =
+    (record { negative = negative; magnitude = below_word (digits_value base (take_while is_digit text)) }, behind is_digit text)
 
 -- `0x` with a hex digit behind it
 abbrev pub is_hex_number : List ℕ → Bool
@@ -70,7 +58,7 @@ number_at text =
     else decimal_at (begins (λ byte. byte == 45) text) (unwrap_or (sign_at 45 text) text)
 
 unfoldable pub number : List ℕ → Option (Number × List ℕ)
-number bytes = number_at (after_blanks bytes)
+number bytes = number_at (behind is_blank bytes)
 
 -- the first of some fixed texts that stands in front, by its meaning
 unfoldable pub keyword_at : {A : Type 0} → List (List ℕ × A) → List ℕ → Option (A × List ℕ)
@@ -84,4 +72,4 @@ meaning_of (row ∷ rows) text = if bytes_eq text row.0 then Some row.1 else mea
 
 -- whether a sign comes next
 unfoldable pub next_is : ℕ → List ℕ → Bool
-next_is wanted bytes = begins (λ byte. byte == wanted) (after_blanks bytes)
+next_is wanted bytes = begins (λ byte. byte == wanted) (behind is_blank bytes)

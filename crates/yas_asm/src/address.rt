@@ -1,5 +1,5 @@
-ghost use Rattle.std.specs.Prelude.{◌≡◌, ◌+◌, ◌^◌, ◌<◌, IfOk};
-ghost use Rattle.yas_asm.specs.Tokens.{below_word};
+ghost use Rattle.std.specs.Prelude.{◌≡◌, ◌<◌, IfOk};
+ghost use Rattle.y86_base.specs.Text.{below_word};
 ghost use Rattle.yas_asm.specs.Grammar as grammar;
 ghost use Rattle.yas_asm.specs.Assembly as assembly;
 ghost use Rattle.yas_asm.specs.Sound.{IsSound};

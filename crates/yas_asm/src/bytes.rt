@@ -1,6 +1,5 @@
-ghost use Rattle.std.specs.Prelude.{◌≡◌, ◌≤◌, ◌<◌, ◌++◌, ◌∷◌, ◌^◌, [], take, length, None, Some};
+ghost use Rattle.std.specs.Prelude.{◌≡◌, take};
 ghost use Rattle.std.specs.Int.{to_le_bytes, w64};
-ghost use Rattle.arrayvec.specs.ArrayVec.{array_vec_len};
 ghost use Rattle.yas_asm.specs.Assembly as assembly;
 ghost use Rattle.yas_asm.specs.Grammar as grammar;
 ghost use Rattle.yas_asm.specs.Sound.{IsSound};

@@ -1,4 +1,4 @@
-ghost use Rattle.std.specs.Prelude.{◌≡◌, false, drop, ◌≤◌, ◌<◌, length};
+ghost use Rattle.std.specs.Prelude.{◌≡◌, false, drop, ◌≤◌, length};
 ghost use Rattle.yas_asm.specs.Comments as comments;
 
 use y86_base::is_blank;

@@ -1,5 +1,5 @@
 ghost use Rattle.yas_asm.specs.Sound.{IsSound};
-ghost use Rattle.std.specs.Prelude.{IfOk, ◌≡◌, ◌*◌, ◌-◌, ◌^◌, ◌<◌};
+ghost use Rattle.std.specs.Prelude.{IfOk, ◌≡◌, ◌*◌, ◌-◌, ◌^◌};
 ghost use Rattle.yas_asm.specs.Grammar as grammar;
 ghost use Rattle.yas_asm.specs.Tables as tables;
 ghost use Rattle.yas_asm.specs.Reads.{Reads};

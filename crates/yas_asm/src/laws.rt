@@ -1,10 +1,31 @@
 ghost use Rattle.yas_asm.specs.Spacing.{SpacingIsFree};
-ghost use Rattle.yas_asm.specs.Laws.{AlignIsLeast, BytesHaveOneLine, ImageHasLines, ImageIsZeroElsewhere, LabelsAreAddresses, TextsStandThere};
+ghost use Rattle.yas_asm.specs.Laws.{AcceptedWithoutFault, AlignIsLeast, BytesHaveOneLine, CloseIsFirst, FirstFaultIsTold, ImageHasLines, ImageIsZeroElsewhere, LabelsAreAddresses, LabelsAreOfLines, LeastReasonIsTold, LinesFollow, SweepPassesComments, TextsStandThere};
 
-/// In an accepted source the value of a label is the address before its line's statement.
-#[tactic(auto, using(crate::proofs::LawLemmas::labels_are_addresses))]
+/// A `/*` goes to the first `*/`, and the sweep for bad bytes passes a comment as a whole and any other byte by itself.
+pub fn law_of_comments()
+    ensures close { CloseIsFirst }
+    ensures sweep { SweepPassesComments }
+{}
+
+/// The lines of a source have its texts, each is read by itself, the first stands at address 0, and each other where the line before
+/// it leads.
+pub fn law_of_lines()
+    ensures { LinesFollow }
+{}
+
+/// A source is accepted exactly where no line has a fault. Otherwise the first line with a fault is told, and of the reasons that hold
+/// there the first in the order of `AsmWhy`.
+pub fn law_of_faults()
+    ensures accepted { AcceptedWithoutFault }
+    ensures first { FirstFaultIsTold }
+    ensures least { LeastReasonIsTold }
+{}
+
+/// In an accepted source the value of a label is the address before its line's statement. In every source a label with a value is that
+/// of a line at this address.
 pub fn law_of_labels()
-    ensures { LabelsAreAddresses }
+    ensures addresses { LabelsAreAddresses }
+    ensures lines { LabelsAreOfLines }
 {}
 
 /// In the listing of an accepted source no two lines emit a byte at one address.
@@ -20,7 +41,6 @@ pub fn law_of_images()
 {}
 
 /// Two accepted sources that differ in comments and blanks alone have the same addresses and bytes, line for line.
-
 pub fn law_of_spacing()
     ensures { SpacingIsFree }
 {}

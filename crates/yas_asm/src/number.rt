@@ -1,9 +1,9 @@
-ghost use Rattle.std.specs.Prelude.{MatchOption, None, Some, length, Bool, List, drop, IsTrue, ◌≡◌, ◌≤◌, ◌<◌, ◌*◌, ◌+◌, ℕ};
+ghost use Rattle.std.specs.Prelude.{MatchOption, None, Some, length, IsTrue, ◌≡◌, ◌≤◌};
 ghost use Rattle.std.specs.List.{prefix_len};
 ghost use Rattle.y86_base.specs.Text as text;
 ghost use Rattle.yas_asm.specs.Tokens as tokens;
 
-use y86_base::{hex_value, is_hex};
+use y86_base::{is_decimal, is_hex, number_in_base, split_hex};
 
 /// A number as it is written. A magnitude of None stands for 2^64 or more.
 #[derive(Clone, Copy, Debug)]
@@ -12,40 +12,7 @@ pub struct Number {
     pub magnitude: Option<u64>,
 }
 
-/// A number with one more digit behind it.
-fn with_digit(value: Option<u64>, base: u64, digit: u64) -> Option<u64>
-    requires { 1 ≤ base }
-    ensures { (n : ℕ) → value ≡ tokens.below_word n → result ≡ tokens.below_word (n * base + digit) }
-{
-    value?.checked_mul(base)?.checked_add(digit)
-}
-
-#[tactic(auto, unfolding(crate::specs::Tokens::digits_value))]
-/// The number that digits write in a base, where it is below 2^64.
-pub fn digits_value(base: u64, digits: &[u8]) -> Option<u64>
-    requires { 1 ≤ base }
-    ensures { result ≡ tokens.below_word (tokens.digits_value base digits.now) }
-{
-    let mut value = Some(0);
-    for digit in digits {
-        value = with_digit(value, base, u64::from(hex_value(*digit)));
-    }
-    value
-}
-
-fn hex_length(bytes: &[u8]) -> usize
-    ensures count { result ≡ prefix_len text.is_hex bytes.now }
-    ensures within { result ≤ length bytes.now }
-{
-    bytes.iter().take_while(|byte| is_hex(**byte)).count()
-}
-
-fn is_decimal(byte: u8) -> bool
-    ensures { result ≡ text.is_decimal byte }
-{
-    b'0' <= byte && byte <= b'9'
-}
-
+/// How many decimal digits stand at the front.
 fn decimal_length(bytes: &[u8]) -> usize
     ensures count { result ≡ prefix_len text.is_decimal bytes.now }
     ensures within { result ≤ length bytes.now }
@@ -87,7 +54,7 @@ fn decimal_at(negative: bool, bytes: &[u8]) -> Option<(Number, &[u8])>
     Some((
         Number {
             negative,
-            magnitude: digits_value(10, digits),
+            magnitude: number_in_base(10, digits),
         },
         behind,
     ))
@@ -99,9 +66,8 @@ pub fn number_at(bytes: &[u8]) -> Option<(Number, &[u8])>
         (λ x. tokens.number_at bytes.now ≡ Some (x.0, x.1.now)) }
 {
     if is_hex_number(bytes) {
-        let text = bytes.split_at(2).1;
-        let (digits, behind) = text.split_at(hex_length(text));
-        let magnitude = digits_value(16, digits);
+        let (digits, behind) = split_hex(bytes.split_at(2).1);
+        let magnitude = number_in_base(16, digits);
         return Some((
             Number {
                 negative: false,

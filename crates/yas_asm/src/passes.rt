@@ -1,4 +1,4 @@
-ghost use Rattle.std.specs.Prelude.{◌≡◌, ◌≢◌, ◌+◌, ◌++◌, ◌<◌, ◌^◌, length, IfOk, OnOk, OnErr, None};
+ghost use Rattle.std.specs.Prelude.{◌≡◌, ◌+◌, ◌++◌, ◌<◌, ◌^◌, IfOk, OnOk};
 ghost use Rattle.yas_asm.specs.Assembly as assembly;
 ghost use Rattle.yas_asm.specs.Outcome.{Stops, Gives, line_for};
 ghost use Rattle.yas_asm.specs.LabelMap.{items_of};

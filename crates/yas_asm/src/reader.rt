@@ -1,6 +1,5 @@
-ghost use Rattle.std.specs.Prelude.{IfNone, ◌≡◌, ◌≤◌, ◌<◌, List, ℕ, length, drop};
+ghost use Rattle.std.specs.Prelude.{IfNone, ◌≡◌, ◌≤◌, List, ℕ, length};
 ghost use Rattle.std.specs.List.{prefix_len};
-ghost use Rattle.y86_base.specs.Text as text;
 ghost use Rattle.yas_asm.specs.Comments as comments;
 ghost use Rattle.yas_asm.specs.Tokens as tokens;
 ghost use Rattle.yas_asm.specs.Tables as tables;
@@ -14,7 +13,7 @@ use crate::number::{Number, number_at};
 use crate::statement::Directive;
 use crate::tables::{directives, registers};
 use std::marker::Model;
-use y86_base::is_blank;
+use y86_base::{after_blanks, is_blank, is_decimal};
 
 /// What is left of a line as it is read, seen as its bytes.
 #[derive(Drop)]
@@ -39,21 +38,7 @@ fn is_letter(byte: u8) -> bool
 fn is_name_byte(byte: u8) -> bool
     ensures { result ≡ tokens.is_name_byte byte }
 {
-    is_letter(byte) || (b'0' <= byte && byte <= b'9')
-}
-
-#[tactic(auto, unfolding(crate::specs::Tokens::after_blanks))]
-fn after_blanks(bytes: &[u8]) -> &[u8]
-    ensures { result.now ≡ tokens.after_blanks bytes.now }
-{
-    bytes.split_at(blank_length(bytes)).1
-}
-
-fn blank_length(bytes: &[u8]) -> usize
-    ensures count { result ≡ prefix_len text.is_blank bytes.now }
-    ensures within { result ≤ length bytes.now }
-{
-    bytes.iter().take_while(|byte| is_blank(**byte)).count()
+    is_letter(byte) || is_decimal(byte)
 }
 
 fn name_length(bytes: &[u8]) -> usize
