@@ -1,8 +1,9 @@
 -- Bytes put into a memory one after another, and all at once.
-use Rattle.std.proofs.Common.{◌≡◌, ℕ, ◌+◌, ◌/◌, ◌≤◌, List, [], ◌∷◌, length, refl, ◌∙◌, arith, add-zero, append-nil}
+use Rattle.std.proofs.Common.{◌≡◌, ℕ, ◌+◌, ◌/◌, ◌^◌, ◌≤◌, Bool, true, false, cond, nat_lt, List, [], ◌∷◌, length, Some, None, refl, ◌∙◌, arith, add-zero, append-nil, ltb-false}
 use Rattle.std.proofs.Math.Seq.{sets}
 use Rattle.std.proofs.lemmas.List.{take-append-drop}
 use Rattle.std.proofs.lemmas.List.Edits.{sets-eq}
+use Rattle.y86_base.specs.Text.{below_word}
 use Rattle.yo_object.specs.ObjectText.{with_bytes, bytes_of_pairs}
 
 -- what is left to put is nothing
@@ -18,3 +19,11 @@ pub pairs_length : (digits : List ℕ) → length (bytes_of_pairs digits) ≡ le
 pairs_length [] = refl
 pairs_length (high ∷ []) = refl
 pairs_length (high ∷ low ∷ digits) = omega (arith, pairs_length digits)
+
+-- a number that is no word is 2^64 at least
+pub not_a_word : (n : ℕ) → None ≡ below_word n → 2 ^ 64 ≤ n
+not_a_word n none = by (nat_lt n (2 ^ 64)) refl none
+  where
+    by : (b : Bool) → nat_lt n (2 ^ 64) ≡ b → None ≡ cond b (Some n) None → 2 ^ 64 ≤ n
+    by true e h = absurd (cc)
+    by false e h = ltb-false n (2 ^ 64) e

@@ -7,18 +7,15 @@ use Rattle.std.proofs.lemmas.Bool.{eqb-true, lt-ltb, ltb-true}
 use Rattle.std.proofs.lemmas.Bool.Decides.{nat_tests}
 use Rattle.std.proofs.lemmas.List.{take-append-drop, append_assoc}
 use Rattle.std.proofs.lemmas.Option.{option_and_then_some}
-use Rattle.y86_base.specs.Text.{is_blank, is_hex}
-use Rattle.yo_object.specs.ObjectText.{behind, after_byte, after_prefix, is_line_end, Digits, digits_behind_colon, digits_of}
+use Rattle.y86_base.specs.Text.{is_blank, is_hex, behind}
+use Rattle.y86_base.proofs.Booleans.{both_true}
+use Rattle.yo_object.specs.ObjectText.{after_byte, after_prefix, is_line_end, Digits, digits_behind_colon, digits_of}
 use Rattle.yo_object.specs.Grammar.{IsObjectLine, BeginsObjectLine, digits_in_line, ReadsTheForm, SkipsTheRest}
 
 -- a text doesn't begin with a byte that passes
 abbrev Stops : (ℕ → Bool) → List ℕ → Type 0
 Stops passes [] = Unit {0}
 Stops passes (first ∷ rest) = passes first ≡ false
-
-both_true : (a b : Bool) → (a && b) ≡ true → (a ≡ true) × (b ≡ true)
-both_true true b h = (refl, h)
-both_true false b h = absurd (cc)
 
 step_true : (b : Bool) (n : ℕ) → b ≡ true → cond b (1 + n) 0 ≡ suc n
 step_true b n e = rw (e, one-add) refl
@@ -152,7 +149,7 @@ colon_found read text address bytes h =
         }
     at false e found = absurd (cc)
 
-form_found : (line address bytes : List ℕ) → digits_in_line line ≡ Some (record { address = address; bytes = bytes }) → IsObjectLine line address bytes
+pub form_found : (line address bytes : List ℕ) → digits_in_line line ≡ Some (record { address = address; bytes = bytes }) → IsObjectLine line address bytes
 unfolding digits_of
 form_found line address bytes h =
     option_and_then_some digits_of (after_prefix (behind is_blank line)) _ h (λ body prefix read.
@@ -185,10 +182,10 @@ form_found line address bytes h =
           comment_ends = f.ends;
         }
 
-begin_read : (line rest : List ℕ) → BeginsObjectLine line rest → after_prefix (behind is_blank line) ≡ Some rest
+pub begin_read : (line rest : List ℕ) → BeginsObjectLine line rest → after_prefix (behind is_blank line) ≡ Some rest
 begin_read line rest begins = rw (begins.text, behind-run is_blank begins.lead (48 ∷ 120 ∷ rest) begins.lead_blank refl) refl
 
-begin_found : (line rest : List ℕ) → after_prefix (behind is_blank line) ≡ Some rest → BeginsObjectLine line rest
+pub begin_found : (line rest : List ℕ) → after_prefix (behind is_blank line) ≡ Some rest → BeginsObjectLine line rest
 begin_found line rest h = record {
   lead = take_while is_blank line;
   text = run_and_rest is_blank line ∙ ap (λ x. take_while is_blank line ++ x) (after_prefix_some _ rest h);

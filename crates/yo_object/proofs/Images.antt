@@ -38,7 +38,7 @@ put_behind memory bytes first a fits le =
     get_or-append_right (take first memory ++ bytes) _ n a 0 wide le ∙ (get_or-drop n memory (a - n) 0 ∙ ap (λ i. get_or memory i 0) back)
 
 -- an address that a line misses keeps its byte
-missed_at : (memory bytes : List ℕ) (addr : Option ℕ) (a : ℕ) → IfSome addr (λ first. 0 < length bytes → first + length bytes ≤ length memory) →
+pub missed_at : (memory bytes : List ℕ) (addr : Option ℕ) (a : ℕ) → IfSome addr (λ first. 0 < length bytes → first + length bytes ≤ length memory) →
     IfSome addr (λ first. (a < first) ⊎ (first + length bytes ≤ a)) → get_or (with_bytes_at memory addr bytes) a 0 ≡ get_or memory a 0
 missed_at memory bytes None a inside misses = refl
 missed_at memory [] (Some first) a inside misses = ap (λ m. get_or m a 0) (put_nothing memory first)
@@ -59,7 +59,7 @@ all_missed memory (line ∷ listing) a inside misses =
     all_missed (with_line memory line) listing a (next_inside memory line listing inside) (All-tail (Misses a) line listing misses)
     ∙ missed_at memory line.bytes.items line.addr a (All-head (IsInside (length memory)) line listing inside) (All-head (Misses a) line listing misses)
 
-zeros_are_zero : (size a : ℕ) → get_or (replicate {A = ℕ} size 0) a 0 ≡ 0
+pub zeros_are_zero : (size a : ℕ) → get_or (replicate {A = ℕ} size 0) a 0 ≡ 0
 zeros_are_zero size a =
     elim (cases_lt a size) [
       | inl lt ↦ get_or-replicate {A = ℕ} size a 0 0 lt

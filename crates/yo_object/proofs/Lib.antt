@@ -1,6 +1,7 @@
 pub mod Bytes
 pub mod Texts
 pub mod Grammar
+pub mod LoadedLines
 pub mod HexDigits
 pub mod ListingImage
 pub mod PrintedLines
@@ -8,3 +9,4 @@ pub mod ListedLines
 pub mod ReadBack
 pub mod Images
 pub mod Apart
+pub mod LoadedText

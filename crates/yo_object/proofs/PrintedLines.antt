@@ -1,23 +1,24 @@
 -- A printed line is read as its address and its bytes, and the printed lines are the lines of the text.
-use Rattle.std.proofs.Common.{◌≡◌, ℕ, zero, suc, ◌+◌, ◌-◌, ◌/◌, ◌%◌, ◌^◌, ◌<◌, ◌≤◌, Bool, true, false, not, ◌&&◌, nat_lt, eqb, List, [], ◌∷◌, ◌++◌, length, codes, take, drop, fold, replicate, All, IfSome, Option, Some, None, Ok, refl, ap, sym, subst, ◌∙◌, arith, append_assoc, length-append, length-take, length-drop, le-ltb, ltb-true, ne_eqb}
-use Rattle.std.specs.Prelude.{option_and_then}
+use Rattle.std.proofs.Common.{◌≡◌, ℕ, zero, suc, ◌+◌, ◌-◌, ◌^◌, ◌<◌, ◌≤◌, Bool, true, false, not, List, [], ◌∷◌, ◌++◌, length, codes, take, drop, fold, replicate, All, IfSome, Option, Some, None, Ok, refl, ap, sym, subst, ◌∙◌, arith, append_assoc, length-append, length-take, length-drop}
 use Rattle.std.specs.List.{list_all, flat_map}
 use Rattle.std.proofs.lemmas.Bool.{false≢true}
 use Rattle.std.proofs.lemmas.Bool.Decides.{nat_tests}
 use Rattle.std.proofs.lemmas.List.Elements.{All-head, All-tail}
 use Rattle.y86_base.specs.Image.{AreBytes}
 use Rattle.y86_base.specs.Text.{is_blank, is_hex, is_line_feed, lines}
+use Rattle.y86_base.proofs.Booleans.{both_true}
 use Rattle.y86_base.specs.Numeral.{numeral}
 use Rattle.yas_asm.specs.declared.listing.Line.{Line}
-use Rattle.yo_object.specs.ObjectText.{behind, after_prefix, digits_of, hex_number, with_bytes, put_digits, put_text, put_line, put_lines}
-use Rattle.yo_object.specs.Grammar.{IsObjectLine}
+use Rattle.yo_object.specs.ObjectText.{after_prefix, put_line, put_lines}
+use Rattle.yo_object.specs.Grammar.{IsObjectLine, BeginsObjectLine}
 use Rattle.yo_object.specs.Printed.{hex_bytes, front, text_of, printed_line}
 use Rattle.yo_object.specs.ReadBack.{IsInside}
 use Rattle.yo_object.proofs.ListingImage.{with_bytes_at, with_line}
 use Rattle.yo_object.proofs.Bytes.{put_nothing}
+use Rattle.yo_object.proofs.LoadedLines.{line_put, line_skipped}
 use Rattle.yo_object.proofs.Texts.{text_end, text_more}
-use Rattle.yo_object.proofs.Grammar.{behind-run, form_read, list_all-append}
-use Rattle.yo_object.proofs.HexDigits.{IsHexOf, numeral_is_hex, ArePairsOf, hex_bytes_are_pairs}
+use Rattle.yo_object.proofs.Grammar.{behind-run, begin_read, list_all-append}
+use Rattle.yo_object.proofs.HexDigits.{numeral_is_hex, hex_bytes_are_pairs}
 
 -- lines without line feeds
 
@@ -27,14 +28,10 @@ is_plain byte = not (is_line_feed byte)
 hex_plain : (byte : ℕ) → is_hex byte ≡ true → is_plain byte ≡ true
 hex_plain byte h = grind (arith, nat_tests)
 
-both : (a b : Bool) → (a && b) ≡ true → (a ≡ true) × (b ≡ true)
-both true b h = (refl, h)
-both false b h = absurd (false≢true h)
-
 all_plain : (digits : List ℕ) → list_all is_hex digits ≡ true → list_all is_plain digits ≡ true
 all_plain [] h = refl
 all_plain (digit ∷ digits) h =
-    let b = both (is_hex digit) (list_all is_hex digits) h in
+    let b = both_true (is_hex digit) (list_all is_hex digits) h in
     rw (hex_plain digit b.0, all_plain digits b.1) refl
 
 blanks_plain : (count : ℕ) → list_all is_plain (replicate count 32) ≡ true
@@ -49,7 +46,7 @@ not_is false h = refl
 next_line : (line rest : List ℕ) → list_all is_plain line ≡ true → lines (line ++ (10 ∷ rest)) ≡ line ∷ lines rest
 next_line [] rest h = refl
 next_line (byte ∷ line) rest h =
-    let b = both (is_plain byte) (list_all is_plain line) h in
+    let b = both_true (is_plain byte) (list_all is_plain line) h in
     rw (not_is (is_line_feed byte) b.0, next_line line rest b.1) refl
 
 -- the text of a line
@@ -81,58 +78,42 @@ form_of digits pairs trail text digits_hex some pairs_hex trail_blank = record {
   comment_ends = refl;
 }
 
--- a line of the form is read as its digits
-put_form : (memory line address bytes : List ℕ) → IsObjectLine line address bytes →
-    put_line memory line ≡ put_digits memory (record { address = address; bytes = bytes })
-unfolding put_line
-put_form memory line address bytes form = by (after_prefix (behind is_blank line)) (form_read line address bytes form)
+-- a line without an address is skipped
+blanks_skipped : (bytes text rest : List ℕ) → BeginsObjectLine (front None bytes ++ (codes " | " ++ text)) rest → ⊥
+unfolding front
+blanks_skipped bytes text rest begins = no (sym (begin_read _ rest begins) ∙ ap after_prefix (behind-run is_blank (replicate 28 32) (124 ∷ 32 ∷ text) refl refl))
   where
-    by : (p : Option (List ℕ)) → option_and_then digits_of p ≡ Some (record { address = address; bytes = bytes }) →
-        put_text memory p ≡ put_digits memory (record { address = address; bytes = bytes })
-    by None e = absurd (cc)
-    by (Some text) e = rw e refl
-
-not_both : (a b : Bool) → (a ≡ true → b ≡ false) → (a && b) ≡ false
-not_both true b h = h refl
-not_both false b h = refl
-
--- and puts its bytes at its address
-put_bytes : (memory digits pairs bytes : List ℕ) (address : ℕ) → IsHexOf address digits → ArePairsOf bytes pairs →
-    (0 < length bytes → address + length bytes ≤ length memory) →
-    put_digits memory (record { address = digits; bytes = pairs }) ≡ Ok (with_bytes memory address bytes)
-unfolding put_digits
-put_bytes memory digits pairs bytes address hex two inside =
-    let wide : nat_lt 16 (length digits) ≡ false = le-ltb 16 (length digits) hex.few in
-    let odd : eqb (length pairs % 2) 1 ≡ false = ne_eqb (length pairs % 2) 1 (λ e. omega (arith, two.double)) in
-    let outside : (nat_lt 0 (length pairs) && nat_lt (length memory) (hex_number digits + length pairs / 2)) ≡ false =
-    not_both _ _ (λ e. le-ltb (length memory) _ (let some : 0 < length pairs = ltb-true 0 (length pairs) e in omega (arith, hex.number, two.double, inside))) in
-    rw (wide, odd, outside) (λ i. Ok (with_bytes memory (hex.number i) (two.bytes_are i)))
-
-put_blanks : (memory bytes text : List ℕ) → put_line memory (front None bytes ++ (codes " | " ++ text)) ≡ Ok memory
-unfolding put_line front
-put_blanks memory bytes text =
-    let e : behind is_blank (replicate 28 32 ++ (124 ∷ 32 ∷ text)) ≡ 124 ∷ 32 ∷ text = behind-run is_blank (replicate 28 32) (124 ∷ 32 ∷ text) refl refl in
-    ap (λ t. put_text memory (after_prefix t)) e
+    no : Some rest ≡ None → ⊥
+    no e = cc
 
 -- a printed line puts its bytes at its address
 put_at : (memory bytes text : List ℕ) (addr : Option ℕ) → AreBytes bytes → IfSome addr (λ a. a < 16 ^ 16) →
     IfSome addr (λ a. 0 < length bytes → a + length bytes ≤ length memory) →
     put_line memory (front addr bytes ++ (codes " | " ++ text)) ≡ Ok (with_bytes_at memory addr bytes)
 unfolding front
-put_at memory bytes text None small narrow inside = put_blanks memory bytes text
+put_at memory bytes text None small narrow inside = line_skipped memory _ (blanks_skipped bytes text)
 put_at memory bytes text (Some a) small narrow inside =
-    let hex = numeral_is_hex a narrow in
+    let hex = numeral_is_hex 3 15 a (omega arith) (omega arith) narrow (omega (arith, narrow)) in
     let two = hex_bytes_are_pairs bytes small in
-    put_form memory _ (numeral 16 3 a) (hex_bytes bytes)
-    (form_of (numeral 16 3 a) (hex_bytes bytes) (replicate (20 - length (hex_bytes bytes)) 32) text hex.hex hex.some two.hex (blanks_blank (20 - length (hex_bytes bytes))))
-    ∙ put_bytes memory (numeral 16 3 a) (hex_bytes bytes) bytes a hex two inside
+    line_put (length memory) memory _ (record {
+      address = a;
+      bytes = bytes;
+      digits = numeral 16 3 a;
+      pairs = hex_bytes bytes;
+      form = form_of (numeral 16 3 a) (hex_bytes bytes) (replicate (20 - length (hex_bytes bytes)) 32) text hex.hex (omega (arith, hex.wide)) two.hex (blanks_blank (20 - length (hex_bytes bytes)));
+      narrow = hex.few;
+      number = hex.number;
+      written = two.bytes_are;
+      double = two.double;
+      inside = inside;
+    }) refl
 
 -- what stands in front of a line's text is no line feed
 front_plain : (bytes : List ℕ) (addr : Option ℕ) → AreBytes bytes → IfSome addr (λ a. a < 16 ^ 16) → list_all is_plain (front addr bytes) ≡ true
 unfolding front
 front_plain bytes None small narrow = refl
 front_plain bytes (Some a) small narrow =
-    let hex = numeral_is_hex a narrow in
+    let hex = numeral_is_hex 3 15 a (omega arith) (omega arith) narrow (omega (arith, narrow)) in
     let two = hex_bytes_are_pairs bytes small in
     let blanks : List ℕ = replicate (20 - length (hex_bytes bytes)) 32 in
     let back : list_all is_plain (hex_bytes bytes ++ blanks) ≡ true =

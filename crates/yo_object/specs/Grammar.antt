@@ -1,8 +1,8 @@
 -- The form of an object line in a grammar's words, beside the definition that reads it.
 use Rattle.std.specs.Prelude.{◌≡◌, ◌↔◌, ℕ, ◌<◌, true, List, ◌∷◌, ◌++◌, length, Option, Some, option_and_then}
 use Rattle.std.specs.List.{list_all}
-use Rattle.y86_base.specs.Text.{is_blank, is_hex}
-use Rattle.yo_object.specs.ObjectText.{behind, after_prefix, is_line_end, Digits, digits_of}
+use Rattle.y86_base.specs.Text.{is_blank, is_hex, behind}
+use Rattle.yo_object.specs.ObjectText.{after_prefix, is_line_end, Digits, digits_of}
 
 -- line = blanks "0x" address ":" blanks bytes blanks comment: the address has a digit at least, and the comment is
 -- empty or begins with `|`

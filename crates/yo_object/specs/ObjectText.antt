@@ -1,14 +1,11 @@
 -- Object text, as the assembler of CS:APP 3e prints it (figure 4.8): lines that put bytes at addresses.
-use Rattle.std.specs.Prelude.{ℕ, ◌+◌, ◌*◌, ◌/◌, ◌%◌, Bool, true, ◌&&◌, ◌==◌, nat_lt, if◌then◌else◌, List, [], ◌∷◌, ◌++◌, length, take, drop, fold, replicate, Option, Some, None, option_and_then, Result, Ok, Err, take_while}
-use Rattle.std.specs.List.{prefix_len}
-use Rattle.y86_base.specs.Text.{is_blank, is_hex, hex_value, lines}
+use Rattle.std.specs.Prelude.{ℕ, ◌+◌, ◌*◌, ◌/◌, ◌%◌, Bool, true, ◌&&◌, ◌==◌, nat_lt, if◌then◌else◌, List, [], ◌∷◌, ◌++◌, length, take, drop, replicate, Option, Some, None, option_and_then, Result, Ok, Err, take_while}
+use Rattle.std.specs.Option.{option_map_or}
+use Rattle.std.specs.Str.Parse.{digits_value}
+use Rattle.y86_base.specs.Text.{is_blank, is_hex, hex_value, behind, lines}
 use Rattle.yo_object.specs.declared.object.YoWhy.{YoWhy}
 use Rattle.yo_object.specs.declared.object.YoWhy.TheVariants.{Syntax, OddDigits, OutsideMemory, AddressTooWide}
 use Rattle.yo_object.specs.declared.object.YoFault.{YoFault}
-
--- what stands behind the bytes at the front that pass
-abbrev pub behind : (ℕ → Bool) → List ℕ → List ℕ
-behind passes text = drop (prefix_len passes text) text
 
 -- what stands behind a byte, where the text begins with it
 abbrev pub after_byte : ℕ → List ℕ → Option (List ℕ)
@@ -29,6 +26,7 @@ pub record Digits : Type 0 where
   pub address : List ℕ
   pub bytes : List ℕ
 
+-- the digits of a line: its address digits, which are in front of a colon, and the byte digits of the text behind it
 abbrev pub digits_behind_colon : List ℕ → List ℕ → Option Digits
 digits_behind_colon address text =
     if nat_lt 0 (length address) && is_line_end (behind is_blank (behind is_hex (behind is_blank text)))
@@ -38,10 +36,6 @@ digits_behind_colon address text =
 -- behind `0x`: address digits, `:`, blanks, byte digits, blanks, and the line's end or `|`
 unfoldable pub digits_of : List ℕ → Option Digits
 digits_of text = option_and_then (digits_behind_colon (take_while is_hex text)) (after_byte 58 (behind is_hex text))
-
--- the number that hex digits write, the highest digit first
-abbrev pub hex_number : List ℕ → ℕ
-hex_number digits = fold (λ number digit. 16 * number + hex_value digit) 0 digits
 
 -- the bytes that pairs of hex digits write
 abbrev pub bytes_of_pairs : List ℕ → List ℕ
@@ -58,20 +52,13 @@ unfoldable pub put_digits : List ℕ → Digits → Result (List ℕ) YoWhy
 put_digits memory digits =
     if nat_lt 16 (length digits.address) then Err AddressTooWide
     else (if length digits.bytes % 2 == 1 then Err OddDigits
-    else (if nat_lt 0 (length digits.bytes) && nat_lt (length memory) (hex_number digits.address + length digits.bytes / 2) then Err OutsideMemory
-    else Ok (with_bytes memory (hex_number digits.address) (bytes_of_pairs digits.bytes))))
-
-abbrev pub put_record : List ℕ → Option Digits → Result (List ℕ) YoWhy
-put_record memory None = Err Syntax
-put_record memory (Some digits) = put_digits memory digits
-
-abbrev pub put_text : List ℕ → Option (List ℕ) → Result (List ℕ) YoWhy
-put_text memory None = Ok memory
-put_text memory (Some text) = put_record memory (digits_of text)
+    else (if nat_lt 0 (length digits.bytes) && nat_lt (length memory) (digits_value 16 digits.address + length digits.bytes / 2) then Err OutsideMemory
+    else Ok (with_bytes memory (digits_value 16 digits.address) (bytes_of_pairs digits.bytes))))
 
 -- the memory after a line, or its fault: a line that doesn't begin with `0x` behind its blanks is skipped
 unfoldable pub put_line : List ℕ → List ℕ → Result (List ℕ) YoWhy
-put_line memory line = put_text memory (after_prefix (behind is_blank line))
+put_line memory line =
+    option_map_or (λ text. option_map_or (put_digits memory) (digits_of text) (Err Syntax)) (after_prefix (behind is_blank line)) (Ok memory)
 
 -- what a line's memory goes on to, or the line's fault
 abbrev pub after_line : ℕ → (List ℕ → Result (List ℕ) YoFault) → Result (List ℕ) YoWhy → Result (List ℕ) YoFault

@@ -8,6 +8,6 @@ mod printer;
 #[cfg(test)]
 mod tests;
 
-pub use laws::{line_grammar, read_back};
+pub use laws::{law_of_loads, line_grammar, read_back};
 pub use object::{YoFault, YoWhy, load};
 pub use printer::print;

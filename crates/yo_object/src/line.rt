@@ -1,50 +1,17 @@
-ghost use Rattle.std.specs.Prelude.{◌≡◌, ◌<◌, ◌≤◌, ◌+◌, ◌∷◌, [], IfSome, MatchOption, length, take_while};
-ghost use Rattle.std.specs.List.{prefix_len};
+ghost use Rattle.std.specs.Prelude.{◌≡◌, ◌<◌, ◌≤◌, ◌+◌, ◌∷◌, [], IfSome, MatchOption, length};
 ghost use Rattle.std.specs.Option.{option_copied, option_map};
-ghost use Rattle.y86_base.specs.Text as words;
 ghost use Rattle.yo_object.specs.Loads.{Leaves};
 ghost use Rattle.yo_object.specs.Lines.{digits_in};
 ghost use Rattle.yo_object.specs.ObjectText as definition;
 
 use crate::object::YoWhy;
-use y86_base::{Image, hex_value, is_blank, is_hex};
+use y86_base::{Image, after_blanks, hex_value, number_in_base, split_hex};
 
 /// The digits of a line: those of its address, and those of its bytes.
 #[derive(Clone, Copy)]
 struct Record<'a> {
     address: &'a [u8],
     bytes: &'a [u8],
-}
-
-/// How many blanks stand at the front.
-fn blank_count(text: &[u8]) -> usize
-    ensures count { result ≡ prefix_len words.is_blank text.now }
-    ensures within { result ≤ length text.now }
-{
-    text.iter().take_while(|byte| is_blank(**byte)).count()
-}
-
-/// What stands behind the blanks at the front.
-fn after_blanks(text: &[u8]) -> &[u8]
-    ensures { result.now ≡ definition.behind words.is_blank text.now }
-{
-    text.split_at(blank_count(text)).1
-}
-
-/// How many hex digits stand at the front.
-fn hex_count(text: &[u8]) -> usize
-    ensures count { result ≡ prefix_len words.is_hex text.now }
-    ensures within { result ≤ length text.now }
-{
-    text.iter().take_while(|byte| is_hex(**byte)).count()
-}
-
-/// The hex digits at the front, and what stands behind them.
-fn split_hex(text: &[u8]) -> (&[u8], &[u8])
-    ensures digits { result.0.now ≡ take_while words.is_hex text.now }
-    ensures rest { result.1.now ≡ definition.behind words.is_hex text.now }
-{
-    text.split_at(hex_count(text))
 }
 
 /// What stands behind a byte, where the text begins with it.
@@ -90,18 +57,6 @@ fn record_behind(text: &[u8]) -> Option<Record<'_>>
     }
 }
 
-/// The number that up to 16 hex digits write.
-fn hex_number(digits: &[u8]) -> u64
-    requires { length digits.now ≤ 16 }
-    ensures { result ≡ definition.hex_number digits.now }
-{
-    let mut number = 0;
-    for digit in digits {
-        number = 16 * number + u64::from(hex_value(*digit));
-    }
-    number
-}
-
 /// The byte that the first two hex digits write, and the digits behind them.
 fn first_pair(digits: &[u8]) -> Option<(u8, &[u8])>
     ensures pair { MatchOption result (definition.bytes_of_pairs digits.now ≡ [])
@@ -130,7 +85,7 @@ fn put_bytes(image: &mut Image, address: u64, digits: &[u8])
     }
 }
 
-#[tactic(auto, using(crate::proofs::Bytes::put_nothing, crate::proofs::Bytes::pairs_length), unfolding(crate::specs::ObjectText::put_digits))]
+#[tactic(auto, using(crate::proofs::Bytes::put_nothing, crate::proofs::Bytes::pairs_length, crate::proofs::Bytes::not_a_word), unfolding(crate::specs::ObjectText::put_digits))]
 /// Puts the bytes of a line of the form, or tells the first of its faults.
 fn put_digits(image: &mut Image, digits: &Record<'_>) -> Result<(), YoWhy>
     ensures { Leaves result image.new (definition.put_digits image.old (digits_in digits.now)) }
@@ -141,17 +96,18 @@ fn put_digits(image: &mut Image, digits: &Record<'_>) -> Result<(), YoWhy>
     if digits.bytes.len() % 2 == 1 {
         return Err(YoWhy::OddDigits);
     }
-    let address = hex_number(digits.address);
     let count = digits.bytes.len() as u64 / 2;
     if count == 0 {
         return Ok(());
     }
     let size = image.size();
-    if address > size || size - address < count {
-        return Err(YoWhy::OutsideMemory);
+    match number_in_base(16, digits.address) {
+        Some(address) if address <= size && count <= size - address => {
+            put_bytes(image, address, digits.bytes);
+            Ok(())
+        }
+        _ => Err(YoWhy::OutsideMemory),
     }
-    put_bytes(image, address, digits.bytes);
-    Ok(())
 }
 
 #[tactic(auto, unfolding(crate::specs::ObjectText::put_line))]
