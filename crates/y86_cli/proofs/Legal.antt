@@ -4,6 +4,7 @@ use Rattle.std.specs.Option.{option_map}
 use Rattle.std.specs.Prelude.{codes}
 use Rattle.std.specs.Str.{bytes_eq}
 use Rattle.std.proofs.lemmas.Bool.{eqb-true, leb-true}
+use Rattle.y86_base.proofs.Booleans.{both_true}
 use Rattle.y86_base.specs.Image.{IsSize}
 use Rattle.y86_base.specs.declared.parts.Variant.TheVariants.{Base}
 use Rattle.y86_cli.specs.Words.{number_of, number_that, is_image_size, is_step_limit, Argument, place, memory, limit, is_option, place_of, option_of, in_front, arguments, places, memories, limits, the_one, at_most_one, Command, yas, yas_with, yis, yis_with, yis_of, command_of, form_of, IsLegal}
@@ -19,10 +20,6 @@ IsLegalArgument (limit n) = IsStepLimit n
 abbrev AllLegal : List Argument → Type 0
 AllLegal [] = Unit {0}
 AllLegal (argument ∷ rest) = IsLegalArgument argument × AllLegal rest
-
-both_true : (a b : Bool) → (a && b) ≡ true → (a ≡ true) × (b ≡ true)
-both_true true b h = (refl, h)
-both_true false b h = absurd (cc)
 
 size_is : (n : ℕ) → is_image_size n ≡ true → IsSize n
 size_is n h =

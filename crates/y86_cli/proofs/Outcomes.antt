@@ -1,5 +1,5 @@
 -- The outcome of a command, and the clauses of the whole program.
-use Rattle.std.proofs.Common.{◌≡◌, ◌⊎◌, ℕ, ◌≤◌, List, [], ◌∷◌, refl, sym, ap, subst, inl, inr, Option, Some, None, Result, Ok, Err, IfOk, IfErr, Contains, IsOk, lit<, lit≤, Vec, zero, suc, arith}
+use Rattle.std.proofs.Common.{◌≡◌, ◌⊎◌, ℕ, ◌≤◌, List, [], ◌∷◌, refl, sym, ap, subst, inl, inr, Option, Some, None, Result, Ok, Err, IfOk, IfErr, IfSome, Contains, IsOk, lit<, lit≤, Vec, zero, suc, arith}
 use Rattle.std.specs.Global.{Global}
 use Rattle.wb_io.specs.Causes.{Rose}
 use Rattle.wb_io.specs.Sinks.{Took, TookPart}
@@ -14,26 +14,16 @@ use Rattle.yo_object.specs.ObjectText.{object_of}
 use Rattle.yo_object.specs.declared.object.YoFault.{YoFault}
 use Rattle.y86_cli.specs.declared.stop.Stop as code
 use Rattle.y86_cli.specs.declared.stop.Stop.TheVariants.{Usage, Read, Write, Assembly, Object, Memory, TooLong}
-use Rattle.y86_cli.specs.Answer.{Answered, answer, answer_to, image_of_text, listing_answer, object_image, run_status, yas_answer, yis_run, yis_answer}
+use Rattle.y86_cli.specs.Answer.{Answered, answer, answer_to, image_of_text, listing_answer, object_image, read_fault_line, run_status, yas_answer, yis_run, yis_answer}
 use Rattle.y86_cli.specs.Outcomes.{IsFaultless, NoneRose, Tells, TellsOf}
 use Rattle.y86_cli.specs.Words.{Command, yas, yis, form_of, names_of}
 use Rattle.y86_cli.specs.Reads.{IsFree, GivesImage, GivesText, OnRead, OnWrite, OnUsage, WritesOut, NothingOut, StopsAs, AnswersAs, IsDone, IsOutcome}
-use Rattle.y86_cli.specs.Stops.{answer_at, status_of}
+use Rattle.y86_cli.specs.Stops.{answer_at, line_of, read_name, status_of}
 use Rattle.y86_cli.proofs.Contents.{within, source_within}
 
--- no image: the defined refusal, or a free stop, which is no failed write here
+-- the defined refusal, or a free stop, which is no failed write here
 stops : (answered : Answered) (old new : Option (List ℕ)) (stop : code.Stop) → IsFree stop ⊎ (answered ≡ answer_at stop) → OnWrite stop ⊥ → StopsAs answered old new stop
-stops answered old new Usage (inl free) w = absurd free
-stops answered old new Usage (inr same) w = same
-stops answered old new (Read name) h w = tt
-stops answered old new Write h w = absurd w
-stops answered old new (Assembly name fault) (inl free) w = absurd free
-stops answered old new (Object name fault) (inl free) w = absurd free
-stops answered old new (Assembly name fault) (inr same) w = same
-stops answered old new (Object name fault) (inr same) w = same
-stops answered old new Memory h w = tt
-stops answered old new (TooLong name limit) (inl free) w = absurd free
-stops answered old new (TooLong name limit) (inr same) w = same
+stops answered old new stop said other = (said, λ four. absurd (other four))
 
 refusal : (v : Variant) (limit : ℕ) (defined : Result (List ℕ) Answered) (stop : code.Stop) → IsFree stop ⊎ (defined ≡ Err (answer_at stop)) →
     IsFree stop ⊎ (yis_answer v limit defined ≡ answer_at stop)
@@ -50,13 +40,7 @@ after_run : (v : Variant) (image : List ℕ) (limit : ℕ) (old new : Option (Li
     AnswersAs (yis_run v image limit) old new result
 unfolding yis_run
 after_run v image limit old new (Ok status) s w free = record { status_is = s; out = w; err = refl }
-after_run v image limit old new (Err Usage) s w free = absurd free
-after_run v image limit old new (Err (Read name)) s w free = tt
-after_run v image limit old new (Err Write) s w free = w
-after_run v image limit old new (Err (Assembly name fault)) s w free = absurd free
-after_run v image limit old new (Err (Object name fault)) s w free = absurd free
-after_run v image limit old new (Err Memory) s w free = tt
-after_run v image limit old new (Err (TooLong name bytes)) s w free = absurd free
+after_run v image limit old new (Err stop) s w free = (inl free, w.1)
 
 pub image_runs : (v : Variant) (limit : ℕ) (defined : Result (List ℕ) Answered) (image : List ℕ) (old new : Option (List ℕ)) (result : Result ℕ code.Stop) →
     GivesImage defined (Ok image) → IfOk result (λ status. status ≡ (yis_run v image limit).status) → WritesOut old new result (yis_run v image limit).out →
@@ -68,12 +52,12 @@ pub no_command : (words : List (List ℕ)) (told : List ℕ → Option (Option (
     form_of words ≡ None → IsOutcome words told faults faults taken taken out_faults out_faults (Err Usage)
 unfolding answer
 no_command words told faults taken out_faults none = record {
-  answers = λ contents tells. rw none refl;
+  answers = λ contents tells. rw none (inr refl, λ four. absurd (cc));
   low = tt;
-  nothing_out = took_nothing taken;
+  nothing_out = λ _. took_nothing taken;
   read_failed = tt;
-  write_failed = tt;
-  usage_only = none;
+  write_failed = λ four. absurd (cc);
+  usage_only = λ _. none;
   usage_where = λ _. refl;
 }
 
@@ -86,23 +70,15 @@ one_content told name (content ∷ other ∷ rest) tells = absurd tells.1
 
 never_usage : (P : Type 0) (result : Result ℕ code.Stop) → IfErr result (λ stop. OnUsage stop ⊥) → IfErr result (λ stop. OnUsage stop P)
 never_usage P (Ok status) h = tt
-never_usage P (Err Usage) h = absurd h
-never_usage P (Err (Read name)) h = tt
-never_usage P (Err Write) h = tt
-never_usage P (Err (Assembly name fault)) h = tt
-never_usage P (Err (Object name fault)) h = tt
-never_usage P (Err Memory) h = tt
-never_usage P (Err (TooLong name limit)) h = tt
+never_usage P (Err stop) h = λ two. absurd (h two)
+
+named_more : (P Q : List ℕ → Type 0) (read : Option (List ℕ)) → ((name : List ℕ) → P name → Q name) → IfSome read P → IfSome read Q
+named_more P Q None f h = tt
+named_more P Q (Some name) f h = f name h
 
 read_more : (P Q : List ℕ → Type 0) (result : Result ℕ code.Stop) → ((name : List ℕ) → P name → Q name) → IfErr result (λ stop. OnRead stop P) → IfErr result (λ stop. OnRead stop Q)
 read_more P Q (Ok status) f h = tt
-read_more P Q (Err Usage) f h = tt
-read_more P Q (Err (Read name)) f h = f name.now h
-read_more P Q (Err Write) f h = tt
-read_more P Q (Err (Assembly name fault)) f h = tt
-read_more P Q (Err (Object name fault)) f h = tt
-read_more P Q (Err Memory) f h = tt
-read_more P Q (Err (TooLong name limit)) f h = tt
+read_more P Q (Err stop) f h = named_more P Q (read_name stop) f h
 
 the_only_name : (object name : List ℕ) → name ≡ object → Contains (object ∷ []) name
 the_only_name object name e = (0, lit< tt, sym e)
@@ -148,7 +124,7 @@ text_written defined text old new gives took = rw gives (record { status_is = re
 
 pub text_part : (defined : Answered) (text : Vec ℕ Global) (old new : Option (List ℕ)) → GivesText defined (Ok text) → TookPart old new text.items →
     AnswersAs defined old new (Err Write)
-text_part defined text old new gives part = rw gives part
+text_part defined text old new gives part = (inl (inr (inl refl)), λ _. rw gives part)
 
 pub text_stops : (defined : Answered) (old new : Option (List ℕ)) (stop : code.Stop) → GivesText defined (Err stop) → OnWrite stop ⊥ → AnswersAs defined old new (Err stop)
 text_stops defined old new stop gives w = stops defined old new stop gives w
@@ -204,29 +180,42 @@ none_rose (first ∷ names) before after name none (zero, inside, same) rose =
 none_rose (first ∷ names) before after name none (suc k, inside, same) rose =
     none_rose names before after name none.1 (k, omega (arith, inside), same) rose
 
+-- no stop has a status of an answer without a stop
+stop_high : (stop : code.Stop) → 2 ≤ status_of stop
+stop_high Usage = lit≤ tt
+stop_high (Read name) = lit≤ tt
+stop_high Write = lit≤ tt
+stop_high (Assembly name fault) = lit≤ tt
+stop_high (Object name fault) = lit≤ tt
+stop_high Memory = lit≤ tt
+stop_high (TooLong name limit) = lit≤ tt
+
+-- the stop with status 3 is a failed read
+pub stop_of_read : (stop : code.Stop) → status_of stop ≡ 3 → (name : List ℕ) × (read_name stop ≡ Some name) × (line_of stop ≡ read_fault_line name)
+stop_of_read Usage e = absurd (cc)
+stop_of_read (Read name) e = (name.now, refl, refl)
+stop_of_read Write e = absurd (cc)
+stop_of_read (Assembly name fault) e = absurd (cc)
+stop_of_read (Object name fault) e = absurd (cc)
+stop_of_read Memory e = absurd (cc)
+stop_of_read (TooLong name limit) e = absurd (cc)
+
 -- a stop where no file has a fault and nothing outside failed is a want of memory
 pub stop_is_memory : (words : List (List ℕ)) (told : List ℕ → Option (Option (List ℕ))) (faults_before faults_after : List ℕ → ℕ) (old new : Option (List ℕ))
     (out_before out_after : ℕ) (stop : code.Stop) (contents : List (Option (List ℕ))) (command : Command) →
     IsOutcome words told faults_before faults_after old new out_before out_after (Err stop) → Tells told words contents → form_of words ≡ Some command →
     IsFaultless command contents → NoneRose (names_of command) faults_before faults_after → (Rose out_before out_after → ⊥) → status_of stop ≡ 6
 unfolding answer
-stop_is_memory words told faults_before faults_after old new out_before out_after Usage contents command o tells form faultless none write = absurd (cc (o.usage_only, form))
-stop_is_memory words told faults_before faults_after old new out_before out_after (Read name) contents command o tells form faultless none write =
-    absurd (none_rose (names_of command) faults_before faults_after name.now none (rw form at o.read_failed.0) o.read_failed.1)
-stop_is_memory words told faults_before faults_after old new out_before out_after Write contents command o tells form faultless none write = absurd (write o.write_failed)
-stop_is_memory words told faults_before faults_after old new out_before out_after (Assembly name fault) contents command o tells form faultless none write =
-    let said : answer words contents ≡ answer_at (Assembly name fault) = o.answers contents tells in
-    let low : (answer_to command contents).status ≤ 1 = faultless_low command contents faultless in
-    let status : (answer_to command contents).status ≡ 5 = ap (λ a. a.status) (rw form at said) in
-    absurd (omega arith)
-stop_is_memory words told faults_before faults_after old new out_before out_after (Object name fault) contents command o tells form faultless none write =
-    let said : answer words contents ≡ answer_at (Object name fault) = o.answers contents tells in
-    let low : (answer_to command contents).status ≤ 1 = faultless_low command contents faultless in
-    let status : (answer_to command contents).status ≡ 5 = ap (λ a. a.status) (rw form at said) in
-    absurd (omega arith)
-stop_is_memory words told faults_before faults_after old new out_before out_after Memory contents command o tells form faultless none write = refl
-stop_is_memory words told faults_before faults_after old new out_before out_after (TooLong name limit) contents command o tells form faultless none write =
-    let said : answer words contents ≡ answer_at (TooLong name limit) = o.answers contents tells in
-    let low : (answer_to command contents).status ≤ 1 = faultless_low command contents faultless in
-    let status : (answer_to command contents).status ≡ 7 = ap (λ a. a.status) (rw form at said) in
-    absurd (omega arith)
+stop_is_memory words told faults_before faults_after old new out_before out_after stop contents command o tells form faultless none write = at (o.answers contents tells).0
+  where
+    at : IsFree stop ⊎ (answer words contents ≡ answer_at stop) → status_of stop ≡ 6
+    at (inl (inl read)) =
+        let stopped = stop_of_read stop read in
+        let failed = rw stopped.1 at o.read_failed in
+        absurd (none_rose (names_of command) faults_before faults_after stopped.0 none (rw form at failed.0) failed.1)
+    at (inl (inr (inl four))) = absurd (write (o.write_failed four))
+    at (inl (inr (inr memory))) = memory
+    at (inr said) =
+        let low : (answer_to command contents).status ≤ 1 = faultless_low command contents faultless in
+        let status : (answer_to command contents).status ≡ status_of stop = ap (λ a. a.status) (rw form at said) in
+        absurd (omega (arith, stop_high stop))

@@ -1,24 +1,22 @@
 -- The words of a command, behind the program's own name, and what command they are.
-use Rattle.std.specs.Prelude.{◌≤◌, ℕ, ◌+◌, ◌-◌, ◌*◌, ◌%◌, ◌^◌, Bool, ◌&&◌, ◌==◌, nat_lt, nat_le, nat_eq, if◌then◌else◌, List, [], ◌∷◌, length, codes, fold, Option, Some, None, option_and_then}
+use Rattle.std.specs.Prelude.{◌≤◌, ℕ, ◌%◌, Bool, ◌&&◌, ◌==◌, nat_le, nat_eq, if◌then◌else◌, List, [], ◌∷◌, length, codes, Option, Some, None, option_and_then}
 use Rattle.std.specs.List.{list_all, starts_with}
 use Rattle.std.specs.Option.{option_map}
 use Rattle.std.specs.Str.{bytes_eq}
 use Rattle.y86_base.specs.Image.{IsSize}
-use Rattle.y86_base.specs.Text.{is_decimal}
+use Rattle.std.specs.Str.Parse.{digits_value}
+use Rattle.y86_base.specs.Text.{below_word, is_decimal}
 use Rattle.y86_base.specs.declared.parts.Variant.{Variant}
 use Rattle.y86_base.specs.declared.parts.Variant.TheVariants.{Base}
 
 -- ---- numbers
 
-abbrev pub decimal_number : List ℕ → ℕ
-decimal_number digits = fold (λ number digit. 10 * number + (digit - 48)) 0 digits
-
 -- a number is 1 to 20 decimal digits with a value below 2^64
 abbrev pub is_number : List ℕ → Bool
-is_number word = nat_le 1 (length word) && nat_le (length word) 20 && list_all is_decimal word && nat_lt (decimal_number word) (2 ^ 64)
+is_number word = nat_le 1 (length word) && nat_le (length word) 20 && list_all is_decimal word
 
 abbrev pub number_of : List ℕ → Option ℕ
-number_of word = if is_number word then Some (decimal_number word) else None
+number_of word = if is_number word then below_word (digits_value 10 word) else None
 
 -- a number that passes
 abbrev pub number_that : (ℕ → Bool) → List ℕ → Option ℕ
