@@ -4,3 +4,5 @@ pub mod Runs
 pub mod Legal
 pub mod Outcomes
 pub mod Contents
+pub mod Order
+pub mod Written

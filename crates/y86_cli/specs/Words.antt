@@ -1,5 +1,6 @@
 -- The words of a command, behind the program's own name, and what command they are.
-use Rattle.std.specs.Prelude.{◌≤◌, ℕ, ◌%◌, Bool, ◌&&◌, ◌==◌, nat_le, nat_eq, if◌then◌else◌, List, [], ◌∷◌, length, codes, Option, Some, None, option_and_then}
+use Rattle.std.specs.Prelude.{◌≡◌, ◌<◌, ◌≤◌, ℕ, ◌%◌, Bool, false, ◌&&◌, ◌==◌, nat_le, nat_eq, if◌then◌else◌, List, [], ◌∷◌, length, codes, Option, Some, None, IsSome, option_and_then}
+use Rattle.std.specs.Fmt.{decimal}
 use Rattle.std.specs.List.{list_all, starts_with}
 use Rattle.std.specs.Option.{option_map}
 use Rattle.std.specs.Str.{bytes_eq}
@@ -60,6 +61,7 @@ in_front None others = None
 in_front (Some argument) None = None
 in_front (Some argument) (Some others) = Some (argument ∷ others)
 
+-- the arguments of some words, read from the left; `law_of_words` says what follows, without an order
 unfoldable pub arguments : List (List ℕ) → Option (List Argument)
 arguments [] = Some []
 arguments (word ∷ []) = if is_option word then None else in_front (place_of word) (Some [])
@@ -138,7 +140,20 @@ abbrev pub names_of : Command → List (List ℕ)
 names_of (yas source size variant) = source ∷ []
 names_of (yis object size steps variant) = object ∷ []
 
--- the numbers of a command are in range: a size that an image takes, and a limit from 1 to 100,000,000
+-- what may name a file: a word that isn't empty and is no option
+abbrev pub IsFileName : List ℕ → Type 0
+IsFileName word = (0 < length word) × (is_option word ≡ false)
+
+-- the commands that words can be: a file name, a size that an image takes, and a limit from 1 to 100,000,000
 abbrev pub IsLegal : Command → Type 0
-IsLegal (yas source size variant) = IsSize size
-IsLegal (yis object size steps variant) = IsSize size × (1 ≤ steps) × (steps ≤ 100000000)
+IsLegal (yas source size variant) = IsFileName source × IsSize size
+IsLegal (yis object size steps variant) = IsFileName object × IsSize size × (1 ≤ steps) × (steps ≤ 100000000)
+
+-- the words of a command with each of its options
+abbrev pub words_of : Command → List (List ℕ)
+words_of (yas source size variant) = codes "yas" ∷ source ∷ codes "--mem" ∷ decimal size ∷ []
+words_of (yis object size steps variant) = codes "yis" ∷ object ∷ codes "--mem" ∷ decimal size ∷ codes "--limit" ∷ decimal steps ∷ []
+
+-- words that are file names, and options each with its number
+abbrev pub IsWhole : List (List ℕ) → Type 0
+IsWhole words = IsSome (arguments words)

@@ -4,6 +4,7 @@
 mod call;
 mod cmd;
 mod files;
+mod laws;
 mod run;
 mod stop;
 #[cfg(test)]

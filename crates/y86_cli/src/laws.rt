@@ -1,0 +1,16 @@
+//! Theorems about the words of a call. Each is a function that does nothing and whose contract is the theorem.
+ghost use Rattle.std.specs.Prelude.{◌≡◌, ◌∷◌, ◌++◌, List, [], ℕ, Some, codes};
+ghost use Rattle.y86_base.specs.declared.parts.Variant.TheVariants.{Base};
+ghost use Rattle.y86_cli.specs.Words.{Command, IsFileName, IsLegal, IsWhole, form_of, words_of, yas, yis};
+
+/// Which words are a command. Words are only legal commands, and each legal command has words. Whole arguments, which are
+/// file names and options with their numbers, may stand in any order. Without options their defaults hold.
+pub fn law_of_words()
+    ensures legal { (words : List (List ℕ)) (command : Command) → form_of words ≡ Some command → IsLegal command }
+    ensures written { (command : Command) → IsLegal command → form_of (words_of command) ≡ Some command }
+    ensures order { (name : List ℕ) (front other back : List (List ℕ)) → IsWhole front → IsWhole other →
+        form_of (name ∷ (front ++ (other ++ back))) ≡ form_of (name ∷ (other ++ (front ++ back))) }
+    ensures defaults { (file : List ℕ) → IsFileName file →
+        (form_of (codes "yas" ∷ file ∷ []) ≡ Some (yas file 8192 Base))
+        × (form_of (codes "yis" ∷ file ∷ []) ≡ Some (yis file 8192 10000 Base)) }
+{}
