@@ -33,12 +33,18 @@ pub record WentOut (status : ℕ) (old new : Option (List ℕ)) (text : List ℕ
   -- a proper prefix, where a write failed
   pub part : status ≡ 4 → TookPart old new text
 
--- a read of a file that the words name failed, and the line on standard error names it, if that had no fault
+-- what is on standard error behind a call that had a fault there or not
+pub record WentErr (had_fault : Type 0) (old new : Option (List ℕ)) (text : List ℕ) : Type 0 where
+  pub whole : (had_fault → ⊥) → Took old new text
+  -- with a fault too, no more than a prefix of the text
+  pub part : Took old new text ⊎ TookPart old new text
+
+-- a read of a file that the words name failed, and the line on standard error names it
 pub record ReadFailed (names : List (List ℕ)) (faults_before faults_after : List ℕ → ℕ) (err_had_fault : Type 0) (err_before err_after : Option (List ℕ)) : Type 0 where
   pub name : List ℕ
   pub named : Contains names name
   pub failed : Rose (faults_before name) (faults_after name)
-  pub line : (err_had_fault → ⊥) → Took err_before err_after (read_fault_line name)
+  pub line : WentErr err_had_fault err_before err_after (read_fault_line name)
 
 -- the files of a command have bytes, within their limits, and none of the faults that the command looks for
 abbrev pub IsFaultless : Command → List (Option (List ℕ)) → Type 0
