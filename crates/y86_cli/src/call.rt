@@ -1,8 +1,10 @@
-ghost use Rattle.std.specs.Prelude.{◌≡◌, ◌⊎◌, ◌↔◌, ◌≢◌, List, ℕ, Option, None, drop, map, string_bytes, IfErr, IfOk};
+ghost use Rattle.std.specs.Prelude.{◌≡◌, ◌⊎◌, ◌↔◌, ◌≢◌, List, [], ℕ, Option, None, drop, IfErr, IfOk};
 ghost use Rattle.std.specs.IoError.{error_kind};
 ghost use Rattle.std.specs.Vec.Iter.{into_iter_items};
-ghost use Rattle.y86_cli.specs.Answer.{answer};
-ghost use Rattle.y86_cli.specs.Outcomes.{IsFreeStatus, Tells, WentOut};
+ghost use Rattle.wb_io.specs.Causes.{Rose};
+ghost use Rattle.wb_io.specs.Sinks.{Took};
+ghost use Rattle.y86_cli.specs.Answer.{answer, memory_line, usage_line};
+ghost use Rattle.y86_cli.specs.Outcomes.{IsFreeStatus, ReadFailed, Tells, WentErr, WentOut, names_in, words_behind};
 ghost use Rattle.y86_cli.specs.Words.{form_of};
 ghost use Rattle.y86_cli.specs.declared.stop.Stop.TheVariants.{Memory, Usage};
 
@@ -49,14 +51,25 @@ pub fn call<F: Files, O: Sink, E: Sink>(
     out: &mut O,
     err: &mut E,
 ) -> Status
-    ensures usage { IfOk args (λ read. result ≡ 2 → form_of (map string_bytes (drop 1 (into_iter_items read))) ≡ None) }
-    ensures status { IfOk args (λ read. (contents : List (Option (List ℕ))) →
-        Tells (F.told files.old) (map string_bytes (drop 1 (into_iter_items read))) contents →
-        IsFreeStatus result ⊎ (result ≡ (answer (map string_bytes (drop 1 (into_iter_items read))) contents).status)) }
-    ensures out { IfOk args (λ read. (contents : List (Option (List ℕ))) →
-        Tells (F.told files.old) (map string_bytes (drop 1 (into_iter_items read))) contents →
-        WentOut result (O.taken out.old) (O.taken out.new) (answer (map string_bytes (drop 1 (into_iter_items read))) contents).out) }
-    ensures unread { IfErr args (λ error. (result ≡ 2) ⊎ ((result ≡ 6) × (error_kind error ≡ ErrorKind.OutOfMemory))) }
+    // Where the words can be read: as the clauses of `run` say of those behind the program's name.
+    ensures usage { IfOk args (λ read. result ≡ 2 → form_of (words_behind read) ≡ None) }
+    ensures status { IfOk args (λ read. (contents : List (Option (List ℕ))) → Tells (F.told files.old) (words_behind read) contents →
+        IsFreeStatus result ⊎ (result ≡ (answer (words_behind read) contents).status)) }
+    ensures out { IfOk args (λ read. (contents : List (Option (List ℕ))) → Tells (F.told files.old) (words_behind read) contents →
+        WentOut result (O.taken out.old) (O.taken out.new) (answer (words_behind read) contents).out) }
+    ensures err { IfOk args (λ read. (contents : List (Option (List ℕ))) → Tells (F.told files.old) (words_behind read) contents → (IsFreeStatus result → ⊥) →
+        WentErr (Rose (E.faults err.old) (E.faults err.new)) (E.taken err.old) (E.taken err.new) (answer (words_behind read) contents).err) }
+    ensures read_failed { IfOk args (λ read. result ≡ 3 → ReadFailed (names_in (form_of (words_behind read))) (F.faults files.old) (F.faults files.new)
+        (Rose (E.faults err.old) (E.faults err.new)) (E.taken err.old) (E.taken err.new)) }
+    ensures write_failed { result ≡ 4 → Rose (O.faults out.old) (O.faults out.new) }
+    ensures nothing_out { result ≢ 0 → result ≢ 1 → result ≢ 4 → Took (O.taken out.old) (O.taken out.new) [] }
+    ensures err_memory { result ≡ 6 → WentErr (Rose (E.faults err.old) (E.faults err.new)) (E.taken err.old) (E.taken err.new) memory_line }
+    ensures err_nothing { result ≡ 4 → Took (E.taken err.old) (E.taken err.new) [] }
+
+    // Where the words can't be read.
+    ensures unread_memory { IfErr args (λ error. error_kind error ≡ ErrorKind.OutOfMemory → result ≡ 6) }
+    ensures unread { IfErr args (λ error. error_kind error ≢ ErrorKind.OutOfMemory →
+        (result ≡ 2) × WentErr (Rose (E.faults err.old) (E.faults err.new)) (E.taken err.old) (E.taken err.new) usage_line) }
 {
     let args = match args {
         Ok(args) => args,
