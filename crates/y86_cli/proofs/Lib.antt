@@ -6,3 +6,4 @@ pub mod Outcomes
 pub mod Contents
 pub mod Order
 pub mod Written
+pub mod Refusals
