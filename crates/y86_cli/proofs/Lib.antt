@@ -4,3 +4,6 @@ pub mod Runs
 pub mod Legal
 pub mod Outcomes
 pub mod Contents
+pub mod Order
+pub mod Written
+pub mod Refusals

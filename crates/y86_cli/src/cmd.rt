@@ -1,4 +1,4 @@
-ghost use Rattle.std.specs.Prelude.{◌≡◌, ◌<◌, ◌≤◌, ◌∷◌, IfSome, IfOk, MatchOption, OnErr, Some, None, true, length, map, string_bytes};
+ghost use Rattle.std.specs.Prelude.{◌≡◌, ◌≤◌, ◌∷◌, IfSome, IfOk, OnErr, Some, None, length, map, string_bytes};
 ghost use Rattle.std.specs.List.{list_all};
 ghost use Rattle.y86_base.specs.Text.{is_decimal};
 ghost use Rattle.std.specs.Option.{option_map};
@@ -6,37 +6,17 @@ ghost use Rattle.std.specs.Str.{bytes_eq};
 ghost use Rattle.y86_cli.specs.Read.{argument_in, command_found, command_in, FirstArgument, ReadsArguments, split_in, WithArgument, yas_found, yis_found};
 ghost use Rattle.y86_cli.specs.Words as spec;
 
-use y86_base::Variant;
+use y86_base::{Variant, is_decimal, number_in_base};
 
 /// Words that are no command.
 #[derive(Clone, Copy, Debug, PartialEq, Eq)]
 pub struct Usage;
 
-/// A decimal digit.
-fn is_digit(byte: u8) -> bool
-    ensures { result ≡ is_decimal byte }
-{
-    b'0' <= byte && byte <= b'9'
-}
-
-/// The value of up to 20 decimal digits.
-fn decimal_number(digits: &[u8]) -> u128
-    requires few { length digits.now ≤ 20 }
-    requires decimal { list_all is_decimal digits.now ≡ true }
-    ensures { result ≡ spec.decimal_number digits.now }
-{
-    let mut number: u128 = 0;
-    for digit in digits {
-        number = 10 * number + u128::from(*digit - b'0');
-    }
-    number
-}
-
 /// Whether all bytes are decimal digits.
 fn is_decimal_text(text: &[u8]) -> bool
     ensures { result ≡ list_all is_decimal text.now }
 {
-    text.iter().all(|byte| is_digit(*byte))
+    text.iter().all(|byte| is_decimal(*byte))
 }
 
 /// The number that a word writes: 1 to 20 decimal digits with a value below 2^64.
@@ -46,11 +26,7 @@ fn number_of(word: &[u8]) -> Option<u64>
     if word.is_empty() || word.len() > 20 || !is_decimal_text(word) {
         return None;
     }
-    let number = decimal_number(word);
-    if number > u128::from(u64::MAX) {
-        return None;
-    }
-    Some(number as u64)
+    number_in_base(10, word)
 }
 
 /// The size of a memory in bytes that a word writes, where an image takes it.

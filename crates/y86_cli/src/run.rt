@@ -3,7 +3,7 @@ ghost use Rattle.wb_io.specs.Causes.{Rose};
 ghost use Rattle.wb_io.specs.Sinks.{Took};
 ghost use Rattle.y86_base.specs.Image.{IsSize};
 ghost use Rattle.y86_cli.specs.Answer.{answer, memory_line, object_image, yas_answer, yis_answer};
-ghost use Rattle.y86_cli.specs.Outcomes.{IsFaultless, IsFreeStatus, NoneRose, ReadFailed, Tells, WentOut, names_in};
+ghost use Rattle.y86_cli.specs.Outcomes.{IsFaultless, IsFreeStatus, NoneRose, ReadFailed, Tells, WentErr, WentOut, names_in};
 ghost use Rattle.y86_cli.specs.Read.{command_in};
 ghost use Rattle.y86_cli.specs.Stops.{line_of, status_of};
 ghost use Rattle.y86_cli.specs.Reads.{AnswersAs, IsDone, IsOutcome, NothingOut, OnRead, OnUsage, OnWrite};
@@ -124,7 +124,7 @@ fn outcome<'a, F: Files, O: Sink>(
 pub fn tell<E: Sink>(stop: &Stop<'_>, err: &mut E) -> Status
     ensures status { result ≡ status_of stop.now }
     ensures counts { E.faults err.old ≤ E.faults err.new }
-    ensures line { (Rose (E.faults err.old) (E.faults err.new) → ⊥) → Took (E.taken err.old) (E.taken err.new) (line_of stop.now) }
+    ensures line { WentErr (Rose (E.faults err.old) (E.faults err.new)) (E.taken err.old) (E.taken err.new) (line_of stop.now) }
 {
     match stop.put(err) {
         Ok(()) => {}
@@ -159,12 +159,11 @@ pub fn run<F: Files, O: Sink, E: Sink>(
         WentOut result (O.taken out.old) (O.taken out.new) (answer (map string_bytes words.now) contents).out }
     ensures nothing_out { result ≢ 0 → result ≢ 1 → result ≢ 4 → Took (O.taken out.old) (O.taken out.new) [] }
 
-    // What is written on `err`, where it had no fault: the answer's text, the line of a want of memory, nothing with 4.
-    ensures err { (Rose (E.faults err.old) (E.faults err.new) → ⊥) → (contents : List (Option (List ℕ))) →
-        Tells (F.told files.old) (map string_bytes words.now) contents → (IsFreeStatus result → ⊥) →
-        Took (E.taken err.old) (E.taken err.new) (answer (map string_bytes words.now) contents).err }
-    ensures err_memory { (Rose (E.faults err.old) (E.faults err.new) → ⊥) → result ≡ 6 → Took (E.taken err.old) (E.taken err.new) memory_line }
-    ensures err_nothing { (Rose (E.faults err.old) (E.faults err.new) → ⊥) → result ≡ 4 → Took (E.taken err.old) (E.taken err.new) [] }
+    // What is written on `err`: the answer's text, the line of a want of memory, nothing with 4.
+    ensures err { (contents : List (Option (List ℕ))) → Tells (F.told files.old) (map string_bytes words.now) contents → (IsFreeStatus result → ⊥) →
+        WentErr (Rose (E.faults err.old) (E.faults err.new)) (E.taken err.old) (E.taken err.new) (answer (map string_bytes words.now) contents).err }
+    ensures err_memory { result ≡ 6 → WentErr (Rose (E.faults err.old) (E.faults err.new)) (E.taken err.old) (E.taken err.new) memory_line }
+    ensures err_nothing { result ≡ 4 → Took (E.taken err.old) (E.taken err.new) [] }
 
     // Where nothing outside fails and no file has a fault, the answer comes, or want of memory.
     ensures complete { (contents : List (Option (List ℕ))) (command : Command) → Tells (F.told files.old) (map string_bytes words.now) contents →
