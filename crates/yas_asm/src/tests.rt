@@ -727,9 +727,9 @@ fn lists_lines(rt: HostRuntime) -> Result<(), Fail> {
     compare(&rt, b"", &[])
 }
 
-/// The first line with a fault and the least fault on it.
+/// The first line with a fault and the least fault on it, and the text of both: the reason's text is its name.
 #[test]
-fn tells_faults(rt: HostRuntime) {
+fn tells_faults(rt: HostRuntime) -> Result<(), Fail> {
     for Refused {
         source,
         size,
@@ -741,9 +741,12 @@ fn tells_faults(rt: HostRuntime) {
             Err(fault) => {
                 assert_eq!(rt; fault.line, *line, "{source:?}");
                 assert_eq!(rt; fault.why, *why, "{source:?}");
+                let text = format!(in rt.alloc(); "{line}: {why:?}")?;
+                assert!(rt; format!(in rt.alloc(); "{fault}")? == text);
             }
         }
     }
+    Ok(())
 }
 
 /// A source of labels alone, whose names are the digits of numbers.

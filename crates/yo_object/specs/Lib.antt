@@ -5,4 +5,3 @@ pub mod Grammar
 pub mod LoadedText
 pub mod Printed
 pub mod ReadBack
-pub mod Reasons

@@ -5,65 +5,36 @@ ghost use Rattle.yo_object.specs.ObjectText.{object_of};
 
 use crate::line::put_line;
 use std::alloc::Global;
-use std::error::Error;
-use std::fmt;
+use thiserror::Error;
 use y86_base::{Image, first_line};
 
 /// Why an object text has no image, in the order of their numbers.
-#[derive(Clone, Copy, Debug, PartialEq, Eq)]
+#[derive(Clone, Copy, Debug, PartialEq, Eq, Error)]
 pub enum YoWhy {
     /// The line begins with `0x` and isn't of the form.
+    #[error("Syntax")]
     Syntax,
     /// An odd number of byte digits.
+    #[error("OddDigits")]
     OddDigits,
     /// A byte at or past the size of the memory.
+    #[error("OutsideMemory")]
     OutsideMemory,
     /// More than 16 address digits.
+    #[error("AddressTooWide")]
     AddressTooWide,
     /// Want of memory; it has no line.
+    #[error("Memory")]
     Memory,
 }
 
-impl fmt::Display for YoWhy {
-    ghost use Rattle.std.specs.Prelude.{Some};
-    ghost use Rattle.yo_object.specs.Reasons.{reason_text};
-
-    ghost output = { λ why. Some (reason_text why) };
-
-    fn fmt<W: fmt::Write>(&self, f: &mut fmt::Formatter<W>) -> fmt::Result {
-        match self {
-            YoWhy::Syntax => f.write_str("Syntax"),
-            YoWhy::OddDigits => f.write_str("OddDigits"),
-            YoWhy::OutsideMemory => f.write_str("OutsideMemory"),
-            YoWhy::AddressTooWide => f.write_str("AddressTooWide"),
-            YoWhy::Memory => f.write_str("Memory"),
-        }
-    }
-}
-
-impl Error for YoWhy {}
-
 /// A fault of an object text and the line that it stands in, counted from 1; line 0 with `Memory`.
-#[derive(Clone, Copy, Debug, PartialEq, Eq)]
+#[derive(Clone, Copy, Debug, PartialEq, Eq, Error)]
+#[error("{line}: {why}")]
 pub struct YoFault {
     pub line: u64,
     pub why: YoWhy,
 }
-
-impl fmt::Display for YoFault {
-    ghost use Rattle.std.specs.Prelude.{Some};
-    ghost use Rattle.yo_object.specs.Reasons.{fault_text};
-
-    ghost output = { λ fault. Some (fault_text fault) };
-
-    fn fmt<W: fmt::Write>(&self, f: &mut fmt::Formatter<W>) -> fmt::Result {
-        let line = self.line;
-        let why = self.why;
-        write!(f, "{line}: {why}")
-    }
-}
-
-impl Error for YoFault {}
 
 /// The image of an object text: `size` bytes that are 0 where no line puts a byte. A later line overwrites
 /// an earlier one.
@@ -170,7 +141,7 @@ mod tests {
         why: YoWhy,
     }
 
-    /// Texts with a fault at 64 bytes, the line and the reason.
+    /// Texts with a fault at 64 bytes, the line and the reason, whose text is its name.
     static REFUSED: [Refused; 20] = [
         Refused {
             text: b"0x: 00",
@@ -302,6 +273,8 @@ mod tests {
                 Err(fault) => {
                     assert_eq!(rt; fault.line, case.line);
                     assert_eq!(rt; fault.why, case.why);
+                    let text = format!(in rt.alloc(); "{}: {:?}", case.line, case.why)?;
+                    assert!(rt; format!(in rt.alloc(); "{fault}")? == text);
                 }
             }
         }
