@@ -1,5 +1,5 @@
 -- The order of whole arguments changes nothing.
-use Rattle.std.proofs.Common.{◌≡◌, ℕ, ◌<◌, Bool, true, false, cond, eqb, List, [], ◌∷◌, ◌++◌, length, refl, sym, ap, ◌∙◌, Option, Some, None, option_and_then, arith}
+use Rattle.std.proofs.Common.{◌≡◌, ℕ, ◌<◌, Bool, true, false, eqb, List, [], ◌∷◌, ◌++◌, length, refl, sym, ap, ◌∙◌, Option, Some, None, option_and_then, arith}
 use Rattle.std.proofs.lemmas.Bool.{ne_eqb}
 use Rattle.y86_cli.specs.Words.{Argument, place, is_option, option_of, in_front, arguments, places, memories, limits, the_one, at_most_one, command_of, form_of, IsWhole}
 use Rattle.y86_cli.proofs.Arguments.{in_front_all, empty_refused, place_read, places-append, memories-append, limits-append}

@@ -1,5 +1,5 @@
 -- The words of a command are that command.
-use Rattle.std.proofs.Common.{◌≡◌, ℕ, ◌<◌, ◌≤◌, ◌^◌, true, false, cond, List, [], ◌∷◌, length, refl, ap, ◌∙◌, Option, Some, None, arith}
+use Rattle.std.proofs.Common.{◌≡◌, ℕ, ◌<◌, ◌≤◌, ◌^◌, true, List, [], ◌∷◌, length, refl, Some, arith}
 use Rattle.std.proofs.lemmas.Bool.{and_from, le-leb, lt-ltb, eq-eqb}
 use Rattle.std.proofs.lemmas.Fmt.{decimal_is_IsNumeral, length-decimal-le}
 use Rattle.std.proofs.lemmas.Str.Parse.{digit_from_value}
@@ -11,7 +11,7 @@ use Rattle.std.specs.Str.Parse.{AllDigits}
 use Rattle.y86_base.specs.Image.{IsSize}
 use Rattle.y86_base.specs.Text.{is_decimal}
 use Rattle.y86_base.specs.declared.parts.Variant.TheVariants.{Base}
-use Rattle.y86_cli.specs.Words.{number_of, number_that, is_number, is_image_size, is_step_limit, place, memory, limit, option_of, in_front, arguments, Command, yas, yis, command_of, form_of, words_of, IsFileName, IsLegal}
+use Rattle.y86_cli.specs.Words.{number_of, is_number, is_image_size, is_step_limit, place, memory, limit, option_of, in_front, arguments, Command, yas, yis, command_of, form_of, words_of, IsFileName, IsLegal}
 use Rattle.y86_cli.proofs.Arguments.{option_read, place_read}
 
 digit_passes : (c : ℕ) → digit_value c < 10 → is_decimal c ≡ true
