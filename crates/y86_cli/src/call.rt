@@ -1,11 +1,11 @@
-ghost use Rattle.std.specs.Prelude.{◌≡◌, ◌⊎◌, ◌↔◌, ◌≢◌, List, [], ℕ, Option, None, drop, IfErr, IfOk};
+ghost use Rattle.std.specs.Prelude.{◌≡◌, ◌⊎◌, ◌↔◌, ◌≢◌, ◌≤◌, List, [], ℕ, Option, Some, None, drop, IfErr, IfOk};
 ghost use Rattle.std.specs.IoError.{error_kind};
 ghost use Rattle.std.specs.Vec.Iter.{into_iter_items};
 ghost use Rattle.wb_io.specs.Causes.{Rose};
 ghost use Rattle.wb_io.specs.Sinks.{Took};
 ghost use Rattle.y86_cli.specs.Answer.{answer, memory_line, usage_line};
-ghost use Rattle.y86_cli.specs.Outcomes.{IsFreeStatus, ReadFailed, Tells, WentErr, WentOut, names_in, words_behind};
-ghost use Rattle.y86_cli.specs.Words.{form_of};
+ghost use Rattle.y86_cli.specs.Outcomes.{IsFaultless, IsFreeStatus, NoneRose, ReadFailed, Tells, WentErr, WentOut, names_in, words_behind};
+ghost use Rattle.y86_cli.specs.Words.{Command, form_of, names_of};
 ghost use Rattle.y86_cli.specs.declared.stop.Stop.TheVariants.{Memory, Usage};
 
 use crate::run::{Status, run, tell};
@@ -65,6 +65,11 @@ pub fn call<F: Files, O: Sink, E: Sink>(
     ensures nothing_out { result ≢ 0 → result ≢ 1 → result ≢ 4 → Took (O.taken out.old) (O.taken out.new) [] }
     ensures err_memory { result ≡ 6 → WentErr (Rose (E.faults err.old) (E.faults err.new)) (E.taken err.old) (E.taken err.new) memory_line }
     ensures err_nothing { result ≡ 4 → Took (E.taken err.old) (E.taken err.new) [] }
+    ensures err_quiet { result ≤ 1 → Took (E.taken err.old) (E.taken err.new) [] }
+    ensures complete { IfOk args (λ read. (contents : List (Option (List ℕ))) (command : Command) →
+        Tells (F.told files.old) (words_behind read) contents → form_of (words_behind read) ≡ Some command → IsFaultless command contents →
+        NoneRose (names_of command) (F.faults files.old) (F.faults files.new) → (Rose (O.faults out.old) (O.faults out.new) → ⊥) →
+        (result ≡ 6) ⊎ ((result ≡ (answer (words_behind read) contents).status) × (result ≤ 1))) }
 
     // Where the words can't be read.
     ensures unread_memory { IfErr args (λ error. error_kind error ≡ ErrorKind.OutOfMemory → result ≡ 6) }

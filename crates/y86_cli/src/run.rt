@@ -159,11 +159,12 @@ pub fn run<F: Files, O: Sink, E: Sink>(
         WentOut result (O.taken out.old) (O.taken out.new) (answer (map string_bytes words.now) contents).out }
     ensures nothing_out { result ≢ 0 → result ≢ 1 → result ≢ 4 → Took (O.taken out.old) (O.taken out.new) [] }
 
-    // What is written on `err`: the answer's text, the line of a want of memory, nothing with 4.
+    // What is written on `err`: the answer's text, the line of a want of memory, nothing with 0, 1 and 4.
     ensures err { (contents : List (Option (List ℕ))) → Tells (F.told files.old) (map string_bytes words.now) contents → (IsFreeStatus result → ⊥) →
         WentErr (Rose (E.faults err.old) (E.faults err.new)) (E.taken err.old) (E.taken err.new) (answer (map string_bytes words.now) contents).err }
     ensures err_memory { result ≡ 6 → WentErr (Rose (E.faults err.old) (E.faults err.new)) (E.taken err.old) (E.taken err.new) memory_line }
     ensures err_nothing { result ≡ 4 → Took (E.taken err.old) (E.taken err.new) [] }
+    ensures err_quiet { result ≤ 1 → Took (E.taken err.old) (E.taken err.new) [] }
 
     // Where nothing outside fails and no file has a fault, the answer comes, or want of memory.
     ensures complete { (contents : List (Option (List ℕ))) (command : Command) → Tells (F.told files.old) (map string_bytes words.now) contents →
