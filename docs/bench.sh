@@ -1,5 +1,6 @@
 #!/usr/bin/env bash
-# Measures the built program on generated inputs: the speed of a run, of the assembler and of the loader.
+# Measures the built program on generated inputs, and the gate from nothing and with everything kept. It prints the table of
+# BENCH.md. With the word `program` it leaves the gate out.
 here=$(cd "$(dirname "$0")/.." && pwd) || exit 1
 work=$(mktemp -d) || exit 1
 trap 'rm -rf "$work"' EXIT
@@ -16,10 +17,48 @@ SOURCE
 awk 'BEGIN { for (i = 0; i < 65535; i++) printf "L%05d: nop #xx\n", i }' >"$work/labels.ys"
 awk 'BEGIN { printf "0x000: "; for (i = 0; i < 524200; i++) printf "00"; printf "\n" }' >"$work/zeros.yo"
 
+# The seconds of the fastest of three calls of the program with these words.
+fastest() {
+    for _ in 1 2 3; do
+        start=$EPOCHREALTIME
+        "$here/y86" "$@" >"$work/out"
+        echo "$start $EPOCHREALTIME"
+    done | awk 'NR == 1 || $2 - $1 < best { best = $2 - $1 } END { printf "%.3f", best }'
+}
+
+# The memory in KiB of the processes of a session, with what several of them share counted once.
+memory_of() {
+    for process in $(pgrep -s "$1"); do
+        cat "/proc/$process/smaps_rollup" 2>/dev/null
+    done | awk '/^Pss:/ { sum += $2 } END { print sum + 0 }'
+}
+
+# A row of the table: a run of the gate, its time and the most memory that it had at the end of a second.
+gate() {
+    name=$1
+    shift
+    start=$EPOCHSECONDS
+    (cd "$here" && exec setsid rt ci "$@") >"$work/gate" 2>&1 &
+    session=$!
+    peak=0
+    while kill -0 "$session" 2>/dev/null; do
+        now=$(memory_of "$session")
+        [ "$now" -gt "$peak" ] && peak=$now
+        sleep 1
+    done
+    wait "$session"
+    status=$?
+    seconds=$((EPOCHSECONDS - start))
+    echo "| $name | $((seconds / 60)) min $((seconds % 60)) s, $((peak / 1024)) MiB, status $status: $(tail -1 "$work/gate") |"
+}
+
 "$here/y86" yas "$work/loop.ys" >"$work/loop.yo" || exit 1
-echo "20,000,000 steps:"
-time "$here/y86" yis "$work/loop.yo" --limit 20000000 >"$work/out"
-echo "65,535 labels, $(wc -c <"$work/labels.ys") bytes:"
-time "$here/y86" yas "$work/labels.ys" --mem 1048576 >"$work/out"
-echo "object text of $(wc -c <"$work/zeros.yo") bytes:"
-time "$here/y86" yis "$work/zeros.yo" --mem 1048576 >"$work/out"
+echo "| what, on $(nproc) cores ($(sed -n 's/^model name[^:]*: //p' /proc/cpuinfo | head -1)) | figure |"
+echo "|---|---|"
+seconds=$(fastest yis "$work/loop.yo" --limit 20000000)
+echo "| \`yis\`, 20,000,000 steps of a loop that stores, loads, adds and jumps | $seconds s, $(awk "BEGIN { printf \"%.1f\", 20 / $seconds }") million steps a second |"
+echo "| \`yas\`, $(wc -c <"$work/labels.ys") bytes of source with 65,535 labels | $(fastest yas "$work/labels.ys" --mem 1048576) s |"
+echo "| \`yis\`, $(wc -c <"$work/zeros.yo") bytes of object text loaded into 1,048,576 bytes of memory | $(fastest yis "$work/zeros.yo" --mem 1048576) s |"
+[ "$1" = program ] && exit 0
+gate "the gate from nothing, \`rt ci --anew\`" --anew
+gate "the gate with everything kept, \`rt ci\`"

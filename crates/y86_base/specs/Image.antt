@@ -12,6 +12,10 @@ pub record IsSize (size : ℕ) : Type 0 where
 abbrev pub AreBytes : List ℕ → Type 0
 AreBytes bytes = All (λ byte. byte < 256) bytes
 
+-- a memory with bytes put at an address
+abbrev pub with_bytes : List ℕ → ℕ → List ℕ → List ℕ
+with_bytes memory address bytes = take address memory ++ (bytes ++ drop (address + length bytes) memory)
+
 -- the word at an address, where all its 8 bytes are inside
 abbrev pub word_at : List ℕ → ℕ → Option ℕ
 word_at memory address =

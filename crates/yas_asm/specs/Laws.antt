@@ -7,6 +7,7 @@ use Rattle.yas_asm.specs.declared.fault.AsmWhy.TheVariants.{Syntax, BadByte, Num
 use Rattle.yas_asm.specs.declared.fault.AsmFault.{AsmFault}
 use Rattle.yas_asm.specs.declared.statement.Parsed.{Parsed}
 use Rattle.yas_asm.specs.declared.listing.Line.{Line}
+use Rattle.y86_base.specs.Image.{with_bytes}
 use Rattle.y86_base.specs.Text.{lines}
 use Rattle.yas_asm.specs.Tokens.{meaning_of}
 use Rattle.yas_asm.specs.Comments.{close_length, comment_length, is_good, bad_outside}
@@ -156,7 +157,7 @@ BytesHaveOneLine =
 -- a memory with the bytes of a line put at its address
 abbrev pub put_at : Option ℕ → List ℕ → List ℕ → List ℕ
 put_at None bytes memory = memory
-put_at (Some first) bytes memory = take first memory ++ (bytes ++ drop (first + length bytes) memory)
+put_at (Some first) bytes memory = with_bytes memory first bytes
 
 -- the memory image of a listing: zeros, and line after line the bytes put over them
 unfoldable pub image : ℕ → List Line → List ℕ

@@ -1,19 +1,24 @@
 -- Bytes put into a memory one after another, and all at once.
-use Rattle.std.proofs.Common.{◌≡◌, ℕ, ◌+◌, ◌/◌, ◌^◌, ◌≤◌, Bool, true, false, cond, nat_lt, List, [], ◌∷◌, length, Some, None, refl, ◌∙◌, arith, add-zero, append-nil, ltb-false}
+use Rattle.std.proofs.Common.{◌≡◌, ℕ, ◌+◌, ◌/◌, ◌^◌, ◌≤◌, Bool, true, false, cond, nat_lt, List, [], ◌∷◌, ◌++◌, length, take, drop, Some, None, refl, sym, ◌∙◌, arith, add-zero, append_assoc, ltb-false}
 use Rattle.std.proofs.Math.Seq.{sets}
 use Rattle.std.proofs.lemmas.List.{take-append-drop}
 use Rattle.std.proofs.lemmas.List.Edits.{sets-eq}
 use Rattle.y86_base.specs.Text.{below_word}
-use Rattle.yo_object.specs.ObjectText.{with_bytes, bytes_of_pairs}
+use Rattle.y86_base.specs.Image.{with_bytes}
+use Rattle.yo_object.specs.ObjectText.{bytes_of_pairs}
+
+pub grouped : (memory bytes : List ℕ) (address : ℕ) →
+    with_bytes memory address bytes ≡ (take address memory ++ bytes) ++ drop (address + length bytes) memory
+grouped memory bytes address = sym (append_assoc (take address memory) bytes (drop (address + length bytes) memory))
 
 -- what is left to put is nothing
 pub put_all : (image start left bytes : List ℕ) (at address : ℕ) → left ≡ [] → sets image at left ≡ sets start address bytes →
     address + length bytes ≤ length start → image ≡ with_bytes start address bytes
 put_all image start left bytes at address none same h =
-    (rw none at same) ∙ sets-eq bytes start address h
+    (rw none at same) ∙ (sets-eq bytes start address h ∙ sym (grouped start bytes address))
 
 pub put_nothing : (memory : List ℕ) (address : ℕ) → with_bytes memory address [] ≡ memory
-put_nothing memory address = simp (add-zero, append-nil) (take-append-drop address memory)
+put_nothing memory address = simp add-zero (take-append-drop address memory)
 
 pub pairs_length : (digits : List ℕ) → length (bytes_of_pairs digits) ≡ length digits / 2
 pairs_length [] = refl

@@ -4,10 +4,10 @@ use Rattle.std.proofs.lemmas.Bool.{cases_lt}
 use Rattle.std.proofs.lemmas.List.{get_or_append_left, get_or-append-add, get_or-append_right, get_or-take, get_or-drop, get_or-replicate, get_or_past, length-replicate}
 use Rattle.std.proofs.lemmas.List.Elements.{All-head, All-tail}
 use Rattle.yas_asm.specs.declared.listing.Line.{Line}
-use Rattle.yo_object.specs.ObjectText.{with_bytes}
+use Rattle.y86_base.specs.Image.{with_bytes}
 use Rattle.yo_object.specs.ReadBack.{IsInside, Misses, IsZeroElsewhere}
 use Rattle.yo_object.proofs.ListingImage.{with_bytes_at, with_line, image_same}
-use Rattle.yo_object.proofs.Bytes.{put_nothing}
+use Rattle.yo_object.proofs.Bytes.{grouped, put_nothing}
 use Rattle.yo_object.proofs.PrintedLines.{size_kept}
 
 -- a memory with bytes put at an address: at their places, in front of them and behind them
@@ -17,7 +17,7 @@ pub put_inside : (memory bytes : List ℕ) (first k : ℕ) → first + length by
 put_inside memory bytes first k fits lt =
     let front : length (take first memory) ≡ first = omega (arith, length-take first memory) in
     let inside : first + k < length (take first memory ++ bytes) = omega (arith, front, length-append (take first memory) bytes) in
-    get_or_append_left (take first memory ++ bytes) _ 0 (first + k) inside
+    ap (λ m. get_or m (first + k) 0) (grouped memory bytes first) ∙ get_or_append_left (take first memory ++ bytes) _ 0 (first + k) inside
     ∙ (ap (λ n. get_or (take first memory ++ bytes) (n + k) 0) (sym front) ∙ get_or-append-add (take first memory) bytes k 0)
 
 put_before : (memory bytes : List ℕ) (first a : ℕ) → first + length bytes ≤ length memory → a < first →
@@ -26,7 +26,7 @@ put_before memory bytes first a fits lt =
     let front : length (take first memory) ≡ first = omega (arith, length-take first memory) in
     let inside : a < length (take first memory ++ bytes) = omega (arith, front, length-append (take first memory) bytes) in
     let near : a < length (take first memory) = omega (arith, front) in
-    get_or_append_left (take first memory ++ bytes) _ 0 a inside ∙ (get_or_append_left (take first memory) bytes 0 a near ∙ get_or-take first memory a 0 lt)
+    ap (λ m. get_or m a 0) (grouped memory bytes first) ∙ get_or_append_left (take first memory ++ bytes) _ 0 a inside ∙ (get_or_append_left (take first memory) bytes 0 a near ∙ get_or-take first memory a 0 lt)
 
 put_behind : (memory bytes : List ℕ) (first a : ℕ) → first + length bytes ≤ length memory → first + length bytes ≤ a →
     get_or (with_bytes memory first bytes) a 0 ≡ get_or memory a 0
@@ -35,7 +35,7 @@ put_behind memory bytes first a fits le =
     let front : length (take first memory) ≡ first = omega (arith, length-take first memory) in
     let wide : length (take first memory ++ bytes) ≡ n = omega (arith, front, length-append (take first memory) bytes) in
     let back : n + (a - n) ≡ a = omega arith in
-    get_or-append_right (take first memory ++ bytes) _ n a 0 wide le ∙ (get_or-drop n memory (a - n) 0 ∙ ap (λ i. get_or memory i 0) back)
+    ap (λ m. get_or m a 0) (grouped memory bytes first) ∙ get_or-append_right (take first memory ++ bytes) _ n a 0 wide le ∙ (get_or-drop n memory (a - n) 0 ∙ ap (λ i. get_or memory i 0) back)
 
 -- an address that a line misses keeps its byte
 pub missed_at : (memory bytes : List ℕ) (addr : Option ℕ) (a : ℕ) → IfSome addr (λ first. 0 < length bytes → first + length bytes ≤ length memory) →

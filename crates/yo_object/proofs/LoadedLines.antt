@@ -8,7 +8,8 @@ use Rattle.y86_base.specs.Text.{is_blank, behind}
 use Rattle.y86_base.proofs.Booleans.{both_true}
 use Rattle.yo_object.specs.declared.object.YoWhy.{YoWhy}
 use Rattle.yo_object.specs.declared.object.YoWhy.TheVariants.{Syntax, OddDigits, OutsideMemory, AddressTooWide}
-use Rattle.yo_object.specs.ObjectText.{after_prefix, Digits, digits_of, bytes_of_pairs, with_bytes, put_digits, put_line}
+use Rattle.y86_base.specs.Image.{with_bytes}
+use Rattle.yo_object.specs.ObjectText.{after_prefix, Digits, digits_of, bytes_of_pairs, put_digits, put_line}
 use Rattle.yo_object.specs.Grammar.{IsObjectLine}
 use Rattle.yo_object.specs.LoadedText.{IsSkipped, Puts, HaveFault, HasFault}
 use Rattle.yo_object.proofs.Bytes.{pairs_length}

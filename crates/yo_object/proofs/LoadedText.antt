@@ -5,7 +5,8 @@ use Rattle.std.proofs.lemmas.List.Elements.{All-nil, All-cons, All-head, All-tai
 use Rattle.y86_base.specs.Text.{lines}
 use Rattle.yo_object.specs.declared.object.YoWhy.{YoWhy}
 use Rattle.yo_object.specs.declared.object.YoFault.{YoFault}
-use Rattle.yo_object.specs.ObjectText.{with_bytes, after_line, put_line, put_lines}
+use Rattle.y86_base.specs.Image.{with_bytes}
+use Rattle.yo_object.specs.ObjectText.{after_line, put_line, put_lines}
 use Rattle.yo_object.specs.LoadedText.{Puts, IsGood, HasFault, PutsNoneAt, IsFirstFault, AcceptsGoodLines, RefusesFirstFault, HasItsSize, LastLineWins, IsZeroWithoutLine}
 use Rattle.yo_object.proofs.Texts.{text_start, text_end, text_more}
 use Rattle.yo_object.proofs.LoadedLines.{IsPut, is_put, is_faulty, line_put, line_skipped}

@@ -14,7 +14,7 @@ use Rattle.yo_object.specs.Grammar.{IsObjectLine, BeginsObjectLine}
 use Rattle.yo_object.specs.Printed.{hex_bytes, front, text_of, printed_line}
 use Rattle.yo_object.specs.ReadBack.{IsInside}
 use Rattle.yo_object.proofs.ListingImage.{with_bytes_at, with_line}
-use Rattle.yo_object.proofs.Bytes.{put_nothing}
+use Rattle.yo_object.proofs.Bytes.{grouped, put_nothing}
 use Rattle.yo_object.proofs.LoadedLines.{line_put, line_skipped}
 use Rattle.yo_object.proofs.Texts.{text_end, text_more}
 use Rattle.yo_object.proofs.Grammar.{behind-run, begin_read, list_all-append}
@@ -134,7 +134,7 @@ size_kept memory (byte ∷ bytes) (Some a) inside =
     let behind_them : List ℕ = drop (a + length (byte ∷ bytes)) memory in
     let long : length ((take a memory ++ (byte ∷ bytes)) ++ behind_them) ≡ length memory =
     omega (arith, le, length-append (take a memory ++ (byte ∷ bytes)) behind_them, length-append (take a memory) (byte ∷ bytes), length-take a memory, length-drop (a + length (byte ∷ bytes)) memory) in
-    long
+    ap length (grouped memory (byte ∷ bytes) a) ∙ long
 
 -- the lines of a printed text
 

@@ -2,6 +2,7 @@
 use Rattle.std.specs.Prelude.{ℕ, ◌+◌, ◌*◌, ◌/◌, ◌%◌, Bool, true, ◌&&◌, ◌==◌, nat_lt, if◌then◌else◌, List, [], ◌∷◌, ◌++◌, length, take, drop, replicate, Option, Some, None, option_and_then, Result, Ok, Err, take_while}
 use Rattle.std.specs.Option.{option_map_or}
 use Rattle.std.specs.Str.Parse.{digits_value}
+use Rattle.y86_base.specs.Image.{with_bytes}
 use Rattle.y86_base.specs.Text.{is_blank, is_hex, hex_value, behind, lines}
 use Rattle.yo_object.specs.declared.object.YoWhy.{YoWhy}
 use Rattle.yo_object.specs.declared.object.YoWhy.TheVariants.{Syntax, OddDigits, OutsideMemory, AddressTooWide}
@@ -42,10 +43,6 @@ abbrev pub bytes_of_pairs : List ℕ → List ℕ
 bytes_of_pairs [] = []
 bytes_of_pairs (high ∷ []) = []
 bytes_of_pairs (high ∷ low ∷ digits) = (16 * hex_value high + hex_value low) ∷ bytes_of_pairs digits
-
--- a memory with bytes put at an address
-abbrev pub with_bytes : List ℕ → ℕ → List ℕ → List ℕ
-with_bytes memory address bytes = take address memory ++ bytes ++ drop (address + length bytes) memory
 
 -- the memory after a line of the form, or the first of its faults
 unfoldable pub put_digits : List ℕ → Digits → Result (List ℕ) YoWhy

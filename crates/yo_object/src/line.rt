@@ -1,5 +1,6 @@
 ghost use Rattle.std.specs.Prelude.{◌≡◌, ◌<◌, ◌≤◌, ◌+◌, ◌∷◌, [], IfSome, MatchOption, length};
 ghost use Rattle.std.specs.Option.{option_copied, option_map};
+ghost use Rattle.y86_base.specs.Image.{with_bytes};
 ghost use Rattle.yo_object.specs.Loads.{Leaves};
 ghost use Rattle.yo_object.specs.Lines.{digits_in};
 ghost use Rattle.yo_object.specs.ObjectText as definition;
@@ -71,7 +72,7 @@ fn first_pair(digits: &[u8]) -> Option<(u8, &[u8])>
 /// Puts the bytes that pairs of digits write.
 fn put_bytes(image: &mut Image, address: u64, digits: &[u8])
     requires { address + length (definition.bytes_of_pairs digits.now) ≤ length image.old }
-    ensures { image.new ≡ definition.with_bytes image.old address (definition.bytes_of_pairs digits.now) }
+    ensures { image.new ≡ with_bytes image.old address (definition.bytes_of_pairs digits.now) }
 {
     let size = image.size();
     let mut at = address;
