@@ -1,5 +1,5 @@
 -- The line and the column behind a text, from its last line feed.
-use Rattle.std.proofs.Common.{◌≡◌, ℕ, ◌+◌, ◌-◌, ◌<◌, Bool, false, cond, not, All, List, [], ◌∷◌, ◌++◌, length, get_or, reverse, count_by, append_assoc, refl, sym, ap, subst, ◌∙◌, arith}
+use Rattle.std.proofs.Common.{◌≡◌, ℕ, ◌+◌, ◌-◌, ◌<◌, Bool, false, cond, not, List, [], ◌∷◌, ◌++◌, length, reverse, count_by, append_assoc, refl, sym, ap, subst, ◌∙◌, arith}
 use Rattle.std.specs.List.{position_or_len}
 use Rattle.std.proofs.lemmas.List.{get_or-reverse, length-reverse, reverse-append}
 use Rattle.std.proofs.lemmas.List.Elements.{All-head, All-tail}
