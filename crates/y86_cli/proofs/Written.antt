@@ -26,7 +26,7 @@ number_of-decimal n small =
     let numeral = decimal_is_IsNumeral n small in
     let most : length (decimal n) ≤ 20 = length-decimal-le 20 n (omega arith) (omega arith) small in
     let number : is_number (decimal n) ≡ true =
-        and_from _ _ (and_from _ _ (le-leb 1 (length (decimal n)) numeral.0.0) (le-leb (length (decimal n)) 20 most)) (digits_pass (decimal n) numeral.0.1) in
+    and_from _ _ (and_from _ _ (le-leb 1 (length (decimal n)) numeral.0.0) (le-leb (length (decimal n)) 20 most)) (digits_pass (decimal n) numeral.0.1) in
     rw (number, numeral.1, lt-ltb n (2 ^ 64) small) refl
 
 size_passes : (n : ℕ) → IsSize n → is_image_size n ≡ true
