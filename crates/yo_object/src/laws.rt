@@ -4,7 +4,7 @@ ghost use Rattle.yo_object.specs.ReadBack.{EmitsAtAddresses, FitsItsSize, HasIts
 
 /// The definition of object text and the grammar of a line agree: just the lines of the form are read, with
 /// their digits, and just the lines that don't begin with `0x` behind blanks are skipped.
-pub fn line_grammar()
+pub fn law_of_lines()
     ensures form { ReadsTheForm }
     ensures skipped { SkipsTheRest }
 {}
@@ -23,7 +23,7 @@ pub fn law_of_loads()
 /// What is printed of an accepted source is read back: at each size of an image that holds the bytes of its listing, `load`
 /// accepts the text that `print` gives, and the image has these bytes at their addresses and 0 elsewhere. The size for which the
 /// source was assembled is such a size.
-pub fn read_back()
+pub fn law_of_printing()
     ensures same_image { IsReadBack }
     ensures own_size { FitsItsSize }
     ensures addressed { EmitsAtAddresses }

@@ -8,6 +8,6 @@ mod printer;
 #[cfg(test)]
 mod tests;
 
-pub use laws::{law_of_loads, line_grammar, read_back};
+pub use laws::{law_of_lines, law_of_loads, law_of_printing};
 pub use object::{YoFault, YoWhy, load};
 pub use printer::print;

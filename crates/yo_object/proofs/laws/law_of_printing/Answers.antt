@@ -1,7 +1,7 @@
 use Rattle.yo_object.proofs.ReadBack.{is_read_back}
 use Rattle.yo_object.proofs.Images.{is_zero_elsewhere}
 use Rattle.yo_object.proofs.Apart.{emits_at_addresses, fits_its_size, has_its_bytes}
-use Rattle.yo_object.proofs.laws.read_back.Goals as goal
+use Rattle.yo_object.proofs.laws.law_of_printing.Goals as goal
 
 pub returns-clause-same_image : goal.returns-clause-same_image
 returns-clause-same_image c = is_read_back

@@ -1,5 +1,5 @@
 use Rattle.yo_object.proofs.Grammar.{reads_the_form, skips_the_rest}
-use Rattle.yo_object.proofs.laws.line_grammar.Goals as goal
+use Rattle.yo_object.proofs.laws.law_of_lines.Goals as goal
 
 pub returns-clause-form : goal.returns-clause-form
 returns-clause-form c = reads_the_form
