@@ -4,9 +4,10 @@ use Rattle.std.proofs.lemmas.Bool.{cases_lt}
 use Rattle.std.proofs.lemmas.List.{get_or_append_left, get_or-append-add, get_or-append_right, get_or-take, get_or-drop, get_or-replicate, get_or_past, length-replicate}
 use Rattle.std.proofs.lemmas.List.Elements.{All-head, All-tail}
 use Rattle.yas_asm.specs.declared.listing.Line.{Line}
+use Rattle.yas_asm.specs.Laws.{put_at}
 use Rattle.y86_base.specs.Image.{with_bytes}
 use Rattle.yo_object.specs.ReadBack.{IsInside, Misses, IsZeroElsewhere}
-use Rattle.yo_object.proofs.ListingImage.{with_bytes_at, with_line, image_same}
+use Rattle.yo_object.proofs.ListingImage.{with_line, image_same}
 use Rattle.yo_object.proofs.Bytes.{grouped, put_nothing}
 use Rattle.yo_object.proofs.PrintedLines.{size_kept}
 
@@ -39,7 +40,7 @@ put_behind memory bytes first a fits le =
 
 -- an address that a line misses keeps its byte
 pub missed_at : (memory bytes : List ℕ) (addr : Option ℕ) (a : ℕ) → IfSome addr (λ first. 0 < length bytes → first + length bytes ≤ length memory) →
-    IfSome addr (λ first. (a < first) ⊎ (first + length bytes ≤ a)) → get_or (with_bytes_at memory addr bytes) a 0 ≡ get_or memory a 0
+    IfSome addr (λ first. (a < first) ⊎ (first + length bytes ≤ a)) → get_or (put_at addr bytes memory) a 0 ≡ get_or memory a 0
 missed_at memory bytes None a inside misses = refl
 missed_at memory [] (Some first) a inside misses = ap (λ m. get_or m a 0) (put_nothing memory first)
 missed_at memory (byte ∷ bytes) (Some first) a inside misses =
@@ -83,6 +84,6 @@ byte_kept memory [] after line first k inside at lt misses =
     (subst (λ (addr : Option ℕ). IfSome addr (λ a. 0 < length line.bytes.items → a + length line.bytes.items ≤ length memory)) at
     (All-head (IsInside (length memory)) line after inside)) (omega arith) in
     all_missed (with_line memory line) after (first + k) (next_inside memory line after inside) misses
-    ∙ (ap (λ addr. get_or (with_bytes_at memory addr line.bytes.items) (first + k) 0) at ∙ put_inside memory line.bytes.items first k here lt)
+    ∙ (ap (λ addr. get_or (put_at addr line.bytes.items memory) (first + k) 0) at ∙ put_inside memory line.bytes.items first k here lt)
 byte_kept memory (other ∷ before) after line first k inside at lt misses =
     byte_kept (with_line memory other) before after line first k (next_inside memory other (before ++ (line ∷ after)) inside) at lt misses

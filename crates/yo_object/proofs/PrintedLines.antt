@@ -9,11 +9,12 @@ use Rattle.y86_base.specs.Text.{is_blank, is_hex, is_line_feed, lines}
 use Rattle.y86_base.proofs.Booleans.{both_true}
 use Rattle.y86_base.specs.Numeral.{numeral}
 use Rattle.yas_asm.specs.declared.listing.Line.{Line}
+use Rattle.yas_asm.specs.Laws.{put_at}
 use Rattle.yo_object.specs.ObjectText.{after_prefix, put_line, put_lines}
 use Rattle.yo_object.specs.Grammar.{IsObjectLine, BeginsObjectLine}
 use Rattle.yo_object.specs.Printed.{hex_bytes, front, text_of, printed_line}
 use Rattle.yo_object.specs.ReadBack.{IsInside}
-use Rattle.yo_object.proofs.ListingImage.{with_bytes_at, with_line}
+use Rattle.yo_object.proofs.ListingImage.{with_line}
 use Rattle.yo_object.proofs.Bytes.{grouped, put_nothing}
 use Rattle.yo_object.proofs.LoadedLines.{line_put, line_skipped}
 use Rattle.yo_object.proofs.Texts.{text_end, text_more}
@@ -87,12 +88,12 @@ blanks_skipped bytes text rest begins = no (sym (begin_read _ rest begins) ∙ a
     no e = cc
 
 -- a printed line puts its bytes at its address
-put_at : (memory bytes text : List ℕ) (addr : Option ℕ) → AreBytes bytes → IfSome addr (λ a. a < 16 ^ 16) →
+line_puts : (memory bytes text : List ℕ) (addr : Option ℕ) → AreBytes bytes → IfSome addr (λ a. a < 16 ^ 16) →
     IfSome addr (λ a. 0 < length bytes → a + length bytes ≤ length memory) →
-    put_line memory (front addr bytes ++ (codes " | " ++ text)) ≡ Ok (with_bytes_at memory addr bytes)
+    put_line memory (front addr bytes ++ (codes " | " ++ text)) ≡ Ok (put_at addr bytes memory)
 unfolding front
-put_at memory bytes text None small narrow inside = line_skipped memory _ (blanks_skipped bytes text)
-put_at memory bytes text (Some a) small narrow inside =
+line_puts memory bytes text None small narrow inside = line_skipped memory _ (blanks_skipped bytes text)
+line_puts memory bytes text (Some a) small narrow inside =
     let hex = numeral_is_hex 3 15 a (omega arith) (omega arith) narrow (omega (arith, narrow)) in
     let two = hex_bytes_are_pairs bytes small in
     line_put (length memory) memory _ (record {
@@ -126,7 +127,7 @@ front_plain bytes (Some a) small narrow =
 
 -- bytes that are inside leave the size of a memory
 pub size_kept : (memory bytes : List ℕ) (addr : Option ℕ) → IfSome addr (λ a. 0 < length bytes → a + length bytes ≤ length memory) →
-    length (with_bytes_at memory addr bytes) ≡ length memory
+    length (put_at addr bytes memory) ≡ length memory
 size_kept memory bytes None inside = refl
 size_kept memory [] (Some a) inside = ap length (put_nothing memory a)
 size_kept memory (byte ∷ bytes) (Some a) inside =
@@ -168,5 +169,5 @@ all_put source number memory (line ∷ listing) h =
     let rest = All-tail (IsPrintable source (length memory)) line listing h in
     let same : length (with_line memory line) ≡ length memory = size_kept memory line.bytes.items line.addr p.inside in
     text_more number memory (with_line memory line) (line_body source line) _ _ (first_printed source (length memory) line (flat_map (printed_line source) listing) p)
-    (put_at memory line.bytes.items (text_of source line.from line.to) line.addr p.bytes p.narrow p.inside)
+    (line_puts memory line.bytes.items (text_of source line.from line.to) line.addr p.bytes p.narrow p.inside)
     ∙ all_put source (number + 1) (with_line memory line) listing (subst (λ n. All (IsPrintable source n) listing) (sym same) rest)

@@ -86,8 +86,8 @@ fn put_bytes(image: &mut Image, address: u64, digits: &[u8])
     }
 }
 
-#[tactic(auto, using(crate::proofs::Bytes::put_nothing, crate::proofs::Bytes::pairs_length, crate::proofs::Bytes::not_a_word), unfolding(crate::specs::ObjectText::put_digits))]
 /// Puts the bytes of a line of the form, or tells the first of its faults.
+#[tactic(auto, using(crate::proofs::Bytes::put_nothing, crate::proofs::Bytes::pairs_length, crate::proofs::Bytes::not_a_word), unfolding(crate::specs::ObjectText::put_digits))]
 fn put_digits(image: &mut Image, digits: &Record<'_>) -> Result<(), YoWhy>
     ensures { Leaves result image.new (definition.put_digits image.old (digits_in digits.now)) }
 {
@@ -111,8 +111,8 @@ fn put_digits(image: &mut Image, digits: &Record<'_>) -> Result<(), YoWhy>
     }
 }
 
-#[tactic(auto, unfolding(crate::specs::ObjectText::put_line))]
 /// Puts the bytes of a line, or tells its fault.
+#[tactic(auto, unfolding(crate::specs::ObjectText::put_line))]
 pub fn put_line(image: &mut Image, line: &[u8]) -> Result<(), YoWhy>
     ensures { Leaves result image.new (definition.put_line image.old line.now) }
 {
