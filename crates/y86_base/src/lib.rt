@@ -2,6 +2,7 @@
 //! status, the words of text that all formats share.
 #![tactic(auto)]
 
+mod boxed;
 mod cursor;
 mod image;
 mod items;
@@ -13,6 +14,7 @@ mod registers;
 mod tests;
 mod text;
 
+pub use boxed::Boxed;
 pub use cursor::Cursor;
 pub use image::{Image, ImageFault};
 pub use items::Items;

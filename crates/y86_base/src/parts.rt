@@ -5,10 +5,12 @@ ghost use Rattle.y86_base.specs.Stat.{stat_name, stat_of};
 #[derive(Clone, Copy, Debug, PartialEq, Eq)]
 pub struct Memory;
 
-/// Which instruction set is meant. `Base` is the Y86-64 of CS:APP 3e, section 4.1.
+/// Which instruction set is meant. `Base` is the Y86-64 of CS:APP 3e, section 4.1, and `Full` is `Base` with
+/// `iaddq` (exercises 4.51 and 4.52) as icode 12.
 #[derive(Clone, Copy, Debug, PartialEq, Eq)]
 pub enum Variant {
     Base,
+    Full,
 }
 
 /// The condition codes of CS:APP 3e, section 4.1.1: zero, sign and signed overflow.
