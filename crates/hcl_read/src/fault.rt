@@ -1,0 +1,36 @@
+use thiserror::Error;
+
+/// Why a text is refused. Of several reasons at one place the first of `BadByte`, `Syntax`, `NumberTooWide`,
+/// `DepthOver64`, `NamesOver256` is told.
+#[derive(Clone, Copy, Debug, PartialEq, Eq, Error)]
+pub enum HclWhy {
+    /// No file of the grammar has such a token, or the text's end, at the place.
+    #[error("Syntax")]
+    Syntax,
+    /// A byte that is not a blank, not a line feed and not 0x21 to 0x7e stands outside comments and quoted texts.
+    #[error("BadByte")]
+    BadByte,
+    /// A number is below -2^63 or above 2^63-1.
+    #[error("NumberTooWide")]
+    NumberTooWide,
+    /// Inside the bracket or `!` at the place, more than 64 of `(`, `[`, `{` and `!` would be open.
+    #[error("DepthOver64")]
+    DepthOver64,
+    /// The name at the place is the 257th different one of the text.
+    #[error("NamesOver256")]
+    NamesOver256,
+    /// An allocation was refused.
+    #[error("Memory")]
+    Memory,
+}
+
+/// The first place where the text is no longer the beginning of a file, as line and column from 1, a column
+/// counting bytes, and the reason. The place is the first byte of the token or the bad byte, or the end of the
+/// text. For want of memory line and column are 0.
+#[derive(Clone, Copy, Debug, PartialEq, Eq, Error)]
+#[error("{line}:{col}: {why}")]
+pub struct HclFault {
+    pub line: u64,
+    pub col: u64,
+    pub why: HclWhy,
+}

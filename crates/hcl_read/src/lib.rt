@@ -1,0 +1,12 @@
+//! HCL, the language in which CS:APP 3e (section 4.2 and its HCL guide) describes control logic: its tree, and
+//! the reader from text to tree.
+#![tactic(auto)]
+
+mod fault;
+mod text;
+mod token;
+mod tree;
+
+pub use fault::{HclFault, HclWhy};
+pub use text::Text;
+pub use tree::{Branch, CmpOp, Expr, File, Item, Kind};
