@@ -4,7 +4,7 @@
 
 mod fault;
 mod text;
-mod token;
+mod tokens;
 mod tree;
 
 pub use fault::{HclFault, HclWhy};

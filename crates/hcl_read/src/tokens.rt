@@ -4,43 +4,36 @@ use crate::tree::{CmpOp, Kind};
 /// A token of HCL, the smallest unit of the grammar.
 #[derive(Debug, Drop)]
 pub enum Token {
+    /// `quote`
+    KeyQuote,
+    /// `wordsig` and `intsig`, or `boolsig`
+    KeySig(Kind),
+    /// `word` and `int`, or `bool`
+    KeyDef(Kind),
+    /// `in`
+    KeyIn,
     /// A name.
-    Name(Text),
+    Ident(Text),
     /// A number in range, a negative one as its two's complement.
     Number(u64),
     /// A number that is not in range.
     Wide,
     /// The text between two quotes.
     Quoted(Text),
-    /// `quote`
-    Quote,
-    /// `wordsig` and `intsig`, or `boolsig`
-    Signal(Kind),
-    /// `word` and `int`, or `bool`
-    Define(Kind),
-    /// `in`
-    In,
+    Assign,
+    Semicolon,
+    OrOr,
+    AndAnd,
+    Bang,
     Compare(CmpOp),
-    /// `||`
-    Or,
-    /// `&&`
-    And,
-    /// `!`
-    Not,
-    /// `(` and `)`
-    Open,
-    Close,
-    /// `[` and `]`
-    OpenCase,
-    CloseCase,
-    /// `{` and `}`
-    OpenSet,
-    CloseSet,
+    OpenParen,
+    CloseParen,
+    OpenBrace,
+    CloseBrace,
+    OpenBracket,
+    CloseBracket,
     Comma,
     Colon,
-    Semicolon,
-    /// `=`
-    Equals,
     /// A byte that may stand only in comments and quoted texts.
     Bad,
     /// A byte that begins no token, as a lone `&` or a quote that is not closed on its line.
