@@ -1,0 +1,5 @@
+pub mod PipeNames
+pub mod SeqNames
+pub mod Values
+pub mod PipeState
+pub mod PipeCycle

@@ -1,0 +1,12 @@
+//! The signals of the sequential and of the pipelined datapath of CS:APP 3e, chapter 4, and what they compute in one clock cycle
+//! under any HCL file: the tables of signals, the blocks, the equations that the values of a cycle solve, and the next state.
+#![tactic(auto)]
+
+mod movers;
+mod pipe_cycle;
+mod pipe_row;
+mod pipe_state;
+
+pub use movers::{Ending, Mover, Movers};
+pub use pipe_cycle::{advance, ending, retires};
+pub use pipe_state::{PipeState, StageD, StageE, StageM, StageW, Trail};
