@@ -1,0 +1,4 @@
+pub mod Grammar
+pub mod Fault
+pub mod Depth
+pub mod Machine

@@ -3,6 +3,9 @@
 #![tactic(auto)]
 
 mod fault;
+mod frames;
+mod stack;
+mod state;
 mod text;
 mod tokens;
 mod tree;

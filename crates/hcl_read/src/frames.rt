@@ -1,0 +1,48 @@
+use crate::tree::{Branch, CmpOp, Expr};
+use y86_base::{Boxed, Items};
+
+/// What has been read of an expression on one level of brackets: the operands of its `||` list so far, those of
+/// the `&&` list that is being read, and how many `!` stand in front of the next operand.
+#[derive(Drop)]
+pub struct Level {
+    pub nots: u64,
+    pub ands: Items<Expr>,
+    pub ors: Items<Expr>,
+}
+
+/// Where an operand of a comparison stands: left, or right of an operator and its left operand.
+#[derive(Drop)]
+pub enum Side {
+    Left,
+    Right(CmpOp, Boxed<Expr>),
+}
+
+/// An open bracket, with what goes on behind it.
+#[derive(Drop)]
+pub enum Frame {
+    /// `(`
+    Paren(Side, Level),
+    /// `{` of a set, with the left side of its `in` and the members read.
+    Set(Boxed<Expr>, Items<Expr>, Level),
+    /// `[`, in a guard, with the branches read.
+    Guard(Side, Items<Branch>, Level),
+    /// `[`, in the value behind a guard.
+    Value(Side, Items<Branch>, Boxed<Expr>, Level),
+}
+
+/// What comes next in an expression.
+#[derive(Drop)]
+pub enum Spot {
+    /// An operand of `&&`.
+    Want(Level),
+    /// The right operand of a comparison.
+    WantRight(CmpOp, Boxed<Expr>, Level),
+    /// What may follow a left operand.
+    AfterPrim(Boxed<Expr>, Level),
+    /// What may follow an operand of `&&`; it is the last of the first list.
+    After(Items<Expr>, Items<Expr>),
+    /// `{`
+    WantSet(Boxed<Expr>, Level),
+    /// A further branch or `]`.
+    Cases(Side, Items<Branch>, Level),
+}
