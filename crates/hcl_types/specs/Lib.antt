@@ -1,0 +1,5 @@
+pub mod Lists
+pub mod Terms
+pub mod Equations
+pub mod Kinds
+pub mod Tables

@@ -1,0 +1,25 @@
+-- Facts and tests on lists, by recursion.
+use Rattle.std.specs.Prelude.{◌≡◌, ◌⊎◌, Bool, true, false, ◌&&◌, ◌||◌, List, [], ◌∷◌}
+
+-- P of each element
+abbrev pub Each : {A : Type 0} → (A → Type 0) → List A → Type 0
+Each P [] = Unit {0}
+Each P (x ∷ xs) = P x × Each P xs
+
+abbrev pub IsIn : {A : Type 0} → A → List A → Type 0
+IsIn y [] = ⊥
+IsIn y (x ∷ xs) = (y ≡ x) ⊎ IsIn y xs
+
+-- no element stands twice
+abbrev pub IsApart : {A : Type 0} → List A → Type 0
+IsApart [] = Unit {0}
+IsApart (x ∷ xs) = (IsIn x xs → ⊥) × IsApart xs
+
+-- tests of each element and of some element
+abbrev pub each : {A : Type 0} → (A → Bool) → List A → Bool
+each p [] = true
+each p (x ∷ xs) = p x && each p xs
+
+abbrev pub some : {A : Type 0} → (A → Bool) → List A → Bool
+some p [] = false
+some p (x ∷ xs) = p x || some p xs

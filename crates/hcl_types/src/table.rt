@@ -1,0 +1,55 @@
+use crate::term::{NameId, Term};
+use hcl_read::Text;
+use y86_base::Items;
+
+/// What the values of a row are.
+#[derive(Clone, Copy, Debug, PartialEq, Eq)]
+pub enum Class {
+    /// A constant.
+    Number,
+    /// A code of 4 bits: an instruction or function code, a status, a register.
+    Code,
+    /// A word of 64 bits.
+    Value,
+    /// A Boolean, 0 or 1.
+    Truth,
+}
+
+/// Where the value of a row comes from.
+#[derive(Debug, PartialEq, Drop)]
+pub enum Role {
+    /// A number that never changes.
+    Constant(u64),
+    /// A field of the processor's state.
+    State,
+    /// A hardware block, whose value depends on these rows.
+    Hardware(Items<NameId>),
+    /// A definition of the HCL file.
+    Defined,
+}
+
+/// A name of a datapath.
+#[derive(Debug, PartialEq, Drop)]
+pub struct Row {
+    pub name: Text,
+    pub class: Class,
+    pub role: Role,
+}
+
+/// The names of a datapath: what a file may use, and what it must define.
+#[derive(Debug, PartialEq, Drop)]
+pub struct Table {
+    pub rows: Items<Row>,
+}
+
+/// The control logic of a datapath: one term for each defined row of its table, in table order.
+#[derive(Debug, PartialEq, Drop)]
+pub struct Design {
+    pub terms: Items<Term>,
+}
+
+/// The rows that a cycle computes, in an order in which each comes after all that it depends on.
+#[derive(Debug, PartialEq, Drop)]
+pub struct Order {
+    pub ids: Items<NameId>,
+}
