@@ -2,11 +2,16 @@
 //! under any HCL file: the tables of signals, the blocks, the equations that the values of a cycle solve, and the next state.
 #![tactic(auto)]
 
+mod blocks;
 mod movers;
 mod pipe_cycle;
 mod pipe_row;
 mod pipe_state;
 
+pub use blocks::{
+    cnd, dmem_error, fetch_ra, fetch_rb, imem_error, imem_icode, imem_ifun, reg_val, val_c, val_e,
+    val_m, val_p,
+};
 pub use movers::{Ending, Mover, Movers};
 pub use pipe_cycle::{advance, ending, retires};
 pub use pipe_state::{PipeState, StageD, StageE, StageM, StageW, Trail};
