@@ -1,0 +1,6 @@
+use Rattle.std.proofs.Common.{rules}
+use Rattle.nets.proofs.Truths.{made_not}
+use Rattle.nets.proofs.builder.NetBuilder.add_not.Goals as goal
+
+pub returns-clause-made : goal.returns-clause-made
+returns-clause-made c = made_not {a = c.args.a} (search rules) c.requires (search rules)

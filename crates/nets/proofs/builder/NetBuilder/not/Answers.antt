@@ -1,0 +1,6 @@
+use Rattle.std.proofs.Common.{rules}
+use Rattle.nets.proofs.Truths.{negated}
+use Rattle.nets.proofs.builder.NetBuilder.not.Goals as goal
+
+pub returns-in-Not-clause-made : goal.returns-in-Not-clause-made
+returns-in-Not-clause-made c = negated c.args.self.now c.args.a c.in-Not.inner (search rules) (search rules)

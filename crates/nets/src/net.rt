@@ -1,0 +1,96 @@
+ghost use Rattle.std.specs.Prelude.{◌≡◌, ℕ, ◌<◌, List, Bool, length, slice_get, IfOk};
+ghost use Rattle.nets.specs.Nets.{Begins, IsAdded, IsGate, ReadsEarlier, gate_value, truth, truths};
+
+use indexmap::IndexSet;
+use std::alloc::Global;
+use std::marker::Model;
+use y86_base::Memory;
+
+/// A gate: a constant, a variable by its number, the negation of an earlier gate, or the conjunction of two.
+#[derive(Clone, Copy, Debug, PartialEq, Eq, Hash)]
+pub enum Gate {
+    Const(bool),
+    Var(u32),
+    Not(u64),
+    And(u64, u64),
+}
+
+/// Puts a gate behind others, or finds an equal one, and answers its number.
+fn place(gates: &mut IndexSet<Gate>, gate: Gate) -> Result<u64, Memory>
+    ensures grows { IsAdded gates.old.keys gates.new.keys gate }
+    ensures found { IfOk result (λ i. slice_get gates.new.keys i ≡ Some gate) }
+{
+    match gates.insert_full(gate) {
+        Ok((i, _)) => Ok(i as u64),
+        Err(_) => Err(Memory),
+    }
+}
+
+/// Formulas that share their parts, seen as a number of variables and a list of gates, each over earlier ones.
+#[derive(Drop)]
+pub struct Net {
+    vars: u32,
+    gates: IndexSet<Gate>,
+}
+
+impl Model for Net {
+    ghost use Rattle.nets.specs.Nets.{Gates, IsNet};
+
+    ghost Value = { Gates };
+
+    ghost view = { λ n. record { vars = n.vars; gates = n.gates.keys } };
+
+    ghost invariant = { λ n. IsNet (record { vars = n.vars; gates = n.gates.keys }) };
+}
+
+impl Net {
+    /// A net without gates.
+    pub(crate) fn new(alloc: Global, vars: u32) -> Net
+        ensures vars { result.vars ≡ vars }
+        ensures none { length result.gates ≡ 0 }
+    {
+        Net {
+            vars,
+            gates: IndexSet::new(alloc),
+        }
+    }
+
+    /// The number of variables. They are numbered from 0 on.
+    pub fn vars(&self) -> u32
+        ensures { result ≡ self.now.vars }
+    {
+        self.vars
+    }
+
+    /// The number of gates.
+    pub fn len(&self) -> u64
+        ensures { result ≡ length self.now.gates }
+    {
+        self.gates.len() as u64
+    }
+
+    /// A gate by its number. It reads only earlier gates, and its truth comes from theirs.
+    pub fn gate(&self, i: u64) -> Gate
+        requires { i < length self.now.gates }
+        ensures is { slice_get self.now.gates i ≡ Some result }
+        ensures earlier { ReadsEarlier self.now.vars i result }
+        ensures meaning { (w : List Bool) → truth self.now i w ≡ gate_value w (truths self.now w) result }
+    {
+        match self.gates.get_index(i as usize) {
+            Some(gate) => *gate,
+            None => unreachable!(),
+        }
+    }
+
+    /// Puts a gate behind the others, or finds an equal one that is there.
+    #[tactic(auto, using(crate::proofs::Added::added_net, crate::proofs::Added::added_begins))]
+    pub(crate) fn add(&mut self, gate: Gate) -> Result<u64, Memory>
+        requires { ReadsEarlier self.old.vars (length self.old.gates) gate }
+        ensures begins { Begins self.old self.new }
+        ensures added { IfOk result (λ i. slice_get self.new.gates i ≡ Some gate) }
+        ensures meaning { IfOk result (λ i. IsGate self.new i (λ w. gate_value w (truths self.new w) gate)) }
+    {
+        let i = place(&mut self.gates, gate)?;
+        Ok(i)
+    }
+}
