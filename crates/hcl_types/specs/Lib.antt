@@ -3,3 +3,4 @@ pub mod Terms
 pub mod Equations
 pub mod Kinds
 pub mod Tables
+pub mod Signals

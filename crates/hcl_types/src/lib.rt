@@ -2,9 +2,13 @@
 //! tables, the equations of a cycle and their order.
 #![tactic(auto)]
 
+mod eval;
 mod table;
 mod term;
+mod value;
 
+pub use eval::{Plain, SignalEval};
 pub use hcl_read::{CmpOp, Kind, Text};
 pub use table::{Class, Design, Order, Role, Row, Table};
 pub use term::{NameId, Term, TermBranch};
+pub use value::{compare, is_below, value_of};
