@@ -3,12 +3,14 @@
 #![tactic(auto)]
 
 mod eval;
+mod names;
 mod table;
 mod term;
 mod value;
 
 pub use eval::{Plain, SignalEval};
 pub use hcl_read::{CmpOp, Kind, Text};
+pub use names::put_names;
 pub use table::{Class, Design, Order, Role, Row, Table};
 pub use term::{NameId, Term, TermBranch};
 pub use value::{compare, is_below, value_of};
