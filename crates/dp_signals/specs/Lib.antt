@@ -3,3 +3,5 @@ pub mod SeqNames
 pub mod Values
 pub mod PipeState
 pub mod PipeCycle
+pub mod PipeEquations
+pub mod PipeRun

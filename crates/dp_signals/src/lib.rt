@@ -7,6 +7,7 @@ mod movers;
 mod pipe_cycle;
 mod pipe_row;
 mod pipe_state;
+mod pipe_values;
 
 pub use blocks::{
     cnd, dmem_error, fetch_ra, fetch_rb, imem_error, imem_icode, imem_ifun, reg_val, val_c, val_e,

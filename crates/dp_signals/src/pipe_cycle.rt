@@ -3,7 +3,8 @@ ghost use Rattle.y86_isa.specs.Blocks.{stored};
 ghost use Rattle.dp_signals.specs.PipeCycle as spec;
 ghost use Rattle.dp_signals.specs.PipeNames as pipe;
 ghost use Rattle.dp_signals.specs.PipeState.{bubble_d, bubble_e, bubble_m, bubble_w};
-ghost use Rattle.dp_signals.specs.Values.{at, set};
+ghost use Rattle.dp_signals.specs.Values.{set};
+ghost use Rattle.hcl_types.specs.Terms.{at};
 
 use crate::movers::{Ending, Mover, Movers};
 use crate::pipe_row as row;
