@@ -2,3 +2,4 @@ pub mod Grammar
 pub mod Fault
 pub mod Depth
 pub mod Machine
+pub mod Tokens

@@ -4,6 +4,7 @@
 
 mod fault;
 mod frames;
+mod scan;
 mod stack;
 mod state;
 mod text;

@@ -1,0 +1,119 @@
+-- The tokens of HCL text (HCL guide): a table, each read as long as it goes, with blanks, line feeds and comments between them.
+use Rattle.std.specs.Prelude.{ℕ, zero, suc, ◌-◌, ◌^◌, Bool, true, false, ◌&&◌, ◌||◌, ◌==◌, nat_eq, nat_le, nat_lt, if◌then◌else◌, not, List, [], ◌∷◌, length, drop, take_while, codes, map, Option, Some, None, unwrap_or}
+use Rattle.std.specs.List.{starts_with}
+use Rattle.std.specs.Str.{bytes_eq}
+use Rattle.std.specs.Str.Parse.{digits_value}
+use Rattle.y86_base.specs.Text.{is_blank, is_line_feed, is_decimal, behind}
+use Rattle.hcl_read.specs.declared.tree.Kind.TheVariants.{Word, Bool as Truth}
+use Rattle.hcl_read.specs.declared.tree.CmpOp.TheVariants.{Eq, Ne, Lt, Le, Gt, Ge}
+use Rattle.hcl_read.specs.declared.tokens.Token.{Token}
+use Rattle.hcl_read.specs.declared.tokens.Token.TheVariants.{KeyQuote, KeySig, KeyDef, KeyIn, Ident, Number, Wide, Quoted, Assign, Semicolon, OrOr, AndAnd, Bang, Compare, OpenParen, CloseParen, OpenBrace, CloseBrace, OpenBracket, CloseBracket, Comma, Colon, Bad, Odd}
+
+abbrev pub is_letter : ℕ → Bool
+is_letter byte = (nat_le 97 byte && nat_le byte 122) || (nat_le 65 byte && nat_le byte 90)
+
+-- a letter, a digit or `_`
+abbrev pub is_name_byte : ℕ → Bool
+is_name_byte byte = is_letter byte || is_decimal byte || byte == 95
+
+-- a byte of a quoted text: any but `'` and a line feed
+abbrev pub is_quoted : ℕ → Bool
+is_quoted byte = not (byte == 39 || is_line_feed byte)
+
+-- a byte that may stand outside comments and quoted texts, blanks and line feeds apart
+abbrev pub is_visible : ℕ → Bool
+is_visible byte = nat_le 33 byte && nat_le byte 126
+
+-- the first byte is there and passes the test
+abbrev pub begins : (ℕ → Bool) → List ℕ → Bool
+begins test [] = false
+begins test (byte ∷ bytes) = test byte
+
+-- what stands behind the blanks, line feeds and comments in front; a comment goes from `#` to the end of its line
+unfoldable pub skipped : Bool → List ℕ → List ℕ
+skipped comment [] = []
+skipped true (byte ∷ bytes) = skipped (not (is_line_feed byte)) bytes
+skipped false (byte ∷ bytes) =
+    if byte == 35 then skipped true bytes
+    else (if is_blank byte || is_line_feed byte then skipped false bytes else byte ∷ bytes)
+
+-- the words that are never names
+abbrev pub keywords : List (List ℕ × Token)
+keywords =
+    (codes "quote", KeyQuote) ∷ (codes "wordsig", KeySig Word) ∷ (codes "intsig", KeySig Word) ∷ (codes "boolsig", KeySig Truth)
+    ∷ (codes "word", KeyDef Word) ∷ (codes "int", KeyDef Word) ∷ (codes "bool", KeyDef Truth) ∷ (codes "in", KeyIn) ∷ []
+
+-- the symbols of two bytes, and those of one
+abbrev pub long_symbols : List (List ℕ × Token)
+long_symbols =
+    (codes "||", OrOr) ∷ (codes "&&", AndAnd) ∷ (codes "==", Compare Eq) ∷ (codes "!=", Compare Ne) ∷ (codes "<=", Compare Le)
+    ∷ (codes ">=", Compare Ge) ∷ []
+
+abbrev pub short_symbols : List (List ℕ × Token)
+short_symbols =
+    (codes "<", Compare Lt) ∷ (codes ">", Compare Gt) ∷ (codes "!", Bang) ∷ (codes "=", Assign) ∷ (codes ";", Semicolon)
+    ∷ (codes ",", Comma) ∷ (codes ":", Colon) ∷ (codes "(", OpenParen) ∷ (codes ")", CloseParen) ∷ (codes "{", OpenBrace)
+    ∷ (codes "}", CloseBrace) ∷ (codes "[", OpenBracket) ∷ (codes "]", CloseBracket) ∷ []
+
+-- what a table says of a word
+unfoldable pub meaning_of : List (List ℕ × Token) → List ℕ → Option Token
+meaning_of [] name = None
+meaning_of (row ∷ rows) name = if bytes_eq name row.0 then Some row.1 else meaning_of rows name
+
+-- a word is a keyword or a name
+abbrev pub word : List ℕ → Token
+word name = unwrap_or (meaning_of keywords name) (Ident name)
+
+-- the first row of a table that stands in front, and what stands behind it
+unfoldable pub symbol : List (List ℕ × Token) → List ℕ → Option (Token × List ℕ)
+symbol [] text = None
+symbol (row ∷ rows) text = if starts_with nat_eq text row.0 then Some (row.1, drop (length row.0) text) else symbol rows text
+
+-- a byte that begins no token; what stands behind it is no more looked at
+abbrev pub stray : ℕ → Token × List ℕ
+stray byte = ((if is_visible byte then Odd else Bad), [])
+
+-- a number lies from -2^63 to 2^63-1, and is kept as a word of 64 bits
+abbrev pub number : Bool → ℕ → Token
+number negative n =
+    if negative then (if nat_le n (2 ^ 63) then (if n == 0 then Number 0 else Number (2 ^ 64 - n)) else Wide)
+    else (if nat_lt n (2 ^ 63) then Number n else Wide)
+
+abbrev pub digits : Bool → List ℕ → Token × List ℕ
+digits negative text = (number negative (digits_value 10 (take_while is_decimal text)), behind is_decimal text)
+
+-- a symbol, or a byte that begins no token
+abbrev pub symbol_or_stray : ℕ → List ℕ → Token × List ℕ
+symbol_or_stray byte bytes =
+    unwrap_or (symbol long_symbols (byte ∷ bytes)) (unwrap_or (symbol short_symbols (byte ∷ bytes)) (stray byte))
+
+-- a quote closes the quoted text in front
+abbrev pub is_closed : List ℕ → Bool
+is_closed text = begins (λ byte. byte == 39) (behind is_quoted text)
+
+-- the token that begins with a byte, and what stands behind it
+unfoldable pub token : ℕ → List ℕ → Token × List ℕ
+token byte bytes =
+    if is_letter byte then (word (take_while is_name_byte (byte ∷ bytes)), behind is_name_byte (byte ∷ bytes))
+    else (if is_decimal byte then digits false (byte ∷ bytes)
+    else (if byte == 45 && begins is_decimal bytes then digits true bytes
+    else (if byte == 39 && is_closed bytes then (Quoted (take_while is_quoted bytes), drop 1 (behind is_quoted bytes))
+    else symbol_or_stray byte bytes)))
+
+abbrev pub front : List ℕ → Option (Token × List ℕ)
+front [] = None
+front (byte ∷ bytes) = Some (token byte bytes)
+
+-- the tokens of a text that has no blank, line feed or comment in front, each with the bytes from its first on; at most so many
+unfoldable pub items_in : ℕ → List ℕ → List (Token × List ℕ)
+items_in zero text = []
+items_in (suc most) [] = []
+items_in (suc most) (byte ∷ bytes) =
+    ((token byte bytes).0, byte ∷ bytes) ∷ items_in most (skipped false (token byte bytes).1)
+
+-- the tokens of a text, each with the bytes from its first on; none is shorter than a byte (`law_of_tokens`)
+unfoldable pub items : List ℕ → List (Token × List ℕ)
+items text = items_in (length text) (skipped false text)
+
+abbrev pub tokens : List ℕ → List Token
+tokens text = map (λ item. item.0) (items text)

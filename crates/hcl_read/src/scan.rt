@@ -1,0 +1,272 @@
+ghost use Rattle.std.specs.Prelude.{◌≡◌, ◌≤◌, ◌<◌, ◌+◌, ◌-◌, ◌∷◌, length, IfOk, MatchOption, List, ℕ, [], drop, true, None, Some, take_while, false};
+ghost use Rattle.std.specs.List.{prefix_len};
+ghost use Rattle.std.specs.Str.Parse.{digits_value};
+ghost use Rattle.y86_base.specs.Text as text;
+ghost use Rattle.hcl_read.specs.Tokens as spec;
+
+use crate::text::Text;
+use crate::tokens::Token;
+use crate::tree::{CmpOp, Kind};
+use std::alloc::Global;
+use y86_base::{Memory, is_blank, is_decimal, number_in_base};
+
+fn is_letter(byte: u8) -> bool
+    ensures { result ≡ spec.is_letter byte }
+{
+    (b'a' <= byte && byte <= b'z') || (b'A' <= byte && byte <= b'Z')
+}
+
+fn is_name_byte(byte: u8) -> bool
+    ensures { result ≡ spec.is_name_byte byte }
+{
+    is_letter(byte) || is_decimal(byte) || byte == b'_'
+}
+
+/// How many bytes of a name stand at the front.
+fn name_length(bytes: &[u8]) -> usize
+    ensures count { result ≡ prefix_len spec.is_name_byte bytes.now }
+    ensures within { result ≤ length bytes.now }
+{
+    bytes.iter().take_while(|byte| is_name_byte(**byte)).count()
+}
+
+/// How many digits stand at the front.
+fn digit_count(bytes: &[u8]) -> usize
+    ensures count { result ≡ prefix_len text.is_decimal bytes.now }
+    ensures within { result ≤ length bytes.now }
+{
+    bytes.iter().take_while(|byte| is_decimal(**byte)).count()
+}
+
+/// How many bytes of a quoted text stand at the front.
+fn quoted_length(bytes: &[u8]) -> usize
+    ensures count { result ≡ prefix_len spec.is_quoted bytes.now }
+    ensures within { result ≤ length bytes.now }
+{
+    bytes
+        .iter()
+        .take_while(|byte| **byte != b'\'' && **byte != b'\n')
+        .count()
+}
+
+/// What stands behind the blanks, line feeds and comments in front.
+#[tactic(auto, unfolding(crate::specs::Tokens::skipped))]
+pub fn after_gap(bytes: &[u8]) -> &[u8]
+    ensures value { result.now ≡ spec.skipped false bytes.now }
+    ensures shorter { length result.now ≤ length bytes.now }
+{
+    let mut rest = bytes;
+    let mut comment = false;
+    while let Some((byte, behind)) = rest.split_first() {
+        if comment {
+            comment = *byte != b'\n';
+        } else if *byte == b'#' {
+            comment = true;
+        } else if !is_blank(*byte) && *byte != b'\n' {
+            break;
+        }
+        rest = behind;
+    }
+    rest
+}
+
+/// The keyword that a word is.
+#[tactic(auto, unfolding(crate::specs::Tokens::meaning_of))]
+fn keyword(name: &[u8]) -> Option<Token>
+    ensures { result ≡ spec.meaning_of spec.keywords name.now }
+{
+    if name == b"quote".as_slice() {
+        return Some(Token::KeyQuote);
+    }
+    if name == b"wordsig".as_slice() {
+        return Some(Token::KeySig(Kind::Word));
+    }
+    if name == b"intsig".as_slice() {
+        return Some(Token::KeySig(Kind::Word));
+    }
+    if name == b"boolsig".as_slice() {
+        return Some(Token::KeySig(Kind::Bool));
+    }
+    if name == b"word".as_slice() {
+        return Some(Token::KeyDef(Kind::Word));
+    }
+    if name == b"int".as_slice() {
+        return Some(Token::KeyDef(Kind::Word));
+    }
+    if name == b"bool".as_slice() {
+        return Some(Token::KeyDef(Kind::Bool));
+    }
+    if name == b"in".as_slice() {
+        return Some(Token::KeyIn);
+    }
+    None
+}
+
+/// The keyword or the name that a word is.
+fn word(alloc: Global, name: &[u8]) -> Result<Token, Memory>
+    ensures { IfOk result (λ token. token ≡ spec.word name.now) }
+{
+    match keyword(name) {
+        Some(token) => Ok(token),
+        None => Ok(Token::Ident(Text::of(alloc, name)?)),
+    }
+}
+
+/// The number of some digits.
+fn number(negative: bool, digits: &[u8]) -> Token
+    ensures { result ≡ spec.number negative (digits_value 10 digits.now) }
+{
+    match number_in_base(10, digits) {
+        Some(n) => word_of(negative, n),
+        None => Token::Wide,
+    }
+}
+
+/// A number as a word of 64 bits, where it is in range.
+fn word_of(negative: bool, n: u64) -> Token
+    ensures { result ≡ spec.number negative n }
+{
+    const LEAST: u64 = 1 << 63;
+    if n < LEAST || (negative && n == LEAST) {
+        Token::Number(if negative { n.wrapping_neg() } else { n })
+    } else {
+        Token::Wide
+    }
+}
+
+/// The symbol of two bytes in front, and what stands behind it.
+#[tactic(auto, unfolding(crate::specs::Tokens::symbol))]
+fn long_symbol(bytes: &[u8]) -> Option<(Token, &[u8])>
+    ensures { MatchOption result (spec.symbol spec.long_symbols bytes.now ≡ None)
+        (λ x. spec.symbol spec.long_symbols bytes.now ≡ Some (x.0, x.1.now)) }
+{
+    if let Some(behind) = bytes.strip_prefix(b"||") {
+        return Some((Token::OrOr, behind));
+    }
+    if let Some(behind) = bytes.strip_prefix(b"&&") {
+        return Some((Token::AndAnd, behind));
+    }
+    if let Some(behind) = bytes.strip_prefix(b"==") {
+        return Some((Token::Compare(CmpOp::Eq), behind));
+    }
+    if let Some(behind) = bytes.strip_prefix(b"!=") {
+        return Some((Token::Compare(CmpOp::Ne), behind));
+    }
+    if let Some(behind) = bytes.strip_prefix(b"<=") {
+        return Some((Token::Compare(CmpOp::Le), behind));
+    }
+    if let Some(behind) = bytes.strip_prefix(b">=") {
+        return Some((Token::Compare(CmpOp::Ge), behind));
+    }
+    None
+}
+
+/// The symbol of one byte that a byte is.
+#[tactic(auto, unfolding(crate::specs::Tokens::symbol))]
+fn short_symbol(byte: u8) -> Option<Token>
+    ensures { MatchOption result ((bytes : List ℕ) → spec.symbol spec.short_symbols (byte ∷ bytes) ≡ None)
+        (λ token. (bytes : List ℕ) → spec.symbol spec.short_symbols (byte ∷ bytes) ≡ Some (token, bytes)) }
+{
+    match byte {
+        b'<' => Some(Token::Compare(CmpOp::Lt)),
+        b'>' => Some(Token::Compare(CmpOp::Gt)),
+        b'!' => Some(Token::Bang),
+        b'=' => Some(Token::Assign),
+        b';' => Some(Token::Semicolon),
+        b',' => Some(Token::Comma),
+        b':' => Some(Token::Colon),
+        b'(' => Some(Token::OpenParen),
+        b')' => Some(Token::CloseParen),
+        b'{' => Some(Token::OpenBrace),
+        b'}' => Some(Token::CloseBrace),
+        b'[' => Some(Token::OpenBracket),
+        b']' => Some(Token::CloseBracket),
+        _ => None,
+    }
+}
+
+/// The symbol in front, or a byte that begins no token, and what stands behind it.
+fn symbol_or_stray<'a>(text: &'a [u8], byte: u8, bytes: &'a [u8]) -> (Token, &'a [u8])
+    requires { text.now ≡ byte ∷ bytes.now }
+    ensures token { result.0 ≡ (spec.symbol_or_stray byte bytes.now).0 }
+    ensures behind { result.1.now ≡ (spec.symbol_or_stray byte bytes.now).1 }
+{
+    if let Some((token, behind)) = long_symbol(text) {
+        return (token, behind);
+    }
+    match short_symbol(byte) {
+        Some(token) => (token, bytes),
+        None => {
+            let nothing = bytes.split_at(bytes.len()).1;
+            if b'!' <= byte && byte <= b'~' {
+                (Token::Odd, nothing)
+            } else {
+                (Token::Bad, nothing)
+            }
+        }
+    }
+}
+
+/// The text up to the closing quote, and what stands behind that.
+fn split_quoted(bytes: &[u8]) -> Option<(&[u8], &[u8])>
+    ensures { MatchOption result (spec.is_closed bytes.now ≡ false)
+        (λ x. (spec.is_closed bytes.now ≡ true) × (x.0.now ≡ take_while spec.is_quoted bytes.now)
+        × (x.1.now ≡ drop 1 (text.behind spec.is_quoted bytes.now))) }
+{
+    let (inside, rest) = bytes.split_at(quoted_length(bytes));
+    match rest.split_first() {
+        Some((b'\'', behind)) => Some((inside, behind)),
+        _ => None,
+    }
+}
+
+fn begins_with_digit(bytes: &[u8]) -> bool
+    ensures { result ≡ spec.begins text.is_decimal bytes.now }
+{
+    match bytes.first() {
+        None => false,
+        Some(byte) => is_decimal(*byte),
+    }
+}
+
+/// The digits in front as a number, and what stands behind them.
+fn split_number(negative: bool, bytes: &[u8]) -> (Token, &[u8])
+    ensures token { result.0 ≡ (spec.digits negative bytes.now).0 }
+    ensures behind { result.1.now ≡ (spec.digits negative bytes.now).1 }
+{
+    let (digits, behind) = bytes.split_at(digit_count(bytes));
+    (number(negative, digits), behind)
+}
+
+/// The token in front, and what stands behind it; None for an empty text.
+#[tactic(auto, unfolding(crate::specs::Tokens::token))]
+pub fn token(alloc: Global, text: &[u8]) -> Result<Option<(Token, &[u8])>, Memory>
+    ensures { IfOk result (λ r. MatchOption r (text.now ≡ []) (λ x. spec.front text.now ≡ Some (x.0, x.1.now))) }
+{
+    let Some((first, bytes)) = text.split_first() else {
+        return Ok(None);
+    };
+    let byte = *first;
+    if is_letter(byte) {
+        let (name, behind) = text.split_at(name_length(text));
+        return match word(alloc, name) {
+            Ok(token) => Ok(Some((token, behind))),
+            Err(memory) => Err(memory),
+        };
+    }
+    if is_decimal(byte) {
+        return Ok(Some(split_number(false, text)));
+    }
+    if byte == b'-' && begins_with_digit(bytes) {
+        return Ok(Some(split_number(true, bytes)));
+    }
+    if byte == b'\'' {
+        if let Some((inside, behind)) = split_quoted(bytes) {
+            return match Text::of(alloc, inside) {
+                Ok(text) => Ok(Some((Token::Quoted(text), behind))),
+                Err(memory) => Err(memory),
+            };
+        }
+    }
+    Ok(Some(symbol_or_stray(text, byte, bytes)))
+}
