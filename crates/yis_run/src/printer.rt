@@ -1,5 +1,5 @@
-ghost use Rattle.std.specs.Prelude.{◌≡◌, ◌≤◌, length, OnErr};
-ghost use Rattle.wb_io.specs.Causes.{Rose};
+ghost use Rattle.std.specs.Prelude.{◌≡◌, length, OnOk, OnErr};
+ghost use Rattle.wb_io.specs.Causes.{counted};
 ghost use Rattle.wb_io.specs.Sinks.{Puts};
 ghost use Rattle.yis_run.specs.Report as text;
 
@@ -15,8 +15,8 @@ use y86_base::Image;
 pub fn report<S: Sink>(first: &Image, end: &End<'_>, steps: u64, out: &mut S) -> Result<(), Failed>
     requires one_size { length first.now ≡ length end.now.mem.now }
     ensures puts { Puts (S.taken out.old) (S.taken out.new) result (text.report first.now (text.ended end.now) steps) }
-    ensures counts { S.faults out.old ≤ S.faults out.new }
-    ensures failed_only_with_a_fault { OnErr result (Rose (S.faults out.old) (S.faults out.new)) }
+    ensures no_fault_at_ok { OnOk result (S.faults out.new ≡ S.faults out.old) }
+    ensures one_fault_at_err { OnErr result (S.faults out.new ≡ counted (S.faults out.old)) }
 {
     put_stopped(steps, end.pc, end.stat, end.flags, out)?;
     put_all(out, b"Changes to registers:\n")?;

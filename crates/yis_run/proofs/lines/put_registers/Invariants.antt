@@ -1,4 +1,4 @@
-use Rattle.std.proofs.Common.{◌≤◌}
+use Rattle.std.proofs.Common.{◌≡◌}
 use Rattle.wb_io.specs.Sinks.{Took}
 use Rattle.yis_run.specs.Report.{each_below, register_line}
 use Rattle.yis_run.proofs.lines.put_registers.Given as goal
@@ -6,5 +6,5 @@ use Rattle.yis_run.proofs.lines.put_registers.Given as goal
 abbrev pub invariant-loop-n : goal.invariant-loop-n
 invariant-loop-n g l = record {
   taken : Took (g.S.Sink.taken l.fn.out) (g.S.Sink.taken l.out) (each_below l.n (register_line l.regs));
-  counts : g.S.Sink.faults l.fn.out ≤ g.S.Sink.faults l.out;
+  no_fault : g.S.Sink.faults l.out ≡ g.S.Sink.faults l.fn.out;
 }
