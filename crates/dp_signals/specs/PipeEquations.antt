@@ -1,13 +1,13 @@
 -- The equations that the values of PIPE's signals solve in one cycle, one for each row of its table, without order (CS:APP 3e,
 -- figure 4.52): a constant has its number, a signal of the state its field, hardware the value of its block, and a defined signal
 -- the value of its term.
-use Rattle.std.specs.Prelude.{◌≡◌, ℕ, ◌-◌, ◌==◌, nat_lt, List, [], ◌∷◌, ◌++◌, replicate, get_or, slice_get, Option, Some, None, if◌then◌else◌}
+use Rattle.std.specs.Prelude.{◌≡◌, ℕ, ◌==◌, List, [], ◌∷◌, ◌++◌, if◌then◌else◌}
 use Rattle.y86_base.specs.Registers.{register}
 use Rattle.y86_base.specs.declared.parts.Variant.{Variant}
 use Rattle.y86_isa.specs.Blocks.{reading, const_at, after, alu_value, condition, data_read, data_error}
 use Rattle.hcl_types.specs.declared.term.Term.{Term}
 use Rattle.hcl_types.specs.Equations.{Fixes}
-use Rattle.hcl_types.specs.Terms.{value, words}
+use Rattle.dp_signals.specs.Equations.{rule_of}
 use Rattle.dp_signals.specs.PipeNames as row
 use Rattle.dp_signals.specs.Values.{bit, set}
 use Rattle.dp_signals.specs.declared.pipe_state.PipeState.{PipeState}
@@ -31,13 +31,13 @@ state_words p =
     p.pred_pc ∷ p.d.val_c ∷ p.d.val_p ∷ p.e.val_c ∷ p.e.val_a ∷ p.e.val_b ∷ p.m.val_e ∷ p.m.val_a ∷ p.w.val_e ∷ p.w.val_m ∷
     p.m.cnd ∷ []
 
--- what is given as a cycle begins: the constants and the state; each other row is 0 until it is computed
+-- what is given as a cycle begins
 unfoldable pub given : PipeState → List ℕ
-given p = constants ++ (state_words p ++ replicate 50 0)
+given p = constants ++ state_words p
 
 -- the value of a hardware row: instruction memory, the fetched words, the register file, the ALU and the condition, data memory
-unfoldable pub block : Variant → PipeState → (ℕ → ℕ) → ℕ → ℕ
-block v p f n =
+unfoldable pub block : Variant → PipeState → ℕ → (ℕ → ℕ) → ℕ
+block v p n f =
     if n == row.imem_icode then (reading v p.mem (f row.f_pc)).icode
     else (if n == row.imem_ifun then (reading v p.mem (f row.f_pc)).ifun
     else (if n == row.imem_error then bit (reading v p.mem (f row.f_pc)).error
@@ -50,21 +50,9 @@ block v p f n =
     else (if n == row.m_valM then data_read p.mem (f row.mem_addr) (set (f row.mem_read))
     else bit (data_error p.mem (f row.mem_addr) (set (f row.mem_read)) (set (f row.mem_write))))))))))))
 
--- the value of a term, and 0 where there is none: past the last row each value is 0
-abbrev pub term_value : Option Term → (ℕ → ℕ) → ℕ
-term_value None f = 0
-term_value (Some t) f = value words f t
-
-unfoldable pub defined_value : List Term → ℕ → (ℕ → ℕ) → ℕ
-defined_value terms k f = term_value (slice_get terms k) f
-
 -- what the equation of row n says
-unfoldable pub pipe_rule : Variant → List Term → PipeState → ℕ → (ℕ → ℕ) → ℕ
-pipe_rule v terms p n f =
-    if nat_lt n row.D_stat then get_or constants n 0
-    else (if nat_lt n row.imem_icode then get_or (state_words p) (n - row.D_stat) 0
-    else (if nat_lt n row.f_pc then block v p f n
-    else defined_value terms (n - row.f_pc) f))
+abbrev pub pipe_rule : Variant → List Term → PipeState → ℕ → (ℕ → ℕ) → ℕ
+pipe_rule v terms p = rule_of (given p) row.f_pc (block v p) terms
 
 -- f gives the values of a cycle that begins in the state p
 abbrev pub Solves : Variant → List Term → PipeState → (ℕ → ℕ) → Type 0

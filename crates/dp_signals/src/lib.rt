@@ -8,6 +8,7 @@ mod pipe_cycle;
 mod pipe_row;
 mod pipe_state;
 mod pipe_values;
+mod solve;
 
 pub use blocks::{
     cnd, dmem_error, fetch_ra, fetch_rb, imem_error, imem_icode, imem_ifun, reg_val, val_c, val_e,
@@ -16,3 +17,4 @@ pub use blocks::{
 pub use movers::{Ending, Mover, Movers};
 pub use pipe_cycle::{advance, ending, retires};
 pub use pipe_state::{PipeState, StageD, StageE, StageM, StageW, Trail};
+pub use solve::Hardware;

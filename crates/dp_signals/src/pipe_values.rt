@@ -1,4 +1,4 @@
-ghost use Rattle.std.specs.Prelude.{◌≡◌};
+ghost use Rattle.std.specs.Prelude.{◌≡◌, ◌++◌, replicate};
 ghost use Rattle.dp_signals.specs.PipeEquations as spec;
 
 use crate::pipe_cycle::PipeValues;
@@ -7,7 +7,7 @@ use crate::pipe_state::PipeState;
 /// What is given as a cycle begins: the constants and the words of the state. Each other row is 0 until it is computed.
 #[tactic(auto, unfolding(crate::specs::PipeEquations::constants, crate::specs::PipeEquations::state_words, crate::specs::PipeEquations::given))]
 fn given(p: &PipeState) -> PipeValues
-    ensures { result ≡ spec.given p.now }
+    ensures { result ≡ spec.given p.now ++ replicate 50 0 }
 {
     [
         // the icodes
