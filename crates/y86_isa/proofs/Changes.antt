@@ -9,18 +9,16 @@ use Rattle.y86_base.specs.declared.parts.Variant.{Variant}
 use Rattle.y86_isa.specs.declared.columns.Field.{Field}
 use Rattle.y86_isa.specs.declared.columns.Field.TheVariants.{Dash, FieldA, FieldB, Stack}
 use Rattle.y86_isa.specs.declared.columns.Next.TheVariants.{Fall}
-use Rattle.y86_isa.specs.declared.fetch.Reading.{Reading}
 use Rattle.y86_isa.specs.declared.machine.Machine.{Machine}
 use Rattle.y86_isa.specs.declared.machine.Rec.{Rec}
 use Rattle.y86_isa.specs.Table.{rows, row}
 use Rattle.y86_isa.specs.Machine.{is_aok}
-use Rattle.y86_isa.specs.Blocks.{register_number, destination_e, fetched, reading}
+use Rattle.y86_isa.specs.Blocks.{register_number, destination_e, behind, fetched, reading}
 use Rattle.y86_isa.specs.Work.{work}
-use Rattle.y86_isa.specs.Step.{finished, advance, retired}
+use Rattle.y86_isa.specs.Step.{finished, machine_after, told_from, record_of, advance, retired}
 use Rattle.y86_isa.specs.Laws.{ChangesOneRegister, KeepsFlags, FallsThrough}
-use Rattle.y86_isa.proofs.Rows.{one_destination, is_dash, is_stack, opq-from_flags, fall-from_icode, row-length}
-use Rattle.y86_isa.proofs.Readings.{ReadsAs, reads_as}
-use Rattle.y86_isa.proofs.Readings.ReadsAs.{first_outside, bad_first, later_outside, no_register, good}
+use Rattle.y86_isa.proofs.Rows.{one_destination, is_dash, is_stack, row-length}
+use Rattle.y86_isa.proofs.Normal.{kept_by_normal}
 use Rattle.y86_isa.proofs.Steps.{Advances, advances}
 use Rattle.y86_isa.proofs.Steps.Advances.{stays, stops, goes}
 
@@ -97,39 +95,23 @@ registers_case v m _ _ (goes e w) = record { changed = changed_by v m; others = 
 pub ChangesOneRegister-advance : (v : Variant) (m : Machine) → ChangesOneRegister m.regs (advance v m).regs
 ChangesOneRegister-advance v m = registers_case v m (advance v m) (retired v m) (advances v m)
 
--- ---- an instruction that ends with AOK has a row
-
-status_parts : (fault error bad halt : Bool) → is_aok (cond fault Adr (cond error Adr (cond bad Ins (cond halt Hlt Aok)))) ≡ true → (error ≡ false) × (bad ≡ false)
-status_parts true error bad halt h = cc
-status_parts false true bad halt h = cc
-status_parts false false true halt h = cc
-status_parts false false false halt h = (refl, refl)
-
-known_reading : (v : Variant) (memory : List ℕ) (pc : ℕ) (read : Reading) → ReadsAs v memory pc read → read.error ≡ false → (read.icode == 15) ≡ false → read.icode < length (rows v)
-known_reading v memory pc _ (first_outside e) error bad = cc
-known_reading v memory pc _ (bad_first byte e b) error bad = cc
-known_reading v memory pc _ (later_outside byte e b w) error bad = cc
-known_reading v memory pc _ (no_register byte e b w l) error bad = cc
-known_reading v memory pc _ (good byte e b w l) error bad = ltb-true _ _ (and_parts _ _ b).0
-
-pub known-from_aok : (v : Variant) (m : Machine) → is_aok (work v m).stat ≡ true → (work v m).icode < length (rows v)
-unfolding work fetched
-known-from_aok v m h =
-    let parts = status_parts _ _ _ _ h in
-    known_reading v m.mem m.pc (reading v m.mem m.pc) (reads_as v m.mem m.pc) parts.0 parts.1
-
 -- ---- flags
 
-flags_kept : (v : Variant) (m : Machine) → (work v m).icode < length (rows v) → (work v m).icode ≢ 6 → (work v m).flags ≡ m.flags
-unfolding work
-flags_kept v m lt n6 =
-    let sets = (row v (fetched v m.mem m.pc).icode).sets_flags in
-    elim (cases_Bool sets) [ inl set ↦ absurd (n6 (opq-from_flags v _ lt set)) | inr unset ↦ rw unset refl ]
+record_icode : (v : Variant) (m : Machine) → (record_of m (work v m)).icode ≡ (work v m).icode
+record_icode v m = (kept_by_normal (told_from m.pc (work v m) (machine_after m (work v m)).flags)).icode
 
-flags_case : (v : Variant) (m after : Machine) (r : Option Rec) → Advances v m after r → IfSome r (λ x. x.icode ≢ 6 → after.flags ≡ m.flags)
+record_stat : (v : Variant) (m : Machine) → (record_of m (work v m)).stat ≡ (work v m).stat
+record_stat v m = (kept_by_normal (told_from m.pc (work v m) (machine_after m (work v m)).flags)).stat
+
+flags_kept : (v : Variant) (m : Machine) → (row v (work v m).icode).sets_flags ≡ false → (work v m).flags ≡ m.flags
+unfolding work
+flags_kept v m unset = rw unset refl
+
+-- the icode of a record is that of the work
+flags_case : (v : Variant) (m after : Machine) (r : Option Rec) → Advances v m after r → IfSome r (λ x. (row v x.icode).sets_flags ≡ false → after.flags ≡ m.flags)
 flags_case v m _ _ (stays e) = tt
-flags_case v m _ _ (stops e w) = λ n6. refl
-flags_case v m _ _ (goes e w) = λ n6. flags_kept v m (known-from_aok v m w) n6
+flags_case v m _ _ (stops e w) = λ unset. refl
+flags_case v m _ _ (goes e w) = λ unset. flags_kept v m (sym (ap (λ i. (row v i).sets_flags) (record_icode v m)) ∙ unset)
 
 pub KeepsFlags-advance : (v : Variant) (m : Machine) → KeepsFlags v m
 KeepsFlags-advance v m = flags_case v m (advance v m) (retired v m) (advances v m)
@@ -137,14 +119,15 @@ KeepsFlags-advance v m = flags_case v m (advance v m) (retired v m) (advances v 
 -- ---- the PC
 
 next_falls : (v : Variant) (m : Machine) → (row v (work v m).icode).next ≡ Fall → (work v m).next_pc ≡ (m.pc + (row v (work v m).icode).length) % 2 ^ 64
-unfolding work fetched
+unfolding work fetched behind
 next_falls v m e = rw (e, row-length v (reading v m.mem m.pc).icode) (ap (λ n. n % 2 ^ 64) (omega arith))
 
 pc_case : (v : Variant) (m after : Machine) (r : Option Rec) → Advances v m after r →
-    IfSome r (λ x. x.stat ≡ Aok → x.icode ≢ 0 → x.icode ≢ 7 → x.icode ≢ 8 → x.icode ≢ 9 → after.pc ≡ (m.pc + (row v x.icode).length) % 2 ^ 64)
+    IfSome r (λ x. x.stat ≡ Aok → (row v x.icode).next ≡ Fall → after.pc ≡ (m.pc + (row v x.icode).length) % 2 ^ 64)
 pc_case v m _ _ (stays e) = tt
-pc_case v m _ _ (stops e w) = λ aok n0 n7 n8 n9. absurd (false≢true (sym w ∙ ap is_aok aok))
-pc_case v m _ _ (goes e w) = λ aok n0 n7 n8 n9. next_falls v m (fall-from_icode v (work v m).icode (known-from_aok v m w) n0 n7 n8 n9)
+pc_case v m _ _ (stops e w) = λ aok falls. absurd (false≢true (sym w ∙ ap is_aok (sym (record_stat v m) ∙ aok)))
+pc_case v m _ _ (goes e w) = λ aok falls.
+    rw (record_icode v m) (next_falls v m (sym (ap (λ i. (row v i).next) (record_icode v m)) ∙ falls))
 
 pub FallsThrough-advance : (v : Variant) (m : Machine) → FallsThrough v m
 FallsThrough-advance v m = pc_case v m (advance v m) (retired v m) (advances v m)

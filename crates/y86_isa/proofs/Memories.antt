@@ -40,10 +40,12 @@ length-put_word memory address word =
 -- ---- the memory after the store of an instruction
 
 pub length-stored : (memory : List ℕ) (store : Option Store) → length (stored memory store) ≡ length memory
+unfolding stored
 length-stored memory None = refl
 length-stored memory (Some store) = length-put_word memory store.addr store.word
 
 All-stored : (memory : List ℕ) (store : Option Store) → All IsByte memory → All IsByte (stored memory store)
+unfolding stored
 All-stored memory None h = h
 All-stored memory (Some store) h = All-put_word memory store.addr store.word h
 

@@ -4,11 +4,11 @@ use Rattle.std.proofs.lemmas.Bool.{leb-true, cases_lt}
 use Rattle.std.proofs.lemmas.Option.{slice_get_past, slice_get_within, slice_get-get_or, none-some}
 use Rattle.std.proofs.Math.Nat.{mod-eq_of_lt}
 use Rattle.y86_base.specs.declared.parts.Variant.{Variant}
-use Rattle.y86_base.specs.declared.parts.Variant.TheVariants.{Base}
+use Rattle.y86_base.specs.declared.parts.Variant.TheVariants.{Base, Full}
 use Rattle.y86_isa.specs.declared.columns.Row.{Row}
 use Rattle.y86_isa.specs.declared.fetch.Reading.{Reading}
 use Rattle.y86_isa.specs.Table.{inop, iinvalid, row, is_instruction}
-use Rattle.y86_isa.specs.Blocks.{high_half, low_half, byte_at, field_a, field_b, const_at, word_from, lacks_register, reading, fetched, fetched_by}
+use Rattle.y86_isa.specs.Blocks.{high_half, low_half, byte_at, field_a, field_b, constant_at, word_from, lacks_register, reading, fetched, fetched_by}
 use Rattle.y86_isa.specs.Run.{count_by_first, SameFetch}
 use Rattle.y86_isa.proofs.Rows.{row-length}
 use Rattle.y86_isa.proofs.Readings.{ReadsAs, reads_as}
@@ -20,10 +20,12 @@ byte_at-same : (memory other : List ℕ) (address : ℕ) → address < 2 ^ 64 �
 byte_at-same memory other address lt e = rw (mod-eq_of_lt lt, e) refl
 
 field_a-same : (memory other : List ℕ) (pc : ℕ) (has : Bool) → (has ≡ true → byte_at other (pc + 1) ≡ byte_at memory (pc + 1)) → field_a other pc has ≡ field_a memory pc has
+unfolding field_a
 field_a-same memory other pc true e = ap high_half (e refl)
 field_a-same memory other pc false e = refl
 
 field_b-same : (memory other : List ℕ) (pc : ℕ) (has : Bool) → (has ≡ true → byte_at other (pc + 1) ≡ byte_at memory (pc + 1)) → field_b other pc has ≡ field_b memory pc has
+unfolding field_b
 field_b-same memory other pc true e = ap low_half (e refl)
 field_b-same memory other pc false e = refl
 
@@ -32,11 +34,12 @@ unfolding word_from
 word_from-same memory other address h =
     rw (h 0 (omega arith), h 1 (omega arith), h 2 (omega arith), h 3 (omega arith), h 4 (omega arith), h 5 (omega arith), h 6 (omega arith), h 7 (omega arith)) refl
 
-const_at-same : (memory other : List ℕ) (pc : ℕ) (has constant : Bool) →
+constant_at-same : (memory other : List ℕ) (pc : ℕ) (has constant : Bool) →
     (constant ≡ true → (k : ℕ) → k < 8 → byte_at other (pc + cond has 2 1 + k) ≡ byte_at memory (pc + cond has 2 1 + k)) →
-    const_at other pc has constant ≡ const_at memory pc has constant
-const_at-same memory other pc has true e = word_from-same memory other (pc + cond has 2 1) (e refl)
-const_at-same memory other pc has false e = refl
+    constant_at other pc has constant ≡ constant_at memory pc has constant
+unfolding constant_at
+constant_at-same memory other pc has true e = word_from-same memory other (pc + cond has 2 1) (e refl)
+constant_at-same memory other pc has false e = refl
 
 -- the bytes behind the first are alike as far as the row goes
 abbrev Alike : List ℕ → List ℕ → ℕ → Row → Type 0
@@ -68,7 +71,7 @@ fields_alike memory other pc read r h =
     rw (
       field_a-same memory other pc r.has_byte (register_alike memory other pc r h),
       field_b-same memory other pc r.has_byte (register_alike memory other pc r h),
-      const_at-same memory other pc r.has_byte r.has_const (constant_alike memory other pc r h),
+      constant_at-same memory other pc r.has_byte r.has_const (constant_alike memory other pc r h),
     ) refl
 
 lacks_alike : (memory other : List ℕ) (pc : ℕ) (r : Row) → Alike memory other pc r → lacks_register other pc r ≡ lacks_register memory pc r
@@ -82,10 +85,12 @@ bare_alike memory other pc r b c k some lt = absurd (omega (arith, rw (b, c) at 
 bare_nop : (v : Variant) → ((row v inop).has_byte ≡ false) × ((row v inop).has_const ≡ false)
 unfolding row
 bare_nop Base = (refl, refl)
+bare_nop Full = (refl, refl)
 
 bare_invalid : (v : Variant) → ((row v iinvalid).has_byte ≡ false) × ((row v iinvalid).has_const ≡ false)
 unfolding row
 bare_invalid Base = (refl, refl)
+bare_invalid Full = (refl, refl)
 
 -- ---- the memories
 

@@ -7,14 +7,13 @@ use Rattle.std.proofs.lemmas.Bool.{and_from, le-leb, lt-ltb, ne_eqb}
 use Rattle.std.proofs.lemmas.Bool.Decides.{nat_tests}
 use Rattle.y86_base.specs.Image.{IsSize}
 use Rattle.y86_base.specs.declared.parts.Variant.{Variant}
-use Rattle.y86_base.specs.declared.parts.Variant.TheVariants.{Base}
 use Rattle.y86_isa.specs.declared.columns.Row.{Row}
 use Rattle.y86_isa.specs.declared.encoding.Instr.{Instr}
 use Rattle.y86_isa.specs.Table.{row, is_instruction}
-use Rattle.y86_isa.specs.Blocks.{high_half, low_half, byte_at, field_a, field_b, const_at, after, lacks_register, reading, fetched}
+use Rattle.y86_isa.specs.Blocks.{high_half, low_half, byte_at, field_a, field_b, constant_at, behind, lacks_register, reading, fetched}
 use Rattle.y86_isa.specs.Encoding.{NamesRegister, FitsRow, IsValid, encoded, encoded_by, Holds, fields_of, widest}
 use Rattle.y86_isa.proofs.Encodings.{field_most}
-use Rattle.y86_isa.proofs.Rows.{row-length, has_byte-from_a, has_byte-from_b, ifun_top-le}
+use Rattle.y86_isa.proofs.Rows.{row-length, row-widest, has_byte-from_a, has_byte-from_b, ifun_top-le}
 use Rattle.y86_isa.proofs.Fetching.{held_at, held_whole, held_byte_at, word_from-bytes}
 
 halves : (high low : ℕ) → low ≤ 15 → (high_half (16 * high + low) ≡ high) × (low_half (16 * high + low) ≡ low)
@@ -45,12 +44,14 @@ constant_of false first second n k = sym (get_or-drop 1 (first ∷ to_le_bytes w
 
 field_a_of : (has used : Bool) (memory : List ℕ) (pc high low : ℕ) → (has ≡ true → byte_at memory (pc + 1) ≡ 16 * high + low) →
     low ≤ 15 → (used ≡ true → has ≡ true) → NamesRegister used high → field_a memory pc has ≡ high
+unfolding field_a
 field_a_of true used memory pc high low e le there names = rw (e refl) (halves high low le).0
 field_a_of false true memory pc high low e le there names = cc (there refl)
 field_a_of false false memory pc high low e le there names = sym names
 
 field_b_of : (has used : Bool) (memory : List ℕ) (pc high low : ℕ) → (has ≡ true → byte_at memory (pc + 1) ≡ 16 * high + low) →
     low ≤ 15 → (used ≡ true → has ≡ true) → NamesRegister used low → field_b memory pc has ≡ low
+unfolding field_b
 field_b_of true used memory pc high low e le there names = rw (e refl) (halves high low le).1
 field_b_of false true memory pc high low e le there names = cc (there refl)
 field_b_of false false memory pc high low e le there names = sym names
@@ -60,7 +61,8 @@ place true k h = omega arith
 place false k h = omega arith
 
 const_of : (has constant : Bool) (memory : List ℕ) (pc first second n : ℕ) → IsSize (length memory) → n < 2 ^ 64 →
-    Holds memory pc (bytes_of has constant first second n) → (constant ≡ false → n ≡ 0) → const_at memory pc has constant ≡ n
+    Holds memory pc (bytes_of has constant first second n) → (constant ≡ false → n ≡ 0) → constant_at memory pc has constant ≡ n
+unfolding constant_at
 const_of has false memory pc first second n size lt h zero_if = sym (zero_if refl)
 const_of has true memory pc first second n size lt h zero_if =
     word_from-bytes memory (to_le_bytes w64 n) (pc + cond has 2 1)
@@ -93,9 +95,10 @@ named : (used : Bool) (field : ℕ) → NamesRegister used field → (used && (f
 named true field h = ne_eqb field 15 (λ e. omega arith)
 named false field h = refl
 
-after_of : (has constant : Bool) (pc first second n : ℕ) →
-    after pc has constant ≡ (pc + length (bytes_of has constant first second n)) % 2 ^ 64
-after_of has constant pc first second n =
+behind_of : (has constant : Bool) (pc first second n : ℕ) →
+    behind pc has constant ≡ (pc + length (bytes_of has constant first second n)) % 2 ^ 64
+unfolding behind
+behind_of has constant pc first second n =
     ap (λ m. m % 2 ^ 64) (omega (arith, length-bytes_of has constant first second n))
 
 -- a memory that holds the bytes of a valid instruction at pc splits to its fields there
@@ -113,24 +116,25 @@ by_row v i memory pc r same valid lt size held =
     let long : r.length ≡ length bytes = rw (same, row-length v i.icode) (sym (rw (← same) count)) in
     let ifun_le : i.ifun ≤ 15 = omega (arith, below r.ifun_top i.ifun (rw same (ifun_top-le v i.icode)) fits.ifun, rw (← same) at (ifun_top-le v i.icode)) in
     let r_b_le : i.r_b ≤ 15 = field_most r.uses_b i.r_b fits.field_b in
-    let behind : r.has_byte ≡ true → byte_at memory (pc + 1) ≡ second =
+    let second_there : r.has_byte ≡ true → byte_at memory (pc + 1) ≡ second =
     λ h. held_byte_at memory bytes pc 1 size held (second_of r.has_byte r.has_const first second i.val_c h).0
     ∙ (second_of r.has_byte r.has_const first second i.val_c h).1 in
     let a : field_a memory pc r.has_byte ≡ i.r_a =
-    field_a_of r.has_byte r.uses_a memory pc i.r_a i.r_b behind r_b_le (rw same (has_byte-from_a v i.icode)) fits.field_a in
+    field_a_of r.has_byte r.uses_a memory pc i.r_a i.r_b second_there r_b_le (rw same (has_byte-from_a v i.icode)) fits.field_a in
     let b : field_b memory pc r.has_byte ≡ i.r_b =
-    field_b_of r.has_byte r.uses_b memory pc i.r_a i.r_b behind r_b_le (rw same (has_byte-from_b v i.icode)) fits.field_b in
-    let constant : const_at memory pc r.has_byte r.has_const ≡ i.val_c =
+    field_b_of r.has_byte r.uses_b memory pc i.r_a i.r_b second_there r_b_le (rw same (has_byte-from_b v i.icode)) fits.field_b in
+    let constant : constant_at memory pc r.has_byte r.has_const ≡ i.val_c =
     const_of r.has_byte r.has_const memory pc first second i.val_c size lt held fits.constant in
     let lacks : lacks_register memory pc r ≡ false = rw (a, b, named r.uses_a i.r_a fits.field_a, named r.uses_b i.r_b fits.field_b) refl in
     let at_first : slice_get memory pc ≡ Some first = rw (← add-zero pc) (held_at memory bytes pc 0 held (rw count (omega arith))) in
     let whole : pc + r.length ≤ length memory = rw long (held_whole memory bytes pc held (rw count (omega arith))) in
-    rw (reads v i memory pc r same (begins v i valid) ifun_le at_first whole lacks, ← same, a, b, constant, after_of r.has_byte r.has_const pc first second i.val_c) refl
+    rw (reads v i memory pc r same (begins v i valid) ifun_le at_first whole lacks, ← same, a, b, constant, behind_of r.has_byte r.has_const pc first second i.val_c) refl
 
 pub fetched-encoded : (v : Variant) (i : Instr) (memory : List ℕ) (pc : ℕ) → IsValid v i → i.val_c < 2 ^ 64 → IsSize (length memory) →
     Holds memory pc (encoded i) → fetched v memory pc ≡ fields_of i pc
 unfolding encoded
-fetched-encoded Base i memory pc valid lt size held = by_row Base i memory pc (row Base i.icode) refl valid lt size held
+fetched-encoded v i memory pc valid lt size held =
+    by_row v i memory pc (row widest i.icode) (sym (row-widest v i.icode valid.known)) valid lt size held
 
 -- an instruction has as many bytes as its row says
 pub length-encoded : (i : Instr) → length (encoded i) ≡ (row widest i.icode).length

@@ -1,16 +1,18 @@
 -- Facts that hold of each row of the instruction table: a test that computes at every row holds at each icode.
 use Rattle.std.proofs.Common.{◌≡◌, ◌≢◌, ℕ, zero, suc, ◌+◌, ◌<◌, ◌≤◌, Bool, true, false, cond, not, ◌&&◌, ◌||◌, nat_le, ◌==◌, List, [], ◌∷◌, unwrap_or, slice_get, length, refl, sym, ◌∙◌, subst, arith, add-zero, zero-add}
 use Rattle.std.specs.List.{list_all}
-use Rattle.std.proofs.lemmas.Option.{slice_get_past}
+use Rattle.std.proofs.lemmas.Option.{slice_get_past, unwrap_or-slice_get}
+use Rattle.std.proofs.lemmas.List.{get_or_append_left}
 use Rattle.std.proofs.lemmas.Bool.{and_parts, eqb-true, leb-true, ne_eqb, false≢true}
 use Rattle.y86_base.specs.declared.parts.Variant.{Variant}
-use Rattle.y86_base.specs.declared.parts.Variant.TheVariants.{Base}
+use Rattle.y86_base.specs.declared.parts.Variant.TheVariants.{Base, Full}
 use Rattle.y86_isa.specs.declared.columns.Row.{Row}
 use Rattle.y86_isa.specs.declared.columns.Field.{Field}
 use Rattle.y86_isa.specs.declared.columns.Field.TheVariants.{Dash, FieldA, FieldB, Stack}
 use Rattle.y86_isa.specs.declared.columns.Next.{Next}
 use Rattle.y86_isa.specs.declared.columns.Next.TheVariants.{Itself, Fall, Branch, Target, Loaded}
-use Rattle.y86_isa.specs.Table.{rows, row, dash_row}
+use Rattle.y86_isa.specs.Table.{rows, row, dash_row, iaddq}
+use Rattle.y86_isa.specs.Encoding.{widest}
 
 in_list : (p : Row → Bool) (rs : List Row) (d : Row) → list_all p rs ≡ true → p d ≡ true → (i : ℕ) → p (unwrap_or (slice_get rs i) d) ≡ true
 in_list p [] d h e i = e
@@ -30,6 +32,14 @@ pub row-unknown : (v : Variant) (icode : ℕ) → length (rows v) ≤ icode → 
 unfolding row
 row-unknown v icode le = past_rows (rows v) dash_row icode le
 
+-- the rows of a variant are the first ones of the widest
+pub row-widest : (v : Variant) (icode : ℕ) → icode < length (rows v) → row v icode ≡ row widest icode
+unfolding row
+row-widest Base icode lt =
+    unwrap_or-slice_get (rows Base) icode dash_row
+    ∙ (sym (get_or_append_left (rows Base) (iaddq ∷ []) dash_row icode lt) ∙ sym (unwrap_or-slice_get (rows Full) icode dash_row))
+row-widest Full icode lt = refl
+
 -- the columns of one row agree: the length is that of the parts, and a register field that is used is there
 abbrev sized : Row → Bool
 sized r = r.length == 1 + cond r.has_byte 1 0 + cond r.has_const 8 0
@@ -45,15 +55,19 @@ small_ifun r = nat_le r.ifun_top 15
 
 all_sized : (v : Variant) → list_all sized (rows v) ≡ true
 all_sized Base = refl
+all_sized Full = refl
 
 all_a : (v : Variant) → list_all a_is_there (rows v) ≡ true
 all_a Base = refl
+all_a Full = refl
 
 all_b : (v : Variant) → list_all b_is_there (rows v) ≡ true
 all_b Base = refl
+all_b Full = refl
 
 all_small : (v : Variant) → list_all small_ifun (rows v) ≡ true
 all_small Base = refl
+all_small Full = refl
 
 pub row-length : (v : Variant) (icode : ℕ) → (row v icode).length ≡ 1 + cond (row v icode).has_byte 1 0 + cond (row v icode).has_const 8 0
 row-length v icode = eqb-true _ _ (row-test sized v (all_sized v) refl icode)
@@ -73,7 +87,7 @@ ifun_top-le v icode = leb-true _ _ (row-test small_ifun v (all_small v) refl ico
 
 -- ---- tests that know the icode
 
-abbrev all_from : (ℕ → Row → Bool) → ℕ → List Row → Bool
+abbrev pub all_from : (ℕ → Row → Bool) → ℕ → List Row → Bool
 all_from p i [] = true
 all_from p i (r ∷ rs) = p i r && all_from p (suc i) rs
 
@@ -90,48 +104,6 @@ pub row-numbered : (p : ℕ → Row → Bool) (v : Variant) → all_from p 0 (ro
 unfolding row
 row-numbered p v h icode lt = let P : ℕ → Type 0 = λ i. p i (unwrap_or (slice_get (rows v) icode) dash_row) ≡ true in
     subst P (zero-add icode) (in_numbered p 0 (rows v) dash_row h icode lt)
-
--- only OPq sets flags
-abbrev flags_by_opq : ℕ → Row → Bool
-flags_by_opq icode r = not r.sets_flags || (icode == 6)
-
-all_flags : (v : Variant) → all_from flags_by_opq 0 (rows v) ≡ true
-all_flags Base = refl
-
-pub opq-from_flags : (v : Variant) (icode : ℕ) → icode < length (rows v) → (row v icode).sets_flags ≡ true → icode ≡ 6
-opq-from_flags v icode lt h = eqb-true _ _ (implied _ _ (row-numbered flags_by_opq v (all_flags v) icode lt) h)
-
--- all but halt, jXX, call and ret are followed by the next instruction
-abbrev is_fall : Next → Bool
-is_fall Itself = false
-is_fall Fall = true
-is_fall Branch = false
-is_fall Target = false
-is_fall Loaded = false
-
-fall-from_is : (next : Next) → is_fall next ≡ true → next ≡ Fall
-fall-from_is Itself h = cc
-fall-from_is Fall h = refl
-fall-from_is Branch h = cc
-fall-from_is Target h = cc
-fall-from_is Loaded h = cc
-
-abbrev falls : ℕ → Row → Bool
-falls icode r = is_fall r.next || (icode == 0) || (icode == 7) || (icode == 8) || (icode == 9)
-
-all_fall : (v : Variant) → all_from falls 0 (rows v) ≡ true
-all_fall Base = refl
-
-last_of : (a b c d e : Bool) → (a || b || c || d || e) ≡ true → b ≡ false → c ≡ false → d ≡ false → e ≡ false → a ≡ true
-last_of true b c d e h hb hc hd he = refl
-last_of false true c d e h hb hc hd he = cc
-last_of false false true d e h hb hc hd he = cc
-last_of false false false true e h hb hc hd he = cc
-last_of false false false false e h hb hc hd he = absurd (false≢true (sym he ∙ h))
-
-pub fall-from_icode : (v : Variant) (icode : ℕ) → icode < length (rows v) → icode ≢ 0 → icode ≢ 7 → icode ≢ 8 → icode ≢ 9 → (row v icode).next ≡ Fall
-fall-from_icode v icode lt n0 n7 n8 n9 =
-    fall-from_is _ (last_of _ _ _ _ _ (row-numbered falls v (all_fall v) icode lt) (ne_eqb icode 0 n0) (ne_eqb icode 7 n7) (ne_eqb icode 8 n8) (ne_eqb icode 9 n9))
 
 -- where valM has a destination, valE has none but %rsp
 abbrev pub is_dash : Field → Bool
@@ -151,6 +123,7 @@ one_field r = is_dash r.dst_m || is_dash r.dst_e || is_stack r.dst_e
 
 all_one : (v : Variant) → list_all one_field (rows v) ≡ true
 all_one Base = refl
+all_one Full = refl
 
 pub one_destination : (v : Variant) (icode : ℕ) → one_field (row v icode) ≡ true
 one_destination v icode = row-test one_field v (all_one v) refl icode

@@ -57,6 +57,7 @@ beside start address h =
     ]
 
 beside_store : (memory : List ℕ) (store : Option Store) (address : ℕ) → (IsInStore store address → ⊥) → slice_get (stored memory store) address ≡ slice_get memory address
+unfolding stored
 beside_store memory None address h = refl
 beside_store memory (Some store) address h =
     same_byte (stored memory (Some store)) memory address (length-put_word memory store.addr store.word)

@@ -22,7 +22,7 @@ use Rattle.y86_isa.specs.declared.machine.Machine.{Machine}
 use Rattle.y86_isa.specs.declared.machine.Rec.{Rec}
 use Rattle.y86_isa.specs.Table.{row}
 use Rattle.y86_isa.specs.Machine.{start}
-use Rattle.y86_isa.specs.Blocks.{byte_at, word_from, const_at, field_a, field_b, operand_a, operand_b, alu_value, data_read, next_address, fetched, reading}
+use Rattle.y86_isa.specs.Blocks.{byte_at, word_from, constant_at, field_a, field_b, operand_a, operand_b, alu_value, behind, data_read, next_address, fetched, reading}
 use Rattle.y86_isa.specs.Work.{work}
 use Rattle.y86_isa.specs.Step.{advance, retired}
 use Rattle.y86_isa.specs.Run.{IsImage, IsMachine, FitsFields, run_from}
@@ -61,15 +61,18 @@ word_from-lt memory address h =
       byte_at-lt memory (address + 7) h,
     )
 
-pub const_at-lt : (memory : List ℕ) (pc : ℕ) (has constant : Bool) → All IsByte memory → const_at memory pc has constant < 2 ^ 64
-const_at-lt memory pc has true h = word_from-lt memory (pc + cond has 2 1) h
-const_at-lt memory pc has false h = omega arith
+pub constant_at-lt : (memory : List ℕ) (pc : ℕ) (has constant : Bool) → All IsByte memory → constant_at memory pc has constant < 2 ^ 64
+unfolding constant_at
+constant_at-lt memory pc has true h = word_from-lt memory (pc + cond has 2 1) h
+constant_at-lt memory pc has false h = omega arith
 
 pub field_a-le : (memory : List ℕ) (pc : ℕ) (has : Bool) → All IsByte memory → field_a memory pc has ≤ 15
+unfolding field_a
 field_a-le memory pc true h = omega (arith, byte_at-lt memory (pc + 1) h)
 field_a-le memory pc false h = omega arith
 
 pub field_b-le : (memory : List ℕ) (pc : ℕ) (has : Bool) → All IsByte memory → field_b memory pc has ≤ 15
+unfolding field_b
 field_b-le memory pc true h = omega arith
 field_b-le memory pc false h = omega arith
 
@@ -80,6 +83,7 @@ word_at-lt memory address h =
     (λ _. omega arith)
 
 data_read-lt : (memory : List ℕ) (address : ℕ) (reads : Bool) → All IsByte memory → data_read memory address reads < 2 ^ 64
+unfolding data_read
 data_read-lt memory address true h = word_at-lt memory address h
 data_read-lt memory address false h = omega arith
 
@@ -135,10 +139,10 @@ record HasWords (v : Variant) (m : Machine) : Type 0 where
   next_pc : (work v m).next_pc < 2 ^ 64
 
 work_words : (v : Variant) (m : Machine) → IsMachine m → HasWords v m
-unfolding work fetched
+unfolding work fetched behind
 work_words v m h =
     let r = row v (reading v m.mem m.pc).icode in
-    let c : const_at m.mem m.pc r.has_byte r.has_const < 2 ^ 64 = const_at-lt m.mem m.pc r.has_byte r.has_const h.memory.bytes in
+    let c : constant_at m.mem m.pc r.has_byte r.has_const < 2 ^ 64 = constant_at-lt m.mem m.pc r.has_byte r.has_const h.memory.bytes in
     let register_word : (n : ℕ) → register m.regs n < 2 ^ 64 = λ n. register-lt m.regs n h.registers h.words in
     let loaded : (address : ℕ) (reads : Bool) → data_read m.mem address reads < 2 ^ 64 = λ address reads. data_read-lt m.mem address reads h.memory.bytes in
     record {
@@ -173,12 +177,12 @@ pub IsMachine-start : (image : List ℕ) → IsImage image → IsMachine (start 
 IsMachine-start image h = record { memory = h; registers = refl; words = All-replicate IsWord 15 0 (omega arith); pc = omega arith }
 
 pub FitsFields-fetched : (v : Variant) (memory : List ℕ) (pc : ℕ) → IsImage memory → FitsFields (fetched v memory pc)
-unfolding fetched
+unfolding fetched behind
 FitsFields-fetched v memory pc h =
     let r = row v (reading v memory pc).icode in
     record {
       r_a = field_a-le memory pc r.has_byte h.bytes;
       r_b = field_b-le memory pc r.has_byte h.bytes;
-      val_c = const_at-lt memory pc r.has_byte r.has_const h.bytes;
+      val_c = constant_at-lt memory pc r.has_byte r.has_const h.bytes;
       val_p = omega arith;
     }

@@ -1,8 +1,9 @@
 -- What the parts of a processor compute, on numbers and lists of bytes (CS:APP 3e, sections 4.1 and 4.3.2 to 4.3.4).
 -- An address is taken modulo 2^64; a truth that a block takes, such as need_regids, is one of its arguments.
-use Rattle.std.specs.Prelude.{ℕ, ◌+◌, ◌-◌, ◌/◌, ◌%◌, ◌^◌, Bool, true, false, ◌&&◌, ◌||◌, not, nat_lt, nat_le, ◌==◌, List, [], ◌∷◌, length, map, slice_get, Option, Some, None, unwrap_or, is_none, if◌then◌else◌, ℤ, pos, negsuc, ◌+ℤ◌, ◌-ℤ◌, bit_and, bit_xor}
+use Rattle.std.specs.Prelude.{ℕ, ◌+◌, ◌-◌, ◌/◌, ◌%◌, ◌^◌, Bool, true, false, ◌&&◌, ◌||◌, not, nat_le, ◌==◌, List, [], ◌∷◌, length, map, slice_get, Option, Some, None, unwrap_or, is_none, if◌then◌else◌, ℤ, pos, ◌+ℤ◌, ◌-ℤ◌, neg_ℤ, int_le, int_lt, bit_and, bit_xor}
 use Rattle.std.specs.Int.{from_le_bytes, w64, cast_signed}
 use Rattle.y86_base.specs.Image.{word_at, put_word}
+use Rattle.y86_base.specs.Registers.{with_register}
 use Rattle.y86_base.specs.declared.parts.Flags.{Flags}
 use Rattle.y86_base.specs.declared.parts.Stat.{Stat}
 use Rattle.y86_base.specs.declared.parts.Stat.TheVariants.{Aok, Hlt, Adr, Ins}
@@ -38,10 +39,10 @@ abbrev pub low_half : ℕ → ℕ
 low_half byte = byte % 16
 
 -- rA and rB: the halves of the byte behind the first, where there is a register byte
-abbrev pub field_a : List ℕ → ℕ → Bool → ℕ
+unfoldable pub field_a : List ℕ → ℕ → Bool → ℕ
 field_a memory pc need_regids = if need_regids then high_half (byte_at memory (pc + 1)) else no_register
 
-abbrev pub field_b : List ℕ → ℕ → Bool → ℕ
+unfoldable pub field_b : List ℕ → ℕ → Bool → ℕ
 field_b memory pc need_regids = if need_regids then low_half (byte_at memory (pc + 1)) else no_register
 
 -- the 8 bytes from an address on as a word, lowest first
@@ -50,13 +51,13 @@ word_from memory address =
     from_le_bytes w64 (map (λ k. byte_at memory (address + k)) (0 ∷ 1 ∷ 2 ∷ 3 ∷ 4 ∷ 5 ∷ 6 ∷ 7 ∷ []))
 
 -- valC: the constant behind the first byte and the register byte
-abbrev pub const_at : List ℕ → ℕ → Bool → Bool → ℕ
-const_at memory pc need_regids need_valC =
+unfoldable pub constant_at : List ℕ → ℕ → Bool → Bool → ℕ
+constant_at memory pc need_regids need_valC =
     if need_valC then word_from memory (pc + (if need_regids then 2 else 1)) else 0
 
 -- valP: the address behind the instruction
-abbrev pub after : ℕ → Bool → Bool → ℕ
-after pc need_regids need_valC =
+unfoldable pub behind : ℕ → Bool → Bool → ℕ
+behind pc need_regids need_valC =
     (pc + 1 + (if need_regids then 1 else 0) + (if need_valC then 8 else 0)) % 2 ^ 64
 
 -- an instruction that isn't all inside reads as a nop with an address error (imem_error), and one that is invalid has an
@@ -97,8 +98,8 @@ fetched_by memory pc read r =
       ifun = read.ifun;
       r_a = field_a memory pc r.has_byte;
       r_b = field_b memory pc r.has_byte;
-      val_c = const_at memory pc r.has_byte r.has_const;
-      val_p = after pc r.has_byte r.has_const;
+      val_c = constant_at memory pc r.has_byte r.has_const;
+      val_p = behind pc r.has_byte r.has_const;
     }
 
 -- all that is fetched at a PC
@@ -151,8 +152,7 @@ abbrev pub signed : ℕ → ℤ
 signed word = cast_signed w64 word
 
 abbrev pub fits_word : ℤ → Bool
-fits_word (pos n) = nat_lt n (2 ^ 63)
-fits_word (negsuc n) = nat_lt n (2 ^ 63)
+fits_word n = int_le (neg_ℤ (pos (2 ^ 63))) n && int_lt n (pos (2 ^ 63))
 
 -- signed overflow, of a sum or a difference alone
 abbrev pub alu_overflows : ℕ → ℕ → ℕ → Bool
@@ -174,9 +174,17 @@ alu f a b = record { val = alu_value f a b; flags = alu_flags f a b }
 abbrev pub alu_function : Bool → ℕ → ℕ
 alu_function selects ifun = if selects then ifun else 0
 
--- SF ^ OF, the condition l: the last operation came out less
+-- one of two truths, and not both
+abbrev pub exclusive_or : Bool → Bool → Bool
+exclusive_or a b = (a && not b) || (not a && b)
+
+-- the condition l, SF ^ OF: the last operation came out less
 abbrev pub is_less : Flags → Bool
-is_less flags = if flags.sf then not flags.of else flags.of
+is_less flags = exclusive_or flags.sf flags.of
+
+-- the condition codes behind the ALU: set by it, or as before
+abbrev pub flags_after : Bool → ℕ → ℕ → ℕ → Flags → Flags
+flags_after sets f a b before = if sets then alu_flags f a b else before
 
 -- the condition of a jump or a move (figure 3.15): unconditional, le, l, e, ne, ge, g by their ifun, and false for any other number
 unfoldable pub condition : ℕ → Flags → Bool
@@ -226,21 +234,27 @@ data_word LoadE val_a val_p = 0
 data_word LoadA val_a val_p = 0
 
 -- dmem_error: the word is to be read or written, and not all of it is inside
-abbrev pub data_error : List ℕ → ℕ → Bool → Bool → Bool
+unfoldable pub data_error : List ℕ → ℕ → Bool → Bool → Bool
 data_error memory address reads writes = (reads || writes) && is_none (word_at memory address)
 
 -- the word that is read, and 0 where none is
-abbrev pub data_read : List ℕ → ℕ → Bool → ℕ
+unfoldable pub data_read : List ℕ → ℕ → Bool → ℕ
 data_read memory address reads = if reads then unwrap_or (word_at memory address) 0 else 0
 
 -- the store that is done, and the memory after it
-abbrev pub data_store : ℕ → ℕ → Bool → Bool → Option Store
+unfoldable pub data_store : ℕ → ℕ → Bool → Bool → Option Store
 data_store address word writes error =
     if writes && not error then Some (record { addr = address; word = word }) else None
 
-abbrev pub stored : List ℕ → Option Store → List ℕ
+unfoldable pub stored : List ℕ → Option Store → List ℕ
 stored memory None = memory
 stored memory (Some store) = put_word memory store.addr store.word
+
+-- ---- write back (figure 4.28)
+
+-- the registers after both destinations are written: dstE gets valE, then dstM gets valM, which wins where they are one
+abbrev pub written_back : List ℕ → ℕ → ℕ → ℕ → ℕ → List ℕ
+written_back registers dst_e val_e dst_m val_m = with_register (with_register registers dst_e val_e) dst_m val_m
 
 -- ---- PC update (figure 4.31)
 

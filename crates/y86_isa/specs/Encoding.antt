@@ -2,7 +2,7 @@
 use Rattle.std.specs.Prelude.{◌≡◌, ℕ, ◌+◌, ◌*◌, ◌%◌, ◌^◌, ◌<◌, ◌≤◌, Bool, false, MatchBool, ◌==◌, List, [], ◌∷◌, ◌++◌, length, take, drop, if◌then◌else◌}
 use Rattle.std.specs.Int.{to_le_bytes, w64}
 use Rattle.y86_base.specs.declared.parts.Variant.{Variant}
-use Rattle.y86_base.specs.declared.parts.Variant.TheVariants.{Base}
+use Rattle.y86_base.specs.declared.parts.Variant.TheVariants.{Full}
 use Rattle.y86_isa.specs.declared.columns.Row.{Row}
 use Rattle.y86_isa.specs.declared.fetch.Fetched.{Fetched}
 use Rattle.y86_isa.specs.declared.encoding.Instr.{Instr}
@@ -10,7 +10,7 @@ use Rattle.y86_isa.specs.Table.{no_register, rows, row}
 
 -- the variant that has every instruction
 abbrev pub widest : Variant
-widest = Base
+widest = Full
 
 -- the largest ifun that an instruction is written with: 0 where the icode ignores it
 abbrev pub written_top : Row → ℕ

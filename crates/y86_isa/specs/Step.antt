@@ -1,20 +1,19 @@
 -- One step: the machine after the work of an instruction, and the record that the instruction leaves.
 use Rattle.std.specs.Prelude.{ℕ, Option, Some, None, if◌then◌else◌}
-use Rattle.y86_base.specs.Registers.{with_register}
 use Rattle.y86_base.specs.declared.parts.Flags.{Flags}
 use Rattle.y86_base.specs.declared.parts.Variant.{Variant}
 use Rattle.y86_isa.specs.declared.machine.Machine.{Machine}
 use Rattle.y86_isa.specs.declared.machine.Rec.{Rec}
 use Rattle.y86_isa.specs.declared.work.Work.{Work}
-use Rattle.y86_isa.specs.Blocks.{stored}
+use Rattle.y86_isa.specs.Blocks.{written_back, stored}
 use Rattle.y86_isa.specs.Machine.{is_aok, normal}
 use Rattle.y86_isa.specs.Work.{work}
 
--- write back and PC update, where the instruction ends with AOK; dstM is written after dstE, and wins
+-- write back and PC update, where the instruction ends with AOK
 abbrev pub finished : Machine → Work → Machine
 finished m w =
     record {
-      regs = with_register (with_register m.regs w.dst_e w.val_e) w.dst_m w.val_m;
+      regs = written_back m.regs w.dst_e w.val_e w.dst_m w.val_m;
       flags = w.flags;
       pc = w.next_pc;
       stat = w.stat;
@@ -25,10 +24,10 @@ finished m w =
 abbrev pub machine_after : Machine → Work → Machine
 machine_after m w = if is_aok w.stat then finished m w else record m { stat = w.stat }
 
--- the record of an instruction at a PC, with the flags after it
-abbrev pub record_from : ℕ → Work → Flags → Rec
-record_from pc w flags =
-    normal (record {
+-- what an instruction at a PC did, with the flags after it, and its record
+abbrev pub told_from : ℕ → Work → Flags → Rec
+told_from pc w flags =
+    record {
       pc = pc;
       icode = w.icode;
       ifun = w.ifun;
@@ -39,7 +38,10 @@ record_from pc w flags =
       store = w.store;
       flags = flags;
       stat = w.stat;
-    })
+    }
+
+abbrev pub record_from : ℕ → Work → Flags → Rec
+record_from pc w flags = normal (told_from pc w flags)
 
 abbrev pub record_of : Machine → Work → Rec
 record_of m w = record_from m.pc w (machine_after m w).flags

@@ -1,7 +1,7 @@
--- The instruction table of Y86-64 (CS:APP 3e, figures 4.2, 4.3 and 4.18 to 4.21).
-use Rattle.std.specs.Prelude.{ℕ, Bool, true, false, ◌&&◌, nat_lt, nat_le, List, [], ◌∷◌, length, slice_get, unwrap_or}
+-- The instruction table of Y86-64 (CS:APP 3e, figures 4.2, 4.3 and 4.18 to 4.21; iaddq is that of exercises 4.51 and 4.52).
+use Rattle.std.specs.Prelude.{ℕ, Bool, true, false, ◌&&◌, nat_lt, nat_le, List, [], ◌∷◌, ◌++◌, length, slice_get, unwrap_or}
 use Rattle.y86_base.specs.declared.parts.Variant.{Variant}
-use Rattle.y86_base.specs.declared.parts.Variant.TheVariants.{Base}
+use Rattle.y86_base.specs.declared.parts.Variant.TheVariants.{Base, Full}
 use Rattle.y86_isa.specs.declared.columns.Row.{Row}
 use Rattle.y86_isa.specs.declared.columns.Field.{Field}
 use Rattle.y86_isa.specs.declared.columns.Field.TheVariants.{Dash, FieldA, FieldB, Stack}
@@ -21,18 +21,6 @@ ihalt = 0
 abbrev pub inop : ℕ
 inop = 1
 
-abbrev pub iopq : ℕ
-iopq = 6
-
-abbrev pub ijxx : ℕ
-ijxx = 7
-
-abbrev pub icall : ℕ
-icall = 8
-
-abbrev pub iret : ℕ
-iret = 9
-
 -- the icode that stands for an invalid instruction: no instruction has it
 abbrev pub iinvalid : ℕ
 iinvalid = 15
@@ -44,27 +32,89 @@ no_register = 15
 abbrev pub stack_pointer : ℕ
 stack_pointer = 4
 
-abbrev yes : Bool
-yes = true
+-- ---- the words of the table
 
-abbrev no : Bool
-no = false
+-- what stands behind the first byte (figure 4.2): nothing, the register byte, an 8-byte constant, or both; so long is the instruction
+record Layout : Type 0 where
+  bytes : ℕ
+  has_byte : Bool
+  has_const : Bool
+
+abbrev bare : Layout
+bare = record { bytes = 1; has_byte = false; has_const = false }
+
+abbrev regs : Layout
+regs = record { bytes = 2; has_byte = true; has_const = false }
+
+abbrev target : Layout
+target = record { bytes = 9; has_byte = false; has_const = true }
+
+abbrev both : Layout
+both = record { bytes = 10; has_byte = true; has_const = true }
+
+-- the register fields that have to name a register
+record Used : Type 0 where
+  a : Bool
+  b : Bool
+
+abbrev none : Used
+none = record { a = false; b = false }
+
+abbrev rA : Used
+rA = record { a = true; b = false }
+
+abbrev rB : Used
+rB = record { a = false; b = true }
+
+abbrev rA_rB : Used
+rA_rB = record { a = true; b = true }
+
+-- the ifuns that an icode takes: any, as it ignores them, or those up to a number
+abbrev any : ℕ
+any = 15
+
+abbrev upto : ℕ → ℕ
+upto n = n
+
+-- the destination of valE: always, or where the condition holds
+record Destination : Type 0 where
+  field : Field
+  conditional : Bool
+
+abbrev to : Field → Destination
+to field = record { field = field; conditional = false }
+
+abbrev if_cond : Field → Destination
+if_cond field = record { field = field; conditional = true }
+
+-- the ALU adds, or its function is the ifun; the flags are kept, or set by the ALU
+abbrev adds : Bool
+adds = false
+
+abbrev by_ifun : Bool
+by_ifun = true
+
+abbrev keeps : Bool
+keeps = false
+
+abbrev sets : Bool
+sets = true
 
 -- the row with these columns
-abbrev columns : ℕ → Bool → Bool → Bool → Bool → ℕ → Field → Field → Field → Field → Bool → TermA → TermB → Bool → Bool → Access → Next → Row
-columns length uses_a uses_b has_byte has_const ifun_top src_a src_b dst_e dst_m conditional alu_a alu_b selects sets_flags memory next =
+abbrev columns : Layout → Used → ℕ → Field → Field → Destination → Field → TermA → TermB → Bool → Bool → Access → Next → Row
+columns layout used ifun_top src_a src_b dst_e dst_m alu_a alu_b selects sets_flags memory next =
     record {
-      length = length;
-      uses_a = uses_a;
-      uses_b = uses_b;
-      has_byte = has_byte;
-      has_const = has_const;
+      length = layout.bytes;
+      uses_a = used.a;
+      uses_b = used.b;
+      has_byte = layout.has_byte;
+      has_const = layout.has_const;
       ifun_top = ifun_top;
       src_a = src_a;
       src_b = src_b;
-      dst_e = dst_e;
+      dst_e = dst_e.field;
       dst_m = dst_m;
-      conditional = conditional;
+      conditional = dst_e.conditional;
       alu_a = alu_a;
       alu_b = alu_b;
       selects = selects;
@@ -73,30 +123,38 @@ columns length uses_a uses_b has_byte has_const ifun_top src_a src_b dst_e dst_m
       next = next;
     }
 
--- the rows of a variant, by icode. The columns are, from left to right:
---   length in bytes; is the field rA used, is rB; is there a register byte, is there a constant; the largest ifun (15 where it is ignored);
---   srcA, srcB, dstE, dstM; is dstE written only where the condition holds; aluA, aluB; is the function of the ALU the ifun (else it adds);
---   are the flags set; what is done at memory; the next PC
+-- ---- the table
+
+-- layout, fields used, ifuns | srcA srcB (dstE) dstM | aluA aluB, ALU, flags | memory | next PC
+abbrev base_rows : List Row
+base_rows =
+    columns bare none any Dash Dash (to Dash) Dash NoA NoB adds keeps NoMem Itself ∷  -- 0 halt
+    columns bare none any Dash Dash (to Dash) Dash NoA NoB adds keeps NoMem Fall ∷  -- 1 nop
+    columns regs rA_rB (upto 6) FieldA Dash (if_cond FieldB) Dash ValA Zero adds keeps NoMem Fall ∷  -- 2 rrmovq, cmovXX
+    columns both rB any Dash Dash (to FieldB) Dash ValC Zero adds keeps NoMem Fall ∷  -- 3 irmovq
+    columns both rA_rB any FieldA FieldB (to Dash) Dash ValC ValB adds keeps StoreA Fall ∷  -- 4 rmmovq
+    columns both rA_rB any Dash FieldB (to Dash) FieldA ValC ValB adds keeps LoadE Fall ∷  -- 5 mrmovq
+    columns regs rA_rB (upto 3) FieldA FieldB (to FieldB) Dash ValA ValB by_ifun sets NoMem Fall ∷  -- 6 OPq
+    columns target none (upto 6) Dash Dash (to Dash) Dash NoA NoB adds keeps NoMem Branch ∷  -- 7 jXX
+    columns target none any Dash Stack (to Stack) Dash Minus8 ValB adds keeps StoreP Target ∷  -- 8 call
+    columns bare none any Stack Stack (to Stack) Dash Plus8 ValB adds keeps LoadA Loaded ∷  -- 9 ret
+    columns regs rA any FieldA Stack (to Stack) Dash Minus8 ValB adds keeps StoreA Fall ∷  -- 10 pushq
+    columns regs rA any Stack Stack (to Stack) FieldA Plus8 ValB adds keeps LoadA Fall ∷  -- 11 popq
+    []
+
+abbrev pub iaddq : Row
+iaddq =
+    columns both rB any Dash FieldB (to FieldB) Dash ValC ValB adds sets NoMem Fall  -- 12 iaddq
+
+-- the rows of a variant, by icode
 abbrev pub rows : Variant → List Row
-rows Base =
-    columns 1 no no no no 15 Dash Dash Dash Dash no NoA NoB no no NoMem Itself ∷  -- 0 halt
-    (columns 1 no no no no 15 Dash Dash Dash Dash no NoA NoB no no NoMem Fall ∷  -- 1 nop
-    (columns 2 yes yes yes no 6 FieldA Dash FieldB Dash yes ValA Zero no no NoMem Fall ∷  -- 2 rrmovq, cmovXX
-    (columns 10 no yes yes yes 15 Dash Dash FieldB Dash no ValC Zero no no NoMem Fall ∷  -- 3 irmovq
-    (columns 10 yes yes yes yes 15 FieldA FieldB Dash Dash no ValC ValB no no StoreA Fall ∷  -- 4 rmmovq
-    (columns 10 yes yes yes yes 15 Dash FieldB Dash FieldA no ValC ValB no no LoadE Fall ∷  -- 5 mrmovq
-    (columns 2 yes yes yes no 3 FieldA FieldB FieldB Dash no ValA ValB yes yes NoMem Fall ∷  -- 6 OPq
-    (columns 9 no no no yes 6 Dash Dash Dash Dash no NoA NoB no no NoMem Branch ∷  -- 7 jXX
-    (columns 9 no no no yes 15 Dash Stack Stack Dash no Minus8 ValB no no StoreP Target ∷  -- 8 call
-    (columns 1 no no no no 15 Stack Stack Stack Dash no Plus8 ValB no no LoadA Loaded ∷  -- 9 ret
-    (columns 2 yes no yes no 15 FieldA Stack Stack Dash no Minus8 ValB no no StoreA Fall ∷  -- 10 pushq
-    (columns 2 yes no yes no 15 Stack Stack Stack FieldA no Plus8 ValB no no LoadA Fall ∷  -- 11 popq
-    [])))))))))))
+rows Base = base_rows
+rows Full = base_rows ++ (iaddq ∷ [])
 
 -- the row of no instruction: one byte, and a dash in each column
 abbrev pub dash_row : Row
 dash_row =
-    columns 1 no no no no 0 Dash Dash Dash Dash no NoA NoB no no NoMem Itself
+    columns bare none (upto 0) Dash Dash (to Dash) Dash NoA NoB adds keeps NoMem Itself
 
 -- the row of an icode; an icode without a row has the row of dashes
 unfoldable pub row : Variant → ℕ → Row

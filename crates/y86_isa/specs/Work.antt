@@ -12,7 +12,7 @@ use Rattle.y86_isa.specs.declared.stages.Decoded.{Decoded}
 use Rattle.y86_isa.specs.declared.stages.Executed.{Executed}
 use Rattle.y86_isa.specs.declared.work.Work.{Work}
 use Rattle.y86_isa.specs.Table.{row}
-use Rattle.y86_isa.specs.Blocks.{fetched, fetch_status, register_number, operand_a, operand_b, alu_value, alu_flags, alu_function, condition, destination_e, is_load, is_store, data_address, data_word, data_error, data_read, data_store, next_address}
+use Rattle.y86_isa.specs.Blocks.{fetched, fetch_status, register_number, operand_a, operand_b, alu_value, alu_function, flags_after, condition, destination_e, is_load, is_store, data_address, data_word, data_error, data_read, data_store, next_address}
 
 -- decode (figure 4.28): the registers that the row names, and the words of the sources
 abbrev pub decoded : List ℕ → Row → Fetched → Decoded
@@ -37,7 +37,7 @@ executed before r f d =
     let cnd = condition f.ifun before in
     record {
       val_e = alu_value function a b;
-      flags = if r.sets_flags then alu_flags function a b else before;
+      flags = flags_after r.sets_flags function a b before;
       cnd = cnd;
       dst_e = destination_e r.conditional cnd d.raw_dst_e;
     }

@@ -2,6 +2,7 @@ ghost use Rattle.std.specs.Prelude.{◌≡◌, ◌≢◌, ◌↔◌, IfNone, IsN
 ghost use Rattle.y86_isa.specs.Step as spec;
 
 use crate::machine::{Machine, Rec};
+use crate::stages::{put_store, write_back};
 use crate::work::Work;
 use y86_base::{Stat, Variant};
 
@@ -13,13 +14,10 @@ fn finish(m: &mut Machine, work: &Work)
     if !matches!(work.stat, Stat::Aok) {
         return;
     }
-    m.regs.set(work.dst_e, work.val_e);
-    m.regs.set(work.dst_m, work.val_m);
+    write_back(&mut m.regs, work.dst_e, work.val_e, work.dst_m, work.val_m);
     m.flags = work.flags;
     m.pc = work.next_pc;
-    if let Some(store) = work.store {
-        let _ = m.mem.put(store.addr, store.word);
-    }
+    put_store(&mut m.mem, work.store);
 }
 
 /// The record of an instruction that left the machine `m`.

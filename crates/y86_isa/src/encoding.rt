@@ -9,7 +9,7 @@ use arrayvec::ArrayVec;
 use y86_base::Variant;
 
 /// The variant that has every instruction.
-const WIDEST: Variant = Variant::Base;
+const WIDEST: Variant = Variant::Full;
 
 /// An instruction as its fields. A register field that the instruction doesn't use is 15, and the constant of
 /// one without a constant is 0.

@@ -39,6 +39,7 @@ fn byte_at(memory: &Image, address: u64) -> u8
 }
 
 /// The fields `rA` and `rB` behind the first byte where there is a register byte, and 15 where there is none.
+#[tactic(auto, unfolding(crate::specs::Blocks::field_a, crate::specs::Blocks::field_b))]
 pub fn register_fields(memory: &Image, pc: u64, need_regids: bool) -> (u64, u64)
     ensures a { result.0 ≡ blocks.field_a memory.now pc need_regids }
     ensures b { result.1 ≡ blocks.field_b memory.now pc need_regids }
@@ -52,9 +53,9 @@ pub fn register_fields(memory: &Image, pc: u64, need_regids: bool) -> (u64, u64)
 
 /// The constant behind the first byte and the register byte, little-endian, and 0 where there is none. A byte
 /// outside the memory counts as 0.
-#[tactic(auto, unfolding(crate::specs::Blocks::word_from))]
-pub fn constant(memory: &Image, pc: u64, need_regids: bool, need_const: bool) -> u64
-    ensures { result ≡ blocks.const_at memory.now pc need_regids need_const }
+#[tactic(auto, unfolding(crate::specs::Blocks::constant_at, crate::specs::Blocks::word_from))]
+pub fn constant_at(memory: &Image, pc: u64, need_regids: bool, need_const: bool) -> u64
+    ensures { result ≡ blocks.constant_at memory.now pc need_regids need_const }
 {
     if !need_const {
         return 0;
@@ -73,8 +74,9 @@ pub fn constant(memory: &Image, pc: u64, need_regids: bool, need_const: bool) ->
 }
 
 /// The address behind an instruction at `pc`.
+#[tactic(auto, unfolding(crate::specs::Blocks::behind))]
 pub fn behind(pc: u64, need_regids: bool, need_const: bool) -> u64
-    ensures { result ≡ blocks.after pc need_regids need_const }
+    ensures { result ≡ blocks.behind pc need_regids need_const }
 {
     let first = pc.wrapping_add(1);
     let fields = first.wrapping_add(if need_regids { 1 } else { 0 });
@@ -150,7 +152,7 @@ pub fn split(v: Variant, memory: &Image, pc: u64) -> Fetched
         ifun: read.ifun,
         r_a,
         r_b,
-        val_c: constant(memory, pc, row.has_byte, row.has_const),
+        val_c: constant_at(memory, pc, row.has_byte, row.has_const),
         val_p: behind(pc, row.has_byte, row.has_const),
     }
 }

@@ -18,7 +18,7 @@ mod work;
 pub use advance::step;
 pub use columns::{Access, Field, Next, Row, TermA, TermB};
 pub use encoding::{Instr, encode, valid};
-pub use fetch::{Fetched, Reading, behind, constant, read, register_fields, split};
+pub use fetch::{Fetched, Reading, behind, constant_at, read, register_fields, split};
 pub use laws::{
     law_of_encoding, law_of_images, law_of_machines, law_of_reading, law_of_records, law_of_rows,
     law_of_runs, law_of_steps, law_of_work,

@@ -1,4 +1,5 @@
 ghost use Rattle.std.specs.Prelude.{◌≡◌};
+ghost use Rattle.y86_isa.specs.Machine as machine;
 
 use crate::table::NO_REGISTER;
 use y86_base::{Flags, Image, Regs, Stat};
@@ -60,6 +61,18 @@ pub struct Rec {
     pub stat: Stat,
 }
 
+/// A destination and the word that it gets; one that is no register is 15, and gets 0.
+fn written(number: u64, word: u64) -> (u64, u64)
+    ensures number { result.0 ≡ machine.written_number number }
+    ensures word { result.1 ≡ machine.written_word number word }
+{
+    if number < NO_REGISTER {
+        (number, word)
+    } else {
+        (NO_REGISTER, 0)
+    }
+}
+
 impl Rec {
     ghost use Rattle.y86_isa.specs.Machine.{normal};
 
@@ -68,15 +81,23 @@ impl Rec {
     pub fn normal(self) -> Rec
         ensures { result ≡ normal self }
     {
-        let done = matches!(self.stat, Stat::Aok);
-        let writes_e = done && self.dst_e < NO_REGISTER;
-        let writes_m = done && self.dst_m < NO_REGISTER;
+        if !matches!(self.stat, Stat::Aok) {
+            return Rec {
+                dst_e: NO_REGISTER,
+                val_e: 0,
+                dst_m: NO_REGISTER,
+                val_m: 0,
+                store: None,
+                ..self
+            };
+        }
+        let (dst_e, val_e) = written(self.dst_e, self.val_e);
+        let (dst_m, val_m) = written(self.dst_m, self.val_m);
         Rec {
-            dst_e: if writes_e { self.dst_e } else { NO_REGISTER },
-            val_e: if writes_e { self.val_e } else { 0 },
-            dst_m: if writes_m { self.dst_m } else { NO_REGISTER },
-            val_m: if writes_m { self.val_m } else { 0 },
-            store: if done { self.store } else { None },
+            dst_e,
+            val_e,
+            dst_m,
+            val_m,
             ..self
         }
     }

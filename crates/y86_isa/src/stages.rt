@@ -103,6 +103,59 @@ fn is_store(access: Access) -> bool
     matches!(access, Access::StoreA | Access::StoreP)
 }
 
+/// Whether a word is to be read or written at an address, and not all of it is inside the memory.
+#[tactic(auto, unfolding(crate::specs::Blocks::data_error))]
+pub fn data_error(memory: &Image, address: u64, reads: bool, writes: bool) -> bool
+    ensures { result ≡ blocks.data_error memory.now address reads writes }
+{
+    (reads || writes) && memory.word(address).is_none()
+}
+
+/// The word that is read at an address, and 0 where none is read or it isn't all inside the memory.
+#[tactic(auto, unfolding(crate::specs::Blocks::data_read))]
+pub fn data_read(memory: &Image, address: u64, reads: bool) -> u64
+    ensures { result ≡ blocks.data_read memory.now address reads }
+{
+    if reads {
+        memory.word(address).unwrap_or(0)
+    } else {
+        0
+    }
+}
+
+/// The store that is done, if one is, unless the data are in error.
+#[tactic(auto, unfolding(crate::specs::Blocks::data_store))]
+pub fn data_store(address: u64, word: u64, writes: bool, error: bool) -> Option<Store>
+    ensures { result ≡ blocks.data_store address word writes error }
+{
+    if writes && !error {
+        Some(Store {
+            addr: address,
+            word,
+        })
+    } else {
+        None
+    }
+}
+
+/// Does a store, if there is one, in the memory.
+#[tactic(auto, unfolding(crate::specs::Blocks::stored))]
+pub fn put_store(memory: &mut Image, store: Option<Store>)
+    ensures { memory.new ≡ blocks.stored memory.old store }
+{
+    if let Some(store) = store {
+        let _ = memory.put(store.addr, store.word);
+    }
+}
+
+/// Writes both destinations to the registers, that of valM last.
+pub fn write_back(regs: &mut Regs, dst_e: u64, val_e: u64, dst_m: u64, val_m: u64)
+    ensures { regs.new ≡ blocks.written_back regs.old dst_e val_e dst_m val_m }
+{
+    regs.set(dst_e, val_e);
+    regs.set(dst_m, val_m);
+}
+
 /// The decode stage.
 pub fn decode(regs: &Regs, row: &Row, fetched: &Fetched) -> Decoded
     ensures { result ≡ spec.decoded regs.now row.now fetched.now }
@@ -148,20 +201,12 @@ pub fn access(memory: &Image, row: &Row, fetched: &Fetched, val_a: u64, val_e: u
     let loads = is_load(row.memory);
     let stores = is_store(row.memory);
     let address = data_address(row.memory, val_a, val_e);
-    let place = memory.word(address);
-    let fault = (loads || stores) && place.is_none();
     let word = data_word(row.memory, val_a, fetched.val_p);
+    let fault = data_error(memory, address, loads, stores);
     Accessed {
         address,
         fault,
-        val_m: if loads { place.unwrap_or(0) } else { 0 },
-        store: if stores && !fault {
-            Some(Store {
-                addr: address,
-                word,
-            })
-        } else {
-            None
-        },
+        val_m: data_read(memory, address, loads),
+        store: data_store(address, word, stores, fault),
     }
 }

@@ -189,12 +189,29 @@ const POPQ: Row = Row {
     ..DASH
 };
 
+/// `iaddq` (CS:APP 3e, exercises 4.51 and 4.52).
+const IADDQ: Row = Row {
+    length: 10,
+    uses_b: true,
+    has_byte: true,
+    has_const: true,
+    ifun_top: 15,
+    src_b: Field::FieldB,
+    dst_e: Field::FieldB,
+    alu_a: TermA::ValC,
+    alu_b: TermB::ValB,
+    sets_flags: true,
+    next: Next::Fall,
+    ..DASH
+};
+
 /// The number of icodes that have a row in the variant; they are those below it.
 pub fn icode_count(v: Variant) -> u64
     ensures { result ≡ length (table.rows v) }
 {
     match v {
         Variant::Base => 12,
+        Variant::Full => 13,
     }
 }
 
@@ -220,6 +237,8 @@ pub fn row(v: Variant, icode: u64) -> Row
         8 => CALL,
         9 => RET,
         10 => PUSHQ,
-        _ => POPQ,
+        11 => POPQ,
+        12 => IADDQ,
+        _ => DASH,
     }
 }
