@@ -11,13 +11,14 @@ use Rattle.y86_isa.specs.declared.columns.Field.TheVariants.{Dash, FieldA, Field
 use Rattle.y86_isa.specs.declared.columns.Next.TheVariants.{Fall}
 use Rattle.y86_isa.specs.declared.machine.Machine.{Machine}
 use Rattle.y86_isa.specs.declared.machine.Rec.{Rec}
+use Rattle.y86_isa.specs.RowTests.{is_dash, is_stack}
 use Rattle.y86_isa.specs.Table.{rows, row}
 use Rattle.y86_isa.specs.Machine.{is_aok}
 use Rattle.y86_isa.specs.Blocks.{register_number, destination_e, behind, fetched, reading}
 use Rattle.y86_isa.specs.Work.{work}
 use Rattle.y86_isa.specs.Step.{finished, machine_after, told_from, record_of, advance, retired}
 use Rattle.y86_isa.specs.Laws.{ChangesOneRegister, KeepsFlags, FallsThrough}
-use Rattle.y86_isa.proofs.Rows.{one_destination, is_dash, is_stack, row-length}
+use Rattle.y86_isa.proofs.Rows.{one_destination, row-length}
 use Rattle.y86_isa.proofs.Normal.{kept_by_normal}
 use Rattle.y86_isa.proofs.Steps.{Advances, advances}
 use Rattle.y86_isa.proofs.Steps.Advances.{stays, stops, goes}
@@ -97,10 +98,10 @@ ChangesOneRegister-advance v m = registers_case v m (advance v m) (retired v m) 
 
 -- ---- flags
 
-record_icode : (v : Variant) (m : Machine) → (record_of m (work v m)).icode ≡ (work v m).icode
+pub record_icode : (v : Variant) (m : Machine) → (record_of m (work v m)).icode ≡ (work v m).icode
 record_icode v m = (kept_by_normal (told_from m.pc (work v m) (machine_after m (work v m)).flags)).icode
 
-record_stat : (v : Variant) (m : Machine) → (record_of m (work v m)).stat ≡ (work v m).stat
+pub record_stat : (v : Variant) (m : Machine) → (record_of m (work v m)).stat ≡ (work v m).stat
 record_stat v m = (kept_by_normal (told_from m.pc (work v m) (machine_after m (work v m)).flags)).stat
 
 flags_kept : (v : Variant) (m : Machine) → (row v (work v m).icode).sets_flags ≡ false → (work v m).flags ≡ m.flags

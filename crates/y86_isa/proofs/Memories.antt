@@ -1,11 +1,13 @@
 -- What a store leaves of a memory.
-use Rattle.std.proofs.Common.{◌≡◌, ℕ, ◌+◌, ◌-◌, ◌<◌, ◌≤◌, ◌⊎◌, inl, inr, nat_le, List, ◌++◌, length, take, drop, get_or, Option, Some, None, slice_get, All, refl, sym, ap, ◌∙◌, arith, length-append, length-take, length-drop}
+use Rattle.std.proofs.Common.{◌≡◌, ℕ, ◌+◌, ◌-◌, ◌^◌, ◌<◌, ◌≤◌, ◌⊎◌, inl, inr, true, nat_le, List, ◌++◌, length, take, drop, get_or, Option, Some, None, slice_get, All, refl, sym, ap, ◌∙◌, arith, length-append, length-take, length-drop}
 use Rattle.std.specs.Int.{to_le_bytes, w64}
-use Rattle.std.proofs.lemmas.Bool.{cond_both, leb-true, cases_lt}
+use Rattle.std.proofs.Math.Seq.{drop-append_seam, take-append_seam}
+use Rattle.std.proofs.lemmas.Bool.{cond_both, leb-true, le-leb, cases_lt}
+use Rattle.std.proofs.lemmas.Nat.{from_le_bytes-to_le_bytes_8}
 use Rattle.std.proofs.lemmas.List.{get_or_append_left, get_or-append_right, get_or-take, get_or-drop}
 use Rattle.std.proofs.lemmas.Option.{slice_get-get_or, slice_get_past}
 use Rattle.std.proofs.lemmas.List.Elements.{All-from_recursion, All-append, All-take, All-drop}
-use Rattle.y86_base.specs.Image.{put_word}
+use Rattle.y86_base.specs.Image.{word_at, put_word}
 use Rattle.y86_isa.specs.declared.machine.Store.{Store}
 use Rattle.y86_isa.specs.Blocks.{stored}
 use Rattle.y86_isa.specs.Run.{IsImage}
@@ -72,6 +74,18 @@ get_or-put_word_other memory address word k h =
     cond_both (nat_le (address + 8) (length memory)) _ memory (λ m. get_or m k 0 ≡ get_or memory k 0)
     (λ e. elim h [ inl lt ↦ below_word memory address word k (leb-true _ _ e) lt | inr le ↦ above_word memory address word k (leb-true _ _ e) le ])
     (λ _. refl)
+
+-- the word that was put is there, where it is inside
+pub word_at-put_word : (memory : List ℕ) (address word : ℕ) → address + 8 ≤ length memory → word < 2 ^ 64 →
+    word_at (put_word memory address word) address ≡ Some word
+word_at-put_word memory address word inside lt =
+    let fits : nat_le (address + 8) (length memory) ≡ true = le-leb _ _ inside in
+    let put = take address memory ++ (to_le_bytes w64 word ++ drop (address + 8) memory) in
+    let long : length (take address memory) ≡ address = simp length-take (omega arith) in
+    let rest : drop address put ≡ to_le_bytes w64 word ++ drop (address + 8) memory =
+    ap (λ n. drop n put) (sym long) ∙ drop-append_seam (take address memory) (to_le_bytes w64 word ++ drop (address + 8) memory) in
+    let bytes : take 8 (drop address put) ≡ to_le_bytes w64 word = rw rest (take-append_seam (to_le_bytes w64 word) (drop (address + 8) memory)) in
+    rw (fits, length_put memory address word inside, fits, bytes) (ap Some (from_le_bytes-to_le_bytes_8 word lt))
 
 -- two memories of one size that read alike at an address have the same byte there, if any
 pub same_byte : (xs ys : List ℕ) (k : ℕ) → length xs ≡ length ys → get_or xs k 0 ≡ get_or ys k 0 → slice_get xs k ≡ slice_get ys k

@@ -13,7 +13,8 @@ use Rattle.y86_isa.specs.Table.{row, is_instruction}
 use Rattle.y86_isa.specs.Blocks.{high_half, low_half, byte_at, field_a, field_b, constant_at, behind, lacks_register, reading, fetched}
 use Rattle.y86_isa.specs.Encoding.{NamesRegister, FitsRow, IsValid, encoded, encoded_by, Holds, fields_of, widest}
 use Rattle.y86_isa.proofs.Encodings.{field_most}
-use Rattle.y86_isa.proofs.Rows.{row-length, row-widest, has_byte-from_a, has_byte-from_b, ifun_top-le}
+use Rattle.y86_isa.proofs.Rows.{row-length, row-widest, ifun_top-le}
+use Rattle.y86_isa.proofs.RowsAgree.{fields_agree}
 use Rattle.y86_isa.proofs.Fetching.{held_at, held_whole, held_byte_at, word_from-bytes}
 
 halves : (high low : ℕ) → low ≤ 15 → (high_half (16 * high + low) ≡ high) × (low_half (16 * high + low) ≡ low)
@@ -120,9 +121,9 @@ by_row v i memory pc r same valid lt size held =
     λ h. held_byte_at memory bytes pc 1 size held (second_of r.has_byte r.has_const first second i.val_c h).0
     ∙ (second_of r.has_byte r.has_const first second i.val_c h).1 in
     let a : field_a memory pc r.has_byte ≡ i.r_a =
-    field_a_of r.has_byte r.uses_a memory pc i.r_a i.r_b second_there r_b_le (rw same (has_byte-from_a v i.icode)) fits.field_a in
+    field_a_of r.has_byte r.uses_a memory pc i.r_a i.r_b second_there r_b_le (rw same ((fields_agree v i.icode).byte_a)) fits.field_a in
     let b : field_b memory pc r.has_byte ≡ i.r_b =
-    field_b_of r.has_byte r.uses_b memory pc i.r_a i.r_b second_there r_b_le (rw same (has_byte-from_b v i.icode)) fits.field_b in
+    field_b_of r.has_byte r.uses_b memory pc i.r_a i.r_b second_there r_b_le (rw same ((fields_agree v i.icode).byte_b)) fits.field_b in
     let constant : constant_at memory pc r.has_byte r.has_const ≡ i.val_c =
     const_of r.has_byte r.has_const memory pc first second i.val_c size lt held fits.constant in
     let lacks : lacks_register memory pc r ≡ false = rw (a, b, named r.uses_a i.r_a fits.field_a, named r.uses_b i.r_b fits.field_b) refl in

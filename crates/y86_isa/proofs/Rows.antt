@@ -12,6 +12,7 @@ use Rattle.y86_isa.specs.declared.columns.Field.TheVariants.{Dash, FieldA, Field
 use Rattle.y86_isa.specs.declared.columns.Next.{Next}
 use Rattle.y86_isa.specs.declared.columns.Next.TheVariants.{Itself, Fall, Branch, Target, Loaded}
 use Rattle.y86_isa.specs.Table.{rows, row, dash_row, iaddq}
+use Rattle.y86_isa.specs.RowTests.{is_dash, is_stack}
 use Rattle.y86_isa.specs.Encoding.{widest}
 
 in_list : (p : Row → Bool) (rs : List Row) (d : Row) → list_all p rs ≡ true → p d ≡ true → (i : ℕ) → p (unwrap_or (slice_get rs i) d) ≡ true
@@ -40,15 +41,9 @@ row-widest Base icode lt =
     ∙ (sym (get_or_append_left (rows Base) (iaddq ∷ []) dash_row icode lt) ∙ sym (unwrap_or-slice_get (rows Full) icode dash_row))
 row-widest Full icode lt = refl
 
--- the columns of one row agree: the length is that of the parts, and a register field that is used is there
+-- the length of an instruction is that of its parts
 abbrev sized : Row → Bool
 sized r = r.length == 1 + cond r.has_byte 1 0 + cond r.has_const 8 0
-
-abbrev a_is_there : Row → Bool
-a_is_there r = not r.uses_a || r.has_byte
-
-abbrev b_is_there : Row → Bool
-b_is_there r = not r.uses_b || r.has_byte
 
 abbrev small_ifun : Row → Bool
 small_ifun r = nat_le r.ifun_top 15
@@ -57,30 +52,12 @@ all_sized : (v : Variant) → list_all sized (rows v) ≡ true
 all_sized Base = refl
 all_sized Full = refl
 
-all_a : (v : Variant) → list_all a_is_there (rows v) ≡ true
-all_a Base = refl
-all_a Full = refl
-
-all_b : (v : Variant) → list_all b_is_there (rows v) ≡ true
-all_b Base = refl
-all_b Full = refl
-
 all_small : (v : Variant) → list_all small_ifun (rows v) ≡ true
 all_small Base = refl
 all_small Full = refl
 
 pub row-length : (v : Variant) (icode : ℕ) → (row v icode).length ≡ 1 + cond (row v icode).has_byte 1 0 + cond (row v icode).has_const 8 0
 row-length v icode = eqb-true _ _ (row-test sized v (all_sized v) refl icode)
-
-implied : (a b : Bool) → (not a || b) ≡ true → a ≡ true → b ≡ true
-implied true b h e = h
-implied false b h e = cc
-
-pub has_byte-from_a : (v : Variant) (icode : ℕ) → (row v icode).uses_a ≡ true → (row v icode).has_byte ≡ true
-has_byte-from_a v icode = implied _ _ (row-test a_is_there v (all_a v) refl icode)
-
-pub has_byte-from_b : (v : Variant) (icode : ℕ) → (row v icode).uses_b ≡ true → (row v icode).has_byte ≡ true
-has_byte-from_b v icode = implied _ _ (row-test b_is_there v (all_b v) refl icode)
 
 pub ifun_top-le : (v : Variant) (icode : ℕ) → (row v icode).ifun_top ≤ 15
 ifun_top-le v icode = leb-true _ _ (row-test small_ifun v (all_small v) refl icode)
@@ -106,18 +83,6 @@ row-numbered p v h icode lt = let P : ℕ → Type 0 = λ i. p i (unwrap_or (sli
     subst P (zero-add icode) (in_numbered p 0 (rows v) dash_row h icode lt)
 
 -- where valM has a destination, valE has none but %rsp
-abbrev pub is_dash : Field → Bool
-is_dash Dash = true
-is_dash FieldA = false
-is_dash FieldB = false
-is_dash Stack = false
-
-abbrev pub is_stack : Field → Bool
-is_stack Dash = false
-is_stack FieldA = false
-is_stack FieldB = false
-is_stack Stack = true
-
 abbrev one_field : Row → Bool
 one_field r = is_dash r.dst_m || is_dash r.dst_e || is_stack r.dst_e
 

@@ -26,6 +26,7 @@ use Rattle.y86_isa.specs.Blocks.{byte_at, word_from, constant_at, field_a, field
 use Rattle.y86_isa.specs.Work.{work}
 use Rattle.y86_isa.specs.Step.{advance, retired}
 use Rattle.y86_isa.specs.Run.{IsImage, IsMachine, FitsFields, run_from}
+use Rattle.y86_isa.proofs.Registers.{length-with_register}
 use Rattle.y86_isa.proofs.Steps.{Advances, advances, IsImage-advance}
 use Rattle.y86_isa.proofs.Steps.Advances.{stays, stops, goes}
 
@@ -127,10 +128,6 @@ next_address-lt Loaded pc val_p val_c val_m cnd a b c d = d
 with_register-words : (registers : List ℕ) (n word : ℕ) → All IsWord registers → word < 2 ^ 64 → All IsWord (with_register registers n word)
 with_register-words registers n word h lt =
     cond_both (nat_lt n 15) (slice_set registers n word) registers (All IsWord) (λ _. All-set IsWord registers n word lt h) (λ _. h)
-
-length-with_register : (registers : List ℕ) (n word : ℕ) → length (with_register registers n word) ≡ length registers
-length-with_register registers n word =
-    cond_both (nat_lt n 15) (slice_set registers n word) registers (λ rs. length rs ≡ length registers) (λ _. length-set registers n word) (λ _. refl)
 
 -- the words of an instruction's work
 record HasWords (v : Variant) (m : Machine) : Type 0 where

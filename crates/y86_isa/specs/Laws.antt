@@ -1,15 +1,19 @@
 -- What a step may change, in the words of the subject.
-use Rattle.std.specs.Prelude.{◌≡◌, ◌≢◌, ℕ, ◌+◌, ◌%◌, ◌^◌, false, List, IfSome, if◌then◌else◌}
+use Rattle.std.specs.Prelude.{◌≡◌, ◌≢◌, ℕ, ◌+◌, ◌%◌, ◌^◌, ◌<◌, ◌≤◌, ◌⊎◌, true, false, List, length, Some, option_map, IfSome, if◌then◌else◌}
+use Rattle.y86_base.specs.Image.{word_at}
 use Rattle.y86_base.specs.Registers.{register}
 use Rattle.y86_base.specs.declared.parts.Stat.TheVariants.{Aok, Adr}
 use Rattle.y86_base.specs.declared.parts.Variant.{Variant}
 use Rattle.y86_isa.specs.declared.columns.Row.{Row}
 use Rattle.y86_isa.specs.declared.columns.Next.TheVariants.{Fall}
 use Rattle.y86_isa.specs.declared.fetch.Fetched.{Fetched}
+use Rattle.y86_isa.specs.declared.fetch.Reading.{Reading}
 use Rattle.y86_isa.specs.declared.machine.Machine.{Machine}
+use Rattle.y86_isa.specs.declared.machine.Rec.{Rec}
 use Rattle.y86_isa.specs.declared.work.Work.{Work}
-use Rattle.y86_isa.specs.Blocks.{fetch_status, register_number, operand_a, operand_b, alu_value, alu_function, flags_after, condition, destination_e, is_load, is_store, data_address, data_word, data_error, data_read, data_store, next_address}
-use Rattle.y86_isa.specs.Table.{stack_pointer, row}
+use Rattle.y86_isa.specs.Blocks.{fetched, written_back, stored, fetch_status, register_number, operand_a, operand_b, alu_value, alu_function, flags_after, condition, destination_e, is_load, is_store, data_address, data_word, data_error, data_read, data_store, next_address}
+use Rattle.y86_isa.specs.Table.{inop, iinvalid, no_register, stack_pointer, rows, row}
+use Rattle.y86_isa.specs.RowTests.{has_operand_a, accesses, is_branch, is_loaded}
 use Rattle.y86_isa.specs.Step.{advance, retired}
 
 -- the work of an instruction, by one equation for each value that its row and the machine give
@@ -56,3 +60,54 @@ abbrev pub FallsThrough : Variant → Machine → Type 0
 FallsThrough v m =
     IfSome (retired v m)
     (λ r. r.stat ≡ Aok → (row v r.icode).next ≡ Fall → (advance v m).pc ≡ (m.pc + (row v r.icode).length) % 2 ^ 64)
+
+-- a record tells the whole step from one machine to the next
+pub record TellsStep (m after : Machine) (r : Rec) : Type 0 where
+  pub pc : r.pc ≡ m.pc
+  pub stat : after.stat ≡ r.stat
+  pub flags : after.flags ≡ r.flags
+  pub mem : after.mem ≡ stored m.mem r.store
+  pub regs : after.regs ≡ written_back m.regs r.dst_e r.val_e r.dst_m r.val_m
+
+-- what a reading can be: with an error it is a nop; else it is the icode of an invalid instruction, or one that has a row with an
+-- ifun that it takes
+pub record IsReading (v : Variant) (read : Reading) : Type 0 where
+  pub outside : read.error ≡ true → (read.icode ≡ inop) × (read.ifun ≡ 0)
+  pub known : (read.icode < length (rows v)) ⊎ ((read.icode ≡ iinvalid) × (read.ifun ≡ 0))
+  pub ifun : read.ifun ≤ (row v read.icode).ifun_top
+
+-- register fields that are used are registers, and without a register byte both are 15
+pub record IsFields (r : Row) (f : Fetched) : Type 0 where
+  pub used_a : r.uses_a ≡ true → f.r_a < no_register
+  pub used_b : r.uses_b ≡ true → f.r_b < no_register
+  pub none_a : r.has_byte ≡ false → f.r_a ≡ no_register
+  pub none_b : r.has_byte ≡ false → f.r_b ≡ no_register
+
+-- two records that differ at most in their destinations and stores
+pub record SameButDone (r s : Rec) : Type 0 where
+  pub pc : s.pc ≡ r.pc
+  pub icode : s.icode ≡ r.icode
+  pub ifun : s.ifun ≡ r.ifun
+  pub flags : s.flags ≡ r.flags
+  pub stat : s.stat ≡ r.stat
+
+-- pushq of %rsp stores its value from before, and popq to %rsp leaves the word that was loaded (practice problems 4.7 and 4.8)
+abbrev pub PushStoresOld : Variant → Machine → Type 0
+PushStoresOld v m =
+    IfSome (retired v m)
+    (λ r. r.stat ≡ Aok → r.icode ≡ 10 → (fetched v m.mem m.pc).r_a ≡ stack_pointer →
+    option_map (λ store. store.word) r.store ≡ Some (register m.regs stack_pointer))
+
+abbrev pub PopLeavesLoaded : Variant → Machine → Type 0
+PopLeavesLoaded v m =
+    IfSome (retired v m)
+    (λ r. r.stat ≡ Aok → r.icode ≡ 11 → (fetched v m.mem m.pc).r_a ≡ stack_pointer →
+    word_at m.mem (register m.regs stack_pointer) ≡ Some (register (advance v m).regs stack_pointer))
+
+-- an instruction that is bad at its fetch computes nothing, accesses no memory, takes no jump, loads no PC and sets no flag
+pub record DoesNothing (r : Row) : Type 0 where
+  pub operand : has_operand_a r.alu_a ≡ false
+  pub access : accesses r.memory ≡ false
+  pub branch : is_branch r.next ≡ false
+  pub loaded : is_loaded r.next ≡ false
+  pub flags : r.sets_flags ≡ false

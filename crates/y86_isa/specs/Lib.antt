@@ -6,3 +6,4 @@ pub mod Step
 pub mod Run
 pub mod Encoding
 pub mod Laws
+pub mod RowTests

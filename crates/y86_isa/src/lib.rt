@@ -20,10 +20,12 @@ pub use columns::{Access, Field, Next, Row, TermA, TermB};
 pub use encoding::{Instr, encode, valid};
 pub use fetch::{Fetched, Reading, behind, constant_at, read, register_fields, split};
 pub use laws::{
-    law_of_encoding, law_of_images, law_of_machines, law_of_reading, law_of_records, law_of_rows,
-    law_of_runs, law_of_steps, law_of_work,
+    law_of_columns, law_of_encoding, law_of_images, law_of_machines, law_of_normal_form,
+    law_of_reading, law_of_records, law_of_rows, law_of_runs, law_of_stack, law_of_steps,
+    law_of_work,
 };
 pub use machine::{Machine, Rec, Store};
+pub use stages::{data_error, data_read, data_store, put_store, write_back};
 pub use table::{icode_count, row};
 pub use unit::{AluOut, alu, cond};
 pub use work::Work;

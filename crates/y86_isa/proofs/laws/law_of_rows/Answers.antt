@@ -1,3 +1,4 @@
+use Rattle.y86_isa.proofs.Rows.{row-widest}
 use Rattle.y86_isa.proofs.Rows.{row-test, row-unknown, row-length}
 use Rattle.y86_isa.proofs.laws.law_of_rows.Goals as goal
 
@@ -9,3 +10,6 @@ returns-clause-unknown c = row-unknown
 
 pub returns-clause-length : goal.returns-clause-length
 returns-clause-length c = row-length
+
+pub returns-clause-widest : goal.returns-clause-widest
+returns-clause-widest c = row-widest

@@ -1,3 +1,4 @@
+use Rattle.y86_isa.proofs.Records.{record_tells}
 use Rattle.y86_isa.proofs.Runs.{advance-stopped, retired-stopped, is_aok-from_not}
 use Rattle.y86_isa.proofs.Steps.{mem-advance}
 use Rattle.y86_isa.proofs.Changes.{ChangesOneRegister-advance, KeepsFlags-advance, FallsThrough-advance}
@@ -17,3 +18,6 @@ returns-clause-pc c = FallsThrough-advance
 
 pub returns-clause-stopped : goal.returns-clause-stopped
 returns-clause-stopped c = λ v m h. (advance-stopped v m (is_aok-from_not m.stat h), retired-stopped v m (is_aok-from_not m.stat h))
+
+pub returns-clause-record : goal.returns-clause-record
+returns-clause-record c = record_tells
