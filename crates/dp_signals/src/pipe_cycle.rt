@@ -1,5 +1,4 @@
 ghost use Rattle.std.specs.Prelude.{◌≡◌, ◌&&◌};
-ghost use Rattle.y86_isa.specs.Blocks.{stored};
 ghost use Rattle.dp_signals.specs.PipeCycle as spec;
 ghost use Rattle.dp_signals.specs.PipeNames as pipe;
 ghost use Rattle.dp_signals.specs.PipeState.{bubble_d, bubble_e, bubble_m, bubble_w};
@@ -9,8 +8,8 @@ ghost use Rattle.hcl_types.specs.Terms.{at};
 use crate::movers::{Ending, Mover, Movers};
 use crate::pipe_row as row;
 use crate::pipe_state::{NO_FLAGS, PipeState, StageD, StageE, StageM, StageW, Trail};
-use y86_base::{Flags, Image, Regs, Stat};
-use y86_isa::{Rec, Store, alu, register_fields};
+use y86_base::{Flags, Regs, Stat};
+use y86_isa::{Rec, Store, alu, data_store, put_store, register_fields};
 
 /// How many rows PIPE's table of signals has.
 pub const PIPE_ROWS: usize = 115;
@@ -94,14 +93,12 @@ fn movers_of(values: &PipeValues) -> Movers
 fn store_of(p: &PipeState, values: &PipeValues) -> Option<Store>
     ensures { result ≡ spec.store_of p.now (at values.now) }
 {
-    if values[row::MEM_WRITE] != 0 && values[row::DMEM_ERROR] == 0 {
-        Some(Store {
-            addr: values[row::MEM_ADDR],
-            word: p.m.val_a,
-        })
-    } else {
-        None
-    }
+    data_store(
+        values[row::MEM_ADDR],
+        p.m.val_a,
+        values[row::MEM_WRITE] != 0,
+        values[row::DMEM_ERROR] != 0,
+    )
 }
 
 fn next_flags(p: &PipeState, values: &PipeValues) -> Flags
@@ -216,14 +213,6 @@ fn write_back(regs: &mut Regs, w_stat: u64, values: &PipeValues)
     if w_stat == AOK {
         regs.set(values[row::W_DST_E], values[row::W_VAL_E]);
         regs.set(values[row::W_DST_M], values[row::W_VAL_M]);
-    }
-}
-
-fn put_store(mem: &mut Image, store: Option<Store>)
-    ensures { mem.new ≡ stored mem.old store }
-{
-    if let Some(store) = store {
-        let _ = mem.put(store.addr, store.word);
     }
 }
 
