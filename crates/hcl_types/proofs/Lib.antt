@@ -1,0 +1,6 @@
+pub mod Inductions
+pub mod Values
+pub mod Each
+pub mod Related
+pub mod Orders
+pub mod Stores

@@ -1,5 +1,5 @@
 -- Equations without order, orders in which they can be computed, and what computing along one gives.
-use Rattle.std.specs.Prelude.{◌≡◌, ◌⊎◌, ℕ, Bool, true, false, IsTrue, List, [], ◌∷◌, get_or}
+use Rattle.std.specs.Prelude.{◌≡◌, ◌⊎◌, ℕ, Bool, true, false, List, [], ◌∷◌, get_or}
 use Rattle.hcl_types.specs.Lists.{Each, IsIn, IsApart}
 
 -- f is a solution of the equations: each entry has the value that its rule gives, where every rule may read any entry
@@ -18,7 +18,7 @@ is_known known n = get_or known n true
 abbrev pub IsOrdered : List (List ℕ) → List Bool → List ℕ → List ℕ → Type 0
 IsOrdered needs known done [] = Unit {0}
 IsOrdered needs known done (n ∷ ids) =
-    Each (λ m. IsTrue (is_known known m) ⊎ IsIn m done) (needs_of needs n) × IsOrdered needs known (n ∷ done) ids
+    Each (λ m. (is_known known m ≡ true) ⊎ IsIn m done) (needs_of needs n) × IsOrdered needs known (n ∷ done) ids
 
 -- each row that isn't known stands in ids, once, after all that it needs
 pub record IsOrder (needs : List (List ℕ)) (known : List Bool) (ids : List ℕ) : Type 0 where

@@ -1,0 +1,27 @@
+-- What holds of each element of a list.
+use Rattle.std.proofs.Common.{ℕ, List, [], ◌∷◌, ◌++◌, map, sym, subst}
+use Rattle.std.proofs.Common.{inl, inr}
+use Rattle.hcl_types.specs.Lists.{Each, IsIn}
+use Rattle.hcl_types.specs.Terms.{joined}
+
+pub each_left : {A : Type 0} (P : A → Type 0) (xs ys : List A) → Each P (xs ++ ys) → Each P xs
+each_left P [] ys h = tt
+each_left P (x ∷ xs) ys h = (h.0, each_left P xs ys h.1)
+
+pub each_right : {A : Type 0} (P : A → Type 0) (xs ys : List A) → Each P (xs ++ ys) → Each P ys
+each_right P [] ys h = h
+each_right P (x ∷ xs) ys h = each_right P xs ys h.1
+
+pub each_more : {A : Type 0} {P Q : A → Type 0} → ((x : A) → P x → Q x) → (xs : List A) → Each P xs → Each Q xs
+each_more f [] h = tt
+each_more f (x ∷ xs) h = (f x h.0, each_more f xs h.1)
+
+-- what holds of each element of the lists joined holds of each element of each list
+pub each_joined : {A : Type 0} (P : ℕ → Type 0) (f : A → List ℕ) (xs : List A) → Each P (joined (map f xs)) → Each (λ x. Each P (f x)) xs
+each_joined P f [] h = tt
+each_joined P f (x ∷ xs) h = (each_left P (f x) (joined (map f xs)) h, each_joined P f xs (each_right P (f x) (joined (map f xs)) h))
+
+pub each_in : {A : Type 0} (P : A → Type 0) (xs : List A) (x : A) → Each P xs → IsIn x xs → P x
+each_in P [] x h i = absurd i
+each_in P (y ∷ ys) x h (inl e) = subst P (sym e) h.0
+each_in P (y ∷ ys) x h (inr i) = each_in P ys x h.1 i
