@@ -25,6 +25,17 @@ impl Model for Text {
 }
 
 impl Text {
+    ghost use Rattle.std.specs.Prelude.{[]};
+
+    /// No bytes, which takes no memory.
+    pub fn empty(alloc: Global) -> Text
+        ensures { result ≡ [] }
+    {
+        Text {
+            inner: Vec::new(alloc),
+        }
+    }
+
     /// A copy of some bytes.
     pub fn of(alloc: Global, bytes: &[u8]) -> Result<Text, Memory>
         ensures { IfOk result (λ text. text ≡ bytes.now) }
