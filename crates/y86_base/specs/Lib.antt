@@ -2,6 +2,9 @@ pub mod Stat
 pub mod Image
 pub mod Registers
 pub mod Text
+pub mod Number
+pub mod Keyword
+pub mod Words
 pub mod Numeral
 pub mod Cursor
 pub mod Lending

@@ -8,6 +8,16 @@ abbrev pub stat_of : ℕ → Stat
 stat_of n =
     if n == 0 then Bub else (if n == 1 then Aok else (if n == 2 then Hlt else (if n == 3 then Adr else (if n == 4 then Ins else Bad))))
 
+-- the number of a status: what `stat_of` reads back, and 5 and 6 for the two that no number gives
+abbrev pub stat_number : Stat → ℕ
+stat_number Bub = 0
+stat_number Aok = 1
+stat_number Hlt = 2
+stat_number Adr = 3
+stat_number Ins = 4
+stat_number Pip = 5
+stat_number Bad = 6
+
 -- the name of a status in texts
 abbrev pub stat_name : Stat → List ℕ
 stat_name Bub = codes "BUB"

@@ -1,6 +1,6 @@
 -- The words that all texts share: blanks, digits, numbers and lines.
-use Rattle.std.specs.Prelude.{◌≡◌, ℕ, ◌-◌, ◌^◌, Bool, false, ◌&&◌, ◌||◌, nat_le, nat_lt, ◌==◌, if◌then◌else◌, All, List, [], ◌∷◌, ◌++◌, drop, Option, Some, None}
-use Rattle.std.specs.List.{onto_first, prefix_len}
+use Rattle.std.specs.Prelude.{◌≡◌, ℕ, ◌-◌, ◌^◌, Bool, true, false, ◌&&◌, ◌||◌, nat_le, nat_lt, ◌==◌, if◌then◌else◌, All, List, [], ◌∷◌, ◌++◌, drop, Option, Some, None}
+use Rattle.std.specs.List.{list_all, onto_first, prefix_len}
 
 -- a space, a tab or a carriage return
 abbrev pub is_blank : ℕ → Bool
@@ -29,9 +29,33 @@ abbrev pub hex_value : ℕ → ℕ
 hex_value byte =
     if is_decimal byte then byte - 48 else (if is_lower_hex byte then byte - 87 else (if is_upper_hex byte then byte - 55 else 0))
 
+-- a letter of ASCII
+abbrev pub is_letter : ℕ → Bool
+is_letter byte = (nat_le 97 byte && nat_le byte 122) || (nat_le 65 byte && nat_le byte 90)
+
+-- a byte of a name: a letter, a digit or `_`
+abbrev pub is_name_byte : ℕ → Bool
+is_name_byte byte = is_letter byte || byte == 95 || is_decimal byte
+
+-- a first byte stands there and passes the test
+abbrev pub begins : (ℕ → Bool) → List ℕ → Bool
+begins passes [] = false
+begins passes (byte ∷ bytes) = passes byte
+
+-- what stands behind a byte, where the text begins with it
+abbrev pub after_byte : ℕ → List ℕ → Option (List ℕ)
+after_byte byte [] = None
+after_byte byte (first ∷ rest) = if first == byte then Some rest else None
+
 -- what stands behind the bytes at the front that pass a test
 abbrev pub behind : (ℕ → Bool) → List ℕ → List ℕ
 behind passes text = drop (prefix_len passes text) text
+
+-- a text begins with bytes that pass a test, as many as there are, and the rest stands behind them (`law_of_runs`)
+pub record IsRun (passes : ℕ → Bool) (text front rest : List ℕ) : Type 0 where
+  pub whole : text ≡ front ++ rest
+  pub each : list_all passes front ≡ true
+  pub longest : begins passes rest ≡ false
 
 -- a number as a word, where it is below 2^64
 abbrev pub below_word : ℕ → Option ℕ

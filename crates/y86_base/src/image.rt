@@ -1,5 +1,6 @@
-ghost use Rattle.std.specs.Prelude.{◌≡◌, ◌+◌, ◌≤◌, IfOk, IsErrOf, OnOk, length, nat_le, nat_lt, replicate, slice_get, slice_set};
+ghost use Rattle.std.specs.Prelude.{◌≡◌, ◌+◌, ◌≤◌, IfOk, IsErrOf, IsTrue, OnOk, ◌↔◌, length, nat_le, nat_lt, replicate, slice_get, slice_set};
 ghost use Rattle.y86_base.specs.Image.{AreBytes, IsSize, put_word, word_at};
+ghost use Rattle.y86_base.specs.Image as spec;
 
 use crate::parts::Memory;
 use std::alloc::Global;
@@ -29,6 +30,15 @@ pub enum ImageFault {
     Memory,
 }
 
+/// Whether an image takes a size in bytes: a multiple of 8 from 64 to 1,048,576.
+#[tactic(auto, unfolding(crate::specs::Image::is_image_size))]
+pub fn is_image_size(size: u64) -> bool
+    ensures test { result ≡ spec.is_image_size size }
+    ensures legal { IsTrue result ↔ IsSize size }
+{
+    Image::LEAST <= size && size <= Image::MOST && size % 8 == 0
+}
+
 impl Image {
     /// The smallest and the largest size, in bytes.
     pub const LEAST: u64 = 64;
@@ -42,7 +52,7 @@ impl Image {
         ensures size_only_where_bad { IsErrOf result ImageFault.Size → IsSize size → ⊥ }
         ensures memory_only_where_good { IsErrOf result ImageFault.Memory → IsSize size }
     {
-        if size < Image::LEAST || size > Image::MOST || size % 8 != 0 {
+        if !is_image_size(size) {
             return Err(ImageFault::Size);
         }
         match vec![in alloc; 0; size as usize] {
@@ -76,6 +86,7 @@ impl Image {
     }
 
     /// The word whose first byte is at `address`, little-endian.
+    #[tactic(auto, unfolding(crate::specs::Image::word_at))]
     pub fn word(&self, address: u64) -> Option<u64>
         ensures { result ≡ word_at self.now address }
     {
@@ -90,6 +101,7 @@ impl Image {
     }
 
     /// Writes a word, little-endian, and says whether all its bytes are inside.
+    #[tactic(auto, unfolding(crate::specs::Image::put_word))]
     pub fn put(&mut self, address: u64, word: u64) -> bool
         ensures inside { result ≡ nat_le (address + 8) (length self.old) }
         ensures written { self.new ≡ put_word self.old address word }

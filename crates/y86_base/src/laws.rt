@@ -1,10 +1,16 @@
-//! Theorems about the definitions of texts. Each is a function that does nothing and whose contract is the theorem.
-ghost use Rattle.std.specs.Prelude.{◌≡◌, ◌≢◌, ◌⊎◌, ℕ, ◌+◌, ◌^◌, ◌<◌, ◌≤◌, ◌↔◌, ◌||◌, true, max, All, List, [], ◌∷◌, ◌++◌, length, slice_get, Some};
+//! Theorems about the definitions of texts, memories and words. Each is a function that does nothing and whose contract is the theorem.
+ghost use Rattle.std.specs.Prelude.{◌≡◌, ◌≢◌, ◌⊎◌, ℕ, ◌+◌, ◌^◌, ◌<◌, ◌≤◌, ◌↔◌, ◌||◌, true, max, All, List, [], ◌∷◌, ◌++◌, length, slice_get, take_while, Bool, None, Some};
 ghost use Rattle.std.specs.Char.{digit_value};
 ghost use Rattle.std.specs.Str.Parse.{IsNumeral, digits_value};
 ghost use Rattle.y86_base.specs.Cursor.{column_behind, line_behind};
+ghost use Rattle.y86_base.specs.Image.{put_word, word_at};
+ghost use Rattle.y86_base.specs.Keyword.{meaning_of};
+ghost use Rattle.y86_base.specs.Number.{IsDecimal, decimal_at};
 ghost use Rattle.y86_base.specs.Numeral.{numeral};
-ghost use Rattle.y86_base.specs.Text.{HasNoLineFeed, hex_value, is_decimal, is_hex, is_lower_hex, lines, with_line_feeds};
+ghost use Rattle.y86_base.specs.Registers.{register, register_name, register_names, with_register};
+ghost use Rattle.y86_base.specs.Stat.{stat_number, stat_of};
+ghost use Rattle.y86_base.specs.declared.number.Number.{Number};
+ghost use Rattle.y86_base.specs.Text.{HasNoLineFeed, IsRun, behind, hex_value, is_decimal, is_hex, is_lower_hex, lines, with_line_feeds};
 
 /// No line has a line feed, and the lines with a line feed behind each are the text again, but perhaps for one
 /// more at its end. Some lines with a line feed behind each are the lines of their text, also with a last line
@@ -46,4 +52,45 @@ pub fn law_of_numerals()
     ensures width { (base least n : ℕ) → least ≤ length (numeral base least n) }
     ensures no_wider { (base least n : ℕ) → 2 ≤ base → base ≤ 16 → n < 2 ^ 64 →
         max least 1 < length (numeral base least n) → slice_get (numeral base least n) 0 ≢ Some 48 }
+{}
+
+/// The bytes at the front that pass a test are as many as there are: the definition splits a text just so.
+pub fn law_of_runs()
+    ensures { (passes : ℕ → Bool) (text front rest : List ℕ) →
+        ((take_while passes text ≡ front) × (behind passes text ≡ rest)) ↔ IsRun passes text front rest }
+{}
+
+/// A decimal number is read just where one stands: an optional `-` and directly behind it digits, as many as there are.
+pub fn law_of_decimals()
+    ensures { (text : List ℕ) (number : Number) (rest : List ℕ) →
+        (decimal_at text ≡ Some (number, rest)) ↔ IsDecimal text number rest }
+{}
+
+/// A word that is put is read back at its address; a word beside it, and the size, stay. Where one of its bytes is
+/// outside, nothing is read or changes.
+pub fn law_of_words()
+    ensures written { (memory : List ℕ) (address word : ℕ) → address + 8 ≤ length memory → word < 2 ^ 64 →
+        word_at (put_word memory address word) address ≡ Some word }
+    ensures beside { (memory : List ℕ) (address other word : ℕ) → (other + 8 ≤ address) ⊎ (address + 8 ≤ other) →
+        word_at (put_word memory address word) other ≡ word_at memory other }
+    ensures size { (memory : List ℕ) (address word : ℕ) → length (put_word memory address word) ≡ length memory }
+    ensures outside { (memory : List ℕ) (address word : ℕ) → length memory < address + 8 →
+        (word_at memory address ≡ None) × (put_word memory address word ≡ memory) }
+{}
+
+/// A register that was written reads the word, and every other reads what it did. A number over 14 reads 0 and
+/// writes nothing. Each register has a name of its own.
+pub fn law_of_registers()
+    ensures written { (registers : List ℕ) (number word : ℕ) → length registers ≡ 15 → number < 15 →
+        register (with_register registers number word) number ≡ word }
+    ensures others { (registers : List ℕ) (number other word : ℕ) → other ≢ number →
+        register (with_register registers number word) other ≡ register registers other }
+    ensures none { (registers : List ℕ) (number word : ℕ) → 15 ≤ number →
+        (register registers number ≡ 0) × (with_register registers number word ≡ registers) }
+    ensures names { (number : ℕ) → number < 15 → meaning_of register_names (register_name number) ≡ Some number }
+{}
+
+/// A number below 5 is that of its status.
+pub fn law_of_statuses()
+    ensures { (n : ℕ) → n < 5 → stat_number (stat_of n) ≡ n }
 {}

@@ -1,5 +1,5 @@
 ghost use Rattle.std.specs.Prelude.{◌≡◌};
-ghost use Rattle.y86_base.specs.Stat.{stat_name, stat_of};
+ghost use Rattle.y86_base.specs.Stat.{stat_name, stat_number, stat_of};
 
 /// Want of memory: an allocation was refused.
 #[derive(Clone, Copy, Debug, PartialEq, Eq)]
@@ -50,6 +50,22 @@ impl Stat {
             _ => Stat::Bad,
         }
     }
+
+    /// The number of a status, which `of` reads back: 0 to 4; 5 for `Pip` and 6 for `Bad`, which no number gives.
+    pub fn number(self) -> u64
+        ensures { result ≡ stat_number self }
+    {
+        match self {
+            Stat::Bub => 0,
+            Stat::Aok => 1,
+            Stat::Hlt => 2,
+            Stat::Adr => 3,
+            Stat::Ins => 4,
+            Stat::Pip => 5,
+            Stat::Bad => 6,
+        }
+    }
+
     /// The name of a status in texts.
     pub fn name(self) -> &'static [u8]
         ensures { result.now ≡ stat_name self }

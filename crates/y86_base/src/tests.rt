@@ -1,5 +1,6 @@
 use crate::{
-    Cursor, Image, ImageFault, Items, Numeral, after_blanks, first_line, number_in_base, split_hex,
+    Boxed, Cursor, Image, ImageFault, Items, Numeral, Regs, Stat, after_blanks, decimal_at,
+    first_line, is_less, keyword_at, meaning_of, number_in_base, register_names, split_hex,
 };
 use std::test::Fail;
 
@@ -161,5 +162,51 @@ fn fronts_and_numbers(rt: HostRuntime) -> Result<(), Fail> {
             "{rest}"
         );
     }
+
+    // A text, whether a `-` stands in front, the word of its number from -32768 to 65535, and what stands behind it.
+    static DECIMALS: [(&str, bool, Option<u64>, &str); 8] = [
+        ("-32768,", true, Some(u64::MAX - 32767), ","),
+        ("-32769", true, None, ""),
+        ("65535x", false, Some(65535), "x"),
+        ("65536", false, None, ""),
+        ("-0-1", true, Some(0), "-1"),
+        ("007 8", false, Some(7), " 8"),
+        ("18446744073709551616", false, None, ""),
+        ("-99999999999999999999 ", true, None, " "),
+    ];
+    for (text, negative, word, rest) in &DECIMALS {
+        let (number, behind) = decimal_at(text.as_bytes()).ok_or("no number")?;
+        assert!(rt; number.negative == *negative, "{text}");
+        assert!(rt; number.word_within(32768, 65535) == *word, "{text}");
+        assert!(rt; behind == rest.as_bytes(), "{text}");
+    }
+    assert!(rt;
+        decimal_at(b"- 1").is_none() && decimal_at(b"--1").is_none() && decimal_at(b"").is_none()
+    );
+    Ok(())
+}
+
+#[test]
+fn names_and_boxes(rt: HostRuntime) -> Result<(), Fail> {
+    assert_eq!(rt;
+        keyword_at(register_names(), b"%r10,8"),
+        Some((10, b",8".as_slice()))
+    );
+    assert_eq!(rt; keyword_at(register_names(), b"%r1,8"), None);
+    assert_eq!(rt; meaning_of(register_names(), b"%r10"), Some(10));
+    assert_eq!(rt; meaning_of(register_names(), b"%r10 "), None);
+    assert_eq!(rt;
+        (Regs::name(4), Regs::name(15)),
+        (b"%rsp".as_slice(), b"".as_slice())
+    );
+    assert_eq!(rt; (Stat::Ins.number(), Stat::Pip.number()), (4, 5));
+    assert!(rt;
+        is_less(u64::MAX, 0) && is_less(1 << 63, u64::MAX) && !is_less(0, 1 << 63) && !is_less(7, 7)
+    );
+
+    let boxed = Boxed::of(rt.alloc(), 7_u64)?;
+    let same = Boxed::of(rt.alloc(), 7_u64)?;
+    assert!(rt; boxed == same && *boxed.get() == 7);
+    assert_eq!(rt; same.into_inner(), 7);
     Ok(())
 }

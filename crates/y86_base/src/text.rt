@@ -1,6 +1,7 @@
 ghost use Rattle.std.specs.Prelude.{◌≡◌, ◌<◌, ◌≤◌, ◌+◌, ◌*◌, ℕ, ◌∷◌, [], length, take_while, true, MatchOption, IfSome};
 ghost use Rattle.std.specs.Char.{digit_value};
 ghost use Rattle.std.specs.List.{position_or_len, prefix_len};
+ghost use Rattle.std.specs.Option.{option_copied};
 ghost use Rattle.std.specs.Str.Parse.{digits_value};
 ghost use Rattle.y86_base.specs.Text as text;
 
@@ -25,6 +26,28 @@ pub fn is_hex(byte: u8) -> bool
     (b'0' <= byte && byte <= b'9')
         || (b'a' <= byte && byte <= b'f')
         || (b'A' <= byte && byte <= b'F')
+}
+
+/// A letter of ASCII.
+pub fn is_letter(byte: u8) -> bool
+    ensures { result ≡ text.is_letter byte }
+{
+    (b'a' <= byte && byte <= b'z') || (b'A' <= byte && byte <= b'Z')
+}
+
+/// A byte of a name: a letter, a digit or `_`.
+pub fn is_name_byte(byte: u8) -> bool
+    ensures { result ≡ text.is_name_byte byte }
+{
+    is_letter(byte) || byte == b'_' || is_decimal(byte)
+}
+
+/// What stands behind a byte, where the text begins with it.
+pub fn after_byte(bytes: &[u8], byte: u8) -> Option<&[u8]>
+    ensures { option_copied result ≡ text.after_byte byte bytes.now }
+{
+    let (first, rest) = bytes.split_first()?;
+    if *first == byte { Some(rest) } else { None }
 }
 
 /// The value of a hex digit of either case, and 0 for any other byte.
@@ -103,6 +126,38 @@ pub fn split_hex(bytes: &[u8]) -> (&[u8], &[u8])
     ensures rest { result.1.now ≡ text.behind text.is_hex bytes.now }
 {
     bytes.split_at(hex_count(bytes))
+}
+
+/// How many decimal digits stand at the front.
+fn decimal_count(bytes: &[u8]) -> usize
+    ensures count { result ≡ prefix_len text.is_decimal bytes.now }
+    ensures within { result ≤ length bytes.now }
+{
+    bytes.iter().take_while(|byte| is_decimal(**byte)).count()
+}
+
+/// The decimal digits at the front, and what stands behind them.
+pub fn split_decimal(bytes: &[u8]) -> (&[u8], &[u8])
+    ensures front { result.0.now ≡ take_while text.is_decimal bytes.now }
+    ensures rest { result.1.now ≡ text.behind text.is_decimal bytes.now }
+{
+    bytes.split_at(decimal_count(bytes))
+}
+
+/// How many bytes of a name stand at the front.
+fn name_count(bytes: &[u8]) -> usize
+    ensures count { result ≡ prefix_len text.is_name_byte bytes.now }
+    ensures within { result ≤ length bytes.now }
+{
+    bytes.iter().take_while(|byte| is_name_byte(**byte)).count()
+}
+
+/// The bytes of a name at the front, and what stands behind them.
+pub fn split_name(bytes: &[u8]) -> (&[u8], &[u8])
+    ensures front { result.0.now ≡ take_while text.is_name_byte bytes.now }
+    ensures rest { result.1.now ≡ text.behind text.is_name_byte bytes.now }
+{
+    bytes.split_at(name_count(bytes))
 }
 
 /// How many bytes the first line has, its line feed apart.

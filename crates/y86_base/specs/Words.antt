@@ -1,0 +1,6 @@
+-- Words of 64 bits as signed numbers, in two's complement (CS:APP 3e, section 2.2.3).
+use Rattle.std.specs.Prelude.{ℕ, ◌+◌, ◌^◌, ◌%◌, Bool, nat_lt}
+
+-- a word is less than another as signed numbers; the function of this name says so over the integers
+unfoldable pub is_less : ℕ → ℕ → Bool
+is_less a b = nat_lt ((a + 2 ^ 63) % 2 ^ 64) ((b + 2 ^ 63) % 2 ^ 64)
