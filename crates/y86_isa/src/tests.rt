@@ -368,11 +368,11 @@ fn machine(alloc: Global, pc: u64, code: &[u8]) -> Result<Machine, Fail> {
 }
 
 /// Takes a step, and compares its record and the machine after it.
-fn check_step(rt: &impl Abort, m: &mut Machine, wanted: &Rec, next: u64) {
+fn check_step(rt: &impl Abort, v: Variant, m: &mut Machine, wanted: &Rec, next: u64) {
     let mut left = m.regs;
     left.set(wanted.dst_e, wanted.val_e);
     left.set(wanted.dst_m, wanted.val_m);
-    let record = step(Variant::Base, m);
+    let record = step(v, m);
     assert_eq!(rt; record, Some(*wanted));
     assert_eq!(rt; m.regs, left, "after {wanted:?}");
     assert_eq!(rt;
@@ -407,7 +407,7 @@ fn check_move(rt: &impl Abort, m: &mut Machine, case: &Done) {
         flags: case.flags,
         stat: Stat::Aok,
     };
-    check_step(rt, m, &wanted, case.next);
+    check_step(rt, Variant::Base, m, &wanted, case.next);
 }
 
 #[test]
@@ -425,7 +425,7 @@ fn steps(rt: HostRuntime) -> Result<(), Fail> {
             stat: *stat,
             ..NOTHING
         };
-        check_step(&rt, &mut m, &wanted, *pc);
+        check_step(&rt, Variant::Base, &mut m, &wanted, *pc);
         assert_eq!(rt; step(Variant::Base, &mut m), None);
     }
     for case in &MOVES {
@@ -458,14 +458,20 @@ fn check_condition(
         flags: moved.flags,
         ..NOTHING
     };
-    check_step(rt, moved, &cmov, 2);
+    check_step(rt, Variant::Base, moved, &cmov, 2);
     let jump = Rec {
         icode: 7,
         ifun,
         flags: jumped.flags,
         ..NOTHING
     };
-    check_step(rt, jumped, &jump, if held { 0x12 } else { 9 });
+    check_step(
+        rt,
+        Variant::Base,
+        jumped,
+        &jump,
+        if held { 0x12 } else { 9 },
+    );
 }
 
 #[test]
@@ -482,7 +488,7 @@ fn operations_and_conditions(rt: HostRuntime) -> Result<(), Fail> {
             flags: *flags,
             ..NOTHING
         };
-        check_step(&rt, &mut m, &wanted, 2);
+        check_step(&rt, Variant::Base, &mut m, &wanted, 2);
     }
     for (flags, holds) in &CONDITIONS {
         let mut ifun = 0u8;
@@ -496,9 +502,58 @@ fn operations_and_conditions(rt: HostRuntime) -> Result<(), Fail> {
     Ok(())
 }
 
+/// An `iaddq V, %rdx`: its first two bytes, the byte of which V has eight, the word before and after, and the flags.
+static ADDED: [(u8, u8, u8, u64, u64, Flags); 5] = [
+    (0xc0, 0xf2, 0x00, 5, 5, NONE),
+    (0xc0, 0xf2, 0xff, 1, 0, Z),
+    (0xc0, 0xf2, 0xff, LOW, HIGH, O),
+    (0xc0, 0xf2, 0xff, 0, MAX, S),
+    // an ifun and an rA that it ignores
+    (0xc7, 0x12, 0x01, 1, 0x0101_0101_0101_0102, NONE),
+];
+
+/// What isn't an instruction of the larger set: the PC, the bytes there, the status and the icode of the record.
+static REFUSED_IN_FULL: [(u64, &[u8], Stat, u64); 4] = [
+    (63, &[0xc0], Stat::Adr, 1),
+    (55, &[0xc0, 0xf2], Stat::Adr, 1),
+    (54, &[0xc0, 0x2f], Stat::Ins, 15),
+    (0, &[0xd0], Stat::Ins, 15),
+];
+
+#[test]
+fn the_larger_set(rt: HostRuntime) -> Result<(), Fail> {
+    for (first, fields, byte, before, left, flags) in &ADDED {
+        let b = *byte;
+        let mut m = machine(rt.alloc(), 0, &[*first, *fields, b, b, b, b, b, b, b, b])?;
+        m.regs.set(2, *before);
+        m.flags = SO;
+        let wanted = Rec {
+            icode: 12,
+            ifun: u64::from(*first % 16),
+            dst_e: 2,
+            val_e: *left,
+            flags: *flags,
+            ..NOTHING
+        };
+        check_step(&rt, Variant::Full, &mut m, &wanted, 10);
+    }
+    for (pc, code, stat, icode) in &REFUSED_IN_FULL {
+        let mut m = machine(rt.alloc(), *pc, code)?;
+        let wanted = Rec {
+            pc: *pc,
+            icode: *icode,
+            flags: Z,
+            stat: *stat,
+            ..NOTHING
+        };
+        check_step(&rt, Variant::Full, &mut m, &wanted, *pc);
+    }
+    Ok(())
+}
+
 /// For each icode its largest ifun in a valid instruction, the register fields and the constant of an example, and
 /// the bytes of the example with ifun 0: the first, and those behind it.
-static ENCODINGS: [(u8, u8, u8, u8, u64, u8, &[u8]); 12] = [
+static ENCODINGS: [(u8, u8, u8, u8, u64, u8, &[u8]); 13] = [
     (0, 0, 15, 15, 0, 0x00, &[]),
     (1, 0, 15, 15, 0, 0x10, &[]),
     (2, 6, 1, 14, 0, 0x20, &[0x1e]),
@@ -519,6 +574,7 @@ static ENCODINGS: [(u8, u8, u8, u8, u64, u8, &[u8]); 12] = [
     (9, 0, 15, 15, 0, 0x90, &[]),
     (10, 0, 4, 15, 0, 0xa0, &[0x4f]),
     (11, 0, 0, 15, 0, 0xb0, &[0x0f]),
+    (12, 0, 15, 3, 7, 0xc0, &[0xf3, 7, 0, 0, 0, 0, 0, 0, 0]),
 ];
 
 fn same_bytes(a: &[u8], b: &[u8]) -> bool {
@@ -533,7 +589,8 @@ fn check_encoding(
     first: u8,
     rest: &[u8],
 ) -> Result<(), Fail> {
-    assert!(rt; valid(Variant::Base, i));
+    assert!(rt; valid(Variant::Full, i));
+    assert_eq!(rt; valid(Variant::Base, i), i.icode < 12);
     let code = encode(i);
     let bytes = code.as_slice();
     let (head, tail) = bytes.split_first().ok_or("no byte")?;
@@ -550,7 +607,7 @@ fn check_encoding(
         val_c: i.val_c,
         val_p: 64,
     };
-    assert_eq!(rt; split(Variant::Base, &mem, pc), wanted);
+    assert_eq!(rt; split(Variant::Full, &mem, pc), wanted);
     Ok(())
 }
 
@@ -558,11 +615,11 @@ fn check_encoding(
 /// constant where the instruction has none.
 fn check_invalid(rt: &impl Abort, i: &Instr, has_const: bool) {
     let r_a = if i.r_a == 15 { 0 } else { 15 };
-    assert!(rt; !valid(Variant::Base, &Instr { r_a, ..*i }), "{i:?}");
+    assert!(rt; !valid(Variant::Full, &Instr { r_a, ..*i }), "{i:?}");
     let r_b = if i.r_b == 15 { 0 } else { 15 };
-    assert!(rt; !valid(Variant::Base, &Instr { r_b, ..*i }), "{i:?}");
+    assert!(rt; !valid(Variant::Full, &Instr { r_b, ..*i }), "{i:?}");
     assert_eq!(rt;
-        valid(Variant::Base, &Instr { val_c: 1, ..*i }),
+        valid(Variant::Full, &Instr { val_c: 1, ..*i }),
         has_const,
         "{i:?}"
     );
@@ -583,11 +640,11 @@ fn encodings(rt: HostRuntime) -> Result<(), Fail> {
                 check_encoding(&rt, rt.alloc(), &i, *first | ifun, rest)?;
                 check_invalid(&rt, &i, rest.len() > 1);
             } else {
-                assert!(rt; !valid(Variant::Base, &i), "{i:?}");
+                assert!(rt; !valid(Variant::Full, &i), "{i:?}");
             }
         }
     }
-    for icode in 12..=255u8 {
+    for icode in 13..=255u8 {
         let i = Instr {
             icode,
             ifun: 0,
@@ -595,7 +652,7 @@ fn encodings(rt: HostRuntime) -> Result<(), Fail> {
             r_b: 15,
             val_c: 0,
         };
-        assert!(rt; !valid(Variant::Base, &i), "icode {icode}");
+        assert!(rt; !valid(Variant::Full, &i), "icode {icode}");
     }
     Ok(())
 }
