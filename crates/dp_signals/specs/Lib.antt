@@ -6,3 +6,6 @@ pub mod PipeState
 pub mod PipeCycle
 pub mod PipeEquations
 pub mod PipeRun
+pub mod SeqEquations
+pub mod SeqCycle
+pub mod SeqRun

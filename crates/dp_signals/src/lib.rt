@@ -8,6 +8,8 @@ mod pipe_cycle;
 mod pipe_row;
 mod pipe_state;
 mod pipe_values;
+mod seq_cycle;
+mod seq_row;
 mod solve;
 
 pub use blocks::{
@@ -17,4 +19,5 @@ pub use blocks::{
 pub use movers::{Ending, Mover, Movers};
 pub use pipe_cycle::{advance, ending, retires};
 pub use pipe_state::{PipeState, StageD, StageE, StageM, StageW, Trail};
+pub use seq_cycle::{SEQ_ROWS, SeqState, SeqValues, seq_advance, seq_record};
 pub use solve::Hardware;
