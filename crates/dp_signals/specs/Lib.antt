@@ -1,5 +1,9 @@
 pub mod PipeNames
 pub mod SeqNames
+pub mod Tables
+pub mod Lines
+pub mod PipeTable
+pub mod SeqTable
 pub mod Values
 pub mod Equations
 pub mod PipeState

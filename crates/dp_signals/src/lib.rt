@@ -6,11 +6,14 @@ mod blocks;
 mod movers;
 mod pipe_cycle;
 mod pipe_row;
+mod pipe_signals;
 mod pipe_state;
 mod pipe_values;
 mod seq_cycle;
 mod seq_row;
+mod seq_signals;
 mod solve;
+mod tables;
 
 pub use blocks::{
     cnd, dmem_error, fetch_ra, fetch_rb, imem_error, imem_icode, imem_ifun, reg_val, val_c, val_e,
@@ -18,6 +21,8 @@ pub use blocks::{
 };
 pub use movers::{Ending, Mover, Movers};
 pub use pipe_cycle::{advance, ending, retires};
+pub use pipe_signals::pipe_table;
 pub use pipe_state::{PipeState, StageD, StageE, StageM, StageW, Trail};
 pub use seq_cycle::{SEQ_ROWS, SeqState, SeqValues, seq_advance, seq_record};
+pub use seq_signals::seq_table;
 pub use solve::Hardware;
