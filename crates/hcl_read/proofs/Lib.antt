@@ -1,0 +1,4 @@
+pub mod Opened
+pub mod Complete
+pub mod Means
+pub mod Sound

@@ -78,7 +78,7 @@ mutual
     a_number : {depth n : ℕ} {rest : List Token} → IsPrim free depth (Number n ∷ rest) (expr.Num n) rest
     a_wide_number : {depth : ℕ} {rest : List Token} → length (Wide ∷ rest) ≤ free → IsPrim free depth (Wide ∷ rest) (expr.Num 0) rest
     a_name : {depth : ℕ} {text : List ℕ} {rest : List Token} → IsPrim free depth (Ident text ∷ rest) (expr.Name text) rest
-    a_group : {depth : ℕ} {ts rest : List Token} {e : Expr} → Room free (suc depth) (OpenParen ∷ ts) → IsExpr free (suc depth) ts e (CloseParen ∷ rest) → IsPrim free depth (OpenParen ∷ ts) e rest
+    group : {depth : ℕ} {ts rest : List Token} {e : Expr} → Room free (suc depth) (OpenParen ∷ ts) → IsExpr free (suc depth) ts e (CloseParen ∷ rest) → IsPrim free depth (OpenParen ∷ ts) e rest
     case_list : {depth : ℕ} {ts mid rest : List Token} {b : Branch} {bs : List Branch} → Room free (suc depth) (OpenBracket ∷ ts) → IsCase free (suc depth) ts b mid → CaseTail free (suc depth) mid bs (CloseBracket ∷ rest) → IsPrim free depth (OpenBracket ∷ ts) (expr.Case (b ∷ bs)) rest
 
   -- case = expr ":" expr ";"

@@ -40,7 +40,7 @@ once_more_negated l = level (suc l.nots) l.ands l.ors
 -- some `!` in front of an expression
 unfoldable pub negate : ℕ → Expr → Expr
 negate zero e = e
-negate (suc n) e = expr.Not (negate n e)
+negate (suc n) e = negate n (expr.Not e)
 
 -- a comparison, or an operand that stands for one, has been read
 unfoldable pub related : Level → Expr → Spot

@@ -1,0 +1,110 @@
+-- What a state still asks for, in the words of the grammar: the texts that lead from it to the items of a file.
+use Rattle.std.proofs.Common.{◌≡◌, ◌≤◌, ◌<◌, ◌+◌, ap, sym, subst, ◌∙◌, ℕ, zero, suc, Bool, true, false, cond, List, [], ◌∷◌, ◌++◌, length, Result, Ok, Err, refl, inl, inr, arith, zero-add, append_assoc, append-nil}
+use Rattle.std.specs.Prelude.{◌⊎◌, nat_lt, nat_le, ◌&&◌}
+use Rattle.std.proofs.lemmas.Bool.Decides.{nat_tests}
+use Rattle.hcl_read.specs.declared.tree.Kind.{Kind}
+use Rattle.hcl_read.specs.declared.tree.CmpOp.{CmpOp}
+use Rattle.hcl_read.specs.declared.tree.Branch.{Branch}
+use Rattle.hcl_read.specs.declared.tree.Expr.{Expr}
+use Rattle.hcl_read.specs.declared.tree.Expr.TheVariants as expr
+use Rattle.hcl_read.specs.declared.tree.Item.{Item}
+use Rattle.hcl_read.specs.declared.tree.Item.TheVariants as item
+use Rattle.hcl_read.specs.declared.tree.File.{File}
+use Rattle.hcl_read.specs.declared.fault.HclWhy.{HclWhy}
+use Rattle.hcl_read.specs.declared.fault.HclWhy.TheVariants as whys
+use Rattle.hcl_read.specs.declared.tokens.Token.{Token}
+use Rattle.hcl_read.specs.declared.tokens.Token.TheVariants.{KeyQuote, KeySig, KeyDef, KeyIn, Ident, Number, Wide, Quoted, Assign, Semicolon, OrOr, AndAnd, Bang, Compare, OpenParen, CloseParen, OpenBrace, CloseBrace, OpenBracket, CloseBracket, Comma, Colon, Bad, Odd}
+use Rattle.hcl_read.specs.declared.frames.Level.{Level}
+use Rattle.hcl_read.specs.declared.frames.Side.{Side}
+use Rattle.hcl_read.specs.declared.frames.Side.TheVariants.{Left, Right}
+use Rattle.hcl_read.specs.declared.frames.Frame.{Frame}
+use Rattle.hcl_read.specs.declared.frames.Frame.TheVariants.{Paren, Set, Guard, Value}
+use Rattle.hcl_read.specs.declared.frames.Spot.{Spot}
+use Rattle.hcl_read.specs.declared.frames.Spot.TheVariants.{Want, WantRight, AfterPrim, After, WantSet, Cases}
+use Rattle.hcl_read.specs.declared.state.Move.{Move}
+use Rattle.hcl_read.specs.declared.state.Move.TheVariants.{On, Ended}
+use Rattle.hcl_read.specs.declared.state.Place.{Place}
+use Rattle.hcl_read.specs.declared.state.Place.TheVariants.{Between, WantQuote, WantSignal, WantSignalText, WantName, WantAssign, Body}
+use Rattle.hcl_read.specs.declared.state.State.{State}
+use Rattle.hcl_read.specs.Grammar.{or_of, and_of, branch, Room, IsExpr, OrTail, IsAnd, AndTail, IsNot, IsRel, SetTail, IsPrim, IsCase, CaseTail, IsItem, IsItems, IsFile, or_list, no_or, more_or, and_list, no_and, more_and, negated, plain, alone, compared, member, no_member, more_members, a_number, a_wide_number, a_name, group, case_list, guarded, no_case, more_cases, quoted, declared, defined, no_item, more_items}
+use Rattle.hcl_read.specs.Depth.{depth, depth_of, level_behind}
+use Rattle.hcl_read.specs.Machine.{level, start_level, once_more_negated, negate, related, put, refusal, opened, prim, want, close, after, after_prim, want_set, after_branch, body_step, state, start, moved, place_step, step, on, run}
+
+-- what may follow the left operand of a comparison, up to its end
+pub data RelTail (free : ℕ) (depth : ℕ) (left : Expr) : List Token → Expr → List Token → Type 0 where
+  no_operator : {ts : List Token} → RelTail free depth left ts left ts
+  operator : {op : CmpOp} {right : Expr} {ts rest : List Token} → IsPrim free depth ts right rest → RelTail free depth left (Compare op ∷ ts) (expr.Cmp op left right) rest
+  members : {e : Expr} {es : List Expr} {ts mid rest : List Token} → Room free (suc depth) (OpenBrace ∷ ts) → IsExpr free (suc depth) ts e mid → SetTail free (suc depth) mid es (CloseBrace ∷ rest)
+      → RelTail free depth left (KeyIn ∷ OpenBrace ∷ ts) (expr.In left (e ∷ es)) rest
+
+pub rel_of : {free depth : ℕ} {left e : Expr} {ts mid rest : List Token} → IsPrim free depth ts left mid → RelTail free depth left mid e rest → IsRel free depth ts e rest
+rel_of h no_operator = alone h
+rel_of h (operator r) = compared h r
+rel_of h (members room e t) = member h room e t
+
+-- what a text has to be behind an expression
+abbrev pub Behind : Type 1
+Behind = Expr → List Token → Type 0
+
+module _ (free : ℕ) where
+  -- behind an operand of `&&` on a level, where `behind` is asked behind the level
+  abbrev pub AfterIn : ℕ → Behind → List Expr → List Expr → List Token → Type 0
+  AfterIn d behind ands ors ts =
+      (es : List Expr) × (os : List Expr) × (mid : List Token) × (rest : List Token) × AndTail free d ts es mid × OrTail free d mid os rest
+      × behind (or_of (ors ++ and_of (ands ++ es) ∷ os)) rest
+
+  abbrev pub RelIn : ℕ → Behind → Level → Behind
+  RelIn d behind l e ts = AfterIn d behind (l.ands ++ negate l.nots e ∷ []) l.ors ts
+
+  -- behind an operand of a comparison
+  abbrev pub PutIn : ℕ → Behind → Side → Level → Behind
+  PutIn d behind Left l e ts = (x : Expr) × (rest : List Token) × RelTail free (l.nots + d) e ts x rest × RelIn d behind l x rest
+  PutIn d behind (Right op left) l e ts = RelIn d behind l (expr.Cmp op left e) ts
+
+  -- behind an expression in a bracket
+  abbrev pub Inside : Frame → ℕ → Behind → Behind
+  Inside (Paren side l) d behind e ts = (rest : List Token) × (ts ≡ CloseParen ∷ rest) × PutIn d behind side l e rest
+  Inside (Set left es l) d behind e ts = (more : List Expr) × (rest : List Token) × SetTail free (suc (l.nots + d)) ts more (CloseBrace ∷ rest) × RelIn d behind l (expr.In left ((es ++ e ∷ []) ++ more)) rest
+  Inside (Guard side bs l) d behind e ts =
+      (mid : List Token) × (value : Expr) × (end : List Token) × (more : List Branch) × (rest : List Token) × (ts ≡ Colon ∷ mid) × IsExpr free (suc (l.nots + d)) mid value (Semicolon ∷ end)
+      × CaseTail free (suc (l.nots + d)) end more (CloseBracket ∷ rest) × PutIn d behind side l (expr.Case ((bs ++ branch e value ∷ []) ++ more)) rest
+  Inside (Value side bs guard l) d behind e ts =
+      (end : List Token) × (more : List Branch) × (rest : List Token) × (ts ≡ Semicolon ∷ end)
+      × CaseTail free (suc (l.nots + d)) end more (CloseBracket ∷ rest) × PutIn d behind side l (expr.Case ((bs ++ branch guard e ∷ []) ++ more)) rest
+
+  -- behind an expression inside open brackets
+  unfoldable pub Closed : Behind → List Frame → Behind
+  Closed bottom [] = bottom
+  Closed bottom (f ∷ k) = Inside f (depth_of k) (Closed bottom k)
+
+  -- what a place in a body asks for
+  unfoldable pub MeansSpot : Behind → Spot → List Frame → List Token → Type 0
+  MeansSpot bottom (Want l) k ts = (e : Expr) × (rest : List Token) × IsNot free (l.nots + depth_of k) ts e rest × RelIn (depth_of k) (Closed bottom k) l e rest
+  MeansSpot bottom (WantRight op left l) k ts = (e : Expr) × (rest : List Token) × IsPrim free (l.nots + depth_of k) ts e rest × RelIn (depth_of k) (Closed bottom k) l (expr.Cmp op left e) rest
+  MeansSpot bottom (AfterPrim e l) k ts = PutIn (depth_of k) (Closed bottom k) Left l e ts
+  MeansSpot bottom (After ands ors) k ts = AfterIn (depth_of k) (Closed bottom k) ands ors ts
+  MeansSpot bottom (WantSet left l) k ts =
+      (inside : List Token) × (e : Expr) × (mid : List Token) × (es : List Expr) × (rest : List Token) × (ts ≡ OpenBrace ∷ inside) × Room free (suc (l.nots + depth_of k)) ts
+      × IsExpr free (suc (l.nots + depth_of k)) inside e mid × SetTail free (suc (l.nots + depth_of k)) mid es (CloseBrace ∷ rest) × RelIn (depth_of k) (Closed bottom k) l (expr.In left (e ∷ es)) rest
+  MeansSpot bottom (Cases side bs l) k ts =
+      (more : List Branch) × (rest : List Token) × CaseTail free (suc (l.nots + depth_of k)) ts more (CloseBracket ∷ rest) × PutIn (depth_of k) (Closed bottom k) side l (expr.Case (bs ++ more)) rest
+
+  -- the items that are read, with those of a text, are those of the file
+  abbrev pub Rest : List Item → List Item → List Token → Type 0
+  Rest file items ts = (is : List Item) × IsItems free ts is × (file ≡ items ++ is)
+
+  -- behind a definition's body
+  abbrev pub Bottom : List Item → List Item → Kind → List ℕ → Behind
+  Bottom file items kind name e ts = (rest : List Token) × (ts ≡ Semicolon ∷ rest) × Rest file (items ++ item.Def kind name e ∷ []) rest
+
+  unfoldable pub MeansPlace : List Item → List Item → Place → List Token → Type 0
+  MeansPlace file items Between ts = Rest file items ts
+  MeansPlace file items WantQuote ts = (text : List ℕ) × (rest : List Token) × (ts ≡ Quoted text ∷ rest) × Rest file (items ++ item.Quote text ∷ []) rest
+  MeansPlace file items (WantSignal kind) ts = (name : List ℕ) × (text : List ℕ) × (rest : List Token) × (ts ≡ Ident name ∷ Quoted text ∷ rest) × Rest file (items ++ item.Decl kind name text ∷ []) rest
+  MeansPlace file items (WantSignalText kind name) ts = (text : List ℕ) × (rest : List Token) × (ts ≡ Quoted text ∷ rest) × Rest file (items ++ item.Decl kind name text ∷ []) rest
+  MeansPlace file items (WantName kind) ts = (name : List ℕ) × (e : Expr) × (body : List Token) × (rest : List Token) × (ts ≡ Ident name ∷ Assign ∷ body) × IsExpr free 0 body e rest × Bottom file items kind name e rest
+  MeansPlace file items (WantAssign kind name) ts = (e : Expr) × (body : List Token) × (rest : List Token) × (ts ≡ Assign ∷ body) × IsExpr free 0 body e rest × Bottom file items kind name e rest
+  MeansPlace file items (Body kind name spot k) ts = MeansSpot (Bottom file items kind name) spot k ts
+
+  abbrev pub Means : List Item → State → List Token → Type 0
+  Means file s ts = MeansPlace file s.items s.place ts
