@@ -2,3 +2,6 @@ pub mod Opened
 pub mod Complete
 pub mod Means
 pub mod Sound
+pub mod Live
+pub mod Told
+pub mod Exact
