@@ -1,6 +1,6 @@
 -- What the grammar relates to a text, the machine reads: `IsFile free ts f` gives `run free start ts ≡ Ok (state f.items Between)`.
-use Rattle.std.proofs.Common.{◌≡◌, ◌≤◌, ◌<◌, ◌+◌, ap, sym, subst, ◌∙◌, ℕ, zero, suc, Bool, true, false, cond, List, [], ◌∷◌, ◌++◌, length, Result, Ok, Err, refl, inl, inr, arith, zero-add, append_assoc, append-nil}
-use Rattle.std.specs.Prelude.{◌⊎◌, nat_lt, nat_le, ◌&&◌}
+use Rattle.std.proofs.Common.{◌≡◌, ◌≤◌, ◌+◌, ap, sym, subst, ◌∙◌, ℕ, suc, Bool, false, cond, List, [], ◌∷◌, ◌++◌, length, Result, Ok, Err, refl, arith, zero-add, append_assoc, append-nil}
+use Rattle.std.specs.Prelude.{nat_lt}
 use Rattle.std.proofs.lemmas.Bool.Decides.{nat_tests}
 use Rattle.hcl_read.specs.declared.tree.Kind.{Kind}
 use Rattle.hcl_read.specs.declared.tree.CmpOp.{CmpOp}
@@ -13,7 +13,7 @@ use Rattle.hcl_read.specs.declared.tree.File.{File}
 use Rattle.hcl_read.specs.declared.fault.HclWhy.{HclWhy}
 use Rattle.hcl_read.specs.declared.fault.HclWhy.TheVariants.{NumberTooWide}
 use Rattle.hcl_read.specs.declared.tokens.Token.{Token}
-use Rattle.hcl_read.specs.declared.tokens.Token.TheVariants.{KeyQuote, KeySig, KeyDef, KeyIn, Ident, Number, Wide, Quoted, Assign, Semicolon, OrOr, AndAnd, Bang, Compare, OpenParen, CloseParen, OpenBrace, CloseBrace, OpenBracket, CloseBracket, Comma, Colon, Bad, Odd}
+use Rattle.hcl_read.specs.declared.tokens.Token.TheVariants.{KeyIn, Ident, Number, Wide, Semicolon, OrOr, AndAnd, Bang, Compare, OpenParen, CloseParen, OpenBrace, CloseBrace, OpenBracket, CloseBracket, Comma, Colon}
 use Rattle.hcl_read.specs.declared.frames.Level.{Level}
 use Rattle.hcl_read.specs.declared.frames.Side.{Side}
 use Rattle.hcl_read.specs.declared.frames.Side.TheVariants.{Left, Right}
@@ -21,14 +21,12 @@ use Rattle.hcl_read.specs.declared.frames.Frame.{Frame}
 use Rattle.hcl_read.specs.declared.frames.Frame.TheVariants.{Paren, Set, Guard, Value}
 use Rattle.hcl_read.specs.declared.frames.Spot.{Spot}
 use Rattle.hcl_read.specs.declared.frames.Spot.TheVariants.{Want, WantRight, AfterPrim, After, WantSet, Cases}
-use Rattle.hcl_read.specs.declared.state.Move.{Move}
-use Rattle.hcl_read.specs.declared.state.Move.TheVariants.{On, Ended}
-use Rattle.hcl_read.specs.declared.state.Place.{Place}
-use Rattle.hcl_read.specs.declared.state.Place.TheVariants.{Between, WantQuote, WantSignal, WantSignalText, WantName, WantAssign, Body}
+use Rattle.hcl_read.specs.declared.state.Move.TheVariants.{On}
+use Rattle.hcl_read.specs.declared.state.Place.TheVariants.{Between, Body}
 use Rattle.hcl_read.specs.declared.state.State.{State}
 use Rattle.hcl_read.specs.Grammar.{or_of, and_of, branch, Room, IsExpr, OrTail, IsAnd, AndTail, IsNot, IsRel, SetTail, IsPrim, IsCase, CaseTail, IsItem, IsItems, or_list, no_or, more_or, and_list, no_and, more_and, negated, plain, alone, compared, member, no_member, more_members, a_number, a_wide_number, a_name, group, case_list, guarded, no_case, more_cases, quoted, declared, defined, no_item, more_items, IsFile}
 use Rattle.hcl_read.specs.Depth.{depth, depth_of, level_behind}
-use Rattle.hcl_read.specs.Machine.{level, start_level, once_more_negated, negate, related, put, refusal, opened, prim, want, close, after, after_prim, want_set, after_branch, body_step, state, start, moved, place_step, step, on, run}
+use Rattle.hcl_read.specs.Machine.{level, start_level, once_more_negated, negate, related, put, opened, prim, want, close, after, after_prim, want_set, after_branch, body_step, state, start, moved, place_step, on, run}
 use Rattle.hcl_read.proofs.Opened.{opened_room}
 
 -- a text that goes on, and not with an operator of comparison
@@ -253,10 +251,12 @@ module _ (free : ℕ) (items : List Item) (kind : Kind) (name : List ℕ) where
     or_tail_read no_or k ands ors deep calm = (ands, ors, sym (append-nil _), refl)
     or_tail_read (more_or {ts = ts} {e = e} {es = es} h t) k ands ors deep calm =
         let first = and_read_all h k (ors ++ and_of ands ∷ []) deep (calm_or t calm) in
-        let more = or_tail_read t k first.0 (ors ++ and_of ands ∷ []) deep calm in
-        (more.0, more.1,
-         more.2 ∙ ap (λ x. ((ors ++ and_of ands ∷ []) ++ x ∷ []) ++ es) first.1 ∙ shifted (ors ++ and_of ands ∷ []) e es,
-         or_read ands ors k ts ∙ first.2 ∙ more.3)
+        let more = or_tail_read t k first.0 (ors ++ and_of ands ∷ []) deep calm in (
+          more.0,
+          more.1,
+          more.2 ∙ ap (λ x. ((ors ++ and_of ands ∷ []) ++ x ∷ []) ++ es) first.1 ∙ shifted (ors ++ and_of ands ∷ []) e es,
+          or_read ands ors k ts ∙ first.2 ∙ more.3,
+        )
 
     and_read_all : {d : ℕ} {ts rest : List Token} {e : Expr} → IsAnd free d ts e rest → (k : List Frame) (ors : List Expr) → depth_of k ≡ d → Calm rest
         → (ands : List Expr) × (and_of ands ≡ e) × (Runs (Want (level 0 [] ors)) k ts ≡ Runs (After ands ors) k rest)
@@ -271,15 +271,15 @@ module _ (free : ℕ) (items : List Item) (kind : Kind) (name : List ℕ) where
         ∙ ap (λ s. Runs s k mid) (one_operand ands ors e) ∙ and_tail_read t k (ands ++ e ∷ []) ors deep calm ∙ ap (λ es. Runs (After es ors) k rest) (shifted ands e es)
 
     not_read : {d : ℕ} {ts rest : List Token} {e : Expr} → IsNot free d ts e rest → (l : Level) (k : List Frame) → depth l k ≡ d → Calm rest → Runs (Want l) k ts ≡ Runs (related l e) k rest
-    not_read (negated {ts = ts} {rest = rest} {e = e} room h) l k deep calm = 
+    not_read (negated {ts = ts} {rest = rest} {e = e} room h) l k deep calm =
         opens (Want l) Bang ts l k (Want (once_more_negated l)) k deep room (bang_read _ l k) ∙ not_read h (once_more_negated l) k (once_deeper l k deep) calm
         ∙ ap (λ s. Runs s k rest) (negation_moves l e)
     not_read (plain h) l k deep calm = rel_read h l k deep calm
 
     rel_read : {d : ℕ} {ts rest : List Token} {e : Expr} → IsRel free d ts e rest → (l : Level) (k : List Frame) → depth l k ≡ d → Calm rest → Runs (Want l) k ts ≡ Runs (related l e) k rest
-    rel_read (alone {rest = rest} {e = e} h) l k deep calm = 
+    rel_read (alone {rest = rest} {e = e} h) l k deep calm =
         prim_read h Left l k deep ∙ ap (λ s. Runs s k rest) (put_left l e) ∙ after_alone e l k rest calm
-    rel_read (compared {mid = mid} {rest = rest} {op = op} {left = left} {right = right} h r) l k deep calm = 
+    rel_read (compared {mid = mid} {rest = rest} {op = op} {left = left} {right = right} h r) l k deep calm =
         prim_read h Left l k deep ∙ ap (λ s. Runs s k (Compare op ∷ mid)) (put_left l left) ∙ compare_read left l k op mid ∙ prim_read r (Right op left) l k deep
         ∙ ap (λ s. Runs s k rest) (put_right op left l right)
     rel_read (member {inside = inside} {rest = rest} {left = left} {e = e} {es = es} h room first t) l k deep calm =
@@ -291,7 +291,7 @@ module _ (free : ℕ) (items : List Item) (kind : Kind) (name : List ℕ) where
 
     set_tail_read : {d : ℕ} {ts rest : List Token} {es : List Expr} → SetTail free d ts es rest → (left : Expr) (l : Level) (k : List Frame) (ms ands ors : List Expr) → suc (depth l k) ≡ d → Calm rest
         → (ands' : List Expr) × (ors' : List Expr) × (ms' : List Expr) × (ms' ++ or_of (ors' ++ and_of ands' ∷ []) ∷ [] ≡ (ms ++ or_of (ors ++ and_of ands ∷ []) ∷ []) ++ es)
-          × (Runs (After ands ors) (Set left ms l ∷ k) ts ≡ Runs (After ands' ors') (Set left ms' l ∷ k) rest)
+        × (Runs (After ands ors) (Set left ms l ∷ k) ts ≡ Runs (After ands' ors') (Set left ms' l ∷ k) rest)
     set_tail_read no_member left l k ms ands ors deep calm = (ands, ors, ms, sym (append-nil _), refl)
     set_tail_read (more_members {ts = ts} {e = e} {es = es} h t) left l k ms ands ors deep calm =
         let before = ms ++ or_of (ors ++ and_of ands ∷ []) ∷ [] in

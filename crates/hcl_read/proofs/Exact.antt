@@ -1,45 +1,29 @@
 -- The machine's answer is the file that the text is, or the fault that it has.
-use Rattle.std.proofs.Common.{◌≡◌, ◌≤◌, ◌<◌, ◌+◌, ap, sym, subst, ◌∙◌, ℕ, zero, suc, Bool, true, false, cond, List, [], ◌∷◌, ◌++◌, length, Result, Ok, Err, refl, inl, inr, arith, zero-add, append_assoc, append-nil}
-use Rattle.std.specs.Prelude.{◌⊎◌, nat_lt, nat_le, ◌&&◌}
+use Rattle.std.proofs.Common.{◌≡◌, ◌≤◌, ap, sym, subst, ◌∙◌, ℕ, suc, Bool, true, false, cond, List, [], ◌∷◌, ◌++◌, length, Result, Ok, Err, refl, arith, append-nil}
+use Rattle.std.specs.Prelude.{nat_lt, nat_le}
 use Rattle.std.proofs.lemmas.Bool.Decides.{nat_tests}
-use Rattle.hcl_read.specs.declared.tree.Kind.{Kind}
-use Rattle.hcl_read.specs.declared.tree.CmpOp.{CmpOp}
-use Rattle.hcl_read.specs.declared.tree.Branch.{Branch}
-use Rattle.hcl_read.specs.declared.tree.Expr.{Expr}
-use Rattle.hcl_read.specs.declared.tree.Expr.TheVariants as expr
 use Rattle.hcl_read.specs.declared.tree.Item.{Item}
-use Rattle.hcl_read.specs.declared.tree.Item.TheVariants as item
 use Rattle.hcl_read.specs.declared.tree.File.{File}
 use Rattle.hcl_read.specs.declared.fault.HclWhy.{HclWhy}
 use Rattle.hcl_read.specs.declared.fault.HclWhy.TheVariants as whys
 use Rattle.hcl_read.specs.declared.tokens.Token.{Token}
-use Rattle.hcl_read.specs.declared.tokens.Token.TheVariants.{KeyQuote, KeySig, KeyDef, KeyIn, Ident, Number, Wide, Quoted, Assign, Semicolon, OrOr, AndAnd, Bang, Compare, OpenParen, CloseParen, OpenBrace, CloseBrace, OpenBracket, CloseBracket, Comma, Colon, Bad, Odd}
-use Rattle.hcl_read.specs.declared.frames.Level.{Level}
-use Rattle.hcl_read.specs.declared.frames.Side.{Side}
-use Rattle.hcl_read.specs.declared.frames.Side.TheVariants.{Left, Right}
-use Rattle.hcl_read.specs.declared.frames.Frame.{Frame}
-use Rattle.hcl_read.specs.declared.frames.Frame.TheVariants.{Paren, Set, Guard, Value}
-use Rattle.hcl_read.specs.declared.frames.Spot.{Spot}
-use Rattle.hcl_read.specs.declared.frames.Spot.TheVariants.{Want, WantRight, AfterPrim, After, WantSet, Cases}
-use Rattle.hcl_read.specs.declared.state.Move.{Move}
-use Rattle.hcl_read.specs.declared.state.Move.TheVariants.{On, Ended}
+use Rattle.hcl_read.specs.declared.tokens.Token.TheVariants.{Ident}
 use Rattle.hcl_read.specs.declared.state.Place.{Place}
-use Rattle.hcl_read.specs.declared.state.Place.TheVariants.{Between, WantQuote, WantSignal, WantSignalText, WantName, WantAssign, Body}
+use Rattle.hcl_read.specs.declared.state.Place.TheVariants.{Between}
 use Rattle.hcl_read.specs.declared.state.State.{State}
-use Rattle.hcl_read.specs.Grammar.{or_of, and_of, branch, Room, IsExpr, OrTail, IsAnd, AndTail, IsNot, IsRel, SetTail, IsPrim, IsCase, CaseTail, IsItem, IsItems, IsFile, or_list, no_or, more_or, and_list, no_and, more_and, negated, plain, alone, compared, member, no_member, more_members, a_number, a_wide_number, a_name, group, case_list, guarded, no_case, more_cases, quoted, declared, defined, no_item, more_items}
-use Rattle.hcl_read.specs.Depth.{depth, depth_of, level_behind}
-use Rattle.hcl_read.specs.Machine.{level, start_level, once_more_negated, negate, related, put, refusal, opened, prim, want, close, after, after_prim, want_set, after_branch, body_step, state, start, moved, place_step, step, on, run}
+use Rattle.hcl_read.specs.Grammar.{IsItems, IsFile, no_item}
+use Rattle.hcl_read.specs.Machine.{state, start, step, on, run}
 use Rattle.std.proofs.Common.{le_of_lt, le_refl, le_trans, length-append, zero-le}
-use Rattle.std.specs.Prelude.{◌≢◌, nat_eq}
+use Rattle.std.specs.Prelude.{nat_eq}
 use Rattle.std.specs.Cmp.Lexicographic.{pointwise}
 use Rattle.std.specs.List.{list_any}
 use Rattle.std.proofs.lemmas.Bool.{false≢true}
-use Rattle.hcl_read.specs.Fault.{noted, noted_all, NamesFit, Accepts, Viable, Fits, Stands, Reason, FaultAt}
+use Rattle.hcl_read.specs.Fault.{noted, noted_all, NamesFit, Accepts, Viable, Stands, Reason, FaultAt}
 use Rattle.hcl_read.specs.Machine.{ended, Outcome, at_end, outcome_at, outcome}
 use Rattle.hcl_read.proofs.Complete.{file_read, shifted}
-use Rattle.hcl_read.proofs.Means.{Rest, MeansPlace, Means}
+use Rattle.hcl_read.proofs.Means.{MeansPlace, Means}
 use Rattle.hcl_read.proofs.Sound.{strict_before, MeansNext, sound_step}
-use Rattle.hcl_read.proofs.Live.{Lives, state_lives}
+use Rattle.hcl_read.proofs.Live.{state_lives}
 use Rattle.hcl_read.proofs.Told.{Told, told_step}
 
 strict_in_front : (n m : ℕ) → n ≤ m → nat_lt n (suc m) ≡ true
@@ -90,8 +74,8 @@ front_means [] rest file s last e m = subst (λ x. Means (length rest) file x re
 front_means (t ∷ ts) rest file s last e m =
     let o = on_ok (step (nat_lt 0 (suc (length ts))) s t) (λ next. run 0 next ts) last e in
     next_means (length rest) file s t (ts ++ rest) o.0
-      (ap (λ b. step b s t) (strict_in_front (length rest) (length (ts ++ rest)) (length_behind ts rest) ∙ sym (strict_in_front 0 (length ts) zero-le)) ∙ o.1)
-      (front_means ts rest file o.0 last o.2 m)
+    (ap (λ b. step b s t) (strict_in_front (length rest) (length (ts ++ rest)) (length_behind ts rest) ∙ sym (strict_in_front 0 (length ts) zero-le)) ∙ o.1)
+    (front_means ts rest file o.0 last o.2 m)
 
 file_of : (free : ℕ) (file : List Item) (ts : List Token) → Means free file start ts → IsFile free ts (record { items = file })
 unfolding MeansPlace
@@ -119,9 +103,11 @@ stands_steps front t s h e =
 
 steps_stands : (front : List Token) (t : Token) (s next : State) → run 0 start front ≡ Ok s → step false s t ≡ Ok next → Stands front t
 steps_stands front t s next e h =
-    let l = state_lives next in
-    (l.0, record { items = l.1 },
-     front_file front (t ∷ l.0) l.1 s e (next_means (suc (length l.0)) l.1 s t l.0 next (ap (λ b. step b s t) (free_at_last (length l.0)) ∙ h) (l.2 (suc (length l.0)) (le_of_lt (le_refl (suc (length l.0)))))))
+    let l = state_lives next in (
+      l.0,
+      record { items = l.1 },
+      front_file front (t ∷ l.0) l.1 s e (next_means (suc (length l.0)) l.1 s t l.0 next (ap (λ b. step b s t) (free_at_last (length l.0)) ∙ h) (l.2 (suc (length l.0)) (le_of_lt (le_refl (suc (length l.0)))))),
+    )
 
 -- one more token under the limits
 run_all : (front rest : List Token) (s : State) → run 0 s (front ++ rest) ≡ on (run 0 s front) (λ next. run 0 next rest)
@@ -156,6 +142,7 @@ noted_grows names (Ident name) = go (list_any (pointwise nat_eq name) names)
   where
     more : (xs : List (List ℕ)) (x : List ℕ) → length xs ≤ length (xs ++ x ∷ [])
     more xs x = grind (arith, length-append)
+
     go : (b : Bool) → length names ≤ length (cond b names (names ++ name ∷ []))
     go true = le_refl (length names)
     go false = more names name
@@ -240,9 +227,9 @@ unfolding outcome
 outcome_answer [] front s e fit = end_answer front s.items s.place e fit
 outcome_answer (t ∷ ts) front s e fit =
     step_answer front s e fit t ts (step true s t) refl
-      (λ next h n. subst (λ names. Answers (front ++ t ∷ ts) (outcome names next ts)) (names_of_more front t)
-        (subst (λ text. Answers text (outcome (noted_all [] (front ++ t ∷ [])) next ts)) (shifted front t ts)
-          (outcome_answer ts (front ++ t ∷ []) next (one_more_read front t s e ∙ h) n)))
+    (λ next h n. subst (λ names. Answers (front ++ t ∷ ts) (outcome names next ts)) (names_of_more front t)
+    (subst (λ text. Answers text (outcome (noted_all [] (front ++ t ∷ [])) next ts)) (shifted front t ts)
+    (outcome_answer ts (front ++ t ∷ []) next (one_more_read front t s e ∙ h) n)))
 
 -- what the machine answers is true of the text
 pub answers : (ts : List Token) → Answers ts (outcome [] start ts)
@@ -255,7 +242,7 @@ no_fault front [] why f a fault = fault.1 f (subst (λ ts. IsFile 0 ts f) (appen
 no_fault front (t ∷ rest) why f a fault =
     let text : (front ++ t ∷ []) ++ rest ≡ front ++ t ∷ rest = shifted front t rest in
     let o = on_ok (run 0 start (front ++ t ∷ [])) (λ next. run 0 next rest) (state f.items Between)
-              (sym (run_all (front ++ t ∷ []) rest start) ∙ ap (λ ts. run 0 start ts) text ∙ file_read (front ++ t ∷ rest) f a.0) in
+    (sym (run_all (front ++ t ∷ []) rest start) ∙ ap (λ ts. run 0 start ts) text ∙ file_read (front ++ t ∷ rest) f a.0) in
     fault.1 (reads_viable (front ++ t ∷ []) o.0 o.1, fits_front (front ++ t ∷ []) rest (subst (λ ts. NamesFit ts) (sym text) a.1))
 
 -- and the machine answers it

@@ -1,19 +1,11 @@
 -- Every state can be led to a file: a `0`, then what closes the brackets that are open.
-use Rattle.std.proofs.Common.{◌≡◌, ◌≤◌, ◌<◌, ◌+◌, ap, sym, subst, ◌∙◌, ℕ, zero, suc, Bool, true, false, cond, List, [], ◌∷◌, ◌++◌, length, Result, Ok, Err, refl, inl, inr, arith, zero-add, append_assoc, append-nil}
-use Rattle.std.specs.Prelude.{◌⊎◌, nat_lt, nat_le, ◌&&◌}
-use Rattle.std.proofs.lemmas.Bool.Decides.{nat_tests}
-use Rattle.hcl_read.specs.declared.tree.Kind.{Kind}
-use Rattle.hcl_read.specs.declared.tree.CmpOp.{CmpOp}
-use Rattle.hcl_read.specs.declared.tree.Branch.{Branch}
+use Rattle.std.proofs.Common.{◌≤◌, sym, ℕ, List, [], ◌∷◌, ◌++◌, length, refl, inr, append-nil}
 use Rattle.hcl_read.specs.declared.tree.Expr.{Expr}
 use Rattle.hcl_read.specs.declared.tree.Expr.TheVariants as expr
 use Rattle.hcl_read.specs.declared.tree.Item.{Item}
 use Rattle.hcl_read.specs.declared.tree.Item.TheVariants as item
-use Rattle.hcl_read.specs.declared.tree.File.{File}
-use Rattle.hcl_read.specs.declared.fault.HclWhy.{HclWhy}
-use Rattle.hcl_read.specs.declared.fault.HclWhy.TheVariants as whys
 use Rattle.hcl_read.specs.declared.tokens.Token.{Token}
-use Rattle.hcl_read.specs.declared.tokens.Token.TheVariants.{KeyQuote, KeySig, KeyDef, KeyIn, Ident, Number, Wide, Quoted, Assign, Semicolon, OrOr, AndAnd, Bang, Compare, OpenParen, CloseParen, OpenBrace, CloseBrace, OpenBracket, CloseBracket, Comma, Colon, Bad, Odd}
+use Rattle.hcl_read.specs.declared.tokens.Token.TheVariants.{Ident, Number, Quoted, Assign, Semicolon, CloseParen, OpenBrace, CloseBrace, CloseBracket, Colon}
 use Rattle.hcl_read.specs.declared.frames.Level.{Level}
 use Rattle.hcl_read.specs.declared.frames.Side.{Side}
 use Rattle.hcl_read.specs.declared.frames.Side.TheVariants.{Left, Right}
@@ -21,16 +13,14 @@ use Rattle.hcl_read.specs.declared.frames.Frame.{Frame}
 use Rattle.hcl_read.specs.declared.frames.Frame.TheVariants.{Paren, Set, Guard, Value}
 use Rattle.hcl_read.specs.declared.frames.Spot.{Spot}
 use Rattle.hcl_read.specs.declared.frames.Spot.TheVariants.{Want, WantRight, AfterPrim, After, WantSet, Cases}
-use Rattle.hcl_read.specs.declared.state.Move.{Move}
-use Rattle.hcl_read.specs.declared.state.Move.TheVariants.{On, Ended}
 use Rattle.hcl_read.specs.declared.state.Place.{Place}
 use Rattle.hcl_read.specs.declared.state.Place.TheVariants.{Between, WantQuote, WantSignal, WantSignalText, WantName, WantAssign, Body}
 use Rattle.hcl_read.specs.declared.state.State.{State}
-use Rattle.hcl_read.specs.Grammar.{or_of, and_of, branch, Room, IsExpr, OrTail, IsAnd, AndTail, IsNot, IsRel, SetTail, IsPrim, IsCase, CaseTail, IsItem, IsItems, IsFile, or_list, no_or, more_or, and_list, no_and, more_and, negated, plain, alone, compared, member, no_member, more_members, a_number, a_wide_number, a_name, group, case_list, guarded, no_case, more_cases, quoted, declared, defined, no_item, more_items}
-use Rattle.hcl_read.specs.Depth.{depth, depth_of, level_behind}
-use Rattle.hcl_read.specs.Machine.{level, start_level, once_more_negated, negate, related, put, refusal, opened, prim, want, close, after, after_prim, want_set, after_branch, body_step, state, start, moved, place_step, step, on, run}
-use Rattle.std.proofs.Common.{le_of_lt, le_refl}
-use Rattle.hcl_read.proofs.Means.{RelTail, no_operator, operator, members, Behind, AfterIn, RelIn, PutIn, Inside, Closed, MeansSpot, Rest, Bottom, MeansPlace, Means}
+use Rattle.hcl_read.specs.Grammar.{or_of, and_of, branch, IsExpr, or_list, no_or, and_list, no_and, plain, alone, no_member, a_number, no_case, no_item}
+use Rattle.hcl_read.specs.Depth.{depth_of}
+use Rattle.hcl_read.specs.Machine.{negate}
+use Rattle.std.proofs.Common.{le_of_lt}
+use Rattle.hcl_read.proofs.Means.{no_operator, Behind, RelIn, PutIn, Inside, Closed, MeansSpot, Rest, Bottom, MeansPlace, Means}
 
 -- some text leads there, at any place where it is free of the limits
 abbrev pub Lives : (List Item → ℕ → List Token → Type 0) → Type 0
@@ -62,9 +52,11 @@ module _ (bottom : List Item → ℕ → Behind) (ends : (e : Expr) → Lives (�
       let b = rel_lives k behind l (expr.In left ((es ++ e ∷ []) ++ [])) in
       (CloseBrace ∷ b.0, b.1, λ free h. ([], b.0, no_member, b.2 free (le_of_lt h)))
   frame_lives k behind (Guard side bs l) e =
-      let b = put_lives k behind side l (expr.Case ((bs ++ branch e (expr.Num 0) ∷ []) ++ [])) in
-      (Colon ∷ Number 0 ∷ Semicolon ∷ CloseBracket ∷ b.0, b.1,
-       λ free h. (Number 0 ∷ Semicolon ∷ CloseBracket ∷ b.0, expr.Num 0, CloseBracket ∷ b.0, [], b.0, refl, zero_expr, no_case, b.2 free (le_of_lt (le_of_lt (le_of_lt (le_of_lt h))))))
+      let b = put_lives k behind side l (expr.Case ((bs ++ branch e (expr.Num 0) ∷ []) ++ [])) in (
+        Colon ∷ Number 0 ∷ Semicolon ∷ CloseBracket ∷ b.0,
+        b.1,
+        λ free h. (Number 0 ∷ Semicolon ∷ CloseBracket ∷ b.0, expr.Num 0, CloseBracket ∷ b.0, [], b.0, refl, zero_expr, no_case, b.2 free (le_of_lt (le_of_lt (le_of_lt (le_of_lt h))))),
+      )
   frame_lives k behind (Value side bs guard l) e =
       let b = put_lives k behind side l (expr.Case ((bs ++ branch guard e ∷ []) ++ [])) in
       (Semicolon ∷ CloseBracket ∷ b.0, b.1, λ free h. (CloseBracket ∷ b.0, [], b.0, refl, no_case, b.2 free (le_of_lt (le_of_lt h))))
@@ -87,9 +79,11 @@ module _ (bottom : List Item → ℕ → Behind) (ends : (e : Expr) → Lives (�
       let b = closed_lives k (or_of (ors ++ and_of (ands ++ []) ∷ [])) in
       (b.0, b.1, λ free h. ([], [], b.0, b.0, no_and, no_or, b.2 free h))
   spot_lives (WantSet left l) k =
-      let b = rel_lives k (λ x. closed_lives k x) l (expr.In left (expr.Num 0 ∷ [])) in
-      (OpenBrace ∷ Number 0 ∷ CloseBrace ∷ b.0, b.1,
-       λ free h. (Number 0 ∷ CloseBrace ∷ b.0, expr.Num 0, CloseBrace ∷ b.0, [], b.0, refl, inr h, zero_expr, no_member, b.2 free (le_of_lt (le_of_lt (le_of_lt h)))))
+      let b = rel_lives k (λ x. closed_lives k x) l (expr.In left (expr.Num 0 ∷ [])) in (
+        OpenBrace ∷ Number 0 ∷ CloseBrace ∷ b.0,
+        b.1,
+        λ free h. (Number 0 ∷ CloseBrace ∷ b.0, expr.Num 0, CloseBrace ∷ b.0, [], b.0, refl, inr h, zero_expr, no_member, b.2 free (le_of_lt (le_of_lt (le_of_lt h)))),
+      )
   spot_lives (Cases side bs l) k =
       let b = put_lives k (λ x. closed_lives k x) side l (expr.Case (bs ++ [])) in
       (CloseBracket ∷ b.0, b.1, λ free h. ([], b.0, no_case, b.2 free (le_of_lt h)))

@@ -1,7 +1,5 @@
 -- What a state still asks for, in the words of the grammar: the texts that lead from it to the items of a file.
-use Rattle.std.proofs.Common.{◌≡◌, ◌≤◌, ◌<◌, ◌+◌, ap, sym, subst, ◌∙◌, ℕ, zero, suc, Bool, true, false, cond, List, [], ◌∷◌, ◌++◌, length, Result, Ok, Err, refl, inl, inr, arith, zero-add, append_assoc, append-nil}
-use Rattle.std.specs.Prelude.{◌⊎◌, nat_lt, nat_le, ◌&&◌}
-use Rattle.std.proofs.lemmas.Bool.Decides.{nat_tests}
+use Rattle.std.proofs.Common.{◌≡◌, ◌+◌, ℕ, suc, List, [], ◌∷◌, ◌++◌}
 use Rattle.hcl_read.specs.declared.tree.Kind.{Kind}
 use Rattle.hcl_read.specs.declared.tree.CmpOp.{CmpOp}
 use Rattle.hcl_read.specs.declared.tree.Branch.{Branch}
@@ -9,11 +7,8 @@ use Rattle.hcl_read.specs.declared.tree.Expr.{Expr}
 use Rattle.hcl_read.specs.declared.tree.Expr.TheVariants as expr
 use Rattle.hcl_read.specs.declared.tree.Item.{Item}
 use Rattle.hcl_read.specs.declared.tree.Item.TheVariants as item
-use Rattle.hcl_read.specs.declared.tree.File.{File}
-use Rattle.hcl_read.specs.declared.fault.HclWhy.{HclWhy}
-use Rattle.hcl_read.specs.declared.fault.HclWhy.TheVariants as whys
 use Rattle.hcl_read.specs.declared.tokens.Token.{Token}
-use Rattle.hcl_read.specs.declared.tokens.Token.TheVariants.{KeyQuote, KeySig, KeyDef, KeyIn, Ident, Number, Wide, Quoted, Assign, Semicolon, OrOr, AndAnd, Bang, Compare, OpenParen, CloseParen, OpenBrace, CloseBrace, OpenBracket, CloseBracket, Comma, Colon, Bad, Odd}
+use Rattle.hcl_read.specs.declared.tokens.Token.TheVariants.{KeyIn, Ident, Quoted, Assign, Semicolon, Compare, CloseParen, OpenBrace, CloseBrace, CloseBracket, Colon}
 use Rattle.hcl_read.specs.declared.frames.Level.{Level}
 use Rattle.hcl_read.specs.declared.frames.Side.{Side}
 use Rattle.hcl_read.specs.declared.frames.Side.TheVariants.{Left, Right}
@@ -21,14 +16,12 @@ use Rattle.hcl_read.specs.declared.frames.Frame.{Frame}
 use Rattle.hcl_read.specs.declared.frames.Frame.TheVariants.{Paren, Set, Guard, Value}
 use Rattle.hcl_read.specs.declared.frames.Spot.{Spot}
 use Rattle.hcl_read.specs.declared.frames.Spot.TheVariants.{Want, WantRight, AfterPrim, After, WantSet, Cases}
-use Rattle.hcl_read.specs.declared.state.Move.{Move}
-use Rattle.hcl_read.specs.declared.state.Move.TheVariants.{On, Ended}
 use Rattle.hcl_read.specs.declared.state.Place.{Place}
 use Rattle.hcl_read.specs.declared.state.Place.TheVariants.{Between, WantQuote, WantSignal, WantSignalText, WantName, WantAssign, Body}
 use Rattle.hcl_read.specs.declared.state.State.{State}
-use Rattle.hcl_read.specs.Grammar.{or_of, and_of, branch, Room, IsExpr, OrTail, IsAnd, AndTail, IsNot, IsRel, SetTail, IsPrim, IsCase, CaseTail, IsItem, IsItems, IsFile, or_list, no_or, more_or, and_list, no_and, more_and, negated, plain, alone, compared, member, no_member, more_members, a_number, a_wide_number, a_name, group, case_list, guarded, no_case, more_cases, quoted, declared, defined, no_item, more_items}
-use Rattle.hcl_read.specs.Depth.{depth, depth_of, level_behind}
-use Rattle.hcl_read.specs.Machine.{level, start_level, once_more_negated, negate, related, put, refusal, opened, prim, want, close, after, after_prim, want_set, after_branch, body_step, state, start, moved, place_step, step, on, run}
+use Rattle.hcl_read.specs.Grammar.{or_of, and_of, branch, Room, IsExpr, OrTail, AndTail, IsNot, IsRel, SetTail, IsPrim, CaseTail, IsItems, alone, compared, member}
+use Rattle.hcl_read.specs.Depth.{depth_of}
+use Rattle.hcl_read.specs.Machine.{negate}
 
 -- what may follow the left operand of a comparison, up to its end
 pub data RelTail (free : ℕ) (depth : ℕ) (left : Expr) : List Token → Expr → List Token → Type 0 where

@@ -1,15 +1,14 @@
 -- When a bracket or `!` opens.
-use Rattle.std.proofs.Common.{◌≡◌, ◌≤◌, ◌<◌, ◌+◌, ap, sym, ◌∙◌, ℕ, zero, suc, Bool, true, false, cond, List, [], ◌∷◌, length, Result, Ok, Err, refl, inl, inr, arith, zero-add}
+use Rattle.std.proofs.Common.{◌≡◌, ◌≤◌, ap, ℕ, suc, false, cond, List, ◌∷◌, length, Ok, Err, inl, inr, arith}
 use Rattle.std.specs.Prelude.{◌⊎◌, nat_lt, nat_le, ◌&&◌}
 use Rattle.std.proofs.lemmas.Bool.Decides.{nat_tests}
 use Rattle.hcl_read.specs.declared.frames.Level.{Level}
 use Rattle.hcl_read.specs.declared.frames.Frame.{Frame}
 use Rattle.hcl_read.specs.declared.state.Move.{Move}
-use Rattle.hcl_read.specs.declared.fault.HclWhy.{HclWhy}
 use Rattle.hcl_read.specs.declared.fault.HclWhy.TheVariants.{DepthOver64}
 use Rattle.hcl_read.specs.declared.tokens.Token.{Token}
 use Rattle.hcl_read.specs.Grammar.{Room}
-use Rattle.hcl_read.specs.Depth.{depth, depth_of}
+use Rattle.hcl_read.specs.Depth.{depth}
 use Rattle.hcl_read.specs.Machine.{opened}
 
 room_test : (free d n : ℕ) → (suc d ≤ 64) ⊎ (suc n ≤ free) → (nat_lt free (suc n) && nat_le 64 d) ≡ false

@@ -1,7 +1,7 @@
 -- Each step keeps what the state asks for: a text behind a token that leads from the next state to a file, with the token in front,
 -- leads there from the state before.
-use Rattle.std.proofs.Common.{◌≡◌, ◌≤◌, ◌<◌, ◌+◌, ap, sym, subst, ◌∙◌, ℕ, zero, suc, Bool, true, false, cond, List, [], ◌∷◌, ◌++◌, length, Result, Ok, Err, refl, inl, inr, arith, zero-add, append_assoc, append-nil}
-use Rattle.std.specs.Prelude.{◌⊎◌, nat_lt, nat_le, ◌&&◌}
+use Rattle.std.proofs.Common.{◌≡◌, ◌≤◌, ◌+◌, ap, sym, subst, ◌∙◌, ℕ, suc, Bool, true, false, cond, List, [], ◌∷◌, ◌++◌, length, Result, Ok, Err, refl, arith, zero-add, append-nil}
+use Rattle.std.specs.Prelude.{nat_lt, nat_le, ◌&&◌}
 use Rattle.std.proofs.lemmas.Bool.Decides.{nat_tests}
 use Rattle.hcl_read.specs.declared.tree.Kind.{Kind}
 use Rattle.hcl_read.specs.declared.tree.CmpOp.{CmpOp}
@@ -10,11 +10,10 @@ use Rattle.hcl_read.specs.declared.tree.Expr.{Expr}
 use Rattle.hcl_read.specs.declared.tree.Expr.TheVariants as expr
 use Rattle.hcl_read.specs.declared.tree.Item.{Item}
 use Rattle.hcl_read.specs.declared.tree.Item.TheVariants as item
-use Rattle.hcl_read.specs.declared.tree.File.{File}
 use Rattle.hcl_read.specs.declared.fault.HclWhy.{HclWhy}
 use Rattle.hcl_read.specs.declared.fault.HclWhy.TheVariants as whys
 use Rattle.hcl_read.specs.declared.tokens.Token.{Token}
-use Rattle.hcl_read.specs.declared.tokens.Token.TheVariants.{KeyQuote, KeySig, KeyDef, KeyIn, Ident, Number, Wide, Quoted, Assign, Semicolon, OrOr, AndAnd, Bang, Compare, OpenParen, CloseParen, OpenBrace, CloseBrace, OpenBracket, CloseBracket, Comma, Colon, Bad, Odd}
+use Rattle.hcl_read.specs.declared.tokens.Token.TheVariants.{KeyQuote, KeySig, KeyDef, KeyIn, Ident, Number, Wide, Quoted, Assign, Semicolon, OrOr, AndAnd, Bang, Compare, OpenParen, CloseParen, OpenBrace, CloseBrace, OpenBracket, CloseBracket, Comma, Colon}
 use Rattle.hcl_read.specs.declared.frames.Level.{Level}
 use Rattle.hcl_read.specs.declared.frames.Side.{Side}
 use Rattle.hcl_read.specs.declared.frames.Side.TheVariants.{Left, Right}
@@ -27,12 +26,12 @@ use Rattle.hcl_read.specs.declared.state.Move.TheVariants.{On, Ended}
 use Rattle.hcl_read.specs.declared.state.Place.{Place}
 use Rattle.hcl_read.specs.declared.state.Place.TheVariants.{Between, WantQuote, WantSignal, WantSignalText, WantName, WantAssign, Body}
 use Rattle.hcl_read.specs.declared.state.State.{State}
-use Rattle.hcl_read.specs.Grammar.{or_of, and_of, branch, Room, IsExpr, OrTail, IsAnd, AndTail, IsNot, IsRel, SetTail, IsPrim, IsCase, CaseTail, IsItem, IsItems, IsFile, or_list, no_or, more_or, and_list, no_and, more_and, negated, plain, alone, compared, member, no_member, more_members, a_number, a_wide_number, a_name, group, case_list, guarded, no_case, more_cases, quoted, declared, defined, no_item, more_items}
-use Rattle.hcl_read.specs.Depth.{depth, depth_of, level_behind}
-use Rattle.hcl_read.specs.Machine.{level, start_level, once_more_negated, negate, related, put, refusal, opened, prim, want, close, after, after_prim, want_set, after_branch, body_step, state, start, moved, place_step, step, on, run}
+use Rattle.hcl_read.specs.Grammar.{or_of, and_of, branch, Room, IsExpr, IsNot, IsPrim, IsItem, IsItems, or_list, no_or, more_or, and_list, no_and, more_and, negated, plain, no_member, more_members, a_number, a_wide_number, a_name, group, case_list, guarded, no_case, more_cases, quoted, declared, defined, more_items}
+use Rattle.hcl_read.specs.Depth.{depth, depth_of}
+use Rattle.hcl_read.specs.Machine.{level, start_level, once_more_negated, negate, related, put, opened, prim, want, close, after, after_prim, want_set, after_branch, body_step, moved, place_step, step}
 use Rattle.hcl_read.proofs.Opened.{test_room}
 use Rattle.hcl_read.proofs.Complete.{asks, shifted}
-use Rattle.hcl_read.proofs.Means.{RelTail, no_operator, operator, members, rel_of, Behind, AfterIn, RelIn, PutIn, Inside, Closed, MeansSpot, Rest, Bottom, MeansPlace, Means}
+use Rattle.hcl_read.proofs.Means.{RelTail, no_operator, operator, members, rel_of, Behind, RelIn, PutIn, Closed, MeansSpot, Rest, Bottom, MeansPlace, Means}
 
 module _ (free : ℕ) where
   abbrev pub strict_before : List Token → Bool
@@ -159,18 +158,30 @@ module _ (free : ℕ) where
 
     and_means : (ands ors : List Expr) (k : List Frame) (ts : List Token) → MeansSpot free bottom (Want (level 0 ands ors)) k ts → MeansSpot free bottom (After ands ors) k (AndAnd ∷ ts)
     unfolding MeansSpot negate
-    and_means ands ors k ts m =
-        (m.0 ∷ m.3.0, m.3.1, m.3.2, m.3.3, more_and (subst (λ d. IsNot free d ts m.0 m.1) (zero-add (depth_of k)) m.2) m.3.4, m.3.5,
-         subst (λ es. Closed free bottom k (or_of (ors ++ and_of es ∷ m.3.1)) m.3.3) (shifted ands m.0 m.3.0) m.3.6)
+    and_means ands ors k ts m = (
+      m.0 ∷ m.3.0,
+      m.3.1,
+      m.3.2,
+      m.3.3,
+      more_and (subst (λ d. IsNot free d ts m.0 m.1) (zero-add (depth_of k)) m.2) m.3.4,
+      m.3.5,
+      subst (λ es. Closed free bottom k (or_of (ors ++ and_of es ∷ m.3.1)) m.3.3) (shifted ands m.0 m.3.0) m.3.6,
+    )
 
     or_means : (ands ors : List Expr) (k : List Frame) (ts : List Token) → MeansSpot free bottom (Want (level 0 [] (ors ++ and_of ands ∷ []))) k ts → MeansSpot free bottom (After ands ors) k (OrOr ∷ ts)
     unfolding MeansSpot negate
     or_means ands ors k ts m =
         let more = and_of (m.0 ∷ m.3.0) ∷ m.3.1 in
         let same : (ors ++ and_of ands ∷ []) ++ and_of (m.0 ∷ m.3.0) ∷ m.3.1 ≡ ors ++ and_of (ands ++ []) ∷ and_of (m.0 ∷ m.3.0) ∷ m.3.1
-              = shifted ors (and_of ands) more ∙ ap (λ es. ors ++ and_of es ∷ more) (sym (append-nil ands)) in
-        ([], more, OrOr ∷ ts, m.3.3, no_and, more_or (and_list (subst (λ d. IsNot free d ts m.0 m.1) (zero-add (depth_of k)) m.2) m.3.4) m.3.5,
-         subst (λ es. Closed free bottom k (or_of es) m.3.3) same m.3.6)
+        = shifted ors (and_of ands) more ∙ ap (λ es. ors ++ and_of es ∷ more) (sym (append-nil ands)) in (
+          [],
+          more,
+          OrOr ∷ ts,
+          m.3.3,
+          no_and,
+          more_or (and_list (subst (λ d. IsNot free d ts m.0 m.1) (zero-add (depth_of k)) m.2) m.3.4) m.3.5,
+          subst (λ es. Closed free bottom k (or_of es) m.3.3) same m.3.6,
+        )
 
     end_means : (ands ors : List Expr) (k : List Frame) (ts : List Token) → Closed free bottom k (or_of (ors ++ and_of ands ∷ [])) ts → MeansSpot free bottom (After ands ors) k ts
     unfolding MeansSpot
@@ -188,10 +199,13 @@ module _ (free : ℕ) where
 
     in_means : (e : Expr) (l : Level) (k : List Frame) (ts : List Token) → MeansSpot free bottom (WantSet e l) k ts → MeansSpot free bottom (AfterPrim e l) k (KeyIn ∷ ts)
     unfolding MeansSpot
-    in_means e l k ts m =
-        (expr.In e (m.1 ∷ m.3), m.4,
-         subst (λ r. RelTail free (l.nots + depth_of k) e (KeyIn ∷ r) (expr.In e (m.1 ∷ m.3)) m.4) (sym m.5)
-           (members (subst (λ r. Room free (suc (l.nots + depth_of k)) r) m.5 m.6) m.7 m.8), m.9)
+    in_means e l k ts m = (
+      expr.In e (m.1 ∷ m.3),
+      m.4,
+      subst (λ r. RelTail free (l.nots + depth_of k) e (KeyIn ∷ r) (expr.In e (m.1 ∷ m.3)) m.4) (sym m.5)
+          (members (subst (λ r. Room free (suc (l.nots + depth_of k)) r) m.5 m.6) m.7 m.8),
+      m.9,
+    )
 
     alone_means : (e : Expr) (l : Level) (k : List Frame) (ts : List Token) → MeansSpot free bottom (After (l.ands ++ negate l.nots e ∷ []) l.ors) k ts → MeansSpot free bottom (AfterPrim e l) k ts
     unfolding MeansSpot
@@ -224,9 +238,12 @@ module _ (free : ℕ) where
     branch_means : (side : Side) (bs : List Branch) (l : Level) (k : List Frame) (ts : List Token) → MeansSpot free bottom (Want start_level) (Guard side bs l ∷ k) ts → MeansSpot free bottom (Cases side bs l) k ts
     unfolding MeansSpot Closed depth_of
     branch_means side bs l k ts m =
-        let s = start_means (Guard side bs l ∷ k) ts m in
-        (branch s.0 s.3.1 ∷ s.3.3, s.3.4, more_cases (guarded (subst (λ r. IsExpr free (suc (l.nots + depth_of k)) ts s.0 r) s.3.5 s.2) s.3.6) s.3.7,
-         subst (λ x. PutIn free (depth_of k) (Closed free bottom k) side l (expr.Case x) s.3.4) (shifted bs (branch s.0 s.3.1) s.3.3) s.3.8)
+        let s = start_means (Guard side bs l ∷ k) ts m in (
+          branch s.0 s.3.1 ∷ s.3.3,
+          s.3.4,
+          more_cases (guarded (subst (λ r. IsExpr free (suc (l.nots + depth_of k)) ts s.0 r) s.3.5 s.2) s.3.6) s.3.7,
+          subst (λ x. PutIn free (depth_of k) (Closed free bottom k) side l (expr.Case x) s.3.4) (shifted bs (branch s.0 s.3.1) s.3.3) s.3.8,
+        )
 
     sound_after_branch : (side : Side) (bs : List Branch) (l : Level) (k : List Frame) (t : Token) (ts : List Token) → MeansMove (after_branch (strict_before ts) side bs l k t) ts → MeansSpot free bottom (Cases side bs l) k (t ∷ ts)
     unfolding after_branch
