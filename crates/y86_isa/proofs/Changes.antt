@@ -1,10 +1,9 @@
 -- What a step may change of the registers, the flags and the PC.
-use Rattle.std.proofs.Common.{◌≡◌, ◌≢◌, ℕ, ◌+◌, ◌%◌, ◌^◌, ◌<◌, ◌⊎◌, inl, inr, Bool, true, false, cond, ◌||◌, nat_lt, ◌==◌, List, length, Option, IfSome, refl, sym, ap, ◌∙◌, arith}
-use Rattle.std.specs.Prelude.{slice_set}
-use Rattle.std.proofs.lemmas.Bool.{cases_lt, cond_both, ltb-true, lt-ltb, le-ltb, and_parts, false≢true, cases_Bool}
-use Rattle.std.proofs.lemmas.List.{get_or-set_other}
+use Rattle.std.proofs.Common.{◌≡◌, ◌≢◌, ℕ, ◌+◌, ◌%◌, ◌^◌, ◌⊎◌, inl, inr, Bool, true, false, cond, ◌||◌, List, Option, IfSome, refl, sym, ap, ◌∙◌, arith}
+use Rattle.std.proofs.lemmas.Bool.{false≢true}
 use Rattle.y86_base.specs.Registers.{register, with_register}
-use Rattle.y86_base.specs.declared.parts.Stat.TheVariants.{Aok, Hlt, Adr, Ins}
+use Rattle.y86_base.proofs.Memories.{register-with_register_other, no_register}
+use Rattle.y86_base.specs.declared.parts.Stat.TheVariants.{Aok}
 use Rattle.y86_base.specs.declared.parts.Variant.{Variant}
 use Rattle.y86_isa.specs.declared.columns.Field.{Field}
 use Rattle.y86_isa.specs.declared.columns.Field.TheVariants.{Dash, FieldA, FieldB, Stack}
@@ -12,7 +11,7 @@ use Rattle.y86_isa.specs.declared.columns.Next.TheVariants.{Fall}
 use Rattle.y86_isa.specs.declared.machine.Machine.{Machine}
 use Rattle.y86_isa.specs.declared.machine.Rec.{Rec}
 use Rattle.y86_isa.specs.RowTests.{is_dash, is_stack}
-use Rattle.y86_isa.specs.Table.{rows, row}
+use Rattle.y86_isa.specs.Table.{row}
 use Rattle.y86_isa.specs.Machine.{is_aok}
 use Rattle.y86_isa.specs.Blocks.{register_number, destination_e, behind, fetched, reading}
 use Rattle.y86_isa.specs.Work.{work}
@@ -25,19 +24,10 @@ use Rattle.y86_isa.proofs.Steps.Advances.{stays, stops, goes}
 
 -- ---- registers
 
-other : (number n : ℕ) → (n ≢ number) ⊎ (number ≡ 15) → number < 15 → n ≢ number
-other number n (inl ne) lt = ne
-other number n (inr e) lt = absurd (omega arith)
-
 -- a write to another register, or to none
 register_beside : (registers : List ℕ) (number word n : ℕ) → (n ≢ number) ⊎ (number ≡ 15) → register (with_register registers number word) n ≡ register registers n
-register_beside registers number word n h =
-    elim (cases_lt n 15) [
-      | inl lt ↦
-          cond_both (nat_lt number 15) (slice_set registers number word) registers (λ rs. register rs n ≡ register registers n)
-          (λ e. rw (lt-ltb n 15 lt) (get_or-set_other registers number n word 0 (other number n h (ltb-true _ _ e)))) (λ _. refl)
-      | inr le ↦ rw (le-ltb n 15 le) refl
-    ]
+register_beside registers number word n (inl ne) = register-with_register_other registers number n word ne
+register_beside registers number word n (inr e) = ap (λ rs. register rs n) (no_register registers number word (omega (arith, e))).1
 
 two_beside : (registers : List ℕ) (e word_e m word_m n : ℕ) → (n ≢ e) ⊎ (e ≡ 15) → (n ≢ m) ⊎ (m ≡ 15) →
     register (with_register (with_register registers e word_e) m word_m) n ≡ register registers n

@@ -1,21 +1,19 @@
 -- What a step does, by the work of its instruction, also where the instruction stops.
-use Rattle.std.proofs.Common.{◌≡◌, ℕ, ◌<◌, ◌⊎◌, inl, inr, Bool, true, false, not, ◌&&◌, ◌||◌, ◌==◌, cond, List, Option, None, refl, sym, ap, ◌∙◌, arith}
-use Rattle.std.proofs.lemmas.Bool.{cases_Bool, and_parts, eqb-true}
+use Rattle.std.proofs.Common.{◌≡◌, ℕ, ◌<◌, ◌⊎◌, inl, inr, Bool, true, false, not, ◌&&◌, ◌||◌, ◌==◌, cond, List, None, refl, sym, ap, ◌∙◌, arith}
+use Rattle.std.proofs.lemmas.Bool.{cases_Bool, eqb-true}
 use Rattle.y86_base.specs.declared.parts.Flags.{Flags}
 use Rattle.y86_base.specs.declared.parts.Stat.{Stat}
 use Rattle.y86_base.specs.declared.parts.Stat.TheVariants.{Aok, Hlt, Adr, Ins}
 use Rattle.y86_base.specs.declared.parts.Variant.{Variant}
 use Rattle.y86_base.specs.declared.parts.Variant.TheVariants.{Base, Full}
-use Rattle.y86_isa.specs.declared.columns.Row.{Row}
 use Rattle.y86_isa.specs.declared.columns.Field.{Field}
 use Rattle.y86_isa.specs.declared.columns.Field.TheVariants.{Dash, FieldA, FieldB, Stack}
 use Rattle.y86_isa.specs.declared.columns.Access.{Access}
 use Rattle.y86_isa.specs.declared.columns.Access.TheVariants.{NoMem, StoreA, StoreP, LoadE, LoadA}
 use Rattle.y86_isa.specs.declared.fetch.Reading.{Reading}
 use Rattle.y86_isa.specs.declared.machine.Machine.{Machine}
-use Rattle.y86_isa.specs.declared.machine.Store.{Store}
 use Rattle.y86_isa.specs.Table.{ihalt, inop, iinvalid, row}
-use Rattle.y86_isa.specs.RowTests.{is_dash, is_field_a, is_field_b, is_used, has_operand_a, accesses, is_branch, is_loaded}
+use Rattle.y86_isa.specs.RowTests.{is_dash, is_field_a, is_field_b, is_used, accesses}
 use Rattle.y86_isa.specs.Machine.{is_aok}
 use Rattle.y86_isa.specs.Blocks.{register_number, reading, fetched, fetch_status, flags_after, is_load, is_store, data_error, data_store, stored}
 use Rattle.y86_isa.specs.Work.{work}
@@ -25,7 +23,7 @@ use Rattle.y86_isa.specs.Laws.{IsReading, DoesNothing}
 use Rattle.y86_isa.proofs.RowsAgree.{accesses_agree, fields_agree}
 use Rattle.y86_isa.proofs.Records.{advance-goes, advance-stops}
 use Rattle.y86_isa.proofs.WhatIsRead.{IsReading-reading, IsFields-fetched}
-use Rattle.y86_isa.proofs.Works.{FollowsRow-work, FollowsFetch-work}
+use Rattle.y86_isa.proofs.Works.{FollowsRow-work}
 
 -- ---- an instruction that is bad at its fetch does nothing
 

@@ -1,13 +1,12 @@
 -- What a store leaves of a memory.
-use Rattle.std.proofs.Common.{◌≡◌, ℕ, ◌+◌, ◌-◌, ◌^◌, ◌<◌, ◌≤◌, ◌⊎◌, inl, inr, true, nat_le, List, ◌++◌, length, take, drop, get_or, Option, Some, None, slice_get, All, refl, sym, ap, ◌∙◌, arith, length-append, length-take, length-drop}
+use Rattle.std.proofs.Common.{◌≡◌, ℕ, ◌+◌, ◌-◌, ◌<◌, ◌≤◌, ◌⊎◌, inl, inr, nat_le, List, ◌++◌, length, take, drop, get_or, Option, Some, None, slice_get, All, refl, sym, ap, ◌∙◌, arith, length-take}
 use Rattle.std.specs.Int.{to_le_bytes, w64}
-use Rattle.std.proofs.Math.Seq.{drop-append_seam, take-append_seam}
-use Rattle.std.proofs.lemmas.Bool.{cond_both, leb-true, le-leb, cases_lt}
-use Rattle.std.proofs.lemmas.Nat.{from_le_bytes-to_le_bytes_8}
+use Rattle.std.proofs.lemmas.Bool.{cond_both, leb-true, cases_lt}
 use Rattle.std.proofs.lemmas.List.{get_or_append_left, get_or-append_right, get_or-take, get_or-drop}
 use Rattle.std.proofs.lemmas.Option.{slice_get-get_or, slice_get_past}
 use Rattle.std.proofs.lemmas.List.Elements.{All-from_recursion, All-append, All-take, All-drop}
-use Rattle.y86_base.specs.Image.{word_at, put_word}
+use Rattle.y86_base.specs.Image.{put_word}
+use Rattle.y86_base.proofs.Memories.{length-put_word}
 use Rattle.y86_isa.specs.declared.machine.Store.{Store}
 use Rattle.y86_isa.specs.Blocks.{stored}
 use Rattle.y86_isa.specs.Run.{IsImage}
@@ -22,22 +21,13 @@ bytes_of_word word =
 
 -- ---- a word that is put where it is inside
 
-length_put : (memory : List ℕ) (address word : ℕ) → address + 8 ≤ length memory →
-    length (take address memory ++ (to_le_bytes w64 word ++ drop (address + 8) memory)) ≡ length memory
-length_put memory address word h = simp (length-append, length-take, length-drop) (omega arith)
-
 All-put_word : (memory : List ℕ) (address word : ℕ) → All IsByte memory → All IsByte (put_word memory address word)
+unfolding put_word
 All-put_word memory address word h =
     cond_both (nat_le (address + 8) (length memory)) _ memory (All IsByte)
     (λ _. All-append IsByte (take address memory) _ (All-take IsByte address memory h)
     (All-append IsByte (to_le_bytes w64 word) _ (bytes_of_word word) (All-drop IsByte (address + 8) memory h)))
     (λ _. h)
-
-pub length-put_word : (memory : List ℕ) (address word : ℕ) → length (put_word memory address word) ≡ length memory
-length-put_word memory address word =
-    cond_both (nat_le (address + 8) (length memory)) _ memory (λ m. length m ≡ length memory)
-    (λ e. length_put memory address word (leb-true _ _ e))
-    (λ _. refl)
 
 -- ---- the memory after the store of an instruction
 
@@ -70,22 +60,11 @@ above_word memory address word k inside h =
 
 pub get_or-put_word_other : (memory : List ℕ) (address word k : ℕ) → (k < address) ⊎ (address + 8 ≤ k) →
     get_or (put_word memory address word) k 0 ≡ get_or memory k 0
+unfolding put_word
 get_or-put_word_other memory address word k h =
     cond_both (nat_le (address + 8) (length memory)) _ memory (λ m. get_or m k 0 ≡ get_or memory k 0)
     (λ e. elim h [ inl lt ↦ below_word memory address word k (leb-true _ _ e) lt | inr le ↦ above_word memory address word k (leb-true _ _ e) le ])
     (λ _. refl)
-
--- the word that was put is there, where it is inside
-pub word_at-put_word : (memory : List ℕ) (address word : ℕ) → address + 8 ≤ length memory → word < 2 ^ 64 →
-    word_at (put_word memory address word) address ≡ Some word
-word_at-put_word memory address word inside lt =
-    let fits : nat_le (address + 8) (length memory) ≡ true = le-leb _ _ inside in
-    let put = take address memory ++ (to_le_bytes w64 word ++ drop (address + 8) memory) in
-    let long : length (take address memory) ≡ address = simp length-take (omega arith) in
-    let rest : drop address put ≡ to_le_bytes w64 word ++ drop (address + 8) memory =
-    ap (λ n. drop n put) (sym long) ∙ drop-append_seam (take address memory) (to_le_bytes w64 word ++ drop (address + 8) memory) in
-    let bytes : take 8 (drop address put) ≡ to_le_bytes w64 word = rw rest (take-append_seam (to_le_bytes w64 word) (drop (address + 8) memory)) in
-    rw (fits, length_put memory address word inside, fits, bytes) (ap Some (from_le_bytes-to_le_bytes_8 word lt))
 
 -- two memories of one size that read alike at an address have the same byte there, if any
 pub same_byte : (xs ys : List ℕ) (k : ℕ) → length xs ≡ length ys → get_or xs k 0 ≡ get_or ys k 0 → slice_get xs k ≡ slice_get ys k

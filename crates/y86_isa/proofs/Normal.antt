@@ -1,9 +1,8 @@
 -- The normal form of a record.
 use Rattle.std.proofs.Common.{◌≡◌, Bool, true, false, cond, refl}
 use Rattle.y86_isa.specs.declared.machine.Rec.{Rec}
-use Rattle.y86_isa.specs.Machine.{is_aok, normal, written_number, written_word}
+use Rattle.y86_isa.specs.Machine.{is_aok, normal}
 use Rattle.y86_isa.specs.Laws.{SameButDone}
-use Rattle.y86_isa.specs.Table.{no_register}
 
 kept : (b : Bool) (r s t : Rec) → SameButDone r s → SameButDone r t → SameButDone r (cond b s t)
 kept true r s t h k = h

@@ -5,9 +5,9 @@ use Rattle.y86_base.specs.Registers.{with_register}
 use Rattle.y86_base.specs.declared.parts.Variant.{Variant}
 use Rattle.y86_isa.specs.declared.machine.Machine.{Machine}
 use Rattle.y86_isa.specs.declared.machine.Rec.{Rec}
-use Rattle.y86_isa.specs.Machine.{is_aok, normal, written_number, written_word}
+use Rattle.y86_isa.specs.Machine.{is_aok, written_number, written_word}
 use Rattle.y86_isa.specs.Laws.{TellsStep}
-use Rattle.y86_isa.specs.Blocks.{written_back, stored}
+use Rattle.y86_isa.specs.Blocks.{stored}
 use Rattle.y86_isa.specs.Work.{work}
 use Rattle.y86_isa.specs.Step.{finished, machine_after, record_of, advance, retired}
 use Rattle.y86_isa.specs.Run.{run_from, records_from}
@@ -16,6 +16,7 @@ use Rattle.y86_isa.proofs.Steps.{Advances, advances}
 use Rattle.y86_isa.proofs.Steps.Advances.{stays, stops, goes}
 
 written_by : (b : Bool) (registers : List ℕ) (n word : ℕ) → nat_lt n 15 ≡ b → with_register registers n word ≡ with_register registers (cond b n 15) (cond b word 0)
+unfolding with_register
 written_by true registers n word e = refl
 written_by false registers n word e = rw e refl
 
@@ -23,7 +24,7 @@ pub written_same : (registers : List ℕ) (n word : ℕ) → with_register regis
 written_same registers n word = written_by (nat_lt n 15) registers n word refl
 
 tells_case : (v : Variant) (m after : Machine) (r : Option Rec) → Advances v m after r → IfSome r (λ x. TellsStep m after x)
-unfolding stored
+unfolding stored with_register
 tells_case v m _ _ (stays e) = tt
 tells_case v m _ _ (stops e w) = record { pc = rw w refl; stat = rw w refl; flags = rw w refl; mem = rw w refl; regs = rw w refl }
 tells_case v m _ _ (goes e w) =

@@ -1,16 +1,12 @@
 -- Facts that hold of each row of the instruction table: a test that computes at every row holds at each icode.
-use Rattle.std.proofs.Common.{◌≡◌, ◌≢◌, ℕ, zero, suc, ◌+◌, ◌<◌, ◌≤◌, Bool, true, false, cond, not, ◌&&◌, ◌||◌, nat_le, ◌==◌, List, [], ◌∷◌, unwrap_or, slice_get, length, refl, sym, ◌∙◌, subst, arith, add-zero, zero-add}
+use Rattle.std.proofs.Common.{◌≡◌, ℕ, zero, suc, ◌+◌, ◌<◌, ◌≤◌, Bool, true, cond, ◌&&◌, ◌||◌, nat_le, ◌==◌, List, [], ◌∷◌, unwrap_or, slice_get, length, refl, sym, ◌∙◌, subst, arith, add-zero, zero-add}
 use Rattle.std.specs.List.{list_all}
 use Rattle.std.proofs.lemmas.Option.{slice_get_past, unwrap_or-slice_get}
 use Rattle.std.proofs.lemmas.List.{get_or_append_left}
-use Rattle.std.proofs.lemmas.Bool.{and_parts, eqb-true, leb-true, ne_eqb, false≢true}
+use Rattle.std.proofs.lemmas.Bool.{and_parts, eqb-true, leb-true}
 use Rattle.y86_base.specs.declared.parts.Variant.{Variant}
 use Rattle.y86_base.specs.declared.parts.Variant.TheVariants.{Base, Full}
 use Rattle.y86_isa.specs.declared.columns.Row.{Row}
-use Rattle.y86_isa.specs.declared.columns.Field.{Field}
-use Rattle.y86_isa.specs.declared.columns.Field.TheVariants.{Dash, FieldA, FieldB, Stack}
-use Rattle.y86_isa.specs.declared.columns.Next.{Next}
-use Rattle.y86_isa.specs.declared.columns.Next.TheVariants.{Itself, Fall, Branch, Target, Loaded}
 use Rattle.y86_isa.specs.Table.{rows, row, dash_row, iaddq}
 use Rattle.y86_isa.specs.RowTests.{is_dash, is_stack}
 use Rattle.y86_isa.specs.Encoding.{widest}

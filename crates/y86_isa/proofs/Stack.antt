@@ -1,5 +1,5 @@
 -- What pushq and popq do to %rsp itself.
-use Rattle.std.proofs.Common.{◌≡◌, ℕ, ◌<◌, Bool, true, false, cond, List, length, Option, Some, None, IfSome, unwrap_or, refl, sym, ap, ◌∙◌, arith}
+use Rattle.std.proofs.Common.{◌≡◌, ℕ, Bool, true, false, cond, length, Option, Some, None, IfSome, unwrap_or, refl, sym, ap, ◌∙◌, arith}
 use Rattle.std.specs.Prelude.{is_none, option_map}
 use Rattle.std.proofs.lemmas.Bool.{false≢true}
 use Rattle.y86_base.specs.Image.{word_at}
@@ -17,11 +17,11 @@ use Rattle.y86_isa.specs.Table.{row}
 use Rattle.y86_isa.specs.Machine.{is_aok}
 use Rattle.y86_isa.specs.Blocks.{fetched, data_error, data_read, data_store}
 use Rattle.y86_isa.specs.Work.{work}
-use Rattle.y86_isa.specs.Step.{record_of, advance, retired}
+use Rattle.y86_isa.specs.Step.{advance, retired}
 use Rattle.y86_isa.specs.Run.{IsMachine}
 use Rattle.y86_isa.specs.Laws.{PushStoresOld, PopLeavesLoaded}
 use Rattle.y86_isa.proofs.Changes.{record_icode, record_stat}
-use Rattle.y86_isa.proofs.Registers.{length-with_register, register-written}
+use Rattle.y86_base.proofs.Memories.{length-with_register, register-with_register}
 use Rattle.y86_isa.proofs.Steps.{Advances, advances}
 use Rattle.y86_isa.proofs.Steps.Advances.{stays, stops, goes}
 use Rattle.y86_isa.proofs.Works.{FollowsFetch-work, FollowsRow-work}
@@ -89,7 +89,7 @@ popped v m size ok e a =
     let kept : length (with_register m.regs (work v m).dst_e (work v m).val_e) ≡ 15 = length-with_register m.regs (work v m).dst_e (work v m).val_e ∙ size in
     ap (word_at m.mem) (sym address)
     ∙ (loaded_word (word_at m.mem (work v m).address) inside
-    ∙ ap Some (sym val_m ∙ sym (rw dst_m (register-written (with_register m.regs (work v m).dst_e (work v m).val_e) 4 (work v m).val_m kept (omega arith)))))
+    ∙ ap Some (sym val_m ∙ sym (rw dst_m (register-with_register (with_register m.regs (work v m).dst_e (work v m).val_e) 4 (work v m).val_m kept (omega arith)))))
 
 pop_case : (v : Variant) (m after : Machine) (r : Option Rec) → length m.regs ≡ 15 → Advances v m after r →
     IfSome r (λ x. x.stat ≡ Aok → x.icode ≡ 11 → (fetched v m.mem m.pc).r_a ≡ 4 → word_at m.mem (register m.regs 4) ≡ Some (register after.regs 4))

@@ -10,7 +10,8 @@ use Rattle.y86_isa.specs.Blocks.{stored}
 use Rattle.y86_isa.specs.Work.{work}
 use Rattle.y86_isa.specs.Step.{finished, record_of, step, advance, retired}
 use Rattle.y86_isa.specs.Run.{IsImage, IsStoredBy, IsInStore}
-use Rattle.y86_isa.proofs.Memories.{length-stored, IsImage-stored, get_or-put_word_other, length-put_word, same_byte}
+use Rattle.y86_isa.proofs.Memories.{length-stored, IsImage-stored, get_or-put_word_other, same_byte}
+use Rattle.y86_base.proofs.Memories.{length-put_word}
 
 -- the cases of a step: the machine has stopped, its instruction ends with another status than AOK, or with AOK
 pub data Advances (v : Variant) (m : Machine) : Machine → Option Rec → Type 0 where

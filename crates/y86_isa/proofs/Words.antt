@@ -8,7 +8,6 @@ use Rattle.std.proofs.lemmas.Bool.{cond_both, cases_lt, ltb-true}
 use Rattle.std.proofs.lemmas.List.{get_or_past}
 use Rattle.std.proofs.lemmas.Option.{unwrap_or-slice_get}
 use Rattle.std.proofs.lemmas.List.Elements.{All-set, All-take, All-drop, All-replicate}
-use Rattle.std.proofs.lemmas.List.{length-set}
 use Rattle.y86_base.specs.Image.{word_at}
 use Rattle.y86_base.specs.Registers.{register, with_register}
 use Rattle.y86_base.specs.declared.parts.Variant.{Variant}
@@ -26,7 +25,7 @@ use Rattle.y86_isa.specs.Blocks.{byte_at, word_from, constant_at, field_a, field
 use Rattle.y86_isa.specs.Work.{work}
 use Rattle.y86_isa.specs.Step.{advance, retired}
 use Rattle.y86_isa.specs.Run.{IsImage, IsMachine, FitsFields, run_from}
-use Rattle.y86_isa.proofs.Registers.{length-with_register}
+use Rattle.y86_base.proofs.Memories.{length-with_register}
 use Rattle.y86_isa.proofs.Steps.{Advances, advances, IsImage-advance}
 use Rattle.y86_isa.proofs.Steps.Advances.{stays, stops, goes}
 
@@ -78,6 +77,7 @@ field_b-le memory pc true h = omega arith
 field_b-le memory pc false h = omega arith
 
 word_at-lt : (memory : List ℕ) (address : ℕ) → All IsByte memory → unwrap_or (word_at memory address) 0 < 2 ^ 64
+unfolding word_at
 word_at-lt memory address h =
     cond_both (nat_le (address + 8) (length memory)) (Some (from_le_bytes w64 (take 8 (drop address memory)))) None (λ o. unwrap_or o 0 < 2 ^ 64)
     (λ _. from_le_bytes-lt (take 8 (drop address memory)) (λ k. get_or-byte _ k (All-take IsByte 8 (drop address memory) (All-drop IsByte address memory h))))
@@ -91,6 +91,7 @@ data_read-lt memory address false h = omega arith
 -- ---- registers and the ALU
 
 register-lt : (registers : List ℕ) (n : ℕ) → length registers ≡ 15 → All IsWord registers → register registers n < 2 ^ 64
+unfolding register
 register-lt registers n size h =
     cond_both (nat_lt n 15) (get_or registers n 0) 0 IsWord (λ e. h n 0 (omega (arith, ltb-true n 15 e))) (λ _. omega arith)
 
@@ -126,6 +127,7 @@ next_address-lt Loaded pc val_p val_c val_m cnd a b c d = d
 -- ---- a step and a run
 
 with_register-words : (registers : List ℕ) (n word : ℕ) → All IsWord registers → word < 2 ^ 64 → All IsWord (with_register registers n word)
+unfolding with_register
 with_register-words registers n word h lt =
     cond_both (nat_lt n 15) (slice_set registers n word) registers (All IsWord) (λ _. All-set IsWord registers n word lt h) (λ _. h)
 

@@ -2,6 +2,7 @@
 use Rattle.std.specs.Prelude.{◌≡◌, ℕ, zero, suc, ◌+◌, ◌^◌, ◌<◌, ◌≤◌, List, [], ◌++◌, length, All, Option, Some, None, slice_get, if◌then◌else◌}
 use Rattle.std.specs.Option.{option_to_list}
 use Rattle.y86_base.specs.Image.{IsSize}
+pub use Rattle.y86_base.specs.Image.{IsImage}
 use Rattle.y86_base.specs.declared.parts.Stat.TheVariants.{Aok}
 use Rattle.y86_base.specs.declared.parts.Variant.{Variant}
 use Rattle.y86_isa.specs.declared.fetch.Fetched.{Fetched}
@@ -12,11 +13,6 @@ use Rattle.y86_isa.specs.Table.{row, is_instruction}
 use Rattle.y86_isa.specs.Blocks.{high_half, low_half}
 use Rattle.y86_isa.specs.Machine.{start}
 use Rattle.y86_isa.specs.Step.{advance, retired}
-
--- a memory image: its size is one that an image takes, and its numbers are bytes
-pub record IsImage (image : List ℕ) : Type 0 where
-  pub sized : IsSize (length image)
-  pub bytes : All (λ byte. byte < 256) image
 
 -- a machine of the processor's sizes: 15 registers, words below 2^64, and a memory that is an image
 pub record IsMachine (m : Machine) : Type 0 where

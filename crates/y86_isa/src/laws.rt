@@ -1,8 +1,8 @@
 //! Theorems about steps and runs. Each is a function that does nothing and whose contract is the theorem.
-ghost use Rattle.std.specs.Prelude.{◌≡◌, ◌≢◌, ℕ, ◌+◌, ◌^◌, ◌<◌, ◌≤◌, Bool, IfSome, IsTrue, if◌then◌else◌, List, [], ◌++◌, length, slice_get, None, Some};
+ghost use Rattle.std.specs.Prelude.{◌≡◌, ◌≢◌, ℕ, ◌+◌, ◌^◌, ◌<◌, ◌≤◌, Bool, IfSome, IsTrue, if◌then◌else◌, List, [], ◌++◌, length, slice_get, None};
 ghost use Rattle.std.specs.List.{list_all};
 ghost use Rattle.std.specs.Option.{option_to_list};
-ghost use Rattle.y86_base.specs.Image.{IsSize, put_word, word_at};
+ghost use Rattle.y86_base.specs.Image.{IsSize};
 ghost use Rattle.y86_base.specs.declared.parts.Stat.TheVariants.{Aok};
 ghost use Rattle.y86_base.specs.declared.parts.Variant.{Variant};
 ghost use Rattle.y86_isa.specs.Blocks.{fetched, reading};
@@ -62,13 +62,10 @@ pub fn law_of_steps()
     ensures record { (v : Variant) (m : Machine) → IfSome (retired v m) (λ r. TellsStep m (advance v m) r) }
 {}
 
-/// What `pushq %rsp` and `popq %rsp` do (CS:APP 3e, practice problems 4.7 and 4.8), and what is read where a word was
-/// stored.
+/// What `pushq %rsp` and `popq %rsp` do (CS:APP 3e, practice problems 4.7 and 4.8).
 pub fn law_of_stack()
     ensures pushed { (v : Variant) (m : Machine) → PushStoresOld v m }
     ensures popped { (v : Variant) (m : Machine) → IsMachine m → PopLeavesLoaded v m }
-    ensures read_back { (memory : List ℕ) (address word : ℕ) → address + 8 ≤ length memory → word < 2 ^ 64 →
-        word_at (put_word memory address word) address ≡ Some word }
 {}
 
 /// The normal form of a record keeps all but destinations and stores, and with another status than AOK these count for

@@ -1,5 +1,4 @@
 use Rattle.y86_isa.proofs.Stack.{PushStoresOld-advance, PopLeavesLoaded-advance}
-use Rattle.y86_isa.proofs.Memories.{word_at-put_word}
 use Rattle.y86_isa.proofs.laws.law_of_stack.Goals as goal
 
 pub returns-clause-pushed : goal.returns-clause-pushed
@@ -7,6 +6,3 @@ returns-clause-pushed c = PushStoresOld-advance
 
 pub returns-clause-popped : goal.returns-clause-popped
 returns-clause-popped c = PopLeavesLoaded-advance
-
-pub returns-clause-read_back : goal.returns-clause-read_back
-returns-clause-read_back c = word_at-put_word
