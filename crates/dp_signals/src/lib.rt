@@ -3,6 +3,7 @@
 #![tactic(auto)]
 
 mod blocks;
+mod laws;
 mod movers;
 mod pipe_cycle;
 mod pipe_row;
@@ -19,6 +20,7 @@ pub use blocks::{
     cnd, dmem_error, fetch_ra, fetch_rb, imem_error, imem_icode, imem_ifun, reg_val, val_c, val_e,
     val_m, val_p,
 };
+pub use laws::law_of_tables;
 pub use movers::{Ending, Mover, Movers};
 pub use pipe_cycle::{advance, ending, retires};
 pub use pipe_signals::pipe_table;
