@@ -2,4 +2,5 @@ pub mod Grammar
 pub mod Fault
 pub mod Depth
 pub mod Machine
+pub mod Print
 pub mod Tokens

@@ -5,6 +5,7 @@
 mod fault;
 mod frames;
 mod scan;
+mod printer;
 mod stack;
 mod state;
 mod text;
@@ -12,5 +13,6 @@ mod tokens;
 mod tree;
 
 pub use fault::{HclFault, HclWhy};
+pub use printer::print;
 pub use text::Text;
 pub use tree::{Branch, CmpOp, Expr, File, Item, Kind};
