@@ -4,8 +4,8 @@
 
 mod fault;
 mod frames;
-mod scan;
 mod printer;
+mod scan;
 mod stack;
 mod state;
 mod text;
