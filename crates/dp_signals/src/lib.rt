@@ -22,7 +22,7 @@ pub use blocks::{
 };
 pub use laws::law_of_tables;
 pub use movers::{Ending, Mover, Movers};
-pub use pipe_cycle::{advance, ending, retires};
+pub use pipe_cycle::{PIPE_ROWS, PipeValues, advance, end_of_cycle, ending, retires};
 pub use pipe_signals::pipe_table;
 pub use pipe_state::{PipeState, StageD, StageE, StageM, StageW, Trail};
 pub use seq_cycle::{SEQ_ROWS, SeqState, SeqValues, seq_advance, seq_record};

@@ -1,6 +1,8 @@
 ghost use Rattle.std.specs.Prelude.{◌≡◌, ◌&&◌};
+ghost use Rattle.y86_base.specs.Stat.{stat_of};
 ghost use Rattle.dp_signals.specs.PipeCycle as spec;
 ghost use Rattle.dp_signals.specs.PipeNames as pipe;
+ghost use Rattle.dp_signals.specs.PipeRun.{end_by};
 ghost use Rattle.dp_signals.specs.PipeState.{bubble_d, bubble_e, bubble_m, bubble_w};
 ghost use Rattle.dp_signals.specs.Values.{set};
 ghost use Rattle.hcl_types.specs.Terms.{at};
@@ -77,6 +79,17 @@ pub fn ending(values: &PipeValues) -> Ending
         Ending::Pip
     } else {
         Ending::Going
+    }
+}
+
+/// The status that a cycle with these values leaves: AOK where the machine goes on, and that of `Stat` where it stopped.
+pub fn end_of_cycle(ending: Ending, values: &PipeValues) -> Stat
+    ensures { result ≡ end_by ending (stat_of (at values.now pipe.Stat)) }
+{
+    match ending {
+        Ending::Going => Stat::Aok,
+        Ending::Stopped => Stat::of(values[row::STAT]),
+        Ending::Pip => Stat::Pip,
     }
 }
 
