@@ -96,6 +96,7 @@ each_same one other h zero = each_below-zero one ∙ sym (each_below-zero other)
 each_same one other h (suc n) = each_below-suc n one ∙ rw (each_same one other h n, h n) (sym (each_below-suc n other))
 
 zero_at_start : (first : List ℕ) (number : ℕ) → register (start first).regs number ≡ 0
+unfolding register
 zero_at_start first number =
     elim (cases_lt number 15) [
       | inl lt ↦ rw (lt-ltb number 15 lt) (get_or-replicate 15 number 0 0 lt)

@@ -30,6 +30,7 @@ eight memory at h = simp (length-take, length-drop) (omega arith)
 -- equal words have equal bytes
 same_bytes : (first memory : List ℕ) (at : ℕ) → IsImage first → IsImage memory → at + 8 ≤ length first → length memory ≡ length first →
     unwrap_or (word_at memory at) 0 ≡ unwrap_or (word_at first at) 0 → bytes_at memory at ≡ bytes_at first at
+unfolding word_at
 same_bytes first memory at f m inside size e =
     let within : at + 8 ≤ length memory = omega arith in
     let a : nat_le (at + 8) (length memory) ≡ true = le-leb _ _ within in

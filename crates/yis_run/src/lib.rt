@@ -10,6 +10,7 @@ mod stepping;
 mod tests;
 
 pub use laws::law_of_report;
+pub use lines::flag;
 pub use outcome::End;
 pub use printer::report;
 pub use stepping::{Ran, run};

@@ -6,8 +6,8 @@ ghost use Rattle.yis_run.specs.Report as text;
 use wb_io::{Failed, Sink, put_all, put_pieces};
 use y86_base::{Flags, Image, Numeral, Regs, Stat};
 
-/// A flag as a digit.
-fn flag(b: bool) -> &'static [u8]
+/// A flag as a digit, `0` or `1`.
+pub fn flag(b: bool) -> &'static [u8]
     ensures { result.now ≡ text.flag b }
 {
     if b { b"1" } else { b"0" }
