@@ -5,3 +5,5 @@ pub mod Sound
 pub mod Live
 pub mod Told
 pub mod Exact
+mod Stacks
+mod Machines

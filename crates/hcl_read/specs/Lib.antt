@@ -4,3 +4,4 @@ pub mod Depth
 pub mod Machine
 pub mod Print
 pub mod Tokens
+pub mod Steps

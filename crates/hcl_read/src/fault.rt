@@ -1,4 +1,5 @@
 use thiserror::Error;
+use y86_base::Memory;
 
 /// Why a text is refused. Of several reasons at one place the first of `BadByte`, `Syntax`, `NumberTooWide`,
 /// `DepthOver64`, `NamesOver256` is told.
@@ -22,6 +23,17 @@ pub enum HclWhy {
     /// An allocation was refused.
     #[error("Memory")]
     Memory,
+}
+
+impl From<Memory> for HclWhy {
+    ghost use Rattle.std.specs.Prelude.{◌≡◌};
+    ghost use Rattle.hcl_read.specs.declared.fault.HclWhy.TheVariants as whys;
+
+    ghost from_gives = { λ _ why. why ≡ whys.Memory };
+
+    fn from(_memory: Memory) -> HclWhy {
+        HclWhy::Memory
+    }
 }
 
 /// The first place where the text is no longer the beginning of a file, as line and column from 1, a column

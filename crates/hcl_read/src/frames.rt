@@ -1,3 +1,6 @@
+ghost use Rattle.std.specs.Prelude.{◌≡◌};
+ghost use Rattle.hcl_read.specs.Depth.{level_behind};
+
 use crate::tree::{Branch, CmpOp, Expr};
 use y86_base::{Boxed, Items};
 
@@ -28,6 +31,20 @@ pub enum Frame {
     Guard(Side, Items<Branch>, Level),
     /// `[`, in the value behind a guard.
     Value(Side, Items<Branch>, Boxed<Expr>, Level),
+}
+
+impl Frame {
+    /// How many `!` stand in front of the operand behind the bracket.
+    pub fn nots(&self) -> u64
+        ensures { result ≡ (level_behind self.now).nots }
+    {
+        match self {
+            Frame::Paren(_, level) => level.nots,
+            Frame::Set(_, _, level) => level.nots,
+            Frame::Guard(_, _, level) => level.nots,
+            Frame::Value(_, _, _, level) => level.nots,
+        }
+    }
 }
 
 /// What comes next in an expression.

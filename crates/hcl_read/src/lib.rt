@@ -8,6 +8,7 @@ mod printer;
 mod scan;
 mod stack;
 mod state;
+mod steps;
 mod text;
 mod tokens;
 mod tree;

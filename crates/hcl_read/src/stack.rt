@@ -1,5 +1,13 @@
+ghost use Rattle.std.specs.Prelude.{◌≡◌, ◌+◌, ◌∷◌, [], nat_le, OnOk, MatchOption};
+ghost use Rattle.hcl_read.specs.Depth.{depth_of};
+
 use crate::frames::Frame;
+use std::alloc::Global;
 use std::marker::Model;
+use y86_base::Memory;
+
+/// How many of `(`, `[`, `{` and `!` may be open around a token.
+pub const DEEPEST: u64 = 64;
 
 /// The open brackets of an expression, seen as a list with the innermost first.
 #[derive(Drop)]
@@ -18,4 +26,59 @@ impl Model for Stack {
     ghost coded = { Prim.hlevel (codes, expr.the_row.coded) };
 
     ghost view = { λ s. reverse s.frames.items };
+}
+
+impl Stack {
+    /// No open bracket.
+    pub fn new(alloc: Global) -> Stack
+        ensures { result ≡ [] }
+    {
+        Stack {
+            frames: Vec::new(alloc),
+        }
+    }
+
+    /// Opens a bracket.
+    #[tactic(auto, using(crate::proofs::Stacks::stack_rules))]
+    pub fn push(&mut self, frame: Frame) -> Result<(), Memory>
+        ensures { OnOk result (self.new ≡ frame ∷ self.old) }
+    {
+        match self.frames.push(frame) {
+            Ok(()) => Ok(()),
+            Err(_) => Err(Memory),
+        }
+    }
+
+    /// Closes the innermost bracket.
+    #[tactic(auto, using(crate::proofs::Stacks::stack_rules))]
+    pub fn pop(&mut self) -> Option<Frame>
+        ensures { MatchOption result (self.old ≡ []) (λ frame. self.old ≡ frame ∷ self.new) }
+    {
+        self.frames.pop()
+    }
+
+    /// Whether 64 of the brackets and of `!`, so many of which stand behind the innermost bracket, are open.
+    #[tactic(auto, using(crate::proofs::Stacks::stack_rules))]
+    pub fn is_full(&self, nots: u64) -> bool
+        ensures { result ≡ nat_le 64 (nots + depth_of self.now) }
+    {
+        if nots >= DEEPEST {
+            return true;
+        }
+        let mut room = DEEPEST - nots;
+        let mut rest = self.frames.as_slice();
+        'frames: loop {
+            match rest.split_last() {
+                None => return false,
+                Some((frame, below)) => {
+                    let nots = frame.nots();
+                    if nots >= room - 1 {
+                        return true;
+                    }
+                    room -= nots + 1;
+                    rest = below;
+                }
+            }
+        }
+    }
 }

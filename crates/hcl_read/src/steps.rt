@@ -1,0 +1,410 @@
+ghost use Rattle.std.specs.Prelude.{◌≡◌, ◌∷◌, ◌++◌, [], true, IfOk};
+ghost use Rattle.hcl_read.specs.Grammar as grammar;
+ghost use Rattle.hcl_read.specs.Machine as machine;
+ghost use Rattle.hcl_read.specs.Depth.{level_behind};
+ghost use Rattle.hcl_read.specs.Steps.{Steps};
+ghost use Rattle.hcl_read.specs.declared.frames.Frame.TheVariants.{Paren, Set, Guard, Value};
+ghost use Rattle.hcl_read.specs.declared.frames.Spot.TheVariants.{Want};
+ghost use Rattle.hcl_read.specs.declared.state.Move.TheVariants.{On};
+
+use crate::fault::HclWhy;
+use crate::frames::{Frame, Level, Side, Spot};
+use crate::stack::Stack;
+use crate::state::Move;
+use crate::tokens::Token;
+use crate::tree::{Branch, CmpOp, Expr};
+use std::alloc::Global;
+use y86_base::{Boxed, Items, Memory};
+
+/// A list with one more element at its end.
+pub fn with_last<T: Drop>(items: Items<T>, last: T) -> Result<Items<T>, Memory>
+    ensures { IfOk result (λ all. all ≡ items ++ last ∷ []) }
+{
+    let mut vec = items.into_vec();
+    match vec.push(last) {
+        Ok(()) => Ok(Items::of(vec)),
+        Err(_) => Err(Memory),
+    }
+}
+
+/// The reason at a token that cannot stand where it does.
+#[tactic(auto, unfolding(crate::specs::Machine::refusal))]
+pub fn refusal(token: Token) -> HclWhy
+    ensures { result ≡ machine.refusal token }
+{
+    match token {
+        Token::Bad => HclWhy::BadByte,
+        _ => HclWhy::Syntax,
+    }
+}
+
+/// The level of an expression that begins.
+pub fn start_level(alloc: Global) -> Level
+    ensures { result ≡ machine.start_level }
+{
+    Level {
+        nots: 0,
+        ands: Items::of(Vec::new(alloc)),
+        ors: Items::of(Vec::new(alloc)),
+    }
+}
+
+/// An expression behind some `!`.
+#[tactic(auto, using(crate::proofs::Machines::machine_rules))]
+fn negate(alloc: Global, nots: u64, e: Expr) -> Result<Expr, Memory>
+    ensures { IfOk result (λ all. all ≡ machine.negate nots e) }
+{
+    let mut all = e;
+    for _i in 0..nots {
+        all = Expr::Not(Boxed::of(alloc, all)?);
+    }
+    Ok(all)
+}
+
+/// The operands of an `||` list as one expression.
+fn or_of(es: Items<Expr>) -> Expr
+    ensures { result ≡ grammar.or_of es }
+{
+    let mut vec = es.into_vec();
+    if vec.len() == 1 {
+        if let Some(e) = vec.pop() {
+            return e;
+        }
+    }
+    Expr::Or(Items::of(vec))
+}
+
+/// The operands of an `&&` list as one expression.
+fn and_of(es: Items<Expr>) -> Expr
+    ensures { result ≡ grammar.and_of es }
+{
+    let mut vec = es.into_vec();
+    if vec.len() == 1 {
+        if let Some(e) = vec.pop() {
+            return e;
+        }
+    }
+    Expr::And(Items::of(vec))
+}
+
+/// Behind a comparison or an operand that stands for one.
+#[tactic(auto, unfolding(crate::specs::Machine::related))]
+fn related(alloc: Global, level: Level, e: Expr) -> Result<Spot, Memory>
+    ensures { IfOk result (λ spot. spot ≡ machine.related level e) }
+{
+    let Level { nots, ands, ors } = level;
+    let operand = negate(alloc, nots, e)?;
+    Ok(Spot::After(with_last(ands, operand)?, ors))
+}
+
+/// Behind an operand of a comparison.
+#[tactic(auto, unfolding(crate::specs::Machine::put))]
+fn put(alloc: Global, side: Side, level: Level, e: Expr) -> Result<Spot, Memory>
+    ensures { IfOk result (λ spot. spot ≡ machine.put side level e) }
+{
+    match side {
+        Side::Left => Ok(Spot::AfterPrim(Boxed::of(alloc, e)?, level)),
+        Side::Right(op, left) => {
+            related(alloc, level, Expr::Cmp(op, left, Boxed::of(alloc, e)?))
+        }
+    }
+}
+
+/// Opens a bracket inside which an expression begins.
+#[tactic(auto, unfolding(crate::specs::Machine::opened, crate::specs::Depth::depth))]
+fn open_bracket(alloc: Global, stack: Stack, frame: Frame) -> Result<Move, HclWhy>
+    ensures { Steps result (machine.opened true (level_behind frame) stack (On (Want machine.start_level) (frame ∷ stack))) }
+{
+    let mut stack = stack;
+    if stack.is_full(frame.nots()) {
+        return Err(HclWhy::DepthOver64);
+    }
+    stack.push(frame)?;
+    Ok(Move::On(Spot::Want(start_level(alloc)), stack))
+}
+
+/// A token where an operand of a comparison begins.
+#[tactic(auto, unfolding(crate::specs::Machine::prim))]
+fn prim(alloc: Global, side: Side, level: Level, stack: Stack, token: Token) -> Result<Move, HclWhy>
+    ensures { Steps result (machine.prim true side level stack token) }
+{
+    let operand = match token {
+        Token::OpenParen => return open_bracket(alloc, stack, Frame::Paren(side, level)),
+        Token::OpenBracket => {
+            let branches = Items::of(Vec::new(alloc));
+            return open_bracket(alloc, stack, Frame::Guard(side, branches, level));
+        }
+        Token::Number(n) => Expr::Num(n),
+        Token::Ident(text) => Expr::Name(text),
+        Token::Wide => return Err(HclWhy::NumberTooWide),
+        other => return Err(refusal(other)),
+    };
+    Ok(Move::On(put(alloc, side, level, operand)?, stack))
+}
+
+/// A token where an operand of `&&` begins.
+#[tactic(auto, unfolding(crate::specs::Machine::want, crate::specs::Machine::opened, crate::specs::Depth::depth))]
+fn want(alloc: Global, level: Level, stack: Stack, token: Token) -> Result<Move, HclWhy>
+    ensures { Steps result (machine.want true level stack token) }
+{
+    match token {
+        Token::Bang => {
+            if stack.is_full(level.nots) {
+                return Err(HclWhy::DepthOver64);
+            }
+            let Level { nots, ands, ors } = level;
+            let negated = Level {
+                nots: nots + 1,
+                ands,
+                ors,
+            };
+            Ok(Move::On(Spot::Want(negated), stack))
+        }
+        other => prim(alloc, Side::Left, level, stack, other),
+    }
+}
+
+/// A token behind an expression in parentheses.
+#[tactic(auto, unfolding(crate::specs::Machine::close))]
+fn close_group(
+    alloc: Global,
+    e: Expr,
+    side: Side,
+    level: Level,
+    stack: Stack,
+    token: Token,
+) -> Result<Move, HclWhy>
+    ensures { Steps result (machine.close e (Paren side level ∷ stack) token) }
+{
+    match token {
+        Token::CloseParen => Ok(Move::On(put(alloc, side, level, e)?, stack)),
+        other => Err(refusal(other)),
+    }
+}
+
+/// A token behind a member of a set.
+#[tactic(auto, unfolding(crate::specs::Machine::close))]
+fn close_member(
+    alloc: Global,
+    e: Expr,
+    left: Boxed<Expr>,
+    members: Items<Expr>,
+    level: Level,
+    stack: Stack,
+    token: Token,
+) -> Result<Move, HclWhy>
+    ensures { Steps result (machine.close e (Set left members level ∷ stack) token) }
+{
+    let mut stack = stack;
+    match token {
+        Token::Comma => {
+            stack.push(Frame::Set(left, with_last(members, e)?, level))?;
+            Ok(Move::On(Spot::Want(start_level(alloc)), stack))
+        }
+        Token::CloseBrace => {
+            let set = Expr::In(left, with_last(members, e)?);
+            Ok(Move::On(related(alloc, level, set)?, stack))
+        }
+        other => Err(refusal(other)),
+    }
+}
+
+/// A token behind a guard.
+#[tactic(auto, unfolding(crate::specs::Machine::close))]
+fn close_guard(
+    alloc: Global,
+    e: Expr,
+    side: Side,
+    branches: Items<Branch>,
+    level: Level,
+    stack: Stack,
+    token: Token,
+) -> Result<Move, HclWhy>
+    ensures { Steps result (machine.close e (Guard side branches level ∷ stack) token) }
+{
+    let mut stack = stack;
+    match token {
+        Token::Colon => {
+            stack.push(Frame::Value(side, branches, Boxed::of(alloc, e)?, level))?;
+            Ok(Move::On(Spot::Want(start_level(alloc)), stack))
+        }
+        other => Err(refusal(other)),
+    }
+}
+
+/// A token behind the value of a branch.
+#[tactic(auto, unfolding(crate::specs::Machine::close))]
+fn close_value(
+    e: Expr,
+    side: Side,
+    branches: Items<Branch>,
+    guard: Boxed<Expr>,
+    level: Level,
+    stack: Stack,
+    token: Token,
+) -> Result<Move, HclWhy>
+    ensures { Steps result (machine.close e (Value side branches guard level ∷ stack) token) }
+{
+    match token {
+        Token::Semicolon => {
+            let branch = Branch {
+                guard: guard.into_inner(),
+                value: e,
+            };
+            Ok(Move::On(
+                Spot::Cases(side, with_last(branches, branch)?, level),
+                stack,
+            ))
+        }
+        other => Err(refusal(other)),
+    }
+}
+
+/// A token behind a whole body.
+#[tactic(auto, unfolding(crate::specs::Machine::close))]
+fn close_body(e: Expr, token: Token) -> Result<Move, HclWhy>
+    ensures { Steps result (machine.close e [] token) }
+{
+    match token {
+        Token::Semicolon => Ok(Move::Ended(e)),
+        other => Err(refusal(other)),
+    }
+}
+
+/// A token behind an expression.
+fn close(alloc: Global, e: Expr, stack: Stack, token: Token) -> Result<Move, HclWhy>
+    ensures { Steps result (machine.close e stack token) }
+{
+    let mut stack = stack;
+    match stack.pop() {
+        None => close_body(e, token),
+        Some(Frame::Paren(side, level)) => close_group(alloc, e, side, level, stack, token),
+        Some(Frame::Set(left, members, level)) => {
+            close_member(alloc, e, left, members, level, stack, token)
+        }
+        Some(Frame::Guard(side, branches, level)) => {
+            close_guard(alloc, e, side, branches, level, stack, token)
+        }
+        Some(Frame::Value(side, branches, guard, level)) => {
+            close_value(e, side, branches, guard, level, stack, token)
+        }
+    }
+}
+
+/// A token behind an operand of `&&`, which is the last of the first list.
+#[tactic(auto, unfolding(crate::specs::Machine::after))]
+fn after(
+    alloc: Global,
+    ands: Items<Expr>,
+    ors: Items<Expr>,
+    stack: Stack,
+    token: Token,
+) -> Result<Move, HclWhy>
+    ensures { Steps result (machine.after ands ors stack token) }
+{
+    match token {
+        Token::AndAnd => {
+            let level = Level { nots: 0, ands, ors };
+            Ok(Move::On(Spot::Want(level), stack))
+        }
+        Token::OrOr => {
+            let ors = with_last(ors, and_of(ands))?;
+            let level = Level {
+                nots: 0,
+                ands: Items::of(Vec::new(alloc)),
+                ors,
+            };
+            Ok(Move::On(Spot::Want(level), stack))
+        }
+        other => {
+            let whole = or_of(with_last(ors, and_of(ands))?);
+            close(alloc, whole, stack, other)
+        }
+    }
+}
+
+/// A token behind a left operand of a comparison.
+#[tactic(auto, unfolding(crate::specs::Machine::after_prim))]
+fn after_prim(
+    alloc: Global,
+    e: Boxed<Expr>,
+    level: Level,
+    stack: Stack,
+    token: Token,
+) -> Result<Move, HclWhy>
+    ensures { Steps result (machine.after_prim e level stack token) }
+{
+    match token {
+        Token::Compare(op) => Ok(Move::On(Spot::WantRight(op, e, level), stack)),
+        Token::KeyIn => Ok(Move::On(Spot::WantSet(e, level), stack)),
+        other => {
+            let Level { nots, ands, ors } = level;
+            let operand = negate(alloc, nots, e.into_inner())?;
+            after(alloc, with_last(ands, operand)?, ors, stack, other)
+        }
+    }
+}
+
+/// A token behind `in`.
+#[tactic(auto, unfolding(crate::specs::Machine::want_set))]
+fn want_set(
+    alloc: Global,
+    e: Boxed<Expr>,
+    level: Level,
+    stack: Stack,
+    token: Token,
+) -> Result<Move, HclWhy>
+    ensures { Steps result (machine.want_set true e level stack token) }
+{
+    match token {
+        Token::OpenBrace => {
+            let members = Items::of(Vec::new(alloc));
+            open_bracket(alloc, stack, Frame::Set(e, members, level))
+        }
+        other => Err(refusal(other)),
+    }
+}
+
+/// A token behind a branch.
+#[tactic(auto, unfolding(crate::specs::Machine::after_branch))]
+fn after_branch(
+    alloc: Global,
+    side: Side,
+    branches: Items<Branch>,
+    level: Level,
+    stack: Stack,
+    token: Token,
+) -> Result<Move, HclWhy>
+    ensures { Steps result (machine.after_branch true side branches level stack token) }
+{
+    let mut stack = stack;
+    match token {
+        Token::CloseBracket => {
+            let cases = Expr::Case(branches);
+            Ok(Move::On(put(alloc, side, level, cases)?, stack))
+        }
+        other => {
+            stack.push(Frame::Guard(side, branches, level))?;
+            want(alloc, start_level(alloc), stack, other)
+        }
+    }
+}
+
+/// A token of a definition's body.
+#[tactic(auto, unfolding(crate::specs::Machine::body_step))]
+pub fn body_step(alloc: Global, spot: Spot, stack: Stack, token: Token) -> Result<Move, HclWhy>
+    ensures { Steps result (machine.body_step true spot stack token) }
+{
+    match spot {
+        Spot::Want(level) => want(alloc, level, stack, token),
+        Spot::WantRight(op, left, level) => {
+            prim(alloc, Side::Right(op, left), level, stack, token)
+        }
+        Spot::AfterPrim(e, level) => after_prim(alloc, e, level, stack, token),
+        Spot::After(ands, ors) => after(alloc, ands, ors, stack, token),
+        Spot::WantSet(e, level) => want_set(alloc, e, level, stack, token),
+        Spot::Cases(side, branches, level) => {
+            after_branch(alloc, side, branches, level, stack, token)
+        }
+    }
+}
