@@ -7,3 +7,4 @@ pub mod Told
 pub mod Exact
 mod Stacks
 mod Machines
+mod NameSets

@@ -1,15 +1,16 @@
 -- The machine's words by cases.
-use Rattle.std.proofs.Common.{◌≡◌, ℕ, ◌+◌, refl, sym, ap, ◌∙◌, add-one}
+use Rattle.std.proofs.Common.{◌≡◌, ℕ, suc, ◌+◌, ◌-◌, ◌<◌, refl, sym, ap, ◌∙◌, arith}
 use Rattle.hcl_read.specs.declared.tree.Expr.{Expr}
-use Rattle.hcl_read.specs.declared.tree.Expr.TheVariants as exprs
+use Rattle.hcl_read.specs.declared.tree.Expr.TheVariants as expr
 use Rattle.hcl_read.specs.Machine.{negate}
 
-pub none_negated : (e : Expr) → negate 0 e ≡ e
+pub none_negated : (nots i : ℕ) (e : Expr) → nots ≡ i → negate (nots - i) e ≡ e
 unfolding negate
-none_negated e = refl
+none_negated nots i e h = let z : nots - i ≡ 0 = omega arith in rw z refl
 
-pub once_more : (n : ℕ) (e all : Expr) → all ≡ negate n e → exprs.Not all ≡ negate (n + 1) e
+pub once_more : (nots i : ℕ) (e all boxed : Expr) → i < nots → boxed ≡ all → negate (nots - i) all ≡ negate nots e →
+    negate (nots - (i + 1)) (expr.Not boxed) ≡ negate nots e
 unfolding negate
-once_more n e all h = rw (add-one n) (ap exprs.Not h)
-
-pub ruleset machine_rules = (none_negated, once_more)
+once_more nots i e all boxed lt b h =
+    let s : nots - i ≡ suc (nots - (i + 1)) = omega arith in
+    ap (λ x. negate (nots - (i + 1)) (expr.Not x)) b ∙ sym (ap (λ n. negate n all) s) ∙ h

@@ -1,20 +1,13 @@
 -- The tokens of HCL text (HCL guide): a table, each read as long as it goes, with blanks, line feeds and comments between them.
-use Rattle.std.specs.Prelude.{ℕ, zero, suc, ◌-◌, ◌^◌, Bool, true, false, ◌&&◌, ◌||◌, ◌==◌, nat_eq, nat_le, nat_lt, if◌then◌else◌, not, List, [], ◌∷◌, length, drop, take_while, codes, map, Option, Some, None, unwrap_or}
-use Rattle.std.specs.List.{starts_with}
-use Rattle.std.specs.Str.{bytes_eq}
-use Rattle.std.specs.Str.Parse.{digits_value}
-use Rattle.y86_base.specs.Text.{is_blank, is_line_feed, is_decimal, behind}
+use Rattle.std.specs.Prelude.{ℕ, zero, suc, ◌-◌, ◌^◌, Bool, true, false, ◌&&◌, ◌||◌, ◌==◌, nat_le, if◌then◌else◌, not, List, [], ◌∷◌, length, drop, take_while, codes, map, Option, Some, None, unwrap_or}
+use Rattle.y86_base.specs.declared.number.Number.{Number as Written}
+use Rattle.y86_base.specs.Text.{begins, behind, is_blank, is_letter, is_line_feed, is_name_byte}
+use Rattle.y86_base.specs.Keyword.{keyword_at, meaning_of}
+use Rattle.y86_base.specs.Number.{decimal_at, word_within}
 use Rattle.hcl_read.specs.declared.tree.Kind.TheVariants.{Word, Bool as Truth}
 use Rattle.hcl_read.specs.declared.tree.CmpOp.TheVariants.{Eq, Ne, Lt, Le, Gt, Ge}
 use Rattle.hcl_read.specs.declared.tokens.Token.{Token}
 use Rattle.hcl_read.specs.declared.tokens.Token.TheVariants.{KeyQuote, KeySig, KeyDef, KeyIn, Ident, Number, Wide, Quoted, Assign, Semicolon, OrOr, AndAnd, Bang, Compare, OpenParen, CloseParen, OpenBrace, CloseBrace, OpenBracket, CloseBracket, Comma, Colon, Bad, Odd}
-
-abbrev pub is_letter : ℕ → Bool
-is_letter byte = (nat_le 97 byte && nat_le byte 122) || (nat_le 65 byte && nat_le byte 90)
-
--- a letter, a digit or `_`
-abbrev pub is_name_byte : ℕ → Bool
-is_name_byte byte = is_letter byte || is_decimal byte || byte == 95
 
 -- a byte of a quoted text: any but `'` and a line feed
 abbrev pub is_quoted : ℕ → Bool
@@ -23,11 +16,6 @@ is_quoted byte = not (byte == 39 || is_line_feed byte)
 -- a byte that may stand outside comments and quoted texts, blanks and line feeds apart
 abbrev pub is_visible : ℕ → Bool
 is_visible byte = nat_le 33 byte && nat_le byte 126
-
--- the first byte is there and passes the test
-abbrev pub begins : (ℕ → Bool) → List ℕ → Bool
-begins test [] = false
-begins test (byte ∷ bytes) = test byte
 
 -- what stands behind the blanks, line feeds and comments in front; a comment goes from `#` to the end of its line
 unfoldable pub skipped : Bool → List ℕ → List ℕ
@@ -55,50 +43,39 @@ short_symbols =
     ∷ (codes ",", Comma) ∷ (codes ":", Colon) ∷ (codes "(", OpenParen) ∷ (codes ")", CloseParen) ∷ (codes "{", OpenBrace)
     ∷ (codes "}", CloseBrace) ∷ (codes "[", OpenBracket) ∷ (codes "]", CloseBracket) ∷ []
 
--- what a table says of a word
-unfoldable pub meaning_of : List (List ℕ × Token) → List ℕ → Option Token
-meaning_of [] name = None
-meaning_of (row ∷ rows) name = if bytes_eq name row.0 then Some row.1 else meaning_of rows name
-
 -- a word is a keyword or a name
 abbrev pub word : List ℕ → Token
 word name = unwrap_or (meaning_of keywords name) (Ident name)
-
--- the first row of a table that stands in front, and what stands behind it
-unfoldable pub symbol : List (List ℕ × Token) → List ℕ → Option (Token × List ℕ)
-symbol [] text = None
-symbol (row ∷ rows) text = if starts_with nat_eq text row.0 then Some (row.1, drop (length row.0) text) else symbol rows text
 
 -- a byte that begins no token; what stands behind it is no more looked at
 abbrev pub stray : ℕ → Token × List ℕ
 stray byte = ((if is_visible byte then Odd else Bad), [])
 
--- a number lies from -2^63 to 2^63-1, and is kept as a word of 64 bits
-abbrev pub number : Bool → ℕ → Token
-number negative n =
-    if negative then (if nat_le n (2 ^ 63) then (if n == 0 then Number 0 else Number (2 ^ 64 - n)) else Wide)
-    else (if nat_lt n (2 ^ 63) then Number n else Wide)
+-- a number lies from -2^63 to 2^63-1, and is kept as a word of 64 bits, a negative one in two's complement
+abbrev pub in_range : Option ℕ → Token
+in_range (Some n) = Number n
+in_range None = Wide
 
-abbrev pub digits : Bool → List ℕ → Token × List ℕ
-digits negative text = (number negative (digits_value 10 (take_while is_decimal text)), behind is_decimal text)
+abbrev pub number_or : Option (Written × List ℕ) → Token × List ℕ → Token × List ℕ
+number_or (Some x) other = (in_range (word_within (2 ^ 63) (2 ^ 63 - 1) x.0), x.1)
+number_or None other = other
 
 -- a symbol, or a byte that begins no token
 abbrev pub symbol_or_stray : ℕ → List ℕ → Token × List ℕ
 symbol_or_stray byte bytes =
-    unwrap_or (symbol long_symbols (byte ∷ bytes)) (unwrap_or (symbol short_symbols (byte ∷ bytes)) (stray byte))
+    unwrap_or (keyword_at long_symbols (byte ∷ bytes)) (unwrap_or (keyword_at short_symbols (byte ∷ bytes)) (stray byte))
 
 -- a quote closes the quoted text in front
 abbrev pub is_closed : List ℕ → Bool
 is_closed text = begins (λ byte. byte == 39) (behind is_quoted text)
 
--- the token that begins with a byte, and what stands behind it
+-- the token that begins with a byte, and what stands behind it: a word, a quoted text, a number, with an optional `-` directly
+-- before its digits, or a symbol
 unfoldable pub token : ℕ → List ℕ → Token × List ℕ
 token byte bytes =
     if is_letter byte then (word (take_while is_name_byte (byte ∷ bytes)), behind is_name_byte (byte ∷ bytes))
-    else (if is_decimal byte then digits false (byte ∷ bytes)
-    else (if byte == 45 && begins is_decimal bytes then digits true bytes
     else (if byte == 39 && is_closed bytes then (Quoted (take_while is_quoted bytes), drop 1 (behind is_quoted bytes))
-    else symbol_or_stray byte bytes)))
+    else number_or (decimal_at (byte ∷ bytes)) (symbol_or_stray byte bytes))
 
 abbrev pub front : List ℕ → Option (Token × List ℕ)
 front [] = None

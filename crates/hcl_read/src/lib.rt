@@ -4,6 +4,7 @@
 
 mod fault;
 mod frames;
+mod names;
 mod printer;
 mod scan;
 mod stack;

@@ -1,6 +1,7 @@
-ghost use Rattle.std.specs.Prelude.{◌≡◌, ◌≤◌, ◌<◌, ◌+◌, ◌-◌, ◌∷◌, length, IfOk, MatchOption, List, ℕ, [], drop, true, None, Some, take_while, false};
+ghost use Rattle.std.specs.Prelude.{◌≡◌, ◌≤◌, ◌<◌, ◌+◌, ◌-◌, ◌^◌, ◌∷◌, length, IfOk, MatchOption, List, ℕ, [], drop, true, None, Some, take_while, false};
 ghost use Rattle.std.specs.List.{prefix_len};
-ghost use Rattle.std.specs.Str.Parse.{digits_value};
+ghost use Rattle.y86_base.specs.Keyword.{keyword_at, meaning_of};
+ghost use Rattle.y86_base.specs.Number.{word_within};
 ghost use Rattle.y86_base.specs.Text as text;
 ghost use Rattle.hcl_read.specs.Tokens as spec;
 
@@ -8,35 +9,7 @@ use crate::text::Text;
 use crate::tokens::Token;
 use crate::tree::{CmpOp, Kind};
 use std::alloc::Global;
-use y86_base::{Memory, is_blank, is_decimal, number_in_base};
-
-fn is_letter(byte: u8) -> bool
-    ensures { result ≡ spec.is_letter byte }
-{
-    (b'a' <= byte && byte <= b'z') || (b'A' <= byte && byte <= b'Z')
-}
-
-fn is_name_byte(byte: u8) -> bool
-    ensures { result ≡ spec.is_name_byte byte }
-{
-    is_letter(byte) || is_decimal(byte) || byte == b'_'
-}
-
-/// How many bytes of a name stand at the front.
-fn name_length(bytes: &[u8]) -> usize
-    ensures count { result ≡ prefix_len spec.is_name_byte bytes.now }
-    ensures within { result ≤ length bytes.now }
-{
-    bytes.iter().take_while(|byte| is_name_byte(**byte)).count()
-}
-
-/// How many digits stand at the front.
-fn digit_count(bytes: &[u8]) -> usize
-    ensures count { result ≡ prefix_len text.is_decimal bytes.now }
-    ensures within { result ≤ length bytes.now }
-{
-    bytes.iter().take_while(|byte| is_decimal(**byte)).count()
-}
+use y86_base::{Memory, Number, decimal_at, is_blank, is_letter, split_name};
 
 /// How many bytes of a quoted text stand at the front.
 fn quoted_length(bytes: &[u8]) -> usize
@@ -71,9 +44,9 @@ pub fn after_gap(bytes: &[u8]) -> &[u8]
 }
 
 /// The keyword that a word is.
-#[tactic(auto, unfolding(crate::specs::Tokens::meaning_of))]
+#[tactic(auto, unfolding(y86_base::specs::Keyword::meaning_of))]
 fn keyword(name: &[u8]) -> Option<Token>
-    ensures { result ≡ spec.meaning_of spec.keywords name.now }
+    ensures { result ≡ meaning_of spec.keywords name.now }
 {
     if name == b"quote".as_slice() {
         return Some(Token::KeyQuote);
@@ -112,33 +85,21 @@ fn word(alloc: Global, name: &[u8]) -> Result<Token, Memory>
     }
 }
 
-/// The number of some digits.
-fn number(negative: bool, digits: &[u8]) -> Token
-    ensures { result ≡ spec.number negative (digits_value 10 digits.now) }
+/// A number as a word of 64 bits, where it is in range.
+fn in_range(number: Number) -> Token
+    ensures { result ≡ spec.in_range (word_within (2 ^ 63) (2 ^ 63 - 1) number) }
 {
-    match number_in_base(10, digits) {
-        Some(n) => word_of(negative, n),
+    match number.word_within(1 << 63, (1 << 63) - 1) {
+        Some(n) => Token::Number(n),
         None => Token::Wide,
     }
 }
 
-/// A number as a word of 64 bits, where it is in range.
-fn word_of(negative: bool, n: u64) -> Token
-    ensures { result ≡ spec.number negative n }
-{
-    const LEAST: u64 = 1 << 63;
-    if n < LEAST || (negative && n == LEAST) {
-        Token::Number(if negative { n.wrapping_neg() } else { n })
-    } else {
-        Token::Wide
-    }
-}
-
 /// The symbol of two bytes in front, and what stands behind it.
-#[tactic(auto, unfolding(crate::specs::Tokens::symbol))]
+#[tactic(auto, unfolding(y86_base::specs::Keyword::keyword_at))]
 fn long_symbol(bytes: &[u8]) -> Option<(Token, &[u8])>
-    ensures { MatchOption result (spec.symbol spec.long_symbols bytes.now ≡ None)
-        (λ x. spec.symbol spec.long_symbols bytes.now ≡ Some (x.0, x.1.now)) }
+    ensures { MatchOption result (keyword_at spec.long_symbols bytes.now ≡ None)
+        (λ x. keyword_at spec.long_symbols bytes.now ≡ Some (x.0, x.1.now)) }
 {
     if let Some(behind) = bytes.strip_prefix(b"||") {
         return Some((Token::OrOr, behind));
@@ -162,10 +123,10 @@ fn long_symbol(bytes: &[u8]) -> Option<(Token, &[u8])>
 }
 
 /// The symbol of one byte that a byte is.
-#[tactic(auto, unfolding(crate::specs::Tokens::symbol))]
+#[tactic(auto, unfolding(y86_base::specs::Keyword::keyword_at))]
 fn short_symbol(byte: u8) -> Option<Token>
-    ensures { MatchOption result ((bytes : List ℕ) → spec.symbol spec.short_symbols (byte ∷ bytes) ≡ None)
-        (λ token. (bytes : List ℕ) → spec.symbol spec.short_symbols (byte ∷ bytes) ≡ Some (token, bytes)) }
+    ensures { MatchOption result ((bytes : List ℕ) → keyword_at spec.short_symbols (byte ∷ bytes) ≡ None)
+        (λ token. (bytes : List ℕ) → keyword_at spec.short_symbols (byte ∷ bytes) ≡ Some (token, bytes)) }
 {
     match byte {
         b'<' => Some(Token::Compare(CmpOp::Lt)),
@@ -220,24 +181,6 @@ fn split_quoted(bytes: &[u8]) -> Option<(&[u8], &[u8])>
     }
 }
 
-fn begins_with_digit(bytes: &[u8]) -> bool
-    ensures { result ≡ spec.begins text.is_decimal bytes.now }
-{
-    match bytes.first() {
-        None => false,
-        Some(byte) => is_decimal(*byte),
-    }
-}
-
-/// The digits in front as a number, and what stands behind them.
-fn split_number(negative: bool, bytes: &[u8]) -> (Token, &[u8])
-    ensures token { result.0 ≡ (spec.digits negative bytes.now).0 }
-    ensures behind { result.1.now ≡ (spec.digits negative bytes.now).1 }
-{
-    let (digits, behind) = bytes.split_at(digit_count(bytes));
-    (number(negative, digits), behind)
-}
-
 /// The token in front, and what stands behind it; None for an empty text.
 #[tactic(auto, unfolding(crate::specs::Tokens::token))]
 pub fn token(alloc: Global, text: &[u8]) -> Result<Option<(Token, &[u8])>, Memory>
@@ -248,17 +191,11 @@ pub fn token(alloc: Global, text: &[u8]) -> Result<Option<(Token, &[u8])>, Memor
     };
     let byte = *first;
     if is_letter(byte) {
-        let (name, behind) = text.split_at(name_length(text));
+        let (name, behind) = split_name(text);
         return match word(alloc, name) {
             Ok(token) => Ok(Some((token, behind))),
             Err(memory) => Err(memory),
         };
-    }
-    if is_decimal(byte) {
-        return Ok(Some(split_number(false, text)));
-    }
-    if byte == b'-' && begins_with_digit(bytes) {
-        return Ok(Some(split_number(true, bytes)));
     }
     if byte == b'\'' {
         if let Some((inside, behind)) = split_quoted(bytes) {
@@ -267,6 +204,9 @@ pub fn token(alloc: Global, text: &[u8]) -> Result<Option<(Token, &[u8])>, Memor
                 Err(memory) => Err(memory),
             };
         }
+    }
+    if let Some((number, behind)) = decimal_at(text) {
+        return Ok(Some((in_range(number), behind)));
     }
     Ok(Some(symbol_or_stray(text, byte, bytes)))
 }

@@ -50,7 +50,6 @@ pub fn start_level(alloc: Global) -> Level
 }
 
 /// An expression behind some `!`.
-#[tactic(auto, using(crate::proofs::Machines::machine_rules))]
 fn negate(alloc: Global, nots: u64, e: Expr) -> Result<Expr, Memory>
     ensures { IfOk result (λ all. all ≡ machine.negate nots e) }
 {
