@@ -1,4 +1,7 @@
-ghost use Rattle.std.specs.Prelude.{◌≡◌, ◌≤◌, [], nat_le, true, length, IfOk};
+ghost use Rattle.std.specs.Prelude.{◌≡◌, ◌≤◌, ◌∷◌, ◌++◌, [], nat_eq, nat_le, true, false, length, IfOk, OnOk};
+ghost use Rattle.std.specs.Cmp.Lexicographic.{pointwise};
+ghost use Rattle.std.specs.List.{list_any};
+ghost use Rattle.hcl_read.specs.declared.tokens.Token.TheVariants.{Ident};
 ghost use Rattle.hcl_read.specs.Fault.{noted};
 
 use crate::tokens::Token;
@@ -17,13 +20,11 @@ pub struct Names {
 }
 
 impl Model for Names {
-    ghost use Rattle.std.specs.Prelude.{List, ℕ, map, length, ◌≤◌};
+    ghost use Rattle.std.specs.Prelude.{List, ℕ, map};
 
     ghost Value = { List (List ℕ) };
 
     ghost view = { λ names. map (λ name. name.items) names.set.keys };
-
-    ghost invariant = { λ names. length names.set.keys ≤ 256 };
 }
 
 impl Names {
@@ -36,29 +37,65 @@ impl Names {
         }
     }
 
+    /// How many names there are.
+    #[tactic(auto, using(std::proofs::lemmas::Grind::common_steps))]
+    fn len(&self) -> usize
+        ensures { result ≡ length self.now }
+    {
+        self.set.len()
+    }
+
+    /// Whether a name is there.
+    #[tactic(auto, using(crate::proofs::NameSets::among))]
+    fn contains(&self, name: &[u8]) -> bool
+        ensures { result ≡ list_any (pointwise nat_eq name.now) self.now }
+    {
+        self.set.contains(name)
+    }
+
+    /// Adds a name that is not there.
+    #[tactic(auto, using(crate::proofs::NameSets::inserted))]
+    fn insert(&mut self, name: Vec<u8>) -> Result<(), Memory>
+        requires { list_any (pointwise nat_eq name.items) self.old ≡ false }
+        ensures { OnOk result (self.new ≡ self.old ++ name.items ∷ []) }
+    {
+        let Ok(_) = self.set.insert(name) else {
+            return Err(Memory);
+        };
+        Ok(())
+    }
+
+    /// Notes a name, and answers whether the names are still at most 256; if not, they stay as they are.
+    #[tactic(auto, unfolding(crate::specs::Fault::noted))]
+    fn note_name(&mut self, alloc: Global, name: &[u8]) -> Result<bool, Memory>
+        requires { length self.old ≤ 256 }
+        ensures fits { IfOk result (λ fits. fits ≡ nat_le (length (noted self.old (Ident name.now))) 256) }
+        ensures names { IfOk result (λ fits. fits ≡ true → self.new ≡ noted self.old (Ident name.now)) }
+    {
+        if self.contains(name) {
+            return Ok(true);
+        }
+        if self.len() >= MOST_NAMES {
+            return Ok(false);
+        }
+        let Ok(copy) = Vec::from_slice(alloc, name) else {
+            return Err(Memory);
+        };
+        self.insert(copy)?;
+        Ok(true)
+    }
+
     /// Notes the name that a token is, and answers whether the names are still at most 256; if not, they stay
     /// as they are.
     #[tactic(auto, unfolding(crate::specs::Fault::noted))]
     pub fn note(&mut self, alloc: Global, token: &Token) -> Result<bool, Memory>
+        requires { length self.old ≤ 256 }
         ensures fits { IfOk result (λ fits. fits ≡ nat_le (length (noted self.old token.now)) 256) }
         ensures names { IfOk result (λ fits. fits ≡ true → self.new ≡ noted self.old token.now) }
-        ensures few { length self.new ≤ 256 }
     {
-        let Token::Ident(name) = token else {
-            return Ok(true);
-        };
-        if self.set.contains(name.bytes()) {
-            return Ok(true);
-        }
-        if self.set.len() >= MOST_NAMES {
-            return Ok(false);
-        }
-        match Vec::from_slice(alloc, name.bytes()) {
-            Ok(name) => match self.set.insert(name) {
-                Ok(_) => Ok(true),
-                Err(_) => Err(Memory),
-            },
-            Err(_) => Err(Memory),
+        match token {
+            Token::Ident(name) => self.note_name(alloc, name.bytes()),
+            _ => Ok(true),
         }
     }
 }
