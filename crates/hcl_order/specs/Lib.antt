@@ -1,0 +1,5 @@
+pub mod Dependence
+pub mod Layers
+pub mod Ways
+pub mod Arranging
+pub mod Outcomes

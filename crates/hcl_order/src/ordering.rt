@@ -1,0 +1,40 @@
+ghost use Rattle.std.specs.Prelude.{IfOk, MatchResult, ℕ};
+ghost use Rattle.hcl_types.specs.Equations.{needs_of};
+ghost use Rattle.hcl_types.specs.Tables.{IsBound, IsOrderOf, IsSound, known, needs};
+ghost use Rattle.hcl_order.specs.Dependence.{Depends};
+ghost use Rattle.hcl_order.specs.Outcomes.{IsFault, IsOutcome};
+
+use crate::fault::OrderFault;
+use crate::needs::{given_rows, needs_of_rows};
+use crate::rows::{Outcome, order_rows};
+use hcl_types::{Design, Order, Table};
+use std::alloc::{AllocError, Global};
+
+/// An order of all defined and hardware rows, or a cycle of them.
+fn outcome(alloc: Global, d: &Design, t: &Table) -> Result<Outcome, AllocError>
+    requires sound { IsSound t.now.rows }
+    requires bound { IsBound t.now.rows d.now.terms }
+    ensures { IfOk result (IsOutcome (needs t.now.rows d.now.terms) (known t.now.rows)) }
+{
+    let rows = t.rows.items();
+    let needs = needs_of_rows(alloc, rows, d.terms.items())?;
+    let known = given_rows(alloc, rows)?;
+    order_rows(alloc, needs.as_slice(), known.as_slice())
+}
+
+/// An order in which the signals of a design can be computed: all defined and hardware names of its table, each
+/// behind those that it depends on. There is one exactly where no name depends on itself, and otherwise the first
+/// cycle is told.
+pub fn order(alloc: Global, d: &Design, t: &Table) -> Result<Order, OrderFault>
+    requires sound { IsSound t.now.rows }
+    requires bound { IsBound t.now.rows d.now.terms }
+    ensures { MatchResult result
+        (λ o. IsOrderOf t.now.rows d.now.terms o.ids × ((n : ℕ) → Depends (needs_of (needs t.now.rows d.now.terms)) n n → ⊥))
+        (IsFault (needs_of (needs t.now.rows d.now.terms))) }
+{
+    match outcome(alloc, d, t) {
+        Ok(Outcome::Order(ids)) => Ok(Order { ids }),
+        Ok(Outcome::Cycle(ids)) => Err(OrderFault::Cycle(ids)),
+        Err(_) => Err(OrderFault::Memory),
+    }
+}

@@ -1,0 +1,41 @@
+ghost use Rattle.std.specs.Prelude.{◌≡◌, ◌<◌, ◌^◌, ℕ, IfOk, length, true};
+ghost use Rattle.hcl_types.specs.Lists.{IsIn};
+ghost use Rattle.hcl_types.specs.Equations.{is_known, needs_of};
+ghost use Rattle.hcl_order.specs.Outcomes.{IsOutcome};
+ghost use Rattle.hcl_order.specs.Layers.{IsWithin};
+
+use crate::arrange::arrange_rows;
+use crate::cycle::first_cycle;
+use std::alloc::{AllocError, Global};
+use y86_base::Items;
+
+/// What rows and their needs give.
+#[derive(Debug, Drop)]
+pub enum Outcome {
+    /// An order of the rows that are not known from the start.
+    Order(Items<u32>),
+    /// A shortest cycle.
+    Cycle(Items<u32>),
+}
+
+/// An order of the rows that are not known from the start, or else a shortest cycle.
+pub fn order_rows(
+    alloc: Global,
+    needs: &[Items<u32>],
+    known: &[bool],
+) -> Result<Outcome, AllocError>
+    requires within { IsWithin needs.now }
+    requires rows { (length needs.now ≡ length known.now) × (length needs.now < 2 ^ 32) }
+    requires known { (a n : ℕ) → is_known known.now a ≡ true → IsIn n (needs_of needs.now a) → ⊥ }
+    ensures { IfOk result (IsOutcome needs.now known.now) }
+{
+    let mut done = Vec::from_slice(alloc, known)?;
+    let mut ids = Vec::new(alloc);
+    if !arrange_rows(needs, done.as_mut_slice(), &mut ids)? {
+        match first_cycle(alloc, needs)? {
+            Some(cycle) => return Ok(Outcome::Cycle(cycle)),
+            None => {}
+        }
+    }
+    Ok(Outcome::Order(Items::of(ids)))
+}
