@@ -8,3 +8,5 @@ pub mod Exact
 mod Stacks
 mod Machines
 mod NameSets
+pub mod Said
+pub mod Again
