@@ -85,7 +85,7 @@ data Each (P : Expr → Type 0) : List Expr → Type 0 where
   none : Each P []
   one : {e : Expr} {es : List Expr} → P e → Each P es → Each P (e ∷ es)
 
-said_branch_is : (guard value : Expr) → said_branch (branch guard value) ≡ (λ rest. (said guard).put (Colon ∷ (said value).put (Semicolon ∷ rest)))
+pub said_branch_is : (guard value : Expr) → said_branch (branch guard value) ≡ (λ rest. (said guard).put (Colon ∷ (said value).put (Semicolon ∷ rest)))
 said_branch_is guard value = fold_out-Branch Said (List Token → List Token) said_layer branch_layer (branch guard value)
 
 fine_at : (m d d0 : ℕ) (e : Expr) → d0 ≤ d → Fine m d e → Fine m d0 e

@@ -10,3 +10,4 @@ mod Machines
 mod NameSets
 pub mod Said
 pub mod Again
+pub mod SameNames
