@@ -6,11 +6,16 @@ use Rattle.std.specs.Int.{to_le_bytes, w64}
 use Rattle.std.proofs.lemmas.Bool.{false≢true}
 use Rattle.std.proofs.lemmas.Bool.Decides.{nat_tests}
 use Rattle.y86_base.specs.declared.parts.Variant.{Variant}
-use Rattle.y86_base.specs.declared.parts.Variant.TheVariants.{Base}
 use Rattle.y86_base.proofs.Booleans.{both_true, both_false}
-use Rattle.y86_isa.specs.Table.{row}
+use Rattle.y86_isa.specs.declared.columns.Row.{Row}
+use Rattle.y86_isa.specs.Table.{row, rows}
 use Rattle.y86_isa.specs.Encoding.{encoded}
 use Rattle.y86_isa.proofs.ReadBack.{length-encoded}
+use Rattle.y86_isa.proofs.Rows.{row-widest}
+use Rattle.yas_asm.specs.Sound.{IsSound}
+use Rattle.yas_asm.proofs.FaultLemmas.{lines_follow}
+use Rattle.yas_asm.proofs.SoundGrammar.{IsSoundRead, read_sound}
+use Rattle.yas_asm.proofs.SoundLemmas.{sound_known}
 use Rattle.yas_asm.specs.declared.fault.AsmWhy.{AsmWhy}
 use Rattle.yas_asm.specs.declared.listing.Line.{Line}
 use Rattle.yas_asm.specs.declared.statement.Width.{Width}
@@ -41,25 +46,26 @@ length-data Two n = refl
 length-data Four n = refl
 length-data Eight n = refl
 
-pub row_length : (variant : Variant) (table : List (List ℕ × ℕ)) (icode ifun a b value : ℕ)
+pub row_length : (variant : Variant) (icode ifun a b value : ℕ) → icode < length (rows variant)
     → length (encoded (record { icode = icode; ifun = ifun; r_a = a; r_b = b; val_c = value })) ≡ (row variant icode).length
-row_length Base table icode ifun a b value = length-encoded (record { icode = icode; ifun = ifun; r_a = a; r_b = b; val_c = value })
+row_length variant icode ifun a b value known =
+    length-encoded (record { icode = icode; ifun = ifun; r_a = a; r_b = b; val_c = value }) ∙ ap (λ (r : Row). r.length) (sym (row-widest variant icode known))
 
 -- a line emits at the addresses from its own on, as many as its statement's width
 pub emits-listed : (variant : Variant) (size : ℕ) (table : List (List ℕ × ℕ)) (from to address a : ℕ) (parsed : Parsed)
-    → emits (listed variant size table from to address (Ok parsed)) a ≡ true → (address ≤ a) × (a < address + width_of variant parsed.statement)
+    → IsSound variant parsed.statement → emits (listed variant size table from to address (Ok parsed)) a ≡ true → (address ≤ a) × (a < address + width_of variant parsed.statement)
 unfolding listed bytes_at width_of
-emits-listed variant size table from to address a parsed e = by parsed.statement e
+emits-listed variant size table from to address a parsed sound e = by parsed.statement sound e
   where
-    by : (s : Statement) → emits_at (shown_at parsed.label address (place variant size address s) s) (length (bytes_at table s)) a ≡ true
+    by : (s : Statement) → IsSound variant s → emits_at (shown_at parsed.label address (place variant size address s) s) (length (bytes_at table s)) a ≡ true
         → (address ≤ a) × (a < address + width_of variant s)
-    by statements.Nothing e = absurd (emits_none (shown_at parsed.label address (place variant size address statements.Nothing) statements.Nothing) a e)
-    by (statements.Instruction icode ifun x y constant) e =
-        emits_within address (row variant icode).length a (subst (λ (n : ℕ). emits_at (Some address) n a ≡ true) (row_length variant table icode ifun x y (value_of table constant)) e)
-    by (statements.Data width value) e = emits_within address (bytes_of width) a (subst (λ (n : ℕ). emits_at (Some address) n a ≡ true) (length-data width (value_of table value)) e)
-    by (statements.Position n) e = absurd (emits_none (shown_at parsed.label address (place variant size address (statements.Position n)) (statements.Position n)) a e)
-    by (statements.Align n) e = absurd (emits_none (shown_at parsed.label address (place variant size address (statements.Align n)) (statements.Align n)) a e)
-    by statements.Wide e = absurd (emits_none (shown_at parsed.label address (place variant size address statements.Wide) statements.Wide) a e)
+    by statements.Nothing sound e = absurd (emits_none (shown_at parsed.label address (place variant size address statements.Nothing) statements.Nothing) a e)
+    by (statements.Instruction icode ifun x y constant) sound e =
+        emits_within address (row variant icode).length a (subst (λ (n : ℕ). emits_at (Some address) n a ≡ true) (row_length variant icode ifun x y (value_of table constant) (sound_known variant table icode ifun x y constant sound)) e)
+    by (statements.Data width value) sound e = emits_within address (bytes_of width) a (subst (λ (n : ℕ). emits_at (Some address) n a ≡ true) (length-data width (value_of table value)) e)
+    by (statements.Position n) sound e = absurd (emits_none (shown_at parsed.label address (place variant size address (statements.Position n)) (statements.Position n)) a e)
+    by (statements.Align n) sound e = absurd (emits_none (shown_at parsed.label address (place variant size address (statements.Align n)) (statements.Align n)) a e)
+    by statements.Wide sound e = absurd (emits_none (shown_at parsed.label address (place variant size address statements.Wide) statements.Wide) a e)
 
 range_has : (first count a : ℕ) → first ≤ a → a < first + count → list_any (nat_eq a) (range_with_len first count) ≡ true
 range_has first zero a h k = absurd (omega arith)
@@ -156,29 +162,33 @@ emits-err variant size table from to address a why e = false≢true e
 
 -- what a line without a fault emits is at its own addresses
 emits-addresses : (variant : Variant) (size : ℕ) (table known : List (List ℕ × ℕ)) (used : List ℕ) (from to address a : ℕ) (read : Result Parsed AsmWhy)
-    → line_fault variant size table known used address read ≡ None → emits (listed variant size table from to address read) a ≡ true
+    → IsSoundRead variant read → line_fault variant size table known used address read ≡ None → emits (listed variant size table from to address read) a ≡ true
     → list_any (nat_eq a) (addresses variant size address read) ≡ true
 unfolding line_fault emitted
-emits-addresses variant size table known used from to address a (Err why) f e = absurd (emits-err variant size table from to address a why e)
-emits-addresses variant size table known used from to address a (Ok parsed) f e =
+emits-addresses variant size table known used from to address a (Err why) sound f e = absurd (emits-err variant size table from to address a why e)
+emits-addresses variant size table known used from to address a (Ok parsed) sound f e =
     let tests = faultless variant size table known used address parsed f in
-    let two = emits-listed variant size table from to address a parsed e in
+    let two = emits-listed variant size table from to address a parsed sound e in
     rw tests.emits.inside (range_has address (width_of variant parsed.statement) a two.0 two.1)
 
 -- and is at no address that is used
 emits-unused : (variant : Variant) (size : ℕ) (table known : List (List ℕ × ℕ)) (used : List ℕ) (from to address a : ℕ) (read : Result Parsed AsmWhy)
-    → line_fault variant size table known used address read ≡ None → emits (listed variant size table from to address read) a ≡ true
+    → IsSoundRead variant read → line_fault variant size table known used address read ≡ None → emits (listed variant size table from to address read) a ≡ true
     → list_any (nat_eq a) used ≡ true → ⊥
 unfolding line_fault
-emits-unused variant size table known used from to address a (Err why) f e u = emits-err variant size table from to address a why e
-emits-unused variant size table known used from to address a (Ok parsed) f e u =
+emits-unused variant size table known used from to address a (Err why) sound f e u = emits-err variant size table from to address a why e
+emits-unused variant size table known used from to address a (Ok parsed) sound f e u =
     let tests = faultless variant size table known used address parsed f in
-    let two = emits-listed variant size table from to address a parsed e in
+    let two = emits-listed variant size table from to address a parsed sound e in
     apart used address (width_of variant parsed.statement) a tests.emits.free u two.0 two.1
 
 append_line : (before between after : List Placed) (one other : Placed) → before ++ one ∷ (between ++ other ∷ after) ≡ (before ++ one ∷ between) ++ other ∷ after
 append_line [] between after one other = refl
 append_line (x ∷ before) between after one other = ap (λ xs. x ∷ xs) (append_line before between after one other)
+
+sound_line : (variant : Variant) (source : List ℕ) (size : ℕ) (before after : List Placed) (line : Placed) → source_lines variant size source ≡ before ++ line ∷ after → IsSoundRead variant line.read
+sound_line variant source size before after line e =
+    subst (IsSoundRead variant) (sym (lines_follow.reads variant source size before after line e)) (read_sound variant line.text)
 
 pub bytes_have_one_line : BytesHaveOneLine
 bytes_have_one_line variant source size lines e before between after one other a split x y =
@@ -196,5 +206,7 @@ bytes_have_one_line variant source size lines e before between after one other a
     let there = fault_at variant size table [] (first.before ++ first.placed ∷ second.before) second.after second.placed none' in
     let x' : emits (listed variant size table first.from first.to first.placed.address first.placed.read) a ≡ true = subst (λ (l : Line). emits l a ≡ true) first.line_is x in
     let y' : emits (listed variant size table second.from second.to second.placed.address second.placed.read) a ≡ true = subst (λ (l : Line). emits l a ≡ true) second.line_is y in
-    let used = filled-has variant size a first.before second.before first.placed (emits-addresses variant size table _ _ first.from first.to first.placed.address a first.placed.read here x') in
-    emits-unused variant size table _ _ second.from second.to second.placed.address a second.placed.read there y' used
+    let used = filled-has variant size a first.before second.before first.placed (emits-addresses variant size table _ _ first.from first.to first.placed.address a first.placed.read (sound_line variant source size first.before first.after first.placed first.parts) here x') in
+    emits-unused variant size table _ _ second.from second.to second.placed.address a second.placed.read
+    (sound_line variant source size (first.before ++ first.placed ∷ second.before) second.after second.placed
+    (first.parts ∙ ap (λ xs. first.before ++ first.placed ∷ xs) second.parts ∙ append_line first.before second.before second.after first.placed second.placed)) there y' used

@@ -13,10 +13,13 @@ use Rattle.yas_asm.specs.declared.listing.Line.{Line}
 use Rattle.yas_asm.specs.declared.statement.Statement.{Statement}
 use Rattle.yas_asm.specs.declared.statement.Statement.TheVariants as statements
 use Rattle.yas_asm.specs.declared.statement.Parsed.{Parsed}
-use Rattle.yas_asm.specs.Grammar.{bytes_of}
-use Rattle.yas_asm.specs.Assembly.{Placed, source_lines, labels, first_fault, listing, listed, line_fault, place, destination, bytes_at, shown_at, value_of}
+use Rattle.yas_asm.specs.Grammar.{bytes_of, read_line}
+use Rattle.yas_asm.specs.Assembly.{Placed, placed, address_after, source_lines, labels, first_fault, listing, listed, line_fault, place, destination, bytes_at, shown_at, value_of}
 use Rattle.yas_asm.specs.Laws.{emits_at, emits, put_at, image, ImageHasLines, ImageIsZeroElsewhere}
-use Rattle.yas_asm.proofs.SoundLemmas.{within}
+use Rattle.y86_base.specs.Text.{lines}
+use Rattle.yas_asm.specs.Sound.{IsSound}
+use Rattle.yas_asm.proofs.SoundGrammar.{IsSoundRead, read_sound}
+use Rattle.yas_asm.proofs.SoundLemmas.{sound_known, within}
 use Rattle.yas_asm.proofs.PassLemmas.{faultless}
 use Rattle.yas_asm.proofs.LawLemmas.{no_fault, accepted}
 use Rattle.yas_asm.proofs.ByteLemmas.{bytes_have_one_line, emits_within, row_length, length-data}
@@ -96,37 +99,46 @@ fits-label : (size address : ℕ) (b : Bool) → address ≤ size → FitsAt siz
 fits-label size address true h = omega arith
 fits-label size address false h = tt
 
-fits-listed : (variant : Variant) (size : ℕ) (table : List (List ℕ × ℕ)) (from to address : ℕ) (parsed : Parsed) → is_some (place variant size address parsed.statement) ≡ true
+fits-listed : (variant : Variant) (size : ℕ) (table : List (List ℕ × ℕ)) (from to address : ℕ) (parsed : Parsed) → IsSound variant parsed.statement → is_some (place variant size address parsed.statement) ≡ true
     → FitsAt size (listed variant size table from to address (Ok parsed)).addr (length (listed variant size table from to address (Ok parsed)).bytes.items)
 unfolding listed bytes_at place destination
-fits-listed variant size table from to address parsed e = by parsed.statement e
+fits-listed variant size table from to address parsed sound e = by parsed.statement sound e
   where
-    by : (s : Statement) → is_some (place variant size address s) ≡ true
+    by : (s : Statement) → IsSound variant s → is_some (place variant size address s) ≡ true
         → FitsAt size (shown_at parsed.label address (place variant size address s) s) (length (bytes_at table s))
-    by statements.Nothing e = fits-label size address (is_some parsed.label) (within size address e)
-    by (statements.Instruction icode ifun x y constant) e =
-        subst (λ (n : ℕ). address + n ≤ size) (sym (row_length variant table icode ifun x y (value_of table constant))) (within size (address + (row variant icode).length) e)
-    by (statements.Data width value) e =
+    by statements.Nothing sound e = fits-label size address (is_some parsed.label) (within size address e)
+    by (statements.Instruction icode ifun x y constant) sound e =
+        subst (λ (n : ℕ). address + n ≤ size) (sym (row_length variant icode ifun x y (value_of table constant) (sound_known variant table icode ifun x y constant sound))) (within size (address + (row variant icode).length) e)
+    by (statements.Data width value) sound e =
         subst (λ (n : ℕ). address + n ≤ size) (sym (length-data width (value_of table value))) (within size (address + bytes_of width) e)
-    by (statements.Position n) e = fits-place size n
-    by (statements.Align n) e = fits-place size (destination variant address (statements.Align n))
-    by statements.Wide e = tt
+    by (statements.Position n) sound e = fits-place size n
+    by (statements.Align n) sound e = fits-place size (destination variant address (statements.Align n))
+    by statements.Wide sound e = tt
 
 fits-line : (variant : Variant) (size : ℕ) (table known : List (List ℕ × ℕ)) (used : List ℕ) (from to address : ℕ) (read : Result Parsed AsmWhy)
-    → line_fault variant size table known used address read ≡ None
+    → IsSoundRead variant read → line_fault variant size table known used address read ≡ None
     → FitsAt size (listed variant size table from to address read).addr (length (listed variant size table from to address read).bytes.items)
 unfolding line_fault listed
-fits-line variant size table known used from to address (Err why) e = tt
-fits-line variant size table known used from to address (Ok parsed) e =
-    fits-listed variant size table from to address parsed (faultless variant size table known used address parsed e).emits.inside
+fits-line variant size table known used from to address (Err why) sound e = tt
+fits-line variant size table known used from to address (Ok parsed) sound e =
+    fits-listed variant size table from to address parsed sound (faultless variant size table known used address parsed e).emits.inside
+
+AllSound : Variant → List Placed → Type 0
+AllSound variant [] = Unit {0}
+AllSound variant (line ∷ rest) = IsSoundRead variant line.read × AllSound variant rest
+
+all_sound : (variant : Variant) (size address : ℕ) (texts : List (List ℕ)) → AllSound variant (placed variant size address texts)
+unfolding placed AllSound
+all_sound variant size address [] = tt
+all_sound variant size address (text ∷ texts) = (read_sound variant text, all_sound variant size (address_after variant size address (read_line variant text)) texts)
 
 -- in an accepted source all bytes lie within the size
-all_fit : (variant : Variant) (size : ℕ) (table : List (List ℕ × ℕ)) (before rest : List Placed) (from : ℕ) → first_fault variant size table before rest ≡ None → AllFit size (listing variant size table from rest)
-unfolding first_fault listing AllFit
-all_fit variant size table before [] from e = tt
-all_fit variant size table before (line ∷ rest) from e =
+all_fit : (variant : Variant) (size : ℕ) (table : List (List ℕ × ℕ)) (before rest : List Placed) (from : ℕ) → AllSound variant rest → first_fault variant size table before rest ≡ None → AllFit size (listing variant size table from rest)
+unfolding first_fault listing AllFit AllSound
+all_fit variant size table before [] from sound e = tt
+all_fit variant size table before (line ∷ rest) from sound e =
     let two = no_fault _ _ _ e in
-    (fits-line variant size table _ _ from (from + length line.text) line.address line.read two.0, all_fit variant size table (before ++ line ∷ []) rest (from + length line.text + 1) two.1)
+    (fits-line variant size table _ _ from (from + length line.text) line.address line.read sound.0 two.0, all_fit variant size table (before ++ line ∷ []) rest (from + length line.text + 1) sound.1 two.1)
 
 zero_bytes : ℕ → List ℕ
 zero_bytes size = replicate size 0
@@ -140,11 +152,11 @@ unfolding zero_bytes
 length-zeros size = grind (arith, common_steps)
 
 pub image_is_zero_elsewhere : ImageIsZeroElsewhere
-unfolding image zero_bytes
-image_is_zero_elsewhere variant source size lines e a h none =
-    let good = accepted variant source size lines e in
-    let fit = subst (AllFit size) good.1 (all_fit variant size (labels (source_lines variant size source)) [] (source_lines variant size source) 0 good.0) in
-    fold-kept size a lines (zero_bytes size) fit (length-zeros size) none ∙ zeros size a
+unfolding image zero_bytes source_lines
+image_is_zero_elsewhere variant source size listed_lines e a h none =
+    let good = accepted variant source size listed_lines e in
+    let fit = subst (AllFit size) good.1 (all_fit variant size (labels (source_lines variant size source)) [] (source_lines variant size source) 0 (all_sound variant size 0 (lines source)) good.0) in
+    fold-kept size a listed_lines (zero_bytes size) fit (length-zeros size) none ∙ zeros size a
 
 none_emits : (a : ℕ) (lines : List Line) → ((between after : List Line) (other : Line) → lines ≡ between ++ other ∷ after → emits other a ≡ true → ⊥) → list_any (λ line. emits line a) lines ≡ false
 none_emits a [] none = refl
@@ -168,14 +180,14 @@ fit-parts size [] after line f = (tt, f.0, f.1)
 fit-parts size (other ∷ before) after line f = let rest = fit-parts size before after line f.1 in ((f.0, rest.0), rest.1, rest.2)
 
 pub image_has_lines : ImageHasLines
-unfolding image zero_bytes
-image_has_lines variant source size lines e before after line a split x =
-    let good = accepted variant source size lines e in
-    let fit = subst (AllFit size) (good.1 ∙ split) (all_fit variant size (labels (source_lines variant size source)) [] (source_lines variant size source) 0 good.0) in
+unfolding image zero_bytes source_lines
+image_has_lines variant source size listed_lines e before after line a split x =
+    let good = accepted variant source size listed_lines e in
+    let fit = subst (AllFit size) (good.1 ∙ split) (all_fit variant size (labels (source_lines variant size source)) [] (source_lines variant size source) 0 (all_sound variant size 0 (lines source)) good.0) in
     let parts = fit-parts size before after line fit in
     let memory = fold (λ memory line. put_at line.addr line.bytes.items memory) (zero_bytes size) before in
     let long = length-fold size before (zero_bytes size) parts.0 (length-zeros size) in
-    let none = none_emits a after (λ between rest other f y. bytes_have_one_line variant source size lines e before between rest line other a (split ∙ ap (λ xs. before ++ line ∷ xs) f) x y) in
+    let none = none_emits a after (λ between rest other f y. bytes_have_one_line variant source size listed_lines e before between rest line other a (split ∙ ap (λ xs. before ++ line ∷ xs) f) x y) in
     rw split (rw (fold-parts before after line (zero_bytes size))
     (fold-kept size a after (put_at line.addr line.bytes.items memory) parts.2 (length-put_at size line.addr line.bytes.items memory parts.1 long) none
     ∙ put_at-inside size line.addr line.bytes.items memory a parts.1 long x))

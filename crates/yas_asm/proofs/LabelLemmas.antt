@@ -5,7 +5,7 @@ use Rattle.std.specs.Cmp.Lexicographic.{pointwise}
 use Rattle.std.specs.Map.{lookup}
 use Rattle.indexmap.specs.IndexMap.{insert_entry}
 use Rattle.yas_asm.proofs.Parts.{not_here}
-use Rattle.yas_asm.specs.Tokens.{meaning_of}
+use Rattle.y86_base.specs.Keyword.{meaning_of}
 use Rattle.yas_asm.specs.LabelMap.{named}
 
 module _ {A : Type 0} where

@@ -12,7 +12,7 @@ use Rattle.yas_asm.specs.declared.fault.AsmWhy.{AsmWhy}
 use Rattle.yas_asm.specs.declared.fault.AsmFault.{AsmFault}
 use Rattle.yas_asm.specs.declared.listing.Line.{Line}
 use Rattle.yas_asm.specs.declared.statement.Parsed.{Parsed}
-use Rattle.yas_asm.specs.Tokens.{meaning_of}
+use Rattle.y86_base.specs.Keyword.{meaning_of}
 use Rattle.yas_asm.specs.Assembly.{Placed, source_lines, labels, label_of, label_limit, with_label, with_name, assembled, assembled_with, first_fault, fault_or, listing, listing_unless, line_fault, filled, is_defined, is_past_limit}
 use Rattle.yas_asm.specs.Laws.{LabelsAreAddresses, LabelsAreOfLines, IsLabelled}
 use Rattle.yas_asm.proofs.Parts.{not_here}

@@ -1,5 +1,5 @@
 -- Every statement that the grammar reads is sound: its instruction is valid, its `.align` has a number that is at least 1.
-use Rattle.std.proofs.Common.{◌≡◌, ◌<◌, ap, sym, subst, ◌∙◌, ℕ, Bool, true, false, cond, List, [], ◌∷◌, length, Option, None, Some, refl, arith}
+use Rattle.std.proofs.Common.{◌≡◌, ◌<◌, ap, sym, subst, ◌∙◌, ℕ, Bool, true, false, cond, List, [], ◌∷◌, length, Option, None, Some, Result, Ok, Err, refl, arith}
 use Rattle.std.specs.Prelude.{nat_lt, nat_le, nat_eq, not, ◌&&◌, ◌||◌, ◌==◌}
 use Rattle.std.specs.List.{list_all, starts_with}
 use Rattle.std.specs.Str.{bytes_eq}
@@ -7,7 +7,7 @@ use Rattle.std.proofs.lemmas.Option.{none-some}
 use Rattle.std.proofs.lemmas.Bool.{false≢true}
 use Rattle.std.proofs.lemmas.Bool.Decides.{nat_tests}
 use Rattle.y86_base.specs.declared.parts.Variant.{Variant}
-use Rattle.y86_base.specs.declared.parts.Variant.TheVariants.{Base}
+use Rattle.y86_base.specs.declared.parts.Variant.TheVariants.{Base, Full}
 use Rattle.y86_base.specs.Text.{is_blank, behind}
 use Rattle.y86_base.proofs.Booleans.{both_true}
 use Rattle.y86_isa.specs.Table.{rows, row}
@@ -23,10 +23,14 @@ use Rattle.yas_asm.specs.declared.statement.Operand.TheVariants.{Word}
 use Rattle.yas_asm.specs.declared.statement.Statement.{Statement}
 use Rattle.yas_asm.specs.declared.statement.Statement.TheVariants as statements
 use Rattle.yas_asm.specs.declared.statement.Parsed.{Parsed}
-use Rattle.yas_asm.specs.Tokens.{keyword_at, meaning_of, name, sign}
-use Rattle.yas_asm.specs.Tables.{registers, register, base_mnemonics, mnemonic, directive}
-use Rattle.yas_asm.specs.Comments.{ends}
-use Rattle.yas_asm.specs.Grammar.{◌>>=◌, instruction, two_registers, immediate, store, load, target, single, operands_as, operands_of, memory, operand, displacement, natural, is_zero, position_at, align_at, position_operand, align_operand, data_operand, directive_operand, instruction_text, statement_from, statement, last_statement, line, label}
+use Rattle.y86_base.specs.Keyword.{keyword_at, meaning_of}
+use Rattle.y86_base.specs.Registers.{register_names}
+use Rattle.yas_asm.specs.Tokens.{name, sign}
+use Rattle.yas_asm.specs.Tables.{register, base_mnemonics, mnemonics, mnemonic, directive}
+use Rattle.yas_asm.specs.declared.fault.AsmWhy.{AsmWhy}
+use Rattle.yas_asm.specs.declared.fault.AsmWhy.TheVariants.{BadByte, NumberTooWide}
+use Rattle.yas_asm.specs.Comments.{bad_outside, ends}
+use Rattle.yas_asm.specs.Grammar.{◌>>=◌, instruction, two_registers, immediate, store, load, target, single, operands_as, operands_of, memory, operand, displacement, natural, is_zero, position_at, align_at, position_operand, align_operand, data_operand, directive_operand, instruction_text, statement_from, statement, last_statement, line, label, checked, is_wide, read_line}
 use Rattle.yas_asm.proofs.Parts.{some_is, at_most, below}
 use Rattle.yas_asm.specs.Sound.{IsSound}
 
@@ -63,8 +67,8 @@ module _ {A : Type 0} (test : A → Bool) where
 
 -- a register that is read has a number below 15
 pub register-below : (bytes : List ℕ) (x : ℕ × List ℕ) → register bytes ≡ Some x → x.0 < 15
-unfolding register registers
-register-below bytes x e = below _ _ (keyword_at-test (λ n. nat_lt n 15) registers (behind is_blank bytes) x refl e)
+unfolding register register_names
+register-below bytes x e = below _ _ (keyword_at-test (λ n. nat_lt n 15) register_names (behind is_blank bytes) x refl e)
 
 -- whether a shape has rA, rB, a constant
 abbrev takes_a : Shape → Bool
@@ -114,7 +118,8 @@ suits variant operation =
 
 mnemonic-suits : (variant : Variant) (name : List ℕ) (operation : Operation) → mnemonic variant name ≡ Some operation → suits variant operation ≡ true
 unfolding mnemonic base_mnemonics row
-mnemonic-suits Base name operation e = meaning_of-test (suits Base) base_mnemonics name operation refl e
+mnemonic-suits Base name operation e = meaning_of-test (suits Base) (mnemonics Base) name operation refl e
+mnemonic-suits Full name operation e = meaning_of-test (suits Full) (mnemonics Full) name operation refl e
 
 no_constant : (takes has : Bool) (A : Type 0) → (not takes || has) ≡ true → has ≡ false → (takes ≡ false → A) → A
 no_constant true has A e none fill = absurd (false≢true (sym none ∙ e))
@@ -295,3 +300,24 @@ module _ (variant : Variant) where
   line_sound bytes parsed e =
       let s = then_some (last_statement variant (label bytes).1) _ parsed e in
       subst (λ (p : Parsed). IsSound variant p.statement) (some_is _ _ s.2) (last_sound (label bytes).1 s.0 s.1)
+
+-- a line that is read has a sound statement
+abbrev pub IsSoundRead : Variant → Result Parsed AsmWhy → Type 0
+IsSoundRead variant (Ok parsed) = IsSound variant parsed.statement
+IsSoundRead variant (Err why) = Unit {0}
+
+from_checked : (variant : Variant) (text : List ℕ) (read : Option Parsed) → line variant text ≡ read → IsSoundRead variant (checked read)
+from_checked variant text None e = tt
+from_checked variant text (Some parsed) e = by (is_wide parsed.statement)
+  where
+    by : (b : Bool) → IsSoundRead variant (cond b (Err NumberTooWide) (Ok parsed))
+    by true = tt
+    by false = line_sound variant text parsed e
+
+pub read_sound : (variant : Variant) (text : List ℕ) → IsSoundRead variant (read_line variant text)
+unfolding read_line
+read_sound variant text = by (bad_outside 0 text)
+  where
+    by : (b : Bool) → IsSoundRead variant (cond b (Err BadByte) (checked (line variant text)))
+    by true = tt
+    by false = from_checked variant text (line variant text) refl

@@ -3,7 +3,7 @@ use Rattle.std.proofs.Common.{◌≡◌, ap, sym, subst, ◌∙◌, ℕ, Bool, t
 use Rattle.std.specs.Prelude.{not, ◌&&◌, unwrap_or}
 use Rattle.std.proofs.lemmas.Bool.{false≢true}
 use Rattle.y86_base.specs.declared.parts.Variant.{Variant}
-use Rattle.yas_asm.specs.declared.number.Number.{Number}
+use Rattle.y86_base.specs.declared.number.Number.{Number}
 use Rattle.yas_asm.specs.declared.statement.Width.{Width}
 use Rattle.yas_asm.specs.declared.statement.Width.TheVariants.{Eight}
 use Rattle.yas_asm.specs.declared.statement.Shape.{Shape}

@@ -6,12 +6,15 @@ use Rattle.std.proofs.Math.Numerals.{one-add}
 use Rattle.std.proofs.lemmas.Bool.{false≢true}
 use Rattle.std.proofs.lemmas.Bool.Decides.{nat_tests}
 use Rattle.std.specs.Str.Parse.{digits_value}
-use Rattle.y86_base.specs.Text.{is_blank, is_decimal, is_hex, behind, below_word}
+use Rattle.y86_base.specs.Text.{after_byte, begins, behind, below_word, is_blank, is_decimal, is_hex, is_name_byte}
 use Rattle.y86_base.proofs.Booleans.{both_true, both_false}
-use Rattle.yas_asm.specs.declared.number.Number.{Number}
-use Rattle.yas_asm.specs.Tokens.{is_letter, is_name_byte, begins, sign_at, sign, name_at, name, digits_at, is_hex_number, decimal_at, number_at, number, keyword_at, next_is}
+use Rattle.y86_base.specs.declared.number.Number.{Number}
+use Rattle.y86_base.specs.Keyword.{keyword_at}
+use Rattle.y86_base.specs.Number.{decimal_at, digits_at, unsigned_at}
+use Rattle.y86_base.specs.Registers.{register_names}
+use Rattle.yas_asm.specs.Tokens.{is_name_start, sign, name_at, name, is_hex_number, number_at, number, next_is}
 use Rattle.yas_asm.specs.Comments.{comment_length, close_length, ends_at, ends}
-use Rattle.yas_asm.specs.Tables.{registers, register, directives, directive}
+use Rattle.yas_asm.specs.Tables.{register, directives, directive}
 use Rattle.yas_asm.proofs.Parts.{eq_is}
 use Rattle.yas_asm.specs.Spacing.{is_sign, squeezed}
 
@@ -311,7 +314,7 @@ chosen false true x y e h = absurd (false≢true e)
 chosen false false x y e h = tt
 
 -- the tests of the tokens are inner
-inner_letter : IsInner is_letter
+inner_letter : IsInner is_name_start
 unfolding IsInner
 inner_letter byte e = grind (arith, nat_tests)
 
@@ -321,9 +324,9 @@ inner_decimal byte e = grind (arith, nat_tests)
 
 inner_name : IsInner is_name_byte
 unfolding IsInner
-inner_name byte e = by (is_letter byte) (is_decimal byte) refl refl e
+inner_name byte e = by (is_name_start byte) (is_decimal byte) refl refl e
   where
-    by : (a b : Bool) → is_letter byte ≡ a → is_decimal byte ≡ b → (a || b) ≡ true → stops byte ≡ false
+    by : (a b : Bool) → is_name_start byte ≡ a → is_decimal byte ≡ b → (a || b) ≡ true → stops byte ≡ false
     by true b s t e = inner_letter byte s
     by false true s t e = inner_decimal byte t
     by false false s t e = absurd (false≢true e)
@@ -341,8 +344,8 @@ module _ {A : Type 0} (read : List ℕ → Option (A × List ℕ)) (at : (text :
 name_at-moved : (text : List ℕ) → Moved (name_at (squeezed false text)) (name_at text)
 name_at-moved text =
     let parts = split-squeezed is_name_byte inner_name text in
-    chosen (begins is_letter (squeezed false text)) (begins is_letter text) (split is_name_byte (squeezed false text)) (split is_name_byte text)
-    (begins_inner is_letter inner_letter text)
+    chosen (begins is_name_start (squeezed false text)) (begins is_name_start text) (split is_name_byte (squeezed false text)) (split is_name_byte text)
+    (begins_inner is_name_start inner_letter text)
     (λ _. (ap (λ (p : List ℕ × List ℕ). p.0) parts, (false, ap (λ (p : List ℕ × List ℕ). p.1) parts)))
 
 pub name-moved : (close : Bool) (bytes : List ℕ) → Moved (name (squeezed close bytes)) (name bytes)
@@ -415,8 +418,8 @@ module _ {A : Type 0} where
       (starts-squeezed row.0 text parts.0) (drop-squeezed row.0 text parts.0) (keyword_at-moved rows text parts.1)
 
 pub register-moved : (close : Bool) (bytes : List ℕ) → Moved (register (squeezed close bytes)) (register bytes)
-unfolding register registers
-register-moved close bytes = behind_blanks (keyword_at registers) (λ text. keyword_at-moved registers text refl) close bytes
+unfolding register register_names
+register-moved close bytes = behind_blanks (keyword_at register_names) (λ text. keyword_at-moved register_names text refl) close bytes
 
 pub directive-moved : (close : Bool) (bytes : List ℕ) → Moved (directive (squeezed close bytes)) (directive bytes)
 unfolding directive directives
@@ -433,9 +436,9 @@ digits-squeezed negative base test inner text text' e =
     let parts = ap (split test) e ∙ split-squeezed test inner text in
     (ap (λ (p : List ℕ × List ℕ). (digits_of negative base p).0) parts, (false, ap (λ (p : List ℕ × List ℕ). p.1) parts))
 
-decimal_at-moved : (negative negative' : Bool) (text text' : List ℕ) → negative' ≡ negative → text' ≡ squeezed false text → Moved (decimal_at negative' text') (decimal_at negative text)
-decimal_at-moved negative negative' text text' n e =
-    subst (λ (m : Bool). Moved (decimal_at m text') (decimal_at negative text)) (sym n)
+unsigned_at-moved : (negative negative' : Bool) (text text' : List ℕ) → negative' ≡ negative → text' ≡ squeezed false text → Moved (unsigned_at negative' text') (unsigned_at negative text)
+unsigned_at-moved negative negative' text text' n e =
+    subst (λ (m : Bool). Moved (unsigned_at m text') (unsigned_at negative text)) (sym n)
     (chosen (begins is_decimal text') (begins is_decimal text) (digits_at negative 10 is_decimal text') (digits_at negative 10 is_decimal text)
     (ap (begins is_decimal) e ∙ begins_inner is_decimal inner_decimal text) (λ _. digits-squeezed negative 10 is_decimal inner_decimal text text' e))
 
@@ -446,18 +449,23 @@ inner_minus : IsInner (λ byte. byte == 45)
 unfolding IsInner
 inner_minus byte e = ap stops (eq_is byte 45 e)
 
-minus-squeezed : (text : List ℕ) → unwrap_or (sign_at 45 (squeezed false text)) (squeezed false text) ≡ squeezed false (unwrap_or (sign_at 45 text) text)
-minus-squeezed [] = ap (λ xs. unwrap_or (sign_at 45 xs) xs) (squeezed-none false) ∙ sym (squeezed-none false)
+-- what stands behind a byte, by its test
+after_byte_is : (w : ℕ) (text : List ℕ) → after_byte w text ≡ cond (begins (λ byte. byte == w) text) (Some (drop 1 text)) None
+after_byte_is w [] = refl
+after_byte_is w (byte ∷ text) = refl
+
+minus-squeezed : (text : List ℕ) → unwrap_or (after_byte 45 (squeezed false text)) (squeezed false text) ≡ squeezed false (unwrap_or (after_byte 45 text) text)
+minus-squeezed [] = ap (λ xs. unwrap_or (after_byte 45 xs) xs) (squeezed-none false) ∙ sym (squeezed-none false)
 minus-squeezed (byte ∷ text) = by (byte == 45) refl
   where
-    body : (b : Bool) (xs : List ℕ) → begins (λ byte. byte == 45) xs ≡ b → unwrap_or (sign_at 45 xs) xs ≡ cond b (drop 1 xs) xs
-    body b xs e = ap (λ c. unwrap_or (cond c (Some (drop 1 xs)) None) xs) e ∙ pick b
+    body : (b : Bool) (xs : List ℕ) → begins (λ byte. byte == 45) xs ≡ b → unwrap_or (after_byte 45 xs) xs ≡ cond b (drop 1 xs) xs
+    body b xs e = ap (λ o. unwrap_or o xs) (after_byte_is 45 xs) ∙ ap (λ c. unwrap_or (cond c (Some (drop 1 xs)) None) xs) e ∙ pick b
       where
         pick : (b : Bool) → unwrap_or (cond b (Some (drop 1 xs)) None) xs ≡ cond b (drop 1 xs) xs
         pick true = refl
         pick false = refl
 
-    by : (b : Bool) → (byte == 45) ≡ b → unwrap_or (sign_at 45 (squeezed false (byte ∷ text))) (squeezed false (byte ∷ text)) ≡ squeezed false (unwrap_or (sign_at 45 (byte ∷ text)) (byte ∷ text))
+    by : (b : Bool) → (byte == 45) ≡ b → unwrap_or (after_byte 45 (squeezed false (byte ∷ text))) (squeezed false (byte ∷ text)) ≡ squeezed false (unwrap_or (after_byte 45 (byte ∷ text)) (byte ∷ text))
     by true e =
         body true (squeezed false (byte ∷ text)) (begins_inner (λ byte. byte == 45) inner_minus (byte ∷ text) ∙ e)
         ∙ ap (drop 1) (squeezed-plain false byte text (ap stops (eq_is byte 45 e)))
@@ -485,12 +493,13 @@ is_hex_number-squeezed text = by (starts_with nat_eq text (codes "0x")) refl
         ∙ sym (ap (λ b. b && begins is_hex (drop 2 text)) e)
 
 number_at-moved : (text : List ℕ) → Moved (number_at (squeezed false text)) (number_at text)
+unfolding decimal_at
 number_at-moved text =
     hex_step (is_hex_number (squeezed false text)) (is_hex_number text) (digits_at false 16 is_hex (drop 2 (squeezed false text))) (digits_at false 16 is_hex (drop 2 text)) _ _
     (is_hex_number-squeezed text)
     (λ h. digits-squeezed false 16 is_hex inner_hex (drop 2 text) (drop 2 (squeezed false text))
     (drop-squeezed (codes "0x") text refl (both_true (starts_with nat_eq text (codes "0x")) (begins is_hex (drop 2 text)) h).0))
-    (decimal_at-moved (begins (λ byte. byte == 45) text) (begins (λ byte. byte == 45) (squeezed false text)) (unwrap_or (sign_at 45 text) text) _
+    (unsigned_at-moved (begins (λ byte. byte == 45) text) (begins (λ byte. byte == 45) (squeezed false text)) (unwrap_or (after_byte 45 text) text) _
     (begins_inner (λ byte. byte == 45) inner_minus text) (minus-squeezed text))
 
 pub number-moved : (close : Bool) (bytes : List ℕ) → Moved (number (squeezed close bytes)) (number bytes)
@@ -532,13 +541,13 @@ module _ (w : ℕ) (b : is_blank w ≡ false) (h : (w == 35) ≡ false) (s : (w 
   pass false true x y e d = absurd (false≢true e)
   pass false false x y e d = tt
 
-  sign_at-passed : (text : List ℕ) → begins is_blank text ≡ false → Passed (sign_at w (squeezed false text)) (sign_at w text)
-  sign_at-passed text n = pass _ _ _ _ (sign_begins text n) (sign_behind text)
+  after_byte-passed : (text : List ℕ) → begins is_blank text ≡ false → Passed (after_byte w (squeezed false text)) (after_byte w text)
+  after_byte-passed text n = rw (after_byte_is w (squeezed false text), after_byte_is w text) (pass _ _ _ _ (sign_begins text n) (sign_behind text))
 
   pub sign-passed : (close : Bool) (bytes : List ℕ) → Passed (sign w (squeezed close bytes)) (sign w bytes)
   unfolding sign
   sign-passed close bytes =
-      subst (λ (text : List ℕ). Passed (sign_at w text) (sign_at w (behind is_blank bytes))) (sym (after_blanks-squeezed close false bytes)) (sign_at-passed (behind is_blank bytes) (no_blank bytes))
+      subst (λ (text : List ℕ). Passed (after_byte w text) (after_byte w (behind is_blank bytes))) (sym (after_blanks-squeezed close false bytes)) (after_byte-passed (behind is_blank bytes) (no_blank bytes))
 
   pub next_is-squeezed : (close : Bool) (bytes : List ℕ) → next_is w (squeezed close bytes) ≡ next_is w bytes
   unfolding next_is

@@ -18,7 +18,7 @@ use Rattle.yas_asm.specs.declared.statement.Statement.{Statement}
 use Rattle.yas_asm.specs.declared.statement.Statement.TheVariants as statements
 use Rattle.yas_asm.specs.declared.statement.Parsed.{Parsed}
 use Rattle.y86_base.specs.Text.{lines}
-use Rattle.yas_asm.specs.Tokens.{meaning_of}
+use Rattle.y86_base.specs.Keyword.{meaning_of}
 use Rattle.yas_asm.specs.Grammar.{bytes_of, operand_of, read_line}
 use Rattle.y86_isa.specs.Encoding.{encoded}
 

@@ -1,8 +1,7 @@
 -- Comments of assembly text, and the bytes that may stand outside them. `law_of_comments` says what `close_length` and `bad_outside` come to.
 use Rattle.std.specs.Prelude.{ℕ, zero, suc, ◌+◌, ◌-◌, Bool, false, not, ◌&&◌, ◌||◌, ◌==◌, nat_le, nat_eq, if◌then◌else◌, List, [], ◌∷◌, length, drop, codes}
 use Rattle.std.specs.List.{starts_with, list_all}
-use Rattle.y86_base.specs.Text.{is_blank, behind}
-use Rattle.yas_asm.specs.Tokens.{begins}
+use Rattle.y86_base.specs.Text.{begins, behind, is_blank}
 
 -- how many bytes there are up to the first `*/` and with it; 0 where none stands there
 unfoldable pub close_length : List ℕ → ℕ

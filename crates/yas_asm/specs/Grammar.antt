@@ -4,7 +4,8 @@
 use Rattle.std.specs.Prelude.{ℕ, ◌-◌, ◌*◌, ◌^◌, ◌%◌, Bool, true, false, not, ◌&&◌, ◌==◌, nat_le, nat_lt, if◌then◌else◌, List, Option, Some, None, Result, Ok, Err, option_and_then}
 use Rattle.std.specs.Option.{option_map_or}
 use Rattle.y86_base.specs.declared.parts.Variant.{Variant}
-use Rattle.yas_asm.specs.declared.number.Number.{Number}
+use Rattle.y86_base.specs.declared.number.Number.{Number}
+use Rattle.y86_base.specs.Number.{word_within}
 use Rattle.yas_asm.specs.declared.fault.AsmWhy.{AsmWhy}
 use Rattle.yas_asm.specs.declared.fault.AsmWhy.TheVariants.{Syntax, BadByte, NumberTooWide}
 use Rattle.yas_asm.specs.declared.statement.Width.{Width}
@@ -34,14 +35,13 @@ bytes_of Two = 2
 bytes_of Four = 4
 bytes_of Eight = 8
 
--- a written number as a word, where it lies from -2^(8w-1) to 2^(8w)-1 for w bytes; a negative one counts modulo 2^64
-abbrev pub word_within : Width → Bool → Option ℕ → Operand
-word_within width negative None = operands.Wide
-word_within width true (Some n) = if nat_le n (2 ^ (8 * bytes_of width - 1)) then operands.Word ((2 ^ 64 - n) % 2 ^ 64) else operands.Wide
-word_within width false (Some n) = if nat_lt n (2 ^ (8 * bytes_of width)) then operands.Word n else operands.Wide
+abbrev pub word_or_wide : Option ℕ → Operand
+word_or_wide None = operands.Wide
+word_or_wide (Some n) = operands.Word n
 
+-- a written number as a word, where it lies from -2^(8w-1) to 2^(8w)-1 for w bytes
 unfoldable pub word_of : Width → Number → Operand
-word_of width number = word_within width number.negative number.magnitude
+word_of width number = word_or_wide (word_within (2 ^ (8 * bytes_of width - 1)) (2 ^ (8 * bytes_of width) - 1) number)
 
 -- V: a number or a label, with an optional `$` in front
 abbrev pub operand_from : Width → Option (Number × List ℕ) → Option (List ℕ × List ℕ) → Option (Operand × List ℕ)

@@ -9,7 +9,7 @@ use Rattle.yas_asm.specs.declared.statement.Parsed.{Parsed}
 use Rattle.yas_asm.specs.declared.listing.Line.{Line}
 use Rattle.y86_base.specs.Image.{with_bytes}
 use Rattle.y86_base.specs.Text.{lines}
-use Rattle.yas_asm.specs.Tokens.{meaning_of}
+use Rattle.y86_base.specs.Keyword.{meaning_of}
 use Rattle.yas_asm.specs.Comments.{close_length, comment_length, is_good, bad_outside}
 use Rattle.yas_asm.specs.Grammar.{is_wide, line, read_line}
 use Rattle.yas_asm.specs.Assembly.{Placed, source_lines, width_of, place, address_after, labels, label_of, filled, names_wide, names_unknown, is_defined, is_past_limit, overlaps, fault_behind, assembled, next_multiple}

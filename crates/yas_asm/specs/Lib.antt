@@ -1,5 +1,4 @@
 pub mod Reads
-pub mod Keyword
 pub mod Tokens
 pub mod Comments
 pub mod Tables

@@ -1,9 +1,8 @@
 -- Lines that differ in comments and blanks alone.
 use Rattle.std.specs.Prelude.{◌≡◌, ℕ, Bool, true, ◌||◌, ◌==◌, if◌then◌else◌, List, [], ◌∷◌, map, Option, Ok}
 use Rattle.y86_base.specs.declared.parts.Variant.{Variant}
-use Rattle.y86_base.specs.Text.{is_blank, lines}
+use Rattle.y86_base.specs.Text.{begins, is_blank, lines}
 use Rattle.yas_asm.specs.declared.listing.Line.{Line}
-use Rattle.yas_asm.specs.Tokens.{begins}
 use Rattle.yas_asm.specs.Comments.{ends}
 use Rattle.yas_asm.specs.Assembly.{assembled}
 

@@ -1,7 +1,7 @@
 -- The fixed texts of the language: registers, directives and mnemonics. No register and no directive begins with another.
-use Rattle.std.specs.Prelude.{ℕ, List, [], ◌∷◌, Option, codes}
+use Rattle.std.specs.Prelude.{ℕ, List, [], ◌∷◌, ◌++◌, Option, codes}
 use Rattle.y86_base.specs.declared.parts.Variant.{Variant}
-use Rattle.y86_base.specs.declared.parts.Variant.TheVariants.{Base}
+use Rattle.y86_base.specs.declared.parts.Variant.TheVariants.{Base, Full}
 use Rattle.yas_asm.specs.declared.statement.Width.TheVariants.{One, Two, Four, Eight}
 use Rattle.yas_asm.specs.declared.statement.Directive.{Directive}
 use Rattle.yas_asm.specs.declared.statement.Directive.TheVariants.{Position, Align, Data}
@@ -9,17 +9,12 @@ use Rattle.yas_asm.specs.declared.statement.Shape.{Shape}
 use Rattle.yas_asm.specs.declared.statement.Shape.TheVariants.{Alone, Registers, Immediate, Store, Load, Target, Single}
 use Rattle.yas_asm.specs.declared.statement.Operation.{Operation}
 use Rattle.y86_base.specs.Text.{is_blank, behind}
-use Rattle.yas_asm.specs.Tokens.{keyword_at, meaning_of}
+use Rattle.y86_base.specs.Keyword.{keyword_at, meaning_of}
+use Rattle.y86_base.specs.Registers.{register_names}
 
--- the registers with their numbers (CS:APP 3e, figure 4.4)
-unfoldable pub registers : List (List ℕ × ℕ)
-registers =
-    (codes "%rax", 0) ∷ (codes "%rcx", 1) ∷ (codes "%rdx", 2) ∷ (codes "%rbx", 3) ∷ (codes "%rsp", 4) ∷ (codes "%rbp", 5)
-    ∷ (codes "%rsi", 6) ∷ (codes "%rdi", 7) ∷ (codes "%r8", 8) ∷ (codes "%r9", 9) ∷ (codes "%r10", 10) ∷ (codes "%r11", 11)
-    ∷ (codes "%r12", 12) ∷ (codes "%r13", 13) ∷ (codes "%r14", 14) ∷ []
-
+-- a register by its name
 unfoldable pub register : List ℕ → Option (ℕ × List ℕ)
-register bytes = keyword_at registers (behind is_blank bytes)
+register bytes = keyword_at register_names (behind is_blank bytes)
 
 unfoldable pub directives : List (List ℕ × Directive)
 directives =
@@ -46,8 +41,10 @@ base_mnemonics =
     ∷ (codes "jne", op Target 7 4) ∷ (codes "jge", op Target 7 5) ∷ (codes "jg", op Target 7 6) ∷ (codes "call", op Target 8 0)
     ∷ (codes "pushq", op Single 10 0) ∷ (codes "popq", op Single 11 0) ∷ []
 
+-- those of an instruction set; `iaddq` is that of exercise 4.3
 abbrev pub mnemonics : Variant → List (List ℕ × Operation)
 mnemonics Base = base_mnemonics
+mnemonics Full = base_mnemonics ++ ((codes "iaddq", op Immediate 12 0) ∷ [])
 
 -- what a name stands for as a mnemonic, if it is one
 unfoldable pub mnemonic : Variant → List ℕ → Option Operation

@@ -3,7 +3,6 @@ ghost use Rattle.std.specs.Int.{to_le_bytes, w64};
 ghost use Rattle.yas_asm.specs.Assembly as assembly;
 ghost use Rattle.yas_asm.specs.Grammar as grammar;
 ghost use Rattle.yas_asm.specs.Sound.{IsSound};
-ghost use Rattle.y86_isa.specs.Encoding.{IsValid, encoded};
 
 use crate::address::bytes_of;
 use crate::labels::Labels;
@@ -21,16 +20,6 @@ fn value_of(labels: &Labels, operand: &Operand) -> u64
         Operand::Word(n) => *n,
         Operand::Label(name) => labels.address_of(name.bytes()).unwrap_or(0),
         Operand::Wide => 0,
-    }
-}
-
-/// The bytes of an instruction whose constant is known.
-fn instruction(variant: Variant, instr: Instr) -> ArrayVec<u8, 10>
-    requires { IsValid variant instr }
-    ensures { result.items ≡ encoded instr }
-{
-    match variant {
-        Variant::Base => encode(&instr),
     }
 }
 
@@ -59,16 +48,13 @@ pub fn bytes_at(variant: Variant, labels: &Labels, statement: &Statement) -> Arr
             constant,
         } => {
             let val_c = value_of(labels, constant);
-            instruction(
-                variant,
-                Instr {
-                    icode: *icode,
-                    ifun: *ifun,
-                    r_a: *r_a,
-                    r_b: *r_b,
-                    val_c,
-                },
-            )
+            encode(&Instr {
+                icode: *icode,
+                ifun: *ifun,
+                r_a: *r_a,
+                r_b: *r_b,
+                val_c,
+            })
         }
         Statement::Data { width, value } => data(*width, value_of(labels, value)),
         _ => ArrayVec::new(),

@@ -6,12 +6,10 @@ ghost use Rattle.yas_asm.specs.Reads.{Reads};
 
 use crate::comment::has_bad_byte;
 use crate::fault::AsmWhy;
-use crate::keyword::meaning_of;
-use crate::number::Number;
 use crate::reader::Reader;
 use crate::statement::{Directive, Operand, Operation, Parsed, Shape, Statement, Width};
 use crate::tables::mnemonics;
-use y86_base::Variant;
+use y86_base::{Number, Variant, meaning_of};
 
 /// The greatest number that a width holds.
 pub fn greatest(width: Width) -> u64
@@ -42,12 +40,9 @@ fn least_magnitude(width: Width) -> u64
 fn word_of<'a>(width: Width, number: Number) -> Operand<'a>
     ensures { result ≡ grammar.word_of width number }
 {
-    match number.magnitude {
-        Some(n) if number.negative && n <= least_magnitude(width) => {
-            Operand::Word(0u64.wrapping_sub(n))
-        }
-        Some(n) if !number.negative && n <= greatest(width) => Operand::Word(n),
-        _ => Operand::Wide,
+    match number.word_within(least_magnitude(width), greatest(width)) {
+        Some(n) => Operand::Word(n),
+        None => Operand::Wide,
     }
 }
 

@@ -1,6 +1,6 @@
 ghost use Rattle.std.specs.Prelude.{◌≡◌, ◌∷◌, ◌++◌, [], length, map, OnOk, None};
 ghost use Rattle.yas_asm.specs.LabelMap.{named};
-ghost use Rattle.yas_asm.specs.Tokens.{meaning_of};
+ghost use Rattle.y86_base.specs.Keyword.{meaning_of};
 ghost use Rattle.yas_asm.specs.Assembly as assembly;
 
 use indexmap::IndexMap;

@@ -8,7 +8,6 @@ mod check;
 mod comment;
 mod fault;
 mod grammar;
-mod keyword;
 mod labels;
 mod laws;
 mod listing;

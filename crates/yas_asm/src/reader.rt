@@ -1,5 +1,4 @@
-ghost use Rattle.std.specs.Prelude.{IfNone, ◌≡◌, ◌≤◌, List, ℕ, length};
-ghost use Rattle.std.specs.List.{prefix_len};
+ghost use Rattle.std.specs.Prelude.{IfNone, ◌≡◌, List, ℕ};
 ghost use Rattle.yas_asm.specs.Comments as comments;
 ghost use Rattle.yas_asm.specs.Tokens as tokens;
 ghost use Rattle.yas_asm.specs.Tables as tables;
@@ -7,13 +6,14 @@ ghost use Rattle.yas_asm.specs.Grammar as grammar;
 ghost use Rattle.yas_asm.specs.Reads.{Reads, Passes};
 
 use crate::comment::comment_length;
-use crate::keyword::keyword_at;
 use crate::name::Name;
-use crate::number::{Number, number_at};
+use crate::number::number_at;
 use crate::statement::Directive;
-use crate::tables::{directives, registers};
+use crate::tables::directives;
 use std::marker::Model;
-use y86_base::{after_blanks, is_blank, is_decimal};
+use y86_base::{
+    Number, after_blanks, after_byte, is_blank, is_letter, keyword_at, register_names, split_name,
+};
 
 /// What is left of a line as it is read, seen as its bytes.
 #[derive(Drop)]
@@ -29,23 +29,10 @@ impl<'a> Model for Reader<'a> {
     ghost view = { λ reader. reader.rest.now };
 }
 
-fn is_letter(byte: u8) -> bool
-    ensures { result ≡ tokens.is_letter byte }
+fn is_name_start(byte: u8) -> bool
+    ensures { result ≡ tokens.is_name_start byte }
 {
-    (b'a' <= byte && byte <= b'z') || (b'A' <= byte && byte <= b'Z') || byte == b'_'
-}
-
-fn is_name_byte(byte: u8) -> bool
-    ensures { result ≡ tokens.is_name_byte byte }
-{
-    is_letter(byte) || is_decimal(byte)
-}
-
-fn name_length(bytes: &[u8]) -> usize
-    ensures count { result ≡ prefix_len tokens.is_name_byte bytes.now }
-    ensures within { result ≤ length bytes.now }
-{
-    bytes.iter().take_while(|byte| is_name_byte(**byte)).count()
+    is_letter(byte) || byte == b'_'
 }
 
 impl<'a> Reader<'a> {
@@ -61,11 +48,7 @@ impl<'a> Reader<'a> {
     pub fn sign(&mut self, wanted: u8) -> Option<()>
         ensures { Passes result (tokens.sign wanted self.old) self.new }
     {
-        let (first, behind) = after_blanks(self.rest).split_first()?;
-        if *first != wanted {
-            return None;
-        }
-        self.rest = behind;
+        self.rest = after_byte(after_blanks(self.rest), wanted)?;
         Some(())
     }
 
@@ -75,10 +58,10 @@ impl<'a> Reader<'a> {
         ensures { Reads result (tokens.name self.old) self.new }
     {
         let text = after_blanks(self.rest);
-        if !is_letter(*text.first()?) {
+        if !is_name_start(*text.first()?) {
             return None;
         }
-        let (bytes, behind) = text.split_at(name_length(text));
+        let (bytes, behind) = split_name(text);
         self.rest = behind;
         Some(Name::new(bytes))
     }
@@ -88,10 +71,8 @@ impl<'a> Reader<'a> {
     pub fn skip_sign(&mut self, wanted: u8)
         ensures { self.new ≡ tokens.after_sign wanted self.old }
     {
-        if let Some((first, behind)) = after_blanks(self.rest).split_first() {
-            if *first == wanted {
-                self.rest = behind;
-            }
+        if let Some(behind) = after_byte(after_blanks(self.rest), wanted) {
+            self.rest = behind;
         }
     }
 
@@ -122,7 +103,7 @@ impl<'a> Reader<'a> {
     pub fn register(&mut self) -> Option<u8>
         ensures { Reads result (tables.register self.old) self.new }
     {
-        let (number, behind) = keyword_at(registers(), after_blanks(self.rest))?;
+        let (number, behind) = keyword_at(register_names(), after_blanks(self.rest))?;
         self.rest = behind;
         Some(number)
     }

@@ -1,73 +1,9 @@
 ghost use Rattle.std.specs.Prelude.{◌≡◌, map};
-ghost use Rattle.yas_asm.specs.Keyword.{entry};
+ghost use Rattle.y86_base.specs.Keyword.{entry};
 ghost use Rattle.yas_asm.specs.Tables as tables;
 
-use crate::keyword::Keyword;
 use crate::statement::{Directive, Operation, Shape, Width};
-use y86_base::Variant;
-
-static REGISTERS: [Keyword<u8>; 15] = [
-    Keyword {
-        text: b"%rax",
-        meaning: 0,
-    },
-    Keyword {
-        text: b"%rcx",
-        meaning: 1,
-    },
-    Keyword {
-        text: b"%rdx",
-        meaning: 2,
-    },
-    Keyword {
-        text: b"%rbx",
-        meaning: 3,
-    },
-    Keyword {
-        text: b"%rsp",
-        meaning: 4,
-    },
-    Keyword {
-        text: b"%rbp",
-        meaning: 5,
-    },
-    Keyword {
-        text: b"%rsi",
-        meaning: 6,
-    },
-    Keyword {
-        text: b"%rdi",
-        meaning: 7,
-    },
-    Keyword {
-        text: b"%r8",
-        meaning: 8,
-    },
-    Keyword {
-        text: b"%r9",
-        meaning: 9,
-    },
-    Keyword {
-        text: b"%r10",
-        meaning: 10,
-    },
-    Keyword {
-        text: b"%r11",
-        meaning: 11,
-    },
-    Keyword {
-        text: b"%r12",
-        meaning: 12,
-    },
-    Keyword {
-        text: b"%r13",
-        meaning: 13,
-    },
-    Keyword {
-        text: b"%r14",
-        meaning: 14,
-    },
-];
+use y86_base::{Keyword, Variant};
 
 static DIRECTIVES: [Keyword<Directive>; 6] = [
     Keyword {
@@ -96,7 +32,8 @@ static DIRECTIVES: [Keyword<Directive>; 6] = [
     },
 ];
 
-static BASE_MNEMONICS: [Keyword<Operation>; 27] = [
+/// All mnemonics: the first 27 are those of `Base`, and the last is that of `Full` alone.
+static MNEMONICS: [Keyword<Operation>; 28] = [
     Keyword {
         text: b"halt",
         meaning: Operation {
@@ -313,15 +250,15 @@ static BASE_MNEMONICS: [Keyword<Operation>; 27] = [
             ifun: 0,
         },
     },
+    Keyword {
+        text: b"iaddq",
+        meaning: Operation {
+            shape: Shape::Immediate,
+            icode: 12,
+            ifun: 0,
+        },
+    },
 ];
-
-/// The registers with their numbers.
-#[tactic(auto, unfolding(crate::specs::Tables::registers))]
-pub fn registers() -> &'static [Keyword<u8>]
-    ensures { map entry result.now ≡ tables.registers }
-{
-    &REGISTERS
-}
 
 /// The directives.
 #[tactic(auto, unfolding(crate::specs::Tables::directives))]
@@ -337,6 +274,7 @@ pub fn mnemonics(variant: Variant) -> &'static [Keyword<Operation>]
     ensures { map entry result.now ≡ tables.mnemonics variant }
 {
     match variant {
-        Variant::Base => &BASE_MNEMONICS,
+        Variant::Base => &MNEMONICS[..27],
+        Variant::Full => &MNEMONICS,
     }
 }
