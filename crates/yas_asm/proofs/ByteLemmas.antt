@@ -23,8 +23,9 @@ use Rattle.yas_asm.specs.declared.statement.Width.TheVariants.{One, Two, Four, E
 use Rattle.yas_asm.specs.declared.statement.Statement.{Statement}
 use Rattle.yas_asm.specs.declared.statement.Statement.TheVariants as statements
 use Rattle.yas_asm.specs.declared.statement.Parsed.{Parsed}
-use Rattle.yas_asm.specs.Grammar.{bytes_of}
-use Rattle.yas_asm.specs.Assembly.{Placed, source_lines, labels, first_fault, listing, listed, line_fault, filled, addresses, emitted, place, overlaps, width_of, bytes_at, shown_at, value_of}
+use Rattle.y86_base.specs.Text.{lines}
+use Rattle.yas_asm.specs.Grammar.{bytes_of, read_line}
+use Rattle.yas_asm.specs.Assembly.{Placed, placed, address_after, source_lines, labels, first_fault, listing, listed, line_fault, filled, addresses, emitted, place, overlaps, width_of, bytes_at, shown_at, value_of}
 use Rattle.yas_asm.specs.Laws.{emits_at, emits, BytesHaveOneLine}
 use Rattle.yas_asm.proofs.Parts.{head_is, tail_is, no_cons, at_most, below, eq_is}
 use Rattle.yas_asm.proofs.PassLemmas.{faultless}
@@ -210,3 +211,13 @@ bytes_have_one_line variant source size lines e before between after one other a
     emits-unused variant size table _ _ second.from second.to second.placed.address a second.placed.read
     (sound_line variant source size (first.before ++ first.placed ∷ second.before) second.after second.placed
     (first.parts ∙ ap (λ xs. first.before ++ first.placed ∷ xs) second.parts ∙ append_line first.before second.before second.after first.placed second.placed)) there y' used
+
+-- all lines of a source have sound statements
+abbrev pub AllSound : Variant → List Placed → Type 0
+AllSound variant [] = Unit {0}
+AllSound variant (line ∷ rest) = IsSoundRead variant line.read × AllSound variant rest
+
+pub all_sound : (variant : Variant) (size address : ℕ) (texts : List (List ℕ)) → AllSound variant (placed variant size address texts)
+unfolding placed
+all_sound variant size address [] = tt
+all_sound variant size address (text ∷ texts) = (read_sound variant text, all_sound variant size (address_after variant size address (read_line variant text)) texts)

@@ -13,16 +13,16 @@ use Rattle.yas_asm.specs.declared.listing.Line.{Line}
 use Rattle.yas_asm.specs.declared.statement.Statement.{Statement}
 use Rattle.yas_asm.specs.declared.statement.Statement.TheVariants as statements
 use Rattle.yas_asm.specs.declared.statement.Parsed.{Parsed}
-use Rattle.yas_asm.specs.Grammar.{bytes_of, read_line}
-use Rattle.yas_asm.specs.Assembly.{Placed, placed, address_after, source_lines, labels, first_fault, listing, listed, line_fault, place, destination, bytes_at, shown_at, value_of}
+use Rattle.yas_asm.specs.Grammar.{bytes_of}
+use Rattle.yas_asm.specs.Assembly.{Placed, source_lines, labels, first_fault, listing, listed, line_fault, place, destination, bytes_at, shown_at, value_of}
 use Rattle.yas_asm.specs.Laws.{emits_at, emits, put_at, image, ImageHasLines, ImageIsZeroElsewhere}
 use Rattle.y86_base.specs.Text.{lines}
 use Rattle.yas_asm.specs.Sound.{IsSound}
-use Rattle.yas_asm.proofs.SoundGrammar.{IsSoundRead, read_sound}
+use Rattle.yas_asm.proofs.SoundGrammar.{IsSoundRead}
 use Rattle.yas_asm.proofs.SoundLemmas.{sound_known, within}
 use Rattle.yas_asm.proofs.PassLemmas.{faultless}
 use Rattle.yas_asm.proofs.LawLemmas.{no_fault, accepted}
-use Rattle.yas_asm.proofs.ByteLemmas.{bytes_have_one_line, emits_within, row_length, length-data}
+use Rattle.yas_asm.proofs.ByteLemmas.{AllSound, all_sound, bytes_have_one_line, emits_within, row_length, length-data}
 
 -- what a place of a memory holds after some bytes were put into it
 put-inside : (memory bytes : List ℕ) (first a : ℕ) → first + length bytes ≤ length memory → first ≤ a → a < first + length bytes
@@ -123,18 +123,9 @@ fits-line variant size table known used from to address (Err why) sound e = tt
 fits-line variant size table known used from to address (Ok parsed) sound e =
     fits-listed variant size table from to address parsed sound (faultless variant size table known used address parsed e).emits.inside
 
-AllSound : Variant → List Placed → Type 0
-AllSound variant [] = Unit {0}
-AllSound variant (line ∷ rest) = IsSoundRead variant line.read × AllSound variant rest
-
-all_sound : (variant : Variant) (size address : ℕ) (texts : List (List ℕ)) → AllSound variant (placed variant size address texts)
-unfolding placed AllSound
-all_sound variant size address [] = tt
-all_sound variant size address (text ∷ texts) = (read_sound variant text, all_sound variant size (address_after variant size address (read_line variant text)) texts)
-
 -- in an accepted source all bytes lie within the size
 all_fit : (variant : Variant) (size : ℕ) (table : List (List ℕ × ℕ)) (before rest : List Placed) (from : ℕ) → AllSound variant rest → first_fault variant size table before rest ≡ None → AllFit size (listing variant size table from rest)
-unfolding first_fault listing AllFit AllSound
+unfolding first_fault listing AllFit
 all_fit variant size table before [] from sound e = tt
 all_fit variant size table before (line ∷ rest) from sound e =
     let two = no_fault _ _ _ e in

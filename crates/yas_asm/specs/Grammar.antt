@@ -1,7 +1,7 @@
 -- The grammar of a line: an optional label, an optional statement, an optional comment, as the programs of CS:APP 3e, section 4.1.5, are
 -- written; the operands of each instruction are those of figure 4.2. Each reader gives what it read with the bytes
 -- behind it, or None where the bytes are not of its form.
-use Rattle.std.specs.Prelude.{ℕ, ◌-◌, ◌*◌, ◌^◌, ◌%◌, Bool, true, false, not, ◌&&◌, ◌==◌, nat_le, nat_lt, if◌then◌else◌, List, Option, Some, None, Result, Ok, Err, option_and_then}
+use Rattle.std.specs.Prelude.{ℕ, ◌-◌, ◌*◌, ◌^◌, Bool, true, false, not, ◌&&◌, ◌==◌, if◌then◌else◌, List, Option, Some, None, Result, Ok, Err, option_and_then}
 use Rattle.std.specs.Option.{option_map_or}
 use Rattle.y86_base.specs.declared.parts.Variant.{Variant}
 use Rattle.y86_base.specs.declared.number.Number.{Number}

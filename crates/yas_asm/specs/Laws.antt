@@ -1,5 +1,5 @@
 -- What follows from the definition of an assembled source, in the words of its reader.
-use Rattle.std.specs.Prelude.{◌≡◌, ℕ, ◌+◌, ◌-◌, ◌<◌, Bool, true, false, ◌&&◌, ◌||◌, ◌==◌, not, nat_le, nat_lt, List, ◌∷◌, ◌++◌, length, take, drop, fold, replicate, slice_index, Option, Some, None, is_none, unwrap_or, Ok, Err, is_ok, ◌%◌, ◌≤◌, map, slice_range}
+use Rattle.std.specs.Prelude.{◌≡◌, ℕ, ◌+◌, ◌-◌, ◌<◌, Bool, true, false, ◌&&◌, ◌||◌, ◌==◌, not, nat_le, nat_lt, List, ◌∷◌, ◌++◌, length, drop, fold, replicate, slice_index, Option, Some, None, is_none, unwrap_or, Ok, Err, is_ok, ◌%◌, ◌≤◌, map, slice_range}
 use Rattle.std.specs.List.{list_all, list_any}
 use Rattle.y86_base.specs.declared.parts.Variant.{Variant}
 use Rattle.yas_asm.specs.declared.fault.AsmWhy.{AsmWhy}

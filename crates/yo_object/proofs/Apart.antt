@@ -15,7 +15,9 @@ use Rattle.yas_asm.specs.Laws.{emits}
 use Rattle.yas_asm.proofs.SoundLemmas.{within}
 use Rattle.yas_asm.proofs.LawLemmas.{accepted, no_fault}
 use Rattle.yas_asm.proofs.PassLemmas.{free_without_fault}
-use Rattle.yas_asm.proofs.ByteLemmas.{emits-listed, bytes_have_one_line}
+use Rattle.y86_base.specs.Text.{lines}
+use Rattle.yas_asm.proofs.ByteLemmas.{AllSound, all_sound, emits-listed, bytes_have_one_line}
+use Rattle.yas_asm.proofs.SoundGrammar.{IsSoundRead}
 use Rattle.yo_object.proofs.ListingImage.{image_same}
 use Rattle.yo_object.specs.ReadBack.{IsInside, IsAddressed, EmitsAtAddresses, Misses, FitsItsSize, HasItsBytes}
 use Rattle.yo_object.proofs.Images.{zeros_inside, byte_kept}
@@ -84,15 +86,15 @@ inside_at None n size f = tt
 inside_at (Some first) n size f = f first refl
 
 emitted_inside : (variant : Variant) (size : ℕ) (table known : List (List ℕ × ℕ)) (used : List ℕ) (from to address : ℕ) (read : Result Parsed AsmWhy) →
-    line_fault variant size table known used address read ≡ None → IsInside size (listed variant size table from to address read)
+    IsSoundRead variant read → line_fault variant size table known used address read ≡ None → IsInside size (listed variant size table from to address read)
 unfolding line_fault
-emitted_inside variant size table known used from to address (Err why) e = absurd (no_why why e)
-emitted_inside variant size table known used from to address (Ok parsed) e =
+emitted_inside variant size table known used from to address (Err why) sound e = absurd (no_why why e)
+emitted_inside variant size table known used from to address (Ok parsed) sound e =
     let line : Line = listed variant size table from to address (Ok parsed) in
     let tests = free_without_fault variant size table known used address parsed e in
     inside_at line.addr (length line.bytes.items) size (λ first at some.
     let last : ℕ = first + length line.bytes.items - 1 in
-    let two = emits-listed variant size table from to address last parsed (emits_its line first last at (omega arith) (omega arith)) in
+    let two = emits-listed variant size table from to address last parsed sound (emits_its line first last at (omega arith) (omega arith)) in
     let fits = width_fits variant size address parsed.statement tests.inside (omega (arith, two.0, two.1)) in
     omega (arith, two.0, two.1, fits))
 
@@ -101,26 +103,27 @@ emitted_inside variant size table known used from to address (Ok parsed) e =
 -- what holds of each line without a fault holds of all
 from_faultless : (P : Line → Type 0) (variant : Variant) (size : ℕ) (table : List (List ℕ × ℕ)) (seen rest : List Placed) (from : ℕ) →
     ((known : List (List ℕ × ℕ)) (used : List ℕ) (from to address : ℕ) (read : Result Parsed AsmWhy) →
-    line_fault variant size table known used address read ≡ None → P (listed variant size table from to address read)) →
-    first_fault variant size table seen rest ≡ None → All P (listing variant size table from rest)
+    IsSoundRead variant read → line_fault variant size table known used address read ≡ None → P (listed variant size table from to address read)) →
+    AllSound variant rest → first_fault variant size table seen rest ≡ None → All P (listing variant size table from rest)
 unfolding listing first_fault
-from_faultless P variant size table seen [] from each e = All-nil P
-from_faultless P variant size table seen (line ∷ rest) from each e =
+from_faultless P variant size table seen [] from each sound e = All-nil P
+from_faultless P variant size table seen (line ∷ rest) from each sound e =
     let two = no_fault _ _ (first_fault variant size table (seen ++ (line ∷ [])) rest) e in
-    All-cons P _ _ (each _ _ from (from + length line.text) line.address line.read two.0)
-    (from_faultless P variant size table (seen ++ (line ∷ [])) rest (from + length line.text + 1) each two.1)
+    All-cons P _ _ (each _ _ from (from + length line.text) line.address line.read sound.0 two.0)
+    (from_faultless P variant size table (seen ++ (line ∷ [])) rest (from + length line.text + 1) each sound.1 two.1)
 
-from_source : (P : Line → Type 0) (variant : Variant) (source : List ℕ) (size : ℕ) (lines : List Line) → assembled variant source size ≡ Ok lines →
+from_source : (P : Line → Type 0) (variant : Variant) (source : List ℕ) (size : ℕ) (listing : List Line) → assembled variant source size ≡ Ok listing →
     ((table known : List (List ℕ × ℕ)) (used : List ℕ) (from to address : ℕ) (read : Result Parsed AsmWhy) →
-    line_fault variant size table known used address read ≡ None → P (listed variant size table from to address read)) → All P lines
-from_source P variant source size lines e each =
-    let good = accepted variant source size lines e in
+    IsSoundRead variant read → line_fault variant size table known used address read ≡ None → P (listed variant size table from to address read)) → All P listing
+unfolding source_lines
+from_source P variant source size listing' e each =
+    let good = accepted variant source size listing' e in
     let table : List (List ℕ × ℕ) = labels (source_lines variant size source) in
-    subst (All P) good.1 (from_faultless P variant size table [] (source_lines variant size source) 0 (each table) good.0)
+    subst (All P) good.1 (from_faultless P variant size table [] (source_lines variant size source) 0 (each table) (all_sound variant size 0 (lines source)) good.0)
 
 pub emits_at_addresses : EmitsAtAddresses
 emits_at_addresses variant source size lines e =
-    from_source IsAddressed variant source size lines e (λ table known used from to address read none. unaddressed variant size table from to address read)
+    from_source IsAddressed variant source size lines e (λ table known used from to address read sound none. unaddressed variant size table from to address read)
 
 pub fits_its_size : FitsItsSize
 fits_its_size variant source size lines e = from_source (IsInside size) variant source size lines e (emitted_inside variant size)

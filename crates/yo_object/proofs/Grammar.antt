@@ -1,57 +1,19 @@
 -- The definition of an object line reads the grammar's form.
-use Rattle.std.proofs.Common.{◌≡◌, ℕ, suc, ◌+◌, ◌<◌, Bool, true, false, cond, ◌&&◌, nat_lt, eqb, List, [], ◌∷◌, ◌++◌, length, take, refl, sym, ap, ◌∙◌, Option, Some, None, take_while, arith}
-use Rattle.std.specs.List.{list_all, prefix_len}
-use Rattle.std.proofs.Math.Numerals.{one-add}
-use Rattle.std.proofs.Math.Seq.{drop-append_seam, take-append_seam}
+use Rattle.std.proofs.Common.{◌≡◌, ℕ, ◌<◌, Bool, true, false, cond, ◌&&◌, nat_lt, List, [], ◌∷◌, ◌++◌, length, refl, sym, ap, ◌∙◌, Option, Some, None, take_while, arith}
+use Rattle.std.specs.List.{list_all}
 use Rattle.std.proofs.lemmas.Bool.{eqb-true, lt-ltb, ltb-true}
 use Rattle.std.proofs.lemmas.Bool.Decides.{nat_tests}
-use Rattle.std.proofs.lemmas.List.{take-append-drop, append_assoc}
+use Rattle.std.proofs.lemmas.List.{append_assoc}
 use Rattle.std.proofs.lemmas.Option.{option_and_then_some}
-use Rattle.y86_base.specs.Text.{is_blank, is_hex, behind}
+use Rattle.y86_base.specs.Text.{after_byte, begins, behind, is_blank, is_hex}
+use Rattle.y86_base.proofs.Runs.{after_byte_some, behind-run, list_all-append, run_and_rest, run_passes, take_while-run}
 use Rattle.y86_base.proofs.Booleans.{both_true}
-use Rattle.yo_object.specs.ObjectText.{after_byte, after_prefix, is_line_end, Digits, digits_behind_colon, digits_of}
+use Rattle.yo_object.specs.ObjectText.{after_prefix, is_line_end, Digits, digits_behind_colon, digits_of}
 use Rattle.yo_object.specs.Grammar.{IsObjectLine, BeginsObjectLine, digits_in_line, ReadsTheForm, SkipsTheRest}
 
 -- a text doesn't begin with a byte that passes
 abbrev Stops : (ℕ → Bool) → List ℕ → Type 0
-Stops passes [] = Unit {0}
-Stops passes (first ∷ rest) = passes first ≡ false
-
-step_true : (b : Bool) (n : ℕ) → b ≡ true → cond b (1 + n) 0 ≡ suc n
-step_true b n e = rw (e, one-add) refl
-
-prefix_len-run : (passes : ℕ → Bool) (run text : List ℕ) → list_all passes run ≡ true → Stops passes text → prefix_len passes (run ++ text) ≡ length run
-prefix_len-run passes [] [] h stops = refl
-prefix_len-run passes [] (first ∷ rest) h stops = rw stops refl
-prefix_len-run passes (x ∷ run) text h stops =
-    let b = both_true (passes x) (list_all passes run) h in
-    step_true (passes x) _ b.0 ∙ ap suc (prefix_len-run passes run text b.1 stops)
-
-pub behind-run : (passes : ℕ → Bool) (run text : List ℕ) → list_all passes run ≡ true → Stops passes text → behind passes (run ++ text) ≡ text
-behind-run passes run text h stops = rw (prefix_len-run passes run text h stops) (drop-append_seam run text)
-
-take_while-run : (passes : ℕ → Bool) (run text : List ℕ) → list_all passes run ≡ true → Stops passes text → take_while passes (run ++ text) ≡ run
-take_while-run passes run text h stops = rw (prefix_len-run passes run text h stops) (take-append_seam run text)
-
-run_and_rest : (passes : ℕ → Bool) (text : List ℕ) → text ≡ take_while passes text ++ behind passes text
-run_and_rest passes text = sym (take-append-drop (prefix_len passes text) text)
-
-first_passes : (b : Bool) (passes : ℕ → Bool) (x : ℕ) (text : List ℕ) → passes x ≡ b → list_all passes (take_while passes text) ≡ true →
-    list_all passes (take (cond b (1 + prefix_len passes text) 0) (x ∷ text)) ≡ true
-first_passes true passes x text e h = rw (one-add, e) h
-first_passes false passes x text e h = refl
-
-run_passes : (passes : ℕ → Bool) (text : List ℕ) → list_all passes (take_while passes text) ≡ true
-run_passes passes [] = refl
-run_passes passes (x ∷ text) = first_passes (passes x) passes x text refl (run_passes passes text)
-
-after_byte_some : (byte : ℕ) (text rest : List ℕ) → after_byte byte text ≡ Some rest → text ≡ byte ∷ rest
-after_byte_some byte [] rest h = absurd (cc)
-after_byte_some byte (first ∷ text) rest h = at (eqb first byte) refl h
-  where
-    at : (same : Bool) → eqb first byte ≡ same → cond same (Some text) None ≡ Some rest → first ∷ text ≡ byte ∷ rest
-    at true e found = let this : first ≡ byte = eqb-true first byte e in cc
-    at false e found = absurd (cc)
+Stops passes text = begins passes text ≡ false
 
 after_prefix_some : (text rest : List ℕ) → after_prefix text ≡ Some rest → text ≡ 48 ∷ 120 ∷ rest
 after_prefix_some text rest h =
@@ -66,22 +28,17 @@ blank_not_hex byte h = grind (arith, nat_tests)
 
 -- a line's end stops blanks and hex digits
 end_stops_blanks : (comment : List ℕ) → is_line_end comment ≡ true → Stops is_blank comment
-end_stops_blanks [] h = tt
+end_stops_blanks [] h = refl
 end_stops_blanks (first ∷ comment) h = let e : first ≡ 124 = eqb-true first 124 h in rw e refl
 
 end_stops_hex : (comment : List ℕ) → is_line_end comment ≡ true → Stops is_hex comment
-end_stops_hex [] h = tt
+end_stops_hex [] h = refl
 end_stops_hex (first ∷ comment) h = let e : first ≡ 124 = eqb-true first 124 h in rw e refl
 
 -- blanks, and then what hex digits stop at, stop hex digits
 blanks_stop_hex : (trail comment : List ℕ) → list_all is_blank trail ≡ true → Stops is_hex comment → Stops is_hex (trail ++ comment)
 blanks_stop_hex [] comment h stops = stops
 blanks_stop_hex (first ∷ trail) comment h stops = blank_not_hex first (both_true (is_blank first) (list_all is_blank trail) h).0
-
-pub list_all-append : (passes : ℕ → Bool) (xs ys : List ℕ) → list_all passes xs ≡ true → list_all passes ys ≡ true → list_all passes (xs ++ ys) ≡ true
-list_all-append passes [] ys h k = k
-list_all-append passes (x ∷ xs) ys h k =
-    let b = both_true (passes x) (list_all passes xs) h in rw (b.0, list_all-append passes xs ys b.1 k) refl
 
 -- what is read behind the colon
 pub record IsData (text bytes : List ℕ) : Type 0 where

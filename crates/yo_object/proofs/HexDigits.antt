@@ -18,7 +18,7 @@ use Rattle.y86_base.proofs.Digits.{digits_onto-nothing, digits_onto-last, digits
 use Rattle.y86_base.proofs.Numerals.{numeral_value, numeral_width}
 use Rattle.yo_object.specs.ObjectText.{bytes_of_pairs}
 use Rattle.yo_object.specs.Printed.{hex_bytes}
-use Rattle.yo_object.proofs.Grammar.{list_all-append}
+use Rattle.y86_base.proofs.Runs.{list_all-append}
 
 -- digits
 

@@ -7,29 +7,26 @@ use Rattle.std.specs.Int.{to_le_bytes, bytes_low_first, byte_at, w64}
 use Rattle.std.proofs.Math.Numerals.{one-add}
 use Rattle.std.proofs.lemmas.List.Elements.{All-nil, All-cons, All-take, All-append}
 use Rattle.y86_base.specs.declared.parts.Variant.{Variant}
-use Rattle.y86_base.specs.declared.parts.Variant.TheVariants.{Base}
 use Rattle.y86_base.specs.Image.{AreBytes}
 use Rattle.y86_base.specs.Text.{is_line_feed, lines}
 use Rattle.y86_base.proofs.Lines.{lines-first}
 use Rattle.y86_isa.specs.declared.columns.Row.{Row}
 use Rattle.y86_isa.specs.declared.encoding.Instr.{Instr}
-use Rattle.y86_isa.specs.Table.{rows, row}
+use Rattle.y86_isa.specs.Table.{row}
 use Rattle.y86_isa.specs.Encoding.{IsValid, encoded, widest}
 use Rattle.y86_isa.proofs.Rows.{ifun_top-le}
 use Rattle.y86_isa.proofs.Encodings.{field_most}
 use Rattle.yas_asm.specs.declared.fault.AsmWhy.{AsmWhy}
-use Rattle.yas_asm.specs.declared.fault.AsmWhy.TheVariants.{BadByte, NumberTooWide}
 use Rattle.yas_asm.specs.declared.fault.AsmFault.{AsmFault}
 use Rattle.yas_asm.specs.declared.listing.Line.{Line}
 use Rattle.yas_asm.specs.declared.statement.Statement.{Statement}
 use Rattle.yas_asm.specs.declared.statement.Statement.TheVariants as statements
 use Rattle.yas_asm.specs.declared.statement.Parsed.{Parsed}
-use Rattle.yas_asm.specs.Comments.{bad_outside}
-use Rattle.yas_asm.specs.Grammar.{bytes_of, read_line, line, is_wide, checked}
+use Rattle.yas_asm.specs.Grammar.{bytes_of, read_line}
 use Rattle.yas_asm.specs.Sound.{IsSound}
 use Rattle.yas_asm.specs.Assembly.{placed, place, destination, address_after, source_lines, labels, value_of, bytes_at, shown_at, listed, listing, listing_unless, first_fault, assembled, assembled_with}
 use Rattle.yas_asm.proofs.SoundLemmas.{sound_instruction}
-use Rattle.yas_asm.proofs.SoundGrammar.{line_sound}
+use Rattle.yas_asm.proofs.SoundGrammar.{IsSoundRead, read_sound}
 use Rattle.yo_object.specs.Printed.{text_of}
 use Rattle.yo_object.proofs.PrintedLines.{is_plain}
 
@@ -52,32 +49,6 @@ first_plain (byte ∷ text) = by (is_line_feed byte) refl (first_plain text)
     by true e h = refl
     by false e h = rw (one-add, e) h
 
--- the statement of a line that is read
-
-ok_is : (x y : Parsed) (a : Result Parsed AsmWhy) → a ≡ Ok x → a ≡ Ok y → x ≡ y
-ok_is x y a e f = cc
-
-no_fault : (why : AsmWhy) (x : Parsed) → Err why ≡ Ok x → ⊥
-no_fault why x e = cc
-
-kept : (variant : Variant) (read parsed : Parsed) (b : Bool) → IsSound variant read.statement →
-    cond b (Err NumberTooWide) (Ok read) ≡ Ok parsed → IsSound variant parsed.statement
-kept variant read parsed true h e = absurd (no_fault NumberTooWide parsed e)
-kept variant read parsed false h e = subst (λ (p : Parsed). IsSound variant p.statement) (ok_is read parsed (Ok read) refl e) h
-
-from_checked : (variant : Variant) (text : List ℕ) (parsed : Parsed) (read : Option Parsed) → line variant text ≡ read → checked read ≡ Ok parsed →
-    IsSound variant parsed.statement
-from_checked variant text parsed None l e = absurd (no_fault _ parsed e)
-from_checked variant text parsed (Some read) l e = kept variant read parsed (is_wide read.statement) (line_sound variant text read l) e
-
-read_sound : (variant : Variant) (text : List ℕ) (parsed : Parsed) → read_line variant text ≡ Ok parsed → IsSound variant parsed.statement
-unfolding read_line
-read_sound variant text parsed e = by (bad_outside 0 text) e
-  where
-    by : (b : Bool) → cond b (Err BadByte) (checked (line variant text)) ≡ Ok parsed → IsSound variant parsed.statement
-    by true e = absurd (no_fault BadByte parsed e)
-    by false e = from_checked variant text parsed (line variant text) refl e
-
 -- its bytes
 
 abbrev IsByte : ℕ → Type 0
@@ -98,21 +69,18 @@ where_some : (b : Bool) (bytes : List ℕ) → AreBytes bytes → AreBytes (cond
 where_some true bytes h = h
 where_some false bytes h = All-nil IsByte
 
-known_small : (v : Variant) (icode : ℕ) → icode < length (rows v) → icode < 16
-known_small Base icode h = omega arith
-
 written_small : (b : Bool) (top : ℕ) → top ≤ 15 → cond b 0 top ≤ 15
 written_small true top h = omega arith
 written_small false top h = h
 
-encoded_bytes : (v : Variant) (i : Instr) → IsValid v i → AreBytes (encoded i)
+encoded_bytes : (i : Instr) → IsValid widest i → AreBytes (encoded i)
 unfolding encoded
-encoded_bytes v i valid =
+encoded_bytes i valid =
     let r : Row = row widest i.icode in
-    let known : i.icode < 16 = known_small v i.icode valid.known in
-    let small : i.ifun ≤ 15 = omega (arith, valid.fits.ifun, written_small (eqb (row v i.icode).ifun_top 15) (row v i.icode).ifun_top (ifun_top-le v i.icode)) in
-    let a : i.r_a ≤ 15 = field_most (row v i.icode).uses_a i.r_a valid.fits.field_a in
-    let b : i.r_b ≤ 15 = field_most (row v i.icode).uses_b i.r_b valid.fits.field_b in
+    let known : i.icode < 16 = omega (arith, valid.known) in
+    let small : i.ifun ≤ 15 = omega (arith, valid.fits.ifun, written_small (eqb r.ifun_top 15) r.ifun_top (ifun_top-le widest i.icode)) in
+    let a : i.r_a ≤ 15 = field_most r.uses_a i.r_a valid.fits.field_a in
+    let b : i.r_b ≤ 15 = field_most r.uses_b i.r_b valid.fits.field_b in
     let second : AreBytes ((16 * i.r_a + i.r_b) ∷ []) = All-cons IsByte (16 * i.r_a + i.r_b) [] (omega arith) (All-nil IsByte) in
     All-cons IsByte (16 * i.icode + i.ifun) _ (omega arith)
     (All-append IsByte _ _ (where_some r.has_byte ((16 * i.r_a + i.r_b) ∷ []) second) (where_some r.has_const (to_le_bytes w64 i.val_c) (word_bytes i.val_c)))
@@ -121,7 +89,7 @@ statement_bytes : (variant : Variant) (table : List (List ℕ × ℕ)) (statemen
 unfolding bytes_at
 statement_bytes variant table statements.Nothing sound = All-nil IsByte
 statement_bytes variant table (statements.Instruction icode ifun a b constant) sound =
-    encoded_bytes variant _ (sound_instruction variant table (statements.Instruction icode ifun a b constant) icode ifun a b constant (value_of table constant) refl refl sound)
+    encoded_bytes _ (sound_instruction variant table (statements.Instruction icode ifun a b constant) icode ifun a b constant (value_of table constant) refl refl sound)
 statement_bytes variant table (statements.Data width value) sound = All-take IsByte (bytes_of width) (to_le_bytes w64 (value_of table value)) (word_bytes (value_of table value))
 statement_bytes variant table (statements.Position n) sound = All-nil IsByte
 statement_bytes variant table (statements.Align n) sound = All-nil IsByte
@@ -172,7 +140,7 @@ unfolding listed
 one_listed variant size table source text from to address (Err why) e h plain = record { plain = plain; bytes = All-nil IsByte; within = tt }
 one_listed variant size table source text from to address (Ok parsed) e h plain = record {
   plain = plain;
-  bytes = statement_bytes variant table parsed.statement (read_sound variant text parsed e);
+  bytes = statement_bytes variant table parsed.statement (subst (IsSoundRead variant) e (read_sound variant text));
   within = shown_most parsed.label address size (place variant size address parsed.statement) parsed.statement h (place_most variant size address parsed.statement);
 }
 

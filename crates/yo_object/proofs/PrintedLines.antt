@@ -18,7 +18,8 @@ use Rattle.yo_object.proofs.ListingImage.{with_line}
 use Rattle.yo_object.proofs.Bytes.{grouped, put_nothing}
 use Rattle.yo_object.proofs.LoadedLines.{line_put, line_skipped}
 use Rattle.yo_object.proofs.Texts.{text_end, text_more}
-use Rattle.yo_object.proofs.Grammar.{behind-run, begin_read, list_all-append}
+use Rattle.y86_base.proofs.Runs.{behind-run, list_all-append}
+use Rattle.yo_object.proofs.Grammar.{begin_read}
 use Rattle.yo_object.proofs.HexDigits.{numeral_is_hex, hex_bytes_are_pairs}
 
 -- lines without line feeds

@@ -3,15 +3,10 @@ use Rattle.std.specs.Prelude.{ℕ, ◌+◌, ◌*◌, ◌/◌, ◌%◌, Bool, tru
 use Rattle.std.specs.Option.{option_map_or}
 use Rattle.std.specs.Str.Parse.{digits_value}
 use Rattle.y86_base.specs.Image.{with_bytes}
-use Rattle.y86_base.specs.Text.{is_blank, is_hex, hex_value, behind, lines}
+use Rattle.y86_base.specs.Text.{after_byte, behind, hex_value, is_blank, is_hex, lines}
 use Rattle.yo_object.specs.declared.object.YoWhy.{YoWhy}
 use Rattle.yo_object.specs.declared.object.YoWhy.TheVariants.{Syntax, OddDigits, OutsideMemory, AddressTooWide}
 use Rattle.yo_object.specs.declared.object.YoFault.{YoFault}
-
--- what stands behind a byte, where the text begins with it
-abbrev pub after_byte : ℕ → List ℕ → Option (List ℕ)
-after_byte byte [] = None
-after_byte byte (first ∷ rest) = if first == byte then Some rest else None
 
 -- what stands behind `0x`, where the text begins with it
 abbrev pub after_prefix : List ℕ → Option (List ℕ)

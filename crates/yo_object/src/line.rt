@@ -6,21 +6,13 @@ ghost use Rattle.yo_object.specs.Lines.{digits_in};
 ghost use Rattle.yo_object.specs.ObjectText as definition;
 
 use crate::object::YoWhy;
-use y86_base::{Image, after_blanks, hex_value, number_in_base, split_hex};
+use y86_base::{Image, after_blanks, after_byte, hex_value, number_in_base, split_hex};
 
 /// The digits of a line: those of its address, and those of its bytes.
 #[derive(Clone, Copy)]
 struct Record<'a> {
     address: &'a [u8],
     bytes: &'a [u8],
-}
-
-/// What stands behind a byte, where the text begins with it.
-fn after_byte(text: &[u8], byte: u8) -> Option<&[u8]>
-    ensures { option_copied result ≡ definition.after_byte byte text.now }
-{
-    let (first, rest) = text.split_first()?;
-    if *first == byte { Some(rest) } else { None }
 }
 
 /// What stands behind `0x`, where the text begins with it.
