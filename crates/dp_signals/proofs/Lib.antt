@@ -1,1 +1,5 @@
 pub mod Sound
+pub mod Rules
+pub mod RowByRow
+pub mod SeqRules
+pub mod PipeRules

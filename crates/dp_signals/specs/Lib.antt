@@ -13,3 +13,4 @@ pub mod PipeRun
 pub mod SeqEquations
 pub mod SeqCycle
 pub mod SeqRun
+pub mod Layout

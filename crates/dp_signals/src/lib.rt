@@ -13,6 +13,7 @@ mod pipe_values;
 mod seq_cycle;
 mod seq_row;
 mod seq_signals;
+mod seq_values;
 mod solve;
 mod tables;
 
@@ -25,6 +26,8 @@ pub use movers::{Ending, Mover, Movers};
 pub use pipe_cycle::{PIPE_ROWS, PipeValues, advance, end_of_cycle, ending, retires};
 pub use pipe_signals::pipe_table;
 pub use pipe_state::{PipeState, StageD, StageE, StageM, StageW, Trail};
+pub use pipe_values::solve_pipe;
 pub use seq_cycle::{SEQ_ROWS, SeqState, SeqValues, seq_advance, seq_record};
 pub use seq_signals::seq_table;
+pub use seq_values::solve_seq;
 pub use solve::Hardware;
