@@ -39,6 +39,7 @@ down (suc r) m d ts e rest le h = go (last r m le) (λ l. down r m d ts e rest l
   where
     last : (r m : ℕ) → m ≤ suc r → (suc r ≡ m) ⊎ (m ≤ r)
     last r m le = grind arith
+
     go : (suc r ≡ m) ⊎ (m ≤ r) → (m ≤ r → ByRank m d ts e rest) → ByRank m d ts e rest
     go (inl same) f = subst (λ x. ByRank x d ts e rest) same h
     go (inr l) f = f l
@@ -53,9 +54,10 @@ Fine m d e = (d0 : ℕ) → d0 ≤ d → Own d0 e × (nat_lt (said e).rank m ≡
 
 fine_as : (m d r : ℕ) (e : Expr) (put : List Token → List Token) → said e ≡ said_as r put → nat_lt r m ≡ false
     → ((d0 : ℕ) → d0 ≤ d → (rest : List Token) → ByRank r d0 (put rest) e rest) → Fine m d e
-fine_as m d r e put same enough reads d0 le =
-    ((λ rest. subst (λ (s : Said). ByRank s.rank d0 (s.put rest) e rest) (sym same) (reads d0 le rest)),
-     λ under. absurd (no (nat_lt r m) enough (subst (λ (s : Said). nat_lt s.rank m ≡ true) same under)))
+fine_as m d r e put same enough reads d0 le = (
+  (λ rest. subst (λ (s : Said). ByRank s.rank d0 (s.put rest) e rest) (sym same) (reads d0 le rest)),
+  λ under. absurd (no (nat_lt r m) enough (subst (λ (s : Said). nat_lt s.rank m ≡ true) same under)),
+)
   where
     no : (b : Bool) → b ≡ false → b ≡ true → ⊥
     no b e f = cc
@@ -74,8 +76,10 @@ reads m d e most fine rest = go (nat_lt (said e).rank m) refl
   where
     f : Own d e × (nat_lt (said e).rank m ≡ true → Own (suc d) e × (suc d ≤ 64))
     f = fine d (le_refl d)
+
     enough : (r m : ℕ) → nat_lt r m ≡ false → m ≤ r
     enough r m e = grind (arith, nat_tests)
+
     go : (b : Bool) → nat_lt (said e).rank m ≡ b → ByRank m d (cond b (OpenParen ∷ (said e).put (CloseParen ∷ rest)) ((said e).put rest)) e rest
     go true under = down 4 m d (OpenParen ∷ (said e).put (CloseParen ∷ rest)) e rest most (group (inl (f.1 under).1) (down (said e).rank 0 (suc d) ((said e).put (CloseParen ∷ rest)) e (CloseParen ∷ rest) zero-le ((f.1 under).0 (CloseParen ∷ rest))))
     go false more = down (said e).rank m d ((said e).put rest) e rest (enough (said e).rank m more) (f.0 rest)
@@ -114,14 +118,14 @@ unfolding put_joined
 fine_or d e [] f none = fine_less 1 0 d e zero-le f
 fine_or d e (x ∷ es) f more =
     fine_as 0 d 0 (expr.Or (e ∷ x ∷ es)) _ (said_Or (e ∷ x ∷ es)) refl
-      (λ d0 le rest. or_list (reads_at 1 d d0 e (lit≤ tt) le f (put_further OrOr 1 (map said (x ∷ es)) rest)) (or_tail_reads d d0 le (x ∷ es) more rest))
+    (λ d0 le rest. or_list (reads_at 1 d d0 e (lit≤ tt) le f (put_further OrOr 1 (map said (x ∷ es)) rest)) (or_tail_reads d d0 le (x ∷ es) more rest))
 
 fine_and : (d : ℕ) (e : Expr) (es : List Expr) → Fine 2 d e → Each (Fine 2 d) es → Fine 1 d (and_of (e ∷ es))
 unfolding put_joined
 fine_and d e [] f none = fine_less 2 1 d e (lit≤ tt) f
 fine_and d e (x ∷ es) f more =
     fine_as 1 d 1 (expr.And (e ∷ x ∷ es)) _ (said_And (e ∷ x ∷ es)) refl
-      (λ d0 le rest. and_list (reads_at 2 d d0 e (lit≤ tt) le f (put_further AndAnd 2 (map said (x ∷ es)) rest)) (and_tail_reads d d0 le (x ∷ es) more rest))
+    (λ d0 le rest. and_list (reads_at 2 d d0 e (lit≤ tt) le f (put_further AndAnd 2 (map said (x ∷ es)) rest)) (and_tail_reads d d0 le (x ∷ es) more rest))
 
 -- a bracket that stood at a depth may stand at any lesser one
 room_at : (d d0 : ℕ) (t : Token) (ts ts' : List Token) → d0 ≤ d → Room 0 (suc d) (t ∷ ts) → Room 0 (suc d0) (t ∷ ts')
@@ -149,32 +153,32 @@ fine_branch : (d : ℕ) (guard value : Expr) → Fine 0 d guard → Fine 0 d val
 unfolding put_within
 fine_branch d guard value g v d0 le rest =
     subst (λ (put : List Token → List Token). IsCase 0 d0 (put rest) (branch guard value) rest) (sym (said_branch_is guard value))
-      (guarded (down (said guard).rank 0 d0 _ guard (Colon ∷ (said value).put (Semicolon ∷ rest)) zero-le ((g d0 le).0 (Colon ∷ (said value).put (Semicolon ∷ rest))))
-        (down (said value).rank 0 d0 _ value (Semicolon ∷ rest) zero-le ((v d0 le).0 (Semicolon ∷ rest))))
+    (guarded (down (said guard).rank 0 d0 _ guard (Colon ∷ (said value).put (Semicolon ∷ rest)) zero-le ((g d0 le).0 (Colon ∷ (said value).put (Semicolon ∷ rest))))
+    (down (said value).rank 0 d0 _ value (Semicolon ∷ rest) zero-le ((v d0 le).0 (Semicolon ∷ rest))))
 
 fine_not : (d : ℕ) (e : Expr) (ts : List Token) → Room 0 (suc d) (Bang ∷ ts) → Fine 2 (suc d) e → Fine 2 d (expr.Not e)
 fine_not d e ts room f =
     fine_as 2 d 2 (expr.Not e) _ (said_Not e) refl
-      (λ d0 le rest. negated (room_at d d0 Bang ts _ le room) (reads_at 2 (suc d) (suc d0) e (lit≤ tt) (suc-le-suc le) f rest))
+    (λ d0 le rest. negated (room_at d d0 Bang ts _ le room) (reads_at 2 (suc d) (suc d0) e (lit≤ tt) (suc-le-suc le) f rest))
 
 fine_compare : (d : ℕ) (op : CmpOp) (left right : Expr) → Fine 4 d left → Fine 4 d right → Fine 3 d (expr.Cmp op left right)
 fine_compare d op left right l r =
     fine_as 3 d 3 (expr.Cmp op left right) _ (said_Cmp op left right) refl
-      (λ d0 le rest. compared (reads_at 4 d d0 left (le_refl 4) le l (Compare op ∷ put_within 4 (said right) rest)) (reads_at 4 d d0 right (le_refl 4) le r rest))
+    (λ d0 le rest. compared (reads_at 4 d d0 left (le_refl 4) le l (Compare op ∷ put_within 4 (said right) rest)) (reads_at 4 d d0 right (le_refl 4) le r rest))
 
 fine_in : (d : ℕ) (left e : Expr) (es : List Expr) (ts : List Token) → Fine 4 d left → Room 0 (suc d) (OpenBrace ∷ ts) → Fine 0 (suc d) e → Each (Fine 0 (suc d)) es → Fine 3 d (expr.In left (e ∷ es))
 unfolding put_joined
 fine_in d left e es ts l room f more =
     fine_as 3 d 3 (expr.In left (e ∷ es)) _ (said_In left (e ∷ es)) refl
-      (λ d0 le rest. member (reads_at 4 d d0 left (le_refl 4) le l (KeyIn ∷ OpenBrace ∷ put_within 0 (said e) (put_further Comma 0 (map said es) (CloseBrace ∷ rest)))) (room_at d d0 OpenBrace ts _ le room)
-        (reads_at 0 (suc d) (suc d0) e zero-le (suc-le-suc le) f (put_further Comma 0 (map said es) (CloseBrace ∷ rest))) (set_tail_reads (suc d) (suc d0) (suc-le-suc le) es more (CloseBrace ∷ rest)))
+    (λ d0 le rest. member (reads_at 4 d d0 left (le_refl 4) le l (KeyIn ∷ OpenBrace ∷ put_within 0 (said e) (put_further Comma 0 (map said es) (CloseBrace ∷ rest)))) (room_at d d0 OpenBrace ts _ le room)
+    (reads_at 0 (suc d) (suc d0) e zero-le (suc-le-suc le) f (put_further Comma 0 (map said es) (CloseBrace ∷ rest))) (set_tail_reads (suc d) (suc d0) (suc-le-suc le) es more (CloseBrace ∷ rest)))
 
 fine_case : (d : ℕ) (b : Branch) (bs : List Branch) (ts : List Token) → Room 0 (suc d) (OpenBracket ∷ ts) → FineBranch (suc d) b → EachBranch (suc d) bs → Fine 4 d (expr.Case (b ∷ bs))
 unfolding put_branches
 fine_case d b bs ts room f more =
     fine_as 4 d 4 (expr.Case (b ∷ bs)) _ (said_Case (b ∷ bs)) refl
-      (λ d0 le rest. case_list (room_at d d0 OpenBracket ts _ le room) (f (suc d0) (suc-le-suc le) (put_branches (map said_branch bs) (CloseBracket ∷ rest)))
-        (case_tail_reads (suc d) (suc d0) (suc-le-suc le) bs more (CloseBracket ∷ rest)))
+    (λ d0 le rest. case_list (room_at d d0 OpenBracket ts _ le room) (f (suc d0) (suc-le-suc le) (put_branches (map said_branch bs) (CloseBracket ∷ rest)))
+    (case_tail_reads (suc d) (suc d0) (suc-le-suc le) bs more (CloseBracket ∷ rest)))
 
 -- parentheses of the source are left out or stand again
 fine_group : (d : ℕ) (e : Expr) (ts : List Token) → Room 0 (suc d) (OpenParen ∷ ts) → Fine 0 (suc d) e → Fine 4 d e

@@ -11,3 +11,4 @@ mod NameSets
 pub mod Said
 pub mod Again
 pub mod SameNames
+pub mod Unroll

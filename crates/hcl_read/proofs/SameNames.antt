@@ -64,6 +64,7 @@ none_further separator m ts rest' s = s
 
 mutual
   unfolding put_joined put_branches
+
   expr_keeps : {d : ℕ} {ts rest : List Token} {e : Expr} → IsExpr 0 d ts e rest → Keeps (said e).put ts rest
   expr_keeps (or_list {ts = ts} {mid = mid} {rest = rest} {e = e} {es = es} h t) = or_keeps e es ts mid rest (and_kept h) (or_tail_keeps t)
 
@@ -87,12 +88,12 @@ mutual
   rel_keeps (alone h) = prim_keeps h
   rel_keeps (compared {ts = ts} {mid = mid} {rest = rest} {op = op} {left = left} {right = right} h r) =
       keeps_as (expr.Cmp op left right) 3 _ ts rest (said_Cmp op left right)
-        (λ rest' s. within_keeps 4 left ts (Compare op ∷ mid) (prim_keeps h) _ (same_token (Compare op) mid _ (within_keeps 4 right mid rest (prim_keeps r) rest' s)))
+      (λ rest' s. within_keeps 4 left ts (Compare op ∷ mid) (prim_keeps h) _ (same_token (Compare op) mid _ (within_keeps 4 right mid rest (prim_keeps r) rest' s)))
   rel_keeps (member {ts = ts} {inside = inside} {mid = mid} {rest = rest} {left = left} {e = e} {es = es} h room i t) =
       keeps_as (expr.In left (e ∷ es)) 3 _ ts rest (said_In left (e ∷ es))
-        (λ rest' s. within_keeps 4 left ts (KeyIn ∷ OpenBrace ∷ inside) (prim_keeps h) _
-          (same_token KeyIn (OpenBrace ∷ inside) _ (same_token OpenBrace inside _
-            (within_keeps 0 e inside mid (expr_keeps i) _ (set_tail_keeps t (CloseBrace ∷ rest') (same_token CloseBrace rest rest' s))))))
+      (λ rest' s. within_keeps 4 left ts (KeyIn ∷ OpenBrace ∷ inside) (prim_keeps h) _
+      (same_token KeyIn (OpenBrace ∷ inside) _ (same_token OpenBrace inside _
+      (within_keeps 0 e inside mid (expr_keeps i) _ (set_tail_keeps t (CloseBrace ∷ rest') (same_token CloseBrace rest rest' s))))))
 
   set_tail_keeps : {d : ℕ} {ts rest : List Token} {es : List Expr} → SetTail 0 d ts es rest → Keeps (put_further Comma 0 (map said es)) ts rest
   set_tail_keeps (no_member {ts = ts}) = none_further Comma 0 ts
@@ -105,12 +106,12 @@ mutual
   prim_keeps (group {ts = ts} {rest = rest} {e = e} room h) = group_keeps e ts rest (expr_keeps h)
   prim_keeps (case_list {ts = ts} {mid = mid} {rest = rest} {b = b} {bs = bs} room h t) =
       keeps_as (expr.Case (b ∷ bs)) 4 _ (OpenBracket ∷ ts) rest (said_Case (b ∷ bs))
-        (λ rest' s. same_token OpenBracket ts _ (case_keeps h _ (case_tail_keeps t (CloseBracket ∷ rest') (same_token CloseBracket rest rest' s))))
+      (λ rest' s. same_token OpenBracket ts _ (case_keeps h _ (case_tail_keeps t (CloseBracket ∷ rest') (same_token CloseBracket rest rest' s))))
 
   case_keeps : {d : ℕ} {ts rest : List Token} {b : Branch} → IsCase 0 d ts b rest → Keeps (said_branch b) ts rest
   case_keeps (guarded {ts = ts} {mid = mid} {rest = rest} {guard = guard} {value = value} g v) =
       subst (λ (put : List Token → List Token). Keeps put ts rest) (sym (said_branch_is guard value))
-        (λ rest' s. expr_keeps g _ (same_token Colon mid _ (expr_keeps v _ (same_token Semicolon rest rest' s))))
+      (λ rest' s. expr_keeps g _ (same_token Colon mid _ (expr_keeps v _ (same_token Semicolon rest rest' s))))
 
   case_tail_keeps : {d : ℕ} {ts rest : List Token} {bs : List Branch} → CaseTail 0 d ts bs rest → Keeps (put_branches (map said_branch bs)) ts rest
   case_tail_keeps (no_case {ts = ts}) = λ rest' s. s
