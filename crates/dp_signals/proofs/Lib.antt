@@ -3,3 +3,4 @@ pub mod Rules
 pub mod RowByRow
 pub mod SeqRules
 pub mod PipeRules
+pub mod SeqCycles
