@@ -1,9 +1,10 @@
 pub mod Arguments
-pub mod Forms
-pub mod Runs
+pub mod Came
+pub mod Does
 pub mod Legal
-pub mod Outcomes
-pub mod Contents
 pub mod Order
-pub mod Written
-pub mod Refusals
+pub mod Plans
+pub mod Ran
+pub mod Runs
+pub mod Stages
+pub mod Wording

@@ -1,6 +1,12 @@
-pub mod Words
-pub mod Read
-pub mod Answer
+pub mod Answers
+pub mod Arguments
+pub mod Came
+pub mod Does
+pub mod Forms
+pub mod Lines
+pub mod Numbers
+pub mod Plan
+pub mod Ran
 pub mod Stops
-pub mod Reads
-pub mod Outcomes
+pub mod Views
+pub mod Wording

@@ -1,25 +1,53 @@
 //! Theorems about the words of a call and its answer. Each is a function that does nothing and whose contract is the theorem.
-ghost use Rattle.std.specs.Prelude.{◌≡◌, ◌↔◌, ◌≤◌, ◌∷◌, ◌++◌, List, [], ℕ, Option, Some, None, codes};
+ghost use Rattle.std.specs.Prelude.{◌≡◌, ◌≢◌, ◌↔◌, ◌≤◌, ◌∷◌, ◌++◌, List, [], ℕ, Option, Some, None, codes};
+ghost use Rattle.wb_io.specs.Sinks.{Took, TookPart};
 ghost use Rattle.y86_base.specs.declared.parts.Variant.TheVariants.{Base};
-ghost use Rattle.y86_cli.specs.Answer.{answer};
-ghost use Rattle.y86_cli.specs.Words.{Command, IsFileName, IsLegal, IsWhole, form_of, words_of, yas, yis};
+ghost use Rattle.y86_cli.specs.Answers.{plan_in, plan_of};
+ghost use Rattle.y86_cli.specs.Does.{FilesSeen, SinkSeen};
+ghost use Rattle.y86_cli.specs.Forms.{Command, form_of, yas, yis};
+ghost use Rattle.y86_cli.specs.Plan.{Answered, Allows, IsDetermined, Tells, the_answer};
+ghost use Rattle.y86_cli.specs.Ran.{Ran, Told};
+ghost use Rattle.y86_cli.specs.Wording.{AreArguments, AreOptions, HasForm, IsFileName, IsLegal, words_of};
 
-/// Which words are a command. Words are only legal commands, and each legal command has words. Whole arguments, which are
-/// file names and options with their numbers, may stand in any order. Without options their defaults hold.
+/// Which words are a command. Words are only legal commands, each legal command has words, and words that are a command have
+/// the name, the places and the options of its row, each option at most once. Options may stand anywhere behind the name.
+/// Without options their defaults hold.
 pub fn law_of_words()
     ensures legal { (words : List (List ℕ)) (command : Command) → form_of words ≡ Some command → IsLegal command }
     ensures written { (command : Command) → IsLegal command → form_of (words_of command) ≡ Some command }
-    ensures order { (name : List ℕ) (front other back : List (List ℕ)) → IsWhole front → IsWhole other →
-        form_of (name ∷ (front ++ (other ++ back))) ≡ form_of (name ∷ (other ++ (front ++ back))) }
+    ensures of_a_row { (name : List ℕ) (rest : List (List ℕ)) (command : Command) → form_of (name ∷ rest) ≡ Some command → HasForm name rest command }
+    ensures order { (name : List ℕ) (options other back : List (List ℕ)) → AreOptions options → AreArguments other →
+        form_of (name ∷ (options ++ (other ++ back))) ≡ form_of (name ∷ (other ++ (options ++ back))) }
     ensures defaults { (file : List ℕ) → IsFileName file →
         (form_of (codes "yas" ∷ file ∷ []) ≡ Some (yas file 8192 Base))
         × (form_of (codes "yis" ∷ file ∷ []) ≡ Some (yis file 8192 10000 Base)) }
 {}
 
-/// What an answer has. With 0 and 1 nothing is to be told on standard error; with every other status nothing goes to
-/// standard output. 2 comes exactly where the words are no command.
+/// What an answer has, whatever the contents of the files. With 0 and 1 nothing is to be told on standard error; with every
+/// other status nothing goes to standard output. 2 comes exactly where the words are no command, and no status is over 7.
 pub fn law_of_answers()
-    ensures done { (words : List (List ℕ)) (contents : List (Option (List ℕ))) → (answer words contents).status ≤ 1 → (answer words contents).err ≡ [] }
-    ensures refused { (words : List (List ℕ)) (contents : List (Option (List ℕ))) → 2 ≤ (answer words contents).status → (answer words contents).out ≡ [] }
-    ensures usage { (words : List (List ℕ)) (contents : List (Option (List ℕ))) → ((answer words contents).status ≡ 2) ↔ (form_of words ≡ None) }
+    ensures done { (form : Option Command) (contents : List (Option (List ℕ))) (a : Answered) → Allows (plan_in form) contents a → a.status ≤ 1 → a.err ≡ [] }
+    ensures refused { (form : Option Command) (contents : List (Option (List ℕ))) (a : Answered) → Allows (plan_in form) contents a → 2 ≤ a.status → a.out ≡ [] }
+    ensures usage { (form : Option Command) (contents : List (Option (List ℕ))) (a : Answered) → Allows (plan_in form) contents a → (a.status ≡ 2) ↔ (form ≡ None) }
+    ensures at_most_seven { (form : Option Command) (contents : List (Option (List ℕ))) (a : Answered) → Allows (plan_in form) contents a → a.status ≤ 7 }
+{}
+
+/// The answer is a function of the contents of the files: each command's plan allows just one, and where the files tell their
+/// contents, a call gives that one, or 3, 4 or 6; with 4 a proper prefix of its text goes out.
+pub fn law_of_plans()
+    ensures one { (form : Option Command) → IsDetermined (plan_in form) }
+    ensures only { (form : Option Command) (one : IsDetermined (plan_in form)) (contents : List (Option (List ℕ))) (a : Answered) →
+        Allows (plan_in form) contents a ↔ (a ≡ the_answer (plan_in form) one contents) }
+    ensures told { (form : Option Command) (one : IsDetermined (plan_in form)) (files_before files_after : FilesSeen)
+        (out_before out_after err_before err_after : SinkSeen) (status : ℕ) →
+        Ran form files_before files_after out_before out_after err_before err_after status →
+        (contents : List (Option (List ℕ))) → Tells files_before.told (plan_in form) contents → status ≢ 3 → status ≢ 4 → status ≢ 6 →
+        (status ≡ (the_answer (plan_in form) one contents).status)
+        × Took out_before.taken out_after.taken (the_answer (plan_in form) one contents).out
+        × Told err_before err_after (the_answer (plan_in form) one contents).err }
+    ensures part { (form : Option Command) (one : IsDetermined (plan_in form)) (files_before files_after : FilesSeen)
+        (out_before out_after err_before err_after : SinkSeen) (status : ℕ) →
+        Ran form files_before files_after out_before out_after err_before err_after status →
+        (contents : List (Option (List ℕ))) → Tells files_before.told (plan_in form) contents → status ≡ 4 →
+        TookPart out_before.taken out_after.taken (the_answer (plan_in form) one contents).out }
 {}

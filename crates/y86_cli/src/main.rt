@@ -1,11 +1,16 @@
 //! The program: the words of its command line, the files that they name, standard output and standard error.
 #![tactic(auto)]
 
+mod argument;
 mod call;
 mod cmd;
 mod files;
+mod form;
 mod laws;
+mod number;
+mod option;
 mod run;
+mod say;
 mod stop;
 #[cfg(test)]
 mod tests;

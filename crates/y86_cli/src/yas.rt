@@ -1,19 +1,37 @@
-ghost use Rattle.std.specs.Prelude.{◌≡◌, ◌≤◌, List, ℕ, Option, Some, IfErr};
-ghost use Rattle.wb_io.specs.Causes.{Rose};
-ghost use Rattle.y86_cli.specs.Answer.{listing_answer, yas_answer};
-ghost use Rattle.y86_cli.specs.Reads.{GivesText, OnRead, OnUsage, OnWrite};
+ghost use Rattle.std.specs.Prelude.{◌≡◌, List, ℕ};
 ghost use Rattle.yas_asm.specs.Assembly.{assembled};
+ghost use Rattle.y86_cli.specs.Answers.{text_of_listing, yas_plan};
+ghost use Rattle.y86_cli.specs.Does.{Does, Gives, files_seen, sink_seen};
+ghost use Rattle.y86_cli.specs.Lines.{assembly_reason};
 
-use crate::files::read_file;
-use crate::stop::Stop;
+use crate::files::{FILE_LIMIT, read_file};
+use crate::say::say;
+use crate::stop::{Refusal, Stop};
 use std::alloc::Global;
-use wb_io::Files;
+use wb_io::{Files, Sink};
 use y86_base::Variant;
 use yas_asm::{AsmWhy, assemble};
 use yo_object::print;
 
+/// The name of an assembler's reason.
+fn reason(why: AsmWhy) -> &'static [u8]
+    ensures { result.now ≡ assembly_reason why }
+{
+    match why {
+        AsmWhy::Syntax => b"Syntax",
+        AsmWhy::BadByte => b"BadByte",
+        AsmWhy::NumberTooWide => b"NumberTooWide",
+        AsmWhy::LabelTwice => b"LabelTwice",
+        AsmWhy::LabelUnknown => b"LabelUnknown",
+        AsmWhy::OutsideMemory => b"OutsideMemory",
+        AsmWhy::Overlap => b"Overlap",
+        AsmWhy::LabelLimit => b"LabelLimit",
+        AsmWhy::Memory => b"Memory",
+    }
+}
+
 /// The object text of a source under a name.
-#[tactic(auto, using(crate::proofs::Contents::source_refused, crate::proofs::Contents::source_listed))]
+#[tactic(auto, using(crate::proofs::Stages::source_refused, crate::proofs::Stages::source_listed))]
 fn object_text<'a>(
     alloc: Global,
     variant: Variant,
@@ -21,17 +39,20 @@ fn object_text<'a>(
     source: &[u8],
     size: u64,
 ) -> Result<Vec<u8>, Stop<'a>>
-    ensures text { GivesText (listing_answer name.now source.now (assembled variant source.now size)) result }
-    ensures no_read { IfErr result (λ stop. OnRead stop (λ n. ⊥)) }
-    ensures no_write { IfErr result (λ stop. OnWrite stop ⊥) }
-    ensures not_usage { IfErr result (λ stop. OnUsage stop ⊥) }
+    ensures { Gives (λ text. text.items) (text_of_listing name.now source.now (assembled variant source.now size)) result }
 {
     let listing = match assemble(alloc, variant, source, size) {
         Ok(listing) => listing,
         Err(fault) => {
             return match fault.why {
                 AsmWhy::Memory => Err(Stop::Memory),
-                _ => Err(Stop::Assembly(name, fault)),
+                why => Err(Stop::Refused(
+                    name,
+                    Refusal::AtLine {
+                        line: fault.line,
+                        why: reason(why),
+                    },
+                )),
             };
         }
     };
@@ -41,25 +62,27 @@ fn object_text<'a>(
     }
 }
 
-/// Reads an assembly file and gives its object text.
-#[tactic(auto, using(crate::proofs::Contents::text_read, crate::proofs::Contents::text_refused))]
-pub fn read_text<'a, F: Files>(
+/// `yas`: prints the object text of an assembly file.
+#[tactic(auto, unfolding(crate::specs::Answers::yas_plan, crate::specs::Plan::after, crate::specs::Does::Does), using(crate::proofs::Does::gives, crate::proofs::Does::read_goes_on, crate::proofs::Does::read_stops, crate::proofs::Does::stage_goes_on, crate::proofs::Does::stage_refuses))]
+pub fn yas<'a, F: Files, O: Sink>(
     alloc: Global,
+    asm: &'a str,
+    mem: u64,
     variant: Variant,
-    name: &'a str,
-    size: u64,
     files: &mut F,
-) -> Result<Vec<u8>, Stop<'a>>
-    ensures counts { (n : List ℕ) → F.faults files.old n ≤ F.faults files.new n }
-    ensures text { (content : Option (List ℕ)) → F.told files.old name.now ≡ Some content →
-        GivesText (yas_answer variant name.now size content) result }
-    ensures read_failed { IfErr result (λ stop. OnRead stop
-        (λ n. (n ≡ name.now) × Rose (F.faults files.old n) (F.faults files.new n))) }
-    ensures no_write { IfErr result (λ stop. OnWrite stop ⊥) }
-    ensures not_usage { IfErr result (λ stop. OnUsage stop ⊥) }
+    out: &mut O,
+) -> Result<u8, Stop<'a>>
+    ensures { Does (yas_plan asm.now mem variant)
+        (files_seen (F.told files.old) (F.faults files.old)) (files_seen (F.told files.new) (F.faults files.new))
+        (sink_seen (O.taken out.old) (O.faults out.old)) (sink_seen (O.taken out.new) (O.faults out.new)) result }
 {
-    match read_file(alloc, name, files) {
-        Ok(bytes) => object_text(alloc, variant, name, bytes.as_slice(), size),
-        Err(stop) => Err(stop),
-    }
+    let bytes = match read_file(alloc, asm, FILE_LIMIT, files) {
+        Ok(bytes) => bytes,
+        Err(stop) => return Err(stop),
+    };
+    let text = match object_text(alloc, variant, asm, bytes.as_slice(), mem) {
+        Ok(text) => text,
+        Err(stop) => return Err(stop),
+    };
+    say(0, text.as_slice(), out)
 }

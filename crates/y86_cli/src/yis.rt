@@ -1,12 +1,12 @@
-ghost use Rattle.std.specs.Prelude.{◌≡◌, ◌≤◌, List, ℕ, Option, Some, IfErr, IfOk};
-ghost use Rattle.wb_io.specs.Causes.{Rose};
+ghost use Rattle.std.specs.Prelude.{◌≡◌, ◌≤◌, List, ℕ};
 ghost use Rattle.y86_base.specs.Image.{IsSize};
-ghost use Rattle.y86_cli.specs.Answer.{image_of_text, object_image, run_status, yis_run};
-ghost use Rattle.y86_cli.specs.Reads.{GivesImage, IsFree, OnRead, OnUsage, OnWrite, WritesOut};
 ghost use Rattle.yo_object.specs.ObjectText.{object_of};
+ghost use Rattle.y86_cli.specs.Answers.{image_of_text, run_status, yis_plan, yis_run};
+ghost use Rattle.y86_cli.specs.Does.{Does, Gives, Says, files_seen, sink_seen};
+ghost use Rattle.y86_cli.specs.Lines.{object_reason};
 
-use crate::files::read_file;
-use crate::stop::Stop;
+use crate::files::{FILE_LIMIT, read_file};
+use crate::stop::{Refusal, Stop};
 use std::alloc::Global;
 use wb_io::{Files, Sink};
 use y86_base::{Image, Stat, Variant};
@@ -14,43 +14,37 @@ use y86_isa::Machine;
 use yis_run::{End, report, run};
 use yo_object::{YoWhy, load};
 
+/// The name of an object text's reason.
+fn reason(why: YoWhy) -> &'static [u8]
+    ensures { result.now ≡ object_reason why }
+{
+    match why {
+        YoWhy::Syntax => b"Syntax",
+        YoWhy::OddDigits => b"OddDigits",
+        YoWhy::OutsideMemory => b"OutsideMemory",
+        YoWhy::AddressTooWide => b"AddressTooWide",
+        YoWhy::Memory => b"Memory",
+    }
+}
+
 /// The image of an object text under a name.
+#[tactic(auto)]
 fn load_image<'a>(alloc: Global, name: &'a str, bytes: &[u8], size: u64) -> Result<Image, Stop<'a>>
     requires { IsSize size }
-    ensures image { GivesImage (image_of_text name.now (object_of bytes.now size)) result }
-    ensures no_read { IfErr result (λ stop. OnRead stop (λ n. ⊥)) }
-    ensures no_write { IfErr result (λ stop. OnWrite stop ⊥) }
-    ensures not_usage { IfErr result (λ stop. OnUsage stop ⊥) }
+    ensures { Gives (λ image. image) (image_of_text name.now (object_of bytes.now size)) result }
 {
     match load(alloc, bytes, size) {
         Ok(image) => Ok(image),
         Err(fault) => match fault.why {
             YoWhy::Memory => Err(Stop::Memory),
-            _ => Err(Stop::Object(name, fault)),
+            why => Err(Stop::Refused(
+                name,
+                Refusal::AtLine {
+                    line: fault.line,
+                    why: reason(why),
+                },
+            )),
         },
-    }
-}
-
-/// Reads an object file and loads its image.
-#[tactic(auto, using(crate::proofs::Contents::image_read, crate::proofs::Contents::image_refused))]
-pub fn read_image<'a, F: Files>(
-    alloc: Global,
-    name: &'a str,
-    size: u64,
-    files: &mut F,
-) -> Result<Image, Stop<'a>>
-    requires { IsSize size }
-    ensures counts { (n : List ℕ) → F.faults files.old n ≤ F.faults files.new n }
-    ensures image { (content : Option (List ℕ)) → F.told files.old name.now ≡ Some content →
-        GivesImage (object_image name.now size content) result }
-    ensures read_failed { IfErr result (λ stop. OnRead stop
-        (λ n. (n ≡ name.now) × Rose (F.faults files.old n) (F.faults files.new n))) }
-    ensures no_write { IfErr result (λ stop. OnWrite stop ⊥) }
-    ensures not_usage { IfErr result (λ stop. OnUsage stop ⊥) }
-{
-    match read_file(alloc, name, files) {
-        Ok(bytes) => load_image(alloc, name, bytes.as_slice(), size),
-        Err(stop) => Err(stop),
     }
 }
 
@@ -66,21 +60,16 @@ fn status(stat: Stat) -> u8
 }
 
 /// Runs an image and writes the report. All memory is taken before the first step.
-#[tactic(auto, unfolding(crate::specs::Answer::yis_run))]
-pub fn run_image<'a, O: Sink>(
+#[tactic(auto, unfolding(crate::specs::Answers::yis_run))]
+fn run_image<'a, O: Sink>(
     alloc: Global,
     variant: Variant,
     image: Image,
     limit: u64,
     out: &mut O,
 ) -> Result<u8, Stop<'a>>
-    ensures counts { O.faults out.old ≤ O.faults out.new }
-    ensures status { IfOk result (λ status. status ≡ (yis_run variant image limit).status) }
-    ensures low { IfOk result (λ status. status ≤ 1) }
-    ensures out { WritesOut (O.taken out.old) (O.taken out.new) result (yis_run variant image limit).out }
-    ensures no_read { IfErr result (λ stop. OnRead stop (λ n. ⊥)) }
-    ensures write_failed { IfErr result (λ stop. OnWrite stop (Rose (O.faults out.old) (O.faults out.new))) }
-    ensures only_free { IfErr result IsFree }
+    ensures { Says (λ a. a ≡ yis_run variant image limit)
+        (sink_seen (O.taken out.old) (O.faults out.old)) (sink_seen (O.taken out.new) (O.faults out.new)) result }
 {
     let Ok(first) = image.copy(alloc) else {
         return Err(Stop::Memory);
@@ -92,4 +81,31 @@ pub fn run_image<'a, O: Sink>(
         Ok(()) => Ok(status(machine.stat)),
         Err(_) => Err(Stop::Write),
     }
+}
+
+/// `yis`: runs an object file at the level of instructions.
+#[tactic(auto, unfolding(crate::specs::Answers::yis_plan, crate::specs::Plan::after, crate::specs::Does::Does), using(crate::proofs::Does::gives, crate::proofs::Does::read_goes_on, crate::proofs::Does::read_stops, crate::proofs::Does::stage_goes_on, crate::proofs::Does::stage_refuses))]
+pub fn yis<'a, F: Files, O: Sink>(
+    alloc: Global,
+    obj: &'a str,
+    mem: u64,
+    limit: u64,
+    variant: Variant,
+    files: &mut F,
+    out: &mut O,
+) -> Result<u8, Stop<'a>>
+    requires { IsSize mem }
+    ensures { Does (yis_plan obj.now mem limit variant)
+        (files_seen (F.told files.old) (F.faults files.old)) (files_seen (F.told files.new) (F.faults files.new))
+        (sink_seen (O.taken out.old) (O.faults out.old)) (sink_seen (O.taken out.new) (O.faults out.new)) result }
+{
+    let bytes = match read_file(alloc, obj, FILE_LIMIT, files) {
+        Ok(bytes) => bytes,
+        Err(stop) => return Err(stop),
+    };
+    let image = match load_image(alloc, obj, bytes.as_slice(), mem) {
+        Ok(image) => image,
+        Err(stop) => return Err(stop),
+    };
+    run_image(alloc, variant, image, limit, out)
 }

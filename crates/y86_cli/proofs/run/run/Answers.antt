@@ -1,7 +1,10 @@
-use Rattle.std.proofs.Common.{inl, ◌∙◌}
-use Rattle.y86_cli.proofs.Outcomes.{stop_is_memory}
+use Rattle.std.proofs.Common.{refl}
+use Rattle.y86_cli.proofs.Ran.{ran_done, ran_stopped}
 use Rattle.y86_cli.proofs.run.run.Goals as goal
 
-pub returns-in-Err-clause-complete : goal.returns-in-Err-clause-complete
-returns-in-Err-clause-complete g c = λ contents command tells form faultless none write.
-    inl (c.tell.ensures.status ∙ stop_is_memory _ _ _ _ _ _ _ _ _ contents command c.in-Err.ensures tells form faultless none write)
+pub returns-in-Ok-clause-ran : goal.returns-in-Ok-clause-ran
+returns-in-Ok-clause-ran g c = ran_done _ _ _ _ _ _ _ c.in-Ok.ensures
+
+pub returns-in-Err-clause-ran : goal.returns-in-Err-clause-ran
+returns-in-Err-clause-ran g c =
+    ran_stopped _ _ _ _ _ _ _ _ _ c.in-Err.ensures c.tell.ensures.status c.tell.ensures.line (λ four. rw (c.tell.ensures.nothing_for_a_write four) refl)

@@ -1,0 +1,61 @@
+-- What each command answers, as a plan.
+use Rattle.std.specs.Prelude.{ℕ, List, length, Option, Some, None, Result, Ok, Err}
+use Rattle.y86_base.specs.declared.parts.Stat.{Stat}
+use Rattle.y86_base.specs.declared.parts.Stat.TheVariants.{Hlt}
+use Rattle.y86_base.specs.declared.parts.Variant.{Variant}
+use Rattle.y86_isa.specs.Run.{run, records}
+use Rattle.yas_asm.specs.Assembly.{assembled}
+use Rattle.yas_asm.specs.declared.fault.AsmFault.{AsmFault}
+use Rattle.yas_asm.specs.declared.listing.Line.{Line}
+use Rattle.yis_run.specs.Report.{report}
+use Rattle.yo_object.specs.ObjectText.{object_of}
+use Rattle.yo_object.specs.Printed.{printed}
+use Rattle.yo_object.specs.declared.object.YoFault.{YoFault}
+use Rattle.y86_cli.specs.Forms.{Command, yas, yis}
+use Rattle.y86_cli.specs.Lines.{assembly_fault_line, object_fault_line, usage_line}
+use Rattle.y86_cli.specs.Plan.{Answered, Plan, after, answers, done, reads, refused}
+
+-- the most bytes that an object file or an assembly file has
+abbrev pub file_limit : ℕ
+file_limit = 1048576
+
+-- ---- the stages
+
+-- the object text of a source, or the refusal of a source with a fault
+abbrev pub text_of_listing : List ℕ → List ℕ → Result (List Line) AsmFault → Result (List ℕ) Answered
+text_of_listing name source (Ok lines) = Ok (printed (record { lines = lines; source = source }))
+text_of_listing name source (Err fault) = Err (refused 5 (assembly_fault_line name fault))
+
+-- the image of an object text, or the refusal of a text with a fault
+abbrev pub image_of_text : List ℕ → Result (List ℕ) YoFault → Result (List ℕ) Answered
+image_of_text name (Ok image) = Ok image
+image_of_text name (Err fault) = Err (refused 5 (object_fault_line name fault))
+
+-- 0 where a run ended at a halt, else 1
+abbrev pub run_status : Stat → ℕ
+run_status Hlt = 0
+run_status _ = 1
+
+-- the answer to the run of an image at the level of instructions
+unfoldable pub yis_run : Variant → List ℕ → ℕ → Answered
+yis_run v image limit =
+    done (run_status (run v image limit).stat) (report image (run v image limit) (length (records v image limit)))
+
+-- ---- the commands
+
+unfoldable pub yas_plan : List ℕ → ℕ → Variant → Plan
+yas_plan source size v =
+    reads source file_limit (λ bytes. after (text_of_listing source bytes (assembled v bytes size)) (λ text. answers (done 0 text)))
+
+unfoldable pub yis_plan : List ℕ → ℕ → ℕ → Variant → Plan
+yis_plan object size limit v =
+    reads object file_limit (λ bytes. after (image_of_text object (object_of bytes size)) (λ image. answers (yis_run v image limit)))
+
+abbrev pub plan_of : Command → Plan
+plan_of (yas source size v) = yas_plan source size v
+plan_of (yis object size limit v) = yis_plan object size limit v
+
+-- the plan of words that are a command or none
+abbrev pub plan_in : Option Command → Plan
+plan_in None = answers (refused 2 usage_line)
+plan_in (Some command) = plan_of command

@@ -1,0 +1,81 @@
+-- What a call did to the outside, against a plan.
+use Rattle.std.specs.Prelude.{◌≡◌, ◌⊎◌, ℕ, ◌≤◌, List, [], length, Option, Some, IfSome, Result, Ok, Err}
+use Rattle.wb_io.specs.Causes.{Rose, counted}
+use Rattle.wb_io.specs.Files.{HasBytes, HasMore}
+use Rattle.wb_io.specs.Sinks.{Took, TookPart}
+use Rattle.y86_cli.specs.declared.stop.Stop as code
+use Rattle.y86_cli.specs.declared.stop.Stop.TheVariants.{Write, Refused, Memory, Read, TooLong}
+use Rattle.y86_cli.specs.Plan.{Answered, Plan, says, reads}
+use Rattle.y86_cli.specs.Stops.{answer_at, status_of}
+
+-- the files: what they tell, and for each name a count of the reads that failed
+pub record FilesSeen : Type 0 where
+  pub told : List ℕ → Option (Option (List ℕ))
+  pub faults : List ℕ → ℕ
+
+-- standard output or standard error: what it has taken, and a count of the writes that failed
+pub record SinkSeen : Type 0 where
+  pub taken : Option (List ℕ)
+  pub faults : ℕ
+
+abbrev pub files_seen : (List ℕ → Option (Option (List ℕ))) → (List ℕ → ℕ) → FilesSeen
+files_seen told faults = record { told = told; faults = faults }
+
+abbrev pub sink_seen : Option (List ℕ) → ℕ → SinkSeen
+sink_seen taken faults = record { taken = taken; faults = faults }
+
+-- the files at a later time
+pub record IsLater (before after : FilesSeen) : Type 0 where
+  pub stays : (name : List ℕ) → IfSome (before.told name) (λ known. after.told name ≡ Some known)
+  pub counts : (name : List ℕ) → before.faults name ≤ after.faults name
+
+-- why a read of a file stopped: it failed, the file has more bytes than the limit, or want of memory
+abbrev pub StopsAtRead : List ℕ → ℕ → FilesSeen → FilesSeen → code.Stop → Type 0
+StopsAtRead name limit before after Memory = Unit {0}
+StopsAtRead name limit before after (Read other) = (other.now ≡ name) × Rose (before.faults name) (after.faults name)
+StopsAtRead name limit before after (TooLong other n) = (other.now ≡ name) × (n ≡ limit) × HasMore (before.told name) limit
+StopsAtRead name limit before after _ = ⊥
+
+-- a stage gives what is defined, or the refusal that is defined, or want of memory
+abbrev pub Gives : {A B : Type 0} → (B → A) → Result A Answered → Result B code.Stop → Type 0
+Gives view defined (Ok x) = defined ≡ Ok (view x)
+Gives view defined (Err stop) = (stop ≡ Memory) ⊎ ((status_of stop ≡ 5) × (defined ≡ Err (answer_at stop)))
+
+-- one of the answers went out whole, and nothing is to be told on standard error
+pub record SaidWhole (P : Answered → Type 0) (before after : SinkSeen) (status : ℕ) : Type 0 where
+  pub answer : Answered
+  pub allowed : P answer
+  pub status_is : status ≡ answer.status
+  pub low : status ≤ 1
+  pub quiet : answer.err ≡ []
+  pub went : Took before.taken after.taken answer.out
+  pub no_fault : after.faults ≡ before.faults
+
+-- a write failed, and a proper prefix of one of the answers went out
+pub record SaidPart (P : Answered → Type 0) (before after : SinkSeen) : Type 0 where
+  pub answer : Answered
+  pub allowed : P answer
+  pub went : TookPart before.taken after.taken answer.out
+  pub one_fault : after.faults ≡ counted before.faults
+
+-- one of the answers was said: written on standard output, or given as a refusal; at a refusal and for want of memory
+-- nothing was written
+abbrev pub Says : (Answered → Type 0) → SinkSeen → SinkSeen → Result ℕ code.Stop → Type 0
+Says P before after (Ok status) = SaidWhole P before after status
+Says P before after (Err Write) = SaidPart P before after
+Says P before after (Err Memory) = after ≡ before
+Says P before after (Err (Refused name why)) = P (answer_at (Refused name why)) × (after ≡ before)
+Says P before after (Err stop) = ⊥
+
+-- a read stopped, and nothing was written
+abbrev pub StopsReading : List ℕ → ℕ → FilesSeen → FilesSeen → SinkSeen → SinkSeen → Result ℕ code.Stop → Type 0
+StopsReading name limit files_before files_after before after (Ok status) = ⊥
+StopsReading name limit files_before files_after before after (Err stop) =
+    StopsAtRead name limit files_before files_after stop × (after ≡ before)
+
+-- a call did what a plan says, by some contents that agree with what the files tell
+unfoldable pub Does : Plan → FilesSeen → FilesSeen → SinkSeen → SinkSeen → Result ℕ code.Stop → Type 0
+Does (says P) files_before files_after before after result = Says P before after result
+Does (reads name limit next) files_before files_after before after result =
+    StopsReading name limit files_before files_after before after result
+    ⊎ ((bytes : List ℕ) × (length bytes ≤ limit) × HasBytes (files_before.told name) bytes × Does (next bytes) files_before files_after before after result)

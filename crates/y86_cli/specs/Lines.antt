@@ -1,0 +1,50 @@
+-- The lines on standard error.
+use Rattle.std.specs.Prelude.{ℕ, codes, List, [], ◌∷◌}
+use Rattle.std.specs.List.{concat}
+use Rattle.y86_base.specs.Numeral.{numeral}
+use Rattle.yas_asm.specs.declared.fault.AsmFault.{AsmFault}
+use Rattle.yas_asm.specs.declared.fault.AsmWhy.{AsmWhy}
+use Rattle.yas_asm.specs.declared.fault.AsmWhy.TheVariants as assembly
+use Rattle.yo_object.specs.declared.object.YoFault.{YoFault}
+use Rattle.yo_object.specs.declared.object.YoWhy.{YoWhy}
+use Rattle.yo_object.specs.declared.object.YoWhy.TheVariants.{Syntax, OddDigits, OutsideMemory, AddressTooWide, Memory}
+
+abbrev pub usage_line : List ℕ
+usage_line = codes "usage: y86 yas|yis|hcl|ssim|psim|check|sample|big\n"
+
+unfoldable pub read_fault_line : List ℕ → List ℕ
+read_fault_line name = concat (codes "read fault " ∷ name ∷ codes "\n" ∷ [])
+
+abbrev pub memory_line : List ℕ
+memory_line = codes "out of memory\n"
+
+unfoldable pub too_long_line : List ℕ → ℕ → List ℕ
+too_long_line name limit = concat (name ∷ codes ": TooLong " ∷ numeral 10 1 limit ∷ codes "\n" ∷ [])
+
+abbrev pub object_reason : YoWhy → List ℕ
+object_reason Syntax = codes "Syntax"
+object_reason OddDigits = codes "OddDigits"
+object_reason OutsideMemory = codes "OutsideMemory"
+object_reason AddressTooWide = codes "AddressTooWide"
+object_reason Memory = codes "Memory"
+
+abbrev pub assembly_reason : AsmWhy → List ℕ
+assembly_reason assembly.Syntax = codes "Syntax"
+assembly_reason assembly.BadByte = codes "BadByte"
+assembly_reason assembly.NumberTooWide = codes "NumberTooWide"
+assembly_reason assembly.LabelTwice = codes "LabelTwice"
+assembly_reason assembly.LabelUnknown = codes "LabelUnknown"
+assembly_reason assembly.OutsideMemory = codes "OutsideMemory"
+assembly_reason assembly.Overlap = codes "Overlap"
+assembly_reason assembly.LabelLimit = codes "LabelLimit"
+assembly_reason assembly.Memory = codes "Memory"
+
+-- a fault at a line of a file
+unfoldable pub fault_line : List ℕ → ℕ → List ℕ → List ℕ
+fault_line name line reason = concat (name ∷ codes ":" ∷ numeral 10 1 line ∷ codes ": " ∷ reason ∷ codes "\n" ∷ [])
+
+abbrev pub assembly_fault_line : List ℕ → AsmFault → List ℕ
+assembly_fault_line name fault = fault_line name fault.line (assembly_reason fault.why)
+
+abbrev pub object_fault_line : List ℕ → YoFault → List ℕ
+object_fault_line name fault = fault_line name fault.line (object_reason fault.why)

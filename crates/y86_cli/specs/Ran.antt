@@ -1,0 +1,70 @@
+-- What a call of the whole program did, against the plan of its words.
+use Rattle.std.specs.Prelude.{◌≡◌, ◌≢◌, ◌⊎◌, ℕ, ◌≤◌, List, [], ◌∷◌, Option, Some, None, Result, Err, drop, map, string_bytes}
+use Rattle.std.specs.Global.{Global}
+use Rattle.std.specs.Vec.Iter.{into_iter_items}
+use Rattle.std.specs.declared.string.String.{String}
+use Rattle.std.specs.declared.vec.IntoIter.{IntoIter}
+use Rattle.wb_io.specs.Causes.{Rose, counted}
+use Rattle.wb_io.specs.Sinks.{Took, TookPart}
+use Rattle.y86_cli.specs.declared.stop.Stop as code
+use Rattle.y86_cli.specs.declared.stop.Stop.TheVariants.{Usage}
+use Rattle.y86_cli.specs.Answers.{plan_in, plan_of}
+use Rattle.y86_cli.specs.Came.{ComesTo, IsAllowed}
+use Rattle.y86_cli.specs.Does.{Does, FilesSeen, SinkSeen}
+use Rattle.y86_cli.specs.Forms.{Command}
+use Rattle.y86_cli.specs.Lines.{memory_line, read_fault_line}
+use Rattle.y86_cli.specs.Plan.{Answered, IsFaultless, Plan, Tells, comes_to}
+
+-- the words of a call behind the program's own name
+abbrev pub words_behind : IntoIter (String Global) Global → List (List ℕ)
+words_behind args = map string_bytes (drop 1 (into_iter_items args))
+
+-- the command was done, or there is none and nothing was written
+unfoldable pub Ended : Option Command → FilesSeen → FilesSeen → SinkSeen → SinkSeen → Result ℕ code.Stop → Type 0
+Ended None files_before files_after before after result = (result ≡ Err Usage) × (after ≡ before)
+Ended (Some command) files_before files_after before after result = Does (plan_of command) files_before files_after before after result
+
+-- a text was told on standard error: whole, or a proper prefix of it, where a write failed there
+abbrev pub Told : SinkSeen → SinkSeen → List ℕ → Type 0
+Told before after text =
+    (Took before.taken after.taken text × (after.faults ≡ before.faults)) ⊎ (TookPart before.taken after.taken text × (after.faults ≡ counted before.faults))
+
+-- an answer on both streams: whole, or with 4 a proper prefix of its text on standard output
+pub record Shows (a : Answered) (out_before out_after err_before err_after : SinkSeen) (status : ℕ) : Type 0 where
+  pub status_is : status ≢ 4 → status ≡ a.status
+  pub out : status ≢ 4 → Took out_before.taken out_after.taken a.out
+  pub part : status ≡ 4 → TookPart out_before.taken out_after.taken a.out
+  pub err : status ≢ 4 → Told err_before err_after a.err
+
+-- a read of a file that the answer comes to failed, and the line on standard error names it
+pub record ReadFailed (plan : Plan) (files_before files_after : FilesSeen) (err_before err_after : SinkSeen) : Type 0 where
+  pub name : List ℕ
+  pub comes : ComesTo plan files_before.told name
+  pub failed : Rose (files_before.faults name) (files_after.faults name)
+  pub line : Told err_before err_after (read_fault_line name)
+
+-- no count of these names rose
+abbrev pub NoneRose : List (List ℕ) → (List ℕ → ℕ) → (List ℕ → ℕ) → Type 0
+NoneRose [] before after = Unit {0}
+NoneRose (name ∷ names) before after = (Rose (before name) (after name) → ⊥) × NoneRose names before after
+
+pub record Ran (form : Option Command) (files_before files_after : FilesSeen) (out_before out_after err_before err_after : SinkSeen) (status : ℕ) : Type 0 where
+  pub at_most_seven : status ≤ 7
+  -- 2 comes only where the words are no command
+  pub usage : status ≡ 2 → form ≡ None
+  -- but for a failed read and want of memory, an answer that is allowed
+  pub answer : status ≢ 3 → status ≢ 6 →
+      (a : Answered) × IsAllowed (plan_in form) files_before.told a × Shows a out_before out_after err_before err_after status
+  pub read_failed : status ≡ 3 → ReadFailed (plan_in form) files_before files_after err_before err_after
+  -- with 4 exactly one write on standard output failed, and with every other status none
+  pub write_failed : status ≡ 4 → out_after.faults ≡ counted out_before.faults
+  pub no_write_failed : status ≢ 4 → out_after.faults ≡ out_before.faults
+  -- with 2, 3, 5, 6 and 7 nothing is written on standard output
+  pub nothing_out : status ≢ 0 → status ≢ 1 → status ≢ 4 → out_after ≡ out_before
+  pub err_memory : status ≡ 6 → Told err_before err_after memory_line
+  -- with 0, 1 and 4 nothing is written on standard error
+  pub nothing_err : (status ≤ 1) ⊎ (status ≡ 4) → err_after ≡ err_before
+  -- where nothing outside fails and no file that the answer comes to has a fault, an answer with 0 or 1 comes, or want of memory
+  pub complete : (contents : List (Option (List ℕ))) → Tells files_before.told (plan_in form) contents → IsFaultless (plan_in form) contents →
+      NoneRose (comes_to (plan_in form) contents) files_before.faults files_after.faults → (Rose out_before.faults out_after.faults → ⊥) →
+      (status ≡ 6) ⊎ (status ≤ 1)
