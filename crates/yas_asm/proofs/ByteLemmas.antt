@@ -114,8 +114,8 @@ filled-has variant size a [] between line e = any_left (nat_eq a) _ _ e
 filled-has variant size a (other ∷ before) between line e =
     any_right (nat_eq a) (addresses variant size other.address other.read) _ (filled-has variant size a before between line e)
 
--- a line of a listing and those behind it come from a line of the source and those behind it
-pub record IsFrom (variant : Variant) (size : ℕ) (table : List (List ℕ × ℕ)) (all : List Placed) (line : Line) (rest : List Line) : Type 0 where
+-- a line of a listing and those behind it come from a line of the source and those behind it, with as many lines in front
+pub record IsFrom (variant : Variant) (size : ℕ) (table : List (List ℕ × ℕ)) (all : List Placed) (passed : ℕ) (line : Line) (rest : List Line) : Type 0 where
   pub before : List Placed
   pub placed : Placed
   pub after : List Placed
@@ -125,9 +125,10 @@ pub record IsFrom (variant : Variant) (size : ℕ) (table : List (List ℕ × �
   pub parts : all ≡ before ++ placed ∷ after
   pub line_is : line ≡ listed variant size table from to placed.address placed.read
   pub rest_is : rest ≡ listing variant size table next after
+  pub number : length before ≡ passed
 
-listing-split : (variant : Variant) (size : ℕ) (table : List (List ℕ × ℕ)) (from : ℕ) (all : List Placed) (before rest : List Line) (line : Line)
-    → listing variant size table from all ≡ before ++ line ∷ rest → IsFrom variant size table all line rest
+pub listing-split : (variant : Variant) (size : ℕ) (table : List (List ℕ × ℕ)) (from : ℕ) (all : List Placed) (before rest : List Line) (line : Line)
+    → listing variant size table from all ≡ before ++ line ∷ rest → IsFrom variant size table all (length before) line rest
 unfolding listing
 listing-split variant size table from [] [] rest line e = absurd (no_cons line rest e)
 listing-split variant size table from [] (other ∷ before) rest line e = absurd (no_cons other _ e)
@@ -142,6 +143,7 @@ listing-split variant size table from (p ∷ all) [] rest line e =
       parts = refl;
       line_is = sym (head_is _ _ _ _ e);
       rest_is = sym (tail_is _ _ _ _ e);
+      number = refl;
     }
 listing-split variant size table from (p ∷ all) (other ∷ before) rest line e =
     let found = listing-split variant size table (from + length p.text + 1) all before rest line (tail_is _ _ _ _ e) in
@@ -155,6 +157,7 @@ listing-split variant size table from (p ∷ all) (other ∷ before) rest line e
       parts = ap (λ xs. p ∷ xs) found.parts;
       line_is = found.line_is;
       rest_is = found.rest_is;
+      number = ap suc found.number;
     }
 
 emits-err : (variant : Variant) (size : ℕ) (table : List (List ℕ × ℕ)) (from to address a : ℕ) (why : AsmWhy) → emits (listed variant size table from to address (Err why)) a ≡ true → ⊥

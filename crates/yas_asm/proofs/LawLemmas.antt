@@ -15,7 +15,7 @@ use Rattle.yas_asm.specs.declared.statement.Parsed.{Parsed}
 use Rattle.y86_base.specs.Keyword.{meaning_of}
 use Rattle.yas_asm.specs.Assembly.{Placed, source_lines, labels, label_of, label_limit, with_label, with_name, assembled, assembled_with, first_fault, fault_or, listing, listing_unless, line_fault, filled, is_defined, is_past_limit}
 use Rattle.yas_asm.specs.Laws.{LabelsAreAddresses, LabelsAreOfLines, IsLabelled}
-use Rattle.yas_asm.proofs.Parts.{not_here}
+use Rattle.yas_asm.proofs.Parts.{head_is, no_middle, not_here, some_is, tail_is}
 use Rattle.yas_asm.proofs.PassLemmas.{faultless}
 
 -- a look-up finds what it found when further names are put behind
@@ -142,22 +142,82 @@ from_label table address (Some other) name a e = by (is_some (meaning_of table o
     by true e = inl e
     by false e = named (from_new table (other, address) name a e)
 
+abbrev step : List (List ℕ × ℕ) → Placed → List (List ℕ × ℕ)
+step table line = with_label table line.address (label_of line.read)
+
+-- a table with as many labels as there may be stays
+full_label : (table : List (List ℕ × ℕ)) (address : ℕ) (label : Option (List ℕ)) → nat_le label_limit (length table) ≡ true → with_label table address label ≡ table
+unfolding with_name
+full_label table address None f = refl
+full_label table address (Some name) f = by (is_some (meaning_of table name)) (nat_le label_limit (length table)) f
+  where
+    by : (b full : Bool) → full ≡ true → cond (b || full) table (table ++ (name, address) ∷ []) ≡ table
+    by true full f = refl
+    by false true f = refl
+    by false false f = absurd (false≢true f)
+
+full_stays : (table : List (List ℕ × ℕ)) (all : List Placed) → nat_le label_limit (length table) ≡ true → fold step table all ≡ table
+full_stays table [] f = refl
+full_stays table (line ∷ all) f = ap (λ t. fold step t all) (full_label table line.address (label_of line.read) f) ∙ full_stays table all f
+
+-- a name that its line doesn't define, and that no earlier one does, is defined nowhere
+not_defined : (table : List (List ℕ × ℕ)) (address : ℕ) (all : List Placed) (name : List ℕ) (a : ℕ) → meaning_of (with_label table address (Some name)) name ≡ None
+    → meaning_of (fold step (with_label table address (Some name)) all) name ≡ Some a → ⊥
+unfolding with_name
+not_defined table address all name a n e = by (meaning_of table name) (nat_le label_limit (length table)) refl refl n e
+  where
+    by : (m : Option ℕ) (full : Bool) → meaning_of table name ≡ m → nat_le label_limit (length table) ≡ full
+        → meaning_of (cond (is_some m || full) table (table ++ (name, address) ∷ [])) name ≡ None
+        → meaning_of (fold step (cond (is_some m || full) table (table ++ (name, address) ∷ [])) all) name ≡ Some a → ⊥
+    by (Some b) full s f n e = none-some b (sym n ∙ s)
+    by None true s f n e = none-some a (sym s ∙ (ap (λ t. meaning_of t name) (sym (full_stays table all f)) ∙ e))
+    by None false s f n e = none-some address (sym n ∙ meaning_of-new table name address s)
+
 from_lines : (table : List (List ℕ × ℕ)) (all : List Placed) (name : List ℕ) (a : ℕ)
-    → meaning_of (fold (λ table line. with_label table line.address (label_of line.read)) table all) name ≡ Some a
-    → (meaning_of table name ≡ Some a) ⊎ IsLabelled all name a
+    → meaning_of (fold step table all) name ≡ Some a → (meaning_of table name ≡ Some a) ⊎ IsLabelled all name a
 from_lines table [] name a e = inl e
-from_lines table (line ∷ all) name a e =
-    later (from_lines (with_label table line.address (label_of line.read)) all name a e)
+from_lines table (line ∷ all) name a e = at (meaning_of (step table line) name) refl (from_lines (step table line) all name a e)
   where
     here : (meaning_of table name ≡ Some a) ⊎ ((label_of line.read ≡ Some name) × (line.address ≡ a)) → (meaning_of table name ≡ Some a) ⊎ IsLabelled (line ∷ all) name a
     here (inl e) = inl e
-    here (inr e) = inr (record { before = []; line = line; after = all; parts = refl; label = e.0; at = e.1 })
+    here (inr e) = inr (record {
+      before = [];
+      line = line;
+      after = all;
+      parts = refl;
+      label = e.0;
+      at = e.1;
+      first = λ front rest other p. absurd (no_middle front rest other p);
+    })
 
-    later : (meaning_of (with_label table line.address (label_of line.read)) name ≡ Some a) ⊎ IsLabelled all name a
+    not_this : meaning_of (step table line) name ≡ None → label_of line.read ≡ Some name → ⊥
+    not_this n l =
+        not_defined table line.address all name a (subst (λ label. meaning_of (with_label table line.address label) name ≡ None) l n)
+        (subst (λ label. meaning_of (fold step (with_label table line.address label) all) name ≡ Some a) l e)
+
+    later : meaning_of (step table line) name ≡ None → (meaning_of (step table line) name ≡ Some a) ⊎ IsLabelled all name a
         → (meaning_of table name ≡ Some a) ⊎ IsLabelled (line ∷ all) name a
-    later (inl e) = here (from_label table line.address (label_of line.read) name a e)
-    later (inr h) =
-        inr (record { before = line ∷ h.before; line = h.line; after = h.after; parts = ap (λ xs. line ∷ xs) h.parts; label = h.label; at = h.at })
+    later n (inl s) = absurd (none-some a (sym n ∙ s))
+    later n (inr h) = inr (record {
+      before = line ∷ h.before;
+      line = h.line;
+      after = h.after;
+      parts = ap (λ xs. line ∷ xs) h.parts;
+      label = h.label;
+      at = h.at;
+      first = earlier;
+    })
+      where
+        earlier : (front rest : List Placed) (other : Placed) → line ∷ h.before ≡ front ++ other ∷ rest → label_of other.read ≡ Some name → ⊥
+        earlier [] rest other p l = not_this n (ap (λ (x : Placed). label_of x.read) (head_is _ _ _ _ p) ∙ l)
+        earlier (x ∷ front) rest other p l = h.first front rest other (tail_is _ _ _ _ p) l
+
+    at : (m : Option ℕ) → meaning_of (step table line) name ≡ m → (meaning_of (step table line) name ≡ Some a) ⊎ IsLabelled all name a
+        → (meaning_of table name ≡ Some a) ⊎ IsLabelled (line ∷ all) name a
+    at None s rest = later s rest
+    at (Some b) s rest =
+        let same : b ≡ a = some_is _ _ (sym (fold-kept (step table line) all name b s) ∙ e) in
+        here (from_label table line.address (label_of line.read) name a (s ∙ ap Some same))
 
 pub labels_are_of_lines : LabelsAreOfLines
 unfolding labels meaning_of

@@ -8,6 +8,7 @@ pub mod SoundGrammar
 pub mod LawLemmas
 pub mod FaultLemmas
 pub mod ReasonLemmas
+pub mod ShownLines
 pub mod ByteLemmas
 pub mod ImageLemmas
 pub mod SpacingLemmas

@@ -1,5 +1,5 @@
 -- What equations of lists, of options and of tests say of their parts.
-use Rattle.std.proofs.Common.{◌≡◌, ◌≤◌, ◌<◌, ℕ, sym, Bool, true, false, cond, List, [], ◌∷◌, Option, None, Some, refl, arith}
+use Rattle.std.proofs.Common.{◌≡◌, ◌≤◌, ◌<◌, ℕ, sym, Bool, true, false, cond, List, [], ◌∷◌, ◌++◌, Option, None, Some, refl, arith}
 use Rattle.std.specs.Prelude.{is_some, is_none, nat_le, nat_lt, nat_eq}
 use Rattle.std.proofs.lemmas.Option.{none-some}
 use Rattle.std.proofs.lemmas.Bool.Decides.{nat_tests}
@@ -32,3 +32,7 @@ below n m e = grind (arith, nat_tests)
 
 pub eq_is : (n m : ℕ) → nat_eq n m ≡ true → n ≡ m
 eq_is n m e = grind (arith, nat_tests)
+
+pub no_middle : {A : Type 0} (front rest : List A) (x : A) → [] ≡ front ++ x ∷ rest → ⊥
+no_middle [] rest x e = cc
+no_middle (y ∷ front) rest x e = cc

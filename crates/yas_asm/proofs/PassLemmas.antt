@@ -92,7 +92,7 @@ length_push [] x = refl
 length_push (y ∷ xs) x = omega (arith, length_push xs x)
 
 -- what the lines before left says all that the first fault needs of them
-first_fault-state : (variant : Variant) (size : ℕ) (table : List (List ℕ × ℕ)) (before rest : List Placed)
+pub first_fault-state : (variant : Variant) (size : ℕ) (table : List (List ℕ × ℕ)) (before rest : List Placed)
     → first_fault variant size table before rest ≡ faults_from variant size table (labels before) (filled variant size before) (length before) rest
 unfolding first_fault faults_from
 first_fault-state variant size table before [] = refl

@@ -59,14 +59,14 @@ no_comment byte bytes h s =
     by false false true h s t = absurd (false≢true (sym t))
     by false false false h s t = refl
 
-after_blanks-other : (byte : ℕ) (bytes : List ℕ) → is_blank byte ≡ false → behind is_blank (byte ∷ bytes) ≡ byte ∷ bytes
+pub after_blanks-other : (byte : ℕ) (bytes : List ℕ) → is_blank byte ≡ false → behind is_blank (byte ∷ bytes) ≡ byte ∷ bytes
 after_blanks-other byte bytes e = by (is_blank byte) e
   where
     by : (b : Bool) → b ≡ false → drop (cond b (1 + prefix_len is_blank bytes) 0) (byte ∷ bytes) ≡ byte ∷ bytes
     by true e = absurd (false≢true (sym e))
     by false e = refl
 
-after_blanks-blank : (byte : ℕ) (bytes : List ℕ) → is_blank byte ≡ true → behind is_blank (byte ∷ bytes) ≡ behind is_blank bytes
+pub after_blanks-blank : (byte : ℕ) (bytes : List ℕ) → is_blank byte ≡ true → behind is_blank (byte ∷ bytes) ≡ behind is_blank bytes
 after_blanks-blank byte bytes e = by (is_blank byte) e
   where
     by : (b : Bool) → b ≡ true → drop (cond b (1 + prefix_len is_blank bytes) 0) (byte ∷ bytes) ≡ drop (prefix_len is_blank bytes) bytes
@@ -86,7 +86,7 @@ ends-blank : (byte : ℕ) (bytes : List ℕ) → is_blank byte ≡ true → ends
 unfolding ends
 ends-blank byte bytes e = ap ends_at (after_blanks-blank byte bytes e)
 
-ends-other : (byte : ℕ) (bytes : List ℕ) → is_blank byte ≡ false → ends (byte ∷ bytes) ≡ ends_at (byte ∷ bytes)
+pub ends-other : (byte : ℕ) (bytes : List ℕ) → is_blank byte ≡ false → ends (byte ∷ bytes) ≡ ends_at (byte ∷ bytes)
 unfolding ends
 ends-other byte bytes e = ap ends_at (after_blanks-other byte bytes e)
 
@@ -99,7 +99,7 @@ not_end : (byte : ℕ) (bytes : List ℕ) → is_blank byte ≡ false → (byte 
 not_end byte bytes b h s = ends-other byte bytes b ∙ not_end_at byte bytes b h s
 
 -- a line ends at `#`
-hash_ends : (byte : ℕ) (bytes : List ℕ) → (byte == 35) ≡ true → ends_at (byte ∷ bytes) ≡ true
+pub hash_ends : (byte : ℕ) (bytes : List ℕ) → (byte == 35) ≡ true → ends_at (byte ∷ bytes) ≡ true
 unfolding comment_length
 hash_ends byte bytes h = by (byte == 35) h
   where
@@ -114,7 +114,7 @@ hash_ends byte bytes h = by (byte == 35) h
     by false h = absurd (false≢true h)
 
 -- a line squeezed, case by case
-squeezed-end : (close : Bool) (byte : ℕ) (bytes : List ℕ) → ends (byte ∷ bytes) ≡ true → squeezed close (byte ∷ bytes) ≡ []
+pub squeezed-end : (close : Bool) (byte : ℕ) (bytes : List ℕ) → ends (byte ∷ bytes) ≡ true → squeezed close (byte ∷ bytes) ≡ []
 unfolding squeezed
 squeezed-end close byte bytes e = by (ends (byte ∷ bytes)) e _
   where
@@ -139,19 +139,19 @@ last false true c w x y z e f g = absurd (false≢true (sym f))
 last false false true w x y z e f g = absurd (false≢true (sym g))
 last false false false w x y z e f g = refl
 
-abbrev skips : ℕ → Bool
+abbrev pub skips : ℕ → Bool
 skips next = is_blank next || is_sign next
 
-squeezed-blank : (close : Bool) (byte : ℕ) (bytes : List ℕ) → ends (byte ∷ bytes) ≡ false → is_blank byte ≡ true
+pub squeezed-blank : (close : Bool) (byte : ℕ) (bytes : List ℕ) → ends (byte ∷ bytes) ≡ false → is_blank byte ≡ true
     → squeezed close (byte ∷ bytes) ≡ cond (close || begins skips bytes) (squeezed close bytes) (32 ∷ squeezed close bytes)
 unfolding squeezed
 squeezed-blank close byte bytes e b = second (ends (byte ∷ bytes)) (is_blank byte) _ _ _ e b
 
-squeezed-slash : (close : Bool) (byte : ℕ) (bytes : List ℕ) → ends (byte ∷ bytes) ≡ false → is_blank byte ≡ false → (byte == 47) ≡ true → squeezed close (byte ∷ bytes) ≡ byte ∷ bytes
+pub squeezed-slash : (close : Bool) (byte : ℕ) (bytes : List ℕ) → ends (byte ∷ bytes) ≡ false → is_blank byte ≡ false → (byte == 47) ≡ true → squeezed close (byte ∷ bytes) ≡ byte ∷ bytes
 unfolding squeezed
 squeezed-slash close byte bytes e b s = third (ends (byte ∷ bytes)) (is_blank byte) (byte == 47) _ _ _ _ e b s
 
-squeezed-other : (close : Bool) (byte : ℕ) (bytes : List ℕ) → ends (byte ∷ bytes) ≡ false → is_blank byte ≡ false → (byte == 47) ≡ false → squeezed close (byte ∷ bytes) ≡ byte ∷ squeezed (is_sign byte) bytes
+pub squeezed-other : (close : Bool) (byte : ℕ) (bytes : List ℕ) → ends (byte ∷ bytes) ≡ false → is_blank byte ≡ false → (byte == 47) ≡ false → squeezed close (byte ∷ bytes) ≡ byte ∷ squeezed (is_sign byte) bytes
 unfolding squeezed
 squeezed-other close byte bytes e b s = last (ends (byte ∷ bytes)) (is_blank byte) (byte == 47) _ _ _ _ e b s
 
@@ -160,7 +160,7 @@ squeezed-plain close byte bytes e =
     let p = plain byte e in
     squeezed-other close byte bytes (not_end byte bytes p.blank p.hash p.slash) p.blank p.slash ∙ ap (λ s. byte ∷ squeezed s bytes) p.sign
 
-squeezed-none : (close : Bool) → squeezed close [] ≡ []
+pub squeezed-none : (close : Bool) → squeezed close [] ≡ []
 unfolding squeezed
 squeezed-none close = refl
 

@@ -11,7 +11,7 @@ use Rattle.yas_asm.proofs.Parts.{eq_is}
 use Rattle.yas_asm.proofs.CommentLemmas.{bad_outside-comment, bad_outside-plain}
 use Rattle.yas_asm.proofs.SpacingLemmas.{no_comment}
 
-all_good : (inside : ℕ) (text : List ℕ) → list_all is_good text ≡ true → bad_outside inside text ≡ false
+pub all_good : (inside : ℕ) (text : List ℕ) → list_all is_good text ≡ true → bad_outside inside text ≡ false
 unfolding bad_outside
 all_good zero [] e = refl
 all_good (suc inside) [] e = refl
@@ -26,7 +26,7 @@ all_good zero (byte ∷ bytes) e =
     by false good g next behind = behind
 all_good (suc inside) (byte ∷ bytes) e = all_good inside bytes (both_true (is_good byte) (list_all is_good bytes) e).1
 
-at_byte : (byte : ℕ) (bytes : List ℕ) → comment_length (byte ∷ bytes) ≡ 0 → bad_outside 0 (byte ∷ bytes) ≡ (not (is_good byte) || bad_outside 0 bytes)
+pub at_byte : (byte : ℕ) (bytes : List ℕ) → comment_length (byte ∷ bytes) ≡ 0 → bad_outside 0 (byte ∷ bytes) ≡ (not (is_good byte) || bad_outside 0 bytes)
 at_byte byte bytes e = bad_outside-plain (byte ∷ bytes) bytes byte 0 (sym e) (omega arith) refl
 
 is_false : (b : Bool) → not b ≡ true → b ≡ false

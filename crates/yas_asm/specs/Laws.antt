@@ -6,13 +6,15 @@ use Rattle.yas_asm.specs.declared.fault.AsmWhy.{AsmWhy}
 use Rattle.yas_asm.specs.declared.fault.AsmWhy.TheVariants.{Syntax, BadByte, NumberTooWide, LabelTwice, LabelUnknown, OutsideMemory, Overlap, LabelLimit, Memory}
 use Rattle.yas_asm.specs.declared.fault.AsmFault.{AsmFault}
 use Rattle.yas_asm.specs.declared.statement.Parsed.{Parsed}
+use Rattle.yas_asm.specs.declared.statement.Statement.{Statement}
+use Rattle.yas_asm.specs.declared.statement.Statement.TheVariants as statements
 use Rattle.yas_asm.specs.declared.listing.Line.{Line}
 use Rattle.y86_base.specs.Image.{with_bytes}
 use Rattle.y86_base.specs.Text.{lines}
 use Rattle.y86_base.specs.Keyword.{meaning_of}
 use Rattle.yas_asm.specs.Comments.{close_length, comment_length, is_good, bad_outside}
 use Rattle.yas_asm.specs.Grammar.{is_wide, line, read_line}
-use Rattle.yas_asm.specs.Assembly.{Placed, source_lines, width_of, place, address_after, labels, label_of, filled, names_wide, names_unknown, is_defined, is_past_limit, overlaps, fault_behind, assembled, next_multiple}
+use Rattle.yas_asm.specs.Assembly.{Placed, source_lines, width_of, place, address_after, labels, label_of, filled, names_wide, names_unknown, is_defined, is_past_limit, overlaps, fault_behind, assembled, next_multiple, bytes_at}
 
 -- what `close_length` finds is the first `*/`: one stands where it says, and it says none further behind than any that stands there
 pub record CloseIsFirst : Type 0 where
@@ -124,7 +126,7 @@ LabelsAreAddresses =
     → source_lines variant size source ≡ before ++ line ∷ after → label_of line.read ≡ Some name
     → meaning_of (labels (source_lines variant size source)) name ≡ Some line.address
 
--- a line of a source has a label, and stands at an address
+-- the first line of a source that has a label stands at an address
 pub record IsLabelled (all : List Placed) (name : List ℕ) (address : ℕ) : Type 0 where
   pub before : List Placed
   pub line : Placed
@@ -132,12 +134,42 @@ pub record IsLabelled (all : List Placed) (name : List ℕ) (address : ℕ) : Ty
   pub parts : all ≡ before ++ line ∷ after
   pub label : label_of line.read ≡ Some name
   pub at : line.address ≡ address
+  pub first : (front rest : List Placed) (other : Placed) → before ≡ front ++ other ∷ rest → label_of other.read ≡ Some name → ⊥
 
--- and in every source each label with a value is that of a line, at its address
+-- and in every source each label with a value is that of its first line, at this line's address
 abbrev pub LabelsAreOfLines : Type 0
 LabelsAreOfLines =
     (variant : Variant) (source : List ℕ) (size : ℕ) (name : List ℕ) (address : ℕ)
     → meaning_of (labels (source_lines variant size source)) name ≡ Some address → IsLabelled (source_lines variant size source) name address
+
+-- what a line that says this shows at an address: where `.pos` and `.align` lead, and else the address, where it has a label or a statement;
+-- a number outside its bounds is in no listing
+abbrev pub Shows : Option (List ℕ) → ℕ → Statement → Option ℕ → Type 0
+Shows label address (statements.Position n) shown = shown ≡ Some n
+Shows label address (statements.Align n) shown = shown ≡ Some (next_multiple n address)
+Shows label address (statements.Instruction icode ifun a b constant) shown = shown ≡ Some address
+Shows label address (statements.Data width value) shown = shown ≡ Some address
+Shows None address statements.Nothing shown = shown ≡ None
+Shows (Some name) address statements.Nothing shown = shown ≡ Some address
+Shows label address statements.Wide shown = ⊥
+
+-- a line of a listing is that of the line of this number in its source: it shows what that line says, and has its bytes
+pub record IsShown (variant : Variant) (size : ℕ) (source : List ℕ) (number : ℕ) (line : Line) : Type 0 where
+  pub before : List Placed
+  pub placed : Placed
+  pub after : List Placed
+  pub parsed : Parsed
+  pub parts : source_lines variant size source ≡ before ++ placed ∷ after
+  pub number_is : length before ≡ number
+  pub read : placed.read ≡ Ok parsed
+  pub shows : Shows parsed.label placed.address parsed.statement line.addr
+  pub bytes : line.bytes.items ≡ bytes_at (labels (source_lines variant size source)) parsed.statement
+
+-- each line of an accepted source's listing is that of the line in its place
+abbrev pub LinesShow : Type 0
+LinesShow =
+    (variant : Variant) (source : List ℕ) (size : ℕ) (listing : List Line) → assembled variant source size ≡ Ok listing
+    → (before after : List Line) (line : Line) → listing ≡ before ++ line ∷ after → IsShown variant size source (length before) line
 
 -- a line of a listing emits a byte at an address
 abbrev pub emits_at : Option ℕ → ℕ → ℕ → Bool

@@ -1,7 +1,8 @@
 -- Lines that differ in comments and blanks alone.
-use Rattle.std.specs.Prelude.{◌≡◌, ℕ, Bool, true, ◌||◌, ◌==◌, if◌then◌else◌, List, [], ◌∷◌, map, Option, Ok}
+use Rattle.std.specs.Prelude.{◌≡◌, ℕ, Bool, true, ◌||◌, ◌==◌, if◌then◌else◌, List, [], ◌∷◌, map, Option, Result, Ok, Err}
 use Rattle.y86_base.specs.declared.parts.Variant.{Variant}
 use Rattle.y86_base.specs.Text.{begins, is_blank, lines}
+use Rattle.yas_asm.specs.declared.fault.AsmFault.{AsmFault}
 use Rattle.yas_asm.specs.declared.listing.Line.{Line}
 use Rattle.yas_asm.specs.Comments.{ends}
 use Rattle.yas_asm.specs.Assembly.{assembled}
@@ -23,10 +24,13 @@ squeezed close (byte ∷ bytes) =
 abbrev pub place_of : Line → Option ℕ × List ℕ
 place_of line = (line.addr, line.bytes.items)
 
--- two accepted sources that differ in comments and blanks alone have the same addresses and bytes, line for line
+-- what a source comes to, its texts apart: the places of its lines, or its fault
+abbrev pub places : Result (List Line) AsmFault → Result (List (Option ℕ × List ℕ)) AsmFault
+places (Ok listing) = Ok (map place_of listing)
+places (Err fault) = Err fault
+
+-- two sources that differ in comments and blanks alone have the same addresses and bytes, line for line, or the same fault in the same line
 abbrev pub SpacingIsFree : Type 0
 SpacingIsFree =
-    (variant : Variant) (size : ℕ) (one other : List ℕ) (listing listing' : List Line)
-    → assembled variant one size ≡ Ok listing → assembled variant other size ≡ Ok listing'
-    → map (squeezed true) (lines one) ≡ map (squeezed true) (lines other)
-    → map place_of listing ≡ map place_of listing'
+    (variant : Variant) (size : ℕ) (one other : List ℕ) → map (squeezed true) (lines one) ≡ map (squeezed true) (lines other)
+    → places (assembled variant one size) ≡ places (assembled variant other size)

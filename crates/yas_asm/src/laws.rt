@@ -1,5 +1,5 @@
 ghost use Rattle.yas_asm.specs.Spacing.{SpacingIsFree};
-ghost use Rattle.yas_asm.specs.Laws.{AcceptedWithoutFault, AlignIsLeast, BytesHaveOneLine, CloseIsFirst, FirstFaultIsTold, ImageHasLines, ImageIsZeroElsewhere, LabelsAreAddresses, LabelsAreOfLines, LeastReasonIsTold, LinesFollow, SweepPassesComments, TextsStandThere};
+ghost use Rattle.yas_asm.specs.Laws.{AcceptedWithoutFault, AlignIsLeast, BytesHaveOneLine, CloseIsFirst, FirstFaultIsTold, ImageHasLines, ImageIsZeroElsewhere, LabelsAreAddresses, LabelsAreOfLines, LeastReasonIsTold, LinesFollow, LinesShow, SweepPassesComments, TextsStandThere};
 
 /// A `/*` goes to the first `*/`, and the sweep for bad bytes passes a comment as a whole and any other byte by itself.
 pub fn law_of_comments()
@@ -22,10 +22,17 @@ pub fn law_of_faults()
 {}
 
 /// In an accepted source the value of a label is the address before its line's statement. In every source a label with a value is that
-/// of a line at this address.
+/// of the first line that has it, at this line's address.
 pub fn law_of_labels()
     ensures addresses { LabelsAreAddresses }
     ensures lines { LabelsAreOfLines }
+{}
+
+/// Each line of an accepted source's listing is that of the line in its place: it shows the address before its statement, or where it
+/// leads for `.pos` and `.align`, and has the bytes of its statement.
+#[tactic(auto, using(crate::proofs::ShownLines::lines_show))]
+pub fn law_of_listings()
+    ensures { LinesShow }
 {}
 
 /// In the listing of an accepted source no two lines emit a byte at one address.
@@ -40,7 +47,8 @@ pub fn law_of_images()
     ensures zeros { ImageIsZeroElsewhere }
 {}
 
-/// Two accepted sources that differ in comments and blanks alone have the same addresses and bytes, line for line.
+/// Two sources that differ in comments and blanks alone have the same addresses and bytes, line for line, or the same fault in the same
+/// line.
 pub fn law_of_spacing()
     ensures { SpacingIsFree }
 {}
