@@ -1,0 +1,168 @@
+-- The diagrams of gates: what is marked, and what each gate's diagram is.
+use Rattle.std.proofs.Common.{◌≡◌, ◌⊎◌, inl, inr, ℕ, ◌+◌, ◌<◌, ◌≤◌, Bool, true, false, not, ◌&&◌, List, [], ◌∷◌, ◌++◌, length, set, get_or, slice_get, Some, refl, sym, ap, ◌∙◌, subst, arith}
+use Rattle.std.proofs.lemmas.Bool.{cases_lt, cases_eq, cases_Bool}
+use Rattle.std.proofs.lemmas.List.{get_or-set_other, get_or-set_same, get_or_append_left, get_or_push, length_push, get_or_past}
+use Rattle.std.proofs.lemmas.Option.{slice_get_within}
+use Rattle.nets.specs.Nets.{Gates, ReadsEarlier, gate_value, truths}
+use Rattle.nets.specs.Nets.{truth as gate_truth}
+use Rattle.nets.specs.declared.net.Gate.{Gate}
+use Rattle.nets.specs.declared.net.Gate.TheVariants.{Const, Var, Not, And}
+use Rattle.bdd_core.specs.Diagrams.{Diagrams, at, count, dia_truth, reach, IsWell, Keeps}
+use Rattle.bdd_core.specs.Answers.{IsMade, IsAnswer}
+use Rattle.bdd_core.specs.declared.results.Op.TheVariants.{And as Conjunction, Not as Negation}
+use Rattle.bdd_core.specs.Building.{ReadsMarked, IsCone, HasTruth, AreBuilt, AreMade, made_value, IsMadeOf}
+use Rattle.bdd_core.specs.Meaning.{Stay, IsBuilt}
+use Rattle.bdd_core.proofs.Canonical.{part_truth}
+use Rattle.bdd_core.proofs.Applying.{first_truth, second_truth}
+use Rattle.bdd_core.proofs.Truths.{truth_kept}
+use Rattle.bdd_core.specs.declared.store.Dia.{Dia}
+
+-- the diagram of a variable
+pub variable_truth : (s : Diagrams) (x d : ℕ) (v : List Bool) → IsWell s → IsMade s x 0 1 d → dia_truth s d v ≡ get_or v x false
+unfolding dia_truth
+variable_truth s x d v well made = by (cases_Bool (get_or v x false))
+  where
+    by : (get_or v x false ≡ true) ⊎ (get_or v x false ≡ false) → reach (at s) d d v ≡ get_or v x false
+    by (inl b) = sym (part_truth well x true d v made.within b) ∙ (ap (λ (k : ℕ). reach (at s) k k v) made.is_high ∙ (second_truth s v well ∙ sym b))
+    by (inr b) = sym (part_truth well x false d v made.within b) ∙ (ap (λ (k : ℕ). reach (at s) k k v) made.is_low ∙ (first_truth s v well ∙ sym b))
+
+-- what has the truth of a gate keeps it
+pub truth_stays : {a b : Diagrams} {n : Gates} {j d : ℕ} → IsWell a → Keeps a b → HasTruth a n j d → HasTruth b n j d
+truth_stays {a} {b} {n} {j} {d} well keeps has = record {
+  within = let m = keeps.more in let w = has.within in omega (arith, m, w);
+  is = λ v h. truth_kept well keeps d v has.within ∙ has.is v (h ∙ keeps.vars);
+}
+
+pub built_more : {a b : Diagrams} {n : Gates} {needed : List Bool} {made : List ℕ} {i d : ℕ} → IsWell a → Keeps a b → AreBuilt a n needed made i
+    → (get_or needed i false ≡ true → HasTruth b n i d) → AreBuilt b n needed (made ++ d ∷ []) (i + 1)
+built_more {a} {b} {n} {needed} {made} {i} {d} well keeps built last = record {
+  size = let s = built.size in omega (arith, s, length_push made d);
+  each = λ j h is. elim (cases_lt j i) [
+    | inl p ↦ subst (HasTruth b n j) (sym (get_or_append_left made (d ∷ []) 0 j (let s = built.size in omega (arith, s, p)))) (truth_stays well keeps (built.each j p is))
+    | inr p ↦ (let e : j ≡ i = omega arith in
+        let r : get_or (made ++ d ∷ []) j 0 ≡ d = get_or_push made d 0 j (let s = built.size in omega (arith, s, e)) in
+        subst (HasTruth b n j) (sym r) (subst (λ (k : ℕ). HasTruth b n k d) (sym e) (last (ap (λ (k : ℕ). get_or needed k false) (sym e) ∙ is))))
+  ];
+}
+
+-- the diagrams that a marked gate reads are there
+pub are_made : {s : Diagrams} {n : Gates} {i : ℕ} {needed : List Bool} {made : List ℕ} {g : Gate} → IsCone n needed → AreBuilt s n needed made i
+    → slice_get n.gates i ≡ Some g → get_or needed i false ≡ true → ReadsEarlier n.vars i g → AreMade s made g
+are_made {s} {n} {i} {needed} {made} {g} cone built is marked reads =
+    let c = cone.closed i g is marked in
+    record {
+      inverted = λ a e. (built.each a (reads.inverted a e) (c.inverted a e)).within;
+      left = λ a b e. (built.each a (reads.left a b e) (c.left a b e)).within;
+      right = λ a b e. (built.each b (reads.right a b e) (c.right a b e)).within;
+    }
+
+-- the truth of a gate from the diagrams that it reads is its truth
+pub gate_is : {a b : Diagrams} {n : Gates} {i d : ℕ} {needed : List Bool} {made : List ℕ} {g : Gate} → Keeps a b → IsCone n needed → AreBuilt a n needed made i
+    → slice_get n.gates i ≡ Some g → get_or needed i false ≡ true → ReadsEarlier n.vars i g
+    → ((w : List Bool) → gate_truth n i w ≡ gate_value w (truths n w) g) → IsMadeOf a b made g d → HasTruth b n i d
+unfolding gate_truth
+gate_is {a} {b} {n} {i} {d} {needed} {made} {g} keeps cone built is marked reads meaning made_of =
+    record { within = made_of.within; is = λ v h. made_of.is v h ∙ (value v (h ∙ keeps.vars) g c reads ∙ sym (meaning v)) }
+  where
+    c : ReadsMarked needed g
+    c = cone.closed i g is marked
+
+    one : (v : List Bool) → length v ≡ a.vars → (j : ℕ) → j < i → get_or needed j false ≡ true → dia_truth a (get_or made j 0) v ≡ gate_truth n j v
+    one v h j less m = (built.each j less m).is v h
+
+    value : (v : List Bool) → length v ≡ a.vars → (x : Gate) → ReadsMarked needed x → ReadsEarlier n.vars i x → made_value a made v x ≡ gate_value v (truths n v) x
+    value v h (Const b) m r = refl
+    value v h (Var x) m r = refl
+    value v h (Not k) m r = ap not (one v h k (r.inverted k refl) (m.inverted k refl))
+    value v h (And k l) m r =
+        ap (λ x. x && dia_truth a (get_or made l 0) v) (one v h k (r.left k l refl) (m.left k l refl))
+        ∙ ap (λ x. get_or (truths n v) k false && x) (one v h l (r.right k l refl) (m.right k l refl))
+
+-- marks that are written
+pub marked_one : (old : List Bool) (a : ℕ) → a < length old → get_or (set old a true) a false ≡ true
+marked_one old a h = get_or-set_same old a true false h
+
+pub marked_stays : (old : List Bool) (a j : ℕ) → get_or old j false ≡ true → get_or (set old a true) j false ≡ true
+marked_stays old a j is = by (cases_eq j a) (cases_lt j (length old))
+  where
+    by : (j ≡ a) ⊎ (j ≡ a → ⊥) → (j < length old) ⊎ (length old ≤ j) → get_or (set old a true) j false ≡ true
+    by (inl e) (inl h) = ap (λ (k : ℕ). get_or (set old k true) j false) (sym e) ∙ get_or-set_same old j true false h
+    by (inl e) (inr h) = absurd (let z = get_or_past old j false h in cc)
+    by (inr e) h = get_or-set_other old a j true false e ∙ is
+
+pub marked_later : (old : List Bool) (a i j : ℕ) → a < i → i ≤ j → get_or (set old a true) j false ≡ get_or old j false
+marked_later old a i j h k = get_or-set_other old a j true false (λ e. absurd (omega (arith, e, h, k)))
+
+-- earlier diagrams stay
+pub stays : {a b : Diagrams} → IsWell a → Keeps a b → Stay a b
+stays {a} {b} well keeps = record {
+  vars = keeps.vars;
+  stay = λ d h. (let m = keeps.more in omega (arith, m, h));
+  truths = λ d h v. truth_kept well keeps d.id v h;
+}
+
+-- the diagram of each gate
+pub made_true : (s : Diagrams) (made : List ℕ) (g : Gate) (b : Bool) → IsWell s → g ≡ Const b → b ≡ true → IsMadeOf s s made g 1
+made_true s made g b well is e =
+    subst (λ (x : Gate). IsMadeOf s s made x 1) (sym is) (record { within = omega arith; is = λ v h. second_truth s v well ∙ sym e })
+
+pub made_false : (s : Diagrams) (made : List ℕ) (g : Gate) (b : Bool) → IsWell s → g ≡ Const b → b ≡ false → IsMadeOf s s made g 0
+made_false s made g b well is e =
+    subst (λ (x : Gate). IsMadeOf s s made x 0) (sym is) (record { within = omega arith; is = λ v h. first_truth s v well ∙ sym e })
+
+pub made_var : (old new : Diagrams) (made : List ℕ) (x d : ℕ) → IsWell new → IsMade new x 0 1 d → IsMadeOf old new made (Var x) d
+made_var old new made x d well is = record { within = is.within; is = λ v h. variable_truth new x d v well is }
+
+pub made_not : (old new : Diagrams) (made : List ℕ) (a d : ℕ) → IsWell old → Keeps old new → get_or made a 0 < count old
+    → IsAnswer new record { op = Negation; left = get_or made a 0; right = get_or made a 0 } d → IsMadeOf old new made (Not a) d
+made_not old new made a d well keeps h answer = record {
+  within = answer.within;
+  is = λ v k. answer.truth_is v k ∙ ap not (truth_kept well keeps (get_or made a 0) v h);
+}
+
+pub made_and : (old new : Diagrams) (made : List ℕ) (a b d : ℕ) → IsWell old → Keeps old new → get_or made a 0 < count old → get_or made b 0 < count old
+    → IsAnswer new record { op = Conjunction; left = get_or made a 0; right = get_or made b 0 } d → IsMadeOf old new made (And a b) d
+made_and old new made a b d well keeps h i answer = record {
+  within = answer.within;
+  is = λ v k. answer.truth_is v k
+      ∙ (ap (λ x. x && dia_truth new (get_or made b 0) v) (truth_kept well keeps (get_or made a 0) v h)
+      ∙ ap (λ y. dia_truth old (get_or made a 0) v && y) (truth_kept well keeps (get_or made b 0) v i));
+}
+
+pub built_none : (s : Diagrams) (n : Gates) (needed : List Bool) (made : List ℕ) → made ≡ [] → AreBuilt s n needed made 0
+built_none s n needed made e = record { size = ap length e; each = λ j h is. absurd (omega arith) }
+
+pub built_is : {s : Diagrams} {n : Gates} {needed : List Bool} {made : List ℕ} {gate i : ℕ} {d : Dia} → get_or needed gate false ≡ true → AreBuilt s n needed made i → gate < i
+    → d.id ≡ get_or made gate 0 → IsBuilt s n gate d
+built_is {s} {n} {needed} {made} {gate} {i} {d} root built h e =
+    let has = built.each gate h root in
+    record {
+      within = let w = has.within in omega (arith, w, e);
+      is = λ v k. ap (λ (x : ℕ). dia_truth s x v) e ∙ has.is v k;
+    }
+
+-- marks from gate i on are closed
+pub record IsConeFrom (n : Gates) (needed : List Bool) (i : ℕ) : Type 0 where
+  pub size : length needed ≡ length n.gates
+  pub closed : (j : ℕ) (g : Gate) → i ≤ j → slice_get n.gates j ≡ Some g → get_or needed j false ≡ true → ReadsMarked needed g
+
+reads_stay : {old new : List Bool} {g : Gate} → ((j : ℕ) → get_or old j false ≡ true → get_or new j false ≡ true) → ReadsMarked old g → ReadsMarked new g
+reads_stay stay r = record { inverted = λ a e. stay a (r.inverted a e); left = λ a b e. stay a (r.left a b e); right = λ a b e. stay b (r.right a b e) }
+
+pub cone_started : (n : Gates) (i : ℕ) (needed : List Bool) → length needed ≡ length n.gates → i ≡ length n.gates → IsConeFrom n needed i
+cone_started n i needed size e = record { size = size; closed = λ j g h is m. absurd (let w = slice_get_within n.gates j g is in omega (arith, w, e, h)) }
+
+pub cone_more : {n : Gates} {i k : ℕ} {old new : List Bool} → IsConeFrom n old k → k ≡ i + 1 → length new ≡ length old
+    → ((j : ℕ) → i ≤ j → get_or new j false ≡ get_or old j false) → ((j : ℕ) → get_or old j false ≡ true → get_or new j false ≡ true)
+    → ((g : Gate) → slice_get n.gates i ≡ Some g → get_or old i false ≡ true → ReadsMarked new g) → IsConeFrom n new i
+cone_more {n} {i} {k} {old} {new} cone next size later stay reads = record {
+  size = size ∙ cone.size;
+  closed = λ j f h at m. elim (cases_lt i j) [
+    | inl p ↦ reads_stay stay (cone.closed j f (omega (arith, next, p)) at (sym (later j h) ∙ m))
+    | inr p ↦ (let e : j ≡ i = omega arith in
+        reads f (ap (slice_get n.gates) (sym e) ∙ at) (sym (later i (omega arith)) ∙ (ap (λ (x : ℕ). get_or new x false) (sym e) ∙ m)))
+  ];
+}
+
+pub cone_ended : {n : Gates} {i : ℕ} {needed : List Bool} → IsConeFrom n needed i → i ≡ 0 → IsCone n needed
+cone_ended cone e = record { size = cone.size; closed = λ j g is m. cone.closed j g (omega (arith, e)) is m }

@@ -1,0 +1,12 @@
+mod Reaching
+mod Canonical
+mod Truths
+mod Adding
+mod Looking
+mod Tables
+mod Applying
+mod Making
+mod Putting
+mod Exact
+mod Least
+mod Gates

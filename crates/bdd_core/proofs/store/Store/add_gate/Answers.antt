@@ -1,0 +1,24 @@
+use Rattle.std.proofs.Common.{sym, subst}
+use Rattle.nets.specs.declared.net.Gate.{Gate}
+use Rattle.bdd_core.specs.Building.{IsMadeOf}
+use Rattle.bdd_core.proofs.Gates.{made_true, made_false, made_var, made_and}
+use Rattle.bdd_core.proofs.store.Store.add_gate.Goals as goal
+
+pub returns-in-Const-true-clause-made : goal.returns-in-Const-true-clause-made
+returns-in-Const-true-clause-made c =
+    made_true c.args.self.now c.args.made.now c.args.gate c.in-Const-true.field-0 c.vars.ensures.well c.in-Const-true.is c.in-Const-true.field-0-test
+
+pub returns-in-Const-false-clause-made : goal.returns-in-Const-false-clause-made
+returns-in-Const-false-clause-made c =
+    made_false c.args.self.now c.args.made.now c.args.gate c.in-Const-false.field-0 c.vars.ensures.well c.in-Const-false.is c.in-Const-false.field-0-test
+
+pub returns-in_ok-d-in-Var-clause-made : goal.returns-in_ok-d-in-Var-clause-made
+returns-in_ok-d-in-Var-clause-made c =
+    subst (λ (g : Gate). IsMadeOf c.args.self.now c.make.new.self c.args.made.now g c.in_ok-d-in-Var.d) (sym c.in-Var.is)
+    (made_var c.args.self.now c.make.new.self c.args.made.now c.in-Var.x c.in_ok-d-in-Var.d c.make.ensures.well c.in_ok-d-in-Var.ensures.made)
+
+pub returns-in_ok-d-in-And-clause-made : goal.returns-in_ok-d-in-And-clause-made
+returns-in_ok-d-in-And-clause-made c =
+    subst (λ (g : Gate). IsMadeOf c.args.self.now c.apply-in-And.new.self c.args.made.now g c.in_ok-d-in-And.d) (sym c.in-And.is)
+    (made_and c.args.self.now c.apply-in-And.new.self c.args.made.now c.in-And.a c.in-And.b c.in_ok-d-in-And.d c.vars.ensures.well c.apply-in-And.ensures.kept
+    (c.requires.made.left c.in-And.a c.in-And.b c.in-And.is) (c.requires.made.right c.in-And.a c.in-And.b c.in-And.is) c.in_ok-d-in-And.ensures.answer)

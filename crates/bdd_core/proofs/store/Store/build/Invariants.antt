@@ -1,0 +1,15 @@
+use Rattle.std.proofs.Common.{◌≤◌, ◌-◌, ◌+◌}
+use Rattle.bdd_core.specs.Diagrams.{Keeps, IsWell}
+use Rattle.bdd_core.specs.Building.{AreBuilt}
+use Rattle.bdd_core.proofs.store.Store.build.Given as goal
+
+abbrev pub invariant-loop-i : goal.invariant-loop-i
+invariant-loop-i l = record {
+  within : l.i ≤ l.gate + 1;
+  kept : Keeps l.fn.self l.self;
+  well : IsWell l.self;
+  built : AreBuilt l.self l.n l.needed.items l.made.items l.i;
+}
+
+abbrev pub decreases-loop-i : goal.decreases-loop-i
+decreases-loop-i l = l.gate + 1 - l.i

@@ -1,0 +1,56 @@
+-- What an operation on diagrams answers.
+use Rattle.std.specs.Prelude.{ℕ, ◌+◌, ◌<◌, ◌≤◌, min, Bool, true, false, not, ◌&&◌, List, ◌≡◌, length, slice_get, Some}
+use Rattle.bdd_core.specs.Diagrams.{Diagrams, IsWell, at, count, dia_truth, part}
+use Rattle.bdd_core.specs.declared.results.Op.{Op}
+use Rattle.bdd_core.specs.declared.results.Op.TheVariants.{And, Not}
+use Rattle.bdd_core.specs.declared.results.Key.{Key}
+use Rattle.bdd_core.specs.declared.results.Entry.{Entry}
+use Rattle.bdd_core.specs.declared.apply.Split.{Split}
+
+-- the truth of an operation; a negation has its argument twice
+abbrev pub op_truth : Op → Bool → Bool → Bool
+op_truth And x y = x && y
+op_truth Not x y = not x
+
+-- both arguments of an operation are diagrams
+pub record IsKey (s : Diagrams) (k : Key) : Type 0 where
+  pub left : k.left < count s
+  pub right : k.right < count s
+
+-- the diagram r is what the operation answers, and no variable before those of its arguments decides it
+pub record IsAnswer (s : Diagrams) (k : Key) (r : ℕ) : Type 0 where
+  pub left : k.left < count s
+  pub right : k.right < count s
+  pub within : r < count s
+  pub top : min (at s k.left).var (at s k.right).var ≤ (at s r).var
+  pub truth_is : (v : List Bool) → length v ≡ s.vars → dia_truth s r v ≡ op_truth k.op (dia_truth s k.left v) (dia_truth s k.right v)
+
+-- each result that is remembered is right
+pub record AreAnswers (s : Diagrams) (entries : List Entry) : Type 0 where
+  pub each : (i : ℕ) (e : Entry) → slice_get entries i ≡ Some e → IsAnswer s e.key e.answer
+
+-- an operation falls into two, on the parts of its arguments under the first variable that decides one of them
+pub record IsSplit (s : Diagrams) (k : Key) (p : Split) : Type 0 where
+  pub var : p.var ≡ min (at s k.left).var (at s k.right).var
+  pub under : p.var < s.vars
+  pub low_left : p.low_left ≡ part (at s) p.var false k.left
+  pub low_right : p.low_right ≡ part (at s) p.var false k.right
+  pub high_left : p.high_left ≡ part (at s) p.var true k.left
+  pub high_right : p.high_right ≡ part (at s) p.var true k.right
+  pub low_left_in : p.low_left < count s
+  pub low_right_in : p.low_right < count s
+  pub high_left_in : p.high_left < count s
+  pub high_right_in : p.high_right < count s
+  pub low_falls : p.low_left + p.low_right < k.left + k.right
+  pub high_falls : p.high_left + p.high_right < k.left + k.right
+
+-- diagram d decides variable x between two others, or is both
+pub record IsMade (s : Diagrams) (x low high d : ℕ) : Type 0 where
+  pub within : d < count s
+  pub top : x ≤ (at s d).var
+  pub is_low : part (at s) x false d ≡ low
+  pub is_high : part (at s) x true d ≡ high
+
+-- what an operation answers at every diagrams in which its arguments are
+abbrev pub IsSettled : Key → ℕ → Type 0
+IsSettled k r = (s : Diagrams) → IsWell s → IsKey s k → IsAnswer s k r

@@ -1,0 +1,97 @@
+ghost use Rattle.std.specs.Prelude.{◌≡◌, ◌⊎◌, ◌<◌, ℕ, IfOk, IfSome, Some, length, slice_get, true};
+ghost use Rattle.bdd_core.specs.Results.{AreBlank, Holds};
+
+use std::alloc::Global;
+use y86_base::Memory;
+
+/// An operation on the truths of diagrams.
+#[derive(Clone, Copy, Debug, PartialEq, Eq)]
+pub enum Op {
+    And,
+    Not,
+}
+
+/// An operation with its arguments. A negation has its argument twice.
+#[derive(Clone, Copy, Debug)]
+pub struct Key {
+    pub op: Op,
+    pub left: u32,
+    pub right: u32,
+}
+
+/// An operation and the diagram that it answers.
+#[derive(Clone, Copy, Debug)]
+pub struct Entry {
+    pub key: Key,
+    pub answer: u32,
+}
+
+/// Whether two operations are the same.
+fn same(a: Key, b: Key) -> bool
+    ensures { result ≡ true → a ≡ b }
+{
+    let op = match (a.op, b.op) {
+        (Op::And, Op::And) | (Op::Not, Op::Not) => true,
+        _ => false,
+    };
+    op && a.left == b.left && a.right == b.right
+}
+
+/// The place of an operation among `size`.
+fn place(key: Key, size: usize) -> usize
+    requires { 0 < size }
+    ensures { result < size }
+{
+    let op = match key.op {
+        Op::And => 0,
+        Op::Not => 1,
+    };
+    let left = (key.left as u64).wrapping_mul(11_400_714_819_323_198_485);
+    let right = (key.right as u64).wrapping_mul(14_029_467_366_897_019_727);
+    let mixed = left.wrapping_add(right).wrapping_add(op);
+    (mixed >> 32) as usize % size
+}
+
+/// The result that is remembered of an operation.
+pub fn known(entries: &[Entry], key: Key) -> Option<u32>
+    ensures { IfSome result (Holds entries.now key) }
+{
+    if entries.is_empty() {
+        return None;
+    }
+    let entry = entries[place(key, entries.len())];
+    if same(entry.key, key) {
+        Some(entry.answer)
+    } else {
+        None
+    }
+}
+
+/// Remembers a result, in the place of an older one.
+pub fn remember(entries: &mut [Entry], key: Key, answer: u32)
+    ensures { (i : ℕ) (e : Entry) → slice_get entries.new i ≡ Some e →
+        (slice_get entries.old i ≡ Some e) ⊎ (e ≡ record { key = key; answer = answer }) }
+{
+    if !entries.is_empty() {
+        let at = place(key, entries.len());
+        entries[at] = Entry { key, answer };
+    }
+}
+
+/// How many results are remembered.
+pub const RESULTS: usize = 65_536;
+
+/// Places for results, in each of which stands that falsehood and falsehood is falsehood.
+pub fn blanks(alloc: Global, size: usize) -> Result<Vec<Entry>, Memory>
+    ensures { IfOk result (λ entries. AreBlank entries.items) }
+{
+    let key = Key {
+        op: Op::And,
+        left: 0,
+        right: 0,
+    };
+    match vec![in alloc; Entry { key, answer: 0 }; size] {
+        Ok(entries) => Ok(entries),
+        Err(_) => Err(Memory),
+    }
+}

@@ -1,0 +1,129 @@
+ghost use Rattle.std.specs.Prelude.{◌≡◌, ℕ, ◌+◌, ◌^◌, ◌<◌, ◌≤◌, ◌↔◌, List, Bool, [], true, length, IfOk, IfSome, MatchOption, IsTrue};
+ghost use Rattle.bdd_core.specs.Answers.{IsAnswer, IsKey, IsMade};
+ghost use Rattle.bdd_core.specs.Diagrams.{IsWell, Keeps, at, count};
+ghost use Rattle.bdd_core.specs.Meaning.{Always, IsDia, IsLeastFalse, IsNode, Stay, truth_of};
+
+use crate::nodes::{Decision, Nodes};
+use crate::results::{Entry, Key, RESULTS, blanks, known, remember};
+use std::alloc::Global;
+use std::marker::Model;
+use y86_base::Memory;
+
+/// A diagram of a store, by its number.
+#[derive(Clone, Copy, Debug, PartialEq, Eq)]
+pub struct Dia {
+    pub id: u64,
+}
+
+/// What stands at the root of a diagram.
+#[derive(Clone, Copy, Debug, PartialEq, Eq)]
+pub enum Node {
+    False,
+    True,
+    Choice { var: u32, low: Dia, high: Dia },
+}
+
+/// The diagrams of some formulas over the same variables. They share their nodes.
+#[derive(Drop)]
+pub struct Store {
+    alloc: Global,
+    nodes: Nodes,
+    results: Vec<Entry>,
+}
+
+impl Model for Store {
+    ghost use Rattle.bdd_core.specs.Diagrams.{Diagrams};
+    ghost use Rattle.bdd_core.specs.Answers.{AreAnswers};
+
+    ghost Value = { Diagrams };
+
+    ghost view = { λ s. s.nodes };
+
+    ghost invariant = { λ s. AreAnswers s.nodes s.results.items };
+}
+
+impl Store {
+    /// A store for formulas over variables 0 to `vars - 1`, in this order.
+    pub fn new(alloc: Global, vars: u32) -> Store
+        ensures vars { result.vars ≡ vars }
+        ensures none { result.nodes ≡ [] }
+    {
+        Store {
+            alloc,
+            nodes: Nodes::new(alloc, vars),
+            results: Vec::new(alloc),
+        }
+    }
+
+    /// The allocator of the store.
+    pub(crate) fn allocator(&self) -> Global {
+        self.alloc
+    }
+
+    /// Takes the places for results, where they aren't taken yet.
+    #[tactic(auto, using(crate::proofs::Applying::blank_answers, crate::proofs::Truths::keeps_self))]
+    pub(crate) fn ready(&mut self) -> Result<(), Memory>
+        ensures kept { Keeps self.old self.new }
+        ensures well { IsWell self.new }
+    {
+        let _ = self.nodes.vars();
+        if self.results.is_empty() {
+            self.results = blanks(self.alloc, RESULTS)?;
+        }
+        Ok(())
+    }
+
+    /// The number of variables; and what holds of the diagrams of every store.
+    pub(crate) fn vars(&self) -> u32
+        ensures vars { result ≡ self.now.vars }
+        ensures well { IsWell self.now }
+        ensures few { count self.now < 2 ^ 32 }
+    {
+        self.nodes.vars()
+    }
+
+    /// The node of a diagram.
+    pub(crate) fn node_of(&self, d: u32) -> Decision
+        requires { d < count self.now }
+        ensures node { result ≡ at self.now d }
+        ensures well { IsWell self.now }
+    {
+        let _ = self.nodes.vars();
+        self.nodes.node(d)
+    }
+
+    /// The diagram that decides a variable between two others.
+    #[tactic(auto, using(crate::proofs::Applying::answers_kept))]
+    pub(crate) fn make(&mut self, var: u32, low: u32, high: u32) -> Result<u32, Memory>
+        requires var { var < self.old.vars }
+        requires low { low < count self.old }
+        requires high { high < count self.old }
+        requires low_later { var < (at self.old low).var }
+        requires high_later { var < (at self.old high).var }
+        ensures kept { Keeps self.old self.new }
+        ensures well { IsWell self.new }
+        ensures made { IfOk result (IsMade self.new var low high) }
+    {
+        let _ = self.nodes.vars();
+        let d = self.nodes.make(var, low, high);
+        let _ = self.nodes.vars();
+        d
+    }
+
+    /// The result that is remembered of an operation.
+    #[tactic(auto, using(crate::proofs::Applying::recalled))]
+    pub(crate) fn recall(&self, key: Key) -> Option<u32>
+        ensures { IfSome result (IsAnswer self.now key) }
+    {
+        known(self.results.as_slice(), key)
+    }
+
+    /// Remembers a result.
+    #[tactic(auto, using(crate::proofs::Applying::remembered))]
+    pub(crate) fn keep(&mut self, key: Key, answer: u32)
+        requires { IsAnswer self.old key answer }
+        ensures { self.new ≡ self.old }
+    {
+        remember(self.results.as_mut_slice(), key, answer);
+    }
+}
