@@ -1,0 +1,3 @@
+pub mod Seq
+pub mod Invariant
+pub mod Calls

@@ -1,0 +1,10 @@
+//! The sequential datapath of CS:APP 3e, section 4.3, under the user's own HCL, one clock cycle at a time.
+#![tactic(auto)]
+
+mod laws;
+mod running;
+mod seq;
+
+pub use laws::law_of_calls;
+pub use running::run;
+pub use seq::Seq;
