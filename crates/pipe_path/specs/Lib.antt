@@ -1,0 +1,3 @@
+pub mod Pipe
+pub mod Invariant
+pub mod Calls

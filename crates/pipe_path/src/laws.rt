@@ -1,0 +1,7 @@
+ghost use Rattle.pipe_path.specs.Calls.{CallsAreTheRun};
+
+/// Calls of `cycle` on a new machine are its run: the state, the records and the end after k calls are those after k cycles.
+#[tactic(auto, using(crate::proofs::Runs::calls_are_the_run))]
+pub fn law_of_calls()
+    ensures { CallsAreTheRun }
+{}

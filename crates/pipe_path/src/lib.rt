@@ -1,0 +1,8 @@
+//! The pipelined datapath of CS:APP 3e, section 4.5, under the user's own HCL, one clock cycle at a time.
+#![tactic(auto)]
+
+mod laws;
+mod pipe;
+
+pub use laws::law_of_calls;
+pub use pipe::{Cycled, Pipe};
