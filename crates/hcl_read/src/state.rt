@@ -1,7 +1,16 @@
+ghost use Rattle.std.specs.Prelude.{◌≡◌, true, Ok, Err};
+ghost use Rattle.hcl_read.specs.Machine as machine;
+ghost use Rattle.hcl_read.specs.Steps.{Steps};
+ghost use Rattle.hcl_read.specs.declared.state.Place.TheVariants.{Between, WantQuote, WantSignal, WantSignalText, WantName, WantAssign, Body};
+
+use crate::fault::HclWhy;
 use crate::frames::Spot;
 use crate::stack::Stack;
+use crate::steps::{body_step, refusal, start_level, with_last};
 use crate::text::Text;
-use crate::tree::{Expr, Item, Kind};
+use crate::tokens::Token;
+use crate::tree::{Expr, File, Item, Kind};
+use std::alloc::Global;
 use y86_base::Items;
 
 /// Where a token of a body leads: on in the body, or to its end.
@@ -35,4 +44,158 @@ pub enum Place {
 pub struct State {
     pub items: Items<Item>,
     pub place: Place,
+}
+
+/// The state behind a place.
+fn at(items: Items<Item>, place: Place) -> State
+    ensures { result ≡ machine.state items place }
+{
+    State { items, place }
+}
+
+/// Before the first token.
+pub fn start(alloc: Global) -> State
+    ensures { result ≡ machine.start }
+{
+    at(Items::of(Vec::new(alloc)), Place::Between)
+}
+
+/// A token where an item begins.
+#[tactic(auto, unfolding(crate::specs::Machine::place_step))]
+fn begin_item(items: Items<Item>, token: Token) -> Result<State, HclWhy>
+    ensures { Steps result (machine.place_step true items Between token) }
+{
+    match token {
+        Token::KeyQuote => Ok(at(items, Place::WantQuote)),
+        Token::KeySig(kind) => Ok(at(items, Place::WantSignal(kind))),
+        Token::KeyDef(kind) => Ok(at(items, Place::WantName(kind))),
+        other => Err(refusal(other)),
+    }
+}
+
+/// A token behind `quote`.
+#[tactic(auto, unfolding(crate::specs::Machine::place_step))]
+fn quote_text(items: Items<Item>, token: Token) -> Result<State, HclWhy>
+    ensures { Steps result (machine.place_step true items WantQuote token) }
+{
+    match token {
+        Token::Quoted(text) => Ok(at(with_last(items, Item::Quote(text))?, Place::Between)),
+        other => Err(refusal(other)),
+    }
+}
+
+/// A token where a declaration has its name.
+#[tactic(auto, unfolding(crate::specs::Machine::place_step))]
+fn signal_name(items: Items<Item>, kind: Kind, token: Token) -> Result<State, HclWhy>
+    ensures { Steps result (machine.place_step true items (WantSignal kind) token) }
+{
+    match token {
+        Token::Ident(name) => Ok(at(items, Place::WantSignalText(kind, name))),
+        other => Err(refusal(other)),
+    }
+}
+
+/// A token where a declaration has its text.
+#[tactic(auto, unfolding(crate::specs::Machine::place_step))]
+fn signal_text(items: Items<Item>, kind: Kind, name: Text, token: Token) -> Result<State, HclWhy>
+    ensures { Steps result (machine.place_step true items (WantSignalText kind name) token) }
+{
+    match token {
+        Token::Quoted(text) => {
+            let declaration = Item::Decl { kind, name, text };
+            Ok(at(with_last(items, declaration)?, Place::Between))
+        }
+        other => Err(refusal(other)),
+    }
+}
+
+/// A token where a definition has its name.
+#[tactic(auto, unfolding(crate::specs::Machine::place_step))]
+fn defined_name(items: Items<Item>, kind: Kind, token: Token) -> Result<State, HclWhy>
+    ensures { Steps result (machine.place_step true items (WantName kind) token) }
+{
+    match token {
+        Token::Ident(name) => Ok(at(items, Place::WantAssign(kind, name))),
+        other => Err(refusal(other)),
+    }
+}
+
+/// A token where a definition has its `=`.
+#[tactic(auto, unfolding(crate::specs::Machine::place_step))]
+fn assign(
+    alloc: Global,
+    items: Items<Item>,
+    kind: Kind,
+    name: Text,
+    token: Token,
+) -> Result<State, HclWhy>
+    ensures { Steps result (machine.place_step true items (WantAssign kind name) token) }
+{
+    match token {
+        Token::Assign => {
+            let spot = Spot::Want(start_level(alloc));
+            Ok(at(items, Place::Body(kind, name, spot, Stack::new(alloc))))
+        }
+        other => Err(refusal(other)),
+    }
+}
+
+/// Behind a token of a body.
+#[tactic(auto, unfolding(crate::specs::Machine::moved))]
+fn moved(items: Items<Item>, kind: Kind, name: Text, to: Move) -> Result<State, HclWhy>
+    ensures { Steps result (machine.moved items kind name (Ok to)) }
+{
+    match to {
+        Move::On(spot, stack) => Ok(at(items, Place::Body(kind, name, spot, stack))),
+        Move::Ended(body) => {
+            let definition = Item::Def { kind, name, body };
+            Ok(at(with_last(items, definition)?, Place::Between))
+        }
+    }
+}
+
+/// A token of a body.
+#[tactic(auto, unfolding(crate::specs::Machine::place_step, crate::specs::Machine::moved))]
+fn body(
+    alloc: Global,
+    items: Items<Item>,
+    kind: Kind,
+    name: Text,
+    spot: Spot,
+    stack: Stack,
+    token: Token,
+) -> Result<State, HclWhy>
+    ensures { Steps result (machine.place_step true items (Body kind name spot stack) token) }
+{
+    match body_step(alloc, spot, stack, token) {
+        Ok(to) => moved(items, kind, name, to),
+        Err(why) => Err(why),
+    }
+}
+
+/// The state behind a token.
+pub fn step(alloc: Global, state: State, token: Token) -> Result<State, HclWhy>
+    ensures { Steps result (machine.step true state token) }
+{
+    let State { items, place } = state;
+    match place {
+        Place::Between => begin_item(items, token),
+        Place::WantQuote => quote_text(items, token),
+        Place::WantSignal(kind) => signal_name(items, kind, token),
+        Place::WantSignalText(kind, name) => signal_text(items, kind, name, token),
+        Place::WantName(kind) => defined_name(items, kind, token),
+        Place::WantAssign(kind, name) => assign(alloc, items, kind, name, token),
+        Place::Body(kind, name, spot, stack) => body(alloc, items, kind, name, spot, stack, token),
+    }
+}
+
+/// The file that has been read at the end of the text.
+#[tactic(auto, unfolding(crate::specs::Machine::ended))]
+pub fn ended(state: State) -> Result<File, HclWhy>
+    ensures { Steps result (machine.ended state.items state.place) }
+{
+    match state.place {
+        Place::Between => Ok(File { items: state.items }),
+        _ => Err(HclWhy::Syntax),
+    }
 }
