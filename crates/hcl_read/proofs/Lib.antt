@@ -12,3 +12,5 @@ pub mod Said
 pub mod Again
 pub mod SameNames
 pub mod Unroll
+mod Items
+mod Readings

@@ -5,3 +5,5 @@ pub mod Machine
 pub mod Print
 pub mod Tokens
 pub mod Steps
+pub mod Read
+pub mod Stops

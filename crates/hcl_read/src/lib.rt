@@ -4,8 +4,10 @@
 
 mod fault;
 mod frames;
+mod laws;
 mod names;
 mod printer;
+mod reading;
 mod scan;
 mod stack;
 mod state;
@@ -15,6 +17,7 @@ mod tokens;
 mod tree;
 
 pub use fault::{HclFault, HclWhy};
+pub use laws::law_of_tokens;
 pub use printer::print;
 pub use text::Text;
 pub use tree::{Branch, CmpOp, Expr, File, Item, Kind};
