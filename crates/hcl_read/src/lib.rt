@@ -19,5 +19,6 @@ mod tree;
 pub use fault::{HclFault, HclWhy};
 pub use laws::law_of_tokens;
 pub use printer::print;
+pub use reading::read;
 pub use text::Text;
 pub use tree::{Branch, CmpOp, Expr, File, Item, Kind};

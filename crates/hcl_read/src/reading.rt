@@ -16,6 +16,7 @@ use std::alloc::Global;
 use y86_base::Cursor;
 
 /// Where the reader stops: behind so many bytes.
+#[derive(Drop)]
 pub struct Stop {
     pub at: usize,
     pub why: HclWhy,
@@ -41,5 +42,79 @@ fn take_token(alloc: Global, state: State, names: &mut Names, token: Token) -> R
             }
         }
         Err(why) => Err(why),
+    }
+}
+
+/// Reads the tokens of a text, one after another, and stops at the first that no file can have.
+fn read_tokens(alloc: Global, bytes: &[u8]) -> Result<File, Stop>
+    ensures file { IfOk result (λ file. machine.outcome [] machine.start (tokens.tokens bytes.now) ≡ Ok file) }
+    ensures stop { IfErr result (λ stop. Stopped bytes.now stop) }
+    ensures within { IfErr result (λ stop. stop.at ≤ length bytes.now) }
+{
+    let mut rest = after_gap(bytes);
+    let mut state = start(alloc);
+    let mut names = Names::new(alloc);
+    'tokens: loop {
+        let at = bytes.len() - rest.len();
+        match token(alloc, rest) {
+            Err(_) => {
+                let why = HclWhy::Memory;
+                return Err(Stop { at, why });
+            }
+            Ok(None) => match ended(state) {
+                Ok(file) => return Ok(file),
+                Err(why) => return Err(Stop { at, why }),
+            },
+            Ok(Some((token, behind))) => match take_token(alloc, state, &mut names, token) {
+                Ok(next) => {
+                    state = next;
+                    rest = after_gap(behind);
+                }
+                Err(why) => return Err(Stop { at, why }),
+            },
+        }
+    }
+}
+
+/// The line and the column behind some bytes.
+fn place(before: &[u8]) -> (u64, u64)
+    ensures line { result.0 ≡ line_behind before.now }
+    ensures column { result.1 ≡ column_behind before.now }
+{
+    let mut cursor = Cursor::new(before);
+    'bytes: while cursor.next().is_some() {}
+    (cursor.line(), cursor.col())
+}
+
+/// The fault at a stop.
+#[tactic(auto, using(crate::proofs::Readings::told))]
+fn fault(bytes: &[u8], stop: Stop) -> HclFault
+    requires stopped { Stopped bytes.now stop }
+    requires within { stop.at ≤ length bytes.now }
+    ensures { Tells bytes.now result }
+{
+    let Stop { at, why } = stop;
+    if why == HclWhy::Memory {
+        return HclFault {
+            line: 0,
+            col: 0,
+            why,
+        };
+    }
+    let (line, col) = place(bytes.split_at(at).0);
+    HclFault { line, col, why }
+}
+
+/// Reads an HCL text (CS:APP 3e, HCL guide). The tree keeps an `||` or `&&` list as one node; parentheses make
+/// no node. Refused are more than 64 of `(`, `[`, `{` and `!` open around a token, and more than 256 different
+/// names.
+pub fn read(alloc: Global, bytes: &[u8]) -> Result<File, HclFault>
+    ensures found { IfOk result (λ file. ReadsAs bytes.now file) }
+    ensures only { (file : File) → ReadsAs bytes.now file → Gives result file }
+    ensures fault { IfErr result (λ fault. Tells bytes.now fault) }
+{
+    match read_tokens(alloc, bytes) {
+        Ok(file) => Ok(file),
+        Err(stop) => Err(fault(bytes, stop)),
     }
 }
