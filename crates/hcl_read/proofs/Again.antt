@@ -1,17 +1,15 @@
 -- What is printed is read again, as the same tree and with the same names.
-use Rattle.std.proofs.Common.{◌≡◌, ◌≤◌, ◌<◌, ◌+◌, ap, sym, subst, ◌∙◌, ℕ, zero, suc, Bool, true, false, cond, List, [], ◌∷◌, length, map, refl, inl, inr, arith, le_refl, le_trans, suc-le-suc, not-suc-le-zero, nat_lt, zero-le, le_of_lt, lit≤}
-use Rattle.std.specs.Prelude.{◌⊎◌, nat_le}
+use Rattle.std.proofs.Common.{◌≡◌, ◌≤◌, sym, subst, ℕ, zero, suc, Bool, true, false, cond, List, [], ◌∷◌, map, refl, inl, inr, arith, le_refl, le_trans, suc-le-suc, not-suc-le-zero, nat_lt, zero-le, le_of_lt, lit≤}
+use Rattle.std.specs.Prelude.{◌⊎◌}
 use Rattle.std.proofs.lemmas.Bool.Decides.{nat_tests}
 use Rattle.hcl_read.specs.declared.tree.CmpOp.{CmpOp}
 use Rattle.hcl_read.specs.declared.tree.Branch.{Branch, fold_out-Branch}
 use Rattle.hcl_read.specs.declared.tree.Expr.{Expr}
 use Rattle.hcl_read.specs.declared.tree.Expr.TheVariants as expr
 use Rattle.hcl_read.specs.declared.tree.Item.{Item}
-use Rattle.hcl_read.specs.declared.tree.Item.TheVariants as item
 use Rattle.hcl_read.specs.declared.tokens.Token.{Token}
-use Rattle.hcl_read.specs.declared.tokens.Token.TheVariants.{KeyQuote, KeySig, KeyDef, KeyIn, Ident, Number, Wide, Quoted, Assign, Semicolon, OrOr, AndAnd, Bang, Compare, OpenParen, CloseParen, OpenBrace, CloseBrace, OpenBracket, CloseBracket, Comma, Colon}
+use Rattle.hcl_read.specs.declared.tokens.Token.TheVariants.{KeyIn, Semicolon, OrOr, AndAnd, Bang, Compare, OpenParen, CloseParen, OpenBrace, CloseBrace, OpenBracket, CloseBracket, Comma, Colon}
 use Rattle.hcl_read.specs.Grammar.{or_of, and_of, branch, Room, IsExpr, OrTail, IsAnd, AndTail, IsNot, IsRel, SetTail, IsPrim, IsCase, CaseTail, IsItem, IsItems, or_list, no_or, more_or, and_list, no_and, more_and, negated, plain, alone, compared, member, no_member, more_members, a_number, a_wide_number, a_name, group, case_list, guarded, no_case, more_cases, quoted, declared, defined, no_item, more_items}
-use Rattle.hcl_read.specs.Fault.{noted, noted_all}
 use Rattle.hcl_read.proofs.Said.{Said, said_as, put_within, put_further, put_joined, put_branches, said_layer, branch_layer, said, said_branch, said_Num, said_Name, said_Not, said_And, said_Or, said_Cmp, said_In, said_Case, put_item, put_items}
 
 -- an expression of a rank is read by the nonterminal of that rank

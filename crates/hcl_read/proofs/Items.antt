@@ -1,17 +1,16 @@
 -- The tokens of a text, one after another.
-use Rattle.std.proofs.Common.{◌≡◌, ℕ, zero, suc, ◌+◌, ◌<◌, ◌≤◌, ap, sym, subst, ◌∙◌, refl, Bool, true, false, cond, List, [], ◌∷◌, ◌++◌, length, take, drop, arith, append-nil, append_assoc, length-append, le_refl}
-use Rattle.std.specs.Prelude.{◌&&◌, ◌||◌, ◌==◌, not, Option, Some, None, unwrap_or, codes, take_while, nat_eq}
+use Rattle.std.proofs.Common.{◌≡◌, ℕ, zero, suc, ◌+◌, ◌<◌, ◌≤◌, ap, sym, ◌∙◌, refl, Bool, true, false, cond, List, [], ◌∷◌, ◌++◌, length, take, drop, arith, append-nil, append_assoc, length-append, le_refl}
+use Rattle.std.specs.Prelude.{◌&&◌, ◌||◌, ◌==◌, not, Option, Some, None, unwrap_or, take_while, nat_eq}
 use Rattle.std.specs.List.{prefix_len, starts_with}
 use Rattle.std.proofs.lemmas.List.{take-append-drop}
-use Rattle.std.proofs.lemmas.Bool.{false≢true}
-use Rattle.y86_base.specs.Text.{begins, behind, is_blank, is_letter, is_line_feed, is_name_byte}
+use Rattle.y86_base.specs.Text.{behind, is_blank, is_letter, is_line_feed, is_name_byte}
 use Rattle.y86_base.specs.Keyword.{keyword_at}
 use Rattle.y86_base.specs.Number.{decimal_at, sign_of}
 use Rattle.y86_base.specs.declared.number.Number.{Number as Written}
 use Rattle.y86_base.proofs.Decimals.{decimal_found}
 use Rattle.hcl_read.specs.declared.tokens.Token.{Token}
 use Rattle.hcl_read.specs.declared.tokens.Token.TheVariants.{Quoted}
-use Rattle.hcl_read.specs.Tokens.{is_quoted, is_closed, skipped, long_symbols, short_symbols, stray, word, in_range, number_or, symbol_or_stray, token, items_in, items}
+use Rattle.hcl_read.specs.Tokens.{is_quoted, is_closed, skipped, long_symbols, short_symbols, stray, word, number_or, symbol_or_stray, token, items_in, items}
 
 -- a text ends with another
 abbrev pub Ends : List ℕ → List ℕ → Type 0

@@ -1,12 +1,12 @@
 -- The names that were met, as the keys of a set.
-use Rattle.std.proofs.Common.{◌≡◌, ap, ℕ, ◌<◌, ◌≤◌, Bool, List, [], ◌∷◌, ◌++◌, map, refl, sym, ◌∙◌, true, false, length, arith}
-use Rattle.std.specs.Prelude.{Vec, nat_eq, nat_le, ◌||◌}
+use Rattle.std.proofs.Common.{◌≡◌, ap, ℕ, List, [], ◌∷◌, ◌++◌, map, refl, ◌∙◌, false}
+use Rattle.std.specs.Prelude.{Vec, nat_eq, ◌||◌}
 use Rattle.std.specs.List.{list_any}
 use Rattle.std.specs.Cmp.Lexicographic.{pointwise}
-use Rattle.std.proofs.lemmas.List.{map-append, length-map}
+use Rattle.std.proofs.lemmas.List.{map-append}
 use Rattle.indexmap.specs.IndexSet.{insert_key}
 use Rattle.hcl_read.specs.declared.tokens.Token.{Token}
-use Rattle.hcl_read.specs.declared.tokens.Token.TheVariants.{Ident, KeyQuote}
+use Rattle.hcl_read.specs.declared.tokens.Token.TheVariants.{Ident}
 use Rattle.hcl_read.specs.Fault.{noted}
 
 module _ {A : Type 0} where

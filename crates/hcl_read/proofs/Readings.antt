@@ -1,5 +1,5 @@
 -- The reader's loop follows the machine.
-use Rattle.std.proofs.Common.{◌≡◌, ℕ, ◌-◌, ◌<◌, ◌≤◌, ap, sym, subst, ◌∙◌, refl, Bool, true, false, List, [], ◌∷◌, ◌++◌, length, take, Result, Ok, Err, Some, inl, inr, arith, append_assoc, length-append}
+use Rattle.std.proofs.Common.{◌≡◌, ℕ, ◌-◌, ◌<◌, ◌≤◌, ap, sym, subst, ◌∙◌, refl, true, false, List, [], ◌∷◌, ◌++◌, length, take, Ok, Err, Some, inl, inr, arith, append_assoc, length-append}
 use Rattle.std.specs.Prelude.{nat_le}
 use Rattle.std.proofs.lemmas.Bool.Decides.{nat_tests}
 use Rattle.std.proofs.lemmas.List.{append_cancel_right, map-append, take_at}
@@ -14,7 +14,7 @@ use Rattle.hcl_read.specs.declared.tree.File.{File}
 use Rattle.hcl_read.specs.Fault.{Accepts, FaultAt, noted}
 use Rattle.hcl_read.specs.Machine.{Outcome, at_end, ended, outcome, outcome_at, start, step}
 use Rattle.hcl_read.specs.Read.{Gives, ReadsAs, Tells, bytes_from, kinds}
-use Rattle.hcl_read.specs.Steps.{Steps, Refuses}
+use Rattle.hcl_read.specs.Steps.{Refuses}
 use Rattle.hcl_read.specs.Stops.{Halts, Refused, Stopped, Takes}
 use Rattle.hcl_read.specs.Tokens.{front, items, skipped, token, tokens}
 use Rattle.hcl_read.proofs.Exact.{Answers, accepts, answers, no_fault}
