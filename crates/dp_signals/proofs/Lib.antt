@@ -4,3 +4,4 @@ pub mod RowByRow
 pub mod SeqRules
 pub mod PipeRules
 pub mod SeqCycles
+pub mod SeqRows
