@@ -25,3 +25,12 @@ pub each_in : {A : Type 0} (P : A → Type 0) (xs : List A) (x : A) → Each P x
 each_in P [] x h i = absurd i
 each_in P (y ∷ ys) x h (inl e) = subst P (sym e) h.0
 each_in P (y ∷ ys) x h (inr i) = each_in P ys x h.1 i
+
+pub each_both : {A : Type 0} (P : A → Type 0) (xs ys : List A) → Each P xs → Each P ys → Each P (xs ++ ys)
+each_both P [] ys p q = q
+each_both P (x ∷ xs) ys p q = (p.0, each_both P xs ys p.1 q)
+
+-- and the converse of each_joined
+pub each_joins : {A : Type 0} (P : ℕ → Type 0) (f : A → List ℕ) (xs : List A) → Each (λ x. Each P (f x)) xs → Each P (joined (map f xs))
+each_joins P f [] h = tt
+each_joins P f (x ∷ xs) h = each_both P (f x) (joined (map f xs)) h.0 (each_joins P f xs h.1)

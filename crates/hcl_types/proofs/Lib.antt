@@ -4,3 +4,7 @@ pub mod Each
 pub mod Related
 pub mod Orders
 pub mod Stores
+pub mod Naming
+pub mod Bound
+pub mod TermsOf
+pub mod Designs

@@ -38,6 +38,9 @@ module _ {A : Type 0} (m : Meaning A) (env : ℕ → A) where
   pub value_branch : (b : TermBranch) → branch_value m env b ≡ (value m env b.guard, value m env b.value)
   value_branch b = fold-roll-TermBranch A (A × A) (layer m env) pair (record { guard = b.guard; value = b.value })
 
+pub names_Num : (n : ℕ) → names (Num n) ≡ []
+names_Num n = ap names (sym (rolls-Num n)) ∙ fold-roll-Term (List ℕ) (List ℕ) names_in_layer names_in_branch (Term-F.Num n)
+
 pub names_Name : (id : ℕ) → names (Name id) ≡ id ∷ []
 names_Name id = ap names (sym (rolls-Name id)) ∙ fold-roll-Term (List ℕ) (List ℕ) names_in_layer names_in_branch (Term-F.Name id)
 

@@ -4,15 +4,11 @@ use Rattle.hcl_types.specs.declared.term.Term.{Term}
 use Rattle.hcl_types.specs.declared.term.TermBranch.{TermBranch}
 use Rattle.hcl_types.specs.declared.term.Term.TheOpen.{Term-F, TermBranch-F}
 use Rattle.hcl_types.specs.declared.term.Term.TheFolds.{fold-Term, fold-TermBranch}
+use Rattle.hcl_types.specs.declared.kinds.Kinds.{Kinds}
 use Rattle.hcl_types.specs.declared.table.Class.{Class}
 use Rattle.hcl_types.specs.declared.table.Class.TheVariants as class
 use Rattle.hcl_types.specs.declared.table.Row.{Row}
 use Rattle.hcl_types.specs.Lists.{each}
-
--- where a term may stand
-pub record Kinds : Type 0 where
-  pub word : Bool
-  pub truth : Bool
 
 -- a Boolean signal is a Boolean alone, each other name a word alone, also a constant 0 or 1
 abbrev pub is_truth : Class → Bool

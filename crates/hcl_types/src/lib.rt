@@ -2,14 +2,21 @@
 //! tables, the equations of a cycle and their order.
 #![tactic(auto)]
 
+mod bind;
+mod bind_term;
 mod eval;
+mod fault;
+mod kinds;
 mod names;
+mod places;
 mod table;
 mod term;
 mod value;
 
 pub use eval::{Plain, SignalEval};
+pub use fault::{BindFault, BindWhy};
 pub use hcl_read::{CmpOp, Kind, Text};
+pub use kinds::{Kinds, kinds_of};
 pub use names::put_names;
 pub use table::{Class, Design, Order, Role, Row, Table};
 pub use term::{NameId, Term, TermBranch};

@@ -1,0 +1,266 @@
+//! Binding of a file to a table.
+ghost use Rattle.std.specs.Prelude.{◌≡◌, ◌≢◌, ◌<◌, ◌^◌, [], IfErr, IfOk, length, slice_get};
+ghost use Rattle.hcl_types.specs.Binding.{Gives, bound, declared, defined_as, is_of, of_kind, place, row_named};
+ghost use Rattle.hcl_types.specs.BindSteps as steps;
+ghost use Rattle.hcl_types.specs.Lists.{IsApart};
+ghost use Rattle.hcl_types.specs.Tables.{IsSound, row_names};
+ghost use Rattle.hcl_types.specs.Tables as tables;
+ghost use Rattle.hcl_types.specs.declared.fault.BindWhy.TheVariants.{Memory as OutOfMemory};
+
+use crate::bind_term::bind_term;
+use crate::fault::{BindFault, BindWhy};
+use crate::kinds::{can_be, is_boolean};
+use crate::places::Places;
+use crate::table::{Class, Design, Role, Row, Table};
+use crate::term::{NameId, Term};
+use hcl_read::{Expr, File, Item, Kind, Text};
+use std::alloc::{AllocError, Global};
+use y86_base::Items;
+
+/// Whether a signal of the kind can be of the class.
+fn fits(kind: Kind, class: Class) -> bool
+    ensures { result ≡ is_of kind class }
+{
+    match kind {
+        Kind::Word => !is_boolean(class),
+        Kind::Bool => is_boolean(class),
+    }
+}
+
+/// Whether a file must define the row.
+fn is_defined(role: &Role) -> bool
+    ensures { result ≡ tables.is_defined role.now }
+{
+    match role {
+        Role::Constant(_) => false,
+        Role::State => false,
+        Role::Hardware(_) => false,
+        Role::Defined => true,
+    }
+}
+
+/// Whether a row has its term.
+fn is_taken(bodies: &[Option<Term>], id: NameId) -> bool
+    ensures { result ≡ steps.is_taken (slice_get bodies.now id) }
+{
+    match bodies.get(id as usize) {
+        Some(Some(_)) => true,
+        Some(None) => false,
+        None => false,
+    }
+}
+
+/// A declaration of a name.
+fn declare(
+    alloc: Global,
+    rows: &[Row],
+    places: &Places,
+    kind: Kind,
+    name: &Text,
+) -> Result<(), BindFault>
+    requires { places.now ≡ row_names rows.now }
+    ensures { Gives result (declared (row_named rows.now name.now) kind name.now) }
+{
+    let Some(id) = places.find(name.bytes()) else {
+        return Err(BindFault::of(alloc, BindWhy::Unknown, name));
+    };
+    match rows.get(id as usize) {
+        None => Err(BindFault::of(alloc, BindWhy::Unknown, name)),
+        Some(row) => {
+            if fits(kind, row.class) {
+                Ok(())
+            } else {
+                Err(BindFault::of(alloc, BindWhy::KindMismatch, name))
+            }
+        }
+    }
+}
+
+/// The term by which a file defines a row. `before`: whether the row has its term.
+fn define(
+    alloc: Global,
+    rows: &[Row],
+    places: &Places,
+    before: bool,
+    row: &Row,
+    kind: Kind,
+    name: &Text,
+    body: &Expr,
+) -> Result<Term, BindFault>
+    requires { places.now ≡ row_names rows.now }
+    ensures { Gives result (defined_as rows.now before (Some row.now) kind name.now body.now) }
+{
+    if !is_defined(&row.role) {
+        return Err(BindFault::of(alloc, BindWhy::Redefines, name));
+    }
+    if before {
+        return Err(BindFault::of(alloc, BindWhy::Twice, name));
+    }
+    let t = bind_term(alloc, places, body)?;
+    if fits(kind, row.class) && can_be(rows, row.class, &t) {
+        Ok(t)
+    } else {
+        Err(BindFault::of(alloc, BindWhy::KindMismatch, name))
+    }
+}
+
+/// Puts the term of a definition in the place of its row.
+fn put_definition(
+    alloc: Global,
+    rows: &[Row],
+    places: &Places,
+    bodies: &mut Vec<Option<Term>>,
+    kind: Kind,
+    name: &Text,
+    body: &Expr,
+) -> Result<(), BindFault>
+    requires places { places.now ≡ row_names rows.now }
+    requires whole { length bodies.old.items ≡ length rows.now }
+    ensures { steps.Leaves result bodies.new.items (steps.put_definition rows.now bodies.old.items (place places.now name.now) kind name.now body.now) }
+{
+    let Some(id) = places.find(name.bytes()) else {
+        return Err(BindFault::of(alloc, BindWhy::Unknown, name));
+    };
+    let before = is_taken(bodies, id);
+    match rows.get(id as usize) {
+        None => Err(BindFault::of(alloc, BindWhy::Unknown, name)),
+        Some(row) => {
+            let t = define(alloc, rows, places, before, row, kind, name, body)?;
+            bodies[id as usize] = Some(t);
+            Ok(())
+        }
+    }
+}
+
+/// Puts an item: a definition into the place of its row; a declaration is looked at alone.
+fn put_item(
+    alloc: Global,
+    rows: &[Row],
+    places: &Places,
+    bodies: &mut Vec<Option<Term>>,
+    item: &Item,
+) -> Result<(), BindFault>
+    requires places { places.now ≡ row_names rows.now }
+    requires whole { length bodies.old.items ≡ length rows.now }
+    ensures { steps.Leaves result bodies.new.items (steps.put_item rows.now bodies.old.items item.now) }
+{
+    match item {
+        Item::Quote(_) => Ok(()),
+        Item::Decl {
+            kind,
+            name,
+            text: _,
+        } => declare(alloc, rows, places, *kind, name),
+        Item::Def { kind, name, body } => {
+            put_definition(alloc, rows, places, bodies, *kind, name, body)
+        }
+    }
+}
+
+/// Puts the items in text order, up to the first fault.
+fn put_items(
+    alloc: Global,
+    rows: &[Row],
+    places: &Places,
+    bodies: &mut Vec<Option<Term>>,
+    items: &[Item],
+) -> Result<(), BindFault>
+    requires places { places.now ≡ row_names rows.now }
+    requires whole { length bodies.old.items ≡ length rows.now }
+    ensures { steps.Leaves result bodies.new.items (steps.put_items rows.now bodies.old.items items.now) }
+{
+    for item in items {
+        match put_item(alloc, rows, places, bodies, item) {
+            Ok(()) => {}
+            Err(e) => return Err(e),
+        }
+    }
+    Ok(())
+}
+
+/// A place for the term of each row.
+fn no_terms(alloc: Global, rows: &[Row]) -> Result<Vec<Option<Term>>, AllocError>
+    ensures { IfOk result (λ bodies. bodies.items ≡ steps.no_terms rows.now) }
+{
+    let mut bodies = Vec::new(alloc);
+    for _ in rows {
+        bodies.push(None)?;
+    }
+    Ok(bodies)
+}
+
+/// Adds the term of a row that is to be defined.
+fn put_row(
+    alloc: Global,
+    terms: &mut Vec<Term>,
+    row: &Row,
+    body: Option<Term>,
+) -> Result<(), BindFault>
+    ensures { steps.Leaves result terms.new.items (steps.put_row terms.old.items row.now body) }
+{
+    if !is_defined(&row.role) {
+        return Ok(());
+    }
+    match body {
+        None => Err(BindFault::of(alloc, BindWhy::Missing, &row.name)),
+        Some(t) => match terms.push(t) {
+            Ok(()) => Ok(()),
+            Err(_) => Err(BindFault::memory(alloc)),
+        },
+    }
+}
+
+/// The terms of the rows that are to be defined, in table order.
+fn put_rows(
+    alloc: Global,
+    rows: &[Row],
+    bodies: Vec<Option<Term>>,
+) -> Result<Items<Term>, BindFault>
+    ensures { Gives result (steps.put_rows [] rows.now bodies.items) }
+{
+    let mut terms = Vec::new(alloc);
+    let mut left = bodies.into_iter();
+    for row in rows {
+        match left.next() {
+            None => return Ok(Items::of(terms)),
+            Some(body) => put_row(alloc, &mut terms, row, body)?,
+        }
+    }
+    Ok(Items::of(terms))
+}
+
+/// The terms of the rows that are to be defined, in table order, by the definitions among the items.
+#[tactic(auto, unfolding(crate::specs::BindSteps::bound_in_steps))]
+fn bind_items(alloc: Global, rows: &[Row], items: &[Item]) -> Result<Items<Term>, BindFault>
+    requires few { length rows.now < 2 ^ 32 }
+    requires apart { IsApart (row_names rows.now) }
+    ensures { Gives result (steps.bound_in_steps rows.now items.now) }
+{
+    match Places::of(alloc, rows) {
+        Err(_) => Err(BindFault::memory(alloc)),
+        Ok(places) => match no_terms(alloc, rows) {
+            Err(_) => Err(BindFault::memory(alloc)),
+            Ok(mut bodies) => {
+                put_items(alloc, rows, &places, &mut bodies, items)?;
+                put_rows(alloc, rows, bodies)
+            }
+        },
+    }
+}
+
+/// Binds a file to a table: the design, or the first fault in text order. Of several faults of one item the first
+/// counts of: its own name is unknown, it redefines, it is the second, a name in its body is unknown, a kind is
+/// wrong. That a definition is missing is told only where nothing else is wrong, of the first such row. The time
+/// is linear in the text.
+///
+/// Errors: each `BindWhy`, with the name that it is about.
+pub fn bind(alloc: Global, f: &File, t: &Table) -> Result<Design, BindFault>
+    requires { IsSound t.now.rows }
+    ensures design { IfOk result (λ d. bound t.now.rows f.now.items ≡ Ok d.terms) }
+    ensures fault { IfErr result (λ e. e.why ≢ OutOfMemory → bound t.now.rows f.now.items ≡ Err e) }
+{
+    match bind_items(alloc, t.rows.items(), f.items.items()) {
+        Ok(terms) => Ok(Design { terms }),
+        Err(e) => Err(e),
+    }
+}
