@@ -25,15 +25,16 @@ use Rattle.hcl_types.proofs.TermsOf.{WhereOk, each_ok, term_inside}
 
 filtered_at : {A : Type 0} (p : A → Bool) (xs : List A) (k : ℕ) (x : A) → slice_get (filter p xs) k ≡ Some x → (n : ℕ) × (slice_get xs n ≡ Some x)
 filtered_at p [] k x e = absurd (grind (arith, e))
-filtered_at p (y ∷ ys) k x e = by (p y) refl k e
+filtered_at {A} p (y ∷ ys) k x e = by (λ j q. filtered_at p ys j x q) (p y) refl k e
   where
-    by : (b : Bool) → p y ≡ b → (k : ℕ) → slice_get (cond (p y) (y ∷ filter p ys) (filter p ys)) k ≡ Some x → (n : ℕ) × (slice_get (y ∷ ys) n ≡ Some x)
-    by true t zero q = (0, subst (λ b. slice_get (cond b (y ∷ filter p ys) (filter p ys)) 0 ≡ Some x) t q)
-    by true t (suc k) q =
-      let rest = filtered_at p ys k x (subst (λ b. slice_get (cond b (y ∷ filter p ys) (filter p ys)) (suc k) ≡ Some x) t q) in
+    by : ((j : ℕ) → slice_get (filter p ys) j ≡ Some x → (n : ℕ) × (slice_get ys n ≡ Some x)) →
+      (b : Bool) → p y ≡ b → (k : ℕ) → slice_get (cond (p y) (y ∷ filter p ys) (filter p ys)) k ≡ Some x → (n : ℕ) × (slice_get (y ∷ ys) n ≡ Some x)
+    by go true t zero q = (0, subst (λ b. slice_get (cond b (y ∷ filter p ys) (filter p ys)) 0 ≡ Some x) t q)
+    by go true t (suc k) q =
+      let rest = go k (subst (λ b. slice_get (cond b (y ∷ filter p ys) (filter p ys)) (suc k) ≡ Some x) t q) in
       (suc rest.0, rest.1)
-    by false f k q =
-      let rest = filtered_at p ys k x (subst (λ b. slice_get (cond b (y ∷ filter p ys) (filter p ys)) k ≡ Some x) f q) in
+    by go false f k q =
+      let rest = go k (subst (λ b. slice_get (cond b (y ∷ filter p ys) (filter p ys)) k ≡ Some x) f q) in
       (suc rest.0, rest.1)
 
 ok_at : {A B : Type 0} (f : A → Result B BindFault) (xs : List A) (ys : List B) → all_ok (map f xs) ≡ Ok ys →

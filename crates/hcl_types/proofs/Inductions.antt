@@ -10,7 +10,7 @@ use Rattle.hcl_types.specs.declared.term.Term.TheVariants.{Num, Name, Not, And, 
 use Rattle.hcl_types.specs.Lists.{Each}
 
 -- what holds beside each element holds of each element
-each_beside : {A : Type 0} {P : A → Type 0} (es : List ((x : A) × P x)) → Each P (map (λ (e : (x : A) × P x). e.0) es)
+pub each_beside : {A : Type 0} {P : A → Type 0} (es : List ((x : A) × P x)) → Each P (map (λ (e : (x : A) × P x). e.0) es)
 each_beside [] = tt
 each_beside (e ∷ es) = (e.1, each_beside es)
 

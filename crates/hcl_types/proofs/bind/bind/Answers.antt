@@ -1,5 +1,6 @@
 use Rattle.std.proofs.Common.{Ok, Err}
 use Rattle.hcl_types.proofs.Bound.{as_bound}
+use Rattle.hcl_types.proofs.Designs.{design_bound}
 use Rattle.hcl_types.proofs.bind.bind.Goals as goal
 
 pub returns-in-Err-clause-fault : goal.returns-in-Err-clause-fault
@@ -9,3 +10,8 @@ returns-in-Err-clause-fault c = λ told.
 pub returns-in-Ok-clause-design : goal.returns-in-Ok-clause-design
 returns-in-Ok-clause-design c =
     as_bound c.args.t.now.rows c.items.result.now c.args.f.now.items c.items-2.result.now c.items.ensures c.items-2.ensures c.requires.apart (Ok c.in-Ok.terms) c.in-Ok.ensures
+
+pub returns-in-Ok-clause-belongs : goal.returns-in-Ok-clause-belongs
+returns-in-Ok-clause-belongs c =
+    design_bound c.args.t.now.rows c.requires.apart c.args.f.now.items c.in-Ok.terms
+      (as_bound c.args.t.now.rows c.items.result.now c.args.f.now.items c.items-2.result.now c.items.ensures c.items-2.ensures c.requires.apart (Ok c.in-Ok.terms) c.in-Ok.ensures)
