@@ -8,7 +8,7 @@ use Rattle.std.specs.List.{list_any, position_or_len}
 use Rattle.std.specs.Cmp.Lexicographic.{pointwise, bytes_decides}
 use Rattle.indexmap.specs.IndexSet.{insert_key}
 use Rattle.hcl_types.specs.declared.table.Row.{Row}
-use Rattle.hcl_types.specs.Lists.{Each, IsIn, IsApart}
+use Rattle.hcl_types.specs.Lists.{IsIn, IsApart}
 use Rattle.hcl_types.specs.Places.{bytes_of}
 use Rattle.hcl_types.specs.Tables.{row_names}
 
@@ -26,7 +26,7 @@ is_in_get (y ∷ ys) (suc i) x h e = inr (is_in_get ys i x (omega (arith, h)) e)
 
 -- a name stands nowhere before its place
 absent : (names : List (List ℕ)) (i : ℕ) (name : List ℕ) → i < length names → name ≡ get_or names i name → IsApart names →
-  list_any (pointwise nat_eq name) (take i names) ≡ false
+    list_any (pointwise nat_eq name) (take i names) ≡ false
 absent [] i name h e a = absurd (omega (arith, h))
 absent (x ∷ xs) zero name h e a = refl
 absent (x ∷ xs) (suc i) name h e a = by (absent xs i name (omega (arith, h)) e a.1) (pointwise nat_eq name x) refl
@@ -51,15 +51,15 @@ get_of_map f (y ∷ ys) (suc i) x = get_of_map f ys i x
 
 -- the keys once the name of the next row was inserted
 pub one_more : {V : Type 0} (keys : List (Vec ℕ V)) (key : Vec ℕ V) (rows : List Row) (i : ℕ) (row : Row) → i < length rows → row ≡ get_or rows i row →
-  key.items ≡ row.name → map bytes_of keys ≡ row_names (take i rows) → IsApart (row_names rows) →
-  map bytes_of (insert_key (λ a b. pointwise nat_eq a.items b.items) keys key) ≡ row_names (take (i + 1) rows)
+    key.items ≡ row.name → map bytes_of keys ≡ row_names (take i rows) → IsApart (row_names rows) →
+    map bytes_of (insert_key (λ a b. pointwise nat_eq a.items b.items) keys key) ≡ row_names (take (i + 1) rows)
 one_more keys key rows i row h e name before apart =
-  let here : row.name ≡ get_or (row_names rows) i row.name = ap (λ (r : Row). r.name) e ∙ get_of_map (λ (r : Row). r.name) rows i row in
-  let inside : i < length (row_names rows) = subst (λ n. i < n) (sym (length-map rows (λ (r : Row). r.name))) h in
-  let new : list_any (λ other. pointwise nat_eq key.items other.items) keys ≡ false =
+    let here : row.name ≡ get_or (row_names rows) i row.name = ap (λ (r : Row). r.name) e ∙ get_of_map (λ (r : Row). r.name) rows i row in
+    let inside : i < length (row_names rows) = subst (λ n. i < n) (sym (length-map rows (λ (r : Row). r.name))) h in
+    let new : list_any (λ other. pointwise nat_eq key.items other.items) keys ≡ false =
     any_of_map bytes_of (pointwise nat_eq key.items) keys ∙ ap (list_any (pointwise nat_eq key.items)) (before ∙ map_take (λ (r : Row). r.name) i rows)
     ∙ ap (λ n. list_any (pointwise nat_eq n) (take i (row_names rows))) name ∙ absent (row_names rows) i row.name inside here apart in
-  rw new (map-append bytes_of keys (key ∷ []) ∙ ap (λ xs. xs ++ key.items ∷ []) before ∙ ap (λ n. row_names (take i rows) ++ n ∷ []) name
+    rw new (map-append bytes_of keys (key ∷ []) ∙ ap (λ xs. xs ++ key.items ∷ []) before ∙ ap (λ n. row_names (take i rows) ++ n ∷ []) name
     ∙ ap (λ (r : Row). row_names (take i rows) ++ r.name ∷ []) e
     ∙ sym (map-append (λ (r : Row). r.name) (take i rows) (get_or rows i row ∷ []))
     ∙ ap row_names (sym (take-suc rows i row h) ∙ ap (λ k. take k rows) (sym (add-one i))))

@@ -1,5 +1,5 @@
 -- The term of an expression: each name in it is a row.
-use Rattle.std.proofs.Common.{◌≡◌, ℕ, ◌<◌, Bool, true, false, cond, List, [], ◌∷◌, ◌++◌, map, length, position, Option, Some, None, Result, Ok, Err, refl, sym, ap, ◌∙◌, subst, nat_eq, nat_lt, arith}
+use Rattle.std.proofs.Common.{◌≡◌, ℕ, ◌<◌, Bool, true, false, cond, List, [], ◌∷◌, map, length, Option, Some, None, Result, Ok, Err, refl, sym, subst, nat_eq, nat_lt, arith}
 use Rattle.std.proofs.lemmas.Bool.Decides.{nat_tests}
 use Rattle.std.specs.List.{position_or_len}
 use Rattle.std.specs.Cmp.Lexicographic.{pointwise}
@@ -33,15 +33,15 @@ pub each_ok : {A B : Type 0} (P : B → Type 0) (f : A → Result B BindFault) (
 each_ok P f [] h = tt
 each_ok P f (x ∷ xs) h =
     then_ok P (Each P) (λ y. and_then (all_ok (map f xs)) (λ ys. Ok (y ∷ ys)))
-      (λ y p. then_ok (Each P) (Each P) (λ ys. Ok (y ∷ ys)) (λ ys q. (p, q)) (all_ok (map f xs)) (each_ok P f xs h.1)) (f x) h.0
+    (λ y p. then_ok (Each P) (Each P) (λ ys. Ok (y ∷ ys)) (λ ys q. (p, q)) (all_ok (map f xs)) (each_ok P f xs h.1)) (f x) h.0
 
 found_inside : (name : List ℕ) (rows : List (List ℕ)) (id : ℕ) → place rows name ≡ Some id → id < length rows
 found_inside name rows id e = by (nat_lt (position_or_len (pointwise nat_eq name) rows) (length rows)) refl e
   where
     by : (b : Bool) → nat_lt (position_or_len (pointwise nat_eq name) rows) (length rows) ≡ b → cond b (Some (position_or_len (pointwise nat_eq name) rows)) None ≡ Some id → id < length rows
     by true h q =
-      let same : position_or_len (pointwise nat_eq name) rows ≡ id = grind (arith, q) in
-      subst (λ k. k < length rows) same (grind (arith, nat_tests, h))
+        let same : position_or_len (pointwise nat_eq name) rows ≡ id = grind (arith, q) in
+        subst (λ k. k < length rows) same (grind (arith, nat_tests, h))
     by false h q = absurd (grind (arith, q))
 
 module _ (rows : List (List ℕ)) where
@@ -65,47 +65,47 @@ module _ (rows : List (List ℕ)) where
   binary op t u p q = subst (Each (λ id. id < length rows)) (sym (names_Cmp op t u)) (each_both (λ id. id < length rows) (names t) (names u) p q)
 
   layer_inside : (y : Expr-F ((e : Expr) × P e) ((b : Branch) × Q b)) →
-    WhereOk Inside (term_layer rows (map-Expr Expr Branch (Result Term BindFault) (Result TermBranch BindFault) (term_of rows) (branch_of rows)
+      WhereOk Inside (term_layer rows (map-Expr Expr Branch (Result Term BindFault) (Result TermBranch BindFault) (term_of rows) (branch_of rows)
       (map-Expr ((e : Expr) × P e) ((b : Branch) × Q b) Expr Branch (λ e. e.0) (λ e. e.0) y)))
   layer_inside (Expr-F.Num n) = subst (Each (λ id. id < length rows)) (sym (names_Num n)) tt
   layer_inside (Expr-F.Name name) = name_inside name (place rows name) refl
   layer_inside (Expr-F.Not x) =
-    then_ok Inside Inside (λ t. Ok (term.Not t)) (λ t p. subst (Each (λ id. id < length rows)) (sym (names_Not t)) p) (term_of rows x.0) x.1
+      then_ok Inside Inside (λ t. Ok (term.Not t)) (λ t p. subst (Each (λ id. id < length rows)) (sym (names_Not t)) p) (term_of rows x.0) x.1
   layer_inside (Expr-F.And xs) =
-    then_ok (Each Inside) Inside (λ ts. Ok (term.And ts)) (λ ts p. subst (Each (λ id. id < length rows)) (sym (names_And ts)) (each_joins (λ id. id < length rows) names ts p))
+      then_ok (Each Inside) Inside (λ ts. Ok (term.And ts)) (λ ts p. subst (Each (λ id. id < length rows)) (sym (names_And ts)) (each_joins (λ id. id < length rows) names ts p))
       (all_ok (map (term_of rows) (map (λ (e : (e : Expr) × P e). e.0) xs))) (each_ok Inside (term_of rows) (map (λ (e : (e : Expr) × P e). e.0) xs) (each_beside {P = P} xs))
   layer_inside (Expr-F.Or xs) =
-    then_ok (Each Inside) Inside (λ ts. Ok (term.Or ts)) (λ ts p. subst (Each (λ id. id < length rows)) (sym (names_Or ts)) (each_joins (λ id. id < length rows) names ts p))
+      then_ok (Each Inside) Inside (λ ts. Ok (term.Or ts)) (λ ts p. subst (Each (λ id. id < length rows)) (sym (names_Or ts)) (each_joins (λ id. id < length rows) names ts p))
       (all_ok (map (term_of rows) (map (λ (e : (e : Expr) × P e). e.0) xs))) (each_ok Inside (term_of rows) (map (λ (e : (e : Expr) × P e). e.0) xs) (each_beside {P = P} xs))
   layer_inside (Expr-F.Cmp op x y) =
-    then_ok Inside Inside (λ t. and_then (term_of rows y.0) (λ u. Ok (term.Cmp op t u)))
+      then_ok Inside Inside (λ t. and_then (term_of rows y.0) (λ u. Ok (term.Cmp op t u)))
       (λ t p. then_ok Inside Inside (λ u. Ok (term.Cmp op t u)) (λ u q. binary op t u p q) (term_of rows y.0) y.1) (term_of rows x.0) x.1
   layer_inside (Expr-F.In x ys) =
-    then_ok Inside Inside (λ t. and_then (all_ok (map (term_of rows) (map (λ (e : (e : Expr) × P e). e.0) ys))) (λ us. Ok (term.In t us)))
+      then_ok Inside Inside (λ t. and_then (all_ok (map (term_of rows) (map (λ (e : (e : Expr) × P e). e.0) ys))) (λ us. Ok (term.In t us)))
       (λ t p. then_ok (Each Inside) Inside (λ us. Ok (term.In t us))
-        (λ us q. subst (Each (λ id. id < length rows)) (sym (names_In t us)) (each_both (λ id. id < length rows) (names t) (joined (map names us)) p (each_joins (λ id. id < length rows) names us q)))
-        (all_ok (map (term_of rows) (map (λ (e : (e : Expr) × P e). e.0) ys))) (each_ok Inside (term_of rows) (map (λ (e : (e : Expr) × P e). e.0) ys) (each_beside {P = P} ys)))
+      (λ us q. subst (Each (λ id. id < length rows)) (sym (names_In t us)) (each_both (λ id. id < length rows) (names t) (joined (map names us)) p (each_joins (λ id. id < length rows) names us q)))
+      (all_ok (map (term_of rows) (map (λ (e : (e : Expr) × P e). e.0) ys))) (each_ok Inside (term_of rows) (map (λ (e : (e : Expr) × P e). e.0) ys) (each_beside {P = P} ys)))
       (term_of rows x.0) x.1
   layer_inside (Expr-F.Case bs) =
-    then_ok (Each InsideBranch) Inside (λ ts. Ok (term.Case ts)) (λ ts p. subst (Each (λ id. id < length rows)) (sym (names_Case ts)) (each_joins (λ id. id < length rows) branch_names ts p))
+      then_ok (Each InsideBranch) Inside (λ ts. Ok (term.Case ts)) (λ ts p. subst (Each (λ id. id < length rows)) (sym (names_Case ts)) (each_joins (λ id. id < length rows) branch_names ts p))
       (all_ok (map (branch_of rows) (map (λ (e : (b : Branch) × Q b). e.0) bs))) (each_ok InsideBranch (branch_of rows) (map (λ (e : (b : Branch) × Q b). e.0) bs) (each_beside {P = Q} bs))
 
   branch_inside : (y : Branch-F ((e : Expr) × P e) ((b : Branch) × Q b)) →
-    WhereOk InsideBranch (term_branch (map-Branch Expr Branch (Result Term BindFault) (Result TermBranch BindFault) (term_of rows) (branch_of rows)
+      WhereOk InsideBranch (term_branch (map-Branch Expr Branch (Result Term BindFault) (Result TermBranch BindFault) (term_of rows) (branch_of rows)
       (map-Branch ((e : Expr) × P e) ((b : Branch) × Q b) Expr Branch (λ e. e.0) (λ e. e.0) y)))
   branch_inside y =
-    then_ok Inside InsideBranch (λ t. and_then (term_of rows y.value.0) (λ u. Ok (record { guard = t; value = u })))
+      then_ok Inside InsideBranch (λ t. and_then (term_of rows y.value.0) (λ u. Ok (record { guard = t; value = u })))
       (λ t p. then_ok Inside InsideBranch (λ u. Ok (record { guard = t; value = u }))
-        (λ u q. subst (Each (λ id. id < length rows)) (sym (names_branch (record { guard = t; value = u }))) (each_both (λ id. id < length rows) (names t) (names u) p q))
-        (term_of rows y.value.0) y.value.1)
+      (λ u q. subst (Each (λ id. id < length rows)) (sym (names_branch (record { guard = t; value = u }))) (each_both (λ id. id < length rows) (names t) (names u) p q))
+      (term_of rows y.value.0) y.value.1)
       (term_of rows y.guard.0) y.guard.1
 
   -- each name in the term of an expression is the position of a row
   pub term_inside : (e : Expr) → WhereOk Inside (term_of rows e)
   term_inside = ind-Expr P Q
-    (λ x y is. subst (λ z. P (roll-Expr z)) is
+      (λ x y is. subst (λ z. P (roll-Expr z)) is
       (subst (WhereOk Inside) (sym (fold-roll-Expr (Result Term BindFault) (Result TermBranch BindFault) (term_layer rows) term_branch
-        (map-Expr ((e : Expr) × P e) ((b : Branch) × Q b) Expr Branch (λ e. e.0) (λ e. e.0) y))) (layer_inside y)))
-    (λ x y is. subst (λ z. Q (roll-Branch z)) is
+      (map-Expr ((e : Expr) × P e) ((b : Branch) × Q b) Expr Branch (λ e. e.0) (λ e. e.0) y))) (layer_inside y)))
+      (λ x y is. subst (λ z. Q (roll-Branch z)) is
       (subst (WhereOk InsideBranch) (sym (fold-roll-Branch (Result Term BindFault) (Result TermBranch BindFault) (term_layer rows) term_branch
-        (map-Branch ((e : Expr) × P e) ((b : Branch) × Q b) Expr Branch (λ e. e.0) (λ e. e.0) y))) (branch_inside y)))
+      (map-Branch ((e : Expr) × P e) ((b : Branch) × Q b) Expr Branch (λ e. e.0) (λ e. e.0) y))) (branch_inside y)))

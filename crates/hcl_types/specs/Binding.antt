@@ -1,5 +1,5 @@
 -- The design that a file gives over a table, or its first fault (the kinds and declarations of the HCL guide).
-use Rattle.std.specs.Prelude.{ℕ, ◌+◌, Bool, true, false, ◌&&◌, not, nat_eq, if◌then◌else◌, List, [], ◌∷◌, ◌++◌, map, position, is_some, Option, None, Some, Result, Ok, Err, slice_get, option_and_then, ◌≡◌, ◌≢◌}
+use Rattle.std.specs.Prelude.{ℕ, Bool, ◌&&◌, not, nat_eq, if◌then◌else◌, List, [], ◌∷◌, ◌++◌, map, position, is_some, Option, None, Some, Result, Ok, Err, slice_get, option_and_then, ◌≡◌, ◌≢◌}
 use Rattle.std.specs.Cmp.Lexicographic.{pointwise}
 use Rattle.hcl_read.specs.declared.tree.Kind.{Kind}
 use Rattle.hcl_read.specs.declared.tree.Kind.TheVariants as kind

@@ -2,9 +2,9 @@
 //! tables, the equations of a cycle and their order.
 #![tactic(auto)]
 
-mod bind;
-mod bind_term;
+mod binding;
 mod eval;
+mod expressions;
 mod fault;
 mod kinds;
 mod names;
@@ -13,6 +13,7 @@ mod table;
 mod term;
 mod value;
 
+pub use binding::bind;
 pub use eval::{Plain, SignalEval};
 pub use fault::{BindFault, BindWhy};
 pub use hcl_read::{CmpOp, Kind, Text};

@@ -7,7 +7,7 @@ ghost use Rattle.hcl_types.specs.Tables.{IsBound, IsSound, row_names};
 ghost use Rattle.hcl_types.specs.Tables as tables;
 ghost use Rattle.hcl_types.specs.declared.fault.BindWhy.TheVariants.{Memory as OutOfMemory};
 
-use crate::bind_term::bind_term;
+use crate::expressions::bind_term;
 use crate::fault::{BindFault, BindWhy};
 use crate::kinds::{can_be, is_boolean};
 use crate::places::Places;

@@ -1,7 +1,7 @@
 use Rattle.std.proofs.Common.{◌≡◌, drop, map}
 use Rattle.hcl_types.specs.Binding.{all_ok, branch_of, term_of}
 use Rattle.hcl_types.specs.BindSteps.{put_before}
-use Rattle.hcl_types.proofs.bind_term.+binding.Given as goal
+use Rattle.hcl_types.proofs.expressions.+binding.Given as goal
 
 abbrev pub invariant-bind_terms-loop-e : goal.invariant-bind_terms-loop-e
 invariant-bind_terms-loop-e l = put_before l.terms.items (all_ok (map (term_of l.places) (drop l.e-index l.all))) ≡ all_ok (map (term_of l.places) l.all)

@@ -1,7 +1,7 @@
 use Rattle.std.proofs.Common.{Ok, Err}
 use Rattle.hcl_types.proofs.Bound.{as_bound}
 use Rattle.hcl_types.proofs.Designs.{design_bound}
-use Rattle.hcl_types.proofs.bind.bind.Goals as goal
+use Rattle.hcl_types.proofs.binding.bind.Goals as goal
 
 pub returns-in-Err-clause-fault : goal.returns-in-Err-clause-fault
 returns-in-Err-clause-fault c = λ told.
@@ -14,4 +14,4 @@ returns-in-Ok-clause-design c =
 pub returns-in-Ok-clause-belongs : goal.returns-in-Ok-clause-belongs
 returns-in-Ok-clause-belongs c =
     design_bound c.args.t.now.rows c.requires.apart c.args.f.now.items c.in-Ok.terms
-      (as_bound c.args.t.now.rows c.items.result.now c.args.f.now.items c.items-2.result.now c.items.ensures c.items-2.ensures c.requires.apart (Ok c.in-Ok.terms) c.in-Ok.ensures)
+    (as_bound c.args.t.now.rows c.items.result.now c.args.f.now.items c.items-2.result.now c.items.ensures c.items-2.ensures c.requires.apart (Ok c.in-Ok.terms) c.in-Ok.ensures)
