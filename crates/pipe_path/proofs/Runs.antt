@@ -21,13 +21,13 @@ use Rattle.pipe_path.specs.Pipe.{Pipe, Cycle, started, after_cycle, count, told_
 abbrev run_machine : Pipe → List Rec → run.Pipe
 run_machine p records = record { state = p.state; records = records; end = p.end }
 
-record_told : (e : Ending) (r : Option Rec) → record_in (told_by e r) ≡ r
+pub record_told : (e : Ending) (r : Option Rec) → record_in (told_by e r) ≡ r
 record_told Going None = refl
 record_told Going (Some r) = refl
 record_told Stopped r = refl
 record_told Pip r = refl
 
-counted : (r : Option Rec) → length (option_to_list r) ≡ count r
+pub counted : (r : Option Rec) → length (option_to_list r) ≡ count r
 counted None = refl
 counted (Some r) = refl
 

@@ -1,3 +1,4 @@
 pub mod Pipe
 pub mod Invariant
 pub mod Calls
+pub mod Destinations

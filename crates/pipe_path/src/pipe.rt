@@ -1,9 +1,11 @@
-ghost use Rattle.std.specs.Prelude.{◌≡◌, ◌<◌, ◌^◌, ◌+◌, ◌≤◌, Option, Some, None};
+ghost use Rattle.std.specs.Prelude.{◌≡◌, ◌<◌, ◌^◌, ◌+◌, ◌≤◌, Option, Some, None, IfSome};
 ghost use Rattle.dp_signals.specs.PipeTable.{pipe_rows};
 ghost use Rattle.hcl_types.specs.Tables.{IsBound, IsOrderOf};
 ghost use Rattle.y86_isa.specs.Machine.{is_aok};
 ghost use Rattle.yis_run.specs.Report.{ended};
 ghost use Rattle.dp_signals.specs.PipeRun as run;
+ghost use Rattle.pipe_path.specs.Calls.{record_in};
+ghost use Rattle.pipe_path.specs.Destinations.{HasDestinations};
 ghost use Rattle.pipe_path.specs.Pipe as spec;
 
 use dp_signals::{Ending, PipeState, advance, end_of_cycle, ending, retires, solve_pipe};
@@ -127,6 +129,7 @@ impl<C: SignalEval> Pipe<C> {
         requires { self.old.cycles < 2 ^ 63 }
         ensures cycle { spec.Cycle self.old result self.new }
         ensures counted { self.new.cycles ≤ self.old.cycles + 1 }
+        ensures destinations { IfSome (record_in result) (λ r. HasDestinations r) }
     {
         if !is_going(self.end) {
             return Cycled::Ended;

@@ -1,5 +1,7 @@
-use Rattle.std.proofs.Common.{◌≡◌, false, refl, arith}
+use Rattle.std.proofs.Common.{◌≡◌, false, refl, sym, subst, arith, IfSome}
 use Rattle.hcl_types.specs.Terms.{at}
+use Rattle.pipe_path.specs.Destinations.{HasDestinations}
+use Rattle.pipe_path.proofs.Destinations.{retired_fits, told_fits}
 use Rattle.pipe_path.proofs.pipe.Pipe.cycle.Goals as goal
 
 pub returns-clause-cycle : goal.returns-clause-cycle
@@ -14,3 +16,9 @@ returns-clause-cycle g c =
         rw (c.told.ensures, c.ending-ending.ensures, c.retires-record.ensures) refl,
       );
     })
+
+pub returns-clause-destinations : goal.returns-clause-destinations
+returns-clause-destinations g c =
+    let fits = retired_fits c.self.inside.state (at c.solve_pipe-values.result) in
+    told_fits c.told.result c.ending-ending.result c.retires-record.result c.told.ensures
+    (subst (λ r. IfSome r (λ x. HasDestinations x)) (sym c.retires-record.ensures) fits)
