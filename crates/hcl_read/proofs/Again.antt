@@ -83,7 +83,7 @@ reads m d e most fine rest = go (nat_lt (said e).rank m) refl
     go false more = down (said e).rank m d ((said e).put rest) e rest (enough (said e).rank m more) (f.0 rest)
 
 -- all of some expressions
-data Each (P : Expr → Type 0) : List Expr → Type 0 where
+pub data Each (P : Expr → Type 0) : List Expr → Type 0 where
   none : Each P []
   one : {e : Expr} {es : List Expr} → P e → Each P es → Each P (e ∷ es)
 

@@ -11,6 +11,10 @@ mod NameSets
 pub mod Said
 pub mod Again
 pub mod SameNames
-pub mod Unroll
-mod Items
+pub mod Items
 mod Readings
+pub mod LawLemmas
+pub mod Spelled
+pub mod Good
+pub mod ShownAs
+pub mod Printed

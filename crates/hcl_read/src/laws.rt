@@ -1,6 +1,12 @@
 //! Theorems about the definitions of HCL text. Each is a function that does nothing and whose contract is the theorem.
-ghost use Rattle.std.specs.Prelude.{◌≡◌, ℕ, false, List, [], ◌∷◌};
+ghost use Rattle.std.specs.Prelude.{◌≡◌, ◌++◌, ◌⊎◌, ℕ, false, List, [], ◌∷◌};
+ghost use Rattle.hcl_read.specs.Fault.{Accepts, FaultAt};
+ghost use Rattle.hcl_read.specs.Print.{printed};
+ghost use Rattle.hcl_read.specs.Read.{ReadsAs};
 ghost use Rattle.hcl_read.specs.Tokens as tokens;
+ghost use Rattle.hcl_read.specs.declared.fault.HclWhy.{HclWhy};
+ghost use Rattle.hcl_read.specs.declared.tokens.Token.{Token};
+ghost use Rattle.hcl_read.specs.declared.tree.File.{File};
 
 /// A text of blanks, line feeds and comments has no tokens. Any other has the token that begins behind them, and
 /// then those of the text behind that token.
@@ -9,4 +15,24 @@ pub fn law_of_tokens()
     ensures ended { (text : List ℕ) → tokens.skipped false text ≡ [] → tokens.items text ≡ [] }
     ensures first { (text : List ℕ) (byte : ℕ) (bytes : List ℕ) → tokens.skipped false text ≡ byte ∷ bytes →
         tokens.items text ≡ ((tokens.token byte bytes).0, byte ∷ bytes) ∷ tokens.items (tokens.token byte bytes).1 }
+{}
+
+/// A text is at most one file.
+#[tactic(auto, using(crate::proofs::LawLemmas::at_most_one_file))]
+pub fn law_of_files()
+    ensures { (text : List ℕ) (f g : File) → ReadsAs text f → ReadsAs text g → f ≡ g }
+{}
+
+/// The tokens of a text are a file or have a fault, and never both.
+#[tactic(auto, using(crate::proofs::Exact::no_fault))]
+pub fn law_of_faults()
+    ensures either { (ts : List Token) → ((f : File) × Accepts ts f)
+        ⊎ ((front : List Token) × (rest : List Token) × (why : HclWhy) × (ts ≡ front ++ rest) × FaultAt front rest why) }
+    ensures not_both { (front rest : List Token) (why : HclWhy) (f : File) → Accepts (front ++ rest) f → FaultAt front rest why → ⊥ }
+{}
+
+/// What was read, printed and read again is the same file.
+#[tactic(auto, using(crate::proofs::LawLemmas::printed_again))]
+pub fn law_of_printing()
+    ensures { (text : List ℕ) (f : File) → ReadsAs text f → ReadsAs (printed f.items) f }
 {}
