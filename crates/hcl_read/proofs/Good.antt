@@ -1,6 +1,6 @@
 -- The words, numbers and quoted texts among the tokens of a text are such that they can be written again.
-use Rattle.std.proofs.Common.{◌≡◌, ◌≤◌, ◌<◌, ◌-◌, ◌^◌, ◌%◌, ap, sym, subst, ◌∙◌, ℕ, zero, suc, Bool, true, false, cond, List, [], ◌∷◌, ◌++◌, length, drop, map, refl, arith, Option, Some, None, take_while, nat_eq, not-suc-le-zero, mod-lt, lit<}
-use Rattle.std.specs.Prelude.{nat_le, ◌==◌, ◌&&◌, ◌||◌, unwrap_or}
+use Rattle.std.proofs.Common.{◌≡◌, ◌<◌, ◌-◌, ◌^◌, ◌%◌, ap, sym, subst, ◌∙◌, ℕ, zero, suc, Bool, true, false, cond, List, [], ◌∷◌, ◌++◌, length, drop, map, refl, arith, Option, Some, None, take_while, nat_eq, not-suc-le-zero, mod-lt, lit<}
+use Rattle.std.specs.Prelude.{nat_le, ◌==◌, ◌&&◌, unwrap_or}
 use Rattle.std.specs.List.{list_all, starts_with}
 use Rattle.std.specs.Str.{bytes_eq}
 use Rattle.std.proofs.lemmas.Bool.Decides.{nat_tests}
@@ -77,12 +77,15 @@ good_number written = go written.negative written.magnitude
   where
     small : (n : ℕ) → nat_le n (2 ^ 63 - 1) ≡ true → n < 2 ^ 64
     small n e = grind (arith, nat_tests)
+
     minus : (b : Bool) (n : ℕ) → Good (in_range (cond b (Some ((2 ^ 64 - n) % 2 ^ 64)) None))
     minus true n = mod-lt (2 ^ 64 - n) (lit< tt)
     minus false n = tt
+
     plus : (n : ℕ) (b : Bool) → nat_le n (2 ^ 63 - 1) ≡ b → Good (in_range (cond b (Some n) None))
     plus n true e = small n e
     plus n false e = tt
+
     go : (negative : Bool) (magnitude : Option ℕ) → Good (in_range (word_of_magnitude (2 ^ 63) (2 ^ 63 - 1) negative magnitude))
     go negative None = tt
     go true (Some n) = minus (nat_le n (2 ^ 63)) n
@@ -94,19 +97,22 @@ good_token byte bytes = go (is_letter byte) refl (byte == 39 && is_closed bytes)
   where
     name_byte : (b : ℕ) → is_letter b ≡ true → is_name_byte b ≡ true
     name_byte b h = rw h refl
+
     symbols : Good (symbol_or_stray byte bytes).0
     symbols = good_or (keyword_at long_symbols (byte ∷ bytes)) _ (λ x e. good_keyword long_symbols (byte ∷ bytes) x (tt, (tt, (tt, (tt, (tt, (tt, tt)))))) e)
         (good_or (keyword_at short_symbols (byte ∷ bytes)) _ (λ x e. good_keyword short_symbols (byte ∷ bytes) x (tt, (tt, (tt, (tt, (tt, (tt, (tt, (tt, (tt, (tt, (tt, (tt, (tt, tt))))))))))))) e) (good_stray byte))
+
     numbered : (o : Option (Written × List ℕ)) → Good (number_or o (symbol_or_stray byte bytes)).0
     numbered None = symbols
     numbered (Some x) = good_number x.0
+
     go : (l : Bool) → is_letter byte ≡ l → (q : Bool)
         → Good (cond l (word (take_while is_name_byte (byte ∷ bytes)), behind is_name_byte (byte ∷ bytes))
-              (cond q (Quoted (take_while is_quoted bytes), drop 1 (behind is_quoted bytes)) (number_or (decimal_at (byte ∷ bytes)) (symbol_or_stray byte bytes)))).0
+        (cond q (Quoted (take_while is_quoted bytes), drop 1 (behind is_quoted bytes)) (number_or (decimal_at (byte ∷ bytes)) (symbol_or_stray byte bytes)))).0
     go true e q =
         good_word (take_while is_name_byte (byte ∷ bytes))
-          (first_of_run byte bytes (take_while is_name_byte (byte ∷ bytes)) (behind is_name_byte (byte ∷ bytes)) (run_and_rest is_name_byte (byte ∷ bytes)) (run_some is_name_byte (byte ∷ bytes) (name_byte byte e)) e)
-          (run_passes is_name_byte (byte ∷ bytes))
+        (first_of_run byte bytes (take_while is_name_byte (byte ∷ bytes)) (behind is_name_byte (byte ∷ bytes)) (run_and_rest is_name_byte (byte ∷ bytes)) (run_some is_name_byte (byte ∷ bytes) (name_byte byte e)) e)
+        (run_passes is_name_byte (byte ∷ bytes))
     go false e true = run_passes is_quoted bytes
     go false e false = numbered (decimal_at (byte ∷ bytes))
 

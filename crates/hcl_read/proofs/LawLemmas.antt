@@ -1,5 +1,5 @@
 -- The laws of texts, files and faults.
-use Rattle.std.proofs.Common.{◌≡◌, ◌≤◌, sym, subst, length, ℕ, List, [], ◌++◌, Ok, Err, refl, inl, inr}
+use Rattle.std.proofs.Common.{◌≡◌, ◌≤◌, sym, subst, length, ℕ, List, [], ◌++◌, Ok, Err, inl, inr}
 use Rattle.std.specs.Prelude.{◌⊎◌}
 use Rattle.hcl_read.specs.declared.tree.File.{File}
 use Rattle.hcl_read.specs.declared.fault.HclWhy.{HclWhy}
@@ -29,4 +29,4 @@ file_or_fault ts = go (outcome [] start ts) (answers ts)
 pub printed_again : (text : List ℕ) (f : File) → ReadsAs text f → ReadsAs (printed f.items) f
 printed_again text f a =
     subst (λ ts. Accepts ts f) (sym (items_spell a.0 (good_tokens text)))
-      (items_again a.0, subst (λ names. length names ≤ 256) (items_keep a.0 []) a.1)
+    (items_again a.0, subst (λ names. length names ≤ 256) (items_keep a.0 []) a.1)

@@ -1,9 +1,9 @@
 -- The tokens of what is printed.
-use Rattle.std.proofs.Common.{◌≡◌, ◌<◌, ◌^◌, ap, sym, subst, ◌∙◌, ℕ, zero, suc, Bool, true, false, cond, List, [], ◌∷◌, ◌++◌, map, refl, nat_lt, append_assoc, append-nil, codes, not-suc-le-zero, arith}
+use Rattle.std.proofs.Common.{◌≡◌, ◌<◌, ◌^◌, ap, sym, subst, ◌∙◌, ℕ, Bool, true, false, cond, List, [], ◌∷◌, ◌++◌, map, refl, nat_lt, append_assoc, codes, not-suc-le-zero, arith}
 use Rattle.std.specs.Prelude.{◌==◌}
 use Rattle.std.specs.List.{list_all}
 use Rattle.std.proofs.lemmas.Bool.Decides.{nat_tests}
-use Rattle.y86_base.specs.Text.{begins, is_letter, is_name_byte}
+use Rattle.y86_base.specs.Text.{begins, is_letter}
 use Rattle.y86_base.specs.Keyword.{meaning_of}
 use Rattle.hcl_read.specs.declared.tree.Kind.{Kind}
 use Rattle.hcl_read.specs.declared.tree.Kind.TheVariants.{Word, Bool as Truth}
@@ -13,16 +13,14 @@ use Rattle.hcl_read.specs.declared.tree.Branch.{Branch}
 use Rattle.hcl_read.specs.declared.tree.Expr.{Expr}
 use Rattle.hcl_read.specs.declared.tree.Expr.TheVariants as expr
 use Rattle.hcl_read.specs.declared.tree.Item.{Item}
-use Rattle.hcl_read.specs.declared.tree.Item.TheVariants as item
 use Rattle.hcl_read.specs.declared.tokens.Token.{Token}
-use Rattle.hcl_read.specs.declared.tokens.Token.TheVariants.{KeyQuote, KeySig, KeyDef, KeyIn, Ident, Number, Wide, Quoted, Assign, Semicolon, OrOr, AndAnd, Bang, Compare, OpenParen, CloseParen, OpenBrace, CloseBrace, OpenBracket, CloseBracket, Comma, Colon}
+use Rattle.hcl_read.specs.declared.tokens.Token.TheVariants.{KeyQuote, KeySig, KeyDef, KeyIn, Ident, Quoted, Assign, Semicolon, OrOr, AndAnd, Bang, Compare, OpenParen, CloseParen, OpenBrace, OpenBracket, Comma, Colon}
 use Rattle.hcl_read.specs.Grammar.{or_of, and_of, branch, IsExpr, OrTail, IsAnd, AndTail, IsNot, IsRel, SetTail, IsPrim, IsCase, CaseTail, IsItem, IsItems, or_list, no_or, more_or, and_list, no_and, more_and, negated, plain, alone, compared, member, no_member, more_members, a_number, a_wide_number, a_name, group, case_list, guarded, no_case, more_cases, quoted, declared, defined, no_item, more_items}
-use Rattle.hcl_read.specs.Tokens.{is_quoted, word, tokens}
-use Rattle.hcl_read.specs.Print.{Shown, shown_as, within, further, joined, signed_decimal, operator, branches, shown, branch_text, signal_word, kind_word, item_text, printed}
+use Rattle.hcl_read.specs.Tokens.{is_quoted, tokens}
+use Rattle.hcl_read.specs.Print.{Shown, shown_as, within, further, joined, operator, branches, shown, branch_text, signal_word, kind_word, item_text, printed}
 use Rattle.hcl_read.proofs.Said.{Said, said_as, put_within, put_further, put_joined, put_branches, said, said_branch, said_Num, said_Name, said_Not, said_And, said_Or, said_Cmp, said_In, said_Case, put_item, put_items}
 use Rattle.hcl_read.proofs.ShownAs.{shown_Num, shown_Name, shown_Not, shown_And, shown_Or, shown_Cmp, shown_In, shown_Case, shown_branch}
 use Rattle.hcl_read.proofs.Again.{Each, none, one, said_branch_is}
-use Rattle.hcl_read.proofs.Complete.{shifted}
 use Rattle.hcl_read.proofs.Good.{Good, AllGood}
 use Rattle.hcl_read.proofs.Spelled.{Ends, space, line_feed, open_paren, close_paren, open_brace, close_brace, open_bracket, close_bracket, semicolon, comma, colon, assign, bang, or_or, and_and, compare, word_step, quoted_step, signed_step, signed_begins, nothing_left}
 
@@ -39,10 +37,10 @@ record Spells (e : Expr) : Type 0 where
 spells_as : (e : Expr) (r : ℕ) (text : List ℕ) (put : List Token → List Token) → shown e ≡ shown_as r text → said e ≡ said_as r put → Starts text
     → ((rest : List ℕ) → Ends rest → tokens (text ++ rest) ≡ put (tokens rest)) → Spells e
 spells_as e r text put h i starts spelled = record {
-    same_rank = ap (λ (s : Shown). s.rank) h ∙ sym (ap (λ (s : Said). s.rank) i);
-    starts = subst (λ (s : Shown). Starts s.text) (sym h) starts;
-    spelled = λ rest ends. ap (λ (s : Shown). tokens (s.text ++ rest)) h ∙ spelled rest ends ∙ ap (λ (s : Said). s.put (tokens rest)) (sym i)
-  }
+  same_rank = ap (λ (s : Shown). s.rank) h ∙ sym (ap (λ (s : Said). s.rank) i);
+  starts = subst (λ (s : Shown). Starts s.text) (sym h) starts;
+  spelled = λ rest ends. ap (λ (s : Shown). tokens (s.text ++ rest)) h ∙ spelled rest ends ∙ ap (λ (s : Said). s.put (tokens rest)) (sym i);
+}
 
 as3 : (a b c : List ℕ) → (a ++ b) ++ c ≡ a ++ (b ++ c)
 as3 a b c = append_assoc a b c
@@ -63,6 +61,7 @@ within_spells m e s rest ends =
   where
     text : List ℕ
     text = (shown e).text
+
     go : (b : Bool) → tokens (cond b (codes "(" ++ text ++ codes ")") text ++ rest) ≡ cond b (OpenParen ∷ (said e).put (CloseParen ∷ tokens rest)) ((said e).put (tokens rest))
     go true =
         open_paren ((text ++ codes ")") ++ rest)
@@ -143,11 +142,11 @@ spells_not e h = spells_as (expr.Not e) 2 _ _ (shown_Not e) (said_Not e) (33, wi
 spells_compare : (op : CmpOp) (left right : Expr) → Spells left → Spells right → Spells (expr.Cmp op left right)
 spells_compare op left right l r =
     spells_as (expr.Cmp op left right) 3 _ _ (shown_Cmp op left right) (said_Cmp op left right)
-      (starts_more (within 4 (shown left) ++ operator op) (within 4 (shown right)) (starts_more (within 4 (shown left)) (operator op) (within_starts 4 left l)))
-      (λ rest ends.
-        ap tokens (as4 (within 4 (shown left)) (operator op) (within 4 (shown right)) rest)
-        ∙ within_spells 4 left l (operator op ++ (within 4 (shown right) ++ rest)) (blank_first op (within 4 (shown right) ++ rest))
-        ∙ ap (put_within 4 (said left)) (compare op (within 4 (shown right) ++ rest) ∙ ap (λ ts. Compare op ∷ ts) (within_spells 4 right r rest ends)))
+    (starts_more (within 4 (shown left) ++ operator op) (within 4 (shown right)) (starts_more (within 4 (shown left)) (operator op) (within_starts 4 left l)))
+    (λ rest ends.
+    ap tokens (as4 (within 4 (shown left)) (operator op) (within 4 (shown right)) rest)
+    ∙ within_spells 4 left l (operator op ++ (within 4 (shown right) ++ rest)) (blank_first op (within 4 (shown right) ++ rest))
+    ∙ ap (put_within 4 (said left)) (compare op (within 4 (shown right) ++ rest) ∙ ap (λ ts. Compare op ∷ ts) (within_spells 4 right r rest ends)))
   where
     blank_first : (op : CmpOp) (rest : List ℕ) → Ends (operator op ++ rest)
     blank_first Eq rest = refl
@@ -167,14 +166,14 @@ spells_in : (left e : Expr) (es : List Expr) → Spells left → Spells e → Ea
 spells_in left e es l h more =
     let inside : List ℕ = joined (codes ", ") 0 (map shown (e ∷ es)) in
     spells_as (expr.In left (e ∷ es)) 3 _ _ (shown_In left (e ∷ es)) (said_In left (e ∷ es))
-      (starts_more ((within 4 (shown left) ++ codes " in { ") ++ inside) (codes " }")
-        (starts_more (within 4 (shown left) ++ codes " in { ") inside (starts_more (within 4 (shown left)) (codes " in { ") (within_starts 4 left l))))
-      (λ rest ends.
-        ap tokens (as5 (within 4 (shown left)) (codes " in { ") inside (codes " }") rest)
-        ∙ within_spells 4 left l (codes " in { " ++ (inside ++ (codes " }" ++ rest))) refl
-        ∙ ap (put_within 4 (said left)) (in_opens (inside ++ (codes " }" ++ rest))
-            ∙ ap (λ ts. KeyIn ∷ OpenBrace ∷ ts) (joined_spells (codes ", ") Comma 0 comma_separates e es h more (32 ∷ 125 ∷ rest) refl
-                ∙ ap (put_joined Comma 0 (map said (e ∷ es))) (space _ ∙ close_brace rest))))
+    (starts_more ((within 4 (shown left) ++ codes " in { ") ++ inside) (codes " }")
+    (starts_more (within 4 (shown left) ++ codes " in { ") inside (starts_more (within 4 (shown left)) (codes " in { ") (within_starts 4 left l))))
+    (λ rest ends.
+    ap tokens (as5 (within 4 (shown left)) (codes " in { ") inside (codes " }") rest)
+    ∙ within_spells 4 left l (codes " in { " ++ (inside ++ (codes " }" ++ rest))) refl
+    ∙ ap (put_within 4 (said left)) (in_opens (inside ++ (codes " }" ++ rest))
+    ∙ ap (λ ts. KeyIn ∷ OpenBrace ∷ ts) (joined_spells (codes ", ") Comma 0 comma_separates e es h more (32 ∷ 125 ∷ rest) refl
+    ∙ ap (put_joined Comma 0 (map said (e ∷ es))) (space _ ∙ close_brace rest))))
 
 -- a branch of a case list
 abbrev SpellsBranch : Branch → Type 0
@@ -202,8 +201,8 @@ spells_case : (bs : List Branch) → EachBranch bs → Spells (expr.Case bs)
 spells_case bs all =
     let inside : List ℕ = branches (map branch_text bs) in
     spells_as (expr.Case bs) 4 _ _ (shown_Case bs) (said_Case bs) (91, 32 ∷ inside ++ codes "]", refl, refl)
-      (λ rest ends.
-        open_bracket _ ∙ ap (λ ts. OpenBracket ∷ ts) (space _ ∙ ap tokens (as3 inside (codes "]") rest) ∙ branches_spell bs all (93 ∷ rest) ∙ ap (put_branches (map said_branch bs)) (close_bracket rest)))
+    (λ rest ends.
+    open_bracket _ ∙ ap (λ ts. OpenBracket ∷ ts) (space _ ∙ ap tokens (as3 inside (codes "]") rest) ∙ branches_spell bs all (93 ∷ rest) ∙ ap (put_branches (map said_branch bs)) (close_bracket rest)))
 
 spells_number : (n : ℕ) → n < 2 ^ 64 → Spells (expr.Num n)
 spells_number n h = spells_as (expr.Num n) 4 _ _ (shown_Num n) (said_Num n) (signed_begins n h) (λ rest ends. signed_step n rest h ends)
@@ -329,8 +328,8 @@ item_spells (defined {kind = kind} {name = name} {body = body} h) good rest =
     ap tokens (as6 (kind_word kind) name (codes " = ") (shown body).text (codes ";\n") rest)
     ∙ kind_spelled kind (name ++ (codes " = " ++ ((shown body).text ++ (codes ";\n" ++ rest))))
     ∙ ap (λ ts. KeyDef kind ∷ ts) (name_spelled name (codes " = " ++ ((shown body).text ++ (codes ";\n" ++ rest))) good.1.0 refl
-        ∙ ap (λ ts. Ident name ∷ ts) (space _ ∙ assign ((shown body).text ++ (codes ";\n" ++ rest))
-            ∙ ap (λ ts. Assign ∷ ts) ((expr_spells h good.1.1.1).0.spelled (codes ";\n" ++ rest) refl ∙ ap (said body).put (semicolon _ ∙ ap (λ ts. Semicolon ∷ ts) (line_feed rest)))))
+    ∙ ap (λ ts. Ident name ∷ ts) (space _ ∙ assign ((shown body).text ++ (codes ";\n" ++ rest))
+    ∙ ap (λ ts. Assign ∷ ts) ((expr_spells h good.1.1.1).0.spelled (codes ";\n" ++ rest) refl ∙ ap (said body).put (semicolon _ ∙ ap (λ ts. Semicolon ∷ ts) (line_feed rest)))))
 
 item_rest : {ts behind : List Token} {i : Item} → IsItem 0 ts i behind → AllGood ts → AllGood behind
 item_rest quoted good = good.1.1

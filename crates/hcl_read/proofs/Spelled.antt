@@ -1,25 +1,24 @@
 -- The tokens of a text that begins with the text of a token.
-use Rattle.std.proofs.Common.{◌≡◌, ◌≤◌, ◌<◌, ◌+◌, ◌-◌, ◌^◌, ◌%◌, ap, sym, subst, ◌∙◌, ℕ, zero, suc, Bool, true, false, cond, List, [], ◌∷◌, ◌++◌, length, drop, map, refl, arith, nat_lt, Option, Some, None, zero-le, le_refl, le_trans, append_assoc, take_while, nat_eq, codes, not-suc-le-zero, lit≤, ltb-false, lt-ltb, mod-eq_of_lt}
-use Rattle.std.specs.Prelude.{nat_le, ◌==◌, ◌&&◌, ◌||◌, not, unwrap_or}
+use Rattle.std.proofs.Common.{◌≡◌, ◌≤◌, ◌<◌, ◌-◌, ◌^◌, ◌%◌, ap, sym, ◌∙◌, ℕ, Bool, true, false, cond, List, [], ◌∷◌, ◌++◌, length, drop, map, refl, arith, nat_lt, Some, None, take_while, nat_eq, codes, not-suc-le-zero, lit≤, ltb-false, lt-ltb, mod-eq_of_lt}
+use Rattle.std.specs.Prelude.{nat_le, ◌==◌, ◌&&◌, ◌||◌, unwrap_or}
 use Rattle.std.specs.List.{list_all, starts_with}
-use Rattle.std.specs.Str.Parse.{AllDigits, IsNumeral, digits_value}
+use Rattle.std.specs.Str.Parse.{AllDigits, digits_value}
 use Rattle.std.specs.Char.{digit_value}
 use Rattle.std.proofs.lemmas.Bool.Decides.{nat_tests}
 use Rattle.y86_base.specs.declared.number.Number.{Number as Written}
 use Rattle.y86_base.specs.Text.{begins, behind, below_word, is_blank, is_decimal, is_letter, is_line_feed, is_name_byte}
-use Rattle.y86_base.specs.Keyword.{keyword_at, meaning_of}
-use Rattle.y86_base.specs.Number.{IsDecimal, decimal_at, sign_of, word_within}
+use Rattle.y86_base.specs.Keyword.{keyword_at}
+use Rattle.y86_base.specs.Number.{IsDecimal, decimal_at, word_within}
 use Rattle.y86_base.specs.Numeral.{numeral}
 use Rattle.y86_base.proofs.Booleans.{both_true, both_false}
 use Rattle.y86_base.proofs.Runs.{behind-run, take_while-run}
 use Rattle.y86_base.proofs.Decimals.{decimal_read}
 use Rattle.y86_base.proofs.Numerals.{numeral_digits, numeral_value, word_has_room}
-use Rattle.hcl_read.specs.declared.tree.Kind.TheVariants.{Word, Bool as Truth}
 use Rattle.hcl_read.specs.declared.tree.CmpOp.{CmpOp}
 use Rattle.hcl_read.specs.declared.tree.CmpOp.TheVariants.{Eq, Ne, Lt, Le, Gt, Ge}
 use Rattle.hcl_read.specs.declared.tokens.Token.{Token}
-use Rattle.hcl_read.specs.declared.tokens.Token.TheVariants.{KeyQuote, KeySig, KeyDef, KeyIn, Ident, Number, Wide, Quoted, Assign, Semicolon, OrOr, AndAnd, Bang, Compare, OpenParen, CloseParen, OpenBrace, CloseBrace, OpenBracket, CloseBracket, Comma, Colon}
-use Rattle.hcl_read.specs.Tokens.{is_quoted, skipped, keywords, long_symbols, short_symbols, word, in_range, number_or, symbol_or_stray, is_closed, token, items_in, items, tokens}
+use Rattle.hcl_read.specs.declared.tokens.Token.TheVariants.{Number, Quoted, Assign, Semicolon, OrOr, AndAnd, Bang, Compare, OpenParen, CloseParen, OpenBrace, CloseBrace, OpenBracket, CloseBracket, Comma, Colon}
+use Rattle.hcl_read.specs.Tokens.{is_quoted, skipped, word, in_range, number_or, symbol_or_stray, is_closed, token, tokens}
 use Rattle.hcl_read.specs.Print.{operator, signed_decimal}
 use Rattle.hcl_read.proofs.Items.{listed, items_ended, items_first, items_listed}
 
@@ -138,9 +137,9 @@ word_step [] rest e all ends = absurd (no e)
 word_step (byte ∷ bytes) rest e all ends =
     let shows = letter_shows byte e in
     step_to byte (bytes ++ rest) (word (byte ∷ bytes)) rest (kept byte (bytes ++ rest) shows.0 shows.1)
-      (ap (λ b. cond b (word (take_while is_name_byte (byte ∷ bytes ++ rest)), behind is_name_byte (byte ∷ bytes ++ rest)) (other (bytes ++ rest))) e
-       ∙ ap (λ n. (word n, behind is_name_byte (byte ∷ bytes ++ rest))) (take_while-run is_name_byte (byte ∷ bytes) rest all ends)
-       ∙ ap (λ r. (word (byte ∷ bytes), r)) (behind-run is_name_byte (byte ∷ bytes) rest all ends))
+    (ap (λ b. cond b (word (take_while is_name_byte (byte ∷ bytes ++ rest)), behind is_name_byte (byte ∷ bytes ++ rest)) (other (bytes ++ rest))) e
+    ∙ ap (λ n. (word n, behind is_name_byte (byte ∷ bytes ++ rest))) (take_while-run is_name_byte (byte ∷ bytes) rest all ends)
+    ∙ ap (λ r. (word (byte ∷ bytes), r)) (behind-run is_name_byte (byte ∷ bytes) rest all ends))
   where
     other : List ℕ → Token × List ℕ
     other xs =
@@ -152,8 +151,8 @@ unfolding skipped token
 quoted_step text rest all =
     let end : behind is_quoted (text ++ 39 ∷ rest) ≡ 39 ∷ rest = behind-run is_quoted text (39 ∷ rest) all refl in
     step_to 39 (text ++ 39 ∷ rest) (Quoted text) rest refl
-      (ap (λ r. cond (begins (λ byte. byte == 39) r) (Quoted (take_while is_quoted (text ++ 39 ∷ rest)), drop 1 r) (number_or (decimal_at (39 ∷ text ++ 39 ∷ rest)) (symbol_or_stray 39 (text ++ 39 ∷ rest)))) end
-       ∙ ap (λ t. (Quoted t, rest)) (take_while-run is_quoted text (39 ∷ rest) all refl))
+    (ap (λ r. cond (begins (λ byte. byte == 39) r) (Quoted (take_while is_quoted (text ++ 39 ∷ rest)), drop 1 r) (number_or (decimal_at (39 ∷ text ++ 39 ∷ rest)) (symbol_or_stray 39 (text ++ 39 ∷ rest)))) end
+    ∙ ap (λ t. (Quoted t, rest)) (take_while-run is_quoted text (39 ∷ rest) all refl))
 
 -- a number
 number_step : (byte : ℕ) (bytes : List ℕ) (written : Written) (rest : List ℕ) (n : ℕ) → is_letter byte ≡ false → (byte == 39) ≡ false → (byte == 35) ≡ false → (is_blank byte || is_line_feed byte) ≡ false
@@ -161,11 +160,11 @@ number_step : (byte : ℕ) (bytes : List ℕ) (written : Written) (rest : List �
 unfolding token
 number_step byte bytes written rest n l q h b d w =
     step_to byte bytes (Number n) rest (kept byte bytes h b)
-      (ap (λ x. cond x (word (take_while is_name_byte (byte ∷ bytes)), behind is_name_byte (byte ∷ bytes))
-             (cond (byte == 39 && is_closed bytes) (Quoted (take_while is_quoted bytes), drop 1 (behind is_quoted bytes)) (number_or (decimal_at (byte ∷ bytes)) (symbol_or_stray byte bytes)))) l
-       ∙ ap (λ x. cond (x && is_closed bytes) (Quoted (take_while is_quoted bytes), drop 1 (behind is_quoted bytes)) (number_or (decimal_at (byte ∷ bytes)) (symbol_or_stray byte bytes))) q
-       ∙ ap (λ o. number_or o (symbol_or_stray byte bytes)) d
-       ∙ ap (λ o. (in_range o, rest)) w)
+    (ap (λ x. cond x (word (take_while is_name_byte (byte ∷ bytes)), behind is_name_byte (byte ∷ bytes))
+    (cond (byte == 39 && is_closed bytes) (Quoted (take_while is_quoted bytes), drop 1 (behind is_quoted bytes)) (number_or (decimal_at (byte ∷ bytes)) (symbol_or_stray byte bytes)))) l
+    ∙ ap (λ x. cond (x && is_closed bytes) (Quoted (take_while is_quoted bytes), drop 1 (behind is_quoted bytes)) (number_or (decimal_at (byte ∷ bytes)) (symbol_or_stray byte bytes))) q
+    ∙ ap (λ o. number_or o (symbol_or_stray byte bytes)) d
+    ∙ ap (λ o. (in_range o, rest)) w)
 
 digit_shows : (byte : ℕ) → is_decimal byte ≡ true
     → (is_letter byte ≡ false) × ((byte == 39) ≡ false) × ((byte == 35) ≡ false) × ((is_blank byte || is_line_feed byte) ≡ false)
@@ -205,7 +204,7 @@ plain_step (byte ∷ bytes) rest m some all value small ends =
     let shows = digit_shows byte (both_true (is_decimal byte) (list_all is_decimal bytes) all).0 in
     let written : Written = record { negative = false; magnitude = Some m } in
     let d : IsDecimal (byte ∷ bytes ++ rest) written rest =
-          record { digits = byte ∷ bytes; whole = refl; each = all; some = some; longest = no_more_digits rest ends; value = sym (below_is m (wider m small)) ∙ ap below_word (sym value) } in
+    record { digits = byte ∷ bytes; whole = refl; each = all; some = some; longest = no_more_digits rest ends; value = sym (below_is m (wider m small)) ∙ ap below_word (sym value) } in
     number_step byte (bytes ++ rest) written rest m shows.0 shows.1 shows.2 shows.3 (decimal_read (byte ∷ bytes ++ rest) written rest d) (positive m small)
   where
     wider : (m : ℕ) → m < 2 ^ 63 → m < 2 ^ 64
@@ -216,7 +215,7 @@ minus_step : (digits rest : List ℕ) (m n : ℕ) → 0 < length digits → list
 minus_step digits rest m n some all value small same ends =
     let written : Written = record { negative = true; magnitude = Some m } in
     let d : IsDecimal (45 ∷ digits ++ rest) written rest =
-          record { digits = digits; whole = refl; each = all; some = some; longest = no_more_digits rest ends; value = sym (below_is m (wider m small)) ∙ ap below_word (sym value) } in
+    record { digits = digits; whole = refl; each = all; some = some; longest = no_more_digits rest ends; value = sym (below_is m (wider m small)) ∙ ap below_word (sym value) } in
     number_step 45 (digits ++ rest) written rest n refl refl refl refl (decimal_read (45 ∷ digits ++ rest) written rest d) (negative m small ∙ ap (λ x. Some x) same)
   where
     wider : (m : ℕ) → m ≤ 2 ^ 63 → m < 2 ^ 64
@@ -228,11 +227,13 @@ signed_step n rest h ends = go (nat_lt n (2 ^ 63)) refl
   where
     low : (n : ℕ) → nat_lt n (2 ^ 63) ≡ true → n < 2 ^ 63
     low n e = grind (arith, nat_tests)
+
     high : (n : ℕ) → nat_lt n (2 ^ 63) ≡ false → n < 2 ^ 64 → (2 ^ 64 - n ≤ 2 ^ 63) × (2 ^ 64 - n < 2 ^ 64) × ((2 ^ 64 - (2 ^ 64 - n)) % 2 ^ 64 ≡ n)
     high n e h =
         let over : 2 ^ 63 ≤ n = ltb-false n (2 ^ 63) e in
         let back : 2 ^ 64 - (2 ^ 64 - n) ≡ n = omega arith in
         (omega arith, omega arith, ap (λ x. x % 2 ^ 64) back ∙ mod-eq_of_lt h)
+
     go : (b : Bool) → nat_lt n (2 ^ 63) ≡ b → tokens (cond b (numeral 10 1 n) (codes "-" ++ numeral 10 1 (2 ^ 64 - n)) ++ rest) ≡ Number n ∷ tokens rest
     go true e =
         let room = word_has_room 10 n (lit≤ tt) h in
@@ -251,9 +252,11 @@ signed_begins n h = go (nat_lt n (2 ^ 63))
   where
     no_sign : (byte : ℕ) → is_decimal byte ≡ true → (byte == 61) ≡ false
     no_sign byte e = grind (arith, nat_tests)
+
     first : (digits : List ℕ) → 0 < length digits → list_all is_decimal digits ≡ true → (x : ℕ) × (xs : List ℕ) × (digits ≡ x ∷ xs) × ((x == 61) ≡ false)
     first [] some all = absurd (not-suc-le-zero some)
     first (byte ∷ bytes) some all = (byte, bytes, refl, no_sign byte (both_true (is_decimal byte) (list_all is_decimal bytes) all).0)
+
     go : (b : Bool) → (x : ℕ) × (xs : List ℕ) × (cond b (numeral 10 1 n) (codes "-" ++ numeral 10 1 (2 ^ 64 - n)) ≡ x ∷ xs) × ((x == 61) ≡ false)
     go true =
         let is = numeral_digits 10 1 n (lit≤ tt) (lit≤ tt) (word_has_room 10 n (lit≤ tt) h) in
