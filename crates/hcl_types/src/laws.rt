@@ -1,0 +1,24 @@
+//! Theorems about terms and equations. Each is a function that does nothing and whose contract is the theorem.
+ghost use Rattle.std.specs.Prelude.{◌≡◌, ℕ, ◌<◌, Bool, true, List, length, slice_set};
+ghost use Rattle.hcl_types.specs.Equations.{Fixes, IsLocal, IsOrder, filled, is_known};
+ghost use Rattle.hcl_types.specs.Lists.{Each};
+ghost use Rattle.hcl_types.specs.Terms.{at, names, value, words};
+ghost use Rattle.hcl_types.specs.declared.term.Term.{Term};
+
+/// The value of a term depends on the names in it alone.
+pub fn law_of_values()
+    ensures { (t : Term) (f g : ℕ → ℕ) → Each (λ id. f id ≡ g id) (names t) → value words f t ≡ value words g t }
+{}
+
+/// Equations whose rows can be ordered have one solution, and computing the rows along the order gives it. Each rule
+/// reads only what its row needs; known rows have their values from the start.
+pub fn law_of_orders()
+    ensures solved { (needs : List (List ℕ)) (known : List Bool) (ids : List ℕ) (rule : ℕ → (ℕ → ℕ) → ℕ) (vals : List ℕ) →
+        IsOrder needs known ids → IsLocal rule needs → Each (λ n. n < length vals) ids →
+        ((n : ℕ) → is_known known n ≡ true → (f : ℕ → ℕ) → at vals n ≡ rule n f) →
+        Fixes rule (at (filled at slice_set rule vals ids)) }
+    ensures unique { (needs : List (List ℕ)) (known : List Bool) (ids : List ℕ) (rule : ℕ → (ℕ → ℕ) → ℕ) →
+        IsOrder needs known ids → IsLocal rule needs →
+        ((n : ℕ) → is_known known n ≡ true → (f g : ℕ → ℕ) → rule n f ≡ rule n g) →
+        (f g : ℕ → ℕ) → Fixes rule f → Fixes rule g → (n : ℕ) → f n ≡ g n }
+{}
