@@ -2,4 +2,8 @@
 #![tactic(auto)]
 
 #[cfg(test)]
+mod designs;
+#[cfg(test)]
 mod hcl;
+#[cfg(test)]
+mod printing;
