@@ -18,7 +18,7 @@ struct Refused {
     why: AsmWhy,
 }
 
-static ACCEPTED: [Accepted; 49] = [
+static ACCEPTED: [Accepted; 55] = [
     Accepted {
         source: b"halt",
         addr: 0,
@@ -264,9 +264,39 @@ static ACCEPTED: [Accepted; 49] = [
         addr: 0,
         bytes: &[],
     },
+    Accepted {
+        source: b".word -32768",
+        addr: 0,
+        bytes: &[0x00, 0x80],
+    },
+    Accepted {
+        source: b".word 65535",
+        addr: 0,
+        bytes: &[0xff, 0xff],
+    },
+    Accepted {
+        source: b".long -2147483648",
+        addr: 0,
+        bytes: &[0, 0, 0, 0x80],
+    },
+    Accepted {
+        source: b".long 4294967295",
+        addr: 0,
+        bytes: &[0xff, 0xff, 0xff, 0xff],
+    },
+    Accepted {
+        source: b"ABCDEFGHIJKLMNOPQRSTUVWXYZ_abcdefghijklmnopqrstuvwxyz0123456789:.byte 1",
+        addr: 0,
+        bytes: &[1],
+    },
+    Accepted {
+        source: b"halt /* !\"#$%&'()+,-./0123456789:;<=>?@ABCDEFGHIJKLMNOPQRSTUVWXYZ[\\]^_`abcdefghijklmnopqrstuvwxyz{|}~ */",
+        addr: 0,
+        bytes: &[0x00],
+    },
 ];
 
-static REFUSED: [Refused; 47] = [
+static REFUSED: [Refused; 55] = [
     Refused {
         source: b"a: halt\na: nop",
         size: 64,
@@ -555,6 +585,54 @@ static REFUSED: [Refused; 47] = [
         line: 3,
         why: AsmWhy::OutsideMemory,
     },
+    Refused {
+        source: b".word -32769",
+        size: 64,
+        line: 1,
+        why: AsmWhy::NumberTooWide,
+    },
+    Refused {
+        source: b".word 65536",
+        size: 64,
+        line: 1,
+        why: AsmWhy::NumberTooWide,
+    },
+    Refused {
+        source: b".long -2147483649",
+        size: 64,
+        line: 1,
+        why: AsmWhy::NumberTooWide,
+    },
+    Refused {
+        source: b".long 4294967296",
+        size: 64,
+        line: 1,
+        why: AsmWhy::NumberTooWide,
+    },
+    Refused {
+        source: b"halt ~",
+        size: 64,
+        line: 1,
+        why: AsmWhy::Syntax,
+    },
+    Refused {
+        source: b"halt !",
+        size: 64,
+        line: 1,
+        why: AsmWhy::Syntax,
+    },
+    Refused {
+        source: b"halt \x7f",
+        size: 64,
+        line: 1,
+        why: AsmWhy::BadByte,
+    },
+    Refused {
+        source: b"hal\x80t",
+        size: 64,
+        line: 1,
+        why: AsmWhy::BadByte,
+    },
 ];
 
 /// Each kind of statement once, and what blanks, comments and numbers may look like, with bytes assembled by hand.
@@ -724,7 +802,25 @@ fn lists_lines(rt: HostRuntime) -> Result<(), Fail> {
     compare(&rt, LOOP, &LOOP_LINES)?;
     compare(&rt, CALL, &CALL_LINES)?;
     compare(&rt, DATA, &DATA_LINES)?;
-    compare(&rt, b"", &[])
+    compare(&rt, b"", &[])?;
+    // The second instruction set has one more mnemonic, and else the same bytes.
+    let full = assemble(
+        rt.alloc(),
+        Variant::Full,
+        b"iaddq $5,%rax\naddq %rdx,%rax",
+        67,
+    )?;
+    let first = &full.lines()[0];
+    assert_eq!(rt;
+        first.bytes.as_slice(),
+        [0xc0, 0xf0, 5, 0, 0, 0, 0, 0, 0, 0].as_slice()
+    );
+    let second = &full.lines()[1];
+    assert_eq!(rt;
+        (second.addr, second.bytes.as_slice()),
+        (Some(10), [0x60, 0x20].as_slice())
+    );
+    Ok(())
 }
 
 /// The first line with a fault and the least fault on it, and the text of both: the reason's text is its name.
