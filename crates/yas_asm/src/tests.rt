@@ -781,9 +781,32 @@ static DATA_LINES: [Listed; 7] = [
     },
 ];
 
+/// The second instruction set has one mnemonic more, and else the same bytes.
+static FULL: &[u8] = b"iaddq $5,%rax\naddq %rdx,%rax";
+
+static FULL_LINES: [Listed; 2] = [
+    Listed {
+        addr: Some(0),
+        bytes: &[0xc0, 0xf0, 5, 0, 0, 0, 0, 0, 0, 0],
+        from: 0,
+        to: 13,
+    },
+    Listed {
+        addr: Some(10),
+        bytes: &[0x60, 0x20],
+        from: 14,
+        to: 28,
+    },
+];
+
 /// Compares a listing line by line.
-fn compare(rt: &(impl Abort + AllocGlobal), source: &[u8], lines: &[Listed]) -> Result<(), Fail> {
-    let listing = assemble(rt.alloc(), Variant::Base, source, 67)?;
+fn compare(
+    rt: &(impl Abort + AllocGlobal),
+    variant: Variant,
+    source: &[u8],
+    lines: &[Listed],
+) -> Result<(), Fail> {
+    let listing = assemble(rt.alloc(), variant, source, 67)?;
     assert_eq!(rt; listing.source(), source);
     assert_eq!(rt; listing.lines().len(), lines.len());
     for (line, wanted) in listing.lines().iter().zip(lines) {
@@ -799,28 +822,11 @@ fn compare(rt: &(impl Abort + AllocGlobal), source: &[u8], lines: &[Listed]) -> 
 /// Listings with their addresses, labels that are defined later, and the copy of the source.
 #[test]
 fn lists_lines(rt: HostRuntime) -> Result<(), Fail> {
-    compare(&rt, LOOP, &LOOP_LINES)?;
-    compare(&rt, CALL, &CALL_LINES)?;
-    compare(&rt, DATA, &DATA_LINES)?;
-    compare(&rt, b"", &[])?;
-    // The second instruction set has one more mnemonic, and else the same bytes.
-    let full = assemble(
-        rt.alloc(),
-        Variant::Full,
-        b"iaddq $5,%rax\naddq %rdx,%rax",
-        67,
-    )?;
-    let first = &full.lines()[0];
-    assert_eq!(rt;
-        first.bytes.as_slice(),
-        [0xc0, 0xf0, 5, 0, 0, 0, 0, 0, 0, 0].as_slice()
-    );
-    let second = &full.lines()[1];
-    assert_eq!(rt;
-        (second.addr, second.bytes.as_slice()),
-        (Some(10), [0x60, 0x20].as_slice())
-    );
-    Ok(())
+    compare(&rt, Variant::Base, LOOP, &LOOP_LINES)?;
+    compare(&rt, Variant::Base, CALL, &CALL_LINES)?;
+    compare(&rt, Variant::Base, DATA, &DATA_LINES)?;
+    compare(&rt, Variant::Base, b"", &[])?;
+    compare(&rt, Variant::Full, FULL, &FULL_LINES)
 }
 
 /// The first line with a fault and the least fault on it, and the text of both: the reason's text is its name.
