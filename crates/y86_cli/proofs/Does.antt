@@ -4,8 +4,8 @@ use Rattle.wb_io.specs.Causes.{Rose}
 use Rattle.wb_io.specs.Files.{HasBytes, HasMore}
 use Rattle.y86_cli.specs.declared.stop.Stop as code
 use Rattle.y86_cli.specs.declared.stop.Stop.TheVariants.{Usage, Read, Write, Refused, Memory, TooLong}
-use Rattle.y86_cli.specs.Does.{FilesSeen, SinkSeen, IsLater, StopsAtRead, StopsReading, Gives, Says, Does}
-use Rattle.y86_cli.specs.Plan.{Answered, Plan, says, reads, answers, after}
+use Rattle.y86_cli.specs.Does.{FilesSeen, SinkSeen, IsLater, StopsAtRead, StopsReading, Gives, GivesOne, Says, Does}
+use Rattle.y86_cli.specs.Plan.{Answered, Plan, after, answers, gives, says, reads}
 use Rattle.y86_cli.specs.Stops.{answer_at, status_of}
 
 rose_earlier : (first before now : ℕ) → first ≤ before → Rose before now → Rose first now
@@ -41,8 +41,10 @@ Does_earlier (says P) first before last old new result later d = d
 Does_earlier (reads name limit next) first before last old new result later (inl s) = inl (reading_earlier name limit first before last old new result later s)
 Does_earlier (reads name limit next) first before last old new result later (inr more) =
     inr (more.0, more.1, has_earlier _ _ more.0 (later.stays name) more.2, Does_earlier (next more.0) first before last old new result later more.3)
+Does_earlier (gives P E next) first before last old new result later (inl more) = inl (more.0, more.1, Does_earlier (next more.0) first before last old new result later more.2)
+Does_earlier (gives P E next) first before last old new result later (inr said) = inr said
 
--- 1. a read goes on
+-- a read goes on
 pub read_goes_on : (name : List ℕ) (limit : ℕ) (next : List ℕ → Plan) (first before last : FilesSeen) (old new : SinkSeen) (result : Result ℕ code.Stop) (bytes : List ℕ) →
     IsLater first before → length bytes ≤ limit → HasBytes (first.told name) bytes →
     Does (next bytes) before last old new result → Does (reads name limit next) first last old new result
@@ -56,31 +58,29 @@ pub read_stops : (name : List ℕ) (limit : ℕ) (next : List ℕ → Plan) (fir
 unfolding Does
 read_stops name limit next first last seen stop s = inl (s, refl)
 
--- an answer is given
-pub gives : (answered : Answered) (first last : FilesSeen) (old new : SinkSeen) (result : Result ℕ code.Stop) →
+-- one of the answers is given
+pub said : (P : Answered → Type 0) (first last : FilesSeen) (old new : SinkSeen) (result : Result ℕ code.Stop) →
+    Says P old new result → Does (says P) first last old new result
+unfolding Does
+said P first last old new result s = s
+
+-- the answer is given
+pub gives_it : (answered : Answered) (first last : FilesSeen) (old new : SinkSeen) (result : Result ℕ code.Stop) →
     Says (λ a. a ≡ answered) old new result → Does (answers answered) first last old new result
 unfolding Does
-gives answered first last old new result said = said
+gives_it answered first last old new result s = s
 
--- 2. a stage goes on
-pub stage_goes_on : {A : Type 0} (stage : Result A Answered) (x : A) (next : A → Plan) (first last : FilesSeen) (old new : SinkSeen) (result : Result ℕ code.Stop) →
-    stage ≡ Ok x → Does (next x) first last old new result → Does (after stage next) first last old new result
-unfolding Does after
-stage_goes_on stage x next first last old new result is d = rw is d
-
--- 3. a stage ends early, with an answer that was given
-pub stage_ends : {A : Type 0} (stage : Result A Answered) (answered : Answered) (next : A → Plan) (first last : FilesSeen) (old new : SinkSeen) (result : Result ℕ code.Stop) →
-    stage ≡ Err answered → Says (λ a. a ≡ answered) old new result → Does (after stage next) first last old new result
-unfolding Does after
-stage_ends stage answered next first last old new result is d = rw is d
-
-memory_says : (P : Answered → Type 0) (seen : SinkSeen) → Says P seen seen (Err Memory)
-memory_says P seen = refl
-
-memory_does : (plan : Plan) (files : FilesSeen) (seen : SinkSeen) → Does plan files files seen seen (Err Memory)
+-- a stage goes on
+pub one_goes_on : {A : Type 0} (P : A → Type 0) (E : Answered → Type 0) (x : A) (next : A → Plan) (first last : FilesSeen) (old new : SinkSeen)
+    (result : Result ℕ code.Stop) → P x → Does (next x) first last old new result → Does (gives P E next) first last old new result
 unfolding Does
-memory_does (says P) files seen = memory_says P seen
-memory_does (reads name limit next) files seen = inl (tt, refl)
+one_goes_on P E x next first last old new result p d = inl (x, p, d)
+
+-- a stage ends early, with an answer that is given
+pub one_ends : {A : Type 0} (P : A → Type 0) (E : Answered → Type 0) (next : A → Plan) (first last : FilesSeen) (old new : SinkSeen)
+    (result : Result ℕ code.Stop) → Says E old new result → Does (gives P E next) first last old new result
+unfolding Does
+one_ends P E next first last old new result s = inr s
 
 refusal_says : (P : Answered → Type 0) (seen : SinkSeen) (stop : code.Stop) → status_of stop ≡ 5 → P (answer_at stop) → Says P seen seen (Err stop)
 refusal_says P seen Usage five p = absurd (cc (five))
@@ -90,15 +90,26 @@ refusal_says P seen (Refused name why) five p = (p, refl)
 refusal_says P seen Memory five p = absurd (cc (five))
 refusal_says P seen (TooLong name limit) five p = absurd (cc (five))
 
--- a stage that refuses
+-- a stage refuses
+pub one_refuses : {A B : Type 0} (P : A → Type 0) (E : Answered → Type 0) (view : B → A) (next : A → Plan) (files : FilesSeen) (seen : SinkSeen) (stop : code.Stop) →
+    GivesOne P E view (Err stop) → Does (gives P E next) files files seen seen (Err stop)
+unfolding Does
+one_refuses P E view next files seen stop (inl memory) = rw memory (inr refl)
+one_refuses P E view next files seen stop (inr refused) = inr (refusal_says E seen stop refused.0 refused.1)
+
+-- the same of a stage that gives what is defined
+pub stage_goes_on : {A : Type 0} (stage : Result A Answered) (x : A) (next : A → Plan) (first last : FilesSeen) (old new : SinkSeen) (result : Result ℕ code.Stop) →
+    stage ≡ Ok x → Does (next x) first last old new result → Does (after stage next) first last old new result
+unfolding after
+stage_goes_on stage x next first last old new result is d = one_goes_on (λ x. stage ≡ Ok x) (λ a. stage ≡ Err a) x next first last old new result is d
+
 pub stage_refuses : {A B : Type 0} (view : B → A) (stage : Result A Answered) (next : A → Plan) (files : FilesSeen) (seen : SinkSeen) (stop : code.Stop) →
     Gives view stage (Err stop) → Does (after stage next) files files seen seen (Err stop)
-unfolding Does after
-stage_refuses view stage next files seen stop (inl memory) = rw memory (memory_does (after stage next) files seen)
-stage_refuses view stage next files seen stop (inr said) = rw said.1 (refusal_says _ seen stop said.0 refl)
+unfolding after
+stage_refuses view stage next files seen stop g = one_refuses (λ x. stage ≡ Ok x) (λ a. stage ≡ Err a) view next files seen stop g
 
--- 4. one of the allowed answers is given
-says_more : (P Q : Answered → Type 0) (old new : SinkSeen) (result : Result ℕ code.Stop) → ((a : Answered) → P a → Q a) → Says P old new result → Says Q old new result
+-- of the allowed answers this one is given
+pub says_more : (P Q : Answered → Type 0) (old new : SinkSeen) (result : Result ℕ code.Stop) → ((a : Answered) → P a → Q a) → Says P old new result → Says Q old new result
 says_more P Q old new (Ok status) f s =
     record { answer = s.answer; allowed = f s.answer s.allowed; status_is = s.status_is; low = s.low; quiet = s.quiet; went = s.went; no_fault = s.no_fault }
 says_more P Q old new (Err Usage) f s = s
@@ -108,9 +119,3 @@ says_more P Q old new (Err (Refused name why)) f s = (f _ s.0, s.1)
 says_more P Q old new (Err Memory) f s = s
 says_more P Q old new (Err (TooLong name limit)) f s = s
 
-pub gives_one : (P : Answered → Type 0) (answered : Answered) (first last : FilesSeen) (old new : SinkSeen) (result : Result ℕ code.Stop) →
-    P answered → Says (λ a. a ≡ answered) old new result → Does (says P) first last old new result
-unfolding Does
-gives_one P answered first last old new result p said =
-    let Q : Answered → Type 0 = λ a. P a in
-    says_more (λ a. a ≡ answered) P old new result (λ a same. subst Q (sym same) p) said

@@ -13,57 +13,64 @@ use Rattle.yo_object.specs.declared.object.YoFault.{YoFault}
 use Rattle.y86_cli.specs.Answers.{image_of_text, plan_in, plan_of, run_status, text_of_listing, yas_plan, yis_plan, yis_run}
 use Rattle.y86_cli.specs.Does.{FilesSeen, SinkSeen}
 use Rattle.y86_cli.specs.Forms.{Command, yas, yis}
-use Rattle.y86_cli.specs.Lines.{read_fault_line, too_long_line}
-use Rattle.y86_cli.specs.Plan.{Answered, Plan, says, reads, answers, after, done, refused, Allows, Tells, IsDetermined, the_answer}
+use Rattle.y86_cli.specs.Lines.{assembly_fault_line, object_fault_line, read_fault_line, too_long_line}
+use Rattle.y86_cli.specs.Plan.{Answered, Plan, says, reads, gives, answers, after, done, refused, Allows, Tells, IsDetermined}
 use Rattle.y86_cli.specs.Ran.{Ran, Told}
 
 -- ---- determined plans
 
-long_answer : (b : Bool) (limit n : ℕ) (a long short : Answered) → limit < n → ltb limit n ≡ b → a ≡ long → a ≡ cond b long short
-long_answer true limit n a long short h e same = same
-long_answer false limit n a long short h e same = absurd (omega (arith, h, ltb-false limit n e))
-
-short_answer : (b : Bool) (limit n : ℕ) (a long short : Answered) → n ≤ limit → ltb limit n ≡ b → a ≡ short → a ≡ cond b long short
-short_answer true limit n a long short h e same = absurd (omega (arith, h, ltb-true limit n e))
-short_answer false limit n a long short h e same = same
-
-only : (plan : Plan) (one : IsDetermined plan) (contents : List (Option (List ℕ))) (a : Answered) → Allows plan contents a → a ≡ the_answer plan one contents
-only (says P) one contents a p = one.2 a p
-only (reads name limit next) one [] a p = p
-only (reads name limit next) one (None ∷ rest) a p = p
-only (reads name limit next) one (Some bytes ∷ rest) a (inl long) = long_answer _ limit (length bytes) a _ _ long.0 refl long.1
-only (reads name limit next) one (Some bytes ∷ rest) a (inr p) = short_answer _ limit (length bytes) a _ _ p.0 refl (only (next bytes) (one bytes) rest a p.1)
-
-chosen : (b : Bool) (limit n : ℕ) (long short : Answered) (P : Answered → Type 0) → ltb limit n ≡ b → P short →
-    ((limit < n) × (cond b long short ≡ long)) ⊎ ((n ≤ limit) × P (cond b long short))
-chosen true limit n long short P e p = inl (ltb-true limit n e, refl)
-chosen false limit n long short P e p = inr (ltb-false limit n e, p)
-
-allowed : (plan : Plan) (one : IsDetermined plan) (contents : List (Option (List ℕ))) → Allows plan contents (the_answer plan one contents)
-allowed (says P) one contents = one.1
-allowed (reads name limit next) one [] = refl
-allowed (reads name limit next) one (None ∷ rest) = refl
-allowed (reads name limit next) one (Some bytes ∷ rest) =
-    chosen (ltb limit (length bytes)) limit (length bytes) (refused 7 (too_long_line name limit)) (the_answer (next bytes) (one bytes) rest) (λ a. Allows (next bytes) rest a) refl (allowed (next bytes) (one bytes) rest)
-
-pub determined : (plan : Plan) (one : IsDetermined plan) (contents : List (Option (List ℕ))) (a : Answered) → Allows plan contents a ↔ (a ≡ the_answer plan one contents)
-determined plan one contents a =
-    let P : Answered → Type 0 = λ b. Allows plan contents b in
-    (only plan one contents a, λ same. subst P (sym same) (allowed plan one contents))
-
 answers_one : (a : Answered) → IsDetermined (answers a)
-answers_one a = (a, refl, λ b same. same)
+answers_one a = record { just_one = λ contents. (a, refl, λ b same. same) }
+
+-- the one answer
+abbrev One : Plan → List (Option (List ℕ)) → Type 0
+One plan contents = (a : Answered) × Allows plan contents a × ((b : Answered) → Allows plan contents b → b ≡ a)
+
+read_one : (name : List ℕ) (limit : ℕ) (next : List ℕ → Plan) → ((bytes : List ℕ) → IsDetermined (next bytes)) → (contents : List (Option (List ℕ))) →
+    One (reads name limit next) contents
+read_one name limit next one [] = (refused 3 (read_fault_line name), refl, λ b same. same)
+read_one name limit next one (None ∷ rest) = (refused 3 (read_fault_line name), refl, λ b same. same)
+read_one name limit next one (Some bytes ∷ rest) = at (ltb limit (length bytes)) refl
+  where
+    long : limit < length bytes → (b : Answered) → Allows (reads name limit next) (Some bytes ∷ rest) b → b ≡ refused 7 (too_long_line name limit)
+    long more b (inl is) = is.1
+    long more b (inr is) = absurd (omega (arith, more, is.0))
+
+    short : length bytes ≤ limit → (b : Answered) → Allows (reads name limit next) (Some bytes ∷ rest) b → b ≡ ((one bytes).just_one rest).0
+    short less b (inl is) = absurd (omega (arith, less, is.0))
+    short less b (inr is) = ((one bytes).just_one rest).2 b is.1
+
+    at : (cut : Bool) → ltb limit (length bytes) ≡ cut → One (reads name limit next) (Some bytes ∷ rest)
+    at true e = let more = ltb-true limit (length bytes) e in (refused 7 (too_long_line name limit), inl (more, refl), long more)
+    at false e = let less = ltb-false limit (length bytes) e in (((one bytes).just_one rest).0, inr (less, ((one bytes).just_one rest).1), short less)
+
+reads_one : (name : List ℕ) (limit : ℕ) (next : List ℕ → Plan) → ((bytes : List ℕ) → IsDetermined (next bytes)) → IsDetermined (reads name limit next)
+reads_one name limit next one = record { just_one = read_one name limit next one }
+
+value_one : {A : Type 0} (stage : Result A Answered) (next : A → Plan) → ((x : A) → IsDetermined (next x)) → (contents : List (Option (List ℕ))) →
+    One (after stage next) contents
+unfolding after
+value_one (Ok x) next one contents = (((one x).just_one contents).0, inl (x, refl, ((one x).just_one contents).1), only)
+  where
+    only : (b : Answered) → Allows (after (Ok x) next) contents b → b ≡ ((one x).just_one contents).0
+    only b (inl (y, is, allowed)) =
+        let same : y ≡ x = cc (is) in
+        ((one x).just_one contents).2 b (subst (λ z. Allows (next z) contents b) same allowed)
+    only b (inr is) = absurd (cc (is))
+value_one (Err a) next one contents = (a, inr refl, only)
+  where
+    only : (b : Answered) → Allows (after (Err a) next) contents b → b ≡ a
+    only b (inl (y, is, allowed)) = absurd (cc (is))
+    only b (inr is) = cc (is)
 
 after_one : {A : Type 0} (stage : Result A Answered) (next : A → Plan) → ((x : A) → IsDetermined (next x)) → IsDetermined (after stage next)
-unfolding after
-after_one (Ok x) next one = one x
-after_one (Err a) next one = answers_one a
+after_one stage next one = record { just_one = value_one stage next one }
 
 pub form_one : (form : Option Command) → IsDetermined (plan_in form)
 unfolding yas_plan yis_plan
 form_one None = answers_one _
-form_one (Some (yas source size v)) = λ bytes. after_one _ _ (λ text. answers_one _)
-form_one (Some (yis object size limit v)) = λ bytes. after_one _ _ (λ image. answers_one _)
+form_one (Some (yas source size v)) = reads_one _ _ _ (λ bytes. after_one _ _ (λ text. answers_one _))
+form_one (Some (yis object size limit v)) = reads_one _ _ _ (λ bytes. after_one _ _ (λ image. answers_one _))
 
 -- ---- what the calls give of a determined plan
 
@@ -71,12 +78,12 @@ pub told_one : (form : Option Command) (one : IsDetermined (plan_in form)) (file
     (out_before out_after err_before err_after : SinkSeen) (status : ℕ) →
     Ran form files_before files_after out_before out_after err_before err_after status →
     (contents : List (Option (List ℕ))) → Tells files_before.told (plan_in form) contents → status ≢ 3 → status ≢ 4 → status ≢ 6 →
-    (status ≡ (the_answer (plan_in form) one contents).status)
-    × Took out_before.taken out_after.taken (the_answer (plan_in form) one contents).out
-    × Told err_before err_after (the_answer (plan_in form) one contents).err
+    (status ≡ (one.just_one contents).0.status)
+    × Took out_before.taken out_after.taken (one.just_one contents).0.out
+    × Told err_before err_after (one.just_one contents).0.err
 told_one form one files_before files_after out_before out_after err_before err_after status ran contents tells three four six =
     let given = ran.answer three six in
-    let same : given.0 ≡ the_answer (plan_in form) one contents = only (plan_in form) one contents given.0 (given.1.by_told contents tells) in
+    let same : given.0 ≡ (one.just_one contents).0 = (one.just_one contents).2 given.0 (given.1.by_told contents tells) in
     let P : Answered → Type 0 = λ a. (status ≡ a.status) × Took out_before.taken out_after.taken a.out × Told err_before err_after a.err in
     subst P same (given.2.status_is four, given.2.out four, given.2.err four)
 
@@ -84,10 +91,10 @@ pub part_one : (form : Option Command) (one : IsDetermined (plan_in form)) (file
     (out_before out_after err_before err_after : SinkSeen) (status : ℕ) →
     Ran form files_before files_after out_before out_after err_before err_after status →
     (contents : List (Option (List ℕ))) → Tells files_before.told (plan_in form) contents → status ≡ 4 →
-    TookPart out_before.taken out_after.taken (the_answer (plan_in form) one contents).out
+    TookPart out_before.taken out_after.taken (one.just_one contents).0.out
 part_one form one files_before files_after out_before out_after err_before err_after status ran contents tells four =
     let given = ran.answer (λ three. omega (arith, three, four)) (λ six. omega (arith, six, four)) in
-    let same : given.0 ≡ the_answer (plan_in form) one contents = only (plan_in form) one contents given.0 (given.1.by_told contents tells) in
+    let same : given.0 ≡ (one.just_one contents).0 = (one.just_one contents).2 given.0 (given.1.by_told contents tells) in
     let P : Answered → Type 0 = λ a. TookPart out_before.taken out_after.taken a.out in
     subst P same (given.2.part four)
 
@@ -101,6 +108,7 @@ IsProper a = ((a.status ≤ 1) × (a.err ≡ [])) ⊎ ((3 ≤ a.status) × (a.st
 AllProper : Plan → Type 0
 AllProper (says P) = (a : Answered) → P a → IsProper a
 AllProper (reads name limit next) = (bytes : List ℕ) → AllProper (next bytes)
+AllProper (gives {A} P E next) = ((x : A) → P x → AllProper (next x)) × ((a : Answered) → E a → IsProper a)
 
 proper_as : (a b : Answered) → IsProper b → a ≡ b → IsProper a
 proper_as a b p same = subst IsProper (sym same) p
@@ -112,10 +120,20 @@ all_proper (reads name limit next) all [] a p = proper_as a (refused 3 (read_fau
 all_proper (reads name limit next) all (None ∷ rest) a p = proper_as a (refused 3 (read_fault_line name)) (inr (lit≤ tt, lit≤ tt, refl)) p
 all_proper (reads name limit next) all (Some bytes ∷ rest) a (inl long) = proper_as a (refused 7 (too_long_line name limit)) (inr (lit≤ tt, lit≤ tt, refl)) long.1
 all_proper (reads name limit next) all (Some bytes ∷ rest) a (inr p) = all_proper (next bytes) (all bytes) rest a p.1
+all_proper (gives P E next) all contents a (inl (x, p, more)) = all_proper (next x) (all.0 x p) contents a more
+all_proper (gives P E next) all contents a (inr e) = all.1 a e
 
 answers_proper : (b : Answered) → IsProper b → AllProper (answers b)
 unfolding AllProper
 answers_proper b p = λ a same. proper_as a b p same
+
+after_proper : {A : Type 0} (stage : Result A Answered) (next : A → Plan) → ((x : A) → AllProper (next x)) → ((a : Answered) → stage ≡ Err a → IsProper a) →
+    AllProper (after stage next)
+unfolding AllProper after
+after_proper stage next p q = (λ x is. p x, q)
+
+refused_proper : (line : List ℕ) (a : Answered) → a ≡ refused 5 line → IsProper a
+refused_proper line a same = proper_as a (refused 5 line) (inr (lit≤ tt, lit≤ tt, refl)) same
 
 run_status_low : (stat : Stat) → run_status stat ≤ 1
 run_status_low Bub = lit≤ tt
@@ -130,20 +148,20 @@ run_proper : (v : Variant) (image : List ℕ) (limit : ℕ) → IsProper (yis_ru
 unfolding yis_run
 run_proper v image limit = inl (run_status_low _, refl)
 
-text_proper : (name source : List ℕ) (listed : Result (List Line) AsmFault) → AllProper (after (text_of_listing name source listed) (λ text. answers (done 0 text)))
-unfolding AllProper after
-text_proper name source (Ok lines) = answers_proper _ (inl (lit≤ tt, refl))
-text_proper name source (Err fault) = answers_proper _ (inr (lit≤ tt, lit≤ tt, refl))
+listing_proper : (name source : List ℕ) (listed : Result (List Line) AsmFault) (a : Answered) → text_of_listing name source listed ≡ Err a → IsProper a
+listing_proper name source (Ok lines) a is = absurd (cc (is))
+listing_proper name source (Err fault) a is = refused_proper (assembly_fault_line name fault) a (cc (is))
 
-image_proper : (v : Variant) (name : List ℕ) (limit : ℕ) (loaded : Result (List ℕ) YoFault) → AllProper (after (image_of_text name loaded) (λ image. answers (yis_run v image limit)))
-unfolding AllProper after
-image_proper v name limit (Ok image) = answers_proper _ (run_proper v image limit)
-image_proper v name limit (Err fault) = answers_proper _ (inr (lit≤ tt, lit≤ tt, refl))
+image_proper : (name : List ℕ) (loaded : Result (List ℕ) YoFault) (a : Answered) → image_of_text name loaded ≡ Err a → IsProper a
+image_proper name (Ok image) a is = absurd (cc (is))
+image_proper name (Err fault) a is = refused_proper (object_fault_line name fault) a (cc (is))
 
 command_proper : (command : Command) → AllProper (plan_of command)
 unfolding AllProper yas_plan yis_plan
-command_proper (yas source size v) = λ bytes. text_proper source bytes (assembled v bytes size)
-command_proper (yis object size limit v) = λ bytes. image_proper v object limit (object_of bytes size)
+command_proper (yas source size v) =
+    λ bytes. after_proper _ _ (λ text. answers_proper _ (inl (lit≤ tt, refl))) (listing_proper source bytes (assembled v bytes size))
+command_proper (yis object size limit v) =
+    λ bytes. after_proper _ _ (λ image. answers_proper _ (run_proper v image limit)) (image_proper object (object_of bytes size))
 
 done_of : (a : Answered) → IsProper a → a.status ≤ 1 → a.err ≡ []
 done_of a (inl p) low = p.1

@@ -11,8 +11,8 @@ use Rattle.y86_cli.specs.Came.{IsAllowed, Came}
 use Rattle.y86_cli.specs.Does.{FilesSeen, SinkSeen, Does}
 use Rattle.y86_cli.specs.Forms.{Command}
 use Rattle.y86_cli.specs.Lines.{memory_line, read_fault_line, usage_line}
-use Rattle.y86_cli.specs.Plan.{Answered, Plan, Tells, comes_to, IsFaultless, refused}
-use Rattle.y86_cli.specs.Ran.{Ended, NoneRose, ReadFailed, Ran, Shows, Told}
+use Rattle.y86_cli.specs.Plan.{Answered, ComesTo, Plan, Tells, IsFaultless, refused}
+use Rattle.y86_cli.specs.Ran.{Ended, ReadFailed, Ran, Shows, Told}
 use Rattle.y86_cli.specs.Stops.{line_of, read_name, status_of}
 use Rattle.y86_cli.proofs.Came.{came, faultless_low}
 
@@ -70,13 +70,6 @@ told_quiet err text e =
 took_same : (before after : SinkSeen) → after ≡ before → Took before.taken after.taken []
 took_same before after same = let P : SinkSeen → Type 0 = λ x. Took before.taken x.taken [] in subst P (sym same) (took_nothing before.taken)
 
-none_rose : (names : List (List ℕ)) (before after : List ℕ → ℕ) (name : List ℕ) → NoneRose names before after → Contains names name → Rose (before name) (after name) → ⊥
-none_rose [] before after name none (k, inside, same) rose = absurd (omega (arith, inside))
-none_rose (first ∷ names) before after name none (zero, inside, same) rose =
-    let P : List ℕ → Type 0 = λ n. Rose (before n) (after n) in none.0 (subst P (sym same) rose)
-none_rose (first ∷ names) before after name none (suc k, inside, same) rose =
-    none_rose names before after name none.1 (k, omega (arith, inside), same) rose
-
 -- ---- a command that ended with a stop, by what came of its plan
 
 stop_answer : (plan : Plan) (files_before files_after : FilesSeen) (before after err_before err_after : SinkSeen) (stop : code.Stop) →
@@ -108,8 +101,8 @@ stop_read_failed : (plan : Plan) (files_before files_after : FilesSeen) (before 
     Came plan files_before files_after before after (Err stop) → Told err_before err_after (line_of stop) → status_of stop ≡ 3 →
     ReadFailed plan files_before files_after err_before err_after
 stop_read_failed plan files_before files_after before after err_before err_after stop (inl (inl memory, same)) told three = absurd (omega (arith, memory, three))
-stop_read_failed plan files_before files_after before after err_before err_after stop (inl (inr (name, read, rose, comes), same)) told three =
-    record { name = name; comes = comes; failed = rose; line = told_line err_before err_after (line_of stop) (read_fault_line name) (named_read stop name read).1 told }
+stop_read_failed plan files_before files_after before after err_before err_after stop (inl (inr (name, read, rose, reached), same)) told three =
+    record { name = name; reached = reached; failed = rose; line = told_line err_before err_after (line_of stop) (read_fault_line name) (named_read stop name read).1 told }
 stop_read_failed plan files_before files_after before after err_before err_after stop (inr (a, allowed, inl part)) told three = absurd (omega (arith, part.0, three))
 stop_read_failed plan files_before files_after before after err_before err_after stop (inr (a, allowed, inr whole)) told three = absurd (omega (arith, whole.0, three))
 
@@ -128,10 +121,10 @@ stop_nothing plan files_before files_after before after stop (inr (a, allowed, i
 
 stop_complete : (plan : Plan) (files_before files_after : FilesSeen) (before after : SinkSeen) (stop : code.Stop) →
     Came plan files_before files_after before after (Err stop) → (contents : List (Option (List ℕ))) → Tells files_before.told plan contents → IsFaultless plan contents →
-    NoneRose (comes_to plan contents) files_before.faults files_after.faults → (Rose before.faults after.faults → ⊥) → status_of stop ≡ 6
+    ((name : List ℕ) → ComesTo plan contents name → Rose (files_before.faults name) (files_after.faults name) → ⊥) → (Rose before.faults after.faults → ⊥) → status_of stop ≡ 6
 stop_complete plan files_before files_after before after stop (inl (inl memory, same)) contents tells faultless none write = memory
-stop_complete plan files_before files_after before after stop (inl (inr (name, read, rose, comes), same)) contents tells faultless none write =
-    absurd (none_rose (comes_to plan contents) files_before.faults files_after.faults name none (comes.by_told contents tells) rose)
+stop_complete plan files_before files_after before after stop (inl (inr (name, read, rose, reached), same)) contents tells faultless none write =
+    absurd (none name (reached.by_told contents tells) rose)
 stop_complete plan files_before files_after before after stop (inr (a, allowed, inl part)) contents tells faultless none write = absurd (write (Rose-counted before.faults after.faults part.2))
 stop_complete plan files_before files_after before after stop (inr (a, allowed, inr whole)) contents tells faultless none write =
     let low : a.status ≤ 1 = faultless_low plan contents a faultless (allowed.by_told contents tells) in
@@ -165,7 +158,7 @@ usage_ran files_before files_after before after err_before err_after same told =
   usage = λ _. refl;
   answer = λ _ _. (
     refused 2 usage_line,
-    record { contents = []; agrees = tt; by_some = refl; by_told = λ contents tells. refl },
+    record { by_some = refl; by_told = λ contents tells. refl },
     record { status_is = λ _. refl; out = λ _. took_same before after same; part = λ four. absurd (omega (arith, four)); err = λ _. told },
   );
   read_failed = λ three. absurd (omega (arith, three));

@@ -1,33 +1,21 @@
 -- What came of a plan: the answer by some contents that agree with what the files tell, or a lost call.
-use Rattle.std.specs.Prelude.{◌≡◌, ◌⊎◌, ℕ, ◌≤◌, List, [], ◌∷◌, length, Option, Some, None, IfSome, Result, Ok, Err, Contains}
+use Rattle.std.specs.Prelude.{◌≡◌, ◌⊎◌, ℕ, ◌≤◌, List, [], Option, Some, Result, Ok, Err}
 use Rattle.wb_io.specs.Causes.{Rose, counted}
-use Rattle.wb_io.specs.Files.{HasBytes}
 use Rattle.wb_io.specs.Sinks.{Took, TookPart}
 use Rattle.y86_cli.specs.declared.stop.Stop as code
 use Rattle.y86_cli.specs.Does.{FilesSeen, SinkSeen}
-use Rattle.y86_cli.specs.Plan.{Answered, Plan, says, reads, Allows, Tells, comes_to}
+use Rattle.y86_cli.specs.Plan.{Answered, Plan, Allows, ComesTo, MayAnswer, MayComeTo, Tells}
 use Rattle.y86_cli.specs.Stops.{answer_at, read_name, status_of}
-
--- the contents agree with what the files tell, as far as the answer comes
-abbrev pub Agrees : (List ℕ → Option (Option (List ℕ))) → Plan → List (Option (List ℕ)) → Type 0
-Agrees told (says P) contents = Unit {0}
-Agrees told (reads name limit next) [] = Unit {0}
-Agrees told (reads name limit next) (None ∷ rest) = IfSome (told name) (λ known. known ≡ None)
-Agrees told (reads name limit next) (Some bytes ∷ rest) = HasBytes (told name) bytes × (length bytes ≤ limit → Agrees told (next bytes) rest)
 
 -- an answer is allowed by some contents that agree with what the files tell, and by all contents that they tell
 pub record IsAllowed (plan : Plan) (told : List ℕ → Option (Option (List ℕ))) (a : Answered) : Type 0 where
-  pub contents : List (Option (List ℕ))
-  pub agrees : Agrees told plan contents
-  pub by_some : Allows plan contents a
-  pub by_told : (all : List (Option (List ℕ))) → Tells told plan all → Allows plan all a
+  pub by_some : MayAnswer told plan a
+  pub by_told : (contents : List (Option (List ℕ))) → Tells told plan contents → Allows plan contents a
 
 -- the answer comes to a file, by some contents that agree with what the files tell, and by all contents that they tell
-pub record ComesTo (plan : Plan) (told : List ℕ → Option (Option (List ℕ))) (name : List ℕ) : Type 0 where
-  pub contents : List (Option (List ℕ))
-  pub agrees : Agrees told plan contents
-  pub by_some : Contains (comes_to plan contents) name
-  pub by_told : (all : List (Option (List ℕ))) → Tells told plan all → Contains (comes_to plan all) name
+pub record IsReached (plan : Plan) (told : List ℕ → Option (Option (List ℕ))) (name : List ℕ) : Type 0 where
+  pub by_some : MayComeTo told plan name
+  pub by_told : (contents : List (Option (List ℕ))) → Tells told plan contents → ComesTo plan contents name
 
 -- a call gave an answer: whole, in part where a write failed, or as a refusal
 abbrev pub Fits : Answered → SinkSeen → SinkSeen → Result ℕ code.Stop → Type 0
@@ -39,7 +27,7 @@ Fits a before after (Err stop) =
 -- want of memory, or a read of a file that the answer comes to failed
 abbrev pub IsLost : Plan → FilesSeen → FilesSeen → code.Stop → Type 0
 IsLost plan before after stop =
-    (status_of stop ≡ 6) ⊎ ((name : List ℕ) × (read_name stop ≡ Some name) × Rose (before.faults name) (after.faults name) × ComesTo plan before.told name)
+    (status_of stop ≡ 6) ⊎ ((name : List ℕ) × (read_name stop ≡ Some name) × Rose (before.faults name) (after.faults name) × IsReached plan before.told name)
 
 abbrev pub Loses : Plan → FilesSeen → FilesSeen → SinkSeen → SinkSeen → Result ℕ code.Stop → Type 0
 Loses plan files_before files_after before after (Ok status) = ⊥

@@ -5,7 +5,7 @@ use Rattle.wb_io.specs.Files.{HasBytes, HasMore}
 use Rattle.wb_io.specs.Sinks.{Took, TookPart}
 use Rattle.y86_cli.specs.declared.stop.Stop as code
 use Rattle.y86_cli.specs.declared.stop.Stop.TheVariants.{Write, Refused, Memory, Read, TooLong}
-use Rattle.y86_cli.specs.Plan.{Answered, Plan, says, reads}
+use Rattle.y86_cli.specs.Plan.{Answered, Plan, gives, says, reads}
 use Rattle.y86_cli.specs.Stops.{answer_at, status_of}
 
 -- the files: what they tell, and for each name a count of the reads that failed
@@ -35,6 +35,11 @@ StopsAtRead name limit before after Memory = Unit {0}
 StopsAtRead name limit before after (Read other) = (other.now ≡ name) × Rose (before.faults name) (after.faults name)
 StopsAtRead name limit before after (TooLong other n) = (other.now ≡ name) × (n ≡ limit) × HasMore (before.told name) limit
 StopsAtRead name limit before after _ = ⊥
+
+-- a stage gives one of the values, or a refusal that is one of the answers, or want of memory
+abbrev pub GivesOne : {A B : Type 0} → (A → Type 0) → (Answered → Type 0) → (B → A) → Result B code.Stop → Type 0
+GivesOne P E view (Ok x) = P (view x)
+GivesOne P E view (Err stop) = (stop ≡ Memory) ⊎ ((status_of stop ≡ 5) × E (answer_at stop))
 
 -- a stage gives what is defined, or the refusal that is defined, or want of memory
 abbrev pub Gives : {A B : Type 0} → (B → A) → Result A Answered → Result B code.Stop → Type 0
@@ -79,3 +84,5 @@ Does (says P) files_before files_after before after result = Says P before after
 Does (reads name limit next) files_before files_after before after result =
     StopsReading name limit files_before files_after before after result
     ⊎ ((bytes : List ℕ) × (length bytes ≤ limit) × HasBytes (files_before.told name) bytes × Does (next bytes) files_before files_after before after result)
+Does (gives {A} P E next) files_before files_after before after result =
+    ((x : A) × P x × Does (next x) files_before files_after before after result) ⊎ Says E before after result

@@ -9,11 +9,11 @@ use Rattle.wb_io.specs.Sinks.{Took, TookPart}
 use Rattle.y86_cli.specs.declared.stop.Stop as code
 use Rattle.y86_cli.specs.declared.stop.Stop.TheVariants.{Usage}
 use Rattle.y86_cli.specs.Answers.{plan_in, plan_of}
-use Rattle.y86_cli.specs.Came.{ComesTo, IsAllowed}
+use Rattle.y86_cli.specs.Came.{IsAllowed, IsReached}
 use Rattle.y86_cli.specs.Does.{Does, FilesSeen, SinkSeen}
 use Rattle.y86_cli.specs.Forms.{Command}
 use Rattle.y86_cli.specs.Lines.{memory_line, read_fault_line}
-use Rattle.y86_cli.specs.Plan.{Answered, IsFaultless, Plan, Tells, comes_to}
+use Rattle.y86_cli.specs.Plan.{Answered, ComesTo, IsFaultless, Plan, Tells}
 
 -- the words of a call behind the program's own name
 abbrev pub words_behind : IntoIter (String Global) Global → List (List ℕ)
@@ -39,14 +39,9 @@ pub record Shows (a : Answered) (out_before out_after err_before err_after : Sin
 -- a read of a file that the answer comes to failed, and the line on standard error names it
 pub record ReadFailed (plan : Plan) (files_before files_after : FilesSeen) (err_before err_after : SinkSeen) : Type 0 where
   pub name : List ℕ
-  pub comes : ComesTo plan files_before.told name
+  pub reached : IsReached plan files_before.told name
   pub failed : Rose (files_before.faults name) (files_after.faults name)
   pub line : Told err_before err_after (read_fault_line name)
-
--- no count of these names rose
-abbrev pub NoneRose : List (List ℕ) → (List ℕ → ℕ) → (List ℕ → ℕ) → Type 0
-NoneRose [] before after = Unit {0}
-NoneRose (name ∷ names) before after = (Rose (before name) (after name) → ⊥) × NoneRose names before after
 
 pub record Ran (form : Option Command) (files_before files_after : FilesSeen) (out_before out_after err_before err_after : SinkSeen) (status : ℕ) : Type 0 where
   pub at_most_seven : status ≤ 7
@@ -66,5 +61,5 @@ pub record Ran (form : Option Command) (files_before files_after : FilesSeen) (o
   pub nothing_err : (status ≤ 1) ⊎ (status ≡ 4) → err_after ≡ err_before
   -- where nothing outside fails and no file that the answer comes to has a fault, an answer with 0 or 1 comes, or want of memory
   pub complete : (contents : List (Option (List ℕ))) → Tells files_before.told (plan_in form) contents → IsFaultless (plan_in form) contents →
-      NoneRose (comes_to (plan_in form) contents) files_before.faults files_after.faults → (Rose out_before.faults out_after.faults → ⊥) →
+      ((name : List ℕ) → ComesTo (plan_in form) contents name → Rose (files_before.faults name) (files_after.faults name) → ⊥) → (Rose out_before.faults out_after.faults → ⊥) →
       (status ≡ 6) ⊎ (status ≤ 1)

@@ -5,7 +5,7 @@ ghost use Rattle.y86_base.specs.declared.parts.Variant.TheVariants.{Base};
 ghost use Rattle.y86_cli.specs.Answers.{plan_in, plan_of};
 ghost use Rattle.y86_cli.specs.Does.{FilesSeen, SinkSeen};
 ghost use Rattle.y86_cli.specs.Forms.{Command, form_of, yas, yis};
-ghost use Rattle.y86_cli.specs.Plan.{Answered, Allows, IsDetermined, Tells, the_answer};
+ghost use Rattle.y86_cli.specs.Plan.{Answered, Allows, IsDetermined, Tells};
 ghost use Rattle.y86_cli.specs.Ran.{Ran, Told};
 ghost use Rattle.y86_cli.specs.Wording.{AreArguments, AreOptions, HasForm, IsFileName, IsLegal, words_of};
 
@@ -33,21 +33,19 @@ pub fn law_of_answers()
 {}
 
 /// The answer is a function of the contents of the files: each command's plan allows just one, and where the files tell their
-/// contents, a call gives that one, or 3, 4 or 6; with 4 a proper prefix of its text goes out.
+/// contents, a call gives that one, or ends with 3, 4 or 6; with 4 a proper prefix of its text goes out.
 pub fn law_of_plans()
     ensures one { (form : Option Command) → IsDetermined (plan_in form) }
-    ensures only { (form : Option Command) (one : IsDetermined (plan_in form)) (contents : List (Option (List ℕ))) (a : Answered) →
-        Allows (plan_in form) contents a ↔ (a ≡ the_answer (plan_in form) one contents) }
     ensures told { (form : Option Command) (one : IsDetermined (plan_in form)) (files_before files_after : FilesSeen)
         (out_before out_after err_before err_after : SinkSeen) (status : ℕ) →
         Ran form files_before files_after out_before out_after err_before err_after status →
         (contents : List (Option (List ℕ))) → Tells files_before.told (plan_in form) contents → status ≢ 3 → status ≢ 4 → status ≢ 6 →
-        (status ≡ (the_answer (plan_in form) one contents).status)
-        × Took out_before.taken out_after.taken (the_answer (plan_in form) one contents).out
-        × Told err_before err_after (the_answer (plan_in form) one contents).err }
+        (status ≡ (one.just_one contents).0.status)
+        × Took out_before.taken out_after.taken (one.just_one contents).0.out
+        × Told err_before err_after (one.just_one contents).0.err }
     ensures part { (form : Option Command) (one : IsDetermined (plan_in form)) (files_before files_after : FilesSeen)
         (out_before out_after err_before err_after : SinkSeen) (status : ℕ) →
         Ran form files_before files_after out_before out_after err_before err_after status →
         (contents : List (Option (List ℕ))) → Tells files_before.told (plan_in form) contents → status ≡ 4 →
-        TookPart out_before.taken out_after.taken (the_answer (plan_in form) one contents).out }
+        TookPart out_before.taken out_after.taken (one.just_one contents).0.out }
 {}

@@ -63,7 +63,7 @@ fn object_text<'a>(
 }
 
 /// `yas`: prints the object text of an assembly file.
-#[tactic(auto, unfolding(crate::specs::Answers::yas_plan, crate::specs::Plan::after, crate::specs::Does::Does), using(crate::proofs::Does::gives, crate::proofs::Does::read_goes_on, crate::proofs::Does::read_stops, crate::proofs::Does::stage_goes_on, crate::proofs::Does::stage_refuses))]
+#[tactic(auto, unfolding(crate::specs::Answers::yas_plan), using(crate::proofs::Does::gives_it, crate::proofs::Does::read_goes_on, crate::proofs::Does::read_stops, crate::proofs::Does::stage_goes_on, crate::proofs::Does::stage_refuses))]
 pub fn yas<'a, F: Files, O: Sink>(
     alloc: Global,
     asm: &'a str,

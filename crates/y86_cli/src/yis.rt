@@ -84,7 +84,7 @@ fn run_image<'a, O: Sink>(
 }
 
 /// `yis`: runs an object file at the level of instructions.
-#[tactic(auto, unfolding(crate::specs::Answers::yis_plan, crate::specs::Plan::after, crate::specs::Does::Does), using(crate::proofs::Does::gives, crate::proofs::Does::read_goes_on, crate::proofs::Does::read_stops, crate::proofs::Does::stage_goes_on, crate::proofs::Does::stage_refuses))]
+#[tactic(auto, unfolding(crate::specs::Answers::yis_plan), using(crate::proofs::Does::gives_it, crate::proofs::Does::read_goes_on, crate::proofs::Does::read_stops, crate::proofs::Does::stage_goes_on, crate::proofs::Does::stage_refuses))]
 pub fn yis<'a, F: Files, O: Sink>(
     alloc: Global,
     obj: &'a str,

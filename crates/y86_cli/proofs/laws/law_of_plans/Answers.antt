@@ -1,12 +1,8 @@
-use Rattle.y86_cli.specs.Answers.{plan_in}
-use Rattle.y86_cli.proofs.Plans.{form_one, determined, told_one, part_one}
+use Rattle.y86_cli.proofs.Plans.{form_one, told_one, part_one}
 use Rattle.y86_cli.proofs.laws.law_of_plans.Goals as goal
 
 pub returns-clause-one : goal.returns-clause-one
 returns-clause-one c = form_one
-
-pub returns-clause-only : goal.returns-clause-only
-returns-clause-only c = λ form. determined (plan_in form)
 
 pub returns-clause-told : goal.returns-clause-told
 returns-clause-told c = told_one
