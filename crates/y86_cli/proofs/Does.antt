@@ -1,10 +1,10 @@
 -- How a call goes on, stage after stage.
-use Rattle.std.proofs.Common.{◌≡◌, ℕ, ◌≤◌, List, length, refl, sym, subst, inl, inr, Option, Some, None, IfSome, Result, Ok, Err, arith}
+use Rattle.std.proofs.Common.{◌≡◌, ◌⊎◌, ℕ, ◌≤◌, List, length, refl, inl, inr, Option, Some, None, IfSome, Result, Ok, Err, arith}
 use Rattle.wb_io.specs.Causes.{Rose}
 use Rattle.wb_io.specs.Files.{HasBytes, HasMore}
 use Rattle.y86_cli.specs.declared.stop.Stop as code
 use Rattle.y86_cli.specs.declared.stop.Stop.TheVariants.{Usage, Read, Write, Refused, Memory, TooLong}
-use Rattle.y86_cli.specs.Does.{FilesSeen, SinkSeen, IsLater, StopsAtRead, StopsReading, Gives, GivesOne, Says, Does}
+use Rattle.y86_cli.specs.Does.{FilesSeen, SinkSeen, IsLater, StopsAtRead, StopsReading, Says, Does}
 use Rattle.y86_cli.specs.Plan.{Answered, Plan, after, answers, gives, says, reads}
 use Rattle.y86_cli.specs.Stops.{answer_at, status_of}
 
@@ -91,11 +91,11 @@ refusal_says P seen Memory five p = absurd (cc (five))
 refusal_says P seen (TooLong name limit) five p = absurd (cc (five))
 
 -- a stage refuses
-pub one_refuses : {A B : Type 0} (P : A → Type 0) (E : Answered → Type 0) (view : B → A) (next : A → Plan) (files : FilesSeen) (seen : SinkSeen) (stop : code.Stop) →
-    GivesOne P E view (Err stop) → Does (gives P E next) files files seen seen (Err stop)
+pub one_refuses : {A : Type 0} (P : A → Type 0) (E : Answered → Type 0) (next : A → Plan) (files : FilesSeen) (seen : SinkSeen) (stop : code.Stop) →
+    (stop ≡ Memory) ⊎ ((status_of stop ≡ 5) × E (answer_at stop)) → Does (gives P E next) files files seen seen (Err stop)
 unfolding Does
-one_refuses P E view next files seen stop (inl memory) = rw memory (inr refl)
-one_refuses P E view next files seen stop (inr refused) = inr (refusal_says E seen stop refused.0 refused.1)
+one_refuses P E next files seen stop (inl memory) = rw memory (inr refl)
+one_refuses P E next files seen stop (inr refused) = inr (refusal_says E seen stop refused.0 refused.1)
 
 -- the same of a stage that gives what is defined
 pub stage_goes_on : {A : Type 0} (stage : Result A Answered) (x : A) (next : A → Plan) (first last : FilesSeen) (old new : SinkSeen) (result : Result ℕ code.Stop) →
@@ -103,10 +103,10 @@ pub stage_goes_on : {A : Type 0} (stage : Result A Answered) (x : A) (next : A �
 unfolding after
 stage_goes_on stage x next first last old new result is d = one_goes_on (λ x. stage ≡ Ok x) (λ a. stage ≡ Err a) x next first last old new result is d
 
-pub stage_refuses : {A B : Type 0} (view : B → A) (stage : Result A Answered) (next : A → Plan) (files : FilesSeen) (seen : SinkSeen) (stop : code.Stop) →
-    Gives view stage (Err stop) → Does (after stage next) files files seen seen (Err stop)
+pub stage_refuses : {A : Type 0} (stage : Result A Answered) (next : A → Plan) (files : FilesSeen) (seen : SinkSeen) (stop : code.Stop) →
+    (stop ≡ Memory) ⊎ ((status_of stop ≡ 5) × (stage ≡ Err (answer_at stop))) → Does (after stage next) files files seen seen (Err stop)
 unfolding after
-stage_refuses view stage next files seen stop g = one_refuses (λ x. stage ≡ Ok x) (λ a. stage ≡ Err a) view next files seen stop g
+stage_refuses stage next files seen stop g = one_refuses (λ x. stage ≡ Ok x) (λ a. stage ≡ Err a) next files seen stop g
 
 -- of the allowed answers this one is given
 pub says_more : (P Q : Answered → Type 0) (old new : SinkSeen) (result : Result ℕ code.Stop) → ((a : Answered) → P a → Q a) → Says P old new result → Says Q old new result
@@ -118,4 +118,3 @@ says_more P Q old new (Err Write) f s = record { answer = s.answer; allowed = f 
 says_more P Q old new (Err (Refused name why)) f s = (f _ s.0, s.1)
 says_more P Q old new (Err Memory) f s = s
 says_more P Q old new (Err (TooLong name limit)) f s = s
-

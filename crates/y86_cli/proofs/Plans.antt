@@ -1,5 +1,5 @@
 -- Plans: the answer of a determined one is a function of the contents, and what each answer has.
-use Rattle.std.proofs.Common.{◌≡◌, ◌⊎◌, ◌↔◌, ◌≢◌, ℕ, ◌<◌, ◌≤◌, Bool, true, false, cond, ltb, List, [], ◌∷◌, length, refl, sym, subst, inl, inr, Option, Some, None, Result, Ok, Err, lit≤, arith}
+use Rattle.std.proofs.Common.{◌≡◌, ◌⊎◌, ◌↔◌, ◌≢◌, ℕ, ◌<◌, ◌≤◌, Bool, true, false, ltb, List, [], ◌∷◌, length, refl, sym, subst, inl, inr, Option, Some, None, Result, Ok, Err, lit≤, arith}
 use Rattle.std.proofs.lemmas.Bool.{ltb-true, ltb-false}
 use Rattle.wb_io.specs.Sinks.{Took, TookPart}
 use Rattle.y86_base.specs.declared.parts.Stat.{Stat}
@@ -14,7 +14,7 @@ use Rattle.y86_cli.specs.Answers.{image_of_text, plan_in, plan_of, run_status, t
 use Rattle.y86_cli.specs.Does.{FilesSeen, SinkSeen}
 use Rattle.y86_cli.specs.Forms.{Command, yas, yis}
 use Rattle.y86_cli.specs.Lines.{assembly_fault_line, object_fault_line, read_fault_line, too_long_line}
-use Rattle.y86_cli.specs.Plan.{Answered, Plan, says, reads, gives, answers, after, done, refused, Allows, Tells, IsDetermined}
+use Rattle.y86_cli.specs.Plan.{Answered, Plan, says, reads, gives, answers, after, refused, Allows, Tells, IsDetermined}
 use Rattle.y86_cli.specs.Ran.{Ran, Told}
 
 -- ---- determined plans

@@ -1,5 +1,5 @@
 -- The clauses of the whole program, from what the code did: once for all commands.
-use Rattle.std.proofs.Common.{◌≡◌, ◌≢◌, ◌⊎◌, ℕ, ◌≤◌, List, [], ◌∷◌, refl, sym, ap, subst, inl, inr, Option, Some, None, Contains, Result, Ok, Err, lit≤, zero, suc, arith, ◌∙◌}
+use Rattle.std.proofs.Common.{◌≡◌, ◌≢◌, ◌⊎◌, ℕ, ◌≤◌, List, [], refl, sym, ap, subst, inl, inr, Option, Some, None, Result, Ok, Err, lit≤, arith, ◌∙◌}
 use Rattle.wb_io.specs.Causes.{Rose, counted}
 use Rattle.wb_io.specs.Sinks.{Took, TookPart}
 use Rattle.wb_io.proofs.Rises.{Rose-counted}
