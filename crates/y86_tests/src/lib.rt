@@ -7,3 +7,5 @@ mod designs;
 mod hcl;
 #[cfg(test)]
 mod printing;
+#[cfg(test)]
+mod sequential;
