@@ -1,0 +1,5 @@
+pub mod Comments
+pub mod Readers
+pub mod Found
+pub mod Read
+pub mod Lines
