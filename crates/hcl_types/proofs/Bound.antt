@@ -64,7 +64,7 @@ placed p xs id e = by (nat_lt (position_or_len p xs) (length xs)) refl e
 
 -- ---- definitions among items
 
-definition_more : (before items : List Item) (name : List ℕ) → definition (before ++ items) name ≡ or_else (definition before name) (definition items name)
+pub definition_more : (before items : List Item) (name : List ℕ) → definition (before ++ items) name ≡ or_else (definition before name) (definition items name)
 definition_more [] items name = refl
 definition_more (i ∷ before) items name = by (body_in name i) (definition_more before items name)
   where

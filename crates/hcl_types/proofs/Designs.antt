@@ -23,7 +23,7 @@ use Rattle.hcl_types.proofs.TermsOf.{WhereOk, each_ok, term_inside}
 
 -- ---- lists
 
-filtered_at : {A : Type 0} (p : A → Bool) (xs : List A) (k : ℕ) (x : A) → slice_get (filter p xs) k ≡ Some x → (n : ℕ) × (slice_get xs n ≡ Some x)
+pub filtered_at : {A : Type 0} (p : A → Bool) (xs : List A) (k : ℕ) (x : A) → slice_get (filter p xs) k ≡ Some x → (n : ℕ) × (slice_get xs n ≡ Some x)
 filtered_at p [] k x e = absurd (grind (arith, e))
 filtered_at {A} p (y ∷ ys) k x e = by (λ j q. filtered_at p ys j x q) (p y) refl k e
   where
@@ -84,14 +84,14 @@ or_none (Some x) p e = absurd (grind (arith, e))
 
 module _ (rows : List Row) where
   -- the definition of a name has no fault where the file has none
-  record Faultless (name : List ℕ) (body : Expr) : Type 0 where
+  pub record Faultless (name : List ℕ) (body : Expr) : Type 0 where
     pub before : List Item
     pub kind : Kind
     pub other : List ℕ
     pub same : name ≡ other
     pub none : item_fault rows before (item.Def kind other body) ≡ None
 
-  faultless : (before items : List Item) (name : List ℕ) (body : Expr) → first_fault rows before items ≡ None → definition items name ≡ Some body → Faultless name body
+  pub faultless : (before items : List Item) (name : List ℕ) (body : Expr) → first_fault rows before items ≡ None → definition items name ≡ Some body → Faultless name body
   unfolding first_fault
   faultless before [] name body h d = absurd (grind (arith, d))
   faultless before (item.Quote text ∷ items) name body h d = faultless (before ++ item.Quote text ∷ []) items name body h d
@@ -109,11 +109,11 @@ module _ (rows : List Row) where
           let one : its ≡ body = grind (arith, now) in
           record { before = before; kind = k; other = other; same = (bytes_decides name other).0 p; none = subst (λ z. item_fault rows before (item.Def k other z) ≡ None) one clean }
 
-  no_fault : {A : Type 0} (r : Result A BindFault) → fault_in r ≡ None → (x : A) × (r ≡ Ok x)
+  pub no_fault : {A : Type 0} (r : Result A BindFault) → fault_in r ≡ None → (x : A) × (r ≡ Ok x)
   no_fault (Ok x) e = (x, refl)
   no_fault (Err z) e = absurd (grind (arith, e))
 
-  row_at : IsApart (row_names rows) → (n : ℕ) (row : Row) → slice_get rows n ≡ Some row → row_named rows row.name ≡ Some row
+  pub row_at : IsApart (row_names rows) → (n : ℕ) (row : Row) → slice_get rows n ≡ Some row → row_named rows row.name ≡ Some row
   row_at apart n row e = rw (place_at (row_names rows) apart n row.name (name_at rows n row e)) e
 
   -- the term of a row that is defined without a fault is of the row's class

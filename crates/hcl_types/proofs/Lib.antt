@@ -8,3 +8,5 @@ pub mod Naming
 pub mod Bound
 pub mod TermsOf
 pub mod Designs
+pub mod UsesOf
+pub mod Faulted

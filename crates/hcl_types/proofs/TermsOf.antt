@@ -35,7 +35,7 @@ each_ok P f (x ∷ xs) h =
     then_ok P (Each P) (λ y. and_then (all_ok (map f xs)) (λ ys. Ok (y ∷ ys)))
     (λ y p. then_ok (Each P) (Each P) (λ ys. Ok (y ∷ ys)) (λ ys q. (p, q)) (all_ok (map f xs)) (each_ok P f xs h.1)) (f x) h.0
 
-found_inside : (name : List ℕ) (rows : List (List ℕ)) (id : ℕ) → place rows name ≡ Some id → id < length rows
+pub found_inside : (name : List ℕ) (rows : List (List ℕ)) (id : ℕ) → place rows name ≡ Some id → id < length rows
 found_inside name rows id e = by (nat_lt (position_or_len (pointwise nat_eq name) rows) (length rows)) refl e
   where
     by : (b : Bool) → nat_lt (position_or_len (pointwise nat_eq name) rows) (length rows) ≡ b → cond b (Some (position_or_len (pointwise nat_eq name) rows)) None ≡ Some id → id < length rows

@@ -7,3 +7,4 @@ pub mod Signals
 pub mod Places
 pub mod Binding
 pub mod BindSteps
+pub mod Faults

@@ -19,7 +19,7 @@ pub use eval::{Plain, SignalEval};
 pub use fault::{BindFault, BindWhy};
 pub use hcl_read::{CmpOp, Kind, Text};
 pub use kinds::{Kinds, kinds_of};
-pub use laws::{law_of_orders, law_of_values};
+pub use laws::{law_of_faults, law_of_orders, law_of_values};
 pub use names::put_names;
 pub use table::{Class, Design, Order, Role, Row, Table};
 pub use term::{NameId, Term, TermBranch};
