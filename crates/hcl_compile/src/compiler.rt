@@ -1,0 +1,77 @@
+ghost use Rattle.std.specs.Prelude.{◌≤◌, IfOk, length};
+ghost use Rattle.hcl_types.specs.Lists.{Each};
+ghost use Rattle.hcl_compile.specs.declared.slot.Prog.{Prog};
+ghost use Rattle.hcl_compile.specs.Slots.{ArePrograms, Evaluates, IsProgram};
+
+use crate::slot::{Compiled, Prog, Slot};
+use crate::terms::put_term;
+use hcl_types::{Design, Order, SignalEval, Term};
+use std::alloc::{AllocError, Global};
+use y86_base::{Items, Memory};
+
+/// The program of a term.
+fn program(alloc: Global, t: &Term) -> Result<Prog, AllocError>
+    ensures { IfOk result (λ prog. IsProgram t.now prog.slots) }
+{
+    let mut slots = Vec::new(alloc);
+    let place = put_term(alloc, t, &mut slots)?;
+    let is_last = place + 1 == slots.len() as u64;
+    if !is_last {
+        // a slot that repeats the value
+        slots.push(Slot::Pick {
+            guard: place,
+            yes: place,
+            rest: place,
+        })?;
+    }
+    Ok(Prog {
+        slots: Items::of(slots),
+    })
+}
+
+fn programs(alloc: Global, terms: &[Term]) -> Result<Vec<Prog>, AllocError>
+    ensures { IfOk result (λ progs. ArePrograms terms.now progs.items) }
+{
+    let mut progs = Vec::new(alloc);
+    for t in terms {
+        progs.push(program(alloc, t)?)?;
+    }
+    Ok(progs)
+}
+
+/// How many slots the longest program has.
+fn longest(progs: &[Prog]) -> usize
+    ensures { Each (λ (prog : Prog). length prog.slots ≤ result) progs.now }
+{
+    let mut most = 0;
+    for prog in progs {
+        let size = prog.slots.items().len();
+        if size > most {
+            most = size;
+        }
+    }
+    most
+}
+
+fn compiled(alloc: Global, d: &Design) -> Result<Compiled, AllocError>
+    ensures { IfOk result (λ c. Evaluates c.progs (length c.words) d.now.terms) }
+{
+    let progs = programs(alloc, d.terms.items())?;
+    let words = vec![in alloc; 0u64; longest(progs.as_slice())]?;
+    Ok(Compiled {
+        progs: Items::of(progs),
+        words: Items::of(words),
+    })
+}
+
+/// Programs for the definitions of a design, and the words for running them: the evaluator takes no memory
+/// afterwards. Each program reads the names of other definitions as entries, which stand there once those were
+/// computed, in the sequence of the order.
+pub fn compile(alloc: Global, d: &Design, _o: &Order) -> Result<Compiled, Memory>
+    ensures { IfOk result (λ c. ⟦<Compiled as SignalEval>⟧.evaluates c d.now.terms) }
+{
+    match compiled(alloc, d) {
+        Ok(c) => Ok(c),
+        Err(_) => Err(Memory),
+    }
+}
