@@ -1,6 +1,6 @@
 -- A text has at most one fault.
-use Rattle.std.proofs.Common.{◌≡◌, ◌≤◌, ◌<◌, ap, ap₂, sym, subst, ◌∙◌, ℕ, zero, suc, Bool, true, false, cond, List, [], ◌∷◌, ◌++◌, length, map, drop, Result, Ok, Err, refl, arith, nat_lt, zero-le, le_trans, append-nil, length-append, length-drop}
-use Rattle.std.specs.Prelude.{◌≢◌, nat_le}
+use Rattle.std.proofs.Common.{◌≡◌, ◌≤◌, ap, sym, subst, ◌∙◌, ℕ, suc, Bool, true, false, cond, List, [], ◌∷◌, ◌++◌, length, drop, Result, Ok, Err, refl, arith, nat_lt, zero-le, le_trans, length-append}
+use Rattle.std.specs.Prelude.{nat_le}
 use Rattle.std.proofs.lemmas.Bool.Decides.{nat_tests}
 use Rattle.std.proofs.lemmas.List.{append_cancel_right}
 use Rattle.hcl_read.specs.declared.tree.Expr.{Expr}
@@ -15,16 +15,14 @@ use Rattle.hcl_read.specs.declared.frames.Frame.{Frame}
 use Rattle.hcl_read.specs.declared.frames.Frame.TheVariants.{Paren, Set, Guard, Value}
 use Rattle.hcl_read.specs.declared.frames.Spot.{Spot}
 use Rattle.hcl_read.specs.declared.frames.Spot.TheVariants.{Want, WantRight, AfterPrim, After, WantSet, Cases}
-use Rattle.hcl_read.specs.declared.state.Move.{Move}
 use Rattle.hcl_read.specs.declared.state.Place.{Place}
 use Rattle.hcl_read.specs.declared.state.Place.TheVariants.{Between, WantQuote, WantSignal, WantSignalText, WantName, WantAssign, Body}
 use Rattle.hcl_read.specs.declared.state.State.{State}
-use Rattle.hcl_read.specs.Grammar.{IsFile}
 use Rattle.hcl_read.specs.Fault.{Accepts, noted, noted_all, NamesFit, Viable, Fits, Stands, Reason, FaultAt}
 use Rattle.y86_base.specs.Cursor.{line_behind, column_behind}
 use Rattle.hcl_read.specs.Tokens.{items, tokens}
 use Rattle.hcl_read.specs.Read.{IsFault, ReadsAs, kinds, bytes_from}
-use Rattle.hcl_read.specs.Machine.{refusal, prim, want, close, after, after_prim, want_set, after_branch, body_step, moved, place_step, step, on, run, ended, Outcome, at_end, outcome_at, outcome, start}
+use Rattle.hcl_read.specs.Machine.{refusal, prim, want, close, after, after_prim, want_set, after_branch, body_step, moved, place_step, step, run, ended, Outcome, at_end, outcome_at, outcome, start}
 use Rattle.hcl_read.proofs.Exact.{Answers, answers, no_ok, same_ok, on_ok, strict_in_front, viable_reads, reads_viable, stands_steps, steps_stands, one_more_read, names_of_more, all_noted_grows, no_fault}
 use Rattle.hcl_read.proofs.Told.{Told, told_step}
 
@@ -100,6 +98,7 @@ module _ (front : List Token) (s : State) (e : run 0 start front ≡ Ok s) (fit 
     where
       viable : Viable (front ++ t ∷ [])
       viable = reads_viable (front ++ t ∷ []) next (one_more_read front t s e ∙ h)
+
       so : (why : HclWhy) → Reason front t why → whys.NamesOver256 ≡ why
       so whys.BadByte r = absurd (no_ok whys.BadByte next (sym (place_bad true s.items s.place) ∙ ap (step true s) (sym r) ∙ h))
       so whys.Syntax r = absurd (r.1 (steps_stands front t s next e told))
@@ -161,6 +160,7 @@ fault_told front [] why fault =
     file : (s : State) → run 0 start front ≡ Ok s → (f : File) → ended s.items s.place ≡ Ok f → Accepts (front ++ []) f
     file s e f h =
         subst (Answers (front ++ [])) (outcome_front front [] [] start s e fault.0.1 ∙ nothing (noted_all [] front) s ∙ ap at_end h) (answers (front ++ []))
+
     last : (r : Result File HclWhy) → ((f : File) → r ≡ Ok f → ⊥) → ((w : HclWhy) → r ≡ Err w → w ≡ whys.Syntax) → at_end r ≡ Err ([], whys.Syntax)
     last (Ok f) never so = absurd (never f refl)
     last (Err w) never so = ap (λ x. Err ([], x)) (so w refl)
