@@ -3,3 +3,5 @@ pub mod Readers
 pub mod Found
 pub mod Read
 pub mod Lines
+pub mod BadBytes
+pub mod Faults

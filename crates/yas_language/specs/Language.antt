@@ -1,8 +1,10 @@
 -- The reader's definition of a line reads the language.
-use Rattle.std.specs.Prelude.{◌≡◌, ◌↔◌, ℕ, List, Some}
+use Rattle.std.specs.Prelude.{◌≡◌, ◌↔◌, ℕ, List, Some, Ok, Err}
 use Rattle.y86_base.specs.declared.parts.Variant.{Variant}
+use Rattle.yas_asm.specs.declared.fault.AsmWhy.TheVariants.{BadByte, NumberTooWide, Syntax}
 use Rattle.yas_asm.specs.declared.statement.Parsed.{Parsed}
-use Rattle.yas_asm.specs.Grammar.{line}
+use Rattle.yas_asm.specs.Grammar.{line, read_line}
+use Rattle.yas_language.specs.BadBytes.{HasBadByte, IsTooWide}
 use Rattle.yas_language.specs.Tokens.{Token, HasTokens}
 use Rattle.yas_language.specs.Statements.{IsLine}
 
@@ -15,3 +17,31 @@ pub record Says (variant : Variant) (text : List ℕ) (parsed : Parsed) : Type 0
 -- a text is read as something exactly where it is a line of the language that says this
 abbrev pub ReadsTheLanguage : Type 0
 ReadsTheLanguage = (variant : Variant) (text : List ℕ) (parsed : Parsed) → (line variant text ≡ Some parsed) ↔ Says variant text parsed
+
+-- a line without a fault of its own, and each fault, come exactly where the language says so
+pub record IsOkWhere (variant : Variant) (text : List ℕ) (parsed : Parsed) : Type 0 where
+  pub good : HasBadByte text → ⊥
+  pub says : Says variant text parsed
+  pub narrow : IsTooWide parsed.statement → ⊥
+
+pub record IsSyntaxWhere (variant : Variant) (text : List ℕ) : Type 0 where
+  pub good : HasBadByte text → ⊥
+  pub no_line : (parsed : Parsed) → Says variant text parsed → ⊥
+
+pub record IsTooWideWhere (variant : Variant) (text : List ℕ) : Type 0 where
+  pub good : HasBadByte text → ⊥
+  pub parsed : Parsed
+  pub says : Says variant text parsed
+  pub wide : IsTooWide parsed.statement
+
+abbrev pub AcceptsTheLanguage : Type 0
+AcceptsTheLanguage = (variant : Variant) (text : List ℕ) (parsed : Parsed) → (read_line variant text ≡ Ok parsed) ↔ IsOkWhere variant text parsed
+
+abbrev pub TellsBadBytes : Type 0
+TellsBadBytes = (variant : Variant) (text : List ℕ) → (read_line variant text ≡ Err BadByte) ↔ HasBadByte text
+
+abbrev pub TellsSyntax : Type 0
+TellsSyntax = (variant : Variant) (text : List ℕ) → (read_line variant text ≡ Err Syntax) ↔ IsSyntaxWhere variant text
+
+abbrev pub TellsWideNumbers : Type 0
+TellsWideNumbers = (variant : Variant) (text : List ℕ) → (read_line variant text ≡ Err NumberTooWide) ↔ IsTooWideWhere variant text

@@ -1,3 +1,4 @@
 pub mod Tokens
 pub mod Statements
+pub mod BadBytes
 pub mod Language

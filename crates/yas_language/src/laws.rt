@@ -1,7 +1,16 @@
-//! The theorem about the reader's definition of a line. It is a function that does nothing and whose contract is the theorem.
-ghost use Rattle.yas_language.specs.Language.{ReadsTheLanguage};
+//! The theorems about the reader's definition of a line. Each is a function that does nothing and whose contract is the theorem.
+ghost use Rattle.yas_language.specs.Language.{AcceptsTheLanguage, ReadsTheLanguage, TellsBadBytes, TellsSyntax, TellsWideNumbers};
 
 /// A line is read as something exactly where its tokens say so, for every text.
 pub fn law_of_language()
     ensures { ReadsTheLanguage }
+{}
+
+/// A line is accepted, and is refused for each of the faults of its own, exactly where the language says so: a bad byte outside its
+/// comments comes first, then a text that is no line, then a number outside its bounds.
+pub fn law_of_line_faults()
+    ensures accepted { AcceptsTheLanguage }
+    ensures bad_byte { TellsBadBytes }
+    ensures syntax { TellsSyntax }
+    ensures too_wide { TellsWideNumbers }
 {}

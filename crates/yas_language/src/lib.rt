@@ -4,4 +4,4 @@
 
 mod laws;
 
-pub use laws::law_of_language;
+pub use laws::{law_of_language, law_of_line_faults};
