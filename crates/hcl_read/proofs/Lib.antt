@@ -18,4 +18,3 @@ pub mod Spelled
 pub mod Good
 pub mod ShownAs
 pub mod Printed
-pub mod OneFault
