@@ -1,1 +1,2 @@
 pub mod TraceLine
+pub mod Drive

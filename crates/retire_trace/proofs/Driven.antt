@@ -1,0 +1,115 @@
+-- One more cycle of a drive, and its ends.
+use Rattle.std.proofs.Common.{◌≡◌, ℕ, zero, suc, ◌+◌, ◌<◌, ◌≤◌, Bool, true, false, List, [], ◌∷◌, ◌++◌, length, map, take, Option, Some, None, Result, Ok, Err, refl, sym, ◌∙◌, ap, subst, arith, add-one, length-append, append_assoc}
+use Rattle.std.proofs.lemmas.List.{append-nil}
+use Rattle.std.specs.List.{concat}
+use Rattle.std.specs.Option.{option_to_list}
+use Rattle.wb_io.specs.Sinks.{Took, TookPart}
+use Rattle.wb_io.specs.declared.sinks.Failed.{Failed}
+use Rattle.wb_io.proofs.Writes.{took_nothing, took_more}
+use Rattle.y86_isa.specs.Machine.{is_aok}
+use Rattle.y86_isa.specs.declared.machine.Rec.{Rec}
+use Rattle.pipe_path.specs.Calls.{record_in}
+use Rattle.pipe_path.specs.Pipe.{Pipe, Cycle, count}
+use Rattle.pipe_path.specs.declared.pipe.Cycled.{Cycled}
+use Rattle.pipe_path.proofs.Runs as runs
+use Rattle.retire_trace.specs.TraceLine.{trace_line}
+use Rattle.retire_trace.specs.Drive.{Goes, TracedCycle, Drives, Fails, traced}
+use Rattle.retire_trace.specs.declared.driving.Drove.{Drove}
+
+concat_append : (xs ys : List (List ℕ)) → concat (xs ++ ys) ≡ concat xs ++ concat ys
+concat_append [] ys = refl
+concat_append (x ∷ xs) ys = ap (λ z. x ++ z) (concat_append xs ys) ∙ sym (append_assoc x (concat xs) (concat ys))
+
+map_append : {A B : Type 0} (f : A → B) (xs ys : List A) → map f (xs ++ ys) ≡ map f xs ++ map f ys
+map_append f [] ys = refl
+map_append f (x ∷ xs) ys = ap (λ z. f x ∷ z) (map_append f xs ys)
+
+pub traced_append : (trace : Bool) (xs ys : List Rec) → traced trace (xs ++ ys) ≡ traced trace xs ++ traced trace ys
+unfolding traced
+traced_append true xs ys = ap concat (map_append trace_line xs ys) ∙ concat_append (map trace_line xs) (map trace_line ys)
+traced_append false xs ys = refl
+
+pub traced_none : (trace : Bool) → traced trace [] ≡ []
+unfolding traced
+traced_none true = refl
+traced_none false = refl
+
+pub traced_one : (r : Rec) → traced true (r ∷ []) ≡ trace_line r
+unfolding traced
+traced_one r = append-nil (trace_line r)
+
+pub traced_off : (trace : Bool) (rs : List Rec) → trace ≡ false → traced trace rs ≡ []
+unfolding traced
+traced_off trace rs e = ap (λ b. traced b rs) e
+
+pub traced_on : (trace : Bool) (r : Rec) → trace ≡ true → traced trace (r ∷ []) ≡ trace_line r
+traced_on trace r e = ap (λ b. traced b (r ∷ [])) e ∙ traced_one r
+
+pub count_small : (r : Option Rec) → count r ≤ 1
+count_small None = omega arith
+count_small (Some r) = omega arith
+
+-- what a drive has done: k cycles, before each of which the machine went on, and the lines of what retired
+pub record Driven (p : Pipe) (k : ℕ) (q : Pipe) (trace : Bool) (old new : Option (List ℕ)) (retired : ℕ) : Type 0 where
+  pub records : List Rec
+  pub goes : Goes p k q records
+  pub counted : retired ≡ length records
+  pub taken : Took old new (traced trace records)
+
+pub driven_none : (p : Pipe) (trace : Bool) (t : Option (List ℕ)) → Driven p 0 p trace t t 0
+driven_none p trace t =
+    record { records = []; goes = (refl, refl); counted = refl; taken = rw (traced_none trace) (took_nothing t) }
+
+one_more : (p : Pipe) (k : ℕ) (m q : Pipe) (before : List Rec) (r : Cycled) (retired : Option Rec) → Goes p k m before →
+    is_aok m.end ≡ true → Cycle m r q → record_in r ≡ retired → Goes p (k + 1) q (before ++ option_to_list retired)
+one_more p k m q before r retired goes going cycle is =
+    let here : Goes p (suc k) q (before ++ option_to_list retired) =
+    (m, before, r, goes, going, cycle, ap (λ x. before ++ option_to_list x) (sym is)) in
+    subst (λ n. Goes p n q (before ++ option_to_list retired)) (sym (add-one k)) here
+
+pub driven_more : (p : Pipe) (k : ℕ) (m q : Pipe) (trace : Bool) (old mid new : Option (List ℕ)) (n : ℕ) (retired : Option Rec) →
+    Driven p k m trace old mid n → is_aok m.end ≡ true → TracedCycle m q trace mid new (Ok retired) →
+    Driven p (k + 1) q trace old new (n + count retired)
+driven_more p k m q trace old mid new n retired d going t =
+    record {
+      records = d.records ++ option_to_list retired;
+      goes = one_more p k m q d.records t.0 retired d.goes going t.1 t.2;
+      counted = ap (λ z. z + count retired) d.counted ∙ (ap (λ z. length d.records + z) (sym (runs.counted retired)) ∙ sym (length-append d.records (option_to_list retired)));
+      taken = rw (traced_append trace d.records (option_to_list retired)) (took_more old mid new (traced trace d.records) (traced trace (option_to_list retired)) d.taken t.3);
+    }
+
+pub drove : (p : Pipe) (limit k : ℕ) (q : Pipe) (trace : Bool) (old new : Option (List ℕ)) (d : Drove) → k ≤ limit →
+    Driven p k q trace old new d.retired → d.cycles ≡ k → (k < limit → is_aok q.end ≡ false) → d.end ≡ q.end →
+    (records : List Rec) × Drives p limit q d records × Took old new (traced trace records)
+drove p limit k q trace old new d within h cycles whole end = (
+  h.records,
+  record {
+    within = subst (λ n. n ≤ limit) (sym cycles) within;
+    goes = subst (λ n. Goes p n q h.records) (sym cycles) h.goes;
+    whole = λ lt. whole (subst (λ n. n < limit) cycles lt);
+    retired = h.counted;
+    end = end;
+  },
+  h.taken,
+)
+
+took_part : (old mid new : Option (List ℕ)) (xs ys : List ℕ) → Took old mid xs → TookPart mid new ys →
+    (n : ℕ) × (n < length ys) × Took old new (xs ++ take n ys)
+took_part old mid new xs ys a b = (b.0, b.1, took_more old mid new xs (take b.0 ys) a b.2)
+
+pub failed : (p : Pipe) (limit k : ℕ) (m q : Pipe) (trace : Bool) (old mid new : Option (List ℕ)) (n : ℕ) (e : Failed) → k < limit →
+    Driven p k m trace old mid n → is_aok m.end ≡ true → TracedCycle m q trace mid new (Err e) →
+    (j : ℕ) × (records : List Rec) × (last : Rec) × (i : ℕ) × Fails p limit q old new j records last i
+failed p limit k m q trace old mid new n e lt d going t =
+    let part = took_part old mid new (traced trace d.records) (trace_line t.1) d.taken t.5 in (
+      k + 1,
+      d.records,
+      t.1,
+      part.0,
+      record {
+        within = omega arith;
+        goes = one_more p k m q d.records t.0 (Some t.1) d.goes going t.2 t.3;
+        proper = part.1;
+        taken = subst (λ b. Took old new (traced b d.records ++ take part.0 (trace_line t.1))) t.4 part.2;
+      },
+    )

@@ -1,0 +1,116 @@
+ghost use Rattle.std.specs.Prelude.{◌≡◌, ◌<◌, ◌≤◌, ◌+◌, ◌^◌, ℕ, List, OnOk, OnErr, IfOk};
+ghost use Rattle.wb_io.specs.Causes.{counted};
+ghost use Rattle.wb_io.specs.Sinks.{Took};
+ghost use Rattle.y86_isa.specs.Machine.{is_aok};
+ghost use Rattle.pipe_path.specs.Calls.{record_in};
+ghost use Rattle.pipe_path.specs.Pipe as pipe;
+ghost use Rattle.retire_trace.specs.Drive as spec;
+
+use crate::trace_line::line;
+use hcl_types::SignalEval;
+use pipe_path::{Cycled, Pipe};
+use wb_io::{Failed, Sink};
+use y86_base::Stat;
+use y86_isa::Rec;
+
+/// What a drive did: the cycles and the records of this drive alone, and how the machine ended: AOK where it goes on.
+#[derive(Clone, Copy, Debug, PartialEq, Eq)]
+pub struct Drove {
+    pub cycles: u64,
+    pub retired: u64,
+    pub end: Stat,
+}
+
+/// The record that an answer of `cycle` tells.
+fn record_of(cycled: Cycled) -> Option<Rec>
+    ensures { result ≡ record_in cycled }
+{
+    match cycled {
+        Cycled::Retired(record) => Some(record),
+        Cycled::Stopped(retired) => retired,
+        Cycled::Pip(retired) => retired,
+        Cycled::Bubble => None,
+        Cycled::Ended => None,
+    }
+}
+
+fn count(retired: Option<Rec>) -> u64
+    ensures { result ≡ pipe.count retired }
+{
+    match retired {
+        Some(_) => 1,
+        None => 0,
+    }
+}
+
+fn is_going<C: SignalEval>(p: &Pipe<C>) -> bool
+    ensures { result ≡ is_aok p.now.end }
+{
+    matches!(p.status(), Stat::Aok)
+}
+
+/// Does one cycle, and writes the line of the record that retired where a trace is asked for.
+fn traced_cycle<C: SignalEval, S: Sink>(
+    p: &mut Pipe<C>,
+    trace: bool,
+    out: &mut S,
+) -> Result<Option<Rec>, Failed>
+    requires { p.old.cycles < 2 ^ 63 }
+    ensures traced { spec.TracedCycle p.old p.new trace (S.taken out.old) (S.taken out.new) result }
+    ensures counted { p.new.cycles ≤ p.old.cycles + 1 }
+    ensures no_fault_at_ok { OnOk result (S.faults out.new ≡ S.faults out.old) }
+    ensures one_fault_at_err { OnErr result (S.faults out.new ≡ counted (S.faults out.old)) }
+{
+    let retired = record_of(p.cycle());
+    match retired {
+        None => Ok(None),
+        Some(record) => {
+            if !trace {
+                return Ok(Some(record));
+            }
+            match line(&record, out) {
+                Ok(()) => Ok(Some(record)),
+                Err(failed) => Err(failed),
+            }
+        }
+    }
+}
+
+/// Does cycles until the limit, or until the machine has ended, and writes the line of each record that retires where a trace is asked for. It
+/// takes no memory. A write that fails ends the drive: a proper prefix of that record's line went out behind the earlier lines, and the machine is
+/// after the cycle that retired the record.
+pub fn drive<C: SignalEval, S: Sink>(
+    p: &mut Pipe<C>,
+    limit: u64,
+    trace: bool,
+    out: &mut S,
+) -> Result<Drove, Failed>
+    requires { p.old.cycles + limit < 2 ^ 63 }
+    ensures drove { IfOk result (λ d. (records : List Rec) × spec.Drives p.old limit p.new d records
+        × Took (S.taken out.old) (S.taken out.new) (spec.traced trace records)) }
+    ensures failed { OnErr result ((k : ℕ) × (records : List Rec) × (last : Rec) × (n : ℕ)
+        × spec.Fails p.old limit p.new (S.taken out.old) (S.taken out.new) k records last n) }
+    ensures no_fault_at_ok { OnOk result (S.faults out.new ≡ S.faults out.old) }
+    ensures one_fault_at_err { OnErr result (S.faults out.new ≡ counted (S.faults out.old)) }
+{
+    let mut retired = 0;
+    for k in 0..limit {
+        if !is_going(p) {
+            return Ok(Drove {
+                cycles: k,
+                retired,
+                end: p.status(),
+            });
+        }
+        let record = match traced_cycle(p, trace, out) {
+            Ok(record) => record,
+            Err(failed) => return Err(failed),
+        };
+        retired += count(record);
+    }
+    Ok(Drove {
+        cycles: limit,
+        retired,
+        end: p.status(),
+    })
+}
