@@ -21,7 +21,7 @@ pub use blocks::{
     cnd, dmem_error, fetch_ra, fetch_rb, imem_error, imem_icode, imem_ifun, reg_val, val_c, val_e,
     val_m, val_p,
 };
-pub use laws::{law_of_seq_cycles, law_of_solutions, law_of_tables};
+pub use laws::{law_of_equations, law_of_seq_cycles, law_of_solutions, law_of_tables};
 pub use movers::{Ending, Mover, Movers};
 pub use pipe_cycle::{PIPE_ROWS, PipeValues, advance, end_of_cycle, ending, retires};
 pub use pipe_signals::pipe_table;
