@@ -26,7 +26,7 @@ use Rattle.hcl_read.proofs.Sound.{strict_before, MeansNext, sound_step}
 use Rattle.hcl_read.proofs.Live.{state_lives}
 use Rattle.hcl_read.proofs.Told.{Told, told_step}
 
-strict_in_front : (n m : ℕ) → n ≤ m → nat_lt n (suc m) ≡ true
+pub strict_in_front : (n m : ℕ) → n ≤ m → nat_lt n (suc m) ≡ true
 strict_in_front n m h = grind (arith, nat_tests)
 
 free_at_last : (n : ℕ) → nat_lt (suc n) (suc n) ≡ false
@@ -48,13 +48,13 @@ run_front (t ∷ ts) rest s =
     go (Ok next) h = h next
     go (Err why) h = refl
 
-no_ok : {A : Type 0} (why : HclWhy) (y : A) → (let r : Result A HclWhy = Err why in r ≡ Ok y) → ⊥
+pub no_ok : {A : Type 0} (why : HclWhy) (y : A) → (let r : Result A HclWhy = Err why in r ≡ Ok y) → ⊥
 no_ok why y e = cc
 
-same_ok : {A : Type 0} (x y : A) → (let r : Result A HclWhy = Ok x in r ≡ Ok y) → x ≡ y
+pub same_ok : {A : Type 0} (x y : A) → (let r : Result A HclWhy = Ok x in r ≡ Ok y) → x ≡ y
 same_ok x y e = cc
 
-on_ok : {A B : Type 0} (r : Result A HclWhy) (f : A → Result B HclWhy) (y : B) → on r f ≡ Ok y → (x : A) × (r ≡ Ok x) × (f x ≡ Ok y)
+pub on_ok : {A B : Type 0} (r : Result A HclWhy) (f : A → Result B HclWhy) (y : B) → on r f ≡ Ok y → (x : A) × (r ≡ Ok x) × (f x ≡ Ok y)
 on_ok (Ok x) f y e = (x, refl, e)
 on_ok (Err why) f y e = absurd (no_ok why y e)
 
@@ -84,24 +84,24 @@ file_of free file ts m = subst (λ is. IsItems free ts is) (sym m.2) m.1
 front_file : (front rest : List Token) (file : List Item) (s : State) → run 0 start front ≡ Ok s → Means (length rest) file s rest → IsFile (length rest) (front ++ rest) (record { items = file })
 front_file front rest file s e m = file_of (length rest) file (front ++ rest) (front_means front rest file start s e m)
 
-viable_reads : (front : List Token) → Viable front → (s : State) × (run 0 start front ≡ Ok s)
+pub viable_reads : (front : List Token) → Viable front → (s : State) × (run 0 start front ≡ Ok s)
 viable_reads front v =
     let r = reads_front front v.0 v.1 v.2 in
     (r.0, r.1)
 
-reads_viable : (front : List Token) (s : State) → run 0 start front ≡ Ok s → Viable front
+pub reads_viable : (front : List Token) (s : State) → run 0 start front ≡ Ok s → Viable front
 reads_viable front s e =
     let l = state_lives s in
     (l.0, record { items = l.1 }, front_file front l.0 l.1 s e (l.2 (length l.0) (le_refl (length l.0))))
 
-stands_steps : (front : List Token) (t : Token) (s : State) → Stands front t → run 0 start front ≡ Ok s → (next : State) × (step false s t ≡ Ok next)
+pub stands_steps : (front : List Token) (t : Token) (s : State) → Stands front t → run 0 start front ≡ Ok s → (next : State) × (step false s t ≡ Ok next)
 unfolding run
 stands_steps front t s h e =
     let r = reads_front front (t ∷ h.0) h.1 h.2 in
     let o = on_ok (step (strict_before (suc (length h.0)) h.0) r.0 t) (λ next. run (suc (length h.0)) next h.0) (state h.1.items Between) r.2 in
     (o.0, ap (λ x. step false x t) (same_ok s r.0 (sym e ∙ r.1)) ∙ ap (λ b. step b r.0 t) (sym (free_at_last (length h.0))) ∙ o.1)
 
-steps_stands : (front : List Token) (t : Token) (s next : State) → run 0 start front ≡ Ok s → step false s t ≡ Ok next → Stands front t
+pub steps_stands : (front : List Token) (t : Token) (s next : State) → run 0 start front ≡ Ok s → step false s t ≡ Ok next → Stands front t
 steps_stands front t s next e h =
     let l = state_lives next in (
       l.0,
@@ -110,7 +110,7 @@ steps_stands front t s next e h =
     )
 
 -- one more token under the limits
-run_all : (front rest : List Token) (s : State) → run 0 s (front ++ rest) ≡ on (run 0 s front) (λ next. run 0 next rest)
+pub run_all : (front rest : List Token) (s : State) → run 0 s (front ++ rest) ≡ on (run 0 s front) (λ next. run 0 next rest)
 unfolding run
 run_all [] rest s = refl
 run_all (t ∷ ts) rest s =
@@ -122,7 +122,7 @@ run_all (t ∷ ts) rest s =
     go (Ok next) h = h next
     go (Err why) h = refl
 
-one_more_read : (front : List Token) (t : Token) (s : State) → run 0 start front ≡ Ok s → run 0 start (front ++ t ∷ []) ≡ step true s t
+pub one_more_read : (front : List Token) (t : Token) (s : State) → run 0 start front ≡ Ok s → run 0 start (front ++ t ∷ []) ≡ step true s t
 unfolding run
 one_more_read front t s e = run_all front (t ∷ []) start ∙ ap (λ r. on r (λ next. run 0 next (t ∷ []))) e ∙ go (step true s t)
   where
@@ -148,12 +148,12 @@ noted_grows names (Ident name) = go (list_any (pointwise nat_eq name) names)
     go false = more names name
 noted_grows names t = le_refl (length names)
 
-all_noted_grows : (names : List (List ℕ)) (ts : List Token) → length names ≤ length (noted_all names ts)
+pub all_noted_grows : (names : List (List ℕ)) (ts : List Token) → length names ≤ length (noted_all names ts)
 unfolding noted_all
 all_noted_grows names [] = le_refl (length names)
 all_noted_grows names (t ∷ ts) = le_trans (noted_grows names t) (all_noted_grows (noted names t) ts)
 
-names_of_more : (front : List Token) (t : Token) → noted_all [] (front ++ t ∷ []) ≡ noted (noted_all [] front) t
+pub names_of_more : (front : List Token) (t : Token) → noted_all [] (front ++ t ∷ []) ≡ noted (noted_all [] front) t
 unfolding noted_all
 names_of_more front t = noted_append [] front (t ∷ [])
 

@@ -18,3 +18,4 @@ pub mod Spelled
 pub mod Good
 pub mod ShownAs
 pub mod Printed
+pub mod OneFault

@@ -2,8 +2,9 @@
 ghost use Rattle.std.specs.Prelude.{◌≡◌, ◌++◌, ◌⊎◌, ℕ, false, List, [], ◌∷◌};
 ghost use Rattle.hcl_read.specs.Fault.{Accepts, FaultAt};
 ghost use Rattle.hcl_read.specs.Print.{printed};
-ghost use Rattle.hcl_read.specs.Read.{ReadsAs};
+ghost use Rattle.hcl_read.specs.Read.{IsFault, ReadsAs};
 ghost use Rattle.hcl_read.specs.Tokens as tokens;
+ghost use Rattle.hcl_read.specs.declared.fault.HclFault.{HclFault};
 ghost use Rattle.hcl_read.specs.declared.fault.HclWhy.{HclWhy};
 ghost use Rattle.hcl_read.specs.declared.tokens.Token.{Token};
 ghost use Rattle.hcl_read.specs.declared.tree.File.{File};
@@ -23,12 +24,13 @@ pub fn law_of_files()
     ensures { (text : List ℕ) (f g : File) → ReadsAs text f → ReadsAs text g → f ≡ g }
 {}
 
-/// The tokens of a text are a file or have a fault, and never both.
-#[tactic(auto, using(crate::proofs::Exact::no_fault))]
+/// The tokens of a text are a file or have a fault. A text with a fault is no file, and it has one fault.
+#[tactic(auto, using(crate::proofs::OneFault::file_has_no_fault, crate::proofs::OneFault::one_fault))]
 pub fn law_of_faults()
     ensures either { (ts : List Token) → ((f : File) × Accepts ts f)
         ⊎ ((front : List Token) × (rest : List Token) × (why : HclWhy) × (ts ≡ front ++ rest) × FaultAt front rest why) }
-    ensures not_both { (front rest : List Token) (why : HclWhy) (f : File) → Accepts (front ++ rest) f → FaultAt front rest why → ⊥ }
+    ensures not_both { (text : List ℕ) (f : File) (fault : HclFault) → ReadsAs text f → IsFault text fault → ⊥ }
+    ensures one { (text : List ℕ) (a b : HclFault) → IsFault text a → IsFault text b → a ≡ b }
 {}
 
 /// What was read, printed and read again is the same file.
