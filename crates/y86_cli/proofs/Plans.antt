@@ -10,9 +10,9 @@ use Rattle.yas_asm.specs.declared.fault.AsmFault.{AsmFault}
 use Rattle.yas_asm.specs.declared.listing.Line.{Line}
 use Rattle.yo_object.specs.ObjectText.{object_of}
 use Rattle.yo_object.specs.declared.object.YoFault.{YoFault}
-use Rattle.y86_cli.specs.Answers.{image_of_text, plan_in, plan_of, run_status, text_of_listing, yas_plan, yis_plan, yis_run}
+use Rattle.y86_cli.specs.Answers.{image_of_text, plan_in, plan_of, run_status, text_of_listing, yas_plan, yis_plan, hcl_plan, yis_run}
 use Rattle.y86_cli.specs.Does.{FilesSeen, SinkSeen}
-use Rattle.y86_cli.specs.Forms.{Command, yas, yis}
+use Rattle.y86_cli.specs.Forms.{Command, yas, yis, hcl}
 use Rattle.y86_cli.specs.Lines.{assembly_fault_line, object_fault_line, read_fault_line, too_long_line}
 use Rattle.y86_cli.specs.Plan.{Answered, Plan, says, reads, gives, answers, after, refused, Allows, Tells, IsDetermined}
 use Rattle.y86_cli.specs.Ran.{Ran, Told}
@@ -66,11 +66,13 @@ value_one (Err a) next one contents = (a, inr refl, only)
 after_one : {A : Type 0} (stage : Result A Answered) (next : A → Plan) → ((x : A) → IsDetermined (next x)) → IsDetermined (after stage next)
 after_one stage next one = record { just_one = value_one stage next one }
 
-pub form_one : (form : Option Command) → IsDetermined (plan_in form)
-unfolding yas_plan yis_plan
-form_one None = answers_one _
-form_one (Some (yas source size v)) = reads_one _ _ _ (λ bytes. after_one _ _ (λ text. answers_one _))
-form_one (Some (yis object size limit v)) = reads_one _ _ _ (λ bytes. after_one _ _ (λ image. answers_one _))
+pub yas_one : (source : List ℕ) (size : ℕ) (v : Variant) → IsDetermined (yas_plan source size v)
+unfolding yas_plan
+yas_one source size v = reads_one _ _ _ (λ bytes. after_one _ _ (λ text. answers_one _))
+
+pub yis_one : (object : List ℕ) (size limit : ℕ) (v : Variant) → IsDetermined (yis_plan object size limit v)
+unfolding yis_plan
+yis_one object size limit v = reads_one _ _ _ (λ bytes. after_one _ _ (λ image. answers_one _))
 
 -- ---- what the calls give of a determined plan
 
@@ -157,11 +159,12 @@ image_proper name (Ok image) a is = absurd (cc (is))
 image_proper name (Err fault) a is = refused_proper (object_fault_line name fault) a (cc (is))
 
 command_proper : (command : Command) → AllProper (plan_of command)
-unfolding AllProper yas_plan yis_plan
+unfolding AllProper yas_plan yis_plan hcl_plan
 command_proper (yas source size v) =
     λ bytes. after_proper _ _ (λ text. answers_proper _ (inl (lit≤ tt, refl))) (listing_proper source bytes (assembled v bytes size))
 command_proper (yis object size limit v) =
     λ bytes. after_proper _ _ (λ image. answers_proper _ (run_proper v image limit)) (image_proper object (object_of bytes size))
+command_proper (hcl file) = λ text. (λ tree is. answers_proper _ (inl (lit≤ tt, refl)), λ a refuses. refused_proper _ a refuses.2)
 
 done_of : (a : Answered) → IsProper a → a.status ≤ 1 → a.err ≡ []
 done_of a (inl p) low = p.1

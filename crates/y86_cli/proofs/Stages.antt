@@ -9,11 +9,15 @@ use Rattle.yas_asm.specs.Outcome as assembler
 use Rattle.yas_asm.specs.declared.fault.AsmFault.{AsmFault}
 use Rattle.yas_asm.specs.declared.fault.AsmWhy.TheVariants as assembly
 use Rattle.yo_object.specs.Printed.{printed}
-use Rattle.y86_cli.specs.declared.stop.Refusal.TheVariants.{AtLine}
+use Rattle.y86_cli.specs.declared.stop.Refusal.TheVariants.{AtLine, AtPlace}
 use Rattle.y86_cli.specs.declared.stop.Stop.TheVariants.{Refused}
-use Rattle.y86_cli.specs.Answers.{text_of_listing}
+use Rattle.y86_cli.specs.Answers.{text_of_listing, RefusesHcl}
 use Rattle.y86_cli.specs.Does.{Gives}
-use Rattle.y86_cli.specs.Lines.{assembly_reason}
+use Rattle.y86_cli.specs.Lines.{assembly_reason, hcl_reason}
+use Rattle.y86_cli.specs.Stops.{answer_at}
+use Rattle.hcl_read.specs.Read.{Tells}
+use Rattle.hcl_read.specs.declared.fault.HclFault.{HclFault}
+use Rattle.hcl_read.specs.declared.fault.HclWhy.TheVariants as whys
 
 -- a source that is refused has the fault that is defined
 pub source_refused : (v : Variant) (name why : Bor (List ℕ)) (source : List ℕ) (size : ℕ) (fault : AsmFault) → fault.why ≢ assembly.Memory →
@@ -27,3 +31,9 @@ pub source_listed : (v : Variant) (name source : List ℕ) (size : ℕ) (listing
     listing.source ≡ source → text.items ≡ printed listing → text_of_listing name source (assembled v source size) ≡ Ok text.items
 source_listed v name source size listing text said same printed_is =
     rw (said, printed_is, ← same) refl
+
+-- an HCL text that is refused has a fault, and its line tells it
+pub hcl_refused : (name why : Bor (List ℕ)) (text : List ℕ) (fault : HclFault) → fault.why ≢ whys.Memory → Tells text fault → why.now ≡ hcl_reason fault.why →
+    RefusesHcl name.now text (answer_at (Refused name (AtPlace fault.line fault.col why)))
+hcl_refused name why text fault other (inl memory) reason = absurd (other memory.0)
+hcl_refused name why text fault other (inr is) reason = (fault, is, rw reason refl)

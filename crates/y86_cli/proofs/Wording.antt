@@ -18,7 +18,7 @@ use Rattle.y86_base.specs.declared.parts.Variant.TheVariants as variant
 use Rattle.y86_cli.specs.declared.option.Switch.{Switch}
 use Rattle.y86_cli.specs.declared.option.Switch.TheVariants.{Full, Mem, Limit}
 use Rattle.y86_cli.specs.Arguments.{Argument, place, switch, arguments, in_front, index_of, Filled, nothing_filled, all_added}
-use Rattle.y86_cli.specs.Forms.{Command, yas, yis, Form, forms, fits, made, first_fit, form_of}
+use Rattle.y86_cli.specs.Forms.{Command, yas, yis, hcl, Form, forms, fits, made, first_fit, form_of}
 use Rattle.y86_cli.specs.Numbers.{is_number, number_of, number_that, is_run_limit}
 use Rattle.y86_cli.specs.Wording.{IsFileName, IsRunLimit, IsLegal, variant_words, words_of, places_of, numbers_of, IsFound, HasForm}
 use Rattle.y86_cli.proofs.Arguments.{place_read, switch_read}
@@ -71,6 +71,10 @@ unfolding arguments variant_arguments
 variant_read variant.Base = refl
 variant_read variant.Full = refl
 
+no_arguments : arguments [] ≡ Some []
+unfolding arguments
+no_arguments = refl
+
 pub legal_written : (command : Command) → IsLegal command → form_of (words_of command) ≡ Some command
 unfolding form_of first_fit variant_arguments
 legal_written (yas source size variant.Base) legal = rw (file_arguments source _ legal.0, size_arguments size _ legal.1, variant_read variant.Base) refl
@@ -79,10 +83,7 @@ legal_written (yis object size limit variant.Base) legal =
     rw (file_arguments object _ legal.0, size_arguments size _ legal.1, limit_arguments limit _ legal.2, variant_read variant.Base) refl
 legal_written (yis object size limit variant.Full) legal =
     rw (file_arguments object _ legal.0, size_arguments size _ legal.1, limit_arguments limit _ legal.2, variant_read variant.Full) refl
-
-no_arguments : arguments [] ≡ Some []
-unfolding arguments
-no_arguments = refl
+legal_written (hcl file) legal = rw (file_arguments file _ legal, no_arguments) refl
 
 pub defaults_hold : (file : List ℕ) → IsFileName file →
     (form_of (codes "yas" ∷ file ∷ []) ≡ Some (yas file 8192 Base)) × (form_of (codes "yis" ∷ file ∷ []) ≡ Some (yis file 8192 10000 Base))

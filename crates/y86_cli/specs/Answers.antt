@@ -1,5 +1,8 @@
 -- What each command answers, as a plan.
-use Rattle.std.specs.Prelude.{ℕ, List, length, Option, Some, None, Result, Ok, Err}
+use Rattle.std.specs.Prelude.{◌≡◌, ℕ, List, length, Option, Some, None, Result, Ok, Err}
+use Rattle.hcl_read.specs.Print as hcl_text
+use Rattle.hcl_read.specs.Read.{IsFault, ReadsAs}
+use Rattle.hcl_read.specs.declared.fault.HclFault.{HclFault}
 use Rattle.y86_base.specs.declared.parts.Stat.{Stat}
 use Rattle.y86_base.specs.declared.parts.Stat.TheVariants.{Hlt}
 use Rattle.y86_base.specs.declared.parts.Variant.{Variant}
@@ -11,13 +14,16 @@ use Rattle.yis_run.specs.Report.{report}
 use Rattle.yo_object.specs.ObjectText.{object_of}
 use Rattle.yo_object.specs.Printed.{printed}
 use Rattle.yo_object.specs.declared.object.YoFault.{YoFault}
-use Rattle.y86_cli.specs.Forms.{Command, yas, yis}
-use Rattle.y86_cli.specs.Lines.{assembly_fault_line, object_fault_line, usage_line}
-use Rattle.y86_cli.specs.Plan.{Answered, Plan, after, answers, done, reads, refused}
+use Rattle.y86_cli.specs.Forms.{Command, yas, yis, hcl}
+use Rattle.y86_cli.specs.Lines.{assembly_fault_line, hcl_fault_line, object_fault_line, usage_line}
+use Rattle.y86_cli.specs.Plan.{Answered, Plan, after, answers, done, gives, reads, refused}
 
--- the most bytes that an object file or an assembly file has
+-- the most bytes that an object file or an assembly file has, and an HCL file
 abbrev pub file_limit : ℕ
 file_limit = 1048576
+
+abbrev pub hcl_limit : ℕ
+hcl_limit = 65536
 
 -- ---- the stages
 
@@ -30,6 +36,10 @@ text_of_listing name source (Err fault) = Err (refused 5 (assembly_fault_line na
 abbrev pub image_of_text : List ℕ → Result (List ℕ) YoFault → Result (List ℕ) Answered
 image_of_text name (Ok image) = Ok image
 image_of_text name (Err fault) = Err (refused 5 (object_fault_line name fault))
+
+-- the refusal of an HCL text with a fault
+abbrev pub RefusesHcl : List ℕ → List ℕ → Answered → Type 0
+RefusesHcl name text a = (fault : HclFault) × IsFault text fault × (a ≡ refused 5 (hcl_fault_line name fault))
 
 -- 0 where a run ended at a halt, else 1
 abbrev pub run_status : Stat → ℕ
@@ -51,9 +61,13 @@ unfoldable pub yis_plan : List ℕ → ℕ → ℕ → Variant → Plan
 yis_plan object size limit v =
     reads object file_limit (λ bytes. after (image_of_text object (object_of bytes size)) (λ image. answers (yis_run v image limit)))
 
+unfoldable pub hcl_plan : List ℕ → Plan
+hcl_plan name = reads name hcl_limit (λ text. gives (ReadsAs text) (RefusesHcl name text) (λ file. answers (done 0 (hcl_text.printed file.items))))
+
 abbrev pub plan_of : Command → Plan
 plan_of (yas source size v) = yas_plan source size v
 plan_of (yis object size limit v) = yis_plan object size limit v
+plan_of (hcl file) = hcl_plan file
 
 -- the plan of words that are a command or none
 abbrev pub plan_in : Option Command → Plan

@@ -10,7 +10,7 @@ use Rattle.y86_cli.specs.Arguments.{Filled, nothing_filled, index_of, all_added,
 use Rattle.y86_cli.specs.declared.option.Switch.{Switch}
 use Rattle.y86_cli.specs.declared.option.Switch.TheVariants.{Full, Mem, Limit}
 use Rattle.y86_cli.specs.declared.form.Kind.{Kind}
-use Rattle.y86_cli.specs.declared.form.Kind.TheVariants.{Yas, Yis}
+use Rattle.y86_cli.specs.declared.form.Kind.TheVariants.{Yas, Yis, Hcl}
 
 -- what a place takes: the name of a file
 pub data Place : Type 0 where
@@ -30,6 +30,7 @@ abbrev pub forms : List Form
 forms =
     row Yas (codes "yas") (file ∷ []) (Full ∷ Mem ∷ [])
     ∷ row Yis (codes "yis") (file ∷ []) (Full ∷ Mem ∷ Limit ∷ [])
+    ∷ row Hcl (codes "hcl") (file ∷ []) []
     ∷ []
 
 -- ---- the form that words have
@@ -60,6 +61,8 @@ pub data Command : Type 0 where
   -- run an object file at the level of instructions: its name, the size of the memory in bytes, the limit of steps, the
   -- instruction set
   yis : List ℕ → ℕ → ℕ → Variant → Command
+  -- read and print an HCL file: its name
+  hcl : List ℕ → Command
 
 -- `--full` takes the instruction set with `iaddq`
 abbrev pub variant_with : Option ℕ → Variant
@@ -80,6 +83,7 @@ limit_of f = unwrap_or (get_or f.values (index_of Limit) None) 10000
 abbrev pub made : Kind → Filled → Option Command
 made Yas f = option_map (λ source. yas source (size_of f) (variant_of f)) (slice_get f.words 0)
 made Yis f = option_map (λ object. yis object (size_of f) (limit_of f) (variant_of f)) (slice_get f.words 0)
+made Hcl f = option_map hcl (slice_get f.words 0)
 
 -- the command of the first row that fits
 unfoldable pub first_fit : List Form → List ℕ → Filled → Option Command

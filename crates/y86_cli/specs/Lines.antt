@@ -1,6 +1,9 @@
 -- The lines on standard error.
 use Rattle.std.specs.Prelude.{ℕ, codes, List, [], ◌∷◌}
 use Rattle.std.specs.List.{concat}
+use Rattle.hcl_read.specs.declared.fault.HclFault.{HclFault}
+use Rattle.hcl_read.specs.declared.fault.HclWhy.{HclWhy}
+use Rattle.hcl_read.specs.declared.fault.HclWhy.TheVariants as whys
 use Rattle.y86_base.specs.Numeral.{numeral}
 use Rattle.yas_asm.specs.declared.fault.AsmFault.{AsmFault}
 use Rattle.yas_asm.specs.declared.fault.AsmWhy.{AsmWhy}
@@ -48,3 +51,19 @@ assembly_fault_line name fault = fault_line name fault.line (assembly_reason fau
 
 abbrev pub object_fault_line : List ℕ → YoFault → List ℕ
 object_fault_line name fault = fault_line name fault.line (object_reason fault.why)
+
+abbrev pub hcl_reason : HclWhy → List ℕ
+hcl_reason whys.Syntax = codes "Syntax"
+hcl_reason whys.BadByte = codes "BadByte"
+hcl_reason whys.NumberTooWide = codes "NumberTooWide"
+hcl_reason whys.DepthOver64 = codes "DepthOver64"
+hcl_reason whys.NamesOver256 = codes "NamesOver256"
+hcl_reason whys.Memory = codes "Memory"
+
+-- a fault at a line and a column of a file
+unfoldable pub place_line : List ℕ → ℕ → ℕ → List ℕ → List ℕ
+place_line name line column reason =
+    concat (name ∷ codes ":" ∷ numeral 10 1 line ∷ codes ":" ∷ numeral 10 1 column ∷ codes ": " ∷ reason ∷ codes "\n" ∷ [])
+
+abbrev pub hcl_fault_line : List ℕ → HclFault → List ℕ
+hcl_fault_line name fault = place_line name fault.line fault.col (hcl_reason fault.why)

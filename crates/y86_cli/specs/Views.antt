@@ -12,7 +12,7 @@ use Rattle.y86_cli.specs.declared.form.Form as code_form
 use Rattle.y86_cli.specs.declared.form.Place as code_place
 use Rattle.y86_cli.specs.declared.form.Place.TheVariants as code_places
 use Rattle.y86_cli.specs.Arguments.{Argument, place, switch, arguments, in_front, Filled}
-use Rattle.y86_cli.specs.Forms.{Command, yas, yis, Form, Place, file}
+use Rattle.y86_cli.specs.Forms.{Command, yas, yis, hcl, Form, Place, file}
 
 abbrev pub argument_in : code.Argument → Argument
 argument_in (code_variants.Place word) = place word.now
@@ -46,3 +46,4 @@ form_in form = record { kind = form.kind; name = form.name.now; places = map pla
 abbrev pub command_in : code_command.Cmd → Command
 command_in (code_commands.Yas source size v) = yas source.now size v
 command_in (code_commands.Yis object size limit v) = yis object.now size limit v
+command_in (code_commands.Hcl name) = hcl name.now

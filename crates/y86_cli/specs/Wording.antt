@@ -6,7 +6,7 @@ use Rattle.y86_base.specs.Image.{IsSize}
 use Rattle.y86_base.specs.declared.parts.Variant.{Variant}
 use Rattle.y86_base.specs.declared.parts.Variant.TheVariants as variant
 use Rattle.y86_cli.specs.Arguments.{Argument, place, switch, Filled, arguments, index_of, is_option}
-use Rattle.y86_cli.specs.Forms.{Command, yas, yis, Form, forms, fits, made}
+use Rattle.y86_cli.specs.Forms.{Command, yas, yis, hcl, Form, forms, fits, made}
 use Rattle.y86_cli.specs.declared.option.Switch.{Switch}
 
 -- what may name a file: a word that isn't empty and is no option
@@ -21,6 +21,7 @@ IsRunLimit n = (1 ≤ n) × (n ≤ 100000000)
 abbrev pub IsLegal : Command → Type 0
 IsLegal (yas source size v) = IsFileName source × IsSize size
 IsLegal (yis object size limit v) = IsFileName object × IsSize size × IsRunLimit limit
+IsLegal (hcl file) = IsFileName file
 
 abbrev pub variant_words : Variant → List (List ℕ)
 variant_words variant.Base = []
@@ -31,6 +32,7 @@ abbrev pub words_of : Command → List (List ℕ)
 words_of (yas source size v) = codes "yas" ∷ source ∷ codes "--mem" ∷ decimal size ∷ variant_words v
 words_of (yis object size limit v) =
     codes "yis" ∷ object ∷ codes "--mem" ∷ decimal size ∷ codes "--limit" ∷ decimal limit ∷ variant_words v
+words_of (hcl file) = codes "hcl" ∷ file ∷ []
 
 -- words that are arguments: file names and other words of places, and options each with its number
 abbrev pub AreArguments : List (List ℕ) → Type 0

@@ -25,6 +25,8 @@ pub enum Cmd<'a> {
         limit: u64,
         variant: Variant,
     },
+    /// Reads and prints an HCL file.
+    Hcl { hcl: &'a str },
 }
 
 /// Words that are no command.

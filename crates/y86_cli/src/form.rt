@@ -22,6 +22,7 @@ pub enum Place {
 pub enum Kind {
     Yas,
     Yis,
+    Hcl,
 }
 
 /// A form: the name of its command, the places behind it, in order, and the options, which stand anywhere behind the
@@ -35,7 +36,7 @@ struct Form {
 }
 
 /// The table of the commands.
-static FORMS: [Form; 2] = [
+static FORMS: [Form; 3] = [
     Form {
         kind: Kind::Yas,
         name: "yas",
@@ -47,6 +48,12 @@ static FORMS: [Form; 2] = [
         name: "yis",
         places: &[Place::File],
         options: &[Switch::Full, Switch::Mem, Switch::Limit],
+    },
+    Form {
+        kind: Kind::Hcl,
+        name: "hcl",
+        places: &[Place::File],
+        options: &[],
     },
 ];
 
@@ -134,6 +141,9 @@ fn made<'a>(kind: Kind, found: &Found<'a>) -> Option<Cmd<'a>>
             mem,
             limit,
             variant,
+        }),
+        Kind::Hcl => Some(Cmd::Hcl {
+            hcl: *words.get(0)?,
         }),
     }
 }

@@ -2,7 +2,8 @@
 ghost use Rattle.std.specs.Prelude.{◌≡◌, ◌≢◌, ◌↔◌, ◌≤◌, ◌∷◌, ◌++◌, List, [], ℕ, Option, Some, None, codes};
 ghost use Rattle.wb_io.specs.Sinks.{Took, TookPart};
 ghost use Rattle.y86_base.specs.declared.parts.Variant.TheVariants.{Base};
-ghost use Rattle.y86_cli.specs.Answers.{plan_in, plan_of};
+ghost use Rattle.y86_base.specs.declared.parts.Variant.{Variant};
+ghost use Rattle.y86_cli.specs.Answers.{plan_in, yas_plan, yis_plan};
 ghost use Rattle.y86_cli.specs.Does.{FilesSeen, SinkSeen};
 ghost use Rattle.y86_cli.specs.Forms.{Command, form_of, yas, yis};
 ghost use Rattle.y86_cli.specs.Plan.{Answered, Allows, IsDetermined, Tells};
@@ -32,10 +33,11 @@ pub fn law_of_answers()
     ensures at_most_seven { (form : Option Command) (contents : List (Option (List ℕ))) (a : Answered) → Allows (plan_in form) contents a → a.status ≤ 7 }
 {}
 
-/// The answer is a function of the contents of the files: each command's plan allows just one, and where the files tell their
-/// contents, a call gives that one, or ends with 3, 4 or 6; with 4 a proper prefix of its text goes out.
+/// Where a plan has just one answer, as those of `yas` and `yis` have, it is a function of the contents of the files: where the
+/// files tell their contents, a call gives that answer, or ends with 3, 4 or 6; with 4 a proper prefix of its text goes out.
 pub fn law_of_plans()
-    ensures one { (form : Option Command) → IsDetermined (plan_in form) }
+    ensures yas { (source : List ℕ) (size : ℕ) (v : Variant) → IsDetermined (yas_plan source size v) }
+    ensures yis { (object : List ℕ) (size limit : ℕ) (v : Variant) → IsDetermined (yis_plan object size limit v) }
     ensures told { (form : Option Command) (one : IsDetermined (plan_in form)) (files_before files_after : FilesSeen)
         (out_before out_after err_before err_after : SinkSeen) (status : ℕ) →
         Ran form files_before files_after out_before out_after err_before err_after status →

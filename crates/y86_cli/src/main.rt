@@ -6,6 +6,7 @@ mod call;
 mod cmd;
 mod files;
 mod form;
+mod hcl;
 mod laws;
 mod number;
 mod option;

@@ -8,6 +8,7 @@ ghost use Rattle.y86_cli.specs.Views.{command_in};
 ghost use Rattle.y86_cli.specs.Wording.{IsLegal};
 
 use crate::cmd::{Cmd, Usage, words};
+use crate::hcl::hcl;
 use crate::stop::Stop;
 use crate::yas::yas;
 use crate::yis::yis;
@@ -41,6 +42,7 @@ fn execute<'a, F: Files, O: Sink>(
             limit,
             variant,
         } => yis(alloc, obj, mem, limit, variant, files, out),
+        Cmd::Hcl { hcl: name } => hcl(alloc, name, files, out),
     }
 }
 
