@@ -26,7 +26,9 @@ pub enum Cmd<'a> {
         variant: Variant,
     },
     /// Reads and prints an HCL file.
-    Hcl { hcl: &'a str },
+    Hcl {
+        hcl: &'a str,
+    },
 }
 
 /// Words that are no command.
