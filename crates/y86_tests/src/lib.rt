@@ -2,6 +2,8 @@
 #![tactic(auto)]
 
 #[cfg(test)]
+mod bind;
+#[cfg(test)]
 mod designs;
 #[cfg(test)]
 mod hcl;
