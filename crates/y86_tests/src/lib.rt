@@ -8,6 +8,8 @@ mod designs;
 #[cfg(test)]
 mod hcl;
 #[cfg(test)]
+mod orders;
+#[cfg(test)]
 mod printing;
 #[cfg(test)]
 mod sequential;
