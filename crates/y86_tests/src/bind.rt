@@ -266,9 +266,13 @@ fn terms_have_their_values(rt: HostRuntime) -> Result<(), Fail> {
     Ok(())
 }
 
+/// Declarations that change nothing: one that is repeated, and one of a constant.
+const DECLARED: &[u8] = b"boolsig E_stall 'a' boolsig E_stall 'b' wordsig IHALT 'c' quote 'd'";
+
 #[test]
 fn the_files_of_the_book_bind(rt: HostRuntime) -> Result<(), Fail> {
     let table = signals(rt.alloc())?;
+    assert!(rt; bound(&rt, &table, true, DECLARED)?.is_ok());
     for text in [STD, NB, LF, NT, BT, FU] {
         match read(rt.alloc(), text) {
             Ok(file) => assert!(rt; bind(rt.alloc(), &file, &table).is_ok()),
