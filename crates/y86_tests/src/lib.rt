@@ -10,6 +10,8 @@ mod hcl;
 #[cfg(test)]
 mod orders;
 #[cfg(test)]
+mod pipelined;
+#[cfg(test)]
 mod printing;
 #[cfg(test)]
 mod sequential;
