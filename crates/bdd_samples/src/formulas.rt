@@ -4,7 +4,7 @@ use crate::wires::Wires;
 use nets::Net;
 use std::alloc::Global;
 
-/// A gate of a net, and one of a variable that stands behind all others and that the first doesn't name.
+/// A gate of a net, and another: in a sample that of a variable behind all others, which the first doesn't name.
 #[derive(Drop)]
 pub struct Formula {
     pub net: Net,
@@ -17,8 +17,8 @@ pub struct Formula {
 pub enum Sample {
     /// Two adders of words of so many bits have the same sums and carries.
     Adders,
-    /// The sum of two words of so many bits overflows.
-    Carries,
+    /// Both variables are true in one of so many pairs.
+    Pairs,
     /// An odd number of so many variables is true, counted upwards and downwards.
     Parities,
     /// So many queens stand on a board with as many rows, and none attacks another.
@@ -38,7 +38,7 @@ impl Sample {
             return None;
         }
         match self {
-            Sample::Adders | Sample::Carries | Sample::Words => Some(2 * size),
+            Sample::Adders | Sample::Pairs | Sample::Words => Some(2 * size),
             Sample::Parities => Some(size),
             Sample::Queens => Some(size * size),
         }
@@ -48,7 +48,7 @@ impl Sample {
     fn wire(self, w: &mut Wires, size: u32) -> Option<u64> {
         match self {
             Sample::Adders => adders(w, size),
-            Sample::Carries => carries(w, size),
+            Sample::Pairs => pairs(w, size),
             Sample::Parities => parities(w, size),
             Sample::Queens => queens(w, size),
             Sample::Words => words(w, size),
@@ -69,11 +69,12 @@ impl Sample {
     }
 }
 
-/// The formula of a text: a digit is a variable, `!` negates what stands before it, and `&` and `|` join the two that do.
-pub fn formula_of(alloc: Global, vars: u32, text: &str) -> Option<Formula> {
-    let mut wires = Wires::new(alloc, vars.checked_add(1)?);
+/// The formulas of two texts: a digit is a variable, `!` negates what stands before it, and `&` and `|` join the two
+/// that do.
+pub fn formulas_of(alloc: Global, vars: u32, text: &str, other: &str) -> Option<Formula> {
+    let mut wires = Wires::new(alloc, vars);
     let gate = postfix(&mut wires, text)?;
-    let other = wires.variable(vars)?;
+    let other = postfix(&mut wires, other)?;
     Some(Formula {
         net: wires.finish(),
         gate,
@@ -161,14 +162,15 @@ fn adders(w: &mut Wires, bits: u32) -> Option<u64> {
     w.and(same, carries)
 }
 
-fn carries(w: &mut Wires, bits: u32) -> Option<u64> {
-    let mut carry = w.constant(false)?;
-    for i in 0..bits {
+fn pairs(w: &mut Wires, count: u32) -> Option<u64> {
+    let mut some = w.constant(false)?;
+    for i in 0..count {
         let a = w.variable(i.checked_mul(2)?)?;
         let b = w.variable(i.checked_mul(2)?.checked_add(1)?)?;
-        carry = carry_by_products(w, a, b, carry)?;
+        let both = w.and(a, b)?;
+        some = w.or(some, both)?;
     }
-    Some(carry)
+    Some(some)
 }
 
 fn parities(w: &mut Wires, vars: u32) -> Option<u64> {

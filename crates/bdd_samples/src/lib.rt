@@ -5,6 +5,6 @@ mod formulas;
 mod measure;
 mod wires;
 
-pub use formulas::{Formula, Sample, formula_of};
+pub use formulas::{Formula, Sample, formulas_of};
 pub use measure::{built, paths};
 pub use wires::Wires;
