@@ -3,17 +3,12 @@
 //! before it, a line is answered by how many nodes were made.
 #![tactic(auto)]
 
-ghost use Rattle.bdd_core.specs.Meaning.{IsDia};
-
-mod formulas;
-mod wires;
-
-use crate::formulas::{Formula, adders, queens, words};
-use bdd_core::{Dia, Node, Store};
+use bdd_samples::{Formula, Sample, built, paths};
 use std::alloc::{AllocError, Global};
 use std::io;
 
-/// What a formula comes to: how many paths lead to its truth, whether it is valid, and how many nodes were made.
+/// What a formula comes to: how many paths lead to its truth, whether it is valid, and how many nodes were made. The
+/// number of a diagram that was built last tells how many nodes there are.
 #[derive(Drop)]
 struct Outcome {
     paths: u64,
@@ -21,51 +16,27 @@ struct Outcome {
     nodes: u64,
 }
 
-/// How many paths of at most `depth` steps lead from a diagram to truth.
-fn paths(store: &Store, d: Dia, depth: u32) -> u64
-    requires { IsDia store.now d }
-{
-    match store.node(d) {
-        Node::False => 0,
-        Node::True => 1,
-        Node::Choice { low, high, .. } => {
-            if depth == 0 {
-                0
-            } else {
-                paths(store, low, depth - 1).wrapping_add(paths(store, high, depth - 1))
-            }
-        }
-    }
-}
-
-/// Builds the diagram of a formula, and then that of a further variable, whose number tells how many nodes there are.
+/// What a formula comes to.
 fn measure(alloc: Global, formula: &Formula) -> Option<Outcome> {
-    let len = formula.net.len();
-    if formula.gate >= len || formula.other >= len {
-        return None;
-    }
-    let mut store = Store::new(alloc, formula.net.vars());
-    let root = store.build(&formula.net, formula.gate).ok()?;
-    let valid = store.valid(root);
-    let paths = paths(&store, root, 64);
-    let other = store.build(&formula.net, formula.other).ok()?;
+    let (store, root, other) = built(alloc, formula)?;
     Some(Outcome {
-        paths,
-        valid,
+        paths: paths(&store, root, 64),
+        valid: store.valid(root),
         nodes: other.id.saturating_sub(2),
     })
 }
 
-/// The formula that a line names.
-fn formula_of(alloc: Global, line: &str) -> Option<Formula> {
-    let (name, size) = line.split_once(' ')?;
+/// The formula that a text names.
+fn formula_of(alloc: Global, text: &str) -> Option<Formula> {
+    let (name, size) = text.split_once(' ')?;
     let size = size.parse::<u32>().ok()?;
-    match name {
-        "adders" => adders(alloc, size),
-        "queens" => queens(alloc, size),
-        "words" => words(alloc, size),
-        _ => None,
-    }
+    let sample = match name {
+        "adders" => Sample::Adders,
+        "queens" => Sample::Queens,
+        "words" => Sample::Words,
+        _ => return None,
+    };
+    sample.formula(alloc, size)
 }
 
 /// What the program answers to a line.

@@ -6,6 +6,8 @@ mod bind;
 #[cfg(test)]
 mod designs;
 #[cfg(test)]
+mod diagrams;
+#[cfg(test)]
 mod hcl;
 #[cfg(test)]
 mod orders;

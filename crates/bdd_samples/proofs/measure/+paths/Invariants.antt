@@ -1,4 +1,4 @@
-use Rattle.bdd_bench.proofs.+paths.Given as goal
+use Rattle.bdd_samples.proofs.measure.+paths.Given as goal
 
 abbrev pub decreases-paths : goal.decreases-paths
 decreases-paths l = l.depth
