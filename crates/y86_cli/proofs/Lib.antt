@@ -1,10 +1,12 @@
 pub mod Arguments
 pub mod Came
+pub mod Designs
 pub mod Does
 pub mod Legal
 pub mod Order
 pub mod Plans
 pub mod Ran
 pub mod Runs
+pub mod SeqRuns
 pub mod Stages
 pub mod Wording

@@ -11,7 +11,8 @@ use Rattle.yas_asm.specs.declared.fault.AsmWhy.TheVariants as assembly
 use Rattle.yo_object.specs.Printed.{printed}
 use Rattle.y86_cli.specs.declared.stop.Refusal.TheVariants.{AtLine, AtPlace}
 use Rattle.y86_cli.specs.declared.stop.Stop.TheVariants.{Refused}
-use Rattle.y86_cli.specs.Answers.{text_of_listing, RefusesHcl}
+use Rattle.y86_cli.specs.Answers.{text_of_listing}
+use Rattle.y86_cli.specs.Designs.{RefusesHcl}
 use Rattle.y86_cli.specs.Does.{Gives}
 use Rattle.y86_cli.specs.Lines.{assembly_reason, hcl_reason}
 use Rattle.y86_cli.specs.Stops.{answer_at}

@@ -18,7 +18,7 @@ use Rattle.y86_base.specs.declared.parts.Variant.TheVariants as variant
 use Rattle.y86_cli.specs.declared.option.Switch.{Switch}
 use Rattle.y86_cli.specs.declared.option.Switch.TheVariants.{Full, Mem, Limit}
 use Rattle.y86_cli.specs.Arguments.{Argument, place, switch, arguments, in_front, index_of, Filled, nothing_filled, all_added}
-use Rattle.y86_cli.specs.Forms.{Command, yas, yis, hcl, Form, forms, fits, made, first_fit, form_of}
+use Rattle.y86_cli.specs.Forms.{Command, yas, yis, hcl, ssim, Form, forms, fits, made, first_fit, form_of}
 use Rattle.y86_cli.specs.Numbers.{is_number, number_of, number_that, is_run_limit}
 use Rattle.y86_cli.specs.Wording.{IsFileName, IsRunLimit, IsLegal, variant_words, words_of, places_of, numbers_of, IsFound, HasForm}
 use Rattle.y86_cli.proofs.Arguments.{place_read, switch_read}
@@ -84,6 +84,10 @@ legal_written (yis object size limit variant.Base) legal =
 legal_written (yis object size limit variant.Full) legal =
     rw (file_arguments object _ legal.0, size_arguments size _ legal.1, limit_arguments limit _ legal.2, variant_read variant.Full) refl
 legal_written (hcl file) legal = rw (file_arguments file _ legal, no_arguments) refl
+legal_written (ssim file object size limit variant.Base) legal =
+    rw (file_arguments file _ legal.0, file_arguments object _ legal.1, size_arguments size _ legal.2, limit_arguments limit _ legal.3, variant_read variant.Base) refl
+legal_written (ssim file object size limit variant.Full) legal =
+    rw (file_arguments file _ legal.0, file_arguments object _ legal.1, size_arguments size _ legal.2, limit_arguments limit _ legal.3, variant_read variant.Full) refl
 
 pub defaults_hold : (file : List ℕ) → IsFileName file →
     (form_of (codes "yas" ∷ file ∷ []) ≡ Some (yas file 8192 Base)) × (form_of (codes "yis" ∷ file ∷ []) ≡ Some (yis file 8192 10000 Base))

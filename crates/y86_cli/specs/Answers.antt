@@ -1,12 +1,16 @@
 -- What each command answers, as a plan.
 use Rattle.std.specs.Prelude.{◌≡◌, ℕ, List, length, Option, Some, None, Result, Ok, Err}
+use Rattle.dp_signals.specs.SeqRun.{SeqRun}
+use Rattle.dp_signals.specs.SeqTable.{seq_rows}
 use Rattle.hcl_read.specs.Print as hcl_text
-use Rattle.hcl_read.specs.Read.{IsFault, ReadsAs}
-use Rattle.hcl_read.specs.declared.fault.HclFault.{HclFault}
+use Rattle.hcl_read.specs.Read.{ReadsAs}
 use Rattle.y86_base.specs.declared.parts.Stat.{Stat}
 use Rattle.y86_base.specs.declared.parts.Stat.TheVariants.{Hlt}
 use Rattle.y86_base.specs.declared.parts.Variant.{Variant}
+use Rattle.hcl_types.specs.declared.term.Term.{Term}
 use Rattle.y86_isa.specs.Run.{run, records}
+use Rattle.y86_isa.specs.declared.machine.Machine.{Machine}
+use Rattle.y86_isa.specs.declared.machine.Rec.{Rec}
 use Rattle.yas_asm.specs.Assembly.{assembled}
 use Rattle.yas_asm.specs.declared.fault.AsmFault.{AsmFault}
 use Rattle.yas_asm.specs.declared.listing.Line.{Line}
@@ -14,9 +18,10 @@ use Rattle.yis_run.specs.Report.{report}
 use Rattle.yo_object.specs.ObjectText.{object_of}
 use Rattle.yo_object.specs.Printed.{printed}
 use Rattle.yo_object.specs.declared.object.YoFault.{YoFault}
-use Rattle.y86_cli.specs.Forms.{Command, yas, yis, hcl}
-use Rattle.y86_cli.specs.Lines.{assembly_fault_line, hcl_fault_line, object_fault_line, usage_line}
-use Rattle.y86_cli.specs.Plan.{Answered, Plan, after, answers, done, gives, reads, refused}
+use Rattle.y86_cli.specs.Designs.{IsDesign, RefusesDesign, RefusesHcl}
+use Rattle.y86_cli.specs.Forms.{Command, yas, yis, hcl, ssim}
+use Rattle.y86_cli.specs.Lines.{assembly_fault_line, object_fault_line, usage_line}
+use Rattle.y86_cli.specs.Plan.{Answered, Plan, after, answers, done, gives, reads, refused, says}
 
 -- the most bytes that an object file or an assembly file has, and an HCL file
 abbrev pub file_limit : ℕ
@@ -37,10 +42,6 @@ abbrev pub image_of_text : List ℕ → Result (List ℕ) YoFault → Result (Li
 image_of_text name (Ok image) = Ok image
 image_of_text name (Err fault) = Err (refused 5 (object_fault_line name fault))
 
--- the refusal of an HCL text with a fault
-abbrev pub RefusesHcl : List ℕ → List ℕ → Answered → Type 0
-RefusesHcl name text a = (fault : HclFault) × IsFault text fault × (a ≡ refused 5 (hcl_fault_line name fault))
-
 -- 0 where a run ended at a halt, else 1
 abbrev pub run_status : Stat → ℕ
 run_status Hlt = 0
@@ -50,6 +51,11 @@ run_status _ = 1
 unfoldable pub yis_run : Variant → List ℕ → ℕ → Answered
 yis_run v image limit =
     done (run_status (run v image limit).stat) (report image (run v image limit) (length (records v image limit)))
+
+-- the answers to the run of an image on SEQ under a design: a step of the report is a record
+abbrev pub SeqAnswers : Variant → List Term → ℕ → List ℕ → Answered → Type 0
+SeqAnswers v terms limit image a =
+    (end : Machine) × (records : List Rec) × SeqRun v terms image limit end records × (a ≡ done (run_status end.stat) (report image end (length records)))
 
 -- ---- the commands
 
@@ -64,10 +70,20 @@ yis_plan object size limit v =
 unfoldable pub hcl_plan : List ℕ → Plan
 hcl_plan name = reads name hcl_limit (λ text. gives (ReadsAs text) (RefusesHcl name text) (λ file. answers (done 0 (hcl_text.printed file.items))))
 
+-- the run of an object file on SEQ under a design
+unfoldable pub seq_plan : List Term → List ℕ → ℕ → ℕ → Variant → Plan
+seq_plan terms object size limit v =
+    reads object file_limit (λ bytes. after (image_of_text object (object_of bytes size)) (λ image. says (SeqAnswers v terms limit image)))
+
+unfoldable pub ssim_plan : List ℕ → List ℕ → ℕ → ℕ → Variant → Plan
+ssim_plan name object size limit v =
+    reads name hcl_limit (λ text. gives (IsDesign seq_rows text) (RefusesDesign name seq_rows text) (λ terms. seq_plan terms object size limit v))
+
 abbrev pub plan_of : Command → Plan
 plan_of (yas source size v) = yas_plan source size v
 plan_of (yis object size limit v) = yis_plan object size limit v
 plan_of (hcl file) = hcl_plan file
+plan_of (ssim name object size limit v) = ssim_plan name object size limit v
 
 -- the plan of words that are a command or none
 abbrev pub plan_in : Option Command → Plan

@@ -10,7 +10,7 @@ use Rattle.y86_cli.specs.Arguments.{Filled, nothing_filled, index_of, all_added,
 use Rattle.y86_cli.specs.declared.option.Switch.{Switch}
 use Rattle.y86_cli.specs.declared.option.Switch.TheVariants.{Full, Mem, Limit}
 use Rattle.y86_cli.specs.declared.form.Kind.{Kind}
-use Rattle.y86_cli.specs.declared.form.Kind.TheVariants.{Yas, Yis, Hcl}
+use Rattle.y86_cli.specs.declared.form.Kind.TheVariants.{Yas, Yis, Hcl, Ssim}
 
 -- what a place takes: the name of a file
 pub data Place : Type 0 where
@@ -31,6 +31,7 @@ forms =
     row Yas (codes "yas") (file ∷ []) (Full ∷ Mem ∷ [])
     ∷ row Yis (codes "yis") (file ∷ []) (Full ∷ Mem ∷ Limit ∷ [])
     ∷ row Hcl (codes "hcl") (file ∷ []) []
+    ∷ row Ssim (codes "ssim") (file ∷ file ∷ []) (Full ∷ Mem ∷ Limit ∷ [])
     ∷ []
 
 -- ---- the form that words have
@@ -63,6 +64,9 @@ pub data Command : Type 0 where
   yis : List ℕ → ℕ → ℕ → Variant → Command
   -- read and print an HCL file: its name
   hcl : List ℕ → Command
+  -- run an object file on SEQ under an HCL file: the names of both, the size of the memory in bytes, the limit of cycles, the
+  -- instruction set
+  ssim : List ℕ → List ℕ → ℕ → ℕ → Variant → Command
 
 -- `--full` takes the instruction set with `iaddq`
 abbrev pub variant_with : Option ℕ → Variant
@@ -84,6 +88,8 @@ abbrev pub made : Kind → Filled → Option Command
 made Yas f = option_map (λ source. yas source (size_of f) (variant_of f)) (slice_get f.words 0)
 made Yis f = option_map (λ object. yis object (size_of f) (limit_of f) (variant_of f)) (slice_get f.words 0)
 made Hcl f = option_map hcl (slice_get f.words 0)
+made Ssim f =
+    option_and_then (λ file. option_map (λ object. ssim file object (size_of f) (limit_of f) (variant_of f)) (slice_get f.words 1)) (slice_get f.words 0)
 
 -- the command of the first row that fits
 unfoldable pub first_fit : List Form → List ℕ → Filled → Option Command

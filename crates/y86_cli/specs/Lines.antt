@@ -1,9 +1,12 @@
 -- The lines on standard error.
-use Rattle.std.specs.Prelude.{ℕ, codes, List, [], ◌∷◌}
+use Rattle.std.specs.Prelude.{ℕ, codes, List, [], ◌∷◌, map, slice_get, unwrap_or}
 use Rattle.std.specs.List.{concat}
 use Rattle.hcl_read.specs.declared.fault.HclFault.{HclFault}
 use Rattle.hcl_read.specs.declared.fault.HclWhy.{HclWhy}
 use Rattle.hcl_read.specs.declared.fault.HclWhy.TheVariants as whys
+use Rattle.hcl_types.specs.declared.fault.BindFault.{BindFault}
+use Rattle.hcl_types.specs.declared.fault.BindWhy.{BindWhy}
+use Rattle.hcl_types.specs.declared.fault.BindWhy.TheVariants as binding
 use Rattle.y86_base.specs.Numeral.{numeral}
 use Rattle.yas_asm.specs.declared.fault.AsmFault.{AsmFault}
 use Rattle.yas_asm.specs.declared.fault.AsmWhy.{AsmWhy}
@@ -67,3 +70,28 @@ place_line name line column reason =
 
 abbrev pub hcl_fault_line : List ℕ → HclFault → List ℕ
 hcl_fault_line name fault = place_line name fault.line fault.col (hcl_reason fault.why)
+
+-- a fault about names of a file: each stands behind a blank
+abbrev pub blank_names : List (List ℕ) → List ℕ
+blank_names names = concat (map (λ name. 32 ∷ name) names)
+
+unfoldable pub names_line : List ℕ → List ℕ → List ℕ → List ℕ
+names_line name reason names = concat (name ∷ codes ": " ∷ reason ∷ names ∷ codes "\n" ∷ [])
+
+abbrev pub bind_reason : BindWhy → List ℕ
+bind_reason binding.Unknown = codes "Unknown"
+bind_reason binding.Twice = codes "Twice"
+bind_reason binding.Missing = codes "Missing"
+bind_reason binding.KindMismatch = codes "KindMismatch"
+bind_reason binding.Redefines = codes "Redefines"
+bind_reason binding.Memory = codes "Memory"
+
+abbrev pub bind_fault_line : List ℕ → BindFault → List ℕ
+bind_fault_line name fault = names_line name (bind_reason fault.why) (blank_names (fault.name ∷ []))
+
+-- the names of rows of a table
+abbrev pub names_at : List (List ℕ) → List ℕ → List (List ℕ)
+names_at names ids = map (λ id. unwrap_or (slice_get names id) []) ids
+
+abbrev pub cycle_line : List ℕ → List (List ℕ) → List ℕ
+cycle_line name names = names_line name (codes "Cycle") (blank_names names)

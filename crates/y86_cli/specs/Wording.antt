@@ -6,7 +6,7 @@ use Rattle.y86_base.specs.Image.{IsSize}
 use Rattle.y86_base.specs.declared.parts.Variant.{Variant}
 use Rattle.y86_base.specs.declared.parts.Variant.TheVariants as variant
 use Rattle.y86_cli.specs.Arguments.{Argument, place, switch, Filled, arguments, index_of, is_option}
-use Rattle.y86_cli.specs.Forms.{Command, yas, yis, hcl, Form, forms, fits, made}
+use Rattle.y86_cli.specs.Forms.{Command, yas, yis, hcl, ssim, Form, forms, fits, made}
 use Rattle.y86_cli.specs.declared.option.Switch.{Switch}
 
 -- what may name a file: a word that isn't empty and is no option
@@ -22,6 +22,7 @@ abbrev pub IsLegal : Command → Type 0
 IsLegal (yas source size v) = IsFileName source × IsSize size
 IsLegal (yis object size limit v) = IsFileName object × IsSize size × IsRunLimit limit
 IsLegal (hcl file) = IsFileName file
+IsLegal (ssim file object size limit v) = IsFileName file × IsFileName object × IsSize size × IsRunLimit limit
 
 abbrev pub variant_words : Variant → List (List ℕ)
 variant_words variant.Base = []
@@ -33,6 +34,8 @@ words_of (yas source size v) = codes "yas" ∷ source ∷ codes "--mem" ∷ deci
 words_of (yis object size limit v) =
     codes "yis" ∷ object ∷ codes "--mem" ∷ decimal size ∷ codes "--limit" ∷ decimal limit ∷ variant_words v
 words_of (hcl file) = codes "hcl" ∷ file ∷ []
+words_of (ssim file object size limit v) =
+    codes "ssim" ∷ file ∷ object ∷ codes "--mem" ∷ decimal size ∷ codes "--limit" ∷ decimal limit ∷ variant_words v
 
 -- words that are arguments: file names and other words of places, and options each with its number
 abbrev pub AreArguments : List (List ℕ) → Type 0

@@ -29,6 +29,15 @@ pub enum Cmd<'a> {
     Hcl {
         hcl: &'a str,
     },
+    /// Runs an object file on SEQ under an HCL file. `mem` is the size of the memory in bytes, and `limit` the most cycles
+    /// that are done.
+    Ssim {
+        hcl: &'a str,
+        obj: &'a str,
+        mem: u64,
+        limit: u64,
+        variant: Variant,
+    },
 }
 
 /// Words that are no command.

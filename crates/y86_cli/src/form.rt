@@ -23,6 +23,7 @@ pub enum Kind {
     Yas,
     Yis,
     Hcl,
+    Ssim,
 }
 
 /// A form: the name of its command, the places behind it, in order, and the options, which stand anywhere behind the
@@ -36,7 +37,7 @@ struct Form {
 }
 
 /// The table of the commands.
-static FORMS: [Form; 3] = [
+static FORMS: [Form; 4] = [
     Form {
         kind: Kind::Yas,
         name: "yas",
@@ -54,6 +55,12 @@ static FORMS: [Form; 3] = [
         name: "hcl",
         places: &[Place::File],
         options: &[],
+    },
+    Form {
+        kind: Kind::Ssim,
+        name: "ssim",
+        places: &[Place::File, Place::File],
+        options: &[Switch::Full, Switch::Mem, Switch::Limit],
     },
 ];
 
@@ -144,6 +151,13 @@ fn made<'a>(kind: Kind, found: &Found<'a>) -> Option<Cmd<'a>>
         }),
         Kind::Hcl => Some(Cmd::Hcl {
             hcl: *words.get(0)?,
+        }),
+        Kind::Ssim => Some(Cmd::Ssim {
+            hcl: *words.get(0)?,
+            obj: *words.get(1)?,
+            mem,
+            limit,
+            variant,
         }),
     }
 }

@@ -1,6 +1,7 @@
 ghost use Rattle.std.specs.Prelude.{◌≡◌, List, ℕ};
 ghost use Rattle.hcl_read.specs.Read.{ReadsAs};
-ghost use Rattle.y86_cli.specs.Answers.{RefusesHcl, hcl_plan};
+ghost use Rattle.y86_cli.specs.Answers.{hcl_plan};
+ghost use Rattle.y86_cli.specs.Designs.{RefusesHcl};
 ghost use Rattle.y86_cli.specs.Does.{Does, GivesOne, files_seen, sink_seen};
 ghost use Rattle.y86_cli.specs.Lines.{hcl_reason};
 

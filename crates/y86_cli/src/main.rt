@@ -4,6 +4,7 @@
 mod argument;
 mod call;
 mod cmd;
+mod design;
 mod files;
 mod form;
 mod hcl;
@@ -12,6 +13,7 @@ mod number;
 mod option;
 mod run;
 mod say;
+mod ssim;
 mod stop;
 #[cfg(test)]
 mod tests;

@@ -9,6 +9,7 @@ ghost use Rattle.y86_cli.specs.Wording.{IsLegal};
 
 use crate::cmd::{Cmd, Usage, words};
 use crate::hcl::hcl;
+use crate::ssim::ssim;
 use crate::stop::Stop;
 use crate::yas::yas;
 use crate::yis::yis;
@@ -43,6 +44,13 @@ fn execute<'a, F: Files, O: Sink>(
             variant,
         } => yis(alloc, obj, mem, limit, variant, files, out),
         Cmd::Hcl { hcl: name } => hcl(alloc, name, files, out),
+        Cmd::Ssim {
+            hcl: name,
+            obj,
+            mem,
+            limit,
+            variant,
+        } => ssim(alloc, name, obj, mem, limit, variant, files, out),
     }
 }
 

@@ -29,7 +29,12 @@ fn reason(why: YoWhy) -> &'static [u8]
 
 /// The image of an object text under a name.
 #[tactic(auto)]
-fn load_image<'a>(alloc: Global, name: &'a str, bytes: &[u8], size: u64) -> Result<Image, Stop<'a>>
+pub fn load_image<'a>(
+    alloc: Global,
+    name: &'a str,
+    bytes: &[u8],
+    size: u64,
+) -> Result<Image, Stop<'a>>
     requires { IsSize size }
     ensures { Gives (λ image. image) (image_of_text name.now (object_of bytes.now size)) result }
 {
@@ -49,7 +54,7 @@ fn load_image<'a>(alloc: Global, name: &'a str, bytes: &[u8], size: u64) -> Resu
 }
 
 /// 0 where a run ended at a halt, else 1.
-fn status(stat: Stat) -> u8
+pub fn status(stat: Stat) -> u8
     ensures status { result ≡ run_status stat }
     ensures low { result ≤ 1 }
 {

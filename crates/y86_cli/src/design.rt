@@ -1,0 +1,144 @@
+ghost use Rattle.std.specs.Prelude.{◌≡◌, ◌≢◌, ◌⊎◌, ◌++◌, ◌∷◌, [], List, ℕ, IfOk, OnOk, map};
+ghost use Rattle.hcl_types.specs.Tables.{IsBound, IsOrderOf, IsSound, row_names};
+ghost use Rattle.hcl_types.specs.declared.fault.BindWhy.TheVariants.{Memory as OutOfMemory};
+ghost use Rattle.y86_cli.specs.Designs.{IsDesign, RefusesDesign};
+ghost use Rattle.y86_cli.specs.Does.{GivesOne};
+ghost use Rattle.y86_cli.specs.Lines as text;
+ghost use Rattle.y86_cli.specs.Plan.{refused};
+ghost use Rattle.y86_cli.specs.Stops.{answer_at, status_of};
+ghost use Rattle.y86_cli.specs.declared.stop.Stop.TheVariants.{Memory as WantOfMemory};
+
+use crate::hcl::read_hcl;
+use crate::stop::{Refusal, Stop};
+use hcl_order::{OrderFault, order};
+use hcl_types::{BindFault, BindWhy, Design, Order, Row, Table, bind};
+use std::alloc::{AllocError, Global};
+
+/// A design and an order of its signals.
+#[derive(Drop)]
+pub struct Ordered {
+    pub design: Design,
+    pub order: Order,
+}
+
+/// The name of a reason of binding.
+fn reason(why: BindWhy) -> &'static [u8]
+    ensures { result.now ≡ text.bind_reason why }
+{
+    match why {
+        BindWhy::Unknown => b"Unknown",
+        BindWhy::Twice => b"Twice",
+        BindWhy::Missing => b"Missing",
+        BindWhy::KindMismatch => b"KindMismatch",
+        BindWhy::Redefines => b"Redefines",
+        BindWhy::Memory => b"Memory",
+    }
+}
+
+/// Puts a blank and a name behind other names.
+fn put_name(names: &mut Vec<u8>, name: &[u8]) -> Result<(), AllocError>
+    ensures { OnOk result (names.new.items ≡ names.old.items ++ (32 ∷ name.now)) }
+{
+    if names.push(b' ').is_err() {
+        return Err(AllocError);
+    }
+    match names.extend_from_slice(name) {
+        Ok(()) => Ok(()),
+        Err(_) => Err(AllocError),
+    }
+}
+
+/// One name behind a blank.
+fn one_name(alloc: Global, name: &[u8]) -> Result<Vec<u8>, AllocError>
+    ensures { IfOk result (λ names. names.items ≡ text.blank_names (name.now ∷ [])) }
+{
+    let mut names = Vec::new(alloc);
+    put_name(&mut names, name)?;
+    Ok(names)
+}
+
+/// The name of a row.
+fn name_at(rows: &[Row], id: u32) -> &[u8]
+    ensures { text.names_at (row_names rows.now) (id ∷ []) ≡ result.now ∷ [] }
+{
+    match rows.get(id as usize) {
+        Some(row) => row.name.bytes(),
+        None => b"",
+    }
+}
+
+/// The names of rows, each behind a blank.
+fn all_names(alloc: Global, rows: &[Row], ids: &[u32]) -> Result<Vec<u8>, AllocError>
+    ensures { IfOk result (λ names. names.items ≡ text.blank_names (text.names_at (row_names rows.now) ids.now)) }
+{
+    let mut names = Vec::new(alloc);
+    for id in ids {
+        match put_name(&mut names, name_at(rows, *id)) {
+            Ok(()) => {}
+            Err(_) => return Err(AllocError),
+        }
+    }
+    Ok(names)
+}
+
+/// The stop at a fault of binding.
+fn bind_stop<'a>(alloc: Global, name: &'a str, fault: BindFault) -> Stop<'a>
+    ensures { (result ≡ WantOfMemory)
+        ⊎ ((status_of result ≡ 5) × (fault.why ≢ OutOfMemory) × (answer_at result ≡ refused 5 (text.bind_fault_line name.now fault))) }
+{
+    let why = match fault.why {
+        BindWhy::Memory => return Stop::Memory,
+        why => reason(why),
+    };
+    match one_name(alloc, fault.name.bytes()) {
+        Ok(names) => Stop::Refused(name, Refusal::OfNames { why, names }),
+        Err(_) => Stop::Memory,
+    }
+}
+
+/// The stop at a cycle of rows.
+fn cycle_stop<'a>(alloc: Global, name: &'a str, rows: &[Row], ids: &[u32]) -> Stop<'a>
+    ensures { (result ≡ WantOfMemory)
+        ⊎ ((status_of result ≡ 5) × (answer_at result ≡ refused 5 (text.cycle_line name.now (text.names_at (row_names rows.now) ids.now)))) }
+{
+    match all_names(alloc, rows, ids) {
+        Ok(names) => Stop::Refused(
+            name,
+            Refusal::OfNames {
+                why: b"Cycle",
+                names,
+            },
+        ),
+        Err(_) => Stop::Memory,
+    }
+}
+
+/// The design of an HCL text under a name, over a table, with an order of its signals.
+#[tactic(auto, using(crate::proofs::Designs::unread, crate::proofs::Designs::unbound, crate::proofs::Designs::unordered, crate::proofs::Designs::ordered))]
+pub fn ordered_design<'a>(
+    alloc: Global,
+    name: &'a str,
+    source: &[u8],
+    table: &Table,
+) -> Result<Ordered, Stop<'a>>
+    requires { IsSound table.now.rows }
+    ensures design { GivesOne (IsDesign table.now.rows source.now) (RefusesDesign name.now table.now.rows source.now) (λ ordered. ordered.design.terms) result }
+    ensures bound { IfOk result (λ ordered. IsBound table.now.rows ordered.design.terms) }
+    ensures order { IfOk result (λ ordered. IsOrderOf table.now.rows ordered.design.terms ordered.order.ids) }
+{
+    let file = match read_hcl(alloc, name, source) {
+        Ok(file) => file,
+        Err(stop) => return Err(stop),
+    };
+    let design = match bind(alloc, &file, table) {
+        Ok(design) => design,
+        Err(fault) => return Err(bind_stop(alloc, name, fault)),
+    };
+    match order(alloc, &design, table) {
+        Ok(order) => Ok(Ordered { design, order }),
+        Err(OrderFault::Cycle(ids)) => {
+            Err(cycle_stop(alloc, name, table.rows.items(), ids.items()))
+        }
+        Err(OrderFault::Memory) => Err(Stop::Memory),
+    }
+}

@@ -1,0 +1,118 @@
+ghost use Rattle.std.specs.Prelude.{◌≡◌, List, ℕ, IfOk};
+ghost use Rattle.dp_signals.specs.SeqTable.{seq_rows};
+ghost use Rattle.hcl_types.specs.Tables.{IsBound, IsOrderOf};
+ghost use Rattle.y86_base.specs.Image.{IsSize};
+ghost use Rattle.y86_cli.specs.Answers.{SeqAnswers, seq_plan, ssim_plan};
+ghost use Rattle.y86_cli.specs.Designs.{IsDesign, RefusesDesign};
+ghost use Rattle.y86_cli.specs.Does.{Does, GivesOne, Says, files_seen, sink_seen};
+
+use crate::design::{Ordered, ordered_design};
+use crate::files::{FILE_LIMIT, HCL_LIMIT, read_file};
+use crate::stop::Stop;
+use crate::yis::{load_image, status};
+use dp_signals::{law_of_tables, seq_table};
+use hcl_compile::compile;
+use seq_path::{Seq, run};
+use std::alloc::Global;
+use wb_io::{Files, Sink};
+use y86_base::{Image, Variant};
+use yis_run::report;
+
+/// The design of an HCL text under a name, over SEQ's table, with an order of its signals.
+fn seq_design<'a>(alloc: Global, name: &'a str, source: &[u8]) -> Result<Ordered, Stop<'a>>
+    ensures design { GivesOne (IsDesign seq_rows source.now) (RefusesDesign name.now seq_rows source.now) (λ ordered. ordered.design.terms) result }
+    ensures bound { IfOk result (λ ordered. IsBound seq_rows ordered.design.terms) }
+    ensures order { IfOk result (λ ordered. IsOrderOf seq_rows ordered.design.terms ordered.order.ids) }
+{
+    law_of_tables();
+    let Ok(table) = seq_table(alloc) else {
+        return Err(Stop::Memory);
+    };
+    ordered_design(alloc, name, source, &table)
+}
+
+/// Runs an image on SEQ and writes the report. All memory is taken before the first cycle.
+fn run_seq<'a, O: Sink>(
+    alloc: Global,
+    variant: Variant,
+    ordered: Ordered,
+    image: Image,
+    limit: u64,
+    out: &mut O,
+) -> Result<u8, Stop<'a>>
+    requires bound { IsBound seq_rows ordered.design.terms }
+    requires order { IsOrderOf seq_rows ordered.design.terms ordered.order.ids }
+    ensures { Says (SeqAnswers variant ordered.design.terms limit image)
+        (sink_seen (O.taken out.old) (O.faults out.old)) (sink_seen (O.taken out.new) (O.faults out.new)) result }
+{
+    let Ok(first) = image.copy(alloc) else {
+        return Err(Stop::Memory);
+    };
+    let Ordered { design, order } = ordered;
+    let Ok(compiled) = compile(alloc, &design, &order) else {
+        return Err(Stop::Memory);
+    };
+    let mut machine = Seq::new(variant, design, order, compiled, image);
+    let ran = run(&mut machine, limit);
+    let end = machine.end();
+    match report(&first, &end, ran.steps, out) {
+        Ok(()) => Ok(status(end.stat)),
+        Err(_) => Err(Stop::Write),
+    }
+}
+
+/// Reads an object file and runs it on SEQ under a design.
+fn run_object<'a, F: Files, O: Sink>(
+    alloc: Global,
+    variant: Variant,
+    ordered: Ordered,
+    obj: &'a str,
+    mem: u64,
+    limit: u64,
+    files: &mut F,
+    out: &mut O,
+) -> Result<u8, Stop<'a>>
+    requires size { IsSize mem }
+    requires bound { IsBound seq_rows ordered.design.terms }
+    requires order { IsOrderOf seq_rows ordered.design.terms ordered.order.ids }
+    ensures { Does (seq_plan ordered.design.terms obj.now mem limit variant)
+        (files_seen (F.told files.old) (F.faults files.old)) (files_seen (F.told files.new) (F.faults files.new))
+        (sink_seen (O.taken out.old) (O.faults out.old)) (sink_seen (O.taken out.new) (O.faults out.new)) result }
+{
+    let bytes = match read_file(alloc, obj, FILE_LIMIT, files) {
+        Ok(bytes) => bytes,
+        Err(stop) => return Err(stop),
+    };
+    let image = match load_image(alloc, obj, bytes.as_slice(), mem) {
+        Ok(image) => image,
+        Err(stop) => return Err(stop),
+    };
+    run_seq(alloc, variant, ordered, image, limit, out)
+}
+
+/// `ssim`: runs an object file on SEQ under an HCL file.
+pub fn ssim<'a, F: Files, O: Sink>(
+    alloc: Global,
+    name: &'a str,
+    obj: &'a str,
+    mem: u64,
+    limit: u64,
+    variant: Variant,
+    files: &mut F,
+    out: &mut O,
+) -> Result<u8, Stop<'a>>
+    requires { IsSize mem }
+    ensures { Does (ssim_plan name.now obj.now mem limit variant)
+        (files_seen (F.told files.old) (F.faults files.old)) (files_seen (F.told files.new) (F.faults files.new))
+        (sink_seen (O.taken out.old) (O.faults out.old)) (sink_seen (O.taken out.new) (O.faults out.new)) result }
+{
+    let source = match read_file(alloc, name, HCL_LIMIT, files) {
+        Ok(source) => source,
+        Err(stop) => return Err(stop),
+    };
+    let ordered = match seq_design(alloc, name, source.as_slice()) {
+        Ok(ordered) => ordered,
+        Err(stop) => return Err(stop),
+    };
+    run_object(alloc, variant, ordered, obj, mem, limit, files, out)
+}
