@@ -10,13 +10,14 @@ use Rattle.yas_asm.specs.declared.fault.AsmFault.{AsmFault}
 use Rattle.yas_asm.specs.declared.listing.Line.{Line}
 use Rattle.yo_object.specs.ObjectText.{object_of}
 use Rattle.yo_object.specs.declared.object.YoFault.{YoFault}
-use Rattle.y86_cli.specs.Answers.{image_of_text, plan_in, plan_of, run_status, text_of_listing, yas_plan, yis_plan, hcl_plan, seq_plan, ssim_plan, SeqAnswers, yis_run}
+use Rattle.y86_cli.specs.Answers.{image_of_text, plan_in, plan_of, run_status, text_of_listing, yas_plan, yis_plan, hcl_plan, seq_plan, ssim_plan, SeqAnswers, pipe_plan, psim_plan, PipeAnswers, yis_run}
 use Rattle.y86_cli.specs.Designs.{RefusesDesign}
 use Rattle.hcl_types.specs.declared.table.Row.{Row}
 use Rattle.hcl_types.specs.declared.term.Term.{Term}
 use Rattle.dp_signals.specs.SeqTable.{seq_rows}
+use Rattle.dp_signals.specs.PipeTable.{pipe_rows}
 use Rattle.y86_cli.specs.Does.{FilesSeen, SinkSeen}
-use Rattle.y86_cli.specs.Forms.{Command, yas, yis, hcl, ssim}
+use Rattle.y86_cli.specs.Forms.{Command, yas, yis, hcl, ssim, psim}
 use Rattle.y86_cli.specs.Lines.{assembly_fault_line, object_fault_line, read_fault_line, too_long_line}
 use Rattle.y86_cli.specs.Plan.{Answered, Plan, says, reads, gives, answers, after, refused, Allows, Tells, IsDetermined}
 use Rattle.y86_cli.specs.Ran.{Ran, Told}
@@ -166,13 +167,17 @@ seq_proper : (v : Variant) (terms : List Term) (limit : ℕ) (image : List ℕ) 
 unfolding AllProper
 seq_proper v terms limit image = λ a said. proper_as a _ (inl (run_status_low said.0.stat, refl)) said.3
 
+pipe_proper : (v : Variant) (terms : List Term) (limit : ℕ) (trace : Bool) (image : List ℕ) → AllProper (says (PipeAnswers v terms limit trace image))
+unfolding AllProper
+pipe_proper v terms limit trace image = λ a said. proper_as a _ (inl (run_status_low said.2.end, refl)) said.5
+
 design_proper : (name : List ℕ) (rows : List Row) (text : List ℕ) (a : Answered) → RefusesDesign name rows text a → IsProper a
 design_proper name rows text a (inl unread) = refused_proper _ a unread.2
 design_proper name rows text a (inr (inl unbound)) = refused_proper _ a unbound.told
 design_proper name rows text a (inr (inr unordered)) = refused_proper _ a unordered.told
 
 command_proper : (command : Command) → AllProper (plan_of command)
-unfolding AllProper yas_plan yis_plan hcl_plan seq_plan ssim_plan
+unfolding AllProper yas_plan yis_plan hcl_plan seq_plan ssim_plan pipe_plan psim_plan
 command_proper (yas source size v) =
     λ bytes. after_proper _ _ (λ text. answers_proper _ (inl (lit≤ tt, refl))) (listing_proper source bytes (assembled v bytes size))
 command_proper (yis object size limit v) =
@@ -180,6 +185,8 @@ command_proper (yis object size limit v) =
 command_proper (hcl file) = λ text. (λ tree is. answers_proper _ (inl (lit≤ tt, refl)), λ a refuses. refused_proper _ a refuses.2)
 command_proper (ssim name object size limit v) =
     λ text. (λ terms is bytes. after_proper _ _ (λ image. seq_proper v terms limit image) (image_proper object (object_of bytes size)), design_proper name seq_rows text)
+command_proper (psim name object size limit trace v) =
+    λ text. (λ terms is bytes. after_proper _ _ (λ image. pipe_proper v terms limit trace image) (image_proper object (object_of bytes size)), design_proper name pipe_rows text)
 
 done_of : (a : Answered) → IsProper a → a.status ≤ 1 → a.err ≡ []
 done_of a (inl p) low = p.1

@@ -1,5 +1,6 @@
 -- What each command answers, as a plan.
 use Rattle.std.specs.Prelude.{◌≡◌, ℕ, List, length, Option, Some, None, Result, Ok, Err}
+use Rattle.dp_signals.specs.PipeTable.{pipe_rows}
 use Rattle.dp_signals.specs.SeqRun.{SeqRun}
 use Rattle.dp_signals.specs.SeqTable.{seq_rows}
 use Rattle.hcl_read.specs.Print as hcl_text
@@ -19,7 +20,7 @@ use Rattle.yo_object.specs.ObjectText.{object_of}
 use Rattle.yo_object.specs.Printed.{printed}
 use Rattle.yo_object.specs.declared.object.YoFault.{YoFault}
 use Rattle.y86_cli.specs.Designs.{IsDesign, RefusesDesign, RefusesHcl}
-use Rattle.y86_cli.specs.Forms.{Command, yas, yis, hcl, ssim}
+use Rattle.y86_cli.specs.Forms.{Command, yas, yis, hcl, ssim, psim}
 use Rattle.y86_cli.specs.Lines.{assembly_fault_line, object_fault_line, usage_line}
 use Rattle.y86_cli.specs.Plan.{Answered, Plan, after, answers, done, gives, reads, refused, says}
 
@@ -79,11 +80,21 @@ unfoldable pub ssim_plan : List ℕ → List ℕ → ℕ → ℕ → Variant →
 ssim_plan name object size limit v =
     reads name hcl_limit (λ text. gives (IsDesign seq_rows text) (RefusesDesign name seq_rows text) (λ terms. seq_plan terms object size limit v))
 
+-- the run of an object file on PIPE under a design
+unfoldable pub pipe_plan : List Term → List ℕ → ℕ → ℕ → Bool → Variant → Plan
+pipe_plan terms object size limit trace v =
+    reads object file_limit (λ bytes. after (image_of_text object (object_of bytes size)) (λ image. says (PipeAnswers v terms limit trace image)))
+
+unfoldable pub psim_plan : List ℕ → List ℕ → ℕ → ℕ → Bool → Variant → Plan
+psim_plan name object size limit trace v =
+    reads name hcl_limit (λ text. gives (IsDesign pipe_rows text) (RefusesDesign name pipe_rows text) (λ terms. pipe_plan terms object size limit trace v))
+
 abbrev pub plan_of : Command → Plan
 plan_of (yas source size v) = yas_plan source size v
 plan_of (yis object size limit v) = yis_plan object size limit v
 plan_of (hcl file) = hcl_plan file
 plan_of (ssim name object size limit v) = ssim_plan name object size limit v
+plan_of (psim name object size limit trace v) = psim_plan name object size limit trace v
 
 -- the plan of words that are a command or none
 abbrev pub plan_in : Option Command → Plan

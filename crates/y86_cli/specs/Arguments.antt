@@ -6,7 +6,7 @@ use Rattle.std.specs.Str.{bytes_eq}
 use Rattle.y86_base.specs.Image.{is_image_size}
 use Rattle.y86_cli.specs.Numbers.{number_that, is_run_limit}
 use Rattle.y86_cli.specs.declared.option.Switch.{Switch}
-use Rattle.y86_cli.specs.declared.option.Switch.TheVariants.{Full, Mem, Limit}
+use Rattle.y86_cli.specs.declared.option.Switch.TheVariants.{Full, Mem, Limit, Trace}
 
 -- ---- the options
 
@@ -14,12 +14,14 @@ abbrev pub index_of : Switch → ℕ
 index_of Full = 0
 index_of Mem = 1
 index_of Limit = 2
+index_of Trace = 3
 
 -- the numbers that an option takes, or none where it takes no number
 abbrev pub takes : Switch → Option (ℕ → Bool)
 takes Full = None
 takes Mem = Some is_image_size
 takes Limit = Some is_run_limit
+takes Trace = None
 
 -- the option that a word is
 abbrev pub switch_of : List ℕ → Option Switch
@@ -27,7 +29,8 @@ switch_of word =
     if bytes_eq word (codes "--full") then Some Full
     else (if bytes_eq word (codes "--mem") then Some Mem
     else (if bytes_eq word (codes "--limit") then Some Limit
-    else None))
+    else (if bytes_eq word (codes "--trace") then Some Trace
+    else None)))
 
 -- ---- the arguments
 
@@ -94,7 +97,7 @@ pub record Filled : Type 0 where
   pub values : List (Option ℕ)
 
 abbrev pub nothing_filled : Filled
-nothing_filled = record { words = []; values = None ∷ None ∷ None ∷ [] }
+nothing_filled = record { words = []; values = None ∷ None ∷ None ∷ None ∷ [] }
 
 -- one more argument: no form has more than three places, and no option stands twice
 abbrev pub added : Filled → Argument → Option Filled

@@ -1,6 +1,6 @@
 -- The forms of the commands, as rows: a name, the places behind it in order, and the options, which stand anywhere behind the
 -- name.
-use Rattle.std.specs.Prelude.{ℕ, Bool, true, false, ◌&&◌, ◌||◌, ◌==◌, if◌then◌else◌, List, [], ◌∷◌, codes, get_or, slice_get, Option, Some, None, is_none, unwrap_or, option_and_then}
+use Rattle.std.specs.Prelude.{ℕ, Bool, true, false, ◌&&◌, ◌||◌, ◌==◌, if◌then◌else◌, List, [], ◌∷◌, codes, get_or, slice_get, Option, Some, None, is_none, is_some, unwrap_or, option_and_then}
 use Rattle.std.specs.List.{list_any}
 use Rattle.std.specs.Option.{option_map}
 use Rattle.std.specs.Str.{bytes_eq}
@@ -8,9 +8,9 @@ use Rattle.y86_base.specs.declared.parts.Variant.{Variant}
 use Rattle.y86_base.specs.declared.parts.Variant.TheVariants as variant
 use Rattle.y86_cli.specs.Arguments.{Filled, nothing_filled, index_of, all_added, arguments}
 use Rattle.y86_cli.specs.declared.option.Switch.{Switch}
-use Rattle.y86_cli.specs.declared.option.Switch.TheVariants.{Full, Mem, Limit}
+use Rattle.y86_cli.specs.declared.option.Switch.TheVariants.{Full, Mem, Limit, Trace}
 use Rattle.y86_cli.specs.declared.form.Kind.{Kind}
-use Rattle.y86_cli.specs.declared.form.Kind.TheVariants.{Yas, Yis, Hcl, Ssim}
+use Rattle.y86_cli.specs.declared.form.Kind.TheVariants.{Yas, Yis, Hcl, Ssim, Psim}
 
 -- what a place takes: the name of a file
 pub data Place : Type 0 where
@@ -32,6 +32,7 @@ forms =
     ∷ row Yis (codes "yis") (file ∷ []) (Full ∷ Mem ∷ Limit ∷ [])
     ∷ row Hcl (codes "hcl") (file ∷ []) []
     ∷ row Ssim (codes "ssim") (file ∷ file ∷ []) (Full ∷ Mem ∷ Limit ∷ [])
+    ∷ row Psim (codes "psim") (file ∷ file ∷ []) (Full ∷ Mem ∷ Limit ∷ Trace ∷ [])
     ∷ []
 
 -- ---- the form that words have
@@ -52,7 +53,7 @@ fits_switch options values s = is_none (get_or values (index_of s) None) || list
 abbrev pub fits : Form → List ℕ → Filled → Bool
 fits form name f =
     bytes_eq name form.name && fits_places form.places f.words
-    && (fits_switch form.options f.values Full && fits_switch form.options f.values Mem && fits_switch form.options f.values Limit)
+    && (fits_switch form.options f.values Full && fits_switch form.options f.values Mem && fits_switch form.options f.values Limit && fits_switch form.options f.values Trace)
 
 -- ---- the commands
 
@@ -67,6 +68,8 @@ pub data Command : Type 0 where
   -- run an object file on SEQ under an HCL file: the names of both, the size of the memory in bytes, the limit of cycles, the
   -- instruction set
   ssim : List ℕ → List ℕ → ℕ → ℕ → Variant → Command
+  -- run an object file on PIPE under an HCL file: as for ssim, and whether a trace is asked for
+  psim : List ℕ → List ℕ → ℕ → ℕ → Bool → Variant → Command
 
 -- `--full` takes the instruction set with `iaddq`
 abbrev pub variant_with : Option ℕ → Variant
@@ -83,6 +86,10 @@ size_of f = unwrap_or (get_or f.values (index_of Mem) None) 8192
 abbrev pub limit_of : Filled → ℕ
 limit_of f = unwrap_or (get_or f.values (index_of Limit) None) 10000
 
+-- whether a trace is asked for
+abbrev pub trace_of : Filled → Bool
+trace_of f = is_some (get_or f.values (index_of Trace) None)
+
 -- the command of a row with what was found
 abbrev pub made : Kind → Filled → Option Command
 made Yas f = option_map (λ source. yas source (size_of f) (variant_of f)) (slice_get f.words 0)
@@ -90,6 +97,8 @@ made Yis f = option_map (λ object. yis object (size_of f) (limit_of f) (variant
 made Hcl f = option_map hcl (slice_get f.words 0)
 made Ssim f =
     option_and_then (λ file. option_map (λ object. ssim file object (size_of f) (limit_of f) (variant_of f)) (slice_get f.words 1)) (slice_get f.words 0)
+made Psim f =
+    option_and_then (λ file. option_map (λ object. psim file object (size_of f) (limit_of f) (trace_of f) (variant_of f)) (slice_get f.words 1)) (slice_get f.words 0)
 
 -- the command of the first row that fits
 unfoldable pub first_fit : List Form → List ℕ → Filled → Option Command

@@ -1,12 +1,12 @@
 -- Which words are a command: the terms of the law of the words.
-use Rattle.std.specs.Prelude.{◌≡◌, ◌<◌, ◌≤◌, ℕ, IsTrue, false, nat_eq, if◌then◌else◌, List, [], ◌∷◌, length, codes, get_or, None, Some, IsSome, Contains}
+use Rattle.std.specs.Prelude.{◌≡◌, ◌<◌, ◌≤◌, ℕ, IsTrue, false, nat_eq, if◌then◌else◌, List, [], ◌∷◌, length, codes, get_or, None, Some, IsSome, Contains, Bool, true, ◌++◌}
 use Rattle.std.specs.Fmt.{decimal}
 use Rattle.std.specs.Option.{option_to_list}
 use Rattle.y86_base.specs.Image.{IsSize}
 use Rattle.y86_base.specs.declared.parts.Variant.{Variant}
 use Rattle.y86_base.specs.declared.parts.Variant.TheVariants as variant
 use Rattle.y86_cli.specs.Arguments.{Argument, place, switch, Filled, arguments, index_of, is_option}
-use Rattle.y86_cli.specs.Forms.{Command, yas, yis, hcl, ssim, Form, forms, fits, made}
+use Rattle.y86_cli.specs.Forms.{Command, yas, yis, hcl, ssim, psim, Form, forms, fits, made}
 use Rattle.y86_cli.specs.declared.option.Switch.{Switch}
 
 -- what may name a file: a word that isn't empty and is no option
@@ -23,10 +23,15 @@ IsLegal (yas source size v) = IsFileName source × IsSize size
 IsLegal (yis object size limit v) = IsFileName object × IsSize size × IsRunLimit limit
 IsLegal (hcl file) = IsFileName file
 IsLegal (ssim file object size limit v) = IsFileName file × IsFileName object × IsSize size × IsRunLimit limit
+IsLegal (psim file object size limit trace v) = IsFileName file × IsFileName object × IsSize size × IsRunLimit limit
 
 abbrev pub variant_words : Variant → List (List ℕ)
 variant_words variant.Base = []
 variant_words variant.Full = codes "--full" ∷ []
+
+abbrev pub trace_words : Bool → List (List ℕ)
+trace_words false = []
+trace_words true = codes "--trace" ∷ []
 
 -- the words of a command with each of its options
 abbrev pub words_of : Command → List (List ℕ)
@@ -36,6 +41,8 @@ words_of (yis object size limit v) =
 words_of (hcl file) = codes "hcl" ∷ file ∷ []
 words_of (ssim file object size limit v) =
     codes "ssim" ∷ file ∷ object ∷ codes "--mem" ∷ decimal size ∷ codes "--limit" ∷ decimal limit ∷ variant_words v
+words_of (psim file object size limit trace v) =
+    codes "psim" ∷ file ∷ object ∷ codes "--mem" ∷ decimal size ∷ codes "--limit" ∷ decimal limit ∷ (trace_words trace ++ variant_words v)
 
 -- words that are arguments: file names and other words of places, and options each with its number
 abbrev pub AreArguments : List (List ℕ) → Type 0

@@ -38,6 +38,16 @@ pub enum Cmd<'a> {
         limit: u64,
         variant: Variant,
     },
+    /// Runs an object file on PIPE under an HCL file, as `Ssim` does on SEQ; with `trace` a line for each instruction that
+    /// retires.
+    Psim {
+        hcl: &'a str,
+        obj: &'a str,
+        mem: u64,
+        limit: u64,
+        trace: bool,
+        variant: Variant,
+    },
 }
 
 /// Words that are no command.

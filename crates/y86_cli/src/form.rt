@@ -24,6 +24,7 @@ pub enum Kind {
     Yis,
     Hcl,
     Ssim,
+    Psim,
 }
 
 /// A form: the name of its command, the places behind it, in order, and the options, which stand anywhere behind the
@@ -37,7 +38,7 @@ struct Form {
 }
 
 /// The table of the commands.
-static FORMS: [Form; 4] = [
+static FORMS: [Form; 5] = [
     Form {
         kind: Kind::Yas,
         name: "yas",
@@ -61,6 +62,12 @@ static FORMS: [Form; 4] = [
         name: "ssim",
         places: &[Place::File, Place::File],
         options: &[Switch::Full, Switch::Mem, Switch::Limit],
+    },
+    Form {
+        kind: Kind::Psim,
+        name: "psim",
+        places: &[Place::File, Place::File],
+        options: &[Switch::Full, Switch::Mem, Switch::Limit, Switch::Trace],
     },
 ];
 
@@ -116,7 +123,8 @@ fn fits(form: &Form, name: &str, found: &Found<'_>) -> bool
         && fits_places(form.places, found.words.as_slice())
         && (fits_switch(form.options, found, Switch::Full)
             && fits_switch(form.options, found, Switch::Mem)
-            && fits_switch(form.options, found, Switch::Limit))
+            && fits_switch(form.options, found, Switch::Limit)
+            && fits_switch(form.options, found, Switch::Trace))
 }
 
 /// The instruction set of a command: with `iaddq` where `--full` is there.
@@ -136,6 +144,7 @@ fn made<'a>(kind: Kind, found: &Found<'a>) -> Option<Cmd<'a>>
     let variant = variant_with(found.values[0]);
     let mem = found.values[1].unwrap_or(8192);
     let limit = found.values[2].unwrap_or(10000);
+    let trace = found.values[3].is_some();
     let words = found.words.as_slice();
     match kind {
         Kind::Yas => Some(Cmd::Yas {
@@ -157,6 +166,14 @@ fn made<'a>(kind: Kind, found: &Found<'a>) -> Option<Cmd<'a>>
             obj: *words.get(1)?,
             mem,
             limit,
+            variant,
+        }),
+        Kind::Psim => Some(Cmd::Psim {
+            hcl: *words.get(0)?,
+            obj: *words.get(1)?,
+            mem,
+            limit,
+            trace,
             variant,
         }),
     }

@@ -13,17 +13,20 @@ pub enum Switch {
     Mem,
     /// `--limit N`: the most steps or cycles of a run.
     Limit,
+    /// `--trace`: a line for each instruction that retires.
+    Trace,
 }
 
 /// Where the number of an option is kept.
 pub fn index_of(switch: Switch) -> usize
     ensures index { result ≡ spec.index_of switch }
-    ensures below { result ≤ 2 }
+    ensures below { result ≤ 3 }
 {
     match switch {
         Switch::Full => 0,
         Switch::Mem => 1,
         Switch::Limit => 2,
+        Switch::Trace => 3,
     }
 }
 
@@ -40,6 +43,9 @@ pub fn switch_of(word: &str) -> Option<Switch>
     if word == "--limit" {
         return Some(Switch::Limit);
     }
+    if word == "--trace" {
+        return Some(Switch::Trace);
+    }
     None
 }
 
@@ -48,7 +54,7 @@ pub fn takes_number(switch: Switch) -> bool
     ensures { result ≡ is_some (spec.takes switch) }
 {
     match switch {
-        Switch::Full => false,
+        Switch::Full | Switch::Trace => false,
         Switch::Mem | Switch::Limit => true,
     }
 }
@@ -58,7 +64,7 @@ pub fn number_for(switch: Switch, word: &[u8]) -> Option<u64>
     ensures { result ≡ option_and_then (λ passes. number_that passes word.now) (spec.takes switch) }
 {
     match switch {
-        Switch::Full => None,
+        Switch::Full | Switch::Trace => None,
         Switch::Mem => image_size(word),
         Switch::Limit => number_within(word, 1, 100_000_000),
     }

@@ -9,6 +9,7 @@ ghost use Rattle.y86_cli.specs.Wording.{IsLegal};
 
 use crate::cmd::{Cmd, Usage, words};
 use crate::hcl::hcl;
+use crate::psim::psim;
 use crate::ssim::ssim;
 use crate::stop::Stop;
 use crate::yas::yas;
@@ -51,6 +52,14 @@ fn execute<'a, F: Files, O: Sink>(
             limit,
             variant,
         } => ssim(alloc, name, obj, mem, limit, variant, files, out),
+        Cmd::Psim {
+            hcl: name,
+            obj,
+            mem,
+            limit,
+            trace,
+            variant,
+        } => psim(alloc, name, obj, mem, limit, trace, variant, files, out),
     }
 }
 
