@@ -1,5 +1,5 @@
 -- What a run of PIPE answers: a drive is a run of the definition, and a drive that a failed write broke off could have gone on to one.
-use Rattle.std.proofs.Common.{◌≡◌, ℕ, zero, suc, ◌+◌, ◌-◌, ◌<◌, ◌≤◌, Bool, true, false, List, [], ◌∷◌, ◌++◌, length, take, Option, refl, sym, ap, subst, ◌∙◌, arith, length-append, append_assoc}
+use Rattle.std.proofs.Common.{◌≡◌, ℕ, zero, suc, ◌+◌, ◌-◌, ◌<◌, ◌≤◌, Bool, true, false, List, [], ◌∷◌, ◌++◌, length, take, replicate, Option, refl, sym, ap, subst, ◌∙◌, arith, length-append, append_assoc}
 use Rattle.std.proofs.lemmas.List.{append-nil}
 use Rattle.std.proofs.Math.Seq.{take-append-add}
 use Rattle.std.specs.Option.{option_to_list}
@@ -16,7 +16,8 @@ use Rattle.hcl_types.specs.Terms.{at}
 use Rattle.hcl_types.specs.declared.term.Term.{Term}
 use Rattle.dp_signals.proofs.PipeRules.{pipe_solves}
 use Rattle.dp_signals.specs.PipeCycle.{ending, next, retires, store_of}
-use Rattle.dp_signals.specs.PipeEquations.{Solves}
+use Rattle.dp_signals.specs.Equations.{values_along}
+use Rattle.dp_signals.specs.PipeEquations.{Solves, given, pipe_rule}
 use Rattle.dp_signals.specs.PipeRun as run
 use Rattle.dp_signals.specs.PipeTable.{pipe_rows}
 use Rattle.dp_signals.specs.declared.pipe_state.PipeState.{PipeState}
@@ -45,6 +46,25 @@ record Driven (v : Variant) (terms : List Term) (image : List ℕ) (k : ℕ) (q 
   design_kept : q.terms ≡ terms
   goes : Goes v terms image k (machine q records)
 
+driven_more : (v : Variant) (terms : List Term) (image : List ℕ) (k : ℕ) (m : pipe.Pipe) (before : List Rec) → Driven v terms image k m before →
+    is_aok m.end ≡ true → (q : pipe.Pipe) (r : Cycled) (records : List Rec) (f : ℕ → ℕ) → Solves m.variant m.terms m.state f → q ≡ pipe.after_cycle m f →
+    r ≡ pipe.told_by (ending f) (retires m.state f) → records ≡ before ++ option_to_list (record_in r) → Driven v terms image (suc k) q records
+driven_more v terms image k m before so_far going q r records f solved after told more =
+    let solves : Solves v terms m.state f =
+    subst (λ x. Solves x terms m.state f) so_far.variant_kept (subst (λ x. Solves m.variant x m.state f) so_far.design_kept solved) in
+    let retired : records ≡ before ++ option_to_list (retires m.state f) =
+    more ∙ ap (λ x. before ++ option_to_list x) (ap record_in told ∙ record_told (ending f) (retires m.state f)) in
+    record {
+      variant_kept = ap (λ (p : pipe.Pipe). p.variant) after ∙ so_far.variant_kept;
+      design_kept = ap (λ (p : pipe.Pipe). p.terms) after ∙ so_far.design_kept;
+      goes = (
+        machine m before,
+        so_far.goes,
+        going,
+        record { ended = λ over. absurd (grind (arith, over, going)); goes = λ _. (f, solves, rw (after, retired) refl) },
+      );
+    }
+
 driven : (v : Variant) (terms : List Term) (order image : List ℕ) (k : ℕ) (q : pipe.Pipe) (records : List Rec) →
     drive.Goes (pipe.started v terms order image) k q records → Driven v terms image k q records
 driven v terms order image zero q records h =
@@ -53,31 +73,9 @@ driven v terms order image zero q records h =
       design_kept = ap (λ (p : pipe.Pipe). p.terms) h.0;
       goes = rw (h.0, h.1) refl;
     }
-driven v terms order image (suc k) q records h = more (driven v terms order image k h.0 h.1 h.3) (h.5.goes h.4)
-  where
-    m : pipe.Pipe
-    m = h.0
-
-    more : Driven v terms image k m h.1 →
-        (f : ℕ → ℕ) × Solves m.variant m.terms m.state f × (q ≡ pipe.after_cycle m f) × (h.2 ≡ pipe.told_by (ending f) (retires m.state f)) →
-        Driven v terms image (suc k) q records
-    more so_far step =
-        let f : ℕ → ℕ = step.0 in
-        let after : q ≡ pipe.after_cycle m f = step.2 in
-        let solves : Solves v terms m.state f =
-        subst (λ x. Solves x terms m.state f) so_far.variant_kept (subst (λ x. Solves m.variant x m.state f) so_far.design_kept step.1) in
-        let retired : records ≡ h.1 ++ option_to_list (retires m.state f) =
-        h.6 ∙ ap (λ x. h.1 ++ option_to_list x) (ap record_in step.3 ∙ record_told (ending f) (retires m.state f)) in
-        record {
-          variant_kept = ap (λ (p : pipe.Pipe). p.variant) after ∙ so_far.variant_kept;
-          design_kept = ap (λ (p : pipe.Pipe). p.terms) after ∙ so_far.design_kept;
-          goes = (
-            machine m h.1,
-            so_far.goes,
-            h.4,
-            record { ended = λ over. absurd (grind (arith, over, h.4)); goes = λ _. (f, solves, rw (after, retired) refl) },
-          );
-        }
+driven v terms order image (suc k) q records h =
+    let step = h.5.goes h.4 in
+    driven_more v terms image k h.0 h.1 (driven v terms order image k h.0 h.1 h.3) h.4 q h.2 records step.0 step.1 step.2 step.3 h.6
 
 -- ---- a run keeps the size of the memory
 
@@ -110,10 +108,12 @@ goes_on v terms ids image bound ordered zero limit k p sum goes =
       runs = record { within = omega (arith, sum); goes = goes; whole = λ lt. absurd (omega (arith, sum, lt)) };
       behind = sym (append-nil p.records);
     }
-goes_on v terms ids image bound ordered (suc n) limit k p sum goes = by (is_aok p.end) refl
+goes_on v terms ids image bound ordered (suc n) limit k p sum goes =
+    by (is_aok p.end) refl (λ q on. goes_on v terms ids image bound ordered n limit (suc k) q (omega (arith, sum)) on)
   where
-    by : (b : Bool) → is_aok p.end ≡ b → GoesOn v terms image limit p.records
-    by false over =
+    by : (b : Bool) → is_aok p.end ≡ b → ((q : run.Pipe) → Goes v terms image (suc k) q → GoesOn v terms image limit q.records) →
+        GoesOn v terms image limit p.records
+    by false over more =
         record {
           cycles = k;
           last = p;
@@ -121,17 +121,18 @@ goes_on v terms ids image bound ordered (suc n) limit k p sum goes = by (is_aok 
           runs = record { within = omega (arith, sum); goes = goes; whole = λ lt. over };
           behind = sym (append-nil p.records);
         }
-    by true going =
-        let solved = pipe_solves v p.state terms ids bound ordered in
-        let q : run.Pipe = run.after_cycle p (at _) in
-        let cycle : run.Cycle v terms p q = record { ended = λ over. absurd (grind (arith, over, going)); goes = λ _. (at _, solved, refl) } in
-        let on = goes_on v terms ids image bound ordered n limit (suc k) q (omega (arith, sum)) (p, goes, going, cycle) in
+    by true going more =
+        let f : ℕ → ℕ = at (values_along (pipe_rule v terms p.state) (given p.state ++ replicate 50 0) ids) in
+        let solved : Solves v terms p.state f = pipe_solves v p.state terms ids bound ordered in
+        let q : run.Pipe = run.after_cycle p f in
+        let on : GoesOn v terms image limit q.records =
+        more q (p, goes, going, record { ended = λ over. absurd (grind (arith, over, going)); goes = λ _. (f, solved, refl) }) in
         record {
           cycles = on.cycles;
           last = on.last;
-          rest = option_to_list (retires p.state (at _)) ++ on.rest;
+          rest = option_to_list (retires p.state f) ++ on.rest;
           runs = on.runs;
-          behind = on.behind ∙ append_assoc p.records (option_to_list (retires p.state (at _))) on.rest;
+          behind = on.behind ∙ append_assoc p.records (option_to_list (retires p.state f)) on.rest;
         }
 
 -- ---- what was said
@@ -155,7 +156,7 @@ runs v terms order image limit m q d records begun drives =
 
 texts_same : (trace : Bool) (image first : List ℕ) (q : pipe.Pipe) (last : Machine) (d : Drove) (records : List Rec) → first ≡ image → last ≡ pipe.end_of q →
     d.retired ≡ length records →
-    drive.traced trace records ++ ran_line d.cycles d.retired ++ report first last d.retired ≡ run_text trace image d.cycles (machine q records)
+    drive.traced trace records ++ (ran_line d.cycles d.retired ++ report first last d.retired) ≡ run_text trace image d.cycles (machine q records)
 texts_same trace image first q last d records copied ended counted_is = rw (copied, ended, counted_is) refl
 
 pub pipe_whole : (v : Variant) (terms : List Term) (order image : List ℕ) (limit : ℕ) (trace : Bool) (m q : pipe.Pipe) (d : Drove) (records : List Rec)

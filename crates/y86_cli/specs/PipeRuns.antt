@@ -33,4 +33,4 @@ ran_line cycles retired =
 -- a run: the trace, where it is asked for, the counts, and the report, a step of which is a record
 abbrev pub run_text : Bool → List ℕ → ℕ → Pipe → List ℕ
 run_text trace image cycles p =
-    traced trace p.records ++ ran_line cycles (length p.records) ++ report image (end_of p) (length p.records)
+    traced trace p.records ++ (ran_line cycles (length p.records) ++ report image (end_of p) (length p.records))

@@ -20,7 +20,6 @@ use y86_base::{Image, Numeral, Variant};
 use yis_run::{End, report};
 
 /// Writes the line of the counts.
-#[tactic(auto, unfolding(crate::specs::PipeRuns::ran_line))]
 fn put_ran<O: Sink>(cycles: u64, retired: u64, out: &mut O) -> Result<(), Failed>
     ensures puts { Puts (O.taken out.old) (O.taken out.new) result (ran_line cycles retired) }
     ensures no_fault_at_ok { OnOk result (O.faults out.new ≡ O.faults out.old) }
@@ -41,12 +40,7 @@ fn put_ran<O: Sink>(cycles: u64, retired: u64, out: &mut O) -> Result<(), Failed
 }
 
 /// Writes the line of the counts and the report.
-fn put_end<O: Sink>(
-    drove: Drove,
-    first: &Image,
-    end: &End<'_>,
-    out: &mut O,
-) -> Result<(), Failed>
+fn put_end<O: Sink>(drove: Drove, first: &Image, end: &End<'_>, out: &mut O) -> Result<(), Failed>
     requires one_size { length first.now ≡ length end.now.mem.now }
     ensures puts { Puts (O.taken out.old) (O.taken out.new) result
         (ran_line drove.cycles drove.retired ++ text.report first.now (text.ended end.now) drove.retired) }
