@@ -99,7 +99,7 @@ took_part old mid new xs ys a b = (b.0, b.1, took_more old mid new xs (take b.0 
 
 pub failed : (p : Pipe) (limit k : ℕ) (m q : Pipe) (trace : Bool) (old mid new : Option (List ℕ)) (n : ℕ) (e : Failed) → k < limit →
     Driven p k m trace old mid n → is_aok m.end ≡ true → TracedCycle m q trace mid new (Err e) →
-    (j : ℕ) × (records : List Rec) × (last : Rec) × (i : ℕ) × Fails p limit q old new j records last i
+    (j : ℕ) × (records : List Rec) × (last : Rec) × (i : ℕ) × Fails p limit trace q old new j records last i
 failed p limit k m q trace old mid new n e lt d going t =
     let part = took_part old mid new (traced trace d.records) (trace_line t.1) d.taken t.5 in (
       k + 1,
@@ -109,6 +109,7 @@ failed p limit k m q trace old mid new n e lt d going t =
       record {
         within = omega arith;
         goes = one_more p k m q d.records t.0 (Some t.1) d.goes going t.2 t.3;
+        asked = t.4;
         proper = part.1;
         taken = subst (λ b. Took old new (traced b d.records ++ take part.0 (trace_line t.1))) t.4 part.2;
       },

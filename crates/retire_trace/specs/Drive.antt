@@ -39,9 +39,10 @@ pub record Drives (p : Pipe) (limit : ℕ) (q : Pipe) (d : Drove) (records : Lis
   pub retired : d.retired ≡ length records
   pub end : d.end ≡ q.end
 
--- a drive whose trace failed at the line of the last record: the machine is after the cycle that retired it
-pub record Fails (p : Pipe) (limit : ℕ) (q : Pipe) (old new : Option (List ℕ)) (k : ℕ) (records : List Rec) (last : Rec) (n : ℕ) : Type 0 where
+-- a drive whose trace was asked for and failed at the line of the last record: the machine is after the cycle that retired it
+pub record Fails (p : Pipe) (limit : ℕ) (trace : Bool) (q : Pipe) (old new : Option (List ℕ)) (k : ℕ) (records : List Rec) (last : Rec) (n : ℕ) : Type 0 where
   pub within : k ≤ limit
   pub goes : Goes p k q (records ++ last ∷ [])
+  pub asked : trace ≡ true
   pub proper : n < length (trace_line last)
   pub taken : Took old new (traced true records ++ take n (trace_line last))

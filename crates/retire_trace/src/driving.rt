@@ -89,7 +89,7 @@ pub fn drive<C: SignalEval, S: Sink>(
     ensures drove { IfOk result (λ d. (records : List Rec) × spec.Drives p.old limit p.new d records
         × Took (S.taken out.old) (S.taken out.new) (spec.traced trace records)) }
     ensures failed { OnErr result ((k : ℕ) × (records : List Rec) × (last : Rec) × (n : ℕ)
-        × spec.Fails p.old limit p.new (S.taken out.old) (S.taken out.new) k records last n) }
+        × spec.Fails p.old limit trace p.new (S.taken out.old) (S.taken out.new) k records last n) }
     ensures no_fault_at_ok { OnOk result (S.faults out.new ≡ S.faults out.old) }
     ensures one_fault_at_err { OnErr result (S.faults out.new ≡ counted (S.faults out.old)) }
 {

@@ -4,6 +4,7 @@ pub mod Designs
 pub mod Does
 pub mod Legal
 pub mod Order
+pub mod PipeRuns
 pub mod Plans
 pub mod Ran
 pub mod Runs

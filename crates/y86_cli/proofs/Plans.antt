@@ -169,7 +169,7 @@ seq_proper v terms limit image = λ a said. proper_as a _ (inl (run_status_low s
 
 pipe_proper : (v : Variant) (terms : List Term) (limit : ℕ) (trace : Bool) (image : List ℕ) → AllProper (says (PipeAnswers v terms limit trace image))
 unfolding AllProper
-pipe_proper v terms limit trace image = λ a said. proper_as a _ (inl (run_status_low said.2.end, refl)) said.5
+pipe_proper v terms limit trace image = λ a said. proper_as a _ (inl (run_status_low said.1.end, refl)) said.3
 
 design_proper : (name : List ℕ) (rows : List Row) (text : List ℕ) (a : Answered) → RefusesDesign name rows text a → IsProper a
 design_proper name rows text a (inl unread) = refused_proper _ a unread.2

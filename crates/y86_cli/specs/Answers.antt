@@ -1,5 +1,6 @@
 -- What each command answers, as a plan.
-use Rattle.std.specs.Prelude.{◌≡◌, ℕ, List, length, Option, Some, None, Result, Ok, Err}
+use Rattle.std.specs.Prelude.{◌≡◌, ℕ, Bool, List, length, Option, Some, None, Result, Ok, Err}
+use Rattle.dp_signals.specs.PipeRun.{Pipe}
 use Rattle.dp_signals.specs.PipeTable.{pipe_rows}
 use Rattle.dp_signals.specs.SeqRun.{SeqRun}
 use Rattle.dp_signals.specs.SeqTable.{seq_rows}
@@ -22,6 +23,7 @@ use Rattle.yo_object.specs.declared.object.YoFault.{YoFault}
 use Rattle.y86_cli.specs.Designs.{IsDesign, RefusesDesign, RefusesHcl}
 use Rattle.y86_cli.specs.Forms.{Command, yas, yis, hcl, ssim, psim}
 use Rattle.y86_cli.specs.Lines.{assembly_fault_line, object_fault_line, usage_line}
+use Rattle.y86_cli.specs.PipeRuns.{RunsTo, run_text}
 use Rattle.y86_cli.specs.Plan.{Answered, Plan, after, answers, done, gives, reads, refused, says}
 
 -- the most bytes that an object file or an assembly file has, and an HCL file
@@ -57,6 +59,11 @@ yis_run v image limit =
 abbrev pub SeqAnswers : Variant → List Term → ℕ → List ℕ → Answered → Type 0
 SeqAnswers v terms limit image a =
     (end : Machine) × (records : List Rec) × SeqRun v terms image limit end records × (a ≡ done (run_status end.stat) (report image end (length records)))
+
+-- the answers to the run of an image on PIPE under a design
+abbrev pub PipeAnswers : Variant → List Term → ℕ → Bool → List ℕ → Answered → Type 0
+PipeAnswers v terms limit trace image a =
+    (cycles : ℕ) × (end : Pipe) × RunsTo v terms image limit cycles end × (a ≡ done (run_status end.end) (run_text trace image cycles end))
 
 -- ---- the commands
 

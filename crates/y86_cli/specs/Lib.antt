@@ -6,6 +6,7 @@ pub mod Does
 pub mod Forms
 pub mod Lines
 pub mod Numbers
+pub mod PipeRuns
 pub mod Plan
 pub mod Ran
 pub mod Stops

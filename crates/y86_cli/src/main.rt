@@ -11,6 +11,7 @@ mod hcl;
 mod laws;
 mod number;
 mod option;
+mod psim;
 mod run;
 mod say;
 mod ssim;

@@ -1,0 +1,221 @@
+-- What a run of PIPE answers: a drive is a run of the definition, and a drive that a failed write broke off could have gone on to one.
+use Rattle.std.proofs.Common.{◌≡◌, ℕ, zero, suc, ◌+◌, ◌-◌, ◌<◌, ◌≤◌, Bool, true, false, List, [], ◌∷◌, ◌++◌, length, take, replicate, Option, refl, sym, ap, subst, ◌∙◌, arith, length-append, append_assoc}
+use Rattle.std.proofs.lemmas.List.{append-nil}
+use Rattle.std.proofs.Math.Seq.{take-append-add}
+use Rattle.std.specs.Option.{option_to_list}
+use Rattle.wb_io.specs.Causes.{counted}
+use Rattle.wb_io.specs.Sinks.{Took, TookPart}
+use Rattle.wb_io.proofs.Writes.{part_after, part_more, took_more}
+use Rattle.y86_base.specs.declared.parts.Variant.{Variant}
+use Rattle.y86_isa.proofs.Memories.{length-stored}
+use Rattle.y86_isa.specs.Machine.{is_aok}
+use Rattle.y86_isa.specs.declared.machine.Machine.{Machine}
+use Rattle.y86_isa.specs.declared.machine.Rec.{Rec}
+use Rattle.hcl_types.specs.Tables.{IsBound, IsOrderOf}
+use Rattle.hcl_types.specs.Terms.{at}
+use Rattle.hcl_types.specs.declared.term.Term.{Term}
+use Rattle.dp_signals.proofs.PipeRules.{pipe_solves}
+use Rattle.dp_signals.specs.PipeCycle.{ending, next, retires, store_of}
+use Rattle.dp_signals.specs.Equations.{values_along}
+use Rattle.dp_signals.specs.PipeEquations.{Solves, given, pipe_rule}
+use Rattle.dp_signals.specs.PipeRun as run
+use Rattle.dp_signals.specs.PipeTable.{pipe_rows}
+use Rattle.dp_signals.specs.declared.pipe_state.PipeState.{PipeState}
+use Rattle.pipe_path.proofs.Runs.{record_told}
+use Rattle.pipe_path.specs.Calls.{record_in}
+use Rattle.pipe_path.specs.Pipe as pipe
+use Rattle.pipe_path.specs.declared.pipe.Cycled.{Cycled}
+use Rattle.retire_trace.proofs.Driven.{traced_append, traced_one}
+use Rattle.retire_trace.specs.Drive as drive
+use Rattle.retire_trace.specs.TraceLine.{trace_line}
+use Rattle.retire_trace.specs.declared.driving.Drove.{Drove}
+use Rattle.yis_run.specs.Report.{report}
+use Rattle.y86_cli.specs.Answers.{PipeAnswers, run_status}
+use Rattle.y86_cli.specs.Does.{SinkSeen, SaidPart, SaidWhole}
+use Rattle.y86_cli.specs.PipeRuns.{Goes, RunsTo, end_of, ran_line, run_text}
+use Rattle.y86_cli.specs.Plan.{done}
+
+-- ---- a drive is a run
+
+-- the machine of the definition that a machine and its records stand for
+abbrev machine : pipe.Pipe → List Rec → run.Pipe
+machine p records = record { state = p.state; records = records; end = p.end }
+
+record Driven (v : Variant) (terms : List Term) (image : List ℕ) (k : ℕ) (q : pipe.Pipe) (records : List Rec) : Type 0 where
+  variant_kept : q.variant ≡ v
+  design_kept : q.terms ≡ terms
+  goes : Goes v terms image k (machine q records)
+
+driven_more : (v : Variant) (terms : List Term) (image : List ℕ) (k : ℕ) (m : pipe.Pipe) (before : List Rec) → Driven v terms image k m before →
+    is_aok m.end ≡ true → (q : pipe.Pipe) (r : Cycled) (records : List Rec) (f : ℕ → ℕ) → Solves m.variant m.terms m.state f → q ≡ pipe.after_cycle m f →
+    r ≡ pipe.told_by (ending f) (retires m.state f) → records ≡ before ++ option_to_list (record_in r) → Driven v terms image (suc k) q records
+driven_more v terms image k m before so_far going q r records f solved after told more =
+    let solves : Solves v terms m.state f =
+    subst (λ x. Solves x terms m.state f) so_far.variant_kept (subst (λ x. Solves m.variant x m.state f) so_far.design_kept solved) in
+    let retired : records ≡ before ++ option_to_list (retires m.state f) =
+    more ∙ ap (λ x. before ++ option_to_list x) (ap record_in told ∙ record_told (ending f) (retires m.state f)) in
+    record {
+      variant_kept = ap (λ (p : pipe.Pipe). p.variant) after ∙ so_far.variant_kept;
+      design_kept = ap (λ (p : pipe.Pipe). p.terms) after ∙ so_far.design_kept;
+      goes = (
+        machine m before,
+        so_far.goes,
+        going,
+        record { ended = λ over. absurd (grind (arith, over, going)); goes = λ _. (f, solves, rw (after, retired) refl) },
+      );
+    }
+
+driven : (v : Variant) (terms : List Term) (order image : List ℕ) (k : ℕ) (q : pipe.Pipe) (records : List Rec) →
+    drive.Goes (pipe.started v terms order image) k q records → Driven v terms image k q records
+driven v terms order image zero q records h =
+    record {
+      variant_kept = ap (λ (p : pipe.Pipe). p.variant) h.0;
+      design_kept = ap (λ (p : pipe.Pipe). p.terms) h.0;
+      goes = rw (h.0, h.1) refl;
+    }
+driven v terms order image (suc k) q records h =
+    let step = h.5.goes h.4 in
+    driven_more v terms image k h.0 h.1 (driven v terms order image k h.0 h.1 h.3) h.4 q h.2 records step.0 step.1 step.2 step.3 h.6
+
+-- ---- a run keeps the size of the memory
+
+next_keeps : (p : PipeState) (f : ℕ → ℕ) → length (next p f).mem ≡ length p.mem
+unfolding next
+next_keeps p f = length-stored p.mem (store_of p f)
+
+keeps_size : (v : Variant) (terms : List Term) (image : List ℕ) (k : ℕ) (p : run.Pipe) → Goes v terms image k p → length p.state.mem ≡ length image
+keeps_size v terms image zero p h = ap (λ (x : run.Pipe). length x.state.mem) h
+keeps_size v terms image (suc k) p h =
+    let step = h.3.goes h.2 in
+    ap (λ (x : run.Pipe). length x.state.mem) step.2 ∙ (next_keeps h.0.state step.0 ∙ keeps_size v terms image k h.0 h.1)
+
+-- ---- every run can go on to its end or to the limit
+
+record GoesOn (v : Variant) (terms : List Term) (image : List ℕ) (limit : ℕ) (records : List Rec) : Type 0 where
+  cycles : ℕ
+  last : run.Pipe
+  rest : List Rec
+  runs : RunsTo v terms image limit cycles last
+  behind : last.records ≡ records ++ rest
+
+goes_on : (v : Variant) (terms : List Term) (ids image : List ℕ) → IsBound pipe_rows terms → IsOrderOf pipe_rows terms ids →
+    (n limit k : ℕ) (p : run.Pipe) → k + n ≡ limit → Goes v terms image k p → GoesOn v terms image limit p.records
+goes_on v terms ids image bound ordered zero limit k p sum goes =
+    record {
+      cycles = k;
+      last = p;
+      rest = [];
+      runs = record { within = omega (arith, sum); goes = goes; whole = λ lt. absurd (omega (arith, sum, lt)) };
+      behind = sym (append-nil p.records);
+    }
+goes_on v terms ids image bound ordered (suc n) limit k p sum goes =
+    by (is_aok p.end) refl (λ q on. goes_on v terms ids image bound ordered n limit (suc k) q (omega (arith, sum)) on)
+  where
+    by : (b : Bool) → is_aok p.end ≡ b → ((q : run.Pipe) → Goes v terms image (suc k) q → GoesOn v terms image limit q.records) →
+        GoesOn v terms image limit p.records
+    by false over more =
+        record {
+          cycles = k;
+          last = p;
+          rest = [];
+          runs = record { within = omega (arith, sum); goes = goes; whole = λ lt. over };
+          behind = sym (append-nil p.records);
+        }
+    by true going more =
+        let f : ℕ → ℕ = at (values_along (pipe_rule v terms p.state) (given p.state ++ replicate 50 0) ids) in
+        let solved : Solves v terms p.state f = pipe_solves v p.state terms ids bound ordered in
+        let q : run.Pipe = run.after_cycle p f in
+        let on : GoesOn v terms image limit q.records =
+        more q (p, goes, going, record { ended = λ over. absurd (grind (arith, over, going)); goes = λ _. (f, solved, refl) }) in
+        record {
+          cycles = on.cycles;
+          last = on.last;
+          rest = option_to_list (retires p.state f) ++ on.rest;
+          runs = on.runs;
+          behind = on.behind ∙ append_assoc p.records (option_to_list (retires p.state f)) on.rest;
+        }
+
+-- ---- what was said
+
+pub pipe_one_size : (v : Variant) (terms : List Term) (order image : List ℕ) (limit : ℕ) (m q : pipe.Pipe) (d : Drove) (records : List Rec) (first : List ℕ)
+    (last : Machine) → first ≡ image → m ≡ pipe.started v terms order image → drive.Drives m limit q d records → last ≡ pipe.end_of q →
+    length first ≡ length last.mem
+pipe_one_size v terms order image limit m q d records first last copied begun drives ended =
+    ap length copied
+    ∙ (sym (keeps_size v terms image d.cycles (machine q records) (driven v terms order image d.cycles q records (subst (λ x. drive.Goes x d.cycles q records) begun drives.goes)).goes)
+    ∙ ap (λ (x : Machine). length x.mem) (sym ended))
+
+runs : (v : Variant) (terms : List Term) (order image : List ℕ) (limit : ℕ) (m q : pipe.Pipe) (d : Drove) (records : List Rec) →
+    m ≡ pipe.started v terms order image → drive.Drives m limit q d records → RunsTo v terms image limit d.cycles (machine q records)
+runs v terms order image limit m q d records begun drives =
+    record {
+      within = drives.within;
+      goes = (driven v terms order image d.cycles q records (subst (λ x. drive.Goes x d.cycles q records) begun drives.goes)).goes;
+      whole = drives.whole;
+    }
+
+texts_same : (trace : Bool) (image first : List ℕ) (q : pipe.Pipe) (last : Machine) (d : Drove) (records : List Rec) → first ≡ image → last ≡ pipe.end_of q →
+    d.retired ≡ length records →
+    drive.traced trace records ++ (ran_line d.cycles d.retired ++ report first last d.retired) ≡ run_text trace image d.cycles (machine q records)
+texts_same trace image first q last d records copied ended counted_is = rw (copied, ended, counted_is) refl
+
+pub pipe_whole : (v : Variant) (terms : List Term) (order image : List ℕ) (limit : ℕ) (trace : Bool) (m q : pipe.Pipe) (d : Drove) (records : List Rec)
+    (first : List ℕ) (last : Machine) (status : ℕ) (before after : SinkSeen) (between : Option (List ℕ)) → first ≡ image → m ≡ pipe.started v terms order image →
+    drive.Drives m limit q d records → last ≡ pipe.end_of q → status ≡ run_status d.end → status ≤ 1 →
+    Took before.taken between (drive.traced trace records) → Took between after.taken (ran_line d.cycles d.retired ++ report first last d.retired) →
+    after.faults ≡ before.faults → SaidWhole (PipeAnswers v terms limit trace image) before after status
+pipe_whole v terms order image limit trace m q d records first last status before after between copied begun drives ended is low traced told no_fault = record {
+  answer = done (run_status q.end) (run_text trace image d.cycles (machine q records));
+  allowed = (d.cycles, machine q records, runs v terms order image limit m q d records begun drives, refl);
+  status_is = is ∙ ap run_status drives.end;
+  low = low;
+  quiet = refl;
+  went = subst (λ text. Took before.taken after.taken text) (texts_same trace image first q last d records copied ended drives.retired)
+      (took_more _ _ _ _ _ traced told);
+  no_fault = no_fault;
+}
+
+pub pipe_part : (v : Variant) (terms : List Term) (order image : List ℕ) (limit : ℕ) (trace : Bool) (m q : pipe.Pipe) (d : Drove) (records : List Rec)
+    (first : List ℕ) (last : Machine) (before after : SinkSeen) (between : Option (List ℕ)) → first ≡ image → m ≡ pipe.started v terms order image →
+    drive.Drives m limit q d records → last ≡ pipe.end_of q →
+    Took before.taken between (drive.traced trace records) → TookPart between after.taken (ran_line d.cycles d.retired ++ report first last d.retired) →
+    after.faults ≡ counted before.faults → SaidPart (PipeAnswers v terms limit trace image) before after
+pipe_part v terms order image limit trace m q d records first last before after between copied begun drives ended traced told one_fault = record {
+  answer = done (run_status q.end) (run_text trace image d.cycles (machine q records));
+  allowed = (d.cycles, machine q records, runs v terms order image limit m q d records begun drives, refl);
+  went = subst (λ text. TookPart before.taken after.taken text) (texts_same trace image first q last d records copied ended drives.retired)
+      (part_after _ _ _ _ _ traced told);
+  one_fault = one_fault;
+}
+
+-- the trace of some records, of one more, and of the rest
+traced_parts : (records rest : List Rec) (last : Rec) (more : List ℕ) →
+    ((drive.traced true records ++ trace_line last) ++ drive.traced true rest) ++ more ≡ drive.traced true ((records ++ last ∷ []) ++ rest) ++ more
+traced_parts records rest last more =
+    ap (λ x. x ++ more)
+    (sym (traced_append true (records ++ last ∷ []) rest
+    ∙ ap (λ x. x ++ drive.traced true rest) (traced_append true records (last ∷ []) ∙ ap (λ x. drive.traced true records ++ x) (traced_one last))))
+
+pub pipe_broken : (v : Variant) (terms : List Term) (order image : List ℕ) → IsBound pipe_rows terms → IsOrderOf pipe_rows terms order →
+    (limit : ℕ) (trace : Bool) (m q : pipe.Pipe) (before after : SinkSeen) (k : ℕ) (records : List Rec) (last : Rec) (n : ℕ) →
+    m ≡ pipe.started v terms order image → drive.Fails m limit trace q before.taken after.taken k records last n →
+    after.faults ≡ counted before.faults → SaidPart (PipeAnswers v terms limit trace image) before after
+pipe_broken v terms order image bound ordered limit trace m q before after k records last n begun fails one_fault =
+    let goes = (driven v terms order image k q (records ++ last ∷ []) (subst (λ x. drive.Goes x k q (records ++ last ∷ [])) begun fails.goes)).goes in
+    let within : k ≤ limit = fails.within in
+    let on = goes_on v terms order image bound ordered (limit - k) limit k (machine q (records ++ last ∷ [])) (omega (arith, within)) goes in
+    let told : List ℕ = ran_line on.cycles (length on.last.records) ++ report image (end_of on.last) (length on.last.records) in
+    let proper : n < length (trace_line last) = fails.proper in
+    let part : TookPart before.taken after.taken (drive.traced true records ++ trace_line last) = (
+      length (drive.traced true records) + n,
+      omega (arith, proper, length-append (drive.traced true records) (trace_line last)),
+      rw (take-append-add (drive.traced true records) (trace_line last) n) fails.taken,
+    ) in
+    let text : ((drive.traced true records ++ trace_line last) ++ drive.traced true on.rest) ++ told ≡ run_text trace image on.cycles on.last =
+    traced_parts records on.rest last told ∙ ap (λ x. drive.traced true x ++ told) (sym on.behind) ∙ ap (λ b. drive.traced b on.last.records ++ told) (sym fails.asked) in
+    record {
+      answer = done (run_status on.last.end) (run_text trace image on.cycles on.last);
+      allowed = (on.cycles, on.last, on.runs, refl);
+      went = subst (λ x. TookPart before.taken after.taken x) text (part_more _ _ _ told (part_more _ _ _ (drive.traced true on.rest) part));
+      one_fault = one_fault;
+    }

@@ -1,0 +1,5 @@
+use Rattle.wb_io.proofs.Writes.{puts_after}
+use Rattle.y86_cli.proofs.psim.put_end.Goals as goal
+
+pub returns-clause-puts : goal.returns-clause-puts
+returns-clause-puts g c = puts_after _ _ _ _ _ _ c.in_ok-put_ran.ensures.puts c.report.ensures.puts

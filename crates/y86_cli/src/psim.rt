@@ -1,0 +1,165 @@
+ghost use Rattle.std.specs.Prelude.{◌≡◌, ◌<◌, ◌≤◌, ◌^◌, ◌++◌, List, ℕ, IfOk, OnOk, OnErr, length};
+ghost use Rattle.dp_signals.specs.PipeTable.{pipe_rows};
+ghost use Rattle.hcl_types.specs.Tables.{IsBound, IsOrderOf};
+ghost use Rattle.wb_io.specs.Causes.{counted};
+ghost use Rattle.wb_io.specs.Sinks.{Puts};
+ghost use Rattle.y86_base.specs.Image.{IsSize};
+ghost use Rattle.y86_cli.specs.Answers.{PipeAnswers, pipe_plan, psim_plan};
+ghost use Rattle.y86_cli.specs.Designs.{IsDesign, RefusesDesign};
+ghost use Rattle.y86_cli.specs.Does.{Does, GivesOne, Says, files_seen, sink_seen};
+ghost use Rattle.y86_cli.specs.PipeRuns.{ran_line};
+ghost use Rattle.yis_run.specs.Report as text;
+
+use crate::design::{Ordered, ordered_design};
+use crate::files::{FILE_LIMIT, HCL_LIMIT, read_file};
+use crate::stop::Stop;
+use crate::yis::{load_image, status};
+use dp_signals::{law_of_tables, pipe_table};
+use hcl_compile::compile;
+use pipe_path::Pipe;
+use retire_trace::{Drove, drive};
+use std::alloc::Global;
+use wb_io::{Failed, Files, Sink, put_pieces};
+use y86_base::{Image, Numeral, Variant};
+use yis_run::{End, report};
+
+/// Writes the line of the counts.
+fn put_ran<O: Sink>(cycles: u64, retired: u64, out: &mut O) -> Result<(), Failed>
+    ensures puts { Puts (O.taken out.old) (O.taken out.new) result (ran_line cycles retired) }
+    ensures no_fault_at_ok { OnOk result (O.faults out.new ≡ O.faults out.old) }
+    ensures one_fault_at_err { OnErr result (O.faults out.new ≡ counted (O.faults out.old)) }
+{
+    let cycles = Numeral::decimal(cycles);
+    let retired = Numeral::decimal(retired);
+    put_pieces(
+        out,
+        &[
+            b"Ran ",
+            cycles.as_bytes(),
+            b" cycles, retired ",
+            retired.as_bytes(),
+            b" instructions\n",
+        ],
+    )
+}
+
+/// Writes the line of the counts and the report.
+fn put_end<O: Sink>(drove: Drove, first: &Image, end: &End<'_>, out: &mut O) -> Result<(), Failed>
+    requires one_size { length first.now ≡ length end.now.mem.now }
+    ensures puts { Puts (O.taken out.old) (O.taken out.new) result
+        (ran_line drove.cycles drove.retired ++ text.report first.now (text.ended end.now) drove.retired) }
+    ensures no_fault_at_ok { OnOk result (O.faults out.new ≡ O.faults out.old) }
+    ensures one_fault_at_err { OnErr result (O.faults out.new ≡ counted (O.faults out.old)) }
+{
+    put_ran(drove.cycles, drove.retired, out)?;
+    report(first, end, drove.retired, out)
+}
+
+/// Runs an image on PIPE, with a trace where it is asked for, and writes the counts and the report. All memory is taken before the first
+/// cycle.
+pub fn run_pipe<'a, O: Sink>(
+    alloc: Global,
+    variant: Variant,
+    ordered: Ordered,
+    image: Image,
+    limit: u64,
+    trace: bool,
+    out: &mut O,
+) -> Result<u8, Stop<'a>>
+    requires bound { IsBound pipe_rows ordered.design.terms }
+    requires order { IsOrderOf pipe_rows ordered.design.terms ordered.order.ids }
+    requires limit { limit < 2 ^ 63 }
+    ensures { Says (PipeAnswers variant ordered.design.terms limit trace image)
+        (sink_seen (O.taken out.old) (O.faults out.old)) (sink_seen (O.taken out.new) (O.faults out.new)) result }
+{
+    let Ok(first) = image.copy(alloc) else {
+        return Err(Stop::Memory);
+    };
+    let Ordered { design, order } = ordered;
+    let Ok(compiled) = compile(alloc, &design, &order) else {
+        return Err(Stop::Memory);
+    };
+    let mut machine = Pipe::new(variant, design, order, compiled, image);
+    let drove = match drive(&mut machine, limit, trace, out) {
+        Ok(drove) => drove,
+        Err(_) => return Err(Stop::Write),
+    };
+    let end = machine.end();
+    match put_end(drove, &first, &end, out) {
+        Ok(()) => Ok(status(drove.end)),
+        Err(_) => Err(Stop::Write),
+    }
+}
+
+/// The design of an HCL text under a name, over PIPE's table, with an order of its signals.
+fn pipe_design<'a>(alloc: Global, name: &'a str, source: &[u8]) -> Result<Ordered, Stop<'a>>
+    ensures design { GivesOne (IsDesign pipe_rows source.now) (RefusesDesign name.now pipe_rows source.now) (λ ordered. ordered.design.terms) result }
+    ensures bound { IfOk result (λ ordered. IsBound pipe_rows ordered.design.terms) }
+    ensures order { IfOk result (λ ordered. IsOrderOf pipe_rows ordered.design.terms ordered.order.ids) }
+{
+    law_of_tables();
+    let Ok(table) = pipe_table(alloc) else {
+        return Err(Stop::Memory);
+    };
+    ordered_design(alloc, name, source, &table)
+}
+
+/// Reads an object file and runs it on PIPE under a design.
+fn run_object<'a, F: Files, O: Sink>(
+    alloc: Global,
+    variant: Variant,
+    ordered: Ordered,
+    obj: &'a str,
+    mem: u64,
+    limit: u64,
+    trace: bool,
+    files: &mut F,
+    out: &mut O,
+) -> Result<u8, Stop<'a>>
+    requires size { IsSize mem }
+    requires limit { limit ≤ 100000000 }
+    requires bound { IsBound pipe_rows ordered.design.terms }
+    requires order { IsOrderOf pipe_rows ordered.design.terms ordered.order.ids }
+    ensures { Does (pipe_plan ordered.design.terms obj.now mem limit trace variant)
+        (files_seen (F.told files.old) (F.faults files.old)) (files_seen (F.told files.new) (F.faults files.new))
+        (sink_seen (O.taken out.old) (O.faults out.old)) (sink_seen (O.taken out.new) (O.faults out.new)) result }
+{
+    let bytes = match read_file(alloc, obj, FILE_LIMIT, files) {
+        Ok(bytes) => bytes,
+        Err(stop) => return Err(stop),
+    };
+    let image = match load_image(alloc, obj, bytes.as_slice(), mem) {
+        Ok(image) => image,
+        Err(stop) => return Err(stop),
+    };
+    run_pipe(alloc, variant, ordered, image, limit, trace, out)
+}
+
+/// `psim`: runs an object file on PIPE under an HCL file.
+pub fn psim<'a, F: Files, O: Sink>(
+    alloc: Global,
+    name: &'a str,
+    obj: &'a str,
+    mem: u64,
+    limit: u64,
+    trace: bool,
+    variant: Variant,
+    files: &mut F,
+    out: &mut O,
+) -> Result<u8, Stop<'a>>
+    requires size { IsSize mem }
+    requires limit { limit ≤ 100000000 }
+    ensures { Does (psim_plan name.now obj.now mem limit trace variant)
+        (files_seen (F.told files.old) (F.faults files.old)) (files_seen (F.told files.new) (F.faults files.new))
+        (sink_seen (O.taken out.old) (O.faults out.old)) (sink_seen (O.taken out.new) (O.faults out.new)) result }
+{
+    let source = match read_file(alloc, name, HCL_LIMIT, files) {
+        Ok(source) => source,
+        Err(stop) => return Err(stop),
+    };
+    let ordered = match pipe_design(alloc, name, source.as_slice()) {
+        Ok(ordered) => ordered,
+        Err(stop) => return Err(stop),
+    };
+    run_object(alloc, variant, ordered, obj, mem, limit, trace, files, out)
+}
