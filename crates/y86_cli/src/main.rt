@@ -14,6 +14,8 @@ mod option;
 mod psim;
 mod run;
 mod say;
+#[cfg(test)]
+mod simulations;
 mod ssim;
 mod stop;
 #[cfg(test)]

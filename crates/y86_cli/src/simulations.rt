@@ -1,0 +1,271 @@
+//! Calls of the program that run a datapath, over files and sinks in memory.
+use crate::run::{Status, run};
+use crate::tests::{sink, words_of};
+use std::alloc::Global;
+use std::process::Abort;
+use std::test::Fail;
+use wb_io::MemFiles;
+
+/// The datapath whose control logic `h.hcl` is.
+#[derive(Clone, Copy)]
+enum Machine {
+    Seq,
+    Pipe,
+}
+
+/// A call of the program: its words, the HCL file `h.hcl` and the object file `p.yo`, and what it answers.
+struct Simulation {
+    shows: &'static str,
+    words: &'static [&'static str],
+    machine: Machine,
+    object: &'static [u8],
+    status: Status,
+    out: &'static [u8],
+    err: &'static [u8],
+}
+
+/// The control logic of SEQ as `examples/seq.hcl` has it.
+const SEQ: &[u8] = b"word icode = [ imem_error : INOP; 1 : imem_icode; ];
+word ifun = [ imem_error : FNONE; 1 : imem_ifun; ];
+bool instr_valid = icode in { INOP, IHALT, IRRMOVQ, IIRMOVQ, IRMMOVQ, IMRMOVQ,
+  IOPQ, IJXX, ICALL, IRET, IPUSHQ, IPOPQ };
+bool need_regids = icode in { IRRMOVQ, IOPQ, IPUSHQ, IPOPQ, IIRMOVQ, IRMMOVQ, IMRMOVQ };
+bool need_valC = icode in { IIRMOVQ, IRMMOVQ, IMRMOVQ, IJXX, ICALL };
+word srcA = [ icode in { IRRMOVQ, IRMMOVQ, IOPQ, IPUSHQ } : rA;
+  icode in { IPOPQ, IRET } : RRSP; 1 : RNONE; ];
+word srcB = [ icode in { IOPQ, IRMMOVQ, IMRMOVQ } : rB;
+  icode in { IPUSHQ, IPOPQ, ICALL, IRET } : RRSP; 1 : RNONE; ];
+word dstE = [ icode == IRRMOVQ && Cnd : rB; icode in { IIRMOVQ, IOPQ } : rB;
+  icode in { IPUSHQ, IPOPQ, ICALL, IRET } : RRSP; 1 : RNONE; ];
+word dstM = [ icode in { IMRMOVQ, IPOPQ } : rA; 1 : RNONE; ];
+word aluA = [ icode in { IRRMOVQ, IOPQ } : valA; icode in { IIRMOVQ, IRMMOVQ, IMRMOVQ } : valC;
+  icode in { ICALL, IPUSHQ } : -8; icode in { IRET, IPOPQ } : 8; ];
+word aluB = [ icode in { IRMMOVQ, IMRMOVQ, IOPQ, ICALL, IPUSHQ, IRET, IPOPQ } : valB;
+  icode in { IRRMOVQ, IIRMOVQ } : 0; ];
+word alufun = [ icode == IOPQ : ifun; 1 : ALUADD; ];
+bool set_cc = icode == IOPQ;
+word mem_addr = [ icode in { IRMMOVQ, IPUSHQ, ICALL, IMRMOVQ } : valE;
+  icode in { IPOPQ, IRET } : valA; ];
+bool mem_read = icode in { IMRMOVQ, IPOPQ, IRET };
+bool mem_write = icode in { IRMMOVQ, IPUSHQ, ICALL };
+word mem_data = [ icode in { IRMMOVQ, IPUSHQ } : valA; icode == ICALL : valP; ];
+word Stat = [ imem_error || dmem_error : SADR; !instr_valid : SINS; icode == IHALT : SHLT; 1 : SAOK; ];
+word new_pc = [ icode == ICALL : valC; icode == IJXX && Cnd : valC; icode == IRET : valM; 1 : valP; ];
+";
+
+/// The control logic of PIPE as `examples/std.hcl` has it.
+const STD: &[u8] =
+    b"word f_pc = [ M_icode == IJXX && !M_Cnd : M_valA; W_icode == IRET : W_valM; 1 : F_predPC; ];
+word f_icode = [ imem_error : INOP; 1 : imem_icode; ];
+word f_ifun = [ imem_error : FNONE; 1 : imem_ifun; ];
+bool instr_valid = f_icode in { INOP, IHALT, IRRMOVQ, IIRMOVQ, IRMMOVQ, IMRMOVQ,
+  IOPQ, IJXX, ICALL, IRET, IPUSHQ, IPOPQ };
+word f_stat = [ imem_error : SADR; !instr_valid : SINS; f_icode == IHALT : SHLT; 1 : SAOK; ];
+bool need_regids = f_icode in { IRRMOVQ, IOPQ, IPUSHQ, IPOPQ, IIRMOVQ, IRMMOVQ, IMRMOVQ };
+bool need_valC = f_icode in { IIRMOVQ, IRMMOVQ, IMRMOVQ, IJXX, ICALL };
+word f_predPC = [ f_icode in { IJXX, ICALL } : f_valC; 1 : f_valP; ];
+word d_srcA = [ D_icode in { IRRMOVQ, IRMMOVQ, IOPQ, IPUSHQ } : D_rA;
+  D_icode in { IPOPQ, IRET } : RRSP; 1 : RNONE; ];
+word d_srcB = [ D_icode in { IOPQ, IRMMOVQ, IMRMOVQ } : D_rB;
+  D_icode in { IPUSHQ, IPOPQ, ICALL, IRET } : RRSP; 1 : RNONE; ];
+word d_dstE = [ D_icode in { IRRMOVQ, IIRMOVQ, IOPQ } : D_rB;
+  D_icode in { IPUSHQ, IPOPQ, ICALL, IRET } : RRSP; 1 : RNONE; ];
+word d_dstM = [ D_icode in { IMRMOVQ, IPOPQ } : D_rA; 1 : RNONE; ];
+word d_valA = [ D_icode in { ICALL, IJXX } : D_valP; d_srcA == e_dstE : e_valE;
+  d_srcA == M_dstM : m_valM; d_srcA == M_dstE : M_valE;
+  d_srcA == W_dstM : W_valM; d_srcA == W_dstE : W_valE; 1 : d_rvalA; ];
+word d_valB = [ d_srcB == e_dstE : e_valE; d_srcB == M_dstM : m_valM; d_srcB == M_dstE : M_valE;
+  d_srcB == W_dstM : W_valM; d_srcB == W_dstE : W_valE; 1 : d_rvalB; ];
+word aluA = [ E_icode in { IRRMOVQ, IOPQ } : E_valA; E_icode in { IIRMOVQ, IRMMOVQ, IMRMOVQ } : E_valC;
+  E_icode in { ICALL, IPUSHQ } : -8; E_icode in { IRET, IPOPQ } : 8; ];
+word aluB = [ E_icode in { IRMMOVQ, IMRMOVQ, IOPQ, ICALL, IPUSHQ, IRET, IPOPQ } : E_valB;
+  E_icode in { IRRMOVQ, IIRMOVQ } : 0; ];
+word alufun = [ E_icode == IOPQ : E_ifun; 1 : ALUADD; ];
+bool set_cc = E_icode == IOPQ && !m_stat in { SADR, SINS, SHLT } && !W_stat in { SADR, SINS, SHLT };
+word e_valA = E_valA;
+word e_dstE = [ E_icode == IRRMOVQ && !e_Cnd : RNONE; 1 : E_dstE; ];
+word mem_addr = [ M_icode in { IRMMOVQ, IPUSHQ, ICALL, IMRMOVQ } : M_valE;
+  M_icode in { IPOPQ, IRET } : M_valA; ];
+bool mem_read = M_icode in { IMRMOVQ, IPOPQ, IRET };
+bool mem_write = M_icode in { IRMMOVQ, IPUSHQ, ICALL };
+word m_stat = [ dmem_error : SADR; 1 : M_stat; ];
+word w_dstE = W_dstE;
+word w_valE = W_valE;
+word w_dstM = W_dstM;
+word w_valM = W_valM;
+word Stat = [ W_stat == SBUB : SAOK; 1 : W_stat; ];
+bool F_bubble = 0;
+bool F_stall = E_icode in { IMRMOVQ, IPOPQ } && E_dstM in { d_srcA, d_srcB }
+  || IRET in { D_icode, E_icode, M_icode };
+bool D_stall = E_icode in { IMRMOVQ, IPOPQ } && E_dstM in { d_srcA, d_srcB };
+bool D_bubble = E_icode == IJXX && !e_Cnd
+  || !(E_icode in { IMRMOVQ, IPOPQ } && E_dstM in { d_srcA, d_srcB })
+     && IRET in { D_icode, E_icode, M_icode };
+bool E_stall = 0;
+bool E_bubble = E_icode == IJXX && !e_Cnd
+  || E_icode in { IMRMOVQ, IPOPQ } && E_dstM in { d_srcA, d_srcB };
+bool M_stall = 0;
+bool M_bubble = m_stat in { SADR, SINS, SHLT } || W_stat in { SADR, SINS, SHLT };
+bool W_stall = W_stat in { SADR, SINS, SHLT };
+bool W_bubble = 0;
+";
+
+/// An addition, and the trace, the counts and the report of its run.
+const ADDITION: &[u8] =
+    b"0x000: 30f20a00000000000000\n0x00a: 30f00300000000000000\n0x014: 6020\n0x016: 00\n";
+
+const ADDED: &[u8] =
+    b"0x000 30 %rdx=0x000000000000000a 100 AOK\n0x00a 30 %rax=0x0000000000000003 100 AOK\n0x014 60 %rax=0x000000000000000d 000 AOK\n0x016 00 000 HLT\nRan 8 cycles, retired 4 instructions\nStopped in 4 steps at PC = 0x16.  Status 'HLT', CC Z=0 S=0 O=0\nChanges to registers:\n%rax:\t0x0000000000000000\t0x000000000000000d\n%rdx:\t0x0000000000000000\t0x000000000000000a\n\nChanges to memory:\n";
+
+/// Runs of SEQ.
+static ON_SEQ: [Simulation; 3] = [
+    Simulation {
+        shows: "an addition on SEQ",
+        words: &["ssim", "h.hcl", "p.yo"],
+        machine: Machine::Seq,
+        object: ADDITION,
+        status: 0,
+        out: b"Stopped in 4 steps at PC = 0x16.  Status 'HLT', CC Z=0 S=0 O=0\nChanges to registers:\n%rax:\t0x0000000000000000\t0x000000000000000d\n%rdx:\t0x0000000000000000\t0x000000000000000a\n\nChanges to memory:\n",
+        err: b"",
+    },
+    Simulation {
+        shows: "a call on SEQ",
+        words: &["ssim", "h.hcl", "p.yo"],
+        machine: Machine::Seq,
+        object: b"0x000: 30f40001000000000000\n0x00a: 801400000000000000\n0x013: 00\n0x014: 90\n",
+        status: 0,
+        out: b"Stopped in 4 steps at PC = 0x13.  Status 'HLT', CC Z=1 S=0 O=0\nChanges to registers:\n%rsp:\t0x0000000000000000\t0x0000000000000100\n\nChanges to memory:\n0x00f8:\t0x0000000000000000\t0x0000000000000013\n",
+        err: b"",
+    },
+    Simulation {
+        shows: "SEQ stops at its limit",
+        words: &["ssim", "h.hcl", "p.yo", "--limit", "5"],
+        machine: Machine::Seq,
+        object: b"0x000: 700000000000000000\n",
+        status: 1,
+        out: b"Stopped in 5 steps at PC = 0x0.  Status 'AOK', CC Z=1 S=0 O=0\nChanges to registers:\n\nChanges to memory:\n",
+        err: b"",
+    },
+];
+
+/// Runs of PIPE: the cycles are counted by hand.
+static ON_PIPE: [Simulation; 5] = [
+    Simulation {
+        shows: "an addition on PIPE, with its trace",
+        words: &["psim", "h.hcl", "p.yo", "--trace"],
+        machine: Machine::Pipe,
+        object: ADDITION,
+        status: 0,
+        out: ADDED,
+        err: b"",
+    },
+    Simulation {
+        shows: "a call on PIPE",
+        words: &["psim", "h.hcl", "p.yo"],
+        machine: Machine::Pipe,
+        object: b"0x000: 30f40001000000000000\n0x00a: 801400000000000000\n0x013: 00\n0x014: 90\n",
+        status: 0,
+        out: b"Ran 11 cycles, retired 4 instructions\nStopped in 4 steps at PC = 0x13.  Status 'HLT', CC Z=1 S=0 O=0\nChanges to registers:\n%rsp:\t0x0000000000000000\t0x0000000000000100\n\nChanges to memory:\n0x00f8:\t0x0000000000000000\t0x0000000000000013\n",
+        err: b"",
+    },
+    Simulation {
+        shows: "an address outside the memory",
+        words: &["psim", "h.hcl", "p.yo"],
+        machine: Machine::Pipe,
+        object: b"0x000: 30f10100000000000000\n0x00a: 5001f81f000000000000\n0x014: 6011\n0x016: 00\n",
+        status: 1,
+        out: b"Ran 6 cycles, retired 2 instructions\nStopped in 2 steps at PC = 0xa.  Status 'ADR', CC Z=1 S=0 O=0\nChanges to registers:\n%rcx:\t0x0000000000000000\t0x0000000000000001\n\nChanges to memory:\n",
+        err: b"",
+    },
+    Simulation {
+        shows: "PIPE stops at its limit",
+        words: &["psim", "h.hcl", "p.yo", "--limit", "6"],
+        machine: Machine::Pipe,
+        object: b"0x000: 30f44000000000000000\n0x00a: b04f\n0x00c: a04f\n0x00e: 00\n0x040: 0001000000000000\n",
+        status: 1,
+        out: b"Ran 6 cycles, retired 2 instructions\nStopped in 2 steps at PC = 0x10.  Status 'AOK', CC Z=1 S=0 O=0\nChanges to registers:\n%rsp:\t0x0000000000000000\t0x0000000000000100\n\nChanges to memory:\n",
+        err: b"",
+    },
+    Simulation {
+        shows: "an object file with a fault",
+        words: &["psim", "h.hcl", "p.yo"],
+        machine: Machine::Pipe,
+        object: b"0x000: 0\n",
+        status: 5,
+        out: b"",
+        err: b"p.yo:1: OddDigits\n",
+    },
+];
+
+fn logic(machine: Machine) -> &'static [u8] {
+    match machine {
+        Machine::Seq => SEQ,
+        Machine::Pipe => STD,
+    }
+}
+
+fn on_seq() -> &'static [Simulation] {
+    &ON_SEQ
+}
+
+fn on_pipe() -> &'static [Simulation] {
+    &ON_PIPE
+}
+
+fn files_with(alloc: Global, hcl: &[u8], object: &[u8]) -> Result<MemFiles, Fail> {
+    let mut files = MemFiles::new(alloc, Vec::new(alloc));
+    files.add("h.hcl", hcl)?;
+    files.add("p.yo", object)?;
+    Ok(files)
+}
+
+fn check(rt: &impl Abort, alloc: Global, case: &Simulation) -> Result<(), Fail> {
+    let words = words_of(alloc, case.words)?;
+    let mut files = files_with(alloc, logic(case.machine), case.object)?;
+    let mut out = sink(alloc, &[], 4096)?;
+    let mut err = sink(alloc, &[], 256)?;
+    let status = run(alloc, words.as_slice(), &mut files, &mut out, &mut err);
+    assert_eq!(rt; status, case.status, "{}", case.shows);
+    assert_eq!(rt; out.bytes(), case.out, "{}", case.shows);
+    assert_eq!(rt; err.bytes(), case.err, "{}", case.shows);
+    Ok(())
+}
+
+fn check_all(rt: &impl Abort, alloc: Global, cases: &[Simulation]) -> Result<(), Fail> {
+    for case in cases {
+        check(rt, alloc, case)?;
+    }
+    Ok(())
+}
+
+#[test]
+fn runs_of_the_datapaths(rt: HostRuntime) -> Result<(), Fail> {
+    check_all(&rt, rt.alloc(), on_seq())?;
+    check_all(&rt, rt.alloc(), on_pipe())
+}
+
+/// A run with its trace whose write of this number fails: a proper prefix of the text went out, with status 4, or there was no such
+/// write.
+fn check_write(rt: &impl Abort, alloc: Global, number: u64) -> Result<bool, Fail> {
+    let words = words_of(alloc, &["psim", "h.hcl", "p.yo", "--trace"])?;
+    let mut files = files_with(alloc, STD, ADDITION)?;
+    let mut out = sink(alloc, &[number], 4096)?;
+    let mut err = sink(alloc, &[], 256)?;
+    let status = run(alloc, words.as_slice(), &mut files, &mut out, &mut err);
+    assert!(rt; ADDED.starts_with(out.bytes()));
+    assert!(rt; err.bytes().is_empty());
+    let failed = out.bytes().len() < ADDED.len();
+    assert_eq!(rt; status, if failed { 4 } else { 0 });
+    Ok(failed)
+}
+
+#[test]
+fn writes_of_a_trace_that_fail(rt: HostRuntime) -> Result<(), Fail> {
+    assert!(rt; check_write(&rt, rt.alloc(), 0)?);
+    assert!(rt; check_write(&rt, rt.alloc(), 40)?);
+    assert!(rt; !check_write(&rt, rt.alloc(), 200)?);
+    for number in 0..100 {
+        let _ = check_write(&rt, rt.alloc(), number)?;
+    }
+    Ok(())
+}
