@@ -15,7 +15,7 @@ loop:
     jmp loop
 SOURCE
 awk 'BEGIN { for (i = 0; i < 65535; i++) printf "L%05d: nop #xx\n", i }' >"$work/labels.ys"
-awk 'BEGIN { printf "0x000: "; for (i = 0; i < 524200; i++) printf "00"; printf "\n" }' >"$work/zeros.yo"
+awk 'BEGIN { for (i = 0; i < 963; i++) print "bool set_cc = E_icode == IOPQ && !(m_stat in { SADR, SINS, SHLT });" }' >"$work/long.hcl"
 
 # The seconds of the fastest of three calls of the program with these words.
 fastest() {
@@ -59,6 +59,26 @@ seconds=$(fastest yis "$work/loop.yo" --limit 20000000)
 echo "| \`yis\`, 20,000,000 steps of a loop that stores, loads, adds and jumps | $seconds s, $(awk "BEGIN { printf \"%.1f\", 20 / $seconds }") million steps a second |"
 echo "| \`yas\`, $(wc -c <"$work/labels.ys") bytes of source with 65,535 labels | $(fastest yas "$work/labels.ys" --mem 1048576) s |"
 echo "| \`yis\`, $(wc -c <"$work/zeros.yo") bytes of object text loaded into 1,048,576 bytes of memory | $(fastest yis "$work/zeros.yo" --mem 1048576) s |"
+echo "| \`hcl\`, $(wc -c <"$work/long.hcl") bytes of HCL read and printed | $(fastest hcl "$work/long.hcl") s |"
+for machine in "ssim seq" "psim std"; do
+    command=${machine% *} design=${machine#* }.hcl
+    seconds=$(fastest "$command" "$here/examples/$design" "$work/loop.yo" --limit 2000000)
+    echo "| \`$command $design\`, 2,000,000 cycles of the same loop | $seconds s, $(awk "BEGIN { printf \"%.2f\", 2 / $seconds }") million cycles a second |"
+done
+
+# A row of the table: a line for the program of measures of diagrams, which stands where the gate built it.
+diagrams() {
+    [ -x "$here/crates/bdd_bench/out/bdd_bench" ] || return
+    seconds=$(for _ in 1 2 3; do
+        start=$EPOCHREALTIME
+        echo "$1" | "$here/crates/bdd_bench/out/bdd_bench" >"$work/out"
+        echo "$start $EPOCHREALTIME"
+    done | awk 'NR == 1 || $2 - $1 < best { best = $2 - $1 } END { printf "%.3f", best }')
+    echo "| \`bdd_bench\`, $1: $(sed 's/^[^:]*: //' "$work/out") | $seconds s |"
+}
+diagrams "nodes adders 32"
+diagrams "nodes queens 8"
+diagrams "nodes words 18"
 [ "$1" = program ] && exit 0
 gate "the gate from nothing, \`rt ci --anew\`" --anew
 gate "the gate with everything kept, \`rt ci\`"
