@@ -178,6 +178,9 @@ fn image(alloc: Global, program: &Program) -> Result<Image, Fail> {
 }
 
 fn account(alloc: Global, text: &[u8], program: &Program) -> Result<Option<Account>, Fail> {
+    if program.limit > 1_000_000 {
+        return Ok(None);
+    }
     let table = pipe_table(alloc)?;
     law_of_tables();
     let file = read(alloc, text)?;
