@@ -35,8 +35,38 @@ const REST: &[u8] = b"\
     word mem_data = [ icode in { IRMMOVQ, IPUSHQ } : valA; icode == ICALL : valP; ]; \
     word new_pc = [ icode == ICALL : valC; icode == IJXX && Cnd : valC; icode == IRET : valM; 1 : valP; ]; ";
 
+/// The same with `iaddq`.
+const REST_WITH_IADDQ: &[u8] = b"\
+    word icode = [ imem_error : INOP; 1 : imem_icode; ]; \
+    word ifun = [ imem_error : FNONE; 1 : imem_ifun; ]; \
+    bool instr_valid = icode in { INOP, IHALT, IRRMOVQ, IIRMOVQ, IRMMOVQ, IMRMOVQ, \
+      IOPQ, IJXX, ICALL, IRET, IPUSHQ, IPOPQ, IIADDQ }; \
+    bool need_regids = icode in { IIADDQ, IRRMOVQ, IOPQ, IPUSHQ, IPOPQ, IIRMOVQ, IRMMOVQ, IMRMOVQ }; \
+    bool need_valC = icode in { IIADDQ, IIRMOVQ, IRMMOVQ, IMRMOVQ, IJXX, ICALL }; \
+    word srcA = [ icode in { IRRMOVQ, IRMMOVQ, IOPQ, IPUSHQ } : rA; \
+      icode in { IPOPQ, IRET } : RRSP; 1 : RNONE; ]; \
+    word srcB = [ icode in { IIADDQ, IOPQ, IRMMOVQ, IMRMOVQ } : rB; \
+      icode in { IPUSHQ, IPOPQ, ICALL, IRET } : RRSP; 1 : RNONE; ]; \
+    word aluA = [ icode in { IRRMOVQ, IOPQ } : valA; icode in { IIADDQ, IIRMOVQ, IRMMOVQ, IMRMOVQ } : valC; \
+      icode in { ICALL, IPUSHQ } : -8; icode in { IRET, IPOPQ } : 8; ]; \
+    word aluB = [ icode in { IIADDQ, IRMMOVQ, IMRMOVQ, IOPQ, ICALL, IPUSHQ, IRET, IPOPQ } : valB; \
+      icode in { IRRMOVQ, IIRMOVQ } : 0; ]; \
+    word alufun = [ icode == IOPQ : ifun; 1 : ALUADD; ]; \
+    bool set_cc = icode in { IOPQ, IIADDQ }; \
+    word mem_addr = [ icode in { IRMMOVQ, IPUSHQ, ICALL, IMRMOVQ } : valE; \
+      icode in { IPOPQ, IRET } : valA; ]; \
+    bool mem_read = icode in { IMRMOVQ, IPOPQ, IRET }; \
+    bool mem_write = icode in { IRMMOVQ, IPUSHQ, ICALL }; \
+    word mem_data = [ icode in { IRMMOVQ, IPUSHQ } : valA; icode == ICALL : valP; ]; \
+    word new_pc = [ icode == ICALL : valC; icode == IJXX && Cnd : valC; icode == IRET : valM; 1 : valP; ]; ";
+
 const DESTINATIONS: &[u8] = b"\
     word dstE = [ icode == IRRMOVQ && Cnd : rB; icode in { IIRMOVQ, IOPQ } : rB; \
+      icode in { IPUSHQ, IPOPQ, ICALL, IRET } : RRSP; 1 : RNONE; ]; \
+    word dstM = [ icode in { IMRMOVQ, IPOPQ } : rA; 1 : RNONE; ]; ";
+
+const DESTINATIONS_WITH_IADDQ: &[u8] = b"\
+    word dstE = [ icode == IRRMOVQ && Cnd : rB; icode in { IIRMOVQ, IOPQ, IIADDQ } : rB; \
       icode in { IPUSHQ, IPOPQ, ICALL, IRET } : RRSP; 1 : RNONE; ]; \
     word dstM = [ icode in { IMRMOVQ, IPOPQ } : rA; 1 : RNONE; ]; ";
 
@@ -105,10 +135,15 @@ fn image(alloc: Global, code: &[u8]) -> Result<Image, Fail> {
     Ok(mem)
 }
 
-/// The book's logic with these destinations and this status.
-fn text_of(alloc: Global, destinations: &[u8], status: &[u8]) -> Result<Vec<u8>, Fail> {
+/// A logic with these destinations and this status.
+fn text_of(
+    alloc: Global,
+    rest: &[u8],
+    destinations: &[u8],
+    status: &[u8],
+) -> Result<Vec<u8>, Fail> {
     let mut text = Vec::new(alloc);
-    text.extend_from_slice(REST)?;
+    text.extend_from_slice(rest)?;
     text.extend_from_slice(destinations)?;
     text.extend_from_slice(status)?;
     Ok(text)
@@ -126,6 +161,8 @@ struct Ended {
 
 fn run_under(
     alloc: Global,
+    variant: Variant,
+    rest: &[u8],
     destinations: &[u8],
     status: &[u8],
     code: &[u8],
@@ -133,13 +170,13 @@ fn run_under(
 ) -> Result<Ended, Fail> {
     let table = seq_table(alloc)?;
     law_of_tables();
-    let text = text_of(alloc, destinations, status)?;
+    let text = text_of(alloc, rest, destinations, status)?;
     let file = read(alloc, text.as_slice())?;
     let design = bind(alloc, &file, &table)?;
     let walked = bind(alloc, &file, &table)?;
     let order = order(alloc, &design, &table)?;
     let mem = image(alloc, code)?;
-    let mut seq = Seq::new(Variant::Base, design, order, Plain::new(&walked), mem);
+    let mut seq = Seq::new(variant, design, order, Plain::new(&walked), mem);
     let ran = run(&mut seq, limit);
     let end = seq.end();
     Ok(Ended {
@@ -154,7 +191,15 @@ fn run_under(
 #[test]
 fn the_book_s_file_runs_instructions(rt: HostRuntime) -> Result<(), Fail> {
     for (code, limit) in &PROGRAMS {
-        let ended = run_under(rt.alloc(), DESTINATIONS, STATUS, code, *limit)?;
+        let ended = run_under(
+            rt.alloc(),
+            Variant::Base,
+            REST,
+            DESTINATIONS,
+            STATUS,
+            code,
+            *limit,
+        )?;
         let mut m = Machine::start(image(rt.alloc(), code)?);
         let ran = yis_run::run(Variant::Base, &mut m, *limit);
         assert_eq!(rt;
@@ -171,7 +216,15 @@ fn the_book_s_file_runs_instructions(rt: HostRuntime) -> Result<(), Fail> {
 fn other_files_stop_and_write_as_they_say(rt: HostRuntime) -> Result<(), Fail> {
     for (destinations, status, steps, stat, pc, rax) in &FILES {
         let code = [0x50, 0x12, 0, 0, 0, 0, 0, 0, 0, 0, 0];
-        let ended = run_under(rt.alloc(), destinations, status, &code, 9)?;
+        let ended = run_under(
+            rt.alloc(),
+            Variant::Base,
+            REST,
+            destinations,
+            status,
+            &code,
+            9,
+        )?;
         assert_eq!(rt;
             (ended.steps, ended.stat, ended.pc),
             (*steps, *stat, *pc),
@@ -179,5 +232,33 @@ fn other_files_stop_and_write_as_they_say(rt: HostRuntime) -> Result<(), Fail> {
         );
         assert_eq!(rt; ended.regs.get(0), *rax, "{destinations:?}");
     }
+    Ok(())
+}
+
+/// `irmovq $7,%rdx; iaddq $-7,%rdx; halt` under a logic that knows `iaddq`, as the instruction level runs it, and by hand.
+#[test]
+fn a_file_that_knows_iaddq(rt: HostRuntime) -> Result<(), Fail> {
+    let code = [
+        0x30, 0xf2, 7, 0, 0, 0, 0, 0, 0, 0, 0xc0, 0xf2, 0xf9, 0xff, 0xff, 0xff, 0xff, 0xff, 0xff,
+        0xff, 0,
+    ];
+    let ended = run_under(
+        rt.alloc(),
+        Variant::Full,
+        REST_WITH_IADDQ,
+        DESTINATIONS_WITH_IADDQ,
+        STATUS,
+        &code,
+        9,
+    )?;
+    let mut m = Machine::start(image(rt.alloc(), &code)?);
+    let ran = yis_run::run(Variant::Full, &mut m, 9);
+    assert_eq!(rt;
+        (ended.steps, ended.stat, ended.pc),
+        (ran.steps, m.stat, m.pc)
+    );
+    assert_eq!(rt; (ended.regs, ended.flags), (m.regs, m.flags));
+    assert_eq!(rt; (ended.steps, ended.stat, ended.pc), (3, Stat::Hlt, 20));
+    assert_eq!(rt; (ended.regs.get(2), ended.flags.zf), (0, true));
     Ok(())
 }
