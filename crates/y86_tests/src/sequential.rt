@@ -2,7 +2,7 @@
 use dp_signals::{law_of_tables, seq_table};
 use hcl_order::order;
 use hcl_read::read;
-use hcl_types::{Plain, bind};
+use hcl_types::{BindWhy, Plain, bind};
 use seq_path::{Seq, run};
 use std::alloc::Global;
 use std::process::Abort;
@@ -261,4 +261,19 @@ fn a_file_that_knows_iaddq(rt: HostRuntime) -> Result<(), Fail> {
     assert_eq!(rt; (ended.steps, ended.stat, ended.pc), (3, Stat::Hlt, 20));
     assert_eq!(rt; (ended.regs.get(2), ended.flags.zf), (0, true));
     Ok(())
+}
+
+#[test]
+fn an_empty_file_lacks_its_first_signal(rt: HostRuntime) -> Result<(), Fail> {
+    let table = seq_table(rt.alloc())?;
+    law_of_tables();
+    let file = read(rt.alloc(), b"")?;
+    match bind(rt.alloc(), &file, &table) {
+        Ok(_) => panic!(rt; "an empty file is bound"),
+        Err(fault) => {
+            assert_eq!(rt; fault.why, BindWhy::Missing);
+            assert_eq!(rt; fault.name.bytes(), b"icode".as_slice());
+            Ok(())
+        }
+    }
 }
