@@ -1,0 +1,5 @@
+pub mod Walk
+pub mod ReadBack
+pub mod Statuses
+pub mod Told
+pub mod Walks
