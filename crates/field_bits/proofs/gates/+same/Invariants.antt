@@ -1,0 +1,5 @@
+use Rattle.std.proofs.Common.{ℕ, ◌+◌}
+use Rattle.field_bits.proofs.gates.+same.Given as goal
+
+abbrev pub decreases-same : goal.decreases-same
+decreases-same l = l.p.bits

@@ -1,0 +1,5 @@
+use Rattle.std.proofs.Common.{ℕ, ◌+◌}
+use Rattle.field_bits.proofs.gates.+spells.Given as goal
+
+abbrev pub decreases-spells : goal.decreases-spells
+decreases-spells l = l.p.bits

@@ -1,0 +1,60 @@
+-- Which numbers the fields of an instruction can have, by the columns of its row.
+use Rattle.std.specs.Prelude.{ℕ, Bool, true, false, not, ◌&&◌, ◌||◌, ◌==◌, nat_lt, nat_le, if◌then◌else◌}
+use Rattle.y86_isa.specs.declared.columns.Row.{Row}
+use Rattle.y86_isa.specs.declared.columns.Field.{Field}
+use Rattle.y86_isa.specs.declared.columns.Field.TheVariants.{Dash, FieldA, FieldB, Stack}
+use Rattle.y86_isa.specs.RowTests.{is_field_b}
+use Rattle.y86_isa.specs.Table.{ihalt, inop, iinvalid, no_register, stack_pointer}
+use Rattle.field_bits.specs.Spelling.{set}
+
+-- the icode of a reading: one that has a row, or that of an invalid instruction
+abbrev pub icode_fits : ℕ → ℕ → Bool
+icode_fits count icode = nat_lt icode count || icode == iinvalid
+
+-- what is fetched: with an error it is a nop of ifun 0, else an icode with an ifun that it takes
+abbrev pub reading_fits : ℕ → Row → ℕ → ℕ → ℕ → Bool
+reading_fits count r error icode ifun = (if set error then icode == inop && ifun == 0 else icode_fits count icode) && nat_le ifun r.ifun_top
+
+-- a register field of the register byte: 15 where there is no such byte, a register where the instruction uses it
+abbrev pub half_fits : Bool → Bool → ℕ → Bool
+half_fits has_byte used n = if has_byte then not used || nat_lt n no_register else n == no_register
+
+-- the number of the register that a column names
+abbrev pub register_fits : Field → ℕ → Bool
+register_fits Dash n = n == no_register
+register_fits FieldA n = nat_lt n no_register
+register_fits FieldB n = nat_lt n no_register
+register_fits Stack n = n == stack_pointer
+
+-- srcB and dstE have one number where both are the field rB
+abbrev pub tied : Row → ℕ → ℕ → Bool
+tied r src_b dst_e = not (is_field_b r.src_b && is_field_b r.dst_e) || src_b == dst_e
+
+-- the destination of valE behind the condition: a move whose condition doesn't hold has none
+abbrev pub destination_fits : Row → ℕ → ℕ → Bool
+destination_fits r cnd n = if r.conditional && not (set cnd) then n == no_register else register_fits r.dst_e n
+
+-- whether the condition of an ifun holds: 0 is unconditional, and numbers over 6 are no condition
+abbrev pub cnd_fits : ℕ → ℕ → Bool
+cnd_fits ifun cnd = if ifun == 0 then set cnd else nat_lt ifun 7 || not (set cnd)
+
+-- a bit that may be 1 only where something holds
+abbrev pub only_where : Bool → ℕ → Bool
+only_where may n = may || not (set n)
+
+-- a bit that tells the condition of an ifun where something holds, and is 0 elsewhere
+abbrev pub cnd_where : Bool → ℕ → ℕ → Bool
+cnd_where may ifun n = if may then cnd_fits ifun n else not (set n)
+
+-- status and icode that go together: 1 an instruction that goes on, 2 a halt, 3 a nop, 4 an invalid one;
+-- with 3 also the icodes that an error at memory leaves as they are, where these are asked for
+abbrev pub stat_fits : ℕ → Bool → ℕ → ℕ → Bool
+stat_fits count faulted stat icode =
+    if stat == 1 then nat_lt ihalt icode && nat_lt icode count
+    else (if stat == 2 then icode == ihalt
+    else (if stat == 3 then icode == inop || faulted
+    else stat == 4 && icode == iinvalid))
+
+-- status, icode and ifun of an instruction behind its fetch
+abbrev pub code_fits : ℕ → Row → ℕ → ℕ → ℕ → Bool
+code_fits count r stat icode ifun = stat_fits count false stat icode && (nat_le ifun r.ifun_top && (not (stat == 3) || ifun == 0))

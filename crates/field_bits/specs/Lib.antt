@@ -1,0 +1,5 @@
+pub mod Spelling
+pub mod Spots
+pub mod Fits
+pub mod Icodes
+pub mod Laws

@@ -1,0 +1,139 @@
+ghost use Rattle.std.specs.Prelude.{◌≡◌, ◌<◌, ◌≤◌, ◌+◌, ◌==◌, ◌&&◌, ◌||◌, not, if◌then◌else◌, nat_lt, length, get_or, false, IfOk};
+ghost use Rattle.nets.specs.Nets.{Begins, IsGate, agree, truth};
+ghost use Rattle.field_bits.specs.Spelling.{spelt};
+
+use crate::spots::Place;
+use nets::NetBuilder;
+use y86_base::Memory;
+
+/// The variable has this value.
+pub fn bit_is(b: &mut NetBuilder, v: u32, want: bool) -> Result<u64, Memory>
+    requires { v < b.old.vars }
+    ensures begins { Begins b.old b.new }
+    ensures made { IfOk result (λ g. IsGate b.new g (λ w. agree want (get_or w v false))) }
+{
+    let x = b.variable(v)?;
+    if want { Ok(x) } else { b.not(x) }
+}
+
+/// Two variables have one value.
+fn bits_same(b: &mut NetBuilder, v: u32, u: u32) -> Result<u64, Memory>
+    requires first { v < b.old.vars }
+    requires second { u < b.old.vars }
+    ensures begins { Begins b.old b.new }
+    ensures made { IfOk result (λ g. IsGate b.new g (λ w. agree (get_or w v false) (get_or w u false))) }
+{
+    let x = b.variable(v)?;
+    let y = b.variable(u)?;
+    let g = b.equal(x, y)?;
+    Ok(g)
+}
+
+/// The field is the number.
+pub fn spells(b: &mut NetBuilder, p: Place, n: u64) -> Result<u64, Memory>
+    requires { p.first + p.bits ≤ b.old.vars }
+    ensures begins { Begins b.old b.new }
+    ensures made { IfOk result (λ g. IsGate b.new g (λ w. spelt w p.first p.bits == n)) }
+{
+    if p.bits == 0 {
+        let none = b.constant(n == 0)?;
+        return Ok(none);
+    }
+    let _vars = b.vars();
+    let bits = p.bits - 1;
+    let last = bit_is(b, p.first + bits, n % 2 == 1)?;
+    let first = p.first;
+    let rest = spells(b, Place { first, bits }, n / 2)?;
+    let g = b.and(last, rest)?;
+    Ok(g)
+}
+
+/// The field is below the number.
+pub fn below(b: &mut NetBuilder, p: Place, n: u64) -> Result<u64, Memory>
+    requires { p.first + p.bits ≤ b.old.vars }
+    ensures begins { Begins b.old b.new }
+    ensures made { IfOk result (λ g. IsGate b.new g (λ w. nat_lt (spelt w p.first p.bits) n)) }
+{
+    if n == 0 {
+        return b.constant(false);
+    }
+    let here = spells(b, p, n - 1)?;
+    let rest = below(b, p, n - 1)?;
+    let g = b.or(here, rest)?;
+    Ok(g)
+}
+
+/// Two fields have one number.
+pub fn same(b: &mut NetBuilder, p: Place, q: Place) -> Result<u64, Memory>
+    requires first { p.first + p.bits ≤ b.old.vars }
+    requires second { q.first + q.bits ≤ b.old.vars }
+    ensures begins { Begins b.old b.new }
+    ensures made { IfOk result (λ g. IsGate b.new g (λ w. spelt w p.first p.bits == spelt w q.first q.bits)) }
+{
+    if p.bits == 0 {
+        let zero = spells(b, q, 0)?;
+        return Ok(zero);
+    }
+    if q.bits == 0 {
+        let zero = spells(b, p, 0)?;
+        return Ok(zero);
+    }
+    let _vars = b.vars();
+    let bits_p = p.bits - 1;
+    let bits_q = q.bits - 1;
+    let last = bits_same(b, p.first + bits_p, q.first + bits_q)?;
+    let rest = same(b, Place { first: p.first, bits: bits_p }, Place { first: q.first, bits: bits_q })?;
+    let g = b.and(last, rest)?;
+    Ok(g)
+}
+
+/// The truth of `x` where `c` is true, that of `y` where it is false.
+pub fn choose(b: &mut NetBuilder, c: u64, x: u64, y: u64) -> Result<u64, Memory>
+    requires condition { c < length b.old.gates }
+    requires first { x < length b.old.gates }
+    requires second { y < length b.old.gates }
+    ensures begins { Begins b.old b.new }
+    ensures made { IfOk result (λ g. IsGate b.new g (λ w. if truth b.old c w then truth b.old x w else truth b.old y w)) }
+{
+    let first = b.and(c, x)?;
+    let other = b.not(c)?;
+    let second = b.and(other, y)?;
+    let g = b.or(first, second)?;
+    Ok(g)
+}
+
+/// `x` is true and `y` is false.
+pub fn without(b: &mut NetBuilder, x: u64, y: u64) -> Result<u64, Memory>
+    requires first { x < length b.old.gates }
+    requires second { y < length b.old.gates }
+    ensures begins { Begins b.old b.new }
+    ensures made { IfOk result (λ g. IsGate b.new g (λ w. truth b.old x w && not (truth b.old y w))) }
+{
+    let none = b.not(y)?;
+    let g = b.and(x, none)?;
+    Ok(g)
+}
+
+/// `x` is false or `y` is true.
+pub fn implies(b: &mut NetBuilder, x: u64, y: u64) -> Result<u64, Memory>
+    requires first { x < length b.old.gates }
+    requires second { y < length b.old.gates }
+    ensures begins { Begins b.old b.new }
+    ensures made { IfOk result (λ g. IsGate b.new g (λ w. not (truth b.old x w) || truth b.old y w)) }
+{
+    let none = b.not(x)?;
+    let g = b.or(none, y)?;
+    Ok(g)
+}
+
+/// Where the field is the number, the gate is true.
+pub fn here(b: &mut NetBuilder, p: Place, n: u64, x: u64) -> Result<u64, Memory>
+    requires place { p.first + p.bits ≤ b.old.vars }
+    requires gate { x < length b.old.gates }
+    ensures begins { Begins b.old b.new }
+    ensures made { IfOk result (λ g. IsGate b.new g (λ w. not (spelt w p.first p.bits == n) || truth b.old x w)) }
+{
+    let is = spells(b, p, n)?;
+    let g = implies(b, is, x)?;
+    Ok(g)
+}

@@ -1,0 +1,12 @@
+//! Theorems about fields and patterns. Each is a function that does nothing and whose contract is the theorem.
+ghost use Rattle.std.specs.Prelude.{List, ℕ, Bool};
+ghost use Rattle.field_bits.specs.Laws.{IsPatternOf};
+ghost use Rattle.field_bits.specs.Spots.{decoded, InRange};
+ghost use Rattle.field_bits.specs.declared.spots.Spot.{Spot};
+
+/// Numbers in the range of a table's fields have a pattern of bits that spells them, whatever stands behind it; and
+/// what bits spell is in range.
+pub fn law_of_patterns()
+    ensures pattern { (ss : List Spot) (xs : List ℕ) (rest : List Bool) → InRange ss xs → IsPatternOf ss xs rest }
+    ensures range { (ss : List Spot) (first : ℕ) (w : List Bool) → InRange ss (decoded ss first w) }
+{}
