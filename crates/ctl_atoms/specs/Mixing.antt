@@ -1,0 +1,77 @@
+-- Where a definition mixes codes of 4 bits with words of 64 bits. Numbers belong to both.
+use Rattle.std.specs.Prelude.{ℕ, Bool, true, false, ◌||◌, ◌&&◌, List, [], ◌∷◌, map, Option, Some, None, slice_get}
+use Rattle.hcl_types.specs.declared.term.Term.{Term}
+use Rattle.hcl_types.specs.declared.term.TermBranch.{TermBranch}
+use Rattle.hcl_types.specs.declared.term.Term.TheOpen.{Term-F, TermBranch-F}
+use Rattle.hcl_types.specs.declared.term.Term.TheFolds.{fold-Term, fold-TermBranch}
+use Rattle.hcl_types.specs.declared.table.Class.{Class}
+use Rattle.hcl_types.specs.declared.table.Class.TheVariants as class
+use Rattle.hcl_types.specs.declared.table.Row.{Row}
+use Rattle.hcl_types.specs.Lists.{some}
+use Rattle.hcl_types.specs.Tables.{is_defined}
+use Rattle.ctl_atoms.specs.Rows.{row_term}
+use Rattle.ctl_atoms.specs.declared.mixing.Sort.{Sort}
+
+abbrev pub is_code : Class → Bool
+is_code class.Number = false
+is_code class.Code = true
+is_code class.Value = false
+is_code class.Truth = false
+
+abbrev pub is_value : Class → Bool
+is_value class.Number = false
+is_value class.Code = false
+is_value class.Value = true
+is_value class.Truth = false
+
+-- some of the terms mixes the two, or they join the one with the other
+abbrev pub joins : List Sort → Bool
+joins ss = some (λ (s : Sort). s.mixed) ss || (some (λ (s : Sort). s.code) ss && some (λ (s : Sort). s.value) ss)
+
+-- a truth is neither
+abbrev pub truth_sort : Bool → Sort
+truth_sort mixed = record { code = false; value = false; mixed = mixed }
+
+abbrev pub row_sort : Option Row → Sort
+row_sort None = truth_sort false
+row_sort (Some row) = record { code = is_code row.class; value = is_value row.class; mixed = false }
+
+-- a case list joins the values of all its branches
+abbrev pub chosen_sort : List Sort → List Sort → Sort
+chosen_sort guards values = record {
+  code = some (λ (s : Sort). s.code) values;
+  value = some (λ (s : Sort). s.value) values;
+  mixed = some (λ (s : Sort). s.mixed) guards || joins values;
+}
+
+-- a comparison joins its sides, an `in` its left side with all members
+abbrev pub sort_layer : List Row → Term-F Sort (Sort × Sort) → Sort
+sort_layer rows (Term-F.Num n) = truth_sort false
+sort_layer rows (Term-F.Name id) = row_sort (slice_get rows id)
+sort_layer rows (Term-F.Not s) = truth_sort s.mixed
+sort_layer rows (Term-F.And ss) = truth_sort (some (λ (s : Sort). s.mixed) ss)
+sort_layer rows (Term-F.Or ss) = truth_sort (some (λ (s : Sort). s.mixed) ss)
+sort_layer rows (Term-F.Cmp o s r) = truth_sort (joins (s ∷ r ∷ []))
+sort_layer rows (Term-F.In s rs) = truth_sort (joins (s ∷ rs))
+sort_layer rows (Term-F.Case bs) = chosen_sort (map (λ (b : Sort × Sort). b.0) bs) (map (λ (b : Sort × Sort). b.1) bs)
+
+abbrev pub sort_pair : TermBranch-F Sort (Sort × Sort) → Sort × Sort
+sort_pair b = (b.guard, b.value)
+
+abbrev pub sort : List Row → Term → Sort
+sort rows = fold-Term Sort (Sort × Sort) (sort_layer rows) sort_pair
+
+abbrev pub branch_sort : List Row → TermBranch → Sort × Sort
+branch_sort rows = fold-TermBranch Sort (Sort × Sort) (sort_layer rows) sort_pair
+
+-- a definition mixes the two: its term does, or its value isn't of its name's class
+abbrev pub mixes_as : Class → Sort → Bool
+mixes_as class s = s.mixed || ((is_code class && s.value) || (is_value class && s.code))
+
+abbrev pub definition_mixes : List Row → List Term → Option Row → ℕ → Bool
+definition_mixes rows terms None n = false
+definition_mixes rows terms (Some row) n = is_defined row.role && mixes_as row.class (sort rows (row_term rows terms n))
+
+-- row n is a defined one whose definition mixes Code with Value
+unfoldable pub mixes : List Row → List Term → ℕ → Bool
+mixes rows terms n = definition_mixes rows terms (slice_get rows n) n

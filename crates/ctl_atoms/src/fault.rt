@@ -1,0 +1,17 @@
+use hcl_types::NameId;
+use thiserror::Error;
+
+/// Why a design has no control values.
+#[derive(Clone, Copy, Debug, PartialEq, Eq, Error)]
+pub enum CtlFault {
+    /// The definition of a name, the first in table order, mixes codes of 4 bits with words of 64 bits: in a
+    /// comparison, among the members of an `in`, among the values of a case list, or by a value of the other class.
+    #[error("Mixed")]
+    Mixed(NameId),
+    /// The definitions ask more than 64 different comparisons of leaves.
+    #[error("AtomsOver64")]
+    AtomsOver64,
+    /// An allocation was refused.
+    #[error("Memory")]
+    Memory,
+}
