@@ -1,0 +1,77 @@
+ghost use Rattle.std.specs.Prelude.{◌≡◌, IsTrue};
+ghost use Rattle.ctl_formula.specs.Picks.{has_gate, has_picks, gate_of, picks_of};
+
+use ctl_atoms::Leaf;
+use hcl_types::NameId;
+use std::marker::Model;
+use y86_base::Items;
+
+/// A leaf or a number, with the gate that is true exactly where it is picked.
+#[derive(Clone, Copy, Debug, PartialEq, Eq)]
+pub struct Pick {
+    pub leaf: Leaf,
+    pub gate: u64,
+}
+
+/// Where the bits of a Code or Truth name that is state or hardware stand among the variables: `bits` of them from `first`
+/// on, the most significant one first.
+#[derive(Clone, Copy, Debug, PartialEq, Eq)]
+pub struct Place {
+    pub name: NameId,
+    pub first: u32,
+    pub bits: u32,
+}
+
+/// What is known of the control value of a name: nothing, the gate of its truth, or its picks.
+#[derive(Debug, Drop)]
+pub enum Entry {
+    Absent,
+    Truth(u64),
+    Picks(Items<Pick>),
+}
+
+/// The gates of a design's control values: one gate for each Truth name, and picks for each other name of the table.
+#[derive(Debug, Drop)]
+pub struct Controls {
+    entries: Items<Entry>,
+}
+
+impl Model for Controls {
+    ghost use Rattle.std.specs.Prelude.{List};
+    ghost use Rattle.ctl_formula.specs.declared.controls.Entry.{Entry};
+
+    ghost Value = { List Entry };
+
+    ghost view = { λ c. c.entries };
+}
+
+impl Controls {
+    /// The control values of names, name by name.
+    pub(crate) fn of(entries: Items<Entry>) -> Controls
+        ensures { result ≡ entries }
+    {
+        Controls { entries }
+    }
+
+    /// The gate of a Truth name: it is true exactly where the signal is.
+    pub fn truth(&self, n: NameId) -> u64
+        requires { IsTrue (has_gate self.now n) }
+        ensures { result ≡ gate_of self.now n }
+    {
+        match &self.entries.items()[n as usize] {
+            Entry::Truth(g) => *g,
+            _ => 0,
+        }
+    }
+
+    /// The picks of a Code or Value name, or of a constant.
+    pub fn picks(&self, n: NameId) -> &[Pick]
+        requires { IsTrue (has_picks self.now n) }
+        ensures { result.now ≡ picks_of self.now n }
+    {
+        match &self.entries.items()[n as usize] {
+            Entry::Picks(ps) => ps.items(),
+            _ => &[],
+        }
+    }
+}

@@ -1,0 +1,8 @@
+//! The control value of each signal of a design as gates of a net: what a Boolean signal is, and which leaf or number each other
+//! signal picks.
+#![tactic(auto)]
+
+mod controls;
+
+pub use controls::{Controls, Entry, Pick, Place};
+pub use ctl_atoms::{CtlFault, Leaf};
