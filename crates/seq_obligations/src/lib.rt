@@ -1,0 +1,7 @@
+//! The obligations of an HCL file for the sequential processor SEQ (CS:APP 3e, section 4.3.4), at each line of numbers that a cycle
+//! can read.
+#![tactic(auto)]
+
+mod fields;
+
+pub use fields::spots;
