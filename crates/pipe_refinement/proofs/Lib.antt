@@ -1,0 +1,15 @@
+pub mod Views
+pub mod Older
+pub mod Moves
+pub mod Motions
+pub mod Fetch
+pub mod Values
+pub mod Right
+pub mod Words
+pub mod Empties
+pub mod Predicted
+pub mod After
+pub mod Step
+pub mod Stop
+pub mod Bound
+pub mod Refine

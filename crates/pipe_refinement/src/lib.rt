@@ -1,0 +1,7 @@
+//! The pipeline refines the run of instructions: where the obligations hold of a design, its pipelined machine computes what the
+//! instructions compute, for every image whose instructions fetch nothing that was stored before.
+#![tactic(auto)]
+
+mod laws;
+
+pub use laws::{law_of_motion, law_of_refinement};
