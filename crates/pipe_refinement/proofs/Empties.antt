@@ -2,7 +2,7 @@
 use Rattle.std.proofs.Common.{◌≡◌, ℕ, ◌≤◌, inl, inr, Bool, true, false, List, refl, ap, ◌∙◌, arith}
 use Rattle.y86_base.specs.declared.parts.Variant.TheVariants.{Base, Full}
 use Rattle.y86_base.specs.declared.parts.Variant.{Variant}
-use Rattle.y86_isa.specs.Blocks.{data_error, outside, reading, register_number}
+use Rattle.y86_isa.specs.Blocks.{data_error, reading, register_number}
 use Rattle.y86_isa.specs.Run.{IsImage}
 use Rattle.y86_isa.specs.Table.{row}
 use Rattle.y86_isa.proofs.WhatIsRead.{IsFields-fetched, IsReading-reading}

@@ -1,5 +1,5 @@
 -- What the obligations on motion give of the kinds.
-use Rattle.std.proofs.Common.{◌≡◌, ℕ, Bool, true, false, not, ◌&&◌, ◌||◌, cond, refl, sym, ap, ◌∙◌, subst, arith}
+use Rattle.std.proofs.Common.{◌≡◌, ℕ, Bool, true, false, not, ◌&&◌, ◌||◌, cond, refl, sym, ap, ◌∙◌, subst}
 use Rattle.std.proofs.lemmas.Bool.{and_parts}
 use Rattle.dp_signals.specs.PipeCycle.{any_both}
 use Rattle.dp_signals.specs.declared.pipe_state.PipeState.{PipeState}

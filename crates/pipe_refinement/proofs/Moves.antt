@@ -207,7 +207,6 @@ view_moved x k g c h =
     gone_w : k.w.stall ≡ true → is_good c.w ≡ true → ⊥
     gone_w s a = grind (arith)
 
-
 -- ---- the next state, where the cycle goes on
 
 none_of : (a b c d e : Bool) → not a && (not b && (not c && (not d && not e))) ≡ true → a || b || c || d || e ≡ false

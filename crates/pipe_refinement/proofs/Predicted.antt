@@ -16,7 +16,6 @@ use Rattle.y86_isa.proofs.Rows.{row-numbered}
 use Rattle.y86_isa.proofs.WhatIsRead.{IsReading-reading}
 use Rattle.run_laws.specs.Instructions.{Live, before, doing, ret_at, row_of, stops_at}
 use Rattle.run_laws.proofs.Walk.{fetches, follows, not_false, pc_next}
-use Rattle.hcl_types.specs.Terms.{at}
 use Rattle.dp_signals.specs.PipeNames as name
 use Rattle.dp_signals.specs.Values.{set}
 use Rattle.dp_signals.specs.declared.pipe_state.PipeState.{PipeState}

@@ -21,7 +21,6 @@ use Rattle.pipe_refinement.specs.Theorems.{MeetsFacts}
 use Rattle.pipe_refinement.proofs.Bound.{dist, dist_least, shorter}
 use Rattle.pipe_refinement.proofs.Empties.{empty_d_bubble, empty_e_bubble, empty_m_bubble, empty_w_bubble}
 use Rattle.pipe_refinement.proofs.Motions.{motion_of}
-use Rattle.pipe_refinement.proofs.Moves.{good_d, good_e, good_m, good_w}
 use Rattle.pipe_refinement.proofs.Step.{is_going, kept_inv}
 use Rattle.pipe_refinement.proofs.Stop.{Ended, ended_now}
 

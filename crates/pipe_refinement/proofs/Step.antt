@@ -10,7 +10,6 @@ use Rattle.y86_isa.specs.declared.machine.Rec.{Rec}
 use Rattle.run_laws.specs.Instructions.{Live, before, doing, stops_at}
 use Rattle.run_laws.proofs.Statuses.{one_is}
 use Rattle.run_laws.proofs.Walk.{image_before, live_next, not_false}
-use Rattle.hcl_types.specs.Terms.{at}
 use Rattle.dp_signals.specs.PipeCycle.{ending, loaded_d, loaded_e, loaded_m, loaded_w, next, retires}
 use Rattle.dp_signals.specs.PipeNames as name
 use Rattle.dp_signals.specs.PipeRows.{PipeHardware, PipeHolds}
@@ -29,7 +28,7 @@ use Rattle.pipe_refinement.proofs.After.{counted_are, flags_next_are, mem_is, re
 use Rattle.pipe_refinement.proofs.Empties.{allowed_loaded, allowed_moved, empty_d_bubble, empty_e_bubble, empty_e_loaded, empty_m_bubble, empty_m_loaded, empty_w_bubble, empty_w_loaded}
 use Rattle.pipe_refinement.proofs.Fetch.{LoadsFetched, fetch_live, fetch_same, fetch_words, loads_fetched}
 use Rattle.pipe_refinement.proofs.Motions.{Motion, motion_of}
-use Rattle.pipe_refinement.proofs.Moves.{going, good_d, good_e, good_m, good_w, keeps_good, leaves_by, left_good, load_in_d, load_is, loads_e, loads_m, loads_w, moved_all, next_d, next_e, next_f, next_in_e, next_in_f, next_in_m, next_m, next_w, stay_in_d, stay_is}
+use Rattle.pipe_refinement.proofs.Moves.{going, good_e, good_m, good_w, keeps_good, leaves_by, left_good, load_in_d, load_is, loads_e, loads_m, loads_w, moved_all, next_d, next_e, next_f, next_in_e, next_in_f, next_in_m, next_m, next_w, stay_in_d, stay_is}
 use Rattle.pipe_refinement.proofs.Predicted.{predicted_is}
 use Rattle.pipe_refinement.proofs.Right.{none, one}
 use Rattle.pipe_refinement.proofs.Values.{m_valM_is}

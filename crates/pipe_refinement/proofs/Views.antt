@@ -1,5 +1,5 @@
 -- The view of a configuration, and its youngest good instruction.
-use Rattle.std.proofs.Common.{◌≡◌, ℕ, ◌+◌, Bool, true, false, ◌&&◌, refl, ap, arith}
+use Rattle.std.proofs.Common.{◌≡◌, ◌+◌, Bool, true, false, ◌&&◌, refl, ap, arith}
 use Rattle.run_laws.specs.Instructions.{stops_at}
 use Rattle.pipe_refinement.specs.Invariant.{Given, view_of}
 use Rattle.pipe_refinement.specs.Kinds.{Config, count, in_d, in_e, in_f, in_m, in_w, is_good, is_wrong}

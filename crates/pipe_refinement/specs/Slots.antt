@@ -1,5 +1,5 @@
 -- What stands in the pipeline registers D, E, M and W, when that is lawful, and how it moves in a cycle.
-use Rattle.std.specs.Prelude.{Bool, true, false, not, ◌&&◌, ◌||◌, if◌then◌else◌}
+use Rattle.std.specs.Prelude.{Bool, false, not, ◌&&◌, ◌||◌, if◌then◌else◌}
 
 -- what stands in a register: an instruction of the run (good), one that was fetched in vain (wrong), or neither, a
 -- bubble. Of a good one: it stops the machine; it is a ret; it is a jump that went another way than predicted.
