@@ -1,0 +1,79 @@
+//! Texts of labels and numbers.
+ghost use Rattle.std.specs.Prelude.{◌≡◌, ◌≤◌, ◌++◌, false, get_or, OnOk};
+ghost use Rattle.field_bits.specs.Spelling.{bit, spelt};
+ghost use Rattle.hcl_read.specs.Print.{signed_decimal};
+ghost use Rattle.verdict_text.specs.Fields.{labelled};
+ghost use Rattle.verdict_text.specs.Views.{shown};
+
+use y86_base::{Memory, Numeral};
+
+/// Puts bytes behind a text.
+pub(crate) fn put(out: &mut Vec<u8>, bytes: &[u8]) -> Result<(), Memory>
+    ensures { OnOk result (out.new.items ≡ out.old.items ++ bytes.now) }
+{
+    match out.extend_from_slice(bytes) {
+        Ok(()) => Ok(()),
+        Err(_) => Err(Memory),
+    }
+}
+
+/// Puts a word as a signed decimal number.
+#[tactic(auto, unfolding(hcl_read::specs::Print::signed_decimal))]
+pub(crate) fn put_signed(out: &mut Vec<u8>, n: u64) -> Result<(), Memory>
+    ensures { OnOk result (out.new.items ≡ out.old.items ++ signed_decimal n) }
+{
+    if n < 1 << 63 {
+        put(out, Numeral::decimal(n).as_bytes())
+    } else {
+        put(out, b"-")?;
+        put(out, Numeral::decimal(n.wrapping_neg()).as_bytes())
+    }
+}
+
+/// A bit of a valuation as a number.
+fn bit_at(bits: &[bool], i: usize) -> u64
+    ensures { result ≡ bit (get_or bits.now i false) }
+{
+    match bits.get(i).copied().unwrap_or(false) {
+        true => 1,
+        false => 0,
+    }
+}
+
+/// The number that some bits of a valuation spell, the most significant one first.
+#[tactic(auto, using(crate::proofs::Loops::number_none, crate::proofs::Loops::number_more, crate::proofs::Loops::number_small))]
+pub(crate) fn number(bits: &[bool], first: usize, count: usize) -> u64
+    requires few { count ≤ 4 }
+    requires near { first ≤ 1000 }
+    ensures { result ≡ spelt bits.now first count }
+{
+    let mut n = 0;
+    for k in 0..count {
+        n = 2 * n + bit_at(bits, first + k);
+    }
+    n
+}
+
+/// A label, and the number behind it.
+#[derive(Clone, Copy)]
+pub(crate) struct Shown {
+    pub label: &'static [u8],
+    pub number: u64,
+}
+
+/// Puts labels, each with its number.
+pub(crate) fn put_numbers(out: &mut Vec<u8>, numbers: &[Shown]) -> Result<(), Memory>
+    ensures { OnOk result (out.new.items ≡ out.old.items ++ labelled (shown numbers.now)) }
+{
+    for it in numbers {
+        match put(out, it.label) {
+            Ok(()) => {}
+            Err(_) => return Err(Memory),
+        }
+        match put(out, Numeral::decimal(it.number).as_bytes()) {
+            Ok(()) => {}
+            Err(_) => return Err(Memory),
+        }
+    }
+    Ok(())
+}
