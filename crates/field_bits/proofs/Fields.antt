@@ -1,5 +1,5 @@
 -- The number of a field, bit by bit.
-use Rattle.std.proofs.Common.{◌≡◌, ℕ, zero, suc, ◌+◌, ◌-◌, ◌*◌, ◌/◌, ◌%◌, ◌<◌, ◌≤◌, Bool, true, false, not, ◌&&◌, ◌||◌, ◌==◌, nat_lt, nat_le, List, [], ◌∷◌, get_or, refl, sym, ◌∙◌, ap, subst, arith}
+use Rattle.std.proofs.Common.{◌≡◌, ℕ, suc, ◌+◌, ◌-◌, ◌*◌, ◌/◌, ◌%◌, ◌<◌, Bool, true, false, ◌&&◌, ◌||◌, ◌==◌, nat_lt, nat_le, List, get_or, refl, ◌∙◌, arith}
 use Rattle.nets.specs.Nets.{Gates, Begins, IsGate, agree, truth}
 use Rattle.nets.proofs.Truths.{truth_kept}
 use Rattle.std.proofs.lemmas.Bool.Decides.{nat_tests}

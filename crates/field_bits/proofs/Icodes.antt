@@ -1,5 +1,5 @@
 -- What is asked where a field is each number is what is asked at the number that it is.
-use Rattle.std.proofs.Common.{◌≡◌, ℕ, zero, suc, ◌+◌, ◌*◌, ◌^◌, ◌<◌, ◌≤◌, ◌⊎◌, inl, inr, Bool, true, false, not, ◌&&◌, ◌||◌, ◌==◌, refl, sym, ◌∙◌, ap, subst, arith, add-one}
+use Rattle.std.proofs.Common.{◌≡◌, ℕ, zero, suc, ◌+◌, ◌<◌, ◌≤◌, inl, inr, Bool, true, false, not, ◌&&◌, ◌||◌, ◌==◌, refl, subst, arith, add-one}
 use Rattle.std.proofs.lemmas.Bool.{eq-eqb, ne_eqb, cases_eq}
 use Rattle.field_bits.specs.Icodes.{each_below, where_below}
 
@@ -28,12 +28,13 @@ pub where_is : (n x : ℕ) (p : ℕ → Bool) → x < n → where_below n x p �
 unfolding each_below
 where_is zero x p lt = absurd (omega arith)
 where_is (suc n) x p lt = elim (cases_eq x n) [
-    | inl e ↦ subst (λ m. (each_below m (λ k. not (x == k) || p k) && (not (x == m) || p m)) ≡ p x) e (rw (others x x p (omega arith), here_or (x == x) (p x) (eq-eqb x x refl)) refl)
-    | inr ne ↦ rw (where_is n x p (lt_of n x lt ne), away_or (x == n) (p n) (ne_eqb x n ne)) (and_true (p x))
-    ]
+  | inl e ↦ subst (λ m. (each_below m (λ k. not (x == k) || p k) && (not (x == m) || p m)) ≡ p x) e (rw (others x x p (omega arith), here_or (x == x) (p x) (eq-eqb x x refl)) refl)
+  | inr ne ↦ rw (where_is n x p (lt_of n x lt ne), away_or (x == n) (p n) (ne_eqb x n ne)) (and_true (p x))
+]
   where
     lt_of : (n x : ℕ) → x < suc n → (x ≡ n → ⊥) → x < n
     lt_of n x lt ne = grind (arith, ne)
+
     and_true : (b : Bool) → (b && true) ≡ b
     and_true true = refl
     and_true false = refl

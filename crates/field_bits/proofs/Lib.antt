@@ -1,3 +1,4 @@
 pub mod Fields
 pub mod Patterns
 pub mod Icodes
+pub mod Places

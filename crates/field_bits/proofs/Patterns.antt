@@ -1,5 +1,5 @@
 -- A line of numbers has a pattern of bits that spells it.
-use Rattle.std.proofs.Common.{◌≡◌, ℕ, zero, suc, ◌+◌, ◌*◌, ◌/◌, ◌%◌, ◌^◌, ◌<◌, ◌≤◌, Bool, true, false, ◌==◌, List, [], ◌∷◌, ◌++◌, length, get_or, refl, sym, ◌∙◌, ap, subst, arith, length-append, append_assoc}
+use Rattle.std.proofs.Common.{◌≡◌, ℕ, zero, suc, ◌+◌, ◌*◌, ◌/◌, ◌%◌, ◌^◌, ◌<◌, ◌≤◌, Bool, true, false, ◌==◌, List, [], ◌∷◌, ◌++◌, length, get_or, refl, ◌∙◌, arith, length-append, append_assoc}
 use Rattle.std.proofs.lemmas.List.{get_or-append-add}
 use Rattle.std.proofs.Math.ListN.{get_or-append}
 use Rattle.std.proofs.Math.Seq.{get_or-append_seam}
@@ -46,8 +46,11 @@ pub spelt_spell : (k n : ℕ) → n < 2 ^ k → spelt (spell k n) 0 k ≡ n
 unfolding spelt spell
 spelt_spell zero n lt = omega (arith, lt)
 spelt_spell (suc k) n lt =
-    rw (spelt_before (spell k (n / 2)) ((n % 2 == 1) ∷ []) 0 k (omega (arith, length_spell k (n / 2))), spelt_spell k (n / 2) (half_lt k n lt),
-      seam (spell k (n / 2)) (n % 2 == 1) k (length_spell k (n / 2))) (last_bit n)
+    rw (
+      spelt_before (spell k (n / 2)) ((n % 2 == 1) ∷ []) 0 k (omega (arith, length_spell k (n / 2))),
+      spelt_spell k (n / 2) (half_lt k n lt),
+      seam (spell k (n / 2)) (n % 2 == 1) k (length_spell k (n / 2)),
+    ) (last_bit n)
 
 pub spelt_here : (k n : ℕ) (ys : List Bool) → n < 2 ^ k → spelt (spell k n ++ ys) 0 k ≡ n
 spelt_here k n ys lt = spelt_before (spell k n) ys 0 k (omega (arith, length_spell k n)) ∙ spelt_spell k n lt
@@ -59,7 +62,7 @@ decoded_pattern [] (x ∷ xs) before rest first e h = absurd h
 decoded_pattern (s ∷ ss) [] before rest first e h = absurd h
 decoded_pattern (s ∷ ss) (x ∷ xs) before rest first e h =
     let here : spelt (before ++ (spell s.bits x ++ pattern ss xs rest)) first s.bits ≡ x =
-        spelt_behind before (spell s.bits x ++ pattern ss xs rest) 0 s.bits first (omega (arith, e)) ∙ spelt_here s.bits x (pattern ss xs rest) h.0 in
+    spelt_behind before (spell s.bits x ++ pattern ss xs rest) 0 s.bits first (omega (arith, e)) ∙ spelt_here s.bits x (pattern ss xs rest) h.0 in
     let next : first + s.bits ≡ length (before ++ spell s.bits x) = omega (arith, e, length-append before (spell s.bits x), length_spell s.bits x) in
     let there = decoded_pattern ss xs (before ++ spell s.bits x) rest (first + s.bits) next h.1 in
     rw (here, rw (append_assoc before (spell s.bits x) (pattern ss xs rest)) at there) refl

@@ -1,5 +1,5 @@
 -- Which numbers the fields of an instruction can have, by the columns of its row.
-use Rattle.std.specs.Prelude.{ℕ, Bool, true, false, not, ◌&&◌, ◌||◌, ◌==◌, nat_lt, nat_le, if◌then◌else◌}
+use Rattle.std.specs.Prelude.{ℕ, Bool, false, not, ◌&&◌, ◌||◌, ◌==◌, nat_lt, nat_le, if◌then◌else◌}
 use Rattle.y86_isa.specs.declared.columns.Row.{Row}
 use Rattle.y86_isa.specs.declared.columns.Field.{Field}
 use Rattle.y86_isa.specs.declared.columns.Field.TheVariants.{Dash, FieldA, FieldB, Stack}
@@ -50,11 +50,11 @@ cnd_where may ifun n = if may then cnd_fits ifun n else not (set n)
 -- with 3 also the icodes that an error at memory leaves as they are, where these are asked for
 abbrev pub stat_fits : ℕ → Bool → ℕ → ℕ → Bool
 stat_fits count faulted stat icode =
-    if stat == 1 then nat_lt ihalt icode && nat_lt icode count
-    else (if stat == 2 then icode == ihalt
-    else (if stat == 3 then icode == inop || faulted
-    else stat == 4 && icode == iinvalid))
+    stat == 1 && (nat_lt ihalt icode && nat_lt icode count)
+    || stat == 2 && icode == ihalt
+    || stat == 3 && (icode == inop || faulted)
+    || stat == 4 && icode == iinvalid
 
 -- status, icode and ifun of an instruction behind its fetch
 abbrev pub code_fits : ℕ → Row → ℕ → ℕ → ℕ → Bool
-code_fits count r stat icode ifun = stat_fits count false stat icode && (nat_le ifun r.ifun_top && (not (stat == 3) || ifun == 0))
+code_fits count r stat icode ifun = stat_fits count false stat icode && nat_le ifun r.ifun_top && (not (stat == 3) || ifun == 0)

@@ -18,6 +18,12 @@ abbrev pub place_from : List Spot → ℕ → ℕ → Option Place
 place_from [] first name = None
 place_from (s ∷ ss) first name = if is_name s.name name then Some (record { first = first; bits = s.bits }) else place_from ss (first + s.bits) name
 
+-- the number that a line of numbers gives the field of a signal, and 0 to a signal that is no field
+abbrev pub number_among : List Spot → List ℕ → ℕ → ℕ
+number_among [] xs name = 0
+number_among (s ∷ ss) [] name = 0
+number_among (s ∷ ss) (x ∷ xs) name = if is_name s.name name then x else number_among ss xs name
+
 -- the numbers that the bits from a first one on spell, field by field
 abbrev pub decoded : List Spot → ℕ → List Bool → List ℕ
 decoded [] first w = []

@@ -82,7 +82,17 @@ pub fn same(b: &mut NetBuilder, p: Place, q: Place) -> Result<u64, Memory>
     let bits_p = p.bits - 1;
     let bits_q = q.bits - 1;
     let last = bits_same(b, p.first + bits_p, q.first + bits_q)?;
-    let rest = same(b, Place { first: p.first, bits: bits_p }, Place { first: q.first, bits: bits_q })?;
+    let rest = same(
+        b,
+        Place {
+            first: p.first,
+            bits: bits_p,
+        },
+        Place {
+            first: q.first,
+            bits: bits_q,
+        },
+    )?;
     let g = b.and(last, rest)?;
     Ok(g)
 }

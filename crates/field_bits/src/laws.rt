@@ -1,7 +1,8 @@
 //! Theorems about fields and patterns. Each is a function that does nothing and whose contract is the theorem.
-ghost use Rattle.std.specs.Prelude.{List, ℕ, Bool};
-ghost use Rattle.field_bits.specs.Laws.{IsPatternOf};
-ghost use Rattle.field_bits.specs.Spots.{decoded, InRange};
+ghost use Rattle.std.specs.Prelude.{List, ℕ, Bool, ◌≡◌, Some};
+ghost use Rattle.field_bits.specs.Laws.{IsPatternOf, IsPlaceOf};
+ghost use Rattle.field_bits.specs.Spots.{decoded, InRange, place_from};
+ghost use Rattle.field_bits.specs.declared.spots.Place.{Place};
 ghost use Rattle.field_bits.specs.declared.spots.Spot.{Spot};
 
 /// Numbers in the range of a table's fields have a pattern of bits that spells them, whatever stands behind it; and
@@ -9,4 +10,9 @@ ghost use Rattle.field_bits.specs.declared.spots.Spot.{Spot};
 pub fn law_of_patterns()
     ensures pattern { (ss : List Spot) (xs : List ℕ) (rest : List Bool) → InRange ss xs → IsPatternOf ss xs rest }
     ensures range { (ss : List Spot) (first : ℕ) (w : List Bool) → InRange ss (decoded ss first w) }
+{}
+
+/// The bits at the place of a signal spell the number of its field.
+pub fn law_of_places()
+    ensures { (ss : List Spot) (name : ℕ) (p : Place) → place_from ss 0 name ≡ Some p → IsPlaceOf ss name p }
 {}

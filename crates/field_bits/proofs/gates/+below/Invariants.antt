@@ -1,4 +1,3 @@
-use Rattle.std.proofs.Common.{ℕ, ◌+◌}
 use Rattle.field_bits.proofs.gates.+below.Given as goal
 
 abbrev pub decreases-below : goal.decreases-below

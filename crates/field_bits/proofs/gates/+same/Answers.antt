@@ -1,4 +1,4 @@
-use Rattle.std.proofs.Common.{rules, ◌≡◌, ℕ, ◌+◌, ◌<◌, ◌==◌, List, Bool, false, refl, sym, ◌∙◌, ap, arith}
+use Rattle.std.proofs.Common.{sym, arith}
 use Rattle.field_bits.specs.Spelling.{spelt}
 use Rattle.field_bits.proofs.Fields.{gate_as, joined, spells_zero, equals_zero, same_step}
 use Rattle.field_bits.proofs.gates.+same.Goals as goal
@@ -12,4 +12,4 @@ returns-then-q-eq0-clause-made t c = gate_as c.in_ok-zero-2.ensures.made (λ w. 
 pub returns-clause-made : goal.returns-clause-made
 returns-clause-made t c =
     gate_as (joined c.in_ok-last.ensures.made c.same.ensures.begins c.in_ok-rest.ensures.made c.in_ok-g.ensures.made)
-      (λ w. sym (same_step w c.args.p.first c.args.p.bits c.args.q.first c.args.q.bits (omega arith) (omega arith)))
+    (λ w. sym (same_step w c.args.p.first c.args.p.bits c.args.q.first c.args.q.bits (omega arith) (omega arith)))

@@ -1,4 +1,4 @@
-use Rattle.std.proofs.Common.{rules, ◌≡◌, ℕ, ◌+◌, ◌<◌, ◌==◌, List, Bool, false, refl, sym, ◌∙◌, ap, arith}
+use Rattle.std.proofs.Common.{sym, arith}
 use Rattle.field_bits.proofs.Fields.{gate_as, joined, spells_zero, spells_step}
 use Rattle.field_bits.proofs.gates.+spells.Goals as goal
 
@@ -8,4 +8,4 @@ returns-then-p-eq0-clause-made t c = gate_as c.in_ok-none.ensures.made (λ w. sp
 pub returns-clause-made : goal.returns-clause-made
 returns-clause-made t c =
     gate_as (joined c.in_ok-last.ensures.made c.spells.ensures.begins c.in_ok-rest.ensures.made c.in_ok-g.ensures.made)
-      (λ w. sym (spells_step w c.args.p.first c.args.p.bits c.args.n (omega arith)))
+    (λ w. sym (spells_step w c.args.p.first c.args.p.bits c.args.n (omega arith)))

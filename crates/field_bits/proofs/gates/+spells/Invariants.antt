@@ -1,4 +1,3 @@
-use Rattle.std.proofs.Common.{ℕ, ◌+◌}
 use Rattle.field_bits.proofs.gates.+spells.Given as goal
 
 abbrev pub decreases-spells : goal.decreases-spells

@@ -1,0 +1,245 @@
+//! Gates for the numbers that the fields of an instruction can have, where its icode is known.
+ghost use Rattle.std.specs.Prelude.{◌≡◌, ◌<◌, ◌≤◌, ◌+◌, ◌==◌, ◌&&◌, ◌||◌, not, nat_le, length, IfOk};
+ghost use Rattle.nets.specs.Nets.{Begins, IsGate, truth};
+ghost use Rattle.field_bits.specs.Fits as spec;
+ghost use Rattle.field_bits.specs.Spelling.{spelt};
+
+use crate::columns::is_field_b;
+use crate::gates::{below, choose, implies, same, spells};
+use crate::spots::Place;
+use nets::NetBuilder;
+use y86_base::Memory;
+use y86_isa::{Field, Row};
+
+/// The field is at most the number.
+#[tactic(auto, using(nets::proofs::Truths::truth_kept, nets::proofs::Truths::begins_more, crate::proofs::Fields::most_step))]
+pub fn at_most(b: &mut NetBuilder, p: Place, most: u64) -> Result<u64, Memory>
+    requires place { p.first + p.bits ≤ b.old.vars }
+    requires most { most < 16 }
+    ensures begins { Begins b.old b.new }
+    ensures made { IfOk result (λ g. IsGate b.new g (λ w. nat_le (spelt w p.first p.bits) most)) }
+{
+    let g = below(b, p, most + 1)?;
+    Ok(g)
+}
+
+/// The field is the number, and a test holds.
+fn spells_if(b: &mut NetBuilder, holds: bool, p: Place, n: u64) -> Result<u64, Memory>
+    requires { p.first + p.bits ≤ b.old.vars }
+    ensures begins { Begins b.old b.new }
+    ensures made { IfOk result (λ g. IsGate b.new g (λ w. (spelt w p.first p.bits == n) && holds)) }
+{
+    if holds {
+        let g = spells(b, p, n)?;
+        Ok(g)
+    } else {
+        let never = b.constant(false)?;
+        Ok(never)
+    }
+}
+
+/// A bit is 1 only where the gate is true and a test holds.
+pub fn only_where(b: &mut NetBuilder, may: bool, live: u64, bit: Place) -> Result<u64, Memory>
+    requires live { live < length b.old.gates }
+    requires place { bit.first + bit.bits ≤ b.old.vars }
+    ensures begins { Begins b.old b.new }
+    ensures made { IfOk result (λ g. IsGate b.new g (λ w. spec.only_where (truth b.old live w && may) (spelt w bit.first bit.bits))) }
+{
+    let clear = spells(b, bit, 0)?;
+    if !may {
+        return Ok(clear);
+    }
+    let g = b.or(live, clear)?;
+    Ok(g)
+}
+
+/// A bit tells the condition of an ifun.
+pub fn cnd_fits(b: &mut NetBuilder, ifun: Place, cnd: Place) -> Result<u64, Memory>
+    requires ifun { ifun.first + ifun.bits ≤ b.old.vars }
+    requires cnd { cnd.first + cnd.bits ≤ b.old.vars }
+    ensures begins { Begins b.old b.new }
+    ensures made { IfOk result (λ g. IsGate b.new g (λ w. spec.cnd_fits (spelt w ifun.first ifun.bits) (spelt w cnd.first cnd.bits))) }
+{
+    let always = spells(b, ifun, 0)?;
+    let clear = spells(b, cnd, 0)?;
+    let known = below(b, ifun, 7)?;
+    let free = b.or(known, clear)?;
+    let set = b.not(clear)?;
+    let g = choose(b, always, set, free)?;
+    Ok(g)
+}
+
+/// A bit tells the condition of an ifun where the gate is true and a test holds, and is 0 elsewhere.
+pub fn cnd_where(
+    b: &mut NetBuilder,
+    may: bool,
+    live: u64,
+    ifun: Place,
+    cnd: Place,
+) -> Result<u64, Memory>
+    requires live { live < length b.old.gates }
+    requires ifun { ifun.first + ifun.bits ≤ b.old.vars }
+    requires cnd { cnd.first + cnd.bits ≤ b.old.vars }
+    ensures begins { Begins b.old b.new }
+    ensures made { IfOk result (λ g. IsGate b.new g (λ w.
+        spec.cnd_where (truth b.old live w && may) (spelt w ifun.first ifun.bits) (spelt w cnd.first cnd.bits))) }
+{
+    let clear = spells(b, cnd, 0)?;
+    if !may {
+        return Ok(clear);
+    }
+    let fits = cnd_fits(b, ifun, cnd)?;
+    let g = choose(b, live, fits, clear)?;
+    Ok(g)
+}
+
+/// A register field of the register byte.
+pub fn half_fits(b: &mut NetBuilder, has_byte: bool, used: bool, p: Place) -> Result<u64, Memory>
+    requires { p.first + p.bits ≤ b.old.vars }
+    ensures begins { Begins b.old b.new }
+    ensures made { IfOk result (λ g. IsGate b.new g (λ w. spec.half_fits has_byte used (spelt w p.first p.bits))) }
+{
+    if !has_byte {
+        let none = spells(b, p, 15)?;
+        return Ok(none);
+    }
+    if used {
+        let register = below(b, p, 15)?;
+        return Ok(register);
+    }
+    let any = b.constant(true)?;
+    Ok(any)
+}
+
+/// The number of the register that a column names.
+pub fn register_fits(b: &mut NetBuilder, field: Field, p: Place) -> Result<u64, Memory>
+    requires { p.first + p.bits ≤ b.old.vars }
+    ensures begins { Begins b.old b.new }
+    ensures made { IfOk result (λ g. IsGate b.new g (λ w. spec.register_fits field (spelt w p.first p.bits))) }
+{
+    match field {
+        Field::Dash => spells(b, p, 15),
+        Field::FieldA | Field::FieldB => below(b, p, 15),
+        Field::Stack => spells(b, p, 4),
+    }
+}
+
+/// The second source is the destination of valE where both are the field `rB`.
+pub fn tied(b: &mut NetBuilder, row: &Row, src_b: Place, dst_e: Place) -> Result<u64, Memory>
+    requires source { src_b.first + src_b.bits ≤ b.old.vars }
+    requires destination { dst_e.first + dst_e.bits ≤ b.old.vars }
+    ensures begins { Begins b.old b.new }
+    ensures made { IfOk result (λ g. IsGate b.new g (λ w. spec.tied row.now (spelt w src_b.first src_b.bits) (spelt w dst_e.first dst_e.bits))) }
+{
+    if is_field_b(row.src_b) && is_field_b(row.dst_e) {
+        same(b, src_b, dst_e)
+    } else {
+        b.constant(true)
+    }
+}
+
+/// The destination of valE behind the condition.
+pub fn destination_fits(
+    b: &mut NetBuilder,
+    row: &Row,
+    cnd: Place,
+    dst_e: Place,
+) -> Result<u64, Memory>
+    requires cnd { cnd.first + cnd.bits ≤ b.old.vars }
+    requires destination { dst_e.first + dst_e.bits ≤ b.old.vars }
+    ensures begins { Begins b.old b.new }
+    ensures made { IfOk result (λ g. IsGate b.new g (λ w. spec.destination_fits row.now (spelt w cnd.first cnd.bits) (spelt w dst_e.first dst_e.bits))) }
+{
+    let register = register_fits(b, row.dst_e, dst_e)?;
+    if !row.conditional {
+        return Ok(register);
+    }
+    let lost = spells(b, cnd, 0)?;
+    let none = spells(b, dst_e, 15)?;
+    let g = choose(b, lost, none, register)?;
+    Ok(g)
+}
+
+/// What is fetched: a nop with an error, or an icode with an ifun that it takes.
+pub fn reading_fits(
+    b: &mut NetBuilder,
+    count: u64,
+    icode: u64,
+    row: &Row,
+    error: Place,
+    ifun: Place,
+) -> Result<u64, Memory>
+    requires error { error.first + error.bits ≤ b.old.vars }
+    requires ifun { ifun.first + ifun.bits ≤ b.old.vars }
+    requires top { row.now.ifun_top < 16 }
+    ensures begins { Begins b.old b.new }
+    ensures made { IfOk result (λ g. IsGate b.new g (λ w.
+        spec.reading_fits count row.now (spelt w error.first error.bits) icode (spelt w ifun.first ifun.bits))) }
+{
+    let fine = spells(b, error, 0)?;
+    let known = b.constant(icode < count || icode == 15)?;
+    let outside = spells_if(b, icode == 1, ifun, 0)?;
+    let read = choose(b, fine, known, outside)?;
+    let most = at_most(b, ifun, row.ifun_top)?;
+    let g = b.and(read, most)?;
+    Ok(g)
+}
+
+/// The status is one that goes with the icode.
+pub fn stat_fits(
+    b: &mut NetBuilder,
+    count: u64,
+    faulted: bool,
+    icode: u64,
+    stat: Place,
+) -> Result<u64, Memory>
+    requires { stat.first + stat.bits ≤ b.old.vars }
+    ensures begins { Begins b.old b.new }
+    ensures made { IfOk result (λ g. IsGate b.new g (λ w. spec.stat_fits count faulted (spelt w stat.first stat.bits) icode)) }
+{
+    let running = spells_if(b, (0 < icode) & (icode < count), stat, 1)?;
+    let halted = spells_if(b, icode == 0, stat, 2)?;
+    let fine = b.or(running, halted)?;
+    let outside = spells_if(b, (icode == 1) | faulted, stat, 3)?;
+    let inside = b.or(fine, outside)?;
+    let invalid = spells_if(b, icode == 15, stat, 4)?;
+    let g = b.or(inside, invalid)?;
+    Ok(g)
+}
+
+/// An instruction outside the memory has ifun 0.
+fn blank_outside(b: &mut NetBuilder, stat: Place, ifun: Place) -> Result<u64, Memory>
+    requires stat { stat.first + stat.bits ≤ b.old.vars }
+    requires ifun { ifun.first + ifun.bits ≤ b.old.vars }
+    ensures begins { Begins b.old b.new }
+    ensures made { IfOk result (λ g. IsGate b.new g (λ w. not (spelt w stat.first stat.bits == 3) || spelt w ifun.first ifun.bits == 0)) }
+{
+    let outside = spells(b, stat, 3)?;
+    let zero = spells(b, ifun, 0)?;
+    let g = implies(b, outside, zero)?;
+    Ok(g)
+}
+
+/// Status and ifun of an instruction of this icode behind its fetch.
+pub fn code_fits(
+    b: &mut NetBuilder,
+    count: u64,
+    icode: u64,
+    row: &Row,
+    stat: Place,
+    ifun: Place,
+) -> Result<u64, Memory>
+    requires stat { stat.first + stat.bits ≤ b.old.vars }
+    requires ifun { ifun.first + ifun.bits ≤ b.old.vars }
+    requires top { row.now.ifun_top < 16 }
+    ensures begins { Begins b.old b.new }
+    ensures made { IfOk result (λ g. IsGate b.new g (λ w.
+        spec.code_fits count row.now (spelt w stat.first stat.bits) icode (spelt w ifun.first ifun.bits))) }
+{
+    let status = stat_fits(b, count, false, icode, stat)?;
+    let most = at_most(b, ifun, row.ifun_top)?;
+    let both = b.and(status, most)?;
+    let blank = blank_outside(b, stat, ifun)?;
+    let g = b.and(both, blank)?;
+    Ok(g)
+}
