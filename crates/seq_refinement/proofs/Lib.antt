@@ -1,0 +1,10 @@
+pub mod Signals
+pub mod Steps
+pub mod Runs
+pub mod Reals
+pub mod TableRows
+pub mod Existing
+pub mod Reflected
+pub mod Lines
+pub mod Agreement
+pub mod Refining
