@@ -1,0 +1,5 @@
+pub mod Slots
+pub mod Grows
+pub mod Gates
+pub mod Laws
+pub mod Predictions

@@ -1,0 +1,7 @@
+-- Which jumps a file predicts as taken.
+use Rattle.std.specs.Prelude.{ℕ, Bool, false, get_or, if◌then◌else◌}
+use Rattle.pipe_motion.specs.declared.settings.Settings.{Settings}
+
+-- a jump of this ifun, that goes back or not; none of an ifun over 6
+abbrev pub predicts : Settings → ℕ → Bool → Bool
+predicts s ifun back = if back then get_or s.pb ifun false else get_or s.pt ifun false

@@ -1,0 +1,203 @@
+ghost use Rattle.std.specs.Prelude.{◌≡◌, ◌<◌, ◌||◌, ◌&&◌, not, if◌then◌else◌, List, Bool, length, IfOk};
+ghost use Rattle.nets.specs.Nets.{truth};
+ghost use Rattle.pipe_motion.specs.Grows.{Grows};
+ghost use Rattle.pipe_motion.specs.Gates.{slot_at, view_at, HasSlot, HasView};
+ghost use Rattle.pipe_motion.specs.Slots as spec;
+
+use crate::connectives::{choose, excludes, implies, without};
+use crate::slots::{SlotGates, ViewGates};
+use crate::steps::{and, not, or};
+use nets::NetBuilder;
+use y86_base::Memory;
+
+/// Where E is wrong, D isn't good.
+fn good_behind_wrong(b: &mut NetBuilder, v: &ViewGates) -> Result<u64, Memory>
+    requires { HasView (length b.old.gates) v.now }
+    ensures within { IfOk result (λ g. g < length b.new.gates) }
+    ensures truth { (w : List Bool) → IfOk result (λ g. truth b.new g w ≡ spec.no_good_behind_wrong (view_at b.old w v.now)) }
+    ensures grows { Grows b.old b.new }
+{
+    let g = excludes(b, v.e.wrong, v.d.good)?;
+    Ok(g)
+}
+
+/// No good instruction stops but the youngest.
+fn one_stops(b: &mut NetBuilder, v: &ViewGates) -> Result<u64, Memory>
+    requires { HasView (length b.old.gates) v.now }
+    ensures within { IfOk result (λ g. g < length b.new.gates) }
+    ensures truth { (w : List Bool) → IfOk result (λ g. truth b.new g w ≡ spec.youngest_stops_alone (view_at b.old w v.now)) }
+    ensures grows { Grows b.old b.new }
+{
+    let behind_m = or(b, v.d.good, v.e.good)?;
+    let behind_w = or(b, behind_m, v.m.good)?;
+    let e = excludes(b, v.e.stops, v.d.good)?;
+    let m = excludes(b, v.m.stops, behind_m)?;
+    let w = excludes(b, v.w.stops, behind_w)?;
+    let both = and(b, m, w)?;
+    let all = and(b, e, both)?;
+    Ok(all)
+}
+
+/// Wrong instructions may stand behind the youngest good one.
+fn reason(b: &mut NetBuilder, v: &ViewGates) -> Result<u64, Memory>
+    requires { HasView (length b.old.gates) v.now }
+    ensures within { IfOk result (λ g. g < length b.new.gates) }
+    ensures truth { (w : List Bool) → IfOk result (λ g. truth b.new g w ≡ spec.wrong_may_follow (view_at b.old w v.now)) }
+    ensures grows { Grows b.old b.new }
+{
+    let d = without(b, v.d.stops, v.d.ret)?;
+    let e_stops = without(b, v.e.stops, v.e.ret)?;
+    let e = or(b, e_stops, v.e.missed)?;
+    let m = without(b, v.m.stops, v.m.ret)?;
+    let from_m = choose(b, v.m.good, m, v.w.stops)?;
+    let from_e = choose(b, v.e.good, e, from_m)?;
+    let from_d = choose(b, v.d.good, d, from_e)?;
+    Ok(from_d)
+}
+
+/// D and E are wrong only where that has a reason.
+fn wrong_reasons(b: &mut NetBuilder, v: &ViewGates) -> Result<u64, Memory>
+    requires { HasView (length b.old.gates) v.now }
+    ensures within { IfOk result (λ g. g < length b.new.gates) }
+    ensures truth { (w : List Bool) → IfOk result (λ g. truth b.new g w ≡ spec.wrong_has_reason (view_at b.old w v.now)) }
+    ensures grows { Grows b.old b.new }
+{
+    let reason = reason(b, v)?;
+    let wrong = or(b, v.d.wrong, v.e.wrong)?;
+    let g = implies(b, wrong, reason)?;
+    Ok(g)
+}
+
+/// A missed jump is the youngest good instruction: in E, and in M unless `je`.
+fn missed_jumps(b: &mut NetBuilder, v: &ViewGates, je: bool) -> Result<u64, Memory>
+    requires { HasView (length b.old.gates) v.now }
+    ensures within { IfOk result (λ g. g < length b.new.gates) }
+    ensures truth { (w : List Bool) → IfOk result (λ g. truth b.new g w ≡ spec.missed_jump_is_youngest je (view_at b.old w v.now)) }
+    ensures grows { Grows b.old b.new }
+{
+    let e = excludes(b, v.e.missed, v.d.good)?;
+    if je {
+        return Ok(e);
+    }
+    let behind_m = or(b, v.d.good, v.e.good)?;
+    let m = excludes(b, v.m.missed, behind_m)?;
+    let both = and(b, e, m)?;
+    Ok(both)
+}
+
+/// A ret is the youngest good instruction: in E and M, and in W unless `rm`.
+fn rets(b: &mut NetBuilder, v: &ViewGates, rm: bool) -> Result<u64, Memory>
+    requires { HasView (length b.old.gates) v.now }
+    ensures within { IfOk result (λ g. g < length b.new.gates) }
+    ensures truth { (w : List Bool) → IfOk result (λ g. truth b.new g w ≡ spec.ret_is_youngest rm (view_at b.old w v.now)) }
+    ensures grows { Grows b.old b.new }
+{
+    let behind_m = or(b, v.d.good, v.e.good)?;
+    let e = excludes(b, v.e.ret, v.d.good)?;
+    let m = excludes(b, v.m.ret, behind_m)?;
+    let both = and(b, e, m)?;
+    if rm {
+        return Ok(both);
+    }
+    let behind_w = or(b, behind_m, v.m.good)?;
+    let w = excludes(b, v.w.ret, behind_w)?;
+    let all = and(b, both, w)?;
+    Ok(all)
+}
+
+/// The last three of the five.
+fn reasons_and_turns(b: &mut NetBuilder, v: &ViewGates, je: bool, rm: bool) -> Result<u64, Memory>
+    requires { HasView (length b.old.gates) v.now }
+    ensures within { IfOk result (λ g. g < length b.new.gates) }
+    ensures truth { (w : List Bool) → IfOk result (λ g. truth b.new g w ≡
+        (spec.wrong_has_reason (view_at b.old w v.now) && (spec.missed_jump_is_youngest je (view_at b.old w v.now) && spec.ret_is_youngest rm (view_at b.old w v.now)))) }
+    ensures grows { Grows b.old b.new }
+{
+    let reasons = wrong_reasons(b, v)?;
+    let jumps = missed_jumps(b, v, je)?;
+    let rets = rets(b, v, rm)?;
+    let last_two = and(b, jumps, rets)?;
+    let all = and(b, reasons, last_two)?;
+    Ok(all)
+}
+
+/// The view is lawful, in a file that fetches early from E (`je`) or M (`rm`) or not.
+#[tactic(auto, unfolding(crate::specs::Slots::lawful), using(crate::proofs::Growing::grows_more, crate::proofs::Growing::grows_self))]
+pub fn lawful_gate(b: &mut NetBuilder, v: &ViewGates, je: bool, rm: bool) -> Result<u64, Memory>
+    requires { HasView (length b.old.gates) v.now }
+    ensures within { IfOk result (λ g. g < length b.new.gates) }
+    ensures truth { (w : List Bool) → IfOk result (λ g. truth b.new g w ≡ spec.lawful je rm (view_at b.old w v.now)) }
+    ensures grows { Grows b.old b.new }
+{
+    let first = good_behind_wrong(b, v)?;
+    let second = one_stops(b, v)?;
+    let rest = reasons_and_turns(b, v, je, rm)?;
+    let last_two = and(b, second, rest)?;
+    let all = and(b, first, last_two)?;
+    Ok(all)
+}
+
+/// The instruction goes on where it was predicted to.
+fn follows(b: &mut NetBuilder, s: &SlotGates) -> Result<u64, Memory>
+    requires { HasSlot (length b.old.gates) s.now }
+    ensures within { IfOk result (λ g. g < length b.new.gates) }
+    ensures truth { (w : List Bool) → IfOk result (λ g. truth b.new g w ≡ spec.follows_prediction (slot_at b.old w s.now)) }
+    ensures grows { Grows b.old b.new }
+{
+    let turns = or(b, s.ret, s.missed)?;
+    let any = or(b, s.stops, turns)?;
+    let follows = not(b, any)?;
+    Ok(follows)
+}
+
+/// A gate of the youngest good instruction: one for each of D, E and M, and one for W and where there is none.
+pub fn of_youngest(
+    b: &mut NetBuilder,
+    v: &ViewGates,
+    d: u64,
+    e: u64,
+    m: u64,
+    w: u64,
+) -> Result<u64, Memory>
+    requires view_in { HasView (length b.old.gates) v.now }
+    requires d_in { d < length b.old.gates }
+    requires e_in { e < length b.old.gates }
+    requires m_in { m < length b.old.gates }
+    requires w_in { w < length b.old.gates }
+    ensures within { IfOk result (λ g. g < length b.new.gates) }
+    ensures truth { (x : List Bool) → IfOk result (λ g. truth b.new g x ≡ spec.of_youngest (view_at b.old x v.now) (truth b.old d x) (truth b.old e x) (truth b.old m x) (truth b.old w x)) }
+    ensures grows { Grows b.old b.new }
+{
+    let from_m = choose(b, v.m.good, m, w)?;
+    let from_e = choose(b, v.e.good, e, from_m)?;
+    let from_d = choose(b, v.d.good, d, from_e)?;
+    Ok(from_d)
+}
+
+/// The predicted PC is that of the next instruction.
+#[tactic(auto, unfolding(crate::specs::Slots::path), using(crate::proofs::Growing::grows_more, crate::proofs::Growing::grows_self))]
+pub fn path_gate(b: &mut NetBuilder, v: &ViewGates) -> Result<u64, Memory>
+    requires { HasView (length b.old.gates) v.now }
+    ensures within { IfOk result (λ g. g < length b.new.gates) }
+    ensures truth { (w : List Bool) → IfOk result (λ g. truth b.new g w ≡ spec.path (view_at b.old w v.now)) }
+    ensures grows { Grows b.old b.new }
+{
+    let d = follows(b, &v.d)?;
+    let e = follows(b, &v.e)?;
+    let m = follows(b, &v.m)?;
+    let w = follows(b, &v.w)?;
+    let g = of_youngest(b, v, d, e, m, w)?;
+    Ok(g)
+}
+
+/// The youngest good instruction stops.
+#[tactic(auto, unfolding(crate::specs::Slots::youngest_stops), using(crate::proofs::Growing::grows_more, crate::proofs::Growing::grows_self))]
+pub fn stops_gate(b: &mut NetBuilder, v: &ViewGates) -> Result<u64, Memory>
+    requires { HasView (length b.old.gates) v.now }
+    ensures within { IfOk result (λ g. g < length b.new.gates) }
+    ensures truth { (w : List Bool) → IfOk result (λ g. truth b.new g w ≡ spec.youngest_stops (view_at b.old w v.now)) }
+    ensures grows { Grows b.old b.new }
+{
+    let g = of_youngest(b, v, v.d.stops, v.e.stops, v.m.stops, v.w.stops)?;
+    Ok(g)
+}

@@ -1,0 +1,23 @@
+//! What stands in the pipeline registers, in formulas: which views of them are lawful, how a view moves in a cycle,
+//! and what is demanded of the words that stall and bubble (CS:APP 3e, section 4.5.8, pipeline control).
+#![tactic(auto, using(crate::proofs::Growing::grows_more, crate::proofs::Growing::grows_self))]
+
+mod connectives;
+mod lawful;
+mod laws;
+mod motion;
+mod obligations;
+mod settings;
+mod slots;
+mod steps;
+
+pub use connectives::{choose, excludes, implies, without};
+pub use lawful::{lawful_gate, of_youngest, path_gate, stops_gate};
+pub use laws::{law_of_lawful_views, law_of_the_start};
+pub use motion::{fetched_slot, load_gate, move_view};
+pub use obligations::{
+    leaves_gate, obligation_23, obligation_24, obligation_25, obligation_26, obligation_27,
+};
+pub use settings::Settings;
+pub use slots::{MoverGates, MoversGates, SlotGates, ViewGates};
+pub use steps::{and, constant, equal, not, or};
