@@ -1,2 +1,5 @@
 pub mod Picks
 pub mod Controls
+pub mod Laws
+pub mod Chosen
+pub mod Readies

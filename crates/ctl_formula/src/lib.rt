@@ -3,6 +3,11 @@
 #![tactic(auto)]
 
 mod controls;
+mod laws;
+mod picking;
+mod scope;
+mod terms;
 
 pub use controls::{Controls, Entry, Pick, Place};
+pub use laws::{law_of_agreement, law_of_controls};
 pub use ctl_atoms::{CtlFault, Leaf};

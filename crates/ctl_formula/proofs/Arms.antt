@@ -1,0 +1,104 @@
+-- The ready of a term, variant by variant, and the steps of loops over terms.
+use Rattle.std.proofs.Common.{rules, ◌≡◌, Bool, true, false, not, ◌||◌, ◌&&◌, refl, sym, ap, ◌∙◌, subst, List, [], ◌∷◌, ℕ, ◌<◌, ◌≤◌, ◌+◌, length, get_or, drop, map, IsTrue, if◌then◌else◌}
+use Rattle.std.proofs.lemmas.List.{at_drop_all, drop_more}
+use Rattle.hcl_read.specs.declared.tree.CmpOp.{CmpOp}
+use Rattle.hcl_types.specs.declared.term.TermBranch.{TermBranch, fold_out-TermBranch, fold-roll-TermBranch}
+use Rattle.hcl_types.specs.declared.term.TermBranch as bs
+use Rattle.hcl_types.specs.Terms.{layer, pair}
+use Rattle.hcl_types.specs.declared.term.Term.{Term, Term-F, fold-roll-Term}
+use Rattle.hcl_types.specs.declared.term.Term.TheVariants.{Cmp, In, rolls-Cmp, rolls-In}
+use Rattle.ctl_atoms.specs.declared.leaf.Leaf.{Leaf}
+use Rattle.ctl_atoms.specs.declared.leaf.Leaf.TheVariants.{Number}
+use Rattle.ctl_atoms.specs.declared.leaf.Atom.{Atom}
+use Rattle.ctl_formula.specs.declared.controls.Entry.{Entry}
+use Rattle.ctl_atoms.specs.Leaves.{Assignment, leaf_holds, leaf_eq}
+use Rattle.ctl_formula.specs.Readies.{Ready, ready, branch_ready, ready_layer, ready_pair, leaves_listed, members, case_leaves}
+use Rattle.ctl_atoms.specs.Plans.{joined}
+use Rattle.hcl_types.specs.Terms.{Meaning, value, branch_value}
+
+module _ (es : List Entry) (atoms : List Atom) where
+  pub ready_Cmp : (o : CmpOp) (x y : Term) → (ready es atoms (Cmp o x y)).truth ≡ (ready es atoms x).word && ((ready es atoms y).word && leaves_listed atoms o (ready es atoms x).leaves (ready es atoms y).leaves)
+  ready_Cmp o x y = ap (λ (p : Ready). p.truth) (ap (ready es atoms) (sym (rolls-Cmp o x y)) ∙ fold-roll-Term Ready (Ready × Ready) (ready_layer es atoms) ready_pair (Term-F.Cmp o x y))
+
+  pub ready_In : (x : Term) (all : List Term) → (ready es atoms (In x all)).truth ≡ (ready es atoms x).word && members atoms (ready es atoms x).leaves (map (ready es atoms) all)
+  ready_In x all = ap (λ (p : Ready). p.truth) (ap (ready es atoms) (sym (rolls-In x all)) ∙ fold-roll-Term Ready (Ready × Ready) (ready_layer es atoms) ready_pair (Term-F.In x all))
+
+pub holds_bit : (α : Assignment) (b : Bool) → leaf_holds α (Number (if b then 1 else 0)) ≡ b
+holds_bit α true = refl
+holds_bit α false = refl
+
+pub both : (a b : Bool) → IsTrue (a && b) → IsTrue a × IsTrue b
+both true b h = (refl, h)
+both false b h = (h, cc)
+
+-- the items of a loop over a list whose elements are read with themselves as default
+pub item_is : {A B : Type 0} (F : List A → B) (xs : List A) (i : ℕ) (x : A) → i < length xs → x ≡ get_or xs i x → F (drop i xs) ≡ F (x ∷ drop (i + 1) xs)
+item_is {A} F xs i x h e = ap F (drop_more xs i x h) ∙ ap (λ (y : A). F (y ∷ drop (i + 1) xs)) (sym e)
+
+pub item_has : {A : Type 0} (P : List A → Type 0) (xs : List A) (i : ℕ) (x : A) → i < length xs → x ≡ get_or xs i x → P (drop i xs) → P (x ∷ drop (i + 1) xs)
+item_has {A} P xs i x h e p = subst P (drop_more xs i x h ∙ ap (λ (y : A). y ∷ drop (i + 1) xs) (sym e)) p
+
+and_true : (a : Bool) → a && true ≡ a
+and_true true = refl
+and_true false = refl
+
+or_false : (a : Bool) → a || false ≡ a
+or_false true = refl
+or_false false = refl
+
+pub and_end : {A : Type 0} (F : List A → Bool) (a whole : Bool) (xs : List A) (i : ℕ) → length xs ≤ i → F [] ≡ true → a && F (drop i xs) ≡ whole → a ≡ whole
+and_end F a whole xs i h t e = sym (and_true a) ∙ (ap (λ b. a && b) (sym (at_drop_all F xs i h ∙ t)) ∙ e)
+
+pub or_end : {A : Type 0} (F : List A → Bool) (a whole : Bool) (xs : List A) (i : ℕ) → length xs ≤ i → F [] ≡ false → a || F (drop i xs) ≡ whole → a ≡ whole
+or_end F a whole xs i h t e = sym (or_false a) ∙ (ap (λ b. a || b) (sym (at_drop_all F xs i h ∙ t)) ∙ e)
+
+and_swap : (a b : Bool) → a && b ≡ b && a
+and_swap true true = refl
+and_swap true false = refl
+and_swap false true = refl
+and_swap false false = refl
+
+-- at the end of a case list the number 0 is picked where no branch was
+pub case_end : (t o k t' w : Bool) → t' ≡ t || (k && o) → t || (o && k) ≡ w → t' ≡ w
+case_end t o k t' w p q = p ∙ (ap (λ b. t || b) (and_swap k o) ∙ q)
+
+-- behind a guard that holds nothing is open
+pub case_shut : (t o k w : Bool) → o ≡ false → t || (o && k) ≡ w → t ≡ w
+case_shut t o k w p q = sym (or_false t) ∙ (ap (λ b. t || (b && k)) (sym p) ∙ q)
+
+spread : (c : Bool) (x r y : Leaf) → leaf_eq (if c then x else r) y ≡ (if c then leaf_eq x y else leaf_eq r y)
+spread true x r y = refl
+spread false x r y = refl
+
+plain : (t o c k r : Bool) → (t || ((o && c) && k)) || ((o && not c) && r) ≡ t || (o && (if c then k else r))
+plain true o c k r = refl
+plain false true true true r = refl
+plain false true true false r = refl
+plain false true false k r = refl
+plain false false c k r = refl
+
+pub case_step : (t o c : Bool) (x r y : Leaf) → (t || ((o && c) && leaf_eq x y)) || ((o && not c) && leaf_eq r y) ≡ t || (o && leaf_eq (if c then x else r) y)
+case_step t o c x r y = plain t o c (leaf_eq x y) (leaf_eq r y) ∙ ap (λ b. t || (o && b)) (sym (spread c x r y))
+
+pub shut : (o c : Bool) → c ≡ true → o && not c ≡ false
+shut o c h = ap (λ b. o && not b) h ∙ last o
+  where
+    last : (o : Bool) → o && false ≡ false
+    last true = refl
+    last false = refl
+
+pub branch_is : {A : Type 0} (m : Meaning A) (env : ℕ → A) (b : TermBranch) → branch_value m env b ≡ (value m env b.guard, value m env b.value)
+branch_is {A} m env b = search (rules, bs.the_lemmas, fold_out-TermBranch A (A × A) (layer m env) pair b)
+
+pub branch_ready_is : (es : List Entry) (atoms : List Atom) (b : TermBranch) → branch_ready es atoms b ≡ (ready es atoms b.guard, ready es atoms b.value)
+branch_ready_is es atoms b = search (rules, bs.the_lemmas, fold_out-TermBranch Ready (Ready × Ready) (ready_layer es atoms) ready_pair b)
+
+pub leaves_step : (ls : List Leaf) (b : Ready × Ready) (g v : Ready) (rest : List (Ready × Ready)) → b ≡ (g, v) → g.one ≡ false
+    → case_leaves (joined ls v.leaves) rest ≡ case_leaves ls (b ∷ rest)
+leaves_step ls b g v rest e h =
+    sym (ap (λ (p : Ready × Ready). case_leaves ls (p ∷ rest)) e ∙ ap (λ o. if o then joined ls v.leaves else case_leaves (joined ls v.leaves) rest) h)
+
+pub leaves_one : (ls : List Leaf) (b : Ready × Ready) (g v : Ready) (rest : List (Ready × Ready)) → b ≡ (g, v) → g.one ≡ true
+    → joined ls v.leaves ≡ case_leaves ls (b ∷ rest)
+leaves_one ls b g v rest e h =
+    sym (ap (λ (p : Ready × Ready). case_leaves ls (p ∷ rest)) e ∙ ap (λ o. if o then joined ls v.leaves else case_leaves (joined ls v.leaves) rest) h)

@@ -1,0 +1,50 @@
+use Rattle.std.proofs.Common.{◌<◌, ◌||◌, length, List, subst, ap, ◌∙◌, sym, ◌++◌, ◌∷◌, [], if◌then◌else◌}
+use Rattle.std.proofs.lemmas.List.{get_or_read}
+use Rattle.ctl_formula.specs.declared.controls.Pick.{Pick}
+use Rattle.nets.specs.Nets.{truth}
+use Rattle.ctl_formula.specs.Chosen.{at, taken}
+use Rattle.ctl_formula.specs.Picks.{Within}
+use Rattle.ctl_formula.specs.Readies.{IsPlace, leaves_of}
+use Rattle.ctl_formula.proofs.Steps.{none, within_at}
+use Rattle.ctl_formula.proofs.Inside.{within_more}
+use Rattle.ctl_formula.proofs.Taken.{taken_set, leaves_set, within_set, within_push, taken_push}
+use Rattle.ctl_formula.proofs.picking.add.Goals as goal
+
+pub or-requires-clause-left : goal.or-requires-clause-left
+or-requires-clause-left c =
+    let ps = c.args.out.now.items in
+    let place = subst (λ (xs : List Pick). IsPlace xs c.in-Some.k c.args.leaf) c.as_slice.ensures.value c.in-Some.ensures in
+    let read = get_or_read ps c.in-Some.k c.index.result.now place.within c.index.ensures none in
+    subst (λ (q : Pick). q.gate < length c.args.b.now.gates) (sym read) (within_at (length c.args.b.now.gates) ps c.in-Some.k c.requires.within place.within)
+
+pub returns-in_ok-both-in-Some-clause-within : goal.returns-in_ok-both-in-Some-clause-within
+returns-in_ok-both-in-Some-clause-within c =
+    let n = length c.or.new.self.gates in
+    within_set n c.args.out.now.items c.in-Some.k (record { leaf = c.args.leaf; gate = c.in_ok-both-in-Some.both })
+    (within_more (length c.args.b.now.gates) n c.args.out.now.items c.in_ok-both-in-Some.ensures.begins.more c.requires.within) c.in_ok-both-in-Some.ensures.made.within
+
+pub returns-in_ok-both-in-Some-clause-leaves : goal.returns-in_ok-both-in-Some-clause-leaves
+returns-in_ok-both-in-Some-clause-leaves c =
+    let ps = c.args.out.now.items in
+    let place = subst (λ (xs : List Pick). IsPlace xs c.in-Some.k c.args.leaf) c.as_slice.ensures.value c.in-Some.ensures in
+    leaves_set ps c.in-Some.k c.in_ok-both-in-Some.both c.args.leaf place.within place.same
+    ∙ ap (λ b. if b then leaves_of ps else leaves_of ps ++ c.args.leaf ∷ []) (sym place.has)
+
+pub returns-in_ok-both-in-Some-clause-is : goal.returns-in_ok-both-in-Some-clause-is
+returns-in_ok-both-in-Some-clause-is c = λ w y.
+    let ps = c.args.out.now.items in
+    let place = subst (λ (xs : List Pick). IsPlace xs c.in-Some.k c.args.leaf) c.as_slice.ensures.value c.in-Some.ensures in
+    let read = get_or_read ps c.in-Some.k c.index.result.now place.within c.index.ensures none in
+    taken_set c.in_ok-both-in-Some.ensures.begins w ps c.in-Some.k c.in_ok-both-in-Some.both c.args.leaf (truth c.args.b.now c.args.gate w) c.requires.within place.within place.same
+    (c.in_ok-both-in-Some.ensures.made.is w ∙ ap (λ (q : Pick). truth c.args.b.now q.gate w || truth c.args.b.now c.args.gate w) read) y
+
+pub returns-in_ok-put_pick-in-None-clause-within : goal.returns-in_ok-put_pick-in-None-clause-within
+returns-in_ok-put_pick-in-None-clause-within c =
+    let n = length c.args.b.now.gates in
+    subst (λ (xs : List Pick). Within n xs) (sym c.in_ok-put_pick-in-None.ensures)
+    (within_push n c.args.out.now.items (record { leaf = c.args.leaf; gate = c.args.gate }) c.requires.within c.requires.gate)
+
+pub returns-in_ok-put_pick-in-None-clause-is : goal.returns-in_ok-put_pick-in-None-clause-is
+returns-in_ok-put_pick-in-None-clause-is c = λ w y.
+    ap (λ (xs : List Pick). taken (at c.args.b.now w) xs y) c.in_ok-put_pick-in-None.ensures
+    ∙ taken_push (at c.args.b.now w) c.args.out.now.items (record { leaf = c.args.leaf; gate = c.args.gate }) y

@@ -1,0 +1,7 @@
+use Rattle.std.proofs.Common.{◌≡◌, drop}
+use Rattle.ctl_formula.specs.Readies.{leaves_of}
+use Rattle.ctl_atoms.specs.Plans.{has_leaf}
+use Rattle.ctl_formula.proofs.picking.place_of.Given as goal
+
+abbrev pub invariant-loop-i : goal.invariant-loop-i
+invariant-loop-i l = has_leaf (leaves_of (drop l.i l.ps)) l.leaf ≡ has_leaf (leaves_of l.ps) l.leaf

@@ -1,0 +1,43 @@
+-- Control values beside the values of a real cycle, and what picks are.
+use Rattle.std.specs.Prelude.{ℕ, ◌<◌, ◌≡◌, Bool, true, false, List, [], ◌∷◌, length, nat_eq, get_or, Option, Some, None, slice_get}
+use Rattle.hcl_types.specs.declared.term.Term.{Term}
+use Rattle.hcl_types.specs.declared.table.Row.{Row}
+use Rattle.hcl_types.specs.Lists.{Each}
+use Rattle.hcl_types.specs.Tables.{is_defined, inputs, IsOrderOf}
+use Rattle.hcl_types.specs.Terms.{value, words, signed_below}
+use Rattle.ctl_atoms.specs.declared.leaf.Leaf.{Leaf}
+use Rattle.ctl_atoms.specs.declared.leaf.Leaf.TheVariants.{Name, Number}
+use Rattle.ctl_atoms.specs.declared.leaf.AtomKind.TheVariants as kind
+use Rattle.ctl_atoms.specs.Leaves.{Assignment}
+use Rattle.ctl_atoms.specs.Rows.{row_term}
+use Rattle.ctl_formula.specs.Controls.{AreControls}
+
+-- control values exist
+abbrev pub HasControls : List Row → List Term → (ℕ → ℕ) → Assignment → Type 0
+HasControls rows terms field α = (cv : ℕ → Leaf) × AreControls rows terms field α cv
+
+-- what a leaf is worth where names have values
+abbrev pub worth : (ℕ → ℕ) → Leaf → ℕ
+worth f (Name n) = f n
+worth f (Number n) = n
+
+-- the comparisons of values
+abbrev pub real : (ℕ → ℕ) → Assignment
+real f kind.Lt x y = signed_below (worth f x) (worth f y)
+real f kind.Eq x y = nat_eq (worth f x) (worth f y)
+
+-- f gives each defined row the value of its term, and 0 to what stands past the rows
+pub record IsDefinedBy (rows : List Row) (terms : List Term) (f : ℕ → ℕ) : Type 0 where
+  pub defined : (n : ℕ) (row : Row) → slice_get rows n ≡ Some row → is_defined row.role ≡ true → f n ≡ value words f (row_term rows terms n)
+  pub past : (n : ℕ) → slice_get rows n ≡ None → f n ≡ 0
+
+-- The control value of each row that isn't defined is worth its value, of a hardware row once this holds of what it depends on.
+abbrev pub IsWorthGiven : List Row → (ℕ → ℕ) → (ℕ → Leaf) → Type 0
+IsWorthGiven rows f cv =
+    (n : ℕ) (row : Row) → slice_get rows n ≡ Some row → is_defined row.role ≡ false → Each (λ m. worth f (cv m) ≡ f m) (inputs row.role) → worth f (cv n) ≡ f n
+
+-- Where comparisons are those of the values, and what is given agrees, each control value is worth its name's value.
+abbrev pub Agreement : Type 0
+Agreement = (rows : List Row) (terms : List Term) (ids : List ℕ) (field : ℕ → ℕ) (f : ℕ → ℕ) (cv : ℕ → Leaf) →
+    IsOrderOf rows terms ids → AreControls rows terms field (real f) cv → IsDefinedBy rows terms f → IsWorthGiven rows f cv →
+    (n : ℕ) → worth f (cv n) ≡ f n
