@@ -10,7 +10,7 @@ use Rattle.nets.specs.declared.net.Gate.TheVariants.{Const, Var, Not, And}
 use Rattle.bdd_core.specs.Diagrams.{Diagrams, at, count, dia_truth, reach, IsWell, Keeps}
 use Rattle.bdd_core.specs.Answers.{IsMade, IsAnswer}
 use Rattle.bdd_core.specs.declared.results.Op.TheVariants.{And as Conjunction, Not as Negation}
-use Rattle.bdd_core.specs.Building.{ReadsMarked, IsCone, HasTruth, AreBuilt, AreMade, made_value, IsMadeOf}
+use Rattle.bdd_core.specs.Building.{ReadsMarked, IsCone, HasTruth, AreBuilt, AreMade, AreFirst, made_value, IsMadeOf}
 use Rattle.bdd_core.specs.Meaning.{Stay, IsBuilt}
 use Rattle.bdd_core.proofs.Canonical.{part_truth}
 use Rattle.bdd_core.proofs.Applying.{first_truth, second_truth}
@@ -56,27 +56,61 @@ are_made {s} {n} {i} {needed} {made} {g} cone built is marked reads =
       right = λ a b e. (built.each b (reads.right a b e) (c.right a b e)).within;
     }
 
--- the truth of a gate from the diagrams that it reads is its truth
+-- the truth of a gate from the diagrams that it reads, where these have the truths of their gates
+value_is : (a : Diagrams) (n : Gates) (made : List ℕ) (v : List Bool) (g : Gate) → ((j : ℕ) → g ≡ Not j → dia_truth a (get_or made j 0) v ≡ gate_truth n j v)
+    → ((j k : ℕ) → g ≡ And j k → (dia_truth a (get_or made j 0) v ≡ gate_truth n j v) × (dia_truth a (get_or made k 0) v ≡ gate_truth n k v))
+    → made_value a made v g ≡ gate_value v (truths n v) g
+unfolding gate_truth
+value_is a n made v (Const b) one two = refl
+value_is a n made v (Var x) one two = refl
+value_is a n made v (Not k) one two = ap not (one k refl)
+value_is a n made v (And k l) one two =
+    ap (λ x. x && dia_truth a (get_or made l 0) v) (two k l refl).0 ∙ ap (λ x. get_or (truths n v) k false && x) (two k l refl).1
+
+-- it is the gate's truth
 pub gate_is : {a b : Diagrams} {n : Gates} {i d : ℕ} {needed : List Bool} {made : List ℕ} {g : Gate} → Keeps a b → IsCone n needed → AreBuilt a n needed made i
     → slice_get n.gates i ≡ Some g → get_or needed i false ≡ true → ReadsEarlier n.vars i g
     → ((w : List Bool) → gate_truth n i w ≡ gate_value w (truths n w) g) → IsMadeOf a b made g d → HasTruth b n i d
-unfolding gate_truth
 gate_is {a} {b} {n} {i} {d} {needed} {made} {g} keeps cone built is marked reads meaning made_of =
-    record { within = made_of.within; is = λ v h. made_of.is v h ∙ (value v (h ∙ keeps.vars) g c reads ∙ sym (meaning v)) }
+    let c = cone.closed i g is marked in
+    record {
+      within = made_of.within;
+      is = λ v h. (let z = h ∙ keeps.vars in
+          made_of.is v h
+          ∙ (value_is a n made v g (λ j e. (built.each j (reads.inverted j e) (c.inverted j e)).is v z)
+          (λ j k e. ((built.each j (reads.left j k e) (c.left j k e)).is v z, (built.each k (reads.right j k e) (c.right j k e)).is v z))
+          ∙ sym (meaning v)));
+    }
+
+-- ---- the first gates, one more
+
+pub first_kept : {a b : Diagrams} {n : Gates} {made : List ℕ} → IsWell a → Keeps a b → AreFirst a n made → AreFirst b n made
+first_kept well keeps first = record { each = λ j h. truth_stays well keeps (first.each j h) }
+
+pub first_more : {a b : Diagrams} {n : Gates} {made : List ℕ} {i : ℕ} {g : Gate} {d : ℕ} → i ≡ length made → IsWell a → Keeps a b → AreFirst a n made → ReadsEarlier n.vars i g
+    → ((w : List Bool) → gate_truth n i w ≡ gate_value w (truths n w) g) → IsMadeOf a b made g d → AreFirst b n (made ++ d ∷ [])
+first_more {a} {b} {n} {made} {i} {g} {d} at_end well keeps first reads meaning made_of = record {
+  each = λ j h. elim (cases_lt j (length made)) [
+    | inl p ↦ subst (HasTruth b n j) (sym (get_or_append_left made (d ∷ []) 0 j p)) (truth_stays well keeps (first.each j p))
+    | inr p ↦ (let e : j ≡ length made = omega (arith, h, p, length_push made d) in
+        let here : j ≡ i = e ∙ sym at_end in
+        let r : get_or (made ++ d ∷ []) j 0 ≡ d = get_or_push made d 0 j (sym e) in
+        subst (HasTruth b n j) (sym r) (subst (λ (k : ℕ). HasTruth b n k d) (sym here) last))
+  ];
+}
   where
-    c : ReadsMarked needed g
-    c = cone.closed i g is marked
+    below : {j : ℕ} → j < i → j < length made
+    below h = omega (arith, h, at_end)
 
-    one : (v : List Bool) → length v ≡ a.vars → (j : ℕ) → j < i → get_or needed j false ≡ true → dia_truth a (get_or made j 0) v ≡ gate_truth n j v
-    one v h j less m = (built.each j less m).is v h
-
-    value : (v : List Bool) → length v ≡ a.vars → (x : Gate) → ReadsMarked needed x → ReadsEarlier n.vars i x → made_value a made v x ≡ gate_value v (truths n v) x
-    value v h (Const b) m r = refl
-    value v h (Var x) m r = refl
-    value v h (Not k) m r = ap not (one v h k (r.inverted k refl) (m.inverted k refl))
-    value v h (And k l) m r =
-        ap (λ x. x && dia_truth a (get_or made l 0) v) (one v h k (r.left k l refl) (m.left k l refl))
-        ∙ ap (λ x. get_or (truths n v) k false && x) (one v h l (r.right k l refl) (m.right k l refl))
+    last : HasTruth b n i d
+    last = record {
+      within = made_of.within;
+      is = λ v h. (let z = h ∙ keeps.vars in
+          made_of.is v h
+          ∙ (value_is a n made v g (λ j e. (first.each j (below (reads.inverted j e))).is v z)
+          (λ j k e. ((first.each j (below (reads.left j k e))).is v z, (first.each k (below (reads.right j k e))).is v z))
+          ∙ sym (meaning v)));
+    }
 
 -- marks that are written
 pub marked_one : (old : List Bool) (a : ℕ) → a < length old → get_or (set old a true) a false ≡ true

@@ -44,3 +44,7 @@ made_value s made v (And a b) = dia_truth s (get_or made a 0) v && dia_truth s (
 pub record IsMadeOf (old new : Diagrams) (made : List ℕ) (gate : Gate) (d : ℕ) : Type 0 where
   pub within : d < count new
   pub is : (v : List Bool) → length v ≡ new.vars → dia_truth new d v ≡ made_value old made v gate
+
+-- the diagrams of the first gates of a net, in their order
+pub record AreFirst (s : Diagrams) (n : Gates) (made : List ℕ) : Type 0 where
+  pub each : (j : ℕ) → j < length made → HasTruth s n j (get_or made j 0)

@@ -15,7 +15,7 @@ use y86_base::Memory;
 impl Store {
     /// The diagram of a gate, from those of the gates that it reads.
     #[tactic(auto, using(crate::proofs::Gates::made_not, crate::proofs::Truths::keeps_self))]
-    fn add_gate(&mut self, made: &[u32], gate: Gate) -> Result<u32, Memory>
+    pub(crate) fn add_gate(&mut self, made: &[u32], gate: Gate) -> Result<u32, Memory>
         requires reads { ReadsEarlier self.old.vars (length made.now) gate }
         requires made { AreMade self.old made.now gate }
         ensures kept { Keeps self.old self.new }

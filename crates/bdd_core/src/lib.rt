@@ -5,10 +5,12 @@
 mod apply;
 mod build;
 mod cone;
+mod growing;
 mod meaning;
 mod nodes;
 mod results;
 mod store;
 mod table;
 
+pub use growing::Built;
 pub use store::{Dia, Node, Store};
