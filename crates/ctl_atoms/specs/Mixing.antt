@@ -7,7 +7,6 @@ use Rattle.hcl_types.specs.declared.term.Term.TheFolds.{fold-Term, fold-TermBran
 use Rattle.hcl_types.specs.declared.table.Class.{Class}
 use Rattle.hcl_types.specs.declared.table.Class.TheVariants as class
 use Rattle.hcl_types.specs.declared.table.Row.{Row}
-use Rattle.hcl_types.specs.Lists.{some}
 use Rattle.hcl_types.specs.Tables.{is_defined}
 use Rattle.ctl_atoms.specs.Rows.{row_term}
 use Rattle.ctl_atoms.specs.declared.mixing.Sort.{Sort}
@@ -24,10 +23,6 @@ is_value class.Code = false
 is_value class.Value = true
 is_value class.Truth = false
 
--- some of the terms mixes the two, or they join the one with the other
-abbrev pub joins : List Sort → Bool
-joins ss = some (λ (s : Sort). s.mixed) ss || (some (λ (s : Sort). s.code) ss && some (λ (s : Sort). s.value) ss)
-
 -- a truth is neither
 abbrev pub truth_sort : Bool → Sort
 truth_sort mixed = record { code = false; value = false; mixed = mixed }
@@ -36,24 +31,38 @@ abbrev pub row_sort : Option Row → Sort
 row_sort None = truth_sort false
 row_sort (Some row) = record { code = is_code row.class; value = is_value row.class; mixed = false }
 
--- a case list joins the values of all its branches
-abbrev pub chosen_sort : List Sort → List Sort → Sort
-chosen_sort guards values = record {
-  code = some (λ (s : Sort). s.code) values;
-  value = some (λ (s : Sort). s.value) values;
-  mixed = some (λ (s : Sort). s.mixed) guards || joins values;
-}
+-- of some terms: the value of one of them can be a Code name's, that of one a Value name's, one of them mixes the two
+abbrev pub either : Sort → Sort → Sort
+either s r = record { code = s.code || r.code; value = s.value || r.value; mixed = s.mixed || r.mixed }
 
--- a comparison joins its sides, an `in` its left side with all members
+abbrev pub any : List Sort → Sort
+any [] = truth_sort false
+any (s ∷ ss) = either s (any ss)
+
+-- they mix: one of them does, or they join the one with the other
+abbrev pub joins : Sort → Bool
+joins s = s.mixed || (s.code && s.value)
+
+abbrev pub guards : List (Sort × Sort) → List Sort
+guards bs = map (λ (b : Sort × Sort). b.0) bs
+
+abbrev pub values : List (Sort × Sort) → List Sort
+values bs = map (λ (b : Sort × Sort). b.1) bs
+
+-- a case list joins the values of all its branches
+abbrev pub chosen_sort : Bool → Sort → Sort
+chosen_sort mixed s = record { code = s.code; value = s.value; mixed = mixed || joins s }
+
+-- a comparison joins its two sides, an `in` its left side and all members
 abbrev pub sort_layer : List Row → Term-F Sort (Sort × Sort) → Sort
 sort_layer rows (Term-F.Num n) = truth_sort false
 sort_layer rows (Term-F.Name id) = row_sort (slice_get rows id)
 sort_layer rows (Term-F.Not s) = truth_sort s.mixed
-sort_layer rows (Term-F.And ss) = truth_sort (some (λ (s : Sort). s.mixed) ss)
-sort_layer rows (Term-F.Or ss) = truth_sort (some (λ (s : Sort). s.mixed) ss)
-sort_layer rows (Term-F.Cmp o s r) = truth_sort (joins (s ∷ r ∷ []))
-sort_layer rows (Term-F.In s rs) = truth_sort (joins (s ∷ rs))
-sort_layer rows (Term-F.Case bs) = chosen_sort (map (λ (b : Sort × Sort). b.0) bs) (map (λ (b : Sort × Sort). b.1) bs)
+sort_layer rows (Term-F.And ss) = truth_sort (any ss).mixed
+sort_layer rows (Term-F.Or ss) = truth_sort (any ss).mixed
+sort_layer rows (Term-F.Cmp o s r) = truth_sort (joins (either s r))
+sort_layer rows (Term-F.In s rs) = truth_sort (joins (either s (any rs)))
+sort_layer rows (Term-F.Case bs) = chosen_sort (any (guards bs)).mixed (any (values bs))
 
 abbrev pub sort_pair : TermBranch-F Sort (Sort × Sort) → Sort × Sort
 sort_pair b = (b.guard, b.value)
@@ -66,7 +75,7 @@ branch_sort rows = fold-TermBranch Sort (Sort × Sort) (sort_layer rows) sort_pa
 
 -- a definition mixes the two: its term does, or its value isn't of its name's class
 abbrev pub mixes_as : Class → Sort → Bool
-mixes_as class s = s.mixed || ((is_code class && s.value) || (is_value class && s.code))
+mixes_as class s = (s.mixed || (is_code class && s.value)) || (is_value class && s.code)
 
 abbrev pub definition_mixes : List Row → List Term → Option Row → ℕ → Bool
 definition_mixes rows terms None n = false

@@ -9,7 +9,7 @@ use Rattle.hcl_types.specs.declared.table.Row.{Row}
 use Rattle.hcl_types.specs.Tables.{defined, term_at}
 use Rattle.ctl_atoms.specs.declared.leaf.Leaf.{Leaf}
 use Rattle.ctl_atoms.specs.declared.leaf.Leaf.TheVariants.{Name, Number}
-use Rattle.ctl_atoms.specs.Plans.{Plan, plan}
+use Rattle.ctl_atoms.specs.Plans.{plan}
 
 -- the term of a defined row: a design has them in table order
 abbrev pub row_term : List Row → List Term → ℕ → Term

@@ -1,0 +1,72 @@
+-- The list of atoms: each one once, and each that is asked.
+use Rattle.std.proofs.Common.{◌≡◌, ℕ, Bool, true, false, ◌&&◌, ◌||◌, List, [], ◌∷◌, ◌++◌, map, Option, Some, None, if◌then◌else◌, IsTrue, refl, sym, ap, ◌∙◌, inl, inr, arith}
+use Rattle.hcl_types.specs.declared.term.Term.{Term}
+use Rattle.hcl_types.specs.Lists.{Each, IsApart, IsIn, each}
+use Rattle.ctl_atoms.specs.declared.leaf.Leaf.{Leaf}
+use Rattle.ctl_atoms.specs.declared.leaf.Atom.{Atom}
+use Rattle.ctl_atoms.specs.Leaves.{atom_eq, has_atom, is_listed}
+use Rattle.ctl_atoms.specs.Plans.{all_ask, plan}
+use Rattle.ctl_atoms.specs.Atoms.{added, atoms_of, with_atom}
+use Rattle.ctl_atoms.proofs.Added.{added_lists, atom_eq_self}
+
+both : (a b : Bool) → a && b ≡ true → (a ≡ true) × (b ≡ true)
+both true b h = (refl, h)
+both false b h = absurd (grind (arith, h))
+
+each_split : {A : Type 0} (p : A → Bool) (xs ys : List A) → each p (xs ++ ys) ≡ true → (each p xs ≡ true) × (each p ys ≡ true)
+each_split p [] ys h = (refl, h)
+each_split p (x ∷ xs) ys h =
+    let here = both (p x) (each p (xs ++ ys)) h in
+    let rest = each_split p xs ys here.1 in
+    (rw (here.0, rest.0) refl, rest.1)
+
+all_listed : (atoms : List Atom) (leaves : ℕ → List Leaf) (terms : List Term) → each (is_listed atoms) (all_ask (map (plan leaves) terms)) ≡ true →
+    Each (λ t. IsTrue (each (is_listed atoms) (plan leaves t).asks)) terms
+all_listed atoms leaves [] h = tt
+all_listed atoms leaves (t ∷ ts) h =
+    let parts = each_split (is_listed atoms) (plan leaves t).asks (all_ask (map (plan leaves) ts)) h in
+    (parts.0, all_listed atoms leaves ts parts.1)
+
+-- each atom that a definition asks is in the list
+pub listed : (leaves : ℕ → List Leaf) (terms : List Term) → Each (λ t. IsTrue (each (is_listed (atoms_of leaves terms)) (plan leaves t).asks)) terms
+listed leaves terms = all_listed (atoms_of leaves terms) leaves terms (added_lists [] (all_ask (map (plan leaves) terms)))
+
+or_left : (a b : Bool) → a || b ≡ false → (a ≡ false) × (b ≡ false)
+or_left true b h = absurd (grind (arith, h))
+or_left false b h = (refl, h)
+
+-- what the test doesn't find isn't there
+not_in : (xs : List Atom) (a : Atom) → has_atom xs a ≡ false → IsIn a xs → ⊥
+not_in [] a h i = i
+not_in (x ∷ xs) a h (inl e) =
+    let first = (or_left (atom_eq x a) (has_atom xs a) h).0 in
+    let same : atom_eq x a ≡ true = ap (λ (z : Atom). atom_eq z a) (sym e) ∙ atom_eq_self a in
+    grind (arith, first, same)
+not_in (x ∷ xs) a h (inr i) = not_in xs a (or_left (atom_eq x a) (has_atom xs a) h).1 i
+
+in_more : (xs : List Atom) (a b : Atom) → IsIn b (xs ++ a ∷ []) → (b ≡ a → ⊥) → (IsIn b xs → ⊥) → ⊥
+in_more [] a b (inl e) p q = p e
+in_more [] a b (inr i) p q = i
+in_more (x ∷ xs) a b (inl e) p q = q (inl e)
+in_more (x ∷ xs) a b (inr i) p q = in_more xs a b i p (λ j. q (inr j))
+
+put_apart : (xs : List Atom) (a : Atom) → IsApart xs → (IsIn a xs → ⊥) → IsApart (xs ++ a ∷ [])
+put_apart [] a h n = (λ i. i, tt)
+put_apart (x ∷ xs) a h n = (λ i. in_more xs a x i (λ e. n (inl (sym e))) h.0, put_apart xs a h.1 (λ i. n (inr i)))
+
+with_apart : (out : List Atom) (x : Option Atom) → IsApart out → IsApart (with_atom out x)
+with_apart out None h = h
+with_apart out (Some a) h = by (has_atom out a) refl
+  where
+    by : (b : Bool) → has_atom out a ≡ b → IsApart (if b then out else out ++ a ∷ [])
+    by true e = h
+    by false e = put_apart out a h (not_in out a e)
+
+added_apart : (out : List Atom) (xs : List (Option Atom)) → IsApart out → IsApart (added out xs)
+unfolding added
+added_apart out [] h = h
+added_apart out (x ∷ xs) h = added_apart (with_atom out x) xs (with_apart out x h)
+
+-- no atom stands in the list twice
+pub apart : (leaves : ℕ → List Leaf) (terms : List Term) → IsApart (atoms_of leaves terms)
+apart leaves terms = added_apart [] (all_ask (map (plan leaves) terms)) tt

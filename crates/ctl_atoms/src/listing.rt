@@ -1,0 +1,54 @@
+//! The atoms of a design.
+ghost use Rattle.std.specs.Prelude.{◌≡◌, IfOk, List, MatchResult, ℕ};
+ghost use Rattle.hcl_types.specs.Equations.{Fixes};
+ghost use Rattle.hcl_types.specs.Tables.{IsBound, IsOrderOf, IsSound};
+ghost use Rattle.ctl_atoms.specs.Atoms.{AreAtoms, IsCtlFault, atoms_of};
+ghost use Rattle.ctl_atoms.specs.Rows.{leaf_rule};
+ghost use Rattle.ctl_atoms.specs.declared.leaf.Leaf.{Leaf};
+
+use crate::asking::put_all_asked;
+use crate::fault::CtlFault;
+use crate::leaf::Atom;
+use crate::mixing::first_mixed;
+use crate::rows::leaves_by_name;
+use hcl_types::{Design, Order, Table};
+use std::alloc::{AllocError, Global};
+
+/// The atoms of the definitions, however many.
+fn all_atoms(alloc: Global, d: &Design, t: &Table, o: &Order) -> Result<Vec<Atom>, AllocError>
+    requires sound { IsSound t.now.rows }
+    requires ordered { IsOrderOf t.now.rows d.now.terms o.now.ids }
+    ensures { IfOk result (λ out. (leaves : ℕ → List Leaf) → Fixes (leaf_rule t.now.rows d.now.terms) leaves → out.items ≡ atoms_of leaves d.now.terms) }
+{
+    let lists = leaves_by_name(alloc, d, t, o)?;
+    let mut out = Vec::new(alloc);
+    put_all_asked(alloc, lists.as_slice(), &mut out, d.terms.items())?;
+    Ok(out)
+}
+
+/// The atoms of a design in order of first appearance: by definitions in table order, in each from left to right,
+/// the atoms inside an operand before those of its comparison, and these by the leaf on the left, then the leaf on
+/// the right. Comparisons that no value depends on count too.
+///
+/// Errors: `Mixed` of the first definition, in table order, that mixes Code with Value; where none does,
+/// `AtomsOver64`; `Memory`.
+pub fn atoms(alloc: Global, d: &Design, t: &Table, o: &Order) -> Result<Vec<Atom>, CtlFault>
+    requires sound { IsSound t.now.rows }
+    requires bound { IsBound t.now.rows d.now.terms }
+    requires ordered { IsOrderOf t.now.rows d.now.terms o.now.ids }
+    ensures { MatchResult result (λ out. AreAtoms t.now.rows d.now.terms out.items) (IsCtlFault t.now.rows d.now.terms) }
+{
+    match first_mixed(t.rows.items(), d.terms.items()) {
+        Some(id) => Err(CtlFault::Mixed(id)),
+        None => match all_atoms(alloc, d, t, o) {
+            Err(_) => Err(CtlFault::Memory),
+            Ok(out) => {
+                if out.len() > 64 {
+                    Err(CtlFault::AtomsOver64)
+                } else {
+                    Ok(out)
+                }
+            }
+        },
+    }
+}
