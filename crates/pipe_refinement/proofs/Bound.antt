@@ -3,7 +3,7 @@ use Rattle.std.proofs.Common.{◌≡◌, ℕ, ◌+◌, ◌*◌, ◌≤◌, Bool,
 use Rattle.dp_signals.specs.declared.pipe_state.PipeState.{PipeState}
 use Rattle.pipe_refinement.specs.Invariant.{Given, view_of}
 use Rattle.pipe_refinement.specs.Kinds.{Config, Empty, Kind, asked, count, fetched_kind, is_good, is_wrong, move_config, moved_by}
-use Rattle.pipe_refinement.specs.Slots.{Mover, Movers, lawful, loads}
+use Rattle.pipe_motion.specs.Slots.{Mover, Movers, lawful, loads}
 use Rattle.pipe_refinement.proofs.Motions.{Motion}
 use Rattle.pipe_refinement.proofs.Moves.{good_d, good_e, good_m, good_w, leaves_by, load_is}
 use Rattle.pipe_refinement.proofs.Older.{e_not_wrong, quiet_d, quiet_e}

@@ -17,7 +17,7 @@ use Rattle.dp_signals.specs.declared.pipe_state.PipeState.{PipeState}
 use Rattle.pipe_refinement.specs.Facts.{AlwaysFacts, DecodeFacts, ExecuteFacts, FetchFacts, MemoryFacts}
 use Rattle.pipe_refinement.specs.Invariant.{AllowedD, AllowedE, EmptyD, EmptyE, EmptyM, EmptyW, Given}
 use Rattle.pipe_refinement.specs.Kinds.{Config, is_good, is_wrong}
-use Rattle.pipe_refinement.specs.Settings.{Settings}
+use Rattle.pipe_motion.specs.declared.settings.Settings.{Settings}
 use Rattle.pipe_refinement.proofs.Fetch.{loads_fetched, reads, set_bit}
 use Rattle.pipe_refinement.proofs.Views.{and_off}
 
@@ -71,7 +71,7 @@ empty_m_loaded v s p f c b q n h =
       cnd = rw b.e_Cnd (bit_le _);
     }
 
-no_error : (mem : List ℕ) (address : ℕ) (r w : Bool) → r ≡ false → w ≡ false → data_error mem address r w ≡ false
+pub no_error : (mem : List ℕ) (address : ℕ) (r w : Bool) → r ≡ false → w ≡ false → data_error mem address r w ≡ false
 unfolding data_error
 no_error mem address r w e f = rw (e, f) refl
 

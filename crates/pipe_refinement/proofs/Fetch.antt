@@ -22,7 +22,7 @@ use Rattle.dp_signals.specs.declared.pipe_state.PipeState.{PipeState}
 use Rattle.pipe_refinement.specs.Facts.{FetchFacts, GoodFetch, RightPc, fell_m, jump_e, ret_m, ret_w, taken_m}
 use Rattle.pipe_refinement.specs.Invariant.{Given, InD, Inv, view_of}
 use Rattle.pipe_refinement.specs.Kinds.{Config, count, in_d, in_e, in_f, in_m, in_w, is_good}
-use Rattle.pipe_refinement.specs.Slots.{youngest_stops}
+use Rattle.pipe_motion.specs.Slots.{youngest_stops}
 use Rattle.pipe_refinement.proofs.Views.{Seen, at_d, at_e, at_m, at_none, at_w, seen, youngest}
 
 pub set_bit : (b : Bool) → set (bit b) ≡ b

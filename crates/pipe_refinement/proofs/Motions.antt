@@ -6,7 +6,7 @@ use Rattle.dp_signals.specs.declared.pipe_state.PipeState.{PipeState}
 use Rattle.pipe_refinement.specs.Facts.{GoodFetch, MotionFacts}
 use Rattle.pipe_refinement.specs.Invariant.{Given, slot_of, view_of}
 use Rattle.pipe_refinement.specs.Kinds.{Config, Good, Kind, asked, fetched_kind, in_f, is_good, is_wrong, move_config}
-use Rattle.pipe_refinement.specs.Slots.{Movers, fetched_slot, lawful, loads, moved_view, next_is_right, path, path_is_kept}
+use Rattle.pipe_motion.specs.Slots.{Movers, fetched_slot, lawful, loads, moved_view, next_is_right, path, path_is_kept}
 use Rattle.pipe_refinement.proofs.Moves.{fetched_is, keeps, keeps_good, leaves_by, none_both, view_moved}
 use Rattle.pipe_refinement.proofs.Views.{seen}
 

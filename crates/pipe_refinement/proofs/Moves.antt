@@ -8,7 +8,7 @@ use Rattle.dp_signals.specs.declared.movers.Ending.TheVariants.{Going}
 use Rattle.dp_signals.specs.declared.pipe_state.PipeState.{PipeState}
 use Rattle.pipe_refinement.specs.Invariant.{Given, slot_of, view_of}
 use Rattle.pipe_refinement.specs.Kinds.{Config, Empty, Good, Kind, Wrong, asked, count, fetched_kind, in_d, in_e, in_f, in_m, in_w, is_good, is_wrong, move_config, moved_by}
-use Rattle.pipe_refinement.specs.Slots.{Mover, Movers, Slot, View, fetched_slot, loads, moved as moved_slot, moved_view, o23, o24, to_w}
+use Rattle.pipe_motion.specs.Slots.{Mover, Movers, Slot, View, fetched_slot, loads, moved as moved_slot, moved_view, o23, o24, to_w}
 
 -- ---- one register
 
@@ -177,7 +177,7 @@ pub fetched_is : (x : Given) (good : Bool) (i : ℕ) → fetched_slot good (slot
 fetched_is x true i = refl
 fetched_is x false i = refl
 
-abbrev view_by : Slot → Slot → Slot → Slot → View
+abbrev pub view_by : Slot → Slot → Slot → Slot → View
 view_by d e m w = record { d = d; e = e; m = m; w = w }
 
 four : {d e m w d' e' m' w' : Slot} → d ≡ d' → e ≡ e' → m ≡ m' → w ≡ w' → view_by d e m w ≡ view_by d' e' m' w'

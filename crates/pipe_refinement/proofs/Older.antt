@@ -3,7 +3,7 @@ use Rattle.std.proofs.Common.{◌≡◌, Bool, true, false, ◌||◌, sym, ◌�
 use Rattle.run_laws.specs.Instructions.{stops_at}
 use Rattle.pipe_refinement.specs.Invariant.{Given, view_of}
 use Rattle.pipe_refinement.specs.Kinds.{Config, in_e, in_m, in_w, is_good, is_wrong}
-use Rattle.pipe_refinement.specs.Slots.{View, lawful}
+use Rattle.pipe_motion.specs.Slots.{View, lawful}
 use Rattle.pipe_refinement.proofs.Views.{Seen, seen}
 
 old_e : (je rm : Bool) (v : View) → lawful je rm v ≡ true → v.d.good ≡ true → v.e.stops ≡ false

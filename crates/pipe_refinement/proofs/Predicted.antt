@@ -103,7 +103,7 @@ predicted_is x i p f live q l on no_ret hit =
     let vp : f name.f_valP ≡ (doing x.v x.image i).val_p = l.val_p ∙ sym w.val_p in
     let fetch_aok : is_aok (doing x.v x.image i).fetch_stat ≡ true = fetch_ok _ _ _ _ w.fetch_stat (doing x.v x.image i).fault (rw (← (follows x.v x.image i).stat) ok) in
     let pred : IfSome (predicted_pc (row_of x.v x.image i).next (doing x.v x.image i).val_p (doing x.v x.image i).val_c (predicted_at x i)) (λ z. f name.f_predPC ≡ z) =
-    rw (icode, ifun, vc, vp) at (q.predicted no_error) in
+    rw (icode, ifun, vc, vp) at (q.prediction no_error) in
     by_next (row_of x.v x.image i).next (before x.v x.image i).pc _ _ (doing x.v x.image i).val_m _ (doing x.v x.image i).cnd _
     (not_itself _ _ (next_at x.v (doing x.v x.image i).icode (known x i ok)) e.1) no_ret
     (λ b. differ_same _ _ (last (is_aok (doing x.v x.image i).fetch_stat) (is_branch (row_of x.v x.image i).next) _ fetch_aok b hit)) pred

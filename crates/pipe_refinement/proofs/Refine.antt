@@ -16,7 +16,7 @@ use Rattle.dp_signals.proofs.PipeRows.{pipe_hardware_rows, pipe_holds}
 use Rattle.pipe_refinement.specs.Invariant.{Given, Inv, view_of}
 use Rattle.pipe_refinement.specs.Kinds.{Config, asked, fetched_kind, in_w, is_good, move_config, start_config}
 use Rattle.pipe_refinement.specs.Refines.{Refines, StopsAs}
-use Rattle.pipe_refinement.specs.Slots.{lawful, path}
+use Rattle.pipe_motion.specs.Slots.{lawful, path}
 use Rattle.pipe_refinement.specs.Theorems.{MeetsFacts}
 use Rattle.pipe_refinement.proofs.Bound.{dist, dist_least, shorter}
 use Rattle.pipe_refinement.proofs.Empties.{empty_d_bubble, empty_e_bubble, empty_m_bubble, empty_w_bubble}

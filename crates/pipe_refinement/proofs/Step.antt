@@ -23,7 +23,7 @@ use Rattle.dp_signals.specs.declared.pipe_state.StageW.{StageW}
 use Rattle.pipe_refinement.specs.Facts.{AlwaysFacts, CycleFacts, exempt}
 use Rattle.pipe_refinement.specs.Invariant.{AllowedD, AllowedE, EmptyD, EmptyE, EmptyM, EmptyW, Given, InD, InE, InM, InW, Inv, no_load_awaited, slot_of, view_of}
 use Rattle.pipe_refinement.specs.Kinds.{Config, Empty, Good, Kind, Wrong, asked, count, fetched_kind, in_d, in_e, in_f, in_m, in_w, is_good, is_live, is_wrong, move_config, moved_by}
-use Rattle.pipe_refinement.specs.Slots.{Movers, Slot, View, follows_prediction, loads, path}
+use Rattle.pipe_motion.specs.Slots.{Movers, Slot, View, follows_prediction, loads, path}
 use Rattle.pipe_refinement.proofs.After.{counted_are, flags_next_are, mem_is, records_are, regs_are}
 use Rattle.pipe_refinement.proofs.Empties.{allowed_loaded, allowed_moved, empty_d_bubble, empty_e_bubble, empty_e_loaded, empty_m_bubble, empty_m_loaded, empty_w_bubble, empty_w_loaded}
 use Rattle.pipe_refinement.proofs.Fetch.{LoadsFetched, fetch_live, fetch_same, fetch_words, loads_fetched}

@@ -3,7 +3,7 @@ use Rattle.std.proofs.Common.{◌≡◌, ◌+◌, Bool, true, false, ◌&&◌, r
 use Rattle.run_laws.specs.Instructions.{stops_at}
 use Rattle.pipe_refinement.specs.Invariant.{Given, view_of}
 use Rattle.pipe_refinement.specs.Kinds.{Config, count, in_d, in_e, in_f, in_m, in_w, is_good, is_wrong}
-use Rattle.pipe_refinement.specs.Slots.{View}
+use Rattle.pipe_motion.specs.Slots.{View}
 
 pub and_on : (a b : Bool) → a ≡ true → a && b ≡ b
 and_on true b h = refl

@@ -12,9 +12,10 @@ use Rattle.hcl_types.specs.Terms.{signed_below}
 use Rattle.dp_signals.specs.PipeNames as name
 use Rattle.dp_signals.specs.Values.{set}
 use Rattle.dp_signals.specs.declared.pipe_state.PipeState.{PipeState}
-use Rattle.pipe_refinement.specs.Slots.{Slot, View, loads, path, youngest_stops, o23, o24, o25, o26, o27}
+use Rattle.pipe_motion.specs.Slots.{Slot, View, loads, path, youngest_stops, o23, o24, o25, o26, o27}
 use Rattle.pipe_refinement.specs.Kinds.{is_good, is_wrong, Config, asked}
-use Rattle.pipe_refinement.specs.Settings.{Settings, predicts}
+use Rattle.pipe_motion.specs.Predictions.{predicts}
+use Rattle.pipe_motion.specs.declared.settings.Settings.{Settings}
 
 -- the PC that is predicted behind an instruction, where the prediction matters
 abbrev pub predicted_pc : Next → ℕ → ℕ → Bool → Option ℕ
@@ -31,7 +32,7 @@ pub record FetchFacts (v : Variant) (s : Settings) (f : ℕ → ℕ) : Type 0 wh
   pub stat : f name.f_stat ≡ stat_number (fetch_status (set (f name.imem_error)) (f name.imem_icode))
   pub regids : set (f name.need_regids) ≡ (row v (f name.imem_icode)).has_byte
   pub constant : set (f name.need_valC) ≡ (row v (f name.imem_icode)).has_const
-  pub predicted : set (f name.imem_error) ≡ false →
+  pub prediction : set (f name.imem_error) ≡ false →
       IfSome
       (predicted_pc (row v (f name.imem_icode)).next (f name.f_valP) (f name.f_valC)
       (predicts s (f name.imem_ifun) (signed_below (f name.f_valC) (f name.f_valP))))

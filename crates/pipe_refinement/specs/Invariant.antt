@@ -19,9 +19,10 @@ use Rattle.dp_signals.specs.declared.pipe_state.StageE.{StageE}
 use Rattle.dp_signals.specs.declared.pipe_state.StageM.{StageM}
 use Rattle.dp_signals.specs.declared.pipe_state.StageW.{StageW}
 use Rattle.dp_signals.specs.declared.pipe_state.Trail.{Trail}
-use Rattle.pipe_refinement.specs.Slots.{Slot, View, to_w, lawful, path}
+use Rattle.pipe_motion.specs.Slots.{Slot, View, to_w, lawful, path}
 use Rattle.pipe_refinement.specs.Kinds.{Kind, Empty, is_good, is_wrong, is_live, Config, in_w, in_m, in_e, in_d, in_f}
-use Rattle.pipe_refinement.specs.Settings.{Settings, predicts}
+use Rattle.pipe_motion.specs.Predictions.{predicts}
+use Rattle.pipe_motion.specs.declared.settings.Settings.{Settings}
 use Rattle.pipe_refinement.specs.Facts.{exempt, keeps_a}
 
 -- an instruction set, what is known of a design, and an image

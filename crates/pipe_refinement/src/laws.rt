@@ -2,7 +2,7 @@
 ghost use Rattle.std.specs.Prelude.{◌≡◌, true};
 ghost use Rattle.pipe_refinement.specs.Invariant.{Given, slot_of, view_of};
 ghost use Rattle.pipe_refinement.specs.Kinds.{Config, Kind, in_f, move_config};
-ghost use Rattle.pipe_refinement.specs.Slots.{Movers, moved_view, o24};
+ghost use Rattle.pipe_motion.specs.Slots.{Movers, moved_view, o24};
 ghost use Rattle.pipe_refinement.specs.Theorems.{FactsRefine};
 
 /// Where good instructions are neither lost nor doubled, the view of the kinds behind a cycle is the moved view.
