@@ -1,0 +1,4 @@
+pub mod Layout
+pub mod Allowed
+pub mod Lines
+pub mod Laws

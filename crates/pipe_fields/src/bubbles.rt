@@ -1,0 +1,92 @@
+//! Gates for the lines of bubbles.
+ghost use Rattle.std.specs.Prelude.{◌≡◌, ◌<◌, ◌≤◌, ◌+◌, ◌==◌, ◌&&◌, ◌||◌, length, IfOk};
+ghost use Rattle.nets.specs.Nets.{Begins, IsGate, truth};
+ghost use Rattle.pipe_fields.specs.Layout.{fields_of};
+ghost use Rattle.pipe_fields.specs.Allowed as spec;
+ghost use Rattle.field_bits.specs.Spelling.{spelt};
+
+use crate::table::{D_BACK, D_ICODE, D_IFUN, D_R_A, D_R_B, D_STAT, D_STOPS, D_TAKEN, E_BACK, E_CND, E_DST_E, E_DST_M, E_ICODE, E_IFUN, E_SRC_A, E_SRC_B, E_STAT, E_STOPS, M_BACK, M_DST_E, M_DST_M, M_ERROR, M_ICODE, M_IFUN, M_STAT, W_DST_E, W_DST_M, W_ICODE, W_STAT};
+use field_bits::{Place, spells};
+use nets::NetBuilder;
+use y86_base::Memory;
+
+/// The gate is true, and the field is the number.
+fn and_is(b: &mut NetBuilder, all: u64, p: Place, n: u64) -> Result<u64, Memory>
+    requires place { p.first + p.bits ≤ b.old.vars }
+    requires gate { all < length b.old.gates }
+    ensures begins { Begins b.old b.new }
+    ensures made { IfOk result (λ g. IsGate b.new g (λ w. truth b.old all w && spelt w p.first p.bits == n)) }
+{
+    let is = spells(b, p, n)?;
+    let g = b.and(all, is)?;
+    Ok(g)
+}
+
+/// The line D of a bubble.
+#[tactic(auto, using(nets::proofs::Truths::truth_kept, nets::proofs::Truths::begins_more), unfolding(crate::specs::Layout::fields_of))]
+pub fn decode_bubble(b: &mut NetBuilder) -> Result<u64, Memory>
+    requires vars { 107 ≤ b.old.vars }
+    ensures begins { Begins b.old b.new }
+    ensures made { IfOk result (λ g. IsGate b.new g (λ w. spec.decode_bubble (fields_of w).d)) }
+{
+    let all = spells(b, D_STAT, 0)?;
+    let all = and_is(b, all, D_ICODE, 1)?;
+    let all = and_is(b, all, D_IFUN, 0)?;
+    let all = and_is(b, all, D_R_A, 15)?;
+    let all = and_is(b, all, D_R_B, 15)?;
+    let all = and_is(b, all, D_TAKEN, 0)?;
+    let all = and_is(b, all, D_STOPS, 0)?;
+    let g = and_is(b, all, D_BACK, 0)?;
+    Ok(g)
+}
+
+/// The line E of a bubble.
+#[tactic(auto, using(nets::proofs::Truths::truth_kept, nets::proofs::Truths::begins_more), unfolding(crate::specs::Layout::fields_of))]
+pub fn execute_bubble(b: &mut NetBuilder) -> Result<u64, Memory>
+    requires vars { 107 ≤ b.old.vars }
+    ensures begins { Begins b.old b.new }
+    ensures made { IfOk result (λ g. IsGate b.new g (λ w. spec.execute_bubble (fields_of w).e)) }
+{
+    let all = spells(b, E_STAT, 0)?;
+    let all = and_is(b, all, E_ICODE, 1)?;
+    let all = and_is(b, all, E_IFUN, 0)?;
+    let all = and_is(b, all, E_DST_E, 15)?;
+    let all = and_is(b, all, E_DST_M, 15)?;
+    let all = and_is(b, all, E_SRC_A, 15)?;
+    let all = and_is(b, all, E_SRC_B, 15)?;
+    let all = and_is(b, all, E_CND, 1)?;
+    let all = and_is(b, all, E_STOPS, 0)?;
+    let g = and_is(b, all, E_BACK, 0)?;
+    Ok(g)
+}
+
+/// The line M of a bubble.
+#[tactic(auto, using(nets::proofs::Truths::truth_kept, nets::proofs::Truths::begins_more), unfolding(crate::specs::Layout::fields_of))]
+pub fn memory_bubble(b: &mut NetBuilder) -> Result<u64, Memory>
+    requires vars { 107 ≤ b.old.vars }
+    ensures begins { Begins b.old b.new }
+    ensures made { IfOk result (λ g. IsGate b.new g (λ w. spec.memory_bubble (fields_of w).m)) }
+{
+    let all = spells(b, M_STAT, 0)?;
+    let all = and_is(b, all, M_ICODE, 1)?;
+    let all = and_is(b, all, M_IFUN, 0)?;
+    let all = and_is(b, all, M_DST_E, 15)?;
+    let all = and_is(b, all, M_DST_M, 15)?;
+    let all = and_is(b, all, M_ERROR, 0)?;
+    let g = and_is(b, all, M_BACK, 0)?;
+    Ok(g)
+}
+
+/// The line W of a bubble.
+#[tactic(auto, using(nets::proofs::Truths::truth_kept, nets::proofs::Truths::begins_more), unfolding(crate::specs::Layout::fields_of))]
+pub fn write_bubble(b: &mut NetBuilder) -> Result<u64, Memory>
+    requires vars { 107 ≤ b.old.vars }
+    ensures begins { Begins b.old b.new }
+    ensures made { IfOk result (λ g. IsGate b.new g (λ w. spec.write_bubble (fields_of w).w)) }
+{
+    let all = spells(b, W_STAT, 0)?;
+    let all = and_is(b, all, W_ICODE, 1)?;
+    let all = and_is(b, all, W_DST_E, 15)?;
+    let g = and_is(b, all, W_DST_M, 15)?;
+    Ok(g)
+}

@@ -1,0 +1,212 @@
+//! Gates for the lines of instructions, where the icode is known.
+ghost use Rattle.std.specs.Prelude.{◌≡◌, ◌<◌, ◌≤◌, ◌+◌, ◌==◌, ◌&&◌, ◌||◌, length, IfOk};
+ghost use Rattle.nets.specs.Nets.{Begins, IsGate, truth};
+ghost use Rattle.pipe_fields.specs.Layout.{fields_of};
+ghost use Rattle.pipe_fields.specs.Allowed as spec;
+ghost use Rattle.field_bits.specs.Fits.{cnd_where, only_where, register_fits};
+ghost use Rattle.field_bits.specs.Spelling.{spelt};
+
+use crate::table::{
+    D_BACK, D_IFUN, D_KIND, D_R_A, D_R_B, D_STAT, D_STOPS, D_TAKEN, E_BACK, E_CND, E_DST_E, E_DST_M, E_IFUN, E_KIND, E_SRC_A, E_SRC_B, E_STAT, E_STOPS, F_BACK, F_ERROR, F_IFUN, F_STOPS, F_TAKEN, M_BACK, M_CND, M_DST_E, M_DST_M, M_ERROR, M_IFUN, M_KIND, M_STAT, W_DST_E, W_DST_M, W_STAT,
+};
+use field_bits::{
+    Place, accesses, cnd_fits, cnd_where, code_fits, destination_fits, half_fits, is_branch, only_where, reading_fits, register_fits, spells, stat_fits, tied,
+};
+use nets::NetBuilder;
+use y86_base::Memory;
+use y86_isa::Row;
+
+/// An instruction that is good and has no fault so far.
+fn live(b: &mut NetBuilder, kind: Place, stat: Place) -> Result<u64, Memory>
+    requires kind { kind.first + kind.bits ≤ b.old.vars }
+    requires stat { stat.first + stat.bits ≤ b.old.vars }
+    ensures begins { Begins b.old b.new }
+    ensures made { IfOk result (λ g. IsGate b.new g (λ w. spec.is_live (spelt w kind.first kind.bits) (spelt w stat.first stat.bits))) }
+{
+    let good = spells(b, kind, 1)?;
+    let fine = spells(b, stat, 1)?;
+    let g = b.and(good, fine)?;
+    Ok(g)
+}
+
+/// A hidden bit is 1 only in an instruction without fault for which a test holds.
+fn live_only(b: &mut NetBuilder, may: bool, kind: Place, stat: Place, bit: Place) -> Result<u64, Memory>
+    requires kind { kind.first + kind.bits ≤ b.old.vars }
+    requires stat { stat.first + stat.bits ≤ b.old.vars }
+    requires bit { bit.first + bit.bits ≤ b.old.vars }
+    ensures begins { Begins b.old b.new }
+    ensures made { IfOk result (λ g. IsGate b.new g (λ w.
+        only_where (spec.is_live (spelt w kind.first kind.bits) (spelt w stat.first stat.bits) && may) (spelt w bit.first bit.bits))) }
+{
+    let live = live(b, kind, stat)?;
+    let g = only_where(b, may, live, bit)?;
+    Ok(g)
+}
+
+/// A hidden bit may be 1 where a test holds.
+fn only_if(b: &mut NetBuilder, may: bool, bit: Place) -> Result<u64, Memory>
+    requires { bit.first + bit.bits ≤ b.old.vars }
+    ensures begins { Begins b.old b.new }
+    ensures made { IfOk result (λ g. IsGate b.new g (λ w. only_where may (spelt w bit.first bit.bits))) }
+{
+    let always = b.constant(true)?;
+    let g = only_where(b, may, always, bit)?;
+    Ok(g)
+}
+
+/// A jump that is fetched is taken where its condition holds, and no other instruction is.
+fn fetch_taken(b: &mut NetBuilder, jump: bool, ifun: Place, taken: Place) -> Result<u64, Memory>
+    requires ifun { ifun.first + ifun.bits ≤ b.old.vars }
+    requires taken { taken.first + taken.bits ≤ b.old.vars }
+    ensures begins { Begins b.old b.new }
+    ensures made { IfOk result (λ g. IsGate b.new g (λ w. cnd_where jump (spelt w ifun.first ifun.bits) (spelt w taken.first taken.bits))) }
+{
+    let always = b.constant(true)?;
+    let g = cnd_where(b, jump, always, ifun, taken)?;
+    Ok(g)
+}
+
+/// A jump without fault in D is taken where its condition holds, and no other instruction is.
+#[tactic(auto, using(nets::proofs::Truths::truth_kept, nets::proofs::Truths::begins_more), unfolding(crate::specs::Layout::fields_of))]
+fn decode_taken(b: &mut NetBuilder, jump: bool) -> Result<u64, Memory>
+    requires vars { 107 ≤ b.old.vars }
+    ensures begins { Begins b.old b.new }
+    ensures made { IfOk result (λ g. IsGate b.new g (λ w.
+        cnd_where (spec.is_live (fields_of w).d.kind (fields_of w).d.stat && jump) (fields_of w).d.ifun (fields_of w).d.taken)) }
+{
+    let live = live(b, D_KIND, D_STAT)?;
+    let g = cnd_where(b, jump, live, D_IFUN, D_TAKEN)?;
+    Ok(g)
+}
+
+/// The line F of an instruction of this icode.
+#[tactic(auto, using(nets::proofs::Truths::truth_kept, nets::proofs::Truths::begins_more), unfolding(crate::specs::Layout::fields_of, crate::specs::Allowed::fetch_fits))]
+pub fn fetch_fits(b: &mut NetBuilder, count: u64, icode: u64, row: &Row) -> Result<u64, Memory>
+    requires vars { 107 ≤ b.old.vars }
+    requires top { row.now.ifun_top < 16 }
+    ensures begins { Begins b.old b.new }
+    ensures made { IfOk result (λ g. IsGate b.new g (λ w. spec.fetch_fits count icode row.now (fields_of w).f)) }
+{
+    let read = reading_fits(b, count, icode, row, F_ERROR, F_IFUN)?;
+    let taken = fetch_taken(b, is_branch(row.next), F_IFUN, F_TAKEN)?;
+    let all = b.and(read, taken)?;
+    let stops = only_if(b, accesses(row.memory), F_STOPS)?;
+    let all = b.and(all, stops)?;
+    let back = only_if(b, is_branch(row.next), F_BACK)?;
+    let g = b.and(all, back)?;
+    Ok(g)
+}
+
+/// The line D of an instruction of this icode.
+#[tactic(auto, using(nets::proofs::Truths::truth_kept, nets::proofs::Truths::begins_more), unfolding(crate::specs::Layout::fields_of, crate::specs::Allowed::decode_fits))]
+pub fn decode_fits(b: &mut NetBuilder, count: u64, icode: u64, row: &Row) -> Result<u64, Memory>
+    requires vars { 107 ≤ b.old.vars }
+    requires top { row.now.ifun_top < 16 }
+    ensures begins { Begins b.old b.new }
+    ensures made { IfOk result (λ g. IsGate b.new g (λ w. spec.decode_fits count icode row.now (fields_of w).d)) }
+{
+    let code = code_fits(b, count, icode, row, D_STAT, D_IFUN)?;
+    let r_a = half_fits(b, row.has_byte, row.uses_a, D_R_A)?;
+    let all = b.and(code, r_a)?;
+    let r_b = half_fits(b, row.has_byte, row.uses_b, D_R_B)?;
+    let all = b.and(all, r_b)?;
+    let taken = decode_taken(b, is_branch(row.next))?;
+    let all = b.and(all, taken)?;
+    let stops = live_only(b, accesses(row.memory), D_KIND, D_STAT, D_STOPS)?;
+    let all = b.and(all, stops)?;
+    let back = live_only(b, is_branch(row.next), D_KIND, D_STAT, D_BACK)?;
+    let g = b.and(all, back)?;
+    Ok(g)
+}
+
+/// The register numbers in E.
+#[tactic(auto, using(nets::proofs::Truths::truth_kept, nets::proofs::Truths::begins_more), unfolding(crate::specs::Layout::fields_of))]
+fn registers_fit(b: &mut NetBuilder, row: &Row) -> Result<u64, Memory>
+    requires vars { 107 ≤ b.old.vars }
+    ensures begins { Begins b.old b.new }
+    ensures made { IfOk result (λ g. IsGate b.new g (λ w. spec.registers_fit row.now (fields_of w).e)) }
+{
+    let dst_e = register_fits(b, row.dst_e, E_DST_E)?;
+    let dst_m = register_fits(b, row.dst_m, E_DST_M)?;
+    let all = b.and(dst_e, dst_m)?;
+    let src_a = register_fits(b, row.src_a, E_SRC_A)?;
+    let all = b.and(all, src_a)?;
+    let src_b = register_fits(b, row.src_b, E_SRC_B)?;
+    let all = b.and(all, src_b)?;
+    let tied = tied(b, row, E_SRC_B, E_DST_E)?;
+    let g = b.and(all, tied)?;
+    Ok(g)
+}
+
+/// The line E of an instruction of this icode.
+#[tactic(auto, using(nets::proofs::Truths::truth_kept, nets::proofs::Truths::begins_more), unfolding(crate::specs::Layout::fields_of, crate::specs::Allowed::execute_fits))]
+pub fn execute_fits(b: &mut NetBuilder, count: u64, icode: u64, row: &Row) -> Result<u64, Memory>
+    requires vars { 107 ≤ b.old.vars }
+    requires top { row.now.ifun_top < 16 }
+    ensures begins { Begins b.old b.new }
+    ensures made { IfOk result (λ g. IsGate b.new g (λ w. spec.execute_fits count icode row.now (fields_of w).e)) }
+{
+    let code = code_fits(b, count, icode, row, E_STAT, E_IFUN)?;
+    let registers = registers_fit(b, row)?;
+    let all = b.and(code, registers)?;
+    let cnd = cnd_fits(b, E_IFUN, E_CND)?;
+    let all = b.and(all, cnd)?;
+    let stops = live_only(b, accesses(row.memory), E_KIND, E_STAT, E_STOPS)?;
+    let all = b.and(all, stops)?;
+    let back = live_only(b, is_branch(row.next), E_KIND, E_STAT, E_BACK)?;
+    let g = b.and(all, back)?;
+    Ok(g)
+}
+
+/// The line M of an instruction of this icode.
+#[tactic(auto, using(nets::proofs::Truths::truth_kept, nets::proofs::Truths::begins_more), unfolding(crate::specs::Layout::fields_of, crate::specs::Allowed::memory_fits))]
+pub fn memory_fits(b: &mut NetBuilder, count: u64, icode: u64, row: &Row) -> Result<u64, Memory>
+    requires vars { 107 ≤ b.old.vars }
+    requires top { row.now.ifun_top < 16 }
+    ensures begins { Begins b.old b.new }
+    ensures made { IfOk result (λ g. IsGate b.new g (λ w. spec.memory_fits count icode row.now (fields_of w).m)) }
+{
+    let code = code_fits(b, count, icode, row, M_STAT, M_IFUN)?;
+    let dst_e = destination_fits(b, row, M_CND, M_DST_E)?;
+    let all = b.and(code, dst_e)?;
+    let dst_m = register_fits(b, row.dst_m, M_DST_M)?;
+    let all = b.and(all, dst_m)?;
+    let cnd = cnd_fits(b, M_IFUN, M_CND)?;
+    let all = b.and(all, cnd)?;
+    let error = live_only(b, accesses(row.memory), M_KIND, M_STAT, M_ERROR)?;
+    let all = b.and(all, error)?;
+    let back = live_only(b, is_branch(row.next), M_KIND, M_STAT, M_BACK)?;
+    let g = b.and(all, back)?;
+    Ok(g)
+}
+
+/// The destination of valE in W, which a move whose condition didn't hold has lost.
+fn write_destination(b: &mut NetBuilder, row: &Row) -> Result<u64, Memory>
+    requires vars { 107 ≤ b.old.vars }
+    ensures begins { Begins b.old b.new }
+    ensures made { IfOk result (λ g. IsGate b.new g (λ w.
+        row.now.conditional && spelt w W_DST_E.first W_DST_E.bits == 15 || register_fits row.now.dst_e (spelt w W_DST_E.first W_DST_E.bits))) }
+{
+    let register = register_fits(b, row.dst_e, W_DST_E)?;
+    if !row.conditional {
+        return Ok(register);
+    }
+    let none = spells(b, W_DST_E, 15)?;
+    let g = b.or(none, register)?;
+    Ok(g)
+}
+
+/// The line W of an instruction of this icode.
+#[tactic(auto, using(nets::proofs::Truths::truth_kept, nets::proofs::Truths::begins_more), unfolding(crate::specs::Layout::fields_of, crate::specs::Allowed::write_fits))]
+pub fn write_fits(b: &mut NetBuilder, count: u64, icode: u64, row: &Row) -> Result<u64, Memory>
+    requires vars { 107 ≤ b.old.vars }
+    ensures begins { Begins b.old b.new }
+    ensures made { IfOk result (λ g. IsGate b.new g (λ w. spec.write_fits count icode row.now (fields_of w).w)) }
+{
+    let status = stat_fits(b, count, accesses(row.memory), icode, W_STAT)?;
+    let dst_e = write_destination(b, row)?;
+    let all = b.and(status, dst_e)?;
+    let dst_m = register_fits(b, row.dst_m, W_DST_M)?;
+    let g = b.and(all, dst_m)?;
+    Ok(g)
+}

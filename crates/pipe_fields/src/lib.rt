@@ -1,0 +1,11 @@
+//! The fields of a control valuation of PIPE (CS:APP 3e, section 4.5): their bits, and which lines of numbers are
+//! allowed, as definitions by the instruction table and as gates.
+#![tactic(auto, using(nets::proofs::Truths::truth_kept, nets::proofs::Truths::begins_more))]
+
+mod bubbles;
+mod fits;
+mod lines;
+mod table;
+
+pub use lines::Line;
+pub use table::{BIT_COUNT, place_of, spots};

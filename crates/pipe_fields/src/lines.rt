@@ -1,0 +1,9 @@
+/// One of the five lines of a control valuation: what is fetched, and what each stage holds.
+#[derive(Clone, Copy, Debug, PartialEq, Eq)]
+pub enum Line {
+    F,
+    D,
+    E,
+    M,
+    W,
+}
