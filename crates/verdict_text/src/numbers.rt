@@ -1,6 +1,7 @@
 //! Texts of labels and numbers.
 ghost use Rattle.std.specs.Prelude.{◌≡◌, ◌≤◌, ◌++◌, false, get_or, OnOk};
 ghost use Rattle.field_bits.specs.Spelling.{bit, spelt};
+ghost use Rattle.field_bits.specs.Spelling as spelling;
 ghost use Rattle.hcl_read.specs.Print.{signed_decimal};
 ghost use Rattle.verdict_text.specs.Fields.{labelled};
 ghost use Rattle.verdict_text.specs.Views.{shown};
@@ -59,6 +60,19 @@ pub(crate) fn number(bits: &[bool], first: usize, count: usize) -> u64
 pub(crate) struct Shown {
     pub label: &'static [u8],
     pub number: u64,
+}
+
+/// A label with the number that some bits spell.
+pub(crate) fn spelt(label: &'static [u8], bits: &[bool], first: usize, count: usize) -> Shown
+    requires few { count ≤ 4 }
+    requires near { first ≤ 1000 }
+    ensures label { result.label.now ≡ label.now }
+    ensures number { result.number ≡ spelling.spelt bits.now first count }
+{
+    Shown {
+        label,
+        number: number(bits, first, count),
+    }
 }
 
 /// Puts labels, each with its number.

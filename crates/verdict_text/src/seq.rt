@@ -1,12 +1,11 @@
 //! The text of a No of SEQ.
 ghost use Rattle.std.specs.Prelude.{◌≡◌, ◌≤◌, ◌++◌, IfOk, OnOk, length};
-ghost use Rattle.field_bits.specs.Spelling as spelling;
 ghost use Rattle.hcl_types.specs.Tables.{row_names};
 ghost use Rattle.seq_obligations.specs.Fields.{fields_of};
 ghost use Rattle.verdict_text.specs.SeqLine.{seq_line, seq_no};
 
 use crate::atoms::put_atoms;
-use crate::numbers::{Shown, number, put, put_numbers};
+use crate::numbers::{put, put_numbers, spelt};
 use ctl_atoms::Atom;
 use hcl_types::Row;
 use nets::Valuation;
@@ -15,19 +14,6 @@ use y86_base::{Memory, Numeral};
 
 /// How many bits stand before those of the atoms.
 const FIELD_BITS: usize = 19;
-
-/// A label with the number that some bits spell.
-fn spelt(label: &'static [u8], bits: &[bool], first: usize, count: usize) -> Shown
-    requires few { count ≤ 4 }
-    requires near { first ≤ 1000 }
-    ensures label { result.label.now ≡ label.now }
-    ensures number { result.number ≡ spelling.spelt bits.now first count }
-{
-    Shown {
-        label,
-        number: number(bits, first, count),
-    }
-}
 
 /// Puts the line S of a valuation.
 #[tactic(auto, unfolding(crate::specs::SeqLine::seq_line, seq_obligations::specs::Fields::fields_of))]
