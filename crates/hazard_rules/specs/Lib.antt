@@ -1,0 +1,5 @@
+pub mod Columns
+pub mod Stages
+pub mod Obligations
+pub mod Rules
+pub mod Settled

@@ -1,0 +1,239 @@
+-- The 27 obligations of a file for PIPE, each a truth of a valuation and control values (CS:APP 3e, sections 4.5.5 to 4.5.8).
+-- The arguments of all: the variant, the settings, the fields of the valuation, what stands in its stages, what its words ask of
+-- the registers, the truths of atoms, and the control value of each name.
+use Rattle.std.specs.Prelude.{ℕ, Bool, true, false, not, ◌&&◌, ◌||◌, ◌==◌, Option, Some, None, if◌then◌else◌}
+use Rattle.y86_base.specs.declared.parts.Variant.{Variant}
+use Rattle.y86_base.specs.Stat.{stat_number}
+use Rattle.y86_isa.specs.declared.columns.Next.{Next}
+use Rattle.y86_isa.specs.declared.columns.Next.TheVariants.{Itself, Fall, Branch, Target, Loaded}
+use Rattle.y86_isa.specs.Table.{row, no_register}
+use Rattle.y86_isa.specs.RowTests.{has_operand_a, stores_a, carries_p, carries_a}
+use Rattle.y86_isa.specs.Blocks.{fetch_status, register_number, destination_e, alu_function, is_load, is_store}
+use Rattle.ctl_atoms.specs.declared.leaf.Leaf.{Leaf}
+use Rattle.ctl_atoms.specs.declared.leaf.Leaf.TheVariants.{Name, Number}
+use Rattle.ctl_atoms.specs.Leaves.{Assignment, leaf_holds}
+use Rattle.field_bits.specs.Spelling.{set}
+use Rattle.rule_gates.specs.Words.{takes, takes_some, is_number, is_truth, operand_leaf_a, operand_leaf_b, address_leaf}
+use Rattle.pipe_fields.specs.Layout.{Fields}
+use Rattle.pipe_motion.specs.Slots.{Slot, View, path, youngest_stops, of_youngest, Mover, Movers, leaves}
+use Rattle.pipe_motion.specs.Slots as motion
+use Rattle.pipe_motion.specs.Predictions.{predicts}
+use Rattle.pipe_motion.specs.declared.settings.Settings.{Settings}
+use Rattle.hazard_rules.specs.Stages.{slot_by, stops_by, is_ret, is_jump, misses}
+use Rattle.dp_signals.specs.PipeNames as signal
+
+-- the ten words that stall and bubble, as truths
+abbrev mover_of : Assignment → (ℕ → Leaf) → ℕ → ℕ → Mover
+mover_of α cv stall bubble = record { stall = leaf_holds α (cv stall); bubble = leaf_holds α (cv bubble) }
+
+abbrev pub movers_of : Assignment → (ℕ → Leaf) → Movers
+movers_of α cv = record {
+  f = mover_of α cv signal.F_stall signal.F_bubble;
+  d = mover_of α cv signal.D_stall signal.D_bubble;
+  e = mover_of α cv signal.E_stall signal.E_bubble;
+  m = mover_of α cv signal.M_stall signal.M_bubble;
+  w = mover_of α cv signal.W_stall signal.W_bubble;
+}
+
+-- what is predicted behind an instruction, where the prediction counts: not for halt, ret and an invalid one
+abbrev pub predicted_leaf : Next → Bool → Option Leaf
+predicted_leaf Itself taken = None
+predicted_leaf Fall taken = Some (Name signal.f_valP)
+predicted_leaf Branch taken = Some (if taken then Name signal.f_valC else Name signal.f_valP)
+predicted_leaf Target taken = Some (Name signal.f_valC)
+predicted_leaf Loaded taken = None
+
+-- the number of a code; a leaf that is none counts as 15
+abbrev pub code_of : Leaf → ℕ
+code_of (Number n) = n
+code_of (Name x) = no_register
+
+module _ (v : Variant) (s : Settings) (c : Fields) (y : View) (mv : Movers) (α : Assignment) (cv : ℕ → Leaf) where
+  -- ---- fetch
+
+  -- f_icode and f_ifun are what was read
+  abbrev pub o1 : Bool
+  o1 = is_number cv signal.f_icode c.f.icode && is_number cv signal.f_ifun c.f.ifun
+
+  -- f_stat is the status of what was read
+  abbrev pub o2 : Bool
+  o2 = is_number cv signal.f_stat (stat_number (fetch_status (set c.f.error) c.f.icode))
+
+  -- the register byte and the constant are asked for exactly where the instruction has them
+  abbrev pub o3 : Bool
+  o3 = is_truth α cv signal.need_regids (row v c.f.icode).has_byte
+
+  abbrev pub o4 : Bool
+  o4 = is_truth α cv signal.need_valC (row v c.f.icode).has_const
+
+  -- f_predPC is the PC that is predicted behind the instruction
+  abbrev pub o5 : Bool
+  o5 = set c.f.error || takes_some cv signal.f_predPC (predicted_leaf (row v c.f.icode).next (predicts s c.f.ifun (set c.f.back)))
+
+  -- ---- decode: the registers of the row of D's icode, whatever D's kind
+
+  abbrev pub o6 : Bool
+  o6 = is_number cv signal.d_srcA (register_number (row v c.d.icode).src_a c.d.r_a c.d.r_b)
+
+  abbrev pub o7 : Bool
+  o7 = is_number cv signal.d_srcB (register_number (row v c.d.icode).src_b c.d.r_a c.d.r_b)
+
+  -- that of a conditional move as if its condition held
+  abbrev pub o8 : Bool
+  o8 = is_number cv signal.d_dstE (register_number (row v c.d.icode).dst_e c.d.r_a c.d.r_b)
+
+  abbrev pub o9 : Bool
+  o9 = is_number cv signal.d_dstM (register_number (row v c.d.icode).dst_m c.d.r_a c.d.r_b)
+
+  -- E's destination after the condition
+  abbrev pub late_dst_e : ℕ
+  late_dst_e = destination_e (row v c.e.icode).conditional (set c.e.cnd) c.e.dst_e
+
+  -- Where the value of a source stands: with the youngest older instruction that writes the register, else in the register file.
+  -- (A bubble writes no register.)
+  abbrev pub right_value : ℕ → ℕ → Leaf
+  right_value source rest =
+      if y.e.good && is_number cv source late_dst_e then Name signal.e_valE
+      else (if is_number cv source c.m.dst_m then Name signal.m_valM
+      else (if is_number cv source c.m.dst_e then Name signal.M_valE
+      else (if is_number cv source c.w.dst_m then Name signal.W_valM
+      else (if is_number cv source c.w.dst_e then Name signal.W_valE
+      else Name rest))))
+
+  -- the source is the register that the good instruction in E loads: its value isn't there yet
+  abbrev pub loaded_in_e : ℕ → Bool
+  loaded_in_e source = y.e.good && is_number cv source c.e.dst_m
+
+  -- the word picks the right value of a source, if there is a source; where that isn't there yet, no word is right, or any (free)
+  abbrev pub takes_right : Bool → ℕ → ℕ → ℕ → Bool
+  takes_right free word source rest =
+      is_number cv source no_register || (if loaded_in_e source then free else takes cv word (right_value source rest))
+
+  -- Where a good instruction leaves D: valP goes with jXX and call in the place of valA, and else d_valA is the right value of d_srcA.
+  -- With lf a store needn't wait for the word that it stores.
+  abbrev pub o10 : Bool
+  o10 =
+      not (leaves mv y)
+      || ((not (carries_p (row v c.d.icode)) || takes cv signal.d_valA (Name signal.D_valP))
+      && takes_right (s.lf && stores_a (row v c.d.icode).memory) signal.d_valA signal.d_srcA signal.d_rvalA)
+
+  -- where a good instruction leaves D, d_valB is the right value of d_srcB
+  abbrev pub o11 : Bool
+  o11 = not (leaves mv y) || takes_right false signal.d_valB signal.d_srcB signal.d_rvalB
+
+  -- ---- execute
+
+  -- the good instruction in E goes on
+  abbrev pub works_in_e : Bool
+  works_in_e = y.e.good && c.e.stat == 1
+
+  -- the operands and the function of the ALU, where it is used
+  abbrev pub o12 : Bool
+  o12 = not works_in_e || takes_some cv signal.aluA (operand_leaf_a (row v c.e.icode).alu_a signal.E_valA signal.E_valC)
+
+  abbrev pub o13 : Bool
+  o13 = not works_in_e || takes_some cv signal.aluB (operand_leaf_b (row v c.e.icode).alu_b signal.E_valB)
+
+  abbrev pub o14 : Bool
+  o14 = not (works_in_e && has_operand_a (row v c.e.icode).alu_a) || is_number cv signal.alufun (alu_function (row v c.e.icode).selects c.e.ifun)
+
+  -- the flags are set exactly by a good instruction that goes on and sets them
+  abbrev pub o15 : Bool
+  o15 = is_truth α cv signal.set_cc (works_in_e && (row v c.e.icode).sets_flags)
+
+  -- with lf, a store takes the word that it stores from the load in M
+  abbrev pub taken_late : Bool
+  taken_late = s.lf && (stores_a (row v c.e.icode).memory && (y.m.good && c.m.dst_m == c.e.src_a))
+
+  -- valA goes on to M with the instructions that use it there, and valP in its place with jXX and call
+  abbrev pub o16 : Bool
+  o16 =
+      not (y.e.good && (carries_a (row v c.e.icode) || carries_p (row v c.e.icode)))
+      || takes cv signal.e_valA (if taken_late then Name signal.m_valM else Name signal.E_valA)
+
+  -- of good instructions and bubbles, e_dstE is E's destination after the condition
+  abbrev pub o17 : Bool
+  o17 = y.e.wrong || is_number cv signal.e_dstE late_dst_e
+
+  -- ---- memory
+
+  -- the address of a good instruction that accesses memory
+  abbrev pub o18 : Bool
+  o18 = not y.m.good || takes_some cv signal.mem_addr (address_leaf (row v c.m.icode).memory signal.M_valA signal.M_valE)
+
+  -- a word is read, is written, exactly by a good instruction that reads, that writes
+  abbrev pub o19 : Bool
+  o19 =
+      is_truth α cv signal.mem_read (y.m.good && is_load (row v c.m.icode).memory)
+      && is_truth α cv signal.mem_write (y.m.good && is_store (row v c.m.icode).memory)
+
+  -- m_stat tells the fault, whatever M's kind
+  abbrev pub o20 : Bool
+  o20 = is_number cv signal.m_stat (if set c.m.error then 3 else c.m.stat)
+
+  -- ---- write back
+
+  -- a good instruction writes what W holds
+  abbrev pub o21 : Bool
+  o21 =
+      not y.w.good
+      || (is_number cv signal.w_dstE c.w.dst_e
+      && (is_number cv signal.w_dstM c.w.dst_m
+      && (takes cv signal.w_valE (Name signal.W_valE)
+      && takes cv signal.w_valM (Name signal.W_valM))))
+
+  -- the machine's status is that of the good instruction in W, and 1 without one
+  abbrev pub o22 : Bool
+  o22 = is_number cv signal.Stat (if y.w.good then c.w.stat else 1)
+
+  -- ---- motion
+
+  -- no register is stalled and bubbled; no good instruction is lost or doubled
+  abbrev pub o23 : Bool
+  o23 = motion.o23 mv
+
+  abbrev pub o24 : Bool
+  o24 = motion.o24 mv y
+
+  -- f_pc is where the jump in E goes, the jump or the ret in M, the ret in W
+  abbrev pub right_after_e : Bool
+  right_after_e = is_jump v c.e.stat c.e.icode && takes cv signal.f_pc (if set c.e.cnd then Name signal.E_valC else Name signal.E_valA)
+
+  abbrev pub right_after_m : Bool
+  right_after_m =
+      (is_jump v c.m.stat c.m.icode && (if set c.m.cnd then s.tv && takes cv signal.f_pc (Name signal.M_valE) else takes cv signal.f_pc (Name signal.M_valA)))
+      || (y.m.ret && takes cv signal.f_pc (Name signal.m_valM))
+
+  abbrev pub right_after_w : Bool
+  right_after_w = y.w.ret && takes cv signal.f_pc (Name signal.W_valM)
+
+  -- f_pc is where the youngest good instruction goes, as far as a stage tells it
+  abbrev pub right_pc : Bool
+  right_pc = of_youngest y false right_after_e right_after_m right_after_w
+
+  -- the fetch is that of the next instruction: the youngest good one doesn't stop, and f_pc is where it goes, or the predicted PC on the path
+  abbrev pub fetch_good : Bool
+  fetch_good = not (youngest_stops y) && ((takes cv signal.f_pc (Name signal.F_predPC) && path y) || right_pc)
+
+  -- what D loads of a good fetch
+  abbrev pub fetched : Slot
+  fetched =
+      slot_by 1 (stops_by (code_of (cv signal.f_stat)) c.f.stops) (is_ret v (code_of (cv signal.f_icode)))
+      (misses v s (code_of (cv signal.f_stat)) (code_of (cv signal.f_icode)) (code_of (cv signal.f_ifun)) c.f.taken c.f.back)
+
+  -- the next cycle's view is lawful, has nothing wrong in M and W, and keeps the path
+  abbrev pub o25 : Bool
+  o25 = motion.o25 s.je s.rm mv fetch_good fetched y
+
+  -- behind bubbles the good instruction in D leaves; into an empty pipeline D loads
+  abbrev pub o26 : Bool
+  o26 = motion.o26 mv y
+
+  abbrev pub o27 : Bool
+  o27 = motion.o27 mv y
+
+  -- ---- beside the 27: with tv, a jump carries its target through the ALU
+  abbrev pub carries_target : Bool
+  carries_target =
+      not (y.e.good && is_jump v c.e.stat c.e.icode)
+      || (takes cv signal.aluA (Name signal.E_valC) && (is_number cv signal.aluB 0 && is_number cv signal.alufun 0))

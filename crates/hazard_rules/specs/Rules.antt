@@ -1,0 +1,59 @@
+-- The obligations by their numbers, with their premises.
+use Rattle.std.specs.Prelude.{ℕ, Bool, true, not, ◌&&◌, ◌||◌, ◌==◌, List, if◌then◌else◌}
+use Rattle.y86_base.specs.declared.parts.Variant.{Variant}
+use Rattle.ctl_atoms.specs.declared.leaf.Leaf.{Leaf}
+use Rattle.ctl_atoms.specs.declared.leaf.Atom.{Atom}
+use Rattle.ctl_atoms.specs.Leaves.{Assignment}
+use Rattle.pipe_fields.specs.Layout.{Fields}
+use Rattle.pipe_fields.specs.Allowed.{allowed}
+use Rattle.pipe_motion.specs.Slots.{View, Movers}
+use Rattle.pipe_motion.specs.declared.settings.Settings.{Settings}
+use Rattle.hazard_rules.specs.Stages.{view_of, legal, is_stopping}
+use Rattle.hazard_rules.specs.Obligations.{movers_of, o1, o2, o3, o4, o5, o6, o7, o8, o9, o10, o11, o12, o13, o14, o15, o16, o17, o18, o19, o20, o21, o22, o23, o24, o25, o26, o27}
+
+abbrev pub demand : ℕ → Variant → Settings → Fields → View → Movers → Assignment → (ℕ → Leaf) → Bool
+demand i v s c y mv α cv =
+    if i == 1 then o1 v s c y mv α cv
+    else (if i == 2 then o2 v s c y mv α cv
+    else (if i == 3 then o3 v s c y mv α cv
+    else (if i == 4 then o4 v s c y mv α cv
+    else (if i == 5 then o5 v s c y mv α cv
+    else (if i == 6 then o6 v s c y mv α cv
+    else (if i == 7 then o7 v s c y mv α cv
+    else (if i == 8 then o8 v s c y mv α cv
+    else (if i == 9 then o9 v s c y mv α cv
+    else (if i == 10 then o10 v s c y mv α cv
+    else (if i == 11 then o11 v s c y mv α cv
+    else (if i == 12 then o12 v s c y mv α cv
+    else (if i == 13 then o13 v s c y mv α cv
+    else (if i == 14 then o14 v s c y mv α cv
+    else (if i == 15 then o15 v s c y mv α cv
+    else (if i == 16 then o16 v s c y mv α cv
+    else (if i == 17 then o17 v s c y mv α cv
+    else (if i == 18 then o18 v s c y mv α cv
+    else (if i == 19 then o19 v s c y mv α cv
+    else (if i == 20 then o20 v s c y mv α cv
+    else (if i == 21 then o21 v s c y mv α cv
+    else (if i == 22 then o22 v s c y mv α cv
+    else (if i == 23 then o23 v s c y mv α cv
+    else (if i == 24 then o24 v s c y mv α cv
+    else (if i == 25 then o25 v s c y mv α cv
+    else (if i == 26 then o26 v s c y mv α cv
+    else (if i == 27 then o27 v s c y mv α cv
+    else true))))))))))))))))))))))))))
+
+-- what obligation i asks of a valuation
+unfoldable pub demand_at : Variant → Settings → ℕ → Fields → Assignment → (ℕ → Leaf) → Bool
+demand_at v s i c α cv = demand i v s c (view_of v s c) (movers_of α cv) α cv
+
+-- the flags, memory and the status are asked for in cycles that stop too
+abbrev pub is_always : ℕ → Bool
+is_always i = i == 15 || (i == 19 || i == 22)
+
+-- the valuations of which obligation i is asked
+unfoldable pub is_asked : Variant → Settings → List Atom → ℕ → Fields → Assignment → Bool
+is_asked v s atoms i c α = allowed v c && (legal v s atoms c α && (is_always i || not (is_stopping c)))
+
+-- the obligation: a valuation of which it isn't asked meets it
+abbrev pub obligation : Variant → Settings → List Atom → ℕ → Fields → Assignment → (ℕ → Leaf) → Bool
+obligation v s atoms i c α cv = not (is_asked v s atoms i c α) || demand_at v s i c α cv

@@ -1,0 +1,7 @@
+//! PIPE's legal valuations, what decides the settings of a file, and the 27 obligations: what an HCL file for the
+//! pipeline has to ask (CS:APP 3e, sections 4.5.5 to 4.5.8).
+#![tactic(auto, using(pipe_motion::proofs::Growing::grows_more, pipe_motion::proofs::Growing::grows_self))]
+
+mod columns;
+
+pub use columns::{RowTest, passes};
