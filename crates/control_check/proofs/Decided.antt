@@ -28,9 +28,9 @@ least_of s n gate d w e built h =
 pub one_more : (P : Rule → Type 0) (list : List Rule) (k : ℕ) (rule : Rule) → ((j : ℕ) (r : Rule) → j < k → slice_get list j ≡ Some r → P r) →
     slice_get list k ≡ Some rule → P rule → (j : ℕ) (r : Rule) → j < k + 1 → slice_get list j ≡ Some r → P r
 one_more P list k rule earlier there here j r lt at = elim (cases_eq j k) [
-    | inl e ↦ subst P (same (sym there ∙ (ap (slice_get list) (sym e) ∙ at))) here
-    | inr ne ↦ earlier j r (below ne) at
-    ]
+  | inl e ↦ subst P (same (sym there ∙ (ap (slice_get list) (sym e) ∙ at))) here
+  | inr ne ↦ earlier j r (below ne) at
+]
   where
     below : (j ≡ k → ⊥) → j < k
     below ne = grind (arith, ne, lt)

@@ -57,7 +57,6 @@ rules_apart v terms net list rules ids o =
 
 module _ (v : Variant) (terms : List Term) (net : Gates) (list : List Rule) (rules : AreSeqRules v terms net list) (apart : AreApart rules.atoms)
     (exists : (field : ℕ → ℕ) (α : Assignment) → HasControls seq_rows terms field α) where
-
   abbrev atoms : List Atom
   atoms = rules.atoms
 

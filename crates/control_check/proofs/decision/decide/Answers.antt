@@ -8,12 +8,16 @@ use Rattle.control_check.proofs.decision.decide.Goals as goal
 pub returns-in-Some : goal.returns-in-Some
 returns-in-Some c =
     let there = slice_get-get_or c.args.list.now c.loop-k.k (record { number = 0; gate = 0 }) c.loop-k-test.true in
-    let vars = c.build_on.ensures.stay.vars ∙ c.loop-k.invariant.vars in
-    (c.loop-k.k, _, record {
-      there = there;
-      earlier = c.loop-k.invariant.earlier;
-      least = least_of _ _ _ _ _ vars c.in_ok-diagram.ensures.built (rw c.in-Some.is at c.in_ok-valuation.ensures);
-    }, refl)
+    let vars = c.build_on.ensures.stay.vars ∙ c.loop-k.invariant.vars in (
+      c.loop-k.k,
+      _,
+      record {
+        there = there;
+        earlier = c.loop-k.invariant.earlier;
+        least = least_of _ _ _ _ _ vars c.in_ok-diagram.ensures.built (rw c.in-Some.is at c.in_ok-valuation.ensures);
+      },
+      refl,
+    )
 
 pub loop-k-preserved : goal.loop-k-preserved
 loop-k-preserved c =
