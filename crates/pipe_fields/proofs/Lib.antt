@@ -1,0 +1,2 @@
+pub mod Icodes
+pub mod Told

@@ -6,7 +6,7 @@ ghost use Rattle.pipe_fields.specs.Allowed as spec;
 ghost use Rattle.field_bits.specs.Fits.{cnd_where, only_where, register_fits};
 ghost use Rattle.field_bits.specs.Spelling.{spelt};
 
-use crate::table::{
+use crate::places::{
     D_BACK, D_IFUN, D_KIND, D_R_A, D_R_B, D_STAT, D_STOPS, D_TAKEN, E_BACK, E_CND, E_DST_E, E_DST_M, E_IFUN, E_KIND, E_SRC_A, E_SRC_B, E_STAT, E_STOPS, F_BACK, F_ERROR, F_IFUN, F_STOPS, F_TAKEN, M_BACK, M_CND, M_DST_E, M_DST_M, M_ERROR, M_IFUN, M_KIND, M_STAT, W_DST_E, W_DST_M, W_STAT,
 };
 use field_bits::{

@@ -2,10 +2,16 @@
 //! allowed, as definitions by the instruction table and as gates.
 #![tactic(auto, using(nets::proofs::Truths::truth_kept, nets::proofs::Truths::begins_more))]
 
+
 mod bubbles;
 mod fits;
+mod laws;
 mod lines;
+pub mod places;
 mod table;
+mod valuation;
 
+pub use valuation::{allowed, line_fits};
+pub use laws::{law_of_bubbles, law_of_patterns, law_of_places, law_of_the_start};
 pub use lines::Line;
 pub use table::{BIT_COUNT, place_of, spots};

@@ -1,0 +1,20 @@
+-- The icode of a line that bits spell is below 16; and what holds below a number.
+use Rattle.std.proofs.Common.{◌≡◌, ℕ, ◌+◌, ◌-◌, ◌<◌, ◌&&◌, Bool, List, ◌∙◌, ap, arith}
+use Rattle.field_bits.proofs.Icodes.{each_next}
+use Rattle.field_bits.specs.Icodes.{each_below}
+use Rattle.field_bits.proofs.Patterns.{spelt_lt}
+use Rattle.pipe_fields.specs.Layout.{fields_of}
+use Rattle.pipe_fields.specs.Lines.{icode_in}
+use Rattle.pipe_fields.specs.declared.lines.Line.{Line}
+use Rattle.pipe_fields.specs.declared.lines.Line.TheVariants.{F, D, E, M, W}
+
+pub icode_below : (line : Line) (w : List Bool) → icode_in line (fields_of w) < 16
+unfolding fields_of
+icode_below F w = spelt_lt w 7 4
+icode_below D w = spelt_lt w 21 4
+icode_below E w = spelt_lt w 43 4
+icode_below M w = spelt_lt w 73 4
+icode_below W w = spelt_lt w 95 4
+
+pub each_last : (n : ℕ) (p : ℕ → Bool) → 0 < n → each_below n p ≡ (each_below (n - 1) p && p (n - 1))
+each_last n p lt = let e : n ≡ (n - 1) + 1 = omega arith in ap (λ m. each_below m p) e ∙ each_next (n - 1) p
