@@ -1,6 +1,15 @@
-//! What the obligations of a datapath ask of single signals, by the columns of the instruction table.
-#![tactic(auto)]
+//! What the obligations of a datapath ask of single signals, as gates, by the columns of the instruction table.
+#![tactic(auto, using(nets::proofs::Truths::truth_kept, nets::proofs::Truths::begins_more, ctl_formula::proofs::Inside::inside_more))]
 
+mod asked;
+mod by_row;
+mod columns;
 mod rules;
 
+pub use asked::{Wanted, is_truth, takes, takes_if, takes_some};
+pub use by_row::{ByRow, by_icode};
+pub use columns::{
+    address_leaf, destination_is, function_is, next_leaf, operand_leaf_a, operand_leaf_b,
+    register_is, status_is, word_leaf,
+};
 pub use rules::{Rule, Rules};

@@ -1,0 +1,11 @@
+use Rattle.std.proofs.Common.{◌≡◌, sym, ◌∙◌, subst, List, Bool, length}
+use Rattle.nets.specs.Nets.{truth, Gates, IsGate, Begins}
+use Rattle.ctl_formula.specs.Picks.{some_pick, Within, IsInside, picks_of}
+use Rattle.ctl_formula.specs.declared.controls.Pick.{Pick}
+use Rattle.ctl_atoms.specs.Leaves.{leaf_eq}
+use Rattle.rule_gates.specs.Asked.{wanted}
+use Rattle.rule_gates.proofs.Kept.{asked_picks}
+use Rattle.rule_gates.proofs.asked.takes.Goals as goal
+
+pub returns-clause-asked : goal.returns-clause-asked
+returns-clause-asked c = asked_picks c.args.want c.one_taken.ensures.begins c.requires.inside c.requires.known c.picks.ensures c.in_ok-g.ensures.made
