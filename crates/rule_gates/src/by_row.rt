@@ -33,6 +33,7 @@ pub trait ByRow {
     ) -> Result<u64, Memory>
         requires inside { IsInside b.old ctl.now }
         requires known { knows self.now b.old.vars ctl.now }
+        requires top { row.ifun_top < 16 }
         ensures begins { Begins b.old b.new }
         ensures asked { IfOk result (λ g. IsAsked b.new ctl.now g (asks self.now icode row)) };
 }

@@ -1,13 +1,14 @@
-ghost use Rattle.std.specs.Prelude.{◌≡◌, ◌<◌, ◌≤◌, ◌+◌, false, length, IfOk, IsTrue};
+ghost use Rattle.std.specs.Prelude.{◌≡◌, ◌<◌, ◌≤◌, ◌+◌, false, if◌then◌else◌, length, IfOk, IsTrue};
 ghost use Rattle.nets.specs.Nets.{Begins, truth};
 ghost use Rattle.y86_base.specs.Stat.{stat_number};
 ghost use Rattle.y86_isa.specs.Blocks.{alu_function, destination_e, fetch_status, register_number};
+ghost use Rattle.ctl_atoms.specs.declared.leaf.Leaf.{Leaf};
 ghost use Rattle.ctl_formula.specs.Picks.{IsInside, has_picks};
 ghost use Rattle.field_bits.specs.Spelling.{set, spelt};
 ghost use Rattle.rule_gates.specs.Asked.{IsAsked, register_wanted};
 ghost use Rattle.rule_gates.specs.Words as spec;
 
-use crate::asked::{Wanted, takes, takes_if};
+use crate::asked::{Wanted, takes, takes_if, takes_some};
 use ctl_atoms::Leaf;
 use ctl_formula::Controls;
 use field_bits::{Place, spells};
@@ -63,25 +64,6 @@ pub fn word_leaf(column: Access, val_a: NameId, val_p: NameId) -> Option<Leaf>
         Access::StoreP => Some(Leaf::Name(val_p)),
         Access::LoadE => None,
         Access::LoadA => None,
-    }
-}
-
-/// The leaf of the next PC, if one follows, from the signals valP, valC and valM, with the condition given.
-pub fn next_leaf(
-    column: Next,
-    val_p: NameId,
-    val_c: NameId,
-    val_m: NameId,
-    cnd: bool,
-) -> Option<Leaf>
-    ensures { result ≡ spec.next_leaf column val_p val_c val_m cnd }
-{
-    match column {
-        Next::Itself => None,
-        Next::Fall => Some(Leaf::Name(val_p)),
-        Next::Branch => Some(Leaf::Name(if cnd { val_c } else { val_p })),
-        Next::Target => Some(Leaf::Name(val_c)),
-        Next::Loaded => Some(Leaf::Name(val_m)),
     }
 }
 
@@ -212,6 +194,60 @@ pub fn status_is(
         error,
         Wanted::This(Leaf::Number(3)),
         Wanted::This(Leaf::Number(status_of(icode))),
+    )?;
+    Ok(g)
+}
+
+/// The signal picks the next PC of a column, if one follows, from the signals valP, valC and valM, where a bit tells whether
+/// the condition holds.
+pub fn next_is(
+    b: &mut NetBuilder,
+    ctl: &Controls,
+    name: NameId,
+    column: Next,
+    val_p: NameId,
+    val_c: NameId,
+    val_m: NameId,
+    cnd: Place,
+) -> Result<u64, Memory>
+    requires inside { IsInside b.old ctl.now }
+    requires known { IsTrue (has_picks ctl.now name) }
+    requires place { cnd.first + cnd.bits ≤ b.old.vars }
+    ensures begins { Begins b.old b.new }
+    ensures asked { IfOk result (λ g. IsAsked b.new ctl.now g (λ w α cv. spec.takes_some cv name (spec.next_leaf column val_p val_c val_m (set (spelt w cnd.first cnd.bits))))) }
+{
+    match column {
+        Next::Itself => takes_some(b, ctl, name, None),
+        Next::Fall => takes_some(b, ctl, name, Some(Leaf::Name(val_p))),
+        Next::Branch => jump_is(b, ctl, name, val_p, val_c, cnd),
+        Next::Target => takes_some(b, ctl, name, Some(Leaf::Name(val_c))),
+        Next::Loaded => takes_some(b, ctl, name, Some(Leaf::Name(val_m))),
+    }
+}
+
+/// The signal picks valC where a bit is 1, valP where it is 0.
+fn jump_is(
+    b: &mut NetBuilder,
+    ctl: &Controls,
+    name: NameId,
+    val_p: NameId,
+    val_c: NameId,
+    cnd: Place,
+) -> Result<u64, Memory>
+    requires inside { IsInside b.old ctl.now }
+    requires known { IsTrue (has_picks ctl.now name) }
+    requires place { cnd.first + cnd.bits ≤ b.old.vars }
+    ensures begins { Begins b.old b.new }
+    ensures asked { IfOk result (λ g. IsAsked b.new ctl.now g (λ w α cv. spec.takes cv name (if set (spelt w cnd.first cnd.bits) then Leaf.Name val_c else Leaf.Name val_p))) }
+{
+    let fails = spells(b, cnd, 0)?;
+    let g = takes_if(
+        b,
+        ctl,
+        name,
+        fails,
+        Wanted::This(Leaf::Name(val_p)),
+        Wanted::This(Leaf::Name(val_c)),
     )?;
     Ok(g)
 }

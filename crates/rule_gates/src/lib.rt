@@ -9,7 +9,7 @@ mod rules;
 pub use asked::{Wanted, is_truth, takes, takes_if, takes_some};
 pub use by_row::{ByRow, by_icode};
 pub use columns::{
-    address_leaf, destination_is, function_is, next_leaf, operand_leaf_a, operand_leaf_b,
+    address_leaf, destination_is, function_is, next_is, operand_leaf_a, operand_leaf_b,
     register_is, status_is, word_leaf,
 };
 pub use rules::{Rule, Rules};

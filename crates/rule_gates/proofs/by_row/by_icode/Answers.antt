@@ -34,5 +34,5 @@ pub returns-clause-asked : goal.returns-clause-asked
 returns-clause-asked g c =
     let e : c.loop-code.code ≡ 16 = omega arith in
     asked_as c.loop-code.invariant.are
-      (λ w α cv. ap (λ n. where_below n (spelt w c.args.icode.first c.args.icode.bits) (λ k. g.R.ByRow.asks c.args.rule.now k (row c.args.v k) w α cv)) e
-        ∙ where_is 16 (spelt w c.args.icode.first c.args.icode.bits) (λ k. g.R.ByRow.asks c.args.rule.now k (row c.args.v k) w α cv) (spelt_code w c.args.icode.first c.args.icode.bits c.requires.bits))
+    (λ w α cv. ap (λ n. where_below n (spelt w c.args.icode.first c.args.icode.bits) (λ k. g.R.ByRow.asks c.args.rule.now k (row c.args.v k) w α cv)) e
+    ∙ where_is 16 (spelt w c.args.icode.first c.args.icode.bits) (λ k. g.R.ByRow.asks c.args.rule.now k (row c.args.v k) w α cv) (spelt_code w c.args.icode.first c.args.icode.bits c.requires.bits))
