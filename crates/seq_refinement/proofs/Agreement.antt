@@ -1,8 +1,8 @@
 -- In a cycle of a design that asks what the obligations ask, each control value is worth its signal: by induction along an order.
-use Rattle.std.proofs.Common.{◌≡◌, ℕ, zero, suc, ◌+◌, ◌-◌, ◌<◌, ◌≤◌, inl, inr, Bool, true, false, not, ◌&&◌, ◌||◌, ◌==◌, nat_lt, cond, List, [], ◌∷◌, length, take, get_or, slice_get, refl, sym, ap, ◌∙◌, subst, arith}
-use Rattle.std.proofs.lemmas.Bool.{and_parts, cases_eq, cases_lt, eqb-true, lt-ltb, le-ltb}
+use Rattle.std.proofs.Common.{◌≡◌, ℕ, zero, suc, ◌+◌, ◌-◌, ◌<◌, ◌≤◌, inl, inr, Bool, true, false, not, ◌&&◌, ◌==◌, cond, List, [], ◌∷◌, length, take, get_or, slice_get, Option, Some, None, refl, sym, ap, ◌∙◌, subst, arith}
+use Rattle.std.proofs.lemmas.Bool.{and_parts, cases_eq, cases_lt, eqb-true, lt-ltb}
 use Rattle.std.proofs.lemmas.List.{get_or_append_left}
-use Rattle.std.proofs.lemmas.Option.{slice_get_past, slice_get-get_or}
+use Rattle.std.proofs.lemmas.Option.{slice_get_past, slice_get-get_or, slice_get_within}
 use Rattle.y86_base.specs.declared.parts.Variant.{Variant}
 use Rattle.y86_isa.specs.Blocks.{field_a, field_b, condition, data_error, is_load, is_store}
 use Rattle.y86_isa.specs.RowTests.{accesses}
@@ -10,13 +10,15 @@ use Rattle.y86_isa.specs.Table.{row}
 use Rattle.y86_isa.specs.declared.columns.Access.{Access}
 use Rattle.y86_isa.specs.declared.columns.Access.TheVariants.{NoMem, StoreA, StoreP, LoadE, LoadA}
 use Rattle.y86_isa.specs.declared.machine.Machine.{Machine}
-use Rattle.hcl_types.specs.Equations.{is_known, needs_of}
 use Rattle.hcl_types.specs.Lists.{Each}
-use Rattle.hcl_types.specs.Tables.{defined, known, needs, term_at, IsBound, IsOrderOf}
-use Rattle.hcl_types.specs.Terms.{names, value, words}
+use Rattle.hcl_types.specs.Tables.{defined, inputs, is_defined, term_at, IsBound, IsOrderOf}
+use Rattle.hcl_types.specs.Terms.{value, words}
+use Rattle.hcl_types.specs.declared.table.Class.{Class}
+use Rattle.hcl_types.specs.declared.table.Role.{Role}
+use Rattle.hcl_types.specs.declared.table.Role.TheVariants as role
+use Rattle.hcl_types.specs.declared.table.Row.{Row}
 use Rattle.hcl_types.specs.declared.term.Term.{Term}
 use Rattle.hcl_types.specs.declared.term.Term.TheVariants.{Num}
-use Rattle.hcl_types.proofs.Orders.{along}
 use Rattle.dp_signals.specs.Equations.{rule_of, term_value}
 use Rattle.dp_signals.specs.PipeEquations.{constants}
 use Rattle.dp_signals.specs.SeqEquations.{SeqSolves, seq_block, seq_given}
@@ -31,12 +33,12 @@ use Rattle.ctl_atoms.specs.Leaves.{picks}
 use Rattle.ctl_atoms.specs.declared.leaf.Leaf.{Leaf}
 use Rattle.ctl_atoms.specs.declared.leaf.Leaf.TheVariants.{Name, Number}
 use Rattle.ctl_atoms.specs.Rows.{row_term}
-use Rattle.ctl_formula.specs.Controls.{AreControls, control_rule, row_leaf}
+use Rattle.ctl_formula.specs.Controls.{AreControls, control_rule, role_leaf, row_leaf}
+use Rattle.ctl_formula.specs.Laws.{IsDefinedBy, IsWorthGiven, real, worth}
+use Rattle.ctl_formula.proofs.Solved.{agreement}
 use Rattle.seq_obligations.specs.Fields.{number_of}
 use Rattle.seq_obligations.specs.Obligations.{demand, demand_at}
-use Rattle.seq_refinement.specs.Cycle.{Agrees, fields_at, real, worth}
-use Rattle.seq_refinement.proofs.Reals.{term_agrees}
-use Rattle.seq_refinement.proofs.TableRows.{constant_row, defined_at, leaf_constant, leaf_defined, needs_at}
+use Rattle.seq_refinement.specs.Cycle.{Agrees, fields_at}
 use Rattle.seq_refinement.proofs.Reflected.{Ties, first, number_is, second, truth_is}
 
 -- ---- tests of each number below one
@@ -56,18 +58,55 @@ number_tests (suc n) p h k lt = elim (cases_eq k n) [
     below : (k ≡ n → ⊥) → k < n
     below ne = grind (arith, ne, lt)
 
+-- ---- what stands at a row
+
+inputs_of : Option Row → List ℕ
+inputs_of None = []
+inputs_of (Some r) = inputs r.role
+
+defines : Option Row → Bool
+defines None = false
+defines (Some r) = is_defined r.role
+
+constant_role : Role → ℕ → Bool
+constant_role (role.Constant k) x = k == x
+constant_role role.State x = false
+constant_role (role.Hardware ids) x = false
+constant_role role.Defined x = false
+
+constant_row : Option Row → ℕ → Bool
+constant_row None x = false
+constant_row (Some r) x = constant_role r.role x
+
+role_constant : (field : ℕ → ℕ) (i : ℕ) (c : Class) (r : Role) (x : ℕ) (told : Leaf) → constant_role r x ≡ true → role_leaf field i c r told ≡ Number x
+unfolding constant_role
+role_constant field i c (role.Constant k) x told h = ap Number (eqb-true k x h)
+role_constant field i c role.State x told h = cc
+role_constant field i c (role.Hardware ids) x told h = cc
+role_constant field i c role.Defined x told h = cc
+
+leaf_constant : (field : ℕ → ℕ) (i : ℕ) (o : Option Row) (x : ℕ) (told : Leaf) → constant_row o x ≡ true → row_leaf field i o told ≡ Number x
+unfolding constant_row
+leaf_constant field i None x told h = cc
+leaf_constant field i (Some r) x told h = role_constant field i r.class r.role x told h
+
+row_there : {A : Type 0} (xs : List A) (n : ℕ) → n < length xs → slice_get xs n ≡ None → ⊥
+row_there [] n lt e = absurd (omega (arith, lt))
+row_there (x ∷ xs) zero lt e = cc
+row_there (x ∷ xs) (suc n) lt e = row_there xs n (omega (arith, lt)) e
+
 -- ---- SEQ's table
 
 constants_there : each_number 33 (λ n. constant_row (slice_get seq_rows n) (get_or constants n 0)) ≡ true
-unfolding seq_rows constant_rows seq_state seq_hardware seq_defined constants each_number
+unfolding seq_rows constant_rows seq_state seq_hardware seq_defined constants each_number constant_row constant_role
 constants_there = refl
 
-rest_unknown : each_number 66 (λ n. nat_lt n 34 || not (is_known (known seq_rows) n)) ≡ true
-unfolding seq_rows constant_rows seq_state seq_hardware seq_defined each_number
-rest_unknown = refl
+none_before : each_number 47 (λ n. not (defines (slice_get seq_rows n))) ≡ true
+unfolding seq_rows constant_rows seq_state seq_hardware seq_defined each_number defines
+none_before = refl
 
-definitions_there : each_number 19 (λ k. defined_at seq_rows (47 + k) && length (defined (take (47 + k) seq_rows)) == k) ≡ true
-unfolding seq_rows constant_rows seq_state seq_hardware seq_defined each_number
+definitions_there : each_number 19 (λ k. defines (slice_get seq_rows (47 + k)) && length (defined (take (47 + k) seq_rows)) == k) ≡ true
+unfolding seq_rows constant_rows seq_state seq_hardware seq_defined each_number defines
 definitions_there = refl
 
 nineteen : length (defined seq_rows) ≡ 19
@@ -78,10 +117,8 @@ thirty_three : length constants ≡ 33
 unfolding constants
 thirty_three = refl
 
-is_unknown : (a b : Bool) → (a || not b) ≡ true → a ≡ false → b ≡ true → ⊥
-is_unknown true b h e k = cc
-is_unknown false true h e k = cc
-is_unknown false false h e k = cc
+clash : {P : Type 0} (b : Bool) → b ≡ true → b ≡ false → P
+clash b t f = grind (arith, t, f)
 
 -- what holds of a number where it is the first, and else of a later one, holds of it
 by_number : (P : ℕ → Type 0) (n first : ℕ) → first ≤ n → P first → (first + 1 ≤ n → P n) → P n
@@ -139,58 +176,58 @@ module _ (v : Variant) (terms : List Term) (m : Machine) (f : ℕ → ℕ) (cv :
   -- ---- the hardware
 
   Step : ℕ → Type 0
-  Step n = Each (Agrees f cv) (needs_of (needs seq_rows terms) n) → Agrees f cv n
+  Step n = Each (Agrees f cv) (inputs_of (slice_get seq_rows n)) → Agrees f cv n
 
   at_icode : Step name.imem_icode
-  unfolding Step control_rule seq_rows constant_rows seq_state seq_hardware seq_defined
+  unfolding Step inputs_of control_rule seq_rows constant_rows seq_state seq_hardware seq_defined
   at_icode _ = ap (worth f) (h name.imem_icode)
 
   at_ifun : Step name.imem_ifun
-  unfolding Step control_rule seq_rows constant_rows seq_state seq_hardware seq_defined
+  unfolding Step inputs_of control_rule seq_rows constant_rows seq_state seq_hardware seq_defined
   at_ifun _ = ap (worth f) (h name.imem_ifun)
 
   at_error : Step name.imem_error
-  unfolding Step control_rule seq_rows constant_rows seq_state seq_hardware seq_defined
+  unfolding Step inputs_of control_rule seq_rows constant_rows seq_state seq_hardware seq_defined
   at_error _ = ap (worth f) (h name.imem_error)
 
   at_ra : Step name.rA
-  unfolding Step control_rule seq_rows constant_rows seq_state seq_hardware seq_defined
+  unfolding Step inputs_of control_rule seq_rows constant_rows seq_state seq_hardware seq_defined
   at_ra a = ap (worth f) (h name.rA) ∙ sym (hw.rA ∙ ap (λ b. field_a m.mem m.pc b) (truth_is f cv name.need_regids _ (ask 2 (omega arith) (omega arith)) a.0))
 
   at_rb : Step name.rB
-  unfolding Step control_rule seq_rows constant_rows seq_state seq_hardware seq_defined
+  unfolding Step inputs_of control_rule seq_rows constant_rows seq_state seq_hardware seq_defined
   at_rb a = ap (worth f) (h name.rB) ∙ sym (hw.rB ∙ ap (λ b. field_b m.mem m.pc b) (truth_is f cv name.need_regids _ (ask 2 (omega arith) (omega arith)) a.0))
 
   at_valC : Step name.valC
-  unfolding Step control_rule seq_rows constant_rows seq_state seq_hardware seq_defined
+  unfolding Step inputs_of control_rule seq_rows constant_rows seq_state seq_hardware seq_defined
   at_valC _ = ap (worth f) (h name.valC)
 
   at_valP : Step name.valP
-  unfolding Step control_rule seq_rows constant_rows seq_state seq_hardware seq_defined
+  unfolding Step inputs_of control_rule seq_rows constant_rows seq_state seq_hardware seq_defined
   at_valP _ = ap (worth f) (h name.valP)
 
   at_valA : Step name.valA
-  unfolding Step control_rule seq_rows constant_rows seq_state seq_hardware seq_defined
+  unfolding Step inputs_of control_rule seq_rows constant_rows seq_state seq_hardware seq_defined
   at_valA _ = ap (worth f) (h name.valA)
 
   at_valB : Step name.valB
-  unfolding Step control_rule seq_rows constant_rows seq_state seq_hardware seq_defined
+  unfolding Step inputs_of control_rule seq_rows constant_rows seq_state seq_hardware seq_defined
   at_valB _ = ap (worth f) (h name.valB)
 
   at_valE : Step name.valE
-  unfolding Step control_rule seq_rows constant_rows seq_state seq_hardware seq_defined
+  unfolding Step inputs_of control_rule seq_rows constant_rows seq_state seq_hardware seq_defined
   at_valE _ = ap (worth f) (h name.valE)
 
   at_cnd : Step name.Cnd
-  unfolding Step control_rule seq_rows constant_rows seq_state seq_hardware seq_defined
+  unfolding Step inputs_of control_rule seq_rows constant_rows seq_state seq_hardware seq_defined
   at_cnd a = ap (worth f) (h name.Cnd) ∙ sym (hw.Cnd ∙ ap (λ n. bit (condition n m.flags)) (number_is f cv name.ifun _ (second _ _ (ask 1 (omega arith) (omega arith))) a.0))
 
   at_valM : Step name.valM
-  unfolding Step control_rule seq_rows constant_rows seq_state seq_hardware seq_defined
+  unfolding Step inputs_of control_rule seq_rows constant_rows seq_state seq_hardware seq_defined
   at_valM _ = ap (worth f) (h name.valM)
 
   at_derror : Step name.dmem_error
-  unfolding Step control_rule seq_rows constant_rows seq_state seq_hardware seq_defined
+  unfolding Step inputs_of control_rule seq_rows constant_rows seq_state seq_hardware seq_defined
   at_derror a =
       let reads = truth_is f cv name.mem_read _ (first _ _ (ask 13 (omega arith) (omega arith))) a.1.0 in
       let writes = truth_is f cv name.mem_write _ (second _ _ (ask 13 (omega arith) (omega arith))) a.1.1.0 in
@@ -226,56 +263,66 @@ module _ (v : Variant) (terms : List Term) (m : Machine) (f : ℕ → ℕ) (cv :
       ∙ (definition_rule (seq_given m) name.icode (seq_block v m) terms (47 + k) f (omega (arith, length-seq_given m)) (omega arith)
       ∙ (rw (index, slice_get-get_or terms k (Num 0) (omega (arith, lt, total))) refl))
 
-  defined_agrees : (k : ℕ) → k < 19 → Each (Agrees f cv) (needs_of (needs seq_rows terms) (47 + k)) → Agrees f cv (47 + k)
-  unfolding control_rule
-  defined_agrees k lt a =
-      let test = number_tests 19 (λ i. defined_at seq_rows (47 + i) && length (defined (take (47 + i) seq_rows)) == i) definitions_there k lt in
-      let there = (and_parts _ _ test).0 in
-      let index : length (defined (take (47 + k) seq_rows)) ≡ k = eqb-true _ _ (and_parts _ _ test).1 in
-      let need = subst (Each (Agrees f cv)) (needs_at 0 seq_rows terms (47 + k) there) a in
-      let place : 0 + length (defined (take (47 + k) seq_rows)) ≡ k = omega (arith, index) in
-      let at_term = subst (λ i. Each (Agrees f cv) (names (term_at terms i))) place need in
-      ap (worth f) (h (47 + k) ∙ (leaf_defined (number_of (fields_at v m f)) (47 + k) seq_rows (47 + k) (value (picks (real f)) cv (row_term seq_rows terms (47 + k))) there ∙ ap (λ i. value (picks (real f)) cv (term_at terms i)) index))
-      ∙ (term_agrees f cv (term_at terms k) at_term ∙ sym (defined_word k lt))
-
-  past_agrees : (n : ℕ) → 66 ≤ n → Agrees f cv n
-  unfolding control_rule
-  past_agrees n le =
-      let none = slice_get_past seq_rows n (omega (arith, le, length-seq_rows)) in
-      let leaf : cv n ≡ Number 0 = h n ∙ ap (λ o. row_leaf (number_of (fields_at v m f)) n o (value (picks (real f)) cv (row_term seq_rows terms n))) none in
-      let word : f n ≡ 0
-      = s n
-      ∙ (definition_rule (seq_given m) name.icode (seq_block v m) terms n f (omega (arith, le, length-seq_given m)) (omega (arith, le))
-      ∙ ap (λ o. term_value o f) (slice_get_past terms (n - 47) (omega (arith, le, total)))) in
-      ap (worth f) leaf ∙ sym word
-
-  -- ---- all
-
-  at_known : (n : ℕ) → is_known (known seq_rows) n ≡ true → Agrees f cv n
-  at_known n k = elim (cases_lt n 34) [
-    | inl lt ↦ given_agrees n lt
-    | inr le ↦ elim (cases_lt n 66) [
-      | inl lt ↦ absurd (is_unknown _ _ (number_tests 66 (λ i. nat_lt i 34 || not (is_known (known seq_rows) i)) rest_unknown n lt) (le-ltb n 34 le) k)
-      | inr past ↦ past_agrees n past
-    ]
+  -- a row that is defined is one of the last 19
+  defined_place : (n : ℕ) (r : Row) → slice_get seq_rows n ≡ Some r → is_defined r.role ≡ true → 47 ≤ n
+  unfolding defines
+  defined_place n r e d = elim (cases_lt n 47) [
+    | inl lt ↦ clash (is_defined r.role) d (not_so _ (ap (λ o. not (defines o)) (sym e) ∙ number_tests 47 (λ i. not (defines (slice_get seq_rows i))) none_before n lt))
+    | inr le ↦ le
   ]
+    where
+      not_so : (b : Bool) → not b ≡ true → b ≡ false
+      not_so true h = cc
+      not_so false h = refl
 
-  at_unknown : (n : ℕ) → is_known (known seq_rows) n ≡ false → Each (Agrees f cv) (needs_of (needs seq_rows terms) n) → Agrees f cv n
-  unfolding Step
-  at_unknown n u a = elim (cases_lt n 34) [
+  inside : (n : ℕ) (r : Row) → slice_get seq_rows n ≡ Some r → n < 66
+  inside n r e = omega (arith, slice_get_within seq_rows n r e, length-seq_rows)
+
+  the_test : (k : ℕ) → k < 19 → (defines (slice_get seq_rows (47 + k)) ≡ true) × (length (defined (take (47 + k) seq_rows)) ≡ k)
+  the_test k lt =
+      let test = and_parts _ _ (number_tests 19 (λ i. defines (slice_get seq_rows (47 + i)) && length (defined (take (47 + i) seq_rows)) == i) definitions_there k lt) in
+      (test.0, eqb-true _ _ test.1)
+
+  defined_by : IsDefinedBy seq_rows terms f
+  defined_by =
+      record {
+        defined = λ n r e d. value_at n (defined_place n r e d) (inside n r e);
+        past = λ n e. (elim (cases_lt n 66) [ inl lt ↦ absurd (row_there seq_rows n (omega (arith, lt, length-seq_rows)) e) | inr le ↦ past_word n le ]);
+      }
+    where
+      value_at : (n : ℕ) → 47 ≤ n → n < 66 → f n ≡ value words f (row_term seq_rows terms n)
+      value_at n le lt =
+          let e : 47 + (n - 47) ≡ n = omega (arith, le) in
+          let small : n - 47 < 19 = omega (arith, le, lt) in
+          subst (λ i. f i ≡ value words f (row_term seq_rows terms i)) e
+          (defined_word (n - 47) small ∙ ap (λ i. value words f (term_at terms i)) (sym (the_test (n - 47) small).1))
+
+      past_word : (n : ℕ) → 66 ≤ n → f n ≡ 0
+      past_word n le =
+          s n
+          ∙ (definition_rule (seq_given m) name.icode (seq_block v m) terms n f (omega (arith, le, length-seq_given m)) (omega (arith, le))
+          ∙ ap (λ o. term_value o f) (slice_get_past terms (n - 47) (omega (arith, le, total))))
+
+  worth_given : IsWorthGiven seq_rows f cv
+  unfolding Step inputs_of defines
+  worth_given n r e u a = elim (cases_lt n 34) [
     | inl lt ↦ given_agrees n lt
     | inr le ↦ elim (cases_lt n 47) [
-      | inl lt ↦ hardware_agrees n le lt a
-      | inr above ↦ elim (cases_lt n 66) [
-        | inl lt ↦ (let e : 47 + (n - 47) ≡ n = omega (arith, above) in
-            subst (Agrees f cv) e (defined_agrees (n - 47) (omega (arith, lt, above)) (subst (λ i. Each (Agrees f cv) (needs_of (needs seq_rows terms) i)) (sym e) a)))
-        | inr past ↦ past_agrees n past
-      ]
+      | inl lt ↦ hardware_agrees n le lt (inputs_there n r e a)
+      | inr above ↦ clash (is_defined r.role) (is_so n r e above (inside n r e)) u
     ]
   ]
+    where
+      inputs_there : (n : ℕ) (r : Row) → slice_get seq_rows n ≡ Some r → Each (Agrees f cv) (inputs r.role) → Each (Agrees f cv) (inputs_of (slice_get seq_rows n))
+      inputs_there n r e a = subst (λ o. Each (Agrees f cv) (inputs_of o)) (sym e) a
+
+      is_so : (n : ℕ) (r : Row) → slice_get seq_rows n ≡ Some r → 47 ≤ n → n < 66 → is_defined r.role ≡ true
+      is_so n r e le lt =
+          let same : 47 + (n - 47) ≡ n = omega (arith, le) in
+          sym (ap defines (ap (slice_get seq_rows) same ∙ e)) ∙ (the_test (n - 47) (omega (arith, le, lt))).0
 
   pub all_agree : (ids : List ℕ) → IsOrderOf seq_rows terms ids → (n : ℕ) → Agrees f cv n
-  all_agree ids o = along (needs seq_rows terms) (known seq_rows) (Agrees f cv) at_known at_unknown ids o
+  all_agree ids o = agreement seq_rows terms ids (number_of (fields_at v m f)) f cv o h defined_by worth_given
 
   -- ---- the line of the cycle, by its signals
 

@@ -19,15 +19,15 @@ use Rattle.y86_isa.specs.declared.machine.Machine.{Machine}
 use Rattle.nets.specs.Nets.{agree}
 use Rattle.dp_signals.specs.SeqNames as name
 use Rattle.dp_signals.specs.Values.{set}
-use Rattle.ctl_atoms.specs.Leaves.{leaf_eq}
+use Rattle.ctl_atoms.specs.Leaves.{leaf_eq, leaf_holds}
 use Rattle.ctl_atoms.specs.declared.leaf.Leaf.{Leaf}
 use Rattle.ctl_atoms.specs.declared.leaf.Leaf.TheVariants.{Name, Number}
 use Rattle.rule_gates.specs.Words.{takes, takes_some, is_number, is_truth, operand_leaf_a, operand_leaf_b, address_leaf, word_leaf, next_leaf}
 use Rattle.seq_obligations.specs.Fields.{Fields}
 use Rattle.seq_obligations.specs.Obligations.{demand, demand_at}
-use Rattle.seq_refinement.specs.Cycle.{Agrees, real, worth}
+use Rattle.ctl_formula.specs.Laws.{real, worth}
+use Rattle.seq_refinement.specs.Cycle.{Agrees}
 use Rattle.seq_refinement.specs.Facts.{FollowsControl}
-use Rattle.seq_refinement.proofs.Reals.{holds_is}
 
 -- ---- one signal
 
@@ -42,6 +42,10 @@ number_is f cv n k h a = sym a ∙ leaf-true f (cv n) (Number k) h
 
 pub pick_is : (f : ℕ → ℕ) (cv : ℕ → Leaf) (n : ℕ) (l : Leaf) → takes cv n l ≡ true → Agrees f cv n → f n ≡ worth f l
 pick_is f cv n l h a = sym a ∙ leaf-true f (cv n) l h
+
+holds_is : (f : ℕ → ℕ) (l : Leaf) → leaf_holds (real f) l ≡ set (worth f l)
+holds_is f (Name n) = refl
+holds_is f (Number n) = refl
 
 agree-true : (a b : Bool) → agree a b ≡ true → b ≡ a
 agree-true true true h = refl
