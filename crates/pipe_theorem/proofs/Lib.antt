@@ -1,0 +1,9 @@
+pub mod RealCycle
+pub mod Real
+pub mod Circle
+pub mod Agreeing
+pub mod Reflect
+pub mod Motion
+pub mod Fits
+pub mod Ranges
+pub mod Top

@@ -1,0 +1,32 @@
+-- The refinement theorem: a file for PIPE whose obligations hold computes what the instructions compute.
+use Rattle.std.specs.Prelude.{ℕ, List}
+use Rattle.y86_base.specs.declared.parts.Variant.{Variant}
+use Rattle.y86_isa.specs.Run.{IsImage, Pure}
+use Rattle.hcl_types.specs.declared.term.Term.{Term}
+use Rattle.hcl_types.specs.Tables.{IsBound, IsOrderOf}
+use Rattle.dp_signals.specs.PipeTable.{pipe_rows}
+use Rattle.ctl_atoms.specs.declared.leaf.Atom.{Atom}
+use Rattle.ctl_atoms.specs.declared.leaf.Leaf.{Leaf}
+use Rattle.ctl_atoms.specs.Leaves.{Assignment}
+use Rattle.ctl_formula.specs.Controls.{AreControls}
+use Rattle.pipe_fields.specs.Layout.{Fields, number_of}
+use Rattle.pipe_motion.specs.declared.settings.Settings.{Settings}
+use Rattle.hazard_rules.specs.Settled.{Holds}
+use Rattle.pipe_refinement.specs.Refines.{Refines}
+
+-- the control values of a design for PIPE, at the fields of a valuation and truths of comparisons
+abbrev pub PipeControls : List Term → Fields → Assignment → (ℕ → Leaf) → Type 0
+PipeControls terms c α cv = AreControls pipe_rows terms (number_of c) α cv
+
+-- every obligation holds of the design at the settings, in every valuation in which its control values solve their equations; and
+-- a jump carries its target where the settings say so
+abbrev pub MeetsObligations : Variant → List Term → List Atom → Settings → Type 0
+MeetsObligations v terms atoms s = Holds v atoms (PipeControls terms) s
+
+-- For every instruction set, design, settings, image and number of cycles: a design that is bound, has an order and meets the
+-- obligations refines the run of instructions, where none of the first instructions fetches a byte that an earlier one stored.
+abbrev pub ObligationsRefine : Type 0
+ObligationsRefine =
+    (v : Variant) (terms : List Term) (ids : List ℕ) (atoms : List Atom) (s : Settings) (image : List ℕ) (k : ℕ) →
+    IsBound pipe_rows terms → IsOrderOf pipe_rows terms ids → MeetsObligations v terms atoms s →
+    IsImage image → Pure v image k → Refines v terms image k

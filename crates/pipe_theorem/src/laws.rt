@@ -1,0 +1,9 @@
+//! The theorem. It is a function that does nothing and whose contract is the theorem.
+ghost use Rattle.pipe_theorem.specs.Theorem.{ObligationsRefine};
+
+/// Where the 27 obligations hold of an HCL file for PIPE at some settings, its pipelined machine refines the run of instructions on
+/// every image whose instructions fetch nothing that was stored before: the same records, and at a stop the same machine, with an
+/// instruction at least every five cycles.
+pub fn law_of_pipelined_refinement()
+    ensures { ObligationsRefine }
+{}
