@@ -1,5 +1,5 @@
 -- In a real cycle each control value is worth the value of its name.
-use Rattle.std.proofs.Common.{◌≡◌, ℕ, zero, suc, ◌+◌, ◌-◌, ◌<◌, ◌≤◌, inl, inr, Bool, true, false, not, ◌&&◌, ◌||◌, ◌==◌, nat_le, List, [], ◌∷◌, length, take, get_or, slice_get, Option, Some, None, refl, sym, ap, ◌∙◌, subst, arith}
+use Rattle.std.proofs.Common.{◌≡◌, ℕ, zero, suc, ◌+◌, ◌-◌, ◌<◌, ◌≤◌, inl, inr, Bool, true, false, not, ◌&&◌, ◌||◌, ◌==◌, nat_le, List, [], ◌∷◌, length, take, slice_get, Option, Some, None, refl, sym, ap, ◌∙◌, subst, arith}
 use Rattle.std.proofs.lemmas.Bool.{and_parts, cases_eq, cases_lt, eqb-true, leb-true}
 use Rattle.std.proofs.lemmas.Option.{slice_get_past, slice_get-get_or}
 use Rattle.y86_base.specs.declared.parts.Variant.{Variant}
@@ -147,25 +147,331 @@ module _ (x : Given) (terms : List Term) (c : Config) (p : PipeState) (f : ℕ �
     f name.dmem_error ≡ hidden c.m (fault_of x (in_m c))) where
   each_given : EachGiven (number_of (fields_at x c p f (f_line x c f))) f cv 0 pipe_rows
   unfolding pipe_rows constant_rows pipe_state pipe_hardware pipe_defined number_of fields_at f_line rule_of given constants state_words
-  each_given =
-      ((λ d i. sym (s 0)), ((λ d i. sym (s 1)), ((λ d i. sym (s 2)), ((λ d i. sym (s 3)), ((λ d i. sym (s 4)), ((λ d i. sym (s 5)),
-      ((λ d i. sym (s 6)), ((λ d i. sym (s 7)), ((λ d i. sym (s 8)), ((λ d i. sym (s 9)), ((λ d i. sym (s 10)), ((λ d i. sym (s 11)),
-      ((λ d i. sym (s 12)), ((λ d i. sym (s 13)), ((λ d i. sym (s 14)), ((λ d i. sym (s 15)), ((λ d i. sym (s 16)),
-      ((λ d i. sym (s 17)), ((λ d i. sym (s 18)), ((λ d i. sym (s 19)), ((λ d i. sym (s 20)), ((λ d i. sym (s 21)),
-      ((λ d i. sym (s 22)), ((λ d i. sym (s 23)), ((λ d i. sym (s 24)), ((λ d i. sym (s 25)), ((λ d i. sym (s 26)),
-      ((λ d i. sym (s 27)), ((λ d i. sym (s 28)), ((λ d i. sym (s 29)), ((λ d i. sym (s 30)), ((λ d i. sym (s 31)),
-      ((λ d i. sym (s 32)), ((λ d i. sym (s 33)), ((λ d i. sym (s 34)), ((λ d i. sym (s 35)), ((λ d i. sym (s 36)),
-      ((λ d i. sym (s 37)), ((λ d i. sym (s 38)), ((λ d i. sym (s 39)), ((λ d i. sym (s 40)), ((λ d i. sym (s 41)),
-      ((λ d i. sym (s 42)), ((λ d i. sym (s 43)), ((λ d i. sym (s 44)), ((λ d i. sym (s 45)), ((λ d i. sym (s 46)),
-      ((λ d i. sym (s 47)), ((λ d i. sym (s 48)), ((λ d i. sym (s 49)), ((λ d i. sym (s 50)), ((λ d i. sym (s 51)),
-      ((λ d i. sym (s 52)), ((λ d i. sym (s 53)), ((λ d i. refl), ((λ d i. refl), ((λ d i. refl), ((λ d i. refl), ((λ d i. refl),
-      ((λ d i. refl), ((λ d i. refl), ((λ d i. refl), ((λ d i. refl), ((λ d i. refl), ((λ d i. sym (s 64)), ((λ d i. refl),
-      ((λ d i. refl), ((λ d i. refl), ((λ d i. refl), ((λ d i. refl), ((λ d i. refl), ((λ d i. refl), ((λ d i. refl), ((λ d i. refl),
-      ((λ d i. refl), ((λ d i. sym (ring i.0 i.1.0 i.1.1.0)), ((λ d i. cc), ((λ d i. cc), ((λ d i. cc), ((λ d i. cc), ((λ d i. cc),
-      ((λ d i. cc), ((λ d i. cc), ((λ d i. cc), ((λ d i. cc), ((λ d i. cc), ((λ d i. cc), ((λ d i. cc), ((λ d i. cc), ((λ d i. cc),
-      ((λ d i. cc), ((λ d i. cc), ((λ d i. cc), ((λ d i. cc), ((λ d i. cc), ((λ d i. cc), ((λ d i. cc), ((λ d i. cc), ((λ d i. cc),
-      ((λ d i. cc), ((λ d i. cc), ((λ d i. cc), ((λ d i. cc), ((λ d i. cc), ((λ d i. cc), ((λ d i. cc), ((λ d i. cc), ((λ d i. cc),
-      ((λ d i. cc), ((λ d i. cc), ((λ d i. cc), ((λ d i. cc), ((λ d i. cc), ((λ d i. cc), ((λ d i. cc), tt)))))))))))))))))))))))))))))))))))))))))))))))))))))))))))))))))))))))))))))))))))))))))))))))))))))))))))))))))))
+  each_given = (
+    (λ d i. sym (s 0)),
+    (
+      (λ d i. sym (s 1)),
+      (
+        (λ d i. sym (s 2)),
+        (
+          (λ d i. sym (s 3)),
+          (
+            (λ d i. sym (s 4)),
+            (
+              (λ d i. sym (s 5)),
+              (
+                (λ d i. sym (s 6)),
+                (
+                  (λ d i. sym (s 7)),
+                  (
+                    (λ d i. sym (s 8)),
+                    (
+                      (λ d i. sym (s 9)),
+                      (
+                        (λ d i. sym (s 10)),
+                        (
+                          (λ d i. sym (s 11)),
+                          (
+                            (λ d i. sym (s 12)),
+                            (
+                              (λ d i. sym (s 13)),
+                              (
+                                (λ d i. sym (s 14)),
+                                (
+                                  (λ d i. sym (s 15)),
+                                  (
+                                    (λ d i. sym (s 16)),
+                                    (
+                                      (λ d i. sym (s 17)),
+                                      (
+                                        (λ d i. sym (s 18)),
+                                        (
+                                          (λ d i. sym (s 19)),
+                                          (
+                                            (λ d i. sym (s 20)),
+                                            (
+                                              (λ d i. sym (s 21)),
+                                              (
+                                                (λ d i. sym (s 22)),
+                                                (
+                                                  (λ d i. sym (s 23)),
+                                                  (
+                                                    (λ d i. sym (s 24)),
+                                                    (
+                                                      (λ d i. sym (s 25)),
+                                                      (
+                                                        (λ d i. sym (s 26)),
+                                                        (
+                                                          (λ d i. sym (s 27)),
+                                                          (
+                                                            (λ d i. sym (s 28)),
+                                                            (
+                                                              (λ d i. sym (s 29)),
+                                                              (
+                                                                (λ d i. sym (s 30)),
+                                                                (
+                                                                  (λ d i. sym (s 31)),
+                                                                  (
+                                                                    (λ d i. sym (s 32)),
+                                                                    (
+                                                                      (λ d i. sym (s 33)),
+                                                                      (
+                                                                        (λ d i. sym (s 34)),
+                                                                        (
+                                                                          (λ d i. sym (s 35)),
+                                                                          (
+                                                                            (λ d i. sym (s 36)),
+                                                                            (
+                                                                              (λ d i. sym (s 37)),
+                                                                              (
+                                                                                (λ d i. sym (s 38)),
+                                                                                (
+                                                                                  (λ d i. sym (s 39)),
+                                                                                  (
+                                                                                    (λ d i. sym (s 40)),
+                                                                                    (
+                                                                                      (λ d i. sym (s 41)),
+                                                                                      (
+                                                                                        (λ d i. sym (s 42)),
+                                                                                        (
+                                                                                          (λ d i. sym (s 43)),
+                                                                                          (
+                                                                                            (λ d i. sym (s 44)),
+                                                                                            (
+                                                                                              (λ d i. sym (s 45)),
+                                                                                              (
+                                                                                                (λ d i. sym (s 46)),
+                                                                                                (
+                                                                                                  (λ d i. sym (s 47)),
+                                                                                                  (
+                                                                                                    (λ d i. sym (s 48)),
+                                                                                                    (
+                                                                                                      (λ d i. sym (s 49)),
+                                                                                                      (
+                                                                                                        (λ d i. sym (s 50)),
+                                                                                                        (
+                                                                                                          (λ d i. sym (s 51)),
+                                                                                                          (
+                                                                                                            (λ d i. sym (s 52)),
+                                                                                                            (
+                                                                                                              (λ d i. sym (s 53)),
+                                                                                                              (
+                                                                                                                (λ d i. refl),
+                                                                                                                (
+                                                                                                                  (λ d i. refl),
+                                                                                                                  (
+                                                                                                                    (λ d i. refl),
+                                                                                                                    (
+                                                                                                                      (λ d i. refl),
+                                                                                                                      (
+                                                                                                                        (λ d i. refl),
+                                                                                                                        (
+                                                                                                                          (λ d i. refl),
+                                                                                                                          (
+                                                                                                                            (λ d i. refl),
+                                                                                                                            (
+                                                                                                                              (λ d i. refl),
+                                                                                                                              (
+                                                                                                                                (λ d i. refl),
+                                                                                                                                (
+                                                                                                                                  (λ d i. refl),
+                                                                                                                                  (
+                                                                                                                                    (λ d i. sym (s 64)),
+                                                                                                                                    (
+                                                                                                                                      (λ d i. refl),
+                                                                                                                                      (
+                                                                                                                                        (λ d i. refl),
+                                                                                                                                        (
+                                                                                                                                          (λ d i. refl),
+                                                                                                                                          (
+                                                                                                                                            (λ d i. refl),
+                                                                                                                                            (
+                                                                                                                                              (λ d i. refl),
+                                                                                                                                              (
+                                                                                                                                                (λ d i. refl),
+                                                                                                                                                (
+                                                                                                                                                  (λ d i. refl),
+                                                                                                                                                  (
+                                                                                                                                                    (λ d i. refl),
+                                                                                                                                                    (
+                                                                                                                                                      (λ d i. refl),
+                                                                                                                                                      (
+                                                                                                                                                        (λ d i. refl),
+                                                                                                                                                        (
+                                                                                                                                                          (λ d i. sym (ring i.0 i.1.0 i.1.1.0)),
+                                                                                                                                                          (
+                                                                                                                                                            (λ d i. cc),
+                                                                                                                                                            (
+                                                                                                                                                              (λ d i. cc),
+                                                                                                                                                              (
+                                                                                                                                                                (λ d i. cc),
+                                                                                                                                                                (
+                                                                                                                                                                  (λ d i. cc),
+                                                                                                                                                                  (
+                                                                                                                                                                    (λ d i. cc),
+                                                                                                                                                                    (
+                                                                                                                                                                      (λ d i. cc),
+                                                                                                                                                                      (
+                                                                                                                                                                        (λ d i. cc),
+                                                                                                                                                                        (
+                                                                                                                                                                          (λ d i. cc),
+                                                                                                                                                                          (
+                                                                                                                                                                            (λ d i. cc),
+                                                                                                                                                                            (
+                                                                                                                                                                              (λ d i. cc),
+                                                                                                                                                                              (
+                                                                                                                                                                                (λ d i. cc),
+                                                                                                                                                                                (
+                                                                                                                                                                                  (λ d i. cc),
+                                                                                                                                                                                  (
+                                                                                                                                                                                    (λ d i. cc),
+                                                                                                                                                                                    (
+                                                                                                                                                                                      (λ d i. cc),
+                                                                                                                                                                                      (
+                                                                                                                                                                                        (λ d i. cc),
+                                                                                                                                                                                        (
+                                                                                                                                                                                          (λ d i. cc),
+                                                                                                                                                                                          (
+                                                                                                                                                                                            (λ d i. cc),
+                                                                                                                                                                                            (
+                                                                                                                                                                                              (λ d i. cc),
+                                                                                                                                                                                              (
+                                                                                                                                                                                                (λ d i. cc),
+                                                                                                                                                                                                (
+                                                                                                                                                                                                  (λ d i. cc),
+                                                                                                                                                                                                  (
+                                                                                                                                                                                                    (λ d i. cc),
+                                                                                                                                                                                                    (
+                                                                                                                                                                                                      (λ d i. cc),
+                                                                                                                                                                                                      (
+                                                                                                                                                                                                        (λ d i. cc),
+                                                                                                                                                                                                        (
+                                                                                                                                                                                                          (λ d i. cc),
+                                                                                                                                                                                                          (
+                                                                                                                                                                                                            (λ d i. cc),
+                                                                                                                                                                                                            (
+                                                                                                                                                                                                              (λ d i. cc),
+                                                                                                                                                                                                              (
+                                                                                                                                                                                                                (λ d i. cc),
+                                                                                                                                                                                                                (
+                                                                                                                                                                                                                  (λ d i. cc),
+                                                                                                                                                                                                                  (
+                                                                                                                                                                                                                    (λ d i. cc),
+                                                                                                                                                                                                                    (
+                                                                                                                                                                                                                      (λ d i. cc),
+                                                                                                                                                                                                                      (
+                                                                                                                                                                                                                        (λ d i. cc),
+                                                                                                                                                                                                                        (
+                                                                                                                                                                                                                          (λ d i. cc),
+                                                                                                                                                                                                                          ((λ d i. cc), ((λ d i. cc), ((λ d i. cc), ((λ d i. cc), ((λ d i. cc), ((λ d i. cc), ((λ d i. cc), tt))))))),
+                                                                                                                                                                                                                        ),
+                                                                                                                                                                                                                      ),
+                                                                                                                                                                                                                    ),
+                                                                                                                                                                                                                  ),
+                                                                                                                                                                                                                ),
+                                                                                                                                                                                                              ),
+                                                                                                                                                                                                            ),
+                                                                                                                                                                                                          ),
+                                                                                                                                                                                                        ),
+                                                                                                                                                                                                      ),
+                                                                                                                                                                                                    ),
+                                                                                                                                                                                                  ),
+                                                                                                                                                                                                ),
+                                                                                                                                                                                              ),
+                                                                                                                                                                                            ),
+                                                                                                                                                                                          ),
+                                                                                                                                                                                        ),
+                                                                                                                                                                                      ),
+                                                                                                                                                                                    ),
+                                                                                                                                                                                  ),
+                                                                                                                                                                                ),
+                                                                                                                                                                              ),
+                                                                                                                                                                            ),
+                                                                                                                                                                          ),
+                                                                                                                                                                        ),
+                                                                                                                                                                      ),
+                                                                                                                                                                    ),
+                                                                                                                                                                  ),
+                                                                                                                                                                ),
+                                                                                                                                                              ),
+                                                                                                                                                            ),
+                                                                                                                                                          ),
+                                                                                                                                                        ),
+                                                                                                                                                      ),
+                                                                                                                                                    ),
+                                                                                                                                                  ),
+                                                                                                                                                ),
+                                                                                                                                              ),
+                                                                                                                                            ),
+                                                                                                                                          ),
+                                                                                                                                        ),
+                                                                                                                                      ),
+                                                                                                                                    ),
+                                                                                                                                  ),
+                                                                                                                                ),
+                                                                                                                              ),
+                                                                                                                            ),
+                                                                                                                          ),
+                                                                                                                        ),
+                                                                                                                      ),
+                                                                                                                    ),
+                                                                                                                  ),
+                                                                                                                ),
+                                                                                                              ),
+                                                                                                            ),
+                                                                                                          ),
+                                                                                                        ),
+                                                                                                      ),
+                                                                                                    ),
+                                                                                                  ),
+                                                                                                ),
+                                                                                              ),
+                                                                                            ),
+                                                                                          ),
+                                                                                        ),
+                                                                                      ),
+                                                                                    ),
+                                                                                  ),
+                                                                                ),
+                                                                              ),
+                                                                            ),
+                                                                          ),
+                                                                        ),
+                                                                      ),
+                                                                    ),
+                                                                  ),
+                                                                ),
+                                                              ),
+                                                            ),
+                                                          ),
+                                                        ),
+                                                      ),
+                                                    ),
+                                                  ),
+                                                ),
+                                              ),
+                                            ),
+                                          ),
+                                        ),
+                                      ),
+                                    ),
+                                  ),
+                                ),
+                              ),
+                            ),
+                          ),
+                        ),
+                      ),
+                    ),
+                  ),
+                ),
+              ),
+            ),
+          ),
+        ),
+      ),
+    ),
+  )
 
   pub worth_given : AreControls pipe_rows terms (number_of (fields_at x c p f (f_line x c f))) (real f) cv → IsWorthGiven pipe_rows f cv
   worth_given k n r e d a =

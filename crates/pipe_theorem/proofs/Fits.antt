@@ -1,6 +1,6 @@
 -- The lines of a real cycle's valuation are allowed.
 use Rattle.std.proofs.Common.{◌≡◌, ◌≢◌, ℕ, ◌<◌, ◌≤◌, ◌⊎◌, inl, inr, Bool, true, false, not, ◌&&◌, ◌||◌, ◌==◌, nat_lt, nat_le, cond, List, length, refl, sym, ap, ◌∙◌, arith}
-use Rattle.std.proofs.lemmas.Bool.{false≢true, and_parts, and_from, eq-eqb, eqb-false, ne_eqb, lt-ltb, ltb-true, le-leb, leb-true, ltb-false}
+use Rattle.std.proofs.lemmas.Bool.{false≢true, and_parts, and_from, eq-eqb, eqb-false, ne_eqb, lt-ltb, le-leb, ltb-false}
 use Rattle.y86_base.specs.Stat.{stat_number}
 use Rattle.y86_base.specs.declared.parts.Flags.{Flags}
 use Rattle.y86_base.specs.declared.parts.Stat.TheVariants.{Adr, Aok, Hlt, Ins}
@@ -29,7 +29,6 @@ use Rattle.dp_signals.specs.declared.pipe_state.StageD.{StageD}
 use Rattle.field_bits.specs.Fits.{cnd_fits, cnd_where, code_fits, destination_fits, half_fits, icode_fits, only_where, reading_fits, register_fits, stat_fits, tied}
 use Rattle.pipe_fields.specs.Allowed.{allowed, decode_allowed, decode_fits, execute_allowed, execute_fits, fetch_allowed, fetch_fits, is_live, memory_allowed, memory_fits, registers_fit, stage_fits, write_allowed, write_fits}
 use Rattle.pipe_fields.specs.Layout.{ExecuteLine, Fields}
-use Rattle.hazard_rules.specs.Columns.{has}
 use Rattle.pipe_refinement.specs.Invariant.{AllowedD, Given, Inv}
 use Rattle.pipe_refinement.specs.Kinds.{Config, Empty, Good, Kind, Wrong, in_d, in_e, in_f, in_m, in_w, is_good, is_wrong}
 use Rattle.pipe_refinement.proofs.Fetch.{reads, set_bit}
@@ -278,8 +277,7 @@ raw_fits : (x : Given) (image : IsImage x.image) (j : ℕ) →
     (register_fits (row_of x.v x.image j).dst_e (doing x.v x.image j).raw_dst_e ≡ true) × (register_fits (row_of x.v x.image j).dst_m (doing x.v x.image j).dst_m ≡ true)
 raw_fits x image j =
     let k = known_of x j image in
-    let g = fields_agree x.v (doing x.v x.image j).icode in
-    (
+    let g = fields_agree x.v (doing x.v x.image j).icode in (
       column_fits x.v _ (doing x.v x.image j).icode (doing x.v x.image j).ifun (doing x.v x.image j).r_a (doing x.v x.image j).r_b (doing x.v x.image j).raw_dst_e (row_of x.v x.image j).dst_e k g.dst_e (follows x.v x.image j).raw_dst_e,
       column_fits x.v _ (doing x.v x.image j).icode (doing x.v x.image j).ifun (doing x.v x.image j).r_a (doing x.v x.image j).r_b (doing x.v x.image j).dst_m (row_of x.v x.image j).dst_m k g.dst_m (follows x.v x.image j).dst_m,
     )

@@ -5,7 +5,6 @@ use Rattle.y86_isa.specs.RowTests.{is_branch, is_loaded}
 use Rattle.y86_isa.specs.Table.{row}
 use Rattle.y86_isa.specs.declared.machine.Rec.{Rec}
 use Rattle.run_laws.specs.Instructions.{doing, ret_at}
-use Rattle.dp_signals.specs.PipeCycle.{next}
 use Rattle.dp_signals.specs.PipeNames as name
 use Rattle.dp_signals.specs.PipeRows.{PipeHolds}
 use Rattle.dp_signals.specs.Values.{set}

@@ -173,10 +173,112 @@ module _ (x : Given) (t : ℕ) (c : Config) (p : PipeState) (f : ℕ → ℕ) (r
       let m = m_codes c.m refl in
       let w = w_codes c.w refl in
       let ra = d.1 in
-      let rb = d.2 in
-      (kind_lt c.d, (kind_lt c.e, (sound_lt c.m i.right_m, (sound_lt c.w i.right_w,
-      (error_lt, (icode_lt_f, (ifun_lt_f, (bit_lt _, (bit_lt _, (bit_lt _,
-      (d.0.stat_lt, (d.0.code_lt, (d.0.fun_lt, (le_lt ra, (le_lt rb, (bit_lt _, (bit_lt _, (bit_lt _,
-      (e.0.stat_lt, (e.0.code_lt, (e.0.fun_lt, (e.1, (e.2, (e.3, (e.4, (cnd_lt, (bit_lt _, (bit_lt _,
-      (m.0.stat_lt, (m.0.code_lt, (m.0.fun_lt, (m.1, (m.2, (m.3, (bit_lt _, (bit_lt _,
-      (w.0, (w.1, (w.2, (w.3, tt))))))))))))))))))))))))))))))))))))))))
+      let rb = d.2 in (
+        kind_lt c.d,
+        (
+          kind_lt c.e,
+          (
+            sound_lt c.m i.right_m,
+            (
+              sound_lt c.w i.right_w,
+              (
+                error_lt,
+                (
+                  icode_lt_f,
+                  (
+                    ifun_lt_f,
+                    (
+                      bit_lt _,
+                      (
+                        bit_lt _,
+                        (
+                          bit_lt _,
+                          (
+                            d.0.stat_lt,
+                            (
+                              d.0.code_lt,
+                              (
+                                d.0.fun_lt,
+                                (
+                                  le_lt ra,
+                                  (
+                                    le_lt rb,
+                                    (
+                                      bit_lt _,
+                                      (
+                                        bit_lt _,
+                                        (
+                                          bit_lt _,
+                                          (
+                                            e.0.stat_lt,
+                                            (
+                                              e.0.code_lt,
+                                              (
+                                                e.0.fun_lt,
+                                                (
+                                                  e.1,
+                                                  (
+                                                    e.2,
+                                                    (
+                                                      e.3,
+                                                      (
+                                                        e.4,
+                                                        (
+                                                          cnd_lt,
+                                                          (
+                                                            bit_lt _,
+                                                            (
+                                                              bit_lt _,
+                                                              (
+                                                                m.0.stat_lt,
+                                                                (
+                                                                  m.0.code_lt,
+                                                                  (
+                                                                    m.0.fun_lt,
+                                                                    (
+                                                                      m.1,
+                                                                      (
+                                                                        m.2,
+                                                                        (
+                                                                          m.3,
+                                                                          (
+                                                                            bit_lt _,
+                                                                            (
+                                                                              bit_lt _,
+                                                                              (w.0, (w.1, (w.2, (w.3, tt)))),
+                                                                            ),
+                                                                          ),
+                                                                        ),
+                                                                      ),
+                                                                    ),
+                                                                  ),
+                                                                ),
+                                                              ),
+                                                            ),
+                                                          ),
+                                                        ),
+                                                      ),
+                                                    ),
+                                                  ),
+                                                ),
+                                              ),
+                                            ),
+                                          ),
+                                        ),
+                                      ),
+                                    ),
+                                  ),
+                                ),
+                              ),
+                            ),
+                          ),
+                        ),
+                      ),
+                    ),
+                  ),
+                ),
+              ),
+            ),
+          ),
+        ),
+      )

@@ -1,5 +1,5 @@
 -- The view of a real cycle's valuation is that of the invariant.
-use Rattle.std.proofs.Common.{◌≡◌, ℕ, Bool, true, false, not, ◌&&◌, ◌||◌, ◌==◌, List, refl, sym, ap, ◌∙◌}
+use Rattle.std.proofs.Common.{◌≡◌, ℕ, Bool, true, false, not, ◌&&◌, ◌==◌, List, refl, ap, ◌∙◌}
 use Rattle.y86_base.specs.Stat.{stat_number}
 use Rattle.y86_isa.specs.Machine.{is_aok}
 use Rattle.y86_isa.specs.RowTests.{is_branch, is_loaded}

@@ -1,6 +1,6 @@
 -- From the obligations of a real cycle's valuation to equations on its values.
-use Rattle.std.proofs.Common.{◌≡◌, ◌≢◌, ℕ, ◌≤◌, inl, inr, Bool, true, false, not, ◌&&◌, ◌||◌, ◌==◌, cond, IfSome, List, refl, sym, ap, ◌∙◌, subst, arith}
-use Rattle.std.proofs.lemmas.Bool.{false≢true, and_parts, and_from, eq-eqb, eqb-true, ne_eqb, or_cases}
+use Rattle.std.proofs.Common.{◌≡◌, ◌≢◌, ℕ, ◌≤◌, Bool, true, false, not, ◌&&◌, ◌||◌, ◌==◌, cond, IfSome, refl, sym, ap, ◌∙◌, subst, arith}
+use Rattle.std.proofs.lemmas.Bool.{false≢true, and_parts, and_from, eq-eqb, eqb-true, ne_eqb}
 use Rattle.y86_isa.specs.Blocks.{alu_function, data_address, is_load, is_store, operand_a, operand_b, register_number}
 use Rattle.y86_isa.specs.RowTests.{accesses, carries_a, carries_p, has_operand_a, has_operand_b, is_branch, stores_a}
 use Rattle.y86_isa.specs.Table.{row}
@@ -33,7 +33,6 @@ use Rattle.hazard_rules.specs.Stages.{is_jump, is_ret, misses, slot_by, stops_by
 use Rattle.pipe_refinement.specs.Facts.{AccessFacts, AddressIs, AlwaysFacts, DecodeFacts, ExecuteFacts, FetchFacts, MemoryFacts, WriteFacts, exempt, late_dst_e, leaves_d, predicted_pc, right_value}
 use Rattle.pipe_refinement.specs.Invariant.{Given, view_of}
 use Rattle.pipe_refinement.specs.Kinds.{Config, asked, in_m, is_good, is_wrong}
-use Rattle.pipe_refinement.proofs.Fetch.{reads}
 use Rattle.pipe_theorem.proofs.Circle.{FTies}
 use Rattle.pipe_theorem.proofs.RealCycle.{fault_of, fields_at, hidden}
 
@@ -361,10 +360,11 @@ module _ (x : Given) (c : Config) (p : PipeState) (f : ℕ → ℕ) (l : FetchLi
           dst_e = λ n. number_is name.e_dstE _ (a17 n);
           target = λ tv g s e.
               let h : takes cv name.aluA (Name name.E_valC) && (is_number cv name.aluB 0 && is_number cv name.alufun 0) ≡ true = implied (is_good c.e && is_jump x.v p.e.stat p.e.icode) _ (carries tv) (jumps g s e) in
-              let h1 = second (takes cv name.aluA (Name name.E_valC)) (is_number cv name.aluB 0 && is_number cv name.alufun 0) h in
-              (pick_is name.aluA (Name name.E_valC) (first (takes cv name.aluA (Name name.E_valC)) (is_number cv name.aluB 0 && is_number cv name.alufun 0) h) ∙ st.E_valC,
-              number_is name.aluB 0 (first (is_number cv name.aluB 0) (is_number cv name.alufun 0) h1),
-              number_is name.alufun 0 (second (is_number cv name.aluB 0) (is_number cv name.alufun 0) h1));
+              let h1 = second (takes cv name.aluA (Name name.E_valC)) (is_number cv name.aluB 0 && is_number cv name.alufun 0) h in (
+                pick_is name.aluA (Name name.E_valC) (first (takes cv name.aluA (Name name.E_valC)) (is_number cv name.aluB 0 && is_number cv name.alufun 0) h) ∙ st.E_valC,
+                number_is name.aluB 0 (first (is_number cv name.aluB 0) (is_number cv name.alufun 0) h1),
+                number_is name.alufun 0 (second (is_number cv name.aluB 0) (is_number cv name.alufun 0) h1),
+              );
         }
 
     -- ---- memory and write back
