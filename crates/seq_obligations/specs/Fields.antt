@@ -1,12 +1,12 @@
 -- The line S of a control valuation: what one cycle of SEQ reads, as numbers; and which of them an instruction can have.
-use Rattle.std.specs.Prelude.{ℕ, Bool, not, ◌&&◌, List, [], ◌∷◌, length, get_or, Option, Some, if◌then◌else◌}
+use Rattle.std.specs.Prelude.{ℕ, Bool, not, ◌&&◌, List, [], ◌∷◌, length, get_or, Option, Some}
 use Rattle.y86_base.specs.declared.parts.Variant.{Variant}
 use Rattle.y86_isa.specs.declared.columns.Row.{Row}
 use Rattle.y86_isa.specs.RowTests.{accesses}
 use Rattle.y86_isa.specs.Table.{rows, row}
 use Rattle.field_bits.specs.declared.spots.Spot.{Spot}
 use Rattle.field_bits.specs.Spelling.{set}
-use Rattle.field_bits.specs.Spots.{decoded, is_name}
+use Rattle.field_bits.specs.Spots.{decoded, number_among}
 use Rattle.field_bits.specs.Fits.{reading_fits, half_fits, cnd_fits, only_where}
 use Rattle.dp_signals.specs.SeqNames as signal
 
@@ -53,11 +53,6 @@ fields_by xs =
     }
 
 -- the number that a line gives a signal which is a field, and 0 for any other
-abbrev number_among : List Spot → List ℕ → ℕ → ℕ
-number_among [] xs name = 0
-number_among (s ∷ ss) [] name = 0
-number_among (s ∷ ss) (x ∷ xs) name = if is_name s.name name then x else number_among ss xs name
-
 abbrev pub number_of : Fields → ℕ → ℕ
 number_of c name = number_among spots (numbers c) name
 
@@ -67,14 +62,17 @@ fields_of w = fields_by (decoded spots 0 w)
 
 -- ---- which lines are allowed
 
--- by the row of the icode, of a table with so many rows: the reading at the PC, the register byte, and the two bits that later stages tell
+-- the reading at the PC and the register byte, by the row of the icode, of a table with so many rows
+abbrev pub fetch_fits : ℕ → Row → Fields → Bool
+fetch_fits count r c =
+    reading_fits count r c.error c.icode c.ifun && half_fits r.has_byte r.uses_a c.r_a && half_fits r.has_byte r.uses_b c.r_b
+
+-- an access may fault only where there is one
+abbrev pub fault_fits : Row → Fields → Bool
+fault_fits r c = only_where (not (set c.error) && accesses r.memory) c.derror
+
 abbrev pub line_fits : ℕ → Row → Fields → Bool
-line_fits count r c =
-    reading_fits count r c.error c.icode c.ifun
-    && half_fits r.has_byte r.uses_a c.r_a
-    && half_fits r.has_byte r.uses_b c.r_b
-    && cnd_fits c.ifun c.cnd
-    && only_where (not (set c.error) && accesses r.memory) c.derror
+line_fits count r c = fetch_fits count r c && cnd_fits c.ifun c.cnd && fault_fits r c
 
 -- the line is one that a valuation of this instruction set can have
 unfoldable pub allowed : Variant → Fields → Bool

@@ -2,6 +2,13 @@
 //! can read.
 #![tactic(auto)]
 
+mod demands;
 mod fields;
+mod lines;
+mod rules;
+mod signals;
+mod translate_stub;
+mod whole;
 
 pub use fields::spots;
+pub use whole::seq_rules;

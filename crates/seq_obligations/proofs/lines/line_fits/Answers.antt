@@ -1,0 +1,12 @@
+use Rattle.std.proofs.Common.{refl}
+use Rattle.field_bits.proofs.Fields.{gate_as, joined}
+use Rattle.seq_obligations.specs.Fields.{fields_of}
+use Rattle.seq_obligations.proofs.lines.line_fits.Goals as goal
+
+pub returns-clause-made : goal.returns-clause-made
+unfolding fields_of
+returns-clause-made c =
+    gate_as
+    (joined (joined c.in_ok-fetch.ensures.made c.cnd_fits.ensures.begins c.in_ok-cnd.ensures.made c.in_ok-both.ensures.made) c.access_fault_fits.ensures.begins
+    c.in_ok-fault.ensures.made c.in_ok-g.ensures.made)
+    (λ w. refl)
