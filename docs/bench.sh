@@ -76,6 +76,21 @@ diagrams() {
     done | awk 'NR == 1 || $2 - $1 < best { best = $2 - $1 } END { printf "%.3f", best }')
     echo "| \`bdd_bench\`, $1: $(sed 's/^[^:]*: //' "$work/out") | $seconds s |"
 }
+# A row of the table: cycles of a datapath on an evaluator, from a program that stands where the gate built it.
+signals() {
+    [ -x "$here/crates/signal_bench/out/signal_bench" ] || return
+    { echo "$1 2000000"; cat "$here/examples/$2.hcl"; } >"$work/request"
+    seconds=$(for _ in 1 2 3; do
+        start=$EPOCHREALTIME
+        "$here/crates/signal_bench/out/signal_bench" <"$work/request" >"$work/out"
+        echo "$start $EPOCHREALTIME"
+    done | awk 'NR == 1 || $2 - $1 < best { best = $2 - $1 } END { printf "%.3f", best }')
+    echo "| \`signal_bench\`, $2.hcl: $(cat "$work/out") | $seconds s, $(awk "BEGIN { printf \"%.2f\", 2 / $seconds }") million cycles a second |"
+}
+signals "ssim walked" seq
+signals "ssim compiled" seq
+signals "psim walked" std
+signals "psim compiled" std
 diagrams "nodes adders 32"
 diagrams "nodes queens 8"
 diagrams "nodes words 18"
