@@ -6,18 +6,20 @@ use std::process::Abort;
 use std::test::Fail;
 use wb_io::MemFiles;
 
-/// The datapath whose control logic `h.hcl` is.
+/// The control logic that `h.hcl` holds: that of a datapath of the book, PIPE's with other definitions in place of its own, or a whole text.
 #[derive(Clone, Copy)]
-enum Machine {
+enum Logic {
     Seq,
     Pipe,
+    Changed(&'static [u8]),
+    Text(&'static [u8]),
 }
 
 /// A call of the program: its words, the HCL file `h.hcl` and the object file `p.yo`, and what it answers.
 struct Simulation {
     shows: &'static str,
     words: &'static [&'static str],
-    machine: Machine,
+    logic: Logic,
     object: &'static [u8],
     status: Status,
     out: &'static [u8],
@@ -110,6 +112,71 @@ bool W_stall = W_stat in { SADR, SINS, SHLT };
 bool W_bubble = 0;
 ";
 
+/// What `examples/nb.hcl` changes: PIPE without bypassing.
+const NB: &[u8] = b"word d_valA = [ D_icode in { ICALL, IJXX } : D_valP; 1 : d_rvalA; ];
+word d_valB = d_rvalB;
+bool F_stall = (d_srcA != RNONE && d_srcA in { e_dstE, E_dstM, M_dstE, M_dstM, W_dstE, W_dstM } || d_srcB != RNONE && d_srcB in { e_dstE, E_dstM, M_dstE, M_dstM, W_dstE, W_dstM })
+  || IRET in { D_icode, E_icode, M_icode };
+bool D_stall = (d_srcA != RNONE && d_srcA in { e_dstE, E_dstM, M_dstE, M_dstM, W_dstE, W_dstM } || d_srcB != RNONE && d_srcB in { e_dstE, E_dstM, M_dstE, M_dstM, W_dstE, W_dstM }) && !(E_icode == IJXX && !e_Cnd);
+bool D_bubble = (E_icode == IJXX && !e_Cnd)
+  || !(d_srcA != RNONE && d_srcA in { e_dstE, E_dstM, M_dstE, M_dstM, W_dstE, W_dstM } || d_srcB != RNONE && d_srcB in { e_dstE, E_dstM, M_dstE, M_dstM, W_dstE, W_dstM })
+     && IRET in { D_icode, E_icode, M_icode };
+bool E_bubble = (E_icode == IJXX && !e_Cnd)
+  || (d_srcA != RNONE && d_srcA in { e_dstE, E_dstM, M_dstE, M_dstM, W_dstE, W_dstM } || d_srcB != RNONE && d_srcB in { e_dstE, E_dstM, M_dstE, M_dstM, W_dstE, W_dstM });
+";
+
+/// What `examples/lf.hcl` changes: PIPE with load forwarding.
+const LF: &[u8] =
+    b"word e_valA = [ M_dstM == E_srcA && E_icode in { IRMMOVQ, IPUSHQ } : m_valM; 1 : E_valA; ];
+bool F_stall = (E_icode in { IMRMOVQ, IPOPQ } && (E_dstM == d_srcB || E_dstM == d_srcA && !D_icode in { IRMMOVQ, IPUSHQ }))
+  || IRET in { D_icode, E_icode, M_icode };
+bool D_stall = (E_icode in { IMRMOVQ, IPOPQ } && (E_dstM == d_srcB || E_dstM == d_srcA && !D_icode in { IRMMOVQ, IPUSHQ }));
+bool D_bubble = (E_icode == IJXX && !e_Cnd)
+  || !(E_icode in { IMRMOVQ, IPOPQ } && (E_dstM == d_srcB || E_dstM == d_srcA && !D_icode in { IRMMOVQ, IPUSHQ }))
+     && IRET in { D_icode, E_icode, M_icode };
+bool E_bubble = (E_icode == IJXX && !e_Cnd)
+  || (E_icode in { IMRMOVQ, IPOPQ } && (E_dstM == d_srcB || E_dstM == d_srcA && !D_icode in { IRMMOVQ, IPUSHQ }));
+";
+
+/// What `examples/nt.hcl` changes: jumps predicted not taken.
+const NT: &[u8] =
+    b"word f_pc = [ M_icode == IJXX && M_ifun != UNCOND && M_Cnd : M_valE; W_icode == IRET : W_valM; 1 : F_predPC; ];
+word f_predPC = [ f_icode == ICALL || f_icode == IJXX && f_ifun == UNCOND : f_valC; 1 : f_valP; ];
+word aluA = [ E_icode in { IRRMOVQ, IOPQ } : E_valA; E_icode in { IIRMOVQ, IRMMOVQ, IMRMOVQ, IJXX } : E_valC;
+  E_icode in { ICALL, IPUSHQ } : -8; E_icode in { IRET, IPOPQ } : 8; ];
+word aluB = [ E_icode in { IRMMOVQ, IMRMOVQ, IOPQ, ICALL, IPUSHQ, IRET, IPOPQ } : E_valB;
+  E_icode in { IRRMOVQ, IIRMOVQ, IJXX } : 0; ];
+bool F_stall = (E_icode in { IMRMOVQ, IPOPQ } && E_dstM in { d_srcA, d_srcB })
+  || IRET in { D_icode, E_icode, M_icode };
+bool D_stall = (E_icode in { IMRMOVQ, IPOPQ } && E_dstM in { d_srcA, d_srcB });
+bool D_bubble = (E_icode == IJXX && E_ifun != UNCOND && e_Cnd)
+  || !(E_icode in { IMRMOVQ, IPOPQ } && E_dstM in { d_srcA, d_srcB })
+     && IRET in { D_icode, E_icode, M_icode };
+bool E_bubble = (E_icode == IJXX && E_ifun != UNCOND && e_Cnd)
+  || (E_icode in { IMRMOVQ, IPOPQ } && E_dstM in { d_srcA, d_srcB });
+";
+
+/// A decode register that a load behind its use and a ret stall and bubble at once.
+const BOTH: &[u8] =
+    b"bool D_bubble = E_icode == IJXX && !e_Cnd || IRET in { D_icode, E_icode, M_icode };
+";
+
+/// An empty pipeline that fetches nothing.
+const STUCK: &[u8] = b"bool F_stall = E_icode in { IMRMOVQ, IPOPQ } && E_dstM in { d_srcA, d_srcB }
+  || IRET in { D_icode, E_icode, M_icode } || D_icode == INOP && E_icode == INOP && M_icode == INOP && W_icode == INOP;
+bool D_bubble = E_icode == IJXX && !e_Cnd
+  || !(E_icode in { IMRMOVQ, IPOPQ } && E_dstM in { d_srcA, d_srcB })
+     && IRET in { D_icode, E_icode, M_icode } || D_icode == INOP && E_icode == INOP && M_icode == INOP && W_icode == INOP;
+";
+
+/// The declarations of a file for the book's simulators.
+const DECLARED: &[u8] = b"quote '#include <stdio.h>'
+intsig E_icode 'id_ex_curr->icode'
+wordsig F_predPC 'pc_curr->pc'
+wordsig f_icode 'if_id_next->icode'
+boolsig dmem_error 'dmem_error'
+";
+
 /// An addition, and the trace, the counts and the report of its run.
 const ADDITION: &[u8] =
     b"0x000: 30f20a00000000000000\n0x00a: 30f00300000000000000\n0x014: 6020\n0x016: 00\n";
@@ -122,7 +189,7 @@ static ON_SEQ: [Simulation; 3] = [
     Simulation {
         shows: "an addition on SEQ",
         words: &["ssim", "h.hcl", "p.yo"],
-        machine: Machine::Seq,
+        logic: Logic::Seq,
         object: ADDITION,
         status: 0,
         out: b"Stopped in 4 steps at PC = 0x16.  Status 'HLT', CC Z=0 S=0 O=0\nChanges to registers:\n%rax:\t0x0000000000000000\t0x000000000000000d\n%rdx:\t0x0000000000000000\t0x000000000000000a\n\nChanges to memory:\n",
@@ -131,7 +198,7 @@ static ON_SEQ: [Simulation; 3] = [
     Simulation {
         shows: "a call on SEQ",
         words: &["ssim", "h.hcl", "p.yo"],
-        machine: Machine::Seq,
+        logic: Logic::Seq,
         object: b"0x000: 30f40001000000000000\n0x00a: 801400000000000000\n0x013: 00\n0x014: 90\n",
         status: 0,
         out: b"Stopped in 4 steps at PC = 0x13.  Status 'HLT', CC Z=1 S=0 O=0\nChanges to registers:\n%rsp:\t0x0000000000000000\t0x0000000000000100\n\nChanges to memory:\n0x00f8:\t0x0000000000000000\t0x0000000000000013\n",
@@ -140,7 +207,7 @@ static ON_SEQ: [Simulation; 3] = [
     Simulation {
         shows: "SEQ stops at its limit",
         words: &["ssim", "h.hcl", "p.yo", "--limit", "5"],
-        machine: Machine::Seq,
+        logic: Logic::Seq,
         object: b"0x000: 700000000000000000\n",
         status: 1,
         out: b"Stopped in 5 steps at PC = 0x0.  Status 'AOK', CC Z=1 S=0 O=0\nChanges to registers:\n\nChanges to memory:\n",
@@ -149,58 +216,309 @@ static ON_SEQ: [Simulation; 3] = [
 ];
 
 /// Runs of PIPE: the cycles are counted by hand.
-static ON_PIPE: [Simulation; 5] = [
+static ON_PIPE: [Simulation; 8] = [
+    Simulation {
+        shows: "a halt on PIPE",
+        words: &["psim", "h.hcl", "p.yo"],
+        logic: Logic::Pipe,
+        object: b"0x000: 00\n",
+        status: 0,
+        out: b"Ran 5 cycles, retired 1 instructions\nStopped in 1 steps at PC = 0x0.  Status 'HLT', CC Z=1 S=0 O=0\nChanges to registers:\n\nChanges to memory:\n",
+        err: b"",
+    },
     Simulation {
         shows: "an addition on PIPE, with its trace",
         words: &["psim", "h.hcl", "p.yo", "--trace"],
-        machine: Machine::Pipe,
+        logic: Logic::Pipe,
         object: ADDITION,
         status: 0,
         out: ADDED,
         err: b"",
     },
     Simulation {
+        shows: "a load and its use",
+        words: &["psim", "h.hcl", "p.yo"],
+        logic: Logic::Pipe,
+        object: b"0x000: 50071000000000000000\n0x00a: 6000\n0x00c: 00\n0x010: 0500000000000000\n",
+        status: 0,
+        out: b"Ran 8 cycles, retired 3 instructions\nStopped in 3 steps at PC = 0xc.  Status 'HLT', CC Z=0 S=0 O=0\nChanges to registers:\n%rax:\t0x0000000000000000\t0x000000000000000a\n\nChanges to memory:\n",
+        err: b"",
+    },
+    Simulation {
+        shows: "a jump not taken: the wrong path has a store and a halt",
+        words: &["psim", "h.hcl", "p.yo"],
+        logic: Logic::Pipe,
+        object: b"0x000: 30f10100000000000000\n0x00a: 6300\n0x00c: 741600000000000000\n0x015: 00\n0x016: 40130001000000000000\n0x020: 00\n",
+        status: 0,
+        out: b"Ran 10 cycles, retired 4 instructions\nStopped in 4 steps at PC = 0x15.  Status 'HLT', CC Z=1 S=0 O=0\nChanges to registers:\n%rcx:\t0x0000000000000000\t0x0000000000000001\n\nChanges to memory:\n",
+        err: b"",
+    },
+    Simulation {
         shows: "a call on PIPE",
         words: &["psim", "h.hcl", "p.yo"],
-        machine: Machine::Pipe,
+        logic: Logic::Pipe,
         object: b"0x000: 30f40001000000000000\n0x00a: 801400000000000000\n0x013: 00\n0x014: 90\n",
         status: 0,
         out: b"Ran 11 cycles, retired 4 instructions\nStopped in 4 steps at PC = 0x13.  Status 'HLT', CC Z=1 S=0 O=0\nChanges to registers:\n%rsp:\t0x0000000000000000\t0x0000000000000100\n\nChanges to memory:\n0x00f8:\t0x0000000000000000\t0x0000000000000013\n",
         err: b"",
     },
     Simulation {
-        shows: "an address outside the memory",
+        shows: "popq and pushq of the stack pointer",
         words: &["psim", "h.hcl", "p.yo"],
-        machine: Machine::Pipe,
-        object: b"0x000: 30f10100000000000000\n0x00a: 5001f81f000000000000\n0x014: 6011\n0x016: 00\n",
-        status: 1,
-        out: b"Ran 6 cycles, retired 2 instructions\nStopped in 2 steps at PC = 0xa.  Status 'ADR', CC Z=1 S=0 O=0\nChanges to registers:\n%rcx:\t0x0000000000000000\t0x0000000000000001\n\nChanges to memory:\n",
+        logic: Logic::Pipe,
+        object: b"0x000: 30f44000000000000000\n0x00a: b04f\n0x00c: a04f\n0x00e: 00\n0x040: 0001000000000000\n",
+        status: 0,
+        out: b"Ran 9 cycles, retired 4 instructions\nStopped in 4 steps at PC = 0xe.  Status 'HLT', CC Z=1 S=0 O=0\nChanges to registers:\n%rsp:\t0x0000000000000000\t0x00000000000000f8\n\nChanges to memory:\n0x00f8:\t0x0000000000000000\t0x0000000000000100\n",
         err: b"",
     },
     Simulation {
         shows: "PIPE stops at its limit",
         words: &["psim", "h.hcl", "p.yo", "--limit", "6"],
-        machine: Machine::Pipe,
+        logic: Logic::Pipe,
         object: b"0x000: 30f44000000000000000\n0x00a: b04f\n0x00c: a04f\n0x00e: 00\n0x040: 0001000000000000\n",
         status: 1,
         out: b"Ran 6 cycles, retired 2 instructions\nStopped in 2 steps at PC = 0x10.  Status 'AOK', CC Z=1 S=0 O=0\nChanges to registers:\n%rsp:\t0x0000000000000000\t0x0000000000000100\n\nChanges to memory:\n",
         err: b"",
     },
     Simulation {
+        shows: "an address outside the memory",
+        words: &["psim", "h.hcl", "p.yo"],
+        logic: Logic::Pipe,
+        object: b"0x000: 30f10100000000000000\n0x00a: 5001f81f000000000000\n0x014: 6011\n0x016: 00\n",
+        status: 1,
+        out: b"Ran 6 cycles, retired 2 instructions\nStopped in 2 steps at PC = 0xa.  Status 'ADR', CC Z=1 S=0 O=0\nChanges to registers:\n%rcx:\t0x0000000000000000\t0x0000000000000001\n\nChanges to memory:\n",
+        err: b"",
+    },
+];
+
+/// More runs of PIPE.
+static MORE_ON_PIPE: [Simulation; 4] = [
+    Simulation {
+        shows: "a register field without a register",
+        words: &["psim", "h.hcl", "p.yo"],
+        logic: Logic::Pipe,
+        object: b"0x000: 400f0000000000000000\n",
+        status: 1,
+        out: b"Ran 5 cycles, retired 1 instructions\nStopped in 1 steps at PC = 0x0.  Status 'INS', CC Z=1 S=0 O=0\nChanges to registers:\n\nChanges to memory:\n",
+        err: b"",
+    },
+    Simulation {
+        shows: "a store over the next instruction, which was fetched before",
+        words: &["psim", "h.hcl", "p.yo"],
+        logic: Logic::Pipe,
+        object: b"0x000: 30f01010101010101010\n0x00a: 40071400000000000000\n0x014: 00\n",
+        status: 0,
+        out: b"Ran 7 cycles, retired 3 instructions\nStopped in 3 steps at PC = 0x14.  Status 'HLT', CC Z=1 S=0 O=0\nChanges to registers:\n%rax:\t0x0000000000000000\t0x1010101010101010\n\nChanges to memory:\n0x0010:\t0x0000000000000000\t0x1010101000000000\n0x0018:\t0x0000000000000000\t0x0000000010101010\n",
+        err: b"",
+    },
+    Simulation {
+        shows: "a store of a loaded register",
+        words: &["psim", "h.hcl", "p.yo"],
+        logic: Logic::Pipe,
+        object: b"0x000: 50074000000000000000\n0x00a: 40074800000000000000\n0x014: 00\n0x040: 0500000000000000\n",
+        status: 0,
+        out: b"Ran 8 cycles, retired 3 instructions\nStopped in 3 steps at PC = 0x14.  Status 'HLT', CC Z=1 S=0 O=0\nChanges to registers:\n%rax:\t0x0000000000000000\t0x0000000000000005\n\nChanges to memory:\n0x0048:\t0x0000000000000000\t0x0000000000000005\n",
+        err: b"",
+    },
+    Simulation {
+        shows: "a limit before the first instruction retires",
+        words: &["psim", "h.hcl", "p.yo", "--limit", "3"],
+        logic: Logic::Pipe,
+        object: b"0x000: 00\n",
+        status: 1,
+        out: b"Ran 3 cycles, retired 0 instructions\nStopped in 0 steps at PC = 0x3.  Status 'AOK', CC Z=1 S=0 O=0\nChanges to registers:\n\nChanges to memory:\n",
+        err: b"",
+    },
+];
+
+/// Runs under other control logic.
+static CHANGED: [Simulation; 8] = [
+    Simulation {
+        shows: "without bypassing",
+        words: &["psim", "h.hcl", "p.yo"],
+        logic: Logic::Changed(NB),
+        object: ADDITION,
+        status: 0,
+        out: b"Ran 11 cycles, retired 4 instructions\nStopped in 4 steps at PC = 0x16.  Status 'HLT', CC Z=0 S=0 O=0\nChanges to registers:\n%rax:\t0x0000000000000000\t0x000000000000000d\n%rdx:\t0x0000000000000000\t0x000000000000000a\n\nChanges to memory:\n",
+        err: b"",
+    },
+    Simulation {
+        shows: "predicted not taken",
+        words: &["psim", "h.hcl", "p.yo"],
+        logic: Logic::Changed(NT),
+        object: b"0x000: 30f10100000000000000\n0x00a: 6300\n0x00c: 741600000000000000\n0x015: 00\n0x016: 40130001000000000000\n0x020: 00\n",
+        status: 0,
+        out: b"Ran 8 cycles, retired 4 instructions\nStopped in 4 steps at PC = 0x15.  Status 'HLT', CC Z=1 S=0 O=0\nChanges to registers:\n%rcx:\t0x0000000000000000\t0x0000000000000001\n\nChanges to memory:\n",
+        err: b"",
+    },
+    Simulation {
+        shows: "with load forwarding",
+        words: &["psim", "h.hcl", "p.yo"],
+        logic: Logic::Changed(LF),
+        object: b"0x000: 50074000000000000000\n0x00a: 40074800000000000000\n0x014: 00\n0x040: 0500000000000000\n",
+        status: 0,
+        out: b"Ran 7 cycles, retired 3 instructions\nStopped in 3 steps at PC = 0x14.  Status 'HLT', CC Z=1 S=0 O=0\nChanges to registers:\n%rax:\t0x0000000000000000\t0x0000000000000005\n\nChanges to memory:\n0x0048:\t0x0000000000000000\t0x0000000000000005\n",
+        err: b"",
+    },
+    Simulation {
+        shows: "a register that is stalled and bubbled",
+        words: &["psim", "h.hcl", "p.yo"],
+        logic: Logic::Changed(BOTH),
+        object: b"0x000: 30f44000000000000000\n0x00a: b04f\n0x00c: 90\n",
+        status: 1,
+        out: b"Ran 4 cycles, retired 0 instructions\nStopped in 0 steps at PC = 0xd.  Status 'PIP', CC Z=1 S=0 O=0\nChanges to registers:\n\nChanges to memory:\n",
+        err: b"",
+    },
+    Simulation {
+        shows: "the last register is stalled and bubbled",
+        words: &["psim", "h.hcl", "p.yo"],
+        logic: Logic::Changed(b"bool W_stall = 1;\nbool W_bubble = 1;\n"),
+        object: b"0x000: 00\n",
+        status: 1,
+        out: b"Ran 1 cycles, retired 0 instructions\nStopped in 0 steps at PC = 0x0.  Status 'PIP', CC Z=1 S=0 O=0\nChanges to registers:\n\nChanges to memory:\n",
+        err: b"",
+    },
+    Simulation {
+        shows: "a pipeline that fetches nothing",
+        words: &["psim", "h.hcl", "p.yo"],
+        logic: Logic::Changed(STUCK),
+        object: b"0x000: 00\n",
+        status: 1,
+        out: b"Ran 10000 cycles, retired 0 instructions\nStopped in 0 steps at PC = 0x0.  Status 'AOK', CC Z=1 S=0 O=0\nChanges to registers:\n\nChanges to memory:\n",
+        err: b"",
+    },
+    Simulation {
+        shows: "a code compared with a word",
+        words: &["psim", "h.hcl", "p.yo"],
+        logic: Logic::Changed(b"bool F_bubble = E_icode == E_valC;\n"),
+        object: b"0x000: 00\n",
+        status: 0,
+        out: b"Ran 5 cycles, retired 1 instructions\nStopped in 1 steps at PC = 0x0.  Status 'HLT', CC Z=1 S=0 O=0\nChanges to registers:\n\nChanges to memory:\n",
+        err: b"",
+    },
+    Simulation {
+        shows: "declarations before the definitions",
+        words: &["psim", "h.hcl", "p.yo"],
+        logic: Logic::Changed(DECLARED),
+        object: b"0x000: 00\n",
+        status: 0,
+        out: b"Ran 5 cycles, retired 1 instructions\nStopped in 1 steps at PC = 0x0.  Status 'HLT', CC Z=1 S=0 O=0\nChanges to registers:\n\nChanges to memory:\n",
+        err: b"",
+    },
+];
+
+/// Calls that run nothing: the HCL file is read, bound and ordered before the object file is read. There is no file `q.yo`.
+static STOPPED: [Simulation; 8] = [
+    Simulation {
+        shows: "a cycle of names",
+        words: &["psim", "h.hcl", "p.yo"],
+        logic: Logic::Changed(b"bool D_stall = D_bubble;\nbool D_bubble = D_stall;\n"),
+        object: b"0x000: 00\n",
+        status: 5,
+        out: b"",
+        err: b"h.hcl: Cycle D_stall D_bubble\n",
+    },
+    Simulation {
+        shows: "an unknown name",
+        words: &["psim", "h.hcl", "p.yo"],
+        logic: Logic::Changed(b"word foo = 1;\n"),
+        object: b"0x000: 00\n",
+        status: 5,
+        out: b"",
+        err: b"h.hcl: Unknown foo\n",
+    },
+    Simulation {
+        shows: "a missing definition",
+        words: &["psim", "h.hcl", "p.yo"],
+        logic: Logic::Text(b""),
+        object: b"0x000: 00\n",
+        status: 5,
+        out: b"",
+        err: b"h.hcl: Missing f_pc\n",
+    },
+    Simulation {
         shows: "an object file with a fault",
         words: &["psim", "h.hcl", "p.yo"],
-        machine: Machine::Pipe,
+        logic: Logic::Pipe,
         object: b"0x000: 0\n",
         status: 5,
         out: b"",
         err: b"p.yo:1: OddDigits\n",
     },
+    Simulation {
+        shows: "no object file behind a good HCL file",
+        words: &["psim", "h.hcl", "q.yo"],
+        logic: Logic::Pipe,
+        object: b"0x000: 00\n",
+        status: 3,
+        out: b"",
+        err: b"read fault q.yo\n",
+    },
+    Simulation {
+        shows: "no grammar, before a missing object file",
+        words: &["psim", "h.hcl", "q.yo"],
+        logic: Logic::Text(b"word"),
+        object: b"0x000: 00\n",
+        status: 5,
+        out: b"",
+        err: b"h.hcl:1:5: Syntax\n",
+    },
+    Simulation {
+        shows: "a wrong kind, before a missing object file",
+        words: &["psim", "h.hcl", "q.yo"],
+        logic: Logic::Changed(b"bool Stat = 1;\n"),
+        object: b"0x000: 00\n",
+        status: 5,
+        out: b"",
+        err: b"h.hcl: KindMismatch Stat\n",
+    },
+    Simulation {
+        shows: "a cycle, before a missing object file",
+        words: &["psim", "h.hcl", "q.yo"],
+        logic: Logic::Changed(b"bool set_cc = set_cc;\n"),
+        object: b"0x000: 00\n",
+        status: 5,
+        out: b"",
+        err: b"h.hcl: Cycle set_cc\n",
+    },
 ];
 
-fn logic(machine: Machine) -> &'static [u8] {
-    match machine {
-        Machine::Seq => SEQ,
-        Machine::Pipe => STD,
+/// PIPE's control logic with other definitions in place of those of the same name.
+fn changed(alloc: Global, definitions: &[u8]) -> Result<Vec<u8>, Fail> {
+    let mut text = Vec::from_slice(alloc, definitions)?;
+    let mut kept = true;
+    for line in STD.split(|byte| *byte == b'\n') {
+        if line.starts_with(b"word ") || line.starts_with(b"bool ") {
+            kept = !is_defined(line, definitions);
+        }
+        if kept {
+            text.extend_from_slice(line)?;
+            text.push(b'\n')?;
+        }
+    }
+    Ok(text)
+}
+
+/// Whether definitions define the name that a line does.
+fn is_defined(line: &[u8], definitions: &[u8]) -> bool {
+    // the kinds have as many letters
+    let head = line
+        .get(5..)
+        .unwrap_or(line)
+        .split(|byte| *byte == b'=')
+        .next()
+        .unwrap_or(line);
+    definitions
+        .split(|byte| *byte == b'\n')
+        .any(|other| other.get(5..).unwrap_or(other).starts_with(head))
+}
+
+fn text_of(alloc: Global, logic: Logic) -> Result<Vec<u8>, Fail> {
+    match logic {
+        Logic::Seq => Ok(Vec::from_slice(alloc, SEQ)?),
+        Logic::Pipe => Ok(Vec::from_slice(alloc, STD)?),
+        Logic::Changed(definitions) => changed(alloc, definitions),
+        Logic::Text(text) => Ok(Vec::from_slice(alloc, text)?),
     }
 }
 
@@ -212,6 +530,18 @@ fn on_pipe() -> &'static [Simulation] {
     &ON_PIPE
 }
 
+fn more_on_pipe() -> &'static [Simulation] {
+    &MORE_ON_PIPE
+}
+
+fn with_changes() -> &'static [Simulation] {
+    &CHANGED
+}
+
+fn stopped() -> &'static [Simulation] {
+    &STOPPED
+}
+
 fn files_with(alloc: Global, hcl: &[u8], object: &[u8]) -> Result<MemFiles, Fail> {
     let mut files = MemFiles::new(alloc, Vec::new(alloc));
     files.add("h.hcl", hcl)?;
@@ -221,7 +551,8 @@ fn files_with(alloc: Global, hcl: &[u8], object: &[u8]) -> Result<MemFiles, Fail
 
 fn check(rt: &impl Abort, alloc: Global, case: &Simulation) -> Result<(), Fail> {
     let words = words_of(alloc, case.words)?;
-    let mut files = files_with(alloc, logic(case.machine), case.object)?;
+    let logic = text_of(alloc, case.logic)?;
+    let mut files = files_with(alloc, logic.as_slice(), case.object)?;
     let mut out = sink(alloc, &[], 4096)?;
     let mut err = sink(alloc, &[], 256)?;
     let status = run(alloc, words.as_slice(), &mut files, &mut out, &mut err);
@@ -241,7 +572,10 @@ fn check_all(rt: &impl Abort, alloc: Global, cases: &[Simulation]) -> Result<(),
 #[test]
 fn runs_of_the_datapaths(rt: HostRuntime) -> Result<(), Fail> {
     check_all(&rt, rt.alloc(), on_seq())?;
-    check_all(&rt, rt.alloc(), on_pipe())
+    check_all(&rt, rt.alloc(), on_pipe())?;
+    check_all(&rt, rt.alloc(), more_on_pipe())?;
+    check_all(&rt, rt.alloc(), with_changes())?;
+    check_all(&rt, rt.alloc(), stopped())
 }
 
 /// A run with its trace whose write of this number fails: a proper prefix of the text went out, with status 4, or there was no such
@@ -264,7 +598,7 @@ fn writes_of_a_trace_that_fail(rt: HostRuntime) -> Result<(), Fail> {
     assert!(rt; check_write(&rt, rt.alloc(), 0)?);
     assert!(rt; check_write(&rt, rt.alloc(), 40)?);
     assert!(rt; !check_write(&rt, rt.alloc(), 200)?);
-    for number in 0..100 {
+    for number in 0..200 {
         let _ = check_write(&rt, rt.alloc(), number)?;
     }
     Ok(())
