@@ -1,6 +1,7 @@
 //! Measures of the datapaths. The first line of the input says which datapath runs, on which evaluator, and for how many cycles:
 //! `psim walked 2000000`, or `ssim` or `compiled`; the rest is the HCL file. The program that runs is an endless loop.
 #![tactic(auto)]
+
 ghost use Rattle.std.specs.Prelude.{◌≡◌, ◌<◌, ◌^◌};
 
 use dp_signals::{law_of_tables, pipe_table, seq_table};
@@ -18,8 +19,8 @@ use y86_base::{Image, Variant};
 
 /// irmovq $1,%rcx; irmovq $0x1000,%rdx; then rmmovq %rcx,(%rdx), mrmovq (%rdx),%rbx, addq %rcx,%rax and a jump back to the first of them
 static LOOP: [u8; 51] = [
-    0x30, 0xf1, 1, 0, 0, 0, 0, 0, 0, 0, 0x30, 0xf2, 0, 0x10, 0, 0, 0, 0, 0, 0, 0x40, 0x12, 0, 0, 0, 0, 0, 0, 0, 0, 0x50, 0x32, 0,
-    0, 0, 0, 0, 0, 0, 0, 0x60, 0x10, 0x70, 0x14, 0, 0, 0, 0, 0, 0, 0,
+    0x30, 0xf1, 1, 0, 0, 0, 0, 0, 0, 0, 0x30, 0xf2, 0, 0x10, 0, 0, 0, 0, 0, 0, 0x40, 0x12, 0, 0, 0,
+    0, 0, 0, 0, 0, 0x50, 0x32, 0, 0, 0, 0, 0, 0, 0, 0, 0x60, 0x10, 0x70, 0x14, 0, 0, 0, 0, 0, 0, 0,
 ];
 
 /// An image of 8192 bytes that begins with the loop.
