@@ -1,15 +1,18 @@
-//! Files bound to the tables of signals: what binds, and the first fault of what doesn't. The values of terms.
-ghost use Rattle.std.specs.Prelude.{IfOk};
-ghost use Rattle.hcl_types.specs.Tables.{IsSound};
+//! Files bound to the tables of signals: what binds, and the first fault of what doesn't. The values of terms on both evaluators.
+ghost use Rattle.std.specs.Prelude.{◌≡◌, IfOk};
+ghost use Rattle.dp_signals.specs.PipeTable.{pipe_rows};
+ghost use Rattle.hcl_types.specs.Tables.{IsBound, IsSound};
 
-use crate::designs::{BT, FU, LF, NB, NT, STD};
-use dp_signals::{law_of_tables, pipe_table};
+use crate::designs::{BT, FU, LF, NB, NT, SEQ, STD, with};
+use dp_signals::{PipeState, law_of_tables, pipe_table, seq_table, solve_pipe};
+use hcl_compile::compile;
+use hcl_order::order;
 use hcl_read::read;
-use hcl_types::{BindFault, BindWhy, Design, Table, bind, value_of};
+use hcl_types::{BindFault, BindWhy, Design, Plain, Table, bind};
 use std::alloc::Global;
 use std::process::Abort;
 use std::test::Fail;
-use y86_base::Memory;
+use y86_base::{Image, Memory, Variant};
 
 /// What is added to the standard control logic, whether its W_bubble is left in, and the fault with its name.
 static ADDED: [(&[u8], bool, BindWhy, &[u8]); 8] = [
@@ -65,7 +68,12 @@ static BODIES: [(&[u8], BindWhy, &[u8]); 8] = [
     ),
 ];
 
-static MORE_BODIES: [(&[u8], BindWhy, &[u8]); 8] = [
+static MORE_BODIES: [(&[u8], BindWhy, &[u8]); 9] = [
+    (
+        b"bool W_bubble = 1 == M_Cnd;",
+        BindWhy::KindMismatch,
+        b"W_bubble",
+    ),
     (
         b"bool W_bubble = M_Cnd in { 0 };",
         BindWhy::KindMismatch,
@@ -108,6 +116,18 @@ static MORE_BODIES: [(&[u8], BindWhy, &[u8]); 8] = [
     ),
 ];
 
+/// Definitions of w_valM in place of the standard one: it is a word, and a Boolean is none.
+static WORDS: [&[u8]; 8] = [
+    b"bool w_valM = 1;",
+    b"bool w_valM = M_Cnd;",
+    b"word w_valM = M_Cnd;",
+    b"word w_valM = !M_Cnd;",
+    b"word w_valM = 1 && 1;",
+    b"word w_valM = 0 || 1;",
+    b"word w_valM = W_valM == 1;",
+    b"word w_valM = W_valM in { 1 };",
+];
+
 /// PIPE's table of signals.
 fn signals(alloc: Global) -> Result<Table, Memory>
     ensures { IfOk result (λ table. IsSound table.rows) }
@@ -138,6 +158,7 @@ fn bound(
     added: &[u8],
 ) -> Result<Result<Design, BindFault>, Fail>
     requires { IsSound table.now.rows }
+    ensures { IfOk result (λ answer. IfOk answer (λ d. IsBound table.now.rows d.terms)) }
 {
     match read(rt.alloc(), &text(rt, standard, added)?) {
         Ok(file) => Ok(bind(rt.alloc(), &file, table)),
@@ -178,6 +199,16 @@ fn the_first_fault_is_told(rt: HostRuntime) -> Result<(), Fail> {
     for (added, why, name) in &MORE_BODIES {
         refuse(&rt, &table, false, added, *why, name)?;
     }
+    for definition in &WORDS {
+        let file = read(rt.alloc(), with(rt.alloc(), definition)?.as_slice())?;
+        match bind(rt.alloc(), &file, &table) {
+            Ok(_) => panic!(rt; "bound: {definition:?}"),
+            Err(fault) => {
+                assert_eq!(rt; fault.why, BindWhy::KindMismatch, "{definition:?}");
+                assert_eq!(rt; fault.name.bytes(), b"w_valM".as_slice(), "{definition:?}");
+            }
+        }
+    }
     Ok(())
 }
 
@@ -202,13 +233,29 @@ static COMPARED: [(&[u8], u64, u64, u64, u64); 8] = [
     (b"W_valE != W_valM", LOW, HIGH, 0, 1),
 ];
 
-static JOINED: [(&[u8], u64, u64, u64, u64); 8] = [
+static JOINED: [(&[u8], u64, u64, u64, u64); 9] = [
     (b"M_Cnd", 0, 0, 2, 2),
-    (b"!M_Cnd", 0, 0, 2, 0),
-    (b"M_Cnd && 1", 0, 0, 2, 1),
+    (b"M_Cnd", 0, 0, LOW, LOW),
+    (b"!M_Cnd", 0, 0, LOW, 0),
+    (b"!M_Cnd", 0, 0, 0, 1),
+    (b"M_Cnd && 1", 0, 0, LOW, 1),
+    (b"M_Cnd && W_valE < 0", HIGH, 0, MINUS_1, 0),
     (b"0 || M_Cnd || 0", 0, 0, 0, 0),
+    (b"0 || M_Cnd || 0", 0, 0, LOW, 1),
+    (b"1", 0, 0, 0, 1),
+];
+
+static CHOSEN: [(&[u8], u64, u64, u64, u64); 8] = [
+    (b"W_valE == -9223372036854775808", LOW, 0, 0, 1),
     (b"W_valE in { 1, W_valM, -8 }", MINUS_8, 0, 0, 1),
     (b"W_valE in { 1, W_valM, -8 }", 8, 0, 0, 0),
+    (
+        b"W_valE in { -9223372036854775808, 9223372036854775807 }",
+        HIGH,
+        0,
+        0,
+        1,
+    ),
     (
         b"[ W_valE < 0 : 3; 1 : 4; W_valE == 0 : 5; ] == W_valM",
         0,
@@ -217,53 +264,79 @@ static JOINED: [(&[u8], u64, u64, u64, u64); 8] = [
         1,
     ),
     (b"[ W_valE < 0 : 3; M_Cnd : 4; ] == W_valM", 0, 0, 0, 1),
+    (
+        b"[ W_valE < W_valM : -9223372036854775808; 1 : 9223372036854775807; ] == W_valE",
+        LOW,
+        HIGH,
+        0,
+        1,
+    ),
+    (
+        b"[ W_valE < W_valM : -9223372036854775808; 1 : 9223372036854775807; ] == W_valE",
+        HIGH,
+        LOW,
+        0,
+        1,
+    ),
 ];
 
-/// The value of the last row's term where W_valE, W_valM and M_Cnd, rows 62 to 64, have these values.
-fn value(
+/// The values of W_bubble, the last row, in a cycle that begins with these values of W_valE, W_valM and M_Cnd: on the evaluator that
+/// walks the terms, and on compiled signals.
+fn values(
     rt: &(impl Abort + AllocGlobal),
     table: &Table,
     body: &[u8],
     x: u64,
     y: u64,
     cnd: u64,
-) -> Result<u64, Fail>
-    requires { IsSound table.now.rows }
+) -> Result<(u64, u64), Fail>
+    requires { table.now.rows ≡ pipe_rows }
 {
     let mut added = Vec::from_slice(rt.alloc(), b"bool W_bubble = ")?;
     added.extend_from_slice(body)?;
     added.push(b';')?;
-    let mut vals = [0; 115];
-    vals[62] = x;
-    vals[63] = y;
-    vals[64] = cnd;
-    match bound(rt, table, false, added.as_slice())? {
-        Ok(design) => match design.terms.items().last() {
-            Some(term) => Ok(value_of(term, &vals)),
-            None => panic!(rt; "no term"),
-        },
-        Err(_) => panic!(rt; "not bound: {body:?}"),
-    }
+    law_of_tables();
+    let Ok(design) = bound(rt, table, false, added.as_slice())? else {
+        panic!(rt; "not bound: {body:?}");
+    };
+    let ids = order(rt.alloc(), &design, table)?;
+    let mut state = PipeState::start(Image::new(rt.alloc(), 64)?);
+    state.w.val_e = x;
+    state.w.val_m = y;
+    state.m.cnd = cnd;
+    let walked = solve_pipe(
+        Variant::Base,
+        &design,
+        &ids,
+        &state,
+        &mut Plain::new(&design),
+    );
+    let mut compiled = compile(rt.alloc(), &design, &ids)?;
+    let run = solve_pipe(Variant::Base, &design, &ids, &state, &mut compiled);
+    Ok((walked[114], run[114]))
 }
 
-#[test]
-fn terms_have_their_values(rt: HostRuntime) -> Result<(), Fail> {
-    let table = signals(rt.alloc())?;
-    for (body, x, y, cnd, wanted) in &COMPARED {
+/// Each of these bodies has its value on both evaluators.
+fn have_values(
+    rt: &(impl Abort + AllocGlobal),
+    cases: &[(&'static [u8], u64, u64, u64, u64)],
+) -> Result<(), Fail> {
+    let table = pipe_table(rt.alloc())?;
+    for (body, x, y, cnd, wanted) in cases {
         assert_eq!(rt;
-            value(&rt, &table, body, *x, *y, *cnd)?,
-            *wanted,
-            "{body:?}"
-        );
-    }
-    for (body, x, y, cnd, wanted) in &JOINED {
-        assert_eq!(rt;
-            value(&rt, &table, body, *x, *y, *cnd)?,
-            *wanted,
+            values(rt, &table, body, *x, *y, *cnd)?,
+            (*wanted, *wanted),
             "{body:?}"
         );
     }
     Ok(())
+}
+
+#[test]
+fn terms_have_their_values(rt: HostRuntime) -> Result<(), Fail> {
+    have_values(&rt, &COMPARED)?;
+    have_values(&rt, &JOINED)?;
+    have_values(&rt, &CHOSEN)
 }
 
 /// Declarations that change nothing: one that is repeated, and one of a constant.
@@ -279,5 +352,9 @@ fn the_files_of_the_book_bind(rt: HostRuntime) -> Result<(), Fail> {
             Err(_) => panic!(rt; "no file"),
         }
     }
+    law_of_tables();
+    let table = seq_table(rt.alloc())?;
+    let file = read(rt.alloc(), SEQ)?;
+    assert!(rt; bind(rt.alloc(), &file, &table).is_ok());
     Ok(())
 }
