@@ -12,12 +12,12 @@ use Rattle.nets.proofs.Truths.{truth_kept}
 use Rattle.ctl_formula.proofs.Inside.{within_more}
 use Rattle.ctl_formula.proofs.Chosen.{picked_kept}
 
-entry_within : (m n : ℕ) (e : Entry) → m ≤ n → EntryWithin m e → EntryWithin n e
+pub entry_within : (m n : ℕ) (e : Entry) → m ≤ n → EntryWithin m e → EntryWithin n e
 entry_within m n Absent h x = tt
 entry_within m n (Truth g) h x = omega arith
 entry_within m n (Picks ps) h x = within_more m n ps h x
 
-entry_shows : {a b : Gates} → Begins a b → (w : List Bool) (α : Assignment) (e : Entry) (x : Leaf) → EntryWithin (length a.gates) e → EntryShows (at a w) α e x → EntryShows (at b w) α e x
+pub entry_shows : {a b : Gates} → Begins a b → (w : List Bool) (α : Assignment) (e : Entry) (x : Leaf) → EntryWithin (length a.gates) e → EntryShows (at a w) α e x → EntryShows (at b w) α e x
 entry_shows k w α Absent x h s = tt
 entry_shows k w α (Truth g) x h s = truth_kept k g w h ∙ s
 entry_shows k w α (Picks ps) x h s = picked_kept k w ps h x s

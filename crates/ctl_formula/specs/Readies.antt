@@ -1,11 +1,13 @@
 -- What a term needs so that it can be translated, the leaves that it can pick, and what the entries of names show.
-use Rattle.std.specs.Prelude.{ℕ, ◌+◌, ◌<◌, ◌≤◌, Bool, true, false, ◌&&◌, ◌||◌, if◌then◌else◌, List, [], ◌∷◌, ◌≡◌, length, map, nat_eq, Option, Some, None, slice_get, get_or}
+use Rattle.std.specs.Prelude.{ℕ, ◌+◌, ◌<◌, ◌≤◌, Bool, true, false, not, ◌&&◌, ◌||◌, if◌then◌else◌, List, [], ◌∷◌, ◌≡◌, length, map, nat_eq, Option, Some, None, slice_get, get_or}
 use Rattle.hcl_read.specs.declared.tree.CmpOp.{CmpOp}
 use Rattle.hcl_read.specs.declared.tree.CmpOp.TheVariants as op
 use Rattle.hcl_types.specs.declared.term.Term.{Term}
 use Rattle.hcl_types.specs.declared.term.TermBranch.{TermBranch}
 use Rattle.hcl_types.specs.declared.term.Term.TheOpen.{Term-F, TermBranch-F}
 use Rattle.hcl_types.specs.declared.term.Term.TheFolds.{fold-Term, fold-TermBranch}
+use Rattle.hcl_types.specs.declared.table.Class.{Class}
+use Rattle.hcl_types.specs.Kinds.{is_truth}
 use Rattle.hcl_types.specs.Lists.{each}
 use Rattle.ctl_atoms.specs.declared.leaf.Leaf.{Leaf}
 use Rattle.ctl_atoms.specs.declared.leaf.Leaf.TheVariants.{Name, Number}
@@ -69,6 +71,12 @@ ready es atoms = fold-Term Ready (Ready × Ready) (ready_layer es atoms) ready_p
 
 abbrev pub branch_ready : List Entry → List Atom → TermBranch → Ready × Ready
 branch_ready es atoms = fold-TermBranch Ready (Ready × Ready) (ready_layer es atoms) ready_pair
+
+-- an entry is of a class, and its picks have these leaves
+pub record IsEntryOf (class : Class) (leaves : List Leaf) (e : Entry) : Type 0 where
+  pub truth : entry_truth (Some e) ≡ is_truth class
+  pub word : entry_word (Some e) ≡ not (is_truth class)
+  pub own : entry_leaves (Some e) ≡ leaves
 
 -- the gates of an entry are gates of the net
 abbrev pub EntryWithin : ℕ → Entry → Type 0

@@ -3,6 +3,8 @@
 #![tactic(auto)]
 
 mod controls;
+mod filling;
+mod given;
 mod laws;
 mod picking;
 mod scope;
@@ -10,4 +12,5 @@ mod terms;
 
 pub use controls::{Controls, Entry, Pick, Place};
 pub use laws::{law_of_agreement, law_of_controls};
+pub use filling::translate;
 pub use ctl_atoms::{CtlFault, Leaf};

@@ -23,7 +23,7 @@ pub struct Scope<'a> {
 
 /// The place of an atom in the list.
 #[tactic(auto, using(crate::proofs::Atoms::atom_eq_true))]
-fn position(atoms: &[Atom], atom: Atom) -> Option<usize>
+pub fn position(atoms: &[Atom], atom: Atom) -> Option<usize>
     ensures { MatchOption result (has_atom atoms.now atom ≡ false) (λ k. slice_get atoms.now k ≡ Some atom) }
 {
     for (i, a) in atoms.iter().enumerate() {
