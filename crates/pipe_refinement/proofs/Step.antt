@@ -136,7 +136,7 @@ module _ (x : Given) (n t : ℕ) (c : Config) (p : PipeState) (f : ℕ → ℕ) 
   image_now : IsImage p.mem
   image_now = rw i.mem (image_before x.v x.image (in_m c) image)
 
-  -- ---- I0
+  -- ---- a register is live where it holds an instruction
   live_d' : p'.d.live ≡ is_live c'.d
   live_d' = rw d_is (moved_all (λ (s : StageD) z. s.live ≡ is_live z) k.d p.d bubble_d (loaded_d p f) c.d Empty g (λ _. i.live_d) refl (λ _. some_live g mo.some))
 
@@ -149,7 +149,7 @@ module _ (x : Given) (n t : ℕ) (c : Config) (p : PipeState) (f : ℕ → ℕ) 
   live_w' : p'.w.live ≡ is_live c'.w
   live_w' = rw w_is (moved_all (λ (s : StageW) z. s.live ≡ is_live z) k.w p.w bubble_w (loaded_w p f) c.w Empty c.m (λ _. i.live_w) refl (λ _. i.live_m))
 
-  -- ---- I1
+  -- ---- the run comes to the instructions in flight
   lives : (j : ℕ) → j < in_f c' → Live x.v x.image j
   lives j h = by (loads k.d && is_good g) refl (rw (next_in_f k g c kept) at h)
     where
@@ -174,7 +174,7 @@ module _ (x : Given) (n t : ℕ) (c : Config) (p : PipeState) (f : ℕ → ℕ) 
   few' : in_f c' ≤ t + 1
   few' = omega (arith, next_in_f k g c kept, count_le (loads k.d && is_good g), i.few)
 
-  -- ---- I2
+  -- ---- bubbles, and wrong instructions
   empty_d' : c'.d ≡ Empty → EmptyD p'.d
   empty_d' = rw d_is (moved_all (λ (s : StageD) z. z ≡ Empty → EmptyD s) k.d p.d bubble_d (loaded_d p f) c.d Empty g (λ _. i.empty_d) (λ _. empty_d_bubble) (λ _ e. absurd (good_not_empty g mo.some e)))
 
@@ -195,7 +195,7 @@ module _ (x : Given) (n t : ℕ) (c : Config) (p : PipeState) (f : ℕ → ℕ) 
   wrong_e' : is_wrong c'.e ≡ true → AllowedE x.v p'.e
   wrong_e' = rw e_is (moved_all (λ (s : StageE) z. is_wrong z ≡ true → AllowedE x.v s) k.e p.e bubble_e (loaded_e p f) c.e Empty c.d (λ _. i.wrong_e) (λ e. cc) (λ _ e. allowed_moved x.v x.s p f c q.decode (i.wrong_d e)))
 
-  -- ---- I3
+  -- ---- the words of good instructions
   good_d' : is_good c'.d ≡ true → InD x (in_d c') p'.d
   good_d' = rw d_is (moved_all (λ (s : StageD) z. is_good z ≡ true → InD x (in_d c') s) k.d p.d bubble_d (loaded_d p f) c.d Empty g
       (λ s h. subst (λ j. InD x j p.d) (sym (stay_in_d k g c kept s)) (i.good_d h)) (λ e. cc)
@@ -238,7 +238,7 @@ module _ (x : Given) (n t : ℕ) (c : Config) (p : PipeState) (f : ℕ → ℕ) 
   good_w' : is_good c'.w ≡ true → InW x (in_w c') p'.w
   good_w' h = subst (InW x (in_m c)) (sym (loaded_w' h)) (words_w x t c p f rs image i b a q.memory (from_m h))
 
-  -- ---- I4
+  -- ---- registers, memory and flags
   regs' : p'.regs ≡ (before x.v x.image (in_m c)).regs
   unfolding next
   regs' = regs_are x t c p f rs image i a q.write run_on
@@ -251,7 +251,7 @@ module _ (x : Given) (n t : ℕ) (c : Config) (p : PipeState) (f : ℕ → ℕ) 
   unfolding next
   flags' = flags_next_are x t c p f rs image i a b q.execute ∙ ap (λ j. (before x.v x.image j).flags) (sym (next_in_e k g c kept))
 
-  -- ---- I5 to I7
+  -- ---- no load is awaited, and the path
   awaited' : no_load_awaited x.s x.v p' c' ≡ true
   awaited' = l6_from (is_good c'.e) (is_good c'.m) (x.s.lf && stores_a (row x.v p'.e.icode).memory) p'.m.dst_m p'.e.src_a p'.e.src_b
       (λ e m ne same.

@@ -77,7 +77,7 @@ outside n e = elim (cases_lt n 115) [
   | inr le ↦ le
 ]
 
-implied : (a b : Bool) → not a || b ≡ true → a ≡ true → b ≡ true
+pub implied : (a b : Bool) → not a || b ≡ true → a ≡ true → b ≡ true
 implied true b h e = h
 implied false b h e = cc
 

@@ -29,21 +29,15 @@ use Rattle.dp_signals.specs.declared.pipe_state.StageD.{StageD}
 use Rattle.field_bits.specs.Fits.{cnd_fits, cnd_where, code_fits, destination_fits, half_fits, icode_fits, only_where, reading_fits, register_fits, stat_fits, tied}
 use Rattle.pipe_fields.specs.Allowed.{allowed, decode_allowed, decode_fits, execute_allowed, execute_fits, fetch_allowed, fetch_fits, is_live, memory_allowed, memory_fits, registers_fit, stage_fits, write_allowed, write_fits}
 use Rattle.pipe_fields.specs.Layout.{ExecuteLine, Fields}
+use Rattle.hazard_rules.specs.Columns.{has}
 use Rattle.pipe_refinement.specs.Invariant.{AllowedD, Given, Inv}
 use Rattle.pipe_refinement.specs.Kinds.{Config, Empty, Good, Kind, Wrong, in_d, in_e, in_f, in_m, in_w, is_good, is_wrong}
-use Rattle.pipe_refinement.proofs.Fetch.{reads, set_bit}
+use Rattle.pipe_refinement.proofs.Fetch.{or_right, reads, set_bit}
+use Rattle.pipe_refinement.proofs.Values.{or_left}
 use Rattle.pipe_theorem.proofs.Real.{good_number}
 use Rattle.pipe_theorem.proofs.RealCycle.{back_of, f_line, fault_of, fields_at, hidden, kind_number, taken_of}
 
 -- ---- truths
-
-or_left : (a b : Bool) → a ≡ true → a || b ≡ true
-or_left true b h = refl
-or_left false b h = cc
-
-or_right : (a b : Bool) → b ≡ true → a || b ≡ true
-or_right true b h = refl
-or_right false b h = h
 
 all3 : (a b c : Bool) → a ≡ true → b ≡ true → c ≡ true → (a && b) && c ≡ true
 all3 a b c pa pb pc = rw (pa, pb, pc) refl

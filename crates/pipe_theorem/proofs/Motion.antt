@@ -5,12 +5,15 @@ use Rattle.y86_isa.specs.RowTests.{is_branch, is_loaded}
 use Rattle.y86_isa.specs.Table.{row}
 use Rattle.y86_isa.specs.declared.machine.Rec.{Rec}
 use Rattle.run_laws.specs.Instructions.{doing, ret_at}
+use Rattle.run_laws.proofs.Walk.{not_true}
+use Rattle.dp_signals.specs.PipeCycle.{next}
 use Rattle.dp_signals.specs.PipeNames as name
 use Rattle.dp_signals.specs.PipeRows.{PipeHolds}
 use Rattle.dp_signals.specs.Values.{set}
 use Rattle.dp_signals.specs.declared.pipe_state.PipeState.{PipeState}
 use Rattle.ctl_atoms.specs.declared.leaf.Leaf.TheVariants.{Name}
 use Rattle.ctl_atoms.specs.declared.leaf.Leaf.{Leaf}
+use Rattle.ctl_atoms.proofs.Listed.{apart}
 use Rattle.ctl_formula.specs.Laws.{real, worth}
 use Rattle.rule_gates.specs.Words.{takes}
 use Rattle.pipe_motion.specs.Slots.{Slot, fetched_slot, moved_view, next_is_right, path, youngest_stops}
@@ -21,15 +24,7 @@ use Rattle.pipe_refinement.specs.Facts.{GoodFetch, MotionFacts, RightPc, fell_m,
 use Rattle.pipe_refinement.specs.Invariant.{Given, Inv, slot_of, view_of}
 use Rattle.pipe_refinement.specs.Kinds.{Config, Good, Kind, asked, in_f, in_m, in_w, is_good}
 use Rattle.pipe_theorem.proofs.RealCycle.{fields_at}
-use Rattle.pipe_theorem.proofs.Reflect.{AllAsked, leaf-true}
-
-pick_if : (f : ℕ → ℕ) (b : Bool) (l m : Leaf) → worth f (cond b l m) ≡ cond b (worth f l) (worth f m)
-pick_if f true l m = refl
-pick_if f false l m = refl
-
-not_false : (b : Bool) → not b ≡ true → b ≡ false
-not_false true h = cc
-not_false false h = refl
+use Rattle.pipe_theorem.proofs.Reflect.{AllAsked, leaf-true, worth_if}
 
 module _ (x : Given) (t : ℕ) (c : Config) (p : PipeState) (f : ℕ → ℕ) (rs : List Rec) (l : FetchLine) (cv : ℕ → Leaf) (i : Inv x t c p rs)
     (st : PipeHolds p f) (agrees : (n : ℕ) → worth f (cv n) ≡ f n) where
@@ -45,7 +40,7 @@ module _ (x : Given) (t : ℕ) (c : Config) (p : PipeState) (f : ℕ → ℕ) (r
       let h1 = and_parts (is_jump x.v p.e.stat p.e.icode) (pc_is (cond (set (f name.e_Cnd)) (Name name.E_valC) (Name name.E_valA))) h in
       let j = and_parts (p.e.stat == 1) (is_branch (row x.v p.e.icode).next) h1.0 in
       let r : f name.f_pc ≡ cond (set (f name.e_Cnd)) (f name.E_valC) (f name.E_valA) =
-      pick (cond (set (f name.e_Cnd)) (Name name.E_valC) (Name name.E_valA)) h1.1 ∙ pick_if f (set (f name.e_Cnd)) (Name name.E_valC) (Name name.E_valA) in
+      pick (cond (set (f name.e_Cnd)) (Name name.E_valC) (Name name.E_valA)) h1.1 ∙ worth_if f (set (f name.e_Cnd)) (Name name.E_valC) (Name name.E_valA) in
       jump_e d e (eqb-true p.e.stat 1 j.0) j.1 (r ∙ rw (st.E_valC, st.E_valA) refl)
 
   loads_in : (k : Kind) (j icode : ℕ) → (is_good k ≡ true → icode ≡ (doing x.v x.image j).icode) → is_good k && ret_at x.v x.image j ≡ true → is_loaded (row x.v icode).next ≡ true
@@ -103,7 +98,7 @@ module _ (x : Given) (t : ℕ) (c : Config) (p : PipeState) (f : ℕ → ℕ) (r
   good_fetch h =
       let h1 = and_parts (not (youngest_stops (view_of x c))) ((pc_is (Name name.F_predPC) && path (view_of x c)) || cond (is_good c.d) false (cond (is_good c.e) after_e (cond (is_good c.m) after_m after_w))) h in
       record {
-        goes_on = not_false (youngest_stops (view_of x c)) h1.0;
+        goes_on = not_true (youngest_stops (view_of x c)) h1.0;
         right = elim (or_cases (pc_is (Name name.F_predPC) && path (view_of x c)) (cond (is_good c.d) false (cond (is_good c.e) after_e (cond (is_good c.m) after_m after_w))) h1.1) [
           | inl z ↦
               let z1 = and_parts (pc_is (Name name.F_predPC)) (path (view_of x c)) z in

@@ -22,6 +22,7 @@ use Rattle.dp_signals.specs.declared.pipe_state.PipeState.{PipeState}
 use Rattle.ctl_atoms.specs.Leaves.{leaf_eq, leaf_holds}
 use Rattle.ctl_atoms.specs.declared.leaf.Leaf.TheVariants.{Name, Number}
 use Rattle.ctl_atoms.specs.declared.leaf.Leaf.{Leaf}
+use Rattle.ctl_atoms.proofs.Listed.{apart}
 use Rattle.ctl_formula.specs.Laws.{real, worth}
 use Rattle.rule_gates.specs.Words.{address_leaf, is_number, is_truth, operand_leaf_a, operand_leaf_b, takes, takes_some}
 use Rattle.pipe_motion.specs.Predictions.{predicts}
@@ -29,10 +30,13 @@ use Rattle.pipe_motion.specs.Slots.{Movers}
 use Rattle.pipe_fields.specs.Layout.{FetchLine}
 use Rattle.hazard_rules.specs.Obligations.{carries_target, code_of, fetched as fetched_at, movers_of, predicted_leaf, right_value as right_leaf, takes_right}
 use Rattle.hazard_rules.specs.Rules.{demand}
+use Rattle.hazard_rules.specs.Settled.{carries}
 use Rattle.hazard_rules.specs.Stages.{is_jump, is_ret, misses, slot_by, stops_by}
 use Rattle.pipe_refinement.specs.Facts.{AccessFacts, AddressIs, AlwaysFacts, DecodeFacts, ExecuteFacts, FetchFacts, MemoryFacts, WriteFacts, exempt, late_dst_e, leaves_d, predicted_pc, right_value}
 use Rattle.pipe_refinement.specs.Invariant.{Given, view_of}
 use Rattle.pipe_refinement.specs.Kinds.{Config, asked, in_m, is_good, is_wrong}
+use Rattle.pipe_refinement.proofs.Fetch.{reads}
+use Rattle.pipe_theorem.proofs.Agreeing.{implied}
 use Rattle.pipe_theorem.proofs.Circle.{FTies}
 use Rattle.pipe_theorem.proofs.RealCycle.{fault_of, fields_at, hidden}
 
@@ -59,10 +63,6 @@ agree-true false false h = refl
 
 -- ---- truths
 
-implied : (a b : Bool) → not a || b ≡ true → a ≡ true → b ≡ true
-implied true b h e = h
-implied false b h e = cc
-
 unless : (a b : Bool) → a || b ≡ true → a ≡ false → b ≡ true
 unless false b h e = h
 unless true b h e = cc
@@ -72,10 +72,6 @@ first a b h = (and_parts a b h).0
 
 second : (a b : Bool) → a && b ≡ true → b ≡ true
 second a b h = (and_parts a b h).1
-
-not_false : (b : Bool) → not b ≡ true → b ≡ false
-not_false true h = cc
-not_false false h = refl
 
 if_true : {A : Type 0} (b : Bool) (y z : A) → b ≡ true → cond b y z ≡ y
 if_true b y z e = rw e refl
@@ -93,7 +89,7 @@ chain_is f false false false true e l m n o q r = refl
 chain_is f false false false false true l m n o q r = refl
 chain_is f false false false false false l m n o q r = refl
 
-worth_if : (f : ℕ → ℕ) (b : Bool) (l m : Leaf) → worth f (cond b l m) ≡ cond b (worth f l) (worth f m)
+pub worth_if : (f : ℕ → ℕ) (b : Bool) (l m : Leaf) → worth f (cond b l m) ≡ cond b (worth f l) (worth f m)
 worth_if f true l m = refl
 worth_if f false l m = refl
 

@@ -38,7 +38,7 @@ use Rattle.pipe_refinement.proofs.Fetch.{LoadsFetched, fetch_same, loads_fetched
 use Rattle.pipe_refinement.proofs.Older.{w_alone}
 use Rattle.pipe_refinement.proofs.Refine.{refines}
 use Rattle.pipe_refinement.proofs.Values.{m_valM_is}
-use Rattle.pipe_theorem.proofs.Agreeing.{all_agree}
+use Rattle.pipe_theorem.proofs.Agreeing.{all_agree, implied}
 use Rattle.pipe_theorem.proofs.Circle.{back_told, error_is, f_ties, slot_loaded}
 use Rattle.pipe_theorem.proofs.Fits.{all_fit}
 use Rattle.pipe_theorem.proofs.Motion.{good_fetch, motion_facts}
@@ -46,10 +46,6 @@ use Rattle.pipe_theorem.proofs.Ranges.{in_range}
 use Rattle.pipe_theorem.proofs.Real.{view_is, waits_is}
 use Rattle.pipe_theorem.proofs.RealCycle.{f_line, fault_of, fields_at, hidden, kind_number}
 use Rattle.pipe_theorem.proofs.Reflect.{AllAsked, Asks, access_at, address_at, address_fact, always, decode_facts, execute_facts, fetch_facts, fetched_codes, memory_facts, movers_are, write_facts}
-
-unless_not : (a b : Bool) → not a || b ≡ true → a ≡ true → b ≡ true
-unless_not true b h e = h
-unless_not false b h e = cc
 
 stopping_by : (k : Kind) (stat : ℕ) → (is_good k ≡ true → (stat == 1) ≡ true) → (kind_number k == 1) && not (stat == 1) ≡ false
 stopping_by Empty stat h = refl
@@ -112,7 +108,7 @@ module _ (x : Given) (terms : List Term) (ids : List ℕ) (atoms : List Atom) (b
     asked_if : (j : ℕ) → 1 ≤ j → j ≤ 27 → (is_always j || not (is_stopping (the_fields x c p f))) ≡ true → demand_at x.v x.s j (the_fields x c p f) (real f) cv ≡ true
     unfolding is_asked
     asked_if j ge le h =
-        unless_not (is_asked x.v x.s atoms j (the_fields x c p f) (real f)) (demand_at x.v x.s j (the_fields x c p f) (real f) cv)
+        implied (is_asked x.v x.s atoms j (the_fields x c p f) (real f)) (demand_at x.v x.s j (the_fields x c p f) (real f) cv)
         (holds.obligations j ge le (the_fields x c p f) (real f) cv ranges controls)
         (and_from (allowed x.v (the_fields x c p f)) (legal x.v x.s atoms (the_fields x c p f) (real f) && (is_always j || not (is_stopping (the_fields x c p f))))
         (all_fit x t c p f rs image i b)
@@ -177,7 +173,7 @@ module _ (x : Given) (terms : List Term) (ids : List ℕ) (atoms : List Atom) (b
     target_is tv =
         sym (ap (λ y. carries_target x.v x.s (the_fields x c p f) y (asked f) (real f) cv) view)
         ∙ subst (λ k. carries_target x.v x.s (the_fields x c p f) (view_at x.v x.s (the_fields x c p f)) k (real f) cv ≡ true) movers
-        (unless_not (allowed x.v (the_fields x c p f)) _ (holds.target tv (the_fields x c p f) (real f) cv ranges controls) (all_fit x t c p f rs image i b))
+        (implied (allowed x.v (the_fields x c p f)) _ (holds.target tv (the_fields x c p f) (real f) cv ranges controls) (all_fit x t c p f rs image i b))
 
     module _ (on : is_good c.w ≡ true → stops_at x.v x.image (in_w c) ≡ false) where
       q : AllAsked x c p f (f_line x c f) (asked f) cv
