@@ -29,7 +29,6 @@ use Rattle.dp_signals.specs.declared.pipe_state.StageD.{StageD}
 use Rattle.field_bits.specs.Fits.{cnd_fits, cnd_where, code_fits, destination_fits, half_fits, icode_fits, only_where, reading_fits, register_fits, stat_fits, tied}
 use Rattle.pipe_fields.specs.Allowed.{allowed, decode_allowed, decode_fits, execute_allowed, execute_fits, fetch_allowed, fetch_fits, is_live, memory_allowed, memory_fits, registers_fit, stage_fits, write_allowed, write_fits}
 use Rattle.pipe_fields.specs.Layout.{ExecuteLine, Fields}
-use Rattle.hazard_rules.specs.Columns.{has}
 use Rattle.pipe_refinement.specs.Invariant.{AllowedD, Given, Inv}
 use Rattle.pipe_refinement.specs.Kinds.{Config, Empty, Good, Kind, Wrong, in_d, in_e, in_f, in_m, in_w, is_good, is_wrong}
 use Rattle.pipe_refinement.proofs.Fetch.{or_right, reads, set_bit}

@@ -6,14 +6,12 @@ use Rattle.y86_isa.specs.Table.{row}
 use Rattle.y86_isa.specs.declared.machine.Rec.{Rec}
 use Rattle.run_laws.specs.Instructions.{doing, ret_at}
 use Rattle.run_laws.proofs.Walk.{not_true}
-use Rattle.dp_signals.specs.PipeCycle.{next}
 use Rattle.dp_signals.specs.PipeNames as name
 use Rattle.dp_signals.specs.PipeRows.{PipeHolds}
 use Rattle.dp_signals.specs.Values.{set}
 use Rattle.dp_signals.specs.declared.pipe_state.PipeState.{PipeState}
 use Rattle.ctl_atoms.specs.declared.leaf.Leaf.TheVariants.{Name}
 use Rattle.ctl_atoms.specs.declared.leaf.Leaf.{Leaf}
-use Rattle.ctl_atoms.proofs.Listed.{apart}
 use Rattle.ctl_formula.specs.Laws.{real, worth}
 use Rattle.rule_gates.specs.Words.{takes}
 use Rattle.pipe_motion.specs.Slots.{Slot, fetched_slot, moved_view, next_is_right, path, youngest_stops}

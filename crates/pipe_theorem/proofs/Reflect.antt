@@ -35,7 +35,6 @@ use Rattle.hazard_rules.specs.Stages.{is_jump, is_ret, misses, slot_by, stops_by
 use Rattle.pipe_refinement.specs.Facts.{AccessFacts, AddressIs, AlwaysFacts, DecodeFacts, ExecuteFacts, FetchFacts, MemoryFacts, WriteFacts, exempt, late_dst_e, leaves_d, predicted_pc, right_value}
 use Rattle.pipe_refinement.specs.Invariant.{Given, view_of}
 use Rattle.pipe_refinement.specs.Kinds.{Config, asked, in_m, is_good, is_wrong}
-use Rattle.pipe_refinement.proofs.Fetch.{reads}
 use Rattle.pipe_theorem.proofs.Agreeing.{implied}
 use Rattle.pipe_theorem.proofs.Circle.{FTies}
 use Rattle.pipe_theorem.proofs.RealCycle.{fault_of, fields_at, hidden}
