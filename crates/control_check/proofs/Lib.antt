@@ -1,3 +1,4 @@
 pub mod Decided
 pub mod AtomBits
 pub mod SeqVerdict
+pub mod Split

@@ -21,7 +21,7 @@ use Rattle.seq_obligations.specs.Fields.{Fields, fields_by, fields_of, number_of
 use Rattle.seq_obligations.specs.Obligations.{obligation}
 use Rattle.seq_refinement.specs.Accepted.{AcceptedSeq}
 use Rattle.control_check.specs.Decisions.{IsAlwaysTrue, IsDecision, IsFirstFalse, IsLeastOf}
-use Rattle.control_check.specs.SeqRules.{AreSeqRules}
+use Rattle.seq_obligations.specs.Rules.{AreSeqRules}
 use Rattle.control_check.specs.declared.decision.Failure.{Failure}
 use Rattle.control_check.specs.SeqVerdicts.{FailsSeq, IsLeastFalseSeq}
 use Rattle.control_check.proofs.AtomBits.{AreApart, apart_added, bits_are, length-truth_bits, told_are, told_by, truth_bits}

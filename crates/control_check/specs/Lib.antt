@@ -1,3 +1,3 @@
 pub mod Decisions
 pub mod SeqVerdicts
-pub mod SeqRules
+pub mod Splitting

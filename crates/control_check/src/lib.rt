@@ -2,8 +2,9 @@
 #![tactic(auto)]
 
 mod decision;
-mod rules_stub;
+mod splitting;
 mod verdict;
 
 pub use decision::{Failure, decide};
+pub use splitting::decide_in_parts;
 pub use verdict::{CheckFault, Verdict, check_seq};

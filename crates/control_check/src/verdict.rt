@@ -7,11 +7,11 @@ ghost use Rattle.seq_refinement.specs.Accepted.{RefinesSeq};
 ghost use Rattle.control_check.specs.SeqVerdicts.{IsSeqFault, IsSeqVerdict, is_yes};
 
 use crate::decision::decide;
-use crate::rules_stub::seq_rules;
 use ctl_atoms::CtlFault;
 use hcl_types::{Design, Order};
 use nets::Valuation;
 use pipe_motion::Settings;
+use seq_obligations::seq_rules;
 use std::alloc::Global;
 use y86_base::{Memory, Variant};
 
