@@ -3,3 +3,4 @@ pub mod Stages
 pub mod Obligations
 pub mod Rules
 pub mod Settled
+pub mod Signals

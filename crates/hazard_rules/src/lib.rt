@@ -3,5 +3,11 @@
 #![tactic(auto, using(pipe_motion::proofs::Growing::grows_more, pipe_motion::proofs::Growing::grows_self))]
 
 mod columns;
+mod execute_rules;
+mod fields;
+mod memory_rules;
+mod row_rules;
+mod signals;
+mod stage_rules;
 
 pub use columns::{RowTest, passes};
