@@ -1,4 +1,4 @@
--- The ready of a term, variant by variant, and the steps of loops over terms.
+-- What a term needs, variant by variant, and the steps of loops over terms.
 use Rattle.std.proofs.Common.{rules, ◌≡◌, Bool, true, false, not, ◌||◌, ◌&&◌, refl, sym, ap, ◌∙◌, subst, List, [], ◌∷◌, ℕ, ◌<◌, ◌≤◌, ◌+◌, length, get_or, drop, map, IsTrue, if◌then◌else◌}
 use Rattle.std.proofs.lemmas.List.{at_drop_all, drop_more}
 use Rattle.hcl_read.specs.declared.tree.CmpOp.{CmpOp}

@@ -8,7 +8,7 @@ use Rattle.nets.specs.Nets.{Gates, Begins}
 use Rattle.ctl_atoms.specs.Leaves.{leaf_eq, leaf_cmp, Assignment}
 use Rattle.ctl_formula.specs.Chosen.{at, taken, Picked, row_holds, pairs_hold}
 use Rattle.ctl_formula.specs.Picks.{Within}
-use Rattle.ctl_formula.proofs.Atoms.{leaf_eq_true, leaf_eq_self}
+use Rattle.ctl_atoms.proofs.Same.{leaf_eq_true, leaf_eq_self}
 use Rattle.nets.proofs.Truths.{truth_kept}
 use Rattle.ctl_atoms.specs.declared.leaf.Atom.{Atom}
 use Rattle.ctl_atoms.specs.Leaves.{is_listed, asked}

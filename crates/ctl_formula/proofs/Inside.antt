@@ -1,5 +1,5 @@
 -- What gates tell stays as the net grows.
-use Rattle.std.proofs.Common.{◌≡◌, ℕ, ◌<◌, ◌≤◌, Bool, ◌&&◌, ◌||◌, List, [], ◌∷◌, length, refl, ap, ◌∙◌, arith}
+use Rattle.std.proofs.Common.{◌≡◌, ℕ, ◌≤◌, Bool, ◌&&◌, ◌||◌, List, [], ◌∷◌, length, refl, ap, ◌∙◌, arith}
 use Rattle.nets.specs.Nets.{Gates, Begins, truth}
 use Rattle.nets.proofs.Truths.{truth_kept}
 use Rattle.ctl_atoms.specs.declared.leaf.Leaf.{Leaf}

@@ -1,5 +1,5 @@
 -- Names get their gates one after the other.
-use Rattle.std.proofs.Common.{◌≡◌, ◌⊎◌, ℕ, zero, suc, ◌+◌, ◌<◌, ◌≤◌, Bool, true, false, not, ◌&&◌, ◌||◌, List, [], ◌∷◌, ◌++◌, length, take, drop, get_or, nat_lt, Option, Some, None, slice_get, IsTrue, refl, sym, ap, ◌∙◌, subst, arith, inl, inr}
+use Rattle.std.proofs.Common.{◌≡◌, ◌⊎◌, ℕ, ◌+◌, ◌<◌, ◌≤◌, Bool, true, false, not, ◌||◌, List, [], ◌∷◌, ◌++◌, length, take, get_or, nat_lt, Option, Some, None, slice_get, IsTrue, refl, sym, ap, ◌∙◌, subst, arith, inl, inr}
 use Rattle.std.proofs.Math.ListN.{set}
 use Rattle.std.proofs.lemmas.List.{length-set, length_push}
 use Rattle.std.proofs.lemmas.Option.{slice_get_within, slice_get_past, slice_get-get_or}
@@ -14,9 +14,8 @@ use Rattle.hcl_types.specs.declared.table.Role.TheVariants.{Constant, State, Har
 use Rattle.hcl_types.specs.declared.table.Row.{Row}
 use Rattle.hcl_types.specs.Equations.{Fixes, IsOrdered, is_known, needs_of}
 use Rattle.hcl_types.specs.Kinds.{is_truth, kinds, kinds_of_row, has_class}
-use Rattle.hcl_types.specs.declared.kinds.Kinds.{Kinds}
 use Rattle.hcl_types.specs.Lists.{Each, IsIn, each}
-use Rattle.hcl_types.specs.Tables.{IsBound, IsOrderOf, defined, inputs, is_defined, is_given, known, needs, term_at}
+use Rattle.hcl_types.specs.Tables.{IsBound, IsOrderOf, defined, is_defined, is_given, known, needs, term_at}
 use Rattle.hcl_types.specs.Terms.{names, value}
 use Rattle.hcl_types.proofs.Each.{each_in}
 use Rattle.ctl_atoms.specs.declared.leaf.Leaf.{Leaf}
@@ -30,7 +29,7 @@ use Rattle.ctl_atoms.proofs.Solved.{leaves_exist, unknown_inside}
 use Rattle.ctl_formula.specs.declared.controls.Entry.{Entry}
 use Rattle.ctl_formula.specs.declared.controls.Entry.TheVariants.{Absent, Truth, Picks}
 use Rattle.ctl_formula.specs.declared.controls.Place.{Place}
-use Rattle.ctl_formula.specs.Controls.{AreControls, control_rule, role_leaf}
+use Rattle.ctl_formula.specs.Controls.{AreControls, role_leaf}
 use Rattle.ctl_formula.specs.Picks.{Covers, IsInside, Tells, Within, entry_truth, entry_word, entry_gate, entry_picks, some_pick}
 use Rattle.ctl_formula.specs.Places.{Spells}
 use Rattle.ctl_formula.specs.Chosen.{at}
@@ -39,7 +38,7 @@ use Rattle.ctl_formula.specs.Filled.{IsGiven, IsFilling, IsTold, is_filled}
 use Rattle.ctl_formula.proofs.Chosen.{chosen}
 use Rattle.ctl_formula.proofs.Opened.{entry_within, entry_shows}
 use Rattle.ctl_formula.proofs.Readied.{Readied, Stands, readied}
-use Rattle.ctl_formula.proofs.Elements.{row_at, push_case, set_case, set_passes, set_here, defined_at, defined_below, each_at}
+use Rattle.ctl_formula.proofs.Elements.{row_at, push_case, set_case, defined_at, defined_below, each_at}
 use Rattle.ctl_formula.proofs.Rows.{known_row, needs_defined, given_undefined, rule_row, defined_leaf}
 
 -- ---- given rows, one more
@@ -181,7 +180,7 @@ module _ (rows : List Row) (terms : List Term) (places : List Place) (asks : Lis
         let read : slice_get terms k ≡ Some (term_at terms k) = slice_get-get_or terms k (Num 0) lt in
         let inside : Each (λ m. m < length rows) (names (row_term rows terms n)) = each_at (λ (t : Term). Each (λ m. m < length rows) (names t)) terms k (term_at terms k) read bound.inside in
         let asked : IsTrue (each (is_listed (atoms_of leaves terms)) (plan leaves (row_term rows terms n)).asks) =
-            each_at (λ (t : Term). IsTrue (each (is_listed (atoms_of leaves terms)) (plan leaves t).asks)) terms k (term_at terms k) read (listed leaves terms) in
+        each_at (λ (t : Term). IsTrue (each (is_listed (atoms_of leaves terms)) (plan leaves t).asks)) terms k (term_at terms k) read (listed leaves terms) in
         readied es asks rows leaves (row_term rows terms n) (all_stand (names (row_term rows terms n)) inside (both (names (row_term rows terms n)) inside filled))
         (subst (λ (xs : List Atom). IsTrue (each (is_listed xs) (plan leaves (row_term rows terms n)).asks)) (sym same) asked)
       where
@@ -229,8 +228,8 @@ module _ (rows : List Row) (terms : List Term) (places : List Place) (asks : Lis
           let q : Some row ≡ Some row' = sym r0 ∙ (ap (slice_get rows) (sym p.0) ∙ r) in
           let rows_same : row ≡ row' = grind (arith, q) in
           let own : defined_leaves row.class (ready es asks (row_term rows terms k)).leaves ≡ leaves k =
-              ap (defined_leaves row.class) (same leaves fixed)
-              ∙ (sym (defined_role row.class k row.role (plan leaves (row_term rows terms k)).leaves d) ∙ sym (own_leaves leaves fixed k row r0)) in
+          ap (defined_leaves row.class) (same leaves fixed)
+          ∙ (sym (defined_role row.class k row.role (plan leaves (row_term rows terms k)).leaves d) ∙ sym (own_leaves leaves fixed k row r0)) in
           let here : IsEntryOf row.class (leaves k) e = subst (λ (ls : List Leaf). IsEntryOf row.class ls e) own entry in
           let at_n : IsEntryOf row.class (leaves n) e = subst (λ m. IsEntryOf row.class (leaves m) e) (sym p.0) here in
           inr (subst (λ (z : Row). IsEntryOf z.class (leaves n) x) rows_same (subst (IsEntryOf row.class (leaves n)) (sym p.1) at_n))

@@ -1,25 +1,24 @@
 -- Control values exist where there is an order, and there is one assignment of them; beside a real cycle's values they agree.
-use Rattle.std.proofs.Common.{◌≡◌, ℕ, Bool, true, false, not, List, [], ◌∷◌, Option, Some, None, slice_get, nat_eq, nat_lt, if◌then◌else◌, refl, sym, ap, ◌∙◌, subst, arith}
+use Rattle.std.proofs.Common.{◌≡◌, ℕ, Bool, true, false, not, List, [], ◌∷◌, Option, Some, None, slice_get, nat_eq, nat_lt, refl, sym, ap, ◌∙◌, subst, arith}
 use Rattle.std.proofs.lemmas.Bool.Decides.{nat_tests}
 use Rattle.hcl_read.specs.declared.tree.CmpOp.{CmpOp}
 use Rattle.hcl_read.specs.declared.tree.CmpOp.TheVariants as op
 use Rattle.hcl_types.specs.declared.term.Term.{Term}
-use Rattle.hcl_types.specs.declared.table.Role.{Role}
 use Rattle.hcl_types.specs.declared.table.Row.{Row}
 use Rattle.hcl_types.specs.Lists.{Each}
-use Rattle.hcl_types.specs.Equations.{Fixes, IsOrder, filled, is_known, needs_of}
-use Rattle.hcl_types.specs.Tables.{is_defined, is_given, inputs, known, needs, IsOrderOf}
+use Rattle.hcl_types.specs.Equations.{filled, is_known, needs_of}
+use Rattle.hcl_types.specs.Tables.{is_defined, is_given, known, needs, IsOrderOf}
 use Rattle.hcl_types.specs.Terms.{names, value, words, signed_below, compare_words}
 use Rattle.hcl_types.proofs.Orders.{along, unique, solved}
 use Rattle.hcl_types.proofs.Stores.{changed, function_store}
 use Rattle.hcl_types.proofs.Related.{Alike, related}
 use Rattle.ctl_atoms.specs.declared.leaf.Leaf.{Leaf}
 use Rattle.ctl_atoms.specs.declared.leaf.Leaf.TheVariants.{Name, Number}
-use Rattle.ctl_atoms.specs.Leaves.{Assignment, picks, answered, asked_lt, asked_eq, decided_lt, leaf_eq, leaf_lt, leaf_same, leaf_holds, leaf_cmp}
+use Rattle.ctl_atoms.specs.Leaves.{Assignment, picks, leaf_lt, leaf_same, leaf_cmp}
 use Rattle.ctl_atoms.specs.Rows.{row_term}
 use Rattle.ctl_formula.specs.Controls.{control_rule, AreControls}
-use Rattle.ctl_formula.specs.Laws.{HasControls, worth, real, IsDefinedBy, IsWorthGiven, Agreement}
-use Rattle.ctl_formula.proofs.Rows.{known_past, known_row, needs_defined, needs_given, given_undefined, given_inputs, defined_leaf, rule_past, rule_row, rule_local, rule_known}
+use Rattle.ctl_formula.specs.Laws.{HasControls, worth, real, Agreement}
+use Rattle.ctl_formula.proofs.Rows.{known_row, needs_defined, needs_given, given_undefined, given_inputs, defined_leaf, rule_past, rule_row, rule_local, rule_known}
 
 each_unit : (ids : List ℕ) → Each (λ (n : ℕ). Unit {0}) ids
 each_unit [] = tt

@@ -1,5 +1,5 @@
 -- One step of a loop over picks that joins truths.
-use Rattle.std.proofs.Common.{◌≡◌, Bool, true, false, ◌||◌, ◌&&◌, refl, sym, ap, ◌∙◌, subst, List, [], ◌∷◌, ℕ, zero, suc, ◌<◌, ◌≤◌, ◌+◌, length, get_or, drop, map, arith, IsTrue}
+use Rattle.std.proofs.Common.{◌≡◌, Bool, true, false, ◌||◌, ◌&&◌, refl, sym, ap, ◌∙◌, subst, List, [], ◌∷◌, ℕ, zero, suc, ◌<◌, ◌+◌, length, get_or, drop, map, arith, IsTrue}
 use Rattle.std.proofs.lemmas.List.{drop_more}
 use Rattle.ctl_formula.specs.declared.controls.Pick.{Pick}
 use Rattle.ctl_atoms.specs.declared.leaf.Leaf.TheVariants.{Name}

@@ -1,5 +1,5 @@
 -- Control values beside the values of a real cycle, and what picks are.
-use Rattle.std.specs.Prelude.{ℕ, ◌<◌, ◌≡◌, Bool, true, false, List, [], ◌∷◌, length, nat_eq, get_or, Option, Some, None, slice_get}
+use Rattle.std.specs.Prelude.{ℕ, ◌≡◌, Bool, true, false, IsTrue, List, [], ◌∷◌, nat_eq, Some, None, slice_get}
 use Rattle.hcl_types.specs.declared.term.Term.{Term}
 use Rattle.hcl_types.specs.declared.table.Row.{Row}
 use Rattle.hcl_types.specs.Lists.{Each}
@@ -10,7 +10,14 @@ use Rattle.ctl_atoms.specs.declared.leaf.Leaf.TheVariants.{Name, Number}
 use Rattle.ctl_atoms.specs.declared.leaf.AtomKind.TheVariants as kind
 use Rattle.ctl_atoms.specs.Leaves.{Assignment}
 use Rattle.ctl_atoms.specs.Rows.{row_term}
+use Rattle.ctl_atoms.specs.Leaves.{leaf_eq}
+use Rattle.ctl_atoms.specs.Plans.{has_leaf}
+use Rattle.nets.specs.Nets.{Gates, truth}
+use Rattle.ctl_formula.specs.declared.controls.Entry.{Entry}
+use Rattle.ctl_formula.specs.declared.controls.Pick.{Pick}
 use Rattle.ctl_formula.specs.Controls.{AreControls}
+use Rattle.ctl_formula.specs.Picks.{Tells, has_picks, picks_of}
+use Rattle.ctl_formula.specs.Readies.{leaves_of}
 
 -- control values exist
 abbrev pub HasControls : List Row → List Term → (ℕ → ℕ) → Assignment → Type 0
@@ -41,3 +48,22 @@ abbrev pub Agreement : Type 0
 Agreement = (rows : List Row) (terms : List Term) (ids : List ℕ) (field : ℕ → ℕ) (f : ℕ → ℕ) (cv : ℕ → Leaf) →
     IsOrderOf rows terms ids → AreControls rows terms field (real f) cv → IsDefinedBy rows terms f → IsWorthGiven rows f cv →
     (n : ℕ) → worth f (cv n) ≡ f n
+
+-- each leaf stands once
+abbrev pub Apart : List Leaf → Type 0
+Apart [] = Unit {0}
+Apart (x ∷ xs) = (has_leaf xs x ≡ false) × Apart xs
+
+-- no two picks of a name have one leaf
+abbrev pub AreApart : List Entry → Type 0
+AreApart ctl = (n : ℕ) → IsTrue (has_picks ctl n) → Apart (leaves_of (picks_of ctl n))
+
+-- Of picks the gate of each is true exactly where its leaf is the one that is picked, and one of them has that leaf.
+pub record IsOneTaken (net : Gates) (ps : List Pick) (w : List Bool) (x : Leaf) : Type 0 where
+  pub each : (k : ℕ) (p : Pick) → slice_get ps k ≡ Some p → truth net p.gate w ≡ leaf_eq x p.leaf
+  pub one : (k : ℕ) × (p : Pick) × (slice_get ps k ≡ Some p) × (p.leaf ≡ x)
+
+-- where gates tell control values, exactly one gate of a name's picks is true, that of the control value
+abbrev pub OneGate : Type 0
+OneGate = (net : Gates) (ctl : List Entry) (w : List Bool) (α : Assignment) (cv : ℕ → Leaf) → Tells net ctl w α cv → AreApart ctl →
+    (n : ℕ) → IsTrue (has_picks ctl n) → IsOneTaken net (picks_of ctl n) w (cv n)

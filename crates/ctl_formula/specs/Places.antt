@@ -1,5 +1,5 @@
 -- The variables that are the bits of the Code and Truth names of the state and the hardware.
-use Rattle.std.specs.Prelude.{ℕ, ◌+◌, ◌<◌, ◌≤◌, ◌≡◌, ◌==◌, ◌&&◌, ◌||◌, not, Bool, true, false, is_some, if◌then◌else◌, IsTrue, List, [], ◌∷◌, Option, Some, None}
+use Rattle.std.specs.Prelude.{ℕ, ◌+◌, ◌≤◌, ◌≡◌, ◌==◌, ◌&&◌, ◌||◌, not, Bool, true, false, is_some, if◌then◌else◌, IsTrue, List, [], ◌∷◌, Option, Some, None}
 use Rattle.hcl_types.specs.declared.table.Class.{Class}
 use Rattle.hcl_types.specs.declared.table.Class.TheVariants as class
 use Rattle.hcl_types.specs.declared.table.Role.{Role}

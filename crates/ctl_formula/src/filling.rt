@@ -15,6 +15,7 @@ ghost use Rattle.ctl_atoms.specs.Leaves.{Assignment, AtomsAre, picks};
 ghost use Rattle.ctl_atoms.specs.Rows.{defined_leaves, leaf_rule, row_term};
 ghost use Rattle.ctl_formula.specs.Controls.{AreControls};
 ghost use Rattle.ctl_formula.specs.Picks.{Covers, IsInside, Tells};
+ghost use Rattle.ctl_formula.specs.Laws.{AreApart};
 ghost use Rattle.ctl_formula.specs.Places.{HavePlaces, Spells};
 ghost use Rattle.ctl_formula.specs.Chosen.{at};
 ghost use Rattle.ctl_formula.specs.Readies.{EntryShows, EntryWithin, IsEntryOf, IsOpen, Shows, ready};
@@ -249,6 +250,7 @@ fn controls(
     ensures begins { Begins b.old b.new }
     ensures inside { IfOk result (λ ctl. IsInside b.new ctl) }
     ensures covers { IfOk result (λ ctl. Covers t.now.rows ctl) }
+    ensures apart { IfOk result (λ ctl. AreApart ctl) }
     ensures tells { (w : List Bool) (α : Assignment) (field : ℕ → ℕ) (cv : ℕ → Leaf) →
         AtomsAre listed.now (b.old.vars - length listed.now) w α → Spells places.now w field → AreControls t.now.rows d.now.terms field α cv →
         IfOk result (λ ctl. Tells b.new ctl w α cv) }
@@ -281,6 +283,7 @@ pub fn translate(
     ensures begins { Begins b.old b.new }
     ensures inside { IfOk result (λ ctl. IsInside b.new ctl) }
     ensures covers { IfOk result (λ ctl. Covers t.now.rows ctl) }
+    ensures apart { IfOk result (λ ctl. AreApart ctl) }
     ensures tells { (w : List Bool) (α : Assignment) (field : ℕ → ℕ) (cv : ℕ → Leaf) (listed : List Atom) → AreAtoms t.now.rows d.now.terms listed →
         AtomsAre listed (b.old.vars - length listed) w α → Spells places.now w field → AreControls t.now.rows d.now.terms field α cv →
         IfOk result (λ ctl. Tells b.new ctl w α cv) }

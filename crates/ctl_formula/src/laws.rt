@@ -6,7 +6,7 @@ ghost use Rattle.hcl_types.specs.Tables.{IsOrderOf};
 ghost use Rattle.ctl_atoms.specs.declared.leaf.Leaf.{Leaf};
 ghost use Rattle.ctl_atoms.specs.Leaves.{Assignment};
 ghost use Rattle.ctl_formula.specs.Controls.{AreControls};
-ghost use Rattle.ctl_formula.specs.Laws.{Agreement, HasControls};
+ghost use Rattle.ctl_formula.specs.Laws.{Agreement, HasControls, OneGate};
 
 /// Where the rows of a table and a design have an order, exactly one assignment of control values solves their equations,
 /// whatever the numbers of the fields and the truths of comparisons are.
@@ -20,4 +20,9 @@ pub fn law_of_controls()
 /// control value is worth the value of its name.
 pub fn law_of_agreement()
     ensures { Agreement }
+{}
+
+/// Where gates tell control values, exactly one gate of a name's picks is true: that of the pick whose leaf is the control value.
+pub fn law_of_picks()
+    ensures { OneGate }
 {}

@@ -11,6 +11,6 @@ mod scope;
 mod terms;
 
 pub use controls::{Controls, Entry, Pick, Place};
-pub use laws::{law_of_agreement, law_of_controls};
-pub use filling::translate;
 pub use ctl_atoms::{CtlFault, Leaf};
+pub use filling::translate;
+pub use laws::{law_of_agreement, law_of_controls, law_of_picks};

@@ -14,7 +14,7 @@ use std::alloc::Global;
 use y86_base::Memory;
 
 /// The place of the pick of a leaf.
-#[tactic(auto, using(crate::proofs::Atoms::leaf_eq_true))]
+#[tactic(auto, using(ctl_atoms::proofs::Same::leaf_eq_true))]
 pub fn place_of(ps: &[Pick], leaf: Leaf) -> Option<usize>
     ensures { MatchOption result (has_leaf (leaves_of ps.now) leaf ≡ false) (λ k. IsPlace ps.now k leaf) }
 {

@@ -22,7 +22,7 @@ pub struct Scope<'a> {
 }
 
 /// The place of an atom in the list.
-#[tactic(auto, using(crate::proofs::Atoms::atom_eq_true))]
+#[tactic(auto, using(ctl_atoms::proofs::Same::atom_eq_true))]
 pub fn position(atoms: &[Atom], atom: Atom) -> Option<usize>
     ensures { MatchOption result (has_atom atoms.now atom ≡ false) (λ k. slice_get atoms.now k ≡ Some atom) }
 {
@@ -95,13 +95,7 @@ impl<'a> Scope<'a> {
     }
 
     /// The gate of a comparison of two leaves.
-    pub fn leaf_cmp(
-        &self,
-        b: &mut NetBuilder,
-        op: CmpOp,
-        x: Leaf,
-        y: Leaf,
-    ) -> Result<u64, Memory>
+    pub fn leaf_cmp(&self, b: &mut NetBuilder, op: CmpOp, x: Leaf, y: Leaf) -> Result<u64, Memory>
         requires listed { IsTrue (is_listed self.now.atoms.now (asked op x y)) }
         requires vars { self.now.first + length self.now.atoms.now ≤ b.old.vars }
         ensures begins { Begins b.old b.new }
@@ -129,13 +123,7 @@ impl<'a> Scope<'a> {
     }
 
     /// The gate of: the leaf compares so with a pick whose gate is true.
-    fn against(
-        &self,
-        b: &mut NetBuilder,
-        op: CmpOp,
-        x: Leaf,
-        qs: &[Pick],
-    ) -> Result<u64, Memory>
+    fn against(&self, b: &mut NetBuilder, op: CmpOp, x: Leaf, qs: &[Pick]) -> Result<u64, Memory>
         requires listed { IsTrue (row_listed self.now.atoms.now op x qs.now) }
         requires vars { self.now.first + length self.now.atoms.now ≤ b.old.vars }
         requires gates { Within (length b.old.gates) qs.now }
@@ -154,13 +142,7 @@ impl<'a> Scope<'a> {
     }
 
     /// The gate of: a pick whose gate is true compares so with a pick whose gate is true.
-    fn pairs(
-        &self,
-        b: &mut NetBuilder,
-        op: CmpOp,
-        ps: &[Pick],
-        qs: &[Pick],
-    ) -> Result<u64, Memory>
+    fn pairs(&self, b: &mut NetBuilder, op: CmpOp, ps: &[Pick], qs: &[Pick]) -> Result<u64, Memory>
         requires listed { IsTrue (pairs_listed self.now.atoms.now op ps.now qs.now) }
         requires vars { self.now.first + length self.now.atoms.now ≤ b.old.vars }
         requires left { Within (length b.old.gates) ps.now }

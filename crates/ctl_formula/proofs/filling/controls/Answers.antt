@@ -1,8 +1,10 @@
-use Rattle.std.proofs.Common.{◌-◌, ℕ, List, length, sym, subst}
+use Rattle.std.proofs.Common.{◌-◌, List, length, sym, subst}
 use Rattle.ctl_atoms.specs.Leaves.{AtomsAre}
 use Rattle.ctl_atoms.proofs.Solved.{leaves_exist}
 use Rattle.ctl_formula.specs.declared.controls.Entry.{Entry}
 use Rattle.ctl_formula.specs.Picks.{Covers, IsInside, Tells}
+use Rattle.ctl_formula.specs.Laws.{AreApart}
+use Rattle.ctl_formula.proofs.Apart.{apart_all}
 use Rattle.ctl_formula.proofs.OneByOne.{covers_all, inside_all, tells_all}
 use Rattle.ctl_formula.proofs.filling.controls.Goals as goal
 
@@ -24,3 +26,11 @@ returns-clause-tells c = λ w α field cv atoms s controls.
     let es = c.in_ok-es.es.items in
     let listed = subst (λ k. AtomsAre c.args.listed.now (k - length c.args.listed.now) w α) (sym c.vars-vars.ensures) atoms in
     subst (λ (xs : List Entry). Tells net xs w α cv) (sym c.finished.ensures) (tells_all net es w α cv (c.in_ok-es.ensures.told.filling.shows w α field cv listed s controls))
+
+pub returns-clause-apart : goal.returns-clause-apart
+returns-clause-apart c =
+    let rows = c.args.t.now.rows in
+    let terms = c.args.d.now.terms in
+    let leaves = leaves_exist rows terms c.args.o.now.ids c.requires.ordered in
+    subst AreApart (sym c.finished.ensures)
+    (apart_all rows terms c.args.places.now c.args.listed.now _ c.args.o.now.ids c.requires.ordered leaves.0 leaves.1 c.told_entries.new.b c.in_ok-es.es.items c.in_ok-es.ensures.told.filling)

@@ -1,8 +1,7 @@
-use Rattle.std.proofs.Common.{◌≡◌, ◌+◌, ◌<◌, ◌++◌, ◌∷◌, [], List, length, Some, slice_get, sym, ap, subst, refl, arith, IsTrue, is_some}
+use Rattle.std.proofs.Common.{◌≡◌, ◌+◌, length, Some, slice_get, sym, subst, refl, arith, IsTrue, is_some}
 use Rattle.std.proofs.lemmas.Option.{slice_get_read}
 use Rattle.nets.proofs.Truths.{begins_more}
 use Rattle.hcl_types.specs.declared.table.Row.{Row}
-use Rattle.ctl_formula.specs.declared.controls.Entry.{Entry}
 use Rattle.ctl_formula.specs.Filled.{IsGiven}
 use Rattle.ctl_formula.specs.Places.{place_of}
 use Rattle.ctl_formula.proofs.Elements.{placed_at}

@@ -1,11 +1,10 @@
-use Rattle.std.proofs.Common.{◌≡◌, ℕ, ◌<◌, true, List, length, take, Some, slice_get, slice_set, IsTrue, refl, sym, ap, ◌∙◌, subst, arith}
+use Rattle.std.proofs.Common.{◌≡◌, ◌<◌, true, List, length, Some, slice_get, IsTrue, refl, sym, ap, ◌∙◌, subst, arith}
 use Rattle.std.proofs.lemmas.Option.{slice_get_read}
 use Rattle.hcl_types.specs.declared.term.Term.{Term}
 use Rattle.hcl_types.specs.declared.table.Row.{Row}
-use Rattle.hcl_types.specs.Tables.{defined, is_defined}
+use Rattle.hcl_types.specs.Tables.{is_defined}
 use Rattle.hcl_types.specs.Terms.{value}
-use Rattle.ctl_atoms.specs.declared.leaf.Leaf.{Leaf}
-use Rattle.ctl_atoms.specs.Leaves.{Assignment, picks}
+use Rattle.ctl_atoms.specs.Leaves.{picks}
 use Rattle.ctl_atoms.specs.Rows.{row_term, defined_leaves}
 use Rattle.ctl_formula.specs.declared.controls.Entry.{Entry}
 use Rattle.ctl_formula.specs.Chosen.{at}
@@ -77,8 +76,8 @@ returns-clause-filling c = λ places h.
     let term : Term = row_term rows terms id in
     let net = c.entry_of.new.b in
     let entry : IsEntryOf row.class (defined_leaves row.class (ready es asks term).leaves) e =
-        subst (λ (xs : List Entry). IsEntryOf row.class (defined_leaves row.class (ready xs asks term).leaves) e) c.as_slice.ensures.value
-        (subst (λ (t : Term). IsEntryOf row.class (defined_leaves row.class (ready c.as_slice.result.now asks t).leaves) e) c.term_of-term.ensures made.entry) in
+    subst (λ (xs : List Entry). IsEntryOf row.class (defined_leaves row.class (ready xs asks term).leaves) e) c.as_slice.ensures.value
+    (subst (λ (t : Term). IsEntryOf row.class (defined_leaves row.class (ready c.as_slice.result.now asks t).leaves) e) c.term_of-term.ensures made.entry) in
     subst (λ (xs : List Entry). IsFilling rows terms places asks c.args.first net xs) (sym c.put_entry.ensures)
     (filling_next rows terms places asks c.args.first made.begins es id row e read d h made.within
     (λ leaves fixed. (readied_at rows terms places asks c.args.first leaves fixed c.args.b.now es h c.requires.bound (c.requires.atoms.are leaves fixed) id row read d (c.requires.needs row read d)).leaves)

@@ -1,4 +1,4 @@
-use Rattle.std.proofs.Common.{◌≡◌, ℕ, ◌+◌, ◌<◌, ◌≤◌, true, List, [], ◌∷◌, length, drop, get_or, Some, slice_get, IsTrue, sym, subst}
+use Rattle.std.proofs.Common.{◌≡◌, ℕ, ◌+◌, ◌<◌, ◌≤◌, true, List, length, drop, get_or, Some, slice_get, IsTrue, sym, subst}
 use Rattle.std.proofs.lemmas.List.{drop_more, at_drop_all}
 use Rattle.nets.proofs.Truths.{begins_more}
 use Rattle.hcl_types.specs.declared.table.Row.{Row}
@@ -67,8 +67,8 @@ loop-id-preserved c =
     let inside : i < length ids = subst (λ (xs : List ℕ). i < length xs) c.items-id-items.ensures c.loop-id-test.true in
     let along = subst (λ (xs : List ℕ). IsAlong rows terms places asks c.args.first ids xs es) (drop_more ids i 0 inside) inv.along in
     let told = subst (λ (xs : List ℕ). (row : Row) → slice_get rows (get_or xs i 0) ≡ Some row → is_defined row.role ≡ true → IsTrue (is_filled (slice_get es' (get_or xs i 0)))) c.items-id-items.ensures
-        (subst (λ (rs : List Row). (row : Row) → slice_get rs (get_or c.items-id-items.result.now i 0) ≡ Some row → is_defined row.role ≡ true → IsTrue (is_filled (slice_get es' (get_or c.items-id-items.result.now i 0))))
-        c.items-in-loop-id.ensures step.filled) in
+    (subst (λ (rs : List Row). (row : Row) → slice_get rs (get_or c.items-id-items.result.now i 0) ≡ Some row → is_defined row.role ≡ true → IsTrue (is_filled (slice_get es' (get_or c.items-id-items.result.now i 0))))
+    c.items-in-loop-id.ensures step.filled) in
     let lt : k < length rows = along_inside rows terms places asks c.args.first ids i inside c.requires.ordered in
     let filled = put_filled rows terms places asks c.args.first es es' k lt inv.given told step.kept in
     record {

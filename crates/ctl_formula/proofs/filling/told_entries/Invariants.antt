@@ -1,4 +1,4 @@
-use Rattle.std.proofs.Common.{◌≡◌, ℕ, false, IsTrue, List, drop, Some, slice_get}
+use Rattle.std.proofs.Common.{◌≡◌, ℕ, false, IsTrue, drop, Some, slice_get}
 use Rattle.nets.specs.Nets.{Begins}
 use Rattle.hcl_types.specs.declared.table.Row.{Row}
 use Rattle.hcl_types.specs.Tables.{is_defined}

@@ -1,4 +1,4 @@
-use Rattle.std.proofs.Common.{◌≡◌, ◌+◌, ◌-◌, ◌<◌, ◌≤◌, ◌&&◌, ◌||◌, ◌++◌, ◌∷◌, [], List, length, sym, ap, ◌∙◌, refl, subst, arith}
+use Rattle.std.proofs.Common.{◌≡◌, ◌+◌, ◌-◌, ◌&&◌, ◌++◌, ◌∷◌, [], List, length, sym, ap, ◌∙◌, refl, subst, arith}
 use Rattle.nets.proofs.Truths.{begins_more}
 use Rattle.field_bits.specs.Spelling.{spelt}
 use Rattle.ctl_atoms.specs.declared.leaf.Leaf.TheVariants.{Number}
@@ -11,7 +11,7 @@ use Rattle.ctl_formula.proofs.Inside.{within_more}
 use Rattle.ctl_formula.proofs.Chosen.{taken_kept}
 use Rattle.ctl_formula.proofs.Steps.{or_same}
 use Rattle.ctl_formula.proofs.Taken.{within_push, taken_push}
-use Rattle.ctl_formula.proofs.Codes.{numbers, below, leaves_next, below_next, below_all, spelt_below}
+use Rattle.ctl_formula.proofs.Codes.{numbers, leaves_next, below_next, below_all, spelt_below}
 use Rattle.ctl_formula.proofs.given.code_picks.Goals as goal
 
 pub loop-k-preserved : goal.loop-k-preserved

@@ -1,6 +1,5 @@
-use Rattle.std.proofs.Common.{◌≡◌, ℕ, List, length, sym, ap, ◌∙◌, subst, not, nat_eq}
+use Rattle.std.proofs.Common.{◌≡◌, List, sym, ap, ◌∙◌, subst, not, nat_eq}
 use Rattle.field_bits.specs.Spelling.{spelt}
-use Rattle.hcl_types.specs.declared.table.Class.{Class}
 use Rattle.ctl_atoms.specs.declared.leaf.Leaf.{Leaf}
 use Rattle.ctl_atoms.specs.declared.leaf.Leaf.TheVariants.{Number}
 use Rattle.ctl_atoms.specs.Leaves.{leaf_holds}

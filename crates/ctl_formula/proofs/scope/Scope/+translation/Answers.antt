@@ -1,4 +1,4 @@
-use Rattle.std.proofs.Common.{rules, ◌<◌, ◌+◌, ◌&&◌, ◌||◌, length, List, Bool, IsTrue, map, not, sym, ap, ◌∙◌, [], drop, refl, subst, ◌∷◌}
+use Rattle.std.proofs.Common.{rules, ◌<◌, ◌+◌, ◌&&◌, ◌||◌, length, List, Bool, IsTrue, map, not, sym, ap, ◌∙◌, drop, refl, subst, ◌∷◌}
 use Rattle.hcl_read.specs.declared.tree.CmpOp.TheVariants.{Eq}
 use Rattle.hcl_types.specs.declared.term.Term.{Term, the_lemmas}
 use Rattle.hcl_types.specs.declared.term.TermBranch.{TermBranch}
