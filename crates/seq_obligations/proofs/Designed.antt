@@ -20,7 +20,7 @@ use Rattle.ctl_formula.proofs.Inside.{tells_more}
 use Rattle.field_bits.specs.Spots.{total}
 use Rattle.rule_gates.specs.declared.rules.Rule.{Rule}
 use Rattle.seq_obligations.specs.Fields.{fields_of, number_of, spots}
-use Rattle.seq_obligations.specs.Places.{HavePlaces, Spells}
+use Rattle.ctl_formula.specs.Places.{HavePlaces, Spells}
 use Rattle.seq_obligations.specs.Rules.{IsSeqRule, AreSeqRules, IsAskedRule, AreAskedRules}
 use Rattle.seq_obligations.specs.Signals.{IsReady, places}
 

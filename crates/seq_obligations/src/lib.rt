@@ -7,7 +7,6 @@ mod fields;
 mod lines;
 mod rules;
 mod signals;
-mod translate_stub;
 mod whole;
 
 pub use fields::spots;
