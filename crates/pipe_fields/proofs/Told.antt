@@ -1,9 +1,8 @@
 -- Laws of PIPE's fields.
-use Rattle.std.proofs.Common.{◌≡◌, ℕ, ◌+◌, ◌≤◌, ◌&&◌, ◌==◌, Bool, true, List, [], Some, refl, sym, ◌∙◌, ap, arith}
+use Rattle.std.proofs.Common.{◌≡◌, ℕ, ◌&&◌, Bool, true, List, Some, refl, ◌∙◌, ap, arith}
 use Rattle.std.proofs.lemmas.Bool.Decides.{nat_tests}
 use Rattle.field_bits.proofs.Patterns.{pattern_of, decoded_range}
 use Rattle.field_bits.proofs.Places.{place_of}
-use Rattle.field_bits.specs.Spelling.{spelt}
 use Rattle.field_bits.specs.Spots.{decoded, number_among}
 use Rattle.field_bits.specs.declared.spots.Place.{Place}
 use Rattle.pipe_fields.specs.Allowed.{allowed, stage_fits, fetch_allowed, decode_allowed, execute_allowed, memory_allowed, write_allowed}

@@ -31,8 +31,18 @@ of_bubbles f =
       f = f;
       d = record { kind = bubble; stat = 0; icode = inop; ifun = 0; r_a = no_register; r_b = no_register; taken = 0; stops = 0; back = 0 };
       e = record {
-        kind = bubble; stat = 0; icode = inop; ifun = 0; dst_e = no_register; dst_m = no_register; src_a = no_register; src_b = no_register;
-        cnd = 1; stops = 0; back = 0 };
+        kind = bubble;
+        stat = 0;
+        icode = inop;
+        ifun = 0;
+        dst_e = no_register;
+        dst_m = no_register;
+        src_a = no_register;
+        src_b = no_register;
+        cnd = 1;
+        stops = 0;
+        back = 0;
+      };
       m = record { kind = bubble; stat = 0; icode = inop; ifun = 0; dst_e = no_register; dst_m = no_register; cnd = 0; error = 0; back = 0 };
       w = record { kind = bubble; stat = 0; icode = inop; dst_e = no_register; dst_m = no_register };
     }

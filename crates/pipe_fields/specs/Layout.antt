@@ -1,5 +1,5 @@
 -- The fields of a control valuation of PIPE: five lines of numbers, and the bits that spell them.
-use Rattle.std.specs.Prelude.{ℕ, ◌+◌, List, [], ◌∷◌, Bool, get_or, Option, Some, None}
+use Rattle.std.specs.Prelude.{ℕ, List, [], ◌∷◌, Bool, get_or, Option, Some, None}
 use Rattle.dp_signals.specs.PipeNames as signal
 use Rattle.field_bits.specs.declared.spots.Place.{Place}
 use Rattle.field_bits.specs.declared.spots.Spot.{Spot}
@@ -124,14 +124,40 @@ fields_by xs =
     record {
       f = record { error = get_or xs 4 0; icode = get_or xs 5 0; ifun = get_or xs 6 0; taken = get_or xs 7 0; stops = get_or xs 8 0; back = get_or xs 9 0 };
       d = record {
-        kind = get_or xs 0 0; stat = get_or xs 10 0; icode = get_or xs 11 0; ifun = get_or xs 12 0; r_a = get_or xs 13 0; r_b = get_or xs 14 0;
-        taken = get_or xs 15 0; stops = get_or xs 16 0; back = get_or xs 17 0 };
+        kind = get_or xs 0 0;
+        stat = get_or xs 10 0;
+        icode = get_or xs 11 0;
+        ifun = get_or xs 12 0;
+        r_a = get_or xs 13 0;
+        r_b = get_or xs 14 0;
+        taken = get_or xs 15 0;
+        stops = get_or xs 16 0;
+        back = get_or xs 17 0;
+      };
       e = record {
-        kind = get_or xs 1 0; stat = get_or xs 18 0; icode = get_or xs 19 0; ifun = get_or xs 20 0; dst_e = get_or xs 21 0; dst_m = get_or xs 22 0;
-        src_a = get_or xs 23 0; src_b = get_or xs 24 0; cnd = get_or xs 25 0; stops = get_or xs 26 0; back = get_or xs 27 0 };
+        kind = get_or xs 1 0;
+        stat = get_or xs 18 0;
+        icode = get_or xs 19 0;
+        ifun = get_or xs 20 0;
+        dst_e = get_or xs 21 0;
+        dst_m = get_or xs 22 0;
+        src_a = get_or xs 23 0;
+        src_b = get_or xs 24 0;
+        cnd = get_or xs 25 0;
+        stops = get_or xs 26 0;
+        back = get_or xs 27 0;
+      };
       m = record {
-        kind = get_or xs 2 0; stat = get_or xs 28 0; icode = get_or xs 29 0; ifun = get_or xs 30 0; dst_e = get_or xs 31 0; dst_m = get_or xs 32 0;
-        cnd = get_or xs 33 0; error = get_or xs 34 0; back = get_or xs 35 0 };
+        kind = get_or xs 2 0;
+        stat = get_or xs 28 0;
+        icode = get_or xs 29 0;
+        ifun = get_or xs 30 0;
+        dst_e = get_or xs 31 0;
+        dst_m = get_or xs 32 0;
+        cnd = get_or xs 33 0;
+        error = get_or xs 34 0;
+        back = get_or xs 35 0;
+      };
       w = record { kind = get_or xs 3 0; stat = get_or xs 36 0; icode = get_or xs 37 0; dst_e = get_or xs 38 0; dst_m = get_or xs 39 0 };
     }
 

@@ -5,7 +5,11 @@ ghost use Rattle.pipe_fields.specs.Layout.{fields_of};
 ghost use Rattle.pipe_fields.specs.Allowed as spec;
 ghost use Rattle.field_bits.specs.Spelling.{spelt};
 
-use crate::places::{D_BACK, D_ICODE, D_IFUN, D_R_A, D_R_B, D_STAT, D_STOPS, D_TAKEN, E_BACK, E_CND, E_DST_E, E_DST_M, E_ICODE, E_IFUN, E_SRC_A, E_SRC_B, E_STAT, E_STOPS, M_BACK, M_DST_E, M_DST_M, M_ERROR, M_ICODE, M_IFUN, M_STAT, W_DST_E, W_DST_M, W_ICODE, W_STAT};
+use crate::places::{
+    D_BACK, D_ICODE, D_IFUN, D_R_A, D_R_B, D_STAT, D_STOPS, D_TAKEN, E_BACK, E_CND, E_DST_E,
+    E_DST_M, E_ICODE, E_IFUN, E_SRC_A, E_SRC_B, E_STAT, E_STOPS, M_BACK, M_DST_E, M_DST_M, M_ERROR,
+    M_ICODE, M_IFUN, M_STAT, W_DST_E, W_DST_M, W_ICODE, W_STAT,
+};
 use field_bits::{Place, spells};
 use nets::NetBuilder;
 use y86_base::Memory;

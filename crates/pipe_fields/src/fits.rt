@@ -7,10 +7,14 @@ ghost use Rattle.field_bits.specs.Fits.{cnd_where, only_where, register_fits};
 ghost use Rattle.field_bits.specs.Spelling.{spelt};
 
 use crate::places::{
-    D_BACK, D_IFUN, D_KIND, D_R_A, D_R_B, D_STAT, D_STOPS, D_TAKEN, E_BACK, E_CND, E_DST_E, E_DST_M, E_IFUN, E_KIND, E_SRC_A, E_SRC_B, E_STAT, E_STOPS, F_BACK, F_ERROR, F_IFUN, F_STOPS, F_TAKEN, M_BACK, M_CND, M_DST_E, M_DST_M, M_ERROR, M_IFUN, M_KIND, M_STAT, W_DST_E, W_DST_M, W_STAT,
+    D_BACK, D_IFUN, D_KIND, D_R_A, D_R_B, D_STAT, D_STOPS, D_TAKEN, E_BACK, E_CND, E_DST_E,
+    E_DST_M, E_IFUN, E_KIND, E_SRC_A, E_SRC_B, E_STAT, E_STOPS, F_BACK, F_ERROR, F_IFUN, F_STOPS,
+    F_TAKEN, M_BACK, M_CND, M_DST_E, M_DST_M, M_ERROR, M_IFUN, M_KIND, M_STAT, W_DST_E, W_DST_M,
+    W_STAT,
 };
 use field_bits::{
-    Place, accesses, cnd_fits, cnd_where, code_fits, destination_fits, half_fits, is_branch, only_where, reading_fits, register_fits, spells, stat_fits, tied,
+    Place, accesses, cnd_fits, cnd_where, code_fits, destination_fits, half_fits, is_branch,
+    only_where, reading_fits, register_fits, spells, stat_fits, tied,
 };
 use nets::NetBuilder;
 use y86_base::Memory;
@@ -30,7 +34,13 @@ fn live(b: &mut NetBuilder, kind: Place, stat: Place) -> Result<u64, Memory>
 }
 
 /// A hidden bit is 1 only in an instruction without fault for which a test holds.
-fn live_only(b: &mut NetBuilder, may: bool, kind: Place, stat: Place, bit: Place) -> Result<u64, Memory>
+fn live_only(
+    b: &mut NetBuilder,
+    may: bool,
+    kind: Place,
+    stat: Place,
+    bit: Place,
+) -> Result<u64, Memory>
     requires kind { kind.first + kind.bits ≤ b.old.vars }
     requires stat { stat.first + stat.bits ≤ b.old.vars }
     requires bit { bit.first + bit.bits ≤ b.old.vars }

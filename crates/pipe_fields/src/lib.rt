@@ -2,7 +2,6 @@
 //! allowed, as definitions by the instruction table and as gates.
 #![tactic(auto, using(nets::proofs::Truths::truth_kept, nets::proofs::Truths::begins_more))]
 
-
 mod bubbles;
 mod fits;
 mod laws;
@@ -11,7 +10,7 @@ pub mod places;
 mod table;
 mod valuation;
 
-pub use valuation::{allowed, line_fits};
 pub use laws::{law_of_bubbles, law_of_patterns, law_of_places, law_of_the_start};
 pub use lines::Line;
 pub use table::{BIT_COUNT, place_of, spots};
+pub use valuation::{allowed, line_fits};

@@ -33,7 +33,13 @@ fn icode_place(line: Line) -> Place
 }
 
 /// The line is one of an instruction of this icode, with its row.
-fn row_fits(b: &mut NetBuilder, line: Line, count: u64, icode: u64, row: &Row) -> Result<u64, Memory>
+fn row_fits(
+    b: &mut NetBuilder,
+    line: Line,
+    count: u64,
+    icode: u64,
+    row: &Row,
+) -> Result<u64, Memory>
     requires vars { 107 ≤ b.old.vars }
     requires top { row.now.ifun_top < 16 }
     ensures begins { Begins b.old b.new }
@@ -91,7 +97,13 @@ pub fn line_fits(b: &mut NetBuilder, v: Variant, line: Line) -> Result<u64, Memo
 }
 
 /// The line of a stage is that of a bubble, or of an instruction of a kind that the stage can hold.
-fn stage_fits(b: &mut NetBuilder, kinds: u64, kind: Place, bubble: u64, fits: u64) -> Result<u64, Memory>
+fn stage_fits(
+    b: &mut NetBuilder,
+    kinds: u64,
+    kind: Place,
+    bubble: u64,
+    fits: u64,
+) -> Result<u64, Memory>
     requires place { kind.first + kind.bits ≤ b.old.vars }
     requires bubble { bubble < length b.old.gates }
     requires fits { fits < length b.old.gates }

@@ -1,4 +1,4 @@
-use Rattle.std.proofs.Common.{◌≡◌, ℕ, ◌+◌, ◌-◌, ◌==◌, ◌||◌, not, sym, arith}
+use Rattle.std.proofs.Common.{◌==◌, ◌||◌, not, sym, arith}
 use Rattle.field_bits.proofs.Fields.{gate_as, joined}
 use Rattle.field_bits.proofs.Icodes.{each_zero}
 use Rattle.pipe_fields.proofs.Icodes.{each_last}
@@ -12,4 +12,4 @@ returns-then-n-eq0-clause-made t c = gate_as c.in_ok-none.ensures.made (λ w. sy
 pub returns-clause-made : goal.returns-clause-made
 returns-clause-made t c =
     gate_as (joined c.in_ok-earlier.ensures.made c.at_icode.ensures.begins c.in_ok-last.ensures.made c.in_ok-g.ensures.made)
-      (λ w. sym (each_last c.args.n (λ k. not (icode_in c.args.line (fields_of w) == k) || fits_at c.args.v c.args.line k (fields_of w)) (omega arith)))
+    (λ w. sym (each_last c.args.n (λ k. not (icode_in c.args.line (fields_of w) == k) || fits_at c.args.v c.args.line k (fields_of w)) (omega arith)))

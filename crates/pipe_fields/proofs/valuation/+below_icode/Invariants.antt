@@ -1,4 +1,3 @@
-use Rattle.std.proofs.Common.{ℕ, ◌+◌}
 use Rattle.pipe_fields.proofs.valuation.+below_icode.Given as goal
 
 abbrev pub decreases-below_icode : goal.decreases-below_icode

@@ -1,4 +1,3 @@
-use Rattle.std.proofs.Common.{◌<◌, subst}
 use Rattle.field_bits.proofs.Fields.{gate_as}
 use Rattle.field_bits.proofs.Icodes.{where_is}
 use Rattle.pipe_fields.proofs.Icodes.{icode_below}
