@@ -43,7 +43,13 @@ fn works(b: &mut NetBuilder, good: u64) -> Result<u64, Memory>
 
 /// What a row asks of E, of a good instruction that goes on.
 #[tactic(auto, using(nets::proofs::Truths::begins_more, nets::proofs::Truths::truth_kept, ctl_formula::proofs::Inside::inside_more, crate::proofs::Joined::ready_more), unfolding(pipe_fields::specs::Layout::fields_of))]
-pub(crate) fn asked_in_e(b: &mut NetBuilder, ctl: &Controls, v: Variant, good: u64, rule: RowRule) -> Result<u64, Memory>
+pub(crate) fn asked_in_e(
+    b: &mut NetBuilder,
+    ctl: &Controls,
+    v: Variant,
+    good: u64,
+    rule: RowRule,
+) -> Result<u64, Memory>
     requires inside { IsInside b.old ctl.now }
     requires ready { IsReady b.old.vars ctl.now }
     requires good { good < length b.old.gates }
@@ -59,7 +65,12 @@ pub(crate) fn asked_in_e(b: &mut NetBuilder, ctl: &Controls, v: Variant, good: u
 
 /// The function of the ALU, where it is used.
 #[tactic(auto, using(nets::proofs::Truths::begins_more, nets::proofs::Truths::truth_kept, ctl_formula::proofs::Inside::inside_more, crate::proofs::Joined::ready_more), unfolding(pipe_fields::specs::Layout::fields_of))]
-pub(crate) fn function_told(b: &mut NetBuilder, ctl: &Controls, v: Variant, good: u64) -> Result<u64, Memory>
+pub(crate) fn function_told(
+    b: &mut NetBuilder,
+    ctl: &Controls,
+    v: Variant,
+    good: u64,
+) -> Result<u64, Memory>
     requires inside { IsInside b.old ctl.now }
     requires ready { IsReady b.old.vars ctl.now }
     requires good { good < length b.old.gates }
@@ -73,7 +84,15 @@ pub(crate) fn function_told(b: &mut NetBuilder, ctl: &Controls, v: Variant, good
 
 /// The signal is true exactly where the gate is, and the row of the icode passes the test.
 #[tactic(auto, using(nets::proofs::Truths::begins_more, nets::proofs::Truths::truth_kept, ctl_formula::proofs::Inside::inside_more, crate::proofs::Joined::ready_more), unfolding(pipe_fields::specs::Layout::fields_of))]
-pub(crate) fn truth_where(b: &mut NetBuilder, ctl: &Controls, v: Variant, good: u64, icode: Place, test: RowTest, name: NameId) -> Result<u64, Memory>
+pub(crate) fn truth_where(
+    b: &mut NetBuilder,
+    ctl: &Controls,
+    v: Variant,
+    good: u64,
+    icode: Place,
+    test: RowTest,
+    name: NameId,
+) -> Result<u64, Memory>
     requires inside { IsInside b.old ctl.now }
     requires known { IsTrue (has_gate ctl.now name) }
     requires good { good < length b.old.gates }
@@ -92,7 +111,12 @@ pub(crate) fn truth_where(b: &mut NetBuilder, ctl: &Controls, v: Variant, good: 
 
 /// The flags are set by a good instruction that goes on and sets them.
 #[tactic(auto, using(nets::proofs::Truths::begins_more, nets::proofs::Truths::truth_kept, ctl_formula::proofs::Inside::inside_more, crate::proofs::Joined::ready_more), unfolding(pipe_fields::specs::Layout::fields_of))]
-pub(crate) fn flags_told(b: &mut NetBuilder, ctl: &Controls, v: Variant, good: u64) -> Result<u64, Memory>
+pub(crate) fn flags_told(
+    b: &mut NetBuilder,
+    ctl: &Controls,
+    v: Variant,
+    good: u64,
+) -> Result<u64, Memory>
     requires inside { IsInside b.old ctl.now }
     requires ready { IsReady b.old.vars ctl.now }
     requires good { good < length b.old.gates }
@@ -101,7 +125,15 @@ pub(crate) fn flags_told(b: &mut NetBuilder, ctl: &Controls, v: Variant, good: u
         words.is_truth α cv names.set_cc ((truth b.old good w && (fields_of w).e.stat == 1) && (row v (fields_of w).e.icode).sets_flags))) }
 {
     let works = works(b, good)?;
-    let g = truth_where(b, ctl, v, works, E_ICODE, RowTest::SetsFlags, signal::SET_CC)?;
+    let g = truth_where(
+        b,
+        ctl,
+        v,
+        works,
+        E_ICODE,
+        RowTest::SetsFlags,
+        signal::SET_CC,
+    )?;
     Ok(g)
 }
 
@@ -154,7 +186,14 @@ fn taken_late(b: &mut NetBuilder, lf: bool, v: Variant, loads: u64) -> Result<u6
 
 /// e_valA is the value that the instruction carries on to M.
 #[tactic(auto, using(nets::proofs::Truths::begins_more, nets::proofs::Truths::truth_kept, ctl_formula::proofs::Inside::inside_more, crate::proofs::Joined::ready_more), unfolding(pipe_fields::specs::Layout::fields_of))]
-pub(crate) fn value_carried(b: &mut NetBuilder, ctl: &Controls, lf: bool, v: Variant, good: u64, loads: u64) -> Result<u64, Memory>
+pub(crate) fn value_carried(
+    b: &mut NetBuilder,
+    ctl: &Controls,
+    lf: bool,
+    v: Variant,
+    good: u64,
+    loads: u64,
+) -> Result<u64, Memory>
     requires inside { IsInside b.old ctl.now }
     requires ready { IsReady b.old.vars ctl.now }
     requires good { good < length b.old.gates }
@@ -193,7 +232,12 @@ fn loses(b: &mut NetBuilder, v: Variant) -> Result<u64, Memory>
 
 /// The signal is E's destination after the condition.
 #[tactic(auto, using(nets::proofs::Truths::begins_more, nets::proofs::Truths::truth_kept, ctl_formula::proofs::Inside::inside_more, crate::proofs::Joined::ready_more), unfolding(pipe_fields::specs::Layout::fields_of))]
-pub(crate) fn late_destination_is(b: &mut NetBuilder, ctl: &Controls, v: Variant, name: NameId) -> Result<u64, Memory>
+pub(crate) fn late_destination_is(
+    b: &mut NetBuilder,
+    ctl: &Controls,
+    v: Variant,
+    name: NameId,
+) -> Result<u64, Memory>
     requires inside { IsInside b.old ctl.now }
     requires ready { IsReady b.old.vars ctl.now }
     requires known { IsTrue (has_picks ctl.now name) }
@@ -215,7 +259,12 @@ pub(crate) fn late_destination_is(b: &mut NetBuilder, ctl: &Controls, v: Variant
 
 /// Unless E holds a wrong instruction, e_dstE is E's destination after the condition.
 #[tactic(auto, using(nets::proofs::Truths::begins_more, nets::proofs::Truths::truth_kept, ctl_formula::proofs::Inside::inside_more, crate::proofs::Joined::ready_more), unfolding(pipe_fields::specs::Layout::fields_of))]
-pub(crate) fn destination_told(b: &mut NetBuilder, ctl: &Controls, v: Variant, wrong: u64) -> Result<u64, Memory>
+pub(crate) fn destination_told(
+    b: &mut NetBuilder,
+    ctl: &Controls,
+    v: Variant,
+    wrong: u64,
+) -> Result<u64, Memory>
     requires inside { IsInside b.old ctl.now }
     requires ready { IsReady b.old.vars ctl.now }
     requires wrong { wrong < length b.old.gates }
@@ -252,7 +301,12 @@ fn adds_target(b: &mut NetBuilder, ctl: &Controls) -> Result<u64, Memory>
     ensures asked { IfOk result (λ g. IsAsked b.new ctl.now g (λ w α cv.
         words.takes cv names.aluA (Name names.E_valC) && (words.is_number cv names.aluB 0 && words.is_number cv names.alufun 0))) }
 {
-    let target = takes(b, ctl, signal::ALU_A, Wanted::This(Leaf::Name(signal::HELD_E_VAL_C)))?;
+    let target = takes(
+        b,
+        ctl,
+        signal::ALU_A,
+        Wanted::This(Leaf::Name(signal::HELD_E_VAL_C)),
+    )?;
     let zero = takes(b, ctl, signal::ALU_B, Wanted::This(Leaf::Number(0)))?;
     let adds = takes(b, ctl, signal::ALUFUN, Wanted::This(Leaf::Number(0)))?;
     let rest = b.and(zero, adds)?;
@@ -262,7 +316,12 @@ fn adds_target(b: &mut NetBuilder, ctl: &Controls) -> Result<u64, Memory>
 
 /// A jump in E carries its target through the ALU.
 #[tactic(auto, using(nets::proofs::Truths::begins_more, nets::proofs::Truths::truth_kept, ctl_formula::proofs::Inside::inside_more, crate::proofs::Joined::ready_more), unfolding(pipe_fields::specs::Layout::fields_of))]
-pub(crate) fn target_told(b: &mut NetBuilder, ctl: &Controls, v: Variant, good: u64) -> Result<u64, Memory>
+pub(crate) fn target_told(
+    b: &mut NetBuilder,
+    ctl: &Controls,
+    v: Variant,
+    good: u64,
+) -> Result<u64, Memory>
     requires inside { IsInside b.old ctl.now }
     requires ready { IsReady b.old.vars ctl.now }
     requires good { good < length b.old.gates }

@@ -26,7 +26,12 @@ use y86_base::{Memory, Variant};
 
 /// mem_addr is the address of a good instruction that accesses memory.
 #[tactic(auto, using(nets::proofs::Truths::begins_more, nets::proofs::Truths::truth_kept, ctl_formula::proofs::Inside::inside_more, crate::proofs::Joined::ready_more), unfolding(pipe_fields::specs::Layout::fields_of))]
-pub(crate) fn address_told(b: &mut NetBuilder, ctl: &Controls, v: Variant, good: u64) -> Result<u64, Memory>
+pub(crate) fn address_told(
+    b: &mut NetBuilder,
+    ctl: &Controls,
+    v: Variant,
+    good: u64,
+) -> Result<u64, Memory>
     requires inside { IsInside b.old ctl.now }
     requires ready { IsReady b.old.vars ctl.now }
     requires good { good < length b.old.gates }
@@ -41,7 +46,12 @@ pub(crate) fn address_told(b: &mut NetBuilder, ctl: &Controls, v: Variant, good:
 
 /// A word is read, is written, by a good instruction that reads, that writes.
 #[tactic(auto, using(nets::proofs::Truths::begins_more, nets::proofs::Truths::truth_kept, ctl_formula::proofs::Inside::inside_more, crate::proofs::Joined::ready_more), unfolding(pipe_fields::specs::Layout::fields_of))]
-pub(crate) fn access_told(b: &mut NetBuilder, ctl: &Controls, v: Variant, good: u64) -> Result<u64, Memory>
+pub(crate) fn access_told(
+    b: &mut NetBuilder,
+    ctl: &Controls,
+    v: Variant,
+    good: u64,
+) -> Result<u64, Memory>
     requires inside { IsInside b.old ctl.now }
     requires ready { IsReady b.old.vars ctl.now }
     requires good { good < length b.old.gates }
@@ -87,8 +97,18 @@ fn values_written(b: &mut NetBuilder, ctl: &Controls) -> Result<u64, Memory>
     ensures asked { IfOk result (λ g. IsAsked b.new ctl.now g (λ w α cv.
         words.takes cv names.w_valE (Name names.W_valE) && words.takes cv names.w_valM (Name names.W_valM))) }
 {
-    let val_e = takes(b, ctl, signal::W_VAL_E, Wanted::This(Leaf::Name(signal::HELD_W_VAL_E)))?;
-    let val_m = takes(b, ctl, signal::W_VAL_M, Wanted::This(Leaf::Name(signal::HELD_W_VAL_M)))?;
+    let val_e = takes(
+        b,
+        ctl,
+        signal::W_VAL_E,
+        Wanted::This(Leaf::Name(signal::HELD_W_VAL_E)),
+    )?;
+    let val_m = takes(
+        b,
+        ctl,
+        signal::W_VAL_M,
+        Wanted::This(Leaf::Name(signal::HELD_W_VAL_M)),
+    )?;
     let g = b.and(val_e, val_m)?;
     Ok(g)
 }

@@ -54,10 +54,25 @@ fn row_asks(b: &mut NetBuilder, ctl: &Controls, rule: RowRule, row: &Row) -> Res
     ensures asked { IfOk result (λ g. IsAsked b.new ctl.now g (λ w α cv. asked_by rule row.now (fields_of w) cv)) }
 {
     match rule {
-        RowRule::OperandA => takes_some(b, ctl, signal::ALU_A, operand_leaf_a(row.alu_a, signal::HELD_E_VAL_A, signal::HELD_E_VAL_C)),
-        RowRule::OperandB => takes_some(b, ctl, signal::ALU_B, operand_leaf_b(row.alu_b, signal::HELD_E_VAL_B)),
+        RowRule::OperandA => takes_some(
+            b,
+            ctl,
+            signal::ALU_A,
+            operand_leaf_a(row.alu_a, signal::HELD_E_VAL_A, signal::HELD_E_VAL_C),
+        ),
+        RowRule::OperandB => takes_some(
+            b,
+            ctl,
+            signal::ALU_B,
+            operand_leaf_b(row.alu_b, signal::HELD_E_VAL_B),
+        ),
         RowRule::Function => alu_function_is(b, ctl, row),
-        RowRule::Address => takes_some(b, ctl, signal::MEM_ADDR, address_leaf(row.memory, signal::HELD_M_VAL_A, signal::HELD_M_VAL_E)),
+        RowRule::Address => takes_some(
+            b,
+            ctl,
+            signal::MEM_ADDR,
+            address_leaf(row.memory, signal::HELD_M_VAL_A, signal::HELD_M_VAL_E),
+        ),
     }
 }
 

@@ -12,6 +12,6 @@ unfolding fields_of
 returns-clause-asked c =
     asked_as c.in_ok-g.ensures.asked
     (λ w α cv.
-      let n = (fields_of w).e in
-      ap (λ l. takes cv c.args.name l)
-      (ap (λ x. if x then Number no_register else Number n.dst_e) (c.in_ok-lost.ensures.made.is w) ∙ lost_if (row c.args.v n.icode).conditional n.cnd n.dst_e))
+    let n = (fields_of w).e in
+    ap (λ l. takes cv c.args.name l)
+    (ap (λ x. if x then Number no_register else Number n.dst_e) (c.in_ok-lost.ensures.made.is w) ∙ lost_if (row c.args.v n.icode).conditional n.cnd n.dst_e))

@@ -20,5 +20,5 @@ returns-clause-asked c =
     (asked_two (λ w a b. not a || b) c.implies.ensures.begins (inside_more c.carries.ensures.begins (inside_more c.takes_if.ensures.begins i))
     (asked_gate c.in_ok-carried.ensures.made) (asked_more c.carries.ensures.begins (inside_more c.takes_if.ensures.begins i) c.in_ok-taken.ensures.asked) c.in_ok-g.ensures.made)
     (λ w α cv. either_by
-      (ap (λ x. not (x && (carries_a (row c.args.v (fields_of w).e.icode) || carries_p (row c.args.v (fields_of w).e.icode)))) (truth_kept up c.args.good w c.requires.good))
-      (ap (λ x. takes cv e_valA (if x then Name m_valM else Name E_valA)) (c.in_ok-late.ensures.made.is w)))
+    (ap (λ x. not (x && (carries_a (row c.args.v (fields_of w).e.icode) || carries_p (row c.args.v (fields_of w).e.icode)))) (truth_kept up c.args.good w c.requires.good))
+    (ap (λ x. takes cv e_valA (if x then Name m_valM else Name E_valA)) (c.in_ok-late.ensures.made.is w)))

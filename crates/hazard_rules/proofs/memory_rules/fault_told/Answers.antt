@@ -13,6 +13,6 @@ unfolding fields_of
 returns-clause-asked c =
     asked_as c.in_ok-g.ensures.asked
     (λ w α cv.
-      let n = (fields_of w).m in
-      ap (λ l. takes cv m_stat l)
-      (ap (λ x. if x then Number 3 else Number n.stat) (c.in_ok-fault.ensures.made.is w ∙ ap not (c.in_ok-fine.ensures.made.is w)) ∙ number_if (set n.error) 3 n.stat))
+    let n = (fields_of w).m in
+    ap (λ l. takes cv m_stat l)
+    (ap (λ x. if x then Number 3 else Number n.stat) (c.in_ok-fault.ensures.made.is w ∙ ap not (c.in_ok-fine.ensures.made.is w)) ∙ number_if (set n.error) 3 n.stat))
