@@ -82,7 +82,7 @@ pub one_ends : {A : Type 0} (P : A → Type 0) (E : Answered → Type 0) (next :
 unfolding Does
 one_ends P E next first last old new result s = inr s
 
-refusal_says : (P : Answered → Type 0) (seen : SinkSeen) (stop : code.Stop) → status_of stop ≡ 5 → P (answer_at stop) → Says P seen seen (Err stop)
+pub refusal_says : (P : Answered → Type 0) (seen : SinkSeen) (stop : code.Stop) → status_of stop ≡ 5 → P (answer_at stop) → Says P seen seen (Err stop)
 refusal_says P seen Usage five p = absurd (cc (five))
 refusal_says P seen (Read name) five p = absurd (cc (five))
 refusal_says P seen Write five p = absurd (cc (five))

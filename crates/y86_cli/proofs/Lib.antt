@@ -1,5 +1,6 @@
 pub mod Arguments
 pub mod Came
+pub mod Checks
 pub mod Designs
 pub mod Does
 pub mod Legal

@@ -10,14 +10,15 @@ use Rattle.yas_asm.specs.declared.fault.AsmFault.{AsmFault}
 use Rattle.yas_asm.specs.declared.listing.Line.{Line}
 use Rattle.yo_object.specs.ObjectText.{object_of}
 use Rattle.yo_object.specs.declared.object.YoFault.{YoFault}
-use Rattle.y86_cli.specs.Answers.{image_of_text, plan_in, plan_of, run_status, text_of_listing, yas_plan, yis_plan, hcl_plan, seq_plan, ssim_plan, SeqAnswers, pipe_plan, psim_plan, PipeAnswers, yis_run}
+use Rattle.y86_cli.specs.Answers.{image_of_text, plan_in, plan_of, run_status, text_of_listing, yas_plan, yis_plan, check_seq_plan, hcl_plan, seq_plan, ssim_plan, SeqAnswers, pipe_plan, psim_plan, PipeAnswers, yis_run}
+use Rattle.y86_cli.specs.Checks.{RefusesControl, SeqChecks}
 use Rattle.y86_cli.specs.Designs.{RefusesDesign}
 use Rattle.hcl_types.specs.declared.table.Row.{Row}
 use Rattle.hcl_types.specs.declared.term.Term.{Term}
 use Rattle.dp_signals.specs.SeqTable.{seq_rows}
 use Rattle.dp_signals.specs.PipeTable.{pipe_rows}
 use Rattle.y86_cli.specs.Does.{FilesSeen, SinkSeen}
-use Rattle.y86_cli.specs.Forms.{Command, yas, yis, hcl, ssim, psim}
+use Rattle.y86_cli.specs.Forms.{Command, yas, yis, hcl, ssim, psim, check_seq}
 use Rattle.y86_cli.specs.Lines.{assembly_fault_line, object_fault_line, read_fault_line, too_long_line}
 use Rattle.y86_cli.specs.Plan.{Answered, Plan, says, reads, gives, answers, after, refused, Allows, Tells, IsDetermined}
 use Rattle.y86_cli.specs.Ran.{Ran, Told}
@@ -176,8 +177,17 @@ design_proper name rows text a (inl unread) = refused_proper _ a unread.2
 design_proper name rows text a (inr (inl unbound)) = refused_proper _ a unbound.told
 design_proper name rows text a (inr (inr unordered)) = refused_proper _ a unordered.told
 
+control_proper : (name : List ℕ) (rows : List Row) (terms : List Term) (a : Answered) → RefusesControl name rows terms a → IsProper a
+control_proper name rows terms a (inl mixed) = refused_proper _ a mixed.told
+control_proper name rows terms a (inr over) = refused_proper _ a over.told
+
+seq_check_proper : (name : List ℕ) (v : Variant) (terms : List Term) (a : Answered) → SeqChecks name v terms a → IsProper a
+seq_check_proper name v terms a (inl yes) = proper_as a _ (inl (lit≤ tt, refl)) yes.told
+seq_check_proper name v terms a (inr (inl denied)) = proper_as a _ (inl (lit≤ tt, refl)) denied.told
+seq_check_proper name v terms a (inr (inr refuses)) = control_proper name seq_rows terms a refuses
+
 command_proper : (command : Command) → AllProper (plan_of command)
-unfolding AllProper yas_plan yis_plan hcl_plan seq_plan ssim_plan pipe_plan psim_plan
+unfolding AllProper check_seq_plan yas_plan yis_plan hcl_plan seq_plan ssim_plan pipe_plan psim_plan
 command_proper (yas source size v) =
     λ bytes. after_proper _ _ (λ text. answers_proper _ (inl (lit≤ tt, refl))) (listing_proper source bytes (assembled v bytes size))
 command_proper (yis object size limit v) =
@@ -187,6 +197,7 @@ command_proper (ssim name object size limit v) =
     λ text. (λ terms is bytes. after_proper _ _ (λ image. seq_proper v terms limit image) (image_proper object (object_of bytes size)), design_proper name seq_rows text)
 command_proper (psim name object size limit trace v) =
     λ text. (λ terms is bytes. after_proper _ _ (λ image. pipe_proper v terms limit trace image) (image_proper object (object_of bytes size)), design_proper name pipe_rows text)
+command_proper (check_seq file v) = λ text. (λ terms is a said. seq_check_proper file v terms a said, design_proper file seq_rows text)
 
 done_of : (a : Answered) → IsProper a → a.status ≤ 1 → a.err ≡ []
 done_of a (inl p) low = p.1

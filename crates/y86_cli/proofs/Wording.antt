@@ -18,7 +18,7 @@ use Rattle.y86_base.specs.declared.parts.Variant.TheVariants as variant
 use Rattle.y86_cli.specs.declared.option.Switch.{Switch}
 use Rattle.y86_cli.specs.declared.option.Switch.TheVariants.{Full, Mem, Limit, Trace}
 use Rattle.y86_cli.specs.Arguments.{Argument, place, switch, arguments, in_front, index_of, Filled, nothing_filled, all_added}
-use Rattle.y86_cli.specs.Forms.{Command, yas, yis, hcl, ssim, psim, Form, forms, fits, made, first_fit, form_of}
+use Rattle.y86_cli.specs.Forms.{Command, yas, yis, hcl, ssim, psim, check_seq, Form, forms, fits, made, first_fit, form_of}
 use Rattle.y86_cli.specs.Numbers.{is_number, number_of, number_that, is_run_limit}
 use Rattle.y86_cli.specs.Wording.{IsFileName, IsRunLimit, IsLegal, trace_words, variant_words, words_of, places_of, numbers_of, IsFound, HasForm}
 use Rattle.y86_cli.proofs.Arguments.{place_read, switch_read}
@@ -61,6 +61,9 @@ limit_arguments n rest limit = switch_read (codes "--limit") (decimal n) rest Li
 
 file_arguments : (file : List ℕ) (rest : List (List ℕ)) → IsFileName file → arguments (file ∷ rest) ≡ in_front (Some (place file)) (arguments rest)
 file_arguments file rest name = place_read file rest name.1 name.0
+
+seq_arguments : (rest : List (List ℕ)) → arguments (codes "seq" ∷ rest) ≡ in_front (Some (place (codes "seq"))) (arguments rest)
+seq_arguments rest = file_arguments (codes "seq") rest (omega arith, refl)
 
 variant_arguments : Variant → List Argument
 variant_arguments variant.Base = []
@@ -107,6 +110,8 @@ legal_written (psim file object size limit true variant.Base) legal =
     rw (file_arguments file _ legal.0, file_arguments object _ legal.1, size_arguments size _ legal.2, limit_arguments limit _ legal.3, trace_read true variant.Base) refl
 legal_written (psim file object size limit true variant.Full) legal =
     rw (file_arguments file _ legal.0, file_arguments object _ legal.1, size_arguments size _ legal.2, limit_arguments limit _ legal.3, trace_read true variant.Full) refl
+legal_written (check_seq file variant.Base) legal = rw (seq_arguments _, file_arguments file _ legal, variant_read variant.Base) refl
+legal_written (check_seq file variant.Full) legal = rw (seq_arguments _, file_arguments file _ legal, variant_read variant.Full) refl
 
 pub defaults_hold : (file : List ℕ) → IsFileName file →
     (form_of (codes "yas" ∷ file ∷ []) ≡ Some (yas file 8192 Base)) × (form_of (codes "yis" ∷ file ∷ []) ≡ Some (yis file 8192 10000 Base))

@@ -20,8 +20,9 @@ use Rattle.yis_run.specs.Report.{report}
 use Rattle.yo_object.specs.ObjectText.{object_of}
 use Rattle.yo_object.specs.Printed.{printed}
 use Rattle.yo_object.specs.declared.object.YoFault.{YoFault}
+use Rattle.y86_cli.specs.Checks.{SeqChecks}
 use Rattle.y86_cli.specs.Designs.{IsDesign, RefusesDesign, RefusesHcl}
-use Rattle.y86_cli.specs.Forms.{Command, yas, yis, hcl, ssim, psim}
+use Rattle.y86_cli.specs.Forms.{Command, yas, yis, hcl, ssim, psim, check_seq}
 use Rattle.y86_cli.specs.Lines.{assembly_fault_line, object_fault_line, usage_line}
 use Rattle.y86_cli.specs.PipeRuns.{RunsTo, run_text}
 use Rattle.y86_cli.specs.Plan.{Answered, Plan, after, answers, done, gives, reads, refused, says}
@@ -96,12 +97,18 @@ unfoldable pub psim_plan : List ℕ → List ℕ → ℕ → ℕ → Bool → Va
 psim_plan name object size limit trace v =
     reads name hcl_limit (λ text. gives (IsDesign pipe_rows text) (RefusesDesign name pipe_rows text) (λ terms. pipe_plan terms object size limit trace v))
 
+-- the verdict on a design for SEQ
+unfoldable pub check_seq_plan : List ℕ → Variant → Plan
+check_seq_plan name v =
+    reads name hcl_limit (λ text. gives (IsDesign seq_rows text) (RefusesDesign name seq_rows text) (λ terms. says (SeqChecks name v terms)))
+
 abbrev pub plan_of : Command → Plan
 plan_of (yas source size v) = yas_plan source size v
 plan_of (yis object size limit v) = yis_plan object size limit v
 plan_of (hcl file) = hcl_plan file
 plan_of (ssim name object size limit v) = ssim_plan name object size limit v
 plan_of (psim name object size limit trace v) = psim_plan name object size limit trace v
+plan_of (check_seq name v) = check_seq_plan name v
 
 -- the plan of words that are a command or none
 abbrev pub plan_in : Option Command → Plan

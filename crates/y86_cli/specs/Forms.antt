@@ -10,10 +10,11 @@ use Rattle.y86_cli.specs.Arguments.{Filled, nothing_filled, index_of, all_added,
 use Rattle.y86_cli.specs.declared.option.Switch.{Switch}
 use Rattle.y86_cli.specs.declared.option.Switch.TheVariants.{Full, Mem, Limit, Trace}
 use Rattle.y86_cli.specs.declared.form.Kind.{Kind}
-use Rattle.y86_cli.specs.declared.form.Kind.TheVariants.{Yas, Yis, Hcl, Ssim, Psim}
+use Rattle.y86_cli.specs.declared.form.Kind.TheVariants.{Yas, Yis, Hcl, Ssim, Psim, CheckSeq}
 
--- what a place takes: the name of a file
+-- what a place takes: this word, or the name of a file
 pub data Place : Type 0 where
+  keyword : List ℕ → Place
   file : Place
 
 pub record Form : Type 0 where
@@ -33,12 +34,14 @@ forms =
     ∷ row Hcl (codes "hcl") (file ∷ []) []
     ∷ row Ssim (codes "ssim") (file ∷ file ∷ []) (Full ∷ Mem ∷ Limit ∷ [])
     ∷ row Psim (codes "psim") (file ∷ file ∷ []) (Full ∷ Mem ∷ Limit ∷ Trace ∷ [])
+    ∷ row CheckSeq (codes "check") (keyword (codes "seq") ∷ file ∷ []) (Full ∷ [])
     ∷ []
 
 -- ---- the form that words have
 
 abbrev pub fits_place : Place → List ℕ → Bool
-fits_place file word = true
+fits_place (keyword text) given = bytes_eq given text
+fits_place file given = true
 
 abbrev pub fits_places : List Place → List (List ℕ) → Bool
 fits_places [] [] = true
@@ -70,6 +73,8 @@ pub data Command : Type 0 where
   ssim : List ℕ → List ℕ → ℕ → ℕ → Variant → Command
   -- run an object file on PIPE under an HCL file: as for ssim, and whether a trace is asked for
   psim : List ℕ → List ℕ → ℕ → ℕ → Bool → Variant → Command
+  -- decide whether SEQ under an HCL file does what its instructions mean: the name of the file, the instruction set
+  check_seq : List ℕ → Variant → Command
 
 -- `--full` takes the instruction set with `iaddq`
 abbrev pub variant_with : Option ℕ → Variant
@@ -99,6 +104,7 @@ made Ssim f =
     option_and_then (λ file. option_map (λ object. ssim file object (size_of f) (limit_of f) (variant_of f)) (slice_get f.words 1)) (slice_get f.words 0)
 made Psim f =
     option_and_then (λ file. option_map (λ object. psim file object (size_of f) (limit_of f) (trace_of f) (variant_of f)) (slice_get f.words 1)) (slice_get f.words 0)
+made CheckSeq f = option_map (λ file. check_seq file (variant_of f)) (slice_get f.words 1)
 
 -- the command of the first row that fits
 unfoldable pub first_fit : List Form → List ℕ → Filled → Option Command

@@ -1,6 +1,7 @@
 pub mod Answers
 pub mod Arguments
 pub mod Came
+pub mod Checks
 pub mod Designs
 pub mod Does
 pub mod Forms

@@ -12,7 +12,7 @@ use Rattle.y86_cli.specs.declared.form.Form as code_form
 use Rattle.y86_cli.specs.declared.form.Place as code_place
 use Rattle.y86_cli.specs.declared.form.Place.TheVariants as code_places
 use Rattle.y86_cli.specs.Arguments.{Argument, place, switch, arguments, in_front, Filled}
-use Rattle.y86_cli.specs.Forms.{Command, yas, yis, hcl, ssim, psim, Form, Place, file}
+use Rattle.y86_cli.specs.Forms.{Command, yas, yis, hcl, ssim, psim, check_seq, Form, Place, keyword, file}
 
 abbrev pub argument_in : code.Argument → Argument
 argument_in (code_variants.Place word) = place word.now
@@ -38,6 +38,7 @@ abbrev pub filled_in : code_found.Found → Filled
 filled_in found = record { words = words_in found.words.items; values = found.values }
 
 abbrev pub place_in : code_place.Place → Place
+place_in (code_places.Keyword text) = keyword text.now
 place_in code_places.File = file
 
 abbrev pub form_in : code_form.Form → Form
@@ -49,3 +50,4 @@ command_in (code_commands.Yis object size limit v) = yis object.now size limit v
 command_in (code_commands.Hcl name) = hcl name.now
 command_in (code_commands.Ssim name object size limit v) = ssim name.now object.now size limit v
 command_in (code_commands.Psim name object size limit trace v) = psim name.now object.now size limit trace v
+command_in (code_commands.CheckSeq name v) = check_seq name.now v

@@ -6,7 +6,7 @@ use Rattle.y86_base.specs.Image.{IsSize}
 use Rattle.y86_base.specs.declared.parts.Variant.{Variant}
 use Rattle.y86_base.specs.declared.parts.Variant.TheVariants as variant
 use Rattle.y86_cli.specs.Arguments.{Argument, place, switch, Filled, arguments, index_of, is_option}
-use Rattle.y86_cli.specs.Forms.{Command, yas, yis, hcl, ssim, psim, Form, forms, fits, made}
+use Rattle.y86_cli.specs.Forms.{Command, yas, yis, hcl, ssim, psim, check_seq, Form, forms, fits, made}
 use Rattle.y86_cli.specs.declared.option.Switch.{Switch}
 
 -- what may name a file: a word that isn't empty and is no option
@@ -24,6 +24,7 @@ IsLegal (yis object size limit v) = IsFileName object × IsSize size × IsRunLim
 IsLegal (hcl file) = IsFileName file
 IsLegal (ssim file object size limit v) = IsFileName file × IsFileName object × IsSize size × IsRunLimit limit
 IsLegal (psim file object size limit trace v) = IsFileName file × IsFileName object × IsSize size × IsRunLimit limit
+IsLegal (check_seq file v) = IsFileName file
 
 abbrev pub variant_words : Variant → List (List ℕ)
 variant_words variant.Base = []
@@ -43,6 +44,7 @@ words_of (ssim file object size limit v) =
     codes "ssim" ∷ file ∷ object ∷ codes "--mem" ∷ decimal size ∷ codes "--limit" ∷ decimal limit ∷ variant_words v
 words_of (psim file object size limit trace v) =
     codes "psim" ∷ file ∷ object ∷ codes "--mem" ∷ decimal size ∷ codes "--limit" ∷ decimal limit ∷ (trace_words trace ++ variant_words v)
+words_of (check_seq file v) = codes "check" ∷ codes "seq" ∷ file ∷ variant_words v
 
 -- words that are arguments: file names and other words of places, and options each with its number
 abbrev pub AreArguments : List (List ℕ) → Type 0

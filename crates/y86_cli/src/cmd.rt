@@ -48,6 +48,11 @@ pub enum Cmd<'a> {
         trace: bool,
         variant: Variant,
     },
+    /// Decides whether SEQ under an HCL file does what its instructions mean, for every program.
+    CheckSeq {
+        hcl: &'a str,
+        variant: Variant,
+    },
 }
 
 /// Words that are no command.

@@ -68,7 +68,7 @@ fn name_at(rows: &[Row], id: u32) -> &[u8]
 }
 
 /// The names of rows, each behind a blank.
-fn all_names(alloc: Global, rows: &[Row], ids: &[u32]) -> Result<Vec<u8>, AllocError>
+pub(crate) fn all_names(alloc: Global, rows: &[Row], ids: &[u32]) -> Result<Vec<u8>, AllocError>
     ensures { IfOk result (λ names. names.items ≡ text.blank_names (text.names_at (row_names rows.now) ids.now)) }
 {
     let mut names = Vec::new(alloc);

@@ -13,6 +13,8 @@ use y86_base::Variant;
 /// What a place of a form takes.
 #[derive(Clone, Copy, Debug)]
 pub enum Place {
+    /// This word.
+    Keyword(&'static str),
     /// The name of a file.
     File,
 }
@@ -25,6 +27,7 @@ pub enum Kind {
     Hcl,
     Ssim,
     Psim,
+    CheckSeq,
 }
 
 /// A form: the name of its command, the places behind it, in order, and the options, which stand anywhere behind the
@@ -38,7 +41,7 @@ struct Form {
 }
 
 /// The table of the commands.
-static FORMS: [Form; 5] = [
+static FORMS: [Form; 6] = [
     Form {
         kind: Kind::Yas,
         name: "yas",
@@ -69,14 +72,20 @@ static FORMS: [Form; 5] = [
         places: &[Place::File, Place::File],
         options: &[Switch::Full, Switch::Mem, Switch::Limit, Switch::Trace],
     },
+    Form {
+        kind: Kind::CheckSeq,
+        name: "check",
+        places: &[Place::Keyword("seq"), Place::File],
+        options: &[Switch::Full],
+    },
 ];
 
 /// Whether a place takes a word.
 fn fits_place(place: Place, word: &str) -> bool
     ensures { result ≡ spec.fits_place (place_in place) word.now }
 {
-    let _ = word;
     match place {
+        Place::Keyword(text) => word == text,
         Place::File => true,
     }
 }
@@ -174,6 +183,10 @@ fn made<'a>(kind: Kind, found: &Found<'a>) -> Option<Cmd<'a>>
             mem,
             limit,
             trace,
+            variant,
+        }),
+        Kind::CheckSeq => Some(Cmd::CheckSeq {
+            hcl: *words.get(1)?,
             variant,
         }),
     }

@@ -3,6 +3,7 @@
 
 mod argument;
 mod call;
+mod check;
 mod cmd;
 mod design;
 mod files;
@@ -20,6 +21,8 @@ mod ssim;
 mod stop;
 #[cfg(test)]
 mod tests;
+#[cfg(test)]
+mod verdicts;
 mod yas;
 mod yis;
 

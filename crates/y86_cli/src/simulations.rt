@@ -8,22 +8,23 @@ use wb_io::MemFiles;
 
 /// The control logic that `h.hcl` holds: that of a datapath of the book, PIPE's with other definitions in place of its own, or a whole text.
 #[derive(Clone, Copy)]
-enum Logic {
+pub enum Logic {
     Seq,
+    SeqWith(&'static [u8]),
     Pipe,
     Changed(&'static [u8]),
     Text(&'static [u8]),
 }
 
 /// A call of the program: its words, the HCL file `h.hcl` and the object file `p.yo`, and what it answers.
-struct Simulation {
-    shows: &'static str,
-    words: &'static [&'static str],
-    logic: Logic,
-    object: &'static [u8],
-    status: Status,
-    out: &'static [u8],
-    err: &'static [u8],
+pub struct Simulation {
+    pub shows: &'static str,
+    pub words: &'static [&'static str],
+    pub logic: Logic,
+    pub object: &'static [u8],
+    pub status: Status,
+    pub out: &'static [u8],
+    pub err: &'static [u8],
 }
 
 /// The control logic of SEQ as `examples/seq.hcl` has it.
@@ -484,10 +485,10 @@ static STOPPED: [Simulation; 8] = [
 ];
 
 /// PIPE's control logic with other definitions in place of those of the same name.
-fn changed(alloc: Global, definitions: &[u8]) -> Result<Vec<u8>, Fail> {
+fn changed(alloc: Global, base: &[u8], definitions: &[u8]) -> Result<Vec<u8>, Fail> {
     let mut text = Vec::from_slice(alloc, definitions)?;
     let mut kept = true;
-    for line in STD.split(|byte| *byte == b'\n') {
+    for line in base.split(|byte| *byte == b'\n') {
         if line.starts_with(b"word ") || line.starts_with(b"bool ") {
             kept = !is_defined(line, definitions);
         }
@@ -517,7 +518,8 @@ fn text_of(alloc: Global, logic: Logic) -> Result<Vec<u8>, Fail> {
     match logic {
         Logic::Seq => Ok(Vec::from_slice(alloc, SEQ)?),
         Logic::Pipe => Ok(Vec::from_slice(alloc, STD)?),
-        Logic::Changed(definitions) => changed(alloc, definitions),
+        Logic::SeqWith(definitions) => changed(alloc, SEQ, definitions),
+        Logic::Changed(definitions) => changed(alloc, STD, definitions),
         Logic::Text(text) => Ok(Vec::from_slice(alloc, text)?),
     }
 }
@@ -562,7 +564,7 @@ fn check(rt: &impl Abort, alloc: Global, case: &Simulation) -> Result<(), Fail> 
     Ok(())
 }
 
-fn check_all(rt: &impl Abort, alloc: Global, cases: &[Simulation]) -> Result<(), Fail> {
+pub fn check_all(rt: &impl Abort, alloc: Global, cases: &[Simulation]) -> Result<(), Fail> {
     for case in cases {
         check(rt, alloc, case)?;
     }

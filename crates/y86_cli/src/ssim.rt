@@ -19,7 +19,11 @@ use y86_base::{Image, Variant};
 use yis_run::report;
 
 /// The design of an HCL text under a name, over SEQ's table, with an order of its signals.
-fn seq_design<'a>(alloc: Global, name: &'a str, source: &[u8]) -> Result<Ordered, Stop<'a>>
+pub(crate) fn seq_design<'a>(
+    alloc: Global,
+    name: &'a str,
+    source: &[u8],
+) -> Result<Ordered, Stop<'a>>
     ensures design { GivesOne (IsDesign seq_rows source.now) (RefusesDesign name.now seq_rows source.now) (λ ordered. ordered.design.terms) result }
     ensures bound { IfOk result (λ ordered. IsBound seq_rows ordered.design.terms) }
     ensures order { IfOk result (λ ordered. IsOrderOf seq_rows ordered.design.terms ordered.order.ids) }

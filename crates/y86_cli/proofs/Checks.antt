@@ -1,0 +1,77 @@
+-- The verdict on a design, as an answer.
+use Rattle.std.proofs.Common.{◌≡◌, ◌⊎◌, ℕ, List, ◌∷◌, [], codes, refl, inl, inr, sym, ap, ◌∙◌, subst, Result, Err, Vec}
+use Rattle.std.specs.Borrow.{Bor}
+use Rattle.std.specs.Global.{Global}
+use Rattle.ctl_atoms.specs.Atoms.{AreAtoms, IsCtlFault, IsFirstMixed, IsOver64}
+use Rattle.ctl_atoms.specs.declared.fault.CtlFault.{CtlFault}
+use Rattle.ctl_atoms.specs.declared.fault.CtlFault.TheVariants as fault
+use Rattle.ctl_atoms.specs.declared.leaf.Atom.{Atom}
+use Rattle.ctl_atoms.proofs.Solved.{leaves_exist}
+use Rattle.control_check.specs.SeqVerdicts.{IsLeastFalseSeq, IsSeqVerdict, IsSeqFault}
+use Rattle.control_check.specs.declared.verdict.Verdict.TheVariants.{No}
+use Rattle.dp_signals.specs.SeqTable.{seq_rows}
+use Rattle.hcl_types.specs.Tables.{IsOrderOf, row_names}
+use Rattle.hcl_types.specs.declared.table.Row.{Row}
+use Rattle.hcl_types.specs.declared.term.Term.{Term}
+use Rattle.nets.specs.declared.evaluation.Valuation.{Valuation}
+use Rattle.seq_refinement.specs.Accepted.{AcceptedSeq}
+use Rattle.verdict_text.specs.SeqLine.{seq_no}
+use Rattle.y86_base.specs.declared.parts.Variant.{Variant}
+use Rattle.y86_cli.specs.Checks.{RefusesControl, AcceptsSeq, DeniesSeq, SeqChecks}
+use Rattle.y86_cli.specs.Lines.{blank_names, names_at, names_line}
+use Rattle.y86_cli.specs.Plan.{Answered, done, refused}
+use Rattle.y86_cli.specs.Does.{Says, SinkSeen}
+use Rattle.y86_cli.specs.Stops.{answer_at, status_of}
+use Rattle.y86_cli.proofs.Does.{refusal_says, says_more}
+use Rattle.y86_cli.specs.declared.stop.Refusal.TheVariants.{OfNames}
+use Rattle.y86_cli.specs.declared.stop.Stop as code
+use Rattle.y86_cli.specs.declared.stop.Stop.TheVariants.{Refused, Memory}
+
+-- a design has one list of atoms
+atoms_one : (rows : List Row) (terms : List Term) (ids : List ℕ) (a b : List Atom) → IsOrderOf rows terms ids → AreAtoms rows terms a → AreAtoms rows terms b → a ≡ b
+atoms_one rows terms ids a b order p q = let leaves = leaves_exist rows terms ids order in p.are leaves.0 leaves.1 ∙ sym (q.are leaves.0 leaves.1)
+
+-- the refusals
+pub mixed : (name why : Bor (List ℕ)) (names : Vec ℕ Global) (rows : List Row) (terms : List Term) (id : ℕ) → IsCtlFault rows terms (fault.Mixed id) → why.now ≡ codes "Mixed" →
+    names.items ≡ blank_names (names_at (row_names rows) (id ∷ [])) → RefusesControl name.now rows terms (answer_at (Refused name (OfNames why names)))
+mixed name why names rows terms id first reason told = inl (record { row = id; first = first; told = rw (reason, told) refl })
+
+pub over : (name why : Bor (List ℕ)) (names : Vec ℕ Global) (rows : List Row) (terms : List Term) → IsCtlFault rows terms fault.AtomsOver64 → why.now ≡ codes "AtomsOver64" →
+    names.items ≡ [] → RefusesControl name.now rows terms (answer_at (Refused name (OfNames why names)))
+over name why names rows terms many reason told = inr (record { over = many; told = rw (reason, told) refl })
+
+-- the verdicts
+accepted : (name : List ℕ) (v : Variant) (terms : List Term) (a : Answered) → AcceptedSeq v terms → a ≡ done 0 (codes "yes\n") → SeqChecks name v terms a
+accepted name v terms a holds told = inl (record { accepted = holds; told = told })
+
+denied : (name : List ℕ) (v : Variant) (terms : List Term) (ids : List ℕ) (rule : ℕ) (valuation : Valuation) (text : List ℕ) (a : Answered) → IsOrderOf seq_rows terms ids →
+    IsSeqVerdict v terms (No rule valuation) →
+    (list : List Atom) × AreAtoms seq_rows terms list × (text ≡ seq_no (row_names seq_rows) rule valuation.bits list) → a ≡ done 1 text → SeqChecks name v terms a
+denied name v terms ids rule valuation text a order verdict said told =
+    let same : verdict.1 ≡ said.0 = atoms_one seq_rows terms ids verdict.1 said.0 order verdict.2 said.1 in
+    inr (inl (record {
+      atoms = said.0;
+      are = said.1;
+      rule = rule;
+      valuation = valuation.bits;
+      least = subst (λ (atoms : List Atom). IsLeastFalseSeq v terms atoms rule valuation.bits) same verdict.3;
+      told = told ∙ ap (done 1) said.2;
+    }))
+
+-- and as what was said
+pub said_yes : (name : List ℕ) (v : Variant) (terms : List Term) (text : List ℕ) (old new : SinkSeen) (result : Result ℕ code.Stop) → AcceptedSeq v terms → text ≡ codes "yes\n" →
+    Says (λ a. a ≡ done 0 text) old new result → Says (SeqChecks name v terms) old new result
+said_yes name v terms text old new result holds same s =
+    says_more (λ a. a ≡ done 0 text) (SeqChecks name v terms) old new result (λ a told. accepted name v terms a holds (told ∙ ap (done 0) same)) s
+
+pub said_no : (name : List ℕ) (v : Variant) (terms : List Term) (ids : List ℕ) (rule : ℕ) (valuation : Valuation) (text : List ℕ) (old new : SinkSeen) (result : Result ℕ code.Stop) →
+    IsOrderOf seq_rows terms ids → IsSeqVerdict v terms (No rule valuation) →
+    (list : List Atom) × AreAtoms seq_rows terms list × (text ≡ seq_no (row_names seq_rows) rule valuation.bits list) →
+    Says (λ a. a ≡ done 1 text) old new result → Says (SeqChecks name v terms) old new result
+said_no name v terms ids rule valuation text old new result order verdict told s =
+    says_more (λ a. a ≡ done 1 text) (SeqChecks name v terms) old new result (λ a is. denied name v terms ids rule valuation text a order verdict told is) s
+
+pub said_refusal : (name : List ℕ) (v : Variant) (terms : List Term) (seen : SinkSeen) (stop : code.Stop) →
+    (stop ≡ Memory) ⊎ ((status_of stop ≡ 5) × RefusesControl name seq_rows terms (answer_at stop)) → Says (SeqChecks name v terms) seen seen (Err stop)
+said_refusal name v terms seen stop (inl memory) = rw memory refl
+said_refusal name v terms seen stop (inr refused) = refusal_says (SeqChecks name v terms) seen stop refused.0 (inr (inr refused.1))
