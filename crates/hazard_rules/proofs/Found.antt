@@ -14,15 +14,16 @@ away_by s k x y n = rw (ne_eqb s k n, more s k n) (plain (nat_lt s (k + 1) && x)
   where
     more : (s k : ℕ) → (s ≡ k → ⊥) → nat_lt s k ≡ nat_lt s (k + 1)
     more s k n = grind (arith, nat_tests, n)
+
     plain : (b : Bool) → (b || (false && y)) ≡ b
     plain true = refl
     plain false = refl
 
 pub found_step : (P : ℕ → Bool) (s k : ℕ) (any here next : Bool) → any ≡ (nat_lt s k && P s) → here ≡ ((s == k) && P k) → next ≡ (any || here) → next ≡ (nat_lt s (k + 1) && P s)
 found_step P s k any here next e f g = elim (cases_eq s k) [
-    | inl q ↦ rw (g, e, f) (subst (λ m. ((nat_lt s m && P s) || ((s == m) && P m)) ≡ (nat_lt s (m + 1) && P s)) q (here_by s (P s)))
-    | inr n ↦ rw (g, e, f) (away_by s k (P s) (P k) n)
-    ]
+  | inl q ↦ rw (g, e, f) (subst (λ m. ((nat_lt s m && P s) || ((s == m) && P m)) ≡ (nat_lt s (m + 1) && P s)) q (here_by s (P s)))
+  | inr n ↦ rw (g, e, f) (away_by s k (P s) (P k) n)
+]
 
 pub found_all : (w : List Bool) (first bits k : ℕ) (x : Bool) → bits ≡ 4 → k ≡ 16 → (nat_lt (spelt w first bits) k && x) ≡ x
 found_all w first bits k x e q = all (spelt w first bits) x (subst (λ b. spelt w first bits < 2 ^ b) e (spelt_lt w first bits)) q

@@ -83,7 +83,12 @@ fn spells_if(b: &mut NetBuilder, p: Place, n: u64, counts: bool) -> Result<u64, 
 }
 
 /// The row of the icode that the field is passes the test.
-pub(crate) fn row_has(b: &mut NetBuilder, v: Variant, icode: Place, test: RowTest) -> Result<u64, Memory>
+pub(crate) fn row_has(
+    b: &mut NetBuilder,
+    v: Variant,
+    icode: Place,
+    test: RowTest,
+) -> Result<u64, Memory>
     requires place { icode.first + icode.bits ≤ b.old.vars }
     requires bits { icode.bits ≡ 4 }
     ensures within { IfOk result (λ g. g < length b.new.gates) }
