@@ -182,7 +182,7 @@ control_proper name rows terms a (inl mixed) = refused_proper _ a mixed.told
 control_proper name rows terms a (inr over) = refused_proper _ a over.told
 
 seq_check_proper : (name : List ℕ) (v : Variant) (terms : List Term) (a : Answered) → SeqChecks name v terms a → IsProper a
-seq_check_proper name v terms a (inl yes) = proper_as a _ (inl (lit≤ tt, refl)) yes.told
+seq_check_proper name v terms a (inl accepts) = proper_as a _ (inl (lit≤ tt, refl)) accepts.told
 seq_check_proper name v terms a (inr (inl denied)) = proper_as a _ (inl (lit≤ tt, refl)) denied.told
 seq_check_proper name v terms a (inr (inr refuses)) = control_proper name seq_rows terms a refuses
 
