@@ -8,6 +8,7 @@ use Rattle.bdd_core.specs.Meaning.{Always, IsBuilt, IsLeastFalse}
 use Rattle.bdd_core.specs.declared.store.Dia.{Dia}
 use Rattle.rule_gates.specs.declared.rules.Rule.{Rule}
 use Rattle.control_check.specs.Decisions.{IsAlwaysTrue, IsLeastOf}
+use Rattle.control_check.specs.PipeVerdicts.{IsDecided}
 
 pub none_built : (s : Diagrams) (n : Gates) (made : List ℕ) → made ≡ [] → AreFirst s n made
 none_built s n made e = record { each = λ j h. absurd (let z = ap length e in omega (arith, h, z)) }
@@ -37,3 +38,11 @@ one_more P list k rule earlier there here j r lt at = elim (cases_eq j k) [
 
     same : Some rule ≡ Some r → rule ≡ r
     same e = cc
+
+-- what a diagram tells of one gate
+
+pub is_always : (s : Diagrams) (n : Gates) (gate : ℕ) (d : Dia) → s.vars ≡ n.vars → IsBuilt s n gate d → Always s d true → IsDecided n gate true
+is_always s n gate d e built always = record { yes = λ t. always_true s n gate d e built always; no = λ f. cc }
+
+pub is_not_always : (s : Diagrams) (n : Gates) (gate : ℕ) (d : Dia) (w : List Bool) → s.vars ≡ n.vars → IsBuilt s n gate d → IsLeastFalse s d w → IsDecided n gate false
+is_not_always s n gate d w e built h = record { yes = λ t. cc; no = λ f. (w, h.size ∙ e, sym (built.is w h.size) ∙ h.fails) }

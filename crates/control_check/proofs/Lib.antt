@@ -2,3 +2,4 @@ pub mod Decided
 pub mod AtomBits
 pub mod SeqVerdict
 pub mod Split
+pub mod PipeVerdict

@@ -1,3 +1,4 @@
 pub mod Decisions
 pub mod SeqVerdicts
 pub mod Splitting
+pub mod PipeVerdicts

@@ -2,9 +2,11 @@
 #![tactic(auto)]
 
 mod decision;
+mod pipe_verdict;
 mod splitting;
 mod verdict;
 
 pub use decision::{Failure, decide};
+pub use pipe_verdict::{check_pipe, file_settings};
 pub use splitting::decide_in_parts;
 pub use verdict::{CheckFault, Verdict, check_seq};

@@ -1,3 +1,10 @@
+pub mod Atoms
 pub mod Found
 pub mod Joined
+pub mod Listed
 pub mod Ready
+pub mod Known
+pub mod Choices
+pub mod Codes
+pub mod Shows
+pub mod Designed

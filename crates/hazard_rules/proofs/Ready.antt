@@ -6,6 +6,7 @@ use Rattle.dp_signals.specs.PipeNames as signal
 use Rattle.dp_signals.specs.PipeTable.{pipe_state, pipe_hardware, pipe_defined, pipe_rows}
 use Rattle.dp_signals.specs.Tables.{constant_rows}
 use Rattle.hcl_types.specs.Kinds.{kinds_of_row}
+use Rattle.hazard_rules.specs.Fronts.{IsFrontReady}
 use Rattle.hazard_rules.specs.Signals.{IsReady}
 
 truth_of : {ctl : List Entry} → Covers pipe_rows ctl → (n : ℕ) → (kinds_of_row (slice_get pipe_rows n)).truth ≡ true → has_gate ctl n ≡ true
@@ -33,4 +34,21 @@ ready_by {vars} {ctl} le h = record {
   w_dstM = word_of h signal.w_dstM refl;
   w_valM = word_of h signal.w_valM refl;
   Stat = word_of h signal.Stat refl;
+}
+
+-- the same for the rules of fetch and decode
+pub front_ready_by : {vars : ℕ} {ctl : List Entry} → 107 ≤ vars → Covers pipe_rows ctl → IsFrontReady vars ctl
+unfolding pipe_rows constant_rows pipe_state pipe_hardware pipe_defined
+front_ready_by {vars} {ctl} le h = record {
+  fields = le;
+  f_icode = word_of h signal.f_icode refl;
+  f_ifun = word_of h signal.f_ifun refl;
+  f_stat = word_of h signal.f_stat refl;
+  need_regids = truth_of h signal.need_regids refl;
+  need_valC = truth_of h signal.need_valC refl;
+  f_predPC = word_of h signal.f_predPC refl;
+  d_srcA = word_of h signal.d_srcA refl;
+  d_srcB = word_of h signal.d_srcB refl;
+  d_dstE = word_of h signal.d_dstE refl;
+  d_dstM = word_of h signal.d_dstM refl;
 }

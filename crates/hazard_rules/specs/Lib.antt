@@ -1,6 +1,6 @@
 pub mod Columns
-pub mod Stages
-pub mod Obligations
-pub mod Rules
-pub mod Settled
 pub mod Signals
+pub mod Built
+pub mod Parts
+pub mod Fronts
+pub mod Designs

@@ -8,7 +8,7 @@ ghost use Rattle.dp_signals.specs.PipeNames as names;
 ghost use Rattle.field_bits.specs.Spelling.{set, spelt};
 ghost use Rattle.hazard_rules.specs.Columns.{has};
 ghost use Rattle.hazard_rules.specs.Signals.{IsReady, asked_by};
-ghost use Rattle.hazard_rules.specs.Stages.{is_jump};
+ghost use Rattle.pipe_obligations.specs.Stages.{is_jump};
 ghost use Rattle.pipe_fields.specs.Layout.{fields_of};
 ghost use Rattle.rule_gates.specs.Asked.{IsAsked};
 ghost use Rattle.rule_gates.specs.Words as words;
@@ -239,7 +239,7 @@ pub(crate) fn late_destination_is(
     name: NameId,
 ) -> Result<u64, Memory>
     requires inside { IsInside b.old ctl.now }
-    requires ready { IsReady b.old.vars ctl.now }
+    requires vars { 107 ≤ b.old.vars }
     requires known { IsTrue (has_picks ctl.now name) }
     ensures begins { Begins b.old b.new }
     ensures asked { IfOk result (λ g. IsAsked b.new ctl.now g (λ w α cv.

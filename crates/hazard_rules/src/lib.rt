@@ -2,12 +2,31 @@
 //! pipeline has to ask (CS:APP 3e, sections 4.5.5 to 4.5.8).
 #![tactic(auto, using(pipe_motion::proofs::Growing::grows_more, pipe_motion::proofs::Growing::grows_self))]
 
+mod closed;
 mod columns;
+mod demands;
+mod design;
 mod execute_rules;
+mod fetch;
 mod fields;
+mod front_rules;
+mod late;
+mod legality;
 mod memory_rules;
+mod motion_rules;
+mod movers;
+mod premises;
 mod row_rules;
+mod rules;
+mod shown;
 mod signals;
+mod sources;
 mod stage_rules;
+mod stages;
+mod whole;
 
 pub use columns::{RowTest, passes};
+pub use legality::{legal_gate, stopping_gate};
+pub use sources::{obligation_10, obligation_11};
+pub use stages::view_gates;
+pub use whole::{Late, Parts, pipe_late, pipe_parts, pipe_rules};

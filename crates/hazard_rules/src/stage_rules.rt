@@ -2,8 +2,8 @@
 ghost use Rattle.std.specs.Prelude.{◌≤◌, length, IfOk};
 ghost use Rattle.nets.specs.Nets.{Begins};
 ghost use Rattle.ctl_formula.specs.Picks.{IsInside};
-ghost use Rattle.hazard_rules.specs.Obligations.{carries_target, movers_of};
-ghost use Rattle.hazard_rules.specs.Rules.{demand};
+ghost use Rattle.pipe_obligations.specs.Obligations.{carries_target, movers_of};
+ghost use Rattle.pipe_obligations.specs.Rules.{demand};
 ghost use Rattle.hazard_rules.specs.Signals.{IsReady};
 ghost use Rattle.pipe_fields.specs.Layout.{fields_of};
 ghost use Rattle.pipe_motion.specs.Gates.{HasView, view_at};

@@ -20,7 +20,7 @@ use Rattle.ctl_atoms.specs.Leaves.{has_atom}
 use Rattle.ctl_atoms.specs.declared.leaf.Atom.{Atom}
 use Rattle.ctl_formula.specs.Laws.{real}
 use Rattle.pipe_fields.specs.Layout.{FetchLine}
-use Rattle.hazard_rules.specs.Stages.{back_is_told, back_told_in_f, below, is_jump, is_ret, misses, slot_by, stops_by, tells_back}
+use Rattle.pipe_obligations.specs.Stages.{back_is_told, back_told_in_f, below, is_jump, is_ret, misses, slot_by, stops_by, tells_back}
 use Rattle.pipe_refinement.specs.Facts.{AccessFacts, AddressIs}
 use Rattle.pipe_refinement.specs.Invariant.{Given, Inv, missed_at, slot_of, view_of}
 use Rattle.pipe_refinement.specs.Kinds.{Config, Good, Kind, in_d, in_e, in_f, in_m, is_good}

@@ -16,8 +16,8 @@ use Rattle.ctl_formula.specs.Laws.{real, worth}
 use Rattle.rule_gates.specs.Words.{takes}
 use Rattle.pipe_motion.specs.Slots.{Slot, fetched_slot, moved_view, next_is_right, path, youngest_stops}
 use Rattle.pipe_fields.specs.Layout.{FetchLine}
-use Rattle.hazard_rules.specs.Obligations.{fetch_good, fetched as fetched_at}
-use Rattle.hazard_rules.specs.Stages.{is_jump}
+use Rattle.pipe_obligations.specs.Obligations.{fetch_good, fetched as fetched_at}
+use Rattle.pipe_obligations.specs.Stages.{is_jump}
 use Rattle.pipe_refinement.specs.Facts.{GoodFetch, MotionFacts, RightPc, fell_m, jump_e, ret_m, ret_w, taken_m}
 use Rattle.pipe_refinement.specs.Invariant.{Given, Inv, slot_of, view_of}
 use Rattle.pipe_refinement.specs.Kinds.{Config, Good, Kind, asked, in_f, in_m, in_w, is_good}

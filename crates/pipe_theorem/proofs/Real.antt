@@ -15,7 +15,7 @@ use Rattle.dp_signals.specs.declared.pipe_state.PipeState.{PipeState}
 use Rattle.pipe_motion.specs.Predictions.{predicts}
 use Rattle.pipe_motion.specs.Slots.{Slot, to_w}
 use Rattle.pipe_fields.specs.Layout.{FetchLine}
-use Rattle.hazard_rules.specs.Stages.{misses, no_source_waits, slot_by, stops_by, view_of as view_at}
+use Rattle.pipe_obligations.specs.Stages.{misses, no_source_waits, slot_by, stops_by, view_of as view_at}
 use Rattle.pipe_refinement.specs.Invariant.{Given, Inv, differ, missed_at, predicted_at, slot_of, view_of}
 use Rattle.pipe_refinement.specs.Kinds.{Config, Empty, Good, Kind, Wrong, in_d, in_e, in_m, in_w, is_good}
 use Rattle.pipe_refinement.proofs.Fetch.{set_bit}

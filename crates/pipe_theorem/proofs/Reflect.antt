@@ -28,10 +28,10 @@ use Rattle.rule_gates.specs.Words.{address_leaf, is_number, is_truth, operand_le
 use Rattle.pipe_motion.specs.Predictions.{predicts}
 use Rattle.pipe_motion.specs.Slots.{Movers}
 use Rattle.pipe_fields.specs.Layout.{FetchLine}
-use Rattle.hazard_rules.specs.Obligations.{carries_target, code_of, fetched as fetched_at, movers_of, predicted_leaf, right_value as right_leaf, takes_right}
-use Rattle.hazard_rules.specs.Rules.{demand}
-use Rattle.hazard_rules.specs.Settled.{carries}
-use Rattle.hazard_rules.specs.Stages.{is_jump, is_ret, misses, slot_by, stops_by}
+use Rattle.pipe_obligations.specs.Obligations.{carries_target, code_of, fetched as fetched_at, movers_of, predicted_leaf, right_value as right_leaf, takes_right}
+use Rattle.pipe_obligations.specs.Rules.{demand}
+use Rattle.pipe_obligations.specs.Settled.{carries}
+use Rattle.pipe_obligations.specs.Stages.{is_jump, is_ret, misses, slot_by, stops_by}
 use Rattle.pipe_refinement.specs.Facts.{AccessFacts, AddressIs, AlwaysFacts, DecodeFacts, ExecuteFacts, FetchFacts, MemoryFacts, WriteFacts, exempt, late_dst_e, leaves_d, predicted_pc, right_value}
 use Rattle.pipe_refinement.specs.Invariant.{Given, view_of}
 use Rattle.pipe_refinement.specs.Kinds.{Config, asked, in_m, is_good, is_wrong}

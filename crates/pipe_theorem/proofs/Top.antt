@@ -25,10 +25,10 @@ use Rattle.ctl_formula.proofs.Solved.{controls_exist}
 use Rattle.pipe_motion.specs.Slots.{lawful}
 use Rattle.pipe_fields.specs.Allowed.{allowed}
 use Rattle.pipe_fields.specs.Layout.{Fields, InRange, number_of}
-use Rattle.hazard_rules.specs.Obligations.{carries_target, fetch_good, fetched as fetched_at, movers_of}
-use Rattle.hazard_rules.specs.Rules.{demand, demand_at, is_always, is_asked}
-use Rattle.hazard_rules.specs.Settled.{Holds, carries}
-use Rattle.hazard_rules.specs.Stages.{back_is_told, is_stopping, legal, no_source_waits, view_of as view_at}
+use Rattle.pipe_obligations.specs.Obligations.{carries_target, fetch_good, fetched as fetched_at, movers_of}
+use Rattle.pipe_obligations.specs.Rules.{demand, demand_at, is_always, is_asked}
+use Rattle.pipe_obligations.specs.Settled.{Holds, carries}
+use Rattle.pipe_obligations.specs.Stages.{back_is_told, is_stopping, legal, no_source_waits, view_of as view_at}
 use Rattle.pipe_refinement.specs.Facts.{AccessFacts, AddressIs, AlwaysFacts, CycleFacts, FetchFacts, MemoryFacts}
 use Rattle.pipe_refinement.specs.Invariant.{Given, Inv, slot_of, view_of}
 use Rattle.pipe_refinement.specs.Kinds.{Config, Empty, Good, Kind, Wrong, asked, in_e, in_f, in_m, in_w, is_good}

@@ -11,7 +11,7 @@ use Rattle.ctl_atoms.specs.Leaves.{Assignment}
 use Rattle.ctl_formula.specs.Controls.{AreControls}
 use Rattle.pipe_fields.specs.Layout.{Fields, number_of}
 use Rattle.pipe_motion.specs.declared.settings.Settings.{Settings}
-use Rattle.hazard_rules.specs.Settled.{Holds}
+use Rattle.pipe_obligations.specs.Settled.{Holds}
 use Rattle.pipe_refinement.specs.Refines.{Refines}
 
 -- the control values of a design for PIPE, at the fields of a valuation and truths of comparisons

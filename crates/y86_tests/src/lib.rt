@@ -2,6 +2,8 @@
 #![tactic(auto)]
 
 #[cfg(test)]
+mod atoms;
+#[cfg(test)]
 mod bind;
 #[cfg(test)]
 mod designs;
@@ -17,3 +19,5 @@ mod pipelined;
 mod printing;
 #[cfg(test)]
 mod sequential;
+#[cfg(test)]
+mod valuations;

@@ -85,7 +85,7 @@ static SLOTS: [Slot; 18] = [
 ];
 
 /// Some definitions, and 0 for each other name of PIPE that wants one.
-fn text(
+pub fn text(
     alloc: Global,
     table: &Table,
     definitions: &[u8],

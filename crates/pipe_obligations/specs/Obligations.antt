@@ -1,7 +1,7 @@
 -- The 27 obligations of a file for PIPE, each a truth of a valuation and control values (CS:APP 3e, sections 4.5.5 to 4.5.8).
 -- The arguments of all: the variant, the settings, the fields of the valuation, what stands in its stages, what its words ask of
 -- the registers, the truths of atoms, and the control value of each name.
-use Rattle.std.specs.Prelude.{ℕ, Bool, true, false, not, ◌&&◌, ◌||◌, ◌==◌, Option, Some, None, if◌then◌else◌}
+use Rattle.std.specs.Prelude.{ℕ, Bool, false, not, ◌&&◌, ◌||◌, ◌==◌, Option, Some, None, if◌then◌else◌}
 use Rattle.y86_base.specs.declared.parts.Variant.{Variant}
 use Rattle.y86_base.specs.Stat.{stat_number}
 use Rattle.y86_isa.specs.declared.columns.Next.{Next}
@@ -19,7 +19,7 @@ use Rattle.pipe_motion.specs.Slots.{Slot, View, path, youngest_stops, of_younges
 use Rattle.pipe_motion.specs.Slots as motion
 use Rattle.pipe_motion.specs.Predictions.{predicts}
 use Rattle.pipe_motion.specs.declared.settings.Settings.{Settings}
-use Rattle.hazard_rules.specs.Stages.{slot_by, stops_by, is_ret, is_jump, misses}
+use Rattle.pipe_obligations.specs.Stages.{slot_by, stops_by, is_ret, is_jump, misses}
 use Rattle.dp_signals.specs.PipeNames as signal
 
 -- the ten words that stall and bubble, as truths

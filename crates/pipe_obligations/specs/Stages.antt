@@ -1,5 +1,5 @@
 -- What stands in the stages of a valuation, and which valuations are legal.
-use Rattle.std.specs.Prelude.{ℕ, Bool, true, false, not, ◌&&◌, ◌||◌, ◌==◌, List}
+use Rattle.std.specs.Prelude.{ℕ, Bool, false, not, ◌&&◌, ◌||◌, ◌==◌, List}
 use Rattle.y86_base.specs.declared.parts.Variant.{Variant}
 use Rattle.y86_isa.specs.Table.{row, no_register}
 use Rattle.y86_isa.specs.RowTests.{stores_a, is_branch, is_loaded}

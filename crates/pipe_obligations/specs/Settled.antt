@@ -14,9 +14,9 @@ use Rattle.pipe_fields.specs.Layout.{Fields, InRange, bit_count, fields_of}
 use Rattle.pipe_fields.specs.Allowed.{allowed}
 use Rattle.pipe_motion.specs.Slots.{View, Movers, leaves}
 use Rattle.pipe_motion.specs.declared.settings.Settings.{Settings}
-use Rattle.hazard_rules.specs.Stages.{fetched_jump, back_told_in_f, view_of, legal, is_stopping}
-use Rattle.hazard_rules.specs.Obligations.{movers_of, right_after_e, carries_target}
-use Rattle.hazard_rules.specs.Rules.{obligation}
+use Rattle.pipe_obligations.specs.Stages.{fetched_jump, back_told_in_f, view_of, legal, is_stopping}
+use Rattle.pipe_obligations.specs.Obligations.{movers_of, right_after_e, carries_target}
+use Rattle.pipe_obligations.specs.Rules.{obligation}
 use Rattle.dp_signals.specs.PipeNames as signal
 
 -- a truth decides a statement, both ways

@@ -1,0 +1,207 @@
+-- From what is decided of PIPE's formulas and rules to what a verdict says of the design.
+use Rattle.std.proofs.Common.{◌≡◌, ℕ, zero, suc, ◌+◌, ◌-◌, ◌<◌, ◌≤◌, inl, inr, Bool, true, false, not, List, [], ◌∷◌, length, get_or, slice_get, Option, Some, None, refl, sym, ap, ◌∙◌, subst, arith}
+use Rattle.std.proofs.lemmas.Bool.{false≢true, cases_lt}
+use Rattle.std.proofs.lemmas.List.{get_or_past}
+use Rattle.std.proofs.lemmas.Option.{slice_get_within}
+use Rattle.y86_base.specs.declared.parts.Variant.{Variant}
+use Rattle.nets.specs.Nets.{Gates, truth}
+use Rattle.hcl_types.specs.Tables.{IsOrderOf}
+use Rattle.hcl_types.specs.declared.term.Term.{Term}
+use Rattle.dp_signals.specs.PipeTable.{pipe_rows}
+use Rattle.ctl_atoms.specs.Leaves.{Assignment, AtomsAre}
+use Rattle.ctl_atoms.specs.declared.leaf.Atom.{Atom}
+use Rattle.ctl_atoms.specs.Atoms.{AreAtoms}
+use Rattle.ctl_atoms.proofs.Solved.{leaves_exist}
+use Rattle.ctl_atoms.specs.declared.leaf.Leaf.{Leaf}
+use Rattle.ctl_formula.specs.Laws.{HasControls}
+use Rattle.ctl_formula.proofs.Solved.{controls_exist}
+use Rattle.pipe_fields.specs.Layout.{Fields, InRange, bit_count, fields_of, number_of, pattern_of}
+use Rattle.pipe_fields.proofs.Told.{has_pattern, in_range}
+use Rattle.pipe_motion.specs.declared.settings.Settings.{Settings}
+use Rattle.pipe_theorem.specs.Theorem.{PipeControls}
+use Rattle.hazard_rules.specs.Parts.{AreClosed, AreLate, AreRules, IsFormula}
+use Rattle.pipe_obligations.specs.Rules.{obligation}
+use Rattle.pipe_obligations.specs.Settled.{Decides, Everywhere, Holds, IsFalseAt, IsLeastFalse, IsSet, Somewhere, Truth, carries, predicts_taken, shows_je, shows_lf, shows_rm}
+use Rattle.rule_gates.specs.declared.rules.Rule.{Rule}
+use Rattle.control_check.specs.Decisions.{AreGatesOf, IsAlwaysTrue, IsDecision, IsFirstFalse, IsLeastOf}
+use Rattle.control_check.specs.declared.decision.Failure.{Failure}
+use Rattle.control_check.specs.PipeVerdicts.{AcceptsPipe, AreDecided, AreSettings, HasGates, IsDecided, RejectsPipe}
+use Rattle.control_check.proofs.AtomBits.{AreApart, apart_added, bits_are, length-truth_bits, told_are, told_by, truth_bits}
+
+module _ (v : Variant) (terms : List Term) (atoms : List Atom) (apart : AreApart atoms) (exists : (field : ℕ → ℕ) (α : Assignment) → HasControls pipe_rows terms field α)
+    (net : Gates) (vars : net.vars ≡ bit_count + length atoms) where
+  -- a formula that is true of every pattern of bits is true of every valuation
+  pub everywhere : (g : ℕ) (f : Truth) → IsFormula terms atoms net g f → IsAlwaysTrue net g → Everywhere v atoms (PipeControls terms) f
+  everywhere g f h always c α cv range controls =
+      let w : List Bool = pattern_of c (truth_bits α atoms) in
+      let law = has_pattern c (truth_bits α atoms) range in
+      let are : AtomsAre atoms bit_count w α = λ k a at. law.later k ∙ bits_are α atoms k a at in
+      let size : length w ≡ net.vars = law.size ∙ (ap (λ n. bit_count + n) (length-truth_bits α atoms) ∙ sym vars) in
+      let told = h.is w α cv are (subst (λ x. PipeControls terms x α cv) (sym law.spells) controls) in
+      subst (λ x. f x α cv ≡ true) law.spells (sym told ∙ always w size)
+
+  -- a pattern of which it is false is a valuation of which it is
+  pub somewhere : (g : ℕ) (f : Truth) → IsFormula terms atoms net g f → (w : List Bool) → truth net g w ≡ false →
+      (α : Assignment) × (cv : ℕ → Leaf) × AtomsAre atoms bit_count w α × PipeControls terms (fields_of w) α cv × (f (fields_of w) α cv ≡ false)
+  somewhere g f h w e =
+      let α = told_by atoms bit_count w in
+      let controls = exists (number_of (fields_of w)) α in
+      let are = told_are atoms bit_count w apart in
+      (α, controls.0, are, controls.1, sym (h.is w α controls.0 are controls.1) ∙ e)
+
+  pub decides : (g : ℕ) (f : Truth) (b : Bool) → IsFormula terms atoms net g f → IsDecided net g b → Decides b (Everywhere v atoms (PipeControls terms) f)
+  decides g f b h d =
+      record {
+        yes = λ e. everywhere g f h (d.yes e);
+        no = λ e all. (let w = d.no e in let s = somewhere g f h w.0 w.2 in false≢true (sym s.4 ∙ all (fields_of w.0) s.0 s.1 (in_range w.0) s.3));
+      }
+
+  -- where the formula is the negation of another
+  pub decides_some : (g : ℕ) (f : Truth) (b : Bool) → IsFormula terms atoms net g (λ c α cv. not (f c α cv)) → IsDecided net g b → Decides (not b) (Somewhere v atoms (PipeControls terms) f)
+  decides_some g f b h d =
+      record {
+        yes = λ e. (let w = d.no (is_false b e) in let s = somewhere g (λ c α cv. not (f c α cv)) h w.0 w.2 in (fields_of w.0, s.0, s.1, in_range w.0, s.3, is_true (f (fields_of w.0) s.0 s.1) s.4));
+        no = λ e some. false≢true (sym (negated (f some.0 some.1 some.2) some.5) ∙ everywhere g (λ c α cv. not (f c α cv)) h (d.yes (was_true b e)) some.0 some.1 some.2 some.3 some.4);
+      }
+    where
+      is_false : (b : Bool) → not b ≡ true → b ≡ false
+      is_false true e = cc
+      is_false false e = refl
+
+      was_true : (b : Bool) → not b ≡ false → b ≡ true
+      was_true true e = refl
+      was_true false e = cc
+
+      is_true : (b : Bool) → not b ≡ false → b ≡ true
+      is_true true e = refl
+      is_true false e = cc
+
+      negated : (b : Bool) → b ≡ true → not b ≡ false
+      negated true e = refl
+      negated false e = cc
+
+  -- ---- the rules
+
+  module _ (s : Settings) (list : List Rule) (count : length list ≡ 27) (gates : (k : ℕ) (x : Rule) → slice_get list k ≡ Some x → IsFormula terms atoms net x.gate (obligation v s atoms (k + 1))) where
+    entry : {A : Type 0} (xs : List A) (k : ℕ) → k < length xs → (x : A) × (slice_get xs k ≡ Some x)
+    entry [] k lt = absurd (omega (arith, lt))
+    entry (x ∷ xs) zero lt = (x, refl)
+    entry (x ∷ xs) (suc k) lt = entry xs k (omega (arith, lt))
+
+    pub holds : ((k : ℕ) (x : Rule) → slice_get list k ≡ Some x → IsAlwaysTrue net x.gate) → (i : ℕ) → 1 ≤ i → i ≤ 27 → Everywhere v atoms (PipeControls terms) (obligation v s atoms i)
+    holds always i l h =
+        let rule = entry list (i - 1) (omega (arith, l, h, count)) in
+        let number : i - 1 + 1 ≡ i = omega (arith, l) in
+        subst (λ n. Everywhere v atoms (PipeControls terms) (obligation v s atoms n)) number
+        (everywhere rule.0.gate (obligation v s atoms (i - 1 + 1)) (gates (i - 1) rule.0 rule.1) (always (i - 1) rule.0 rule.1))
+
+    false_at : (k : ℕ) (x : Rule) (w : List Bool) → slice_get list k ≡ Some x → truth net x.gate w ≡ false → IsFalseAt v atoms (PipeControls terms) s (k + 1) w
+    false_at k x w at e =
+        let f = somewhere x.gate (obligation v s atoms (k + 1)) (gates k x at) w e in
+        record { α = f.0; cv = f.1; atoms_are = f.2; controls = f.3; false_there = f.4 }
+
+    gate_false : (k : ℕ) (x : Rule) (w : List Bool) → slice_get list k ≡ Some x → IsFalseAt v atoms (PipeControls terms) s (k + 1) w → truth net x.gate w ≡ false
+    gate_false k x w at h = (gates k x at).is w h.α h.cv h.atoms_are h.controls ∙ h.false_there
+
+    pub first_false : (k : ℕ) (x : Rule) (w : List Bool) → IsFirstFalse net list k x w → IsLeastFalse v atoms (PipeControls terms) s (k + 1) w
+    first_false k x w h =
+        record {
+          first = omega arith;
+          last = (let z = slice_get_within list k x h.there in omega (arith, z, count));
+          size = h.least.size ∙ vars;
+          fails = false_at k x w h.there h.least.holds;
+          least_rule = λ j l lt u size f. before j l lt u size f;
+          least_valuation = λ u size f y same off. at u size f y same off;
+        }
+      where
+        before : (j : ℕ) → 1 ≤ j → j < k + 1 → (u : List Bool) → length u ≡ bit_count + length atoms → IsFalseAt v atoms (PipeControls terms) s j u → ⊥
+        before j l lt u size f =
+            let rule = entry list (j - 1) (let z = slice_get_within list k x h.there in omega (arith, l, lt, z)) in
+            let back : j ≡ j - 1 + 1 = omega (arith, l) in
+            false≢true (sym (gate_false (j - 1) rule.0 u rule.1 (subst (λ n. IsFalseAt v atoms (PipeControls terms) s n u) back f))
+            ∙ h.earlier (j - 1) rule.0 (omega (arith, l, lt)) rule.1 u (size ∙ sym vars))
+
+        at : (u : List Bool) → length u ≡ bit_count + length atoms → IsFalseAt v atoms (PipeControls terms) s (k + 1) u → (y : ℕ) →
+            ((z : ℕ) → z < y → get_or w z false ≡ get_or u z false) → get_or u y false ≡ false → get_or w y false ≡ false
+        at u size f y same off = elim (cases_lt y net.vars) [
+          | inl lt ↦ h.least.least u (size ∙ sym vars) (gate_false k x u h.there f) y lt same off
+          | inr le ↦ get_or_past w y false (let e = h.least.size in omega (arith, le, e))
+        ]
+
+-- ---- the settings
+
+not_not : (b : Bool) → not (not b) ≡ b
+not_not true = refl
+not_not false = refl
+
+pub closed_gates : (terms : List Term) (atoms : List Atom) (net : Gates) (gates : List ℕ) (f : ℕ → Truth) → ((i : ℕ) → i < 7 → IsFormula terms atoms net (get_or gates i 0) (f i)) → HasGates net gates
+closed_gates terms atoms net gates f h i lt = (h i lt).within
+
+module _ (v : Variant) (terms : List Term) (ids : List ℕ) (o : IsOrderOf pipe_rows terms ids) where
+  one_list : (a b : List Atom) → AreAtoms pipe_rows terms a → AreAtoms pipe_rows terms b → a ≡ b
+  one_list a b h k = (let some = leaves_exist pipe_rows terms ids o in h.are some.0 some.1 ∙ sym (k.are some.0 some.1))
+
+  apart : (a : List Atom) → AreAtoms pipe_rows terms a → AreApart a
+  apart a h = (let some = leaves_exist pipe_rows terms ids o in subst AreApart (sym (h.are some.0 some.1)) (apart_added [] _ tt))
+
+  exists : (field : ℕ → ℕ) (α : Assignment) → HasControls pipe_rows terms field α
+  exists field α = controls_exist pipe_rows terms ids field α o
+
+  late_decides : (atoms late_atoms : List Atom) (net : Gates) (g : ℕ) (f : List Atom → Truth) (b : Bool) → AreAtoms pipe_rows terms atoms → AreAtoms pipe_rows terms late_atoms →
+      net.vars ≡ bit_count + length late_atoms → IsFormula terms late_atoms net g (λ c α cv. not (f late_atoms c α cv)) → IsDecided net g (not b) →
+      Decides b (Somewhere v atoms (PipeControls terms) (f atoms))
+  late_decides atoms late_atoms net g f b h k vars formula decided =
+      subst (λ (them : List Atom). Decides b (Somewhere v them (PipeControls terms) (f them))) (one_list late_atoms atoms k h)
+      (subst (λ x. Decides x (Somewhere v late_atoms (PipeControls terms) (f late_atoms))) (not_not b)
+      (decides_some v terms late_atoms (apart late_atoms k) exists net vars g (f late_atoms) (not b) formula decided))
+
+  pub settings_are : (first : Gates) (pt pb : List ℕ) (tv : ℕ) (closed : AreClosed v terms first pt pb tv) (s : Settings) (pt' pb' : List Bool) (tv' : Bool) →
+      s.pt ≡ pt' → s.pb ≡ pb' → s.tv ≡ tv' → AreDecided first pt pt' → AreDecided first pb pb' → IsDecided first tv tv' →
+      (second : Gates) (lf je rm : ℕ) → AreLate v terms pt' pb' tv' second lf je rm → IsDecided second lf (not s.lf) → IsDecided second je (not s.je) → IsDecided second rm (not s.rm) →
+      AreSettings v terms s
+  settings_are first pt pb tv closed s pt' pb' tv' ept epb etv dpt dpb dtv second lf je rm late dlf dje drm =
+      record {
+        atoms = closed.atoms;
+        are = closed.are;
+        set = record {
+          pt = λ i lt. subst (λ (xs : List Bool). Decides (get_or xs i false) (Everywhere v closed.atoms (PipeControls terms) (predicts_taken v closed.atoms i false))) (sym ept)
+              (by_formula (get_or pt i 0) (predicts_taken v closed.atoms i false) (get_or pt' i false) (closed.forward i lt) (dpt i lt));
+          pb = λ i lt. subst (λ (xs : List Bool). Decides (get_or xs i false) (Everywhere v closed.atoms (PipeControls terms) (predicts_taken v closed.atoms i true))) (sym epb)
+              (by_formula (get_or pb i 0) (predicts_taken v closed.atoms i true) (get_or pb' i false) (closed.backward i lt) (dpb i lt));
+          tv = subst (λ b. Decides b (Everywhere v closed.atoms (PipeControls terms) (carries v s))) (sym etv) (by_formula tv (carries v s) tv' (closed.target s) dtv);
+          lf = late_decides closed.atoms late.atoms second lf (λ them. shows_lf v s them) s.lf closed.are late.are late.vars (late.late s ept epb etv) dlf;
+          je = late_decides closed.atoms late.atoms second je (λ them. shows_je v s them) s.je closed.are late.are late.vars (late.jump s ept epb etv) dje;
+          rm = late_decides closed.atoms late.atoms second rm (λ them. shows_rm v s them) s.rm closed.are late.are late.vars (late.ret s ept epb etv) drm;
+        };
+      }
+    where
+      by_formula : (g : ℕ) (f : Truth) (b : Bool) → IsFormula terms closed.atoms first g f → IsDecided first g b → Decides b (Everywhere v closed.atoms (PipeControls terms) f)
+      by_formula = decides v terms closed.atoms (apart closed.atoms closed.are) exists first closed.vars
+
+  -- ---- the verdict
+
+  pub rules_gates : (s : Settings) (net : Gates) (list : List Rule) → AreRules v terms s net list → AreGatesOf net list
+  rules_gates s net list rules k r at = (rules.gates k r at).within
+
+  pub accepts : (s : Settings) (net : Gates) (list : List Rule) → AreSettings v terms s → AreRules v terms s net list → IsDecision net list None → AcceptsPipe v terms s
+  accepts s net list settings rules always =
+      record {
+        settings = settings;
+        holds = record {
+          obligations = λ i l h. subst (λ (them : List Atom). Everywhere v them (PipeControls terms) (obligation v s them i)) (one_list rules.atoms settings.atoms rules.are settings.are)
+              (holds v terms rules.atoms (apart rules.atoms rules.are) exists net rules.vars s list rules.count rules.gates always i l h);
+          target = settings.set.tv.yes;
+        };
+      }
+
+  pub rejects : (s : Settings) (net : Gates) (list : List Rule) (failure : Failure) → AreSettings v terms s → AreRules v terms s net list → IsDecision net list (Some failure) →
+      RejectsPipe v terms failure.rule failure.valuation.bits
+  rejects s net list failure settings rules d =
+      let number : d.0 + 1 ≡ failure.rule = sym (d.3 ∙ rules.numbers d.0 d.1 d.2.there) in
+      let least = first_false v terms rules.atoms (apart rules.atoms rules.are) exists net rules.vars s list rules.count rules.gates d.0 d.1 failure.valuation.bits d.2 in
+      record {
+        found = s;
+        settings = settings;
+        least = subst (λ (them : List Atom). IsLeastFalse v them (PipeControls terms) s failure.rule failure.valuation.bits) (one_list rules.atoms settings.atoms rules.are settings.are)
+            (subst (λ i. IsLeastFalse v rules.atoms (PipeControls terms) s i failure.valuation.bits) number least);
+      }

@@ -1,0 +1,61 @@
+-- Verdicts on HCL files for PIPE, and truths that hold of every valuation.
+use Rattle.std.specs.Prelude.{◌≡◌, ◌≢◌, ℕ, ◌<◌, Bool, true, false, List, length, get_or}
+use Rattle.y86_base.specs.declared.parts.Variant.{Variant}
+use Rattle.y86_isa.specs.Run.{IsImage, Pure}
+use Rattle.nets.specs.Nets.{Gates, truth}
+use Rattle.hcl_types.specs.declared.term.Term.{Term}
+use Rattle.dp_signals.specs.PipeTable.{pipe_rows}
+use Rattle.ctl_atoms.specs.Atoms.{AreAtoms, IsCtlFault}
+use Rattle.ctl_atoms.specs.declared.fault.CtlFault.TheVariants as ctl
+use Rattle.ctl_atoms.specs.declared.leaf.Atom.{Atom}
+use Rattle.pipe_motion.specs.declared.settings.Settings.{Settings}
+use Rattle.pipe_refinement.specs.Refines.{Refines}
+use Rattle.pipe_theorem.specs.Theorem.{PipeControls}
+use Rattle.pipe_obligations.specs.Settled.{Holds, IsLeastFalse, IsSet}
+use Rattle.control_check.specs.Decisions.{IsAlwaysTrue}
+use Rattle.control_check.specs.declared.verdict.CheckFault.{CheckFault}
+use Rattle.control_check.specs.declared.verdict.CheckFault.TheVariants as fault
+use Rattle.control_check.specs.declared.verdict.Verdict.{Verdict}
+use Rattle.control_check.specs.declared.verdict.Verdict.TheVariants.{Yes, No}
+
+-- the truth b tells whether a gate is true of each valuation
+pub record IsDecided (n : Gates) (gate : ℕ) (b : Bool) : Type 0 where
+  pub yes : b ≡ true → IsAlwaysTrue n gate
+  pub no : b ≡ false → (w : List Bool) × (length w ≡ n.vars) × (truth n gate w ≡ false)
+
+-- the same of seven gates
+abbrev pub AreDecided : Gates → List ℕ → List Bool → Type 0
+AreDecided n gates truths = (i : ℕ) → i < 7 → IsDecided n (get_or gates i 0) (get_or truths i false)
+
+abbrev pub HasGates : Gates → List ℕ → Type 0
+HasGates n gates = (i : ℕ) → i < 7 → get_or gates i 0 < length n.gates
+
+-- the file's settings, with its atoms
+pub record AreSettings (v : Variant) (terms : List Term) (s : Settings) : Type 0 where
+  pub atoms : List Atom
+  pub are : AreAtoms pipe_rows terms atoms
+  pub set : IsSet v atoms (PipeControls terms) s
+
+-- Yes: every obligation holds of every valuation, at the file's settings. No: one doesn't, and the first such is told with its least
+-- valuation.
+pub record AcceptsPipe (v : Variant) (terms : List Term) (s : Settings) : Type 0 where
+  pub settings : AreSettings v terms s
+  pub holds : Holds v settings.atoms (PipeControls terms) s
+
+pub record RejectsPipe (v : Variant) (terms : List Term) (rule : ℕ) (w : List Bool) : Type 0 where
+  pub found : Settings
+  pub settings : AreSettings v terms found
+  pub least : IsLeastFalse v settings.atoms (PipeControls terms) found rule w
+
+abbrev pub IsPipeVerdict : Variant → List Term → Verdict → Type 0
+IsPipeVerdict v terms (Yes s) = AcceptsPipe v terms s
+IsPipeVerdict v terms (No rule valuation) = RejectsPipe v terms rule valuation.bits
+
+abbrev pub IsPipeFault : List Term → CheckFault → Type 0
+IsPipeFault terms (fault.Ctl f) = IsCtlFault pipe_rows terms f × (f ≢ ctl.Memory)
+IsPipeFault terms fault.Memory = Unit {0}
+
+-- after any number of cycles on any image whose instructions fetch no byte that an earlier one stored, the pipeline is where the
+-- instructions are
+abbrev pub RefinesPipe : Variant → List Term → Type 0
+RefinesPipe v terms = (image : List ℕ) (k : ℕ) → IsImage image → Pure v image k → Refines v terms image k

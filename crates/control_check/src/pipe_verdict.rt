@@ -1,0 +1,247 @@
+ghost use Rattle.std.specs.Prelude.{◌≡◌, ◌<◌, List, IfErr, IfOk, length, not, true};
+ghost use Rattle.bdd_core.specs.Building.{AreFirst};
+ghost use Rattle.ctl_atoms.specs.Atoms.{IsCtlFault};
+ghost use Rattle.dp_signals.specs.PipeTable.{pipe_rows};
+ghost use Rattle.hcl_types.specs.Tables.{IsBound, IsOrderOf};
+ghost use Rattle.hcl_types.specs.declared.term.Term.{Term};
+ghost use Rattle.control_check.specs.Decisions.{AreGatesOf, IsDecision};
+ghost use Rattle.control_check.specs.PipeVerdicts.{AreDecided, AreSettings, HasGates, IsDecided, IsPipeFault, IsPipeVerdict, RefinesPipe};
+ghost use Rattle.control_check.specs.SeqVerdicts.{is_yes};
+
+use crate::decision::{Failure, decide};
+use crate::splitting::decide_in_parts;
+use crate::verdict::{CheckFault, Verdict};
+use bdd_core::{Built, Store};
+use ctl_atoms::CtlFault;
+use hazard_rules::{Late, Parts, pipe_late, pipe_parts, pipe_rules};
+use hcl_types::{Design, Order};
+use nets::Net;
+use pipe_fields::places;
+use pipe_motion::Settings;
+use rule_gates::Rule;
+use std::alloc::Global;
+use y86_base::{Memory, Variant};
+
+/// A fault of the control values as one of the check.
+fn told_pipe(fault: CtlFault) -> CheckFault
+    ensures { (terms : List Term) → IsCtlFault pipe_rows terms fault → IsPipeFault terms result }
+{
+    match fault {
+        CtlFault::Memory => CheckFault::Memory,
+        _ => CheckFault::Ctl(fault),
+    }
+}
+
+/// Whether a gate is true of every valuation.
+#[tactic(auto, using(crate::proofs::Decided::is_always, crate::proofs::Decided::is_not_always))]
+fn always_true(store: &mut Store, built: &mut Built, net: &Net, gate: u64) -> Result<bool, Memory>
+    requires gate { gate < length net.now.gates }
+    requires vars { store.old.vars ≡ net.now.vars }
+    requires first { AreFirst store.old net.now built.old }
+    ensures vars { store.new.vars ≡ store.old.vars }
+    ensures first { AreFirst store.new net.now built.new }
+    ensures decided { IfOk result (IsDecided net.now gate) }
+{
+    let diagram = store.build_on(net, built, gate)?;
+    match store.least_false(diagram)? {
+        Some(_) => Ok(false),
+        None => Ok(true),
+    }
+}
+
+/// Which of seven gates are true of every valuation.
+fn seven(
+    store: &mut Store,
+    built: &mut Built,
+    net: &Net,
+    gates: &[u64; 7],
+) -> Result<[bool; 7], Memory>
+    requires gates { HasGates net.now gates.now }
+    requires vars { store.old.vars ≡ net.now.vars }
+    requires first { AreFirst store.old net.now built.old }
+    ensures vars { store.new.vars ≡ store.old.vars }
+    ensures first { AreFirst store.new net.now built.new }
+    ensures decided { IfOk result (AreDecided net.now gates.now) }
+{
+    let mut truths = [false; 7];
+    for i in 0..7 {
+        truths[i] = always_true(store, built, net, gates[i])?;
+    }
+    Ok(truths)
+}
+
+/// The settings that hold where a formula is true of every valuation.
+#[derive(Clone, Copy, Debug, PartialEq, Eq)]
+struct Early {
+    pt: [bool; 7],
+    pb: [bool; 7],
+    tv: bool,
+}
+
+/// Decides the formulas of the early settings.
+fn decide_early(alloc: Global, parts: &Parts) -> Result<Early, Memory>
+    requires forward { HasGates parts.now.net parts.now.pt }
+    requires backward { HasGates parts.now.net parts.now.pb }
+    requires target { parts.now.tv < length parts.now.net.gates }
+    ensures forward { IfOk result (λ e. AreDecided parts.now.net parts.now.pt e.pt) }
+    ensures backward { IfOk result (λ e. AreDecided parts.now.net parts.now.pb e.pb) }
+    ensures target { IfOk result (λ e. IsDecided parts.now.net parts.now.tv e.tv) }
+{
+    let mut store = Store::new(alloc, parts.net.vars());
+    let mut built = Built::new(alloc);
+    let pt = seven(&mut store, &mut built, &parts.net, &parts.pt)?;
+    let pb = seven(&mut store, &mut built, &parts.net, &parts.pb)?;
+    let tv = always_true(&mut store, &mut built, &parts.net, parts.tv)?;
+    Ok(Early { pt, pb, tv })
+}
+
+/// Decides the formulas of the late settings: each holds where its formula is false of some valuation.
+fn decide_late(alloc: Global, late: &Late, early: Early) -> Result<Settings, Memory>
+    requires lf { late.now.lf < length late.now.net.gates }
+    requires je { late.now.je < length late.now.net.gates }
+    requires rm { late.now.rm < length late.now.net.gates }
+    ensures early { IfOk result (λ s. (s.pt ≡ early.pt) × (s.pb ≡ early.pb) × (s.tv ≡ early.tv)) }
+    ensures lf { IfOk result (λ s. IsDecided late.now.net late.now.lf (not s.lf)) }
+    ensures je { IfOk result (λ s. IsDecided late.now.net late.now.je (not s.je)) }
+    ensures rm { IfOk result (λ s. IsDecided late.now.net late.now.rm (not s.rm)) }
+{
+    let mut store = Store::new(alloc, late.net.vars());
+    let mut built = Built::new(alloc);
+    let lf = always_true(&mut store, &mut built, &late.net, late.lf)?;
+    let je = always_true(&mut store, &mut built, &late.net, late.je)?;
+    let rm = always_true(&mut store, &mut built, &late.net, late.rm)?;
+    let pt = early.pt;
+    let pb = early.pb;
+    Ok(Settings {
+        pt,
+        pb,
+        tv: early.tv,
+        lf: !lf,
+        je: !je,
+        rm: !rm,
+    })
+}
+
+/// The settings of an HCL file for PIPE: what it does that another needn't, over all control valuations.
+pub fn file_settings(
+    alloc: Global,
+    variant: Variant,
+    design: &Design,
+    order: &Order,
+) -> Result<Settings, CheckFault>
+    requires bound { IsBound pipe_rows design.now.terms }
+    requires ordered { IsOrderOf pipe_rows design.now.terms order.now.ids }
+    ensures settings { IfOk result (AreSettings variant design.now.terms) }
+    ensures fault { IfErr result (IsPipeFault design.now.terms) }
+{
+    let parts = match pipe_parts(alloc, variant, design, order) {
+        Ok(parts) => parts,
+        Err(fault) => return Err(told_pipe(fault)),
+    };
+    let early = match decide_early(alloc, &parts) {
+        Ok(early) => early,
+        Err(Memory) => return Err(CheckFault::Memory),
+    };
+    let pt = early.pt;
+    let pb = early.pb;
+    let late = match pipe_late(alloc, variant, design, order, pt, pb, early.tv) {
+        Ok(late) => late,
+        Err(fault) => return Err(told_pipe(fault)),
+    };
+    match decide_late(alloc, &late, early) {
+        Ok(settings) => Ok(settings),
+        Err(Memory) => Err(CheckFault::Memory),
+    }
+}
+
+/// Whether a variable is a bit of a register number.
+fn is_register(variable: u32) -> bool {
+    let fields = [
+        places::D_R_A,
+        places::D_R_B,
+        places::E_DST_E,
+        places::E_DST_M,
+        places::E_SRC_A,
+        places::E_SRC_B,
+        places::M_DST_E,
+        places::M_DST_M,
+        places::W_DST_E,
+        places::W_DST_M,
+    ];
+    for place in &fields {
+        if place.first <= variable && variable - place.first < place.bits {
+            return true;
+        }
+    }
+    false
+}
+
+/// Where a variable stands in the order in which the diagrams of PIPE's rules are small: kinds first, then atoms, then
+/// the other fields, and registers last.
+fn group_of(variable: u32) -> u32 {
+    if variable < 6 {
+        0
+    } else if variable >= 107 {
+        1
+    } else if is_register(variable) {
+        3
+    } else {
+        2
+    }
+}
+
+/// The variables group by group.
+fn registers_last(alloc: Global, vars: u32) -> Result<Vec<u32>, Memory> {
+    let mut order: Vec<u32> = Vec::new(alloc);
+    for group in 0..4 {
+        for variable in 0..vars {
+            if group_of(variable) == group {
+                if order.push(variable).is_err() {
+                    return Err(Memory);
+                }
+            }
+        }
+    }
+    Ok(order)
+}
+
+/// The decision on PIPE's rules.
+fn decide_pipe(alloc: Global, net: &Net, list: &[Rule]) -> Result<Option<Failure>, Memory>
+    requires gates { AreGatesOf net.now list.now }
+    ensures { IfOk result (IsDecision net.now list.now) }
+{
+    let order = registers_last(alloc, net.vars())?;
+    if order.len() as u64 == net.vars() as u64 && list.len() <= 27 {
+        return decide_in_parts(alloc, net, list, order.as_slice());
+    }
+    decide(alloc, net, list)
+}
+
+/// The verdict on an HCL file for PIPE. Where it is yes, the file's machine refines the run of instructions on every
+/// image whose instructions fetch no byte that an earlier one stored.
+pub fn check_pipe(
+    alloc: Global,
+    variant: Variant,
+    design: &Design,
+    order: &Order,
+) -> Result<Verdict, CheckFault>
+    requires bound { IsBound pipe_rows design.now.terms }
+    requires ordered { IsOrderOf pipe_rows design.now.terms order.now.ids }
+    ensures verdict { IfOk result (IsPipeVerdict variant design.now.terms) }
+    ensures refines { IfOk result (λ v. is_yes v ≡ true → RefinesPipe variant design.now.terms) }
+    ensures fault { IfErr result (IsPipeFault design.now.terms) }
+{
+    let settings = file_settings(alloc, variant, design, order)?;
+    let rules = match pipe_rules(alloc, variant, design, order, &settings) {
+        Ok(rules) => rules,
+        Err(fault) => return Err(told_pipe(fault)),
+    };
+    match decide_pipe(alloc, &rules.net, rules.list.items()) {
+        Ok(None) => Ok(Verdict::Yes(settings)),
+        Ok(Some(failure)) => Ok(Verdict::No {
+            rule: failure.rule,
+            valuation: failure.valuation,
+        }),
+        Err(Memory) => Err(CheckFault::Memory),
+    }
+}

@@ -1,0 +1,47 @@
+-- What is made of gates that tell control values.
+use Rattle.std.proofs.Common.{◌≡◌, ℕ, ◌<◌, Bool, true, false, not, ◌&&◌, if◌then◌else◌, List, length, refl, ap, ◌∙◌}
+use Rattle.nets.specs.Nets.{Gates, Begins, IsGate, truth}
+use Rattle.y86_isa.specs.Blocks.{destination_e}
+use Rattle.ctl_atoms.specs.declared.leaf.Leaf.{Leaf}
+use Rattle.ctl_atoms.specs.declared.leaf.Leaf.TheVariants.{Number}
+use Rattle.ctl_atoms.specs.Leaves.{Assignment, leaf_eq}
+use Rattle.ctl_formula.specs.declared.controls.Entry.{Entry}
+use Rattle.ctl_formula.specs.Picks.{IsInside}
+use Rattle.rule_gates.specs.Asked.{IsAsked}
+use Rattle.rule_gates.proofs.Kept.{tells_less}
+
+-- a gate that was there at first
+pub asked_there : {n : Gates} {ctl : List Entry} {g : ℕ} (f : List Bool → Bool) → g < length n.gates → ((w : List Bool) → truth n g w ≡ f w) → IsAsked n ctl g (λ w α cv. f w)
+asked_there f h e = record { within = h; is = λ w α cv t. e w }
+
+-- a gate that is made of three
+pub asked_three : {old new : Gates} {ctl : List Entry} {x y z g : ℕ} {f h k : List Bool → Assignment → (ℕ → Leaf) → Bool} (join : Bool → Bool → Bool → Bool)
+    → Begins old new → IsInside old ctl → IsAsked old ctl x f → IsAsked old ctl y h → IsAsked old ctl z k → IsGate new g (λ w. join (truth old x w) (truth old y w) (truth old z w))
+    → IsAsked new ctl g (λ w α cv. join (f w α cv) (h w α cv) (k w α cv))
+asked_three {old} {new} {ctl} {x} {y} {z} {g} {f} {h} {k} join b i p q r m = record {
+  within = m.within;
+  is = λ w α cv t.
+      let u = tells_less b i t in
+      m.is w ∙ (ap (λ c. join c (truth old y w) (truth old z w)) (p.is w α cv u)
+      ∙ (ap (λ c. join (f w α cv) c (truth old z w)) (q.is w α cv u) ∙ ap (λ c. join (f w α cv) (h w α cv) c) (r.is w α cv u)));
+}
+
+-- one that chooses an older gate where its own test fails
+pub asked_older : {old new : Gates} {ctl : List Entry} {x g : ℕ} {h : List Bool → Assignment → (ℕ → Leaf) → Bool} (test value : List Bool → Assignment → (ℕ → Leaf) → Bool)
+    → Begins old new → IsInside old ctl → IsAsked old ctl x h → IsAsked new ctl g (λ w α cv. if test w α cv then value w α cv else truth old x w)
+    → IsAsked new ctl g (λ w α cv. if test w α cv then value w α cv else h w α cv)
+asked_older test value b i p q = record {
+  within = q.within;
+  is = λ w α cv t. q.is w α cv t ∙ ap (λ c. if test w α cv then value w α cv else c) (p.is w α cv (tells_less b i t));
+}
+
+-- the first leaf whose test holds
+pub first_leaf : (a b c d e : Bool) (x s t u v w z : Leaf) →
+    (if a then leaf_eq x s else (if b then leaf_eq x t else (if c then leaf_eq x u else (if d then leaf_eq x v else (if e then leaf_eq x w else leaf_eq x z)))))
+    ≡ leaf_eq x (if a then s else (if b then t else (if c then u else (if d then v else (if e then w else z)))))
+first_leaf true b c d e x s t u v w z = refl
+first_leaf false true c d e x s t u v w z = refl
+first_leaf false false true d e x s t u v w z = refl
+first_leaf false false false true e x s t u v w z = refl
+first_leaf false false false false true x s t u v w z = refl
+first_leaf false false false false false x s t u v w z = refl

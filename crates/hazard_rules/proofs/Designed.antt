@@ -1,0 +1,167 @@
+-- The atoms of a design are one list; each field of a signal is spelt at its place.
+use Rattle.std.proofs.Common.{◌≡◌, ℕ, ◌+◌, ◌-◌, ◌≤◌, ◌<◌, IsTrue, Bool, true, false, not, List, [], ◌∷◌, length, refl, sym, ap, subst, ◌∙◌, arith}
+use Rattle.hcl_types.specs.declared.term.Term.{Term}
+use Rattle.hcl_types.specs.declared.table.Row.{Row}
+use Rattle.hcl_types.specs.Tables.{IsOrderOf}
+use Rattle.dp_signals.specs.Tables.{constant_rows}
+use Rattle.dp_signals.specs.PipeTable.{pipe_rows, pipe_state, pipe_hardware, pipe_defined}
+use Rattle.ctl_atoms.specs.Atoms.{AreAtoms}
+use Rattle.ctl_atoms.specs.declared.leaf.Atom.{Atom}
+use Rattle.ctl_atoms.proofs.Solved.{leaves_exist}
+use Rattle.ctl_formula.specs.Places.{HavePlaces, Spells}
+use Rattle.pipe_fields.specs.Layout.{Fields, fields_of, number_of}
+use Rattle.y86_base.specs.declared.parts.Variant.{Variant}
+use Rattle.nets.specs.Nets.{Gates, Begins}
+use Rattle.ctl_formula.proofs.Inside.{tells_more}
+use Rattle.pipe_motion.specs.declared.settings.Settings.{Settings}
+use Rattle.rule_gates.specs.declared.rules.Rule.{Rule}
+use Rattle.pipe_obligations.specs.Rules.{obligation}
+use Rattle.pipe_obligations.specs.Stages.{view_of}
+use Rattle.pipe_obligations.specs.Settled.{Truth, carries, may_show, most_free, predicts_taken, shows_je, shows_lf, shows_rm}
+use Rattle.hazard_rules.specs.Parts.{IsFormula, IsTold, AreToldRules, AreRules, AreClosed, AreLate, TellPredictions}
+use Rattle.ctl_atoms.specs.declared.leaf.Leaf.{Leaf}
+use Rattle.ctl_atoms.specs.Leaves.{Assignment, AtomsAre}
+use Rattle.ctl_formula.specs.Controls.{AreControls}
+use Rattle.ctl_formula.specs.declared.controls.Entry.{Entry}
+use Rattle.ctl_formula.specs.declared.controls.Place.{Place}
+use Rattle.ctl_formula.specs.Picks.{Covers, IsInside, Tells}
+use Rattle.hazard_rules.specs.Designs.{places, IsTranslated}
+
+-- a design has one list of atoms
+pub atoms_one : (rows : List Row) (terms : List Term) (ids : List ℕ) (xs ys : List Atom) → IsOrderOf rows terms ids → AreAtoms rows terms xs → AreAtoms rows terms ys → xs ≡ ys
+atoms_one rows terms ids xs ys o p q = let l = leaves_exist rows terms ids o in p.are (l.0) (l.1) ∙ sym (q.are (l.0) (l.1))
+
+-- each field of a signal is spelt at its place
+pub spelt_at_places : (w : List Bool) → Spells places w (number_of (fields_of w))
+unfolding fields_of number_of
+spelt_at_places w = (
+  refl,
+  (
+    refl,
+    (
+      refl,
+      (
+        refl,
+        (
+          refl,
+          (
+            refl,
+            (
+              refl,
+              (
+                refl,
+                (
+                  refl,
+                  (
+                    refl,
+                    (
+                      refl,
+                      (
+                        refl,
+                        (
+                          refl,
+                          (
+                            refl,
+                            (refl, (refl, (refl, (refl, (refl, (refl, (refl, (refl, (refl, (refl, (refl, (refl, (refl, tt))))))))))))),
+                          ),
+                        ),
+                      ),
+                    ),
+                  ),
+                ),
+              ),
+            ),
+          ),
+        ),
+      ),
+    ),
+  ),
+)
+
+pub places_stand : (vars : ℕ) → 107 ≤ vars → HavePlaces pipe_rows places vars
+unfolding pipe_rows constant_rows pipe_state pipe_hardware pipe_defined
+places_stand vars le = record {
+  placed = refl;
+  inside = ((omega arith, omega arith), ((omega arith, omega arith), ((omega arith, omega arith), ((omega arith, omega arith), ((omega arith, omega arith), ((omega arith, omega arith), ((omega arith, omega arith), ((omega arith, omega arith), ((omega arith, omega arith), ((omega arith, omega arith), ((omega arith, omega arith), ((omega arith, omega arith), ((omega arith, omega arith), ((omega arith, omega arith), ((omega arith, omega arith), ((omega arith, omega arith), ((omega arith, omega arith), ((omega arith, omega arith), ((omega arith, omega arith), ((omega arith, omega arith), ((omega arith, omega arith), ((omega arith, omega arith), ((omega arith, omega arith), ((omega arith, omega arith), ((omega arith, omega arith), ((omega arith, omega arith), ((omega arith, omega arith), tt)))))))))))))))))))))))))));
+}
+
+-- what the translation of a design gives, over the table and the places that it was asked for
+pub told_design : {translated : Gates} (terms : List Term) (rows : List Row) (ps : List Place) (ctl : List Entry) (atoms : List Atom) (vars : ℕ)
+    → rows ≡ pipe_rows → ps ≡ places → AreAtoms rows terms atoms → vars ≡ 107 + length atoms → translated.vars ≡ vars → IsInside translated ctl → Covers rows ctl
+    → ((w : List Bool) (α : Assignment) (field : ℕ → ℕ) (cv : ℕ → Leaf) (listed : List Atom) → AreAtoms rows terms listed → AtomsAre listed (vars - length listed) w α
+    → Spells ps w field → AreControls rows terms field α cv → Tells translated ctl w α cv)
+    → IsTranslated terms translated ctl atoms
+told_design {translated} terms rows ps ctl atoms vars e f are size same inside covers tells = record {
+  are = subst (λ r. AreAtoms r terms atoms) e are;
+  vars = same ∙ size;
+  inside = inside;
+  covers = subst (λ r. Covers r ctl) e covers;
+  tells = λ w α cv l c. tells w α (number_of (fields_of w)) cv atoms are (subst (λ n. AtomsAre atoms n w α) (sym from) l)
+      (subst (λ p. Spells p w (number_of (fields_of w))) (sym f) (spelt_at_places w)) (subst (λ r. AreControls r terms (number_of (fields_of w)) α cv) (sym e) c);
+}
+  where
+    from : vars - length atoms ≡ 107
+    from = omega (arith, size)
+
+-- the same settings but for those that are early or late, all of which are allowed
+pub freed : (s : Settings) (pt pb : List Bool) (tv : Bool) → s.pt ≡ pt → s.pb ≡ pb → s.tv ≡ tv → most_free s ≡ record { pt = pt; pb = pb; tv = tv; lf = true; je = true; rm = true }
+freed s pt pb tv e f g = λ i. record { pt = e i; pb = f i; tv = g i; lf = true; je = true; rm = true }
+
+-- what decides lf, je and rm reads no others
+pub lf_freed : (v : Variant) (s : Settings) (atoms : List Atom) (c : Fields) (α : Assignment) (cv : ℕ → Leaf) → shows_lf v s atoms c α cv ≡ shows_lf v (most_free s) atoms c α cv
+unfolding shows_lf may_show view_of
+lf_freed v s atoms c α cv = refl
+
+pub je_freed : (v : Variant) (s : Settings) (atoms : List Atom) (c : Fields) (α : Assignment) (cv : ℕ → Leaf) → shows_je v s atoms c α cv ≡ shows_je v (most_free s) atoms c α cv
+unfolding shows_je may_show view_of
+je_freed v s atoms c α cv = refl
+
+pub rm_freed : (v : Variant) (s : Settings) (atoms : List Atom) (c : Fields) (α : Assignment) (cv : ℕ → Leaf) → shows_rm v s atoms c α cv ≡ shows_rm v (most_free s) atoms c α cv
+unfolding shows_rm may_show view_of
+rm_freed v s atoms c α cv = refl
+
+-- a formula in other words
+pub formula_as : {net : Gates} {terms : List Term} {atoms : List Atom} {g : ℕ} {f h : Truth} → IsFormula terms atoms net g f → ((c : Fields) (α : Assignment) (cv : ℕ → Leaf) → f c α cv ≡ h c α cv) → IsFormula terms atoms net g h
+formula_as q e = record { within = q.within; is = λ w α cv l k. q.is w α cv l k ∙ e (fields_of w) α cv }
+
+-- what is told by the gates of a design's names is a formula of the design
+pub formula_of : {net new : Gates} (terms : List Term) (ctl : List Entry) (atoms : List Atom) (g : ℕ) (f : Truth) → IsTranslated terms net ctl atoms → Begins net new → IsTold new ctl atoms g f → IsFormula terms atoms new g f
+formula_of terms ctl atoms g f made k told = record { within = told.within; is = λ w α cv h c. told.is w α cv h (tells_more k made.inside (made.tells w α cv h c)) }
+
+pub rules_of : {net new : Gates} (v : Variant) (terms : List Term) (s : Settings) (ctl : List Entry) (atoms : List Atom) (list : List Rule) → IsTranslated terms net ctl atoms → Begins net new
+    → length list ≡ 27 → AreToldRules v s new ctl atoms list → AreRules v terms s new list
+rules_of v terms s ctl atoms list made k count told = record {
+  atoms = atoms;
+  are = made.are;
+  vars = k.vars ∙ made.vars;
+  count = count;
+  numbers = λ i x e. (told i x e).number;
+  gates = λ i x e. formula_of terms ctl atoms x.gate (obligation v s atoms (i + 1)) made k (told i x e).told;
+}
+
+pub closed_of : {net new : Gates} (v : Variant) (terms : List Term) (ctl : List Entry) (atoms : List Atom) (pt pb : List ℕ) (tv : ℕ) → IsTranslated terms net ctl atoms → Begins net new
+    → TellPredictions v new ctl atoms false pt 7 → TellPredictions v new ctl atoms true pb 7 → ((s : Settings) → IsTold new ctl atoms tv (carries v s)) → AreClosed v terms new pt pb tv
+closed_of v terms ctl atoms pt pb tv made k forward backward target = record {
+  atoms = atoms;
+  are = made.are;
+  vars = k.vars ∙ made.vars;
+  forward = λ i lt. formula_of terms ctl atoms _ (predicts_taken v atoms i false) made k (forward i lt);
+  backward = λ i lt. formula_of terms ctl atoms _ (predicts_taken v atoms i true) made k (backward i lt);
+  target = λ s. formula_of terms ctl atoms tv (carries v s) made k (target s);
+}
+
+pub late_of : {net new : Gates} (v : Variant) (terms : List Term) (ctl : List Entry) (atoms : List Atom) (pt pb : List Bool) (tv : Bool) (s : Settings) (lf je rm : ℕ)
+    → s ≡ record { pt = pt; pb = pb; tv = tv; lf = true; je = true; rm = true } → IsTranslated terms net ctl atoms → Begins net new
+    → IsTold new ctl atoms lf (λ c α cv. not (shows_lf v s atoms c α cv)) → IsTold new ctl atoms je (λ c α cv. not (shows_je v s atoms c α cv))
+    → IsTold new ctl atoms rm (λ c α cv. not (shows_rm v s atoms c α cv)) → AreLate v terms pt pb tv new lf je rm
+late_of v terms ctl atoms pt pb tv s lf je rm same made k late jump ret = record {
+  atoms = atoms;
+  are = made.are;
+  vars = k.vars ∙ made.vars;
+  late = λ z e f g. formula_as (formula_of terms ctl atoms lf (λ c α cv. not (shows_lf v s atoms c α cv)) made k late)
+      (λ c α cv. ap (λ (x : Settings). not (shows_lf v x atoms c α cv)) (same ∙ sym (freed z pt pb tv e f g)) ∙ sym (ap not (lf_freed v z atoms c α cv)));
+  jump = λ z e f g. formula_as (formula_of terms ctl atoms je (λ c α cv. not (shows_je v s atoms c α cv)) made k jump)
+      (λ c α cv. ap (λ (x : Settings). not (shows_je v x atoms c α cv)) (same ∙ sym (freed z pt pb tv e f g)) ∙ sym (ap not (je_freed v z atoms c α cv)));
+  ret = λ z e f g. formula_as (formula_of terms ctl atoms rm (λ c α cv. not (shows_rm v s atoms c α cv)) made k ret)
+      (λ c α cv. ap (λ (x : Settings). not (shows_rm v x atoms c α cv)) (same ∙ sym (freed z pt pb tv e f g)) ∙ sym (ap not (rm_freed v z atoms c α cv)));
+}

@@ -1,0 +1,33 @@
+use Rattle.std.proofs.Common.{◌≡◌, ℕ, ◌+◌, ◌≤◌, length, List, refl, sym, ap, subst, ◌∙◌, arith}
+use Rattle.hcl_types.specs.Tables.{IsSound}
+use Rattle.dp_signals.specs.PipeTable.{pipe_rows}
+use Rattle.dp_signals.proofs.Sound.{pipe_sound}
+use Rattle.ctl_atoms.specs.Atoms.{AreAtoms}
+use Rattle.ctl_formula.specs.Places.{HavePlaces}
+use Rattle.hazard_rules.proofs.Designed.{atoms_one, places_stand, told_design}
+use Rattle.hazard_rules.proofs.design.translated.Goals as goal
+
+pub atoms-requires-clause-sound : goal.atoms-requires-clause-sound
+atoms-requires-clause-sound c = subst IsSound (sym c.in-Ok.ensures) pipe_sound
+
+pub translate-requires-clause-sound : goal.translate-requires-clause-sound
+translate-requires-clause-sound c = subst IsSound (sym c.in-Ok.ensures) pipe_sound
+
+pub translate-requires-clause-places : goal.translate-requires-clause-places
+translate-requires-clause-places c =
+    let le : 107 ≤ c.new-b.result.vars = omega (arith, c.new-b.ensures.vars) in
+    subst (λ rows. HavePlaces rows c.places.result.now c.new-b.result.vars) (sym c.in-Ok.ensures)
+    (subst (λ ps. HavePlaces pipe_rows ps c.new-b.result.vars) (sym c.places.ensures) (places_stand c.new-b.result.vars le))
+
+pub translate-requires-clause-vars : goal.translate-requires-clause-vars
+translate-requires-clause-vars c = λ listed are.
+    let at = subst (λ rows. AreAtoms rows c.args.d.now.terms listed) c.in-Ok.ensures are in
+    let own = subst (λ rows. AreAtoms rows c.args.d.now.terms c.in_ok-listed.listed.items) c.in-Ok.ensures c.in_ok-listed.ensures in
+    let e = ap length (atoms_one pipe_rows c.args.d.now.terms c.args.o.now.ids listed c.in_ok-listed.listed.items c.requires.ordered at own) in
+    omega (arith, e, c.len.ensures, c.new-b.ensures.vars)
+
+pub returns-clause-made : goal.returns-clause-made
+returns-clause-made c =
+    let size : c.new-b.result.vars ≡ 107 + length c.in_ok-listed.listed.items = omega (arith, c.len.ensures, c.new-b.ensures.vars) in
+    told_design c.args.d.now.terms c.in-Ok.t.rows c.places.result.now c.in_ok-ctl.ctl c.in_ok-listed.listed.items c.new-b.result.vars
+    c.in-Ok.ensures c.places.ensures c.in_ok-listed.ensures size c.translate.ensures.begins.vars c.in_ok-ctl.ensures.inside c.in_ok-ctl.ensures.covers c.in_ok-ctl.ensures.tells

@@ -1,0 +1,36 @@
+use Rattle.std.proofs.Common.{◌≡◌, ◌&&◌, ◌||◌, ◌==◌, ◌∙◌, if◌then◌else◌, not, ap, refl, List, Bool}
+use Rattle.nets.specs.Nets.{truth}
+use Rattle.nets.proofs.Truths.{begins_more, truth_kept, gate_kept}
+use Rattle.ctl_atoms.specs.declared.leaf.Leaf.{Leaf}
+use Rattle.ctl_atoms.specs.declared.leaf.Leaf.TheVariants.{Name}
+use Rattle.dp_signals.specs.PipeNames as names
+use Rattle.ctl_formula.proofs.Inside.{inside_more}
+use Rattle.pipe_fields.specs.Layout.{fields_of}
+use Rattle.pipe_motion.specs.Gates.{view_at}
+use Rattle.pipe_motion.specs.Slots.{View, path, youngest_stops}
+use Rattle.pipe_motion.proofs.Growing.{grown}
+use Rattle.pipe_motion.proofs.Kept.{view_kept}
+use Rattle.rule_gates.specs.Words as words
+use Rattle.rule_gates.proofs.Kept.{asked_one, asked_two, asked_more, asked_as, asked_gate, tells_less}
+use Rattle.pipe_obligations.specs.Stages.{is_jump}
+use Rattle.pipe_obligations.specs.Obligations as spec
+use Rattle.hazard_rules.proofs.Choices.{asked_there, asked_three}
+use Rattle.hazard_rules.proofs.Codes.{choose_other, youngest_by, next_by}
+use Rattle.hazard_rules.proofs.fetch.next_view_told.Goals as goal
+
+pub returns-clause-asked : goal.returns-clause-asked
+returns-clause-asked c =
+    let i0 = c.requires.inside in
+    let k1 = c.fetch_good.ensures.begins in
+    let i1 = inside_more k1 i0 in
+    let k2 = c.fetched_facts.ensures.begins in
+    let i2 = inside_more k2 i1 in
+    let k3 = c.obligation_25.ensures.grows.begins in
+    let good = asked_more k2 i1 c.in_ok-good.ensures.asked in
+    record {
+      within = c.in_ok-g.ensures.within;
+      is = λ w α cv t.
+          let u = tells_less k3 i2 t in
+          c.in_ok-g.ensures.truth w ∙ next_by c.args.s.now.je c.args.s.now.rm _ _ _ _ _ _ _ _ (c.movers_of-movers.ensures.told c.fetched_facts.new.b w α cv u) (good.is w α cv u) (c.in_ok-facts.ensures.told w α cv u)
+          (view_kept (grown (begins_more k1 k2)) c.args.y.now w c.requires.view);
+    }

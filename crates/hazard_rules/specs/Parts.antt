@@ -1,0 +1,73 @@
+-- The gates of a file's formulas: what decides its settings, and its rules.
+use Rattle.std.specs.Prelude.{ℕ, ◌≡◌, ◌+◌, ◌<◌, Bool, true, false, not, List, length, get_or, slice_get, Some}
+use Rattle.y86_base.specs.declared.parts.Variant.{Variant}
+use Rattle.nets.specs.Nets.{Gates, truth}
+use Rattle.hcl_types.specs.declared.term.Term.{Term}
+use Rattle.dp_signals.specs.PipeTable.{pipe_rows}
+use Rattle.ctl_atoms.specs.declared.leaf.Leaf.{Leaf}
+use Rattle.ctl_atoms.specs.declared.leaf.Atom.{Atom}
+use Rattle.ctl_atoms.specs.Leaves.{Assignment, AtomsAre}
+use Rattle.ctl_atoms.specs.Atoms.{AreAtoms}
+use Rattle.ctl_formula.specs.Controls.{AreControls}
+use Rattle.ctl_formula.specs.declared.controls.Entry.{Entry}
+use Rattle.ctl_formula.specs.Picks.{Tells}
+use Rattle.pipe_fields.specs.Layout.{Fields, bit_count, fields_of, number_of}
+use Rattle.pipe_motion.specs.declared.settings.Settings.{Settings}
+use Rattle.rule_gates.specs.declared.rules.Rule.{Rule}
+use Rattle.pipe_obligations.specs.Rules.{obligation}
+use Rattle.pipe_obligations.specs.Settled.{Truth, predicts_taken, carries, shows_lf, shows_je, shows_rm}
+
+-- the control values of the names of a file with these definitions
+abbrev pub Controls : List Term → Fields → Assignment → (ℕ → Leaf) → Type 0
+Controls terms c α cv = AreControls pipe_rows terms (number_of c) α cv
+
+-- the gate has the truth f of the valuation that the bits spell, for the truths of atoms that they tell, and its control values
+pub record IsFormula (terms : List Term) (atoms : List Atom) (net : Gates) (g : ℕ) (f : Truth) : Type 0 where
+  pub within : g < length net.gates
+  pub is : (w : List Bool) (α : Assignment) (cv : ℕ → Leaf) → AtomsAre atoms bit_count w α → Controls terms (fields_of w) α cv
+      → truth net g w ≡ f (fields_of w) α cv
+
+-- the gates that decide pt, pb and tv: each setting holds where its gate is true at every valuation
+pub record AreClosed (v : Variant) (terms : List Term) (net : Gates) (pt pb : List ℕ) (tv : ℕ) : Type 0 where
+  pub atoms : List Atom
+  pub are : AreAtoms pipe_rows terms atoms
+  pub vars : net.vars ≡ bit_count + length atoms
+  pub forward : (i : ℕ) → i < 7 → IsFormula terms atoms net (get_or pt i 0) (predicts_taken v atoms i false)
+  pub backward : (i : ℕ) → i < 7 → IsFormula terms atoms net (get_or pb i 0) (predicts_taken v atoms i true)
+  pub target : (s : Settings) → IsFormula terms atoms net tv (carries v s)
+
+-- the gates that decide lf, je and rm where these are pt, pb and tv: each setting holds where its gate is false at some valuation
+pub record AreLate (v : Variant) (terms : List Term) (pt pb : List Bool) (tv : Bool) (net : Gates) (lf je rm : ℕ) : Type 0 where
+  pub atoms : List Atom
+  pub are : AreAtoms pipe_rows terms atoms
+  pub vars : net.vars ≡ bit_count + length atoms
+  pub late : (s : Settings) → s.pt ≡ pt → s.pb ≡ pb → s.tv ≡ tv → IsFormula terms atoms net lf (λ c α cv. not (shows_lf v s atoms c α cv))
+  pub jump : (s : Settings) → s.pt ≡ pt → s.pb ≡ pb → s.tv ≡ tv → IsFormula terms atoms net je (λ c α cv. not (shows_je v s atoms c α cv))
+  pub ret : (s : Settings) → s.pt ≡ pt → s.pb ≡ pb → s.tv ≡ tv → IsFormula terms atoms net rm (λ c α cv. not (shows_rm v s atoms c α cv))
+
+-- the 27 obligations at settings, in their order
+pub record AreRules (v : Variant) (terms : List Term) (s : Settings) (net : Gates) (list : List Rule) : Type 0 where
+  pub atoms : List Atom
+  pub are : AreAtoms pipe_rows terms atoms
+  pub vars : net.vars ≡ bit_count + length atoms
+  pub count : length list ≡ 27
+  pub numbers : (k : ℕ) (x : Rule) → slice_get list k ≡ Some x → x.number ≡ k + 1
+  pub gates : (k : ℕ) (x : Rule) → slice_get list k ≡ Some x → IsFormula terms atoms net x.gate (obligation v s atoms (k + 1))
+
+-- the same by what the gates of names tell
+pub record IsTold (net : Gates) (ctl : List Entry) (atoms : List Atom) (g : ℕ) (f : Truth) : Type 0 where
+  pub within : g < length net.gates
+  pub is : (w : List Bool) (α : Assignment) (cv : ℕ → Leaf) → AtomsAre atoms bit_count w α → Tells net ctl w α cv
+      → truth net g w ≡ f (fields_of w) α cv
+
+-- rule k + 1 of a list is its obligation
+pub record IsToldRule (v : Variant) (s : Settings) (net : Gates) (ctl : List Entry) (atoms : List Atom) (k : ℕ) (x : Rule) : Type 0 where
+  pub number : x.number ≡ k + 1
+  pub told : IsTold net ctl atoms x.gate (obligation v s atoms (k + 1))
+
+abbrev pub AreToldRules : Variant → Settings → Gates → List Entry → List Atom → List Rule → Type 0
+AreToldRules v s net ctl atoms list = (k : ℕ) (x : Rule) → slice_get list k ≡ Some x → IsToldRule v s net ctl atoms k x
+
+-- the first gates of a list tell whether jumps of these ifuns, that go back or not, are predicted as taken
+abbrev pub TellPredictions : Variant → Gates → List Entry → List Atom → Bool → List ℕ → ℕ → Type 0
+TellPredictions v net ctl atoms back gates n = (i : ℕ) → i < n → IsTold net ctl atoms (get_or gates i 0) (predicts_taken v atoms i back)

@@ -1,0 +1,121 @@
+//! What decides the settings pt, pb and tv of a file.
+ghost use Rattle.std.specs.Prelude.{◌≡◌, ◌<◌, ◌≤◌, ◌+◌, ℕ, length, get_or, true, false, IfOk};
+ghost use Rattle.nets.specs.Nets.{Begins};
+ghost use Rattle.ctl_formula.specs.Picks.{Covers, IsInside};
+ghost use Rattle.dp_signals.specs.PipeTable.{pipe_rows};
+ghost use Rattle.pipe_motion.specs.Grows.{Grows};
+ghost use Rattle.hazard_rules.specs.Parts.{IsTold, TellPredictions};
+ghost use Rattle.pipe_fields.specs.Layout.{fields_of};
+ghost use Rattle.pipe_motion.specs.declared.settings.Settings.{Settings};
+ghost use Rattle.rule_gates.specs.Asked.{IsAsked};
+ghost use Rattle.pipe_obligations.specs.Settled.{carries, predicts_taken};
+ghost use Rattle.hazard_rules.specs.Signals.{IsReady};
+
+use crate::execute_rules::target_told;
+use crate::premises::prediction_asked;
+use crate::signals as signal;
+use ctl_atoms::{Atom, Leaf};
+use ctl_formula::Controls;
+use field_bits::spells;
+use nets::NetBuilder;
+use pipe_fields::allowed;
+use pipe_fields::places::E_KIND;
+use pipe_motion::implies;
+use rule_gates::{Wanted, takes};
+use y86_base::{Memory, Variant};
+
+/// Jumps of this ifun that go back or not are predicted as taken: where one is fetched, f_predPC is f_valC.
+#[tactic(auto, using(pipe_motion::proofs::Growing::grown, pipe_motion::proofs::Growing::grows_more, ctl_formula::proofs::Inside::inside_more, crate::proofs::Known::known_f_predPC))]
+fn predicts(
+    b: &mut NetBuilder,
+    ctl: &Controls,
+    v: Variant,
+    atoms: &[Atom],
+    ifun: u64,
+    back: bool,
+) -> Result<u64, Memory>
+    requires inside { IsInside b.old ctl.now }
+    requires covers { Covers pipe_rows ctl.now }
+    requires vars { 107 + length atoms.now ≤ b.old.vars }
+    requires few { length atoms.now ≤ 64 }
+    ensures told { IfOk result (λ g. IsTold b.new ctl.now atoms.now g (predicts_taken v atoms.now ifun back)) }
+    ensures grows { Grows b.old b.new }
+{
+    let taken = takes(
+        b,
+        ctl,
+        signal::F_PRED_PC,
+        Wanted::This(Leaf::Name(signal::F_VAL_C)),
+    )?;
+    let asked = prediction_asked(b, v, atoms, ifun, back)?;
+    let g = implies(b, asked, taken)?;
+    Ok(g)
+}
+
+/// The gates of the seven ifuns.
+pub(crate) fn predictions(
+    b: &mut NetBuilder,
+    ctl: &Controls,
+    v: Variant,
+    atoms: &[Atom],
+    back: bool,
+) -> Result<[u64; 7], Memory>
+    requires inside { IsInside b.old ctl.now }
+    requires covers { Covers pipe_rows ctl.now }
+    requires vars { 107 + length atoms.now ≤ b.old.vars }
+    requires few { length atoms.now ≤ 64 }
+    ensures told { IfOk result (λ gates. TellPredictions v b.new ctl.now atoms.now back gates 7) }
+    ensures grows { Grows b.old b.new }
+{
+    let mut gates = [0; 7];
+    for i in 0..7 {
+        let gate = predicts(b, ctl, v, atoms, i as u64, back)?;
+        gates[i] = gate;
+    }
+    Ok(gates)
+}
+
+/// A jump carries its target through the ALU, in every allowed valuation.
+fn carries_told(b: &mut NetBuilder, ctl: &Controls, v: Variant) -> Result<u64, Memory>
+    requires inside { IsInside b.old ctl.now }
+    requires ready { IsReady b.old.vars ctl.now }
+    ensures begins { Begins b.old b.new }
+    ensures asked { (s : Settings) → IfOk result (λ g. IsAsked b.new ctl.now g (λ w α cv. carries v s (fields_of w) α cv)) }
+{
+    let fits = allowed(b, v)?;
+    let good = spells(b, E_KIND, 1)?;
+    let target = target_told(b, ctl, v, good)?;
+    let g = field_bits::implies(b, fits, target)?;
+    Ok(g)
+}
+
+/// The gates that decide pt, pb and tv.
+#[derive(Clone, Copy, Debug)]
+pub(crate) struct Closed {
+    pub pt: [u64; 7],
+    pub pb: [u64; 7],
+    pub tv: u64,
+}
+
+/// The gates that decide pt, pb and tv.
+#[tactic(auto, using(crate::proofs::Ready::ready_by, ctl_formula::proofs::Inside::inside_more))]
+pub(crate) fn closed_told(
+    b: &mut NetBuilder,
+    ctl: &Controls,
+    v: Variant,
+    atoms: &[Atom],
+) -> Result<Closed, Memory>
+    requires inside { IsInside b.old ctl.now }
+    requires covers { Covers pipe_rows ctl.now }
+    requires vars { 107 + length atoms.now ≤ b.old.vars }
+    requires few { length atoms.now ≤ 64 }
+    ensures forward { IfOk result (λ r. TellPredictions v b.new ctl.now atoms.now false r.pt 7) }
+    ensures backward { IfOk result (λ r. TellPredictions v b.new ctl.now atoms.now true r.pb 7) }
+    ensures target { (s : Settings) → IfOk result (λ r. IsTold b.new ctl.now atoms.now r.tv (carries v s)) }
+    ensures grows { Grows b.old b.new }
+{
+    let pt = predictions(b, ctl, v, atoms, false)?;
+    let pb = predictions(b, ctl, v, atoms, true)?;
+    let tv = carries_told(b, ctl, v)?;
+    Ok(Closed { pt, pb, tv })
+}

@@ -1,0 +1,4 @@
+pub mod Stages
+pub mod Obligations
+pub mod Rules
+pub mod Settled
