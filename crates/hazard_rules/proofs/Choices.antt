@@ -1,9 +1,7 @@
 -- What is made of gates that tell control values.
-use Rattle.std.proofs.Common.{◌≡◌, ℕ, ◌<◌, Bool, true, false, not, ◌&&◌, if◌then◌else◌, List, length, refl, ap, ◌∙◌}
+use Rattle.std.proofs.Common.{◌≡◌, ℕ, ◌<◌, Bool, true, false, if◌then◌else◌, List, length, refl, ap, ◌∙◌}
 use Rattle.nets.specs.Nets.{Gates, Begins, IsGate, truth}
-use Rattle.y86_isa.specs.Blocks.{destination_e}
 use Rattle.ctl_atoms.specs.declared.leaf.Leaf.{Leaf}
-use Rattle.ctl_atoms.specs.declared.leaf.Leaf.TheVariants.{Number}
 use Rattle.ctl_atoms.specs.Leaves.{Assignment, leaf_eq}
 use Rattle.ctl_formula.specs.declared.controls.Entry.{Entry}
 use Rattle.ctl_formula.specs.Picks.{IsInside}

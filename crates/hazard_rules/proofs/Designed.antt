@@ -1,5 +1,5 @@
 -- The atoms of a design are one list; each field of a signal is spelt at its place.
-use Rattle.std.proofs.Common.{◌≡◌, ℕ, ◌+◌, ◌-◌, ◌≤◌, ◌<◌, IsTrue, Bool, true, false, not, List, [], ◌∷◌, length, refl, sym, ap, subst, ◌∙◌, arith}
+use Rattle.std.proofs.Common.{◌≡◌, ℕ, ◌+◌, ◌-◌, ◌≤◌, Bool, true, false, not, List, length, refl, sym, ap, subst, ◌∙◌, arith}
 use Rattle.hcl_types.specs.declared.term.Term.{Term}
 use Rattle.hcl_types.specs.declared.table.Row.{Row}
 use Rattle.hcl_types.specs.Tables.{IsOrderOf}

@@ -1,12 +1,11 @@
 -- What is made of two gates, of which the first was made before the second, tells what both do.
 use Rattle.std.proofs.Common.{◌≡◌, IsTrue, ℕ, ◌<◌, ◌==◌, ◌&&◌, ◌||◌, not, Bool, true, false, if◌then◌else◌, List, length, refl, sym, ap, subst, ◌∙◌}
 use Rattle.nets.specs.Nets.{Gates, Begins, IsGate, agree, truth}
-use Rattle.nets.proofs.Truths.{truth_kept, gate_kept}
 use Rattle.ctl_atoms.specs.declared.leaf.Leaf.{Leaf}
 use Rattle.ctl_atoms.specs.declared.leaf.Leaf.TheVariants.{Number}
 use Rattle.ctl_atoms.specs.Leaves.{Assignment, leaf_holds}
 use Rattle.ctl_formula.specs.declared.controls.Entry.{Entry}
-use Rattle.ctl_formula.specs.Picks.{IsInside, Tells, gate_of, has_gate}
+use Rattle.ctl_formula.specs.Picks.{IsInside, gate_of, has_gate}
 use Rattle.ctl_formula.proofs.Inside.{inside_more}
 use Rattle.field_bits.specs.Spelling.{set}
 use Rattle.hazard_rules.specs.Signals.{IsReady}

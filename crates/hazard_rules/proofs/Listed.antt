@@ -1,9 +1,9 @@
 -- Lists of rules, one more at a time; what a gate tells stays told.
-use Rattle.std.proofs.Common.{◌≡◌, ℕ, ◌+◌, ◌<◌, ◌≤◌, ◌⊎◌, inl, inr, Bool, true, false, not, ◌||◌, if◌then◌else◌, List, [], ◌∷◌, ◌++◌, length, get_or, slice_get, Option, Some, refl, sym, ap, subst, ◌∙◌, arith}
-use Rattle.std.proofs.lemmas.List.{get_or_append_left, get_or_push, length_push}
+use Rattle.std.proofs.Common.{◌≡◌, ℕ, ◌+◌, ◌<◌, ◌⊎◌, inl, inr, Bool, true, false, not, ◌||◌, if◌then◌else◌, List, [], ◌∷◌, ◌++◌, length, get_or, slice_get, slice_set, Some, refl, sym, ap, subst, ◌∙◌, arith}
+use Rattle.std.proofs.lemmas.List.{get_or_append_left, get_or_push, get_or-set_same, get_or-set_other, length_push}
 use Rattle.std.proofs.lemmas.Option.{slice_get_within, slice_get-get_or, get_or_from_slice_get}
 use Rattle.y86_base.specs.declared.parts.Variant.{Variant}
-use Rattle.nets.specs.Nets.{Gates, Begins, truth}
+use Rattle.nets.specs.Nets.{Gates}
 use Rattle.ctl_atoms.specs.declared.leaf.Atom.{Atom}
 use Rattle.ctl_formula.specs.declared.controls.Entry.{Entry}
 use Rattle.ctl_formula.specs.Picks.{IsInside}
@@ -11,8 +11,8 @@ use Rattle.pipe_motion.specs.declared.settings.Settings.{Settings}
 use Rattle.pipe_motion.specs.Grows.{Grows}
 use Rattle.rule_gates.specs.declared.rules.Rule.{Rule}
 use Rattle.rule_gates.proofs.Kept.{tells_less}
-use Rattle.pipe_obligations.specs.Settled.{Truth}
-use Rattle.hazard_rules.specs.Parts.{IsTold, IsToldRule, AreToldRules}
+use Rattle.pipe_obligations.specs.Settled.{Truth, predicts_taken}
+use Rattle.hazard_rules.specs.Parts.{IsTold, IsToldRule, AreToldRules, TellPredictions}
 
 pub told_more : {old new : Gates} {ctl : List Entry} {atoms : List Atom} {g : ℕ} {f : Truth} → Grows old new → IsInside old ctl → IsTold old ctl atoms g f → IsTold new ctl atoms g f
 told_more {old} {new} {ctl} {atoms} {g} {f} k i q = record {
@@ -45,6 +45,22 @@ pub rules_pushed : {net : Gates} {ctl : List Entry} {atoms : List Atom} (v : Var
     → IsToldRule v s net ctl atoms n y → AreToldRules v s net ctl atoms ys
 rules_pushed {net} {ctl} {atoms} v s xs ys y n e size h last =
     subst (λ zs. AreToldRules v s net ctl atoms zs) (sym e) (pushed (λ k x. IsToldRule v s net ctl atoms k x) xs y h (subst (λ m. IsToldRule v s net ctl atoms m y) (sym size) last))
+
+-- a gate put at its place in a list, whose earlier gates have grown
+pub prediction_put : {old new : Gates} {ctl : List Entry} {atoms : List Atom} (v : Variant) (back : Bool) (gates : List ℕ) (n g : ℕ) → n < length gates → Grows old new → IsInside old ctl
+    → TellPredictions v old ctl atoms back gates n → IsTold new ctl atoms g (predicts_taken v atoms n back) → TellPredictions v new ctl atoms back (slice_set gates n g) (n + 1)
+prediction_put {old} {new} {ctl} {atoms} v back gates n g inside k i h last j lt = by_place (below_or j n lt)
+  where
+    below_or : (k n : ℕ) → k < n + 1 → (k < n) ⊎ (k ≡ n)
+    below_or k n lt = grind arith
+
+    apart : j < n → j ≡ n → ⊥
+    apart lt e = omega (arith, lt, e)
+
+    by_place : (j < n) ⊎ (j ≡ n) → IsTold new ctl atoms (get_or (slice_set gates n g) j 0) (predicts_taken v atoms j back)
+    by_place (inl lt) = subst (λ x. IsTold new ctl atoms x (predicts_taken v atoms j back)) (sym (get_or-set_other gates n j g 0 (apart lt))) (told_more k i (h j lt))
+    by_place (inr eq) = subst (λ m. IsTold new ctl atoms (get_or (slice_set gates n g) m 0) (predicts_taken v atoms m back)) (sym eq)
+        (subst (λ x. IsTold new ctl atoms x (predicts_taken v atoms n back)) (sym (get_or-set_same gates n g 0 inside)) last)
 
 -- the premise of a rule is the first of two gates or the second
 pub premise_by : (T : ℕ → Bool) (asked : Bool → Bool) (always : Bool) (p x y : ℕ) → p ≡ (if always then x else y) → T x ≡ asked true → T y ≡ asked false → T p ≡ asked always

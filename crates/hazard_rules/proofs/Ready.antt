@@ -1,5 +1,5 @@
 -- In a net with PIPE's fields and control values of all its signals, the rules of the stages are ready.
-use Rattle.std.proofs.Common.{◌≡◌, ℕ, ◌≤◌, IsTrue, Bool, true, List, slice_get, refl, ◌∙◌}
+use Rattle.std.proofs.Common.{◌≡◌, ℕ, ◌≤◌, true, List, slice_get, refl, ◌∙◌}
 use Rattle.ctl_formula.specs.declared.controls.Entry.{Entry}
 use Rattle.ctl_formula.specs.Picks.{Covers, has_gate, has_picks}
 use Rattle.dp_signals.specs.PipeNames as signal

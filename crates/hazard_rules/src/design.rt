@@ -14,7 +14,7 @@ use std::alloc::Global;
 
 /// A builder of a net with a variable for each bit of a control valuation, with the gates of all names, and the atoms.
 #[derive(Drop)]
-pub(crate) struct Translated {
+pub(crate) struct DesignGates {
     pub b: NetBuilder,
     pub ctl: Controls,
     pub listed: Vec<Atom>,
@@ -69,7 +69,7 @@ fn places() -> &'static [Place]
 }
 
 /// The gates of all names of a design. A design that mixes classes or asks more than 64 atoms has none.
-pub(crate) fn translated(alloc: Global, d: &Design, o: &Order) -> Result<Translated, CtlFault>
+pub(crate) fn translated(alloc: Global, d: &Design, o: &Order) -> Result<DesignGates, CtlFault>
     requires bound { IsBound pipe_rows d.now.terms }
     requires ordered { IsOrderOf pipe_rows d.now.terms o.now.ids }
     ensures made { IfOk result (λ r. IsTranslated d.now.terms r.b r.ctl r.listed.items) }
@@ -82,5 +82,5 @@ pub(crate) fn translated(alloc: Global, d: &Design, o: &Order) -> Result<Transla
     let listed = atoms(alloc, d, &t, o)?;
     let mut b = NetBuilder::new(alloc, 107 + listed.len() as u32);
     let ctl = translate(alloc, d, &t, o, places(), &mut b)?;
-    Ok(Translated { b, ctl, listed })
+    Ok(DesignGates { b, ctl, listed })
 }

@@ -113,7 +113,12 @@ struct FreeView {
 }
 
 /// The valuations that may show a setting: legal ones of cycles that go on, where all that is early or late is allowed.
-fn free_legal(b: &mut NetBuilder, v: Variant, s: &Settings, atoms: &[Atom]) -> Result<FreeView, Memory>
+fn free_legal(
+    b: &mut NetBuilder,
+    v: Variant,
+    s: &Settings,
+    atoms: &[Atom],
+) -> Result<FreeView, Memory>
     requires vars { 107 + length atoms.now ≤ b.old.vars }
     requires few { length atoms.now ≤ 64 }
     requires free { most_free s.now ≡ s.now }

@@ -195,7 +195,7 @@ fn write_slot(b: &mut NetBuilder, v: Variant) -> Result<SlotGates, Memory>
 }
 
 /// What stands in the stages of a valuation.
-#[tactic(auto, unfolding(crate::specs::Stages::view_of), using(pipe_motion::proofs::Growing::grows_more, pipe_motion::proofs::Growing::grows_self, pipe_motion::proofs::Kept::slot_kept))]
+#[tactic(auto, unfolding(pipe_obligations::specs::Stages::view_of), using(pipe_motion::proofs::Growing::grows_more, pipe_motion::proofs::Growing::grows_self, pipe_motion::proofs::Kept::slot_kept))]
 pub fn view_gates(b: &mut NetBuilder, v: Variant, s: &Settings) -> Result<ViewGates, Memory>
     requires { 107 ≤ b.old.vars }
     ensures within { IfOk result (λ r. HasView (length b.new.gates) r) }

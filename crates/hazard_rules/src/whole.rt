@@ -51,13 +51,17 @@ pub fn pipe_parts(alloc: Global, v: Variant, d: &Design, o: &Order) -> Result<Pa
     let listed = made.listed;
     match closed_told(&mut b, &ctl, v, listed.as_slice()) {
         Err(_) => Err(CtlFault::Memory),
-        Ok(gates) => Ok(Parts {
-            variant: v,
-            net: b.finish(),
-            pt: gates.pt,
-            pb: gates.pb,
-            tv: gates.tv,
-        }),
+        Ok(gates) => {
+            let pt = gates.pt;
+            let pb = gates.pb;
+            Ok(Parts {
+                variant: v,
+                net: b.finish(),
+                pt,
+                pb,
+                tv: gates.tv,
+            })
+        }
     }
 }
 

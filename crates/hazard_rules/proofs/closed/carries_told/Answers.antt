@@ -1,4 +1,4 @@
-use Rattle.std.proofs.Common.{◌≡◌, ◌∙◌, ◌||◌, ◌&&◌, ◌==◌, not, ap}
+use Rattle.std.proofs.Common.{◌||◌, ◌&&◌, not, ap}
 use Rattle.nets.proofs.Truths.{begins_more}
 use Rattle.dp_signals.specs.PipeNames as names
 use Rattle.ctl_atoms.specs.declared.leaf.Leaf.TheVariants.{Name}

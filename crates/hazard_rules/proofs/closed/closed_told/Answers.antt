@@ -1,7 +1,8 @@
-use Rattle.std.proofs.Common.{◌≡◌}
+use Rattle.std.proofs.Common.{◌≤◌, ◌∙◌, arith}
 use Rattle.ctl_formula.proofs.Inside.{inside_more}
 use Rattle.pipe_motion.proofs.Growing.{grown, grows_more}
 use Rattle.hazard_rules.proofs.Listed.{told_more}
+use Rattle.hazard_rules.proofs.Ready.{ready_by}
 use Rattle.hazard_rules.proofs.closed.closed_told.Goals as goal
 
 pub returns-clause-forward : goal.returns-clause-forward
@@ -20,3 +21,12 @@ returns-clause-target c = λ s. record {
 
 pub returns-clause-grows : goal.returns-clause-grows
 returns-clause-grows c = grows_more _ _ _ c.predictions.ensures.grows (grows_more _ _ _ c.predictions-2.ensures.grows (grown c.carries_told.ensures.begins))
+
+pub carries_told-requires-clause-ready : goal.carries_told-requires-clause-ready
+carries_told-requires-clause-ready c =
+    let same = c.predictions-2.ensures.grows.begins.vars ∙ c.predictions.ensures.grows.begins.vars in
+    let fields : 107 ≤ c.predictions-2.new.b.vars = let e = c.requires.vars in omega (arith, same, e) in
+    ready_by fields c.requires.covers
+
+pub returns-in_err-tv-clause-grows : goal.returns-in_err-tv-clause-grows
+returns-in_err-tv-clause-grows c = grows_more _ _ _ c.predictions.ensures.grows (grows_more _ _ _ c.predictions-2.ensures.grows (grown c.carries_told.ensures.begins))

@@ -1,6 +1,6 @@
-use Rattle.std.proofs.Common.{◌≡◌, ◌∙◌}
+use Rattle.std.proofs.Common.{◌∙◌}
 use Rattle.ctl_formula.proofs.Inside.{inside_more}
-use Rattle.pipe_motion.proofs.Growing.{grown, grows_more}
+use Rattle.pipe_motion.proofs.Growing.{grows_more}
 use Rattle.rule_gates.proofs.Kept.{tells_less}
 use Rattle.pipe_obligations.specs.Settled.{predicts_taken}
 use Rattle.hazard_rules.proofs.Listed.{rule_by}

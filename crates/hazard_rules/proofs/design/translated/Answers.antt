@@ -1,4 +1,4 @@
-use Rattle.std.proofs.Common.{◌≡◌, ℕ, ◌+◌, ◌≤◌, length, List, refl, sym, ap, subst, ◌∙◌, arith}
+use Rattle.std.proofs.Common.{◌≡◌, ◌+◌, ◌≤◌, length, sym, ap, subst, arith}
 use Rattle.hcl_types.specs.Tables.{IsSound}
 use Rattle.dp_signals.specs.PipeTable.{pipe_rows}
 use Rattle.dp_signals.proofs.Sound.{pipe_sound}

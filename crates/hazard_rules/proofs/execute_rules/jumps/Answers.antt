@@ -1,5 +1,5 @@
 use Rattle.std.proofs.Common.{◌∙◌}
-use Rattle.nets.proofs.Truths.{truth_kept, begins_more, begins_self}
+use Rattle.nets.proofs.Truths.{truth_kept, begins_more}
 use Rattle.hazard_rules.proofs.Joined.{both_by}
 use Rattle.pipe_fields.specs.Layout.{fields_of}
 use Rattle.hazard_rules.proofs.execute_rules.jumps.Goals as goal

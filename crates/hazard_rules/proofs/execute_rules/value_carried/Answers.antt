@@ -1,7 +1,7 @@
 use Rattle.std.proofs.Common.{◌&&◌, ◌||◌, not, if◌then◌else◌, ap}
 use Rattle.rule_gates.proofs.Kept.{asked_as, asked_gate, asked_more, asked_two}
 use Rattle.hazard_rules.proofs.Joined.{either_by}
-use Rattle.nets.proofs.Truths.{truth_kept, begins_more, begins_self}
+use Rattle.nets.proofs.Truths.{truth_kept, begins_more}
 use Rattle.ctl_formula.proofs.Inside.{inside_more}
 use Rattle.pipe_fields.specs.Layout.{fields_of}
 use Rattle.ctl_atoms.specs.declared.leaf.Leaf.TheVariants.{Name}

@@ -1,9 +1,9 @@
-use Rattle.std.proofs.Common.{◌||◌, ◌&&◌, ◌∙◌, ◌≤◌, nat_lt, sym, ap, arith}
+use Rattle.std.proofs.Common.{◌||◌, ◌&&◌, ◌∙◌, ap, arith}
 use Rattle.nets.proofs.Truths.{begins_more}
 use Rattle.y86_isa.specs.declared.columns.Row.{Row}
 use Rattle.ctl_formula.proofs.Inside.{inside_more}
 use Rattle.rule_gates.specs.Words as words
-use Rattle.rule_gates.proofs.Kept.{asked_two, asked_more, asked_as, asked_gate}
+use Rattle.rule_gates.proofs.Kept.{asked_two, asked_more, asked_as}
 use Rattle.hazard_rules.specs.Columns.{has, passes}
 use Rattle.pipe_obligations.specs.Obligations.{code_of}
 use Rattle.hazard_rules.proofs.Codes.{code_step, below_all, has_past}

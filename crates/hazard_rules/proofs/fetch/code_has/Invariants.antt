@@ -1,4 +1,4 @@
-use Rattle.std.proofs.Common.{◌&&◌, nat_lt, get_or, false, List, Bool, ℕ}
+use Rattle.std.proofs.Common.{◌&&◌, nat_lt}
 use Rattle.nets.specs.Nets.{Begins}
 use Rattle.rule_gates.specs.Asked.{IsAsked}
 use Rattle.hazard_rules.specs.Columns.{has}

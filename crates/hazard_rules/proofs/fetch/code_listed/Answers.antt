@@ -1,7 +1,7 @@
-use Rattle.std.proofs.Common.{◌||◌, ◌&&◌, ◌∙◌, ◌≤◌, nat_lt, get_or, false, length, sym, ap, arith}
+use Rattle.std.proofs.Common.{◌||◌, get_or, false, arith}
 use Rattle.nets.proofs.Truths.{begins_more}
 use Rattle.ctl_formula.proofs.Inside.{inside_more}
-use Rattle.rule_gates.proofs.Kept.{asked_two, asked_more, asked_as, asked_gate}
+use Rattle.rule_gates.proofs.Kept.{asked_two, asked_more, asked_as}
 use Rattle.pipe_obligations.specs.Obligations.{code_of}
 use Rattle.hazard_rules.proofs.Codes.{code_step, below_all, listed_past}
 use Rattle.hazard_rules.proofs.fetch.code_listed.Goals as goal

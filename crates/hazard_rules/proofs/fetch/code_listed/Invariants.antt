@@ -1,7 +1,6 @@
-use Rattle.std.proofs.Common.{◌&&◌, nat_lt, get_or, false, List, Bool, ℕ}
+use Rattle.std.proofs.Common.{◌&&◌, nat_lt, get_or, false}
 use Rattle.nets.specs.Nets.{Begins}
 use Rattle.rule_gates.specs.Asked.{IsAsked}
-use Rattle.hazard_rules.specs.Columns.{has}
 use Rattle.pipe_obligations.specs.Obligations.{code_of}
 use Rattle.hazard_rules.proofs.fetch.code_listed.Given as goal
 

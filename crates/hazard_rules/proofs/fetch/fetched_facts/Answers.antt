@@ -1,5 +1,4 @@
-use Rattle.std.proofs.Common.{◌≤◌, length, ◌∙◌, arith}
-use Rattle.nets.proofs.Truths.{begins_more, truth_kept}
+use Rattle.nets.proofs.Truths.{begins_more}
 use Rattle.ctl_formula.proofs.Inside.{inside_more}
 use Rattle.rule_gates.proofs.Kept.{asked_more}
 use Rattle.nets.proofs.Truths.{gate_kept}

@@ -1,4 +1,4 @@
-use Rattle.std.proofs.Common.{◌&&◌, ◌==◌, not, ap}
+use Rattle.std.proofs.Common.{◌&&◌, ◌==◌, ap}
 use Rattle.nets.specs.Nets.{agree}
 use Rattle.nets.proofs.Truths.{begins_more}
 use Rattle.dp_signals.specs.PipeNames as names

@@ -1,5 +1,4 @@
-use Rattle.std.proofs.Common.{◌||◌, ◌&&◌, ◌==◌, ◌∙◌, not, ap, arith}
-use Rattle.nets.proofs.Truths.{begins_more}
+use Rattle.std.proofs.Common.{◌&&◌, ◌==◌, ◌∙◌, not, ap, arith}
 use Rattle.dp_signals.specs.PipeNames as names
 use Rattle.ctl_formula.proofs.Inside.{inside_more}
 use Rattle.pipe_fields.specs.Layout.{fields_of}

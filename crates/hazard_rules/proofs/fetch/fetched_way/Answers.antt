@@ -1,4 +1,4 @@
-use Rattle.std.proofs.Common.{◌==◌, ◌∙◌, if◌then◌else◌, get_or, false, ap}
+use Rattle.std.proofs.Common.{◌==◌, if◌then◌else◌, get_or, false}
 use Rattle.nets.proofs.Truths.{begins_more}
 use Rattle.dp_signals.specs.PipeNames as names
 use Rattle.ctl_formula.proofs.Inside.{inside_more}

@@ -1,21 +1,14 @@
-use Rattle.std.proofs.Common.{◌≡◌, ◌&&◌, ◌||◌, ◌==◌, ◌∙◌, if◌then◌else◌, not, ap, refl, List, Bool}
-use Rattle.nets.specs.Nets.{truth}
-use Rattle.nets.proofs.Truths.{begins_more, truth_kept, gate_kept}
-use Rattle.ctl_atoms.specs.declared.leaf.Leaf.{Leaf}
+use Rattle.std.proofs.Common.{◌&&◌, ◌==◌, if◌then◌else◌, ap}
+use Rattle.nets.proofs.Truths.{begins_more}
 use Rattle.ctl_atoms.specs.declared.leaf.Leaf.TheVariants.{Name}
 use Rattle.dp_signals.specs.PipeNames as names
 use Rattle.ctl_formula.proofs.Inside.{inside_more}
 use Rattle.pipe_fields.specs.Layout.{fields_of}
-use Rattle.pipe_motion.specs.Gates.{view_at}
-use Rattle.pipe_motion.specs.Slots.{View, path, youngest_stops}
-use Rattle.pipe_motion.proofs.Growing.{grown}
-use Rattle.pipe_motion.proofs.Kept.{view_kept}
 use Rattle.rule_gates.specs.Words as words
-use Rattle.rule_gates.proofs.Kept.{asked_one, asked_two, asked_more, asked_as, asked_gate, tells_less}
+use Rattle.rule_gates.proofs.Kept.{asked_two, asked_more, asked_as, asked_gate}
 use Rattle.pipe_obligations.specs.Stages.{is_jump}
-use Rattle.pipe_obligations.specs.Obligations as spec
 use Rattle.hazard_rules.proofs.Choices.{asked_there, asked_three}
-use Rattle.hazard_rules.proofs.Codes.{choose_other, youngest_by, next_by}
+use Rattle.hazard_rules.proofs.Codes.{choose_other}
 use Rattle.hazard_rules.proofs.fetch.jump_after_m.Goals as goal
 
 pub returns-clause-asked : goal.returns-clause-asked

@@ -1,4 +1,4 @@
-use Rattle.std.proofs.Common.{◌≡◌, ◌<◌, ◌&&◌, nat_lt, false, get_or, length, List, Bool, ℕ}
+use Rattle.std.proofs.Common.{◌≡◌, ◌<◌, ◌&&◌, nat_lt, false, get_or, length, List, Bool}
 use Rattle.nets.specs.Nets.{truth}
 use Rattle.pipe_motion.specs.Grows.{Grows}
 use Rattle.field_bits.specs.Spelling.{spelt}

@@ -1,4 +1,4 @@
-use Rattle.std.proofs.Common.{rules, ◌≡◌, ℕ, ◌+◌, ◌<◌, ◌∙◌, ◌==◌, ◌&&◌, refl, sym, ap, arith}
+use Rattle.std.proofs.Common.{◌∙◌, ◌==◌, ◌&&◌, ap, arith}
 use Rattle.y86_isa.specs.declared.columns.Row.{Row}
 use Rattle.field_bits.specs.Spelling.{spelt}
 use Rattle.pipe_motion.proofs.Growing.{grows_more}

@@ -1,4 +1,4 @@
-use Rattle.std.proofs.Common.{◌≡◌, ◌==◌, not, Bool, true, false, if◌then◌else◌, refl, ◌∙◌}
+use Rattle.std.proofs.Common.{◌≡◌, not, Bool, true, false, if◌then◌else◌, refl, ◌∙◌}
 use Rattle.nets.proofs.Truths.{truth_kept, begins_more}
 use Rattle.pipe_fields.specs.Layout.{fields_of}
 use Rattle.hazard_rules.proofs.front_rules.predicted.Goals as goal

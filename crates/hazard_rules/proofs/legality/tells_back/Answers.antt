@@ -1,4 +1,4 @@
-use Rattle.std.proofs.Common.{rules, ◌≡◌, ◌∙◌, ap, refl, sym, ◌<◌, ◌+◌, Bool, true, false, not, ◌&&◌, ◌||◌, arith}
+use Rattle.std.proofs.Common.{◌≡◌, ◌∙◌, ap, refl, Bool, true, false, not, ◌&&◌, ◌||◌}
 use Rattle.nets.specs.Nets.{agree}
 use Rattle.pipe_motion.proofs.Growing.{grows_more}
 use Rattle.hazard_rules.proofs.Atoms.{has_at}

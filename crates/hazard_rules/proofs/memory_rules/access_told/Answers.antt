@@ -1,7 +1,7 @@
 use Rattle.std.proofs.Common.{◌&&◌, ap}
 use Rattle.rule_gates.proofs.Kept.{asked_as}
 use Rattle.hazard_rules.proofs.Joined.{then_asked}
-use Rattle.nets.proofs.Truths.{truth_kept, begins_more, begins_self}
+use Rattle.nets.proofs.Truths.{truth_kept}
 use Rattle.pipe_fields.specs.Layout.{fields_of}
 use Rattle.nets.specs.Nets.{truth}
 use Rattle.dp_signals.specs.PipeNames.{mem_read, mem_write}

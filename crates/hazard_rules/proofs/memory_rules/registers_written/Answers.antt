@@ -1,6 +1,6 @@
 use Rattle.std.proofs.Common.{◌&&◌, refl}
 use Rattle.rule_gates.proofs.Kept.{asked_as, asked_more, asked_two}
-use Rattle.nets.proofs.Truths.{truth_kept, begins_more, begins_self}
+use Rattle.nets.proofs.Truths.{begins_more}
 use Rattle.ctl_formula.proofs.Inside.{inside_more}
 use Rattle.pipe_fields.specs.Layout.{fields_of}
 use Rattle.hazard_rules.proofs.memory_rules.registers_written.Goals as goal

@@ -1,7 +1,7 @@
 use Rattle.std.proofs.Common.{◌||◌, not, refl}
 use Rattle.rule_gates.proofs.Kept.{asked_as}
 use Rattle.hazard_rules.proofs.Joined.{gate_then_asked, there}
-use Rattle.nets.proofs.Truths.{truth_kept, begins_more, begins_self}
+use Rattle.nets.proofs.Truths.{begins_self}
 use Rattle.hazard_rules.proofs.memory_rules.write_told.Goals as goal
 
 pub returns-clause-asked : goal.returns-clause-asked

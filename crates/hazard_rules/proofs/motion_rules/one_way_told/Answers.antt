@@ -1,5 +1,4 @@
 use Rattle.std.proofs.Common.{ap, ◌∙◌}
-use Rattle.pipe_motion.specs.Gates.{view_at}
 use Rattle.pipe_motion.specs.Slots as motion
 use Rattle.rule_gates.proofs.Kept.{tells_less}
 use Rattle.hazard_rules.proofs.motion_rules.one_way_told.Goals as goal

@@ -1,4 +1,4 @@
-use Rattle.std.proofs.Common.{◌≡◌, ◌∙◌, ◌||◌, ◌&&◌, not, ap}
+use Rattle.std.proofs.Common.{◌∙◌, ◌||◌, ◌&&◌, not, ap}
 use Rattle.pipe_fields.specs.Layout.{fields_of}
 use Rattle.pipe_fields.specs.Allowed.{allowed}
 use Rattle.pipe_motion.specs.Slots.{View}

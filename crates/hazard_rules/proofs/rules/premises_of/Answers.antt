@@ -1,4 +1,4 @@
-use Rattle.std.proofs.Common.{◌≡◌, ◌<◌, ◌≤◌, ◌∙◌, arith}
+use Rattle.std.proofs.Common.{◌∙◌, arith}
 use Rattle.pipe_motion.proofs.Growing.{grows_more}
 use Rattle.pipe_motion.proofs.Kept.{view_kept, view_in}
 use Rattle.hazard_rules.proofs.rules.premises_of.Goals as goal

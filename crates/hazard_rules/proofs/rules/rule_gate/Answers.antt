@@ -1,4 +1,4 @@
-use Rattle.std.proofs.Common.{◌≡◌, ◌∙◌, ap, Bool, if◌then◌else◌}
+use Rattle.std.proofs.Common.{◌∙◌, ap, if◌then◌else◌}
 use Rattle.nets.specs.Nets.{truth}
 use Rattle.ctl_formula.proofs.Inside.{inside_more}
 use Rattle.pipe_fields.specs.Layout.{fields_of}
@@ -28,3 +28,9 @@ returns-clause-told c =
 
 pub returns-clause-grows : goal.returns-clause-grows
 returns-clause-grows c = grows_more _ _ _ (grown c.demand_gate.ensures.begins) c.implies.ensures.grows
+
+pub returns-in_err-demand-clause-grows : goal.returns-in_err-demand-clause-grows
+returns-in_err-demand-clause-grows c = grown c.demand_gate.ensures.begins
+
+pub returns-in_err-g-clause-grows : goal.returns-in_err-g-clause-grows
+returns-in_err-g-clause-grows c = grows_more _ _ _ (grown c.demand_gate.ensures.begins) c.implies.ensures.grows

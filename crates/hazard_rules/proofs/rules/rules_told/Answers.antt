@@ -1,4 +1,4 @@
-use Rattle.std.proofs.Common.{◌≡◌, ◌+◌, ◌<◌, ◌∙◌, refl, arith}
+use Rattle.std.proofs.Common.{◌∙◌, refl, arith}
 use Rattle.ctl_formula.proofs.Inside.{inside_more}
 use Rattle.pipe_motion.proofs.Growing.{grows_more}
 use Rattle.pipe_motion.proofs.Kept.{view_kept, view_in}

@@ -1,4 +1,4 @@
-use Rattle.std.proofs.Common.{◌≡◌, ◌<◌, ◌≤◌, ◌+◌, true, false, length, List, Bool}
+use Rattle.std.proofs.Common.{◌≡◌, ◌<◌, true, false, length, List, Bool}
 use Rattle.nets.specs.Nets.{truth}
 use Rattle.ctl_atoms.specs.Leaves.{Assignment, AtomsAre}
 use Rattle.pipe_fields.specs.Layout.{fields_of}

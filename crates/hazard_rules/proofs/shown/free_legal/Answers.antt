@@ -1,4 +1,4 @@
-use Rattle.std.proofs.Common.{◌≡◌, ◌∙◌, ◌&&◌, not, ap, sym}
+use Rattle.std.proofs.Common.{◌∙◌, ◌&&◌, not, ap, sym}
 use Rattle.pipe_fields.specs.Layout.{fields_of}
 use Rattle.pipe_fields.specs.Allowed.{allowed}
 use Rattle.pipe_motion.specs.declared.settings.Settings.{Settings}

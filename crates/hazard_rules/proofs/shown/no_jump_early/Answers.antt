@@ -1,4 +1,4 @@
-use Rattle.std.proofs.Common.{◌≡◌, ◌∙◌}
+use Rattle.std.proofs.Common.{◌∙◌}
 use Rattle.nets.proofs.Truths.{truth_kept}
 use Rattle.ctl_formula.proofs.Inside.{inside_more}
 use Rattle.pipe_motion.proofs.Growing.{grown}

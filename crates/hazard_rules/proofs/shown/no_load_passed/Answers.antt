@@ -1,12 +1,9 @@
-use Rattle.std.proofs.Common.{◌≡◌, ◌∙◌, ◌&&◌, ◌==◌, not, ap}
-use Rattle.nets.specs.Nets.{truth}
-use Rattle.nets.proofs.Truths.{begins_more, truth_kept}
+use Rattle.std.proofs.Common.{◌∙◌, ◌==◌, not}
+use Rattle.nets.proofs.Truths.{truth_kept}
 use Rattle.y86_isa.specs.Table.{row}
 use Rattle.y86_isa.specs.RowTests.{stores_a}
 use Rattle.ctl_formula.proofs.Inside.{inside_more}
 use Rattle.pipe_fields.specs.Layout.{fields_of}
-use Rattle.pipe_motion.specs.Gates.{movers_at, view_at}
-use Rattle.pipe_motion.specs.Slots.{Movers, View, leaves}
 use Rattle.pipe_motion.proofs.Growing.{grown}
 use Rattle.pipe_motion.proofs.Kept.{view_kept}
 use Rattle.rule_gates.proofs.Kept.{tells_less}

@@ -1,14 +1,12 @@
-use Rattle.std.proofs.Common.{◌≡◌, ◌<◌, ◌∙◌, ◌&&◌, not, ap, refl, arith}
-use Rattle.nets.specs.Nets.{truth}
+use Rattle.std.proofs.Common.{◌∙◌, refl, arith}
 use Rattle.nets.proofs.Truths.{begins_more, truth_kept}
 use Rattle.ctl_formula.proofs.Inside.{inside_more}
 use Rattle.pipe_fields.specs.Layout.{fields_of}
-use Rattle.pipe_motion.specs.Slots.{View}
 use Rattle.pipe_motion.proofs.Growing.{grown, grows_more}
 use Rattle.pipe_motion.proofs.Kept.{view_kept, view_in}
 use Rattle.rule_gates.proofs.Kept.{asked_more}
 use Rattle.pipe_obligations.specs.Obligations.{movers_of}
-use Rattle.pipe_obligations.specs.Settled.{leaves_past_load, may_show, shows_je, shows_lf, shows_rm}
+use Rattle.pipe_obligations.specs.Settled.{shows_je, shows_lf, shows_rm}
 use Rattle.hazard_rules.proofs.Shows.{jump_by, past_by, ret_by}
 use Rattle.hazard_rules.proofs.shown.shown_gates.Goals as goal
 
@@ -63,3 +61,12 @@ returns-clause-ret c =
 
 pub returns-clause-grows : goal.returns-clause-grows
 returns-clause-grows c = grows_more _ _ _ c.free_legal.ensures.grows (grown (begins_more c.no_load_passed.ensures.begins (begins_more c.no_jump_early.ensures.begins c.no_ret_early.ensures.begins)))
+
+pub returns-in_err-lf-clause-grows : goal.returns-in_err-lf-clause-grows
+returns-in_err-lf-clause-grows c = grows_more _ _ _ c.free_legal.ensures.grows (grown c.no_load_passed.ensures.begins)
+
+pub returns-in_err-je-clause-grows : goal.returns-in_err-je-clause-grows
+returns-in_err-je-clause-grows c = grows_more _ _ _ c.free_legal.ensures.grows (grown (begins_more c.no_load_passed.ensures.begins c.no_jump_early.ensures.begins))
+
+pub returns-in_err-rm-clause-grows : goal.returns-in_err-rm-clause-grows
+returns-in_err-rm-clause-grows c = grows_more _ _ _ c.free_legal.ensures.grows (grown (begins_more c.no_load_passed.ensures.begins (begins_more c.no_jump_early.ensures.begins c.no_ret_early.ensures.begins)))

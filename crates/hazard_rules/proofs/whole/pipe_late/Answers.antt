@@ -1,4 +1,4 @@
-use Rattle.std.proofs.Common.{◌≡◌, List, not, refl, sym, subst, true}
+use Rattle.std.proofs.Common.{List, not, refl, sym, subst, true}
 use Rattle.pipe_motion.specs.declared.settings.Settings.{Settings}
 use Rattle.ctl_atoms.specs.declared.leaf.Atom.{Atom}
 use Rattle.hazard_rules.specs.Parts.{AreLate, IsTold}
@@ -9,8 +9,8 @@ use Rattle.hazard_rules.proofs.whole.pipe_late.Goals as goal
 pub shown_gates-requires-clause-free : goal.shown_gates-requires-clause-free
 shown_gates-requires-clause-free c = refl
 
-pub returns-clause-late : goal.returns-clause-late
-returns-clause-late c =
+pub returns-in-Ok-clause-late : goal.returns-in-Ok-clause-late
+returns-in-Ok-clause-late c =
     let e = c.as_slice.ensures.value in
     let gates = c.in-Ok.gates in
     let s : Settings = record { pt = c.args.pt; pb = c.args.pb; tv = c.args.tv; lf = true; je = true; rm = true } in

@@ -1,12 +1,12 @@
-use Rattle.std.proofs.Common.{◌≡◌, List, sym, subst, true, false}
+use Rattle.std.proofs.Common.{List, sym, subst, true, false}
 use Rattle.ctl_atoms.specs.declared.leaf.Atom.{Atom}
 use Rattle.hazard_rules.specs.Parts.{AreClosed, IsTold, TellPredictions}
 use Rattle.pipe_obligations.specs.Settled.{carries}
 use Rattle.hazard_rules.proofs.Designed.{closed_of}
 use Rattle.hazard_rules.proofs.whole.pipe_parts.Goals as goal
 
-pub returns-clause-parts : goal.returns-clause-parts
-returns-clause-parts c =
+pub returns-in-Ok-clause-parts : goal.returns-in-Ok-clause-parts
+returns-in-Ok-clause-parts c =
     let e = c.as_slice.ensures.value in
     let gates = c.in-Ok.gates in
     subst (λ net. AreClosed c.args.v c.args.d.now.terms net gates.pt gates.pb gates.tv) (sym c.finish.ensures)

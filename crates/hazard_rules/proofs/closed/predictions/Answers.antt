@@ -1,0 +1,17 @@
+use Rattle.std.proofs.Common.{◌<◌, length, ◌∙◌, arith}
+use Rattle.std.proofs.lemmas.List.{length-set}
+use Rattle.ctl_formula.proofs.Inside.{inside_more}
+use Rattle.pipe_motion.proofs.Growing.{grows_more}
+use Rattle.hazard_rules.proofs.Listed.{prediction_put}
+use Rattle.hazard_rules.proofs.closed.predictions.Goals as goal
+
+pub loop-i-preserved : goal.loop-i-preserved
+loop-i-preserved c =
+    let old = c.loop-i.invariant in
+    let within : c.loop-i.i < length c.loop-i.gates = omega (arith, c.loop-i-test.true, old.size) in
+    record {
+      size = length-set c.loop-i.gates c.loop-i.i c.in_ok-gate.gate ∙ old.size;
+      grows = grows_more _ _ _ old.grows c.predicts.ensures.grows;
+      told = prediction_put c.args.v c.args.back c.loop-i.gates c.loop-i.i c.in_ok-gate.gate within c.predicts.ensures.grows
+          (inside_more old.grows.begins c.requires.inside) old.told c.in_ok-gate.ensures.told;
+    }
