@@ -9,7 +9,7 @@ use y86_isa::{Access, Next, Row, TermA};
 /// the place of valA to M, carries valA itself there, reads memory, writes it, sets the flags, has a destination only where
 /// its condition holds, uses the ALU.
 #[derive(Clone, Copy, Debug, PartialEq, Eq)]
-pub enum RowTest {
+pub(crate) enum RowTest {
     Ret,
     Jump,
     StoresA,
@@ -23,7 +23,7 @@ pub enum RowTest {
 }
 
 /// The row passes the test.
-pub fn passes(row: &Row, test: RowTest) -> bool
+pub(crate) fn passes(row: &Row, test: RowTest) -> bool
     ensures { result ≡ spec.passes row.now test }
 {
     match test {

@@ -32,7 +32,7 @@ use y86_isa::{Next, Row};
 /// What is asked by an icode and its row: of f_stat, need_regids, need_valC and f_predPC for what is fetched, and of d_srcA,
 /// d_srcB, d_dstE and d_dstM for what stands in D.
 #[derive(Clone, Copy, Debug, PartialEq, Eq)]
-pub enum FrontRule {
+pub(crate) enum FrontRule {
     Status,
     RegisterByte,
     Constant,

@@ -214,7 +214,7 @@ fn stages_tell_back(
 
 /// The cycle stops: the instruction in W is good, and its status isn't 1.
 #[tactic(auto, unfolding(pipe_fields::specs::Layout::fields_of), using(pipe_motion::proofs::Growing::grows_more, pipe_motion::proofs::Growing::grows_self))]
-pub fn stopping_gate(b: &mut NetBuilder) -> Result<u64, Memory>
+pub(crate) fn stopping_gate(b: &mut NetBuilder) -> Result<u64, Memory>
     requires { 107 ≤ b.old.vars }
     ensures within { IfOk result (λ g. g < length b.new.gates) }
     ensures truth { (w : List Bool) → IfOk result (λ g. truth b.new g w ≡ spec.is_stopping (fields_of w)) }
@@ -228,7 +228,7 @@ pub fn stopping_gate(b: &mut NetBuilder) -> Result<u64, Memory>
 
 /// The valuation is legal in a view, at settings of which `tv`, `lf`, `je` and `rm` count.
 #[tactic(auto, unfolding(crate::specs::Built::legal_in), using(pipe_motion::proofs::Growing::grows_more, pipe_motion::proofs::Growing::grows_self))]
-pub fn legal_gate(
+pub(crate) fn legal_gate(
     b: &mut NetBuilder,
     v: Variant,
     tv: bool,

@@ -25,8 +25,4 @@ mod stage_rules;
 mod stages;
 mod whole;
 
-pub use columns::{RowTest, passes};
-pub use legality::{legal_gate, stopping_gate};
-pub use sources::{obligation_10, obligation_11};
-pub use stages::view_gates;
 pub use whole::{Late, Parts, pipe_late, pipe_parts, pipe_rules};

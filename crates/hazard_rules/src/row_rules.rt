@@ -21,7 +21,7 @@ use y86_isa::Row;
 
 /// What is asked by a row: the operands of the ALU in E, its function, the address in M.
 #[derive(Clone, Copy, Debug, PartialEq, Eq)]
-pub enum RowRule {
+pub(crate) enum RowRule {
     OperandA,
     OperandB,
     Function,

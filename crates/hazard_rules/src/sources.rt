@@ -214,7 +214,7 @@ fn stores_late(b: &mut NetBuilder, v: Variant, late: bool) -> Result<u64, Memory
 /// Obligation 10: where a good instruction leaves D, d_valA is valP of a call and a jump, and else the right value of its
 /// source.
 #[tactic(auto, using(crate::proofs::Known::known_d_valA, crate::proofs::Known::known_d_srcA, crate::proofs::Known::known_d_valB, crate::proofs::Known::known_d_srcB, pipe_motion::proofs::Kept::view_in, ctl_formula::proofs::Inside::inside_more, nets::proofs::Truths::begins_more))]
-pub fn obligation_10(
+pub(crate) fn obligation_10(
     b: &mut NetBuilder,
     ctl: &Controls,
     v: Variant,
@@ -249,7 +249,7 @@ pub fn obligation_10(
 
 /// Obligation 11: where a good instruction leaves D, d_valB is the right value of its source.
 #[tactic(auto, using(crate::proofs::Known::known_d_valA, crate::proofs::Known::known_d_srcA, crate::proofs::Known::known_d_valB, crate::proofs::Known::known_d_srcB, pipe_motion::proofs::Kept::view_in, ctl_formula::proofs::Inside::inside_more, nets::proofs::Truths::begins_more))]
-pub fn obligation_11(
+pub(crate) fn obligation_11(
     b: &mut NetBuilder,
     ctl: &Controls,
     v: Variant,

@@ -196,7 +196,7 @@ fn write_slot(b: &mut NetBuilder, v: Variant) -> Result<SlotGates, Memory>
 
 /// What stands in the stages of a valuation.
 #[tactic(auto, unfolding(pipe_obligations::specs::Stages::view_of), using(pipe_motion::proofs::Growing::grows_more, pipe_motion::proofs::Growing::grows_self, pipe_motion::proofs::Kept::slot_kept))]
-pub fn view_gates(b: &mut NetBuilder, v: Variant, s: &Settings) -> Result<ViewGates, Memory>
+pub(crate) fn view_gates(b: &mut NetBuilder, v: Variant, s: &Settings) -> Result<ViewGates, Memory>
     requires { 107 ≤ b.old.vars }
     ensures within { IfOk result (λ r. HasView (length b.new.gates) r) }
     ensures view { (w : List Bool) → IfOk result (λ r. view_at b.new w r ≡ spec.view_of v s.now (fields_of w)) }
