@@ -4,11 +4,21 @@ ghost use Rattle.y86_base.specs.declared.parts.Variant.{Variant};
 ghost use Rattle.ctl_atoms.specs.declared.leaf.Leaf.{Leaf};
 ghost use Rattle.ctl_atoms.specs.declared.leaf.Atom.{Atom};
 ghost use Rattle.ctl_atoms.specs.Leaves.{Assignment};
-ghost use Rattle.pipe_fields.specs.Layout.{Fields};
+ghost use Rattle.pipe_fields.specs.Laws.{of_bubbles};
+ghost use Rattle.pipe_fields.specs.Layout.{FetchLine, Fields};
 ghost use Rattle.pipe_motion.specs.declared.settings.Settings.{Settings};
 ghost use Rattle.pipe_obligations.specs.Rules.{is_asked, obligation};
+ghost use Rattle.pipe_obligations.specs.Stages.{back_told_in_f, is_stopping, legal};
 
 /// A valuation of which an obligation isn't asked meets it.
 pub fn law_of_unasked()
     ensures { (v : Variant) (s : Settings) (atoms : List Atom) (i : ℕ) (c : Fields) (α : Assignment) (cv : ℕ → Leaf) → is_asked v s atoms i c α ≡ false → obligation v s atoms i c α cv ≡ true }
+{}
+
+/// A pipeline of bubbles alone, as at the start, is legal at all settings, where the comparison that tells whether a jump goes
+/// back agrees with the jump that is fetched; and its cycle doesn't stop.
+#[tactic(auto, using(crate::proofs::Start::start_is_legal))]
+pub fn law_of_the_start()
+    ensures legal { (v : Variant) (s : Settings) (atoms : List Atom) (f : FetchLine) (α : Assignment) → back_told_in_f v atoms (of_bubbles f) α ≡ true → legal v s atoms (of_bubbles f) α ≡ true }
+    ensures goes_on { (f : FetchLine) → is_stopping (of_bubbles f) ≡ false }
 {}

@@ -4,4 +4,4 @@
 
 mod laws;
 
-pub use laws::law_of_unasked;
+pub use laws::{law_of_the_start, law_of_unasked};
