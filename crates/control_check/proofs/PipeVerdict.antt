@@ -1,5 +1,5 @@
 -- From what is decided of PIPE's formulas and rules to what a verdict says of the design.
-use Rattle.std.proofs.Common.{◌≡◌, ℕ, zero, suc, ◌+◌, ◌-◌, ◌<◌, ◌≤◌, inl, inr, Bool, true, false, not, List, [], ◌∷◌, length, get_or, slice_get, Option, Some, None, refl, sym, ap, ◌∙◌, subst, arith}
+use Rattle.std.proofs.Common.{◌≡◌, ℕ, zero, suc, ◌+◌, ◌-◌, ◌<◌, ◌≤◌, inl, inr, Bool, true, false, not, List, [], ◌∷◌, length, get_or, slice_get, Some, None, refl, sym, ap, ◌∙◌, subst, arith}
 use Rattle.std.proofs.lemmas.Bool.{false≢true, cases_lt}
 use Rattle.std.proofs.lemmas.List.{get_or_past}
 use Rattle.std.proofs.lemmas.Option.{slice_get_within}
@@ -15,17 +15,18 @@ use Rattle.ctl_atoms.proofs.Solved.{leaves_exist}
 use Rattle.ctl_atoms.specs.declared.leaf.Leaf.{Leaf}
 use Rattle.ctl_formula.specs.Laws.{HasControls}
 use Rattle.ctl_formula.proofs.Solved.{controls_exist}
-use Rattle.pipe_fields.specs.Layout.{Fields, InRange, bit_count, fields_of, number_of, pattern_of}
+use Rattle.pipe_fields.specs.Layout.{bit_count, fields_of, number_of, pattern_of}
 use Rattle.pipe_fields.proofs.Told.{has_pattern, in_range}
 use Rattle.pipe_motion.specs.declared.settings.Settings.{Settings}
 use Rattle.pipe_theorem.specs.Theorem.{PipeControls}
 use Rattle.hazard_rules.specs.Parts.{AreClosed, AreLate, AreRules, IsFormula}
 use Rattle.pipe_obligations.specs.Rules.{obligation}
-use Rattle.pipe_obligations.specs.Settled.{Decides, Everywhere, Holds, IsFalseAt, IsLeastFalse, IsSet, Somewhere, Truth, carries, predicts_taken, shows_je, shows_lf, shows_rm}
+use Rattle.pipe_obligations.specs.Settled.{Decides, Everywhere, IsFalseAt, IsLeastFalse, Somewhere, Truth, carries, predicts_taken, shows_je, shows_lf, shows_rm}
 use Rattle.rule_gates.specs.declared.rules.Rule.{Rule}
-use Rattle.control_check.specs.Decisions.{AreGatesOf, IsAlwaysTrue, IsDecision, IsFirstFalse, IsLeastOf}
+use Rattle.control_check.specs.Decisions.{AreGatesOf, IsAlwaysTrue, IsDecision, IsFirstFalse}
 use Rattle.control_check.specs.declared.decision.Failure.{Failure}
 use Rattle.control_check.specs.PipeVerdicts.{AcceptsPipe, AreDecided, AreSettings, HasGates, IsDecided, RejectsPipe}
+use Rattle.control_check.proofs.OneSettings.{never_accepted, one_list}
 use Rattle.control_check.proofs.AtomBits.{AreApart, apart_added, bits_are, length-truth_bits, told_are, told_by, truth_bits}
 
 module _ (v : Variant) (terms : List Term) (atoms : List Atom) (apart : AreApart atoms) (exists : (field : ℕ → ℕ) (α : Assignment) → HasControls pipe_rows terms field α)
@@ -138,8 +139,8 @@ pub closed_gates : (terms : List Term) (atoms : List Atom) (net : Gates) (gates 
 closed_gates terms atoms net gates f h i lt = (h i lt).within
 
 module _ (v : Variant) (terms : List Term) (ids : List ℕ) (o : IsOrderOf pipe_rows terms ids) where
-  one_list : (a b : List Atom) → AreAtoms pipe_rows terms a → AreAtoms pipe_rows terms b → a ≡ b
-  one_list a b h k = (let some = leaves_exist pipe_rows terms ids o in h.are some.0 some.1 ∙ sym (k.are some.0 some.1))
+  same_list : (a b : List Atom) → AreAtoms pipe_rows terms a → AreAtoms pipe_rows terms b → a ≡ b
+  same_list = one_list terms ids o
 
   apart : (a : List Atom) → AreAtoms pipe_rows terms a → AreApart a
   apart a h = (let some = leaves_exist pipe_rows terms ids o in subst AreApart (sym (h.are some.0 some.1)) (apart_added [] _ tt))
@@ -151,18 +152,20 @@ module _ (v : Variant) (terms : List Term) (ids : List ℕ) (o : IsOrderOf pipe_
       net.vars ≡ bit_count + length late_atoms → IsFormula terms late_atoms net g (λ c α cv. not (f late_atoms c α cv)) → IsDecided net g (not b) →
       Decides b (Somewhere v atoms (PipeControls terms) (f atoms))
   late_decides atoms late_atoms net g f b h k vars formula decided =
-      subst (λ (them : List Atom). Decides b (Somewhere v them (PipeControls terms) (f them))) (one_list late_atoms atoms k h)
+      subst (λ (them : List Atom). Decides b (Somewhere v them (PipeControls terms) (f them))) (same_list late_atoms atoms k h)
       (subst (λ x. Decides x (Somewhere v late_atoms (PipeControls terms) (f late_atoms))) (not_not b)
       (decides_some v terms late_atoms (apart late_atoms k) exists net vars g (f late_atoms) (not b) formula decided))
 
   pub settings_are : (first : Gates) (pt pb : List ℕ) (tv : ℕ) (closed : AreClosed v terms first pt pb tv) (s : Settings) (pt' pb' : List Bool) (tv' : Bool) →
-      s.pt ≡ pt' → s.pb ≡ pb' → s.tv ≡ tv' → AreDecided first pt pt' → AreDecided first pb pb' → IsDecided first tv tv' →
+      length s.pt ≡ 7 → length s.pb ≡ 7 → s.pt ≡ pt' → s.pb ≡ pb' → s.tv ≡ tv' → AreDecided first pt pt' → AreDecided first pb pb' → IsDecided first tv tv' →
       (second : Gates) (lf je rm : ℕ) → AreLate v terms pt' pb' tv' second lf je rm → IsDecided second lf (not s.lf) → IsDecided second je (not s.je) → IsDecided second rm (not s.rm) →
       AreSettings v terms s
-  settings_are first pt pb tv closed s pt' pb' tv' ept epb etv dpt dpb dtv second lf je rm late dlf dje drm =
+  settings_are first pt pb tv closed s pt' pb' tv' forward backward ept epb etv dpt dpb dtv second lf je rm late dlf dje drm =
       record {
         atoms = closed.atoms;
         are = closed.are;
+        forward = forward;
+        backward = backward;
         set = record {
           pt = λ i lt. subst (λ (xs : List Bool). Decides (get_or xs i false) (Everywhere v closed.atoms (PipeControls terms) (predicts_taken v closed.atoms i false))) (sym ept)
               (by_formula (get_or pt i 0) (predicts_taken v closed.atoms i false) (get_or pt' i false) (closed.forward i lt) (dpt i lt));
@@ -188,7 +191,7 @@ module _ (v : Variant) (terms : List Term) (ids : List ℕ) (o : IsOrderOf pipe_
       record {
         settings = settings;
         holds = record {
-          obligations = λ i l h. subst (λ (them : List Atom). Everywhere v them (PipeControls terms) (obligation v s them i)) (one_list rules.atoms settings.atoms rules.are settings.are)
+          obligations = λ i l h. subst (λ (them : List Atom). Everywhere v them (PipeControls terms) (obligation v s them i)) (same_list rules.atoms settings.atoms rules.are settings.are)
               (holds v terms rules.atoms (apart rules.atoms rules.are) exists net rules.vars s list rules.count rules.gates always i l h);
           target = settings.set.tv.yes;
         };
@@ -199,9 +202,11 @@ module _ (v : Variant) (terms : List Term) (ids : List ℕ) (o : IsOrderOf pipe_
   rejects s net list failure settings rules d =
       let number : d.0 + 1 ≡ failure.rule = sym (d.3 ∙ rules.numbers d.0 d.1 d.2.there) in
       let least = first_false v terms rules.atoms (apart rules.atoms rules.are) exists net rules.vars s list rules.count rules.gates d.0 d.1 failure.valuation.bits d.2 in
+      let told = subst (λ (them : List Atom). IsLeastFalse v them (PipeControls terms) s failure.rule failure.valuation.bits) (same_list rules.atoms settings.atoms rules.are settings.are)
+      (subst (λ i. IsLeastFalse v rules.atoms (PipeControls terms) s i failure.valuation.bits) number least) in
       record {
         found = s;
         settings = settings;
-        least = subst (λ (them : List Atom). IsLeastFalse v them (PipeControls terms) s failure.rule failure.valuation.bits) (one_list rules.atoms settings.atoms rules.are settings.are)
-            (subst (λ i. IsLeastFalse v rules.atoms (PipeControls terms) s i failure.valuation.bits) number least);
+        least = told;
+        refused = λ other accepts. never_accepted v terms ids o s other failure.rule failure.valuation.bits settings told accepts;
       }

@@ -2,3 +2,4 @@ pub mod Decisions
 pub mod SeqVerdicts
 pub mod Splitting
 pub mod PipeVerdicts
+pub mod Accepted

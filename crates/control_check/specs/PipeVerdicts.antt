@@ -30,14 +30,16 @@ AreDecided n gates truths = (i : ℕ) → i < 7 → IsDecided n (get_or gates i 
 abbrev pub HasGates : Gates → List ℕ → Type 0
 HasGates n gates = (i : ℕ) → i < 7 → get_or gates i 0 < length n.gates
 
--- the file's settings, with its atoms
+-- the file's settings, with its atoms; a prediction for each of seven ifuns
 pub record AreSettings (v : Variant) (terms : List Term) (s : Settings) : Type 0 where
   pub atoms : List Atom
   pub are : AreAtoms pipe_rows terms atoms
+  pub forward : length s.pt ≡ 7
+  pub backward : length s.pb ≡ 7
   pub set : IsSet v atoms (PipeControls terms) s
 
 -- Yes: every obligation holds of every valuation, at the file's settings. No: one doesn't, and the first such is told with its least
--- valuation.
+-- valuation; so the design is accepted at no settings.
 pub record AcceptsPipe (v : Variant) (terms : List Term) (s : Settings) : Type 0 where
   pub settings : AreSettings v terms s
   pub holds : Holds v settings.atoms (PipeControls terms) s
@@ -46,6 +48,7 @@ pub record RejectsPipe (v : Variant) (terms : List Term) (rule : ℕ) (w : List 
   pub found : Settings
   pub settings : AreSettings v terms found
   pub least : IsLeastFalse v settings.atoms (PipeControls terms) found rule w
+  pub refused : (s : Settings) → AcceptsPipe v terms s → ⊥
 
 abbrev pub IsPipeVerdict : Variant → List Term → Verdict → Type 0
 IsPipeVerdict v terms (Yes s) = AcceptsPipe v terms s

@@ -1,12 +1,16 @@
 //! Verdicts on HCL files: whether every obligation of a datapath holds of every control valuation of a design.
 #![tactic(auto)]
 
+mod accepted;
 mod decision;
+mod laws;
 mod pipe_verdict;
 mod splitting;
 mod verdict;
 
+pub use accepted::{Accepted, accept_pipe};
 pub use decision::{Failure, decide};
+pub use laws::law_of_settings;
 pub use pipe_verdict::{check_pipe, file_settings};
 pub use splitting::decide_in_parts;
 pub use verdict::{CheckFault, Verdict, check_seq};

@@ -101,6 +101,7 @@ fn decide_late(alloc: Global, late: &Late, early: Early) -> Result<Settings, Mem
     requires je { late.now.je < length late.now.net.gates }
     requires rm { late.now.rm < length late.now.net.gates }
     ensures early { IfOk result (λ s. (s.pt ≡ early.pt) × (s.pb ≡ early.pb) × (s.tv ≡ early.tv)) }
+    ensures seven { IfOk result (λ s. (length s.pt ≡ 7) × (length s.pb ≡ 7)) }
     ensures lf { IfOk result (λ s. IsDecided late.now.net late.now.lf (not s.lf)) }
     ensures je { IfOk result (λ s. IsDecided late.now.net late.now.je (not s.je)) }
     ensures rm { IfOk result (λ s. IsDecided late.now.net late.now.rm (not s.rm)) }

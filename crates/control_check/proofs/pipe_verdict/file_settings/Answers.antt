@@ -30,5 +30,5 @@ returns-in-Ok-decide_late-clause-settings c =
     let late = c.in-Ok-pipe_late.late in
     let same = c.in-Ok-decide_late.ensures.early in
     settings_are c.args.variant c.args.design.now.terms c.args.order.now.ids c.requires.ordered parts.net parts.pt parts.pb parts.tv c.in-Ok.ensures.parts
-    c.in-Ok-decide_late.settings early.pt early.pb early.tv same.0 same.1 same.2 c.in-Ok-decide_early.ensures.forward c.in-Ok-decide_early.ensures.backward c.in-Ok-decide_early.ensures.target
+    c.in-Ok-decide_late.settings early.pt early.pb early.tv c.in-Ok-decide_late.ensures.seven.0 c.in-Ok-decide_late.ensures.seven.1 same.0 same.1 same.2 c.in-Ok-decide_early.ensures.forward c.in-Ok-decide_early.ensures.backward c.in-Ok-decide_early.ensures.target
     late.net late.lf late.je late.rm c.in-Ok-pipe_late.ensures.late c.in-Ok-decide_late.ensures.lf c.in-Ok-decide_late.ensures.je c.in-Ok-decide_late.ensures.rm
