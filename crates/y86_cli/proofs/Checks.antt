@@ -7,17 +7,21 @@ use Rattle.ctl_atoms.specs.declared.fault.CtlFault.{CtlFault}
 use Rattle.ctl_atoms.specs.declared.fault.CtlFault.TheVariants as fault
 use Rattle.ctl_atoms.specs.declared.leaf.Atom.{Atom}
 use Rattle.ctl_atoms.proofs.Solved.{leaves_exist}
+use Rattle.control_check.specs.PipeVerdicts as pipe
 use Rattle.control_check.specs.SeqVerdicts.{IsLeastFalseSeq, IsSeqVerdict, IsSeqFault}
 use Rattle.control_check.specs.declared.verdict.Verdict.TheVariants.{No}
+use Rattle.dp_signals.specs.PipeTable.{pipe_rows}
 use Rattle.dp_signals.specs.SeqTable.{seq_rows}
 use Rattle.hcl_types.specs.Tables.{IsOrderOf, row_names}
 use Rattle.hcl_types.specs.declared.table.Row.{Row}
 use Rattle.hcl_types.specs.declared.term.Term.{Term}
 use Rattle.nets.specs.declared.evaluation.Valuation.{Valuation}
-use Rattle.seq_refinement.specs.Accepted.{AcceptedSeq}
+use Rattle.pipe_motion.specs.declared.settings.Settings.{Settings}
+use Rattle.seq_refinement.specs.Accepted.{AcceptedSeq, RefinesSeq}
+use Rattle.verdict_text.specs.PipeLines.{pipe_no, pipe_yes}
 use Rattle.verdict_text.specs.SeqLine.{seq_no}
 use Rattle.y86_base.specs.declared.parts.Variant.{Variant}
-use Rattle.y86_cli.specs.Checks.{RefusesControl, AcceptsSeq, DeniesSeq, SeqChecks}
+use Rattle.y86_cli.specs.Checks.{RefusesControl, AcceptsPipe, AcceptsSeq, DeniesPipe, DeniesSeq, PipeChecks, RefusesPipe, SeqChecks}
 use Rattle.y86_cli.specs.Lines.{blank_names, names_at, names_line}
 use Rattle.y86_cli.specs.Plan.{Answered, done, refused}
 use Rattle.y86_cli.specs.Does.{Says, SinkSeen}
@@ -41,8 +45,8 @@ pub over : (name why : Bor (List ℕ)) (names : Vec ℕ Global) (rows : List Row
 over name why names rows terms many reason told = inr (record { over = many; told = rw (reason, told) refl })
 
 -- the verdicts
-accepted : (name : List ℕ) (v : Variant) (terms : List Term) (a : Answered) → AcceptedSeq v terms → a ≡ done 0 (codes "yes\n") → SeqChecks name v terms a
-accepted name v terms a holds told = inl (record { accepted = holds; told = told })
+accepted : (name : List ℕ) (v : Variant) (terms : List Term) (a : Answered) → AcceptedSeq v terms → RefinesSeq v terms → a ≡ done 0 (codes "yes\n") → SeqChecks name v terms a
+accepted name v terms a holds refines told = inl (record { accepted = holds; refines = refines; told = told })
 
 denied : (name : List ℕ) (v : Variant) (terms : List Term) (ids : List ℕ) (rule : ℕ) (valuation : Valuation) (text : List ℕ) (a : Answered) → IsOrderOf seq_rows terms ids →
     IsSeqVerdict v terms (No rule valuation) →
@@ -59,10 +63,11 @@ denied name v terms ids rule valuation text a order verdict said told =
     }))
 
 -- and as what was said
-pub said_yes : (name : List ℕ) (v : Variant) (terms : List Term) (text : List ℕ) (old new : SinkSeen) (result : Result ℕ code.Stop) → AcceptedSeq v terms → text ≡ codes "yes\n" →
+pub said_yes : (name : List ℕ) (v : Variant) (terms : List Term) (text : List ℕ) (old new : SinkSeen) (result : Result ℕ code.Stop) → AcceptedSeq v terms → RefinesSeq v terms →
+    text ≡ codes "yes\n" →
     Says (λ a. a ≡ done 0 text) old new result → Says (SeqChecks name v terms) old new result
-said_yes name v terms text old new result holds same s =
-    says_more (λ a. a ≡ done 0 text) (SeqChecks name v terms) old new result (λ a told. accepted name v terms a holds (told ∙ ap (done 0) same)) s
+said_yes name v terms text old new result holds refines same s =
+    says_more (λ a. a ≡ done 0 text) (SeqChecks name v terms) old new result (λ a told. accepted name v terms a holds refines (told ∙ ap (done 0) same)) s
 
 pub said_no : (name : List ℕ) (v : Variant) (terms : List Term) (ids : List ℕ) (rule : ℕ) (valuation : Valuation) (text : List ℕ) (old new : SinkSeen) (result : Result ℕ code.Stop) →
     IsOrderOf seq_rows terms ids → IsSeqVerdict v terms (No rule valuation) →
@@ -75,3 +80,51 @@ pub said_refusal : (name : List ℕ) (v : Variant) (terms : List Term) (seen : S
     (stop ≡ Memory) ⊎ ((status_of stop ≡ 5) × RefusesControl name seq_rows terms (answer_at stop)) → Says (SeqChecks name v terms) seen seen (Err stop)
 said_refusal name v terms seen stop (inl memory) = rw memory refl
 said_refusal name v terms seen stop (inr refused) = refusal_says (SeqChecks name v terms) seen stop refused.0 (inr (inr refused.1))
+
+-- ---- the verdicts on PIPE
+
+pub tells_yes : (v : Variant) (terms : List Term) (settings : Settings) (text : List ℕ) → pipe.AcceptsPipe v terms settings → pipe.RefinesPipe v terms →
+    text ≡ pipe_yes settings → AcceptsPipe v terms (done 0 text)
+tells_yes v terms settings text accepted refines is = record { settings = settings; accepted = accepted; refines = refines; told = ap (done 0) is }
+
+pub tells_no : (v : Variant) (terms : List Term) (ids : List ℕ) (rule : ℕ) (valuation : Valuation) (text : List ℕ) → IsOrderOf pipe_rows terms ids →
+    pipe.RejectsPipe v terms rule valuation.bits →
+    (list : List Atom) × AreAtoms pipe_rows terms list × (text ≡ pipe_no (row_names pipe_rows) rule valuation.bits list) → DeniesPipe v terms (done 1 text)
+tells_no v terms ids rule valuation text order rejected said = record {
+  rule = rule;
+  valuation = valuation.bits;
+  rejected = rejected;
+  told =
+      ap (done 1)
+      (said.2
+      ∙ ap (λ (list : List Atom). pipe_no (row_names pipe_rows) rule valuation.bits list)
+      (atoms_one pipe_rows terms ids said.0 rejected.settings.atoms order said.1 rejected.settings.are));
+}
+
+pub said_pipe_yes : (name : List ℕ) (v : Variant) (terms : List Term) (text : List ℕ) (old new : SinkSeen) (result : Result ℕ code.Stop) → AcceptsPipe v terms (done 0 text) →
+    Says (λ a. a ≡ done 0 text) old new result → Says (PipeChecks name v terms) old new result
+said_pipe_yes name v terms text old new result accepts s =
+    says_more (λ a. a ≡ done 0 text) (PipeChecks name v terms) old new result (λ a is. inl (subst (AcceptsPipe v terms) (sym is) accepts)) s
+
+-- a No that ends a check
+pub said_denied : (name : List ℕ) (v : Variant) (terms : List Term) (text : List ℕ) (old new : SinkSeen) (result : Result ℕ code.Stop) → DeniesPipe v terms (done 1 text) →
+    Says (λ a. a ≡ done 1 text) old new result → Says (RefusesPipe name v terms) old new result
+said_denied name v terms text old new result denies s =
+    says_more (λ a. a ≡ done 1 text) (RefusesPipe name v terms) old new result (λ a is. inl (subst (DeniesPipe v terms) (sym is) denies)) s
+
+pub said_pipe_no : (name : List ℕ) (v : Variant) (terms : List Term) (text : List ℕ) (old new : SinkSeen) (result : Result ℕ code.Stop) → DeniesPipe v terms (done 1 text) →
+    Says (λ a. a ≡ done 1 text) old new result → Says (PipeChecks name v terms) old new result
+said_pipe_no name v terms text old new result denies s =
+    says_more (RefusesPipe name v terms) (PipeChecks name v terms) old new result (λ a refused. inr refused) (said_denied name v terms text old new result denies s)
+
+-- a design without control values, as a stop
+pub not_told : (name : List ℕ) (v : Variant) (terms : List Term) (stop : code.Stop) →
+    (stop ≡ Memory) ⊎ ((status_of stop ≡ 5) × RefusesControl name pipe_rows terms (answer_at stop)) →
+    (stop ≡ Memory) ⊎ ((status_of stop ≡ 5) × RefusesPipe name v terms (answer_at stop))
+not_told name v terms stop (inl memory) = inl memory
+not_told name v terms stop (inr refused) = inr (refused.0, inr refused.1)
+
+pub said_pipe_refusal : (name : List ℕ) (v : Variant) (terms : List Term) (seen : SinkSeen) (stop : code.Stop) →
+    (stop ≡ Memory) ⊎ ((status_of stop ≡ 5) × RefusesControl name pipe_rows terms (answer_at stop)) → Says (PipeChecks name v terms) seen seen (Err stop)
+said_pipe_refusal name v terms seen stop (inl memory) = rw memory refl
+said_pipe_refusal name v terms seen stop (inr refused) = refusal_says (PipeChecks name v terms) seen stop refused.0 (inr (inr refused.1))

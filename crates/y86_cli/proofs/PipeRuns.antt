@@ -163,7 +163,7 @@ pub pipe_whole : (v : Variant) (terms : List Term) (order image : List ℕ) (lim
     (first : List ℕ) (last : Machine) (status : ℕ) (before after : SinkSeen) (between : Option (List ℕ)) → first ≡ image → m ≡ pipe.started v terms order image →
     drive.Drives m limit q d records → last ≡ pipe.end_of q → status ≡ run_status d.end → status ≤ 1 →
     Took before.taken between (drive.traced trace records) → Took between after.taken (ran_line d.cycles d.retired ++ report first last d.retired) →
-    after.faults ≡ before.faults → SaidWhole (PipeAnswers v terms limit trace image) before after status
+    after.faults ≡ before.faults → SaidWhole (PipeAnswers v terms limit trace [] image) before after status
 pipe_whole v terms order image limit trace m q d records first last status before after between copied begun drives ended is low traced told no_fault = record {
   answer = done (run_status q.end) (run_text trace image d.cycles (machine q records));
   allowed = (d.cycles, machine q records, runs v terms order image limit m q d records begun drives, refl);
@@ -179,7 +179,7 @@ pub pipe_part : (v : Variant) (terms : List Term) (order image : List ℕ) (limi
     (first : List ℕ) (last : Machine) (before after : SinkSeen) (between : Option (List ℕ)) → first ≡ image → m ≡ pipe.started v terms order image →
     drive.Drives m limit q d records → last ≡ pipe.end_of q →
     Took before.taken between (drive.traced trace records) → TookPart between after.taken (ran_line d.cycles d.retired ++ report first last d.retired) →
-    after.faults ≡ counted before.faults → SaidPart (PipeAnswers v terms limit trace image) before after
+    after.faults ≡ counted before.faults → SaidPart (PipeAnswers v terms limit trace [] image) before after
 pipe_part v terms order image limit trace m q d records first last before after between copied begun drives ended traced told one_fault = record {
   answer = done (run_status q.end) (run_text trace image d.cycles (machine q records));
   allowed = (d.cycles, machine q records, runs v terms order image limit m q d records begun drives, refl);
@@ -199,7 +199,7 @@ traced_parts records rest last more =
 pub pipe_broken : (v : Variant) (terms : List Term) (order image : List ℕ) → IsBound pipe_rows terms → IsOrderOf pipe_rows terms order →
     (limit : ℕ) (trace : Bool) (m q : pipe.Pipe) (before after : SinkSeen) (k : ℕ) (records : List Rec) (last : Rec) (n : ℕ) →
     m ≡ pipe.started v terms order image → drive.Fails m limit trace q before.taken after.taken k records last n →
-    after.faults ≡ counted before.faults → SaidPart (PipeAnswers v terms limit trace image) before after
+    after.faults ≡ counted before.faults → SaidPart (PipeAnswers v terms limit trace [] image) before after
 pipe_broken v terms order image bound ordered limit trace m q before after k records last n begun fails one_fault =
     let goes = (driven v terms order image k q (records ++ last ∷ []) (subst (λ x. drive.Goes x k q (records ++ last ∷ [])) begun fails.goes)).goes in
     let within : k ≤ limit = fails.within in
@@ -217,5 +217,43 @@ pipe_broken v terms order image bound ordered limit trace m q before after k rec
       answer = done (run_status on.last.end) (run_text trace image on.cycles on.last);
       allowed = (on.cycles, on.last, on.runs, refl);
       went = subst (λ x. TookPart before.taken after.taken x) text (part_more _ _ _ told (part_more _ _ _ (drive.traced true on.rest) part));
+      one_fault = one_fault;
+    }
+
+-- ---- behind the text of a verdict
+
+pub behind_whole : (v : Variant) (terms : List Term) (limit : ℕ) (trace : Bool) (verdict image : List ℕ) (before between after : SinkSeen) (status : ℕ) →
+    Took before.taken between.taken verdict → between.faults ≡ before.faults → SaidWhole (PipeAnswers v terms limit trace [] image) between after status →
+    SaidWhole (PipeAnswers v terms limit trace verdict image) before after status
+behind_whole v terms limit trace verdict image before between after status told no_fault s = record {
+  answer = done s.answer.status (verdict ++ s.answer.out);
+  allowed = (s.allowed.0, s.allowed.1, s.allowed.2, ap (λ a. done a.status (verdict ++ a.out)) s.allowed.3);
+  status_is = s.status_is;
+  low = s.low;
+  quiet = refl;
+  went = took_more _ _ _ _ _ told s.went;
+  no_fault = s.no_fault ∙ no_fault;
+}
+
+pub behind_part : (v : Variant) (terms : List Term) (limit : ℕ) (trace : Bool) (verdict image : List ℕ) (before between after : SinkSeen) →
+    Took before.taken between.taken verdict → between.faults ≡ before.faults → SaidPart (PipeAnswers v terms limit trace [] image) between after →
+    SaidPart (PipeAnswers v terms limit trace verdict image) before after
+behind_part v terms limit trace verdict image before between after told no_fault s = record {
+  answer = done s.answer.status (verdict ++ s.answer.out);
+  allowed = (s.allowed.0, s.allowed.1, s.allowed.2, ap (λ a. done a.status (verdict ++ a.out)) s.allowed.3);
+  went = part_after _ _ _ _ _ told s.went;
+  one_fault = s.one_fault ∙ ap counted no_fault;
+}
+
+-- the verdict itself broke off
+pub verdict_broken : (v : Variant) (terms : List Term) (order image : List ℕ) → IsBound pipe_rows terms → IsOrderOf pipe_rows terms order →
+    (limit : ℕ) (trace : Bool) (verdict : List ℕ) (before after : SinkSeen) → TookPart before.taken after.taken verdict →
+    after.faults ≡ counted before.faults → SaidPart (PipeAnswers v terms limit trace verdict image) before after
+verdict_broken v terms order image bound ordered limit trace verdict before after part one_fault =
+    let on = goes_on v terms order image bound ordered limit limit 0 (run.start_pipe image) (omega arith) refl in
+    record {
+      answer = done (run_status on.last.end) (verdict ++ run_text trace image on.cycles on.last);
+      allowed = (on.cycles, on.last, on.runs, refl);
+      went = part_more _ _ _ (run_text trace image on.cycles on.last) part;
       one_fault = one_fault;
     }

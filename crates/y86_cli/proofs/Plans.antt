@@ -10,15 +10,15 @@ use Rattle.yas_asm.specs.declared.fault.AsmFault.{AsmFault}
 use Rattle.yas_asm.specs.declared.listing.Line.{Line}
 use Rattle.yo_object.specs.ObjectText.{object_of}
 use Rattle.yo_object.specs.declared.object.YoFault.{YoFault}
-use Rattle.y86_cli.specs.Answers.{image_of_text, plan_in, plan_of, run_status, text_of_listing, yas_plan, yis_plan, check_seq_plan, hcl_plan, seq_plan, ssim_plan, SeqAnswers, pipe_plan, psim_plan, PipeAnswers, yis_run}
-use Rattle.y86_cli.specs.Checks.{RefusesControl, SeqChecks}
+use Rattle.y86_cli.specs.Answers.{image_of_text, plan_in, plan_of, run_status, text_of_listing, yas_plan, yis_plan, check_pipe_plan, check_seq_plan, checked_plan, hcl_plan, seq_plan, ssim_plan, SeqAnswers, pipe_plan, psim_plan, PipeAnswers, yis_run}
+use Rattle.y86_cli.specs.Checks.{AcceptsPipe, PipeChecks, RefusesControl, RefusesPipe, SeqChecks}
 use Rattle.y86_cli.specs.Designs.{RefusesDesign}
 use Rattle.hcl_types.specs.declared.table.Row.{Row}
 use Rattle.hcl_types.specs.declared.term.Term.{Term}
 use Rattle.dp_signals.specs.SeqTable.{seq_rows}
 use Rattle.dp_signals.specs.PipeTable.{pipe_rows}
 use Rattle.y86_cli.specs.Does.{FilesSeen, SinkSeen}
-use Rattle.y86_cli.specs.Forms.{Command, yas, yis, hcl, ssim, psim, check_seq}
+use Rattle.y86_cli.specs.Forms.{Command, yas, yis, hcl, ssim, psim, check_seq, check_pipe}
 use Rattle.y86_cli.specs.Lines.{assembly_fault_line, object_fault_line, read_fault_line, too_long_line}
 use Rattle.y86_cli.specs.Plan.{Answered, Plan, says, reads, gives, answers, after, refused, Allows, Tells, IsDetermined}
 use Rattle.y86_cli.specs.Ran.{Ran, Told}
@@ -168,9 +168,9 @@ seq_proper : (v : Variant) (terms : List Term) (limit : ℕ) (image : List ℕ) 
 unfolding AllProper
 seq_proper v terms limit image = λ a said. proper_as a _ (inl (run_status_low said.0.stat, refl)) said.3
 
-pipe_proper : (v : Variant) (terms : List Term) (limit : ℕ) (trace : Bool) (image : List ℕ) → AllProper (says (PipeAnswers v terms limit trace image))
+pipe_proper : (v : Variant) (terms : List Term) (limit : ℕ) (trace : Bool) (verdict image : List ℕ) → AllProper (says (PipeAnswers v terms limit trace verdict image))
 unfolding AllProper
-pipe_proper v terms limit trace image = λ a said. proper_as a _ (inl (run_status_low said.1.end, refl)) said.3
+pipe_proper v terms limit trace verdict image = λ a said. proper_as a _ (inl (run_status_low said.1.end, refl)) said.3
 
 design_proper : (name : List ℕ) (rows : List Row) (text : List ℕ) (a : Answered) → RefusesDesign name rows text a → IsProper a
 design_proper name rows text a (inl unread) = refused_proper _ a unread.2
@@ -186,8 +186,29 @@ seq_check_proper name v terms a (inl accepts) = proper_as a _ (inl (lit≤ tt, r
 seq_check_proper name v terms a (inr (inl denied)) = proper_as a _ (inl (lit≤ tt, refl)) denied.told
 seq_check_proper name v terms a (inr (inr refuses)) = control_proper name seq_rows terms a refuses
 
+refuses_pipe_proper : (name : List ℕ) (v : Variant) (terms : List Term) (a : Answered) → RefusesPipe name v terms a → IsProper a
+refuses_pipe_proper name v terms a (inl denied) = proper_as a _ (inl (lit≤ tt, refl)) denied.told
+refuses_pipe_proper name v terms a (inr refuses) = control_proper name pipe_rows terms a refuses
+
+pipe_check_proper : (name : List ℕ) (v : Variant) (terms : List Term) (a : Answered) → PipeChecks name v terms a → IsProper a
+pipe_check_proper name v terms a (inl accepts) = proper_as a _ (inl (lit≤ tt, refl)) accepts.told
+pipe_check_proper name v terms a (inr refuses) = refuses_pipe_proper name v terms a refuses
+
+object_proper : (verdict : List ℕ) (terms : List Term) (object : List ℕ) (size limit : ℕ) (trace : Bool) (v : Variant) →
+    AllProper (pipe_plan verdict terms object size limit trace v)
+unfolding AllProper pipe_plan
+object_proper verdict terms object size limit trace v =
+    λ bytes. after_proper _ _ (λ image. pipe_proper v terms limit trace verdict image) (image_proper object (object_of bytes size))
+
+checked_proper : (name : List ℕ) (terms : List Term) (object : List ℕ) (size limit : ℕ) (trace checked : Bool) (v : Variant) →
+    AllProper (checked_plan name terms object size limit trace checked v)
+unfolding AllProper checked_plan
+checked_proper name terms object size limit trace false v = object_proper [] terms object size limit trace v
+checked_proper name terms object size limit trace true v =
+    (λ yes accepts. object_proper yes terms object size limit trace v, refuses_pipe_proper name v terms)
+
 command_proper : (command : Command) → AllProper (plan_of command)
-unfolding AllProper check_seq_plan yas_plan yis_plan hcl_plan seq_plan ssim_plan pipe_plan psim_plan
+unfolding AllProper check_pipe_plan check_seq_plan yas_plan yis_plan hcl_plan seq_plan ssim_plan psim_plan
 command_proper (yas source size v) =
     λ bytes. after_proper _ _ (λ text. answers_proper _ (inl (lit≤ tt, refl))) (listing_proper source bytes (assembled v bytes size))
 command_proper (yis object size limit v) =
@@ -195,9 +216,10 @@ command_proper (yis object size limit v) =
 command_proper (hcl file) = λ text. (λ tree is. answers_proper _ (inl (lit≤ tt, refl)), λ a refuses. refused_proper _ a refuses.2)
 command_proper (ssim name object size limit v) =
     λ text. (λ terms is bytes. after_proper _ _ (λ image. seq_proper v terms limit image) (image_proper object (object_of bytes size)), design_proper name seq_rows text)
-command_proper (psim name object size limit trace v) =
-    λ text. (λ terms is bytes. after_proper _ _ (λ image. pipe_proper v terms limit trace image) (image_proper object (object_of bytes size)), design_proper name pipe_rows text)
+command_proper (psim name object size limit trace checked v) =
+    λ text. (λ terms is. checked_proper name terms object size limit trace checked v, design_proper name pipe_rows text)
 command_proper (check_seq file v) = λ text. (λ terms is a said. seq_check_proper file v terms a said, design_proper file seq_rows text)
+command_proper (check_pipe file v) = λ text. (λ terms is a said. pipe_check_proper file v terms a said, design_proper file pipe_rows text)
 
 done_of : (a : Answered) → IsProper a → a.status ≤ 1 → a.err ≡ []
 done_of a (inl p) low = p.1

@@ -16,11 +16,11 @@ use Rattle.y86_base.specs.declared.parts.Variant.{Variant}
 use Rattle.y86_base.specs.declared.parts.Variant.TheVariants.{Base}
 use Rattle.y86_base.specs.declared.parts.Variant.TheVariants as variant
 use Rattle.y86_cli.specs.declared.option.Switch.{Switch}
-use Rattle.y86_cli.specs.declared.option.Switch.TheVariants.{Full, Mem, Limit, Trace}
+use Rattle.y86_cli.specs.declared.option.Switch.TheVariants.{Full, Mem, Limit, Trace, Checked}
 use Rattle.y86_cli.specs.Arguments.{Argument, place, switch, arguments, in_front, index_of, Filled, nothing_filled, all_added}
-use Rattle.y86_cli.specs.Forms.{Command, yas, yis, hcl, ssim, psim, check_seq, Form, forms, fits, made, first_fit, form_of}
+use Rattle.y86_cli.specs.Forms.{Command, yas, yis, hcl, ssim, psim, check_seq, check_pipe, Form, forms, fits, made, first_fit, form_of}
 use Rattle.y86_cli.specs.Numbers.{is_number, number_of, number_that, is_run_limit}
-use Rattle.y86_cli.specs.Wording.{IsFileName, IsRunLimit, IsLegal, trace_words, variant_words, words_of, places_of, numbers_of, IsFound, HasForm}
+use Rattle.y86_cli.specs.Wording.{IsFileName, IsRunLimit, IsLegal, trace_words, checked_words, variant_words, words_of, places_of, numbers_of, IsFound, HasForm}
 use Rattle.y86_cli.proofs.Arguments.{place_read, switch_read}
 
 -- ---- the words of a legal command are that command
@@ -65,6 +65,9 @@ file_arguments file rest name = place_read file rest name.1 name.0
 seq_arguments : (rest : List (List ℕ)) → arguments (codes "seq" ∷ rest) ≡ in_front (Some (place (codes "seq"))) (arguments rest)
 seq_arguments rest = file_arguments (codes "seq") rest (omega arith, refl)
 
+pipe_arguments : (rest : List (List ℕ)) → arguments (codes "pipe" ∷ rest) ≡ in_front (Some (place (codes "pipe"))) (arguments rest)
+pipe_arguments rest = file_arguments (codes "pipe") rest (omega arith, refl)
+
 variant_arguments : Variant → List Argument
 variant_arguments variant.Base = []
 variant_arguments variant.Full = switch Full 0 ∷ []
@@ -78,19 +81,30 @@ no_arguments : arguments [] ≡ Some []
 unfolding arguments
 no_arguments = refl
 
-trace_arguments : (trace : Bool) (v : Variant) → List Argument
-trace_arguments false v = variant_arguments v
-trace_arguments true v = switch Trace 0 ∷ variant_arguments v
+trace_arguments : Bool → List Argument
+trace_arguments false = []
+trace_arguments true = switch Trace 0 ∷ []
 
-trace_read : (trace : Bool) (v : Variant) → arguments (trace_words trace ++ variant_words v) ≡ Some (trace_arguments trace v)
-unfolding arguments trace_arguments variant_arguments
-trace_read false variant.Base = refl
-trace_read false variant.Full = refl
-trace_read true variant.Base = refl
-trace_read true variant.Full = refl
+checked_arguments : Bool → List Argument
+checked_arguments false = []
+checked_arguments true = switch Checked 0 ∷ []
+
+run_arguments : Bool → Bool → Variant → List Argument
+run_arguments trace checked v = trace_arguments trace ++ (checked_arguments checked ++ variant_arguments v)
+
+run_read : (trace checked : Bool) (v : Variant) → arguments (trace_words trace ++ (checked_words checked ++ variant_words v)) ≡ Some (run_arguments trace checked v)
+unfolding arguments run_arguments trace_arguments checked_arguments variant_arguments
+run_read false false variant.Base = refl
+run_read false false variant.Full = refl
+run_read false true variant.Base = refl
+run_read false true variant.Full = refl
+run_read true false variant.Base = refl
+run_read true false variant.Full = refl
+run_read true true variant.Base = refl
+run_read true true variant.Full = refl
 
 pub legal_written : (command : Command) → IsLegal command → form_of (words_of command) ≡ Some command
-unfolding form_of first_fit variant_arguments trace_arguments
+unfolding form_of first_fit variant_arguments trace_arguments checked_arguments run_arguments
 legal_written (yas source size variant.Base) legal = rw (file_arguments source _ legal.0, size_arguments size _ legal.1, variant_read variant.Base) refl
 legal_written (yas source size variant.Full) legal = rw (file_arguments source _ legal.0, size_arguments size _ legal.1, variant_read variant.Full) refl
 legal_written (yis object size limit variant.Base) legal =
@@ -102,16 +116,26 @@ legal_written (ssim file object size limit variant.Base) legal =
     rw (file_arguments file _ legal.0, file_arguments object _ legal.1, size_arguments size _ legal.2, limit_arguments limit _ legal.3, variant_read variant.Base) refl
 legal_written (ssim file object size limit variant.Full) legal =
     rw (file_arguments file _ legal.0, file_arguments object _ legal.1, size_arguments size _ legal.2, limit_arguments limit _ legal.3, variant_read variant.Full) refl
-legal_written (psim file object size limit false variant.Base) legal =
-    rw (file_arguments file _ legal.0, file_arguments object _ legal.1, size_arguments size _ legal.2, limit_arguments limit _ legal.3, trace_read false variant.Base) refl
-legal_written (psim file object size limit false variant.Full) legal =
-    rw (file_arguments file _ legal.0, file_arguments object _ legal.1, size_arguments size _ legal.2, limit_arguments limit _ legal.3, trace_read false variant.Full) refl
-legal_written (psim file object size limit true variant.Base) legal =
-    rw (file_arguments file _ legal.0, file_arguments object _ legal.1, size_arguments size _ legal.2, limit_arguments limit _ legal.3, trace_read true variant.Base) refl
-legal_written (psim file object size limit true variant.Full) legal =
-    rw (file_arguments file _ legal.0, file_arguments object _ legal.1, size_arguments size _ legal.2, limit_arguments limit _ legal.3, trace_read true variant.Full) refl
+legal_written (psim file object size limit false false variant.Base) legal =
+    rw (file_arguments file _ legal.0, file_arguments object _ legal.1, size_arguments size _ legal.2, limit_arguments limit _ legal.3, run_read false false variant.Base) refl
+legal_written (psim file object size limit false false variant.Full) legal =
+    rw (file_arguments file _ legal.0, file_arguments object _ legal.1, size_arguments size _ legal.2, limit_arguments limit _ legal.3, run_read false false variant.Full) refl
+legal_written (psim file object size limit false true variant.Base) legal =
+    rw (file_arguments file _ legal.0, file_arguments object _ legal.1, size_arguments size _ legal.2, limit_arguments limit _ legal.3, run_read false true variant.Base) refl
+legal_written (psim file object size limit false true variant.Full) legal =
+    rw (file_arguments file _ legal.0, file_arguments object _ legal.1, size_arguments size _ legal.2, limit_arguments limit _ legal.3, run_read false true variant.Full) refl
+legal_written (psim file object size limit true false variant.Base) legal =
+    rw (file_arguments file _ legal.0, file_arguments object _ legal.1, size_arguments size _ legal.2, limit_arguments limit _ legal.3, run_read true false variant.Base) refl
+legal_written (psim file object size limit true false variant.Full) legal =
+    rw (file_arguments file _ legal.0, file_arguments object _ legal.1, size_arguments size _ legal.2, limit_arguments limit _ legal.3, run_read true false variant.Full) refl
+legal_written (psim file object size limit true true variant.Base) legal =
+    rw (file_arguments file _ legal.0, file_arguments object _ legal.1, size_arguments size _ legal.2, limit_arguments limit _ legal.3, run_read true true variant.Base) refl
+legal_written (psim file object size limit true true variant.Full) legal =
+    rw (file_arguments file _ legal.0, file_arguments object _ legal.1, size_arguments size _ legal.2, limit_arguments limit _ legal.3, run_read true true variant.Full) refl
 legal_written (check_seq file variant.Base) legal = rw (seq_arguments _, file_arguments file _ legal, variant_read variant.Base) refl
 legal_written (check_seq file variant.Full) legal = rw (seq_arguments _, file_arguments file _ legal, variant_read variant.Full) refl
+legal_written (check_pipe file variant.Base) legal = rw (pipe_arguments _, file_arguments file _ legal, variant_read variant.Base) refl
+legal_written (check_pipe file variant.Full) legal = rw (pipe_arguments _, file_arguments file _ legal, variant_read variant.Full) refl
 
 pub defaults_hold : (file : List ℕ) → IsFileName file →
     (form_of (codes "yas" ∷ file ∷ []) ≡ Some (yas file 8192 Base)) × (form_of (codes "yis" ∷ file ∷ []) ≡ Some (yis file 8192 10000 Base))
@@ -120,11 +144,12 @@ defaults_hold file name = (rw (file_arguments file [] name, no_arguments) refl, 
 
 -- ---- words that are a command
 
-index_below : (s : Switch) → index_of s < 4
+index_below : (s : Switch) → index_of s < 5
 index_below Full = omega arith
 index_below Mem = omega arith
 index_below Limit = omega arith
 index_below Trace = omega arith
+index_below Checked = omega arith
 
 -- what is found after more arguments
 pub record Grows (f g : Filled) (more : List Argument) : Type 0 where
@@ -135,18 +160,18 @@ none_added : (rest : List Argument) (g : Filled) → all_added None rest ≡ Som
 none_added [] g e = absurd (cc (e))
 none_added (argument ∷ rest) g e = none_added rest g e
 
-slot_after : (values : List (Option ℕ)) (s t : Switch) (n : ℕ) (more : List ℕ) (b : Bool) → length values ≡ 4 → is_none (get_or values (index_of t) None) ≡ true →
+slot_after : (values : List (Option ℕ)) (s t : Switch) (n : ℕ) (more : List ℕ) (b : Bool) → length values ≡ 5 → is_none (get_or values (index_of t) None) ≡ true →
     eqb (index_of s) (index_of t) ≡ b →
     option_to_list (get_or values (index_of s) None) ++ cond b (n ∷ more) more ≡ option_to_list (get_or (set values (index_of t) (Some n)) (index_of s) None) ++ more
-slot_after values s t n more true four empty e =
+slot_after values s t n more true all_slots empty e =
     let same : index_of s ≡ index_of t = eqb-true (index_of s) (index_of t) e in
-    let inside : index_of t < length values = omega (arith, index_below t, four) in
+    let inside : index_of t < length values = omega (arith, index_below t, all_slots) in
     rw (same, get_or-set_same values (index_of t) (Some n) None inside, is_nothing (get_or values (index_of t) None) empty) refl
   where
     is_nothing : (o : Option ℕ) → is_none o ≡ true → o ≡ None
     is_nothing None h = refl
     is_nothing (Some x) h = absurd (cc (h))
-slot_after values s t n more false four empty e =
+slot_after values s t n more false all_slots empty e =
     rw (get_or-set_other values (index_of t) (index_of s) (Some n) None (λ same. differ same e)) refl
   where
     differ : index_of s ≡ index_of t → eqb (index_of s) (index_of t) ≡ false → ⊥
@@ -155,32 +180,32 @@ slot_after values s t n more false four empty e =
 grows_first : (f g : Filled) (w : List ℕ) (rest : List Argument) → Grows (record f { words = f.words ++ (w ∷ []) }) g rest → Grows f g (place w ∷ rest)
 grows_first f g w rest h = record { words = sym (append_assoc f.words (w ∷ []) (places_of rest)) ∙ h.words; numbers = h.numbers }
 
-grows_switch : (f g : Filled) (t : Switch) (n : ℕ) (rest : List Argument) → length f.values ≡ 4 → is_none (get_or f.values (index_of t) None) ≡ true →
+grows_switch : (f g : Filled) (t : Switch) (n : ℕ) (rest : List Argument) → length f.values ≡ 5 → is_none (get_or f.values (index_of t) None) ≡ true →
     Grows (record f { values = set f.values (index_of t) (Some n) }) g rest → Grows f g (switch t n ∷ rest)
-grows_switch f g t n rest four empty h = record {
+grows_switch f g t n rest all_slots empty h = record {
   words = h.words;
-  numbers = λ s. slot_after f.values s t n (numbers_of s rest) (eqb (index_of s) (index_of t)) four empty refl ∙ h.numbers s;
+  numbers = λ s. slot_after f.values s t n (numbers_of s rest) (eqb (index_of s) (index_of t)) all_slots empty refl ∙ h.numbers s;
 }
 
-grows : (more : List Argument) (f g : Filled) → length f.values ≡ 4 → all_added (Some f) more ≡ Some g → Grows f g more
-grows [] f g four e =
+grows : (more : List Argument) (f g : Filled) → length f.values ≡ 5 → all_added (Some f) more ≡ Some g → Grows f g more
+grows [] f g all_slots e =
     let same : f ≡ g = cc (e) in
     let P : Filled → Type 0 = λ x. Grows f x [] in
     subst P same (record { words = append-nil f.words; numbers = λ s. append-nil _ })
-grows (place w ∷ rest) f g four e = at (ltb (length f.words) 3) (grows rest (record f { words = f.words ++ (w ∷ []) }) g four) e
+grows (place w ∷ rest) f g all_slots e = at (ltb (length f.words) 3) (grows rest (record f { words = f.words ++ (w ∷ []) }) g all_slots) e
   where
     at : (b : Bool) → (all_added (Some (record f { words = f.words ++ (w ∷ []) })) rest ≡ Some g → Grows (record f { words = f.words ++ (w ∷ []) }) g rest) →
         all_added (cond b (Some (record f { words = f.words ++ (w ∷ []) })) None) rest ≡ Some g → Grows f g (place w ∷ rest)
     at true more e = grows_first f g w rest (more e)
     at false more e = absurd (none_added rest g e)
-grows (switch t n ∷ rest) f g four e =
+grows (switch t n ∷ rest) f g all_slots e =
     at (is_none (get_or f.values (index_of t) None)) refl
-    (grows rest (record f { values = set f.values (index_of t) (Some n) }) g (length-set f.values (index_of t) (Some n) ∙ four)) e
+    (grows rest (record f { values = set f.values (index_of t) (Some n) }) g (length-set f.values (index_of t) (Some n) ∙ all_slots)) e
   where
     at : (b : Bool) → is_none (get_or f.values (index_of t) None) ≡ b →
         (all_added (Some (record f { values = set f.values (index_of t) (Some n) })) rest ≡ Some g → Grows (record f { values = set f.values (index_of t) (Some n) }) g rest) →
         all_added (cond b (Some (record f { values = set f.values (index_of t) (Some n) })) None) rest ≡ Some g → Grows f g (switch t n ∷ rest)
-    at true empty more e = grows_switch f g t n rest four empty (more e)
+    at true empty more e = grows_switch f g t n rest all_slots empty (more e)
     at false empty more e = absurd (none_added rest g e)
 
 nothing_at : (s : Switch) → option_to_list (get_or nothing_filled.values (index_of s) None) ≡ []
@@ -188,6 +213,7 @@ nothing_at Full = refl
 nothing_at Mem = refl
 nothing_at Limit = refl
 nothing_at Trace = refl
+nothing_at Checked = refl
 
 all_found : (found : List Argument) (f : Filled) → all_added (Some nothing_filled) found ≡ Some f → IsFound found f
 all_found found f e =

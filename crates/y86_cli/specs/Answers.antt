@@ -1,5 +1,5 @@
 -- What each command answers, as a plan.
-use Rattle.std.specs.Prelude.{◌≡◌, ℕ, Bool, List, length, Option, Some, None, Result, Ok, Err}
+use Rattle.std.specs.Prelude.{◌≡◌, ℕ, Bool, true, false, List, [], ◌++◌, length, Option, Some, None, Result, Ok, Err}
 use Rattle.dp_signals.specs.PipeRun.{Pipe}
 use Rattle.dp_signals.specs.PipeTable.{pipe_rows}
 use Rattle.dp_signals.specs.SeqRun.{SeqRun}
@@ -20,9 +20,9 @@ use Rattle.yis_run.specs.Report.{report}
 use Rattle.yo_object.specs.ObjectText.{object_of}
 use Rattle.yo_object.specs.Printed.{printed}
 use Rattle.yo_object.specs.declared.object.YoFault.{YoFault}
-use Rattle.y86_cli.specs.Checks.{SeqChecks}
+use Rattle.y86_cli.specs.Checks.{AcceptsPipe, PipeChecks, RefusesPipe, SeqChecks}
 use Rattle.y86_cli.specs.Designs.{IsDesign, RefusesDesign, RefusesHcl}
-use Rattle.y86_cli.specs.Forms.{Command, yas, yis, hcl, ssim, psim, check_seq}
+use Rattle.y86_cli.specs.Forms.{Command, yas, yis, hcl, ssim, psim, check_seq, check_pipe}
 use Rattle.y86_cli.specs.Lines.{assembly_fault_line, object_fault_line, usage_line}
 use Rattle.y86_cli.specs.PipeRuns.{RunsTo, run_text}
 use Rattle.y86_cli.specs.Plan.{Answered, Plan, after, answers, done, gives, reads, refused, says}
@@ -61,10 +61,10 @@ abbrev pub SeqAnswers : Variant → List Term → ℕ → List ℕ → Answered 
 SeqAnswers v terms limit image a =
     (end : Machine) × (records : List Rec) × SeqRun v terms image limit end records × (a ≡ done (run_status end.stat) (report image end (length records)))
 
--- the answers to the run of an image on PIPE under a design
-abbrev pub PipeAnswers : Variant → List Term → ℕ → Bool → List ℕ → Answered → Type 0
-PipeAnswers v terms limit trace image a =
-    (cycles : ℕ) × (end : Pipe) × RunsTo v terms image limit cycles end × (a ≡ done (run_status end.end) (run_text trace image cycles end))
+-- the answers to the run of an image on PIPE under a design, behind the text of a verdict
+abbrev pub PipeAnswers : Variant → List Term → ℕ → Bool → List ℕ → List ℕ → Answered → Type 0
+PipeAnswers v terms limit trace verdict image a =
+    (cycles : ℕ) × (end : Pipe) × RunsTo v terms image limit cycles end × (a ≡ done (run_status end.end) (verdict ++ run_text trace image cycles end))
 
 -- ---- the commands
 
@@ -88,27 +88,39 @@ unfoldable pub ssim_plan : List ℕ → List ℕ → ℕ → ℕ → Variant →
 ssim_plan name object size limit v =
     reads name hcl_limit (λ text. gives (IsDesign seq_rows text) (RefusesDesign name seq_rows text) (λ terms. seq_plan terms object size limit v))
 
--- the run of an object file on PIPE under a design
-unfoldable pub pipe_plan : List Term → List ℕ → ℕ → ℕ → Bool → Variant → Plan
-pipe_plan terms object size limit trace v =
-    reads object file_limit (λ bytes. after (image_of_text object (object_of bytes size)) (λ image. says (PipeAnswers v terms limit trace image)))
+-- the run of an object file on PIPE under a design, behind the text of a verdict
+unfoldable pub pipe_plan : List ℕ → List Term → List ℕ → ℕ → ℕ → Bool → Variant → Plan
+pipe_plan verdict terms object size limit trace v =
+    reads object file_limit (λ bytes. after (image_of_text object (object_of bytes size)) (λ image. says (PipeAnswers v terms limit trace verdict image)))
 
-unfoldable pub psim_plan : List ℕ → List ℕ → ℕ → ℕ → Bool → Variant → Plan
-psim_plan name object size limit trace v =
-    reads name hcl_limit (λ text. gives (IsDesign pipe_rows text) (RefusesDesign name pipe_rows text) (λ terms. pipe_plan terms object size limit trace v))
+-- the same where a check may be asked for: then only behind a Yes, which is told first
+unfoldable pub checked_plan : List ℕ → List Term → List ℕ → ℕ → ℕ → Bool → Bool → Variant → Plan
+checked_plan name terms object size limit trace false v = pipe_plan [] terms object size limit trace v
+checked_plan name terms object size limit trace true v =
+    gives (λ yes. AcceptsPipe v terms (done 0 yes)) (RefusesPipe name v terms) (λ yes. pipe_plan yes terms object size limit trace v)
+
+unfoldable pub psim_plan : List ℕ → List ℕ → ℕ → ℕ → Bool → Bool → Variant → Plan
+psim_plan name object size limit trace checked v =
+    reads name hcl_limit (λ text. gives (IsDesign pipe_rows text) (RefusesDesign name pipe_rows text) (λ terms. checked_plan name terms object size limit trace checked v))
 
 -- the verdict on a design for SEQ
 unfoldable pub check_seq_plan : List ℕ → Variant → Plan
 check_seq_plan name v =
     reads name hcl_limit (λ text. gives (IsDesign seq_rows text) (RefusesDesign name seq_rows text) (λ terms. says (SeqChecks name v terms)))
 
+-- the verdict on a design for PIPE
+unfoldable pub check_pipe_plan : List ℕ → Variant → Plan
+check_pipe_plan name v =
+    reads name hcl_limit (λ text. gives (IsDesign pipe_rows text) (RefusesDesign name pipe_rows text) (λ terms. says (PipeChecks name v terms)))
+
 abbrev pub plan_of : Command → Plan
 plan_of (yas source size v) = yas_plan source size v
 plan_of (yis object size limit v) = yis_plan object size limit v
 plan_of (hcl file) = hcl_plan file
 plan_of (ssim name object size limit v) = ssim_plan name object size limit v
-plan_of (psim name object size limit trace v) = psim_plan name object size limit trace v
+plan_of (psim name object size limit trace checked v) = psim_plan name object size limit trace checked v
 plan_of (check_seq name v) = check_seq_plan name v
+plan_of (check_pipe name v) = check_pipe_plan name v
 
 -- the plan of words that are a command or none
 abbrev pub plan_in : Option Command → Plan

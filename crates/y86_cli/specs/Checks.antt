@@ -2,16 +2,22 @@
 use Rattle.std.specs.Prelude.{◌≡◌, ◌⊎◌, ℕ, codes, Bool, List, [], ◌∷◌}
 use Rattle.ctl_atoms.specs.Atoms.{AreAtoms, IsFirstMixed, IsOver64}
 use Rattle.ctl_atoms.specs.declared.leaf.Atom.{Atom}
+use Rattle.control_check.specs.PipeVerdicts as pipe
 use Rattle.control_check.specs.SeqVerdicts.{IsLeastFalseSeq}
+use Rattle.dp_signals.specs.PipeTable.{pipe_rows}
 use Rattle.dp_signals.specs.SeqTable.{seq_rows}
 use Rattle.hcl_types.specs.Tables.{row_names}
 use Rattle.hcl_types.specs.declared.table.Row.{Row}
 use Rattle.hcl_types.specs.declared.term.Term.{Term}
-use Rattle.seq_refinement.specs.Accepted.{AcceptedSeq}
+use Rattle.pipe_motion.specs.declared.settings.Settings.{Settings}
+use Rattle.seq_refinement.specs.Accepted.{AcceptedSeq, RefinesSeq}
+use Rattle.verdict_text.specs.PipeLines.{pipe_no, pipe_yes}
 use Rattle.verdict_text.specs.SeqLine.{seq_no}
 use Rattle.y86_base.specs.declared.parts.Variant.{Variant}
 use Rattle.y86_cli.specs.Lines.{blank_names, names_at, names_line}
 use Rattle.y86_cli.specs.Plan.{Answered, done, refused}
+use Rattle.y86_cli.specs.declared.check.PipeText.{PipeText}
+use Rattle.y86_cli.specs.declared.check.PipeText.TheVariants as pipe_text
 
 -- the refusal of a design in which a definition mixes codes with words: the first is told
 pub record RefusesMixed (name : List ℕ) (rows : List Row) (terms : List Term) (a : Answered) : Type 0 where
@@ -27,9 +33,10 @@ pub record RefusesAtoms (name : List ℕ) (rows : List Row) (terms : List Term) 
 abbrev pub RefusesControl : List ℕ → List Row → List Term → Answered → Type 0
 RefusesControl name rows terms a = RefusesMixed name rows terms a ⊎ RefusesAtoms name rows terms a
 
--- Yes: every obligation holds of the design
+-- Yes: every obligation holds of the design, so its machine is that of the run of instructions
 pub record AcceptsSeq (v : Variant) (terms : List Term) (a : Answered) : Type 0 where
   pub accepted : AcceptedSeq v terms
+  pub refines : RefinesSeq v terms
   pub told : a ≡ done 0 (codes "yes\n")
 
 -- No: the first obligation that is false of some valuation, and the least such valuation
@@ -44,3 +51,30 @@ pub record DeniesSeq (v : Variant) (terms : List Term) (a : Answered) : Type 0 w
 -- the answers to the check of a design for SEQ
 abbrev pub SeqChecks : List ℕ → Variant → List Term → Answered → Type 0
 SeqChecks name v terms a = AcceptsSeq v terms a ⊎ (DeniesSeq v terms a ⊎ RefusesControl name seq_rows terms a)
+
+-- Yes: every obligation holds of the design at its settings, so its pipeline refines the run of instructions
+pub record AcceptsPipe (v : Variant) (terms : List Term) (a : Answered) : Type 0 where
+  pub settings : Settings
+  pub accepted : pipe.AcceptsPipe v terms settings
+  pub refines : pipe.RefinesPipe v terms
+  pub told : a ≡ done 0 (pipe_yes settings)
+
+-- No: the first obligation that is false of some valuation, and the least such valuation, at the design's settings
+pub record DeniesPipe (v : Variant) (terms : List Term) (a : Answered) : Type 0 where
+  pub rule : ℕ
+  pub valuation : List Bool
+  pub rejected : pipe.RejectsPipe v terms rule valuation
+  pub told : a ≡ done 1 (pipe_no (row_names pipe_rows) rule valuation rejected.settings.atoms)
+
+-- the answers that end the check of a design for PIPE without a Yes
+abbrev pub RefusesPipe : List ℕ → Variant → List Term → Answered → Type 0
+RefusesPipe name v terms a = DeniesPipe v terms a ⊎ RefusesControl name pipe_rows terms a
+
+-- the answers to the check of a design for PIPE
+abbrev pub PipeChecks : List ℕ → Variant → List Term → Answered → Type 0
+PipeChecks name v terms a = AcceptsPipe v terms a ⊎ RefusesPipe name v terms a
+
+-- a text tells a Yes or a No of a design for PIPE
+abbrev pub TellsPipe : Variant → List Term → PipeText → Type 0
+TellsPipe v terms (pipe_text.Yes text) = AcceptsPipe v terms (done 0 text.items)
+TellsPipe v terms (pipe_text.No text) = DeniesPipe v terms (done 1 text.items)

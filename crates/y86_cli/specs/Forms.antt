@@ -8,9 +8,9 @@ use Rattle.y86_base.specs.declared.parts.Variant.{Variant}
 use Rattle.y86_base.specs.declared.parts.Variant.TheVariants as variant
 use Rattle.y86_cli.specs.Arguments.{Filled, nothing_filled, index_of, all_added, arguments}
 use Rattle.y86_cli.specs.declared.option.Switch.{Switch}
-use Rattle.y86_cli.specs.declared.option.Switch.TheVariants.{Full, Mem, Limit, Trace}
+use Rattle.y86_cli.specs.declared.option.Switch.TheVariants.{Full, Mem, Limit, Trace, Checked}
 use Rattle.y86_cli.specs.declared.form.Kind.{Kind}
-use Rattle.y86_cli.specs.declared.form.Kind.TheVariants.{Yas, Yis, Hcl, Ssim, Psim, CheckSeq}
+use Rattle.y86_cli.specs.declared.form.Kind.TheVariants.{Yas, Yis, Hcl, Ssim, Psim, CheckSeq, CheckPipe}
 
 -- what a place takes: this word, or the name of a file
 pub data Place : Type 0 where
@@ -33,8 +33,9 @@ forms =
     ∷ row Yis (codes "yis") (file ∷ []) (Full ∷ Mem ∷ Limit ∷ [])
     ∷ row Hcl (codes "hcl") (file ∷ []) []
     ∷ row Ssim (codes "ssim") (file ∷ file ∷ []) (Full ∷ Mem ∷ Limit ∷ [])
-    ∷ row Psim (codes "psim") (file ∷ file ∷ []) (Full ∷ Mem ∷ Limit ∷ Trace ∷ [])
+    ∷ row Psim (codes "psim") (file ∷ file ∷ []) (Full ∷ Mem ∷ Limit ∷ Trace ∷ Checked ∷ [])
     ∷ row CheckSeq (codes "check") (keyword (codes "seq") ∷ file ∷ []) (Full ∷ [])
+    ∷ row CheckPipe (codes "check") (keyword (codes "pipe") ∷ file ∷ []) (Full ∷ [])
     ∷ []
 
 -- ---- the form that words have
@@ -56,7 +57,8 @@ fits_switch options values s = is_none (get_or values (index_of s) None) || list
 abbrev pub fits : Form → List ℕ → Filled → Bool
 fits form name f =
     bytes_eq name form.name && fits_places form.places f.words
-    && (fits_switch form.options f.values Full && fits_switch form.options f.values Mem && fits_switch form.options f.values Limit && fits_switch form.options f.values Trace)
+    && (fits_switch form.options f.values Full && fits_switch form.options f.values Mem && fits_switch form.options f.values Limit && fits_switch form.options f.values Trace
+    && fits_switch form.options f.values Checked)
 
 -- ---- the commands
 
@@ -71,10 +73,13 @@ pub data Command : Type 0 where
   -- run an object file on SEQ under an HCL file: the names of both, the size of the memory in bytes, the limit of cycles, the
   -- instruction set
   ssim : List ℕ → List ℕ → ℕ → ℕ → Variant → Command
-  -- run an object file on PIPE under an HCL file: as for ssim, and whether a trace is asked for
-  psim : List ℕ → List ℕ → ℕ → ℕ → Bool → Variant → Command
+  -- run an object file on PIPE under an HCL file: as for ssim, whether a trace is asked for, and whether the HCL file is to be
+  -- checked first
+  psim : List ℕ → List ℕ → ℕ → ℕ → Bool → Bool → Variant → Command
   -- decide whether SEQ under an HCL file does what its instructions mean: the name of the file, the instruction set
   check_seq : List ℕ → Variant → Command
+  -- the same of PIPE, for the programs that don't store over their own instructions
+  check_pipe : List ℕ → Variant → Command
 
 -- `--full` takes the instruction set with `iaddq`
 abbrev pub variant_with : Option ℕ → Variant
@@ -95,6 +100,10 @@ limit_of f = unwrap_or (get_or f.values (index_of Limit) None) 10000
 abbrev pub trace_of : Filled → Bool
 trace_of f = is_some (get_or f.values (index_of Trace) None)
 
+-- whether a check is asked for
+abbrev pub checked_of : Filled → Bool
+checked_of f = is_some (get_or f.values (index_of Checked) None)
+
 -- the command of a row with what was found
 abbrev pub made : Kind → Filled → Option Command
 made Yas f = option_map (λ source. yas source (size_of f) (variant_of f)) (slice_get f.words 0)
@@ -103,8 +112,9 @@ made Hcl f = option_map hcl (slice_get f.words 0)
 made Ssim f =
     option_and_then (λ file. option_map (λ object. ssim file object (size_of f) (limit_of f) (variant_of f)) (slice_get f.words 1)) (slice_get f.words 0)
 made Psim f =
-    option_and_then (λ file. option_map (λ object. psim file object (size_of f) (limit_of f) (trace_of f) (variant_of f)) (slice_get f.words 1)) (slice_get f.words 0)
+    option_and_then (λ file. option_map (λ object. psim file object (size_of f) (limit_of f) (trace_of f) (checked_of f) (variant_of f)) (slice_get f.words 1)) (slice_get f.words 0)
 made CheckSeq f = option_map (λ file. check_seq file (variant_of f)) (slice_get f.words 1)
+made CheckPipe f = option_map (λ file. check_pipe file (variant_of f)) (slice_get f.words 1)
 
 -- the command of the first row that fits
 unfoldable pub first_fit : List Form → List ℕ → Filled → Option Command

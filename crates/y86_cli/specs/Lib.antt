@@ -1,4 +1,5 @@
 pub mod Answers
+pub mod Agreement
 pub mod Arguments
 pub mod Came
 pub mod Checks

@@ -39,17 +39,24 @@ pub enum Cmd<'a> {
         variant: Variant,
     },
     /// Runs an object file on PIPE under an HCL file, as `Ssim` does on SEQ; with `trace` a line for each instruction that
-    /// retires.
+    /// retires; with `checked` the HCL file is checked first, as by `CheckPipe`, and run only where it is accepted.
     Psim {
         hcl: &'a str,
         obj: &'a str,
         mem: u64,
         limit: u64,
         trace: bool,
+        checked: bool,
         variant: Variant,
     },
     /// Decides whether SEQ under an HCL file does what its instructions mean, for every program.
     CheckSeq {
+        hcl: &'a str,
+        variant: Variant,
+    },
+    /// Decides whether PIPE under an HCL file does what its instructions mean, for every program that doesn't store over
+    /// its own instructions.
+    CheckPipe {
         hcl: &'a str,
         variant: Variant,
     },

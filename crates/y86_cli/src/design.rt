@@ -1,4 +1,6 @@
 ghost use Rattle.std.specs.Prelude.{◌≡◌, ◌≢◌, ◌⊎◌, ◌++◌, ◌∷◌, [], List, ℕ, IfOk, OnOk, map};
+ghost use Rattle.dp_signals.specs.PipeTable.{pipe_rows};
+ghost use Rattle.dp_signals.specs.SeqTable.{seq_rows};
 ghost use Rattle.hcl_types.specs.Tables.{IsBound, IsOrderOf, IsSound, row_names};
 ghost use Rattle.hcl_types.specs.declared.fault.BindWhy.TheVariants.{Memory as OutOfMemory};
 ghost use Rattle.y86_cli.specs.Designs.{IsDesign, RefusesDesign};
@@ -10,6 +12,7 @@ ghost use Rattle.y86_cli.specs.declared.stop.Stop.TheVariants.{Memory as WantOfM
 
 use crate::hcl::read_hcl;
 use crate::stop::{Refusal, Stop};
+use dp_signals::{law_of_tables, pipe_table, seq_table};
 use hcl_order::{OrderFault, order};
 use hcl_types::{BindFault, BindWhy, Design, Order, Row, Table, bind};
 use std::alloc::{AllocError, Global};
@@ -141,4 +144,30 @@ pub fn ordered_design<'a>(
         }
         Err(OrderFault::Memory) => Err(Stop::Memory),
     }
+}
+
+/// The design of an HCL text under a name, over SEQ's table, with an order of its signals.
+pub fn seq_design<'a>(alloc: Global, name: &'a str, source: &[u8]) -> Result<Ordered, Stop<'a>>
+    ensures design { GivesOne (IsDesign seq_rows source.now) (RefusesDesign name.now seq_rows source.now) (λ ordered. ordered.design.terms) result }
+    ensures bound { IfOk result (λ ordered. IsBound seq_rows ordered.design.terms) }
+    ensures order { IfOk result (λ ordered. IsOrderOf seq_rows ordered.design.terms ordered.order.ids) }
+{
+    law_of_tables();
+    let Ok(table) = seq_table(alloc) else {
+        return Err(Stop::Memory);
+    };
+    ordered_design(alloc, name, source, &table)
+}
+
+/// The design of an HCL text under a name, over PIPE's table, with an order of its signals.
+pub fn pipe_design<'a>(alloc: Global, name: &'a str, source: &[u8]) -> Result<Ordered, Stop<'a>>
+    ensures design { GivesOne (IsDesign pipe_rows source.now) (RefusesDesign name.now pipe_rows source.now) (λ ordered. ordered.design.terms) result }
+    ensures bound { IfOk result (λ ordered. IsBound pipe_rows ordered.design.terms) }
+    ensures order { IfOk result (λ ordered. IsOrderOf pipe_rows ordered.design.terms ordered.order.ids) }
+{
+    law_of_tables();
+    let Ok(table) = pipe_table(alloc) else {
+        return Err(Stop::Memory);
+    };
+    ordered_design(alloc, name, source, &table)
 }

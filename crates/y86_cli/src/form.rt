@@ -28,6 +28,7 @@ pub enum Kind {
     Ssim,
     Psim,
     CheckSeq,
+    CheckPipe,
 }
 
 /// A form: the name of its command, the places behind it, in order, and the options, which stand anywhere behind the
@@ -41,7 +42,7 @@ struct Form {
 }
 
 /// The table of the commands.
-static FORMS: [Form; 6] = [
+static FORMS: [Form; 7] = [
     Form {
         kind: Kind::Yas,
         name: "yas",
@@ -70,12 +71,24 @@ static FORMS: [Form; 6] = [
         kind: Kind::Psim,
         name: "psim",
         places: &[Place::File, Place::File],
-        options: &[Switch::Full, Switch::Mem, Switch::Limit, Switch::Trace],
+        options: &[
+            Switch::Full,
+            Switch::Mem,
+            Switch::Limit,
+            Switch::Trace,
+            Switch::Checked,
+        ],
     },
     Form {
         kind: Kind::CheckSeq,
         name: "check",
         places: &[Place::Keyword("seq"), Place::File],
+        options: &[Switch::Full],
+    },
+    Form {
+        kind: Kind::CheckPipe,
+        name: "check",
+        places: &[Place::Keyword("pipe"), Place::File],
         options: &[Switch::Full],
     },
 ];
@@ -133,7 +146,8 @@ fn fits(form: &Form, name: &str, found: &Found<'_>) -> bool
         && (fits_switch(form.options, found, Switch::Full)
             && fits_switch(form.options, found, Switch::Mem)
             && fits_switch(form.options, found, Switch::Limit)
-            && fits_switch(form.options, found, Switch::Trace))
+            && fits_switch(form.options, found, Switch::Trace)
+            && fits_switch(form.options, found, Switch::Checked))
 }
 
 /// The instruction set of a command: with `iaddq` where `--full` is there.
@@ -154,6 +168,7 @@ fn made<'a>(kind: Kind, found: &Found<'a>) -> Option<Cmd<'a>>
     let mem = found.values[1].unwrap_or(8192);
     let limit = found.values[2].unwrap_or(10000);
     let trace = found.values[3].is_some();
+    let checked = found.values[4].is_some();
     let words = found.words.as_slice();
     match kind {
         Kind::Yas => Some(Cmd::Yas {
@@ -183,9 +198,14 @@ fn made<'a>(kind: Kind, found: &Found<'a>) -> Option<Cmd<'a>>
             mem,
             limit,
             trace,
+            checked,
             variant,
         }),
         Kind::CheckSeq => Some(Cmd::CheckSeq {
+            hcl: *words.get(1)?,
+            variant,
+        }),
+        Kind::CheckPipe => Some(Cmd::CheckPipe {
             hcl: *words.get(1)?,
             variant,
         }),

@@ -3,6 +3,8 @@
 
 mod argument;
 mod call;
+#[cfg(test)]
+mod cases;
 mod check;
 mod cmd;
 mod design;

@@ -15,18 +15,21 @@ pub enum Switch {
     Limit,
     /// `--trace`: a line for each instruction that retires.
     Trace,
+    /// `--checked`: the control logic is checked before the run.
+    Checked,
 }
 
 /// Where the number of an option is kept.
 pub fn index_of(switch: Switch) -> usize
     ensures index { result ≡ spec.index_of switch }
-    ensures below { result ≤ 3 }
+    ensures below { result ≤ 4 }
 {
     match switch {
         Switch::Full => 0,
         Switch::Mem => 1,
         Switch::Limit => 2,
         Switch::Trace => 3,
+        Switch::Checked => 4,
     }
 }
 
@@ -46,6 +49,9 @@ pub fn switch_of(word: &str) -> Option<Switch>
     if word == "--trace" {
         return Some(Switch::Trace);
     }
+    if word == "--checked" {
+        return Some(Switch::Checked);
+    }
     None
 }
 
@@ -54,7 +60,7 @@ pub fn takes_number(switch: Switch) -> bool
     ensures { result ≡ is_some (spec.takes switch) }
 {
     match switch {
-        Switch::Full | Switch::Trace => false,
+        Switch::Full | Switch::Trace | Switch::Checked => false,
         Switch::Mem | Switch::Limit => true,
     }
 }
@@ -64,7 +70,7 @@ pub fn number_for(switch: Switch, word: &[u8]) -> Option<u64>
     ensures { result ≡ option_and_then (λ passes. number_that passes word.now) (spec.takes switch) }
 {
     match switch {
-        Switch::Full | Switch::Trace => None,
+        Switch::Full | Switch::Trace | Switch::Checked => None,
         Switch::Mem => image_size(word),
         Switch::Limit => number_within(word, 1, 100_000_000),
     }

@@ -1,25 +1,25 @@
-ghost use Rattle.std.specs.Prelude.{◌≡◌, ◌<◌, ◌≤◌, ◌^◌, ◌++◌, List, ℕ, IfOk, OnOk, OnErr, length};
+ghost use Rattle.std.specs.Prelude.{◌≡◌, ◌<◌, ◌≤◌, ◌^◌, ◌++◌, List, ℕ, OnOk, OnErr, length};
 ghost use Rattle.dp_signals.specs.PipeTable.{pipe_rows};
 ghost use Rattle.hcl_types.specs.Tables.{IsBound, IsOrderOf};
 ghost use Rattle.wb_io.specs.Causes.{counted};
 ghost use Rattle.wb_io.specs.Sinks.{Puts};
 ghost use Rattle.y86_base.specs.Image.{IsSize};
-ghost use Rattle.y86_cli.specs.Answers.{PipeAnswers, pipe_plan, psim_plan};
-ghost use Rattle.y86_cli.specs.Designs.{IsDesign, RefusesDesign};
-ghost use Rattle.y86_cli.specs.Does.{Does, GivesOne, Says, files_seen, sink_seen};
+ghost use Rattle.y86_cli.specs.Answers.{PipeAnswers, checked_plan, pipe_plan, psim_plan};
+ghost use Rattle.y86_cli.specs.Does.{Does, Says, files_seen, sink_seen};
 ghost use Rattle.y86_cli.specs.PipeRuns.{ran_line};
 ghost use Rattle.yis_run.specs.Report as text;
 
-use crate::design::{Ordered, ordered_design};
+use crate::check::{PipeText, pipe_verdict};
+use crate::design::{Ordered, pipe_design};
 use crate::files::{FILE_LIMIT, HCL_LIMIT, read_file};
+use crate::say::say;
 use crate::stop::Stop;
 use crate::yis::{load_image, status};
-use dp_signals::{law_of_tables, pipe_table};
 use hcl_compile::compile;
 use pipe_path::Pipe;
 use retire_trace::{Drove, drive};
 use std::alloc::Global;
-use wb_io::{Failed, Files, Sink, put_pieces};
+use wb_io::{Failed, Files, Sink, put_all, put_pieces};
 use y86_base::{Image, Numeral, Variant};
 use yis_run::{End, report};
 
@@ -55,8 +55,8 @@ fn put_end<O: Sink>(drove: Drove, first: &Image, end: &End<'_>, out: &mut O) -> 
     report(first, end, drove.retired, out)
 }
 
-/// Runs an image on PIPE, with a trace where it is asked for, and writes the counts and the report. All memory is taken before the first
-/// cycle.
+/// Writes the text of a verdict, runs an image on PIPE, with a trace where it is asked for, and writes the counts and the
+/// report. All memory is taken before anything is written.
 pub fn run_pipe<'a, O: Sink>(
     alloc: Global,
     variant: Variant,
@@ -64,12 +64,13 @@ pub fn run_pipe<'a, O: Sink>(
     image: Image,
     limit: u64,
     trace: bool,
+    verdict: &[u8],
     out: &mut O,
 ) -> Result<u8, Stop<'a>>
     requires bound { IsBound pipe_rows ordered.design.terms }
     requires order { IsOrderOf pipe_rows ordered.design.terms ordered.order.ids }
     requires limit { limit < 2 ^ 63 }
-    ensures { Says (PipeAnswers variant ordered.design.terms limit trace image)
+    ensures { Says (PipeAnswers variant ordered.design.terms limit trace verdict.now image)
         (sink_seen (O.taken out.old) (O.faults out.old)) (sink_seen (O.taken out.new) (O.faults out.new)) result }
 {
     let Ok(first) = image.copy(alloc) else {
@@ -80,6 +81,10 @@ pub fn run_pipe<'a, O: Sink>(
         return Err(Stop::Memory);
     };
     let mut machine = Pipe::new(variant, design, order, compiled, image);
+    match put_all(out, verdict) {
+        Ok(()) => {}
+        Err(_) => return Err(Stop::Write),
+    }
     let drove = match drive(&mut machine, limit, trace, out) {
         Ok(drove) => drove,
         Err(_) => return Err(Stop::Write),
@@ -91,20 +96,7 @@ pub fn run_pipe<'a, O: Sink>(
     }
 }
 
-/// The design of an HCL text under a name, over PIPE's table, with an order of its signals.
-fn pipe_design<'a>(alloc: Global, name: &'a str, source: &[u8]) -> Result<Ordered, Stop<'a>>
-    ensures design { GivesOne (IsDesign pipe_rows source.now) (RefusesDesign name.now pipe_rows source.now) (λ ordered. ordered.design.terms) result }
-    ensures bound { IfOk result (λ ordered. IsBound pipe_rows ordered.design.terms) }
-    ensures order { IfOk result (λ ordered. IsOrderOf pipe_rows ordered.design.terms ordered.order.ids) }
-{
-    law_of_tables();
-    let Ok(table) = pipe_table(alloc) else {
-        return Err(Stop::Memory);
-    };
-    ordered_design(alloc, name, source, &table)
-}
-
-/// Reads an object file and runs it on PIPE under a design.
+/// Reads an object file and runs it on PIPE under a design, behind the text of a verdict.
 fn run_object<'a, F: Files, O: Sink>(
     alloc: Global,
     variant: Variant,
@@ -113,6 +105,7 @@ fn run_object<'a, F: Files, O: Sink>(
     mem: u64,
     limit: u64,
     trace: bool,
+    verdict: &[u8],
     files: &mut F,
     out: &mut O,
 ) -> Result<u8, Stop<'a>>
@@ -120,7 +113,7 @@ fn run_object<'a, F: Files, O: Sink>(
     requires limit { limit ≤ 100000000 }
     requires bound { IsBound pipe_rows ordered.design.terms }
     requires order { IsOrderOf pipe_rows ordered.design.terms ordered.order.ids }
-    ensures { Does (pipe_plan ordered.design.terms obj.now mem limit trace variant)
+    ensures { Does (pipe_plan verdict.now ordered.design.terms obj.now mem limit trace variant)
         (files_seen (F.told files.old) (F.faults files.old)) (files_seen (F.told files.new) (F.faults files.new))
         (sink_seen (O.taken out.old) (O.faults out.old)) (sink_seen (O.taken out.new) (O.faults out.new)) result }
 {
@@ -132,10 +125,56 @@ fn run_object<'a, F: Files, O: Sink>(
         Ok(image) => image,
         Err(stop) => return Err(stop),
     };
-    run_pipe(alloc, variant, ordered, image, limit, trace, out)
+    run_pipe(alloc, variant, ordered, image, limit, trace, verdict, out)
 }
 
-/// `psim`: runs an object file on PIPE under an HCL file.
+/// Reads an object file and runs it on PIPE under a design. Where a check is asked for, the design is checked first; behind
+/// a No nothing is read or run.
+fn run_checked<'a, F: Files, O: Sink>(
+    alloc: Global,
+    name: &'a str,
+    variant: Variant,
+    ordered: Ordered,
+    obj: &'a str,
+    mem: u64,
+    limit: u64,
+    trace: bool,
+    checked: bool,
+    files: &mut F,
+    out: &mut O,
+) -> Result<u8, Stop<'a>>
+    requires size { IsSize mem }
+    requires limit { limit ≤ 100000000 }
+    requires bound { IsBound pipe_rows ordered.design.terms }
+    requires order { IsOrderOf pipe_rows ordered.design.terms ordered.order.ids }
+    ensures { Does (checked_plan name.now ordered.design.terms obj.now mem limit trace checked variant)
+        (files_seen (F.told files.old) (F.faults files.old)) (files_seen (F.told files.new) (F.faults files.new))
+        (sink_seen (O.taken out.old) (O.faults out.old)) (sink_seen (O.taken out.new) (O.faults out.new)) result }
+{
+    if !checked {
+        return run_object(
+            alloc, variant, ordered, obj, mem, limit, trace, b"", files, out,
+        );
+    }
+    match pipe_verdict(alloc, name, variant, &ordered) {
+        Ok(PipeText::Yes(text)) => run_object(
+            alloc,
+            variant,
+            ordered,
+            obj,
+            mem,
+            limit,
+            trace,
+            text.as_slice(),
+            files,
+            out,
+        ),
+        Ok(PipeText::No(text)) => say(1, text.as_slice(), out),
+        Err(stop) => Err(stop),
+    }
+}
+
+/// `psim`: runs an object file on PIPE under an HCL file, which is checked first where that is asked for.
 pub fn psim<'a, F: Files, O: Sink>(
     alloc: Global,
     name: &'a str,
@@ -143,13 +182,14 @@ pub fn psim<'a, F: Files, O: Sink>(
     mem: u64,
     limit: u64,
     trace: bool,
+    checked: bool,
     variant: Variant,
     files: &mut F,
     out: &mut O,
 ) -> Result<u8, Stop<'a>>
     requires size { IsSize mem }
     requires limit { limit ≤ 100000000 }
-    ensures { Does (psim_plan name.now obj.now mem limit trace variant)
+    ensures { Does (psim_plan name.now obj.now mem limit trace checked variant)
         (files_seen (F.told files.old) (F.faults files.old)) (files_seen (F.told files.new) (F.faults files.new))
         (sink_seen (O.taken out.old) (O.faults out.old)) (sink_seen (O.taken out.new) (O.faults out.new)) result }
 {
@@ -161,5 +201,7 @@ pub fn psim<'a, F: Files, O: Sink>(
         Ok(ordered) => ordered,
         Err(stop) => return Err(stop),
     };
-    run_object(alloc, variant, ordered, obj, mem, limit, trace, files, out)
+    run_checked(
+        alloc, name, variant, ordered, obj, mem, limit, trace, checked, files, out,
+    )
 }

@@ -7,7 +7,7 @@ ghost use Rattle.y86_cli.specs.Stops.{line_of, status_of};
 ghost use Rattle.y86_cli.specs.Views.{command_in};
 ghost use Rattle.y86_cli.specs.Wording.{IsLegal};
 
-use crate::check::check_seq_file;
+use crate::check::{check_pipe_file, check_seq_file};
 use crate::cmd::{Cmd, Usage, words};
 use crate::hcl::hcl;
 use crate::psim::psim;
@@ -59,9 +59,13 @@ fn execute<'a, F: Files, O: Sink>(
             mem,
             limit,
             trace,
+            checked,
             variant,
-        } => psim(alloc, name, obj, mem, limit, trace, variant, files, out),
+        } => psim(
+            alloc, name, obj, mem, limit, trace, checked, variant, files, out,
+        ),
         Cmd::CheckSeq { hcl: name, variant } => check_seq_file(alloc, name, variant, files, out),
+        Cmd::CheckPipe { hcl: name, variant } => check_pipe_file(alloc, name, variant, files, out),
     }
 }
 

@@ -114,7 +114,7 @@ bool W_bubble = 0;
 ";
 
 /// What `examples/nb.hcl` changes: PIPE without bypassing.
-const NB: &[u8] = b"word d_valA = [ D_icode in { ICALL, IJXX } : D_valP; 1 : d_rvalA; ];
+pub const NB: &[u8] = b"word d_valA = [ D_icode in { ICALL, IJXX } : D_valP; 1 : d_rvalA; ];
 word d_valB = d_rvalB;
 bool F_stall = (d_srcA != RNONE && d_srcA in { e_dstE, E_dstM, M_dstE, M_dstM, W_dstE, W_dstM } || d_srcB != RNONE && d_srcB in { e_dstE, E_dstM, M_dstE, M_dstM, W_dstE, W_dstM })
   || IRET in { D_icode, E_icode, M_icode };
@@ -127,7 +127,7 @@ bool E_bubble = (E_icode == IJXX && !e_Cnd)
 ";
 
 /// What `examples/lf.hcl` changes: PIPE with load forwarding.
-const LF: &[u8] =
+pub const LF: &[u8] =
     b"word e_valA = [ M_dstM == E_srcA && E_icode in { IRMMOVQ, IPUSHQ } : m_valM; 1 : E_valA; ];
 bool F_stall = (E_icode in { IMRMOVQ, IPOPQ } && (E_dstM == d_srcB || E_dstM == d_srcA && !D_icode in { IRMMOVQ, IPUSHQ }))
   || IRET in { D_icode, E_icode, M_icode };
@@ -140,7 +140,7 @@ bool E_bubble = (E_icode == IJXX && !e_Cnd)
 ";
 
 /// What `examples/nt.hcl` changes: jumps predicted not taken.
-const NT: &[u8] =
+pub const NT: &[u8] =
     b"word f_pc = [ M_icode == IJXX && M_ifun != UNCOND && M_Cnd : M_valE; W_icode == IRET : W_valM; 1 : F_predPC; ];
 word f_predPC = [ f_icode == ICALL || f_icode == IJXX && f_ifun == UNCOND : f_valC; 1 : f_valP; ];
 word aluA = [ E_icode in { IRRMOVQ, IOPQ } : E_valA; E_icode in { IIRMOVQ, IRMMOVQ, IMRMOVQ, IJXX } : E_valC;
@@ -158,20 +158,41 @@ bool E_bubble = (E_icode == IJXX && E_ifun != UNCOND && e_Cnd)
 ";
 
 /// A decode register that a load behind its use and a ret stall and bubble at once.
-const BOTH: &[u8] =
+pub const BOTH: &[u8] =
     b"bool D_bubble = E_icode == IJXX && !e_Cnd || IRET in { D_icode, E_icode, M_icode };
 ";
 
 /// An empty pipeline that fetches nothing.
-const STUCK: &[u8] = b"bool F_stall = E_icode in { IMRMOVQ, IPOPQ } && E_dstM in { d_srcA, d_srcB }
+pub const STUCK: &[u8] =
+    b"bool F_stall = E_icode in { IMRMOVQ, IPOPQ } && E_dstM in { d_srcA, d_srcB }
   || IRET in { D_icode, E_icode, M_icode } || D_icode == INOP && E_icode == INOP && M_icode == INOP && W_icode == INOP;
 bool D_bubble = E_icode == IJXX && !e_Cnd
   || !(E_icode in { IMRMOVQ, IPOPQ } && E_dstM in { d_srcA, d_srcB })
      && IRET in { D_icode, E_icode, M_icode } || D_icode == INOP && E_icode == INOP && M_icode == INOP && W_icode == INOP;
 ";
 
+/// The No of a register that is stalled and bubbled.
+pub const BOTH_AT_ONCE: &[u8] = b"no O23
+F error=0 icode=0 ifun=0 taken=0 stops=0 back=0
+D good stat=1 icode=9 ifun=0 rA=15 rB=15 taken=0 stops=0 back=0
+E good stat=1 icode=5 ifun=0 dstE=15 dstM=4 srcA=15 srcB=0 cnd=1 stops=0 back=0
+M bubble stat=0 icode=1 ifun=0 dstE=15 dstM=15 cnd=0 error=0 back=0
+W bubble stat=0 icode=1 dstE=15 dstM=15
+atoms
+";
+
+/// The No of a design that doesn't know `iaddq`.
+pub const NO_IADDQ: &[u8] = b"no O2
+F error=0 icode=12 ifun=0 taken=0 stops=0 back=0
+D bubble stat=0 icode=1 ifun=0 rA=15 rB=15 taken=0 stops=0 back=0
+E bubble stat=0 icode=1 ifun=0 dstE=15 dstM=15 srcA=15 srcB=15 cnd=1 stops=0 back=0
+M bubble stat=0 icode=1 ifun=0 dstE=15 dstM=15 cnd=0 error=0 back=0
+W bubble stat=0 icode=1 dstE=15 dstM=15
+atoms
+";
+
 /// The declarations of a file for the book's simulators.
-const DECLARED: &[u8] = b"quote '#include <stdio.h>'
+pub const DECLARED: &[u8] = b"quote '#include <stdio.h>'
 intsig E_icode 'id_ex_curr->icode'
 wordsig F_predPC 'pc_curr->pc'
 wordsig f_icode 'if_id_next->icode'
@@ -484,6 +505,85 @@ static STOPPED: [Simulation; 8] = [
     },
 ];
 
+/// The Yes of PIPE's design, and with it what `psim` writes of one halt.
+const HALTED: &[u8] =
+    b"yes pt=1111111 pb=1111111 tv=0 lf=0 je=0 rm=0\nRan 5 cycles, retired 1 instructions\nStopped in 1 steps at PC = 0x0.  Status 'HLT', CC Z=1 S=0 O=0\nChanges to registers:\n\nChanges to memory:\n";
+
+/// Runs behind a check: nothing is written before the object file is loaded, and behind a No it isn't read.
+static CHECKED: [Simulation; 7] = [
+    Simulation {
+        shows: "a Yes, and the run",
+        words: &["psim", "h.hcl", "p.yo", "--checked"],
+        logic: Logic::Pipe,
+        object: b"0x000: 00\n",
+        status: 0,
+        out: HALTED,
+        err: b"",
+    },
+    Simulation {
+        shows: "a Yes, the trace, and a run that stops at its limit",
+        words: &[
+            "psim",
+            "--checked",
+            "--trace",
+            "h.hcl",
+            "p.yo",
+            "--limit",
+            "5",
+        ],
+        logic: Logic::Changed(NT),
+        object: b"0x000: 10\n0x001: 00\n",
+        status: 1,
+        out: b"yes pt=1000000 pb=1000000 tv=1 lf=0 je=0 rm=0\n0x000 10 100 AOK\nRan 5 cycles, retired 1 instructions\nStopped in 1 steps at PC = 0x5.  Status 'AOK', CC Z=1 S=0 O=0\nChanges to registers:\n\nChanges to memory:\n",
+        err: b"",
+    },
+    Simulation {
+        shows: "a No, before a missing object file",
+        words: &["psim", "h.hcl", "q.yo", "--checked"],
+        logic: Logic::Changed(BOTH),
+        object: b"",
+        status: 1,
+        out: BOTH_AT_ONCE,
+        err: b"",
+    },
+    Simulation {
+        shows: "a No for the larger instruction set",
+        words: &["psim", "h.hcl", "q.yo", "--checked", "--full"],
+        logic: Logic::Pipe,
+        object: b"",
+        status: 1,
+        out: NO_IADDQ,
+        err: b"",
+    },
+    Simulation {
+        shows: "no Yes before a missing object file",
+        words: &["psim", "h.hcl", "q.yo", "--checked"],
+        logic: Logic::Pipe,
+        object: b"",
+        status: 3,
+        out: b"",
+        err: b"read fault q.yo\n",
+    },
+    Simulation {
+        shows: "no Yes before an object file with a fault",
+        words: &["psim", "h.hcl", "p.yo", "--checked"],
+        logic: Logic::Pipe,
+        object: b"0x000: 0\n",
+        status: 5,
+        out: b"",
+        err: b"p.yo:1: OddDigits\n",
+    },
+    Simulation {
+        shows: "a code compared with a word can't be checked",
+        words: &["psim", "h.hcl", "q.yo", "--checked"],
+        logic: Logic::Changed(b"bool F_bubble = E_icode == E_valC;\n"),
+        object: b"",
+        status: 5,
+        out: b"",
+        err: b"h.hcl: Mixed F_bubble\n",
+    },
+];
+
 /// PIPE's control logic with other definitions in place of those of the same name.
 fn changed(alloc: Global, base: &[u8], definitions: &[u8]) -> Result<Vec<u8>, Fail> {
     let mut text = Vec::from_slice(alloc, definitions)?;
@@ -544,6 +644,10 @@ fn stopped() -> &'static [Simulation] {
     &STOPPED
 }
 
+fn behind_a_check() -> &'static [Simulation] {
+    &CHECKED
+}
+
 fn files_with(alloc: Global, hcl: &[u8], object: &[u8]) -> Result<MemFiles, Fail> {
     let mut files = MemFiles::new(alloc, Vec::new(alloc));
     files.add("h.hcl", hcl)?;
@@ -577,31 +681,54 @@ fn runs_of_the_datapaths(rt: HostRuntime) -> Result<(), Fail> {
     check_all(&rt, rt.alloc(), on_pipe())?;
     check_all(&rt, rt.alloc(), more_on_pipe())?;
     check_all(&rt, rt.alloc(), with_changes())?;
-    check_all(&rt, rt.alloc(), stopped())
+    check_all(&rt, rt.alloc(), stopped())?;
+    check_all(&rt, rt.alloc(), behind_a_check())
 }
 
-/// A run with its trace whose write of this number fails: a proper prefix of the text went out, with status 4, or there was no such
+/// A call whose write of this number fails: a proper prefix of the text went out, with status 4, or there was no such
 /// write.
-fn check_write(rt: &impl Abort, alloc: Global, number: u64) -> Result<bool, Fail> {
-    let words = words_of(alloc, &["psim", "h.hcl", "p.yo", "--trace"])?;
-    let mut files = files_with(alloc, STD, ADDITION)?;
+fn check_write(
+    rt: &impl Abort,
+    alloc: Global,
+    words: &[&str],
+    object: &[u8],
+    text: &[u8],
+    number: u64,
+) -> Result<bool, Fail> {
+    let words = words_of(alloc, words)?;
+    let mut files = files_with(alloc, STD, object)?;
     let mut out = sink(alloc, &[number], 4096)?;
     let mut err = sink(alloc, &[], 256)?;
     let status = run(alloc, words.as_slice(), &mut files, &mut out, &mut err);
-    assert!(rt; ADDED.starts_with(out.bytes()));
+    assert!(rt; text.starts_with(out.bytes()));
     assert!(rt; err.bytes().is_empty());
-    let failed = out.bytes().len() < ADDED.len();
+    let failed = out.bytes().len() < text.len();
     assert_eq!(rt; status, if failed { 4 } else { 0 });
     Ok(failed)
 }
 
+/// The same of an addition with its trace.
+fn check_trace(rt: &impl Abort, alloc: Global, number: u64) -> Result<bool, Fail> {
+    let words = ["psim", "h.hcl", "p.yo", "--trace"];
+    check_write(rt, alloc, &words, ADDITION, ADDED, number)
+}
+
+/// The same of a halt behind a check.
+fn check_checked(rt: &impl Abort, alloc: Global, number: u64) -> Result<bool, Fail> {
+    let words = ["psim", "h.hcl", "p.yo", "--checked"];
+    check_write(rt, alloc, &words, b"0x000: 00\n", HALTED, number)
+}
+
 #[test]
-fn writes_of_a_trace_that_fail(rt: HostRuntime) -> Result<(), Fail> {
-    assert!(rt; check_write(&rt, rt.alloc(), 0)?);
-    assert!(rt; check_write(&rt, rt.alloc(), 40)?);
-    assert!(rt; !check_write(&rt, rt.alloc(), 200)?);
+fn writes_of_a_run_that_fail(rt: HostRuntime) -> Result<(), Fail> {
+    assert!(rt; check_trace(&rt, rt.alloc(), 0)?);
+    assert!(rt; check_trace(&rt, rt.alloc(), 40)?);
+    assert!(rt; !check_trace(&rt, rt.alloc(), 200)?);
     for number in 0..200 {
-        let _ = check_write(&rt, rt.alloc(), number)?;
+        let _ = check_trace(&rt, rt.alloc(), number)?;
     }
+    assert!(rt; check_checked(&rt, rt.alloc(), 0)?);
+    assert!(rt; check_checked(&rt, rt.alloc(), 1)?);
+    assert!(rt; !check_checked(&rt, rt.alloc(), 100)?);
     Ok(())
 }

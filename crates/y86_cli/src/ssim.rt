@@ -1,39 +1,20 @@
-ghost use Rattle.std.specs.Prelude.{◌≡◌, List, ℕ, IfOk};
+ghost use Rattle.std.specs.Prelude.{◌≡◌, List, ℕ};
 ghost use Rattle.dp_signals.specs.SeqTable.{seq_rows};
 ghost use Rattle.hcl_types.specs.Tables.{IsBound, IsOrderOf};
 ghost use Rattle.y86_base.specs.Image.{IsSize};
 ghost use Rattle.y86_cli.specs.Answers.{SeqAnswers, seq_plan, ssim_plan};
-ghost use Rattle.y86_cli.specs.Designs.{IsDesign, RefusesDesign};
-ghost use Rattle.y86_cli.specs.Does.{Does, GivesOne, Says, files_seen, sink_seen};
+ghost use Rattle.y86_cli.specs.Does.{Does, Says, files_seen, sink_seen};
 
-use crate::design::{Ordered, ordered_design};
+use crate::design::{Ordered, seq_design};
 use crate::files::{FILE_LIMIT, HCL_LIMIT, read_file};
 use crate::stop::Stop;
 use crate::yis::{load_image, status};
-use dp_signals::{law_of_tables, seq_table};
 use hcl_compile::compile;
 use seq_path::{Seq, run};
 use std::alloc::Global;
 use wb_io::{Files, Sink};
 use y86_base::{Image, Variant};
 use yis_run::report;
-
-/// The design of an HCL text under a name, over SEQ's table, with an order of its signals.
-pub(crate) fn seq_design<'a>(
-    alloc: Global,
-    name: &'a str,
-    source: &[u8],
-) -> Result<Ordered, Stop<'a>>
-    ensures design { GivesOne (IsDesign seq_rows source.now) (RefusesDesign name.now seq_rows source.now) (λ ordered. ordered.design.terms) result }
-    ensures bound { IfOk result (λ ordered. IsBound seq_rows ordered.design.terms) }
-    ensures order { IfOk result (λ ordered. IsOrderOf seq_rows ordered.design.terms ordered.order.ids) }
-{
-    law_of_tables();
-    let Ok(table) = seq_table(alloc) else {
-        return Err(Stop::Memory);
-    };
-    ordered_design(alloc, name, source, &table)
-}
 
 /// Runs an image on SEQ and writes the report. All memory is taken before the first cycle.
 fn run_seq<'a, O: Sink>(

@@ -1,6 +1,8 @@
 //! Calls of the program that check control logic, over files and sinks in memory. The lines of a No were worked out by
 //! hand from the instruction table: the least line of fields at which the obligation is false, 0 before 1.
-use crate::simulations::{Logic, Simulation, check_all};
+use crate::simulations::{
+    BOTH, BOTH_AT_ONCE, DECLARED, LF, Logic, NB, NO_IADDQ, NT, STUCK, Simulation, check_all,
+};
 use std::test::Fail;
 
 /// Checks of SEQ's design with one definition in place of its own.
@@ -247,6 +249,210 @@ static ON_SEQ: [Simulation; 24] = [
     },
 ];
 
+/// The Yes of a design that predicts jumps as taken and has no other peculiarity.
+const YES: &[u8] = b"yes pt=1111111 pb=1111111 tv=0 lf=0 je=0 rm=0\n";
+
+/// What `examples/bt.hcl` changes: jumps predicted taken where they go back.
+const BT: &[u8] =
+    b"word f_pc = [ M_icode == IJXX && M_ifun != UNCOND && M_valE < M_valA && !M_Cnd : M_valA;
+  M_icode == IJXX && M_ifun != UNCOND && M_valE >= M_valA && M_Cnd : M_valE;
+  W_icode == IRET : W_valM; 1 : F_predPC; ];
+word f_predPC = [ f_icode == ICALL || f_icode == IJXX && (f_ifun == UNCOND || f_valC < f_valP) : f_valC;
+  1 : f_valP; ];
+word aluA = [ E_icode in { IRRMOVQ, IOPQ } : E_valA; E_icode in { IIRMOVQ, IRMMOVQ, IMRMOVQ, IJXX } : E_valC;
+  E_icode in { ICALL, IPUSHQ } : -8; E_icode in { IRET, IPOPQ } : 8; ];
+word aluB = [ E_icode in { IRMMOVQ, IMRMOVQ, IOPQ, ICALL, IPUSHQ, IRET, IPOPQ } : E_valB;
+  E_icode in { IRRMOVQ, IIRMOVQ, IJXX } : 0; ];
+bool D_bubble = (E_icode == IJXX && E_ifun != UNCOND && (E_valC < E_valA && !e_Cnd || E_valC >= E_valA && e_Cnd))
+  || !(E_icode in { IMRMOVQ, IPOPQ } && E_dstM in { d_srcA, d_srcB })
+     && IRET in { D_icode, E_icode, M_icode };
+bool E_bubble = (E_icode == IJXX && E_ifun != UNCOND && (E_valC < E_valA && !e_Cnd || E_valC >= E_valA && e_Cnd))
+  || (E_icode in { IMRMOVQ, IPOPQ } && E_dstM in { d_srcA, d_srcB });
+";
+
+/// What `examples/fu.hcl` changes: PIPE with `iaddq`.
+const FU: &[u8] = b"bool instr_valid = f_icode in { INOP, IHALT, IRRMOVQ, IIRMOVQ, IRMMOVQ, IMRMOVQ,
+  IOPQ, IJXX, ICALL, IRET, IPUSHQ, IPOPQ, IIADDQ };
+bool need_regids = f_icode in { IRRMOVQ, IOPQ, IPUSHQ, IPOPQ, IIRMOVQ, IRMMOVQ, IMRMOVQ, IIADDQ };
+bool need_valC = f_icode in { IIRMOVQ, IRMMOVQ, IMRMOVQ, IJXX, ICALL, IIADDQ };
+word d_srcB = [ D_icode in { IOPQ, IRMMOVQ, IMRMOVQ, IIADDQ } : D_rB;
+  D_icode in { IPUSHQ, IPOPQ, ICALL, IRET } : RRSP; 1 : RNONE; ];
+word d_dstE = [ D_icode in { IRRMOVQ, IIRMOVQ, IOPQ, IIADDQ } : D_rB;
+  D_icode in { IPUSHQ, IPOPQ, ICALL, IRET } : RRSP; 1 : RNONE; ];
+word aluA = [ E_icode in { IRRMOVQ, IOPQ } : E_valA; E_icode in { IIRMOVQ, IRMMOVQ, IMRMOVQ, IIADDQ } : E_valC;
+  E_icode in { ICALL, IPUSHQ } : -8; E_icode in { IRET, IPOPQ } : 8; ];
+word aluB = [ E_icode in { IRMMOVQ, IMRMOVQ, IOPQ, ICALL, IPUSHQ, IRET, IPOPQ, IIADDQ } : E_valB;
+  E_icode in { IRRMOVQ, IIRMOVQ } : 0; ];
+bool set_cc = E_icode in { IOPQ, IIADDQ } && !m_stat in { SADR, SINS, SHLT } && !W_stat in { SADR, SINS, SHLT };
+";
+
+/// Checks of PIPE's design with definitions in place of its own.
+static ON_PIPE: [Simulation; 15] = [
+    Simulation {
+        shows: "the pipeline of the book",
+        words: &["check", "pipe", "h.hcl"],
+        logic: Logic::Pipe,
+        object: b"",
+        status: 0,
+        out: YES,
+        err: b"",
+    },
+    Simulation {
+        shows: "without bypassing",
+        words: &["check", "pipe", "h.hcl"],
+        logic: Logic::Changed(NB),
+        object: b"",
+        status: 0,
+        out: YES,
+        err: b"",
+    },
+    Simulation {
+        shows: "with load forwarding",
+        words: &["check", "pipe", "h.hcl"],
+        logic: Logic::Changed(LF),
+        object: b"",
+        status: 0,
+        out: b"yes pt=1111111 pb=1111111 tv=0 lf=1 je=0 rm=0\n",
+        err: b"",
+    },
+    Simulation {
+        shows: "predicted not taken",
+        words: &["check", "pipe", "h.hcl"],
+        logic: Logic::Changed(NT),
+        object: b"",
+        status: 0,
+        out: b"yes pt=1000000 pb=1000000 tv=1 lf=0 je=0 rm=0\n",
+        err: b"",
+    },
+    Simulation {
+        shows: "predicted taken where they go back",
+        words: &["check", "pipe", "h.hcl"],
+        logic: Logic::Changed(BT),
+        object: b"",
+        status: 0,
+        out: b"yes pt=1000000 pb=1111111 tv=1 lf=0 je=0 rm=0\n",
+        err: b"",
+    },
+    Simulation {
+        shows: "with iaddq",
+        words: &["check", "--full", "pipe", "h.hcl"],
+        logic: Logic::Changed(FU),
+        object: b"",
+        status: 0,
+        out: YES,
+        err: b"",
+    },
+    Simulation {
+        shows: "declarations before the definitions",
+        words: &["check", "pipe", "h.hcl"],
+        logic: Logic::Changed(DECLARED),
+        object: b"",
+        status: 0,
+        out: YES,
+        err: b"",
+    },
+    Simulation {
+        shows: "a design that doesn't know iaddq",
+        words: &["check", "pipe", "h.hcl", "--full"],
+        logic: Logic::Pipe,
+        object: b"",
+        status: 1,
+        out: NO_IADDQ,
+        err: b"",
+    },
+    Simulation {
+        shows: "a load behind its use and a ret stall and bubble D at once",
+        words: &["check", "pipe", "h.hcl"],
+        logic: Logic::Changed(BOTH),
+        object: b"",
+        status: 1,
+        out: BOTH_AT_ONCE,
+        err: b"",
+    },
+    Simulation {
+        shows: "popq of the stack pointer: the sum before the loaded word",
+        words: &["check", "pipe", "h.hcl"],
+        logic: Logic::Changed(
+            b"word d_valA = [ D_icode in { ICALL, IJXX } : D_valP; d_srcA == e_dstE : e_valE;
+  d_srcA == M_dstE : M_valE; d_srcA == M_dstM : m_valM;
+  d_srcA == W_dstM : W_valM; d_srcA == W_dstE : W_valE; 1 : d_rvalA; ];
+",
+        ),
+        object: b"",
+        status: 1,
+        out: b"no O10
+F error=0 icode=0 ifun=0 taken=0 stops=0 back=0
+D good stat=1 icode=2 ifun=0 rA=4 rB=0 taken=0 stops=0 back=0
+E bubble stat=0 icode=1 ifun=0 dstE=15 dstM=15 srcA=15 srcB=15 cnd=1 stops=0 back=0
+M good stat=1 icode=11 ifun=0 dstE=4 dstM=4 cnd=1 error=0 back=0
+W bubble stat=0 icode=1 dstE=15 dstM=15
+atoms
+",
+        err: b"",
+    },
+    Simulation {
+        shows: "flags set behind an instruction that stops",
+        words: &["check", "pipe", "h.hcl"],
+        logic: Logic::Changed(b"bool set_cc = E_icode == IOPQ;\n"),
+        object: b"",
+        status: 1,
+        out: b"no O15
+F error=0 icode=0 ifun=0 taken=0 stops=0 back=0
+D bubble stat=0 icode=1 ifun=0 rA=15 rB=15 taken=0 stops=0 back=0
+E wrong stat=1 icode=6 ifun=0 dstE=0 dstM=15 srcA=0 srcB=0 cnd=1 stops=0 back=0
+M bubble stat=0 icode=1 ifun=0 dstE=15 dstM=15 cnd=0 error=0 back=0
+W good stat=2 icode=0 dstE=15 dstM=15
+atoms
+",
+        err: b"",
+    },
+    Simulation {
+        shows: "an empty pipeline that fetches nothing",
+        words: &["check", "pipe", "h.hcl"],
+        logic: Logic::Changed(STUCK),
+        object: b"",
+        status: 1,
+        out: b"no O27
+F error=0 icode=0 ifun=0 taken=0 stops=0 back=0
+D bubble stat=0 icode=1 ifun=0 rA=15 rB=15 taken=0 stops=0 back=0
+E bubble stat=0 icode=1 ifun=0 dstE=15 dstM=15 srcA=15 srcB=15 cnd=1 stops=0 back=0
+M bubble stat=0 icode=1 ifun=0 dstE=15 dstM=15 cnd=0 error=0 back=0
+W bubble stat=0 icode=1 dstE=15 dstM=15
+atoms
+",
+        err: b"",
+    },
+    Simulation {
+        shows: "a code compared with a word",
+        words: &["check", "pipe", "h.hcl"],
+        logic: Logic::Changed(b"bool F_bubble = E_icode == E_valC;\n"),
+        object: b"",
+        status: 5,
+        out: b"",
+        err: b"h.hcl: Mixed F_bubble\n",
+    },
+    Simulation {
+        shows: "more comparisons of words than a check takes",
+        words: &["check", "pipe", "h.hcl"],
+        logic: Logic::Changed(
+            b"bool F_bubble = F_predPC in { 2, 3, 4, 5, 6, 7, 8, 9, 10, 11, 12, 13, 14, 15, 16, 17, 18, 19, 20, 21, 22, 23, 24, 25, 26, 27, 28, 29, 30, 31, 32, 33, 34, 35, 36, 37, 38, 39, 40, 41, 42, 43, 44, 45, 46, 47, 48, 49, 50, 51, 52, 53, 54, 55, 56, 57, 58, 59, 60, 61, 62, 63, 64, 65, 66 };\n",
+        ),
+        object: b"",
+        status: 5,
+        out: b"",
+        err: b"h.hcl: AtomsOver64\n",
+    },
+    Simulation {
+        shows: "a cycle of names",
+        words: &["check", "pipe", "h.hcl"],
+        logic: Logic::Changed(b"bool D_stall = D_bubble;\nbool D_bubble = D_stall;\n"),
+        object: b"",
+        status: 5,
+        out: b"",
+        err: b"h.hcl: Cycle D_stall D_bubble\n",
+    },
+];
+
 fn on_seq() -> &'static [Simulation] {
     &ON_SEQ
 }
@@ -254,4 +460,13 @@ fn on_seq() -> &'static [Simulation] {
 #[test]
 fn verdicts_on_the_sequential_processor(rt: HostRuntime) -> Result<(), Fail> {
     check_all(&rt, rt.alloc(), on_seq())
+}
+
+fn on_pipe() -> &'static [Simulation] {
+    &ON_PIPE
+}
+
+#[test]
+fn verdicts_on_the_pipeline(rt: HostRuntime) -> Result<(), Fail> {
+    check_all(&rt, rt.alloc(), on_pipe())
 }

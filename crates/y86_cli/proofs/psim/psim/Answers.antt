@@ -16,4 +16,4 @@ pub returns : goal.returns
 unfolding psim_plan
 returns g c =
     read_goes_on _ _ _ _ _ _ _ _ _ _ c.read_file.ensures.later c.in-Ok.ensures.bytes.0 c.in-Ok.ensures.bytes.1
-    (one_goes_on _ _ c.in-Ok-pipe_design.ordered.design.terms _ _ _ _ _ _ (rw c.as_slice.ensures.value at c.in-Ok-pipe_design.ensures.design) c.run_object.ensures)
+    (one_goes_on _ _ c.in-Ok-pipe_design.ordered.design.terms _ _ _ _ _ _ (rw c.as_slice.ensures.value at c.in-Ok-pipe_design.ensures.design) c.run_checked.ensures)

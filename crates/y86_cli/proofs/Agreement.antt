@@ -1,0 +1,190 @@
+-- What the answers of `check`, and of `psim` behind a check, say of the run of instructions.
+use Rattle.std.proofs.Common.{◌≡◌, ◌≢◌, ◌⊎◌, ℕ, zero, suc, ◌≤◌, Bool, true, List, ◌++◌, length, refl, sym, ap, subst, ◌∙◌, inl, inr, Option, Some, Result, Ok, Err, lit≤, arith}
+use Rattle.dp_signals.specs.PipeRun.{Pipe, PipeRun}
+use Rattle.dp_signals.specs.PipeTable.{pipe_rows}
+use Rattle.dp_signals.specs.SeqTable.{seq_rows}
+use Rattle.hcl_types.specs.declared.table.Row.{Row}
+use Rattle.hcl_types.specs.declared.term.Term.{Term}
+use Rattle.pipe_refinement.specs.Refines.{Refines, StopsAs}
+use Rattle.retire_trace.specs.Drive.{traced}
+use Rattle.verdict_text.specs.PipeLines.{pipe_yes}
+use Rattle.wb_io.specs.Files.{HasBytes}
+use Rattle.wb_io.specs.Sinks.{Took}
+use Rattle.y86_base.specs.Image.{IsSize}
+use Rattle.y86_base.specs.declared.parts.Variant.{Variant}
+use Rattle.y86_isa.specs.Run.{run}
+use Rattle.y86_isa.specs.declared.machine.Machine.{Machine}
+use Rattle.yis_run.specs.Report.{register_lines, report}
+use Rattle.yo_object.specs.ObjectText.{object_of}
+use Rattle.yo_object.specs.declared.object.YoFault.{YoFault}
+use Rattle.y86_cli.specs.Agreement.{Agrees, HasAccepted, HasAcceptedSeq, RanAccepted, ToldNo}
+use Rattle.y86_cli.specs.Answers.{PipeAnswers, check_pipe_plan, check_seq_plan, checked_plan, image_of_text, pipe_plan, psim_plan}
+use Rattle.y86_cli.specs.Checks.{AcceptsPipe, RefusesControl}
+use Rattle.y86_cli.specs.Designs.{IsDesign, RefusesDesign}
+use Rattle.y86_cli.specs.Does.{FilesSeen, SinkSeen}
+use Rattle.y86_cli.specs.Forms.{check_pipe, check_seq, psim}
+use Rattle.y86_cli.specs.Lines.{object_fault_line}
+use Rattle.y86_cli.specs.Plan.{Answered, MayAnswer, after, done, refused}
+use Rattle.y86_cli.specs.PipeRuns.{Goes, end_of, run_text}
+use Rattle.y86_cli.specs.Ran.{Ran}
+use Rattle.y86_cli.proofs.Loaded.{loaded_is_image}
+
+-- ---- a run that goes on to its end is a run
+
+pipe_run : (v : Variant) (terms : List Term) (image : List ℕ) (k : ℕ) (p : Pipe) → Goes v terms image k p → PipeRun v terms image k p
+pipe_run v terms image zero p goes = goes
+pipe_run v terms image (suc k) p goes = (goes.0, pipe_run v terms image k goes.0 goes.1, goes.3)
+
+end_is : (p : Pipe) (m : Machine) → StopsAs p m → end_of p ≡ m
+end_is p m stops = rw (stops.registers, stops.flags, stops.pc, stops.stat, stops.memory) refl
+
+agree : (v : Variant) (terms : List Term) (image : List ℕ) (trace : Bool) (k : ℕ) (p : Pipe) → Refines v terms image k → Goes v terms image k p →
+    Agrees v image trace p
+agree v terms image trace k p refines goes =
+    let ran = pipe_run v terms image k p goes in
+    record {
+      trace_lines = ap (traced trace) (refines.records p ran);
+      lines_of_registers = ap register_lines (refines.registers p ran);
+      whole_report = λ stopped. ap (λ m. report image m (length p.records)) (end_is p (run v image (length p.records)) (refines.stop p ran stopped));
+    }
+
+-- ---- answers with status 0 or 1
+
+high : (a : Answered) (n : ℕ) (line : List ℕ) → a ≡ refused n line → 2 ≤ n → a.status ≤ 1 → ⊥
+high a n line same big low = let is : a.status ≡ n = ap (λ x. x.status) same in omega (arith, is, big, low)
+
+design_high : (name : List ℕ) (rows : List Row) (text : List ℕ) (a : Answered) → RefusesDesign name rows text a → a.status ≤ 1 → ⊥
+design_high name rows text a (inl unread) low = high a 5 _ unread.2 (lit≤ tt) low
+design_high name rows text a (inr (inl unbound)) low = high a 5 _ unbound.told (lit≤ tt) low
+design_high name rows text a (inr (inr unordered)) low = high a 5 _ unordered.told (lit≤ tt) low
+
+control_high : (name : List ℕ) (rows : List Row) (terms : List Term) (a : Answered) → RefusesControl name rows terms a → a.status ≤ 1 → ⊥
+control_high name rows terms a (inl mixed) low = high a 5 _ mixed.told (lit≤ tt) low
+control_high name rows terms a (inr over) low = high a 5 _ over.told (lit≤ tt) low
+
+loads_ok : (name : List ℕ) (loaded : Result (List ℕ) YoFault) (image : List ℕ) → image_of_text name loaded ≡ Ok image → loaded ≡ Ok image
+loads_ok name (Ok one) image e = let same : one ≡ image = cc (e) in ap Ok same
+loads_ok name (Err fault) image e = absurd (cc (e))
+
+load_high : (name : List ℕ) (loaded : Result (List ℕ) YoFault) (a : Answered) → image_of_text name loaded ≡ Err a → a.status ≤ 1 → ⊥
+load_high name (Ok image) a e low = absurd (cc (e))
+load_high name (Err fault) a e low = let same : refused 5 (object_fault_line name fault) ≡ a = cc (e) in high a 5 _ (sym same) (lit≤ tt) low
+
+-- ---- `check pipe`
+
+has_accepted : (v : Variant) (told : Option (Option (List ℕ))) (text : List ℕ) (terms : List Term) (a : Answered) → HasBytes told text → IsDesign pipe_rows text terms →
+    AcceptsPipe v terms a → HasAccepted v told
+has_accepted v told text terms a has design accepts =
+    record { text = text; has = has; terms = terms; design = design; settings = accepts.settings; accepted = accepts.accepted; refines = accepts.refines }
+
+check_told : (told : List ℕ → Option (Option (List ℕ))) (name : List ℕ) (v : Variant) (a : Answered) → MayAnswer told (check_pipe_plan name v) a → a.status ≡ 0 →
+    HasAccepted v (told name)
+unfolding check_pipe_plan
+check_told told name v a (inl failed) none = absurd (high a 3 _ failed.1 (lit≤ tt) (omega (arith, none)))
+check_told told name v a (inr (inl long)) none = absurd (high a 7 _ long.1 (lit≤ tt) (omega (arith, none)))
+check_told told name v a (inr (inr (text, has, short, inr refuses))) none = absurd (design_high name pipe_rows text a refuses (omega (arith, none)))
+check_told told name v a (inr (inr (text, has, short, inl (terms, design, inl accepts)))) none = has_accepted v (told name) text terms a has design accepts
+check_told told name v a (inr (inr (text, has, short, inl (terms, design, inr (inl denies))))) none =
+    let one : a.status ≡ 1 = ap (λ x. x.status) denies.told in absurd (omega (arith, one, none))
+check_told told name v a (inr (inr (text, has, short, inl (terms, design, inr (inr refuses))))) none =
+    absurd (control_high name pipe_rows terms a refuses (omega (arith, none)))
+
+pub check_accepts : (name : List ℕ) (v : Variant) (files_before files_after : FilesSeen) (out_before out_after err_before err_after : SinkSeen) →
+    Ran (Some (check_pipe name v)) files_before files_after out_before out_after err_before err_after 0 → HasAccepted v (files_before.told name)
+check_accepts name v files_before files_after out_before out_after err_before err_after ran =
+    let given = ran.answer (λ three. omega (arith, three)) (λ six. omega (arith, six)) in
+    check_told files_before.told name v given.0 given.1.by_some (sym (given.2.status_is (λ four. omega (arith, four))))
+
+-- ---- `check seq`
+
+check_seq_told : (told : List ℕ → Option (Option (List ℕ))) (name : List ℕ) (v : Variant) (a : Answered) → MayAnswer told (check_seq_plan name v) a → a.status ≡ 0 →
+    HasAcceptedSeq v (told name)
+unfolding check_seq_plan
+check_seq_told told name v a (inl failed) none = absurd (high a 3 _ failed.1 (lit≤ tt) (omega (arith, none)))
+check_seq_told told name v a (inr (inl long)) none = absurd (high a 7 _ long.1 (lit≤ tt) (omega (arith, none)))
+check_seq_told told name v a (inr (inr (text, has, short, inr refuses))) none = absurd (design_high name seq_rows text a refuses (omega (arith, none)))
+check_seq_told told name v a (inr (inr (text, has, short, inl (terms, design, inl accepts)))) none =
+    record { text = text; has = has; terms = terms; design = design; accepted = accepts.accepted; refines = accepts.refines }
+check_seq_told told name v a (inr (inr (text, has, short, inl (terms, design, inr (inl denies))))) none =
+    let one : a.status ≡ 1 = ap (λ x. x.status) denies.told in absurd (omega (arith, one, none))
+check_seq_told told name v a (inr (inr (text, has, short, inl (terms, design, inr (inr refuses))))) none =
+    absurd (control_high name seq_rows terms a refuses (omega (arith, none)))
+
+pub check_seq_accepts : (name : List ℕ) (v : Variant) (files_before files_after : FilesSeen) (out_before out_after err_before err_after : SinkSeen) →
+    Ran (Some (check_seq name v)) files_before files_after out_before out_after err_before err_after 0 → HasAcceptedSeq v (files_before.told name)
+check_seq_accepts name v files_before files_after out_before out_after err_before err_after ran =
+    let given = ran.answer (λ three. omega (arith, three)) (λ six. omega (arith, six)) in
+    check_seq_told files_before.told name v given.0 given.1.by_some (sym (given.2.status_is (λ four. omega (arith, four))))
+
+-- ---- `psim` behind a check
+
+abbrev Told : (v : Variant) (size limit : ℕ) (trace : Bool) (hcl object : Option (Option (List ℕ))) (early late : SinkSeen) (status : ℕ) → Type 0
+Told v size limit trace hcl object early late status =
+    RanAccepted v size limit trace hcl object early late status ⊎ ToldNo v hcl early late status
+
+ran_accepted : (v : Variant) (size limit : ℕ) (trace : Bool) (hcl object : Option (Option (List ℕ))) (early late : SinkSeen) (status : ℕ) (a : Answered) →
+    IsSize size → status ≡ a.status → Took early.taken late.taken a.out → (text : List ℕ) → HasBytes hcl text → (terms : List Term) → IsDesign pipe_rows text terms →
+    (verdict : List ℕ) → AcceptsPipe v terms (done 0 verdict) → (bytes : List ℕ) → HasBytes object bytes → (image : List ℕ) → object_of bytes size ≡ Ok image →
+    PipeAnswers v terms limit trace verdict image a → RanAccepted v size limit trace hcl object early late status
+unfolding has_accepted
+ran_accepted v size limit trace hcl object early late status a sized is took text has terms design verdict accepts bytes has_object image loads (cycles, end, runs, said) =
+    let told : a.out ≡ pipe_yes accepts.settings ++ run_text trace image cycles end =
+    ap (λ x. x.out) said ∙ ap (λ (front : List ℕ). front ++ run_text trace image cycles end) (ap (λ x. x.out) accepts.told) in
+    record {
+      file = has_accepted v hcl text terms (done 0 verdict) has design accepts;
+      bytes = bytes;
+      has = has_object;
+      image = image;
+      loads = loads;
+      cycles = cycles;
+      end = end;
+      runs = runs;
+      status_is = is ∙ ap (λ x. x.status) said;
+      told = subst (λ out. Took early.taken late.taken out) told took;
+      agrees = λ pure. agree v terms image trace cycles end (accepts.refines image cycles (loaded_is_image bytes size image sized loads) pure) runs.goes;
+    }
+
+psim_told : (told : List ℕ → Option (Option (List ℕ))) (name object : List ℕ) (size limit : ℕ) (trace : Bool) (v : Variant) (early late : SinkSeen) (status : ℕ)
+    (a : Answered) → IsSize size → status ≡ a.status → a.status ≤ 1 → Took early.taken late.taken a.out → MayAnswer told (psim_plan name object size limit trace true v) a →
+    Told v size limit trace (told name) (told object) early late status
+unfolding psim_plan checked_plan pipe_plan after
+psim_told told name object size limit trace v early late status a sized is low took (inl failed) = absurd (high a 3 _ failed.1 (lit≤ tt) low)
+psim_told told name object size limit trace v early late status a sized is low took (inr (inl long)) = absurd (high a 7 _ long.1 (lit≤ tt) low)
+psim_told told name object size limit trace v early late status a sized is low took (inr (inr (text, has, short, inr refuses))) =
+    absurd (design_high name pipe_rows text a refuses low)
+psim_told told name object size limit trace v early late status a sized is low took (inr (inr (text, has, short, inl (terms, design, inr (inl denies))))) =
+    inr (record {
+      text = text;
+      has = has;
+      terms = terms;
+      design = design;
+      answer = a;
+      denied = denies;
+      status_is = is ∙ ap (λ x. x.status) denies.told;
+      told = took;
+    })
+psim_told told name object size limit trace v early late status a sized is low took (inr (inr (text, has, short, inl (terms, design, inr (inr refuses))))) =
+    absurd (control_high name pipe_rows terms a refuses low)
+psim_told told name object size limit trace v early late status a sized is low took (inr (inr (text, has, short, inl (terms, design, inl (verdict, accepts, inl failed))))) =
+    absurd (high a 3 _ failed.1 (lit≤ tt) low)
+psim_told told name object size limit trace v early late status a sized is low took
+    (inr (inr (text, has, short, inl (terms, design, inl (verdict, accepts, inr (inl long)))))) =
+    absurd (high a 7 _ long.1 (lit≤ tt) low)
+psim_told told name object size limit trace v early late status a sized is low took
+    (inr (inr (text, has, short, inl (terms, design, inl (verdict, accepts, inr (inr (bytes, has_object, short_object, inr refuses))))))) =
+    absurd (load_high object (object_of bytes size) a refuses low)
+psim_told told name object size limit trace v early late status a sized is low took
+    (inr (inr (text, has, short, inl (terms, design, inl (verdict, accepts, inr (inr (bytes, has_object, short_object, inl (image, loads, answers)))))))) =
+    inl (ran_accepted v size limit trace (told name) (told object) early late status a sized is took text has terms design verdict accepts bytes has_object image
+    (loads_ok object (object_of bytes size) image loads) answers)
+
+pub psim_agrees : (name object : List ℕ) (size limit : ℕ) (trace : Bool) (v : Variant) (files_before files_after : FilesSeen)
+    (out_before out_after err_before err_after : SinkSeen) (status : ℕ) → IsSize size → status ≤ 1 →
+    Ran (Some (psim name object size limit trace true v)) files_before files_after out_before out_after err_before err_after status →
+    RanAccepted v size limit trace (files_before.told name) (files_before.told object) out_before out_after status
+    ⊎ ToldNo v (files_before.told name) out_before out_after status
+psim_agrees name object size limit trace v files_before files_after out_before out_after err_before err_after status sized low ran =
+    let given = ran.answer (λ three. omega (arith, three, low)) (λ six. omega (arith, six, low)) in
+    let is : status ≡ given.0.status = given.2.status_is (λ four. omega (arith, four, low)) in
+    psim_told files_before.told name object size limit trace v out_before out_after status given.0 sized is (omega (arith, is, low))
+    (given.2.out (λ four. omega (arith, four, low))) given.1.by_some

@@ -1,0 +1,78 @@
+-- What an answer to `check`, or to `psim` behind a check, says of the run of instructions.
+use Rattle.std.specs.Prelude.{◌≡◌, ◌⊎◌, ℕ, Bool, true, List, ◌++◌, length, Option, Ok}
+use Rattle.control_check.specs.PipeVerdicts.{AcceptsPipe, RefinesPipe}
+use Rattle.dp_signals.specs.PipeRun.{Pipe, has_stopped}
+use Rattle.dp_signals.specs.PipeTable.{pipe_rows}
+use Rattle.dp_signals.specs.SeqTable.{seq_rows}
+use Rattle.hcl_types.specs.declared.term.Term.{Term}
+use Rattle.pipe_motion.specs.declared.settings.Settings.{Settings}
+use Rattle.seq_refinement.specs.Accepted.{AcceptedSeq, RefinesSeq}
+use Rattle.retire_trace.specs.Drive.{traced}
+use Rattle.verdict_text.specs.PipeLines.{pipe_yes}
+use Rattle.wb_io.specs.Files.{HasBytes}
+use Rattle.wb_io.specs.Sinks.{Took}
+use Rattle.y86_base.specs.declared.parts.Variant.{Variant}
+use Rattle.y86_isa.specs.Run.{Pure, records, run}
+use Rattle.yis_run.specs.Report.{register_lines, report}
+use Rattle.yo_object.specs.ObjectText.{object_of}
+use Rattle.y86_cli.specs.Answers.{run_status}
+use Rattle.y86_cli.specs.Checks.{DeniesPipe}
+use Rattle.y86_cli.specs.Designs.{IsDesign}
+use Rattle.y86_cli.specs.Does.{SinkSeen}
+use Rattle.y86_cli.specs.Plan.{Answered}
+use Rattle.y86_cli.specs.PipeRuns.{RunsTo, end_of, run_text}
+
+-- A file with an accepted design: the bytes that are told of it, if any, are the text; the text is read, bound and ordered; every
+-- obligation holds of the design at its settings. So on every image whose instructions fetch no byte that an earlier one stored,
+-- its pipeline is after each number of cycles where the instructions are.
+pub record HasAccepted (v : Variant) (told : Option (Option (List ℕ))) : Type 0 where
+  pub text : List ℕ
+  pub has : HasBytes told text
+  pub terms : List Term
+  pub design : IsDesign pipe_rows text terms
+  pub settings : Settings
+  pub accepted : AcceptsPipe v terms settings
+  pub refines : RefinesPipe v terms
+
+-- The same for SEQ: on every image its machine is after each number of cycles that of the run of instructions.
+pub record HasAcceptedSeq (v : Variant) (told : Option (Option (List ℕ))) : Type 0 where
+  pub text : List ℕ
+  pub has : HasBytes told text
+  pub terms : List Term
+  pub design : IsDesign seq_rows text terms
+  pub accepted : AcceptedSeq v terms
+  pub refines : RefinesSeq v terms
+
+-- What is printed of a pipeline that has retired r instructions is of the run of these: the lines of the trace are of its records,
+-- those of the registers of its registers; and where the pipeline has stopped, the whole report is of its machine.
+pub record Agrees (v : Variant) (image : List ℕ) (trace : Bool) (p : Pipe) : Type 0 where
+  pub trace_lines : traced trace p.records ≡ traced trace (records v image (length p.records))
+  pub lines_of_registers : register_lines p.state.regs ≡ register_lines (run v image (length p.records)).regs
+  pub whole_report : has_stopped p.end ≡ true →
+      report image (end_of p) (length p.records) ≡ report image (run v image (length p.records)) (length p.records)
+
+-- A file was accepted, and an image ran on it: behind the Yes stand the trace, the counts and the report. They agree with the run of
+-- instructions where none of the first ones, as many as there were cycles, fetches a byte that an earlier one stored.
+pub record RanAccepted (v : Variant) (size limit : ℕ) (trace : Bool) (hcl object : Option (Option (List ℕ))) (before after : SinkSeen) (status : ℕ) : Type 0 where
+  pub file : HasAccepted v hcl
+  pub bytes : List ℕ
+  pub has : HasBytes object bytes
+  pub image : List ℕ
+  pub loads : object_of bytes size ≡ Ok image
+  pub cycles : ℕ
+  pub end : Pipe
+  pub runs : RunsTo v file.terms image limit cycles end
+  pub status_is : status ≡ run_status end.end
+  pub told : Took before.taken after.taken (pipe_yes file.settings ++ run_text trace image cycles end)
+  pub agrees : Pure v image cycles → Agrees v image trace end
+
+-- A file was refused, and nothing ran: the No was told.
+pub record ToldNo (v : Variant) (hcl : Option (Option (List ℕ))) (before after : SinkSeen) (status : ℕ) : Type 0 where
+  pub text : List ℕ
+  pub has : HasBytes hcl text
+  pub terms : List Term
+  pub design : IsDesign pipe_rows text terms
+  pub answer : Answered
+  pub denied : DeniesPipe v terms answer
+  pub status_is : status ≡ 1
+  pub told : Took before.taken after.taken answer.out
