@@ -21,3 +21,5 @@ mod printing;
 mod sequential;
 #[cfg(test)]
 mod valuations;
+#[cfg(test)]
+mod views;

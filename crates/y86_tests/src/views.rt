@@ -1,0 +1,134 @@
+//! What may stand in D, E, M and W, and when the predicted PC is that of the next instruction, worked out by hand.
+ghost use Rattle.std.specs.Prelude.{◌<◌, ℕ};
+ghost use Rattle.pipe_motion.specs.Gates.{HasSlot};
+
+use nets::{NetBuilder, Valuation, eval};
+use pipe_motion::{SlotGates, ViewGates, constant, lawful_gate, path_gate};
+use std::alloc::Global;
+use std::test::Fail;
+use y86_base::{Items, Memory};
+
+/// What stands in a pipeline register: a good instruction may stop the machine, be a ret, or be a jump that goes another
+/// way than predicted.
+#[derive(Clone, Copy, Debug)]
+enum Held {
+    Bubble,
+    Wrong,
+    Good,
+    Stops,
+    Ret,
+    RetThatStops,
+    Missed,
+}
+
+/// A view, from D to W, under a file that fetches early from E (`je`) or M (`rm`) or not.
+struct Seen {
+    view: [Held; 4],
+    je: bool,
+    rm: bool,
+    is_lawful: bool,
+    is_on_path: bool,
+}
+
+macro_rules! seen {
+    ($d:ident, $e:ident, $m:ident, $w:ident, $je:expr, $rm:expr, $lawful:expr, $path:expr) => {
+        Seen {
+            view: [Held::$d, Held::$e, Held::$m, Held::$w],
+            je: $je,
+            rm: $rm,
+            is_lawful: $lawful,
+            is_on_path: $path,
+        }
+    };
+}
+
+/// Only the youngest good instruction stops; wrong ones stand behind one that stops or a missed jump in E; a missed jump and a
+/// ret are the youngest good instruction, until the file fetches behind them.
+static SEEN: [Seen; 24] = [
+    seen!(Bubble, Bubble, Bubble, Bubble, false, false, true, true),
+    seen!(Good, Bubble, Bubble, Bubble, false, false, true, true),
+    seen!(Good, Good, Good, Good, false, false, true, true),
+    seen!(Good, Stops, Bubble, Bubble, true, true, false, true),
+    seen!(Wrong, Stops, Bubble, Bubble, false, false, true, false),
+    seen!(Wrong, Good, Bubble, Bubble, true, true, false, true),
+    seen!(Wrong, Missed, Bubble, Bubble, false, false, true, false),
+    seen!(Good, Wrong, Bubble, Bubble, true, true, false, true),
+    seen!(Wrong, Wrong, Missed, Bubble, true, true, false, false),
+    seen!(Bubble, Bubble, Missed, Bubble, false, false, true, false),
+    seen!(Good, Bubble, Missed, Bubble, false, true, false, true),
+    seen!(Good, Bubble, Missed, Bubble, true, false, true, true),
+    seen!(Good, Missed, Bubble, Bubble, true, true, false, true),
+    seen!(Bubble, Ret, Bubble, Bubble, false, false, true, false),
+    seen!(Good, Ret, Bubble, Bubble, true, true, false, true),
+    seen!(Good, Bubble, Ret, Bubble, true, true, false, true),
+    seen!(Good, Bubble, Bubble, Ret, true, false, false, true),
+    seen!(Good, Bubble, Bubble, Ret, false, true, true, true),
+    seen!(Bubble, Bubble, Bubble, Ret, false, false, true, false),
+    seen!(Wrong, Bubble, Bubble, Stops, false, false, true, false),
+    seen!(Wrong, Wrong, Stops, Bubble, false, false, true, false),
+    seen!(Wrong, Ret, Bubble, Bubble, true, true, false, false),
+    seen!(Wrong, RetThatStops, Bubble, Bubble, true, true, false, false),
+    seen!(Bubble, Bubble, Stops, Stops, true, true, false, false),
+];
+
+macro_rules! slot {
+    ($good:expr, $wrong:expr, $stops:expr, $ret:expr, $missed:expr) => {
+        SlotGates {
+            good: $good,
+            wrong: $wrong,
+            stops: $stops,
+            ret: $ret,
+            missed: $missed,
+        }
+    };
+}
+
+/// The gates of what stands in a register, each one of two.
+fn slot(held: Held, yes: u64, no: u64) -> SlotGates
+    ensures { (n : ℕ) → yes < n → no < n → HasSlot n result }
+{
+    match held {
+        Held::Bubble => slot!(no, no, no, no, no),
+        Held::Wrong => slot!(no, yes, no, no, no),
+        Held::Good => slot!(yes, no, no, no, no),
+        Held::Stops => slot!(yes, no, yes, no, no),
+        Held::Ret => slot!(yes, no, no, yes, no),
+        Held::RetThatStops => slot!(yes, no, yes, yes, no),
+        Held::Missed => slot!(yes, no, no, no, yes),
+    }
+}
+
+/// Whether the view is lawful, and on the path.
+fn judged(alloc: Global, s: &Seen) -> Result<(bool, bool), Memory> {
+    let mut b = NetBuilder::new(alloc, 1);
+    let yes = constant(&mut b, true)?;
+    let no = constant(&mut b, false)?;
+    let [d, e, m, w] = s.view;
+    let view = ViewGates {
+        d: slot(d, yes, no),
+        e: slot(e, yes, no),
+        m: slot(m, yes, no),
+        w: slot(w, yes, no),
+    };
+    let lawful = lawful_gate(&mut b, &view, s.je, s.rm)?;
+    let path = path_gate(&mut b, &view)?;
+    let net = b.finish();
+    let bits = match vec![in alloc; false; 1] {
+        Ok(bits) => Items::of(bits),
+        Err(_) => return Err(Memory),
+    };
+    let valuation = Valuation { bits };
+    let is_lawful = eval(alloc, &net, lawful, &valuation)?;
+    let is_on_path = eval(alloc, &net, path, &valuation)?;
+    Ok((is_lawful, is_on_path))
+}
+
+#[test]
+fn views_by_hand(rt: HostRuntime) -> Result<(), Fail> {
+    for s in &SEEN {
+        let (is_lawful, is_on_path) = judged(rt.alloc(), s)?;
+        assert_eq!(rt; is_lawful, s.is_lawful);
+        assert_eq!(rt; is_on_path, s.is_on_path);
+    }
+    Ok(())
+}
