@@ -4,3 +4,4 @@ pub mod Joining
 pub mod Running
 pub mod Picking
 pub mod Compiling
+pub mod Walking

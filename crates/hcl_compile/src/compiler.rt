@@ -9,6 +9,30 @@ use hcl_types::{Design, Order, SignalEval, Term};
 use std::alloc::{AllocError, Global};
 use y86_base::{Items, Memory};
 
+/// Whether a slot is a number or a name.
+fn is_leaf(slots: &[Slot], place: u64) -> bool {
+    matches!(
+        slots.get(place as usize),
+        Some(Slot::Num(_)) | Some(Slot::Name(_))
+    )
+}
+
+/// Whether walking back from the last slot comes to no more slots than the term has parts: each comparison is between
+/// numbers and names. Long programs don't count as light, since the walk goes as deep as they are long.
+fn is_light(slots: &[Slot]) -> bool {
+    for slot in slots {
+        match slot {
+            Slot::Cmp(_, left, right) => {
+                if !is_leaf(slots, *left) || !is_leaf(slots, *right) {
+                    return false;
+                }
+            }
+            _ => {}
+        }
+    }
+    slots.len() < 1024
+}
+
 /// The program of a term.
 fn program(alloc: Global, t: &Term) -> Result<Prog, AllocError>
     ensures { IfOk result (λ prog. IsProgram t.now prog.slots) }
@@ -16,7 +40,7 @@ fn program(alloc: Global, t: &Term) -> Result<Prog, AllocError>
     let mut slots = Vec::new(alloc);
     let place = put_term(alloc, t, &mut slots)?;
     let is_last = place + 1 == slots.len() as u64;
-    if !is_last {
+    if !is_last || !is_light(slots.as_slice()) {
         // a slot that repeats the value
         slots.push(Slot::Pick {
             guard: place,

@@ -16,20 +16,20 @@ found : (c : goal.After-items_mut) → IsAsked c.args.self.now.progs (length c.a
 found c = rw (c.items-2.ensures, c.items.ensures)
     (asked c.requires.0 c.args.self.now.progs (length c.args.self.now.words) (length c.args.vals.now) c.args.def c.requires.2.0 c.index-items-def.result c.requires.1 c.requires.2.1 c.requires.2.2)
 
-pub run-requires-clause-formed : goal.run-requires-clause-formed
-run-requires-clause-formed c = (found c).program.formed
+pub program_word-requires-clause-formed : goal.program_word-requires-clause-formed
+program_word-requires-clause-formed c = (found c).program.formed
 
-pub run-requires-clause-some : goal.run-requires-clause-some
-run-requires-clause-some c = (found c).program.some
+pub program_word-requires-clause-some : goal.program_word-requires-clause-some
+program_word-requires-clause-some c = (found c).program.some
 
-pub run-requires-clause-room : goal.run-requires-clause-room
-run-requires-clause-room c = omega (arith, (found c).room, ap length c.items_mut.ensures.value)
+pub program_word-requires-clause-room : goal.program_word-requires-clause-room
+program_word-requires-clause-room c = omega (arith, (found c).room, ap length c.items_mut.ensures.value)
 
-pub run-requires-clause-names : goal.run-requires-clause-names
-run-requires-clause-names c = (found c).names
+pub program_word-requires-clause-names : goal.program_word-requires-clause-names
+program_word-requires-clause-names c = (found c).names
 
 pub returns-clause-value : goal.returns-clause-value
 returns-clause-value c terms t e s n =
     let a = asked terms c.args.self.now.progs (length c.args.self.now.words) (length c.args.vals.now) c.args.def t c.index-items-def.result e s n in
-    c.run.ensures.value ∙ ap (program_value (at c.args.vals.now)) (c.items-2.ensures ∙ ap (λ progs. (get_or progs c.args.def c.index-items-def.result).slots) c.items.ensures)
+    c.program_word.ensures.value ∙ ap (program_value (at c.args.vals.now)) (c.items-2.ensures ∙ ap (λ progs. (get_or progs c.args.def c.index-items-def.result).slots) c.items.ensures)
     ∙ a.program.value (at c.args.vals.now)
