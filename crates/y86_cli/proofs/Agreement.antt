@@ -1,5 +1,5 @@
 -- What the answers of `check`, and of `psim` behind a check, say of the run of instructions.
-use Rattle.std.proofs.Common.{◌≡◌, ◌≢◌, ◌⊎◌, ℕ, zero, suc, ◌≤◌, Bool, true, List, ◌++◌, length, refl, sym, ap, subst, ◌∙◌, inl, inr, Option, Some, Result, Ok, Err, lit≤, arith}
+use Rattle.std.proofs.Common.{◌≡◌, ◌⊎◌, ℕ, zero, suc, ◌≤◌, Bool, true, List, ◌++◌, length, refl, sym, ap, subst, ◌∙◌, inl, inr, Option, Some, Result, Ok, Err, lit≤, arith}
 use Rattle.dp_signals.specs.PipeRun.{Pipe, PipeRun}
 use Rattle.dp_signals.specs.PipeTable.{pipe_rows}
 use Rattle.dp_signals.specs.SeqTable.{seq_rows}

@@ -2,13 +2,12 @@
 use Rattle.std.proofs.Common.{◌≡◌, ◌⊎◌, ℕ, List, ◌∷◌, [], codes, refl, inl, inr, sym, ap, ◌∙◌, subst, Result, Err, Vec}
 use Rattle.std.specs.Borrow.{Bor}
 use Rattle.std.specs.Global.{Global}
-use Rattle.ctl_atoms.specs.Atoms.{AreAtoms, IsCtlFault, IsFirstMixed, IsOver64}
-use Rattle.ctl_atoms.specs.declared.fault.CtlFault.{CtlFault}
+use Rattle.ctl_atoms.specs.Atoms.{AreAtoms, IsCtlFault}
 use Rattle.ctl_atoms.specs.declared.fault.CtlFault.TheVariants as fault
 use Rattle.ctl_atoms.specs.declared.leaf.Atom.{Atom}
 use Rattle.ctl_atoms.proofs.Solved.{leaves_exist}
 use Rattle.control_check.specs.PipeVerdicts as pipe
-use Rattle.control_check.specs.SeqVerdicts.{IsLeastFalseSeq, IsSeqVerdict, IsSeqFault}
+use Rattle.control_check.specs.SeqVerdicts.{IsLeastFalseSeq, IsSeqVerdict}
 use Rattle.control_check.specs.declared.verdict.Verdict.TheVariants.{No}
 use Rattle.dp_signals.specs.PipeTable.{pipe_rows}
 use Rattle.dp_signals.specs.SeqTable.{seq_rows}
@@ -21,8 +20,8 @@ use Rattle.seq_refinement.specs.Accepted.{AcceptedSeq, RefinesSeq}
 use Rattle.verdict_text.specs.PipeLines.{pipe_no, pipe_yes}
 use Rattle.verdict_text.specs.SeqLine.{seq_no}
 use Rattle.y86_base.specs.declared.parts.Variant.{Variant}
-use Rattle.y86_cli.specs.Checks.{RefusesControl, AcceptsPipe, AcceptsSeq, DeniesPipe, DeniesSeq, PipeChecks, RefusesPipe, SeqChecks}
-use Rattle.y86_cli.specs.Lines.{blank_names, names_at, names_line}
+use Rattle.y86_cli.specs.Checks.{RefusesControl, AcceptsPipe, DeniesPipe, PipeChecks, RefusesPipe, SeqChecks}
+use Rattle.y86_cli.specs.Lines.{blank_names, names_at}
 use Rattle.y86_cli.specs.Plan.{Answered, done, refused}
 use Rattle.y86_cli.specs.Does.{Says, SinkSeen}
 use Rattle.y86_cli.specs.Stops.{answer_at, status_of}

@@ -1,8 +1,8 @@
 -- What is loaded of an object text is an image.
-use Rattle.std.proofs.Common.{◌≡◌, ℕ, zero, ◌+◌, ◌*◌, ◌<◌, List, [], ◌∷◌, ◌++◌, length, take, drop, refl, sym, subst, inl, inr, Result, Ok, Err, lit≤, arith}
+use Rattle.std.proofs.Common.{◌≡◌, ℕ, ◌+◌, ◌*◌, ◌<◌, List, [], ◌∷◌, ◌++◌, length, take, drop, refl, sym, subst, inl, inr, Result, Ok, Err, lit≤, arith}
 use Rattle.std.proofs.lemmas.Bool.Decides.{nat_tests}
 use Rattle.std.proofs.lemmas.List.Elements.{All-append, All-cons, All-drop, All-nil, All-replicate, All-take}
-use Rattle.y86_base.specs.Image.{AreBytes, IsImage, IsSize, with_bytes}
+use Rattle.y86_base.specs.Image.{AreBytes, IsImage, IsSize}
 use Rattle.y86_base.specs.Text.{hex_value, lines}
 use Rattle.yo_object.proofs.LoadedLines.{IsPut, is_put}
 use Rattle.yo_object.proofs.LoadedText.{has_its_size}

@@ -1,5 +1,5 @@
 -- What an answer to `check`, or to `psim` behind a check, says of the run of instructions.
-use Rattle.std.specs.Prelude.{◌≡◌, ◌⊎◌, ℕ, Bool, true, List, ◌++◌, length, Option, Ok}
+use Rattle.std.specs.Prelude.{◌≡◌, ℕ, Bool, true, List, ◌++◌, length, Option, Ok}
 use Rattle.control_check.specs.PipeVerdicts.{AcceptsPipe, RefinesPipe}
 use Rattle.dp_signals.specs.PipeRun.{Pipe, has_stopped}
 use Rattle.dp_signals.specs.PipeTable.{pipe_rows}
