@@ -1,8 +1,10 @@
-//! The sequential machine under the file of the book and under others, against runs of the instruction level and by hand.
+//! The sequential machine under the file of the book and under others, against runs of the instruction level and by hand, on the evaluator
+//! that walks the terms and on compiled signals.
 use dp_signals::{law_of_tables, seq_table};
+use hcl_compile::compile;
 use hcl_order::order;
 use hcl_read::read;
-use hcl_types::{BindWhy, Plain, bind};
+use hcl_types::{BindWhy, Plain, SignalEval, bind};
 use seq_path::{Seq, run};
 use std::alloc::Global;
 use std::process::Abort;
@@ -159,8 +161,22 @@ struct Ended {
     flags: Flags,
 }
 
+/// Runs a machine, and tells how it ended.
+fn end_of_run<C: SignalEval>(seq: &mut Seq<C>, limit: u64) -> Ended {
+    let ran = run(seq, limit);
+    let end = seq.end();
+    Ended {
+        steps: ran.steps,
+        stat: end.stat,
+        pc: end.pc,
+        regs: *end.regs,
+        flags: end.flags,
+    }
+}
+
 fn run_under(
     alloc: Global,
+    compiled: bool,
     variant: Variant,
     rest: &[u8],
     destinations: &[u8],
@@ -176,23 +192,21 @@ fn run_under(
     let walked = bind(alloc, &file, &table)?;
     let order = order(alloc, &design, &table)?;
     let mem = image(alloc, code)?;
+    if compiled {
+        let compiled = compile(alloc, &design, &order)?;
+        let mut seq = Seq::new(variant, design, order, compiled, mem);
+        return Ok(end_of_run(&mut seq, limit));
+    }
     let mut seq = Seq::new(variant, design, order, Plain::new(&walked), mem);
-    let ran = run(&mut seq, limit);
-    let end = seq.end();
-    Ok(Ended {
-        steps: ran.steps,
-        stat: end.stat,
-        pc: end.pc,
-        regs: *end.regs,
-        flags: end.flags,
-    })
+    Ok(end_of_run(&mut seq, limit))
 }
 
-#[test]
-fn the_book_s_file_runs_instructions(rt: HostRuntime) -> Result<(), Fail> {
+/// The book's file runs the programs as the instruction level does.
+fn check_programs(rt: &impl Abort, alloc: Global, compiled: bool) -> Result<(), Fail> {
     for (code, limit) in &PROGRAMS {
         let ended = run_under(
-            rt.alloc(),
+            alloc,
+            compiled,
             Variant::Base,
             REST,
             DESTINATIONS,
@@ -200,7 +214,7 @@ fn the_book_s_file_runs_instructions(rt: HostRuntime) -> Result<(), Fail> {
             code,
             *limit,
         )?;
-        let mut m = Machine::start(image(rt.alloc(), code)?);
+        let mut m = Machine::start(image(alloc, code)?);
         let ran = yis_run::run(Variant::Base, &mut m, *limit);
         assert_eq!(rt;
             (ended.steps, ended.stat, ended.pc),
@@ -213,11 +227,17 @@ fn the_book_s_file_runs_instructions(rt: HostRuntime) -> Result<(), Fail> {
 }
 
 #[test]
-fn other_files_stop_and_write_as_they_say(rt: HostRuntime) -> Result<(), Fail> {
+fn the_book_s_file_runs_instructions(rt: HostRuntime) -> Result<(), Fail> {
+    check_programs(&rt, rt.alloc(), false)?;
+    check_programs(&rt, rt.alloc(), true)
+}
+
+fn check_files(rt: &impl Abort, alloc: Global, compiled: bool) -> Result<(), Fail> {
     for (destinations, status, steps, stat, pc, rax) in &FILES {
         let code = [0x50, 0x12, 0, 0, 0, 0, 0, 0, 0, 0, 0];
         let ended = run_under(
-            rt.alloc(),
+            alloc,
+            compiled,
             Variant::Base,
             REST,
             destinations,
@@ -235,6 +255,12 @@ fn other_files_stop_and_write_as_they_say(rt: HostRuntime) -> Result<(), Fail> {
     Ok(())
 }
 
+#[test]
+fn other_files_stop_and_write_as_they_say(rt: HostRuntime) -> Result<(), Fail> {
+    check_files(&rt, rt.alloc(), false)?;
+    check_files(&rt, rt.alloc(), true)
+}
+
 /// `irmovq $7,%rdx; iaddq $-7,%rdx; halt` under a logic that knows `iaddq`, as the instruction level runs it, and by hand.
 #[test]
 fn a_file_that_knows_iaddq(rt: HostRuntime) -> Result<(), Fail> {
@@ -244,6 +270,7 @@ fn a_file_that_knows_iaddq(rt: HostRuntime) -> Result<(), Fail> {
     ];
     let ended = run_under(
         rt.alloc(),
+        true,
         Variant::Full,
         REST_WITH_IADDQ,
         DESTINATIONS_WITH_IADDQ,

@@ -67,7 +67,16 @@ static SEEN: [Seen; 24] = [
     seen!(Wrong, Bubble, Bubble, Stops, false, false, true, false),
     seen!(Wrong, Wrong, Stops, Bubble, false, false, true, false),
     seen!(Wrong, Ret, Bubble, Bubble, true, true, false, false),
-    seen!(Wrong, RetThatStops, Bubble, Bubble, true, true, false, false),
+    seen!(
+        Wrong,
+        RetThatStops,
+        Bubble,
+        Bubble,
+        true,
+        true,
+        false,
+        false
+    ),
     seen!(Bubble, Bubble, Stops, Stops, true, true, false, false),
 ];
 
