@@ -614,7 +614,7 @@ fn is_defined(line: &[u8], definitions: &[u8]) -> bool {
         .any(|other| other.get(5..).unwrap_or(other).starts_with(head))
 }
 
-fn text_of(alloc: Global, logic: Logic) -> Result<Vec<u8>, Fail> {
+pub fn text_of(alloc: Global, logic: Logic) -> Result<Vec<u8>, Fail> {
     match logic {
         Logic::Seq => Ok(Vec::from_slice(alloc, SEQ)?),
         Logic::Pipe => Ok(Vec::from_slice(alloc, STD)?),

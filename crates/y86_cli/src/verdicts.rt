@@ -1,9 +1,14 @@
 //! Calls of the program that check control logic, over files and sinks in memory. The lines of a No were worked out by
 //! hand from the instruction table: the least line of fields at which the obligation is false, 0 before 1.
+use crate::design::pipe_design;
 use crate::simulations::{
     BOTH, BOTH_AT_ONCE, DECLARED, LF, Logic, NB, NO_IADDQ, NT, STUCK, Simulation, check_all,
+    text_of,
 };
+use control_check::accept_pipe;
+use std::alloc::Global;
 use std::test::Fail;
+use y86_base::Variant;
 
 /// Checks of SEQ's design with one definition in place of its own.
 static ON_SEQ: [Simulation; 24] = [
@@ -469,4 +474,28 @@ fn on_pipe() -> &'static [Simulation] {
 #[test]
 fn verdicts_on_the_pipeline(rt: HostRuntime) -> Result<(), Fail> {
     check_all(&rt, rt.alloc(), on_pipe())
+}
+
+/// Designs, each with its setting `lf` where it is accepted.
+static ACCEPTED: [(&[u8], Option<bool>); 3] = [(b"", Some(false)), (LF, Some(true)), (BOTH, None)];
+
+/// What `accept_pipe` answers on a design: none, or its setting `lf`. `None` where it can't tell.
+fn accepted(alloc: Global, text: &[u8]) -> Option<Option<bool>> {
+    let Ok(ordered) = pipe_design(alloc, "h.hcl", text) else {
+        return None;
+    };
+    match accept_pipe(alloc, Variant::Base, &ordered.design, &ordered.order) {
+        Ok(Some(accepted)) => Some(Some(accepted.settings().lf)),
+        Ok(None) => Some(None),
+        Err(_) => None,
+    }
+}
+
+#[test]
+fn accepted_designs_have_their_settings(rt: HostRuntime) -> Result<(), Fail> {
+    for (definitions, lf) in &ACCEPTED {
+        let text = text_of(rt.alloc(), Logic::Changed(definitions))?;
+        assert_eq!(rt; accepted(rt.alloc(), text.as_slice()), Some(*lf));
+    }
+    Ok(())
 }

@@ -23,7 +23,10 @@ enum Held {
 
 /// A view, from D to W, under a file that fetches early from E (`je`) or M (`rm`) or not.
 struct Seen {
-    view: [Held; 4],
+    d: Held,
+    e: Held,
+    m: Held,
+    w: Held,
     je: bool,
     rm: bool,
     is_lawful: bool,
@@ -33,7 +36,10 @@ struct Seen {
 macro_rules! seen {
     ($d:ident, $e:ident, $m:ident, $w:ident, $je:expr, $rm:expr, $lawful:expr, $path:expr) => {
         Seen {
-            view: [Held::$d, Held::$e, Held::$m, Held::$w],
+            d: Held::$d,
+            e: Held::$e,
+            m: Held::$m,
+            w: Held::$w,
             je: $je,
             rm: $rm,
             is_lawful: $lawful,
@@ -112,12 +118,11 @@ fn judged(alloc: Global, s: &Seen) -> Result<(bool, bool), Memory> {
     let mut b = NetBuilder::new(alloc, 1);
     let yes = constant(&mut b, true)?;
     let no = constant(&mut b, false)?;
-    let [d, e, m, w] = s.view;
     let view = ViewGates {
-        d: slot(d, yes, no),
-        e: slot(e, yes, no),
-        m: slot(m, yes, no),
-        w: slot(w, yes, no),
+        d: slot(s.d, yes, no),
+        e: slot(s.e, yes, no),
+        m: slot(s.m, yes, no),
+        w: slot(s.w, yes, no),
     };
     let lawful = lawful_gate(&mut b, &view, s.je, s.rm)?;
     let path = path_gate(&mut b, &view)?;
