@@ -1,10 +1,15 @@
 #!/usr/bin/env bash
 # Checks the pipeline designs of examples/, and runs its programs under each that is accepted. It prints the cycles of each run, and ends with 1
-# where a report isn't that of `yis`. The program is ./y86, or the one that is given.
+# where a report isn't that of `yis`, or a trace isn't the same under all designs. The program is ./y86, or the one that is given.
 here=$(cd "$(dirname "$0")/.." && pwd) || exit 1
-y86=${1:-$here/y86}
+y86=$(realpath "${1:-$here/y86}") || exit 1
 cd "$here/examples" || exit 1
 programs=(*.yo)
+at=$(mktemp -d) || exit 1
+trap 'rm -r "$at"' EXIT
+for program in "${programs[@]}"; do
+    "$y86" yis "$program" >"$at/$program.report"
+done
 status=0
 
 printf '| design | settings |%s\n' "$(printf ' %s |' "${programs[@]%.yo}")"
@@ -22,9 +27,11 @@ for design in *.hcl; do
     esac
     row="| $design | ${settings#yes } |"
     for program in "${programs[@]}"; do
-        run=$("$y86" psim "$design" "$program")
-        read -r _ cycles _ <<<"$run"
-        [ "${run#*$'\n'}" = "$("$y86" yis "$program")" ] || { cycles="$cycles differs" && status=1; }
+        "$y86" psim "$design" "$program" --trace >"$at/run"
+        sed '/^Ran /,$d' "$at/run" >"$at/trace"
+        cycles=$(sed -n 's/^Ran \([0-9]*\) cycles.*/\1/p' "$at/run")
+        [ -f "$at/$program.trace" ] || cp "$at/trace" "$at/$program.trace"
+        sed '0,/^Ran /d' "$at/run" | cmp -s - "$at/$program.report" && cmp -s "$at/trace" "$at/$program.trace" || { cycles="$cycles differs" && status=1; }
         row+=" $cycles |"
     done
     echo "$row"
