@@ -1,0 +1,212 @@
+//! The gate of a definition against what its term means, at all values of what it reads: icode and ifun, and the truth of the
+//! one comparison of words that it makes, if any.
+ghost use Rattle.std.specs.Prelude.{◌≡◌, ◌<◌, ◌≤◌, IfOk, length};
+ghost use Rattle.hcl_types.specs.Tables.{IsBound, IsOrderOf};
+ghost use Rattle.dp_signals.specs.SeqTable.{seq_rows};
+ghost use Rattle.seq_obligations.specs.Signals.{places as spec_places};
+
+use ctl_atoms::atoms;
+use ctl_formula::{Place, translate};
+use dp_signals::{law_of_tables, seq_table};
+use hcl_order::order;
+use hcl_read::read;
+use hcl_types::{Design, Order, bind};
+use nets::{Net, NetBuilder, Valuation, eval};
+use std::alloc::Global;
+use std::test::Fail;
+use y86_base::{Items, Memory};
+
+/// A design for SEQ but for its `srcA`, `aluA` and `set_cc`: the least that has all other signals.
+static REST: &[u8] = b"word icode = imem_icode; word ifun = imem_ifun; bool instr_valid = 1;
+bool need_regids = 0; bool need_valC = 0;
+word srcB = RNONE; word dstE = RNONE; word dstM = RNONE;
+word aluB = 0; word alufun = 0;
+word mem_addr = 0; bool mem_read = 0; bool mem_write = 0; word mem_data = 0;
+word Stat = SAOK; word new_pc = valP;
+";
+
+/// The usual `srcA` and `aluA`.
+const PLAIN: &[u8] = b"word srcA = RNONE; word aluA = 0;\n";
+
+/// Definitions of `srcA` and `aluA`, and of `set_cc`: one form of term after another.
+static TERMS: [(&[u8], &[u8]); 20] = [
+    (PLAIN, b"bool set_cc = 1;"),
+    (PLAIN, b"bool set_cc = 0;"),
+    (PLAIN, b"bool set_cc = icode == ifun;"),
+    (PLAIN, b"bool set_cc = !(icode == ifun);"),
+    (PLAIN, b"bool set_cc = icode < ifun && ifun < 8;"),
+    (PLAIN, b"bool set_cc = icode <= ifun || icode > 12;"),
+    (PLAIN, b"bool set_cc = icode >= 5 && ifun != 3;"),
+    (PLAIN, b"bool set_cc = icode in { 1, ifun, 7 };"),
+    (
+        b"word srcA = [ icode == 2 : 3; ifun < 4 : icode; 1 : ifun; ]; word aluA = 0;\n",
+        b"bool set_cc = srcA == 6;",
+    ),
+    (
+        b"word srcA = [ icode == 2 : 3; ifun < 4 : 0; ]; word aluA = 0;\n",
+        b"bool set_cc = srcA == 0;",
+    ),
+    (PLAIN, b"bool set_cc = valA == valB;"),
+    (PLAIN, b"bool set_cc = valA < valB && icode == 6;"),
+    (PLAIN, b"bool set_cc = valB <= valA;"),
+    (PLAIN, b"bool set_cc = valA >= valB;"),
+    (PLAIN, b"bool set_cc = valA > valB;"),
+    (PLAIN, b"bool set_cc = valA != valB;"),
+    (PLAIN, b"bool set_cc = valC in { valC, valA };"),
+    (
+        b"word srcA = RNONE; word aluA = [ icode == 6 : valA; 1 : valB; ];\n",
+        b"bool set_cc = aluA == valB;",
+    ),
+    (PLAIN, b"bool set_cc = valA == valA;"),
+    (PLAIN, b"bool set_cc = valA < valA;"),
+];
+
+/// What the term of that number means, at an icode, an ifun and the truth of its comparison of words: of `valA == valB`,
+/// `valA < valB`, or in number 14 `valB < valA`.
+fn means(number: usize, icode: u32, ifun: u32, atom: bool) -> bool {
+    match number {
+        0 | 18 => true,
+        2 => icode == ifun,
+        3 => icode != ifun,
+        4 => icode < ifun && ifun < 8,
+        5 => icode <= ifun || icode > 12,
+        6 => icode >= 5 && ifun != 3,
+        7 => icode == 1 || icode == ifun || icode == 7,
+        8 => icode != 2 && (if ifun < 4 { icode == 6 } else { ifun == 6 }),
+        9 => icode != 2,
+        10 | 14 => atom,
+        11 => atom && icode == 6,
+        12 | 13 | 15 => !atom,
+        16 => true,
+        17 => icode != 6 || atom,
+        _ => false,
+    }
+}
+
+macro_rules! place {
+    ($name:expr, $first:expr, $bits:expr) => {
+        Place {
+            name: $name,
+            first: $first,
+            bits: $bits,
+        }
+    };
+}
+
+/// The places of SEQ's fields, by the rows of their signals: error, icode, ifun, rA, rB, cnd and derror.
+static PLACES: [Place; 7] = [
+    place!(36, 0, 1),
+    place!(34, 1, 4),
+    place!(35, 5, 4),
+    place!(37, 9, 4),
+    place!(38, 13, 4),
+    place!(44, 17, 1),
+    place!(46, 18, 1),
+];
+
+fn places() -> &'static [Place]
+    ensures { result.now ≡ spec_places }
+{
+    &PLACES
+}
+
+/// The gate of `set_cc` in the net of a design.
+#[derive(Drop)]
+struct Told {
+    net: Net,
+    gate: u64,
+}
+
+/// The row of `set_cc` in SEQ's table.
+const SET_CC: u32 = 59;
+
+/// The net of a design: the fields first, then the atoms.
+fn translated(alloc: Global, d: &Design, o: &Order) -> Result<Told, Memory>
+    requires bound { IsBound seq_rows d.now.terms }
+    requires ordered { IsOrderOf seq_rows d.now.terms o.now.ids }
+    ensures { IfOk result (λ r. r.gate < length r.net.gates) }
+{
+    let t = match seq_table(alloc) {
+        Ok(t) => t,
+        Err(_) => return Err(Memory),
+    };
+    let listed = match atoms(alloc, d, &t, o) {
+        Ok(listed) => listed,
+        Err(_) => return Err(Memory),
+    };
+    let mut b = NetBuilder::new(alloc, 19 + listed.len() as u32);
+    match translate(alloc, d, &t, o, places(), &mut b) {
+        Ok(ctl) => {
+            let gate = ctl.truth(SET_CC);
+            let net = b.finish();
+            Ok(Told { net, gate })
+        }
+        Err(_) => Err(Memory),
+    }
+}
+
+/// The bits of an icode and an ifun, with others that are 0, and those of the atoms behind the fields.
+fn pattern(alloc: Global, vars: u32, icode: u32, ifun: u32, atom: bool) -> Result<Vec<bool>, Memory>
+    ensures { IfOk result (λ bits. length bits.items ≡ vars) }
+{
+    let mut bits = match vec![in alloc; false; vars as usize] {
+        Ok(bits) => bits,
+        Err(_) => return Err(Memory),
+    };
+    let mut at = 0u32;
+    for bit in bits.as_mut_slice() {
+        *bit = match at {
+            1 => icode / 8 % 2 == 1,
+            2 => icode / 4 % 2 == 1,
+            3 => icode / 2 % 2 == 1,
+            4 => icode % 2 == 1,
+            5 => ifun / 8 % 2 == 1,
+            6 => ifun / 4 % 2 == 1,
+            7 => ifun / 2 % 2 == 1,
+            8 => ifun % 2 == 1,
+            _ => at >= 19 && atom,
+        };
+        at = at.saturating_add(1);
+    }
+    Ok(bits)
+}
+
+/// At how many values the gate of the term of that number isn't what the term means.
+fn differences(alloc: Global, number: usize, told: &Told) -> Result<u32, Memory>
+    requires { told.now.gate < length told.now.net.gates }
+{
+    let mut count = 0u32;
+    for values in 0..512u32 {
+        let icode = values / 16 % 16;
+        let ifun = values % 16;
+        let atom = values / 256 == 1;
+        let bits = Items::of(pattern(alloc, told.net.vars(), icode, ifun, atom)?);
+        let is = eval(alloc, &told.net, told.gate, &Valuation { bits })?;
+        if is != means(number, icode, ifun, atom) {
+            count = count.saturating_add(1);
+        }
+    }
+    Ok(count)
+}
+
+/// The same for definitions of `srcA`, `aluA` and `set_cc`.
+fn compared(alloc: Global, number: usize, words: &[u8], definition: &[u8]) -> Result<u32, Fail> {
+    let table = seq_table(alloc)?;
+    law_of_tables();
+    let mut text = Vec::from_slice(alloc, REST)?;
+    text.extend_from_slice(words)?;
+    text.extend_from_slice(definition)?;
+    let file = read(alloc, text.as_slice())?;
+    let design = bind(alloc, &file, &table)?;
+    let order = order(alloc, &design, &table)?;
+    let told = translated(alloc, &design, &order)?;
+    Ok(differences(alloc, number, &told)?)
+}
+
+#[test]
+fn terms_have_their_gates(rt: HostRuntime) -> Result<(), Fail> {
+    for (number, (words, definition)) in TERMS.iter().enumerate() {
+        assert_eq!(rt; compared(rt.alloc(), number, words, definition)?, 0);
+    }
+    Ok(())
+}
