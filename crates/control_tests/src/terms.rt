@@ -29,7 +29,7 @@ word Stat = SAOK; word new_pc = valP;
 const PLAIN: &[u8] = b"word srcA = RNONE; word aluA = 0;\n";
 
 /// Definitions of `srcA` and `aluA`, and of `set_cc`: one form of term after another.
-static TERMS: [(&[u8], &[u8]); 20] = [
+static TERMS: [(&[u8], &[u8]); 22] = [
     (PLAIN, b"bool set_cc = 1;"),
     (PLAIN, b"bool set_cc = 0;"),
     (PLAIN, b"bool set_cc = icode == ifun;"),
@@ -52,17 +52,19 @@ static TERMS: [(&[u8], &[u8]); 20] = [
     (PLAIN, b"bool set_cc = valA >= valB;"),
     (PLAIN, b"bool set_cc = valA > valB;"),
     (PLAIN, b"bool set_cc = valA != valB;"),
-    (PLAIN, b"bool set_cc = valC in { valC, valA };"),
+    (PLAIN, b"bool set_cc = valA in { valB, 5 };"),
     (
         b"word srcA = RNONE; word aluA = [ icode == 6 : valA; 1 : valB; ];\n",
         b"bool set_cc = aluA == valB;",
     ),
     (PLAIN, b"bool set_cc = valA == valA;"),
     (PLAIN, b"bool set_cc = valA < valA;"),
+    (PLAIN, b"bool set_cc = imem_error;"),
+    (PLAIN, b"bool set_cc = valA < 5;"),
 ];
 
-/// What the term of that number means, at an icode, an ifun and the truth of its comparison of words: of `valA == valB`,
-/// `valA < valB`, or in number 14 `valB < valA`.
+/// What the term of that number means, at an icode, an ifun and the truth of its comparisons of words (of `valA == valB`,
+/// `valA < valB`, in number 14 `valB < valA`), which is that of `imem_error` too.
 fn means(number: usize, icode: u32, ifun: u32, atom: bool) -> bool {
     match number {
         0 | 18 => true,
@@ -74,10 +76,9 @@ fn means(number: usize, icode: u32, ifun: u32, atom: bool) -> bool {
         7 => icode == 1 || icode == ifun || icode == 7,
         8 => icode != 2 && (if ifun < 4 { icode == 6 } else { ifun == 6 }),
         9 => icode != 2,
-        10 | 14 => atom,
+        10 | 14 | 16 | 20 | 21 => atom,
         11 => atom && icode == 6,
         12 | 13 | 15 => !atom,
-        16 => true,
         17 => icode != 6 || atom,
         _ => false,
     }
@@ -145,7 +146,7 @@ fn translated(alloc: Global, d: &Design, o: &Order) -> Result<Told, Memory>
     }
 }
 
-/// The bits of an icode and an ifun, with others that are 0, and those of the atoms behind the fields.
+/// The bits of an icode and an ifun, with other fields that are 0, and one truth for the error and the atoms behind the fields.
 fn pattern(alloc: Global, vars: u32, icode: u32, ifun: u32, atom: bool) -> Result<Vec<bool>, Memory>
     ensures { IfOk result (λ bits. length bits.items ≡ vars) }
 {
@@ -156,6 +157,7 @@ fn pattern(alloc: Global, vars: u32, icode: u32, ifun: u32, atom: bool) -> Resul
     let mut at = 0u32;
     for bit in bits.as_mut_slice() {
         *bit = match at {
+            0 => atom,
             1 => icode / 8 % 2 == 1,
             2 => icode / 4 % 2 == 1,
             3 => icode / 2 % 2 == 1,
