@@ -7,6 +7,7 @@ ghost use Rattle.hcl_types.specs.declared.term.Term.{Term};
 ghost use Rattle.control_check.specs.Decisions.{AreGatesOf, IsDecision};
 ghost use Rattle.control_check.specs.PipeVerdicts.{AreDecided, AreSettings, HasGates, IsDecided, IsPipeFault, IsPipeVerdict, RefinesPipe};
 ghost use Rattle.control_check.specs.SeqVerdicts.{is_yes};
+ghost use Rattle.hazard_rules.specs.Belonging.{BelongTo};
 
 use crate::decision::{Failure, decide};
 use crate::splitting::decide_in_parts;
@@ -96,21 +97,21 @@ fn decide_early(alloc: Global, parts: &Parts) -> Result<Early, Memory>
 }
 
 /// Decides the formulas of the late settings: each holds where its formula is false of some valuation.
-fn decide_late(alloc: Global, late: &Late, early: Early) -> Result<Settings, Memory>
-    requires lf { late.now.lf < length late.now.net.gates }
-    requires je { late.now.je < length late.now.net.gates }
-    requires rm { late.now.rm < length late.now.net.gates }
+fn decide_late(alloc: Global, net: &Net, late: Late, early: Early) -> Result<Settings, Memory>
+    requires lf { late.lf < length net.now.gates }
+    requires je { late.je < length net.now.gates }
+    requires rm { late.rm < length net.now.gates }
     ensures early { IfOk result (λ s. (s.pt ≡ early.pt) × (s.pb ≡ early.pb) × (s.tv ≡ early.tv)) }
     ensures seven { IfOk result (λ s. (length s.pt ≡ 7) × (length s.pb ≡ 7)) }
-    ensures lf { IfOk result (λ s. IsDecided late.now.net late.now.lf (not s.lf)) }
-    ensures je { IfOk result (λ s. IsDecided late.now.net late.now.je (not s.je)) }
-    ensures rm { IfOk result (λ s. IsDecided late.now.net late.now.rm (not s.rm)) }
+    ensures lf { IfOk result (λ s. IsDecided net.now late.lf (not s.lf)) }
+    ensures je { IfOk result (λ s. IsDecided net.now late.je (not s.je)) }
+    ensures rm { IfOk result (λ s. IsDecided net.now late.rm (not s.rm)) }
 {
-    let mut store = Store::new(alloc, late.net.vars());
+    let mut store = Store::new(alloc, net.vars());
     let mut built = Built::new(alloc);
-    let lf = always_true(&mut store, &mut built, &late.net, late.lf)?;
-    let je = always_true(&mut store, &mut built, &late.net, late.je)?;
-    let rm = always_true(&mut store, &mut built, &late.net, late.rm)?;
+    let lf = always_true(&mut store, &mut built, net, late.lf)?;
+    let je = always_true(&mut store, &mut built, net, late.je)?;
+    let rm = always_true(&mut store, &mut built, net, late.rm)?;
     let pt = early.pt;
     let pb = early.pb;
     Ok(Settings {
@@ -121,6 +122,47 @@ fn decide_late(alloc: Global, late: &Late, early: Early) -> Result<Settings, Mem
         je: !je,
         rm: !rm,
     })
+}
+
+/// The parts of a file, and the settings that they decide.
+#[derive(Drop)]
+struct Settled {
+    parts: Parts,
+    settings: Settings,
+}
+
+/// Settles a file: its parts are made, and its settings decided on them.
+fn settle(
+    alloc: Global,
+    variant: Variant,
+    design: &Design,
+    order: &Order,
+) -> Result<Settled, CheckFault>
+    requires bound { IsBound pipe_rows design.now.terms }
+    requires ordered { IsOrderOf pipe_rows design.now.terms order.now.ids }
+    ensures settings { IfOk result (λ r. AreSettings variant design.now.terms r.settings) }
+    ensures belong { IfOk result (λ r. BelongTo design.now.terms r.parts) }
+    ensures variant { IfOk result (λ r. r.parts.variant ≡ variant) }
+    ensures fault { IfErr result (IsPipeFault design.now.terms) }
+{
+    let mut parts = match pipe_parts(alloc, variant, design, order) {
+        Ok(parts) => parts,
+        Err(fault) => return Err(told_pipe(fault)),
+    };
+    let early = match decide_early(alloc, &parts) {
+        Ok(early) => early,
+        Err(Memory) => return Err(CheckFault::Memory),
+    };
+    let pt = early.pt;
+    let pb = early.pb;
+    let late = match pipe_late(alloc, &mut parts, pt, pb, early.tv) {
+        Ok(late) => late,
+        Err(Memory) => return Err(CheckFault::Memory),
+    };
+    match decide_late(alloc, &parts.net, late, early) {
+        Ok(settings) => Ok(Settled { parts, settings }),
+        Err(Memory) => Err(CheckFault::Memory),
+    }
 }
 
 /// The settings of an HCL file for PIPE: what it does that another needn't, over all control valuations.
@@ -135,24 +177,8 @@ pub fn file_settings(
     ensures settings { IfOk result (AreSettings variant design.now.terms) }
     ensures fault { IfErr result (IsPipeFault design.now.terms) }
 {
-    let parts = match pipe_parts(alloc, variant, design, order) {
-        Ok(parts) => parts,
-        Err(fault) => return Err(told_pipe(fault)),
-    };
-    let early = match decide_early(alloc, &parts) {
-        Ok(early) => early,
-        Err(Memory) => return Err(CheckFault::Memory),
-    };
-    let pt = early.pt;
-    let pb = early.pb;
-    let late = match pipe_late(alloc, variant, design, order, pt, pb, early.tv) {
-        Ok(late) => late,
-        Err(fault) => return Err(told_pipe(fault)),
-    };
-    match decide_late(alloc, &late, early) {
-        Ok(settings) => Ok(settings),
-        Err(Memory) => Err(CheckFault::Memory),
-    }
+    let settled = settle(alloc, variant, design, order)?;
+    Ok(settled.settings)
 }
 
 /// Whether a variable is a bit of a register number.
@@ -232,10 +258,11 @@ pub fn check_pipe(
     ensures refines { IfOk result (λ v. is_yes v ≡ true → RefinesPipe variant design.now.terms) }
     ensures fault { IfErr result (IsPipeFault design.now.terms) }
 {
-    let settings = file_settings(alloc, variant, design, order)?;
-    let rules = match pipe_rules(alloc, variant, design, order, &settings) {
+    let settled = settle(alloc, variant, design, order)?;
+    let settings = settled.settings;
+    let rules = match pipe_rules(alloc, settled.parts, settings) {
         Ok(rules) => rules,
-        Err(fault) => return Err(told_pipe(fault)),
+        Err(Memory) => return Err(CheckFault::Memory),
     };
     match decide_pipe(alloc, &rules.net, rules.list.items()) {
         Ok(None) => Ok(Verdict::Yes(settings)),

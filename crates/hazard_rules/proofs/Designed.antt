@@ -1,5 +1,5 @@
 -- The atoms of a design are one list; each field of a signal is spelt at its place.
-use Rattle.std.proofs.Common.{◌≡◌, ℕ, ◌+◌, ◌-◌, ◌≤◌, Bool, true, false, not, List, length, refl, sym, ap, subst, ◌∙◌, arith}
+use Rattle.std.proofs.Common.{◌≡◌, ℕ, ◌+◌, ◌-◌, ◌≤◌, Bool, true, false, not, List, length, Result, Ok, Err, IfOk, refl, sym, ap, subst, ◌∙◌, arith}
 use Rattle.hcl_types.specs.declared.term.Term.{Term}
 use Rattle.hcl_types.specs.declared.table.Row.{Row}
 use Rattle.hcl_types.specs.Tables.{IsOrderOf}
@@ -12,7 +12,8 @@ use Rattle.ctl_formula.specs.Places.{HavePlaces, Spells}
 use Rattle.pipe_fields.specs.Layout.{Fields, fields_of, number_of}
 use Rattle.y86_base.specs.declared.parts.Variant.{Variant}
 use Rattle.nets.specs.Nets.{Gates, Begins}
-use Rattle.ctl_formula.proofs.Inside.{tells_more}
+use Rattle.nets.proofs.Truths.{truth_kept}
+use Rattle.ctl_formula.proofs.Inside.{inside_more, tells_more}
 use Rattle.pipe_motion.specs.declared.settings.Settings.{Settings}
 use Rattle.rule_gates.specs.declared.rules.Rule.{Rule}
 use Rattle.pipe_obligations.specs.Rules.{obligation}
@@ -26,6 +27,8 @@ use Rattle.ctl_formula.specs.declared.controls.Entry.{Entry}
 use Rattle.ctl_formula.specs.declared.controls.Place.{Place}
 use Rattle.ctl_formula.specs.Picks.{Covers, IsInside, Tells}
 use Rattle.hazard_rules.specs.Designs.{places, IsTranslated}
+use Rattle.hazard_rules.specs.Belonging.{BelongTo}
+use Rattle.hazard_rules.specs.declared.whole.Parts.{Parts}
 
 -- a design has one list of atoms
 pub atoms_one : (rows : List Row) (terms : List Term) (ids : List ℕ) (xs ys : List Atom) → IsOrderOf rows terms ids → AreAtoms rows terms xs → AreAtoms rows terms ys → xs ≡ ys
@@ -119,6 +122,43 @@ je_freed v s atoms c α cv = refl
 pub rm_freed : (v : Variant) (s : Settings) (atoms : List Atom) (c : Fields) (α : Assignment) (cv : ℕ → Leaf) → shows_rm v s atoms c α cv ≡ shows_rm v (most_free s) atoms c α cv
 unfolding shows_rm may_show view_of
 rm_freed v s atoms c α cv = refl
+
+-- a formula stays one as the net grows
+pub formula_more : {old new : Gates} {terms : List Term} {atoms : List Atom} {g : ℕ} {f : Truth} → Begins old new → IsFormula terms atoms old g f → IsFormula terms atoms new g f
+formula_more {old} k h = record {
+  within = (let l = h.within in let m = k.more in omega (arith, l, m));
+  is = λ w α cv l c. truth_kept k _ w h.within ∙ h.is w α cv l c;
+}
+
+-- the gates of a design's names stay theirs as the net grows
+pub names_more : {old new : Gates} {terms : List Term} {ctl : List Entry} {atoms : List Atom} → Begins old new → IsTranslated terms old ctl atoms → IsTranslated terms new ctl atoms
+names_more k h = record {
+  are = h.are;
+  vars = k.vars ∙ h.vars;
+  inside = inside_more k h.inside;
+  covers = h.covers;
+  tells = λ w α cv l c. tells_more k h.inside (h.tells w α cv l c);
+}
+
+-- parts whose net grows belong to the same designs
+pub belongs_more : (terms : List Term) (p q : Parts) → BelongTo terms p → Begins p.net q.net
+    → q ≡ record { variant = p.variant; net = q.net; pt = p.pt; pb = p.pb; tv = p.tv; atoms = p.atoms; ctl = p.ctl } → BelongTo terms q
+belongs_more terms p q h k rest = subst (BelongTo terms) (sym rest) (record {
+  names = names_more k h.names;
+  settings = record {
+    atoms = h.settings.atoms;
+    are = h.settings.are;
+    vars = k.vars ∙ h.settings.vars;
+    forward = λ i lt. formula_more k (h.settings.forward i lt);
+    backward = λ i lt. formula_more k (h.settings.backward i lt);
+    target = λ s. formula_more k (h.settings.target s);
+  };
+})
+
+-- three things that hold of an answer, where there is one, and what follows of them
+pub told_of_three : {T E : Type 0} {A B C D : T → Type 0} → (r : Result T E) → IfOk r A → IfOk r B → IfOk r C → ((x : T) → A x → B x → C x → D x) → IfOk r D
+told_of_three (Ok x) a b c f = f x a b c
+told_of_three (Err e) a b c f = tt
 
 -- a formula in other words
 pub formula_as : {net : Gates} {terms : List Term} {atoms : List Atom} {g : ℕ} {f h : Truth} → IsFormula terms atoms net g f → ((c : Fields) (α : Assignment) (cv : ℕ → Leaf) → f c α cv ≡ h c α cv) → IsFormula terms atoms net g h

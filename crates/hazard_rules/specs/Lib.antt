@@ -4,3 +4,4 @@ pub mod Built
 pub mod Parts
 pub mod Fronts
 pub mod Designs
+pub mod Belonging

@@ -25,4 +25,5 @@ mod stage_rules;
 mod stages;
 mod whole;
 
-pub use whole::{Late, Parts, pipe_late, pipe_parts, pipe_rules};
+pub use shown::Late;
+pub use whole::{Parts, pipe_late, pipe_parts, pipe_rules};

@@ -133,9 +133,9 @@ fn free_legal(
     Ok(FreeView { view, plain })
 }
 
-/// The gates that decide lf, je and rm.
-#[derive(Clone, Copy, Debug)]
-pub(crate) struct Shown {
+/// The gates that decide lf, je and rm: each setting holds where its gate is false at some valuation.
+#[derive(Clone, Copy, Debug, PartialEq, Eq)]
+pub struct Late {
     pub lf: u64,
     pub je: u64,
     pub rm: u64,
@@ -150,7 +150,7 @@ pub(crate) fn shown_gates(
     v: Variant,
     s: &Settings,
     atoms: &[Atom],
-) -> Result<Shown, Memory>
+) -> Result<Late, Memory>
     requires inside { IsInside b.old ctl.now }
     requires known { Covers pipe_rows ctl.now }
     requires vars { 107 + length atoms.now ≤ b.old.vars }
@@ -165,5 +165,5 @@ pub(crate) fn shown_gates(
     let lf = no_load_passed(b, ctl, v, &p.view, p.plain)?;
     let je = no_jump_early(b, ctl, v, &p.view, p.plain)?;
     let rm = no_ret_early(b, ctl, &p.view, p.plain)?;
-    Ok(Shown { lf, je, rm })
+    Ok(Late { lf, je, rm })
 }

@@ -1,23 +1,30 @@
 //! The formulas of a design for PIPE: what decides its settings, and its rules.
-ghost use Rattle.std.specs.Prelude.{◌≡◌, IfErr, IfOk};
+ghost use Rattle.std.specs.Prelude.{◌≡◌, List, IfErr, IfOk};
+ghost use Rattle.nets.specs.Nets.{Begins};
 ghost use Rattle.hcl_types.specs.Tables.{IsBound, IsOrderOf};
+ghost use Rattle.hcl_types.specs.declared.term.Term.{Term};
 ghost use Rattle.ctl_atoms.specs.Atoms.{IsCtlFault};
 ghost use Rattle.dp_signals.specs.PipeTable.{pipe_rows};
-ghost use Rattle.hazard_rules.specs.Parts.{AreClosed, AreLate, AreRules};
+ghost use Rattle.hazard_rules.specs.Belonging.{Belong, BelongTo};
+ghost use Rattle.hazard_rules.specs.Parts.{AreLate, AreRules};
 
 use crate::closed::closed_told;
 use crate::design::translated;
 use crate::rules::rules_told;
-use crate::shown::shown_gates;
-use ctl_atoms::CtlFault;
+use crate::shown::{Late, shown_gates};
+use ctl_atoms::{Atom, CtlFault};
+use ctl_formula::Controls;
 use hcl_types::{Design, Order};
-use nets::Net;
+use nets::{Net, NetBuilder};
 use pipe_motion::Settings;
 use rule_gates::Rules;
 use std::alloc::Global;
-use y86_base::{Items, Variant};
+use std::mem;
+use y86_base::{Items, Memory, Variant};
 
-/// What decides pt, pb and tv of a design: each setting holds where its gate is true at every valuation of the net.
+/// What the settings and the obligations of a design are built from: a net with one variable for each bit of a control valuation (the
+/// fields first, then the atoms), with gates for the control values of all names; the gates that decide pt, pb and tv, each setting
+/// holding where its gate is true at every valuation; and the atoms, in their order.
 #[derive(Drop)]
 pub struct Parts {
     pub variant: Variant,
@@ -25,31 +32,25 @@ pub struct Parts {
     pub pt: [u64; 7],
     pub pb: [u64; 7],
     pub tv: u64,
+    pub atoms: Vec<Atom>,
+    pub ctl: Controls,
 }
 
-/// What decides lf, je and rm of a design: each setting holds where its gate is false at some valuation of the net.
-#[derive(Drop)]
-pub struct Late {
-    pub net: Net,
-    pub lf: u64,
-    pub je: u64,
-    pub rm: u64,
-}
-
-/// What decides pt, pb and tv of a design, over the bits of a control valuation: the fields first, then the atoms.
+/// The parts of a design.
 ///
 /// Errors: `Mixed` and `AtomsOver64`, as `ctl_atoms::atoms` tells them; `Memory`.
 pub fn pipe_parts(alloc: Global, v: Variant, d: &Design, o: &Order) -> Result<Parts, CtlFault>
     requires bound { IsBound pipe_rows d.now.terms }
     requires ordered { IsOrderOf pipe_rows d.now.terms o.now.ids }
-    ensures parts { IfOk result (λ r. AreClosed v d.now.terms r.net r.pt r.pb r.tv) }
+    ensures belong { IfOk result (BelongTo d.now.terms) }
+    ensures variant { IfOk result (λ p. p.variant ≡ v) }
     ensures fault { IfErr result (IsCtlFault pipe_rows d.now.terms) }
 {
     let made = translated(alloc, d, o)?;
     let mut b = made.b;
     let ctl = made.ctl;
-    let listed = made.listed;
-    match closed_told(&mut b, &ctl, v, listed.as_slice()) {
+    let atoms = made.listed;
+    match closed_told(&mut b, &ctl, v, atoms.as_slice()) {
         Err(_) => Err(CtlFault::Memory),
         Ok(gates) => {
             let pt = gates.pt;
@@ -60,27 +61,27 @@ pub fn pipe_parts(alloc: Global, v: Variant, d: &Design, o: &Order) -> Result<Pa
                 pt,
                 pb,
                 tv: gates.tv,
+                atoms,
+                ctl,
             })
         }
     }
 }
 
-/// What decides lf, je and rm of a design whose pt, pb and tv are these, over the bits of a control valuation.
-///
-/// Errors: `Mixed` and `AtomsOver64`, as `ctl_atoms::atoms` tells them; `Memory`.
+/// Adds to the net of parts what decides lf, je and rm, where these are pt, pb and tv. The gates that were there stay, also where
+/// memory is refused.
 pub fn pipe_late(
     alloc: Global,
-    v: Variant,
-    d: &Design,
-    o: &Order,
+    p: &mut Parts,
     pt: [bool; 7],
     pb: [bool; 7],
     tv: bool,
-) -> Result<Late, CtlFault>
-    requires bound { IsBound pipe_rows d.now.terms }
-    requires ordered { IsOrderOf pipe_rows d.now.terms o.now.ids }
-    ensures late { IfOk result (λ r. AreLate v d.now.terms pt pb tv r.net r.lf r.je r.rm) }
-    ensures fault { IfErr result (IsCtlFault pipe_rows d.now.terms) }
+) -> Result<Late, Memory>
+    requires belong { Belong p.old }
+    ensures late { (terms : List Term) → BelongTo terms p.old → IfOk result (λ r. AreLate p.old.variant terms pt pb tv p.new.net r.lf r.je r.rm) }
+    ensures belong { (terms : List Term) → BelongTo terms p.old → BelongTo terms p.new }
+    ensures begins { Begins p.old.net p.new.net }
+    ensures rest { p.new ≡ record { variant = p.old.variant; net = p.new.net; pt = p.old.pt; pb = p.old.pb; tv = p.old.tv; atoms = p.old.atoms; ctl = p.old.ctl } }
 {
     let free = Settings {
         pt,
@@ -90,48 +91,29 @@ pub fn pipe_late(
         je: true,
         rm: true,
     };
-    let made = translated(alloc, d, o)?;
-    let mut b = made.b;
-    let ctl = made.ctl;
-    let listed = made.listed;
-    match shown_gates(&mut b, &ctl, v, &free, listed.as_slice()) {
-        Err(_) => Err(CtlFault::Memory),
-        Ok(gates) => Ok(Late {
-            net: b.finish(),
-            lf: gates.lf,
-            je: gates.je,
-            rm: gates.rm,
-        }),
-    }
+    let empty = NetBuilder::new(alloc, 0).finish();
+    let mut b = NetBuilder::resume(alloc, mem::replace(&mut p.net, empty));
+    let late = shown_gates(&mut b, &p.ctl, p.variant, &free, p.atoms.as_slice());
+    p.net = b.finish();
+    late
 }
 
-/// The 27 obligations of a design for PIPE at settings, in their order: each gate is its obligation at every pattern of bits of a
-/// control valuation. The fields stand first, then the atoms.
-///
-/// Errors: `Mixed` and `AtomsOver64`, as `ctl_atoms::atoms` tells them; `Memory`.
-pub fn pipe_rules(
-    alloc: Global,
-    v: Variant,
-    d: &Design,
-    o: &Order,
-    s: &Settings,
-) -> Result<Rules, CtlFault>
-    requires bound { IsBound pipe_rows d.now.terms }
-    requires ordered { IsOrderOf pipe_rows d.now.terms o.now.ids }
-    ensures rules { IfOk result (λ r. AreRules v d.now.terms s.now r.net r.list) }
-    ensures variant { IfOk result (λ r. r.variant ≡ v) }
-    ensures fault { IfErr result (IsCtlFault pipe_rows d.now.terms) }
+/// The 27 obligations at settings, in their order, over a net that begins with that of the parts: each gate is its obligation at
+/// every pattern of bits of a control valuation.
+pub fn pipe_rules(alloc: Global, p: Parts, s: Settings) -> Result<Rules, Memory>
+    requires belong { Belong p }
+    ensures rules { (terms : List Term) → BelongTo terms p → IfOk result (λ r. AreRules p.variant terms s r.net r.list) }
+    ensures begins { IfOk result (λ r. Begins p.net r.net) }
+    ensures variant { IfOk result (λ r. r.variant ≡ p.variant) }
 {
-    let made = translated(alloc, d, o)?;
-    let mut b = made.b;
-    let ctl = made.ctl;
-    let listed = made.listed;
-    match rules_told(alloc, &mut b, &ctl, v, s, listed.as_slice()) {
-        Err(_) => Err(CtlFault::Memory),
-        Ok(list) => Ok(Rules {
-            variant: v,
-            net: b.finish(),
-            list: Items::of(list),
-        }),
-    }
+    let variant = p.variant;
+    let ctl = p.ctl;
+    let atoms = p.atoms;
+    let mut b = NetBuilder::resume(alloc, p.net);
+    let list = rules_told(alloc, &mut b, &ctl, variant, &s, atoms.as_slice())?;
+    Ok(Rules {
+        variant,
+        net: b.finish(),
+        list: Items::of(list),
+    })
 }

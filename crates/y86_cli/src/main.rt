@@ -24,6 +24,8 @@ mod stop;
 #[cfg(test)]
 mod tests;
 #[cfg(test)]
+mod usage;
+#[cfg(test)]
 mod verdicts;
 mod yas;
 mod yis;

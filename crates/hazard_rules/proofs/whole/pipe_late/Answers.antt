@@ -1,21 +1,28 @@
-use Rattle.std.proofs.Common.{List, not, refl, sym, subst, true}
+use Rattle.std.proofs.Common.{List, not, refl, sym, subst, true, ◌∙◌}
+use Rattle.nets.specs.Nets.{Begins}
 use Rattle.pipe_motion.specs.declared.settings.Settings.{Settings}
 use Rattle.ctl_atoms.specs.declared.leaf.Atom.{Atom}
 use Rattle.hazard_rules.specs.Parts.{AreLate, IsTold}
 use Rattle.pipe_obligations.specs.Settled.{shows_je, shows_lf, shows_rm}
-use Rattle.hazard_rules.proofs.Designed.{late_of}
+use Rattle.hazard_rules.proofs.Designed.{belongs_more, late_of, told_of_three}
 use Rattle.hazard_rules.proofs.whole.pipe_late.Goals as goal
 
-pub shown_gates-requires-clause-free : goal.shown_gates-requires-clause-free
-shown_gates-requires-clause-free c = refl
-
-pub returns-in-Ok-clause-late : goal.returns-in-Ok-clause-late
-returns-in-Ok-clause-late c =
+pub returns-clause-late : goal.returns-clause-late
+returns-clause-late c = λ terms h.
     let e = c.as_slice.ensures.value in
-    let gates = c.in-Ok.gates in
     let s : Settings = record { pt = c.args.pt; pb = c.args.pb; tv = c.args.tv; lf = true; je = true; rm = true } in
-    subst (λ net. AreLate c.args.v c.args.d.now.terms c.args.pt c.args.pb c.args.tv net gates.lf gates.je gates.rm) (sym c.finish.ensures)
-    (late_of c.args.v c.args.d.now.terms c.in_ok-made.made.ctl _ c.args.pt c.args.pb c.args.tv s gates.lf gates.je gates.rm refl c.in_ok-made.ensures.made c.shown_gates.ensures.grows.begins
-    (subst (λ (xs : List Atom). IsTold c.shown_gates.new.b c.in_ok-made.made.ctl xs gates.lf (λ z α cv. not (shows_lf c.args.v s xs z α cv))) e c.in-Ok.ensures.late)
-    (subst (λ (xs : List Atom). IsTold c.shown_gates.new.b c.in_ok-made.made.ctl xs gates.je (λ z α cv. not (shows_je c.args.v s xs z α cv))) e c.in-Ok.ensures.jump)
-    (subst (λ (xs : List Atom). IsTold c.shown_gates.new.b c.in_ok-made.made.ctl xs gates.rm (λ z α cv. not (shows_rm c.args.v s xs z α cv))) e c.in-Ok.ensures.ret))
+    let new = c.shown_gates-late.new.b in
+    let v = c.args.p.now.variant in
+    let ctl = c.args.p.now.ctl in
+    let begins = subst (λ net. Begins net new) (c.resume-b.ensures ∙ c.replace.ensures.value) c.shown_gates-late.ensures.grows.begins in
+    told_of_three c.shown_gates-late.result c.shown_gates-late.ensures.late c.shown_gates-late.ensures.jump c.shown_gates-late.ensures.ret
+    (λ r late jump ret. subst (λ net. AreLate v terms c.args.pt c.args.pb c.args.tv net r.lf r.je r.rm) (sym c.finish.ensures)
+    (late_of v terms ctl _ c.args.pt c.args.pb c.args.tv s r.lf r.je r.rm refl h.names begins
+    (subst (λ (xs : List Atom). IsTold new ctl xs r.lf (λ z α cv. not (shows_lf v s xs z α cv))) e late)
+    (subst (λ (xs : List Atom). IsTold new ctl xs r.je (λ z α cv. not (shows_je v s xs z α cv))) e jump)
+    (subst (λ (xs : List Atom). IsTold new ctl xs r.rm (λ z α cv. not (shows_rm v s xs z α cv))) e ret)))
+
+pub returns-clause-belong : goal.returns-clause-belong
+returns-clause-belong c = λ terms h.
+    let begins = subst (λ net. Begins net c.shown_gates-late.new.b) (c.resume-b.ensures ∙ c.replace.ensures.value) c.shown_gates-late.ensures.grows.begins in
+    belongs_more terms c.args.p.now _ h (subst (λ net. Begins c.args.p.now.net net) (sym c.finish.ensures) begins) refl
