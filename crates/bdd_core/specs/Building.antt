@@ -1,5 +1,5 @@
 -- The diagrams of the gates of a net, one after another.
-use Rattle.std.specs.Prelude.{ℕ, ◌<◌, Bool, true, false, not, ◌&&◌, List, ◌≡◌, length, get_or, slice_get, Some}
+use Rattle.std.specs.Prelude.{ℕ, ◌<◌, ◌≤◌, Bool, true, false, not, ◌&&◌, List, ◌≡◌, length, take, get_or, slice_get, Some}
 use Rattle.nets.specs.Nets.{Gates}
 use Rattle.nets.specs.Nets.{truth as gate_truth}
 use Rattle.nets.specs.declared.net.Gate.{Gate}
@@ -48,3 +48,8 @@ pub record IsMadeOf (old new : Diagrams) (made : List ℕ) (gate : Gate) (d : �
 -- the diagrams of the first gates of a net, in their order
 pub record AreFirst (s : Diagrams) (n : Gates) (made : List ℕ) : Type 0 where
   pub each : (j : ℕ) → j < length made → HasTruth s n j (get_or made j 0)
+
+-- a list goes on: the numbers that it had stay
+pub record GoesOn (old new : List ℕ) : Type 0 where
+  pub more : length old ≤ length new
+  pub same : take (length old) new ≡ old

@@ -1,4 +1,5 @@
 use Rattle.bdd_core.proofs.Gates.{first_kept, stays}
+use Rattle.bdd_core.proofs.Going.{goes_on_self}
 use Rattle.bdd_core.proofs.Truths.{keeps_more}
 use Rattle.bdd_core.proofs.store.Store.build_on.Goals as goal
 
@@ -13,6 +14,7 @@ loop-built-init c = record {
   kept = c.ready.ensures.kept;
   well = c.ready.ensures.well;
   first = first_kept c.vars.ensures.well c.ready.ensures.kept c.requires.first;
+  goes_on = goes_on_self c.args.built.now;
 }
 
 pub returns-in_err-add_next-clause-stay : goal.returns-in_err-add_next-clause-stay
