@@ -22,11 +22,12 @@ use Rattle.y86_cli.specs.Answers.{PipeAnswers, check_pipe_plan, check_seq_plan, 
 use Rattle.y86_cli.specs.Checks.{AcceptsPipe, RefusesControl}
 use Rattle.y86_cli.specs.Designs.{IsDesign, RefusesDesign}
 use Rattle.y86_cli.specs.Does.{FilesSeen, SinkSeen}
-use Rattle.y86_cli.specs.Forms.{check_pipe, check_seq, psim}
+use Rattle.y86_cli.specs.Forms.{check_pipe, check_seq, form_of, psim}
 use Rattle.y86_cli.specs.Lines.{object_fault_line}
 use Rattle.y86_cli.specs.Plan.{Answered, MayAnswer, after, done, refused}
 use Rattle.y86_cli.specs.PipeRuns.{Goes, end_of, run_text}
 use Rattle.y86_cli.specs.Ran.{Ran}
+use Rattle.y86_cli.proofs.Legal.{form_legal}
 use Rattle.y86_cli.proofs.Loaded.{loaded_is_image}
 
 -- ---- a run that goes on to its end is a run
@@ -89,7 +90,7 @@ check_told told name v a (inr (inr (text, has, short, inl (terms, design, inr (i
 check_told told name v a (inr (inr (text, has, short, inl (terms, design, inr (inr refuses))))) none =
     absurd (control_high name pipe_rows terms a refuses (omega (arith, none)))
 
-pub check_accepts : (name : List ℕ) (v : Variant) (files_before files_after : FilesSeen) (out_before out_after err_before err_after : SinkSeen) →
+check_accepts : (name : List ℕ) (v : Variant) (files_before files_after : FilesSeen) (out_before out_after err_before err_after : SinkSeen) →
     Ran (Some (check_pipe name v)) files_before files_after out_before out_after err_before err_after 0 → HasAccepted v (files_before.told name)
 check_accepts name v files_before files_after out_before out_after err_before err_after ran =
     let given = ran.answer (λ three. omega (arith, three)) (λ six. omega (arith, six)) in
@@ -110,7 +111,7 @@ check_seq_told told name v a (inr (inr (text, has, short, inl (terms, design, in
 check_seq_told told name v a (inr (inr (text, has, short, inl (terms, design, inr (inr refuses))))) none =
     absurd (control_high name seq_rows terms a refuses (omega (arith, none)))
 
-pub check_seq_accepts : (name : List ℕ) (v : Variant) (files_before files_after : FilesSeen) (out_before out_after err_before err_after : SinkSeen) →
+check_seq_accepts : (name : List ℕ) (v : Variant) (files_before files_after : FilesSeen) (out_before out_after err_before err_after : SinkSeen) →
     Ran (Some (check_seq name v)) files_before files_after out_before out_after err_before err_after 0 → HasAcceptedSeq v (files_before.told name)
 check_seq_accepts name v files_before files_after out_before out_after err_before err_after ran =
     let given = ran.answer (λ three. omega (arith, three)) (λ six. omega (arith, six)) in
@@ -178,7 +179,7 @@ psim_told told name object size limit trace v early late status a sized is low t
     inl (ran_accepted v size limit trace (told name) (told object) early late status a sized is took text has terms design verdict accepts bytes has_object image
     (loads_ok object (object_of bytes size) image loads) answers)
 
-pub psim_agrees : (name object : List ℕ) (size limit : ℕ) (trace : Bool) (v : Variant) (files_before files_after : FilesSeen)
+psim_agrees : (name object : List ℕ) (size limit : ℕ) (trace : Bool) (v : Variant) (files_before files_after : FilesSeen)
     (out_before out_after err_before err_after : SinkSeen) (status : ℕ) → IsSize size → status ≤ 1 →
     Ran (Some (psim name object size limit trace true v)) files_before files_after out_before out_after err_before err_after status →
     RanAccepted v size limit trace (files_before.told name) (files_before.told object) out_before out_after status
@@ -188,3 +189,25 @@ psim_agrees name object size limit trace v files_before files_after out_before o
     let is : status ≡ given.0.status = given.2.status_is (λ four. omega (arith, four, low)) in
     psim_told files_before.told name object size limit trace v out_before out_after status given.0 sized is (omega (arith, is, low))
     (given.2.out (λ four. omega (arith, four, low))) given.1.by_some
+
+-- ---- the same of the words of a call
+
+pub accepting_seq_words : (words : List (List ℕ)) (name : List ℕ) (v : Variant) (files_before files_after : FilesSeen) (out_before out_after err_before err_after : SinkSeen) →
+    form_of words ≡ Some (check_seq name v) → Ran (form_of words) files_before files_after out_before out_after err_before err_after 0 → HasAcceptedSeq v (files_before.told name)
+accepting_seq_words words name v files_before files_after out_before out_after err_before err_after is ran =
+    check_seq_accepts name v files_before files_after out_before out_after err_before err_after (rw is at ran)
+
+pub accepting_words : (words : List (List ℕ)) (name : List ℕ) (v : Variant) (files_before files_after : FilesSeen) (out_before out_after err_before err_after : SinkSeen) →
+    form_of words ≡ Some (check_pipe name v) → Ran (form_of words) files_before files_after out_before out_after err_before err_after 0 → HasAccepted v (files_before.told name)
+accepting_words words name v files_before files_after out_before out_after err_before err_after is ran =
+    check_accepts name v files_before files_after out_before out_after err_before err_after (rw is at ran)
+
+-- words that are a command say a size of memory
+pub agreeing_words : (words : List (List ℕ)) (name object : List ℕ) (size limit : ℕ) (trace : Bool) (v : Variant) (files_before files_after : FilesSeen)
+    (out_before out_after err_before err_after : SinkSeen) (status : ℕ) → form_of words ≡ Some (psim name object size limit trace true v) → status ≤ 1 →
+    Ran (form_of words) files_before files_after out_before out_after err_before err_after status →
+    RanAccepted v size limit trace (files_before.told name) (files_before.told object) out_before out_after status
+    ⊎ ToldNo v (files_before.told name) out_before out_after status
+agreeing_words words name object size limit trace v files_before files_after out_before out_after err_before err_after status is low ran =
+    psim_agrees name object size limit trace v files_before files_after out_before out_after err_before err_after status
+    (form_legal words (psim name object size limit trace true v) is).2 low (rw is at ran)

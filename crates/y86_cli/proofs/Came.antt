@@ -33,7 +33,7 @@ lost_more : (part plan : Plan) (files_before files_after : FilesSeen) (stop : co
     ((name : List ℕ) → IsReached part files_before.told name → IsReached plan files_before.told name) →
     IsLost part files_before files_after stop → IsLost plan files_before files_after stop
 lost_more part plan files_before files_after stop more (inl memory) = inl memory
-lost_more part plan files_before files_after stop more (inr (name, read, rose, reached)) = inr (name, read, rose, more name reached)
+lost_more part plan files_before files_after stop more (inr (name, read, fault, reached)) = inr (name, read, fault, more name reached)
 
 loses_more : (part plan : Plan) (files_before files_after : FilesSeen) (before after : SinkSeen) (result : Result ℕ code.Stop) →
     ((name : List ℕ) → IsReached part files_before.told name → IsReached plan files_before.told name) →

@@ -1,6 +1,6 @@
 -- How a call goes on, stage after stage.
-use Rattle.std.proofs.Common.{◌≡◌, ◌⊎◌, ℕ, ◌≤◌, List, length, refl, inl, inr, Option, Some, None, IfSome, Result, Ok, Err, arith}
-use Rattle.wb_io.specs.Causes.{Rose}
+use Rattle.std.proofs.Common.{◌≡◌, ◌⊎◌, ℕ, ◌≤◌, List, length, refl, ap, ◌∙◌, inl, inr, Option, Some, None, IfSome, Result, Ok, Err, arith}
+use Rattle.wb_io.specs.Causes.{counted}
 use Rattle.wb_io.specs.Files.{HasBytes, HasMore}
 use Rattle.y86_cli.specs.declared.stop.Stop as code
 use Rattle.y86_cli.specs.declared.stop.Stop.TheVariants.{Usage, Read, Write, Refused, Memory, TooLong}
@@ -8,8 +8,8 @@ use Rattle.y86_cli.specs.Does.{FilesSeen, SinkSeen, IsLater, StopsAtRead, StopsR
 use Rattle.y86_cli.specs.Plan.{Answered, Plan, after, answers, gives, says, reads}
 use Rattle.y86_cli.specs.Stops.{answer_at, status_of}
 
-rose_earlier : (first before now : ℕ) → first ≤ before → Rose before now → Rose first now
-rose_earlier first before now early rose = omega arith
+fault_earlier : (first before now : ℕ) → before ≡ first → now ≡ counted before → now ≡ counted first
+fault_earlier first before now same fault = fault ∙ ap counted same
 
 has_earlier : (old new : Option (Option (List ℕ))) (bytes : List ℕ) → IfSome old (λ known. new ≡ Some known) → HasBytes new bytes → HasBytes old bytes
 has_earlier None new bytes stays h = tt
@@ -22,7 +22,7 @@ more_earlier (Some known) new limit stays h = rw stays at h
 stops_earlier : (name : List ℕ) (limit : ℕ) (first before last : FilesSeen) (stop : code.Stop) → IsLater first before →
     StopsAtRead name limit before last stop → StopsAtRead name limit first last stop
 stops_earlier name limit first before last Usage later s = s
-stops_earlier name limit first before last (Read other) later s = (s.0, rose_earlier _ _ _ (later.counts name) s.1)
+stops_earlier name limit first before last (Read other) later s = (s.0, fault_earlier _ _ _ (later.counts name) s.1)
 stops_earlier name limit first before last Write later s = s
 stops_earlier name limit first before last (Refused other why) later s = s
 stops_earlier name limit first before last Memory later s = s

@@ -1,17 +1,16 @@
 -- The clauses of the whole program, from what the code did: once for all commands.
 use Rattle.std.proofs.Common.{◌≡◌, ◌≢◌, ◌⊎◌, ℕ, ◌≤◌, List, [], refl, sym, ap, subst, inl, inr, Option, Some, None, Result, Ok, Err, lit≤, arith, ◌∙◌}
-use Rattle.wb_io.specs.Causes.{Rose, counted}
+use Rattle.wb_io.specs.Causes.{counted}
 use Rattle.wb_io.specs.Sinks.{Took, TookPart}
-use Rattle.wb_io.proofs.Rises.{Rose-counted}
 use Rattle.wb_io.proofs.Writes.{took_nothing}
 use Rattle.y86_cli.specs.declared.stop.Stop as code
 use Rattle.y86_cli.specs.declared.stop.Stop.TheVariants.{Usage, Read, Write, Refused, Memory, TooLong}
 use Rattle.y86_cli.specs.Answers.{plan_of}
 use Rattle.y86_cli.specs.Came.{IsAllowed, Came}
-use Rattle.y86_cli.specs.Does.{FilesSeen, SinkSeen, Does}
+use Rattle.y86_cli.specs.Does.{FilesSeen, NoReadFailed, SinkSeen, Does}
 use Rattle.y86_cli.specs.Forms.{Command}
 use Rattle.y86_cli.specs.Lines.{memory_line, read_fault_line, usage_line}
-use Rattle.y86_cli.specs.Plan.{Answered, ComesTo, Plan, Tells, IsFaultless, refused}
+use Rattle.y86_cli.specs.Plan.{Answered, Plan, Tells, IsFaultless, refused}
 use Rattle.y86_cli.specs.Ran.{Ended, ReadFailed, Ran, Shows, Told}
 use Rattle.y86_cli.specs.Stops.{line_of, read_name, status_of}
 use Rattle.y86_cli.proofs.Came.{came, faultless_low}
@@ -49,6 +48,16 @@ line_of_memory Write e = absurd (cc)
 line_of_memory (Refused name why) e = absurd (cc)
 line_of_memory Memory e = refl
 line_of_memory (TooLong name limit) e = absurd (cc)
+
+-- a stop that isn't told as a failed read comes without one
+none_failed : (files_before files_after : FilesSeen) (stop : code.Stop) → NoReadFailed {ℕ} files_before files_after (Err stop) →
+    status_of stop ≢ 3 → (name : List ℕ) → files_after.faults name ≡ files_before.faults name
+none_failed files_before files_after Usage reads other name = reads refl name
+none_failed files_before files_after (Read file) reads other name = absurd (other refl)
+none_failed files_before files_after Write reads other name = reads refl name
+none_failed files_before files_after (Refused file why) reads other name = reads refl name
+none_failed files_before files_after Memory reads other name = reads refl name
+none_failed files_before files_after (TooLong file limit) reads other name = reads refl name
 
 -- a text that was put on standard error
 pub told_whole : (before after : SinkSeen) (text : List ℕ) → Took before.taken after.taken text → after.faults ≡ before.faults → Told before after text
@@ -101,8 +110,8 @@ stop_read_failed : (plan : Plan) (files_before files_after : FilesSeen) (before 
     Came plan files_before files_after before after (Err stop) → Told err_before err_after (line_of stop) → status_of stop ≡ 3 →
     ReadFailed plan files_before files_after err_before err_after
 stop_read_failed plan files_before files_after before after err_before err_after stop (inl (inl memory, same)) told three = absurd (omega (arith, memory, three))
-stop_read_failed plan files_before files_after before after err_before err_after stop (inl (inr (name, read, rose, reached), same)) told three =
-    record { name = name; reached = reached; failed = rose; line = told_line err_before err_after (line_of stop) (read_fault_line name) (named_read stop name read).1 told }
+stop_read_failed plan files_before files_after before after err_before err_after stop (inl (inr (name, read, fault, reached), same)) told three =
+    record { name = name; reached = reached; failed = fault; line = told_line err_before err_after (line_of stop) (read_fault_line name) (named_read stop name read).1 told }
 stop_read_failed plan files_before files_after before after err_before err_after stop (inr (a, allowed, inl part)) told three = absurd (omega (arith, part.0, three))
 stop_read_failed plan files_before files_after before after err_before err_after stop (inr (a, allowed, inr whole)) told three = absurd (omega (arith, whole.0, three))
 
@@ -121,12 +130,12 @@ stop_nothing plan files_before files_after before after stop (inr (a, allowed, i
 
 stop_complete : (plan : Plan) (files_before files_after : FilesSeen) (before after : SinkSeen) (stop : code.Stop) →
     Came plan files_before files_after before after (Err stop) → (contents : List (Option (List ℕ))) → Tells files_before.told plan contents → IsFaultless plan contents →
-    ((name : List ℕ) → ComesTo plan contents name → Rose (files_before.faults name) (files_after.faults name) → ⊥) → (Rose before.faults after.faults → ⊥) → status_of stop ≡ 6
-stop_complete plan files_before files_after before after stop (inl (inl memory, same)) contents tells faultless none write = memory
-stop_complete plan files_before files_after before after stop (inl (inr (name, read, rose, reached), same)) contents tells faultless none write =
-    absurd (none name (reached.by_told contents tells) rose)
-stop_complete plan files_before files_after before after stop (inr (a, allowed, inl part)) contents tells faultless none write = absurd (write (Rose-counted before.faults after.faults part.2))
-stop_complete plan files_before files_after before after stop (inr (a, allowed, inr whole)) contents tells faultless none write =
+    status_of stop ≢ 3 → status_of stop ≢ 4 → status_of stop ≡ 6
+stop_complete plan files_before files_after before after stop (inl (inl memory, same)) contents tells faultless three four = memory
+stop_complete plan files_before files_after before after stop (inl (inr (name, read, fault, reached), same)) contents tells faultless three four =
+    absurd (three (named_read stop name read).0)
+stop_complete plan files_before files_after before after stop (inr (a, allowed, inl part)) contents tells faultless three four = absurd (four part.0)
+stop_complete plan files_before files_after before after stop (inr (a, allowed, inr whole)) contents tells faultless three four =
     let low : a.status ≤ 1 = faultless_low plan contents a faultless (allowed.by_told contents tells) in
     let same : a.status ≡ status_of stop = ap (λ x. x.status) whole.1 in
     absurd (omega (arith, stop_high stop))
@@ -136,24 +145,26 @@ low_or_four high p (inl low) = absurd (omega (arith, high, low))
 low_or_four high p (inr four) = p four
 
 command_stopped : (command : Command) (files_before files_after : FilesSeen) (before after err_before err_after : SinkSeen) (stop : code.Stop) →
-    Came (plan_of command) files_before files_after before after (Err stop) → Told err_before err_after (line_of stop) →
-    (status_of stop ≡ 4 → err_after ≡ err_before) → Ran (Some command) files_before files_after before after err_before err_after (status_of stop)
-command_stopped command files_before files_after before after err_before err_after stop c told silent = record {
+    Came (plan_of command) files_before files_after before after (Err stop) → NoReadFailed {ℕ} files_before files_after (Err stop) →
+    Told err_before err_after (line_of stop) → (status_of stop ≡ 4 → err_after ≡ err_before) → Ran (Some command) files_before files_after before after err_before err_after (status_of stop)
+command_stopped command files_before files_after before after err_before err_after stop c reads told silent = record {
   at_most_seven = stop_low stop;
   usage = λ two. absurd (stop_not_usage (plan_of command) files_before files_after before after stop c two);
   answer = stop_answer (plan_of command) files_before files_after before after err_before err_after stop c told;
   read_failed = stop_read_failed (plan_of command) files_before files_after before after err_before err_after stop c told;
+  no_read_failed = none_failed files_before files_after stop reads;
   write_failed = stop_write_failed (plan_of command) files_before files_after before after stop c;
   no_write_failed = λ other. ap (λ x. x.faults) (stop_nothing (plan_of command) files_before files_after before after stop c other);
   nothing_out = λ _ _ other. stop_nothing (plan_of command) files_before files_after before after stop c other;
   err_memory = λ six. told_line err_before err_after _ _ (line_of_memory stop six) told;
   nothing_err = low_or_four (stop_high stop) silent;
-  complete = λ contents tells faultless none write. inl (stop_complete (plan_of command) files_before files_after before after stop c contents tells faultless none write);
+  complete = λ contents tells faultless three four. inl (stop_complete (plan_of command) files_before files_after before after stop c contents tells faultless three four);
 }
 
-usage_ran : (files_before files_after : FilesSeen) (before after err_before err_after : SinkSeen) → after ≡ before → Told err_before err_after usage_line →
+usage_ran : (files_before files_after : FilesSeen) (before after err_before err_after : SinkSeen) →
+    ((name : List ℕ) → files_after.faults name ≡ files_before.faults name) → after ≡ before → Told err_before err_after usage_line →
     Ran None files_before files_after before after err_before err_after 2
-usage_ran files_before files_after before after err_before err_after same told = record {
+usage_ran files_before files_after before after err_before err_after reads same told = record {
   at_most_seven = lit≤ tt;
   usage = λ _. refl;
   answer = λ _ _. (
@@ -162,12 +173,13 @@ usage_ran files_before files_after before after err_before err_after same told =
     record { status_is = λ _. refl; out = λ _. took_same before after same; part = λ four. absurd (omega (arith, four)); err = λ _. told },
   );
   read_failed = λ three. absurd (omega (arith, three));
+  no_read_failed = λ _. reads;
   write_failed = λ four. absurd (omega (arith, four));
   no_write_failed = λ _. ap (λ x. x.faults) same;
   nothing_out = λ _ _ _. same;
   err_memory = λ six. absurd (omega (arith, six));
   nothing_err = low_or_four (lit≤ tt) (λ four. absurd (omega (arith, four)));
-  complete = λ contents tells faultless none write. inr (faultless (refused 2 usage_line) refl);
+  complete = λ contents tells faultless three four. inr (faultless (refused 2 usage_line) refl);
 }
 
 -- ---- a command that was done
@@ -180,9 +192,9 @@ done_shows plan files_before files_after before after err status (inr (a, allowe
     (fits.1, fits.4, a, allowed, record { status_is = λ _. fits.0; out = λ _. fits.3; part = λ four. absurd (omega (arith, four, fits.1)); err = λ _. told_quiet err a.err fits.2 })
 
 command_done : (command : Command) (files_before files_after : FilesSeen) (before after err : SinkSeen) (status : ℕ) →
-    Came (plan_of command) files_before files_after before after (Ok status) →
+    Came (plan_of command) files_before files_after before after (Ok status) → NoReadFailed files_before files_after (Ok status) →
     Ran (Some command) files_before files_after before after err err status
-command_done command files_before files_after before after err status c =
+command_done command files_before files_after before after err status c reads =
     let shows = done_shows (plan_of command) files_before files_after before after err status c in
     let low : status ≤ 1 = shows.0 in
     record {
@@ -190,12 +202,13 @@ command_done command files_before files_after before after err status c =
       usage = λ two. absurd (omega (arith, two));
       answer = λ _ _. (shows.2, shows.3, shows.4);
       read_failed = λ three. absurd (omega (arith, three));
+      no_read_failed = λ _. reads refl;
       write_failed = λ four. absurd (omega (arith, four));
       no_write_failed = λ _. shows.1;
       nothing_out = λ zeroth first _. absurd (not_low status zeroth first low);
       err_memory = λ six. absurd (omega (arith, six));
       nothing_err = λ _. refl;
-      complete = λ contents tells faultless none write. inr low;
+      complete = λ contents tells faultless three four. inr low;
     }
   where
     not_low : (n : ℕ) → n ≢ 0 → n ≢ 1 → n ≤ 1 → ⊥
@@ -204,28 +217,31 @@ command_done command files_before files_after before after err status c =
 -- ---- both
 
 pub ran_done : (form : Option Command) (files_before files_after : FilesSeen) (before after err : SinkSeen) (status : ℕ) →
-    Ended form files_before files_after before after (Ok status) → Ran form files_before files_after before after err err status
+    Ended form files_before files_after before after (Ok status) → NoReadFailed files_before files_after (Ok status) →
+    Ran form files_before files_after before after err err status
 unfolding Ended
-ran_done None files_before files_after before after err status e = absurd (cc (e.0))
-ran_done (Some command) files_before files_after before after err status e =
-    command_done command files_before files_after before after err status (came (plan_of command) files_before files_after before after (Ok status) e)
+ran_done None files_before files_after before after err status e reads = absurd (cc (e.0))
+ran_done (Some command) files_before files_after before after err status e reads =
+    command_done command files_before files_after before after err status (came (plan_of command) files_before files_after before after (Ok status) e) reads
 
 stopped : (form : Option Command) (files_before files_after : FilesSeen) (before after err_before err_after : SinkSeen) (stop : code.Stop) →
-    Ended form files_before files_after before after (Err stop) → Told err_before err_after (line_of stop) → (status_of stop ≡ 4 → err_after ≡ err_before) →
+    Ended form files_before files_after before after (Err stop) → NoReadFailed {ℕ} files_before files_after (Err stop) →
+    Told err_before err_after (line_of stop) → (status_of stop ≡ 4 → err_after ≡ err_before) →
     Ran form files_before files_after before after err_before err_after (status_of stop)
 unfolding Ended
-stopped None files_before files_after before after err_before err_after stop e told silent =
+stopped None files_before files_after before after err_before err_after stop e reads told silent =
     let usage : stop ≡ Usage = cc (e.0) in
-    let P : code.Stop → Type 0 = λ s. Told err_before err_after (line_of s) → Ran None files_before files_after before after err_before err_after (status_of s) in
-    subst P (sym usage) (usage_ran files_before files_after before after err_before err_after e.1) told
-stopped (Some command) files_before files_after before after err_before err_after stop e told silent =
-    command_stopped command files_before files_after before after err_before err_after stop (came (plan_of command) files_before files_after before after (Err stop) e) told silent
+    let P : code.Stop → Type 0 =
+    λ s. NoReadFailed {ℕ} files_before files_after (Err s) → Told err_before err_after (line_of s) → Ran None files_before files_after before after err_before err_after (status_of s) in
+    subst P (sym usage) (λ quiet. usage_ran files_before files_after before after err_before err_after (quiet refl) e.1) reads told
+stopped (Some command) files_before files_after before after err_before err_after stop e reads told silent =
+    command_stopped command files_before files_after before after err_before err_after stop (came (plan_of command) files_before files_after before after (Err stop) e) reads told silent
 
 pub ran_stopped : (form : Option Command) (files_before files_after : FilesSeen) (before after err_before err_after : SinkSeen) (stop : code.Stop) (status : ℕ) →
-    Ended form files_before files_after before after (Err stop) → status ≡ status_of stop → Told err_before err_after (line_of stop) →
-    (status_of stop ≡ 4 → err_after ≡ err_before) → Ran form files_before files_after before after err_before err_after status
-ran_stopped form files_before files_after before after err_before err_after stop status e s told silent =
-    rw s (stopped form files_before files_after before after err_before err_after stop e told silent)
+    Ended form files_before files_after before after (Err stop) → NoReadFailed {ℕ} files_before files_after (Err stop) →
+    status ≡ status_of stop → Told err_before err_after (line_of stop) → (status_of stop ≡ 4 → err_after ≡ err_before) → Ran form files_before files_after before after err_before err_after status
+ran_stopped form files_before files_after before after err_before err_after stop status e reads s told silent =
+    rw s (stopped form files_before files_after before after err_before err_after stop e reads told silent)
 
 -- the words are no command
 pub no_command : (form : Option Command) (files : FilesSeen) (seen : SinkSeen) → form ≡ None → Ended form files files seen seen (Err Usage)
@@ -257,17 +273,18 @@ memory_ran form files seen err_before err_after status six told = record {
   usage = λ two. absurd (omega (arith, two, six));
   answer = λ three other. absurd (other six);
   read_failed = λ three. absurd (omega (arith, three, six));
+  no_read_failed = λ _ _. refl;
   write_failed = λ four. absurd (omega (arith, four, six));
   no_write_failed = λ _. refl;
   nothing_out = λ _ _ _. refl;
   err_memory = λ _. told;
   nothing_err = low_or_four (omega (arith, six)) (λ four. absurd (omega (arith, four, six)));
-  complete = λ contents tells faultless none write. inl six;
+  complete = λ contents tells faultless three four. inl six;
 }
 
 unread_ran : (files : FilesSeen) (seen err_before err_after : SinkSeen) (status : ℕ) → status ≡ 2 → Told err_before err_after usage_line →
     Ran None files files seen seen err_before err_after status
-unread_ran files seen err_before err_after status two told = rw two (usage_ran files files seen seen err_before err_after refl told)
+unread_ran files seen err_before err_after status two told = rw two (usage_ran files files seen seen err_before err_after (λ _. refl) refl told)
 
 -- words that can't be read
 pub unread_stopped : (files : FilesSeen) (seen err_before err_after : SinkSeen) (stop : code.Stop) (status : ℕ) → (stop ≡ Memory) ⊎ (stop ≡ Usage) →

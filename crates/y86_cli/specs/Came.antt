@@ -1,6 +1,6 @@
 -- What came of a plan: the answer by some contents that agree with what the files tell, or a lost call.
 use Rattle.std.specs.Prelude.{◌≡◌, ◌⊎◌, ℕ, ◌≤◌, List, [], Option, Some, Result, Ok, Err}
-use Rattle.wb_io.specs.Causes.{Rose, counted}
+use Rattle.wb_io.specs.Causes.{counted}
 use Rattle.wb_io.specs.Sinks.{Took, TookPart}
 use Rattle.y86_cli.specs.declared.stop.Stop as code
 use Rattle.y86_cli.specs.Does.{FilesSeen, SinkSeen}
@@ -27,7 +27,7 @@ Fits a before after (Err stop) =
 -- want of memory, or a read of a file that the answer comes to failed
 abbrev pub IsLost : Plan → FilesSeen → FilesSeen → code.Stop → Type 0
 IsLost plan before after stop =
-    (status_of stop ≡ 6) ⊎ ((name : List ℕ) × (read_name stop ≡ Some name) × Rose (before.faults name) (after.faults name) × IsReached plan before.told name)
+    (status_of stop ≡ 6) ⊎ ((name : List ℕ) × (read_name stop ≡ Some name) × (after.faults name ≡ counted (before.faults name)) × IsReached plan before.told name)
 
 abbrev pub Loses : Plan → FilesSeen → FilesSeen → SinkSeen → SinkSeen → Result ℕ code.Stop → Type 0
 Loses plan files_before files_after before after (Ok status) = ⊥

@@ -1,12 +1,12 @@
 -- What a call did to the outside, against a plan.
-use Rattle.std.specs.Prelude.{◌≡◌, ◌⊎◌, ℕ, ◌≤◌, List, [], length, Option, Some, IfSome, Result, Ok, Err}
-use Rattle.wb_io.specs.Causes.{Rose, counted}
+use Rattle.std.specs.Prelude.{◌≡◌, ◌⊎◌, ℕ, ◌≤◌, false, List, [], length, Option, Some, IfSome, Result, Ok, Err}
+use Rattle.wb_io.specs.Causes.{counted}
 use Rattle.wb_io.specs.Files.{HasBytes, HasMore}
 use Rattle.wb_io.specs.Sinks.{Took, TookPart}
 use Rattle.y86_cli.specs.declared.stop.Stop as code
 use Rattle.y86_cli.specs.declared.stop.Stop.TheVariants.{Write, Refused, Memory, Read, TooLong}
 use Rattle.y86_cli.specs.Plan.{Answered, Plan, gives, says, reads}
-use Rattle.y86_cli.specs.Stops.{answer_at, status_of}
+use Rattle.y86_cli.specs.Stops.{answer_at, ends_at_read, status_of}
 
 -- the files: what they tell, and for each name a count of the reads that failed
 pub record FilesSeen : Type 0 where
@@ -24,15 +24,19 @@ files_seen told faults = record { told = told; faults = faults }
 abbrev pub sink_seen : Option (List ℕ) → ℕ → SinkSeen
 sink_seen taken faults = record { taken = taken; faults = faults }
 
--- the files at a later time
+-- the files at a later time, when no further read has failed
 pub record IsLater (before after : FilesSeen) : Type 0 where
   pub stays : (name : List ℕ) → IfSome (before.told name) (λ known. after.told name ≡ Some known)
-  pub counts : (name : List ℕ) → before.faults name ≤ after.faults name
+  pub counts : (name : List ℕ) → after.faults name ≡ before.faults name
+
+-- where the call didn't end with a failed read, no read failed
+abbrev pub NoReadFailed : {A : Type 0} → FilesSeen → FilesSeen → Result A code.Stop → Type 0
+NoReadFailed before after result = ends_at_read result ≡ false → (name : List ℕ) → after.faults name ≡ before.faults name
 
 -- why a read of a file stopped: it failed, the file has more bytes than the limit, or want of memory
 abbrev pub StopsAtRead : List ℕ → ℕ → FilesSeen → FilesSeen → code.Stop → Type 0
 StopsAtRead name limit before after Memory = Unit {0}
-StopsAtRead name limit before after (Read other) = (other.now ≡ name) × Rose (before.faults name) (after.faults name)
+StopsAtRead name limit before after (Read other) = (other.now ≡ name) × (after.faults name ≡ counted (before.faults name))
 StopsAtRead name limit before after (TooLong other n) = (other.now ≡ name) × (n ≡ limit) × HasMore (before.told name) limit
 StopsAtRead name limit before after _ = ⊥
 

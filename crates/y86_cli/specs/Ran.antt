@@ -4,7 +4,7 @@ use Rattle.std.specs.Global.{Global}
 use Rattle.std.specs.Vec.Iter.{into_iter_items}
 use Rattle.std.specs.declared.string.String.{String}
 use Rattle.std.specs.declared.vec.IntoIter.{IntoIter}
-use Rattle.wb_io.specs.Causes.{Rose, counted}
+use Rattle.wb_io.specs.Causes.{counted}
 use Rattle.wb_io.specs.Sinks.{Took, TookPart}
 use Rattle.y86_cli.specs.declared.stop.Stop as code
 use Rattle.y86_cli.specs.declared.stop.Stop.TheVariants.{Usage}
@@ -13,7 +13,7 @@ use Rattle.y86_cli.specs.Came.{IsAllowed, IsReached}
 use Rattle.y86_cli.specs.Does.{Does, FilesSeen, SinkSeen}
 use Rattle.y86_cli.specs.Forms.{Command}
 use Rattle.y86_cli.specs.Lines.{memory_line, read_fault_line}
-use Rattle.y86_cli.specs.Plan.{Answered, ComesTo, IsFaultless, Plan, Tells}
+use Rattle.y86_cli.specs.Plan.{Answered, IsFaultless, Plan, Tells}
 
 -- the words of a call behind the program's own name
 abbrev pub words_behind : IntoIter (String Global) Global → List (List ℕ)
@@ -36,11 +36,11 @@ pub record Shows (a : Answered) (out_before out_after err_before err_after : Sin
   pub part : status ≡ 4 → TookPart out_before.taken out_after.taken a.out
   pub err : status ≢ 4 → Told err_before err_after a.err
 
--- a read of a file that the answer comes to failed, and the line on standard error names it
+-- a read of a file that the answer comes to failed, just once, and the line on standard error names it
 pub record ReadFailed (plan : Plan) (files_before files_after : FilesSeen) (err_before err_after : SinkSeen) : Type 0 where
   pub name : List ℕ
   pub reached : IsReached plan files_before.told name
-  pub failed : Rose (files_before.faults name) (files_after.faults name)
+  pub failed : files_after.faults name ≡ counted (files_before.faults name)
   pub line : Told err_before err_after (read_fault_line name)
 
 pub record Ran (form : Option Command) (files_before files_after : FilesSeen) (out_before out_after err_before err_after : SinkSeen) (status : ℕ) : Type 0 where
@@ -50,7 +50,9 @@ pub record Ran (form : Option Command) (files_before files_after : FilesSeen) (o
   -- but for a failed read and want of memory, an answer that is allowed
   pub answer : status ≢ 3 → status ≢ 6 →
       (a : Answered) × IsAllowed (plan_in form) files_before.told a × Shows a out_before out_after err_before err_after status
+  -- with 3 exactly one read of the file failed, and with every other status no read of any
   pub read_failed : status ≡ 3 → ReadFailed (plan_in form) files_before files_after err_before err_after
+  pub no_read_failed : status ≢ 3 → (name : List ℕ) → files_after.faults name ≡ files_before.faults name
   -- with 4 exactly one write on standard output failed, and with every other status none
   pub write_failed : status ≡ 4 → out_after.faults ≡ counted out_before.faults
   pub no_write_failed : status ≢ 4 → out_after.faults ≡ out_before.faults
@@ -59,7 +61,7 @@ pub record Ran (form : Option Command) (files_before files_after : FilesSeen) (o
   pub err_memory : status ≡ 6 → Told err_before err_after memory_line
   -- with 0, 1 and 4 nothing is written on standard error
   pub nothing_err : (status ≤ 1) ⊎ (status ≡ 4) → err_after ≡ err_before
-  -- where nothing outside fails and no file that the answer comes to has a fault, an answer with 0 or 1 comes, or want of memory
+  -- where no file that the answer comes to has a fault, and no read and no write on standard output failed, an answer with 0 or 1
+  -- comes, or want of memory
   pub complete : (contents : List (Option (List ℕ))) → Tells files_before.told (plan_in form) contents → IsFaultless (plan_in form) contents →
-      ((name : List ℕ) → ComesTo (plan_in form) contents name → Rose (files_before.faults name) (files_after.faults name) → ⊥) → (Rose out_before.faults out_after.faults → ⊥) →
-      (status ≡ 6) ⊎ (status ≤ 1)
+      status ≢ 3 → status ≢ 4 → (status ≡ 6) ⊎ (status ≤ 1)

@@ -10,7 +10,7 @@ ghost use Rattle.verdict_text.specs.PipeLines.{pipe_no};
 ghost use Rattle.verdict_text.specs.SeqLine.{seq_no};
 ghost use Rattle.y86_cli.specs.Answers.{check_pipe_plan, check_seq_plan};
 ghost use Rattle.y86_cli.specs.Checks.{PipeChecks, RefusesControl, SeqChecks, TellsPipe};
-ghost use Rattle.y86_cli.specs.Does.{Does, Says, files_seen, sink_seen};
+ghost use Rattle.y86_cli.specs.Does.{Does, NoReadFailed, Says, files_seen, sink_seen};
 ghost use Rattle.y86_cli.specs.Stops.{answer_at, status_of};
 ghost use Rattle.y86_cli.specs.declared.stop.Stop.TheVariants.{Memory as WantOfMemory};
 
@@ -120,9 +120,10 @@ pub fn check_seq_file<'a, F: Files, O: Sink>(
     files: &mut F,
     out: &mut O,
 ) -> Result<u8, Stop<'a>>
-    ensures { Does (check_seq_plan name.now variant)
+    ensures does { Does (check_seq_plan name.now variant)
         (files_seen (F.told files.old) (F.faults files.old)) (files_seen (F.told files.new) (F.faults files.new))
         (sink_seen (O.taken out.old) (O.faults out.old)) (sink_seen (O.taken out.new) (O.faults out.new)) result }
+    ensures no_read_failed { NoReadFailed (files_seen (F.told files.old) (F.faults files.old)) (files_seen (F.told files.new) (F.faults files.new)) result }
 {
     let source = match read_file(alloc, name, HCL_LIMIT, files) {
         Ok(source) => source,
@@ -230,9 +231,10 @@ pub fn check_pipe_file<'a, F: Files, O: Sink>(
     files: &mut F,
     out: &mut O,
 ) -> Result<u8, Stop<'a>>
-    ensures { Does (check_pipe_plan name.now variant)
+    ensures does { Does (check_pipe_plan name.now variant)
         (files_seen (F.told files.old) (F.faults files.old)) (files_seen (F.told files.new) (F.faults files.new))
         (sink_seen (O.taken out.old) (O.faults out.old)) (sink_seen (O.taken out.new) (O.faults out.new)) result }
+    ensures no_read_failed { NoReadFailed (files_seen (F.told files.old) (F.faults files.old)) (files_seen (F.told files.new) (F.faults files.new)) result }
 {
     let source = match read_file(alloc, name, HCL_LIMIT, files) {
         Ok(source) => source,

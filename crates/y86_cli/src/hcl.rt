@@ -2,7 +2,7 @@ ghost use Rattle.std.specs.Prelude.{◌≡◌, List, ℕ};
 ghost use Rattle.hcl_read.specs.Read.{ReadsAs};
 ghost use Rattle.y86_cli.specs.Answers.{hcl_plan};
 ghost use Rattle.y86_cli.specs.Designs.{RefusesHcl};
-ghost use Rattle.y86_cli.specs.Does.{Does, GivesOne, files_seen, sink_seen};
+ghost use Rattle.y86_cli.specs.Does.{Does, GivesOne, NoReadFailed, files_seen, sink_seen};
 ghost use Rattle.y86_cli.specs.Lines.{hcl_reason};
 
 use crate::files::{HCL_LIMIT, read_file};
@@ -55,9 +55,10 @@ pub fn hcl<'a, F: Files, O: Sink>(
     files: &mut F,
     out: &mut O,
 ) -> Result<u8, Stop<'a>>
-    ensures { Does (hcl_plan name.now)
+    ensures does { Does (hcl_plan name.now)
         (files_seen (F.told files.old) (F.faults files.old)) (files_seen (F.told files.new) (F.faults files.new))
         (sink_seen (O.taken out.old) (O.faults out.old)) (sink_seen (O.taken out.new) (O.faults out.new)) result }
+    ensures no_read_failed { NoReadFailed (files_seen (F.told files.old) (F.faults files.old)) (files_seen (F.told files.new) (F.faults files.new)) result }
 {
     let text = match read_file(alloc, name, HCL_LIMIT, files) {
         Ok(text) => text,

@@ -1,7 +1,6 @@
 //! Theorems about the words of a call and its answer. Each is a function that does nothing and whose contract is the theorem.
 ghost use Rattle.std.specs.Prelude.{◌≡◌, ◌≢◌, ◌⊎◌, ◌↔◌, ◌≤◌, ◌∷◌, ◌++◌, Bool, List, [], ℕ, Option, Some, None, codes, true};
 ghost use Rattle.wb_io.specs.Sinks.{Took, TookPart};
-ghost use Rattle.y86_base.specs.Image.{IsSize};
 ghost use Rattle.y86_base.specs.declared.parts.Variant.TheVariants.{Base};
 ghost use Rattle.y86_base.specs.declared.parts.Variant.{Variant};
 ghost use Rattle.y86_cli.specs.Agreement.{HasAccepted, HasAcceptedSeq, RanAccepted, ToldNo};
@@ -54,20 +53,23 @@ pub fn law_of_plans()
         TookPart out_before.taken out_after.taken (one.just_one contents).0.out }
 {}
 
-/// What an accepted file means for a user of the program. Where a call of `check seq` ends with 0, the file has an accepted
-/// design, and on every image its machine is that of the run of instructions. Where a call of `check pipe` ends with 0, the
-/// file has an accepted design, and on every image whose instructions fetch no byte that an earlier one stored its pipeline
-/// retires the instructions of that run, one after another, and stops as it does. Where a call of `psim` with `--checked`
-/// ends with 0 or 1, the text on standard output is a No; or it is a Yes of such a file, and what stands behind it agrees
-/// with the run of instructions: the trace, the registers, and where the pipeline stopped the whole report.
+/// What an accepted file means for a user of the program, from the words of a call and what `run` says of it. Where a call
+/// of `check seq` ends with 0, the file has an accepted design, and on every image its machine is that of the run of
+/// instructions. Where a call of `check pipe` ends with 0, the file has an accepted design, and on every image whose
+/// instructions fetch no byte that an earlier one stored its pipeline retires the instructions of that run, one after
+/// another, and stops as it does. Where a call of `psim` with `--checked` ends with 0 or 1, the text on standard output is
+/// a No; or it is a Yes of such a file, and what stands behind it agrees with the run of instructions: the trace, the
+/// registers, and where the pipeline stopped the whole report.
 pub fn law_of_accepted_files()
-    ensures check_seq { (name : List ℕ) (v : Variant) (files_before files_after : FilesSeen) (out_before out_after err_before err_after : SinkSeen) →
-        Ran (Some (check_seq name v)) files_before files_after out_before out_after err_before err_after 0 → HasAcceptedSeq v (files_before.told name) }
-    ensures check_pipe { (name : List ℕ) (v : Variant) (files_before files_after : FilesSeen) (out_before out_after err_before err_after : SinkSeen) →
-        Ran (Some (check_pipe name v)) files_before files_after out_before out_after err_before err_after 0 → HasAccepted v (files_before.told name) }
-    ensures psim { (name object : List ℕ) (size limit : ℕ) (trace : Bool) (v : Variant) (files_before files_after : FilesSeen)
-        (out_before out_after err_before err_after : SinkSeen) (status : ℕ) → IsSize size → status ≤ 1 →
-        Ran (Some (psim name object size limit trace true v)) files_before files_after out_before out_after err_before err_after status →
+    ensures check_seq { (words : List (List ℕ)) (name : List ℕ) (v : Variant) (files_before files_after : FilesSeen) (out_before out_after err_before err_after : SinkSeen) →
+        form_of words ≡ Some (check_seq name v) → Ran (form_of words) files_before files_after out_before out_after err_before err_after 0 →
+        HasAcceptedSeq v (files_before.told name) }
+    ensures check_pipe { (words : List (List ℕ)) (name : List ℕ) (v : Variant) (files_before files_after : FilesSeen) (out_before out_after err_before err_after : SinkSeen) →
+        form_of words ≡ Some (check_pipe name v) → Ran (form_of words) files_before files_after out_before out_after err_before err_after 0 →
+        HasAccepted v (files_before.told name) }
+    ensures psim { (words : List (List ℕ)) (name object : List ℕ) (size limit : ℕ) (trace : Bool) (v : Variant) (files_before files_after : FilesSeen)
+        (out_before out_after err_before err_after : SinkSeen) (status : ℕ) → form_of words ≡ Some (psim name object size limit trace true v) → status ≤ 1 →
+        Ran (form_of words) files_before files_after out_before out_after err_before err_after status →
         RanAccepted v size limit trace (files_before.told name) (files_before.told object) out_before out_after status
         ⊎ ToldNo v (files_before.told name) out_before out_after status }
 {}

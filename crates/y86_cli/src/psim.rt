@@ -5,7 +5,7 @@ ghost use Rattle.wb_io.specs.Causes.{counted};
 ghost use Rattle.wb_io.specs.Sinks.{Puts};
 ghost use Rattle.y86_base.specs.Image.{IsSize};
 ghost use Rattle.y86_cli.specs.Answers.{PipeAnswers, checked_plan, pipe_plan, psim_plan};
-ghost use Rattle.y86_cli.specs.Does.{Does, Says, files_seen, sink_seen};
+ghost use Rattle.y86_cli.specs.Does.{Does, NoReadFailed, Says, files_seen, sink_seen};
 ghost use Rattle.y86_cli.specs.PipeRuns.{ran_line};
 ghost use Rattle.yis_run.specs.Report as text;
 
@@ -113,9 +113,10 @@ fn run_object<'a, F: Files, O: Sink>(
     requires limit { limit ≤ 100000000 }
     requires bound { IsBound pipe_rows ordered.design.terms }
     requires order { IsOrderOf pipe_rows ordered.design.terms ordered.order.ids }
-    ensures { Does (pipe_plan verdict.now ordered.design.terms obj.now mem limit trace variant)
+    ensures does { Does (pipe_plan verdict.now ordered.design.terms obj.now mem limit trace variant)
         (files_seen (F.told files.old) (F.faults files.old)) (files_seen (F.told files.new) (F.faults files.new))
         (sink_seen (O.taken out.old) (O.faults out.old)) (sink_seen (O.taken out.new) (O.faults out.new)) result }
+    ensures no_read_failed { NoReadFailed (files_seen (F.told files.old) (F.faults files.old)) (files_seen (F.told files.new) (F.faults files.new)) result }
 {
     let bytes = match read_file(alloc, obj, FILE_LIMIT, files) {
         Ok(bytes) => bytes,
@@ -147,9 +148,10 @@ fn run_checked<'a, F: Files, O: Sink>(
     requires limit { limit ≤ 100000000 }
     requires bound { IsBound pipe_rows ordered.design.terms }
     requires order { IsOrderOf pipe_rows ordered.design.terms ordered.order.ids }
-    ensures { Does (checked_plan name.now ordered.design.terms obj.now mem limit trace checked variant)
+    ensures does { Does (checked_plan name.now ordered.design.terms obj.now mem limit trace checked variant)
         (files_seen (F.told files.old) (F.faults files.old)) (files_seen (F.told files.new) (F.faults files.new))
         (sink_seen (O.taken out.old) (O.faults out.old)) (sink_seen (O.taken out.new) (O.faults out.new)) result }
+    ensures no_read_failed { NoReadFailed (files_seen (F.told files.old) (F.faults files.old)) (files_seen (F.told files.new) (F.faults files.new)) result }
 {
     if !checked {
         return run_object(
@@ -189,9 +191,10 @@ pub fn psim<'a, F: Files, O: Sink>(
 ) -> Result<u8, Stop<'a>>
     requires size { IsSize mem }
     requires limit { limit ≤ 100000000 }
-    ensures { Does (psim_plan name.now obj.now mem limit trace checked variant)
+    ensures does { Does (psim_plan name.now obj.now mem limit trace checked variant)
         (files_seen (F.told files.old) (F.faults files.old)) (files_seen (F.told files.new) (F.faults files.new))
         (sink_seen (O.taken out.old) (O.faults out.old)) (sink_seen (O.taken out.new) (O.faults out.new)) result }
+    ensures no_read_failed { NoReadFailed (files_seen (F.told files.old) (F.faults files.old)) (files_seen (F.told files.new) (F.faults files.new)) result }
 {
     let source = match read_file(alloc, name, HCL_LIMIT, files) {
         Ok(source) => source,

@@ -1,6 +1,6 @@
 ghost use Rattle.std.specs.Prelude.{◌≡◌, ◌≢◌, ◌≤◌, List, ℕ, None, map, string_bytes};
 ghost use Rattle.y86_cli.specs.Answers.{plan_of};
-ghost use Rattle.y86_cli.specs.Does.{Does, files_seen, sink_seen};
+ghost use Rattle.y86_cli.specs.Does.{Does, NoReadFailed, files_seen, sink_seen};
 ghost use Rattle.y86_cli.specs.Forms.{form_of};
 ghost use Rattle.y86_cli.specs.Ran.{Ended, Ran, Told};
 ghost use Rattle.y86_cli.specs.Stops.{line_of, status_of};
@@ -33,9 +33,10 @@ fn execute<'a, F: Files, O: Sink>(
     out: &mut O,
 ) -> Result<Status, Stop<'a>>
     requires { IsLegal (command_in command) }
-    ensures { Does (plan_of (command_in command.entry))
+    ensures does { Does (plan_of (command_in command.entry))
         (files_seen (F.told files.old) (F.faults files.old)) (files_seen (F.told files.new) (F.faults files.new))
         (sink_seen (O.taken out.old) (O.faults out.old)) (sink_seen (O.taken out.new) (O.faults out.new)) result }
+    ensures no_read_failed { NoReadFailed (files_seen (F.told files.old) (F.faults files.old)) (files_seen (F.told files.new) (F.faults files.new)) result }
 {
     match command {
         Cmd::Yas { asm, mem, variant } => yas(alloc, asm, mem, variant, files, out),
@@ -77,9 +78,10 @@ fn outcome<'a, F: Files, O: Sink>(
     files: &mut F,
     out: &mut O,
 ) -> Result<Status, Stop<'a>>
-    ensures { Ended (form_of (map string_bytes command_words.now))
+    ensures ended { Ended (form_of (map string_bytes command_words.now))
         (files_seen (F.told files.old) (F.faults files.old)) (files_seen (F.told files.new) (F.faults files.new))
         (sink_seen (O.taken out.old) (O.faults out.old)) (sink_seen (O.taken out.new) (O.faults out.new)) result }
+    ensures no_read_failed { NoReadFailed (files_seen (F.told files.old) (F.faults files.old)) (files_seen (F.told files.new) (F.faults files.new)) result }
 {
     match words(command_words) {
         Err(Usage) => Err(Stop::Usage),

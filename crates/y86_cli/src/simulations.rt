@@ -1,18 +1,17 @@
 //! Calls of the program that run a datapath, over files and sinks in memory.
 use crate::run::{Status, run};
 use crate::tests::{sink, words_of};
+use example_designs::Example;
 use std::alloc::Global;
 use std::process::Abort;
 use std::test::Fail;
 use wb_io::MemFiles;
 
-/// The control logic that `h.hcl` holds: that of a datapath of the book, PIPE's with other definitions in place of its own, or a whole text.
+/// The control logic that `h.hcl` holds: a design of `examples/`, one with other definitions in place of its own, or a whole text.
 #[derive(Clone, Copy)]
 pub enum Logic {
-    Seq,
-    SeqWith(&'static [u8]),
-    Pipe,
-    Changed(&'static [u8]),
+    Of(Example),
+    With(Example, &'static [u8]),
     Text(&'static [u8]),
 }
 
@@ -26,136 +25,6 @@ pub struct Simulation {
     pub out: &'static [u8],
     pub err: &'static [u8],
 }
-
-/// The control logic of SEQ as `examples/seq.hcl` has it.
-const SEQ: &[u8] = b"word icode = [ imem_error : INOP; 1 : imem_icode; ];
-word ifun = [ imem_error : FNONE; 1 : imem_ifun; ];
-bool instr_valid = icode in { INOP, IHALT, IRRMOVQ, IIRMOVQ, IRMMOVQ, IMRMOVQ,
-  IOPQ, IJXX, ICALL, IRET, IPUSHQ, IPOPQ };
-bool need_regids = icode in { IRRMOVQ, IOPQ, IPUSHQ, IPOPQ, IIRMOVQ, IRMMOVQ, IMRMOVQ };
-bool need_valC = icode in { IIRMOVQ, IRMMOVQ, IMRMOVQ, IJXX, ICALL };
-word srcA = [ icode in { IRRMOVQ, IRMMOVQ, IOPQ, IPUSHQ } : rA;
-  icode in { IPOPQ, IRET } : RRSP; 1 : RNONE; ];
-word srcB = [ icode in { IOPQ, IRMMOVQ, IMRMOVQ } : rB;
-  icode in { IPUSHQ, IPOPQ, ICALL, IRET } : RRSP; 1 : RNONE; ];
-word dstE = [ icode == IRRMOVQ && Cnd : rB; icode in { IIRMOVQ, IOPQ } : rB;
-  icode in { IPUSHQ, IPOPQ, ICALL, IRET } : RRSP; 1 : RNONE; ];
-word dstM = [ icode in { IMRMOVQ, IPOPQ } : rA; 1 : RNONE; ];
-word aluA = [ icode in { IRRMOVQ, IOPQ } : valA; icode in { IIRMOVQ, IRMMOVQ, IMRMOVQ } : valC;
-  icode in { ICALL, IPUSHQ } : -8; icode in { IRET, IPOPQ } : 8; ];
-word aluB = [ icode in { IRMMOVQ, IMRMOVQ, IOPQ, ICALL, IPUSHQ, IRET, IPOPQ } : valB;
-  icode in { IRRMOVQ, IIRMOVQ } : 0; ];
-word alufun = [ icode == IOPQ : ifun; 1 : ALUADD; ];
-bool set_cc = icode == IOPQ;
-word mem_addr = [ icode in { IRMMOVQ, IPUSHQ, ICALL, IMRMOVQ } : valE;
-  icode in { IPOPQ, IRET } : valA; ];
-bool mem_read = icode in { IMRMOVQ, IPOPQ, IRET };
-bool mem_write = icode in { IRMMOVQ, IPUSHQ, ICALL };
-word mem_data = [ icode in { IRMMOVQ, IPUSHQ } : valA; icode == ICALL : valP; ];
-word Stat = [ imem_error || dmem_error : SADR; !instr_valid : SINS; icode == IHALT : SHLT; 1 : SAOK; ];
-word new_pc = [ icode == ICALL : valC; icode == IJXX && Cnd : valC; icode == IRET : valM; 1 : valP; ];
-";
-
-/// The control logic of PIPE as `examples/std.hcl` has it.
-const STD: &[u8] =
-    b"word f_pc = [ M_icode == IJXX && !M_Cnd : M_valA; W_icode == IRET : W_valM; 1 : F_predPC; ];
-word f_icode = [ imem_error : INOP; 1 : imem_icode; ];
-word f_ifun = [ imem_error : FNONE; 1 : imem_ifun; ];
-bool instr_valid = f_icode in { INOP, IHALT, IRRMOVQ, IIRMOVQ, IRMMOVQ, IMRMOVQ,
-  IOPQ, IJXX, ICALL, IRET, IPUSHQ, IPOPQ };
-word f_stat = [ imem_error : SADR; !instr_valid : SINS; f_icode == IHALT : SHLT; 1 : SAOK; ];
-bool need_regids = f_icode in { IRRMOVQ, IOPQ, IPUSHQ, IPOPQ, IIRMOVQ, IRMMOVQ, IMRMOVQ };
-bool need_valC = f_icode in { IIRMOVQ, IRMMOVQ, IMRMOVQ, IJXX, ICALL };
-word f_predPC = [ f_icode in { IJXX, ICALL } : f_valC; 1 : f_valP; ];
-word d_srcA = [ D_icode in { IRRMOVQ, IRMMOVQ, IOPQ, IPUSHQ } : D_rA;
-  D_icode in { IPOPQ, IRET } : RRSP; 1 : RNONE; ];
-word d_srcB = [ D_icode in { IOPQ, IRMMOVQ, IMRMOVQ } : D_rB;
-  D_icode in { IPUSHQ, IPOPQ, ICALL, IRET } : RRSP; 1 : RNONE; ];
-word d_dstE = [ D_icode in { IRRMOVQ, IIRMOVQ, IOPQ } : D_rB;
-  D_icode in { IPUSHQ, IPOPQ, ICALL, IRET } : RRSP; 1 : RNONE; ];
-word d_dstM = [ D_icode in { IMRMOVQ, IPOPQ } : D_rA; 1 : RNONE; ];
-word d_valA = [ D_icode in { ICALL, IJXX } : D_valP; d_srcA == e_dstE : e_valE;
-  d_srcA == M_dstM : m_valM; d_srcA == M_dstE : M_valE;
-  d_srcA == W_dstM : W_valM; d_srcA == W_dstE : W_valE; 1 : d_rvalA; ];
-word d_valB = [ d_srcB == e_dstE : e_valE; d_srcB == M_dstM : m_valM; d_srcB == M_dstE : M_valE;
-  d_srcB == W_dstM : W_valM; d_srcB == W_dstE : W_valE; 1 : d_rvalB; ];
-word aluA = [ E_icode in { IRRMOVQ, IOPQ } : E_valA; E_icode in { IIRMOVQ, IRMMOVQ, IMRMOVQ } : E_valC;
-  E_icode in { ICALL, IPUSHQ } : -8; E_icode in { IRET, IPOPQ } : 8; ];
-word aluB = [ E_icode in { IRMMOVQ, IMRMOVQ, IOPQ, ICALL, IPUSHQ, IRET, IPOPQ } : E_valB;
-  E_icode in { IRRMOVQ, IIRMOVQ } : 0; ];
-word alufun = [ E_icode == IOPQ : E_ifun; 1 : ALUADD; ];
-bool set_cc = E_icode == IOPQ && !m_stat in { SADR, SINS, SHLT } && !W_stat in { SADR, SINS, SHLT };
-word e_valA = E_valA;
-word e_dstE = [ E_icode == IRRMOVQ && !e_Cnd : RNONE; 1 : E_dstE; ];
-word mem_addr = [ M_icode in { IRMMOVQ, IPUSHQ, ICALL, IMRMOVQ } : M_valE;
-  M_icode in { IPOPQ, IRET } : M_valA; ];
-bool mem_read = M_icode in { IMRMOVQ, IPOPQ, IRET };
-bool mem_write = M_icode in { IRMMOVQ, IPUSHQ, ICALL };
-word m_stat = [ dmem_error : SADR; 1 : M_stat; ];
-word w_dstE = W_dstE;
-word w_valE = W_valE;
-word w_dstM = W_dstM;
-word w_valM = W_valM;
-word Stat = [ W_stat == SBUB : SAOK; 1 : W_stat; ];
-bool F_bubble = 0;
-bool F_stall = E_icode in { IMRMOVQ, IPOPQ } && E_dstM in { d_srcA, d_srcB }
-  || IRET in { D_icode, E_icode, M_icode };
-bool D_stall = E_icode in { IMRMOVQ, IPOPQ } && E_dstM in { d_srcA, d_srcB };
-bool D_bubble = E_icode == IJXX && !e_Cnd
-  || !(E_icode in { IMRMOVQ, IPOPQ } && E_dstM in { d_srcA, d_srcB })
-     && IRET in { D_icode, E_icode, M_icode };
-bool E_stall = 0;
-bool E_bubble = E_icode == IJXX && !e_Cnd
-  || E_icode in { IMRMOVQ, IPOPQ } && E_dstM in { d_srcA, d_srcB };
-bool M_stall = 0;
-bool M_bubble = m_stat in { SADR, SINS, SHLT } || W_stat in { SADR, SINS, SHLT };
-bool W_stall = W_stat in { SADR, SINS, SHLT };
-bool W_bubble = 0;
-";
-
-/// What `examples/nb.hcl` changes: PIPE without bypassing.
-pub const NB: &[u8] = b"word d_valA = [ D_icode in { ICALL, IJXX } : D_valP; 1 : d_rvalA; ];
-word d_valB = d_rvalB;
-bool F_stall = (d_srcA != RNONE && d_srcA in { e_dstE, E_dstM, M_dstE, M_dstM, W_dstE, W_dstM } || d_srcB != RNONE && d_srcB in { e_dstE, E_dstM, M_dstE, M_dstM, W_dstE, W_dstM })
-  || IRET in { D_icode, E_icode, M_icode };
-bool D_stall = (d_srcA != RNONE && d_srcA in { e_dstE, E_dstM, M_dstE, M_dstM, W_dstE, W_dstM } || d_srcB != RNONE && d_srcB in { e_dstE, E_dstM, M_dstE, M_dstM, W_dstE, W_dstM }) && !(E_icode == IJXX && !e_Cnd);
-bool D_bubble = (E_icode == IJXX && !e_Cnd)
-  || !(d_srcA != RNONE && d_srcA in { e_dstE, E_dstM, M_dstE, M_dstM, W_dstE, W_dstM } || d_srcB != RNONE && d_srcB in { e_dstE, E_dstM, M_dstE, M_dstM, W_dstE, W_dstM })
-     && IRET in { D_icode, E_icode, M_icode };
-bool E_bubble = (E_icode == IJXX && !e_Cnd)
-  || (d_srcA != RNONE && d_srcA in { e_dstE, E_dstM, M_dstE, M_dstM, W_dstE, W_dstM } || d_srcB != RNONE && d_srcB in { e_dstE, E_dstM, M_dstE, M_dstM, W_dstE, W_dstM });
-";
-
-/// What `examples/lf.hcl` changes: PIPE with load forwarding.
-pub const LF: &[u8] =
-    b"word e_valA = [ M_dstM == E_srcA && E_icode in { IRMMOVQ, IPUSHQ } : m_valM; 1 : E_valA; ];
-bool F_stall = (E_icode in { IMRMOVQ, IPOPQ } && (E_dstM == d_srcB || E_dstM == d_srcA && !D_icode in { IRMMOVQ, IPUSHQ }))
-  || IRET in { D_icode, E_icode, M_icode };
-bool D_stall = (E_icode in { IMRMOVQ, IPOPQ } && (E_dstM == d_srcB || E_dstM == d_srcA && !D_icode in { IRMMOVQ, IPUSHQ }));
-bool D_bubble = (E_icode == IJXX && !e_Cnd)
-  || !(E_icode in { IMRMOVQ, IPOPQ } && (E_dstM == d_srcB || E_dstM == d_srcA && !D_icode in { IRMMOVQ, IPUSHQ }))
-     && IRET in { D_icode, E_icode, M_icode };
-bool E_bubble = (E_icode == IJXX && !e_Cnd)
-  || (E_icode in { IMRMOVQ, IPOPQ } && (E_dstM == d_srcB || E_dstM == d_srcA && !D_icode in { IRMMOVQ, IPUSHQ }));
-";
-
-/// What `examples/nt.hcl` changes: jumps predicted not taken.
-pub const NT: &[u8] =
-    b"word f_pc = [ M_icode == IJXX && M_ifun != UNCOND && M_Cnd : M_valE; W_icode == IRET : W_valM; 1 : F_predPC; ];
-word f_predPC = [ f_icode == ICALL || f_icode == IJXX && f_ifun == UNCOND : f_valC; 1 : f_valP; ];
-word aluA = [ E_icode in { IRRMOVQ, IOPQ } : E_valA; E_icode in { IIRMOVQ, IRMMOVQ, IMRMOVQ, IJXX } : E_valC;
-  E_icode in { ICALL, IPUSHQ } : -8; E_icode in { IRET, IPOPQ } : 8; ];
-word aluB = [ E_icode in { IRMMOVQ, IMRMOVQ, IOPQ, ICALL, IPUSHQ, IRET, IPOPQ } : E_valB;
-  E_icode in { IRRMOVQ, IIRMOVQ, IJXX } : 0; ];
-bool F_stall = (E_icode in { IMRMOVQ, IPOPQ } && E_dstM in { d_srcA, d_srcB })
-  || IRET in { D_icode, E_icode, M_icode };
-bool D_stall = (E_icode in { IMRMOVQ, IPOPQ } && E_dstM in { d_srcA, d_srcB });
-bool D_bubble = (E_icode == IJXX && E_ifun != UNCOND && e_Cnd)
-  || !(E_icode in { IMRMOVQ, IPOPQ } && E_dstM in { d_srcA, d_srcB })
-     && IRET in { D_icode, E_icode, M_icode };
-bool E_bubble = (E_icode == IJXX && E_ifun != UNCOND && e_Cnd)
-  || (E_icode in { IMRMOVQ, IPOPQ } && E_dstM in { d_srcA, d_srcB });
-";
 
 /// A decode register that a load behind its use and a ret stall and bubble at once.
 pub const BOTH: &[u8] =
@@ -211,7 +80,7 @@ static ON_SEQ: [Simulation; 3] = [
     Simulation {
         shows: "an addition on SEQ",
         words: &["ssim", "h.hcl", "p.yo"],
-        logic: Logic::Seq,
+        logic: Logic::Of(Example::Seq),
         object: ADDITION,
         status: 0,
         out: b"Stopped in 4 steps at PC = 0x16.  Status 'HLT', CC Z=0 S=0 O=0\nChanges to registers:\n%rax:\t0x0000000000000000\t0x000000000000000d\n%rdx:\t0x0000000000000000\t0x000000000000000a\n\nChanges to memory:\n",
@@ -220,7 +89,7 @@ static ON_SEQ: [Simulation; 3] = [
     Simulation {
         shows: "a call on SEQ",
         words: &["ssim", "h.hcl", "p.yo"],
-        logic: Logic::Seq,
+        logic: Logic::Of(Example::Seq),
         object: b"0x000: 30f40001000000000000\n0x00a: 801400000000000000\n0x013: 00\n0x014: 90\n",
         status: 0,
         out: b"Stopped in 4 steps at PC = 0x13.  Status 'HLT', CC Z=1 S=0 O=0\nChanges to registers:\n%rsp:\t0x0000000000000000\t0x0000000000000100\n\nChanges to memory:\n0x00f8:\t0x0000000000000000\t0x0000000000000013\n",
@@ -229,7 +98,7 @@ static ON_SEQ: [Simulation; 3] = [
     Simulation {
         shows: "SEQ stops at its limit",
         words: &["ssim", "h.hcl", "p.yo", "--limit", "5"],
-        logic: Logic::Seq,
+        logic: Logic::Of(Example::Seq),
         object: b"0x000: 700000000000000000\n",
         status: 1,
         out: b"Stopped in 5 steps at PC = 0x0.  Status 'AOK', CC Z=1 S=0 O=0\nChanges to registers:\n\nChanges to memory:\n",
@@ -242,7 +111,7 @@ static ON_PIPE: [Simulation; 8] = [
     Simulation {
         shows: "a halt on PIPE",
         words: &["psim", "h.hcl", "p.yo"],
-        logic: Logic::Pipe,
+        logic: Logic::Of(Example::Std),
         object: b"0x000: 00\n",
         status: 0,
         out: b"Ran 5 cycles, retired 1 instructions\nStopped in 1 steps at PC = 0x0.  Status 'HLT', CC Z=1 S=0 O=0\nChanges to registers:\n\nChanges to memory:\n",
@@ -251,7 +120,7 @@ static ON_PIPE: [Simulation; 8] = [
     Simulation {
         shows: "an addition on PIPE, with its trace",
         words: &["psim", "h.hcl", "p.yo", "--trace"],
-        logic: Logic::Pipe,
+        logic: Logic::Of(Example::Std),
         object: ADDITION,
         status: 0,
         out: ADDED,
@@ -260,7 +129,7 @@ static ON_PIPE: [Simulation; 8] = [
     Simulation {
         shows: "a load and its use",
         words: &["psim", "h.hcl", "p.yo"],
-        logic: Logic::Pipe,
+        logic: Logic::Of(Example::Std),
         object: b"0x000: 50071000000000000000\n0x00a: 6000\n0x00c: 00\n0x010: 0500000000000000\n",
         status: 0,
         out: b"Ran 8 cycles, retired 3 instructions\nStopped in 3 steps at PC = 0xc.  Status 'HLT', CC Z=0 S=0 O=0\nChanges to registers:\n%rax:\t0x0000000000000000\t0x000000000000000a\n\nChanges to memory:\n",
@@ -269,7 +138,7 @@ static ON_PIPE: [Simulation; 8] = [
     Simulation {
         shows: "a jump not taken: the wrong path has a store and a halt",
         words: &["psim", "h.hcl", "p.yo"],
-        logic: Logic::Pipe,
+        logic: Logic::Of(Example::Std),
         object: b"0x000: 30f10100000000000000\n0x00a: 6300\n0x00c: 741600000000000000\n0x015: 00\n0x016: 40130001000000000000\n0x020: 00\n",
         status: 0,
         out: b"Ran 10 cycles, retired 4 instructions\nStopped in 4 steps at PC = 0x15.  Status 'HLT', CC Z=1 S=0 O=0\nChanges to registers:\n%rcx:\t0x0000000000000000\t0x0000000000000001\n\nChanges to memory:\n",
@@ -278,7 +147,7 @@ static ON_PIPE: [Simulation; 8] = [
     Simulation {
         shows: "a call on PIPE",
         words: &["psim", "h.hcl", "p.yo"],
-        logic: Logic::Pipe,
+        logic: Logic::Of(Example::Std),
         object: b"0x000: 30f40001000000000000\n0x00a: 801400000000000000\n0x013: 00\n0x014: 90\n",
         status: 0,
         out: b"Ran 11 cycles, retired 4 instructions\nStopped in 4 steps at PC = 0x13.  Status 'HLT', CC Z=1 S=0 O=0\nChanges to registers:\n%rsp:\t0x0000000000000000\t0x0000000000000100\n\nChanges to memory:\n0x00f8:\t0x0000000000000000\t0x0000000000000013\n",
@@ -287,7 +156,7 @@ static ON_PIPE: [Simulation; 8] = [
     Simulation {
         shows: "popq and pushq of the stack pointer",
         words: &["psim", "h.hcl", "p.yo"],
-        logic: Logic::Pipe,
+        logic: Logic::Of(Example::Std),
         object: b"0x000: 30f44000000000000000\n0x00a: b04f\n0x00c: a04f\n0x00e: 00\n0x040: 0001000000000000\n",
         status: 0,
         out: b"Ran 9 cycles, retired 4 instructions\nStopped in 4 steps at PC = 0xe.  Status 'HLT', CC Z=1 S=0 O=0\nChanges to registers:\n%rsp:\t0x0000000000000000\t0x00000000000000f8\n\nChanges to memory:\n0x00f8:\t0x0000000000000000\t0x0000000000000100\n",
@@ -296,7 +165,7 @@ static ON_PIPE: [Simulation; 8] = [
     Simulation {
         shows: "PIPE stops at its limit",
         words: &["psim", "h.hcl", "p.yo", "--limit", "6"],
-        logic: Logic::Pipe,
+        logic: Logic::Of(Example::Std),
         object: b"0x000: 30f44000000000000000\n0x00a: b04f\n0x00c: a04f\n0x00e: 00\n0x040: 0001000000000000\n",
         status: 1,
         out: b"Ran 6 cycles, retired 2 instructions\nStopped in 2 steps at PC = 0x10.  Status 'AOK', CC Z=1 S=0 O=0\nChanges to registers:\n%rsp:\t0x0000000000000000\t0x0000000000000100\n\nChanges to memory:\n",
@@ -305,7 +174,7 @@ static ON_PIPE: [Simulation; 8] = [
     Simulation {
         shows: "an address outside the memory",
         words: &["psim", "h.hcl", "p.yo"],
-        logic: Logic::Pipe,
+        logic: Logic::Of(Example::Std),
         object: b"0x000: 30f10100000000000000\n0x00a: 5001f81f000000000000\n0x014: 6011\n0x016: 00\n",
         status: 1,
         out: b"Ran 6 cycles, retired 2 instructions\nStopped in 2 steps at PC = 0xa.  Status 'ADR', CC Z=1 S=0 O=0\nChanges to registers:\n%rcx:\t0x0000000000000000\t0x0000000000000001\n\nChanges to memory:\n",
@@ -318,7 +187,7 @@ static MORE_ON_PIPE: [Simulation; 4] = [
     Simulation {
         shows: "a register field without a register",
         words: &["psim", "h.hcl", "p.yo"],
-        logic: Logic::Pipe,
+        logic: Logic::Of(Example::Std),
         object: b"0x000: 400f0000000000000000\n",
         status: 1,
         out: b"Ran 5 cycles, retired 1 instructions\nStopped in 1 steps at PC = 0x0.  Status 'INS', CC Z=1 S=0 O=0\nChanges to registers:\n\nChanges to memory:\n",
@@ -327,7 +196,7 @@ static MORE_ON_PIPE: [Simulation; 4] = [
     Simulation {
         shows: "a store over the next instruction, which was fetched before",
         words: &["psim", "h.hcl", "p.yo"],
-        logic: Logic::Pipe,
+        logic: Logic::Of(Example::Std),
         object: b"0x000: 30f01010101010101010\n0x00a: 40071400000000000000\n0x014: 00\n",
         status: 0,
         out: b"Ran 7 cycles, retired 3 instructions\nStopped in 3 steps at PC = 0x14.  Status 'HLT', CC Z=1 S=0 O=0\nChanges to registers:\n%rax:\t0x0000000000000000\t0x1010101010101010\n\nChanges to memory:\n0x0010:\t0x0000000000000000\t0x1010101000000000\n0x0018:\t0x0000000000000000\t0x0000000010101010\n",
@@ -336,7 +205,7 @@ static MORE_ON_PIPE: [Simulation; 4] = [
     Simulation {
         shows: "a store of a loaded register",
         words: &["psim", "h.hcl", "p.yo"],
-        logic: Logic::Pipe,
+        logic: Logic::Of(Example::Std),
         object: b"0x000: 50074000000000000000\n0x00a: 40074800000000000000\n0x014: 00\n0x040: 0500000000000000\n",
         status: 0,
         out: b"Ran 8 cycles, retired 3 instructions\nStopped in 3 steps at PC = 0x14.  Status 'HLT', CC Z=1 S=0 O=0\nChanges to registers:\n%rax:\t0x0000000000000000\t0x0000000000000005\n\nChanges to memory:\n0x0048:\t0x0000000000000000\t0x0000000000000005\n",
@@ -345,7 +214,7 @@ static MORE_ON_PIPE: [Simulation; 4] = [
     Simulation {
         shows: "a limit before the first instruction retires",
         words: &["psim", "h.hcl", "p.yo", "--limit", "3"],
-        logic: Logic::Pipe,
+        logic: Logic::Of(Example::Std),
         object: b"0x000: 00\n",
         status: 1,
         out: b"Ran 3 cycles, retired 0 instructions\nStopped in 0 steps at PC = 0x3.  Status 'AOK', CC Z=1 S=0 O=0\nChanges to registers:\n\nChanges to memory:\n",
@@ -358,7 +227,7 @@ static CHANGED: [Simulation; 8] = [
     Simulation {
         shows: "without bypassing",
         words: &["psim", "h.hcl", "p.yo"],
-        logic: Logic::Changed(NB),
+        logic: Logic::Of(Example::Nb),
         object: ADDITION,
         status: 0,
         out: b"Ran 11 cycles, retired 4 instructions\nStopped in 4 steps at PC = 0x16.  Status 'HLT', CC Z=0 S=0 O=0\nChanges to registers:\n%rax:\t0x0000000000000000\t0x000000000000000d\n%rdx:\t0x0000000000000000\t0x000000000000000a\n\nChanges to memory:\n",
@@ -367,7 +236,7 @@ static CHANGED: [Simulation; 8] = [
     Simulation {
         shows: "predicted not taken",
         words: &["psim", "h.hcl", "p.yo"],
-        logic: Logic::Changed(NT),
+        logic: Logic::Of(Example::Nt),
         object: b"0x000: 30f10100000000000000\n0x00a: 6300\n0x00c: 741600000000000000\n0x015: 00\n0x016: 40130001000000000000\n0x020: 00\n",
         status: 0,
         out: b"Ran 8 cycles, retired 4 instructions\nStopped in 4 steps at PC = 0x15.  Status 'HLT', CC Z=1 S=0 O=0\nChanges to registers:\n%rcx:\t0x0000000000000000\t0x0000000000000001\n\nChanges to memory:\n",
@@ -376,7 +245,7 @@ static CHANGED: [Simulation; 8] = [
     Simulation {
         shows: "with load forwarding",
         words: &["psim", "h.hcl", "p.yo"],
-        logic: Logic::Changed(LF),
+        logic: Logic::Of(Example::Lf),
         object: b"0x000: 50074000000000000000\n0x00a: 40074800000000000000\n0x014: 00\n0x040: 0500000000000000\n",
         status: 0,
         out: b"Ran 7 cycles, retired 3 instructions\nStopped in 3 steps at PC = 0x14.  Status 'HLT', CC Z=1 S=0 O=0\nChanges to registers:\n%rax:\t0x0000000000000000\t0x0000000000000005\n\nChanges to memory:\n0x0048:\t0x0000000000000000\t0x0000000000000005\n",
@@ -385,7 +254,7 @@ static CHANGED: [Simulation; 8] = [
     Simulation {
         shows: "a register that is stalled and bubbled",
         words: &["psim", "h.hcl", "p.yo"],
-        logic: Logic::Changed(BOTH),
+        logic: Logic::With(Example::Std, BOTH),
         object: b"0x000: 30f44000000000000000\n0x00a: b04f\n0x00c: 90\n",
         status: 1,
         out: b"Ran 4 cycles, retired 0 instructions\nStopped in 0 steps at PC = 0xd.  Status 'PIP', CC Z=1 S=0 O=0\nChanges to registers:\n\nChanges to memory:\n",
@@ -394,7 +263,7 @@ static CHANGED: [Simulation; 8] = [
     Simulation {
         shows: "the last register is stalled and bubbled",
         words: &["psim", "h.hcl", "p.yo"],
-        logic: Logic::Changed(b"bool W_stall = 1;\nbool W_bubble = 1;\n"),
+        logic: Logic::With(Example::Std, b"bool W_stall = 1;\nbool W_bubble = 1;\n"),
         object: b"0x000: 00\n",
         status: 1,
         out: b"Ran 1 cycles, retired 0 instructions\nStopped in 0 steps at PC = 0x0.  Status 'PIP', CC Z=1 S=0 O=0\nChanges to registers:\n\nChanges to memory:\n",
@@ -403,7 +272,7 @@ static CHANGED: [Simulation; 8] = [
     Simulation {
         shows: "a pipeline that fetches nothing",
         words: &["psim", "h.hcl", "p.yo"],
-        logic: Logic::Changed(STUCK),
+        logic: Logic::With(Example::Std, STUCK),
         object: b"0x000: 00\n",
         status: 1,
         out: b"Ran 10000 cycles, retired 0 instructions\nStopped in 0 steps at PC = 0x0.  Status 'AOK', CC Z=1 S=0 O=0\nChanges to registers:\n\nChanges to memory:\n",
@@ -412,7 +281,7 @@ static CHANGED: [Simulation; 8] = [
     Simulation {
         shows: "a code compared with a word",
         words: &["psim", "h.hcl", "p.yo"],
-        logic: Logic::Changed(b"bool F_bubble = E_icode == E_valC;\n"),
+        logic: Logic::With(Example::Std, b"bool F_bubble = E_icode == E_valC;\n"),
         object: b"0x000: 00\n",
         status: 0,
         out: b"Ran 5 cycles, retired 1 instructions\nStopped in 1 steps at PC = 0x0.  Status 'HLT', CC Z=1 S=0 O=0\nChanges to registers:\n\nChanges to memory:\n",
@@ -421,7 +290,7 @@ static CHANGED: [Simulation; 8] = [
     Simulation {
         shows: "declarations before the definitions",
         words: &["psim", "h.hcl", "p.yo"],
-        logic: Logic::Changed(DECLARED),
+        logic: Logic::With(Example::Std, DECLARED),
         object: b"0x000: 00\n",
         status: 0,
         out: b"Ran 5 cycles, retired 1 instructions\nStopped in 1 steps at PC = 0x0.  Status 'HLT', CC Z=1 S=0 O=0\nChanges to registers:\n\nChanges to memory:\n",
@@ -434,7 +303,10 @@ static STOPPED: [Simulation; 8] = [
     Simulation {
         shows: "a cycle of names",
         words: &["psim", "h.hcl", "p.yo"],
-        logic: Logic::Changed(b"bool D_stall = D_bubble;\nbool D_bubble = D_stall;\n"),
+        logic: Logic::With(
+            Example::Std,
+            b"bool D_stall = D_bubble;\nbool D_bubble = D_stall;\n",
+        ),
         object: b"0x000: 00\n",
         status: 5,
         out: b"",
@@ -443,7 +315,7 @@ static STOPPED: [Simulation; 8] = [
     Simulation {
         shows: "an unknown name",
         words: &["psim", "h.hcl", "p.yo"],
-        logic: Logic::Changed(b"word foo = 1;\n"),
+        logic: Logic::With(Example::Std, b"word foo = 1;\n"),
         object: b"0x000: 00\n",
         status: 5,
         out: b"",
@@ -461,7 +333,7 @@ static STOPPED: [Simulation; 8] = [
     Simulation {
         shows: "an object file with a fault",
         words: &["psim", "h.hcl", "p.yo"],
-        logic: Logic::Pipe,
+        logic: Logic::Of(Example::Std),
         object: b"0x000: 0\n",
         status: 5,
         out: b"",
@@ -470,7 +342,7 @@ static STOPPED: [Simulation; 8] = [
     Simulation {
         shows: "no object file behind a good HCL file",
         words: &["psim", "h.hcl", "q.yo"],
-        logic: Logic::Pipe,
+        logic: Logic::Of(Example::Std),
         object: b"0x000: 00\n",
         status: 3,
         out: b"",
@@ -488,7 +360,7 @@ static STOPPED: [Simulation; 8] = [
     Simulation {
         shows: "a wrong kind, before a missing object file",
         words: &["psim", "h.hcl", "q.yo"],
-        logic: Logic::Changed(b"bool Stat = 1;\n"),
+        logic: Logic::With(Example::Std, b"bool Stat = 1;\n"),
         object: b"0x000: 00\n",
         status: 5,
         out: b"",
@@ -497,7 +369,7 @@ static STOPPED: [Simulation; 8] = [
     Simulation {
         shows: "a cycle, before a missing object file",
         words: &["psim", "h.hcl", "q.yo"],
-        logic: Logic::Changed(b"bool set_cc = set_cc;\n"),
+        logic: Logic::With(Example::Std, b"bool set_cc = set_cc;\n"),
         object: b"0x000: 00\n",
         status: 5,
         out: b"",
@@ -514,7 +386,7 @@ static CHECKED: [Simulation; 7] = [
     Simulation {
         shows: "a Yes, and the run",
         words: &["psim", "h.hcl", "p.yo", "--checked"],
-        logic: Logic::Pipe,
+        logic: Logic::Of(Example::Std),
         object: b"0x000: 00\n",
         status: 0,
         out: HALTED,
@@ -531,7 +403,7 @@ static CHECKED: [Simulation; 7] = [
             "--limit",
             "5",
         ],
-        logic: Logic::Changed(NT),
+        logic: Logic::Of(Example::Nt),
         object: b"0x000: 10\n0x001: 00\n",
         status: 1,
         out: b"yes pt=1000000 pb=1000000 tv=1 lf=0 je=0 rm=0\n0x000 10 100 AOK\nRan 5 cycles, retired 1 instructions\nStopped in 1 steps at PC = 0x5.  Status 'AOK', CC Z=1 S=0 O=0\nChanges to registers:\n\nChanges to memory:\n",
@@ -540,7 +412,7 @@ static CHECKED: [Simulation; 7] = [
     Simulation {
         shows: "a No, before a missing object file",
         words: &["psim", "h.hcl", "q.yo", "--checked"],
-        logic: Logic::Changed(BOTH),
+        logic: Logic::With(Example::Std, BOTH),
         object: b"",
         status: 1,
         out: BOTH_AT_ONCE,
@@ -549,7 +421,7 @@ static CHECKED: [Simulation; 7] = [
     Simulation {
         shows: "a No for the larger instruction set",
         words: &["psim", "h.hcl", "q.yo", "--checked", "--full"],
-        logic: Logic::Pipe,
+        logic: Logic::Of(Example::Std),
         object: b"",
         status: 1,
         out: NO_IADDQ,
@@ -558,7 +430,7 @@ static CHECKED: [Simulation; 7] = [
     Simulation {
         shows: "no Yes before a missing object file",
         words: &["psim", "h.hcl", "q.yo", "--checked"],
-        logic: Logic::Pipe,
+        logic: Logic::Of(Example::Std),
         object: b"",
         status: 3,
         out: b"",
@@ -567,7 +439,7 @@ static CHECKED: [Simulation; 7] = [
     Simulation {
         shows: "no Yes before an object file with a fault",
         words: &["psim", "h.hcl", "p.yo", "--checked"],
-        logic: Logic::Pipe,
+        logic: Logic::Of(Example::Std),
         object: b"0x000: 0\n",
         status: 5,
         out: b"",
@@ -576,7 +448,7 @@ static CHECKED: [Simulation; 7] = [
     Simulation {
         shows: "a code compared with a word can't be checked",
         words: &["psim", "h.hcl", "q.yo", "--checked"],
-        logic: Logic::Changed(b"bool F_bubble = E_icode == E_valC;\n"),
+        logic: Logic::With(Example::Std, b"bool F_bubble = E_icode == E_valC;\n"),
         object: b"",
         status: 5,
         out: b"",
@@ -584,42 +456,10 @@ static CHECKED: [Simulation; 7] = [
     },
 ];
 
-/// PIPE's control logic with other definitions in place of those of the same name.
-fn changed(alloc: Global, base: &[u8], definitions: &[u8]) -> Result<Vec<u8>, Fail> {
-    let mut text = Vec::from_slice(alloc, definitions)?;
-    let mut kept = true;
-    for line in base.split(|byte| *byte == b'\n') {
-        if line.starts_with(b"word ") || line.starts_with(b"bool ") {
-            kept = !is_defined(line, definitions);
-        }
-        if kept {
-            text.extend_from_slice(line)?;
-            text.push(b'\n')?;
-        }
-    }
-    Ok(text)
-}
-
-/// Whether definitions define the name that a line does.
-fn is_defined(line: &[u8], definitions: &[u8]) -> bool {
-    // the kinds have as many letters
-    let head = line
-        .get(5..)
-        .unwrap_or(line)
-        .split(|byte| *byte == b'=')
-        .next()
-        .unwrap_or(line);
-    definitions
-        .split(|byte| *byte == b'\n')
-        .any(|other| other.get(5..).unwrap_or(other).starts_with(head))
-}
-
 pub fn text_of(alloc: Global, logic: Logic) -> Result<Vec<u8>, Fail> {
     match logic {
-        Logic::Seq => Ok(Vec::from_slice(alloc, SEQ)?),
-        Logic::Pipe => Ok(Vec::from_slice(alloc, STD)?),
-        Logic::SeqWith(definitions) => changed(alloc, SEQ, definitions),
-        Logic::Changed(definitions) => changed(alloc, STD, definitions),
+        Logic::Of(design) => Ok(Vec::from_slice(alloc, design.text())?),
+        Logic::With(design, definitions) => Ok(design.with(alloc, definitions)?),
         Logic::Text(text) => Ok(Vec::from_slice(alloc, text)?),
     }
 }
@@ -696,7 +536,7 @@ fn check_write(
     number: u64,
 ) -> Result<bool, Fail> {
     let words = words_of(alloc, words)?;
-    let mut files = files_with(alloc, STD, object)?;
+    let mut files = files_with(alloc, Example::Std.text(), object)?;
     let mut out = sink(alloc, &[number], 4096)?;
     let mut err = sink(alloc, &[], 256)?;
     let status = run(alloc, words.as_slice(), &mut files, &mut out, &mut err);

@@ -3,7 +3,7 @@ ghost use Rattle.dp_signals.specs.SeqTable.{seq_rows};
 ghost use Rattle.hcl_types.specs.Tables.{IsBound, IsOrderOf};
 ghost use Rattle.y86_base.specs.Image.{IsSize};
 ghost use Rattle.y86_cli.specs.Answers.{SeqAnswers, seq_plan, ssim_plan};
-ghost use Rattle.y86_cli.specs.Does.{Does, Says, files_seen, sink_seen};
+ghost use Rattle.y86_cli.specs.Does.{Does, NoReadFailed, Says, files_seen, sink_seen};
 
 use crate::design::{Ordered, seq_design};
 use crate::files::{FILE_LIMIT, HCL_LIMIT, read_file};
@@ -60,9 +60,10 @@ fn run_object<'a, F: Files, O: Sink>(
     requires size { IsSize mem }
     requires bound { IsBound seq_rows ordered.design.terms }
     requires order { IsOrderOf seq_rows ordered.design.terms ordered.order.ids }
-    ensures { Does (seq_plan ordered.design.terms obj.now mem limit variant)
+    ensures does { Does (seq_plan ordered.design.terms obj.now mem limit variant)
         (files_seen (F.told files.old) (F.faults files.old)) (files_seen (F.told files.new) (F.faults files.new))
         (sink_seen (O.taken out.old) (O.faults out.old)) (sink_seen (O.taken out.new) (O.faults out.new)) result }
+    ensures no_read_failed { NoReadFailed (files_seen (F.told files.old) (F.faults files.old)) (files_seen (F.told files.new) (F.faults files.new)) result }
 {
     let bytes = match read_file(alloc, obj, FILE_LIMIT, files) {
         Ok(bytes) => bytes,
@@ -87,9 +88,10 @@ pub fn ssim<'a, F: Files, O: Sink>(
     out: &mut O,
 ) -> Result<u8, Stop<'a>>
     requires { IsSize mem }
-    ensures { Does (ssim_plan name.now obj.now mem limit variant)
+    ensures does { Does (ssim_plan name.now obj.now mem limit variant)
         (files_seen (F.told files.old) (F.faults files.old)) (files_seen (F.told files.new) (F.faults files.new))
         (sink_seen (O.taken out.old) (O.faults out.old)) (sink_seen (O.taken out.new) (O.faults out.new)) result }
+    ensures no_read_failed { NoReadFailed (files_seen (F.told files.old) (F.faults files.old)) (files_seen (F.told files.new) (F.faults files.new)) result }
 {
     let source = match read_file(alloc, name, HCL_LIMIT, files) {
         Ok(source) => source,

@@ -2,10 +2,10 @@
 //! hand from the instruction table: the least line of fields at which the obligation is false, 0 before 1.
 use crate::design::pipe_design;
 use crate::simulations::{
-    BOTH, BOTH_AT_ONCE, DECLARED, LF, Logic, NB, NO_IADDQ, NT, STUCK, Simulation, check_all,
-    text_of,
+    BOTH, BOTH_AT_ONCE, DECLARED, Logic, NO_IADDQ, STUCK, Simulation, check_all, text_of,
 };
 use control_check::accept_pipe;
+use example_designs::Example;
 use std::alloc::Global;
 use std::test::Fail;
 use y86_base::Variant;
@@ -15,7 +15,7 @@ static ON_SEQ: [Simulation; 24] = [
     Simulation {
         shows: "the design of the book",
         words: &["check", "seq", "h.hcl"],
-        logic: Logic::SeqWith(b""),
+        logic: Logic::With(Example::Seq, b""),
         object: b"",
         status: 0,
         out: b"yes\n",
@@ -24,7 +24,10 @@ static ON_SEQ: [Simulation; 24] = [
     Simulation {
         shows: "a failed fetch told as a halt",
         words: &["check", "seq", "h.hcl"],
-        logic: Logic::SeqWith(b"word icode = [ imem_error : IHALT; 1 : imem_icode; ];\n"),
+        logic: Logic::With(
+            Example::Seq,
+            b"word icode = [ imem_error : IHALT; 1 : imem_icode; ];\n",
+        ),
         object: b"",
         status: 1,
         out: b"no S1\nS error=1 icode=1 ifun=0 rA=15 rB=15 cnd=1 derror=0\natoms\n",
@@ -33,7 +36,7 @@ static ON_SEQ: [Simulation; 24] = [
     Simulation {
         shows: "ifun taken from the icode",
         words: &["check", "seq", "h.hcl"],
-        logic: Logic::SeqWith(b"word ifun = imem_icode;\n"),
+        logic: Logic::With(Example::Seq, b"word ifun = imem_icode;\n"),
         object: b"",
         status: 1,
         out: b"no S1\nS error=0 icode=0 ifun=1 rA=15 rB=15 cnd=0 derror=0\natoms\n",
@@ -42,7 +45,8 @@ static ON_SEQ: [Simulation; 24] = [
     Simulation {
         shows: "popq told as invalid",
         words: &["check", "seq", "h.hcl"],
-        logic: Logic::SeqWith(
+        logic: Logic::With(
+            Example::Seq,
             b"bool instr_valid = icode in { INOP, IHALT, IRRMOVQ, IIRMOVQ, IRMMOVQ, IMRMOVQ,\n  IOPQ, IJXX, ICALL, IRET, IPUSHQ };\n",
         ),
         object: b"",
@@ -53,7 +57,8 @@ static ON_SEQ: [Simulation; 24] = [
     Simulation {
         shows: "pushq without its register byte",
         words: &["check", "seq", "h.hcl"],
-        logic: Logic::SeqWith(
+        logic: Logic::With(
+            Example::Seq,
             b"bool need_regids = icode in { IRRMOVQ, IOPQ, IPOPQ, IIRMOVQ, IRMMOVQ, IMRMOVQ };\n",
         ),
         object: b"",
@@ -64,7 +69,10 @@ static ON_SEQ: [Simulation; 24] = [
     Simulation {
         shows: "call without its constant",
         words: &["check", "seq", "h.hcl"],
-        logic: Logic::SeqWith(b"bool need_valC = icode in { IIRMOVQ, IRMMOVQ, IMRMOVQ, IJXX };\n"),
+        logic: Logic::With(
+            Example::Seq,
+            b"bool need_valC = icode in { IIRMOVQ, IRMMOVQ, IMRMOVQ, IJXX };\n",
+        ),
         object: b"",
         status: 1,
         out: b"no S3\nS error=0 icode=8 ifun=0 rA=15 rB=15 cnd=1 derror=0\natoms\n",
@@ -73,7 +81,8 @@ static ON_SEQ: [Simulation; 24] = [
     Simulation {
         shows: "popq reads rA in the place of the stack pointer",
         words: &["check", "seq", "h.hcl"],
-        logic: Logic::SeqWith(
+        logic: Logic::With(
+            Example::Seq,
             b"word srcA = [ icode in { IRRMOVQ, IRMMOVQ, IOPQ, IPUSHQ, IPOPQ } : rA; icode in { IRET } : RRSP; 1 : RNONE; ];\n",
         ),
         object: b"",
@@ -84,7 +93,8 @@ static ON_SEQ: [Simulation; 24] = [
     Simulation {
         shows: "ret without the stack pointer as its second source",
         words: &["check", "seq", "h.hcl"],
-        logic: Logic::SeqWith(
+        logic: Logic::With(
+            Example::Seq,
             b"word srcB = [ icode in { IOPQ, IRMMOVQ, IMRMOVQ } : rB; icode in { IPUSHQ, IPOPQ, ICALL } : RRSP; 1 : RNONE; ];\n",
         ),
         object: b"",
@@ -95,7 +105,8 @@ static ON_SEQ: [Simulation; 24] = [
     Simulation {
         shows: "a conditional move that is always done",
         words: &["check", "seq", "h.hcl"],
-        logic: Logic::SeqWith(
+        logic: Logic::With(
+            Example::Seq,
             b"word dstE = [ icode == IRRMOVQ : rB; icode in { IIRMOVQ, IOPQ } : rB; icode in { IPUSHQ, IPOPQ, ICALL, IRET } : RRSP; 1 : RNONE; ];\n",
         ),
         object: b"",
@@ -106,7 +117,10 @@ static ON_SEQ: [Simulation; 24] = [
     Simulation {
         shows: "popq loses the word that it loads",
         words: &["check", "seq", "h.hcl"],
-        logic: Logic::SeqWith(b"word dstM = [ icode in { IMRMOVQ } : rA; 1 : RNONE; ];\n"),
+        logic: Logic::With(
+            Example::Seq,
+            b"word dstM = [ icode in { IMRMOVQ } : rA; 1 : RNONE; ];\n",
+        ),
         object: b"",
         status: 1,
         out: b"no S7\nS error=0 icode=11 ifun=0 rA=0 rB=0 cnd=1 derror=0\natoms\n",
@@ -115,7 +129,8 @@ static ON_SEQ: [Simulation; 24] = [
     Simulation {
         shows: "popq moves the stack pointer down",
         words: &["check", "seq", "h.hcl"],
-        logic: Logic::SeqWith(
+        logic: Logic::With(
+            Example::Seq,
             b"word aluA = [ icode in { IRRMOVQ, IOPQ } : valA; icode in { IIRMOVQ, IRMMOVQ, IMRMOVQ } : valC;\n  icode in { ICALL, IPUSHQ, IPOPQ } : -8; icode in { IRET } : 8; ];\n",
         ),
         object: b"",
@@ -126,7 +141,8 @@ static ON_SEQ: [Simulation; 24] = [
     Simulation {
         shows: "a store without its base register",
         words: &["check", "seq", "h.hcl"],
-        logic: Logic::SeqWith(
+        logic: Logic::With(
+            Example::Seq,
             b"word aluB = [ icode in { IMRMOVQ, IOPQ, ICALL, IPUSHQ, IRET, IPOPQ } : valB; icode in { IRRMOVQ, IIRMOVQ } : 0; ];\n",
         ),
         object: b"",
@@ -137,7 +153,7 @@ static ON_SEQ: [Simulation; 24] = [
     Simulation {
         shows: "ifun as the function of every instruction",
         words: &["check", "seq", "h.hcl"],
-        logic: Logic::SeqWith(b"word alufun = ifun;\n"),
+        logic: Logic::With(Example::Seq, b"word alufun = ifun;\n"),
         object: b"",
         status: 1,
         out: b"no S10\nS error=0 icode=2 ifun=1 rA=0 rB=0 cnd=0 derror=0\natoms\n",
@@ -146,7 +162,7 @@ static ON_SEQ: [Simulation; 24] = [
     Simulation {
         shows: "flags that are never set",
         words: &["check", "seq", "h.hcl"],
-        logic: Logic::SeqWith(b"bool set_cc = 0;\n"),
+        logic: Logic::With(Example::Seq, b"bool set_cc = 0;\n"),
         object: b"",
         status: 1,
         out: b"no S11\nS error=0 icode=6 ifun=0 rA=0 rB=0 cnd=1 derror=0\natoms\n",
@@ -155,7 +171,10 @@ static ON_SEQ: [Simulation; 24] = [
     Simulation {
         shows: "flags that depend on a comparison of words",
         words: &["check", "seq", "h.hcl"],
-        logic: Logic::SeqWith(b"bool set_cc = icode == IOPQ && valA != valB;\n"),
+        logic: Logic::With(
+            Example::Seq,
+            b"bool set_cc = icode == IOPQ && valA != valB;\n",
+        ),
         object: b"",
         status: 1,
         out: b"no S11\nS error=0 icode=6 ifun=0 rA=0 rB=0 cnd=1 derror=0\natoms eq(valA,valB)=1\n",
@@ -164,7 +183,8 @@ static ON_SEQ: [Simulation; 24] = [
     Simulation {
         shows: "popq reads above the top of the stack",
         words: &["check", "seq", "h.hcl"],
-        logic: Logic::SeqWith(
+        logic: Logic::With(
+            Example::Seq,
             b"word mem_addr = [ icode in { IRMMOVQ, IPUSHQ, ICALL, IMRMOVQ, IPOPQ } : valE; icode in { IRET } : valA; ];\n",
         ),
         object: b"",
@@ -175,7 +195,10 @@ static ON_SEQ: [Simulation; 24] = [
     Simulation {
         shows: "ret reads nothing",
         words: &["check", "seq", "h.hcl"],
-        logic: Logic::SeqWith(b"bool mem_read = icode in { IMRMOVQ, IPOPQ };\n"),
+        logic: Logic::With(
+            Example::Seq,
+            b"bool mem_read = icode in { IMRMOVQ, IPOPQ };\n",
+        ),
         object: b"",
         status: 1,
         out: b"no S13\nS error=0 icode=9 ifun=0 rA=15 rB=15 cnd=1 derror=0\natoms\n",
@@ -184,7 +207,10 @@ static ON_SEQ: [Simulation; 24] = [
     Simulation {
         shows: "call stores nothing",
         words: &["check", "seq", "h.hcl"],
-        logic: Logic::SeqWith(b"bool mem_write = icode in { IRMMOVQ, IPUSHQ };\n"),
+        logic: Logic::With(
+            Example::Seq,
+            b"bool mem_write = icode in { IRMMOVQ, IPUSHQ };\n",
+        ),
         object: b"",
         status: 1,
         out: b"no S13\nS error=0 icode=8 ifun=0 rA=15 rB=15 cnd=1 derror=0\natoms\n",
@@ -193,7 +219,8 @@ static ON_SEQ: [Simulation; 24] = [
     Simulation {
         shows: "call stores another word",
         words: &["check", "seq", "h.hcl"],
-        logic: Logic::SeqWith(
+        logic: Logic::With(
+            Example::Seq,
             b"word mem_data = [ icode in { IRMMOVQ, IPUSHQ, ICALL } : valA; ];\n",
         ),
         object: b"",
@@ -204,7 +231,8 @@ static ON_SEQ: [Simulation; 24] = [
     Simulation {
         shows: "a bad data address isn't told",
         words: &["check", "seq", "h.hcl"],
-        logic: Logic::SeqWith(
+        logic: Logic::With(
+            Example::Seq,
             b"word Stat = [ imem_error : SADR; !instr_valid : SINS; icode == IHALT : SHLT; 1 : SAOK; ];\n",
         ),
         object: b"",
@@ -215,7 +243,8 @@ static ON_SEQ: [Simulation; 24] = [
     Simulation {
         shows: "jumps that are always taken",
         words: &["check", "seq", "h.hcl"],
-        logic: Logic::SeqWith(
+        logic: Logic::With(
+            Example::Seq,
             b"word new_pc = [ icode == ICALL : valC; icode == IJXX : valC; icode == IRET : valM; 1 : valP; ];\n",
         ),
         object: b"",
@@ -226,7 +255,7 @@ static ON_SEQ: [Simulation; 24] = [
     Simulation {
         shows: "a design that doesn't know iaddq",
         words: &["check", "seq", "h.hcl", "--full"],
-        logic: Logic::SeqWith(b""),
+        logic: Logic::With(Example::Seq, b""),
         object: b"",
         status: 1,
         out: b"no S2\nS error=0 icode=12 ifun=0 rA=0 rB=0 cnd=1 derror=0\natoms\n",
@@ -235,7 +264,7 @@ static ON_SEQ: [Simulation; 24] = [
     Simulation {
         shows: "a code compared with a word",
         words: &["check", "seq", "h.hcl"],
-        logic: Logic::SeqWith(b"bool set_cc = icode == valA;\n"),
+        logic: Logic::With(Example::Seq, b"bool set_cc = icode == valA;\n"),
         object: b"",
         status: 5,
         out: b"",
@@ -244,7 +273,8 @@ static ON_SEQ: [Simulation; 24] = [
     Simulation {
         shows: "more comparisons of words than a check takes",
         words: &["check", "seq", "h.hcl"],
-        logic: Logic::SeqWith(
+        logic: Logic::With(
+            Example::Seq,
             b"bool set_cc = valA in { 2, 3, 4, 5, 6, 7, 8, 9, 10, 11, 12, 13, 14, 15, 16, 17, 18, 19, 20, 21, 22, 23, 24, 25, 26, 27, 28, 29, 30, 31, 32, 33, 34, 35, 36, 37, 38, 39, 40, 41, 42, 43, 44, 45, 46, 47, 48, 49, 50, 51, 52, 53, 54, 55, 56, 57, 58, 59, 60, 61, 62, 63, 64, 65, 66 };\n",
         ),
         object: b"",
@@ -257,46 +287,12 @@ static ON_SEQ: [Simulation; 24] = [
 /// The Yes of a design that predicts jumps as taken and has no other peculiarity.
 const YES: &[u8] = b"yes pt=1111111 pb=1111111 tv=0 lf=0 je=0 rm=0\n";
 
-/// What `examples/bt.hcl` changes: jumps predicted taken where they go back.
-const BT: &[u8] =
-    b"word f_pc = [ M_icode == IJXX && M_ifun != UNCOND && M_valE < M_valA && !M_Cnd : M_valA;
-  M_icode == IJXX && M_ifun != UNCOND && M_valE >= M_valA && M_Cnd : M_valE;
-  W_icode == IRET : W_valM; 1 : F_predPC; ];
-word f_predPC = [ f_icode == ICALL || f_icode == IJXX && (f_ifun == UNCOND || f_valC < f_valP) : f_valC;
-  1 : f_valP; ];
-word aluA = [ E_icode in { IRRMOVQ, IOPQ } : E_valA; E_icode in { IIRMOVQ, IRMMOVQ, IMRMOVQ, IJXX } : E_valC;
-  E_icode in { ICALL, IPUSHQ } : -8; E_icode in { IRET, IPOPQ } : 8; ];
-word aluB = [ E_icode in { IRMMOVQ, IMRMOVQ, IOPQ, ICALL, IPUSHQ, IRET, IPOPQ } : E_valB;
-  E_icode in { IRRMOVQ, IIRMOVQ, IJXX } : 0; ];
-bool D_bubble = (E_icode == IJXX && E_ifun != UNCOND && (E_valC < E_valA && !e_Cnd || E_valC >= E_valA && e_Cnd))
-  || !(E_icode in { IMRMOVQ, IPOPQ } && E_dstM in { d_srcA, d_srcB })
-     && IRET in { D_icode, E_icode, M_icode };
-bool E_bubble = (E_icode == IJXX && E_ifun != UNCOND && (E_valC < E_valA && !e_Cnd || E_valC >= E_valA && e_Cnd))
-  || (E_icode in { IMRMOVQ, IPOPQ } && E_dstM in { d_srcA, d_srcB });
-";
-
-/// What `examples/fu.hcl` changes: PIPE with `iaddq`.
-const FU: &[u8] = b"bool instr_valid = f_icode in { INOP, IHALT, IRRMOVQ, IIRMOVQ, IRMMOVQ, IMRMOVQ,
-  IOPQ, IJXX, ICALL, IRET, IPUSHQ, IPOPQ, IIADDQ };
-bool need_regids = f_icode in { IRRMOVQ, IOPQ, IPUSHQ, IPOPQ, IIRMOVQ, IRMMOVQ, IMRMOVQ, IIADDQ };
-bool need_valC = f_icode in { IIRMOVQ, IRMMOVQ, IMRMOVQ, IJXX, ICALL, IIADDQ };
-word d_srcB = [ D_icode in { IOPQ, IRMMOVQ, IMRMOVQ, IIADDQ } : D_rB;
-  D_icode in { IPUSHQ, IPOPQ, ICALL, IRET } : RRSP; 1 : RNONE; ];
-word d_dstE = [ D_icode in { IRRMOVQ, IIRMOVQ, IOPQ, IIADDQ } : D_rB;
-  D_icode in { IPUSHQ, IPOPQ, ICALL, IRET } : RRSP; 1 : RNONE; ];
-word aluA = [ E_icode in { IRRMOVQ, IOPQ } : E_valA; E_icode in { IIRMOVQ, IRMMOVQ, IMRMOVQ, IIADDQ } : E_valC;
-  E_icode in { ICALL, IPUSHQ } : -8; E_icode in { IRET, IPOPQ } : 8; ];
-word aluB = [ E_icode in { IRMMOVQ, IMRMOVQ, IOPQ, ICALL, IPUSHQ, IRET, IPOPQ, IIADDQ } : E_valB;
-  E_icode in { IRRMOVQ, IIRMOVQ } : 0; ];
-bool set_cc = E_icode in { IOPQ, IIADDQ } && !m_stat in { SADR, SINS, SHLT } && !W_stat in { SADR, SINS, SHLT };
-";
-
 /// Checks of PIPE's design with definitions in place of its own.
 static ON_PIPE: [Simulation; 15] = [
     Simulation {
         shows: "the pipeline of the book",
         words: &["check", "pipe", "h.hcl"],
-        logic: Logic::Pipe,
+        logic: Logic::Of(Example::Std),
         object: b"",
         status: 0,
         out: YES,
@@ -305,7 +301,7 @@ static ON_PIPE: [Simulation; 15] = [
     Simulation {
         shows: "without bypassing",
         words: &["check", "pipe", "h.hcl"],
-        logic: Logic::Changed(NB),
+        logic: Logic::Of(Example::Nb),
         object: b"",
         status: 0,
         out: YES,
@@ -314,7 +310,7 @@ static ON_PIPE: [Simulation; 15] = [
     Simulation {
         shows: "with load forwarding",
         words: &["check", "pipe", "h.hcl"],
-        logic: Logic::Changed(LF),
+        logic: Logic::Of(Example::Lf),
         object: b"",
         status: 0,
         out: b"yes pt=1111111 pb=1111111 tv=0 lf=1 je=0 rm=0\n",
@@ -323,7 +319,7 @@ static ON_PIPE: [Simulation; 15] = [
     Simulation {
         shows: "predicted not taken",
         words: &["check", "pipe", "h.hcl"],
-        logic: Logic::Changed(NT),
+        logic: Logic::Of(Example::Nt),
         object: b"",
         status: 0,
         out: b"yes pt=1000000 pb=1000000 tv=1 lf=0 je=0 rm=0\n",
@@ -332,7 +328,7 @@ static ON_PIPE: [Simulation; 15] = [
     Simulation {
         shows: "predicted taken where they go back",
         words: &["check", "pipe", "h.hcl"],
-        logic: Logic::Changed(BT),
+        logic: Logic::Of(Example::Bt),
         object: b"",
         status: 0,
         out: b"yes pt=1000000 pb=1111111 tv=1 lf=0 je=0 rm=0\n",
@@ -341,7 +337,7 @@ static ON_PIPE: [Simulation; 15] = [
     Simulation {
         shows: "with iaddq",
         words: &["check", "--full", "pipe", "h.hcl"],
-        logic: Logic::Changed(FU),
+        logic: Logic::Of(Example::Fu),
         object: b"",
         status: 0,
         out: YES,
@@ -350,7 +346,7 @@ static ON_PIPE: [Simulation; 15] = [
     Simulation {
         shows: "declarations before the definitions",
         words: &["check", "pipe", "h.hcl"],
-        logic: Logic::Changed(DECLARED),
+        logic: Logic::With(Example::Std, DECLARED),
         object: b"",
         status: 0,
         out: YES,
@@ -359,7 +355,7 @@ static ON_PIPE: [Simulation; 15] = [
     Simulation {
         shows: "a design that doesn't know iaddq",
         words: &["check", "pipe", "h.hcl", "--full"],
-        logic: Logic::Pipe,
+        logic: Logic::Of(Example::Std),
         object: b"",
         status: 1,
         out: NO_IADDQ,
@@ -368,7 +364,7 @@ static ON_PIPE: [Simulation; 15] = [
     Simulation {
         shows: "a load behind its use and a ret stall and bubble D at once",
         words: &["check", "pipe", "h.hcl"],
-        logic: Logic::Changed(BOTH),
+        logic: Logic::With(Example::Std, BOTH),
         object: b"",
         status: 1,
         out: BOTH_AT_ONCE,
@@ -377,7 +373,8 @@ static ON_PIPE: [Simulation; 15] = [
     Simulation {
         shows: "popq of the stack pointer: the sum before the loaded word",
         words: &["check", "pipe", "h.hcl"],
-        logic: Logic::Changed(
+        logic: Logic::With(
+            Example::Std,
             b"word d_valA = [ D_icode in { ICALL, IJXX } : D_valP; d_srcA == e_dstE : e_valE;
   d_srcA == M_dstE : M_valE; d_srcA == M_dstM : m_valM;
   d_srcA == W_dstM : W_valM; d_srcA == W_dstE : W_valE; 1 : d_rvalA; ];
@@ -398,7 +395,7 @@ atoms
     Simulation {
         shows: "flags set behind an instruction that stops",
         words: &["check", "pipe", "h.hcl"],
-        logic: Logic::Changed(b"bool set_cc = E_icode == IOPQ;\n"),
+        logic: Logic::With(Example::Std, b"bool set_cc = E_icode == IOPQ;\n"),
         object: b"",
         status: 1,
         out: b"no O15
@@ -414,7 +411,7 @@ atoms
     Simulation {
         shows: "an empty pipeline that fetches nothing",
         words: &["check", "pipe", "h.hcl"],
-        logic: Logic::Changed(STUCK),
+        logic: Logic::With(Example::Std, STUCK),
         object: b"",
         status: 1,
         out: b"no O27
@@ -430,7 +427,7 @@ atoms
     Simulation {
         shows: "a code compared with a word",
         words: &["check", "pipe", "h.hcl"],
-        logic: Logic::Changed(b"bool F_bubble = E_icode == E_valC;\n"),
+        logic: Logic::With(Example::Std, b"bool F_bubble = E_icode == E_valC;\n"),
         object: b"",
         status: 5,
         out: b"",
@@ -439,7 +436,8 @@ atoms
     Simulation {
         shows: "more comparisons of words than a check takes",
         words: &["check", "pipe", "h.hcl"],
-        logic: Logic::Changed(
+        logic: Logic::With(
+            Example::Std,
             b"bool F_bubble = F_predPC in { 2, 3, 4, 5, 6, 7, 8, 9, 10, 11, 12, 13, 14, 15, 16, 17, 18, 19, 20, 21, 22, 23, 24, 25, 26, 27, 28, 29, 30, 31, 32, 33, 34, 35, 36, 37, 38, 39, 40, 41, 42, 43, 44, 45, 46, 47, 48, 49, 50, 51, 52, 53, 54, 55, 56, 57, 58, 59, 60, 61, 62, 63, 64, 65, 66 };\n",
         ),
         object: b"",
@@ -450,7 +448,10 @@ atoms
     Simulation {
         shows: "a cycle of names",
         words: &["check", "pipe", "h.hcl"],
-        logic: Logic::Changed(b"bool D_stall = D_bubble;\nbool D_bubble = D_stall;\n"),
+        logic: Logic::With(
+            Example::Std,
+            b"bool D_stall = D_bubble;\nbool D_bubble = D_stall;\n",
+        ),
         object: b"",
         status: 5,
         out: b"",
@@ -477,7 +478,11 @@ fn verdicts_on_the_pipeline(rt: HostRuntime) -> Result<(), Fail> {
 }
 
 /// Designs, each with its setting `lf` where it is accepted.
-static ACCEPTED: [(&[u8], Option<bool>); 3] = [(b"", Some(false)), (LF, Some(true)), (BOTH, None)];
+static ACCEPTED: [(Logic, Option<bool>); 3] = [
+    (Logic::Of(Example::Std), Some(false)),
+    (Logic::Of(Example::Lf), Some(true)),
+    (Logic::With(Example::Std, BOTH), None),
+];
 
 /// What `accept_pipe` answers on a design: none, or its setting `lf`. `None` where it can't tell.
 fn accepted(alloc: Global, text: &[u8]) -> Option<Option<bool>> {
@@ -493,8 +498,8 @@ fn accepted(alloc: Global, text: &[u8]) -> Option<Option<bool>> {
 
 #[test]
 fn accepted_designs_have_their_settings(rt: HostRuntime) -> Result<(), Fail> {
-    for (definitions, lf) in &ACCEPTED {
-        let text = text_of(rt.alloc(), Logic::Changed(definitions))?;
+    for (logic, lf) in &ACCEPTED {
+        let text = text_of(rt.alloc(), *logic)?;
         assert_eq!(rt; accepted(rt.alloc(), text.as_slice()), Some(*lf));
     }
     Ok(())

@@ -2,7 +2,7 @@ ghost use Rattle.std.specs.Prelude.{◌≡◌, ◌≤◌, List, ℕ};
 ghost use Rattle.y86_base.specs.Image.{IsSize};
 ghost use Rattle.yo_object.specs.ObjectText.{object_of};
 ghost use Rattle.y86_cli.specs.Answers.{image_of_text, run_status, yis_plan, yis_run};
-ghost use Rattle.y86_cli.specs.Does.{Does, Gives, Says, files_seen, sink_seen};
+ghost use Rattle.y86_cli.specs.Does.{Does, Gives, NoReadFailed, Says, files_seen, sink_seen};
 ghost use Rattle.y86_cli.specs.Lines.{object_reason};
 
 use crate::files::{FILE_LIMIT, read_file};
@@ -100,9 +100,10 @@ pub fn yis<'a, F: Files, O: Sink>(
     out: &mut O,
 ) -> Result<u8, Stop<'a>>
     requires { IsSize mem }
-    ensures { Does (yis_plan obj.now mem limit variant)
+    ensures does { Does (yis_plan obj.now mem limit variant)
         (files_seen (F.told files.old) (F.faults files.old)) (files_seen (F.told files.new) (F.faults files.new))
         (sink_seen (O.taken out.old) (O.faults out.old)) (sink_seen (O.taken out.new) (O.faults out.new)) result }
+    ensures no_read_failed { NoReadFailed (files_seen (F.told files.old) (F.faults files.old)) (files_seen (F.told files.new) (F.faults files.new)) result }
 {
     let bytes = match read_file(alloc, obj, FILE_LIMIT, files) {
         Ok(bytes) => bytes,

@@ -1,8 +1,8 @@
 //! The atoms of designs, and designs that have none.
-use crate::designs::{BT, STD};
 use crate::orders::text;
 use ctl_atoms::{Atom, AtomKind, CtlFault, Leaf, atoms};
 use dp_signals::{law_of_tables, pipe_table};
+use example_designs::Example;
 use hcl_order::order;
 use hcl_read::read;
 use hcl_types::bind;
@@ -204,9 +204,9 @@ fn atoms_come_in_order(rt: HostRuntime) -> Result<(), Fail> {
         let found = atoms_with(rt.alloc(), definitions, names)??;
         assert!(rt; are(found.as_slice(), wanted), "{found:?}");
     }
-    let found = atoms_of(rt.alloc(), BT)??;
+    let found = atoms_of(rt.alloc(), Example::Bt.text())??;
     assert!(rt; are(found.as_slice(), &BT_ATOMS), "{found:?}");
-    let found = atoms_of(rt.alloc(), STD)??;
+    let found = atoms_of(rt.alloc(), Example::Std.text())??;
     assert!(rt; found.is_empty(), "{found:?}");
     Ok(())
 }

@@ -3,8 +3,8 @@ ghost use Rattle.std.specs.Prelude.{◌≡◌, IfOk};
 ghost use Rattle.dp_signals.specs.PipeTable.{pipe_rows};
 ghost use Rattle.hcl_types.specs.Tables.{IsBound, IsSound};
 
-use crate::designs::{BT, FU, LF, NB, NT, SEQ, STD, with};
 use dp_signals::{PipeState, law_of_tables, pipe_table, seq_table, solve_pipe};
+use example_designs::Example;
 use hcl_compile::compile;
 use hcl_order::order;
 use hcl_read::read;
@@ -139,7 +139,7 @@ fn signals(alloc: Global) -> Result<Table, Memory>
 /// The standard control logic, with its W_bubble or without it, and what is added.
 fn text(rt: &(impl Abort + AllocGlobal), standard: bool, added: &[u8]) -> Result<Vec<u8>, Fail> {
     let mut text = Vec::new(rt.alloc());
-    match STD.strip_suffix(b"bool W_bubble = 0;\n") {
+    match Example::Std.text().strip_suffix(b"bool W_bubble = 0;\n") {
         Some(rest) => text.extend_from_slice(rest)?,
         None => panic!(rt; "W_bubble isn't the last"),
     }
@@ -200,7 +200,10 @@ fn the_first_fault_is_told(rt: HostRuntime) -> Result<(), Fail> {
         refuse(&rt, &table, false, added, *why, name)?;
     }
     for definition in &WORDS {
-        let file = read(rt.alloc(), with(rt.alloc(), definition)?.as_slice())?;
+        let file = read(
+            rt.alloc(),
+            Example::Std.with(rt.alloc(), definition)?.as_slice(),
+        )?;
         match bind(rt.alloc(), &file, &table) {
             Ok(_) => panic!(rt; "bound: {definition:?}"),
             Err(fault) => {
@@ -346,15 +349,22 @@ const DECLARED: &[u8] = b"boolsig E_stall 'a' boolsig E_stall 'b' wordsig IHALT 
 fn the_files_of_the_book_bind(rt: HostRuntime) -> Result<(), Fail> {
     let table = signals(rt.alloc())?;
     assert!(rt; bound(&rt, &table, true, DECLARED)?.is_ok());
-    for text in [STD, NB, LF, NT, BT, FU] {
-        match read(rt.alloc(), text) {
+    for design in [
+        Example::Std,
+        Example::Nb,
+        Example::Lf,
+        Example::Nt,
+        Example::Bt,
+        Example::Fu,
+    ] {
+        match read(rt.alloc(), design.text()) {
             Ok(file) => assert!(rt; bind(rt.alloc(), &file, &table).is_ok()),
             Err(_) => panic!(rt; "no file"),
         }
     }
     law_of_tables();
     let table = seq_table(rt.alloc())?;
-    let file = read(rt.alloc(), SEQ)?;
+    let file = read(rt.alloc(), Example::Seq.text())?;
     assert!(rt; bind(rt.alloc(), &file, &table).is_ok());
     Ok(())
 }

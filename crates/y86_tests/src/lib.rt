@@ -6,8 +6,6 @@ mod atoms;
 #[cfg(test)]
 mod bind;
 #[cfg(test)]
-mod designs;
-#[cfg(test)]
 mod diagrams;
 #[cfg(test)]
 mod hcl;

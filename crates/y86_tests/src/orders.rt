@@ -1,6 +1,6 @@
 //! Orders and cycles of signals, and the programs of definitions.
-use crate::designs::{BT, FU, LF, NB, NT, SEQ, STD};
 use dp_signals::{law_of_tables, pipe_table, seq_table};
+use example_designs::Example;
 use hcl_compile::{Slot, compile};
 use hcl_order::{OrderFault, order};
 use hcl_read::read;
@@ -135,14 +135,21 @@ fn the_first_cycle_is_told(rt: HostRuntime) -> Result<(), Fail> {
 fn the_standard_files_have_an_order(rt: HostRuntime) -> Result<(), Fail> {
     let table = pipe_table(rt.alloc())?;
     law_of_tables();
-    for text in [STD, NB, LF, NT, BT, FU] {
-        let file = read(rt.alloc(), text)?;
+    for design in [
+        Example::Std,
+        Example::Nb,
+        Example::Lf,
+        Example::Nt,
+        Example::Bt,
+        Example::Fu,
+    ] {
+        let file = read(rt.alloc(), design.text())?;
         let design = bind(rt.alloc(), &file, &table)?;
         let ordered = order(rt.alloc(), &design, &table)?;
         assert_eq!(rt; ordered.ids.items().len(), 50);
     }
     let table = seq_table(rt.alloc())?;
-    let file = read(rt.alloc(), SEQ)?;
+    let file = read(rt.alloc(), Example::Seq.text())?;
     let design = bind(rt.alloc(), &file, &table)?;
     let ordered = order(rt.alloc(), &design, &table)?;
     assert_eq!(rt; ordered.ids.items().len(), 32);

@@ -1,7 +1,7 @@
 //! The pipelined machine under the designs of the book and under others: each cycle's answer with its record, and the end, by hand
 //! from the pipeline diagrams, on the evaluator that walks the terms and on compiled signals.
-use crate::designs::{LF, NB, NT, with};
 use dp_signals::{law_of_tables, pipe_table};
+use example_designs::Example;
 use hcl_compile::compile;
 use hcl_order::order;
 use hcl_read::read;
@@ -502,10 +502,10 @@ fn image(alloc: Global, program: &Program) -> Result<Image, Fail> {
 
 fn text_of(alloc: Global, logic: Logic) -> Result<Vec<u8>, Fail> {
     match logic {
-        Logic::Std(definitions) => with(alloc, definitions),
-        Logic::Nb => Ok(Vec::from_slice(alloc, NB)?),
-        Logic::Nt => Ok(Vec::from_slice(alloc, NT)?),
-        Logic::Lf => Ok(Vec::from_slice(alloc, LF)?),
+        Logic::Std(definitions) => Ok(Example::Std.with(alloc, definitions)?),
+        Logic::Nb => Ok(Vec::from_slice(alloc, Example::Nb.text())?),
+        Logic::Nt => Ok(Vec::from_slice(alloc, Example::Nt.text())?),
+        Logic::Lf => Ok(Vec::from_slice(alloc, Example::Lf.text())?),
     }
 }
 

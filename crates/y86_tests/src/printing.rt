@@ -1,5 +1,5 @@
 //! Files in their printed form.
-use crate::designs::{BT, FU, LF, NB, NT, SEQ, STD};
+use example_designs::Example;
 use hcl_read::{File, print, read};
 use std::process::Abort;
 use std::test::Fail;
@@ -118,8 +118,16 @@ fn designs_are_read_again(rt: HostRuntime) -> Result<(), Fail> {
     grouped.push(b';')?;
     prints(&rt, grouped.as_slice(), b"bool F_bubble = 1;\n")?;
     prints(&rt, negated.as_slice(), negated.as_slice())?;
-    for text in [STD, NB, LF, NT, BT, FU, SEQ] {
-        let design = file(&rt, text)?;
+    for example in [
+        Example::Std,
+        Example::Nb,
+        Example::Lf,
+        Example::Nt,
+        Example::Bt,
+        Example::Fu,
+        Example::Seq,
+    ] {
+        let design = file(&rt, example.text())?;
         let printed = print(rt.alloc(), &design)?;
         let again = file(&rt, printed.as_slice())?;
         assert!(rt; again == design);

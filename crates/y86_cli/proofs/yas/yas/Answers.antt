@@ -2,15 +2,15 @@ use Rattle.y86_cli.specs.Answers.{yas_plan}
 use Rattle.y86_cli.proofs.Does.{gives_it, read_goes_on, stage_goes_on, stage_refuses}
 use Rattle.y86_cli.proofs.yas.yas.Goals as goal
 
-pub returns-in-Err-object_text : goal.returns-in-Err-object_text
+pub returns-in-Err-object_text-clause-does : goal.returns-in-Err-object_text-clause-does
 unfolding yas_plan
-returns-in-Err-object_text g c =
-    read_goes_on _ _ _ _ _ _ _ _ _ _ c.read_file.ensures.later c.in-Ok.ensures.bytes.0 c.in-Ok.ensures.bytes.1
+returns-in-Err-object_text-clause-does g c =
+    read_goes_on _ _ _ _ _ _ _ _ _ _ c.in-Ok.ensures.later c.in-Ok.ensures.bytes.0 c.in-Ok.ensures.bytes.1
     (stage_refuses _ _ _ _ _ (rw c.as_slice.ensures.value at c.in-Err-object_text.ensures))
 
-pub returns : goal.returns
+pub returns-clause-does : goal.returns-clause-does
 unfolding yas_plan
-returns g c =
-    read_goes_on _ _ _ _ _ _ _ _ _ _ c.read_file.ensures.later c.in-Ok.ensures.bytes.0 c.in-Ok.ensures.bytes.1
+returns-clause-does g c =
+    read_goes_on _ _ _ _ _ _ _ _ _ _ c.in-Ok.ensures.later c.in-Ok.ensures.bytes.0 c.in-Ok.ensures.bytes.1
     (stage_goes_on _ _ _ _ _ _ _ _ (rw c.as_slice.ensures.value at c.in-Ok-object_text.ensures)
     (gives_it _ _ _ _ _ _ (rw c.as_slice-2.ensures.value at c.say.ensures)))

@@ -1,42 +1,68 @@
-//! The designs of `examples/`, byte for byte, and that of PIPE with changes.
-use std::alloc::Global;
-use std::test::Fail;
-
-/// Whether definitions define the name that a line does. The kinds `word` and `bool` have as many letters.
-fn is_defined(line: &[u8], definitions: &[u8]) -> bool {
-    let head = match line
-        .get(5..)
-        .unwrap_or(line)
-        .split(|byte| *byte == b'=')
-        .next()
-    {
-        Some(head) => head,
-        None => line,
-    };
-    definitions
-        .split(|byte| *byte == b'\n')
-        .any(|other| other.get(5..).unwrap_or(other).starts_with(head))
+/// A design of `examples/`.
+#[derive(Clone, Copy, Debug)]
+pub enum Example {
+    /// `seq.hcl`: SEQ.
+    Seq,
+    /// `std.hcl`: PIPE.
+    Std,
+    /// `nb.hcl`: PIPE without bypassing.
+    Nb,
+    /// `lf.hcl`: PIPE with load forwarding.
+    Lf,
+    /// `nt.hcl`: PIPE with conditional jumps predicted not taken.
+    Nt,
+    /// `bt.hcl`: PIPE with backward jumps predicted taken, forward ones not.
+    Bt,
+    /// `fu.hcl`: PIPE with `iaddq`.
+    Fu,
 }
 
-/// PIPE with other definitions, each on a line of its own, in place of those of the same name.
-pub fn with(alloc: Global, definitions: &[u8]) -> Result<Vec<u8>, Fail> {
-    let mut text = Vec::from_slice(alloc, definitions)?;
-    text.push(b'\n')?;
-    let mut kept = true;
-    for line in STD.split(|byte| *byte == b'\n') {
-        if line.starts_with(b"word ") || line.starts_with(b"bool ") {
-            kept = !is_defined(line, definitions);
-        }
-        if kept {
-            text.extend_from_slice(line)?;
-            text.push(b'\n')?;
+impl Example {
+    /// The text of its file.
+    pub fn text(self) -> &'static [u8] {
+        match self {
+            Example::Seq => SEQ,
+            Example::Std => STD,
+            Example::Nb => NB,
+            Example::Lf => LF,
+            Example::Nt => NT,
+            Example::Bt => BT,
+            Example::Fu => FU,
         }
     }
-    Ok(text)
 }
 
-/// `std.hcl`: PIPE.
-pub const STD: &[u8] =
+const SEQ: &[u8] =
+    b"# SEQ, which runs an instruction in each cycle (CS:APP 3e, section 4.3, figure 4.23).
+word icode = [ imem_error : INOP; 1 : imem_icode; ];
+word ifun = [ imem_error : FNONE; 1 : imem_ifun; ];
+bool instr_valid = icode in { INOP, IHALT, IRRMOVQ, IIRMOVQ, IRMMOVQ, IMRMOVQ,
+  IOPQ, IJXX, ICALL, IRET, IPUSHQ, IPOPQ };
+bool need_regids = icode in { IRRMOVQ, IOPQ, IPUSHQ, IPOPQ, IIRMOVQ, IRMMOVQ, IMRMOVQ };
+bool need_valC = icode in { IIRMOVQ, IRMMOVQ, IMRMOVQ, IJXX, ICALL };
+word srcA = [ icode in { IRRMOVQ, IRMMOVQ, IOPQ, IPUSHQ } : rA;
+  icode in { IPOPQ, IRET } : RRSP; 1 : RNONE; ];
+word srcB = [ icode in { IOPQ, IRMMOVQ, IMRMOVQ } : rB;
+  icode in { IPUSHQ, IPOPQ, ICALL, IRET } : RRSP; 1 : RNONE; ];
+word dstE = [ icode == IRRMOVQ && Cnd : rB; icode in { IIRMOVQ, IOPQ } : rB;
+  icode in { IPUSHQ, IPOPQ, ICALL, IRET } : RRSP; 1 : RNONE; ];
+word dstM = [ icode in { IMRMOVQ, IPOPQ } : rA; 1 : RNONE; ];
+word aluA = [ icode in { IRRMOVQ, IOPQ } : valA; icode in { IIRMOVQ, IRMMOVQ, IMRMOVQ } : valC;
+  icode in { ICALL, IPUSHQ } : -8; icode in { IRET, IPOPQ } : 8; ];
+word aluB = [ icode in { IRMMOVQ, IMRMOVQ, IOPQ, ICALL, IPUSHQ, IRET, IPOPQ } : valB;
+  icode in { IRRMOVQ, IIRMOVQ } : 0; ];
+word alufun = [ icode == IOPQ : ifun; 1 : ALUADD; ];
+bool set_cc = icode == IOPQ;
+word mem_addr = [ icode in { IRMMOVQ, IPUSHQ, ICALL, IMRMOVQ } : valE;
+  icode in { IPOPQ, IRET } : valA; ];
+bool mem_read = icode in { IMRMOVQ, IPOPQ, IRET };
+bool mem_write = icode in { IRMMOVQ, IPUSHQ, ICALL };
+word mem_data = [ icode in { IRMMOVQ, IPUSHQ } : valA; icode == ICALL : valP; ];
+word Stat = [ imem_error || dmem_error : SADR; !instr_valid : SINS; icode == IHALT : SHLT; 1 : SAOK; ];
+word new_pc = [ icode == ICALL : valC; icode == IJXX && Cnd : valC; icode == IRET : valM; 1 : valP; ];
+";
+
+const STD: &[u8] =
     b"# PIPE, the five-stage pipeline with forwarding, stalls for load/use and ret, and conditional jumps predicted
 # taken (CS:APP 3e, section 4.5, figures 4.52 to 4.68).
 word f_pc = [ M_icode == IJXX && !M_Cnd : M_valA; W_icode == IRET : W_valM; 1 : F_predPC; ];
@@ -94,8 +120,7 @@ bool W_stall = W_stat in { SADR, SINS, SHLT };
 bool W_bubble = 0;
 ";
 
-/// `nb.hcl`: PIPE without bypassing.
-pub const NB: &[u8] =
+const NB: &[u8] =
     b"# PIPE without bypassing: no value is forwarded to decode, which stalls until the registers it reads are
 # written (CS:APP 3e, exercise 4.53).
 word f_pc = [ M_icode == IJXX && !M_Cnd : M_valA; W_icode == IRET : W_valM; 1 : F_predPC; ];
@@ -150,8 +175,7 @@ bool W_stall = W_stat in { SADR, SINS, SHLT };
 bool W_bubble = 0;
 ";
 
-/// `lf.hcl`: PIPE with load forwarding.
-pub const LF: &[u8] =
+const LF: &[u8] =
     b"# PIPE with load forwarding: a loaded value that the next instruction stores or pushes is forwarded in
 # execute, without a stall (CS:APP 3e, exercise 4.57).
 word f_pc = [ M_icode == IJXX && !M_Cnd : M_valA; W_icode == IRET : W_valM; 1 : F_predPC; ];
@@ -209,9 +233,7 @@ bool W_stall = W_stat in { SADR, SINS, SHLT };
 bool W_bubble = 0;
 ";
 
-/// `nt.hcl`: PIPE with conditional jumps predicted not taken.
-pub const NT: &[u8] =
-    b"# PIPE with conditional jumps predicted not taken (CS:APP 3e, exercise 4.55).
+const NT: &[u8] = b"# PIPE with conditional jumps predicted not taken (CS:APP 3e, exercise 4.55).
 word f_pc = [ M_icode == IJXX && M_ifun != UNCOND && M_Cnd : M_valE; W_icode == IRET : W_valM; 1 : F_predPC; ];
 word f_icode = [ imem_error : INOP; 1 : imem_icode; ];
 word f_ifun = [ imem_error : FNONE; 1 : imem_ifun; ];
@@ -267,8 +289,7 @@ bool W_stall = W_stat in { SADR, SINS, SHLT };
 bool W_bubble = 0;
 ";
 
-/// `bt.hcl`: PIPE with backward jumps predicted taken, forward ones not.
-pub const BT: &[u8] =
+const BT: &[u8] =
     b"# PIPE with backward conditional jumps predicted taken and forward ones not taken (CS:APP 3e, exercise 4.56).
 word f_pc = [ M_icode == IJXX && M_ifun != UNCOND && M_valE < M_valA && !M_Cnd : M_valA;
   M_icode == IJXX && M_ifun != UNCOND && M_valE >= M_valA && M_Cnd : M_valE;
@@ -328,8 +349,7 @@ bool W_stall = W_stat in { SADR, SINS, SHLT };
 bool W_bubble = 0;
 ";
 
-/// `fu.hcl`: PIPE with `iaddq`.
-pub const FU: &[u8] = b"# PIPE with the instruction iaddq (CS:APP 3e, exercise 4.54).
+const FU: &[u8] = b"# PIPE with the instruction iaddq (CS:APP 3e, exercise 4.54).
 word f_pc = [ M_icode == IJXX && !M_Cnd : M_valA; W_icode == IRET : W_valM; 1 : F_predPC; ];
 word f_icode = [ imem_error : INOP; 1 : imem_icode; ];
 word f_ifun = [ imem_error : FNONE; 1 : imem_ifun; ];
@@ -383,35 +403,4 @@ bool M_stall = 0;
 bool M_bubble = m_stat in { SADR, SINS, SHLT } || W_stat in { SADR, SINS, SHLT };
 bool W_stall = W_stat in { SADR, SINS, SHLT };
 bool W_bubble = 0;
-";
-
-/// `seq.hcl`: SEQ.
-pub const SEQ: &[u8] =
-    b"# SEQ, which runs an instruction in each cycle (CS:APP 3e, section 4.3, figure 4.23).
-word icode = [ imem_error : INOP; 1 : imem_icode; ];
-word ifun = [ imem_error : FNONE; 1 : imem_ifun; ];
-bool instr_valid = icode in { INOP, IHALT, IRRMOVQ, IIRMOVQ, IRMMOVQ, IMRMOVQ,
-  IOPQ, IJXX, ICALL, IRET, IPUSHQ, IPOPQ };
-bool need_regids = icode in { IRRMOVQ, IOPQ, IPUSHQ, IPOPQ, IIRMOVQ, IRMMOVQ, IMRMOVQ };
-bool need_valC = icode in { IIRMOVQ, IRMMOVQ, IMRMOVQ, IJXX, ICALL };
-word srcA = [ icode in { IRRMOVQ, IRMMOVQ, IOPQ, IPUSHQ } : rA;
-  icode in { IPOPQ, IRET } : RRSP; 1 : RNONE; ];
-word srcB = [ icode in { IOPQ, IRMMOVQ, IMRMOVQ } : rB;
-  icode in { IPUSHQ, IPOPQ, ICALL, IRET } : RRSP; 1 : RNONE; ];
-word dstE = [ icode == IRRMOVQ && Cnd : rB; icode in { IIRMOVQ, IOPQ } : rB;
-  icode in { IPUSHQ, IPOPQ, ICALL, IRET } : RRSP; 1 : RNONE; ];
-word dstM = [ icode in { IMRMOVQ, IPOPQ } : rA; 1 : RNONE; ];
-word aluA = [ icode in { IRRMOVQ, IOPQ } : valA; icode in { IIRMOVQ, IRMMOVQ, IMRMOVQ } : valC;
-  icode in { ICALL, IPUSHQ } : -8; icode in { IRET, IPOPQ } : 8; ];
-word aluB = [ icode in { IRMMOVQ, IMRMOVQ, IOPQ, ICALL, IPUSHQ, IRET, IPOPQ } : valB;
-  icode in { IRRMOVQ, IIRMOVQ } : 0; ];
-word alufun = [ icode == IOPQ : ifun; 1 : ALUADD; ];
-bool set_cc = icode == IOPQ;
-word mem_addr = [ icode in { IRMMOVQ, IPUSHQ, ICALL, IMRMOVQ } : valE;
-  icode in { IPOPQ, IRET } : valA; ];
-bool mem_read = icode in { IMRMOVQ, IPOPQ, IRET };
-bool mem_write = icode in { IRMMOVQ, IPUSHQ, ICALL };
-word mem_data = [ icode in { IRMMOVQ, IPUSHQ } : valA; icode == ICALL : valP; ];
-word Stat = [ imem_error || dmem_error : SADR; !instr_valid : SINS; icode == IHALT : SHLT; 1 : SAOK; ];
-word new_pc = [ icode == ICALL : valC; icode == IJXX && Cnd : valC; icode == IRET : valM; 1 : valP; ];
 ";
