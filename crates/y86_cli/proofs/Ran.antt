@@ -50,7 +50,7 @@ line_of_memory Memory e = refl
 line_of_memory (TooLong name limit) e = absurd (cc)
 
 -- a stop that isn't told as a failed read comes without one
-none_failed : (files_before files_after : FilesSeen) (stop : code.Stop) → NoReadFailed {ℕ} files_before files_after (Err stop) →
+none_failed : (files_before files_after : FilesSeen) (stop : code.Stop) → NoReadFailed {A = ℕ} files_before files_after (Err stop) →
     status_of stop ≢ 3 → (name : List ℕ) → files_after.faults name ≡ files_before.faults name
 none_failed files_before files_after Usage reads other name = reads refl name
 none_failed files_before files_after (Read file) reads other name = absurd (other refl)
@@ -145,7 +145,7 @@ low_or_four high p (inl low) = absurd (omega (arith, high, low))
 low_or_four high p (inr four) = p four
 
 command_stopped : (command : Command) (files_before files_after : FilesSeen) (before after err_before err_after : SinkSeen) (stop : code.Stop) →
-    Came (plan_of command) files_before files_after before after (Err stop) → NoReadFailed {ℕ} files_before files_after (Err stop) →
+    Came (plan_of command) files_before files_after before after (Err stop) → NoReadFailed {A = ℕ} files_before files_after (Err stop) →
     Told err_before err_after (line_of stop) → (status_of stop ≡ 4 → err_after ≡ err_before) → Ran (Some command) files_before files_after before after err_before err_after (status_of stop)
 command_stopped command files_before files_after before after err_before err_after stop c reads told silent = record {
   at_most_seven = stop_low stop;
@@ -225,20 +225,20 @@ ran_done (Some command) files_before files_after before after err status e reads
     command_done command files_before files_after before after err status (came (plan_of command) files_before files_after before after (Ok status) e) reads
 
 stopped : (form : Option Command) (files_before files_after : FilesSeen) (before after err_before err_after : SinkSeen) (stop : code.Stop) →
-    Ended form files_before files_after before after (Err stop) → NoReadFailed {ℕ} files_before files_after (Err stop) →
+    Ended form files_before files_after before after (Err stop) → NoReadFailed {A = ℕ} files_before files_after (Err stop) →
     Told err_before err_after (line_of stop) → (status_of stop ≡ 4 → err_after ≡ err_before) →
     Ran form files_before files_after before after err_before err_after (status_of stop)
 unfolding Ended
 stopped None files_before files_after before after err_before err_after stop e reads told silent =
     let usage : stop ≡ Usage = cc (e.0) in
     let P : code.Stop → Type 0 =
-    λ s. NoReadFailed {ℕ} files_before files_after (Err s) → Told err_before err_after (line_of s) → Ran None files_before files_after before after err_before err_after (status_of s) in
+    λ s. NoReadFailed {A = ℕ} files_before files_after (Err s) → Told err_before err_after (line_of s) → Ran None files_before files_after before after err_before err_after (status_of s) in
     subst P (sym usage) (λ quiet. usage_ran files_before files_after before after err_before err_after (quiet refl) e.1) reads told
 stopped (Some command) files_before files_after before after err_before err_after stop e reads told silent =
     command_stopped command files_before files_after before after err_before err_after stop (came (plan_of command) files_before files_after before after (Err stop) e) reads told silent
 
 pub ran_stopped : (form : Option Command) (files_before files_after : FilesSeen) (before after err_before err_after : SinkSeen) (stop : code.Stop) (status : ℕ) →
-    Ended form files_before files_after before after (Err stop) → NoReadFailed {ℕ} files_before files_after (Err stop) →
+    Ended form files_before files_after before after (Err stop) → NoReadFailed {A = ℕ} files_before files_after (Err stop) →
     status ≡ status_of stop → Told err_before err_after (line_of stop) → (status_of stop ≡ 4 → err_after ≡ err_before) → Ran form files_before files_after before after err_before err_after status
 ran_stopped form files_before files_after before after err_before err_after stop status e reads s told silent =
     rw s (stopped form files_before files_after before after err_before err_after stop e reads told silent)
