@@ -287,6 +287,8 @@ pub fn translate(
     ensures tells { (w : List Bool) (α : Assignment) (field : ℕ → ℕ) (cv : ℕ → Leaf) (listed : List Atom) → AreAtoms t.now.rows d.now.terms listed →
         AtomsAre listed (b.old.vars - length listed) w α → Spells places.now w field → AreControls t.now.rows d.now.terms field α cv →
         IfOk result (λ ctl. Tells b.new ctl w α cv) }
+    // So there is an answer only where nothing is Mixed and there are at most 64 atoms.
+    ensures listed { IfOk result (λ ctl. (listed : List Atom) × AreAtoms t.now.rows d.now.terms listed) }
     ensures fault { IfErr result (IsCtlFault t.now.rows d.now.terms) }
 {
     match atoms(alloc, d, t, o) {

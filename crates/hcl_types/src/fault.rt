@@ -1,6 +1,5 @@
 ghost use Rattle.std.specs.Prelude.{◌≡◌, ◌≢◌, []};
-ghost use Rattle.hcl_types.specs.Binding.{fault};
-ghost use Rattle.hcl_types.specs.declared.fault.BindWhy.TheVariants.{Memory as OutOfMemory};
+ghost use Rattle.hcl_types.specs.Binding.{fault, want_of_memory};
 
 use hcl_read::Text;
 use std::alloc::Global;
@@ -40,7 +39,7 @@ pub struct BindFault {
 impl BindFault {
     /// Want of memory.
     pub fn memory(alloc: Global) -> BindFault
-        ensures { result.why ≡ OutOfMemory }
+        ensures { result ≡ want_of_memory }
     {
         BindFault {
             why: BindWhy::Memory,
@@ -50,7 +49,7 @@ impl BindFault {
 
     /// A fault about a name, or want of memory for the copy of the name.
     pub fn of(alloc: Global, why: BindWhy, name: &Text) -> BindFault
-        ensures { result.why ≢ OutOfMemory → result ≡ fault why name.now }
+        ensures { result ≢ want_of_memory → result ≡ fault why name.now }
     {
         match name.copy(alloc) {
             Ok(name) => BindFault { why, name },
