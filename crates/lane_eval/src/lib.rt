@@ -1,0 +1,9 @@
+//! Gates of a net at 512 valuations at once. A vector of 512 bits holds the truths of one gate, or of one variable: bit p % 64
+//! of word p / 64 is the truth in place p.
+#![tactic(auto)]
+
+mod lanes;
+mod places;
+
+pub use lanes::{Scratch, eval512};
+pub use places::{first_false_place, put_place};
