@@ -22,12 +22,12 @@ use Rattle.y86_cli.specs.Answers.{PipeAnswers, check_pipe_plan, check_seq_plan, 
 use Rattle.y86_cli.specs.Checks.{AcceptsPipe, RefusesControl}
 use Rattle.y86_cli.specs.Designs.{IsDesign, RefusesDesign}
 use Rattle.y86_cli.specs.Does.{FilesSeen, SinkSeen}
-use Rattle.y86_cli.specs.Forms.{check_pipe, check_seq, form_of, psim}
+use Rattle.y86_words.specs.Forms.{check_pipe, check_seq, form_of, psim}
 use Rattle.y86_cli.specs.Lines.{object_fault_line}
 use Rattle.y86_cli.specs.Plan.{Answered, MayAnswer, after, done, refused}
 use Rattle.y86_cli.specs.PipeRuns.{Goes, end_of, run_text}
 use Rattle.y86_cli.specs.Ran.{Ran}
-use Rattle.y86_cli.proofs.Legal.{form_legal}
+use Rattle.y86_words.proofs.Legal.{form_legal}
 use Rattle.y86_cli.proofs.Loaded.{loaded_is_image}
 
 -- ---- a run that goes on to its end is a run

@@ -1,16 +1,12 @@
 pub mod Agreement
-pub mod Arguments
 pub mod Came
 pub mod Checks
 pub mod Designs
 pub mod Does
-pub mod Legal
 pub mod Loaded
-pub mod Order
 pub mod PipeRuns
 pub mod Plans
 pub mod Ran
 pub mod Runs
 pub mod SeqRuns
 pub mod Stages
-pub mod Wording

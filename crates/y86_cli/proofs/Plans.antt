@@ -18,7 +18,7 @@ use Rattle.hcl_types.specs.declared.term.Term.{Term}
 use Rattle.dp_signals.specs.SeqTable.{seq_rows}
 use Rattle.dp_signals.specs.PipeTable.{pipe_rows}
 use Rattle.y86_cli.specs.Does.{FilesSeen, SinkSeen}
-use Rattle.y86_cli.specs.Forms.{Command, yas, yis, hcl, ssim, psim, check_seq, check_pipe}
+use Rattle.y86_words.specs.Forms.{Command, yas, yis, hcl, ssim, psim, check_seq, check_pipe}
 use Rattle.y86_cli.specs.Lines.{assembly_fault_line, object_fault_line, read_fault_line, too_long_line}
 use Rattle.y86_cli.specs.Plan.{Answered, Plan, says, reads, gives, answers, after, refused, Allows, Tells, IsDetermined}
 use Rattle.y86_cli.specs.Ran.{Ran, Told}

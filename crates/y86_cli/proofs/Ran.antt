@@ -8,7 +8,7 @@ use Rattle.y86_cli.specs.declared.stop.Stop.TheVariants.{Usage, Read, Write, Ref
 use Rattle.y86_cli.specs.Answers.{plan_of}
 use Rattle.y86_cli.specs.Came.{IsAllowed, Came}
 use Rattle.y86_cli.specs.Does.{FilesSeen, NoReadFailed, SinkSeen, Does}
-use Rattle.y86_cli.specs.Forms.{Command}
+use Rattle.y86_words.specs.Forms.{Command}
 use Rattle.y86_cli.specs.Lines.{memory_line, read_fault_line, usage_line}
 use Rattle.y86_cli.specs.Plan.{Answered, Plan, Tells, IsFaultless, refused}
 use Rattle.y86_cli.specs.Ran.{Ended, ReadFailed, Ran, Shows, Told}

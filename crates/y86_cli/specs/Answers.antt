@@ -22,7 +22,7 @@ use Rattle.yo_object.specs.Printed.{printed}
 use Rattle.yo_object.specs.declared.object.YoFault.{YoFault}
 use Rattle.y86_cli.specs.Checks.{AcceptsPipe, PipeChecks, RefusesPipe, SeqChecks}
 use Rattle.y86_cli.specs.Designs.{IsDesign, RefusesDesign, RefusesHcl}
-use Rattle.y86_cli.specs.Forms.{Command, yas, yis, hcl, ssim, psim, check_seq, check_pipe}
+use Rattle.y86_words.specs.Forms.{Command, yas, yis, hcl, ssim, psim, check_seq, check_pipe}
 use Rattle.y86_cli.specs.Lines.{assembly_fault_line, object_fault_line, usage_line}
 use Rattle.y86_cli.specs.PipeRuns.{RunsTo, run_text}
 use Rattle.y86_cli.specs.Plan.{Answered, Plan, after, answers, done, gives, reads, refused, says}

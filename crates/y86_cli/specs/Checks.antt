@@ -16,8 +16,8 @@ use Rattle.verdict_text.specs.SeqLine.{seq_no}
 use Rattle.y86_base.specs.declared.parts.Variant.{Variant}
 use Rattle.y86_cli.specs.Lines.{blank_names, names_at, names_line}
 use Rattle.y86_cli.specs.Plan.{Answered, done, refused}
-use Rattle.y86_cli.specs.declared.check.PipeText.{PipeText}
-use Rattle.y86_cli.specs.declared.check.PipeText.TheVariants as pipe_text
+use Rattle.y86_cli.specs.declared.verdict.PipeText.{PipeText}
+use Rattle.y86_cli.specs.declared.verdict.PipeText.TheVariants as pipe_text
 
 -- the refusal of a design in which a definition mixes codes with words: the first is told
 pub record RefusesMixed (name : List ℕ) (rows : List Row) (terms : List Term) (a : Answered) : Type 0 where

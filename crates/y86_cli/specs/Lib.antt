@@ -1,16 +1,11 @@
 pub mod Answers
 pub mod Agreement
-pub mod Arguments
 pub mod Came
 pub mod Checks
 pub mod Designs
 pub mod Does
-pub mod Forms
 pub mod Lines
-pub mod Numbers
 pub mod PipeRuns
 pub mod Plan
 pub mod Ran
 pub mod Stops
-pub mod Views
-pub mod Wording

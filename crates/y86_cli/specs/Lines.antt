@@ -16,7 +16,7 @@ use Rattle.yo_object.specs.declared.object.YoWhy.{YoWhy}
 use Rattle.yo_object.specs.declared.object.YoWhy.TheVariants.{Syntax, OddDigits, OutsideMemory, AddressTooWide, Memory}
 
 abbrev pub usage_line : List ℕ
-usage_line = codes "usage: y86 yas|yis|hcl|ssim|psim|check|sample|big\n"
+usage_line = codes "usage: y86 yas|yis|hcl|ssim|psim|check|sample|big|recheck|ssimp|aig|aigrun\n"
 
 unfoldable pub read_fault_line : List ℕ → List ℕ
 read_fault_line name = concat (codes "read fault " ∷ name ∷ codes "\n" ∷ [])

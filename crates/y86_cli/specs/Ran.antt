@@ -11,7 +11,7 @@ use Rattle.y86_cli.specs.declared.stop.Stop.TheVariants.{Usage}
 use Rattle.y86_cli.specs.Answers.{plan_in, plan_of}
 use Rattle.y86_cli.specs.Came.{IsAllowed, IsReached}
 use Rattle.y86_cli.specs.Does.{Does, FilesSeen, SinkSeen}
-use Rattle.y86_cli.specs.Forms.{Command}
+use Rattle.y86_words.specs.Forms.{Command}
 use Rattle.y86_cli.specs.Lines.{memory_line, read_fault_line}
 use Rattle.y86_cli.specs.Plan.{Answered, IsFaultless, Plan, Tells}
 

@@ -1,9 +1,10 @@
+//! The top call on the words as the system gives them, the program's own name first.
 ghost use Rattle.std.specs.Prelude.{◌≡◌, ◌⊎◌, ◌↔◌, ◌≢◌, ◌≤◌, List, [], ℕ, Option, Some, None, drop, IfErr, IfOk};
 ghost use Rattle.std.specs.IoError.{error_kind};
 ghost use Rattle.std.specs.Vec.Iter.{into_iter_items};
 ghost use Rattle.y86_cli.specs.Does.{files_seen, sink_seen};
 ghost use Rattle.y86_cli.specs.Ran.{Ran, words_behind};
-ghost use Rattle.y86_cli.specs.Forms.{form_of};
+ghost use Rattle.y86_words.specs.Forms.{form_of};
 ghost use Rattle.y86_cli.specs.declared.stop.Stop.TheVariants.{Memory, Usage};
 
 use crate::run::{Status, run, tell};

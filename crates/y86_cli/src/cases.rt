@@ -1,6 +1,10 @@
 //! Calls of the program on one file, with what they answer.
 use crate::run::Status;
 
+/// The line on standard error where the words are no command.
+pub const USAGE: &[u8] =
+    b"usage: y86 yas|yis|hcl|ssim|psim|check|sample|big|recheck|ssimp|aig|aigrun\n";
+
 /// A call of the program: its words, the one file that there is, and what it answers.
 pub struct Case {
     pub shows: &'static str,
@@ -432,7 +436,7 @@ static FULL: [Case; 7] = [
         bytes: b"",
         status: 2,
         out: b"",
-        err: b"usage: y86 yas|yis|hcl|ssim|psim|check|sample|big\n",
+        err: USAGE,
     },
     Case {
         shows: "an option that the form doesn't have",
@@ -441,7 +445,7 @@ static FULL: [Case; 7] = [
         bytes: b"",
         status: 2,
         out: b"",
-        err: b"usage: y86 yas|yis|hcl|ssim|psim|check|sample|big\n",
+        err: USAGE,
     },
     Case {
         shows: "four places",
@@ -450,7 +454,7 @@ static FULL: [Case; 7] = [
         bytes: b"",
         status: 2,
         out: b"",
-        err: b"usage: y86 yas|yis|hcl|ssim|psim|check|sample|big\n",
+        err: USAGE,
     },
 ];
 
@@ -517,7 +521,7 @@ static HCL: [Case; 7] = [
         bytes: b"",
         status: 2,
         out: b"",
-        err: b"usage: y86 yas|yis|hcl|ssim|psim|check|sample|big\n",
+        err: USAGE,
     },
 ];
 
@@ -575,7 +579,7 @@ static SIMULATED: [Case; 7] = [
         bytes: b"",
         status: 2,
         out: b"",
-        err: b"usage: y86 yas|yis|hcl|ssim|psim|check|sample|big\n",
+        err: USAGE,
     },
     Case {
         shows: "one file too many",
@@ -584,7 +588,7 @@ static SIMULATED: [Case; 7] = [
         bytes: b"",
         status: 2,
         out: b"",
-        err: b"usage: y86 yas|yis|hcl|ssim|psim|check|sample|big\n",
+        err: USAGE,
     },
 ];
 

@@ -1,3 +1,4 @@
+//! The design stage: an HCL text, bound over a table, with an order of its signals; and names of rows as they are told.
 ghost use Rattle.std.specs.Prelude.{◌≡◌, ◌≢◌, ◌⊎◌, ◌++◌, ◌∷◌, [], List, ℕ, IfOk, OnOk, map};
 ghost use Rattle.dp_signals.specs.PipeTable.{pipe_rows};
 ghost use Rattle.dp_signals.specs.SeqTable.{seq_rows};
@@ -10,7 +11,7 @@ ghost use Rattle.y86_cli.specs.Plan.{refused};
 ghost use Rattle.y86_cli.specs.Stops.{answer_at, status_of};
 ghost use Rattle.y86_cli.specs.declared.stop.Stop.TheVariants.{Memory as WantOfMemory};
 
-use crate::hcl::read_hcl;
+use crate::stages::read_hcl;
 use crate::stop::{Refusal, Stop};
 use dp_signals::{law_of_tables, pipe_table, seq_table};
 use hcl_order::{OrderFault, order};

@@ -1,29 +1,13 @@
-//! Theorems about the words of a call and its answer. Each is a function that does nothing and whose contract is the theorem.
-ghost use Rattle.std.specs.Prelude.{◌≡◌, ◌≢◌, ◌⊎◌, ◌↔◌, ◌≤◌, ◌∷◌, ◌++◌, Bool, List, [], ℕ, Option, Some, None, codes, true};
+//! Theorems about the answer of a call. Each is a function that does nothing and whose contract is the theorem.
+ghost use Rattle.std.specs.Prelude.{◌≡◌, ◌≢◌, ◌⊎◌, ◌↔◌, ◌≤◌, Bool, List, [], ℕ, Option, Some, None, true};
 ghost use Rattle.wb_io.specs.Sinks.{Took, TookPart};
-ghost use Rattle.y86_base.specs.declared.parts.Variant.TheVariants.{Base};
 ghost use Rattle.y86_base.specs.declared.parts.Variant.{Variant};
 ghost use Rattle.y86_cli.specs.Agreement.{HasAccepted, HasAcceptedSeq, RanAccepted, ToldNo};
 ghost use Rattle.y86_cli.specs.Answers.{plan_in, yas_plan, yis_plan};
 ghost use Rattle.y86_cli.specs.Does.{FilesSeen, SinkSeen};
-ghost use Rattle.y86_cli.specs.Forms.{Command, check_pipe, check_seq, form_of, psim, yas, yis};
+ghost use Rattle.y86_words.specs.Forms.{Command, check_pipe, check_seq, form_of, psim};
 ghost use Rattle.y86_cli.specs.Plan.{Answered, Allows, IsDetermined, Tells};
 ghost use Rattle.y86_cli.specs.Ran.{Ran, Told};
-ghost use Rattle.y86_cli.specs.Wording.{AreArguments, AreOptions, HasForm, IsFileName, IsLegal, words_of};
-
-/// Which words are a command. Words are only legal commands, each legal command has words, and words that are a command have
-/// the name, the places and the options of its row, each option at most once. Options may stand anywhere behind the name.
-/// Without options their defaults hold.
-pub fn law_of_words()
-    ensures legal { (words : List (List ℕ)) (command : Command) → form_of words ≡ Some command → IsLegal command }
-    ensures written { (command : Command) → IsLegal command → form_of (words_of command) ≡ Some command }
-    ensures of_a_row { (name : List ℕ) (rest : List (List ℕ)) (command : Command) → form_of (name ∷ rest) ≡ Some command → HasForm name rest command }
-    ensures order { (name : List ℕ) (options other back : List (List ℕ)) → AreOptions options → AreArguments other →
-        form_of (name ∷ (options ++ (other ++ back))) ≡ form_of (name ∷ (other ++ (options ++ back))) }
-    ensures defaults { (file : List ℕ) → IsFileName file →
-        (form_of (codes "yas" ∷ file ∷ []) ≡ Some (yas file 8192 Base))
-        × (form_of (codes "yis" ∷ file ∷ []) ≡ Some (yis file 8192 10000 Base)) }
-{}
 
 /// What an answer has, whatever the contents of the files. With 0 and 1 nothing is to be told on standard error; with every
 /// other status nothing goes to standard output. 2 comes exactly where the words are no command, and no status is over 7.

@@ -1,3 +1,4 @@
+//! `psim`: runs an object file on PIPE under an HCL file.
 ghost use Rattle.std.specs.Prelude.{◌≡◌, ◌<◌, ◌≤◌, ◌^◌, ◌++◌, List, ℕ, OnOk, OnErr, length};
 ghost use Rattle.dp_signals.specs.PipeTable.{pipe_rows};
 ghost use Rattle.hcl_types.specs.Tables.{IsBound, IsOrderOf};
@@ -9,12 +10,11 @@ ghost use Rattle.y86_cli.specs.Does.{Does, NoReadFailed, Says, files_seen, sink_
 ghost use Rattle.y86_cli.specs.PipeRuns.{ran_line};
 ghost use Rattle.yis_run.specs.Report as text;
 
-use crate::check::{PipeText, pipe_verdict};
 use crate::design::{Ordered, pipe_design};
-use crate::files::{FILE_LIMIT, HCL_LIMIT, read_file};
 use crate::say::say;
+use crate::stages::{FILE_LIMIT, HCL_LIMIT, load_image, read_file, status};
 use crate::stop::Stop;
-use crate::yis::{load_image, status};
+use crate::verdict::{PipeText, pipe_verdict};
 use hcl_compile::compile;
 use pipe_path::Pipe;
 use retire_trace::{Drove, drive};

@@ -1,14 +1,14 @@
+//! The top call: does the command that the words are, and answers the status.
 ghost use Rattle.std.specs.Prelude.{◌≡◌, ◌≢◌, ◌≤◌, List, ℕ, None, map, string_bytes};
 ghost use Rattle.y86_cli.specs.Answers.{plan_of};
 ghost use Rattle.y86_cli.specs.Does.{Does, NoReadFailed, files_seen, sink_seen};
-ghost use Rattle.y86_cli.specs.Forms.{form_of};
+ghost use Rattle.y86_words.specs.Forms.{form_of};
 ghost use Rattle.y86_cli.specs.Ran.{Ended, Ran, Told};
 ghost use Rattle.y86_cli.specs.Stops.{line_of, status_of};
-ghost use Rattle.y86_cli.specs.Views.{command_in};
-ghost use Rattle.y86_cli.specs.Wording.{IsLegal};
+ghost use Rattle.y86_words.specs.Views.{command_in};
+ghost use Rattle.y86_words.specs.Wording.{IsLegal};
 
 use crate::check::{check_pipe_file, check_seq_file};
-use crate::cmd::{Cmd, Usage, words};
 use crate::hcl::hcl;
 use crate::psim::psim;
 use crate::ssim::ssim;
@@ -17,6 +17,7 @@ use crate::yas::yas;
 use crate::yis::yis;
 use std::alloc::Global;
 use wb_io::{Files, Sink};
+use y86_words::{Cmd, Usage, words};
 
 /// The status that the program ends with, from 0 to 7.
 ///

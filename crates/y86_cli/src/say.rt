@@ -1,3 +1,4 @@
+//! The text of an answer on standard output.
 ghost use Rattle.std.specs.Prelude.{◌≡◌, ◌≤◌};
 ghost use Rattle.y86_cli.specs.Does.{Says, sink_seen};
 ghost use Rattle.y86_cli.specs.Plan.{done};

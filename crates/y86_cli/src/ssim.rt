@@ -1,3 +1,4 @@
+//! `ssim`: runs an object file on SEQ under an HCL file.
 ghost use Rattle.std.specs.Prelude.{◌≡◌, List, ℕ};
 ghost use Rattle.dp_signals.specs.SeqTable.{seq_rows};
 ghost use Rattle.hcl_types.specs.Tables.{IsBound, IsOrderOf};
@@ -6,9 +7,8 @@ ghost use Rattle.y86_cli.specs.Answers.{SeqAnswers, seq_plan, ssim_plan};
 ghost use Rattle.y86_cli.specs.Does.{Does, NoReadFailed, Says, files_seen, sink_seen};
 
 use crate::design::{Ordered, seq_design};
-use crate::files::{FILE_LIMIT, HCL_LIMIT, read_file};
+use crate::stages::{FILE_LIMIT, HCL_LIMIT, load_image, read_file, status};
 use crate::stop::Stop;
-use crate::yis::{load_image, status};
 use hcl_compile::compile;
 use seq_path::{Seq, run};
 use std::alloc::Global;

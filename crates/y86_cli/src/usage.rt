@@ -1,5 +1,5 @@
 //! Words that are no command of the program.
-use crate::cases::Case;
+use crate::cases::{Case, USAGE};
 
 /// Words that are no command.
 static USAGE_1: [Case; 8] = [
@@ -10,7 +10,7 @@ static USAGE_1: [Case; 8] = [
         bytes: b"0x000: c0f00500000000000000\n",
         status: 2,
         out: b"",
-        err: b"usage: y86 yas|yis|hcl|ssim|psim|check|sample|big\n",
+        err: USAGE,
     },
     Case {
         shows: "no words",
@@ -19,7 +19,7 @@ static USAGE_1: [Case; 8] = [
         bytes: b"",
         status: 2,
         out: b"",
-        err: b"usage: y86 yas|yis|hcl|ssim|psim|check|sample|big\n",
+        err: USAGE,
     },
     Case {
         shows: "a limit of 0",
@@ -28,7 +28,7 @@ static USAGE_1: [Case; 8] = [
         bytes: b"0x000: 00\n",
         status: 2,
         out: b"",
-        err: b"usage: y86 yas|yis|hcl|ssim|psim|check|sample|big\n",
+        err: USAGE,
     },
     Case {
         shows: "a size that no image takes",
@@ -37,7 +37,7 @@ static USAGE_1: [Case; 8] = [
         bytes: b"0x000: 00\n",
         status: 2,
         out: b"",
-        err: b"usage: y86 yas|yis|hcl|ssim|psim|check|sample|big\n",
+        err: USAGE,
     },
     Case {
         shows: "a file twice",
@@ -46,7 +46,7 @@ static USAGE_1: [Case; 8] = [
         bytes: b"0x000: 00\n",
         status: 2,
         out: b"",
-        err: b"usage: y86 yas|yis|hcl|ssim|psim|check|sample|big\n",
+        err: USAGE,
     },
     Case {
         shows: "an option twice",
@@ -55,7 +55,7 @@ static USAGE_1: [Case; 8] = [
         bytes: b"0x000: 00\n",
         status: 2,
         out: b"",
-        err: b"usage: y86 yas|yis|hcl|ssim|psim|check|sample|big\n",
+        err: USAGE,
     },
     Case {
         shows: "an option without its number",
@@ -64,7 +64,7 @@ static USAGE_1: [Case; 8] = [
         bytes: b"0x000: 00\n",
         status: 2,
         out: b"",
-        err: b"usage: y86 yas|yis|hcl|ssim|psim|check|sample|big\n",
+        err: USAGE,
     },
     Case {
         shows: "a sign before a number",
@@ -73,7 +73,7 @@ static USAGE_1: [Case; 8] = [
         bytes: b"0x000: 00\n",
         status: 2,
         out: b"",
-        err: b"usage: y86 yas|yis|hcl|ssim|psim|check|sample|big\n",
+        err: USAGE,
     },
 ];
 
@@ -86,7 +86,7 @@ static USAGE_2: [Case; 7] = [
         bytes: b"0x000: 00\n",
         status: 2,
         out: b"",
-        err: b"usage: y86 yas|yis|hcl|ssim|psim|check|sample|big\n",
+        err: USAGE,
     },
     Case {
         shows: "a limit over the largest",
@@ -95,7 +95,7 @@ static USAGE_2: [Case; 7] = [
         bytes: b"0x000: 00\n",
         status: 2,
         out: b"",
-        err: b"usage: y86 yas|yis|hcl|ssim|psim|check|sample|big\n",
+        err: USAGE,
     },
     Case {
         shows: "a number of 2^64 and more",
@@ -104,7 +104,7 @@ static USAGE_2: [Case; 7] = [
         bytes: b"0x000: 00\n",
         status: 2,
         out: b"",
-        err: b"usage: y86 yas|yis|hcl|ssim|psim|check|sample|big\n",
+        err: USAGE,
     },
     Case {
         shows: "a limit at an assembly file",
@@ -113,7 +113,7 @@ static USAGE_2: [Case; 7] = [
         bytes: b"0x000: 00\n",
         status: 2,
         out: b"",
-        err: b"usage: y86 yas|yis|hcl|ssim|psim|check|sample|big\n",
+        err: USAGE,
     },
     Case {
         shows: "a command in upper case",
@@ -122,7 +122,7 @@ static USAGE_2: [Case; 7] = [
         bytes: b"0x000: 00\n",
         status: 2,
         out: b"",
-        err: b"usage: y86 yas|yis|hcl|ssim|psim|check|sample|big\n",
+        err: USAGE,
     },
     Case {
         shows: "an empty name",
@@ -131,7 +131,7 @@ static USAGE_2: [Case; 7] = [
         bytes: b"0x000: 00\n",
         status: 2,
         out: b"",
-        err: b"usage: y86 yas|yis|hcl|ssim|psim|check|sample|big\n",
+        err: USAGE,
     },
     Case {
         shows: "help",
@@ -140,7 +140,7 @@ static USAGE_2: [Case; 7] = [
         bytes: b"0x000: 00\n",
         status: 2,
         out: b"",
-        err: b"usage: y86 yas|yis|hcl|ssim|psim|check|sample|big\n",
+        err: USAGE,
     },
 ];
 

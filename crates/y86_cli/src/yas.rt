@@ -1,11 +1,12 @@
+//! `yas`: prints the object text of an assembly file.
 ghost use Rattle.std.specs.Prelude.{◌≡◌, List, ℕ};
 ghost use Rattle.yas_asm.specs.Assembly.{assembled};
 ghost use Rattle.y86_cli.specs.Answers.{text_of_listing, yas_plan};
 ghost use Rattle.y86_cli.specs.Does.{Does, Gives, NoReadFailed, files_seen, sink_seen};
 ghost use Rattle.y86_cli.specs.Lines.{assembly_reason};
 
-use crate::files::{FILE_LIMIT, read_file};
 use crate::say::say;
+use crate::stages::{FILE_LIMIT, read_file};
 use crate::stop::{Refusal, Stop};
 use std::alloc::Global;
 use wb_io::{Files, Sink};

@@ -1,68 +1,16 @@
-ghost use Rattle.std.specs.Prelude.{◌≡◌, ◌≤◌, List, ℕ};
+//! `yis`: runs an object file at the level of instructions.
+ghost use Rattle.std.specs.Prelude.{◌≡◌, List, ℕ};
 ghost use Rattle.y86_base.specs.Image.{IsSize};
-ghost use Rattle.yo_object.specs.ObjectText.{object_of};
-ghost use Rattle.y86_cli.specs.Answers.{image_of_text, run_status, yis_plan, yis_run};
-ghost use Rattle.y86_cli.specs.Does.{Does, Gives, NoReadFailed, Says, files_seen, sink_seen};
-ghost use Rattle.y86_cli.specs.Lines.{object_reason};
+ghost use Rattle.y86_cli.specs.Answers.{yis_plan, yis_run};
+ghost use Rattle.y86_cli.specs.Does.{Does, NoReadFailed, Says, files_seen, sink_seen};
 
-use crate::files::{FILE_LIMIT, read_file};
-use crate::stop::{Refusal, Stop};
+use crate::stages::{FILE_LIMIT, load_image, read_file, status};
+use crate::stop::Stop;
 use std::alloc::Global;
 use wb_io::{Files, Sink};
-use y86_base::{Image, Stat, Variant};
+use y86_base::{Image, Variant};
 use y86_isa::Machine;
 use yis_run::{End, report, run};
-use yo_object::{YoWhy, load};
-
-/// The name of an object text's reason.
-fn reason(why: YoWhy) -> &'static [u8]
-    ensures { result.now ≡ object_reason why }
-{
-    match why {
-        YoWhy::Syntax => b"Syntax",
-        YoWhy::OddDigits => b"OddDigits",
-        YoWhy::OutsideMemory => b"OutsideMemory",
-        YoWhy::AddressTooWide => b"AddressTooWide",
-        YoWhy::Memory => b"Memory",
-    }
-}
-
-/// The image of an object text under a name.
-#[tactic(auto)]
-pub fn load_image<'a>(
-    alloc: Global,
-    name: &'a str,
-    bytes: &[u8],
-    size: u64,
-) -> Result<Image, Stop<'a>>
-    requires { IsSize size }
-    ensures { Gives (λ image. image) (image_of_text name.now (object_of bytes.now size)) result }
-{
-    match load(alloc, bytes, size) {
-        Ok(image) => Ok(image),
-        Err(fault) => match fault.why {
-            YoWhy::Memory => Err(Stop::Memory),
-            why => Err(Stop::Refused(
-                name,
-                Refusal::AtLine {
-                    line: fault.line,
-                    why: reason(why),
-                },
-            )),
-        },
-    }
-}
-
-/// 0 where a run ended at a halt, else 1.
-pub fn status(stat: Stat) -> u8
-    ensures status { result ≡ run_status stat }
-    ensures low { result ≤ 1 }
-{
-    match stat {
-        Stat::Hlt => 0,
-        _ => 1,
-    }
-}
 
 /// Runs an image and writes the report. All memory is taken before the first step.
 #[tactic(auto, unfolding(crate::specs::Answers::yis_run))]

@@ -1,0 +1,35 @@
+//! The program: the commands and their stages over any files and sinks, and the top call.
+#![tactic(auto)]
+
+mod call;
+#[cfg(test)]
+mod cases;
+mod check;
+mod design;
+mod hcl;
+mod laws;
+mod psim;
+mod run;
+mod say;
+#[cfg(test)]
+mod simulations;
+mod ssim;
+mod stages;
+mod stop;
+#[cfg(test)]
+mod tests;
+#[cfg(test)]
+mod usage;
+mod verdict;
+#[cfg(test)]
+mod verdicts;
+mod yas;
+mod yis;
+
+pub use crate::call::call;
+pub use crate::design::{Ordered, pipe_design, seq_design};
+pub use crate::laws::{law_of_accepted_files, law_of_answers, law_of_plans};
+pub use crate::run::{Status, run, tell};
+pub use crate::say::say;
+pub use crate::stages::{FILE_LIMIT, HCL_LIMIT, load_image, read_file, read_hcl};
+pub use crate::stop::{Refusal, Stop};

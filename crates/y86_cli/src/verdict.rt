@@ -1,0 +1,144 @@
+//! Verdicts on designs as texts: the text of a No of each datapath, a verdict on PIPE, and the stop at a design without
+//! control values.
+ghost use Rattle.std.specs.Prelude.{◌≡◌, ◌≢◌, ◌⊎◌, Err, IfErr, IfOk, List, OnErr, ℕ};
+ghost use Rattle.ctl_atoms.specs.Atoms.{AreAtoms, IsCtlFault};
+ghost use Rattle.ctl_atoms.specs.declared.leaf.Atom.{Atom};
+ghost use Rattle.ctl_atoms.specs.declared.fault.CtlFault.TheVariants as cause;
+ghost use Rattle.dp_signals.specs.PipeTable.{pipe_rows};
+ghost use Rattle.dp_signals.specs.SeqTable.{seq_rows};
+ghost use Rattle.hcl_types.specs.Tables.{IsBound, IsOrderOf, IsSound, row_names};
+ghost use Rattle.hcl_types.specs.declared.term.Term.{Term};
+ghost use Rattle.verdict_text.specs.PipeLines.{pipe_no};
+ghost use Rattle.verdict_text.specs.SeqLine.{seq_no};
+ghost use Rattle.y86_cli.specs.Checks.{RefusesControl, TellsPipe};
+ghost use Rattle.y86_cli.specs.Stops.{answer_at, status_of};
+ghost use Rattle.y86_cli.specs.declared.stop.Stop.TheVariants.{Memory as WantOfMemory};
+
+use crate::design::{Ordered, all_names};
+use crate::stop::{Refusal, Stop};
+use control_check::{CheckFault, Verdict, check_pipe};
+use ctl_atoms::{CtlFault, atoms};
+use dp_signals::{law_of_tables, pipe_table};
+use hcl_types::{Row, Table};
+use nets::Valuation;
+use std::alloc::Global;
+use verdict_text::{pipe_acceptance, pipe_refusal, seq_refusal};
+use y86_base::Variant;
+
+/// The stop at a design without control values.
+#[tactic(auto, using(crate::proofs::Checks::mixed, crate::proofs::Checks::over))]
+pub fn control_stop<'a>(alloc: Global, name: &'a str, rows: &[Row], fault: CtlFault) -> Stop<'a>
+    requires { fault ≢ cause.Memory }
+    ensures { (terms : List Term) → IsCtlFault rows.now terms fault → (result ≡ WantOfMemory) ⊎ ((status_of result ≡ 5) × RefusesControl name.now rows.now terms (answer_at result)) }
+{
+    match fault {
+        CtlFault::Mixed(id) => match all_names(alloc, rows, &[id]) {
+            Ok(names) => Stop::Refused(
+                name,
+                Refusal::OfNames {
+                    why: b"Mixed",
+                    names,
+                },
+            ),
+            Err(_) => Stop::Memory,
+        },
+        CtlFault::AtomsOver64 => Stop::Refused(
+            name,
+            Refusal::OfNames {
+                why: b"AtomsOver64",
+                names: Vec::new(alloc),
+            },
+        ),
+        CtlFault::Memory => Stop::Memory,
+    }
+}
+
+/// The text of a No of SEQ.
+pub fn seq_text<'a>(
+    alloc: Global,
+    table: &Table,
+    ordered: &Ordered,
+    rule: u32,
+    valuation: &Valuation,
+) -> Result<Vec<u8>, Stop<'a>>
+    requires rows { table.now.rows ≡ seq_rows }
+    requires sound { IsSound table.now.rows }
+    requires bound { IsBound seq_rows ordered.now.design.terms }
+    requires order { IsOrderOf seq_rows ordered.now.design.terms ordered.now.order.ids }
+    ensures text { IfOk result (λ text. (list : List Atom) × AreAtoms seq_rows ordered.now.design.terms list
+        × (text.items ≡ seq_no (row_names seq_rows) rule valuation.now.bits list)) }
+    ensures memory { OnErr result (result ≡ Err WantOfMemory) }
+{
+    let Ok(list) = atoms(alloc, &ordered.design, table, &ordered.order) else {
+        return Err(Stop::Memory);
+    };
+    match seq_refusal(alloc, table.rows.items(), rule, valuation, list.as_slice()) {
+        Ok(text) => Ok(text),
+        Err(_) => Err(Stop::Memory),
+    }
+}
+
+/// The text of a verdict on PIPE.
+#[derive(Debug, Drop)]
+pub enum PipeText {
+    Yes(Vec<u8>),
+    No(Vec<u8>),
+}
+
+/// The text of a No of PIPE.
+fn pipe_no_text<'a>(
+    alloc: Global,
+    table: &Table,
+    ordered: &Ordered,
+    rule: u32,
+    valuation: &Valuation,
+) -> Result<Vec<u8>, Stop<'a>>
+    requires rows { table.now.rows ≡ pipe_rows }
+    requires sound { IsSound table.now.rows }
+    requires bound { IsBound pipe_rows ordered.now.design.terms }
+    requires order { IsOrderOf pipe_rows ordered.now.design.terms ordered.now.order.ids }
+    ensures text { IfOk result (λ text. (list : List Atom) × AreAtoms pipe_rows ordered.now.design.terms list
+        × (text.items ≡ pipe_no (row_names pipe_rows) rule valuation.now.bits list)) }
+    ensures memory { OnErr result (result ≡ Err WantOfMemory) }
+{
+    let Ok(list) = atoms(alloc, &ordered.design, table, &ordered.order) else {
+        return Err(Stop::Memory);
+    };
+    match pipe_refusal(alloc, table.rows.items(), rule, valuation, list.as_slice()) {
+        Ok(text) => Ok(text),
+        Err(_) => Err(Stop::Memory),
+    }
+}
+
+/// Decides a design for PIPE, and gives the text of the verdict.
+#[tactic(auto, using(crate::proofs::Checks::tells_yes, crate::proofs::Checks::tells_no))]
+pub fn pipe_verdict<'a>(
+    alloc: Global,
+    name: &'a str,
+    variant: Variant,
+    ordered: &Ordered,
+) -> Result<PipeText, Stop<'a>>
+    requires bound { IsBound pipe_rows ordered.now.design.terms }
+    requires order { IsOrderOf pipe_rows ordered.now.design.terms ordered.now.order.ids }
+    ensures verdict { IfOk result (TellsPipe variant ordered.now.design.terms) }
+    ensures refused { IfErr result (λ stop. (stop ≡ WantOfMemory) ⊎ ((status_of stop ≡ 5) × RefusesControl name.now pipe_rows ordered.now.design.terms (answer_at stop))) }
+{
+    law_of_tables();
+    let Ok(table) = pipe_table(alloc) else {
+        return Err(Stop::Memory);
+    };
+    match check_pipe(alloc, variant, &ordered.design, &ordered.order) {
+        Ok(Verdict::Yes(settings)) => match pipe_acceptance(alloc, &settings) {
+            Ok(text) => Ok(PipeText::Yes(text)),
+            Err(_) => Err(Stop::Memory),
+        },
+        Ok(Verdict::No { rule, valuation }) => {
+            match pipe_no_text(alloc, &table, ordered, rule, &valuation) {
+                Ok(text) => Ok(PipeText::No(text)),
+                Err(stop) => Err(stop),
+            }
+        }
+        Err(CheckFault::Ctl(fault)) => Err(control_stop(alloc, name, table.rows.items(), fault)),
+        Err(CheckFault::Memory) => Err(Stop::Memory),
+    }
+}

@@ -1,0 +1,4 @@
+pub mod Arguments
+pub mod Legal
+pub mod Order
+pub mod Wording

@@ -1,0 +1,142 @@
+-- The forms of the commands, as rows: a name, the places behind it in order, and the options, which stand anywhere behind the
+-- name.
+use Rattle.std.specs.Prelude.{ℕ, Bool, true, false, ◌&&◌, ◌||◌, ◌==◌, if◌then◌else◌, List, [], ◌∷◌, codes, get_or, slice_get, Option, Some, None, is_none, is_some, unwrap_or, option_and_then}
+use Rattle.std.specs.List.{list_any}
+use Rattle.std.specs.Option.{option_map}
+use Rattle.std.specs.Str.{bytes_eq}
+use Rattle.y86_base.specs.declared.parts.Variant.{Variant}
+use Rattle.y86_base.specs.declared.parts.Variant.TheVariants as variant
+use Rattle.y86_words.specs.Arguments.{Filled, nothing_filled, index_of, all_added, arguments}
+use Rattle.y86_words.specs.Numbers.{number_within}
+use Rattle.y86_words.specs.declared.option.Switch.{Switch}
+use Rattle.y86_words.specs.declared.option.Switch.TheVariants.{Full, Mem, Limit, Trace, Checked}
+use Rattle.y86_words.specs.declared.form.Kind.{Kind}
+use Rattle.y86_words.specs.declared.form.Kind.TheVariants.{Yas, Yis, Hcl, Ssim, Psim, CheckSeq, CheckPipe}
+
+-- what a place takes: this word, the name of a file, or a number from a least one to a most one
+pub data Place : Type 0 where
+  keyword : List ℕ → Place
+  file : Place
+  number : ℕ → ℕ → Place
+
+pub record Form : Type 0 where
+  pub kind : Kind
+  pub name : List ℕ
+  pub places : List Place
+  pub options : List Switch
+
+abbrev pub row : Kind → List ℕ → List Place → List Switch → Form
+row kind name places options = record { kind = kind; name = name; places = places; options = options }
+
+-- the table of the commands
+abbrev pub forms : List Form
+forms =
+    row Yas (codes "yas") (file ∷ []) (Full ∷ Mem ∷ [])
+    ∷ row Yis (codes "yis") (file ∷ []) (Full ∷ Mem ∷ Limit ∷ [])
+    ∷ row Hcl (codes "hcl") (file ∷ []) []
+    ∷ row Ssim (codes "ssim") (file ∷ file ∷ []) (Full ∷ Mem ∷ Limit ∷ [])
+    ∷ row Psim (codes "psim") (file ∷ file ∷ []) (Full ∷ Mem ∷ Limit ∷ Trace ∷ Checked ∷ [])
+    ∷ row CheckSeq (codes "check") (keyword (codes "seq") ∷ file ∷ []) (Full ∷ [])
+    ∷ row CheckPipe (codes "check") (keyword (codes "pipe") ∷ file ∷ []) (Full ∷ [])
+    ∷ []
+
+-- ---- the form that words have
+
+abbrev pub fits_place : Place → List ℕ → Bool
+fits_place (keyword text) given = bytes_eq given text
+fits_place file given = true
+fits_place (number least most) given = is_some (number_within least most given)
+
+abbrev pub fits_places : List Place → List (List ℕ) → Bool
+fits_places [] [] = true
+fits_places [] (word ∷ words) = false
+fits_places (place ∷ places) [] = false
+fits_places (place ∷ places) (word ∷ words) = fits_place place word && fits_places places words
+
+-- an option that is there is one of the form's
+abbrev pub fits_switch : List Switch → List (Option ℕ) → Switch → Bool
+fits_switch options values s = is_none (get_or values (index_of s) None) || list_any (λ o. index_of o == index_of s) options
+
+abbrev pub fits : Form → List ℕ → Filled → Bool
+fits form name f =
+    bytes_eq name form.name && fits_places form.places f.words
+    && (fits_switch form.options f.values Full && fits_switch form.options f.values Mem && fits_switch form.options f.values Limit && fits_switch form.options f.values Trace
+    && fits_switch form.options f.values Checked)
+
+-- ---- the commands
+
+pub data Command : Type 0 where
+  -- print the object text of an assembly file: its name, the size of the memory in bytes, the instruction set
+  yas : List ℕ → ℕ → Variant → Command
+  -- run an object file at the level of instructions: its name, the size of the memory in bytes, the limit of steps, the
+  -- instruction set
+  yis : List ℕ → ℕ → ℕ → Variant → Command
+  -- read and print an HCL file: its name
+  hcl : List ℕ → Command
+  -- run an object file on SEQ under an HCL file: the names of both, the size of the memory in bytes, the limit of cycles, the
+  -- instruction set
+  ssim : List ℕ → List ℕ → ℕ → ℕ → Variant → Command
+  -- run an object file on PIPE under an HCL file: as for ssim, whether a trace is asked for, and whether the HCL file is to be
+  -- checked first
+  psim : List ℕ → List ℕ → ℕ → ℕ → Bool → Bool → Variant → Command
+  -- decide whether SEQ under an HCL file does what its instructions mean: the name of the file, the instruction set
+  check_seq : List ℕ → Variant → Command
+  -- the same of PIPE, for the programs that don't store over their own instructions
+  check_pipe : List ℕ → Variant → Command
+
+-- `--full` takes the instruction set with `iaddq`
+abbrev pub variant_with : Option ℕ → Variant
+variant_with None = variant.Base
+variant_with (Some n) = variant.Full
+
+abbrev pub variant_of : Filled → Variant
+variant_of f = variant_with (get_or f.values (index_of Full) None)
+
+-- where `--mem` is absent, the size of the memory, and where `--limit` is, the most steps or cycles
+abbrev pub default_size : ℕ
+default_size = 8192
+
+abbrev pub default_limit : ℕ
+default_limit = 10000
+
+-- the size of the memory, and the most steps or cycles
+abbrev pub size_of : Filled → ℕ
+size_of f = unwrap_or (get_or f.values (index_of Mem) None) default_size
+
+abbrev pub limit_of : Filled → ℕ
+limit_of f = unwrap_or (get_or f.values (index_of Limit) None) default_limit
+
+-- whether a trace is asked for
+abbrev pub trace_of : Filled → Bool
+trace_of f = is_some (get_or f.values (index_of Trace) None)
+
+-- whether a check is asked for
+abbrev pub checked_of : Filled → Bool
+checked_of f = is_some (get_or f.values (index_of Checked) None)
+
+-- the number in a place
+abbrev pub number_at : ℕ → ℕ → ℕ → Filled → Option ℕ
+number_at least most at f = option_and_then (number_within least most) (slice_get f.words at)
+
+-- the command of a row with what was found
+abbrev pub made : Kind → Filled → Option Command
+made Yas f = option_map (λ source. yas source (size_of f) (variant_of f)) (slice_get f.words 0)
+made Yis f = option_map (λ object. yis object (size_of f) (limit_of f) (variant_of f)) (slice_get f.words 0)
+made Hcl f = option_map hcl (slice_get f.words 0)
+made Ssim f =
+    option_and_then (λ file. option_map (λ object. ssim file object (size_of f) (limit_of f) (variant_of f)) (slice_get f.words 1)) (slice_get f.words 0)
+made Psim f =
+    option_and_then (λ file. option_map (λ object. psim file object (size_of f) (limit_of f) (trace_of f) (checked_of f) (variant_of f)) (slice_get f.words 1)) (slice_get f.words 0)
+made CheckSeq f = option_map (λ file. check_seq file (variant_of f)) (slice_get f.words 1)
+made CheckPipe f = option_map (λ file. check_pipe file (variant_of f)) (slice_get f.words 1)
+
+-- the command of the first row that fits
+unfoldable pub first_fit : List Form → List ℕ → Filled → Option Command
+first_fit [] name f = None
+first_fit (form ∷ rest) name f = if fits form name f then made form.kind f else first_fit rest name f
+
+-- the command that words are, if any
+unfoldable pub form_of : List (List ℕ) → Option Command
+form_of [] = None
+form_of (name ∷ rest) =
+    option_and_then (first_fit forms name) (option_and_then (all_added (Some nothing_filled)) (arguments rest))

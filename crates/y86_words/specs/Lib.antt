@@ -1,0 +1,5 @@
+pub mod Arguments
+pub mod Forms
+pub mod Numbers
+pub mod Views
+pub mod Wording

@@ -1,0 +1,55 @@
+-- What the code keeps of words and forms, against their definitions.
+use Rattle.std.specs.Prelude.{◌≡◌, ℕ, List, map, string_bytes, Option, Some, None}
+use Rattle.std.specs.Borrow.{Bor}
+use Rattle.std.specs.declared.alloc.Global.{Global}
+use Rattle.std.specs.declared.string.String.{String}
+use Rattle.y86_words.specs.declared.argument.Argument as code
+use Rattle.y86_words.specs.declared.argument.Argument.TheVariants as code_variants
+use Rattle.y86_words.specs.declared.argument.Found as code_found
+use Rattle.y86_words.specs.declared.cmd.Cmd as code_command
+use Rattle.y86_words.specs.declared.cmd.Cmd.TheVariants as code_commands
+use Rattle.y86_words.specs.declared.form.Form as code_form
+use Rattle.y86_words.specs.declared.form.Place as code_place
+use Rattle.y86_words.specs.declared.form.Place.TheVariants as code_places
+use Rattle.y86_words.specs.Arguments.{Argument, place, switch, arguments, in_front, Filled}
+use Rattle.y86_words.specs.Forms.{Command, yas, yis, hcl, ssim, psim, check_seq, check_pipe, Form, Place, keyword, file, number}
+
+abbrev pub argument_in : code.Argument → Argument
+argument_in (code_variants.Place word) = place word.now
+argument_in (code_variants.Switch s n) = switch s n
+
+-- an argument and the words behind it
+pub record Split : Type 0 where
+  pub argument : Argument
+  pub rest : List (List ℕ)
+
+abbrev pub split_in : code.Argument × Bor (List (String Global)) → Split
+split_in pair = record { argument = argument_in pair.0; rest = map string_bytes pair.1.now }
+
+-- the arguments of some words are a first one and those of the rest, or there are none
+abbrev pub FirstArgument : List (List ℕ) → Option Split → Type 0
+FirstArgument words None = arguments words ≡ None
+FirstArgument words (Some split) = arguments words ≡ in_front (Some split.argument) (arguments split.rest)
+
+abbrev pub words_in : List (Bor (List ℕ)) → List (List ℕ)
+words_in words = map (λ word. word.now) words
+
+abbrev pub filled_in : code_found.Found → Filled
+filled_in found = record { words = words_in found.words.items; values = found.values }
+
+abbrev pub place_in : code_place.Place → Place
+place_in (code_places.Keyword text) = keyword text.now
+place_in code_places.File = file
+place_in (code_places.Number least most) = number least most
+
+abbrev pub form_in : code_form.Form → Form
+form_in form = record { kind = form.kind; name = form.name.now; places = map place_in form.places.now; options = form.options.now }
+
+abbrev pub command_in : code_command.Cmd → Command
+command_in (code_commands.Yas source size v) = yas source.now size v
+command_in (code_commands.Yis object size limit v) = yis object.now size limit v
+command_in (code_commands.Hcl name) = hcl name.now
+command_in (code_commands.Ssim name object size limit v) = ssim name.now object.now size limit v
+command_in (code_commands.Psim name object size limit trace checked v) = psim name.now object.now size limit trace checked v
+command_in (code_commands.CheckSeq name v) = check_seq name.now v
+command_in (code_commands.CheckPipe name v) = check_pipe name.now v

@@ -1,0 +1,90 @@
+-- Which words are a command: the terms of the law of the words.
+use Rattle.std.specs.Prelude.{◌≡◌, ◌<◌, ◌≤◌, ℕ, IsTrue, false, nat_eq, if◌then◌else◌, List, [], ◌∷◌, length, codes, get_or, None, Some, IsSome, Contains, Bool, true, ◌++◌}
+use Rattle.std.specs.Fmt.{decimal}
+use Rattle.std.specs.Option.{option_to_list}
+use Rattle.y86_base.specs.Image.{IsSize}
+use Rattle.y86_base.specs.declared.parts.Variant.{Variant}
+use Rattle.y86_base.specs.declared.parts.Variant.TheVariants as variant
+use Rattle.y86_words.specs.Arguments.{Argument, place, switch, Filled, arguments, index_of, is_option}
+use Rattle.y86_words.specs.Forms.{Command, yas, yis, hcl, ssim, psim, check_seq, check_pipe, Form, forms, fits, made}
+use Rattle.y86_words.specs.declared.option.Switch.{Switch}
+
+-- what may name a file: a word that isn't empty and is no option
+abbrev pub IsFileName : List ℕ → Type 0
+IsFileName word = (0 < length word) × (is_option word ≡ false)
+
+-- a limit from 1 to 100,000,000
+abbrev pub IsRunLimit : ℕ → Type 0
+IsRunLimit n = (1 ≤ n) × (n ≤ 100000000)
+
+-- the commands that words can be
+abbrev pub IsLegal : Command → Type 0
+IsLegal (yas source size v) = IsFileName source × IsSize size
+IsLegal (yis object size limit v) = IsFileName object × IsSize size × IsRunLimit limit
+IsLegal (hcl file) = IsFileName file
+IsLegal (ssim file object size limit v) = IsFileName file × IsFileName object × IsSize size × IsRunLimit limit
+IsLegal (psim file object size limit trace checked v) = IsFileName file × IsFileName object × IsSize size × IsRunLimit limit
+IsLegal (check_seq file v) = IsFileName file
+IsLegal (check_pipe file v) = IsFileName file
+
+abbrev pub variant_words : Variant → List (List ℕ)
+variant_words variant.Base = []
+variant_words variant.Full = codes "--full" ∷ []
+
+abbrev pub trace_words : Bool → List (List ℕ)
+trace_words false = []
+trace_words true = codes "--trace" ∷ []
+
+abbrev pub checked_words : Bool → List (List ℕ)
+checked_words false = []
+checked_words true = codes "--checked" ∷ []
+
+-- the words of a command with each of its options
+abbrev pub words_of : Command → List (List ℕ)
+words_of (yas source size v) = codes "yas" ∷ source ∷ codes "--mem" ∷ decimal size ∷ variant_words v
+words_of (yis object size limit v) =
+    codes "yis" ∷ object ∷ codes "--mem" ∷ decimal size ∷ codes "--limit" ∷ decimal limit ∷ variant_words v
+words_of (hcl file) = codes "hcl" ∷ file ∷ []
+words_of (ssim file object size limit v) =
+    codes "ssim" ∷ file ∷ object ∷ codes "--mem" ∷ decimal size ∷ codes "--limit" ∷ decimal limit ∷ variant_words v
+words_of (psim file object size limit trace checked v) =
+    codes "psim" ∷ file ∷ object ∷ codes "--mem" ∷ decimal size ∷ codes "--limit" ∷ decimal limit ∷ (trace_words trace ++ (checked_words checked ++ variant_words v))
+words_of (check_seq file v) = codes "check" ∷ codes "seq" ∷ file ∷ variant_words v
+words_of (check_pipe file v) = codes "check" ∷ codes "pipe" ∷ file ∷ variant_words v
+
+-- words that are arguments: file names and other words of places, and options each with its number
+abbrev pub AreArguments : List (List ℕ) → Type 0
+AreArguments words = IsSome (arguments words)
+
+-- the words of the places, and the numbers of an option, each in order
+abbrev pub places_of : List Argument → List (List ℕ)
+places_of [] = []
+places_of (place word ∷ rest) = word ∷ places_of rest
+places_of (switch s n ∷ rest) = places_of rest
+
+abbrev pub numbers_of : Switch → List Argument → List ℕ
+numbers_of s [] = []
+numbers_of s (place word ∷ rest) = numbers_of s rest
+numbers_of s (switch t n ∷ rest) = if nat_eq (index_of s) (index_of t) then n ∷ numbers_of s rest else numbers_of s rest
+
+-- words that are options alone
+pub record AreOptions (words : List (List ℕ)) : Type 0 where
+  pub read : List Argument
+  pub are : arguments words ≡ Some read
+  pub no_place : places_of read ≡ []
+
+-- what is found in arguments: the words of the places in order, and of each option its one number, or none
+pub record IsFound (read : List Argument) (found : Filled) : Type 0 where
+  pub words : places_of read ≡ found.words
+  pub numbers : (s : Switch) → numbers_of s read ≡ option_to_list (get_or found.values (index_of s) None)
+
+-- a name and arguments that have the form of a row, each option at most once, and are its command
+pub record HasForm (name : List ℕ) (rest : List (List ℕ)) (command : Command) : Type 0 where
+  pub read : List Argument
+  pub are : arguments rest ≡ Some read
+  pub found : Filled
+  pub is_found : IsFound read found
+  pub form : Form
+  pub is_row : Contains forms form
+  pub fits : IsTrue (fits form name found)
+  pub is_command : made form.kind found ≡ Some command

@@ -1,0 +1,95 @@
+//! The commands that words can be.
+ghost use Rattle.std.specs.Prelude.{◌≡◌, IfOk, None, OnErr, Some, map, string_bytes};
+ghost use Rattle.std.specs.Option.{option_map};
+ghost use Rattle.y86_words.specs.Forms.{form_of};
+ghost use Rattle.y86_words.specs.Views.{command_in};
+ghost use Rattle.y86_words.specs.Wording.{IsLegal};
+
+use crate::argument::found_in;
+use crate::form::command_of;
+use y86_base::Variant;
+
+/// A command with its file names and numbers.
+#[derive(Clone, Copy, Debug, PartialEq, Eq)]
+pub enum Cmd<'a> {
+    /// Prints the object text of an assembly file. `mem` is the size of the memory in bytes.
+    Yas {
+        asm: &'a str,
+        mem: u64,
+        variant: Variant,
+    },
+    /// Runs an object file at the level of instructions. `mem` is the size of the memory in bytes, and `limit` the most
+    /// steps that are done.
+    Yis {
+        obj: &'a str,
+        mem: u64,
+        limit: u64,
+        variant: Variant,
+    },
+    /// Reads and prints an HCL file.
+    Hcl {
+        hcl: &'a str,
+    },
+    /// Runs an object file on SEQ under an HCL file. `mem` is the size of the memory in bytes, and `limit` the most cycles
+    /// that are done.
+    Ssim {
+        hcl: &'a str,
+        obj: &'a str,
+        mem: u64,
+        limit: u64,
+        variant: Variant,
+    },
+    /// Runs an object file on PIPE under an HCL file, as `Ssim` does on SEQ; with `trace` a line for each instruction that
+    /// retires; with `checked` the HCL file is checked first, as by `CheckPipe`, and run only where it is accepted.
+    Psim {
+        hcl: &'a str,
+        obj: &'a str,
+        mem: u64,
+        limit: u64,
+        trace: bool,
+        checked: bool,
+        variant: Variant,
+    },
+    /// Decides whether SEQ under an HCL file does what its instructions mean, for every program.
+    CheckSeq {
+        hcl: &'a str,
+        variant: Variant,
+    },
+    /// Decides whether PIPE under an HCL file does what its instructions mean, for every program that doesn't store over
+    /// its own instructions.
+    CheckPipe {
+        hcl: &'a str,
+        variant: Variant,
+    },
+}
+
+/// Words that are no command.
+#[derive(Clone, Copy, Debug, PartialEq, Eq)]
+pub struct Usage;
+
+/// The command that the words behind the program's own name are, if any.
+#[tactic(auto, unfolding(crate::specs::Forms::form_of))]
+fn command_in_words<'a>(words: &'a [String]) -> Option<Cmd<'a>>
+    ensures { option_map command_in result ≡ form_of (map string_bytes words.now) }
+{
+    let Some((name, rest)) = words.split_first() else {
+        return None;
+    };
+    match found_in(rest) {
+        None => None,
+        Some(found) => command_of(name.as_str(), &found),
+    }
+}
+
+/// The command that the words behind the program's own name are. It takes no memory.
+#[tactic(auto, using(crate::proofs::Legal::form_legal))]
+pub fn words<'a>(words: &'a [String]) -> Result<Cmd<'a>, Usage>
+    ensures command { IfOk result (λ command. form_of (map string_bytes words.now) ≡ Some (command_in command)) }
+    ensures legal { IfOk result (λ command. IsLegal (command_in command)) }
+    ensures usage { OnErr result (form_of (map string_bytes words.now) ≡ None) }
+{
+    match command_in_words(words) {
+        Some(command) => Ok(command),
+        None => Err(Usage),
+    }
+}

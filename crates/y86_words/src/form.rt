@@ -1,0 +1,250 @@
+//! The table of the forms: the name, the places and the options of each command.
+ghost use Rattle.std.specs.Prelude.{◌≡◌, ◌==◌, None, get_or, map};
+ghost use Rattle.std.specs.List.{list_any};
+ghost use Rattle.std.specs.Option.{option_map};
+ghost use Rattle.y86_words.specs.Arguments as arguments;
+ghost use Rattle.y86_words.specs.Forms as spec;
+ghost use Rattle.y86_words.specs.Views.{command_in, filled_in, form_in, place_in, words_in};
+
+use crate::argument::Found;
+use crate::cmd::Cmd;
+use crate::number::number_within;
+use crate::option::{Switch, index_of};
+use y86_base::Variant;
+
+/// The size of the memory in bytes where `--mem` is absent.
+const DEFAULT_SIZE: u64 = 8192;
+
+/// The most steps or cycles of a run where `--limit` is absent.
+const DEFAULT_LIMIT: u64 = 10_000;
+
+/// What a place of a form takes.
+#[derive(Clone, Copy, Debug)]
+pub enum Place {
+    /// This word.
+    Keyword(&'static str),
+    /// The name of a file.
+    File,
+    /// A number from the first to the second.
+    Number(u64, u64),
+}
+
+/// The rows of the table of forms, by name.
+#[derive(Clone, Copy, Debug, PartialEq, Eq)]
+pub enum Kind {
+    Yas,
+    Yis,
+    Hcl,
+    Ssim,
+    Psim,
+    CheckSeq,
+    CheckPipe,
+}
+
+/// A form: the name of its command, the places behind it, in order, and the options, which stand anywhere behind the
+/// name.
+#[derive(Clone, Copy, Debug)]
+struct Form {
+    kind: Kind,
+    name: &'static str,
+    places: &'static [Place],
+    options: &'static [Switch],
+}
+
+/// The table of the commands.
+static FORMS: [Form; 7] = [
+    Form {
+        kind: Kind::Yas,
+        name: "yas",
+        places: &[Place::File],
+        options: &[Switch::Full, Switch::Mem],
+    },
+    Form {
+        kind: Kind::Yis,
+        name: "yis",
+        places: &[Place::File],
+        options: &[Switch::Full, Switch::Mem, Switch::Limit],
+    },
+    Form {
+        kind: Kind::Hcl,
+        name: "hcl",
+        places: &[Place::File],
+        options: &[],
+    },
+    Form {
+        kind: Kind::Ssim,
+        name: "ssim",
+        places: &[Place::File, Place::File],
+        options: &[Switch::Full, Switch::Mem, Switch::Limit],
+    },
+    Form {
+        kind: Kind::Psim,
+        name: "psim",
+        places: &[Place::File, Place::File],
+        options: &[
+            Switch::Full,
+            Switch::Mem,
+            Switch::Limit,
+            Switch::Trace,
+            Switch::Checked,
+        ],
+    },
+    Form {
+        kind: Kind::CheckSeq,
+        name: "check",
+        places: &[Place::Keyword("seq"), Place::File],
+        options: &[Switch::Full],
+    },
+    Form {
+        kind: Kind::CheckPipe,
+        name: "check",
+        places: &[Place::Keyword("pipe"), Place::File],
+        options: &[Switch::Full],
+    },
+];
+
+/// Whether a place takes a word.
+fn fits_place(place: Place, word: &str) -> bool
+    ensures { result ≡ spec.fits_place (place_in place) word.now }
+{
+    match place {
+        Place::Keyword(text) => word == text,
+        Place::File => true,
+        Place::Number(least, most) => number_within(word.as_bytes(), least, most).is_some(),
+    }
+}
+
+/// Whether there are as many words as places, and each place takes its word.
+#[tactic(auto, using(crate::proofs::Arguments::other_lengths))]
+fn fits_places(places: &[Place], words: &[&str]) -> bool
+    ensures { result ≡ spec.fits_places (map place_in places.now) (words_in words.now) }
+{
+    if places.len() != words.len() {
+        return false;
+    }
+    let mut at = 0;
+    'places: while at < places.len() {
+        if !fits_place(places[at], words[at]) {
+            return false;
+        }
+        at += 1;
+    }
+    true
+}
+
+/// Whether an option is one of some.
+fn has(options: &[Switch], index: usize) -> bool
+    ensures { result ≡ list_any (λ o. arguments.index_of o == index) options.now }
+{
+    options.iter().any(|option| index_of(*option) == index)
+}
+
+/// The number of an option, where it is there.
+fn value_of(found: &Found<'_>, switch: Switch) -> Option<u64>
+    ensures { result ≡ get_or found.now.values (arguments.index_of switch) None }
+{
+    let values = found.values;
+    values[index_of(switch)]
+}
+
+/// Whether an option isn't there, or is one of the form's.
+fn fits_switch(options: &[Switch], found: &Found<'_>, switch: Switch) -> bool
+    ensures { result ≡ spec.fits_switch options.now found.now.values switch }
+{
+    value_of(found, switch).is_none() || has(options, index_of(switch))
+}
+
+/// Whether a name and what was found behind it have a form.
+fn fits(form: &Form, name: &str, found: &Found<'_>) -> bool
+    ensures { result ≡ spec.fits (form_in form.now) name.now (filled_in found.now) }
+{
+    name == form.name
+        && fits_places(form.places, found.words.as_slice())
+        && (fits_switch(form.options, found, Switch::Full)
+            && fits_switch(form.options, found, Switch::Mem)
+            && fits_switch(form.options, found, Switch::Limit)
+            && fits_switch(form.options, found, Switch::Trace)
+            && fits_switch(form.options, found, Switch::Checked))
+}
+
+/// The instruction set of a command: with `iaddq` where `--full` is there.
+fn variant_with(full: Option<u64>) -> Variant
+    ensures { result ≡ spec.variant_with full }
+{
+    match full {
+        None => Variant::Base,
+        Some(_) => Variant::Full,
+    }
+}
+
+/// The command of a row with what was found. An option that isn't there has its default.
+fn made<'a>(kind: Kind, found: &Found<'a>) -> Option<Cmd<'a>>
+    ensures { option_map command_in result ≡ spec.made kind (filled_in found.now) }
+{
+    let variant = variant_with(value_of(found, Switch::Full));
+    let mem = value_of(found, Switch::Mem).unwrap_or(DEFAULT_SIZE);
+    let limit = value_of(found, Switch::Limit).unwrap_or(DEFAULT_LIMIT);
+    let trace = value_of(found, Switch::Trace).is_some();
+    let checked = value_of(found, Switch::Checked).is_some();
+    let words = found.words.as_slice();
+    match kind {
+        Kind::Yas => Some(Cmd::Yas {
+            asm: *words.get(0)?,
+            mem,
+            variant,
+        }),
+        Kind::Yis => Some(Cmd::Yis {
+            obj: *words.get(0)?,
+            mem,
+            limit,
+            variant,
+        }),
+        Kind::Hcl => Some(Cmd::Hcl {
+            hcl: *words.get(0)?,
+        }),
+        Kind::Ssim => Some(Cmd::Ssim {
+            hcl: *words.get(0)?,
+            obj: *words.get(1)?,
+            mem,
+            limit,
+            variant,
+        }),
+        Kind::Psim => Some(Cmd::Psim {
+            hcl: *words.get(0)?,
+            obj: *words.get(1)?,
+            mem,
+            limit,
+            trace,
+            checked,
+            variant,
+        }),
+        Kind::CheckSeq => Some(Cmd::CheckSeq {
+            hcl: *words.get(1)?,
+            variant,
+        }),
+        Kind::CheckPipe => Some(Cmd::CheckPipe {
+            hcl: *words.get(1)?,
+            variant,
+        }),
+    }
+}
+
+/// The command of the first of some forms that a name and what was found behind it have.
+#[tactic(auto, unfolding(crate::specs::Forms::first_fit))]
+fn first_fit<'a>(forms: &[Form], name: &str, found: &Found<'a>) -> Option<Cmd<'a>>
+    ensures { option_map command_in result ≡ spec.first_fit (map form_in forms.now) name.now (filled_in found.now) }
+{
+    for form in forms {
+        if fits(form, name, found) {
+            return made(form.kind, found);
+        }
+    }
+    None
+}
+
+/// The command of a name and what was found behind it.
+pub fn command_of<'a>(name: &str, found: &Found<'a>) -> Option<Cmd<'a>>
+    ensures { option_map command_in result ≡ spec.first_fit spec.forms name.now (filled_in found.now) }
+{
+    first_fit(&FORMS, name, found)
+}

@@ -1,0 +1,12 @@
+//! The words of a call: the forms of the commands, the places and options of each, and which words are which command.
+#![tactic(auto)]
+
+mod argument;
+mod cmd;
+mod form;
+mod laws;
+mod number;
+mod option;
+
+pub use crate::cmd::{Cmd, Usage, words};
+pub use crate::laws::law_of_words;

@@ -1,0 +1,78 @@
+//! The options of the commands.
+ghost use Rattle.std.specs.Prelude.{◌≡◌, ◌≤◌, is_some, option_and_then};
+ghost use Rattle.y86_words.specs.Arguments as spec;
+ghost use Rattle.y86_words.specs.Numbers.{number_that};
+
+use crate::number::{image_size, number_within};
+
+/// The options of the commands.
+#[derive(Clone, Copy, Debug, PartialEq, Eq)]
+pub enum Switch {
+    /// `--full`: the instruction set with `iaddq`.
+    Full,
+    /// `--mem N`: the size of the memory in bytes.
+    Mem,
+    /// `--limit N`: the most steps or cycles of a run.
+    Limit,
+    /// `--trace`: a line for each instruction that retires.
+    Trace,
+    /// `--checked`: the control logic is checked before the run.
+    Checked,
+}
+
+/// Where the number of an option is kept.
+pub fn index_of(switch: Switch) -> usize
+    ensures index { result ≡ spec.index_of switch }
+    ensures below { result ≤ 4 }
+{
+    match switch {
+        Switch::Full => 0,
+        Switch::Mem => 1,
+        Switch::Limit => 2,
+        Switch::Trace => 3,
+        Switch::Checked => 4,
+    }
+}
+
+/// The option that a word is.
+pub fn switch_of(word: &str) -> Option<Switch>
+    ensures { result ≡ spec.switch_of word.now }
+{
+    if word == "--full" {
+        return Some(Switch::Full);
+    }
+    if word == "--mem" {
+        return Some(Switch::Mem);
+    }
+    if word == "--limit" {
+        return Some(Switch::Limit);
+    }
+    if word == "--trace" {
+        return Some(Switch::Trace);
+    }
+    if word == "--checked" {
+        return Some(Switch::Checked);
+    }
+    None
+}
+
+/// Whether an option takes a number.
+pub fn takes_number(switch: Switch) -> bool
+    ensures { result ≡ is_some (spec.takes switch) }
+{
+    match switch {
+        Switch::Full | Switch::Trace | Switch::Checked => false,
+        Switch::Mem | Switch::Limit => true,
+    }
+}
+
+/// The number for an option that a word writes, where the option takes it.
+pub fn number_for(switch: Switch, word: &[u8]) -> Option<u64>
+    ensures { result ≡ option_and_then (λ passes. number_that passes word.now) (spec.takes switch) }
+{
+    match switch {
+        Switch::Full | Switch::Trace | Switch::Checked => None,
+        Switch::Mem => image_size(word),
+        Switch::Limit => number_within(word, 1, 100_000_000),
+    }
+}
