@@ -1,0 +1,43 @@
+//! The generator of programs and valuations.
+ghost use Rattle.std.specs.Prelude.{◌≡◌, ◌<◌, ◌^◌};
+ghost use Rattle.prog_gen.specs.Draws.{advanced, given};
+
+use std::marker::Model;
+
+/// A generator: Knuth's linear congruential one of 64 bits (MMIX), of whose word a draw gives the upper 31 bits.
+#[derive(Debug, Drop)]
+pub struct Draws {
+    word: u64,
+}
+
+impl Model for Draws {
+    ghost use Rattle.std.specs.Prelude.{ℕ};
+
+    ghost Value = { ℕ };
+
+    ghost view = { λ draws. draws.word };
+}
+
+impl Draws {
+    /// A generator that starts at a word.
+    pub fn from(word: u64) -> Draws
+        ensures { result ≡ word }
+    {
+        Draws { word }
+    }
+
+    /// The next number.
+    #[tactic(auto, unfolding(crate::specs::Draws::advanced, crate::specs::Draws::given))]
+    pub fn draw(&mut self) -> u64
+        ensures after { self.new ≡ advanced self.old }
+        ensures number { result ≡ given self.new }
+        ensures small { result < 2 ^ 31 }
+    {
+        let next = self
+            .word
+            .wrapping_mul(6364136223846793005)
+            .wrapping_add(1442695040888963407);
+        self.word = next;
+        next >> 33
+    }
+}

@@ -1,0 +1,11 @@
+use Rattle.program_runs.proofs.Whole.{runs, keeps, pure}
+use Rattle.program_runs.proofs.laws.law_of_programs.Goals as goal
+
+pub returns-clause-run : goal.returns-clause-run
+returns-clause-run c = runs
+
+pub returns-clause-code : goal.returns-clause-code
+returns-clause-code c = keeps
+
+pub returns-clause-pure : goal.returns-clause-pure
+returns-clause-pure c = pure

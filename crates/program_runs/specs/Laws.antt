@@ -1,0 +1,16 @@
+-- What the run of an image can be said to do as a whole.
+use Rattle.std.specs.Prelude.{◌≡◌, ℕ, ◌<◌, ◌≤◌, List, length}
+use Rattle.y86_base.specs.declared.parts.Stat.TheVariants.{Aok, Hlt}
+use Rattle.y86_base.specs.declared.parts.Variant.{Variant}
+use Rattle.y86_isa.specs.Step.{retired}
+use Rattle.y86_isa.specs.Run.{run, records, IsFetched, IsStoredBy}
+
+-- the run has so many instructions, and the last one is a halt
+pub record RunsToHalt (v : Variant) (image : List ℕ) (count : ℕ) : Type 0 where
+  pub records : length (records v image count) ≡ count
+  pub halted : (run v image count).stat ≡ Hlt
+
+-- whatever the run fetches lies below an address, and whatever it stores lies from there on
+pub record KeepsCode (v : Variant) (image : List ℕ) (data_at : ℕ) : Type 0 where
+  pub fetched : (i address : ℕ) → (run v image i).stat ≡ Aok → IsFetched v (run v image i).mem (run v image i).pc address → address < data_at
+  pub stored : (i address : ℕ) → IsStoredBy (retired v (run v image i)) address → data_at ≤ address
