@@ -8,7 +8,7 @@ use Rattle.hcl_types.specs.declared.term.Term.{Term}
 use Rattle.hcl_types.specs.declared.table.Row.{Row}
 use Rattle.hcl_types.specs.declared.fault.BindWhy.TheVariants as why
 use Rattle.hcl_types.specs.declared.fault.BindFault.{BindFault}
-use Rattle.hcl_types.specs.Binding.{fault, want_of_memory, and_then, place, row_named, declared, defined_as}
+use Rattle.hcl_types.specs.Binding.{fault, and_then, place, row_named, declared, defined_as}
 use Rattle.hcl_types.specs.Tables.{is_defined, row_names}
 
 -- what stands before the values of a later result
@@ -62,4 +62,4 @@ bound_in_steps rows items = and_then (put_items rows (no_terms rows) items) (put
 -- an answer about what is written in place
 abbrev pub Leaves : {A S : Type 0} → Result A BindFault → S → Result S BindFault → Type 0
 Leaves (Ok x) now r = r ≡ Ok now
-Leaves (Err e) now r = e ≢ want_of_memory → r ≡ Err e
+Leaves (Err e) now r = e.why ≢ why.Memory → r ≡ Err e

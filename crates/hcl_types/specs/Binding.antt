@@ -23,10 +23,6 @@ use Rattle.hcl_types.specs.Tables.{defined, is_defined, row_names}
 abbrev pub fault : BindWhy → List ℕ → BindFault
 fault w text = record { why = w; name = text }
 
--- want of memory, which is about no name
-abbrev pub want_of_memory : BindFault
-want_of_memory = fault why.Memory []
-
 -- what a later step makes of a value, and a fault that an earlier step found
 abbrev pub and_then : {A B : Type 0} → Result A BindFault → (A → Result B BindFault) → Result B BindFault
 and_then (Ok x) f = f x
@@ -143,4 +139,4 @@ bound rows items = bound_by (first_fault rows [] items) (all_ok (map (λ (row : 
 -- an answer is that of the definition, want of memory apart
 abbrev pub Gives : {A : Type 0} → Result A BindFault → Result A BindFault → Type 0
 Gives (Ok x) r = r ≡ Ok x
-Gives (Err e) r = e ≢ want_of_memory → r ≡ Err e
+Gives (Err e) r = e.why ≢ why.Memory → r ≡ Err e

@@ -1,10 +1,11 @@
 //! Binding of a file to a table.
 ghost use Rattle.std.specs.Prelude.{◌≡◌, ◌≢◌, ◌<◌, ◌^◌, [], IfErr, IfOk, length, slice_get};
-ghost use Rattle.hcl_types.specs.Binding.{Gives, bound, declared, defined_as, is_of, of_kind, place, row_named, want_of_memory};
+ghost use Rattle.hcl_types.specs.Binding.{Gives, bound, declared, defined_as, is_of, of_kind, place, row_named};
 ghost use Rattle.hcl_types.specs.BindSteps as steps;
 ghost use Rattle.hcl_types.specs.Lists.{IsApart};
 ghost use Rattle.hcl_types.specs.Tables.{IsBound, IsSound, row_names};
 ghost use Rattle.hcl_types.specs.Tables as tables;
+ghost use Rattle.hcl_types.specs.declared.fault.BindWhy.TheVariants.{Memory as OutOfMemory};
 
 use crate::expressions::bind_term;
 use crate::fault::{BindFault, BindWhy};
@@ -257,7 +258,7 @@ pub fn bind(alloc: Global, f: &File, t: &Table) -> Result<Design, BindFault>
     requires { IsSound t.now.rows }
     ensures design { IfOk result (λ d. bound t.now.rows f.now.items ≡ Ok d.terms) }
     ensures belongs { IfOk result (λ d. IsBound t.now.rows d.terms) }
-    ensures fault { IfErr result (λ e. e ≢ want_of_memory → bound t.now.rows f.now.items ≡ Err e) }
+    ensures fault { IfErr result (λ e. e.why ≢ OutOfMemory → bound t.now.rows f.now.items ≡ Err e) }
 {
     match bind_items(alloc, t.rows.items(), f.items.items()) {
         Ok(terms) => Ok(Design { terms }),

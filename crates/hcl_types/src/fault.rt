@@ -1,5 +1,6 @@
 ghost use Rattle.std.specs.Prelude.{◌≡◌, ◌≢◌, []};
-ghost use Rattle.hcl_types.specs.Binding.{fault, want_of_memory};
+ghost use Rattle.hcl_types.specs.Binding.{fault};
+ghost use Rattle.hcl_types.specs.declared.fault.BindWhy.TheVariants.{Memory as OutOfMemory};
 
 use hcl_read::Text;
 use std::alloc::Global;
@@ -39,7 +40,7 @@ pub struct BindFault {
 impl BindFault {
     /// Want of memory.
     pub fn memory(alloc: Global) -> BindFault
-        ensures { result ≡ want_of_memory }
+        ensures { result.why ≡ OutOfMemory }
     {
         BindFault {
             why: BindWhy::Memory,
@@ -49,7 +50,7 @@ impl BindFault {
 
     /// A fault about a name, or want of memory for the copy of the name.
     pub fn of(alloc: Global, why: BindWhy, name: &Text) -> BindFault
-        ensures { result ≢ want_of_memory → result ≡ fault why name.now }
+        ensures { result.why ≢ OutOfMemory → result ≡ fault why name.now }
     {
         match name.copy(alloc) {
             Ok(name) => BindFault { why, name },

@@ -3,7 +3,7 @@ use Rattle.std.proofs.Common.{◌≡◌, ◌≢◌, ◌⊎◌, ◌∙◌, ◌<�
 use Rattle.std.proofs.lemmas.List.{take_more}
 use Rattle.hcl_read.specs.Read.{ReadsAs}
 use Rattle.hcl_read.specs.declared.tree.File.{File}
-use Rattle.hcl_types.specs.Binding.{bound, want_of_memory}
+use Rattle.hcl_types.specs.Binding.{bound}
 use Rattle.hcl_types.specs.Equations.{needs_of}
 use Rattle.hcl_types.specs.Tables.{needs, row_names}
 use Rattle.hcl_types.specs.declared.fault.BindFault.{BindFault}
@@ -27,11 +27,11 @@ unread name rows text stop (inl memory) = inl memory
 unread name rows text stop (inr said) = inr (said.0, inl said.1)
 
 pub unbound : (name : List ℕ) (rows : List Row) (text : List ℕ) (file : File) (fault : BindFault) (stop : code.Stop) → ReadsAs text file →
-    (fault ≢ want_of_memory → bound rows file.items ≡ Err fault) →
+    (fault.why ≢ OutOfMemory → bound rows file.items ≡ Err fault) →
     (stop ≡ Memory) ⊎ ((status_of stop ≡ 5) × (fault.why ≢ OutOfMemory) × (answer_at stop ≡ refused 5 (bind_fault_line name fault))) → Refuses name rows text stop
 unbound name rows text file fault stop reads binds (inl memory) = inl memory
 unbound name rows text file fault stop reads binds (inr said) =
-    inr (said.0, inr (inl (record { file = file; reads = reads; fault = fault; binds = binds (λ e. said.1 (ap (λ f. f.why) e)); told = said.2 })))
+    inr (said.0, inr (inl (record { file = file; reads = reads; fault = fault; binds = binds said.1; told = said.2 })))
 
 pub unordered : (name : List ℕ) (rows : List Row) (text : List ℕ) (file : File) (terms : List Term) (ids : List ℕ) (stop : code.Stop) → ReadsAs text file →
     bound rows file.items ≡ Ok terms → FirstCycle (needs_of (needs rows terms)) ids →
