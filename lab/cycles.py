@@ -1,0 +1,137 @@
+"""lab cycles HCL OBJ: where the cycles of a run went: when each instruction retires, what waited before it and why, and the CPI."""
+import re
+
+import hcl
+import objects
+import program
+import rules
+import tables as t
+
+FILL = "filling the pipeline"
+CAUSES = [FILL, "load/use", "no forwarding", "mispredicted jumps", "returns", "other"]
+
+
+def main(words):
+    found = program.options(words, ("--full", "--sum"))
+    if not found or len(found[0]) != 2:
+        print("usage: lab cycles HCL OBJ [--full] [--sum]")
+        return 2
+    (path, object_path), flags, _ = found
+    program.ready()
+    run = Run(path, object_path, ["--full"] if "--full" in flags else [])
+    if run.problem:
+        print(run.problem)
+        return 1
+    lines = run.lines()
+    if "--sum" not in flags:
+        print("cycle  waits  instruction")
+        for cycle, waits, text, why in lines:
+            print(f"{cycle:>5}  {f'+{waits}' if waits else '':>5}  {text:<32}{why}".rstrip())
+        print()
+    run.summary()
+    return 0
+
+
+class Run:
+    """A run of a program under a pipeline."""
+
+    def __init__(self, path, object_path, flags):
+        self.path, self.object, self.flags, self.known = path, object_path, flags, {0: 0}
+        answer = program.run("psim", path, object_path, "--trace", *flags)
+        found = re.search(r"^Ran (\d+) cycles, retired (\d+)", answer.out, re.M)
+        self.problem = None if found else answer.err.strip() or "psim gave no answer"
+        if found:
+            self.total, self.retired = int(found[1]), int(found[2])
+            self.trace = answer.out[: found.start()].splitlines()
+            self.known[self.total] = self.retired
+            self.ends = re.search(r"Status '(\w+)'", answer.out)[1]
+            self.held = objects.Object(object_path)
+            self.settings = rules.Settings(hcl.Design(program.read(path)), None)
+            self.forwards = "e_valE" in set(hcl.Design(program.read(path)).by_name["d_valB"].body.names())
+
+    def count(self, cycles):
+        """How many instructions have retired after so many cycles."""
+        if cycles not in self.known:
+            answer = program.run("psim", self.path, self.object, "--limit", str(cycles), *self.flags)
+            self.known[cycles] = int(re.search(r"retired (\d+)", answer.out)[1])
+        return self.known[cycles]
+
+    def retirements(self):
+        """The cycle in which each instruction retires. Stretches in which all cycles retire one, or none, need no call."""
+        found, open_ends = [], [(0, self.total)]
+        while open_ends:
+            low, high = open_ends.pop()
+            retired = self.count(high) - self.count(low)
+            if retired == high - low:
+                found += range(low + 1, high + 1)
+            elif retired:
+                middle = (low + high) // 2
+                open_ends += [(middle, high), (low, middle)]
+        return found
+
+    def lines(self):
+        """Of each instruction the cycle in which it retires, how many bubbles came before it, its text, and why."""
+        found, before, self.spent = [], [], dict.fromkeys(CAUSES, 0)
+        last = 0
+        for line, cycle in zip(self.trace, self.retirements()):
+            at = int(line.split()[0], 16)
+            it, waits = self.held.instruction(at), cycle - last - 1
+            why = self.why(it, before, waits)
+            found.append((cycle, waits, f"0x{at:03x}: {it.text}", why))
+            before, last = [it, *before[:3]], cycle
+        if not found:
+            self.spent["other"] += self.total
+        return found
+
+    def why(self, it, before, waits):
+        """The causes of the bubbles before an instruction, and their counts."""
+        if not waits:
+            return ""
+        if not before:
+            self.spent[FILL] += waits
+            return FILL
+        said, left, last = [], waits, before[0]
+        if last.icode == t.RET:
+            lost = min(left, 2 if self.settings.rm else 3)
+            said.append(self.spend("returns", lost, "the ret's address"))
+            left -= lost
+        elif self.is_missed(last, it):
+            lost = min(left, 1 if self.settings.je else 2)
+            said.append(self.spend("mispredicted jumps", lost, "the jump was mispredicted"))
+            left -= lost
+        if left:
+            said.append(self.waited(it, before, left))
+        return ", ".join(said)
+
+    def spend(self, cause, cycles, text):
+        self.spent[cause] += cycles
+        return text
+
+    def is_missed(self, jump, after):
+        if jump.icode != t.JXX or not jump.ifun:
+            return False
+        signed = [it - (1 << 64) if it >> 63 else it for it in (jump.valC, jump.valP)]
+        taken = after.at != jump.valP
+        return jump.valC != jump.valP and taken != bool(self.settings.predicted(jump.ifun, int(signed[0] < signed[1])))
+
+    def waited(self, it, before, left):
+        """The older instruction whose word an instruction waited for."""
+        if self.forwards and before[0].dstM in it.reads():
+            return self.spend("load/use", left, f"{t.register(before[0].dstM)} was being loaded")
+        for older in before[:3]:
+            for register in sorted({older.dstE, older.dstM} & it.reads()):
+                if not self.forwards:
+                    return self.spend("no forwarding", left, f"{t.register(register)} wasn't written yet")
+        return self.spend("other", left, "the file's control")
+
+    def summary(self):
+        print("where the cycles went:")
+        print(f"{self.retired:>7}  an instruction each")
+        for cause in CAUSES:
+            if self.spent[cause]:
+                print(f"{self.spent[cause]:>7}  {cause}")
+        end = self.total - self.retired - sum(self.spent.values())
+        if end:
+            print(f"{end:>7}  after the last instruction")
+        cpi = f": {self.total / self.retired:.2f} cycles per instruction" if self.retired else ""
+        print(f"{self.total:>7}  cycles for {self.retired} instructions, to the end with {self.ends}{cpi}")
