@@ -1,0 +1,148 @@
+"""lab witness HCL: looks for a program that shows the mistake of a file, and shortens it."""
+import itertools
+import os
+import re
+import sys
+import tempfile
+
+import explain
+import program
+import programs
+import tables as t
+
+LIMIT = 2000
+
+
+def main(words):
+    found = program.options(words, ("--full",), ("--random", "--seed"))
+    if not found or len(found[0]) != 1:
+        print("usage: lab witness HCL [--full] [--random N] [--seed N]")
+        return 2
+    (path,), flags, numbers = found
+    _, design = explain.load(path)
+    program.ready()
+    kind, full = t.datapath(design) if design else "pipe", "--full" in flags
+    answer = program.run("check", kind, path, *(["--full"] if full else []), seconds=600)
+    if answer.status not in (0, 1):
+        print(answer.err.strip() or f"{path}: the check gives no answer")
+        return 1
+    print(f"{path}: {answer.out.splitlines()[0]}")
+    if answer.status == 0:
+        print("So no program shows a mistake: this file is right for every one.")
+        return 0
+    with tempfile.TemporaryDirectory() as folder:
+        trial = Trial(path, kind, full, folder)
+        random = itertools.islice(programs.at_random(numbers.get("--seed", 7), full), numbers.get("--random", 300))
+        for number, lines in enumerate(itertools.chain(programs.special(), programs.pairs(full), random), 1):
+            if trial.shows(lines):
+                tell(trial, shortest(trial, lines), number)
+                return 0
+    print(f"None of {number} programs shows the mistake. The rule is broken all the same: a program that shows it may be rare,")
+    print("or there is none, for a No promises that the rule fails in the situation that it shows, and no more.")
+    return 1
+
+
+class Trial:
+    """Runs programs on the file, and as the instructions say."""
+
+    def __init__(self, path, kind, full, folder):
+        self.path, self.kind, self.flags, self.folder = path, kind, ["--full"] if full else [], folder
+        self.right = os.path.join(program.EXAMPLES, "fu.hcl" if full else "std.hcl")
+        self.object = os.path.join(folder, "p.yo")
+
+    def assemble(self, lines):
+        """The listing of a program, or None where it isn't one."""
+        source = os.path.join(self.folder, "p.ys")
+        with open(source, "w", encoding="ascii") as it:
+            it.write("".join(line if line.endswith(":") else f"    {line}" for line in (f"{line}\n" for line in lines)).replace("    \n", "\n"))
+        answer = program.run("yas", source, *self.flags)
+        if answer.status != 0:
+            return None
+        with open(self.object, "w", encoding="ascii") as it:
+            it.write(answer.out)
+        return answer.out
+
+    def wanted(self):
+        return program.run("yis", self.object, *self.flags, "--limit", str(LIMIT)).out
+
+    def pipe(self, path):
+        """The trace, the line of cycles, and the report of a run on a pipeline."""
+        out = program.run("psim", path, self.object, "--trace", *self.flags, "--limit", str(5 * LIMIT)).out
+        trace, _, rest = out.partition("Ran ")
+        cycles, _, report = rest.partition("\n")
+        return trace.splitlines(), cycles, report
+
+    def runs(self, lines):
+        """The listing, the wanted trace and report, and those of the file; None where the program is none to judge by."""
+        listing = self.assemble(lines)
+        if listing is None:
+            return None
+        wanted = self.wanted()
+        if "Status 'AOK'" in wanted:
+            return None
+        if self.kind == "pipe":
+            right, _, report = self.pipe(self.right)
+            if report != wanted or writes_code(listing, right):
+                return None
+            trace, cycles, got = self.pipe(self.path)
+            return listing, right, wanted, trace, got, cycles
+        command = "ssim" if self.kind == "seq" else "ssimp"
+        return listing, [], wanted, [], program.run(command, self.path, self.object, *self.flags, "--limit", str(LIMIT)).out, ""
+
+    def shows(self, lines):
+        found = self.runs(lines)
+        return bool(found) and (found[2] != found[4] or found[1] != found[3])
+
+
+def writes_code(listing, trace):
+    """Whether a store of the trace meets a byte of a statement that isn't data."""
+    code = set()
+    for at, held, source in re.findall(r"^0x([0-9a-f]+): ([0-9a-f]+) *\|(.*)$", listing, re.M):
+        if ".quad" not in source:
+            code |= set(range(int(at, 16), int(at, 16) + len(held) // 2))
+    stores = [int(it, 16) for it in re.findall(r"\[0x([0-9a-f]+)\]=", "\n".join(trace))]
+    return any(not code.isdisjoint(range(it, it + 8)) for it in stores)
+
+
+def shortest(trial, lines):
+    """The program without the lines that it can do without, but for a `halt`: first many at a time, then one by one until none can go."""
+    size = max(len(lines) // 2, 1)
+    while True:
+        at, changed = 0, False
+        while at < len(lines):
+            less = lines[:at] + lines[at + size :]
+            if ("halt" in less or "halt" not in lines) and trial.shows(less):
+                lines, changed = less, True
+            else:
+                at += size
+        if size == 1 and not changed:
+            return lines
+        size = max(size // 2, 1)
+
+
+def tell(trial, lines, number):
+    listing, right, wanted, trace, got, cycles = trial.runs(lines)
+    print(f"Program {number} shows it. Shortened until no line of it can be left out:\n")
+    print("".join(f"    {it}\n" for it in listing.splitlines()))
+    print("yis, the instructions one by one:\n")
+    print("".join(f"    {it}\n".replace("    \n", "\n") for it in wanted.splitlines()))
+    name = os.path.basename(trial.path)
+    print(f"{ {'pipe': 'psim', 'seq': 'ssim'}.get(trial.kind, 'ssimp')} under {name}{', ' + cycles.split(',')[0] if cycles else ''}:\n")
+    print("".join(f"    {it}\n".replace("    \n", "\n") for it in got.splitlines()))
+    part(right, trace, wanted, got)
+
+
+def part(right, trace, wanted, got):
+    """Where two runs part: the first instruction that retires otherwise, and the lines of the reports that differ."""
+    for number, (one, other) in enumerate(itertools.zip_longest(right, trace), 1):
+        if one != other:
+            print(f"They part at instruction {number}:\n")
+            print(f"    wanted   {one or '(none)'}\n    retired  {other or '(none)'}")
+            return
+    mine, theirs = wanted.splitlines(), got.splitlines()
+    print("They part in these lines of the reports:\n")
+    for sign, these, those in (("wanted", mine, theirs), ("got   ", theirs, mine)):
+        for it in these:
+            if it not in those:
+                print(f"    {sign}   {it}")
+    sys.stdout.flush()
