@@ -3,7 +3,7 @@
 
 Runs the commands of the transcripts in these pages with PROGRAM in the place of ./y86, and compares what each prints with
 what the page says. A transcript is an indented block: a line `    $ COMMAND`, and below it what it prints on both streams.
-The commands of one page run in one folder that has the examples, so that a later one finds what an earlier one wrote.
+The commands of one page run in one folder that has the examples and lab/, so that a later one finds what an earlier one wrote.
 In a section such as `### O5`, the block behind "A file that breaks it: `std.hcl`" has definitions that stand in the place of that
 file's own, and the block behind "The check answers" is what `check pipe` (of `### S5`, `check seq`) prints of the file so made.
 Prints each command that differs, and ends with `N passed, M failed`.
@@ -81,6 +81,8 @@ def check(path, program):
     with tempfile.TemporaryDirectory() as folder:
         shutil.copytree(f"{TOP}/examples", f"{folder}/examples")
         os.symlink(program, f"{folder}/y86")
+        os.symlink(f"{TOP}/lab", f"{folder}/lab")
+        os.environ["Y86"] = program
         for number, command, lines in transcripts(path):
             got, want = run(command, folder).rstrip("\n"), "\n".join(lines).rstrip("\n")
             if got == want:

@@ -2,7 +2,6 @@
 import itertools
 import os
 import re
-import sys
 import tempfile
 
 import explain
@@ -54,7 +53,7 @@ class Trial:
         """The listing of a program, or None where it isn't one."""
         source = os.path.join(self.folder, "p.ys")
         with open(source, "w", encoding="ascii") as it:
-            it.write("".join(line if line.endswith(":") else f"    {line}" for line in (f"{line}\n" for line in lines)).replace("    \n", "\n"))
+            it.write("".join(f"{line}\n" if line.endswith(":") else f"    {line}\n" for line in lines))
         answer = program.run("yas", source, *self.flags)
         if answer.status != 0:
             return None
@@ -123,13 +122,18 @@ def shortest(trial, lines):
 def tell(trial, lines, number):
     listing, right, wanted, trace, got, cycles = trial.runs(lines)
     print(f"Program {number} shows it. Shortened until no line of it can be left out:\n")
-    print("".join(f"    {it}\n" for it in listing.splitlines()))
+    shown(listing)
     print("yis, the instructions one by one:\n")
-    print("".join(f"    {it}\n".replace("    \n", "\n") for it in wanted.splitlines()))
+    shown(wanted)
     name = os.path.basename(trial.path)
     print(f"{ {'pipe': 'psim', 'seq': 'ssim'}.get(trial.kind, 'ssimp')} under {name}{', ' + cycles.split(',')[0] if cycles else ''}:\n")
-    print("".join(f"    {it}\n".replace("    \n", "\n") for it in got.splitlines()))
+    shown(got)
     part(right, trace, wanted, got)
+
+
+def shown(text):
+    """Prints a text with a margin, and an empty line below it."""
+    print("\n".join(f"    {it}".rstrip() for it in text.splitlines()), end="\n\n")
 
 
 def part(right, trace, wanted, got):
@@ -145,4 +149,3 @@ def part(right, trace, wanted, got):
         for it in these:
             if it not in those:
                 print(f"    {sign}   {it}")
-    sys.stdout.flush()
