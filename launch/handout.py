@@ -1,0 +1,120 @@
+"""Puts into a folder what a class needs to work without the toolchain."""
+import hashlib
+import os
+import re
+import shutil
+import subprocess
+import time
+
+from proving import crates_of, tell
+
+# The folders, and of docs/ the pages and scripts, where they are there.
+FOLDERS = ("examples", "lab")
+DOCS = ("HCL.md", "OBLIGATIONS.md", "THEOREM.md", "ASSEMBLY.md", "TUTORIAL.md", "LAB.md", "STAGES.md", "CERTIFICATES.md", "AIGER.md", "random_programs.py")
+README = """\
+# y86
+
+The program `y86` of the Y86-64 workbench, proved and built, for a class that works with Y86-64 programs and processors: nothing has to be proved,
+built or installed here. It runs on Linux on x86-64 and needs the C library alone{libc}:
+
+    ./y86 yis examples/asum.yo
+    ./y86 check pipe examples/std.hcl
+
+`examples/` has programs and the control logic of processors.{more}
+
+## What was proved
+
+{proved}
+
+The {crates} crates that the program stands on were proved on {date}{toolchain}, from {commit}.
+
+## Whether this is that program
+
+    $ sha256sum y86
+    {sum}  y86
+"""
+
+
+def said_by(words, here):
+    """Returns what a command prints, or nothing where it fails."""
+    try:
+        run = subprocess.run(words, cwd=here, stdout=subprocess.PIPE, stderr=subprocess.DEVNULL, text=True, check=False)
+    except OSError:
+        return ""
+    return run.stdout if run.returncode == 0 else ""
+
+
+def files_of(here):
+    """Returns the files to hand out: those of the repository, and none that lies beside them."""
+    wanted = [*FOLDERS, *[f"docs/{it}" for it in DOCS]]
+    listed = said_by(["git", "ls-files", "-z", "--", *wanted], here)
+    if listed:
+        return [it for it in listed.split("\0") if it and os.path.isfile(f"{here}/{it}")]
+    found = [os.path.relpath(f"{at}/{name}", here) for it in FOLDERS for at, _, names in os.walk(f"{here}/{it}") for name in names]
+    return sorted(found) + [it for it in wanted[len(FOLDERS) :] if os.path.isfile(f"{here}/{it}")]
+
+
+def commit_of(here):
+    commit = said_by(["git", "rev-parse", "HEAD"], here).strip()
+    if not commit:
+        return "sources of no commit"
+    changed = said_by(["git", "status", "--porcelain", "--untracked-files=no"], here).strip()
+    return f"the commit {commit}" + (", with changes that are in no commit" if changed else "")
+
+
+def what_is_proved(here):
+    """Returns the README's own words: the numbered list under its heading, without links."""
+    with open(f"{here}/README.md", encoding="utf-8") as it:
+        section = it.read().partition("\n## What is proved\n")[2].partition("\n## ")[0]
+    points = re.findall(r"^\d\. .*(?:\n   .*)*", section, flags=re.M)
+    return re.sub(r"\[([^]]*)\]\([^)]*\)", r"\1", "\n".join(points))
+
+
+def libc_of(program):
+    """Returns the least version of the GNU C library that has what the program calls, in words."""
+    with open(program, "rb") as it:
+        versions = [tuple(map(int, found.split(b"."))) for found in re.findall(rb"\0GLIBC_(\d+\.\d+(?:\.\d+)?)(?=\0)", it.read())]
+    return f" (GNU's, {'.'.join(map(str, max(versions)))} or later)" if versions else ""
+
+
+def readme(here, program, built, files):
+    more = ""
+    if any(it.endswith(".md") for it in files):
+        more += " `docs/` has the pages: " + ", ".join(f"[{it[5:-3]}]({it})" for it in files if it.startswith("docs/") and it.endswith(".md")) + "."
+    if any(it.startswith("lab/") for it in files):
+        more += " `lab/` has scripts for a student's evening and a teacher's class, which need Python 3."
+    toolchain = said_by(["rt", "version"], here).strip()
+    with open(built, "rb") as it:
+        sum = hashlib.sha256(it.read()).hexdigest()
+    return README.format(
+        libc=libc_of(built),
+        more=more,
+        proved=what_is_proved(here),
+        crates=len(crates_of(here, program)),
+        date=time.strftime("%Y-%m-%d", time.gmtime(os.stat(built).st_mtime)),
+        toolchain=f" by the toolchain `{toolchain}`" if toolchain else "",
+        commit=commit_of(here),
+        sum=sum,
+    )
+
+
+def hand_out(here, program, folder):
+    """Fills the folder, and returns the status to end with."""
+    if os.path.lexists(folder) and not (os.path.isdir(folder) and not os.listdir(folder)):
+        tell(f"{folder} is there already, and not empty")
+        return 1
+    built = f"{here}/crates/{program}/out/{program}"
+    files = files_of(here)
+    try:
+        os.makedirs(folder, exist_ok=True)
+        for it in files:
+            os.makedirs(os.path.dirname(f"{folder}/{it}"), exist_ok=True)
+            shutil.copy(f"{here}/{it}", f"{folder}/{it}")
+        shutil.copy(built, f"{folder}/{program}")
+        with open(f"{folder}/README.md", "w", encoding="utf-8") as it:
+            it.write(readme(here, program, built, files))
+    except OSError as error:
+        tell(f"{error.filename}: {error.strerror}")
+        return 1
+    tell(f"{folder} has the program, {len(files)} files of examples, pages and scripts, and README.md, which says what was proved")
+    return 0
