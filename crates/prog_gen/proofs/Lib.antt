@@ -1,2 +1,5 @@
 pub mod Valid
 pub mod Laid
+pub mod Fields
+pub mod Chosen
+pub mod Lawful

@@ -1,0 +1,64 @@
+//! Control valuations of PIPE, drawn field by field.
+ghost use Rattle.std.specs.Prelude.{◌≡◌, ◌<◌, ◌≤◌, ◌+◌, ◌++◌, [], ◌-◌, ◌^◌, drop, take, length};
+ghost use Rattle.field_bits.specs.Spots.{pattern};
+ghost use Rattle.pipe_fields.specs.Layout.{spots};
+ghost use Rattle.prog_gen.specs.Choices as spec;
+ghost use Rattle.field_bits.specs.Spelling.{spell};
+
+use crate::choices::choice;
+use crate::draws::Draws;
+use pipe_fields::spots;
+use y86_base::Variant;
+
+/// Writes the bits of a number, the most significant one first.
+fn put_bits(out: &mut [bool], first: u32, bits: u32, n: u64)
+    requires room { first + bits ≤ length out.old }
+    requires small { first + bits < 2 ^ 32 }
+    ensures { out.new ≡ spec.with_field out.old first bits n }
+{
+    let mut left = n;
+    let mut k = bits;
+    while k > 0 {
+        k -= 1;
+        out[(first + k) as usize] = left % 2 == 1;
+        left /= 2;
+    }
+}
+
+/// Draws the fields in the order of the variables.
+fn draw_fields(v: Variant, draws: &mut Draws, out: &mut [bool])
+    requires { 107 ≤ length out.old }
+    ensures after { draws.new ≡ spec.word_behind 40 draws.old }
+    ensures bits { out.new ≡ pattern spots (spec.numbers_drawn v 40 [] draws.old) [] ++ drop 107 out.old }
+{
+    let mut numbers = [0u64; 40];
+    let fields = spots();
+    let mut first = 0;
+    for j in 0..40 {
+        let bits = fields[j].bits;
+        let n = choice(v, &numbers[..j], bits, draws.draw());
+        numbers[j] = n;
+        put_bits(out, first, bits, n);
+        first += bits;
+    }
+}
+
+/// Draws truths behind the first ones.
+fn draw_truths(draws: &mut Draws, out: &mut [bool], from: usize)
+    requires { from ≤ length out.old }
+    ensures { out.new ≡ take from out.old ++ spec.truths_drawn (length out.old - from) draws.old }
+{
+    for k in from..out.len() {
+        out[k] = draws.draw() % 2 == 1;
+    }
+}
+
+/// Draws the valuation of a generator at a word: the fields, then the atoms.
+pub fn draw_valuation(v: Variant, word: u64, out: &mut [bool])
+    requires { 107 ≤ length out.old }
+    ensures { out.new ≡ spec.valuation_from v (length out.old - 107) word }
+{
+    let mut draws = Draws::from(word);
+    draw_fields(v, &mut draws, out);
+    draw_truths(&mut draws, out, 107);
+}
