@@ -6,6 +6,8 @@ import sys
 TOP = os.path.dirname(os.path.dirname(os.path.realpath(__file__)))
 EXAMPLES = os.path.join(TOP, "examples")
 Y86 = os.path.abspath(os.environ.get("Y86") or os.path.join(TOP, "y86"))
+# Tells whether the program that the launcher runs is built from the sources as they stand.
+BUILT = os.path.join(TOP, "launch", "built.sh")
 
 
 class Answer:
@@ -16,7 +18,9 @@ class Answer:
 
 
 def ready():
-    """Ends the command where there is no program. The launcher builds it where it has to be built, and tells so itself."""
+    """Ends the command where there is no program, or where it isn't built, since each answer would then take the launcher a minute."""
+    if not os.environ.get("Y86") and os.path.exists(BUILT) and subprocess.run(["sh", BUILT, TOP, "y86", "is_current"]).returncode:
+        sys.exit(f"lab: the program isn't built from its sources as they stand; {TOP}/prove proves and builds it")
     try:
         with open(os.devnull, "w") as nothing:
             subprocess.run([Y86, "yis", os.path.join(EXAMPLES, "add.yo")], stdin=subprocess.DEVNULL, stdout=nothing, check=True)

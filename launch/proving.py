@@ -8,8 +8,6 @@ import time
 
 # A job of the prover takes up to so much memory.
 OF_A_JOB = 2_000_000_000
-# A crate of fewer lines is proved no sooner by several jobs.
-LARGE = 300
 # A line comes at least so often, in seconds.
 SILENT_FOR = 60
 FAILED = re.compile(r"^(logic=not-proved|rattle build: nothing was built|rt: the library )", re.M)
@@ -64,18 +62,9 @@ def jobs_at_once():
     return max(number, 1)
 
 
-def lines_of(folder):
-    found = 0
-    for at, _, names in os.walk(folder):
-        for name in names:
-            with open(f"{at}/{name}", "rb") as it:
-                found += it.read().count(b"\n")
-    return found
-
-
 class Proof:
-    """A run of the prover over the crates of a program. Several crates are proved at once, one job each; where all others wait for one large crate, that
-    one gets all jobs, over what it kept."""
+    """A run of the prover over the crates of a program. Several crates are proved at once, one job each; once those that are left have to wait for one
+    another, each gets all jobs, over what it kept."""
 
     def __init__(self, here, program):
         self.here, self.program = here, program
@@ -101,12 +90,13 @@ class Proof:
         through = {*self.proved, *self.failed}
         return [name for name, below in self.crates.items() if name not in through and all(it in self.proved for it in below)]
 
-    def is_alone(self):
-        """Whether all crates wait for one, and it is the program or large."""
-        ready = self.ready()
-        if len(ready) != 1:
-            return False
-        return ready[0] == self.program or self.jobs > 1 and lines_of(f"{self.here}/crates/{ready[0]}/src") >= LARGE
+    def is_a_row(self):
+        """Whether the crates that are left can only be proved one behind the other."""
+        left = [name for name in self.crates if name not in self.proved]
+        if self.jobs == 1:
+            return left == [self.program]
+        # (they are listed lowest first)
+        return all(lower in self.crates[upper] for lower, upper in zip(left, left[1:]))
 
     def begin(self, crate, *words):
         """Starts rt in the folder of a crate."""
@@ -121,7 +111,7 @@ class Proof:
             return False
         except subprocess.TimeoutExpired:
             if time.monotonic() - self.told >= SILENT_FOR:
-                self.tell(f"proving {', '.join(self.ready()[: self.jobs])}; {len(self.proved)} of {len(self.crates)} are proved, after {self.since()}")
+                self.tell(f"at {', '.join(self.ready()[: self.jobs])}; {len(self.proved)} of {len(self.crates)} are proved, after {self.since()}")
             return True
 
     def end(self):
@@ -155,12 +145,12 @@ class Proof:
         self.tell(f"no proof of {crate}; {path} says why")
 
     def prove_side_by_side(self):
-        """Proves crates at once, until one is left that all others wait for."""
+        """Proves crates at once, until a row of them is left."""
         start = os.path.getsize(self.log)
         self.begin(self.program, "all", "check", "--jobs", str(self.jobs))
         while self.is_running():
             self.read(start)
-            if self.is_alone() and not self.failed:
+            if self.is_a_row() and not self.failed:
                 self.end()
                 return
         self.read(start)
@@ -192,13 +182,12 @@ class Proof:
         os.makedirs(self.out, exist_ok=True)
         with open(self.log, "w", encoding="utf-8"):
             pass
-        self.tell(f"proving {len(self.crates)} crates, {self.jobs} at once; from nothing that takes about half an hour on four processors")
+        self.tell(f"proving {len(self.crates)} crates, {self.jobs} at once, behind a quick look at all of them; from nothing that takes about half an hour on four processors")
         try:
+            if not self.is_a_row():
+                self.prove_side_by_side()
             while ready := self.ready():
-                if self.is_alone():
-                    self.prove_alone(ready[0])
-                else:
-                    self.prove_side_by_side()
+                self.prove_alone(ready[0])
         finally:
             self.end()
             os.replace(self.log, f"{self.out}/build.log")
