@@ -1,6 +1,7 @@
 """Proves the crates that a program stands on, and builds it."""
 import os
 import re
+import shutil
 import signal
 import subprocess
 import sys
@@ -208,6 +209,9 @@ def build(here, program):
     if sources(here, program, "is_current")[0] == 0:
         tell("the program is built, and no source has changed since")
         return 0
+    if not shutil.which("rt"):
+        tell("the toolchain's command rt isn't on the PATH")
+        return 127
     for number in (signal.SIGHUP, signal.SIGINT, signal.SIGTERM):
         signal.signal(number, broken_off)
     _, sum_before = sources(here, program, "sum")
