@@ -62,6 +62,15 @@ def commit_of(here):
     return f"the commit {commit}" + (", with changes that are in no commit" if changed else "")
 
 
+def toolchain_of(here, built):
+    """Returns the toolchain that proved the program: the one that `prove` noted, or else the one that is here."""
+    try:
+        with open(f"{os.path.dirname(built)}/toolchain", encoding="utf-8") as it:
+            return it.read().strip()
+    except OSError:
+        return said_by(["rt", "version"], here).strip()
+
+
 def what_is_proved(here):
     """Returns the README's own words: the numbered list under its heading, without links."""
     with open(f"{here}/README.md", encoding="utf-8") as it:
@@ -83,7 +92,7 @@ def readme(here, program, built, files):
         more += " `docs/` has the pages: " + ", ".join(f"[{it[5:-3]}]({it})" for it in files if it.startswith("docs/") and it.endswith(".md")) + "."
     if any(it.startswith("lab/") for it in files):
         more += " `lab/` has scripts for a student's evening and a teacher's class, which need Python 3."
-    toolchain = said_by(["rt", "version"], here).strip()
+    toolchain = toolchain_of(here, built)
     with open(built, "rb") as it:
         sum = hashlib.sha256(it.read()).hexdigest()
     return README.format(

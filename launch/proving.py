@@ -229,6 +229,8 @@ def build(here, program):
         tell("sources changed during the proof: run this again")
         return 1
     sources(here, program, "mark", sum_before)
+    with open(f"{proof.out}/toolchain", "w", encoding="utf-8") as it:
+        subprocess.run(["rt", "version"], stdout=it, check=False)
     os.remove(f"{proof.out}/building")
     tell(f"the program is built, after {proof.since()}: {here}/crates/{program}/out/{program}")
     return 0
