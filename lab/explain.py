@@ -157,8 +157,8 @@ def concerned(rule, view, full):
         return [(f"{it}_{what}", None) for it in both for what in ("stall", "bubble")]
     if rule in ("O10", "O11"):
         return [(it, None) for it in ("D_stall", "E_bubble")]
-    names = rules.SIGNALS[rule].split()
-    return [(it, None) for it in names if not (view.signal(it) == 0 and view.now.design.by_name[it].body.form == "number")]
+    shown = [it for it in rules.SIGNALS[rule].split() if view.signal(it) or it in ("f_pc", "F_stall", "D_stall", "D_bubble", "E_bubble")]
+    return [(it, None) for it in shown if view.signal(it) or view.now.design.by_name[it].body.form != "number"]
 
 
 def told_no(path, design, lines, full):

@@ -325,6 +325,8 @@ def fetched(view):
         return f"The program goes on at F_predPC. f_pc picks {picked}, {verdict}."
     what, goes = ("ret" if view[j, "icode"] == t.RET else "mispredicted jump"), view.right_leaf()
     where = f"The program goes on at {goes}" if goes else "Where the program goes on can't be fetched yet"
+    if j == "M" and what != "ret" and not goes:
+        where = "The program goes on at its target, which isn't at M_valE, since the ALU doesn't carry it there"
     return f"In {j} is a {what}, so F_predPC is wrong. {where}. f_pc picks {picked}, {verdict}."
 
 
@@ -363,6 +365,6 @@ def faults_of_fetch(view):
         return ["What was fetched enters D, and F doesn't load the address behind it: it is fetched again."]
     if not enters and not view.signal("F_stall") and not view.loads("D"):
         return ["What was fetched doesn't enter D, and F goes on: an instruction is skipped."]
-    if not enters and not view.path_is_right():
+    if not enters and view.signal("F_stall") and not view.path_is_right():
         return ["F keeps an address at which the program doesn't go on, and nothing ahead mends it any more."]
     return []
