@@ -40,7 +40,6 @@ def main(words):
         return 2
     path = files[0]
     text, design = load(path)
-    program.ready()
     kind = t.datapath(design) if design else "pipe"
     answer = program.run("check", kind, path, *(["--full"] if full else []), seconds=600)
     if answer.status == 0:

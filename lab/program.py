@@ -1,5 +1,6 @@
 """Finds the program y86 and runs it: `../y86` beside this folder, or what the environment's Y86 names."""
 import os
+import signal
 import subprocess
 import sys
 
@@ -14,31 +15,34 @@ class Answer:
     """What a call printed, and its exit status: None where it was ended for time."""
 
     def __init__(self, status, out, err):
-        self.status, self.out, self.err = status, out, err
+        self.status, self.out = status, out
+        # What the launcher says isn't the program's.
+        lines = err.splitlines(True)
+        self.err = "".join(it for it in lines if not it.startswith("y86: "))
+        sys.stderr.write("".join(it for it in lines if it.startswith("y86: ")))
 
 
 def ready():
-    """Ends the command where there is no program, or where it isn't built, since each answer would then take the launcher a minute."""
-    if not os.environ.get("Y86") and os.path.exists(BUILT) and subprocess.run(["sh", BUILT, TOP, "y86", "is_current"]).returncode:
+    """Ends the command where the program isn't built, since each of its many answers would then take the launcher a minute."""
+    if not os.environ.get("Y86") and os.path.exists(BUILT) and subprocess.run(["sh", BUILT, TOP, "y86", "is_current"], check=False).returncode:
         sys.exit(f"lab: the program isn't built from its sources as they stand; {TOP}/prove proves and builds it")
-    try:
-        with open(os.devnull, "w") as nothing:
-            subprocess.run([Y86, "yis", os.path.join(EXAMPLES, "add.yo")], stdin=subprocess.DEVNULL, stdout=nothing, check=True)
-    except (OSError, subprocess.CalledProcessError):
-        sys.exit(f"lab: {Y86} doesn't run; Y86 in the environment may name another program")
 
 
 def run(*words, seconds=120, megabytes=None):
-    """Runs y86 with these words, for so long and on so much memory."""
-    limit = ["sh", "-c", f'ulimit -c 0; ulimit -v {megabytes << 10}; exec "$@"', "sh"] if megabytes else []
-    started = subprocess.Popen([*limit, Y86, *words], stdin=subprocess.DEVNULL, stdout=subprocess.PIPE, stderr=subprocess.PIPE)
+    """Runs y86 with these words, for so long; where a limit of memory is given, that is processor time, and ten times as long in all."""
+    limit = ["sh", "-c", f'ulimit -c 0; ulimit -v {megabytes << 10}; ulimit -t {seconds}; exec "$@"', "sh"] if megabytes else []
     try:
-        out, err = started.communicate(timeout=seconds)
+        started = subprocess.Popen([*limit, Y86, *words], stdin=subprocess.DEVNULL, stdout=subprocess.PIPE, stderr=subprocess.PIPE)
+    except OSError as fault:
+        sys.exit(f"lab: {Y86}: {fault.strerror}; Y86 in the environment may name another program")
+    try:
+        out, err = started.communicate(timeout=10 * seconds if megabytes else seconds)
     except subprocess.TimeoutExpired:
         started.kill()
         started.communicate()
         return Answer(None, "", "")
-    return Answer(started.returncode, out.decode("utf-8", "replace"), err.decode("utf-8", "replace"))
+    status = None if started.returncode in (-signal.SIGXCPU, -signal.SIGKILL) else started.returncode
+    return Answer(status, out.decode("utf-8", "replace"), err.decode("utf-8", "replace"))
 
 
 def read(path):

@@ -9,13 +9,13 @@ import program
 import programs
 import tables as t
 
-LIMIT = 2000
+LIMIT, TRIES = 2000, 1200
 
 
 def main(words):
-    found = program.options(words, ("--full",), ("--random", "--seed"))
+    found = program.options(words, ("--full",), ("--tries", "--seed"))
     if not found or len(found[0]) != 1:
-        print("usage: lab witness HCL [--full] [--random N] [--seed N]")
+        print("usage: lab witness HCL [--full] [--tries N] [--seed N]")
         return 2
     (path,), flags, numbers = found
     _, design = explain.load(path)
@@ -31,12 +31,12 @@ def main(words):
         return 0
     with tempfile.TemporaryDirectory() as folder:
         trial = Trial(path, kind, full, folder)
-        random = itertools.islice(programs.at_random(numbers.get("--seed", 7), full), numbers.get("--random", 300))
-        for number, lines in enumerate(itertools.chain(programs.special(), programs.pairs(full), random), 1):
+        tries = itertools.chain(programs.special(), programs.pairs(full), programs.at_random(numbers.get("--seed", 7), full))
+        for number, lines in enumerate(itertools.islice(tries, numbers.get("--tries", TRIES)), 1):
             if trial.shows(lines):
                 tell(trial, shortest(trial, lines), number)
                 return 0
-    print(f"None of {number} programs shows the mistake. The rule is broken all the same: a program that shows it may be rare,")
+    print(f"None of {numbers.get('--tries', TRIES)} programs shows the mistake. The rule is broken all the same: a program that shows it may be rare,")
     print("or there is none, for a No promises that the rule fails in the situation that it shows, and no more.")
     return 1
 
