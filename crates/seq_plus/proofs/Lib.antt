@@ -1,0 +1,12 @@
+pub mod Sound
+pub mod PlusRules
+pub mod PlusRows
+pub mod Agreement
+pub mod Followed
+pub mod Runs
+pub mod Calls
+pub mod OneRun
+pub mod Sizes
+pub mod Listed
+pub mod Designed
+pub mod PlusVerdict

@@ -1,0 +1,297 @@
+-- Where the obligations hold of a file, its runs are runs of instructions: the solved pc is the PC of the run.
+use Rattle.std.proofs.Common.{◌≡◌, ℕ, zero, suc, ◌<◌, ◌≤◌, inl, inr, Bool, true, false, not, ◌&&◌, ◌||◌, ◌==◌, cond, List, ◌++◌, length, Option, Some, refl, sym, ◌∙◌, ap, subst, add-one, arith}
+use Rattle.std.proofs.lemmas.Bool.{eqb-true, lt-ltb, ne_eqb, eq-eqb}
+use Rattle.std.specs.Option.{option_to_list}
+use Rattle.y86_base.specs.declared.parts.Variant.{Variant}
+use Rattle.y86_base.specs.declared.parts.Variant.TheVariants.{Base, Full}
+use Rattle.y86_base.specs.Stat.{stat_of}
+use Rattle.y86_base.specs.declared.parts.Stat.{Stat}
+use Rattle.y86_isa.specs.Blocks.{next_address, reading, stored, written_back}
+use Rattle.y86_isa.specs.Machine.{is_aok, start}
+use Rattle.y86_isa.specs.Run.{IsImage, run_from, records_from}
+use Rattle.y86_isa.specs.Step.{advance, retired}
+use Rattle.y86_isa.specs.Table.{row, rows}
+use Rattle.y86_isa.specs.Work.{work}
+use Rattle.y86_isa.specs.declared.columns.Next.{Next}
+use Rattle.y86_isa.specs.declared.columns.Next.TheVariants.{Itself, Fall, Branch, Target, Loaded}
+use Rattle.y86_isa.specs.declared.columns.Row.{Row}
+use Rattle.y86_isa.specs.Laws.{IsReading}
+use Rattle.y86_isa.specs.declared.fetch.Reading.{Reading}
+use Rattle.y86_isa.specs.declared.machine.Machine.{Machine}
+use Rattle.y86_isa.specs.declared.machine.Rec.{Rec}
+use Rattle.y86_isa.proofs.Rows.{row-numbered}
+use Rattle.y86_isa.proofs.RowsAgree.{operands_agree}
+use Rattle.y86_isa.proofs.Runs.{run_from-last, records_from-last, run_from-none, records_from-none}
+use Rattle.y86_isa.proofs.Steps.{IsImage-advance}
+use Rattle.y86_isa.proofs.WhatIsRead.{IsReading-reading}
+use Rattle.hcl_types.specs.Tables.{IsBound, IsOrderOf}
+use Rattle.hcl_types.specs.declared.term.Term.{Term}
+use Rattle.dp_signals.specs.Equations.{rule_of}
+use Rattle.dp_signals.specs.PipeEquations.{constants}
+use Rattle.dp_signals.specs.SeqCycle.{seq_next, seq_record}
+use Rattle.dp_signals.specs.SeqRows.{SeqHardware}
+use Rattle.dp_signals.specs.Values.{bit, set}
+use Rattle.field_bits.specs.Spots.{InRange}
+use Rattle.ctl_atoms.specs.declared.leaf.Leaf.{Leaf}
+use Rattle.ctl_formula.specs.Controls.{AreControls}
+use Rattle.ctl_formula.specs.Laws.{HasControls, real}
+use Rattle.ctl_formula.proofs.Solved.{controls_exist}
+use Rattle.seq_obligations.specs.Obligations.{shared_demand}
+use Rattle.seq_refinement.specs.Cycle.{Agrees}
+use Rattle.seq_refinement.specs.Facts.{FollowsControl}
+use Rattle.seq_refinement.proofs.Lines.{fields_allowed, fields_in_range, goes_on}
+use Rattle.seq_refinement.proofs.Reflected.{is_itself, next_is}
+use Rattle.seq_refinement.proofs.Signals.{IsWork, signals_are_work}
+use Rattle.seq_refinement.proofs.Steps as steps
+use Rattle.seq_plus.specs.Accepted.{AcceptedPlus, RefinesPlus}
+use Rattle.seq_plus.specs.Cycle.{as_seq, fields_at, pc_behind}
+use Rattle.seq_plus.specs.Fields.{allowed, numbers, number_of, spots}
+use Rattle.seq_plus.specs.Obligations.{demand_at, signals}
+use Rattle.seq_plus.specs.PlusCycle.{previous_of, plus_flags, plus_next, plus_record, plus_record_from, plus_store}
+use Rattle.seq_plus.specs.PlusEquations.{PlusSolves, plus_given}
+use Rattle.seq_plus.specs.PlusNames as name
+use Rattle.seq_plus.specs.PlusRun.{at_pc, plus_start, PlusCycle, PlusRunFrom}
+use Rattle.seq_plus.specs.PlusTable.{plus_rows}
+use Rattle.seq_plus.specs.declared.state.PlusState.{PlusState}
+use Rattle.seq_plus.proofs.Agreement.{all_agree}
+use Rattle.seq_plus.proofs.Followed.{follows, going}
+use Rattle.seq_plus.proofs.PlusRows.{hardware_rows}
+
+met : (a b : Bool) → (not a || b) ≡ true → a ≡ true → b ≡ true
+met a b h e = grind arith
+
+both : (a b : Bool) → a ≡ true → b ≡ true → (a && b) ≡ true
+both a b h k = grind arith
+
+-- ---- the next PC of the instruction before
+
+next_test : ℕ → Row → Bool
+next_test n r = not (is_itself r.next) || (n == 0)
+
+next_at : (v : Variant) (n : ℕ) → n < length (rows v) → next_test n (row v n) ≡ true
+unfolding next_test
+next_at Base n lt = row-numbered next_test Base refl n lt
+next_at Full n lt = row-numbered next_test Full refl n lt
+
+goes : (v : Variant) (n : ℕ) → 1 ≤ n → n < length (rows v) → is_itself (row v n).next ≡ false
+unfolding next_test
+goes v n le lt = by _ _ (next_at v n lt) (no_zero n le)
+  where
+    by : (a b : Bool) → (not a || b) ≡ true → b ≡ false → a ≡ false
+    by true true h e = cc
+    by true false h e = cc
+    by false b h e = refl
+
+    no_zero : (n : ℕ) → 1 ≤ n → (n == 0) ≡ false
+    no_zero n le = ne_eqb n 0 (λ e. absurd (omega (arith, e, le)))
+
+-- an instruction that goes on leaves its own PC out of account
+any_pc : (t : Next) (a b vp vc vm : ℕ) (c : Bool) → is_itself t ≡ false → next_address t a vp vc vm c ≡ next_address t b vp vc vm c
+any_pc Itself a b vp vc vm c e = cc
+any_pc Fall a b vp vc vm c e = refl
+any_pc Branch a b vp vc vm c e = refl
+any_pc Target a b vp vc vm c e = refl
+any_pc Loaded a b vp vc vm c e = refl
+
+abbrev next_of : Variant → PlusState → ℕ
+next_of v t = next_address (row v t.previous.icode).next 0 t.previous.val_p t.previous.val_c t.previous.val_m (set t.previous.cnd)
+
+-- the state is that of the machine q of the run: its registers, flags, memory and status, and the PC that the instruction before leads to
+record Related (v : Variant) (t : PlusState) (q : Machine) : Type 0 where
+  machine : q ≡ at_pc t (next_of v t)
+  from_one : 1 ≤ t.previous.icode
+  within : t.previous.icode < length (rows v)
+  small : t.previous.cnd < 2
+
+bit_small : (b : Bool) → bit b < 2
+bit_small true = omega arith
+bit_small false = omega arith
+
+-- what an icode is that is read and goes on
+reads_code : (v : Variant) (n : ℕ) (read : Reading) → IsReading v read → n ≡ read.icode → (n == 15) ≡ false → (n == 0) ≡ false → (1 ≤ n) × (n < length (rows v))
+reads_code v n read h e k l = elim h.known [
+  | inl lt ↦ (positive n l, omega (arith, e, lt))
+  | inr i ↦ absurd (let yes = eq-eqb n 15 (e ∙ i.0) in grind (arith, yes, k))
+]
+  where
+    positive : (n : ℕ) → (n == 0) ≡ false → 1 ≤ n
+    positive zero z = cc
+    positive (suc n) z = omega arith
+
+few : (v : Variant) → length (rows v) ≤ 13
+few Base = omega arith
+few Full = omega arith
+
+last : (v : Variant) (m : Machine) (k : ℕ) → run_from v m (suc k) ≡ advance v (run_from v m k)
+last v m k = rw (← add-one k) (run_from-last v m k)
+
+image_kept : (v : Variant) (m : Machine) (k : ℕ) → IsImage m.mem → IsImage (run_from v m k).mem
+image_kept v m zero g = subst (λ (x : Machine). IsImage x.mem) (sym (run_from-none v m)) g
+image_kept v m (suc k) g = subst (λ (x : Machine). IsImage x.mem) (sym (last v m k)) (IsImage-advance v (run_from v m k) (image_kept v m k g))
+
+begins_pc : (v : Variant) (image : List ℕ) → start image ≡ at_pc (plus_start image) (next_of v (plus_start image))
+unfolding row
+begins_pc Base image = refl
+begins_pc Full image = refl
+
+many : (v : Variant) → 1 < length (rows v)
+many Base = omega arith
+many Full = omega arith
+
+begins : (v : Variant) (image : List ℕ) → Related v (plus_start image) (start image)
+begins v image = record { machine = begins_pc v image; from_one = omega arith; within = many v; small = omega arith }
+
+module _ (v : Variant) (terms : List Term) (ids : List ℕ) (bound : IsBound plus_rows terms) (o : IsOrderOf plus_rows terms ids) (accepted : AcceptedPlus v terms) where
+  -- ---- one cycle
+
+  module _ (t : PlusState) (f : ℕ → ℕ) (s : PlusSolves v terms t f) (g : IsImage t.mem) (le : 1 ≤ t.previous.icode) (lt : t.previous.icode < length (rows v)) (small : t.previous.cnd < 2) where
+    hw : SeqHardware v (at_pc t (f name.pc)) (as_seq v f)
+    hw = hardware_rows v terms t f s
+
+    fits : allowed v (fields_at v t f) ≡ true
+    unfolding allowed
+    fits = both _ _ (both _ _ (lt-ltb 0 t.previous.icode (omega (arith, le))) (lt-ltb t.previous.icode (length (rows v)) lt)) (fields_allowed v (at_pc t (f name.pc)) (as_seq v f) g hw)
+
+    range : InRange spots (numbers (fields_at v t f))
+    range = (omega (arith, lt, few v), (omega (arith, small), fields_in_range v (at_pc t (f name.pc)) (as_seq v f) g hw))
+
+    module _ (cv : ℕ → Leaf) (h : AreControls plus_rows terms (number_of (fields_at v t f)) (real f) cv) where
+      demanded : (i : ℕ) → 1 ≤ i → i ≤ 16 → demand_at v i (fields_at v t f) (real f) cv ≡ true
+      demanded i l k = met _ _ (accepted.holds i (fields_at v t f) (real f) cv l k range h) fits
+
+      asked : (i : ℕ) → 1 ≤ i → i ≤ 15 → shared_demand signals i (row v (f name.imem_icode)) (fields_at v t f).line (real f) cv ≡ true
+      unfolding demand_at
+      asked i l k =
+          let other : (i == 16) ≡ false = ne_eqb i 16 (λ e. absurd (omega (arith, e, k))) in
+          sym (rw other refl) ∙ demanded i l (omega (arith, k))
+
+      agrees : (n : ℕ) → Agrees f cv n
+      agrees = all_agree v terms t f cv s hw h bound asked ids o
+
+      pub is_work : IsWork (at_pc t (f name.pc)) (as_seq v f) (work v (at_pc t (f name.pc)))
+      is_work = signals_are_work v (at_pc t (f name.pc)) (as_seq v f) hw (follows v terms t f cv h agrees asked (operands_agree v (f name.imem_icode)).both)
+
+      follows_row : FollowsControl (row v (f name.imem_icode)) (at_pc t (f name.pc)) (as_seq v f)
+      follows_row = follows v terms t f cv h agrees asked (operands_agree v (f name.imem_icode)).both
+
+      pub icode_going : f name.Stat ≡ 1 → ((f name.imem_icode == 15) ≡ false) × ((f name.imem_icode == 0) ≡ false)
+      icode_going e = going v terms t f cv h agrees asked (operands_agree v (f name.imem_icode)).both e
+
+      pub pc_is : f name.pc ≡ next_of v t
+      unfolding demand_at rule_of plus_given constants
+      pc_is =
+          next_is f cv name.pc name.pValP name.pValC name.pValM (row v t.previous.icode).next (set t.previous.cnd) 0 (demanded 16 (omega arith) (omega arith)) (agrees name.pc)
+          (goes v t.previous.icode le lt)
+          ∙ (rw (s name.pValP, s name.pValC, s name.pValM) refl)
+
+    controls : HasControls plus_rows terms (number_of (fields_at v t f)) (real f)
+    controls = controls_exist plus_rows terms ids (number_of (fields_at v t f)) (real f) o
+
+    pc_next : f name.pc ≡ next_of v t
+    pc_next = pc_is controls.0 controls.1
+
+    works : IsWork (at_pc t (f name.pc)) (as_seq v f) (work v (at_pc t (f name.pc)))
+    works = is_work controls.0 controls.1
+
+    stays : f name.Stat ≡ 1 → ((f name.imem_icode == 15) ≡ false) × ((f name.imem_icode == 0) ≡ false)
+    stays e = icode_going controls.0 controls.1 e
+
+    same_code : f name.icode ≡ f name.imem_icode
+    same_code = (follows_row controls.0 controls.1).icode
+
+    -- ---- the state behind it
+
+    abbrev updated : Stat → PlusState
+    updated stat =
+        record {
+          previous = previous_of f;
+          regs = written_back t.regs (f name.dstE) (f name.valE) (f name.dstM) (f name.valM);
+          flags = plus_flags t.flags f;
+          stat = stat;
+          mem = stored t.mem (plus_store f);
+        }
+
+    pc_behind_is : f name.Stat ≡ 1 →
+        next_address (row v (f name.icode)).next 0 (f name.valP) (f name.valC) (f name.valM) (set (f name.Cnd)) ≡ pc_behind v f
+    pc_behind_is e =
+        let k = stays e in
+        rw same_code
+        (any_pc (row v (f name.imem_icode)).next 0 (f name.pc) _ _ _ _ (goes_on v (at_pc t (f name.pc)) (f name.imem_icode) hw.imem_icode k.0 k.1))
+
+    after_by : (b : Bool) (stat : Stat) → (b ≡ true → next_of v (updated stat) ≡ pc_behind v f) →
+        at_pc (cond b (updated stat) (record t { stat = stat })) (next_of v (cond b (updated stat) (record t { stat = stat })))
+        ≡ cond b (record (at_pc (updated stat) (pc_behind v f)) { stat = stat }) (record (at_pc t (f name.pc)) { stat = stat })
+    after_by true stat h = ap (at_pc (updated stat)) (h refl)
+    after_by false stat h = ap (λ pc. record (at_pc t pc) { stat = stat }) (sym pc_next)
+
+    pub after : at_pc (plus_next t f) (next_of v (plus_next t f)) ≡ seq_next (at_pc t (f name.pc)) (as_seq v f)
+    unfolding plus_next seq_next
+    after = after_by (f name.Stat == 1) (stat_of (f name.Stat)) (λ e. pc_behind_is (eqb-true _ _ e))
+
+    flags_by : (b : Bool) (stat : Stat) → (cond b (updated stat) (record t { stat = stat })).flags
+        ≡ (cond b (record (at_pc (updated stat) (pc_behind v f)) { stat = stat }) (record (at_pc t (f name.pc)) { stat = stat })).flags
+    flags_by true stat = refl
+    flags_by false stat = refl
+
+    pub told : plus_record t f ≡ seq_record (at_pc t (f name.pc)) (as_seq v f)
+    unfolding plus_next seq_next plus_record seq_record
+    told = ap (λ flags. plus_record_from flags f) (flags_by (f name.Stat == 1) (stat_of (f name.Stat)))
+
+    abbrev HasCode : PlusState → Type 0
+    HasCode u = (1 ≤ u.previous.icode) × (u.previous.icode < length (rows v)) × (u.previous.cnd < 2)
+
+    codes_by : (b : Bool) (stat : Stat) → (b ≡ true → HasCode (updated stat)) → HasCode (cond b (updated stat) (record t { stat = stat }))
+    codes_by true stat h = h refl
+    codes_by false stat h = (le, lt, small)
+
+    pub codes : HasCode (plus_next t f)
+    unfolding plus_next
+    codes =
+        codes_by (f name.Stat == 1) (stat_of (f name.Stat))
+        (λ e.
+        let k = stays (eqb-true _ _ e) in
+        let c = reads_code v (f name.icode) (reading v t.mem (f name.pc)) (IsReading-reading v t.mem (f name.pc)) (same_code ∙ hw.imem_icode) (rw same_code k.0) (rw same_code k.1) in
+        (c.0, c.1, (rw hw.Cnd (bit_small _))))
+
+  -- ---- the run
+
+  at_q : (t : PlusState) (q : Machine) (f : ℕ → ℕ) → Related v t q → IsImage q.mem → PlusSolves v terms t f → at_pc t (f name.pc) ≡ q
+  at_q t q f r g s = ap (at_pc t) (pc_next t f s (subst (λ (x : Machine). IsImage x.mem) r.machine g) r.from_one r.within r.small) ∙ sym r.machine
+
+  cycle_case : (t u : PlusState) (q : Machine) (x : Option Rec) → Related v t q → IsImage q.mem → PlusCycle v terms t x u → (b : Bool) → is_aok q.stat ≡ b →
+      Related v u (advance v q) × (x ≡ retired v q)
+  unfolding advance retired
+  cycle_case t u q x r g h true e =
+      let same : q.stat ≡ t.stat = ap (λ (y : Machine). y.stat) r.machine in
+      let goes = h.goes (ap is_aok (sym same) ∙ e) in
+      let f = goes.0 in
+      let image : IsImage t.mem = subst (λ (y : Machine). IsImage y.mem) r.machine g in
+      let here = at_q t q f r g goes.1 in
+      let w : IsWork q (as_seq v f) (work v q) = subst (λ (y : Machine). IsWork y (as_seq v f) (work v y)) here (works t f goes.1 image r.from_one r.within r.small) in
+      let k = codes t f goes.1 image r.from_one r.within r.small in
+      let next : advance v q ≡ at_pc (plus_next t f) (next_of v (plus_next t f)) =
+      (rw e refl) ∙ sym (steps.next_is q (as_seq v f) (work v q) w) ∙ ap (λ y. seq_next y (as_seq v f)) (sym here) ∙ sym (after t f goes.1 image r.from_one r.within r.small) in (
+        subst (λ y. Related v y (advance v q)) (sym goes.2) (record { machine = next; from_one = k.0; within = k.1; small = k.2 }),
+        goes.3 ∙ ap Some (told t f goes.1 image r.from_one r.within r.small ∙ ap (λ y. seq_record y (as_seq v f)) here ∙ steps.record_is q (as_seq v f) (work v q) w) ∙ (rw e refl),
+      )
+  cycle_case t u q x r g h false e =
+      let same : q.stat ≡ t.stat = ap (λ (y : Machine). y.stat) r.machine in
+      let ended = h.ended (ap is_aok (sym same) ∙ e) in
+      (rw (ended.0, e) r, ended.1 ∙ (rw e refl))
+
+  runs_from : (m : Machine) (p t : PlusState) (k : ℕ) (rs : List Rec) → Related v p m → IsImage m.mem → PlusRunFrom v terms p k t rs →
+      Related v t (run_from v m k) × (rs ≡ records_from v m k)
+  runs_from m p t zero rs r g h = (rw h.0 (subst (Related v p) (sym (run_from-none v m)) r), h.1 ∙ sym (records_from-none v m))
+  runs_from m p t (suc k) rs r g h =
+      let i = runs_from m p (h.0) k (h.1) r g (h.3) in
+      let c = cycle_case (h.0) t (run_from v m k) (h.2) i.0 (image_kept v m k g) (h.4) (is_aok (run_from v m k).stat) refl in
+      let told : records_from v m (suc k) ≡ records_from v m k ++ option_to_list (retired v (run_from v m k)) = rw (← add-one k) (records_from-last v m k) in
+      (subst (Related v t) (sym (last v m k)) c.0, h.5 ∙ (rw (i.1, c.1) refl) ∙ sym told)
+
+  pub refines : RefinesPlus v terms
+  refines = record {
+    machine = λ image k t rs end g h e.
+        let i = runs_from (start image) (plus_start image) t k rs (begins v image) g h in
+        e.2 ∙ ap (at_pc t) (sym (e.1.2)) ∙ at_q t (run_from v (start image) k) (e.1.0) i.0 (image_kept v (start image) k g) (e.1.1);
+    told = λ image k t rs g h. (runs_from (start image) (plus_start image) t k rs (begins v image) g h).1;
+  }

@@ -1,0 +1,64 @@
+-- The lines P and S of a control valuation of SEQ+: what the instruction before left, and what one cycle reads, as numbers; and which of
+-- them an instruction can have.
+use Rattle.std.specs.Prelude.{ℕ, Bool, ◌&&◌, List, [], ◌∷◌, length, get_or, nat_lt, drop, Some}
+use Rattle.y86_base.specs.declared.parts.Variant.{Variant}
+use Rattle.y86_isa.specs.Table.{rows}
+use Rattle.field_bits.specs.declared.spots.Spot.{Spot}
+use Rattle.field_bits.specs.declared.spots.Place.{Place}
+use Rattle.field_bits.specs.Spots.{decoded, number_among}
+use Rattle.seq_obligations.specs.Fields as seq
+use Rattle.seq_obligations.specs.declared.signals.Line.{Line}
+use Rattle.seq_plus.specs.PlusNames as signal
+
+-- pIcode and pCnd, and the line S
+pub record Fields : Type 0 where
+  pub icode : ℕ
+  pub cnd : ℕ
+  pub line : seq.Fields
+
+abbrev spot : ℕ → ℕ → Spot
+spot bits name = record { bits = bits; name = Some name }
+
+-- the table of the fields, in the order of the variables
+abbrev pub spots : List Spot
+spots =
+    spot 4 signal.pIcode ∷
+    spot 1 signal.pCnd ∷
+    spot 1 signal.imem_error ∷
+    spot 4 signal.imem_icode ∷
+    spot 4 signal.imem_ifun ∷
+    spot 4 signal.rA ∷
+    spot 4 signal.rB ∷
+    spot 1 signal.Cnd ∷
+    spot 1 signal.dmem_error ∷ []
+
+-- the fields as numbers in the order of the table, and back
+abbrev pub numbers : Fields → List ℕ
+numbers c = c.icode ∷ c.cnd ∷ seq.numbers c.line
+
+abbrev pub fields_by : List ℕ → Fields
+fields_by xs = record { icode = get_or xs 0 0; cnd = get_or xs 1 0; line = seq.fields_by (drop 2 xs) }
+
+-- the number that the lines give a signal which is a field, and 0 for any other
+abbrev pub number_of : Fields → ℕ → ℕ
+number_of c name = number_among spots (numbers c) name
+
+-- the fields that bits spell
+unfoldable pub fields_of : List Bool → Fields
+fields_of w = fields_by (decoded spots 0 w)
+
+abbrev place : ℕ → ℕ → Place
+place first bits = record { first = first; bits = bits }
+
+-- where the fields of the line S stand
+abbrev pub line : Line
+line = record { error = place 5 1; icode = place 6 4; ifun = place 10 4; r_a = place 14 4; r_b = place 18 4; cnd = place 22 1; derror = place 23 1 }
+
+-- of a table with so many rows, the icode is that of an instruction that goes on: any but halt
+abbrev pub goes_on : ℕ → ℕ → Bool
+goes_on count icode = nat_lt 0 icode && nat_lt icode count
+
+-- the lines are ones that a valuation of this instruction set can have: a cycle goes on only behind an instruction that does, with any
+-- condition
+unfoldable pub allowed : Variant → Fields → Bool
+allowed v c = goes_on (length (rows v)) c.icode && seq.allowed v c.line

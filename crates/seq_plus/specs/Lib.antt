@@ -1,0 +1,13 @@
+pub mod PlusNames
+pub mod PlusTable
+pub mod PlusEquations
+pub mod PlusCycle
+pub mod PlusRun
+pub mod Plus
+pub mod Calls
+pub mod Fields
+pub mod Obligations
+pub mod Accepted
+pub mod Cycle
+pub mod Rules
+pub mod Verdicts

@@ -1,0 +1,55 @@
+-- What an HCL file for SEQ+ has to ask at the lines of a valuation: the rules S1 to S15 of SEQ, over its own rows, and S16 of the PC that
+-- it computes as the cycle begins.
+use Rattle.std.specs.Prelude.{ℕ, Bool, not, ◌||◌, ◌==◌, if◌then◌else◌}
+use Rattle.y86_base.specs.declared.parts.Variant.{Variant}
+use Rattle.y86_isa.specs.Table.{row}
+use Rattle.ctl_atoms.specs.declared.leaf.Leaf.{Leaf}
+use Rattle.ctl_atoms.specs.Leaves.{Assignment}
+use Rattle.field_bits.specs.Spelling.{set}
+use Rattle.rule_gates.specs.Words.{takes_some, next_leaf}
+use Rattle.seq_obligations.specs.Obligations.{shared_demand}
+use Rattle.seq_obligations.specs.declared.signals.Signals.{Signals}
+use Rattle.seq_plus.specs.Fields.{Fields, allowed}
+use Rattle.seq_plus.specs.PlusNames as signal
+
+-- the rows of SEQ+'s signals
+abbrev pub signals : Signals
+signals =
+    record {
+      val_c = signal.valC;
+      val_p = signal.valP;
+      val_a = signal.valA;
+      val_b = signal.valB;
+      val_e = signal.valE;
+      val_m = signal.valM;
+      icode = signal.icode;
+      ifun = signal.ifun;
+      need_regids = signal.need_regids;
+      need_val_c = signal.need_valC;
+      src_a = signal.srcA;
+      src_b = signal.srcB;
+      dst_e = signal.dstE;
+      dst_m = signal.dstM;
+      alu_a = signal.aluA;
+      alu_b = signal.aluB;
+      alufun = signal.alufun;
+      set_cc = signal.set_cc;
+      mem_addr = signal.mem_addr;
+      mem_read = signal.mem_read;
+      mem_write = signal.mem_write;
+      mem_data = signal.mem_data;
+      stat = signal.Stat;
+    }
+
+-- S16: the PC picks where the instruction before, of this icode, leads: its constant for a call, and for a jump where its condition held;
+-- the word that a ret loaded; else the address behind it
+abbrev pub next_demand : Variant → Fields → (ℕ → Leaf) → Bool
+next_demand v c cv = takes_some cv signal.pc (next_leaf (row v c.icode).next signal.pValP signal.pValC signal.pValM (set c.cnd))
+
+-- what rule i asks
+unfoldable pub demand_at : Variant → ℕ → Fields → Assignment → (ℕ → Leaf) → Bool
+demand_at v i c α cv = if i == 16 then next_demand v c cv else shared_demand signals i (row v c.line.icode) c.line α cv
+
+-- the obligation: lines that aren't allowed meet it
+abbrev pub obligation : Variant → ℕ → Fields → Assignment → (ℕ → Leaf) → Bool
+obligation v i c α cv = not (allowed v c) || demand_at v i c α cv

@@ -1,0 +1,39 @@
+-- Verdicts on HCL files for SEQ+.
+use Rattle.std.specs.Prelude.{ℕ, Bool, true, false, List}
+use Rattle.y86_base.specs.declared.parts.Variant.{Variant}
+use Rattle.hcl_types.specs.declared.term.Term.{Term}
+use Rattle.ctl_atoms.specs.Atoms.{AreAtoms}
+use Rattle.ctl_atoms.specs.declared.leaf.Atom.{Atom}
+use Rattle.verdicts.specs.Questions.{IsLeastFalse, Questions}
+use Rattle.seq_plus.specs.Accepted.{AcceptedPlus}
+use Rattle.seq_plus.specs.Fields.{fields_by, spots}
+use Rattle.seq_plus.specs.Obligations.{obligation}
+use Rattle.seq_plus.specs.PlusTable.{plus_rows}
+use Rattle.seq_plus.specs.declared.verdict.Plain16.{Plain16}
+use Rattle.seq_plus.specs.declared.verdict.Plain16.TheVariants.{Yes, No}
+
+-- what SEQ+ asks of a design
+abbrev pub plus_questions : Variant → Questions
+plus_questions v = record { rows = plus_rows; spots = spots; asks = λ i xs α cv. obligation v i (fields_by xs) α cv }
+
+-- no definition of the design mixes codes with words, it has at most 64 atoms, and every obligation holds of every valuation
+pub record AcceptsPlus (v : Variant) (terms : List Term) : Type 0 where
+  pub atoms : List Atom
+  pub are : AreAtoms plus_rows terms atoms
+  pub holds : AcceptedPlus v terms
+
+-- so much is true of its definitions and atoms, but an obligation is false of some valuation: of those the first, and the least
+-- valuation of which it is
+pub record RejectsPlus (v : Variant) (terms : List Term) (rule : ℕ) (w : List Bool) : Type 0 where
+  pub atoms : List Atom
+  pub are : AreAtoms plus_rows terms atoms
+  pub refused : AcceptedPlus v terms → ⊥
+  pub least : IsLeastFalse (plus_questions v) terms atoms rule w
+
+abbrev pub IsPlusVerdict : Variant → List Term → Plain16 → Type 0
+IsPlusVerdict v terms Yes = AcceptsPlus v terms
+IsPlusVerdict v terms (No rule valuation) = RejectsPlus v terms rule valuation.bits
+
+abbrev pub is_yes : Plain16 → Bool
+is_yes Yes = true
+is_yes (No rule valuation) = false

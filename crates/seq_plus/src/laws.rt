@@ -1,0 +1,49 @@
+//! Theorems about SEQ+. Each is a function that does nothing and whose contract is the theorem.
+ghost use Rattle.std.specs.Prelude.{◌≡◌, ℕ, List};
+ghost use Rattle.y86_base.specs.declared.parts.Variant.{Variant};
+ghost use Rattle.y86_isa.specs.declared.machine.Rec.{Rec};
+ghost use Rattle.hcl_types.specs.Tables.{IsBound, IsOrderOf, IsSound};
+ghost use Rattle.hcl_types.specs.declared.term.Term.{Term};
+ghost use Rattle.seq_plus.specs.Accepted.{AcceptedPlus, RefinesPlus};
+ghost use Rattle.seq_plus.specs.Calls.{CallsAreTheRun};
+ghost use Rattle.seq_plus.specs.PlusEquations.{PlusSolves};
+ghost use Rattle.seq_plus.specs.PlusRun.{PlusRun};
+ghost use Rattle.seq_plus.specs.PlusTable.{plus_rows};
+ghost use Rattle.seq_plus.specs.declared.state.PlusState.{PlusState};
+
+/// The table is sound: its names differ, hardware depends on its rows, and its constants are its rows of class `Number`.
+#[tactic(auto, using(crate::proofs::Sound::plus_sound))]
+pub fn law_of_table()
+    ensures { IsSound plus_rows }
+{}
+
+/// Where a design has an order, the equations of a cycle have exactly one solution.
+pub fn law_of_solutions()
+    ensures there { (v : Variant) (s : PlusState) (terms : List Term) (ids : List ℕ) →
+        IsBound plus_rows terms → IsOrderOf plus_rows terms ids → (f : ℕ → ℕ) × PlusSolves v terms s f }
+    ensures alone { (v : Variant) (s : PlusState) (terms : List Term) (ids : List ℕ) →
+        IsBound plus_rows terms → IsOrderOf plus_rows terms ids →
+        (f h : ℕ → ℕ) → PlusSolves v terms s f → PlusSolves v terms s h → (n : ℕ) → f n ≡ h n }
+{}
+
+/// Where a design has an order, it has exactly one run of each number of cycles on an image.
+pub fn law_of_runs()
+    ensures there { (v : Variant) (terms : List Term) (ids image : List ℕ) (k : ℕ) →
+        IsBound plus_rows terms → IsOrderOf plus_rows terms ids → (t : PlusState) × (records : List Rec) × PlusRun v terms image k t records }
+    ensures alone { (v : Variant) (terms : List Term) (ids image : List ℕ) (k : ℕ) →
+        IsBound plus_rows terms → IsOrderOf plus_rows terms ids → (t u : PlusState) (rs xs : List Rec) →
+        PlusRun v terms image k t rs → PlusRun v terms image k u xs → (t ≡ u) × (rs ≡ xs) }
+{}
+
+/// Calls of `cycle` on a new machine are its run: the state and the records after k calls are those after k cycles.
+#[tactic(auto, using(crate::proofs::Calls::calls_are_the_run))]
+pub fn law_of_calls()
+    ensures { CallsAreTheRun }
+{}
+
+/// A design for SEQ+ whose obligations hold of every control valuation runs as the instructions do: on every image, for every
+/// number of cycles.
+#[tactic(auto, using(crate::proofs::Runs::refines))]
+pub fn law_of_refinement()
+    ensures { (v : Variant) (terms : List Term) (ids : List ℕ) → IsBound plus_rows terms → IsOrderOf plus_rows terms ids → AcceptedPlus v terms → RefinesPlus v terms }
+{}

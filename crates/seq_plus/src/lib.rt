@@ -1,0 +1,25 @@
+//! SEQ+, the sequential datapath that computes the PC as a cycle begins, from what the instruction before left (CS:APP 3e,
+//! section 4.5.1): its table of signals, its machine, its 16 rules, and the verdict on a design, whose Yes is a theorem about
+//! the machine.
+#![tactic(auto)]
+
+mod cycle;
+mod fields;
+mod laws;
+mod machine;
+mod row;
+mod rules;
+mod running;
+mod state;
+mod table;
+mod values;
+mod verdict;
+
+pub use fields::spots;
+pub use laws::{law_of_calls, law_of_refinement, law_of_runs, law_of_solutions, law_of_table};
+pub use machine::Plus;
+pub use rules::plus_rules;
+pub use running::run;
+pub use state::{PlusState, Previous};
+pub use table::plus_table;
+pub use verdict::{Plain16, check_plus};

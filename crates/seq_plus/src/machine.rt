@@ -1,0 +1,146 @@
+//! The machine of SEQ+: one call, one cycle.
+ghost use Rattle.std.specs.Prelude.{◌≡◌, ◌≢◌, ◌↔◌, IsNone};
+ghost use Rattle.hcl_types.specs.Tables.{IsBound, IsOrderOf};
+ghost use Rattle.y86_base.specs.declared.parts.Stat.TheVariants.{Aok};
+ghost use Rattle.y86_isa.specs.Machine.{is_aok};
+ghost use Rattle.yis_run.specs.Report.{ended};
+ghost use Rattle.seq_plus.specs.PlusTable.{plus_rows};
+ghost use Rattle.seq_plus.specs.PlusRun.{PcIs, PlusEnds, at_pc};
+ghost use Rattle.seq_plus.specs.Plus as spec;
+
+use crate::cycle::{advance, record_of};
+use crate::row;
+use crate::state::{PlusState, Previous};
+use crate::values::solve_plus;
+use hcl_types::{Design, Order, SignalEval};
+use std::marker::Model;
+use y86_base::{Image, Stat, Variant};
+use y86_isa::{Machine, Rec};
+use yis_run::End;
+
+/// A machine of SEQ+: a design with an order of its signals, an evaluator of the design, and the state that it is in.
+#[derive(Drop)]
+pub struct Plus<C: SignalEval> {
+    variant: Variant,
+    design: Design,
+    order: Order,
+    evaluator: C,
+    state: PlusState,
+}
+
+impl<C: SignalEval> Model for Plus<C> {
+    ghost use Rattle.std.specs.Coded.{codes};
+    ghost use Rattle.hcl_types.specs.contracts.term.Term as term;
+    ghost use Rattle.seq_plus.specs.Plus.{Plus, IsPlus, seen};
+
+    ghost Value = { Plus };
+
+    ghost coded = { Prim.hlevel (codes, term.the_row.coded) };
+
+    ghost view = { λ p. seen p.variant p.design.terms p.order.ids p.state };
+
+    ghost invariant = { λ p. C.evaluates p.evaluator p.design.terms × IsPlus p.design.terms p.order.ids };
+}
+
+fn is_going(stat: Stat) -> bool
+    ensures { result ≡ is_aok stat }
+{
+    matches!(stat, Stat::Aok)
+}
+
+impl<C: SignalEval> Plus<C> {
+    /// A machine before its first cycle, with a memory image. The evaluator is one of the design. No memory is taken, here or
+    /// later.
+    pub fn new(variant: Variant, design: Design, order: Order, evaluator: C, mem: Image) -> Plus<C>
+        requires evaluates { C.evaluates evaluator design.terms }
+        requires bound { IsBound plus_rows design.terms }
+        requires ordered { IsOrderOf plus_rows design.terms order.ids }
+        ensures { result ≡ spec.started variant design.terms order.ids mem }
+    {
+        let Machine {
+            regs,
+            flags,
+            stat,
+            mem,
+            ..
+        } = Machine::start(mem);
+        let previous = Previous {
+            icode: 1,
+            cnd: 0,
+            val_m: 0,
+            val_c: 0,
+            val_p: 0,
+        };
+        Plus {
+            variant,
+            design,
+            order,
+            evaluator,
+            state: PlusState {
+                previous,
+                regs,
+                flags,
+                stat,
+                mem,
+            },
+        }
+    }
+
+    /// Does one cycle, and answers its record. After a cycle whose status wasn't AOK the machine has stopped: nothing changes,
+    /// and there is no record.
+    pub fn cycle(&mut self) -> Option<Rec>
+        ensures cycle { spec.Cycle self.old result self.new }
+        ensures stopped { IsNone result ↔ (self.old.state.stat ≢ Aok) }
+    {
+        if !is_going(self.state.stat) {
+            return None;
+        }
+        let values = solve_plus(
+            self.variant,
+            &self.design,
+            &self.order,
+            &self.state,
+            &mut self.evaluator,
+        );
+        advance(&mut self.state, &values);
+        Some(record_of(self.state.flags, &values))
+    }
+
+    /// The signal pc in the state reached: the signals are evaluated anew. Of a machine that has stopped it is the PC of the
+    /// cycle that stopped it. The machine stays as it is; only its evaluator works.
+    pub fn pc(&mut self) -> u64
+        ensures pc { PcIs self.old.variant self.old.terms self.old.state result }
+        ensures same { self.new ≡ self.old }
+    {
+        let values = solve_plus(
+            self.variant,
+            &self.design,
+            &self.order,
+            &self.state,
+            &mut self.evaluator,
+        );
+        values[row::PC]
+    }
+
+    /// How the machine ended, or stands: its registers, flags and memory, the status, and as PC what `pc` answers. The machine
+    /// stays as it is.
+    pub fn end(&mut self) -> End<'_>
+        ensures { PlusEnds self.old.variant self.old.terms self.old.state (ended result) }
+    {
+        let pc = self.pc();
+        end_of(&self.state, pc)
+    }
+}
+
+/// The machine that a state is at a PC.
+fn end_of<'a>(state: &'a PlusState, pc: u64) -> End<'a>
+    ensures { ended result ≡ at_pc state.now pc }
+{
+    End {
+        regs: &state.regs,
+        flags: state.flags,
+        pc,
+        stat: state.stat,
+        mem: &state.mem,
+    }
+}

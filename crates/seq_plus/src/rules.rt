@@ -1,0 +1,178 @@
+//! The 16 rules of SEQ+ as gates.
+ghost use Rattle.std.specs.Prelude.{◌≡◌, ◌<◌, ◌≤◌, ◌+◌, ◌||◌, ◌&&◌, not, ℕ, List, Bool, length, slice_get, Some, IfErr, IfOk, IsTrue};
+ghost use Rattle.nets.specs.Nets.{Begins, IsGate};
+ghost use Rattle.y86_isa.specs.Table.{row, rows};
+ghost use Rattle.ctl_atoms.specs.Atoms.{IsCtlFault};
+ghost use Rattle.ctl_formula.specs.Picks.{IsInside, has_picks};
+ghost use Rattle.field_bits.specs.Spelling.{set, spelt};
+ghost use Rattle.hcl_types.specs.Tables.{IsBound, IsOrderOf};
+ghost use Rattle.rule_gates.specs.Asked.{IsAsked};
+ghost use Rattle.rule_gates.specs.Words.{next_leaf, takes_some};
+ghost use Rattle.seq_plus.specs.Fields.{allowed, fields_of, goes_on};
+ghost use Rattle.seq_plus.specs.Obligations.{demand_at, next_demand, obligation};
+ghost use Rattle.seq_plus.specs.PlusTable.{plus_rows};
+ghost use Rattle.seq_plus.specs.Rules.{AreAskedRules, ArePlusRules, IsPlusReady};
+
+use crate::fields::{P_CND, P_ICODE, line, places, signals};
+use crate::table::plus_table;
+use ctl_atoms::{CtlFault, atoms};
+use ctl_formula::{Controls, translate};
+use field_bits::{below, spells};
+use hcl_types::{Design, NameId, Order};
+use nets::NetBuilder;
+use rule_gates::{ByRow, Rule, Rules, by_icode, next_is};
+use seq_obligations::{line_allowed, shared_demand_told};
+use std::alloc::Global;
+use y86_base::{Items, Memory, Variant};
+use y86_isa::{Row, icode_count};
+
+const PC: NameId = 51;
+
+const P_VAL_M: NameId = 35;
+
+const P_VAL_C: NameId = 36;
+
+const P_VAL_P: NameId = 37;
+
+/// The PC is the one behind the instruction before, by the row of its icode.
+#[derive(Clone, Copy, Debug)]
+struct NextPc;
+
+impl ByRow for NextPc {
+    ghost asks = { λ rule code r w α cv. takes_some cv 51 (next_leaf r.next 37 36 35 (set (spelt w 4 1))) };
+
+    ghost knows = { λ rule vars ctl. (5 ≤ vars) × IsTrue (has_picks ctl 51) };
+
+    fn at_row(
+        &self,
+        b: &mut NetBuilder,
+        ctl: &Controls,
+        icode: u64,
+        row: Row,
+    ) -> Result<u64, Memory> {
+        let _ = icode;
+        let g = next_is(b, ctl, PC, row.next, P_VAL_P, P_VAL_C, P_VAL_M, P_CND)?;
+        Ok(g)
+    }
+}
+
+/// The code is that of an instruction that goes on.
+#[tactic(auto, using(nets::proofs::Truths::truth_kept, nets::proofs::Truths::begins_more))]
+fn code_allowed(b: &mut NetBuilder, v: Variant) -> Result<u64, Memory>
+    requires { 5 ≤ b.old.vars }
+    ensures begins { Begins b.old b.new }
+    ensures made { IfOk result (λ g. IsGate b.new g (λ w. goes_on (length (rows v)) (spelt w 0 4))) }
+{
+    let none = below(b, P_ICODE, 1)?;
+    let some = b.not(none)?;
+    let known = below(b, P_ICODE, icode_count(v))?;
+    let g = b.and(some, known)?;
+    Ok(g)
+}
+
+/// The lines are ones that a valuation of the variant can have.
+#[tactic(auto, unfolding(crate::specs::Fields::fields_of, crate::specs::Fields::allowed, seq_obligations::specs::Fields::line_at))]
+fn lines_allowed(b: &mut NetBuilder, ctl: &Controls, v: Variant) -> Result<u64, Memory>
+    requires inside { IsInside b.old ctl.now }
+    requires ready { IsPlusReady b.old.vars ctl.now }
+    ensures begins { Begins b.old b.new }
+    ensures asked { IfOk result (λ g. IsAsked b.new ctl.now g (λ w α cv. allowed v (fields_of w))) }
+{
+    let code = code_allowed(b, v)?;
+    let rest = line_allowed(b, ctl, line(), v)?;
+    let g = b.and(code, rest)?;
+    Ok(g)
+}
+
+/// What the rule of a number asks.
+#[tactic(auto, unfolding(crate::specs::Fields::fields_of, crate::specs::Obligations::demand_at, seq_obligations::specs::Fields::line_at))]
+fn demand_told(b: &mut NetBuilder, ctl: &Controls, v: Variant, number: u32) -> Result<u64, Memory>
+    requires inside { IsInside b.old ctl.now }
+    requires ready { IsPlusReady b.old.vars ctl.now }
+    ensures begins { Begins b.old b.new }
+    ensures asked { IfOk result (λ g. IsAsked b.new ctl.now g (λ w α cv. demand_at v number (fields_of w) α cv)) }
+{
+    if number == 16 {
+        let next = by_icode(b, ctl, v, P_ICODE, &NextPc)?;
+        return Ok(next);
+    }
+    let g = shared_demand_told(b, ctl, signals(), line(), v, number)?;
+    Ok(g)
+}
+
+/// The rule of a number: it asks nothing of lines that aren't allowed.
+fn rule_told(
+    b: &mut NetBuilder,
+    ctl: &Controls,
+    v: Variant,
+    fits: u64,
+    number: u32,
+) -> Result<u64, Memory>
+    requires inside { IsInside b.old ctl.now }
+    requires ready { IsPlusReady b.old.vars ctl.now }
+    requires fits { IsAsked b.old ctl.now fits (λ w α cv. allowed v (fields_of w)) }
+    ensures begins { Begins b.old b.new }
+    ensures asked { IfOk result (λ g. IsAsked b.new ctl.now g (λ w α cv. obligation v number (fields_of w) α cv)) }
+{
+    let asked = demand_told(b, ctl, v, number)?;
+    let outside = b.not(fits)?;
+    let g = b.or(outside, asked)?;
+    Ok(g)
+}
+
+/// The 16 rules in their order.
+fn rules_told(
+    alloc: Global,
+    b: &mut NetBuilder,
+    ctl: &Controls,
+    v: Variant,
+) -> Result<Vec<Rule>, Memory>
+    requires inside { IsInside b.old ctl.now }
+    requires ready { IsPlusReady b.old.vars ctl.now }
+    ensures begins { Begins b.old b.new }
+    ensures count { IfOk result (λ list. length list.items ≡ 16) }
+    ensures rules { IfOk result (λ list. AreAskedRules v b.new ctl.now list.items) }
+{
+    let fits = lines_allowed(b, ctl, v)?;
+    let mut list = Vec::new(alloc);
+    for i in 0..16 {
+        let number = i + 1;
+        let gate = rule_told(b, ctl, v, fits, number)?;
+        match list.push(Rule { number, gate }) {
+            Ok(()) => {}
+            Err(_) => return Err(Memory),
+        }
+    }
+    Ok(list)
+}
+
+/// The 16 rules of a design for SEQ+, in their order: each gate is its obligation at every pattern of bits of a control
+/// valuation. The fields stand first, then the atoms. A design that mixes classes or asks more than 64 atoms has none.
+pub fn plus_rules(
+    alloc: Global,
+    variant: Variant,
+    design: &Design,
+    order: &Order,
+) -> Result<Rules, CtlFault>
+    requires bound { IsBound plus_rows design.now.terms }
+    requires ordered { IsOrderOf plus_rows design.now.terms order.now.ids }
+    ensures rules { IfOk result (λ r. ArePlusRules variant design.now.terms r.net r.list) }
+    ensures variant { IfOk result (λ r. r.variant ≡ variant) }
+    ensures fault { IfErr result (IsCtlFault plus_rows design.now.terms) }
+{
+    let table = match plus_table(alloc) {
+        Ok(table) => table,
+        Err(_) => return Err(CtlFault::Memory),
+    };
+    let listed = atoms(alloc, design, &table, order)?;
+    let mut b = NetBuilder::new(alloc, 24 + listed.len() as u32);
+    let ctl = translate(alloc, design, &table, order, places(), &mut b)?;
+    match rules_told(alloc, &mut b, &ctl, variant) {
+        Err(_) => Err(CtlFault::Memory),
+        Ok(list) => Ok(Rules {
+            variant,
+            net: b.finish(),
+            list: Items::of(list),
+        }),
+    }
+}

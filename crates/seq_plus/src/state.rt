@@ -1,0 +1,23 @@
+//! The state of SEQ+.
+use y86_base::{Flags, Image, Regs, Stat};
+
+/// What an instruction leaves for the PC of the next one: its icode, its condition (0 or 1), the word that it loaded, its
+/// constant, and the address behind it.
+#[derive(Clone, Copy, Debug, PartialEq, Eq)]
+pub struct Previous {
+    pub icode: u64,
+    pub cnd: u64,
+    pub val_m: u64,
+    pub val_c: u64,
+    pub val_p: u64,
+}
+
+/// The state of SEQ+ as a cycle begins. No PC is in it: the signal `pc` is computed from the previous instruction's values.
+#[derive(Drop)]
+pub struct PlusState {
+    pub previous: Previous,
+    pub regs: Regs,
+    pub flags: Flags,
+    pub stat: Stat,
+    pub mem: Image,
+}

@@ -1,0 +1,50 @@
+//! The verdict on a design for SEQ+.
+ghost use Rattle.std.specs.Prelude.{◌≡◌, IfErr, IfOk, true};
+ghost use Rattle.hcl_types.specs.Tables.{IsBound, IsOrderOf};
+ghost use Rattle.seq_plus.specs.Accepted.{RefinesPlus};
+ghost use Rattle.seq_plus.specs.PlusTable.{plus_rows};
+ghost use Rattle.seq_plus.specs.Verdicts.{IsPlusVerdict, is_yes};
+ghost use Rattle.verdicts.specs.Questions.{IsFault};
+
+use crate::rules::plus_rules;
+use hcl_types::{Design, Order};
+use nets::Valuation;
+use std::alloc::Global;
+use verdicts::{CheckFault, decide, told};
+use y86_base::{Memory, Variant};
+
+/// Whether every rule holds of a design, and if not, the number of the first that doesn't, with the least valuation of
+/// which it is false.
+#[derive(Debug, PartialEq, Drop)]
+pub enum Plain16 {
+    Yes,
+    No { rule: u32, valuation: Valuation },
+}
+
+/// The verdict on an HCL file for SEQ+. Where it is yes, the file's machine runs as the instructions do: on every
+/// image, for every number of cycles.
+pub fn check_plus(
+    alloc: Global,
+    variant: Variant,
+    design: &Design,
+    order: &Order,
+) -> Result<Plain16, CheckFault>
+    requires bound { IsBound plus_rows design.now.terms }
+    requires ordered { IsOrderOf plus_rows design.now.terms order.now.ids }
+    ensures verdict { IfOk result (IsPlusVerdict variant design.now.terms) }
+    ensures refines { IfOk result (λ r. is_yes r ≡ true → RefinesPlus variant design.now.terms) }
+    ensures fault { IfErr result (IsFault plus_rows design.now.terms) }
+{
+    let rules = match plus_rules(alloc, variant, design, order) {
+        Ok(rules) => rules,
+        Err(fault) => return Err(told(fault)),
+    };
+    match decide(alloc, &rules.net, rules.list.items()) {
+        Ok(None) => Ok(Plain16::Yes),
+        Ok(Some(failure)) => Ok(Plain16::No {
+            rule: failure.rule,
+            valuation: failure.valuation,
+        }),
+        Err(Memory) => Err(CheckFault::Memory),
+    }
+}
