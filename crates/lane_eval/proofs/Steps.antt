@@ -39,3 +39,9 @@ pub filled_last : (n : Gates) (w : List Bool) (p : ℕ) (vs : List (List ℕ)) (
     → slice_get n.gates i ≡ Some gate → i < length n.gates → across p (take i vs) ≡ values w [] (take i n.gates)
     → b ≡ gate_value w (across p (take i vs)) gate → b ≡ truth n i w
 filled_last n w p vs i gate b is h told made = made ∙ (ap (λ (xs : List Bool). gate_value w xs gate) told ∙ sym (truth_last n w i gate is h))
+
+-- the truth of a gate where all gates are evaluated
+pub place_truth : (n : Gates) (p gate : ℕ) (vs : List (List ℕ)) (w : List Bool) → gate < length n.gates → length vs ≡ length n.gates → across p vs ≡ truths n w
+    → in_place p (get_or vs gate []) ≡ truth n gate w
+unfolding truth
+place_truth n p gate vs w h size all = sym (across_at p vs gate (omega (arith, h, size))) ∙ ap (λ (xs : List Bool). get_or xs gate false) all

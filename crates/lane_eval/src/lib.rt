@@ -4,6 +4,9 @@
 
 mod lanes;
 mod places;
+mod search;
+mod words;
 
 pub use lanes::{Scratch, eval512};
 pub use places::{first_false_place, put_place};
+pub use search::{Found, first_false};

@@ -5,7 +5,7 @@ ghost use Rattle.lane_eval.specs.Lanes.{across, bit_test, in_place};
 use std::simd::u64x8;
 
 /// A word with one of its bits set or cleared.
-fn with_bit(word: u64, k: u64, bit: bool) -> u64
+pub(crate) fn with_bit(word: u64, k: u64, bit: bool) -> u64
     requires { k < 64 }
     ensures { (j : ℕ) → j < 64 → bit_test result j ≡ (if j == k then bit else bit_test word j) }
 {

@@ -13,15 +13,15 @@ use Rattle.pipe_fields.specs.Layout.{Fields, FetchLine, DecodeLine, ExecuteLine,
 use Rattle.pipe_fields.specs.Allowed.{allowed, fetch_fits, decode_fits, execute_fits, memory_fits, write_fits, registers_fit, fetch_allowed, decode_allowed, execute_allowed, memory_allowed, write_allowed, is_live}
 use Rattle.prog_gen.specs.Choices.{may_stand, AreChosen, fetch_may, decode_may, stat_may, icode_may, ifun_may}
 
-both : (a b : Bool) → a ≡ true → b ≡ true → (a && b) ≡ true
+pub both : (a b : Bool) → a ≡ true → b ≡ true → (a && b) ≡ true
 both true b p q = q
 both false b p q = p
 
-first : (a b : Bool) → (a && b) ≡ true → a ≡ true
+pub first : (a b : Bool) → (a && b) ≡ true → a ≡ true
 first true b h = refl
 first false b h = h
 
-second : (a b : Bool) → (a && b) ≡ true → b ≡ true
+pub second : (a b : Bool) → (a && b) ≡ true → b ≡ true
 second true b h = h
 second false b h = absurd (cc)
 
@@ -48,19 +48,19 @@ fetch_chosen v c h =
 
 -- ---- a choice by a test that is known
 
-then_true : (b x y : Bool) → b ≡ true → (if b then x else y) ≡ true → x ≡ true
+pub then_true : (b x y : Bool) → b ≡ true → (if b then x else y) ≡ true → x ≡ true
 then_true true x y e h = h
 then_true false x y e h = absurd (cc)
 
-else_true : (b x y : Bool) → b ≡ false → (if b then x else y) ≡ true → y ≡ true
+pub else_true : (b x y : Bool) → b ≡ false → (if b then x else y) ≡ true → y ≡ true
 else_true true x y e h = absurd (cc)
 else_true false x y e h = h
 
-choose_then : (b x y : Bool) → b ≡ true → x ≡ true → (if b then x else y) ≡ true
+pub choose_then : (b x y : Bool) → b ≡ true → x ≡ true → (if b then x else y) ≡ true
 choose_then true x y e h = h
 choose_then false x y e h = absurd (cc)
 
-choose_else : (b x y : Bool) → b ≡ false → y ≡ true → (if b then x else y) ≡ true
+pub choose_else : (b x y : Bool) → b ≡ false → y ≡ true → (if b then x else y) ≡ true
 choose_else true x y e h = absurd (cc)
 choose_else false x y e h = h
 

@@ -9,6 +9,7 @@ ghost use Rattle.y86_isa.specs.RowTests as tests;
 ghost use Rattle.y86_isa.specs.Table.{rows};
 ghost use Rattle.y86_isa.specs.Table as table;
 
+use crate::spans::span_behind;
 use arrayvec::ArrayVec;
 use field_bits::{accesses, is_branch, is_field_b};
 use y86_base::Variant;
@@ -124,14 +125,14 @@ fn ifun_may(r: &Row, kind: u64, stat: u64, n: u64) -> bool
     }
 }
 
-fn is_live(kind: u64, stat: u64) -> bool
+pub(crate) fn is_live(kind: u64, stat: u64) -> bool
     ensures { result ≡ live kind stat }
 {
     kind == 1 && stat == 1
 }
 
 /// An earlier number.
-fn at(before: &[u64], k: usize) -> u64
+pub(crate) fn at(before: &[u64], k: usize) -> u64
     ensures { result ≡ get_or before.now k 0 }
 {
     before.get(k).copied().unwrap_or(0)
@@ -312,6 +313,11 @@ pub fn choice(v: Variant, before: &[u64], bits: u32, position: u64) -> u64
     requires few { bits ≤ 4 }
     ensures { result ≡ spec.chosen (spec.choices v before.now) position }
 {
-    let some = choices(v, before, bits);
-    chosen(some.as_slice(), position)
+    match span_behind(v, before) {
+        Some(span) => span.chosen(bits, position),
+        None => {
+            let some = choices(v, before, bits);
+            chosen(some.as_slice(), position)
+        }
+    }
 }

@@ -7,7 +7,9 @@ ghost use Rattle.field_bits.specs.Spelling.{spell};
 
 use crate::choices::choice;
 use crate::draws::Draws;
+use nets::Valuation;
 use pipe_fields::spots;
+use rule_gates::Rules;
 use y86_base::Variant;
 
 /// Writes the bits of a number, the most significant one first.
@@ -61,4 +63,15 @@ pub fn draw_valuation(v: Variant, word: u64, out: &mut [bool])
     let mut draws = Draws::from(word);
     draw_fields(v, &mut draws, out);
     draw_truths(&mut draws, out, 107);
+}
+
+/// Puts valuation `i` of a seed into `out`, for the instruction set of rules and the atoms of their net: it has a variable for each
+/// of the 107 bits of the fields and one for each atom, and `out` has a bit for each variable.
+pub fn valuation(r: &Rules, seed: u64, i: u64, out: &mut Valuation)
+    requires fields { 107 ≤ r.now.net.vars }
+    requires atoms { r.now.net.vars ≤ 107 + 64 }
+    requires bits { length out.old.bits ≡ r.now.net.vars }
+    ensures { out.new.bits ≡ spec.valuation r.now.variant (r.now.net.vars - 107) seed i }
+{
+    draw_valuation(r.variant, seed.wrapping_add(i), out.bits.items_mut());
 }

@@ -1,0 +1,45 @@
+use Rattle.std.proofs.Common.{◌≡◌, ◌+◌, ◌-◌, ◌<◌, ◌%◌, ◌^◌, ◌∙◌, ℕ, ap, arith, refl}
+use Rattle.nets.specs.Nets.{truth}
+use Rattle.rule_gates.specs.declared.rules.Rule.{Rule}
+use Rattle.rule_gates.specs.declared.rules.Rules.{Rules}
+use Rattle.lane_eval.specs.Search.{holds_drawn}
+use Rattle.lane_eval.proofs.Earliest.{at_index, block_some, block_past}
+use Rattle.lane_eval.proofs.Seeds.{shifted_seed}
+use Rattle.lane_eval.proofs.search.search_blocks.Goals as goal
+
+-- the rules at a block's valuations
+same : (r : Rules) (seed at i : ℕ) (x : Rule) → holds_drawn r ((seed + at) % 2 ^ 64) i x ≡ holds_drawn r seed (at + i) x
+same r seed at i x = ap (truth r.net x.gate) (shifted_seed r.variant (r.net.vars - 107) seed at i (at + i) refl)
+
+pub returns-then-found-left : goal.returns-then-found-left
+returns-then-found-left c =
+    let r : Rules = c.args.r.now in
+    let at : ℕ = c.loop-at.at in
+    block_some (holds_drawn r c.args.seed) (holds_drawn r ((c.args.seed + at) % 2 ^ 64)) r.list at (same r c.args.seed at) c.loop-at.invariant.earlier
+    512 c.args.count c.in-Some.found c.in-Some.ensures.found (omega arith)
+
+pub returns-in-Some : goal.returns-in-Some
+returns-in-Some c =
+    let r : Rules = c.args.r.now in
+    let at : ℕ = c.loop-at.at in
+    block_past (holds_drawn r c.args.seed) (holds_drawn r ((c.args.seed + at) % 2 ^ 64)) r.list at (same r c.args.seed at) c.loop-at.invariant.earlier
+    512 c.args.count c.in-Some.found c.in-Some.ensures.found (omega arith)
+
+pub returns-then-left-le512 : goal.returns-then-left-le512
+returns-then-left-le512 c i h =
+    let r : Rules = c.args.r.now in
+    let at : ℕ = c.loop-at.at in
+    at_index (holds_drawn r c.args.seed) (holds_drawn r ((c.args.seed + at) % 2 ^ 64)) r.list at (same r c.args.seed at) c.loop-at.invariant.earlier
+    i 512 c.in-None.ensures.found (omega arith)
+
+pub loop-at-preserved : goal.loop-at-preserved
+loop-at-preserved c =
+    let r : Rules = c.args.r.now in
+    let at : ℕ = c.loop-at.at in
+    record {
+      within = omega arith;
+      made = c.search_block.ensures.made;
+      earlier = λ i h.
+          at_index (holds_drawn r c.args.seed) (holds_drawn r ((c.args.seed + at) % 2 ^ 64)) r.list at (same r c.args.seed at) c.loop-at.invariant.earlier
+          i 512 c.in-None.ensures.found h;
+    }

@@ -1,0 +1,291 @@
+//! Spans of numbers: at most places of a valuation, those that may stand there are the numbers from one on to another.
+ghost use Rattle.std.specs.Prelude.{◌≡◌, ◌<◌, ◌≤◌, ◌^◌, ◌&&◌, ◌||◌, ◌==◌, not, nat_le, nat_lt, ℕ, Bool, true, false, length, IfSome};
+ghost use Rattle.std.specs.List.{filter, range_with_len};
+ghost use Rattle.field_bits.specs.Fits as fit;
+ghost use Rattle.field_bits.specs.Spelling as spelling;
+ghost use Rattle.pipe_fields.specs.Layout.{fields_by};
+ghost use Rattle.prog_gen.specs.Choices as spec;
+ghost use Rattle.prog_gen.specs.Spans.{IsSpanOf};
+ghost use Rattle.y86_isa.specs.RowTests as tests;
+ghost use Rattle.y86_isa.specs.Table.{rows};
+ghost use Rattle.y86_isa.specs.Table as table;
+
+use crate::choices::{at, is_live};
+use field_bits::{accesses, is_branch};
+use y86_base::Variant;
+use y86_isa::{Field, Row, icode_count, row};
+
+/// The numbers from a first one on, below an end.
+#[derive(Clone, Copy, Debug)]
+pub(crate) struct Span {
+    first: u64,
+    end: u64,
+}
+
+impl Span {
+    /// The number of so many bits at a position modulo how many such numbers the span has; 0 where it has none.
+    pub(crate) fn chosen(self, bits: u32, position: u64) -> u64
+        requires { bits ≤ 4 }
+        ensures { (may : ℕ → Bool) → IsSpanOf self may → result ≡ spec.chosen (filter may (range_with_len 0 (2 ^ bits))) position }
+    {
+        let end = self.end.min(1 << bits);
+        if self.first < end {
+            self.first + position % (end - self.first)
+        } else {
+            0
+        }
+    }
+}
+
+/// All numbers that a field has.
+fn any() -> Span
+    ensures { IsSpanOf result (λ n. true) }
+{
+    Span { first: 0, end: 16 }
+}
+
+/// One number.
+fn just(x: u64) -> Span
+    requires { x < 16 }
+    ensures { IsSpanOf result (λ n. n == x) }
+{
+    Span {
+        first: x,
+        end: x + 1,
+    }
+}
+
+/// The numbers below an end.
+fn below(end: u64) -> Span
+    ensures { IsSpanOf result (λ n. nat_lt n end) }
+{
+    Span { first: 0, end }
+}
+
+/// The numbers up to one.
+fn upto(last: u64) -> Span
+    ensures { IsSpanOf result (λ n. nat_le n last) }
+{
+    if last < 15 { below(last + 1) } else { any() }
+}
+
+/// Numbers other than 0.
+fn set() -> Span
+    ensures { IsSpanOf result spelling.set }
+{
+    Span { first: 1, end: 16 }
+}
+
+fn register(field: Field) -> Span
+    ensures { IsSpanOf result (fit.register_fits field) }
+{
+    match field {
+        Field::Dash => just(15),
+        Field::FieldA => below(15),
+        Field::FieldB => below(15),
+        Field::Stack => just(4),
+    }
+}
+
+fn half(has_byte: bool, used: bool) -> Span
+    ensures { IsSpanOf result (fit.half_fits has_byte used) }
+{
+    if !has_byte {
+        just(15)
+    } else if used {
+        below(15)
+    } else {
+        any()
+    }
+}
+
+fn only_where(may: bool) -> Span
+    ensures { IsSpanOf result (fit.only_where may) }
+{
+    if may { any() } else { just(0) }
+}
+
+fn cnd(ifun: u64) -> Span
+    ensures { IsSpanOf result (fit.cnd_fits ifun) }
+{
+    if ifun == 0 {
+        set()
+    } else if ifun < 7 {
+        any()
+    } else {
+        just(0)
+    }
+}
+
+fn cnd_where(may: bool, ifun: u64) -> Span
+    ensures { IsSpanOf result (fit.cnd_where may ifun) }
+{
+    if may { cnd(ifun) } else { just(0) }
+}
+
+fn stat(kind: u64) -> Span
+    ensures { IsSpanOf result (spec.stat_may kind) }
+{
+    if kind == 0 {
+        just(0)
+    } else {
+        Span { first: 1, end: 5 }
+    }
+}
+
+/// The icodes of a status, where an error at memory leaves none.
+fn icode_of(count: u64, stat: u64) -> Span
+    ensures { IsSpanOf result (fit.stat_fits count false stat) }
+{
+    if stat == 1 {
+        Span {
+            first: 1,
+            end: count,
+        }
+    } else if stat == 2 {
+        just(0)
+    } else if stat == 3 {
+        just(1)
+    } else if stat == 4 {
+        just(15)
+    } else {
+        Span { first: 0, end: 0 }
+    }
+}
+
+fn icode(count: u64, kind: u64, stat: u64) -> Span
+    ensures { IsSpanOf result (spec.icode_may count kind false stat) }
+{
+    if kind == 0 {
+        just(1)
+    } else {
+        icode_of(count, stat)
+    }
+}
+
+fn ifun(r: &Row, kind: u64, stat: u64) -> Span
+    ensures { IsSpanOf result (spec.ifun_may r.now kind stat) }
+{
+    if kind == 0 || stat == 3 {
+        just(0)
+    } else {
+        upto(r.ifun_top)
+    }
+}
+
+/// In the line F.
+fn fetch(v: Variant, before: &[u64], i: u64) -> Option<Span>
+    ensures { IfSome result (λ s. IsSpanOf s (spec.fetch_may (length (rows v)) (table.row v (fields_by before.now).f.icode) (fields_by before.now).f i)) }
+{
+    let ifun = at(before, 6);
+    let r = row(v, at(before, 5));
+    match i {
+        0 => Some(any()),
+        1 => None,
+        2 => None,
+        3 => Some(cnd_where(is_branch(r.next), ifun)),
+        4 => Some(only_where(accesses(r.memory))),
+        _ => Some(only_where(is_branch(r.next))),
+    }
+}
+
+/// In the line D.
+fn decode(v: Variant, before: &[u64], i: u64) -> Option<Span>
+    ensures { IfSome result (λ s. IsSpanOf s (spec.decode_may (length (rows v)) (table.row v (fields_by before.now).d.icode) (fields_by before.now).d i)) }
+{
+    let kind = at(before, 0);
+    let status = at(before, 10);
+    let function = at(before, 12);
+    let r = row(v, at(before, 11));
+    let live = is_live(kind, status);
+    match i {
+        0 => Some(stat(kind)),
+        1 => Some(icode(icode_count(v), kind, status)),
+        2 => Some(ifun(&r, kind, status)),
+        3 => Some(half(r.has_byte, r.uses_a)),
+        4 => Some(half(r.has_byte, r.uses_b)),
+        5 => Some(cnd_where(live && is_branch(r.next), function)),
+        6 => Some(only_where(live && accesses(r.memory))),
+        _ => Some(only_where(live && is_branch(r.next))),
+    }
+}
+
+/// In the line E.
+fn execute(v: Variant, before: &[u64], i: u64) -> Option<Span>
+    ensures { IfSome result (λ s. IsSpanOf s (spec.execute_may (length (rows v)) (table.row v (fields_by before.now).e.icode) (fields_by before.now).e i)) }
+{
+    let kind = at(before, 1);
+    let status = at(before, 18);
+    let function = at(before, 20);
+    let r = row(v, at(before, 19));
+    let live = is_live(kind, status);
+    match i {
+        0 => Some(stat(kind)),
+        1 => Some(icode(icode_count(v), kind, status)),
+        2 => Some(ifun(&r, kind, status)),
+        3 => Some(register(r.dst_e)),
+        4 => Some(register(r.dst_m)),
+        5 => Some(register(r.src_a)),
+        6 => None,
+        7 => Some(cnd(function)),
+        8 => Some(only_where(live && accesses(r.memory))),
+        _ => Some(only_where(live && is_branch(r.next))),
+    }
+}
+
+/// In the line M.
+fn memory(v: Variant, before: &[u64], i: u64) -> Option<Span>
+    ensures { IfSome result (λ s. IsSpanOf s (spec.memory_may (length (rows v)) (table.row v (fields_by before.now).m.icode) (fields_by before.now).m i)) }
+{
+    let kind = at(before, 2);
+    let status = at(before, 28);
+    let r = row(v, at(before, 29));
+    let live = is_live(kind, status);
+    match i {
+        0 => Some(stat(kind)),
+        1 => Some(icode(icode_count(v), kind, status)),
+        2 => Some(ifun(&r, kind, status)),
+        3 => None,
+        4 => Some(register(r.dst_m)),
+        5 => None,
+        6 => Some(only_where(live && accesses(r.memory))),
+        _ => Some(only_where(live && is_branch(r.next))),
+    }
+}
+
+/// In the line W.
+fn write(v: Variant, before: &[u64], i: u64) -> Option<Span>
+    ensures { IfSome result (λ s. IsSpanOf s (λ n. spec.write_may (length (rows v)) (table.row v (fields_by before.now).w.icode) (tests.accesses (table.row v n).memory) (fields_by before.now).w i n)) }
+{
+    let r = row(v, at(before, 37));
+    match i {
+        0 => Some(stat(at(before, 3))),
+        1 => None,
+        2 => None,
+        _ => Some(register(r.dst_m)),
+    }
+}
+
+/// The numbers that may stand at the place behind others, where they are a span; `None` where they may be none.
+#[tactic(auto, unfolding(crate::specs::Choices::may_stand))]
+pub(crate) fn span_behind(v: Variant, before: &[u64]) -> Option<Span>
+    requires { length before.now < 40 }
+    ensures { IfSome result (λ s. IsSpanOf s (spec.may_stand v (length before.now) (fields_by before.now))) }
+{
+    let j = before.len() as u64;
+    if j < 2 {
+        Some(below(3))
+    } else if j < 4 {
+        Some(below(2))
+    } else if j < 10 {
+        fetch(v, before, j - 4)
+    } else if j < 18 {
+        decode(v, before, j - 10)
+    } else if j < 28 {
+        execute(v, before, j - 18)
+    } else if j < 36 {
+        memory(v, before, j - 28)
+    } else {
+        write(v, before, j - 36)
+    }
+}
