@@ -23,11 +23,11 @@ use Rattle.hazard_rules.specs.Parts.{AreClosed, AreLate, AreRules, IsFormula}
 use Rattle.pipe_obligations.specs.Rules.{obligation}
 use Rattle.pipe_obligations.specs.Settled.{Decides, Everywhere, IsFalseAt, IsLeastFalse, Somewhere, Truth, carries, predicts_taken, shows_je, shows_lf, shows_rm}
 use Rattle.rule_gates.specs.declared.rules.Rule.{Rule}
-use Rattle.control_check.specs.Decisions.{AreGatesOf, IsAlwaysTrue, IsDecision, IsFirstFalse}
-use Rattle.control_check.specs.declared.decision.Failure.{Failure}
+use Rattle.verdicts.specs.Decisions.{AreGatesOf, IsAlwaysTrue, IsDecision, IsFirstFalse}
+use Rattle.verdicts.specs.declared.decision.Failure.{Failure}
 use Rattle.control_check.specs.PipeVerdicts.{AcceptsPipe, AreDecided, AreSettings, HasGates, IsDecided, RejectsPipe}
 use Rattle.control_check.proofs.OneSettings.{never_accepted, one_list}
-use Rattle.control_check.proofs.AtomBits.{AreApart, apart_added, bits_are, length-truth_bits, told_are, told_by, truth_bits}
+use Rattle.verdicts.proofs.AtomBits.{AreApart, apart_added, bits_are, length-truth_bits, told_are, told_by, truth_bits}
 
 module _ (v : Variant) (terms : List Term) (atoms : List Atom) (apart : AreApart atoms) (exists : (field : ℕ → ℕ) (α : Assignment) → HasControls pipe_rows terms field α)
     (net : Gates) (vars : net.vars ≡ bit_count + length atoms) where

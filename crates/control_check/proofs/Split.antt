@@ -14,7 +14,7 @@ use Rattle.net_substitution.specs.declared.copies.Source.{Source}
 use Rattle.net_substitution.specs.declared.copies.Source.TheVariants.{Const}
 use Rattle.net_substitution.specs.declared.copies.Substituted.{Substituted}
 use Rattle.rule_gates.specs.declared.rules.Rule.{Rule}
-use Rattle.control_check.specs.Decisions.{AreGatesOf, IsAlwaysTrue, IsFirstFalse, IsLeastOf}
+use Rattle.verdicts.specs.Decisions.{AreGatesOf, IsAlwaysTrue, IsFirstFalse, IsLeastOf}
 use Rattle.control_check.specs.Splitting.{AreCopied, AreSourcesIn, AreTrueBefore, AreTrueIn, FailsFirstIn, IsFalseWhere, IsFirstIn, IsLeastIn, IsSearched, IsTrueWhere, source_in}
 
 -- ---- the first four bits

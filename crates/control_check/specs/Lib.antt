@@ -1,4 +1,3 @@
-pub mod Decisions
 pub mod SeqVerdicts
 pub mod Splitting
 pub mod PipeVerdicts

@@ -1,20 +1,19 @@
 -- Verdicts on HCL files for PIPE, and truths that hold of every valuation.
-use Rattle.std.specs.Prelude.{◌≡◌, ◌≢◌, ℕ, ◌<◌, Bool, true, false, List, length, get_or}
+use Rattle.std.specs.Prelude.{◌≡◌, ℕ, ◌<◌, Bool, true, false, List, length, get_or}
 use Rattle.y86_base.specs.declared.parts.Variant.{Variant}
 use Rattle.y86_isa.specs.Run.{IsImage, Pure}
 use Rattle.nets.specs.Nets.{Gates, truth}
 use Rattle.hcl_types.specs.declared.term.Term.{Term}
 use Rattle.dp_signals.specs.PipeTable.{pipe_rows}
-use Rattle.ctl_atoms.specs.Atoms.{AreAtoms, IsCtlFault}
-use Rattle.ctl_atoms.specs.declared.fault.CtlFault.TheVariants as ctl
+use Rattle.ctl_atoms.specs.Atoms.{AreAtoms}
 use Rattle.ctl_atoms.specs.declared.leaf.Atom.{Atom}
 use Rattle.pipe_motion.specs.declared.settings.Settings.{Settings}
 use Rattle.pipe_refinement.specs.Refines.{Refines}
 use Rattle.pipe_theorem.specs.Theorem.{PipeControls}
 use Rattle.pipe_obligations.specs.Settled.{Holds, IsLeastFalse, IsSet}
-use Rattle.control_check.specs.Decisions.{IsAlwaysTrue}
-use Rattle.control_check.specs.declared.verdict.CheckFault.{CheckFault}
-use Rattle.control_check.specs.declared.verdict.CheckFault.TheVariants as fault
+use Rattle.verdicts.specs.Decisions.{IsAlwaysTrue}
+use Rattle.verdicts.specs.Questions.{IsFault}
+use Rattle.verdicts.specs.declared.fault.CheckFault.{CheckFault}
 use Rattle.control_check.specs.declared.verdict.Verdict.{Verdict}
 use Rattle.control_check.specs.declared.verdict.Verdict.TheVariants.{Yes, No}
 
@@ -55,8 +54,7 @@ IsPipeVerdict v terms (Yes s) = AcceptsPipe v terms s
 IsPipeVerdict v terms (No rule valuation) = RejectsPipe v terms rule valuation.bits
 
 abbrev pub IsPipeFault : List Term → CheckFault → Type 0
-IsPipeFault terms (fault.Ctl f) = IsCtlFault pipe_rows terms f × (f ≢ ctl.Memory)
-IsPipeFault terms fault.Memory = Unit {0}
+IsPipeFault terms f = IsFault pipe_rows terms f
 
 -- after any number of cycles on any image whose instructions fetch no byte that an earlier one stored, the pipeline is where the
 -- instructions are

@@ -6,7 +6,7 @@ use Rattle.net_substitution.specs.declared.copies.Source.{Source}
 use Rattle.net_substitution.specs.declared.copies.Source.TheVariants.{Const, Var}
 use Rattle.net_substitution.specs.declared.copies.Substituted.{Substituted}
 use Rattle.rule_gates.specs.declared.rules.Rule.{Rule}
-use Rattle.control_check.specs.Decisions.{IsAlwaysTrue, IsLeastOf}
+use Rattle.verdicts.specs.Decisions.{IsAlwaysTrue, IsLeastOf}
 
 -- a gate is true of each valuation whose first four bits spell p
 abbrev pub IsTrueWhere : Gates → ℕ → ℕ → Type 0

@@ -6,11 +6,12 @@ ghost use Rattle.control_check.specs.Accepted.{IsAccepted, IsRejected};
 ghost use Rattle.control_check.specs.PipeVerdicts.{IsPipeFault};
 
 use crate::pipe_verdict::check_pipe;
-use crate::verdict::{CheckFault, Verdict};
+use crate::verdict::Verdict;
 use hcl_types::{Design, Order};
 use pipe_motion::Settings;
 use std::alloc::Global;
 use std::marker::Model;
+use verdicts::CheckFault;
 use y86_base::Variant;
 
 /// A design for PIPE that is accepted, with its instruction set and its settings. Only `accept_pipe` makes one.

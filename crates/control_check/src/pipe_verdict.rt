@@ -1,19 +1,15 @@
-ghost use Rattle.std.specs.Prelude.{◌≡◌, ◌<◌, List, IfErr, IfOk, length, not, true};
+ghost use Rattle.std.specs.Prelude.{◌≡◌, ◌<◌, IfErr, IfOk, length, not, true};
 ghost use Rattle.bdd_core.specs.Building.{AreFirst};
-ghost use Rattle.ctl_atoms.specs.Atoms.{IsCtlFault};
 ghost use Rattle.dp_signals.specs.PipeTable.{pipe_rows};
 ghost use Rattle.hcl_types.specs.Tables.{IsBound, IsOrderOf};
-ghost use Rattle.hcl_types.specs.declared.term.Term.{Term};
-ghost use Rattle.control_check.specs.Decisions.{AreGatesOf, IsDecision};
+ghost use Rattle.verdicts.specs.Decisions.{AreGatesOf, IsDecision};
 ghost use Rattle.control_check.specs.PipeVerdicts.{AreDecided, AreSettings, HasGates, IsDecided, IsPipeFault, IsPipeVerdict, RefinesPipe};
 ghost use Rattle.control_check.specs.SeqVerdicts.{is_yes};
 ghost use Rattle.hazard_rules.specs.Belonging.{BelongTo};
 
-use crate::decision::{Failure, decide};
 use crate::splitting::decide_in_parts;
-use crate::verdict::{CheckFault, Verdict};
+use crate::verdict::Verdict;
 use bdd_core::{Built, Store};
-use ctl_atoms::CtlFault;
 use hazard_rules::{Late, Parts, pipe_late, pipe_parts, pipe_rules};
 use hcl_types::{Design, Order};
 use nets::Net;
@@ -21,17 +17,8 @@ use pipe_fields::places;
 use pipe_motion::Settings;
 use rule_gates::Rule;
 use std::alloc::Global;
+use verdicts::{CheckFault, Failure, decide, told};
 use y86_base::{Memory, Variant};
-
-/// A fault of the control values as one of the check.
-fn told_pipe(fault: CtlFault) -> CheckFault
-    ensures { (terms : List Term) → IsCtlFault pipe_rows terms fault → IsPipeFault terms result }
-{
-    match fault {
-        CtlFault::Memory => CheckFault::Memory,
-        _ => CheckFault::Ctl(fault),
-    }
-}
 
 /// Whether a gate is true of every valuation.
 #[tactic(auto, using(crate::proofs::Decided::is_always, crate::proofs::Decided::is_not_always))]
@@ -147,7 +134,7 @@ fn settle(
 {
     let mut parts = match pipe_parts(alloc, variant, design, order) {
         Ok(parts) => parts,
-        Err(fault) => return Err(told_pipe(fault)),
+        Err(fault) => return Err(told(fault)),
     };
     let early = match decide_early(alloc, &parts) {
         Ok(early) => early,

@@ -5,15 +5,15 @@ ghost use Rattle.std.specs.Prelude.{◌≡◌, ℕ, ◌+◌, ◌<◌, ◌≤◌,
 ghost use Rattle.field_bits.specs.Spelling.{spell};
 ghost use Rattle.net_substitution.specs.Substitution.{behind, source_truth};
 ghost use Rattle.rule_gates.specs.declared.rules.Rule.{Rule};
-ghost use Rattle.control_check.specs.Decisions.{AreGatesOf, IsDecision};
+ghost use Rattle.verdicts.specs.Decisions.{AreGatesOf, IsDecision};
 ghost use Rattle.control_check.specs.Splitting.{AreCopied, AreSourcesIn, AreTrueIn, IsFirstIn, IsLeastIn, IsSearched, IsTrueWhere};
 
-use crate::decision::{Failure, decide};
 use bdd_core::Store;
 use net_substitution::{Source, Substituted, part, substitute};
 use nets::{Net, Valuation};
 use rule_gates::Rule;
 use std::alloc::Global;
+use verdicts::{Failure, decide};
 use y86_base::{Items, Memory};
 
 /// The parts.

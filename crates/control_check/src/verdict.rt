@@ -1,36 +1,24 @@
-ghost use Rattle.std.specs.Prelude.{◌≡◌, IfErr, IfOk, List, true};
-ghost use Rattle.hcl_types.specs.declared.term.Term.{Term};
-ghost use Rattle.ctl_atoms.specs.Atoms.{IsCtlFault};
+ghost use Rattle.std.specs.Prelude.{◌≡◌, IfErr, IfOk, true};
 ghost use Rattle.hcl_types.specs.Tables.{IsBound, IsOrderOf};
 ghost use Rattle.dp_signals.specs.SeqTable.{seq_rows};
 ghost use Rattle.seq_refinement.specs.Accepted.{RefinesSeq};
 ghost use Rattle.control_check.specs.SeqVerdicts.{IsSeqFault, IsSeqVerdict, is_yes};
 
-use crate::decision::decide;
-use ctl_atoms::CtlFault;
 use hcl_types::{Design, Order};
 use nets::Valuation;
 use pipe_motion::Settings;
 use seq_obligations::seq_rules;
 use std::alloc::Global;
+use verdicts::{CheckFault, decide, told};
 use y86_base::{Memory, Variant};
 
 /// Whether every obligation holds of a design, and if not, the number of the first that doesn't, with the least
 /// valuation of which it is false.
 #[derive(Debug, PartialEq, Drop)]
 pub enum Verdict {
-    /// With the settings under which the obligations were asked; none of them is true for SEQ.
+    /// With the settings under which the obligations were asked; for SEQ each is false.
     Yes(Settings),
     No { rule: u32, valuation: Valuation },
-}
-
-/// Why there is no verdict.
-#[derive(Clone, Copy, Debug, PartialEq, Eq)]
-pub enum CheckFault {
-    /// The design has no control values.
-    Ctl(CtlFault),
-    /// An allocation was refused.
-    Memory,
 }
 
 /// The settings of SEQ, which has none to choose.
@@ -42,16 +30,6 @@ const NO_SETTINGS: Settings = Settings {
     je: false,
     rm: false,
 };
-
-/// A fault of the control values as one of the check.
-fn told(fault: CtlFault) -> CheckFault
-    ensures { (terms : List Term) → IsCtlFault seq_rows terms fault → IsSeqFault terms result }
-{
-    match fault {
-        CtlFault::Memory => CheckFault::Memory,
-        _ => CheckFault::Ctl(fault),
-    }
-}
 
 /// The verdict on an HCL file for SEQ. Where it is yes, the file's machine runs as the instructions do: on every image,
 /// for every number of cycles.

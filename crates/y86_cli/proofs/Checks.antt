@@ -7,8 +7,8 @@ use Rattle.ctl_atoms.specs.declared.fault.CtlFault.TheVariants as fault
 use Rattle.ctl_atoms.specs.declared.leaf.Atom.{Atom}
 use Rattle.ctl_atoms.proofs.Solved.{leaves_exist}
 use Rattle.control_check.specs.PipeVerdicts as pipe
-use Rattle.control_check.specs.SeqVerdicts.{IsLeastFalseSeq, IsSeqVerdict}
-use Rattle.control_check.specs.declared.verdict.Verdict.TheVariants.{No}
+use Rattle.control_check.specs.SeqVerdicts as seq
+use Rattle.control_check.specs.declared.verdict.Verdict.TheVariants.{No, Yes}
 use Rattle.dp_signals.specs.PipeTable.{pipe_rows}
 use Rattle.dp_signals.specs.SeqTable.{seq_rows}
 use Rattle.hcl_types.specs.Tables.{IsOrderOf, row_names}
@@ -16,7 +16,7 @@ use Rattle.hcl_types.specs.declared.table.Row.{Row}
 use Rattle.hcl_types.specs.declared.term.Term.{Term}
 use Rattle.nets.specs.declared.evaluation.Valuation.{Valuation}
 use Rattle.pipe_motion.specs.declared.settings.Settings.{Settings}
-use Rattle.seq_refinement.specs.Accepted.{AcceptedSeq, RefinesSeq}
+use Rattle.seq_refinement.specs.Accepted.{RefinesSeq}
 use Rattle.verdict_text.specs.PipeLines.{pipe_no, pipe_yes}
 use Rattle.verdict_text.specs.SeqLine.{seq_no}
 use Rattle.y86_base.specs.declared.parts.Variant.{Variant}
@@ -44,32 +44,30 @@ pub over : (name why : Bor (List ℕ)) (names : Vec ℕ Global) (rows : List Row
 over name why names rows terms many reason told = inr (record { over = many; told = rw (reason, told) refl })
 
 -- the verdicts
-accepted : (name : List ℕ) (v : Variant) (terms : List Term) (a : Answered) → AcceptedSeq v terms → RefinesSeq v terms → a ≡ done 0 (codes "yes\n") → SeqChecks name v terms a
+accepted : (name : List ℕ) (v : Variant) (terms : List Term) (a : Answered) → seq.AcceptsSeq v terms → RefinesSeq v terms → a ≡ done 0 (codes "yes\n") → SeqChecks name v terms a
 accepted name v terms a holds refines told = inl (record { accepted = holds; refines = refines; told = told })
 
 denied : (name : List ℕ) (v : Variant) (terms : List Term) (ids : List ℕ) (rule : ℕ) (valuation : Valuation) (text : List ℕ) (a : Answered) → IsOrderOf seq_rows terms ids →
-    IsSeqVerdict v terms (No rule valuation) →
+    seq.IsSeqVerdict v terms (No rule valuation) →
     (list : List Atom) × AreAtoms seq_rows terms list × (text ≡ seq_no (row_names seq_rows) rule valuation.bits list) → a ≡ done 1 text → SeqChecks name v terms a
 denied name v terms ids rule valuation text a order verdict said told =
-    let same : verdict.1 ≡ said.0 = atoms_one seq_rows terms ids verdict.1 said.0 order verdict.2 said.1 in
+    let same : said.0 ≡ verdict.atoms = atoms_one seq_rows terms ids said.0 verdict.atoms order said.1 verdict.are in
     inr (inl (record {
-      atoms = said.0;
-      are = said.1;
       rule = rule;
       valuation = valuation.bits;
-      least = subst (λ (atoms : List Atom). IsLeastFalseSeq v terms atoms rule valuation.bits) same verdict.3;
-      told = told ∙ ap (done 1) said.2;
+      rejected = verdict;
+      told = told ∙ ap (done 1) (said.2 ∙ ap (λ (list : List Atom). seq_no (row_names seq_rows) rule valuation.bits list) same);
     }))
 
 -- and as what was said
-pub said_yes : (name : List ℕ) (v : Variant) (terms : List Term) (text : List ℕ) (old new : SinkSeen) (result : Result ℕ code.Stop) → AcceptedSeq v terms → RefinesSeq v terms →
+pub said_yes : (name : List ℕ) (v : Variant) (terms : List Term) (text : List ℕ) (old new : SinkSeen) (result : Result ℕ code.Stop) → seq.AcceptsSeq v terms → RefinesSeq v terms →
     text ≡ codes "yes\n" →
     Says (λ a. a ≡ done 0 text) old new result → Says (SeqChecks name v terms) old new result
 said_yes name v terms text old new result holds refines same s =
     says_more (λ a. a ≡ done 0 text) (SeqChecks name v terms) old new result (λ a told. accepted name v terms a holds refines (told ∙ ap (done 0) same)) s
 
 pub said_no : (name : List ℕ) (v : Variant) (terms : List Term) (ids : List ℕ) (rule : ℕ) (valuation : Valuation) (text : List ℕ) (old new : SinkSeen) (result : Result ℕ code.Stop) →
-    IsOrderOf seq_rows terms ids → IsSeqVerdict v terms (No rule valuation) →
+    IsOrderOf seq_rows terms ids → seq.IsSeqVerdict v terms (No rule valuation) →
     (list : List Atom) × AreAtoms seq_rows terms list × (text ≡ seq_no (row_names seq_rows) rule valuation.bits list) →
     Says (λ a. a ≡ done 1 text) old new result → Says (SeqChecks name v terms) old new result
 said_no name v terms ids rule valuation text old new result order verdict told s =

@@ -1,12 +1,13 @@
 -- What an answer to `check`, or to `psim` behind a check, says of the run of instructions.
 use Rattle.std.specs.Prelude.{◌≡◌, ℕ, Bool, true, List, ◌++◌, length, Option, Ok}
 use Rattle.control_check.specs.PipeVerdicts.{AcceptsPipe, RefinesPipe}
+use Rattle.control_check.specs.SeqVerdicts.{AcceptsSeq}
 use Rattle.dp_signals.specs.PipeRun.{Pipe, has_stopped}
 use Rattle.dp_signals.specs.PipeTable.{pipe_rows}
 use Rattle.dp_signals.specs.SeqTable.{seq_rows}
 use Rattle.hcl_types.specs.declared.term.Term.{Term}
 use Rattle.pipe_motion.specs.declared.settings.Settings.{Settings}
-use Rattle.seq_refinement.specs.Accepted.{AcceptedSeq, RefinesSeq}
+use Rattle.seq_refinement.specs.Accepted.{RefinesSeq}
 use Rattle.retire_trace.specs.Drive.{traced}
 use Rattle.verdict_text.specs.PipeLines.{pipe_yes}
 use Rattle.wb_io.specs.Files.{HasBytes}
@@ -40,7 +41,7 @@ pub record HasAcceptedSeq (v : Variant) (told : Option (Option (List ℕ))) : Ty
   pub has : HasBytes told text
   pub terms : List Term
   pub design : IsDesign seq_rows text terms
-  pub accepted : AcceptedSeq v terms
+  pub accepted : AcceptsSeq v terms
   pub refines : RefinesSeq v terms
 
 -- What is printed of a pipeline that has retired r instructions is of the run of these: the lines of the trace are of its records,

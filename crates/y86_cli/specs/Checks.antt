@@ -1,16 +1,15 @@
 -- The verdicts on designs, as answers.
 use Rattle.std.specs.Prelude.{◌≡◌, ◌⊎◌, ℕ, codes, Bool, List, [], ◌∷◌}
-use Rattle.ctl_atoms.specs.Atoms.{AreAtoms, IsFirstMixed, IsOver64}
-use Rattle.ctl_atoms.specs.declared.leaf.Atom.{Atom}
+use Rattle.ctl_atoms.specs.Atoms.{IsFirstMixed, IsOver64}
 use Rattle.control_check.specs.PipeVerdicts as pipe
-use Rattle.control_check.specs.SeqVerdicts.{IsLeastFalseSeq}
+use Rattle.control_check.specs.SeqVerdicts as seq
 use Rattle.dp_signals.specs.PipeTable.{pipe_rows}
 use Rattle.dp_signals.specs.SeqTable.{seq_rows}
 use Rattle.hcl_types.specs.Tables.{row_names}
 use Rattle.hcl_types.specs.declared.table.Row.{Row}
 use Rattle.hcl_types.specs.declared.term.Term.{Term}
 use Rattle.pipe_motion.specs.declared.settings.Settings.{Settings}
-use Rattle.seq_refinement.specs.Accepted.{AcceptedSeq, RefinesSeq}
+use Rattle.seq_refinement.specs.Accepted.{RefinesSeq}
 use Rattle.verdict_text.specs.PipeLines.{pipe_no, pipe_yes}
 use Rattle.verdict_text.specs.SeqLine.{seq_no}
 use Rattle.y86_base.specs.declared.parts.Variant.{Variant}
@@ -35,18 +34,16 @@ RefusesControl name rows terms a = RefusesMixed name rows terms a ⊎ RefusesAto
 
 -- Yes: every obligation holds of the design, so its machine is that of the run of instructions
 pub record AcceptsSeq (v : Variant) (terms : List Term) (a : Answered) : Type 0 where
-  pub accepted : AcceptedSeq v terms
+  pub accepted : seq.AcceptsSeq v terms
   pub refines : RefinesSeq v terms
   pub told : a ≡ done 0 (codes "yes\n")
 
 -- No: the first obligation that is false of some valuation, and the least such valuation
 pub record DeniesSeq (v : Variant) (terms : List Term) (a : Answered) : Type 0 where
-  pub atoms : List Atom
-  pub are : AreAtoms seq_rows terms atoms
   pub rule : ℕ
   pub valuation : List Bool
-  pub least : IsLeastFalseSeq v terms atoms rule valuation
-  pub told : a ≡ done 1 (seq_no (row_names seq_rows) rule valuation atoms)
+  pub rejected : seq.RejectsSeq v terms rule valuation
+  pub told : a ≡ done 1 (seq_no (row_names seq_rows) rule valuation rejected.atoms)
 
 -- the answers to the check of a design for SEQ
 abbrev pub SeqChecks : List ℕ → Variant → List Term → Answered → Type 0

@@ -2,7 +2,7 @@ use Rattle.std.proofs.Common.{List, None, Some, sym, subst}
 use Rattle.rule_gates.specs.declared.rules.Rule.{Rule}
 use Rattle.pipe_theorem.proofs.Top.{accepted_refines}
 use Rattle.hazard_rules.specs.Parts.{AreRules}
-use Rattle.control_check.specs.Decisions.{AreGatesOf, IsDecision}
+use Rattle.verdicts.specs.Decisions.{AreGatesOf, IsDecision}
 use Rattle.control_check.proofs.PipeVerdict.{accepts, rejects, rules_gates}
 use Rattle.control_check.proofs.pipe_verdict.check_pipe.Goals as goal
 

@@ -1,10 +1,11 @@
 use Rattle.std.proofs.Common.{[], false, refl, subst}
+use Rattle.dp_signals.specs.PipeTable.{pipe_rows}
 use Rattle.hazard_rules.specs.Parts.{AreClosed, AreLate}
 use Rattle.control_check.proofs.PipeVerdict.{settings_are}
 use Rattle.control_check.proofs.pipe_verdict.settle.Goals as goal
 
 pub returns-in-Err-clause-fault : goal.returns-in-Err-clause-fault
-returns-in-Err-clause-fault c = c.told_pipe.ensures c.args.design.now.terms c.in-Err.ensures.fault
+returns-in-Err-clause-fault c = c.told.ensures pipe_rows c.args.design.now.terms c.in-Err.ensures.fault
 
 pub decide_early-requires-clause-target : goal.decide_early-requires-clause-target
 decide_early-requires-clause-target c = (c.in-Ok.ensures.belong.settings.target (record { pt = []; pb = []; tv = false; lf = false; je = false; rm = false })).within
