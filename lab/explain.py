@@ -88,7 +88,7 @@ def box(view, stage):
     if stage in "FS" and f["error"]:
         return ["the fetch fails"]
     icode, ifun = f["icode"], f.get("ifun", 0)
-    lines = [t.mnemonic(icode, ifun) if stage not in "WP" else t.ICODES[icode] if icode < 13 else "invalid"]
+    lines = [t.mnemonic(icode, ifun) if stage not in "WP" else "jump" if icode == t.JXX else t.ICODES[icode] if icode < 13 else "invalid"]
     if f.get("stat", 1) == 3 and stage in "DE":
         lines = ["a failed fetch"]
     names = {"rA": "rA", "rB": "rB", "srcA": "reads A", "srcB": "reads B", "dstE": "result to", "dstM": "loads"}
@@ -97,6 +97,8 @@ def box(view, stage):
         lines.append(f"status {t.STATUSES[f['stat']]}")
     if icode in (t.RRMOVQ, t.JXX) and ifun and "cnd" in f:
         lines.append("condition holds" if f["cnd"] else "condition fails")
+    if icode == t.JXX and stage == "P":
+        lines.append("was taken" if f["cnd"] else "wasn't taken")
     if icode == t.JXX and stage in "FD":
         lines.append("will be taken" if f["taken"] else "won't be taken")
     if icode == t.JXX and f.get("back"):
@@ -164,7 +166,7 @@ def told_no(path, design, lines, full):
     rule = lines[0].split()[1]
     view = rules.View(design, lines[1:])
     print(f"{path}: no, {rule} doesn't hold\n")
-    asks, why = pages.obligation(rule)
+    asks, why = pages.obligation(rule, view.path)
     paragraph(f"{rule} asks: {asks}")
     print()
     paragraph(f"Why: {why}")
@@ -172,7 +174,7 @@ def told_no(path, design, lines, full):
     if view.path == "pipe":
         picture(view, "FDEMW")
     elif view.path == "seqplus":
-        picture(view, "PS"[::-1])
+        picture(view, "SP")
     else:
         picture(view, "S")
     if view.atoms:

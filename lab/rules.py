@@ -22,7 +22,7 @@ class View:
                 name, _, number = it.partition("=")
                 self.fields[head, name] = int(number)
         self.path = "pipe" if "F" in self.kinds else "seqplus" if "P" in self.kinds else "seq"
-        self.now = hcl.Situation(design, t.CONSTANTS, self.given(), t.WORDS["pipe" if self.path == "pipe" else "seq"], self.atoms)
+        self.now = hcl.Situation(design, t.CONSTANTS, self.given(), t.WORDS[self.path], self.atoms)
         self.settings = Settings(design, self) if self.path == "pipe" else None
 
     def __getitem__(self, place):

@@ -24,7 +24,8 @@ CONSTANTS = {
 # The words that a datapath gives: a situation knows them by their names alone.
 WORDS = {
     "pipe": set("F_predPC f_valC f_valP D_valC D_valP d_rvalA d_rvalB E_valC E_valA E_valB e_valE M_valE M_valA m_valM W_valE W_valM".split()),
-    "seq": set("valC valP valA valB valE valM".split()) | {"pc", "pValC", "pValM", "pValP"},
+    "seq": set("pc valC valP valA valB valE valM".split()),
+    "seqplus": set("pValM pValC pValP valC valP valA valB valE valM".split()),
 }
 DEFINED = {
     "pipe": "f_pc f_icode f_ifun instr_valid f_stat need_regids need_valC f_predPC d_srcA d_srcB d_dstE d_dstM d_valA d_valB aluA aluB alufun set_cc e_valA"
