@@ -1,0 +1,64 @@
+-- Terms that stand for diagrams, whose variables have another order.
+use Rattle.std.specs.Prelude.{ℕ, ◌≡◌, ◌+◌, ◌^◌, ◌<◌, ◌≤◌, Bool, false, List, length, map, take, get_or}
+use Rattle.nets.specs.Nets.{Gates, truth}
+use Rattle.bdd_core.specs.Diagrams.{Diagrams}
+use Rattle.bdd_core.specs.Meaning.{IsDia, truth_of}
+use Rattle.bdd_core.specs.declared.store.Dia.{Dia}
+use Rattle.certificates.specs.Meaning.{value}
+use Rattle.certificates.specs.declared.known.Made.{Made}
+use Rattle.cert_writer.specs.Terms.{AreOrdered}
+
+-- variable order[x] of the net is variable x of the diagrams: its rank
+pub record IsOrder (order ranks : List ℕ) : Type 0 where
+  pub size : length ranks ≡ length order
+  pub there : (x : ℕ) → x < length order → get_or order x 0 < length order
+  pub back : (x : ℕ) → x < length order → get_or ranks (get_or order x 0) 0 ≡ x
+  pub below : (v : ℕ) → v < length order → get_or ranks v 0 < length order
+  pub forth : (v : ℕ) → v < length order → get_or order (get_or ranks v 0) 0 ≡ v
+
+-- each variable has its own number as its place
+pub record ArePlain (order : List ℕ) : Type 0 where
+  pub each : (x : ℕ) → x < length order → get_or order x 0 ≡ x
+
+-- the bits of the diagrams' variables under a pattern of bits of the net's
+abbrev pub places_of : List ℕ → List Bool → List Bool
+places_of order w = map (λ v. get_or w v false) order
+
+-- a term has the truth of a diagram
+pub record IsTermOf (s : Diagrams) (order : List ℕ) (terms : List Made) (d : Dia) (t : ℕ) : Type 0 where
+  pub within : t < length terms + 2
+  pub is : (w : List Bool) → length w ≡ length order → value terms t w ≡ truth_of s d (places_of order w)
+
+-- the terms so far, and by their numbers the diagrams that have one
+pub record Written : Type 0 where
+  pub store : Diagrams
+  pub order : List ℕ
+  pub ranks : List ℕ
+  pub terms : List Made
+  pub found : List ℕ
+
+pub record IsWritten (w : Written) : Type 0 where
+  pub vars : w.store.vars ≡ length w.order
+  pub small : length w.order < 2 ^ 32
+  pub order : IsOrder w.order w.ranks
+  pub ordered : AreOrdered w.ranks w.terms
+  pub few : length w.terms ≤ 4000000000
+  pub found : (d : Dia) → IsDia w.store d → 2 ≤ get_or w.found d.id 0 → IsTermOf w.store w.order w.terms d (get_or w.found d.id 0)
+
+-- there may be more terms, and the earlier ones stay
+pub record GoesOn (old new : Written) : Type 0 where
+  pub store : new.store ≡ old.store
+  pub order : new.order ≡ old.order
+  pub ranks : new.ranks ≡ old.ranks
+  pub more : length old.terms ≤ length new.terms
+  pub terms : take (length old.terms) new.terms ≡ old.terms
+
+abbrev pub no_dia : Dia
+no_dia = record { id = 0 }
+
+-- for each gate of a net its diagram, over the variables in their order
+pub record IsDrawn (n : Gates) (order : List ℕ) (s : Diagrams) (dias : List Dia) : Type 0 where
+  pub vars : s.vars ≡ length order
+  pub size : length dias ≡ length n.gates
+  pub within : (i : ℕ) → i < length n.gates → IsDia s (get_or dias i no_dia)
+  pub is : (i : ℕ) → i < length n.gates → (w : List Bool) → length w ≡ length order → truth_of s (get_or dias i no_dia) (places_of order w) ≡ truth n i w

@@ -1,0 +1,157 @@
+//! An order of a net's variables in which its diagrams are small.
+ghost use Rattle.std.specs.Prelude.{◌≡◌, ℕ, ◌<◌, ◌^◌, true, length, get_or, IfOk, IfSome};
+ghost use Rattle.cert_writer.specs.Nodes.{ArePlain, IsOrder};
+
+use field_bits::Place;
+use pipe_fields::{BIT_COUNT, places};
+use std::alloc::Global;
+use y86_base::Memory;
+
+/// An order of variables, and the rank of each in it.
+#[derive(Drop)]
+pub struct Orders {
+    pub order: Vec<u32>,
+    pub ranks: Vec<u32>,
+}
+
+/// Whether two lists undo each other.
+#[tactic(auto, using(crate::proofs::Orders::inverse_none, crate::proofs::Orders::inverse_more, crate::proofs::Orders::inverse_all))]
+fn are_inverse(order: &[u32], ranks: &[u32]) -> bool
+    requires size { length ranks.now ≡ length order.now }
+    ensures { result ≡ true → IsOrder order.now ranks.now }
+{
+    for i in 0..order.len() {
+        let v = order[i] as usize;
+        let x = ranks[i] as usize;
+        if v >= order.len() || x >= order.len() {
+            return false;
+        }
+        if ranks[v] as usize != i || order[x] as usize != i {
+            return false;
+        }
+    }
+    true
+}
+
+/// The variables in the order of their numbers. This order undoes itself.
+#[tactic(auto, using(crate::proofs::Orders::plain_none, crate::proofs::Orders::plain_more))]
+fn plain(alloc: Global, vars: u32) -> Result<Vec<u32>, Memory>
+    ensures size { IfOk result (λ o. length o.items ≡ vars) }
+    ensures order { IfOk result (λ o. ArePlain o.items) }
+{
+    let mut out: Vec<u32> = Vec::new(alloc);
+    for i in 0..vars {
+        if out.push(i).is_err() {
+            return Err(Memory);
+        }
+    }
+    Ok(out)
+}
+
+/// The ranks of an order, if it has each variable once.
+fn ranks_of(alloc: Global, order: &[u32]) -> Result<Option<Vec<u32>>, Memory>
+    requires few { length order.now < 2 ^ 32 }
+    ensures { IfOk result (λ o. IfSome o (λ r. IsOrder order.now r.items)) }
+{
+    let n = order.len();
+    let mut ranks = match vec![in alloc; 0u32; n] {
+        Ok(ranks) => ranks,
+        Err(_) => return Err(Memory),
+    };
+    for x in 0..n {
+        let v = order[x] as usize;
+        if v < n {
+            ranks[v] = x as u32;
+        }
+    }
+    if are_inverse(order, ranks.as_slice()) {
+        return Ok(Some(ranks));
+    }
+    Ok(None)
+}
+
+/// The fields of a control valuation in an order in which the diagrams of PIPE's rules are small: what F, D, E, M and W
+/// hold, stage by stage, and registers last. Atoms stand before them all. With the fields in the order of their numbers
+/// the certificate of `nb.hcl` is twenty times as long.
+const FIELDS: [Place; 40] = [
+    places::F_ERROR,
+    places::F_ICODE,
+    places::F_IFUN,
+    places::F_TAKEN,
+    places::F_STOPS,
+    places::F_BACK,
+    places::D_KIND,
+    places::D_STAT,
+    places::D_ICODE,
+    places::D_IFUN,
+    places::D_TAKEN,
+    places::D_STOPS,
+    places::D_BACK,
+    places::E_KIND,
+    places::E_STAT,
+    places::E_ICODE,
+    places::E_IFUN,
+    places::E_CND,
+    places::E_STOPS,
+    places::E_BACK,
+    places::M_KIND,
+    places::M_STAT,
+    places::M_ICODE,
+    places::M_IFUN,
+    places::M_CND,
+    places::M_ERROR,
+    places::M_BACK,
+    places::W_KIND,
+    places::W_STAT,
+    places::W_ICODE,
+    places::D_R_A,
+    places::D_R_B,
+    places::E_DST_E,
+    places::E_DST_M,
+    places::E_SRC_A,
+    places::E_SRC_B,
+    places::M_DST_E,
+    places::M_DST_M,
+    places::W_DST_E,
+    places::W_DST_M,
+];
+
+/// Puts some variables behind an order.
+fn put_range(out: &mut Vec<u32>, first: u32, end: u32) -> Result<(), Memory> {
+    for v in first..end {
+        if out.push(v).is_err() {
+            return Err(Memory);
+        }
+    }
+    Ok(())
+}
+
+/// The order for the rules of PIPE.
+fn registers_last(alloc: Global, vars: u32) -> Result<Vec<u32>, Memory> {
+    let mut out: Vec<u32> = Vec::new(alloc);
+    put_range(&mut out, BIT_COUNT, vars)?;
+    let fields = FIELDS;
+    for field in &fields {
+        put_range(&mut out, field.first, field.first.wrapping_add(field.bits))?;
+    }
+    Ok(out)
+}
+
+/// An order of some variables.
+#[tactic(auto, using(crate::proofs::Orders::plain_order))]
+pub fn order_of(alloc: Global, vars: u32) -> Result<Orders, Memory>
+    ensures size { IfOk result (λ o. length o.order.items ≡ vars) }
+    ensures order { IfOk result (λ o. IsOrder o.order.items o.ranks.items) }
+{
+    let order = registers_last(alloc, vars)?;
+    if order.len() as u64 == vars as u64 {
+        let found = ranks_of(alloc, order.as_slice())?;
+        match found {
+            Some(ranks) => return Ok(Orders { order, ranks }),
+            None => {}
+        }
+    }
+    let order = plain(alloc, vars)?;
+    let ranks = plain(alloc, vars)?;
+    Ok(Orders { order, ranks })
+}

@@ -1,0 +1,148 @@
+//! The text of a certificate, line by line.
+ghost use Rattle.std.specs.Prelude.{◌≡◌, ◌<◌, ◌++◌, ◌∷◌, [], length, get_or, OnOk};
+ghost use Rattle.std.specs.Fmt.{decimal};
+ghost use Rattle.certificates.specs.Facts.{nothing};
+ghost use Rattle.certificates.specs.Lines.{IsLine, line_text, numbers_text};
+ghost use Rattle.cert_writer.specs.Writing.{AreGates, AreNamed, Wrote, facts_with, gate_line};
+
+use crate::claims::Claims;
+use certificates::{Demands, Line, Made};
+use nets::Gate;
+use y86_base::{Memory, Numeral};
+
+/// Puts bytes behind a text.
+pub(crate) fn put(out: &mut Vec<u8>, bytes: &[u8]) -> Result<(), Memory>
+    ensures { OnOk result (out.new.items ≡ out.old.items ++ bytes.now) }
+{
+    match out.extend_from_slice(bytes) {
+        Ok(()) => Ok(()),
+        Err(_) => Err(Memory),
+    }
+}
+
+/// Puts a blank and a number.
+#[tactic(auto, using(crate::proofs::Texts::number_put))]
+fn put_number(out: &mut Vec<u8>, n: u64) -> Result<(), Memory>
+    ensures { OnOk result (out.new.items ≡ out.old.items ++ 32 ∷ decimal n) }
+{
+    put(out, b" ")?;
+    put(out, Numeral::decimal(n).as_bytes())
+}
+
+/// Puts a line of a letter and some numbers.
+#[tactic(auto, using(crate::proofs::Texts::numbers_start, crate::proofs::Texts::numbers_more, crate::proofs::Texts::numbers_end))]
+fn put_numbers(out: &mut Vec<u8>, letter: u8, numbers: &[u64]) -> Result<(), Memory>
+    ensures { OnOk result (out.new.items ≡ out.old.items ++ letter ∷ numbers_text numbers.now) }
+{
+    put(out, &[letter])?;
+    for i in 0..numbers.len() {
+        put_number(out, numbers[i])?;
+    }
+    put(out, b"\n")?;
+    Ok(())
+}
+
+/// Puts a line.
+#[tactic(auto, unfolding(certificates::specs::Lines::line_text))]
+fn put_line(out: &mut Vec<u8>, line: Line) -> Result<(), Memory>
+    ensures put { OnOk result (out.new.items ≡ out.old.items ++ line_text line) }
+    ensures small { IsLine line }
+{
+    match line {
+        Line::Term { var, low, high } => put_numbers(out, b't', &[var, low, high]),
+        Line::And { left, right, both } => put_numbers(out, b'a', &[left, right, both]),
+        Line::AndCases {
+            left,
+            right,
+            both,
+            var,
+            low,
+            high,
+        } => put_numbers(out, b's', &[left, right, both, var, low, high]),
+        Line::Not { of, not } => put_numbers(out, b'n', &[of, not]),
+        Line::NotCases {
+            of,
+            not,
+            var,
+            low,
+            high,
+        } => put_numbers(out, b'm', &[of, not, var, low, high]),
+        Line::Gate { term } => put_numbers(out, b'g', &[term]),
+        Line::GateBy { term, claim } => put_numbers(out, b'h', &[term, claim]),
+    }
+}
+
+/// Puts the lines of the terms.
+#[tactic(auto, using(crate::proofs::Writing::term_more, crate::proofs::Writing::terms_start, crate::proofs::Writing::terms_end))]
+pub(crate) fn put_terms(out: &mut Vec<u8>, g: &Demands, terms: &[Made]) -> Result<(), Memory>
+    requires named { AreNamed g.now.net.vars terms.now }
+    requires wrote { Wrote g.now out.old.items nothing }
+    ensures { OnOk result (Wrote g.now out.new.items (facts_with terms.now [] [])) }
+{
+    let _ = g.net.vars();
+    for i in 0..terms.len() {
+        let made = terms[i];
+        put_line(
+            out,
+            Line::Term {
+                var: made.var as u64,
+                low: made.low as u64,
+                high: made.high as u64,
+            },
+        )?;
+    }
+    Ok(())
+}
+
+/// Puts the lines of the claims.
+#[tactic(auto, using(crate::proofs::Writing::step_more, crate::proofs::Writing::steps_start, crate::proofs::Writing::steps_end))]
+pub(crate) fn put_steps(out: &mut Vec<u8>, g: &Demands, claims: &Claims) -> Result<(), Memory>
+    requires vars { length claims.now.ranks ≡ g.now.net.vars }
+    requires wrote { Wrote g.now out.old.items (facts_with claims.now.terms [] []) }
+    ensures { OnOk result (Wrote g.now out.new.items (facts_with claims.now.terms claims.now.steps [])) }
+{
+    let _ = g.net.vars();
+    let steps = claims.steps();
+    for i in 0..steps.len() {
+        put_line(out, steps[i])?;
+    }
+    Ok(())
+}
+
+/// The line of a gate with its term and its claim.
+fn line_of(gate: Gate, term: u32, claim: u32) -> Line
+    ensures { result ≡ gate_line gate term claim }
+{
+    match gate {
+        Gate::Const(_) => Line::Gate { term: term as u64 },
+        Gate::Var(_) => Line::Gate { term: term as u64 },
+        Gate::Not(_) => Line::GateBy {
+            term: term as u64,
+            claim: claim as u64,
+        },
+        Gate::And(_, _) => Line::GateBy {
+            term: term as u64,
+            claim: claim as u64,
+        },
+    }
+}
+
+/// Puts the lines of the gates.
+#[tactic(auto, using(crate::proofs::Writing::gate_more, crate::proofs::Writing::gates_start, crate::proofs::Writing::gates_end))]
+pub(crate) fn put_gates(
+    out: &mut Vec<u8>,
+    g: &Demands,
+    claims: &Claims,
+    terms: &[u32],
+    by: &[u32],
+) -> Result<(), Memory>
+    requires gates { AreGates g.now.net claims.now terms.now by.now }
+    requires wrote { Wrote g.now out.old.items (facts_with claims.now.terms claims.now.steps []) }
+    ensures { OnOk result (Wrote g.now out.new.items (facts_with claims.now.terms claims.now.steps terms.now)) }
+{
+    let _ = claims.steps();
+    for i in 0..terms.len() {
+        put_line(out, line_of(g.net.gate(i as u64), terms[i], by[i]))?;
+    }
+    Ok(())
+}
