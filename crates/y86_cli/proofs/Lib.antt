@@ -9,4 +9,4 @@ pub mod Plans
 pub mod Ran
 pub mod Runs
 pub mod SeqRuns
-pub mod Stages
+pub mod Staged

@@ -1,5 +1,5 @@
 //! Calls of the program on one file, with what they answer.
-use crate::run::Status;
+use crate::running::Status;
 
 /// The line on standard error where the words are no command.
 pub const USAGE: &[u8] =

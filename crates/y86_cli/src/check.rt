@@ -8,7 +8,7 @@ ghost use Rattle.y86_cli.specs.Checks.{PipeChecks, SeqChecks};
 ghost use Rattle.y86_cli.specs.Does.{Does, NoReadFailed, Says, files_seen, sink_seen};
 
 use crate::design::{Ordered, pipe_design, seq_design};
-use crate::say::say;
+use crate::saying::say;
 use crate::stages::{HCL_LIMIT, read_file};
 use crate::stop::Stop;
 use crate::verdict::{PipeText, control_stop, pipe_verdict, seq_text};

@@ -3,7 +3,7 @@ ghost use Rattle.std.specs.Prelude.{◌≡◌, List, ℕ};
 ghost use Rattle.y86_cli.specs.Answers.{hcl_plan};
 ghost use Rattle.y86_cli.specs.Does.{Does, NoReadFailed, files_seen, sink_seen};
 
-use crate::say::say;
+use crate::saying::say;
 use crate::stages::{HCL_LIMIT, read_file, read_hcl};
 use crate::stop::Stop;
 use hcl_read::print;

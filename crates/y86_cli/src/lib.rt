@@ -1,7 +1,7 @@
 //! The program: the commands and their stages over any files and sinks, and the top call.
 #![tactic(auto)]
 
-mod call;
+mod calling;
 #[cfg(test)]
 mod cases;
 mod check;
@@ -9,8 +9,8 @@ mod design;
 mod hcl;
 mod laws;
 mod psim;
-mod run;
-mod say;
+mod running;
+mod saying;
 #[cfg(test)]
 mod simulations;
 mod ssim;
@@ -26,10 +26,10 @@ mod verdicts;
 mod yas;
 mod yis;
 
-pub use crate::call::call;
+pub use crate::calling::call;
 pub use crate::design::{Ordered, pipe_design, seq_design};
 pub use crate::laws::{law_of_accepted_files, law_of_answers, law_of_plans};
-pub use crate::run::{Status, run, tell};
-pub use crate::say::say;
+pub use crate::running::{Status, run, tell};
+pub use crate::saying::say;
 pub use crate::stages::{FILE_LIMIT, HCL_LIMIT, load_image, read_file, read_hcl};
 pub use crate::stop::{Refusal, Stop};

@@ -11,7 +11,7 @@ ghost use Rattle.y86_cli.specs.PipeRuns.{ran_line};
 ghost use Rattle.yis_run.specs.Report as text;
 
 use crate::design::{Ordered, pipe_design};
-use crate::say::say;
+use crate::saying::say;
 use crate::stages::{FILE_LIMIT, HCL_LIMIT, load_image, read_file, status};
 use crate::stop::Stop;
 use crate::verdict::{PipeText, pipe_verdict};

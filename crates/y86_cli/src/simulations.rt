@@ -1,5 +1,5 @@
 //! Calls of the program that run a datapath, over files and sinks in memory.
-use crate::run::{Status, run};
+use crate::running::{Status, run};
 use crate::tests::{sink, words_of};
 use example_designs::Example;
 use std::alloc::Global;

@@ -59,7 +59,7 @@ fn hcl_why(why: HclWhy) -> &'static [u8]
 }
 
 /// The tree of an HCL text under a name.
-#[tactic(auto, using(crate::proofs::Stages::hcl_refused))]
+#[tactic(auto, using(crate::proofs::Staged::hcl_refused))]
 pub fn read_hcl<'a>(alloc: Global, name: &'a str, text: &[u8]) -> Result<File, Stop<'a>>
     ensures { GivesOne (ReadsAs text.now) (RefusesHcl name.now text.now) (λ file. file) result }
 {

@@ -5,7 +5,7 @@ ghost use Rattle.y86_cli.specs.Answers.{text_of_listing, yas_plan};
 ghost use Rattle.y86_cli.specs.Does.{Does, Gives, NoReadFailed, files_seen, sink_seen};
 ghost use Rattle.y86_cli.specs.Lines.{assembly_reason};
 
-use crate::say::say;
+use crate::saying::say;
 use crate::stages::{FILE_LIMIT, read_file};
 use crate::stop::{Refusal, Stop};
 use std::alloc::Global;
@@ -32,7 +32,7 @@ fn reason(why: AsmWhy) -> &'static [u8]
 }
 
 /// The object text of a source under a name.
-#[tactic(auto, using(crate::proofs::Stages::source_refused, crate::proofs::Stages::source_listed))]
+#[tactic(auto, using(crate::proofs::Staged::source_refused, crate::proofs::Staged::source_listed))]
 fn object_text<'a>(
     alloc: Global,
     variant: Variant,

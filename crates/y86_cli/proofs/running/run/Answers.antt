@@ -1,6 +1,6 @@
 use Rattle.std.proofs.Common.{refl}
 use Rattle.y86_cli.proofs.Ran.{ran_done, ran_stopped}
-use Rattle.y86_cli.proofs.run.run.Goals as goal
+use Rattle.y86_cli.proofs.running.run.Goals as goal
 
 pub returns-in-Ok-clause-ran : goal.returns-in-Ok-clause-ran
 returns-in-Ok-clause-ran g c = ran_done _ _ _ _ _ _ _ c.in-Ok.ensures.ended c.in-Ok.ensures.no_read_failed

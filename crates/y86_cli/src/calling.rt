@@ -7,7 +7,7 @@ ghost use Rattle.y86_cli.specs.Ran.{Ran, words_behind};
 ghost use Rattle.y86_words.specs.Forms.{form_of};
 ghost use Rattle.y86_cli.specs.declared.stop.Stop.TheVariants.{Memory, Usage};
 
-use crate::run::{Status, run, tell};
+use crate::running::{Status, run, tell};
 use crate::stop::Stop;
 use std::alloc::{AllocError, Global};
 use std::env::Args;
