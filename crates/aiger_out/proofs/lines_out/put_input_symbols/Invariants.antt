@@ -1,0 +1,7 @@
+use Rattle.std.proofs.Common.{◌≡◌, ◌++◌}
+use Rattle.y86_base.specs.Text.{with_line_feeds}
+use Rattle.aiger_out.specs.Written.{each, input_symbol}
+use Rattle.aiger_out.proofs.lines_out.put_input_symbols.Given as goal
+
+abbrev pub invariant-loop-k : goal.invariant-loop-k
+invariant-loop-k l = l.out.items ≡ l.initial.out.items ++ with_line_feeds (each input_symbol l.k)

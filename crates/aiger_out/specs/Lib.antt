@@ -1,0 +1,10 @@
+pub mod Lines
+pub mod Form
+pub mod Values
+pub mod Graphs
+pub mod Rows
+pub mod Tail
+pub mod Solution
+pub mod Reading
+pub mod Written
+pub mod WrittenLines

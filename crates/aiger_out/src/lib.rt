@@ -1,0 +1,21 @@
+//! AIGER in ASCII, without latches: the rules of a datapath as a text for outside solvers, and such a text as a net.
+#![tactic(auto)]
+
+mod build;
+mod checks;
+mod fault;
+mod form;
+mod graph;
+mod laws;
+mod lines_out;
+mod numbers;
+mod reader;
+mod rows;
+mod table;
+mod tail;
+mod writer;
+
+pub use fault::{AagError, AagFault, AagWhy};
+pub use laws::{law_of_form, law_of_values};
+pub use reader::{Aig, read};
+pub use writer::write;
