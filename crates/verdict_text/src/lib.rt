@@ -8,4 +8,4 @@ mod pipe;
 mod seq;
 
 pub use pipe::{pipe_acceptance, pipe_refusal};
-pub use seq::seq_refusal;
+pub use seq::{plus_refusal, seq_refusal};
