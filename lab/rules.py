@@ -97,7 +97,7 @@ class Settings:
         self.tv = all(self.carries(ifun, cnd) for ifun in range(7) for cnd in ((1,) if ifun == 0 else (0, 1)))
         self.je = any(self.mends(ifun, cnd, back) for ifun in range(1, 7) for cnd in (0, 1) for back in (0, 1))
         self.rm = self.situation({"M_stat": 1, "M_icode": t.RET, "M_dstE": t.RSP, "M_Cnd": 1}, {}).signal("f_pc") == "m_valM"
-        self.lf = "m_valM" in design.by_name["e_valA"].body.names() if "e_valA" in design.by_name else False
+        self.lf = any(self.lets_go(icode) for icode in (t.RMMOVQ, t.PUSHQ))
 
     def situation(self, changes, atoms):
         bubbles = {"D_stat": 0, "D_icode": 1, "D_ifun": 0, "D_rA": 15, "D_rB": 15, "E_stat": 0, "E_icode": 1, "E_ifun": 0, "E_dstE": 15, "E_dstM": 15}
@@ -114,6 +114,13 @@ class Settings:
         atoms = {("lt", "E_valC", "E_valA"): back, ("lt", "E_valA", "E_valC"): 1 - back}
         now = self.situation({"E_stat": 1, "E_icode": t.JXX, "E_ifun": ifun, "e_Cnd": cnd}, atoms)
         return self.predicted(ifun, back) != cnd and now.signal("f_pc") == ("E_valC" if cnd else "E_valA")
+
+    def lets_go(self, icode):
+        """Whether a store or push of %rax leaves D while the instruction in E is loading %rax."""
+        changes = {"D_stat": 1, "D_icode": icode, "D_rA": 0, "D_rB": 1 if icode == t.RMMOVQ else 15}
+        changes |= {"E_stat": 1, "E_icode": t.MRMOVQ, "E_dstM": 0, "E_srcB": 2}
+        now = self.situation(changes, {})
+        return not any(now.signal(it) for it in ("D_stall", "E_stall", "E_bubble")) and now.signal("d_srcA") == 0
 
     def carries(self, ifun, cnd):
         changes = {"E_stat": 1, "E_icode": t.JXX, "E_ifun": ifun, "e_Cnd": cnd}
