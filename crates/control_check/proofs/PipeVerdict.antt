@@ -23,9 +23,10 @@ use Rattle.hazard_rules.specs.Parts.{AreClosed, AreLate, AreRules, IsFormula}
 use Rattle.pipe_obligations.specs.Rules.{obligation}
 use Rattle.pipe_obligations.specs.Settled.{Decides, Everywhere, IsFalseAt, IsLeastFalse, Somewhere, Truth, carries, predicts_taken, shows_je, shows_lf, shows_rm}
 use Rattle.rule_gates.specs.declared.rules.Rule.{Rule}
+use Rattle.rule_gates.specs.declared.rules.Rules.{Rules}
 use Rattle.verdicts.specs.Decisions.{AreGatesOf, IsAlwaysTrue, IsDecision, IsFirstFalse}
 use Rattle.verdicts.specs.declared.decision.Failure.{Failure}
-use Rattle.control_check.specs.PipeVerdicts.{AcceptsPipe, AreDecided, AreSettings, HasGates, IsDecided, RejectsPipe}
+use Rattle.control_check.specs.PipeVerdicts.{AcceptsPipe, AreDecided, AreFileRules, AreSettings, HasGates, IsDecided, RejectsPipe}
 use Rattle.control_check.proofs.OneSettings.{never_accepted, one_list}
 use Rattle.verdicts.proofs.AtomBits.{AreApart, apart_added, bits_are, length-truth_bits, told_are, told_by, truth_bits}
 
@@ -185,6 +186,21 @@ module _ (v : Variant) (terms : List Term) (ids : List ℕ) (o : IsOrderOf pipe_
 
   pub rules_gates : (s : Settings) (net : Gates) (list : List Rule) → AreRules v terms s net list → AreGatesOf net list
   rules_gates s net list rules k r at = (rules.gates k r at).within
+
+  -- the gate of a rule is false just where its obligation is
+  pub obligation_false : (r : Rules) (h : AreFileRules v terms r) (k : ℕ) (x : Rule) (w : List Bool) → slice_get r.list k ≡ Some x → truth r.net x.gate w ≡ false →
+      IsFalseAt v h.are_settings.atoms (PipeControls terms) h.settings (k + 1) w
+  obligation_false r h k x w at e =
+      let rules = h.are_rules in
+      subst (λ (them : List Atom). IsFalseAt v them (PipeControls terms) h.settings (k + 1) w) (same_list rules.atoms h.are_settings.atoms rules.are h.are_settings.are)
+      (false_at v terms rules.atoms (apart rules.atoms rules.are) exists r.net rules.vars h.settings r.list rules.count rules.gates k x w at e)
+
+  pub rule_false : (r : Rules) (h : AreFileRules v terms r) (k : ℕ) (x : Rule) (w : List Bool) → slice_get r.list k ≡ Some x →
+      IsFalseAt v h.are_settings.atoms (PipeControls terms) h.settings (k + 1) w → truth r.net x.gate w ≡ false
+  rule_false r h k x w at f =
+      let rules = h.are_rules in
+      gate_false v terms rules.atoms (apart rules.atoms rules.are) exists r.net rules.vars h.settings r.list rules.count rules.gates k x w at
+      (subst (λ (them : List Atom). IsFalseAt v them (PipeControls terms) h.settings (k + 1) w) (sym (same_list rules.atoms h.are_settings.atoms rules.are h.are_settings.are)) f)
 
   pub accepts : (s : Settings) (net : Gates) (list : List Rule) → AreSettings v terms s → AreRules v terms s net list → IsDecision net list None → AcceptsPipe v terms s
   accepts s net list settings rules always =

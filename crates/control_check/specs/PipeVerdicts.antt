@@ -10,6 +10,8 @@ use Rattle.ctl_atoms.specs.declared.leaf.Atom.{Atom}
 use Rattle.pipe_motion.specs.declared.settings.Settings.{Settings}
 use Rattle.pipe_refinement.specs.Refines.{Refines}
 use Rattle.pipe_theorem.specs.Theorem.{PipeControls}
+use Rattle.hazard_rules.specs.Parts.{AreRules}
+use Rattle.rule_gates.specs.declared.rules.Rules.{Rules}
 use Rattle.pipe_obligations.specs.Settled.{Holds, IsLeastFalse, IsSet}
 use Rattle.verdicts.specs.Decisions.{IsAlwaysTrue}
 use Rattle.verdicts.specs.Questions.{IsFault}
@@ -36,6 +38,13 @@ pub record AreSettings (v : Variant) (terms : List Term) (s : Settings) : Type 0
   pub forward : length s.pt ≡ 7
   pub backward : length s.pb ≡ 7
   pub set : IsSet v atoms (PipeControls terms) s
+
+-- the 27 obligations of a file at its settings, as gates
+pub record AreFileRules (v : Variant) (terms : List Term) (r : Rules) : Type 0 where
+  pub settings : Settings
+  pub are_settings : AreSettings v terms settings
+  pub are_rules : AreRules v terms settings r.net r.list
+  pub variant : r.variant ≡ v
 
 -- Yes: every obligation holds of every valuation, at the file's settings. No: one doesn't, and the first such is told with its least
 -- valuation; so the design is accepted at no settings.

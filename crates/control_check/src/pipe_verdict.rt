@@ -3,9 +3,10 @@ ghost use Rattle.bdd_core.specs.Building.{AreFirst};
 ghost use Rattle.dp_signals.specs.PipeTable.{pipe_rows};
 ghost use Rattle.hcl_types.specs.Tables.{IsBound, IsOrderOf};
 ghost use Rattle.verdicts.specs.Decisions.{AreGatesOf, IsDecision};
-ghost use Rattle.control_check.specs.PipeVerdicts.{AreDecided, AreSettings, HasGates, IsDecided, IsPipeFault, IsPipeVerdict, RefinesPipe};
+ghost use Rattle.control_check.specs.PipeVerdicts.{AreDecided, AreFileRules, AreSettings, HasGates, IsDecided, IsPipeFault, IsPipeVerdict, RefinesPipe};
 ghost use Rattle.control_check.specs.SeqVerdicts.{is_yes};
 ghost use Rattle.hazard_rules.specs.Belonging.{BelongTo};
+ghost use Rattle.hazard_rules.specs.Parts.{AreRules};
 
 use crate::splitting::decide_in_parts;
 use crate::verdict::Verdict;
@@ -15,7 +16,7 @@ use hcl_types::{Design, Order};
 use nets::Net;
 use pipe_fields::places;
 use pipe_motion::Settings;
-use rule_gates::Rule;
+use rule_gates::{Rule, Rules};
 use std::alloc::Global;
 use verdicts::{CheckFault, Failure, decide, told};
 use y86_base::{Memory, Variant};
@@ -231,6 +232,52 @@ fn decide_pipe(alloc: Global, net: &Net, list: &[Rule]) -> Result<Option<Failure
     decide(alloc, net, list)
 }
 
+/// The rules of a file, and the settings at which they are asked.
+#[derive(Drop)]
+struct Ruled {
+    settings: Settings,
+    rules: Rules,
+}
+
+/// Settles a file, and makes its rules at its settings.
+fn rules_at_settings(
+    alloc: Global,
+    variant: Variant,
+    design: &Design,
+    order: &Order,
+) -> Result<Ruled, CheckFault>
+    requires bound { IsBound pipe_rows design.now.terms }
+    requires ordered { IsOrderOf pipe_rows design.now.terms order.now.ids }
+    ensures settings { IfOk result (λ r. AreSettings variant design.now.terms r.settings) }
+    ensures rules { IfOk result (λ r. AreRules variant design.now.terms r.settings r.rules.net r.rules.list) }
+    ensures variant { IfOk result (λ r. r.rules.variant ≡ variant) }
+    ensures fault { IfErr result (IsPipeFault design.now.terms) }
+{
+    let settled = settle(alloc, variant, design, order)?;
+    let settings = settled.settings;
+    match pipe_rules(alloc, settled.parts, settings) {
+        Ok(rules) => Ok(Ruled { settings, rules }),
+        Err(Memory) => Err(CheckFault::Memory),
+    }
+}
+
+/// The 27 obligations of an HCL file for PIPE at its settings, in their order, as gates over a net with a variable for each bit
+/// of a control valuation.
+pub fn file_rules(
+    alloc: Global,
+    variant: Variant,
+    design: &Design,
+    order: &Order,
+) -> Result<Rules, CheckFault>
+    requires bound { IsBound pipe_rows design.now.terms }
+    requires ordered { IsOrderOf pipe_rows design.now.terms order.now.ids }
+    ensures rules { IfOk result (AreFileRules variant design.now.terms) }
+    ensures fault { IfErr result (IsPipeFault design.now.terms) }
+{
+    let made = rules_at_settings(alloc, variant, design, order)?;
+    Ok(made.rules)
+}
+
 /// The verdict on an HCL file for PIPE. Where it is yes, the file's machine refines the run of instructions on every
 /// image whose instructions fetch no byte that an earlier one stored.
 pub fn check_pipe(
@@ -245,12 +292,9 @@ pub fn check_pipe(
     ensures refines { IfOk result (λ v. is_yes v ≡ true → RefinesPipe variant design.now.terms) }
     ensures fault { IfErr result (IsPipeFault design.now.terms) }
 {
-    let settled = settle(alloc, variant, design, order)?;
-    let settings = settled.settings;
-    let rules = match pipe_rules(alloc, settled.parts, settings) {
-        Ok(rules) => rules,
-        Err(Memory) => return Err(CheckFault::Memory),
-    };
+    let made = rules_at_settings(alloc, variant, design, order)?;
+    let settings = made.settings;
+    let rules = made.rules;
     match decide_pipe(alloc, &rules.net, rules.list.items()) {
         Ok(None) => Ok(Verdict::Yes(settings)),
         Ok(Some(failure)) => Ok(Verdict::No {

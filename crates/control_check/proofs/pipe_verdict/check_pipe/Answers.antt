@@ -1,42 +1,41 @@
 use Rattle.std.proofs.Common.{List, None, Some, sym, subst}
 use Rattle.rule_gates.specs.declared.rules.Rule.{Rule}
 use Rattle.pipe_theorem.proofs.Top.{accepted_refines}
-use Rattle.hazard_rules.specs.Parts.{AreRules}
 use Rattle.verdicts.specs.Decisions.{AreGatesOf, IsDecision}
 use Rattle.control_check.proofs.PipeVerdict.{accepts, rejects, rules_gates}
 use Rattle.control_check.proofs.pipe_verdict.check_pipe.Goals as goal
 
 pub decide_pipe-requires : goal.decide_pipe-requires
 decide_pipe-requires c =
-    let s = c.in_ok-settled.settled.settings in
-    let made = c.in-Ok.rules in
-    let rules = subst (λ x. AreRules x c.args.design.now.terms s made.net made.list) c.in_ok-settled.ensures.variant (c.in-Ok.ensures.rules c.args.design.now.terms c.in_ok-settled.ensures.belong) in
+    let s = c.in_ok-made.made.settings in
+    let made = c.in_ok-made.made.rules in
+    let rules = c.in_ok-made.ensures.rules in
     record {
       gates = subst (AreGatesOf made.net) (sym c.items.ensures) (rules_gates c.args.variant c.args.design.now.terms c.args.order.now.ids c.requires.ordered s made.net made.list rules);
     }
 
 pub returns-in-Ok-None-clause-verdict : goal.returns-in-Ok-None-clause-verdict
 returns-in-Ok-None-clause-verdict c =
-    let s = c.in_ok-settled.settled.settings in
-    let made = c.in-Ok.rules in
-    let rules = subst (λ x. AreRules x c.args.design.now.terms s made.net made.list) c.in_ok-settled.ensures.variant (c.in-Ok.ensures.rules c.args.design.now.terms c.in_ok-settled.ensures.belong) in
+    let s = c.in_ok-made.made.settings in
+    let made = c.in_ok-made.made.rules in
+    let rules = c.in_ok-made.ensures.rules in
     let decided = subst (λ (list : List Rule). IsDecision made.net list None) c.items.ensures (rw c.in-Ok-None.field-0-is at c.in-Ok-None.ensures) in
-    accepts c.args.variant c.args.design.now.terms c.args.order.now.ids c.requires.ordered s made.net made.list c.in_ok-settled.ensures.settings rules decided
+    accepts c.args.variant c.args.design.now.terms c.args.order.now.ids c.requires.ordered s made.net made.list c.in_ok-made.ensures.settings rules decided
 
 pub returns-in-Ok-None-clause-refines : goal.returns-in-Ok-None-clause-refines
 returns-in-Ok-None-clause-refines c =
-    let s = c.in_ok-settled.settled.settings in
-    let made = c.in-Ok.rules in
-    let rules = subst (λ x. AreRules x c.args.design.now.terms s made.net made.list) c.in_ok-settled.ensures.variant (c.in-Ok.ensures.rules c.args.design.now.terms c.in_ok-settled.ensures.belong) in
+    let s = c.in_ok-made.made.settings in
+    let made = c.in_ok-made.made.rules in
+    let rules = c.in_ok-made.ensures.rules in
     let decided = subst (λ (list : List Rule). IsDecision made.net list None) c.items.ensures (rw c.in-Ok-None.field-0-is at c.in-Ok-None.ensures) in
-    let accepted = accepts c.args.variant c.args.design.now.terms c.args.order.now.ids c.requires.ordered s made.net made.list c.in_ok-settled.ensures.settings rules decided in
+    let accepted = accepts c.args.variant c.args.design.now.terms c.args.order.now.ids c.requires.ordered s made.net made.list c.in_ok-made.ensures.settings rules decided in
     λ yes image k is_image pure. accepted_refines (record { v = c.args.variant; s = s; image = image }) c.args.design.now.terms c.args.order.now.ids
     accepted.settings.atoms c.requires.bound c.requires.ordered accepted.holds k is_image pure
 
 pub returns-in-Ok-Some-clause-verdict : goal.returns-in-Ok-Some-clause-verdict
 returns-in-Ok-Some-clause-verdict c =
-    let s = c.in_ok-settled.settled.settings in
-    let made = c.in-Ok.rules in
-    let rules = subst (λ x. AreRules x c.args.design.now.terms s made.net made.list) c.in_ok-settled.ensures.variant (c.in-Ok.ensures.rules c.args.design.now.terms c.in_ok-settled.ensures.belong) in
+    let s = c.in_ok-made.made.settings in
+    let made = c.in_ok-made.made.rules in
+    let rules = c.in_ok-made.ensures.rules in
     let decided = subst (λ (list : List Rule). IsDecision made.net list (Some c.in-Ok-Some.failure)) c.items.ensures (rw c.in-Ok-Some.field-0-is at c.in-Ok-Some.ensures) in
-    rejects c.args.variant c.args.design.now.terms c.args.order.now.ids c.requires.ordered s made.net made.list c.in-Ok-Some.failure c.in_ok-settled.ensures.settings rules decided
+    rejects c.args.variant c.args.design.now.terms c.args.order.now.ids c.requires.ordered s made.net made.list c.in-Ok-Some.failure c.in_ok-made.ensures.settings rules decided
