@@ -1,5 +1,5 @@
 -- From what is decided of SEQ's rules to what a verdict says of the design.
-use Rattle.std.proofs.Common.{◌≡◌, ℕ, ◌≤◌, true, List, Some, None, sym, ◌∙◌, Bool}
+use Rattle.std.proofs.Common.{ℕ, ◌≤◌, List, Some, None, sym, ◌∙◌, Bool}
 use Rattle.std.proofs.lemmas.Bool.{false≢true}
 use Rattle.y86_base.specs.declared.parts.Variant.{Variant}
 use Rattle.nets.specs.Nets.{Gates}
