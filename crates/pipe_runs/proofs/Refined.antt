@@ -1,0 +1,187 @@
+-- A generated program on PIPE under a design that refines the run of instructions on it.
+use Rattle.std.proofs.Common.{◌≡◌, ◌≢◌, inl, inr, ℕ, zero, suc, ◌+◌, ◌-◌, ◌*◌, ◌<◌, ◌≤◌, true, false, List, ◌++◌, length, refl, sym, ap, subst, ◌∙◌, arith}
+use Rattle.std.proofs.lemmas.Bool.{cases_lt, false≢true}
+use Rattle.std.proofs.lemmas.List.{append-nil}
+use Rattle.std.specs.Option.{option_to_list}
+use Rattle.y86_base.specs.declared.parts.Stat.{Stat}
+use Rattle.y86_base.specs.declared.parts.Stat.TheVariants.{Bub, Aok, Hlt, Adr, Ins, Pip, Bad}
+use Rattle.y86_base.specs.declared.parts.Variant.{Variant}
+use Rattle.y86_isa.specs.Machine.{is_aok, start}
+use Rattle.y86_isa.specs.Run.{run, records}
+use Rattle.y86_isa.proofs.Runs.{is_aok-from_not, advance-stopped, retired-stopped, run_from-last, records_from-last, length-records_from}
+use Rattle.hcl_types.specs.declared.term.Term.{Term}
+use Rattle.dp_signals.specs.PipeRun.{Pipe, PipeRun, has_stopped}
+use Rattle.pipe_refinement.specs.Refines.{Refines, StopsAs}
+use Rattle.prog_gen.specs.Programs.{program}
+use Rattle.program_runs.specs.Laws.{RunsToHalt}
+use Rattle.program_runs.proofs.Whole.{runs}
+use Rattle.pipe_runs.specs.BothWays.{GoesBothWays, RunsAlike, run_limit}
+use Rattle.pipe_runs.specs.RunsTo.{Goes, RunsTo, end_of}
+use Rattle.pipe_runs.specs.declared.both.BothWays.{BothWays}
+
+-- ---- a run of instructions that has stopped
+
+run_stays : (v : Variant) (image : List ℕ) (r d : ℕ) → is_aok (run v image r).stat ≡ false → run v image (r + d) ≡ run v image r
+run_stays v image r zero off = ap (run v image) (omega arith)
+run_stays v image r (suc d) off =
+    let more : r + suc d ≡ (r + d) + 1 = omega arith in
+    let stays : run v image (r + d) ≡ run v image r = run_stays v image r d off in
+    ap (run v image) more
+    ∙ (run_from-last v (start image) (r + d) ∙ (advance-stopped v (run v image (r + d)) (ap (λ m. is_aok m.stat) stays ∙ off) ∙ stays))
+
+records_stay : (v : Variant) (image : List ℕ) (r d : ℕ) → is_aok (run v image r).stat ≡ false → records v image (r + d) ≡ records v image r
+records_stay v image r zero off = ap (records v image) (omega arith)
+records_stay v image r (suc d) off =
+    let more : r + suc d ≡ (r + d) + 1 = omega arith in
+    let stopped : is_aok (run v image (r + d)).stat ≡ false = ap (λ m. is_aok m.stat) (run_stays v image r d off) ∙ off in
+    ap (records v image) more
+    ∙ (records_from-last v (start image) (r + d)
+    ∙ (ap (λ o. records v image (r + d) ++ option_to_list o) (retired-stopped v (run v image (r + d)) stopped)
+    ∙ (append-nil (records v image (r + d)) ∙ records_stay v image r d off)))
+
+-- the run of a program with so many records, the last of a halt
+halt_stops : (v : Variant) (image : List ℕ) (count : ℕ) → RunsToHalt v image count → is_aok (run v image count).stat ≡ false
+halt_stops v image count h = ap is_aok h.halted
+
+run_behind : (v : Variant) (image : List ℕ) (count k : ℕ) → RunsToHalt v image count → count ≤ k → run v image k ≡ run v image count
+run_behind v image count k h le =
+    let sum : k ≡ count + (k - count) = omega arith in
+    ap (run v image) sum ∙ run_stays v image count (k - count) (halt_stops v image count h)
+
+records_behind : (v : Variant) (image : List ℕ) (count k : ℕ) → RunsToHalt v image count → count ≤ k → length (records v image k) ≡ count
+records_behind v image count k h le =
+    let sum : k ≡ count + (k - count) = omega arith in
+    ap (λ n. length (records v image n)) sum ∙ (ap length (records_stay v image count (k - count) (halt_stops v image count h)) ∙ h.records)
+
+few : (v : Variant) (image : List ℕ) (count k : ℕ) → RunsToHalt v image count → length (records v image k) ≤ count
+few v image count k h =
+    elim (cases_lt k count) [
+      | inl lt ↦ omega (arith, length-records_from v (start image) k, lt)
+      | inr le ↦ omega (arith, records_behind v image count k h le)
+    ]
+
+-- where it has stopped behind as many instructions as it has records, these are all
+all_of_them : (v : Variant) (image : List ℕ) (count r : ℕ) → RunsToHalt v image count → r ≡ length (records v image r) → is_aok (run v image r).stat ≡ false → r ≡ count
+all_of_them v image count r h whole off =
+    elim (cases_lt r count) [
+      | inl lt ↦ absurd (short lt)
+      | inr le ↦ whole ∙ records_behind v image count r h le
+    ]
+  where
+    short : r < count → ⊥
+    short lt =
+        let sum : count ≡ r + (count - r) = omega arith in
+        let same : length (records v image count) ≡ r =
+        ap (λ n. length (records v image n)) sum ∙ (ap length (records_stay v image r (count - r) off) ∙ sym whole) in
+        omega (arith, same, h.records, lt)
+
+-- ---- the pipeline has stopped by the end of cycle 5 (n + 2)
+
+stopped_off : (s : Stat) → has_stopped s ≡ true → is_aok s ≡ false
+stopped_off Bub h = refl
+stopped_off Aok h = absurd (cc (h))
+stopped_off Hlt h = refl
+stopped_off Adr h = refl
+stopped_off Ins h = refl
+stopped_off Pip h = refl
+stopped_off Bad h = refl
+
+off_stopped : (s : Stat) → is_aok s ≡ false → s ≢ Pip → has_stopped s ≡ true
+off_stopped Bub h p = refl
+off_stopped Aok h p = absurd (cc (h))
+off_stopped Hlt h p = refl
+off_stopped Adr h p = refl
+off_stopped Ins h p = refl
+off_stopped Pip h p = absurd (p refl)
+off_stopped Bad h p = refl
+
+-- a design that refines the run of instructions on an image, whose run has so many records, the last of a halt
+record Refined (v : Variant) (terms : List Term) (image : List ℕ) (count : ℕ) : Type 0 where
+  refines : (k : ℕ) → Refines v terms image k
+  halts : RunsToHalt v image count
+
+stopped_there : (v : Variant) (terms : List Term) (image : List ℕ) (count : ℕ) → Refined v terms image count → (p : Pipe) → PipeRun v terms image (5 * (count + 1)) p → has_stopped p.end ≡ true
+stopped_there v terms image count r p ran =
+    elim ((r.refines (5 * (count + 1))).five_cycles (count + 1) p (omega arith) ran) [
+      | inl many ↦ absurd (omega (arith, many, ap length ((r.refines (5 * (count + 1))).records p ran), few v image count (length p.records) r.halts))
+      | inr stopped ↦ stopped
+    ]
+
+stopped_behind : (v : Variant) (terms : List Term) (image : List ℕ) (count : ℕ) → Refined v terms image count → (d : ℕ) (p : Pipe) → PipeRun v terms image (d + 5 * (count + 1)) p →
+    has_stopped p.end ≡ true
+stopped_behind v terms image count r zero p ran =
+    let none : 0 + 5 * (count + 1) ≡ 5 * (count + 1) = omega arith in
+    stopped_there v terms image count r p (subst (λ (k : ℕ). PipeRun v terms image k p) none ran)
+stopped_behind v terms image count r (suc d) p ran =
+    let more : suc d + 5 * (count + 1) ≡ suc (d + 5 * (count + 1)) = omega arith in
+    one (subst (λ (k : ℕ). PipeRun v terms image k p) more ran) (stopped_behind v terms image count r d)
+  where
+    one : PipeRun v terms image (suc (d + 5 * (count + 1))) p → ((q : Pipe) → PipeRun v terms image (d + 5 * (count + 1)) q → has_stopped q.end ≡ true) → has_stopped p.end ≡ true
+    one (q, before, cycle) earlier =
+        let over : has_stopped q.end ≡ true = earlier q before in
+        ap (λ (x : Pipe). has_stopped x.end) (cycle.ended (stopped_off q.end over)) ∙ over
+
+stopped_from : (v : Variant) (terms : List Term) (image : List ℕ) (count k : ℕ) → Refined v terms image count → 5 * (count + 1) ≤ k → (p : Pipe) → PipeRun v terms image k p →
+    has_stopped p.end ≡ true
+stopped_from v terms image count k r le p ran =
+    let sum : k ≡ (k - 5 * (count + 1)) + 5 * (count + 1) = omega arith in
+    stopped_behind v terms image count r (k - 5 * (count + 1)) p (subst (λ (i : ℕ). PipeRun v terms image i p) sum ran)
+
+-- ---- a run to its end
+
+pipe_run : (v : Variant) (terms : List Term) (image : List ℕ) (k : ℕ) (p : Pipe) → Goes v terms image k p → PipeRun v terms image k p
+pipe_run v terms image zero p goes = goes
+pipe_run v terms image (suc k) p goes = (goes.0, pipe_run v terms image k goes.0 goes.1, goes.3)
+
+-- it ends by cycle 5 (count + 1)
+in_time : (v : Variant) (terms : List Term) (image : List ℕ) (count k : ℕ) (p : Pipe) → Refined v terms image count → Goes v terms image k p → k ≤ 5 * (count + 1)
+in_time v terms image count zero p r goes = omega arith
+in_time v terms image count (suc k) p r (q, before, going, cycle) =
+    elim (cases_lt k (5 * (count + 1))) [
+      | inl lt ↦ omega (arith, lt)
+      | inr le ↦ absurd (false≢true (sym (stopped_off q.end (stopped_from v terms image count k r le q (pipe_run v terms image k q before))) ∙ going))
+    ]
+
+has_ended : (v : Variant) (terms : List Term) (image : List ℕ) (count limit k : ℕ) (p : Pipe) → Refined v terms image count → RunsTo v terms image limit k p → 5 * (count + 1) ≤ limit →
+    is_aok p.end ≡ false
+has_ended v terms image count limit k p r runs_to room =
+    elim (cases_lt k limit) [
+      | inl lt ↦ runs_to.whole lt
+      | inr le ↦ stopped_off p.end (stopped_from v terms image count k r (omega (arith, le, room)) p (pipe_run v terms image k p runs_to.goes))
+    ]
+
+-- the pipeline at its end, as the run of instructions
+record Agrees (v : Variant) (image : List ℕ) (count : ℕ) (p : Pipe) : Type 0 where
+  retired_all : length p.records ≡ count
+  end : end_of p ≡ run v image count
+
+agrees : (v : Variant) (terms : List Term) (image : List ℕ) (count limit k : ℕ) (p : Pipe) → Refined v terms image count → RunsTo v terms image limit k p → 5 * (count + 1) ≤ limit →
+    Agrees v image count p
+agrees v terms image count limit k p r runs_to room =
+    let ran : PipeRun v terms image k p = pipe_run v terms image k p runs_to.goes in
+    let refines : Refines v terms image k = r.refines k in
+    let off : is_aok p.end ≡ false = has_ended v terms image count limit k p r runs_to room in
+    let stops : StopsAs p (run v image (length p.records)) = refines.stop p ran (off_stopped p.end off (refines.never_pip p ran)) in
+    let all : length p.records ≡ count =
+    all_of_them v image count (length p.records) r.halts (ap length (refines.records p ran)) (is_aok-from_not (run v image (length p.records)).stat stops.not_aok) in
+    record {
+      retired_all = all;
+      end = rw (stops.registers, stops.flags, stops.pc, stops.stat, stops.memory) (ap (run v image) all);
+    }
+
+pub runs_alike : (v : Variant) (terms : List Term) (n : ℕ) (b : BothWays) → 1 ≤ n → n ≤ 100000 → ((k : ℕ) → Refines v terms (program n) k) → GoesBothWays v terms n b → RunsAlike n b
+runs_alike v terms n b least most refines both =
+    let image : List ℕ = program n in
+    let halts : RunsToHalt v image (n + 1) = runs v n least most in
+    let r : Refined v terms image (n + 1) = record { refines = refines; halts = halts } in
+    let room : 5 * ((n + 1) + 1) ≤ run_limit n = omega arith in
+    let enough : n + 1 ≤ run_limit n = omega arith in
+    let same : Agrees v image (n + 1) both.end = agrees v terms image (n + 1) (run_limit n) b.cycles both.end r both.runs room in
+    let machine : run v image (run_limit n) ≡ run v image (n + 1) = run_behind v image (n + 1) (run_limit n) halts enough in
+    let steps : b.steps ≡ n + 1 = both.steps ∙ records_behind v image (n + 1) (run_limit n) halts enough in
+    record {
+      steps = steps;
+      cycles = omega (arith, in_time v terms image (n + 1) b.cycles both.end r both.runs.goes);
+      same = both.same.1 (rw (machine, same.end, steps, same.retired_all) refl);
+      halted = both.halted.1 (ap (λ m. m.stat) machine ∙ halts.halted, ap (λ m. m.stat) same.end ∙ halts.halted);
+    }

@@ -1,0 +1,2 @@
+pub mod RunsTo
+pub mod BothWays

@@ -1,0 +1,15 @@
+//! Theorems about generated programs on PIPE. Each is a function that does nothing and whose contract is the theorem.
+ghost use Rattle.std.specs.Prelude.{ℕ, ◌≤◌, List};
+ghost use Rattle.y86_base.specs.declared.parts.Variant.{Variant};
+ghost use Rattle.hcl_types.specs.declared.term.Term.{Term};
+ghost use Rattle.pipe_refinement.specs.Refines.{Refines};
+ghost use Rattle.prog_gen.specs.Programs.{program};
+ghost use Rattle.pipe_runs.specs.BothWays.{GoesBothWays, RunsAlike};
+ghost use Rattle.pipe_runs.specs.declared.both.BothWays.{BothWays};
+
+/// Under a design that refines the run of instructions on program `n`, both runs of the program do all of it, n instructions and the
+/// halt, the pipeline in at most 5(n + 2) cycles, and their reports are the same bytes.
+pub fn law_of_both_ways()
+    ensures { (v : Variant) (terms : List Term) (n : ℕ) (b : BothWays) → 1 ≤ n → n ≤ 100000 →
+        ((k : ℕ) → Refines v terms (program n) k) → GoesBothWays v terms n b → RunsAlike n b }
+{}

@@ -1,0 +1,10 @@
+//! Runs of PIPE to their end or to a limit, and a generated program run both ways: by the instructions and on PIPE.
+#![tactic(auto)]
+
+mod both;
+mod laws;
+mod reports;
+
+pub use both::{BothWays, both_ways};
+pub use laws::law_of_both_ways;
+pub use reports::same_reports;
