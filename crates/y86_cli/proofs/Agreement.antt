@@ -2,7 +2,6 @@
 use Rattle.std.proofs.Common.{◌≡◌, ◌⊎◌, ℕ, zero, suc, ◌≤◌, Bool, true, List, ◌++◌, length, refl, sym, ap, subst, ◌∙◌, inl, inr, Option, Some, Result, Ok, Err, lit≤, arith}
 use Rattle.dp_signals.specs.PipeRun.{Pipe, PipeRun}
 use Rattle.dp_signals.specs.PipeTable.{pipe_rows}
-use Rattle.dp_signals.specs.SeqTable.{seq_rows}
 use Rattle.hcl_types.specs.declared.table.Row.{Row}
 use Rattle.hcl_types.specs.declared.term.Term.{Term}
 use Rattle.pipe_refinement.specs.Refines.{Refines, StopsAs}
@@ -20,14 +19,17 @@ use Rattle.yo_object.specs.declared.object.YoFault.{YoFault}
 use Rattle.y86_cli.specs.Agreement.{Agrees, HasAccepted, HasAcceptedSeq, RanAccepted, ToldNo}
 use Rattle.y86_cli.specs.Answers.{PipeAnswers, check_pipe_plan, check_seq_plan, checked_plan, image_of_text, pipe_plan, psim_plan}
 use Rattle.y86_cli.specs.Checks.{AcceptsPipe, RefusesControl}
+use Rattle.y86_cli.specs.Datapaths.{rows_of}
 use Rattle.y86_cli.specs.Designs.{IsDesign, RefusesDesign}
 use Rattle.y86_cli.specs.Does.{FilesSeen, SinkSeen}
-use Rattle.y86_words.specs.Forms.{check_pipe, check_seq, form_of, psim}
+use Rattle.y86_words.specs.Forms.{check_pipe, check_plus, check_seq, form_of, psim}
 use Rattle.y86_cli.specs.Lines.{object_fault_line}
 use Rattle.y86_cli.specs.Plan.{Answered, MayAnswer, after, done, refused}
 use Rattle.y86_cli.specs.PipeRuns.{Goes, end_of, run_text}
 use Rattle.y86_cli.specs.Ran.{Ran}
 use Rattle.y86_words.proofs.Legal.{form_legal}
+use Rattle.y86_cli.specs.declared.datapath.Datapath.{Datapath}
+use Rattle.y86_cli.specs.declared.datapath.Datapath.TheVariants.{Seq, Plus}
 use Rattle.y86_cli.proofs.Loaded.{loaded_is_image}
 
 -- ---- a run that goes on to its end is a run
@@ -96,26 +98,32 @@ check_accepts name v files_before files_after out_before out_after err_before er
     let given = ran.answer (λ three. omega (arith, three)) (λ six. omega (arith, six)) in
     check_told files_before.told name v given.0 given.1.by_some (sym (given.2.status_is (λ four. omega (arith, four))))
 
--- ---- `check seq`
+-- ---- `check seq` and `check seqplus`
 
-check_seq_told : (told : List ℕ → Option (Option (List ℕ))) (name : List ℕ) (v : Variant) (a : Answered) → MayAnswer told (check_seq_plan name v) a → a.status ≡ 0 →
-    HasAcceptedSeq v (told name)
+check_seq_told : (which : Datapath) (told : List ℕ → Option (Option (List ℕ))) (name : List ℕ) (v : Variant) (a : Answered) → MayAnswer told (check_seq_plan which name v) a →
+    a.status ≡ 0 → HasAcceptedSeq which v (told name)
 unfolding check_seq_plan
-check_seq_told told name v a (inl failed) none = absurd (high a 3 _ failed.1 (lit≤ tt) (omega (arith, none)))
-check_seq_told told name v a (inr (inl long)) none = absurd (high a 7 _ long.1 (lit≤ tt) (omega (arith, none)))
-check_seq_told told name v a (inr (inr (text, has, short, inr refuses))) none = absurd (design_high name seq_rows text a refuses (omega (arith, none)))
-check_seq_told told name v a (inr (inr (text, has, short, inl (terms, design, inl accepts)))) none =
+check_seq_told which told name v a (inl failed) none = absurd (high a 3 _ failed.1 (lit≤ tt) (omega (arith, none)))
+check_seq_told which told name v a (inr (inl long)) none = absurd (high a 7 _ long.1 (lit≤ tt) (omega (arith, none)))
+check_seq_told which told name v a (inr (inr (text, has, short, inr refuses))) none = absurd (design_high name (rows_of which) text a refuses (omega (arith, none)))
+check_seq_told which told name v a (inr (inr (text, has, short, inl (terms, design, inl accepts)))) none =
     record { text = text; has = has; terms = terms; design = design; accepted = accepts.accepted; refines = accepts.refines }
-check_seq_told told name v a (inr (inr (text, has, short, inl (terms, design, inr (inl denies))))) none =
+check_seq_told which told name v a (inr (inr (text, has, short, inl (terms, design, inr (inl denies))))) none =
     let one : a.status ≡ 1 = ap (λ x. x.status) denies.told in absurd (omega (arith, one, none))
-check_seq_told told name v a (inr (inr (text, has, short, inl (terms, design, inr (inr refuses))))) none =
-    absurd (control_high name seq_rows terms a refuses (omega (arith, none)))
+check_seq_told which told name v a (inr (inr (text, has, short, inl (terms, design, inr (inr refuses))))) none =
+    absurd (control_high name (rows_of which) terms a refuses (omega (arith, none)))
 
 check_seq_accepts : (name : List ℕ) (v : Variant) (files_before files_after : FilesSeen) (out_before out_after err_before err_after : SinkSeen) →
-    Ran (Some (check_seq name v)) files_before files_after out_before out_after err_before err_after 0 → HasAcceptedSeq v (files_before.told name)
+    Ran (Some (check_seq name v)) files_before files_after out_before out_after err_before err_after 0 → HasAcceptedSeq Seq v (files_before.told name)
 check_seq_accepts name v files_before files_after out_before out_after err_before err_after ran =
     let given = ran.answer (λ three. omega (arith, three)) (λ six. omega (arith, six)) in
-    check_seq_told files_before.told name v given.0 given.1.by_some (sym (given.2.status_is (λ four. omega (arith, four))))
+    check_seq_told Seq files_before.told name v given.0 given.1.by_some (sym (given.2.status_is (λ four. omega (arith, four))))
+
+check_plus_accepts : (name : List ℕ) (v : Variant) (files_before files_after : FilesSeen) (out_before out_after err_before err_after : SinkSeen) →
+    Ran (Some (check_plus name v)) files_before files_after out_before out_after err_before err_after 0 → HasAcceptedSeq Plus v (files_before.told name)
+check_plus_accepts name v files_before files_after out_before out_after err_before err_after ran =
+    let given = ran.answer (λ three. omega (arith, three)) (λ six. omega (arith, six)) in
+    check_seq_told Plus files_before.told name v given.0 given.1.by_some (sym (given.2.status_is (λ four. omega (arith, four))))
 
 -- ---- `psim` behind a check
 
@@ -193,9 +201,14 @@ psim_agrees name object size limit trace v files_before files_after out_before o
 -- ---- the same of the words of a call
 
 pub accepting_seq_words : (words : List (List ℕ)) (name : List ℕ) (v : Variant) (files_before files_after : FilesSeen) (out_before out_after err_before err_after : SinkSeen) →
-    form_of words ≡ Some (check_seq name v) → Ran (form_of words) files_before files_after out_before out_after err_before err_after 0 → HasAcceptedSeq v (files_before.told name)
+    form_of words ≡ Some (check_seq name v) → Ran (form_of words) files_before files_after out_before out_after err_before err_after 0 → HasAcceptedSeq Seq v (files_before.told name)
 accepting_seq_words words name v files_before files_after out_before out_after err_before err_after is ran =
     check_seq_accepts name v files_before files_after out_before out_after err_before err_after (rw is at ran)
+
+pub accepting_plus_words : (words : List (List ℕ)) (name : List ℕ) (v : Variant) (files_before files_after : FilesSeen) (out_before out_after err_before err_after : SinkSeen) →
+    form_of words ≡ Some (check_plus name v) → Ran (form_of words) files_before files_after out_before out_after err_before err_after 0 → HasAcceptedSeq Plus v (files_before.told name)
+accepting_plus_words words name v files_before files_after out_before out_after err_before err_after is ran =
+    check_plus_accepts name v files_before files_after out_before out_after err_before err_after (rw is at ran)
 
 pub accepting_words : (words : List (List ℕ)) (name : List ℕ) (v : Variant) (files_before files_after : FilesSeen) (out_before out_after err_before err_after : SinkSeen) →
     form_of words ≡ Some (check_pipe name v) → Ran (form_of words) files_before files_after out_before out_after err_before err_after 0 → HasAccepted v (files_before.told name)

@@ -1,5 +1,5 @@
 -- The verdict on a design, as an answer.
-use Rattle.std.proofs.Common.{◌≡◌, ◌⊎◌, ℕ, List, ◌∷◌, [], codes, refl, inl, inr, sym, ap, ◌∙◌, subst, Result, Err, Vec}
+use Rattle.std.proofs.Common.{◌≡◌, ◌⊎◌, ℕ, List, ◌∷◌, [], codes, refl, inl, inr, sym, ap, ◌∙◌, subst, None, Some, Result, Err, Vec}
 use Rattle.std.specs.Borrow.{Bor}
 use Rattle.std.specs.Global.{Global}
 use Rattle.ctl_atoms.specs.Atoms.{AreAtoms, IsCtlFault}
@@ -7,25 +7,23 @@ use Rattle.ctl_atoms.specs.declared.fault.CtlFault.TheVariants as fault
 use Rattle.ctl_atoms.specs.declared.leaf.Atom.{Atom}
 use Rattle.ctl_atoms.proofs.Solved.{leaves_exist}
 use Rattle.control_check.specs.PipeVerdicts as pipe
-use Rattle.control_check.specs.SeqVerdicts as seq
-use Rattle.control_check.specs.declared.verdict.Verdict.TheVariants.{No, Yes}
 use Rattle.dp_signals.specs.PipeTable.{pipe_rows}
-use Rattle.dp_signals.specs.SeqTable.{seq_rows}
 use Rattle.hcl_types.specs.Tables.{IsOrderOf, row_names}
 use Rattle.hcl_types.specs.declared.table.Row.{Row}
 use Rattle.hcl_types.specs.declared.term.Term.{Term}
 use Rattle.nets.specs.declared.evaluation.Valuation.{Valuation}
 use Rattle.pipe_motion.specs.declared.settings.Settings.{Settings}
-use Rattle.seq_refinement.specs.Accepted.{RefinesSeq}
 use Rattle.verdict_text.specs.PipeLines.{pipe_no, pipe_yes}
-use Rattle.verdict_text.specs.SeqLine.{seq_no}
+use Rattle.verdicts.specs.declared.decision.Failure.{Failure}
 use Rattle.y86_base.specs.declared.parts.Variant.{Variant}
 use Rattle.y86_cli.specs.Checks.{RefusesControl, AcceptsPipe, DeniesPipe, PipeChecks, RefusesPipe, SeqChecks}
+use Rattle.y86_cli.specs.Datapaths.{IsDecided, no_text, rows_of}
 use Rattle.y86_cli.specs.Lines.{blank_names, names_at}
 use Rattle.y86_cli.specs.Plan.{Answered, done, refused}
 use Rattle.y86_cli.specs.Does.{Says, SinkSeen}
 use Rattle.y86_cli.specs.Stops.{answer_at, status_of}
 use Rattle.y86_cli.proofs.Does.{refusal_says, says_more}
+use Rattle.y86_cli.specs.declared.datapath.Datapath.{Datapath}
 use Rattle.y86_cli.specs.declared.stop.Refusal.TheVariants.{OfNames}
 use Rattle.y86_cli.specs.declared.stop.Stop as code
 use Rattle.y86_cli.specs.declared.stop.Stop.TheVariants.{Refused, Memory}
@@ -44,39 +42,39 @@ pub over : (name why : Bor (List ℕ)) (names : Vec ℕ Global) (rows : List Row
 over name why names rows terms many reason told = inr (record { over = many; told = rw (reason, told) refl })
 
 -- the verdicts
-accepted : (name : List ℕ) (v : Variant) (terms : List Term) (a : Answered) → seq.AcceptsSeq v terms → RefinesSeq v terms → a ≡ done 0 (codes "yes\n") → SeqChecks name v terms a
-accepted name v terms a holds refines told = inl (record { accepted = holds; refines = refines; told = told })
+accepted : (which : Datapath) (name : List ℕ) (v : Variant) (terms : List Term) (a : Answered) → IsDecided which v terms None → a ≡ done 0 (codes "yes\n") → SeqChecks which name v terms a
+accepted which name v terms a holds told = inl (record { accepted = holds.0; refines = holds.1; told = told })
 
-denied : (name : List ℕ) (v : Variant) (terms : List Term) (ids : List ℕ) (rule : ℕ) (valuation : Valuation) (text : List ℕ) (a : Answered) → IsOrderOf seq_rows terms ids →
-    seq.IsSeqVerdict v terms (No rule valuation) →
-    (list : List Atom) × AreAtoms seq_rows terms list × (text ≡ seq_no (row_names seq_rows) rule valuation.bits list) → a ≡ done 1 text → SeqChecks name v terms a
-denied name v terms ids rule valuation text a order verdict said told =
-    let same : said.0 ≡ verdict.atoms = atoms_one seq_rows terms ids said.0 verdict.atoms order said.1 verdict.are in
+denied : (which : Datapath) (name : List ℕ) (v : Variant) (terms : List Term) (ids : List ℕ) (failure : Failure) (text : List ℕ) (a : Answered) → IsOrderOf (rows_of which) terms ids →
+    IsDecided which v terms (Some failure) →
+    (list : List Atom) × AreAtoms (rows_of which) terms list × (text ≡ no_text which failure.rule failure.valuation.bits list) → a ≡ done 1 text → SeqChecks which name v terms a
+denied which name v terms ids failure text a order rejects said told =
+    let same : said.0 ≡ rejects.atoms = atoms_one (rows_of which) terms ids said.0 rejects.atoms order said.1 rejects.are in
     inr (inl (record {
-      rule = rule;
-      valuation = valuation.bits;
-      rejected = verdict;
-      told = told ∙ ap (done 1) (said.2 ∙ ap (λ (list : List Atom). seq_no (row_names seq_rows) rule valuation.bits list) same);
+      rule = failure.rule;
+      valuation = failure.valuation.bits;
+      rejected = rejects;
+      told = told ∙ ap (done 1) (said.2 ∙ ap (λ (list : List Atom). no_text which failure.rule failure.valuation.bits list) same);
     }))
 
 -- and as what was said
-pub said_yes : (name : List ℕ) (v : Variant) (terms : List Term) (text : List ℕ) (old new : SinkSeen) (result : Result ℕ code.Stop) → seq.AcceptsSeq v terms → RefinesSeq v terms →
+pub said_yes : (which : Datapath) (name : List ℕ) (v : Variant) (terms : List Term) (text : List ℕ) (old new : SinkSeen) (result : Result ℕ code.Stop) → IsDecided which v terms None →
     text ≡ codes "yes\n" →
-    Says (λ a. a ≡ done 0 text) old new result → Says (SeqChecks name v terms) old new result
-said_yes name v terms text old new result holds refines same s =
-    says_more (λ a. a ≡ done 0 text) (SeqChecks name v terms) old new result (λ a told. accepted name v terms a holds refines (told ∙ ap (done 0) same)) s
+    Says (λ a. a ≡ done 0 text) old new result → Says (SeqChecks which name v terms) old new result
+said_yes which name v terms text old new result holds same s =
+    says_more (λ a. a ≡ done 0 text) (SeqChecks which name v terms) old new result (λ a told. accepted which name v terms a holds (told ∙ ap (done 0) same)) s
 
-pub said_no : (name : List ℕ) (v : Variant) (terms : List Term) (ids : List ℕ) (rule : ℕ) (valuation : Valuation) (text : List ℕ) (old new : SinkSeen) (result : Result ℕ code.Stop) →
-    IsOrderOf seq_rows terms ids → seq.IsSeqVerdict v terms (No rule valuation) →
-    (list : List Atom) × AreAtoms seq_rows terms list × (text ≡ seq_no (row_names seq_rows) rule valuation.bits list) →
-    Says (λ a. a ≡ done 1 text) old new result → Says (SeqChecks name v terms) old new result
-said_no name v terms ids rule valuation text old new result order verdict told s =
-    says_more (λ a. a ≡ done 1 text) (SeqChecks name v terms) old new result (λ a is. denied name v terms ids rule valuation text a order verdict told is) s
+pub said_no : (which : Datapath) (name : List ℕ) (v : Variant) (terms : List Term) (ids : List ℕ) (failure : Failure) (text : List ℕ) (old new : SinkSeen) (result : Result ℕ code.Stop) →
+    IsOrderOf (rows_of which) terms ids → IsDecided which v terms (Some failure) →
+    (list : List Atom) × AreAtoms (rows_of which) terms list × (text ≡ no_text which failure.rule failure.valuation.bits list) →
+    Says (λ a. a ≡ done 1 text) old new result → Says (SeqChecks which name v terms) old new result
+said_no which name v terms ids failure text old new result order rejects told s =
+    says_more (λ a. a ≡ done 1 text) (SeqChecks which name v terms) old new result (λ a is. denied which name v terms ids failure text a order rejects told is) s
 
-pub said_refusal : (name : List ℕ) (v : Variant) (terms : List Term) (seen : SinkSeen) (stop : code.Stop) →
-    (stop ≡ Memory) ⊎ ((status_of stop ≡ 5) × RefusesControl name seq_rows terms (answer_at stop)) → Says (SeqChecks name v terms) seen seen (Err stop)
-said_refusal name v terms seen stop (inl memory) = rw memory refl
-said_refusal name v terms seen stop (inr refused) = refusal_says (SeqChecks name v terms) seen stop refused.0 (inr (inr refused.1))
+pub said_refusal : (which : Datapath) (name : List ℕ) (v : Variant) (terms : List Term) (seen : SinkSeen) (stop : code.Stop) →
+    (stop ≡ Memory) ⊎ ((status_of stop ≡ 5) × RefusesControl name (rows_of which) terms (answer_at stop)) → Says (SeqChecks which name v terms) seen seen (Err stop)
+said_refusal which name v terms seen stop (inl memory) = rw memory refl
+said_refusal which name v terms seen stop (inr refused) = refusal_says (SeqChecks which name v terms) seen stop refused.0 (inr (inr refused.1))
 
 -- ---- the verdicts on PIPE
 

@@ -6,6 +6,7 @@ pub mod Does
 pub mod Loaded
 pub mod PipeRuns
 pub mod Plans
+pub mod PlusRuns
 pub mod Ran
 pub mod Runs
 pub mod SeqRuns

@@ -12,16 +12,18 @@ use Rattle.yo_object.specs.ObjectText.{object_of}
 use Rattle.yo_object.specs.declared.object.YoFault.{YoFault}
 use Rattle.y86_cli.specs.Answers.{image_of_text, plan_in, plan_of, run_status, text_of_listing, yas_plan, yis_plan, check_pipe_plan, check_seq_plan, checked_plan, hcl_plan, seq_plan, ssim_plan, SeqAnswers, pipe_plan, psim_plan, PipeAnswers, yis_run}
 use Rattle.y86_cli.specs.Checks.{PipeChecks, RefusesControl, RefusesPipe, SeqChecks}
+use Rattle.y86_cli.specs.Datapaths.{rows_of}
 use Rattle.y86_cli.specs.Designs.{RefusesDesign}
 use Rattle.hcl_types.specs.declared.table.Row.{Row}
 use Rattle.hcl_types.specs.declared.term.Term.{Term}
-use Rattle.dp_signals.specs.SeqTable.{seq_rows}
 use Rattle.dp_signals.specs.PipeTable.{pipe_rows}
 use Rattle.y86_cli.specs.Does.{FilesSeen, SinkSeen}
-use Rattle.y86_words.specs.Forms.{Command, yas, yis, hcl, ssim, psim, check_seq, check_pipe}
+use Rattle.y86_words.specs.Forms.{Command, yas, yis, hcl, ssim, ssimp, psim, check_seq, check_plus, check_pipe}
 use Rattle.y86_cli.specs.Lines.{assembly_fault_line, object_fault_line, read_fault_line, too_long_line}
 use Rattle.y86_cli.specs.Plan.{Answered, Plan, says, reads, gives, answers, after, refused, Allows, Tells, IsDetermined}
 use Rattle.y86_cli.specs.Ran.{Ran, Told}
+use Rattle.y86_cli.specs.declared.datapath.Datapath.{Datapath}
+use Rattle.y86_cli.specs.declared.datapath.Datapath.TheVariants.{Seq, Plus}
 
 -- ---- determined plans
 
@@ -164,9 +166,9 @@ image_proper : (name : List ℕ) (loaded : Result (List ℕ) YoFault) (a : Answe
 image_proper name (Ok image) a is = absurd (cc (is))
 image_proper name (Err fault) a is = refused_proper (object_fault_line name fault) a (cc (is))
 
-seq_proper : (v : Variant) (terms : List Term) (limit : ℕ) (image : List ℕ) → AllProper (says (SeqAnswers v terms limit image))
+seq_proper : (which : Datapath) (v : Variant) (terms : List Term) (limit : ℕ) (image : List ℕ) → AllProper (says (SeqAnswers which v terms limit image))
 unfolding AllProper
-seq_proper v terms limit image = λ a said. proper_as a _ (inl (run_status_low said.0.stat, refl)) said.3
+seq_proper which v terms limit image = λ a said. proper_as a _ (inl (run_status_low said.0.stat, refl)) said.3
 
 pipe_proper : (v : Variant) (terms : List Term) (limit : ℕ) (trace : Bool) (verdict image : List ℕ) → AllProper (says (PipeAnswers v terms limit trace verdict image))
 unfolding AllProper
@@ -181,10 +183,19 @@ control_proper : (name : List ℕ) (rows : List Row) (terms : List Term) (a : An
 control_proper name rows terms a (inl mixed) = refused_proper _ a mixed.told
 control_proper name rows terms a (inr over) = refused_proper _ a over.told
 
-seq_check_proper : (name : List ℕ) (v : Variant) (terms : List Term) (a : Answered) → SeqChecks name v terms a → IsProper a
-seq_check_proper name v terms a (inl accepts) = proper_as a _ (inl (lit≤ tt, refl)) accepts.told
-seq_check_proper name v terms a (inr (inl denied)) = proper_as a _ (inl (lit≤ tt, refl)) denied.told
-seq_check_proper name v terms a (inr (inr refuses)) = control_proper name seq_rows terms a refuses
+seq_check_proper : (which : Datapath) (name : List ℕ) (v : Variant) (terms : List Term) (a : Answered) → SeqChecks which name v terms a → IsProper a
+seq_check_proper which name v terms a (inl accepts) = proper_as a _ (inl (lit≤ tt, refl)) accepts.told
+seq_check_proper which name v terms a (inr (inl denied)) = proper_as a _ (inl (lit≤ tt, refl)) denied.told
+seq_check_proper which name v terms a (inr (inr refuses)) = control_proper name (rows_of which) terms a refuses
+
+ssim_proper : (which : Datapath) (name object : List ℕ) (size limit : ℕ) (v : Variant) → AllProper (ssim_plan which name object size limit v)
+unfolding AllProper seq_plan ssim_plan
+ssim_proper which name object size limit v =
+    λ text. (λ terms is bytes. after_proper _ _ (λ image. seq_proper which v terms limit image) (image_proper object (object_of bytes size)), design_proper name (rows_of which) text)
+
+check_seq_proper : (which : Datapath) (file : List ℕ) (v : Variant) → AllProper (check_seq_plan which file v)
+unfolding AllProper check_seq_plan
+check_seq_proper which file v = λ text. (λ terms is a said. seq_check_proper which file v terms a said, design_proper file (rows_of which) text)
 
 refuses_pipe_proper : (name : List ℕ) (v : Variant) (terms : List Term) (a : Answered) → RefusesPipe name v terms a → IsProper a
 refuses_pipe_proper name v terms a (inl denied) = proper_as a _ (inl (lit≤ tt, refl)) denied.told
@@ -208,17 +219,18 @@ checked_proper name terms object size limit trace true v =
     (λ yes accepts. object_proper yes terms object size limit trace v, refuses_pipe_proper name v terms)
 
 command_proper : (command : Command) → AllProper (plan_of command)
-unfolding AllProper check_pipe_plan check_seq_plan yas_plan yis_plan hcl_plan seq_plan ssim_plan psim_plan
+unfolding AllProper check_pipe_plan yas_plan yis_plan hcl_plan psim_plan
 command_proper (yas source size v) =
     λ bytes. after_proper _ _ (λ text. answers_proper _ (inl (lit≤ tt, refl))) (listing_proper source bytes (assembled v bytes size))
 command_proper (yis object size limit v) =
     λ bytes. after_proper _ _ (λ image. answers_proper _ (run_proper v image limit)) (image_proper object (object_of bytes size))
 command_proper (hcl file) = λ text. (λ tree is. answers_proper _ (inl (lit≤ tt, refl)), λ a refuses. refused_proper _ a refuses.2)
-command_proper (ssim name object size limit v) =
-    λ text. (λ terms is bytes. after_proper _ _ (λ image. seq_proper v terms limit image) (image_proper object (object_of bytes size)), design_proper name seq_rows text)
+command_proper (ssim name object size limit v) = ssim_proper Seq name object size limit v
+command_proper (ssimp name object size limit v) = ssim_proper Plus name object size limit v
 command_proper (psim name object size limit trace checked v) =
     λ text. (λ terms is. checked_proper name terms object size limit trace checked v, design_proper name pipe_rows text)
-command_proper (check_seq file v) = λ text. (λ terms is a said. seq_check_proper file v terms a said, design_proper file seq_rows text)
+command_proper (check_seq file v) = check_seq_proper Seq file v
+command_proper (check_plus file v) = check_seq_proper Plus file v
 command_proper (check_pipe file v) = λ text. (λ terms is a said. pipe_check_proper file v terms a said, design_proper file pipe_rows text)
 
 done_of : (a : Answered) → IsProper a → a.status ≤ 1 → a.err ≡ []

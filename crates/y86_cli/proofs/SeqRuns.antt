@@ -12,6 +12,7 @@ use Rattle.yis_run.specs.Report.{report}
 use Rattle.y86_cli.specs.Answers.{SeqAnswers, run_status}
 use Rattle.y86_cli.specs.Does.{SinkSeen, SaidPart, SaidWhole}
 use Rattle.y86_cli.specs.Plan.{done}
+use Rattle.y86_cli.specs.declared.datapath.Datapath.TheVariants as datapath
 use Rattle.y86_cli.proofs.Runs.{seq_ran, seq_size}
 
 from_start : (m p q : Seq) (k : ℕ) (records : List Rec) → m ≡ p → Calls m k q records → Calls p k q records
@@ -30,7 +31,7 @@ texts_same image first state last records steps copied ended counted_is =
 pub seq_whole : (v : Variant) (terms : List Term) (order image : List ℕ) (k : ℕ) (m q : Seq) (records : List Rec) (first : List ℕ) (last : Machine)
     (steps status : ℕ) (before after : SinkSeen) → first ≡ image → m ≡ started v terms order image → Calls m k q records → length records ≡ steps → last ≡ q.state →
     status ≡ run_status last.stat → status ≤ 1 → Took before.taken after.taken (report first last steps) → after.faults ≡ before.faults →
-    SaidWhole (SeqAnswers v terms k image) before after status
+    SaidWhole (SeqAnswers datapath.Seq v terms k image) before after status
 seq_whole v terms order image k m q records first last steps status before after copied begun calls counted_is ended is low went no_fault = record {
   answer = done (run_status q.state.stat) (report image q.state (length records));
   allowed = (q.state, records, seq_ran v terms order image k q records (from_start m _ q k records begun calls), refl);
@@ -44,7 +45,7 @@ seq_whole v terms order image k m q records first last steps status before after
 pub seq_part : (v : Variant) (terms : List Term) (order image : List ℕ) (k : ℕ) (m q : Seq) (records : List Rec) (first : List ℕ) (last : Machine)
     (steps : ℕ) (before after : SinkSeen) → first ≡ image → m ≡ started v terms order image → Calls m k q records → length records ≡ steps → last ≡ q.state →
     TookPart before.taken after.taken (report first last steps) → after.faults ≡ counted before.faults →
-    SaidPart (SeqAnswers v terms k image) before after
+    SaidPart (SeqAnswers datapath.Seq v terms k image) before after
 seq_part v terms order image k m q records first last steps before after copied begun calls counted_is ended went one_fault = record {
   answer = done (run_status q.state.stat) (report image q.state (length records));
   allowed = (q.state, records, seq_ran v terms order image k q records (from_start m _ q k records begun calls), refl);

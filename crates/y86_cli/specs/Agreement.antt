@@ -1,13 +1,10 @@
 -- What an answer to `check`, or to `psim` behind a check, says of the run of instructions.
 use Rattle.std.specs.Prelude.{◌≡◌, ℕ, Bool, true, List, ◌++◌, length, Option, Ok}
 use Rattle.control_check.specs.PipeVerdicts.{AcceptsPipe, RefinesPipe}
-use Rattle.control_check.specs.SeqVerdicts.{AcceptsSeq}
 use Rattle.dp_signals.specs.PipeRun.{Pipe, has_stopped}
 use Rattle.dp_signals.specs.PipeTable.{pipe_rows}
-use Rattle.dp_signals.specs.SeqTable.{seq_rows}
 use Rattle.hcl_types.specs.declared.term.Term.{Term}
 use Rattle.pipe_motion.specs.declared.settings.Settings.{Settings}
-use Rattle.seq_refinement.specs.Accepted.{RefinesSeq}
 use Rattle.retire_trace.specs.Drive.{traced}
 use Rattle.verdict_text.specs.PipeLines.{pipe_yes}
 use Rattle.wb_io.specs.Files.{HasBytes}
@@ -18,10 +15,12 @@ use Rattle.yis_run.specs.Report.{register_lines, report}
 use Rattle.yo_object.specs.ObjectText.{object_of}
 use Rattle.y86_cli.specs.Answers.{run_status}
 use Rattle.y86_cli.specs.Checks.{DeniesPipe}
+use Rattle.y86_cli.specs.Datapaths.{Accepts, Refines, rows_of}
 use Rattle.y86_cli.specs.Designs.{IsDesign}
 use Rattle.y86_cli.specs.Does.{SinkSeen}
 use Rattle.y86_cli.specs.Plan.{Answered}
 use Rattle.y86_cli.specs.PipeRuns.{RunsTo, end_of, run_text}
+use Rattle.y86_cli.specs.declared.datapath.Datapath.{Datapath}
 
 -- A file with an accepted design: the bytes that are told of it, if any, are the text; the text is read, bound and ordered; every
 -- obligation holds of the design at its settings. So on every image whose instructions fetch no byte that an earlier one stored,
@@ -35,14 +34,14 @@ pub record HasAccepted (v : Variant) (told : Option (Option (List ℕ))) : Type 
   pub accepted : AcceptsPipe v terms settings
   pub refines : RefinesPipe v terms
 
--- The same for SEQ: on every image its machine is after each number of cycles that of the run of instructions.
-pub record HasAcceptedSeq (v : Variant) (told : Option (Option (List ℕ))) : Type 0 where
+-- The same for a sequential datapath: on every image its machine is after each number of cycles that of the run of instructions.
+pub record HasAcceptedSeq (which : Datapath) (v : Variant) (told : Option (Option (List ℕ))) : Type 0 where
   pub text : List ℕ
   pub has : HasBytes told text
   pub terms : List Term
-  pub design : IsDesign seq_rows text terms
-  pub accepted : AcceptsSeq v terms
-  pub refines : RefinesSeq v terms
+  pub design : IsDesign (rows_of which) text terms
+  pub accepted : Accepts which v terms
+  pub refines : Refines which v terms
 
 -- What is printed of a pipeline that has retired r instructions is of the run of these: the lines of the trace are of its records,
 -- those of the registers of its registers; and where the pipeline has stopped, the whole report is of its machine.

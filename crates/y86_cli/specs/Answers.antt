@@ -2,8 +2,6 @@
 use Rattle.std.specs.Prelude.{◌≡◌, ℕ, Bool, true, false, List, [], ◌++◌, length, Option, Some, None, Result, Ok, Err}
 use Rattle.dp_signals.specs.PipeRun.{Pipe}
 use Rattle.dp_signals.specs.PipeTable.{pipe_rows}
-use Rattle.dp_signals.specs.SeqRun.{SeqRun}
-use Rattle.dp_signals.specs.SeqTable.{seq_rows}
 use Rattle.hcl_read.specs.Print as hcl_text
 use Rattle.hcl_read.specs.Read.{ReadsAs}
 use Rattle.y86_base.specs.declared.parts.Stat.{Stat}
@@ -21,11 +19,14 @@ use Rattle.yo_object.specs.ObjectText.{object_of}
 use Rattle.yo_object.specs.Printed.{printed}
 use Rattle.yo_object.specs.declared.object.YoFault.{YoFault}
 use Rattle.y86_cli.specs.Checks.{AcceptsPipe, PipeChecks, RefusesPipe, SeqChecks}
+use Rattle.y86_cli.specs.Datapaths.{Runs, rows_of}
 use Rattle.y86_cli.specs.Designs.{IsDesign, RefusesDesign, RefusesHcl}
-use Rattle.y86_words.specs.Forms.{Command, yas, yis, hcl, ssim, psim, check_seq, check_pipe}
+use Rattle.y86_words.specs.Forms.{Command, yas, yis, hcl, ssim, ssimp, psim, check_seq, check_plus, check_pipe}
 use Rattle.y86_cli.specs.Lines.{assembly_fault_line, object_fault_line, usage_line}
 use Rattle.y86_cli.specs.PipeRuns.{RunsTo, run_text}
 use Rattle.y86_cli.specs.Plan.{Answered, Plan, after, answers, done, gives, reads, refused, says}
+use Rattle.y86_cli.specs.declared.datapath.Datapath.{Datapath}
+use Rattle.y86_cli.specs.declared.datapath.Datapath.TheVariants.{Seq, Plus}
 
 -- the most bytes that an object file or an assembly file has, and an HCL file
 abbrev pub file_limit : ℕ
@@ -56,10 +57,10 @@ unfoldable pub yis_run : Variant → List ℕ → ℕ → Answered
 yis_run v image limit =
     done (run_status (run v image limit).stat) (report image (run v image limit) (length (records v image limit)))
 
--- the answers to the run of an image on SEQ under a design: a step of the report is a record
-abbrev pub SeqAnswers : Variant → List Term → ℕ → List ℕ → Answered → Type 0
-SeqAnswers v terms limit image a =
-    (end : Machine) × (records : List Rec) × SeqRun v terms image limit end records × (a ≡ done (run_status end.stat) (report image end (length records)))
+-- the answers to the run of an image on a sequential datapath under a design: a step of the report is a record
+abbrev pub SeqAnswers : Datapath → Variant → List Term → ℕ → List ℕ → Answered → Type 0
+SeqAnswers which v terms limit image a =
+    (end : Machine) × (records : List Rec) × Runs which v terms image limit end records × (a ≡ done (run_status end.stat) (report image end (length records)))
 
 -- the answers to the run of an image on PIPE under a design, behind the text of a verdict
 abbrev pub PipeAnswers : Variant → List Term → ℕ → Bool → List ℕ → List ℕ → Answered → Type 0
@@ -79,14 +80,14 @@ yis_plan object size limit v =
 unfoldable pub hcl_plan : List ℕ → Plan
 hcl_plan name = reads name hcl_limit (λ text. gives (ReadsAs text) (RefusesHcl name text) (λ file. answers (done 0 (hcl_text.printed file.items))))
 
--- the run of an object file on SEQ under a design
-unfoldable pub seq_plan : List Term → List ℕ → ℕ → ℕ → Variant → Plan
-seq_plan terms object size limit v =
-    reads object file_limit (λ bytes. after (image_of_text object (object_of bytes size)) (λ image. says (SeqAnswers v terms limit image)))
+-- the run of an object file on a sequential datapath under a design
+unfoldable pub seq_plan : Datapath → List Term → List ℕ → ℕ → ℕ → Variant → Plan
+seq_plan which terms object size limit v =
+    reads object file_limit (λ bytes. after (image_of_text object (object_of bytes size)) (λ image. says (SeqAnswers which v terms limit image)))
 
-unfoldable pub ssim_plan : List ℕ → List ℕ → ℕ → ℕ → Variant → Plan
-ssim_plan name object size limit v =
-    reads name hcl_limit (λ text. gives (IsDesign seq_rows text) (RefusesDesign name seq_rows text) (λ terms. seq_plan terms object size limit v))
+unfoldable pub ssim_plan : Datapath → List ℕ → List ℕ → ℕ → ℕ → Variant → Plan
+ssim_plan which name object size limit v =
+    reads name hcl_limit (λ text. gives (IsDesign (rows_of which) text) (RefusesDesign name (rows_of which) text) (λ terms. seq_plan which terms object size limit v))
 
 -- the run of an object file on PIPE under a design, behind the text of a verdict
 unfoldable pub pipe_plan : List ℕ → List Term → List ℕ → ℕ → ℕ → Bool → Variant → Plan
@@ -103,10 +104,10 @@ unfoldable pub psim_plan : List ℕ → List ℕ → ℕ → ℕ → Bool → Bo
 psim_plan name object size limit trace checked v =
     reads name hcl_limit (λ text. gives (IsDesign pipe_rows text) (RefusesDesign name pipe_rows text) (λ terms. checked_plan name terms object size limit trace checked v))
 
--- the verdict on a design for SEQ
-unfoldable pub check_seq_plan : List ℕ → Variant → Plan
-check_seq_plan name v =
-    reads name hcl_limit (λ text. gives (IsDesign seq_rows text) (RefusesDesign name seq_rows text) (λ terms. says (SeqChecks name v terms)))
+-- the verdict on a design for a sequential datapath
+unfoldable pub check_seq_plan : Datapath → List ℕ → Variant → Plan
+check_seq_plan which name v =
+    reads name hcl_limit (λ text. gives (IsDesign (rows_of which) text) (RefusesDesign name (rows_of which) text) (λ terms. says (SeqChecks which name v terms)))
 
 -- the verdict on a design for PIPE
 unfoldable pub check_pipe_plan : List ℕ → Variant → Plan
@@ -117,9 +118,11 @@ abbrev pub plan_of : Command → Plan
 plan_of (yas source size v) = yas_plan source size v
 plan_of (yis object size limit v) = yis_plan object size limit v
 plan_of (hcl file) = hcl_plan file
-plan_of (ssim name object size limit v) = ssim_plan name object size limit v
+plan_of (ssim name object size limit v) = ssim_plan Seq name object size limit v
+plan_of (ssimp name object size limit v) = ssim_plan Plus name object size limit v
 plan_of (psim name object size limit trace checked v) = psim_plan name object size limit trace checked v
-plan_of (check_seq name v) = check_seq_plan name v
+plan_of (check_seq name v) = check_seq_plan Seq name v
+plan_of (check_plus name v) = check_seq_plan Plus name v
 plan_of (check_pipe name v) = check_pipe_plan name v
 
 -- the plan of words that are a command or none

@@ -2,19 +2,17 @@
 use Rattle.std.specs.Prelude.{◌≡◌, ◌⊎◌, ℕ, codes, Bool, List, [], ◌∷◌}
 use Rattle.ctl_atoms.specs.Atoms.{IsFirstMixed, IsOver64}
 use Rattle.control_check.specs.PipeVerdicts as pipe
-use Rattle.control_check.specs.SeqVerdicts as seq
 use Rattle.dp_signals.specs.PipeTable.{pipe_rows}
-use Rattle.dp_signals.specs.SeqTable.{seq_rows}
 use Rattle.hcl_types.specs.Tables.{row_names}
 use Rattle.hcl_types.specs.declared.table.Row.{Row}
 use Rattle.hcl_types.specs.declared.term.Term.{Term}
 use Rattle.pipe_motion.specs.declared.settings.Settings.{Settings}
-use Rattle.seq_refinement.specs.Accepted.{RefinesSeq}
 use Rattle.verdict_text.specs.PipeLines.{pipe_no, pipe_yes}
-use Rattle.verdict_text.specs.SeqLine.{seq_no}
 use Rattle.y86_base.specs.declared.parts.Variant.{Variant}
+use Rattle.y86_cli.specs.Datapaths.{Accepts, Refines, Rejects, no_text, rows_of}
 use Rattle.y86_cli.specs.Lines.{blank_names, names_at, names_line}
 use Rattle.y86_cli.specs.Plan.{Answered, done, refused}
+use Rattle.y86_cli.specs.declared.datapath.Datapath.{Datapath}
 use Rattle.y86_cli.specs.declared.verdict.PipeText.{PipeText}
 use Rattle.y86_cli.specs.declared.verdict.PipeText.TheVariants as pipe_text
 
@@ -32,22 +30,26 @@ pub record RefusesAtoms (name : List ℕ) (rows : List Row) (terms : List Term) 
 abbrev pub RefusesControl : List ℕ → List Row → List Term → Answered → Type 0
 RefusesControl name rows terms a = RefusesMixed name rows terms a ⊎ RefusesAtoms name rows terms a
 
+-- ---- of a sequential datapath
+
 -- Yes: every obligation holds of the design, so its machine is that of the run of instructions
-pub record AcceptsSeq (v : Variant) (terms : List Term) (a : Answered) : Type 0 where
-  pub accepted : seq.AcceptsSeq v terms
-  pub refines : RefinesSeq v terms
+pub record AcceptsSeq (which : Datapath) (v : Variant) (terms : List Term) (a : Answered) : Type 0 where
+  pub accepted : Accepts which v terms
+  pub refines : Refines which v terms
   pub told : a ≡ done 0 (codes "yes\n")
 
 -- No: the first obligation that is false of some valuation, and the least such valuation
-pub record DeniesSeq (v : Variant) (terms : List Term) (a : Answered) : Type 0 where
+pub record DeniesSeq (which : Datapath) (v : Variant) (terms : List Term) (a : Answered) : Type 0 where
   pub rule : ℕ
   pub valuation : List Bool
-  pub rejected : seq.RejectsSeq v terms rule valuation
-  pub told : a ≡ done 1 (seq_no (row_names seq_rows) rule valuation rejected.atoms)
+  pub rejected : Rejects which v terms rule valuation
+  pub told : a ≡ done 1 (no_text which rule valuation rejected.atoms)
 
--- the answers to the check of a design for SEQ
-abbrev pub SeqChecks : List ℕ → Variant → List Term → Answered → Type 0
-SeqChecks name v terms a = AcceptsSeq v terms a ⊎ (DeniesSeq v terms a ⊎ RefusesControl name seq_rows terms a)
+-- the answers to the check of a design
+abbrev pub SeqChecks : Datapath → List ℕ → Variant → List Term → Answered → Type 0
+SeqChecks which name v terms a = AcceptsSeq which v terms a ⊎ (DeniesSeq which v terms a ⊎ RefusesControl name (rows_of which) terms a)
+
+-- ---- of the pipeline
 
 -- Yes: every obligation holds of the design at its settings, so its pipeline refines the run of instructions
 pub record AcceptsPipe (v : Variant) (terms : List Term) (a : Answered) : Type 0 where

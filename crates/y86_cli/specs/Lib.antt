@@ -2,6 +2,7 @@ pub mod Answers
 pub mod Agreement
 pub mod Came
 pub mod Checks
+pub mod Datapaths
 pub mod Designs
 pub mod Does
 pub mod Lines

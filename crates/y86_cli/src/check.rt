@@ -1,63 +1,64 @@
-//! `check seq` and `check pipe`: the verdict on the design of an HCL file.
+//! `check seq`, `check seqplus` and `check pipe`: the verdict on the design of an HCL file.
 ghost use Rattle.std.specs.Prelude.{◌≡◌, List, ℕ};
 ghost use Rattle.dp_signals.specs.PipeTable.{pipe_rows};
-ghost use Rattle.dp_signals.specs.SeqTable.{seq_rows};
 ghost use Rattle.hcl_types.specs.Tables.{IsBound, IsOrderOf};
 ghost use Rattle.y86_cli.specs.Answers.{check_pipe_plan, check_seq_plan};
 ghost use Rattle.y86_cli.specs.Checks.{PipeChecks, SeqChecks};
+ghost use Rattle.y86_cli.specs.Datapaths.{rows_of};
 ghost use Rattle.y86_cli.specs.Does.{Does, NoReadFailed, Says, files_seen, sink_seen};
 
-use crate::design::{Ordered, pipe_design, seq_design};
+use crate::datapath::Datapath;
+use crate::design::{Ordered, pipe_design, seq_design, table_of};
 use crate::saying::say;
+use crate::sequential::{decided, seq_text};
 use crate::stages::{HCL_LIMIT, read_file};
 use crate::stop::Stop;
-use crate::verdict::{PipeText, control_stop, pipe_verdict, seq_text};
-use control_check::{CheckFault, Verdict, check_seq};
-use dp_signals::{law_of_tables, seq_table};
+use crate::verdict::{PipeText, control_stop, pipe_verdict};
+use control_check::CheckFault;
 use std::alloc::Global;
 use wb_io::{Files, Sink};
 use y86_base::Variant;
 
-/// Decides a design for SEQ, and writes the verdict.
+/// Decides a design for a sequential datapath, and writes the verdict.
 #[tactic(auto, using(crate::proofs::Checks::said_yes, crate::proofs::Checks::said_no, crate::proofs::Checks::said_refusal))]
 fn say_seq<'a, O: Sink>(
     alloc: Global,
+    which: Datapath,
     name: &'a str,
     variant: Variant,
     ordered: &Ordered,
     out: &mut O,
 ) -> Result<u8, Stop<'a>>
-    requires bound { IsBound seq_rows ordered.now.design.terms }
-    requires order { IsOrderOf seq_rows ordered.now.design.terms ordered.now.order.ids }
-    ensures { Says (SeqChecks name.now variant ordered.now.design.terms)
+    requires bound { IsBound (rows_of which) ordered.now.design.terms }
+    requires order { IsOrderOf (rows_of which) ordered.now.design.terms ordered.now.order.ids }
+    ensures { Says (SeqChecks which name.now variant ordered.now.design.terms)
         (sink_seen (O.taken out.old) (O.faults out.old)) (sink_seen (O.taken out.new) (O.faults out.new)) result }
 {
-    law_of_tables();
-    let Ok(table) = seq_table(alloc) else {
+    let Ok(table) = table_of(alloc, which) else {
         return Err(Stop::Memory);
     };
-    match check_seq(alloc, variant, &ordered.design, &ordered.order) {
-        Ok(Verdict::Yes(_)) => say(0, b"yes\n", out),
-        Ok(Verdict::No { rule, valuation }) => {
-            match seq_text(alloc, &table, ordered, rule, &valuation) {
-                Ok(text) => say(1, text.as_slice(), out),
-                Err(stop) => Err(stop),
-            }
-        }
+    match decided(alloc, which, variant, ordered) {
+        Ok(None) => say(0, b"yes\n", out),
+        Ok(Some(failure)) => match seq_text(alloc, which, &table, ordered, &failure) {
+            Ok(text) => say(1, text.as_slice(), out),
+            Err(stop) => Err(stop),
+        },
         Err(CheckFault::Ctl(fault)) => Err(control_stop(alloc, name, table.rows.items(), fault)),
         Err(CheckFault::Memory) => Err(Stop::Memory),
     }
 }
 
-/// `check seq`: decides whether SEQ under an HCL file does what its instructions mean, for every program.
+/// `check seq` and `check seqplus`: decides whether SEQ or SEQ+ under an HCL file does what its instructions mean, for
+/// every program.
 pub fn check_seq_file<'a, F: Files, O: Sink>(
     alloc: Global,
+    which: Datapath,
     name: &'a str,
     variant: Variant,
     files: &mut F,
     out: &mut O,
 ) -> Result<u8, Stop<'a>>
-    ensures does { Does (check_seq_plan name.now variant)
+    ensures does { Does (check_seq_plan which name.now variant)
         (files_seen (F.told files.old) (F.faults files.old)) (files_seen (F.told files.new) (F.faults files.new))
         (sink_seen (O.taken out.old) (O.faults out.old)) (sink_seen (O.taken out.new) (O.faults out.new)) result }
     ensures no_read_failed { NoReadFailed (files_seen (F.told files.old) (F.faults files.old)) (files_seen (F.told files.new) (F.faults files.new)) result }
@@ -66,11 +67,11 @@ pub fn check_seq_file<'a, F: Files, O: Sink>(
         Ok(source) => source,
         Err(stop) => return Err(stop),
     };
-    let ordered = match seq_design(alloc, name, source.as_slice()) {
+    let ordered = match seq_design(alloc, which, name, source.as_slice()) {
         Ok(ordered) => ordered,
         Err(stop) => return Err(stop),
     };
-    say_seq(alloc, name, variant, &ordered, out)
+    say_seq(alloc, which, name, variant, &ordered, out)
 }
 
 /// Decides a design for PIPE, and writes the verdict.

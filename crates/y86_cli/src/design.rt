@@ -1,9 +1,9 @@
 //! The design stage: an HCL text, bound over a table, with an order of its signals; and names of rows as they are told.
-ghost use Rattle.std.specs.Prelude.{◌≡◌, ◌≢◌, ◌⊎◌, ◌++◌, ◌∷◌, [], List, ℕ, IfOk, OnOk, map};
+ghost use Rattle.std.specs.Prelude.{◌≡◌, ◌≢◌, ◌⊎◌, ◌++◌, ◌∷◌, [], Err, List, ℕ, IfOk, OnErr, OnOk, map};
 ghost use Rattle.dp_signals.specs.PipeTable.{pipe_rows};
-ghost use Rattle.dp_signals.specs.SeqTable.{seq_rows};
 ghost use Rattle.hcl_types.specs.Tables.{IsBound, IsOrderOf, IsSound, row_names};
 ghost use Rattle.hcl_types.specs.declared.fault.BindWhy.TheVariants.{Memory as OutOfMemory};
+ghost use Rattle.y86_cli.specs.Datapaths.{rows_of};
 ghost use Rattle.y86_cli.specs.Designs.{IsDesign, RefusesDesign};
 ghost use Rattle.y86_cli.specs.Does.{GivesOne};
 ghost use Rattle.y86_cli.specs.Lines as text;
@@ -11,11 +11,13 @@ ghost use Rattle.y86_cli.specs.Plan.{refused};
 ghost use Rattle.y86_cli.specs.Stops.{answer_at, status_of};
 ghost use Rattle.y86_cli.specs.declared.stop.Stop.TheVariants.{Memory as WantOfMemory};
 
+use crate::datapath::Datapath;
 use crate::stages::read_hcl;
 use crate::stop::{Refusal, Stop};
 use dp_signals::{law_of_tables, pipe_table, seq_table};
 use hcl_order::{OrderFault, order};
 use hcl_types::{BindFault, BindWhy, Design, Order, Row, Table, bind};
+use seq_plus::{law_of_table, plus_table};
 use std::alloc::{AllocError, Global};
 
 /// A design and an order of its signals.
@@ -147,15 +149,38 @@ pub fn ordered_design<'a>(
     }
 }
 
-/// The design of an HCL text under a name, over SEQ's table, with an order of its signals.
-pub fn seq_design<'a>(alloc: Global, name: &'a str, source: &[u8]) -> Result<Ordered, Stop<'a>>
-    ensures design { GivesOne (IsDesign seq_rows source.now) (RefusesDesign name.now seq_rows source.now) (λ ordered. ordered.design.terms) result }
-    ensures bound { IfOk result (λ ordered. IsBound seq_rows ordered.design.terms) }
-    ensures order { IfOk result (λ ordered. IsOrderOf seq_rows ordered.design.terms ordered.order.ids) }
+/// The table of a sequential datapath.
+pub fn table_of<'a>(alloc: Global, which: Datapath) -> Result<Table, Stop<'a>>
+    ensures rows { IfOk result (λ table. table.rows ≡ rows_of which) }
+    ensures sound { IfOk result (λ table. IsSound table.rows) }
+    ensures memory { OnErr result (result ≡ Err WantOfMemory) }
 {
     law_of_tables();
-    let Ok(table) = seq_table(alloc) else {
-        return Err(Stop::Memory);
+    law_of_table();
+    let table = match which {
+        Datapath::Seq => seq_table(alloc),
+        Datapath::Plus => plus_table(alloc),
+    };
+    match table {
+        Ok(table) => Ok(table),
+        Err(_) => Err(Stop::Memory),
+    }
+}
+
+/// The design of an HCL text under a name, over the table of a sequential datapath, with an order of its signals.
+pub fn seq_design<'a>(
+    alloc: Global,
+    which: Datapath,
+    name: &'a str,
+    source: &[u8],
+) -> Result<Ordered, Stop<'a>>
+    ensures design { GivesOne (IsDesign (rows_of which) source.now) (RefusesDesign name.now (rows_of which) source.now) (λ ordered. ordered.design.terms) result }
+    ensures bound { IfOk result (λ ordered. IsBound (rows_of which) ordered.design.terms) }
+    ensures order { IfOk result (λ ordered. IsOrderOf (rows_of which) ordered.design.terms ordered.order.ids) }
+{
+    let table = match table_of(alloc, which) {
+        Ok(table) => table,
+        Err(stop) => return Err(stop),
     };
     ordered_design(alloc, name, source, &table)
 }

@@ -5,7 +5,8 @@ ghost use Rattle.y86_base.specs.declared.parts.Variant.{Variant};
 ghost use Rattle.y86_cli.specs.Agreement.{HasAccepted, HasAcceptedSeq, RanAccepted, ToldNo};
 ghost use Rattle.y86_cli.specs.Answers.{plan_in, yas_plan, yis_plan};
 ghost use Rattle.y86_cli.specs.Does.{FilesSeen, SinkSeen};
-ghost use Rattle.y86_words.specs.Forms.{Command, check_pipe, check_seq, form_of, psim};
+ghost use Rattle.y86_words.specs.Forms.{Command, check_pipe, check_plus, check_seq, form_of, psim};
+ghost use Rattle.y86_cli.specs.declared.datapath.Datapath.TheVariants.{Plus, Seq};
 ghost use Rattle.y86_cli.specs.Plan.{Answered, Allows, IsDetermined, Tells};
 ghost use Rattle.y86_cli.specs.Ran.{Ran, Told};
 
@@ -38,8 +39,8 @@ pub fn law_of_plans()
 {}
 
 /// What an accepted file means for a user of the program, from the words of a call and what `run` says of it. Where a call
-/// of `check seq` ends with 0, the file has an accepted design, and on every image its machine is that of the run of
-/// instructions. Where a call of `check pipe` ends with 0, the file has an accepted design, and on every image whose
+/// of `check seq` or of `check seqplus` ends with 0, the file has an accepted design, and on every image its machine is that
+/// of the run of instructions. Where a call of `check pipe` ends with 0, the file has an accepted design, and on every image whose
 /// instructions fetch no byte that an earlier one stored its pipeline retires the instructions of that run, one after
 /// another, and stops as it does. Where a call of `psim` with `--checked` ends with 0 or 1, the text on standard output is
 /// a No; or it is a Yes of such a file, and what stands behind it agrees with the run of instructions: the trace, the
@@ -47,7 +48,10 @@ pub fn law_of_plans()
 pub fn law_of_accepted_files()
     ensures check_seq { (words : List (List ℕ)) (name : List ℕ) (v : Variant) (files_before files_after : FilesSeen) (out_before out_after err_before err_after : SinkSeen) →
         form_of words ≡ Some (check_seq name v) → Ran (form_of words) files_before files_after out_before out_after err_before err_after 0 →
-        HasAcceptedSeq v (files_before.told name) }
+        HasAcceptedSeq Seq v (files_before.told name) }
+    ensures check_plus { (words : List (List ℕ)) (name : List ℕ) (v : Variant) (files_before files_after : FilesSeen) (out_before out_after err_before err_after : SinkSeen) →
+        form_of words ≡ Some (check_plus name v) → Ran (form_of words) files_before files_after out_before out_after err_before err_after 0 →
+        HasAcceptedSeq Plus v (files_before.told name) }
     ensures check_pipe { (words : List (List ℕ)) (name : List ℕ) (v : Variant) (files_before files_after : FilesSeen) (out_before out_after err_before err_after : SinkSeen) →
         form_of words ≡ Some (check_pipe name v) → Ran (form_of words) files_before files_after out_before out_after err_before err_after 0 →
         HasAccepted v (files_before.told name) }

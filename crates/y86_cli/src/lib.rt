@@ -5,12 +5,14 @@ mod calling;
 #[cfg(test)]
 mod cases;
 mod check;
+mod datapath;
 mod design;
 mod hcl;
 mod laws;
 mod psim;
 mod running;
 mod saying;
+mod sequential;
 #[cfg(test)]
 mod simulations;
 mod ssim;
@@ -27,6 +29,7 @@ mod yas;
 mod yis;
 
 pub use crate::calling::call;
+pub use crate::datapath::Datapath;
 pub use crate::design::{Ordered, pipe_design, seq_design};
 pub use crate::laws::{law_of_accepted_files, law_of_answers, law_of_plans};
 pub use crate::running::{Status, run, tell};

@@ -9,6 +9,7 @@ ghost use Rattle.y86_words.specs.Views.{command_in};
 ghost use Rattle.y86_words.specs.Wording.{IsLegal};
 
 use crate::check::{check_pipe_file, check_seq_file};
+use crate::datapath::Datapath;
 use crate::hcl::hcl;
 use crate::psim::psim;
 use crate::ssim::ssim;
@@ -54,7 +55,34 @@ fn execute<'a, F: Files, O: Sink>(
             mem,
             limit,
             variant,
-        } => ssim(alloc, name, obj, mem, limit, variant, files, out),
+        } => ssim(
+            alloc,
+            Datapath::Seq,
+            name,
+            obj,
+            mem,
+            limit,
+            variant,
+            files,
+            out,
+        ),
+        Cmd::Ssimp {
+            hcl: name,
+            obj,
+            mem,
+            limit,
+            variant,
+        } => ssim(
+            alloc,
+            Datapath::Plus,
+            name,
+            obj,
+            mem,
+            limit,
+            variant,
+            files,
+            out,
+        ),
         Cmd::Psim {
             hcl: name,
             obj,
@@ -66,7 +94,12 @@ fn execute<'a, F: Files, O: Sink>(
         } => psim(
             alloc, name, obj, mem, limit, trace, checked, variant, files, out,
         ),
-        Cmd::CheckSeq { hcl: name, variant } => check_seq_file(alloc, name, variant, files, out),
+        Cmd::CheckSeq { hcl: name, variant } => {
+            check_seq_file(alloc, Datapath::Seq, name, variant, files, out)
+        }
+        Cmd::CheckPlus { hcl: name, variant } => {
+            check_seq_file(alloc, Datapath::Plus, name, variant, files, out)
+        }
         Cmd::CheckPipe { hcl: name, variant } => check_pipe_file(alloc, name, variant, files, out),
     }
 }

@@ -1,16 +1,21 @@
 //! `ssim`: runs an object file on SEQ under an HCL file.
 ghost use Rattle.std.specs.Prelude.{◌≡◌, List, ℕ};
 ghost use Rattle.dp_signals.specs.SeqTable.{seq_rows};
+ghost use Rattle.seq_plus.specs.PlusTable.{plus_rows};
 ghost use Rattle.hcl_types.specs.Tables.{IsBound, IsOrderOf};
 ghost use Rattle.y86_base.specs.Image.{IsSize};
 ghost use Rattle.y86_cli.specs.Answers.{SeqAnswers, seq_plan, ssim_plan};
+ghost use Rattle.y86_cli.specs.Datapaths.{rows_of};
 ghost use Rattle.y86_cli.specs.Does.{Does, NoReadFailed, Says, files_seen, sink_seen};
+ghost use Rattle.y86_cli.specs.declared.datapath.Datapath.TheVariants.{Plus as OnPlus, Seq as OnSeq};
 
+use crate::datapath::Datapath;
 use crate::design::{Ordered, seq_design};
 use crate::stages::{FILE_LIMIT, HCL_LIMIT, load_image, read_file, status};
 use crate::stop::Stop;
 use hcl_compile::compile;
-use seq_path::{Seq, run};
+use seq_path::Seq;
+use seq_plus::Plus;
 use std::alloc::Global;
 use wb_io::{Files, Sink};
 use y86_base::{Image, Variant};
@@ -27,7 +32,7 @@ fn run_seq<'a, O: Sink>(
 ) -> Result<u8, Stop<'a>>
     requires bound { IsBound seq_rows ordered.design.terms }
     requires order { IsOrderOf seq_rows ordered.design.terms ordered.order.ids }
-    ensures { Says (SeqAnswers variant ordered.design.terms limit image)
+    ensures { Says (SeqAnswers OnSeq variant ordered.design.terms limit image)
         (sink_seen (O.taken out.old) (O.faults out.old)) (sink_seen (O.taken out.new) (O.faults out.new)) result }
 {
     let Ok(first) = image.copy(alloc) else {
@@ -38,7 +43,7 @@ fn run_seq<'a, O: Sink>(
         return Err(Stop::Memory);
     };
     let mut machine = Seq::new(variant, design, order, compiled, image);
-    let ran = run(&mut machine, limit);
+    let ran = seq_path::run(&mut machine, limit);
     let end = machine.end();
     match report(&first, &end, ran.steps, out) {
         Ok(()) => Ok(status(end.stat)),
@@ -46,9 +51,61 @@ fn run_seq<'a, O: Sink>(
     }
 }
 
-/// Reads an object file and runs it on SEQ under a design.
+/// Runs an image on SEQ+ and writes the report. All memory is taken before the first cycle.
+fn run_plus<'a, O: Sink>(
+    alloc: Global,
+    variant: Variant,
+    ordered: Ordered,
+    image: Image,
+    limit: u64,
+    out: &mut O,
+) -> Result<u8, Stop<'a>>
+    requires bound { IsBound plus_rows ordered.design.terms }
+    requires order { IsOrderOf plus_rows ordered.design.terms ordered.order.ids }
+    ensures { Says (SeqAnswers OnPlus variant ordered.design.terms limit image)
+        (sink_seen (O.taken out.old) (O.faults out.old)) (sink_seen (O.taken out.new) (O.faults out.new)) result }
+{
+    let Ok(first) = image.copy(alloc) else {
+        return Err(Stop::Memory);
+    };
+    let Ordered { design, order } = ordered;
+    let Ok(compiled) = compile(alloc, &design, &order) else {
+        return Err(Stop::Memory);
+    };
+    let mut machine = Plus::new(variant, design, order, compiled, image);
+    let ran = seq_plus::run(&mut machine, limit);
+    let end = machine.end();
+    match report(&first, &end, ran.steps, out) {
+        Ok(()) => Ok(status(end.stat)),
+        Err(_) => Err(Stop::Write),
+    }
+}
+
+/// Runs an image on a sequential datapath and writes the report.
+fn run_image<'a, O: Sink>(
+    alloc: Global,
+    which: Datapath,
+    variant: Variant,
+    ordered: Ordered,
+    image: Image,
+    limit: u64,
+    out: &mut O,
+) -> Result<u8, Stop<'a>>
+    requires bound { IsBound (rows_of which) ordered.design.terms }
+    requires order { IsOrderOf (rows_of which) ordered.design.terms ordered.order.ids }
+    ensures { Says (SeqAnswers which variant ordered.design.terms limit image)
+        (sink_seen (O.taken out.old) (O.faults out.old)) (sink_seen (O.taken out.new) (O.faults out.new)) result }
+{
+    match which {
+        Datapath::Seq => run_seq(alloc, variant, ordered, image, limit, out),
+        Datapath::Plus => run_plus(alloc, variant, ordered, image, limit, out),
+    }
+}
+
+/// Reads an object file and runs it on a sequential datapath under a design.
 fn run_object<'a, F: Files, O: Sink>(
     alloc: Global,
+    which: Datapath,
     variant: Variant,
     ordered: Ordered,
     obj: &'a str,
@@ -58,9 +115,9 @@ fn run_object<'a, F: Files, O: Sink>(
     out: &mut O,
 ) -> Result<u8, Stop<'a>>
     requires size { IsSize mem }
-    requires bound { IsBound seq_rows ordered.design.terms }
-    requires order { IsOrderOf seq_rows ordered.design.terms ordered.order.ids }
-    ensures does { Does (seq_plan ordered.design.terms obj.now mem limit variant)
+    requires bound { IsBound (rows_of which) ordered.design.terms }
+    requires order { IsOrderOf (rows_of which) ordered.design.terms ordered.order.ids }
+    ensures does { Does (seq_plan which ordered.design.terms obj.now mem limit variant)
         (files_seen (F.told files.old) (F.faults files.old)) (files_seen (F.told files.new) (F.faults files.new))
         (sink_seen (O.taken out.old) (O.faults out.old)) (sink_seen (O.taken out.new) (O.faults out.new)) result }
     ensures no_read_failed { NoReadFailed (files_seen (F.told files.old) (F.faults files.old)) (files_seen (F.told files.new) (F.faults files.new)) result }
@@ -73,12 +130,13 @@ fn run_object<'a, F: Files, O: Sink>(
         Ok(image) => image,
         Err(stop) => return Err(stop),
     };
-    run_seq(alloc, variant, ordered, image, limit, out)
+    run_image(alloc, which, variant, ordered, image, limit, out)
 }
 
-/// `ssim`: runs an object file on SEQ under an HCL file.
+/// `ssim` and `ssimp`: runs an object file on SEQ or SEQ+ under an HCL file.
 pub fn ssim<'a, F: Files, O: Sink>(
     alloc: Global,
+    which: Datapath,
     name: &'a str,
     obj: &'a str,
     mem: u64,
@@ -88,7 +146,7 @@ pub fn ssim<'a, F: Files, O: Sink>(
     out: &mut O,
 ) -> Result<u8, Stop<'a>>
     requires { IsSize mem }
-    ensures does { Does (ssim_plan name.now obj.now mem limit variant)
+    ensures does { Does (ssim_plan which name.now obj.now mem limit variant)
         (files_seen (F.told files.old) (F.faults files.old)) (files_seen (F.told files.new) (F.faults files.new))
         (sink_seen (O.taken out.old) (O.faults out.old)) (sink_seen (O.taken out.new) (O.faults out.new)) result }
     ensures no_read_failed { NoReadFailed (files_seen (F.told files.old) (F.faults files.old)) (files_seen (F.told files.new) (F.faults files.new)) result }
@@ -97,9 +155,9 @@ pub fn ssim<'a, F: Files, O: Sink>(
         Ok(source) => source,
         Err(stop) => return Err(stop),
     };
-    let ordered = match seq_design(alloc, name, source.as_slice()) {
+    let ordered = match seq_design(alloc, which, name, source.as_slice()) {
         Ok(ordered) => ordered,
         Err(stop) => return Err(stop),
     };
-    run_object(alloc, variant, ordered, obj, mem, limit, files, out)
+    run_object(alloc, which, variant, ordered, obj, mem, limit, files, out)
 }

@@ -1,15 +1,12 @@
-//! Verdicts on designs as texts: the text of a No of each datapath, a verdict on PIPE, and the stop at a design without
-//! control values.
+//! Verdicts on PIPE as texts, and the stop at a design without control values.
 ghost use Rattle.std.specs.Prelude.{◌≡◌, ◌≢◌, ◌⊎◌, Err, IfErr, IfOk, List, OnErr, ℕ};
 ghost use Rattle.ctl_atoms.specs.Atoms.{AreAtoms, IsCtlFault};
 ghost use Rattle.ctl_atoms.specs.declared.leaf.Atom.{Atom};
 ghost use Rattle.ctl_atoms.specs.declared.fault.CtlFault.TheVariants as cause;
 ghost use Rattle.dp_signals.specs.PipeTable.{pipe_rows};
-ghost use Rattle.dp_signals.specs.SeqTable.{seq_rows};
 ghost use Rattle.hcl_types.specs.Tables.{IsBound, IsOrderOf, IsSound, row_names};
 ghost use Rattle.hcl_types.specs.declared.term.Term.{Term};
 ghost use Rattle.verdict_text.specs.PipeLines.{pipe_no};
-ghost use Rattle.verdict_text.specs.SeqLine.{seq_no};
 ghost use Rattle.y86_cli.specs.Checks.{RefusesControl, TellsPipe};
 ghost use Rattle.y86_cli.specs.Stops.{answer_at, status_of};
 ghost use Rattle.y86_cli.specs.declared.stop.Stop.TheVariants.{Memory as WantOfMemory};
@@ -22,7 +19,7 @@ use dp_signals::{law_of_tables, pipe_table};
 use hcl_types::{Row, Table};
 use nets::Valuation;
 use std::alloc::Global;
-use verdict_text::{pipe_acceptance, pipe_refusal, seq_refusal};
+use verdict_text::{pipe_acceptance, pipe_refusal};
 use y86_base::Variant;
 
 /// The stop at a design without control values.
@@ -50,31 +47,6 @@ pub fn control_stop<'a>(alloc: Global, name: &'a str, rows: &[Row], fault: CtlFa
             },
         ),
         CtlFault::Memory => Stop::Memory,
-    }
-}
-
-/// The text of a No of SEQ.
-pub fn seq_text<'a>(
-    alloc: Global,
-    table: &Table,
-    ordered: &Ordered,
-    rule: u32,
-    valuation: &Valuation,
-) -> Result<Vec<u8>, Stop<'a>>
-    requires rows { table.now.rows ≡ seq_rows }
-    requires sound { IsSound table.now.rows }
-    requires bound { IsBound seq_rows ordered.now.design.terms }
-    requires order { IsOrderOf seq_rows ordered.now.design.terms ordered.now.order.ids }
-    ensures text { IfOk result (λ text. (list : List Atom) × AreAtoms seq_rows ordered.now.design.terms list
-        × (text.items ≡ seq_no (row_names seq_rows) rule valuation.now.bits list)) }
-    ensures memory { OnErr result (result ≡ Err WantOfMemory) }
-{
-    let Ok(list) = atoms(alloc, &ordered.design, table, &ordered.order) else {
-        return Err(Stop::Memory);
-    };
-    match seq_refusal(alloc, table.rows.items(), rule, valuation, list.as_slice()) {
-        Ok(text) => Ok(text),
-        Err(_) => Err(Stop::Memory),
     }
 }
 

@@ -6,11 +6,11 @@ use Rattle.y86_base.proofs.Booleans.{both_true}
 use Rattle.y86_base.specs.Image.{IsSize, is_image_size}
 use Rattle.y86_base.specs.declared.parts.Variant.{Variant}
 use Rattle.y86_words.specs.declared.form.Kind.{Kind}
-use Rattle.y86_words.specs.declared.form.Kind.TheVariants.{Yas, Yis, Hcl, Ssim, Psim, CheckSeq, CheckPipe}
+use Rattle.y86_words.specs.declared.form.Kind.TheVariants.{Yas, Yis, Hcl, Ssim, Ssimp, Psim, CheckSeq, CheckPlus, CheckPipe}
 use Rattle.y86_words.specs.declared.option.Switch.{Switch}
 use Rattle.y86_words.specs.declared.option.Switch.TheVariants.{Full, Mem, Limit, Trace, Checked}
 use Rattle.y86_words.specs.Arguments.{Argument, place, switch, Reading, whole, needs, neither, reading_of, option_reading, place_reading, in_front, last, before, arguments, index_of, is_option, switch_of, Filled}
-use Rattle.y86_words.specs.Forms.{Command, yas, yis, hcl, ssim, psim, check_seq, check_pipe, form_of, made, size_of, limit_of, trace_of, checked_of, variant_of}
+use Rattle.y86_words.specs.Forms.{Command, yas, yis, hcl, ssim, ssimp, psim, check_seq, check_plus, check_pipe, form_of, made, size_of, limit_of, trace_of, checked_of, variant_of}
 use Rattle.y86_words.specs.Numbers.{number_of, is_run_limit}
 use Rattle.y86_words.specs.Wording.{IsFileName, IsRunLimit, IsLegal, places_of, numbers_of, IsFound}
 use Rattle.y86_words.proofs.Wording.{has_form}
@@ -209,13 +209,15 @@ unfolding Each
 second_legal [] word h e = absurd (cc (e))
 second_legal (first ∷ rest) word h e = first_legal rest word h.1 e
 
-ssim_legal : (v : Variant) (f : Filled) (name object : Option (List ℕ)) (command : Command) → slice_get f.words 0 ≡ name → slice_get f.words 1 ≡ object →
-    option_and_then (λ file. option_map (λ o. ssim file o (size_of f) (limit_of f) v) object) name ≡ Some command → IsLegalFound f → IsLegal command
-ssim_legal v f None object command e d made_is legal = absurd (cc (made_is))
-ssim_legal v f (Some name) None command e d made_is legal = absurd (cc (made_is))
-ssim_legal v f (Some name) (Some object) command e d made_is legal =
-    let same : ssim name object (size_of f) (limit_of f) v ≡ command = cc (made_is) in
-    subst IsLegal same (first_legal f.words name legal.words e, second_legal f.words object legal.words d, legal.size, legal.limit)
+sequential_legal : (make : List ℕ → List ℕ → ℕ → ℕ → Variant → Command) →
+    ((name object : List ℕ) (size limit : ℕ) (v : Variant) → IsFileName name × IsFileName object × IsSize size × IsRunLimit limit → IsLegal (make name object size limit v)) →
+    (v : Variant) (f : Filled) (name object : Option (List ℕ)) (command : Command) → slice_get f.words 0 ≡ name → slice_get f.words 1 ≡ object →
+    option_and_then (λ file. option_map (λ o. make file o (size_of f) (limit_of f) v) object) name ≡ Some command → IsLegalFound f → IsLegal command
+sequential_legal make legal_as v f None object command e d made_is legal = absurd (cc (made_is))
+sequential_legal make legal_as v f (Some name) None command e d made_is legal = absurd (cc (made_is))
+sequential_legal make legal_as v f (Some name) (Some object) command e d made_is legal =
+    let same : make name object (size_of f) (limit_of f) v ≡ command = cc (made_is) in
+    subst IsLegal same (legal_as name object (size_of f) (limit_of f) v (first_legal f.words name legal.words e, second_legal f.words object legal.words d, legal.size, legal.limit))
 
 psim_legal : (v : Variant) (trace checked : Bool) (f : Filled) (name object : Option (List ℕ)) (command : Command) → slice_get f.words 0 ≡ name → slice_get f.words 1 ≡ object →
     option_and_then (λ file. option_map (λ o. psim file o (size_of f) (limit_of f) trace checked v) object) name ≡ Some command → IsLegalFound f → IsLegal command
@@ -235,9 +237,11 @@ made_legal : (kind : Kind) (f : Filled) (command : Command) → made kind f ≡ 
 made_legal Yas f command e legal = yas_legal (variant_of f) f (slice_get f.words 0) command refl e legal
 made_legal Yis f command e legal = yis_legal (variant_of f) f (slice_get f.words 0) command refl e legal
 made_legal Hcl f command e legal = hcl_legal f (slice_get f.words 0) command refl e legal
-made_legal Ssim f command e legal = ssim_legal (variant_of f) f (slice_get f.words 0) (slice_get f.words 1) command refl refl e legal
+made_legal Ssim f command e legal = sequential_legal ssim (λ name object size limit v is. is) (variant_of f) f (slice_get f.words 0) (slice_get f.words 1) command refl refl e legal
+made_legal Ssimp f command e legal = sequential_legal ssimp (λ name object size limit v is. is) (variant_of f) f (slice_get f.words 0) (slice_get f.words 1) command refl refl e legal
 made_legal Psim f command e legal = psim_legal (variant_of f) (trace_of f) (checked_of f) f (slice_get f.words 0) (slice_get f.words 1) command refl refl e legal
 made_legal CheckSeq f command e legal = check_legal (λ file. check_seq file (variant_of f)) (λ word named. named) f (slice_get f.words 1) command refl e legal
+made_legal CheckPlus f command e legal = check_legal (λ file. check_plus file (variant_of f)) (λ word named. named) f (slice_get f.words 1) command refl e legal
 made_legal CheckPipe f command e legal = check_legal (λ file. check_pipe file (variant_of f)) (λ word named. named) f (slice_get f.words 1) command refl e legal
 
 no_words : (command : Command) → form_of [] ≡ Some command → ⊥

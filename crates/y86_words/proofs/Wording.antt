@@ -18,7 +18,7 @@ use Rattle.y86_base.specs.declared.parts.Variant.TheVariants as variant
 use Rattle.y86_words.specs.declared.option.Switch.{Switch}
 use Rattle.y86_words.specs.declared.option.Switch.TheVariants.{Full, Mem, Limit, Trace, Checked}
 use Rattle.y86_words.specs.Arguments.{Argument, place, switch, arguments, in_front, index_of, Filled, nothing_filled, all_added}
-use Rattle.y86_words.specs.Forms.{Command, yas, yis, hcl, ssim, psim, check_seq, check_pipe, Form, forms, fits, made, first_fit, form_of}
+use Rattle.y86_words.specs.Forms.{Command, yas, yis, hcl, ssim, ssimp, psim, check_seq, check_plus, check_pipe, Form, forms, fits, made, first_fit, form_of}
 use Rattle.y86_words.specs.Numbers.{is_number, number_of, number_that, is_run_limit}
 use Rattle.y86_words.specs.Wording.{IsFileName, IsRunLimit, IsLegal, trace_words, checked_words, variant_words, words_of, places_of, numbers_of, IsFound, HasForm}
 use Rattle.y86_words.proofs.Arguments.{place_read, switch_read}
@@ -64,6 +64,9 @@ file_arguments file rest name = place_read file rest name.1 name.0
 
 seq_arguments : (rest : List (List ℕ)) → arguments (codes "seq" ∷ rest) ≡ in_front (Some (place (codes "seq"))) (arguments rest)
 seq_arguments rest = file_arguments (codes "seq") rest (omega arith, refl)
+
+plus_arguments : (rest : List (List ℕ)) → arguments (codes "seqplus" ∷ rest) ≡ in_front (Some (place (codes "seqplus"))) (arguments rest)
+plus_arguments rest = file_arguments (codes "seqplus") rest (omega arith, refl)
 
 pipe_arguments : (rest : List (List ℕ)) → arguments (codes "pipe" ∷ rest) ≡ in_front (Some (place (codes "pipe"))) (arguments rest)
 pipe_arguments rest = file_arguments (codes "pipe") rest (omega arith, refl)
@@ -116,6 +119,10 @@ legal_written (ssim file object size limit variant.Base) legal =
     rw (file_arguments file _ legal.0, file_arguments object _ legal.1, size_arguments size _ legal.2, limit_arguments limit _ legal.3, variant_read variant.Base) refl
 legal_written (ssim file object size limit variant.Full) legal =
     rw (file_arguments file _ legal.0, file_arguments object _ legal.1, size_arguments size _ legal.2, limit_arguments limit _ legal.3, variant_read variant.Full) refl
+legal_written (ssimp file object size limit variant.Base) legal =
+    rw (file_arguments file _ legal.0, file_arguments object _ legal.1, size_arguments size _ legal.2, limit_arguments limit _ legal.3, variant_read variant.Base) refl
+legal_written (ssimp file object size limit variant.Full) legal =
+    rw (file_arguments file _ legal.0, file_arguments object _ legal.1, size_arguments size _ legal.2, limit_arguments limit _ legal.3, variant_read variant.Full) refl
 legal_written (psim file object size limit false false variant.Base) legal =
     rw (file_arguments file _ legal.0, file_arguments object _ legal.1, size_arguments size _ legal.2, limit_arguments limit _ legal.3, run_read false false variant.Base) refl
 legal_written (psim file object size limit false false variant.Full) legal =
@@ -134,6 +141,8 @@ legal_written (psim file object size limit true true variant.Full) legal =
     rw (file_arguments file _ legal.0, file_arguments object _ legal.1, size_arguments size _ legal.2, limit_arguments limit _ legal.3, run_read true true variant.Full) refl
 legal_written (check_seq file variant.Base) legal = rw (seq_arguments _, file_arguments file _ legal, variant_read variant.Base) refl
 legal_written (check_seq file variant.Full) legal = rw (seq_arguments _, file_arguments file _ legal, variant_read variant.Full) refl
+legal_written (check_plus file variant.Base) legal = rw (plus_arguments _, file_arguments file _ legal, variant_read variant.Base) refl
+legal_written (check_plus file variant.Full) legal = rw (plus_arguments _, file_arguments file _ legal, variant_read variant.Full) refl
 legal_written (check_pipe file variant.Base) legal = rw (pipe_arguments _, file_arguments file _ legal, variant_read variant.Base) refl
 legal_written (check_pipe file variant.Full) legal = rw (pipe_arguments _, file_arguments file _ legal, variant_read variant.Full) refl
 

@@ -11,7 +11,7 @@ use Rattle.y86_words.specs.Numbers.{number_within}
 use Rattle.y86_words.specs.declared.option.Switch.{Switch}
 use Rattle.y86_words.specs.declared.option.Switch.TheVariants.{Full, Mem, Limit, Trace, Checked}
 use Rattle.y86_words.specs.declared.form.Kind.{Kind}
-use Rattle.y86_words.specs.declared.form.Kind.TheVariants.{Yas, Yis, Hcl, Ssim, Psim, CheckSeq, CheckPipe}
+use Rattle.y86_words.specs.declared.form.Kind.TheVariants.{Yas, Yis, Hcl, Ssim, Ssimp, Psim, CheckSeq, CheckPlus, CheckPipe}
 
 -- what a place takes: this word, the name of a file, or a number from a least one to a most one
 pub data Place : Type 0 where
@@ -35,8 +35,10 @@ forms =
     ∷ row Yis (codes "yis") (file ∷ []) (Full ∷ Mem ∷ Limit ∷ [])
     ∷ row Hcl (codes "hcl") (file ∷ []) []
     ∷ row Ssim (codes "ssim") (file ∷ file ∷ []) (Full ∷ Mem ∷ Limit ∷ [])
+    ∷ row Ssimp (codes "ssimp") (file ∷ file ∷ []) (Full ∷ Mem ∷ Limit ∷ [])
     ∷ row Psim (codes "psim") (file ∷ file ∷ []) (Full ∷ Mem ∷ Limit ∷ Trace ∷ Checked ∷ [])
     ∷ row CheckSeq (codes "check") (keyword (codes "seq") ∷ file ∷ []) (Full ∷ [])
+    ∷ row CheckPlus (codes "check") (keyword (codes "seqplus") ∷ file ∷ []) (Full ∷ [])
     ∷ row CheckPipe (codes "check") (keyword (codes "pipe") ∷ file ∷ []) (Full ∷ [])
     ∷ []
 
@@ -76,11 +78,15 @@ pub data Command : Type 0 where
   -- run an object file on SEQ under an HCL file: the names of both, the size of the memory in bytes, the limit of cycles, the
   -- instruction set
   ssim : List ℕ → List ℕ → ℕ → ℕ → Variant → Command
+  -- the same on SEQ+, which computes the PC as a cycle begins
+  ssimp : List ℕ → List ℕ → ℕ → ℕ → Variant → Command
   -- run an object file on PIPE under an HCL file: as for ssim, whether a trace is asked for, and whether the HCL file is to be
   -- checked first
   psim : List ℕ → List ℕ → ℕ → ℕ → Bool → Bool → Variant → Command
   -- decide whether SEQ under an HCL file does what its instructions mean: the name of the file, the instruction set
   check_seq : List ℕ → Variant → Command
+  -- the same of SEQ+
+  check_plus : List ℕ → Variant → Command
   -- the same of PIPE, for the programs that don't store over their own instructions
   check_pipe : List ℕ → Variant → Command
 
@@ -125,9 +131,12 @@ made Yis f = option_map (λ object. yis object (size_of f) (limit_of f) (variant
 made Hcl f = option_map hcl (slice_get f.words 0)
 made Ssim f =
     option_and_then (λ file. option_map (λ object. ssim file object (size_of f) (limit_of f) (variant_of f)) (slice_get f.words 1)) (slice_get f.words 0)
+made Ssimp f =
+    option_and_then (λ file. option_map (λ object. ssimp file object (size_of f) (limit_of f) (variant_of f)) (slice_get f.words 1)) (slice_get f.words 0)
 made Psim f =
     option_and_then (λ file. option_map (λ object. psim file object (size_of f) (limit_of f) (trace_of f) (checked_of f) (variant_of f)) (slice_get f.words 1)) (slice_get f.words 0)
 made CheckSeq f = option_map (λ file. check_seq file (variant_of f)) (slice_get f.words 1)
+made CheckPlus f = option_map (λ file. check_plus file (variant_of f)) (slice_get f.words 1)
 made CheckPipe f = option_map (λ file. check_pipe file (variant_of f)) (slice_get f.words 1)
 
 -- the command of the first row that fits

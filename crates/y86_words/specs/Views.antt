@@ -12,7 +12,7 @@ use Rattle.y86_words.specs.declared.form.Form as code_form
 use Rattle.y86_words.specs.declared.form.Place as code_place
 use Rattle.y86_words.specs.declared.form.Place.TheVariants as code_places
 use Rattle.y86_words.specs.Arguments.{Argument, place, switch, arguments, in_front, Filled}
-use Rattle.y86_words.specs.Forms.{Command, yas, yis, hcl, ssim, psim, check_seq, check_pipe, Form, Place, keyword, file, number}
+use Rattle.y86_words.specs.Forms.{Command, yas, yis, hcl, ssim, ssimp, psim, check_seq, check_plus, check_pipe, Form, Place, keyword, file, number}
 
 abbrev pub argument_in : code.Argument → Argument
 argument_in (code_variants.Place word) = place word.now
@@ -50,6 +50,8 @@ command_in (code_commands.Yas source size v) = yas source.now size v
 command_in (code_commands.Yis object size limit v) = yis object.now size limit v
 command_in (code_commands.Hcl name) = hcl name.now
 command_in (code_commands.Ssim name object size limit v) = ssim name.now object.now size limit v
+command_in (code_commands.Ssimp name object size limit v) = ssimp name.now object.now size limit v
 command_in (code_commands.Psim name object size limit trace checked v) = psim name.now object.now size limit trace checked v
 command_in (code_commands.CheckSeq name v) = check_seq name.now v
+command_in (code_commands.CheckPlus name v) = check_plus name.now v
 command_in (code_commands.CheckPipe name v) = check_pipe name.now v

@@ -6,7 +6,7 @@ use Rattle.y86_base.specs.Image.{IsSize}
 use Rattle.y86_base.specs.declared.parts.Variant.{Variant}
 use Rattle.y86_base.specs.declared.parts.Variant.TheVariants as variant
 use Rattle.y86_words.specs.Arguments.{Argument, place, switch, Filled, arguments, index_of, is_option}
-use Rattle.y86_words.specs.Forms.{Command, yas, yis, hcl, ssim, psim, check_seq, check_pipe, Form, forms, fits, made}
+use Rattle.y86_words.specs.Forms.{Command, yas, yis, hcl, ssim, ssimp, psim, check_seq, check_plus, check_pipe, Form, forms, fits, made}
 use Rattle.y86_words.specs.declared.option.Switch.{Switch}
 
 -- what may name a file: a word that isn't empty and is no option
@@ -23,8 +23,10 @@ IsLegal (yas source size v) = IsFileName source × IsSize size
 IsLegal (yis object size limit v) = IsFileName object × IsSize size × IsRunLimit limit
 IsLegal (hcl file) = IsFileName file
 IsLegal (ssim file object size limit v) = IsFileName file × IsFileName object × IsSize size × IsRunLimit limit
+IsLegal (ssimp file object size limit v) = IsFileName file × IsFileName object × IsSize size × IsRunLimit limit
 IsLegal (psim file object size limit trace checked v) = IsFileName file × IsFileName object × IsSize size × IsRunLimit limit
 IsLegal (check_seq file v) = IsFileName file
+IsLegal (check_plus file v) = IsFileName file
 IsLegal (check_pipe file v) = IsFileName file
 
 abbrev pub variant_words : Variant → List (List ℕ)
@@ -47,9 +49,12 @@ words_of (yis object size limit v) =
 words_of (hcl file) = codes "hcl" ∷ file ∷ []
 words_of (ssim file object size limit v) =
     codes "ssim" ∷ file ∷ object ∷ codes "--mem" ∷ decimal size ∷ codes "--limit" ∷ decimal limit ∷ variant_words v
+words_of (ssimp file object size limit v) =
+    codes "ssimp" ∷ file ∷ object ∷ codes "--mem" ∷ decimal size ∷ codes "--limit" ∷ decimal limit ∷ variant_words v
 words_of (psim file object size limit trace checked v) =
     codes "psim" ∷ file ∷ object ∷ codes "--mem" ∷ decimal size ∷ codes "--limit" ∷ decimal limit ∷ (trace_words trace ++ (checked_words checked ++ variant_words v))
 words_of (check_seq file v) = codes "check" ∷ codes "seq" ∷ file ∷ variant_words v
+words_of (check_plus file v) = codes "check" ∷ codes "seqplus" ∷ file ∷ variant_words v
 words_of (check_pipe file v) = codes "check" ∷ codes "pipe" ∷ file ∷ variant_words v
 
 -- words that are arguments: file names and other words of places, and options each with its number

@@ -39,6 +39,14 @@ pub enum Cmd<'a> {
         limit: u64,
         variant: Variant,
     },
+    /// Runs an object file on SEQ+ under an HCL file, as `Ssim` does on SEQ.
+    Ssimp {
+        hcl: &'a str,
+        obj: &'a str,
+        mem: u64,
+        limit: u64,
+        variant: Variant,
+    },
     /// Runs an object file on PIPE under an HCL file, as `Ssim` does on SEQ; with `trace` a line for each instruction that
     /// retires; with `checked` the HCL file is checked first, as by `CheckPipe`, and run only where it is accepted.
     Psim {
@@ -52,6 +60,11 @@ pub enum Cmd<'a> {
     },
     /// Decides whether SEQ under an HCL file does what its instructions mean, for every program.
     CheckSeq {
+        hcl: &'a str,
+        variant: Variant,
+    },
+    /// Decides whether SEQ+ under an HCL file does what its instructions mean, for every program.
+    CheckPlus {
         hcl: &'a str,
         variant: Variant,
     },

@@ -36,8 +36,10 @@ pub enum Kind {
     Yis,
     Hcl,
     Ssim,
+    Ssimp,
     Psim,
     CheckSeq,
+    CheckPlus,
     CheckPipe,
 }
 
@@ -52,7 +54,7 @@ struct Form {
 }
 
 /// The table of the commands.
-static FORMS: [Form; 7] = [
+static FORMS: [Form; 9] = [
     Form {
         kind: Kind::Yas,
         name: "yas",
@@ -78,6 +80,12 @@ static FORMS: [Form; 7] = [
         options: &[Switch::Full, Switch::Mem, Switch::Limit],
     },
     Form {
+        kind: Kind::Ssimp,
+        name: "ssimp",
+        places: &[Place::File, Place::File],
+        options: &[Switch::Full, Switch::Mem, Switch::Limit],
+    },
+    Form {
         kind: Kind::Psim,
         name: "psim",
         places: &[Place::File, Place::File],
@@ -93,6 +101,12 @@ static FORMS: [Form; 7] = [
         kind: Kind::CheckSeq,
         name: "check",
         places: &[Place::Keyword("seq"), Place::File],
+        options: &[Switch::Full],
+    },
+    Form {
+        kind: Kind::CheckPlus,
+        name: "check",
+        places: &[Place::Keyword("seqplus"), Place::File],
         options: &[Switch::Full],
     },
     Form {
@@ -209,6 +223,13 @@ fn made<'a>(kind: Kind, found: &Found<'a>) -> Option<Cmd<'a>>
             limit,
             variant,
         }),
+        Kind::Ssimp => Some(Cmd::Ssimp {
+            hcl: *words.get(0)?,
+            obj: *words.get(1)?,
+            mem,
+            limit,
+            variant,
+        }),
         Kind::Psim => Some(Cmd::Psim {
             hcl: *words.get(0)?,
             obj: *words.get(1)?,
@@ -219,6 +240,10 @@ fn made<'a>(kind: Kind, found: &Found<'a>) -> Option<Cmd<'a>>
             variant,
         }),
         Kind::CheckSeq => Some(Cmd::CheckSeq {
+            hcl: *words.get(1)?,
+            variant,
+        }),
+        Kind::CheckPlus => Some(Cmd::CheckPlus {
             hcl: *words.get(1)?,
             variant,
         }),

@@ -1,8 +1,11 @@
-use Rattle.y86_cli.proofs.Agreement.{accepting_words, accepting_seq_words, agreeing_words}
+use Rattle.y86_cli.proofs.Agreement.{accepting_plus_words, accepting_words, accepting_seq_words, agreeing_words}
 use Rattle.y86_cli.proofs.laws.law_of_accepted_files.Goals as goal
 
 pub returns-clause-check_seq : goal.returns-clause-check_seq
 returns-clause-check_seq c = accepting_seq_words
+
+pub returns-clause-check_plus : goal.returns-clause-check_plus
+returns-clause-check_plus c = accepting_plus_words
 
 pub returns-clause-check_pipe : goal.returns-clause-check_pipe
 returns-clause-check_pipe c = accepting_words

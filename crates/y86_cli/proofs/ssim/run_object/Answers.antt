@@ -16,4 +16,4 @@ pub returns-clause-does : goal.returns-clause-does
 unfolding seq_plan
 returns-clause-does g c =
     read_goes_on _ _ _ _ _ _ _ _ _ _ c.in-Ok.ensures.later c.in-Ok.ensures.bytes.0 c.in-Ok.ensures.bytes.1
-    (stage_goes_on _ _ _ _ _ _ _ _ (rw c.as_slice.ensures.value at c.in-Ok-load_image.ensures) (said _ _ _ _ _ _ c.run_seq.ensures))
+    (stage_goes_on _ _ _ _ _ _ _ _ (rw c.as_slice.ensures.value at c.in-Ok-load_image.ensures) (said _ _ _ _ _ _ c.run_image.ensures))

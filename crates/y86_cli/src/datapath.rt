@@ -1,0 +1,10 @@
+//! The sequential datapaths.
+
+/// A datapath that does one instruction in each cycle.
+#[derive(Clone, Copy, Debug, PartialEq, Eq)]
+pub enum Datapath {
+    /// SEQ, whose state holds the PC.
+    Seq,
+    /// SEQ+, which computes the PC as a cycle begins, from what the instruction before left.
+    Plus,
+}

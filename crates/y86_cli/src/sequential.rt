@@ -1,0 +1,131 @@
+//! Verdicts on designs for the sequential datapaths, and the text of a No.
+ghost use Rattle.std.specs.Prelude.{◌≡◌, ◌≤◌, Err, IfErr, IfOk, List, OnErr, length};
+ghost use Rattle.ctl_atoms.specs.Atoms.{AreAtoms};
+ghost use Rattle.ctl_atoms.specs.declared.leaf.Atom.{Atom};
+ghost use Rattle.dp_signals.specs.SeqTable.{seq_rows};
+ghost use Rattle.hcl_types.specs.Tables.{IsBound, IsOrderOf, IsSound, row_names};
+ghost use Rattle.seq_plus.specs.PlusTable.{plus_rows};
+ghost use Rattle.verdicts.specs.Questions.{IsFault};
+ghost use Rattle.y86_cli.specs.Datapaths.{IsDecided, no_text, rows_of};
+ghost use Rattle.y86_cli.specs.declared.datapath.Datapath.TheVariants.{Plus as OnPlus, Seq as OnSeq};
+ghost use Rattle.y86_cli.specs.declared.stop.Stop.TheVariants.{Memory as WantOfMemory};
+
+use crate::datapath::Datapath;
+use crate::design::Ordered;
+use crate::stop::Stop;
+use control_check::{CheckFault, Failure, Verdict, check_seq};
+use ctl_atoms::{Atom, atoms};
+use hcl_types::{Row, Table};
+use nets::Valuation;
+use seq_plus::{Plain16, check_plus};
+use std::alloc::Global;
+use verdict_text::{plus_refusal, seq_refusal};
+use y86_base::{Memory, Variant};
+
+/// The verdict on a design for SEQ, as `decided` gives it.
+fn decide_seq(
+    alloc: Global,
+    variant: Variant,
+    ordered: &Ordered,
+) -> Result<Option<Failure>, CheckFault>
+    requires bound { IsBound seq_rows ordered.now.design.terms }
+    requires order { IsOrderOf seq_rows ordered.now.design.terms ordered.now.order.ids }
+    ensures decided { IfOk result (IsDecided OnSeq variant ordered.now.design.terms) }
+    ensures fault { IfErr result (IsFault seq_rows ordered.now.design.terms) }
+{
+    match check_seq(alloc, variant, &ordered.design, &ordered.order) {
+        Ok(Verdict::Yes(_)) => Ok(None),
+        Ok(Verdict::No { rule, valuation }) => Ok(Some(Failure { rule, valuation })),
+        Err(fault) => Err(fault),
+    }
+}
+
+/// The verdict on a design for SEQ+, as `decided` gives it.
+fn decide_plus(
+    alloc: Global,
+    variant: Variant,
+    ordered: &Ordered,
+) -> Result<Option<Failure>, CheckFault>
+    requires bound { IsBound plus_rows ordered.now.design.terms }
+    requires order { IsOrderOf plus_rows ordered.now.design.terms ordered.now.order.ids }
+    ensures decided { IfOk result (IsDecided OnPlus variant ordered.now.design.terms) }
+    ensures fault { IfErr result (IsFault plus_rows ordered.now.design.terms) }
+{
+    match check_plus(alloc, variant, &ordered.design, &ordered.order) {
+        Ok(Plain16::Yes) => Ok(None),
+        Ok(Plain16::No { rule, valuation }) => Ok(Some(Failure { rule, valuation })),
+        Err(fault) => Err(fault),
+    }
+}
+
+/// The verdict on a design: `None` where it is accepted, else the first obligation that is false of some valuation, with
+/// the least such valuation.
+pub fn decided(
+    alloc: Global,
+    which: Datapath,
+    variant: Variant,
+    ordered: &Ordered,
+) -> Result<Option<Failure>, CheckFault>
+    requires bound { IsBound (rows_of which) ordered.now.design.terms }
+    requires order { IsOrderOf (rows_of which) ordered.now.design.terms ordered.now.order.ids }
+    ensures decided { IfOk result (IsDecided which variant ordered.now.design.terms) }
+    ensures fault { IfErr result (IsFault (rows_of which) ordered.now.design.terms) }
+{
+    match which {
+        Datapath::Seq => decide_seq(alloc, variant, ordered),
+        Datapath::Plus => decide_plus(alloc, variant, ordered),
+    }
+}
+
+/// The text of a No, by the rows of the datapath's table and the design's atoms.
+#[tactic(auto, unfolding(seq_plus::specs::Fields::fields_of, seq_obligations::specs::Fields::line_at))]
+fn refusal(
+    alloc: Global,
+    which: Datapath,
+    rows: &[Row],
+    rule: u32,
+    valuation: &Valuation,
+    list: &[Atom],
+) -> Result<Vec<u8>, Memory>
+    requires rows { rows.now ≡ rows_of which }
+    requires few { length list.now ≤ 64 }
+    ensures { IfOk result (λ text. text.items ≡ no_text which rule valuation.now.bits list.now) }
+{
+    match which {
+        Datapath::Seq => seq_refusal(alloc, rows, rule, valuation, list),
+        Datapath::Plus => plus_refusal(alloc, rows, rule, valuation, list),
+    }
+}
+
+/// The text of a No of a design.
+pub fn seq_text<'a>(
+    alloc: Global,
+    which: Datapath,
+    table: &Table,
+    ordered: &Ordered,
+    failure: &Failure,
+) -> Result<Vec<u8>, Stop<'a>>
+    requires rows { table.now.rows ≡ rows_of which }
+    requires sound { IsSound table.now.rows }
+    requires bound { IsBound (rows_of which) ordered.now.design.terms }
+    requires order { IsOrderOf (rows_of which) ordered.now.design.terms ordered.now.order.ids }
+    ensures text { IfOk result (λ text. (list : List Atom) × AreAtoms (rows_of which) ordered.now.design.terms list
+        × (text.items ≡ no_text which failure.now.rule failure.now.valuation.bits list)) }
+    ensures memory { OnErr result (result ≡ Err WantOfMemory) }
+{
+    let Ok(list) = atoms(alloc, &ordered.design, table, &ordered.order) else {
+        return Err(Stop::Memory);
+    };
+    let rows = table.rows.items();
+    match refusal(
+        alloc,
+        which,
+        rows,
+        failure.rule,
+        &failure.valuation,
+        list.as_slice(),
+    ) {
+        Ok(text) => Ok(text),
+        Err(_) => Err(Stop::Memory),
+    }
+}
