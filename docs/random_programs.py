@@ -1,8 +1,8 @@
 #!/usr/bin/env python3
 """random_programs.py PROGRAM COUNT [SEED]
 
-Runs COUNT random programs under each accepted pipeline design of examples/ with PROGRAM (a path to y86), and compares: each report
-with that of `yis`, and each trace with that under the first design. The programs have loads right before their use, stores, stack
+Runs COUNT random programs under each accepted pipeline design of examples/ with PROGRAM (a path to y86), and under the sequential
+designs, and compares: each report with that of `yis`, and each trace with that under the first design. The programs have loads right before their use, stores, stack
 operations, conditional moves, jumps forward, bounded loops, calls, and now and then an access outside memory or an invalid
 instruction; none writes its own code, since data and stack stand above 0x800. Prints what differs, and `N passed, M failed`.
 """
@@ -66,6 +66,12 @@ def main():
             with open(path, "w", encoding="ascii") as it:
                 it.write(listing)
             report, first = call(y86, "yis", path), None
+            for command, design in (("ssim", "seq.hcl"), ("ssimp", "sp.hcl")):
+                if listing and call(y86, command, design, path) == report:
+                    passed += 1
+                else:
+                    failed += 1
+                    print(f"program {number} under {design} differs:\n{source}")
             for design in designs:
                 trace, _, rest = call(y86, "psim", design, path, "--trace").partition("Ran ")
                 first = trace if first is None else first

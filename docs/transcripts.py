@@ -5,7 +5,8 @@ Runs the commands of the transcripts in these pages with PROGRAM in the place of
 what the page says. A transcript is an indented block: a line `    $ COMMAND`, and below it what it prints on both streams.
 The commands of one page run in one folder that has the examples and lab/, so that a later one finds what an earlier one wrote.
 In a section such as `### O5`, the block behind "A file that breaks it: `std.hcl`" has definitions that stand in the place of that
-file's own, and the block behind "The check answers" is what `check pipe` (of `### S5`, `check seq`) prints of the file so made.
+file's own, and the block behind "The check answers" is what `check pipe` (of `### S5`, `check seq`, and of a change of `sp.hcl`,
+`check seqplus`) prints of the file so made.
 Prints each command that differs, and ends with `N passed, M failed`.
 """
 import os
@@ -57,7 +58,7 @@ def broken(path):
     for section in sections:
         name, _, rest = section.partition("\n")
         base = re.search(r"\*A file that breaks it\*: `(\w+\.hcl)`", rest)
-        if not re.fullmatch(r"[OS]\d+", name) or not base:
+        if not re.fullmatch(r"[OS]\d+( of SEQ\+)?", name) or not base:
             continue
         parts = blocks(rest[base.start():].split("\n"))
         answer = next(block for before, block in parts if before.strip().startswith("The check answers"))
@@ -93,7 +94,8 @@ def check(path, program):
         for name, base, definitions, want in broken(path):
             with open(f"{folder}/examples/{base}", encoding="utf-8") as it, open(f"{folder}/broken.hcl", "w", encoding="utf-8") as to:
                 to.write(changed(it.read(), definitions))
-            got = run(f"./y86 check {'pipe' if name[0] == 'O' else 'seq'} broken.hcl", folder).rstrip("\n")
+            datapath = "pipe" if name[0] == "O" else "seqplus" if base == "sp.hcl" else "seq"
+            got = run(f"./y86 check {datapath} broken.hcl", folder).rstrip("\n")
             if got == want:
                 passed += 1
             else:
