@@ -2,8 +2,6 @@
 #![tactic(auto)]
 
 mod calling;
-#[cfg(test)]
-mod cases;
 mod check;
 mod datapath;
 mod design;
@@ -13,18 +11,10 @@ mod psim;
 mod running;
 mod saying;
 mod sequential;
-#[cfg(test)]
-mod simulations;
 mod ssim;
 mod stages;
 mod stop;
-#[cfg(test)]
-mod tests;
-#[cfg(test)]
-mod usage;
 mod verdict;
-#[cfg(test)]
-mod verdicts;
 mod yas;
 mod yis;
 
