@@ -32,10 +32,10 @@ def main():
     passed = failed = 0
     with tempfile.TemporaryDirectory() as folder:
         for name, base, definitions, _ in transcripts.broken(f"{TOP}/docs/OBLIGATIONS.md"):
-            path = f"{folder}/{name}.hcl"
+            path, rule = f"{folder}/{name.replace(' ', '_')}.hcl", name.split(" ")[0]
             with open(f"{TOP}/examples/{base}", encoding="utf-8") as it, open(path, "w", encoding="utf-8") as to:
                 to.write(transcripts.changed(it.read(), definitions))
-            explained, found = is_explained(name, lab("explain", path)), re.search(r"^Program (\d+) shows it", lab("witness", path), re.M)
+            explained, found = is_explained(rule, lab("explain", path)), re.search(r"^Program (\d+) shows it", lab("witness", path), re.M)
             well = explained and bool(found) != (name in UNSEEN)
             passed, failed = passed + well, failed + (not well)
             print(f"{name}: {'explained' if explained else 'NOT EXPLAINED'}, {f'program {found[1]} shows it' if found else 'no program'}", flush=True)

@@ -11,10 +11,8 @@ def page(name):
 
 def obligation(rule, path):
     """What an obligation of a datapath asks, and why: one paragraph each."""
-    if (path, rule) == ("seqplus", "S16"):
-        asks = "`pc` picks where the instruction before goes: pValC for `call` and a jump that was taken, pValM for `ret`, else pValP."
-        return asks, "The program would go on elsewhere. CS:APP 3e, section 4.5.1."
-    found = re.search(rf"^### {rule}\n\n(.*?)\n\n\*Why\.\*(.*?)\n\n", page("OBLIGATIONS.md"), re.S | re.M)
+    section = f"{rule} of SEQ+" if (path, rule) == ("seqplus", "S16") else rule
+    found = re.search(rf"^### {re.escape(section)}\n\n(.*?)\n\n\*Why\.\*(.*?)\n\n", page("OBLIGATIONS.md"), re.S | re.M)
     if not found:
         return "", ""
     return tuple(re.sub(r"\s+", " ", it).strip() for it in found.groups())
