@@ -112,8 +112,16 @@ class Proof:
             return False
         except subprocess.TimeoutExpired:
             if time.monotonic() - self.told >= SILENT_FOR:
-                self.tell(f"at {', '.join(self.ready()[: self.jobs])}; {len(self.proved)} of {len(self.crates)} are proved, after {self.since()}")
+                at = f"{', '.join(self.ready()[: self.jobs])}{self.so_far()}"
+                self.tell(f"at {at}; {len(self.proved)} of {len(self.crates)} are proved, after {self.since()}")
             return True
+
+    def so_far(self):
+        """Returns how much of a crate is checked, where the prover said it last."""
+        with open(self.log, "rb") as it:
+            it.seek(max(os.path.getsize(self.log) - 200, 0))
+            found = re.search(rb"^so far: (\d+ of \d+ functions)[^\n]*\n\Z", it.read(), re.M)
+        return f" ({found[1].decode()})" if found else ""
 
     def end(self):
         if self.command and self.command.poll() is None:
