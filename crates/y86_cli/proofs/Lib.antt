@@ -11,3 +11,4 @@ pub mod Ran
 pub mod Runs
 pub mod SeqRuns
 pub mod Staged
+pub mod Samples

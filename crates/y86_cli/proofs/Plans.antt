@@ -10,7 +10,7 @@ use Rattle.yas_asm.specs.declared.fault.AsmFault.{AsmFault}
 use Rattle.yas_asm.specs.declared.listing.Line.{Line}
 use Rattle.yo_object.specs.ObjectText.{object_of}
 use Rattle.yo_object.specs.declared.object.YoFault.{YoFault}
-use Rattle.y86_cli.specs.Answers.{image_of_text, plan_in, plan_of, run_status, text_of_listing, yas_plan, yis_plan, check_pipe_plan, check_seq_plan, checked_plan, hcl_plan, seq_plan, ssim_plan, SeqAnswers, pipe_plan, psim_plan, PipeAnswers, yis_run}
+use Rattle.y86_cli.specs.Answers.{image_of_text, plan_in, plan_of, run_status, text_of_listing, yas_plan, yis_plan, check_pipe_plan, check_seq_plan, checked_plan, hcl_plan, seq_plan, ssim_plan, SeqAnswers, pipe_plan, psim_plan, PipeAnswers, yis_run, sample_plan}
 use Rattle.y86_cli.specs.Checks.{PipeChecks, RefusesControl, RefusesPipe, SeqChecks}
 use Rattle.y86_cli.specs.Datapaths.{rows_of}
 use Rattle.y86_cli.specs.Designs.{RefusesDesign}
@@ -18,9 +18,10 @@ use Rattle.hcl_types.specs.declared.table.Row.{Row}
 use Rattle.hcl_types.specs.declared.term.Term.{Term}
 use Rattle.dp_signals.specs.PipeTable.{pipe_rows}
 use Rattle.y86_cli.specs.Does.{FilesSeen, SinkSeen}
-use Rattle.y86_words.specs.Forms.{Command, yas, yis, hcl, ssim, ssimp, psim, check_seq, check_plus, check_pipe}
+use Rattle.y86_words.specs.Forms.{Command, yas, yis, hcl, ssim, ssimp, psim, check_seq, check_plus, check_pipe, sample}
 use Rattle.y86_cli.specs.Lines.{assembly_fault_line, object_fault_line, read_fault_line, too_long_line}
 use Rattle.y86_cli.specs.Plan.{Answered, Plan, says, reads, gives, answers, after, refused, Allows, Tells, IsDetermined}
+use Rattle.y86_cli.specs.Samples.{SampleAnswers}
 use Rattle.y86_cli.specs.Ran.{Ran, Told}
 use Rattle.y86_cli.specs.declared.datapath.Datapath.{Datapath}
 use Rattle.y86_cli.specs.declared.datapath.Datapath.TheVariants.{Seq, Plus}
@@ -218,8 +219,13 @@ checked_proper name terms object size limit trace false v = object_proper [] ter
 checked_proper name terms object size limit trace true v =
     (λ yes accepts. object_proper yes terms object size limit trace v, refuses_pipe_proper name v terms)
 
+sample_proper : (name : List ℕ) (v : Variant) (terms : List Term) (seed count : ℕ) (a : Answered) → SampleAnswers name v terms seed count a → IsProper a
+sample_proper name v terms seed count a (inl none) = proper_as a _ (inl (lit≤ tt, refl)) none.told
+sample_proper name v terms seed count a (inr (inl found)) = proper_as a _ (inl (lit≤ tt, refl)) found.told
+sample_proper name v terms seed count a (inr (inr refuses)) = control_proper name pipe_rows terms a refuses
+
 command_proper : (command : Command) → AllProper (plan_of command)
-unfolding AllProper check_pipe_plan yas_plan yis_plan hcl_plan psim_plan
+unfolding AllProper sample_plan check_pipe_plan yas_plan yis_plan hcl_plan psim_plan
 command_proper (yas source size v) =
     λ bytes. after_proper _ _ (λ text. answers_proper _ (inl (lit≤ tt, refl))) (listing_proper source bytes (assembled v bytes size))
 command_proper (yis object size limit v) =
@@ -232,6 +238,7 @@ command_proper (psim name object size limit trace checked v) =
 command_proper (check_seq file v) = check_seq_proper Seq file v
 command_proper (check_plus file v) = check_seq_proper Plus file v
 command_proper (check_pipe file v) = λ text. (λ terms is a said. pipe_check_proper file v terms a said, design_proper file pipe_rows text)
+command_proper (sample file seed count v) = λ text. (λ terms is a said. sample_proper file v terms seed count a said, design_proper file pipe_rows text)
 
 done_of : (a : Answered) → IsProper a → a.status ≤ 1 → a.err ≡ []
 done_of a (inl p) low = p.1

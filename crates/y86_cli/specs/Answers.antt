@@ -21,7 +21,8 @@ use Rattle.yo_object.specs.declared.object.YoFault.{YoFault}
 use Rattle.y86_cli.specs.Checks.{AcceptsPipe, PipeChecks, RefusesPipe, SeqChecks}
 use Rattle.y86_cli.specs.Datapaths.{Runs, rows_of}
 use Rattle.y86_cli.specs.Designs.{IsDesign, RefusesDesign, RefusesHcl}
-use Rattle.y86_words.specs.Forms.{Command, yas, yis, hcl, ssim, ssimp, psim, check_seq, check_plus, check_pipe}
+use Rattle.y86_cli.specs.Samples.{SampleAnswers}
+use Rattle.y86_words.specs.Forms.{Command, yas, yis, hcl, ssim, ssimp, psim, check_seq, check_plus, check_pipe, sample}
 use Rattle.y86_cli.specs.Lines.{assembly_fault_line, object_fault_line, usage_line}
 use Rattle.y86_cli.specs.PipeRuns.{RunsTo, run_text}
 use Rattle.y86_cli.specs.Plan.{Answered, Plan, after, answers, done, gives, reads, refused, says}
@@ -114,6 +115,11 @@ unfoldable pub check_pipe_plan : List ℕ → Variant → Plan
 check_pipe_plan name v =
     reads name hcl_limit (λ text. gives (IsDesign pipe_rows text) (RefusesDesign name pipe_rows text) (λ terms. says (PipeChecks name v terms)))
 
+-- drawn valuations against the obligations of a design for PIPE
+unfoldable pub sample_plan : List ℕ → ℕ → ℕ → Variant → Plan
+sample_plan name seed count v =
+    reads name hcl_limit (λ text. gives (IsDesign pipe_rows text) (RefusesDesign name pipe_rows text) (λ terms. says (SampleAnswers name v terms seed count)))
+
 abbrev pub plan_of : Command → Plan
 plan_of (yas source size v) = yas_plan source size v
 plan_of (yis object size limit v) = yis_plan object size limit v
@@ -124,6 +130,7 @@ plan_of (psim name object size limit trace checked v) = psim_plan name object si
 plan_of (check_seq name v) = check_seq_plan Seq name v
 plan_of (check_plus name v) = check_seq_plan Plus name v
 plan_of (check_pipe name v) = check_pipe_plan name v
+plan_of (sample name seed count v) = sample_plan name seed count v
 
 -- the plan of words that are a command or none
 abbrev pub plan_in : Option Command → Plan

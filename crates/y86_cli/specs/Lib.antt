@@ -10,3 +10,4 @@ pub mod PipeRuns
 pub mod Plan
 pub mod Ran
 pub mod Stops
+pub mod Samples

@@ -9,6 +9,7 @@ mod hcl;
 mod laws;
 mod psim;
 mod running;
+mod sample;
 mod saying;
 mod sequential;
 mod ssim;

@@ -12,6 +12,7 @@ use crate::check::{check_pipe_file, check_seq_file};
 use crate::datapath::Datapath;
 use crate::hcl::hcl;
 use crate::psim::psim;
+use crate::sample::sample;
 use crate::ssim::ssim;
 use crate::stop::Stop;
 use crate::yas::yas;
@@ -101,6 +102,12 @@ fn execute<'a, F: Files, O: Sink>(
             check_seq_file(alloc, Datapath::Plus, name, variant, files, out)
         }
         Cmd::CheckPipe { hcl: name, variant } => check_pipe_file(alloc, name, variant, files, out),
+        Cmd::Sample {
+            hcl: name,
+            seed,
+            count,
+            variant,
+        } => sample(alloc, name, seed, count, variant, files, out),
     }
 }
 

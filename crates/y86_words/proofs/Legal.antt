@@ -1,17 +1,17 @@
 -- The commands that words are, are legal.
-use Rattle.std.proofs.Common.{◌≡◌, ℕ, ◌%◌, Bool, true, false, cond, ◌&&◌, nat_le, nat_eq, List, [], ◌∷◌, get_or, slice_get, unwrap_or, refl, subst, Option, Some, None, option_and_then, lit≤, arith}
+use Rattle.std.proofs.Common.{◌≡◌, ℕ, ◌%◌, Bool, true, false, cond, ◌&&◌, nat_le, nat_eq, List, [], ◌∷◌, get_or, slice_get, unwrap_or, refl, subst, Option, Some, None, option_and_then, lit≤, arith, ◌≤◌}
 use Rattle.std.proofs.lemmas.Bool.{eqb-true, leb-true}
 use Rattle.std.specs.Option.{option_map, option_to_list}
 use Rattle.y86_base.proofs.Booleans.{both_true}
 use Rattle.y86_base.specs.Image.{IsSize, is_image_size}
 use Rattle.y86_base.specs.declared.parts.Variant.{Variant}
 use Rattle.y86_words.specs.declared.form.Kind.{Kind}
-use Rattle.y86_words.specs.declared.form.Kind.TheVariants.{Yas, Yis, Hcl, Ssim, Ssimp, Psim, CheckSeq, CheckPlus, CheckPipe}
+use Rattle.y86_words.specs.declared.form.Kind.TheVariants.{Yas, Yis, Hcl, Ssim, Ssimp, Psim, CheckSeq, CheckPlus, CheckPipe, Sample}
 use Rattle.y86_words.specs.declared.option.Switch.{Switch}
 use Rattle.y86_words.specs.declared.option.Switch.TheVariants.{Full, Mem, Limit, Trace, Checked}
 use Rattle.y86_words.specs.Arguments.{Argument, place, switch, Reading, whole, needs, neither, reading_of, option_reading, place_reading, in_front, last, before, arguments, index_of, is_option, switch_of, Filled}
-use Rattle.y86_words.specs.Forms.{Command, yas, yis, hcl, ssim, ssimp, psim, check_seq, check_plus, check_pipe, form_of, made, size_of, limit_of, trace_of, checked_of, variant_of}
-use Rattle.y86_words.specs.Numbers.{number_of, is_run_limit}
+use Rattle.y86_words.specs.Forms.{Command, yas, yis, hcl, ssim, ssimp, psim, check_seq, check_plus, check_pipe, form_of, made, size_of, limit_of, trace_of, checked_of, variant_of, sample, most_drawn, most_seed, number_at}
+use Rattle.y86_words.specs.Numbers.{number_of, is_run_limit, number_within}
 use Rattle.y86_words.specs.Wording.{IsFileName, IsRunLimit, IsLegal, places_of, numbers_of, IsFound}
 use Rattle.y86_words.proofs.Wording.{has_form}
 
@@ -233,6 +233,35 @@ check_legal make legal_as f None command e made_is legal = absurd (cc (made_is))
 check_legal make legal_as f (Some word) command e made_is legal =
     let same : make word ≡ command = cc (made_is) in subst IsLegal same (legal_as word (second_legal f.words word legal.words e))
 
+-- a number within a range
+within_legal : (least most : ℕ) (number : Option ℕ) (n : ℕ) → option_and_then (λ n. cond (nat_le least n && nat_le n most) (Some n) None) number ≡ Some n → (least ≤ n) × (n ≤ most)
+within_legal least most None n e = absurd (cc (e))
+within_legal least most (Some m) n e = at (nat_le least m && nat_le m most) refl e
+  where
+    at : (b : Bool) → (nat_le least m && nat_le m most) ≡ b → cond b (Some m) None ≡ Some n → (least ≤ n) × (n ≤ most)
+    at true passed e =
+        let a = both_true (nat_le least m) (nat_le m most) passed in
+        let same : m ≡ n = cc (e) in
+        let P : ℕ → Type 0 = λ x. (least ≤ x) × (x ≤ most) in subst P same (leb-true least m a.0, leb-true m most a.1)
+    at false failed e = absurd (cc (e))
+
+number_in_place : (least most at : ℕ) (f : Filled) (n : ℕ) → number_at least most at f ≡ Some n → (least ≤ n) × (n ≤ most)
+number_in_place least most at f n e = of_word (slice_get f.words at) e
+  where
+    of_word : (word : Option (List ℕ)) → option_and_then (number_within least most) word ≡ Some n → (least ≤ n) × (n ≤ most)
+    of_word None e = absurd (cc (e))
+    of_word (Some word) e = within_legal least most (number_of word) n e
+
+sample_legal : (v : Variant) (f : Filled) (name : Option (List ℕ)) (seed count : Option ℕ) (command : Command) → slice_get f.words 0 ≡ name →
+    number_at 0 most_seed 1 f ≡ seed → number_at 0 most_drawn 2 f ≡ count →
+    option_and_then (λ file. option_and_then (λ s. option_map (λ c. sample file s c v) count) seed) name ≡ Some command → IsLegalFound f → IsLegal command
+sample_legal v f None seed count command e d c made_is legal = absurd (cc (made_is))
+sample_legal v f (Some name) None count command e d c made_is legal = absurd (cc (made_is))
+sample_legal v f (Some name) (Some seed) None command e d c made_is legal = absurd (cc (made_is))
+sample_legal v f (Some name) (Some seed) (Some count) command e d c made_is legal =
+    let same : sample name seed count v ≡ command = cc (made_is) in
+    subst IsLegal same (first_legal f.words name legal.words e, (number_in_place 0 most_seed 1 f seed d).1, (number_in_place 0 most_drawn 2 f count c).1)
+
 made_legal : (kind : Kind) (f : Filled) (command : Command) → made kind f ≡ Some command → IsLegalFound f → IsLegal command
 made_legal Yas f command e legal = yas_legal (variant_of f) f (slice_get f.words 0) command refl e legal
 made_legal Yis f command e legal = yis_legal (variant_of f) f (slice_get f.words 0) command refl e legal
@@ -243,6 +272,7 @@ made_legal Psim f command e legal = psim_legal (variant_of f) (trace_of f) (chec
 made_legal CheckSeq f command e legal = check_legal (λ file. check_seq file (variant_of f)) (λ word named. named) f (slice_get f.words 1) command refl e legal
 made_legal CheckPlus f command e legal = check_legal (λ file. check_plus file (variant_of f)) (λ word named. named) f (slice_get f.words 1) command refl e legal
 made_legal CheckPipe f command e legal = check_legal (λ file. check_pipe file (variant_of f)) (λ word named. named) f (slice_get f.words 1) command refl e legal
+made_legal Sample f command e legal = sample_legal (variant_of f) f (slice_get f.words 0) (number_at 0 most_seed 1 f) (number_at 0 most_drawn 2 f) command refl refl refl e legal
 
 no_words : (command : Command) → form_of [] ≡ Some command → ⊥
 unfolding form_of

@@ -17,9 +17,9 @@ use Rattle.y86_base.specs.declared.parts.Variant.TheVariants.{Base}
 use Rattle.y86_base.specs.declared.parts.Variant.TheVariants as variant
 use Rattle.y86_words.specs.declared.option.Switch.{Switch}
 use Rattle.y86_words.specs.declared.option.Switch.TheVariants.{Full, Mem, Limit, Trace, Checked}
-use Rattle.y86_words.specs.Arguments.{Argument, place, switch, arguments, in_front, index_of, Filled, nothing_filled, all_added}
-use Rattle.y86_words.specs.Forms.{Command, yas, yis, hcl, ssim, ssimp, psim, check_seq, check_plus, check_pipe, Form, forms, fits, made, first_fit, form_of}
-use Rattle.y86_words.specs.Numbers.{is_number, number_of, number_that, is_run_limit}
+use Rattle.y86_words.specs.Arguments.{Argument, place, switch, arguments, in_front, index_of, Filled, nothing_filled, all_added, is_option}
+use Rattle.y86_words.specs.Forms.{Command, yas, yis, hcl, ssim, ssimp, psim, check_seq, check_plus, check_pipe, Form, forms, fits, made, first_fit, form_of, sample, most_drawn, most_seed}
+use Rattle.y86_words.specs.Numbers.{is_number, number_of, number_that, is_run_limit, number_within}
 use Rattle.y86_words.specs.Wording.{IsFileName, IsRunLimit, IsLegal, trace_words, checked_words, variant_words, words_of, places_of, numbers_of, IsFound, HasForm}
 use Rattle.y86_words.proofs.Arguments.{place_read, switch_read}
 
@@ -70,6 +70,21 @@ plus_arguments rest = file_arguments (codes "seqplus") rest (omega arith, refl)
 
 pipe_arguments : (rest : List (List ℕ)) → arguments (codes "pipe" ∷ rest) ≡ in_front (Some (place (codes "pipe"))) (arguments rest)
 pipe_arguments rest = file_arguments (codes "pipe") rest (omega arith, refl)
+
+-- decimal digits are no option
+no_option : (digits : List ℕ) → AllDigits 10 digits → is_option digits ≡ false
+no_option [] h = refl
+no_option (c ∷ digits) h = at (eqb 45 c) refl
+  where
+    at : (b : Bool) → eqb 45 c ≡ b → is_option (c ∷ digits) ≡ false
+    at true e = let within = digit_from_value c h.0 in absurd (omega (arith, within.0, eqb-true 45 c e))
+    at false e = rw e refl
+
+number_arguments : (n : ℕ) (rest : List (List ℕ)) → n < 2 ^ 64 → arguments (decimal n ∷ rest) ≡ in_front (Some (place (decimal n))) (arguments rest)
+number_arguments n rest small = let numeral = decimal_is_IsNumeral n small in file_arguments (decimal n) rest (numeral.0.0, no_option (decimal n) numeral.0.1)
+
+number_read : (least most n : ℕ) → least ≤ n → n ≤ most → n < 2 ^ 64 → number_within least most (decimal n) ≡ Some n
+number_read least most n low high small = rw (number_of-decimal n small, le-leb least n low, le-leb n most high) refl
 
 variant_arguments : Variant → List Argument
 variant_arguments variant.Base = []
@@ -145,6 +160,16 @@ legal_written (check_plus file variant.Base) legal = rw (plus_arguments _, file_
 legal_written (check_plus file variant.Full) legal = rw (plus_arguments _, file_arguments file _ legal, variant_read variant.Full) refl
 legal_written (check_pipe file variant.Base) legal = rw (pipe_arguments _, file_arguments file _ legal, variant_read variant.Base) refl
 legal_written (check_pipe file variant.Full) legal = rw (pipe_arguments _, file_arguments file _ legal, variant_read variant.Full) refl
+legal_written (sample file seed count variant.Base) legal =
+    let small : seed < 2 ^ 64 = omega (arith, legal.1) in
+    let few : count < 2 ^ 64 = omega (arith, legal.2) in
+    rw (file_arguments file _ legal.0, number_arguments seed _ small, number_arguments count _ few, variant_read variant.Base)
+    (rw (number_read 0 most_seed seed (omega arith) legal.1 small, number_read 0 most_drawn count (omega arith) legal.2 few) refl)
+legal_written (sample file seed count variant.Full) legal =
+    let small : seed < 2 ^ 64 = omega (arith, legal.1) in
+    let few : count < 2 ^ 64 = omega (arith, legal.2) in
+    rw (file_arguments file _ legal.0, number_arguments seed _ small, number_arguments count _ few, variant_read variant.Full)
+    (rw (number_read 0 most_seed seed (omega arith) legal.1 small, number_read 0 most_drawn count (omega arith) legal.2 few) refl)
 
 pub defaults_hold : (file : List ℕ) → IsFileName file →
     (form_of (codes "yas" ∷ file ∷ []) ≡ Some (yas file 8192 Base)) × (form_of (codes "yis" ∷ file ∷ []) ≡ Some (yis file 8192 10000 Base))

@@ -11,7 +11,7 @@ use Rattle.y86_words.specs.Numbers.{number_within}
 use Rattle.y86_words.specs.declared.option.Switch.{Switch}
 use Rattle.y86_words.specs.declared.option.Switch.TheVariants.{Full, Mem, Limit, Trace, Checked}
 use Rattle.y86_words.specs.declared.form.Kind.{Kind}
-use Rattle.y86_words.specs.declared.form.Kind.TheVariants.{Yas, Yis, Hcl, Ssim, Ssimp, Psim, CheckSeq, CheckPlus, CheckPipe}
+use Rattle.y86_words.specs.declared.form.Kind.TheVariants.{Yas, Yis, Hcl, Ssim, Ssimp, Psim, CheckSeq, CheckPlus, CheckPipe, Sample}
 
 -- what a place takes: this word, the name of a file, or a number from a least one to a most one
 pub data Place : Type 0 where
@@ -28,6 +28,14 @@ pub record Form : Type 0 where
 abbrev pub row : Kind → List ℕ → List Place → List Switch → Form
 row kind name places options = record { kind = kind; name = name; places = places; options = options }
 
+-- the most valuations that are drawn
+abbrev pub most_drawn : ℕ
+most_drawn = 1000000
+
+-- the largest number that draws begin with
+abbrev pub most_seed : ℕ
+most_seed = 18446744073709551615
+
 -- the table of the commands
 abbrev pub forms : List Form
 forms =
@@ -40,6 +48,7 @@ forms =
     ∷ row CheckSeq (codes "check") (keyword (codes "seq") ∷ file ∷ []) (Full ∷ [])
     ∷ row CheckPlus (codes "check") (keyword (codes "seqplus") ∷ file ∷ []) (Full ∷ [])
     ∷ row CheckPipe (codes "check") (keyword (codes "pipe") ∷ file ∷ []) (Full ∷ [])
+    ∷ row Sample (codes "sample") (file ∷ number 0 most_seed ∷ number 0 most_drawn ∷ []) (Full ∷ [])
     ∷ []
 
 -- ---- the form that words have
@@ -89,6 +98,9 @@ pub data Command : Type 0 where
   check_plus : List ℕ → Variant → Command
   -- the same of PIPE, for the programs that don't store over their own instructions
   check_pipe : List ℕ → Variant → Command
+  -- try drawn valuations against the obligations of PIPE: the name of the HCL file, the number that the draws begin with, how many
+  -- valuations, the instruction set
+  sample : List ℕ → ℕ → ℕ → Variant → Command
 
 -- `--full` takes the instruction set with `iaddq`
 abbrev pub variant_with : Option ℕ → Variant
@@ -138,6 +150,9 @@ made Psim f =
 made CheckSeq f = option_map (λ file. check_seq file (variant_of f)) (slice_get f.words 1)
 made CheckPlus f = option_map (λ file. check_plus file (variant_of f)) (slice_get f.words 1)
 made CheckPipe f = option_map (λ file. check_pipe file (variant_of f)) (slice_get f.words 1)
+made Sample f =
+    option_and_then (λ file. option_and_then (λ seed. option_map (λ count. sample file seed count (variant_of f)) (number_at 0 most_drawn 2 f)) (number_at 0 most_seed 1 f))
+    (slice_get f.words 0)
 
 -- the command of the first row that fits
 unfoldable pub first_fit : List Form → List ℕ → Filled → Option Command

@@ -74,6 +74,13 @@ pub enum Cmd<'a> {
         hcl: &'a str,
         variant: Variant,
     },
+    /// Tries `count` drawn valuations against the obligations of PIPE.
+    Sample {
+        hcl: &'a str,
+        seed: u64,
+        count: u64,
+        variant: Variant,
+    },
 }
 
 /// Words that are no command.

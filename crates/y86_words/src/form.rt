@@ -18,6 +18,12 @@ const DEFAULT_SIZE: u64 = 8192;
 /// The most steps or cycles of a run where `--limit` is absent.
 const DEFAULT_LIMIT: u64 = 10_000;
 
+/// The most valuations that are drawn.
+const MOST_DRAWN: u64 = 1_000_000;
+
+/// A number that draws begin with.
+const SEED: Place = Place::Number(0, u64::MAX);
+
 /// What a place of a form takes.
 #[derive(Clone, Copy, Debug)]
 pub enum Place {
@@ -41,6 +47,7 @@ pub enum Kind {
     CheckSeq,
     CheckPlus,
     CheckPipe,
+    Sample,
 }
 
 /// A form: the name of its command, the places behind it, in order, and the options, which stand anywhere behind the
@@ -54,7 +61,7 @@ struct Form {
 }
 
 /// The table of the commands.
-static FORMS: [Form; 9] = [
+static FORMS: [Form; 10] = [
     Form {
         kind: Kind::Yas,
         name: "yas",
@@ -113,6 +120,12 @@ static FORMS: [Form; 9] = [
         kind: Kind::CheckPipe,
         name: "check",
         places: &[Place::Keyword("pipe"), Place::File],
+        options: &[Switch::Full],
+    },
+    Form {
+        kind: Kind::Sample,
+        name: "sample",
+        places: &[Place::File, SEED, Place::Number(0, MOST_DRAWN)],
         options: &[Switch::Full],
     },
 ];
@@ -191,6 +204,14 @@ fn variant_with(full: Option<u64>) -> Variant
     }
 }
 
+/// The number in a place, where it is within a range.
+fn number_at(found: &Found<'_>, at: usize, least: u64, most: u64) -> Option<u64>
+    ensures { result ≡ spec.number_at least most at (filled_in found.now) }
+{
+    let word = *found.words.as_slice().get(at)?;
+    number_within(word.as_bytes(), least, most)
+}
+
 /// The command of a row with what was found. An option that isn't there has its default.
 fn made<'a>(kind: Kind, found: &Found<'a>) -> Option<Cmd<'a>>
     ensures { option_map command_in result ≡ spec.made kind (filled_in found.now) }
@@ -249,6 +270,12 @@ fn made<'a>(kind: Kind, found: &Found<'a>) -> Option<Cmd<'a>>
         }),
         Kind::CheckPipe => Some(Cmd::CheckPipe {
             hcl: *words.get(1)?,
+            variant,
+        }),
+        Kind::Sample => Some(Cmd::Sample {
+            hcl: *words.get(0)?,
+            seed: number_at(found, 1, 0, u64::MAX)?,
+            count: number_at(found, 2, 0, MOST_DRAWN)?,
             variant,
         }),
     }
