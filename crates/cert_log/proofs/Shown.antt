@@ -1,0 +1,61 @@
+-- Certificates of files.
+use Rattle.std.proofs.Common.{◌≡◌, ℕ, ◌-◌, ◌≤◌, List, length, drop, take, sym, ap, ◌∙◌, arith}
+use Rattle.std.proofs.lemmas.Bool.{false≢true}
+use Rattle.std.proofs.lemmas.List.{take_rest}
+use Rattle.y86_base.specs.declared.parts.Variant.{Variant}
+use Rattle.hcl_types.specs.Tables.{IsBound, IsOrderOf}
+use Rattle.hcl_types.specs.declared.term.Term.{Term}
+use Rattle.dp_signals.specs.PipeTable.{pipe_rows}
+use Rattle.ctl_atoms.specs.Atoms.{IsFirstMixed, IsOver64}
+use Rattle.ctl_atoms.proofs.Solved.{leaves_exist}
+use Rattle.pipe_motion.specs.declared.settings.Settings.{Settings}
+use Rattle.verdict_text.specs.PipeLines.{pipe_yes}
+use Rattle.control_check.specs.PipeVerdicts.{RefinesPipe}
+use Rattle.certificates.specs.Certificates.{CertOk}
+use Rattle.certificates.specs.declared.demands.Demands.{Demands}
+use Rattle.cert_writer.specs.Writing.{IsOpen}
+use Rattle.cert_log.specs.Demanded.{DemandsFor}
+use Rattle.cert_log.specs.Files.{HasAtoms, Meets}
+use Rattle.cert_log.proofs.Wanted.{certified_hold, certified_refine, demands_tell}
+
+-- ---- a design with control values has no fault of them
+
+pub not_mixed : (terms : List Term) (n : ℕ) → HasAtoms terms → IsFirstMixed pipe_rows terms n → ⊥
+not_mixed terms n h mixed = false≢true (sym (h.are.pure n) ∙ mixed.mixed)
+
+pub not_over : (terms : List Term) (ids : List ℕ) → IsOrderOf pipe_rows terms ids → HasAtoms terms → IsOver64 pipe_rows terms → ⊥
+not_over terms ids o h over =
+    let some = leaves_exist pipe_rows terms ids o in
+    let many = over.many some.0 some.1 in
+    let few = h.are.few in
+    let same = ap length (h.are.are some.0 some.1) in
+    omega (arith, many, few, same)
+
+pub has_atoms : (v : Variant) (terms : List Term) (s : Settings) → Meets v terms s → HasAtoms terms
+has_atoms v terms s m = record { atoms = m.atoms; are = m.are }
+
+-- ---- what is demanded of a file that meets its obligations is nowhere false
+
+pub never_open : (v : Variant) (terms : List Term) (ids : List ℕ) (s : Settings) (g : Demands) → IsOrderOf pipe_rows terms ids → Meets v terms s → DemandsFor v terms s g → IsOpen g → ⊥
+never_open v terms ids s g o m d some =
+    let all = (demands_tell v terms ids m.atoms s g o m.are d).1 m.meets in
+    false≢true (sym some.fails ∙ all.each some.k some.gate some.is some.pattern some.size)
+
+-- ---- what a certificate shows
+
+pub met : (v : Variant) (terms : List Term) (ids : List ℕ) (s : Settings) (g : Demands) (text : List ℕ) → IsOrderOf pipe_rows terms ids → HasAtoms terms → DemandsFor v terms s g → CertOk g text →
+    Meets v terms s
+met v terms ids s g text o h d c = record { atoms = h.atoms; are = h.are; meets = certified_hold v terms ids h.atoms s g text o h.are d c }
+
+pub refined : (v : Variant) (terms : List Term) (ids : List ℕ) (s : Settings) (g : Demands) (text : List ℕ) → IsBound pipe_rows terms → IsOrderOf pipe_rows terms ids → DemandsFor v terms s g →
+    CertOk g text → RefinesPipe v terms
+refined v terms ids s g text bound o d c = λ image k is_image pure. certified_refine v terms ids s g text image k bound o d c is_image pure
+
+-- ---- the line of an accepted certificate
+
+pub yes_long : (s : Settings) → 3 ≤ length (pipe_yes s)
+unfolding pipe_yes
+yes_long s = omega arith
+
+pub holds_is : (s : Settings) (line : List ℕ) → line ≡ pipe_yes s → take (length line - 3) (drop 3 line) ≡ drop 3 (pipe_yes s)
+holds_is s line e = take_rest line 3 ∙ ap (drop 3) e

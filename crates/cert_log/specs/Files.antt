@@ -1,0 +1,51 @@
+-- Certificates of files: a right one, and why a text is none.
+use Rattle.std.specs.Prelude.{ℕ, ◌⊎◌, List, ◌++◌, codes, drop}
+use Rattle.y86_base.specs.declared.parts.Variant.{Variant}
+use Rattle.hcl_types.specs.declared.term.Term.{Term}
+use Rattle.dp_signals.specs.PipeTable.{pipe_rows}
+use Rattle.ctl_atoms.specs.Atoms.{AreAtoms}
+use Rattle.ctl_atoms.specs.declared.leaf.Atom.{Atom}
+use Rattle.pipe_motion.specs.declared.settings.Settings.{Settings}
+use Rattle.pipe_theorem.specs.Theorem.{MeetsObligations}
+use Rattle.verdict_text.specs.PipeLines.{pipe_yes}
+use Rattle.certificates.specs.Certificates.{CertOk, HasNoHead, IsFirstFault, States}
+use Rattle.certificates.specs.declared.demands.Demands.{Demands}
+use Rattle.certificates.specs.declared.fault.CertError.{CertError}
+use Rattle.certificates.specs.declared.fault.CertError.TheVariants as error
+use Rattle.certificates.specs.declared.fault.CertFault.{CertFault}
+use Rattle.cert_log.specs.Demanded.{DemandsFor}
+
+-- a design with control values: none of its definitions mixes codes with words, and it has at most 64 atoms
+pub record HasAtoms (terms : List Term) : Type 0 where
+  pub atoms : List Atom
+  pub are : AreAtoms pipe_rows terms atoms
+
+-- the file meets its obligations at settings
+pub record Meets (v : Variant) (terms : List Term) (s : Settings) : Type 0 where
+  pub atoms : List Atom
+  pub are : AreAtoms pipe_rows terms atoms
+  pub meets : MeetsObligations v terms atoms s
+
+-- a certificate of a file at settings, which it states
+pub record IsCertificate (v : Variant) (terms : List Term) (s : Settings) (text : List ℕ) : Type 0 where
+  pub demands : Demands
+  pub are : DemandsFor v terms s demands
+  pub right : CertOk demands text
+
+-- a text that states settings, and its first fault over what is demanded of the file at them
+pub record HasFault (v : Variant) (terms : List Term) (text : List ℕ) (fault : CertFault) : Type 0 where
+  pub settings : Settings
+  pub rest : List ℕ
+  pub states : States text settings rest
+  pub demands : Demands
+  pub are : DemandsFor v terms settings demands
+  pub first : IsFirstFault demands text fault
+
+-- a text is no certificate of the file: it states no settings, or has a first fault; or want of memory
+abbrev pub IsRefused : Variant → List Term → List ℕ → CertError → Type 0
+IsRefused v terms text (error.Cert fault) = HasNoHead text fault ⊎ HasFault v terms text fault
+IsRefused v terms text error.Memory = Unit {0}
+
+-- the line of an accepted certificate: that of a yes at its settings, but for the first word
+unfoldable pub holds : Settings → List ℕ
+holds s = codes "holds" ++ drop 3 (pipe_yes s)

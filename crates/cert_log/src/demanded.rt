@@ -1,0 +1,83 @@
+//! What a certificate of a file for PIPE has to show at some settings.
+ghost use Rattle.std.specs.Prelude.{◌≡◌, ◌++◌, ◌∷◌, [], cond, map, IfErr, IfOk, OnOk};
+ghost use Rattle.ctl_atoms.specs.Atoms.{IsCtlFault};
+ghost use Rattle.dp_signals.specs.PipeTable.{pipe_rows};
+ghost use Rattle.hcl_types.specs.Tables.{IsBound, IsOrderOf};
+ghost use Rattle.cert_log.specs.Demanded.{DemandsFor, gate_of};
+ghost use Rattle.cert_writer.specs.Writing.{AreInside};
+
+use certificates::Demands;
+use ctl_atoms::CtlFault;
+use hazard_rules::{pipe_parts, pipe_rules};
+use hcl_types::{Design, Order};
+use pipe_motion::Settings;
+use rule_gates::Rule;
+use std::alloc::Global;
+use y86_base::{Items, Memory, Variant};
+
+/// Puts a gate behind others.
+fn push_gate(gates: &mut Vec<u64>, gate: u64) -> Result<(), Memory>
+    ensures { OnOk result (gates.new.items ≡ gates.old.items ++ gate ∷ []) }
+{
+    match gates.push(gate) {
+        Ok(()) => Ok(()),
+        Err(_) => Err(Memory),
+    }
+}
+
+/// The gates of rules.
+#[tactic(auto, using(crate::proofs::Wanted::gates_none, crate::proofs::Wanted::gates_more, crate::proofs::Wanted::gates_all))]
+fn gates_of(alloc: Global, list: &[Rule]) -> Result<Vec<u64>, Memory>
+    ensures { IfOk result (λ gates. gates.items ≡ map gate_of list.now) }
+{
+    let mut gates: Vec<u64> = Vec::new(alloc);
+    for k in 0..list.len() {
+        push_gate(&mut gates, list[k].gate)?;
+    }
+    Ok(gates)
+}
+
+/// The gates that are demanded at settings: those of the rules, and where the settings say that jumps carry their targets, the gate that
+/// tells it.
+fn wanted(alloc: Global, list: &[Rule], target: bool, tv: u64) -> Result<Vec<u64>, Memory>
+    ensures { IfOk result (λ want. want.items ≡ map gate_of list.now ++ cond target (tv ∷ []) []) }
+{
+    let mut want = gates_of(alloc, list)?;
+    if target {
+        push_gate(&mut want, tv)?;
+    }
+    Ok(want)
+}
+
+/// What a certificate of a file has to show at some settings: its 27 obligations, and that jumps carry their targets where the settings say so.
+///
+/// Errors: `Mixed` and `AtomsOver64`, as `ctl_atoms::atoms` tells them; `Memory`.
+#[tactic(auto, using(crate::proofs::Wanted::demanded))]
+pub fn demands(
+    alloc: Global,
+    variant: Variant,
+    design: &Design,
+    order: &Order,
+    settings: Settings,
+) -> Result<Demands, CtlFault>
+    requires bound { IsBound pipe_rows design.now.terms }
+    requires ordered { IsOrderOf pipe_rows design.now.terms order.now.ids }
+    ensures demands { IfOk result (DemandsFor variant design.now.terms settings) }
+    ensures inside { IfOk result AreInside }
+    ensures fault { IfErr result (IsCtlFault pipe_rows design.now.terms) }
+{
+    let parts = pipe_parts(alloc, variant, design, order)?;
+    let tv = parts.tv;
+    let rules = match pipe_rules(alloc, parts, settings) {
+        Ok(rules) => rules,
+        Err(Memory) => return Err(CtlFault::Memory),
+    };
+    match wanted(alloc, rules.list.items(), settings.tv, tv) {
+        Ok(want) => Ok(Demands {
+            settings,
+            net: rules.net,
+            want: Items::of(want),
+        }),
+        Err(Memory) => Err(CtlFault::Memory),
+    }
+}

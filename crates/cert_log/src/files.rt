@@ -1,0 +1,119 @@
+//! A certificate of a file that the check accepts, and the check of a certificate of a file.
+ghost use Rattle.std.specs.Prelude.{◌≡◌, ◌++◌, IfErr, IfOk, OnOk};
+ghost use Rattle.dp_signals.specs.PipeTable.{pipe_rows};
+ghost use Rattle.hcl_types.specs.Tables.{IsBound, IsOrderOf};
+ghost use Rattle.control_check.specs.PipeVerdicts.{RefinesPipe};
+ghost use Rattle.cert_log.specs.Demanded.{DemandsFor};
+ghost use Rattle.cert_log.specs.Files as spec;
+ghost use Rattle.cert_writer.specs.Writing.{AreInside};
+
+use crate::demanded::demands;
+use cert_writer::write;
+use certificates::{CertError, Demands, recheck, stated};
+use ctl_atoms::CtlFault;
+use hcl_types::{Design, Order};
+use pipe_motion::Settings;
+use std::alloc::Global;
+use verdict_text::pipe_acceptance;
+use y86_base::{Memory, Variant};
+
+/// What a certificate of a design with control values has to show.
+#[tactic(auto, using(crate::proofs::Shown::not_mixed, crate::proofs::Shown::not_over))]
+fn demands_of(
+    alloc: Global,
+    variant: Variant,
+    design: &Design,
+    order: &Order,
+    settings: Settings,
+) -> Result<Demands, Memory>
+    requires bound { IsBound pipe_rows design.now.terms }
+    requires ordered { IsOrderOf pipe_rows design.now.terms order.now.ids }
+    requires atoms { spec.HasAtoms design.now.terms }
+    ensures demands { IfOk result (DemandsFor variant design.now.terms settings) }
+    ensures inside { IfOk result AreInside }
+{
+    match demands(alloc, variant, design, order, settings) {
+        Ok(demands) => Ok(demands),
+        Err(CtlFault::Memory) => Err(Memory),
+        Err(CtlFault::Mixed(_)) => unreachable!(),
+        Err(CtlFault::AtomsOver64) => unreachable!(),
+    }
+}
+
+/// A certificate of a file that meets its obligations at these settings, as those do that `control_check::check_pipe`
+/// answers with a Yes.
+#[tactic(auto, using(crate::proofs::Shown::has_atoms))]
+pub fn certify(
+    alloc: Global,
+    variant: Variant,
+    design: &Design,
+    order: &Order,
+    settings: Settings,
+) -> Result<Vec<u8>, Memory>
+    requires bound { IsBound pipe_rows design.now.terms }
+    requires ordered { IsOrderOf pipe_rows design.now.terms order.now.ids }
+    requires meets { spec.Meets variant design.now.terms settings }
+    ensures { IfOk result (λ text. spec.IsCertificate variant design.now.terms settings text.items) }
+{
+    let demands = demands_of(alloc, variant, design, order, settings)?;
+    match write(alloc, &demands)? {
+        Some(text) => Ok(text),
+        None => unreachable!(),
+    }
+}
+
+/// Checks a text as a certificate of a design with control values, at the settings that the text states. Gives these
+/// settings.
+///
+/// Errors: `Cert` with the first fault of the text; `Memory`.
+#[tactic(auto, using(crate::proofs::Shown::met, crate::proofs::Shown::refined))]
+pub fn recheck_file(
+    alloc: Global,
+    variant: Variant,
+    design: &Design,
+    order: &Order,
+    bytes: &[u8],
+) -> Result<Settings, CertError>
+    requires bound { IsBound pipe_rows design.now.terms }
+    requires ordered { IsOrderOf pipe_rows design.now.terms order.now.ids }
+    requires atoms { spec.HasAtoms design.now.terms }
+    ensures right { IfOk result (λ s. spec.IsCertificate variant design.now.terms s bytes.now) }
+    ensures meets { IfOk result (spec.Meets variant design.now.terms) }
+    ensures refines { OnOk result (RefinesPipe variant design.now.terms) }
+    ensures fault { IfErr result (spec.IsRefused variant design.now.terms bytes.now) }
+{
+    let settings = match stated(alloc, bytes) {
+        Ok(settings) => settings,
+        Err(error) => return Err(error),
+    };
+    let demands = match demands_of(alloc, variant, design, order, settings) {
+        Ok(demands) => demands,
+        Err(Memory) => return Err(CertError::Memory),
+    };
+    match recheck(alloc, &demands, bytes) {
+        Ok(()) => Ok(settings),
+        Err(error) => Err(error),
+    }
+}
+
+/// Puts bytes behind a text.
+fn put(out: &mut Vec<u8>, bytes: &[u8]) -> Result<(), Memory>
+    ensures { OnOk result (out.new.items ≡ out.old.items ++ bytes.now) }
+{
+    match out.extend_from_slice(bytes) {
+        Ok(()) => Ok(()),
+        Err(_) => Err(Memory),
+    }
+}
+
+/// The line that tells an accepted certificate with its settings.
+#[tactic(auto, using(crate::proofs::Shown::yes_long, crate::proofs::Shown::holds_is), unfolding(crate::specs::Files::holds))]
+pub fn holds(alloc: Global, settings: &Settings) -> Result<Vec<u8>, Memory>
+    ensures { IfOk result (λ text. text.items ≡ spec.holds settings.now) }
+{
+    let yes = pipe_acceptance(alloc, settings)?;
+    let mut out = Vec::new(alloc);
+    put(&mut out, b"holds")?;
+    put(&mut out, &yes.as_slice()[3..])?;
+    Ok(out)
+}

@@ -1,0 +1,18 @@
+//! The theorems about certificates of files. Each is a function that does nothing and whose contract is the theorem.
+ghost use Rattle.cert_log.specs.Demanded.{CertifiedFilesHold, CertifiedFilesRefine, DemandsTell};
+
+/// What is demanded of a file at settings is true at every pattern of bits exactly where the file meets its obligations at
+/// them. So `write` has a certificate of each file that meets them.
+pub fn law_of_demands()
+    ensures { DemandsTell }
+{}
+
+/// Where a text is a certificate of what is demanded of a file at settings, the file meets its obligations at these settings.
+pub fn law_of_certified_files()
+    ensures { CertifiedFilesHold }
+{}
+
+/// So its pipelined machine refines the run of instructions.
+pub fn law_of_certified_refinement()
+    ensures { CertifiedFilesRefine }
+{}

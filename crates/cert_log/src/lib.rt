@@ -1,0 +1,14 @@
+//! Certificates of files for PIPE: what one has to show, and what it shows; and the calls that write one and check one.
+#![tactic(auto)]
+
+mod demanded;
+mod files;
+mod laws;
+
+pub use cert_writer::write;
+pub use certificates::{
+    CertError, CertFault, CertWhy, Demands, law_of_certificates, law_of_faults, recheck, stated,
+};
+pub use demanded::demands;
+pub use files::{certify, holds, recheck_file};
+pub use laws::{law_of_certified_files, law_of_certified_refinement, law_of_demands};
