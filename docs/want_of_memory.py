@@ -49,6 +49,7 @@ CALLS = [
     "check seq seq.hcl",
     "check pipe std.hcl",
     "check pipe both.hcl",
+    "sample std.hcl 7 512",
 ]
 # So many calls in a row that end as with ample memory are behind the last request.
 BEHIND = 50
