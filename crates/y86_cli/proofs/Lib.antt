@@ -1,4 +1,5 @@
 pub mod Agreement
+pub mod AigerTexts
 pub mod Came
 pub mod Checks
 pub mod Designs

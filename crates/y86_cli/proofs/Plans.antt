@@ -10,7 +10,8 @@ use Rattle.yas_asm.specs.declared.fault.AsmFault.{AsmFault}
 use Rattle.yas_asm.specs.declared.listing.Line.{Line}
 use Rattle.yo_object.specs.ObjectText.{object_of}
 use Rattle.yo_object.specs.declared.object.YoFault.{YoFault}
-use Rattle.y86_cli.specs.Answers.{image_of_text, plan_in, plan_of, run_status, text_of_listing, yas_plan, yis_plan, check_pipe_plan, check_seq_plan, checked_plan, hcl_plan, seq_plan, ssim_plan, SeqAnswers, pipe_plan, psim_plan, PipeAnswers, yis_run, sample_plan}
+use Rattle.y86_cli.specs.AigerTexts.{AigAnswers, AigrunAnswers, aag_reason}
+use Rattle.y86_cli.specs.Answers.{aig_plan, aigrun_plan, image_of_text, plan_in, plan_of, run_status, text_of_listing, yas_plan, yis_plan, check_pipe_plan, check_seq_plan, checked_plan, hcl_plan, seq_plan, ssim_plan, SeqAnswers, pipe_plan, psim_plan, PipeAnswers, yis_run, sample_plan}
 use Rattle.y86_cli.specs.Checks.{PipeChecks, RefusesControl, RefusesPipe, SeqChecks}
 use Rattle.y86_cli.specs.Datapaths.{rows_of}
 use Rattle.y86_cli.specs.Designs.{RefusesDesign}
@@ -18,9 +19,9 @@ use Rattle.hcl_types.specs.declared.table.Row.{Row}
 use Rattle.hcl_types.specs.declared.term.Term.{Term}
 use Rattle.dp_signals.specs.PipeTable.{pipe_rows}
 use Rattle.y86_cli.specs.Does.{FilesSeen, SinkSeen}
-use Rattle.y86_words.specs.Forms.{Command, yas, yis, hcl, ssim, ssimp, psim, check_seq, check_plus, check_pipe, sample}
-use Rattle.y86_cli.specs.Lines.{assembly_fault_line, object_fault_line, read_fault_line, too_long_line}
-use Rattle.y86_cli.specs.Plan.{Answered, Plan, says, reads, gives, answers, after, refused, Allows, Tells, IsDetermined}
+use Rattle.y86_words.specs.Forms.{Command, yas, yis, hcl, ssim, ssimp, psim, check_seq, check_plus, check_pipe, sample, aig, aigrun}
+use Rattle.y86_cli.specs.Lines.{fault_line, assembly_fault_line, object_fault_line, read_fault_line, too_long_line}
+use Rattle.y86_cli.specs.Plan.{done, Answered, Plan, says, reads, gives, answers, after, refused, Allows, Tells, IsDetermined}
 use Rattle.y86_cli.specs.Samples.{SampleAnswers}
 use Rattle.y86_cli.specs.Ran.{Ran, Told}
 use Rattle.y86_cli.specs.declared.datapath.Datapath.{Datapath}
@@ -224,8 +225,16 @@ sample_proper name v terms seed count a (inl none) = proper_as a _ (inl (lit≤ 
 sample_proper name v terms seed count a (inr (inl found)) = proper_as a _ (inl (lit≤ tt, refl)) found.told
 sample_proper name v terms seed count a (inr (inr refuses)) = control_proper name pipe_rows terms a refuses
 
+aig_proper : (name : List ℕ) (v : Variant) (terms : List Term) (a : Answered) → AigAnswers name v terms a → IsProper a
+aig_proper name v terms a (inl says_it) = proper_as a (done 0 says_it.text) (inl (lit≤ tt, refl)) says_it.told
+aig_proper name v terms a (inr refuses) = control_proper name pipe_rows terms a refuses
+
+aigrun_proper : (name text : List ℕ) (seed : ℕ) (a : Answered) → AigrunAnswers name text seed a → IsProper a
+aigrun_proper name text seed a (inl says_it) = proper_as a (done 0 says_it.counts) (inl (lit≤ tt, refl)) says_it.told
+aigrun_proper name text seed a (inr refuses) = refused_proper (fault_line name refuses.line (aag_reason refuses.why)) a refuses.told
+
 command_proper : (command : Command) → AllProper (plan_of command)
-unfolding AllProper sample_plan check_pipe_plan yas_plan yis_plan hcl_plan psim_plan
+unfolding AllProper aig_plan aigrun_plan sample_plan check_pipe_plan yas_plan yis_plan hcl_plan psim_plan
 command_proper (yas source size v) =
     λ bytes. after_proper _ _ (λ text. answers_proper _ (inl (lit≤ tt, refl))) (listing_proper source bytes (assembled v bytes size))
 command_proper (yis object size limit v) =
@@ -238,6 +247,8 @@ command_proper (psim name object size limit trace checked v) =
 command_proper (check_seq file v) = check_seq_proper Seq file v
 command_proper (check_plus file v) = check_seq_proper Plus file v
 command_proper (check_pipe file v) = λ text. (λ terms is a said. pipe_check_proper file v terms a said, design_proper file pipe_rows text)
+command_proper (aig file v) = λ text. (λ terms is a said. aig_proper file v terms a said, design_proper file pipe_rows text)
+command_proper (aigrun file seed) = λ text a said. aigrun_proper file text seed a said
 command_proper (sample file seed count v) = λ text. (λ terms is a said. sample_proper file v terms seed count a said, design_proper file pipe_rows text)
 
 done_of : (a : Answered) → IsProper a → a.status ≤ 1 → a.err ≡ []

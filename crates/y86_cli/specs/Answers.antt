@@ -18,11 +18,12 @@ use Rattle.yis_run.specs.Report.{report}
 use Rattle.yo_object.specs.ObjectText.{object_of}
 use Rattle.yo_object.specs.Printed.{printed}
 use Rattle.yo_object.specs.declared.object.YoFault.{YoFault}
+use Rattle.y86_cli.specs.AigerTexts.{AigAnswers, AigrunAnswers}
 use Rattle.y86_cli.specs.Checks.{AcceptsPipe, PipeChecks, RefusesPipe, SeqChecks}
 use Rattle.y86_cli.specs.Datapaths.{Runs, rows_of}
 use Rattle.y86_cli.specs.Designs.{IsDesign, RefusesDesign, RefusesHcl}
 use Rattle.y86_cli.specs.Samples.{SampleAnswers}
-use Rattle.y86_words.specs.Forms.{Command, yas, yis, hcl, ssim, ssimp, psim, check_seq, check_plus, check_pipe, sample}
+use Rattle.y86_words.specs.Forms.{Command, yas, yis, hcl, ssim, ssimp, psim, check_seq, check_plus, check_pipe, sample, aig, aigrun}
 use Rattle.y86_cli.specs.Lines.{assembly_fault_line, object_fault_line, usage_line}
 use Rattle.y86_cli.specs.PipeRuns.{RunsTo, run_text}
 use Rattle.y86_cli.specs.Plan.{Answered, Plan, after, answers, done, gives, reads, refused, says}
@@ -120,6 +121,19 @@ unfoldable pub sample_plan : List ℕ → ℕ → ℕ → Variant → Plan
 sample_plan name seed count v =
     reads name hcl_limit (λ text. gives (IsDesign pipe_rows text) (RefusesDesign name pipe_rows text) (λ terms. says (SampleAnswers name v terms seed count)))
 
+-- the obligations of a design for PIPE
+unfoldable pub aig_plan : List ℕ → Variant → Plan
+aig_plan name v =
+    reads name hcl_limit (λ text. gives (IsDesign pipe_rows text) (RefusesDesign name pipe_rows text) (λ terms. says (AigAnswers name v terms)))
+
+-- the most bytes that an AIGER text has
+abbrev pub aag_limit : ℕ
+aag_limit = 33554432
+
+-- the counts of an AIGER text
+unfoldable pub aigrun_plan : List ℕ → ℕ → Plan
+aigrun_plan name seed = reads name aag_limit (λ text. says (AigrunAnswers name text seed))
+
 abbrev pub plan_of : Command → Plan
 plan_of (yas source size v) = yas_plan source size v
 plan_of (yis object size limit v) = yis_plan object size limit v
@@ -130,6 +144,8 @@ plan_of (psim name object size limit trace checked v) = psim_plan name object si
 plan_of (check_seq name v) = check_seq_plan Seq name v
 plan_of (check_plus name v) = check_seq_plan Plus name v
 plan_of (check_pipe name v) = check_pipe_plan name v
+plan_of (aig name v) = aig_plan name v
+plan_of (aigrun name seed) = aigrun_plan name seed
 plan_of (sample name seed count v) = sample_plan name seed count v
 
 -- the plan of words that are a command or none

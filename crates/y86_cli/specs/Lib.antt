@@ -1,5 +1,6 @@
 pub mod Answers
 pub mod Agreement
+pub mod AigerTexts
 pub mod Came
 pub mod Checks
 pub mod Datapaths

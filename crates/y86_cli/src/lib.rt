@@ -1,6 +1,8 @@
 //! The program: the commands and their stages over any files and sinks, and the top call.
 #![tactic(auto)]
 
+mod aig;
+mod aigrun;
 mod calling;
 mod check;
 mod datapath;

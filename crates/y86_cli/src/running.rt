@@ -8,6 +8,8 @@ ghost use Rattle.y86_cli.specs.Stops.{line_of, status_of};
 ghost use Rattle.y86_words.specs.Views.{command_in};
 ghost use Rattle.y86_words.specs.Wording.{IsLegal};
 
+use crate::aig::aig_file;
+use crate::aigrun::aigrun_file;
 use crate::check::{check_pipe_file, check_seq_file};
 use crate::datapath::Datapath;
 use crate::hcl::hcl;
@@ -108,6 +110,8 @@ fn execute<'a, F: Files, O: Sink>(
             count,
             variant,
         } => sample(alloc, name, seed, count, variant, files, out),
+        Cmd::Aig { hcl: name, variant } => aig_file(alloc, name, variant, files, out),
+        Cmd::Aigrun { aag, seed } => aigrun_file(alloc, aag, seed, files, out),
     }
 }
 

@@ -6,11 +6,11 @@ use Rattle.y86_base.proofs.Booleans.{both_true}
 use Rattle.y86_base.specs.Image.{IsSize, is_image_size}
 use Rattle.y86_base.specs.declared.parts.Variant.{Variant}
 use Rattle.y86_words.specs.declared.form.Kind.{Kind}
-use Rattle.y86_words.specs.declared.form.Kind.TheVariants.{Yas, Yis, Hcl, Ssim, Ssimp, Psim, CheckSeq, CheckPlus, CheckPipe, Sample}
+use Rattle.y86_words.specs.declared.form.Kind.TheVariants.{Yas, Yis, Hcl, Ssim, Ssimp, Psim, CheckSeq, CheckPlus, CheckPipe, Sample, Aig, Aigrun}
 use Rattle.y86_words.specs.declared.option.Switch.{Switch}
 use Rattle.y86_words.specs.declared.option.Switch.TheVariants.{Full, Mem, Limit, Trace, Checked}
 use Rattle.y86_words.specs.Arguments.{Argument, place, switch, Reading, whole, needs, neither, reading_of, option_reading, place_reading, in_front, last, before, arguments, index_of, is_option, switch_of, Filled}
-use Rattle.y86_words.specs.Forms.{Command, yas, yis, hcl, ssim, ssimp, psim, check_seq, check_plus, check_pipe, form_of, made, size_of, limit_of, trace_of, checked_of, variant_of, sample, most_drawn, most_seed, number_at}
+use Rattle.y86_words.specs.Forms.{Command, yas, yis, hcl, ssim, ssimp, psim, check_seq, check_plus, check_pipe, form_of, made, size_of, limit_of, trace_of, checked_of, variant_of, sample, most_drawn, most_seed, number_at, aig, aigrun}
 use Rattle.y86_words.specs.Numbers.{number_of, is_run_limit, number_within}
 use Rattle.y86_words.specs.Wording.{IsFileName, IsRunLimit, IsLegal, places_of, numbers_of, IsFound}
 use Rattle.y86_words.proofs.Wording.{has_form}
@@ -262,6 +262,20 @@ sample_legal v f (Some name) (Some seed) (Some count) command e d c made_is lega
     let same : sample name seed count v ≡ command = cc (made_is) in
     subst IsLegal same (first_legal f.words name legal.words e, (number_in_place 0 most_seed 1 f seed d).1, (number_in_place 0 most_drawn 2 f count c).1)
 
+aig_legal : (v : Variant) (f : Filled) (word : Option (List ℕ)) (command : Command) → slice_get f.words 0 ≡ word → option_map (λ file. aig file v) word ≡ Some command →
+    IsLegalFound f → IsLegal command
+aig_legal v f None command e made_is legal = absurd (cc (made_is))
+aig_legal v f (Some word) command e made_is legal =
+    let same : aig word v ≡ command = cc (made_is) in subst IsLegal same (first_legal f.words word legal.words e)
+
+aigrun_legal : (f : Filled) (name : Option (List ℕ)) (seed : Option ℕ) (command : Command) → slice_get f.words 0 ≡ name → number_at 0 most_seed 1 f ≡ seed →
+    option_and_then (λ file. option_map (aigrun file) seed) name ≡ Some command → IsLegalFound f → IsLegal command
+aigrun_legal f None seed command e d made_is legal = absurd (cc (made_is))
+aigrun_legal f (Some name) None command e d made_is legal = absurd (cc (made_is))
+aigrun_legal f (Some name) (Some seed) command e d made_is legal =
+    let same : aigrun name seed ≡ command = cc (made_is) in
+    subst IsLegal same (first_legal f.words name legal.words e, (number_in_place 0 most_seed 1 f seed d).1)
+
 made_legal : (kind : Kind) (f : Filled) (command : Command) → made kind f ≡ Some command → IsLegalFound f → IsLegal command
 made_legal Yas f command e legal = yas_legal (variant_of f) f (slice_get f.words 0) command refl e legal
 made_legal Yis f command e legal = yis_legal (variant_of f) f (slice_get f.words 0) command refl e legal
@@ -273,6 +287,8 @@ made_legal CheckSeq f command e legal = check_legal (λ file. check_seq file (va
 made_legal CheckPlus f command e legal = check_legal (λ file. check_plus file (variant_of f)) (λ word named. named) f (slice_get f.words 1) command refl e legal
 made_legal CheckPipe f command e legal = check_legal (λ file. check_pipe file (variant_of f)) (λ word named. named) f (slice_get f.words 1) command refl e legal
 made_legal Sample f command e legal = sample_legal (variant_of f) f (slice_get f.words 0) (number_at 0 most_seed 1 f) (number_at 0 most_drawn 2 f) command refl refl refl e legal
+made_legal Aig f command e legal = aig_legal (variant_of f) f (slice_get f.words 0) command refl e legal
+made_legal Aigrun f command e legal = aigrun_legal f (slice_get f.words 0) (number_at 0 most_seed 1 f) command refl refl e legal
 
 no_words : (command : Command) → form_of [] ≡ Some command → ⊥
 unfolding form_of

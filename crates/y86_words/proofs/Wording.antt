@@ -18,7 +18,7 @@ use Rattle.y86_base.specs.declared.parts.Variant.TheVariants as variant
 use Rattle.y86_words.specs.declared.option.Switch.{Switch}
 use Rattle.y86_words.specs.declared.option.Switch.TheVariants.{Full, Mem, Limit, Trace, Checked}
 use Rattle.y86_words.specs.Arguments.{Argument, place, switch, arguments, in_front, index_of, Filled, nothing_filled, all_added, is_option}
-use Rattle.y86_words.specs.Forms.{Command, yas, yis, hcl, ssim, ssimp, psim, check_seq, check_plus, check_pipe, Form, forms, fits, made, first_fit, form_of, sample, most_drawn, most_seed}
+use Rattle.y86_words.specs.Forms.{Command, yas, yis, hcl, ssim, ssimp, psim, check_seq, check_plus, check_pipe, Form, forms, fits, made, first_fit, form_of, sample, most_drawn, most_seed, aig, aigrun}
 use Rattle.y86_words.specs.Numbers.{is_number, number_of, number_that, is_run_limit, number_within}
 use Rattle.y86_words.specs.Wording.{IsFileName, IsRunLimit, IsLegal, trace_words, checked_words, variant_words, words_of, places_of, numbers_of, IsFound, HasForm}
 use Rattle.y86_words.proofs.Arguments.{place_read, switch_read}
@@ -170,6 +170,11 @@ legal_written (sample file seed count variant.Full) legal =
     let few : count < 2 ^ 64 = omega (arith, legal.2) in
     rw (file_arguments file _ legal.0, number_arguments seed _ small, number_arguments count _ few, variant_read variant.Full)
     (rw (number_read 0 most_seed seed (omega arith) legal.1 small, number_read 0 most_drawn count (omega arith) legal.2 few) refl)
+legal_written (aig file variant.Base) legal = rw (file_arguments file _ legal, variant_read variant.Base) refl
+legal_written (aig file variant.Full) legal = rw (file_arguments file _ legal, variant_read variant.Full) refl
+legal_written (aigrun file seed) legal =
+    let small : seed < 2 ^ 64 = omega (arith, legal.1) in
+    rw (file_arguments file _ legal.0, number_arguments seed _ small, no_arguments) (rw (number_read 0 most_seed seed (omega arith) legal.1 small) refl)
 
 pub defaults_hold : (file : List ℕ) → IsFileName file →
     (form_of (codes "yas" ∷ file ∷ []) ≡ Some (yas file 8192 Base)) × (form_of (codes "yis" ∷ file ∷ []) ≡ Some (yis file 8192 10000 Base))

@@ -11,7 +11,7 @@ use Rattle.y86_words.specs.Numbers.{number_within}
 use Rattle.y86_words.specs.declared.option.Switch.{Switch}
 use Rattle.y86_words.specs.declared.option.Switch.TheVariants.{Full, Mem, Limit, Trace, Checked}
 use Rattle.y86_words.specs.declared.form.Kind.{Kind}
-use Rattle.y86_words.specs.declared.form.Kind.TheVariants.{Yas, Yis, Hcl, Ssim, Ssimp, Psim, CheckSeq, CheckPlus, CheckPipe, Sample}
+use Rattle.y86_words.specs.declared.form.Kind.TheVariants.{Yas, Yis, Hcl, Ssim, Ssimp, Psim, CheckSeq, CheckPlus, CheckPipe, Sample, Aig, Aigrun}
 
 -- what a place takes: this word, the name of a file, or a number from a least one to a most one
 pub data Place : Type 0 where
@@ -49,6 +49,8 @@ forms =
     ∷ row CheckPlus (codes "check") (keyword (codes "seqplus") ∷ file ∷ []) (Full ∷ [])
     ∷ row CheckPipe (codes "check") (keyword (codes "pipe") ∷ file ∷ []) (Full ∷ [])
     ∷ row Sample (codes "sample") (file ∷ number 0 most_seed ∷ number 0 most_drawn ∷ []) (Full ∷ [])
+    ∷ row Aig (codes "aig") (file ∷ []) (Full ∷ [])
+    ∷ row Aigrun (codes "aigrun") (file ∷ number 0 most_seed ∷ []) []
     ∷ []
 
 -- ---- the form that words have
@@ -101,6 +103,11 @@ pub data Command : Type 0 where
   -- try drawn valuations against the obligations of PIPE: the name of the HCL file, the number that the draws begin with, how many
   -- valuations, the instruction set
   sample : List ℕ → ℕ → ℕ → Variant → Command
+  -- write the obligations of PIPE under an HCL file as AIGER text
+  aig : List ℕ → Variant → Command
+  -- count for each output of an AIGER file the drawn inputs at which it is 1: the name of the file, the number that the draws
+  -- begin with
+  aigrun : List ℕ → ℕ → Command
 
 -- `--full` takes the instruction set with `iaddq`
 abbrev pub variant_with : Option ℕ → Variant
@@ -153,6 +160,8 @@ made CheckPipe f = option_map (λ file. check_pipe file (variant_of f)) (slice_g
 made Sample f =
     option_and_then (λ file. option_and_then (λ seed. option_map (λ count. sample file seed count (variant_of f)) (number_at 0 most_drawn 2 f)) (number_at 0 most_seed 1 f))
     (slice_get f.words 0)
+made Aig f = option_map (λ file. aig file (variant_of f)) (slice_get f.words 0)
+made Aigrun f = option_and_then (λ file. option_map (aigrun file) (number_at 0 most_seed 1 f)) (slice_get f.words 0)
 
 -- the command of the first row that fits
 unfoldable pub first_fit : List Form → List ℕ → Filled → Option Command

@@ -81,6 +81,16 @@ pub enum Cmd<'a> {
         count: u64,
         variant: Variant,
     },
+    /// Writes the obligations of PIPE under an HCL file as AIGER text.
+    Aig {
+        hcl: &'a str,
+        variant: Variant,
+    },
+    /// Counts for each output of an AIGER file the drawn inputs at which it is 1.
+    Aigrun {
+        aag: &'a str,
+        seed: u64,
+    },
 }
 
 /// Words that are no command.

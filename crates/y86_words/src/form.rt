@@ -48,6 +48,8 @@ pub enum Kind {
     CheckPlus,
     CheckPipe,
     Sample,
+    Aig,
+    Aigrun,
 }
 
 /// A form: the name of its command, the places behind it, in order, and the options, which stand anywhere behind the
@@ -61,7 +63,7 @@ struct Form {
 }
 
 /// The table of the commands.
-static FORMS: [Form; 10] = [
+static FORMS: [Form; 12] = [
     Form {
         kind: Kind::Yas,
         name: "yas",
@@ -127,6 +129,18 @@ static FORMS: [Form; 10] = [
         name: "sample",
         places: &[Place::File, SEED, Place::Number(0, MOST_DRAWN)],
         options: &[Switch::Full],
+    },
+    Form {
+        kind: Kind::Aig,
+        name: "aig",
+        places: &[Place::File],
+        options: &[Switch::Full],
+    },
+    Form {
+        kind: Kind::Aigrun,
+        name: "aigrun",
+        places: &[Place::File, SEED],
+        options: &[],
     },
 ];
 
@@ -277,6 +291,14 @@ fn made<'a>(kind: Kind, found: &Found<'a>) -> Option<Cmd<'a>>
             seed: number_at(found, 1, 0, u64::MAX)?,
             count: number_at(found, 2, 0, MOST_DRAWN)?,
             variant,
+        }),
+        Kind::Aig => Some(Cmd::Aig {
+            hcl: *words.get(0)?,
+            variant,
+        }),
+        Kind::Aigrun => Some(Cmd::Aigrun {
+            aag: *words.get(0)?,
+            seed: number_at(found, 1, 0, u64::MAX)?,
         }),
     }
 }

@@ -1,0 +1,90 @@
+//! `aigrun`: at how many of 512 vectors each output of an AIGER text is 1.
+ghost use Rattle.std.specs.Prelude.{◌≡◌, ◌⊎◌, IfErr, IfOk, List, ℕ};
+ghost use Rattle.aiger_run.specs.Told.{TellsCounts};
+ghost use Rattle.y86_cli.specs.AigerTexts.{AigrunAnswers, RefusesAag, aag_reason};
+ghost use Rattle.y86_cli.specs.Answers.{aigrun_plan};
+ghost use Rattle.y86_cli.specs.Does.{Does, NoReadFailed, Says, files_seen, sink_seen};
+ghost use Rattle.y86_cli.specs.Stops.{answer_at, status_of};
+ghost use Rattle.y86_cli.specs.declared.stop.Stop.TheVariants.{Memory as WantOfMemory};
+
+use crate::saying::say;
+use crate::stages::read_file;
+use crate::stop::{Refusal, Stop};
+use aiger_out::{AagError, AagWhy};
+use aiger_run::count_outputs;
+use std::alloc::Global;
+use wb_io::{Files, Sink};
+
+/// The most bytes that an AIGER text has.
+const AAG_LIMIT: u64 = 33_554_432;
+
+/// The name of a reader's reason.
+fn reason(why: AagWhy) -> &'static [u8]
+    ensures { result.now ≡ aag_reason why }
+{
+    match why {
+        AagWhy::Syntax => b"Syntax",
+        AagWhy::Latches => b"Latches",
+        AagWhy::TooMany => b"TooMany",
+        AagWhy::Literal => b"Literal",
+        AagWhy::Twice => b"Twice",
+        AagWhy::Undefined => b"Undefined",
+    }
+}
+
+/// The counts of a text under a name.
+#[tactic(auto, using(crate::proofs::AigerTexts::refuses_aag))]
+fn counts_of<'a>(alloc: Global, name: &'a str, bytes: &[u8], seed: u64) -> Result<Vec<u8>, Stop<'a>>
+    ensures text { IfOk result (λ text. TellsCounts bytes.now seed text.items) }
+    ensures refused { IfErr result (λ stop. (stop ≡ WantOfMemory) ⊎ ((status_of stop ≡ 5) × RefusesAag name.now bytes.now (answer_at stop))) }
+{
+    match count_outputs(alloc, bytes, seed) {
+        Ok(text) => Ok(text),
+        Err(AagError::Fault(fault)) => Err(Stop::Refused(
+            name,
+            Refusal::AtLine {
+                line: fault.line,
+                why: reason(fault.why),
+            },
+        )),
+        Err(AagError::Memory) => Err(Stop::Memory),
+    }
+}
+
+/// Writes the counts of a text.
+#[tactic(auto, using(crate::proofs::AigerTexts::said_counts, crate::proofs::AigerTexts::said_aag_refusal))]
+fn say_counts<'a, O: Sink>(
+    alloc: Global,
+    name: &'a str,
+    bytes: &[u8],
+    seed: u64,
+    out: &mut O,
+) -> Result<u8, Stop<'a>>
+    ensures { Says (AigrunAnswers name.now bytes.now seed)
+        (sink_seen (O.taken out.old) (O.faults out.old)) (sink_seen (O.taken out.new) (O.faults out.new)) result }
+{
+    match counts_of(alloc, name, bytes, seed) {
+        Ok(text) => say(0, text.as_slice(), out),
+        Err(stop) => Err(stop),
+    }
+}
+
+/// `aigrun`: reads an AIGER text, and writes at how many of the vectors 0 to 511 of a seed each output is 1.
+pub fn aigrun_file<'a, F: Files, O: Sink>(
+    alloc: Global,
+    name: &'a str,
+    seed: u64,
+    files: &mut F,
+    out: &mut O,
+) -> Result<u8, Stop<'a>>
+    ensures does { Does (aigrun_plan name.now seed)
+        (files_seen (F.told files.old) (F.faults files.old)) (files_seen (F.told files.new) (F.faults files.new))
+        (sink_seen (O.taken out.old) (O.faults out.old)) (sink_seen (O.taken out.new) (O.faults out.new)) result }
+    ensures no_read_failed { NoReadFailed (files_seen (F.told files.old) (F.faults files.old)) (files_seen (F.told files.new) (F.faults files.new)) result }
+{
+    let bytes = match read_file(alloc, name, AAG_LIMIT, files) {
+        Ok(bytes) => bytes,
+        Err(stop) => return Err(stop),
+    };
+    say_counts(alloc, name, bytes.as_slice(), seed, out)
+}
