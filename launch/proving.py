@@ -191,7 +191,7 @@ class Proof:
         os.makedirs(self.out, exist_ok=True)
         with open(self.log, "w", encoding="utf-8"):
             pass
-        self.tell(f"proving {len(self.crates)} crates, {self.jobs} at once, behind a quick look at all of them; from nothing that takes about half an hour on four processors")
+        self.tell(f"proving {len(self.crates)} crates, {self.jobs} at once, behind a quick look at all of them; from nothing that takes half an hour to an hour on four processors")
         try:
             if not self.is_a_row():
                 self.prove_side_by_side()
