@@ -1,5 +1,6 @@
 pub mod Agreement
 pub mod AigerTexts
+pub mod Bigs
 pub mod Came
 pub mod Checks
 pub mod Designs

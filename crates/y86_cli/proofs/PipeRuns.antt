@@ -30,64 +30,11 @@ use Rattle.retire_trace.specs.Drive as drive
 use Rattle.retire_trace.specs.TraceLine.{trace_line}
 use Rattle.retire_trace.specs.declared.driving.Drove.{Drove}
 use Rattle.yis_run.specs.Report.{report}
+use Rattle.pipe_runs.proofs.Drives.{driven, machine, runs}
 use Rattle.y86_cli.specs.Answers.{PipeAnswers, run_status}
 use Rattle.y86_cli.specs.Does.{SinkSeen, SaidPart, SaidWhole}
 use Rattle.y86_cli.specs.PipeRuns.{Goes, RunsTo, end_of, ran_line, run_text}
 use Rattle.y86_cli.specs.Plan.{done}
-
--- ---- a drive is a run
-
--- the machine of the definition that a machine and its records stand for
-abbrev machine : pipe.Pipe → List Rec → run.Pipe
-machine p records = record { state = p.state; records = records; end = p.end }
-
-record Driven (v : Variant) (terms : List Term) (image : List ℕ) (k : ℕ) (q : pipe.Pipe) (records : List Rec) : Type 0 where
-  variant_kept : q.variant ≡ v
-  design_kept : q.terms ≡ terms
-  goes : Goes v terms image k (machine q records)
-
-driven_more : (v : Variant) (terms : List Term) (image : List ℕ) (k : ℕ) (m : pipe.Pipe) (before : List Rec) → Driven v terms image k m before →
-    is_aok m.end ≡ true → (q : pipe.Pipe) (r : Cycled) (records : List Rec) (f : ℕ → ℕ) → Solves m.variant m.terms m.state f → q ≡ pipe.after_cycle m f →
-    r ≡ pipe.told_by (ending f) (retires m.state f) → records ≡ before ++ option_to_list (record_in r) → Driven v terms image (suc k) q records
-driven_more v terms image k m before so_far going q r records f solved after told more =
-    let solves : Solves v terms m.state f =
-    subst (λ x. Solves x terms m.state f) so_far.variant_kept (subst (λ x. Solves m.variant x m.state f) so_far.design_kept solved) in
-    let retired : records ≡ before ++ option_to_list (retires m.state f) =
-    more ∙ ap (λ x. before ++ option_to_list x) (ap record_in told ∙ record_told (ending f) (retires m.state f)) in
-    record {
-      variant_kept = ap (λ (p : pipe.Pipe). p.variant) after ∙ so_far.variant_kept;
-      design_kept = ap (λ (p : pipe.Pipe). p.terms) after ∙ so_far.design_kept;
-      goes = (
-        machine m before,
-        so_far.goes,
-        going,
-        record { ended = λ over. absurd (grind (arith, over, going)); goes = λ _. (f, solves, rw (after, retired) refl) },
-      );
-    }
-
-driven : (v : Variant) (terms : List Term) (order image : List ℕ) (k : ℕ) (q : pipe.Pipe) (records : List Rec) →
-    drive.Goes (pipe.started v terms order image) k q records → Driven v terms image k q records
-driven v terms order image zero q records h =
-    record {
-      variant_kept = ap (λ (p : pipe.Pipe). p.variant) h.0;
-      design_kept = ap (λ (p : pipe.Pipe). p.terms) h.0;
-      goes = rw (h.0, h.1) refl;
-    }
-driven v terms order image (suc k) q records h =
-    let step = h.5.goes h.4 in
-    driven_more v terms image k h.0 h.1 (driven v terms order image k h.0 h.1 h.3) h.4 q h.2 records step.0 step.1 step.2 step.3 h.6
-
--- ---- a run keeps the size of the memory
-
-next_keeps : (p : PipeState) (f : ℕ → ℕ) → length (next p f).mem ≡ length p.mem
-unfolding next
-next_keeps p f = length-stored p.mem (store_of p f)
-
-keeps_size : (v : Variant) (terms : List Term) (image : List ℕ) (k : ℕ) (p : run.Pipe) → Goes v terms image k p → length p.state.mem ≡ length image
-keeps_size v terms image zero p h = ap (λ (x : run.Pipe). length x.state.mem) h
-keeps_size v terms image (suc k) p h =
-    let step = h.3.goes h.2 in
-    ap (λ (x : run.Pipe). length x.state.mem) step.2 ∙ (next_keeps h.0.state step.0 ∙ keeps_size v terms image k h.0 h.1)
 
 -- ---- every run can go on to its end or to the limit
 
@@ -136,23 +83,6 @@ goes_on v terms ids image bound ordered (suc n) limit k p sum goes =
         }
 
 -- ---- what was said
-
-pub pipe_one_size : (v : Variant) (terms : List Term) (order image : List ℕ) (limit : ℕ) (m q : pipe.Pipe) (d : Drove) (records : List Rec) (first : List ℕ)
-    (last : Machine) → first ≡ image → m ≡ pipe.started v terms order image → drive.Drives m limit q d records → last ≡ pipe.end_of q →
-    length first ≡ length last.mem
-pipe_one_size v terms order image limit m q d records first last copied begun drives ended =
-    ap length copied
-    ∙ (sym (keeps_size v terms image d.cycles (machine q records) (driven v terms order image d.cycles q records (subst (λ x. drive.Goes x d.cycles q records) begun drives.goes)).goes)
-    ∙ ap (λ (x : Machine). length x.mem) (sym ended))
-
-runs : (v : Variant) (terms : List Term) (order image : List ℕ) (limit : ℕ) (m q : pipe.Pipe) (d : Drove) (records : List Rec) →
-    m ≡ pipe.started v terms order image → drive.Drives m limit q d records → RunsTo v terms image limit d.cycles (machine q records)
-runs v terms order image limit m q d records begun drives =
-    record {
-      within = drives.within;
-      goes = (driven v terms order image d.cycles q records (subst (λ x. drive.Goes x d.cycles q records) begun drives.goes)).goes;
-      whole = drives.whole;
-    }
 
 texts_same : (trace : Bool) (image first : List ℕ) (q : pipe.Pipe) (last : Machine) (d : Drove) (records : List Rec) → first ≡ image → last ≡ pipe.end_of q →
     d.retired ≡ length records →

@@ -1,5 +1,5 @@
 -- Plans: the answer of a determined one is a function of the contents, and what each answer has.
-use Rattle.std.proofs.Common.{◌≡◌, ◌⊎◌, ◌↔◌, ◌≢◌, ℕ, ◌<◌, ◌≤◌, Bool, true, false, ltb, List, [], ◌∷◌, length, refl, sym, subst, inl, inr, Option, Some, None, Result, Ok, Err, lit≤, arith}
+use Rattle.std.proofs.Common.{◌≡◌, ◌⊎◌, ◌↔◌, ◌≢◌, ℕ, ◌<◌, ◌≤◌, Bool, true, false, cond, ◌&&◌, ltb, List, [], ◌∷◌, length, refl, sym, subst, inl, inr, Option, Some, None, Result, Ok, Err, lit≤, arith}
 use Rattle.std.proofs.lemmas.Bool.{ltb-true, ltb-false}
 use Rattle.wb_io.specs.Sinks.{Took, TookPart}
 use Rattle.y86_base.specs.declared.parts.Stat.{Stat}
@@ -11,7 +11,8 @@ use Rattle.yas_asm.specs.declared.listing.Line.{Line}
 use Rattle.yo_object.specs.ObjectText.{object_of}
 use Rattle.yo_object.specs.declared.object.YoFault.{YoFault}
 use Rattle.y86_cli.specs.AigerTexts.{AigAnswers, AigrunAnswers, aag_reason}
-use Rattle.y86_cli.specs.Answers.{aig_plan, aigrun_plan, image_of_text, plan_in, plan_of, run_status, text_of_listing, yas_plan, yis_plan, check_pipe_plan, check_seq_plan, checked_plan, hcl_plan, seq_plan, ssim_plan, SeqAnswers, pipe_plan, psim_plan, PipeAnswers, yis_run, sample_plan}
+use Rattle.y86_cli.specs.Answers.{big_plan, aig_plan, aigrun_plan, image_of_text, plan_in, plan_of, run_status, text_of_listing, yas_plan, yis_plan, check_pipe_plan, check_seq_plan, checked_plan, hcl_plan, seq_plan, ssim_plan, SeqAnswers, pipe_plan, psim_plan, PipeAnswers, yis_run, sample_plan}
+use Rattle.y86_cli.specs.Big.{BigAnswers, big_status}
 use Rattle.y86_cli.specs.Checks.{PipeChecks, RefusesControl, RefusesPipe, SeqChecks}
 use Rattle.y86_cli.specs.Datapaths.{rows_of}
 use Rattle.y86_cli.specs.Designs.{RefusesDesign}
@@ -19,7 +20,7 @@ use Rattle.hcl_types.specs.declared.table.Row.{Row}
 use Rattle.hcl_types.specs.declared.term.Term.{Term}
 use Rattle.dp_signals.specs.PipeTable.{pipe_rows}
 use Rattle.y86_cli.specs.Does.{FilesSeen, SinkSeen}
-use Rattle.y86_words.specs.Forms.{Command, yas, yis, hcl, ssim, ssimp, psim, check_seq, check_plus, check_pipe, sample, aig, aigrun}
+use Rattle.y86_words.specs.Forms.{Command, yas, yis, hcl, ssim, ssimp, psim, check_seq, check_plus, check_pipe, sample, aig, aigrun, big}
 use Rattle.y86_cli.specs.Lines.{fault_line, assembly_fault_line, object_fault_line, read_fault_line, too_long_line}
 use Rattle.y86_cli.specs.Plan.{done, Answered, Plan, says, reads, gives, answers, after, refused, Allows, Tells, IsDetermined}
 use Rattle.y86_cli.specs.Samples.{SampleAnswers}
@@ -233,8 +234,16 @@ aigrun_proper : (name text : List ℕ) (seed : ℕ) (a : Answered) → AigrunAns
 aigrun_proper name text seed a (inl says_it) = proper_as a (done 0 says_it.counts) (inl (lit≤ tt, refl)) says_it.told
 aigrun_proper name text seed a (inr refuses) = refused_proper (fault_line name refuses.line (aag_reason refuses.why)) a refuses.told
 
+big_low : (same halted : Bool) → cond (same && halted) 0 1 ≤ 1
+big_low true true = lit≤ tt
+big_low true false = lit≤ tt
+big_low false halted = lit≤ tt
+
+big_proper : (v : Variant) (terms : List Term) (n : ℕ) (a : Answered) → BigAnswers v terms n a → IsProper a
+big_proper v terms n a said = proper_as a _ (inl (big_low said.0.same said.0.halted, refl)) said.2
+
 command_proper : (command : Command) → AllProper (plan_of command)
-unfolding AllProper aig_plan aigrun_plan sample_plan check_pipe_plan yas_plan yis_plan hcl_plan psim_plan
+unfolding AllProper big_plan aig_plan aigrun_plan sample_plan check_pipe_plan yas_plan yis_plan hcl_plan psim_plan
 command_proper (yas source size v) =
     λ bytes. after_proper _ _ (λ text. answers_proper _ (inl (lit≤ tt, refl))) (listing_proper source bytes (assembled v bytes size))
 command_proper (yis object size limit v) =
@@ -250,6 +259,7 @@ command_proper (check_pipe file v) = λ text. (λ terms is a said. pipe_check_pr
 command_proper (aig file v) = λ text. (λ terms is a said. aig_proper file v terms a said, design_proper file pipe_rows text)
 command_proper (aigrun file seed) = λ text a said. aigrun_proper file text seed a said
 command_proper (sample file seed count v) = λ text. (λ terms is a said. sample_proper file v terms seed count a said, design_proper file pipe_rows text)
+command_proper (big n file v) = λ text. (λ terms is a said. big_proper v terms n a said, design_proper file pipe_rows text)
 
 done_of : (a : Answered) → IsProper a → a.status ≤ 1 → a.err ≡ []
 done_of a (inl p) low = p.1

@@ -19,11 +19,12 @@ use Rattle.yo_object.specs.ObjectText.{object_of}
 use Rattle.yo_object.specs.Printed.{printed}
 use Rattle.yo_object.specs.declared.object.YoFault.{YoFault}
 use Rattle.y86_cli.specs.AigerTexts.{AigAnswers, AigrunAnswers}
+use Rattle.y86_cli.specs.Big.{BigAnswers}
 use Rattle.y86_cli.specs.Checks.{AcceptsPipe, PipeChecks, RefusesPipe, SeqChecks}
 use Rattle.y86_cli.specs.Datapaths.{Runs, rows_of}
 use Rattle.y86_cli.specs.Designs.{IsDesign, RefusesDesign, RefusesHcl}
 use Rattle.y86_cli.specs.Samples.{SampleAnswers}
-use Rattle.y86_words.specs.Forms.{Command, yas, yis, hcl, ssim, ssimp, psim, check_seq, check_plus, check_pipe, sample, aig, aigrun}
+use Rattle.y86_words.specs.Forms.{Command, yas, yis, hcl, ssim, ssimp, psim, check_seq, check_plus, check_pipe, sample, aig, aigrun, big}
 use Rattle.y86_cli.specs.Lines.{assembly_fault_line, object_fault_line, usage_line}
 use Rattle.y86_cli.specs.PipeRuns.{RunsTo, run_text}
 use Rattle.y86_cli.specs.Plan.{Answered, Plan, after, answers, done, gives, reads, refused, says}
@@ -116,6 +117,11 @@ unfoldable pub check_pipe_plan : List ℕ → Variant → Plan
 check_pipe_plan name v =
     reads name hcl_limit (λ text. gives (IsDesign pipe_rows text) (RefusesDesign name pipe_rows text) (λ terms. says (PipeChecks name v terms)))
 
+-- a generated program, run by the instructions and on PIPE under a design
+unfoldable pub big_plan : ℕ → List ℕ → Variant → Plan
+big_plan n name v =
+    reads name hcl_limit (λ text. gives (IsDesign pipe_rows text) (RefusesDesign name pipe_rows text) (λ terms. says (BigAnswers v terms n)))
+
 -- drawn valuations against the obligations of a design for PIPE
 unfoldable pub sample_plan : List ℕ → ℕ → ℕ → Variant → Plan
 sample_plan name seed count v =
@@ -147,6 +153,7 @@ plan_of (check_pipe name v) = check_pipe_plan name v
 plan_of (aig name v) = aig_plan name v
 plan_of (aigrun name seed) = aigrun_plan name seed
 plan_of (sample name seed count v) = sample_plan name seed count v
+plan_of (big n name v) = big_plan n name v
 
 -- the plan of words that are a command or none
 abbrev pub plan_in : Option Command → Plan

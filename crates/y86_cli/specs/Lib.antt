@@ -1,6 +1,7 @@
 pub mod Answers
 pub mod Agreement
 pub mod AigerTexts
+pub mod Big
 pub mod Came
 pub mod Checks
 pub mod Datapaths

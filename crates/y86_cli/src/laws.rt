@@ -1,11 +1,12 @@
 //! Theorems about the answer of a call. Each is a function that does nothing and whose contract is the theorem.
-ghost use Rattle.std.specs.Prelude.{◌≡◌, ◌≢◌, ◌⊎◌, ◌↔◌, ◌≤◌, Bool, List, [], ℕ, Option, Some, None, true};
+ghost use Rattle.std.specs.Prelude.{◌≡◌, ◌≢◌, ◌⊎◌, ◌↔◌, ◌≤◌, Bool, List, [], ℕ, length, Option, Some, None, true};
 ghost use Rattle.wb_io.specs.Sinks.{Took, TookPart};
 ghost use Rattle.y86_base.specs.declared.parts.Variant.{Variant};
 ghost use Rattle.y86_cli.specs.Agreement.{HasAccepted, HasAcceptedSeq, RanAccepted, ToldNo};
 ghost use Rattle.y86_cli.specs.Answers.{plan_in, yas_plan, yis_plan};
+ghost use Rattle.y86_cli.specs.Big.{ToldSame};
 ghost use Rattle.y86_cli.specs.Does.{FilesSeen, SinkSeen};
-ghost use Rattle.y86_words.specs.Forms.{Command, check_pipe, check_plus, check_seq, form_of, psim};
+ghost use Rattle.y86_words.specs.Forms.{Command, big, check_pipe, check_plus, check_seq, form_of, psim};
 ghost use Rattle.y86_cli.specs.declared.datapath.Datapath.TheVariants.{Plus, Seq};
 ghost use Rattle.y86_cli.specs.Plan.{Answered, Allows, IsDetermined, Tells};
 ghost use Rattle.y86_cli.specs.Ran.{Ran, Told};
@@ -60,4 +61,14 @@ pub fn law_of_accepted_files()
         Ran (form_of words) files_before files_after out_before out_after err_before err_after status →
         RanAccepted v size limit trace (files_before.told name) (files_before.told object) out_before out_after status
         ⊎ ToldNo v (files_before.told name) out_before out_after status }
+{}
+
+/// Of an accepted file, of the length that is read, `big` answers that both runs came to the same report, n + 1 steps and at most
+/// 5(n + 2) cycles, with status 0; but for a failed read, a failed write and want of memory.
+pub fn law_of_big()
+    ensures { (words : List (List ℕ)) (n : ℕ) (name : List ℕ) (v : Variant) (files_before files_after : FilesSeen)
+        (out_before out_after err_before err_after : SinkSeen) (status : ℕ) (text : List ℕ) → form_of words ≡ Some (big n name v) →
+        files_before.told name ≡ Some (Some text) → length text ≤ 65536 → HasAccepted v (Some (Some text)) →
+        Ran (form_of words) files_before files_after out_before out_after err_before err_after status → status ≢ 3 → status ≢ 4 → status ≢ 6 →
+        ToldSame n out_before out_after status }
 {}

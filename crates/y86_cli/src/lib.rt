@@ -3,6 +3,7 @@
 
 mod aig;
 mod aigrun;
+mod big;
 mod calling;
 mod check;
 mod datapath;
@@ -24,7 +25,7 @@ mod yis;
 pub use crate::calling::call;
 pub use crate::datapath::Datapath;
 pub use crate::design::{Ordered, pipe_design, seq_design};
-pub use crate::laws::{law_of_accepted_files, law_of_answers, law_of_plans};
+pub use crate::laws::{law_of_accepted_files, law_of_answers, law_of_big, law_of_plans};
 pub use crate::running::{Status, run, tell};
 pub use crate::saying::say;
 pub use crate::stages::{FILE_LIMIT, HCL_LIMIT, load_image, read_file, read_hcl};

@@ -10,6 +10,7 @@ ghost use Rattle.y86_words.specs.Wording.{IsLegal};
 
 use crate::aig::aig_file;
 use crate::aigrun::aigrun_file;
+use crate::big::big;
 use crate::check::{check_pipe_file, check_seq_file};
 use crate::datapath::Datapath;
 use crate::hcl::hcl;
@@ -112,6 +113,11 @@ fn execute<'a, F: Files, O: Sink>(
         } => sample(alloc, name, seed, count, variant, files, out),
         Cmd::Aig { hcl: name, variant } => aig_file(alloc, name, variant, files, out),
         Cmd::Aigrun { aag, seed } => aigrun_file(alloc, aag, seed, files, out),
+        Cmd::Big {
+            number,
+            hcl: name,
+            variant,
+        } => big(alloc, number, name, variant, files, out),
     }
 }
 

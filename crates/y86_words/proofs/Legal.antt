@@ -6,11 +6,11 @@ use Rattle.y86_base.proofs.Booleans.{both_true}
 use Rattle.y86_base.specs.Image.{IsSize, is_image_size}
 use Rattle.y86_base.specs.declared.parts.Variant.{Variant}
 use Rattle.y86_words.specs.declared.form.Kind.{Kind}
-use Rattle.y86_words.specs.declared.form.Kind.TheVariants.{Yas, Yis, Hcl, Ssim, Ssimp, Psim, CheckSeq, CheckPlus, CheckPipe, Sample, Aig, Aigrun}
+use Rattle.y86_words.specs.declared.form.Kind.TheVariants.{Yas, Yis, Hcl, Ssim, Ssimp, Psim, CheckSeq, CheckPlus, CheckPipe, Sample, Aig, Aigrun, Big}
 use Rattle.y86_words.specs.declared.option.Switch.{Switch}
 use Rattle.y86_words.specs.declared.option.Switch.TheVariants.{Full, Mem, Limit, Trace, Checked}
 use Rattle.y86_words.specs.Arguments.{Argument, place, switch, Reading, whole, needs, neither, reading_of, option_reading, place_reading, in_front, last, before, arguments, index_of, is_option, switch_of, Filled}
-use Rattle.y86_words.specs.Forms.{Command, yas, yis, hcl, ssim, ssimp, psim, check_seq, check_plus, check_pipe, form_of, made, size_of, limit_of, trace_of, checked_of, variant_of, sample, most_drawn, most_seed, number_at, aig, aigrun}
+use Rattle.y86_words.specs.Forms.{Command, yas, yis, hcl, ssim, ssimp, psim, check_seq, check_plus, check_pipe, form_of, made, size_of, limit_of, trace_of, checked_of, variant_of, sample, most_drawn, most_seed, number_at, aig, aigrun, big, most_instructions}
 use Rattle.y86_words.specs.Numbers.{number_of, is_run_limit, number_within}
 use Rattle.y86_words.specs.Wording.{IsFileName, IsRunLimit, IsLegal, places_of, numbers_of, IsFound}
 use Rattle.y86_words.proofs.Wording.{has_form}
@@ -276,6 +276,15 @@ aigrun_legal f (Some name) (Some seed) command e d made_is legal =
     let same : aigrun name seed ≡ command = cc (made_is) in
     subst IsLegal same (first_legal f.words name legal.words e, (number_in_place 0 most_seed 1 f seed d).1)
 
+big_legal : (v : Variant) (f : Filled) (number : Option ℕ) (name : Option (List ℕ)) (command : Command) → number_at 1 most_instructions 0 f ≡ number → slice_get f.words 1 ≡ name →
+    option_and_then (λ n. option_map (λ file. big n file v) name) number ≡ Some command → IsLegalFound f → IsLegal command
+big_legal v f None name command e d made_is legal = absurd (cc (made_is))
+big_legal v f (Some n) None command e d made_is legal = absurd (cc (made_is))
+big_legal v f (Some n) (Some name) command e d made_is legal =
+    let same : big n name v ≡ command = cc (made_is) in
+    let range = number_in_place 1 most_instructions 0 f n e in
+    subst IsLegal same (range.0, range.1, second_legal f.words name legal.words d)
+
 made_legal : (kind : Kind) (f : Filled) (command : Command) → made kind f ≡ Some command → IsLegalFound f → IsLegal command
 made_legal Yas f command e legal = yas_legal (variant_of f) f (slice_get f.words 0) command refl e legal
 made_legal Yis f command e legal = yis_legal (variant_of f) f (slice_get f.words 0) command refl e legal
@@ -289,6 +298,7 @@ made_legal CheckPipe f command e legal = check_legal (λ file. check_pipe file (
 made_legal Sample f command e legal = sample_legal (variant_of f) f (slice_get f.words 0) (number_at 0 most_seed 1 f) (number_at 0 most_drawn 2 f) command refl refl refl e legal
 made_legal Aig f command e legal = aig_legal (variant_of f) f (slice_get f.words 0) command refl e legal
 made_legal Aigrun f command e legal = aigrun_legal f (slice_get f.words 0) (number_at 0 most_seed 1 f) command refl refl e legal
+made_legal Big f command e legal = big_legal (variant_of f) f (number_at 1 most_instructions 0 f) (slice_get f.words 1) command refl refl e legal
 
 no_words : (command : Command) → form_of [] ≡ Some command → ⊥
 unfolding form_of

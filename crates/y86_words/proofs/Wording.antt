@@ -18,7 +18,7 @@ use Rattle.y86_base.specs.declared.parts.Variant.TheVariants as variant
 use Rattle.y86_words.specs.declared.option.Switch.{Switch}
 use Rattle.y86_words.specs.declared.option.Switch.TheVariants.{Full, Mem, Limit, Trace, Checked}
 use Rattle.y86_words.specs.Arguments.{Argument, place, switch, arguments, in_front, index_of, Filled, nothing_filled, all_added, is_option}
-use Rattle.y86_words.specs.Forms.{Command, yas, yis, hcl, ssim, ssimp, psim, check_seq, check_plus, check_pipe, Form, forms, fits, made, first_fit, form_of, sample, most_drawn, most_seed, aig, aigrun}
+use Rattle.y86_words.specs.Forms.{Command, yas, yis, hcl, ssim, ssimp, psim, check_seq, check_plus, check_pipe, Form, forms, fits, made, first_fit, form_of, sample, most_drawn, most_seed, aig, aigrun, big, most_instructions}
 use Rattle.y86_words.specs.Numbers.{is_number, number_of, number_that, is_run_limit, number_within}
 use Rattle.y86_words.specs.Wording.{IsFileName, IsRunLimit, IsLegal, trace_words, checked_words, variant_words, words_of, places_of, numbers_of, IsFound, HasForm}
 use Rattle.y86_words.proofs.Arguments.{place_read, switch_read}
@@ -175,6 +175,12 @@ legal_written (aig file variant.Full) legal = rw (file_arguments file _ legal, v
 legal_written (aigrun file seed) legal =
     let small : seed < 2 ^ 64 = omega (arith, legal.1) in
     rw (file_arguments file _ legal.0, number_arguments seed _ small, no_arguments) (rw (number_read 0 most_seed seed (omega arith) legal.1 small) refl)
+legal_written (big n file variant.Base) legal =
+    let small : n < 2 ^ 64 = omega (arith, legal.1) in
+    rw (number_arguments n _ small, file_arguments file _ legal.2, variant_read variant.Base) (rw (number_read 1 most_instructions n legal.0 legal.1 small) refl)
+legal_written (big n file variant.Full) legal =
+    let small : n < 2 ^ 64 = omega (arith, legal.1) in
+    rw (number_arguments n _ small, file_arguments file _ legal.2, variant_read variant.Full) (rw (number_read 1 most_instructions n legal.0 legal.1 small) refl)
 
 pub defaults_hold : (file : List ℕ) → IsFileName file →
     (form_of (codes "yas" ∷ file ∷ []) ≡ Some (yas file 8192 Base)) × (form_of (codes "yis" ∷ file ∷ []) ≡ Some (yis file 8192 10000 Base))

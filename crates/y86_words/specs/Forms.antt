@@ -11,7 +11,7 @@ use Rattle.y86_words.specs.Numbers.{number_within}
 use Rattle.y86_words.specs.declared.option.Switch.{Switch}
 use Rattle.y86_words.specs.declared.option.Switch.TheVariants.{Full, Mem, Limit, Trace, Checked}
 use Rattle.y86_words.specs.declared.form.Kind.{Kind}
-use Rattle.y86_words.specs.declared.form.Kind.TheVariants.{Yas, Yis, Hcl, Ssim, Ssimp, Psim, CheckSeq, CheckPlus, CheckPipe, Sample, Aig, Aigrun}
+use Rattle.y86_words.specs.declared.form.Kind.TheVariants.{Yas, Yis, Hcl, Ssim, Ssimp, Psim, CheckSeq, CheckPlus, CheckPipe, Sample, Aig, Aigrun, Big}
 
 -- what a place takes: this word, the name of a file, or a number from a least one to a most one
 pub data Place : Type 0 where
@@ -36,6 +36,10 @@ most_drawn = 1000000
 abbrev pub most_seed : ℕ
 most_seed = 18446744073709551615
 
+-- the most instructions of a generated program, but for the last, which halts
+abbrev pub most_instructions : ℕ
+most_instructions = 100000
+
 -- the table of the commands
 abbrev pub forms : List Form
 forms =
@@ -51,6 +55,7 @@ forms =
     ∷ row Sample (codes "sample") (file ∷ number 0 most_seed ∷ number 0 most_drawn ∷ []) (Full ∷ [])
     ∷ row Aig (codes "aig") (file ∷ []) (Full ∷ [])
     ∷ row Aigrun (codes "aigrun") (file ∷ number 0 most_seed ∷ []) []
+    ∷ row Big (codes "big") (number 1 most_instructions ∷ file ∷ []) (Full ∷ [])
     ∷ []
 
 -- ---- the form that words have
@@ -108,6 +113,9 @@ pub data Command : Type 0 where
   -- count for each output of an AIGER file the drawn inputs at which it is 1: the name of the file, the number that the draws
   -- begin with
   aigrun : List ℕ → ℕ → Command
+  -- run a generated program at the level of instructions and on PIPE: how many instructions, the name of the HCL file, the
+  -- instruction set
+  big : ℕ → List ℕ → Variant → Command
 
 -- `--full` takes the instruction set with `iaddq`
 abbrev pub variant_with : Option ℕ → Variant
@@ -162,6 +170,7 @@ made Sample f =
     (slice_get f.words 0)
 made Aig f = option_map (λ file. aig file (variant_of f)) (slice_get f.words 0)
 made Aigrun f = option_and_then (λ file. option_map (aigrun file) (number_at 0 most_seed 1 f)) (slice_get f.words 0)
+made Big f = option_and_then (λ n. option_map (λ file. big n file (variant_of f)) (slice_get f.words 1)) (number_at 1 most_instructions 0 f)
 
 -- the command of the first row that fits
 unfoldable pub first_fit : List Form → List ℕ → Filled → Option Command

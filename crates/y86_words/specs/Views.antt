@@ -12,7 +12,7 @@ use Rattle.y86_words.specs.declared.form.Form as code_form
 use Rattle.y86_words.specs.declared.form.Place as code_place
 use Rattle.y86_words.specs.declared.form.Place.TheVariants as code_places
 use Rattle.y86_words.specs.Arguments.{Argument, place, switch, arguments, in_front, Filled}
-use Rattle.y86_words.specs.Forms.{Command, yas, yis, hcl, ssim, ssimp, psim, check_seq, check_plus, check_pipe, Form, Place, keyword, file, number, sample, aig, aigrun}
+use Rattle.y86_words.specs.Forms.{Command, yas, yis, hcl, ssim, ssimp, psim, check_seq, check_plus, check_pipe, Form, Place, keyword, file, number, sample, aig, aigrun, big}
 
 abbrev pub argument_in : code.Argument → Argument
 argument_in (code_variants.Place word) = place word.now
@@ -58,3 +58,4 @@ command_in (code_commands.CheckPipe name v) = check_pipe name.now v
 command_in (code_commands.Sample name seed count v) = sample name.now seed count v
 command_in (code_commands.Aig name v) = aig name.now v
 command_in (code_commands.Aigrun name seed) = aigrun name.now seed
+command_in (code_commands.Big n name v) = big n name.now v

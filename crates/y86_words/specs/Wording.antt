@@ -6,7 +6,7 @@ use Rattle.y86_base.specs.Image.{IsSize}
 use Rattle.y86_base.specs.declared.parts.Variant.{Variant}
 use Rattle.y86_base.specs.declared.parts.Variant.TheVariants as variant
 use Rattle.y86_words.specs.Arguments.{Argument, place, switch, Filled, arguments, index_of, is_option}
-use Rattle.y86_words.specs.Forms.{Command, yas, yis, hcl, ssim, ssimp, psim, check_seq, check_plus, check_pipe, Form, forms, fits, made, sample, most_drawn, most_seed, aig, aigrun}
+use Rattle.y86_words.specs.Forms.{Command, yas, yis, hcl, ssim, ssimp, psim, check_seq, check_plus, check_pipe, Form, forms, fits, made, sample, most_drawn, most_seed, aig, aigrun, big, most_instructions}
 use Rattle.y86_words.specs.declared.option.Switch.{Switch}
 
 -- what may name a file: a word that isn't empty and is no option
@@ -31,6 +31,7 @@ IsLegal (check_pipe file v) = IsFileName file
 IsLegal (sample file seed count v) = IsFileName file × (seed ≤ most_seed) × (count ≤ most_drawn)
 IsLegal (aig file v) = IsFileName file
 IsLegal (aigrun file seed) = IsFileName file × (seed ≤ most_seed)
+IsLegal (big n file v) = (1 ≤ n) × (n ≤ most_instructions) × IsFileName file
 
 abbrev pub variant_words : Variant → List (List ℕ)
 variant_words variant.Base = []
@@ -62,6 +63,7 @@ words_of (check_pipe file v) = codes "check" ∷ codes "pipe" ∷ file ∷ varia
 words_of (sample file seed count v) = codes "sample" ∷ file ∷ decimal seed ∷ decimal count ∷ variant_words v
 words_of (aig file v) = codes "aig" ∷ file ∷ variant_words v
 words_of (aigrun file seed) = codes "aigrun" ∷ file ∷ decimal seed ∷ []
+words_of (big n file v) = codes "big" ∷ decimal n ∷ file ∷ variant_words v
 
 -- words that are arguments: file names and other words of places, and options each with its number
 abbrev pub AreArguments : List (List ℕ) → Type 0

@@ -91,6 +91,12 @@ pub enum Cmd<'a> {
         aag: &'a str,
         seed: u64,
     },
+    /// Runs the generated program of this number of instructions at the level of instructions and on PIPE.
+    Big {
+        number: u64,
+        hcl: &'a str,
+        variant: Variant,
+    },
 }
 
 /// Words that are no command.

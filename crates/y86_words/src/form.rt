@@ -24,6 +24,9 @@ const MOST_DRAWN: u64 = 1_000_000;
 /// A number that draws begin with.
 const SEED: Place = Place::Number(0, u64::MAX);
 
+/// The most instructions of a generated program, but for the last, which halts.
+const MOST_INSTRUCTIONS: u64 = 100_000;
+
 /// What a place of a form takes.
 #[derive(Clone, Copy, Debug)]
 pub enum Place {
@@ -50,6 +53,7 @@ pub enum Kind {
     Sample,
     Aig,
     Aigrun,
+    Big,
 }
 
 /// A form: the name of its command, the places behind it, in order, and the options, which stand anywhere behind the
@@ -63,7 +67,7 @@ struct Form {
 }
 
 /// The table of the commands.
-static FORMS: [Form; 12] = [
+static FORMS: [Form; 13] = [
     Form {
         kind: Kind::Yas,
         name: "yas",
@@ -141,6 +145,12 @@ static FORMS: [Form; 12] = [
         name: "aigrun",
         places: &[Place::File, SEED],
         options: &[],
+    },
+    Form {
+        kind: Kind::Big,
+        name: "big",
+        places: &[Place::Number(1, MOST_INSTRUCTIONS), Place::File],
+        options: &[Switch::Full],
     },
 ];
 
@@ -299,6 +309,11 @@ fn made<'a>(kind: Kind, found: &Found<'a>) -> Option<Cmd<'a>>
         Kind::Aigrun => Some(Cmd::Aigrun {
             aag: *words.get(0)?,
             seed: number_at(found, 1, 0, u64::MAX)?,
+        }),
+        Kind::Big => Some(Cmd::Big {
+            number: number_at(found, 0, 1, MOST_INSTRUCTIONS)?,
+            hcl: *words.get(1)?,
+            variant,
         }),
     }
 }

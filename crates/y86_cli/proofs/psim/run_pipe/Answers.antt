@@ -1,6 +1,7 @@
 use Rattle.std.proofs.Common.{◌∙◌, ap}
 use Rattle.wb_io.specs.Causes.{counted}
-use Rattle.y86_cli.proofs.PipeRuns.{behind_part, behind_whole, pipe_broken, pipe_one_size, pipe_part, pipe_whole, verdict_broken}
+use Rattle.pipe_runs.proofs.Drives.{pipe_one_size}
+use Rattle.y86_cli.proofs.PipeRuns.{behind_part, behind_whole, pipe_broken, pipe_part, pipe_whole, verdict_broken}
 use Rattle.y86_cli.proofs.psim.run_pipe.Goals as goal
 
 pub put_end-requires : goal.put_end-requires

@@ -1,0 +1,139 @@
+-- What `big` answers, and of an accepted file.
+use Rattle.std.proofs.Common.{◌≡◌, ◌≢◌, ◌⊎◌, inl, inr, ℕ, ◌+◌, ◌*◌, ◌≤◌, Bool, true, false, List, [], ◌∷◌, length, Option, Some, None, IfSome, refl, sym, ap, subst, ◌∙◌, Result, Ok, Err, lit≤, arith}
+use Rattle.wb_io.specs.Causes.{counted}
+use Rattle.wb_io.specs.Files.{HasBytes, HasMore}
+use Rattle.wb_io.specs.Sinks.{Took, TookPart}
+use Rattle.y86_base.specs.declared.parts.Variant.{Variant}
+use Rattle.hcl_read.proofs.LawLemmas.{at_most_one_file}
+use Rattle.hcl_read.proofs.OneFault.{file_has_no_fault}
+use Rattle.hcl_read.specs.declared.tree.File.{File}
+use Rattle.hcl_types.specs.Binding.{bound}
+use Rattle.hcl_types.specs.Equations.{needs_of}
+use Rattle.hcl_types.specs.Tables.{needs}
+use Rattle.hcl_types.specs.declared.table.Row.{Row}
+use Rattle.hcl_types.specs.declared.term.Term.{Term}
+use Rattle.hcl_order.specs.Dependence.{Depends, FirstCycle}
+use Rattle.control_check.specs.PipeVerdicts.{RefinesPipe}
+use Rattle.dp_signals.specs.PipeTable.{pipe_rows}
+use Rattle.prog_gen.specs.Programs.{program}
+use Rattle.program_runs.proofs.Images.{is_image}
+use Rattle.program_runs.proofs.Whole.{pure}
+use Rattle.pipe_runs.proofs.Refined.{runs_alike}
+use Rattle.pipe_runs.specs.BothWays.{GoesBothWays, RunsAlike}
+use Rattle.pipe_runs.specs.declared.both.BothWays.{BothWays}
+use Rattle.y86_words.proofs.Legal.{form_legal}
+use Rattle.y86_words.specs.Forms.{big, form_of}
+use Rattle.y86_words.specs.Wording.{IsLegal}
+use Rattle.y86_cli.specs.Agreement.{HasAccepted}
+use Rattle.y86_cli.specs.Answers.{big_plan}
+use Rattle.y86_cli.specs.Big.{BigAnswers, ToldSame, big_line, big_status}
+use Rattle.y86_cli.specs.Designs.{IsDesign, RefusesDesign}
+use Rattle.y86_cli.specs.Does.{FilesSeen, SinkSeen, SaidPart, SaidWhole}
+use Rattle.y86_cli.specs.Plan.{Answered, MayAnswer, done}
+use Rattle.y86_cli.specs.Ran.{Ran}
+
+pub said_whole : (v : Variant) (terms : List Term) (n : ℕ) (both : BothWays) (before after : SinkSeen) (status : ℕ) → GoesBothWays v terms n both →
+    status ≡ big_status both → status ≤ 1 → Took before.taken after.taken (big_line n both) → after.faults ≡ before.faults → SaidWhole (BigAnswers v terms n) before after status
+said_whole v terms n both before after status goes is low told no_fault = record {
+  answer = done (big_status both) (big_line n both);
+  allowed = (both, goes, refl);
+  status_is = is;
+  low = low;
+  quiet = refl;
+  went = told;
+  no_fault = no_fault;
+}
+
+pub said_part : (v : Variant) (terms : List Term) (n : ℕ) (both : BothWays) (before after : SinkSeen) → GoesBothWays v terms n both →
+    TookPart before.taken after.taken (big_line n both) → after.faults ≡ counted before.faults → SaidPart (BigAnswers v terms n) before after
+said_part v terms n both before after goes told one_fault = record {
+  answer = done (big_status both) (big_line n both);
+  allowed = (both, goes, refl);
+  went = told;
+  one_fault = one_fault;
+}
+
+-- ---- the one design of a text
+
+one_design : (rows : List Row) (text : List ℕ) (terms others : List Term) → IsDesign rows text terms → IsDesign rows text others → terms ≡ others
+one_design rows text terms others d e =
+    let one : bound rows d.file.items ≡ bound rows e.file.items = ap (λ (f : File). bound rows f.items) (at_most_one_file text d.file e.file d.reads e.reads) in
+    let same : Result.Ok terms ≡ Ok others = sym d.binds ∙ (one ∙ e.binds) in
+    cc (same)
+
+a_cycle : (needed : ℕ → List ℕ) (cycle : List ℕ) → FirstCycle needed cycle → ((n : ℕ) → Depends needed n n → ⊥) → ⊥
+a_cycle needed [] first acyclic = first
+a_cycle needed (row ∷ between) first acyclic = acyclic row (between, first.walks)
+
+not_refused : (name : List ℕ) (rows : List Row) (text : List ℕ) (terms : List Term) (a : Answered) → IsDesign rows text terms → RefusesDesign name rows text a → ⊥
+not_refused name rows text terms a d (inl (fault, is, told)) = file_has_no_fault text d.file fault d.reads is
+not_refused name rows text terms a d (inr (inl unbound)) =
+    let one : bound rows d.file.items ≡ bound rows unbound.file.items = ap (λ (f : File). bound rows f.items) (at_most_one_file text d.file unbound.file d.reads unbound.reads) in
+    absurd (cc (d.binds, one, unbound.binds))
+not_refused name rows text terms a d (inr (inr unordered)) =
+    let one : bound rows d.file.items ≡ bound rows unordered.file.items = ap (λ (f : File). bound rows f.items) (at_most_one_file text d.file unordered.file d.reads unordered.reads) in
+    let same : terms ≡ unordered.terms = cc (d.binds, one, unordered.binds) in
+    a_cycle (needs_of (needs rows unordered.terms)) unordered.cycle unordered.first (subst (λ (x : List Term). (n : ℕ) → Depends (needs_of (needs rows x)) n n → ⊥) same d.acyclic)
+
+-- ---- `big` of an accepted file
+
+pub record Alike (n : ℕ) (a : Answered) : Type 0 where
+  pub both : BothWays
+  pub alike : RunsAlike n both
+  pub is : a ≡ done (big_status both) (big_line n both)
+
+big_alike : (v : Variant) (terms : List Term) (n : ℕ) (a : Answered) → 1 ≤ n → n ≤ 100000 → RefinesPipe v terms → BigAnswers v terms n a → Alike n a
+big_alike v terms n a least most refines (both, goes, is) =
+    record { both = both; alike = runs_alike v terms n both least most (λ k. refines (program n) k (is_image n least most) (pure v n k least most)) goes; is = is }
+
+same_bytes : (known : Option (Option (List ℕ))) (text bytes : List ℕ) → known ≡ Some (Some text) → HasBytes known bytes → text ≡ bytes
+same_bytes None text bytes is has = absurd (cc (is))
+same_bytes (Some known) text bytes is has = cc (is, has)
+
+not_missing : (known : Option (Option (List ℕ))) (text : List ℕ) → known ≡ Some (Some text) → IfSome known (λ x. x ≡ None) → ⊥
+not_missing None text is none = absurd (cc (is))
+not_missing (Some known) text is none = absurd (cc (is, none))
+
+not_long : (known : Option (Option (List ℕ))) (text : List ℕ) (limit : ℕ) → known ≡ Some (Some text) → length text ≤ limit → HasMore known limit → ⊥
+not_long None text limit is short more = absurd (cc (is))
+not_long (Some known) text limit is short more =
+    let same : known ≡ Some text = cc (is) in
+    omega (arith, rw same at more, short)
+
+big_told : (told : List ℕ → Option (Option (List ℕ))) (n : ℕ) (name : List ℕ) (v : Variant) (a : Answered) (text : List ℕ) (terms : List Term) → 1 ≤ n → n ≤ 100000 →
+    told name ≡ Some (Some text) → length text ≤ 65536 → IsDesign pipe_rows text terms → RefinesPipe v terms → MayAnswer told (big_plan n name v) a → Alike n a
+unfolding big_plan
+big_told told n name v a text terms least most is short design refines (inl failed) = absurd (not_missing (told name) text is failed.0)
+big_told told n name v a text terms least most is short design refines (inr (inl long)) = absurd (not_long (told name) text 65536 is short long.0)
+big_told told n name v a text terms least most is short design refines (inr (inr (bytes, has, fits, inr refuses))) =
+    let same : text ≡ bytes = same_bytes (told name) text bytes is has in
+    absurd (not_refused name pipe_rows text terms a design (subst (λ (x : List ℕ). RefusesDesign name pipe_rows x a) (sym same) refuses))
+big_told told n name v a text terms least most is short design refines (inr (inr (bytes, has, fits, inl (others, other_design, answers)))) =
+    let same : text ≡ bytes = same_bytes (told name) text bytes is has in
+    let one : others ≡ terms = one_design pipe_rows text others terms (subst (λ (x : List ℕ). IsDesign pipe_rows x others) (sym same) other_design) design in
+    big_alike v terms n a least most refines (subst (λ (x : List Term). BigAnswers v x n a) one answers)
+
+line_is : (n : ℕ) (both : BothWays) → RunsAlike n both → big_line n both ≡ big_line n (record { steps = n + 1; cycles = both.cycles; same = true; halted = true })
+unfolding big_line
+line_is n both alike = rw (alike.steps, alike.same) refl
+
+status_of_alike : (n : ℕ) (both : BothWays) → RunsAlike n both → big_status both ≡ 0
+status_of_alike n both alike = rw (alike.same, alike.halted) refl
+
+pub told_same : (words : List (List ℕ)) (n : ℕ) (name : List ℕ) (v : Variant) (files_before files_after : FilesSeen) (out_before out_after err_before err_after : SinkSeen) (status : ℕ)
+    (text : List ℕ) → form_of words ≡ Some (big n name v) → files_before.told name ≡ Some (Some text) → length text ≤ 65536 → HasAccepted v (Some (Some text)) →
+    Ran (form_of words) files_before files_after out_before out_after err_before err_after status → status ≢ 3 → status ≢ 4 → status ≢ 6 → ToldSame n out_before out_after status
+told_same words n name v files_before files_after out_before out_after err_before err_after status text is told short accepted ran three four six =
+    let legal : IsLegal (big n name v) = form_legal words (big n name v) is in
+    let ran_big : Ran (Some (big n name v)) files_before files_after out_before out_after err_before err_after status = rw is at ran in
+    let given = ran_big.answer three six in
+    let same : text ≡ accepted.text = same_bytes (Some (Some text)) text accepted.text refl accepted.has in
+    let design : IsDesign pipe_rows text accepted.terms = subst (λ (x : List ℕ). IsDesign pipe_rows x accepted.terms) (sym same) accepted.design in
+    let found : Alike n given.0 =
+    big_told files_before.told n name v given.0 text accepted.terms legal.0 legal.1 told short design accepted.refines given.1.by_some in
+    record {
+      cycles = found.both.cycles;
+      in_time = found.alike.cycles;
+      status_is = given.2.status_is four ∙ (ap (λ x. x.status) found.is ∙ status_of_alike n found.both found.alike);
+      told = subst (λ (line : List ℕ). Took out_before.taken out_after.taken line) (ap (λ x. x.out) found.is ∙ line_is n found.both found.alike) (given.2.out four);
+    }

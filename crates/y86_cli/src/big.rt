@@ -1,0 +1,106 @@
+//! `big`: runs a generated program by the instructions and on PIPE under an HCL file, and compares the reports.
+ghost use Rattle.std.specs.Prelude.{◌≡◌, ◌≤◌, OnOk, OnErr};
+ghost use Rattle.dp_signals.specs.PipeTable.{pipe_rows};
+ghost use Rattle.hcl_types.specs.Tables.{IsBound, IsOrderOf};
+ghost use Rattle.wb_io.specs.Causes.{counted};
+ghost use Rattle.wb_io.specs.Sinks.{Puts};
+ghost use Rattle.y86_cli.specs.Answers.{big_plan};
+ghost use Rattle.y86_cli.specs.Big.{BigAnswers, big_line, big_status};
+ghost use Rattle.y86_cli.specs.Does.{Does, NoReadFailed, Says, files_seen, sink_seen};
+
+use crate::design::{Ordered, pipe_design};
+use crate::stages::{HCL_LIMIT, read_file};
+use crate::stop::Stop;
+use pipe_runs::{BothWays, both_ways};
+use std::alloc::Global;
+use wb_io::{Failed, Files, Sink, put_pieces};
+use y86_base::{Numeral, Variant};
+use yis_run::flag;
+
+/// Writes the line of program `n`.
+#[tactic(auto, unfolding(crate::specs::Big::big_line))]
+fn put_big<O: Sink>(n: u64, both: &BothWays, out: &mut O) -> Result<(), Failed>
+    ensures puts { Puts (O.taken out.old) (O.taken out.new) result (big_line n both.now) }
+    ensures no_fault_at_ok { OnOk result (O.faults out.new ≡ O.faults out.old) }
+    ensures one_fault_at_err { OnErr result (O.faults out.new ≡ counted (O.faults out.old)) }
+{
+    let number = Numeral::decimal(n);
+    let steps = Numeral::decimal(both.steps);
+    let cycles = Numeral::decimal(both.cycles);
+    put_pieces(
+        out,
+        &[
+            b"big ",
+            number.as_bytes(),
+            b" steps ",
+            steps.as_bytes(),
+            b" cycles ",
+            cycles.as_bytes(),
+            b" same ",
+            flag(both.same),
+            b"\n",
+        ],
+    )
+}
+
+/// The status of both runs.
+fn status_of_both(both: &BothWays) -> u8
+    ensures status { result ≡ big_status both.now }
+    ensures low { result ≤ 1 }
+{
+    if both.same && both.halted { 0 } else { 1 }
+}
+
+/// Runs program `n` both ways under a design, and writes the line.
+#[tactic(auto, using(crate::proofs::Bigs::said_whole, crate::proofs::Bigs::said_part))]
+fn say_big<'a, O: Sink>(
+    alloc: Global,
+    n: u64,
+    variant: Variant,
+    ordered: Ordered,
+    out: &mut O,
+) -> Result<u8, Stop<'a>>
+    requires least { 1 ≤ n }
+    requires most { n ≤ 100000 }
+    requires bound { IsBound pipe_rows ordered.design.terms }
+    requires order { IsOrderOf pipe_rows ordered.design.terms ordered.order.ids }
+    ensures { Says (BigAnswers variant ordered.design.terms n)
+        (sink_seen (O.taken out.old) (O.faults out.old)) (sink_seen (O.taken out.new) (O.faults out.new)) result }
+{
+    let Ordered { design, order } = ordered;
+    let both = match both_ways(alloc, variant, design, order, n) {
+        Ok(both) => both,
+        Err(_) => return Err(Stop::Memory),
+    };
+    match put_big(n, &both, out) {
+        Ok(()) => Ok(status_of_both(&both)),
+        Err(_) => Err(Stop::Write),
+    }
+}
+
+/// `big`: runs program `n` by the instructions and on PIPE under an HCL file, and compares the reports. The file isn't checked first.
+pub fn big<'a, F: Files, O: Sink>(
+    alloc: Global,
+    n: u64,
+    name: &'a str,
+    variant: Variant,
+    files: &mut F,
+    out: &mut O,
+) -> Result<u8, Stop<'a>>
+    requires least { 1 ≤ n }
+    requires most { n ≤ 100000 }
+    ensures does { Does (big_plan n name.now variant)
+        (files_seen (F.told files.old) (F.faults files.old)) (files_seen (F.told files.new) (F.faults files.new))
+        (sink_seen (O.taken out.old) (O.faults out.old)) (sink_seen (O.taken out.new) (O.faults out.new)) result }
+    ensures no_read_failed { NoReadFailed (files_seen (F.told files.old) (F.faults files.old)) (files_seen (F.told files.new) (F.faults files.new)) result }
+{
+    let source = match read_file(alloc, name, HCL_LIMIT, files) {
+        Ok(source) => source,
+        Err(stop) => return Err(stop),
+    };
+    let ordered = match pipe_design(alloc, name, source.as_slice()) {
+        Ok(ordered) => ordered,
+        Err(stop) => return Err(stop),
+    };
+    say_big(alloc, n, variant, ordered, out)
+}
