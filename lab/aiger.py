@@ -201,10 +201,11 @@ def valuation(lines):
 
 def confirm(program, name, path, full, solvers):
     """Whether the solvers agree with `check pipe` on a file: a row of the table, and whether all is well."""
-    said = run([program, "check", "pipe", path, *full]).stdout.split("\n")
-    text = run([program, "aig", path, *full]).stdout
-    if not text or said[0][:3] not in ("yes", "no "):
-        return f"| `{name}` | {said[0] or 'no answer'} | none | |", False
+    check, written = run([program, "check", "pipe", path, *full]), run([program, "aig", path, *full])
+    if check.returncode > 1:
+        same = (written.returncode, written.stderr) == (check.returncode, check.stderr)
+        return f"| `{name}` | no design for PIPE | {'`aig` says the same' if same else '`aig` SAYS OTHERWISE'} | |", same
+    said, text = check.stdout.split("\n"), written.stdout
     aag = Aag(text)
     wanted = None if said[0].startswith("yes") else list(aag.names.values())[len(aag.inputs) :].index(said[0][3:])
     last = len(aag.outputs) if wanted is None else wanted
