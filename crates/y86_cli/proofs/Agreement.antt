@@ -53,15 +53,15 @@ agree v terms image trace k p refines goes =
 
 -- ---- answers with status 0 or 1
 
-high : (a : Answered) (n : ℕ) (line : List ℕ) → a ≡ refused n line → 2 ≤ n → a.status ≤ 1 → ⊥
+pub high : (a : Answered) (n : ℕ) (line : List ℕ) → a ≡ refused n line → 2 ≤ n → a.status ≤ 1 → ⊥
 high a n line same big low = let is : a.status ≡ n = ap (λ x. x.status) same in omega (arith, is, big, low)
 
-design_high : (name : List ℕ) (rows : List Row) (text : List ℕ) (a : Answered) → RefusesDesign name rows text a → a.status ≤ 1 → ⊥
+pub design_high : (name : List ℕ) (rows : List Row) (text : List ℕ) (a : Answered) → RefusesDesign name rows text a → a.status ≤ 1 → ⊥
 design_high name rows text a (inl unread) low = high a 5 _ unread.2 (lit≤ tt) low
 design_high name rows text a (inr (inl unbound)) low = high a 5 _ unbound.told (lit≤ tt) low
 design_high name rows text a (inr (inr unordered)) low = high a 5 _ unordered.told (lit≤ tt) low
 
-control_high : (name : List ℕ) (rows : List Row) (terms : List Term) (a : Answered) → RefusesControl name rows terms a → a.status ≤ 1 → ⊥
+pub control_high : (name : List ℕ) (rows : List Row) (terms : List Term) (a : Answered) → RefusesControl name rows terms a → a.status ≤ 1 → ⊥
 control_high name rows terms a (inl mixed) low = high a 5 _ mixed.told (lit≤ tt) low
 control_high name rows terms a (inr over) low = high a 5 _ over.told (lit≤ tt) low
 

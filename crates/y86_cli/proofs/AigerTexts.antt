@@ -1,5 +1,5 @@
 -- The obligations of a design as an AIGER text, and the counts of the outputs of one, as answers.
-use Rattle.std.proofs.Common.{◌≡◌, ◌⊎◌, ◌↔◌, inl, inr, ℕ, ◌+◌, ◌-◌, ◌<◌, ◌≤◌, Bool, true, false, not, List, length, map, get_or, slice_get, Some, refl, sym, ap, ◌∙◌, subst, Result, Err, arith}
+use Rattle.std.proofs.Common.{◌≡◌, ◌⊎◌, inl, inr, ℕ, ◌+◌, ◌<◌, Bool, true, false, not, List, length, get_or, slice_get, Some, refl, sym, ap, ◌∙◌, Result, Err, arith}
 use Rattle.std.specs.Borrow.{Bor}
 use Rattle.std.proofs.lemmas.List.{length-map}
 use Rattle.std.proofs.lemmas.Option.{slice_get-get_or}
@@ -7,7 +7,6 @@ use Rattle.nets.specs.Nets.{truth}
 use Rattle.aiger_out.specs.declared.fault.AagFault.{AagFault}
 use Rattle.aiger_out.specs.declared.form.Header.{Header}
 use Rattle.aiger_out.specs.Form.{IsFault}
-use Rattle.aiger_out.specs.Values.{Out}
 use Rattle.aiger_out.specs.Written.{IsWritten}
 use Rattle.aiger_out.specs.WrittenLines.{gate_of, gates_of, numbers_of}
 use Rattle.aiger_out.proofs.WrittenText.{gate_there, number_there}
@@ -26,7 +25,7 @@ use Rattle.y86_base.specs.declared.parts.Variant.{Variant}
 use Rattle.y86_cli.specs.AigerTexts.{AigAnswers, AigrunAnswers, RefusesAag, TellsObligations, aag_reason}
 use Rattle.y86_cli.specs.Checks.{RefusesControl}
 use Rattle.y86_cli.specs.Does.{Says, SinkSeen}
-use Rattle.y86_cli.specs.Plan.{Answered, done}
+use Rattle.y86_cli.specs.Plan.{done}
 use Rattle.y86_cli.specs.Stops.{answer_at, status_of}
 use Rattle.y86_cli.specs.declared.stop.Refusal.TheVariants.{AtLine}
 use Rattle.y86_cli.specs.declared.stop.Stop as code

@@ -1,5 +1,5 @@
 -- What `big` answers, and of an accepted file.
-use Rattle.std.proofs.Common.{◌≡◌, ◌≢◌, ◌⊎◌, inl, inr, ℕ, ◌+◌, ◌*◌, ◌≤◌, Bool, true, false, List, [], ◌∷◌, length, Option, Some, None, IfSome, refl, sym, ap, subst, ◌∙◌, Result, Ok, Err, lit≤, arith}
+use Rattle.std.proofs.Common.{◌≡◌, ◌≢◌, inl, inr, ℕ, ◌+◌, ◌≤◌, true, List, [], ◌∷◌, length, Option, Some, None, IfSome, refl, sym, ap, subst, ◌∙◌, Result, Ok, arith}
 use Rattle.wb_io.specs.Causes.{counted}
 use Rattle.wb_io.specs.Files.{HasBytes, HasMore}
 use Rattle.wb_io.specs.Sinks.{Took, TookPart}

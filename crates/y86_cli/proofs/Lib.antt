@@ -2,6 +2,7 @@ pub mod Agreement
 pub mod AigerTexts
 pub mod Bigs
 pub mod Came
+pub mod Certified
 pub mod Checks
 pub mod Designs
 pub mod Does

@@ -7,7 +7,6 @@ use Rattle.wb_io.specs.Causes.{counted}
 use Rattle.wb_io.specs.Sinks.{Took, TookPart}
 use Rattle.wb_io.proofs.Writes.{part_after, part_more, took_more}
 use Rattle.y86_base.specs.declared.parts.Variant.{Variant}
-use Rattle.y86_isa.proofs.Memories.{length-stored}
 use Rattle.y86_isa.specs.Machine.{is_aok}
 use Rattle.y86_isa.specs.declared.machine.Machine.{Machine}
 use Rattle.y86_isa.specs.declared.machine.Rec.{Rec}
@@ -15,16 +14,12 @@ use Rattle.hcl_types.specs.Tables.{IsBound, IsOrderOf}
 use Rattle.hcl_types.specs.Terms.{at}
 use Rattle.hcl_types.specs.declared.term.Term.{Term}
 use Rattle.dp_signals.proofs.PipeRules.{pipe_solves}
-use Rattle.dp_signals.specs.PipeCycle.{ending, next, retires, store_of}
+use Rattle.dp_signals.specs.PipeCycle.{retires}
 use Rattle.dp_signals.specs.Equations.{values_along}
 use Rattle.dp_signals.specs.PipeEquations.{Solves, given, pipe_rule}
 use Rattle.dp_signals.specs.PipeRun as run
 use Rattle.dp_signals.specs.PipeTable.{pipe_rows}
-use Rattle.dp_signals.specs.declared.pipe_state.PipeState.{PipeState}
-use Rattle.pipe_path.proofs.Runs.{record_told}
-use Rattle.pipe_path.specs.Calls.{record_in}
 use Rattle.pipe_path.specs.Pipe as pipe
-use Rattle.pipe_path.specs.declared.pipe.Cycled.{Cycled}
 use Rattle.retire_trace.proofs.Driven.{traced_append, traced_one}
 use Rattle.retire_trace.specs.Drive as drive
 use Rattle.retire_trace.specs.TraceLine.{trace_line}

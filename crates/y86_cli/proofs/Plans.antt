@@ -11,8 +11,9 @@ use Rattle.yas_asm.specs.declared.listing.Line.{Line}
 use Rattle.yo_object.specs.ObjectText.{object_of}
 use Rattle.yo_object.specs.declared.object.YoFault.{YoFault}
 use Rattle.y86_cli.specs.AigerTexts.{AigAnswers, AigrunAnswers, aag_reason}
-use Rattle.y86_cli.specs.Answers.{big_plan, aig_plan, aigrun_plan, image_of_text, plan_in, plan_of, run_status, text_of_listing, yas_plan, yis_plan, check_pipe_plan, check_seq_plan, checked_plan, hcl_plan, seq_plan, ssim_plan, SeqAnswers, pipe_plan, psim_plan, PipeAnswers, yis_run, sample_plan}
-use Rattle.y86_cli.specs.Big.{BigAnswers, big_status}
+use Rattle.y86_cli.specs.Answers.{big_plan, aig_plan, aigrun_plan, image_of_text, plan_in, plan_of, run_status, text_of_listing, yas_plan, yis_plan, check_pipe_plan, check_seq_plan, certificate_plan, certify_pipe_plan, recheck_plan, checked_plan, hcl_plan, seq_plan, ssim_plan, SeqAnswers, pipe_plan, psim_plan, PipeAnswers, yis_run, sample_plan}
+use Rattle.y86_cli.specs.Big.{BigAnswers}
+use Rattle.y86_cli.specs.Certified.{PipeCertifies, Rechecks}
 use Rattle.y86_cli.specs.Checks.{PipeChecks, RefusesControl, RefusesPipe, SeqChecks}
 use Rattle.y86_cli.specs.Datapaths.{rows_of}
 use Rattle.y86_cli.specs.Designs.{RefusesDesign}
@@ -20,7 +21,7 @@ use Rattle.hcl_types.specs.declared.table.Row.{Row}
 use Rattle.hcl_types.specs.declared.term.Term.{Term}
 use Rattle.dp_signals.specs.PipeTable.{pipe_rows}
 use Rattle.y86_cli.specs.Does.{FilesSeen, SinkSeen}
-use Rattle.y86_words.specs.Forms.{Command, yas, yis, hcl, ssim, ssimp, psim, check_seq, check_plus, check_pipe, sample, aig, aigrun, big}
+use Rattle.y86_words.specs.Forms.{Command, yas, yis, hcl, ssim, ssimp, psim, check_seq, check_plus, check_pipe, certify_pipe, recheck, sample, aig, aigrun, big}
 use Rattle.y86_cli.specs.Lines.{fault_line, assembly_fault_line, object_fault_line, read_fault_line, too_long_line}
 use Rattle.y86_cli.specs.Plan.{done, Answered, Plan, says, reads, gives, answers, after, refused, Allows, Tells, IsDetermined}
 use Rattle.y86_cli.specs.Samples.{SampleAnswers}
@@ -242,8 +243,17 @@ big_low false halted = lit≤ tt
 big_proper : (v : Variant) (terms : List Term) (n : ℕ) (a : Answered) → BigAnswers v terms n a → IsProper a
 big_proper v terms n a said = proper_as a _ (inl (big_low said.0.same said.0.halted, refl)) said.2
 
+certify_proper : (name : List ℕ) (v : Variant) (terms : List Term) (a : Answered) → PipeCertifies name v terms a → IsProper a
+certify_proper name v terms a (inl certifies) = proper_as a _ (inl (lit≤ tt, refl)) certifies.told
+certify_proper name v terms a (inr refuses) = refuses_pipe_proper name v terms a refuses
+
+recheck_proper : (cert : List ℕ) (v : Variant) (terms : List Term) (bytes : List ℕ) (a : Answered) → Rechecks cert v terms bytes a → IsProper a
+recheck_proper cert v terms bytes a (inl accepts) = proper_as a _ (inl (lit≤ tt, refl)) accepts.told
+recheck_proper cert v terms bytes a (inr (inl head)) = refused_proper _ a head.told
+recheck_proper cert v terms bytes a (inr (inr refuses)) = refused_proper _ a refuses.told
+
 command_proper : (command : Command) → AllProper (plan_of command)
-unfolding AllProper big_plan aig_plan aigrun_plan sample_plan check_pipe_plan yas_plan yis_plan hcl_plan psim_plan
+unfolding AllProper certificate_plan certify_pipe_plan recheck_plan big_plan aig_plan aigrun_plan sample_plan check_pipe_plan yas_plan yis_plan hcl_plan psim_plan
 command_proper (yas source size v) =
     λ bytes. after_proper _ _ (λ text. answers_proper _ (inl (lit≤ tt, refl))) (listing_proper source bytes (assembled v bytes size))
 command_proper (yis object size limit v) =
@@ -256,6 +266,9 @@ command_proper (psim name object size limit trace checked v) =
 command_proper (check_seq file v) = check_seq_proper Seq file v
 command_proper (check_plus file v) = check_seq_proper Plus file v
 command_proper (check_pipe file v) = λ text. (λ terms is a said. pipe_check_proper file v terms a said, design_proper file pipe_rows text)
+command_proper (certify_pipe file v) = λ text. (λ terms is a said. certify_proper file v terms a said, design_proper file pipe_rows text)
+command_proper (recheck file cert v) =
+    λ text. (λ terms is. (λ atoms are bytes a said. recheck_proper cert v terms bytes a said, control_proper file pipe_rows terms), design_proper file pipe_rows text)
 command_proper (aig file v) = λ text. (λ terms is a said. aig_proper file v terms a said, design_proper file pipe_rows text)
 command_proper (aigrun file seed) = λ text a said. aigrun_proper file text seed a said
 command_proper (sample file seed count v) = λ text. (λ terms is a said. sample_proper file v terms seed count a said, design_proper file pipe_rows text)

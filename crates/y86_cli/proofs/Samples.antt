@@ -1,27 +1,24 @@
 -- What the gates of a file's rules tell at drawn valuations, in obligations; and the answers to a sample.
-use Rattle.std.proofs.Common.{◌≡◌, ◌⊎◌, inl, inr, ℕ, ◌+◌, ◌-◌, ◌<◌, ◌≤◌, Bool, true, false, List, length, get_or, slice_get, Option, Some, None, refl, sym, ap, ◌∙◌, subst, Result, Err, arith}
+use Rattle.std.proofs.Common.{◌≡◌, ◌⊎◌, inl, inr, ℕ, ◌+◌, ◌-◌, ◌≤◌, Bool, true, List, length, get_or, slice_get, Option, Some, None, refl, sym, ap, ◌∙◌, subst, Result, Err, arith}
 use Rattle.std.proofs.lemmas.Bool.{false≢true}
 use Rattle.std.proofs.lemmas.Option.{slice_get-get_or, slice_get_within}
 use Rattle.nets.specs.Nets.{truth}
 use Rattle.control_check.specs.PipeVerdicts.{AreFileRules}
 use Rattle.control_check.proofs.PipeVerdict.{obligation_false, rule_false}
-use Rattle.ctl_atoms.specs.declared.leaf.Atom.{Atom}
 use Rattle.ctl_atoms.proofs.Solved.{leaves_exist}
 use Rattle.dp_signals.specs.PipeTable.{pipe_rows}
 use Rattle.hcl_types.specs.Tables.{IsOrderOf}
 use Rattle.hcl_types.specs.declared.term.Term.{Term}
 use Rattle.lane_eval.specs.Search.{IsFirstFalse, holds_drawn}
 use Rattle.lane_eval.specs.declared.search.Found.{Found}
-use Rattle.pipe_obligations.specs.Settled.{IsFalseAt}
-use Rattle.pipe_theorem.specs.Theorem.{PipeControls}
 use Rattle.prog_gen.specs.Choices.{valuation}
 use Rattle.rule_gates.specs.declared.rules.Rule.{Rule}
 use Rattle.rule_gates.specs.declared.rules.Rules.{Rules}
 use Rattle.y86_base.specs.declared.parts.Variant.{Variant}
 use Rattle.y86_cli.specs.Checks.{RefusesControl}
 use Rattle.y86_cli.specs.Does.{Says, SinkSeen}
-use Rattle.y86_cli.specs.Plan.{Answered, done}
-use Rattle.y86_cli.specs.Samples.{DrawnOf, FindsFirst, FindsNone, IsFalseDrawn, IsSampled, NoneFalseDrawn, SampleAnswers, found_line, none_line}
+use Rattle.y86_cli.specs.Plan.{done}
+use Rattle.y86_cli.specs.Samples.{DrawnOf, IsFalseDrawn, IsSampled, NoneFalseDrawn, SampleAnswers, found_line, none_line}
 use Rattle.y86_cli.specs.Stops.{answer_at, status_of}
 use Rattle.y86_cli.specs.declared.stop.Stop as code
 use Rattle.y86_cli.specs.declared.stop.Stop.TheVariants.{Memory}

@@ -1,5 +1,6 @@
 -- What each command answers, as a plan.
 use Rattle.std.specs.Prelude.{◌≡◌, ℕ, Bool, true, false, List, [], ◌++◌, length, Option, Some, None, Result, Ok, Err}
+use Rattle.ctl_atoms.specs.Atoms.{AreAtoms}
 use Rattle.dp_signals.specs.PipeRun.{Pipe}
 use Rattle.dp_signals.specs.PipeTable.{pipe_rows}
 use Rattle.hcl_read.specs.Print as hcl_text
@@ -20,11 +21,12 @@ use Rattle.yo_object.specs.Printed.{printed}
 use Rattle.yo_object.specs.declared.object.YoFault.{YoFault}
 use Rattle.y86_cli.specs.AigerTexts.{AigAnswers, AigrunAnswers}
 use Rattle.y86_cli.specs.Big.{BigAnswers}
-use Rattle.y86_cli.specs.Checks.{AcceptsPipe, PipeChecks, RefusesPipe, SeqChecks}
+use Rattle.y86_cli.specs.Certified.{PipeCertifies, Rechecks, cert_limit}
+use Rattle.y86_cli.specs.Checks.{AcceptsPipe, PipeChecks, RefusesControl, RefusesPipe, SeqChecks}
 use Rattle.y86_cli.specs.Datapaths.{Runs, rows_of}
 use Rattle.y86_cli.specs.Designs.{IsDesign, RefusesDesign, RefusesHcl}
 use Rattle.y86_cli.specs.Samples.{SampleAnswers}
-use Rattle.y86_words.specs.Forms.{Command, yas, yis, hcl, ssim, ssimp, psim, check_seq, check_plus, check_pipe, sample, aig, aigrun, big}
+use Rattle.y86_words.specs.Forms.{Command, yas, yis, hcl, ssim, ssimp, psim, check_seq, check_plus, check_pipe, certify_pipe, recheck, sample, aig, aigrun, big}
 use Rattle.y86_cli.specs.Lines.{assembly_fault_line, object_fault_line, usage_line}
 use Rattle.y86_cli.specs.PipeRuns.{RunsTo, run_text}
 use Rattle.y86_cli.specs.Plan.{Answered, Plan, after, answers, done, gives, reads, refused, says}
@@ -140,6 +142,20 @@ aag_limit = 33554432
 unfoldable pub aigrun_plan : List ℕ → ℕ → Plan
 aigrun_plan name seed = reads name aag_limit (λ text. says (AigrunAnswers name text seed))
 
+-- the verdict on a design for PIPE, with a certificate of a Yes
+unfoldable pub certify_pipe_plan : List ℕ → Variant → Plan
+certify_pipe_plan name v =
+    reads name hcl_limit (λ text. gives (IsDesign pipe_rows text) (RefusesDesign name pipe_rows text) (λ terms. says (PipeCertifies name v terms)))
+
+-- the check of a certificate of a design with control values
+unfoldable pub certificate_plan : List ℕ → Variant → List Term → Plan
+certificate_plan cert v terms = reads cert cert_limit (λ bytes. says (Rechecks cert v terms bytes))
+
+unfoldable pub recheck_plan : List ℕ → List ℕ → Variant → Plan
+recheck_plan name cert v =
+    reads name hcl_limit (λ text. gives (IsDesign pipe_rows text) (RefusesDesign name pipe_rows text) (λ terms.
+    gives (AreAtoms pipe_rows terms) (RefusesControl name pipe_rows terms) (λ atoms. certificate_plan cert v terms)))
+
 abbrev pub plan_of : Command → Plan
 plan_of (yas source size v) = yas_plan source size v
 plan_of (yis object size limit v) = yis_plan object size limit v
@@ -150,6 +166,8 @@ plan_of (psim name object size limit trace checked v) = psim_plan name object si
 plan_of (check_seq name v) = check_seq_plan Seq name v
 plan_of (check_plus name v) = check_seq_plan Plus name v
 plan_of (check_pipe name v) = check_pipe_plan name v
+plan_of (certify_pipe name v) = certify_pipe_plan name v
+plan_of (recheck name cert v) = recheck_plan name cert v
 plan_of (aig name v) = aig_plan name v
 plan_of (aigrun name seed) = aigrun_plan name seed
 plan_of (sample name seed count v) = sample_plan name seed count v

@@ -13,6 +13,8 @@ use Rattle.y86_cli.specs.Datapaths.{Accepts, Refines, Rejects, no_text, rows_of}
 use Rattle.y86_cli.specs.Lines.{blank_names, names_at, names_line}
 use Rattle.y86_cli.specs.Plan.{Answered, done, refused}
 use Rattle.y86_cli.specs.declared.datapath.Datapath.{Datapath}
+use Rattle.y86_cli.specs.declared.verdict.Decided.{Decided}
+use Rattle.y86_cli.specs.declared.verdict.Decided.TheVariants as decided
 use Rattle.y86_cli.specs.declared.verdict.PipeText.{PipeText}
 use Rattle.y86_cli.specs.declared.verdict.PipeText.TheVariants as pipe_text
 
@@ -72,6 +74,11 @@ RefusesPipe name v terms a = DeniesPipe v terms a ⊎ RefusesControl name pipe_r
 -- the answers to the check of a design for PIPE
 abbrev pub PipeChecks : List ℕ → Variant → List Term → Answered → Type 0
 PipeChecks name v terms a = AcceptsPipe v terms a ⊎ RefusesPipe name v terms a
+
+-- the settings of a Yes of a design for PIPE, or the text of a No
+abbrev pub DecidesPipe : Variant → List Term → Decided → Type 0
+DecidesPipe v terms (decided.Yes settings) = pipe.AcceptsPipe v terms settings × pipe.RefinesPipe v terms
+DecidesPipe v terms (decided.No text) = DeniesPipe v terms (done 1 text.items)
 
 -- a text tells a Yes or a No of a design for PIPE
 abbrev pub TellsPipe : Variant → List Term → PipeText → Type 0

@@ -3,6 +3,7 @@ pub mod Agreement
 pub mod AigerTexts
 pub mod Big
 pub mod Came
+pub mod Certified
 pub mod Checks
 pub mod Datapaths
 pub mod Designs

@@ -5,8 +5,9 @@ ghost use Rattle.y86_base.specs.declared.parts.Variant.{Variant};
 ghost use Rattle.y86_cli.specs.Agreement.{HasAccepted, HasAcceptedSeq, RanAccepted, ToldNo};
 ghost use Rattle.y86_cli.specs.Answers.{plan_in, yas_plan, yis_plan};
 ghost use Rattle.y86_cli.specs.Big.{ToldSame};
+ghost use Rattle.y86_cli.specs.Certified.{HasCertified};
 ghost use Rattle.y86_cli.specs.Does.{FilesSeen, SinkSeen};
-ghost use Rattle.y86_words.specs.Forms.{Command, big, check_pipe, check_plus, check_seq, form_of, psim};
+ghost use Rattle.y86_words.specs.Forms.{Command, big, certify_pipe, check_pipe, check_plus, check_seq, form_of, psim, recheck};
 ghost use Rattle.y86_cli.specs.declared.datapath.Datapath.TheVariants.{Plus, Seq};
 ghost use Rattle.y86_cli.specs.Plan.{Answered, Allows, IsDetermined, Tells};
 ghost use Rattle.y86_cli.specs.Ran.{Ran, Told};
@@ -43,9 +44,10 @@ pub fn law_of_plans()
 /// of `check seq` or of `check seqplus` ends with 0, the file has an accepted design, and on every image its machine is that
 /// of the run of instructions. Where a call of `check pipe` ends with 0, the file has an accepted design, and on every image whose
 /// instructions fetch no byte that an earlier one stored its pipeline retires the instructions of that run, one after
-/// another, and stops as it does. Where a call of `psim` with `--checked` ends with 0 or 1, the text on standard output is
-/// a No; or it is a Yes of such a file, and what stands behind it agrees with the run of instructions: the trace, the
-/// registers, and where the pipeline stopped the whole report.
+/// another, and stops as it does; with `--cert` too. Where a call of `recheck` ends with 0, the second file is a certificate
+/// of the first, and the pipeline of its design does the same. Where a call of `psim` with `--checked` ends with 0 or 1, the
+/// text on standard output is a No; or it is a Yes of such a file, and what stands behind it agrees with the run of
+/// instructions: the trace, the registers, and where the pipeline stopped the whole report.
 pub fn law_of_accepted_files()
     ensures check_seq { (words : List (List ℕ)) (name : List ℕ) (v : Variant) (files_before files_after : FilesSeen) (out_before out_after err_before err_after : SinkSeen) →
         form_of words ≡ Some (check_seq name v) → Ran (form_of words) files_before files_after out_before out_after err_before err_after 0 →
@@ -56,6 +58,12 @@ pub fn law_of_accepted_files()
     ensures check_pipe { (words : List (List ℕ)) (name : List ℕ) (v : Variant) (files_before files_after : FilesSeen) (out_before out_after err_before err_after : SinkSeen) →
         form_of words ≡ Some (check_pipe name v) → Ran (form_of words) files_before files_after out_before out_after err_before err_after 0 →
         HasAccepted v (files_before.told name) }
+    ensures certify_pipe { (words : List (List ℕ)) (name : List ℕ) (v : Variant) (files_before files_after : FilesSeen) (out_before out_after err_before err_after : SinkSeen) →
+        form_of words ≡ Some (certify_pipe name v) → Ran (form_of words) files_before files_after out_before out_after err_before err_after 0 →
+        HasAccepted v (files_before.told name) }
+    ensures recheck { (words : List (List ℕ)) (name cert : List ℕ) (v : Variant) (files_before files_after : FilesSeen) (out_before out_after err_before err_after : SinkSeen) →
+        form_of words ≡ Some (recheck name cert v) → Ran (form_of words) files_before files_after out_before out_after err_before err_after 0 →
+        HasCertified v (files_before.told name) (files_before.told cert) }
     ensures psim { (words : List (List ℕ)) (name object : List ℕ) (size limit : ℕ) (trace : Bool) (v : Variant) (files_before files_after : FilesSeen)
         (out_before out_after err_before err_after : SinkSeen) (status : ℕ) → form_of words ≡ Some (psim name object size limit trace true v) → status ≤ 1 →
         Ran (form_of words) files_before files_after out_before out_after err_before err_after status →

@@ -11,10 +11,12 @@ ghost use Rattle.y86_words.specs.Wording.{IsLegal};
 use crate::aig::aig_file;
 use crate::aigrun::aigrun_file;
 use crate::big::big;
+use crate::certify::certify_pipe_file;
 use crate::check::{check_pipe_file, check_seq_file};
 use crate::datapath::Datapath;
 use crate::hcl::hcl;
 use crate::psim::psim;
+use crate::recheck::recheck;
 use crate::sample::sample;
 use crate::ssim::ssim;
 use crate::stop::Stop;
@@ -105,6 +107,14 @@ fn execute<'a, F: Files, O: Sink>(
             check_seq_file(alloc, Datapath::Plus, name, variant, files, out)
         }
         Cmd::CheckPipe { hcl: name, variant } => check_pipe_file(alloc, name, variant, files, out),
+        Cmd::CertifyPipe { hcl: name, variant } => {
+            certify_pipe_file(alloc, name, variant, files, out)
+        }
+        Cmd::Recheck {
+            hcl: name,
+            cert,
+            variant,
+        } => recheck(alloc, name, cert, variant, files, out),
         Cmd::Sample {
             hcl: name,
             seed,

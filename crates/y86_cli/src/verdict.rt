@@ -7,7 +7,7 @@ ghost use Rattle.dp_signals.specs.PipeTable.{pipe_rows};
 ghost use Rattle.hcl_types.specs.Tables.{IsBound, IsOrderOf, IsSound, row_names};
 ghost use Rattle.hcl_types.specs.declared.term.Term.{Term};
 ghost use Rattle.verdict_text.specs.PipeLines.{pipe_no};
-ghost use Rattle.y86_cli.specs.Checks.{RefusesControl, TellsPipe};
+ghost use Rattle.y86_cli.specs.Checks.{DecidesPipe, RefusesControl, TellsPipe};
 ghost use Rattle.y86_cli.specs.Stops.{answer_at, status_of};
 ghost use Rattle.y86_cli.specs.declared.stop.Stop.TheVariants.{Memory as WantOfMemory};
 
@@ -18,6 +18,7 @@ use ctl_atoms::{CtlFault, atoms};
 use dp_signals::{law_of_tables, pipe_table};
 use hcl_types::{Row, Table};
 use nets::Valuation;
+use pipe_motion::Settings;
 use std::alloc::Global;
 use verdict_text::{pipe_acceptance, pipe_refusal};
 use y86_base::Variant;
@@ -48,6 +49,13 @@ pub fn control_stop<'a>(alloc: Global, name: &'a str, rows: &[Row], fault: CtlFa
         ),
         CtlFault::Memory => Stop::Memory,
     }
+}
+
+/// A verdict on PIPE: the settings of a Yes, or the text of a No.
+#[derive(Debug, Drop)]
+pub enum Decided {
+    Yes(Settings),
+    No(Vec<u8>),
 }
 
 /// The text of a verdict on PIPE.
@@ -82,8 +90,38 @@ fn pipe_no_text<'a>(
     }
 }
 
+/// Decides a design for PIPE.
+#[tactic(auto, using(crate::proofs::Checks::tells_no))]
+pub fn pipe_decision<'a>(
+    alloc: Global,
+    name: &'a str,
+    variant: Variant,
+    ordered: &Ordered,
+) -> Result<Decided, Stop<'a>>
+    requires bound { IsBound pipe_rows ordered.now.design.terms }
+    requires order { IsOrderOf pipe_rows ordered.now.design.terms ordered.now.order.ids }
+    ensures verdict { IfOk result (DecidesPipe variant ordered.now.design.terms) }
+    ensures refused { IfErr result (λ stop. (stop ≡ WantOfMemory) ⊎ ((status_of stop ≡ 5) × RefusesControl name.now pipe_rows ordered.now.design.terms (answer_at stop))) }
+{
+    law_of_tables();
+    let Ok(table) = pipe_table(alloc) else {
+        return Err(Stop::Memory);
+    };
+    match check_pipe(alloc, variant, &ordered.design, &ordered.order) {
+        Ok(Verdict::Yes(settings)) => Ok(Decided::Yes(settings)),
+        Ok(Verdict::No { rule, valuation }) => {
+            match pipe_no_text(alloc, &table, ordered, rule, &valuation) {
+                Ok(text) => Ok(Decided::No(text)),
+                Err(stop) => Err(stop),
+            }
+        }
+        Err(CheckFault::Ctl(fault)) => Err(control_stop(alloc, name, table.rows.items(), fault)),
+        Err(CheckFault::Memory) => Err(Stop::Memory),
+    }
+}
+
 /// Decides a design for PIPE, and gives the text of the verdict.
-#[tactic(auto, using(crate::proofs::Checks::tells_yes, crate::proofs::Checks::tells_no))]
+#[tactic(auto, using(crate::proofs::Checks::tells_yes))]
 pub fn pipe_verdict<'a>(
     alloc: Global,
     name: &'a str,
@@ -95,22 +133,12 @@ pub fn pipe_verdict<'a>(
     ensures verdict { IfOk result (TellsPipe variant ordered.now.design.terms) }
     ensures refused { IfErr result (λ stop. (stop ≡ WantOfMemory) ⊎ ((status_of stop ≡ 5) × RefusesControl name.now pipe_rows ordered.now.design.terms (answer_at stop))) }
 {
-    law_of_tables();
-    let Ok(table) = pipe_table(alloc) else {
-        return Err(Stop::Memory);
-    };
-    match check_pipe(alloc, variant, &ordered.design, &ordered.order) {
-        Ok(Verdict::Yes(settings)) => match pipe_acceptance(alloc, &settings) {
+    match pipe_decision(alloc, name, variant, ordered) {
+        Ok(Decided::Yes(settings)) => match pipe_acceptance(alloc, &settings) {
             Ok(text) => Ok(PipeText::Yes(text)),
             Err(_) => Err(Stop::Memory),
         },
-        Ok(Verdict::No { rule, valuation }) => {
-            match pipe_no_text(alloc, &table, ordered, rule, &valuation) {
-                Ok(text) => Ok(PipeText::No(text)),
-                Err(stop) => Err(stop),
-            }
-        }
-        Err(CheckFault::Ctl(fault)) => Err(control_stop(alloc, name, table.rows.items(), fault)),
-        Err(CheckFault::Memory) => Err(Stop::Memory),
+        Ok(Decided::No(text)) => Ok(PipeText::No(text)),
+        Err(stop) => Err(stop),
     }
 }

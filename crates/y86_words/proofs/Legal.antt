@@ -6,11 +6,11 @@ use Rattle.y86_base.proofs.Booleans.{both_true}
 use Rattle.y86_base.specs.Image.{IsSize, is_image_size}
 use Rattle.y86_base.specs.declared.parts.Variant.{Variant}
 use Rattle.y86_words.specs.declared.form.Kind.{Kind}
-use Rattle.y86_words.specs.declared.form.Kind.TheVariants.{Yas, Yis, Hcl, Ssim, Ssimp, Psim, CheckSeq, CheckPlus, CheckPipe, Sample, Aig, Aigrun, Big}
+use Rattle.y86_words.specs.declared.form.Kind.TheVariants.{Yas, Yis, Hcl, Ssim, Ssimp, Psim, CheckSeq, CheckPlus, CheckPipe, CertifyPipe, Recheck, Sample, Aig, Aigrun, Big}
 use Rattle.y86_words.specs.declared.option.Switch.{Switch}
-use Rattle.y86_words.specs.declared.option.Switch.TheVariants.{Full, Mem, Limit, Trace, Checked}
+use Rattle.y86_words.specs.declared.option.Switch.TheVariants.{Full, Mem, Limit, Trace, Checked, Cert}
 use Rattle.y86_words.specs.Arguments.{Argument, place, switch, Reading, whole, needs, neither, reading_of, option_reading, place_reading, in_front, last, before, arguments, index_of, is_option, switch_of, Filled}
-use Rattle.y86_words.specs.Forms.{Command, yas, yis, hcl, ssim, ssimp, psim, check_seq, check_plus, check_pipe, form_of, made, size_of, limit_of, trace_of, checked_of, variant_of, sample, most_drawn, most_seed, number_at, aig, aigrun, big, most_instructions}
+use Rattle.y86_words.specs.Forms.{Command, yas, yis, hcl, ssim, ssimp, psim, check_seq, check_plus, check_pipe, certify_pipe, recheck, form_of, made, size_of, limit_of, trace_of, checked_of, variant_of, sample, most_drawn, most_seed, number_at, aig, aigrun, big, most_instructions}
 use Rattle.y86_words.specs.Numbers.{number_of, is_run_limit, number_within}
 use Rattle.y86_words.specs.Wording.{IsFileName, IsRunLimit, IsLegal, places_of, numbers_of, IsFound}
 use Rattle.y86_words.proofs.Wording.{has_form}
@@ -24,6 +24,7 @@ IsNumberOf Mem n = IsSize n
 IsNumberOf Limit n = IsRunLimit n
 IsNumberOf Trace n = Unit {0}
 IsNumberOf Checked n = Unit {0}
+IsNumberOf Cert n = Unit {0}
 
 abbrev IsLegalArgument : Argument → Type 0
 IsLegalArgument (place word) = IsFileName word
@@ -56,6 +57,7 @@ option_legal (Some Mem) = size_is
 option_legal (Some Limit) = limit_is
 option_legal (Some Trace) = tt
 option_legal (Some Checked) = tt
+option_legal (Some Cert) = tt
 
 place_legal : (word : List ℕ) → is_option word ≡ false → IsLegalReading (place_reading word)
 place_legal [] other = tt
@@ -144,6 +146,17 @@ same_switch Checked Limit e = absurd (cc (e))
 same_switch Trace Checked e = absurd (cc (e))
 same_switch Checked Trace e = absurd (cc (e))
 same_switch Checked Checked e = refl
+same_switch Full Cert e = absurd (cc (e))
+same_switch Cert Full e = absurd (cc (e))
+same_switch Mem Cert e = absurd (cc (e))
+same_switch Cert Mem e = absurd (cc (e))
+same_switch Limit Cert e = absurd (cc (e))
+same_switch Cert Limit e = absurd (cc (e))
+same_switch Trace Cert e = absurd (cc (e))
+same_switch Cert Trace e = absurd (cc (e))
+same_switch Checked Cert e = absurd (cc (e))
+same_switch Cert Checked e = absurd (cc (e))
+same_switch Cert Cert e = refl
 
 numbers_legal : (s : Switch) (read : List Argument) → AllLegal read → Each (IsNumberOf s) (numbers_of s read)
 unfolding AllLegal Each
@@ -227,6 +240,14 @@ psim_legal v trace checked f (Some name) (Some object) command e d made_is legal
     let same : psim name object (size_of f) (limit_of f) trace checked v ≡ command = cc (made_is) in
     subst IsLegal same (first_legal f.words name legal.words e, second_legal f.words object legal.words d, legal.size, legal.limit)
 
+recheck_legal : (v : Variant) (f : Filled) (name cert : Option (List ℕ)) (command : Command) → slice_get f.words 0 ≡ name → slice_get f.words 1 ≡ cert →
+    option_and_then (λ file. option_map (λ c. recheck file c v) cert) name ≡ Some command → IsLegalFound f → IsLegal command
+recheck_legal v f None cert command e d made_is legal = absurd (cc (made_is))
+recheck_legal v f (Some name) None command e d made_is legal = absurd (cc (made_is))
+recheck_legal v f (Some name) (Some cert) command e d made_is legal =
+    let same : recheck name cert v ≡ command = cc (made_is) in
+    subst IsLegal same (first_legal f.words name legal.words e, second_legal f.words cert legal.words d)
+
 check_legal : (make : List ℕ → Command) → ((word : List ℕ) → IsFileName word → IsLegal (make word)) → (f : Filled) (word : Option (List ℕ)) (command : Command) →
     slice_get f.words 1 ≡ word → option_map make word ≡ Some command → IsLegalFound f → IsLegal command
 check_legal make legal_as f None command e made_is legal = absurd (cc (made_is))
@@ -295,6 +316,8 @@ made_legal Psim f command e legal = psim_legal (variant_of f) (trace_of f) (chec
 made_legal CheckSeq f command e legal = check_legal (λ file. check_seq file (variant_of f)) (λ word named. named) f (slice_get f.words 1) command refl e legal
 made_legal CheckPlus f command e legal = check_legal (λ file. check_plus file (variant_of f)) (λ word named. named) f (slice_get f.words 1) command refl e legal
 made_legal CheckPipe f command e legal = check_legal (λ file. check_pipe file (variant_of f)) (λ word named. named) f (slice_get f.words 1) command refl e legal
+made_legal CertifyPipe f command e legal = check_legal (λ file. certify_pipe file (variant_of f)) (λ word named. named) f (slice_get f.words 1) command refl e legal
+made_legal Recheck f command e legal = recheck_legal (variant_of f) f (slice_get f.words 0) (slice_get f.words 1) command refl refl e legal
 made_legal Sample f command e legal = sample_legal (variant_of f) f (slice_get f.words 0) (number_at 0 most_seed 1 f) (number_at 0 most_drawn 2 f) command refl refl refl e legal
 made_legal Aig f command e legal = aig_legal (variant_of f) f (slice_get f.words 0) command refl e legal
 made_legal Aigrun f command e legal = aigrun_legal f (slice_get f.words 0) (number_at 0 most_seed 1 f) command refl refl e legal

@@ -4,7 +4,7 @@ use Rattle.std.proofs.lemmas.Bool.{eqb-true}
 use Rattle.std.proofs.lemmas.List.{get_or-set_same, get_or-set_other, length-set, set_comm}
 use Rattle.std.specs.Option.{option_map}
 use Rattle.y86_words.specs.declared.option.Switch.{Switch}
-use Rattle.y86_words.specs.declared.option.Switch.TheVariants.{Full, Mem, Limit, Trace, Checked}
+use Rattle.y86_words.specs.declared.option.Switch.TheVariants.{Full, Mem, Limit, Trace, Checked, Cert}
 use Rattle.y86_words.specs.Arguments.{Argument, place, switch, Reading, whole, needs, neither, reading_of, in_front, arguments, index_of, Filled, nothing_filled, added, all_added}
 use Rattle.y86_words.specs.Forms.{forms, first_fit, form_of}
 use Rattle.y86_words.specs.Numbers.{number_that}
@@ -92,12 +92,13 @@ all_in_front (word ∷ next ∷ rest) back done e = at (reading_of word) refl (a
 
 -- ---- an option and another argument, in either order
 
-index_below : (s : Switch) → index_of s < 5
+index_below : (s : Switch) → index_of s < 6
 index_below Full = omega arith
 index_below Mem = omega arith
 index_below Limit = omega arith
 index_below Trace = omega arith
 index_below Checked = omega arith
+index_below Cert = omega arith
 
 and_added : Argument → Option Filled → Option Filled
 and_added argument = option_and_then (λ f. added f argument)
@@ -111,7 +112,7 @@ with_place f s n word false true e1 e2 = rw (e1, e2) (rw e1 refl)
 with_place f s n word false false e1 e2 = rw (e1, e2) refl
 
 -- an option twice
-twice : (f : Filled) (s t : Switch) (n m : ℕ) (b : Bool) → index_of t ≡ index_of s → length f.values ≡ 5 → is_none (get_or f.values (index_of s) None) ≡ b →
+twice : (f : Filled) (s t : Switch) (n m : ℕ) (b : Bool) → index_of t ≡ index_of s → length f.values ≡ 6 → is_none (get_or f.values (index_of s) None) ≡ b →
     and_added (switch t m) (added f (switch s n)) ≡ None
 unfolding and_added
 twice f s t n m true same all_slots e =
@@ -133,7 +134,7 @@ apart f s t n m false true other e1 e2 =
     rw (e1, e2) (rw (get_or-set_other f.values (index_of t) (index_of s) (Some m) None (λ e. other (sym e))) (rw e1 refl))
 apart f s t n m false false other e1 e2 = rw (e1, e2) refl
 
-exchanged : (f : Filled) (s : Switch) (n : ℕ) (argument : Argument) → length f.values ≡ 5 →
+exchanged : (f : Filled) (s : Switch) (n : ℕ) (argument : Argument) → length f.values ≡ 6 →
     and_added argument (added f (switch s n)) ≡ and_added (switch s n) (added f argument)
 exchanged f s n (place word) all_slots = with_place f s n word _ _ refl refl
 exchanged f s n (switch t m) all_slots = at (eqb (index_of t) (index_of s)) refl
@@ -151,9 +152,9 @@ exchanged f s n (switch t m) all_slots = at (eqb (index_of t) (index_of s)) refl
 
 abbrev HasAll : Option Filled → Type 0
 HasAll None = Unit {0}
-HasAll (Some f) = length f.values ≡ 5
+HasAll (Some f) = length f.values ≡ 6
 
-added_all : (f : Filled) (argument : Argument) → length f.values ≡ 5 → HasAll (added f argument)
+added_all : (f : Filled) (argument : Argument) → length f.values ≡ 6 → HasAll (added f argument)
 added_all f (place word) all_slots = at (ltb (length f.words) 3)
   where
     at : (b : Bool) → HasAll (cond b (Some (record f { words = f.words ++ word ∷ [] })) None)

@@ -16,9 +16,9 @@ use Rattle.y86_base.specs.declared.parts.Variant.{Variant}
 use Rattle.y86_base.specs.declared.parts.Variant.TheVariants.{Base}
 use Rattle.y86_base.specs.declared.parts.Variant.TheVariants as variant
 use Rattle.y86_words.specs.declared.option.Switch.{Switch}
-use Rattle.y86_words.specs.declared.option.Switch.TheVariants.{Full, Mem, Limit, Trace, Checked}
+use Rattle.y86_words.specs.declared.option.Switch.TheVariants.{Full, Mem, Limit, Trace, Checked, Cert}
 use Rattle.y86_words.specs.Arguments.{Argument, place, switch, arguments, in_front, index_of, Filled, nothing_filled, all_added, is_option}
-use Rattle.y86_words.specs.Forms.{Command, yas, yis, hcl, ssim, ssimp, psim, check_seq, check_plus, check_pipe, Form, forms, fits, made, first_fit, form_of, sample, most_drawn, most_seed, aig, aigrun, big, most_instructions}
+use Rattle.y86_words.specs.Forms.{Command, yas, yis, hcl, ssim, ssimp, psim, check_seq, check_plus, check_pipe, certify_pipe, recheck, Form, forms, fits, made, first_fit, form_of, sample, most_drawn, most_seed, aig, aigrun, big, most_instructions}
 use Rattle.y86_words.specs.Numbers.{is_number, number_of, number_that, is_run_limit, number_within}
 use Rattle.y86_words.specs.Wording.{IsFileName, IsRunLimit, IsLegal, trace_words, checked_words, variant_words, words_of, places_of, numbers_of, IsFound, HasForm}
 use Rattle.y86_words.proofs.Arguments.{place_read, switch_read}
@@ -121,6 +121,11 @@ run_read true false variant.Full = refl
 run_read true true variant.Base = refl
 run_read true true variant.Full = refl
 
+cert_read : (v : Variant) → arguments (codes "--cert" ∷ variant_words v) ≡ Some (switch Cert 0 ∷ variant_arguments v)
+unfolding arguments variant_arguments
+cert_read variant.Base = refl
+cert_read variant.Full = refl
+
 pub legal_written : (command : Command) → IsLegal command → form_of (words_of command) ≡ Some command
 unfolding form_of first_fit variant_arguments trace_arguments checked_arguments run_arguments
 legal_written (yas source size variant.Base) legal = rw (file_arguments source _ legal.0, size_arguments size _ legal.1, variant_read variant.Base) refl
@@ -160,6 +165,10 @@ legal_written (check_plus file variant.Base) legal = rw (plus_arguments _, file_
 legal_written (check_plus file variant.Full) legal = rw (plus_arguments _, file_arguments file _ legal, variant_read variant.Full) refl
 legal_written (check_pipe file variant.Base) legal = rw (pipe_arguments _, file_arguments file _ legal, variant_read variant.Base) refl
 legal_written (check_pipe file variant.Full) legal = rw (pipe_arguments _, file_arguments file _ legal, variant_read variant.Full) refl
+legal_written (certify_pipe file variant.Base) legal = rw (pipe_arguments _, file_arguments file _ legal, cert_read variant.Base) refl
+legal_written (certify_pipe file variant.Full) legal = rw (pipe_arguments _, file_arguments file _ legal, cert_read variant.Full) refl
+legal_written (recheck file cert variant.Base) legal = rw (file_arguments file _ legal.0, file_arguments cert _ legal.1, variant_read variant.Base) refl
+legal_written (recheck file cert variant.Full) legal = rw (file_arguments file _ legal.0, file_arguments cert _ legal.1, variant_read variant.Full) refl
 legal_written (sample file seed count variant.Base) legal =
     let small : seed < 2 ^ 64 = omega (arith, legal.1) in
     let few : count < 2 ^ 64 = omega (arith, legal.2) in
@@ -189,12 +198,13 @@ defaults_hold file name = (rw (file_arguments file [] name, no_arguments) refl, 
 
 -- ---- words that are a command
 
-index_below : (s : Switch) → index_of s < 5
+index_below : (s : Switch) → index_of s < 6
 index_below Full = omega arith
 index_below Mem = omega arith
 index_below Limit = omega arith
 index_below Trace = omega arith
 index_below Checked = omega arith
+index_below Cert = omega arith
 
 -- what is found after more arguments
 pub record Grows (f g : Filled) (more : List Argument) : Type 0 where
@@ -205,7 +215,7 @@ none_added : (rest : List Argument) (g : Filled) → all_added None rest ≡ Som
 none_added [] g e = absurd (cc (e))
 none_added (argument ∷ rest) g e = none_added rest g e
 
-slot_after : (values : List (Option ℕ)) (s t : Switch) (n : ℕ) (more : List ℕ) (b : Bool) → length values ≡ 5 → is_none (get_or values (index_of t) None) ≡ true →
+slot_after : (values : List (Option ℕ)) (s t : Switch) (n : ℕ) (more : List ℕ) (b : Bool) → length values ≡ 6 → is_none (get_or values (index_of t) None) ≡ true →
     eqb (index_of s) (index_of t) ≡ b →
     option_to_list (get_or values (index_of s) None) ++ cond b (n ∷ more) more ≡ option_to_list (get_or (set values (index_of t) (Some n)) (index_of s) None) ++ more
 slot_after values s t n more true all_slots empty e =
@@ -225,14 +235,14 @@ slot_after values s t n more false all_slots empty e =
 grows_first : (f g : Filled) (w : List ℕ) (rest : List Argument) → Grows (record f { words = f.words ++ (w ∷ []) }) g rest → Grows f g (place w ∷ rest)
 grows_first f g w rest h = record { words = sym (append_assoc f.words (w ∷ []) (places_of rest)) ∙ h.words; numbers = h.numbers }
 
-grows_switch : (f g : Filled) (t : Switch) (n : ℕ) (rest : List Argument) → length f.values ≡ 5 → is_none (get_or f.values (index_of t) None) ≡ true →
+grows_switch : (f g : Filled) (t : Switch) (n : ℕ) (rest : List Argument) → length f.values ≡ 6 → is_none (get_or f.values (index_of t) None) ≡ true →
     Grows (record f { values = set f.values (index_of t) (Some n) }) g rest → Grows f g (switch t n ∷ rest)
 grows_switch f g t n rest all_slots empty h = record {
   words = h.words;
   numbers = λ s. slot_after f.values s t n (numbers_of s rest) (eqb (index_of s) (index_of t)) all_slots empty refl ∙ h.numbers s;
 }
 
-grows : (more : List Argument) (f g : Filled) → length f.values ≡ 5 → all_added (Some f) more ≡ Some g → Grows f g more
+grows : (more : List Argument) (f g : Filled) → length f.values ≡ 6 → all_added (Some f) more ≡ Some g → Grows f g more
 grows [] f g all_slots e =
     let same : f ≡ g = cc (e) in
     let P : Filled → Type 0 = λ x. Grows f x [] in
@@ -259,6 +269,7 @@ nothing_at Mem = refl
 nothing_at Limit = refl
 nothing_at Trace = refl
 nothing_at Checked = refl
+nothing_at Cert = refl
 
 all_found : (found : List Argument) (f : Filled) → all_added (Some nothing_filled) found ≡ Some f → IsFound found f
 all_found found f e =

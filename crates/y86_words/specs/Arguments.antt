@@ -6,7 +6,7 @@ use Rattle.std.specs.Str.{bytes_eq}
 use Rattle.y86_base.specs.Image.{is_image_size}
 use Rattle.y86_words.specs.Numbers.{number_that, is_run_limit}
 use Rattle.y86_words.specs.declared.option.Switch.{Switch}
-use Rattle.y86_words.specs.declared.option.Switch.TheVariants.{Full, Mem, Limit, Trace, Checked}
+use Rattle.y86_words.specs.declared.option.Switch.TheVariants.{Full, Mem, Limit, Trace, Checked, Cert}
 
 -- ---- the options
 
@@ -16,6 +16,7 @@ index_of Mem = 1
 index_of Limit = 2
 index_of Trace = 3
 index_of Checked = 4
+index_of Cert = 5
 
 -- the numbers that an option takes, or none where it takes no number
 abbrev pub takes : Switch → Option (ℕ → Bool)
@@ -24,6 +25,7 @@ takes Mem = Some is_image_size
 takes Limit = Some is_run_limit
 takes Trace = None
 takes Checked = None
+takes Cert = None
 
 -- the option that a word is
 abbrev pub switch_of : List ℕ → Option Switch
@@ -33,7 +35,8 @@ switch_of word =
     else (if bytes_eq word (codes "--limit") then Some Limit
     else (if bytes_eq word (codes "--trace") then Some Trace
     else (if bytes_eq word (codes "--checked") then Some Checked
-    else None))))
+    else (if bytes_eq word (codes "--cert") then Some Cert
+    else None)))))
 
 -- ---- the arguments
 
@@ -100,7 +103,7 @@ pub record Filled : Type 0 where
   pub values : List (Option ℕ)
 
 abbrev pub nothing_filled : Filled
-nothing_filled = record { words = []; values = None ∷ None ∷ None ∷ None ∷ None ∷ [] }
+nothing_filled = record { words = []; values = None ∷ None ∷ None ∷ None ∷ None ∷ None ∷ [] }
 
 -- one more argument: no form has more than three places, and no option stands twice
 abbrev pub added : Filled → Argument → Option Filled

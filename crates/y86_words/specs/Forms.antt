@@ -9,9 +9,9 @@ use Rattle.y86_base.specs.declared.parts.Variant.TheVariants as variant
 use Rattle.y86_words.specs.Arguments.{Filled, nothing_filled, index_of, all_added, arguments}
 use Rattle.y86_words.specs.Numbers.{number_within}
 use Rattle.y86_words.specs.declared.option.Switch.{Switch}
-use Rattle.y86_words.specs.declared.option.Switch.TheVariants.{Full, Mem, Limit, Trace, Checked}
+use Rattle.y86_words.specs.declared.option.Switch.TheVariants.{Full, Mem, Limit, Trace, Checked, Cert}
 use Rattle.y86_words.specs.declared.form.Kind.{Kind}
-use Rattle.y86_words.specs.declared.form.Kind.TheVariants.{Yas, Yis, Hcl, Ssim, Ssimp, Psim, CheckSeq, CheckPlus, CheckPipe, Sample, Aig, Aigrun, Big}
+use Rattle.y86_words.specs.declared.form.Kind.TheVariants.{Yas, Yis, Hcl, Ssim, Ssimp, Psim, CheckSeq, CheckPlus, CheckPipe, CertifyPipe, Recheck, Sample, Aig, Aigrun, Big}
 
 -- what a place takes: this word, the name of a file, or a number from a least one to a most one
 pub data Place : Type 0 where
@@ -52,6 +52,9 @@ forms =
     ∷ row CheckSeq (codes "check") (keyword (codes "seq") ∷ file ∷ []) (Full ∷ [])
     ∷ row CheckPlus (codes "check") (keyword (codes "seqplus") ∷ file ∷ []) (Full ∷ [])
     ∷ row CheckPipe (codes "check") (keyword (codes "pipe") ∷ file ∷ []) (Full ∷ [])
+    -- only with `--cert`: without it the words have the form above
+    ∷ row CertifyPipe (codes "check") (keyword (codes "pipe") ∷ file ∷ []) (Full ∷ Cert ∷ [])
+    ∷ row Recheck (codes "recheck") (file ∷ file ∷ []) (Full ∷ [])
     ∷ row Sample (codes "sample") (file ∷ number 0 most_seed ∷ number 0 most_drawn ∷ []) (Full ∷ [])
     ∷ row Aig (codes "aig") (file ∷ []) (Full ∷ [])
     ∷ row Aigrun (codes "aigrun") (file ∷ number 0 most_seed ∷ []) []
@@ -79,7 +82,7 @@ abbrev pub fits : Form → List ℕ → Filled → Bool
 fits form name f =
     bytes_eq name form.name && fits_places form.places f.words
     && (fits_switch form.options f.values Full && fits_switch form.options f.values Mem && fits_switch form.options f.values Limit && fits_switch form.options f.values Trace
-    && fits_switch form.options f.values Checked)
+    && fits_switch form.options f.values Checked && fits_switch form.options f.values Cert)
 
 -- ---- the commands
 
@@ -105,6 +108,10 @@ pub data Command : Type 0 where
   check_plus : List ℕ → Variant → Command
   -- the same of PIPE, for the programs that don't store over their own instructions
   check_pipe : List ℕ → Variant → Command
+  -- the same, with a certificate of a Yes in the place of its line
+  certify_pipe : List ℕ → Variant → Command
+  -- check a certificate of a Yes: the names of the HCL file and of the certificate, the instruction set
+  recheck : List ℕ → List ℕ → Variant → Command
   -- try drawn valuations against the obligations of PIPE: the name of the HCL file, the number that the draws begin with, how many
   -- valuations, the instruction set
   sample : List ℕ → ℕ → ℕ → Variant → Command
@@ -165,6 +172,8 @@ made Psim f =
 made CheckSeq f = option_map (λ file. check_seq file (variant_of f)) (slice_get f.words 1)
 made CheckPlus f = option_map (λ file. check_plus file (variant_of f)) (slice_get f.words 1)
 made CheckPipe f = option_map (λ file. check_pipe file (variant_of f)) (slice_get f.words 1)
+made CertifyPipe f = option_map (λ file. certify_pipe file (variant_of f)) (slice_get f.words 1)
+made Recheck f = option_and_then (λ file. option_map (λ cert. recheck file cert (variant_of f)) (slice_get f.words 1)) (slice_get f.words 0)
 made Sample f =
     option_and_then (λ file. option_and_then (λ seed. option_map (λ count. sample file seed count (variant_of f)) (number_at 0 most_drawn 2 f)) (number_at 0 most_seed 1 f))
     (slice_get f.words 0)

@@ -12,7 +12,7 @@ use Rattle.y86_words.specs.declared.form.Form as code_form
 use Rattle.y86_words.specs.declared.form.Place as code_place
 use Rattle.y86_words.specs.declared.form.Place.TheVariants as code_places
 use Rattle.y86_words.specs.Arguments.{Argument, place, switch, arguments, in_front, Filled}
-use Rattle.y86_words.specs.Forms.{Command, yas, yis, hcl, ssim, ssimp, psim, check_seq, check_plus, check_pipe, Form, Place, keyword, file, number, sample, aig, aigrun, big}
+use Rattle.y86_words.specs.Forms.{Command, yas, yis, hcl, ssim, ssimp, psim, check_seq, check_plus, check_pipe, certify_pipe, recheck, Form, Place, keyword, file, number, sample, aig, aigrun, big}
 
 abbrev pub argument_in : code.Argument → Argument
 argument_in (code_variants.Place word) = place word.now
@@ -55,6 +55,8 @@ command_in (code_commands.Psim name object size limit trace checked v) = psim na
 command_in (code_commands.CheckSeq name v) = check_seq name.now v
 command_in (code_commands.CheckPlus name v) = check_plus name.now v
 command_in (code_commands.CheckPipe name v) = check_pipe name.now v
+command_in (code_commands.CertifyPipe name v) = certify_pipe name.now v
+command_in (code_commands.Recheck name cert v) = recheck name.now cert.now v
 command_in (code_commands.Sample name seed count v) = sample name.now seed count v
 command_in (code_commands.Aig name v) = aig name.now v
 command_in (code_commands.Aigrun name seed) = aigrun name.now seed

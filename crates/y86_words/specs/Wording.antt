@@ -6,7 +6,7 @@ use Rattle.y86_base.specs.Image.{IsSize}
 use Rattle.y86_base.specs.declared.parts.Variant.{Variant}
 use Rattle.y86_base.specs.declared.parts.Variant.TheVariants as variant
 use Rattle.y86_words.specs.Arguments.{Argument, place, switch, Filled, arguments, index_of, is_option}
-use Rattle.y86_words.specs.Forms.{Command, yas, yis, hcl, ssim, ssimp, psim, check_seq, check_plus, check_pipe, Form, forms, fits, made, sample, most_drawn, most_seed, aig, aigrun, big, most_instructions}
+use Rattle.y86_words.specs.Forms.{Command, yas, yis, hcl, ssim, ssimp, psim, check_seq, check_plus, check_pipe, certify_pipe, recheck, Form, forms, fits, made, sample, most_drawn, most_seed, aig, aigrun, big, most_instructions}
 use Rattle.y86_words.specs.declared.option.Switch.{Switch}
 
 -- what may name a file: a word that isn't empty and is no option
@@ -28,6 +28,8 @@ IsLegal (psim file object size limit trace checked v) = IsFileName file × IsFil
 IsLegal (check_seq file v) = IsFileName file
 IsLegal (check_plus file v) = IsFileName file
 IsLegal (check_pipe file v) = IsFileName file
+IsLegal (certify_pipe file v) = IsFileName file
+IsLegal (recheck file cert v) = IsFileName file × IsFileName cert
 IsLegal (sample file seed count v) = IsFileName file × (seed ≤ most_seed) × (count ≤ most_drawn)
 IsLegal (aig file v) = IsFileName file
 IsLegal (aigrun file seed) = IsFileName file × (seed ≤ most_seed)
@@ -60,6 +62,8 @@ words_of (psim file object size limit trace checked v) =
 words_of (check_seq file v) = codes "check" ∷ codes "seq" ∷ file ∷ variant_words v
 words_of (check_plus file v) = codes "check" ∷ codes "seqplus" ∷ file ∷ variant_words v
 words_of (check_pipe file v) = codes "check" ∷ codes "pipe" ∷ file ∷ variant_words v
+words_of (certify_pipe file v) = codes "check" ∷ codes "pipe" ∷ file ∷ codes "--cert" ∷ variant_words v
+words_of (recheck file cert v) = codes "recheck" ∷ file ∷ cert ∷ variant_words v
 words_of (sample file seed count v) = codes "sample" ∷ file ∷ decimal seed ∷ decimal count ∷ variant_words v
 words_of (aig file v) = codes "aig" ∷ file ∷ variant_words v
 words_of (aigrun file seed) = codes "aigrun" ∷ file ∷ decimal seed ∷ []

@@ -46,7 +46,7 @@ fn first_argument<'a>(word: &'a str, behind: &'a [String]) -> Option<(Argument<'
 #[derive(Drop)]
 pub struct Found<'a> {
     pub words: ArrayVec<&'a str, 3>,
-    pub values: [Option<u64>; 5],
+    pub values: [Option<u64>; 6],
 }
 
 /// What was found and one more argument, where its place or option isn't taken yet.
@@ -79,7 +79,7 @@ pub fn found_in<'a>(words: &'a [String]) -> Option<Found<'a>>
 {
     let mut found = Found {
         words: ArrayVec::new(),
-        values: [None, None, None, None, None],
+        values: [None, None, None, None, None, None],
     };
     let mut left = words;
     'words: while let Some((word, behind)) = left.split_first() {

@@ -74,6 +74,17 @@ pub enum Cmd<'a> {
         hcl: &'a str,
         variant: Variant,
     },
+    /// Decides the same, and writes a certificate of a Yes.
+    CertifyPipe {
+        hcl: &'a str,
+        variant: Variant,
+    },
+    /// Checks a certificate of a Yes, without a decision of its own.
+    Recheck {
+        hcl: &'a str,
+        cert: &'a str,
+        variant: Variant,
+    },
     /// Tries `count` drawn valuations against the obligations of PIPE.
     Sample {
         hcl: &'a str,

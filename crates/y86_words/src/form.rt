@@ -50,6 +50,8 @@ pub enum Kind {
     CheckSeq,
     CheckPlus,
     CheckPipe,
+    CertifyPipe,
+    Recheck,
     Sample,
     Aig,
     Aigrun,
@@ -67,7 +69,7 @@ struct Form {
 }
 
 /// The table of the commands.
-static FORMS: [Form; 13] = [
+static FORMS: [Form; 15] = [
     Form {
         kind: Kind::Yas,
         name: "yas",
@@ -126,6 +128,19 @@ static FORMS: [Form; 13] = [
         kind: Kind::CheckPipe,
         name: "check",
         places: &[Place::Keyword("pipe"), Place::File],
+        options: &[Switch::Full],
+    },
+    // Only with `--cert`: without it the words have the form above.
+    Form {
+        kind: Kind::CertifyPipe,
+        name: "check",
+        places: &[Place::Keyword("pipe"), Place::File],
+        options: &[Switch::Full, Switch::Cert],
+    },
+    Form {
+        kind: Kind::Recheck,
+        name: "recheck",
+        places: &[Place::File, Place::File],
         options: &[Switch::Full],
     },
     Form {
@@ -215,7 +230,8 @@ fn fits(form: &Form, name: &str, found: &Found<'_>) -> bool
             && fits_switch(form.options, found, Switch::Mem)
             && fits_switch(form.options, found, Switch::Limit)
             && fits_switch(form.options, found, Switch::Trace)
-            && fits_switch(form.options, found, Switch::Checked))
+            && fits_switch(form.options, found, Switch::Checked)
+            && fits_switch(form.options, found, Switch::Cert))
 }
 
 /// The instruction set of a command: with `iaddq` where `--full` is there.
@@ -294,6 +310,15 @@ fn made<'a>(kind: Kind, found: &Found<'a>) -> Option<Cmd<'a>>
         }),
         Kind::CheckPipe => Some(Cmd::CheckPipe {
             hcl: *words.get(1)?,
+            variant,
+        }),
+        Kind::CertifyPipe => Some(Cmd::CertifyPipe {
+            hcl: *words.get(1)?,
+            variant,
+        }),
+        Kind::Recheck => Some(Cmd::Recheck {
+            hcl: *words.get(0)?,
+            cert: *words.get(1)?,
             variant,
         }),
         Kind::Sample => Some(Cmd::Sample {

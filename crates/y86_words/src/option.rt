@@ -18,12 +18,14 @@ pub enum Switch {
     Trace,
     /// `--checked`: the control logic is checked before the run.
     Checked,
+    /// `--cert`: a Yes is written as a certificate.
+    Cert,
 }
 
 /// Where the number of an option is kept.
 pub fn index_of(switch: Switch) -> usize
     ensures index { result ≡ spec.index_of switch }
-    ensures below { result ≤ 4 }
+    ensures below { result ≤ 5 }
 {
     match switch {
         Switch::Full => 0,
@@ -31,6 +33,7 @@ pub fn index_of(switch: Switch) -> usize
         Switch::Limit => 2,
         Switch::Trace => 3,
         Switch::Checked => 4,
+        Switch::Cert => 5,
     }
 }
 
@@ -53,6 +56,9 @@ pub fn switch_of(word: &str) -> Option<Switch>
     if word == "--checked" {
         return Some(Switch::Checked);
     }
+    if word == "--cert" {
+        return Some(Switch::Cert);
+    }
     None
 }
 
@@ -61,7 +67,7 @@ pub fn takes_number(switch: Switch) -> bool
     ensures { result ≡ is_some (spec.takes switch) }
 {
     match switch {
-        Switch::Full | Switch::Trace | Switch::Checked => false,
+        Switch::Full | Switch::Trace | Switch::Checked | Switch::Cert => false,
         Switch::Mem | Switch::Limit => true,
     }
 }
@@ -71,7 +77,7 @@ pub fn number_for(switch: Switch, word: &[u8]) -> Option<u64>
     ensures { result ≡ option_and_then (λ passes. number_that passes word.now) (spec.takes switch) }
 {
     match switch {
-        Switch::Full | Switch::Trace | Switch::Checked => None,
+        Switch::Full | Switch::Trace | Switch::Checked | Switch::Cert => None,
         Switch::Mem => image_size(word),
         Switch::Limit => number_within(word, 1, 100_000_000),
     }

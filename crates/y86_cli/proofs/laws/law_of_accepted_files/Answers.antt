@@ -1,4 +1,5 @@
 use Rattle.y86_cli.proofs.Agreement.{accepting_plus_words, accepting_words, accepting_seq_words, agreeing_words}
+use Rattle.y86_cli.proofs.Certified.{certifying_words, rechecking_words}
 use Rattle.y86_cli.proofs.laws.law_of_accepted_files.Goals as goal
 
 pub returns-clause-check_seq : goal.returns-clause-check_seq
@@ -9,6 +10,12 @@ returns-clause-check_plus c = accepting_plus_words
 
 pub returns-clause-check_pipe : goal.returns-clause-check_pipe
 returns-clause-check_pipe c = accepting_words
+
+pub returns-clause-certify_pipe : goal.returns-clause-certify_pipe
+returns-clause-certify_pipe c = certifying_words
+
+pub returns-clause-recheck : goal.returns-clause-recheck
+returns-clause-recheck c = rechecking_words
 
 pub returns-clause-psim : goal.returns-clause-psim
 returns-clause-psim c = agreeing_words

@@ -1,4 +1,4 @@
-use Rattle.std.proofs.Common.{ap, length, arith}
+use Rattle.std.proofs.Common.{arith}
 use Rattle.y86_cli.proofs.Samples.{sampled}
 use Rattle.y86_cli.proofs.sample.sampled.Goals as goal
 

@@ -1,0 +1,91 @@
+//! `check pipe` with `--cert`: the verdict on the design of an HCL file, with a certificate of a Yes.
+ghost use Rattle.std.specs.Prelude.{◌≡◌, ◌⊎◌, IfErr, IfOk, List, ℕ};
+ghost use Rattle.dp_signals.specs.PipeTable.{pipe_rows};
+ghost use Rattle.hcl_types.specs.Tables.{IsBound, IsOrderOf};
+ghost use Rattle.y86_cli.specs.Answers.{certify_pipe_plan};
+ghost use Rattle.y86_cli.specs.Certified.{CertifiesOrDenies, PipeCertifies};
+ghost use Rattle.y86_cli.specs.Checks.{RefusesControl};
+ghost use Rattle.y86_cli.specs.Does.{Does, NoReadFailed, Says, files_seen, sink_seen};
+ghost use Rattle.y86_cli.specs.Stops.{answer_at, status_of};
+ghost use Rattle.y86_cli.specs.declared.stop.Stop.TheVariants.{Memory as WantOfMemory};
+
+use crate::design::{Ordered, pipe_design};
+use crate::saying::say;
+use crate::stages::{HCL_LIMIT, read_file};
+use crate::stop::Stop;
+use crate::verdict::{Decided, PipeText, pipe_decision};
+use cert_log::certify;
+use std::alloc::Global;
+use wb_io::{Files, Sink};
+use y86_base::Variant;
+
+/// Decides a design for PIPE, and gives a certificate of a Yes, or the text of a No.
+#[tactic(auto, using(crate::proofs::Certified::meets, crate::proofs::Certified::certified))]
+fn certificate<'a>(
+    alloc: Global,
+    name: &'a str,
+    variant: Variant,
+    ordered: &Ordered,
+) -> Result<PipeText, Stop<'a>>
+    requires bound { IsBound pipe_rows ordered.now.design.terms }
+    requires order { IsOrderOf pipe_rows ordered.now.design.terms ordered.now.order.ids }
+    ensures text { IfOk result (CertifiesOrDenies variant ordered.now.design.terms) }
+    ensures refused { IfErr result (λ stop. (stop ≡ WantOfMemory) ⊎ ((status_of stop ≡ 5) × RefusesControl name.now pipe_rows ordered.now.design.terms (answer_at stop))) }
+{
+    match pipe_decision(alloc, name, variant, ordered) {
+        Ok(Decided::Yes(settings)) => {
+            match certify(alloc, variant, &ordered.design, &ordered.order, settings) {
+                Ok(text) => Ok(PipeText::Yes(text)),
+                Err(_) => Err(Stop::Memory),
+            }
+        }
+        Ok(Decided::No(text)) => Ok(PipeText::No(text)),
+        Err(stop) => Err(stop),
+    }
+}
+
+/// Decides a design for PIPE, and writes a certificate of a Yes, or a No.
+#[tactic(auto, using(crate::proofs::Certified::said_certificate, crate::proofs::Certified::said_no, crate::proofs::Certified::said_refusal))]
+fn say_certificate<'a, O: Sink>(
+    alloc: Global,
+    name: &'a str,
+    variant: Variant,
+    ordered: &Ordered,
+    out: &mut O,
+) -> Result<u8, Stop<'a>>
+    requires bound { IsBound pipe_rows ordered.now.design.terms }
+    requires order { IsOrderOf pipe_rows ordered.now.design.terms ordered.now.order.ids }
+    ensures { Says (PipeCertifies name.now variant ordered.now.design.terms)
+        (sink_seen (O.taken out.old) (O.faults out.old)) (sink_seen (O.taken out.new) (O.faults out.new)) result }
+{
+    match certificate(alloc, name, variant, ordered) {
+        Ok(PipeText::Yes(text)) => say(0, text.as_slice(), out),
+        Ok(PipeText::No(text)) => say(1, text.as_slice(), out),
+        Err(stop) => Err(stop),
+    }
+}
+
+/// `check pipe` with `--cert`: decides whether PIPE under an HCL file does what its instructions mean, for every program
+/// that doesn't store over its own instructions, and writes a certificate of a Yes.
+pub fn certify_pipe_file<'a, F: Files, O: Sink>(
+    alloc: Global,
+    name: &'a str,
+    variant: Variant,
+    files: &mut F,
+    out: &mut O,
+) -> Result<u8, Stop<'a>>
+    ensures does { Does (certify_pipe_plan name.now variant)
+        (files_seen (F.told files.old) (F.faults files.old)) (files_seen (F.told files.new) (F.faults files.new))
+        (sink_seen (O.taken out.old) (O.faults out.old)) (sink_seen (O.taken out.new) (O.faults out.new)) result }
+    ensures no_read_failed { NoReadFailed (files_seen (F.told files.old) (F.faults files.old)) (files_seen (F.told files.new) (F.faults files.new)) result }
+{
+    let source = match read_file(alloc, name, HCL_LIMIT, files) {
+        Ok(source) => source,
+        Err(stop) => return Err(stop),
+    };
+    let ordered = match pipe_design(alloc, name, source.as_slice()) {
+        Ok(ordered) => ordered,
+        Err(stop) => return Err(stop),
+    };
+    say_certificate(alloc, name, variant, &ordered, out)
+}

@@ -1,0 +1,150 @@
+//! `recheck`: the check of a certificate of the design of an HCL file.
+ghost use Rattle.std.specs.Prelude.{◌≡◌, List, ℕ};
+ghost use Rattle.ctl_atoms.specs.Atoms.{AreAtoms};
+ghost use Rattle.dp_signals.specs.PipeTable.{pipe_rows};
+ghost use Rattle.hcl_types.specs.Tables.{IsBound, IsOrderOf};
+ghost use Rattle.cert_log.specs.Files.{HasAtoms};
+ghost use Rattle.y86_cli.specs.Answers.{certificate_plan, recheck_plan};
+ghost use Rattle.y86_cli.specs.Certified.{Rechecks, TellsCert, cert_reason};
+ghost use Rattle.y86_cli.specs.Checks.{RefusesControl};
+ghost use Rattle.y86_cli.specs.Does.{Does, GivesOne, NoReadFailed, Says, files_seen, sink_seen};
+
+use crate::design::{Ordered, pipe_design};
+use crate::saying::say;
+use crate::stages::{HCL_LIMIT, read_file};
+use crate::stop::{Refusal, Stop};
+use crate::verdict::control_stop;
+use cert_log::{CertError, CertWhy, holds, recheck_file};
+use ctl_atoms::{Atom, CtlFault, atoms};
+use dp_signals::{law_of_tables, pipe_table};
+use std::alloc::Global;
+use wb_io::{Files, Sink};
+use y86_base::Variant;
+
+/// The most bytes that a certificate has.
+const CERT_LIMIT: u64 = 536_870_912;
+
+/// The name of a certificate's reason.
+fn cert_why(why: CertWhy) -> &'static [u8]
+    ensures { result.now ≡ cert_reason why }
+{
+    match why {
+        CertWhy::Syntax => b"Syntax",
+        CertWhy::Number => b"Number",
+        CertWhy::Claim => b"Claim",
+        CertWhy::Gate => b"Gate",
+        CertWhy::Missing => b"Missing",
+        CertWhy::Rule => b"Rule",
+    }
+}
+
+/// The stop at a text that is no certificate.
+fn cert_stop<'a>(name: &'a str, error: CertError) -> Stop<'a>
+    ensures { TellsCert name.now error result }
+{
+    match error {
+        CertError::Cert(fault) => Stop::Refused(
+            name,
+            Refusal::AtLine {
+                line: fault.line,
+                why: cert_why(fault.why),
+            },
+        ),
+        CertError::Memory => Stop::Memory,
+    }
+}
+
+/// The atoms of a design for PIPE, if it has control values.
+#[tactic(auto, using(crate::proofs::Certified::has_atoms))]
+fn pipe_atoms<'a>(alloc: Global, name: &'a str, ordered: &Ordered) -> Result<Vec<Atom>, Stop<'a>>
+    requires bound { IsBound pipe_rows ordered.now.design.terms }
+    requires order { IsOrderOf pipe_rows ordered.now.design.terms ordered.now.order.ids }
+    ensures { GivesOne (AreAtoms pipe_rows ordered.now.design.terms) (RefusesControl name.now pipe_rows ordered.now.design.terms) (λ list. list.items) result }
+{
+    law_of_tables();
+    let Ok(table) = pipe_table(alloc) else {
+        return Err(Stop::Memory);
+    };
+    match atoms(alloc, &ordered.design, &table, &ordered.order) {
+        Ok(list) => Ok(list),
+        Err(CtlFault::Memory) => Err(Stop::Memory),
+        Err(fault) => Err(control_stop(alloc, name, table.rows.items(), fault)),
+    }
+}
+
+/// Checks a text as a certificate of a design, and tells its settings.
+#[tactic(auto, using(crate::proofs::Certified::said_holds, crate::proofs::Certified::said_cert_refusal))]
+fn say_recheck<'a, O: Sink>(
+    alloc: Global,
+    cert: &'a str,
+    variant: Variant,
+    ordered: &Ordered,
+    text: &[u8],
+    out: &mut O,
+) -> Result<u8, Stop<'a>>
+    requires bound { IsBound pipe_rows ordered.now.design.terms }
+    requires order { IsOrderOf pipe_rows ordered.now.design.terms ordered.now.order.ids }
+    requires atoms { HasAtoms ordered.now.design.terms }
+    ensures { Says (Rechecks cert.now variant ordered.now.design.terms text.now)
+        (sink_seen (O.taken out.old) (O.faults out.old)) (sink_seen (O.taken out.new) (O.faults out.new)) result }
+{
+    match recheck_file(alloc, variant, &ordered.design, &ordered.order, text) {
+        Ok(settings) => match holds(alloc, &settings) {
+            Ok(line) => say(0, line.as_slice(), out),
+            Err(_) => Err(Stop::Memory),
+        },
+        Err(error) => Err(cert_stop(cert, error)),
+    }
+}
+
+/// Reads a certificate, and checks it.
+fn recheck_text<'a, F: Files, O: Sink>(
+    alloc: Global,
+    cert: &'a str,
+    variant: Variant,
+    ordered: &Ordered,
+    files: &mut F,
+    out: &mut O,
+) -> Result<u8, Stop<'a>>
+    requires bound { IsBound pipe_rows ordered.now.design.terms }
+    requires order { IsOrderOf pipe_rows ordered.now.design.terms ordered.now.order.ids }
+    requires atoms { HasAtoms ordered.now.design.terms }
+    ensures does { Does (certificate_plan cert.now variant ordered.now.design.terms)
+        (files_seen (F.told files.old) (F.faults files.old)) (files_seen (F.told files.new) (F.faults files.new))
+        (sink_seen (O.taken out.old) (O.faults out.old)) (sink_seen (O.taken out.new) (O.faults out.new)) result }
+    ensures no_read_failed { NoReadFailed (files_seen (F.told files.old) (F.faults files.old)) (files_seen (F.told files.new) (F.faults files.new)) result }
+{
+    let text = match read_file(alloc, cert, CERT_LIMIT, files) {
+        Ok(text) => text,
+        Err(stop) => return Err(stop),
+    };
+    say_recheck(alloc, cert, variant, ordered, text.as_slice(), out)
+}
+
+/// `recheck`: checks a certificate of the design of an HCL file, without a decision of its own.
+pub fn recheck<'a, F: Files, O: Sink>(
+    alloc: Global,
+    name: &'a str,
+    cert: &'a str,
+    variant: Variant,
+    files: &mut F,
+    out: &mut O,
+) -> Result<u8, Stop<'a>>
+    ensures does { Does (recheck_plan name.now cert.now variant)
+        (files_seen (F.told files.old) (F.faults files.old)) (files_seen (F.told files.new) (F.faults files.new))
+        (sink_seen (O.taken out.old) (O.faults out.old)) (sink_seen (O.taken out.new) (O.faults out.new)) result }
+    ensures no_read_failed { NoReadFailed (files_seen (F.told files.old) (F.faults files.old)) (files_seen (F.told files.new) (F.faults files.new)) result }
+{
+    let source = match read_file(alloc, name, HCL_LIMIT, files) {
+        Ok(source) => source,
+        Err(stop) => return Err(stop),
+    };
+    let ordered = match pipe_design(alloc, name, source.as_slice()) {
+        Ok(ordered) => ordered,
+        Err(stop) => return Err(stop),
+    };
+    match pipe_atoms(alloc, name, &ordered) {
+        Ok(_) => recheck_text(alloc, cert, variant, &ordered, files, out),
+        Err(stop) => Err(stop),
+    }
+}
