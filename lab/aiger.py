@@ -222,9 +222,9 @@ def confirm(program, name, path, full, solvers):
             values = aag.values(bits)
             more, variables = below(aag, bits)
             fewer = [solve_cnf(s, dimacs(clauses(aag, wanted) + more, variables), folder) for s in solvers if s in ("cadical", "minisat", "z3")]
-            fine = values[wanted] and not any(values[:wanted]) and fewer and not any(fewer)
+            fine = values[wanted] and not any(values[:wanted]) and not any(fewer)
             good &= bool(fine)
-            least = f"model, and the least ({len(fewer)} solvers)" if fine else "NO LEAST MODEL"
+            least = ("a model, and the least" if fewer else "a model") if fine else "NOT THE LEAST MODEL"
     return f"| `{name}` | {said[0]} | {'; '.join(seen)} | {least} |", good
 
 
@@ -289,6 +289,13 @@ def main(arguments):
         print(f"lab aig: {fault}", file=sys.stderr)
         return 2
     if len(arguments) > 2 and arguments[0] == "confirm":
-        return confirm_all(arguments[1:])
+        try:
+            return confirm_all(arguments[1:])
+        except StopIteration:
+            print("lab aig: an option lacks its word", file=sys.stderr)
+            return 2
+        except (OSError, RuntimeError, subprocess.TimeoutExpired) as fault:
+            print(f"lab aig: {fault}", file=sys.stderr)
+            return 2
     print(USAGE, file=sys.stderr)
     return 2
