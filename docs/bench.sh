@@ -66,6 +66,8 @@ for machine in "ssim seq" "psim std"; do
     echo "| \`$command $design\`, 2,000,000 cycles of the same loop | $seconds s, $(awk "BEGIN { printf \"%.2f\", 2 / $seconds }") million cycles a second |"
 done
 
+echo "| \`big 100000 std.hcl\`: $("$here/y86" big 100000 "$here/examples/std.hcl" | awk '{ print $4 " steps and " $6 " cycles" }'), on images of 1 MB | $(fastest big 100000 "$here/examples/std.hcl") s |"
+
 # A row of the table: a line for the program of measures of diagrams, which stands where the gate built it.
 diagrams() {
     [ -x "$here/crates/bdd_bench/out/bdd_bench" ] || return
