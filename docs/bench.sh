@@ -91,6 +91,18 @@ signals() {
     echo "| \`signal_bench\`, $2.hcl: $(cat "$work/out") | $seconds s, $(awk "BEGIN { printf \"%.2f\", 2 / $seconds }") million cycles a second |"
 }
 
+# A row of the table: a line for the program of measures of lanes, by the processor's time of the fastest of three calls.
+lanes() {
+    [ -x "$here/crates/lane_bench/out/lane_bench" ] || return
+    seconds=$(for _ in 1 2 3; do
+        TIMEFORMAT=%U
+        { time echo "$1" | "$here/crates/lane_bench/out/lane_bench" >"$work/out"; } 2>&1
+    done | sort -n | head -1)
+    echo "| \`lane_bench\`, $(cat "$work/out") | $seconds s, $(awk "BEGIN { printf \"$3\", $2 / $seconds }") |"
+}
+
+lanes "pipe 7 1000000" 1000 "%.0f thousand valuations a second"
+lanes "gates 20000" "20000 * 512 * 5651 / 1000000" "%.0f million gates a second, one of 512 valuations counted as 512"
 signals "ssim walked" seq
 signals "ssim compiled" seq
 signals "psim walked" std
