@@ -50,6 +50,7 @@ CALLS = [
     "check pipe std.hcl",
     "check pipe both.hcl",
     "sample std.hcl 7 512",
+    "aig std.hcl",
 ]
 # So many calls in a row that end as with ample memory are behind the last request.
 BEHIND = 50
