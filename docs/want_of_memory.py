@@ -82,17 +82,23 @@ class Refusing:
         return wrong
 
 
+def built(folder, shim):
+    """The library of a shim, to be loaded before the C library."""
+    source, library = os.path.join(folder, "shim.c"), os.path.join(folder, "shim.so")
+    with open(source, "w", encoding="utf-8") as file:
+        file.write(shim)
+    subprocess.run([os.environ.get("CC", "cc"), "-shared", "-fPIC", "-o", library, source, "-ldl"], check=True)
+    return library
+
+
 def main():
     if len(sys.argv) < 2:
         sys.exit(__doc__)
     calls = [sys.argv[2:]] if len(sys.argv) > 2 else [words.split() for words in CALLS]
     with tempfile.TemporaryDirectory() as folder:
-        source, library = os.path.join(folder, "refuse.c"), os.path.join(folder, "refuse.so")
-        with open(source, "w", encoding="utf-8") as file:
-            file.write(SHIM)
-        subprocess.run([os.environ.get("CC", "cc"), "-shared", "-fPIC", "-o", library, source, "-ldl"], check=True)
-        refusing = Refusing(os.path.abspath(sys.argv[1]), library)
+        refusing = Refusing(os.path.abspath(sys.argv[1]), built(folder, SHIM))
         sys.exit(sum(refusing.sweep(words) for words in calls) > 0)
 
 
-main()
+if __name__ == "__main__":
+    main()
