@@ -12,8 +12,6 @@ mod number;
 mod numeral;
 mod parts;
 mod registers;
-#[cfg(test)]
-mod tests;
 mod text;
 mod words;
 

@@ -10,8 +10,6 @@ mod laws;
 mod machine;
 mod stages;
 mod table;
-#[cfg(test)]
-mod tests;
 mod unit;
 mod work;
 

@@ -17,8 +17,6 @@ mod passes;
 mod reader;
 mod statement;
 mod tables;
-#[cfg(test)]
-mod tests;
 mod used;
 
 pub use assembler::assemble;

@@ -6,8 +6,6 @@ mod lines;
 mod outcome;
 mod printer;
 mod stepping;
-#[cfg(test)]
-mod tests;
 
 pub use laws::law_of_report;
 pub use lines::flag;

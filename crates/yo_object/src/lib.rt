@@ -5,8 +5,6 @@ mod laws;
 mod line;
 mod object;
 mod printer;
-#[cfg(test)]
-mod tests;
 
 pub use laws::{law_of_lines, law_of_loads, law_of_printing};
 pub use object::{YoFault, YoWhy, load};

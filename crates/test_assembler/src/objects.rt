@@ -1,7 +1,8 @@
-use crate::{YoFault, YoWhy, load, print};
+//! Object text that is printed and read back, and each reason of a refusal.
 use std::test::Fail;
 use y86_base::Variant;
 use yas_asm::assemble;
+use yo_object::{YoFault, YoWhy, load, print};
 
 /// A source, its object text, and the bytes of its image of `size` bytes that aren't 0, by address.
 struct Printed {

@@ -1,8 +1,9 @@
-use crate::{End, report, run};
+//! Runs at the level of instructions, and their reports.
 use std::test::Fail;
 use wb_io::{Failed, MemSink};
 use y86_base::{Image, Variant};
 use y86_isa::Machine;
+use yis_run::{End, report, run};
 
 /// A program from address 0 on, the limit of its run, and the report.
 struct Case {

@@ -1,8 +1,9 @@
-use crate::{
+//! Memory images, numbers and texts.
+use std::test::Fail;
+use y86_base::{
     Boxed, Cursor, Image, ImageFault, Items, Numeral, Regs, Stat, after_blanks, decimal_at,
     first_line, is_less, keyword_at, meaning_of, number_in_base, register_names, split_hex,
 };
-use std::test::Fail;
 
 #[test]
 fn images_at_their_edges(rt: HostRuntime) -> Result<(), Fail> {

@@ -1,9 +1,9 @@
 //! Single steps, and instructions with their bytes, against results worked out by hand.
-use crate::{Fetched, Instr, Machine, Rec, Store, encode, split, step, valid};
 use std::alloc::Global;
 use std::process::Abort;
 use std::test::Fail;
 use y86_base::{Flags, Image, Stat, Variant};
+use y86_isa::{Fetched, Instr, Machine, Rec, Store, encode, split, step, valid};
 
 const MAX: u64 = 0xffff_ffff_ffff_ffff;
 /// The least and the greatest number of a word in two's complement.
