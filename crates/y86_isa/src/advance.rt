@@ -1,3 +1,4 @@
+//! One step of a machine, and the record that it gives.
 ghost use Rattle.std.specs.Prelude.{◌≡◌, ◌≢◌, ◌↔◌, IfNone, IsNone};
 ghost use Rattle.y86_isa.specs.Step as spec;
 

@@ -1,3 +1,5 @@
+//! The columns of the instruction table, and its rows.
+
 /// Which register a column of the instruction table names.
 #[derive(Clone, Copy, Debug, PartialEq, Eq)]
 pub enum Field {

@@ -1,3 +1,4 @@
+//! Instructions as their fields, and the bytes that encode them.
 ghost use Rattle.std.specs.Prelude.{◌≡◌, ◌+◌, ◌*◌, ◌≤◌, ◌↔◌, ◌++◌, IsTrue, length};
 ghost use Rattle.std.specs.Int.{to_le_bytes, w64};
 ghost use Rattle.arrayvec.specs.ArrayVec.{array_vec_len};

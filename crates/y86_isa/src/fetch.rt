@@ -1,3 +1,4 @@
+//! Reading an instruction at a PC, and its fields.
 ghost use Rattle.std.specs.Prelude.{◌≡◌, ◌+◌, ◌/◌, ◌%◌, nat_le, nat_lt, length};
 ghost use Rattle.y86_isa.specs.Blocks as blocks;
 ghost use Rattle.y86_isa.specs.Table as table;

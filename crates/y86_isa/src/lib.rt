@@ -8,6 +8,7 @@ mod encoding;
 mod fetch;
 mod laws;
 mod machine;
+mod row_tests;
 mod stages;
 mod table;
 mod unit;
@@ -23,6 +24,10 @@ pub use laws::{
     law_of_work,
 };
 pub use machine::{Machine, Rec, Store};
+pub use row_tests::{
+    accesses, carries_a, carries_p, has_operand_a, is_branch, is_field_b, is_load, is_loaded,
+    is_store, loads_a, stores_a, stores_p,
+};
 pub use stages::{data_error, data_read, data_store, put_store, write_back};
 pub use table::{icode_count, row};
 pub use unit::{AluOut, alu, cond};

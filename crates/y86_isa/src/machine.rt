@@ -1,3 +1,4 @@
+//! The state of a machine that a program sees, and the record of an instruction.
 ghost use Rattle.std.specs.Prelude.{◌≡◌};
 ghost use Rattle.y86_isa.specs.Machine as machine;
 

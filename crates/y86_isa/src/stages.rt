@@ -1,3 +1,4 @@
+//! The stages of an instruction: decode, execute, memory, write back.
 ghost use Rattle.std.specs.Prelude.{◌≡◌};
 ghost use Rattle.y86_isa.specs.Blocks as blocks;
 ghost use Rattle.y86_isa.specs.Work as spec;
@@ -5,6 +6,7 @@ ghost use Rattle.y86_isa.specs.Work as spec;
 use crate::columns::{Access, Field, Row, TermA, TermB};
 use crate::fetch::Fetched;
 use crate::machine::Store;
+use crate::row_tests::{is_load, is_store};
 use crate::table::{NO_REGISTER, STACK_POINTER};
 use crate::unit::{alu, cond};
 use y86_base::{Flags, Image, Regs};
@@ -89,18 +91,6 @@ fn data_word(access: Access, val_a: u64, val_p: u64) -> u64
         Access::StoreP => val_p,
         Access::NoMem | Access::LoadE | Access::LoadA => 0,
     }
-}
-
-fn is_load(access: Access) -> bool
-    ensures { result ≡ blocks.is_load access }
-{
-    matches!(access, Access::LoadE | Access::LoadA)
-}
-
-fn is_store(access: Access) -> bool
-    ensures { result ≡ blocks.is_store access }
-{
-    matches!(access, Access::StoreA | Access::StoreP)
 }
 
 /// Whether a word is to be read or written at an address, and not all of it is inside the memory.

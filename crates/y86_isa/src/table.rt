@@ -1,3 +1,4 @@
+//! The instruction table: the row of each icode.
 ghost use Rattle.std.specs.Prelude.{◌≡◌, ◌≤◌, length};
 ghost use Rattle.y86_isa.specs.Table as table;
 

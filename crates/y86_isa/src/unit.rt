@@ -1,3 +1,4 @@
+//! The arithmetic/logic unit, and the conditions of its flags.
 ghost use Rattle.std.specs.Prelude.{◌≡◌};
 ghost use Rattle.y86_isa.specs.Blocks as blocks;
 
