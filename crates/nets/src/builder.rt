@@ -1,6 +1,8 @@
+//! The builder of a net.
 ghost use Rattle.std.specs.Prelude.{◌≡◌, ◌<◌, length, not, ◌&&◌, ◌||◌, IfOk, get_or, false};
 ghost use Rattle.nets.specs.Nets.{Begins, IsGate, agree, truth};
 
+use crate::connectives::implies;
 use crate::net::{Gate, Net};
 use std::alloc::Global;
 use std::marker::Model;
@@ -62,7 +64,6 @@ impl NetBuilder {
     }
 
     /// A gate that is always true, or always false.
-
     pub fn constant(&mut self, value: bool) -> Result<u64, Memory>
         ensures begins { Begins self.old self.new }
         ensures made { IfOk result (λ g. IsGate self.new g (λ w. value)) }
@@ -137,7 +138,6 @@ impl NetBuilder {
     }
 
     /// A gate that is true where `a` or `b` is.
-    #[tactic(auto, using(crate::proofs::Truths::truth_kept, crate::proofs::Truths::begins_more))]
     pub fn or(&mut self, a: u64, b: u64) -> Result<u64, Memory>
         requires left { a < length self.old.gates }
         requires right { b < length self.old.gates }
@@ -151,21 +151,7 @@ impl NetBuilder {
         Ok(g)
     }
 
-    /// A gate that is true where `a` is false or `b` is true.
-    #[tactic(auto, using(crate::proofs::Truths::truth_kept, crate::proofs::Truths::begins_more))]
-    fn implies(&mut self, a: u64, b: u64) -> Result<u64, Memory>
-        requires left { a < length self.old.gates }
-        requires right { b < length self.old.gates }
-        ensures begins { Begins self.old self.new }
-        ensures made { IfOk result (λ g. IsGate self.new g (λ w. not (truth self.old a w) || truth self.old b w)) }
-    {
-        let x = self.not(a)?;
-        let g = self.or(x, b)?;
-        Ok(g)
-    }
-
     /// A gate that is true where `a` and `b` have the same truth.
-    #[tactic(auto, using(crate::proofs::Truths::truth_kept, crate::proofs::Truths::begins_more))]
     pub fn equal(&mut self, a: u64, b: u64) -> Result<u64, Memory>
         requires left { a < length self.old.gates }
         requires right { b < length self.old.gates }
@@ -175,8 +161,8 @@ impl NetBuilder {
         if a == b {
             return self.constant(true);
         }
-        let x = self.implies(a, b)?;
-        let y = self.implies(b, a)?;
+        let x = implies(self, a, b)?;
+        let y = implies(self, b, a)?;
         let g = self.and(x, y)?;
         Ok(g)
     }

@@ -1,3 +1,4 @@
+//! Valuations of the variables, and the truth of a gate under one.
 ghost use Rattle.std.specs.Prelude.{◌≡◌, ◌<◌, length, get_or, false, IfOk};
 ghost use Rattle.nets.specs.Nets.{gate_value, truth};
 

@@ -1,3 +1,4 @@
+//! Gates, and nets of them.
 ghost use Rattle.std.specs.Prelude.{◌≡◌, ℕ, ◌<◌, List, Bool, length, slice_get, IfOk};
 ghost use Rattle.nets.specs.Nets.{Begins, IsAdded, IsGate, ReadsEarlier, gate_value, truth, truths};
 

@@ -1,0 +1,45 @@
+//! Connectives that are made of other gates.
+ghost use Rattle.std.specs.Prelude.{◌<◌, ◌&&◌, ◌||◌, not, if◌then◌else◌, length, IfOk};
+ghost use Rattle.nets.specs.Nets.{Begins, IsGate, truth};
+
+use crate::builder::NetBuilder;
+use y86_base::Memory;
+
+/// The truth of `x` where `c` is true, that of `y` where it is false.
+pub fn choose(b: &mut NetBuilder, c: u64, x: u64, y: u64) -> Result<u64, Memory>
+    requires condition { c < length b.old.gates }
+    requires first { x < length b.old.gates }
+    requires second { y < length b.old.gates }
+    ensures begins { Begins b.old b.new }
+    ensures made { IfOk result (λ g. IsGate b.new g (λ w. if truth b.old c w then truth b.old x w else truth b.old y w)) }
+{
+    let first = b.and(c, x)?;
+    let other = b.not(c)?;
+    let second = b.and(other, y)?;
+    let g = b.or(first, second)?;
+    Ok(g)
+}
+
+/// `x` is true and `y` is false.
+pub fn without(b: &mut NetBuilder, x: u64, y: u64) -> Result<u64, Memory>
+    requires first { x < length b.old.gates }
+    requires second { y < length b.old.gates }
+    ensures begins { Begins b.old b.new }
+    ensures made { IfOk result (λ g. IsGate b.new g (λ w. truth b.old x w && not (truth b.old y w))) }
+{
+    let none = b.not(y)?;
+    let g = b.and(x, none)?;
+    Ok(g)
+}
+
+/// `x` is false or `y` is true.
+pub fn implies(b: &mut NetBuilder, x: u64, y: u64) -> Result<u64, Memory>
+    requires first { x < length b.old.gates }
+    requires second { y < length b.old.gates }
+    ensures begins { Begins b.old b.new }
+    ensures made { IfOk result (λ g. IsGate b.new g (λ w. not (truth b.old x w) || truth b.old y w)) }
+{
+    let none = b.not(x)?;
+    let g = b.or(none, y)?;
+    Ok(g)
+}
