@@ -4,12 +4,11 @@ ghost use Rattle.nets.specs.Nets.{Begins, IsGate, truth};
 ghost use Rattle.field_bits.specs.Fits as spec;
 ghost use Rattle.field_bits.specs.Spelling.{spelt};
 
-use crate::columns::is_field_b;
-use crate::gates::{below, choose, implies, same, spells};
+use crate::gates::{below, same, spells};
 use crate::spots::Place;
-use nets::NetBuilder;
+use nets::{NetBuilder, choose, implies};
 use y86_base::Memory;
-use y86_isa::{Field, Row};
+use y86_isa::{Field, Row, is_field_b};
 
 /// The field is at most the number.
 #[tactic(auto, using(nets::proofs::Truths::truth_kept, nets::proofs::Truths::begins_more, crate::proofs::Fields::most_step))]

@@ -1,9 +1,10 @@
-ghost use Rattle.std.specs.Prelude.{◌≡◌, ◌<◌, ◌≤◌, ◌+◌, ◌==◌, ◌&&◌, ◌||◌, not, if◌then◌else◌, nat_lt, length, get_or, false, IfOk};
+//! Gates of fields: a field is a number, is below it, is another field.
+ghost use Rattle.std.specs.Prelude.{◌≡◌, ◌<◌, ◌≤◌, ◌+◌, ◌==◌, ◌||◌, not, nat_lt, length, get_or, false, IfOk};
 ghost use Rattle.nets.specs.Nets.{Begins, IsGate, agree, truth};
 ghost use Rattle.field_bits.specs.Spelling.{spelt};
 
 use crate::spots::Place;
-use nets::NetBuilder;
+use nets::{NetBuilder, implies};
 use y86_base::Memory;
 
 /// The variable has this value.
@@ -94,45 +95,6 @@ pub fn same(b: &mut NetBuilder, p: Place, q: Place) -> Result<u64, Memory>
         },
     )?;
     let g = b.and(last, rest)?;
-    Ok(g)
-}
-
-/// The truth of `x` where `c` is true, that of `y` where it is false.
-pub fn choose(b: &mut NetBuilder, c: u64, x: u64, y: u64) -> Result<u64, Memory>
-    requires condition { c < length b.old.gates }
-    requires first { x < length b.old.gates }
-    requires second { y < length b.old.gates }
-    ensures begins { Begins b.old b.new }
-    ensures made { IfOk result (λ g. IsGate b.new g (λ w. if truth b.old c w then truth b.old x w else truth b.old y w)) }
-{
-    let first = b.and(c, x)?;
-    let other = b.not(c)?;
-    let second = b.and(other, y)?;
-    let g = b.or(first, second)?;
-    Ok(g)
-}
-
-/// `x` is true and `y` is false.
-pub fn without(b: &mut NetBuilder, x: u64, y: u64) -> Result<u64, Memory>
-    requires first { x < length b.old.gates }
-    requires second { y < length b.old.gates }
-    ensures begins { Begins b.old b.new }
-    ensures made { IfOk result (λ g. IsGate b.new g (λ w. truth b.old x w && not (truth b.old y w))) }
-{
-    let none = b.not(y)?;
-    let g = b.and(x, none)?;
-    Ok(g)
-}
-
-/// `x` is false or `y` is true.
-pub fn implies(b: &mut NetBuilder, x: u64, y: u64) -> Result<u64, Memory>
-    requires first { x < length b.old.gates }
-    requires second { y < length b.old.gates }
-    ensures begins { Begins b.old b.new }
-    ensures made { IfOk result (λ g. IsGate b.new g (λ w. not (truth b.old x w) || truth b.old y w)) }
-{
-    let none = b.not(x)?;
-    let g = b.or(none, y)?;
     Ok(g)
 }
 

@@ -2,17 +2,16 @@
 //! the fields of an instruction can have, by the columns of the instruction table.
 #![tactic(auto, using(nets::proofs::Truths::truth_kept, nets::proofs::Truths::begins_more))]
 
-mod columns;
 mod fits;
 mod gates;
 mod laws;
 mod spots;
 
-pub use columns::{accesses, is_branch, is_field_b, is_loaded};
 pub use fits::{
     at_most, cnd_fits, cnd_where, code_fits, destination_fits, half_fits, only_where, reading_fits,
     register_fits, stat_fits, tied,
 };
-pub use gates::{below, bit_is, choose, here, implies, same, spells, without};
+pub use gates::{below, bit_is, here, same, spells};
 pub use laws::{law_of_patterns, law_of_places};
+pub use nets::{choose, implies, without};
 pub use spots::{Place, Spot, place_in};

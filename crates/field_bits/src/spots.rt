@@ -1,3 +1,4 @@
+//! Where the fields of a control valuation stand.
 ghost use Rattle.std.specs.Prelude.{◌≡◌, ◌<◌, ◌+◌, ◌^◌};
 ghost use Rattle.field_bits.specs.Spots.{total, place_from};
 

@@ -13,12 +13,12 @@ use crate::places::{
     W_STAT,
 };
 use field_bits::{
-    Place, accesses, cnd_fits, cnd_where, code_fits, destination_fits, half_fits, is_branch,
-    only_where, reading_fits, register_fits, spells, stat_fits, tied,
+    Place, cnd_fits, cnd_where, code_fits, destination_fits, half_fits, only_where, reading_fits,
+    register_fits, spells, stat_fits, tied,
 };
 use nets::NetBuilder;
 use y86_base::Memory;
-use y86_isa::Row;
+use y86_isa::{Row, accesses, is_branch};
 
 /// An instruction that is good and has no fault so far.
 fn live(b: &mut NetBuilder, kind: Place, stat: Place) -> Result<u64, Memory>

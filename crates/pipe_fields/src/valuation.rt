@@ -11,8 +11,8 @@ use crate::bubbles::{decode_bubble, execute_bubble, memory_bubble, write_bubble}
 use crate::fits::{decode_fits, execute_fits, fetch_fits, memory_fits, write_fits};
 use crate::lines::Line;
 use crate::places::{D_ICODE, D_KIND, E_ICODE, E_KIND, F_ICODE, M_ICODE, M_KIND, W_ICODE, W_KIND};
-use field_bits::{Place, below, choose, here, spells};
-use nets::NetBuilder;
+use field_bits::{Place, below, here, spells};
+use nets::{NetBuilder, choose};
 use y86_base::{Memory, Variant};
 use y86_isa::{Row, icode_count, row};
 

@@ -11,9 +11,8 @@ ghost use Rattle.y86_isa.specs.Table as table;
 
 use crate::spans::span_behind;
 use arrayvec::ArrayVec;
-use field_bits::{accesses, is_branch, is_field_b};
 use y86_base::Variant;
-use y86_isa::{Field, Row, icode_count, row};
+use y86_isa::{Field, Row, accesses, icode_count, is_branch, is_field_b, row};
 
 const NO_REGISTER: u64 = 15;
 

@@ -11,9 +11,8 @@ ghost use Rattle.y86_isa.specs.Table.{rows};
 ghost use Rattle.y86_isa.specs.Table as table;
 
 use crate::choices::{at, is_live};
-use field_bits::{accesses, is_branch};
 use y86_base::Variant;
-use y86_isa::{Field, Row, icode_count, row};
+use y86_isa::{Field, Row, accesses, icode_count, is_branch, row};
 
 /// The numbers from a first one on, below an end.
 #[derive(Clone, Copy, Debug)]

@@ -1,3 +1,4 @@
+//! Gates of: a signal takes what a rule asks of it.
 ghost use Rattle.std.specs.Prelude.{◌≡◌, ◌<◌, ◌≤◌, ◌+◌, ◌==◌, ◌&&◌, ◌||◌, not, true, if◌then◌else◌, length, IfOk, IsTrue};
 ghost use Rattle.nets.specs.Nets.{Begins, IsGate, truth};
 ghost use Rattle.ctl_atoms.specs.Leaves.{leaf_eq};
@@ -8,9 +9,9 @@ ghost use Rattle.rule_gates.specs.Words as spec;
 
 use ctl_atoms::{Leaf, same_leaf};
 use ctl_formula::{Controls, Pick};
-use field_bits::{Place, choose, spells};
+use field_bits::{Place, spells};
 use hcl_types::NameId;
-use nets::NetBuilder;
+use nets::{NetBuilder, choose};
 use y86_base::Memory;
 
 /// What a signal must be: a leaf, or the number of a field.

@@ -1,3 +1,4 @@
+//! Gates that ask by the icode of a field, and its row of the instruction table.
 ghost use Rattle.std.specs.Prelude.{◌≡◌, ◌<◌, ◌≤◌, ◌+◌, ℕ, Bool, List, IfOk};
 ghost use Rattle.nets.specs.Nets.{Begins};
 ghost use Rattle.y86_isa.specs.Table.{row};

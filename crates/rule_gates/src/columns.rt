@@ -1,3 +1,4 @@
+//! Gates of what the columns of a row ask of signals.
 ghost use Rattle.std.specs.Prelude.{◌≡◌, ◌<◌, ◌≤◌, ◌+◌, false, if◌then◌else◌, length, IfOk, IsTrue};
 ghost use Rattle.nets.specs.Nets.{Begins, truth};
 ghost use Rattle.y86_base.specs.Stat.{stat_number};

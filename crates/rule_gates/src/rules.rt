@@ -1,3 +1,4 @@
+//! Rules: their numbers and gates, over one net.
 use nets::Net;
 use y86_base::{Items, Variant};
 
