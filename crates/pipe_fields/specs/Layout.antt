@@ -105,7 +105,10 @@ spots =
     hidden 1 ∷  -- M: back
     read_by 3 signal.W_stat ∷ read_by 4 signal.W_icode ∷ read_by 4 signal.W_dstE ∷ read_by 4 signal.W_dstM ∷ []
 
--- how many bits they have together
+-- how many they are, and how many bits they have together
+abbrev pub field_count : ℕ
+field_count = 40
+
 abbrev pub bit_count : ℕ
 bit_count = 107
 

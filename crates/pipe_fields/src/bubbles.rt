@@ -1,7 +1,7 @@
 //! Gates for the lines of bubbles.
 ghost use Rattle.std.specs.Prelude.{◌≡◌, ◌<◌, ◌≤◌, ◌+◌, ◌==◌, ◌&&◌, ◌||◌, length, IfOk};
 ghost use Rattle.nets.specs.Nets.{Begins, IsGate, truth};
-ghost use Rattle.pipe_fields.specs.Layout.{fields_of};
+ghost use Rattle.pipe_fields.specs.Layout.{bit_count, fields_of};
 ghost use Rattle.pipe_fields.specs.Allowed as spec;
 ghost use Rattle.field_bits.specs.Spelling.{spelt};
 
@@ -29,7 +29,7 @@ fn and_is(b: &mut NetBuilder, all: u64, p: Place, n: u64) -> Result<u64, Memory>
 /// The line D of a bubble.
 #[tactic(auto, using(nets::proofs::Truths::truth_kept, nets::proofs::Truths::begins_more), unfolding(crate::specs::Layout::fields_of))]
 pub fn decode_bubble(b: &mut NetBuilder) -> Result<u64, Memory>
-    requires vars { 107 ≤ b.old.vars }
+    requires vars { bit_count ≤ b.old.vars }
     ensures begins { Begins b.old b.new }
     ensures made { IfOk result (λ g. IsGate b.new g (λ w. spec.decode_bubble (fields_of w).d)) }
 {
@@ -47,7 +47,7 @@ pub fn decode_bubble(b: &mut NetBuilder) -> Result<u64, Memory>
 /// The line E of a bubble.
 #[tactic(auto, using(nets::proofs::Truths::truth_kept, nets::proofs::Truths::begins_more), unfolding(crate::specs::Layout::fields_of))]
 pub fn execute_bubble(b: &mut NetBuilder) -> Result<u64, Memory>
-    requires vars { 107 ≤ b.old.vars }
+    requires vars { bit_count ≤ b.old.vars }
     ensures begins { Begins b.old b.new }
     ensures made { IfOk result (λ g. IsGate b.new g (λ w. spec.execute_bubble (fields_of w).e)) }
 {
@@ -67,7 +67,7 @@ pub fn execute_bubble(b: &mut NetBuilder) -> Result<u64, Memory>
 /// The line M of a bubble.
 #[tactic(auto, using(nets::proofs::Truths::truth_kept, nets::proofs::Truths::begins_more), unfolding(crate::specs::Layout::fields_of))]
 pub fn memory_bubble(b: &mut NetBuilder) -> Result<u64, Memory>
-    requires vars { 107 ≤ b.old.vars }
+    requires vars { bit_count ≤ b.old.vars }
     ensures begins { Begins b.old b.new }
     ensures made { IfOk result (λ g. IsGate b.new g (λ w. spec.memory_bubble (fields_of w).m)) }
 {
@@ -84,7 +84,7 @@ pub fn memory_bubble(b: &mut NetBuilder) -> Result<u64, Memory>
 /// The line W of a bubble.
 #[tactic(auto, using(nets::proofs::Truths::truth_kept, nets::proofs::Truths::begins_more), unfolding(crate::specs::Layout::fields_of))]
 pub fn write_bubble(b: &mut NetBuilder) -> Result<u64, Memory>
-    requires vars { 107 ≤ b.old.vars }
+    requires vars { bit_count ≤ b.old.vars }
     ensures begins { Begins b.old b.new }
     ensures made { IfOk result (λ g. IsGate b.new g (λ w. spec.write_bubble (fields_of w).w)) }
 {

@@ -1,7 +1,7 @@
 //! Gates for the lines of instructions, where the icode is known.
 ghost use Rattle.std.specs.Prelude.{◌≡◌, ◌<◌, ◌≤◌, ◌+◌, ◌==◌, ◌&&◌, ◌||◌, length, IfOk};
 ghost use Rattle.nets.specs.Nets.{Begins, IsGate, truth};
-ghost use Rattle.pipe_fields.specs.Layout.{fields_of};
+ghost use Rattle.pipe_fields.specs.Layout.{bit_count, fields_of};
 ghost use Rattle.pipe_fields.specs.Allowed as spec;
 ghost use Rattle.field_bits.specs.Fits.{cnd_where, only_where, register_fits};
 ghost use Rattle.field_bits.specs.Spelling.{spelt};
@@ -79,7 +79,7 @@ fn fetch_taken(b: &mut NetBuilder, jump: bool, ifun: Place, taken: Place) -> Res
 /// A jump without fault in D is taken where its condition holds, and no other instruction is.
 #[tactic(auto, using(nets::proofs::Truths::truth_kept, nets::proofs::Truths::begins_more), unfolding(crate::specs::Layout::fields_of))]
 fn decode_taken(b: &mut NetBuilder, jump: bool) -> Result<u64, Memory>
-    requires vars { 107 ≤ b.old.vars }
+    requires vars { bit_count ≤ b.old.vars }
     ensures begins { Begins b.old b.new }
     ensures made { IfOk result (λ g. IsGate b.new g (λ w.
         cnd_where (spec.is_live (fields_of w).d.kind (fields_of w).d.stat && jump) (fields_of w).d.ifun (fields_of w).d.taken)) }
@@ -92,7 +92,7 @@ fn decode_taken(b: &mut NetBuilder, jump: bool) -> Result<u64, Memory>
 /// The line F of an instruction of this icode.
 #[tactic(auto, using(nets::proofs::Truths::truth_kept, nets::proofs::Truths::begins_more), unfolding(crate::specs::Layout::fields_of, crate::specs::Allowed::fetch_fits))]
 pub fn fetch_fits(b: &mut NetBuilder, count: u64, icode: u64, row: &Row) -> Result<u64, Memory>
-    requires vars { 107 ≤ b.old.vars }
+    requires vars { bit_count ≤ b.old.vars }
     requires top { row.now.ifun_top < 16 }
     ensures begins { Begins b.old b.new }
     ensures made { IfOk result (λ g. IsGate b.new g (λ w. spec.fetch_fits count icode row.now (fields_of w).f)) }
@@ -110,7 +110,7 @@ pub fn fetch_fits(b: &mut NetBuilder, count: u64, icode: u64, row: &Row) -> Resu
 /// The line D of an instruction of this icode.
 #[tactic(auto, using(nets::proofs::Truths::truth_kept, nets::proofs::Truths::begins_more), unfolding(crate::specs::Layout::fields_of, crate::specs::Allowed::decode_fits))]
 pub fn decode_fits(b: &mut NetBuilder, count: u64, icode: u64, row: &Row) -> Result<u64, Memory>
-    requires vars { 107 ≤ b.old.vars }
+    requires vars { bit_count ≤ b.old.vars }
     requires top { row.now.ifun_top < 16 }
     ensures begins { Begins b.old b.new }
     ensures made { IfOk result (λ g. IsGate b.new g (λ w. spec.decode_fits count icode row.now (fields_of w).d)) }
@@ -132,7 +132,7 @@ pub fn decode_fits(b: &mut NetBuilder, count: u64, icode: u64, row: &Row) -> Res
 /// The register numbers in E.
 #[tactic(auto, using(nets::proofs::Truths::truth_kept, nets::proofs::Truths::begins_more), unfolding(crate::specs::Layout::fields_of))]
 fn registers_fit(b: &mut NetBuilder, row: &Row) -> Result<u64, Memory>
-    requires vars { 107 ≤ b.old.vars }
+    requires vars { bit_count ≤ b.old.vars }
     ensures begins { Begins b.old b.new }
     ensures made { IfOk result (λ g. IsGate b.new g (λ w. spec.registers_fit row.now (fields_of w).e)) }
 {
@@ -151,7 +151,7 @@ fn registers_fit(b: &mut NetBuilder, row: &Row) -> Result<u64, Memory>
 /// The line E of an instruction of this icode.
 #[tactic(auto, using(nets::proofs::Truths::truth_kept, nets::proofs::Truths::begins_more), unfolding(crate::specs::Layout::fields_of, crate::specs::Allowed::execute_fits))]
 pub fn execute_fits(b: &mut NetBuilder, count: u64, icode: u64, row: &Row) -> Result<u64, Memory>
-    requires vars { 107 ≤ b.old.vars }
+    requires vars { bit_count ≤ b.old.vars }
     requires top { row.now.ifun_top < 16 }
     ensures begins { Begins b.old b.new }
     ensures made { IfOk result (λ g. IsGate b.new g (λ w. spec.execute_fits count icode row.now (fields_of w).e)) }
@@ -171,7 +171,7 @@ pub fn execute_fits(b: &mut NetBuilder, count: u64, icode: u64, row: &Row) -> Re
 /// The line M of an instruction of this icode.
 #[tactic(auto, using(nets::proofs::Truths::truth_kept, nets::proofs::Truths::begins_more), unfolding(crate::specs::Layout::fields_of, crate::specs::Allowed::memory_fits))]
 pub fn memory_fits(b: &mut NetBuilder, count: u64, icode: u64, row: &Row) -> Result<u64, Memory>
-    requires vars { 107 ≤ b.old.vars }
+    requires vars { bit_count ≤ b.old.vars }
     requires top { row.now.ifun_top < 16 }
     ensures begins { Begins b.old b.new }
     ensures made { IfOk result (λ g. IsGate b.new g (λ w. spec.memory_fits count icode row.now (fields_of w).m)) }
@@ -192,7 +192,7 @@ pub fn memory_fits(b: &mut NetBuilder, count: u64, icode: u64, row: &Row) -> Res
 
 /// The destination of valE in W, which a move whose condition didn't hold has lost.
 fn write_destination(b: &mut NetBuilder, row: &Row) -> Result<u64, Memory>
-    requires vars { 107 ≤ b.old.vars }
+    requires vars { bit_count ≤ b.old.vars }
     ensures begins { Begins b.old b.new }
     ensures made { IfOk result (λ g. IsGate b.new g (λ w.
         row.now.conditional && spelt w W_DST_E.first W_DST_E.bits == 15 || register_fits row.now.dst_e (spelt w W_DST_E.first W_DST_E.bits))) }
@@ -209,7 +209,7 @@ fn write_destination(b: &mut NetBuilder, row: &Row) -> Result<u64, Memory>
 /// The line W of an instruction of this icode.
 #[tactic(auto, using(nets::proofs::Truths::truth_kept, nets::proofs::Truths::begins_more), unfolding(crate::specs::Layout::fields_of, crate::specs::Allowed::write_fits))]
 pub fn write_fits(b: &mut NetBuilder, count: u64, icode: u64, row: &Row) -> Result<u64, Memory>
-    requires vars { 107 ≤ b.old.vars }
+    requires vars { bit_count ≤ b.old.vars }
     ensures begins { Begins b.old b.new }
     ensures made { IfOk result (λ g. IsGate b.new g (λ w. spec.write_fits count icode row.now (fields_of w).w)) }
 {

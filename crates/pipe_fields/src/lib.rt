@@ -12,5 +12,6 @@ mod valuation;
 
 pub use laws::{law_of_bubbles, law_of_patterns, law_of_places, law_of_the_start};
 pub use lines::Line;
-pub use table::{BIT_COUNT, place_of, spots};
+pub use places::BIT_COUNT;
+pub use table::{FIELD_COUNT, place_of, spots};
 pub use valuation::{allowed, line_fits};

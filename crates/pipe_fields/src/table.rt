@@ -2,69 +2,71 @@
 ghost use Rattle.std.specs.Prelude.{◌≡◌};
 ghost use Rattle.pipe_fields.specs.Layout as layout;
 
+use crate::places as place;
+use dp_signals::pipe_row as row;
 use field_bits::{Place, Spot, place_in};
 
-/// How many bits the fields have together. The atoms of a control valuation stand behind them.
-pub const BIT_COUNT: u32 = 107;
-
-/// A field of so many bits: the signal of a row, or one that no signal reads.
+/// The field at a place: the signal of a row, or one that no signal reads.
 macro_rules! spot {
-    ($bits:expr, $name:expr) => {
+    ($place:expr, $name:expr) => {
         Spot {
-            bits: $bits,
+            bits: $place.bits,
             name: Some($name),
         }
     };
-    ($bits:expr) => {
+    ($place:expr) => {
         Spot {
-            bits: $bits,
+            bits: $place.bits,
             name: None,
         }
     };
 }
 
+/// How many fields there are.
+pub const FIELD_COUNT: usize = 40;
+
 /// The fields in the order of the variables.
-static SPOTS: [Spot; 40] = [
-    spot!(2), // D kind
-    spot!(2), // E kind
-    spot!(1), // M kind
-    spot!(1), // W kind
-    spot!(1, 67), // F error
-    spot!(4, 65), // F icode
-    spot!(4, 66), // F ifun
-    spot!(1), // F taken
-    spot!(1), // F stops
-    spot!(1), // F back
-    spot!(3, 33), // D stat
-    spot!(4, 34), // D icode
-    spot!(4, 35), // D ifun
-    spot!(4, 36), // D r_a
-    spot!(4, 37), // D r_b
-    spot!(1), // D taken
-    spot!(1), // D stops
-    spot!(1), // D back
-    spot!(3, 38), // E stat
-    spot!(4, 39), // E icode
-    spot!(4, 40), // E ifun
-    spot!(4, 41), // E dst_e
-    spot!(4, 42), // E dst_m
-    spot!(4, 43), // E src_a
-    spot!(4, 44), // E src_b
-    spot!(1, 73), // E cnd
-    spot!(1), // E stops
-    spot!(1), // E back
-    spot!(3, 45), // M stat
-    spot!(4, 46), // M icode
-    spot!(4, 47), // M ifun
-    spot!(4, 48), // M dst_e
-    spot!(4, 49), // M dst_m
-    spot!(1, 64), // M cnd
-    spot!(1, 75), // M error
-    spot!(1), // M back
-    spot!(3, 50), // W stat
-    spot!(4, 51), // W icode
-    spot!(4, 52), // W dst_e
-    spot!(4, 53), // W dst_m
+static SPOTS: [Spot; FIELD_COUNT] = [
+    spot!(place::D_KIND),
+    spot!(place::E_KIND),
+    spot!(place::M_KIND),
+    spot!(place::W_KIND),
+    spot!(place::F_ERROR, row::IMEM_ERROR),
+    spot!(place::F_ICODE, row::IMEM_ICODE),
+    spot!(place::F_IFUN, row::IMEM_IFUN),
+    spot!(place::F_TAKEN),
+    spot!(place::F_STOPS),
+    spot!(place::F_BACK),
+    spot!(place::D_STAT, row::HELD_D_STAT),
+    spot!(place::D_ICODE, row::HELD_D_ICODE),
+    spot!(place::D_IFUN, row::HELD_D_IFUN),
+    spot!(place::D_R_A, row::HELD_D_R_A),
+    spot!(place::D_R_B, row::HELD_D_R_B),
+    spot!(place::D_TAKEN),
+    spot!(place::D_STOPS),
+    spot!(place::D_BACK),
+    spot!(place::E_STAT, row::HELD_E_STAT),
+    spot!(place::E_ICODE, row::HELD_E_ICODE),
+    spot!(place::E_IFUN, row::HELD_E_IFUN),
+    spot!(place::E_DST_E, row::HELD_E_DST_E),
+    spot!(place::E_DST_M, row::HELD_E_DST_M),
+    spot!(place::E_SRC_A, row::HELD_E_SRC_A),
+    spot!(place::E_SRC_B, row::HELD_E_SRC_B),
+    spot!(place::E_CND, row::E_CND),
+    spot!(place::E_STOPS),
+    spot!(place::E_BACK),
+    spot!(place::M_STAT, row::HELD_M_STAT),
+    spot!(place::M_ICODE, row::HELD_M_ICODE),
+    spot!(place::M_IFUN, row::HELD_M_IFUN),
+    spot!(place::M_DST_E, row::HELD_M_DST_E),
+    spot!(place::M_DST_M, row::HELD_M_DST_M),
+    spot!(place::M_CND, row::HELD_M_CND),
+    spot!(place::M_ERROR, row::DMEM_ERROR),
+    spot!(place::M_BACK),
+    spot!(place::W_STAT, row::HELD_W_STAT),
+    spot!(place::W_ICODE, row::HELD_W_ICODE),
+    spot!(place::W_DST_E, row::HELD_W_DST_E),
+    spot!(place::W_DST_M, row::HELD_W_DST_M),
 ];
 
 /// The fields in the order of the variables: how many bits each has, and the row of the signal that it is.

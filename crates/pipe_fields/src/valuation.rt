@@ -4,7 +4,7 @@ ghost use Rattle.nets.specs.Nets.{Begins, IsGate, truth};
 ghost use Rattle.field_bits.specs.Icodes.{where_below};
 ghost use Rattle.field_bits.specs.Spelling.{spelt};
 ghost use Rattle.pipe_fields.specs.Allowed as spec;
-ghost use Rattle.pipe_fields.specs.Layout.{fields_of};
+ghost use Rattle.pipe_fields.specs.Layout.{bit_count, fields_of};
 ghost use Rattle.pipe_fields.specs.Lines.{fits_at, fits_row, icode_in};
 
 use crate::bubbles::{decode_bubble, execute_bubble, memory_bubble, write_bubble};
@@ -20,7 +20,7 @@ use y86_isa::{Row, icode_count, row};
 #[tactic(auto, unfolding(crate::specs::Layout::fields_of))]
 fn icode_place(line: Line) -> Place
     ensures is { (w : List Bool) → spelt w result.first result.bits ≡ icode_in line (fields_of w) }
-    ensures within { result.first + result.bits ≤ 107 }
+    ensures within { result.first + result.bits ≤ bit_count }
     ensures bits { result.bits ≡ 4 }
 {
     match line {
@@ -40,7 +40,7 @@ fn row_fits(
     icode: u64,
     row: &Row,
 ) -> Result<u64, Memory>
-    requires vars { 107 ≤ b.old.vars }
+    requires vars { bit_count ≤ b.old.vars }
     requires top { row.now.ifun_top < 16 }
     ensures begins { Begins b.old b.new }
     ensures made { IfOk result (λ g. IsGate b.new g (λ w. fits_row line count icode row.now (fields_of w))) }
@@ -57,7 +57,7 @@ fn row_fits(
 /// Where the line has this icode, it fits the icode's row.
 #[tactic(auto, using(nets::proofs::Truths::truth_kept, nets::proofs::Truths::begins_more), unfolding(crate::specs::Lines::fits_at))]
 fn at_icode(b: &mut NetBuilder, v: Variant, line: Line, icode: u64) -> Result<u64, Memory>
-    requires vars { 107 ≤ b.old.vars }
+    requires vars { bit_count ≤ b.old.vars }
     ensures begins { Begins b.old b.new }
     ensures made { IfOk result (λ g. IsGate b.new g (λ w.
         not (icode_in line (fields_of w) == icode) || fits_at v line icode (fields_of w))) }
@@ -71,7 +71,7 @@ fn at_icode(b: &mut NetBuilder, v: Variant, line: Line, icode: u64) -> Result<u6
 
 /// Where the icode of the line is below a number, the line fits its row.
 fn below_icode(b: &mut NetBuilder, v: Variant, line: Line, n: u64) -> Result<u64, Memory>
-    requires vars { 107 ≤ b.old.vars }
+    requires vars { bit_count ≤ b.old.vars }
     ensures begins { Begins b.old b.new }
     ensures made { IfOk result (λ g. IsGate b.new g (λ w.
         where_below n (icode_in line (fields_of w)) (λ k. fits_at v line k (fields_of w)))) }
@@ -88,7 +88,7 @@ fn below_icode(b: &mut NetBuilder, v: Variant, line: Line, n: u64) -> Result<u64
 
 /// The line of an instruction fits the row of its icode.
 pub fn line_fits(b: &mut NetBuilder, v: Variant, line: Line) -> Result<u64, Memory>
-    requires vars { 107 ≤ b.old.vars }
+    requires vars { bit_count ≤ b.old.vars }
     ensures begins { Begins b.old b.new }
     ensures made { IfOk result (λ g. IsGate b.new g (λ w. fits_at v line (icode_in line (fields_of w)) (fields_of w))) }
 {
@@ -121,7 +121,7 @@ fn stage_fits(
 /// The line D of a control valuation.
 #[tactic(auto, using(nets::proofs::Truths::truth_kept, nets::proofs::Truths::begins_more), unfolding(crate::specs::Layout::fields_of, crate::specs::Lines::fits_at))]
 fn decode_allowed(b: &mut NetBuilder, v: Variant) -> Result<u64, Memory>
-    requires vars { 107 ≤ b.old.vars }
+    requires vars { bit_count ≤ b.old.vars }
     ensures begins { Begins b.old b.new }
     ensures made { IfOk result (λ g. IsGate b.new g (λ w. spec.decode_allowed v (fields_of w).d)) }
 {
@@ -134,7 +134,7 @@ fn decode_allowed(b: &mut NetBuilder, v: Variant) -> Result<u64, Memory>
 /// The line E of a control valuation.
 #[tactic(auto, using(nets::proofs::Truths::truth_kept, nets::proofs::Truths::begins_more), unfolding(crate::specs::Layout::fields_of, crate::specs::Lines::fits_at))]
 fn execute_allowed(b: &mut NetBuilder, v: Variant) -> Result<u64, Memory>
-    requires vars { 107 ≤ b.old.vars }
+    requires vars { bit_count ≤ b.old.vars }
     ensures begins { Begins b.old b.new }
     ensures made { IfOk result (λ g. IsGate b.new g (λ w. spec.execute_allowed v (fields_of w).e)) }
 {
@@ -147,7 +147,7 @@ fn execute_allowed(b: &mut NetBuilder, v: Variant) -> Result<u64, Memory>
 /// The line M of a control valuation.
 #[tactic(auto, using(nets::proofs::Truths::truth_kept, nets::proofs::Truths::begins_more), unfolding(crate::specs::Layout::fields_of, crate::specs::Lines::fits_at))]
 fn memory_allowed(b: &mut NetBuilder, v: Variant) -> Result<u64, Memory>
-    requires vars { 107 ≤ b.old.vars }
+    requires vars { bit_count ≤ b.old.vars }
     ensures begins { Begins b.old b.new }
     ensures made { IfOk result (λ g. IsGate b.new g (λ w. spec.memory_allowed v (fields_of w).m)) }
 {
@@ -160,7 +160,7 @@ fn memory_allowed(b: &mut NetBuilder, v: Variant) -> Result<u64, Memory>
 /// The line W of a control valuation.
 #[tactic(auto, using(nets::proofs::Truths::truth_kept, nets::proofs::Truths::begins_more), unfolding(crate::specs::Layout::fields_of, crate::specs::Lines::fits_at))]
 fn write_allowed(b: &mut NetBuilder, v: Variant) -> Result<u64, Memory>
-    requires vars { 107 ≤ b.old.vars }
+    requires vars { bit_count ≤ b.old.vars }
     ensures begins { Begins b.old b.new }
     ensures made { IfOk result (λ g. IsGate b.new g (λ w. spec.write_allowed v (fields_of w).w)) }
 {
@@ -172,7 +172,7 @@ fn write_allowed(b: &mut NetBuilder, v: Variant) -> Result<u64, Memory>
 
 /// The lines are those of a control valuation.
 pub fn allowed(b: &mut NetBuilder, v: Variant) -> Result<u64, Memory>
-    requires vars { 107 ≤ b.old.vars }
+    requires vars { bit_count ≤ b.old.vars }
     ensures begins { Begins b.old b.new }
     ensures made { IfOk result (λ g. IsGate b.new g (λ w. spec.allowed v (fields_of w))) }
 {

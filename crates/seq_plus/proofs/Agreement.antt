@@ -15,7 +15,7 @@ use Rattle.hcl_types.specs.declared.term.Term.TheVariants.{Num}
 use Rattle.dp_signals.specs.Equations.{rule_of, term_value}
 use Rattle.dp_signals.specs.PipeEquations.{constants}
 use Rattle.dp_signals.specs.SeqRows.{SeqHardware}
-use Rattle.dp_signals.specs.Tables.{constant_rows}
+use Rattle.dp_signals.specs.Tables.{constant_count, constant_rows}
 use Rattle.dp_signals.specs.Values.{bit}
 use Rattle.dp_signals.proofs.Rules.{definition_rule}
 use Rattle.ctl_atoms.specs.Leaves.{picks}
@@ -40,23 +40,23 @@ use Rattle.seq_plus.proofs.PlusRules.{length-plus_given, length-plus_rows}
 
 -- ---- SEQ+'s table
 
-constants_there : each_number 33 (λ n. constant_row (slice_get plus_rows n) (get_or constants n 0)) ≡ true
+constants_there : each_number constant_count (λ n. constant_row (slice_get plus_rows n) (get_or constants n 0)) ≡ true
 unfolding plus_rows constant_rows plus_state plus_hardware plus_defined constants each_number constant_row constant_role
 constants_there = refl
 
-none_before : each_number 51 (λ n. not (defines (slice_get plus_rows n))) ≡ true
+none_before : each_number name.defined (λ n. not (defines (slice_get plus_rows n))) ≡ true
 unfolding plus_rows constant_rows plus_state plus_hardware plus_defined each_number defines
 none_before = refl
 
-definitions_there : each_number 19 (λ k. defines (slice_get plus_rows (51 + k)) && length (defined (take (51 + k) plus_rows)) == k) ≡ true
+definitions_there : each_number (name.count - name.defined) (λ k. defines (slice_get plus_rows (name.defined + k)) && length (defined (take (name.defined + k) plus_rows)) == k) ≡ true
 unfolding plus_rows constant_rows plus_state plus_hardware plus_defined each_number defines
 definitions_there = refl
 
-nineteen : length (defined plus_rows) ≡ 19
+nineteen : length (defined plus_rows) ≡ (name.count - name.defined)
 unfolding plus_rows constant_rows plus_state plus_hardware plus_defined
 nineteen = refl
 
-thirty_three : length constants ≡ 33
+thirty_three : length constants ≡ constant_count
 unfolding constants
 thirty_three = refl
 
@@ -68,14 +68,14 @@ module _ (v : Variant) (terms : List Term) (t : PlusState) (f : ℕ → ℕ) (cv
 
   -- ---- the constants and the state
 
-  given_word : (n : ℕ) → n < 38 → f n ≡ get_or (plus_given t) n 0
+  given_word : (n : ℕ) → n < name.hardware → f n ≡ get_or (plus_given t) n 0
   unfolding plus_given constants rule_of
-  given_word n lt = s n ∙ (rw (lt-ltb n 38 lt) refl)
+  given_word n lt = s n ∙ (rw (lt-ltb n name.hardware lt) refl)
 
-  constant_agrees : (n : ℕ) → n < 33 → Agrees f cv n
+  constant_agrees : (n : ℕ) → n < constant_count → Agrees f cv n
   unfolding control_rule plus_given
   constant_agrees n lt =
-      let there = number_tests 33 (λ i. constant_row (slice_get plus_rows i) (get_or constants i 0)) constants_there n lt in
+      let there = number_tests constant_count (λ i. constant_row (slice_get plus_rows i) (get_or constants i 0)) constants_there n lt in
       ap (worth f) (h n ∙ leaf_constant (number_of (fields_at v t f)) n (slice_get plus_rows n) (get_or constants n 0) (value (picks (real f)) cv (row_term plus_rows terms n)) there)
       ∙ sym (given_word n (omega (arith, lt)) ∙ get_or_append_left constants (t.previous.icode ∷ t.previous.cnd ∷ t.previous.val_m ∷ t.previous.val_c ∷ t.previous.val_p ∷ []) 0 n (omega (arith, lt, thirty_three)))
 
@@ -99,8 +99,8 @@ module _ (v : Variant) (terms : List Term) (t : PlusState) (f : ℕ → ℕ) (cv
   unfolding control_rule plus_rows constant_rows plus_state plus_hardware plus_defined
   at_p_valP = ap (worth f) (h name.pValP)
 
-  given_agrees : (n : ℕ) → n < 38 → Agrees f cv n
-  given_agrees n lt = elim (cases_lt n 33) [
+  given_agrees : (n : ℕ) → n < name.hardware → Agrees f cv n
+  given_agrees n lt = elim (cases_lt n constant_count) [
     | inl below ↦ constant_agrees n below
     | inr ge ↦
         by_number (Agrees f cv) n name.pIcode ge at_p_icode
@@ -172,7 +172,7 @@ module _ (v : Variant) (terms : List Term) (t : PlusState) (f : ℕ → ℕ) (cv
       ap (worth f) (h name.dmem_error)
       ∙ chosen _ (f name.dmem_error) (λ n. hw.dmem_error ∙ (rw (reads, writes) refl) ∙ ap bit (no_error _ t.mem (f name.mem_addr) n))
 
-  hardware_agrees : (n : ℕ) → 38 ≤ n → n < 51 → Step n
+  hardware_agrees : (n : ℕ) → name.hardware ≤ n → n < name.defined → Step n
   hardware_agrees n ge lt =
       by_number Step n name.imem_icode ge at_icode
       (λ ge. by_number Step n name.imem_ifun ge at_ifun
@@ -191,21 +191,21 @@ module _ (v : Variant) (terms : List Term) (t : PlusState) (f : ℕ → ℕ) (cv
 
   -- ---- what the file defines, and what stands past the rows
 
-  total : length terms ≡ 19
+  total : length terms ≡ (name.count - name.defined)
   total = bound.whole ∙ nineteen
 
-  defined_word : (k : ℕ) → k < 19 → f (51 + k) ≡ value words f (term_at terms k)
+  defined_word : (k : ℕ) → k < (name.count - name.defined) → f (name.defined + k) ≡ value words f (term_at terms k)
   defined_word k lt =
-      let index : 51 + k - 51 ≡ k = omega arith in
-      s (51 + k)
-      ∙ (definition_rule (plus_given t) name.pc (plus_block v t) terms (51 + k) f (omega (arith, length-plus_given t)) (omega arith)
+      let index : name.defined + k - name.defined ≡ k = omega arith in
+      s (name.defined + k)
+      ∙ (definition_rule (plus_given t) name.pc (plus_block v t) terms (name.defined + k) f (omega (arith, length-plus_given t)) (omega arith)
       ∙ (rw (index, slice_get-get_or terms k (Num 0) (omega (arith, lt, total))) refl))
 
   -- a row that is defined is one of the last 19
-  defined_place : (n : ℕ) (r : Row) → slice_get plus_rows n ≡ Some r → is_defined r.role ≡ true → 51 ≤ n
+  defined_place : (n : ℕ) (r : Row) → slice_get plus_rows n ≡ Some r → is_defined r.role ≡ true → name.defined ≤ n
   unfolding defines
-  defined_place n r e d = elim (cases_lt n 51) [
-    | inl lt ↦ clash (is_defined r.role) d (not_so _ (ap (λ o. not (defines o)) (sym e) ∙ number_tests 51 (λ i. not (defines (slice_get plus_rows i))) none_before n lt))
+  defined_place n r e d = elim (cases_lt n name.defined) [
+    | inl lt ↦ clash (is_defined r.role) d (not_so _ (ap (λ o. not (defines o)) (sym e) ∙ number_tests name.defined (λ i. not (defines (slice_get plus_rows i))) none_before n lt))
     | inr le ↦ le
   ]
     where
@@ -213,39 +213,39 @@ module _ (v : Variant) (terms : List Term) (t : PlusState) (f : ℕ → ℕ) (cv
       not_so true h = cc
       not_so false h = refl
 
-  inside : (n : ℕ) (r : Row) → slice_get plus_rows n ≡ Some r → n < 70
+  inside : (n : ℕ) (r : Row) → slice_get plus_rows n ≡ Some r → n < name.count
   inside n r e = omega (arith, slice_get_within plus_rows n r e, length-plus_rows)
 
-  the_test : (k : ℕ) → k < 19 → (defines (slice_get plus_rows (51 + k)) ≡ true) × (length (defined (take (51 + k) plus_rows)) ≡ k)
+  the_test : (k : ℕ) → k < (name.count - name.defined) → (defines (slice_get plus_rows (name.defined + k)) ≡ true) × (length (defined (take (name.defined + k) plus_rows)) ≡ k)
   the_test k lt =
-      let test = and_parts _ _ (number_tests 19 (λ i. defines (slice_get plus_rows (51 + i)) && length (defined (take (51 + i) plus_rows)) == i) definitions_there k lt) in
+      let test = and_parts _ _ (number_tests (name.count - name.defined) (λ i. defines (slice_get plus_rows (name.defined + i)) && length (defined (take (name.defined + i) plus_rows)) == i) definitions_there k lt) in
       (test.0, eqb-true _ _ test.1)
 
   defined_by : IsDefinedBy plus_rows terms f
   defined_by =
       record {
         defined = λ n r e d. value_at n (defined_place n r e d) (inside n r e);
-        past = λ n e. (elim (cases_lt n 70) [ inl lt ↦ absurd (row_there plus_rows n (omega (arith, lt, length-plus_rows)) e) | inr le ↦ past_word n le ]);
+        past = λ n e. (elim (cases_lt n name.count) [ inl lt ↦ absurd (row_there plus_rows n (omega (arith, lt, length-plus_rows)) e) | inr le ↦ past_word n le ]);
       }
     where
-      value_at : (n : ℕ) → 51 ≤ n → n < 70 → f n ≡ value words f (row_term plus_rows terms n)
+      value_at : (n : ℕ) → name.defined ≤ n → n < name.count → f n ≡ value words f (row_term plus_rows terms n)
       value_at n le lt =
-          let e : 51 + (n - 51) ≡ n = omega (arith, le) in
-          let small : n - 51 < 19 = omega (arith, le, lt) in
+          let e : name.defined + (n - name.defined) ≡ n = omega (arith, le) in
+          let small : n - name.defined < (name.count - name.defined) = omega (arith, le, lt) in
           subst (λ i. f i ≡ value words f (row_term plus_rows terms i)) e
-          (defined_word (n - 51) small ∙ ap (λ i. value words f (term_at terms i)) (sym (the_test (n - 51) small).1))
+          (defined_word (n - name.defined) small ∙ ap (λ i. value words f (term_at terms i)) (sym (the_test (n - name.defined) small).1))
 
-      past_word : (n : ℕ) → 70 ≤ n → f n ≡ 0
+      past_word : (n : ℕ) → name.count ≤ n → f n ≡ 0
       past_word n le =
           s n
           ∙ (definition_rule (plus_given t) name.pc (plus_block v t) terms n f (omega (arith, le, length-plus_given t)) (omega (arith, le))
-          ∙ ap (λ o. term_value o f) (slice_get_past terms (n - 51) (omega (arith, le, total))))
+          ∙ ap (λ o. term_value o f) (slice_get_past terms (n - name.defined) (omega (arith, le, total))))
 
   worth_given : IsWorthGiven plus_rows f cv
   unfolding Step inputs_of defines
-  worth_given n r e u a = elim (cases_lt n 38) [
+  worth_given n r e u a = elim (cases_lt n name.hardware) [
     | inl lt ↦ given_agrees n lt
-    | inr le ↦ elim (cases_lt n 51) [
+    | inr le ↦ elim (cases_lt n name.defined) [
       | inl lt ↦ hardware_agrees n le lt (inputs_there n r e a)
       | inr above ↦ clash (is_defined r.role) (is_so n r e above (inside n r e)) u
     ]
@@ -254,10 +254,10 @@ module _ (v : Variant) (terms : List Term) (t : PlusState) (f : ℕ → ℕ) (cv
       inputs_there : (n : ℕ) (r : Row) → slice_get plus_rows n ≡ Some r → Each (Agrees f cv) (inputs r.role) → Each (Agrees f cv) (inputs_of (slice_get plus_rows n))
       inputs_there n r e a = subst (λ o. Each (Agrees f cv) (inputs_of o)) (sym e) a
 
-      is_so : (n : ℕ) (r : Row) → slice_get plus_rows n ≡ Some r → 51 ≤ n → n < 70 → is_defined r.role ≡ true
+      is_so : (n : ℕ) (r : Row) → slice_get plus_rows n ≡ Some r → name.defined ≤ n → n < name.count → is_defined r.role ≡ true
       is_so n r e le lt =
-          let same : 51 + (n - 51) ≡ n = omega (arith, le) in
-          sym (ap defines (ap (slice_get plus_rows) same ∙ e)) ∙ (the_test (n - 51) (omega (arith, le, lt))).0
+          let same : name.defined + (n - name.defined) ≡ n = omega (arith, le) in
+          sym (ap defines (ap (slice_get plus_rows) same ∙ e)) ∙ (the_test (n - name.defined) (omega (arith, le, lt))).0
 
   pub all_agree : (ids : List ℕ) → IsOrderOf plus_rows terms ids → (n : ℕ) → Agrees f cv n
   all_agree ids o = agreement plus_rows terms ids (number_of (fields_at v t f)) f cv o h defined_by worth_given

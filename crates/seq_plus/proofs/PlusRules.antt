@@ -1,5 +1,5 @@
 -- SEQ+'s rules read only what its table lists, so that computing them along an order solves them.
-use Rattle.std.proofs.Common.{◌≡◌, ℕ, ◌+◌, ◌<◌, ◌≤◌, List, [], ◌++◌, length, map, get_or, replicate, refl, sym, ap, ◌∙◌, subst, arith}
+use Rattle.std.proofs.Common.{◌≡◌, ℕ, ◌+◌, ◌-◌, ◌<◌, ◌≤◌, List, [], ◌++◌, length, map, get_or, replicate, refl, sym, ap, ◌∙◌, subst, arith}
 use Rattle.y86_base.specs.Registers.{register}
 use Rattle.y86_base.specs.declared.parts.Variant.{Variant}
 use Rattle.y86_isa.specs.Blocks.{reading, field_a, field_b, constant_at, behind, alu_value, condition, data_read, data_error}
@@ -20,61 +20,61 @@ use Rattle.seq_plus.specs.PlusNames as row
 use Rattle.seq_plus.specs.PlusTable.{plus_state, plus_hardware, plus_defined, plus_rows}
 use Rattle.seq_plus.specs.declared.state.PlusState.{PlusState}
 
-pub plus_layout : IsLaidOut plus_rows (constant_rows ++ plus_state) plus_hardware plus_defined 38 51
+pub plus_layout : IsLaidOut plus_rows (constant_rows ++ plus_state) plus_hardware plus_defined row.hardware row.defined
 unfolding plus_rows constant_rows plus_state plus_hardware plus_defined
 plus_layout = record { parts = refl; given_rows = refl; hardware_rows = refl; defined_rows = refl; given_count = refl; before_first = refl }
 
-pub length-plus_rows : length plus_rows ≡ 70
+pub length-plus_rows : length plus_rows ≡ row.count
 unfolding plus_rows constant_rows plus_state plus_hardware plus_defined
 length-plus_rows = refl
 
-pub length-plus_given : (s : PlusState) → length (plus_given s) ≡ 38
+pub length-plus_given : (s : PlusState) → length (plus_given s) ≡ row.hardware
 unfolding plus_given constants
 length-plus_given s = refl
 
-reads : (v : Variant) (s : PlusState) (n : ℕ) (f g : ℕ → ℕ) → 38 ≤ n → n < 51 → Same plus_hardware 38 f g n → plus_block v s n f ≡ plus_block v s n g
+reads : (v : Variant) (s : PlusState) (n : ℕ) (f g : ℕ → ℕ) → row.hardware ≤ n → n < row.defined → Same plus_hardware row.hardware f g n → plus_block v s n f ≡ plus_block v s n g
 unfolding plus_block plus_hardware
 reads v s n f g ge lt h =
-    by_row n row.imem_icode _ _ _ _ ge (λ e. ap (λ x. (reading v s.mem x).icode) (at_row plus_hardware 38 f g e h).0)
-    (λ ge. by_row n row.imem_ifun _ _ _ _ ge (λ e. ap (λ x. (reading v s.mem x).ifun) (at_row plus_hardware 38 f g e h).0)
-    (λ ge. by_row n row.imem_error _ _ _ _ ge (λ e. ap (λ x. bit (reading v s.mem x).error) (at_row plus_hardware 38 f g e h).0)
-    (λ ge. by_row n row.rA _ _ _ _ ge (λ e. let p = at_row plus_hardware 38 f g e h in two (λ x y. field_a s.mem x (set y)) p.0 p.1.0)
-    (λ ge. by_row n row.rB _ _ _ _ ge (λ e. let p = at_row plus_hardware 38 f g e h in two (λ x y. field_b s.mem x (set y)) p.0 p.1.0)
-    (λ ge. by_row n row.valC _ _ _ _ ge (λ e. let p = at_row plus_hardware 38 f g e h in three (λ x y z. constant_at s.mem x (set y) (set z)) p.0 p.1.0 p.1.1.0)
-    (λ ge. by_row n row.valP _ _ _ _ ge (λ e. let p = at_row plus_hardware 38 f g e h in three (λ x y z. behind x (set y) (set z)) p.0 p.1.0 p.1.1.0)
-    (λ ge. by_row n row.valA _ _ _ _ ge (λ e. ap (register s.regs) (at_row plus_hardware 38 f g e h).0)
-    (λ ge. by_row n row.valB _ _ _ _ ge (λ e. ap (register s.regs) (at_row plus_hardware 38 f g e h).0)
-    (λ ge. by_row n row.valE _ _ _ _ ge (λ e. let p = at_row plus_hardware 38 f g e h in three (λ x y z. alu_value z x y) p.0 p.1.0 p.1.1.0)
-    (λ ge. by_row n row.Cnd _ _ _ _ ge (λ e. ap (λ x. bit (condition x s.flags)) (at_row plus_hardware 38 f g e h).0)
-    (λ ge. by_row n row.valM _ _ _ _ ge (λ e. let p = at_row plus_hardware 38 f g e h in two (λ x y. data_read s.mem x (set y)) p.0 p.1.0)
+    by_row n row.imem_icode _ _ _ _ ge (λ e. ap (λ x. (reading v s.mem x).icode) (at_row plus_hardware row.hardware f g e h).0)
+    (λ ge. by_row n row.imem_ifun _ _ _ _ ge (λ e. ap (λ x. (reading v s.mem x).ifun) (at_row plus_hardware row.hardware f g e h).0)
+    (λ ge. by_row n row.imem_error _ _ _ _ ge (λ e. ap (λ x. bit (reading v s.mem x).error) (at_row plus_hardware row.hardware f g e h).0)
+    (λ ge. by_row n row.rA _ _ _ _ ge (λ e. let p = at_row plus_hardware row.hardware f g e h in two (λ x y. field_a s.mem x (set y)) p.0 p.1.0)
+    (λ ge. by_row n row.rB _ _ _ _ ge (λ e. let p = at_row plus_hardware row.hardware f g e h in two (λ x y. field_b s.mem x (set y)) p.0 p.1.0)
+    (λ ge. by_row n row.valC _ _ _ _ ge (λ e. let p = at_row plus_hardware row.hardware f g e h in three (λ x y z. constant_at s.mem x (set y) (set z)) p.0 p.1.0 p.1.1.0)
+    (λ ge. by_row n row.valP _ _ _ _ ge (λ e. let p = at_row plus_hardware row.hardware f g e h in three (λ x y z. behind x (set y) (set z)) p.0 p.1.0 p.1.1.0)
+    (λ ge. by_row n row.valA _ _ _ _ ge (λ e. ap (register s.regs) (at_row plus_hardware row.hardware f g e h).0)
+    (λ ge. by_row n row.valB _ _ _ _ ge (λ e. ap (register s.regs) (at_row plus_hardware row.hardware f g e h).0)
+    (λ ge. by_row n row.valE _ _ _ _ ge (λ e. let p = at_row plus_hardware row.hardware f g e h in three (λ x y z. alu_value z x y) p.0 p.1.0 p.1.1.0)
+    (λ ge. by_row n row.Cnd _ _ _ _ ge (λ e. ap (λ x. bit (condition x s.flags)) (at_row plus_hardware row.hardware f g e h).0)
+    (λ ge. by_row n row.valM _ _ _ _ ge (λ e. let p = at_row plus_hardware row.hardware f g e h in two (λ x y. data_read s.mem x (set y)) p.0 p.1.0)
     (λ ge. let last : n ≡ row.dmem_error = omega (arith, ge, lt) in
-    let p = at_row plus_hardware 38 f g last h in
+    let p = at_row plus_hardware row.hardware f g last h in
     three (λ x y z. bit (data_error s.mem x (set y) (set z))) p.0 p.1.0 p.1.1.0))))))))))))
 
 thirteen : length plus_hardware ≡ 13
 unfolding plus_hardware
 thirteen = refl
 
-pub plus_reads : (v : Variant) (s : PlusState) → ReadsInputs plus_hardware 38 51 (plus_block v s)
-plus_reads v s k f g lt h = reads v s (38 + k) f g (omega arith) (omega (arith, lt, thirteen)) (subst (λ i. Each (λ m. f m ≡ g m) (get_or (map (λ (row : Row). inputs row.role) plus_hardware) i [])) (omega arith) h)
+pub plus_reads : (v : Variant) (s : PlusState) → ReadsInputs plus_hardware row.hardware row.defined (plus_block v s)
+plus_reads v s k f g lt h = reads v s (row.hardware + k) f g (omega arith) (omega (arith, lt, thirteen)) (subst (λ i. Each (λ m. f m ≡ g m) (get_or (map (λ (row : Row). inputs row.role) plus_hardware) i [])) (omega arith) h)
 
-pub length-plus_start : (s : PlusState) → length (plus_given s ++ replicate 32 0) ≡ 70
+pub length-plus_start : (s : PlusState) → length (plus_given s ++ replicate (row.count - row.hardware) 0) ≡ row.count
 unfolding plus_given constants
 length-plus_start s = refl
 
-pub plus_computes : (v : Variant) (s : PlusState) (terms : List Term) (ids : List ℕ) (entries : ℕ) → entries ≡ 70 → IsBound plus_rows terms → IsOrderOf plus_rows terms ids →
-    Each (λ id. IsComputed (length (plus_given s)) 51 terms entries id) ids
+pub plus_computes : (v : Variant) (s : PlusState) (terms : List Term) (ids : List ℕ) (entries : ℕ) → entries ≡ row.count → IsBound plus_rows terms → IsOrderOf plus_rows terms ids →
+    Each (λ id. IsComputed (length (plus_given s)) row.defined terms entries id) ids
 plus_computes v s terms ids entries e bound o =
-    subst (λ n. Each (λ id. IsComputed (length (plus_given s)) 51 terms n id) ids) (length-plus_rows ∙ sym e)
-    (order_computes plus_rows (constant_rows ++ plus_state) plus_hardware plus_defined 38 51 plus_layout (plus_given s) (plus_block v s) terms (length-plus_given s) (plus_reads v s) bound ids o)
+    subst (λ n. Each (λ id. IsComputed (length (plus_given s)) row.defined terms n id) ids) (length-plus_rows ∙ sym e)
+    (order_computes plus_rows (constant_rows ++ plus_state) plus_hardware plus_defined row.hardware row.defined plus_layout (plus_given s) (plus_block v s) terms (length-plus_given s) (plus_reads v s) bound ids o)
 
 pub plus_solves : (v : Variant) (s : PlusState) (terms : List Term) (ids : List ℕ) → IsBound plus_rows terms → IsOrderOf plus_rows terms ids →
-    PlusSolves v terms s (at (values_along (plus_rule v terms s) (plus_given s ++ replicate 32 0) ids))
+    PlusSolves v terms s (at (values_along (plus_rule v terms s) (plus_given s ++ replicate (row.count - row.hardware) 0) ids))
 plus_solves v s terms ids bound o =
-    along_solves plus_rows (constant_rows ++ plus_state) plus_hardware plus_defined 38 51 plus_layout (plus_given s) (plus_block v s) terms (length-plus_given s) (plus_reads v s) bound 32 ids
+    along_solves plus_rows (constant_rows ++ plus_state) plus_hardware plus_defined row.hardware row.defined plus_layout (plus_given s) (plus_block v s) terms (length-plus_given s) (plus_reads v s) bound (row.count - row.hardware) ids
     (omega (arith, length-plus_given s, length-plus_rows)) o
 
 pub plus_unique : (v : Variant) (s : PlusState) (terms : List Term) (ids : List ℕ) → IsBound plus_rows terms → IsOrderOf plus_rows terms ids →
     (f h : ℕ → ℕ) → PlusSolves v terms s f → PlusSolves v terms s h → (n : ℕ) → f n ≡ h n
 plus_unique v s terms ids bound o =
-    one_solution plus_rows (constant_rows ++ plus_state) plus_hardware plus_defined 38 51 plus_layout (plus_given s) (plus_block v s) terms (length-plus_given s) (plus_reads v s) bound ids o
+    one_solution plus_rows (constant_rows ++ plus_state) plus_hardware plus_defined row.hardware row.defined plus_layout (plus_given s) (plus_block v s) terms (length-plus_given s) (plus_reads v s) bound ids o

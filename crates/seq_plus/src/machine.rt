@@ -12,6 +12,7 @@ use crate::cycle::{advance, record_of};
 use crate::row;
 use crate::state::{PlusState, Previous};
 use crate::values::solve_plus;
+use dp_signals::at;
 use hcl_types::{Design, Order, SignalEval};
 use std::marker::Model;
 use y86_base::{Image, Stat, Variant};
@@ -119,7 +120,7 @@ impl<C: SignalEval> Plus<C> {
             &self.state,
             &mut self.evaluator,
         );
-        values[row::PC]
+        at(&values, row::PC)
     }
 
     /// How the machine ended, or stands: its registers, flags and memory, the status, and as PC what `pc` answers. The machine

@@ -1,8 +1,9 @@
 //! The values of SEQ+'s signals in one cycle.
-ghost use Rattle.std.specs.Prelude.{◌≡◌, ◌++◌, replicate};
+ghost use Rattle.std.specs.Prelude.{◌≡◌, ◌-◌, ◌++◌, replicate};
 ghost use Rattle.hcl_types.specs.Tables.{IsBound, IsOrderOf};
 ghost use Rattle.hcl_types.specs.Terms.{at};
 ghost use Rattle.seq_plus.specs.PlusEquations as spec;
+ghost use Rattle.seq_plus.specs.PlusNames as row;
 ghost use Rattle.seq_plus.specs.PlusTable.{plus_rows};
 
 use crate::row;
@@ -15,7 +16,7 @@ use hcl_types::{Design, NameId, Order, SignalEval};
 use y86_base::Variant;
 
 /// How many rows the table has.
-pub const PLUS_ROWS: usize = 70;
+pub const PLUS_ROWS: usize = row::COUNT as usize;
 
 /// The value of each row in one cycle, by the row's number.
 pub type PlusValues = [u64; PLUS_ROWS];
@@ -23,7 +24,7 @@ pub type PlusValues = [u64; PLUS_ROWS];
 /// What is given as a cycle begins. Each other row is 0 until it is computed.
 #[tactic(auto, unfolding(dp_signals::specs::PipeEquations::constants, crate::specs::PlusEquations::plus_given))]
 fn given(s: &PlusState) -> PlusValues
-    ensures { result ≡ spec.plus_given s.now ++ replicate 32 0 }
+    ensures { result ≡ spec.plus_given s.now ++ replicate (row.count - row.hardware) 0 }
 {
     let p = s.previous;
     [
@@ -57,7 +58,7 @@ impl<'a> Hardware for PlusHardware<'a> {
         let pc = at(values, row::PC);
         let need_regids = at(values, row::NEED_REGIDS);
         let need_valc = at(values, row::NEED_VAL_C);
-        match row as usize {
+        match row {
             row::IMEM_ICODE => imem_icode(self.variant, &s.mem, pc),
             row::IMEM_IFUN => imem_ifun(self.variant, &s.mem, pc),
             row::IMEM_ERROR => imem_error(self.variant, &s.mem, pc),
@@ -104,7 +105,7 @@ pub fn solve_plus<C: SignalEval>(
         &hardware,
         design,
         c,
-        row::PC as NameId,
+        row::PC,
         order.ids.items(),
         &mut values,
     );
