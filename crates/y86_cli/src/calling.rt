@@ -16,7 +16,7 @@ use std::io::ErrorKind;
 use wb_io::{Files, Sink};
 
 /// The words behind the program's own name, in their order.
-fn words_behind(alloc: Global, mut args: Args) -> Result<Vec<String>, AllocError>
+pub fn words_behind(alloc: Global, mut args: Args) -> Result<Vec<String>, AllocError>
     ensures { IfOk result (λ words. words.items ≡ drop 1 (into_iter_items args)) }
 {
     let _ = args.next();
@@ -30,7 +30,7 @@ fn words_behind(alloc: Global, mut args: Args) -> Result<Vec<String>, AllocError
 }
 
 /// Why the words of a call can't be had: want of memory, or a word that is no text.
-fn unread(error: &io::Error) -> Stop<'static>
+pub fn unread(error: &io::Error) -> Stop<'static>
     ensures memory { (result ≡ Memory) ↔ (error_kind error.now ≡ ErrorKind.OutOfMemory) }
     ensures usage { (result ≡ Usage) ↔ (error_kind error.now ≢ ErrorKind.OutOfMemory) }
     ensures either { (result ≡ Memory) ⊎ (result ≡ Usage) }

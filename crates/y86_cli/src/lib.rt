@@ -24,11 +24,11 @@ mod verdict;
 mod yas;
 mod yis;
 
-pub use crate::calling::call;
+pub use crate::calling::{call, unread, words_behind};
 pub use crate::datapath::Datapath;
 pub use crate::design::{Ordered, pipe_design, seq_design};
 pub use crate::laws::{law_of_accepted_files, law_of_answers, law_of_big, law_of_plans};
 pub use crate::running::{Status, run, tell};
 pub use crate::saying::say;
-pub use crate::stages::{FILE_LIMIT, HCL_LIMIT, load_image, read_file, read_hcl};
+pub use crate::stages::{FILE_LIMIT, HCL_LIMIT, load_image, read_file, read_hcl, status};
 pub use crate::stop::{Refusal, Stop};
