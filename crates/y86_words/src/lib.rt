@@ -10,3 +10,4 @@ mod option;
 
 pub use crate::cmd::{Cmd, Usage, words};
 pub use crate::laws::law_of_words;
+pub use crate::number::number_within;
