@@ -1,12 +1,13 @@
+//! Gates of: a view of the pipeline is lawful, and the path of its youngest good instruction.
 ghost use Rattle.std.specs.Prelude.{◌≡◌, ◌<◌, ◌||◌, ◌&&◌, not, if◌then◌else◌, List, Bool, length, IfOk};
 ghost use Rattle.nets.specs.Nets.{truth};
 ghost use Rattle.pipe_motion.specs.Grows.{Grows};
 ghost use Rattle.pipe_motion.specs.Gates.{slot_at, view_at, HasSlot, HasView};
 ghost use Rattle.pipe_motion.specs.Slots as spec;
 
-use crate::connectives::{choose, excludes, implies, without};
+use crate::connectives::excludes;
 use crate::slots::{SlotGates, ViewGates};
-use crate::steps::{and, not, or};
+use crate::steps::{and, choose, implies, not, or, without};
 use nets::NetBuilder;
 use y86_base::Memory;
 

@@ -11,7 +11,7 @@ mod settings;
 mod slots;
 mod steps;
 
-pub use connectives::{choose, excludes, implies, without};
+pub use connectives::excludes;
 pub use lawful::{lawful_gate, of_youngest, path_gate, stops_gate};
 pub use laws::{law_of_lawful_views, law_of_the_start};
 pub use motion::{fetched_slot, load_gate, move_view};
@@ -20,4 +20,4 @@ pub use obligations::{
 };
 pub use settings::Settings;
 pub use slots::{MoverGates, MoversGates, SlotGates, ViewGates};
-pub use steps::{and, constant, equal, not, or};
+pub use steps::{and, choose, constant, equal, implies, not, or, without};

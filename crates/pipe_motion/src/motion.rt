@@ -1,12 +1,13 @@
+//! Gates of the next cycle: what the registers hold behind stalls and bubbles.
 ghost use Rattle.std.specs.Prelude.{◌≡◌, ◌<◌, ◌||◌, ◌&&◌, not, if◌then◌else◌, List, Bool, length, IfOk};
 ghost use Rattle.nets.specs.Nets.{truth};
 ghost use Rattle.pipe_motion.specs.Grows.{Grows};
 ghost use Rattle.pipe_motion.specs.Gates.{slot_at, view_at, mover_at, movers_at, HasSlot, HasView, HasMover, HasMovers};
 ghost use Rattle.pipe_motion.specs.Slots as spec;
 
-use crate::connectives::{choose, without};
+use crate::connectives::neither;
 use crate::slots::{MoverGates, MoversGates, SlotGates, ViewGates};
-use crate::steps::{and, constant, not, or};
+use crate::steps::{and, choose, constant, not, without};
 use nets::NetBuilder;
 use y86_base::Memory;
 
@@ -17,8 +18,7 @@ pub fn load_gate(b: &mut NetBuilder, k: &MoverGates) -> Result<u64, Memory>
     ensures truth { (w : List Bool) → IfOk result (λ g. truth b.new g w ≡ spec.loads (mover_at b.old w k.now)) }
     ensures grows { Grows b.old b.new }
 {
-    let either = or(b, k.stall, k.bubble)?;
-    let loads = not(b, either)?;
+    let loads = neither(b, k.stall, k.bubble)?;
     Ok(loads)
 }
 

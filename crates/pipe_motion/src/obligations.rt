@@ -1,14 +1,15 @@
+//! Gates of the obligations on motion.
 ghost use Rattle.std.specs.Prelude.{◌≡◌, ◌<◌, ◌||◌, ◌&&◌, not, if◌then◌else◌, List, Bool, length, IfOk};
 ghost use Rattle.nets.specs.Nets.{truth};
 ghost use Rattle.pipe_motion.specs.Grows.{Grows};
 ghost use Rattle.pipe_motion.specs.Gates.{slot_at, view_at, mover_at, movers_at, HasSlot, HasView, HasMover, HasMovers};
 ghost use Rattle.pipe_motion.specs.Slots as spec;
 
-use crate::connectives::{choose, excludes, implies, without};
+use crate::connectives::{excludes, neither};
 use crate::lawful::{lawful_gate, path_gate};
 use crate::motion::{fetched_slot, load_gate, move_view};
 use crate::slots::{MoverGates, MoversGates, SlotGates, ViewGates};
-use crate::steps::{and, not, or};
+use crate::steps::{and, choose, implies, not, or, without};
 use nets::NetBuilder;
 use y86_base::Memory;
 
@@ -187,19 +188,6 @@ fn drained(b: &mut NetBuilder, v: &ViewGates) -> Result<u64, Memory>
     let last_two = and(b, m, w)?;
     let all = and(b, e, last_two)?;
     Ok(all)
-}
-
-/// Neither of the two.
-fn neither(b: &mut NetBuilder, x: u64, y: u64) -> Result<u64, Memory>
-    requires x_in { x < length b.old.gates }
-    requires y_in { y < length b.old.gates }
-    ensures within { IfOk result (λ g. g < length b.new.gates) }
-    ensures truth { (w : List Bool) → IfOk result (λ g. truth b.new g w ≡ not (truth b.old x w || truth b.old y w)) }
-    ensures grows { Grows b.old b.new }
-{
-    let either = or(b, x, y)?;
-    let g = not(b, either)?;
-    Ok(g)
 }
 
 /// Behind empty stages a good D leaves.

@@ -1,3 +1,5 @@
+//! The settings of a file: what it does that another needn't.
+
 /// What a file does that another needn't. Jumps are predicted as taken by their ifun: `pt` those whose target isn't
 /// behind them, `pb` those that go back, which is told by the order of valC and valP as signed words.
 #[derive(Clone, Copy, Debug, PartialEq, Eq)]

@@ -1,3 +1,5 @@
+//! What stands in the pipeline registers, and what stalls and bubbles them, as gates.
+
 /// The gates of what stands in a pipeline register: a good instruction, a wrong one; of a good one that it stops, is a
 /// ret, is a missed jump.
 #[derive(Clone, Copy, Debug)]
