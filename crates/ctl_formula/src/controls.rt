@@ -1,3 +1,4 @@
+//! The control values of a design: a gate for each truth, and picks for each other name.
 ghost use Rattle.std.specs.Prelude.{◌≡◌, IsTrue};
 ghost use Rattle.ctl_formula.specs.Picks.{has_gate, has_picks, gate_of, picks_of};
 

@@ -1,3 +1,4 @@
+//! Lists of picks: a leaf is found, a gate is joined to its pick.
 ghost use Rattle.std.specs.Prelude.{◌≡◌, ◌<◌, ◌&&◌, ◌||◌, ◌++◌, ◌∷◌, [], length, List, Bool, IfOk, OnOk, MatchOption, false};
 ghost use Rattle.ctl_atoms.specs.declared.leaf.Leaf.{Leaf};
 ghost use Rattle.nets.specs.Nets.{Begins, truth};

@@ -1,3 +1,4 @@
+//! What a translation reads, and the gates of atoms and comparisons.
 ghost use Rattle.std.specs.Prelude.{◌≡◌, ◌<◌, ◌≤◌, ◌+◌, ◌^◌, length, List, Bool, IfOk, IsTrue, MatchOption, slice_get, Some, false};
 ghost use Rattle.nets.specs.Nets.{Begins, truth};
 ghost use Rattle.ctl_atoms.specs.Leaves.{has_atom, AtomsAre, Assignment, asked_lt, asked_eq, asked, is_listed, decided_lt, leaf_lt, leaf_same, leaf_cmp};

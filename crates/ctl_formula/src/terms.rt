@@ -1,3 +1,6 @@
+//! The gates and picks of terms.
+#![tactic(auto, using(crate::proofs::Opened::open_kept, nets::proofs::Truths::begins_more))]
+
 ghost use Rattle.std.specs.Prelude.{◌≡◌, ◌<◌, ◌≤◌, ◌+◌, ◌&&◌, ◌||◌, ◌++◌, ◌∷◌, [], ℕ, length, List, Bool, IfOk, OnOk, IsTrue, true, if◌then◌else◌, MatchOption, slice_get, Some, false, map};
 ghost use Rattle.ctl_atoms.specs.declared.leaf.Leaf.{Leaf};
 ghost use Rattle.ctl_formula.specs.declared.controls.Entry.TheVariants.{Truth, Picks};
@@ -67,7 +70,6 @@ impl<'a> Scope<'a> {
 
     /// The gate of a term that is a truth.
     #[cycle(translation)]
-    #[tactic(auto, using(crate::proofs::Opened::open_kept, nets::proofs::Truths::begins_more))]
     pub fn truth(&self, alloc: Global, b: &mut NetBuilder, t: &Term) -> Result<u64, Memory>
         requires open { IsOpen b.old self.now.entries.now self.now.atoms.now self.now.first }
         requires planned { IsTrue (ready self.now.entries.now self.now.atoms.now t.now).truth }
@@ -109,7 +111,6 @@ impl<'a> Scope<'a> {
 
     /// The picks of a term that is a word.
     #[cycle(translation)]
-    #[tactic(auto, using(crate::proofs::Opened::open_kept, nets::proofs::Truths::begins_more))]
     pub fn word(&self, alloc: Global, b: &mut NetBuilder, t: &Term) -> Result<Vec<Pick>, Memory>
         requires open { IsOpen b.old self.now.entries.now self.now.atoms.now self.now.first }
         requires planned { IsTrue (ready self.now.entries.now self.now.atoms.now t.now).word }
@@ -141,7 +142,6 @@ impl<'a> Scope<'a> {
 
     /// The gate of: each term is true.
     #[cycle(translation)]
-    #[tactic(auto, using(crate::proofs::Opened::open_kept, nets::proofs::Truths::begins_more))]
     fn all_of(&self, alloc: Global, b: &mut NetBuilder, all: &[Term]) -> Result<u64, Memory>
         requires open { IsOpen b.old self.now.entries.now self.now.atoms.now self.now.first }
         requires planned { IsTrue (truths (map (ready self.now.entries.now self.now.atoms.now) all.now)) }
@@ -160,7 +160,6 @@ impl<'a> Scope<'a> {
 
     /// The gate of: some term is true.
     #[cycle(translation)]
-    #[tactic(auto, using(crate::proofs::Opened::open_kept, nets::proofs::Truths::begins_more))]
     fn any_of(&self, alloc: Global, b: &mut NetBuilder, all: &[Term]) -> Result<u64, Memory>
         requires open { IsOpen b.old self.now.entries.now self.now.atoms.now self.now.first }
         requires planned { IsTrue (truths (map (ready self.now.entries.now self.now.atoms.now) all.now)) }
@@ -179,7 +178,6 @@ impl<'a> Scope<'a> {
 
     /// The gate of: what is picked equals some member.
     #[cycle(translation)]
-    #[tactic(auto, using(crate::proofs::Opened::open_kept, nets::proofs::Truths::begins_more))]
     fn member_of(
         &self,
         alloc: Global,
@@ -206,7 +204,6 @@ impl<'a> Scope<'a> {
 
     /// The picks of a case list.
     #[cycle(translation)]
-    #[tactic(auto, using(crate::proofs::Opened::open_kept, nets::proofs::Truths::begins_more))]
     fn case_of(
         &self,
         alloc: Global,
@@ -235,7 +232,6 @@ impl<'a> Scope<'a> {
 
     /// Adds the picks of a branch, and gives the gate of: no branch so far was taken.
     #[cycle(translation)]
-    #[tactic(auto, using(crate::proofs::Opened::open_kept, nets::proofs::Truths::begins_more))]
     fn branch_of(
         &self,
         alloc: Global,
