@@ -1,6 +1,7 @@
 -- In a real cycle each control value is worth the value of its name.
-use Rattle.std.proofs.Common.{◌≡◌, ℕ, zero, suc, ◌+◌, ◌-◌, ◌<◌, ◌≤◌, inl, inr, Bool, true, false, not, ◌&&◌, ◌||◌, ◌==◌, nat_le, List, [], ◌∷◌, length, take, slice_get, Option, Some, None, refl, sym, ap, ◌∙◌, subst, arith}
-use Rattle.std.proofs.lemmas.Bool.{and_parts, cases_eq, cases_lt, eqb-true, leb-true}
+use Rattle.std.proofs.Common.{◌≡◌, ℕ, zero, suc, ◌+◌, ◌-◌, ◌<◌, ◌≤◌, inl, inr, Bool, true, false, not, ◌&&◌, ◌||◌, ◌==◌, nat_le, List, [], ◌∷◌, length, take, get_or, slice_get, Option, Some, None, refl, sym, ap, ◌∙◌, subst, arith}
+use Rattle.std.proofs.lemmas.Bool.{and_parts, cases_eq, cases_lt, eqb-true, leb-true, lt-ltb}
+use Rattle.std.proofs.lemmas.List.{get_or_append_left}
 use Rattle.std.proofs.lemmas.Option.{slice_get_past, slice_get-get_or}
 use Rattle.y86_base.specs.declared.parts.Variant.{Variant}
 use Rattle.hcl_types.specs.Lists.{Each}
@@ -22,9 +23,9 @@ use Rattle.dp_signals.proofs.PipeRules.{length-given, length-pipe_rows}
 use Rattle.dp_signals.proofs.Rules.{definition_rule}
 use Rattle.ctl_atoms.specs.declared.leaf.Leaf.TheVariants.{Number}
 use Rattle.ctl_atoms.specs.declared.leaf.Leaf.{Leaf}
-use Rattle.ctl_formula.specs.Controls.{AreControls, role_leaf}
+use Rattle.ctl_formula.specs.Controls.{AreControls, role_leaf, row_leaf}
 use Rattle.ctl_formula.specs.Laws.{IsDefinedBy, IsWorthGiven, real, worth}
-use Rattle.ctl_formula.proofs.Rows.{from_some, rule_row}
+use Rattle.ctl_formula.proofs.Rows.{rule_row}
 use Rattle.ctl_formula.proofs.Solved.{agreement}
 use Rattle.pipe_fields.specs.Layout.{number_of}
 use Rattle.pipe_refinement.specs.Invariant.{Given}
@@ -117,21 +118,55 @@ module _ (v : Variant) (terms : List Term) (p : PipeState) (f : ℕ → ℕ) (s 
 
 -- ---- constants, state and hardware
 
-abbrev EachGiven : (ℕ → ℕ) → (ℕ → ℕ) → (ℕ → Leaf) → ℕ → List Row → Type 0
-EachGiven field f cv k [] = Unit {0}
-EachGiven field f cv k (r ∷ rs) =
-    (is_defined r.role ≡ false → Each (λ m. worth f (cv m) ≡ f m) (inputs r.role) → worth f (role_leaf field k r.class r.role (Number 0)) ≡ f k)
-    × EachGiven field f cv (k + 1) rs
+is_constant : Role → ℕ → Bool
+is_constant (role.Constant k) x = k == x
+is_constant role.State x = false
+is_constant (role.Hardware ids) x = false
+is_constant role.Defined x = false
 
-told : (field f : ℕ → ℕ) (cv : ℕ → Leaf) (k : ℕ) (rs : List Row) → EachGiven field f cv k rs → (i j : ℕ) (r : Row) → k + i ≡ j → slice_get rs i ≡ Some r →
-    is_defined r.role ≡ false → Each (λ m. worth f (cv m) ≡ f m) (inputs r.role) → worth f (role_leaf field j r.class r.role (Number 0)) ≡ f j
-told field f cv k [] h i j r e at d a = absurd (some_none r (sym at))
-told field f cv k (q ∷ rs) h zero j r e at d a =
-    let same : q ≡ r = from_some q r at in
-    let here : k ≡ j = omega (arith, e) in
-    subst (λ z. worth f (role_leaf field z r.class r.role (Number 0)) ≡ f z) here
-    (subst (λ (z : Row). is_defined z.role ≡ false → Each (λ m. worth f (cv m) ≡ f m) (inputs z.role) → worth f (role_leaf field k z.class z.role (Number 0)) ≡ f k) same h.0 d a)
-told field f cv k (q ∷ rs) h (suc i) j r e at d a = told field f cv (k + 1) rs h.1 i j r (omega (arith, e)) at d a
+constant_at : Option Row → ℕ → Bool
+constant_at None x = false
+constant_at (Some r) x = is_constant r.role x
+
+inputs_at : Option Row → List ℕ
+inputs_at None = []
+inputs_at (Some r) = inputs r.role
+
+constants_there : each_number 33 (λ n. constant_at (slice_get pipe_rows n) (get_or constants n 0)) ≡ true
+unfolding pipe_rows constant_rows pipe_state pipe_hardware pipe_defined constants each_number constant_at is_constant
+constants_there = refl
+
+thirty_three : length constants ≡ 33
+unfolding constants
+thirty_three = refl
+
+all_defined : each_number 39 (λ k. row_defined (slice_get pipe_rows (name.f_pc + k))) ≡ true
+unfolding pipe_rows constant_rows pipe_state pipe_hardware pipe_defined each_number row_defined
+all_defined = refl
+
+constant_leaf : (field : ℕ → ℕ) (i x : ℕ) (o : Option Row) → constant_at o x ≡ true → row_leaf field i o (Number 0) ≡ Number x
+unfolding constant_at is_constant
+constant_leaf field i x None h = cc
+constant_leaf field i x (Some r) h = by r.role h
+  where
+    by : (q : Role) → is_constant q x ≡ true → role_leaf field i r.class q (Number 0) ≡ Number x
+    by (role.Constant k) h = ap Number (eqb-true k x h)
+    by role.State h = cc
+    by (role.Hardware ids) h = cc
+    by role.Defined h = cc
+
+-- what holds of a number where it is the first, and else of a later one, holds of it
+by_number : (P : ℕ → Type 0) (n first : ℕ) → first ≤ n → P first → (first + 1 ≤ n → P n) → P n
+by_number P n first le here later = elim (cases_eq n first) [
+  | inl e ↦ subst P (sym e) here
+  | inr ne ↦ later (above ne)
+]
+  where
+    above : (n ≡ first → ⊥) → first + 1 ≤ n
+    above ne = grind (arith, ne, le)
+
+clash : {P : Type 0} (b : Bool) → b ≡ true → b ≡ false → P
+clash b t f = grind (arith, t, f)
 
 given_leaf : (field : ℕ → ℕ) (n : ℕ) (r : Row) (a b : Leaf) → is_defined r.role ≡ false → role_leaf field n r.class r.role a ≡ role_leaf field n r.class r.role b
 given_leaf field n r a b d = by r.role d
@@ -145,340 +180,95 @@ given_leaf field n r a b d = by r.role d
 module _ (x : Given) (terms : List Term) (c : Config) (p : PipeState) (f : ℕ → ℕ) (cv : ℕ → Leaf) (s : Solves x.v terms p f)
     (ring : worth f (cv name.mem_addr) ≡ f name.mem_addr → worth f (cv name.mem_read) ≡ f name.mem_read → worth f (cv name.mem_write) ≡ f name.mem_write →
     f name.dmem_error ≡ hidden c.m (fault_of x (in_m c))) where
-  each_given : EachGiven (number_of (fields_at x c p f (f_line x c f))) f cv 0 pipe_rows
-  unfolding pipe_rows constant_rows pipe_state pipe_hardware pipe_defined number_of fields_at f_line rule_of given constants state_words
-  each_given = (
-    (λ d i. sym (s 0)),
-    (
-      (λ d i. sym (s 1)),
-      (
-        (λ d i. sym (s 2)),
-        (
-          (λ d i. sym (s 3)),
-          (
-            (λ d i. sym (s 4)),
-            (
-              (λ d i. sym (s 5)),
-              (
-                (λ d i. sym (s 6)),
-                (
-                  (λ d i. sym (s 7)),
-                  (
-                    (λ d i. sym (s 8)),
-                    (
-                      (λ d i. sym (s 9)),
-                      (
-                        (λ d i. sym (s 10)),
-                        (
-                          (λ d i. sym (s 11)),
-                          (
-                            (λ d i. sym (s 12)),
-                            (
-                              (λ d i. sym (s 13)),
-                              (
-                                (λ d i. sym (s 14)),
-                                (
-                                  (λ d i. sym (s 15)),
-                                  (
-                                    (λ d i. sym (s 16)),
-                                    (
-                                      (λ d i. sym (s 17)),
-                                      (
-                                        (λ d i. sym (s 18)),
-                                        (
-                                          (λ d i. sym (s 19)),
-                                          (
-                                            (λ d i. sym (s 20)),
-                                            (
-                                              (λ d i. sym (s 21)),
-                                              (
-                                                (λ d i. sym (s 22)),
-                                                (
-                                                  (λ d i. sym (s 23)),
-                                                  (
-                                                    (λ d i. sym (s 24)),
-                                                    (
-                                                      (λ d i. sym (s 25)),
-                                                      (
-                                                        (λ d i. sym (s 26)),
-                                                        (
-                                                          (λ d i. sym (s 27)),
-                                                          (
-                                                            (λ d i. sym (s 28)),
-                                                            (
-                                                              (λ d i. sym (s 29)),
-                                                              (
-                                                                (λ d i. sym (s 30)),
-                                                                (
-                                                                  (λ d i. sym (s 31)),
-                                                                  (
-                                                                    (λ d i. sym (s 32)),
-                                                                    (
-                                                                      (λ d i. sym (s 33)),
-                                                                      (
-                                                                        (λ d i. sym (s 34)),
-                                                                        (
-                                                                          (λ d i. sym (s 35)),
-                                                                          (
-                                                                            (λ d i. sym (s 36)),
-                                                                            (
-                                                                              (λ d i. sym (s 37)),
-                                                                              (
-                                                                                (λ d i. sym (s 38)),
-                                                                                (
-                                                                                  (λ d i. sym (s 39)),
-                                                                                  (
-                                                                                    (λ d i. sym (s 40)),
-                                                                                    (
-                                                                                      (λ d i. sym (s 41)),
-                                                                                      (
-                                                                                        (λ d i. sym (s 42)),
-                                                                                        (
-                                                                                          (λ d i. sym (s 43)),
-                                                                                          (
-                                                                                            (λ d i. sym (s 44)),
-                                                                                            (
-                                                                                              (λ d i. sym (s 45)),
-                                                                                              (
-                                                                                                (λ d i. sym (s 46)),
-                                                                                                (
-                                                                                                  (λ d i. sym (s 47)),
-                                                                                                  (
-                                                                                                    (λ d i. sym (s 48)),
-                                                                                                    (
-                                                                                                      (λ d i. sym (s 49)),
-                                                                                                      (
-                                                                                                        (λ d i. sym (s 50)),
-                                                                                                        (
-                                                                                                          (λ d i. sym (s 51)),
-                                                                                                          (
-                                                                                                            (λ d i. sym (s 52)),
-                                                                                                            (
-                                                                                                              (λ d i. sym (s 53)),
-                                                                                                              (
-                                                                                                                (λ d i. refl),
-                                                                                                                (
-                                                                                                                  (λ d i. refl),
-                                                                                                                  (
-                                                                                                                    (λ d i. refl),
-                                                                                                                    (
-                                                                                                                      (λ d i. refl),
-                                                                                                                      (
-                                                                                                                        (λ d i. refl),
-                                                                                                                        (
-                                                                                                                          (λ d i. refl),
-                                                                                                                          (
-                                                                                                                            (λ d i. refl),
-                                                                                                                            (
-                                                                                                                              (λ d i. refl),
-                                                                                                                              (
-                                                                                                                                (λ d i. refl),
-                                                                                                                                (
-                                                                                                                                  (λ d i. refl),
-                                                                                                                                  (
-                                                                                                                                    (λ d i. sym (s 64)),
-                                                                                                                                    (
-                                                                                                                                      (λ d i. refl),
-                                                                                                                                      (
-                                                                                                                                        (λ d i. refl),
-                                                                                                                                        (
-                                                                                                                                          (λ d i. refl),
-                                                                                                                                          (
-                                                                                                                                            (λ d i. refl),
-                                                                                                                                            (
-                                                                                                                                              (λ d i. refl),
-                                                                                                                                              (
-                                                                                                                                                (λ d i. refl),
-                                                                                                                                                (
-                                                                                                                                                  (λ d i. refl),
-                                                                                                                                                  (
-                                                                                                                                                    (λ d i. refl),
-                                                                                                                                                    (
-                                                                                                                                                      (λ d i. refl),
-                                                                                                                                                      (
-                                                                                                                                                        (λ d i. refl),
-                                                                                                                                                        (
-                                                                                                                                                          (λ d i. sym (ring i.0 i.1.0 i.1.1.0)),
-                                                                                                                                                          (
-                                                                                                                                                            (λ d i. cc),
-                                                                                                                                                            (
-                                                                                                                                                              (λ d i. cc),
-                                                                                                                                                              (
-                                                                                                                                                                (λ d i. cc),
-                                                                                                                                                                (
-                                                                                                                                                                  (λ d i. cc),
-                                                                                                                                                                  (
-                                                                                                                                                                    (λ d i. cc),
-                                                                                                                                                                    (
-                                                                                                                                                                      (λ d i. cc),
-                                                                                                                                                                      (
-                                                                                                                                                                        (λ d i. cc),
-                                                                                                                                                                        (
-                                                                                                                                                                          (λ d i. cc),
-                                                                                                                                                                          (
-                                                                                                                                                                            (λ d i. cc),
-                                                                                                                                                                            (
-                                                                                                                                                                              (λ d i. cc),
-                                                                                                                                                                              (
-                                                                                                                                                                                (λ d i. cc),
-                                                                                                                                                                                (
-                                                                                                                                                                                  (λ d i. cc),
-                                                                                                                                                                                  (
-                                                                                                                                                                                    (λ d i. cc),
-                                                                                                                                                                                    (
-                                                                                                                                                                                      (λ d i. cc),
-                                                                                                                                                                                      (
-                                                                                                                                                                                        (λ d i. cc),
-                                                                                                                                                                                        (
-                                                                                                                                                                                          (λ d i. cc),
-                                                                                                                                                                                          (
-                                                                                                                                                                                            (λ d i. cc),
-                                                                                                                                                                                            (
-                                                                                                                                                                                              (λ d i. cc),
-                                                                                                                                                                                              (
-                                                                                                                                                                                                (λ d i. cc),
-                                                                                                                                                                                                (
-                                                                                                                                                                                                  (λ d i. cc),
-                                                                                                                                                                                                  (
-                                                                                                                                                                                                    (λ d i. cc),
-                                                                                                                                                                                                    (
-                                                                                                                                                                                                      (λ d i. cc),
-                                                                                                                                                                                                      (
-                                                                                                                                                                                                        (λ d i. cc),
-                                                                                                                                                                                                        (
-                                                                                                                                                                                                          (λ d i. cc),
-                                                                                                                                                                                                          (
-                                                                                                                                                                                                            (λ d i. cc),
-                                                                                                                                                                                                            (
-                                                                                                                                                                                                              (λ d i. cc),
-                                                                                                                                                                                                              (
-                                                                                                                                                                                                                (λ d i. cc),
-                                                                                                                                                                                                                (
-                                                                                                                                                                                                                  (λ d i. cc),
-                                                                                                                                                                                                                  (
-                                                                                                                                                                                                                    (λ d i. cc),
-                                                                                                                                                                                                                    (
-                                                                                                                                                                                                                      (λ d i. cc),
-                                                                                                                                                                                                                      (
-                                                                                                                                                                                                                        (λ d i. cc),
-                                                                                                                                                                                                                        (
-                                                                                                                                                                                                                          (λ d i. cc),
-                                                                                                                                                                                                                          ((λ d i. cc), ((λ d i. cc), ((λ d i. cc), ((λ d i. cc), ((λ d i. cc), ((λ d i. cc), ((λ d i. cc), tt))))))),
-                                                                                                                                                                                                                        ),
-                                                                                                                                                                                                                      ),
-                                                                                                                                                                                                                    ),
-                                                                                                                                                                                                                  ),
-                                                                                                                                                                                                                ),
-                                                                                                                                                                                                              ),
-                                                                                                                                                                                                            ),
-                                                                                                                                                                                                          ),
-                                                                                                                                                                                                        ),
-                                                                                                                                                                                                      ),
-                                                                                                                                                                                                    ),
-                                                                                                                                                                                                  ),
-                                                                                                                                                                                                ),
-                                                                                                                                                                                              ),
-                                                                                                                                                                                            ),
-                                                                                                                                                                                          ),
-                                                                                                                                                                                        ),
-                                                                                                                                                                                      ),
-                                                                                                                                                                                    ),
-                                                                                                                                                                                  ),
-                                                                                                                                                                                ),
-                                                                                                                                                                              ),
-                                                                                                                                                                            ),
-                                                                                                                                                                          ),
-                                                                                                                                                                        ),
-                                                                                                                                                                      ),
-                                                                                                                                                                    ),
-                                                                                                                                                                  ),
-                                                                                                                                                                ),
-                                                                                                                                                              ),
-                                                                                                                                                            ),
-                                                                                                                                                          ),
-                                                                                                                                                        ),
-                                                                                                                                                      ),
-                                                                                                                                                    ),
-                                                                                                                                                  ),
-                                                                                                                                                ),
-                                                                                                                                              ),
-                                                                                                                                            ),
-                                                                                                                                          ),
-                                                                                                                                        ),
-                                                                                                                                      ),
-                                                                                                                                    ),
-                                                                                                                                  ),
-                                                                                                                                ),
-                                                                                                                              ),
-                                                                                                                            ),
-                                                                                                                          ),
-                                                                                                                        ),
-                                                                                                                      ),
-                                                                                                                    ),
-                                                                                                                  ),
-                                                                                                                ),
-                                                                                                              ),
-                                                                                                            ),
-                                                                                                          ),
-                                                                                                        ),
-                                                                                                      ),
-                                                                                                    ),
-                                                                                                  ),
-                                                                                                ),
-                                                                                              ),
-                                                                                            ),
-                                                                                          ),
-                                                                                        ),
-                                                                                      ),
-                                                                                    ),
-                                                                                  ),
-                                                                                ),
-                                                                              ),
-                                                                            ),
-                                                                          ),
-                                                                        ),
-                                                                      ),
-                                                                    ),
-                                                                  ),
-                                                                ),
-                                                              ),
-                                                            ),
-                                                          ),
-                                                        ),
-                                                      ),
-                                                    ),
-                                                  ),
-                                                ),
-                                              ),
-                                            ),
-                                          ),
-                                        ),
-                                      ),
-                                    ),
-                                  ),
-                                ),
-                              ),
-                            ),
-                          ),
-                        ),
-                      ),
-                    ),
-                  ),
-                ),
-              ),
-            ),
-          ),
-        ),
-      ),
-    ),
-  )
+  numbers : ℕ → ℕ
+  numbers = number_of (fields_at x c p f (f_line x c f))
+
+  -- the leaf of a row that the file doesn't define is worth the value of its name, once those of its inputs are
+  Step : ℕ → Type 0
+  Step n = Each (λ m. worth f (cv m) ≡ f m) (inputs_at (slice_get pipe_rows n)) → worth f (row_leaf numbers n (slice_get pipe_rows n) (Number 0)) ≡ f n
+
+  given_word : (n : ℕ) → n < 65 → f n ≡ get_or (given p) n 0
+  unfolding given constants state_words rule_of
+  given_word n lt = s n ∙ (rw (lt-ltb n 65 lt) refl)
+
+  at_constant : (n : ℕ) → n < 33 → Step n
+  unfolding Step given
+  at_constant n lt = λ a.
+      let there = number_tests 33 (λ i. constant_at (slice_get pipe_rows i) (get_or constants i 0)) constants_there n lt in
+      ap (worth f) (constant_leaf numbers n (get_or constants n 0) (slice_get pipe_rows n) there)
+      ∙ sym (given_word n (omega (arith, lt)) ∙ get_or_append_left constants (state_words p) 0 n (omega (arith, lt, thirty_three)))
+
+  at_signal : (n : ℕ) → name.D_stat ≤ n → n < name.f_pc → Step n
+  unfolding Step numbers inputs_at pipe_rows constant_rows pipe_state pipe_hardware pipe_defined number_of fields_at f_line rule_of given constants state_words
+  at_signal n ge lt =
+      by_number Step n name.D_stat ge (λ _. sym (s name.D_stat))
+      (λ ge. by_number Step n name.D_icode ge (λ _. sym (s name.D_icode))
+      (λ ge. by_number Step n name.D_ifun ge (λ _. sym (s name.D_ifun))
+      (λ ge. by_number Step n name.D_rA ge (λ _. sym (s name.D_rA))
+      (λ ge. by_number Step n name.D_rB ge (λ _. sym (s name.D_rB))
+      (λ ge. by_number Step n name.E_stat ge (λ _. sym (s name.E_stat))
+      (λ ge. by_number Step n name.E_icode ge (λ _. sym (s name.E_icode))
+      (λ ge. by_number Step n name.E_ifun ge (λ _. sym (s name.E_ifun))
+      (λ ge. by_number Step n name.E_dstE ge (λ _. sym (s name.E_dstE))
+      (λ ge. by_number Step n name.E_dstM ge (λ _. sym (s name.E_dstM))
+      (λ ge. by_number Step n name.E_srcA ge (λ _. sym (s name.E_srcA))
+      (λ ge. by_number Step n name.E_srcB ge (λ _. sym (s name.E_srcB))
+      (λ ge. by_number Step n name.M_stat ge (λ _. sym (s name.M_stat))
+      (λ ge. by_number Step n name.M_icode ge (λ _. sym (s name.M_icode))
+      (λ ge. by_number Step n name.M_ifun ge (λ _. sym (s name.M_ifun))
+      (λ ge. by_number Step n name.M_dstE ge (λ _. sym (s name.M_dstE))
+      (λ ge. by_number Step n name.M_dstM ge (λ _. sym (s name.M_dstM))
+      (λ ge. by_number Step n name.W_stat ge (λ _. sym (s name.W_stat))
+      (λ ge. by_number Step n name.W_icode ge (λ _. sym (s name.W_icode))
+      (λ ge. by_number Step n name.W_dstE ge (λ _. sym (s name.W_dstE))
+      (λ ge. by_number Step n name.W_dstM ge (λ _. sym (s name.W_dstM))
+      (λ ge. by_number Step n name.F_predPC ge (λ _. refl)
+      (λ ge. by_number Step n name.D_valC ge (λ _. refl)
+      (λ ge. by_number Step n name.D_valP ge (λ _. refl)
+      (λ ge. by_number Step n name.E_valC ge (λ _. refl)
+      (λ ge. by_number Step n name.E_valA ge (λ _. refl)
+      (λ ge. by_number Step n name.E_valB ge (λ _. refl)
+      (λ ge. by_number Step n name.M_valE ge (λ _. refl)
+      (λ ge. by_number Step n name.M_valA ge (λ _. refl)
+      (λ ge. by_number Step n name.W_valE ge (λ _. refl)
+      (λ ge. by_number Step n name.W_valM ge (λ _. refl)
+      (λ ge. by_number Step n name.M_Cnd ge (λ _. sym (s name.M_Cnd))
+      (λ ge. by_number Step n name.imem_icode ge (λ _. refl)
+      (λ ge. by_number Step n name.imem_ifun ge (λ _. refl)
+      (λ ge. by_number Step n name.imem_error ge (λ _. refl)
+      (λ ge. by_number Step n name.f_valC ge (λ _. refl)
+      (λ ge. by_number Step n name.f_valP ge (λ _. refl)
+      (λ ge. by_number Step n name.d_rvalA ge (λ _. refl)
+      (λ ge. by_number Step n name.d_rvalB ge (λ _. refl)
+      (λ ge. by_number Step n name.e_valE ge (λ _. refl)
+      (λ ge. by_number Step n name.e_Cnd ge (λ _. refl)
+      (λ ge. by_number Step n name.m_valM ge (λ _. refl)
+      (λ ge. by_number Step n name.dmem_error ge (λ a. sym (ring a.0 a.1.0 a.1.1.0))
+      (λ ge. absurd (omega (arith, ge, lt)))))))))))))))))))))))))))))))))))))))))))))
+
+  step : (n : ℕ) (r : Row) → slice_get pipe_rows n ≡ Some r → is_defined r.role ≡ false → Step n
+  unfolding row_defined
+  step n r e d = elim (cases_lt n 33) [
+    | inl lt ↦ at_constant n lt
+    | inr le ↦ elim (cases_lt n name.f_pc) [
+      | inl lt ↦ at_signal n le lt
+      | inr above ↦ clash (is_defined r.role) (is_so above) d
+    ]
+  ]
+    where
+      is_so : name.f_pc ≤ n → is_defined r.role ≡ true
+      is_so above =
+          let same : name.f_pc + (n - name.f_pc) ≡ n = omega (arith, above) in
+          sym (ap row_defined (ap (slice_get pipe_rows) same ∙ e))
+          ∙ number_tests 39 (λ k. row_defined (slice_get pipe_rows (name.f_pc + k))) all_defined (n - name.f_pc) (omega (arith, above, inside n r e))
 
   pub worth_given : AreControls pipe_rows terms (number_of (fields_at x c p f (f_line x c f))) (real f) cv → IsWorthGiven pipe_rows f cv
+  unfolding Step numbers inputs_at
   worth_given k n r e d a =
       ap (worth f) (k n
       ∙ rule_row pipe_rows terms (number_of (fields_at x c p f (f_line x c f))) (real f) n cv r e
       ∙ given_leaf (number_of (fields_at x c p f (f_line x c f))) n r _ (Number 0) d)
-      ∙ told (number_of (fields_at x c p f (f_line x c f))) f cv 0 pipe_rows each_given n n r (omega arith) e d a
+      ∙ subst (λ o. worth f (row_leaf numbers n o (Number 0)) ≡ f n) e (step n r e d (subst (λ o. Each (λ m. worth f (cv m) ≡ f m) (inputs_at o)) (sym e) a))
 
   -- along the order, with M's error bit once what it depends on agrees
   pub all_agree : (ids : List ℕ) → IsBound pipe_rows terms → IsOrderOf pipe_rows terms ids →
