@@ -19,7 +19,8 @@ use Rattle.rule_gates.specs.declared.rules.Rule.{Rule}
 use Rattle.pipe_obligations.specs.Rules.{obligation}
 use Rattle.pipe_obligations.specs.Stages.{view_of}
 use Rattle.pipe_obligations.specs.Settled.{Truth, carries, may_show, most_free, predicts_taken, shows_je, shows_lf, shows_rm}
-use Rattle.hazard_rules.specs.Parts.{IsFormula, IsTold, AreToldRules, AreRules, AreClosed, AreLate, TellPredictions}
+use Rattle.hazard_rules.specs.Parts.{IsFormula, AreToldRules, AreRules, AreClosed, AreLate, TellPredictions}
+use Rattle.pipe_gates.specs.Told.{IsTold}
 use Rattle.ctl_atoms.specs.declared.leaf.Leaf.{Leaf}
 use Rattle.ctl_atoms.specs.Leaves.{Assignment, AtomsAre}
 use Rattle.ctl_formula.specs.Controls.{AreControls}

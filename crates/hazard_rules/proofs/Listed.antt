@@ -12,7 +12,8 @@ use Rattle.pipe_motion.specs.Grows.{Grows}
 use Rattle.rule_gates.specs.declared.rules.Rule.{Rule}
 use Rattle.rule_gates.proofs.Kept.{tells_less}
 use Rattle.pipe_obligations.specs.Settled.{Truth, predicts_taken}
-use Rattle.hazard_rules.specs.Parts.{IsTold, IsToldRule, AreToldRules, TellPredictions}
+use Rattle.hazard_rules.specs.Parts.{IsToldRule, AreToldRules, TellPredictions}
+use Rattle.pipe_gates.specs.Told.{IsTold}
 
 pub told_more : {old new : Gates} {ctl : List Entry} {atoms : List Atom} {g : ℕ} {f : Truth} → Grows old new → IsInside old ctl → IsTold old ctl atoms g f → IsTold new ctl atoms g f
 told_more {old} {new} {ctl} {atoms} {g} {f} k i q = record {

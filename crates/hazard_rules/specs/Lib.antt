@@ -1,7 +1,3 @@
-pub mod Columns
-pub mod Signals
-pub mod Built
 pub mod Parts
-pub mod Fronts
 pub mod Designs
 pub mod Belonging

@@ -10,10 +10,10 @@ use Rattle.ctl_atoms.specs.Leaves.{Assignment, AtomsAre}
 use Rattle.ctl_atoms.specs.Atoms.{AreAtoms}
 use Rattle.ctl_formula.specs.Controls.{AreControls}
 use Rattle.ctl_formula.specs.declared.controls.Entry.{Entry}
-use Rattle.ctl_formula.specs.Picks.{Tells}
 use Rattle.pipe_fields.specs.Layout.{Fields, bit_count, fields_of, number_of}
 use Rattle.pipe_motion.specs.declared.settings.Settings.{Settings}
 use Rattle.rule_gates.specs.declared.rules.Rule.{Rule}
+use Rattle.pipe_gates.specs.Told.{IsTold}
 use Rattle.pipe_obligations.specs.Rules.{obligation}
 use Rattle.pipe_obligations.specs.Settled.{Truth, predicts_taken, carries, shows_lf, shows_je, shows_rm}
 
@@ -53,12 +53,6 @@ pub record AreRules (v : Variant) (terms : List Term) (s : Settings) (net : Gate
   pub count : length list ≡ 27
   pub numbers : (k : ℕ) (x : Rule) → slice_get list k ≡ Some x → x.number ≡ k + 1
   pub gates : (k : ℕ) (x : Rule) → slice_get list k ≡ Some x → IsFormula terms atoms net x.gate (obligation v s atoms (k + 1))
-
--- the same by what the gates of names tell
-pub record IsTold (net : Gates) (ctl : List Entry) (atoms : List Atom) (g : ℕ) (f : Truth) : Type 0 where
-  pub within : g < length net.gates
-  pub is : (w : List Bool) (α : Assignment) (cv : ℕ → Leaf) → AtomsAre atoms bit_count w α → Tells net ctl w α cv
-      → truth net g w ≡ f (fields_of w) α cv
 
 -- rule k + 1 of a list is its obligation
 pub record IsToldRule (v : Variant) (s : Settings) (net : Gates) (ctl : List Entry) (atoms : List Atom) (k : ℕ) (x : Rule) : Type 0 where

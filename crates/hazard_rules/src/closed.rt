@@ -1,31 +1,32 @@
 //! What decides the settings pt, pb and tv of a file.
-ghost use Rattle.std.specs.Prelude.{◌≡◌, ◌<◌, ◌≤◌, ◌+◌, ℕ, length, get_or, true, false, IfOk};
+ghost use Rattle.std.specs.Prelude.{◌<◌, ◌≤◌, ◌+◌, length, true, false, IfOk};
 ghost use Rattle.nets.specs.Nets.{Begins};
 ghost use Rattle.ctl_formula.specs.Picks.{Covers, IsInside};
 ghost use Rattle.dp_signals.specs.PipeTable.{pipe_rows};
 ghost use Rattle.pipe_motion.specs.Grows.{Grows};
-ghost use Rattle.hazard_rules.specs.Parts.{IsTold, TellPredictions};
+ghost use Rattle.hazard_rules.specs.Parts.{TellPredictions};
+ghost use Rattle.pipe_gates.specs.Told.{IsTold};
 ghost use Rattle.pipe_fields.specs.Layout.{fields_of};
 ghost use Rattle.pipe_motion.specs.declared.settings.Settings.{Settings};
 ghost use Rattle.rule_gates.specs.Asked.{IsAsked};
 ghost use Rattle.pipe_obligations.specs.Settled.{carries, predicts_taken};
-ghost use Rattle.hazard_rules.specs.Signals.{IsReady};
+ghost use Rattle.stage_rules.specs.Signals.{IsReady};
 
-use crate::execute_rules::target_told;
-use crate::premises::prediction_asked;
-use crate::signals as signal;
 use ctl_atoms::{Atom, Leaf};
 use ctl_formula::Controls;
 use field_bits::spells;
+use motion_rules::prediction_asked;
 use nets::NetBuilder;
 use pipe_fields::allowed;
 use pipe_fields::places::E_KIND;
+use pipe_gates::signals as signal;
 use pipe_motion::implies;
 use rule_gates::{Wanted, takes};
+use stage_rules::target_told;
 use y86_base::{Memory, Variant};
 
 /// Jumps of this ifun that go back or not are predicted as taken: where one is fetched, f_predPC is f_valC.
-#[tactic(auto, using(pipe_motion::proofs::Growing::grown, pipe_motion::proofs::Growing::grows_more, ctl_formula::proofs::Inside::inside_more, crate::proofs::Known::known_f_predPC))]
+#[tactic(auto, using(pipe_motion::proofs::Growing::grown, pipe_motion::proofs::Growing::grows_more, ctl_formula::proofs::Inside::inside_more, pipe_gates::proofs::Known::known_f_predPC))]
 fn predicts(
     b: &mut NetBuilder,
     ctl: &Controls,
@@ -98,7 +99,7 @@ pub(crate) struct Closed {
 }
 
 /// The gates that decide pt, pb and tv.
-#[tactic(auto, using(crate::proofs::Ready::ready_by, ctl_formula::proofs::Inside::inside_more))]
+#[tactic(auto, using(stage_rules::proofs::Ready::ready_by, ctl_formula::proofs::Inside::inside_more))]
 pub(crate) fn closed_told(
     b: &mut NetBuilder,
     ctl: &Controls,

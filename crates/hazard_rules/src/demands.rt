@@ -9,18 +9,19 @@ ghost use Rattle.rule_gates.specs.Asked.{IsAsked};
 ghost use Rattle.pipe_obligations.specs.Obligations.{movers_of};
 ghost use Rattle.pipe_obligations.specs.Rules.{demand};
 
-use crate::fetch::next_view_told;
-use crate::front_rules::front_demand;
-use crate::motion_rules::{leaving_told, loading_told, none_lost_told, one_way_told};
-use crate::sources::{obligation_10, obligation_11};
-use crate::stage_rules::stage_demand;
 use ctl_formula::Controls;
+use motion_rules::{obligation_23, obligation_24, obligation_25, obligation_26, obligation_27};
 use nets::NetBuilder;
 use pipe_motion::{Settings, ViewGates};
+use stage_rules::{
+    FrontRule, RowRule, asked_in_e, decode_told, fetch_told, obligation_1, obligation_5,
+    obligation_10, obligation_11, obligation_14, obligation_15, obligation_16, obligation_17,
+    obligation_18, obligation_19, obligation_20, obligation_21, obligation_22,
+};
 use y86_base::{Memory, Variant};
 
 /// What the obligation of a number from 1 to 27 asks.
-#[tactic(auto, using(crate::proofs::Ready::ready_by, crate::proofs::Ready::front_ready_by))]
+#[tactic(auto, using(stage_rules::proofs::Ready::ready_by, stage_rules::proofs::Ready::front_ready_by))]
 pub(crate) fn demand_gate(
     b: &mut NetBuilder,
     ctl: &Controls,
@@ -40,19 +41,32 @@ pub(crate) fn demand_gate(
         demand number v s.now (fields_of w) (view_at b.old w y.now) (movers_of α cv) α cv)) }
 {
     match number {
+        1 => obligation_1(b, ctl),
+        2 => fetch_told(b, ctl, v, FrontRule::Status),
+        3 => fetch_told(b, ctl, v, FrontRule::RegisterByte),
+        4 => fetch_told(b, ctl, v, FrontRule::Constant),
+        5 => obligation_5(b, ctl, v, s),
+        6 => decode_told(b, ctl, v, FrontRule::SourceA),
+        7 => decode_told(b, ctl, v, FrontRule::SourceB),
+        8 => decode_told(b, ctl, v, FrontRule::DestinationE),
+        9 => decode_told(b, ctl, v, FrontRule::DestinationM),
         10 => obligation_10(b, ctl, v, s, y),
         11 => obligation_11(b, ctl, v, s, y),
-        23 => one_way_told(b, ctl),
-        24 => none_lost_told(b, ctl, y),
-        25 => next_view_told(b, ctl, v, s, y),
-        26 => leaving_told(b, ctl, y),
-        27 => loading_told(b, ctl, y),
-        _ => {
-            if number <= 9 {
-                front_demand(b, ctl, v, s, y, number)
-            } else {
-                stage_demand(b, ctl, v, s, y, number)
-            }
-        }
+        12 => asked_in_e(b, ctl, v, y.e.good, RowRule::OperandA),
+        13 => asked_in_e(b, ctl, v, y.e.good, RowRule::OperandB),
+        14 => obligation_14(b, ctl, v, y.e.good),
+        15 => obligation_15(b, ctl, v, y.e.good),
+        16 => obligation_16(b, ctl, s.lf, v, y.e.good, y.m.good),
+        17 => obligation_17(b, ctl, v, y.e.wrong),
+        18 => obligation_18(b, ctl, v, y.m.good),
+        19 => obligation_19(b, ctl, v, y.m.good),
+        20 => obligation_20(b, ctl),
+        21 => obligation_21(b, ctl, y.w.good),
+        22 => obligation_22(b, ctl, y.w.good),
+        23 => obligation_23(b, ctl),
+        24 => obligation_24(b, ctl, y),
+        25 => obligation_25(b, ctl, v, s, y),
+        26 => obligation_26(b, ctl, y),
+        _ => obligation_27(b, ctl, y),
     }
 }

@@ -1,5 +1,5 @@
 //! The names of a design as gates, over the bits of a control valuation of PIPE.
-ghost use Rattle.std.specs.Prelude.{◌≡◌, ◌≤◌, ◌+◌, length, IfOk, IfErr};
+ghost use Rattle.std.specs.Prelude.{◌≡◌, ◌+◌, IfOk, IfErr};
 ghost use Rattle.hcl_types.specs.Tables.{IsBound, IsOrderOf};
 ghost use Rattle.ctl_atoms.specs.Atoms.{IsCtlFault};
 ghost use Rattle.dp_signals.specs.PipeTable.{pipe_rows};

@@ -1,5 +1,5 @@
 //! The 27 obligations as gates.
-ghost use Rattle.std.specs.Prelude.{◌≡◌, ◌<◌, ◌≤◌, ◌+◌, ◌||◌, ◌&&◌, not, false, true, if◌then◌else◌, ℕ, List, Bool, length, slice_get, Some, IfOk};
+ghost use Rattle.std.specs.Prelude.{◌≡◌, ◌<◌, ◌≤◌, ◌+◌, false, true, if◌then◌else◌, List, Bool, length, IfOk};
 ghost use Rattle.nets.specs.Nets.{truth};
 ghost use Rattle.ctl_atoms.specs.Leaves.{Assignment, AtomsAre};
 ghost use Rattle.ctl_formula.specs.Picks.{Covers, IsInside};
@@ -8,17 +8,18 @@ ghost use Rattle.pipe_fields.specs.Layout.{fields_of};
 ghost use Rattle.pipe_motion.specs.Grows.{Grows};
 ghost use Rattle.pipe_motion.specs.Gates.{view_at, HasView};
 ghost use Rattle.rule_gates.specs.declared.rules.Rule.{Rule};
-ghost use Rattle.hazard_rules.specs.Parts.{IsTold, AreToldRules};
-ghost use Rattle.hazard_rules.specs.Built as built;
+ghost use Rattle.hazard_rules.specs.Parts.{AreToldRules};
+ghost use Rattle.pipe_gates.specs.Told.{IsTold};
+ghost use Rattle.motion_rules.specs.Legality as built;
 ghost use Rattle.pipe_obligations.specs.Rules as spec;
 ghost use Rattle.pipe_obligations.specs.Stages.{view_of};
 
 use crate::demands::demand_gate;
-use crate::premises::{is_always, premise_gate};
-use crate::stages::view_gates;
 use ctl_atoms::Atom;
 use ctl_formula::Controls;
+use motion_rules::{is_always, premise_gate};
 use nets::NetBuilder;
+use pipe_gates::view_gates;
 use pipe_motion::{Settings, ViewGates, implies};
 use rule_gates::Rule;
 use std::alloc::Global;

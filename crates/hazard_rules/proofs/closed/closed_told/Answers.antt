@@ -2,7 +2,7 @@ use Rattle.std.proofs.Common.{◌≤◌, ◌∙◌, arith}
 use Rattle.ctl_formula.proofs.Inside.{inside_more}
 use Rattle.pipe_motion.proofs.Growing.{grown, grows_more}
 use Rattle.hazard_rules.proofs.Listed.{told_more}
-use Rattle.hazard_rules.proofs.Ready.{ready_by}
+use Rattle.stage_rules.proofs.Ready.{ready_by}
 use Rattle.hazard_rules.proofs.closed.closed_told.Goals as goal
 
 pub returns-clause-forward : goal.returns-clause-forward

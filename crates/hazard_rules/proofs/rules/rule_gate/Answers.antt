@@ -7,7 +7,7 @@ use Rattle.pipe_motion.proofs.Growing.{grown, grows_more}
 use Rattle.rule_gates.proofs.Kept.{tells_less}
 use Rattle.pipe_obligations.specs.Obligations.{movers_of}
 use Rattle.pipe_obligations.specs.Rules.{demand, demand_at, is_asked, is_always}
-use Rattle.hazard_rules.specs.Built.{asked_when}
+use Rattle.motion_rules.specs.Legality.{asked_when}
 use Rattle.hazard_rules.proofs.Listed.{premise_by, rule_by}
 use Rattle.hazard_rules.proofs.rules.rule_gate.Goals as goal
 

@@ -5,7 +5,7 @@ use Rattle.pipe_fields.specs.Layout.{fields_of}
 use Rattle.pipe_motion.specs.Grows.{Grows}
 use Rattle.pipe_motion.specs.Gates.{view_at, HasView}
 use Rattle.pipe_obligations.specs.Stages.{view_of}
-use Rattle.hazard_rules.specs.Built.{asked_when}
+use Rattle.motion_rules.specs.Legality.{asked_when}
 use Rattle.hazard_rules.specs.Parts.{AreToldRules}
 use Rattle.hazard_rules.proofs.rules.rules_told.Given as goal
 

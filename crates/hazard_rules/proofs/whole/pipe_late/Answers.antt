@@ -2,7 +2,8 @@ use Rattle.std.proofs.Common.{List, not, refl, sym, subst, true, ◌∙◌}
 use Rattle.nets.specs.Nets.{Begins}
 use Rattle.pipe_motion.specs.declared.settings.Settings.{Settings}
 use Rattle.ctl_atoms.specs.declared.leaf.Atom.{Atom}
-use Rattle.hazard_rules.specs.Parts.{AreLate, IsTold}
+use Rattle.hazard_rules.specs.Parts.{AreLate}
+use Rattle.pipe_gates.specs.Told.{IsTold}
 use Rattle.pipe_obligations.specs.Settled.{shows_je, shows_lf, shows_rm}
 use Rattle.hazard_rules.proofs.Designed.{belongs_more, late_of, told_of_three}
 use Rattle.hazard_rules.proofs.whole.pipe_late.Goals as goal

@@ -1,7 +1,8 @@
 use Rattle.std.proofs.Common.{List, sym, subst, true, false}
 use Rattle.ctl_atoms.specs.declared.leaf.Atom.{Atom}
 use Rattle.hazard_rules.specs.Designs.{IsTranslated}
-use Rattle.hazard_rules.specs.Parts.{AreClosed, IsTold, TellPredictions}
+use Rattle.hazard_rules.specs.Parts.{AreClosed, TellPredictions}
+use Rattle.pipe_gates.specs.Told.{IsTold}
 use Rattle.pipe_obligations.specs.Settled.{carries}
 use Rattle.hazard_rules.proofs.Designed.{closed_of, names_more}
 use Rattle.hazard_rules.proofs.whole.pipe_parts.Goals as goal

@@ -1,0 +1,10 @@
+use Rattle.std.proofs.Common.{ap, ◌∙◌}
+use Rattle.pipe_motion.specs.Slots as motion
+use Rattle.rule_gates.proofs.Kept.{tells_less}
+use Rattle.motion_rules.proofs.moves_23_to_27.obligation_23.Goals as goal
+
+pub returns-clause-asked : goal.returns-clause-asked
+returns-clause-asked c = record {
+  within = c.in_ok-g.ensures.within;
+  is = λ w α cv t. c.in_ok-g.ensures.truth w ∙ ap (λ k. motion.o23 k) (c.movers_of-movers.ensures.told c.args.b.now w α cv (tells_less c.obligation_23.ensures.grows.begins c.requires.inside t));
+}

@@ -1,0 +1,103 @@
+//! What decides the settings lf, je and rm of a file: each holds where its gate is false at some valuation.
+ghost use Rattle.std.specs.Prelude.{◌≡◌, ◌<◌, ◌≤◌, ◌==◌, ◌&&◌, not, List, Bool, length, IfOk};
+ghost use Rattle.nets.specs.Nets.{truth};
+ghost use Rattle.y86_isa.specs.Table.{row};
+ghost use Rattle.y86_isa.specs.RowTests.{stores_a};
+ghost use Rattle.pipe_fields.specs.Layout.{fields_of};
+ghost use Rattle.pipe_motion.specs.Grows.{Grows};
+ghost use Rattle.pipe_motion.specs.Gates.{view_at, movers_at, HasMovers, HasView};
+ghost use Rattle.pipe_motion.specs.Slots.{leaves};
+
+use nets::NetBuilder;
+use pipe_fields::places::{D_ICODE, E_DST_M};
+use pipe_gates::{RowTest, row_has, spells};
+use pipe_motion::{MoversGates, ViewGates, and, leaves_gate, not, without};
+use y86_base::{Memory, Variant};
+
+/// A store stands in D, and a good instruction in E that loads a register.
+#[tactic(auto, unfolding(pipe_fields::specs::Layout::fields_of), using(pipe_motion::proofs::Growing::grows_more, pipe_motion::proofs::Growing::grows_self))]
+fn store_behind_load(b: &mut NetBuilder, v: Variant, y: &ViewGates) -> Result<u64, Memory>
+    requires vars { 107 ≤ b.old.vars }
+    requires view { HasView (length b.old.gates) y.now }
+    ensures within { IfOk result (λ g. g < length b.new.gates) }
+    ensures truth { (w : List Bool) → IfOk result (λ g. truth b.new g w ≡
+        (stores_a (row v (fields_of w).d.icode).memory && ((view_at b.old w y.now).e.good && not ((fields_of w).e.dst_m == 15)))) }
+    ensures grows { Grows b.old b.new }
+{
+    let stores = row_has(b, v, D_ICODE, RowTest::StoresA)?;
+    let none = spells(b, E_DST_M, 15)?;
+    let loads = without(b, y.e.good, none)?;
+    let g = and(b, stores, loads)?;
+    Ok(g)
+}
+
+/// Not: a good store leaves D past a load in E of its source (`equal`), where all that is early or late is allowed (`plain`).
+pub fn no_late_load(
+    b: &mut NetBuilder,
+    v: Variant,
+    equal: u64,
+    k: &MoversGates,
+    y: &ViewGates,
+    plain: u64,
+) -> Result<u64, Memory>
+    requires vars { 107 ≤ b.old.vars }
+    requires view { HasView (length b.old.gates) y.now }
+    requires movers { HasMovers (length b.old.gates) k.now }
+    requires equal_in { equal < length b.old.gates }
+    requires plain_in { plain < length b.old.gates }
+    ensures within { IfOk result (λ g. g < length b.new.gates) }
+    ensures truth { (w : List Bool) → IfOk result (λ g. truth b.new g w ≡
+        not ((stores_a (row v (fields_of w).d.icode).memory && ((view_at b.old w y.now).e.good && (not ((fields_of w).e.dst_m == 15)
+        && (truth b.old equal w && leaves (movers_at b.old w k.now) (view_at b.old w y.now))))) && truth b.old plain w)) }
+    ensures grows { Grows b.old b.new }
+{
+    let pair = store_behind_load(b, v, y)?;
+    let goes = leaves_gate(b, k, y)?;
+    let past = and(b, equal, goes)?;
+    let small = and(b, pair, past)?;
+    let shown = and(b, small, plain)?;
+    let g = not(b, shown)?;
+    Ok(g)
+}
+
+/// Not: E holds a missed jump, and f_pc is where it goes (`right`).
+pub fn no_early_jump(
+    b: &mut NetBuilder,
+    y: &ViewGates,
+    right: u64,
+    plain: u64,
+) -> Result<u64, Memory>
+    requires view { HasView (length b.old.gates) y.now }
+    requires right_in { right < length b.old.gates }
+    requires plain_in { plain < length b.old.gates }
+    ensures within { IfOk result (λ g. g < length b.new.gates) }
+    ensures truth { (w : List Bool) → IfOk result (λ g. truth b.new g w ≡ not (((view_at b.old w y.now).e.missed && truth b.old right w) && truth b.old plain w)) }
+    ensures grows { Grows b.old b.new }
+{
+    let small = and(b, y.e.missed, right)?;
+    let shown = and(b, small, plain)?;
+    let g = not(b, shown)?;
+    Ok(g)
+}
+
+/// Not: M holds a ret that doesn't stop, and f_pc is where it goes (`right`).
+pub fn no_early_ret(
+    b: &mut NetBuilder,
+    y: &ViewGates,
+    right: u64,
+    plain: u64,
+) -> Result<u64, Memory>
+    requires view { HasView (length b.old.gates) y.now }
+    requires right_in { right < length b.old.gates }
+    requires plain_in { plain < length b.old.gates }
+    ensures within { IfOk result (λ g. g < length b.new.gates) }
+    ensures truth { (w : List Bool) → IfOk result (λ g. truth b.new g w ≡
+        not ((((view_at b.old w y.now).m.ret && not (view_at b.old w y.now).m.stops) && truth b.old right w) && truth b.old plain w)) }
+    ensures grows { Grows b.old b.new }
+{
+    let runs = without(b, y.m.ret, y.m.stops)?;
+    let small = and(b, runs, right)?;
+    let shown = and(b, small, plain)?;
+    let g = not(b, shown)?;
+    Ok(g)
+}

@@ -1,0 +1,137 @@
+ghost use Rattle.std.specs.Prelude.{◌≡◌, ◌<◌, ◌≤◌, ◌+◌, ◌==◌, ◌||◌, ◌&&◌, not, length, List, Bool, IfOk};
+ghost use Rattle.nets.specs.Nets.{truth, agree};
+ghost use Rattle.ctl_atoms.specs.Leaves.{Assignment, AtomsAre};
+ghost use Rattle.field_bits.specs.Spelling.{set};
+ghost use Rattle.pipe_fields.specs.Layout.{fields_of};
+ghost use Rattle.pipe_fields.specs.Allowed.{allowed};
+ghost use Rattle.pipe_motion.specs.Grows.{Grows};
+ghost use Rattle.pipe_motion.specs.Gates.{view_at, HasView};
+ghost use Rattle.motion_rules.specs.Legality as built;
+ghost use Rattle.pipe_obligations.specs.Stages as spec;
+ghost use Rattle.pipe_obligations.specs.Rules as rules;
+
+use crate::legality::{back_told_in_f, fetched_jump, legal_gate, stopping_gate};
+use ctl_atoms::Atom;
+use nets::NetBuilder;
+use pipe_fields::places::{F_BACK, F_IFUN};
+use pipe_gates::spells;
+use pipe_motion::{Settings, ViewGates, and, without};
+use y86_base::{Memory, Variant};
+
+/// The valuation is allowed.
+#[tactic(auto, using(pipe_motion::proofs::Growing::grown))]
+fn allowed_gate(b: &mut NetBuilder, v: Variant) -> Result<u64, Memory>
+    requires { 107 ≤ b.old.vars }
+    ensures within { IfOk result (λ g. g < length b.new.gates) }
+    ensures truth { (w : List Bool) → IfOk result (λ g. truth b.new g w ≡ allowed v (fields_of w)) }
+    ensures grows { Grows b.old b.new }
+{
+    let g = pipe_fields::allowed(b, v)?;
+    Ok(g)
+}
+
+/// The valuation is allowed and legal, in a cycle that doesn't stop, or (`always`) in any.
+pub fn asked_gate(
+    b: &mut NetBuilder,
+    v: Variant,
+    tv: bool,
+    lf: bool,
+    je: bool,
+    rm: bool,
+    atoms: &[Atom],
+    y: &ViewGates,
+    always: bool,
+) -> Result<u64, Memory>
+    requires vars { 107 + length atoms.now ≤ b.old.vars }
+    requires few { length atoms.now ≤ 64 }
+    requires view { HasView (length b.old.gates) y.now }
+    ensures within { IfOk result (λ g. g < length b.new.gates) }
+    ensures truth { (w : List Bool) (α : Assignment) → AtomsAre atoms.now 107 w α →
+        IfOk result (λ g. truth b.new g w ≡ (allowed v (fields_of w)
+        && (built.legal_in v tv lf je rm atoms.now (fields_of w) (view_at b.old w y.now) α && (always || not (spec.is_stopping (fields_of w)))))) }
+    ensures grows { Grows b.old b.new }
+{
+    let legal = legal_gate(b, v, tv, lf, je, rm, atoms, y)?;
+    let fits = allowed_gate(b, v)?;
+    let both = and(b, fits, legal)?;
+    if always {
+        return Ok(both);
+    }
+    let stopping = stopping_gate(b)?;
+    let g = without(b, both, stopping)?;
+    Ok(g)
+}
+
+/// An allowed and legal valuation at settings, in a cycle that goes on, or (`always`) in any.
+pub fn premise_gate(
+    b: &mut NetBuilder,
+    v: Variant,
+    s: &Settings,
+    atoms: &[Atom],
+    y: &ViewGates,
+    always: bool,
+) -> Result<u64, Memory>
+    requires vars { 107 + length atoms.now ≤ b.old.vars }
+    requires few { length atoms.now ≤ 64 }
+    requires view { HasView (length b.old.gates) y.now }
+    requires view_is { (w : List Bool) → view_at b.old w y.now ≡ spec.view_of v s.now (fields_of w) }
+    ensures within { IfOk result (λ g. g < length b.new.gates) }
+    ensures truth { (w : List Bool) (α : Assignment) → AtomsAre atoms.now 107 w α →
+        IfOk result (λ g. truth b.new g w ≡ built.asked_when v s.now atoms.now always (fields_of w) α) }
+    ensures grows { Grows b.old b.new }
+{
+    let g = asked_gate(b, v, s.tv, s.lf, s.je, s.rm, atoms, y, always)?;
+    Ok(g)
+}
+
+/// A jump of this ifun that goes back or not is fetched.
+#[tactic(auto, unfolding(pipe_fields::specs::Layout::fields_of), using(pipe_motion::proofs::Growing::grows_more, pipe_motion::proofs::Growing::grows_self))]
+fn jump_of(b: &mut NetBuilder, v: Variant, ifun: u64, back: bool) -> Result<u64, Memory>
+    requires { 107 ≤ b.old.vars }
+    ensures within { IfOk result (λ g. g < length b.new.gates) }
+    ensures truth { (w : List Bool) → IfOk result (λ g. truth b.new g w ≡ (spec.fetched_jump v (fields_of w) && ((fields_of w).f.ifun == ifun && agree back (set (fields_of w).f.back)))) }
+    ensures grows { Grows b.old b.new }
+{
+    let jump = fetched_jump(b, v)?;
+    let named = spells(b, F_IFUN, ifun)?;
+    let here = and(b, jump, named)?;
+    let clear = spells(b, F_BACK, 0)?;
+    if back {
+        let g = without(b, here, clear)?;
+        Ok(g)
+    } else {
+        let g = and(b, here, clear)?;
+        Ok(g)
+    }
+}
+
+/// The valuations of which a prediction is asked: allowed ones, where such a jump is fetched and its atom is its back bit.
+pub fn prediction_asked(
+    b: &mut NetBuilder,
+    v: Variant,
+    atoms: &[Atom],
+    ifun: u64,
+    back: bool,
+) -> Result<u64, Memory>
+    requires vars { 107 + length atoms.now ≤ b.old.vars }
+    requires few { length atoms.now ≤ 64 }
+    ensures within { IfOk result (λ g. g < length b.new.gates) }
+    ensures truth { (w : List Bool) (α : Assignment) → AtomsAre atoms.now 107 w α →
+        IfOk result (λ g. truth b.new g w ≡ (allowed v (fields_of w) && (spec.fetched_jump v (fields_of w)
+        && ((fields_of w).f.ifun == ifun && (agree back (set (fields_of w).f.back) && spec.back_told_in_f v atoms.now (fields_of w) α))))) }
+    ensures grows { Grows b.old b.new }
+{
+    let fits = allowed_gate(b, v)?;
+    let jump = jump_of(b, v, ifun, back)?;
+    let told = back_told_in_f(b, v, atoms)?;
+    let here = and(b, jump, told)?;
+    let g = and(b, fits, here)?;
+    Ok(g)
+}
+
+/// The flags, memory and the status are asked of in cycles that stop too.
+pub fn is_always(number: u64) -> bool
+    ensures { result ≡ rules.is_always number }
+{
+    number == 15 || number == 19 || number == 22
+}

@@ -1,0 +1,167 @@
+//! What shows that a file is early or late: the gates that decide lf, je and rm.
+ghost use Rattle.std.specs.Prelude.{◌≡◌, ◌<◌, ◌≤◌, ◌+◌, ◌&&◌, Bool, if◌then◌else◌, IfOk, length, List, not};
+ghost use Rattle.nets.specs.Nets.{Begins, truth};
+ghost use Rattle.ctl_atoms.specs.declared.leaf.Leaf.TheVariants.{Name};
+ghost use Rattle.ctl_atoms.specs.Leaves.{Assignment, AtomsAre};
+ghost use Rattle.ctl_formula.specs.Picks.{Covers, IsInside};
+ghost use Rattle.field_bits.specs.Spelling.{set};
+ghost use Rattle.dp_signals.specs.PipeNames as names;
+ghost use Rattle.dp_signals.specs.PipeTable.{pipe_rows};
+ghost use Rattle.rule_gates.specs.Asked.{IsAsked};
+ghost use Rattle.rule_gates.specs.Words as words;
+ghost use Rattle.pipe_fields.specs.Layout.{fields_of};
+ghost use Rattle.pipe_motion.specs.Gates.{HasView, view_at};
+ghost use Rattle.pipe_motion.specs.Grows.{Grows};
+ghost use Rattle.pipe_obligations.specs.Obligations.{movers_of};
+ghost use Rattle.pipe_gates.specs.Told.{IsTold};
+ghost use Rattle.pipe_obligations.specs.Settled.{leaves_past_load, may_show, most_free, shows_je, shows_lf, shows_rm};
+ghost use Rattle.pipe_obligations.specs.Stages.{is_jump, view_of};
+
+use crate::fetch_25::right_after_e;
+use crate::late::{no_early_jump, no_early_ret, no_late_load};
+use crate::premises::premise_gate;
+use ctl_atoms::{Atom, Leaf};
+use ctl_formula::Controls;
+use nets::NetBuilder;
+use pipe_fields::places::E_DST_M;
+use pipe_gates::{movers_of, signals as signal, view_gates};
+use pipe_motion::{Settings, ViewGates};
+use rule_gates::{Wanted, takes};
+use y86_base::{Memory, Variant};
+
+/// Not: a good store leaves D while E loads its source, where a gate holds.
+#[tactic(auto, using(pipe_gates::proofs::Known::known_d_srcA, pipe_motion::proofs::Kept::view_in, ctl_formula::proofs::Inside::inside_more))]
+fn no_load_passed(
+    b: &mut NetBuilder,
+    ctl: &Controls,
+    v: Variant,
+    y: &ViewGates,
+    plain: u64,
+) -> Result<u64, Memory>
+    requires inside { IsInside b.old ctl.now }
+    requires known { Covers pipe_rows ctl.now }
+    requires vars { 107 ≤ b.old.vars }
+    requires view { HasView (length b.old.gates) y.now }
+    requires plain_in { plain < length b.old.gates }
+    ensures begins { Begins b.old b.new }
+    ensures asked { IfOk result (λ g. IsAsked b.new ctl.now g (λ w α cv.
+        not (leaves_past_load v (fields_of w) (view_at b.old w y.now) (movers_of α cv) cv && truth b.old plain w))) }
+{
+    let movers = movers_of(ctl);
+    let equal = takes(b, ctl, signal::D_SRC_A, Wanted::Field(E_DST_M))?;
+    let g = no_late_load(b, v, equal, &movers, y, plain)?;
+    Ok(g)
+}
+
+/// Not: E holds a missed jump, and f_pc is where it goes, where a gate holds.
+#[tactic(auto, using(pipe_gates::proofs::Known::known_f_pc, pipe_motion::proofs::Kept::view_in, ctl_formula::proofs::Inside::inside_more))]
+fn no_jump_early(
+    b: &mut NetBuilder,
+    ctl: &Controls,
+    v: Variant,
+    y: &ViewGates,
+    plain: u64,
+) -> Result<u64, Memory>
+    requires inside { IsInside b.old ctl.now }
+    requires known { Covers pipe_rows ctl.now }
+    requires vars { 107 ≤ b.old.vars }
+    requires view { HasView (length b.old.gates) y.now }
+    requires plain_in { plain < length b.old.gates }
+    ensures begins { Begins b.old b.new }
+    ensures asked { IfOk result (λ g. IsAsked b.new ctl.now g (λ w α cv.
+        not (((view_at b.old w y.now).e.missed && (is_jump v (fields_of w).e.stat (fields_of w).e.icode
+        && words.takes cv names.f_pc (if set (fields_of w).e.cnd then Name names.E_valC else Name names.E_valA))) && truth b.old plain w))) }
+{
+    let right = right_after_e(b, ctl, v)?;
+    let g = no_early_jump(b, y, right, plain)?;
+    Ok(g)
+}
+
+/// Not: M holds a ret that doesn't stop, and f_pc is where it goes, where a gate holds.
+#[tactic(auto, using(pipe_gates::proofs::Known::known_f_pc, pipe_motion::proofs::Kept::view_in, ctl_formula::proofs::Inside::inside_more))]
+fn no_ret_early(
+    b: &mut NetBuilder,
+    ctl: &Controls,
+    y: &ViewGates,
+    plain: u64,
+) -> Result<u64, Memory>
+    requires inside { IsInside b.old ctl.now }
+    requires known { Covers pipe_rows ctl.now }
+    requires view { HasView (length b.old.gates) y.now }
+    requires plain_in { plain < length b.old.gates }
+    ensures begins { Begins b.old b.new }
+    ensures asked { IfOk result (λ g. IsAsked b.new ctl.now g (λ w α cv.
+        not ((((view_at b.old w y.now).m.ret && not (view_at b.old w y.now).m.stops) && words.takes cv names.f_pc (Name names.m_valM)) && truth b.old plain w))) }
+{
+    let right = takes(
+        b,
+        ctl,
+        signal::F_PC,
+        Wanted::This(Leaf::Name(signal::M_VAL_M)),
+    )?;
+    let g = no_early_ret(b, y, right, plain)?;
+    Ok(g)
+}
+
+/// What stands in the stages, and the valuations that may show a setting.
+#[derive(Clone, Copy, Debug)]
+struct FreeView {
+    view: ViewGates,
+    plain: u64,
+}
+
+/// The valuations that may show a setting: legal ones of cycles that go on, where all that is early or late is allowed.
+fn free_legal(
+    b: &mut NetBuilder,
+    v: Variant,
+    s: &Settings,
+    atoms: &[Atom],
+) -> Result<FreeView, Memory>
+    requires vars { 107 + length atoms.now ≤ b.old.vars }
+    requires few { length atoms.now ≤ 64 }
+    requires free { most_free s.now ≡ s.now }
+    ensures view { IfOk result (λ r. HasView (length b.new.gates) r.view) }
+    ensures view_is { (w : List Bool) → IfOk result (λ r. view_at b.new w r.view ≡ view_of v s.now (fields_of w)) }
+    ensures plain_in { IfOk result (λ r. r.plain < length b.new.gates) }
+    ensures plain_is { (w : List Bool) (α : Assignment) → AtomsAre atoms.now 107 w α → IfOk result (λ r. truth b.new r.plain w ≡ may_show v s.now atoms.now (fields_of w) α) }
+    ensures grows { Grows b.old b.new }
+{
+    let view = view_gates(b, v, s)?;
+    let plain = premise_gate(b, v, s, atoms, &view, false)?;
+    Ok(FreeView { view, plain })
+}
+
+/// The gates that decide lf, je and rm: each setting holds where its gate is false at some valuation.
+#[derive(Clone, Copy, Debug, PartialEq, Eq)]
+pub struct Late {
+    pub lf: u64,
+    pub je: u64,
+    pub rm: u64,
+}
+
+/// The gates that decide lf, je and rm, each false of the valuations that show it. The settings are those with all that is
+/// early or late allowed.
+#[tactic(auto, using(pipe_motion::proofs::Kept::view_in, ctl_formula::proofs::Inside::inside_more, nets::proofs::Truths::begins_more))]
+pub fn shown_gates(
+    b: &mut NetBuilder,
+    ctl: &Controls,
+    v: Variant,
+    s: &Settings,
+    atoms: &[Atom],
+) -> Result<Late, Memory>
+    requires inside { IsInside b.old ctl.now }
+    requires known { Covers pipe_rows ctl.now }
+    requires vars { 107 + length atoms.now ≤ b.old.vars }
+    requires few { length atoms.now ≤ 64 }
+    requires free { most_free s.now ≡ s.now }
+    ensures late { IfOk result (λ r. IsTold b.new ctl.now atoms.now r.lf (λ c α cv. not (shows_lf v s.now atoms.now c α cv))) }
+    ensures jump { IfOk result (λ r. IsTold b.new ctl.now atoms.now r.je (λ c α cv. not (shows_je v s.now atoms.now c α cv))) }
+    ensures ret { IfOk result (λ r. IsTold b.new ctl.now atoms.now r.rm (λ c α cv. not (shows_rm v s.now atoms.now c α cv))) }
+    ensures grows { Grows b.old b.new }
+{
+    let p = free_legal(b, v, s, atoms)?;
+    let lf = no_load_passed(b, ctl, v, &p.view, p.plain)?;
+    let je = no_jump_early(b, ctl, v, &p.view, p.plain)?;
+    let rm = no_ret_early(b, ctl, &p.view, p.plain)?;
+    Ok(Late { lf, je, rm })
+}

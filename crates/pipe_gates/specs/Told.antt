@@ -1,0 +1,16 @@
+-- What a gate tells wherever the gates of names tell the control values.
+use Rattle.std.specs.Prelude.{ℕ, ◌≡◌, ◌<◌, Bool, List, length}
+use Rattle.nets.specs.Nets.{Gates, truth}
+use Rattle.ctl_atoms.specs.declared.leaf.Leaf.{Leaf}
+use Rattle.ctl_atoms.specs.declared.leaf.Atom.{Atom}
+use Rattle.ctl_atoms.specs.Leaves.{Assignment, AtomsAre}
+use Rattle.ctl_formula.specs.declared.controls.Entry.{Entry}
+use Rattle.ctl_formula.specs.Picks.{Tells}
+use Rattle.pipe_fields.specs.Layout.{bit_count, fields_of}
+use Rattle.pipe_obligations.specs.Settled.{Truth}
+
+-- the gate has the truth f of the valuation that the bits spell, for the truths of atoms that they tell
+pub record IsTold (net : Gates) (ctl : List Entry) (atoms : List Atom) (g : ℕ) (f : Truth) : Type 0 where
+  pub within : g < length net.gates
+  pub is : (w : List Bool) (α : Assignment) (cv : ℕ → Leaf) → AtomsAre atoms bit_count w α → Tells net ctl w α cv
+      → truth net g w ≡ f (fields_of w) α cv

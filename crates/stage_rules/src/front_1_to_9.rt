@@ -1,0 +1,235 @@
+//! What is asked of fetch and decode, whatever stands in the stages: obligations 1 to 9.
+ghost use Rattle.std.specs.Prelude.{◌<◌, ◌≤◌, ◌&&◌, ◌||◌, not, IfOk};
+ghost use Rattle.nets.specs.Nets.{Begins, IsGate};
+ghost use Rattle.ctl_formula.specs.Picks.{IsInside};
+ghost use Rattle.dp_signals.specs.PipeNames as names;
+ghost use Rattle.field_bits.specs.Spelling.{set};
+ghost use Rattle.stage_rules.specs.Fronts.{IsFrontReady, asked_in_front};
+ghost use Rattle.pipe_obligations.specs.Obligations.{predicted_leaf};
+ghost use Rattle.pipe_fields.specs.Layout.{fields_of};
+ghost use Rattle.pipe_motion.specs.Predictions.{predicts};
+ghost use Rattle.rule_gates.specs.Asked.{IsAsked};
+ghost use Rattle.rule_gates.specs.Words as words;
+ghost use Rattle.y86_isa.specs.Table.{dash_row, row};
+ghost use Rattle.y86_isa.specs.declared.columns.Next.TheVariants as way;
+ghost use Rattle.stage_rules.specs.declared.front_1_to_9.FrontRule.TheVariants as kind;
+
+use ctl_formula::{Controls, Leaf};
+use field_bits::{choose, spells};
+use nets::NetBuilder;
+use pipe_fields::places::{D_ICODE, D_R_A, D_R_B, F_BACK, F_ERROR, F_ICODE, F_IFUN};
+use pipe_gates::{listed, signals as signal};
+use pipe_motion::Settings;
+use rule_gates::{
+    ByRow, Wanted, by_icode, is_truth, register_is, status_is, takes, takes_if, takes_some,
+};
+use y86_base::{Memory, Variant};
+use y86_isa::{Next, Row};
+
+/// What is asked by an icode and its row: of f_stat, need_regids, need_valC and f_predPC for what is fetched, and of d_srcA,
+/// d_srcB, d_dstE and d_dstM for what stands in D.
+#[derive(Clone, Copy, Debug, PartialEq, Eq)]
+pub enum FrontRule {
+    Status,
+    RegisterByte,
+    Constant,
+    Predicted(Settings),
+    SourceA,
+    SourceB,
+    DestinationE,
+    DestinationM,
+}
+
+/// A jump of this ifun and back bit is predicted as taken.
+#[tactic(auto, unfolding(pipe_fields::specs::Layout::fields_of))]
+fn predicted(b: &mut NetBuilder, s: &Settings) -> Result<u64, Memory>
+    requires { 107 ≤ b.old.vars }
+    ensures begins { Begins b.old b.new }
+    ensures made { IfOk result (λ g. IsGate b.new g (λ w. predicts s.now (fields_of w).f.ifun (set (fields_of w).f.back))) }
+{
+    let forward = listed(b, &s.pt, F_IFUN)?;
+    let backward = listed(b, &s.pb, F_IFUN)?;
+    let ahead = spells(b, F_BACK, 0)?;
+    let g = choose(b, ahead, forward, backward)?;
+    Ok(g)
+}
+
+/// f_predPC is the target of a jump that is predicted as taken, and what stands behind any other.
+#[tactic(auto, unfolding(pipe_fields::specs::Layout::fields_of), using(nets::proofs::Truths::begins_more, ctl_formula::proofs::Inside::inside_more))]
+fn jump_predicted(b: &mut NetBuilder, ctl: &Controls, s: &Settings) -> Result<u64, Memory>
+    requires inside { IsInside b.old ctl.now }
+    requires ready { IsFrontReady b.old.vars ctl.now }
+    ensures begins { Begins b.old b.new }
+    ensures asked { IfOk result (λ g. IsAsked b.new ctl.now g (λ w α cv.
+        words.takes_some cv names.f_predPC (predicted_leaf way.Branch (predicts s.now (fields_of w).f.ifun (set (fields_of w).f.back))))) }
+{
+    let taken = predicted(b, s)?;
+    let g = takes_if(
+        b,
+        ctl,
+        signal::F_PRED_PC,
+        taken,
+        Wanted::This(Leaf::Name(signal::F_VAL_C)),
+        Wanted::This(Leaf::Name(signal::F_VAL_P)),
+    )?;
+    Ok(g)
+}
+
+/// f_predPC is the PC that the row predicts, if it predicts one.
+#[tactic(auto, unfolding(pipe_fields::specs::Layout::fields_of))]
+fn next_predicted(
+    b: &mut NetBuilder,
+    ctl: &Controls,
+    s: &Settings,
+    next: Next,
+) -> Result<u64, Memory>
+    requires inside { IsInside b.old ctl.now }
+    requires ready { IsFrontReady b.old.vars ctl.now }
+    ensures begins { Begins b.old b.new }
+    ensures asked { IfOk result (λ g. IsAsked b.new ctl.now g (λ w α cv.
+        words.takes_some cv names.f_predPC (predicted_leaf next (predicts s.now (fields_of w).f.ifun (set (fields_of w).f.back))))) }
+{
+    match next {
+        Next::Itself => takes_some(b, ctl, signal::F_PRED_PC, None),
+        Next::Fall => takes_some(b, ctl, signal::F_PRED_PC, Some(Leaf::Name(signal::F_VAL_P))),
+        Next::Branch => jump_predicted(b, ctl, s),
+        Next::Target => takes_some(b, ctl, signal::F_PRED_PC, Some(Leaf::Name(signal::F_VAL_C))),
+        Next::Loaded => takes_some(b, ctl, signal::F_PRED_PC, None),
+    }
+}
+
+/// The reading has an error.
+#[tactic(auto, unfolding(pipe_fields::specs::Layout::fields_of))]
+fn reading_fails(b: &mut NetBuilder) -> Result<u64, Memory>
+    requires { 107 ≤ b.old.vars }
+    ensures begins { Begins b.old b.new }
+    ensures made { IfOk result (λ g. IsGate b.new g (λ w. set (fields_of w).f.error)) }
+{
+    let fine = spells(b, F_ERROR, 0)?;
+    let g = b.not(fine)?;
+    Ok(g)
+}
+
+/// f_stat is the status of the icode that is read, or of the error.
+#[tactic(auto, using(nets::proofs::Truths::begins_more, ctl_formula::proofs::Inside::inside_more))]
+fn fetch_status_is(b: &mut NetBuilder, ctl: &Controls, icode: u64) -> Result<u64, Memory>
+    requires inside { IsInside b.old ctl.now }
+    requires ready { IsFrontReady b.old.vars ctl.now }
+    ensures begins { Begins b.old b.new }
+    ensures asked { IfOk result (λ g. IsAsked b.new ctl.now g (λ w α cv. asked_in_front kind.Status icode dash_row (fields_of w) α cv)) }
+{
+    let error = reading_fails(b)?;
+    let g = status_is(b, ctl, signal::F_STAT, error, icode)?;
+    Ok(g)
+}
+
+/// What is asked by an icode and its row.
+#[tactic(auto, unfolding(pipe_fields::specs::Layout::fields_of))]
+fn front_asks(
+    b: &mut NetBuilder,
+    ctl: &Controls,
+    rule: FrontRule,
+    icode: u64,
+    row: &Row,
+) -> Result<u64, Memory>
+    requires inside { IsInside b.old ctl.now }
+    requires ready { IsFrontReady b.old.vars ctl.now }
+    ensures begins { Begins b.old b.new }
+    ensures asked { IfOk result (λ g. IsAsked b.new ctl.now g (λ w α cv. asked_in_front rule icode row.now (fields_of w) α cv)) }
+{
+    match rule {
+        FrontRule::Status => fetch_status_is(b, ctl, icode),
+        FrontRule::RegisterByte => is_truth(b, ctl, signal::NEED_REGIDS, row.has_byte),
+        FrontRule::Constant => is_truth(b, ctl, signal::NEED_VAL_C, row.has_const),
+        FrontRule::Predicted(s) => next_predicted(b, ctl, &s, row.next),
+        FrontRule::SourceA => register_is(b, ctl, signal::D_SRC_A, row.src_a, D_R_A, D_R_B),
+        FrontRule::SourceB => register_is(b, ctl, signal::D_SRC_B, row.src_b, D_R_A, D_R_B),
+        FrontRule::DestinationE => register_is(b, ctl, signal::D_DST_E, row.dst_e, D_R_A, D_R_B),
+        FrontRule::DestinationM => register_is(b, ctl, signal::D_DST_M, row.dst_m, D_R_A, D_R_B),
+    }
+}
+
+impl ByRow for FrontRule {
+    ghost asks = { λ rule code r w α cv. asked_in_front rule code r (fields_of w) α cv };
+
+    ghost knows = { λ rule vars ctl. IsFrontReady vars ctl };
+
+    fn at_row(
+        &self,
+        b: &mut NetBuilder,
+        ctl: &Controls,
+        icode: u64,
+        row: Row,
+    ) -> Result<u64, Memory> {
+        front_asks(b, ctl, *self, icode, &row)
+    }
+}
+
+/// Obligation 1: f_icode and f_ifun are what was read.
+#[tactic(auto, unfolding(pipe_fields::specs::Layout::fields_of), using(nets::proofs::Truths::begins_more, ctl_formula::proofs::Inside::inside_more))]
+pub fn obligation_1(b: &mut NetBuilder, ctl: &Controls) -> Result<u64, Memory>
+    requires inside { IsInside b.old ctl.now }
+    requires ready { IsFrontReady b.old.vars ctl.now }
+    ensures begins { Begins b.old b.new }
+    ensures asked { IfOk result (λ g. IsAsked b.new ctl.now g (λ w α cv.
+        words.is_number cv names.f_icode (fields_of w).f.icode && words.is_number cv names.f_ifun (fields_of w).f.ifun)) }
+{
+    let code = takes(b, ctl, signal::F_ICODE, Wanted::Field(F_ICODE))?;
+    let fun = takes(b, ctl, signal::F_IFUN, Wanted::Field(F_IFUN))?;
+    let g = b.and(code, fun)?;
+    Ok(g)
+}
+
+/// What is asked by the icode that is fetched.
+#[tactic(auto, unfolding(pipe_fields::specs::Layout::fields_of))]
+pub fn fetch_told(
+    b: &mut NetBuilder,
+    ctl: &Controls,
+    v: Variant,
+    rule: FrontRule,
+) -> Result<u64, Memory>
+    requires inside { IsInside b.old ctl.now }
+    requires ready { IsFrontReady b.old.vars ctl.now }
+    ensures begins { Begins b.old b.new }
+    ensures asked { IfOk result (λ g. IsAsked b.new ctl.now g (λ w α cv. asked_in_front rule (fields_of w).f.icode (row v (fields_of w).f.icode) (fields_of w) α cv)) }
+{
+    let g = by_icode(b, ctl, v, F_ICODE, &rule)?;
+    Ok(g)
+}
+
+/// What is asked by the icode in D.
+#[tactic(auto, unfolding(pipe_fields::specs::Layout::fields_of))]
+pub fn decode_told(
+    b: &mut NetBuilder,
+    ctl: &Controls,
+    v: Variant,
+    rule: FrontRule,
+) -> Result<u64, Memory>
+    requires inside { IsInside b.old ctl.now }
+    requires ready { IsFrontReady b.old.vars ctl.now }
+    ensures begins { Begins b.old b.new }
+    ensures asked { IfOk result (λ g. IsAsked b.new ctl.now g (λ w α cv. asked_in_front rule (fields_of w).d.icode (row v (fields_of w).d.icode) (fields_of w) α cv)) }
+{
+    let g = by_icode(b, ctl, v, D_ICODE, &rule)?;
+    Ok(g)
+}
+
+/// Obligation 5: f_predPC is the PC that is predicted behind what is fetched without an error.
+#[tactic(auto, unfolding(pipe_fields::specs::Layout::fields_of), using(nets::proofs::Truths::begins_more, ctl_formula::proofs::Inside::inside_more))]
+pub fn obligation_5(
+    b: &mut NetBuilder,
+    ctl: &Controls,
+    v: Variant,
+    s: &Settings,
+) -> Result<u64, Memory>
+    requires inside { IsInside b.old ctl.now }
+    requires ready { IsFrontReady b.old.vars ctl.now }
+    ensures begins { Begins b.old b.new }
+    ensures asked { IfOk result (λ g. IsAsked b.new ctl.now g (λ w α cv.
+        set (fields_of w).f.error || words.takes_some cv names.f_predPC (predicted_leaf (row v (fields_of w).f.icode).next (predicts s.now (fields_of w).f.ifun (set (fields_of w).f.back))))) }
+{
+    let error = reading_fails(b)?;
+    let asked = fetch_told(b, ctl, v, FrontRule::Predicted(*s))?;
+    let g = b.or(error, asked)?;
+    Ok(g)
+}
