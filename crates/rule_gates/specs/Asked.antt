@@ -1,4 +1,4 @@
--- What a gate tells of control values, and the gates of rules.
+-- What a gate tells of control values.
 use Rattle.std.specs.Prelude.{ℕ, ◌+◌, ◌<◌, ◌≤◌, ◌≡◌, Bool, List, length, if◌then◌else◌, ◌&&◌}
 use Rattle.nets.specs.Nets.{Gates, truth}
 use Rattle.ctl_atoms.specs.declared.leaf.Leaf.{Leaf}
@@ -7,10 +7,8 @@ use Rattle.ctl_atoms.specs.Leaves.{Assignment}
 use Rattle.ctl_formula.specs.declared.controls.Entry.{Entry}
 use Rattle.ctl_formula.specs.Picks.{Tells}
 use Rattle.field_bits.specs.Spelling.{spelt}
-use Rattle.hcl_types.specs.Lists.{Each}
 use Rattle.rule_gates.specs.declared.asked.Wanted.{Wanted}
 use Rattle.rule_gates.specs.declared.asked.Wanted.TheVariants as want
-use Rattle.rule_gates.specs.declared.rules.Rule.{Rule}
 use Rattle.field_bits.specs.declared.spots.Place.{Place}
 use Rattle.y86_isa.specs.declared.columns.Field.{Field}
 use Rattle.y86_isa.specs.declared.columns.Field.TheVariants.{Dash, FieldA, FieldB, Stack}
@@ -30,10 +28,6 @@ wanted w (want.Field p) = Number (spelt w p.first p.bits)
 abbrev pub IsWithin : ℕ → Wanted → Type 0
 IsWithin vars (want.This leaf) = Unit {0}
 IsWithin vars (want.Field p) = p.first + p.bits ≤ vars
-
--- the gates of rules are gates of the net
-abbrev pub AreRulesOf : Gates → List Rule → Type 0
-AreRulesOf net list = Each (λ (r : Rule). r.gate < length net.gates) list
 
 -- the register that a column names
 abbrev pub register_wanted : Field → Place → Place → Wanted

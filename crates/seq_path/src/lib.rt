@@ -2,9 +2,8 @@
 #![tactic(auto)]
 
 mod laws;
-mod running;
 mod seq;
 
 pub use laws::law_of_calls;
-pub use running::run;
+pub use machine_calls::run;
 pub use seq::Seq;

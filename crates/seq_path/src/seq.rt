@@ -8,6 +8,7 @@ ghost use Rattle.seq_path.specs.Seq as spec;
 
 use dp_signals::{SeqState, seq_advance, seq_record, solve_seq};
 use hcl_types::{Design, Order, SignalEval};
+use machine_calls::Cycles;
 use std::marker::Model;
 use y86_base::{Image, Stat, Variant};
 use y86_isa::Rec;
@@ -87,5 +88,20 @@ impl<C: SignalEval> Seq<C> {
         ensures { ended result ≡ self.now.state }
     {
         End::of(&self.state)
+    }
+}
+
+impl<C: SignalEval> Cycles for Seq<C> {
+    ghost use Rattle.seq_path.specs.Seq.{Seq, Cycle};
+    ghost use Rattle.seq_path.specs.Calls.{stays};
+
+    ghost step = { Cycle };
+
+    ghost stat = { λ p. p.state.stat };
+
+    ghost stays = { stays };
+
+    fn cycle(&mut self) -> Option<Rec> {
+        Seq::cycle(self)
     }
 }

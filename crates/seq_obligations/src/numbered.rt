@@ -1,0 +1,91 @@
+//! The rules of a sequential datapath in their order, from what each asks.
+ghost use Rattle.std.specs.Prelude.{◌≡◌, ◌||◌, not, ℕ, List, Bool, length, IfOk};
+ghost use Rattle.nets.specs.Nets.{Begins};
+ghost use Rattle.ctl_atoms.specs.declared.leaf.Leaf.{Leaf};
+ghost use Rattle.ctl_atoms.specs.Leaves.{Assignment};
+ghost use Rattle.ctl_formula.specs.declared.controls.Entry.{Entry};
+ghost use Rattle.ctl_formula.specs.Picks.{IsInside};
+ghost use Rattle.rule_gates.specs.Asked.{IsAsked};
+ghost use Rattle.seq_obligations.specs.Obligations.{rule_count};
+ghost use Rattle.seq_obligations.specs.Rules.{AreNumbered};
+
+use ctl_formula::Controls;
+use nets::NetBuilder;
+use rule_gates::Rule;
+use std::alloc::Global;
+use y86_base::Memory;
+
+/// How many rules a sequential datapath has.
+pub const RULE_COUNT: u32 = 16;
+
+/// What the rules of a datapath ask by their numbers, and of which valuations.
+pub trait Numbered {
+    /// The valuations of which they ask something.
+    ghost may: { Self → List Bool → Assignment → (ℕ → Leaf) → Bool };
+
+    /// What the rule of a number asks.
+    ghost asks: { Self → ℕ → List Bool → Assignment → (ℕ → Leaf) → Bool };
+
+    /// The fields are among so many variables, and the signals have control values.
+    ghost knows: { Self → ℕ → List Entry → Type 0 };
+
+    /// A gate of the valuations of which they ask something.
+    fn fits(&self, b: &mut NetBuilder, ctl: &Controls) -> Result<u64, Memory>
+        requires inside { IsInside b.old ctl.now }
+        requires known { knows self.now b.old.vars ctl.now }
+        ensures begins { Begins b.old b.new }
+        ensures asked { IfOk result (λ g. IsAsked b.new ctl.now g (may self.now)) };
+
+    /// A gate of what the rule of a number asks.
+    fn demand(&self, b: &mut NetBuilder, ctl: &Controls, number: u32) -> Result<u64, Memory>
+        requires inside { IsInside b.old ctl.now }
+        requires known { knows self.now b.old.vars ctl.now }
+        ensures begins { Begins b.old b.new }
+        ensures asked { IfOk result (λ g. IsAsked b.new ctl.now g (asks self.now number)) };
+}
+
+/// The rule of a number: it asks nothing of another valuation than these.
+fn rule_told<N: Numbered>(
+    b: &mut NetBuilder,
+    ctl: &Controls,
+    rules: &N,
+    fits: u64,
+    number: u32,
+) -> Result<u64, Memory>
+    requires inside { IsInside b.old ctl.now }
+    requires known { N.knows rules.now b.old.vars ctl.now }
+    requires fits { IsAsked b.old ctl.now fits (N.may rules.now) }
+    ensures begins { Begins b.old b.new }
+    ensures asked { IfOk result (λ g. IsAsked b.new ctl.now g (λ w α cv. not (N.may rules.now w α cv) || N.asks rules.now number w α cv)) }
+{
+    let asked = rules.demand(b, ctl, number)?;
+    let outside = b.not(fits)?;
+    let g = b.or(outside, asked)?;
+    Ok(g)
+}
+
+/// The rules in their order.
+pub fn numbered_rules<N: Numbered>(
+    alloc: Global,
+    b: &mut NetBuilder,
+    ctl: &Controls,
+    rules: &N,
+) -> Result<Vec<Rule>, Memory>
+    requires inside { IsInside b.old ctl.now }
+    requires known { N.knows rules.now b.old.vars ctl.now }
+    ensures begins { Begins b.old b.new }
+    ensures count { IfOk result (λ list. length list.items ≡ rule_count) }
+    ensures rules { IfOk result (λ list. AreNumbered b.new ctl.now (λ i w α cv. not (N.may rules.now w α cv) || N.asks rules.now i w α cv) list.items) }
+{
+    let fits = rules.fits(b, ctl)?;
+    let mut list = Vec::new(alloc);
+    for i in 0..RULE_COUNT {
+        let number = i + 1;
+        let gate = rule_told(b, ctl, rules, fits, number)?;
+        match list.push(Rule { number, gate }) {
+            Ok(()) => {}
+            Err(_) => return Err(Memory),
+        }
+    }
+    Ok(list)
+}
