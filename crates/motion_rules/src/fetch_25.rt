@@ -20,9 +20,9 @@ ghost use Rattle.pipe_obligations.specs.Stages as stages;
 
 use ctl_atoms::Leaf;
 use ctl_formula::Controls;
-use field_bits::{choose, spells};
+use field_bits::spells;
 use hcl_types::NameId;
-use nets::NetBuilder;
+use nets::{NetBuilder, choose};
 use pipe_fields::places::{
     E_CND, E_ICODE, E_STAT, F_BACK, F_STOPS, F_TAKEN, M_CND, M_ICODE, M_STAT,
 };

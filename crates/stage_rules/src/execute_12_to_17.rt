@@ -18,9 +18,9 @@ ghost use Rattle.y86_isa.specs.Table.{row};
 
 use crate::row_rules::RowRule;
 use ctl_formula::{Controls, Leaf};
-use field_bits::{Place, implies, same, spells};
+use field_bits::{Place, same, spells};
 use hcl_types::NameId;
-use nets::NetBuilder;
+use nets::{NetBuilder, implies};
 use pipe_fields::places::{E_CND, E_DST_E, E_ICODE, E_SRC_A, E_STAT, M_DST_M};
 use pipe_gates::{RowTest, row_has, signals as signal};
 use rule_gates::{Wanted, by_icode, takes, takes_if};

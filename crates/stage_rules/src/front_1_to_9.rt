@@ -15,8 +15,8 @@ ghost use Rattle.y86_isa.specs.declared.columns.Next.TheVariants as way;
 ghost use Rattle.stage_rules.specs.declared.front_1_to_9.FrontRule.TheVariants as kind;
 
 use ctl_formula::{Controls, Leaf};
-use field_bits::{choose, spells};
-use nets::NetBuilder;
+use field_bits::spells;
+use nets::{NetBuilder, choose};
 use pipe_fields::places::{D_ICODE, D_R_A, D_R_B, F_BACK, F_ERROR, F_ICODE, F_IFUN};
 use pipe_gates::{listed, signals as signal};
 use pipe_motion::Settings;
