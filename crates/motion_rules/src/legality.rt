@@ -1,3 +1,4 @@
+//! Gates of which valuations are legal.
 ghost use Rattle.std.specs.Prelude.{◌≡◌, ◌<◌, ◌≤◌, ◌+◌, ◌==◌, ◌&&◌, not, false, true, length, slice_get, List, Bool, IfOk, MatchOption};
 ghost use Rattle.nets.specs.Nets.{truth};
 ghost use Rattle.ctl_atoms.specs.declared.leaf.Atom.{Atom};

@@ -1,3 +1,4 @@
+//! Gates of the premises: which valuations each obligation is asked of.
 ghost use Rattle.std.specs.Prelude.{◌≡◌, ◌<◌, ◌≤◌, ◌+◌, ◌==◌, ◌||◌, ◌&&◌, not, length, List, Bool, IfOk};
 ghost use Rattle.nets.specs.Nets.{truth, agree};
 ghost use Rattle.ctl_atoms.specs.Leaves.{Assignment, AtomsAre};

@@ -1,3 +1,4 @@
+//! Gates of what stands in D, E, M and W.
 ghost use Rattle.std.specs.Prelude.{◌≡◌, ◌<◌, ◌≤◌, ◌+◌, not, false, length, List, Bool, IfOk};
 ghost use Rattle.nets.specs.Nets.{truth, agree};
 ghost use Rattle.field_bits.specs.Spelling.{spelt, set};

@@ -1,3 +1,4 @@
+//! The sequential machine.
 ghost use Rattle.std.specs.Prelude.{◌≡◌, ◌≢◌, ◌↔◌, IsNone};
 ghost use Rattle.dp_signals.specs.SeqTable.{seq_rows};
 ghost use Rattle.hcl_types.specs.Tables.{IsBound, IsOrderOf};
