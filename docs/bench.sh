@@ -1,5 +1,5 @@
 #!/usr/bin/env bash
-# Measures the built program on generated inputs, and the gate from nothing and with everything kept. It prints the table of
+# Measures the built program on generated inputs, the program of measures, and the gate from nothing and with everything kept. It prints the table of
 # BENCH.md. With the word `program` it leaves the gate out.
 here=$(cd "$(dirname "$0")/.." && pwd) || exit 1
 work=$(mktemp -d) || exit 1
@@ -68,48 +68,26 @@ done
 
 echo "| \`big 100000 std.hcl\`: $("$here/y86" big 100000 "$here/examples/std.hcl" | awk '{ print $4 " steps and " $6 " cycles" }'), on images of 1 MB | $(fastest big 100000 "$here/examples/std.hcl") s |"
 
-# A row of the table: a line for the program of measures of diagrams, which stands where the gate built it.
-diagrams() {
-    [ -x "$here/crates/bdd_bench/out/bdd_bench" ] || return
-    seconds=$(for _ in 1 2 3; do
-        start=$EPOCHREALTIME
-        echo "$1" | "$here/crates/bdd_bench/out/bdd_bench" >"$work/out"
-        echo "$start $EPOCHREALTIME"
-    done | awk 'NR == 1 || $2 - $1 < best { best = $2 - $1 } END { printf "%.3f", best }')
-    echo "| \`bdd_bench\`, $1: $(sed 's/^[^:]*: //' "$work/out") | $seconds s |"
-}
+echo "| \`sample std.hcl 7 1000000\`, the whole call | $(fastest sample "$here/examples/std.hcl" 7 1000000) s |"
 
-# A row of the table: cycles of a datapath on an evaluator, from a program that stands where the gate built it. The time is that of the
-# processor in the fastest of three calls, so that other work beside it matters less.
-signals() {
-    [ -x "$here/crates/signal_bench/out/signal_bench" ] || return
-    { echo "$1 2000000"; cat "$here/examples/$2.hcl"; } >"$work/request"
+# A row of the table: a request to the program of measures, which stands where the gate built it, with how many things it does and how they are told.
+# The time is that of the processor in the fastest of three calls, so that other work beside it matters less.
+measure() {
+    [ -x "$here/crates/bench/out/bench" ] || return
     seconds=$(for _ in 1 2 3; do
         TIMEFORMAT=%U
-        { time "$here/crates/signal_bench/out/signal_bench" <"$work/request" >"$work/out"; } 2>&1
+        { time echo "$1" | "$here/crates/bench/out/bench" >"$work/out"; } 2>&1
     done | sort -n | head -1)
-    echo "| \`signal_bench\`, $2.hcl: $(cat "$work/out") | $seconds s, $(awk "BEGIN { printf \"%.2f\", 2 / $seconds }") million cycles a second |"
+    echo "| \`bench\`, $(cat "$work/out") | $seconds s${2:+, $(awk "BEGIN { printf \"$3\", $2 / $seconds }")} |"
 }
 
-# A row of the table: a line for the program of measures of lanes, by the processor's time of the fastest of three calls.
-lanes() {
-    [ -x "$here/crates/lane_bench/out/lane_bench" ] || return
-    seconds=$(for _ in 1 2 3; do
-        TIMEFORMAT=%U
-        { time echo "$1" | "$here/crates/lane_bench/out/lane_bench" >"$work/out"; } 2>&1
-    done | sort -n | head -1)
-    echo "| \`lane_bench\`, $(cat "$work/out") | $seconds s, $(awk "BEGIN { printf \"$3\", $2 / $seconds }") |"
-}
-
-lanes "pipe 7 1000000" 1000 "%.0f thousand valuations a second"
-lanes "gates 20000" "20000 * 512 * 5651 / 1000000" "%.0f million gates a second, one of 512 valuations counted as 512"
-signals "ssim walked" seq
-signals "ssim compiled" seq
-signals "psim walked" std
-signals "psim compiled" std
-diagrams "nodes adders 32"
-diagrams "nodes queens 8"
-diagrams "nodes words 18"
+measure "gates 20000" "20000 * 512 * 5651 / 1000000" "%.0f million gates a second, one of 512 valuations counted as 512"
+measure "single 20000" "20000 * 5651 / 1000000" "%.0f million gates a second"
+measure "ssim 2000000" 2 "%.2f million cycles a second by walking the terms"
+measure "psim 2000000" 2 "%.2f million cycles a second by walking the terms"
+measure "nodes adders 32"
+measure "nodes queens 8"
+measure "nodes words 18"
 [ "$1" = program ] && exit 0
 gate "the gate from nothing, \`rt ci --anew\`" --anew
 gate "the gate with everything kept, \`rt ci\`"

@@ -8,11 +8,12 @@ that is too strong only makes it say less. Prints each row that answers otherwis
 """
 import os
 import re
-import subprocess
 import sys
 import tempfile
 
-TOP = os.path.dirname(os.path.dirname(os.path.abspath(__file__)))
+sys.dont_write_bytecode = True
+from comparing import called, changed, compared, design
+
 STD = "yes pt=1111111 pb=1111111 tv=0 lf=0 je=0 rm=0"
 STOPS = "{ SADR, SINS, SHLT }"
 LOAD_USE = "E_icode in { IMRMOVQ, IPOPQ } && E_dstM in { d_srcA, d_srcB }"
@@ -80,34 +81,23 @@ ROWS = [
 ]
 
 
-def changed(text, name, body):
-    """The text with another body of a definition: `@` in it is the old body, or the branches of an old case list."""
-    found = re.search(rf"\b(?:word|bool)\s+{name}\s*=\s*(\[.*?\]|[^;\[]*)\s*;", text, flags=re.S)
-    old = found.group(1).strip()
-    inner = old[1:-1].strip() if old.startswith("[") and body.startswith("[") else f"1 : {old};" if body.startswith("[") else old
-    return text[: found.start(1)] + body.replace("@", inner) + text[found.end(1) :]
+
+def rows(program, folder):
+    """Each row: its name, what is wanted, and the first line that came."""
+    std = design("std")
+    for why, bodies, want in ROWS:
+        text = std
+        for name, body in bodies.items():
+            text = changed(text, name, body)
+        if "e_dstE" in bodies and "d_valA" in bodies:
+            text = re.sub(r"d_src([AB]) == e_dstE : e_valE; *", "", text)
+        _, out, err = called(program, ["check", "pipe", "d.hcl"], folder, [("d.hcl", text.encode())])
+        yield why, want, (out + err).decode().partition("\n")[0]
 
 
 def main():
-    program, failed = sys.argv[1], 0
-    with open(f"{TOP}/examples/std.hcl", encoding="utf-8") as it:
-        std = re.sub(r"#[^\n]*", "", it.read())
     with tempfile.TemporaryDirectory() as folder:
-        for why, bodies, want in ROWS:
-            text = std
-            for name, body in bodies.items():
-                text = changed(text, name, body)
-            if "e_dstE" in bodies and "d_valA" in bodies:
-                text = re.sub(r"d_src([AB]) == e_dstE : e_valE; *", "", text)
-            with open(f"{folder}/d.hcl", "w", encoding="utf-8") as it:
-                it.write(text)
-            ran = subprocess.run([program, "check", "pipe", f"{folder}/d.hcl"], capture_output=True, text=True)
-            said = (ran.stdout + ran.stderr).partition("\n")[0]
-            if said != want:
-                failed += 1
-                print(f"{why}: {said} in place of {want}")
-    print(f"{len(ROWS) - failed} passed, {failed} failed")
-    return 1 if failed else 0
+        return compared(rows(os.path.abspath(sys.argv[1]), folder))
 
 
 if __name__ == "__main__":

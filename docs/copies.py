@@ -1,14 +1,14 @@
 #!/usr/bin/env python3
 """copies.py
 
-Compares the copies of designs of examples/ that crates hold with those files, comments and blanks aside: the texts of `example_designs`, and the
-design behind the first line of `signal_bench`'s stdin. Prints each that differs, and ends with `N passed, M failed`.
+Compares the copies of designs of examples/ that the crate `example_designs` holds with those files, comments and blanks aside. Prints each that
+differs, and ends with `N passed, M failed`.
 """
-import os
 import re
 import sys
 
-TOP = os.path.dirname(os.path.dirname(os.path.abspath(__file__)))
+sys.dont_write_bytecode = True
+from comparing import TOP, compared
 
 
 def read(path):
@@ -21,24 +21,13 @@ def meat(text):
     return re.sub(r"\s+", " ", re.sub(r"#[^\n]*", "", text)).strip()
 
 
-def copies():
-    """Each copy: where it stands, its text, and the file that it copies."""
-    for name, text in re.findall(r'^const (\w+): &\[u8\] =\s*b"(.*?)";$', read("crates/example_designs/src/files.rt"), flags=re.M | re.S):
-        yield f"example_designs {name}", text, f"examples/{name.lower()}.hcl"
-    bench = next(it for it in ("signal_bench", "bench_signal") if os.path.isdir(f"{TOP}/crates/{it}"))
-    yield f"{bench} stdin", read(f"crates/{bench}/stdin").partition("\n")[2], "examples/std.hcl"
-
-
-def main():
-    found = list(copies())
-    differ = [(where, path) for where, text, path in found if meat(text) != meat(read(path))]
-    for where, path in differ:
-        print(f"{where} differs from {path}")
-    if len(found) < 8:
-        print("copies were expected that aren't there")
-    print(f"{len(found) - len(differ)} passed, {len(differ)} failed")
-    return 1 if differ or len(found) < 8 else 0
+def rows():
+    """Each copy: where it stands, the file that it copies, and its text; and that there are eight."""
+    copies = re.findall(r'^const (\w+): &\[u8\] =\s*b"(.*?)";$', read("crates/example_designs/src/files.rt"), flags=re.M | re.S)
+    for name, text in copies:
+        yield f"example_designs {name}", meat(read(f"examples/{name.lower()}.hcl")), meat(text)
+    yield "copies", 8, len(copies)
 
 
 if __name__ == "__main__":
-    sys.exit(main())
+    sys.exit(compared(rows()))

@@ -9,13 +9,12 @@ out by hand from the tables of the instruction set and of the datapaths. No theo
 in the definition of the machine and in the code alike. Prints each row that differs, and ends with `N passed, M failed`.
 """
 import os
-import subprocess
 import sys
 import tempfile
 from functools import partial
 
 sys.dont_write_bytecode = True
-from boundaries import TOP, changed
+from comparing import called, changed, compared, design
 
 STOPS = "{ SADR, SINS, SHLT }"
 
@@ -282,33 +281,22 @@ ROWS = [
 ]
 
 
-def call(program, command, design, definitions, source):
-    """The status and both streams of a command on a design with these definitions and on an object file."""
-    for name, body in definitions.items():
-        design = changed(design, name, body)
-    with tempfile.TemporaryDirectory() as folder:
-        for name, text in (("d.hcl", design), ("p.yo", source + "\n")):
-            with open(f"{folder}/{name}", "w", encoding="ascii") as it:
-                it.write(text)
+def rows(program, folder):
+    """Each row: its name, the status and both streams that are wanted, and those that came."""
+    designs = {"psim": design("std"), "ssim": design("seq")}
+    for shows, command, definitions, source, text in ROWS:
         words = command.split()
-        done = subprocess.run([program, words[0], "d.hcl", "p.yo", *words[1:]], cwd=folder, stdin=subprocess.DEVNULL, capture_output=True, text=True, timeout=60)
-    return done.returncode, done.stdout, done.stderr
+        hcl = designs[words[0]]
+        for name, body in definitions.items():
+            hcl = changed(hcl, name, body)
+        files = [("d.hcl", hcl.encode()), ("p.yo", f"{source}\n".encode())]
+        wanted = (0 if "'HLT'" in text else 1, text.encode(), b"")
+        yield f"{shows}: {command}, with {definitions}", wanted, called(program, [words[0], "d.hcl", "p.yo", *words[1:]], folder, files)
 
 
 def main():
-    program, failed = os.path.abspath(sys.argv[1]), 0
-    designs = {}
-    for command, name in (("psim", "std"), ("ssim", "seq")):
-        with open(f"{TOP}/examples/{name}.hcl", encoding="ascii") as it:
-            designs[command] = "".join(line.partition("#")[0] + "\n" for line in it)
-    for shows, command, definitions, source, text in ROWS:
-        wanted = (0 if "'HLT'" in text else 1, text, "")
-        got = call(program, command, designs[command.split()[0]], definitions, source)
-        if got != wanted:
-            failed += 1
-            print(f"{shows}: {command}, with {definitions}\n--- wanted {wanted}\n--- came   {got}")
-    print(f"{len(ROWS) - failed} passed, {failed} failed")
-    return 1 if failed else 0
+    with tempfile.TemporaryDirectory() as folder:
+        return compared(rows(os.path.abspath(sys.argv[1]), folder))
 
 
 if __name__ == "__main__":

@@ -8,11 +8,12 @@ instruction; none writes its own code, since data and stack stand above 0x800. P
 """
 import os
 import random
-import subprocess
 import sys
 import tempfile
 
-EXAMPLES = os.path.join(os.path.dirname(os.path.dirname(os.path.abspath(__file__))), "examples")
+sys.dont_write_bytecode = True
+from comparing import EXAMPLES, called, compared
+
 REGISTERS = ["%rax", "%rcx", "%rdx", "%rbx", "%rsi", "%rdi", "%r8", "%r9"]
 CONDITIONS = ["le", "l", "e", "ne", "ge", "g"]
 
@@ -49,39 +50,36 @@ def program(chance):
     return "".join(f"    {it}\n" for it in [*lines, "halt"])
 
 
-def call(*words):
-    return subprocess.run(words, cwd=EXAMPLES, stdin=subprocess.DEVNULL, stdout=subprocess.PIPE, timeout=60).stdout.decode()
+def rows(y86, count, chance, folder):
+    """Each row: a program under a design, what is wanted of it, and what came."""
+
+    def call(*words):
+        return called(y86, words, EXAMPLES)[1].decode()
+
+    files = sorted(it for it in os.listdir(EXAMPLES) if it.endswith(".hcl") and it not in ("seq.hcl", "sp.hcl"))
+    designs = [it for it in files if call("check", "pipe", it).startswith("yes")]
+    path = f"{folder}/p.yo"
+    for number in range(count):
+        source = program(chance)
+        with open(f"{folder}/p.ys", "w", encoding="ascii") as it:
+            it.write(source)
+        listing = call("yas", f"{folder}/p.ys")
+        yield f"program {number} is assembled:\n{source}", True, listing != ""
+        with open(path, "w", encoding="ascii") as it:
+            it.write(listing)
+        report, first = call("yis", path), None
+        for command, design in (("ssim", "seq.hcl"), ("ssimp", "sp.hcl")):
+            yield f"program {number} under {design}:\n{source}", report, call(command, design, path)
+        for design in designs:
+            trace, _, rest = call("psim", design, path, "--trace").partition("Ran ")
+            first = trace if first is None else first
+            yield f"program {number} under {design}:\n{source}", (first, report), (trace, rest.partition("\n")[2])
 
 
 def main():
-    y86, count, chance = os.path.abspath(sys.argv[1]), int(sys.argv[2]), random.Random(int((sys.argv + ["7"])[3]))
-    files = sorted(it for it in os.listdir(EXAMPLES) if it.endswith(".hcl") and it not in ("seq.hcl", "sp.hcl"))
-    designs, passed, failed = [it for it in files if call(y86, "check", "pipe", it).startswith("yes")], 0, 0
+    chance = random.Random(int((sys.argv + ["7"])[3]))
     with tempfile.TemporaryDirectory() as folder:
-        for number in range(count):
-            source, path = program(chance), f"{folder}/p.yo"
-            with open(f"{folder}/p.ys", "w", encoding="ascii") as it:
-                it.write(source)
-            listing = call(y86, "yas", f"{folder}/p.ys")
-            with open(path, "w", encoding="ascii") as it:
-                it.write(listing)
-            report, first = call(y86, "yis", path), None
-            for command, design in (("ssim", "seq.hcl"), ("ssimp", "sp.hcl")):
-                if listing and call(y86, command, design, path) == report:
-                    passed += 1
-                else:
-                    failed += 1
-                    print(f"program {number} under {design} differs:\n{source}")
-            for design in designs:
-                trace, _, rest = call(y86, "psim", design, path, "--trace").partition("Ran ")
-                first = trace if first is None else first
-                if listing and rest.partition("\n")[2] == report and trace == first:
-                    passed += 1
-                else:
-                    failed += 1
-                    print(f"program {number} under {design} differs:\n{source}")
-    print(f"{passed} passed, {failed} failed")
-    return 1 if failed else 0
+        return compared(rows(os.path.abspath(sys.argv[1]), int(sys.argv[2]), chance, folder))
 
 
 if __name__ == "__main__":

@@ -2,17 +2,18 @@
 """sequential.py PROGRAM
 
 Runs the sequential datapaths of PROGRAM (a path to y86) and compares: under examples/sp.hcl and examples/seq.hcl each example
-program has the report and the status of `yis`, at its end and at small limits; and what `ssim`, `ssimp`, `check seq` and
-`check seqplus` answer to designs that are almost right, or wrong as a whole, is the text that stands here. Prints each row that
-differs, and ends with `N passed, M failed`.
+program, and each of some small ones, has the report and the status of `yis`, at its end and at small limits; and what `ssim`, `ssimp`,
+`check seq` and `check seqplus` answer to designs that are almost right, or wrong as a whole, is the text that stands here, worked out by
+hand. Prints each row that differs, and ends with `N passed, M failed`.
 """
 import os
 import re
-import subprocess
 import sys
 import tempfile
 
-EXAMPLES = os.path.join(os.path.dirname(os.path.dirname(os.path.abspath(__file__))), "examples")
+sys.dont_write_bytecode = True
+from comparing import EXAMPLES, called, compared
+
 LIMITS = ["1", "2", "3", "5", "8", "10000"]
 HALT = "S error=0 icode=0 ifun=0 rA=15 rB=15 cnd=1 derror=0\natoms\n"
 IADDQ = "S error=0 icode=12 ifun=0 rA=0 rB=0 cnd=1 derror=0\natoms\n"
@@ -96,43 +97,110 @@ def changed(text, definitions):
     return f"{text}\n{definitions}\n"
 
 
-def call(program, words, folder):
-    done = subprocess.run([program, *words], cwd=folder, stdin=subprocess.DEVNULL, capture_output=True, timeout=60)
-    return done.returncode, done.stdout.decode(), done.stderr.decode()
+def report(steps, pc, status, registers=""):
+    return f"Stopped in {steps} steps at PC = {pc:#x}.  Status '{status}', CC Z=1 S=0 O=0\nChanges to registers:\n{registers}\nChanges to memory:\n"
 
 
-def rows(program):
-    """Each row: its name, what is wanted, and what came."""
+# programs at 0 in 64 bytes of memory, and how many cycles they may run
+PROGRAMS = [
+    # irmovq $7,%rdx; irmovq $5,%rcx; addq %rcx,%rdx; halt
+    ("30f20700000000000000 30f10500000000000000 6012 00", "9"),
+    # irmovq $64,%rsp; pushq %rsp; popq %rbx; call 24; halt; ret
+    ("30f44000000000000000 a04f b03f 801800000000000000 00 90", "9"),
+    # irmovq $1,%rcx; subq %rcx,%rcx; je 22; halt; cmovg %rcx,%rdx; nop; halt
+    ("30f10100000000000000 6111 731600000000000000 00 2612 10 00", "9"),
+    # a read outside, a byte that begins no instruction, and a loop that is cut off
+    ("5012ffffffffffffffff", "9"),
+    ("10 f0", "9"),
+    ("700000000000000000", "5"),
+]
+# mrmovq 0(%rdx),%rcx; halt
+LOAD = "50120000000000000000 00"
+# irmovq $7,%rdx; iaddq $-7,%rdx; halt
+ADDS = "30f20700000000000000 c0f2f9ffffffffffffff 00"
+# what seq.hcl lacks to run iaddq
+IADDQ_TOO = """
+bool instr_valid = icode in { INOP, IHALT, IRRMOVQ, IIRMOVQ, IRMMOVQ, IMRMOVQ, IOPQ, IJXX, ICALL, IRET, IPUSHQ, IPOPQ, IIADDQ };
+bool need_regids = icode in { IIADDQ, IRRMOVQ, IOPQ, IPUSHQ, IPOPQ, IIRMOVQ, IRMMOVQ, IMRMOVQ };
+bool need_valC = icode in { IIADDQ, IIRMOVQ, IRMMOVQ, IMRMOVQ, IJXX, ICALL };
+word srcB = [ icode in { IIADDQ, IOPQ, IRMMOVQ, IMRMOVQ } : rB; icode in { IPUSHQ, IPOPQ, ICALL, IRET } : RRSP; 1 : RNONE; ];
+word aluA = [ icode in { IRRMOVQ, IOPQ } : valA; icode in { IIADDQ, IIRMOVQ, IRMMOVQ, IMRMOVQ } : valC;
+  icode in { ICALL, IPUSHQ } : -8; icode in { IRET, IPOPQ } : 8; ];
+word aluB = [ icode in { IIADDQ, IRMMOVQ, IMRMOVQ, IOPQ, ICALL, IPUSHQ, IRET, IPOPQ } : valB; icode in { IRRMOVQ, IIRMOVQ } : 0; ];
+bool set_cc = icode in { IOPQ, IIADDQ };
+word dstE = [ icode == IRRMOVQ && Cnd : rB; icode in { IIRMOVQ, IOPQ, IIADDQ } : rB; icode in { IPUSHQ, IPOPQ, ICALL, IRET } : RRSP; 1 : RNONE; ];
+"""
+# the words of a call on d.hcl and p.yo in 64 bytes of memory, the definitions in place of those of seq.hcl, the program, the status, the text
+RUNS = [
+    ("ssim d.hcl p.yo", "word Stat = 0;", LOAD, 1, report(1, 0, "BUB")),
+    ("ssim d.hcl p.yo", "word Stat = 7;", LOAD, 1, report(1, 0, "BAD")),
+    ("ssim d.hcl p.yo", "word Stat = 1000;", LOAD, 1, report(1, 0, "BAD")),
+    # the word that is loaded wins, here the instruction's own bytes
+    ("ssim d.hcl p.yo", "word dstE = RRAX;\nword dstM = RRAX;", LOAD, 0, report(2, 10, "HLT", "%rax:\t0x0000000000000000\t0x0000000000001250\n")),
+    ("ssim d.hcl p.yo --full", IADDQ_TOO, ADDS, 0, report(3, 20, "HLT")),
+]
+
+
+def call(program, words, folder, files=()):
+    """The status and both streams of a call, with these files (names and texts) in its folder."""
+    status, out, err = called(program, words, folder, [(name, text.encode()) for name, text in files])
+    return status, out.decode(), err.decode()
+
+
+def design(name, definitions):
+    if not name:
+        return ""
+    with open(f"{EXAMPLES}/{name}.hcl", encoding="utf-8") as it:
+        return changed(it.read(), definitions)
+
+
+def object_text(code):
+    return f"0x000: {code.replace(' ', '')} |\n"
+
+
+def examples(program):
+    """Each program of examples/ on both datapaths, at each limit."""
     for name in sorted(it for it in os.listdir(EXAMPLES) if it.endswith(".yo")):
         for limit in LIMITS:
             wanted = call(program, ["yis", name, "--limit", limit], EXAMPLES)
             for command, design in (("ssim", "seq.hcl"), ("ssimp", "sp.hcl")):
                 yield f"{command} {design} {name} --limit {limit}", wanted, call(program, [command, design, name, "--limit", limit], EXAMPLES)
+
+
+def small(program, folder):
+    """The small programs on both datapaths, and the runs."""
+    for code, limit in PROGRAMS:
+        words = ["p.yo", "--mem", "64", "--limit", limit]
+        files = [("p.yo", object_text(code))]
+        wanted = call(program, ["yis", *words], folder, files)
+        for command, name in (("ssim", "seq"), ("ssimp", "sp")):
+            yield f"{command} on {code}", wanted, call(program, [command, "d.hcl", *words], folder, [("d.hcl", design(name, "")), *files])
+    for words, definitions, code, status, text in RUNS:
+        files = [("d.hcl", design("seq", definitions)), ("p.yo", object_text(code))]
+        yield f"{words}, {definitions!r} on {code}", (status, text, ""), call(program, [*words.split(), "--mem", "64"], folder, files)
+    wanted = call(program, ["yis", "p.yo", "--full", "--mem", "64"], folder, [("p.yo", object_text(ADDS))])
+    yield "yis of iaddq", wanted, (0, report(3, 20, "HLT"), "")
+
+
+def answers(program, folder):
+    """The rows of designs."""
+    files = [("p.yo", "0x000: 30f30a00000000000000 |\n0x00a: 00 |\n")]
+    for words, name, definitions, status, text in ROWS:
+        got = call(program, words.split(), folder, [("d.hcl", design(name, definitions)), *files])
+        wanted = (status, text, "") if status <= 1 else (status, "", got[2] if text is None else text)
+        yield f"{words}, {name} with {definitions!r}", wanted, got
+
+
+def rows(program):
+    """Each row: its name, what is wanted, and what came."""
+    yield from examples(program)
     with tempfile.TemporaryDirectory() as folder:
-        with open(f"{folder}/p.yo", "w", encoding="ascii") as it:
-            it.write("0x000: 30f30a00000000000000 |\n0x00a: 00 |\n")
-        for words, design, definitions, status, text in ROWS:
-            source = ""
-            if design:
-                with open(f"{EXAMPLES}/{design}.hcl", encoding="utf-8") as it:
-                    source = changed(it.read(), definitions)
-            with open(f"{folder}/d.hcl", "w", encoding="utf-8") as it:
-                it.write(source)
-            got = call(program, words.split(), folder)
-            wanted = (status, text, "") if status <= 1 else (status, "", got[2] if text is None else text)
-            yield f"{words}, {design} with {definitions!r}", wanted, got
+        yield from small(program, folder)
+        yield from answers(program, folder)
 
 
 def main():
-    passed = failed = 0
-    for name, wanted, got in rows(os.path.abspath(sys.argv[1])):
-        if got == wanted:
-            passed += 1
-        else:
-            failed += 1
-            print(f"{name}\n--- wanted {wanted}\n--- came   {got}")
-    print(f"{passed} passed, {failed} failed")
-    return 1 if failed else 0
+    return compared(rows(os.path.abspath(sys.argv[1])))
 
 
 if __name__ == "__main__":

@@ -34,4 +34,20 @@ impl Example {
         }
         Ok(text)
     }
+
+    /// Some definitions, each on a line of its own, and 0 for each other name that it defines.
+    pub fn zeros(self, alloc: Global, definitions: &[u8]) -> Result<Vec<u8>, AllocError> {
+        let mut text = Vec::from_slice(alloc, definitions)?;
+        text.push(b'\n')?;
+        for line in self.text().split(|byte| *byte == b'\n') {
+            let is_head = line.starts_with(b"word ") || line.starts_with(b"bool ");
+            if is_head && !is_defined(line, definitions) {
+                if let Some(head) = line.split(|byte| *byte == b'=').next() {
+                    text.extend_from_slice(head)?;
+                    text.extend_from_slice(b"= 0;\n")?;
+                }
+            }
+        }
+        Ok(text)
+    }
 }

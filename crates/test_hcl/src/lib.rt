@@ -1,0 +1,9 @@
+//! Tests of HCL inside: the trees of a text, the values of terms on both evaluators, orders and the slots of a definition.
+#![tactic(auto)]
+
+#[cfg(test)]
+mod orders;
+#[cfg(test)]
+mod trees;
+#[cfg(test)]
+mod values;

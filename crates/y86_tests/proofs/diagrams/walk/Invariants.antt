@@ -1,5 +1,0 @@
-use Rattle.bdd_core.specs.Meaning.{IsDia}
-use Rattle.y86_tests.proofs.diagrams.walk.Given as goal
-
-abbrev pub invariant-loop : goal.invariant-loop
-invariant-loop l = record { inside : IsDia l.store l.d }
