@@ -1,0 +1,2 @@
+pub mod Purity
+pub mod Calls

@@ -1,0 +1,5 @@
+use Rattle.seq_path.proofs.OneRun.{solution_there}
+use Rattle.seq_path.proofs.laws.law_of_solutions.Goals as goal
+
+pub returns : goal.returns
+returns c = solution_there
