@@ -259,9 +259,13 @@ pub fn bind(alloc: Global, f: &File, t: &Table) -> Result<Design, BindFault>
     ensures design { IfOk result (λ d. bound t.now.rows f.now.items ≡ Ok d.terms) }
     ensures belongs { IfOk result (λ d. IsBound t.now.rows d.terms) }
     ensures fault { IfErr result (λ e. e.why ≢ OutOfMemory → bound t.now.rows f.now.items ≡ Err e) }
+    ensures nameless { IfErr result (λ e. e.why ≡ OutOfMemory → e.name ≡ []) }
 {
     match bind_items(alloc, t.rows.items(), f.items.items()) {
         Ok(terms) => Ok(Design { terms }),
-        Err(e) => Err(e),
+        Err(fault) => match fault.why {
+            BindWhy::Memory => Err(BindFault::memory(alloc)),
+            _ => Err(fault),
+        },
     }
 }

@@ -40,7 +40,7 @@ pub struct BindFault {
 impl BindFault {
     /// Want of memory.
     pub fn memory(alloc: Global) -> BindFault
-        ensures { result.why ≡ OutOfMemory }
+        ensures { result ≡ fault OutOfMemory [] }
     {
         BindFault {
             why: BindWhy::Memory,

@@ -3,9 +3,9 @@ use Rattle.hcl_types.proofs.Bound.{as_bound}
 use Rattle.hcl_types.proofs.Designs.{design_bound}
 use Rattle.hcl_types.proofs.binding.bind.Goals as goal
 
-pub returns-in-Err-clause-fault : goal.returns-in-Err-clause-fault
-returns-in-Err-clause-fault c = λ told.
-    as_bound c.args.t.now.rows c.items.result.now c.args.f.now.items c.items-2.result.now c.items.ensures c.items-2.ensures c.requires.apart (Err c.in-Err.e) (c.in-Err.ensures told)
+pub returns-in_default-clause-fault : goal.returns-in_default-clause-fault
+returns-in_default-clause-fault c = λ told.
+    as_bound c.args.t.now.rows c.items.result.now c.args.f.now.items c.items-2.result.now c.items.ensures c.items-2.ensures c.requires.apart (Err c.in-Err.fault) (c.in-Err.ensures told)
 
 pub returns-in-Ok-clause-design : goal.returns-in-Ok-clause-design
 returns-in-Ok-clause-design c =
