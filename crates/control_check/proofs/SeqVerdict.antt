@@ -7,6 +7,7 @@ use Rattle.hcl_types.specs.Tables.{IsOrderOf}
 use Rattle.hcl_types.specs.declared.term.Term.{Term}
 use Rattle.dp_signals.specs.SeqTable.{seq_rows}
 use Rattle.ctl_atoms.specs.declared.leaf.Atom.{Atom}
+use Rattle.seq_obligations.specs.Obligations.{rule_count}
 use Rattle.field_bits.proofs.Patterns.{decoded_range}
 use Rattle.rule_gates.specs.declared.rules.Rule.{Rule}
 use Rattle.seq_obligations.specs.Fields.{fields_of, numbers, spots}
@@ -32,7 +33,7 @@ accepted_by : (v : Variant) (terms : List Term) → IsAccepted (seq_questions v)
 accepted_by v terms a = record { holds = λ i c α cv l h range controls. a.holds i (numbers c) α cv l h range controls }
 
 -- a design of which an obligation is false isn't accepted
-rejected_by : (v : Variant) (terms : List Term) (atoms : List Atom) (i : ℕ) (w : List Bool) → 1 ≤ i → i ≤ 16 → Fails (seq_questions v) terms atoms i w → AcceptedSeq v terms → ⊥
+rejected_by : (v : Variant) (terms : List Term) (atoms : List Atom) (i : ℕ) (w : List Bool) → 1 ≤ i → i ≤ rule_count → Fails (seq_questions v) terms atoms i w → AcceptedSeq v terms → ⊥
 unfolding fields_of
 rejected_by v terms atoms i w l h f a = false≢true (sym f.fails ∙ a.holds i (fields_of w) f.truths f.values l h (decoded_range spots 0 w) f.controls)
 
@@ -50,6 +51,6 @@ module _ (v : Variant) (terms : List Term) (net : Gates) (list : List Rule) (ids
       record {
         atoms = no.1;
         are = no.2;
-        refused = rejected_by v terms no.1 failure.rule failure.valuation.bits no.3.from_one no.3.to_sixteen no.3.least.holds;
+        refused = rejected_by v terms no.1 failure.rule failure.valuation.bits no.3.from_one no.3.to_last no.3.least.holds;
         least = no.3;
       }

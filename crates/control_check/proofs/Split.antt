@@ -13,6 +13,7 @@ use Rattle.net_substitution.specs.Substitution.{AreCopies, behind, source_truth}
 use Rattle.net_substitution.specs.declared.copies.Source.{Source}
 use Rattle.net_substitution.specs.declared.copies.Source.TheVariants.{Const}
 use Rattle.net_substitution.specs.declared.copies.Substituted.{Substituted}
+use Rattle.ctl_formula.proofs.Rows.{from_some}
 use Rattle.rule_gates.specs.declared.rules.Rule.{Rule}
 use Rattle.verdicts.specs.Decisions.{AreGatesOf, IsAlwaysTrue, IsFirstFalse, IsLeastOf}
 use Rattle.control_check.specs.Splitting.{AreCopied, AreSourcesIn, AreTrueBefore, AreTrueIn, FailsFirstIn, IsFalseWhere, IsFirstIn, IsLeastIn, IsSearched, IsTrueWhere, source_in}
@@ -179,9 +180,6 @@ search_start n list =
     record { within = omega arith; earlier = nothing_yet n list; small = λ lt. absurd (omega (arith, lt)); found = λ lt. absurd (omega (arith, lt)) }
 
 -- ---- rules over the gates of a copy
-
-from_some : {A : Type 0} (x y : A) → Some x ≡ Some y → x ≡ y
-from_some x y e = cc
 
 entry : {A : Type 0} (xs : List A) (k : ℕ) → k < length xs → (x : A) × (slice_get xs k ≡ Some x)
 entry [] k lt = absurd (omega (arith, lt))

@@ -7,7 +7,7 @@ use Rattle.ctl_atoms.specs.Atoms.{AreAtoms}
 use Rattle.ctl_atoms.specs.declared.leaf.Atom.{Atom}
 use Rattle.pipe_motion.specs.declared.settings.Settings.{Settings}
 use Rattle.seq_obligations.specs.Fields.{fields_by, spots}
-use Rattle.seq_obligations.specs.Obligations.{obligation}
+use Rattle.seq_obligations.specs.Obligations.{obligation, rule_count}
 use Rattle.seq_refinement.specs.Accepted.{AcceptedSeq}
 use Rattle.verdicts.specs.Questions.{IsFault, IsLeastFalse, Questions}
 use Rattle.verdicts.specs.declared.fault.CheckFault.{CheckFault}
@@ -16,7 +16,7 @@ use Rattle.control_check.specs.declared.verdict.Verdict.TheVariants.{Yes, No}
 
 -- what SEQ asks of a design
 abbrev pub seq_questions : Variant → Questions
-seq_questions v = record { rows = seq_rows; spots = spots; asks = λ i xs α cv. obligation v i (fields_by xs) α cv }
+seq_questions v = record { rows = seq_rows; spots = spots; count = rule_count; asks = λ i xs α cv. obligation v i (fields_by xs) α cv }
 
 -- SEQ has no setting to choose
 abbrev pub no_settings : Settings

@@ -5,6 +5,8 @@ use Rattle.nets.specs.Nets.{Gates, Begins}
 use Rattle.hcl_types.specs.declared.term.Term.{Term}
 use Rattle.hcl_types.specs.declared.table.Row.{Row}
 use Rattle.dp_signals.specs.Tables.{constant_rows}
+use Rattle.seq_obligations.specs.Fields.{plus_bit_count}
+use Rattle.seq_obligations.specs.Obligations.{rule_count}
 use Rattle.seq_plus.specs.PlusTable.{plus_rows, plus_state, plus_hardware, plus_defined}
 use Rattle.ctl_atoms.specs.Atoms.{AreAtoms}
 use Rattle.ctl_atoms.specs.Leaves.{Assignment, AtomsAre}
@@ -18,34 +20,36 @@ use Rattle.ctl_formula.proofs.Inside.{tells_more}
 use Rattle.rule_gates.specs.declared.rules.Rule.{Rule}
 use Rattle.seq_plus.specs.Fields.{fields_of, number_of}
 use Rattle.ctl_formula.specs.Places.{HavePlaces, Spells}
+use Rattle.seq_plus.specs.Obligations.{signals}
+use Rattle.seq_plus.specs.PlusNames as signal
 use Rattle.seq_plus.specs.Rules.{IsPlusReady, ArePlusRules, AreAskedRules, places}
 
 -- the signals of SEQ+'s table have control values
-pub ready_by : (vars : ℕ) (ctl : List Entry) → 24 ≤ vars → Covers plus_rows ctl → IsPlusReady vars ctl
+pub ready_by : (vars : ℕ) (ctl : List Entry) → plus_bit_count ≤ vars → Covers plus_rows ctl → IsPlusReady vars ctl
 unfolding plus_rows constant_rows plus_state plus_hardware plus_defined
 ready_by vars ctl le c = record {
   shared = record {
     line = record { error = omega arith; icode = omega arith; four = refl; ifun = omega arith; r_a = omega arith; r_b = omega arith; cnd = omega arith; derror = omega arith };
-    icode = yes (c.picks 52);
-    ifun = yes (c.picks 53);
-    need_regids = yes (c.gates 55);
-    need_val_c = yes (c.gates 56);
-    src_a = yes (c.picks 57);
-    src_b = yes (c.picks 58);
-    dst_e = yes (c.picks 59);
-    dst_m = yes (c.picks 60);
-    alu_a = yes (c.picks 61);
-    alu_b = yes (c.picks 62);
-    alufun = yes (c.picks 63);
-    set_cc = yes (c.gates 64);
-    mem_addr = yes (c.picks 65);
-    mem_read = yes (c.gates 66);
-    mem_write = yes (c.gates 67);
-    mem_data = yes (c.picks 68);
-    stat = yes (c.picks 69);
+    icode = yes (c.picks signals.icode);
+    ifun = yes (c.picks signals.ifun);
+    need_regids = yes (c.gates signals.need_regids);
+    need_val_c = yes (c.gates signals.need_val_c);
+    src_a = yes (c.picks signals.src_a);
+    src_b = yes (c.picks signals.src_b);
+    dst_e = yes (c.picks signals.dst_e);
+    dst_m = yes (c.picks signals.dst_m);
+    alu_a = yes (c.picks signals.alu_a);
+    alu_b = yes (c.picks signals.alu_b);
+    alufun = yes (c.picks signals.alufun);
+    set_cc = yes (c.gates signals.set_cc);
+    mem_addr = yes (c.picks signals.mem_addr);
+    mem_read = yes (c.gates signals.mem_read);
+    mem_write = yes (c.gates signals.mem_write);
+    mem_data = yes (c.picks signals.mem_data);
+    stat = yes (c.picks signals.stat);
   };
   code = omega arith;
-  pc = yes (c.picks 51);
+  pc = yes (c.picks signal.pc);
 }
   where
     yes : {b : Bool} → b ≡ true → IsTrue b
@@ -56,7 +60,7 @@ pub spelt_at_places : (w : List Bool) → Spells places w (number_of (fields_of 
 unfolding fields_of
 spelt_at_places w = (refl, (refl, (refl, (refl, (refl, (refl, (refl, (refl, (refl, tt)))))))))
 
-pub places_stand : (vars : ℕ) → 24 ≤ vars → HavePlaces plus_rows places vars
+pub places_stand : (vars : ℕ) → plus_bit_count ≤ vars → HavePlaces plus_rows places vars
 unfolding plus_rows constant_rows plus_state plus_hardware plus_defined
 places_stand vars le = record {
   placed = refl;
@@ -65,8 +69,8 @@ places_stand vars le = record {
 
 -- rules that hold where the gates of names tell control values are the rules of the design
 pub rules_are : (v : Variant) (terms : List Term) (net : Gates) (ctl : List Entry) (atoms : List Atom) (list : List Rule) → AreAtoms plus_rows terms atoms
-    → net.vars ≡ 24 + length atoms → length list ≡ 16 → AreAskedRules v net ctl list
-    → ((w : List Bool) (α : Assignment) (cv : ℕ → Leaf) → AtomsAre atoms 24 w α → AreControls plus_rows terms (number_of (fields_of w)) α cv → Tells net ctl w α cv)
+    → net.vars ≡ plus_bit_count + length atoms → length list ≡ rule_count → AreAskedRules v net ctl list
+    → ((w : List Bool) (α : Assignment) (cv : ℕ → Leaf) → AtomsAre atoms plus_bit_count w α → AreControls plus_rows terms (number_of (fields_of w)) α cv → Tells net ctl w α cv)
     → ArePlusRules v terms net list
 rules_are v terms net ctl atoms list are vars count asked tells = record {
   atoms = atoms;
@@ -81,15 +85,15 @@ rules_are v terms net ctl atoms list are vars count asked tells = record {
 }
 
 pub told_rules : {translated last : Gates} (v : Variant) (terms : List Term) (rows : List Row) (ps : List Place) (ctl : List Entry) (atoms : List Atom) (list : List Rule) (vars : ℕ)
-    → rows ≡ plus_rows → ps ≡ places → AreAtoms rows terms atoms → vars ≡ 24 + length atoms → translated.vars ≡ vars → IsInside translated ctl
+    → rows ≡ plus_rows → ps ≡ places → AreAtoms rows terms atoms → vars ≡ plus_bit_count + length atoms → translated.vars ≡ vars → IsInside translated ctl
     → ((w : List Bool) (α : Assignment) (field : ℕ → ℕ) (cv : ℕ → Leaf) (listed : List Atom) → AreAtoms rows terms listed → AtomsAre listed (vars - length listed) w α
     → Spells ps w field → AreControls rows terms field α cv → Tells translated ctl w α cv)
-    → Begins translated last → length list ≡ 16 → AreAskedRules v last ctl list → ArePlusRules v terms last list
+    → Begins translated last → length list ≡ rule_count → AreAskedRules v last ctl list → ArePlusRules v terms last list
 told_rules {translated} {last} v terms rows ps ctl atoms list vars e f are size same inside tells k count asked =
     rules_are v terms last ctl atoms list (subst (λ r. AreAtoms r terms atoms) e are) (k.vars ∙ (same ∙ size)) count asked
     (λ w α cv l c. tells_more k inside
     (tells w α (number_of (fields_of w)) cv atoms are (subst (λ n. AtomsAre atoms n w α) (sym from) l) (subst (λ p. Spells p w (number_of (fields_of w))) (sym f) (spelt_at_places w))
     (subst (λ r. AreControls r terms (number_of (fields_of w)) α cv) (sym e) c)))
   where
-    from : vars - length atoms ≡ 24
+    from : vars - length atoms ≡ plus_bit_count
     from = omega (arith, size)

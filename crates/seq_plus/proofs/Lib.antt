@@ -7,6 +7,5 @@ pub mod Runs
 pub mod Calls
 pub mod OneRun
 pub mod Sizes
-pub mod Listed
 pub mod Designed
 pub mod PlusVerdict

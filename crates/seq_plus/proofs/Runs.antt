@@ -36,7 +36,7 @@ use Rattle.ctl_atoms.specs.declared.leaf.Leaf.{Leaf}
 use Rattle.ctl_formula.specs.Controls.{AreControls}
 use Rattle.ctl_formula.specs.Laws.{HasControls, real}
 use Rattle.ctl_formula.proofs.Solved.{controls_exist}
-use Rattle.seq_obligations.specs.Obligations.{shared_demand}
+use Rattle.seq_obligations.specs.Obligations.{shared_demand, rule_count}
 use Rattle.seq_refinement.specs.Cycle.{Agrees}
 use Rattle.seq_refinement.specs.Facts.{FollowsControl}
 use Rattle.seq_refinement.proofs.Lines.{fields_allowed, fields_in_range, goes_on}
@@ -156,7 +156,7 @@ module _ (v : Variant) (terms : List Term) (ids : List ℕ) (bound : IsBound plu
     range = (omega (arith, lt, few v), (omega (arith, small), fields_in_range v (at_pc t (f name.pc)) (as_seq v f) g hw))
 
     module _ (cv : ℕ → Leaf) (h : AreControls plus_rows terms (number_of (fields_at v t f)) (real f) cv) where
-      demanded : (i : ℕ) → 1 ≤ i → i ≤ 16 → demand_at v i (fields_at v t f) (real f) cv ≡ true
+      demanded : (i : ℕ) → 1 ≤ i → i ≤ rule_count → demand_at v i (fields_at v t f) (real f) cv ≡ true
       demanded i l k = met _ _ (accepted.holds i (fields_at v t f) (real f) cv l k range h) fits
 
       asked : (i : ℕ) → 1 ≤ i → i ≤ 15 → shared_demand signals i (row v (f name.imem_icode)) (fields_at v t f).line (real f) cv ≡ true

@@ -8,6 +8,7 @@ use Rattle.hcl_types.specs.declared.term.Term.{Term}
 use Rattle.ctl_atoms.specs.Leaves.{Assignment}
 use Rattle.ctl_atoms.specs.declared.leaf.Leaf.{Leaf}
 use Rattle.ctl_formula.specs.Controls.{AreControls}
+use Rattle.seq_obligations.specs.Obligations.{rule_count}
 use Rattle.field_bits.specs.Spots.{InRange}
 use Rattle.seq_plus.specs.Fields.{Fields, number_of, numbers, spots}
 use Rattle.seq_plus.specs.Obligations.{obligation}
@@ -18,7 +19,7 @@ use Rattle.seq_plus.specs.declared.state.PlusState.{PlusState}
 -- each of the 16 obligations holds of every control valuation of the design: of all lines of fields, under every truth of the atoms, at
 -- the control values that the design's terms then have
 pub record AcceptedPlus (v : Variant) (terms : List Term) : Type 0 where
-  pub holds : (i : ℕ) (c : Fields) (α : Assignment) (cv : ℕ → Leaf) → 1 ≤ i → i ≤ 16 → InRange spots (numbers c) →
+  pub holds : (i : ℕ) (c : Fields) (α : Assignment) (cv : ℕ → Leaf) → 1 ≤ i → i ≤ rule_count → InRange spots (numbers c) →
       AreControls plus_rows terms (number_of c) α cv → obligation v i c α cv ≡ true
 
 -- on every image and for every number of cycles, the machine that the design's end tells is that of the instruction-level run, in all

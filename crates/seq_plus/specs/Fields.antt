@@ -7,7 +7,6 @@ use Rattle.field_bits.specs.declared.spots.Spot.{Spot}
 use Rattle.field_bits.specs.declared.spots.Place.{Place}
 use Rattle.field_bits.specs.Spots.{decoded, number_among}
 use Rattle.seq_obligations.specs.Fields as seq
-use Rattle.seq_obligations.specs.declared.signals.Line.{Line}
 use Rattle.seq_plus.specs.PlusNames as signal
 
 -- pIcode and pCnd, and the line S
@@ -16,21 +15,21 @@ pub record Fields : Type 0 where
   pub cnd : ℕ
   pub line : seq.Fields
 
-abbrev spot : ℕ → ℕ → Spot
-spot bits name = record { bits = bits; name = Some name }
+abbrev spot : Place → ℕ → Spot
+spot p name = record { bits = p.bits; name = Some name }
 
 -- the table of the fields, in the order of the variables
 abbrev pub spots : List Spot
 spots =
-    spot 4 signal.pIcode ∷
-    spot 1 signal.pCnd ∷
-    spot 1 signal.imem_error ∷
-    spot 4 signal.imem_icode ∷
-    spot 4 signal.imem_ifun ∷
-    spot 4 signal.rA ∷
-    spot 4 signal.rB ∷
-    spot 1 signal.Cnd ∷
-    spot 1 signal.dmem_error ∷ []
+    spot seq.p_icode signal.pIcode ∷
+    spot seq.p_cnd signal.pCnd ∷
+    spot seq.plus_line.error signal.imem_error ∷
+    spot seq.plus_line.icode signal.imem_icode ∷
+    spot seq.plus_line.ifun signal.imem_ifun ∷
+    spot seq.plus_line.r_a signal.rA ∷
+    spot seq.plus_line.r_b signal.rB ∷
+    spot seq.plus_line.cnd signal.Cnd ∷
+    spot seq.plus_line.derror signal.dmem_error ∷ []
 
 -- the fields as numbers in the order of the table, and back
 abbrev pub numbers : Fields → List ℕ
@@ -46,13 +45,6 @@ number_of c name = number_among spots (numbers c) name
 -- the fields that bits spell
 unfoldable pub fields_of : List Bool → Fields
 fields_of w = fields_by (decoded spots 0 w)
-
-abbrev place : ℕ → ℕ → Place
-place first bits = record { first = first; bits = bits }
-
--- where the fields of the line S stand
-abbrev pub line : Line
-line = record { error = place 5 1; icode = place 6 4; ifun = place 10 4; r_a = place 14 4; r_b = place 18 4; cnd = place 22 1; derror = place 23 1 }
 
 -- of a table with so many rows, the icode is that of an instruction that goes on: any but halt
 abbrev pub goes_on : ℕ → ℕ → Bool

@@ -1,11 +1,11 @@
 -- The run of SEQ+, as a relation on the number of cycles, and its end.
-use Rattle.std.specs.Prelude.{◌≡◌, ℕ, zero, suc, true, false, List, [], ◌++◌, Option, Some, None}
-use Rattle.std.specs.Option.{option_to_list}
+use Rattle.std.specs.Prelude.{◌≡◌, ℕ, true, false, List, Option, Some, None}
 use Rattle.y86_base.specs.declared.parts.Variant.{Variant}
 use Rattle.y86_isa.specs.Machine.{is_aok, start}
 use Rattle.y86_isa.specs.declared.machine.Machine.{Machine}
 use Rattle.y86_isa.specs.declared.machine.Rec.{Rec}
 use Rattle.hcl_types.specs.declared.term.Term.{Term}
+use Rattle.dp_signals.specs.After.{After}
 use Rattle.seq_plus.specs.PlusCycle.{plus_next, plus_record}
 use Rattle.seq_plus.specs.PlusEquations.{PlusSolves}
 use Rattle.seq_plus.specs.PlusNames as row
@@ -30,10 +30,7 @@ pub record PlusCycle (v : Variant) (terms : List Term) (s : PlusState) (r : Opti
 
 -- s is the state of the design k cycles after m, and these are the records of the cycles
 abbrev pub PlusRunFrom : Variant → List Term → PlusState → ℕ → PlusState → List Rec → Type 0
-PlusRunFrom v terms m zero s records = (s ≡ m) × (records ≡ [])
-PlusRunFrom v terms m (suc k) s records =
-    (q : PlusState) × (before : List Rec) × (r : Option Rec) × PlusRunFrom v terms m k q before × PlusCycle v terms q r s
-    × (records ≡ before ++ option_to_list r)
+PlusRunFrom v terms = After (PlusCycle v terms)
 
 -- the machine that a state is at a PC
 abbrev pub at_pc : PlusState → ℕ → Machine

@@ -4,6 +4,7 @@ use Rattle.y86_base.specs.declared.parts.Variant.{Variant}
 use Rattle.hcl_types.specs.declared.term.Term.{Term}
 use Rattle.ctl_atoms.specs.Atoms.{AreAtoms}
 use Rattle.ctl_atoms.specs.declared.leaf.Atom.{Atom}
+use Rattle.seq_obligations.specs.Obligations.{rule_count}
 use Rattle.verdicts.specs.Questions.{IsLeastFalse, Questions}
 use Rattle.seq_plus.specs.Accepted.{AcceptedPlus}
 use Rattle.seq_plus.specs.Fields.{fields_by, spots}
@@ -14,7 +15,7 @@ use Rattle.seq_plus.specs.declared.verdict.Plain16.TheVariants.{Yes, No}
 
 -- what SEQ+ asks of a design
 abbrev pub plus_questions : Variant → Questions
-plus_questions v = record { rows = plus_rows; spots = spots; asks = λ i xs α cv. obligation v i (fields_by xs) α cv }
+plus_questions v = record { rows = plus_rows; spots = spots; count = rule_count; asks = λ i xs α cv. obligation v i (fields_by xs) α cv }
 
 -- no definition of the design mixes codes with words, it has at most 64 atoms, and every obligation holds of every valuation
 pub record AcceptsPlus (v : Variant) (terms : List Term) : Type 0 where

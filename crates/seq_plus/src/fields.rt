@@ -1,50 +1,45 @@
 //! The fields of a valuation of SEQ+, and the rows and places of its signals.
 ghost use Rattle.std.specs.Prelude.{◌≡◌};
+ghost use Rattle.seq_obligations.specs.Fields.{plus_line};
 ghost use Rattle.seq_plus.specs.Fields as spec;
 ghost use Rattle.seq_plus.specs.Obligations.{signals as spec_signals};
 ghost use Rattle.seq_plus.specs.Rules.{places};
 
-use field_bits::{Place, Spot};
-use seq_obligations::{Line, Signals};
+use crate::row;
+use field_bits::Spot;
+use seq_obligations::{Line, P_CND, P_ICODE, PLUS_LINE, Signals};
 
-/// The fields in the order of the variables, with the rows of the signals that they are.
+/// The field at a place, which is the signal of a row.
+macro_rules! spot {
+    ($place:expr, $name:expr) => {
+        Spot {
+            bits: $place.bits,
+            name: Some($name),
+        }
+    };
+}
+
+/// The place of the signal of a row, which is a field.
+macro_rules! place {
+    ($place:expr, $name:expr) => {
+        ctl_formula::Place {
+            name: $name,
+            first: $place.first,
+            bits: $place.bits,
+        }
+    };
+}
+
 static SPOTS: [Spot; 9] = [
-    Spot {
-        bits: 4,
-        name: Some(33),
-    }, // pIcode
-    Spot {
-        bits: 1,
-        name: Some(34),
-    }, // pCnd
-    Spot {
-        bits: 1,
-        name: Some(40),
-    }, // imem_error
-    Spot {
-        bits: 4,
-        name: Some(38),
-    }, // imem_icode
-    Spot {
-        bits: 4,
-        name: Some(39),
-    }, // imem_ifun
-    Spot {
-        bits: 4,
-        name: Some(41),
-    }, // rA
-    Spot {
-        bits: 4,
-        name: Some(42),
-    }, // rB
-    Spot {
-        bits: 1,
-        name: Some(48),
-    }, // Cnd
-    Spot {
-        bits: 1,
-        name: Some(50),
-    }, // dmem_error
+    spot!(P_ICODE, row::P_ICODE),
+    spot!(P_CND, row::P_CND),
+    spot!(PLUS_LINE.error, row::IMEM_ERROR),
+    spot!(PLUS_LINE.icode, row::IMEM_ICODE),
+    spot!(PLUS_LINE.ifun, row::IMEM_IFUN),
+    spot!(PLUS_LINE.r_a, row::R_A),
+    spot!(PLUS_LINE.r_b, row::R_B),
+    spot!(PLUS_LINE.cnd, row::CND),
+    spot!(PLUS_LINE.derror, row::DMEM_ERROR),
 ];
 
 /// The fields of a valuation in the order of its variables, those of the line P first: their bits, and the rows of SEQ+'s
@@ -55,53 +50,39 @@ pub fn spots() -> &'static [Spot]
     &SPOTS
 }
 
-/// Where pIcode stands among the variables.
-pub(crate) const P_ICODE: Place = Place { first: 0, bits: 4 };
-
-/// Where pCnd stands.
-pub(crate) const P_CND: Place = Place { first: 4, bits: 1 };
-
-static LINE: Line = Line {
-    error: Place { first: 5, bits: 1 },
-    icode: Place { first: 6, bits: 4 },
-    ifun: Place { first: 10, bits: 4 },
-    r_a: Place { first: 14, bits: 4 },
-    r_b: Place { first: 18, bits: 4 },
-    cnd: Place { first: 22, bits: 1 },
-    derror: Place { first: 23, bits: 1 },
-};
+static THE_LINE: Line = PLUS_LINE;
 
 /// Where the fields of the line S stand.
 pub(crate) fn line() -> &'static Line
-    ensures { result.now ≡ spec.line }
+    ensures { result.now ≡ plus_line }
 {
-    &LINE
+    &THE_LINE
 }
 
 static SIGNALS: Signals = Signals {
-    val_c: 43,
-    val_p: 44,
-    val_a: 45,
-    val_b: 46,
-    val_e: 47,
-    val_m: 49,
-    icode: 52,
-    ifun: 53,
-    need_regids: 55,
-    need_val_c: 56,
-    src_a: 57,
-    src_b: 58,
-    dst_e: 59,
-    dst_m: 60,
-    alu_a: 61,
-    alu_b: 62,
-    alufun: 63,
-    set_cc: 64,
-    mem_addr: 65,
-    mem_read: 66,
-    mem_write: 67,
-    mem_data: 68,
-    stat: 69,
+    val_c: row::VAL_C,
+    val_p: row::VAL_P,
+    val_a: row::VAL_A,
+    val_b: row::VAL_B,
+    val_e: row::VAL_E,
+    val_m: row::VAL_M,
+    icode: row::ICODE,
+    ifun: row::IFUN,
+    need_regids: row::NEED_REGIDS,
+    need_val_c: row::NEED_VAL_C,
+    src_a: row::SRC_A,
+    src_b: row::SRC_B,
+    dst_e: row::DST_E,
+    dst_m: row::DST_M,
+    alu_a: row::ALU_A,
+    alu_b: row::ALU_B,
+    alufun: row::ALUFUN,
+    set_cc: row::SET_CC,
+    mem_addr: row::MEM_ADDR,
+    mem_read: row::MEM_READ,
+    mem_write: row::MEM_WRITE,
+    mem_data: row::MEM_DATA,
+    stat: row::STAT,
 };
 
 /// The rows of SEQ+'s signals.
@@ -111,53 +92,16 @@ pub(crate) fn signals() -> &'static Signals
     &SIGNALS
 }
 
-/// The places of the signals that are fields.
 static PLACES: [ctl_formula::Place; 9] = [
-    ctl_formula::Place {
-        name: 33,
-        first: 0,
-        bits: 4,
-    },
-    ctl_formula::Place {
-        name: 34,
-        first: 4,
-        bits: 1,
-    },
-    ctl_formula::Place {
-        name: 40,
-        first: 5,
-        bits: 1,
-    },
-    ctl_formula::Place {
-        name: 38,
-        first: 6,
-        bits: 4,
-    },
-    ctl_formula::Place {
-        name: 39,
-        first: 10,
-        bits: 4,
-    },
-    ctl_formula::Place {
-        name: 41,
-        first: 14,
-        bits: 4,
-    },
-    ctl_formula::Place {
-        name: 42,
-        first: 18,
-        bits: 4,
-    },
-    ctl_formula::Place {
-        name: 48,
-        first: 22,
-        bits: 1,
-    },
-    ctl_formula::Place {
-        name: 50,
-        first: 23,
-        bits: 1,
-    },
+    place!(P_ICODE, row::P_ICODE),
+    place!(P_CND, row::P_CND),
+    place!(PLUS_LINE.error, row::IMEM_ERROR),
+    place!(PLUS_LINE.icode, row::IMEM_ICODE),
+    place!(PLUS_LINE.ifun, row::IMEM_IFUN),
+    place!(PLUS_LINE.r_a, row::R_A),
+    place!(PLUS_LINE.r_b, row::R_B),
+    place!(PLUS_LINE.cnd, row::CND),
+    place!(PLUS_LINE.derror, row::DMEM_ERROR),
 ];
 
 /// The places of the signals that are fields, as the translation of a design asks for them.

@@ -14,6 +14,7 @@ use crate::state::{PlusState, Previous};
 use crate::values::solve_plus;
 use dp_signals::at;
 use hcl_types::{Design, Order, SignalEval};
+use machine_calls::Cycles;
 use std::marker::Model;
 use y86_base::{Image, Stat, Variant};
 use y86_isa::{Machine, Rec};
@@ -130,6 +131,21 @@ impl<C: SignalEval> Plus<C> {
     {
         let pc = self.pc();
         end_of(&self.state, pc)
+    }
+}
+
+impl<C: SignalEval> Cycles for Plus<C> {
+    ghost use Rattle.seq_plus.specs.Plus.{Plus, Cycle};
+    ghost use Rattle.seq_plus.specs.Calls.{stays};
+
+    ghost step = { Cycle };
+
+    ghost stat = { λ p. p.state.stat };
+
+    ghost stays = { stays };
+
+    fn cycle(&mut self) -> Option<Rec> {
+        Plus::cycle(self)
     }
 }
 

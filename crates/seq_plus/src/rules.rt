@@ -8,40 +8,37 @@ ghost use Rattle.field_bits.specs.Spelling.{set, spelt};
 ghost use Rattle.hcl_types.specs.Tables.{IsBound, IsOrderOf};
 ghost use Rattle.rule_gates.specs.Asked.{IsAsked};
 ghost use Rattle.rule_gates.specs.Words.{next_leaf, takes_some};
+ghost use Rattle.seq_obligations.specs.Fields.{p_cnd, p_icode};
 ghost use Rattle.seq_plus.specs.Fields.{allowed, fields_of, goes_on};
-ghost use Rattle.seq_plus.specs.Obligations.{demand_at, next_demand, obligation};
+ghost use Rattle.seq_plus.specs.Obligations.{demand_at};
+ghost use Rattle.seq_plus.specs.PlusNames as signal;
 ghost use Rattle.seq_plus.specs.PlusTable.{plus_rows};
-ghost use Rattle.seq_plus.specs.Rules.{AreAskedRules, ArePlusRules, IsPlusReady};
+ghost use Rattle.seq_plus.specs.Rules.{ArePlusRules, IsPlusReady};
 
-use crate::fields::{P_CND, P_ICODE, line, places, signals};
+use crate::fields::{line, places, signals};
+use crate::row;
 use crate::table::plus_table;
 use ctl_atoms::{CtlFault, atoms};
 use ctl_formula::{Controls, translate};
 use field_bits::{below, spells};
-use hcl_types::{Design, NameId, Order};
+use hcl_types::{Design, Order};
 use nets::NetBuilder;
-use rule_gates::{ByRow, Rule, Rules, by_icode, next_is};
-use seq_obligations::{line_allowed, shared_demand_told};
+use rule_gates::{ByRow, Rules, by_icode, next_is};
+use seq_obligations::{
+    Numbered, P_CND, P_ICODE, PLUS_BIT_COUNT, line_allowed, numbered_rules, shared_demand_told,
+};
 use std::alloc::Global;
 use y86_base::{Items, Memory, Variant};
 use y86_isa::{Row, icode_count};
-
-const PC: NameId = 51;
-
-const P_VAL_M: NameId = 35;
-
-const P_VAL_C: NameId = 36;
-
-const P_VAL_P: NameId = 37;
 
 /// The PC is the one behind the instruction before, by the row of its icode.
 #[derive(Clone, Copy, Debug)]
 struct NextPc;
 
 impl ByRow for NextPc {
-    ghost asks = { λ rule code r w α cv. takes_some cv 51 (next_leaf r.next 37 36 35 (set (spelt w 4 1))) };
+    ghost asks = { λ rule code r w α cv. takes_some cv signal.pc (next_leaf r.next signal.pValP signal.pValC signal.pValM (set (spelt w p_cnd.first p_cnd.bits))) };
 
-    ghost knows = { λ rule vars ctl. (5 ≤ vars) × IsTrue (has_picks ctl 51) };
+    ghost knows = { λ rule vars ctl. (p_cnd.first + p_cnd.bits ≤ vars) × IsTrue (has_picks ctl signal.pc) };
 
     fn at_row(
         &self,
@@ -51,7 +48,16 @@ impl ByRow for NextPc {
         row: Row,
     ) -> Result<u64, Memory> {
         let _ = icode;
-        let g = next_is(b, ctl, PC, row.next, P_VAL_P, P_VAL_C, P_VAL_M, P_CND)?;
+        let g = next_is(
+            b,
+            ctl,
+            row::PC,
+            row.next,
+            row::P_VAL_P,
+            row::P_VAL_C,
+            row::P_VAL_M,
+            P_CND,
+        )?;
         Ok(g)
     }
 }
@@ -59,9 +65,9 @@ impl ByRow for NextPc {
 /// The code is that of an instruction that goes on.
 #[tactic(auto, using(nets::proofs::Truths::truth_kept, nets::proofs::Truths::begins_more))]
 fn code_allowed(b: &mut NetBuilder, v: Variant) -> Result<u64, Memory>
-    requires { 5 ≤ b.old.vars }
+    requires { p_cnd.first + p_cnd.bits ≤ b.old.vars }
     ensures begins { Begins b.old b.new }
-    ensures made { IfOk result (λ g. IsGate b.new g (λ w. goes_on (length (rows v)) (spelt w 0 4))) }
+    ensures made { IfOk result (λ g. IsGate b.new g (λ w. goes_on (length (rows v)) (spelt w p_icode.first p_icode.bits))) }
 {
     let none = below(b, P_ICODE, 1)?;
     let some = b.not(none)?;
@@ -100,50 +106,26 @@ fn demand_told(b: &mut NetBuilder, ctl: &Controls, v: Variant, number: u32) -> R
     Ok(g)
 }
 
-/// The rule of a number: it asks nothing of lines that aren't allowed.
-fn rule_told(
-    b: &mut NetBuilder,
-    ctl: &Controls,
-    v: Variant,
-    fits: u64,
-    number: u32,
-) -> Result<u64, Memory>
-    requires inside { IsInside b.old ctl.now }
-    requires ready { IsPlusReady b.old.vars ctl.now }
-    requires fits { IsAsked b.old ctl.now fits (λ w α cv. allowed v (fields_of w)) }
-    ensures begins { Begins b.old b.new }
-    ensures asked { IfOk result (λ g. IsAsked b.new ctl.now g (λ w α cv. obligation v number (fields_of w) α cv)) }
-{
-    let asked = demand_told(b, ctl, v, number)?;
-    let outside = b.not(fits)?;
-    let g = b.or(outside, asked)?;
-    Ok(g)
+/// The rules of SEQ+.
+#[derive(Clone, Copy, Debug)]
+struct PlusRules {
+    variant: Variant,
 }
 
-/// The 16 rules in their order.
-fn rules_told(
-    alloc: Global,
-    b: &mut NetBuilder,
-    ctl: &Controls,
-    v: Variant,
-) -> Result<Vec<Rule>, Memory>
-    requires inside { IsInside b.old ctl.now }
-    requires ready { IsPlusReady b.old.vars ctl.now }
-    ensures begins { Begins b.old b.new }
-    ensures count { IfOk result (λ list. length list.items ≡ 16) }
-    ensures rules { IfOk result (λ list. AreAskedRules v b.new ctl.now list.items) }
-{
-    let fits = lines_allowed(b, ctl, v)?;
-    let mut list = Vec::new(alloc);
-    for i in 0..16 {
-        let number = i + 1;
-        let gate = rule_told(b, ctl, v, fits, number)?;
-        match list.push(Rule { number, gate }) {
-            Ok(()) => {}
-            Err(_) => return Err(Memory),
-        }
+impl Numbered for PlusRules {
+    ghost may = { λ it w α cv. allowed it.variant (fields_of w) };
+
+    ghost asks = { λ it i w α cv. demand_at it.variant i (fields_of w) α cv };
+
+    ghost knows = { λ it vars ctl. IsPlusReady vars ctl };
+
+    fn fits(&self, b: &mut NetBuilder, ctl: &Controls) -> Result<u64, Memory> {
+        lines_allowed(b, ctl, self.variant)
     }
-    Ok(list)
+
+    fn demand(&self, b: &mut NetBuilder, ctl: &Controls, number: u32) -> Result<u64, Memory> {
+        demand_told(b, ctl, self.variant, number)
+    }
 }
 
 /// The 16 rules of a design for SEQ+, in their order: each gate is its obligation at every pattern of bits of a control
@@ -165,9 +147,9 @@ pub fn plus_rules(
         Err(_) => return Err(CtlFault::Memory),
     };
     let listed = atoms(alloc, design, &table, order)?;
-    let mut b = NetBuilder::new(alloc, 24 + listed.len() as u32);
+    let mut b = NetBuilder::new(alloc, PLUS_BIT_COUNT + listed.len() as u32);
     let ctl = translate(alloc, design, &table, order, places(), &mut b)?;
-    match rules_told(alloc, &mut b, &ctl, variant) {
+    match numbered_rules(alloc, &mut b, &ctl, &PlusRules { variant }) {
         Err(_) => Err(CtlFault::Memory),
         Ok(list) => Ok(Rules {
             variant,
