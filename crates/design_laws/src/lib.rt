@@ -1,0 +1,7 @@
+//! Designs as functions of their texts: an order of a design is there where no name depends on itself, and what a text, its binding, its
+//! cycle and its atoms can be is one.
+#![tactic(auto)]
+
+mod laws;
+
+pub use laws::{law_of_atoms, law_of_cycles, law_of_orders};
