@@ -161,7 +161,7 @@ ROWS = [
     ("and in a cycle that never is, with a ret in M and in W", {"f_predPC": "[ M_icode == IRET && W_icode == IRET : f_valP; @ ]"}, "no O5"),
     ("so does tv", {"aluA": f"[ E_icode == IJXX && !W_stat in {STOPS} : E_valC; @ ]"}, STD),
     ("and where no good jump can stand", {"aluA": f"[ E_icode == IJXX && !M_stat in {STOPS} : E_valC; @ ]"}, STD),
-    ("a jump that one digit of pt and pb predicts otherwise has to be mended otherwise", {"f_predPC": "[ f_icode == IJXX && f_ifun == 4 : f_valP; @ ]"}, "no O25"),
+    ("a jump that one digit of pt and pb predicts otherwise has to be mended otherwise", {"f_predPC": "[ f_icode == IJXX && f_ifun == 4 : f_valP; @ ]"}, "no O24"),
 ]
 
 
