@@ -2,14 +2,10 @@
 use Rattle.std.specs.Prelude.{ℕ, Bool, true, false, ◌==◌, codes, List, [], ◌∷◌, ◌++◌, if◌then◌else◌}
 use Rattle.y86_base.specs.Numeral.{numeral}
 use Rattle.ctl_atoms.specs.declared.leaf.Atom.{Atom}
-use Rattle.pipe_fields.specs.Layout.{FetchLine, DecodeLine, ExecuteLine, MemoryLine, WriteLine, Fields, fields_of, good, wrong}
+use Rattle.pipe_fields.specs.Layout.{FetchLine, DecodeLine, ExecuteLine, MemoryLine, WriteLine, Fields, bit_count, fields_of, good, wrong}
 use Rattle.pipe_motion.specs.declared.settings.Settings.{Settings}
 use Rattle.verdict_text.specs.Atoms.{atoms_line}
 use Rattle.verdict_text.specs.Fields.{field, labelled}
-
--- how many bits stand before those of the atoms
-abbrev pub pipe_bits : ℕ
-pipe_bits = 107
 
 -- ---- the lines of a valuation
 
@@ -92,7 +88,7 @@ pipe_lines c = fetch_line c.f ++ decode_line c.d ++ execute_line c.e ++ memory_l
 
 -- names are those of the rows of PIPE's table, w is the falsifying valuation
 unfoldable pub pipe_no : List (List ℕ) → ℕ → List Bool → List Atom → List ℕ
-pipe_no names rule w atoms = codes "no O" ++ numeral 10 1 rule ++ codes "\n" ++ pipe_lines (fields_of w) ++ atoms_line names w pipe_bits atoms
+pipe_no names rule w atoms = codes "no O" ++ numeral 10 1 rule ++ codes "\n" ++ pipe_lines (fields_of w) ++ atoms_line names w bit_count atoms
 
 -- ---- the settings
 

@@ -1,31 +1,10 @@
 -- The texts of a No of SEQ and of SEQ+: the obligation, the lines of the valuation, and its atoms.
-use Rattle.std.specs.Prelude.{ℕ, ◌+◌, Bool, codes, List, [], ◌∷◌, ◌++◌}
+use Rattle.std.specs.Prelude.{ℕ, Bool, codes, List, [], ◌∷◌, ◌++◌}
 use Rattle.y86_base.specs.Numeral.{numeral}
 use Rattle.ctl_atoms.specs.declared.leaf.Atom.{Atom}
-use Rattle.seq_obligations.specs.Fields.{Fields, fields_of}
-use Rattle.seq_obligations.specs.declared.signals.Line.{Line}
+use Rattle.seq_obligations.specs.Fields.{Fields, bit_count, fields_of, plus_bit_count}
 use Rattle.verdict_text.specs.Atoms.{atoms_line}
 use Rattle.verdict_text.specs.Fields.{field, labelled}
-
--- how many bits stand before those of the atoms
-abbrev pub seq_bits : ℕ
-seq_bits = 19
-
-abbrev pub plus_bits : ℕ
-plus_bits = 24
-
--- where the fields of the line S stand, whose first bit is this one
-abbrev pub line_from : ℕ → Line
-line_from first =
-    record {
-      error = record { first = first; bits = 1 };
-      icode = record { first = first + 1; bits = 4 };
-      ifun = record { first = first + 5; bits = 4 };
-      r_a = record { first = first + 9; bits = 4 };
-      r_b = record { first = first + 13; bits = 4 };
-      cnd = record { first = first + 17; bits = 1 };
-      derror = record { first = first + 18; bits = 1 };
-    }
 
 unfoldable pub seq_line : Fields → List ℕ
 seq_line c =
@@ -46,9 +25,9 @@ previous_line icode cnd = labelled (field (codes "P icode=") icode ∷ field (co
 
 -- names are those of the rows of SEQ's table, w is the falsifying valuation
 unfoldable pub seq_no : List (List ℕ) → ℕ → List Bool → List Atom → List ℕ
-seq_no names rule w atoms = codes "no S" ++ numeral 10 1 rule ++ codes "\n" ++ seq_line (fields_of w) ++ atoms_line names w seq_bits atoms
+seq_no names rule w atoms = codes "no S" ++ numeral 10 1 rule ++ codes "\n" ++ seq_line (fields_of w) ++ atoms_line names w bit_count atoms
 
 -- the same of SEQ+, with the numbers of its line P and the fields of its line S
 unfoldable pub plus_no : List (List ℕ) → ℕ → ℕ → ℕ → Fields → List Bool → List Atom → List ℕ
 plus_no names rule icode cnd c w atoms =
-    codes "no S" ++ numeral 10 1 rule ++ codes "\n" ++ previous_line icode cnd ++ seq_line c ++ atoms_line names w plus_bits atoms
+    codes "no S" ++ numeral 10 1 rule ++ codes "\n" ++ previous_line icode cnd ++ seq_line c ++ atoms_line names w plus_bit_count atoms

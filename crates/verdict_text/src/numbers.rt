@@ -1,11 +1,11 @@
 //! Texts of labels and numbers.
 ghost use Rattle.std.specs.Prelude.{◌≡◌, ◌≤◌, ◌++◌, false, get_or, OnOk};
 ghost use Rattle.field_bits.specs.Spelling.{bit, spelt};
-ghost use Rattle.field_bits.specs.Spelling as spelling;
 ghost use Rattle.hcl_read.specs.Print.{signed_decimal};
 ghost use Rattle.verdict_text.specs.Fields.{labelled};
-ghost use Rattle.verdict_text.specs.Views.{shown};
+ghost use Rattle.verdict_text.specs.Views.{IsNear, shown};
 
+use field_bits::Place;
 use y86_base::{Memory, Numeral};
 
 /// Puts bytes behind a text.
@@ -43,7 +43,7 @@ fn bit_at(bits: &[bool], i: usize) -> u64
 
 /// The number that some bits of a valuation spell, the most significant one first.
 #[tactic(auto, using(crate::proofs::Loops::number_none, crate::proofs::Loops::number_more, crate::proofs::Loops::number_small))]
-pub(crate) fn number(bits: &[bool], first: usize, count: usize) -> u64
+fn number(bits: &[bool], first: usize, count: usize) -> u64
     requires few { count ≤ 4 }
     requires near { first ≤ 1000 }
     ensures { result ≡ spelt bits.now first count }
@@ -62,16 +62,23 @@ pub(crate) struct Shown {
     pub number: u64,
 }
 
-/// A label with the number that some bits spell.
-pub(crate) fn spelt(label: &'static [u8], bits: &[bool], first: usize, count: usize) -> Shown
-    requires few { count ≤ 4 }
-    requires near { first ≤ 1000 }
+/// The number of a field.
+pub(crate) fn number_at(bits: &[bool], place: Place) -> u64
+    requires near { IsNear place }
+    ensures { result ≡ spelt bits.now place.first place.bits }
+{
+    number(bits, place.first as usize, place.bits as usize)
+}
+
+/// A label with the number of a field.
+pub(crate) fn shown_at(label: &'static [u8], bits: &[bool], place: Place) -> Shown
+    requires near { IsNear place }
     ensures label { result.label.now ≡ label.now }
-    ensures number { result.number ≡ spelling.spelt bits.now first count }
+    ensures number { result.number ≡ spelt bits.now place.first place.bits }
 {
     Shown {
         label,
-        number: number(bits, first, count),
+        number: number_at(bits, place),
     }
 }
 

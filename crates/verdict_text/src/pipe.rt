@@ -5,16 +5,14 @@ ghost use Rattle.pipe_fields.specs.Layout.{fields_of};
 ghost use Rattle.verdict_text.specs.PipeLines.{decode_line, digit, digits, execute_line, fetch_line, kind_word, memory_line, pipe_lines, pipe_no, pipe_yes, write_line};
 
 use crate::atoms::put_atoms;
-use crate::numbers::{number, put, put_numbers, spelt};
+use crate::numbers::{number_at, put, put_numbers, shown_at};
 use ctl_atoms::Atom;
 use hcl_types::Row;
 use nets::Valuation;
+use pipe_fields::{BIT_COUNT, places as place};
 use pipe_motion::Settings;
 use std::alloc::Global;
 use y86_base::{Memory, Numeral};
-
-/// How many bits stand before those of the atoms.
-const FIELD_BITS: usize = 107;
 
 /// The word for what a stage holds.
 fn word_of(kind: u64) -> &'static [u8]
@@ -35,12 +33,12 @@ fn put_fetch(out: &mut Vec<u8>, bits: &[bool]) -> Result<(), Memory>
     ensures { OnOk result (out.new.items ≡ out.old.items ++ fetch_line (fields_of bits.now).f) }
 {
     let numbers = [
-        spelt(b"F error=", bits, 6, 1),
-        spelt(b" icode=", bits, 7, 4),
-        spelt(b" ifun=", bits, 11, 4),
-        spelt(b" taken=", bits, 15, 1),
-        spelt(b" stops=", bits, 16, 1),
-        spelt(b" back=", bits, 17, 1),
+        shown_at(b"F error=", bits, place::F_ERROR),
+        shown_at(b" icode=", bits, place::F_ICODE),
+        shown_at(b" ifun=", bits, place::F_IFUN),
+        shown_at(b" taken=", bits, place::F_TAKEN),
+        shown_at(b" stops=", bits, place::F_STOPS),
+        shown_at(b" back=", bits, place::F_BACK),
     ];
     put_numbers(out, &numbers)?;
     put(out, b"\n")
@@ -52,16 +50,16 @@ fn put_decode(out: &mut Vec<u8>, bits: &[bool]) -> Result<(), Memory>
     ensures { OnOk result (out.new.items ≡ out.old.items ++ decode_line (fields_of bits.now).d) }
 {
     put(out, b"D")?;
-    put(out, word_of(number(bits, 0, 2)))?;
+    put(out, word_of(number_at(bits, place::D_KIND)))?;
     let numbers = [
-        spelt(b" stat=", bits, 18, 3),
-        spelt(b" icode=", bits, 21, 4),
-        spelt(b" ifun=", bits, 25, 4),
-        spelt(b" rA=", bits, 29, 4),
-        spelt(b" rB=", bits, 33, 4),
-        spelt(b" taken=", bits, 37, 1),
-        spelt(b" stops=", bits, 38, 1),
-        spelt(b" back=", bits, 39, 1),
+        shown_at(b" stat=", bits, place::D_STAT),
+        shown_at(b" icode=", bits, place::D_ICODE),
+        shown_at(b" ifun=", bits, place::D_IFUN),
+        shown_at(b" rA=", bits, place::D_R_A),
+        shown_at(b" rB=", bits, place::D_R_B),
+        shown_at(b" taken=", bits, place::D_TAKEN),
+        shown_at(b" stops=", bits, place::D_STOPS),
+        shown_at(b" back=", bits, place::D_BACK),
     ];
     put_numbers(out, &numbers)?;
     put(out, b"\n")
@@ -73,18 +71,18 @@ fn put_execute(out: &mut Vec<u8>, bits: &[bool]) -> Result<(), Memory>
     ensures { OnOk result (out.new.items ≡ out.old.items ++ execute_line (fields_of bits.now).e) }
 {
     put(out, b"E")?;
-    put(out, word_of(number(bits, 2, 2)))?;
+    put(out, word_of(number_at(bits, place::E_KIND)))?;
     let numbers = [
-        spelt(b" stat=", bits, 40, 3),
-        spelt(b" icode=", bits, 43, 4),
-        spelt(b" ifun=", bits, 47, 4),
-        spelt(b" dstE=", bits, 51, 4),
-        spelt(b" dstM=", bits, 55, 4),
-        spelt(b" srcA=", bits, 59, 4),
-        spelt(b" srcB=", bits, 63, 4),
-        spelt(b" cnd=", bits, 67, 1),
-        spelt(b" stops=", bits, 68, 1),
-        spelt(b" back=", bits, 69, 1),
+        shown_at(b" stat=", bits, place::E_STAT),
+        shown_at(b" icode=", bits, place::E_ICODE),
+        shown_at(b" ifun=", bits, place::E_IFUN),
+        shown_at(b" dstE=", bits, place::E_DST_E),
+        shown_at(b" dstM=", bits, place::E_DST_M),
+        shown_at(b" srcA=", bits, place::E_SRC_A),
+        shown_at(b" srcB=", bits, place::E_SRC_B),
+        shown_at(b" cnd=", bits, place::E_CND),
+        shown_at(b" stops=", bits, place::E_STOPS),
+        shown_at(b" back=", bits, place::E_BACK),
     ];
     put_numbers(out, &numbers)?;
     put(out, b"\n")
@@ -96,16 +94,16 @@ fn put_memory(out: &mut Vec<u8>, bits: &[bool]) -> Result<(), Memory>
     ensures { OnOk result (out.new.items ≡ out.old.items ++ memory_line (fields_of bits.now).m) }
 {
     put(out, b"M")?;
-    put(out, word_of(number(bits, 4, 1)))?;
+    put(out, word_of(number_at(bits, place::M_KIND)))?;
     let numbers = [
-        spelt(b" stat=", bits, 70, 3),
-        spelt(b" icode=", bits, 73, 4),
-        spelt(b" ifun=", bits, 77, 4),
-        spelt(b" dstE=", bits, 81, 4),
-        spelt(b" dstM=", bits, 85, 4),
-        spelt(b" cnd=", bits, 89, 1),
-        spelt(b" error=", bits, 90, 1),
-        spelt(b" back=", bits, 91, 1),
+        shown_at(b" stat=", bits, place::M_STAT),
+        shown_at(b" icode=", bits, place::M_ICODE),
+        shown_at(b" ifun=", bits, place::M_IFUN),
+        shown_at(b" dstE=", bits, place::M_DST_E),
+        shown_at(b" dstM=", bits, place::M_DST_M),
+        shown_at(b" cnd=", bits, place::M_CND),
+        shown_at(b" error=", bits, place::M_ERROR),
+        shown_at(b" back=", bits, place::M_BACK),
     ];
     put_numbers(out, &numbers)?;
     put(out, b"\n")
@@ -117,12 +115,12 @@ fn put_write(out: &mut Vec<u8>, bits: &[bool]) -> Result<(), Memory>
     ensures { OnOk result (out.new.items ≡ out.old.items ++ write_line (fields_of bits.now).w) }
 {
     put(out, b"W")?;
-    put(out, word_of(number(bits, 5, 1)))?;
+    put(out, word_of(number_at(bits, place::W_KIND)))?;
     let numbers = [
-        spelt(b" stat=", bits, 92, 3),
-        spelt(b" icode=", bits, 95, 4),
-        spelt(b" dstE=", bits, 99, 4),
-        spelt(b" dstM=", bits, 103, 4),
+        shown_at(b" stat=", bits, place::W_STAT),
+        shown_at(b" icode=", bits, place::W_ICODE),
+        shown_at(b" dstE=", bits, place::W_DST_E),
+        shown_at(b" dstM=", bits, place::W_DST_M),
     ];
     put_numbers(out, &numbers)?;
     put(out, b"\n")
@@ -159,7 +157,7 @@ pub fn pipe_refusal(
     put(&mut out, Numeral::decimal(rule as u64).as_bytes())?;
     put(&mut out, b"\n")?;
     put_lines(&mut out, bits)?;
-    put_atoms(&mut out, rows, bits, FIELD_BITS, atoms)?;
+    put_atoms(&mut out, rows, bits, BIT_COUNT as usize, atoms)?;
     Ok(out)
 }
 

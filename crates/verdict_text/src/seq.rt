@@ -1,38 +1,33 @@
 //! The texts of a No of SEQ and of SEQ+.
 ghost use Rattle.std.specs.Prelude.{◌≡◌, ◌≤◌, ◌++◌, IfOk, OnOk, length};
-ghost use Rattle.field_bits.specs.Spelling as spelling;
 ghost use Rattle.hcl_types.specs.Tables.{row_names};
-ghost use Rattle.seq_obligations.specs.Fields.{line_at};
-ghost use Rattle.verdict_text.specs.SeqLine.{line_from, plus_no, previous_line, seq_line, seq_no};
+ghost use Rattle.seq_obligations.specs.Fields.{line_at, number_at, p_cnd, p_icode, plus_line};
+ghost use Rattle.verdict_text.specs.Views.{AreNear};
+ghost use Rattle.verdict_text.specs.SeqLine.{plus_no, previous_line, seq_line, seq_no};
 
 use crate::atoms::put_atoms;
-use crate::numbers::{put, put_numbers, spelt};
+use crate::numbers::{put, put_numbers, shown_at};
 use ctl_atoms::Atom;
 use hcl_types::Row;
 use nets::Valuation;
+use seq_obligations::{BIT_COUNT, LINE, Line, P_CND, P_ICODE, PLUS_BIT_COUNT, PLUS_LINE};
 use std::alloc::Global;
 use y86_base::{Memory, Numeral};
 
-/// How many bits stand before those of the atoms of SEQ.
-const SEQ_BITS: usize = 19;
-
-/// How many bits stand before those of the atoms of SEQ+.
-const PLUS_BITS: usize = 24;
-
-/// Puts the line S of a valuation, whose fields stand from a first bit on.
+/// Puts the line S of a valuation, whose fields stand at these places.
 #[tactic(auto, unfolding(crate::specs::SeqLine::seq_line, seq_obligations::specs::Fields::line_at))]
-fn put_seq_line(out: &mut Vec<u8>, bits: &[bool], first: usize) -> Result<(), Memory>
-    requires near { first ≤ 5 }
-    ensures { OnOk result (out.new.items ≡ out.old.items ++ seq_line (line_at (line_from first) bits.now)) }
+fn put_seq_line(out: &mut Vec<u8>, bits: &[bool], line: Line) -> Result<(), Memory>
+    requires near { AreNear line }
+    ensures { OnOk result (out.new.items ≡ out.old.items ++ seq_line (line_at line bits.now)) }
 {
     let numbers = [
-        spelt(b"S error=", bits, first, 1),
-        spelt(b" icode=", bits, first + 1, 4),
-        spelt(b" ifun=", bits, first + 5, 4),
-        spelt(b" rA=", bits, first + 9, 4),
-        spelt(b" rB=", bits, first + 13, 4),
-        spelt(b" cnd=", bits, first + 17, 1),
-        spelt(b" derror=", bits, first + 18, 1),
+        shown_at(b"S error=", bits, line.error),
+        shown_at(b" icode=", bits, line.icode),
+        shown_at(b" ifun=", bits, line.ifun),
+        shown_at(b" rA=", bits, line.r_a),
+        shown_at(b" rB=", bits, line.r_b),
+        shown_at(b" cnd=", bits, line.cnd),
+        shown_at(b" derror=", bits, line.derror),
     ];
     put_numbers(out, &numbers)?;
     put(out, b"\n")
@@ -41,9 +36,12 @@ fn put_seq_line(out: &mut Vec<u8>, bits: &[bool], first: usize) -> Result<(), Me
 /// Puts the line P of a valuation.
 #[tactic(auto, unfolding(crate::specs::SeqLine::previous_line))]
 fn put_previous_line(out: &mut Vec<u8>, bits: &[bool]) -> Result<(), Memory>
-    ensures { OnOk result (out.new.items ≡ out.old.items ++ previous_line (spelling.spelt bits.now 0 4) (spelling.spelt bits.now 4 1)) }
+    ensures { OnOk result (out.new.items ≡ out.old.items ++ previous_line (number_at bits.now p_icode) (number_at bits.now p_cnd)) }
 {
-    let numbers = [spelt(b"P icode=", bits, 0, 4), spelt(b" cnd=", bits, 4, 1)];
+    let numbers = [
+        shown_at(b"P icode=", bits, P_ICODE),
+        shown_at(b" cnd=", bits, P_CND),
+    ];
     put_numbers(out, &numbers)?;
     put(out, b"\n")
 }
@@ -66,12 +64,12 @@ pub fn seq_refusal(
     put(&mut out, b"no S")?;
     put(&mut out, Numeral::decimal(rule as u64).as_bytes())?;
     put(&mut out, b"\n")?;
-    put_seq_line(&mut out, bits, 0)?;
-    put_atoms(&mut out, rows, bits, SEQ_BITS, atoms)?;
+    put_seq_line(&mut out, bits, LINE)?;
+    put_atoms(&mut out, rows, bits, BIT_COUNT as usize, atoms)?;
     Ok(out)
 }
 
-/// The same of SEQ+, by the names of the rows of its own table: the line P, whose five bits stand first, is told before the
+/// The same of SEQ+, by the names of the rows of its own table: the line P, whose bits stand first, is told before the
 /// line S.
 #[tactic(auto, unfolding(crate::specs::SeqLine::plus_no))]
 pub fn plus_refusal(
@@ -82,8 +80,8 @@ pub fn plus_refusal(
     atoms: &[Atom],
 ) -> Result<Vec<u8>, Memory>
     requires few { length atoms.now ≤ 64 }
-    ensures { IfOk result (λ text. text.items ≡ plus_no (row_names rows.now) rule (spelling.spelt valuation.now.bits 0 4) (spelling.spelt valuation.now.bits 4 1)
-        (line_at (line_from 5) valuation.now.bits) valuation.now.bits atoms.now) }
+    ensures { IfOk result (λ text. text.items ≡ plus_no (row_names rows.now) rule (number_at valuation.now.bits p_icode) (number_at valuation.now.bits p_cnd)
+        (line_at plus_line valuation.now.bits) valuation.now.bits atoms.now) }
 {
     let mut out = Vec::new(alloc);
     let bits = valuation.bits.items();
@@ -91,7 +89,7 @@ pub fn plus_refusal(
     put(&mut out, Numeral::decimal(rule as u64).as_bytes())?;
     put(&mut out, b"\n")?;
     put_previous_line(&mut out, bits)?;
-    put_seq_line(&mut out, bits, 5)?;
-    put_atoms(&mut out, rows, bits, PLUS_BITS, atoms)?;
+    put_seq_line(&mut out, bits, PLUS_LINE)?;
+    put_atoms(&mut out, rows, bits, PLUS_BIT_COUNT as usize, atoms)?;
     Ok(out)
 }
