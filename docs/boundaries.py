@@ -9,12 +9,13 @@ less. What is expected was found by reasoning, from the definitions. Prints each
 """
 import os
 import re
-import subprocess
 import sys
 import tempfile
 from concurrent.futures import ThreadPoolExecutor
 
-TOP = os.path.dirname(os.path.dirname(os.path.abspath(__file__)))
+sys.dont_write_bytecode = True
+from comparing import called, changed, compared, design
+
 STD = "yes pt=1111111 pb=1111111 tv=0 lf=0 je=0 rm=0"
 STOPS = "{ SADR, SINS, SHLT }"
 LOAD_USE = "E_icode in { IMRMOVQ, IPOPQ } && E_dstM in { d_srcA, d_srcB }"
@@ -206,46 +207,31 @@ PLUS_ONLY = [
 ]
 
 
-def changed(text, name, body):
-    """The text with another body of a definition: `@` in it is the old body, or the branches of an old case list."""
-    found = re.search(rf"\b(?:word|bool)\s+{name}\s*=\s*(\[.*?\]|[^;\[]*)\s*;", text, flags=re.S)
-    old = found.group(1).strip()
-    inner = old[1:-1].strip() if old.startswith("[") and body.startswith("[") else f"1 : {old};" if body.startswith("[") else old
-    return text[: found.start(1)] + body.replace("@", inner) + text[found.end(1) :]
-
 
 def answer(program, command, file, bodies):
     """The first line of the answer to a check of an example with other definitions."""
-    with open(f"{TOP}/examples/{file}.hcl", encoding="utf-8") as it:
-        text = re.sub(r"#[^\n]*", "", it.read())
+    text = design(file)
     for name, body in bodies.items():
         text = changed(text, name, body)
     if "e_dstE" in bodies and "d_valA" in bodies:
         text = re.sub(r"d_src([AB]) == e_dstE : e_valE; *", "", text)
     with tempfile.TemporaryDirectory() as folder:
-        with open(f"{folder}/d.hcl", "w", encoding="utf-8") as it:
-            it.write(text)
-        ran = subprocess.run([program, "check", command, f"{folder}/d.hcl"], capture_output=True, text=True)
-    return (ran.stdout + ran.stderr).partition("\n")[0]
+        _, out, err = called(program, ["check", command, "d.hcl"], folder, [("d.hcl", text.encode())])
+    return (out + err).decode().partition("\n")[0]
 
 
 def main():
-    program, failed = sys.argv[1], 0
+    program = os.path.abspath(sys.argv[1])
     rows = [("pipe", bodies.get("file", "std"), why, bodies, want) for why, bodies, want in ROWS]
     rows += [("seq", "seq", *row) for row in SEQ_ROWS + SEQ_ONLY]
     rows += [("seqplus", "sp", *row) for row in SEQ_ROWS + PLUS_ONLY]
+
     def ask(row):
         command, file, why, bodies, want = row
-        return answer(program, command, file, {name: body for name, body in bodies.items() if name != "file"})
+        return f"{command}: {why}", want, answer(program, command, file, {name: body for name, body in bodies.items() if name != "file"})
 
     with ThreadPoolExecutor(os.cpu_count()) as pool:
-        answers = list(pool.map(ask, rows))
-    for (command, file, why, bodies, want), said in zip(rows, answers):
-        if said != want:
-            failed += 1
-            print(f"{command}: {why}: {said} in place of {want}")
-    print(f"{len(rows) - failed} passed, {failed} failed")
-    return 1 if failed else 0
+        return compared(pool.map(ask, rows))
 
 
 if __name__ == "__main__":
