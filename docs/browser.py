@@ -1,0 +1,109 @@
+"""A headless Chromium, driven by its DevTools protocol over a pipe, with Python's standard library alone."""
+import json
+import os
+import select
+import shutil
+import subprocess
+import tempfile
+import time
+
+NAMES = ("chromium", "chromium-browser", "google-chrome", "google-chrome-stable")
+
+
+class Broken(Exception):
+    """What the browser refused, or didn't answer."""
+
+
+def command():
+    """Where a browser is, or None."""
+    return next((found for it in NAMES if (found := shutil.which(it))), None)
+
+
+class Browser:
+    """A browser with one page. What the page's scripts throw, and the console's errors, are in `errors`."""
+
+    def __init__(self, seconds=120):
+        self.seconds, self.last, self.held, self.errors = seconds, 0, b"", []
+        self.room = tempfile.TemporaryDirectory(prefix="y86-browser-")
+        down, self.down = os.pipe()
+        self.up, up = os.pipe()
+        # The browser reads commands at 3, and writes answers at 4.
+        words = [command(), "--headless", "--no-sandbox", "--disable-gpu", "--disable-dev-shm-usage", "--hide-scrollbars", f"--user-data-dir={self.room.name}"]
+        shell = ["sh", "-c", f'exec "$@" 3<&{down} 4>&{up}', "sh", *words, "--remote-debugging-pipe", "about:blank"]
+        quiet = {"stdin": subprocess.DEVNULL, "stdout": subprocess.DEVNULL, "stderr": subprocess.DEVNULL}
+        self.process = subprocess.Popen(shell, pass_fds=(down, up), **quiet)
+        os.close(down)
+        os.close(up)
+        self.session = None
+        target = self.call("Target.createTarget", url="about:blank")["targetId"]
+        self.session = self.call("Target.attachToTarget", targetId=target, flatten=True)["sessionId"]
+        for it in ("Page", "Runtime", "Log"):
+            self.call(f"{it}.enable")
+
+    def __enter__(self):
+        return self
+
+    def __exit__(self, *_):
+        self.process.kill()
+        self.process.wait()
+        os.close(self.down)
+        os.close(self.up)
+        self.room.cleanup()
+
+    def message(self, until):
+        """The next message of the browser."""
+        while b"\0" not in self.held:
+            if not select.select([self.up], [], [], max(until - time.monotonic(), 0))[0]:
+                raise Broken("the browser doesn't answer")
+            more = os.read(self.up, 1 << 16)
+            if not more:
+                raise Broken("the browser ended")
+            self.held += more
+        text, _, self.held = self.held.partition(b"\0")
+        return json.loads(text)
+
+    def call(self, method, **parameters):
+        self.last += 1
+        asked = {"id": self.last, "method": method, "params": parameters, **({"sessionId": self.session} if self.session else {})}
+        os.write(self.down, json.dumps(asked).encode() + b"\0")
+        until = time.monotonic() + self.seconds
+        while True:
+            got = self.message(until)
+            self.hear(got)
+            if got.get("id") == self.last:
+                if "error" in got:
+                    raise Broken(f"{method}: {got['error']['message']}")
+                return got["result"]
+
+    def hear(self, got):
+        if got.get("method") == "Runtime.exceptionThrown":
+            details = got["params"]["exceptionDetails"]
+            self.errors.append(details.get("exception", {}).get("description") or details["text"])
+        if got.get("method") == "Log.entryAdded" and got["params"]["entry"]["level"] == "error":
+            self.errors.append(got["params"]["entry"]["text"])
+
+    def value(self, script):
+        """The value of a script's last expression in the page."""
+        got = self.call("Runtime.evaluate", expression=script, returnByValue=True)
+        if "exceptionDetails" in got:
+            raise Broken(got["exceptionDetails"]["text"])
+        return got["result"].get("value")
+
+    def open(self, path, fragment=""):
+        """Opens a file's page anew, and waits until it is there."""
+        self.call("Page.navigate", url="about:blank")
+        self.call("Page.navigate", url=f"file://{path}{fragment}")
+        until = time.monotonic() + self.seconds
+        while self.value("document.readyState + location.protocol") != "completefile:":
+            if time.monotonic() > until:
+                raise Broken("the page doesn't load")
+            time.sleep(0.05)
+
+    def press(self, key):
+        for kind in ("keyDown", "keyUp"):
+            self.call("Input.dispatchKeyEvent", type=kind, key=key, code=key)
+
+    def size(self, width, height, is_dark=False):
+        self.call("Emulation.setDeviceMetricsOverride", width=width, height=height, deviceScaleFactor=1, mobile=width < 600)
+        scheme = "dark" if is_dark else "light"
+        self.call("Emulation.setEmulatedMedia", features=[{"name": "prefers-color-scheme", "value": scheme}])
