@@ -9,7 +9,7 @@ use Rattle.ctl_atoms.specs.Atoms.{AreAtoms}
 use Rattle.ctl_atoms.specs.declared.leaf.Atom.{Atom}
 use Rattle.ctl_atoms.proofs.Solved.{leaves_exist}
 use Rattle.ctl_formula.specs.Places.{HavePlaces, Spells}
-use Rattle.pipe_fields.specs.Layout.{Fields, fields_of, number_of}
+use Rattle.pipe_fields.specs.Layout.{Fields, bit_count, fields_of, number_of}
 use Rattle.y86_base.specs.declared.parts.Variant.{Variant}
 use Rattle.nets.specs.Nets.{Gates, Begins}
 use Rattle.nets.proofs.Truths.{truth_kept}
@@ -82,7 +82,7 @@ spelt_at_places w = (
   ),
 )
 
-pub places_stand : (vars : ℕ) → 107 ≤ vars → HavePlaces pipe_rows places vars
+pub places_stand : (vars : ℕ) → bit_count ≤ vars → HavePlaces pipe_rows places vars
 unfolding pipe_rows constant_rows pipe_state pipe_hardware pipe_defined
 places_stand vars le = record {
   placed = refl;
@@ -91,7 +91,7 @@ places_stand vars le = record {
 
 -- what the translation of a design gives, over the table and the places that it was asked for
 pub told_design : {translated : Gates} (terms : List Term) (rows : List Row) (ps : List Place) (ctl : List Entry) (atoms : List Atom) (vars : ℕ)
-    → rows ≡ pipe_rows → ps ≡ places → AreAtoms rows terms atoms → vars ≡ 107 + length atoms → translated.vars ≡ vars → IsInside translated ctl → Covers rows ctl
+    → rows ≡ pipe_rows → ps ≡ places → AreAtoms rows terms atoms → vars ≡ bit_count + length atoms → translated.vars ≡ vars → IsInside translated ctl → Covers rows ctl
     → ((w : List Bool) (α : Assignment) (field : ℕ → ℕ) (cv : ℕ → Leaf) (listed : List Atom) → AreAtoms rows terms listed → AtomsAre listed (vars - length listed) w α
     → Spells ps w field → AreControls rows terms field α cv → Tells translated ctl w α cv)
     → IsTranslated terms translated ctl atoms
@@ -104,7 +104,7 @@ told_design {translated} terms rows ps ctl atoms vars e f are size same inside c
       (subst (λ p. Spells p w (number_of (fields_of w))) (sym f) (spelt_at_places w)) (subst (λ r. AreControls r terms (number_of (fields_of w)) α cv) (sym e) c);
 }
   where
-    from : vars - length atoms ≡ 107
+    from : vars - length atoms ≡ bit_count
     from = omega (arith, size)
 
 -- the same settings but for those that are early or late, all of which are allowed

@@ -6,7 +6,7 @@ ghost use Rattle.dp_signals.specs.PipeTable.{pipe_rows};
 ghost use Rattle.pipe_motion.specs.Grows.{Grows};
 ghost use Rattle.hazard_rules.specs.Parts.{TellPredictions};
 ghost use Rattle.pipe_gates.specs.Told.{IsTold};
-ghost use Rattle.pipe_fields.specs.Layout.{fields_of};
+ghost use Rattle.pipe_fields.specs.Layout.{bit_count, fields_of};
 ghost use Rattle.pipe_motion.specs.declared.settings.Settings.{Settings};
 ghost use Rattle.rule_gates.specs.Asked.{IsAsked};
 ghost use Rattle.pipe_obligations.specs.Settled.{carries, predicts_taken};
@@ -14,12 +14,12 @@ ghost use Rattle.stage_rules.specs.Signals.{IsReady};
 
 use ctl_atoms::{Atom, Leaf};
 use ctl_formula::Controls;
+use dp_signals::pipe_row as signal;
 use field_bits::spells;
 use motion_rules::prediction_asked;
 use nets::NetBuilder;
 use pipe_fields::allowed;
 use pipe_fields::places::E_KIND;
-use pipe_gates::signals as signal;
 use pipe_motion::implies;
 use rule_gates::{Wanted, takes};
 use stage_rules::target_told;
@@ -37,7 +37,7 @@ fn predicts(
 ) -> Result<u64, Memory>
     requires inside { IsInside b.old ctl.now }
     requires covers { Covers pipe_rows ctl.now }
-    requires vars { 107 + length atoms.now ≤ b.old.vars }
+    requires vars { bit_count + length atoms.now ≤ b.old.vars }
     requires few { length atoms.now ≤ 64 }
     ensures told { IfOk result (λ g. IsTold b.new ctl.now atoms.now g (predicts_taken v atoms.now ifun back)) }
     ensures grows { Grows b.old b.new }
@@ -63,7 +63,7 @@ pub(crate) fn predictions(
 ) -> Result<[u64; 7], Memory>
     requires inside { IsInside b.old ctl.now }
     requires covers { Covers pipe_rows ctl.now }
-    requires vars { 107 + length atoms.now ≤ b.old.vars }
+    requires vars { bit_count + length atoms.now ≤ b.old.vars }
     requires few { length atoms.now ≤ 64 }
     ensures told { IfOk result (λ gates. TellPredictions v b.new ctl.now atoms.now back gates 7) }
     ensures grows { Grows b.old b.new }
@@ -108,7 +108,7 @@ pub(crate) fn closed_told(
 ) -> Result<Closed, Memory>
     requires inside { IsInside b.old ctl.now }
     requires covers { Covers pipe_rows ctl.now }
-    requires vars { 107 + length atoms.now ≤ b.old.vars }
+    requires vars { bit_count + length atoms.now ≤ b.old.vars }
     requires few { length atoms.now ≤ 64 }
     ensures forward { IfOk result (λ r. TellPredictions v b.new ctl.now atoms.now false r.pt 7) }
     ensures backward { IfOk result (λ r. TellPredictions v b.new ctl.now atoms.now true r.pb 7) }

@@ -3,7 +3,7 @@ ghost use Rattle.std.specs.Prelude.{◌≤◌, IfOk, length};
 ghost use Rattle.nets.specs.Nets.{Begins};
 ghost use Rattle.ctl_formula.specs.Picks.{Covers, IsInside};
 ghost use Rattle.dp_signals.specs.PipeTable.{pipe_rows};
-ghost use Rattle.pipe_fields.specs.Layout.{fields_of};
+ghost use Rattle.pipe_fields.specs.Layout.{bit_count, fields_of};
 ghost use Rattle.pipe_motion.specs.Gates.{HasView, view_at};
 ghost use Rattle.rule_gates.specs.Asked.{IsAsked};
 ghost use Rattle.pipe_obligations.specs.Obligations.{movers_of};
@@ -31,7 +31,7 @@ pub(crate) fn demand_gate(
     number: u32,
 ) -> Result<u64, Memory>
     requires inside { IsInside b.old ctl.now }
-    requires vars { 107 ≤ b.old.vars }
+    requires vars { bit_count ≤ b.old.vars }
     requires view { HasView (length b.old.gates) y.now }
     requires known { Covers pipe_rows ctl.now }
     requires from { 1 ≤ number }

@@ -7,9 +7,10 @@ ghost use Rattle.hazard_rules.specs.Designs.{IsTranslated, places as spec_places
 
 use ctl_atoms::{Atom, CtlFault, atoms};
 use ctl_formula::{Controls, Place, translate};
-use dp_signals::pipe_table;
+use dp_signals::{pipe_row as row, pipe_table};
 use hcl_types::{Design, Order};
 use nets::NetBuilder;
+use pipe_fields::{BIT_COUNT, places as field};
 use std::alloc::Global;
 
 /// A builder of a net with a variable for each bit of a control valuation, with the gates of all names, and the atoms.
@@ -20,45 +21,46 @@ pub(crate) struct DesignGates {
     pub listed: Vec<Atom>,
 }
 
+/// The place of a signal that is a field.
 macro_rules! place {
-    ($name:expr, $first:expr, $bits:expr) => {
+    ($name:expr, $field:expr) => {
         Place {
             name: $name,
-            first: $first,
-            bits: $bits,
+            first: $field.first,
+            bits: $field.bits,
         }
     };
 }
 
-/// The places of the signals that are fields, by their rows in PIPE's table.
+/// The places of the signals that are fields.
 static PLACES: [Place; 27] = [
-    place!(67, 6, 1),
-    place!(65, 7, 4),
-    place!(66, 11, 4),
-    place!(33, 18, 3),
-    place!(34, 21, 4),
-    place!(35, 25, 4),
-    place!(36, 29, 4),
-    place!(37, 33, 4),
-    place!(38, 40, 3),
-    place!(39, 43, 4),
-    place!(40, 47, 4),
-    place!(41, 51, 4),
-    place!(42, 55, 4),
-    place!(43, 59, 4),
-    place!(44, 63, 4),
-    place!(73, 67, 1),
-    place!(45, 70, 3),
-    place!(46, 73, 4),
-    place!(47, 77, 4),
-    place!(48, 81, 4),
-    place!(49, 85, 4),
-    place!(64, 89, 1),
-    place!(75, 90, 1),
-    place!(50, 92, 3),
-    place!(51, 95, 4),
-    place!(52, 99, 4),
-    place!(53, 103, 4),
+    place!(row::IMEM_ERROR, field::F_ERROR),
+    place!(row::IMEM_ICODE, field::F_ICODE),
+    place!(row::IMEM_IFUN, field::F_IFUN),
+    place!(row::HELD_D_STAT, field::D_STAT),
+    place!(row::HELD_D_ICODE, field::D_ICODE),
+    place!(row::HELD_D_IFUN, field::D_IFUN),
+    place!(row::HELD_D_R_A, field::D_R_A),
+    place!(row::HELD_D_R_B, field::D_R_B),
+    place!(row::HELD_E_STAT, field::E_STAT),
+    place!(row::HELD_E_ICODE, field::E_ICODE),
+    place!(row::HELD_E_IFUN, field::E_IFUN),
+    place!(row::HELD_E_DST_E, field::E_DST_E),
+    place!(row::HELD_E_DST_M, field::E_DST_M),
+    place!(row::HELD_E_SRC_A, field::E_SRC_A),
+    place!(row::HELD_E_SRC_B, field::E_SRC_B),
+    place!(row::E_CND, field::E_CND),
+    place!(row::HELD_M_STAT, field::M_STAT),
+    place!(row::HELD_M_ICODE, field::M_ICODE),
+    place!(row::HELD_M_IFUN, field::M_IFUN),
+    place!(row::HELD_M_DST_E, field::M_DST_E),
+    place!(row::HELD_M_DST_M, field::M_DST_M),
+    place!(row::HELD_M_CND, field::M_CND),
+    place!(row::DMEM_ERROR, field::M_ERROR),
+    place!(row::HELD_W_STAT, field::W_STAT),
+    place!(row::HELD_W_ICODE, field::W_ICODE),
+    place!(row::HELD_W_DST_E, field::W_DST_E),
+    place!(row::HELD_W_DST_M, field::W_DST_M),
 ];
 
 /// The places of the signals that are fields, as the translation of a design asks for them.
@@ -80,7 +82,7 @@ pub(crate) fn translated(alloc: Global, d: &Design, o: &Order) -> Result<DesignG
         Err(_) => return Err(CtlFault::Memory),
     };
     let listed = atoms(alloc, d, &t, o)?;
-    let mut b = NetBuilder::new(alloc, 107 + listed.len() as u32);
+    let mut b = NetBuilder::new(alloc, BIT_COUNT + listed.len() as u32);
     let ctl = translate(alloc, d, &t, o, places(), &mut b)?;
     Ok(DesignGates { b, ctl, listed })
 }

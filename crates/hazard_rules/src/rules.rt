@@ -4,7 +4,7 @@ ghost use Rattle.nets.specs.Nets.{truth};
 ghost use Rattle.ctl_atoms.specs.Leaves.{Assignment, AtomsAre};
 ghost use Rattle.ctl_formula.specs.Picks.{Covers, IsInside};
 ghost use Rattle.dp_signals.specs.PipeTable.{pipe_rows};
-ghost use Rattle.pipe_fields.specs.Layout.{fields_of};
+ghost use Rattle.pipe_fields.specs.Layout.{bit_count, fields_of};
 ghost use Rattle.pipe_motion.specs.Grows.{Grows};
 ghost use Rattle.pipe_motion.specs.Gates.{view_at, HasView};
 ghost use Rattle.rule_gates.specs.declared.rules.Rule.{Rule};
@@ -40,14 +40,14 @@ fn premises_of(
     s: &Settings,
     atoms: &[Atom],
 ) -> Result<Premises, Memory>
-    requires vars { 107 + length atoms.now ≤ b.old.vars }
+    requires vars { bit_count + length atoms.now ≤ b.old.vars }
     requires few { length atoms.now ≤ 64 }
     ensures view { IfOk result (λ p. HasView (length b.new.gates) p.view) }
     ensures view_is { (w : List Bool) → IfOk result (λ p. view_at b.new w p.view ≡ view_of v s.now (fields_of w)) }
     ensures always_in { IfOk result (λ p. p.always < length b.new.gates) }
     ensures going_in { IfOk result (λ p. p.going < length b.new.gates) }
-    ensures always_is { (w : List Bool) (α : Assignment) → AtomsAre atoms.now 107 w α → IfOk result (λ p. truth b.new p.always w ≡ built.asked_when v s.now atoms.now true (fields_of w) α) }
-    ensures going_is { (w : List Bool) (α : Assignment) → AtomsAre atoms.now 107 w α → IfOk result (λ p. truth b.new p.going w ≡ built.asked_when v s.now atoms.now false (fields_of w) α) }
+    ensures always_is { (w : List Bool) (α : Assignment) → AtomsAre atoms.now bit_count w α → IfOk result (λ p. truth b.new p.always w ≡ built.asked_when v s.now atoms.now true (fields_of w) α) }
+    ensures going_is { (w : List Bool) (α : Assignment) → AtomsAre atoms.now bit_count w α → IfOk result (λ p. truth b.new p.going w ≡ built.asked_when v s.now atoms.now false (fields_of w) α) }
     ensures grows { Grows b.old b.new }
 {
     let view = view_gates(b, v, s)?;
@@ -81,13 +81,13 @@ fn rule_gate(
 ) -> Result<u64, Memory>
     requires inside { IsInside b.old ctl.now }
     requires covers { Covers pipe_rows ctl.now }
-    requires vars { 107 + length atoms.now ≤ b.old.vars }
+    requires vars { bit_count + length atoms.now ≤ b.old.vars }
     requires view { HasView (length b.old.gates) y.now }
     requires view_is { (w : List Bool) → view_at b.old w y.now ≡ view_of v s.now (fields_of w) }
     requires always_in { always < length b.old.gates }
     requires going_in { going < length b.old.gates }
-    requires always_is { (w : List Bool) (α : Assignment) → AtomsAre atoms.now 107 w α → truth b.old always w ≡ built.asked_when v s.now atoms.now true (fields_of w) α }
-    requires going_is { (w : List Bool) (α : Assignment) → AtomsAre atoms.now 107 w α → truth b.old going w ≡ built.asked_when v s.now atoms.now false (fields_of w) α }
+    requires always_is { (w : List Bool) (α : Assignment) → AtomsAre atoms.now bit_count w α → truth b.old always w ≡ built.asked_when v s.now atoms.now true (fields_of w) α }
+    requires going_is { (w : List Bool) (α : Assignment) → AtomsAre atoms.now bit_count w α → truth b.old going w ≡ built.asked_when v s.now atoms.now false (fields_of w) α }
     requires from { 1 ≤ number }
     requires to { number ≤ 27 }
     ensures told { IfOk result (λ g. IsTold b.new ctl.now atoms.now g (spec.obligation v s.now atoms.now number)) }
@@ -110,7 +110,7 @@ pub(crate) fn rules_told(
 ) -> Result<Vec<Rule>, Memory>
     requires inside { IsInside b.old ctl.now }
     requires covers { Covers pipe_rows ctl.now }
-    requires vars { 107 + length atoms.now ≤ b.old.vars }
+    requires vars { bit_count + length atoms.now ≤ b.old.vars }
     requires few { length atoms.now ≤ 64 }
     ensures count { IfOk result (λ list. length list.items ≡ 27) }
     ensures rules { IfOk result (λ list. AreToldRules v s.now b.new ctl.now atoms.now list.items) }

@@ -10,7 +10,7 @@ ghost use Rattle.dp_signals.specs.PipeNames as names;
 ghost use Rattle.dp_signals.specs.PipeTable.{pipe_rows};
 ghost use Rattle.rule_gates.specs.Asked.{IsAsked};
 ghost use Rattle.rule_gates.specs.Words as words;
-ghost use Rattle.pipe_fields.specs.Layout.{fields_of};
+ghost use Rattle.pipe_fields.specs.Layout.{bit_count, fields_of};
 ghost use Rattle.pipe_motion.specs.Gates.{HasSlot, HasView, slot_at, view_at};
 ghost use Rattle.pipe_motion.specs.Predictions.{predicts};
 ghost use Rattle.pipe_motion.specs.Slots.{path};
@@ -20,13 +20,14 @@ ghost use Rattle.pipe_obligations.specs.Stages as stages;
 
 use ctl_atoms::Leaf;
 use ctl_formula::Controls;
+use dp_signals::pipe_row as signal;
 use field_bits::spells;
 use hcl_types::NameId;
 use nets::{NetBuilder, choose};
 use pipe_fields::places::{
     E_CND, E_ICODE, E_STAT, F_BACK, F_STOPS, F_TAKEN, M_CND, M_ICODE, M_STAT,
 };
-use pipe_gates::{RowTest, jump, movers_of, passes, signals as signal};
+use pipe_gates::{RowTest, jump, movers_of, passes};
 use pipe_motion::{Settings, SlotGates, ViewGates, of_youngest, path_gate, stops_gate};
 use rule_gates::{Wanted, takes, takes_if};
 use y86_base::{Memory, Variant};
@@ -97,7 +98,7 @@ fn code_has(
 fn fetched_stops(b: &mut NetBuilder, ctl: &Controls) -> Result<u64, Memory>
     requires inside { IsInside b.old ctl.now }
     requires known { IsTrue (has_picks ctl.now names.f_stat) }
-    requires vars { 107 ≤ b.old.vars }
+    requires vars { bit_count ≤ b.old.vars }
     ensures begins { Begins b.old b.new }
     ensures asked { IfOk result (λ g. IsAsked b.new ctl.now g (λ w α cv. stages.stops_by (spec.code_of (cv names.f_stat)) (fields_of w).f.stops)) }
 {
@@ -126,7 +127,7 @@ fn fetched_jumps(b: &mut NetBuilder, ctl: &Controls, v: Variant) -> Result<u64, 
 fn fetched_way(b: &mut NetBuilder, ctl: &Controls, s: &Settings) -> Result<u64, Memory>
     requires inside { IsInside b.old ctl.now }
     requires known { IsTrue (has_picks ctl.now names.f_ifun) }
-    requires vars { 107 ≤ b.old.vars }
+    requires vars { bit_count ≤ b.old.vars }
     ensures begins { Begins b.old b.new }
     ensures asked { IfOk result (λ g. IsAsked b.new ctl.now g (λ w α cv. predicts s.now (spec.code_of (cv names.f_ifun)) (set (fields_of w).f.back))) }
 {
@@ -148,7 +149,7 @@ fn fetched_misses(
     requires stat_known { IsTrue (has_picks ctl.now names.f_stat) }
     requires icode_known { IsTrue (has_picks ctl.now names.f_icode) }
     requires ifun_known { IsTrue (has_picks ctl.now names.f_ifun) }
-    requires vars { 107 ≤ b.old.vars }
+    requires vars { bit_count ≤ b.old.vars }
     ensures begins { Begins b.old b.new }
     ensures asked { IfOk result (λ g. IsAsked b.new ctl.now g (λ w α cv.
         stages.misses v s.now (spec.code_of (cv names.f_stat)) (spec.code_of (cv names.f_icode)) (spec.code_of (cv names.f_ifun)) (fields_of w).f.taken (fields_of w).f.back)) }
@@ -172,7 +173,7 @@ fn fetched_facts(
     requires stat_known { IsTrue (has_picks ctl.now names.f_stat) }
     requires icode_known { IsTrue (has_picks ctl.now names.f_icode) }
     requires ifun_known { IsTrue (has_picks ctl.now names.f_ifun) }
-    requires vars { 107 ≤ b.old.vars }
+    requires vars { bit_count ≤ b.old.vars }
     ensures begins { Begins b.old b.new }
     ensures within { IfOk result (λ r. HasSlot (length b.new.gates) r) }
     ensures told { (w : List Bool) (α : Assignment) (cv : ℕ → Leaf) → Tells b.new ctl.now w α cv → IfOk result (λ r.
@@ -210,7 +211,7 @@ fn goes_to(b: &mut NetBuilder, ctl: &Controls, here: u64, leaf: NameId) -> Resul
 pub fn right_after_e(b: &mut NetBuilder, ctl: &Controls, v: Variant) -> Result<u64, Memory>
     requires inside { IsInside b.old ctl.now }
     requires known { IsTrue (has_picks ctl.now names.f_pc) }
-    requires vars { 107 ≤ b.old.vars }
+    requires vars { bit_count ≤ b.old.vars }
     ensures begins { Begins b.old b.new }
     ensures asked { IfOk result (λ g. IsAsked b.new ctl.now g (λ w α cv.
         stages.is_jump v (fields_of w).e.stat (fields_of w).e.icode && words.takes cv names.f_pc (if set (fields_of w).e.cnd then Name names.E_valC else Name names.E_valA))) }
@@ -233,7 +234,7 @@ pub fn right_after_e(b: &mut NetBuilder, ctl: &Controls, v: Variant) -> Result<u
 fn jump_after_m(b: &mut NetBuilder, ctl: &Controls, v: Variant, tv: bool) -> Result<u64, Memory>
     requires inside { IsInside b.old ctl.now }
     requires known { IsTrue (has_picks ctl.now names.f_pc) }
-    requires vars { 107 ≤ b.old.vars }
+    requires vars { bit_count ≤ b.old.vars }
     ensures begins { Begins b.old b.new }
     ensures asked { IfOk result (λ g. IsAsked b.new ctl.now g (λ w α cv.
         stages.is_jump v (fields_of w).m.stat (fields_of w).m.icode
@@ -264,7 +265,7 @@ fn right_after_m(
 ) -> Result<u64, Memory>
     requires inside { IsInside b.old ctl.now }
     requires known { IsTrue (has_picks ctl.now names.f_pc) }
-    requires vars { 107 ≤ b.old.vars }
+    requires vars { bit_count ≤ b.old.vars }
     requires ret_in { ret < length b.old.gates }
     ensures begins { Begins b.old b.new }
     ensures asked { IfOk result (λ g. IsAsked b.new ctl.now g (λ w α cv.
@@ -289,7 +290,7 @@ fn right_pc(
 ) -> Result<u64, Memory>
     requires inside { IsInside b.old ctl.now }
     requires known { IsTrue (has_picks ctl.now names.f_pc) }
-    requires vars { 107 ≤ b.old.vars }
+    requires vars { bit_count ≤ b.old.vars }
     requires view { HasView (length b.old.gates) y.now }
     ensures begins { Begins b.old b.new }
     ensures asked { IfOk result (λ g. IsAsked b.new ctl.now g (λ w α cv. spec.right_pc v s.now (fields_of w) (view_at b.old w y.now) (spec.movers_of α cv) α cv)) }
@@ -333,7 +334,7 @@ fn fetch_good(
 ) -> Result<u64, Memory>
     requires inside { IsInside b.old ctl.now }
     requires known { IsTrue (has_picks ctl.now names.f_pc) }
-    requires vars { 107 ≤ b.old.vars }
+    requires vars { bit_count ≤ b.old.vars }
     requires view { HasView (length b.old.gates) y.now }
     ensures begins { Begins b.old b.new }
     ensures asked { IfOk result (λ g. IsAsked b.new ctl.now g (λ w α cv. spec.fetch_good v s.now (fields_of w) (view_at b.old w y.now) (spec.movers_of α cv) α cv)) }
@@ -357,7 +358,7 @@ pub fn obligation_25(
     y: &ViewGates,
 ) -> Result<u64, Memory>
     requires inside { IsInside b.old ctl.now }
-    requires vars { 107 ≤ b.old.vars }
+    requires vars { bit_count ≤ b.old.vars }
     requires view { HasView (length b.old.gates) y.now }
     requires known { Covers pipe_rows ctl.now }
     ensures begins { Begins b.old b.new }

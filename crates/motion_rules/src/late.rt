@@ -3,7 +3,7 @@ ghost use Rattle.std.specs.Prelude.{◌≡◌, ◌<◌, ◌≤◌, ◌==◌, ◌
 ghost use Rattle.nets.specs.Nets.{truth};
 ghost use Rattle.y86_isa.specs.Table.{row};
 ghost use Rattle.y86_isa.specs.RowTests.{stores_a};
-ghost use Rattle.pipe_fields.specs.Layout.{fields_of};
+ghost use Rattle.pipe_fields.specs.Layout.{bit_count, fields_of};
 ghost use Rattle.pipe_motion.specs.Grows.{Grows};
 ghost use Rattle.pipe_motion.specs.Gates.{view_at, movers_at, HasMovers, HasView};
 ghost use Rattle.pipe_motion.specs.Slots.{leaves};
@@ -17,7 +17,7 @@ use y86_base::{Memory, Variant};
 /// A store stands in D, and a good instruction in E that loads a register.
 #[tactic(auto, unfolding(pipe_fields::specs::Layout::fields_of), using(pipe_motion::proofs::Growing::grows_more, pipe_motion::proofs::Growing::grows_self))]
 fn store_behind_load(b: &mut NetBuilder, v: Variant, y: &ViewGates) -> Result<u64, Memory>
-    requires vars { 107 ≤ b.old.vars }
+    requires vars { bit_count ≤ b.old.vars }
     requires view { HasView (length b.old.gates) y.now }
     ensures within { IfOk result (λ g. g < length b.new.gates) }
     ensures truth { (w : List Bool) → IfOk result (λ g. truth b.new g w ≡
@@ -40,7 +40,7 @@ pub fn no_late_load(
     y: &ViewGates,
     plain: u64,
 ) -> Result<u64, Memory>
-    requires vars { 107 ≤ b.old.vars }
+    requires vars { bit_count ≤ b.old.vars }
     requires view { HasView (length b.old.gates) y.now }
     requires movers { HasMovers (length b.old.gates) k.now }
     requires equal_in { equal < length b.old.gates }

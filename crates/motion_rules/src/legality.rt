@@ -4,15 +4,17 @@ ghost use Rattle.nets.specs.Nets.{truth};
 ghost use Rattle.ctl_atoms.specs.declared.leaf.Atom.{Atom};
 ghost use Rattle.ctl_atoms.specs.Leaves.{Assignment, AtomsAre, has_atom};
 ghost use Rattle.field_bits.specs.Spelling.{spelt};
-ghost use Rattle.pipe_fields.specs.Layout.{fields_of};
+ghost use Rattle.pipe_fields.specs.Layout.{bit_count, fields_of};
 ghost use Rattle.pipe_motion.specs.Grows.{Grows};
 ghost use Rattle.pipe_motion.specs.Gates.{view_at, HasView};
 ghost use Rattle.motion_rules.specs.Legality as built;
 ghost use Rattle.pipe_obligations.specs.Stages as spec;
 
 use ctl_atoms::{Atom, AtomKind, Leaf, same_atom};
+use dp_signals::pipe_row as signal;
 use field_bits::Place;
 use nets::NetBuilder;
+use pipe_fields::BIT_COUNT;
 use pipe_fields::places::{
     D_BACK, D_ICODE, D_STAT, E_BACK, E_ICODE, E_SRC_A, E_SRC_B, E_STAT, F_BACK, F_ERROR, F_ICODE,
     M_BACK, M_DST_M, M_ICODE, M_STAT, W_KIND, W_STAT,
@@ -24,7 +26,7 @@ use y86_base::{Memory, Variant};
 /// The register that M loads is a source of E that has to be there.
 #[tactic(auto, unfolding(pipe_fields::specs::Layout::fields_of), using(pipe_motion::proofs::Growing::grows_more, pipe_motion::proofs::Growing::grows_self))]
 fn waits(b: &mut NetBuilder, v: Variant, lf: bool) -> Result<u64, Memory>
-    requires { 107 ≤ b.old.vars }
+    requires { bit_count ≤ b.old.vars }
     ensures within { IfOk result (λ g. g < length b.new.gates) }
     ensures truth { (w : List Bool) → IfOk result (λ g. truth b.new g w ≡ built.waits v lf (fields_of w)) }
     ensures grows { Grows b.old b.new }
@@ -44,7 +46,7 @@ fn waits(b: &mut NetBuilder, v: Variant, lf: bool) -> Result<u64, Memory>
 /// A good instruction in E waits for the good one in M to load a register.
 #[tactic(auto, unfolding(pipe_fields::specs::Layout::fields_of), using(pipe_motion::proofs::Growing::grows_more, pipe_motion::proofs::Growing::grows_self))]
 fn source_waits(b: &mut NetBuilder, v: Variant, lf: bool, y: &ViewGates) -> Result<u64, Memory>
-    requires vars { 107 ≤ b.old.vars }
+    requires vars { bit_count ≤ b.old.vars }
     requires view { HasView (length b.old.gates) y.now }
     ensures within { IfOk result (λ g. g < length b.new.gates) }
     ensures truth { (w : List Bool) → IfOk result (λ g. truth b.new g w ≡
@@ -61,7 +63,7 @@ fn source_waits(b: &mut NetBuilder, v: Variant, lf: bool, y: &ViewGates) -> Resu
 
 /// No good instruction in E waits for a load in M.
 fn no_source_waits(b: &mut NetBuilder, v: Variant, lf: bool, y: &ViewGates) -> Result<u64, Memory>
-    requires vars { 107 ≤ b.old.vars }
+    requires vars { bit_count ≤ b.old.vars }
     requires view { HasView (length b.old.gates) y.now }
     ensures within { IfOk result (λ g. g < length b.new.gates) }
     ensures truth { (w : List Bool) → IfOk result (λ g. truth b.new g w ≡ spec.no_source_waits v lf (fields_of w) (view_at b.old w y.now)) }
@@ -95,12 +97,12 @@ fn tells_back(
     here: u64,
     back: Place,
 ) -> Result<u64, Memory>
-    requires vars { 107 + length atoms.now ≤ b.old.vars }
+    requires vars { bit_count + length atoms.now ≤ b.old.vars }
     requires few { length atoms.now ≤ 64 }
     requires here { here < length b.old.gates }
     requires place { back.first + back.bits ≤ b.old.vars }
     ensures within { IfOk result (λ g. g < length b.new.gates) }
-    ensures truth { (w : List Bool) (α : Assignment) → AtomsAre atoms.now 107 w α →
+    ensures truth { (w : List Bool) (α : Assignment) → AtomsAre atoms.now bit_count w α →
         IfOk result (λ g. truth b.new g w ≡ spec.tells_back atoms.now α x y (truth b.old here w) (spelt w back.first back.bits)) }
     ensures grows { Grows b.old b.new }
 {
@@ -112,7 +114,7 @@ fn tells_back(
     match position(atoms, below) {
         None => constant(b, true),
         Some(k) => {
-            let atom = variable(b, 107 + k as u32)?;
+            let atom = variable(b, BIT_COUNT + k as u32)?;
             let clear = spells(b, back, 0)?;
             let set = not(b, clear)?;
             let agrees = equal(b, atom, set)?;
@@ -125,7 +127,7 @@ fn tells_back(
 /// A jump is fetched.
 #[tactic(auto, unfolding(pipe_fields::specs::Layout::fields_of), using(pipe_motion::proofs::Growing::grows_more, pipe_motion::proofs::Growing::grows_self))]
 pub fn fetched_jump(b: &mut NetBuilder, v: Variant) -> Result<u64, Memory>
-    requires { 107 ≤ b.old.vars }
+    requires { bit_count ≤ b.old.vars }
     ensures within { IfOk result (λ g. g < length b.new.gates) }
     ensures truth { (w : List Bool) → IfOk result (λ g. truth b.new g w ≡ spec.fetched_jump v (fields_of w)) }
     ensures grows { Grows b.old b.new }
@@ -139,14 +141,14 @@ pub fn fetched_jump(b: &mut NetBuilder, v: Variant) -> Result<u64, Memory>
 /// Of the jump that is fetched, the atom is its back bit.
 #[tactic(auto, unfolding(pipe_fields::specs::Layout::fields_of), using(pipe_motion::proofs::Growing::grows_more, pipe_motion::proofs::Growing::grows_self))]
 pub fn back_told_in_f(b: &mut NetBuilder, v: Variant, atoms: &[Atom]) -> Result<u64, Memory>
-    requires vars { 107 + length atoms.now ≤ b.old.vars }
+    requires vars { bit_count + length atoms.now ≤ b.old.vars }
     requires few { length atoms.now ≤ 64 }
     ensures within { IfOk result (λ g. g < length b.new.gates) }
-    ensures truth { (w : List Bool) (α : Assignment) → AtomsAre atoms.now 107 w α → IfOk result (λ g. truth b.new g w ≡ spec.back_told_in_f v atoms.now (fields_of w) α) }
+    ensures truth { (w : List Bool) (α : Assignment) → AtomsAre atoms.now bit_count w α → IfOk result (λ g. truth b.new g w ≡ spec.back_told_in_f v atoms.now (fields_of w) α) }
     ensures grows { Grows b.old b.new }
 {
     let here = fetched_jump(b, v)?;
-    let g = tells_back(b, atoms, 68, 69, here, F_BACK)?;
+    let g = tells_back(b, atoms, signal::F_VAL_C, signal::F_VAL_P, here, F_BACK)?;
     Ok(g)
 }
 
@@ -162,7 +164,7 @@ fn stage_tells_back(
     icode: Place,
     back: Place,
 ) -> Result<u64, Memory>
-    requires vars { 107 + length atoms.now ≤ b.old.vars }
+    requires vars { bit_count + length atoms.now ≤ b.old.vars }
     requires few { length atoms.now ≤ 64 }
     requires good { good < length b.old.gates }
     requires stat_place { stat.first + stat.bits ≤ b.old.vars }
@@ -170,7 +172,7 @@ fn stage_tells_back(
     requires bits { icode.bits ≡ 4 }
     requires place { back.first + back.bits ≤ b.old.vars }
     ensures within { IfOk result (λ g. g < length b.new.gates) }
-    ensures truth { (w : List Bool) (α : Assignment) → AtomsAre atoms.now 107 w α →
+    ensures truth { (w : List Bool) (α : Assignment) → AtomsAre atoms.now bit_count w α →
         IfOk result (λ g. truth b.new g w ≡ spec.tells_back atoms.now α x y
         (truth b.old good w && spec.is_jump v (spelt w stat.first stat.bits) (spelt w icode.first icode.bits)) (spelt w back.first back.bits)) }
     ensures grows { Grows b.old b.new }
@@ -190,21 +192,51 @@ fn stages_tell_back(
     atoms: &[Atom],
     y: &ViewGates,
 ) -> Result<u64, Memory>
-    requires vars { 107 + length atoms.now ≤ b.old.vars }
+    requires vars { bit_count + length atoms.now ≤ b.old.vars }
     requires few { length atoms.now ≤ 64 }
     requires view { HasView (length b.old.gates) y.now }
     ensures within { IfOk result (λ g. g < length b.new.gates) }
-    ensures truth { (w : List Bool) (α : Assignment) → AtomsAre atoms.now 107 w α →
+    ensures truth { (w : List Bool) (α : Assignment) → AtomsAre atoms.now bit_count w α →
         IfOk result (λ g. truth b.new g w ≡ built.back_told_in_stages v tv atoms.now (fields_of w) (view_at b.old w y.now) α) }
     ensures grows { Grows b.old b.new }
 {
-    let d = stage_tells_back(b, v, atoms, 55, 56, y.d.good, D_STAT, D_ICODE, D_BACK)?;
-    let e = stage_tells_back(b, v, atoms, 57, 58, y.e.good, E_STAT, E_ICODE, E_BACK)?;
+    let d = stage_tells_back(
+        b,
+        v,
+        atoms,
+        signal::HELD_D_VAL_C,
+        signal::HELD_D_VAL_P,
+        y.d.good,
+        D_STAT,
+        D_ICODE,
+        D_BACK,
+    )?;
+    let e = stage_tells_back(
+        b,
+        v,
+        atoms,
+        signal::HELD_E_VAL_C,
+        signal::HELD_E_VAL_A,
+        y.e.good,
+        E_STAT,
+        E_ICODE,
+        E_BACK,
+    )?;
     if !tv {
         let both = and(b, d, e)?;
         return Ok(both);
     }
-    let m = stage_tells_back(b, v, atoms, 60, 61, y.m.good, M_STAT, M_ICODE, M_BACK)?;
+    let m = stage_tells_back(
+        b,
+        v,
+        atoms,
+        signal::HELD_M_VAL_E,
+        signal::HELD_M_VAL_A,
+        y.m.good,
+        M_STAT,
+        M_ICODE,
+        M_BACK,
+    )?;
     let last_two = and(b, e, m)?;
     let g = and(b, d, last_two)?;
     Ok(g)
@@ -213,7 +245,7 @@ fn stages_tell_back(
 /// The cycle stops: the instruction in W is good, and its status isn't 1.
 #[tactic(auto, unfolding(pipe_fields::specs::Layout::fields_of), using(pipe_motion::proofs::Growing::grows_more, pipe_motion::proofs::Growing::grows_self))]
 pub fn stopping_gate(b: &mut NetBuilder) -> Result<u64, Memory>
-    requires { 107 ≤ b.old.vars }
+    requires { bit_count ≤ b.old.vars }
     ensures within { IfOk result (λ g. g < length b.new.gates) }
     ensures truth { (w : List Bool) → IfOk result (λ g. truth b.new g w ≡ spec.is_stopping (fields_of w)) }
     ensures grows { Grows b.old b.new }
@@ -236,11 +268,11 @@ pub fn legal_gate(
     atoms: &[Atom],
     y: &ViewGates,
 ) -> Result<u64, Memory>
-    requires vars { 107 + length atoms.now ≤ b.old.vars }
+    requires vars { bit_count + length atoms.now ≤ b.old.vars }
     requires few { length atoms.now ≤ 64 }
     requires view { HasView (length b.old.gates) y.now }
     ensures within { IfOk result (λ g. g < length b.new.gates) }
-    ensures truth { (w : List Bool) (α : Assignment) → AtomsAre atoms.now 107 w α →
+    ensures truth { (w : List Bool) (α : Assignment) → AtomsAre atoms.now bit_count w α →
         IfOk result (λ g. truth b.new g w ≡ built.legal_in v tv lf je rm atoms.now (fields_of w) (view_at b.old w y.now) α) }
     ensures grows { Grows b.old b.new }
 {

@@ -3,7 +3,7 @@ ghost use Rattle.std.specs.Prelude.{◌≡◌, ◌<◌, ◌≤◌, ◌+◌, ◌=
 ghost use Rattle.nets.specs.Nets.{truth, agree};
 ghost use Rattle.ctl_atoms.specs.Leaves.{Assignment, AtomsAre};
 ghost use Rattle.field_bits.specs.Spelling.{set};
-ghost use Rattle.pipe_fields.specs.Layout.{fields_of};
+ghost use Rattle.pipe_fields.specs.Layout.{bit_count, fields_of};
 ghost use Rattle.pipe_fields.specs.Allowed.{allowed};
 ghost use Rattle.pipe_motion.specs.Grows.{Grows};
 ghost use Rattle.pipe_motion.specs.Gates.{view_at, HasView};
@@ -22,7 +22,7 @@ use y86_base::{Memory, Variant};
 /// The valuation is allowed.
 #[tactic(auto, using(pipe_motion::proofs::Growing::grown))]
 fn allowed_gate(b: &mut NetBuilder, v: Variant) -> Result<u64, Memory>
-    requires { 107 ≤ b.old.vars }
+    requires { bit_count ≤ b.old.vars }
     ensures within { IfOk result (λ g. g < length b.new.gates) }
     ensures truth { (w : List Bool) → IfOk result (λ g. truth b.new g w ≡ allowed v (fields_of w)) }
     ensures grows { Grows b.old b.new }
@@ -43,11 +43,11 @@ pub fn asked_gate(
     y: &ViewGates,
     always: bool,
 ) -> Result<u64, Memory>
-    requires vars { 107 + length atoms.now ≤ b.old.vars }
+    requires vars { bit_count + length atoms.now ≤ b.old.vars }
     requires few { length atoms.now ≤ 64 }
     requires view { HasView (length b.old.gates) y.now }
     ensures within { IfOk result (λ g. g < length b.new.gates) }
-    ensures truth { (w : List Bool) (α : Assignment) → AtomsAre atoms.now 107 w α →
+    ensures truth { (w : List Bool) (α : Assignment) → AtomsAre atoms.now bit_count w α →
         IfOk result (λ g. truth b.new g w ≡ (allowed v (fields_of w)
         && (built.legal_in v tv lf je rm atoms.now (fields_of w) (view_at b.old w y.now) α && (always || not (spec.is_stopping (fields_of w)))))) }
     ensures grows { Grows b.old b.new }
@@ -72,12 +72,12 @@ pub fn premise_gate(
     y: &ViewGates,
     always: bool,
 ) -> Result<u64, Memory>
-    requires vars { 107 + length atoms.now ≤ b.old.vars }
+    requires vars { bit_count + length atoms.now ≤ b.old.vars }
     requires few { length atoms.now ≤ 64 }
     requires view { HasView (length b.old.gates) y.now }
     requires view_is { (w : List Bool) → view_at b.old w y.now ≡ spec.view_of v s.now (fields_of w) }
     ensures within { IfOk result (λ g. g < length b.new.gates) }
-    ensures truth { (w : List Bool) (α : Assignment) → AtomsAre atoms.now 107 w α →
+    ensures truth { (w : List Bool) (α : Assignment) → AtomsAre atoms.now bit_count w α →
         IfOk result (λ g. truth b.new g w ≡ built.asked_when v s.now atoms.now always (fields_of w) α) }
     ensures grows { Grows b.old b.new }
 {
@@ -88,7 +88,7 @@ pub fn premise_gate(
 /// A jump of this ifun that goes back or not is fetched.
 #[tactic(auto, unfolding(pipe_fields::specs::Layout::fields_of), using(pipe_motion::proofs::Growing::grows_more, pipe_motion::proofs::Growing::grows_self))]
 fn jump_of(b: &mut NetBuilder, v: Variant, ifun: u64, back: bool) -> Result<u64, Memory>
-    requires { 107 ≤ b.old.vars }
+    requires { bit_count ≤ b.old.vars }
     ensures within { IfOk result (λ g. g < length b.new.gates) }
     ensures truth { (w : List Bool) → IfOk result (λ g. truth b.new g w ≡ (spec.fetched_jump v (fields_of w) && ((fields_of w).f.ifun == ifun && agree back (set (fields_of w).f.back)))) }
     ensures grows { Grows b.old b.new }
@@ -114,10 +114,10 @@ pub fn prediction_asked(
     ifun: u64,
     back: bool,
 ) -> Result<u64, Memory>
-    requires vars { 107 + length atoms.now ≤ b.old.vars }
+    requires vars { bit_count + length atoms.now ≤ b.old.vars }
     requires few { length atoms.now ≤ 64 }
     ensures within { IfOk result (λ g. g < length b.new.gates) }
-    ensures truth { (w : List Bool) (α : Assignment) → AtomsAre atoms.now 107 w α →
+    ensures truth { (w : List Bool) (α : Assignment) → AtomsAre atoms.now bit_count w α →
         IfOk result (λ g. truth b.new g w ≡ (allowed v (fields_of w) && (spec.fetched_jump v (fields_of w)
         && ((fields_of w).f.ifun == ifun && (agree back (set (fields_of w).f.back) && spec.back_told_in_f v atoms.now (fields_of w) α))))) }
     ensures grows { Grows b.old b.new }

@@ -9,7 +9,7 @@ ghost use Rattle.dp_signals.specs.PipeNames as names;
 ghost use Rattle.dp_signals.specs.PipeTable.{pipe_rows};
 ghost use Rattle.rule_gates.specs.Asked.{IsAsked};
 ghost use Rattle.rule_gates.specs.Words as words;
-ghost use Rattle.pipe_fields.specs.Layout.{fields_of};
+ghost use Rattle.pipe_fields.specs.Layout.{bit_count, fields_of};
 ghost use Rattle.pipe_motion.specs.Gates.{HasView, view_at};
 ghost use Rattle.pipe_motion.specs.Grows.{Grows};
 ghost use Rattle.pipe_obligations.specs.Obligations.{movers_of};
@@ -22,9 +22,10 @@ use crate::late::{no_early_jump, no_early_ret, no_late_load};
 use crate::premises::premise_gate;
 use ctl_atoms::{Atom, Leaf};
 use ctl_formula::Controls;
+use dp_signals::pipe_row as signal;
 use nets::NetBuilder;
 use pipe_fields::places::E_DST_M;
-use pipe_gates::{movers_of, signals as signal, view_gates};
+use pipe_gates::{movers_of, view_gates};
 use pipe_motion::{Settings, ViewGates};
 use rule_gates::{Wanted, takes};
 use y86_base::{Memory, Variant};
@@ -40,7 +41,7 @@ fn no_load_passed(
 ) -> Result<u64, Memory>
     requires inside { IsInside b.old ctl.now }
     requires known { Covers pipe_rows ctl.now }
-    requires vars { 107 ≤ b.old.vars }
+    requires vars { bit_count ≤ b.old.vars }
     requires view { HasView (length b.old.gates) y.now }
     requires plain_in { plain < length b.old.gates }
     ensures begins { Begins b.old b.new }
@@ -64,7 +65,7 @@ fn no_jump_early(
 ) -> Result<u64, Memory>
     requires inside { IsInside b.old ctl.now }
     requires known { Covers pipe_rows ctl.now }
-    requires vars { 107 ≤ b.old.vars }
+    requires vars { bit_count ≤ b.old.vars }
     requires view { HasView (length b.old.gates) y.now }
     requires plain_in { plain < length b.old.gates }
     ensures begins { Begins b.old b.new }
@@ -117,13 +118,13 @@ fn free_legal(
     s: &Settings,
     atoms: &[Atom],
 ) -> Result<FreeView, Memory>
-    requires vars { 107 + length atoms.now ≤ b.old.vars }
+    requires vars { bit_count + length atoms.now ≤ b.old.vars }
     requires few { length atoms.now ≤ 64 }
     requires free { most_free s.now ≡ s.now }
     ensures view { IfOk result (λ r. HasView (length b.new.gates) r.view) }
     ensures view_is { (w : List Bool) → IfOk result (λ r. view_at b.new w r.view ≡ view_of v s.now (fields_of w)) }
     ensures plain_in { IfOk result (λ r. r.plain < length b.new.gates) }
-    ensures plain_is { (w : List Bool) (α : Assignment) → AtomsAre atoms.now 107 w α → IfOk result (λ r. truth b.new r.plain w ≡ may_show v s.now atoms.now (fields_of w) α) }
+    ensures plain_is { (w : List Bool) (α : Assignment) → AtomsAre atoms.now bit_count w α → IfOk result (λ r. truth b.new r.plain w ≡ may_show v s.now atoms.now (fields_of w) α) }
     ensures grows { Grows b.old b.new }
 {
     let view = view_gates(b, v, s)?;
@@ -151,7 +152,7 @@ pub fn shown_gates(
 ) -> Result<Late, Memory>
     requires inside { IsInside b.old ctl.now }
     requires known { Covers pipe_rows ctl.now }
-    requires vars { 107 + length atoms.now ≤ b.old.vars }
+    requires vars { bit_count + length atoms.now ≤ b.old.vars }
     requires few { length atoms.now ≤ 64 }
     requires free { most_free s.now ≡ s.now }
     ensures late { IfOk result (λ r. IsTold b.new ctl.now atoms.now r.lf (λ c α cv. not (shows_lf v s.now atoms.now c α cv))) }

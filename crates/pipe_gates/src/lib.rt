@@ -1,11 +1,10 @@
 //! Gates that the rules of PIPE share: tests of its fields and of the rows of their icodes, what stands in its stages, and the
-//! words that stall and bubble; and the rows of the signals that the rules ask and name.
+//! words that stall and bubble.
 #![tactic(auto, using(pipe_motion::proofs::Growing::grows_more, pipe_motion::proofs::Growing::grows_self))]
 
 mod columns;
 mod fields;
 mod movers;
-pub mod signals;
 mod stages;
 
 pub use columns::{RowTest, passes};

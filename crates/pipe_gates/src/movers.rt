@@ -10,8 +10,8 @@ ghost use Rattle.pipe_motion.specs.Slots.{leaves};
 ghost use Rattle.rule_gates.specs.Asked.{IsAsked};
 ghost use Rattle.pipe_obligations.specs.Obligations as spec;
 
-use crate::signals as signal;
 use ctl_formula::Controls;
+use dp_signals::pipe_row as signal;
 use hcl_types::NameId;
 use nets::NetBuilder;
 use pipe_motion::{MoverGates, MoversGates, ViewGates, leaves_gate};

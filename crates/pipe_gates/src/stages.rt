@@ -2,7 +2,7 @@
 ghost use Rattle.std.specs.Prelude.{◌≡◌, ◌<◌, ◌≤◌, ◌+◌, not, false, length, List, Bool, IfOk};
 ghost use Rattle.nets.specs.Nets.{truth, agree};
 ghost use Rattle.field_bits.specs.Spelling.{spelt, set};
-ghost use Rattle.pipe_fields.specs.Layout.{fields_of};
+ghost use Rattle.pipe_fields.specs.Layout.{bit_count, fields_of};
 ghost use Rattle.pipe_motion.specs.Grows.{Grows};
 ghost use Rattle.pipe_motion.specs.Gates.{slot_at, view_at, HasSlot, HasView};
 ghost use Rattle.pipe_motion.specs.Predictions.{predicts};
@@ -136,7 +136,7 @@ fn slot(
 /// What stands in D.
 #[tactic(auto, unfolding(pipe_fields::specs::Layout::fields_of), using(pipe_motion::proofs::Growing::grows_more, pipe_motion::proofs::Growing::grows_self))]
 fn decode_slot(b: &mut NetBuilder, v: Variant, s: &Settings) -> Result<SlotGates, Memory>
-    requires { 107 ≤ b.old.vars }
+    requires { bit_count ≤ b.old.vars }
     ensures within { IfOk result (λ r. HasSlot (length b.new.gates) r) }
     ensures slot { (w : List Bool) → IfOk result (λ r. slot_at b.new w r ≡ spec.decode_slot v s.now (fields_of w).d) }
     ensures grows { Grows b.old b.new }
@@ -151,7 +151,7 @@ fn decode_slot(b: &mut NetBuilder, v: Variant, s: &Settings) -> Result<SlotGates
 /// What stands in E.
 #[tactic(auto, unfolding(pipe_fields::specs::Layout::fields_of), using(pipe_motion::proofs::Growing::grows_more, pipe_motion::proofs::Growing::grows_self))]
 fn execute_slot(b: &mut NetBuilder, v: Variant, s: &Settings) -> Result<SlotGates, Memory>
-    requires { 107 ≤ b.old.vars }
+    requires { bit_count ≤ b.old.vars }
     ensures within { IfOk result (λ r. HasSlot (length b.new.gates) r) }
     ensures slot { (w : List Bool) → IfOk result (λ r. slot_at b.new w r ≡ spec.execute_slot v s.now (fields_of w).e) }
     ensures grows { Grows b.old b.new }
@@ -166,7 +166,7 @@ fn execute_slot(b: &mut NetBuilder, v: Variant, s: &Settings) -> Result<SlotGate
 /// What stands in M.
 #[tactic(auto, unfolding(pipe_fields::specs::Layout::fields_of), using(pipe_motion::proofs::Growing::grows_more, pipe_motion::proofs::Growing::grows_self))]
 fn memory_slot(b: &mut NetBuilder, v: Variant, s: &Settings) -> Result<SlotGates, Memory>
-    requires { 107 ≤ b.old.vars }
+    requires { bit_count ≤ b.old.vars }
     ensures within { IfOk result (λ r. HasSlot (length b.new.gates) r) }
     ensures slot { (w : List Bool) → IfOk result (λ r. slot_at b.new w r ≡ spec.memory_slot v s.now (fields_of w).m) }
     ensures grows { Grows b.old b.new }
@@ -181,7 +181,7 @@ fn memory_slot(b: &mut NetBuilder, v: Variant, s: &Settings) -> Result<SlotGates
 /// What stands in W.
 #[tactic(auto, unfolding(pipe_fields::specs::Layout::fields_of), using(pipe_motion::proofs::Growing::grows_more, pipe_motion::proofs::Growing::grows_self))]
 fn write_slot(b: &mut NetBuilder, v: Variant) -> Result<SlotGates, Memory>
-    requires { 107 ≤ b.old.vars }
+    requires { bit_count ≤ b.old.vars }
     ensures within { IfOk result (λ r. HasSlot (length b.new.gates) r) }
     ensures slot { (w : List Bool) → IfOk result (λ r. slot_at b.new w r ≡ spec.write_slot v (fields_of w).w) }
     ensures grows { Grows b.old b.new }
@@ -197,7 +197,7 @@ fn write_slot(b: &mut NetBuilder, v: Variant) -> Result<SlotGates, Memory>
 /// What stands in the stages of a valuation.
 #[tactic(auto, unfolding(pipe_obligations::specs::Stages::view_of), using(pipe_motion::proofs::Growing::grows_more, pipe_motion::proofs::Growing::grows_self, pipe_motion::proofs::Kept::slot_kept))]
 pub fn view_gates(b: &mut NetBuilder, v: Variant, s: &Settings) -> Result<ViewGates, Memory>
-    requires { 107 ≤ b.old.vars }
+    requires { bit_count ≤ b.old.vars }
     ensures within { IfOk result (λ r. HasView (length b.new.gates) r) }
     ensures view { (w : List Bool) → IfOk result (λ r. view_at b.new w r ≡ spec.view_of v s.now (fields_of w)) }
     ensures grows { Grows b.old b.new }

@@ -8,6 +8,7 @@ use Rattle.dp_signals.specs.Tables.{constant_rows}
 use Rattle.hcl_types.specs.Kinds.{kinds_of_row}
 use Rattle.stage_rules.specs.Fronts.{IsFrontReady}
 use Rattle.stage_rules.specs.Signals.{IsReady}
+use Rattle.pipe_fields.specs.Layout.{bit_count}
 
 truth_of : {ctl : List Entry} → Covers pipe_rows ctl → (n : ℕ) → (kinds_of_row (slice_get pipe_rows n)).truth ≡ true → has_gate ctl n ≡ true
 truth_of h n e = h.gates n ∙ e
@@ -15,7 +16,7 @@ truth_of h n e = h.gates n ∙ e
 word_of : {ctl : List Entry} → Covers pipe_rows ctl → (n : ℕ) → (kinds_of_row (slice_get pipe_rows n)).word ≡ true → has_picks ctl n ≡ true
 word_of h n e = h.picks n ∙ e
 
-pub ready_by : {vars : ℕ} {ctl : List Entry} → 107 ≤ vars → Covers pipe_rows ctl → IsReady vars ctl
+pub ready_by : {vars : ℕ} {ctl : List Entry} → bit_count ≤ vars → Covers pipe_rows ctl → IsReady vars ctl
 unfolding pipe_rows constant_rows pipe_state pipe_hardware pipe_defined
 ready_by {vars} {ctl} le h = record {
   fields = le;
@@ -37,7 +38,7 @@ ready_by {vars} {ctl} le h = record {
 }
 
 -- the same for the rules of fetch and decode
-pub front_ready_by : {vars : ℕ} {ctl : List Entry} → 107 ≤ vars → Covers pipe_rows ctl → IsFrontReady vars ctl
+pub front_ready_by : {vars : ℕ} {ctl : List Entry} → bit_count ≤ vars → Covers pipe_rows ctl → IsFrontReady vars ctl
 unfolding pipe_rows constant_rows pipe_state pipe_hardware pipe_defined
 front_ready_by {vars} {ctl} le h = record {
   fields = le;

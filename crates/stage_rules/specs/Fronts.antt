@@ -10,7 +10,7 @@ use Rattle.ctl_formula.specs.declared.controls.Entry.{Entry}
 use Rattle.ctl_formula.specs.Picks.{has_gate, has_picks}
 use Rattle.dp_signals.specs.PipeNames as signal
 use Rattle.field_bits.specs.Spelling.{set}
-use Rattle.pipe_fields.specs.Layout.{Fields}
+use Rattle.pipe_fields.specs.Layout.{Fields, bit_count}
 use Rattle.pipe_motion.specs.Predictions.{predicts}
 use Rattle.rule_gates.specs.Words.{takes_some, is_number, is_truth}
 use Rattle.pipe_obligations.specs.Obligations.{predicted_leaf}
@@ -18,7 +18,7 @@ use Rattle.stage_rules.specs.declared.front_1_to_9.FrontRule.{FrontRule}
 use Rattle.stage_rules.specs.declared.front_1_to_9.FrontRule.TheVariants.{Status, RegisterByte, Constant, Predicted, SourceA, SourceB, DestinationE, DestinationM}
 
 pub record IsFrontReady (vars : ℕ) (ctl : List Entry) : Type 0 where
-  pub fields : 107 ≤ vars
+  pub fields : bit_count ≤ vars
   pub f_icode : IsTrue (has_picks ctl signal.f_icode)
   pub f_ifun : IsTrue (has_picks ctl signal.f_ifun)
   pub f_stat : IsTrue (has_picks ctl signal.f_stat)

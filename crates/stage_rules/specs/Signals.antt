@@ -5,7 +5,7 @@ use Rattle.ctl_atoms.specs.declared.leaf.Leaf.{Leaf}
 use Rattle.ctl_formula.specs.declared.controls.Entry.{Entry}
 use Rattle.ctl_formula.specs.Picks.{has_gate, has_picks}
 use Rattle.dp_signals.specs.PipeNames as signal
-use Rattle.pipe_fields.specs.Layout.{Fields}
+use Rattle.pipe_fields.specs.Layout.{Fields, bit_count}
 use Rattle.rule_gates.specs.Words.{takes_some, is_number, operand_leaf_a, operand_leaf_b, address_leaf}
 use Rattle.y86_isa.specs.Blocks.{alu_function}
 use Rattle.y86_isa.specs.RowTests.{has_operand_a}
@@ -14,7 +14,7 @@ use Rattle.stage_rules.specs.declared.row_rules.RowRule.{RowRule}
 use Rattle.stage_rules.specs.declared.row_rules.RowRule.TheVariants.{OperandA, OperandB, Function, Address}
 
 pub record IsReady (vars : ℕ) (ctl : List Entry) : Type 0 where
-  pub fields : 107 ≤ vars
+  pub fields : bit_count ≤ vars
   pub aluA : IsTrue (has_picks ctl signal.aluA)
   pub aluB : IsTrue (has_picks ctl signal.aluB)
   pub alufun : IsTrue (has_picks ctl signal.alufun)

@@ -9,7 +9,7 @@ ghost use Rattle.field_bits.specs.Spelling.{set, spelt};
 ghost use Rattle.pipe_gates.specs.Columns.{has};
 ghost use Rattle.stage_rules.specs.Signals.{IsReady, asked_by};
 ghost use Rattle.pipe_obligations.specs.Stages.{is_jump};
-ghost use Rattle.pipe_fields.specs.Layout.{fields_of};
+ghost use Rattle.pipe_fields.specs.Layout.{bit_count, fields_of};
 ghost use Rattle.rule_gates.specs.Asked.{IsAsked};
 ghost use Rattle.rule_gates.specs.Words as words;
 ghost use Rattle.y86_isa.specs.Blocks.{alu_function, destination_e};
@@ -18,18 +18,19 @@ ghost use Rattle.y86_isa.specs.Table.{row};
 
 use crate::row_rules::RowRule;
 use ctl_formula::{Controls, Leaf};
+use dp_signals::pipe_row as signal;
 use field_bits::{Place, same, spells};
 use hcl_types::NameId;
 use nets::{NetBuilder, implies};
 use pipe_fields::places::{E_CND, E_DST_E, E_ICODE, E_SRC_A, E_STAT, M_DST_M};
-use pipe_gates::{RowTest, row_has, signals as signal};
+use pipe_gates::{RowTest, row_has};
 use rule_gates::{Wanted, by_icode, takes, takes_if};
 use y86_base::{Memory, Variant};
 
 /// The good instruction in E goes on.
 #[tactic(auto, using(nets::proofs::Truths::begins_more, nets::proofs::Truths::truth_kept, ctl_formula::proofs::Inside::inside_more, crate::proofs::Joined::ready_more), unfolding(pipe_fields::specs::Layout::fields_of))]
 fn works(b: &mut NetBuilder, good: u64) -> Result<u64, Memory>
-    requires vars { 107 ≤ b.old.vars }
+    requires vars { bit_count ≤ b.old.vars }
     requires good { good < length b.old.gates }
     ensures begins { Begins b.old b.new }
     ensures made { IfOk result (λ g. IsGate b.new g (λ w. truth b.old good w && (fields_of w).e.stat == 1)) }
@@ -138,7 +139,7 @@ pub fn obligation_15(
 /// A good instruction carries valA, or valP in its place, on to M.
 #[tactic(auto, using(nets::proofs::Truths::begins_more, nets::proofs::Truths::truth_kept, ctl_formula::proofs::Inside::inside_more, crate::proofs::Joined::ready_more), unfolding(pipe_fields::specs::Layout::fields_of))]
 fn carries(b: &mut NetBuilder, v: Variant, good: u64) -> Result<u64, Memory>
-    requires vars { 107 ≤ b.old.vars }
+    requires vars { bit_count ≤ b.old.vars }
     requires good { good < length b.old.gates }
     ensures begins { Begins b.old b.new }
     ensures made { IfOk result (λ g. IsGate b.new g (λ w. truth b.old good w && (carries_a (row v (fields_of w).e.icode) || carries_p (row v (fields_of w).e.icode)))) }
@@ -153,7 +154,7 @@ fn carries(b: &mut NetBuilder, v: Variant, good: u64) -> Result<u64, Memory>
 /// What E stores is what M loads, where M holds a good instruction.
 #[tactic(auto, using(nets::proofs::Truths::begins_more, nets::proofs::Truths::truth_kept, ctl_formula::proofs::Inside::inside_more, crate::proofs::Joined::ready_more), unfolding(pipe_fields::specs::Layout::fields_of))]
 fn stores_loaded(b: &mut NetBuilder, v: Variant, loads: u64) -> Result<u64, Memory>
-    requires vars { 107 ≤ b.old.vars }
+    requires vars { bit_count ≤ b.old.vars }
     requires loads { loads < length b.old.gates }
     ensures begins { Begins b.old b.new }
     ensures made { IfOk result (λ g. IsGate b.new g (λ w. stores_a (row v (fields_of w).e.icode).memory && (truth b.old loads w && (fields_of w).m.dst_m == (fields_of w).e.src_a))) }
@@ -168,7 +169,7 @@ fn stores_loaded(b: &mut NetBuilder, v: Variant, loads: u64) -> Result<u64, Memo
 /// With load forwarding, a store takes the word that it stores from the load in M.
 #[tactic(auto, using(nets::proofs::Truths::begins_more, nets::proofs::Truths::truth_kept, ctl_formula::proofs::Inside::inside_more, crate::proofs::Joined::ready_more), unfolding(pipe_fields::specs::Layout::fields_of))]
 fn taken_late(b: &mut NetBuilder, lf: bool, v: Variant, loads: u64) -> Result<u64, Memory>
-    requires vars { 107 ≤ b.old.vars }
+    requires vars { bit_count ≤ b.old.vars }
     requires loads { loads < length b.old.gates }
     ensures begins { Begins b.old b.new }
     ensures made { IfOk result (λ g. IsGate b.new g (λ w. lf && (stores_a (row v (fields_of w).e.icode).memory && (truth b.old loads w && (fields_of w).m.dst_m == (fields_of w).e.src_a)))) }
@@ -218,7 +219,7 @@ pub fn obligation_16(
 /// The condition of the move in E does not hold.
 #[tactic(auto, using(nets::proofs::Truths::begins_more, nets::proofs::Truths::truth_kept, ctl_formula::proofs::Inside::inside_more, crate::proofs::Joined::ready_more), unfolding(pipe_fields::specs::Layout::fields_of))]
 fn loses(b: &mut NetBuilder, v: Variant) -> Result<u64, Memory>
-    requires vars { 107 ≤ b.old.vars }
+    requires vars { bit_count ≤ b.old.vars }
     ensures begins { Begins b.old b.new }
     ensures made { IfOk result (λ g. IsGate b.new g (λ w. (row v (fields_of w).e.icode).conditional && (fields_of w).e.cnd == 0)) }
 {
@@ -237,7 +238,7 @@ pub fn late_destination_is(
     name: NameId,
 ) -> Result<u64, Memory>
     requires inside { IsInside b.old ctl.now }
-    requires vars { 107 ≤ b.old.vars }
+    requires vars { bit_count ≤ b.old.vars }
     requires known { IsTrue (has_picks ctl.now name) }
     ensures begins { Begins b.old b.new }
     ensures asked { IfOk result (λ g. IsAsked b.new ctl.now g (λ w α cv.
@@ -278,7 +279,7 @@ pub fn obligation_17(
 /// E holds a good jump that goes on.
 #[tactic(auto, using(nets::proofs::Truths::begins_more, nets::proofs::Truths::truth_kept, ctl_formula::proofs::Inside::inside_more, crate::proofs::Joined::ready_more), unfolding(pipe_fields::specs::Layout::fields_of))]
 fn jumps(b: &mut NetBuilder, v: Variant, good: u64) -> Result<u64, Memory>
-    requires vars { 107 ≤ b.old.vars }
+    requires vars { bit_count ≤ b.old.vars }
     requires good { good < length b.old.gates }
     ensures begins { Begins b.old b.new }
     ensures made { IfOk result (λ g. IsGate b.new g (λ w. truth b.old good w && is_jump v (fields_of w).e.stat (fields_of w).e.icode)) }

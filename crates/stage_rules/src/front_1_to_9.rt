@@ -6,7 +6,7 @@ ghost use Rattle.dp_signals.specs.PipeNames as names;
 ghost use Rattle.field_bits.specs.Spelling.{set};
 ghost use Rattle.stage_rules.specs.Fronts.{IsFrontReady, asked_in_front};
 ghost use Rattle.pipe_obligations.specs.Obligations.{predicted_leaf};
-ghost use Rattle.pipe_fields.specs.Layout.{fields_of};
+ghost use Rattle.pipe_fields.specs.Layout.{bit_count, fields_of};
 ghost use Rattle.pipe_motion.specs.Predictions.{predicts};
 ghost use Rattle.rule_gates.specs.Asked.{IsAsked};
 ghost use Rattle.rule_gates.specs.Words as words;
@@ -15,10 +15,11 @@ ghost use Rattle.y86_isa.specs.declared.columns.Next.TheVariants as way;
 ghost use Rattle.stage_rules.specs.declared.front_1_to_9.FrontRule.TheVariants as kind;
 
 use ctl_formula::{Controls, Leaf};
+use dp_signals::pipe_row as signal;
 use field_bits::spells;
 use nets::{NetBuilder, choose};
 use pipe_fields::places::{D_ICODE, D_R_A, D_R_B, F_BACK, F_ERROR, F_ICODE, F_IFUN};
-use pipe_gates::{listed, signals as signal};
+use pipe_gates::listed;
 use pipe_motion::Settings;
 use rule_gates::{
     ByRow, Wanted, by_icode, is_truth, register_is, status_is, takes, takes_if, takes_some,
@@ -43,7 +44,7 @@ pub enum FrontRule {
 /// A jump of this ifun and back bit is predicted as taken.
 #[tactic(auto, unfolding(pipe_fields::specs::Layout::fields_of))]
 fn predicted(b: &mut NetBuilder, s: &Settings) -> Result<u64, Memory>
-    requires { 107 ≤ b.old.vars }
+    requires { bit_count ≤ b.old.vars }
     ensures begins { Begins b.old b.new }
     ensures made { IfOk result (λ g. IsGate b.new g (λ w. predicts s.now (fields_of w).f.ifun (set (fields_of w).f.back))) }
 {
@@ -101,7 +102,7 @@ fn next_predicted(
 /// The reading has an error.
 #[tactic(auto, unfolding(pipe_fields::specs::Layout::fields_of))]
 fn reading_fails(b: &mut NetBuilder) -> Result<u64, Memory>
-    requires { 107 ≤ b.old.vars }
+    requires { bit_count ≤ b.old.vars }
     ensures begins { Begins b.old b.new }
     ensures made { IfOk result (λ g. IsGate b.new g (λ w. set (fields_of w).f.error)) }
 {

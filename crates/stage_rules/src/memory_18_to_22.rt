@@ -16,10 +16,11 @@ ghost use Rattle.y86_isa.specs.Table.{row};
 use crate::execute_12_to_17::truth_where;
 use crate::row_rules::RowRule;
 use ctl_formula::{Controls, Leaf};
+use dp_signals::pipe_row as signal;
 use field_bits::spells;
 use nets::{NetBuilder, implies};
 use pipe_fields::places::{M_ERROR, M_ICODE, M_STAT, W_DST_E, W_DST_M, W_STAT};
-use pipe_gates::{RowTest, signals as signal};
+use pipe_gates::RowTest;
 use rule_gates::{Wanted, by_icode, takes, takes_if};
 use y86_base::{Memory, Variant};
 

@@ -11,9 +11,10 @@ ghost use Rattle.y86_isa.specs.Blocks.{alu_function};
 ghost use Rattle.y86_isa.specs.RowTests.{has_operand_a};
 
 use ctl_formula::Controls;
+use dp_signals::pipe_row as signal;
 use nets::NetBuilder;
 use pipe_fields::places::E_IFUN;
-use pipe_gates::{RowTest, passes, signals as signal};
+use pipe_gates::{RowTest, passes};
 use rule_gates::{ByRow, address_leaf, function_is, operand_leaf_a, operand_leaf_b, takes_some};
 use y86_base::Memory;
 use y86_isa::Row;

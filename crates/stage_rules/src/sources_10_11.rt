@@ -11,7 +11,7 @@ ghost use Rattle.y86_isa.specs.RowTests.{carries_p, stores_a};
 ghost use Rattle.y86_isa.specs.Table.{row};
 ghost use Rattle.rule_gates.specs.Asked.{IsAsked};
 ghost use Rattle.rule_gates.specs.Words as words;
-ghost use Rattle.pipe_fields.specs.Layout.{fields_of};
+ghost use Rattle.pipe_fields.specs.Layout.{bit_count, fields_of};
 ghost use Rattle.pipe_motion.specs.Gates.{HasView, view_at};
 ghost use Rattle.pipe_motion.specs.Slots.{View};
 ghost use Rattle.pipe_obligations.specs.Obligations as spec;
@@ -19,11 +19,12 @@ ghost use Rattle.pipe_obligations.specs.Obligations as spec;
 use crate::execute_12_to_17::late_destination_is;
 use ctl_atoms::Leaf;
 use ctl_formula::Controls;
+use dp_signals::pipe_row as signal;
 use field_bits::Place;
 use hcl_types::NameId;
 use nets::{NetBuilder, choose, implies};
 use pipe_fields::places::{D_ICODE, E_DST_M, M_DST_E, M_DST_M, W_DST_E, W_DST_M};
-use pipe_gates::{RowTest, none_leaves, row_has, signals as signal};
+use pipe_gates::{RowTest, none_leaves, row_has};
 use pipe_motion::{Settings, ViewGates};
 use rule_gates::{Wanted, takes};
 use y86_base::{Memory, Variant};
@@ -65,7 +66,7 @@ fn from_m_on(
     requires inside { IsInside b.old ctl.now }
     requires word_known { IsTrue (has_picks ctl.now word) }
     requires source_known { IsTrue (has_picks ctl.now source) }
-    requires vars { 107 ≤ b.old.vars }
+    requires vars { bit_count ≤ b.old.vars }
     ensures begins { Begins b.old b.new }
     ensures asked { IfOk result (λ g. IsAsked b.new ctl.now g (λ w α cv.
         if words.is_number cv source (fields_of w).m.dst_m then words.takes cv word (Name names.m_valM)
@@ -96,7 +97,7 @@ fn takes_value(
     requires inside { IsInside b.old ctl.now }
     requires word_known { IsTrue (has_picks ctl.now word) }
     requires source_known { IsTrue (has_picks ctl.now source) }
-    requires vars { 107 ≤ b.old.vars }
+    requires vars { bit_count ≤ b.old.vars }
     requires good_in { good < length b.old.gates }
     ensures begins { Begins b.old b.new }
     ensures within { IfOk result (λ g. g < length b.new.gates) }
@@ -126,7 +127,7 @@ fn takes_ready(
     requires inside { IsInside b.old ctl.now }
     requires word_known { IsTrue (has_picks ctl.now word) }
     requires source_known { IsTrue (has_picks ctl.now source) }
-    requires vars { 107 ≤ b.old.vars }
+    requires vars { bit_count ≤ b.old.vars }
     requires good_in { good < length b.old.gates }
     requires free_in { free < length b.old.gates }
     ensures begins { Begins b.old b.new }
@@ -157,7 +158,7 @@ fn takes_right(
     requires inside { IsInside b.old ctl.now }
     requires word_known { IsTrue (has_picks ctl.now word) }
     requires source_known { IsTrue (has_picks ctl.now source) }
-    requires vars { 107 ≤ b.old.vars }
+    requires vars { bit_count ≤ b.old.vars }
     requires good_in { good < length b.old.gates }
     requires free_in { free < length b.old.gates }
     ensures begins { Begins b.old b.new }
@@ -176,7 +177,7 @@ fn takes_right(
 fn takes_next_pc(b: &mut NetBuilder, ctl: &Controls, v: Variant) -> Result<u64, Memory>
     requires inside { IsInside b.old ctl.now }
     requires known { IsTrue (has_picks ctl.now names.d_valA) }
-    requires vars { 107 ≤ b.old.vars }
+    requires vars { bit_count ≤ b.old.vars }
     ensures begins { Begins b.old b.new }
     ensures asked { IfOk result (λ g. IsAsked b.new ctl.now g (λ w α cv.
         not (carries_p (row v (fields_of w).d.icode)) || words.takes cv names.d_valA (Name names.D_valP))) }
@@ -195,7 +196,7 @@ fn takes_next_pc(b: &mut NetBuilder, ctl: &Controls, v: Variant) -> Result<u64, 
 /// The instruction in D needn't wait for the word that it stores.
 #[tactic(auto, unfolding(pipe_fields::specs::Layout::fields_of))]
 fn stores_late(b: &mut NetBuilder, v: Variant, late: bool) -> Result<u64, Memory>
-    requires vars { 107 ≤ b.old.vars }
+    requires vars { bit_count ≤ b.old.vars }
     ensures begins { Begins b.old b.new }
     ensures made { IfOk result (λ g. IsGate b.new g (λ w. late && stores_a (row v (fields_of w).d.icode).memory)) }
 {
@@ -219,7 +220,7 @@ pub fn obligation_10(
     y: &ViewGates,
 ) -> Result<u64, Memory>
     requires inside { IsInside b.old ctl.now }
-    requires vars { 107 ≤ b.old.vars }
+    requires vars { bit_count ≤ b.old.vars }
     requires view { HasView (length b.old.gates) y.now }
     requires known { Covers pipe_rows ctl.now }
     ensures begins { Begins b.old b.new }
@@ -254,7 +255,7 @@ pub fn obligation_11(
     y: &ViewGates,
 ) -> Result<u64, Memory>
     requires inside { IsInside b.old ctl.now }
-    requires vars { 107 ≤ b.old.vars }
+    requires vars { bit_count ≤ b.old.vars }
     requires view { HasView (length b.old.gates) y.now }
     requires known { Covers pipe_rows ctl.now }
     ensures begins { Begins b.old b.new }

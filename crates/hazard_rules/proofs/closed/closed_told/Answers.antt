@@ -4,6 +4,7 @@ use Rattle.pipe_motion.proofs.Growing.{grown, grows_more}
 use Rattle.hazard_rules.proofs.Listed.{told_more}
 use Rattle.stage_rules.proofs.Ready.{ready_by}
 use Rattle.hazard_rules.proofs.closed.closed_told.Goals as goal
+use Rattle.pipe_fields.specs.Layout.{bit_count}
 
 pub returns-clause-forward : goal.returns-clause-forward
 returns-clause-forward c = λ i lt.
@@ -25,7 +26,7 @@ returns-clause-grows c = grows_more _ _ _ c.predictions.ensures.grows (grows_mor
 pub carries_told-requires-clause-ready : goal.carries_told-requires-clause-ready
 carries_told-requires-clause-ready c =
     let same = c.predictions-2.ensures.grows.begins.vars ∙ c.predictions.ensures.grows.begins.vars in
-    let fields : 107 ≤ c.predictions-2.new.b.vars = let e = c.requires.vars in omega (arith, same, e) in
+    let fields : bit_count ≤ c.predictions-2.new.b.vars = let e = c.requires.vars in omega (arith, same, e) in
     ready_by fields c.requires.covers
 
 pub returns-in_err-tv-clause-grows : goal.returns-in_err-tv-clause-grows

@@ -6,6 +6,7 @@ use Rattle.ctl_atoms.specs.Atoms.{AreAtoms}
 use Rattle.ctl_formula.specs.Places.{HavePlaces}
 use Rattle.hazard_rules.proofs.Designed.{atoms_one, places_stand, told_design}
 use Rattle.hazard_rules.proofs.design.translated.Goals as goal
+use Rattle.pipe_fields.specs.Layout.{bit_count}
 
 pub atoms-requires-clause-sound : goal.atoms-requires-clause-sound
 atoms-requires-clause-sound c = subst IsSound (sym c.in-Ok.ensures) pipe_sound
@@ -15,7 +16,7 @@ translate-requires-clause-sound c = subst IsSound (sym c.in-Ok.ensures) pipe_sou
 
 pub translate-requires-clause-places : goal.translate-requires-clause-places
 translate-requires-clause-places c =
-    let le : 107 ≤ c.new-b.result.vars = omega (arith, c.new-b.ensures.vars) in
+    let le : bit_count ≤ c.new-b.result.vars = omega (arith, c.new-b.ensures.vars) in
     subst (λ rows. HavePlaces rows c.places.result.now c.new-b.result.vars) (sym c.in-Ok.ensures)
     (subst (λ ps. HavePlaces pipe_rows ps c.new-b.result.vars) (sym c.places.ensures) (places_stand c.new-b.result.vars le))
 
@@ -28,6 +29,6 @@ translate-requires-clause-vars c = λ listed are.
 
 pub returns-clause-made : goal.returns-clause-made
 returns-clause-made c =
-    let size : c.new-b.result.vars ≡ 107 + length c.in_ok-listed.listed.items = omega (arith, c.len.ensures, c.new-b.ensures.vars) in
+    let size : c.new-b.result.vars ≡ bit_count + length c.in_ok-listed.listed.items = omega (arith, c.len.ensures, c.new-b.ensures.vars) in
     told_design c.args.d.now.terms c.in-Ok.t.rows c.places.result.now c.in_ok-ctl.ctl c.in_ok-listed.listed.items c.new-b.result.vars
     c.in-Ok.ensures c.places.ensures c.in_ok-listed.ensures size c.translate.ensures.begins.vars c.in_ok-ctl.ensures.inside c.in_ok-ctl.ensures.covers c.in_ok-ctl.ensures.tells

@@ -1,7 +1,7 @@
 use Rattle.std.proofs.Common.{◌≡◌, ◌<◌, true, false, length, List, Bool}
 use Rattle.nets.specs.Nets.{truth}
 use Rattle.ctl_atoms.specs.Leaves.{Assignment, AtomsAre}
-use Rattle.pipe_fields.specs.Layout.{fields_of}
+use Rattle.pipe_fields.specs.Layout.{bit_count, fields_of}
 use Rattle.pipe_motion.specs.Grows.{Grows}
 use Rattle.pipe_motion.specs.Gates.{view_at, HasView}
 use Rattle.pipe_obligations.specs.Stages.{view_of}
@@ -16,8 +16,8 @@ invariant-loop-i l = record {
   view_is : (w : List Bool) → view_at l.b w l.p.view ≡ view_of l.v l.s (fields_of w);
   always_in : l.p.always < length l.b.gates;
   going_in : l.p.going < length l.b.gates;
-  always_is : (w : List Bool) (α : Assignment) → AtomsAre l.atoms 107 w α → truth l.b l.p.always w ≡ asked_when l.v l.s l.atoms true (fields_of w) α;
-  going_is : (w : List Bool) (α : Assignment) → AtomsAre l.atoms 107 w α → truth l.b l.p.going w ≡ asked_when l.v l.s l.atoms false (fields_of w) α;
+  always_is : (w : List Bool) (α : Assignment) → AtomsAre l.atoms bit_count w α → truth l.b l.p.always w ≡ asked_when l.v l.s l.atoms true (fields_of w) α;
+  going_is : (w : List Bool) (α : Assignment) → AtomsAre l.atoms bit_count w α → truth l.b l.p.going w ≡ asked_when l.v l.s l.atoms false (fields_of w) α;
   count : length l.list.items ≡ l.i;
   rules : AreToldRules l.v l.s l.b l.ctl l.atoms l.list.items;
 }
