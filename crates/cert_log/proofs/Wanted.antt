@@ -18,9 +18,9 @@ use Rattle.ctl_formula.proofs.Solved.{controls_exist}
 use Rattle.pipe_fields.specs.Layout.{fields_of}
 use Rattle.pipe_fields.proofs.Told.{in_range}
 use Rattle.pipe_motion.specs.declared.settings.Settings.{Settings}
-use Rattle.pipe_obligations.specs.Rules.{obligation}
-use Rattle.pipe_obligations.specs.Settled.{Everywhere, Truth, carries}
-use Rattle.pipe_theorem.specs.Theorem.{MeetsObligations, PipeControls}
+use Rattle.pipe_obligations.specs.Rules.{obligation, rule_count}
+use Rattle.pipe_obligations.specs.Settled.{Everywhere, Truth, carries, PipeControls}
+use Rattle.pipe_theorem.specs.Theorem.{MeetsObligations}
 use Rattle.pipe_theorem.proofs.Top.{accepted_refines}
 use Rattle.rule_gates.specs.declared.rules.Rule.{Rule}
 use Rattle.hazard_rules.specs.Belonging.{BelongTo}
@@ -65,17 +65,17 @@ demanded v terms ids s p net list want o belong same rules begins e = record {
   target = λ t. told t;
 }
   where
-    size : length (map gate_of list) ≡ 27
+    size : length (map gate_of list) ≡ rule_count
     size = length-map list gate_of ∙ rules.count
 
-    counted : (b : Bool) → length (map gate_of list) + length (cond b (p.tv ∷ []) []) ≡ cond b 28 27
+    counted : (b : Bool) → length (map gate_of list) + length (cond b (p.tv ∷ []) []) ≡ cond b (rule_count + 1) rule_count
     counted true = omega (arith, size)
     counted false = omega (arith, size)
 
     none : Rule
     none = record { number = 0; gate = 0 }
 
-    obliged : (k : ℕ) → k < 27 → IsFormula terms rules.atoms net (get_or want k 0) (obligation v s rules.atoms (k + 1))
+    obliged : (k : ℕ) → k < rule_count → IsFormula terms rules.atoms net (get_or want k 0) (obligation v s rules.atoms (k + 1))
     obliged k h =
         let inside : k < length list = (let c = rules.count in omega (arith, h, c)) in
         let gate : get_or want k 0 ≡ (get_or list k none).gate =
@@ -84,10 +84,10 @@ demanded v terms ids s p net list want o belong same rules begins e = record {
         subst (λ n. IsFormula terms rules.atoms net n (obligation v s rules.atoms (k + 1))) (sym gate)
         (subst (λ x. IsFormula terms rules.atoms net (get_or list k none).gate (obligation x s rules.atoms (k + 1))) same formula)
 
-    told : s.tv ≡ true → IsFormula terms rules.atoms net (get_or want 27 0) (carries v s)
+    told : s.tv ≡ true → IsFormula terms rules.atoms net (get_or want rule_count 0) (carries v s)
     told t =
-        let last : get_or want 27 0 ≡ p.tv =
-        ap (λ (xs : List ℕ). get_or xs 27 0) (e ∙ ap (λ b. map gate_of list ++ cond b (p.tv ∷ []) []) t) ∙ get_or_push (map gate_of list) p.tv 0 27 size in
+        let last : get_or want rule_count 0 ≡ p.tv =
+        ap (λ (xs : List ℕ). get_or xs rule_count 0) (e ∙ ap (λ b. map gate_of list ++ cond b (p.tv ∷ []) []) t) ∙ get_or_push (map gate_of list) p.tv 0 rule_count size in
         let closed = belong.settings in
         let kept = formula_kept terms closed.atoms p.net net p.tv (carries p.variant s) begins (closed.target s) in
         subst (λ n. IsFormula terms rules.atoms net n (carries v s)) (sym last)
@@ -100,15 +100,15 @@ entry_is : (xs : List ℕ) (k i : ℕ) → slice_get xs k ≡ Some i → get_or 
 entry_is xs k i at = ap (λ o. unwrap_or o 0) (sym (slice_get-get_or xs k 0 (slice_get_within xs k i at)) ∙ at)
 
 -- behind the obligations stands at most one gate
-last_is : (b : Bool) (k : ℕ) → k < cond b 28 27 → 27 ≤ k → (b ≡ true) × (k ≡ 27)
+last_is : (b : Bool) (k : ℕ) → k < cond b (rule_count + 1) rule_count → rule_count ≤ k → (b ≡ true) × (k ≡ rule_count)
 last_is true k lt le = (refl, omega (arith, lt, le))
 last_is false k lt le = absurd (omega (arith, lt, le))
 
 -- what holds of each obligation, and of the gate behind them, holds of each demanded gate
 each_demanded : (v : Variant) (terms : List Term) (s : Settings) (g : Demands) (d : DemandsFor v terms s g) (P : ℕ → Type 0) →
-    ((k : ℕ) → k < 27 → P (get_or g.want k 0)) → (s.tv ≡ true → P (get_or g.want 27 0)) → (k i : ℕ) → slice_get g.want k ≡ Some i → P i
+    ((k : ℕ) → k < rule_count → P (get_or g.want k 0)) → (s.tv ≡ true → P (get_or g.want rule_count 0)) → (k i : ℕ) → slice_get g.want k ≡ Some i → P i
 each_demanded v terms s g d P rules target k i at =
-    elim (cases_lt k 27) [
+    elim (cases_lt k rule_count) [
       | inl lt ↦ subst P (entry_is g.want k i at) (rules k lt)
       | inr le ↦
           (let last = last_is s.tv k (subst (λ n. k < n) d.count (slice_get_within g.want k i at)) le in
@@ -138,13 +138,13 @@ module _ (v : Variant) (terms : List Term) (ids : List ℕ) (o : IsOrderOf pipe_
     met all = record {
       obligations = λ i l h.
           (let back : i - 1 + 1 ≡ i = omega (arith, l) in
-          let inside : i - 1 < 27 = omega (arith, l, h) in
+          let inside : i - 1 < rule_count = omega (arith, l, h) in
           subst (λ n. Everywhere v d.atoms (PipeControls terms) (obligation v s d.atoms n)) back
           (shown all (i - 1) (let n = d.count in let m = most s.tv in omega (arith, inside, n, m)) (obligation v s d.atoms (i - 1 + 1)) (d.obligations (i - 1) inside)));
-      target = λ t. shown all 27 (let n = d.count ∙ ap (λ b. cond b 28 27) t in omega (arith, n)) (carries v s) (d.target t);
+      target = λ t. shown all rule_count (let n = d.count ∙ ap (λ b. cond b (rule_count + 1) rule_count) t in omega (arith, n)) (carries v s) (d.target t);
     }
       where
-        most : (b : Bool) → 27 ≤ cond b 28 27
+        most : (b : Bool) → rule_count ≤ cond b (rule_count + 1) rule_count
         most true = omega arith
         most false = omega arith
 
@@ -163,7 +163,7 @@ module _ (v : Variant) (terms : List Term) (ids : List ℕ) (o : IsOrderOf pipe_
       each = λ k i at w size.
           each_demanded v terms s g d (λ n. truth g.net n w ≡ true)
           (λ j lt. true_where (get_or g.want j 0) (obligation v s d.atoms (j + 1)) (d.obligations j lt) (meets.obligations (j + 1) (omega arith) (omega (arith, lt))) w)
-          (λ t. true_where (get_or g.want 27 0) (carries v s) (d.target t) (meets.target t) w)
+          (λ t. true_where (get_or g.want rule_count 0) (carries v s) (d.target t) (meets.target t) w)
           k i at;
     }
 

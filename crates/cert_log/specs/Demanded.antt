@@ -9,7 +9,7 @@ use Rattle.ctl_atoms.specs.Atoms.{AreAtoms}
 use Rattle.ctl_atoms.specs.declared.leaf.Atom.{Atom}
 use Rattle.pipe_fields.specs.Layout.{bit_count}
 use Rattle.pipe_motion.specs.declared.settings.Settings.{Settings}
-use Rattle.pipe_obligations.specs.Rules.{obligation}
+use Rattle.pipe_obligations.specs.Rules.{obligation, rule_count}
 use Rattle.pipe_obligations.specs.Settled.{carries}
 use Rattle.pipe_refinement.specs.Refines.{Refines}
 use Rattle.pipe_theorem.specs.Theorem.{MeetsObligations}
@@ -23,15 +23,15 @@ abbrev pub gate_of : Rule → ℕ
 gate_of rule = rule.gate
 
 -- The demands are those of a file with these definitions at settings s: their net has one variable for each bit of a control valuation; their gates are its
--- obligations 1 to 27, in order, and behind them, where s says that jumps carry their targets, the gate that tells whether they do.
+-- obligations, in order, and behind them, where s says that jumps carry their targets, the gate that tells whether they do.
 pub record DemandsFor (v : Variant) (terms : List Term) (s : Settings) (g : Demands) : Type 0 where
   pub settings : g.settings ≡ s
   pub atoms : List Atom
   pub are : AreAtoms pipe_rows terms atoms
   pub vars : g.net.vars ≡ bit_count + length atoms
-  pub count : length g.want ≡ cond s.tv 28 27
-  pub obligations : (k : ℕ) → k < 27 → IsFormula terms atoms g.net (get_or g.want k 0) (obligation v s atoms (k + 1))
-  pub target : s.tv ≡ true → IsFormula terms atoms g.net (get_or g.want 27 0) (carries v s)
+  pub count : length g.want ≡ cond s.tv (rule_count + 1) rule_count
+  pub obligations : (k : ℕ) → k < rule_count → IsFormula terms atoms g.net (get_or g.want k 0) (obligation v s atoms (k + 1))
+  pub target : s.tv ≡ true → IsFormula terms atoms g.net (get_or g.want rule_count 0) (carries v s)
 
 -- what is demanded of a file is true at every pattern of bits exactly where the file meets its obligations
 abbrev pub DemandsTell : Type 0

@@ -3,7 +3,7 @@ ghost use Rattle.std.specs.Prelude.{◌≡◌, ℕ, ◌<◌, ◌^◌, true, leng
 ghost use Rattle.cert_writer.specs.Nodes.{ArePlain, IsOrder};
 
 use field_bits::Place;
-use pipe_fields::{BIT_COUNT, places};
+use pipe_fields::{BIT_COUNT, FIELD_COUNT, places};
 use std::alloc::Global;
 use y86_base::Memory;
 
@@ -73,7 +73,7 @@ fn ranks_of(alloc: Global, order: &[u32]) -> Result<Option<Vec<u32>>, Memory>
 /// The fields of a control valuation in an order in which the diagrams of PIPE's rules are small: what F, D, E, M and W
 /// hold, stage by stage, and registers last. Atoms stand before them all. With the fields in the order of their numbers
 /// the certificate of `nb.hcl` is twenty times as long.
-const FIELDS: [Place; 40] = [
+const FIELDS: [Place; FIELD_COUNT] = [
     places::F_ERROR,
     places::F_ICODE,
     places::F_IFUN,

@@ -15,9 +15,8 @@ use Rattle.pipe_fields.specs.Layout.{Fields, fields_of}
 use Rattle.pipe_fields.proofs.Told.{in_range}
 use Rattle.pipe_motion.specs.declared.settings.Settings.{Settings}
 use Rattle.pipe_obligations.specs.Rules.{obligation}
-use Rattle.pipe_obligations.specs.Settled.{Decides, Everywhere, IsLeastFalse, Somewhere, Truth, carries, predicts_taken, shows_je, shows_lf, shows_rm}
+use Rattle.pipe_obligations.specs.Settled.{Decides, Everywhere, IsLeastFalse, Somewhere, Truth, carries, predicts_taken, shows_je, shows_lf, shows_rm, PipeControls}
 use Rattle.pipe_obligations.specs.Stages.{view_of}
-use Rattle.pipe_theorem.specs.Theorem.{PipeControls}
 use Rattle.hazard_rules.proofs.Designed.{freed, je_freed, lf_freed, rm_freed}
 use Rattle.control_check.specs.PipeVerdicts.{AcceptsPipe, AreSettings}
 

@@ -18,10 +18,9 @@ use Rattle.ctl_formula.proofs.Solved.{controls_exist}
 use Rattle.pipe_fields.specs.Layout.{bit_count, fields_of, number_of, pattern_of}
 use Rattle.pipe_fields.proofs.Told.{has_pattern, in_range}
 use Rattle.pipe_motion.specs.declared.settings.Settings.{Settings}
-use Rattle.pipe_theorem.specs.Theorem.{PipeControls}
 use Rattle.hazard_rules.specs.Parts.{AreClosed, AreLate, AreRules, IsFormula}
-use Rattle.pipe_obligations.specs.Rules.{obligation}
-use Rattle.pipe_obligations.specs.Settled.{Decides, Everywhere, IsFalseAt, IsLeastFalse, Somewhere, Truth, carries, predicts_taken, shows_je, shows_lf, shows_rm}
+use Rattle.pipe_obligations.specs.Rules.{obligation, rule_count}
+use Rattle.pipe_obligations.specs.Settled.{Decides, Everywhere, IsFalseAt, IsLeastFalse, Somewhere, Truth, carries, predicts_taken, shows_je, shows_lf, shows_rm, PipeControls}
 use Rattle.rule_gates.specs.declared.rules.Rule.{Rule}
 use Rattle.rule_gates.specs.declared.rules.Rules.{Rules}
 use Rattle.verdicts.specs.Decisions.{AreGatesOf, IsAlwaysTrue, IsDecision, IsFirstFalse}
@@ -84,13 +83,13 @@ module _ (v : Variant) (terms : List Term) (atoms : List Atom) (apart : AreApart
 
   -- ---- the rules
 
-  module _ (s : Settings) (list : List Rule) (count : length list ≡ 27) (gates : (k : ℕ) (x : Rule) → slice_get list k ≡ Some x → IsFormula terms atoms net x.gate (obligation v s atoms (k + 1))) where
+  module _ (s : Settings) (list : List Rule) (count : length list ≡ rule_count) (gates : (k : ℕ) (x : Rule) → slice_get list k ≡ Some x → IsFormula terms atoms net x.gate (obligation v s atoms (k + 1))) where
     entry : {A : Type 0} (xs : List A) (k : ℕ) → k < length xs → (x : A) × (slice_get xs k ≡ Some x)
     entry [] k lt = absurd (omega (arith, lt))
     entry (x ∷ xs) zero lt = (x, refl)
     entry (x ∷ xs) (suc k) lt = entry xs k (omega (arith, lt))
 
-    pub holds : ((k : ℕ) (x : Rule) → slice_get list k ≡ Some x → IsAlwaysTrue net x.gate) → (i : ℕ) → 1 ≤ i → i ≤ 27 → Everywhere v atoms (PipeControls terms) (obligation v s atoms i)
+    pub holds : ((k : ℕ) (x : Rule) → slice_get list k ≡ Some x → IsAlwaysTrue net x.gate) → (i : ℕ) → 1 ≤ i → i ≤ rule_count → Everywhere v atoms (PipeControls terms) (obligation v s atoms i)
     holds always i l h =
         let rule = entry list (i - 1) (omega (arith, l, h, count)) in
         let number : i - 1 + 1 ≡ i = omega (arith, l) in

@@ -9,10 +9,9 @@ use Rattle.ctl_atoms.specs.Atoms.{AreAtoms}
 use Rattle.ctl_atoms.specs.declared.leaf.Atom.{Atom}
 use Rattle.pipe_motion.specs.declared.settings.Settings.{Settings}
 use Rattle.pipe_refinement.specs.Refines.{Refines}
-use Rattle.pipe_theorem.specs.Theorem.{PipeControls}
 use Rattle.hazard_rules.specs.Parts.{AreRules}
 use Rattle.rule_gates.specs.declared.rules.Rules.{Rules}
-use Rattle.pipe_obligations.specs.Settled.{Holds, IsLeastFalse, IsSet}
+use Rattle.pipe_obligations.specs.Settled.{Holds, IsLeastFalse, IsSet, PipeControls}
 use Rattle.verdicts.specs.Decisions.{IsAlwaysTrue}
 use Rattle.verdicts.specs.Questions.{IsFault}
 use Rattle.verdicts.specs.declared.fault.CheckFault.{CheckFault}

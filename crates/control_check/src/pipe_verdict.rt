@@ -14,8 +14,9 @@ use bdd_core::{Built, Store};
 use hazard_rules::{Late, Parts, pipe_late, pipe_parts, pipe_rules};
 use hcl_types::{Design, Order};
 use nets::Net;
-use pipe_fields::places;
+use pipe_fields::{BIT_COUNT, places};
 use pipe_motion::Settings;
+use pipe_obligations::RULE_COUNT;
 use rule_gates::{Rule, Rules};
 use std::alloc::Global;
 use verdicts::{CheckFault, Failure, decide, told};
@@ -194,9 +195,9 @@ fn is_register(variable: u32) -> bool {
 /// Where a variable stands in the order in which the diagrams of PIPE's rules are small: kinds first, then atoms, then
 /// the other fields, and registers last.
 fn group_of(variable: u32) -> u32 {
-    if variable < 6 {
+    if variable < places::F_ERROR.first {
         0
-    } else if variable >= 107 {
+    } else if variable >= BIT_COUNT {
         1
     } else if is_register(variable) {
         3
@@ -226,7 +227,7 @@ fn decide_pipe(alloc: Global, net: &Net, list: &[Rule]) -> Result<Option<Failure
     ensures { IfOk result (IsDecision net.now list.now) }
 {
     let order = registers_last(alloc, net.vars())?;
-    if order.len() as u64 == net.vars() as u64 && list.len() <= 27 {
+    if order.len() as u64 == net.vars() as u64 && list.len() <= RULE_COUNT as usize {
         return decide_in_parts(alloc, net, list, order.as_slice());
     }
     decide(alloc, net, list)

@@ -1,5 +1,6 @@
 -- The first index at which a rule is false, and the first rule that is false there.
 use Rattle.std.specs.Prelude.{ℕ, ◌≡◌, ◌-◌, ◌<◌, Bool, true, false, List, [], length, get_or, slice_get, Option, Some, None}
+use Rattle.pipe_fields.specs.Layout.{bit_count}
 use Rattle.nets.specs.Nets.{Gates, truth}
 use Rattle.rule_gates.specs.declared.rules.Rule.{Rule}
 use Rattle.rule_gates.specs.declared.rules.Rules.{Rules}
@@ -13,7 +14,7 @@ AreGatesOf n list = (k : ℕ) (x : Rule) → slice_get list k ≡ Some x → x.g
 
 -- whether a rule is true of valuation i of a seed, drawn for the rules' instruction set and their net's atoms
 abbrev pub holds_drawn : Rules → ℕ → ℕ → Rule → Bool
-holds_drawn r seed i x = truth r.net x.gate (valuation r.variant (r.net.vars - 107) seed i)
+holds_drawn r seed i x = truth r.net x.gate (valuation r.variant (r.net.vars - bit_count) seed i)
 
 -- whether a rule is true in a place of the vectors of all gates
 abbrev pub holds_in : List (List ℕ) → ℕ → Rule → Bool

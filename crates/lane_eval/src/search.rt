@@ -1,5 +1,6 @@
 //! The first rule that is false of a drawn valuation: 512 valuations at once, block after block.
 ghost use Rattle.std.specs.Prelude.{◌≡◌, ◌<◌, ◌≤◌, ◌+◌, ◌-◌, ◌==◌, ℕ, length, slice_get, IfOk};
+ghost use Rattle.pipe_fields.specs.Layout.{bit_count};
 ghost use Rattle.lane_eval.specs.Lanes.{across, along, in_place};
 ghost use Rattle.lane_eval.specs.Search.{AreGatesOf, IsFirstFalse, holds_drawn, holds_in};
 ghost use Rattle.prog_gen.specs.Choices.{valuation};
@@ -22,9 +23,9 @@ pub struct Found {
 
 /// Draws 64 valuations, one after another, into the places of words. The last one is left in `bits`.
 fn draw_words(v: Variant, seed: u64, bits: &mut [bool], words: &mut [u64])
-    requires fields { 107 ≤ length bits.old }
+    requires fields { bit_count ≤ length bits.old }
     requires size { length words.old ≡ length bits.old }
-    ensures { (j : ℕ) → j < 64 → along j words.new ≡ valuation v (length bits.old - 107) seed j }
+    ensures { (j : ℕ) → j < 64 → along j words.new ≡ valuation v (length bits.old - bit_count) seed j }
 {
     for k in 0..64 {
         draw_valuation(v, seed.wrapping_add(k), bits);
@@ -34,10 +35,10 @@ fn draw_words(v: Variant, seed: u64, bits: &mut [bool], words: &mut [u64])
 
 /// Draws 512 valuations, one after another, into the places of vectors.
 fn draw_block(v: Variant, seed: u64, bits: &mut [bool], words: &mut [u64], lanes: &mut [u64x8])
-    requires fields { 107 ≤ length bits.old }
+    requires fields { bit_count ≤ length bits.old }
     requires size { length words.old ≡ length bits.old }
     requires lanes { length lanes.old ≡ length bits.old }
-    ensures { (p : ℕ) → p < 512 → across p lanes.new ≡ valuation v (length bits.old - 107) seed p }
+    ensures { (p : ℕ) → p < 512 → across p lanes.new ≡ valuation v (length bits.old - bit_count) seed p }
 {
     for l in 0..8 {
         draw_words(v, seed.wrapping_add(64 * l), bits, words);
@@ -79,7 +80,7 @@ fn search_block(
     lanes: &mut [u64x8],
     s: &mut Scratch,
 ) -> Option<Found>
-    requires fields { 107 ≤ r.now.net.vars }
+    requires fields { bit_count ≤ r.now.net.vars }
     requires gates { AreGatesOf r.now.net r.now.list }
     requires bits { length bits.old ≡ r.now.net.vars }
     requires words { length words.old ≡ r.now.net.vars }
@@ -103,7 +104,7 @@ fn search_blocks(
     lanes: &mut [u64x8],
     s: &mut Scratch,
 ) -> Option<Found>
-    requires fields { 107 ≤ r.now.net.vars }
+    requires fields { bit_count ≤ r.now.net.vars }
     requires gates { AreGatesOf r.now.net r.now.list }
     requires bits { length bits.old ≡ r.now.net.vars }
     requires words { length words.old ≡ r.now.net.vars }
@@ -148,10 +149,10 @@ fn zeros<T: Copy>(alloc: Global, zero: T, n: u32) -> Result<Vec<T>, Memory>
 }
 
 /// The least index below `count` at whose valuation of `seed` some rule is false, and the first such rule; `None` where there
-/// is none. The rules' net has a variable for each of the 107 bits of a control valuation's fields, and one for each atom.
+/// is none. The rules' net has a variable for each bit of a control valuation's fields, and one for each atom.
 pub fn first_false(alloc: Global, r: &Rules, seed: u64, count: u64) -> Result<Option<Found>, Memory>
-    requires fields { 107 ≤ r.now.net.vars }
-    requires atoms { r.now.net.vars ≤ 107 + 64 }
+    requires fields { bit_count ≤ r.now.net.vars }
+    requires atoms { r.now.net.vars ≤ bit_count + 64 }
     requires gates { AreGatesOf r.now.net r.now.list }
     ensures { IfOk result (IsFirstFalse (holds_drawn r.now seed) r.now.list count) }
 {

@@ -11,6 +11,10 @@ use Rattle.pipe_motion.specs.declared.settings.Settings.{Settings}
 use Rattle.pipe_obligations.specs.Stages.{view_of, legal, is_stopping}
 use Rattle.pipe_obligations.specs.Obligations.{movers_of, o1, o2, o3, o4, o5, o6, o7, o8, o9, o10, o11, o12, o13, o14, o15, o16, o17, o18, o19, o20, o21, o22, o23, o24, o25, o26, o27}
 
+-- how many there are
+abbrev pub rule_count : ℕ
+rule_count = 27
+
 abbrev pub demand : ℕ → Variant → Settings → Fields → View → Movers → Assignment → (ℕ → Leaf) → Bool
 demand i v s c y mv α cv =
     if i == 1 then o1 v s c y mv α cv

@@ -4,20 +4,27 @@ use Rattle.y86_base.specs.declared.parts.Variant.{Variant}
 use Rattle.y86_isa.specs.Table.{row, no_register}
 use Rattle.y86_isa.specs.RowTests.{stores_a}
 use Rattle.nets.specs.Nets.{agree}
+use Rattle.hcl_types.specs.declared.term.Term.{Term}
 use Rattle.ctl_atoms.specs.declared.leaf.Leaf.{Leaf}
 use Rattle.ctl_atoms.specs.declared.leaf.Leaf.TheVariants.{Name}
 use Rattle.ctl_atoms.specs.declared.leaf.Atom.{Atom}
 use Rattle.ctl_atoms.specs.Leaves.{Assignment, AtomsAre}
+use Rattle.ctl_formula.specs.Controls.{AreControls}
 use Rattle.field_bits.specs.Spelling.{set}
 use Rattle.rule_gates.specs.Words.{takes, is_number}
-use Rattle.pipe_fields.specs.Layout.{Fields, InRange, bit_count, fields_of}
+use Rattle.pipe_fields.specs.Layout.{Fields, InRange, bit_count, fields_of, number_of}
 use Rattle.pipe_fields.specs.Allowed.{allowed}
 use Rattle.pipe_motion.specs.Slots.{View, Movers, leaves}
 use Rattle.pipe_motion.specs.declared.settings.Settings.{Settings}
 use Rattle.pipe_obligations.specs.Stages.{fetched_jump, back_told_in_f, view_of, legal, is_stopping}
 use Rattle.pipe_obligations.specs.Obligations.{movers_of, right_after_e, carries_target}
-use Rattle.pipe_obligations.specs.Rules.{obligation}
+use Rattle.pipe_obligations.specs.Rules.{obligation, rule_count}
 use Rattle.dp_signals.specs.PipeNames as signal
+use Rattle.dp_signals.specs.PipeTable.{pipe_rows}
+
+-- the control values of a design for PIPE, at the fields of a valuation and truths of comparisons
+abbrev pub PipeControls : List Term → Fields → Assignment → (ℕ → Leaf) → Type 0
+PipeControls terms c α cv = AreControls pipe_rows terms (number_of c) α cv
 
 -- a truth decides a statement, both ways
 pub record Decides (b : Bool) (P : Type 0) : Type 0 where
@@ -88,7 +95,7 @@ module _ (v : Variant) (atoms : List Atom) (Controls : Fields → Assignment →
 
   -- the obligations hold at these settings, and a jump carries its target where the settings say so
   pub record Holds (s : Settings) : Type 0 where
-    pub obligations : (i : ℕ) → 1 ≤ i → i ≤ 27 → Everywhere (obligation v s atoms i)
+    pub obligations : (i : ℕ) → 1 ≤ i → i ≤ rule_count → Everywhere (obligation v s atoms i)
     pub target : s.tv ≡ true → Everywhere (carries v s)
 
   -- obligation i is false of the valuation that these bits spell
@@ -102,7 +109,7 @@ module _ (v : Variant) (atoms : List Atom) (Controls : Fields → Assignment →
   -- the first obligation that is false of some valuation, and the least such valuation in the order of the variables, 0 before 1
   pub record IsLeastFalse (s : Settings) (i : ℕ) (w : List Bool) : Type 0 where
     pub first : 1 ≤ i
-    pub last : i ≤ 27
+    pub last : i ≤ rule_count
     pub size : length w ≡ bit_count + length atoms
     pub fails : IsFalseAt s i w
     pub least_rule : (j : ℕ) → 1 ≤ j → j < i → (u : List Bool) → length u ≡ bit_count + length atoms → IsFalseAt s j u → ⊥

@@ -17,7 +17,7 @@ use Rattle.dp_signals.specs.Equations.{rule_of, term_value}
 use Rattle.dp_signals.specs.PipeEquations.{Solves, block, constants, given, state_words}
 use Rattle.dp_signals.specs.PipeNames as name
 use Rattle.dp_signals.specs.PipeTable.{pipe_defined, pipe_hardware, pipe_rows, pipe_state}
-use Rattle.dp_signals.specs.Tables.{constant_rows}
+use Rattle.dp_signals.specs.Tables.{constant_count, constant_rows}
 use Rattle.dp_signals.specs.declared.pipe_state.PipeState.{PipeState}
 use Rattle.dp_signals.proofs.PipeRules.{length-given, length-pipe_rows}
 use Rattle.dp_signals.proofs.Rules.{definition_rule}
@@ -52,28 +52,28 @@ number_tests (suc n) q h k lt = elim (cases_eq k n) [
 some_none : {A : Type 0} (a : A) → Some a ≡ None → ⊥
 some_none a h = cc
 
--- ---- what a file defines stands behind the first 76 rows, in table order
+-- ---- what a file defines stands behind the other rows, in table order
 
 row_defined : Option Row → Bool
 row_defined None = false
 row_defined (Some r) = is_defined r.role
 
-definitions_there : each_number 115 (λ n. not (row_defined (slice_get pipe_rows n)) || (nat_le 76 n && (length (defined (take n pipe_rows)) + 76 == n))) ≡ true
+definitions_there : each_number name.count (λ n. not (row_defined (slice_get pipe_rows n)) || (nat_le name.defined n && (length (defined (take n pipe_rows)) + name.defined == n))) ≡ true
 unfolding pipe_rows constant_rows pipe_state pipe_hardware pipe_defined each_number row_defined
 definitions_there = refl
 
-thirty_nine : length (defined pipe_rows) ≡ 39
+defined_count : length (defined pipe_rows) ≡ name.count - name.defined
 unfolding pipe_rows constant_rows pipe_state pipe_hardware pipe_defined
-thirty_nine = refl
+defined_count = refl
 
-inside : (n : ℕ) (r : Row) → slice_get pipe_rows n ≡ Some r → n < 115
-inside n r e = elim (cases_lt n 115) [
+inside : (n : ℕ) (r : Row) → slice_get pipe_rows n ≡ Some r → n < name.count
+inside n r e = elim (cases_lt n name.count) [
   | inl lt ↦ lt
   | inr le ↦ absurd (some_none r (sym e ∙ slice_get_past pipe_rows n (omega (arith, le, length-pipe_rows))))
 ]
 
-outside : (n : ℕ) → slice_get pipe_rows n ≡ None → 115 ≤ n
-outside n e = elim (cases_lt n 115) [
+outside : (n : ℕ) → slice_get pipe_rows n ≡ None → name.count ≤ n
+outside n e = elim (cases_lt n name.count) [
   | inl lt ↦ absurd (some_none _ (sym (slice_get-get_or pipe_rows n (record { name = []; class = class.Number; role = role.State }) (omega (arith, lt, length-pipe_rows))) ∙ e))
   | inr le ↦ le
 ]
@@ -82,30 +82,30 @@ pub implied : (a b : Bool) → not a || b ≡ true → a ≡ true → b ≡ true
 implied true b h e = h
 implied false b h e = cc
 
-place_of_defined : (n : ℕ) (r : Row) → slice_get pipe_rows n ≡ Some r → is_defined r.role ≡ true → (76 ≤ n) × (length (defined (take n pipe_rows)) + 76 ≡ n)
+place_of_defined : (n : ℕ) (r : Row) → slice_get pipe_rows n ≡ Some r → is_defined r.role ≡ true → (name.defined ≤ n) × (length (defined (take n pipe_rows)) + name.defined ≡ n)
 unfolding row_defined
 place_of_defined n r e d =
-    let test = number_tests 115 (λ i. not (row_defined (slice_get pipe_rows i)) || (nat_le 76 i && (length (defined (take i pipe_rows)) + 76 == i))) definitions_there n (inside n r e) in
+    let test = number_tests name.count (λ i. not (row_defined (slice_get pipe_rows i)) || (nat_le name.defined i && (length (defined (take i pipe_rows)) + name.defined == i))) definitions_there n (inside n r e) in
     let there : row_defined (slice_get pipe_rows n) ≡ true = ap row_defined e ∙ d in
-    let both = and_parts (nat_le 76 n) (length (defined (take n pipe_rows)) + 76 == n) (implied (row_defined (slice_get pipe_rows n)) (nat_le 76 n && (length (defined (take n pipe_rows)) + 76 == n)) test there) in
-    (leb-true 76 n both.0, eqb-true _ _ both.1)
+    let both = and_parts (nat_le name.defined n) (length (defined (take n pipe_rows)) + name.defined == n) (implied (row_defined (slice_get pipe_rows n)) (nat_le name.defined n && (length (defined (take n pipe_rows)) + name.defined == n)) test there) in
+    (leb-true name.defined n both.0, eqb-true _ _ both.1)
 
 module _ (v : Variant) (terms : List Term) (p : PipeState) (f : ℕ → ℕ) (s : Solves v terms p f) (bound : IsBound pipe_rows terms) where
-  total : length terms ≡ 39
-  total = bound.whole ∙ thirty_nine
+  total : length terms ≡ name.count - name.defined
+  total = bound.whole ∙ defined_count
 
-  defined_word : (n k : ℕ) → k + 76 ≡ n → k < 39 → f n ≡ value words f (term_at terms k)
+  defined_word : (n k : ℕ) → k + name.defined ≡ n → k < (name.count - name.defined) → f n ≡ value words f (term_at terms k)
   defined_word n k e lt =
-      let index : n - 76 ≡ k = omega (arith, e) in
+      let index : n - name.defined ≡ k = omega (arith, e) in
       s n
       ∙ (definition_rule (given p) name.f_pc (block v p) terms n f (omega (arith, e, length-given p)) (omega (arith, e))
       ∙ (rw (index, slice_get-get_or terms k (Num 0) (omega (arith, lt, total))) refl))
 
-  past_word : (n : ℕ) → 115 ≤ n → f n ≡ 0
+  past_word : (n : ℕ) → name.count ≤ n → f n ≡ 0
   past_word n le =
       s n
       ∙ (definition_rule (given p) name.f_pc (block v p) terms n f (omega (arith, le, length-given p)) (omega (arith, le))
-      ∙ ap (λ o. term_value o f) (slice_get_past terms (n - 76) (omega (arith, le, total))))
+      ∙ ap (λ o. term_value o f) (slice_get_past terms (n - name.defined) (omega (arith, le, total))))
 
   pub defined_by : IsDefinedBy pipe_rows terms f
   defined_by = record {
@@ -132,15 +132,15 @@ inputs_at : Option Row → List ℕ
 inputs_at None = []
 inputs_at (Some r) = inputs r.role
 
-constants_there : each_number 33 (λ n. constant_at (slice_get pipe_rows n) (get_or constants n 0)) ≡ true
+constants_there : each_number constant_count (λ n. constant_at (slice_get pipe_rows n) (get_or constants n 0)) ≡ true
 unfolding pipe_rows constant_rows pipe_state pipe_hardware pipe_defined constants each_number constant_at is_constant
 constants_there = refl
 
-thirty_three : length constants ≡ 33
+constants_count : length constants ≡ constant_count
 unfolding constants
-thirty_three = refl
+constants_count = refl
 
-all_defined : each_number 39 (λ k. row_defined (slice_get pipe_rows (name.f_pc + k))) ≡ true
+all_defined : each_number (name.count - name.defined) (λ k. row_defined (slice_get pipe_rows (name.f_pc + k))) ≡ true
 unfolding pipe_rows constant_rows pipe_state pipe_hardware pipe_defined each_number row_defined
 all_defined = refl
 
@@ -187,16 +187,16 @@ module _ (x : Given) (terms : List Term) (c : Config) (p : PipeState) (f : ℕ �
   Step : ℕ → Type 0
   Step n = Each (λ m. worth f (cv m) ≡ f m) (inputs_at (slice_get pipe_rows n)) → worth f (row_leaf numbers n (slice_get pipe_rows n) (Number 0)) ≡ f n
 
-  given_word : (n : ℕ) → n < 65 → f n ≡ get_or (given p) n 0
+  given_word : (n : ℕ) → n < name.hardware → f n ≡ get_or (given p) n 0
   unfolding given constants state_words rule_of
-  given_word n lt = s n ∙ (rw (lt-ltb n 65 lt) refl)
+  given_word n lt = s n ∙ (rw (lt-ltb n name.hardware lt) refl)
 
-  at_constant : (n : ℕ) → n < 33 → Step n
+  at_constant : (n : ℕ) → n < constant_count → Step n
   unfolding Step given
   at_constant n lt = λ a.
-      let there = number_tests 33 (λ i. constant_at (slice_get pipe_rows i) (get_or constants i 0)) constants_there n lt in
+      let there = number_tests constant_count (λ i. constant_at (slice_get pipe_rows i) (get_or constants i 0)) constants_there n lt in
       ap (worth f) (constant_leaf numbers n (get_or constants n 0) (slice_get pipe_rows n) there)
-      ∙ sym (given_word n (omega (arith, lt)) ∙ get_or_append_left constants (state_words p) 0 n (omega (arith, lt, thirty_three)))
+      ∙ sym (given_word n (omega (arith, lt)) ∙ get_or_append_left constants (state_words p) 0 n (omega (arith, lt, constants_count)))
 
   at_signal : (n : ℕ) → name.D_stat ≤ n → n < name.f_pc → Step n
   unfolding Step numbers inputs_at pipe_rows constant_rows pipe_state pipe_hardware pipe_defined number_of fields_at f_line rule_of given constants state_words
@@ -248,7 +248,7 @@ module _ (x : Given) (terms : List Term) (c : Config) (p : PipeState) (f : ℕ �
 
   step : (n : ℕ) (r : Row) → slice_get pipe_rows n ≡ Some r → is_defined r.role ≡ false → Step n
   unfolding row_defined
-  step n r e d = elim (cases_lt n 33) [
+  step n r e d = elim (cases_lt n constant_count) [
     | inl lt ↦ at_constant n lt
     | inr le ↦ elim (cases_lt n name.f_pc) [
       | inl lt ↦ at_signal n le lt
@@ -260,7 +260,7 @@ module _ (x : Given) (terms : List Term) (c : Config) (p : PipeState) (f : ℕ �
       is_so above =
           let same : name.f_pc + (n - name.f_pc) ≡ n = omega (arith, above) in
           sym (ap row_defined (ap (slice_get pipe_rows) same ∙ e))
-          ∙ number_tests 39 (λ k. row_defined (slice_get pipe_rows (name.f_pc + k))) all_defined (n - name.f_pc) (omega (arith, above, inside n r e))
+          ∙ number_tests (name.count - name.defined) (λ k. row_defined (slice_get pipe_rows (name.f_pc + k))) all_defined (n - name.f_pc) (omega (arith, above, inside n r e))
 
   pub worth_given : AreControls pipe_rows terms (number_of (fields_at x c p f (f_line x c f))) (real f) cv → IsWorthGiven pipe_rows f cv
   unfolding Step numbers inputs_at

@@ -29,7 +29,7 @@ use Rattle.pipe_motion.specs.Predictions.{predicts}
 use Rattle.pipe_motion.specs.Slots.{Movers}
 use Rattle.pipe_fields.specs.Layout.{FetchLine}
 use Rattle.pipe_obligations.specs.Obligations.{carries_target, code_of, fetched as fetched_at, movers_of, predicted_leaf, right_value as right_leaf, takes_right}
-use Rattle.pipe_obligations.specs.Rules.{demand}
+use Rattle.pipe_obligations.specs.Rules.{demand, rule_count}
 use Rattle.pipe_obligations.specs.Settled.{carries}
 use Rattle.pipe_obligations.specs.Stages.{is_jump, is_ret, misses, slot_by, stops_by}
 use Rattle.pipe_refinement.specs.Facts.{AccessFacts, AddressIs, AlwaysFacts, DecodeFacts, ExecuteFacts, FetchFacts, MemoryFacts, WriteFacts, exempt, late_dst_e, leaves_d, predicted_pc, right_value}
@@ -97,7 +97,7 @@ abbrev pub Asks : Given → Config → PipeState → (ℕ → ℕ) → FetchLine
 Asks x c p f l mv cv i = demand i x.v x.s (fields_at x c p f l) (view_of x c) mv (real f) cv ≡ true
 
 abbrev pub AllAsked : Given → Config → PipeState → (ℕ → ℕ) → FetchLine → Movers → (ℕ → Leaf) → Type 0
-AllAsked x c p f l mv cv = (i : ℕ) → 1 ≤ i → i ≤ 27 → Asks x c p f l mv cv i
+AllAsked x c p f l mv cv = (i : ℕ) → 1 ≤ i → i ≤ rule_count → Asks x c p f l mv cv i
 
 -- ---- access to memory, with the agreement of one name alone
 module _ (x : Given) (c : Config) (p : PipeState) (f : ℕ → ℕ) (l : FetchLine) (cv : ℕ → Leaf) (st : PipeHolds p f) (mv : Movers) where

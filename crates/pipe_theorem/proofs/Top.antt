@@ -19,15 +19,14 @@ use Rattle.dp_signals.proofs.PipeRows.{pipe_hardware_rows, pipe_holds}
 use Rattle.ctl_atoms.specs.Leaves.{Assignment}
 use Rattle.ctl_atoms.specs.declared.leaf.Atom.{Atom}
 use Rattle.ctl_atoms.specs.declared.leaf.Leaf.{Leaf}
-use Rattle.ctl_formula.specs.Controls.{AreControls}
 use Rattle.ctl_formula.specs.Laws.{HasControls, real, worth}
 use Rattle.ctl_formula.proofs.Solved.{controls_exist}
 use Rattle.pipe_motion.specs.Slots.{lawful}
 use Rattle.pipe_fields.specs.Allowed.{allowed}
 use Rattle.pipe_fields.specs.Layout.{Fields, InRange, number_of}
 use Rattle.pipe_obligations.specs.Obligations.{carries_target, fetch_good, fetched as fetched_at, movers_of}
-use Rattle.pipe_obligations.specs.Rules.{demand, demand_at, is_always, is_asked}
-use Rattle.pipe_obligations.specs.Settled.{Holds, carries}
+use Rattle.pipe_obligations.specs.Rules.{demand, demand_at, is_always, is_asked, rule_count}
+use Rattle.pipe_obligations.specs.Settled.{Holds, PipeControls, carries}
 use Rattle.pipe_obligations.specs.Stages.{back_is_told, is_stopping, legal, no_source_waits, view_of as view_at}
 use Rattle.pipe_refinement.specs.Facts.{AccessFacts, AddressIs, AlwaysFacts, CycleFacts, FetchFacts, MemoryFacts}
 use Rattle.pipe_refinement.specs.Invariant.{Given, Inv, slot_of, view_of}
@@ -55,11 +54,8 @@ stopping_by Good stat h = rw (h refl) refl
 abbrev pub the_fields : Given → Config → PipeState → (ℕ → ℕ) → Fields
 the_fields x c p f = fields_at x c p f (f_line x c f)
 
-abbrev pub the_controls : List Term → Fields → Assignment → (ℕ → Leaf) → Type 0
-the_controls terms c α cv = AreControls pipe_rows terms (number_of c) α cv
-
 module _ (x : Given) (terms : List Term) (ids : List ℕ) (atoms : List Atom) (bound : IsBound pipe_rows terms) (order : IsOrderOf pipe_rows terms ids)
-    (holds : Holds x.v atoms (the_controls terms) x.s) (n : ℕ) (image : IsImage x.image) (pure : Pure x.v x.image n) where
+    (holds : Holds x.v atoms (PipeControls terms) x.s) (n : ℕ) (image : IsImage x.image) (pure : Pure x.v x.image n) where
   module _ (t : ℕ) (c : Config) (p : PipeState) (rs : List Rec) (f : ℕ → ℕ) (lt : t < n) (i : Inv x t c p rs) (s : Solves x.v terms p f) where
     st : PipeHolds p f
     st = pipe_holds x.v terms p f s
@@ -97,7 +93,7 @@ module _ (x : Given) (terms : List Term) (ids : List ℕ) (atoms : List Atom) (b
     cv : ℕ → Leaf
     cv = has.0
 
-    controls : the_controls terms (the_fields x c p f) (real f) cv
+    controls : PipeControls terms (the_fields x c p f) (real f) cv
     unfolding cv
     controls = has.1
 
@@ -105,7 +101,7 @@ module _ (x : Given) (terms : List Term) (ids : List ℕ) (atoms : List Atom) (b
     ranges = in_range x t c p f rs image i b
 
     -- what is asked: always, or where the cycle isn't stopping
-    asked_if : (j : ℕ) → 1 ≤ j → j ≤ 27 → (is_always j || not (is_stopping (the_fields x c p f))) ≡ true → demand_at x.v x.s j (the_fields x c p f) (real f) cv ≡ true
+    asked_if : (j : ℕ) → 1 ≤ j → j ≤ rule_count → (is_always j || not (is_stopping (the_fields x c p f))) ≡ true → demand_at x.v x.s j (the_fields x c p f) (real f) cv ≡ true
     unfolding is_asked
     asked_if j ge le h =
         implied (is_asked x.v x.s atoms j (the_fields x c p f) (real f)) (demand_at x.v x.s j (the_fields x c p f) (real f) cv)
@@ -114,7 +110,7 @@ module _ (x : Given) (terms : List Term) (ids : List ℕ) (atoms : List Atom) (b
         (all_fit x t c p f rs image i b)
         (and_from (legal x.v x.s atoms (the_fields x c p f) (real f)) (is_always j || not (is_stopping (the_fields x c p f))) is_legal h))
 
-    demanded : (j : ℕ) → 1 ≤ j → j ≤ 27 → (is_always j || not (is_stopping (the_fields x c p f))) ≡ true → Asks x c p f (f_line x c f) (movers_of (real f) cv) cv j
+    demanded : (j : ℕ) → 1 ≤ j → j ≤ rule_count → (is_always j || not (is_stopping (the_fields x c p f))) ≡ true → Asks x c p f (f_line x c f) (movers_of (real f) cv) cv j
     unfolding demand_at
     demanded j ge le h =
         sym (ap (λ y. demand j x.v x.s (the_fields x c p f) y (movers_of (real f) cv) (real f) cv) view) ∙ asked_if j ge le h

@@ -6,17 +6,9 @@ use Rattle.hcl_types.specs.declared.term.Term.{Term}
 use Rattle.hcl_types.specs.Tables.{IsBound, IsOrderOf}
 use Rattle.dp_signals.specs.PipeTable.{pipe_rows}
 use Rattle.ctl_atoms.specs.declared.leaf.Atom.{Atom}
-use Rattle.ctl_atoms.specs.declared.leaf.Leaf.{Leaf}
-use Rattle.ctl_atoms.specs.Leaves.{Assignment}
-use Rattle.ctl_formula.specs.Controls.{AreControls}
-use Rattle.pipe_fields.specs.Layout.{Fields, number_of}
 use Rattle.pipe_motion.specs.declared.settings.Settings.{Settings}
-use Rattle.pipe_obligations.specs.Settled.{Holds}
+use Rattle.pipe_obligations.specs.Settled.{Holds, PipeControls}
 use Rattle.pipe_refinement.specs.Refines.{Refines}
-
--- the control values of a design for PIPE, at the fields of a valuation and truths of comparisons
-abbrev pub PipeControls : List Term → Fields → Assignment → (ℕ → Leaf) → Type 0
-PipeControls terms c α cv = AreControls pipe_rows terms (number_of c) α cv
 
 -- every obligation holds of the design at the settings, in every valuation in which its control values solve their equations; and
 -- a jump carries its target where the settings say so

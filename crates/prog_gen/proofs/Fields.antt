@@ -7,7 +7,7 @@ use Rattle.y86_base.specs.declared.parts.Variant.{Variant}
 use Rattle.field_bits.specs.Spelling.{spell}
 use Rattle.field_bits.specs.declared.spots.Spot.{Spot}
 use Rattle.field_bits.specs.Spots.{pattern, total}
-use Rattle.pipe_fields.specs.Layout.{spots}
+use Rattle.pipe_fields.specs.Layout.{spots, bit_count, field_count}
 use Rattle.prog_gen.specs.Choices.{with_field, width, numbers_drawn, word_behind, truths_drawn, chosen, choices, valuation_from}
 use Rattle.prog_gen.specs.Draws.{advanced, given}
 
@@ -99,22 +99,22 @@ truths_end out k n word h none =
     ap (λ (m : ℕ). take k out ++ truths_drawn m word) zero_left ∙ (append-nil (take k out) ∙ take_all k out h)
 
 -- one more field is drawn
-pub number_more : (v : Variant) (numbers : List ℕ) (j word after n : ℕ) → j < 40 → j < length numbers → after ≡ advanced word
+pub number_more : (v : Variant) (numbers : List ℕ) (j word after n : ℕ) → j < field_count → j < length numbers → after ≡ advanced word
     → n ≡ chosen (choices v (take j numbers)) (given after)
-    → numbers_drawn v (40 - (j + 1)) (take (j + 1) (set numbers j n)) after ≡ numbers_drawn v (40 - j) (take j numbers) word
+    → numbers_drawn v (field_count - (j + 1)) (take (j + 1) (set numbers j n)) after ≡ numbers_drawn v (field_count - j) (take j numbers) word
 unfolding numbers_drawn
 number_more v numbers j word after n within h e is =
-    let left : 40 - j ≡ suc (40 - (j + 1)) = omega arith in
-    ap (λ (xs : List ℕ). numbers_drawn v (40 - (j + 1)) xs after) (take_more_set numbers j n h)
-    ∙ (ap (λ (x : ℕ). numbers_drawn v (40 - (j + 1)) (take j numbers ++ x ∷ []) after) is
-    ∙ (ap (λ (w : ℕ). numbers_drawn v (40 - (j + 1)) (take j numbers ++ chosen (choices v (take j numbers)) (given w) ∷ []) w) e
+    let left : field_count - j ≡ suc (field_count - (j + 1)) = omega arith in
+    ap (λ (xs : List ℕ). numbers_drawn v (field_count - (j + 1)) xs after) (take_more_set numbers j n h)
+    ∙ (ap (λ (x : ℕ). numbers_drawn v (field_count - (j + 1)) (take j numbers ++ x ∷ []) after) is
+    ∙ (ap (λ (w : ℕ). numbers_drawn v (field_count - (j + 1)) (take j numbers ++ chosen (choices v (take j numbers)) (given w) ∷ []) w) e
     ∙ ap (λ (m : ℕ). numbers_drawn v m (take j numbers) word) (sym left)))
 
-pub word_more : (j word after : ℕ) → j < 40 → after ≡ advanced word → word_behind (40 - (j + 1)) after ≡ word_behind (40 - j) word
+pub word_more : (j word after : ℕ) → j < field_count → after ≡ advanced word → word_behind (field_count - (j + 1)) after ≡ word_behind (field_count - j) word
 unfolding word_behind
 word_more j word after within e =
-    let left : 40 - j ≡ suc (40 - (j + 1)) = omega arith in
-    ap (word_behind (40 - (j + 1))) e ∙ ap (λ (m : ℕ). word_behind m word) (sym left)
+    let left : field_count - j ≡ suc (field_count - (j + 1)) = omega arith in
+    ap (word_behind (field_count - (j + 1))) e ∙ ap (λ (m : ℕ). word_behind m word) (sym left)
 
 pub length_spell : (k n : ℕ) → length (spell k n) ≡ k
 unfolding spell
@@ -149,16 +149,16 @@ field_behind out first k n m h room =
     ∙ (ap (drop (m - (first + k))) (drop-append-le (first + k) front rest (omega (arith, size)) ∙ ap (λ (xs : List Bool). xs ++ rest) (drop_all (first + k) front (omega (arith, size))))
     ∙ (drop-drop (m - (first + k)) (first + k) out ∙ ap (λ (i : ℕ). drop i out) e))))
 
-pub all_words : (j word last : ℕ) → 40 ≤ j → word_behind (40 - j) word ≡ last → word ≡ last
+pub all_words : (j word last : ℕ) → field_count ≤ j → word_behind (field_count - j) word ≡ last → word ≡ last
 unfolding word_behind
 all_words j word last h e =
-    let none_left : 40 - j ≡ 0 = omega arith in
+    let none_left : field_count - j ≡ 0 = omega arith in
     sym (ap (λ (m : ℕ). word_behind m word) none_left) ∙ e
 
-pub all_numbers : (v : Variant) (j word : ℕ) (numbers last : List ℕ) → 40 ≤ j → numbers_drawn v (40 - j) numbers word ≡ last → numbers ≡ last
+pub all_numbers : (v : Variant) (j word : ℕ) (numbers last : List ℕ) → field_count ≤ j → numbers_drawn v (field_count - j) numbers word ≡ last → numbers ≡ last
 unfolding numbers_drawn
 all_numbers v j word numbers last h e =
-    let none_left : 40 - j ≡ 0 = omega arith in
+    let none_left : field_count - j ≡ 0 = omega arith in
     sym (ap (λ (m : ℕ). numbers_drawn v m numbers word) none_left) ∙ e
 
 length_pattern : (ss : List Spot) (xs : List ℕ) → length ss ≡ length xs → length (pattern ss xs []) ≡ total ss
@@ -175,13 +175,13 @@ length_drawn v (suc k) before word =
     omega (arith, length_drawn v k (before ++ n ∷ []) (advanced word), length_push before n)
 
 -- the fields are drawn, and truths behind them
-pub drawn_whole : (v : Variant) (word after atoms : ℕ) (fields old out : List Bool) → fields ≡ pattern spots (numbers_drawn v 40 [] word) [] ++ drop 107 old
-    → after ≡ word_behind 40 word → out ≡ take 107 fields ++ truths_drawn atoms after → out ≡ valuation_from v atoms word
+pub drawn_whole : (v : Variant) (word after atoms : ℕ) (fields old out : List Bool) → fields ≡ pattern spots (numbers_drawn v field_count [] word) [] ++ drop bit_count old
+    → after ≡ word_behind field_count word → out ≡ take bit_count fields ++ truths_drawn atoms after → out ≡ valuation_from v atoms word
 unfolding valuation_from
 drawn_whole v word after atoms fields old out front e whole =
-    let numbers : List ℕ = numbers_drawn v 40 [] word in
+    let numbers : List ℕ = numbers_drawn v field_count [] word in
     let bits : List Bool = pattern spots numbers [] in
-    let count : length spots ≡ length numbers = omega (arith, length_drawn v 40 [] word) in
-    let size : length bits ≡ 107 = length_pattern spots numbers count in
-    let kept : take 107 fields ≡ bits = ap (take 107) front ∙ (take-append-le 107 bits (drop 107 old) (omega (arith, size)) ∙ take_all 107 bits (omega (arith, size))) in
-    whole ∙ (ap (λ (xs : List Bool). xs ++ truths_drawn atoms after) kept ∙ (ap (λ (w : ℕ). bits ++ truths_drawn atoms w) e ∙ sym (pattern_behind spots numbers (truths_drawn atoms (word_behind 40 word)) count)))
+    let count : length spots ≡ length numbers = omega (arith, length_drawn v field_count [] word) in
+    let size : length bits ≡ bit_count = length_pattern spots numbers count in
+    let kept : take bit_count fields ≡ bits = ap (take bit_count) front ∙ (take-append-le bit_count bits (drop bit_count old) (omega (arith, size)) ∙ take_all bit_count bits (omega (arith, size))) in
+    whole ∙ (ap (λ (xs : List Bool). xs ++ truths_drawn atoms after) kept ∙ (ap (λ (w : ℕ). bits ++ truths_drawn atoms w) e ∙ sym (pattern_behind spots numbers (truths_drawn atoms (word_behind field_count word)) count)))

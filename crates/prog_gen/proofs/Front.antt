@@ -11,7 +11,7 @@ use Rattle.std.proofs.Math.Seq.{get_or-append_seam}
 use Rattle.y86_base.specs.declared.parts.Variant.{Variant}
 use Rattle.field_bits.specs.Spots as table
 use Rattle.field_bits.specs.declared.spots.Spot.{Spot}
-use Rattle.pipe_fields.specs.Layout.{Fields, InRange, fields_by, fields_of, numbers, pattern_of, spots}
+use Rattle.pipe_fields.specs.Layout.{Fields, InRange, fields_by, fields_of, numbers, pattern_of, spots, field_count}
 use Rattle.pipe_fields.specs.Allowed.{allowed}
 use Rattle.pipe_fields.proofs.Told.{has_pattern}
 use Rattle.prog_gen.specs.Choices.{AreChosen, choices, chosen, may_stand, numbers_drawn, truths_drawn, valuation, valuation_from, width, word_behind}
@@ -25,16 +25,16 @@ use Rattle.prog_gen.proofs.Witness.{Some_below, witness}
 
 -- each number is one of its field's, and may stand behind those before it
 pub record IsFront (v : Variant) (xs : List ℕ) : Type 0 where
-  pub most : length xs ≤ 40
+  pub most : length xs ≤ field_count
   pub chosen : AreChosen v xs
   pub small : (j : ℕ) → j < length xs → get_or xs j 0 < 2 ^ width j
 
 -- ---- numbers as fields and back
 
-entries : (xs : List ℕ) (j : ℕ) → j < 40 → get_or (numbers (fields_by xs)) j 0 ≡ get_or xs j 0
+entries : (xs : List ℕ) (j : ℕ) → j < field_count → get_or (numbers (fields_by xs)) j 0 ≡ get_or xs j 0
 entries xs = forty (λ j. get_or (numbers (fields_by xs)) j 0 ≡ get_or xs j 0) refl refl refl refl refl refl refl refl refl refl refl refl refl refl refl refl refl refl refl refl refl refl refl refl refl refl refl refl refl refl refl refl refl refl refl refl refl refl refl refl
 
-count : (c : Fields) → length (numbers c) ≡ 40
+count : (c : Fields) → length (numbers c) ≡ field_count
 count c = refl
 
 taken_same : (xs ys : List ℕ) (k : ℕ) → k ≤ length xs → k ≤ length ys → ((j : ℕ) → j < k → get_or xs j 0 ≡ get_or ys j 0) → take k xs ≡ take k ys
@@ -44,11 +44,11 @@ taken_same xs ys k hx hy same =
     ext_get_or 0 (take k xs) (take k ys) (lx ∙ sym ly)
     (λ j h. let lt : j < k = omega (arith, h, lx) in get_or-take k xs j 0 lt ∙ (same j lt ∙ sym (get_or-take k ys j 0 lt)))
 
-front_taken : (xs : List ℕ) (k : ℕ) → k ≤ length xs → length xs ≤ 40 → take k (numbers (fields_by xs)) ≡ take k xs
+front_taken : (xs : List ℕ) (k : ℕ) → k ≤ length xs → length xs ≤ field_count → take k (numbers (fields_by xs)) ≡ take k xs
 front_taken xs k h most =
     taken_same (numbers (fields_by xs)) xs k (omega (arith, h, most, count (fields_by xs))) h (λ j lt. entries xs j (omega (arith, lt, h, most)))
 
-whole_numbers : (xs : List ℕ) → length xs ≡ 40 → numbers (fields_by xs) ≡ xs
+whole_numbers : (xs : List ℕ) → length xs ≡ field_count → numbers (fields_by xs) ≡ xs
 whole_numbers xs size = ext_get_or 0 (numbers (fields_by xs)) xs (count (fields_by xs) ∙ sym size) (λ j h. entries xs j (omega (arith, h, count (fields_by xs))))
 
 taken_twice : (xs : List ℕ) (j k : ℕ) → j ≤ k → k ≤ length xs → take j (take k xs) ≡ take j xs
@@ -57,7 +57,7 @@ taken_twice xs j k h room =
 
 -- ---- one more number
 
-pub front_more : (v : Variant) (xs : List ℕ) (n : ℕ) → IsFront v xs → length xs < 40 → n < 2 ^ width (length xs) → may_stand v (length xs) (fields_by xs) n ≡ true → IsFront v (xs ++ n ∷ [])
+pub front_more : (v : Variant) (xs : List ℕ) (n : ℕ) → IsFront v xs → length xs < field_count → n < 2 ^ width (length xs) → may_stand v (length xs) (fields_by xs) n ≡ true → IsFront v (xs ++ n ∷ [])
 front_more v xs n f room small may = record {
   most = omega (arith, room, longer);
   chosen = λ j h. at j (omega (arith, h, longer));
@@ -94,7 +94,7 @@ front_more v xs n f room small may = record {
             subst (λ (m : ℕ). m < 2 ^ width j) (sym (get_or-append xs (n ∷ []) 0 j lt)) (f.small j lt)
 
 -- another number may stand behind them
-pub front_next : (v : Variant) (xs : List ℕ) → IsFront v xs → length xs < 40 → Some_below (2 ^ width (length xs)) (may_stand v (length xs) (fields_by xs))
+pub front_next : (v : Variant) (xs : List ℕ) → IsFront v xs → length xs < field_count → Some_below (2 ^ width (length xs)) (may_stand v (length xs) (fields_by xs))
 front_next v xs f room =
     let some = witness v (fields_by xs) (length xs) room before in
     record {
@@ -111,13 +111,13 @@ front_next v xs f room =
 -- so many more numbers make all forty
 pub record IsFilled (v : Variant) (xs ys : List ℕ) : Type 0 where
   pub front : IsFront v ys
-  pub size : length ys ≡ 40
+  pub size : length ys ≡ field_count
   pub begins : take (length xs) ys ≡ xs
 
 longer_by_one : (xs : List ℕ) (n : ℕ) → length (xs ++ n ∷ []) ≡ length xs + 1
 longer_by_one xs n = length-append xs (n ∷ []) ∙ refl
 
-filled_back : (v : Variant) (xs ys : List ℕ) (n : ℕ) → length xs < 40 → IsFilled v (xs ++ n ∷ []) ys → IsFilled v xs ys
+filled_back : (v : Variant) (xs ys : List ℕ) (n : ℕ) → length xs < field_count → IsFilled v (xs ++ n ∷ []) ys → IsFilled v xs ys
 filled_back v xs ys n room f = record {
   front = f.front;
   size = f.size;
@@ -126,10 +126,10 @@ filled_back v xs ys n room f = record {
       ∙ (take-append-le (length xs) xs (n ∷ []) (omega arith) ∙ take_all (length xs) xs (omega arith)));
 }
 
-pub fill : (k : ℕ) (v : Variant) (xs : List ℕ) → length xs + k ≡ 40 → IsFront v xs → (ys : List ℕ) × IsFilled v xs ys
+pub fill : (k : ℕ) (v : Variant) (xs : List ℕ) → length xs + k ≡ field_count → IsFront v xs → (ys : List ℕ) × IsFilled v xs ys
 fill zero v xs size f = (xs, record { front = f; size = omega (arith, size); begins = take_all (length xs) xs (omega arith) })
 fill (suc k) v xs size f =
-    let room : length xs < 40 = omega (arith, size) in
+    let room : length xs < field_count = omega (arith, size) in
     let some = front_next v xs f room in
     let rest = fill k v (xs ++ some.n ∷ []) (omega (arith, size, longer_by_one xs some.n)) (front_more v xs some.n f room some.small some.may_be) in
     (rest.0, filled_back v xs rest.0 some.n room rest.1)
@@ -153,7 +153,7 @@ pub record IsLawful (v : Variant) (xs : List ℕ) : Type 0 where
   pub range : InRange (fields_by xs)
   pub lawful : allowed v (fields_by xs) ≡ true
 
-pub whole_lawful : (v : Variant) (xs : List ℕ) → IsFront v xs → length xs ≡ 40 → IsLawful v xs
+pub whole_lawful : (v : Variant) (xs : List ℕ) → IsFront v xs → length xs ≡ field_count → IsLawful v xs
 whole_lawful v xs f size =
     let e = whole_numbers xs size in
     record {
@@ -164,11 +164,11 @@ whole_lawful v xs f size =
 
 pub front_begun : (v : Variant) (xs : List ℕ) → IsFront v xs → IsBegun v xs
 front_begun v xs f =
-    let filled = fill (40 - length xs) v xs (omega (arith, f.most)) f in
+    let filled = fill (field_count - length xs) v xs (omega (arith, f.most)) f in
     let whole = whole_lawful v filled.0 filled.1.front filled.1.size in
     record { fields = fields_by filled.0; range = whole.range; lawful = whole.lawful; begins = ap (take (length xs)) whole.numbers_are ∙ filled.1.begins }
 
-taken_front : (v : Variant) (c : Fields) (k : ℕ) → k ≤ 40 → InRange c → allowed v c ≡ true → IsFront v (take k (numbers c))
+taken_front : (v : Variant) (c : Fields) (k : ℕ) → k ≤ field_count → InRange c → allowed v c ≡ true → IsFront v (take k (numbers c))
 taken_front v c k most range lawful = record {
   most = omega (arith, most, size);
   chosen = λ j h.
@@ -184,7 +184,7 @@ taken_front v c k most range lawful = record {
     size : length (take k (numbers c)) ≡ k
     size = omega (arith, length-take k (numbers c), most, count c)
 
-pub begun_front : (v : Variant) (xs : List ℕ) → length xs ≤ 40 → IsBegun v xs → IsFront v xs
+pub begun_front : (v : Variant) (xs : List ℕ) → length xs ≤ field_count → IsBegun v xs → IsFront v xs
 begun_front v xs most b = subst (IsFront v) b.begins (taken_front v b.fields (length xs) most b.range b.lawful)
 
 -- ---- the choices behind a front
@@ -222,13 +222,13 @@ choice_is v xs n h =
       may = All-contains (λ m. p m ≡ true) (filter p numbers_below) n (filter_passes p numbers_below) h;
     }
 
-pub choices_some : (v : Variant) (xs : List ℕ) → IsFront v xs → length xs < 40 → 0 < length (choices v xs)
+pub choices_some : (v : Variant) (xs : List ℕ) → IsFront v xs → length xs < field_count → 0 < length (choices v xs)
 choices_some v xs f room =
     let s = front_next v xs f room in
     let found = has (may_stand v (length xs) (fields_by xs)) (2 ^ width (length xs)) s.n s.small s.may_be in
     omega (arith, found.1)
 
-pub go_on : (v : Variant) (before : List ℕ) → length before < 40 → IsBegun v before → GoOn v before
+pub go_on : (v : Variant) (before : List ℕ) → length before < field_count → IsBegun v before → GoOn v before
 go_on v before room b =
     let f = begun_front v before (omega (arith, room)) b in
     record {
@@ -258,13 +258,13 @@ chosen_in some position h =
 
 pub record AreDrawn (v : Variant) (xs : List ℕ) : Type 0 where
   pub front : IsFront v xs
-  pub size : length xs ≡ 40
+  pub size : length xs ≡ field_count
 
-pub drawn_front : (k : ℕ) (v : Variant) (xs : List ℕ) (word : ℕ) → length xs + k ≡ 40 → IsFront v xs → AreDrawn v (numbers_drawn v k xs word)
+pub drawn_front : (k : ℕ) (v : Variant) (xs : List ℕ) (word : ℕ) → length xs + k ≡ field_count → IsFront v xs → AreDrawn v (numbers_drawn v k xs word)
 unfolding numbers_drawn
 drawn_front zero v xs word size f = record { front = f; size = omega (arith, size) }
 drawn_front (suc k) v xs word size f =
-    let room : length xs < 40 = omega (arith, size) in
+    let room : length xs < field_count = omega (arith, size) in
     let n : ℕ = chosen (choices v xs) (given (advanced word)) in
     let c = choice_is v xs n (chosen_in (choices v xs) (given (advanced word)) (choices_some v xs f room)) in
     drawn_front k v (xs ++ n ∷ []) (advanced word) (omega (arith, size, longer_by_one xs n)) (front_more v xs n f room c.small c.may)
@@ -276,9 +276,9 @@ pub drawn_allowed : (v : Variant) (atoms seed i : ℕ) → allowed v (fields_of 
 unfolding valuation_from
 drawn_allowed v atoms seed i =
     let word : ℕ = (seed + i) % 2 ^ 64 in
-    let xs : List ℕ = numbers_drawn v 40 [] word in
-    let rest : List Bool = truths_drawn atoms (word_behind 40 word) in
-    let d = drawn_front 40 v [] word (omega arith) (none_front v) in
+    let xs : List ℕ = numbers_drawn v field_count [] word in
+    let rest : List Bool = truths_drawn atoms (word_behind field_count word) in
+    let d = drawn_front field_count v [] word (omega arith) (none_front v) in
     let whole = whole_lawful v xs d.front d.size in
     let told = has_pattern (fields_by xs) rest whole.range in
     subst (λ (ys : List ℕ). allowed v (fields_of (table.pattern spots ys rest)) ≡ true) whole.numbers_are (subst (λ (c : Fields). allowed v c ≡ true) (sym told.spells) whole.lawful)

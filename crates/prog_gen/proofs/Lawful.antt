@@ -9,7 +9,7 @@ use Rattle.y86_isa.specs.RowTests.{accesses, is_branch}
 use Rattle.y86_isa.specs.Table.{rows, row, inop, no_register}
 use Rattle.field_bits.specs.Fits.{half_fits, register_fits, cnd_where, only_where, cnd_fits, code_fits, reading_fits, icode_fits, stat_fits, tied, destination_fits}
 use Rattle.field_bits.specs.Spelling.{set}
-use Rattle.pipe_fields.specs.Layout.{Fields, FetchLine, DecodeLine, ExecuteLine, MemoryLine, WriteLine, fields_by, numbers, bubble}
+use Rattle.pipe_fields.specs.Layout.{Fields, FetchLine, DecodeLine, ExecuteLine, MemoryLine, WriteLine, fields_by, numbers, bubble, field_count}
 use Rattle.pipe_fields.specs.Allowed.{allowed, fetch_fits, decode_fits, execute_fits, memory_fits, write_fits, registers_fit, fetch_allowed, decode_allowed, execute_allowed, memory_allowed, write_allowed, is_live}
 use Rattle.prog_gen.specs.Choices.{may_stand, AreChosen, fetch_may, decode_may, stat_may, icode_may, ifun_may}
 
@@ -30,7 +30,7 @@ reading true a b z t p q = both (a && z) t (both a z p (second t z q)) (first t 
 reading false a b z t p q = both b t p (first t true q)
 
 -- what is known at a place
-at : (v : Variant) (c : Fields) → AreChosen v (numbers c) → (j : ℕ) → j < 40 → may_stand v j (fields_by (take j (numbers c))) (get_or (numbers c) j 0) ≡ true
+at : (v : Variant) (c : Fields) → AreChosen v (numbers c) → (j : ℕ) → j < field_count → may_stand v j (fields_by (take j (numbers c))) (get_or (numbers c) j 0) ≡ true
 at v c h j small = h j small
 
 pub fetch_chosen : (v : Variant) (c : Fields) → AreChosen v (numbers c) → fetch_allowed v c.f ≡ true

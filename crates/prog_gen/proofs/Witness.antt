@@ -11,7 +11,7 @@ use Rattle.y86_isa.specs.RowTests.{accesses, is_branch, is_field_b}
 use Rattle.y86_isa.specs.Table.{rows, row, dash_row, inop, no_register}
 use Rattle.field_bits.specs.Fits.{half_fits, register_fits, cnd_where, only_where, cnd_fits, icode_fits, stat_fits, destination_fits}
 use Rattle.field_bits.specs.Spelling.{set}
-use Rattle.pipe_fields.specs.Layout.{Fields, fields_by, numbers, bubble}
+use Rattle.pipe_fields.specs.Layout.{Fields, fields_by, numbers, bubble, field_count}
 use Rattle.pipe_fields.specs.Allowed.{is_live}
 use Rattle.prog_gen.specs.Choices.{may_stand, stat_may, icode_may, ifun_may, width}
 use Rattle.prog_gen.proofs.Lawful.{both, first, second, then_true, else_true, choose_then, choose_else}
@@ -401,5 +401,5 @@ unfolding may_stand
 w39 v c h = (let x = register_some (row v c.w.icode).dst_m in record { n = x.n; small = x.small; may_be = x.may_be })
 
 -- another one may stand
-pub witness : (v : Variant) (c : Fields) (j : ℕ) → j < 40 → AreBefore v c j → Some_below (2 ^ width j) (may_stand v j (fields_by (take j (numbers c))))
+pub witness : (v : Variant) (c : Fields) (j : ℕ) → j < field_count → AreBefore v c j → Some_below (2 ^ width j) (may_stand v j (fields_by (take j (numbers c))))
 witness v c j lt h = forty (IsWitnessed v c) (w0 v c) (w1 v c) (w2 v c) (w3 v c) (w4 v c) (w5 v c) (w6 v c) (w7 v c) (w8 v c) (w9 v c) (w10 v c) (w11 v c) (w12 v c) (w13 v c) (w14 v c) (w15 v c) (w16 v c) (w17 v c) (w18 v c) (w19 v c) (w20 v c) (w21 v c) (w22 v c) (w23 v c) (w24 v c) (w25 v c) (w26 v c) (w27 v c) (w28 v c) (w29 v c) (w30 v c) (w31 v c) (w32 v c) (w33 v c) (w34 v c) (w35 v c) (w36 v c) (w37 v c) (w38 v c) (w39 v c) j lt h

@@ -8,7 +8,7 @@ use Rattle.y86_isa.specs.Table.{rows, row, inop, no_register}
 use Rattle.field_bits.specs.Fits.{icode_fits, half_fits, register_fits, tied, destination_fits, cnd_fits, cnd_where, only_where, stat_fits}
 use Rattle.field_bits.specs.Spelling.{set, spell}
 use Rattle.field_bits.specs.declared.spots.Spot.{Spot}
-use Rattle.pipe_fields.specs.Layout.{FetchLine, DecodeLine, ExecuteLine, MemoryLine, WriteLine, Fields, bubble, fields_by, spots, bit_count}
+use Rattle.pipe_fields.specs.Layout.{FetchLine, DecodeLine, ExecuteLine, MemoryLine, WriteLine, Fields, bubble, fields_by, spots, bit_count, field_count}
 use Rattle.pipe_fields.specs.Allowed.{is_live}
 use Rattle.field_bits.specs.Spots as table
 use Rattle.prog_gen.specs.Draws.{advanced, given}
@@ -123,7 +123,7 @@ truths_drawn (suc k) word = (given (advanced word) % 2 == 1) ∷ truths_drawn k 
 
 -- the bits of the valuation that a generator at a word draws, with so many atoms
 unfoldable pub valuation_from : Variant → ℕ → ℕ → List Bool
-valuation_from v atoms word = table.pattern spots (numbers_drawn v 40 [] word) (truths_drawn atoms (word_behind 40 word))
+valuation_from v atoms word = table.pattern spots (numbers_drawn v field_count [] word) (truths_drawn atoms (word_behind field_count word))
 
 -- valuation i of a seed
 abbrev pub valuation : Variant → ℕ → ℕ → ℕ → List Bool

@@ -4,7 +4,7 @@ ghost use Rattle.prog_gen.specs.Choices as spec;
 ghost use Rattle.field_bits.specs.Fits as fit;
 ghost use Rattle.field_bits.specs.Spelling as spelling;
 ghost use Rattle.pipe_fields.specs.Allowed.{is_live as live};
-ghost use Rattle.pipe_fields.specs.Layout.{fields_by};
+ghost use Rattle.pipe_fields.specs.Layout.{fields_by, field_count};
 ghost use Rattle.y86_isa.specs.RowTests as tests;
 ghost use Rattle.y86_isa.specs.Table.{rows};
 ghost use Rattle.y86_isa.specs.Table as table;
@@ -256,7 +256,7 @@ fn write_may(v: Variant, before: &[u64], i: u64, n: u64) -> bool
 /// Whether a number may stand at a place in the order of the variables.
 #[tactic(auto, unfolding(crate::specs::Choices::may_stand))]
 fn may_stand(v: Variant, before: &[u64], n: u64) -> bool
-    requires { length before.now < 40 }
+    requires { length before.now < field_count }
     ensures { result ≡ spec.may_stand v (length before.now) (fields_by before.now) n }
 {
     let j = before.len() as u64;
@@ -279,7 +279,7 @@ fn may_stand(v: Variant, before: &[u64], n: u64) -> bool
 
 /// The numbers of so many bits that may stand behind others, in rising order.
 fn choices(v: Variant, before: &[u64], bits: u32) -> ArrayVec<u64, 16>
-    requires place { length before.now < 40 }
+    requires place { length before.now < field_count }
     requires bits { bits ≡ spec.width (length before.now) }
     requires few { bits ≤ 4 }
     ensures { result.items ≡ spec.choices v before.now }
@@ -307,7 +307,7 @@ fn chosen(some: &[u64], position: u64) -> u64
 
 /// The number that may stand behind others, at a position modulo how many there are.
 pub fn choice(v: Variant, before: &[u64], bits: u32, position: u64) -> u64
-    requires place { length before.now < 40 }
+    requires place { length before.now < field_count }
     requires bits { bits ≡ spec.width (length before.now) }
     requires few { bits ≤ 4 }
     ensures { result ≡ spec.chosen (spec.choices v before.now) position }

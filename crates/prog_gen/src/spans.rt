@@ -3,7 +3,7 @@ ghost use Rattle.std.specs.Prelude.{◌≡◌, ◌<◌, ◌≤◌, ◌^◌, ◌&
 ghost use Rattle.std.specs.List.{filter, range_with_len};
 ghost use Rattle.field_bits.specs.Fits as fit;
 ghost use Rattle.field_bits.specs.Spelling as spelling;
-ghost use Rattle.pipe_fields.specs.Layout.{fields_by};
+ghost use Rattle.pipe_fields.specs.Layout.{fields_by, field_count};
 ghost use Rattle.prog_gen.specs.Choices as spec;
 ghost use Rattle.prog_gen.specs.Spans.{IsSpanOf};
 ghost use Rattle.y86_isa.specs.RowTests as tests;
@@ -268,7 +268,7 @@ fn write(v: Variant, before: &[u64], i: u64) -> Option<Span>
 /// The numbers that may stand at the place behind others, where they are a span; `None` where they may be none.
 #[tactic(auto, unfolding(crate::specs::Choices::may_stand))]
 pub(crate) fn span_behind(v: Variant, before: &[u64]) -> Option<Span>
-    requires { length before.now < 40 }
+    requires { length before.now < field_count }
     ensures { IfSome result (λ s. IsSpanOf s (spec.may_stand v (length before.now) (fields_by before.now))) }
 {
     let j = before.len() as u64;

@@ -1,14 +1,14 @@
 //! Control valuations of PIPE, drawn field by field.
 ghost use Rattle.std.specs.Prelude.{◌≡◌, ◌<◌, ◌≤◌, ◌+◌, ◌++◌, [], ◌-◌, ◌^◌, drop, take, length};
 ghost use Rattle.field_bits.specs.Spots.{pattern};
-ghost use Rattle.pipe_fields.specs.Layout.{spots};
+ghost use Rattle.pipe_fields.specs.Layout.{spots, bit_count, field_count};
 ghost use Rattle.prog_gen.specs.Choices as spec;
 ghost use Rattle.field_bits.specs.Spelling.{spell};
 
 use crate::choices::choice;
 use crate::draws::Draws;
 use nets::Valuation;
-use pipe_fields::spots;
+use pipe_fields::{BIT_COUNT, FIELD_COUNT, spots};
 use rule_gates::Rules;
 use y86_base::Variant;
 
@@ -29,14 +29,14 @@ fn put_bits(out: &mut [bool], first: u32, bits: u32, n: u64)
 
 /// Draws the fields in the order of the variables.
 fn draw_fields(v: Variant, draws: &mut Draws, out: &mut [bool])
-    requires { 107 ≤ length out.old }
-    ensures after { draws.new ≡ spec.word_behind 40 draws.old }
-    ensures bits { out.new ≡ pattern spots (spec.numbers_drawn v 40 [] draws.old) [] ++ drop 107 out.old }
+    requires { bit_count ≤ length out.old }
+    ensures after { draws.new ≡ spec.word_behind field_count draws.old }
+    ensures bits { out.new ≡ pattern spots (spec.numbers_drawn v field_count [] draws.old) [] ++ drop bit_count out.old }
 {
-    let mut numbers = [0u64; 40];
+    let mut numbers = [0u64; FIELD_COUNT];
     let fields = spots();
     let mut first = 0;
-    for j in 0..40 {
+    for j in 0..FIELD_COUNT {
         let bits = fields[j].bits;
         let n = choice(v, &numbers[..j], bits, draws.draw());
         numbers[j] = n;
@@ -57,21 +57,21 @@ fn draw_truths(draws: &mut Draws, out: &mut [bool], from: usize)
 
 /// Draws the valuation of a generator at a word: the fields, then the atoms.
 pub fn draw_valuation(v: Variant, word: u64, out: &mut [bool])
-    requires { 107 ≤ length out.old }
-    ensures { out.new ≡ spec.valuation_from v (length out.old - 107) word }
+    requires { bit_count ≤ length out.old }
+    ensures { out.new ≡ spec.valuation_from v (length out.old - bit_count) word }
 {
     let mut draws = Draws::from(word);
     draw_fields(v, &mut draws, out);
-    draw_truths(&mut draws, out, 107);
+    draw_truths(&mut draws, out, BIT_COUNT as usize);
 }
 
 /// Puts valuation `i` of a seed into `out`, for the instruction set of rules and the atoms of their net: it has a variable for each
-/// of the 107 bits of the fields and one for each atom, and `out` has a bit for each variable.
+/// bit of the fields and one for each atom, and `out` has a bit for each variable.
 pub fn valuation(r: &Rules, seed: u64, i: u64, out: &mut Valuation)
-    requires fields { 107 ≤ r.now.net.vars }
-    requires atoms { r.now.net.vars ≤ 107 + 64 }
+    requires fields { bit_count ≤ r.now.net.vars }
+    requires atoms { r.now.net.vars ≤ bit_count + 64 }
     requires bits { length out.old.bits ≡ r.now.net.vars }
-    ensures { out.new.bits ≡ spec.valuation r.now.variant (r.now.net.vars - 107) seed i }
+    ensures { out.new.bits ≡ spec.valuation r.now.variant (r.now.net.vars - bit_count) seed i }
 {
     draw_valuation(r.variant, seed.wrapping_add(i), out.bits.items_mut());
 }

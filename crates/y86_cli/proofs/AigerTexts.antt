@@ -3,6 +3,7 @@ use Rattle.std.proofs.Common.{◌≡◌, ◌⊎◌, inl, inr, ℕ, ◌+◌, ◌<
 use Rattle.std.specs.Borrow.{Bor}
 use Rattle.std.proofs.lemmas.List.{length-map}
 use Rattle.std.proofs.lemmas.Option.{slice_get-get_or}
+use Rattle.pipe_obligations.specs.Rules.{rule_count}
 use Rattle.nets.specs.Nets.{truth}
 use Rattle.aiger_out.specs.declared.fault.AagFault.{AagFault}
 use Rattle.aiger_out.specs.declared.form.Header.{Header}
@@ -17,8 +18,7 @@ use Rattle.ctl_atoms.proofs.Solved.{leaves_exist}
 use Rattle.dp_signals.specs.PipeTable.{pipe_rows}
 use Rattle.hcl_types.specs.Tables.{IsOrderOf}
 use Rattle.hcl_types.specs.declared.term.Term.{Term}
-use Rattle.pipe_obligations.specs.Settled.{IsFalseAt}
-use Rattle.pipe_theorem.specs.Theorem.{PipeControls}
+use Rattle.pipe_obligations.specs.Settled.{IsFalseAt, PipeControls}
 use Rattle.rule_gates.specs.declared.rules.Rule.{Rule}
 use Rattle.rule_gates.specs.declared.rules.Rules.{Rules}
 use Rattle.y86_base.specs.declared.parts.Variant.{Variant}
@@ -44,26 +44,26 @@ module _ (v : Variant) (terms : List Term) (ids : List ℕ) (o : IsOrderOf pipe_
   no_rule : Rule
   no_rule = record { number = 0; gate = 0 }
 
-  rule_there : (i : ℕ) → i < 27 → slice_get r.list i ≡ Some (get_or r.list i no_rule)
+  rule_there : (i : ℕ) → i < rule_count → slice_get r.list i ≡ Some (get_or r.list i no_rule)
   rule_there i l = slice_get-get_or r.list i no_rule (let count = h.are_rules.count in omega (arith, l, count))
 
-  gate_is : (i : ℕ) → i < 27 → get_or (gates_of r.list) i 0 ≡ (get_or r.list i no_rule).gate
+  gate_is : (i : ℕ) → i < rule_count → get_or (gates_of r.list) i 0 ≡ (get_or r.list i no_rule).gate
   gate_is i l = gate_there r.list i (get_or r.list i no_rule) (rule_there i l)
 
   abbrev False : ℕ → List Bool → Type 0
   False k w = IsFalseAt v h.are_settings.atoms (PipeControls terms) h.settings k w
 
-  is_false : (i : ℕ) → i < 27 → (w : List Bool) → not (truth r.net (get_or (gates_of r.list) i 0) w) ≡ true → False (i + 1) w
+  is_false : (i : ℕ) → i < rule_count → (w : List Bool) → not (truth r.net (get_or (gates_of r.list) i 0) w) ≡ true → False (i + 1) w
   is_false i l w e =
       obligation_false v terms ids o r h i (get_or r.list i no_rule) w (rule_there i l)
       (sym (ap (λ (g : ℕ). truth r.net g w) (gate_is i l)) ∙ not_true (truth r.net (get_or (gates_of r.list) i 0) w) e)
 
-  is_one : (i : ℕ) → i < 27 → (w : List Bool) → False (i + 1) w → not (truth r.net (get_or (gates_of r.list) i 0) w) ≡ true
+  is_one : (i : ℕ) → i < rule_count → (w : List Bool) → False (i + 1) w → not (truth r.net (get_or (gates_of r.list) i 0) w) ≡ true
   is_one i l w f = ap not (ap (λ (g : ℕ). truth r.net g w) (gate_is i l) ∙ rule_false v terms ids o r h i (get_or r.list i no_rule) w (rule_there i l) f)
 
   pub tells : (text : List ℕ) → (header : Header) × IsWritten r.net (gates_of r.list) (numbers_of r.list) text header → TellsObligations v terms text
   tells text (header, w) =
-      let count : length (gates_of r.list) ≡ 27 = length-map r.list gate_of ∙ h.are_rules.count in
+      let count : length (gates_of r.list) ≡ rule_count = length-map r.list gate_of ∙ h.are_rules.count in
       record {
         settings = h.settings;
         are = h.are_settings;

@@ -2,6 +2,8 @@
 use Rattle.std.proofs.Common.{◌≡◌, ◌⊎◌, inl, inr, ℕ, ◌+◌, ◌-◌, ◌≤◌, Bool, true, List, length, get_or, slice_get, Option, Some, None, refl, sym, ap, ◌∙◌, subst, Result, Err, arith}
 use Rattle.std.proofs.lemmas.Bool.{false≢true}
 use Rattle.std.proofs.lemmas.Option.{slice_get-get_or, slice_get_within}
+use Rattle.pipe_fields.specs.Layout.{bit_count}
+use Rattle.pipe_obligations.specs.Rules.{rule_count}
 use Rattle.nets.specs.Nets.{truth}
 use Rattle.control_check.specs.PipeVerdicts.{AreFileRules}
 use Rattle.control_check.proofs.PipeVerdict.{obligation_false, rule_false}
@@ -35,11 +37,11 @@ module _ (v : Variant) (terms : List Term) (ids : List ℕ) (o : IsOrderOf pipe_
   one_list : h.are_rules.atoms ≡ h.are_settings.atoms
   one_list = (let leaves = leaves_exist pipe_rows terms ids o in h.are_rules.are.are leaves.0 leaves.1 ∙ sym (h.are_settings.are.are leaves.0 leaves.1))
 
-  atoms_are : r.net.vars - 107 ≡ length h.are_settings.atoms
+  atoms_are : r.net.vars - bit_count ≡ length h.are_settings.atoms
   atoms_are = (let vars = h.are_rules.vars in let same = ap length one_list in omega (arith, vars, same))
 
-  same_drawn : (i : ℕ) → valuation r.variant (r.net.vars - 107) seed i ≡ w i
-  same_drawn i = ap (λ x. valuation x (r.net.vars - 107) seed i) h.variant ∙ ap (λ n. valuation v n seed i) atoms_are
+  same_drawn : (i : ℕ) → valuation r.variant (r.net.vars - bit_count) seed i ≡ w i
+  same_drawn i = ap (λ x. valuation x (r.net.vars - bit_count) seed i) h.variant ∙ ap (λ n. valuation v n seed i) atoms_are
 
   none : Rule
   none = record { number = 0; gate = 0 }
@@ -48,7 +50,7 @@ module _ (v : Variant) (terms : List Term) (ids : List ℕ) (o : IsOrderOf pipe_
   unless : (i k : ℕ) (x : Rule) → slice_get r.list k ≡ Some x → holds_drawn r seed i x ≡ true → IsFalseDrawn v terms drawn seed i (k + 1) → ⊥
   unless i k x at holds f = false≢true (sym (rule_false v terms ids o r h k x (w i) at f) ∙ (sym (ap (truth r.net x.gate) (same_drawn i)) ∙ holds))
 
-  place_of : (k : ℕ) → 1 ≤ k → k ≤ 27 → slice_get r.list (k - 1) ≡ Some (get_or r.list (k - 1) none)
+  place_of : (k : ℕ) → 1 ≤ k → k ≤ rule_count → slice_get r.list (k - 1) ≡ Some (get_or r.list (k - 1) none)
   place_of k l m = slice_get-get_or r.list (k - 1) none (let count = h.are_rules.count in omega (arith, l, m, count))
 
   one_back : (k : ℕ) → 1 ≤ k → k ≡ k - 1 + 1

@@ -1,5 +1,6 @@
 -- The obligations of a design as an AIGER text, and the counts of the outputs of one, as answers.
 use Rattle.std.specs.Prelude.{◌≡◌, ◌⊎◌, ◌↔◌, ℕ, ◌+◌, ◌<◌, codes, Bool, true, List, length, get_or}
+use Rattle.pipe_obligations.specs.Rules.{rule_count}
 use Rattle.aiger_out.specs.declared.fault.AagWhy.{AagWhy}
 use Rattle.aiger_out.specs.declared.fault.AagWhy.TheVariants as whys
 use Rattle.aiger_out.specs.declared.form.Header.{Header}
@@ -13,8 +14,7 @@ use Rattle.hcl_types.specs.declared.term.Term.{Term}
 use Rattle.nets.specs.Nets.{Gates}
 use Rattle.pipe_fields.specs.Layout.{bit_count}
 use Rattle.pipe_motion.specs.declared.settings.Settings.{Settings}
-use Rattle.pipe_obligations.specs.Settled.{IsFalseAt}
-use Rattle.pipe_theorem.specs.Theorem.{PipeControls}
+use Rattle.pipe_obligations.specs.Settled.{IsFalseAt, PipeControls}
 use Rattle.y86_base.specs.declared.parts.Variant.{Variant}
 use Rattle.y86_cli.specs.Checks.{RefusesControl}
 use Rattle.y86_cli.specs.Lines.{fault_line}
@@ -31,9 +31,9 @@ pub record TellsObligations (v : Variant) (terms : List Term) (text : List ℕ) 
   pub numbers : List ℕ
   pub written : IsWritten net gates numbers text header
   pub inputs : header.inputs ≡ bit_count + length are.atoms
-  pub outputs : header.outputs ≡ 27
-  pub names : (i : ℕ) → i < 27 → get_or numbers i 0 ≡ i + 1
-  pub tells : (i : ℕ) → i < 27 → (w : List Bool) →
+  pub outputs : header.outputs ≡ rule_count
+  pub names : (i : ℕ) → i < rule_count → get_or numbers i 0 ≡ i + 1
+  pub tells : (i : ℕ) → i < rule_count → (w : List Bool) →
       (value : Bool) × Out header text i w value × ((value ≡ true) ↔ IsFalseAt v are.atoms (PipeControls terms) settings (i + 1) w)
 
 pub record SaysObligations (v : Variant) (terms : List Term) (a : Answered) : Type 0 where

@@ -1,13 +1,13 @@
 -- What a sample of drawn valuations says of a design, and its answers.
 use Rattle.std.specs.Prelude.{◌≡◌, ◌⊎◌, ℕ, ◌<◌, ◌≤◌, codes, List, [], ◌∷◌, length, Option, Some, None}
 use Rattle.std.specs.List.{concat}
+use Rattle.pipe_obligations.specs.Rules.{rule_count}
 use Rattle.control_check.specs.PipeVerdicts.{AreSettings}
 use Rattle.dp_signals.specs.PipeTable.{pipe_rows}
 use Rattle.hcl_types.specs.declared.term.Term.{Term}
 use Rattle.lane_eval.specs.declared.search.Found.{Found}
 use Rattle.pipe_motion.specs.declared.settings.Settings.{Settings}
-use Rattle.pipe_obligations.specs.Settled.{IsFalseAt}
-use Rattle.pipe_theorem.specs.Theorem.{PipeControls}
+use Rattle.pipe_obligations.specs.Settled.{IsFalseAt, PipeControls}
 use Rattle.prog_gen.specs.Choices.{valuation}
 use Rattle.y86_base.specs.Numeral.{numeral}
 use Rattle.y86_base.specs.declared.parts.Variant.{Variant}
@@ -25,7 +25,7 @@ IsFalseDrawn v terms d seed i k = IsFalseAt v d.are.atoms (PipeControls terms) d
 
 -- no obligation is
 abbrev pub NoneFalseDrawn : (v : Variant) (terms : List Term) → DrawnOf v terms → ℕ → ℕ → Type 0
-NoneFalseDrawn v terms d seed i = (k : ℕ) → 1 ≤ k → k ≤ 27 → IsFalseDrawn v terms d seed i k → ⊥
+NoneFalseDrawn v terms d seed i = (k : ℕ) → 1 ≤ k → k ≤ rule_count → IsFalseDrawn v terms d seed i k → ⊥
 
 -- no obligation is false at any of the first valuations
 pub record FindsNone (v : Variant) (terms : List Term) (seed count : ℕ) : Type 0 where
@@ -37,7 +37,7 @@ pub record FindsFirst (v : Variant) (terms : List Term) (seed count index rule :
   pub drawn : DrawnOf v terms
   pub within : index < count
   pub from_one : 1 ≤ rule
-  pub to_last : rule ≤ 27
+  pub to_last : rule ≤ rule_count
   pub fails : IsFalseDrawn v terms drawn seed index rule
   pub earlier : (i : ℕ) → i < index → NoneFalseDrawn v terms drawn seed i
   pub before : (k : ℕ) → 1 ≤ k → k < rule → IsFalseDrawn v terms drawn seed index k → ⊥

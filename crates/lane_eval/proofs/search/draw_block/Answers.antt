@@ -1,5 +1,6 @@
 use Rattle.std.proofs.Common.{◌≡◌, ◌≢◌, ◌<◌, ◌≤◌, ◌⊎◌, inl, inr, ◌+◌, ◌-◌, ◌*◌, ◌/◌, ◌%◌, ◌^◌, ◌∙◌, ℕ, List, Bool, length, sym, ap, arith}
 use Rattle.std.proofs.lemmas.Bool.{cases_lt}
+use Rattle.pipe_fields.specs.Layout.{bit_count}
 use Rattle.y86_base.specs.declared.parts.Variant.{Variant}
 use Rattle.prog_gen.specs.Choices.{valuation, valuation_from}
 use Rattle.lane_eval.specs.Lanes.{across, along}
@@ -25,9 +26,9 @@ block_more v atoms seed l lanes old words small earlier drawn put others p h = b
 
 pub loop-l-preserved : goal.loop-l-preserved
 loop-l-preserved c =
-    block_more c.args.v (length c.args.bits.now - 107) c.args.seed c.loop-l.l c.put_words.new.lanes c.loop-l.lanes c.draw_words.new.words (omega arith)
+    block_more c.args.v (length c.args.bits.now - bit_count) c.args.seed c.loop-l.l c.put_words.new.lanes c.loop-l.lanes c.draw_words.new.words (omega arith)
     c.loop-l.invariant
-    (λ j h. c.draw_words.ensures j h ∙ ap (λ (n : ℕ). valuation c.args.v (n - 107) ((c.args.seed + 64 * c.loop-l.l) % 2 ^ 64) j) (omega arith))
+    (λ j h. c.draw_words.ensures j h ∙ ap (λ (n : ℕ). valuation c.args.v (n - bit_count) ((c.args.seed + 64 * c.loop-l.l) % 2 ^ 64) j) (omega arith))
     c.put_words.ensures.put c.put_words.ensures.others
 
 pub returns : goal.returns

@@ -1,5 +1,6 @@
 use Rattle.std.proofs.Common.{◌≡◌, ◌<◌, ◌≤◌, ◌⊎◌, inl, inr, ◌+◌, ◌-◌, ◌%◌, ◌^◌, ◌∙◌, ℕ, List, Bool, length, sym, ap, arith}
 use Rattle.std.proofs.lemmas.Bool.{cases_lt}
+use Rattle.pipe_fields.specs.Layout.{bit_count}
 use Rattle.prog_gen.specs.Choices.{valuation, valuation_from}
 use Rattle.lane_eval.specs.Lanes.{along}
 use Rattle.lane_eval.proofs.search.draw_words.Goals as goal
@@ -23,10 +24,10 @@ drawn_more k seed drawn words old small earlier shifted last j h = by (cases_lt 
 
 pub loop-k-preserved : goal.loop-k-preserved
 loop-k-preserved c =
-    drawn_more c.loop-k.k c.args.seed (valuation c.args.v (length c.args.bits.now - 107) c.args.seed) c.shift_in.new.words c.loop-k.words (omega arith)
+    drawn_more c.loop-k.k c.args.seed (valuation c.args.v (length c.args.bits.now - bit_count) c.args.seed) c.shift_in.new.words c.loop-k.words (omega arith)
     c.loop-k.invariant c.shift_in.ensures.others
     (c.shift_in.ensures.last
-    ∙ (c.draw_valuation.ensures ∙ ap (λ (n : ℕ). valuation_from c.args.v (n - 107) ((c.args.seed + c.loop-k.k) % 2 ^ 64)) (omega arith)))
+    ∙ (c.draw_valuation.ensures ∙ ap (λ (n : ℕ). valuation_from c.args.v (n - bit_count) ((c.args.seed + c.loop-k.k) % 2 ^ 64)) (omega arith)))
 
 pub returns : goal.returns
 returns c j h =

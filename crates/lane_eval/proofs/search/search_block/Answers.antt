@@ -1,4 +1,5 @@
 use Rattle.std.proofs.Common.{◌≡◌, ◌-◌, ◌∙◌, ℕ, List, Bool, ap, subst, arith, length}
+use Rattle.pipe_fields.specs.Layout.{bit_count}
 use Rattle.nets.specs.Nets.{truth, truths}
 use Rattle.rule_gates.specs.declared.rules.Rule.{Rule}
 use Rattle.rule_gates.specs.declared.rules.Rules.{Rules}
@@ -15,8 +16,8 @@ returns-clause-found c =
     let s : List (List ℕ) = c.run.new.self in
     found_same (holds_in s) (holds_drawn r c.args.seed) r.list 512
     (λ i j x h at.
-    place_truth r.net i x.gate s (valuation r.variant (r.net.vars - 107) c.args.seed i) (c.requires.gates j x at) c.run.ensures.made
+    place_truth r.net i x.gate s (valuation r.variant (r.net.vars - bit_count) c.args.seed i) (c.requires.gates j x at) c.run.ensures.made
     (c.run.ensures.truths i h
-    ∙ ap (truths r.net) (c.draw_block.ensures i h ∙ ap (λ (n : ℕ). valuation r.variant (n - 107) c.args.seed i) c.requires.bits)))
+    ∙ ap (truths r.net) (c.draw_block.ensures i h ∙ ap (λ (n : ℕ). valuation r.variant (n - bit_count) c.args.seed i) c.requires.bits)))
     c.first_of.result
     (subst (λ (list : List Rule). IsFirstFalse (holds_in s) list 512 c.first_of.result) c.items.ensures c.first_of.ensures)

@@ -1,4 +1,5 @@
 use Rattle.std.proofs.Common.{◌≡◌, ◌+◌, ◌-◌, ◌<◌, ◌%◌, ◌^◌, ◌∙◌, ℕ, ap, arith, refl}
+use Rattle.pipe_fields.specs.Layout.{bit_count}
 use Rattle.nets.specs.Nets.{truth}
 use Rattle.rule_gates.specs.declared.rules.Rule.{Rule}
 use Rattle.rule_gates.specs.declared.rules.Rules.{Rules}
@@ -9,7 +10,7 @@ use Rattle.lane_eval.proofs.search.search_blocks.Goals as goal
 
 -- the rules at a block's valuations
 same : (r : Rules) (seed at i : ℕ) (x : Rule) → holds_drawn r ((seed + at) % 2 ^ 64) i x ≡ holds_drawn r seed (at + i) x
-same r seed at i x = ap (truth r.net x.gate) (shifted_seed r.variant (r.net.vars - 107) seed at i (at + i) refl)
+same r seed at i x = ap (truth r.net x.gate) (shifted_seed r.variant (r.net.vars - bit_count) seed at i (at + i) refl)
 
 pub returns-then-found-left : goal.returns-then-found-left
 returns-then-found-left c =

@@ -2,7 +2,7 @@ use Rattle.std.proofs.Common.{◌≡◌, ◌∙◌, ◌<◌, ◌≤◌, ◌+◌,
 use Rattle.std.proofs.lemmas.List.{take-append-drop, take_all}
 use Rattle.field_bits.specs.Spots.{total, pattern}
 use Rattle.field_bits.specs.declared.spots.Spot.{Spot}
-use Rattle.pipe_fields.specs.Layout.{spots}
+use Rattle.pipe_fields.specs.Layout.{spots, bit_count, field_count}
 use Rattle.prog_gen.specs.Choices.{width, numbers_drawn, word_behind, with_field, chosen, choices}
 use Rattle.prog_gen.proofs.Fields.{width_small, total_more, total_within, number_more, word_more, bits_more, field_behind, all_numbers, all_words}
 use Rattle.prog_gen.proofs.valuations.draw_fields.Goals as goal
@@ -14,7 +14,7 @@ none = record { bits = 0; name = None }
 read : (ss : List Spot) (j : ℕ) → ss ≡ spots → (get_or ss j (record { bits = 0; name = None })).bits ≡ width j
 read ss j e = ap (λ (xs : List Spot). (get_or xs j (record { bits = 0; name = None })).bits) e
 
-ends : (first j : ℕ) → first ≡ total (take j spots) → j < 40 → first + width j ≤ 107
+ends : (first j : ℕ) → first ≡ total (take j spots) → j < field_count → first + width j ≤ bit_count
 ends first j e h = omega (arith, e, total_more spots j (record { bits = 0; name = None }) h, total_within spots (j + 1))
 
 pub choice-n-requires-clause-few : goal.choice-n-requires-clause-few
@@ -39,7 +39,7 @@ loop-j-preserved c =
     let out : List Bool = c.loop-j.out in
     let k : ℕ = (get_or c.spots-fields.result.now j (record { bits = 0; name = None })).bits in
     let is : k ≡ width j = read c.spots-fields.result.now j c.spots-fields.ensures in
-    let room : first + k ≤ 107 = omega (arith, is, ends first j c.loop-j.invariant.place c.loop-j-test.true) in
+    let room : first + k ≤ bit_count = omega (arith, is, ends first j c.loop-j.invariant.place c.loop-j-test.true) in
     let small : first + k ≤ length out = omega (arith, room, c.requires) in
     record {
       numbers = number_more c.args.v c.loop-j.numbers j c.loop-j.draws c.draw.new.self c.choice-n.result c.loop-j-test.true (omega arith) c.draw.ensures.after
@@ -49,7 +49,7 @@ loop-j-preserved c =
       word = word_more j c.loop-j.draws c.draw.new.self c.loop-j-test.true c.draw.ensures.after ∙ c.loop-j.invariant.word;
       place = omega (arith, is, c.loop-j.invariant.place, total_more spots j (record { bits = 0; name = None }) c.loop-j-test.true);
       bits = ap (take (first + k)) c.put_bits.ensures ∙ bits_more out spots c.loop-j.numbers j first k c.choice-n.result c.loop-j-test.true (omega arith) is small c.loop-j.invariant.bits;
-      behind = ap (drop 107) c.put_bits.ensures ∙ (field_behind out first k c.choice-n.result 107 room small ∙ c.loop-j.invariant.behind);
+      behind = ap (drop bit_count) c.put_bits.ensures ∙ (field_behind out first k c.choice-n.result bit_count room small ∙ c.loop-j.invariant.behind);
     }
 
 pub returns-clause-after : goal.returns-clause-after
@@ -58,13 +58,13 @@ returns-clause-after c = all_words c.loop-j.j c.loop-j.draws _ (omega arith) c.l
 pub returns-clause-bits : goal.returns-clause-bits
 returns-clause-bits c =
     let out : List Bool = c.loop-j.out in
-    let e : c.loop-j.j ≡ 40 = omega arith in
-    let all : c.loop-j.first ≡ 107 = c.loop-j.invariant.place ∙ ap (λ (m : ℕ). total (take m spots)) e in
-    let numbers : take c.loop-j.j c.loop-j.numbers ≡ numbers_drawn c.args.v 40 [] c.args.draws.now =
+    let e : c.loop-j.j ≡ field_count = omega arith in
+    let all : c.loop-j.first ≡ bit_count = c.loop-j.invariant.place ∙ ap (λ (m : ℕ). total (take m spots)) e in
+    let numbers : take c.loop-j.j c.loop-j.numbers ≡ numbers_drawn c.args.v field_count [] c.args.draws.now =
     all_numbers c.args.v c.loop-j.j c.loop-j.draws (take c.loop-j.j c.loop-j.numbers) _ c.loop-j-test.false c.loop-j.invariant.numbers in
-    sym (take-append-drop 107 out)
-    ∙ (ap (λ (xs : List Bool). take 107 out ++ xs) c.loop-j.invariant.behind
-    ∙ ap (λ (xs : List Bool). xs ++ drop 107 c.args.out.now)
+    sym (take-append-drop bit_count out)
+    ∙ (ap (λ (xs : List Bool). take bit_count out ++ xs) c.loop-j.invariant.behind
+    ∙ ap (λ (xs : List Bool). xs ++ drop bit_count c.args.out.now)
     (ap (λ (m : ℕ). take m out) (sym all)
     ∙ (c.loop-j.invariant.bits
     ∙ (ap (λ (m : ℕ). pattern (take m spots) (take c.loop-j.j c.loop-j.numbers) []) e ∙ ap (λ (xs : List ℕ). pattern spots xs []) numbers))))
