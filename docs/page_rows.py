@@ -57,10 +57,16 @@ class Rows:
         self.page.size(1280, 900)
 
     def cycles(self, *words):
-        """What the program says of the boxes in each cycle."""
+        """What the program says of each cycle: the boxes, and the registers, flags and memory, so far as they were written."""
         said = subprocess.run([self.programs[1], *words], capture_output=True, text=True, check=False).stdout
-        parts = re.split(r"^cycle \d+\n", said, flags=re.M)[1:]
-        return [[f"{name} {text}" + ("" if text == "bubble" else f" at {at}") for name, at, text in re.findall(r"^([FDEMW]) row \d+ at (\S+) .* \| (.*)$", it, re.M)] for it in parts]
+        found, written = [], {}
+        for it in re.split(r"^cycle \d+\n", said, flags=re.M)[1:]:
+            boxes = re.findall(r"^([FDEMW]) row \d+ at (\S+) .* \| (.*)$", it, re.M)
+            flags = re.search(r"^flags ZF (\d) SF (\d) OF (\d)$", it, re.M)
+            state = {**written, **dict(zip(("ZF", "SF", "OF"), flags.groups()))}
+            found.append(([f"{name} {text}" + ("" if text == "bubble" else f" at {at}") for name, at, text in boxes], state))
+            written |= dict(re.findall(r"^(?:write|store) (\S+) (\S+)$", it, re.M))
+        return found
 
     def load_use(self):
         path = self.made(f"{EXAMPLES}/std.hcl", f"{EXAMPLES}/load_use.yo")
@@ -83,10 +89,11 @@ class Rows:
         words = [f"{EXAMPLES}/{hcl}.hcl", f"{EXAMPLES}/{name}.yo"]
         self.page.open(self.made(*words))
         shown, wanted = [], self.cycles(*words)
-        for _ in wanted:
-            shown.append(self.page.value(BOXES))
+        for _, state in wanted:
+            now = self.page.value(STATE)
+            shown.append((self.page.value(BOXES), {it: now.get(it) for it in state}))
             self.page.press("ArrowRight")
-        self.check(f"the boxes of {name} under {hcl}", shown, wanted)
+        self.check(f"the cycles of {name} under {hcl}", shown, wanted)
         ended = subprocess.run([self.programs[0], "psim", *words], capture_output=True, text=True, check=False).stdout
         now = self.page.value(STATE)
         changed = {at: hex(int(word, 16)) for at, word in re.findall(r"^(\S+):\t\S+\t(\S+)$", ended, re.M)}

@@ -2,7 +2,7 @@
 """try_lab.py PROGRAM
 
 Tries `lab explain` and `lab witness` on the files of docs/OBLIGATIONS.md that break an obligation each, with PROGRAM: `explain` has to name what is wrong in the
-situation of the answer, and `witness` has to find a program, but for the file of S1, on which no program differs. Prints a line for each file, and ends with
+situation of the answer, and `witness` has to find a program, but for the file of S1, on which no program differs: it has to say so. Prints a line for each file, and ends with
 `N passed, M failed`. It takes two minutes, and isn't part of the gate.
 """
 import os
@@ -35,10 +35,10 @@ def main():
             path, rule = f"{folder}/{name.replace(' ', '_')}.hcl", name.split(" ")[0]
             with open(f"{TOP}/examples/{base}", encoding="utf-8") as it, open(path, "w", encoding="utf-8") as to:
                 to.write(transcripts.changed(it.read(), definitions))
-            explained, found = is_explained(rule, lab("explain", path)), re.search(r"^Program (\d+) shows it", lab("witness", path), re.M)
-            well = explained and bool(found) != (name in UNSEEN)
+            explained, found = is_explained(rule, lab("explain", path)), re.search(r"^(?:Program (\d+)|No program) shows it", lab("witness", path), re.M)
+            well = explained and bool(found) and bool(found[1]) != (name in UNSEEN)
             passed, failed = passed + well, failed + (not well)
-            print(f"{name}: {'explained' if explained else 'NOT EXPLAINED'}, {f'program {found[1]} shows it' if found else 'no program'}", flush=True)
+            print(f"{name}: {'explained' if explained else 'NOT EXPLAINED'}, {f'program {found[1]} shows it' if found and found[1] else 'and why no program shows it' if found else 'no program'}", flush=True)
     print(f"{passed} passed, {failed} failed")
     return 1 if failed else 0
 

@@ -1,6 +1,7 @@
 """lab cycles HCL OBJ: where the cycles of a run went: when each instruction retires, what waited before it and why, and the CPI."""
 import re
 
+import explain
 import hcl
 import objects
 import program
@@ -18,7 +19,10 @@ def main(words):
         return 2
     (path, object_path), flags, _ = found
     program.ready()
-    run = Run(path, object_path, ["--full"] if "--full" in flags else [])
+    given, design = ["--full"] if "--full" in flags else [], explain.load(path)[1]
+    if design and t.datapath(design) != "pipe":
+        return sequential(t.datapath(design), path, object_path, given)
+    run = Run(path, object_path, given)
     if run.problem:
         print(run.problem)
         return 1
@@ -29,6 +33,17 @@ def main(words):
             print(f"{cycle:>5}  {f'+{waits}' if waits else '':>5}  {text:<32}{why}".rstrip())
         print()
     run.summary()
+    return 0
+
+
+def sequential(kind, path, object_path, given):
+    """A sequential datapath does an instruction in each cycle."""
+    answer = program.run("ssim" if kind == "seq" else "ssimp", path, object_path, *given)
+    found = re.match(r"Stopped in (\d+) steps.*Status '(\w+)'", answer.out)
+    if not found:
+        print(answer.err.strip() or "the program gave no answer")
+        return 1
+    print(f"{found[1]} cycles for {found[1]} instructions, to the end with {found[2]}: a sequential processor takes one cycle for each")
     return 0
 
 

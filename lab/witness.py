@@ -5,8 +5,10 @@ import re
 import tempfile
 
 import explain
+import hcl
 import program
 import programs
+import swap
 import tables as t
 
 LIMIT, TRIES = 2000, 1200
@@ -29,6 +31,10 @@ def main(words):
     if answer.status == 0:
         print("So no program shows a mistake: this file is right for every one.")
         return 0
+    if kind == "seq" and (where := unseen(design, path, full)):
+        print(f"No program shows it: {where} `icode` isn't what was read, but each other signal of the file is the same as")
+        print("with what was read, so the machine does the same; and with `word icode = imem_icode;` the file is right.")
+        return 1
     with tempfile.TemporaryDirectory() as folder:
         trial = Trial(path, kind, full, folder)
         tries = itertools.chain(programs.special(), programs.pairs(full), programs.at_random(numbers.get("--seed", 7), full))
@@ -39,6 +45,28 @@ def main(words):
     print(f"None of {numbers.get('--tries', TRIES)} programs shows the mistake. The rule is broken all the same: a program that shows it may be rare,")
     print("or there is none, for a No promises that the rule fails in the situation that it shows, and no more.")
     return 1
+
+
+def unseen(design, path, full):
+    """Where the `icode` of a file for SEQ isn't what was read, if that is all that is wrong with the file, and nothing that the machine does goes by it."""
+    flags = ["--full"] if full else []
+    with tempfile.NamedTemporaryFile("w", suffix=".hcl", encoding="utf-8") as it:
+        it.write(swap.swapped(design, hcl.Design("word icode = imem_icode;")))
+        it.flush()
+        if program.run("check", "seq", it.name, *flags, seconds=600).status != 0:
+            return None
+    wrong = set()
+    # (a failed fetch reads a nop)
+    read = [(1, t.NOP, 0), *itertools.product([0], range(16), range(16))]
+    for (error, icode, ifun), rA, rB, cnd, fails in itertools.product(read, range(16), range(16), (0, 1), (0, 1)):
+        given = {"imem_error": error, "imem_icode": icode, "imem_ifun": ifun, "rA": rA, "rB": rB, "Cnd": cnd, "dmem_error": fails}
+        own, right = (hcl.Situation(design, t.CONSTANTS, it, t.WORDS["seq"], {}) for it in (given, {**given, "icode": icode}))
+        if own.signal("icode") == icode:
+            continue
+        wrong.add("where the fetch fails" if error else f"at `{t.mnemonic(icode, ifun)}`")
+        if any(own.signal(name) is None or own.signal(name) != right.signal(name) for name in t.DEFINED["seq"] if name != "icode"):
+            return None
+    return ", ".join(sorted(wrong))
 
 
 class Trial:
