@@ -3,6 +3,7 @@ import contextlib
 import io
 import json
 import os
+import textwrap
 
 import explain
 import hcl
@@ -120,4 +121,4 @@ def signal(design, path, view, name, want):
         if name in design.by_name:
             explain.definition(design, path, name, view.now)
     value = t.constant(name, got) if got is not None else "can't be told here"
-    return {"name": name, "value": value, "want": "" if want is None or want == got else t.constant(name, want), "text": said.getvalue()}
+    return {"name": name, "value": value, "want": "" if want is None or want == got else t.constant(name, want), "text": textwrap.dedent(said.getvalue())}
