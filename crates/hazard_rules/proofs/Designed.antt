@@ -16,7 +16,7 @@ use Rattle.nets.proofs.Truths.{truth_kept}
 use Rattle.ctl_formula.proofs.Inside.{inside_more, tells_more}
 use Rattle.pipe_motion.specs.declared.settings.Settings.{Settings}
 use Rattle.rule_gates.specs.declared.rules.Rule.{Rule}
-use Rattle.pipe_obligations.specs.Rules.{obligation}
+use Rattle.pipe_obligations.specs.Rules.{obligation, rule_count}
 use Rattle.pipe_obligations.specs.Stages.{view_of}
 use Rattle.pipe_obligations.specs.Settled.{Truth, carries, may_show, most_free, predicts_taken, shows_je, shows_lf, shows_rm}
 use Rattle.hazard_rules.specs.Parts.{IsFormula, AreToldRules, AreRules, AreClosed, AreLate, TellPredictions}
@@ -170,7 +170,7 @@ pub formula_of : {net new : Gates} (terms : List Term) (ctl : List Entry) (atoms
 formula_of terms ctl atoms g f made k told = record { within = told.within; is = λ w α cv h c. told.is w α cv h (tells_more k made.inside (made.tells w α cv h c)) }
 
 pub rules_of : {net new : Gates} (v : Variant) (terms : List Term) (s : Settings) (ctl : List Entry) (atoms : List Atom) (list : List Rule) → IsTranslated terms net ctl atoms → Begins net new
-    → length list ≡ 27 → AreToldRules v s new ctl atoms list → AreRules v terms s new list
+    → length list ≡ rule_count → AreToldRules v s new ctl atoms list → AreRules v terms s new list
 rules_of v terms s ctl atoms list made k count told = record {
   atoms = atoms;
   are = made.are;

@@ -14,7 +14,7 @@ use Rattle.pipe_fields.specs.Layout.{Fields, bit_count, fields_of, number_of}
 use Rattle.pipe_motion.specs.declared.settings.Settings.{Settings}
 use Rattle.rule_gates.specs.declared.rules.Rule.{Rule}
 use Rattle.pipe_gates.specs.Told.{IsTold}
-use Rattle.pipe_obligations.specs.Rules.{obligation}
+use Rattle.pipe_obligations.specs.Rules.{obligation, rule_count}
 use Rattle.pipe_obligations.specs.Settled.{Truth, predicts_taken, carries, shows_lf, shows_je, shows_rm}
 
 -- the control values of the names of a file with these definitions
@@ -50,7 +50,7 @@ pub record AreRules (v : Variant) (terms : List Term) (s : Settings) (net : Gate
   pub atoms : List Atom
   pub are : AreAtoms pipe_rows terms atoms
   pub vars : net.vars ≡ bit_count + length atoms
-  pub count : length list ≡ 27
+  pub count : length list ≡ rule_count
   pub numbers : (k : ℕ) (x : Rule) → slice_get list k ≡ Some x → x.number ≡ k + 1
   pub gates : (k : ℕ) (x : Rule) → slice_get list k ≡ Some x → IsFormula terms atoms net x.gate (obligation v s atoms (k + 1))
 

@@ -7,7 +7,7 @@ ghost use Rattle.pipe_fields.specs.Layout.{bit_count, fields_of};
 ghost use Rattle.pipe_motion.specs.Gates.{HasView, view_at};
 ghost use Rattle.rule_gates.specs.Asked.{IsAsked};
 ghost use Rattle.pipe_obligations.specs.Obligations.{movers_of};
-ghost use Rattle.pipe_obligations.specs.Rules.{demand};
+ghost use Rattle.pipe_obligations.specs.Rules.{demand, rule_count};
 
 use ctl_formula::Controls;
 use motion_rules::{obligation_23, obligation_24, obligation_25, obligation_26, obligation_27};
@@ -35,7 +35,7 @@ pub(crate) fn demand_gate(
     requires view { HasView (length b.old.gates) y.now }
     requires known { Covers pipe_rows ctl.now }
     requires from { 1 ≤ number }
-    requires to { number ≤ 27 }
+    requires to { number ≤ rule_count }
     ensures begins { Begins b.old b.new }
     ensures asked { IfOk result (λ g. IsAsked b.new ctl.now g (λ w α cv.
         demand number v s.now (fields_of w) (view_at b.old w y.now) (movers_of α cv) α cv)) }

@@ -21,6 +21,7 @@ use motion_rules::{is_always, premise_gate};
 use nets::NetBuilder;
 use pipe_gates::view_gates;
 use pipe_motion::{Settings, ViewGates, implies};
+use pipe_obligations::RULE_COUNT;
 use rule_gates::Rule;
 use std::alloc::Global;
 use y86_base::{Memory, Variant};
@@ -89,7 +90,7 @@ fn rule_gate(
     requires always_is { (w : List Bool) (α : Assignment) → AtomsAre atoms.now bit_count w α → truth b.old always w ≡ built.asked_when v s.now atoms.now true (fields_of w) α }
     requires going_is { (w : List Bool) (α : Assignment) → AtomsAre atoms.now bit_count w α → truth b.old going w ≡ built.asked_when v s.now atoms.now false (fields_of w) α }
     requires from { 1 ≤ number }
-    requires to { number ≤ 27 }
+    requires to { number ≤ spec.rule_count }
     ensures told { IfOk result (λ g. IsTold b.new ctl.now atoms.now g (spec.obligation v s.now atoms.now number)) }
     ensures grows { Grows b.old b.new }
 {
@@ -112,13 +113,13 @@ pub(crate) fn rules_told(
     requires covers { Covers pipe_rows ctl.now }
     requires vars { bit_count + length atoms.now ≤ b.old.vars }
     requires few { length atoms.now ≤ 64 }
-    ensures count { IfOk result (λ list. length list.items ≡ 27) }
+    ensures count { IfOk result (λ list. length list.items ≡ spec.rule_count) }
     ensures rules { IfOk result (λ list. AreToldRules v s.now b.new ctl.now atoms.now list.items) }
     ensures grows { Grows b.old b.new }
 {
     let p = premises_of(b, v, s, atoms)?;
     let mut list = Vec::new(alloc);
-    for i in 0..27 {
+    for i in 0..RULE_COUNT {
         let number = i + 1;
         let gate = rule_gate(b, ctl, v, s, atoms, &p.view, p.always, p.going, number)?;
         match list.push(Rule { number, gate }) {
