@@ -58,6 +58,8 @@ def written(data):
 
 def run(path, object_path, given):
     """The data of a run and what to say of it, or none and why."""
+    if not os.path.exists(program.STAGES):
+        return None, f"lab: the page of a run needs the program y86-stages, and {program.STAGES} isn't there; Y86_STAGES in the environment may name it"
     lines = program.run(path, object_path, *given, "--to", str(MOST), program=program.STAGES, seconds=600)
     cycles, end = stages.cycles(lines.out)
     if not cycles or not end:
