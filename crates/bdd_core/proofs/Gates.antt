@@ -1,21 +1,20 @@
 -- The diagrams of gates: what is marked, and what each gate's diagram is.
-use Rattle.std.proofs.Common.{◌≡◌, ◌⊎◌, inl, inr, ℕ, ◌+◌, ◌<◌, ◌≤◌, Bool, true, false, not, ◌&&◌, List, [], ◌∷◌, ◌++◌, length, set, get_or, slice_get, Some, refl, sym, ap, ◌∙◌, subst, arith}
+use Rattle.std.proofs.Common.{◌≡◌, ◌⊎◌, inl, inr, ℕ, ◌+◌, ◌<◌, ◌≤◌, Bool, true, false, not, ◌&&◌, List, length, set, get_or, slice_get, Some, refl, sym, ap, ◌∙◌, subst, arith}
 use Rattle.std.proofs.lemmas.Bool.{cases_lt, cases_eq, cases_Bool}
-use Rattle.std.proofs.lemmas.List.{get_or-set_other, get_or-set_same, get_or_append_left, get_or_push, length_push, get_or_past}
+use Rattle.std.proofs.lemmas.List.{get_or-set_other, get_or-set_same, get_or_past}
 use Rattle.std.proofs.lemmas.Option.{slice_get_within}
-use Rattle.nets.specs.Nets.{Gates, ReadsEarlier, gate_value, truths}
+use Rattle.nets.specs.Nets.{Gates, gate_value, truths}
 use Rattle.nets.specs.Nets.{truth as gate_truth}
 use Rattle.nets.specs.declared.net.Gate.{Gate}
 use Rattle.nets.specs.declared.net.Gate.TheVariants.{Const, Var, Not, And}
 use Rattle.bdd_core.specs.Diagrams.{Diagrams, at, count, dia_truth, reach, IsWell, Keeps}
 use Rattle.bdd_core.specs.Answers.{IsMade, IsAnswer}
 use Rattle.bdd_core.specs.declared.results.Op.TheVariants.{And as Conjunction, Not as Negation}
-use Rattle.bdd_core.specs.Building.{ReadsMarked, IsCone, HasTruth, AreBuilt, AreMade, AreFirst, made_value, IsMadeOf}
-use Rattle.bdd_core.specs.Meaning.{Stay, IsBuilt}
+use Rattle.bdd_core.specs.Building.{ReadsMarked, IsCone, HasTruth, made_value, IsMadeOf}
+use Rattle.bdd_core.specs.Meaning.{Stay}
 use Rattle.bdd_core.proofs.Canonical.{part_truth}
 use Rattle.bdd_core.proofs.Applying.{first_truth, second_truth}
 use Rattle.bdd_core.proofs.Truths.{truth_kept}
-use Rattle.bdd_core.specs.declared.store.Dia.{Dia}
 
 -- the diagram of a variable
 pub variable_truth : (s : Diagrams) (x d : ℕ) (v : List Bool) → IsWell s → IsMade s x 0 1 d → dia_truth s d v ≡ get_or v x false
@@ -33,31 +32,8 @@ truth_stays {a} {b} {n} {j} {d} well keeps has = record {
   is = λ v h. truth_kept well keeps d v has.within ∙ has.is v (h ∙ keeps.vars);
 }
 
-pub built_more : {a b : Diagrams} {n : Gates} {needed : List Bool} {made : List ℕ} {i d : ℕ} → IsWell a → Keeps a b → AreBuilt a n needed made i
-    → (get_or needed i false ≡ true → HasTruth b n i d) → AreBuilt b n needed (made ++ d ∷ []) (i + 1)
-built_more {a} {b} {n} {needed} {made} {i} {d} well keeps built last = record {
-  size = let s = built.size in omega (arith, s, length_push made d);
-  each = λ j h is. elim (cases_lt j i) [
-    | inl p ↦ subst (HasTruth b n j) (sym (get_or_append_left made (d ∷ []) 0 j (let s = built.size in omega (arith, s, p)))) (truth_stays well keeps (built.each j p is))
-    | inr p ↦ (let e : j ≡ i = omega arith in
-        let r : get_or (made ++ d ∷ []) j 0 ≡ d = get_or_push made d 0 j (let s = built.size in omega (arith, s, e)) in
-        subst (HasTruth b n j) (sym r) (subst (λ (k : ℕ). HasTruth b n k d) (sym e) (last (ap (λ (k : ℕ). get_or needed k false) (sym e) ∙ is))))
-  ];
-}
-
--- the diagrams that a marked gate reads are there
-pub are_made : {s : Diagrams} {n : Gates} {i : ℕ} {needed : List Bool} {made : List ℕ} {g : Gate} → IsCone n needed → AreBuilt s n needed made i
-    → slice_get n.gates i ≡ Some g → get_or needed i false ≡ true → ReadsEarlier n.vars i g → AreMade s made g
-are_made {s} {n} {i} {needed} {made} {g} cone built is marked reads =
-    let c = cone.closed i g is marked in
-    record {
-      inverted = λ a e. (built.each a (reads.inverted a e) (c.inverted a e)).within;
-      left = λ a b e. (built.each a (reads.left a b e) (c.left a b e)).within;
-      right = λ a b e. (built.each b (reads.right a b e) (c.right a b e)).within;
-    }
-
 -- the truth of a gate from the diagrams that it reads, where these have the truths of their gates
-value_is : (a : Diagrams) (n : Gates) (made : List ℕ) (v : List Bool) (g : Gate) → ((j : ℕ) → g ≡ Not j → dia_truth a (get_or made j 0) v ≡ gate_truth n j v)
+pub value_is : (a : Diagrams) (n : Gates) (made : List ℕ) (v : List Bool) (g : Gate) → ((j : ℕ) → g ≡ Not j → dia_truth a (get_or made j 0) v ≡ gate_truth n j v)
     → ((j k : ℕ) → g ≡ And j k → (dia_truth a (get_or made j 0) v ≡ gate_truth n j v) × (dia_truth a (get_or made k 0) v ≡ gate_truth n k v))
     → made_value a made v g ≡ gate_value v (truths n v) g
 unfolding gate_truth
@@ -66,51 +42,6 @@ value_is a n made v (Var x) one two = refl
 value_is a n made v (Not k) one two = ap not (one k refl)
 value_is a n made v (And k l) one two =
     ap (λ x. x && dia_truth a (get_or made l 0) v) (two k l refl).0 ∙ ap (λ x. get_or (truths n v) k false && x) (two k l refl).1
-
--- it is the gate's truth
-pub gate_is : {a b : Diagrams} {n : Gates} {i d : ℕ} {needed : List Bool} {made : List ℕ} {g : Gate} → Keeps a b → IsCone n needed → AreBuilt a n needed made i
-    → slice_get n.gates i ≡ Some g → get_or needed i false ≡ true → ReadsEarlier n.vars i g
-    → ((w : List Bool) → gate_truth n i w ≡ gate_value w (truths n w) g) → IsMadeOf a b made g d → HasTruth b n i d
-gate_is {a} {b} {n} {i} {d} {needed} {made} {g} keeps cone built is marked reads meaning made_of =
-    let c = cone.closed i g is marked in
-    record {
-      within = made_of.within;
-      is = λ v h. (let z = h ∙ keeps.vars in
-          made_of.is v h
-          ∙ (value_is a n made v g (λ j e. (built.each j (reads.inverted j e) (c.inverted j e)).is v z)
-          (λ j k e. ((built.each j (reads.left j k e) (c.left j k e)).is v z, (built.each k (reads.right j k e) (c.right j k e)).is v z))
-          ∙ sym (meaning v)));
-    }
-
--- ---- the first gates, one more
-
-pub first_kept : {a b : Diagrams} {n : Gates} {made : List ℕ} → IsWell a → Keeps a b → AreFirst a n made → AreFirst b n made
-first_kept well keeps first = record { each = λ j h. truth_stays well keeps (first.each j h) }
-
-pub first_more : {a b : Diagrams} {n : Gates} {made : List ℕ} {i : ℕ} {g : Gate} {d : ℕ} → i ≡ length made → IsWell a → Keeps a b → AreFirst a n made → ReadsEarlier n.vars i g
-    → ((w : List Bool) → gate_truth n i w ≡ gate_value w (truths n w) g) → IsMadeOf a b made g d → AreFirst b n (made ++ d ∷ [])
-first_more {a} {b} {n} {made} {i} {g} {d} at_end well keeps first reads meaning made_of = record {
-  each = λ j h. elim (cases_lt j (length made)) [
-    | inl p ↦ subst (HasTruth b n j) (sym (get_or_append_left made (d ∷ []) 0 j p)) (truth_stays well keeps (first.each j p))
-    | inr p ↦ (let e : j ≡ length made = omega (arith, h, p, length_push made d) in
-        let here : j ≡ i = e ∙ sym at_end in
-        let r : get_or (made ++ d ∷ []) j 0 ≡ d = get_or_push made d 0 j (sym e) in
-        subst (HasTruth b n j) (sym r) (subst (λ (k : ℕ). HasTruth b n k d) (sym here) last))
-  ];
-}
-  where
-    below : {j : ℕ} → j < i → j < length made
-    below h = omega (arith, h, at_end)
-
-    last : HasTruth b n i d
-    last = record {
-      within = made_of.within;
-      is = λ v h. (let z = h ∙ keeps.vars in
-          made_of.is v h
-          ∙ (value_is a n made v g (λ j e. (first.each j (below (reads.inverted j e))).is v z)
-          (λ j k e. ((first.each j (below (reads.left j k e))).is v z, (first.each k (below (reads.right j k e))).is v z))
-          ∙ sym (meaning v)));
-    }
 
 -- marks that are written
 pub marked_one : (old : List Bool) (a : ℕ) → a < length old → get_or (set old a true) a false ≡ true
@@ -162,18 +93,6 @@ made_and old new made a b d well keeps h i answer = record {
       ∙ (ap (λ x. x && dia_truth new (get_or made b 0) v) (truth_kept well keeps (get_or made a 0) v h)
       ∙ ap (λ y. dia_truth old (get_or made a 0) v && y) (truth_kept well keeps (get_or made b 0) v i));
 }
-
-pub built_none : (s : Diagrams) (n : Gates) (needed : List Bool) (made : List ℕ) → made ≡ [] → AreBuilt s n needed made 0
-built_none s n needed made e = record { size = ap length e; each = λ j h is. absurd (omega arith) }
-
-pub built_is : {s : Diagrams} {n : Gates} {needed : List Bool} {made : List ℕ} {gate i : ℕ} {d : Dia} → get_or needed gate false ≡ true → AreBuilt s n needed made i → gate < i
-    → d.id ≡ get_or made gate 0 → IsBuilt s n gate d
-built_is {s} {n} {needed} {made} {gate} {i} {d} root built h e =
-    let has = built.each gate h root in
-    record {
-      within = let w = has.within in omega (arith, w, e);
-      is = λ v k. ap (λ (x : ℕ). dia_truth s x v) e ∙ has.is v k;
-    }
 
 -- marks from gate i on are closed
 pub record IsConeFrom (n : Gates) (needed : List Bool) (i : ℕ) : Type 0 where

@@ -10,4 +10,4 @@ mod Putting
 mod Exact
 mod Least
 mod Gates
-mod Going
+mod Knowing

@@ -1,5 +1,5 @@
 -- The diagrams of the gates of a net, one after another.
-use Rattle.std.specs.Prelude.{ℕ, ◌<◌, ◌≤◌, Bool, true, false, not, ◌&&◌, List, ◌≡◌, length, take, get_or, slice_get, Some}
+use Rattle.std.specs.Prelude.{ℕ, ◌<◌, Bool, true, false, not, ◌&&◌, List, ◌≡◌, length, get_or, slice_get, Some}
 use Rattle.nets.specs.Nets.{Gates}
 use Rattle.nets.specs.Nets.{truth as gate_truth}
 use Rattle.nets.specs.declared.net.Gate.{Gate}
@@ -22,10 +22,24 @@ pub record HasTruth (s : Diagrams) (n : Gates) (j d : ℕ) : Type 0 where
   pub within : d < count s
   pub is : (v : List Bool) → length v ≡ s.vars → dia_truth s d v ≡ gate_truth n j v
 
--- each marked gate before gate i has a diagram
-pub record AreBuilt (s : Diagrams) (n : Gates) (needed : List Bool) (made : List ℕ) (i : ℕ) : Type 0 where
-  pub size : length made ≡ i
-  pub each : (j : ℕ) → j < i → get_or needed j false ≡ true → HasTruth s n j (get_or made j 0)
+-- which gates of a net have diagrams, and the numbers of these
+pub record KnownGates : Type 0 where
+  pub known : List Bool
+  pub made : List ℕ
+
+-- the diagram of each gate that has one has its truth
+pub record AreKnown (s : Diagrams) (n : Gates) (b : KnownGates) : Type 0 where
+  pub size : length b.known ≡ length n.gates
+  pub room : length b.made ≡ length n.gates
+  pub each : (j : ℕ) → get_or b.known j false ≡ true → HasTruth s n j (get_or b.made j 0)
+
+-- the gates that had diagrams have some
+abbrev pub KnowsAll : KnownGates → KnownGates → Type 0
+KnowsAll old new = (j : ℕ) → get_or old.known j false ≡ true → get_or new.known j false ≡ true
+
+-- the marked gates before gate i have diagrams
+abbrev pub KnowsBefore : List Bool → KnownGates → ℕ → Type 0
+KnowsBefore needed b i = (j : ℕ) → j < i → get_or needed j false ≡ true → get_or b.known j false ≡ true
 
 -- the diagrams of the gates that a gate reads are there
 pub record AreMade (s : Diagrams) (made : List ℕ) (gate : Gate) : Type 0 where
@@ -44,12 +58,3 @@ made_value s made v (And a b) = dia_truth s (get_or made a 0) v && dia_truth s (
 pub record IsMadeOf (old new : Diagrams) (made : List ℕ) (gate : Gate) (d : ℕ) : Type 0 where
   pub within : d < count new
   pub is : (v : List Bool) → length v ≡ new.vars → dia_truth new d v ≡ made_value old made v gate
-
--- the diagrams of the first gates of a net, in their order
-pub record AreFirst (s : Diagrams) (n : Gates) (made : List ℕ) : Type 0 where
-  pub each : (j : ℕ) → j < length made → HasTruth s n j (get_or made j 0)
-
--- a list goes on: the numbers that it had stay
-pub record GoesOn (old new : List ℕ) : Type 0 where
-  pub more : length old ≤ length new
-  pub same : take (length old) new ≡ old

@@ -92,6 +92,7 @@ impl Store {
         if let Some(d) = self.recall(key) {
             return Ok(d);
         }
+        self.take_step()?;
         let split = self.split(key);
         let low = self.apply(Key {
             op: key.op,

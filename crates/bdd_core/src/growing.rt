@@ -1,80 +1,186 @@
-//! The diagrams of several formulas over one net, one after another.
-ghost use Rattle.std.specs.Prelude.{◌≡◌, ℕ, ◌+◌, ◌<◌, List, [], IfOk, OnOk, length};
-ghost use Rattle.bdd_core.specs.Building.{AreFirst, GoesOn};
-ghost use Rattle.bdd_core.specs.Diagrams.{IsWell, Keeps};
+//! The diagrams of formulas over one net, one after another: of each only the gates from which its truth comes.
+ghost use Rattle.std.specs.Prelude.{◌≡◌, ℕ, ◌+◌, ◌<◌, false, get_or, IfOk, OnOk, length, slice_get, Some, true};
+ghost use Rattle.nets.specs.Nets.{ReadsEarlier};
+ghost use Rattle.nets.specs.declared.net.Gate.{Gate};
+ghost use Rattle.bdd_core.specs.Building.{AreKnown, IsCone, KnowsAll, KnowsBefore, ReadsMarked};
+ghost use Rattle.bdd_core.specs.Diagrams.{Diagrams, IsWell, Keeps};
 ghost use Rattle.bdd_core.specs.Meaning.{IsBuilt, Stay};
 
+use crate::cone::cone;
 use crate::store::{Dia, Store};
-use nets::Net;
+use nets::{Gate, Net};
 use std::alloc::Global;
 use std::marker::Model;
 use y86_base::Memory;
 
-/// The diagrams of the first gates of a net, in their order: what one formula over them leaves for the next.
+/// Which gates of a net have diagrams, and these: what one formula over the net leaves for the next.
 #[derive(Drop)]
 pub struct Built {
+    known: Vec<bool>,
     made: Vec<u32>,
 }
 
 impl Model for Built {
-    ghost Value = { List ℕ };
+    ghost use Rattle.bdd_core.specs.Building.{KnownGates};
 
-    ghost view = { λ b. b.made.items };
+    ghost Value = { KnownGates };
+
+    ghost view = { λ b. record { known = b.known.items; made = b.made.items } };
 }
 
 impl Built {
     /// No diagram yet.
-    pub fn new(alloc: Global) -> Built
-        ensures { result ≡ [] }
+    #[tactic(auto, using(crate::proofs::Knowing::none_known))]
+    pub fn new(alloc: Global, n: &Net) -> Result<Built, Memory>
+        ensures { IfOk result (λ b. (s : Diagrams) → AreKnown s n.now b) }
     {
-        Built {
-            made: Vec::new(alloc),
+        let len = n.len() as usize;
+        let known = match vec![in alloc; false; len] {
+            Ok(known) => known,
+            Err(_) => return Err(Memory),
+        };
+        match vec![in alloc; 0; len] {
+            Ok(made) => Ok(Built { known, made }),
+            Err(_) => Err(Memory),
         }
     }
 }
 
+/// Whether the gates that a gate reads have diagrams.
+fn reads_known(known: &[bool], n: &Net, i: u64) -> bool
+    requires inside { i < length n.now.gates }
+    requires size { length known.now ≡ length n.now.gates }
+    ensures { result ≡ true → (g : Gate) → slice_get n.now.gates i ≡ Some g → ReadsMarked known.now g }
+{
+    match n.gate(i) {
+        Gate::Not(a) => known[a as usize],
+        Gate::And(a, b) => known[a as usize] && known[b as usize],
+        _ => true,
+    }
+}
+
 impl Store {
-    /// The diagram of the first gate that has none yet.
-    #[tactic(auto, using(crate::proofs::Going::goes_on_self, crate::proofs::Going::goes_on_by_one))]
-    fn add_next(&mut self, n: &Net, built: &mut Built) -> Result<(), Memory>
+    /// The diagram of a gate, where those that it reads have theirs.
+    #[tactic(auto, using(crate::proofs::Knowing::known_stays, crate::proofs::Knowing::are_made, crate::proofs::Truths::keeps_self))]
+    fn add_to(&mut self, n: &Net, built: &mut Built, i: u64) -> Result<(), Memory>
         requires vars { n.now.vars ≡ self.old.vars }
-        requires inside { length built.old < length n.now.gates }
-        requires first { AreFirst self.old n.now built.old }
+        requires inside { i < length n.now.gates }
+        requires known { AreKnown self.old n.now built.old }
+        requires reads { (g : Gate) → slice_get n.now.gates i ≡ Some g → ReadsEarlier n.now.vars i g → ReadsMarked built.old.known g }
         ensures kept { Keeps self.old self.new }
         ensures well { IsWell self.new }
-        ensures first { AreFirst self.new n.now built.new }
-        ensures goes_on { GoesOn built.old built.new }
-        ensures more { OnOk result (length built.new ≡ length built.old + 1) }
+        ensures known { AreKnown self.new n.now built.new }
+        ensures all { KnowsAll built.old built.new }
+        ensures added { OnOk result (get_or built.new.known i false ≡ true) }
     {
         let _ = self.vars();
-        let i = built.made.len() as u64;
         let d = self.add_gate(built.made.as_slice(), n.gate(i))?;
-        if built.made.push(d).is_err() {
-            return Err(Memory);
+        built.made[i as usize] = d;
+        built.known[i as usize] = true;
+        Ok(())
+    }
+
+    /// The diagram of gate `i`, if it is marked and has none.
+    #[tactic(auto, using(crate::proofs::Knowing::reads_known, crate::proofs::Knowing::one_more, crate::proofs::Truths::keeps_self))]
+    fn add_marked(
+        &mut self,
+        n: &Net,
+        built: &mut Built,
+        needed: &[bool],
+        i: u64,
+    ) -> Result<(), Memory>
+        requires vars { n.now.vars ≡ self.old.vars }
+        requires inside { i < length n.now.gates }
+        requires cone { IsCone n.now needed.now }
+        requires known { AreKnown self.old n.now built.old }
+        requires before { KnowsBefore needed.now built.old i }
+        ensures kept { Keeps self.old self.new }
+        ensures well { IsWell self.new }
+        ensures known { AreKnown self.new n.now built.new }
+        ensures all { KnowsAll built.old built.new }
+        ensures before { OnOk result (KnowsBefore needed.now built.new (i + 1)) }
+    {
+        let _ = self.vars();
+        if !needed[i as usize] || built.known[i as usize] {
+            return Ok(());
+        }
+        self.add_to(n, built, i)
+    }
+
+    /// The diagrams of the gates from which the truth of a gate comes.
+    #[tactic(auto, using(crate::proofs::Truths::keeps_self, crate::proofs::Truths::keeps_more))]
+    fn add_cone(&mut self, n: &Net, built: &mut Built, gate: u64) -> Result<(), Memory>
+        requires vars { n.now.vars ≡ self.old.vars }
+        requires gate { gate < length n.now.gates }
+        requires known { AreKnown self.old n.now built.old }
+        ensures kept { Keeps self.old self.new }
+        ensures well { IsWell self.new }
+        ensures known { AreKnown self.new n.now built.new }
+        ensures all { KnowsAll built.old built.new }
+        ensures added { OnOk result (get_or built.new.known gate false ≡ true) }
+    {
+        let _ = self.vars();
+        let needed = cone(self.allocator(), n, gate)?;
+        let mut i = 0;
+        while i <= gate {
+            self.add_marked(n, built, needed.as_slice(), i)?;
+            i += 1;
         }
         Ok(())
     }
 
-    /// The diagram of a gate of a net, as `build` gives it. The gates that `built` has aren't built again, and those up
-    /// to this one are in it behind the call; also where memory is refused, the earlier diagrams stay.
-    #[tactic(auto, using(crate::proofs::Going::goes_on_self, crate::proofs::Going::goes_on_more))]
+    /// The diagram of a gate, if it has none.
+    #[tactic(auto, using(crate::proofs::Truths::keeps_self))]
+    fn add_for(&mut self, n: &Net, built: &mut Built, gate: u64) -> Result<(), Memory>
+        requires vars { n.now.vars ≡ self.old.vars }
+        requires gate { gate < length n.now.gates }
+        requires known { AreKnown self.old n.now built.old }
+        ensures kept { Keeps self.old self.new }
+        ensures well { IsWell self.new }
+        ensures known { AreKnown self.new n.now built.new }
+        ensures all { KnowsAll built.old built.new }
+        ensures added { OnOk result (get_or built.new.known gate false ≡ true) }
+    {
+        let _ = self.vars();
+        if built.known[gate as usize] {
+            return Ok(());
+        }
+        if reads_known(built.known.as_slice(), n, gate) {
+            return self.add_to(n, built, gate);
+        }
+        self.add_cone(n, built, gate)
+    }
+
+    /// The diagram of a gate of a net: its truth is the gate's at every valuation. The gates that `built` has aren't built
+    /// again; also where memory is refused, the earlier diagrams stay.
+    #[tactic(auto, using(crate::proofs::Gates::stays, crate::proofs::Knowing::known_stays, crate::proofs::Knowing::built_is))]
     pub fn build_on(&mut self, n: &Net, built: &mut Built, gate: u64) -> Result<Dia, Memory>
         requires vars { n.now.vars ≡ self.old.vars }
         requires gate { gate < length n.now.gates }
-        requires first { AreFirst self.old n.now built.old }
+        requires known { AreKnown self.old n.now built.old }
         ensures stay { Stay self.old self.new }
-        ensures first { AreFirst self.new n.now built.new }
+        ensures known { AreKnown self.new n.now built.new }
+        ensures all { KnowsAll built.old built.new }
         ensures built { IfOk result (IsBuilt self.new n.now gate) }
-        ensures goes_on { GoesOn built.old built.new }
-        ensures reaches { IfOk result (λ d. gate < length built.new) }
+        ensures added { IfOk result (λ d. get_or built.new.known gate false ≡ true) }
     {
         let _ = self.vars();
         self.ready()?;
-        while built.made.len() as u64 <= gate {
-            self.add_next(n, built)?;
-        }
+        self.add_for(n, built, gate)?;
         Ok(Dia {
             id: built.made[gate as usize] as u64,
         })
+    }
+
+    /// The diagram of a gate of a net, with no other built before.
+    #[tactic(auto, using(crate::proofs::Gates::stays, crate::proofs::Truths::keeps_self))]
+    pub fn build(&mut self, n: &Net, gate: u64) -> Result<Dia, Memory>
+        requires vars { n.now.vars ≡ self.old.vars }
+        requires gate { gate < length n.now.gates }
+        ensures stay { Stay self.old self.new }
+        ensures built { IfOk result (IsBuilt self.new n.now gate) }
+    {
+        let mut built = Built::new(self.allocator(), n)?;
+        self.build_on(n, &mut built, gate)
     }
 }

@@ -21,6 +21,7 @@ pub struct Decision {
 pub struct Nodes {
     alloc: Global,
     vars: u32,
+    most: u64,
     list: Vec<Decision>,
     places: Vec<u32>,
 }
@@ -40,14 +41,15 @@ impl Nodes {
     /// How many nodes there may be, so that each number fits in 32 bits.
     const MOST: usize = 4_000_000_000;
 
-    /// No nodes.
-    pub fn new(alloc: Global, vars: u32) -> Nodes
+    /// No nodes, and no more than `most` of them later.
+    pub fn new(alloc: Global, vars: u32, most: u64) -> Nodes
         ensures vars { result.vars ≡ vars }
         ensures none { result.nodes ≡ [] }
     {
         Nodes {
             alloc,
             vars,
+            most,
             list: Vec::new(alloc),
             places: Vec::new(alloc),
         }
@@ -97,7 +99,7 @@ impl Nodes {
         ensures err { OnErr result (self.new ≡ self.old) }
     {
         let at = self.list.len();
-        if at >= Nodes::MOST {
+        if at >= Nodes::MOST || at as u64 >= self.most {
             return Err(Memory);
         }
         with_room(self.alloc, self.list.as_slice(), &mut self.places)?;

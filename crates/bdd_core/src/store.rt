@@ -29,6 +29,7 @@ pub struct Store {
     alloc: Global,
     nodes: Nodes,
     results: Vec<Entry>,
+    steps: u64,
 }
 
 impl Model for Store {
@@ -48,11 +49,32 @@ impl Store {
         ensures vars { result.vars ≡ vars }
         ensures none { result.nodes ≡ [] }
     {
+        Store::bounded(alloc, vars, u64::MAX, u64::MAX)
+    }
+
+    /// A store in which no more than `steps` operations and `nodes` nodes are made: behind them it answers as where memory
+    /// is refused.
+    pub fn bounded(alloc: Global, vars: u32, steps: u64, nodes: u64) -> Store
+        ensures vars { result.vars ≡ vars }
+        ensures none { result.nodes ≡ [] }
+    {
         Store {
             alloc,
-            nodes: Nodes::new(alloc, vars),
+            nodes: Nodes::new(alloc, vars, nodes),
             results: Vec::new(alloc),
+            steps,
         }
+    }
+
+    /// Takes one step of those that are left.
+    pub(crate) fn take_step(&mut self) -> Result<(), Memory>
+        ensures { self.new ≡ self.old }
+    {
+        if self.steps == 0 {
+            return Err(Memory);
+        }
+        self.steps -= 1;
+        Ok(())
     }
 
     /// The allocator of the store.

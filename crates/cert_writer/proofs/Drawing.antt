@@ -6,7 +6,7 @@ use Rattle.nets.specs.Nets.{Gates, truth}
 use Rattle.net_substitution.specs.Substitution.{AreCopies, AreSources, behind, source_truth}
 use Rattle.net_substitution.specs.declared.copies.Source.{Source}
 use Rattle.net_substitution.specs.declared.copies.Source.TheVariants as source
-use Rattle.bdd_core.specs.Building.{AreFirst}
+use Rattle.bdd_core.specs.Building.{AreKnown, KnownGates}
 use Rattle.bdd_core.specs.Diagrams.{Diagrams}
 use Rattle.bdd_core.specs.Meaning.{IsBuilt, Stay}
 use Rattle.bdd_core.specs.declared.store.Dia.{Dia}
@@ -57,16 +57,16 @@ behind_places order ranks o w size =
         ∙ get_or_default w v false d (omega (arith, h, size))
 
 -- so far the gates of the copy have diagrams
-pub record AreDrawn (copy : Gates) (gates : List ℕ) (s : Diagrams) (built : List ℕ) (dias : List Dia) (i : ℕ) : Type 0 where
+pub record AreDrawn (copy : Gates) (gates : List ℕ) (s : Diagrams) (built : KnownGates) (dias : List Dia) (i : ℕ) : Type 0 where
   pub vars : copy.vars ≡ s.vars
-  pub first : AreFirst s copy built
+  pub known : AreKnown s copy built
   pub size : length dias ≡ i
   pub each : (j : ℕ) → j < i → IsBuilt s copy (get_or gates j 0) (get_or dias j no_dia)
 
-pub drawn_none : (copy : Gates) (gates : List ℕ) (s : Diagrams) (built : List ℕ) (dias : List Dia) → copy.vars ≡ s.vars → built ≡ [] → dias ≡ [] → AreDrawn copy gates s built dias 0
+pub drawn_none : (copy : Gates) (gates : List ℕ) (s : Diagrams) (built : KnownGates) (dias : List Dia) → copy.vars ≡ s.vars → AreKnown s copy built → dias ≡ [] → AreDrawn copy gates s built dias 0
 drawn_none copy gates s built dias vars b d = record {
   vars = vars;
-  first = record { each = λ j h. absurd (let l = ap length b in omega (arith, h, l)) };
+  known = b;
   size = ap length d;
   each = λ j h. absurd (omega (arith, h));
 }
@@ -74,11 +74,11 @@ drawn_none copy gates s built dias vars b d = record {
 built_stays : (copy : Gates) (s t : Diagrams) (gate : ℕ) (d : Dia) → Stay s t → IsBuilt s copy gate d → IsBuilt t copy gate d
 built_stays copy s t gate d k b = record { within = k.stay d b.within; is = λ v size. k.truths d b.within v ∙ b.is v (size ∙ k.vars) }
 
-pub drawn_more : (copy : Gates) (gates : List ℕ) (s t : Diagrams) (built more : List ℕ) (dias new : List Dia) (i : ℕ) (d : Dia) → AreDrawn copy gates s built dias i → Stay s t → AreFirst t copy more →
+pub drawn_more : (copy : Gates) (gates : List ℕ) (s t : Diagrams) (built more : KnownGates) (dias new : List Dia) (i : ℕ) (d : Dia) → AreDrawn copy gates s built dias i → Stay s t → AreKnown t copy more →
     IsBuilt t copy (get_or gates i 0) d → new ≡ dias ++ d ∷ [] → AreDrawn copy gates t more new (i + 1)
 drawn_more copy gates s t built more dias new i d a k f b e = record {
   vars = a.vars ∙ sym k.vars;
-  first = f;
+  known = f;
   size = (let l = ap length e in let m = length_push dias d in let n = a.size in omega (arith, l, m, n));
   each = λ j h. subst (λ (x : Dia). IsBuilt t copy (get_or gates j 0) x) (sym (ap (λ (xs : List Dia). get_or xs j no_dia) e)) (by j h (cases_lt j i));
 }
@@ -95,7 +95,7 @@ drawn_more copy gates s t built more dias new i d a k f b e = record {
 pub gate_within : (n copy : Gates) (to : List Source) (gates : List ℕ) (i : ℕ) → AreCopies n copy to gates → i < length gates → get_or gates i 0 < length copy.gates
 gate_within n copy to gates i c h = (let g = c.each i h in g.within)
 
-pub drawn_all : (n copy : Gates) (order ranks : List ℕ) (to : List Source) (gates : List ℕ) (s : Diagrams) (built : List ℕ) (dias : List Dia) (i : ℕ) → IsOrder order ranks → s.vars ≡ length order → to ≡ map source.Var ranks →
+pub drawn_all : (n copy : Gates) (order ranks : List ℕ) (to : List Source) (gates : List ℕ) (s : Diagrams) (built : KnownGates) (dias : List Dia) (i : ℕ) → IsOrder order ranks → s.vars ≡ length order → to ≡ map source.Var ranks →
     length gates ≡ length n.gates → AreCopies n copy to gates → i ≡ length n.gates → AreDrawn copy gates s built dias i → IsDrawn n order s dias
 drawn_all n copy order ranks to gates s built dias i o vars e size c at a = record {
   vars = vars;

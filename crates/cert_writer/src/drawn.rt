@@ -52,7 +52,7 @@ pub fn draw(alloc: Global, n: &Net, order: &[u32], ranks: &[u32]) -> Result<Draw
     let to = sources(alloc, ranks)?;
     let copy = substitute(alloc, n, vars, to.as_slice())?;
     let mut store = Store::new(alloc, vars);
-    let mut built = Built::new(alloc);
+    let mut built = Built::new(alloc, &copy.net)?;
     let mut dias: Vec<Dia> = Vec::new(alloc);
     for i in 0..n.len() {
         let gate = copy.gates.items()[i as usize];

@@ -1,5 +1,4 @@
 pub mod Decided
 pub mod SeqVerdict
-pub mod Split
 pub mod OneSettings
 pub mod PipeVerdict

@@ -23,7 +23,8 @@ use Rattle.pipe_obligations.specs.Rules.{obligation, rule_count}
 use Rattle.pipe_obligations.specs.Settled.{Decides, Everywhere, IsFalseAt, IsLeastFalse, Somewhere, Truth, carries, predicts_taken, shows_je, shows_lf, shows_rm, PipeControls}
 use Rattle.rule_gates.specs.declared.rules.Rule.{Rule}
 use Rattle.rule_gates.specs.declared.rules.Rules.{Rules}
-use Rattle.verdicts.specs.Decisions.{AreGatesOf, IsAlwaysTrue, IsDecision, IsFirstFalse}
+use Rattle.decisions.specs.Decisions.{IsAlwaysTrue}
+use Rattle.verdicts.specs.Decisions.{AreGatesOf, IsDecision, IsFirstFalse}
 use Rattle.verdicts.specs.declared.decision.Failure.{Failure}
 use Rattle.control_check.specs.PipeVerdicts.{AcceptsPipe, AreDecided, AreFileRules, AreSettings, HasGates, IsDecided, RejectsPipe}
 use Rattle.control_check.proofs.OneSettings.{never_accepted, one_list}

@@ -1,4 +1,3 @@
 pub mod SeqVerdicts
-pub mod Splitting
 pub mod PipeVerdicts
 pub mod Accepted

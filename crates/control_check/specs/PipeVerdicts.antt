@@ -12,7 +12,7 @@ use Rattle.pipe_refinement.specs.Refines.{Refines}
 use Rattle.hazard_rules.specs.Parts.{AreRules}
 use Rattle.rule_gates.specs.declared.rules.Rules.{Rules}
 use Rattle.pipe_obligations.specs.Settled.{Holds, IsLeastFalse, IsSet, PipeControls}
-use Rattle.verdicts.specs.Decisions.{IsAlwaysTrue}
+use Rattle.decisions.specs.Decisions.{IsAlwaysTrue}
 use Rattle.verdicts.specs.Questions.{IsFault}
 use Rattle.verdicts.specs.declared.fault.CheckFault.{CheckFault}
 use Rattle.control_check.specs.declared.verdict.Verdict.{Verdict}

@@ -4,12 +4,10 @@
 mod accepted;
 mod laws;
 mod pipe_verdict;
-mod splitting;
 mod verdict;
 
 pub use accepted::{Accepted, accept_pipe};
 pub use laws::law_of_settings;
 pub use pipe_verdict::{check_pipe, file_rules, file_settings};
-pub use splitting::decide_in_parts;
 pub use verdict::{Verdict, check_seq};
 pub use verdicts::{CheckFault, Failure, decide, told};

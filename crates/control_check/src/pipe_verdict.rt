@@ -1,5 +1,5 @@
 ghost use Rattle.std.specs.Prelude.{◌≡◌, ◌<◌, IfErr, IfOk, length, not, true};
-ghost use Rattle.bdd_core.specs.Building.{AreFirst};
+ghost use Rattle.bdd_core.specs.Building.{AreKnown};
 ghost use Rattle.dp_signals.specs.PipeTable.{pipe_rows};
 ghost use Rattle.hcl_types.specs.Tables.{IsBound, IsOrderOf};
 ghost use Rattle.verdicts.specs.Decisions.{AreGatesOf, IsDecision};
@@ -8,39 +8,65 @@ ghost use Rattle.control_check.specs.SeqVerdicts.{is_yes};
 ghost use Rattle.hazard_rules.specs.Belonging.{BelongTo};
 ghost use Rattle.hazard_rules.specs.Parts.{AreRules};
 
-use crate::splitting::decide_in_parts;
 use crate::verdict::Verdict;
 use bdd_core::{Built, Store};
+use decisions::decide_in_parts;
 use hazard_rules::{Late, Parts, pipe_late, pipe_parts, pipe_rules};
 use hcl_types::{Design, Order};
 use nets::Net;
 use pipe_fields::{BIT_COUNT, places};
 use pipe_motion::Settings;
-use pipe_obligations::RULE_COUNT;
 use rule_gates::{Rule, Rules};
 use std::alloc::Global;
-use verdicts::{CheckFault, Failure, decide, told};
+use verdicts::{CheckFault, Failure, decide_in_order, told};
 use y86_base::{Memory, Variant};
 
-/// Whether a gate is true of every valuation.
-#[tactic(auto, using(crate::proofs::Decided::is_always, crate::proofs::Decided::is_not_always))]
-fn always_true(store: &mut Store, built: &mut Built, net: &Net, gate: u64) -> Result<bool, Memory>
+/// How many steps the diagrams of settings may take together.
+const STEPS: u64 = 500_000;
+
+/// How many nodes they may have.
+const NODES: u64 = 400_000;
+
+/// Whether a gate is true of every valuation, decided part by part.
+#[tactic(auto, using(crate::proofs::Decided::alone_gate, crate::proofs::Decided::alone_true, crate::proofs::Decided::alone_false))]
+fn true_in_parts(alloc: Global, net: &Net, gate: u64) -> Result<bool, Memory>
     requires gate { gate < length net.now.gates }
-    requires vars { store.old.vars ≡ net.now.vars }
-    requires first { AreFirst store.old net.now built.old }
-    ensures vars { store.new.vars ≡ store.old.vars }
-    ensures first { AreFirst store.new net.now built.new }
     ensures decided { IfOk result (IsDecided net.now gate) }
 {
-    let diagram = store.build_on(net, built, gate)?;
-    match store.least_false(diagram)? {
+    match decide_in_parts(alloc, net, &[gate])? {
         Some(_) => Ok(false),
         None => Ok(true),
     }
 }
 
+/// Whether a gate is true of every valuation.
+#[tactic(auto, using(crate::proofs::Decided::is_always, crate::proofs::Decided::is_not_always))]
+fn always_true(
+    alloc: Global,
+    store: &mut Store,
+    built: &mut Built,
+    net: &Net,
+    gate: u64,
+) -> Result<bool, Memory>
+    requires gate { gate < length net.now.gates }
+    requires vars { store.old.vars ≡ net.now.vars }
+    requires known { AreKnown store.old net.now built.old }
+    ensures vars { store.new.vars ≡ store.old.vars }
+    ensures known { AreKnown store.new net.now built.new }
+    ensures decided { IfOk result (IsDecided net.now gate) }
+{
+    match store.build_on(net, built, gate) {
+        Ok(diagram) => match store.least_false(diagram)? {
+            Some(_) => Ok(false),
+            None => Ok(true),
+        },
+        Err(Memory) => true_in_parts(alloc, net, gate),
+    }
+}
+
 /// Which of seven gates are true of every valuation.
 fn seven(
+    alloc: Global,
     store: &mut Store,
     built: &mut Built,
     net: &Net,
@@ -48,14 +74,14 @@ fn seven(
 ) -> Result<[bool; 7], Memory>
     requires gates { HasGates net.now gates.now }
     requires vars { store.old.vars ≡ net.now.vars }
-    requires first { AreFirst store.old net.now built.old }
+    requires known { AreKnown store.old net.now built.old }
     ensures vars { store.new.vars ≡ store.old.vars }
-    ensures first { AreFirst store.new net.now built.new }
+    ensures known { AreKnown store.new net.now built.new }
     ensures decided { IfOk result (AreDecided net.now gates.now) }
 {
     let mut truths = [false; 7];
     for i in 0..7 {
-        truths[i] = always_true(store, built, net, gates[i])?;
+        truths[i] = always_true(alloc, store, built, net, gates[i])?;
     }
     Ok(truths)
 }
@@ -77,11 +103,11 @@ fn decide_early(alloc: Global, parts: &Parts) -> Result<Early, Memory>
     ensures backward { IfOk result (λ e. AreDecided parts.now.net parts.now.pb e.pb) }
     ensures target { IfOk result (λ e. IsDecided parts.now.net parts.now.tv e.tv) }
 {
-    let mut store = Store::new(alloc, parts.net.vars());
-    let mut built = Built::new(alloc);
-    let pt = seven(&mut store, &mut built, &parts.net, &parts.pt)?;
-    let pb = seven(&mut store, &mut built, &parts.net, &parts.pb)?;
-    let tv = always_true(&mut store, &mut built, &parts.net, parts.tv)?;
+    let mut store = Store::bounded(alloc, parts.net.vars(), STEPS, NODES);
+    let mut built = Built::new(alloc, &parts.net)?;
+    let pt = seven(alloc, &mut store, &mut built, &parts.net, &parts.pt)?;
+    let pb = seven(alloc, &mut store, &mut built, &parts.net, &parts.pb)?;
+    let tv = always_true(alloc, &mut store, &mut built, &parts.net, parts.tv)?;
     Ok(Early { pt, pb, tv })
 }
 
@@ -96,11 +122,11 @@ fn decide_late(alloc: Global, net: &Net, late: Late, early: Early) -> Result<Set
     ensures je { IfOk result (λ s. IsDecided net.now late.je (not s.je)) }
     ensures rm { IfOk result (λ s. IsDecided net.now late.rm (not s.rm)) }
 {
-    let mut store = Store::new(alloc, net.vars());
-    let mut built = Built::new(alloc);
-    let lf = always_true(&mut store, &mut built, net, late.lf)?;
-    let je = always_true(&mut store, &mut built, net, late.je)?;
-    let rm = always_true(&mut store, &mut built, net, late.rm)?;
+    let mut store = Store::bounded(alloc, net.vars(), STEPS, NODES);
+    let mut built = Built::new(alloc, net)?;
+    let lf = always_true(alloc, &mut store, &mut built, net, late.lf)?;
+    let je = always_true(alloc, &mut store, &mut built, net, late.je)?;
+    let rm = always_true(alloc, &mut store, &mut built, net, late.rm)?;
     let pt = early.pt;
     let pb = early.pb;
     Ok(Settings {
@@ -227,10 +253,7 @@ fn decide_pipe(alloc: Global, net: &Net, list: &[Rule]) -> Result<Option<Failure
     ensures { IfOk result (IsDecision net.now list.now) }
 {
     let order = registers_last(alloc, net.vars())?;
-    if order.len() as u64 == net.vars() as u64 && list.len() <= RULE_COUNT as usize {
-        return decide_in_parts(alloc, net, list, order.as_slice());
-    }
-    decide(alloc, net, list)
+    decide_in_order(alloc, net, list, order.as_slice())
 }
 
 /// The rules of a file, and the settings at which they are asked.

@@ -1,2 +1,3 @@
 pub mod Substitution
 pub mod Parts
+pub mod Forcing

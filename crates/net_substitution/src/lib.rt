@@ -3,7 +3,9 @@
 #![tactic(auto)]
 
 mod copies;
+mod implied;
 mod parts;
 
 pub use copies::{Source, Substituted, substitute};
+pub use implied::forced;
 pub use parts::part;

@@ -1,0 +1,5 @@
+mod Bits
+mod Sources
+mod Searching
+mod Deciding
+mod Forced

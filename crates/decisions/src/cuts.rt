@@ -1,0 +1,166 @@
+//! The parts of the valuations by their first bits.
+ghost use Rattle.std.specs.Prelude.{◌≡◌, ℕ, List, ◌<◌, ◌≤◌, ◌^◌, false, get_or, IfOk, length};
+ghost use Rattle.nets.specs.Nets.{Gates};
+ghost use Rattle.field_bits.specs.Spelling.{spell};
+ghost use Rattle.decisions.specs.Decisions.{AreGatesOf};
+ghost use Rattle.decisions.specs.Splitting.{AreChosen, AreSourcesIn, StandFor};
+
+use net_substitution::{Source, forced, substitute};
+use nets::Net;
+use std::alloc::Global;
+use y86_base::{Items, Memory};
+
+/// By how many first bits the valuations are parted, and into how many parts.
+#[derive(Clone, Copy, Debug)]
+pub struct Cut {
+    pub bits: u32,
+    pub parts: u64,
+}
+
+/// The cut of the valuations of so many variables: by six bits (for the pipeline these are the kinds of its stages).
+pub fn cut_of(vars: u32) -> Cut
+    ensures parts { result.parts ≡ 2 ^ result.bits }
+    ensures bits { result.bits ≤ vars }
+{
+    if vars < 6 {
+        Cut { bits: 0, parts: 1 }
+    } else {
+        Cut { bits: 6, parts: 64 }
+    }
+}
+
+/// One of the bits of a part, the most significant one first.
+#[tactic(auto, using(crate::proofs::Bits::bit_before, crate::proofs::Bits::bit_last))]
+fn bit_of(part: u64, bits: u32, i: u32) -> bool
+    requires { i < bits }
+    ensures { result ≡ get_or (spell bits part) i false }
+{
+    let mut rest = part;
+    let mut left = bits;
+    while left > i + 1 {
+        rest /= 2;
+        left -= 1;
+    }
+    rest % 2 == 1
+}
+
+/// What stands in the places of the variables in the copy for a part.
+pub fn sources_in(alloc: Global, bits: u32, part: u64, vars: u32) -> Result<Vec<Source>, Memory>
+    ensures { IfOk result (λ to. AreSourcesIn bits part vars to.items) }
+{
+    let mut to: Vec<Source> = Vec::new(alloc);
+    for i in 0..vars {
+        let source = if i < bits {
+            Source::Const(bit_of(part, bits, i))
+        } else {
+            Source::Var(i)
+        };
+        if to.push(source).is_err() {
+            return Err(Memory);
+        }
+    }
+    Ok(to)
+}
+
+/// A copy of a net, and gates of it.
+#[derive(Drop)]
+pub struct Part {
+    pub net: Net,
+    pub gates: Items<u64>,
+}
+
+/// The first of some gates, in a copy of their net.
+pub fn chosen(
+    alloc: Global,
+    made: &[u64],
+    gates: &[u64],
+    count: usize,
+) -> Result<Items<u64>, Memory>
+    requires within { count ≤ length gates.now }
+    requires gates { (j : ℕ) → j < length gates.now → get_or gates.now j 0 < length made.now }
+    ensures { IfOk result (AreChosen made.now gates.now count) }
+{
+    let mut chosen: Vec<u64> = Vec::new(alloc);
+    for j in 0..count {
+        if chosen.push(made[gates[j] as usize]).is_err() {
+            return Err(Memory);
+        }
+    }
+    Ok(Items::of(chosen))
+}
+
+/// The first of some gates, in the copy of their net for a part.
+#[tactic(auto, using(crate::proofs::Sources::are_sources, crate::proofs::Sources::gates_made))]
+fn part_of(
+    alloc: Global,
+    net: &Net,
+    gates: &[u64],
+    count: usize,
+    bits: u32,
+    part: u64,
+) -> Result<Part, Memory>
+    requires gates { AreGatesOf net.now gates.now }
+    requires within { count ≤ length gates.now }
+    requires bits { bits ≤ net.now.vars }
+    requires part { part < 2 ^ bits }
+    ensures { IfOk result (StandFor net.now gates.now count bits part) }
+{
+    let to = sources_in(alloc, bits, part, net.vars())?;
+    let copy = substitute(alloc, net, net.vars(), to.as_slice())?;
+    let gates = chosen(alloc, copy.gates.items(), gates, count)?;
+    Ok(Part {
+        net: copy.net,
+        gates,
+    })
+}
+
+/// Whether a bit stands in the place of a variable.
+fn has_bit(to: &[Source]) -> bool {
+    for source in to {
+        match source {
+            Source::Const(_) => return true,
+            Source::Var(_) => {}
+        }
+    }
+    false
+}
+
+/// The same gates, with the bits put in that the variables have wherever one of them is false.
+#[tactic(auto, using(crate::proofs::Forced::gates_inside))]
+fn with_forced(alloc: Global, part: Part) -> Result<Part, Memory>
+    requires { AreGatesOf part.net part.gates }
+    ensures { IfOk result (λ new. (n : Gates) (gates : List ℕ) (count k p : ℕ) → StandFor n gates count k p part → StandFor n gates count k p new) }
+{
+    let to = forced(alloc, &part.net, part.gates.items())?;
+    if !has_bit(to.as_slice()) {
+        return Ok(part);
+    }
+    let copy = substitute(alloc, &part.net, part.net.vars(), to.as_slice())?;
+    let count = part.gates.items().len();
+    let gates = chosen(alloc, copy.gates.items(), part.gates.items(), count)?;
+    Ok(Part {
+        net: copy.net,
+        gates,
+    })
+}
+
+/// The first of some gates, in the copy of their net for a part, with the bits put in that they force.
+pub fn forced_part(
+    alloc: Global,
+    net: &Net,
+    gates: &[u64],
+    count: usize,
+    bits: u32,
+    part: u64,
+) -> Result<Part, Memory>
+    requires gates { AreGatesOf net.now gates.now }
+    requires within { count ≤ length gates.now }
+    requires bits { bits ≤ net.now.vars }
+    requires part { part < 2 ^ bits }
+    ensures { IfOk result (StandFor net.now gates.now count bits part) }
+{
+    let whole = part_of(alloc, net, gates, count, bits, part)?;
+    let once = with_forced(alloc, whole)?;
+    let twice = with_forced(alloc, once)?;
+    Ok(twice)
+}

@@ -1,0 +1,125 @@
+//! The first gate that is false of a valuation.
+ghost use Rattle.std.specs.Prelude.{◌≡◌, ◌<◌, ◌≤◌, IfOk, length};
+ghost use Rattle.decisions.specs.Decisions.{AreGatesOf, IsDecision};
+ghost use Rattle.decisions.specs.Splitting.{AreTrueTo, IsPass};
+
+use crate::cuts::{chosen, cut_of};
+use crate::least::least_in;
+use crate::pass::{Pass, run_pass};
+use crate::search::search;
+use net_substitution::part;
+use nets::{Net, Valuation};
+use std::alloc::Global;
+use y86_base::Memory;
+
+/// A gate that is false of some valuation: its place in the list, and the least such valuation.
+#[derive(Debug, PartialEq, Drop)]
+pub struct Counter {
+    pub place: usize,
+    pub valuation: Valuation,
+}
+
+/// How many steps the pass over the whole net may take.
+const STEPS: u64 = 2_000_000;
+
+/// How many nodes it may make.
+const NODES: u64 = 400_000;
+
+/// The decision part by part.
+#[tactic(auto, using(crate::proofs::Searching::all_true, crate::proofs::Searching::first_found, crate::proofs::Searching::not_none))]
+pub fn decide_in_parts(alloc: Global, net: &Net, gates: &[u64]) -> Result<Option<Counter>, Memory>
+    requires gates { AreGatesOf net.now gates.now }
+    ensures { IfOk result (IsDecision net.now gates.now) }
+{
+    let cut = cut_of(net.vars());
+    let found = search(alloc, net, gates, cut)?;
+    if found.place == gates.len() {
+        return Ok(None);
+    }
+    match least_in(alloc, net, gates[found.place], cut.bits, found.part)? {
+        Some(valuation) => Ok(Some(Counter {
+            place: found.place,
+            valuation,
+        })),
+        None => unreachable!(),
+    }
+}
+
+/// A pass over the whole net, with its variables in the given order. Where the order isn't one, it stops at once.
+#[tactic(auto, using(crate::proofs::Deciding::chosen_gates, crate::proofs::Deciding::pass_whole))]
+fn pass_whole(alloc: Global, net: &Net, gates: &[u64], order: &[u32]) -> Result<Pass, Memory>
+    requires gates { AreGatesOf net.now gates.now }
+    ensures { IfOk result (IsPass net.now gates.now) }
+{
+    if order.len() as u64 != net.vars() as u64 {
+        return Ok(Pass::Stopped(0));
+    }
+    let copy = match part(alloc, net, &[], order)? {
+        Some(copy) => copy,
+        None => return Ok(Pass::Stopped(0)),
+    };
+    let gates = chosen(alloc, copy.gates.items(), gates, gates.len())?;
+    run_pass(alloc, &copy.net, gates.items(), STEPS, NODES)
+}
+
+/// The decision where the gates before a place are true.
+#[tactic(auto, using(crate::proofs::Deciding::later_gates, crate::proofs::Deciding::later_true, crate::proofs::Deciding::later_first))]
+fn decide_from(
+    alloc: Global,
+    net: &Net,
+    gates: &[u64],
+    from: usize,
+) -> Result<Option<Counter>, Memory>
+    requires gates { AreGatesOf net.now gates.now }
+    requires from { from ≤ length gates.now }
+    requires earlier { AreTrueTo net.now gates.now from }
+    ensures { IfOk result (IsDecision net.now gates.now) }
+{
+    match decide_in_parts(alloc, net, &gates[from..])? {
+        Some(counter) => Ok(Some(Counter {
+            place: from + counter.place,
+            valuation: counter.valuation,
+        })),
+        None => Ok(None),
+    }
+}
+
+/// The first gate that is false of some valuation, by its place, with the least such valuation, the variables by their
+/// numbers and 0 before 1; `None` where every gate is true of every valuation. In the pass over the whole net the
+/// variables stand in the given order.
+#[tactic(auto, using(crate::proofs::Deciding::alone_gates, crate::proofs::Deciding::alone_first, crate::proofs::Deciding::alone_not))]
+pub fn decide_in_order(
+    alloc: Global,
+    net: &Net,
+    gates: &[u64],
+    order: &[u32],
+) -> Result<Option<Counter>, Memory>
+    requires gates { AreGatesOf net.now gates.now }
+    ensures { IfOk result (IsDecision net.now gates.now) }
+{
+    match pass_whole(alloc, net, gates, order)? {
+        Pass::True => Ok(None),
+        Pass::False(k) => match decide_in_parts(alloc, net, &[gates[k]])? {
+            Some(counter) => Ok(Some(Counter {
+                place: k,
+                valuation: counter.valuation,
+            })),
+            None => unreachable!(),
+        },
+        Pass::Stopped(k) => decide_from(alloc, net, gates, k),
+    }
+}
+
+/// The same, with the variables in the order of their numbers.
+pub fn decide(alloc: Global, net: &Net, gates: &[u64]) -> Result<Option<Counter>, Memory>
+    requires gates { AreGatesOf net.now gates.now }
+    ensures { IfOk result (IsDecision net.now gates.now) }
+{
+    let mut order: Vec<u32> = Vec::new(alloc);
+    for i in 0..net.vars() {
+        if order.push(i).is_err() {
+            return Err(Memory);
+        }
+    }
+    decide_in_order(alloc, net, gates, order.as_slice())
+}

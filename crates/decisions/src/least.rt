@@ -1,0 +1,63 @@
+//! The least valuation of a part of which a gate is false.
+ghost use Rattle.std.specs.Prelude.{◌≡◌, ◌<◌, ◌≤◌, ◌^◌, IfOk, MatchOption, length};
+ghost use Rattle.net_substitution.specs.Substitution.{behind, source_truth};
+ghost use Rattle.decisions.specs.Splitting.{IsLeastIn, IsTrueWhere};
+
+use crate::cuts::sources_in;
+use bdd_core::Store;
+use net_substitution::{Source, substitute};
+use nets::{Net, Valuation};
+use std::alloc::Global;
+use y86_base::{Items, Memory};
+
+/// The truth of what stands in the place of a variable.
+fn source_bit(source: Source, u: &Valuation) -> bool
+    ensures { result ≡ source_truth u.now.bits source }
+{
+    match source {
+        Source::Const(bit) => bit,
+        Source::Var(x) => u.bits.items().get(x as usize).copied().unwrap_or(false),
+    }
+}
+
+/// The valuation that belongs to one of a copy.
+fn carried(alloc: Global, to: &[Source], u: &Valuation) -> Result<Valuation, Memory>
+    ensures { IfOk result (λ w. w.bits ≡ behind to.now u.now.bits) }
+{
+    let mut bits: Vec<bool> = Vec::new(alloc);
+    for i in 0..to.len() {
+        if bits.push(source_bit(to[i], u)).is_err() {
+            return Err(Memory);
+        }
+    }
+    Ok(Valuation {
+        bits: Items::of(bits),
+    })
+}
+
+/// The least valuation of a part of which a gate is false. `None` where there is none.
+#[tactic(auto, using(crate::proofs::Sources::are_sources))]
+pub fn least_in(
+    alloc: Global,
+    net: &Net,
+    gate: u64,
+    bits: u32,
+    part: u64,
+) -> Result<Option<Valuation>, Memory>
+    requires gate { gate < length net.now.gates }
+    requires bits { bits ≤ net.now.vars }
+    requires part { part < 2 ^ bits }
+    ensures { IfOk result (λ o. MatchOption o (IsTrueWhere net.now gate bits part) (λ w. IsLeastIn net.now gate bits part w.bits)) }
+{
+    let to = sources_in(alloc, bits, part, net.vars())?;
+    let copy = substitute(alloc, net, net.vars(), to.as_slice())?;
+    let mut store = Store::new(alloc, copy.net.vars());
+    let diagram = store.build(&copy.net, copy.gates.items()[gate as usize])?;
+    match store.least_false(diagram)? {
+        Some(u) => {
+            let w = carried(alloc, to.as_slice(), &u)?;
+            Ok(Some(w))
+        }
+        None => Ok(None),
+    }
+}
