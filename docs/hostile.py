@@ -191,6 +191,24 @@ def memory(calls):
         calls.told(f"{megabytes} MB of memory", got, usual, (6, b"", b"out of memory\n"))
 
 
+# ---- designs that were slow to check, and the first line of the answer, on which solvers agree (`lab/lab aig confirm`)
+SLOW = {
+    "a_setting.hcl": b"no O1",
+    "bubble_fields.hcl": b"no O10",
+    "picked_words.hcl": b"no O21",
+    "unread_choice.hcl": b"no O6",
+    "unread_product.hcl": b"no O4",
+}
+
+
+def slow(calls):
+    for name, answer in SLOW.items():
+        with open(os.path.join(HERE, "docs", "slow", name), "rb") as file:
+            calls.file(name, file.read())
+        status, out, _ = calls.run(["check", "pipe", name], preexec_fn=lambda: resource.setrlimit(resource.RLIMIT_CPU, (5, 6)))
+        calls.told(f"{name} within five seconds", (status, out.split(b"\n")[0]), (1, answer))
+
+
 def main():
     if len(sys.argv) != 2:
         sys.exit(__doc__)
@@ -198,7 +216,7 @@ def main():
         os.chmod(folder, 0o755)
         program = shutil.copy(os.path.abspath(sys.argv[1]), os.path.join(folder, "program"))
         calls = Calls(program, folder)
-        for part in (texts, prefixes, streams, files, waits, grows, memory):
+        for part in (texts, prefixes, streams, files, waits, grows, memory, slow):
             part(calls)
     print(f"{calls.count} calls, {calls.wrong} otherwise than written")
     sys.exit(calls.wrong > 0)
