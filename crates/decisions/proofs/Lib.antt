@@ -1,5 +1,5 @@
 mod Bits
 mod Sources
 mod Searching
-mod Deciding
+pub mod Deciding
 mod Forced
