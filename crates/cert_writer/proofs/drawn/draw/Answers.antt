@@ -1,8 +1,13 @@
 use Rattle.std.proofs.Common.{◌≡◌, List, ℕ, length, map, get_or, arith, subst, ◌∙◌}
 use Rattle.net_substitution.specs.declared.copies.Source.TheVariants as source
 use Rattle.bdd_core.specs.Meaning.{IsBuilt}
-use Rattle.cert_writer.proofs.Drawing.{drawn_all, drawn_more}
+use Rattle.cert_writer.proofs.Drawing.{drawn_all, drawn_more, drawn_none}
 use Rattle.cert_writer.proofs.drawn.draw.Goals as goal
+
+pub loop-i-init : goal.loop-i-init
+loop-i-init c =
+    let vars : c.in_ok-copy.copy.net.vars ≡ c.new-store.result.vars = (let copied = c.in_ok-copy.ensures.vars in let new = c.new-store.ensures.vars in omega (arith, copied, new)) in
+    drawn_none c.in_ok-copy.copy.net c.in_ok-copy.copy.gates c.new-store.result c.in_ok-built.built c.new-dias.result.items vars (c.in_ok-built.ensures c.new-store.result) c.new-dias.ensures.items
 
 pub loop-i-preserved : goal.loop-i-preserved
 loop-i-preserved c =
