@@ -7,6 +7,7 @@ The commands of one page run in one folder that has the examples and lab/, so th
 In a section such as `### O5`, the block behind "A file that breaks it: `std.hcl`" has definitions that stand in the place of that
 file's own, and the block behind "The check answers" is what `check pipe` (of `### S5`, `check seq`, and of a change of `sp.hcl`,
 `check seqplus`) prints of the file so made.
+The commands of `./y86-stages` are run with that program where it is built, and else left out.
 Prints each command that differs, and ends with `N passed, M failed`.
 """
 import os
@@ -17,6 +18,7 @@ import sys
 import tempfile
 
 TOP = os.path.dirname(os.path.dirname(os.path.abspath(__file__)))
+STAGES = f"{TOP}/crates/y86_stages/out/y86_stages"
 
 
 def transcripts(path):
@@ -82,9 +84,12 @@ def check(path, program):
     with tempfile.TemporaryDirectory() as folder:
         shutil.copytree(f"{TOP}/examples", f"{folder}/examples")
         os.symlink(program, f"{folder}/y86")
+        os.symlink(STAGES, f"{folder}/y86-stages")
         os.symlink(f"{TOP}/lab", f"{folder}/lab")
         os.environ["Y86"] = program
         for number, command, lines in transcripts(path):
+            if "./y86-stages" in command and not os.path.exists(STAGES):
+                continue
             got, want = run(command, folder).rstrip("\n"), "\n".join(lines).rstrip("\n")
             if got == want:
                 passed += 1

@@ -1,0 +1,61 @@
+-- The machine that is watched is the machine of the run, by induction on the number of cycles.
+use Rattle.std.proofs.Common.{◌≡◌, ℕ, zero, suc, ◌+◌, true, false, List, ◌++◌, length, Option, Some, None, refl, sym, ◌∙◌, ap, subst, length-append, arith, add-one}
+use Rattle.std.specs.Option.{option_to_list}
+use Rattle.y86_base.specs.Stat.{stat_of}
+use Rattle.y86_base.specs.declared.parts.Variant.{Variant}
+use Rattle.y86_isa.specs.Machine.{is_aok}
+use Rattle.y86_isa.specs.declared.machine.Rec.{Rec}
+use Rattle.hcl_types.specs.declared.term.Term.{Term}
+use Rattle.dp_signals.specs.PipeCycle.{ending, next, retires}
+use Rattle.dp_signals.specs.PipeEquations.{Solves}
+use Rattle.dp_signals.specs.PipeNames as row
+use Rattle.dp_signals.specs.PipeRun.{Cycle, Pipe, PipeRun, after_cycle, end_by, start_pipe}
+use Rattle.dp_signals.specs.declared.pipe_state.PipeState.{PipeState}
+use Rattle.stage_text.specs.Watching.{IsOfRun, Watches, WatchesTheRun, Watching, after, count}
+use Rattle.stage_text.specs.declared.watching.Window.{Window}
+
+counted : (r : Option Rec) → length (option_to_list r) ≡ count r
+counted None = refl
+counted (Some r) = refl
+
+module _ (v : Variant) (terms : List Term) (window : Window) (image : List ℕ) (k : ℕ) (u s : Watching) (f : ℕ → ℕ) (p : Pipe) where
+  state_after : IsOfRun u p → s ≡ after window (suc k) u f → s.state ≡ next p.state f
+  unfolding after
+  state_after so_far e = ap (λ (x : Watching). x.state) e ∙ ap (λ x. next x f) so_far.state
+
+  end_after : s ≡ after window (suc k) u f → s.end ≡ end_by (ending f) (stat_of (f row.Stat))
+  unfolding after
+  end_after e = ap (λ (x : Watching). x.end) e
+
+  retired_after : IsOfRun u p → s ≡ after window (suc k) u f → s.retired ≡ length (p.records ++ option_to_list (retires p.state f))
+  unfolding after
+  retired_after so_far e =
+      ap (λ (x : Watching). x.retired) e
+      ∙ ap (λ x. u.retired + count (retires x f)) so_far.state
+      ∙ ap (λ n. n + count (retires p.state f)) so_far.retired
+      ∙ ap (λ n. length p.records + n) (sym (counted (retires p.state f)))
+      ∙ sym (length-append p.records (option_to_list (retires p.state f)))
+
+  one_more : PipeRun v terms image k p → IsOfRun u p → is_aok u.end ≡ true → Solves v terms u.state f → s ≡ after window (suc k) u f →
+      (q : Pipe) × PipeRun v terms image (suc k) q × IsOfRun s q
+  one_more run so_far going solves e =
+      let going' : is_aok p.end ≡ true = ap is_aok (sym so_far.end) ∙ going in
+      let solves' : Solves v terms p.state f = subst (λ x. Solves v terms x f) so_far.state solves in (
+        after_cycle p f,
+        (p, run, record { ended = λ over. absurd (grind (arith, over, going')); goes = λ _. (f, solves', refl) }),
+        record { state = state_after so_far e; end = end_after e; retired = retired_after so_far e },
+      )
+
+-- one more cycle of a machine that is watched
+pub watches_more : (v : Variant) (terms : List Term) (window : Window) (image : List ℕ) (k : ℕ) (u s : Watching) (f : ℕ → ℕ) →
+    Watches v terms window image k u → is_aok u.end ≡ true → Solves v terms u.state f → s ≡ after window (k + 1) u f →
+    Watches v terms window image (k + 1) s
+watches_more v terms window image k u s f watches going solves e =
+    subst (λ n. Watches v terms window image n s) (sym (add-one k)) (u, f, watches, going, solves, e ∙ ap (λ n. after window n u f) (add-one k))
+
+pub watches_the_run : WatchesTheRun
+watches_the_run v terms window image zero s h =
+    (start_pipe image, refl, record { state = ap (λ (x : Watching). x.state) h; end = ap (λ (x : Watching). x.end) h; retired = ap (λ (x : Watching). x.retired) h })
+watches_the_run v terms window image (suc k) s h =
+    let before = watches_the_run v terms window image k h.0 h.2 in
+    one_more v terms window image k h.0 s h.1 before.0 before.1 before.2 h.3 h.4 h.5

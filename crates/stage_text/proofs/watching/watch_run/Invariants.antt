@@ -1,0 +1,11 @@
+use Rattle.std.proofs.Common.{◌≡◌, ◌*◌, ◌≤◌}
+use Rattle.stage_text.specs.Watching.{Watches}
+use Rattle.stage_text.proofs.watching.watch_run.Given as goal
+
+abbrev pub invariant-loop-k : goal.invariant-loop-k
+invariant-loop-k g l = record {
+  watches : Watches l.variant l.design.terms l.window l.fn.image l.k l.s;
+  rows : l.s.watch.rows ≤ 5 * l.k;
+  retired : l.s.retired ≤ l.k;
+  kept : g.C.SignalEval.evaluates l.evaluator l.design.terms;
+}

@@ -1,0 +1,6 @@
+pub mod Numbers
+pub mod Instruction
+pub mod Watch
+pub mod Cycle
+pub mod Diagram
+pub mod Watching

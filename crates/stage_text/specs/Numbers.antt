@@ -1,0 +1,26 @@
+-- Texts of labels and numbers.
+use Rattle.std.specs.Prelude.{ℕ, List, ◌++◌, ◌==◌, nat_lt, codes, if◌then◌else◌}
+use Rattle.y86_base.specs.Numeral.{numeral}
+use Rattle.y86_base.specs.Registers.{register_name}
+use Rattle.y86_base.specs.Stat.{stat_name, stat_of}
+
+-- an address: at least three hex digits
+unfoldable pub address : ℕ → List ℕ
+address n = codes "0x" ++ numeral 16 3 n
+
+-- a register by its number: 15 is none, and a number that no register has is itself
+unfoldable pub register : ℕ → List ℕ
+register n = if nat_lt n 15 then register_name n else (if n == 15 then codes "-" else numeral 10 1 n)
+
+-- a key, with blanks around it, and its value: a word, a register, a number, the status of a number
+unfoldable pub word_pair : List ℕ → ℕ → List ℕ
+word_pair key n = key ++ (codes "0x" ++ numeral 16 1 n)
+
+unfoldable pub register_pair : List ℕ → ℕ → List ℕ
+register_pair key n = key ++ register n
+
+unfoldable pub number_pair : List ℕ → ℕ → List ℕ
+number_pair key n = key ++ numeral 10 1 n
+
+unfoldable pub status_pair : List ℕ → ℕ → List ℕ
+status_pair key n = key ++ stat_name (stat_of n)

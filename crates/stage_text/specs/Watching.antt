@@ -1,0 +1,109 @@
+-- The run of a machine, and what is shown of it, cycle by cycle.
+use Rattle.std.specs.Prelude.{◌≡◌, ℕ, zero, suc, ◌+◌, ◌≤◌, ◌<◌, Bool, true, false, not, ◌&&◌, nat_le, List, [], ◌∷◌, ◌++◌, length, codes, Option, Some, None, if◌then◌else◌}
+use Rattle.y86_base.specs.Stat.{stat_name, stat_of}
+use Rattle.y86_base.specs.declared.parts.Stat.{Stat}
+use Rattle.y86_base.specs.declared.parts.Stat.TheVariants as stat
+use Rattle.y86_base.specs.declared.parts.Variant.{Variant}
+use Rattle.y86_isa.specs.Machine.{is_aok}
+use Rattle.y86_isa.specs.declared.machine.Rec.{Rec}
+use Rattle.hcl_types.specs.declared.term.Term.{Term}
+use Rattle.dp_signals.specs.PipeCycle.{asked_movers, ending, next, retires}
+use Rattle.dp_signals.specs.PipeEquations.{Solves}
+use Rattle.dp_signals.specs.PipeNames as row
+use Rattle.dp_signals.specs.PipeRun.{Pipe, PipeRun, end_by}
+use Rattle.dp_signals.specs.PipeState.{start_state}
+use Rattle.dp_signals.specs.declared.movers.Ending.{Ending}
+use Rattle.dp_signals.specs.declared.movers.Ending.TheVariants.{Going, Stopped, Pip}
+use Rattle.dp_signals.specs.declared.pipe_state.PipeState.{PipeState}
+use Rattle.stage_text.specs.Cycle.{cycle_text}
+use Rattle.stage_text.specs.Diagram.{diagram, shown_cycle}
+use Rattle.stage_text.specs.Numbers.{number_pair}
+use Rattle.stage_text.specs.Watch.{fetched, first_watch, moved_watch}
+use Rattle.stage_text.specs.declared.diagram.Shown.{Shown}
+use Rattle.stage_text.specs.declared.held.Held.{Held}
+use Rattle.stage_text.specs.declared.watch.Watch.{Watch}
+use Rattle.stage_text.specs.declared.watching.Window.{Window}
+
+-- a machine that is watched: its state, what stands in its stages, how many instructions retired, how it ended, the text of the cycles
+-- so far, and what the diagram shows of them
+pub record Watching : Type 0 where
+  pub state : PipeState
+  pub watch : Watch
+  pub retired : ℕ
+  pub end : Stat
+  pub text : List ℕ
+  pub cycles : List Shown
+
+abbrev pub seen : PipeState → Watch → ℕ → Stat → List ℕ → List Shown → Watching
+seen state watch retired end text cycles =
+    record { state = state; watch = watch; retired = retired; end = end; text = text; cycles = cycles }
+
+-- how many instructions retire in a cycle
+abbrev pub count : Option Rec → ℕ
+count None = 0
+count (Some r) = 1
+
+abbrev pub goes_on : Ending → Bool
+goes_on Going = true
+goes_on Stopped = false
+goes_on Pip = false
+
+abbrev pub is_within : Window → ℕ → Bool
+is_within window number = nat_le window.from number && nat_le number window.to
+
+-- what is shown of a cycle in lines, and in the diagram
+abbrev pub lines_shown : Window → ℕ → Watch → Held → PipeState → (ℕ → ℕ) → List ℕ
+lines_shown window number watch fetch p f =
+    if not window.diagram && is_within window number then cycle_text number watch fetch p f else []
+
+abbrev pub cycles_shown : Window → ℕ → Watch → Held → (ℕ → ℕ) → List Shown
+cycles_shown window number watch fetch f =
+    if window.diagram && is_within window number then shown_cycle number watch fetch (asked_movers f) (goes_on (ending f)) ∷ [] else []
+
+-- the watched machine after the cycle of this number, with these values
+unfoldable pub after : Window → ℕ → Watching → (ℕ → ℕ) → Watching
+after window number s f =
+    let fetch = fetched s.watch s.state f in
+    seen (next s.state f) (moved_watch s.watch fetch (asked_movers f)) (s.retired + count (retires s.state f)) (end_by (ending f) (stat_of (f row.Stat)))
+    (s.text ++ lines_shown window number s.watch fetch s.state f) (s.cycles ++ cycles_shown window number s.watch fetch f)
+
+abbrev pub first_seen : List ℕ → Watching
+first_seen image = seen (start_state image) first_watch 0 stat.Aok [] []
+
+-- s is the watched machine of the design on an image after k cycles, before each of which it had not ended; the first cycle is number 1
+abbrev pub Watches : Variant → List Term → Window → List ℕ → ℕ → Watching → Type 0
+Watches v terms window image zero s = s ≡ first_seen image
+Watches v terms window image (suc k) s =
+    (u : Watching) × (f : ℕ → ℕ) × Watches v terms window image k u × (is_aok u.end ≡ true) × Solves v terms u.state f
+    × (s ≡ after window (suc k) u f)
+
+-- the same at its end, or at the limit of cycles where it has none before
+pub record WatchesTo (v : Variant) (terms : List Term) (window : Window) (image : List ℕ) (limit k : ℕ) (s : Watching) : Type 0 where
+  pub within : k ≤ limit
+  pub watches : Watches v terms window image k s
+  pub whole : k < limit → is_aok s.end ≡ false
+
+-- ---- what is shown of a run
+
+unfoldable pub end_line : Stat → ℕ → ℕ → List ℕ
+end_line end cycles retired =
+    codes "end " ++ (stat_name end ++ (number_pair (codes " cycles ") cycles ++ (number_pair (codes " retired ") retired ++ codes "\n")))
+
+abbrev pub diagram_shown : Bool → Watching → List ℕ
+diagram_shown asked s = if asked then diagram s.watch.rows s.cycles else []
+
+-- the lines of the cycles, the diagram, and the line of the end
+unfoldable pub whole_text : Bool → ℕ → Watching → List ℕ
+whole_text asked cycles s = s.text ++ (diagram_shown asked s ++ end_line s.end cycles s.retired)
+
+-- ---- the watched machine is the machine of the run: its state, its end, and the number of its records
+
+pub record IsOfRun (s : Watching) (p : Pipe) : Type 0 where
+  pub state : s.state ≡ p.state
+  pub end : s.end ≡ p.end
+  pub retired : s.retired ≡ length p.records
+
+abbrev pub WatchesTheRun : Type 0
+WatchesTheRun =
+    (v : Variant) (terms : List Term) (window : Window) (image : List ℕ) (k : ℕ) (s : Watching) → Watches v terms window image k s →
+    (p : Pipe) × PipeRun v terms image k p × IsOfRun s p

@@ -1,0 +1,33 @@
+ghost use Rattle.std.specs.Prelude.{◌≡◌};
+ghost use Rattle.stage_text.specs.Watch as spec;
+
+/// What stands in a stage: its row in the diagram, and of an instruction where and as what it was fetched.
+#[derive(Clone, Copy, Debug, PartialEq, Eq)]
+pub struct Held {
+    pub row: u64,
+    pub live: bool,
+    pub addr: u64,
+    pub icode: u64,
+    pub ifun: u64,
+    pub r_a: u64,
+    pub r_b: u64,
+    pub val_c: u64,
+}
+
+impl Held {
+    /// A bubble.
+    pub fn bubble(row: u64) -> Held
+        ensures { result ≡ spec.bubble row }
+    {
+        Held {
+            row,
+            live: false,
+            addr: 0,
+            icode: 1,
+            ifun: 0,
+            r_a: 15,
+            r_b: 15,
+            val_c: 0,
+        }
+    }
+}

@@ -1,0 +1,219 @@
+//! The text of an instruction, as the assembler reads it.
+ghost use Rattle.std.specs.Prelude.{◌≡◌, ◌++◌, [], OnOk, slice_index_or};
+ghost use Rattle.stage_text.specs.Instruction as text;
+
+use crate::held::Held;
+use crate::numbers::{put, put_address, put_register, put_signed};
+use y86_base::Memory;
+
+/// The operands of an instruction, in the order in which they are written.
+#[derive(Clone, Copy, Debug, PartialEq, Eq)]
+pub enum Shape {
+    /// None.
+    Alone,
+    /// `rA, rB`
+    Registers,
+    /// `$V, rB`
+    Immediate,
+    /// `rA, D(rB)`
+    Store,
+    /// `D(rB), rA`
+    Load,
+    /// An address.
+    Target,
+    /// `rA`
+    Single,
+}
+
+/// The operands of the instructions of an icode.
+#[tactic(auto, unfolding(crate::specs::Instruction::shape_of))]
+fn shape_of(icode: u64) -> Shape
+    ensures { result ≡ text.shape_of icode }
+{
+    match icode {
+        2 => Shape::Registers,
+        3 => Shape::Immediate,
+        4 => Shape::Store,
+        5 => Shape::Load,
+        6 => Shape::Registers,
+        7 => Shape::Target,
+        8 => Shape::Target,
+        10 => Shape::Single,
+        11 => Shape::Single,
+        12 => Shape::Immediate,
+        _ => Shape::Alone,
+    }
+}
+
+/// The name of the only instruction of an icode.
+fn only(name: &'static [u8], ifun: u64) -> &'static [u8]
+    ensures { result.now ≡ text.only name.now ifun }
+{
+    if ifun == 0 { name } else { b"" }
+}
+
+#[tactic(auto, unfolding(crate::specs::Instruction::moves))]
+fn move_name(ifun: u64) -> &'static [u8]
+    ensures { result.now ≡ slice_index_or text.moves ifun [] }
+{
+    match ifun {
+        0 => b"rrmovq",
+        1 => b"cmovle",
+        2 => b"cmovl",
+        3 => b"cmove",
+        4 => b"cmovne",
+        5 => b"cmovge",
+        6 => b"cmovg",
+        _ => b"",
+    }
+}
+
+#[tactic(auto, unfolding(crate::specs::Instruction::operations))]
+fn operation_name(ifun: u64) -> &'static [u8]
+    ensures { result.now ≡ slice_index_or text.operations ifun [] }
+{
+    match ifun {
+        0 => b"addq",
+        1 => b"subq",
+        2 => b"andq",
+        3 => b"xorq",
+        _ => b"",
+    }
+}
+
+#[tactic(auto, unfolding(crate::specs::Instruction::jumps))]
+fn jump_name(ifun: u64) -> &'static [u8]
+    ensures { result.now ≡ slice_index_or text.jumps ifun [] }
+{
+    match ifun {
+        0 => b"jmp",
+        1 => b"jle",
+        2 => b"jl",
+        3 => b"je",
+        4 => b"jne",
+        5 => b"jge",
+        6 => b"jg",
+        _ => b"",
+    }
+}
+
+/// The name of an instruction; no bytes where there is none of these codes.
+#[tactic(auto, unfolding(crate::specs::Instruction::mnemonic))]
+fn mnemonic(icode: u64, ifun: u64) -> &'static [u8]
+    ensures { result.now ≡ text.mnemonic icode ifun }
+{
+    match icode {
+        0 => only(b"halt", ifun),
+        1 => only(b"nop", ifun),
+        2 => move_name(ifun),
+        3 => only(b"irmovq", ifun),
+        4 => only(b"rmmovq", ifun),
+        5 => only(b"mrmovq", ifun),
+        6 => operation_name(ifun),
+        7 => jump_name(ifun),
+        8 => only(b"call", ifun),
+        9 => only(b"ret", ifun),
+        10 => only(b"pushq", ifun),
+        11 => only(b"popq", ifun),
+        12 => only(b"iaddq", ifun),
+        _ => b"",
+    }
+}
+
+/// Puts two registers.
+fn put_registers(out: &mut Vec<u8>, held: &Held) -> Result<(), Memory>
+    ensures { OnOk result (out.new.items ≡ out.old.items ++ text.two_registers held.now) }
+{
+    put(out, b" ")?;
+    put_register(out, held.r_a)?;
+    put(out, b", ")?;
+    put_register(out, held.r_b)
+}
+
+/// Puts a constant and a register.
+fn put_immediate(out: &mut Vec<u8>, held: &Held) -> Result<(), Memory>
+    ensures { OnOk result (out.new.items ≡ out.old.items ++ text.immediate held.now) }
+{
+    put(out, b" $")?;
+    put_signed(out, held.val_c)?;
+    put(out, b", ")?;
+    put_register(out, held.r_b)
+}
+
+/// Puts a place in memory.
+fn put_place(out: &mut Vec<u8>, held: &Held) -> Result<(), Memory>
+    ensures { OnOk result (out.new.items ≡ out.old.items ++ text.place held.now) }
+{
+    put_signed(out, held.val_c)?;
+    put(out, b"(")?;
+    put_register(out, held.r_b)?;
+    put(out, b")")
+}
+
+/// Puts a register and a place in memory.
+fn put_store(out: &mut Vec<u8>, held: &Held) -> Result<(), Memory>
+    ensures { OnOk result (out.new.items ≡ out.old.items ++ text.store held.now) }
+{
+    put(out, b" ")?;
+    put_register(out, held.r_a)?;
+    put(out, b", ")?;
+    put_place(out, held)
+}
+
+/// Puts a place in memory and a register.
+fn put_load(out: &mut Vec<u8>, held: &Held) -> Result<(), Memory>
+    ensures { OnOk result (out.new.items ≡ out.old.items ++ text.load held.now) }
+{
+    put(out, b" ")?;
+    put_place(out, held)?;
+    put(out, b", ")?;
+    put_register(out, held.r_a)
+}
+
+/// Puts the address to which an instruction goes.
+fn put_target(out: &mut Vec<u8>, held: &Held) -> Result<(), Memory>
+    ensures { OnOk result (out.new.items ≡ out.old.items ++ text.target held.now) }
+{
+    put(out, b" ")?;
+    put_address(out, held.val_c)
+}
+
+/// Puts one register.
+fn put_single(out: &mut Vec<u8>, held: &Held) -> Result<(), Memory>
+    ensures { OnOk result (out.new.items ≡ out.old.items ++ text.single held.now) }
+{
+    put(out, b" ")?;
+    put_register(out, held.r_a)
+}
+
+/// Puts the operands of an instruction.
+#[tactic(auto, unfolding(crate::specs::Instruction::operands))]
+fn put_operands(out: &mut Vec<u8>, held: &Held) -> Result<(), Memory>
+    ensures { OnOk result (out.new.items ≡ out.old.items ++ text.operands (text.shape_of held.now.icode) held.now) }
+{
+    match shape_of(held.icode) {
+        Shape::Alone => Ok(()),
+        Shape::Registers => put_registers(out, held),
+        Shape::Immediate => put_immediate(out, held),
+        Shape::Store => put_store(out, held),
+        Shape::Load => put_load(out, held),
+        Shape::Target => put_target(out, held),
+        Shape::Single => put_single(out, held),
+    }
+}
+
+/// Puts what stands in a stage: an instruction with its operands, or a bubble.
+#[tactic(auto, unfolding(crate::specs::Instruction::instruction))]
+pub(crate) fn put_instruction(out: &mut Vec<u8>, held: &Held) -> Result<(), Memory>
+    ensures { OnOk result (out.new.items ≡ out.old.items ++ text.instruction held.now) }
+{
+    if !held.live {
+        return put(out, b"bubble");
+    }
+    let name = mnemonic(held.icode, held.ifun);
+    if name.len() == 0 {
+        return put(out, b"invalid");
+    }
+    put(out, name)?;
+    put_operands(out, held)
+}

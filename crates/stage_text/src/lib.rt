@@ -1,0 +1,15 @@
+//! The stages of the pipeline as text: what stands in each of them cycle by cycle, and the book's diagrams of a run.
+#![tactic(auto)]
+
+mod cycle;
+mod diagram;
+mod held;
+mod instruction;
+mod laws;
+mod numbers;
+mod watch;
+mod watching;
+
+pub use held::Held;
+pub use laws::law_of_watching;
+pub use watching::{Watched, Window, watch_run};

@@ -1,0 +1,91 @@
+//! Texts of labels and numbers.
+ghost use Rattle.std.specs.Prelude.{◌≡◌, ◌++◌, OnOk};
+ghost use Rattle.hcl_read.specs.Print.{signed_decimal};
+ghost use Rattle.stage_text.specs.Numbers as text;
+
+use y86_base::{Memory, Numeral, Regs, Stat};
+
+const NO_REGISTER: u64 = 15;
+
+/// Puts bytes behind a text.
+pub(crate) fn put(out: &mut Vec<u8>, bytes: &[u8]) -> Result<(), Memory>
+    ensures { OnOk result (out.new.items ≡ out.old.items ++ bytes.now) }
+{
+    match out.extend_from_slice(bytes) {
+        Ok(()) => Ok(()),
+        Err(_) => Err(Memory),
+    }
+}
+
+/// Puts a word as a signed decimal number.
+#[tactic(auto, unfolding(hcl_read::specs::Print::signed_decimal))]
+pub(crate) fn put_signed(out: &mut Vec<u8>, n: u64) -> Result<(), Memory>
+    ensures { OnOk result (out.new.items ≡ out.old.items ++ signed_decimal n) }
+{
+    if n < 1 << 63 {
+        put(out, Numeral::decimal(n).as_bytes())
+    } else {
+        put(out, b"-")?;
+        put(out, Numeral::decimal(n.wrapping_neg()).as_bytes())
+    }
+}
+
+/// Puts an address.
+#[tactic(auto, unfolding(crate::specs::Numbers::address))]
+pub(crate) fn put_address(out: &mut Vec<u8>, n: u64) -> Result<(), Memory>
+    ensures { OnOk result (out.new.items ≡ out.old.items ++ text.address n) }
+{
+    put(out, b"0x")?;
+    put(out, Numeral::hex(3, n).as_bytes())
+}
+
+/// Puts a register by its number.
+#[tactic(auto, unfolding(crate::specs::Numbers::register))]
+pub(crate) fn put_register(out: &mut Vec<u8>, n: u64) -> Result<(), Memory>
+    ensures { OnOk result (out.new.items ≡ out.old.items ++ text.register n) }
+{
+    if n < NO_REGISTER {
+        put(out, Regs::name(n))
+    } else if n == NO_REGISTER {
+        put(out, b"-")
+    } else {
+        put(out, Numeral::decimal(n).as_bytes())
+    }
+}
+
+/// Puts a key and a word.
+#[tactic(auto, unfolding(crate::specs::Numbers::word_pair))]
+pub(crate) fn put_word_pair(out: &mut Vec<u8>, key: &[u8], n: u64) -> Result<(), Memory>
+    ensures { OnOk result (out.new.items ≡ out.old.items ++ text.word_pair key.now n) }
+{
+    put(out, key)?;
+    put(out, b"0x")?;
+    put(out, Numeral::hex(1, n).as_bytes())
+}
+
+/// Puts a key and a register.
+#[tactic(auto, unfolding(crate::specs::Numbers::register_pair))]
+pub(crate) fn put_register_pair(out: &mut Vec<u8>, key: &[u8], n: u64) -> Result<(), Memory>
+    ensures { OnOk result (out.new.items ≡ out.old.items ++ text.register_pair key.now n) }
+{
+    put(out, key)?;
+    put_register(out, n)
+}
+
+/// Puts a key and a number.
+#[tactic(auto, unfolding(crate::specs::Numbers::number_pair))]
+pub(crate) fn put_number_pair(out: &mut Vec<u8>, key: &[u8], n: u64) -> Result<(), Memory>
+    ensures { OnOk result (out.new.items ≡ out.old.items ++ text.number_pair key.now n) }
+{
+    put(out, key)?;
+    put(out, Numeral::decimal(n).as_bytes())
+}
+
+/// Puts a key and the status of a number.
+#[tactic(auto, unfolding(crate::specs::Numbers::status_pair))]
+pub(crate) fn put_status_pair(out: &mut Vec<u8>, key: &[u8], n: u64) -> Result<(), Memory>
+    ensures { OnOk result (out.new.items ≡ out.old.items ++ text.status_pair key.now n) }
+{
+    put(out, key)?;
+    put(out, Stat::of(n).name())
+}

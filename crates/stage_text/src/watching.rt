@@ -1,0 +1,231 @@
+//! The run of a machine, and what is shown of it.
+ghost use Rattle.std.specs.Prelude.{◌≡◌, ◌<◌, ◌≤◌, ◌+◌, ◌*◌, ◌^◌, ◌++◌, ℕ, IfOk, OnOk};
+ghost use Rattle.dp_signals.specs.PipeEquations.{Solves};
+ghost use Rattle.dp_signals.specs.PipeTable.{pipe_rows};
+ghost use Rattle.hcl_types.specs.Tables.{IsBound, IsOrderOf};
+ghost use Rattle.hcl_types.specs.Terms.{at};
+ghost use Rattle.y86_isa.specs.Machine.{is_aok};
+ghost use Rattle.stage_text.specs.Watching.{Watching, WatchesTo};
+ghost use Rattle.stage_text.specs.Watching as spec;
+
+use crate::cycle::put_cycle;
+use crate::diagram::{Shown, put_diagram, shown_cycle};
+use crate::held::Held;
+use crate::numbers::{put, put_number_pair};
+use crate::watch::{Watch, asked_movers, fetched, first_watch, moved_watch};
+use dp_signals::{
+    Ending, PipeState, PipeValues, advance, end_of_cycle, ending, retires, solve_pipe,
+};
+use hcl_types::{Design, Order, SignalEval};
+use std::alloc::Global;
+use std::marker::Model;
+use y86_base::{Image, Memory, Stat, Variant};
+use y86_isa::Rec;
+
+/// Which cycles of a run are shown, and whether as a diagram.
+#[derive(Clone, Copy, Debug, PartialEq, Eq)]
+pub struct Window {
+    /// The number of the first cycle.
+    pub from: u64,
+    /// The number of the last one.
+    pub to: u64,
+    pub diagram: bool,
+}
+
+/// A machine that is watched: its state, what stands in its stages, the text of the cycles so far, or what the diagram shows of them.
+#[derive(Drop)]
+struct Watching {
+    state: PipeState,
+    watch: Watch,
+    retired: u64,
+    end: Stat,
+    text: Vec<u8>,
+    cycles: Vec<Shown>,
+}
+
+impl Model for Watching {
+    ghost use Rattle.stage_text.specs.Watching.{Watching, seen};
+
+    ghost Value = { Watching };
+
+    ghost view = { λ s. seen s.state s.watch s.retired s.end s.text.items s.cycles.items };
+}
+
+/// What was shown of a run, and how it ended: AOK where it came to the limit.
+#[derive(Drop)]
+pub struct Watched {
+    pub text: Vec<u8>,
+    pub end: Stat,
+}
+
+fn is_going(end: Stat) -> bool
+    ensures { result ≡ is_aok end }
+{
+    matches!(end, Stat::Aok)
+}
+
+fn goes_on(ending: Ending) -> bool
+    ensures { result ≡ spec.goes_on ending }
+{
+    matches!(ending, Ending::Going)
+}
+
+fn count(retired: Option<Rec>) -> u64
+    ensures count { result ≡ spec.count retired }
+    ensures few { result ≤ 1 }
+{
+    match retired {
+        Some(_) => 1,
+        None => 0,
+    }
+}
+
+/// Whether a cycle is one of those that are shown.
+fn is_within(window: &Window, number: u64) -> bool
+    ensures { result ≡ spec.is_within window.now number }
+{
+    window.from <= number && number <= window.to
+}
+
+/// Puts what is shown of a cycle in lines.
+fn put_lines(
+    out: &mut Vec<u8>,
+    window: &Window,
+    number: u64,
+    watch: &Watch,
+    fetch: &Held,
+    p: &PipeState,
+    values: &PipeValues,
+) -> Result<(), Memory>
+    ensures { OnOk result (out.new.items ≡ out.old.items ++ spec.lines_shown window.now number watch.now fetch.now p.now (at values.now)) }
+{
+    if !window.diagram && is_within(window, number) {
+        put_cycle(out, number, watch, fetch, p, values)
+    } else {
+        Ok(())
+    }
+}
+
+/// Puts what the diagram shows of a cycle.
+fn put_shown(
+    cycles: &mut Vec<Shown>,
+    window: &Window,
+    number: u64,
+    watch: &Watch,
+    fetch: Held,
+    values: &PipeValues,
+) -> Result<(), Memory>
+    ensures { OnOk result (cycles.new.items ≡ cycles.old.items ++ spec.cycles_shown window.now number watch.now fetch (at values.now)) }
+{
+    if !window.diagram || !is_within(window, number) {
+        return Ok(());
+    }
+    let movers = asked_movers(values);
+    let one = shown_cycle(number, watch, fetch, &movers, goes_on(ending(values)));
+    match cycles.push(one) {
+        Ok(()) => Ok(()),
+        Err(_) => Err(Memory),
+    }
+}
+
+/// Does the cycle of this number, and keeps what is shown of it.
+#[tactic(auto, unfolding(crate::specs::Watching::after))]
+fn cycle<C: SignalEval>(
+    s: &mut Watching,
+    variant: Variant,
+    design: &Design,
+    order: &Order,
+    evaluator: &mut C,
+    window: &Window,
+    number: u64,
+) -> Result<(), Memory> {
+    let values = solve_pipe(variant, design, order, &s.state, evaluator);
+    let fetch = fetched(&s.watch, &s.state, &values);
+    put_lines(
+        &mut s.text,
+        window,
+        number,
+        &s.watch,
+        &fetch,
+        &s.state,
+        &values,
+    )?;
+    put_shown(&mut s.cycles, window, number, &s.watch, fetch, &values)?;
+    s.watch = moved_watch(&s.watch, fetch, &asked_movers(&values));
+    s.retired += count(retires(&s.state, &values));
+    s.end = end_of_cycle(ending(&values), &values);
+    advance(&mut s.state, &values);
+    Ok(())
+}
+
+/// Puts the line of the end.
+#[tactic(auto, unfolding(crate::specs::Watching::end_line))]
+fn put_end(out: &mut Vec<u8>, end: Stat, cycles: u64, retired: u64) -> Result<(), Memory>
+    ensures { OnOk result (out.new.items ≡ out.old.items ++ spec.end_line end cycles retired) }
+{
+    put(out, b"end ")?;
+    put(out, end.name())?;
+    put_number_pair(out, b" cycles ", cycles)?;
+    put_number_pair(out, b" retired ", retired)?;
+    put(out, b"\n")
+}
+
+/// Puts the diagram, where it is asked for, and the line of the end.
+#[tactic(auto, unfolding(crate::specs::Watching::whole_text))]
+fn finished(s: Watching, diagram: bool, cycles: u64) -> Result<Watched, Memory>
+    requires { s.watch.rows < 2 ^ 63 }
+    ensures text { IfOk result (λ w. w.text.items ≡ spec.whole_text diagram cycles s) }
+    ensures end { IfOk result (λ w. w.end ≡ s.end) }
+{
+    let Watching {
+        watch,
+        retired,
+        end,
+        mut text,
+        cycles: shown,
+        ..
+    } = s;
+    if diagram {
+        put_diagram(&mut text, watch.rows, shown.as_slice())?;
+    }
+    put_end(&mut text, end, cycles, retired)?;
+    Ok(Watched { text, end })
+}
+
+/// Runs an image on PIPE under a design to its end or to the limit of cycles, and gives what is shown of it.
+pub fn watch_run<C: SignalEval>(
+    alloc: Global,
+    variant: Variant,
+    design: &Design,
+    order: &Order,
+    evaluator: &mut C,
+    image: Image,
+    limit: u64,
+    window: &Window,
+) -> Result<Watched, Memory>
+    requires evaluates { C.evaluates evaluator.old design.now.terms }
+    requires bound { IsBound pipe_rows design.now.terms }
+    requires ordered { IsOrderOf pipe_rows design.now.terms order.now.ids }
+    requires limit { limit ≤ 100000000 }
+    ensures { IfOk result (λ w. (k : ℕ) × (s : Watching) × WatchesTo variant design.now.terms window.now image limit k s
+        × (w.text.items ≡ spec.whole_text window.now.diagram k s) × (w.end ≡ s.end)) }
+{
+    let mut s = Watching {
+        state: PipeState::start(image),
+        watch: first_watch(),
+        retired: 0,
+        end: Stat::Aok,
+        text: Vec::new(alloc),
+        cycles: Vec::new(alloc),
+    };
+    for k in 0..limit {
+        if !is_going(s.end) {
+            return finished(s, window.diagram, k);
+        }
+        match cycle(&mut s, variant, design, order, evaluator, window, k + 1) {
+            Ok(()) => {}
+            Err(_) => return Err(Memory),
+        }
+    }
+    finished(s, window.diagram, limit)
+}

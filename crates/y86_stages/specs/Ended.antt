@@ -1,0 +1,63 @@
+-- What a call of the program did to the outside.
+use Rattle.std.specs.Prelude.{◌≡◌, ◌⊎◌, ℕ, ◌||◌, if◌then◌else◌, List, Option, Some, None, Result, Ok, Err, codes}
+use Rattle.stage_text.specs.declared.watching.Window.{Window}
+use Rattle.y86_base.specs.declared.parts.Variant.{Variant}
+use Rattle.y86_cli.specs.Does.{Does, FilesSeen, SinkSeen}
+use Rattle.y86_cli.specs.Lines.{memory_line}
+use Rattle.y86_cli.specs.Ran.{Told}
+use Rattle.y86_cli.specs.Stops.{line_of, status_of}
+use Rattle.y86_cli.specs.declared.stop.Stop as code
+use Rattle.y86_cli.specs.declared.stop.Stop.TheVariants.{Memory, Usage}
+use Rattle.y86_words.specs.Forms.{Command, form_of, psim}
+use Rattle.y86_stages.specs.declared.calling.Request as code_request
+use Rattle.y86_stages.specs.Shown.{stages_plan}
+use Rattle.y86_stages.specs.Words.{Read, first_read, window_of}
+
+abbrev pub usage : List ℕ
+usage = codes "usage: y86-stages HCL OBJ [--full] [--mem N] [--limit N] [--from N] [--to N] [--diagram]\n"
+
+-- the line on standard error for a stop
+abbrev pub stop_line : code.Stop → List ℕ
+stop_line Usage = usage
+stop_line stop = line_of stop
+
+-- a run that is to be shown: the files, the size of the memory, the limit of cycles, the instruction set
+pub record Request : Type 0 where
+  pub name : List ℕ
+  pub object : List ℕ
+  pub size : ℕ
+  pub limit : ℕ
+  pub variant : Variant
+
+-- the words are those of `psim`, without a trace and without a check
+abbrev pub request_of : Option Command → Option Request
+request_of (Some (psim name object size limit trace checked v)) =
+    if trace || checked then None else Some (record { name = name; object = object; size = size; limit = limit; variant = v })
+request_of _ = None
+
+abbrev pub request_in : code_request.Request → Request
+request_in r = record { name = r.hcl.now; object = r.obj.now; size = r.mem; limit = r.limit; variant = r.variant }
+
+-- the run is shown; or there is none, and nothing is read or written
+unfoldable pub Ends : Option Request → Window → FilesSeen → FilesSeen → SinkSeen → SinkSeen → Result ℕ code.Stop → Type 0
+Ends None window files_before files_after before after result = (result ≡ Err Usage) × (files_after ≡ files_before) × (after ≡ before)
+Ends (Some r) window files_before files_after before after result =
+    Does (stages_plan r.name r.object r.size r.limit r.variant window) files_before files_after before after result
+
+-- the status, and the line on standard error
+abbrev pub TellsEnd : SinkSeen → SinkSeen → Result ℕ code.Stop → ℕ → Type 0
+TellsEnd before after (Ok status) told = (told ≡ status) × (after ≡ before)
+TellsEnd before after (Err stop) told =
+    (told ≡ status_of stop) × Told before after (stop_line stop) × (status_of stop ≡ 4 → after ≡ before)
+
+-- a call whose words say this, if they have a form
+unfoldable pub EndsAs : Option Read → FilesSeen → FilesSeen → SinkSeen → SinkSeen → Result ℕ code.Stop → Type 0
+EndsAs None files_before files_after before after result = Ends None (window_of first_read) files_before files_after before after result
+EndsAs (Some r) files_before files_after before after result =
+    Ends (request_of (form_of r.words)) (window_of r) files_before files_after before after result
+
+-- a call did what its words say and told how that ended, or there was want of memory and nothing was read or shown
+pub record Called (said : Option Read) (files_before files_after : FilesSeen) (out_before out_after err_before err_after : SinkSeen) (status : ℕ) : Type 0 where
+  pub result : Result ℕ code.Stop
+  pub ends : EndsAs said files_before files_after out_before out_after result ⊎ ((result ≡ Err Memory) × (files_after ≡ files_before) × (out_after ≡ out_before))
+  pub tells : TellsEnd err_before err_after result status

@@ -1,0 +1,176 @@
+//! The top call: shows what the words say, and answers the status.
+ghost use Rattle.std.specs.Prelude.{◌≡◌, ◌≤◌, ◌↔◌, IfErr, IfOk, IfSome, None, Some, map, string_bytes};
+ghost use Rattle.std.specs.IoError.{error_kind};
+ghost use Rattle.std.specs.Option.{option_map};
+ghost use Rattle.y86_base.specs.Image.{IsSize};
+ghost use Rattle.y86_cli.specs.Does.{NoReadFailed, files_seen, sink_seen};
+ghost use Rattle.y86_cli.specs.Ran.{Told, words_behind};
+ghost use Rattle.y86_cli.specs.Stops.{status_of};
+ghost use Rattle.y86_words.specs.Forms.{form_of};
+ghost use Rattle.y86_words.specs.Views.{command_in};
+ghost use Rattle.y86_words.specs.Wording.{IsLegal};
+ghost use Rattle.y86_stages.specs.Ended.{Called, Ends, request_in};
+ghost use Rattle.y86_stages.specs.Ended as spec;
+ghost use Rattle.y86_stages.specs.Words.{read_in, read_of};
+ghost use Rattle.y86_stages.specs.Words as reading;
+
+use crate::reading::{Reading, read_words};
+use crate::running::show;
+use stage_text::Window;
+use std::alloc::Global;
+use std::env::Args;
+use std::io;
+use std::io::ErrorKind;
+use wb_io::{Files, Sink, put_all};
+use y86_base::Variant;
+use y86_cli::{Status, Stop, tell, unread, words_behind};
+use y86_words::{Cmd, Usage, words};
+
+/// A run that is to be shown.
+#[derive(Clone, Copy, Debug)]
+pub struct Request<'a> {
+    pub hcl: &'a str,
+    pub obj: &'a str,
+    pub mem: u64,
+    pub limit: u64,
+    pub variant: Variant,
+}
+
+/// What the options say is shown: all cycles where they don't say it.
+fn window_of(r: &Reading) -> Window
+    ensures { result ≡ reading.window_of (read_in r.now) }
+{
+    Window {
+        from: r.from.unwrap_or(1),
+        to: r.to.unwrap_or(u64::MAX),
+        diagram: r.diagram,
+    }
+}
+
+/// The run that a command of `psim` is, where it asks for no trace and no check.
+fn request_of<'a>(command: Cmd<'a>) -> Option<Request<'a>>
+    requires { IsLegal (command_in command) }
+    ensures request { option_map request_in result ≡ spec.request_of (Some (command_in command)) }
+    ensures legal { IfSome result (λ r. IsSize r.mem × (r.limit ≤ 100000000)) }
+{
+    match command {
+        Cmd::Psim {
+            hcl,
+            obj,
+            mem,
+            limit,
+            trace,
+            checked,
+            variant,
+        } => {
+            if trace || checked {
+                return None;
+            }
+            Some(Request {
+                hcl,
+                obj,
+                mem,
+                limit,
+                variant,
+            })
+        }
+        _ => None,
+    }
+}
+
+/// Shows what the words of `psim` say.
+#[tactic(auto, unfolding(crate::specs::Ended::Ends))]
+fn show_words<'a, F: Files, O: Sink>(
+    alloc: Global,
+    psim_words: &'a [String],
+    window: &Window,
+    files: &mut F,
+    out: &mut O,
+) -> Result<Status, Stop<'a>>
+    ensures ends { Ends (spec.request_of (form_of (map string_bytes psim_words.now))) window.now
+        (files_seen (F.told files.old) (F.faults files.old)) (files_seen (F.told files.new) (F.faults files.new))
+        (sink_seen (O.taken out.old) (O.faults out.old)) (sink_seen (O.taken out.new) (O.faults out.new)) result }
+    ensures no_read_failed { NoReadFailed (files_seen (F.told files.old) (F.faults files.old)) (files_seen (F.told files.new) (F.faults files.new)) result }
+{
+    let command = match words(psim_words) {
+        Ok(command) => command,
+        Err(Usage) => return Err(Stop::Usage),
+    };
+    match request_of(command) {
+        None => Err(Stop::Usage),
+        Some(r) => show(
+            alloc, r.hcl, r.obj, r.mem, r.limit, r.variant, window, files, out,
+        ),
+    }
+}
+
+/// Tells a stop on standard error, and gives its status.
+fn tell_stop<E: Sink>(stop: &Stop<'_>, err: &mut E) -> Status
+    ensures status { result ≡ status_of stop.now }
+    ensures line { Told (sink_seen (E.taken err.old) (E.faults err.old)) (sink_seen (E.taken err.new) (E.faults err.new)) (spec.stop_line stop.now) }
+    ensures nothing_for_a_write { status_of stop.now ≡ 4 → err.new ≡ err.old }
+{
+    match stop {
+        Stop::Usage => {
+            match put_all(
+                err,
+                b"usage: y86-stages HCL OBJ [--full] [--mem N] [--limit N] [--from N] [--to N] [--diagram]\n",
+            ) {
+                Ok(()) => {}
+                Err(_) => {}
+            }
+            2
+        }
+        _ => tell(stop, err),
+    }
+}
+
+/// The program: shows what the words behind its own name say, over any files and sinks, and gives the status that it ends with.
+pub fn run<F: Files, O: Sink, E: Sink>(
+    alloc: Global,
+    own_words: &[String],
+    files: &mut F,
+    out: &mut O,
+    err: &mut E,
+) -> Status
+    ensures { Called (read_of (map string_bytes own_words.now)) (files_seen (F.told files.old) (F.faults files.old)) (files_seen (F.told files.new) (F.faults files.new))
+        (sink_seen (O.taken out.old) (O.faults out.old)) (sink_seen (O.taken out.new) (O.faults out.new))
+        (sink_seen (E.taken err.old) (E.faults err.old)) (sink_seen (E.taken err.new) (E.faults err.new)) result }
+{
+    let reading = match read_words(alloc, own_words) {
+        Ok(Some(reading)) => reading,
+        Ok(None) => return tell_stop(&Stop::Usage, err),
+        Err(_) => return tell_stop(&Stop::Memory, err),
+    };
+    let window = window_of(&reading);
+    match show_words(alloc, reading.words.as_slice(), &window, files, out) {
+        Ok(status) => status,
+        Err(stop) => tell_stop(&stop, err),
+    }
+}
+
+/// The same on the words as the system gives them, the program's own name first. Words that can't be read have no form.
+pub fn call<F: Files, O: Sink, E: Sink>(
+    alloc: Global,
+    args: io::Result<Args>,
+    files: &mut F,
+    out: &mut O,
+    err: &mut E,
+) -> Status
+    ensures called { IfOk args (λ given. Called (read_of (words_behind given)) (files_seen (F.told files.old) (F.faults files.old)) (files_seen (F.told files.new) (F.faults files.new))
+        (sink_seen (O.taken out.old) (O.faults out.old)) (sink_seen (O.taken out.new) (O.faults out.new))
+        (sink_seen (E.taken err.old) (E.faults err.old)) (sink_seen (E.taken err.new) (E.faults err.new)) result) }
+    ensures unread { IfErr args (λ error. Called None (files_seen (F.told files.old) (F.faults files.old)) (files_seen (F.told files.new) (F.faults files.new))
+        (sink_seen (O.taken out.old) (O.faults out.old)) (sink_seen (O.taken out.new) (O.faults out.new))
+        (sink_seen (E.taken err.old) (E.faults err.old)) (sink_seen (E.taken err.new) (E.faults err.new)) result) }
+    ensures unread_memory { IfErr args (λ error. (result ≡ 6) ↔ (error_kind error ≡ ErrorKind.OutOfMemory)) }
+{
+    let args = match args {
+        Ok(args) => args,
+        Err(error) => return tell_stop(&unread(&error), err),
+    };
+    match words_behind(alloc, args) {
+        Ok(words) => run(alloc, words.as_slice(), files, out, err),
+        Err(_) => tell_stop(&Stop::Memory, err),
+    }
+}

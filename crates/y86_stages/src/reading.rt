@@ -1,0 +1,168 @@
+//! The words of a call: those of `psim`, and among them the options that say what is shown.
+ghost use Rattle.std.specs.Prelude.{◌≡◌, IfOk, OnOk, map, string_bytes};
+ghost use Rattle.std.specs.Option.{option_map};
+ghost use Rattle.y86_stages.specs.Words as spec;
+
+use std::alloc::Global;
+use y86_base::Memory;
+use y86_words::number_within;
+
+/// An option that says what is shown.
+#[derive(Clone, Copy, Debug, PartialEq, Eq)]
+pub enum Own {
+    /// `--diagram`
+    Diagram,
+    /// `--from N`
+    From,
+    /// `--to N`
+    To,
+}
+
+/// What was read of the words: those that are `psim`'s, behind its name, and what the options say. `wants` is an option whose number is the next word.
+#[derive(Drop)]
+pub struct Reading {
+    pub words: Vec<String>,
+    pub diagram: bool,
+    pub from: Option<u64>,
+    pub to: Option<u64>,
+    pub wants: Option<Own>,
+}
+
+/// The option that a word is.
+fn own_of(word: &str) -> Option<Own>
+    ensures { result ≡ spec.own_of word.now }
+{
+    if word == "--diagram" {
+        return Some(Own::Diagram);
+    }
+    if word == "--from" {
+        return Some(Own::From);
+    }
+    if word == "--to" {
+        return Some(Own::To);
+    }
+    None
+}
+
+/// The number of a cycle.
+fn cycle_number(word: &str) -> Option<u64>
+    ensures { result ≡ spec.cycle_number word.now }
+{
+    number_within(word.as_bytes(), 1, u64::MAX)
+}
+
+/// Reads the number of an option, and says whether the word is one.
+fn read_number(r: &mut Reading, own: Own, word: &str) -> bool
+    ensures { spec.ReadsNumber (spec.read_in r.old) own word.now result (spec.read_in r.new) }
+{
+    let Some(number) = cycle_number(word) else {
+        return false;
+    };
+    r.wants = None;
+    match own {
+        Own::From => r.from = Some(number),
+        Own::To => r.to = Some(number),
+        Own::Diagram => {}
+    }
+    true
+}
+
+/// Reads an option, and says whether it stands there for the first time.
+fn read_option(r: &mut Reading, own: Own) -> bool
+    ensures { spec.ReadsOption (spec.read_in r.old) own result (spec.read_in r.new) }
+{
+    match own {
+        Own::Diagram => {
+            if r.diagram {
+                return false;
+            }
+            r.diagram = true;
+        }
+        Own::From => {
+            if r.from.is_some() {
+                return false;
+            }
+            r.wants = Some(Own::From);
+        }
+        Own::To => {
+            if r.to.is_some() {
+                return false;
+            }
+            r.wants = Some(Own::To);
+        }
+    }
+    true
+}
+
+/// Keeps a word of `psim`.
+fn keep_word(r: &mut Reading, word: &String) -> Result<(), Memory>
+    ensures { OnOk result (spec.read_in r.new ≡ spec.with_kept (spec.read_in r.old) (string_bytes word.now)) }
+{
+    let Ok(copy) = word.clone() else {
+        return Err(Memory);
+    };
+    match r.words.push(copy) {
+        Ok(()) => Ok(()),
+        Err(_) => Err(Memory),
+    }
+}
+
+/// Reads a word, and says whether it may stand there.
+#[tactic(auto, unfolding(crate::specs::Words::read_word))]
+fn read_word(r: &mut Reading, word: &String) -> Result<bool, Memory>
+    ensures { IfOk result (λ may_stand. spec.Reads (spec.read_in r.old) (string_bytes word.now) may_stand (spec.read_in r.new)) }
+{
+    if let Some(own) = r.wants {
+        return Ok(read_number(r, own, word.as_str()));
+    }
+    if let Some(own) = own_of(word.as_str()) {
+        return Ok(read_option(r, own));
+    }
+    match keep_word(r, word) {
+        Ok(()) => Ok(true),
+        Err(_) => Err(Memory),
+    }
+}
+
+/// Nothing but the name of `psim`.
+fn first_reading(alloc: Global) -> Result<Reading, Memory>
+    ensures { IfOk result (λ r. spec.read_in r ≡ spec.first_read) }
+{
+    let Ok(name) = String::from_str(alloc, "psim") else {
+        return Err(Memory);
+    };
+    let mut words = Vec::new(alloc);
+    match words.push(name) {
+        Ok(()) => {}
+        Err(_) => return Err(Memory),
+    }
+    Ok(Reading {
+        words,
+        diagram: false,
+        from: None,
+        to: None,
+        wants: None,
+    })
+}
+
+/// Reads the words behind the program's own name; `None` where they have no form.
+#[tactic(auto, unfolding(crate::specs::Words::all_read))]
+pub fn read_words(alloc: Global, words: &[String]) -> Result<Option<Reading>, Memory>
+    ensures { IfOk result (λ read. option_map spec.read_in read ≡ spec.read_of (map string_bytes words.now)) }
+{
+    let mut r = match first_reading(alloc) {
+        Ok(r) => r,
+        Err(_) => return Err(Memory),
+    };
+    for word in words {
+        match read_word(&mut r, word) {
+            Ok(true) => {}
+            Ok(false) => return Ok(None),
+            Err(_) => return Err(Memory),
+        }
+    }
+    if r.wants.is_some() {
+        return Ok(None);
+    }
+    Ok(Some(r))
+}

@@ -1,0 +1,114 @@
+//! Runs an object file on PIPE under an HCL file, and shows its stages.
+ghost use Rattle.std.specs.Prelude.{◌≡◌, ◌≤◌};
+ghost use Rattle.dp_signals.specs.PipeTable.{pipe_rows};
+ghost use Rattle.hcl_types.specs.Tables.{IsBound, IsOrderOf};
+ghost use Rattle.y86_base.specs.Image.{IsSize};
+ghost use Rattle.y86_cli.specs.Does.{Does, NoReadFailed, Says, files_seen, sink_seen};
+ghost use Rattle.y86_stages.specs.Shown.{ShownAnswers, object_plan, stages_plan};
+
+use hcl_compile::compile;
+use stage_text::{Watched, Window, watch_run};
+use std::alloc::Global;
+use wb_io::{Files, Sink};
+use y86_base::{Image, Variant};
+use y86_cli::{
+    FILE_LIMIT, HCL_LIMIT, Ordered, Stop, load_image, pipe_design, read_file, say, status,
+};
+
+/// Runs an image, and says what is shown of it.
+fn show_image<'a, O: Sink>(
+    alloc: Global,
+    variant: Variant,
+    ordered: &Ordered,
+    image: Image,
+    limit: u64,
+    window: &Window,
+    out: &mut O,
+) -> Result<u8, Stop<'a>>
+    requires bound { IsBound pipe_rows ordered.now.design.terms }
+    requires order { IsOrderOf pipe_rows ordered.now.design.terms ordered.now.order.ids }
+    requires limit { limit ≤ 100000000 }
+    ensures { Says (ShownAnswers variant ordered.now.design.terms limit window.now image)
+        (sink_seen (O.taken out.old) (O.faults out.old)) (sink_seen (O.taken out.new) (O.faults out.new)) result }
+{
+    let Ok(mut compiled) = compile(alloc, &ordered.design, &ordered.order) else {
+        return Err(Stop::Memory);
+    };
+    match watch_run(
+        alloc,
+        variant,
+        &ordered.design,
+        &ordered.order,
+        &mut compiled,
+        image,
+        limit,
+        window,
+    ) {
+        Ok(Watched { text, end }) => say(status(end), text.as_slice(), out),
+        Err(_) => Err(Stop::Memory),
+    }
+}
+
+/// Reads an object file, and shows its run under a design.
+fn show_object<'a, F: Files, O: Sink>(
+    alloc: Global,
+    variant: Variant,
+    ordered: &Ordered,
+    obj: &'a str,
+    mem: u64,
+    limit: u64,
+    window: &Window,
+    files: &mut F,
+    out: &mut O,
+) -> Result<u8, Stop<'a>>
+    requires size { IsSize mem }
+    requires limit { limit ≤ 100000000 }
+    requires bound { IsBound pipe_rows ordered.now.design.terms }
+    requires order { IsOrderOf pipe_rows ordered.now.design.terms ordered.now.order.ids }
+    ensures does { Does (object_plan ordered.now.design.terms obj.now mem limit variant window.now)
+        (files_seen (F.told files.old) (F.faults files.old)) (files_seen (F.told files.new) (F.faults files.new))
+        (sink_seen (O.taken out.old) (O.faults out.old)) (sink_seen (O.taken out.new) (O.faults out.new)) result }
+    ensures no_read_failed { NoReadFailed (files_seen (F.told files.old) (F.faults files.old)) (files_seen (F.told files.new) (F.faults files.new)) result }
+{
+    let bytes = match read_file(alloc, obj, FILE_LIMIT, files) {
+        Ok(bytes) => bytes,
+        Err(stop) => return Err(stop),
+    };
+    let image = match load_image(alloc, obj, bytes.as_slice(), mem) {
+        Ok(image) => image,
+        Err(stop) => return Err(stop),
+    };
+    show_image(alloc, variant, ordered, image, limit, window, out)
+}
+
+/// Reads an HCL file and an object file, and shows the run.
+pub fn show<'a, F: Files, O: Sink>(
+    alloc: Global,
+    name: &'a str,
+    obj: &'a str,
+    mem: u64,
+    limit: u64,
+    variant: Variant,
+    window: &Window,
+    files: &mut F,
+    out: &mut O,
+) -> Result<u8, Stop<'a>>
+    requires size { IsSize mem }
+    requires limit { limit ≤ 100000000 }
+    ensures does { Does (stages_plan name.now obj.now mem limit variant window.now)
+        (files_seen (F.told files.old) (F.faults files.old)) (files_seen (F.told files.new) (F.faults files.new))
+        (sink_seen (O.taken out.old) (O.faults out.old)) (sink_seen (O.taken out.new) (O.faults out.new)) result }
+    ensures no_read_failed { NoReadFailed (files_seen (F.told files.old) (F.faults files.old)) (files_seen (F.told files.new) (F.faults files.new)) result }
+{
+    let source = match read_file(alloc, name, HCL_LIMIT, files) {
+        Ok(source) => source,
+        Err(stop) => return Err(stop),
+    };
+    let ordered = match pipe_design(alloc, name, source.as_slice()) {
+        Ok(ordered) => ordered,
+        Err(stop) => return Err(stop),
+    };
+    show_object(
+        alloc, variant, &ordered, obj, mem, limit, window, files, out,
+    )
+}

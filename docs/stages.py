@@ -1,0 +1,315 @@
+#!/usr/bin/env python3
+"""Runs the built program `y86_stages` on the hazards of the book, and compares its diagrams with those that were worked out by hand.
+
+    python3 docs/stages.py Y86_STAGES Y86
+
+`Y86`, the program `y86`, assembles the programs. The hazards are those of CS:APP 3e, sections 4.5.5 and 4.5.8, under forwarding (std.hcl) and without it
+(nb.hcl). Then: how a run may end, the words, the files that are refused, and the examples of docs/STAGES.md.
+"""
+import os
+import subprocess
+import sys
+import tempfile
+
+HERE = os.path.dirname(os.path.dirname(os.path.abspath(__file__)))
+USAGE = "usage: y86-stages HCL OBJ [--full] [--mem N] [--limit N] [--from N] [--to N] [--diagram]\n"
+
+RET = """
+    irmovq stack, %rsp
+    call f
+    halt
+f:  ret
+    nop
+    .pos 0x100
+stack:
+"""
+
+JUMP = """
+    xorq %rax, %rax
+    jne target
+    irmovq $1, %rax
+    halt
+target:
+    irmovq $-2, %rdx
+    irmovq $3, %rbx
+    halt
+"""
+
+# A ret at the target of a mispredicted jump.
+COMBINATION_A = """
+    xorq %rax, %rax
+    jne target
+    irmovq $1, %rax
+    halt
+target:
+    ret
+    nop
+"""
+
+# A load into %rsp, and a ret that reads it.
+COMBINATION_B = """
+    mrmovq sp(%rdi), %rsp
+    ret
+    nop
+    .pos 0x10
+    halt
+    .pos 0x18
+sp: .quad 0x20
+    .quad 0x10
+"""
+
+LOAD = "0x000 mrmovq 16(%rdi), %rax"
+
+LOAD_USE = f"""
+  F  D  E  M  W          | {LOAD}
+     F  D  D  E  M  W    | 0x00a addq %rax, %rax
+        F  F  D  E  M  W | 0x00c halt
+           E  M  W       | bubble
+              F  D  e    | 0x00d halt
+                 F  D  E | 0x00e halt
+                    F  D | 0x00f halt
+                       M | bubble
+                       F | 0x010 invalid
+end HLT cycles 8 retired 3
+"""
+
+LOAD_USE_NB = f"""
+  F  D  E  M  W                | {LOAD}
+     F  D  D  D  D  E  M  W    | 0x00a addq %rax, %rax
+        F  F  F  F  D  E  M  W | 0x00c halt
+           E  M  W             | bubble
+              E  M  W          | bubble
+                 E  M  W       | bubble
+                    F  D  e    | 0x00d halt
+                       F  D  E | 0x00e halt
+                          F  D | 0x00f halt
+                             M | bubble
+                             F | 0x010 invalid
+end HLT cycles 10 retired 3
+"""
+
+RET_STD = """
+  F  D  E  M  W                   | 0x000 irmovq $256, %rsp
+     F  D  E  M  W                | 0x00a call 0x014
+        F  D  E  M  W             | 0x014 ret
+           f  f  f                | 0x015 nop
+              D  E  M  W          | bubble
+                 D  E  M  W       | bubble
+                    D  E  M  W    | bubble
+                    F  D  E  M  W | 0x013 halt
+                       F  D  e    | 0x014 ret
+                          f  f  F | 0x015 nop
+                             D  E | bubble
+                                M | bubble
+                                D | bubble
+end HLT cycles 11 retired 4
+"""
+
+RET_NB = """
+  F  D  E  M  W                         | 0x000 irmovq $256, %rsp
+     F  D  D  D  D  E  M  W             | 0x00a call 0x014
+        F  F  F  F  D  D  D  D  E  M  W | 0x014 ret
+           E  M  W                      | bubble
+              E  M  W                   | bubble
+                 E  M  W                | bubble
+                    F  F  F  f  f  f    | 0x015 nop
+                       E  M  W          | bubble
+                          E  M  W       | bubble
+                             E  M  W    | bubble
+                                D  E  M | bubble
+                                   D  E | bubble
+                                      D | bubble
+                                      F | 0x013 halt
+"""
+
+JUMP_BOTH = """
+  F  D  E  M  W          | 0x000 xorq %rax, %rax
+     F  D  E  M  W       | 0x002 jne 0x016
+        F  d             | 0x016 irmovq $-2, %rdx
+           f             | 0x020 irmovq $3, %rbx
+              E  M  W    | bubble
+              D  E  M  W | bubble
+              F  D  E  M | 0x00b irmovq $1, %rax
+                 F  D  E | 0x015 halt
+                    F  D | 0x016 irmovq $-2, %rdx
+                       F | 0x020 irmovq $3, %rbx
+"""
+
+A_BOTH = """
+  F  D  E  M  W          | 0x000 xorq %rax, %rax
+     F  D  E  M  W       | 0x002 jne 0x016
+        F  d             | 0x016 ret
+           f             | 0x017 nop
+              E  M  W    | bubble
+              D  E  M  W | bubble
+              F  D  E  M | 0x00b irmovq $1, %rax
+                 F  D  E | 0x015 halt
+                    F  D | 0x016 ret
+                       f | 0x017 nop
+"""
+
+B_STD = """
+  F  D  E  M  W       | 0x000 mrmovq 24(%rdi), %rsp
+     F  D  D  E  M  W | 0x00a ret
+        F  f  f  f    | 0x00b nop
+           E  M  W    | bubble
+              D  E  M | bubble
+                 D  E | bubble
+                    D | bubble
+                    F | 0x010 halt
+"""
+
+B_NB = """
+  F  D  E  M  W             | 0x000 mrmovq 24(%rdi), %rsp
+     F  D  D  D  D  E  M  W | 0x00a ret
+        F  F  F  f  f  f    | 0x00b nop
+           E  M  W          | bubble
+              E  M  W       | bubble
+                 E  M  W    | bubble
+                    D  E  M | bubble
+                       D  E | bubble
+                          D | bubble
+                          F | 0x010 halt
+"""
+
+PIP = """
+  F  D  E  M | 0x000 irmovq $64, %rsp
+     F  D  E | 0x00a popq %rsp
+        F  D | 0x00c ret
+           F | 0x00d halt
+end PIP cycles 4 retired 0
+"""
+
+FAULT = """
+  F  D  E  M  W    | 0x000 irmovq $8192, %rbx
+     F  D  E  M  W | 0x00a mrmovq 0(%rbx), %rax
+        F  D  e    | 0x014 halt
+           F  D  E | 0x015 halt
+              F  D | 0x016 halt
+                 M | bubble
+                 F | 0x017 halt
+end ADR cycles 6 retired 2
+"""
+
+LIMIT = f"""
+  F  D  E | {LOAD}
+     F  D | 0x00a addq %rax, %rax
+        F | 0x00c halt
+end AOK cycles 3 retired 0
+"""
+
+
+class Runs:
+    def __init__(self, stages, y86, folder):
+        self.stages, self.y86, self.folder = os.path.abspath(stages), os.path.abspath(y86), folder
+        self.passed, self.failed = 0, 0
+
+    def run(self, *words):
+        run = subprocess.run([self.stages, *words], cwd=self.folder, stdout=subprocess.PIPE, stderr=subprocess.PIPE, check=False)
+        return run.returncode, run.stdout.decode(), run.stderr.decode()
+
+    def write(self, name, text):
+        with open(f"{self.folder}/{name}", "w", encoding="utf-8") as file:
+            file.write(text)
+
+    def assembled(self, name, text):
+        self.write(f"{name}.ys", text)
+        run = subprocess.run([self.y86, "yas", f"{name}.ys"], cwd=self.folder, stdout=subprocess.PIPE, check=True)
+        self.write(f"{name}.yo", run.stdout.decode())
+
+    def check(self, what, got, wanted):
+        if got == wanted:
+            self.passed += 1
+            return
+        self.failed += 1
+        print(f"{what}:\n  got    {got!r}\n  wanted {wanted!r}")
+
+    def diagram(self, what, design, program, wanted, status, *words):
+        """Compares a diagram with rows that were worked out by hand; without an end among them, only the rows."""
+        rows = wanted[1:]
+        columns = max(len(row.split("|")[0]) for row in rows.splitlines() if "|" in row) // 3
+        head = "".join(f" {number:02}" for number in range(1, columns + 1)) + "\n"
+        if "end " not in rows:
+            words = (*words, "--to", str(columns))
+        got, out, err = self.run(f"{design}.hcl", f"{program}.yo", "--diagram", *words)
+        if "end " not in rows:
+            out = out[: out.rindex("end ")]
+        self.check(f"{what} under {design}.hcl", (got, out, err), (status, head + rows, ""))
+
+
+def examples(runs):
+    for name in ("std.hcl", "nb.hcl", "both.hcl", "load_use.yo", "both.yo", "fault.yo"):
+        with open(f"{HERE}/examples/{name}", encoding="utf-8") as file:
+            runs.write(name, file.read())
+    for name, text in (("ret", RET), ("jump", JUMP), ("a", COMBINATION_A), ("b", COMBINATION_B)):
+        runs.assembled(name, text)
+
+
+def hazards(runs):
+    runs.diagram("load/use", "std", "load_use", LOAD_USE, 0)
+    runs.diagram("load/use", "nb", "load_use", LOAD_USE_NB, 0)
+    runs.diagram("ret", "std", "ret", RET_STD, 0)
+    runs.diagram("ret", "nb", "ret", RET_NB, 0)
+    for design in ("std", "nb"):
+        runs.diagram("a mispredicted jump", design, "jump", JUMP_BOTH, 0)
+        runs.diagram("combination A", design, "a", A_BOTH, 0)
+    runs.diagram("combination B", "std", "b", B_STD, 0)
+    runs.diagram("combination B", "nb", "b", B_NB, 0)
+
+
+def ends(runs):
+    runs.diagram("stalled and bubbled", "both", "both", PIP, 1)
+    runs.diagram("an address outside the memory", "std", "fault", FAULT, 1)
+    runs.diagram("a limit", "std", "load_use", LIMIT, 1, "--limit", "3")
+    lines = runs.run("both.hcl", "both.yo", "--from", "4")[1].splitlines()
+    runs.check("both", [line.split(" stat")[0] for line in lines[1:4]],
+        ["F row 4 at 0x00d next stall", "D row 3 at 0x00c next both", "E row 2 at 0x00a next bubble"])
+    status, out, _ = runs.run("std.hcl", "ret.yo", "--from", "6", "--to", "6")
+    runs.check("what is written and stored", (status, out.splitlines()[-3:]), (0, ["flags ZF 1 SF 0 OF 0", "write %rsp 0xf8", "end HLT cycles 11 retired 4"]))
+    status, out, _ = runs.run("std.hcl", "ret.yo", "--from", "5", "--to", "5")
+    runs.check("a store", (status, out.splitlines()[-3:-1]), (0, ["write %rsp 0x100", "store 0x0f8 0x13"]))
+
+
+def refusals(runs):
+    usage = (2, "", USAGE)
+    for words in ((), ("std.hcl",), ("std.hcl", "a.yo", "--trace"), ("std.hcl", "a.yo", "--checked"), ("std.hcl", "a.yo", "--from"), ("std.hcl", "a.yo", "--to", "0"),
+        ("std.hcl", "a.yo", "--diagram", "--diagram"), ("std.hcl", "a.yo", "--from", "1", "--from", "2"), ("std.hcl", "a.yo", "--mem", "7"), ("std.hcl", "a.yo", "more")):
+        runs.check(f"the words {words}", runs.run(*words), usage)
+    runs.write("bad.hcl", "word f_pc = ;\n")
+    runs.write("bad.yo", "0x000: 3\n")
+    runs.check("no file", runs.run("none.hcl", "a.yo"), (3, "", "read fault none.hcl\n"))
+    for words in (("bad.hcl", "a.yo"), ("std.hcl", "bad.yo")):
+        run = subprocess.run([runs.y86, "psim", *words], cwd=runs.folder, stdout=subprocess.PIPE, stderr=subprocess.PIPE, check=False)
+        got = runs.run(*words)
+        runs.check(f"refused as by psim: {words}", (got, got[0]), ((run.returncode, run.stdout.decode(), run.stderr.decode()), 5))
+    with open("/dev/full", "w", encoding="utf-8") as full:
+        run = subprocess.run([runs.stages, "std.hcl", "a.yo"], cwd=runs.folder, stdout=full, stderr=subprocess.PIPE, check=False)
+    runs.check("a full device", (run.returncode, run.stderr), (4, b""))
+
+
+def page(runs):
+    with open(f"{HERE}/docs/STAGES.md", encoding="utf-8") as file:
+        blocks = file.read().split("```")[1::2]
+    _, lines, _ = runs.run("std.hcl", "load_use.yo")
+    _, diagram, _ = runs.run("std.hcl", "load_use.yo", "--diagram")
+    runs.check("the lines of the page", (blocks[0].strip() + "\n" in lines, blocks[2].strip() + "\n" in lines), (True, True))
+    runs.check("the diagram of the page", blocks[3].strip("\n") + "\n", diagram)
+
+
+def main():
+    if len(sys.argv) != 3:
+        print(__doc__, file=sys.stderr)
+        return 2
+    with tempfile.TemporaryDirectory() as folder:
+        runs = Runs(sys.argv[1], sys.argv[2], folder)
+        examples(runs)
+        hazards(runs)
+        ends(runs)
+        refusals(runs)
+        page(runs)
+    print(f"{runs.passed} passed, {runs.failed} failed")
+    return 1 if runs.failed else 0
+
+
+if __name__ == "__main__":
+    sys.exit(main())
