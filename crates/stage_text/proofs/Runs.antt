@@ -6,12 +6,13 @@ use Rattle.y86_base.specs.declared.parts.Variant.{Variant}
 use Rattle.y86_isa.specs.Machine.{is_aok}
 use Rattle.y86_isa.specs.declared.machine.Rec.{Rec}
 use Rattle.hcl_types.specs.declared.term.Term.{Term}
-use Rattle.dp_signals.specs.PipeCycle.{ending, next, retires}
+use Rattle.dp_signals.specs.PipeCycle.{asked_movers, ending, next, retires}
 use Rattle.dp_signals.specs.PipeEquations.{Solves}
 use Rattle.dp_signals.specs.PipeNames as row
 use Rattle.dp_signals.specs.PipeRun.{Cycle, Pipe, PipeRun, after_cycle, end_by, start_pipe}
 use Rattle.dp_signals.specs.declared.pipe_state.PipeState.{PipeState}
-use Rattle.stage_text.specs.Watching.{IsOfRun, Watches, WatchesTheRun, Watching, after, count}
+use Rattle.stage_text.specs.Watch.{fetched, moved_watch}
+use Rattle.stage_text.specs.Watching.{IsOfRun, Watches, WatchesTheRun, Watching, after, count, cycles_shown, lines_shown}
 use Rattle.stage_text.specs.declared.watching.Window.{Window}
 
 counted : (r : Option Rec) → length (option_to_list r) ≡ count r
@@ -45,6 +46,21 @@ module _ (v : Variant) (terms : List Term) (window : Window) (image : List ℕ) 
         (p, run, record { ended = λ over. absurd (grind (arith, over, going')); goes = λ _. (f, solves', refl) }),
         record { state = state_after so_far e; end = end_after e; retired = retired_after so_far e },
       )
+
+-- the machine after a cycle, by its parts
+pub seen_after : (window : Window) (number : ℕ) (s t : Watching) (f : ℕ → ℕ) → t.state ≡ next s.state f →
+    t.watch ≡ moved_watch s.watch (fetched s.watch s.state f) (asked_movers f) → t.retired ≡ s.retired + count (retires s.state f) →
+    t.end ≡ end_by (ending f) (stat_of (f row.Stat)) → t.text ≡ s.text ++ lines_shown window number s.watch (fetched s.watch s.state f) s.state f →
+    t.cycles ≡ s.cycles ++ cycles_shown window number s.watch (fetched s.watch s.state f) f → t ≡ after window number s f
+unfolding after
+seen_after window number s t f state watch retired end text cycles = λ i. record {
+  state = state i;
+  watch = watch i;
+  retired = retired i;
+  end = end i;
+  text = text i;
+  cycles = cycles i;
+}
 
 -- one more cycle of a machine that is watched
 pub watches_more : (v : Variant) (terms : List Term) (window : Window) (image : List ℕ) (k : ℕ) (u s : Watching) (f : ℕ → ℕ) →

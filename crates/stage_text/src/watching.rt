@@ -58,10 +58,10 @@ pub struct Watched {
     pub end: Stat,
 }
 
-fn is_going(end: Stat) -> bool
-    ensures { result ≡ is_aok end }
+fn is_going(s: &Watching) -> bool
+    ensures { result ≡ is_aok s.now.end }
 {
-    matches!(end, Stat::Aok)
+    matches!(s.end, Stat::Aok)
 }
 
 fn goes_on(ending: Ending) -> bool
@@ -128,8 +128,41 @@ fn put_shown(
     }
 }
 
+/// Keeps what is shown of the cycle of this number, with these values, and does it.
+#[tactic(auto, using(crate::proofs::Runs::seen_after))]
+fn step(s: &mut Watching, window: &Window, number: u64, values: &PipeValues) -> Result<(), Memory>
+    requires rows { s.old.watch.rows < 2 ^ 63 }
+    requires retired { s.old.retired < 2 ^ 63 }
+    ensures after { OnOk result (s.new ≡ spec.after window.now number s.old (at values.now)) }
+    ensures few_rows { OnOk result (s.new.watch.rows ≤ s.old.watch.rows + 5) }
+    ensures few_retired { OnOk result (s.new.retired ≤ s.old.retired + 1) }
+{
+    let fetch = fetched(&s.watch, &s.state, values);
+    put_lines(
+        &mut s.text,
+        window,
+        number,
+        &s.watch,
+        &fetch,
+        &s.state,
+        values,
+    )?;
+    put_shown(&mut s.cycles, window, number, &s.watch, fetch, values)?;
+    s.watch = moved_watch(&s.watch, fetch, &asked_movers(values));
+    s.retired += count(retires(&s.state, values));
+    s.end = end_of_cycle(ending(values), values);
+    advance(&mut s.state, values);
+    Ok(())
+}
+
+/// The state of a machine that is watched.
+fn state_of(s: &Watching) -> &PipeState
+    ensures { result.now ≡ s.now.state }
+{
+    &s.state
+}
+
 /// Does the cycle of this number, and keeps what is shown of it.
-#[tactic(auto, unfolding(crate::specs::Watching::after))]
 fn cycle<C: SignalEval>(
     s: &mut Watching,
     variant: Variant,
@@ -138,24 +171,19 @@ fn cycle<C: SignalEval>(
     evaluator: &mut C,
     window: &Window,
     number: u64,
-) -> Result<(), Memory> {
-    let values = solve_pipe(variant, design, order, &s.state, evaluator);
-    let fetch = fetched(&s.watch, &s.state, &values);
-    put_lines(
-        &mut s.text,
-        window,
-        number,
-        &s.watch,
-        &fetch,
-        &s.state,
-        &values,
-    )?;
-    put_shown(&mut s.cycles, window, number, &s.watch, fetch, &values)?;
-    s.watch = moved_watch(&s.watch, fetch, &asked_movers(&values));
-    s.retired += count(retires(&s.state, &values));
-    s.end = end_of_cycle(ending(&values), &values);
-    advance(&mut s.state, &values);
-    Ok(())
+) -> Result<(), Memory>
+    requires evaluates { C.evaluates evaluator.old design.now.terms }
+    requires bound { IsBound pipe_rows design.now.terms }
+    requires ordered { IsOrderOf pipe_rows design.now.terms order.now.ids }
+    requires rows { s.old.watch.rows < 2 ^ 63 }
+    requires retired { s.old.retired < 2 ^ 63 }
+    ensures kept { OnOk result (C.evaluates evaluator.new design.now.terms) }
+    ensures cycle { OnOk result ((f : ℕ → ℕ) × Solves variant design.now.terms s.old.state f × (s.new ≡ spec.after window.now number s.old f)) }
+    ensures few_rows { OnOk result (s.new.watch.rows ≤ s.old.watch.rows + 5) }
+    ensures few_retired { OnOk result (s.new.retired ≤ s.old.retired + 1) }
+{
+    let values = solve_pipe(variant, design, order, state_of(s), evaluator);
+    step(s, window, number, &values)
 }
 
 /// Puts the line of the end.
@@ -219,7 +247,7 @@ pub fn watch_run<C: SignalEval>(
         cycles: Vec::new(alloc),
     };
     for k in 0..limit {
-        if !is_going(s.end) {
+        if !is_going(&s) {
             return finished(s, window.diagram, k);
         }
         match cycle(&mut s, variant, design, order, evaluator, window, k + 1) {
