@@ -129,7 +129,6 @@ fn put_shown(
 }
 
 /// Keeps what is shown of the cycle of this number, with these values, and does it.
-#[tactic(auto, using(crate::proofs::Runs::seen_after))]
 fn step(s: &mut Watching, window: &Window, number: u64, values: &PipeValues) -> Result<(), Memory>
     requires rows { s.old.watch.rows < 2 ^ 63 }
     requires retired { s.old.retired < 2 ^ 63 }
