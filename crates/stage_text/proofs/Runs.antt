@@ -1,5 +1,5 @@
 -- The machine that is watched is the machine of the run, by induction on the number of cycles.
-use Rattle.std.proofs.Common.{◌≡◌, ℕ, zero, suc, ◌+◌, true, false, List, ◌++◌, length, Option, Some, None, refl, sym, ◌∙◌, ap, subst, length-append, arith, add-one}
+use Rattle.std.proofs.Common.{◌≡◌, ℕ, zero, suc, ◌+◌, true, List, ◌++◌, length, Option, Some, None, refl, sym, ◌∙◌, ap, subst, length-append, arith, add-one}
 use Rattle.std.specs.Option.{option_to_list}
 use Rattle.y86_base.specs.Stat.{stat_of}
 use Rattle.y86_base.specs.declared.parts.Variant.{Variant}
@@ -9,8 +9,7 @@ use Rattle.hcl_types.specs.declared.term.Term.{Term}
 use Rattle.dp_signals.specs.PipeCycle.{asked_movers, ending, next, retires}
 use Rattle.dp_signals.specs.PipeEquations.{Solves}
 use Rattle.dp_signals.specs.PipeNames as row
-use Rattle.dp_signals.specs.PipeRun.{Cycle, Pipe, PipeRun, after_cycle, end_by, start_pipe}
-use Rattle.dp_signals.specs.declared.pipe_state.PipeState.{PipeState}
+use Rattle.dp_signals.specs.PipeRun.{Pipe, PipeRun, after_cycle, end_by, start_pipe}
 use Rattle.stage_text.specs.Watch.{fetched, moved_watch}
 use Rattle.stage_text.specs.Watching.{IsOfRun, Watches, WatchesTheRun, Watching, after, count, cycles_shown, lines_shown}
 use Rattle.stage_text.specs.declared.watching.Window.{Window}

@@ -1,5 +1,5 @@
 -- The lines of one cycle: of a state of the machine, with f for the value of each signal.
-use Rattle.std.specs.Prelude.{ℕ, Bool, true, false, ◌==◌, nat_lt, List, [], ◌++◌, codes, Option, Some, None, if◌then◌else◌}
+use Rattle.std.specs.Prelude.{ℕ, Bool, ◌==◌, nat_lt, List, [], ◌++◌, codes, Option, Some, None, if◌then◌else◌}
 use Rattle.y86_base.specs.declared.parts.Flags.{Flags}
 use Rattle.y86_isa.specs.declared.machine.Store.{Store}
 use Rattle.dp_signals.specs.PipeCycle.{store_of}

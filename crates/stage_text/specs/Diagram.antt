@@ -1,5 +1,5 @@
 -- The diagram of some cycles of a run: a line for each row, with a column for each cycle (CS:APP 3e, figures 4.43 and 4.54).
-use Rattle.std.specs.Prelude.{ℕ, ◌+◌, ◌/◌, ◌%◌, Bool, true, false, not, ◌&&◌, ◌==◌, List, [], ◌∷◌, ◌++◌, map, codes, Option, Some, None, is_some, if◌then◌else◌}
+use Rattle.std.specs.Prelude.{ℕ, ◌+◌, ◌/◌, ◌%◌, Bool, true, false, ◌&&◌, ◌==◌, List, [], ◌∷◌, ◌++◌, map, codes, Option, Some, None, is_some, if◌then◌else◌}
 use Rattle.std.specs.List.{concat}
 use Rattle.dp_signals.specs.declared.movers.Mover.{Mover}
 use Rattle.dp_signals.specs.declared.movers.Mover.TheVariants.{Stay, Bubble, Load}

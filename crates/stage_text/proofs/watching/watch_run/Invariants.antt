@@ -1,4 +1,4 @@
-use Rattle.std.proofs.Common.{◌≡◌, ◌*◌, ◌≤◌}
+use Rattle.std.proofs.Common.{◌*◌, ◌≤◌}
 use Rattle.stage_text.specs.Watching.{Watches}
 use Rattle.stage_text.proofs.watching.watch_run.Given as goal
 
