@@ -1,5 +1,7 @@
-//! Tests of machines inside, on the evaluator that walks the terms.
+//! Tests of the sequential machines inside.
 #![tactic(auto)]
 
+#[cfg(test)]
+mod plus;
 #[cfg(test)]
 mod sequential;
