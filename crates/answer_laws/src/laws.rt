@@ -1,0 +1,38 @@
+//! Theorems about the answers of commands. Each is a function that does nothing and whose contract is the theorem.
+ghost use Rattle.std.specs.Prelude.{◌≢◌, ℕ, Bool, List, Option};
+ghost use Rattle.y86_base.specs.declared.parts.Variant.{Variant};
+ghost use Rattle.y86_cli.specs.Answers.{aigrun_plan, big_plan, check_pipe_plan, check_seq_plan, hcl_plan, plan_in, psim_plan, sample_plan, ssim_plan, yas_plan, yis_plan};
+ghost use Rattle.y86_cli.specs.Does.{FilesSeen, SinkSeen};
+ghost use Rattle.y86_cli.specs.Plan.{Tells};
+ghost use Rattle.y86_cli.specs.Ran.{Ran};
+ghost use Rattle.y86_cli.specs.declared.datapath.Datapath.{Datapath};
+ghost use Rattle.y86_words.specs.Forms.{Command};
+ghost use Rattle.answer_laws.specs.OneAnswer.{HasOneAnswer, ToldAlike};
+
+/// Whatever the files of a command hold, its plan allows one answer at most. (`aig` and `check pipe` with `--cert` may write any of
+/// many texts that are right, so of these and of `recheck` it isn't said.)
+pub fn law_of_one_answer()
+    ensures yas { (source : List ℕ) (size : ℕ) (v : Variant) → HasOneAnswer (yas_plan source size v) }
+    ensures yis { (object : List ℕ) (size limit : ℕ) (v : Variant) → HasOneAnswer (yis_plan object size limit v) }
+    ensures hcl { (name : List ℕ) → HasOneAnswer (hcl_plan name) }
+    ensures ssim { (which : Datapath) (name object : List ℕ) (size limit : ℕ) (v : Variant) → HasOneAnswer (ssim_plan which name object size limit v) }
+    ensures psim { (name object : List ℕ) (size limit : ℕ) (trace checked : Bool) (v : Variant) →
+        HasOneAnswer (psim_plan name object size limit trace checked v) }
+    ensures check_seq { (which : Datapath) (name : List ℕ) (v : Variant) → HasOneAnswer (check_seq_plan which name v) }
+    ensures check_pipe { (name : List ℕ) (v : Variant) → HasOneAnswer (check_pipe_plan name v) }
+    ensures big { (n : ℕ) (name : List ℕ) (v : Variant) → HasOneAnswer (big_plan n name v) }
+    ensures sample { (name : List ℕ) (seed count : ℕ) (v : Variant) → HasOneAnswer (sample_plan name seed count v) }
+    ensures aigrun { (name : List ℕ) (seed : ℕ) → HasOneAnswer (aigrun_plan name seed) }
+{}
+
+/// Two calls of a command whose plan has one answer at most, on files that tell the same contents, end with the same status and tell
+/// the same text, unless one of them ends with 3, 4 or 6.
+pub fn law_of_calls()
+    ensures { (form : Option Command) → HasOneAnswer (plan_in form) → (files_before files_after others_before others_after : FilesSeen)
+        (out_before out_after err_before err_after out_before2 out_after2 err_before2 err_after2 : SinkSeen) (status other : ℕ) →
+        Ran form files_before files_after out_before out_after err_before err_after status →
+        Ran form others_before others_after out_before2 out_after2 err_before2 err_after2 other →
+        (contents : List (Option (List ℕ))) → Tells files_before.told (plan_in form) contents → Tells others_before.told (plan_in form) contents →
+        status ≢ 3 → status ≢ 4 → status ≢ 6 → other ≢ 3 → other ≢ 4 → other ≢ 6 →
+        ToldAlike out_before out_after out_before2 out_after2 status other }
+{}
