@@ -20,13 +20,10 @@ same_bools true false h k = sym (h refl)
 same_bools false true h k = k refl
 
 module _ (vars : ℕ) (F : List Bool → Type 0) (w u : List Bool) (h : IsLeastOf vars F w) (k : IsLeastOf vars F u) where
-  same_to : (n : ℕ) → n ≤ vars → (x : ℕ) → x < n → get_or w x false ≡ get_or u x false
-  same_to zero le x lt = absurd (omega (arith, lt))
-  same_to (suc n) le x lt = by (last_or x n lt)
+  -- one place more, where all before it agree
+  one_more : (n : ℕ) → suc n ≤ vars → ((y : ℕ) → y < n → get_or w y false ≡ get_or u y false) → (x : ℕ) → x < suc n → get_or w x false ≡ get_or u x false
+  one_more n le before x lt = by (last_or x n lt)
     where
-      before : (y : ℕ) → y < n → get_or w y false ≡ get_or u y false
-      before y l = same_to n (omega (arith, le)) y l
-
       here : get_or w n false ≡ get_or u n false
       here = same_truth (get_or w n false) (get_or u n false)
           (k.least w h.size h.holds n (omega (arith, le)) (λ y l. sym (before y l)))
@@ -35,6 +32,10 @@ module _ (vars : ℕ) (F : List Bool → Type 0) (w u : List Bool) (h : IsLeastO
       by : (x < n) ⊎ (x ≡ n) → get_or w x false ≡ get_or u x false
       by (inl l) = before x l
       by (inr e) = subst (λ y. get_or w y false ≡ get_or u y false) (sym e) here
+
+  same_to : (n : ℕ) → n ≤ vars → (x : ℕ) → x < n → get_or w x false ≡ get_or u x false
+  same_to zero le x lt = absurd (omega (arith, lt))
+  same_to (suc n) le x lt = one_more n le (λ y l. same_to n (omega (arith, le)) y l) x lt
 
   any_default : (xs : List Bool) (x : ℕ) (d : Bool) → x < length xs → get_or xs x d ≡ get_or xs x false
   any_default xs x d lt = get_or_default xs x d false lt

@@ -56,7 +56,7 @@ module _ (v : Variant) (terms : List Term) (ids image : List ℕ) where
       SeqAnswers which v terms limit image a → SeqAnswers which v terms limit image b → a ≡ b
   seq_answers_one which bound o limit a b h k =
       let one = runs_one which bound o limit h.0 k.0 h.1 k.1 h.2 k.2 in
-      h.3 ∙ ap (λ e. done (run_status e.stat) (report image e (length h.1))) one.0 ∙ ap (λ (rs : List Rec). done (run_status k.0.stat) (report image k.0 (length rs))) one.1 ∙ sym k.3
+      h.3 ∙ ap (λ (e : Machine). done (run_status e.stat) (report image e (length h.1))) one.0 ∙ ap (λ (rs : List Rec). done (run_status k.0.stat) (report image k.0 (length rs))) one.1 ∙ sym k.3
 
 -- ---- PIPE
 
@@ -68,11 +68,11 @@ module _ (v : Variant) (terms : List Term) (ids : List ℕ) (bound : IsBound pip
   -- before each cycle the machine had not ended
   going : (k c : ℕ) (p : Pipe) → Goes v terms image k p → c < k → (q : Pipe) × PipeRun v terms image c q × (is_aok q.end ≡ true)
   going zero c p h lt = absurd (omega (arith, lt))
-  going (suc k) c p h lt = by (last_or c k lt)
+  going (suc k) c p h lt = by (λ l. going k c h.0 h.1 l) (last_or c k lt)
     where
-      by : (c < k) ⊎ (c ≡ k) → (q : Pipe) × PipeRun v terms image c q × (is_aok q.end ≡ true)
-      by (inl l) = going k c h.0 h.1 l
-      by (inr e) = (h.0, subst (λ n. PipeRun v terms image n h.0) (sym e) (as_run k h.0 h.1), h.2)
+      by : (c < k → (q : Pipe) × PipeRun v terms image c q × (is_aok q.end ≡ true)) → (c < k) ⊎ (c ≡ k) → (q : Pipe) × PipeRun v terms image c q × (is_aok q.end ≡ true)
+      by earlier (inl l) = earlier l
+      by earlier (inr e) = (h.0, subst (λ n. PipeRun v terms image n h.0) (sym e) (as_run k h.0 h.1), h.2)
 
   no_later : (limit c d : ℕ) (p q : Pipe) → RunsTo v terms image limit c p → RunsTo v terms image limit d q → c < d → ⊥
   no_later limit c d p q h k lt =
