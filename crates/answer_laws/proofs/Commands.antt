@@ -136,7 +136,7 @@ told_alike form one files_before files_after others_before others_after out_befo
     ran ran2 contents tells tells2 three four six three2 four2 six2 =
     let a = ran.answer three six in
     let b = ran2.answer three2 six2 in
-    let same : a.0 ≡ b.0 = one contents a.0 b.0 (a.1.by_told contents tells) (b.1.by_told contents tells2) in
+    let same : a.0 ≡ b.0 = one.one contents a.0 b.0 (a.1.by_told contents tells) (b.1.by_told contents tells2) in
     record {
       same_status = a.2.status_is four ∙ ap (λ (x : Answered). x.status) same ∙ sym (b.2.status_is four2);
       text = b.0.out;

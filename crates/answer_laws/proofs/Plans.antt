@@ -1,30 +1,37 @@
 -- Plans with one answer at most.
-use Rattle.std.proofs.Common.{◌≡◌, ◌⊎◌, ℕ, ◌<◌, ◌≤◌, List, [], ◌∷◌, length, Option, Some, None, Result, Ok, Err, sym, ◌∙◌, subst, inl, inr, arith}
+use Rattle.std.proofs.Common.{◌≡◌, ℕ, List, [], ◌∷◌, Option, Some, None, Result, Ok, Err, sym, ◌∙◌, subst, inl, inr, arith}
 use Rattle.y86_cli.specs.Plan.{Allows, Answered, Plan, after, answers, gives, reads, says}
 use Rattle.answer_laws.specs.OneAnswer.{HasOneAnswer}
 
 pub says_one : (P : Answered → Type 0) → ((a b : Answered) → P a → P b → a ≡ b) → HasOneAnswer (says P)
-says_one P one contents a b p q = one a b p q
+says_one P one = record { one = λ contents a b p q. one a b p q }
 
 pub answers_one : (a : Answered) → HasOneAnswer (answers a)
-answers_one x contents a b p q = p ∙ sym q
+answers_one x = record { one = λ contents a b p q. p ∙ sym q }
+
+read_one : (name : List ℕ) (limit : ℕ) (next : List ℕ → Plan) → ((bytes : List ℕ) → HasOneAnswer (next bytes)) → (contents : List (Option (List ℕ))) (a b : Answered) →
+    Allows (reads name limit next) contents a → Allows (reads name limit next) contents b → a ≡ b
+read_one name limit next one [] a b p q = p ∙ sym q
+read_one name limit next one (None ∷ rest) a b p q = p ∙ sym q
+read_one name limit next one (Some bytes ∷ rest) a b (inl p) (inl q) = p.1 ∙ sym q.1
+read_one name limit next one (Some bytes ∷ rest) a b (inl p) (inr q) = absurd (omega (arith, p.0, q.0))
+read_one name limit next one (Some bytes ∷ rest) a b (inr p) (inl q) = absurd (omega (arith, p.0, q.0))
+read_one name limit next one (Some bytes ∷ rest) a b (inr p) (inr q) = (one bytes).one rest a b p.1 q.1
 
 pub reads_one : (name : List ℕ) (limit : ℕ) (next : List ℕ → Plan) → ((bytes : List ℕ) → HasOneAnswer (next bytes)) → HasOneAnswer (reads name limit next)
-reads_one name limit next one [] a b p q = p ∙ sym q
-reads_one name limit next one (None ∷ rest) a b p q = p ∙ sym q
-reads_one name limit next one (Some bytes ∷ rest) a b (inl p) (inl q) = p.1 ∙ sym q.1
-reads_one name limit next one (Some bytes ∷ rest) a b (inl p) (inr q) = absurd (omega (arith, p.0, q.0))
-reads_one name limit next one (Some bytes ∷ rest) a b (inr p) (inl q) = absurd (omega (arith, p.0, q.0))
-reads_one name limit next one (Some bytes ∷ rest) a b (inr p) (inr q) = one bytes rest a b p.1 q.1
+reads_one name limit next one = record { one = read_one name limit next one }
 
 -- a stage of one value or one answer, and not both
-pub gives_one : {A : Type 0} (P : A → Type 0) (E : Answered → Type 0) (next : A → Plan) → ((x y : A) → P x → P y → x ≡ y) →
-    ((a b : Answered) → E a → E b → a ≡ b) → ((x : A) (a : Answered) → P x → E a → ⊥) → ((x : A) → P x → HasOneAnswer (next x)) → HasOneAnswer (gives P E next)
-gives_one P E next value answer apart one contents a b (inl p) (inl q) =
-    one p.0 p.1 contents a b p.2 (subst (λ x. Allows (next x) contents b) (value q.0 p.0 q.1 p.1) q.2)
-gives_one P E next value answer apart one contents a b (inl p) (inr e) = absurd (apart p.0 b p.1 e)
-gives_one P E next value answer apart one contents a b (inr d) (inl q) = absurd (apart q.0 a q.1 d)
-gives_one P E next value answer apart one contents a b (inr d) (inr e) = answer a b d e
+module _ {A : Type 0} (P : A → Type 0) (E : Answered → Type 0) (next : A → Plan) (value : (x y : A) → P x → P y → x ≡ y) (answer : (a b : Answered) → E a → E b → a ≡ b)
+    (apart : (x : A) (a : Answered) → P x → E a → ⊥) (one : (x : A) → P x → HasOneAnswer (next x)) where
+  stage_one : (contents : List (Option (List ℕ))) (a b : Answered) → Allows (gives P E next) contents a → Allows (gives P E next) contents b → a ≡ b
+  stage_one contents a b (inl p) (inl q) = (one p.0 p.1).one contents a b p.2 (subst (λ x. Allows (next x) contents b) (value q.0 p.0 q.1 p.1) q.2)
+  stage_one contents a b (inl p) (inr e) = absurd (apart p.0 b p.1 e)
+  stage_one contents a b (inr d) (inl q) = absurd (apart q.0 a q.1 d)
+  stage_one contents a b (inr d) (inr e) = answer a b d e
+
+  pub gives_one : HasOneAnswer (gives P E next)
+  gives_one = record { one = stage_one }
 
 pub after_one : {A : Type 0} (stage : Result A Answered) (next : A → Plan) → ((x : A) → HasOneAnswer (next x)) → HasOneAnswer (after stage next)
 unfolding after

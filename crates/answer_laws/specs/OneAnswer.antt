@@ -5,8 +5,8 @@ use Rattle.y86_cli.specs.Does.{SinkSeen}
 use Rattle.y86_cli.specs.Plan.{Allows, Answered, Plan}
 
 -- whatever the contents of the files are, there is one answer at most
-abbrev pub HasOneAnswer : Plan → Type 0
-HasOneAnswer plan = (contents : List (Option (List ℕ))) (a b : Answered) → Allows plan contents a → Allows plan contents b → a ≡ b
+pub record HasOneAnswer (plan : Plan) : Type 0 where
+  pub one : (contents : List (Option (List ℕ))) (a b : Answered) → Allows plan contents a → Allows plan contents b → a ≡ b
 
 -- two calls ended with one status, and told one text on standard output
 pub record ToldAlike (out_before out_after other_before other_after : SinkSeen) (status other : ℕ) : Type 0 where
