@@ -10,7 +10,7 @@ use Rattle.hcl_types.specs.declared.term.Term.{Term}
 use Rattle.pipe_fields.specs.Layout.{bit_count}
 use Rattle.pipe_motion.specs.declared.settings.Settings.{Settings}
 use Rattle.pipe_obligations.specs.Settled.{IsFalseAt, IsLeastFalse}
-use Rattle.pipe_theorem.specs.Theorem.{PipeControls}
+use Rattle.pipe_obligations.specs.Settled.{PipeControls}
 use Rattle.verdicts.specs.Decisions.{IsLeastOf}
 use Rattle.verdicts.specs.Questions as plain
 use Rattle.verdict_text.specs.PipeLines.{pipe_no, pipe_yes}

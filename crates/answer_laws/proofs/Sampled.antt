@@ -7,7 +7,7 @@ use Rattle.hcl_types.specs.Tables.{IsOrderOf}
 use Rattle.hcl_types.specs.declared.term.Term.{Term}
 use Rattle.pipe_motion.specs.declared.settings.Settings.{Settings}
 use Rattle.pipe_obligations.specs.Settled.{IsFalseAt}
-use Rattle.pipe_theorem.specs.Theorem.{PipeControls}
+use Rattle.pipe_obligations.specs.Settled.{PipeControls}
 use Rattle.prog_gen.specs.Choices.{valuation}
 use Rattle.ctl_atoms.specs.declared.leaf.Atom.{Atom}
 use Rattle.y86_base.specs.declared.parts.Variant.{Variant}
