@@ -1,5 +1,5 @@
 -- The verdict on a design is one.
-use Rattle.std.proofs.Common.{◌≡◌, ◌⊎◌, ℕ, ◌≤◌, Bool, List, refl, sym, ap, ◌∙◌, subst, inl, inr}
+use Rattle.std.proofs.Common.{◌≡◌, ◌⊎◌, ℕ, ◌≤◌, Bool, List, sym, ap, ◌∙◌, subst, inl, inr}
 use Rattle.control_check.specs.PipeVerdicts as pipe
 use Rattle.control_check.proofs.OneSettings.{settings_alike}
 use Rattle.ctl_atoms.specs.declared.leaf.Atom.{Atom}
@@ -11,11 +11,11 @@ use Rattle.pipe_fields.specs.Layout.{bit_count}
 use Rattle.pipe_motion.specs.declared.settings.Settings.{Settings}
 use Rattle.pipe_obligations.specs.Settled.{IsFalseAt, IsLeastFalse}
 use Rattle.pipe_obligations.specs.Settled.{PipeControls}
-use Rattle.verdicts.specs.Decisions.{IsLeastOf}
+use Rattle.decisions.specs.Decisions.{IsLeastOf}
 use Rattle.verdicts.specs.Questions as plain
 use Rattle.verdict_text.specs.PipeLines.{pipe_no, pipe_yes}
 use Rattle.y86_base.specs.declared.parts.Variant.{Variant}
-use Rattle.y86_cli.specs.Checks.{AcceptsPipe, AcceptsSeq, DeniesPipe, DeniesSeq, PipeChecks, RefusesAtoms, RefusesControl, RefusesMixed, RefusesPipe, SeqChecks}
+use Rattle.y86_cli.specs.Checks.{AcceptsPipe, DeniesPipe, DeniesSeq, PipeChecks, RefusesControl, RefusesPipe, SeqChecks}
 use Rattle.y86_cli.specs.Datapaths.{Accepts, Rejects, no_text, questions_of, rows_of}
 use Rattle.y86_cli.specs.Lines.{blank_names, names_at, names_line}
 use Rattle.y86_cli.specs.Plan.{Answered, done, refused}

@@ -1,5 +1,5 @@
 -- The counts of an AIGER text are one list.
-use Rattle.std.proofs.Common.{◌≡◌, ◌⊎◌, ℕ, zero, suc, ◌+◌, ◌<◌, ◌≤◌, Bool, if◌then◌else◌, List, length, get_or, Some, refl, sym, ap, ◌∙◌, subst, inl, inr, arith}
+use Rattle.std.proofs.Common.{◌≡◌, ℕ, zero, suc, ◌+◌, ◌<◌, Bool, if◌then◌else◌, List, length, get_or, refl, sym, ap, ◌∙◌, subst, inl, inr, arith}
 use Rattle.std.proofs.lemmas.List.{get_or_default, same_lists}
 use Rattle.aiger_out.specs.Form.{IsAag}
 use Rattle.aiger_out.specs.Values.{Out}
@@ -8,7 +8,7 @@ use Rattle.aiger_out.proofs.OneAnswer.{not_both, one_fault, one_solution}
 use Rattle.aiger_run.specs.Counts.{count_below}
 use Rattle.aiger_run.specs.Told.{IsCount, TellsCounts, counts_text}
 use Rattle.aiger_run.specs.Vectors.{vector}
-use Rattle.y86_cli.specs.AigerTexts.{AigrunAnswers, RefusesAag, SaysCounts, aag_reason}
+use Rattle.y86_cli.specs.AigerTexts.{AigrunAnswers, aag_reason}
 use Rattle.y86_cli.specs.Lines.{fault_line}
 use Rattle.y86_cli.specs.Plan.{Answered, done, refused}
 

@@ -1,8 +1,8 @@
 -- Of the valuations of which something holds one is the least.
-use Rattle.std.proofs.Common.{◌≡◌, ◌⊎◌, ℕ, zero, suc, ◌+◌, ◌<◌, ◌≤◌, Bool, true, false, List, length, get_or, refl, sym, ap, ◌∙◌, subst, inl, inr, arith}
+use Rattle.std.proofs.Common.{◌≡◌, ◌⊎◌, ℕ, zero, suc, ◌<◌, ◌≤◌, Bool, true, false, List, length, get_or, refl, sym, ◌∙◌, subst, inl, inr, arith}
 use Rattle.std.proofs.lemmas.List.{get_or_default, same_lists}
 use Rattle.hcl_order.proofs.Members.{last_or, le_or}
-use Rattle.verdicts.specs.Decisions.{IsLeastOf}
+use Rattle.decisions.specs.Decisions.{IsLeastOf}
 use Rattle.verdicts.specs.Questions.{IsLeastFalse, Questions}
 use Rattle.hcl_types.specs.declared.term.Term.{Term}
 use Rattle.ctl_atoms.specs.declared.leaf.Atom.{Atom}

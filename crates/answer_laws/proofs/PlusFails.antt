@@ -1,5 +1,5 @@
 -- A design for SEQ+ of which an obligation is false isn't accepted.
-use Rattle.std.proofs.Common.{◌≡◌, ℕ, ◌≤◌, Bool, List, sym, ◌∙◌}
+use Rattle.std.proofs.Common.{ℕ, ◌≤◌, Bool, List, sym, ◌∙◌}
 use Rattle.std.proofs.lemmas.Bool.{false≢true}
 use Rattle.ctl_atoms.specs.declared.leaf.Atom.{Atom}
 use Rattle.field_bits.proofs.Patterns.{decoded_range}

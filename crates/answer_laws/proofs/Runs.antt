@@ -1,8 +1,7 @@
 -- The answer to a run is one.
-use Rattle.std.proofs.Common.{◌≡◌, ◌⊎◌, ℕ, zero, suc, ◌<◌, ◌≤◌, Bool, true, false, List, length, sym, ap, ◌∙◌, subst, inl, inr, arith}
-use Rattle.dp_signals.specs.PipeRun.{Cycle, Pipe, PipeRun}
+use Rattle.std.proofs.Common.{◌≡◌, ◌⊎◌, ℕ, zero, suc, ◌<◌, ◌≤◌, Bool, true, List, length, sym, ap, ◌∙◌, subst, inl, inr, arith}
+use Rattle.dp_signals.specs.PipeRun.{Pipe, PipeRun}
 use Rattle.dp_signals.specs.PipeTable.{pipe_rows}
-use Rattle.dp_signals.specs.SeqTable.{seq_rows}
 use Rattle.hcl_order.proofs.Members.{last_or, le_or}
 use Rattle.hcl_types.specs.Tables.{IsBound, IsOrderOf}
 use Rattle.hcl_types.specs.declared.term.Term.{Term}
@@ -12,7 +11,6 @@ use Rattle.pipe_runs.specs.RunsTo.{Goes, RunsTo, end_of}
 use Rattle.pipe_runs.specs.declared.both.BothWays.{BothWays}
 use Rattle.prog_gen.specs.Programs.{program}
 use Rattle.seq_path.proofs.OneRun as seq
-use Rattle.seq_plus.specs.PlusEquations.{PlusSolves}
 use Rattle.seq_plus.specs.PlusNames as row
 use Rattle.seq_plus.specs.PlusRun.{PlusEnds, at_pc, plus_start}
 use Rattle.seq_plus.specs.declared.state.PlusState.{PlusState}
@@ -110,6 +108,9 @@ module _ (v : Variant) (terms : List Term) (ids : List ℕ) (bound : IsBound pip
   abbrev Halted : Pipe → Type 0
   Halted p = ((run v (program n) (run_limit n)).stat ≡ Hlt) × (p.end ≡ Hlt)
 
+  abbrev made : ℕ → ℕ → Bool → Bool → BothWays
+  made steps cycles same halted = record { steps = steps; cycles = cycles; same = same; halted = halted }
+
   both_one : (a b : BothWays) → GoesBothWays v terms n a → GoesBothWays v terms n b → a ≡ b
   both_one a b h k =
       let one = runs_to_one v terms ids bound o (program n) (run_limit n) a.cycles b.cycles h.end k.end h.runs k.runs in
@@ -119,7 +120,8 @@ module _ (v : Variant) (terms : List Term) (ids : List ℕ) (bound : IsBound pip
       (λ t. h.same.1 (alike b.steps a.steps k.end h.end (sym steps) (sym one.1) (k.same.0 t))) in
       let halted : a.halted ≡ b.halted = same_bools a.halted b.halted
       (λ t. k.halted.1 (subst Halted one.1 (h.halted.0 t))) (λ t. h.halted.1 (subst Halted (sym one.1) (k.halted.0 t))) in
-      cc (steps, one.0, same, halted)
+      ap (λ (x : ℕ). made x a.cycles a.same a.halted) steps ∙ ap (λ (x : ℕ). made b.steps x a.same a.halted) one.0
+      ∙ ap (λ (x : Bool). made b.steps b.cycles x a.halted) same ∙ ap (λ (x : Bool). made b.steps b.cycles b.same x) halted
 
   pub big_one : (a b : Answered) → BigAnswers v terms n a → BigAnswers v terms n b → a ≡ b
   big_one a b h k = h.2 ∙ ap (λ both. done (big_status both) (big_line n both)) (both_one h.0 k.0 h.1 k.1) ∙ sym k.2

@@ -1,6 +1,5 @@
 -- What a sample answers is one.
-use Rattle.std.proofs.Common.{◌≡◌, ◌⊎◌, ℕ, ◌+◌, ◌<◌, ◌≤◌, List, length, sym, ap, ◌∙◌, subst, inl, inr, arith}
-use Rattle.control_check.specs.PipeVerdicts.{AreSettings}
+use Rattle.std.proofs.Common.{◌≡◌, ◌⊎◌, ℕ, ◌<◌, ◌≤◌, List, length, sym, ap, ◌∙◌, subst, inl, inr, arith}
 use Rattle.dp_signals.specs.PipeTable.{pipe_rows}
 use Rattle.hcl_order.proofs.Members.{le_or}
 use Rattle.hcl_types.specs.Tables.{IsOrderOf}
@@ -12,7 +11,7 @@ use Rattle.prog_gen.specs.Choices.{valuation}
 use Rattle.ctl_atoms.specs.declared.leaf.Atom.{Atom}
 use Rattle.y86_base.specs.declared.parts.Variant.{Variant}
 use Rattle.y86_cli.specs.Plan.{Answered, done}
-use Rattle.y86_cli.specs.Samples.{DrawnOf, FindsFirst, FindsNone, IsFalseDrawn, NoneFalseDrawn, SampleAnswers, SaysFound, SaysNone, found_line}
+use Rattle.y86_cli.specs.Samples.{DrawnOf, FindsFirst, FindsNone, IsFalseDrawn, SampleAnswers, SaysFound, found_line}
 use Rattle.answer_laws.proofs.Checked.{atoms_one, control_apart, control_one, settings_one}
 
 module _ (name : List ℕ) (v : Variant) (terms : List Term) (ids : List ℕ) (ordered : IsOrderOf pipe_rows terms ids) (seed count : ℕ) where
