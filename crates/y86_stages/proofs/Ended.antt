@@ -1,5 +1,5 @@
 -- How a call ends.
-use Rattle.std.proofs.Common.{◌≡◌, ◌⊎◌, ℕ, List, Option, Some, None, Result, Ok, Err, inl, inr, refl, subst}
+use Rattle.std.proofs.Common.{◌≡◌, ℕ, Option, Some, None, Result, Ok, Err, inl, inr, refl, subst}
 use Rattle.y86_cli.specs.Does.{FilesSeen, SinkSeen}
 use Rattle.y86_cli.specs.Ran.{Told}
 use Rattle.y86_cli.specs.Stops.{status_of}
@@ -7,11 +7,11 @@ use Rattle.y86_cli.specs.declared.stop.Stop as code
 use Rattle.y86_cli.specs.declared.stop.Stop.TheVariants.{Memory, Usage}
 use Rattle.y86_words.specs.Forms.{form_of}
 use Rattle.y86_stages.specs.Ended.{Called, Ends, EndsAs, request_of, stop_line}
-use Rattle.y86_stages.specs.Words.{Read, first_read, window_of}
+use Rattle.y86_stages.specs.Words.{Read, window_of}
 
 module _ (said : Option Read) (files_before files_after : FilesSeen) (out_before out_after err_before err_after : SinkSeen) (status : ℕ) where
   none_ends : files_after ≡ files_before → out_after ≡ out_before → EndsAs None files_before files_after out_before out_after (Err Usage)
-  unfolding EndsAs, Ends
+  unfolding EndsAs Ends
   none_ends files out = (refl, files, out)
 
   some_ends : (r : Read) (result : Result ℕ code.Stop) → Ends (request_of (form_of r.words)) (window_of r) files_before files_after out_before out_after result →

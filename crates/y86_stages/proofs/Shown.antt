@@ -1,5 +1,5 @@
 -- What is shown of a run is one of the answers.
-use Rattle.std.proofs.Common.{◌≡◌, ℕ, List, ◌∙◌, ap, sym, refl, Result}
+use Rattle.std.proofs.Common.{◌≡◌, ℕ, List, refl, Result}
 use Rattle.hcl_types.specs.declared.term.Term.{Term}
 use Rattle.stage_text.specs.Watching.{Watching, WatchesTo, whole_text}
 use Rattle.stage_text.specs.declared.watching.Window.{Window}

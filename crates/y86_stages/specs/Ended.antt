@@ -3,7 +3,6 @@ use Rattle.std.specs.Prelude.{◌≡◌, ◌⊎◌, ℕ, ◌||◌, if◌then◌e
 use Rattle.stage_text.specs.declared.watching.Window.{Window}
 use Rattle.y86_base.specs.declared.parts.Variant.{Variant}
 use Rattle.y86_cli.specs.Does.{Does, FilesSeen, SinkSeen}
-use Rattle.y86_cli.specs.Lines.{memory_line}
 use Rattle.y86_cli.specs.Ran.{Told}
 use Rattle.y86_cli.specs.Stops.{line_of, status_of}
 use Rattle.y86_cli.specs.declared.stop.Stop as code

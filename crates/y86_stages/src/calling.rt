@@ -50,7 +50,7 @@ fn window_of(r: &Reading) -> Window
 /// The run that a command of `psim` is, where it asks for no trace and no check.
 fn request_of<'a>(command: Cmd<'a>) -> Option<Request<'a>>
     requires { IsLegal (command_in command) }
-    ensures request { option_map request_in result ≡ spec.request_of (Some (command_in command)) }
+    ensures request { option_map request_in result ≡ spec.request_of (Some (command_in command.entry)) }
     ensures legal { IfSome result (λ r. IsSize r.mem × (r.limit ≤ 100000000)) }
 {
     match command {
@@ -105,6 +105,7 @@ fn show_words<'a, F: Files, O: Sink>(
 }
 
 /// Tells a stop on standard error, and gives its status.
+#[tactic(auto, using(y86_cli::proofs::Ran::told_whole, y86_cli::proofs::Ran::told_part))]
 fn tell_stop<E: Sink>(stop: &Stop<'_>, err: &mut E) -> Status
     ensures status { result ≡ status_of stop.now }
     ensures line { Told (sink_seen (E.taken err.old) (E.faults err.old)) (sink_seen (E.taken err.new) (E.faults err.new)) (spec.stop_line stop.now) }
@@ -126,6 +127,7 @@ fn tell_stop<E: Sink>(stop: &Stop<'_>, err: &mut E) -> Status
 }
 
 /// The program: shows what the words behind its own name say, over any files and sinks, and gives the status that it ends with.
+#[tactic(auto, using(crate::proofs::Ended::called_usage, crate::proofs::Ended::called_memory, crate::proofs::Ended::called_done, crate::proofs::Ended::called_stopped))]
 pub fn run<F: Files, O: Sink, E: Sink>(
     alloc: Global,
     own_words: &[String],
@@ -150,6 +152,7 @@ pub fn run<F: Files, O: Sink, E: Sink>(
 }
 
 /// The same on the words as the system gives them, the program's own name first. Words that can't be read have no form.
+#[tactic(auto, using(crate::proofs::Ended::called_usage, crate::proofs::Ended::called_memory))]
 pub fn call<F: Files, O: Sink, E: Sink>(
     alloc: Global,
     args: io::Result<Args>,

@@ -7,7 +7,7 @@ ghost use Rattle.y86_cli.specs.Does.{Does, NoReadFailed, Says, files_seen, sink_
 ghost use Rattle.y86_stages.specs.Shown.{ShownAnswers, object_plan, stages_plan};
 
 use hcl_compile::compile;
-use stage_text::{Watched, Window, watch_run};
+use stage_text::{Window, watch_run};
 use std::alloc::Global;
 use wb_io::{Files, Sink};
 use y86_base::{Image, Variant};
@@ -34,7 +34,7 @@ fn show_image<'a, O: Sink>(
     let Ok(mut compiled) = compile(alloc, &ordered.design, &ordered.order) else {
         return Err(Stop::Memory);
     };
-    match watch_run(
+    let watched = match watch_run(
         alloc,
         variant,
         &ordered.design,
@@ -44,9 +44,10 @@ fn show_image<'a, O: Sink>(
         limit,
         window,
     ) {
-        Ok(Watched { text, end }) => say(status(end), text.as_slice(), out),
-        Err(_) => Err(Stop::Memory),
-    }
+        Ok(watched) => watched,
+        Err(_) => return Err(Stop::Memory),
+    };
+    say(status(watched.end), watched.text.as_slice(), out)
 }
 
 /// Reads an object file, and shows its run under a design.
