@@ -1,3 +1,4 @@
+//! The nodes of the diagrams of a store, each once.
 ghost use Rattle.std.specs.Prelude.{◌≡◌, ℕ, ◌+◌, ◌^◌, ◌<◌, ◌≤◌, ◌++◌, ◌∷◌, [], length, IfOk, OnErr, Some, slice_get};
 ghost use Rattle.bdd_core.specs.Answers.{IsMade};
 ghost use Rattle.bdd_core.specs.Diagrams.{IsBranch, IsWell, Keeps, at, count};

@@ -1,3 +1,4 @@
+//! Results of operations on diagrams that are remembered, in a table that forgets.
 ghost use Rattle.std.specs.Prelude.{◌≡◌, ◌⊎◌, ◌<◌, ℕ, IfOk, IfSome, Some, length, slice_get, true};
 ghost use Rattle.bdd_core.specs.Results.{AreBlank, Holds};
 

@@ -1,3 +1,4 @@
+//! A store of decision diagrams, and what is asked of one diagram.
 ghost use Rattle.std.specs.Prelude.{◌≡◌, ℕ, ◌+◌, ◌^◌, ◌<◌, ◌≤◌, ◌↔◌, List, Bool, [], true, length, IfOk, IfSome, MatchOption, IsTrue};
 ghost use Rattle.bdd_core.specs.Answers.{IsAnswer, IsKey, IsMade};
 ghost use Rattle.bdd_core.specs.Diagrams.{IsWell, Keeps, at, count};

@@ -1,3 +1,4 @@
+//! The hash table that finds a node by its variable and its two diagrams.
 ghost use Rattle.std.specs.Prelude.{◌≡◌, ℕ, ◌+◌, ◌-◌, ◌^◌, ◌<◌, ◌≤◌, length, take, IfOk, OnOk};
 ghost use Rattle.bdd_core.specs.Tables.{Inside, IsTable, IsUnique, home_of, same_node};
 ghost use Rattle.bdd_core.specs.Tables as tables;

@@ -1,3 +1,4 @@
+//! The verdict on a design for PIPE: its settings, and then the rules at them.
 ghost use Rattle.std.specs.Prelude.{◌≡◌, ◌<◌, IfErr, IfOk, length, not, true};
 ghost use Rattle.bdd_core.specs.Building.{AreKnown};
 ghost use Rattle.dp_signals.specs.PipeTable.{pipe_rows};

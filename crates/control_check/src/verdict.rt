@@ -1,3 +1,4 @@
+//! What a verdict says, and that on a design for SEQ.
 ghost use Rattle.std.specs.Prelude.{◌≡◌, IfErr, IfOk, true};
 ghost use Rattle.hcl_types.specs.Tables.{IsBound, IsOrderOf};
 ghost use Rattle.dp_signals.specs.SeqTable.{seq_rows};

@@ -1,3 +1,4 @@
+//! Why a design has no control values.
 use hcl_types::NameId;
 use thiserror::Error;
 

@@ -1,3 +1,4 @@
+//! Atoms: comparisons of words that are left open.
 ghost use Rattle.std.specs.Prelude.{◌≡◌, Some};
 ghost use Rattle.ctl_atoms.specs.Leaves.{asked, asked_eq, asked_lt, atom_eq, kind_eq, leaf_eq};
 

@@ -1,3 +1,4 @@
+//! Designs of `examples/` with other definitions of some names.
 use crate::files::Example;
 use std::alloc::{AllocError, Global};
 

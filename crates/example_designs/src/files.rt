@@ -1,3 +1,5 @@
+//! The texts of the designs of `examples/`.
+
 /// A design of `examples/`.
 #[derive(Clone, Copy, Debug)]
 pub enum Example {

@@ -1,3 +1,4 @@
+//! Slots are appended once: one that is there already is used again.
 ghost use Rattle.std.specs.Prelude.{◌≡◌, ◌<◌, IfOk, [], length};
 ghost use Rattle.hcl_compile.specs.Slots.{IsFormed, ReadsBefore, slot_value, written};
 ghost use Rattle.hcl_compile.specs.Building.{IsPlaced, own_names};

@@ -1,3 +1,4 @@
+//! The programs of a design, one for each definition.
 ghost use Rattle.std.specs.Prelude.{◌≤◌, IfOk, length};
 ghost use Rattle.hcl_types.specs.Lists.{Each};
 ghost use Rattle.hcl_compile.specs.declared.slot.Prog.{Prog};

@@ -1,3 +1,4 @@
+//! Slots of `&&`, `||` and `in`.
 ghost use Rattle.std.specs.Prelude.{◌≡◌, ◌<◌, IfOk, [], length, map};
 ghost use Rattle.hcl_types.specs.Lists.{Each};
 ghost use Rattle.hcl_types.specs.Terms.{at, compare_words, words};

@@ -1,3 +1,4 @@
+//! Compiled definitions: the slots of a program.
 use hcl_types::{CmpOp, NameId};
 use y86_base::Items;
 

@@ -1,3 +1,4 @@
+//! Slots of a term.
 ghost use Rattle.std.specs.Prelude.{◌≡◌, IfOk, MatchOption, ℕ, []};
 ghost use Rattle.hcl_types.specs.Terms.{value, words};
 ghost use Rattle.hcl_compile.specs.Slots.{IsFormed};

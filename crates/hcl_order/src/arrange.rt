@@ -1,3 +1,4 @@
+//! Puts rows into an order, each behind what it needs.
 ghost use Rattle.std.specs.Prelude.{◌≡◌, ◌<◌, ◌^◌, ◌↔◌, [], Bool, List, IfOk, IsTrue, OnOk, ℕ, length, true, false, ◌⊎◌};
 ghost use Rattle.hcl_types.specs.Lists.{IsIn};
 ghost use Rattle.hcl_types.specs.Equations.{is_known, needs_of};

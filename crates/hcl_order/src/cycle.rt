@@ -1,3 +1,4 @@
+//! A shortest cycle of rows that need one another.
 ghost use Rattle.std.specs.Prelude.{◌≡◌, ◌<◌, ◌≤◌, ◌^◌, ℕ, IfOk, MatchOption, length};
 ghost use Rattle.hcl_order.specs.Dependence.{Depends, FirstCycle, IsFirstCycle};
 ghost use Rattle.hcl_types.specs.Equations.{needs_of};

@@ -1,3 +1,4 @@
+//! Why a design has no order.
 use thiserror::Error;
 use y86_base::Items;
 

@@ -1,3 +1,4 @@
+//! Distances between rows, layer by layer.
 ghost use Rattle.std.specs.Prelude.{◌≡◌, ◌≢◌, ◌+◌, ◌<◌, ◌≤◌, ◌^◌, ◌-◌, ◌⊎◌, ℕ, length, replicate, slice_index, slice_set, true, false};
 ghost use Rattle.hcl_types.specs.Lists.{IsIn};
 ghost use Rattle.hcl_types.specs.Equations.{needs_of};

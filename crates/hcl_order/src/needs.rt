@@ -1,3 +1,4 @@
+//! What the rows of a design need, and which are given.
 ghost use Rattle.std.specs.Prelude.{◌≡◌, ◌++◌, OnOk, IfOk, if◌then◌else◌};
 ghost use Rattle.hcl_types.specs.Tables.{inputs, is_defined, is_given, known, needs, term_at};
 ghost use Rattle.hcl_types.specs.Terms.{names};

@@ -1,3 +1,4 @@
+//! The order of a design: the call.
 ghost use Rattle.std.specs.Prelude.{IfOk, MatchResult, ℕ};
 ghost use Rattle.hcl_types.specs.Equations.{needs_of};
 ghost use Rattle.hcl_types.specs.Tables.{IsBound, IsOrderOf, IsSound, known, needs};

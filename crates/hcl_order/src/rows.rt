@@ -1,3 +1,4 @@
+//! An order of rows, or a shortest cycle.
 ghost use Rattle.std.specs.Prelude.{◌≡◌, ◌<◌, ◌^◌, ℕ, IfOk, length, true};
 ghost use Rattle.hcl_types.specs.Lists.{IsIn};
 ghost use Rattle.hcl_types.specs.Equations.{is_known, needs_of};

@@ -1,3 +1,4 @@
+//! Why a text of HCL is refused, and where.
 use thiserror::Error;
 use y86_base::Memory;
 

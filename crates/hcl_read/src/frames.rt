@@ -1,3 +1,4 @@
+//! What is open while an expression is read: its levels and brackets.
 ghost use Rattle.std.specs.Prelude.{◌≡◌};
 ghost use Rattle.hcl_read.specs.Depth.{level_behind};
 

@@ -1,3 +1,4 @@
+//! Reads a text of HCL: the call.
 ghost use Rattle.std.specs.Prelude.{◌≡◌, ◌≤◌, ℕ, List, [], length, take, IfOk, IfErr, Ok};
 ghost use Rattle.y86_base.specs.Cursor.{column_behind, line_behind};
 ghost use Rattle.hcl_read.specs.declared.tree.File.{File};

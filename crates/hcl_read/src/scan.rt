@@ -1,3 +1,4 @@
+//! Reads the next token of a text.
 ghost use Rattle.std.specs.Prelude.{◌≡◌, ◌≤◌, ◌<◌, ◌+◌, ◌-◌, ◌^◌, ◌∷◌, length, IfOk, MatchOption, List, ℕ, [], drop, true, None, Some, take_while, false};
 ghost use Rattle.std.specs.List.{prefix_len};
 ghost use Rattle.y86_base.specs.Keyword.{keyword_at, meaning_of};

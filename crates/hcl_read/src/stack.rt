@@ -1,3 +1,4 @@
+//! The open brackets of an expression.
 ghost use Rattle.std.specs.Prelude.{◌≡◌, ◌+◌, ◌∷◌, [], nat_le, OnOk, MatchOption};
 ghost use Rattle.hcl_read.specs.Depth.{depth_of};
 

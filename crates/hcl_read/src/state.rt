@@ -1,3 +1,4 @@
+//! What has been read of a file, and what comes next.
 ghost use Rattle.std.specs.Prelude.{◌≡◌, true, Ok, Err};
 ghost use Rattle.hcl_read.specs.Machine as machine;
 ghost use Rattle.hcl_read.specs.Steps.{Steps};

@@ -1,3 +1,4 @@
+//! What a token of an expression does to its open brackets.
 ghost use Rattle.std.specs.Prelude.{◌≡◌, ◌∷◌, ◌++◌, [], true, IfOk};
 ghost use Rattle.hcl_read.specs.Grammar as grammar;
 ghost use Rattle.hcl_read.specs.Machine as machine;

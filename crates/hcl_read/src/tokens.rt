@@ -1,3 +1,4 @@
+//! The tokens of HCL.
 use crate::text::Text;
 use crate::tree::{CmpOp, Kind};
 

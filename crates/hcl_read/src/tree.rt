@@ -1,3 +1,4 @@
+//! The tree of a file: declarations, definitions and their expressions.
 use crate::text::Text;
 use y86_base::{Boxed, Items};
 

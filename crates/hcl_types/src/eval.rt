@@ -1,3 +1,4 @@
+//! What evaluates the definitions of a design.
 ghost use Rattle.std.specs.Prelude.{◌≡◌, ◌<◌, ℕ, List, length, slice_get, Some};
 ghost use Rattle.hcl_types.specs.Lists.{Each};
 ghost use Rattle.hcl_types.specs.Signals.{Asks};

@@ -1,3 +1,4 @@
+//! Why a file gives no design.
 ghost use Rattle.std.specs.Prelude.{◌≡◌, ◌≢◌, []};
 ghost use Rattle.hcl_types.specs.Binding.{fault};
 ghost use Rattle.hcl_types.specs.declared.fault.BindWhy.TheVariants.{Memory as OutOfMemory};

@@ -1,3 +1,4 @@
+//! The positions of the names of a table.
 ghost use Rattle.std.specs.Prelude.{◌≡◌, ◌<◌, ◌^◌, IfOk, length};
 ghost use Rattle.hcl_types.specs.Binding.{place};
 ghost use Rattle.hcl_types.specs.Lists.{IsApart};

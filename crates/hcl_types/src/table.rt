@@ -1,3 +1,4 @@
+//! Tables of signals: names, kinds and where values come from.
 use crate::term::{NameId, Term};
 use hcl_read::Text;
 use y86_base::Items;

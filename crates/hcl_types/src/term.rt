@@ -1,3 +1,4 @@
+//! Expressions of HCL over the rows of a table.
 use hcl_read::CmpOp;
 use y86_base::{Boxed, Items};
 

@@ -1,3 +1,4 @@
+//! What stands in a stage.
 ghost use Rattle.std.specs.Prelude.{◌≡◌};
 ghost use Rattle.stage_text.specs.Watch as spec;
 

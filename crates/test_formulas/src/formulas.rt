@@ -1,3 +1,4 @@
+//! Samples of formulas of any size.
 ghost use Rattle.std.specs.Prelude.{◌<◌};
 
 use crate::wires::Wires;

@@ -1,3 +1,4 @@
+//! Diagrams of samples, and their paths.
 ghost use Rattle.std.specs.Prelude.{IfSome};
 ghost use Rattle.bdd_core.specs.Meaning.{IsDia};
 

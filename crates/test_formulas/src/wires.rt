@@ -1,3 +1,4 @@
+//! Builds nets for samples.
 ghost use Rattle.std.specs.Prelude.{◌≡◌, length, nat_lt};
 
 use nets::{Net, NetBuilder};

@@ -1,3 +1,4 @@
+//! Boxes that contracts see as their values.
 ghost use Rattle.std.specs.Prelude.{◌≡◌, IfOk};
 
 use crate::parts::Memory;

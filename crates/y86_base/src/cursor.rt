@@ -1,3 +1,4 @@
+//! A reader of bytes that knows its line and column.
 ghost use Rattle.std.specs.Prelude.{◌≡◌, ◌∷◌, ◌++◌, [], ◌↔◌, IfNone, IfSome, IsNone, slice_get};
 ghost use Rattle.y86_base.specs.Cursor.{column_behind, line_behind};
 

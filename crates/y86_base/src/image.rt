@@ -1,3 +1,4 @@
+//! Images: the bytes of a memory.
 ghost use Rattle.std.specs.Prelude.{◌≡◌, ◌+◌, ◌≤◌, IfOk, IsErrOf, IsTrue, OnOk, ◌↔◌, length, nat_le, nat_lt, replicate, slice_get, slice_set};
 ghost use Rattle.y86_base.specs.Image.{AreBytes, IsSize, put_word, word_at};
 ghost use Rattle.y86_base.specs.Image as spec;

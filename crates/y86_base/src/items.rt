@@ -1,3 +1,4 @@
+//! Lists that contracts see as their elements.
 ghost use Rattle.std.specs.Prelude.{◌≡◌};
 
 use std::marker::Model;

@@ -1,3 +1,4 @@
+//! Fixed texts and what they mean.
 ghost use Rattle.std.specs.Prelude.{◌≡◌, MatchOption, None, Some, map};
 ghost use Rattle.y86_base.specs.Keyword as table;
 

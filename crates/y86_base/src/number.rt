@@ -1,3 +1,4 @@
+//! Numbers as they are written in a text.
 ghost use Rattle.std.specs.Prelude.{◌≡◌, MatchOption, None, Some};
 ghost use Rattle.y86_base.specs.Number as spec;
 

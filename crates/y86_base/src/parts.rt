@@ -1,3 +1,4 @@
+//! The small types of all crates: want of memory, the instruction set, flags and statuses.
 ghost use Rattle.std.specs.Prelude.{◌≡◌};
 ghost use Rattle.y86_base.specs.Stat.{stat_name, stat_number, stat_of};
 

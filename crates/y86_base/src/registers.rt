@@ -1,3 +1,4 @@
+//! The program registers and their names.
 ghost use Rattle.std.specs.Prelude.{◌≡◌, map, replicate};
 ghost use Rattle.y86_base.specs.Keyword.{entry};
 ghost use Rattle.y86_base.specs.Registers.{register, register_name, with_register};

@@ -1,3 +1,4 @@
+//! Words as signed numbers.
 ghost use Rattle.std.specs.Prelude.{◌≡◌, IsTrue, ◌↔◌, ◌<ℤ◌};
 ghost use Rattle.std.specs.Int.{cast_signed, w64};
 ghost use Rattle.y86_base.specs.Words as spec;

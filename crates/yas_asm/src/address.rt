@@ -1,3 +1,4 @@
+//! Addresses: how many bytes a statement emits, and where it leads.
 ghost use Rattle.std.specs.Prelude.{◌≡◌, ◌<◌, IfOk};
 ghost use Rattle.y86_base.specs.Text.{below_word};
 ghost use Rattle.yas_asm.specs.Grammar as grammar;

@@ -1,3 +1,4 @@
+//! Assembles a source: the call.
 ghost use Rattle.std.specs.Prelude.{◌≡◌, IfOk};
 ghost use Rattle.yas_asm.specs.Assembly.{assembled};
 ghost use Rattle.yas_asm.specs.Outcome.{Gives};

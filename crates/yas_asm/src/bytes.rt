@@ -1,3 +1,4 @@
+//! The bytes that a statement emits.
 ghost use Rattle.std.specs.Prelude.{◌≡◌, take};
 ghost use Rattle.std.specs.Int.{to_le_bytes, w64};
 ghost use Rattle.yas_asm.specs.Assembly as assembly;

@@ -1,3 +1,4 @@
+//! The fault of a statement, in the order of the reasons.
 ghost use Rattle.std.specs.Prelude.{◌≡◌};
 ghost use Rattle.yas_asm.specs.Assembly as assembly;
 ghost use Rattle.yas_asm.specs.Sound.{IsSound};

@@ -1,3 +1,4 @@
+//! Comments, and bytes that may not stand outside of them.
 ghost use Rattle.std.specs.Prelude.{◌≡◌, false, drop, ◌≤◌, length};
 ghost use Rattle.yas_asm.specs.Comments as comments;
 

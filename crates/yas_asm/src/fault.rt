@@ -1,3 +1,4 @@
+//! Why a source is refused, and where.
 use thiserror::Error;
 
 /// Why a source is refused. Of several reasons on one line the first in this order is told.

@@ -1,3 +1,4 @@
+//! Reads the statement of a line.
 ghost use Rattle.yas_asm.specs.Sound.{IsSound};
 ghost use Rattle.std.specs.Prelude.{IfOk, ◌≡◌, ◌*◌, ◌-◌, ◌^◌};
 ghost use Rattle.yas_asm.specs.Grammar as grammar;

@@ -1,3 +1,4 @@
+//! The labels of a source.
 ghost use Rattle.std.specs.Prelude.{◌≡◌, ◌∷◌, ◌++◌, [], length, map, OnOk, None};
 ghost use Rattle.yas_asm.specs.LabelMap.{named};
 ghost use Rattle.y86_base.specs.Keyword.{meaning_of};

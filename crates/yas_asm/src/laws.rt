@@ -1,3 +1,4 @@
+//! What the definitions of the assembler say together.
 ghost use Rattle.yas_asm.specs.Spacing.{SpacingIsFree};
 ghost use Rattle.yas_asm.specs.Laws.{AcceptedWithoutFault, AlignIsLeast, BytesHaveOneLine, CloseIsFirst, FirstFaultIsTold, ImageHasLines, ImageIsZeroElsewhere, LabelsAreAddresses, LabelsAreOfLines, LeastReasonIsTold, LinesFollow, LinesShow, SweepPassesComments, TextsStandThere};
 

@@ -1,3 +1,4 @@
+//! Listings: the lines of an assembled source.
 ghost use Rattle.std.specs.Prelude.{◌≡◌};
 
 use arrayvec::ArrayVec;

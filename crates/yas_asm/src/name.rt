@@ -1,3 +1,4 @@
+//! Names of a source.
 ghost use Rattle.std.specs.Prelude.{◌≡◌, List, ℕ};
 
 use std::marker::Model;

@@ -1,3 +1,4 @@
+//! Numbers of a source, decimal and in hex.
 ghost use Rattle.std.specs.Prelude.{MatchOption, None, Some, length, IsTrue, ◌≡◌, ◌≤◌};
 ghost use Rattle.yas_asm.specs.Tokens as tokens;
 

@@ -1,3 +1,4 @@
+//! The two passes: labels are collected, and bytes emitted.
 ghost use Rattle.std.specs.Prelude.{◌≡◌, ◌+◌, ◌++◌, ◌<◌, ◌^◌, IfOk, OnOk};
 ghost use Rattle.yas_asm.specs.Assembly as assembly;
 ghost use Rattle.yas_asm.specs.Outcome.{Stops, Gives, line_for};

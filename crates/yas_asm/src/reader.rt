@@ -1,3 +1,4 @@
+//! What is left of a line as it is read.
 ghost use Rattle.std.specs.Prelude.{IfNone, ◌≡◌, List, ℕ};
 ghost use Rattle.yas_asm.specs.Comments as comments;
 ghost use Rattle.yas_asm.specs.Tokens as tokens;

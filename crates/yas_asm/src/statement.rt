@@ -1,3 +1,4 @@
+//! Statements of the assembly language.
 use crate::name::Name;
 
 /// How many bytes a number or a label is emitted in, the lowest first.

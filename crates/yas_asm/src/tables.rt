@@ -1,3 +1,4 @@
+//! The mnemonics and the directives.
 ghost use Rattle.std.specs.Prelude.{◌≡◌, map};
 ghost use Rattle.y86_base.specs.Keyword.{entry};
 ghost use Rattle.yas_asm.specs.Tables as tables;

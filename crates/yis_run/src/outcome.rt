@@ -1,3 +1,4 @@
+//! How a run ended.
 ghost use Rattle.std.specs.Prelude.{◌≡◌};
 
 use y86_base::{Flags, Image, Regs, Stat};

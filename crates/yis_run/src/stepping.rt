@@ -1,3 +1,4 @@
+//! Runs a machine of the instruction level.
 ghost use Rattle.std.specs.Prelude.{◌≡◌, ◌≢◌, ◌<◌, ◌≤◌, length};
 ghost use Rattle.y86_isa.specs.Run.{records_from, run_from};
 

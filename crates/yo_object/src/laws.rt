@@ -1,3 +1,4 @@
+//! What the definitions of object text say together.
 ghost use Rattle.yo_object.specs.Grammar.{ReadsTheForm, SkipsTheRest};
 ghost use Rattle.yo_object.specs.LoadedText.{AcceptsGoodLines, HasItsSize, IsZeroWithoutLine, LastLineWins, RefusesFirstFault};
 ghost use Rattle.yo_object.specs.ReadBack.{EmitsAtAddresses, FitsItsSize, HasItsBytes, IsReadBack, IsZeroElsewhere};

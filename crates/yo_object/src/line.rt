@@ -1,3 +1,4 @@
+//! One line of object text.
 ghost use Rattle.std.specs.Prelude.{◌≡◌, ◌<◌, ◌≤◌, ◌+◌, ◌∷◌, [], IfSome, MatchOption, length};
 ghost use Rattle.std.specs.Option.{option_copied, option_map};
 ghost use Rattle.y86_base.specs.Image.{with_bytes};

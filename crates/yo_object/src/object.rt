@@ -1,3 +1,4 @@
+//! Loads object text: the call.
 ghost use Rattle.std.specs.Prelude.{◌≡◌, ◌⊎◌, IfErr, IfOk};
 ghost use Rattle.y86_base.specs.Image.{IsSize};
 ghost use Rattle.yo_object.specs.Loads.{out_of_memory};

@@ -1,3 +1,4 @@
+//! Prints a listing as object text.
 ghost use Rattle.std.specs.Prelude.{◌≡◌, ◌≤◌, ◌++◌, IfOk, OnOk, replicate};
 ghost use Rattle.y86_base.specs.Numeral.{numeral};
 ghost use Rattle.yo_object.specs.Printed as definition;
