@@ -10,7 +10,7 @@ from proving import crates_of, tell
 
 # The folders, and of docs/ the pages and scripts, where they are there.
 FOLDERS = ("examples", "lab")
-DOCS = ("HCL.md", "OBLIGATIONS.md", "THEOREM.md", "ASSEMBLY.md", "TUTORIAL.md", "LAB.md", "STAGES.md", "CERTIFICATES.md", "AIGER.md", "random_programs.py")
+DOCS = ("COMMANDS.md", "HCL.md", "OBLIGATIONS.md", "THEOREM.md", "ASSEMBLY.md", "TUTORIAL.md", "LAB.md", "STAGES.md", "CERTIFICATES.md", "AIGER.md", "random_programs.py")
 README = """\
 # y86
 
