@@ -2,12 +2,13 @@
 use Rattle.std.proofs.Common.{◌≡◌, ◌⊎◌, inl, inr, ℕ, ◌+◌, ◌-◌, ◌<◌, ◌≤◌, cond, List, [], ◌∷◌, ◌++◌, length, get_or, set, drop, take, replicate, slice_get, Some, refl, sym, ap, ◌∙◌, subst, arith}
 use Rattle.std.specs.List.{count_by}
 use Rattle.std.proofs.lemmas.Bool.{cases_lt, cases_eq, lt-ltb, le-ltb}
+use Rattle.std.proofs.lemmas.Nat.{and_le_r}
 use Rattle.std.proofs.lemmas.List.{get_or-set_other, get_or-set_same, get_or-drop, get_or-take, get_or_past, length-set, length-drop, length-take, length_push, drop-set-add, get_or_append_left, get_or_push, get_or-replicate, length-replicate}
 use Rattle.std.proofs.Math.Seq.{take-set-lt, drop-nil, take-nil}
 use Rattle.std.proofs.lemmas.List.Sums.{sum_by-take-drop, sum_by-set}
 use Rattle.std.proofs.lemmas.List.Folds.{sum_by-replicate}
 use Rattle.std.proofs.lemmas.Option.{slice_get-get_or, get_or_from_slice_get, slice_get_within}
-use Rattle.bdd_core.specs.Tables.{look_through, joined, searched, home_of, is_used, IsTable, IsUnique}
+use Rattle.bdd_core.specs.Tables.{look_through, hash_of, joined, searched, home_of, is_used, IsTable, IsUnique}
 use Rattle.bdd_core.proofs.Looking.{look_sound, look_place, look_all, look_written, found_kept, full_kept, Grows, AreIn}
 use Rattle.bdd_core.specs.declared.nodes.Decision.{Decision}
 use Rattle.bdd_core.specs.declared.table.Look.{Look}
@@ -158,7 +159,7 @@ search_none list c (p ∷ ps) e = absurd (omega arith)
 -- a look begins inside
 home_near : (c : Decision) (n : ℕ) → 0 < n → home_of c n ≤ n
 unfolding home_of
-home_near c n h = omega arith
+home_near c n h = (let b = and_le_r (hash_of c) (n - 1) in omega (arith, b, h))
 
 -- no node stands twice in a list that the table finds
 pub table_unique : {list : List Decision} {places : List ℕ} → IsTable list places → IsUnique list

@@ -1,5 +1,5 @@
 -- The hashed table that finds a node: places hold the number of a node, or 0 or 1 where they are free.
-use Rattle.std.specs.Prelude.{ℕ, ◌+◌, ◌-◌, ◌*◌, ◌/◌, ◌%◌, ◌^◌, ◌<◌, ◌≤◌, Bool, false, cond, ◌&&◌, List, [], ◌∷◌, ◌≡◌, length, take, drop, get_or, nat_eq, nat_lt, slice_get, Some, None, Option}
+use Rattle.std.specs.Prelude.{ℕ, ◌+◌, ◌-◌, ◌*◌, ◌/◌, ◌%◌, ◌^◌, ◌<◌, ◌≤◌, Bool, false, cond, ◌&&◌, List, [], ◌∷◌, ◌≡◌, length, take, drop, get_or, nat_eq, nat_lt, slice_get, Some, None, Option, bit_and}
 use Rattle.std.specs.List.{count_by}
 use Rattle.bdd_core.specs.Diagrams.{IsWell}
 use Rattle.bdd_core.specs.declared.nodes.Decision.{Decision}
@@ -41,13 +41,17 @@ joined home (Found p) second = Found p
 joined home (Free i) second = Free (home + i)
 joined home Full second = second
 
--- where the look for a node begins
-unfoldable pub home_of : Decision → ℕ → ℕ
-home_of c size =
+-- the upper half of a product, by Knuth's multiplicative hashing
+unfoldable pub hash_of : Decision → ℕ
+hash_of c =
     let var = c.var * 11400714819323198485 % 2 ^ 64 in
     let low = c.low * 14029467366897019727 % 2 ^ 64 in
     let high = c.high * 1609587929392839161 % 2 ^ 64 in
-    (((var + low) % 2 ^ 64 + high) % 2 ^ 64 / 2 ^ 32) % size
+    ((var + low) % 2 ^ 64 + high) % 2 ^ 64 / 2 ^ 32
+
+-- where the look for a node begins: below the size, which is a power of 2
+unfoldable pub home_of : Decision → ℕ → ℕ
+home_of c size = bit_and (hash_of c) (size - 1)
 
 -- the look for a node, from its home to the end and on from the beginning
 unfoldable pub searched : List Decision → Decision → List ℕ → Look

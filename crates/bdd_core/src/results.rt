@@ -1,5 +1,5 @@
 //! Results of operations on diagrams that are remembered, in a table that forgets.
-ghost use Rattle.std.specs.Prelude.{◌≡◌, ◌⊎◌, ◌<◌, ℕ, IfOk, IfSome, Some, length, slice_get, true};
+ghost use Rattle.std.specs.Prelude.{◌≡◌, ◌⊎◌, ℕ, IfOk, IfSome, Some, slice_get, true};
 ghost use Rattle.bdd_core.specs.Results.{AreBlank, Holds};
 
 use std::alloc::Global;
@@ -38,11 +38,8 @@ fn same(a: Key, b: Key) -> bool
     op && a.left == b.left && a.right == b.right
 }
 
-/// The place of an operation among `size`.
-fn place(key: Key, size: usize) -> usize
-    requires { 0 < size }
-    ensures { result < size }
-{
+/// The place of an operation among the results.
+fn place(key: Key) -> usize {
     let op = match key.op {
         Op::And => 0,
         Op::Not => 1,
@@ -50,21 +47,22 @@ fn place(key: Key, size: usize) -> usize
     let left = (key.left as u64).wrapping_mul(11_400_714_819_323_198_485);
     let right = (key.right as u64).wrapping_mul(14_029_467_366_897_019_727);
     let mixed = left.wrapping_add(right).wrapping_add(op);
-    (mixed >> 32) as usize % size
+    (mixed >> 32) as usize % RESULTS
 }
 
 /// The result that is remembered of an operation.
 pub fn known(entries: &[Entry], key: Key) -> Option<u32>
     ensures { IfSome result (Holds entries.now key) }
 {
-    if entries.is_empty() {
-        return None;
-    }
-    let entry = entries[place(key, entries.len())];
-    if same(entry.key, key) {
-        Some(entry.answer)
-    } else {
-        None
+    match entries.get(place(key)) {
+        Some(entry) => {
+            if same(entry.key, key) {
+                Some(entry.answer)
+            } else {
+                None
+            }
+        }
+        None => None,
     }
 }
 
@@ -73,13 +71,13 @@ pub fn remember(entries: &mut [Entry], key: Key, answer: u32)
     ensures { (i : ℕ) (e : Entry) → slice_get entries.new i ≡ Some e →
         (slice_get entries.old i ≡ Some e) ⊎ (e ≡ record { key = key; answer = answer }) }
 {
-    if !entries.is_empty() {
-        let at = place(key, entries.len());
+    let at = place(key);
+    if at < entries.len() {
         entries[at] = Entry { key, answer };
     }
 }
 
-/// How many results are remembered.
+/// How many results are remembered: a power of 2, so that a place is a few bits of a product.
 pub const RESULTS: usize = 65_536;
 
 /// Places for results, in each of which stands that falsehood and falsehood is falsehood.

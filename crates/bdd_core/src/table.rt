@@ -51,8 +51,9 @@ fn look_through(list: &[Decision], c: Decision, places: &[u32]) -> Look
     Look::Full
 }
 
-/// The place at which the look for a node begins: the upper half of a product, by Knuth's multiplicative hashing.
-#[tactic(auto, unfolding(crate::specs::Tables::home_of))]
+/// The place at which the look for a node begins: the upper half of a product, by Knuth's multiplicative hashing, and of it
+/// as many bits as a size has. A size is a power of 2: a division would take longer than the rest of the look.
+#[tactic(auto, unfolding(crate::specs::Tables::home_of, crate::specs::Tables::hash_of), using(std::proofs::lemmas::Nat::and_le_r))]
 fn home(c: Decision, size: usize) -> usize
     requires { 0 < size }
     ensures home { result ≡ home_of c size }
@@ -62,7 +63,7 @@ fn home(c: Decision, size: usize) -> usize
     let low = (c.low as u64).wrapping_mul(14_029_467_366_897_019_727);
     let high = (c.high as u64).wrapping_mul(1_609_587_929_392_839_161);
     let mixed = var.wrapping_add(low).wrapping_add(high);
-    (mixed >> 32) as usize % size
+    (mixed >> 32) as usize & (size - 1)
 }
 
 /// The look for a node.
