@@ -1,4 +1,4 @@
-pub mod Decided
+mod Early
 pub mod SeqVerdict
 pub mod OneSettings
 pub mod PipeVerdict

@@ -23,10 +23,10 @@ use Rattle.pipe_obligations.specs.Rules.{obligation, rule_count}
 use Rattle.pipe_obligations.specs.Settled.{Decides, Everywhere, IsFalseAt, IsLeastFalse, Somewhere, Truth, carries, predicts_taken, shows_je, shows_lf, shows_rm, PipeControls}
 use Rattle.rule_gates.specs.declared.rules.Rule.{Rule}
 use Rattle.rule_gates.specs.declared.rules.Rules.{Rules}
-use Rattle.decisions.specs.Decisions.{IsAlwaysTrue}
+use Rattle.decisions.specs.Decisions.{AreDecided, IsAlwaysTrue, IsDecided}
 use Rattle.verdicts.specs.Decisions.{AreGatesOf, IsDecision, IsFirstFalse}
 use Rattle.verdicts.specs.declared.decision.Failure.{Failure}
-use Rattle.control_check.specs.PipeVerdicts.{AcceptsPipe, AreDecided, AreFileRules, AreSettings, HasGates, IsDecided, RejectsPipe}
+use Rattle.control_check.specs.PipeVerdicts.{AcceptsPipe, AreFileRules, AreSettings, HasGates, RejectsPipe}
 use Rattle.control_check.proofs.OneSettings.{never_accepted, one_list}
 use Rattle.verdicts.proofs.AtomBits.{AreApart, apart_added, bits_are, length-truth_bits, told_are, told_by, truth_bits}
 
@@ -158,7 +158,7 @@ module _ (v : Variant) (terms : List Term) (ids : List ℕ) (o : IsOrderOf pipe_
       (decides_some v terms late_atoms (apart late_atoms k) exists net vars g (f late_atoms) (not b) formula decided))
 
   pub settings_are : (first : Gates) (pt pb : List ℕ) (tv : ℕ) (closed : AreClosed v terms first pt pb tv) (s : Settings) (pt' pb' : List Bool) (tv' : Bool) →
-      length s.pt ≡ 7 → length s.pb ≡ 7 → s.pt ≡ pt' → s.pb ≡ pb' → s.tv ≡ tv' → AreDecided first pt pt' → AreDecided first pb pb' → IsDecided first tv tv' →
+      length s.pt ≡ 7 → length s.pb ≡ 7 → s.pt ≡ pt' → s.pb ≡ pb' → s.tv ≡ tv' → AreDecided first pt 7 pt' → AreDecided first pb 7 pb' → IsDecided first tv tv' →
       (second : Gates) (lf je rm : ℕ) → AreLate v terms pt' pb' tv' second lf je rm → IsDecided second lf (not s.lf) → IsDecided second je (not s.je) → IsDecided second rm (not s.rm) →
       AreSettings v terms s
   settings_are first pt pb tv closed s pt' pb' tv' forward backward ept epb etv dpt dpb dtv second lf je rm late dlf dje drm =
@@ -169,9 +169,9 @@ module _ (v : Variant) (terms : List Term) (ids : List ℕ) (o : IsOrderOf pipe_
         backward = backward;
         set = record {
           pt = λ i lt. subst (λ (xs : List Bool). Decides (get_or xs i false) (Everywhere v closed.atoms (PipeControls terms) (predicts_taken v closed.atoms i false))) (sym ept)
-              (by_formula (get_or pt i 0) (predicts_taken v closed.atoms i false) (get_or pt' i false) (closed.forward i lt) (dpt i lt));
+              (by_formula (get_or pt i 0) (predicts_taken v closed.atoms i false) (get_or pt' i false) (closed.forward i lt) (dpt.each i lt));
           pb = λ i lt. subst (λ (xs : List Bool). Decides (get_or xs i false) (Everywhere v closed.atoms (PipeControls terms) (predicts_taken v closed.atoms i true))) (sym epb)
-              (by_formula (get_or pb i 0) (predicts_taken v closed.atoms i true) (get_or pb' i false) (closed.backward i lt) (dpb i lt));
+              (by_formula (get_or pb i 0) (predicts_taken v closed.atoms i true) (get_or pb' i false) (closed.backward i lt) (dpb.each i lt));
           tv = subst (λ b. Decides b (Everywhere v closed.atoms (PipeControls terms) (carries v s))) (sym etv) (by_formula tv (carries v s) tv' (closed.target s) dtv);
           lf = late_decides closed.atoms late.atoms second lf (λ them. shows_lf v s them) s.lf closed.are late.are late.vars (late.late s ept epb etv) dlf;
           je = late_decides closed.atoms late.atoms second je (λ them. shows_je v s them) s.je closed.are late.are late.vars (late.jump s ept epb etv) dje;

@@ -1,8 +1,8 @@
--- Verdicts on HCL files for PIPE, and truths that hold of every valuation.
-use Rattle.std.specs.Prelude.{◌≡◌, ℕ, ◌<◌, Bool, true, false, List, length, get_or}
+-- Verdicts on HCL files for PIPE.
+use Rattle.std.specs.Prelude.{◌≡◌, ℕ, ◌<◌, List, length, get_or}
 use Rattle.y86_base.specs.declared.parts.Variant.{Variant}
 use Rattle.y86_isa.specs.Run.{IsImage, Pure}
-use Rattle.nets.specs.Nets.{Gates, truth}
+use Rattle.nets.specs.Nets.{Gates}
 use Rattle.hcl_types.specs.declared.term.Term.{Term}
 use Rattle.dp_signals.specs.PipeTable.{pipe_rows}
 use Rattle.ctl_atoms.specs.Atoms.{AreAtoms}
@@ -12,21 +12,12 @@ use Rattle.pipe_refinement.specs.Refines.{Refines}
 use Rattle.hazard_rules.specs.Parts.{AreRules}
 use Rattle.rule_gates.specs.declared.rules.Rules.{Rules}
 use Rattle.pipe_obligations.specs.Settled.{Holds, IsLeastFalse, IsSet, PipeControls}
-use Rattle.decisions.specs.Decisions.{IsAlwaysTrue}
 use Rattle.verdicts.specs.Questions.{IsFault}
 use Rattle.verdicts.specs.declared.fault.CheckFault.{CheckFault}
 use Rattle.control_check.specs.declared.verdict.Verdict.{Verdict}
 use Rattle.control_check.specs.declared.verdict.Verdict.TheVariants.{Yes, No}
 
--- the truth b tells whether a gate is true of each valuation
-pub record IsDecided (n : Gates) (gate : ℕ) (b : Bool) : Type 0 where
-  pub yes : b ≡ true → IsAlwaysTrue n gate
-  pub no : b ≡ false → (w : List Bool) × (length w ≡ n.vars) × (truth n gate w ≡ false)
-
--- the same of seven gates
-abbrev pub AreDecided : Gates → List ℕ → List Bool → Type 0
-AreDecided n gates truths = (i : ℕ) → i < 7 → IsDecided n (get_or gates i 0) (get_or truths i false)
-
+-- seven gates are gates of the net
 abbrev pub HasGates : Gates → List ℕ → Type 0
 HasGates n gates = (i : ℕ) → i < 7 → get_or gates i 0 < length n.gates
 

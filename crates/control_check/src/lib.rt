@@ -3,6 +3,7 @@
 
 mod accepted;
 mod laws;
+mod orders;
 mod pipe_verdict;
 mod verdict;
 

@@ -1,91 +1,25 @@
 //! The verdict on a design for PIPE: its settings, and then the rules at them.
-ghost use Rattle.std.specs.Prelude.{◌≡◌, ◌<◌, IfErr, IfOk, length, not, true};
-ghost use Rattle.bdd_core.specs.Building.{AreKnown};
+ghost use Rattle.std.specs.Prelude.{◌≡◌, ◌<◌, ◌≤◌, ◌+◌, ◌++◌, ◌∷◌, [], ℕ, IfErr, IfOk, get_or, length, false, not, true};
 ghost use Rattle.dp_signals.specs.PipeTable.{pipe_rows};
 ghost use Rattle.hcl_types.specs.Tables.{IsBound, IsOrderOf};
 ghost use Rattle.verdicts.specs.Decisions.{AreGatesOf, IsDecision};
-ghost use Rattle.control_check.specs.PipeVerdicts.{AreDecided, AreFileRules, AreSettings, HasGates, IsDecided, IsPipeFault, IsPipeVerdict, RefinesPipe};
+ghost use Rattle.decisions.specs.Decisions.{AreDecided, IsDecided};
+ghost use Rattle.control_check.specs.PipeVerdicts.{AreFileRules, AreSettings, HasGates, IsPipeFault, IsPipeVerdict, RefinesPipe};
 ghost use Rattle.control_check.specs.SeqVerdicts.{is_yes};
 ghost use Rattle.hazard_rules.specs.Belonging.{BelongTo};
 ghost use Rattle.hazard_rules.specs.Parts.{AreRules};
 
+use crate::orders::{rules_order, settings_order};
 use crate::verdict::Verdict;
-use bdd_core::{Built, Store};
-use decisions::decide_in_parts;
+use decisions::each_true;
 use hazard_rules::{Late, Parts, pipe_late, pipe_parts, pipe_rules};
 use hcl_types::{Design, Order};
 use nets::Net;
-use pipe_fields::{BIT_COUNT, places};
 use pipe_motion::Settings;
 use rule_gates::{Rule, Rules};
 use std::alloc::Global;
 use verdicts::{CheckFault, Failure, decide_in_order, told};
 use y86_base::{Memory, Variant};
-
-/// How many steps the diagrams of settings may take together.
-const STEPS: u64 = 500_000;
-
-/// How many nodes they may have.
-const NODES: u64 = 400_000;
-
-/// Whether a gate is true of every valuation, decided part by part.
-#[tactic(auto, using(crate::proofs::Decided::alone_gate, crate::proofs::Decided::alone_true, crate::proofs::Decided::alone_false))]
-fn true_in_parts(alloc: Global, net: &Net, gate: u64) -> Result<bool, Memory>
-    requires gate { gate < length net.now.gates }
-    ensures decided { IfOk result (IsDecided net.now gate) }
-{
-    match decide_in_parts(alloc, net, &[gate])? {
-        Some(_) => Ok(false),
-        None => Ok(true),
-    }
-}
-
-/// Whether a gate is true of every valuation.
-#[tactic(auto, using(crate::proofs::Decided::is_always, crate::proofs::Decided::is_not_always))]
-fn always_true(
-    alloc: Global,
-    store: &mut Store,
-    built: &mut Built,
-    net: &Net,
-    gate: u64,
-) -> Result<bool, Memory>
-    requires gate { gate < length net.now.gates }
-    requires vars { store.old.vars ≡ net.now.vars }
-    requires known { AreKnown store.old net.now built.old }
-    ensures vars { store.new.vars ≡ store.old.vars }
-    ensures known { AreKnown store.new net.now built.new }
-    ensures decided { IfOk result (IsDecided net.now gate) }
-{
-    match store.build_on(net, built, gate) {
-        Ok(diagram) => match store.least_false(diagram)? {
-            Some(_) => Ok(false),
-            None => Ok(true),
-        },
-        Err(Memory) => true_in_parts(alloc, net, gate),
-    }
-}
-
-/// Which of seven gates are true of every valuation.
-fn seven(
-    alloc: Global,
-    store: &mut Store,
-    built: &mut Built,
-    net: &Net,
-    gates: &[u64; 7],
-) -> Result<[bool; 7], Memory>
-    requires gates { HasGates net.now gates.now }
-    requires vars { store.old.vars ≡ net.now.vars }
-    requires known { AreKnown store.old net.now built.old }
-    ensures vars { store.new.vars ≡ store.old.vars }
-    ensures known { AreKnown store.new net.now built.new }
-    ensures decided { IfOk result (AreDecided net.now gates.now) }
-{
-    let mut truths = [false; 7];
-    for i in 0..7 {
-        truths[i] = always_true(alloc, store, built, net, gates[i])?;
-    }
-    Ok(truths)
-}
 
 /// The settings that hold where a formula is true of every valuation.
 #[derive(Clone, Copy, Debug, PartialEq, Eq)]
@@ -95,20 +29,54 @@ struct Early {
     tv: bool,
 }
 
+/// The gates of the early settings: the predictions of jumps forward and backward, by ifun, and whether targets are carried.
+fn early_gates(alloc: Global, parts: &Parts) -> Result<Vec<u64>, Memory>
+    ensures gates { IfOk result (λ gates. gates.items ≡ parts.now.pt ++ (parts.now.pb ++ parts.now.tv ∷ [])) }
+    ensures forward { length parts.now.pt ≡ 7 }
+    ensures backward { length parts.now.pb ≡ 7 }
+{
+    let mut gates: Vec<u64> = Vec::new(alloc);
+    if gates.extend_from_slice(&parts.pt).is_err() {
+        return Err(Memory);
+    }
+    if gates.extend_from_slice(&parts.pb).is_err() {
+        return Err(Memory);
+    }
+    if gates.push(parts.tv).is_err() {
+        return Err(Memory);
+    }
+    Ok(gates)
+}
+
+/// Seven of some truths, from one on.
+fn seven(truths: &[bool], from: usize) -> [bool; 7]
+    requires { from + 7 ≤ length truths.now }
+    ensures size { length result ≡ 7 }
+    ensures truths { (k : ℕ) → k < 7 → get_or result k false ≡ get_or truths.now (from + k) false }
+{
+    let mut seven = [false; 7];
+    for k in 0..7 {
+        seven[k] = truths[from + k];
+    }
+    seven
+}
+
 /// Decides the formulas of the early settings.
+#[tactic(auto, using(crate::proofs::Early::early_of, crate::proofs::Early::enough, crate::proofs::Early::forward_decided, crate::proofs::Early::backward_decided, crate::proofs::Early::target_decided))]
 fn decide_early(alloc: Global, parts: &Parts) -> Result<Early, Memory>
     requires forward { HasGates parts.now.net parts.now.pt }
     requires backward { HasGates parts.now.net parts.now.pb }
     requires target { parts.now.tv < length parts.now.net.gates }
-    ensures forward { IfOk result (λ e. AreDecided parts.now.net parts.now.pt e.pt) }
-    ensures backward { IfOk result (λ e. AreDecided parts.now.net parts.now.pb e.pb) }
+    ensures forward { IfOk result (λ e. AreDecided parts.now.net parts.now.pt 7 e.pt) }
+    ensures backward { IfOk result (λ e. AreDecided parts.now.net parts.now.pb 7 e.pb) }
     ensures target { IfOk result (λ e. IsDecided parts.now.net parts.now.tv e.tv) }
 {
-    let mut store = Store::bounded(alloc, parts.net.vars(), STEPS, NODES);
-    let mut built = Built::new(alloc, &parts.net)?;
-    let pt = seven(alloc, &mut store, &mut built, &parts.net, &parts.pt)?;
-    let pb = seven(alloc, &mut store, &mut built, &parts.net, &parts.pb)?;
-    let tv = always_true(alloc, &mut store, &mut built, &parts.net, parts.tv)?;
+    let order = settings_order(alloc, parts.net.vars())?;
+    let gates = early_gates(alloc, parts)?;
+    let truths = each_true(alloc, &parts.net, gates.as_slice(), order.as_slice())?;
+    let pt = seven(truths.as_slice(), 0);
+    let pb = seven(truths.as_slice(), 7);
+    let tv = truths[14];
     Ok(Early { pt, pb, tv })
 }
 
@@ -123,20 +91,17 @@ fn decide_late(alloc: Global, net: &Net, late: Late, early: Early) -> Result<Set
     ensures je { IfOk result (λ s. IsDecided net.now late.je (not s.je)) }
     ensures rm { IfOk result (λ s. IsDecided net.now late.rm (not s.rm)) }
 {
-    let mut store = Store::bounded(alloc, net.vars(), STEPS, NODES);
-    let mut built = Built::new(alloc, net)?;
-    let lf = always_true(alloc, &mut store, &mut built, net, late.lf)?;
-    let je = always_true(alloc, &mut store, &mut built, net, late.je)?;
-    let rm = always_true(alloc, &mut store, &mut built, net, late.rm)?;
+    let order = settings_order(alloc, net.vars())?;
+    let truths = each_true(alloc, net, &[late.lf, late.je, late.rm], order.as_slice())?;
     let pt = early.pt;
     let pb = early.pb;
     Ok(Settings {
         pt,
         pb,
         tv: early.tv,
-        lf: !lf,
-        je: !je,
-        rm: !rm,
+        lf: !truths[0],
+        je: !truths[1],
+        rm: !truths[2],
     })
 }
 
@@ -197,63 +162,12 @@ pub fn file_settings(
     Ok(settled.settings)
 }
 
-/// Whether a variable is a bit of a register number.
-fn is_register(variable: u32) -> bool {
-    let fields = [
-        places::D_R_A,
-        places::D_R_B,
-        places::E_DST_E,
-        places::E_DST_M,
-        places::E_SRC_A,
-        places::E_SRC_B,
-        places::M_DST_E,
-        places::M_DST_M,
-        places::W_DST_E,
-        places::W_DST_M,
-    ];
-    for place in &fields {
-        if place.first <= variable && variable - place.first < place.bits {
-            return true;
-        }
-    }
-    false
-}
-
-/// Where a variable stands in the order in which the diagrams of PIPE's rules are small: kinds first, then atoms, then
-/// the other fields, and registers last.
-fn group_of(variable: u32) -> u32 {
-    if variable < places::F_ERROR.first {
-        0
-    } else if variable >= BIT_COUNT {
-        1
-    } else if is_register(variable) {
-        3
-    } else {
-        2
-    }
-}
-
-/// The variables group by group.
-fn registers_last(alloc: Global, vars: u32) -> Result<Vec<u32>, Memory> {
-    let mut order: Vec<u32> = Vec::new(alloc);
-    for group in 0..4 {
-        for variable in 0..vars {
-            if group_of(variable) == group {
-                if order.push(variable).is_err() {
-                    return Err(Memory);
-                }
-            }
-        }
-    }
-    Ok(order)
-}
-
 /// The decision on PIPE's rules.
 fn decide_pipe(alloc: Global, net: &Net, list: &[Rule]) -> Result<Option<Failure>, Memory>
     requires gates { AreGatesOf net.now list.now }
     ensures { IfOk result (IsDecision net.now list.now) }
 {
-    let order = registers_last(alloc, net.vars())?;
+    let order = rules_order(alloc, net.vars())?;
     decide_in_order(alloc, net, list, order.as_slice())
 }
 

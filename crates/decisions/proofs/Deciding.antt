@@ -1,17 +1,13 @@
 -- What a pass tells, and what is decided behind it.
-use Rattle.std.proofs.Common.{◌≡◌, ℕ, ◌+◌, ◌-◌, ◌<◌, ◌≤◌, inl, inr, Bool, true, false, List, [], ◌∷◌, length, drop, get_or, sym, ap, ◌∙◌, subst, arith}
+use Rattle.std.proofs.Common.{◌≡◌, ℕ, ◌+◌, ◌-◌, ◌<◌, ◌≤◌, inl, inr, Bool, true, false, List, [], ◌∷◌, length, drop, get_or, refl, sym, ap, ◌∙◌, subst, arith}
 use Rattle.std.proofs.lemmas.Bool.{cases_eq, cases_lt, false≢true}
 use Rattle.std.proofs.lemmas.List.{get_or-drop, length-drop}
 use Rattle.nets.specs.Nets.{Gates, truth}
 use Rattle.bdd_core.specs.Diagrams.{Diagrams}
 use Rattle.bdd_core.specs.Meaning.{Always, IsBuilt, IsLeastFalse}
 use Rattle.bdd_core.specs.declared.store.Dia.{Dia}
-use Rattle.net_substitution.specs.Parts.{BeginsWith, IsPart}
-use Rattle.net_substitution.specs.declared.copies.Substituted.{Substituted}
-use Rattle.decisions.specs.Decisions.{AreGatesOf, IsAlwaysTrue, IsFirstFalse, IsLeastOf}
-use Rattle.decisions.specs.Splitting.{AreChosen, AreTrueTo, IsFalseAt, IsPass}
-use Rattle.decisions.specs.declared.pass.Pass.{Pass}
-use Rattle.decisions.specs.declared.pass.Pass.TheVariants as pass
+use Rattle.decisions.specs.Decisions.{AreGatesOf, IsAlwaysTrue, IsDecided, IsFirstFalse, IsLeastOf}
+use Rattle.decisions.specs.Splitting.{AreTrueTo, IsFalseAt}
 
 -- ---- a diagram
 
@@ -21,7 +17,13 @@ always_true s n gate d e built always w size = sym (built.is w (size ∙ sym e))
 pub false_at : (s : Diagrams) (n : Gates) (gate : ℕ) (d : Dia) (w : List Bool) → s.vars ≡ n.vars → IsBuilt s n gate d → IsLeastFalse s d w → IsFalseAt n gate w
 false_at s n gate d w e built h = record { size = h.size ∙ e; fails = sym (built.is w h.size) ∙ h.fails }
 
-pub true_more : (n : Gates) (gates : List ℕ) (k gate : ℕ) → AreTrueTo n gates k → gate ≡ get_or gates k 0 → IsAlwaysTrue n gate → AreTrueTo n gates (k + 1)
+pub always_decided : (s : Diagrams) (n : Gates) (gate : ℕ) (d : Dia) → s.vars ≡ n.vars → IsBuilt s n gate d → Always s d true → IsDecided n gate true
+always_decided s n gate d e built always = record { yes = λ t. always_true s n gate d e built always; no = λ f. cc }
+
+pub not_decided : (s : Diagrams) (n : Gates) (gate : ℕ) (d : Dia) (w : List Bool) → s.vars ≡ n.vars → IsBuilt s n gate d → IsLeastFalse s d w → IsDecided n gate false
+not_decided s n gate d w e built h = record { yes = λ t. cc; no = λ f. (let at = false_at s n gate d w e built h in (w, at.size, at.fails)) }
+
+true_more : (n : Gates) (gates : List ℕ) (k gate : ℕ) → AreTrueTo n gates k → gate ≡ get_or gates k 0 → IsAlwaysTrue n gate → AreTrueTo n gates (k + 1)
 true_more n gates k gate h e here j lt = elim (cases_eq j k) [
   | inl same ↦ subst (IsAlwaysTrue n) (e ∙ ap (λ (i : ℕ). get_or gates i 0) (sym same)) here
   | inr ne ↦ h j (below ne)
@@ -30,44 +32,15 @@ true_more n gates k gate h e here j lt = elim (cases_eq j k) [
     below : (j ≡ k → ⊥) → j < k
     below ne = grind (arith, ne, lt)
 
--- ---- the whole net as one part
+-- ---- one gate of a pass
 
-module _ (n : Gates) (copy : Substituted) (gates chosen : List ℕ) (h : IsPart n [] copy) (of : AreGatesOf n gates) (picked : AreChosen copy.gates gates (length gates) chosen) where
-  begins : (w : List Bool) → BeginsWith [] w
-  begins w i lt = absurd (omega (arith, lt))
+pub true_decided : (n : Gates) (gates : List ℕ) (k gate : ℕ) → AreTrueTo n gates k → gate ≡ get_or gates k 0 → IsDecided n gate true → AreTrueTo n gates (k + 1)
+true_decided n gates k gate h e d = true_more n gates k gate h e (d.yes refl)
 
-  pub chosen_gates : AreGatesOf copy.net chosen
-  chosen_gates j lt =
-      let less : j < length gates = (let z = picked.size in omega (arith, lt, z)) in
-      subst (λ (g : ℕ). g < length copy.net.gates) (sym (picked.each j less)) (h.inside (get_or gates j 0) (of j less))
-
-  true_whole : (j : ℕ) → j < length gates → IsAlwaysTrue copy.net (get_or chosen j 0) → IsAlwaysTrue n (get_or gates j 0)
-  true_whole j lt always w size =
-      let up = h.up w size (begins w) in
-      sym (up.2 (get_or gates j 0) (of j lt)) ∙ (ap (λ (g : ℕ). truth copy.net g up.0) (sym (picked.each j lt)) ∙ always up.0 (up.1 ∙ sym h.vars))
-
-  false_whole : (j : ℕ) → j < length gates → (u : List Bool) → IsFalseAt copy.net (get_or chosen j 0) u → (w : List Bool) × IsFalseAt n (get_or gates j 0) w
-  false_whole j lt u fails =
-      let down = h.down u (fails.size ∙ h.vars) in (
-        down.0,
-        record {
-          size = down.1;
-          fails = sym (down.3 (get_or gates j 0) (of j lt)) ∙ (ap (λ (g : ℕ). truth copy.net g u) (sym (picked.each j lt)) ∙ fails.fails);
-        },
-      )
-
-  all_whole : (m : ℕ) → m ≤ length gates → AreTrueTo copy.net chosen m → AreTrueTo n gates m
-  all_whole m le always j lt = true_whole j (omega (arith, lt, le)) (always j lt)
-
-  pub pass_whole : (r : Pass) → IsPass copy.net chosen r → IsPass n gates r
-  pass_whole pass.True always = all_whole (length gates) (omega arith) (λ j lt. always j (let z = picked.size in omega (arith, lt, z)))
-  pass_whole (pass.False m) f =
-      let less : m < length gates = (let z = picked.size in let l = f.0 in omega (arith, l, z)) in
-      let fails = false_whole m less f.2 f.3 in
-      (less, all_whole m (omega (arith, less)) f.1, fails.0, fails.1)
-  pass_whole (pass.Stopped m) f =
-      let le : m ≤ length gates = (let z = picked.size in let l = f.0 in omega (arith, l, z)) in
-      (le, all_whole m le f.1)
+pub false_decided : (n : Gates) (gates : List ℕ) (k gate : ℕ) → gate ≡ get_or gates k 0 → IsDecided n gate false → (w : List Bool) × IsFalseAt n (get_or gates k 0) w
+false_decided n gates k gate e d =
+    let f = d.no refl in
+    (f.0, record { size = f.1; fails = ap (λ (g : ℕ). truth n g f.0) (sym e) ∙ f.2 })
 
 -- ---- behind a pass
 
@@ -117,3 +90,20 @@ alone_not n gates xs m gate e is w fails always =
     let inside : 0 < length xs = (let s = ap length is in omega (arith, s)) in
     let here : IsAlwaysTrue n (get_or gates m 0) = subst (IsAlwaysTrue n) (ap (λ (ys : List ℕ). get_or ys 0 0) is ∙ e) (always 0 inside) in
     false≢true (sym fails.fails ∙ here w fails.size)
+
+-- what is decided of one gate alone
+pub one_gate : (n : Gates) (gate : ℕ) (xs : List ℕ) → gate < length n.gates → xs ≡ gate ∷ [] → AreGatesOf n xs
+one_gate n gate xs inside is k lt =
+    let z : k ≡ 0 = (let s = ap length is in omega (arith, lt, s)) in
+    subst (λ (g : ℕ). g < length n.gates) (sym (ap (λ (ys : List ℕ). get_or ys k 0) is ∙ ap (λ (i : ℕ). get_or (gate ∷ []) i 0) z)) inside
+
+pub one_true : (n : Gates) (gate : ℕ) (xs : List ℕ) → xs ≡ gate ∷ [] → ((k : ℕ) → k < length xs → IsAlwaysTrue n (get_or xs k 0)) → IsDecided n gate true
+one_true n gate xs is always =
+    let inside : 0 < length xs = (let s = ap length is in omega (arith, s)) in
+    record { yes = λ t. subst (IsAlwaysTrue n) (ap (λ (ys : List ℕ). get_or ys 0 0) is) (always 0 inside); no = λ f. cc }
+
+pub one_false : (n : Gates) (gate k : ℕ) (w : List Bool) (xs : List ℕ) → xs ≡ gate ∷ [] → IsFirstFalse n xs k w → IsDecided n gate false
+one_false n gate k w xs is first =
+    let z : k ≡ 0 = (let s = ap length is in let i = first.within in omega (arith, i, s)) in
+    let e : get_or xs k 0 ≡ gate = ap (λ (ys : List ℕ). get_or ys k 0) is ∙ ap (λ (i : ℕ). get_or (gate ∷ []) i 0) z in
+    record { yes = λ t. cc; no = λ f. (w, first.least.size, ap (λ (g : ℕ). truth n g w) (sym e) ∙ first.least.holds) }

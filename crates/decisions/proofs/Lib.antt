@@ -2,4 +2,5 @@ mod Bits
 mod Sources
 mod Searching
 pub mod Deciding
+mod Mirrors
 mod Forced

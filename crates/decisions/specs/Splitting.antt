@@ -4,7 +4,7 @@ use Rattle.nets.specs.Nets.{Gates, truth}
 use Rattle.field_bits.specs.Spelling.{spell, spelt}
 use Rattle.net_substitution.specs.declared.copies.Source.{Source}
 use Rattle.net_substitution.specs.declared.copies.Source.TheVariants.{Const, Var}
-use Rattle.decisions.specs.Decisions.{IsAlwaysTrue, IsLeastOf}
+use Rattle.decisions.specs.Decisions.{AreGatesOf, IsAlwaysTrue, IsLeastOf}
 use Rattle.decisions.specs.declared.cuts.Part.{Part}
 use Rattle.decisions.specs.declared.pass.Pass.{Pass}
 use Rattle.decisions.specs.declared.pass.Pass.TheVariants as pass
@@ -23,6 +23,14 @@ abbrev pub IsPass : Gates → List ℕ → Pass → Type 0
 IsPass n gates pass.True = AreTrueTo n gates (length gates)
 IsPass n gates (pass.False m) = (m < length gates) × AreTrueTo n gates m × (w : List Bool) × IsFalseAt n (get_or gates m 0) w
 IsPass n gates (pass.Stopped m) = (m ≤ length gates) × AreTrueTo n gates m
+
+-- Gates of a copy stand for those of a net: each is true of every valuation only where the other is, and false of one only where the
+-- other is false of one.
+pub record Mirrors (n : Gates) (gates : List ℕ) (c : Part) : Type 0 where
+  pub size : length c.gates ≡ length gates
+  pub inside : AreGatesOf c.net c.gates
+  pub yes : (j : ℕ) → j < length gates → IsAlwaysTrue c.net (get_or c.gates j 0) → IsAlwaysTrue n (get_or gates j 0)
+  pub no : (j : ℕ) → j < length gates → (u : List Bool) → IsFalseAt c.net (get_or c.gates j 0) u → (w : List Bool) × IsFalseAt n (get_or gates j 0) w
 
 -- a gate is true of each valuation in a part
 abbrev pub IsTrueWhere : Gates → ℕ → ℕ → ℕ → Type 0

@@ -91,7 +91,7 @@ pub fn chosen(
 
 /// The first of some gates, in the copy of their net for a part.
 #[tactic(auto, using(crate::proofs::Sources::are_sources, crate::proofs::Sources::gates_made))]
-fn part_of(
+pub fn part_of(
     alloc: Global,
     net: &Net,
     gates: &[u64],

@@ -3,11 +3,11 @@ ghost use Rattle.std.specs.Prelude.{◌≡◌, ◌<◌, ◌≤◌, IfOk, length}
 ghost use Rattle.decisions.specs.Decisions.{AreGatesOf, IsDecision};
 ghost use Rattle.decisions.specs.Splitting.{AreTrueTo, IsPass};
 
-use crate::cuts::{chosen, cut_of};
+use crate::cuts::cut_of;
 use crate::least::least_in;
 use crate::pass::{Pass, run_pass};
+use crate::reordered::reordered;
 use crate::search::search;
-use net_substitution::part;
 use nets::{Net, Valuation};
 use std::alloc::Global;
 use y86_base::Memory;
@@ -19,11 +19,11 @@ pub struct Counter {
     pub valuation: Valuation,
 }
 
-/// How many steps the pass over the whole net may take.
-const STEPS: u64 = 2_000_000;
+/// How many steps the diagrams of a whole net may take together.
+pub(crate) const STEPS: u64 = 1_000_000;
 
-/// How many nodes it may make.
-const NODES: u64 = 400_000;
+/// How many nodes they may have.
+pub(crate) const NODES: u64 = 400_000;
 
 /// The decision part by part.
 #[tactic(auto, using(crate::proofs::Searching::all_true, crate::proofs::Searching::first_found, crate::proofs::Searching::not_none))]
@@ -45,21 +45,14 @@ pub fn decide_in_parts(alloc: Global, net: &Net, gates: &[u64]) -> Result<Option
     }
 }
 
-/// A pass over the whole net, with its variables in the given order. Where the order isn't one, it stops at once.
-#[tactic(auto, using(crate::proofs::Deciding::chosen_gates, crate::proofs::Deciding::pass_whole))]
+/// A pass over the whole net, with its variables in the given order.
+#[tactic(auto, using(crate::proofs::Mirrors::pass_mirrored))]
 fn pass_whole(alloc: Global, net: &Net, gates: &[u64], order: &[u32]) -> Result<Pass, Memory>
     requires gates { AreGatesOf net.now gates.now }
     ensures { IfOk result (IsPass net.now gates.now) }
 {
-    if order.len() as u64 != net.vars() as u64 {
-        return Ok(Pass::Stopped(0));
-    }
-    let copy = match part(alloc, net, &[], order)? {
-        Some(copy) => copy,
-        None => return Ok(Pass::Stopped(0)),
-    };
-    let gates = chosen(alloc, copy.gates.items(), gates, gates.len())?;
-    run_pass(alloc, &copy.net, gates.items(), STEPS, NODES)
+    let copy = reordered(alloc, net, gates, order)?;
+    run_pass(alloc, &copy.net, copy.gates.items(), STEPS, NODES)
 }
 
 /// The decision where the gates before a place are true.

@@ -8,6 +8,9 @@ mod cuts;
 mod decision;
 mod least;
 mod pass;
+mod reordered;
 mod search;
+mod truths;
 
-pub use decision::{Counter, decide, decide_in_order, decide_in_parts};
+pub use decision::{Counter, decide, decide_in_order};
+pub use truths::each_true;

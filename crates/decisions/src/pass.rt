@@ -1,6 +1,7 @@
 //! A pass over gates, with bounded diagrams.
-ghost use Rattle.std.specs.Prelude.{◌≡◌, IfOk};
-ghost use Rattle.decisions.specs.Decisions.{AreGatesOf};
+ghost use Rattle.std.specs.Prelude.{◌≡◌, ◌<◌, IfOk, IfSome, length};
+ghost use Rattle.bdd_core.specs.Building.{AreKnown};
+ghost use Rattle.decisions.specs.Decisions.{AreGatesOf, IsDecided};
 ghost use Rattle.decisions.specs.Splitting.{IsPass};
 
 use bdd_core::{Built, Store};
@@ -17,8 +18,32 @@ pub enum Pass {
     Stopped(usize),
 }
 
+/// Whether a gate is true of every valuation. `None` where its diagrams became more than they may.
+#[tactic(auto, using(crate::proofs::Deciding::always_decided, crate::proofs::Deciding::not_decided))]
+pub fn always_true(
+    store: &mut Store,
+    built: &mut Built,
+    net: &Net,
+    gate: u64,
+) -> Result<Option<bool>, Memory>
+    requires gate { gate < length net.now.gates }
+    requires vars { store.old.vars ≡ net.now.vars }
+    requires known { AreKnown store.old net.now built.old }
+    ensures vars { store.new.vars ≡ store.old.vars }
+    ensures known { AreKnown store.new net.now built.new }
+    ensures decided { IfOk result (λ o. IfSome o (IsDecided net.now gate)) }
+{
+    match store.build_on(net, built, gate) {
+        Ok(diagram) => match store.least_false(diagram)? {
+            Some(_) => Ok(Some(false)),
+            None => Ok(Some(true)),
+        },
+        Err(Memory) => Ok(None),
+    }
+}
+
 /// A pass over gates, with diagrams of no more than so many steps and nodes.
-#[tactic(auto, using(crate::proofs::Deciding::always_true, crate::proofs::Deciding::false_at, crate::proofs::Deciding::true_more))]
+#[tactic(auto, using(crate::proofs::Deciding::false_decided, crate::proofs::Deciding::true_decided))]
 pub fn run_pass(
     alloc: Global,
     net: &Net,
@@ -32,12 +57,10 @@ pub fn run_pass(
     let mut store = Store::bounded(alloc, net.vars(), steps, nodes);
     let mut built = Built::new(alloc, net)?;
     for k in 0..gates.len() {
-        match store.build_on(net, &mut built, gates[k]) {
-            Ok(diagram) => match store.least_false(diagram)? {
-                Some(_) => return Ok(Pass::False(k)),
-                None => {}
-            },
-            Err(Memory) => return Ok(Pass::Stopped(k)),
+        match always_true(&mut store, &mut built, net, gates[k])? {
+            Some(true) => {}
+            Some(false) => return Ok(Pass::False(k)),
+            None => return Ok(Pass::Stopped(k)),
         }
     }
     Ok(Pass::True)

@@ -1,12 +1,8 @@
-use Rattle.std.proofs.Common.{◌≡◌, ◌<◌, ℕ, get_or, false, length}
-use Rattle.bdd_core.specs.Building.{AreKnown}
-use Rattle.control_check.specs.PipeVerdicts.{IsDecided}
+use Rattle.std.proofs.Common.{◌≡◌, ◌+◌, ◌<◌, ℕ, get_or, false, length}
 use Rattle.control_check.proofs.pipe_verdict.seven.Given as goal
 
-abbrev pub invariant-loop-i : goal.invariant-loop-i
-invariant-loop-i l = record {
-  vars : l.store.vars ≡ l.fn.store.vars;
-  known : AreKnown l.store l.net l.built;
-  size : length l.truths ≡ 7;
-  each : (k : ℕ) → k < l.i → IsDecided l.net (get_or l.gates k 0) (get_or l.truths k false);
+abbrev pub invariant-loop-k : goal.invariant-loop-k
+invariant-loop-k l = record {
+  size : length l.seven ≡ 7;
+  each : (j : ℕ) → j < l.k → get_or l.seven j false ≡ get_or l.truths (l.from + j) false;
 }

@@ -1,0 +1,129 @@
+//! Orders of the bits of PIPE's control valuations in which the diagrams of its formulas are small.
+use pipe_fields::{BIT_COUNT, places};
+use std::alloc::Global;
+use y86_base::Memory;
+
+/// Whether a variable is a bit of a register number.
+fn is_register(variable: u32) -> bool {
+    let fields = [
+        places::D_R_A,
+        places::D_R_B,
+        places::E_DST_E,
+        places::E_DST_M,
+        places::E_SRC_A,
+        places::E_SRC_B,
+        places::M_DST_E,
+        places::M_DST_M,
+        places::W_DST_E,
+        places::W_DST_M,
+    ];
+    for place in &fields {
+        if place.first <= variable && variable - place.first < place.bits {
+            return true;
+        }
+    }
+    false
+}
+
+/// Where a variable stands.
+#[derive(Clone, Copy, Debug, PartialEq, Eq)]
+enum Stage {
+    /// The kinds of all stages.
+    Kind,
+    Fetch,
+    Decode,
+    Execute,
+    Memory,
+    Write,
+    /// Behind all fields.
+    Atom,
+}
+
+fn stage_of(variable: u32) -> Stage {
+    if variable < places::F_ERROR.first {
+        Stage::Kind
+    } else if variable < places::D_STAT.first {
+        Stage::Fetch
+    } else if variable < places::E_STAT.first {
+        Stage::Decode
+    } else if variable < places::M_STAT.first {
+        Stage::Execute
+    } else if variable < places::W_STAT.first {
+        Stage::Memory
+    } else if variable < BIT_COUNT {
+        Stage::Write
+    } else {
+        Stage::Atom
+    }
+}
+
+/// Its rank for settings: kinds first, then atoms, then stage by stage, the registers of each behind its other fields.
+fn settings_rank(variable: u32) -> u32 {
+    let registers = if is_register(variable) { 1 } else { 0 };
+    match stage_of(variable) {
+        Stage::Kind => 0,
+        Stage::Atom => 1,
+        Stage::Fetch => 2,
+        Stage::Decode => 3 + registers,
+        Stage::Execute => 5 + registers,
+        Stage::Memory => 7 + registers,
+        Stage::Write => 9 + registers,
+    }
+}
+
+/// Its rank for the obligations: kinds first, then atoms, then stage by stage in an order that was tried out, and
+/// registers last.
+fn rules_rank(variable: u32) -> u32 {
+    if is_register(variable) {
+        return 7;
+    }
+    match stage_of(variable) {
+        Stage::Kind => 0,
+        Stage::Atom => 1,
+        Stage::Fetch => 2,
+        Stage::Memory => 3,
+        Stage::Execute => 4,
+        Stage::Decode => 5,
+        Stage::Write => 6,
+    }
+}
+
+/// More than all ranks.
+const RANKS: u32 = 11;
+
+/// The variables rank by rank, those of one rank by their numbers.
+fn by_rank(alloc: Global, ranks: &[u32]) -> Result<Vec<u32>, Memory> {
+    let mut order: Vec<u32> = Vec::new(alloc);
+    for rank in 0..RANKS {
+        for variable in 0..ranks.len() {
+            if ranks[variable] == rank {
+                if order.push(variable as u32).is_err() {
+                    return Err(Memory);
+                }
+            }
+        }
+    }
+    Ok(order)
+}
+
+/// The order for the formulas of settings.
+pub fn settings_order(alloc: Global, vars: u32) -> Result<Vec<u32>, Memory> {
+    let mut ranks: Vec<u32> = Vec::new(alloc);
+    for variable in 0..vars {
+        if ranks.push(settings_rank(variable)).is_err() {
+            return Err(Memory);
+        }
+    }
+    by_rank(alloc, ranks.as_slice())
+}
+
+/// The order for the obligations.
+pub fn rules_order(alloc: Global, vars: u32) -> Result<Vec<u32>, Memory> {
+    let mut ranks: Vec<u32> = Vec::new(alloc);
+    for variable in 0..vars {
+        if ranks.push(rules_rank(variable)).is_err() {
+            return Err(Memory);
+        }
+    }
+    by_rank(alloc, ranks.as_slice())
+}
