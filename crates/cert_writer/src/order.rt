@@ -70,7 +70,7 @@ fn ranks_of(alloc: Global, order: &[u32]) -> Result<Option<Vec<u32>>, Memory>
     Ok(None)
 }
 
-/// The fields of a control valuation in an order in which the diagrams of PIPE's rules are small: what F, D, E, M and W
+/// The fields of a control valuation in an order in which the diagrams of PIPE's rules are small: what F, M, E, D and W
 /// hold, stage by stage, and registers last. Atoms stand before them all. With the fields in the order of their numbers
 /// the certificate of `nb.hcl` is twenty times as long.
 const FIELDS: [Place; FIELD_COUNT] = [
@@ -80,20 +80,6 @@ const FIELDS: [Place; FIELD_COUNT] = [
     places::F_TAKEN,
     places::F_STOPS,
     places::F_BACK,
-    places::D_KIND,
-    places::D_STAT,
-    places::D_ICODE,
-    places::D_IFUN,
-    places::D_TAKEN,
-    places::D_STOPS,
-    places::D_BACK,
-    places::E_KIND,
-    places::E_STAT,
-    places::E_ICODE,
-    places::E_IFUN,
-    places::E_CND,
-    places::E_STOPS,
-    places::E_BACK,
     places::M_KIND,
     places::M_STAT,
     places::M_ICODE,
@@ -101,6 +87,20 @@ const FIELDS: [Place; FIELD_COUNT] = [
     places::M_CND,
     places::M_ERROR,
     places::M_BACK,
+    places::E_KIND,
+    places::E_STAT,
+    places::E_ICODE,
+    places::E_IFUN,
+    places::E_CND,
+    places::E_STOPS,
+    places::E_BACK,
+    places::D_KIND,
+    places::D_STAT,
+    places::D_ICODE,
+    places::D_IFUN,
+    places::D_TAKEN,
+    places::D_STOPS,
+    places::D_BACK,
     places::W_KIND,
     places::W_STAT,
     places::W_ICODE,
