@@ -83,7 +83,7 @@ decided_more n gates k truths b h d = record {
   size = length_push truths b ∙ (let z = h.size in omega (arith, z));
   each = λ j lt. elim (cases_eq j k) [
     | inl same ↦ subst (λ (i : ℕ). IsDecided n (get_or gates i 0) (get_or (truths ++ b ∷ []) i false)) (sym same) (subst (IsDecided n (get_or gates k 0)) (sym last) d)
-    | inr other ↦ subst (IsDecided n (get_or gates j 0)) (sym (get_or_append_left truths (b ∷ []) j false (let z = h.size in grind (arith, z, lt, other)))) (h.each j (grind (arith, lt, other)))
+    | inr other ↦ subst (IsDecided n (get_or gates j 0)) (sym (get_or_append_left truths (b ∷ []) false j (let z = h.size in grind (arith, z, lt, other)))) (h.each j (grind (arith, lt, other)))
   ];
 }
   where

@@ -11,7 +11,7 @@ use y86_base::Memory;
 
 /// Some gates of a net, in a copy whose variables stand in the given order. Where that lacks one of them, they keep
 /// their order.
-#[tactic(auto, using(crate::proofs::Mirrors::part_mirrors, crate::proofs::Mirrors::stand_mirrors))]
+#[tactic(auto, using(crate::proofs::Mirrors::part_mirrors))]
 pub fn reordered(alloc: Global, net: &Net, gates: &[u64], order: &[u32]) -> Result<Part, Memory>
     requires gates { AreGatesOf net.now gates.now }
     ensures { IfOk result (Mirrors net.now gates.now) }

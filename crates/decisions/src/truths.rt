@@ -1,7 +1,10 @@
 //! Which of several gates are true of every valuation.
-ghost use Rattle.std.specs.Prelude.{◌≡◌, ◌<◌, IfOk, length};
+ghost use Rattle.std.specs.Prelude.{◌≡◌, ◌<◌, IfOk, get_or, length};
+ghost use Rattle.bdd_core.specs.Building.{AreKnown};
 ghost use Rattle.decisions.specs.Decisions.{AreDecided, AreGatesOf, IsDecided};
+ghost use Rattle.decisions.specs.Splitting.{Mirrors};
 
+use crate::cuts::Part;
 use crate::decision::{NODES, STEPS, decide_in_parts};
 use crate::pass::always_true;
 use crate::reordered::reordered;
@@ -22,9 +25,37 @@ fn true_in_parts(alloc: Global, net: &Net, gate: u64) -> Result<bool, Memory>
     }
 }
 
+/// Whether the gate at a place is true of every valuation: by the diagrams of a copy, or, where they become more than they
+/// may, part by part.
+#[tactic(auto, using(crate::proofs::Mirrors::decided_mirrored))]
+fn truth_at(
+    alloc: Global,
+    store: &mut Store,
+    built: &mut Built,
+    copy: &Part,
+    net: &Net,
+    gates: &[u64],
+    k: usize,
+) -> Result<bool, Memory>
+    requires gates { AreGatesOf net.now gates.now }
+    requires place { k < length gates.now }
+    requires mirrors { Mirrors net.now gates.now copy.now }
+    requires vars { store.old.vars ≡ copy.now.net.vars }
+    requires known { AreKnown store.old copy.now.net built.old }
+    ensures vars { store.new.vars ≡ store.old.vars }
+    ensures known { AreKnown store.new copy.now.net built.new }
+    ensures decided { IfOk result (IsDecided net.now (get_or gates.now k 0)) }
+{
+    let here = copy.gates.items()[k];
+    match always_true(store, built, &copy.net, here)? {
+        Some(truth) => Ok(truth),
+        None => true_in_parts(alloc, net, gates[k]),
+    }
+}
+
 /// For each of some gates whether it is true of every valuation. They share their diagrams, in which the variables stand in
 /// the given order; a gate at which these become more than they may is decided part by part.
-#[tactic(auto, using(crate::proofs::Mirrors::decided_mirrored, crate::proofs::Mirrors::decided_more))]
+#[tactic(auto, using(crate::proofs::Mirrors::decided_more))]
 pub fn each_true(
     alloc: Global,
     net: &Net,
@@ -39,11 +70,7 @@ pub fn each_true(
     let mut built = Built::new(alloc, &copy.net)?;
     let mut truths: Vec<bool> = Vec::new(alloc);
     for k in 0..gates.len() {
-        let here = copy.gates.items()[k];
-        let truth = match always_true(&mut store, &mut built, &copy.net, here)? {
-            Some(truth) => truth,
-            None => true_in_parts(alloc, net, gates[k])?,
-        };
+        let truth = truth_at(alloc, &mut store, &mut built, &copy, net, gates, k)?;
         if truths.push(truth).is_err() {
             return Err(Memory);
         }
