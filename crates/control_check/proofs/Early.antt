@@ -48,7 +48,8 @@ module _ (n : Gates) (pt pb : List ℕ) (tv : ℕ) (early : List ℕ) (is : earl
     forward_decided s seven e = record {
       size = seven;
       each = λ k lt. subst (λ (g : ℕ). IsDecided n g (get_or s k false)) (first k lt)
-          (subst (IsDecided n (get_or early k 0)) (sym (e k lt)) (decided k (omega (arith, lt))));
+          (subst (IsDecided n (get_or early k 0)) (sym (e k lt))
+          (subst (λ (i : ℕ). IsDecided n (get_or early k 0) (get_or truths i false)) (omega arith) (decided k (omega (arith, lt)))));
     }
 
     pub backward_decided : (s : List Bool) → length s ≡ 7 → ((k : ℕ) → k < 7 → get_or s k false ≡ get_or truths (7 + k) false) → AreDecided n pb 7 s

@@ -88,42 +88,34 @@ fn rules_rank(variable: u32) -> u32 {
     }
 }
 
+/// Which formulas are asked.
+#[derive(Clone, Copy, Debug, PartialEq, Eq)]
+pub enum Formulas {
+    Settings,
+    Rules,
+}
+
+fn rank(formulas: Formulas, variable: u32) -> u32 {
+    match formulas {
+        Formulas::Settings => settings_rank(variable),
+        Formulas::Rules => rules_rank(variable),
+    }
+}
+
 /// More than all ranks.
 const RANKS: u32 = 11;
 
 /// The variables rank by rank, those of one rank by their numbers.
-fn by_rank(alloc: Global, ranks: &[u32]) -> Result<Vec<u32>, Memory> {
+pub fn order_for(alloc: Global, formulas: Formulas, vars: u32) -> Result<Vec<u32>, Memory> {
     let mut order: Vec<u32> = Vec::new(alloc);
-    for rank in 0..RANKS {
-        for variable in 0..ranks.len() {
-            if ranks[variable] == rank {
-                if order.push(variable as u32).is_err() {
+    for wanted in 0..RANKS {
+        for variable in 0..vars {
+            if rank(formulas, variable) == wanted {
+                if order.push(variable).is_err() {
                     return Err(Memory);
                 }
             }
         }
     }
     Ok(order)
-}
-
-/// The order for the formulas of settings.
-pub fn settings_order(alloc: Global, vars: u32) -> Result<Vec<u32>, Memory> {
-    let mut ranks: Vec<u32> = Vec::new(alloc);
-    for variable in 0..vars {
-        if ranks.push(settings_rank(variable)).is_err() {
-            return Err(Memory);
-        }
-    }
-    by_rank(alloc, ranks.as_slice())
-}
-
-/// The order for the obligations.
-pub fn rules_order(alloc: Global, vars: u32) -> Result<Vec<u32>, Memory> {
-    let mut ranks: Vec<u32> = Vec::new(alloc);
-    for variable in 0..vars {
-        if ranks.push(rules_rank(variable)).is_err() {
-            return Err(Memory);
-        }
-    }
-    by_rank(alloc, ranks.as_slice())
 }

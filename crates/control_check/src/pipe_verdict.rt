@@ -1,5 +1,5 @@
 //! The verdict on a design for PIPE: its settings, and then the rules at them.
-ghost use Rattle.std.specs.Prelude.{◌≡◌, ◌<◌, ◌≤◌, ◌+◌, ◌++◌, ◌∷◌, [], ℕ, IfErr, IfOk, get_or, length, false, not, true};
+ghost use Rattle.std.specs.Prelude.{◌≡◌, ◌<◌, ◌≤◌, ◌+◌, ◌++◌, ◌∷◌, [], ℕ, IfErr, IfOk, OnOk, get_or, length, false, not, true};
 ghost use Rattle.dp_signals.specs.PipeTable.{pipe_rows};
 ghost use Rattle.hcl_types.specs.Tables.{IsBound, IsOrderOf};
 ghost use Rattle.verdicts.specs.Decisions.{AreGatesOf, IsDecision};
@@ -9,7 +9,7 @@ ghost use Rattle.control_check.specs.SeqVerdicts.{is_yes};
 ghost use Rattle.hazard_rules.specs.Belonging.{BelongTo};
 ghost use Rattle.hazard_rules.specs.Parts.{AreRules};
 
-use crate::orders::{rules_order, settings_order};
+use crate::orders::{Formulas, order_for};
 use crate::verdict::Verdict;
 use decisions::each_true;
 use hazard_rules::{Late, Parts, pipe_late, pipe_parts, pipe_rules};
@@ -32,8 +32,8 @@ struct Early {
 /// The gates of the early settings: the predictions of jumps forward and backward, by ifun, and whether targets are carried.
 fn early_gates(alloc: Global, parts: &Parts) -> Result<Vec<u64>, Memory>
     ensures gates { IfOk result (λ gates. gates.items ≡ parts.now.pt ++ (parts.now.pb ++ parts.now.tv ∷ [])) }
-    ensures forward { length parts.now.pt ≡ 7 }
-    ensures backward { length parts.now.pb ≡ 7 }
+    ensures forward { OnOk result (length parts.now.pt ≡ 7) }
+    ensures backward { OnOk result (length parts.now.pb ≡ 7) }
 {
     let mut gates: Vec<u64> = Vec::new(alloc);
     if gates.extend_from_slice(&parts.pt).is_err() {
@@ -71,7 +71,7 @@ fn decide_early(alloc: Global, parts: &Parts) -> Result<Early, Memory>
     ensures backward { IfOk result (λ e. AreDecided parts.now.net parts.now.pb 7 e.pb) }
     ensures target { IfOk result (λ e. IsDecided parts.now.net parts.now.tv e.tv) }
 {
-    let order = settings_order(alloc, parts.net.vars())?;
+    let order = order_for(alloc, Formulas::Settings, parts.net.vars())?;
     let gates = early_gates(alloc, parts)?;
     let truths = each_true(alloc, &parts.net, gates.as_slice(), order.as_slice())?;
     let pt = seven(truths.as_slice(), 0);
@@ -91,7 +91,7 @@ fn decide_late(alloc: Global, net: &Net, late: Late, early: Early) -> Result<Set
     ensures je { IfOk result (λ s. IsDecided net.now late.je (not s.je)) }
     ensures rm { IfOk result (λ s. IsDecided net.now late.rm (not s.rm)) }
 {
-    let order = settings_order(alloc, net.vars())?;
+    let order = order_for(alloc, Formulas::Settings, net.vars())?;
     let truths = each_true(alloc, net, &[late.lf, late.je, late.rm], order.as_slice())?;
     let pt = early.pt;
     let pb = early.pb;
@@ -167,7 +167,7 @@ fn decide_pipe(alloc: Global, net: &Net, list: &[Rule]) -> Result<Option<Failure
     requires gates { AreGatesOf net.now list.now }
     ensures { IfOk result (IsDecision net.now list.now) }
 {
-    let order = rules_order(alloc, net.vars())?;
+    let order = order_for(alloc, Formulas::Rules, net.vars())?;
     decide_in_order(alloc, net, list, order.as_slice())
 }
 
