@@ -6,7 +6,9 @@ mod diagram;
 mod held;
 mod instruction;
 mod laws;
+mod listed;
 mod numbers;
+mod picked;
 mod watch;
 mod watching;
 
