@@ -1,9 +1,10 @@
 -- What an object text lists at an address: the text behind the `|` of the line whose bytes begin there.
-use Rattle.std.specs.Prelude.{ℕ, ◌-◌, Bool, not, ◌==◌, nat_eq, nat_lt, if◌then◌else◌, List, [], ◌∷◌, length, take, reverse, Option, Some, None, option_and_then, unwrap_or, Vec}
+use Rattle.std.specs.Prelude.{◌≡◌, ℕ, ◌-◌, Bool, not, ◌==◌, nat_eq, nat_lt, if◌then◌else◌, List, [], ◌∷◌, ◌++◌, length, take, reverse, Option, Some, None, option_and_then, unwrap_or, Vec}
 use Rattle.std.specs.List.{prefix_len}
 use Rattle.std.specs.Map.{lookup}
 use Rattle.std.specs.Option.{option_map, option_or}
 use Rattle.std.specs.Str.Parse.{digits_value}
+use Rattle.hcl_types.specs.Lists.{Each}
 use Rattle.y86_base.specs.Text.{after_byte, behind, below_word, is_blank, lines}
 use Rattle.yo_object.specs.Grammar.{digits_in_line}
 use Rattle.yo_object.specs.ObjectText.{Digits}
@@ -50,5 +51,18 @@ listed object address = listed_in address (lines object)
 
 -- ---- the table of these texts that the code makes: its entries are addresses and texts
 
-abbrev pub text_in : {A : Type 0} → List (ℕ × Vec ℕ A) → ℕ → Option (List ℕ)
+unfoldable pub text_in : {A : Type 0} → List (ℕ × Vec ℕ A) → ℕ → Option (List ℕ)
 text_in {A} entries address = option_map (λ (text : Vec ℕ A). text.items) (lookup (nat_eq address) entries)
+
+-- ---- which line it is
+
+abbrev pub ListsNone : ℕ → List ℕ → Type 0
+ListsNone address line = text_at address line ≡ None
+
+abbrev pub LastLineCounts : Type 0
+LastLineCounts =
+    (address : ℕ) (before after : List (List ℕ)) (line text : List ℕ) → text_at address line ≡ Some text → Each (ListsNone address) after →
+    listed_in address (before ++ line ∷ after) ≡ Some text
+
+abbrev pub NoneIsListed : Type 0
+NoneIsListed = (address : ℕ) (all : List (List ℕ)) → Each (ListsNone address) all → listed_in address all ≡ None

@@ -1,9 +1,8 @@
 -- Where a signal's value comes from, as far as the picks of the file tell it (CS:APP 3e, section 4.5.5: Sel+Fwd A, Fwd B and Select PC): each of f_pc,
 -- d_valA and d_valB is mostly a case list of names.
-use Rattle.std.specs.Prelude.{◌≡◌, ℕ, ◌-◌, if◌then◌else◌, List, [], ◌∷◌, codes, slice_get, Option, Some, None}
+use Rattle.std.specs.Prelude.{◌≡◌, ℕ, ◌-◌, if◌then◌else◌, List, [], ◌∷◌, codes, slice_get, Option, Some, None, option_and_then}
 use Rattle.std.specs.Option.{option_map_or}
 use Rattle.hcl_read.specs.declared.tree.CmpOp.{CmpOp}
-use Rattle.hcl_types.specs.Tables.{term_at}
 use Rattle.hcl_types.specs.Terms.{Meaning, value, words}
 use Rattle.hcl_types.specs.declared.table.Row.{Row}
 use Rattle.hcl_types.specs.declared.term.Term.{Term}
@@ -60,9 +59,9 @@ PicksTheValue = (f : ℕ → ℕ) (t : Term) (id : ℕ) → picked_name f t ≡ 
 
 -- ---- the names that are told of a cycle
 
--- the term of a row that the file defines
-abbrev pub term_of : List Term → ℕ → Term
-term_of terms id = term_at terms (id - row.f_pc)
+-- the name that the definition of a row picks, where the file has one
+abbrev pub name_picked : List Term → (ℕ → ℕ) → ℕ → Option ℕ
+name_picked terms f id = option_and_then (picked_name f) (slice_get terms (id - row.f_pc))
 
 -- where f_pc, d_valA and d_valB come from, as it is told
 pub record Sources : Type 0 where
@@ -75,9 +74,8 @@ abbrev pub name_text : List Row → Option ℕ → List ℕ
 name_text rows None = codes "-"
 name_text rows (Some id) = option_map_or (λ (it : Row). it.name) (slice_get rows id) (codes "-")
 
--- the name that a row's definition picks
 abbrev pub source : List Row → List Term → (ℕ → ℕ) → ℕ → List ℕ
-source rows terms f id = name_text rows (picked_name f (term_of terms id))
+source rows terms f id = name_text rows (name_picked terms f id)
 
 unfoldable pub sources : List Row → List Term → (ℕ → ℕ) → Sources
 sources rows terms f =
@@ -86,7 +84,7 @@ sources rows terms f =
 abbrev pub sources_in : code.Sources → Sources
 sources_in s = record { pc = s.pc.now; val_a = s.val_a.now; val_b = s.val_b.now }
 
--- in a cycle of the machine, a row that is told has the value of f_pc, d_valA or d_valB
-abbrev pub IsForwarded : ℕ → Type 0
-IsForwarded signal =
-    (v : Variant) (terms : List Term) (p : PipeState) (f : ℕ → ℕ) (id : ℕ) → Solves v terms p f → picked_name f (term_of terms signal) ≡ Some id → f signal ≡ f id
+-- in a cycle of the machine a signal has the value of the row that its definition picks
+abbrev pub HasItsSource : ℕ → Type 0
+HasItsSource signal =
+    (v : Variant) (terms : List Term) (p : PipeState) (f : ℕ → ℕ) (id : ℕ) → Solves v terms p f → name_picked terms f signal ≡ Some id → f signal ≡ f id

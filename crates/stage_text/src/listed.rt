@@ -142,7 +142,7 @@ fn some_text(text: &[u8]) -> Option<&[u8]>
 
 /// Puts a text at an address, in the place of one that stands there.
 fn put_text(alloc: Global, listing: &mut Listing, address: u64, text: &[u8]) -> Result<(), Memory>
-    ensures { OnOk result ((at : ℕ) → spec.text_in listing.new.entries at ≡ (if nat_eq address at then Some text.now else spec.text_in listing.old.entries at)) }
+    ensures { OnOk result ((place : ℕ) → spec.text_in listing.new.entries place ≡ (if nat_eq address place then Some text.now else spec.text_in listing.old.entries place)) }
 {
     let Ok(copy) = Vec::from_slice(alloc, text) else {
         return Err(Memory);
@@ -155,7 +155,7 @@ fn put_text(alloc: Global, listing: &mut Listing, address: u64, text: &[u8]) -> 
 
 /// Puts the text that a line lists.
 fn put_line(alloc: Global, listing: &mut Listing, line: &[u8]) -> Result<(), Memory>
-    ensures { OnOk result ((at : ℕ) → spec.text_in listing.new.entries at ≡ option_or (spec.text_at at line.now) (spec.text_in listing.old.entries at)) }
+    ensures { OnOk result ((place : ℕ) → spec.text_in listing.new.entries place ≡ option_or (spec.text_at place line.now) (spec.text_in listing.old.entries place)) }
 {
     let Some(address) = address_of(line) else {
         return Ok(());
@@ -168,7 +168,7 @@ fn put_line(alloc: Global, listing: &mut Listing, line: &[u8]) -> Result<(), Mem
 
 /// The texts that an object text lists.
 pub(crate) fn listing_of(alloc: Global, object: &[u8]) -> Result<Listing, Memory>
-    ensures { IfOk result (λ listing. (at : ℕ) → spec.text_in listing.entries at ≡ spec.listed object.now at) }
+    ensures { IfOk result (λ listing. (place : ℕ) → spec.text_in listing.entries place ≡ spec.listed object.now place) }
 {
     let mut listing = IndexMap::new(alloc);
     let mut rest = object;
@@ -183,6 +183,7 @@ pub(crate) fn listing_of(alloc: Global, object: &[u8]) -> Result<Listing, Memory
 }
 
 /// The text at an address.
+#[tactic(auto, unfolding(crate::specs::Listed::text_in))]
 pub(crate) fn text_in(listing: &Listing, address: u64) -> Option<&[u8]>
     ensures { option_copied result ≡ spec.text_in listing.now.entries address }
 {

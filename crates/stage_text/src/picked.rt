@@ -1,5 +1,5 @@
 //! Where the values of f_pc, d_valA and d_valB come from in a cycle, as far as the picks of the file tell it.
-ghost use Rattle.std.specs.Prelude.{◌≡◌, ◌≤◌, ◌<◌};
+ghost use Rattle.std.specs.Prelude.{◌≡◌, ◌≤◌};
 ghost use Rattle.hcl_types.specs.Terms.{at};
 ghost use Rattle.hcl_types.specs.declared.term.Term.TheVariants.{Case};
 ghost use Rattle.dp_signals.specs.PipeNames as name;
@@ -49,7 +49,7 @@ fn picked_branch(all: &[TermBranch], values: &[u64]) -> Option<NameId>
 /// The name that the definition of a row picks.
 fn picked_of(design: &Design, values: &[u64], id: NameId) -> Option<NameId>
     requires { name.f_pc ≤ id }
-    ensures { result ≡ spec.picked_name (at values.now) (spec.term_of design.now.terms id) }
+    ensures { result ≡ spec.name_picked design.now.terms (at values.now) id }
 {
     match design.terms.items().get((id - row::F_PC) as usize) {
         Some(term) => picked_name(term, values),

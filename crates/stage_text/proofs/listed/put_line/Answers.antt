@@ -1,0 +1,12 @@
+use Rattle.std.proofs.Common.{◌∙◌, sym, ap}
+use Rattle.stage_text.proofs.Listings.{changes, lists_no_text, lists_nothing, stays}
+use Rattle.stage_text.proofs.listed.put_line.Goals as goal
+
+pub returns-in_default : goal.returns-in_default
+returns-in_default c = λ address. stays address _ _ (lists_nothing address _ (sym c.in_default.ensures))
+
+pub returns-in_default-some_text : goal.returns-in_default-some_text
+returns-in_default-some_text c = λ address. stays address _ _ (lists_no_text address _ (ap _ (sym c.text_of.ensures) ∙ sym c.in_default-some_text.ensures))
+
+pub returns : goal.returns
+returns c = λ address. changes address _ _ _ _ _ (sym c.in-Some.ensures) (sym c.in-Some-some_text.ensures) (c.put_text.ensures address)
