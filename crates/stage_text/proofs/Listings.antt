@@ -1,5 +1,5 @@
 -- The table of what an object text lists, line by line.
-use Rattle.std.proofs.Common.{◌≡◌, ℕ, ◌+◌, Bool, true, false, cond, List, [], ◌∷◌, ◌++◌, All, Option, None, Some, refl, sym, ap, ◌∙◌}
+use Rattle.std.proofs.Common.{◌≡◌, ℕ, ◌+◌, Bool, true, false, cond, List, [], ◌∷◌, ◌++◌, Option, None, Some, refl, sym, ap, ◌∙◌}
 use Rattle.std.specs.Prelude.{Vec, nat_eq, option_and_then}
 use Rattle.std.specs.Map.{lookup}
 use Rattle.std.specs.Option.{option_map, option_or}
@@ -17,7 +17,7 @@ neither : (b : Bool) → ◌≡◌ {A = Option (List ℕ)} (cond b None None) No
 neither true = refl
 neither false = refl
 
-without_text : (address : ℕ) (address : Option ℕ) → ◌≡◌ {A = Option (List ℕ)} (option_and_then (λ own. cond (nat_eq own address) None None) address) None
+without_text : (address : ℕ) (found : Option ℕ) → ◌≡◌ {A = Option (List ℕ)} (option_and_then (λ own. cond (nat_eq own address) None None) found) None
 without_text address None = refl
 without_text address (Some own) = neither (nat_eq own address)
 
