@@ -99,8 +99,8 @@ unfoldable pub whole_text : (ℕ → Option (List ℕ)) → Bool → ℕ → Wat
 whole_text listing asked cycles s = s.text ++ (diagram_shown listing asked s ++ end_line s.end cycles s.retired)
 
 -- the text and the end of the run of an image
-abbrev pub Shows : Variant → List Term → (ℕ → Option (List ℕ)) → Window → List ℕ → ℕ → List ℕ → Stat → Type 0
-Shows v terms listing window image limit text end =
+abbrev pub ShowsRun : Variant → List Term → (ℕ → Option (List ℕ)) → Window → List ℕ → ℕ → List ℕ → Stat → Type 0
+ShowsRun v terms listing window image limit text end =
     (k : ℕ) × (s : Watching) × WatchesTo v terms window image limit k s × (text ≡ whole_text listing window.diagram k s) × (end ≡ s.end)
 
 -- ---- the watched machine is the machine of the run: its state, its end, and the number of its records

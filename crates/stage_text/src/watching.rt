@@ -7,7 +7,7 @@ ghost use Rattle.hcl_types.specs.Terms.{at};
 ghost use Rattle.stage_text.specs.Listed.{listed, text_in};
 ghost use Rattle.stage_text.specs.Picked.{sources};
 ghost use Rattle.y86_isa.specs.Machine.{is_aok};
-ghost use Rattle.stage_text.specs.Watching.{Shows};
+ghost use Rattle.stage_text.specs.Watching.{ShowsRun};
 ghost use Rattle.stage_text.specs.Watching as spec;
 
 use crate::cycle::put_cycle;
@@ -255,7 +255,7 @@ fn watch_listed<C: SignalEval>(
     requires bound { IsBound pipe_rows design.now.terms }
     requires ordered { IsOrderOf pipe_rows design.now.terms order.now.ids }
     requires limit { limit ≤ 100000000 }
-    ensures { IfOk result (λ w. Shows variant design.now.terms (text_in listing.now.entries) window.now image limit w.text.items w.end) }
+    ensures { IfOk result (λ w. ShowsRun variant design.now.terms (text_in listing.now.entries) window.now image limit w.text.items w.end) }
 {
     let mut s = Watching {
         state: PipeState::start(image),
@@ -302,7 +302,7 @@ pub fn watch_run<C: SignalEval>(
     requires bound { IsBound pipe_rows design.now.terms }
     requires ordered { IsOrderOf pipe_rows design.now.terms order.now.ids }
     requires limit { limit ≤ 100000000 }
-    ensures { IfOk result (λ w. Shows variant design.now.terms (listed object.now) window.now image limit w.text.items w.end) }
+    ensures { IfOk result (λ w. ShowsRun variant design.now.terms (listed object.now) window.now image limit w.text.items w.end) }
 {
     let Ok(table) = pipe_table(alloc) else {
         return Err(Memory);
