@@ -1,4 +1,5 @@
 pub mod Rows
 pub mod Runs
+pub mod Trimmed
 pub mod Listings
 pub mod Picks

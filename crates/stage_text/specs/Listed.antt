@@ -1,12 +1,12 @@
 -- What an object text lists at an address: the text behind the `|` of the line whose bytes begin there.
-use Rattle.std.specs.Prelude.{◌≡◌, ℕ, ◌-◌, Bool, not, ◌==◌, nat_eq, nat_lt, if◌then◌else◌, List, [], ◌∷◌, ◌++◌, length, take, reverse, Option, Some, None, option_and_then, unwrap_or, Vec}
-use Rattle.std.specs.List.{prefix_len}
+use Rattle.std.specs.Prelude.{◌≡◌, ◌↔◌, ◌<◌, ◌^◌, ℕ, Bool, true, false, not, ◌==◌, nat_eq, nat_lt, if◌then◌else◌, List, [], ◌∷◌, ◌++◌, length, reverse, Option, Some, None, option_and_then, unwrap_or, Vec}
+use Rattle.std.specs.List.{list_all}
 use Rattle.std.specs.Map.{lookup}
 use Rattle.std.specs.Option.{option_map, option_or}
 use Rattle.std.specs.Str.Parse.{digits_value}
 use Rattle.hcl_types.specs.Lists.{Each}
-use Rattle.y86_base.specs.Text.{after_byte, behind, below_word, is_blank, lines}
-use Rattle.yo_object.specs.Grammar.{digits_in_line}
+use Rattle.y86_base.specs.Text.{after_byte, begins, behind, below_word, is_blank, lines}
+use Rattle.yo_object.specs.Grammar.{IsObjectLine, digits_in_line}
 use Rattle.yo_object.specs.ObjectText.{Digits}
 
 -- the address of a line that is of the form and has bytes
@@ -25,7 +25,7 @@ comment_of line = unwrap_or (after_byte 124 (behind is_before_bar line)) []
 
 -- a text without the blanks at its end
 abbrev pub without_end : List ℕ → List ℕ
-without_end text = take (length text - prefix_len is_blank (reverse text)) text
+without_end text = reverse (behind is_blank (reverse text))
 
 -- the text of a line, without the blanks in front and at the end
 unfoldable pub text_of : List ℕ → List ℕ
@@ -66,3 +66,33 @@ LastLineCounts =
 
 abbrev pub NoneIsListed : Type 0
 NoneIsListed = (address : ℕ) (all : List (List ℕ)) → Each (ListsNone address) all → listed_in address all ≡ None
+
+-- ---- a line, in the words of the form
+
+-- a text between blanks, which begins and ends with none
+pub record IsBetween (whole text : List ℕ) : Type 0 where
+  pub front : List ℕ
+  pub back : List ℕ
+  pub parts : whole ≡ front ++ (text ++ back)
+  pub front_blank : list_all is_blank front ≡ true
+  pub back_blank : list_all is_blank back ≡ true
+  pub begins : begins is_blank text ≡ false
+  pub ends : begins is_blank (reverse text) ≡ false
+
+-- a line of the form with an address and bytes, and a text behind its first `|`
+pub record Lists (address : ℕ) (line text : List ℕ) : Type 0 where
+  pub digits : List ℕ
+  pub pairs : List ℕ
+  pub form : IsObjectLine line digits pairs
+  pub number : digits_value 16 digits ≡ address
+  pub word : address < 2 ^ 64
+  pub bytes : 0 < length pairs
+  pub head : List ℕ
+  pub comment : List ℕ
+  pub bar : line ≡ head ++ (124 ∷ comment)
+  pub first : list_all is_before_bar head ≡ true
+  pub between : IsBetween comment text
+  pub some : 0 < length text
+
+abbrev pub ListsByForm : Type 0
+ListsByForm = (address : ℕ) (line text : List ℕ) → (text_at address line ≡ Some text) ↔ Lists address line text
