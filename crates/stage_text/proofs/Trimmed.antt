@@ -58,14 +58,14 @@ is_between whole =
       parts = run_and_rest is_blank whole ∙ ap (λ xs. take_while is_blank whole ++ xs) parts;
       front_blank = run_passes is_blank whole;
       back_blank = all_backward is_blank last (run_passes is_blank (reverse text));
-      begins = begins_shorter is_blank (reverse inner) (reverse last) (subst (λ xs. begins is_blank xs ≡ false) parts (run_stops is_blank whole));
+      starts = begins_shorter is_blank (reverse inner) (reverse last) (subst (λ xs. begins is_blank xs ≡ false) parts (run_stops is_blank whole));
       ends = subst (λ xs. begins is_blank xs ≡ false) (sym (reverse-reverse inner)) (run_stops is_blank (reverse text));
     }
 
 -- and no other text does, unless it is empty
 pub between_is : (whole text : List ℕ) → 0 < length text → IsBetween whole text → without_end (behind is_blank whole) ≡ text
 between_is whole text some h =
-    let dark : begins is_blank (text ++ h.back) ≡ false = begins_longer is_blank text h.back some h.begins in
+    let dark : begins is_blank (text ++ h.back) ≡ false = begins_longer is_blank text h.back some h.starts in
     let behind_front : behind is_blank whole ≡ text ++ h.back = ap (behind is_blank) h.parts ∙ behind-run is_blank h.front (text ++ h.back) h.front_blank dark in
     let backward : behind is_blank (reverse (text ++ h.back)) ≡ reverse text =
     ap (behind is_blank) (reverse-append text h.back) ∙ behind-run is_blank (reverse h.back) (reverse text) (all_backward is_blank h.back h.back_blank) h.ends in

@@ -76,7 +76,7 @@ pub record IsBetween (whole text : List ℕ) : Type 0 where
   pub parts : whole ≡ front ++ (text ++ back)
   pub front_blank : list_all is_blank front ≡ true
   pub back_blank : list_all is_blank back ≡ true
-  pub begins : begins is_blank text ≡ false
+  pub starts : begins is_blank text ≡ false
   pub ends : begins is_blank (reverse text) ≡ false
 
 -- a line of the form with an address and bytes, and a text behind its first `|`

@@ -1,7 +1,7 @@
 //! What is shown is the run of the machine, and what the definitions of picks and of listed texts say.
 ghost use Rattle.std.specs.Prelude.{ℕ};
 ghost use Rattle.dp_signals.specs.PipeNames as row;
-ghost use Rattle.stage_text.specs.Listed.{LastLineCounts, NoneIsListed};
+ghost use Rattle.stage_text.specs.Listed.{LastLineCounts, ListsByForm, NoneIsListed};
 ghost use Rattle.stage_text.specs.Picked.{HasItsSource, PicksByTerms, PicksTheValue};
 ghost use Rattle.stage_text.specs.Watching.{WatchesTheRun};
 
@@ -22,9 +22,11 @@ pub fn law_of_picks()
     ensures val_b { HasItsSource row.d_valB }
 {}
 
-/// The text at an address is that of the last line that lists one there, and there is none where no line does.
-#[tactic(auto, using(crate::proofs::Listings::last_line_counts, crate::proofs::Listings::none_is_listed))]
+/// A line lists a text at an address just where it is of the form, has this address and bytes, and the text stands between blanks behind its first `|`. The
+/// text that is listed at an address is that of the last line that lists one there, and there is none where no line does.
+#[tactic(auto, using(crate::proofs::ListedLines::lists_by_form, crate::proofs::Listings::last_line_counts, crate::proofs::Listings::none_is_listed))]
 pub fn law_of_listings()
+    ensures form { ListsByForm }
     ensures last { LastLineCounts }
     ensures none { NoneIsListed }
 {}

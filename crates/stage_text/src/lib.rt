@@ -13,5 +13,5 @@ mod watch;
 mod watching;
 
 pub use held::Held;
-pub use laws::law_of_watching;
+pub use laws::{law_of_listings, law_of_picks, law_of_watching};
 pub use watching::{Watched, Window, watch_run};
