@@ -22,6 +22,23 @@ use Rattle.stage_text.specs.Picked.{HasItsSource, Pick, PicksByTerms, PicksTheVa
 some_is : (x y : ℕ) → Some x ≡ Some y → x ≡ y
 some_is x y e = cc
 
+abbrev name_of : Pick → Option ℕ
+name_of x = x.name
+
+is_zero : (n : ℕ) → nat_eq n 0 ≡ true → n ≡ 0
+is_zero n e = grind (arith, nat_tests)
+
+unless : (b : Bool) (x y : Option ℕ) → (b ≡ true → ⊥) → (if not b then x else y) ≡ x
+unless true x y h = absurd (h refl)
+unless false x y h = refl
+
+holds_then : (n : ℕ) (x y : Option ℕ) → (n ≡ 0 → ⊥) → (if words.holds n then x else y) ≡ x
+holds_then n x y h = unless (nat_eq n 0) x y (λ e. h (is_zero n e))
+
+name_if : (b : Bool) (x y : Pick) → name_of (if b then x else y) ≡ (if b then x.name else y.name)
+name_if true x y = refl
+name_if false x y = refl
+
 -- the word is the value, and a name has it
 abbrev Agrees : (ℕ → ℕ) → Pick → ℕ → Type 0
 Agrees f x n = (x.word ≡ n) × ((id : ℕ) → x.name ≡ Some id → n ≡ f id)
@@ -46,39 +63,35 @@ module _ (f : ℕ → ℕ) where
 
   pub picks_Name : (id : ℕ) → picked_name f (Name id) ≡ Some id
   unfolding picked_name
-  picks_Name id = ap (λ (x : Pick). x.name) (value_Name picks (by_name f) id)
+  picks_Name id = ap name_of (value_Name picks (by_name f) id)
 
   pub picks_Num : (n : ℕ) → picked_name f (Num n) ≡ None
   unfolding picked_name
-  picks_Num n = ap (λ (x : Pick). x.name) (value_Num picks (by_name f) n)
+  picks_Num n = ap name_of (value_Num picks (by_name f) n)
 
   pub picks_Not : (t : Term) → picked_name f (Not t) ≡ None
   unfolding picked_name
-  picks_Not t = ap (λ (x : Pick). x.name) (value_Not picks (by_name f) t)
+  picks_Not t = ap name_of (value_Not picks (by_name f) t)
 
   pub picks_And : (ts : List Term) → picked_name f (And ts) ≡ None
   unfolding picked_name
-  picks_And ts = ap (λ (x : Pick). x.name) (value_And picks (by_name f) ts)
+  picks_And ts = ap name_of (value_And picks (by_name f) ts)
 
   pub picks_Or : (ts : List Term) → picked_name f (Or ts) ≡ None
   unfolding picked_name
-  picks_Or ts = ap (λ (x : Pick). x.name) (value_Or picks (by_name f) ts)
+  picks_Or ts = ap name_of (value_Or picks (by_name f) ts)
 
   pub picks_Cmp : (op : CmpOp) (t u : Term) → picked_name f (Cmp op t u) ≡ None
   unfolding picked_name
-  picks_Cmp op t u = ap (λ (x : Pick). x.name) (value_Cmp picks (by_name f) op t u)
+  picks_Cmp op t u = ap name_of (value_Cmp picks (by_name f) op t u)
 
   pub picks_In : (t : Term) (ts : List Term) → picked_name f (In t ts) ≡ None
   unfolding picked_name
-  picks_In t ts = ap (λ (x : Pick). x.name) (value_In picks (by_name f) t ts)
+  picks_In t ts = ap name_of (value_In picks (by_name f) t ts)
 
   pub picks_no_branch : picked_name f (Case []) ≡ None
   unfolding picked_name
-  picks_no_branch = ap (λ (x : Pick). x.name) (value_Case picks (by_name f) [])
-
-  name_if : (b : Bool) (x y : Pick) → (if b then x else y).name ≡ (if b then x.name else y.name)
-  name_if true x y = refl
-  name_if false x y = refl
+  picks_no_branch = ap name_of (value_Case picks (by_name f) [])
 
   pub picks_branch : (b : TermBranch) (bs : List TermBranch) →
       picked_name f (Case (b ∷ bs)) ≡ (if words.holds (value words f b.guard) then picked_name f b.value else picked_name f (Case bs))
@@ -87,11 +100,11 @@ module _ (f : ℕ → ℕ) where
       let rest : Pick = picked picks.holds (picks.num 0) (map (branch_value picks (by_name f)) bs) in
       let guard : Pick = value picks (by_name f) b.guard in
       let taken : Pick = value picks (by_name f) b.value in
-      ap (λ (x : Pick). x.name) (value_Case picks (by_name f) (b ∷ bs))
-      ∙ ap (λ (x : Pick × Pick). (if picks.holds x.0 then x.1 else rest).name) (value_branch picks (by_name f) b)
+      ap name_of (value_Case picks (by_name f) (b ∷ bs))
+      ∙ ap (λ (x : Pick × Pick). name_of (if picks.holds x.0 then x.1 else rest)) (value_branch picks (by_name f) b)
       ∙ name_if (picks.holds guard) taken rest
       ∙ ap (λ n. if words.holds n then taken.name else rest.name) (agrees b.guard).0
-      ∙ ap (λ n. if words.holds (value words f b.guard) then taken.name else n) (ap (λ (x : Pick). x.name) (sym (value_Case picks (by_name f) bs)))
+      ∙ ap (λ n. if words.holds (value words f b.guard) then taken.name else n) (ap name_of (sym (value_Case picks (by_name f) bs)))
 
   -- ---- a loop over the branches
 
@@ -105,10 +118,6 @@ module _ (f : ℕ → ℕ) where
   picks_later all i b inside is zero_guard =
       sym (item_is all i b inside is ∙ picks_branch b (drop (i + 1) all)
       ∙ ap (λ n. if words.holds n then picked_name f b.value else picked_name f (Case (drop (i + 1) all))) zero_guard)
-
-  holds_then : (n : ℕ) (x y : Option ℕ) → (n ≡ 0 → ⊥) → (if words.holds n then x else y) ≡ x
-  holds_then zero x y h = absurd (h refl)
-  holds_then (suc n) x y h = refl
 
   pub picks_here : (all : List TermBranch) (i : ℕ) (b : TermBranch) → i < length all → b ≡ get_or all i b → (value words f b.guard ≡ 0 → ⊥) →
       picked_name f b.value ≡ picked_name f (Case (drop i all))

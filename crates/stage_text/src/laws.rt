@@ -13,7 +13,6 @@ pub fn law_of_watching()
 
 /// What a term picks, term by term; a name that is picked has the term's value, so in a cycle each of f_pc, d_valA and d_valB has the value of the row that
 /// its definition picks.
-#[tactic(auto, using(crate::proofs::Picks::picks_by_terms, crate::proofs::Picks::picks_the_value, crate::proofs::Picks::pc_source, crate::proofs::Picks::val_a_source, crate::proofs::Picks::val_b_source))]
 pub fn law_of_picks()
     ensures by_terms { (f : ℕ → ℕ) → PicksByTerms f }
     ensures value { PicksTheValue }
@@ -24,7 +23,6 @@ pub fn law_of_picks()
 
 /// A line lists a text at an address just where it is of the form, has this address and bytes, and the text stands between blanks behind its first `|`. The
 /// text that is listed at an address is that of the last line that lists one there, and there is none where no line does.
-#[tactic(auto, using(crate::proofs::ListedLines::lists_by_form, crate::proofs::Listings::last_line_counts, crate::proofs::Listings::none_is_listed))]
 pub fn law_of_listings()
     ensures form { ListsByForm }
     ensures last { LastLineCounts }
