@@ -40,9 +40,14 @@ or_if false text before = refl
 pub stays : (address : ℕ) (line : List ℕ) (before : Option (List ℕ)) → text_at address line ≡ None → before ≡ option_or (text_at address line) before
 stays address line before e = rw e refl
 
-pub changes : (address own : ℕ) (line text : List ℕ) (before after : Option (List ℕ)) → address_of line ≡ Some own → some_text (text_of line) ≡ Some text →
+changes : (address own : ℕ) (line text : List ℕ) (before after : Option (List ℕ)) → address_of line ≡ Some own → some_text (text_of line) ≡ Some text →
     after ≡ cond (nat_eq own address) (Some text) before → after ≡ option_or (text_at address line) before
 changes address own line text before after e f put = put ∙ or_if (nat_eq own address) text before ∙ ap (λ x. option_or x before) (sym (lists_text address own line text e f))
+
+pub changes_all : (before after : ℕ → Option (List ℕ)) (own : ℕ) (line text : List ℕ) → address_of line ≡ Some own → some_text (text_of line) ≡ Some text →
+    ((address : ℕ) → after address ≡ cond (nat_eq own address) (Some text) (before address)) →
+    (address : ℕ) → after address ≡ option_or (text_at address line) (before address)
+changes_all before after own line text e f put address = changes address own line text (before address) (after address) e f (put address)
 
 module _ {A : Type 0} where
   items_if : (b : Bool) (text : Vec ℕ A) (before : Option (Vec ℕ A)) →
