@@ -1,5 +1,5 @@
 -- A line that lists a text, in the words of the form.
-use Rattle.std.proofs.Common.{◌≡◌, ℕ, ◌<◌, ◌^◌, Bool, true, false, List, [], ◌∷◌, ◌++◌, length, Option, None, Some, refl, sym, ap, ◌∙◌, subst, if◌then◌else◌, take_while, arith}
+use Rattle.std.proofs.Common.{◌≡◌, ℕ, ◌<◌, ◌^◌, Bool, true, false, List, [], ◌∷◌, ◌++◌, length, Option, None, Some, refl, sym, ap, ◌∙◌, subst, if◌then◌else◌, cond, take_while, arith}
 use Rattle.std.specs.Prelude.{nat_eq, nat_lt, option_and_then, unwrap_or}
 use Rattle.std.specs.List.{list_all}
 use Rattle.std.specs.Str.Parse.{digits_value}
@@ -11,6 +11,7 @@ use Rattle.yo_object.specs.Grammar.{digits_in_line}
 use Rattle.yo_object.specs.ObjectText.{Digits}
 use Rattle.yo_object.proofs.Grammar.{form_found, form_read}
 use Rattle.stage_text.specs.Listed.{IsBetween, Lists, ListsByForm, address_behind, address_of, comment_of, is_before_bar, some_text, text_at, text_of, without_end}
+use Rattle.stage_text.proofs.Listings.{lists_text}
 use Rattle.stage_text.proofs.Trimmed.{between_is, is_between}
 
 some_is : {A : Type 0} (x y : A) → Some x ≡ Some y → x ≡ y
@@ -68,10 +69,14 @@ address_found : (line : List ℕ) (address : ℕ) → address_of line ≡ Some a
 unfolding address_of
 address_found line address e = address_from line address (digits_in_line line) refl e
 
+behind_is : (digits pairs : List ℕ) (address : ℕ) → digits_value 16 digits ≡ address → address < 2 ^ 64 → 0 < length pairs →
+    address_behind (record { address = digits; bytes = pairs }) ≡ Some address
+behind_is digits pairs address number word bytes = rw (is_less 0 (length pairs) bytes, number, is_less address (2 ^ 64) word) refl
+
 address_is : (line digits pairs : List ℕ) (address : ℕ) → digits_in_line line ≡ Some (record { address = digits; bytes = pairs }) → digits_value 16 digits ≡ address →
     address < 2 ^ 64 → 0 < length pairs → address_of line ≡ Some address
 unfolding address_of
-address_is line digits pairs address read number word bytes = rw (read, is_less 0 (length pairs) bytes, number, is_less address (2 ^ 64) word) refl
+address_is line digits pairs address read number word bytes = ap (option_and_then address_behind) read ∙ behind_is digits pairs address number word bytes
 
 -- ---- the text
 
@@ -87,7 +92,9 @@ text_is (byte ∷ rest) some = refl
 
 bar_from : (rest : List ℕ) (found : Option (List ℕ)) → after_byte 124 rest ≡ found → 0 < length (without_end (behind is_blank (unwrap_or found []))) →
     rest ≡ 124 ∷ unwrap_or found []
-bar_from rest None is some = absurd (omega (arith, some))
+bar_from rest None is some =
+    let none : 0 < 0 = some in
+    absurd (omega (arith, none))
 bar_from rest (Some comment) is some = after_byte_some 124 rest comment is
 
 bar_found : (line : List ℕ) → 0 < length (text_of line) → line ≡ take_while is_before_bar line ++ (124 ∷ comment_of line)
@@ -100,6 +107,12 @@ comment_is : (line head comment : List ℕ) → line ≡ head ++ (124 ∷ commen
 comment_is line head comment bar first =
     ap (λ xs. unwrap_or (after_byte 124 xs) []) (ap (behind is_before_bar) bar ∙ behind-run is_before_bar head (124 ∷ comment) first refl)
 
+text_of_is : (line head comment text : List ℕ) → line ≡ head ++ (124 ∷ comment) → list_all is_before_bar head ≡ true → 0 < length text → IsBetween comment text →
+    text_of line ≡ text
+unfolding text_of
+text_of_is line head comment text bar first some between =
+    ap (λ xs. without_end (behind is_blank xs)) (comment_is line head comment bar first) ∙ between_is comment text some between
+
 -- ---- both
 
 parts_of : (address : ℕ) (found : Option ℕ) (shown : Option (List ℕ)) (text : List ℕ) →
@@ -110,6 +123,10 @@ parts_of address (Some own) shown text e = by (nat_eq own address) refl e
     by : (b : Bool) → nat_eq own address ≡ b → (if b then shown else None) ≡ Some text → (Some own ≡ Some address) × (shown ≡ Some text)
     by true is said = (ap (λ n. Some n) (same_number own address is), said)
     by false is said = absurd (none-some text said)
+
+text_at_parts : (address : ℕ) (line text : List ℕ) → text_at address line ≡ Some text → (address_of line ≡ Some address) × (some_text (text_of line) ≡ Some text)
+unfolding text_at
+text_at_parts address line text e = parts_of address (address_of line) (some_text (text_of line)) text e
 
 lists_from : (address : ℕ) (line text : List ℕ) → HasAddress line address → text_of line ≡ text → 0 < length text → Lists address line text
 unfolding text_of
@@ -130,15 +147,13 @@ lists_from address line text h own some =
     }
 
 pub lists_by_form : ListsByForm
-unfolding text_at text_of
 lists_by_form address line text = (
   λ e.
-      let parts = parts_of address (address_of line) (some_text (text_of line)) text e in
+      let parts = text_at_parts address line text e in
       let own = text_found (text_of line) text parts.1 in
       lists_from address line text (address_found line address parts.0) own.0 own.1,
   λ h.
-      let own : text_of line ≡ text =
-      ap (λ xs. without_end (behind is_blank xs)) (comment_is line h.head h.comment h.bar h.first) ∙ between_is h.comment text h.some h.between in
+      let own = text_of_is line h.head h.comment text h.bar h.first h.some h.between in
       let found = address_is line h.digits h.pairs address (form_read line h.digits h.pairs h.form) h.number h.word h.bytes in
-      rw (found, own, number_same address) (text_is text h.some),
+      lists_text address address line text found (ap some_text own ∙ text_is text h.some) ∙ ap (λ b. cond b (Some text) None) (number_same address),
 )
