@@ -87,25 +87,30 @@ listed_none : (address : ℕ) → listed_in address [] ≡ None
 unfolding listed_in
 listed_none address = refl
 
--- the texts of a table that the lines of a text don't change, and else theirs
-abbrev pub Over : List ℕ → (ℕ → Option (List ℕ)) → (ℕ → Option (List ℕ)) → Type 0
-Over rest before all = (address : ℕ) → option_or (listed_in address (lines rest)) (before address) ≡ all address
+-- what the rest of an object text lists, and else what was listed before it, is all that is listed
+pub record Over (rest : List ℕ) (before all : ℕ → Option (List ℕ)) : Type 0 where
+  pub told : (address : ℕ) → option_or (listed_in address (lines rest)) (before address) ≡ all address
 
 pub over_begins : (object : List ℕ) (before : ℕ → Option (List ℕ)) → ((address : ℕ) → before address ≡ None) → Over object before (listed object)
-over_begins object before none address = ap (option_or (listed_in address (lines object))) (none address) ∙ or_none (listed_in address (lines object))
+over_begins object before none =
+    record { told = λ address. ap (option_or (listed_in address (lines object))) (none address) ∙ or_none (listed_in address (lines object)) }
 
 pub over_more : (rest line behind : List ℕ) (before after all : ℕ → Option (List ℕ)) → lines rest ≡ line ∷ lines behind →
     ((address : ℕ) → after address ≡ option_or (text_at address line) (before address)) → Over rest before all → Over behind after all
-over_more rest line behind before after all parts put over address =
-    ap (option_or (listed_in address (lines behind))) (put address)
-    ∙ or_or (listed_in address (lines behind)) (text_at address line) (before address)
-    ∙ ap (λ x. option_or x (before address)) (sym (listed_more address line (lines behind)))
-    ∙ ap (λ ls. option_or (listed_in address ls) (before address)) (sym parts)
-    ∙ over address
+over_more rest line behind before after all parts put over =
+    record {
+      told = λ address. ap (option_or (listed_in address (lines behind))) (put address)
+          ∙ or_or (listed_in address (lines behind)) (text_at address line) (before address)
+          ∙ ap (λ x. option_or x (before address)) (sym (listed_more address line (lines behind)))
+          ∙ ap (λ ls. option_or (listed_in address ls) (before address)) (sym parts)
+          ∙ over.told address;
+    }
 
 pub over_ends : (rest : List ℕ) (before all : ℕ → Option (List ℕ)) → rest ≡ [] → Over rest before all → (address : ℕ) → before address ≡ all address
 over_ends rest before all none over address =
-    ap (λ x. option_or x (before address)) (sym (listed_none address)) ∙ ap (λ (text : List ℕ). option_or (listed_in address (lines text)) (before address)) (sym none) ∙ over address
+    ap (λ x. option_or x (before address)) (sym (listed_none address))
+    ∙ ap (λ (text : List ℕ). option_or (listed_in address (lines text)) (before address)) (sym none)
+    ∙ over.told address
 
 -- ---- which line it is
 
