@@ -1,5 +1,5 @@
 -- The table of what an object text lists, line by line.
-use Rattle.std.proofs.Common.{◌≡◌, ℕ, ◌+◌, Bool, true, false, cond, List, [], ◌∷◌, ◌++◌, Option, None, Some, refl, sym, ap, ◌∙◌}
+use Rattle.std.proofs.Common.{◌≡◌, ℕ, Bool, true, false, cond, List, [], ◌∷◌, Option, None, Some, refl, sym, ap, ◌∙◌}
 use Rattle.std.specs.Prelude.{Vec, nat_eq, option_and_then}
 use Rattle.std.specs.Map.{lookup}
 use Rattle.std.specs.Option.{option_map, option_or}
@@ -65,9 +65,9 @@ module _ {A : Type 0} where
       ∙ items_if (nat_eq own address) copy (lookup (nat_eq address) before)
       ∙ ap (λ t. cond (nat_eq own address) (Some t) (text_in before address)) is
 
-  pub none_in : (address : ℕ) → text_in {A = A} [] address ≡ None
+  pub none_in : (entries : List (ℕ × Vec ℕ A)) → entries ≡ [] → (address : ℕ) → text_in entries address ≡ None
   unfolding text_in
-  none_in address = refl
+  none_in entries e address = rw e refl
 
 -- ---- all lines
 

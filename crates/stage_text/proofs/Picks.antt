@@ -1,10 +1,9 @@
 -- What a term picks, and its value.
-use Rattle.std.proofs.Common.{◌≡◌, ◌≢◌, ℕ, zero, suc, ◌+◌, ◌-◌, ◌<◌, Bool, true, false, not, if◌then◌else◌, List, [], ◌∷◌, map, length, drop, get_or, slice_get, Option, None, Some, refl, sym, ap, ◌∙◌, arith}
+use Rattle.std.proofs.Common.{◌≡◌, ℕ, ◌+◌, ◌<◌, Bool, true, false, not, if◌then◌else◌, List, [], ◌∷◌, map, length, drop, get_or, slice_get, Option, None, Some, refl, sym, ap, ◌∙◌, arith}
 use Rattle.std.specs.Prelude.{nat_eq, option_and_then}
 use Rattle.std.proofs.lemmas.Bool.Decides.{nat_tests}
 use Rattle.std.proofs.lemmas.List.{drop_more}
 use Rattle.std.proofs.lemmas.Option.{none-some}
-use Rattle.y86_base.specs.declared.parts.Variant.{Variant}
 use Rattle.hcl_read.specs.declared.tree.CmpOp.{CmpOp}
 use Rattle.hcl_types.specs.Lists.{Each}
 use Rattle.hcl_types.specs.Terms.{branch_value, names, picked, value, words}
@@ -14,10 +13,9 @@ use Rattle.hcl_types.specs.declared.term.TermBranch.{TermBranch}
 use Rattle.hcl_types.proofs.Related.{Alike, related}
 use Rattle.hcl_types.proofs.Values.{value_And, value_Case, value_Cmp, value_In, value_Name, value_Not, value_Num, value_Or, value_branch}
 use Rattle.dp_signals.specs.Equations.{defined_value, rule_of, term_value}
-use Rattle.dp_signals.specs.PipeEquations.{Solves, constants, given, state_words}
+use Rattle.dp_signals.specs.PipeEquations.{constants, given, state_words}
 use Rattle.dp_signals.specs.PipeNames as row
-use Rattle.dp_signals.specs.declared.pipe_state.PipeState.{PipeState}
-use Rattle.stage_text.specs.Picked.{HasItsSource, Pick, PicksByTerms, PicksTheValue, by_name, name_picked, picked_name, picks}
+use Rattle.stage_text.specs.Picked.{HasItsSource, Pick, PicksByTerms, PicksTheValue, by_name, picked_name, picks}
 
 some_is : (x y : ℕ) → Some x ≡ Some y → x ≡ y
 some_is x y e = cc

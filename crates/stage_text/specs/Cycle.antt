@@ -7,7 +7,7 @@ use Rattle.dp_signals.specs.PipeNames as row
 use Rattle.dp_signals.specs.Values.{set}
 use Rattle.dp_signals.specs.declared.pipe_state.PipeState.{PipeState}
 use Rattle.stage_text.specs.Instruction.{instruction}
-use Rattle.stage_text.specs.Numbers.{address, number_pair, register_pair, status_pair, word_pair}
+use Rattle.stage_text.specs.Numbers.{address, number_pair, register_pair, status_pair, text_pair, word_pair}
 use Rattle.stage_text.specs.Picked.{Sources}
 use Rattle.stage_text.specs.declared.held.Held.{Held}
 use Rattle.stage_text.specs.declared.watch.Watch.{Watch}
@@ -31,14 +31,18 @@ tail h = codes " | " ++ (instruction h ++ codes "\n")
 
 -- ---- the stages
 
+unfoldable pub fetch_words : PipeState → (ℕ → ℕ) → List ℕ
+fetch_words p f =
+    word_pair (codes " F_predPC ") p.pred_pc
+    ++ (word_pair (codes " f_valC ") (f row.f_valC)
+    ++ (word_pair (codes " f_valP ") (f row.f_valP) ++ word_pair (codes " f_predPC ") (f row.f_predPC)))
+
+unfoldable pub fetch_source : Sources → List ℕ
+fetch_source from = text_pair (codes " f_pc_from ") from.pc
+
 unfoldable pub fetch_line : Held → PipeState → (ℕ → ℕ) → Sources → List ℕ
 fetch_line h p f from =
-    head (codes "F") h (set (f row.F_stall)) (set (f row.F_bubble)) (f row.f_stat)
-    ++ (word_pair (codes " F_predPC ") p.pred_pc
-    ++ (word_pair (codes " f_valC ") (f row.f_valC)
-    ++ (word_pair (codes " f_valP ") (f row.f_valP)
-    ++ (word_pair (codes " f_predPC ") (f row.f_predPC)
-    ++ (codes " f_pc_from " ++ (from.pc ++ tail h))))))
+    head (codes "F") h (set (f row.F_stall)) (set (f row.F_bubble)) (f row.f_stat) ++ (fetch_words p f ++ (fetch_source from ++ tail h))
 
 unfoldable pub decode_fields : PipeState → List ℕ
 decode_fields p =
@@ -54,7 +58,7 @@ decode_signals f =
     ++ (word_pair (codes " d_valA ") (f row.d_valA) ++ word_pair (codes " d_valB ") (f row.d_valB)))))
 
 unfoldable pub decode_sources : Sources → List ℕ
-decode_sources from = codes " d_valA_from " ++ (from.val_a ++ (codes " d_valB_from " ++ from.val_b))
+decode_sources from = text_pair (codes " d_valA_from ") from.val_a ++ text_pair (codes " d_valB_from ") from.val_b
 
 unfoldable pub decode_line : Held → PipeState → (ℕ → ℕ) → Sources → List ℕ
 decode_line h p f from =

@@ -9,7 +9,8 @@ ghost use Rattle.stage_text.specs.Picked.{sources_in};
 use crate::held::Held;
 use crate::instruction::put_instruction;
 use crate::numbers::{
-    put, put_address, put_number_pair, put_register_pair, put_status_pair, put_word_pair,
+    put, put_address, put_number_pair, put_register_pair, put_status_pair, put_text_pair,
+    put_word_pair,
 };
 use crate::picked::Sources;
 use crate::watch::Watch;
@@ -76,6 +77,22 @@ fn put_tail(out: &mut Vec<u8>, held: &Held) -> Result<(), Memory>
     put(out, b"\n")
 }
 
+#[tactic(auto, unfolding(crate::specs::Cycle::fetch_words))]
+fn put_fetch_words(out: &mut Vec<u8>, p: &PipeState, values: &PipeValues) -> Result<(), Memory>
+    ensures { OnOk result (out.new.items ≡ out.old.items ++ text.fetch_words p.now (at values.now)) }
+{
+    put_word_pair(out, b" F_predPC ", p.pred_pc)?;
+    put_word_pair(out, b" f_valC ", at(values, row::F_VAL_C))?;
+    put_word_pair(out, b" f_valP ", at(values, row::F_VAL_P))?;
+    put_word_pair(out, b" f_predPC ", at(values, row::F_PRED_PC))
+}
+
+fn put_fetch_source(out: &mut Vec<u8>, sources: &Sources<'_>) -> Result<(), Memory>
+    ensures { OnOk result (out.new.items ≡ out.old.items ++ text.fetch_source (sources_in sources.now)) }
+{
+    put_text_pair(out, b" f_pc_from ", sources.pc)
+}
+
 #[tactic(auto, unfolding(crate::specs::Cycle::fetch_line))]
 fn put_fetch(
     out: &mut Vec<u8>,
@@ -94,12 +111,8 @@ fn put_fetch(
         at(values, row::F_BUBBLE),
         at(values, row::F_STAT),
     )?;
-    put_word_pair(out, b" F_predPC ", p.pred_pc)?;
-    put_word_pair(out, b" f_valC ", at(values, row::F_VAL_C))?;
-    put_word_pair(out, b" f_valP ", at(values, row::F_VAL_P))?;
-    put_word_pair(out, b" f_predPC ", at(values, row::F_PRED_PC))?;
-    put(out, b" f_pc_from ")?;
-    put(out, sources.pc)?;
+    put_fetch_words(out, p, values)?;
+    put_fetch_source(out, sources)?;
     put_tail(out, fetch)
 }
 
@@ -125,14 +138,11 @@ fn put_decode_signals(out: &mut Vec<u8>, values: &PipeValues) -> Result<(), Memo
     put_word_pair(out, b" d_valB ", at(values, row::D_VAL_B))
 }
 
-#[tactic(auto, unfolding(crate::specs::Cycle::decode_sources))]
 fn put_decode_sources(out: &mut Vec<u8>, sources: &Sources<'_>) -> Result<(), Memory>
     ensures { OnOk result (out.new.items ≡ out.old.items ++ text.decode_sources (sources_in sources.now)) }
 {
-    put(out, b" d_valA_from ")?;
-    put(out, sources.val_a)?;
-    put(out, b" d_valB_from ")?;
-    put(out, sources.val_b)
+    put_text_pair(out, b" d_valA_from ", sources.val_a)?;
+    put_text_pair(out, b" d_valB_from ", sources.val_b)
 }
 
 #[tactic(auto, unfolding(crate::specs::Cycle::decode_line))]

@@ -4,7 +4,7 @@ use Rattle.stage_text.proofs.listed.listing_of.Goals as goal
 
 pub loop-line-init : goal.loop-line-init
 loop-line-init c =
-    over_begins _ (text_in c.new-listing.result.entries) (λ address. rw c.new-listing.ensures.empty (none_in address))
+    over_begins _ (text_in c.new-listing.result.entries) (none_in c.new-listing.result.entries c.new-listing.ensures.empty)
 
 pub loop-line-preserved : goal.loop-line-preserved
 loop-line-preserved c = over_more _ _ _ _ _ _ c.in-Some.ensures.lines c.in-Ok.ensures c.loop-line.invariant
