@@ -21,6 +21,9 @@ LOAD_USE = {
     5: ["F halt at 0x00d", "D halt at 0x00c", "E addq %rax, %rax at 0x00a", "M bubble", "W mrmovq 16(%rdi), %rax at 0x000"],
 }
 WAITS = "Load/use: addq %rax, %rax waits in D for %rax, which mrmovq 16(%rdi), %rax in E has still to load. A bubble goes into E."
+# What D picks there, once the load is in M.
+FORWARDED = ["addq %rax, %rax gets %rax = 0x5 forwarded as d_valA from m_valM, of mrmovq 16(%rdi), %rax in M.",
+    "addq %rax, %rax gets %rax = 0x5 forwarded as d_valB from m_valM, of mrmovq 16(%rdi), %rax in M."]
 
 
 class Rows:
@@ -74,7 +77,8 @@ class Rows:
         for cycle, wanted in LOAD_USE.items():
             self.page.open(path, f"#cycle={cycle}")
             self.check(f"load/use, cycle {cycle}", self.page.value(BOXES), wanted)
-            self.check(f"load/use, told in cycle {cycle}", WAITS in self.page.value(TOLD), cycle == 3)
+            told = self.page.value(TOLD)
+            self.check(f"load/use, told in cycle {cycle}", (WAITS in told, [it for it in told if it in FORWARDED]), (cycle == 3, FORWARDED if cycle == 4 else []))
         self.page.value("document.getElementById('slider').value = 4; document.getElementById('slider').dispatchEvent(new Event('input'))")
         self.check("the slider moves", self.page.value(BOXES), LOAD_USE[4])
         self.page.value("document.getElementById('back').click()")
@@ -83,6 +87,16 @@ class Rows:
         self.check("a click on the diagram moves", self.page.value(BOXES), LOAD_USE[5])
         self.page.press("End")
         self.check("the last cycle says how it ends", self.page.value(TOLD)[-1], "The run ends with HLT.")
+
+    def listed(self):
+        """A row has the text of the object file at its address: as a text, whatever stands in it."""
+        text = "</script><b>get</b> &amp; \"it\" `${1}` \\u003c -->"
+        path = f"{self.room}/listed.yo"
+        with open(path, "w", encoding="utf-8") as it:
+            it.write(f"0x000: 10 | {text}\n0x001: 00 |\n")
+        self.page.open(self.made(f"{EXAMPLES}/std.hcl", path))
+        self.check("what is listed", self.page.value('[...document.querySelectorAll(".name")].map((it) => it.textContent)')[1:3], [f"0x000 nop{text}", "0x001 halt"])
+        self.check("it is a text", self.page.value('document.querySelectorAll(".name b, .name script").length'), 0)
 
     def whole_run(self, hcl, name):
         """Goes through a run by its keys: each cycle shows what the program says, and the last one the words that `psim` ends with."""
@@ -125,6 +139,7 @@ def main():
         rows.no()
         if os.access(programs[1], os.X_OK):
             rows.load_use()
+            rows.listed()
             rows.whole_run("std", "asum")
             rows.whole_run("nb", "jump")
         else:

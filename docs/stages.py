@@ -4,9 +4,11 @@
     python3 docs/stages.py Y86_STAGES Y86
 
 `Y86`, the program `y86`, assembles the programs. The hazards are those of CS:APP 3e, sections 4.5.5 and 4.5.8, under forwarding (std.hcl) and without it
-(nb.hcl). Then: how a run may end, the words, the files that are refused, and the examples of docs/STAGES.md.
+(nb.hcl). Then: how a run may end, what the object file lists at an address, where words come from by the picks of the file, the words of a call, the files
+that are refused, and the examples of docs/STAGES.md.
 """
 import os
+import re
 import subprocess
 import sys
 import tempfile
@@ -191,6 +193,90 @@ FAULT = """
 end ADR cycles 6 retired 2
 """
 
+# Two lines at one address, a label without bytes, lines without a text and without a bar, an address with one digit, a bar in a text, blanks at both ends.
+LISTED = """
+0x000: 6000                 | addq %rax, %rax  # the first
+0x000: 6000                 | \t main:  addq %rax, %rax  # get it \t\r
+0x002:                      | next:
+0x002: 10                   |
+0x003: 10
+  0x4: 10                   |nop # one | two
+0x005: 00                   | halt
+0x005: 00                   |  \t
+                            | # a comment
+0x006:                      | .pos 6
+"""
+
+LISTED_ROWS = """
+  F  D  E  M  W             | 0x000 addq %rax, %rax | main:  addq %rax, %rax  # get it
+     F  D  E  M  W          | 0x002 nop
+        F  D  E  M  W       | 0x003 nop
+           F  D  E  M  W    | 0x004 nop | nop # one | two
+              F  D  E  M  W | 0x005 halt | halt
+                 F  D  e    | 0x006 halt
+                    F  D  E | 0x007 halt
+                       F  D | 0x008 halt
+                          M | bubble
+                          F | 0x009 halt
+end HLT cycles 9 retired 5
+"""
+
+# The store writes zeros over the nop at 0x017, which the listing still has.
+WRITTEN_OVER = """
+0x000: 30f31700000000000000 | irmovq $23, %rbx
+0x00a: 40130000000000000000 | rmmovq %rcx, (%rbx)
+0x014: 10                   | nop
+0x015: 10                   | nop
+0x016: 10                   | nop
+0x017: 10                   | nop
+"""
+
+WRITTEN_OVER_ROWS = """
+  F  D  E  M  W                | 0x000 irmovq $23, %rbx | irmovq $23, %rbx
+     F  D  E  M  W             | 0x00a rmmovq %rcx, 0(%rbx) | rmmovq %rcx, (%rbx)
+        F  D  E  M  W          | 0x014 nop | nop
+           F  D  E  M  W       | 0x015 nop | nop
+              F  D  E  M  W    | 0x016 nop | nop
+                 F  D  E  M  W | 0x017 halt | nop
+                    F  D  e    | 0x018 halt
+                       F  D  E | 0x019 halt
+                          F  D | 0x01a halt
+                             M | bubble
+                             F | 0x01b halt
+end HLT cycles 10 retired 6
+"""
+
+# Each place from which d_valA and d_valB can come under std.hcl.
+FORWARDED = """
+    irmovq $64, %rsi
+    irmovq $3, %rax
+    addq %rax, %rsi
+    nop
+    nop
+    addq %rsi, %rax
+    mrmovq data(%rdx), %rcx
+    nop
+    addq %rcx, %rdx
+    mrmovq data(%rbx), %rbp
+    nop
+    nop
+    addq %rbp, %rbx
+    addq %rcx, %rdi
+    halt
+    .align 8
+data:
+    .quad 5
+"""
+
+# By the address of what stands in D: the irmovq before it is in E and the one before that in M; the addq is in W; the load is in M, and in W; and none is.
+SOURCES = {
+    "0x014": ("e_valE", "M_valE"),
+    "0x018": ("W_valE", "d_rvalB"),
+    "0x025": ("m_valM", "d_rvalB"),
+    "0x033": ("W_valM", "d_rvalB"),
+    "0x035": ("d_rvalA", "d_rvalB"),
+}
+
 LIMIT = f"""
   F  D  E | {LOAD}
      F  D | 0x00a addq %rax, %rax
@@ -215,7 +301,7 @@ class Runs:
     def assembled(self, name, text):
         self.write(f"{name}.ys", text)
         run = subprocess.run([self.y86, "yas", f"{name}.ys"], cwd=self.folder, stdout=subprocess.PIPE, check=True)
-        self.write(f"{name}.yo", run.stdout.decode())
+        self.write(f"{name}.yo", without_texts(run.stdout.decode()))
 
     def check(self, what, got, wanted):
         if got == wanted:
@@ -237,10 +323,16 @@ class Runs:
         self.check(f"{what} under {design}.hcl", (got, out, err), (status, head + rows, ""))
 
 
+def without_texts(object_text):
+    """An object file that lists nothing: what stands behind each bar is cut."""
+    return re.sub(r"\|.*", "|", object_text)
+
+
 def examples(runs):
     for name in ("std.hcl", "nb.hcl", "both.hcl", "load_use.yo", "both.yo", "fault.yo"):
         with open(f"{HERE}/examples/{name}", encoding="utf-8") as file:
-            runs.write(name, file.read())
+            text = file.read()
+        runs.write(name, without_texts(text) if name.endswith(".yo") else text)
     for name, text in (("ret", RET), ("jump", JUMP), ("a", COMBINATION_A), ("b", COMBINATION_B)):
         runs.assembled(name, text)
 
@@ -270,6 +362,48 @@ def ends(runs):
     runs.check("a store", (status, out.splitlines()[-3:-1]), (0, ["write %rsp 0x100", "store 0x0f8 0x13"]))
 
 
+def listings(runs):
+    """What the object file lists at each address, as it is written in the file."""
+    runs.write("listed.yo", LISTED)
+    runs.diagram("what is listed", "std", "listed", LISTED_ROWS, 0)
+    runs.write("written_over.yo", WRITTEN_OVER)
+    runs.diagram("a nop that is written over", "std", "written_over", WRITTEN_OVER_ROWS, 0)
+
+
+def told(out, stage, key):
+    """By the address of what stands in a stage, what the lines say of a key; an address that comes again has the later one."""
+    return {at: value for at, value in re.findall(rf"^{stage} row \d+ at (0x\w+) .* {key} (\S+).* \| ", out, re.M)}
+
+
+def picks(runs):
+    """Where d_valA, d_valB and f_pc come from, by the picks of the file."""
+    runs.assembled("forwarded", FORWARDED)
+    out = runs.run("std.hcl", "forwarded.yo")[1]
+    found = {at: (told(out, "D", "d_valA_from")[at], told(out, "D", "d_valB_from")[at]) for at in SOURCES}
+    runs.check("each place of forwarding", found, SOURCES)
+    runs.check("the PC that was predicted", set(told(out, "F", "f_pc_from").values()), {"F_predPC"})
+    out = runs.run("std.hcl", "ret.yo", "--from", "3", "--to", "7")[1]
+    runs.check("a call goes on with valP, and has its %rsp from the irmovq in E", re.findall(r"d_valA_from (\S+) d_valB_from (\S+) \| call", out), [("D_valP", "e_valE")])
+    runs.check("a ret in W tells the PC", re.findall(r"f_pc_from (\S+)", out), ["F_predPC"] * 4 + ["W_valM"])
+    out = runs.run("std.hcl", "jump.yo", "--from", "4", "--to", "6")[1]
+    runs.check("a jump that isn't taken tells it from M", re.findall(r"f_pc_from (\S+)", out), ["F_predPC", "M_valA", "F_predPC"])
+    out = runs.run("nb.hcl", "load_use.yo")[1]
+    runs.check("a definition that is a name", set(re.findall(r"d_valB_from (\S+)", out)), {"d_rvalB"})
+    with open(f"{runs.folder}/nb.hcl", encoding="utf-8") as file:
+        text = re.sub(r"word d_val[AB] = .*?;(?= *\n *\n)", "", file.read(), flags=re.S)
+    for what, definition, wanted in (
+        ("a number", "5", "-"),
+        ("a number behind a guard", "[ 0 : d_rvalB; 1 : 5; ]", "-"),
+        ("no guard that holds", "[ 0 : d_rvalB; ]", "-"),
+        ("the first of two guards that hold", "[ 0 : D_valC; 2 == 2 : D_valP; 1 : d_rvalB; ]", "D_valP"),
+        ("a case list in a case list", "[ 0 : D_valC; 1 : [ 0 : D_valP; 1 : d_rvalB; ]; ]", "d_rvalB"),
+        ("a constant", "RRSP", "RRSP"),
+    ):
+        runs.write("picks.hcl", f"{text}\nword d_valA = d_rvalA;\nword d_valB = {definition};\n")
+        _, out, err = runs.run("picks.hcl", "load_use.yo", "--to", "1")
+        runs.check(f"{what} is picked", (re.findall(r"d_valA_from (\S+) d_valB_from (\S+)", out), err), ([("d_rvalA", wanted)], ""))
+
+
 def refusals(runs):
     usage = (2, "", USAGE)
     for words in ((), ("std.hcl",), ("std.hcl", "a.yo", "--trace"), ("std.hcl", "a.yo", "--checked"), ("std.hcl", "a.yo", "--from"), ("std.hcl", "a.yo", "--to", "0"),
@@ -290,8 +424,8 @@ def refusals(runs):
 def page(runs):
     with open(f"{HERE}/docs/STAGES.md", encoding="utf-8") as file:
         blocks = file.read().split("```")[1::2]
-    _, lines, _ = runs.run("std.hcl", "load_use.yo")
-    _, diagram, _ = runs.run("std.hcl", "load_use.yo", "--diagram")
+    _, lines, _ = runs.run("std.hcl", f"{HERE}/examples/load_use.yo")
+    _, diagram, _ = runs.run("std.hcl", f"{HERE}/examples/load_use.yo", "--diagram")
     runs.check("the lines of the page", (blocks[0].strip() + "\n" in lines, blocks[2].strip() + "\n" in lines), (True, True))
     runs.check("the diagram of the page", blocks[3].strip("\n") + "\n", diagram)
 
@@ -305,6 +439,8 @@ def main():
         examples(runs)
         hazards(runs)
         ends(runs)
+        listings(runs)
+        picks(runs)
         refusals(runs)
         page(runs)
     print(f"{runs.passed} passed, {runs.failed} failed")

@@ -73,7 +73,7 @@ def run(path, object_path, given):
         "end": end,
         "heads": HEADS,
         "memory": stored,
-        "rows": [{"letters": letters, "text": text} for letters, text in rows],
+        "rows": [{"letters": letters, "text": what, "listed": listed} for letters, what, listed in rows],
         "cycles": [
             {
                 "boxes": {name: {"row": int(it.row), "at": it.at, "next": it.next, "stat": it.stat, "text": it.text, "fields": it.fields} for name, it in cycle.stages.items()},

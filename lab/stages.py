@@ -1,8 +1,7 @@
 """What `y86-stages` prints (docs/STAGES.md): its cycles and its diagram, and what happens in a cycle, in words."""
 import re
 
-# Where a word comes from that isn't written yet: the stage, whose register it is, and the name of the word in the file; the youngest first.
-FORWARDS = [("E", "e_dstE", "e_valE"), ("M", "dstM", "m_valM"), ("M", "dstE", "valE"), ("W", "dstM", "valM"), ("W", "dstE", "valE")]
+CONDITIONAL = re.compile(r"j(?!mp)\w+ ")
 
 
 class Stage:
@@ -66,22 +65,18 @@ class Cycle:
         for stage in "DEM":
             if self[stage].text == "ret" and self["D"].next == "bubble":
                 return [f"A ret is in {stage}, and its address isn't read yet: what is fetched at {F.at} is fetched in vain, and a bubble goes into D."]
-        for stage, word in (("M", "m_valM"), ("W", "valM")):
-            if self[stage].text == "ret" and same(self[stage][word], F.at):
-                return [f"The ret in {stage} has read where it returns to: the fetch goes on at {F.at}."]
-        return []
+        stage = holder(F["f_pc_from"])
+        return [f"The ret in {stage} has read where it returns to: the fetch goes on at {F.at}."] if stage in "EMW" and self[stage].text == "ret" else []
 
     def jumps(self):
-        E, M, F = self["E"], self["M"], self["F"]
-        conditional = re.compile(r"j(?!mp)\w+ ")
-        if conditional.match(E.text) and self["E"].next == "bubble" and self["D"].next != "stall":
+        E, F, said = self["E"], self["F"], []
+        if CONDITIONAL.match(E.text) and self["E"].next == "bubble" and self["D"].next != "stall":
             does = "is taken" if E["e_Cnd"] == "1" else "isn't taken"
-            return [f"Mispredicted: {E.text} in E {does}, so what was fetched behind it goes no further, and bubbles take its place."]
-        if conditional.match(M.text) and self["M"].next != "stall":
-            goes = M["valA"] if M["Cnd"] == "0" else M["valE"]
-            older = same(goes, F.at) and not same(self["F"]["F_predPC"], F.at)
-            return [f"{M.text} in M was mispredicted, so the fetch goes on at {F.at} and not at F_predPC."] if older else []
-        return []
+            said.append(f"Mispredicted: {E.text} in E {does}, so what was fetched behind it goes no further, and bubbles take its place.")
+        stage = holder(F["f_pc_from"])
+        if stage in "EM" and CONDITIONAL.match(self[stage].text):
+            said.append(f"{self[stage].text} in {stage} was mispredicted, so the fetch goes on at {F.at} and not at F_predPC.")
+        return said
 
     def stopping(self):
         for stage in "WM":
@@ -93,26 +88,21 @@ class Cycle:
         return []
 
     def forwarded(self):
-        """What D gets from the stages ahead of it, where it goes on and the words agree."""
+        """What D gets from the stages ahead of it, where it goes on: what the file picks there."""
         D, said = self["D"], []
         if D.is_bubble or self["E"].next != "load" or D.next == "stall":
             return []
         for read, value in (("d_srcA", "d_valA"), ("d_srcB", "d_valB")):
-            register = D[read]
-            source = next(((self[it], it, word) for it, to, word in FORWARDS if register != "-" and self[it][to] == register and not self[it].is_bubble), None)
-            if source and same(source[0][source[2]], D[value]):
-                older, stage, word = source
-                name = word if word[:2] in ("e_", "m_") else f"{stage}_{word}"
-                said.append(f"{D.text} gets {register} = {D[value]} forwarded as {value} from {name}, of {older.text} in {stage}.")
+            name = D[f"{value}_from"]
+            stage = holder(name)
+            if D[read] != "-" and stage in "EMW" and not self[stage].is_bubble:
+                said.append(f"{D.text} gets {D[read]} = {D[value]} forwarded as {value} from {name}, of {self[stage].text} in {stage}.")
         return said
 
 
-def same(left, right):
-    """Whether two words are the same number, however many zeros they are written with."""
-    try:
-        return int(left, 16) == int(right, 16)
-    except ValueError:
-        return False
+def holder(name):
+    """The stage that has the word of a name, as `m_valM` and `M_valE` are M's; `F` where that can't be told."""
+    return name[0].upper() if name[1:2] == "_" and name[0].upper() in "DEMW" else "F"
 
 
 def cycles(text):
@@ -131,10 +121,11 @@ def cycles(text):
 
 
 def diagram(text):
-    """The rows of a diagram: the letter of each column, blank where there is none, and what stands behind."""
+    """The rows of a diagram: the letter of each column, blank where there is none, what the row is, and what the object file lists there."""
     rows = []
-    for line in text.splitlines():
+    for line in text.split("\n"):
         letters, mark, rest = line.partition(" | ")
         if mark:
-            rows.append((letters[2::3], rest))
+            what, _, listed = rest.partition(" | ")
+            rows.append((letters[2::3], what, listed))
     return rows

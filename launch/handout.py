@@ -14,11 +14,11 @@ DOCS = ("COMMANDS.md", "HCL.md", "OBLIGATIONS.md", "THEOREM.md", "ASSEMBLY.md", 
 README = """\
 # y86
 
-The program `y86` of the Y86-64 workbench, proved and built, for a class that works with Y86-64 programs and processors: nothing has to be proved,
-built or installed here. It runs on Linux on x86-64 and needs the C library alone{libc}:
+The Y86-64 workbench, proved and built, for a class that works with Y86-64 programs and processors: nothing has to be proved, built or installed here.
+It runs on Linux on x86-64 and needs the C library alone{libc}:
 
     ./y86 yis examples/asum.yo
-    ./y86 check pipe examples/std.hcl
+    ./y86 check pipe examples/std.hcl{calls}
 
 `examples/` has programs and the control logic of processors.{more}
 
@@ -26,13 +26,15 @@ built or installed here. It runs on Linux on x86-64 and needs the C library alon
 
 {proved}
 
-The {crates} crates that the program stands on were proved on {date}{toolchain}, from {commit}.
+The {crates} crates that it stands on were proved on {date}{toolchain}, from {commit}.
 
-## Whether this is that program
+## Whether this is what was built
 
-    $ sha256sum y86
-    {sum}  y86
+    $ sha256sum {names}
+    {sums}
 """
+# What the README shows of a program besides.
+CALLS = {"y86-stages": "\n    ./y86-stages examples/std.hcl examples/load_use.yo --diagram"}
 
 
 def said_by(words, here):
@@ -79,51 +81,57 @@ def what_is_proved(here):
     return re.sub(r"\[([^]]*)\]\([^)]*\)", r"\1", "\n".join(points))
 
 
-def libc_of(program):
-    """Returns the least version of the GNU C library that has what the program calls, in words."""
-    with open(program, "rb") as it:
-        versions = [tuple(map(int, found.split(b"."))) for found in re.findall(rb"\0GLIBC_(\d+\.\d+(?:\.\d+)?)(?=\0)", it.read())]
+def bytes_of(file):
+    with open(file, "rb") as it:
+        return it.read()
+
+
+def libc_of(files):
+    """Returns the least version of the GNU C library that has what the programs call, in words."""
+    found = [it for file in files for it in re.findall(rb"\0GLIBC_(\d+\.\d+(?:\.\d+)?)(?=\0)", bytes_of(file))]
+    versions = [tuple(map(int, it.split(b"."))) for it in found]
     return f" (GNU's, {'.'.join(map(str, max(versions)))} or later)" if versions else ""
 
 
-def readme(here, program, built, files):
+def readme(here, programs, built, files):
     more = ""
     if any(it.endswith(".md") for it in files):
         more += " `docs/` has the pages: " + ", ".join(f"[{it[5:-3]}]({it})" for it in files if it.startswith("docs/") and it.endswith(".md")) + "."
     if any(it.startswith("lab/") for it in files):
         more += " `lab/` has scripts for a student's evening and a teacher's class, which need Python 3."
-    toolchain = toolchain_of(here, built)
-    with open(built, "rb") as it:
-        sum = hashlib.sha256(it.read()).hexdigest()
+    toolchain = toolchain_of(here, next(iter(built.values())))
     return README.format(
-        libc=libc_of(built),
+        libc=libc_of(built.values()),
+        calls="".join(CALLS.get(name, "") for name in built),
         more=more,
         proved=what_is_proved(here),
-        crates=len(crates_of(here, program)),
-        date=time.strftime("%Y-%m-%d", time.gmtime(os.stat(built).st_mtime)),
+        crates=len({crate for program in programs for crate in crates_of(here, program)}),
+        date=time.strftime("%Y-%m-%d", time.gmtime(max(os.stat(it).st_mtime for it in built.values()))),
         toolchain=f" by the toolchain `{toolchain}`" if toolchain else "",
         commit=commit_of(here),
-        sum=sum,
+        names=" ".join(built),
+        sums="\n    ".join(f"{hashlib.sha256(bytes_of(it)).hexdigest()}  {name}" for name, it in built.items()),
     )
 
 
-def hand_out(here, program, folder):
-    """Fills the folder, and returns the status to end with."""
+def hand_out(here, programs, folder):
+    """Fills the folder with the programs, by the names of their crates, and what belongs to them. Returns the status to end with."""
     if os.path.lexists(folder) and not (os.path.isdir(folder) and not os.listdir(folder)):
         tell(f"{folder} is there already, and not empty")
         return 1
-    built = f"{here}/crates/{program}/out/{program}"
+    built = {program.replace("_", "-"): f"{here}/crates/{program}/out/{program}" for program in programs}
     files = files_of(here)
     try:
         os.makedirs(folder, exist_ok=True)
         for it in files:
             os.makedirs(os.path.dirname(f"{folder}/{it}"), exist_ok=True)
             shutil.copy(f"{here}/{it}", f"{folder}/{it}")
-        shutil.copy(built, f"{folder}/{program}")
+        for name, it in built.items():
+            shutil.copy(it, f"{folder}/{name}")
         with open(f"{folder}/README.md", "w", encoding="utf-8") as it:
-            it.write(readme(here, program, built, files))
+            it.write(readme(here, programs, built, files))
     except OSError as error:
         tell(f"{error.filename}: {error.strerror}")
         return 1
-    tell(f"{folder} has the program, {len(files)} files of examples, pages and scripts, and README.md, which says what was proved")
+    tell(f"{folder} has {' and '.join(built)}, {len(files)} files of examples, pages and scripts, and README.md, which says what was proved")
     return 0

@@ -1,6 +1,7 @@
 -- The machine that is watched is the machine of the run, by induction on the number of cycles.
-use Rattle.std.proofs.Common.{◌≡◌, ℕ, zero, suc, ◌+◌, true, List, ◌++◌, length, Option, Some, None, refl, sym, ◌∙◌, ap, subst, length-append, arith, add-one}
+use Rattle.std.proofs.Common.{◌≡◌, ℕ, zero, suc, ◌+◌, Bool, true, List, ◌++◌, length, Option, Some, None, refl, sym, ◌∙◌, ap, subst, length-append, arith, add-one}
 use Rattle.std.specs.Option.{option_to_list}
+use Rattle.std.proofs.Math.Path.{fun_ext}
 use Rattle.y86_base.specs.Stat.{stat_of}
 use Rattle.y86_base.specs.declared.parts.Variant.{Variant}
 use Rattle.y86_isa.specs.Machine.{is_aok}
@@ -10,8 +11,10 @@ use Rattle.dp_signals.specs.PipeCycle.{asked_movers, ending, next, retires}
 use Rattle.dp_signals.specs.PipeEquations.{Solves}
 use Rattle.dp_signals.specs.PipeNames as row
 use Rattle.dp_signals.specs.PipeRun.{Pipe, PipeRun, after_cycle, end_by, start_pipe}
+use Rattle.dp_signals.specs.PipeTable.{pipe_rows}
+use Rattle.stage_text.specs.Picked.{Sources, sources}
 use Rattle.stage_text.specs.Watch.{fetched, moved_watch}
-use Rattle.stage_text.specs.Watching.{IsOfRun, Watches, WatchesTheRun, Watching, after, count, cycles_shown, lines_shown}
+use Rattle.stage_text.specs.Watching.{IsOfRun, Watches, WatchesTheRun, Watching, after, count, cycles_shown, lines_shown, whole_text}
 use Rattle.stage_text.specs.declared.watching.Window.{Window}
 
 counted : (r : Option Rec) → length (option_to_list r) ≡ count r
@@ -19,15 +22,15 @@ counted None = refl
 counted (Some r) = refl
 
 module _ (v : Variant) (terms : List Term) (window : Window) (image : List ℕ) (k : ℕ) (u s : Watching) (f : ℕ → ℕ) (p : Pipe) where
-  state_after : IsOfRun u p → s ≡ after window (suc k) u f → s.state ≡ next p.state f
+  state_after : IsOfRun u p → s ≡ after (sources pipe_rows terms) window (suc k) u f → s.state ≡ next p.state f
   unfolding after
   state_after so_far e = ap (λ (x : Watching). x.state) e ∙ ap (λ x. next x f) so_far.state
 
-  end_after : s ≡ after window (suc k) u f → s.end ≡ end_by (ending f) (stat_of (f row.Stat))
+  end_after : s ≡ after (sources pipe_rows terms) window (suc k) u f → s.end ≡ end_by (ending f) (stat_of (f row.Stat))
   unfolding after
   end_after e = ap (λ (x : Watching). x.end) e
 
-  retired_after : IsOfRun u p → s ≡ after window (suc k) u f → s.retired ≡ length (p.records ++ option_to_list (retires p.state f))
+  retired_after : IsOfRun u p → s ≡ after (sources pipe_rows terms) window (suc k) u f → s.retired ≡ length (p.records ++ option_to_list (retires p.state f))
   unfolding after
   retired_after so_far e =
       ap (λ (x : Watching). x.retired) e
@@ -36,7 +39,7 @@ module _ (v : Variant) (terms : List Term) (window : Window) (image : List ℕ) 
       ∙ ap (λ n. length p.records + n) (sym (counted (retires p.state f)))
       ∙ sym (length-append p.records (option_to_list (retires p.state f)))
 
-  one_more : PipeRun v terms image k p → IsOfRun u p → is_aok u.end ≡ true → Solves v terms u.state f → s ≡ after window (suc k) u f →
+  one_more : PipeRun v terms image k p → IsOfRun u p → is_aok u.end ≡ true → Solves v terms u.state f → s ≡ after (sources pipe_rows terms) window (suc k) u f →
       (q : Pipe) × PipeRun v terms image (suc k) q × IsOfRun s q
   one_more run so_far going solves e =
       let going' : is_aok p.end ≡ true = ap is_aok (sym so_far.end) ∙ going in
@@ -47,12 +50,12 @@ module _ (v : Variant) (terms : List Term) (window : Window) (image : List ℕ) 
       )
 
 -- the machine after a cycle, by its parts
-pub seen_after : (window : Window) (number : ℕ) (s t : Watching) (f : ℕ → ℕ) → t.state ≡ next s.state f →
+pub seen_after : (tells : (ℕ → ℕ) → Sources) (window : Window) (number : ℕ) (s t : Watching) (f : ℕ → ℕ) → t.state ≡ next s.state f →
     t.watch ≡ moved_watch s.watch (fetched s.watch s.state f) (asked_movers f) → t.retired ≡ s.retired + count (retires s.state f) →
-    t.end ≡ end_by (ending f) (stat_of (f row.Stat)) → t.text ≡ s.text ++ lines_shown window number s.watch (fetched s.watch s.state f) s.state f →
-    t.cycles ≡ s.cycles ++ cycles_shown window number s.watch (fetched s.watch s.state f) f → t ≡ after window number s f
+    t.end ≡ end_by (ending f) (stat_of (f row.Stat)) → t.text ≡ s.text ++ lines_shown tells window number s.watch (fetched s.watch s.state f) s.state f →
+    t.cycles ≡ s.cycles ++ cycles_shown window number s.watch (fetched s.watch s.state f) f → t ≡ after tells window number s f
 unfolding after
-seen_after window number s t f state watch retired end text cycles = λ i. record {
+seen_after tells window number s t f state watch retired end text cycles = λ i. record {
   state = state i;
   watch = watch i;
   retired = retired i;
@@ -63,10 +66,10 @@ seen_after window number s t f state watch retired end text cycles = λ i. recor
 
 -- one more cycle of a machine that is watched
 pub watches_more : (v : Variant) (terms : List Term) (window : Window) (image : List ℕ) (k : ℕ) (u s : Watching) (f : ℕ → ℕ) →
-    Watches v terms window image k u → is_aok u.end ≡ true → Solves v terms u.state f → s ≡ after window (k + 1) u f →
+    Watches v terms window image k u → is_aok u.end ≡ true → Solves v terms u.state f → s ≡ after (sources pipe_rows terms) window (k + 1) u f →
     Watches v terms window image (k + 1) s
 watches_more v terms window image k u s f watches going solves e =
-    subst (λ n. Watches v terms window image n s) (sym (add-one k)) (u, f, watches, going, solves, e ∙ ap (λ n. after window n u f) (add-one k))
+    subst (λ n. Watches v terms window image n s) (sym (add-one k)) (u, f, watches, going, solves, e ∙ ap (λ n. after (sources pipe_rows terms) window n u f) (add-one k))
 
 pub watches_the_run : WatchesTheRun
 watches_the_run v terms window image zero s h =
@@ -74,3 +77,8 @@ watches_the_run v terms window image zero s h =
 watches_the_run v terms window image (suc k) s h =
     let before = watches_the_run v terms window image k h.0 h.2 in
     one_more v terms window image k h.0 s h.1 before.0 before.1 before.2 h.3 h.4 h.5
+
+-- what is shown depends on the texts at the addresses alone
+pub same_whole : (listing other : ℕ → Option (List ℕ)) → ((address : ℕ) → listing address ≡ other address) → (asked : Bool) (k : ℕ) (s : Watching) →
+    whole_text listing asked k s ≡ whole_text other asked k s
+same_whole listing other same asked k s = ap (λ texts. whole_text texts asked k s) (fun_ext same)

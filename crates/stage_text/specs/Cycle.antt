@@ -1,4 +1,4 @@
--- The lines of one cycle: of a state of the machine, with f for the value of each signal.
+-- The lines of one cycle: of a state of the machine, with f for the value of each signal, and what the picks of the file tell of it.
 use Rattle.std.specs.Prelude.{ℕ, Bool, ◌==◌, nat_lt, List, [], ◌++◌, codes, Option, Some, None, if◌then◌else◌}
 use Rattle.y86_base.specs.declared.parts.Flags.{Flags}
 use Rattle.y86_isa.specs.declared.machine.Store.{Store}
@@ -7,7 +7,8 @@ use Rattle.dp_signals.specs.PipeNames as row
 use Rattle.dp_signals.specs.Values.{set}
 use Rattle.dp_signals.specs.declared.pipe_state.PipeState.{PipeState}
 use Rattle.stage_text.specs.Instruction.{instruction}
-use Rattle.stage_text.specs.Numbers.{address, number_pair, register_pair, status_pair, word_pair}
+use Rattle.stage_text.specs.Numbers.{address, number_pair, register_pair, status_pair, text_pair, word_pair}
+use Rattle.stage_text.specs.Picked.{Sources}
 use Rattle.stage_text.specs.declared.held.Held.{Held}
 use Rattle.stage_text.specs.declared.watch.Watch.{Watch}
 
@@ -30,13 +31,18 @@ tail h = codes " | " ++ (instruction h ++ codes "\n")
 
 -- ---- the stages
 
-unfoldable pub fetch_line : Held → PipeState → (ℕ → ℕ) → List ℕ
-fetch_line h p f =
-    head (codes "F") h (set (f row.F_stall)) (set (f row.F_bubble)) (f row.f_stat)
-    ++ (word_pair (codes " F_predPC ") p.pred_pc
+unfoldable pub fetch_words : PipeState → (ℕ → ℕ) → List ℕ
+fetch_words p f =
+    word_pair (codes " F_predPC ") p.pred_pc
     ++ (word_pair (codes " f_valC ") (f row.f_valC)
-    ++ (word_pair (codes " f_valP ") (f row.f_valP)
-    ++ (word_pair (codes " f_predPC ") (f row.f_predPC) ++ tail h))))
+    ++ (word_pair (codes " f_valP ") (f row.f_valP) ++ word_pair (codes " f_predPC ") (f row.f_predPC)))
+
+unfoldable pub fetch_source : Sources → List ℕ
+fetch_source from = text_pair (codes " f_pc_from ") from.pc
+
+unfoldable pub fetch_line : Held → PipeState → (ℕ → ℕ) → Sources → List ℕ
+fetch_line h p f from =
+    head (codes "F") h (set (f row.F_stall)) (set (f row.F_bubble)) (f row.f_stat) ++ (fetch_words p f ++ (fetch_source from ++ tail h))
 
 unfoldable pub decode_fields : PipeState → List ℕ
 decode_fields p =
@@ -51,9 +57,13 @@ decode_signals f =
     ++ (register_pair (codes " d_dstM ") (f row.d_dstM)
     ++ (word_pair (codes " d_valA ") (f row.d_valA) ++ word_pair (codes " d_valB ") (f row.d_valB)))))
 
-unfoldable pub decode_line : Held → PipeState → (ℕ → ℕ) → List ℕ
-decode_line h p f =
-    head (codes "D") h (set (f row.D_stall)) (set (f row.D_bubble)) p.d.stat ++ (decode_fields p ++ (decode_signals f ++ tail h))
+unfoldable pub decode_sources : Sources → List ℕ
+decode_sources from = text_pair (codes " d_valA_from ") from.val_a ++ text_pair (codes " d_valB_from ") from.val_b
+
+unfoldable pub decode_line : Held → PipeState → (ℕ → ℕ) → Sources → List ℕ
+decode_line h p f from =
+    head (codes "D") h (set (f row.D_stall)) (set (f row.D_bubble)) p.d.stat
+    ++ (decode_fields p ++ (decode_signals f ++ (decode_sources from ++ tail h)))
 
 unfoldable pub execute_words : PipeState → List ℕ
 execute_words p = word_pair (codes " valC ") p.e.val_c ++ (word_pair (codes " valA ") p.e.val_a ++ word_pair (codes " valB ") p.e.val_b)
@@ -107,9 +117,9 @@ write_line h p f =
     ++ (write_fields p ++ (status_pair (codes " Stat ") (f row.Stat) ++ tail h))
 
 -- the stages, where fetch is fetched and watch stands in the others
-unfoldable pub stage_lines : Watch → Held → PipeState → (ℕ → ℕ) → List ℕ
-stage_lines watch fetch p f =
-    fetch_line fetch p f ++ (decode_line watch.d p f ++ (execute_line watch.e p f ++ (memory_line watch.m p f ++ write_line watch.w p f)))
+unfoldable pub stage_lines : Watch → Held → PipeState → (ℕ → ℕ) → Sources → List ℕ
+stage_lines watch fetch p f from =
+    fetch_line fetch p f from ++ (decode_line watch.d p f from ++ (execute_line watch.e p f ++ (memory_line watch.m p f ++ write_line watch.w p f)))
 
 -- ---- flags, registers and memory
 
@@ -137,7 +147,7 @@ stored_line (Some s) = codes "store " ++ (address s.addr ++ (word_pair (codes " 
 
 -- ---- a cycle, by its number
 
-unfoldable pub cycle_text : ℕ → Watch → Held → PipeState → (ℕ → ℕ) → List ℕ
-cycle_text number watch fetch p f =
+unfoldable pub cycle_text : ℕ → Watch → Held → PipeState → (ℕ → ℕ) → Sources → List ℕ
+cycle_text number watch fetch p f from =
     number_pair (codes "cycle ") number
-    ++ (codes "\n" ++ (stage_lines watch fetch p f ++ (flags_line p.flags ++ (written_lines p f ++ stored_line (store_of p f)))))
+    ++ (codes "\n" ++ (stage_lines watch fetch p f from ++ (flags_line p.flags ++ (written_lines p f ++ stored_line (store_of p f)))))

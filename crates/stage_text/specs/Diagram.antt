@@ -1,4 +1,5 @@
--- The diagram of some cycles of a run: a line for each row, with a column for each cycle (CS:APP 3e, figures 4.43 and 4.54).
+-- The diagram of some cycles of a run: a line for each row, with a column for each cycle (CS:APP 3e, figures 4.43 and 4.54), and with what the object
+-- text lists at each address.
 use Rattle.std.specs.Prelude.{ℕ, ◌+◌, ◌/◌, ◌%◌, Bool, true, false, ◌&&◌, ◌==◌, List, [], ◌∷◌, ◌++◌, map, codes, Option, Some, None, is_some, if◌then◌else◌}
 use Rattle.std.specs.List.{concat}
 use Rattle.dp_signals.specs.declared.movers.Mover.{Mover}
@@ -89,20 +90,28 @@ letters row cycles = concat (map (λ s. 32 ∷ 32 ∷ letter_of row s ∷ []) cy
 abbrev pub origin : Held → List ℕ
 origin h = if h.live then address h.addr ++ codes " " else []
 
-unfoldable pub row_tail : Held → List ℕ
-row_tail h = codes " | " ++ (origin h ++ (instruction h ++ codes "\n"))
+-- what the object text lists where an instruction was fetched
+abbrev pub behind_bar : Option (List ℕ) → List ℕ
+behind_bar None = []
+behind_bar (Some text) = codes " | " ++ text
+
+abbrev pub note : (ℕ → Option (List ℕ)) → Held → List ℕ
+note listing h = if h.live then behind_bar (listing h.addr) else []
+
+unfoldable pub row_tail : (ℕ → Option (List ℕ)) → Held → List ℕ
+row_tail listing h = codes " | " ++ (origin h ++ (instruction h ++ (note listing h ++ codes "\n")))
 
 -- the line of a row; none where it stands in no stage in these cycles
-abbrev pub line_of : ℕ → List Shown → Option Held → List ℕ
-line_of row cycles None = []
-line_of row cycles (Some h) = letters row cycles ++ row_tail h
+abbrev pub line_of : (ℕ → Option (List ℕ)) → ℕ → List Shown → Option Held → List ℕ
+line_of listing row cycles None = []
+line_of listing row cycles (Some h) = letters row cycles ++ row_tail listing h
 
-unfoldable pub row_line : ℕ → List Shown → List ℕ
-row_line row cycles = line_of row cycles (held_of row cycles)
+unfoldable pub row_line : (ℕ → Option (List ℕ)) → ℕ → List Shown → List ℕ
+row_line listing row cycles = line_of listing row cycles (held_of row cycles)
 
 -- the rows are numbered from 1 on
-abbrev pub nth_line : List Shown → ℕ → List ℕ
-nth_line cycles before = row_line (before + 1) cycles
+abbrev pub nth_line : (ℕ → Option (List ℕ)) → List Shown → ℕ → List ℕ
+nth_line listing cycles before = row_line listing (before + 1) cycles
 
-unfoldable pub diagram : ℕ → List Shown → List ℕ
-diagram rows cycles = columns cycles ++ (codes "\n" ++ each_below rows (nth_line cycles))
+unfoldable pub diagram : (ℕ → Option (List ℕ)) → ℕ → List Shown → List ℕ
+diagram listing rows cycles = columns cycles ++ (codes "\n" ++ each_below rows (nth_line listing cycles))

@@ -12,7 +12,10 @@ address n = codes "0x" ++ numeral 16 3 n
 unfoldable pub register : ℕ → List ℕ
 register n = if nat_lt n 15 then register_name n else (if n == 15 then codes "-" else numeral 10 1 n)
 
--- a key, with blanks around it, and its value: a word, a register, a number, the status of a number
+-- a key, with blanks around it, and its value: a text, a word, a register, a number, the status of a number
+unfoldable pub text_pair : List ℕ → List ℕ → List ℕ
+text_pair key text = key ++ text
+
 unfoldable pub word_pair : List ℕ → ℕ → List ℕ
 word_pair key n = key ++ (codes "0x" ++ numeral 16 1 n)
 

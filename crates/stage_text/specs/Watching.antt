@@ -12,12 +12,14 @@ use Rattle.dp_signals.specs.PipeEquations.{Solves}
 use Rattle.dp_signals.specs.PipeNames as row
 use Rattle.dp_signals.specs.PipeRun.{Pipe, PipeRun, end_by}
 use Rattle.dp_signals.specs.PipeState.{start_state}
+use Rattle.dp_signals.specs.PipeTable.{pipe_rows}
 use Rattle.dp_signals.specs.declared.movers.Ending.{Ending}
 use Rattle.dp_signals.specs.declared.movers.Ending.TheVariants.{Going, Stopped, Pip}
 use Rattle.dp_signals.specs.declared.pipe_state.PipeState.{PipeState}
 use Rattle.stage_text.specs.Cycle.{cycle_text}
 use Rattle.stage_text.specs.Diagram.{diagram, shown_cycle}
 use Rattle.stage_text.specs.Numbers.{number_pair}
+use Rattle.stage_text.specs.Picked.{Sources, sources}
 use Rattle.stage_text.specs.Watch.{fetched, first_watch, moved_watch}
 use Rattle.stage_text.specs.declared.diagram.Shown.{Shown}
 use Rattle.stage_text.specs.declared.held.Held.{Held}
@@ -51,21 +53,21 @@ goes_on Pip = false
 abbrev pub is_within : Window → ℕ → Bool
 is_within window number = nat_le window.from number && nat_le number window.to
 
--- what is shown of a cycle in lines, and in the diagram
-abbrev pub lines_shown : Window → ℕ → Watch → Held → PipeState → (ℕ → ℕ) → List ℕ
-lines_shown window number watch fetch p f =
-    if not window.diagram && is_within window number then cycle_text number watch fetch p f else []
+-- what is shown of a cycle in lines, where tells says what the picks of the file tell of it, and in the diagram
+abbrev pub lines_shown : ((ℕ → ℕ) → Sources) → Window → ℕ → Watch → Held → PipeState → (ℕ → ℕ) → List ℕ
+lines_shown tells window number watch fetch p f =
+    if not window.diagram && is_within window number then cycle_text number watch fetch p f (tells f) else []
 
 abbrev pub cycles_shown : Window → ℕ → Watch → Held → (ℕ → ℕ) → List Shown
 cycles_shown window number watch fetch f =
     if window.diagram && is_within window number then shown_cycle number watch fetch (asked_movers f) (goes_on (ending f)) ∷ [] else []
 
 -- the watched machine after the cycle of this number, with these values
-unfoldable pub after : Window → ℕ → Watching → (ℕ → ℕ) → Watching
-after window number s f =
+unfoldable pub after : ((ℕ → ℕ) → Sources) → Window → ℕ → Watching → (ℕ → ℕ) → Watching
+after tells window number s f =
     let fetch = fetched s.watch s.state f in
     seen (next s.state f) (moved_watch s.watch fetch (asked_movers f)) (s.retired + count (retires s.state f)) (end_by (ending f) (stat_of (f row.Stat)))
-    (s.text ++ lines_shown window number s.watch fetch s.state f) (s.cycles ++ cycles_shown window number s.watch fetch f)
+    (s.text ++ lines_shown tells window number s.watch fetch s.state f) (s.cycles ++ cycles_shown window number s.watch fetch f)
 
 abbrev pub first_seen : List ℕ → Watching
 first_seen image = seen (start_state image) first_watch 0 stat.Aok [] []
@@ -75,7 +77,7 @@ abbrev pub Watches : Variant → List Term → Window → List ℕ → ℕ → W
 Watches v terms window image zero s = s ≡ first_seen image
 Watches v terms window image (suc k) s =
     (u : Watching) × (f : ℕ → ℕ) × Watches v terms window image k u × (is_aok u.end ≡ true) × Solves v terms u.state f
-    × (s ≡ after window (suc k) u f)
+    × (s ≡ after (sources pipe_rows terms) window (suc k) u f)
 
 -- the same at its end, or at the limit of cycles where it has none before
 pub record WatchesTo (v : Variant) (terms : List Term) (window : Window) (image : List ℕ) (limit k : ℕ) (s : Watching) : Type 0 where
@@ -89,12 +91,17 @@ unfoldable pub end_line : Stat → ℕ → ℕ → List ℕ
 end_line end cycles retired =
     codes "end " ++ (stat_name end ++ (number_pair (codes " cycles ") cycles ++ (number_pair (codes " retired ") retired ++ codes "\n")))
 
-abbrev pub diagram_shown : Bool → Watching → List ℕ
-diagram_shown asked s = if asked then diagram s.watch.rows s.cycles else []
+abbrev pub diagram_shown : (ℕ → Option (List ℕ)) → Bool → Watching → List ℕ
+diagram_shown listing asked s = if asked then diagram listing s.watch.rows s.cycles else []
 
--- the lines of the cycles, the diagram, and the line of the end
-unfoldable pub whole_text : Bool → ℕ → Watching → List ℕ
-whole_text asked cycles s = s.text ++ (diagram_shown asked s ++ end_line s.end cycles s.retired)
+-- the lines of the cycles, the diagram, with what is listed at each address, and the line of the end
+unfoldable pub whole_text : (ℕ → Option (List ℕ)) → Bool → ℕ → Watching → List ℕ
+whole_text listing asked cycles s = s.text ++ (diagram_shown listing asked s ++ end_line s.end cycles s.retired)
+
+-- the text and the end of the run of an image
+abbrev pub ShowsRun : Variant → List Term → (ℕ → Option (List ℕ)) → Window → List ℕ → ℕ → List ℕ → Stat → Type 0
+ShowsRun v terms listing window image limit text end =
+    (k : ℕ) × (s : Watching) × WatchesTo v terms window image limit k s × (text ≡ whole_text listing window.diagram k s) × (end ≡ s.end)
 
 -- ---- the watched machine is the machine of the run: its state, its end, and the number of its records
 

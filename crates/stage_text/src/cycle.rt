@@ -4,12 +4,15 @@ ghost use Rattle.dp_signals.specs.PipeCycle as pipe;
 ghost use Rattle.dp_signals.specs.Values.{set};
 ghost use Rattle.hcl_types.specs.Terms.{at};
 ghost use Rattle.stage_text.specs.Cycle as text;
+ghost use Rattle.stage_text.specs.Picked.{sources_in};
 
 use crate::held::Held;
 use crate::instruction::put_instruction;
 use crate::numbers::{
-    put, put_address, put_number_pair, put_register_pair, put_status_pair, put_word_pair,
+    put, put_address, put_number_pair, put_register_pair, put_status_pair, put_text_pair,
+    put_word_pair,
 };
+use crate::picked::Sources;
 use crate::watch::Watch;
 use dp_signals::{PipeState, PipeValues, at, pipe_row as row};
 use y86_base::{Flags, Memory};
@@ -74,14 +77,31 @@ fn put_tail(out: &mut Vec<u8>, held: &Held) -> Result<(), Memory>
     put(out, b"\n")
 }
 
+#[tactic(auto, unfolding(crate::specs::Cycle::fetch_words))]
+fn put_fetch_words(out: &mut Vec<u8>, p: &PipeState, values: &PipeValues) -> Result<(), Memory>
+    ensures { OnOk result (out.new.items ≡ out.old.items ++ text.fetch_words p.now (at values.now)) }
+{
+    put_word_pair(out, b" F_predPC ", p.pred_pc)?;
+    put_word_pair(out, b" f_valC ", at(values, row::F_VAL_C))?;
+    put_word_pair(out, b" f_valP ", at(values, row::F_VAL_P))?;
+    put_word_pair(out, b" f_predPC ", at(values, row::F_PRED_PC))
+}
+
+fn put_fetch_source(out: &mut Vec<u8>, sources: &Sources<'_>) -> Result<(), Memory>
+    ensures { OnOk result (out.new.items ≡ out.old.items ++ text.fetch_source (sources_in sources.now)) }
+{
+    put_text_pair(out, b" f_pc_from ", sources.pc)
+}
+
 #[tactic(auto, unfolding(crate::specs::Cycle::fetch_line))]
 fn put_fetch(
     out: &mut Vec<u8>,
     fetch: &Held,
     p: &PipeState,
     values: &PipeValues,
+    sources: &Sources<'_>,
 ) -> Result<(), Memory>
-    ensures { OnOk result (out.new.items ≡ out.old.items ++ text.fetch_line fetch.now p.now (at values.now)) }
+    ensures { OnOk result (out.new.items ≡ out.old.items ++ text.fetch_line fetch.now p.now (at values.now) (sources_in sources.now)) }
 {
     put_head(
         out,
@@ -91,10 +111,8 @@ fn put_fetch(
         at(values, row::F_BUBBLE),
         at(values, row::F_STAT),
     )?;
-    put_word_pair(out, b" F_predPC ", p.pred_pc)?;
-    put_word_pair(out, b" f_valC ", at(values, row::F_VAL_C))?;
-    put_word_pair(out, b" f_valP ", at(values, row::F_VAL_P))?;
-    put_word_pair(out, b" f_predPC ", at(values, row::F_PRED_PC))?;
+    put_fetch_words(out, p, values)?;
+    put_fetch_source(out, sources)?;
     put_tail(out, fetch)
 }
 
@@ -120,14 +138,22 @@ fn put_decode_signals(out: &mut Vec<u8>, values: &PipeValues) -> Result<(), Memo
     put_word_pair(out, b" d_valB ", at(values, row::D_VAL_B))
 }
 
+fn put_decode_sources(out: &mut Vec<u8>, sources: &Sources<'_>) -> Result<(), Memory>
+    ensures { OnOk result (out.new.items ≡ out.old.items ++ text.decode_sources (sources_in sources.now)) }
+{
+    put_text_pair(out, b" d_valA_from ", sources.val_a)?;
+    put_text_pair(out, b" d_valB_from ", sources.val_b)
+}
+
 #[tactic(auto, unfolding(crate::specs::Cycle::decode_line))]
 fn put_decode(
     out: &mut Vec<u8>,
     held: &Held,
     p: &PipeState,
     values: &PipeValues,
+    sources: &Sources<'_>,
 ) -> Result<(), Memory>
-    ensures { OnOk result (out.new.items ≡ out.old.items ++ text.decode_line held.now p.now (at values.now)) }
+    ensures { OnOk result (out.new.items ≡ out.old.items ++ text.decode_line held.now p.now (at values.now) (sources_in sources.now)) }
 {
     put_head(
         out,
@@ -139,6 +165,7 @@ fn put_decode(
     )?;
     put_decode_fields(out, p)?;
     put_decode_signals(out, values)?;
+    put_decode_sources(out, sources)?;
     put_tail(out, held)
 }
 
@@ -350,11 +377,12 @@ fn put_stages(
     fetch: &Held,
     p: &PipeState,
     values: &PipeValues,
+    sources: &Sources<'_>,
 ) -> Result<(), Memory>
-    ensures { OnOk result (out.new.items ≡ out.old.items ++ text.stage_lines watch.now fetch.now p.now (at values.now)) }
+    ensures { OnOk result (out.new.items ≡ out.old.items ++ text.stage_lines watch.now fetch.now p.now (at values.now) (sources_in sources.now)) }
 {
-    put_fetch(out, fetch, p, values)?;
-    put_decode(out, &watch.d, p, values)?;
+    put_fetch(out, fetch, p, values, sources)?;
+    put_decode(out, &watch.d, p, values, sources)?;
     put_execute(out, &watch.e, p, values)?;
     put_memory(out, &watch.m, p, values)?;
     put_write(out, &watch.w, p, values)
@@ -369,12 +397,13 @@ pub(crate) fn put_cycle(
     fetch: &Held,
     p: &PipeState,
     values: &PipeValues,
+    sources: &Sources<'_>,
 ) -> Result<(), Memory>
-    ensures { OnOk result (out.new.items ≡ out.old.items ++ text.cycle_text number watch.now fetch.now p.now (at values.now)) }
+    ensures { OnOk result (out.new.items ≡ out.old.items ++ text.cycle_text number watch.now fetch.now p.now (at values.now) (sources_in sources.now)) }
 {
     put_number_pair(out, b"cycle ", number)?;
     put(out, b"\n")?;
-    put_stages(out, watch, fetch, p, values)?;
+    put_stages(out, watch, fetch, p, values, sources)?;
     put_flags(out, p.flags)?;
     put_registers(out, p, values)?;
     put_stored(out, store_of(p, values))

@@ -2,9 +2,11 @@
 ghost use Rattle.std.specs.Prelude.{◌≡◌, ◌++◌, ◌<◌, ◌^◌, OnOk};
 ghost use Rattle.yis_run.specs.Report.{each_below};
 ghost use Rattle.stage_text.specs.Diagram as text;
+ghost use Rattle.stage_text.specs.Listed.{text_in};
 
 use crate::held::Held;
 use crate::instruction::put_instruction;
+use crate::listed::{Listing, text_in};
 use crate::numbers::{put, put_address};
 use crate::watch::Watch;
 use dp_signals::{Mover, Movers};
@@ -162,10 +164,26 @@ fn put_letters(out: &mut Vec<u8>, row: u64, cycles: &[Shown]) -> Result<(), Memo
     Ok(())
 }
 
-/// Puts what a row is: the address and the instruction, or a bubble.
+/// Puts what the object text lists where an instruction was fetched.
+fn put_note(out: &mut Vec<u8>, listing: &Listing, held: &Held) -> Result<(), Memory>
+    ensures { OnOk result (out.new.items ≡ out.old.items ++ text.note (text_in listing.now.entries) held.now) }
+{
+    if !held.live {
+        return Ok(());
+    }
+    match text_in(listing, held.addr) {
+        None => Ok(()),
+        Some(listed) => {
+            put(out, b" | ")?;
+            put(out, listed)
+        }
+    }
+}
+
+/// Puts what a row is: the address, the instruction and what is listed there, or a bubble.
 #[tactic(auto, unfolding(crate::specs::Diagram::row_tail))]
-fn put_row_tail(out: &mut Vec<u8>, held: &Held) -> Result<(), Memory>
-    ensures { OnOk result (out.new.items ≡ out.old.items ++ text.row_tail held.now) }
+fn put_row_tail(out: &mut Vec<u8>, listing: &Listing, held: &Held) -> Result<(), Memory>
+    ensures { OnOk result (out.new.items ≡ out.old.items ++ text.row_tail (text_in listing.now.entries) held.now) }
 {
     put(out, b" | ")?;
     if held.live {
@@ -173,30 +191,31 @@ fn put_row_tail(out: &mut Vec<u8>, held: &Held) -> Result<(), Memory>
         put(out, b" ")?;
     }
     put_instruction(out, held)?;
+    put_note(out, listing, held)?;
     put(out, b"\n")
 }
 
 /// Puts the line of a row, where it stands in a stage in one of the cycles.
 #[tactic(auto, unfolding(crate::specs::Diagram::row_line))]
-fn put_row(out: &mut Vec<u8>, row: u64, cycles: &[Shown]) -> Result<(), Memory>
-    ensures { OnOk result (out.new.items ≡ out.old.items ++ text.row_line row cycles.now) }
+fn put_row(out: &mut Vec<u8>, listing: &Listing, row: u64, cycles: &[Shown]) -> Result<(), Memory>
+    ensures { OnOk result (out.new.items ≡ out.old.items ++ text.row_line (text_in listing.now.entries) row cycles.now) }
 {
     match held_of(row, cycles) {
         None => Ok(()),
         Some(held) => {
             put_letters(out, row, cycles)?;
-            put_row_tail(out, &held)
+            put_row_tail(out, listing, &held)
         }
     }
 }
 
 /// Puts the lines of the rows from 1 on.
-fn put_rows(out: &mut Vec<u8>, rows: u64, cycles: &[Shown]) -> Result<(), Memory>
+fn put_rows(out: &mut Vec<u8>, listing: &Listing, rows: u64, cycles: &[Shown]) -> Result<(), Memory>
     requires { rows < 2 ^ 63 }
-    ensures { OnOk result (out.new.items ≡ out.old.items ++ each_below rows (text.nth_line cycles.now)) }
+    ensures { OnOk result (out.new.items ≡ out.old.items ++ each_below rows (text.nth_line (text_in listing.now.entries) cycles.now)) }
 {
     for before in 0..rows {
-        match put_row(out, before + 1, cycles) {
+        match put_row(out, listing, before + 1, cycles) {
             Ok(()) => {}
             Err(_) => return Err(Memory),
         }
@@ -206,11 +225,16 @@ fn put_rows(out: &mut Vec<u8>, rows: u64, cycles: &[Shown]) -> Result<(), Memory
 
 /// Puts the diagram of some cycles of a run that had so many rows.
 #[tactic(auto, unfolding(crate::specs::Diagram::diagram))]
-pub(crate) fn put_diagram(out: &mut Vec<u8>, rows: u64, cycles: &[Shown]) -> Result<(), Memory>
+pub(crate) fn put_diagram(
+    out: &mut Vec<u8>,
+    listing: &Listing,
+    rows: u64,
+    cycles: &[Shown],
+) -> Result<(), Memory>
     requires { rows < 2 ^ 63 }
-    ensures { OnOk result (out.new.items ≡ out.old.items ++ text.diagram rows cycles.now) }
+    ensures { OnOk result (out.new.items ≡ out.old.items ++ text.diagram (text_in listing.now.entries) rows cycles.now) }
 {
     put_columns(out, cycles)?;
     put(out, b"\n")?;
-    put_rows(out, rows, cycles)
+    put_rows(out, listing, rows, cycles)
 }

@@ -1,8 +1,30 @@
-//! What is shown is the run of the machine.
+//! What is shown is the run of the machine, and what the definitions of picks and of listed texts say.
+ghost use Rattle.std.specs.Prelude.{ℕ};
+ghost use Rattle.dp_signals.specs.PipeNames as row;
+ghost use Rattle.stage_text.specs.Listed.{LastLineCounts, ListsByForm, NoneIsListed};
+ghost use Rattle.stage_text.specs.Picked.{HasItsSource, PicksByTerms, PicksTheValue};
 ghost use Rattle.stage_text.specs.Watching.{WatchesTheRun};
 
 /// The machine that is watched is the machine of the run: its state before each cycle, how it ends, and how many instructions retired.
 #[tactic(auto, using(crate::proofs::Runs::watches_the_run))]
 pub fn law_of_watching()
     ensures { WatchesTheRun }
+{}
+
+/// What a term picks, term by term; a name that is picked has the term's value, so in a cycle each of f_pc, d_valA and d_valB has the value of the row that
+/// its definition picks.
+pub fn law_of_picks()
+    ensures by_terms { (f : ℕ → ℕ) → PicksByTerms f }
+    ensures value { PicksTheValue }
+    ensures pc { HasItsSource row.f_pc }
+    ensures val_a { HasItsSource row.d_valA }
+    ensures val_b { HasItsSource row.d_valB }
+{}
+
+/// A line lists a text at an address just where it is of the form, has this address and bytes, and the text stands between blanks behind its first `|`. The
+/// text that is listed at an address is that of the last line that lists one there, and there is none where no line does.
+pub fn law_of_listings()
+    ensures form { ListsByForm }
+    ensures last { LastLineCounts }
+    ensures none { NoneIsListed }
 {}

@@ -6,10 +6,12 @@ mod diagram;
 mod held;
 mod instruction;
 mod laws;
+mod listed;
 mod numbers;
+mod picked;
 mod watch;
 mod watching;
 
 pub use held::Held;
-pub use laws::law_of_watching;
+pub use laws::{law_of_listings, law_of_picks, law_of_watching};
 pub use watching::{Watched, Window, watch_run};

@@ -53,6 +53,15 @@ pub(crate) fn put_register(out: &mut Vec<u8>, n: u64) -> Result<(), Memory>
     }
 }
 
+/// Puts a key and a text.
+#[tactic(auto, unfolding(crate::specs::Numbers::text_pair))]
+pub(crate) fn put_text_pair(out: &mut Vec<u8>, key: &[u8], value: &[u8]) -> Result<(), Memory>
+    ensures { OnOk result (out.new.items ≡ out.old.items ++ text.text_pair key.now value.now) }
+{
+    put(out, key)?;
+    put(out, value)
+}
+
 /// Puts a key and a word.
 #[tactic(auto, unfolding(crate::specs::Numbers::word_pair))]
 pub(crate) fn put_word_pair(out: &mut Vec<u8>, key: &[u8], n: u64) -> Result<(), Memory>

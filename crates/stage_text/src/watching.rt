@@ -4,19 +4,23 @@ ghost use Rattle.dp_signals.specs.PipeEquations.{Solves};
 ghost use Rattle.dp_signals.specs.PipeTable.{pipe_rows};
 ghost use Rattle.hcl_types.specs.Tables.{IsBound, IsOrderOf};
 ghost use Rattle.hcl_types.specs.Terms.{at};
+ghost use Rattle.stage_text.specs.Listed.{listed, text_in};
+ghost use Rattle.stage_text.specs.Picked.{sources};
 ghost use Rattle.y86_isa.specs.Machine.{is_aok};
-ghost use Rattle.stage_text.specs.Watching.{Watching, WatchesTo};
+ghost use Rattle.stage_text.specs.Watching.{ShowsRun};
 ghost use Rattle.stage_text.specs.Watching as spec;
 
 use crate::cycle::put_cycle;
 use crate::diagram::{Shown, put_diagram, shown_cycle};
 use crate::held::Held;
+use crate::listed::{Listing, listing_of};
 use crate::numbers::{put, put_number_pair};
+use crate::picked::sources_of;
 use crate::watch::{Watch, asked_movers, fetched, first_watch, moved_watch};
 use dp_signals::{
-    Ending, PipeState, PipeValues, advance, end_of_cycle, ending, retires, solve_pipe,
+    Ending, PipeState, PipeValues, advance, end_of_cycle, ending, pipe_table, retires, solve_pipe,
 };
-use hcl_types::{Design, Order, SignalEval};
+use hcl_types::{Design, Order, Row, SignalEval};
 use std::alloc::Global;
 use std::marker::Model;
 use y86_base::{Image, Memory, Stat, Variant};
@@ -90,6 +94,8 @@ fn is_within(window: &Window, number: u64) -> bool
 /// Puts what is shown of a cycle in lines.
 fn put_lines(
     out: &mut Vec<u8>,
+    rows: &[Row],
+    design: &Design,
     window: &Window,
     number: u64,
     watch: &Watch,
@@ -97,10 +103,11 @@ fn put_lines(
     p: &PipeState,
     values: &PipeValues,
 ) -> Result<(), Memory>
-    ensures { OnOk result (out.new.items ≡ out.old.items ++ spec.lines_shown window.now number watch.now fetch.now p.now (at values.now)) }
+    ensures { OnOk result (out.new.items ≡ out.old.items ++ spec.lines_shown (sources rows.now design.now.terms) window.now number watch.now fetch.now p.now (at values.now)) }
 {
     if !window.diagram && is_within(window, number) {
-        put_cycle(out, number, watch, fetch, p, values)
+        let sources = sources_of(rows, design, values);
+        put_cycle(out, number, watch, fetch, p, values, &sources)
     } else {
         Ok(())
     }
@@ -129,16 +136,25 @@ fn put_shown(
 }
 
 /// Keeps what is shown of the cycle of this number, with these values, and does it.
-fn step(s: &mut Watching, window: &Window, number: u64, values: &PipeValues) -> Result<(), Memory>
+fn step(
+    s: &mut Watching,
+    rows: &[Row],
+    design: &Design,
+    window: &Window,
+    number: u64,
+    values: &PipeValues,
+) -> Result<(), Memory>
     requires rows { s.old.watch.rows < 2 ^ 63 }
     requires retired { s.old.retired < 2 ^ 63 }
-    ensures after { OnOk result (s.new ≡ spec.after window.now number s.old (at values.now)) }
+    ensures after { OnOk result (s.new ≡ spec.after (sources rows.now design.now.terms) window.now number s.old (at values.now)) }
     ensures few_rows { OnOk result (s.new.watch.rows ≤ s.old.watch.rows + 5) }
     ensures few_retired { OnOk result (s.new.retired ≤ s.old.retired + 1) }
 {
     let fetch = fetched(&s.watch, &s.state, values);
     put_lines(
         &mut s.text,
+        rows,
+        design,
         window,
         number,
         &s.watch,
@@ -165,6 +181,7 @@ fn state_of(s: &Watching) -> &PipeState
 fn cycle<C: SignalEval>(
     s: &mut Watching,
     variant: Variant,
+    rows: &[Row],
     design: &Design,
     order: &Order,
     evaluator: &mut C,
@@ -177,12 +194,13 @@ fn cycle<C: SignalEval>(
     requires rows { s.old.watch.rows < 2 ^ 63 }
     requires retired { s.old.retired < 2 ^ 63 }
     ensures kept { OnOk result (C.evaluates evaluator.new design.now.terms) }
-    ensures cycle { OnOk result ((f : ℕ → ℕ) × Solves variant design.now.terms s.old.state f × (s.new ≡ spec.after window.now number s.old f)) }
+    ensures cycle { OnOk result ((f : ℕ → ℕ) × Solves variant design.now.terms s.old.state f
+        × (s.new ≡ spec.after (sources rows.now design.now.terms) window.now number s.old f)) }
     ensures few_rows { OnOk result (s.new.watch.rows ≤ s.old.watch.rows + 5) }
     ensures few_retired { OnOk result (s.new.retired ≤ s.old.retired + 1) }
 {
     let values = solve_pipe(variant, design, order, state_of(s), evaluator);
-    step(s, window, number, &values)
+    step(s, rows, design, window, number, &values)
 }
 
 /// Puts the line of the end.
@@ -199,9 +217,9 @@ fn put_end(out: &mut Vec<u8>, end: Stat, cycles: u64, retired: u64) -> Result<()
 
 /// Puts the diagram, where it is asked for, and the line of the end.
 #[tactic(auto, unfolding(crate::specs::Watching::whole_text))]
-fn finished(s: Watching, diagram: bool, cycles: u64) -> Result<Watched, Memory>
+fn finished(s: Watching, listing: &Listing, diagram: bool, cycles: u64) -> Result<Watched, Memory>
     requires { s.watch.rows < 2 ^ 63 }
-    ensures text { IfOk result (λ w. w.text.items ≡ spec.whole_text diagram cycles s) }
+    ensures text { IfOk result (λ w. w.text.items ≡ spec.whole_text (text_in listing.now.entries) diagram cycles s) }
     ensures end { IfOk result (λ w. w.end ≡ s.end) }
 {
     let Watching {
@@ -213,29 +231,31 @@ fn finished(s: Watching, diagram: bool, cycles: u64) -> Result<Watched, Memory>
         ..
     } = s;
     if diagram {
-        put_diagram(&mut text, watch.rows, shown.as_slice())?;
+        put_diagram(&mut text, listing, watch.rows, shown.as_slice())?;
     }
     put_end(&mut text, end, cycles, retired)?;
     Ok(Watched { text, end })
 }
 
-/// Runs an image on PIPE under a design to its end or to the limit of cycles, and gives what is shown of it.
-pub fn watch_run<C: SignalEval>(
+/// Runs an image to its end or to the limit of cycles.
+fn watch_listed<C: SignalEval>(
     alloc: Global,
     variant: Variant,
+    rows: &[Row],
     design: &Design,
     order: &Order,
     evaluator: &mut C,
+    listing: &Listing,
     image: Image,
     limit: u64,
     window: &Window,
 ) -> Result<Watched, Memory>
+    requires table { rows.now ≡ pipe_rows }
     requires evaluates { C.evaluates evaluator.old design.now.terms }
     requires bound { IsBound pipe_rows design.now.terms }
     requires ordered { IsOrderOf pipe_rows design.now.terms order.now.ids }
     requires limit { limit ≤ 100000000 }
-    ensures { IfOk result (λ w. (k : ℕ) × (s : Watching) × WatchesTo variant design.now.terms window.now image limit k s
-        × (w.text.items ≡ spec.whole_text window.now.diagram k s) × (w.end ≡ s.end)) }
+    ensures { IfOk result (λ w. ShowsRun variant design.now.terms (text_in listing.now.entries) window.now image limit w.text.items w.end) }
 {
     let mut s = Watching {
         state: PipeState::start(image),
@@ -247,12 +267,59 @@ pub fn watch_run<C: SignalEval>(
     };
     for k in 0..limit {
         if !is_going(&s) {
-            return finished(s, window.diagram, k);
+            return finished(s, listing, window.diagram, k);
         }
-        match cycle(&mut s, variant, design, order, evaluator, window, k + 1) {
+        match cycle(
+            &mut s,
+            variant,
+            rows,
+            design,
+            order,
+            evaluator,
+            window,
+            k + 1,
+        ) {
             Ok(()) => {}
             Err(_) => return Err(Memory),
         }
     }
-    finished(s, window.diagram, limit)
+    finished(s, listing, window.diagram, limit)
+}
+
+/// Runs the image of an object text on PIPE under a design to its end or to the limit of cycles, and gives what is shown of it.
+pub fn watch_run<C: SignalEval>(
+    alloc: Global,
+    variant: Variant,
+    design: &Design,
+    order: &Order,
+    evaluator: &mut C,
+    object: &[u8],
+    image: Image,
+    limit: u64,
+    window: &Window,
+) -> Result<Watched, Memory>
+    requires evaluates { C.evaluates evaluator.old design.now.terms }
+    requires bound { IsBound pipe_rows design.now.terms }
+    requires ordered { IsOrderOf pipe_rows design.now.terms order.now.ids }
+    requires limit { limit ≤ 100000000 }
+    ensures { IfOk result (λ w. ShowsRun variant design.now.terms (listed object.now) window.now image limit w.text.items w.end) }
+{
+    let Ok(table) = pipe_table(alloc) else {
+        return Err(Memory);
+    };
+    let Ok(listing) = listing_of(alloc, object) else {
+        return Err(Memory);
+    };
+    watch_listed(
+        alloc,
+        variant,
+        table.rows.items(),
+        design,
+        order,
+        evaluator,
+        &listing,
+        image,
+        limit,
+        window,
+    )
 }

@@ -4,6 +4,7 @@ ghost use Rattle.dp_signals.specs.PipeTable.{pipe_rows};
 ghost use Rattle.hcl_types.specs.Tables.{IsBound, IsOrderOf};
 ghost use Rattle.y86_base.specs.Image.{IsSize};
 ghost use Rattle.y86_cli.specs.Does.{Does, NoReadFailed, Says, files_seen, sink_seen};
+ghost use Rattle.stage_text.specs.Listed.{listed};
 ghost use Rattle.y86_stages.specs.Shown.{ShownAnswers, object_plan, stages_plan};
 
 use hcl_compile::compile;
@@ -15,11 +16,12 @@ use y86_cli::{
     FILE_LIMIT, HCL_LIMIT, Ordered, Stop, load_image, pipe_design, read_file, say, status,
 };
 
-/// Runs an image, and says what is shown of it.
+/// Runs the image of an object text, and says what is shown of it.
 fn show_image<'a, O: Sink>(
     alloc: Global,
     variant: Variant,
     ordered: &Ordered,
+    object: &[u8],
     image: Image,
     limit: u64,
     window: &Window,
@@ -28,7 +30,7 @@ fn show_image<'a, O: Sink>(
     requires bound { IsBound pipe_rows ordered.now.design.terms }
     requires order { IsOrderOf pipe_rows ordered.now.design.terms ordered.now.order.ids }
     requires limit { limit ≤ 100000000 }
-    ensures { Says (ShownAnswers variant ordered.now.design.terms limit window.now image)
+    ensures { Says (ShownAnswers variant ordered.now.design.terms (listed object.now) limit window.now image)
         (sink_seen (O.taken out.old) (O.faults out.old)) (sink_seen (O.taken out.new) (O.faults out.new)) result }
 {
     let Ok(mut compiled) = compile(alloc, &ordered.design, &ordered.order) else {
@@ -40,6 +42,7 @@ fn show_image<'a, O: Sink>(
         &ordered.design,
         &ordered.order,
         &mut compiled,
+        object,
         image,
         limit,
         window,
@@ -75,11 +78,12 @@ fn show_object<'a, F: Files, O: Sink>(
         Ok(bytes) => bytes,
         Err(stop) => return Err(stop),
     };
-    let image = match load_image(alloc, obj, bytes.as_slice(), mem) {
+    let object = bytes.as_slice();
+    let image = match load_image(alloc, obj, object, mem) {
         Ok(image) => image,
         Err(stop) => return Err(stop),
     };
-    show_image(alloc, variant, ordered, image, limit, window, out)
+    show_image(alloc, variant, ordered, object, image, limit, window, out)
 }
 
 /// Reads an HCL file and an object file, and shows the run.

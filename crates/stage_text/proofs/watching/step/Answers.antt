@@ -4,4 +4,4 @@ use Rattle.stage_text.proofs.watching.step.Goals as goal
 
 pub returns-clause-after : goal.returns-clause-after
 returns-clause-after c =
-    seen_after _ _ _ _ _ (search rules) (search rules) (search rules) (search rules) (search rules) (search rules)
+    seen_after _ _ _ _ _ _ (search rules) (search rules) (search rules) (search rules) (search rules) (search rules)

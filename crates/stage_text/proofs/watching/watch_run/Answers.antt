@@ -1,16 +1,13 @@
-use Rattle.std.proofs.Common.{sym, ◌∙◌, arith}
-use Rattle.stage_text.proofs.Runs.{watches_more}
+use Rattle.std.proofs.Common.{◌∙◌}
+use Rattle.std.proofs.lemmas.Result.{IfOk-weaker}
+use Rattle.stage_text.proofs.Runs.{same_whole}
 use Rattle.stage_text.proofs.watching.watch_run.Goals as goal
 
-pub loop-k-preserved : goal.loop-k-preserved
-loop-k-preserved g c =
-    let before = c.loop-k.invariant in
-    let went = c.in-Ok.ensures.cycle in
-    let rows = c.in-Ok.ensures.few_rows in
-    let retired = c.in-Ok.ensures.few_retired in
-    record {
-      watches = watches_more _ _ _ _ c.loop-k.k c.loop-k.s _ went.0 before.watches (sym c.is_going.ensures ∙ c.if-not-is_going.false) went.1 went.2;
-      rows = omega (arith, rows, before.rows);
-      retired = omega (arith, retired, before.retired);
-      kept = c.in-Ok.ensures.kept;
-    }
+pub returns : goal.returns
+returns g c =
+    IfOk-weaker c.watch_listed.result _ _
+    (λ w h. (h.0, h.1, h.2, h.3 ∙ same_whole _ _ c.in-Ok-listing_of.ensures _ _ _, h.4))
+    c.watch_listed.ensures
+
+pub watch_listed-requires-clause-table : goal.watch_listed-requires-clause-table
+watch_listed-requires-clause-table g c = c.items.ensures ∙ c.in-Ok.ensures

@@ -10,10 +10,11 @@ pub returns-in-Err-load_image-clause-does : goal.returns-in-Err-load_image-claus
 unfolding object_plan
 returns-in-Err-load_image-clause-does g c =
     read_goes_on _ _ _ _ _ _ _ _ _ _ c.in-Ok.ensures.later c.in-Ok.ensures.bytes.0 c.in-Ok.ensures.bytes.1
-    (stage_refuses _ _ _ _ _ (rw c.as_slice.ensures.value at c.in-Err-load_image.ensures))
+    (stage_refuses _ _ _ _ _ (rw c.as_slice-object.ensures.value at c.in-Err-load_image.ensures))
 
 pub returns-clause-does : goal.returns-clause-does
 unfolding object_plan
 returns-clause-does g c =
     read_goes_on _ _ _ _ _ _ _ _ _ _ c.in-Ok.ensures.later c.in-Ok.ensures.bytes.0 c.in-Ok.ensures.bytes.1
-    (stage_goes_on _ _ _ _ _ _ _ _ (rw c.as_slice.ensures.value at c.in-Ok-load_image.ensures) (said _ _ _ _ _ _ c.show_image.ensures))
+    (stage_goes_on _ _ _ _ _ _ _ _ (rw c.as_slice-object.ensures.value at c.in-Ok-load_image.ensures)
+    (said _ _ _ _ _ _ (rw c.as_slice-object.ensures.value at c.show_image.ensures)))

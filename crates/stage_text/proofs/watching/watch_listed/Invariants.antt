@@ -1,6 +1,6 @@
 use Rattle.std.proofs.Common.{◌*◌, ◌≤◌}
 use Rattle.stage_text.specs.Watching.{Watches}
-use Rattle.stage_text.proofs.watching.watch_run.Given as goal
+use Rattle.stage_text.proofs.watching.watch_listed.Given as goal
 
 abbrev pub invariant-loop-k : goal.invariant-loop-k
 invariant-loop-k g l = record {
