@@ -1,11 +1,11 @@
 //! `big`: runs a generated program by the instructions and on PIPE under an HCL file, and compares the reports.
 ghost use Rattle.std.specs.Prelude.{◌≡◌, ◌≤◌, OnOk, OnErr};
 ghost use Rattle.dp_signals.specs.PipeTable.{pipe_rows};
-ghost use Rattle.hcl_types.specs.Tables.{IsBound, IsOrderOf};
 ghost use Rattle.wb_io.specs.Causes.{counted};
 ghost use Rattle.wb_io.specs.Sinks.{Puts};
 ghost use Rattle.y86_cli.specs.Answers.{big_plan};
 ghost use Rattle.y86_cli.specs.Big.{BigAnswers, big_line, big_status};
+ghost use Rattle.y86_cli.specs.Designs.{IsOrdered};
 ghost use Rattle.y86_cli.specs.Does.{Does, NoReadFailed, Says, files_seen, sink_seen};
 
 use crate::design::{Ordered, pipe_design};
@@ -62,12 +62,11 @@ fn say_big<'a, O: Sink>(
 ) -> Result<u8, Stop<'a>>
     requires least { 1 ≤ n }
     requires most { n ≤ 100000 }
-    requires bound { IsBound pipe_rows ordered.design.terms }
-    requires order { IsOrderOf pipe_rows ordered.design.terms ordered.order.ids }
+    requires ordered { IsOrdered pipe_rows ordered }
     ensures { Says (BigAnswers variant ordered.design.terms n)
         (sink_seen (O.taken out.old) (O.faults out.old)) (sink_seen (O.taken out.new) (O.faults out.new)) result }
 {
-    let Ordered { design, order } = ordered;
+    let Ordered { design, order, .. } = ordered;
     let both = match both_ways(alloc, variant, design, order, n) {
         Ok(both) => both,
         Err(_) => return Err(Stop::Memory),

@@ -1,14 +1,14 @@
 //! `check seq`, `check seqplus` and `check pipe`: the verdict on the design of an HCL file.
 ghost use Rattle.std.specs.Prelude.{◌≡◌, List, ℕ};
 ghost use Rattle.dp_signals.specs.PipeTable.{pipe_rows};
-ghost use Rattle.hcl_types.specs.Tables.{IsBound, IsOrderOf};
 ghost use Rattle.y86_cli.specs.Answers.{check_pipe_plan, check_seq_plan};
 ghost use Rattle.y86_cli.specs.Checks.{PipeChecks, SeqChecks};
 ghost use Rattle.y86_cli.specs.Datapaths.{rows_of};
+ghost use Rattle.y86_cli.specs.Designs.{IsOrdered};
 ghost use Rattle.y86_cli.specs.Does.{Does, NoReadFailed, Says, files_seen, sink_seen};
 
 use crate::datapath::Datapath;
-use crate::design::{Ordered, pipe_design, seq_design, table_of};
+use crate::design::{Ordered, pipe_design, seq_design};
 use crate::saying::say;
 use crate::sequential::{decided, seq_text};
 use crate::stages::{HCL_LIMIT, read_file};
@@ -29,21 +29,17 @@ fn say_seq<'a, O: Sink>(
     ordered: &Ordered,
     out: &mut O,
 ) -> Result<u8, Stop<'a>>
-    requires bound { IsBound (rows_of which) ordered.now.design.terms }
-    requires order { IsOrderOf (rows_of which) ordered.now.design.terms ordered.now.order.ids }
+    requires { IsOrdered (rows_of which) ordered.now }
     ensures { Says (SeqChecks which name.now variant ordered.now.design.terms)
         (sink_seen (O.taken out.old) (O.faults out.old)) (sink_seen (O.taken out.new) (O.faults out.new)) result }
 {
-    let Ok(table) = table_of(alloc, which) else {
-        return Err(Stop::Memory);
-    };
     match decided(alloc, which, variant, ordered) {
         Ok(None) => say(0, b"yes\n", out),
-        Ok(Some(failure)) => match seq_text(alloc, which, &table, ordered, &failure) {
+        Ok(Some(failure)) => match seq_text(alloc, which, ordered, &failure) {
             Ok(text) => say(1, text.as_slice(), out),
             Err(stop) => Err(stop),
         },
-        Err(CheckFault::Ctl(fault)) => Err(control_stop(alloc, name, table.rows.items(), fault)),
+        Err(CheckFault::Ctl(fault)) => Err(control_stop(alloc, name, ordered, fault)),
         Err(CheckFault::Memory) => Err(Stop::Memory),
     }
 }
@@ -83,8 +79,7 @@ fn say_pipe<'a, O: Sink>(
     ordered: &Ordered,
     out: &mut O,
 ) -> Result<u8, Stop<'a>>
-    requires bound { IsBound pipe_rows ordered.now.design.terms }
-    requires order { IsOrderOf pipe_rows ordered.now.design.terms ordered.now.order.ids }
+    requires { IsOrdered pipe_rows ordered.now }
     ensures { Says (PipeChecks name.now variant ordered.now.design.terms)
         (sink_seen (O.taken out.old) (O.faults out.old)) (sink_seen (O.taken out.new) (O.faults out.new)) result }
 {

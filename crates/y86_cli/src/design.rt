@@ -1,10 +1,10 @@
 //! The design stage: an HCL text, bound over a table, with an order of its signals; and names of rows as they are told.
 ghost use Rattle.std.specs.Prelude.{◌≡◌, ◌≢◌, ◌⊎◌, ◌++◌, ◌∷◌, [], Err, List, ℕ, IfOk, OnErr, OnOk, map};
 ghost use Rattle.dp_signals.specs.PipeTable.{pipe_rows};
-ghost use Rattle.hcl_types.specs.Tables.{IsBound, IsOrderOf, IsSound, row_names};
+ghost use Rattle.hcl_types.specs.Tables.{IsSound, row_names};
 ghost use Rattle.hcl_types.specs.declared.fault.BindWhy.TheVariants.{Memory as OutOfMemory};
 ghost use Rattle.y86_cli.specs.Datapaths.{rows_of};
-ghost use Rattle.y86_cli.specs.Designs.{IsDesign, RefusesDesign};
+ghost use Rattle.y86_cli.specs.Designs.{IsDesign, IsOrdered, RefusesDesign};
 ghost use Rattle.y86_cli.specs.Does.{GivesOne};
 ghost use Rattle.y86_cli.specs.Lines as text;
 ghost use Rattle.y86_cli.specs.Plan.{refused};
@@ -20,9 +20,10 @@ use hcl_types::{BindFault, BindWhy, Design, Order, Row, Table, bind};
 use seq_plus::{law_of_table, plus_table};
 use std::alloc::{AllocError, Global};
 
-/// A design and an order of its signals.
+/// A table, a design over it, and an order of the design's signals.
 #[derive(Drop)]
 pub struct Ordered {
+    pub table: Table,
     pub design: Design,
     pub order: Order,
 }
@@ -125,23 +126,26 @@ pub fn ordered_design<'a>(
     alloc: Global,
     name: &'a str,
     source: &[u8],
-    table: &Table,
+    table: Table,
 ) -> Result<Ordered, Stop<'a>>
-    requires { IsSound table.now.rows }
-    ensures design { GivesOne (IsDesign table.now.rows source.now) (RefusesDesign name.now table.now.rows source.now) (λ ordered. ordered.design.terms) result }
-    ensures bound { IfOk result (λ ordered. IsBound table.now.rows ordered.design.terms) }
-    ensures order { IfOk result (λ ordered. IsOrderOf table.now.rows ordered.design.terms ordered.order.ids) }
+    requires { IsSound table.rows }
+    ensures design { GivesOne (IsDesign table.rows source.now) (RefusesDesign name.now table.rows source.now) (λ ordered. ordered.design.terms) result }
+    ensures ordered { IfOk result (IsOrdered table.rows) }
 {
     let file = match read_hcl(alloc, name, source) {
         Ok(file) => file,
         Err(stop) => return Err(stop),
     };
-    let design = match bind(alloc, &file, table) {
+    let design = match bind(alloc, &file, &table) {
         Ok(design) => design,
         Err(fault) => return Err(bind_stop(alloc, name, fault)),
     };
-    match order(alloc, &design, table) {
-        Ok(order) => Ok(Ordered { design, order }),
+    match order(alloc, &design, &table) {
+        Ok(order) => Ok(Ordered {
+            table,
+            design,
+            order,
+        }),
         Err(OrderFault::Cycle(ids)) => {
             Err(cycle_stop(alloc, name, table.rows.items(), ids.items()))
         }
@@ -150,7 +154,7 @@ pub fn ordered_design<'a>(
 }
 
 /// The table of a sequential datapath.
-pub fn table_of<'a>(alloc: Global, which: Datapath) -> Result<Table, Stop<'a>>
+fn table_of<'a>(alloc: Global, which: Datapath) -> Result<Table, Stop<'a>>
     ensures rows { IfOk result (λ table. table.rows ≡ rows_of which) }
     ensures sound { IfOk result (λ table. IsSound table.rows) }
     ensures memory { OnErr result (result ≡ Err WantOfMemory) }
@@ -175,25 +179,23 @@ pub fn seq_design<'a>(
     source: &[u8],
 ) -> Result<Ordered, Stop<'a>>
     ensures design { GivesOne (IsDesign (rows_of which) source.now) (RefusesDesign name.now (rows_of which) source.now) (λ ordered. ordered.design.terms) result }
-    ensures bound { IfOk result (λ ordered. IsBound (rows_of which) ordered.design.terms) }
-    ensures order { IfOk result (λ ordered. IsOrderOf (rows_of which) ordered.design.terms ordered.order.ids) }
+    ensures ordered { IfOk result (IsOrdered (rows_of which)) }
 {
     let table = match table_of(alloc, which) {
         Ok(table) => table,
         Err(stop) => return Err(stop),
     };
-    ordered_design(alloc, name, source, &table)
+    ordered_design(alloc, name, source, table)
 }
 
 /// The design of an HCL text under a name, over PIPE's table, with an order of its signals.
 pub fn pipe_design<'a>(alloc: Global, name: &'a str, source: &[u8]) -> Result<Ordered, Stop<'a>>
     ensures design { GivesOne (IsDesign pipe_rows source.now) (RefusesDesign name.now pipe_rows source.now) (λ ordered. ordered.design.terms) result }
-    ensures bound { IfOk result (λ ordered. IsBound pipe_rows ordered.design.terms) }
-    ensures order { IfOk result (λ ordered. IsOrderOf pipe_rows ordered.design.terms ordered.order.ids) }
+    ensures ordered { IfOk result (IsOrdered pipe_rows) }
 {
     law_of_tables();
     let Ok(table) = pipe_table(alloc) else {
         return Err(Stop::Memory);
     };
-    ordered_design(alloc, name, source, &table)
+    ordered_design(alloc, name, source, table)
 }

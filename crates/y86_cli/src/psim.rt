@@ -1,11 +1,11 @@
 //! `psim`: runs an object file on PIPE under an HCL file.
 ghost use Rattle.std.specs.Prelude.{◌≡◌, ◌<◌, ◌≤◌, ◌^◌, ◌++◌, List, ℕ, OnOk, OnErr, length};
 ghost use Rattle.dp_signals.specs.PipeTable.{pipe_rows};
-ghost use Rattle.hcl_types.specs.Tables.{IsBound, IsOrderOf};
 ghost use Rattle.wb_io.specs.Causes.{counted};
 ghost use Rattle.wb_io.specs.Sinks.{Puts};
 ghost use Rattle.y86_base.specs.Image.{IsSize};
 ghost use Rattle.y86_cli.specs.Answers.{PipeAnswers, checked_plan, pipe_plan, psim_plan};
+ghost use Rattle.y86_cli.specs.Designs.{IsOrdered};
 ghost use Rattle.y86_cli.specs.Does.{Does, NoReadFailed, Says, files_seen, sink_seen};
 ghost use Rattle.y86_cli.specs.PipeRuns.{ran_line};
 ghost use Rattle.yis_run.specs.Report as text;
@@ -67,8 +67,7 @@ pub fn run_pipe<'a, O: Sink>(
     verdict: &[u8],
     out: &mut O,
 ) -> Result<u8, Stop<'a>>
-    requires bound { IsBound pipe_rows ordered.design.terms }
-    requires order { IsOrderOf pipe_rows ordered.design.terms ordered.order.ids }
+    requires ordered { IsOrdered pipe_rows ordered }
     requires limit { limit < 2 ^ 63 }
     ensures { Says (PipeAnswers variant ordered.design.terms limit trace verdict.now image)
         (sink_seen (O.taken out.old) (O.faults out.old)) (sink_seen (O.taken out.new) (O.faults out.new)) result }
@@ -76,7 +75,7 @@ pub fn run_pipe<'a, O: Sink>(
     let Ok(first) = image.copy(alloc) else {
         return Err(Stop::Memory);
     };
-    let Ordered { design, order } = ordered;
+    let Ordered { design, order, .. } = ordered;
     let Ok(compiled) = compile(alloc, &design, &order) else {
         return Err(Stop::Memory);
     };
@@ -111,8 +110,7 @@ fn run_object<'a, F: Files, O: Sink>(
 ) -> Result<u8, Stop<'a>>
     requires size { IsSize mem }
     requires limit { limit ≤ 100000000 }
-    requires bound { IsBound pipe_rows ordered.design.terms }
-    requires order { IsOrderOf pipe_rows ordered.design.terms ordered.order.ids }
+    requires ordered { IsOrdered pipe_rows ordered }
     ensures does { Does (pipe_plan verdict.now ordered.design.terms obj.now mem limit trace variant)
         (files_seen (F.told files.old) (F.faults files.old)) (files_seen (F.told files.new) (F.faults files.new))
         (sink_seen (O.taken out.old) (O.faults out.old)) (sink_seen (O.taken out.new) (O.faults out.new)) result }
@@ -146,8 +144,7 @@ fn run_checked<'a, F: Files, O: Sink>(
 ) -> Result<u8, Stop<'a>>
     requires size { IsSize mem }
     requires limit { limit ≤ 100000000 }
-    requires bound { IsBound pipe_rows ordered.design.terms }
-    requires order { IsOrderOf pipe_rows ordered.design.terms ordered.order.ids }
+    requires ordered { IsOrdered pipe_rows ordered }
     ensures does { Does (checked_plan name.now ordered.design.terms obj.now mem limit trace checked variant)
         (files_seen (F.told files.old) (F.faults files.old)) (files_seen (F.told files.new) (F.faults files.new))
         (sink_seen (O.taken out.old) (O.faults out.old)) (sink_seen (O.taken out.new) (O.faults out.new)) result }

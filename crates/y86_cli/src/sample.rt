@@ -1,9 +1,9 @@
 //! `sample`: drawn control valuations against the obligations of an HCL file for PIPE.
 ghost use Rattle.std.specs.Prelude.{◌≡◌, ◌⊎◌, ◌≤◌, IfErr, IfOk, List, ℕ};
 ghost use Rattle.dp_signals.specs.PipeTable.{pipe_rows};
-ghost use Rattle.hcl_types.specs.Tables.{IsBound, IsOrderOf};
 ghost use Rattle.y86_cli.specs.Answers.{sample_plan};
 ghost use Rattle.y86_cli.specs.Checks.{RefusesControl};
+ghost use Rattle.y86_cli.specs.Designs.{IsOrdered};
 ghost use Rattle.y86_cli.specs.Does.{Does, NoReadFailed, Says, files_seen, sink_seen};
 ghost use Rattle.y86_cli.specs.Plan.{done};
 ghost use Rattle.y86_cli.specs.Samples.{IsSampled, SampleAnswers, found_line, none_line};
@@ -15,7 +15,6 @@ use crate::stages::{HCL_LIMIT, read_file};
 use crate::stop::Stop;
 use crate::verdict::control_stop;
 use control_check::{CheckFault, file_rules};
-use dp_signals::{law_of_tables, pipe_table};
 use lane_eval::{Found, first_false};
 use std::alloc::Global;
 use wb_io::{Files, Sink, put_pieces};
@@ -30,21 +29,16 @@ fn sampled<'a>(
     seed: u64,
     count: u64,
 ) -> Result<Option<Found>, Stop<'a>>
-    requires bound { IsBound pipe_rows ordered.now.design.terms }
-    requires order { IsOrderOf pipe_rows ordered.now.design.terms ordered.now.order.ids }
+    requires { IsOrdered pipe_rows ordered.now }
     ensures found { IfOk result (IsSampled variant ordered.now.design.terms seed count) }
     ensures refused { IfErr result (λ stop. (stop ≡ WantOfMemory) ⊎ ((status_of stop ≡ 5) × RefusesControl name.now pipe_rows ordered.now.design.terms (answer_at stop))) }
 {
-    law_of_tables();
-    let Ok(table) = pipe_table(alloc) else {
-        return Err(Stop::Memory);
-    };
     match file_rules(alloc, variant, &ordered.design, &ordered.order) {
         Ok(rules) => match first_false(alloc, &rules, seed, count) {
             Ok(found) => Ok(found),
             Err(Memory) => Err(Stop::Memory),
         },
-        Err(CheckFault::Ctl(fault)) => Err(control_stop(alloc, name, table.rows.items(), fault)),
+        Err(CheckFault::Ctl(fault)) => Err(control_stop(alloc, name, ordered, fault)),
         Err(CheckFault::Memory) => Err(Stop::Memory),
     }
 }
@@ -90,8 +84,7 @@ fn say_sample<'a, O: Sink>(
     count: u64,
     out: &mut O,
 ) -> Result<u8, Stop<'a>>
-    requires bound { IsBound pipe_rows ordered.now.design.terms }
-    requires order { IsOrderOf pipe_rows ordered.now.design.terms ordered.now.order.ids }
+    requires { IsOrdered pipe_rows ordered.now }
     ensures { Says (SampleAnswers name.now variant ordered.now.design.terms seed count)
         (sink_seen (O.taken out.old) (O.faults out.old)) (sink_seen (O.taken out.new) (O.faults out.new)) result }
 {

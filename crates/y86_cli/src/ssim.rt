@@ -2,10 +2,10 @@
 ghost use Rattle.std.specs.Prelude.{◌≡◌, List, ℕ};
 ghost use Rattle.dp_signals.specs.SeqTable.{seq_rows};
 ghost use Rattle.seq_plus.specs.PlusTable.{plus_rows};
-ghost use Rattle.hcl_types.specs.Tables.{IsBound, IsOrderOf};
 ghost use Rattle.y86_base.specs.Image.{IsSize};
 ghost use Rattle.y86_cli.specs.Answers.{SeqAnswers, seq_plan, ssim_plan};
 ghost use Rattle.y86_cli.specs.Datapaths.{rows_of};
+ghost use Rattle.y86_cli.specs.Designs.{IsOrdered};
 ghost use Rattle.y86_cli.specs.Does.{Does, NoReadFailed, Says, files_seen, sink_seen};
 ghost use Rattle.y86_cli.specs.declared.datapath.Datapath.TheVariants.{Plus as OnPlus, Seq as OnSeq};
 
@@ -30,15 +30,14 @@ fn run_seq<'a, O: Sink>(
     limit: u64,
     out: &mut O,
 ) -> Result<u8, Stop<'a>>
-    requires bound { IsBound seq_rows ordered.design.terms }
-    requires order { IsOrderOf seq_rows ordered.design.terms ordered.order.ids }
+    requires { IsOrdered seq_rows ordered }
     ensures { Says (SeqAnswers OnSeq variant ordered.design.terms limit image)
         (sink_seen (O.taken out.old) (O.faults out.old)) (sink_seen (O.taken out.new) (O.faults out.new)) result }
 {
     let Ok(first) = image.copy(alloc) else {
         return Err(Stop::Memory);
     };
-    let Ordered { design, order } = ordered;
+    let Ordered { design, order, .. } = ordered;
     let Ok(compiled) = compile(alloc, &design, &order) else {
         return Err(Stop::Memory);
     };
@@ -60,15 +59,14 @@ fn run_plus<'a, O: Sink>(
     limit: u64,
     out: &mut O,
 ) -> Result<u8, Stop<'a>>
-    requires bound { IsBound plus_rows ordered.design.terms }
-    requires order { IsOrderOf plus_rows ordered.design.terms ordered.order.ids }
+    requires { IsOrdered plus_rows ordered }
     ensures { Says (SeqAnswers OnPlus variant ordered.design.terms limit image)
         (sink_seen (O.taken out.old) (O.faults out.old)) (sink_seen (O.taken out.new) (O.faults out.new)) result }
 {
     let Ok(first) = image.copy(alloc) else {
         return Err(Stop::Memory);
     };
-    let Ordered { design, order } = ordered;
+    let Ordered { design, order, .. } = ordered;
     let Ok(compiled) = compile(alloc, &design, &order) else {
         return Err(Stop::Memory);
     };
@@ -91,8 +89,7 @@ fn run_image<'a, O: Sink>(
     limit: u64,
     out: &mut O,
 ) -> Result<u8, Stop<'a>>
-    requires bound { IsBound (rows_of which) ordered.design.terms }
-    requires order { IsOrderOf (rows_of which) ordered.design.terms ordered.order.ids }
+    requires { IsOrdered (rows_of which) ordered }
     ensures { Says (SeqAnswers which variant ordered.design.terms limit image)
         (sink_seen (O.taken out.old) (O.faults out.old)) (sink_seen (O.taken out.new) (O.faults out.new)) result }
 {
@@ -115,8 +112,7 @@ fn run_object<'a, F: Files, O: Sink>(
     out: &mut O,
 ) -> Result<u8, Stop<'a>>
     requires size { IsSize mem }
-    requires bound { IsBound (rows_of which) ordered.design.terms }
-    requires order { IsOrderOf (rows_of which) ordered.design.terms ordered.order.ids }
+    requires ordered { IsOrdered (rows_of which) ordered }
     ensures does { Does (seq_plan which ordered.design.terms obj.now mem limit variant)
         (files_seen (F.told files.old) (F.faults files.old)) (files_seen (F.told files.new) (F.faults files.new))
         (sink_seen (O.taken out.old) (O.faults out.old)) (sink_seen (O.taken out.new) (O.faults out.new)) result }
