@@ -5,7 +5,7 @@ ghost use Rattle.y86_cli.specs.AigerTexts.{AigAnswers, TellsObligations};
 ghost use Rattle.y86_cli.specs.Answers.{aig_plan};
 ghost use Rattle.y86_cli.specs.Checks.{RefusesControl};
 ghost use Rattle.y86_cli.specs.Designs.{IsOrdered};
-ghost use Rattle.y86_cli.specs.Does.{Does, NoReadFailed, Says, files_seen, sink_seen};
+ghost use Rattle.y86_cli.specs.Does.{DoesOver, SaysOn};
 ghost use Rattle.y86_cli.specs.Stops.{answer_at, status_of};
 ghost use Rattle.y86_cli.specs.declared.stop.Stop.TheVariants.{Memory as WantOfMemory};
 
@@ -53,8 +53,7 @@ fn say_obligations<'a, O: Sink>(
     out: &mut O,
 ) -> Result<u8, Stop<'a>>
     requires { IsOrdered pipe_rows ordered.now }
-    ensures { Says (AigAnswers name.now variant ordered.now.design.terms)
-        (sink_seen (O.taken out.old) (O.faults out.old)) (sink_seen (O.taken out.new) (O.faults out.new)) result }
+    ensures { SaysOn O.taken O.faults (AigAnswers name.now variant ordered.now.design.terms) out.old out.new result }
 {
     match obligation_text(alloc, name, variant, ordered) {
         Ok(text) => say(0, text.as_slice(), out),
@@ -70,10 +69,8 @@ pub fn aig_file<'a, F: Files, O: Sink>(
     files: &mut F,
     out: &mut O,
 ) -> Result<u8, Stop<'a>>
-    ensures does { Does (aig_plan name.now variant)
-        (files_seen (F.told files.old) (F.faults files.old)) (files_seen (F.told files.new) (F.faults files.new))
-        (sink_seen (O.taken out.old) (O.faults out.old)) (sink_seen (O.taken out.new) (O.faults out.new)) result }
-    ensures no_read_failed { NoReadFailed (files_seen (F.told files.old) (F.faults files.old)) (files_seen (F.told files.new) (F.faults files.new)) result }
+    ensures { DoesOver F.told F.faults O.taken O.faults (aig_plan name.now variant)
+        files.old files.new out.old out.new result }
 {
     let source = match read_file(alloc, name, HCL_LIMIT, files) {
         Ok(source) => source,

@@ -3,7 +3,7 @@ ghost use Rattle.std.specs.Prelude.{◌≡◌, ◌⊎◌, IfErr, IfOk, List, ℕ
 ghost use Rattle.aiger_run.specs.Told.{TellsCounts};
 ghost use Rattle.y86_cli.specs.AigerTexts.{AigrunAnswers, RefusesAag, aag_reason};
 ghost use Rattle.y86_cli.specs.Answers.{aigrun_plan};
-ghost use Rattle.y86_cli.specs.Does.{Does, NoReadFailed, Says, files_seen, sink_seen};
+ghost use Rattle.y86_cli.specs.Does.{DoesOver, SaysOn};
 ghost use Rattle.y86_cli.specs.Stops.{answer_at, status_of};
 ghost use Rattle.y86_cli.specs.declared.stop.Stop.TheVariants.{Memory as WantOfMemory};
 
@@ -60,8 +60,7 @@ fn say_counts<'a, O: Sink>(
     seed: u64,
     out: &mut O,
 ) -> Result<u8, Stop<'a>>
-    ensures { Says (AigrunAnswers name.now bytes.now seed)
-        (sink_seen (O.taken out.old) (O.faults out.old)) (sink_seen (O.taken out.new) (O.faults out.new)) result }
+    ensures { SaysOn O.taken O.faults (AigrunAnswers name.now bytes.now seed) out.old out.new result }
 {
     match counts_of(alloc, name, bytes, seed) {
         Ok(text) => say(0, text.as_slice(), out),
@@ -77,10 +76,8 @@ pub fn aigrun_file<'a, F: Files, O: Sink>(
     files: &mut F,
     out: &mut O,
 ) -> Result<u8, Stop<'a>>
-    ensures does { Does (aigrun_plan name.now seed)
-        (files_seen (F.told files.old) (F.faults files.old)) (files_seen (F.told files.new) (F.faults files.new))
-        (sink_seen (O.taken out.old) (O.faults out.old)) (sink_seen (O.taken out.new) (O.faults out.new)) result }
-    ensures no_read_failed { NoReadFailed (files_seen (F.told files.old) (F.faults files.old)) (files_seen (F.told files.new) (F.faults files.new)) result }
+    ensures { DoesOver F.told F.faults O.taken O.faults (aigrun_plan name.now seed)
+        files.old files.new out.old out.new result }
 {
     let bytes = match read_file(alloc, name, AAG_LIMIT, files) {
         Ok(bytes) => bytes,

@@ -6,7 +6,7 @@ ghost use Rattle.wb_io.specs.Sinks.{Puts};
 ghost use Rattle.y86_cli.specs.Answers.{big_plan};
 ghost use Rattle.y86_cli.specs.Big.{BigAnswers, big_line, big_status};
 ghost use Rattle.y86_cli.specs.Designs.{IsOrdered};
-ghost use Rattle.y86_cli.specs.Does.{Does, NoReadFailed, Says, files_seen, sink_seen};
+ghost use Rattle.y86_cli.specs.Does.{DoesOver, SaysOn};
 
 use crate::design::{Ordered, pipe_design};
 use crate::stages::{HCL_LIMIT, read_file};
@@ -63,8 +63,7 @@ fn say_big<'a, O: Sink>(
     requires least { 1 ≤ n }
     requires most { n ≤ 100000 }
     requires ordered { IsOrdered pipe_rows ordered }
-    ensures { Says (BigAnswers variant ordered.design.terms n)
-        (sink_seen (O.taken out.old) (O.faults out.old)) (sink_seen (O.taken out.new) (O.faults out.new)) result }
+    ensures { SaysOn O.taken O.faults (BigAnswers variant ordered.design.terms n) out.old out.new result }
 {
     let Ordered { design, order, .. } = ordered;
     let both = match both_ways(alloc, variant, design, order, n) {
@@ -88,10 +87,8 @@ pub fn big<'a, F: Files, O: Sink>(
 ) -> Result<u8, Stop<'a>>
     requires least { 1 ≤ n }
     requires most { n ≤ 100000 }
-    ensures does { Does (big_plan n name.now variant)
-        (files_seen (F.told files.old) (F.faults files.old)) (files_seen (F.told files.new) (F.faults files.new))
-        (sink_seen (O.taken out.old) (O.faults out.old)) (sink_seen (O.taken out.new) (O.faults out.new)) result }
-    ensures no_read_failed { NoReadFailed (files_seen (F.told files.old) (F.faults files.old)) (files_seen (F.told files.new) (F.faults files.new)) result }
+    ensures { DoesOver F.told F.faults O.taken O.faults (big_plan n name.now variant)
+        files.old files.new out.old out.new result }
 {
     let source = match read_file(alloc, name, HCL_LIMIT, files) {
         Ok(source) => source,

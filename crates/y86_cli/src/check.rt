@@ -5,7 +5,7 @@ ghost use Rattle.y86_cli.specs.Answers.{check_pipe_plan, check_seq_plan};
 ghost use Rattle.y86_cli.specs.Checks.{PipeChecks, SeqChecks};
 ghost use Rattle.y86_cli.specs.Datapaths.{rows_of};
 ghost use Rattle.y86_cli.specs.Designs.{IsOrdered};
-ghost use Rattle.y86_cli.specs.Does.{Does, NoReadFailed, Says, files_seen, sink_seen};
+ghost use Rattle.y86_cli.specs.Does.{DoesOver, SaysOn};
 
 use crate::datapath::Datapath;
 use crate::design::{Ordered, pipe_design, seq_design};
@@ -30,8 +30,7 @@ fn say_seq<'a, O: Sink>(
     out: &mut O,
 ) -> Result<u8, Stop<'a>>
     requires { IsOrdered (rows_of which) ordered.now }
-    ensures { Says (SeqChecks which name.now variant ordered.now.design.terms)
-        (sink_seen (O.taken out.old) (O.faults out.old)) (sink_seen (O.taken out.new) (O.faults out.new)) result }
+    ensures { SaysOn O.taken O.faults (SeqChecks which name.now variant ordered.now.design.terms) out.old out.new result }
 {
     match decided(alloc, which, variant, ordered) {
         Ok(None) => say(0, b"yes\n", out),
@@ -54,10 +53,8 @@ pub fn check_seq_file<'a, F: Files, O: Sink>(
     files: &mut F,
     out: &mut O,
 ) -> Result<u8, Stop<'a>>
-    ensures does { Does (check_seq_plan which name.now variant)
-        (files_seen (F.told files.old) (F.faults files.old)) (files_seen (F.told files.new) (F.faults files.new))
-        (sink_seen (O.taken out.old) (O.faults out.old)) (sink_seen (O.taken out.new) (O.faults out.new)) result }
-    ensures no_read_failed { NoReadFailed (files_seen (F.told files.old) (F.faults files.old)) (files_seen (F.told files.new) (F.faults files.new)) result }
+    ensures { DoesOver F.told F.faults O.taken O.faults (check_seq_plan which name.now variant)
+        files.old files.new out.old out.new result }
 {
     let source = match read_file(alloc, name, HCL_LIMIT, files) {
         Ok(source) => source,
@@ -80,8 +77,7 @@ fn say_pipe<'a, O: Sink>(
     out: &mut O,
 ) -> Result<u8, Stop<'a>>
     requires { IsOrdered pipe_rows ordered.now }
-    ensures { Says (PipeChecks name.now variant ordered.now.design.terms)
-        (sink_seen (O.taken out.old) (O.faults out.old)) (sink_seen (O.taken out.new) (O.faults out.new)) result }
+    ensures { SaysOn O.taken O.faults (PipeChecks name.now variant ordered.now.design.terms) out.old out.new result }
 {
     match pipe_verdict(alloc, name, variant, ordered) {
         Ok(PipeText::Yes(text)) => say(0, text.as_slice(), out),
@@ -99,10 +95,8 @@ pub fn check_pipe_file<'a, F: Files, O: Sink>(
     files: &mut F,
     out: &mut O,
 ) -> Result<u8, Stop<'a>>
-    ensures does { Does (check_pipe_plan name.now variant)
-        (files_seen (F.told files.old) (F.faults files.old)) (files_seen (F.told files.new) (F.faults files.new))
-        (sink_seen (O.taken out.old) (O.faults out.old)) (sink_seen (O.taken out.new) (O.faults out.new)) result }
-    ensures no_read_failed { NoReadFailed (files_seen (F.told files.old) (F.faults files.old)) (files_seen (F.told files.new) (F.faults files.new)) result }
+    ensures { DoesOver F.told F.faults O.taken O.faults (check_pipe_plan name.now variant)
+        files.old files.new out.old out.new result }
 {
     let source = match read_file(alloc, name, HCL_LIMIT, files) {
         Ok(source) => source,

@@ -6,7 +6,7 @@ ghost use Rattle.wb_io.specs.Sinks.{Puts};
 ghost use Rattle.y86_base.specs.Image.{IsSize};
 ghost use Rattle.y86_cli.specs.Answers.{PipeAnswers, checked_plan, pipe_plan, psim_plan};
 ghost use Rattle.y86_cli.specs.Designs.{IsOrdered};
-ghost use Rattle.y86_cli.specs.Does.{Does, NoReadFailed, Says, files_seen, sink_seen};
+ghost use Rattle.y86_cli.specs.Does.{DoesOver, SaysOn};
 ghost use Rattle.y86_cli.specs.PipeRuns.{ran_line};
 ghost use Rattle.yis_run.specs.Report as text;
 
@@ -69,8 +69,7 @@ pub fn run_pipe<'a, O: Sink>(
 ) -> Result<u8, Stop<'a>>
     requires ordered { IsOrdered pipe_rows ordered }
     requires limit { limit < 2 ^ 63 }
-    ensures { Says (PipeAnswers variant ordered.design.terms limit trace verdict.now image)
-        (sink_seen (O.taken out.old) (O.faults out.old)) (sink_seen (O.taken out.new) (O.faults out.new)) result }
+    ensures { SaysOn O.taken O.faults (PipeAnswers variant ordered.design.terms limit trace verdict.now image) out.old out.new result }
 {
     let Ok(first) = image.copy(alloc) else {
         return Err(Stop::Memory);
@@ -111,10 +110,8 @@ fn run_object<'a, F: Files, O: Sink>(
     requires size { IsSize mem }
     requires limit { limit ≤ 100000000 }
     requires ordered { IsOrdered pipe_rows ordered }
-    ensures does { Does (pipe_plan verdict.now ordered.design.terms obj.now mem limit trace variant)
-        (files_seen (F.told files.old) (F.faults files.old)) (files_seen (F.told files.new) (F.faults files.new))
-        (sink_seen (O.taken out.old) (O.faults out.old)) (sink_seen (O.taken out.new) (O.faults out.new)) result }
-    ensures no_read_failed { NoReadFailed (files_seen (F.told files.old) (F.faults files.old)) (files_seen (F.told files.new) (F.faults files.new)) result }
+    ensures { DoesOver F.told F.faults O.taken O.faults (pipe_plan verdict.now ordered.design.terms obj.now mem limit trace variant)
+        files.old files.new out.old out.new result }
 {
     let bytes = match read_file(alloc, obj, FILE_LIMIT, files) {
         Ok(bytes) => bytes,
@@ -145,10 +142,8 @@ fn run_checked<'a, F: Files, O: Sink>(
     requires size { IsSize mem }
     requires limit { limit ≤ 100000000 }
     requires ordered { IsOrdered pipe_rows ordered }
-    ensures does { Does (checked_plan name.now ordered.design.terms obj.now mem limit trace checked variant)
-        (files_seen (F.told files.old) (F.faults files.old)) (files_seen (F.told files.new) (F.faults files.new))
-        (sink_seen (O.taken out.old) (O.faults out.old)) (sink_seen (O.taken out.new) (O.faults out.new)) result }
-    ensures no_read_failed { NoReadFailed (files_seen (F.told files.old) (F.faults files.old)) (files_seen (F.told files.new) (F.faults files.new)) result }
+    ensures { DoesOver F.told F.faults O.taken O.faults (checked_plan name.now ordered.design.terms obj.now mem limit trace checked variant)
+        files.old files.new out.old out.new result }
 {
     if !checked {
         return run_object(
@@ -188,10 +183,8 @@ pub fn psim<'a, F: Files, O: Sink>(
 ) -> Result<u8, Stop<'a>>
     requires size { IsSize mem }
     requires limit { limit ≤ 100000000 }
-    ensures does { Does (psim_plan name.now obj.now mem limit trace checked variant)
-        (files_seen (F.told files.old) (F.faults files.old)) (files_seen (F.told files.new) (F.faults files.new))
-        (sink_seen (O.taken out.old) (O.faults out.old)) (sink_seen (O.taken out.new) (O.faults out.new)) result }
-    ensures no_read_failed { NoReadFailed (files_seen (F.told files.old) (F.faults files.old)) (files_seen (F.told files.new) (F.faults files.new)) result }
+    ensures { DoesOver F.told F.faults O.taken O.faults (psim_plan name.now obj.now mem limit trace checked variant)
+        files.old files.new out.old out.new result }
 {
     let source = match read_file(alloc, name, HCL_LIMIT, files) {
         Ok(source) => source,

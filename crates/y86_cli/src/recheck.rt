@@ -7,7 +7,7 @@ ghost use Rattle.y86_cli.specs.Answers.{certificate_plan, recheck_plan};
 ghost use Rattle.y86_cli.specs.Certified.{Rechecks, TellsCert, cert_reason};
 ghost use Rattle.y86_cli.specs.Checks.{RefusesControl};
 ghost use Rattle.y86_cli.specs.Designs.{IsOrdered};
-ghost use Rattle.y86_cli.specs.Does.{Does, GivesOne, NoReadFailed, Says, files_seen, sink_seen};
+ghost use Rattle.y86_cli.specs.Does.{DoesOver, GivesOne, SaysOn};
 
 use crate::design::{Ordered, pipe_design};
 use crate::saying::say;
@@ -78,8 +78,7 @@ fn say_recheck<'a, O: Sink>(
 ) -> Result<u8, Stop<'a>>
     requires ordered { IsOrdered pipe_rows ordered.now }
     requires atoms { HasAtoms ordered.now.design.terms }
-    ensures { Says (Rechecks cert.now variant ordered.now.design.terms text.now)
-        (sink_seen (O.taken out.old) (O.faults out.old)) (sink_seen (O.taken out.new) (O.faults out.new)) result }
+    ensures { SaysOn O.taken O.faults (Rechecks cert.now variant ordered.now.design.terms text.now) out.old out.new result }
 {
     match recheck_file(alloc, variant, &ordered.design, &ordered.order, text) {
         Ok(settings) => match holds(alloc, &settings) {
@@ -101,10 +100,8 @@ fn recheck_text<'a, F: Files, O: Sink>(
 ) -> Result<u8, Stop<'a>>
     requires ordered { IsOrdered pipe_rows ordered.now }
     requires atoms { HasAtoms ordered.now.design.terms }
-    ensures does { Does (certificate_plan cert.now variant ordered.now.design.terms)
-        (files_seen (F.told files.old) (F.faults files.old)) (files_seen (F.told files.new) (F.faults files.new))
-        (sink_seen (O.taken out.old) (O.faults out.old)) (sink_seen (O.taken out.new) (O.faults out.new)) result }
-    ensures no_read_failed { NoReadFailed (files_seen (F.told files.old) (F.faults files.old)) (files_seen (F.told files.new) (F.faults files.new)) result }
+    ensures { DoesOver F.told F.faults O.taken O.faults (certificate_plan cert.now variant ordered.now.design.terms)
+        files.old files.new out.old out.new result }
 {
     let text = match read_file(alloc, cert, CERT_LIMIT, files) {
         Ok(text) => text,
@@ -122,10 +119,8 @@ pub fn recheck<'a, F: Files, O: Sink>(
     files: &mut F,
     out: &mut O,
 ) -> Result<u8, Stop<'a>>
-    ensures does { Does (recheck_plan name.now cert.now variant)
-        (files_seen (F.told files.old) (F.faults files.old)) (files_seen (F.told files.new) (F.faults files.new))
-        (sink_seen (O.taken out.old) (O.faults out.old)) (sink_seen (O.taken out.new) (O.faults out.new)) result }
-    ensures no_read_failed { NoReadFailed (files_seen (F.told files.old) (F.faults files.old)) (files_seen (F.told files.new) (F.faults files.new)) result }
+    ensures { DoesOver F.told F.faults O.taken O.faults (recheck_plan name.now cert.now variant)
+        files.old files.new out.old out.new result }
 {
     let source = match read_file(alloc, name, HCL_LIMIT, files) {
         Ok(source) => source,

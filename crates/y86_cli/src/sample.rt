@@ -4,7 +4,7 @@ ghost use Rattle.dp_signals.specs.PipeTable.{pipe_rows};
 ghost use Rattle.y86_cli.specs.Answers.{sample_plan};
 ghost use Rattle.y86_cli.specs.Checks.{RefusesControl};
 ghost use Rattle.y86_cli.specs.Designs.{IsOrdered};
-ghost use Rattle.y86_cli.specs.Does.{Does, NoReadFailed, Says, files_seen, sink_seen};
+ghost use Rattle.y86_cli.specs.Does.{DoesOver, SaysOn};
 ghost use Rattle.y86_cli.specs.Plan.{done};
 ghost use Rattle.y86_cli.specs.Samples.{IsSampled, SampleAnswers, found_line, none_line};
 ghost use Rattle.y86_cli.specs.Stops.{answer_at, status_of};
@@ -46,8 +46,7 @@ fn sampled<'a>(
 /// Writes that no obligation is false at so many valuations.
 #[tactic(auto, unfolding(crate::specs::Samples::none_line))]
 fn say_none<'a, O: Sink>(count: u64, out: &mut O) -> Result<u8, Stop<'a>>
-    ensures { Says (λ a. a ≡ done 0 (none_line count))
-        (sink_seen (O.taken out.old) (O.faults out.old)) (sink_seen (O.taken out.new) (O.faults out.new)) result }
+    ensures { SaysOn O.taken O.faults (λ a. a ≡ done 0 (none_line count)) out.old out.new result }
 {
     let number = Numeral::decimal(count);
     match put_pieces(out, &[b"none in ", number.as_bytes(), b"\n"]) {
@@ -59,8 +58,7 @@ fn say_none<'a, O: Sink>(count: u64, out: &mut O) -> Result<u8, Stop<'a>>
 /// Writes which obligation is false at which valuation.
 #[tactic(auto, unfolding(crate::specs::Samples::found_line))]
 fn say_found<'a, O: Sink>(found: Found, out: &mut O) -> Result<u8, Stop<'a>>
-    ensures { Says (λ a. a ≡ done 1 (found_line found.index found.rule))
-        (sink_seen (O.taken out.old) (O.faults out.old)) (sink_seen (O.taken out.new) (O.faults out.new)) result }
+    ensures { SaysOn O.taken O.faults (λ a. a ≡ done 1 (found_line found.index found.rule)) out.old out.new result }
 {
     let index = Numeral::decimal(found.index);
     let rule = Numeral::decimal(u64::from(found.rule));
@@ -85,8 +83,7 @@ fn say_sample<'a, O: Sink>(
     out: &mut O,
 ) -> Result<u8, Stop<'a>>
     requires { IsOrdered pipe_rows ordered.now }
-    ensures { Says (SampleAnswers name.now variant ordered.now.design.terms seed count)
-        (sink_seen (O.taken out.old) (O.faults out.old)) (sink_seen (O.taken out.new) (O.faults out.new)) result }
+    ensures { SaysOn O.taken O.faults (SampleAnswers name.now variant ordered.now.design.terms seed count) out.old out.new result }
 {
     match sampled(alloc, name, variant, ordered, seed, count) {
         Ok(None) => say_none(count, out),
@@ -105,10 +102,8 @@ pub fn sample<'a, F: Files, O: Sink>(
     files: &mut F,
     out: &mut O,
 ) -> Result<u8, Stop<'a>>
-    ensures does { Does (sample_plan name.now seed count variant)
-        (files_seen (F.told files.old) (F.faults files.old)) (files_seen (F.told files.new) (F.faults files.new))
-        (sink_seen (O.taken out.old) (O.faults out.old)) (sink_seen (O.taken out.new) (O.faults out.new)) result }
-    ensures no_read_failed { NoReadFailed (files_seen (F.told files.old) (F.faults files.old)) (files_seen (F.told files.new) (F.faults files.new)) result }
+    ensures { DoesOver F.told F.faults O.taken O.faults (sample_plan name.now seed count variant)
+        files.old files.new out.old out.new result }
 {
     let source = match read_file(alloc, name, HCL_LIMIT, files) {
         Ok(source) => source,

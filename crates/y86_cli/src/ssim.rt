@@ -6,7 +6,7 @@ ghost use Rattle.y86_base.specs.Image.{IsSize};
 ghost use Rattle.y86_cli.specs.Answers.{SeqAnswers, seq_plan, ssim_plan};
 ghost use Rattle.y86_cli.specs.Datapaths.{rows_of};
 ghost use Rattle.y86_cli.specs.Designs.{IsOrdered};
-ghost use Rattle.y86_cli.specs.Does.{Does, NoReadFailed, Says, files_seen, sink_seen};
+ghost use Rattle.y86_cli.specs.Does.{DoesOver, SaysOn};
 ghost use Rattle.y86_cli.specs.declared.datapath.Datapath.TheVariants.{Plus as OnPlus, Seq as OnSeq};
 
 use crate::datapath::Datapath;
@@ -31,8 +31,7 @@ fn run_seq<'a, O: Sink>(
     out: &mut O,
 ) -> Result<u8, Stop<'a>>
     requires { IsOrdered seq_rows ordered }
-    ensures { Says (SeqAnswers OnSeq variant ordered.design.terms limit image)
-        (sink_seen (O.taken out.old) (O.faults out.old)) (sink_seen (O.taken out.new) (O.faults out.new)) result }
+    ensures { SaysOn O.taken O.faults (SeqAnswers OnSeq variant ordered.design.terms limit image) out.old out.new result }
 {
     let Ok(first) = image.copy(alloc) else {
         return Err(Stop::Memory);
@@ -60,8 +59,7 @@ fn run_plus<'a, O: Sink>(
     out: &mut O,
 ) -> Result<u8, Stop<'a>>
     requires { IsOrdered plus_rows ordered }
-    ensures { Says (SeqAnswers OnPlus variant ordered.design.terms limit image)
-        (sink_seen (O.taken out.old) (O.faults out.old)) (sink_seen (O.taken out.new) (O.faults out.new)) result }
+    ensures { SaysOn O.taken O.faults (SeqAnswers OnPlus variant ordered.design.terms limit image) out.old out.new result }
 {
     let Ok(first) = image.copy(alloc) else {
         return Err(Stop::Memory);
@@ -90,8 +88,7 @@ fn run_image<'a, O: Sink>(
     out: &mut O,
 ) -> Result<u8, Stop<'a>>
     requires { IsOrdered (rows_of which) ordered }
-    ensures { Says (SeqAnswers which variant ordered.design.terms limit image)
-        (sink_seen (O.taken out.old) (O.faults out.old)) (sink_seen (O.taken out.new) (O.faults out.new)) result }
+    ensures { SaysOn O.taken O.faults (SeqAnswers which variant ordered.design.terms limit image) out.old out.new result }
 {
     match which {
         Datapath::Seq => run_seq(alloc, variant, ordered, image, limit, out),
@@ -113,10 +110,8 @@ fn run_object<'a, F: Files, O: Sink>(
 ) -> Result<u8, Stop<'a>>
     requires size { IsSize mem }
     requires ordered { IsOrdered (rows_of which) ordered }
-    ensures does { Does (seq_plan which ordered.design.terms obj.now mem limit variant)
-        (files_seen (F.told files.old) (F.faults files.old)) (files_seen (F.told files.new) (F.faults files.new))
-        (sink_seen (O.taken out.old) (O.faults out.old)) (sink_seen (O.taken out.new) (O.faults out.new)) result }
-    ensures no_read_failed { NoReadFailed (files_seen (F.told files.old) (F.faults files.old)) (files_seen (F.told files.new) (F.faults files.new)) result }
+    ensures { DoesOver F.told F.faults O.taken O.faults (seq_plan which ordered.design.terms obj.now mem limit variant)
+        files.old files.new out.old out.new result }
 {
     let bytes = match read_file(alloc, obj, FILE_LIMIT, files) {
         Ok(bytes) => bytes,
@@ -142,10 +137,8 @@ pub fn ssim<'a, F: Files, O: Sink>(
     out: &mut O,
 ) -> Result<u8, Stop<'a>>
     requires { IsSize mem }
-    ensures does { Does (ssim_plan which name.now obj.now mem limit variant)
-        (files_seen (F.told files.old) (F.faults files.old)) (files_seen (F.told files.new) (F.faults files.new))
-        (sink_seen (O.taken out.old) (O.faults out.old)) (sink_seen (O.taken out.new) (O.faults out.new)) result }
-    ensures no_read_failed { NoReadFailed (files_seen (F.told files.old) (F.faults files.old)) (files_seen (F.told files.new) (F.faults files.new)) result }
+    ensures { DoesOver F.told F.faults O.taken O.faults (ssim_plan which name.now obj.now mem limit variant)
+        files.old files.new out.old out.new result }
 {
     let source = match read_file(alloc, name, HCL_LIMIT, files) {
         Ok(source) => source,
