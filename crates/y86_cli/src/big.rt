@@ -1,12 +1,11 @@
 //! `big`: runs a generated program by the instructions and on PIPE under an HCL file, and compares the reports.
-ghost use Rattle.std.specs.Prelude.{◌≡◌, ◌≤◌, OnOk, OnErr};
+ghost use Rattle.std.specs.Prelude.{◌≡◌, ◌≤◌};
 ghost use Rattle.dp_signals.specs.PipeTable.{pipe_rows};
-ghost use Rattle.wb_io.specs.Causes.{counted};
 ghost use Rattle.wb_io.specs.Sinks.{Puts};
 ghost use Rattle.y86_cli.specs.Answers.{big_plan};
 ghost use Rattle.y86_cli.specs.Big.{BigAnswers, big_line, big_status};
 ghost use Rattle.y86_cli.specs.Designs.{IsOrdered};
-ghost use Rattle.y86_cli.specs.Does.{DoesOver, SaysOn};
+ghost use Rattle.y86_cli.specs.Does.{CountsFaults, DoesOver, SaysOn};
 
 use crate::design::{Ordered, pipe_design};
 use crate::stages::{HCL_LIMIT, read_file};
@@ -21,8 +20,7 @@ use yis_run::flag;
 #[tactic(auto, unfolding(crate::specs::Big::big_line))]
 fn put_big<O: Sink>(n: u64, both: &BothWays, out: &mut O) -> Result<(), Failed>
     ensures puts { Puts (O.taken out.old) (O.taken out.new) result (big_line n both.now) }
-    ensures no_fault_at_ok { OnOk result (O.faults out.new ≡ O.faults out.old) }
-    ensures one_fault_at_err { OnErr result (O.faults out.new ≡ counted (O.faults out.old)) }
+    ensures counts { CountsFaults (O.faults out.old) (O.faults out.new) result }
 {
     let number = Numeral::decimal(n);
     let steps = Numeral::decimal(both.steps);

@@ -1,12 +1,11 @@
 //! `psim`: runs an object file on PIPE under an HCL file.
-ghost use Rattle.std.specs.Prelude.{◌≡◌, ◌<◌, ◌≤◌, ◌^◌, ◌++◌, List, ℕ, OnOk, OnErr, length};
+ghost use Rattle.std.specs.Prelude.{◌≡◌, ◌<◌, ◌≤◌, ◌^◌, ◌++◌, List, ℕ, length};
 ghost use Rattle.dp_signals.specs.PipeTable.{pipe_rows};
-ghost use Rattle.wb_io.specs.Causes.{counted};
 ghost use Rattle.wb_io.specs.Sinks.{Puts};
 ghost use Rattle.y86_base.specs.Image.{IsSize};
 ghost use Rattle.y86_cli.specs.Answers.{PipeAnswers, checked_plan, pipe_plan, psim_plan};
 ghost use Rattle.y86_cli.specs.Designs.{IsOrdered};
-ghost use Rattle.y86_cli.specs.Does.{DoesOver, SaysOn};
+ghost use Rattle.y86_cli.specs.Does.{CountsFaults, DoesOver, SaysOn};
 ghost use Rattle.y86_cli.specs.PipeRuns.{ran_line};
 ghost use Rattle.yis_run.specs.Report as text;
 
@@ -26,8 +25,7 @@ use yis_run::{End, report};
 /// Writes the line of the counts.
 fn put_ran<O: Sink>(cycles: u64, retired: u64, out: &mut O) -> Result<(), Failed>
     ensures puts { Puts (O.taken out.old) (O.taken out.new) result (ran_line cycles retired) }
-    ensures no_fault_at_ok { OnOk result (O.faults out.new ≡ O.faults out.old) }
-    ensures one_fault_at_err { OnErr result (O.faults out.new ≡ counted (O.faults out.old)) }
+    ensures counts { CountsFaults (O.faults out.old) (O.faults out.new) result }
 {
     let cycles = Numeral::decimal(cycles);
     let retired = Numeral::decimal(retired);
@@ -48,8 +46,7 @@ fn put_end<O: Sink>(drove: Drove, first: &Image, end: &End<'_>, out: &mut O) -> 
     requires one_size { length first.now ≡ length end.now.mem.now }
     ensures puts { Puts (O.taken out.old) (O.taken out.new) result
         (ran_line drove.cycles drove.retired ++ text.report first.now (text.ended end.now) drove.retired) }
-    ensures no_fault_at_ok { OnOk result (O.faults out.new ≡ O.faults out.old) }
-    ensures one_fault_at_err { OnErr result (O.faults out.new ≡ counted (O.faults out.old)) }
+    ensures counts { CountsFaults (O.faults out.old) (O.faults out.new) result }
 {
     put_ran(drove.cycles, drove.retired, out)?;
     report(first, end, drove.retired, out)

@@ -23,11 +23,11 @@ returns-in-Ok-put_end g c =
     let ran = c.in-Ok-drive.ensures.drove in
     behind_whole _ _ _ _ _ _ _ _ _ _ c.in-Ok-put_all.ensures.puts c.in-Ok-put_all.ensures.no_fault_at_ok
     (pipe_whole _ _ _ _ _ _ _ _ _ ran.0 _ _ _ _ _ _ c.in-Ok.ensures c.new-machine.ensures ran.1 c.end-end.ensures c.status.ensures.status c.status.ensures.low ran.2
-    c.in-Ok-put_end.ensures.puts (c.in-Ok-put_end.ensures.no_fault_at_ok ∙ c.in-Ok-drive.ensures.no_fault_at_ok))
+    c.in-Ok-put_end.ensures.puts (c.in-Ok-put_end.ensures.counts.no_fault_at_ok ∙ c.in-Ok-drive.ensures.no_fault_at_ok))
 
 pub returns : goal.returns
 returns g c =
     let ran = c.in-Ok-drive.ensures.drove in
     behind_part _ _ _ _ _ _ _ _ _ c.in-Ok-put_all.ensures.puts c.in-Ok-put_all.ensures.no_fault_at_ok
     (pipe_part _ _ _ _ _ _ _ _ _ ran.0 _ _ _ _ _ c.in-Ok.ensures c.new-machine.ensures ran.1 c.end-end.ensures ran.2 c.in-Err-put_end.ensures.puts
-    (c.in-Err-put_end.ensures.one_fault_at_err ∙ ap counted c.in-Ok-drive.ensures.no_fault_at_ok))
+    (c.in-Err-put_end.ensures.counts.one_fault_at_err ∙ ap counted c.in-Ok-drive.ensures.no_fault_at_ok))
