@@ -4,7 +4,7 @@ use Rattle.wb_io.specs.Causes.{counted}
 use Rattle.wb_io.specs.Files.{HasBytes, HasMore}
 use Rattle.y86_cli.specs.declared.stop.Stop as code
 use Rattle.y86_cli.specs.declared.stop.Stop.TheVariants.{Usage, Read, Write, Refused, Memory, TooLong}
-use Rattle.y86_cli.specs.Does.{CountsFaults, FilesSeen, SinkSeen, IsLater, NoReadFailed, StopsAtRead, StopsReading, Says, Does}
+use Rattle.y86_cli.specs.Does.{CountsFaults, FilesSeen, SinkSeen, IsLater, NoReadFailed, Refuses, StopsAtRead, StopsReading, Says, Does}
 use Rattle.y86_cli.specs.Plan.{Answered, Plan, after, answers, gives, says, reads}
 use Rattle.y86_cli.specs.Stops.{answer_at, status_of}
 
@@ -98,12 +98,16 @@ refusal_says P seen (Refused name why) five p = (p, refl)
 refusal_says P seen Memory five p = absurd (cc (five))
 refusal_says P seen (TooLong name limit) five p = absurd (cc (five))
 
+-- a stop that refuses with one of these answers says one of those
+pub refused_says : (P E : Answered → Type 0) (seen : SinkSeen) (stop : code.Stop) → ((a : Answered) → E a → P a) → Refuses E stop → Says P seen seen (Err stop)
+refused_says P E seen stop f (inl memory) = rw memory refl
+refused_says P E seen stop f (inr refused) = refusal_says P seen stop refused.0 (f _ refused.1)
+
 -- a stage refuses
 pub one_refuses : {A : Type 0} (P : A → Type 0) (E : Answered → Type 0) (next : A → Plan) (files : FilesSeen) (seen : SinkSeen) (stop : code.Stop) →
-    (stop ≡ Memory) ⊎ ((status_of stop ≡ 5) × E (answer_at stop)) → Does (gives P E next) files files seen seen (Err stop)
+    Refuses E stop → Does (gives P E next) files files seen seen (Err stop)
 unfolding Does
-one_refuses P E next files seen stop (inl memory) = rw memory (inr (refl, λ name. refl))
-one_refuses P E next files seen stop (inr refused) = inr (refusal_says E seen stop refused.0 refused.1, λ name. refl)
+one_refuses P E next files seen stop refuses = inr (refused_says E E seen stop (λ a is. is) refuses, λ name. refl)
 
 -- the same of a stage that gives what is defined
 pub stage_goes_on : {A : Type 0} (stage : Result A Answered) (x : A) (next : A → Plan) (first last : FilesSeen) (old new : SinkSeen) (result : Result ℕ code.Stop) →
@@ -112,7 +116,7 @@ unfolding after
 stage_goes_on stage x next first last old new result is d = one_goes_on (λ x. stage ≡ Ok x) (λ a. stage ≡ Err a) x next first last old new result is d
 
 pub stage_refuses : {A : Type 0} (stage : Result A Answered) (next : A → Plan) (files : FilesSeen) (seen : SinkSeen) (stop : code.Stop) →
-    (stop ≡ Memory) ⊎ ((status_of stop ≡ 5) × (stage ≡ Err (answer_at stop))) → Does (after stage next) files files seen seen (Err stop)
+    Refuses (λ a. stage ≡ Err a) stop → Does (after stage next) files files seen seen (Err stop)
 unfolding after
 stage_refuses stage next files seen stop g = one_refuses (λ x. stage ≡ Ok x) (λ a. stage ≡ Err a) next files seen stop g
 

@@ -45,15 +45,19 @@ StopsAtRead name limit before after (Read other) = (other.now ≡ name) × (afte
 StopsAtRead name limit before after (TooLong other n) = (other.now ≡ name) × (n ≡ limit) × HasMore (before.told name) limit × NoReadFailed before after
 StopsAtRead name limit before after _ = ⊥
 
+-- a stop is a refusal that is one of the answers, or want of memory
+abbrev pub Refuses : (Answered → Type 0) → code.Stop → Type 0
+Refuses E stop = (stop ≡ Memory) ⊎ ((status_of stop ≡ 5) × E (answer_at stop))
+
 -- a stage gives one of the values, or a refusal that is one of the answers, or want of memory
 abbrev pub GivesOne : {A B : Type 0} → (A → Type 0) → (Answered → Type 0) → (B → A) → Result B code.Stop → Type 0
 GivesOne P E view (Ok x) = P (view x)
-GivesOne P E view (Err stop) = (stop ≡ Memory) ⊎ ((status_of stop ≡ 5) × E (answer_at stop))
+GivesOne P E view (Err stop) = Refuses E stop
 
 -- a stage gives what is defined, or the refusal that is defined, or want of memory
 abbrev pub Gives : {A B : Type 0} → (B → A) → Result A Answered → Result B code.Stop → Type 0
 Gives view defined (Ok x) = defined ≡ Ok (view x)
-Gives view defined (Err stop) = (stop ≡ Memory) ⊎ ((status_of stop ≡ 5) × (defined ≡ Err (answer_at stop)))
+Gives view defined (Err stop) = Refuses (λ a. defined ≡ Err a) stop
 
 -- one of the answers went out whole, and nothing is to be told on standard error
 pub record SaidWhole (P : Answered → Type 0) (before after : SinkSeen) (status : ℕ) : Type 0 where

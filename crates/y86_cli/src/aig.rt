@@ -1,13 +1,11 @@
 //! `aig`: the obligations of an HCL file for PIPE as an AIGER text.
-ghost use Rattle.std.specs.Prelude.{◌≡◌, ◌⊎◌, IfErr, IfOk, List, ℕ};
+ghost use Rattle.std.specs.Prelude.{◌≡◌, IfErr, IfOk, List, ℕ};
 ghost use Rattle.dp_signals.specs.PipeTable.{pipe_rows};
 ghost use Rattle.y86_cli.specs.AigerTexts.{AigAnswers, TellsObligations};
 ghost use Rattle.y86_cli.specs.Answers.{aig_plan};
 ghost use Rattle.y86_cli.specs.Checks.{RefusesControl};
 ghost use Rattle.y86_cli.specs.Designs.{IsOrdered};
-ghost use Rattle.y86_cli.specs.Does.{DoesOver, SaysOn};
-ghost use Rattle.y86_cli.specs.Stops.{answer_at, status_of};
-ghost use Rattle.y86_cli.specs.declared.stop.Stop.TheVariants.{Memory as WantOfMemory};
+ghost use Rattle.y86_cli.specs.Does.{DoesOver, Refuses, SaysOn};
 
 use crate::design::{Ordered, pipe_design};
 use crate::saying::say;
@@ -31,7 +29,7 @@ fn obligation_text<'a>(
 ) -> Result<Vec<u8>, Stop<'a>>
     requires { IsOrdered pipe_rows ordered.now }
     ensures text { IfOk result (λ text. TellsObligations variant ordered.now.design.terms text.items) }
-    ensures refused { IfErr result (λ stop. (stop ≡ WantOfMemory) ⊎ ((status_of stop ≡ 5) × RefusesControl name.now pipe_rows ordered.now.design.terms (answer_at stop))) }
+    ensures refused { IfErr result (Refuses (RefusesControl name.now pipe_rows ordered.now.design.terms)) }
 {
     match file_rules(alloc, variant, &ordered.design, &ordered.order) {
         Ok(rules) => match write(alloc, &rules) {

@@ -1,11 +1,9 @@
 //! `aigrun`: at how many of 512 vectors each output of an AIGER text is 1.
-ghost use Rattle.std.specs.Prelude.{◌≡◌, ◌⊎◌, IfErr, IfOk, List, ℕ};
+ghost use Rattle.std.specs.Prelude.{◌≡◌, IfErr, IfOk, List, ℕ};
 ghost use Rattle.aiger_run.specs.Told.{TellsCounts};
 ghost use Rattle.y86_cli.specs.AigerTexts.{AigrunAnswers, RefusesAag, aag_reason};
 ghost use Rattle.y86_cli.specs.Answers.{aigrun_plan};
-ghost use Rattle.y86_cli.specs.Does.{DoesOver, SaysOn};
-ghost use Rattle.y86_cli.specs.Stops.{answer_at, status_of};
-ghost use Rattle.y86_cli.specs.declared.stop.Stop.TheVariants.{Memory as WantOfMemory};
+ghost use Rattle.y86_cli.specs.Does.{DoesOver, Refuses, SaysOn};
 
 use crate::saying::say;
 use crate::stages::read_file;
@@ -36,7 +34,7 @@ fn reason(why: AagWhy) -> &'static [u8]
 #[tactic(auto, using(crate::proofs::AigerTexts::refuses_aag))]
 fn counts_of<'a>(alloc: Global, name: &'a str, bytes: &[u8], seed: u64) -> Result<Vec<u8>, Stop<'a>>
     ensures text { IfOk result (λ text. TellsCounts bytes.now seed text.items) }
-    ensures refused { IfErr result (λ stop. (stop ≡ WantOfMemory) ⊎ ((status_of stop ≡ 5) × RefusesAag name.now bytes.now (answer_at stop))) }
+    ensures refused { IfErr result (Refuses (RefusesAag name.now bytes.now)) }
 {
     match count_outputs(alloc, bytes, seed) {
         Ok(text) => Ok(text),

@@ -1,13 +1,11 @@
 //! `check pipe` with `--cert`: the verdict on the design of an HCL file, with a certificate of a Yes.
-ghost use Rattle.std.specs.Prelude.{◌≡◌, ◌⊎◌, IfErr, IfOk, List, ℕ};
+ghost use Rattle.std.specs.Prelude.{◌≡◌, IfErr, IfOk, List, ℕ};
 ghost use Rattle.dp_signals.specs.PipeTable.{pipe_rows};
 ghost use Rattle.y86_cli.specs.Answers.{certify_pipe_plan};
 ghost use Rattle.y86_cli.specs.Certified.{CertifiesOrDenies, PipeCertifies};
 ghost use Rattle.y86_cli.specs.Checks.{RefusesControl};
 ghost use Rattle.y86_cli.specs.Designs.{IsOrdered};
-ghost use Rattle.y86_cli.specs.Does.{DoesOver, SaysOn};
-ghost use Rattle.y86_cli.specs.Stops.{answer_at, status_of};
-ghost use Rattle.y86_cli.specs.declared.stop.Stop.TheVariants.{Memory as WantOfMemory};
+ghost use Rattle.y86_cli.specs.Does.{DoesOver, Refuses, SaysOn};
 
 use crate::design::{Ordered, pipe_design};
 use crate::saying::say;
@@ -29,7 +27,7 @@ fn certificate<'a>(
 ) -> Result<PipeText, Stop<'a>>
     requires { IsOrdered pipe_rows ordered.now }
     ensures text { IfOk result (CertifiesOrDenies variant ordered.now.design.terms) }
-    ensures refused { IfErr result (λ stop. (stop ≡ WantOfMemory) ⊎ ((status_of stop ≡ 5) × RefusesControl name.now pipe_rows ordered.now.design.terms (answer_at stop))) }
+    ensures refused { IfErr result (Refuses (RefusesControl name.now pipe_rows ordered.now.design.terms)) }
 {
     match pipe_decision(alloc, name, variant, ordered) {
         Ok(Decided::Yes(settings)) => {

@@ -1,14 +1,13 @@
 //! The design stage: an HCL text, bound over a table, with an order of its signals; and names of rows as they are told.
-ghost use Rattle.std.specs.Prelude.{◌≡◌, ◌≢◌, ◌⊎◌, ◌++◌, ◌∷◌, [], Err, List, ℕ, IfOk, OnErr, OnOk, map};
+ghost use Rattle.std.specs.Prelude.{◌≡◌, ◌≢◌, ◌++◌, ◌∷◌, [], Err, List, ℕ, IfOk, OnErr, OnOk, map};
 ghost use Rattle.dp_signals.specs.PipeTable.{pipe_rows};
 ghost use Rattle.hcl_types.specs.Tables.{IsSound, row_names};
 ghost use Rattle.hcl_types.specs.declared.fault.BindWhy.TheVariants.{Memory as OutOfMemory};
 ghost use Rattle.y86_cli.specs.Datapaths.{rows_of};
 ghost use Rattle.y86_cli.specs.Designs.{IsDesign, IsOrdered, RefusesDesign};
-ghost use Rattle.y86_cli.specs.Does.{GivesOne};
+ghost use Rattle.y86_cli.specs.Does.{GivesOne, Refuses};
 ghost use Rattle.y86_cli.specs.Lines as text;
 ghost use Rattle.y86_cli.specs.Plan.{refused};
-ghost use Rattle.y86_cli.specs.Stops.{answer_at, status_of};
 ghost use Rattle.y86_cli.specs.declared.stop.Stop.TheVariants.{Memory as WantOfMemory};
 
 use crate::datapath::Datapath;
@@ -90,8 +89,7 @@ pub(crate) fn all_names(alloc: Global, rows: &[Row], ids: &[u32]) -> Result<Vec<
 
 /// The stop at a fault of binding.
 fn bind_stop<'a>(alloc: Global, name: &'a str, fault: BindFault) -> Stop<'a>
-    ensures { (result ≡ WantOfMemory)
-        ⊎ ((status_of result ≡ 5) × (fault.why ≢ OutOfMemory) × (answer_at result ≡ refused 5 (text.bind_fault_line name.now fault))) }
+    ensures { Refuses (λ a. (fault.why ≢ OutOfMemory) × (a ≡ refused 5 (text.bind_fault_line name.now fault))) result }
 {
     let why = match fault.why {
         BindWhy::Memory => return Stop::Memory,
@@ -105,8 +103,7 @@ fn bind_stop<'a>(alloc: Global, name: &'a str, fault: BindFault) -> Stop<'a>
 
 /// The stop at a cycle of rows.
 fn cycle_stop<'a>(alloc: Global, name: &'a str, rows: &[Row], ids: &[u32]) -> Stop<'a>
-    ensures { (result ≡ WantOfMemory)
-        ⊎ ((status_of result ≡ 5) × (answer_at result ≡ refused 5 (text.cycle_line name.now (text.names_at (row_names rows.now) ids.now)))) }
+    ensures { Refuses (λ a. a ≡ refused 5 (text.cycle_line name.now (text.names_at (row_names rows.now) ids.now))) result }
 {
     match all_names(alloc, rows, ids) {
         Ok(names) => Stop::Refused(

@@ -1,14 +1,12 @@
 //! `sample`: drawn control valuations against the obligations of an HCL file for PIPE.
-ghost use Rattle.std.specs.Prelude.{◌≡◌, ◌⊎◌, ◌≤◌, IfErr, IfOk, List, ℕ};
+ghost use Rattle.std.specs.Prelude.{◌≡◌, ◌≤◌, IfErr, IfOk, List, ℕ};
 ghost use Rattle.dp_signals.specs.PipeTable.{pipe_rows};
 ghost use Rattle.y86_cli.specs.Answers.{sample_plan};
 ghost use Rattle.y86_cli.specs.Checks.{RefusesControl};
 ghost use Rattle.y86_cli.specs.Designs.{IsOrdered};
-ghost use Rattle.y86_cli.specs.Does.{DoesOver, SaysOn};
+ghost use Rattle.y86_cli.specs.Does.{DoesOver, Refuses, SaysOn};
 ghost use Rattle.y86_cli.specs.Plan.{done};
 ghost use Rattle.y86_cli.specs.Samples.{IsSampled, SampleAnswers, found_line, none_line};
-ghost use Rattle.y86_cli.specs.Stops.{answer_at, status_of};
-ghost use Rattle.y86_cli.specs.declared.stop.Stop.TheVariants.{Memory as WantOfMemory};
 
 use crate::design::{Ordered, pipe_design};
 use crate::stages::{HCL_LIMIT, read_file};
@@ -31,7 +29,7 @@ fn sampled<'a>(
 ) -> Result<Option<Found>, Stop<'a>>
     requires { IsOrdered pipe_rows ordered.now }
     ensures found { IfOk result (IsSampled variant ordered.now.design.terms seed count) }
-    ensures refused { IfErr result (λ stop. (stop ≡ WantOfMemory) ⊎ ((status_of stop ≡ 5) × RefusesControl name.now pipe_rows ordered.now.design.terms (answer_at stop))) }
+    ensures refused { IfErr result (Refuses (RefusesControl name.now pipe_rows ordered.now.design.terms)) }
 {
     match file_rules(alloc, variant, &ordered.design, &ordered.order) {
         Ok(rules) => match first_false(alloc, &rules, seed, count) {

@@ -1,5 +1,5 @@
 //! Verdicts on PIPE as texts, and the stop at a design without control values.
-ghost use Rattle.std.specs.Prelude.{◌≡◌, ◌≢◌, ◌⊎◌, Err, IfErr, IfOk, List, OnErr, ℕ};
+ghost use Rattle.std.specs.Prelude.{◌≡◌, ◌≢◌, Err, IfErr, IfOk, List, OnErr, ℕ};
 ghost use Rattle.ctl_atoms.specs.Atoms.{AreAtoms, IsCtlFault};
 ghost use Rattle.ctl_atoms.specs.declared.leaf.Atom.{Atom};
 ghost use Rattle.ctl_atoms.specs.declared.fault.CtlFault.TheVariants as cause;
@@ -9,7 +9,7 @@ ghost use Rattle.hcl_types.specs.declared.term.Term.{Term};
 ghost use Rattle.verdict_text.specs.PipeLines.{pipe_no};
 ghost use Rattle.y86_cli.specs.Checks.{DecidesPipe, RefusesControl, TellsPipe};
 ghost use Rattle.y86_cli.specs.Designs.{IsOrdered};
-ghost use Rattle.y86_cli.specs.Stops.{answer_at, status_of};
+ghost use Rattle.y86_cli.specs.Does.{Refuses};
 ghost use Rattle.y86_cli.specs.declared.stop.Stop.TheVariants.{Memory as WantOfMemory};
 
 use crate::design::{Ordered, all_names};
@@ -32,7 +32,7 @@ pub fn control_stop<'a>(
 ) -> Stop<'a>
     requires { fault ≢ cause.Memory }
     ensures { (terms : List Term) → IsCtlFault ordered.now.table.rows terms fault →
-        (result ≡ WantOfMemory) ⊎ ((status_of result ≡ 5) × RefusesControl name.now ordered.now.table.rows terms (answer_at result)) }
+        Refuses (RefusesControl name.now ordered.now.table.rows terms) result }
 {
     match fault {
         CtlFault::Mixed(id) => match all_names(alloc, ordered.table.rows.items(), &[id]) {
@@ -107,7 +107,7 @@ pub fn pipe_decision<'a>(
 ) -> Result<Decided, Stop<'a>>
     requires { IsOrdered pipe_rows ordered.now }
     ensures verdict { IfOk result (DecidesPipe variant ordered.now.design.terms) }
-    ensures refused { IfErr result (λ stop. (stop ≡ WantOfMemory) ⊎ ((status_of stop ≡ 5) × RefusesControl name.now pipe_rows ordered.now.design.terms (answer_at stop))) }
+    ensures refused { IfErr result (Refuses (RefusesControl name.now pipe_rows ordered.now.design.terms)) }
 {
     match check_pipe(alloc, variant, &ordered.design, &ordered.order) {
         Ok(Verdict::Yes(settings)) => Ok(Decided::Yes(settings)),
@@ -132,7 +132,7 @@ pub fn pipe_verdict<'a>(
 ) -> Result<PipeText, Stop<'a>>
     requires { IsOrdered pipe_rows ordered.now }
     ensures verdict { IfOk result (TellsPipe variant ordered.now.design.terms) }
-    ensures refused { IfErr result (λ stop. (stop ≡ WantOfMemory) ⊎ ((status_of stop ≡ 5) × RefusesControl name.now pipe_rows ordered.now.design.terms (answer_at stop))) }
+    ensures refused { IfErr result (Refuses (RefusesControl name.now pipe_rows ordered.now.design.terms)) }
 {
     match pipe_decision(alloc, name, variant, ordered) {
         Ok(Decided::Yes(settings)) => match pipe_acceptance(alloc, &settings) {
