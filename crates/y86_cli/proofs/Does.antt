@@ -4,7 +4,7 @@ use Rattle.wb_io.specs.Causes.{counted}
 use Rattle.wb_io.specs.Files.{HasBytes, HasMore}
 use Rattle.y86_cli.specs.declared.stop.Stop as code
 use Rattle.y86_cli.specs.declared.stop.Stop.TheVariants.{Usage, Read, Write, Refused, Memory, TooLong}
-use Rattle.y86_cli.specs.Does.{CountsFaults, FilesSeen, SinkSeen, IsLater, NoReadFailed, Refuses, StopsAtRead, StopsReading, Says, Does}
+use Rattle.y86_cli.specs.Does.{CountsFaults, FilesSeen, GivesOne, SinkSeen, IsLater, IsRead, NoReadFailed, ReadsOne, Refuses, StopsAtRead, StopsReading, Says, Does}
 use Rattle.y86_cli.specs.Plan.{Answered, Plan, after, answers, gives, says, reads}
 use Rattle.y86_cli.specs.Stops.{answer_at, status_of}
 
@@ -108,6 +108,31 @@ pub one_refuses : {A : Type 0} (P : A → Type 0) (E : Answered → Type 0) (nex
     Refuses E stop → Does (gives P E next) files files seen seen (Err stop)
 unfolding Does
 one_refuses P E next files seen stop refuses = inr (refused_says E E seen stop (λ a is. is) refuses, λ name. refl)
+
+-- a stage that reads a file
+pub stage_read : {A B : Type 0} (name : List ℕ) (limit : ℕ) (P : List ℕ → A → Type 0) (E : List ℕ → Answered → Type 0) (view : B → A) (before after : FilesSeen) (bytes : List ℕ)
+    (result : Result B code.Stop) → IsLater before after → length bytes ≤ limit → HasBytes (before.told name) bytes → GivesOne (P bytes) (E bytes) view result →
+    ReadsOne name limit P E view before after result
+stage_read name limit P E view before after bytes (Ok x) later short has given = (bytes, record { short = short; has = has; later = later }, given)
+stage_read name limit P E view before after bytes (Err stop) later short has given = inr (bytes, record { short = short; has = has; later = later }, given)
+
+-- it goes on
+pub read_stage_goes_on : {A : Type 0} (name : List ℕ) (limit : ℕ) (P : List ℕ → A → Type 0) (E : List ℕ → Answered → Type 0) (x : A) (next : A → Plan)
+    (first before last : FilesSeen) (old new : SinkSeen) (result : Result ℕ code.Stop) → ((bytes : List ℕ) × IsRead name limit first before bytes × P bytes x) →
+    Does (next x) before last old new result → Does (reads name limit (λ bytes. gives (P bytes) (E bytes) next)) first last old new result
+read_stage_goes_on name limit P E x next first before last old new result (bytes, read, p) d =
+    read_goes_on name limit (λ xs. gives (P xs) (E xs) next) first before last old new result bytes read.later read.short read.has
+    (one_goes_on (P bytes) (E bytes) x next before last old new result p d)
+
+-- it stops
+pub read_stage_stops : {A : Type 0} (name : List ℕ) (limit : ℕ) (P : List ℕ → A → Type 0) (E : List ℕ → Answered → Type 0) (next : A → Plan)
+    (first last : FilesSeen) (seen : SinkSeen) (stop : code.Stop) →
+    StopsAtRead name limit first last stop ⊎ ((bytes : List ℕ) × IsRead name limit first last bytes × Refuses (E bytes) stop) →
+    Does (reads name limit (λ bytes. gives (P bytes) (E bytes) next)) first last seen seen (Err stop)
+read_stage_stops name limit P E next first last seen stop (inl stops) = read_stops name limit (λ xs. gives (P xs) (E xs) next) first last seen stop stops
+read_stage_stops name limit P E next first last seen stop (inr (bytes, read, refuses)) =
+    read_goes_on name limit (λ xs. gives (P xs) (E xs) next) first last last seen seen (Err stop) bytes read.later read.short read.has
+    (one_refuses (P bytes) (E bytes) next last seen stop refuses)
 
 -- the same of a stage that gives what is defined
 pub stage_goes_on : {A : Type 0} (stage : Result A Answered) (x : A) (next : A → Plan) (first last : FilesSeen) (old new : SinkSeen) (result : Result ℕ code.Stop) →

@@ -59,6 +59,18 @@ abbrev pub Gives : {A B : Type 0} → (B → A) → Result A Answered → Result
 Gives view defined (Ok x) = defined ≡ Ok (view x)
 Gives view defined (Err stop) = Refuses (λ a. defined ≡ Err a) stop
 
+-- these bytes of a file were read, within a limit; they agree with what the files tell, and no read failed
+pub record IsRead (name : List ℕ) (limit : ℕ) (before after : FilesSeen) (bytes : List ℕ) : Type 0 where
+  pub short : length bytes ≤ limit
+  pub has : HasBytes (before.told name) bytes
+  pub later : IsLater before after
+
+-- a stage that reads a file gives one of the values by its bytes, or a refusal by them; or it stops at the read
+abbrev pub ReadsOne : {A B : Type 0} → List ℕ → ℕ → (List ℕ → A → Type 0) → (List ℕ → Answered → Type 0) → (B → A) → FilesSeen → FilesSeen → Result B code.Stop → Type 0
+ReadsOne name limit P E view before after (Ok x) = (bytes : List ℕ) × IsRead name limit before after bytes × P bytes (view x)
+ReadsOne name limit P E view before after (Err stop) =
+    StopsAtRead name limit before after stop ⊎ ((bytes : List ℕ) × IsRead name limit before after bytes × Refuses (E bytes) stop)
+
 -- one of the answers went out whole, and nothing is to be told on standard error
 pub record SaidWhole (P : Answered → Type 0) (before after : SinkSeen) (status : ℕ) : Type 0 where
   pub answer : Answered

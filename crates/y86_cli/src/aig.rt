@@ -7,9 +7,8 @@ ghost use Rattle.y86_cli.specs.Checks.{RefusesControl};
 ghost use Rattle.y86_cli.specs.Designs.{IsOrdered};
 ghost use Rattle.y86_cli.specs.Does.{DoesOver, Refuses, SaysOn};
 
-use crate::design::{Ordered, pipe_design};
+use crate::design::{Ordered, pipe_file};
 use crate::saying::say;
-use crate::stages::{HCL_LIMIT, read_file};
 use crate::stop::Stop;
 use crate::verdict::control_stop;
 use aiger_out::write;
@@ -70,11 +69,7 @@ pub fn aig_file<'a, F: Files, O: Sink>(
     ensures { DoesOver F.told F.faults O.taken O.faults (aig_plan name.now variant)
         files.old files.new out.old out.new result }
 {
-    let source = match read_file(alloc, name, HCL_LIMIT, files) {
-        Ok(source) => source,
-        Err(stop) => return Err(stop),
-    };
-    let ordered = match pipe_design(alloc, name, source.as_slice()) {
+    let ordered = match pipe_file(alloc, name, files) {
         Ok(ordered) => ordered,
         Err(stop) => return Err(stop),
     };

@@ -7,8 +7,7 @@ ghost use Rattle.y86_cli.specs.Big.{BigAnswers, big_line, big_status};
 ghost use Rattle.y86_cli.specs.Designs.{IsOrdered};
 ghost use Rattle.y86_cli.specs.Does.{CountsFaults, DoesOver, SaysOn};
 
-use crate::design::{Ordered, pipe_design};
-use crate::stages::{HCL_LIMIT, read_file};
+use crate::design::{Ordered, pipe_file};
 use crate::stop::Stop;
 use pipe_runs::{BothWays, both_ways};
 use std::alloc::Global;
@@ -88,11 +87,7 @@ pub fn big<'a, F: Files, O: Sink>(
     ensures { DoesOver F.told F.faults O.taken O.faults (big_plan n name.now variant)
         files.old files.new out.old out.new result }
 {
-    let source = match read_file(alloc, name, HCL_LIMIT, files) {
-        Ok(source) => source,
-        Err(stop) => return Err(stop),
-    };
-    let ordered = match pipe_design(alloc, name, source.as_slice()) {
+    let ordered = match pipe_file(alloc, name, files) {
         Ok(ordered) => ordered,
         Err(stop) => return Err(stop),
     };

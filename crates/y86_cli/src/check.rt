@@ -8,10 +8,9 @@ ghost use Rattle.y86_cli.specs.Designs.{IsOrdered};
 ghost use Rattle.y86_cli.specs.Does.{DoesOver, SaysOn};
 
 use crate::datapath::Datapath;
-use crate::design::{Ordered, pipe_design, seq_design};
+use crate::design::{Ordered, pipe_file, seq_file};
 use crate::saying::say;
 use crate::sequential::{decided, seq_text};
-use crate::stages::{HCL_LIMIT, read_file};
 use crate::stop::Stop;
 use crate::verdict::{PipeText, control_stop, pipe_verdict};
 use control_check::CheckFault;
@@ -56,11 +55,7 @@ pub fn check_seq_file<'a, F: Files, O: Sink>(
     ensures { DoesOver F.told F.faults O.taken O.faults (check_seq_plan which name.now variant)
         files.old files.new out.old out.new result }
 {
-    let source = match read_file(alloc, name, HCL_LIMIT, files) {
-        Ok(source) => source,
-        Err(stop) => return Err(stop),
-    };
-    let ordered = match seq_design(alloc, which, name, source.as_slice()) {
+    let ordered = match seq_file(alloc, which, name, files) {
         Ok(ordered) => ordered,
         Err(stop) => return Err(stop),
     };
@@ -98,11 +93,7 @@ pub fn check_pipe_file<'a, F: Files, O: Sink>(
     ensures { DoesOver F.told F.faults O.taken O.faults (check_pipe_plan name.now variant)
         files.old files.new out.old out.new result }
 {
-    let source = match read_file(alloc, name, HCL_LIMIT, files) {
-        Ok(source) => source,
-        Err(stop) => return Err(stop),
-    };
-    let ordered = match pipe_design(alloc, name, source.as_slice()) {
+    let ordered = match pipe_file(alloc, name, files) {
         Ok(ordered) => ordered,
         Err(stop) => return Err(stop),
     };

@@ -3,21 +3,23 @@ ghost use Rattle.std.specs.Prelude.{◌≡◌, ◌≢◌, ◌++◌, ◌∷◌, [
 ghost use Rattle.dp_signals.specs.PipeTable.{pipe_rows};
 ghost use Rattle.hcl_types.specs.Tables.{IsSound, row_names};
 ghost use Rattle.hcl_types.specs.declared.fault.BindWhy.TheVariants.{Memory as OutOfMemory};
+ghost use Rattle.y86_cli.specs.Answers.{hcl_limit};
 ghost use Rattle.y86_cli.specs.Datapaths.{rows_of};
 ghost use Rattle.y86_cli.specs.Designs.{IsDesign, IsOrdered, RefusesDesign};
-ghost use Rattle.y86_cli.specs.Does.{GivesOne, Refuses};
+ghost use Rattle.y86_cli.specs.Does.{GivesOne, ReadsOne, Refuses, files_seen};
 ghost use Rattle.y86_cli.specs.Lines as text;
 ghost use Rattle.y86_cli.specs.Plan.{refused};
 ghost use Rattle.y86_cli.specs.declared.stop.Stop.TheVariants.{Memory as WantOfMemory};
 
 use crate::datapath::Datapath;
-use crate::stages::read_hcl;
+use crate::stages::{HCL_LIMIT, read_file, read_hcl};
 use crate::stop::{Refusal, Stop};
 use dp_signals::{law_of_tables, pipe_table, seq_table};
 use hcl_order::{OrderFault, order};
 use hcl_types::{BindFault, BindWhy, Design, Order, Row, Table, bind};
 use seq_plus::{law_of_table, plus_table};
 use std::alloc::{AllocError, Global};
+use wb_io::Files;
 
 /// A table, a design over it, and an order of the design's signals.
 #[derive(Drop)]
@@ -195,4 +197,37 @@ pub fn pipe_design<'a>(alloc: Global, name: &'a str, source: &[u8]) -> Result<Or
         return Err(Stop::Memory);
     };
     ordered_design(alloc, name, source, table)
+}
+
+/// The design of an HCL file over the table of a sequential datapath, with that and an order of its signals.
+pub fn seq_file<'a, F: Files>(
+    alloc: Global,
+    which: Datapath,
+    name: &'a str,
+    files: &mut F,
+) -> Result<Ordered, Stop<'a>>
+    ensures design { ReadsOne name.now hcl_limit (IsDesign (rows_of which)) (RefusesDesign name.now (rows_of which)) (λ ordered. ordered.design.terms)
+        (files_seen (F.told files.old) (F.faults files.old)) (files_seen (F.told files.new) (F.faults files.new)) result }
+    ensures ordered { IfOk result (IsOrdered (rows_of which)) }
+{
+    match read_file(alloc, name, HCL_LIMIT, files) {
+        Ok(source) => seq_design(alloc, which, name, source.as_slice()),
+        Err(stop) => Err(stop),
+    }
+}
+
+/// The design of an HCL file over PIPE's table, with that and an order of its signals.
+pub fn pipe_file<'a, F: Files>(
+    alloc: Global,
+    name: &'a str,
+    files: &mut F,
+) -> Result<Ordered, Stop<'a>>
+    ensures design { ReadsOne name.now hcl_limit (IsDesign pipe_rows) (RefusesDesign name.now pipe_rows) (λ ordered. ordered.design.terms)
+        (files_seen (F.told files.old) (F.faults files.old)) (files_seen (F.told files.new) (F.faults files.new)) result }
+    ensures ordered { IfOk result (IsOrdered pipe_rows) }
+{
+    match read_file(alloc, name, HCL_LIMIT, files) {
+        Ok(source) => pipe_design(alloc, name, source.as_slice()),
+        Err(stop) => Err(stop),
+    }
 }

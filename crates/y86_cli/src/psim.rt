@@ -9,9 +9,9 @@ ghost use Rattle.y86_cli.specs.Does.{CountsFaults, DoesOver, SaysOn};
 ghost use Rattle.y86_cli.specs.PipeRuns.{ran_line};
 ghost use Rattle.yis_run.specs.Report as text;
 
-use crate::design::{Ordered, pipe_design};
+use crate::design::{Ordered, pipe_file};
 use crate::saying::say;
-use crate::stages::{FILE_LIMIT, HCL_LIMIT, load_image, read_file, status};
+use crate::stages::{FILE_LIMIT, load_image, read_file, status};
 use crate::stop::Stop;
 use crate::verdict::{PipeText, pipe_verdict};
 use hcl_compile::compile;
@@ -183,11 +183,7 @@ pub fn psim<'a, F: Files, O: Sink>(
     ensures { DoesOver F.told F.faults O.taken O.faults (psim_plan name.now obj.now mem limit trace checked variant)
         files.old files.new out.old out.new result }
 {
-    let source = match read_file(alloc, name, HCL_LIMIT, files) {
-        Ok(source) => source,
-        Err(stop) => return Err(stop),
-    };
-    let ordered = match pipe_design(alloc, name, source.as_slice()) {
+    let ordered = match pipe_file(alloc, name, files) {
         Ok(ordered) => ordered,
         Err(stop) => return Err(stop),
     };

@@ -8,8 +8,7 @@ ghost use Rattle.y86_cli.specs.Does.{DoesOver, Refuses, SaysOn};
 ghost use Rattle.y86_cli.specs.Plan.{done};
 ghost use Rattle.y86_cli.specs.Samples.{IsSampled, SampleAnswers, found_line, none_line};
 
-use crate::design::{Ordered, pipe_design};
-use crate::stages::{HCL_LIMIT, read_file};
+use crate::design::{Ordered, pipe_file};
 use crate::stop::Stop;
 use crate::verdict::control_stop;
 use control_check::{CheckFault, file_rules};
@@ -103,11 +102,7 @@ pub fn sample<'a, F: Files, O: Sink>(
     ensures { DoesOver F.told F.faults O.taken O.faults (sample_plan name.now seed count variant)
         files.old files.new out.old out.new result }
 {
-    let source = match read_file(alloc, name, HCL_LIMIT, files) {
-        Ok(source) => source,
-        Err(stop) => return Err(stop),
-    };
-    let ordered = match pipe_design(alloc, name, source.as_slice()) {
+    let ordered = match pipe_file(alloc, name, files) {
         Ok(ordered) => ordered,
         Err(stop) => return Err(stop),
     };

@@ -10,8 +10,8 @@ ghost use Rattle.y86_cli.specs.Does.{DoesOver, SaysOn};
 ghost use Rattle.y86_cli.specs.declared.datapath.Datapath.TheVariants.{Plus as OnPlus, Seq as OnSeq};
 
 use crate::datapath::Datapath;
-use crate::design::{Ordered, seq_design};
-use crate::stages::{FILE_LIMIT, HCL_LIMIT, load_image, read_file, status};
+use crate::design::{Ordered, seq_file};
+use crate::stages::{FILE_LIMIT, load_image, read_file, status};
 use crate::stop::Stop;
 use hcl_compile::compile;
 use seq_path::Seq;
@@ -140,11 +140,7 @@ pub fn ssim<'a, F: Files, O: Sink>(
     ensures { DoesOver F.told F.faults O.taken O.faults (ssim_plan which name.now obj.now mem limit variant)
         files.old files.new out.old out.new result }
 {
-    let source = match read_file(alloc, name, HCL_LIMIT, files) {
-        Ok(source) => source,
-        Err(stop) => return Err(stop),
-    };
-    let ordered = match seq_design(alloc, which, name, source.as_slice()) {
+    let ordered = match seq_file(alloc, which, name, files) {
         Ok(ordered) => ordered,
         Err(stop) => return Err(stop),
     };
