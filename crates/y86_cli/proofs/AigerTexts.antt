@@ -24,13 +24,13 @@ use Rattle.rule_gates.specs.declared.rules.Rules.{Rules}
 use Rattle.y86_base.specs.declared.parts.Variant.{Variant}
 use Rattle.y86_cli.specs.AigerTexts.{AigAnswers, AigrunAnswers, RefusesAag, TellsObligations, aag_reason}
 use Rattle.y86_cli.specs.Checks.{RefusesControl}
-use Rattle.y86_cli.specs.Does.{Says, SinkSeen}
+use Rattle.y86_cli.specs.Does.{Refuses, Says, SinkSeen}
 use Rattle.y86_cli.specs.Plan.{done}
-use Rattle.y86_cli.specs.Stops.{answer_at, status_of}
+use Rattle.y86_cli.specs.Stops.{answer_at}
 use Rattle.y86_cli.specs.declared.stop.Refusal.TheVariants.{AtLine}
 use Rattle.y86_cli.specs.declared.stop.Stop as code
-use Rattle.y86_cli.specs.declared.stop.Stop.TheVariants.{Memory, Refused}
-use Rattle.y86_cli.proofs.Does.{refusal_says, says_more}
+use Rattle.y86_cli.specs.declared.stop.Stop.TheVariants.{Refused}
+use Rattle.y86_cli.proofs.Does.{refused_says, says_more}
 
 not_true : (b : Bool) → not b ≡ true → b ≡ false
 not_true true e = cc
@@ -86,9 +86,9 @@ said_obligations name v terms text old new result tell s =
     says_more (λ a. a ≡ done 0 text) (AigAnswers name v terms) old new result (λ a told. inl (record { text = text; tells = tell; told = told })) s
 
 pub said_refusal : (name : List ℕ) (v : Variant) (terms : List Term) (seen : SinkSeen) (stop : code.Stop) →
-    (stop ≡ Memory) ⊎ ((status_of stop ≡ 5) × RefusesControl name pipe_rows terms (answer_at stop)) → Says (AigAnswers name v terms) seen seen (Err stop)
-said_refusal name v terms seen stop (inl memory) = rw memory refl
-said_refusal name v terms seen stop (inr refuses) = refusal_says (AigAnswers name v terms) seen stop refuses.0 (inr refuses.1)
+    Refuses (RefusesControl name pipe_rows terms) stop → Says (AigAnswers name v terms) seen seen (Err stop)
+said_refusal name v terms seen stop refuses =
+    refused_says (AigAnswers name v terms) (RefusesControl name pipe_rows terms) seen stop (λ a is. inr is) refuses
 
 pub refuses_aag : (name why : Bor (List ℕ)) (text : List ℕ) (fault : AagFault) → IsFault 1000000 text fault.line fault.why → why.now ≡ aag_reason fault.why
     → RefusesAag name.now text (answer_at (Refused name (AtLine fault.line why)))
@@ -100,6 +100,5 @@ said_counts name text seed counts old new result tell s =
     says_more (λ a. a ≡ done 0 counts) (AigrunAnswers name text seed) old new result (λ a told. inl (record { counts = counts; tells = tell; told = told })) s
 
 pub said_aag_refusal : (name text : List ℕ) (seed : ℕ) (seen : SinkSeen) (stop : code.Stop) →
-    (stop ≡ Memory) ⊎ ((status_of stop ≡ 5) × RefusesAag name text (answer_at stop)) → Says (AigrunAnswers name text seed) seen seen (Err stop)
-said_aag_refusal name text seed seen stop (inl memory) = rw memory refl
-said_aag_refusal name text seed seen stop (inr refuses) = refusal_says (AigrunAnswers name text seed) seen stop refuses.0 (inr refuses.1)
+    Refuses (RefusesAag name text) stop → Says (AigrunAnswers name text seed) seen seen (Err stop)
+said_aag_refusal name text seed seen stop refuses = refused_says (AigrunAnswers name text seed) (RefusesAag name text) seen stop (λ a is. inr is) refuses

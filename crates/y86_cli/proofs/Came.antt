@@ -149,7 +149,7 @@ end_reached P E next told file h = absurd h.by_some
 pub came : (plan : Plan) (files_before files_after : FilesSeen) (before after : SinkSeen) (result : Result ℕ code.Stop) →
     Does plan files_before files_after before after result → Came plan files_before files_after before after result
 unfolding Does
-came (says P) files_before files_after before after result d = leaf_came P files_before files_after before after result d
+came (says P) files_before files_after before after result d = leaf_came P files_before files_after before after result d.0
 came (reads name limit next) files_before files_after before after result (inl s) = reading_came name limit next files_before files_after before after result s
 came (reads name limit next) files_before files_after before after result (inr more) =
     came_more (next more.0) (reads name limit next) files_before files_after before after result (behind_reached name limit next files_before.told more.0 more.1 more.2)
@@ -159,7 +159,7 @@ came (gives P E next) files_before files_after before after result (inl more) =
     (value_allowed P E next files_before.told more.0 more.1) (came (next more.0) files_before files_after before after result more.2)
 came (gives P E next) files_before files_after before after result (inr s) =
     came_more (says E) (gives P E next) files_before files_after before after result (end_reached P E next files_before.told)
-    (end_allowed P E next files_before.told) (leaf_came E files_before files_after before after result s)
+    (end_allowed P E next files_before.told) (leaf_came E files_before files_after before after result s.0)
 
 -- a faultless answer has status 0 or 1
 pub faultless_low : (plan : Plan) (contents : List (Option (List ℕ))) (a : Answered) → IsFaultless plan contents → Allows plan contents a → a.status ≤ 1

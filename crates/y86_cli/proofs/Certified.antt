@@ -15,15 +15,13 @@ use Rattle.y86_cli.specs.Agreement.{HasAccepted}
 use Rattle.y86_cli.specs.Answers.{certificate_plan, certify_pipe_plan, recheck_plan}
 use Rattle.y86_cli.specs.Certified.{CertifiesPipe, HasCertified, PipeCertifies, Rechecks, TellsCert}
 use Rattle.y86_cli.specs.Checks.{DeniesPipe, RefusesControl, RefusesPipe}
-use Rattle.y86_cli.specs.Does.{FilesSeen, Says, SinkSeen}
+use Rattle.y86_cli.specs.Does.{FilesSeen, Refuses, Says, SinkSeen}
 use Rattle.y86_cli.specs.Plan.{Answered, MayAnswer, done}
 use Rattle.y86_cli.specs.Ran.{Ran}
-use Rattle.y86_cli.specs.Stops.{answer_at, status_of}
 use Rattle.y86_cli.specs.declared.stop.Stop as code
-use Rattle.y86_cli.specs.declared.stop.Stop.TheVariants.{Memory}
 use Rattle.y86_cli.proofs.Agreement.{control_high, design_high, high}
 use Rattle.y86_cli.proofs.Checks.{said_denied}
-use Rattle.y86_cli.proofs.Does.{refusal_says, says_more}
+use Rattle.y86_cli.proofs.Does.{refusal_says, refused_says, says_more}
 
 pub has_atoms : (terms : List Term) (atoms : List Atom) → AreAtoms pipe_rows terms atoms → HasAtoms terms
 has_atoms terms atoms are = record { atoms = atoms; are = are }
@@ -50,9 +48,9 @@ said_no name v terms text old new result denies s =
     says_more (RefusesPipe name v terms) (PipeCertifies name v terms) old new result (λ a refused. inr refused) (said_denied name v terms text old new result denies s)
 
 pub said_refusal : (name : List ℕ) (v : Variant) (terms : List Term) (seen : SinkSeen) (stop : code.Stop) →
-    (stop ≡ Memory) ⊎ ((status_of stop ≡ 5) × RefusesControl name pipe_rows terms (answer_at stop)) → Says (PipeCertifies name v terms) seen seen (Err stop)
-said_refusal name v terms seen stop (inl memory) = rw memory refl
-said_refusal name v terms seen stop (inr refused) = refusal_says (PipeCertifies name v terms) seen stop refused.0 (inr (inr refused.1))
+    Refuses (RefusesControl name pipe_rows terms) stop → Says (PipeCertifies name v terms) seen seen (Err stop)
+said_refusal name v terms seen stop refuses =
+    refused_says (PipeCertifies name v terms) (RefusesControl name pipe_rows terms) seen stop (λ a is. inr (inr is)) refuses
 
 -- ---- `recheck`
 

@@ -20,13 +20,13 @@ use Rattle.y86_cli.specs.Checks.{RefusesControl, AcceptsPipe, DeniesPipe, PipeCh
 use Rattle.y86_cli.specs.Datapaths.{IsDecided, no_text, rows_of}
 use Rattle.y86_cli.specs.Lines.{blank_names, names_at}
 use Rattle.y86_cli.specs.Plan.{Answered, done, refused}
-use Rattle.y86_cli.specs.Does.{Says, SinkSeen}
-use Rattle.y86_cli.specs.Stops.{answer_at, status_of}
-use Rattle.y86_cli.proofs.Does.{refusal_says, says_more}
+use Rattle.y86_cli.specs.Does.{Refuses, Says, SinkSeen}
+use Rattle.y86_cli.specs.Stops.{answer_at}
+use Rattle.y86_cli.proofs.Does.{refused_says, says_more}
 use Rattle.y86_cli.specs.declared.datapath.Datapath.{Datapath}
 use Rattle.y86_cli.specs.declared.stop.Refusal.TheVariants.{OfNames}
 use Rattle.y86_cli.specs.declared.stop.Stop as code
-use Rattle.y86_cli.specs.declared.stop.Stop.TheVariants.{Refused, Memory}
+use Rattle.y86_cli.specs.declared.stop.Stop.TheVariants.{Refused}
 
 -- a design has one list of atoms
 atoms_one : (rows : List Row) (terms : List Term) (ids : List ℕ) (a b : List Atom) → IsOrderOf rows terms ids → AreAtoms rows terms a → AreAtoms rows terms b → a ≡ b
@@ -72,9 +72,9 @@ said_no which name v terms ids failure text old new result order rejects told s 
     says_more (λ a. a ≡ done 1 text) (SeqChecks which name v terms) old new result (λ a is. denied which name v terms ids failure text a order rejects told is) s
 
 pub said_refusal : (which : Datapath) (name : List ℕ) (v : Variant) (terms : List Term) (seen : SinkSeen) (stop : code.Stop) →
-    (stop ≡ Memory) ⊎ ((status_of stop ≡ 5) × RefusesControl name (rows_of which) terms (answer_at stop)) → Says (SeqChecks which name v terms) seen seen (Err stop)
-said_refusal which name v terms seen stop (inl memory) = rw memory refl
-said_refusal which name v terms seen stop (inr refused) = refusal_says (SeqChecks which name v terms) seen stop refused.0 (inr (inr refused.1))
+    Refuses (RefusesControl name (rows_of which) terms) stop → Says (SeqChecks which name v terms) seen seen (Err stop)
+said_refusal which name v terms seen stop refuses =
+    refused_says (SeqChecks which name v terms) (RefusesControl name (rows_of which) terms) seen stop (λ a is. inr (inr is)) refuses
 
 -- ---- the verdicts on PIPE
 
@@ -114,12 +114,11 @@ said_pipe_no name v terms text old new result denies s =
 
 -- a design without control values, as a stop
 pub not_told : (name : List ℕ) (v : Variant) (terms : List Term) (stop : code.Stop) →
-    (stop ≡ Memory) ⊎ ((status_of stop ≡ 5) × RefusesControl name pipe_rows terms (answer_at stop)) →
-    (stop ≡ Memory) ⊎ ((status_of stop ≡ 5) × RefusesPipe name v terms (answer_at stop))
+    Refuses (RefusesControl name pipe_rows terms) stop → Refuses (RefusesPipe name v terms) stop
 not_told name v terms stop (inl memory) = inl memory
 not_told name v terms stop (inr refused) = inr (refused.0, inr refused.1)
 
 pub said_pipe_refusal : (name : List ℕ) (v : Variant) (terms : List Term) (seen : SinkSeen) (stop : code.Stop) →
-    (stop ≡ Memory) ⊎ ((status_of stop ≡ 5) × RefusesControl name pipe_rows terms (answer_at stop)) → Says (PipeChecks name v terms) seen seen (Err stop)
-said_pipe_refusal name v terms seen stop (inl memory) = rw memory refl
-said_pipe_refusal name v terms seen stop (inr refused) = refusal_says (PipeChecks name v terms) seen stop refused.0 (inr (inr refused.1))
+    Refuses (RefusesControl name pipe_rows terms) stop → Says (PipeChecks name v terms) seen seen (Err stop)
+said_pipe_refusal name v terms seen stop refuses =
+    refused_says (PipeChecks name v terms) (RefusesControl name pipe_rows terms) seen stop (λ a is. inr (inr is)) refuses

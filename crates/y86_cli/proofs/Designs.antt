@@ -12,30 +12,26 @@ use Rattle.hcl_types.specs.declared.table.Row.{Row}
 use Rattle.hcl_types.specs.declared.term.Term.{Term}
 use Rattle.hcl_order.specs.Dependence.{Depends, FirstCycle}
 use Rattle.y86_cli.specs.declared.stop.Stop as code
-use Rattle.y86_cli.specs.declared.stop.Stop.TheVariants.{Memory}
 use Rattle.y86_cli.specs.Designs.{IsDesign, RefusesDesign, RefusesHcl}
+use Rattle.y86_cli.specs.Does.{Refuses}
 use Rattle.y86_cli.specs.Lines.{bind_fault_line, blank_names, cycle_line, names_at}
 use Rattle.y86_cli.specs.Plan.{refused}
-use Rattle.y86_cli.specs.Stops.{answer_at, status_of}
-
-abbrev Refuses : List ℕ → List Row → List ℕ → code.Stop → Type 0
-Refuses name rows text stop = (stop ≡ Memory) ⊎ ((status_of stop ≡ 5) × RefusesDesign name rows text (answer_at stop))
 
 pub unread : (name : List ℕ) (rows : List Row) (text : List ℕ) (stop : code.Stop) →
-    (stop ≡ Memory) ⊎ ((status_of stop ≡ 5) × RefusesHcl name text (answer_at stop)) → Refuses name rows text stop
+    Refuses (RefusesHcl name text) stop → Refuses (RefusesDesign name rows text) stop
 unread name rows text stop (inl memory) = inl memory
 unread name rows text stop (inr said) = inr (said.0, inl said.1)
 
 pub unbound : (name : List ℕ) (rows : List Row) (text : List ℕ) (file : File) (fault : BindFault) (stop : code.Stop) → ReadsAs text file →
     (fault.why ≢ OutOfMemory → bound rows file.items ≡ Err fault) →
-    (stop ≡ Memory) ⊎ ((status_of stop ≡ 5) × (fault.why ≢ OutOfMemory) × (answer_at stop ≡ refused 5 (bind_fault_line name fault))) → Refuses name rows text stop
+    Refuses (λ a. (fault.why ≢ OutOfMemory) × (a ≡ refused 5 (bind_fault_line name fault))) stop → Refuses (RefusesDesign name rows text) stop
 unbound name rows text file fault stop reads binds (inl memory) = inl memory
 unbound name rows text file fault stop reads binds (inr said) =
-    inr (said.0, inr (inl (record { file = file; reads = reads; fault = fault; binds = binds said.1; told = said.2 })))
+    inr (said.0, inr (inl (record { file = file; reads = reads; fault = fault; binds = binds said.1.0; told = said.1.1 })))
 
 pub unordered : (name : List ℕ) (rows : List Row) (text : List ℕ) (file : File) (terms : List Term) (ids : List ℕ) (stop : code.Stop) → ReadsAs text file →
     bound rows file.items ≡ Ok terms → FirstCycle (needs_of (needs rows terms)) ids →
-    (stop ≡ Memory) ⊎ ((status_of stop ≡ 5) × (answer_at stop ≡ refused 5 (cycle_line name (names_at (row_names rows) ids)))) → Refuses name rows text stop
+    Refuses (λ a. a ≡ refused 5 (cycle_line name (names_at (row_names rows) ids))) stop → Refuses (RefusesDesign name rows text) stop
 unordered name rows text file terms ids stop reads binds first (inl memory) = inl memory
 unordered name rows text file terms ids stop reads binds first (inr said) =
     inr (said.0, inr (inr (record { file = file; reads = reads; terms = terms; binds = binds; cycle = ids; first = first; told = said.1 })))

@@ -7,10 +7,10 @@ use Rattle.y86_cli.specs.declared.stop.Stop as code
 use Rattle.y86_cli.specs.declared.stop.Stop.TheVariants.{Usage, Read, Write, Refused, Memory, TooLong}
 use Rattle.y86_cli.specs.Answers.{plan_of}
 use Rattle.y86_cli.specs.Came.{IsAllowed, Came}
-use Rattle.y86_cli.specs.Does.{FilesSeen, NoReadFailed, SinkSeen, Does}
+use Rattle.y86_cli.specs.Does.{FilesSeen, NoReadFailed, SinkSeen, StopsAtRead, StopsReading, Does}
 use Rattle.y86_words.specs.Forms.{Command}
 use Rattle.y86_cli.specs.Lines.{memory_line, read_fault_line, usage_line}
-use Rattle.y86_cli.specs.Plan.{Answered, Plan, Tells, IsFaultless, refused}
+use Rattle.y86_cli.specs.Plan.{Answered, Plan, says, reads, gives, Tells, IsFaultless, refused}
 use Rattle.y86_cli.specs.Ran.{Ended, ReadFailed, Ran, Shows, Told}
 use Rattle.y86_cli.specs.Stops.{line_of, read_name, status_of}
 use Rattle.y86_cli.proofs.Came.{came, faultless_low}
@@ -49,15 +49,39 @@ line_of_memory (Refused name why) e = absurd (cc)
 line_of_memory Memory e = refl
 line_of_memory (TooLong name limit) e = absurd (cc)
 
--- a stop that isn't told as a failed read comes without one
-none_failed : (files_before files_after : FilesSeen) (stop : code.Stop) → NoReadFailed {A = ℕ} files_before files_after (Err stop) →
-    status_of stop ≢ 3 → (name : List ℕ) → files_after.faults name ≡ files_before.faults name
-none_failed files_before files_after Usage reads other name = reads refl name
-none_failed files_before files_after (Read file) reads other name = absurd (other refl)
-none_failed files_before files_after Write reads other name = reads refl name
-none_failed files_before files_after (Refused file why) reads other name = reads refl name
-none_failed files_before files_after Memory reads other name = reads refl name
-none_failed files_before files_after (TooLong file limit) reads other name = reads refl name
+-- ---- a call that doesn't end with a failed read comes without one
+
+abbrev EndsElse : Result ℕ code.Stop → Type 0
+EndsElse (Ok status) = Unit {0}
+EndsElse (Err stop) = status_of stop ≢ 3
+
+stop_none : (name : List ℕ) (limit : ℕ) (files_before files_after : FilesSeen) (stop : code.Stop) → StopsAtRead name limit files_before files_after stop →
+    status_of stop ≢ 3 → NoReadFailed files_before files_after
+stop_none name limit files_before files_after Usage s other = absurd s
+stop_none name limit files_before files_after (Read file) s other = absurd (other refl)
+stop_none name limit files_before files_after Write s other = absurd s
+stop_none name limit files_before files_after (Refused file why) s other = absurd s
+stop_none name limit files_before files_after Memory s other = s
+stop_none name limit files_before files_after (TooLong file n) s other = s.3
+
+reading_none : (name : List ℕ) (limit : ℕ) (files_before files_after : FilesSeen) (before after : SinkSeen) (result : Result ℕ code.Stop) →
+    StopsReading name limit files_before files_after before after result → EndsElse result → NoReadFailed files_before files_after
+reading_none name limit files_before files_after before after (Ok status) s other = absurd s
+reading_none name limit files_before files_after before after (Err stop) s other = stop_none name limit files_before files_after stop s.0 other
+
+none_failed : (plan : Plan) (files_before files_after : FilesSeen) (before after : SinkSeen) (result : Result ℕ code.Stop) →
+    Does plan files_before files_after before after result → EndsElse result → NoReadFailed files_before files_after
+unfolding Does
+none_failed (says P) files_before files_after before after result d other = d.1
+none_failed (reads name limit next) files_before files_after before after result (inl s) other =
+    reading_none name limit files_before files_after before after result s other
+none_failed (reads name limit next) files_before files_after before after result (inr more) other =
+    none_failed (next more.0) files_before files_after before after result more.3 other
+none_failed (gives P E next) files_before files_after before after result (inl more) other =
+    none_failed (next more.0) files_before files_after before after result more.2 other
+none_failed (gives P E next) files_before files_after before after result (inr s) other = s.1
+
+-- ---- texts
 
 -- a text that was put on standard error
 pub told_whole : (before after : SinkSeen) (text : List ℕ) → Took before.taken after.taken text → after.faults ≡ before.faults → Told before after text
@@ -145,26 +169,27 @@ low_or_four high p (inl low) = absurd (omega (arith, high, low))
 low_or_four high p (inr four) = p four
 
 command_stopped : (command : Command) (files_before files_after : FilesSeen) (before after err_before err_after : SinkSeen) (stop : code.Stop) →
-    Came (plan_of command) files_before files_after before after (Err stop) → NoReadFailed {A = ℕ} files_before files_after (Err stop) →
-    Told err_before err_after (line_of stop) → (status_of stop ≡ 4 → err_after ≡ err_before) → Ran (Some command) files_before files_after before after err_before err_after (status_of stop)
-command_stopped command files_before files_after before after err_before err_after stop c reads told silent = record {
-  at_most_seven = stop_low stop;
-  usage = λ two. absurd (stop_not_usage (plan_of command) files_before files_after before after stop c two);
-  answer = stop_answer (plan_of command) files_before files_after before after err_before err_after stop c told;
-  read_failed = stop_read_failed (plan_of command) files_before files_after before after err_before err_after stop c told;
-  no_read_failed = none_failed files_before files_after stop reads;
-  write_failed = stop_write_failed (plan_of command) files_before files_after before after stop c;
-  no_write_failed = λ other. ap (λ x. x.faults) (stop_nothing (plan_of command) files_before files_after before after stop c other);
-  nothing_out = λ _ _ other. stop_nothing (plan_of command) files_before files_after before after stop c other;
-  err_memory = λ six. told_line err_before err_after _ _ (line_of_memory stop six) told;
-  nothing_err = low_or_four (stop_high stop) silent;
-  complete = λ contents tells faultless three four. inl (stop_complete (plan_of command) files_before files_after before after stop c contents tells faultless three four);
-}
+    Does (plan_of command) files_before files_after before after (Err stop) → Told err_before err_after (line_of stop) → (status_of stop ≡ 4 → err_after ≡ err_before) →
+    Ran (Some command) files_before files_after before after err_before err_after (status_of stop)
+command_stopped command files_before files_after before after err_before err_after stop d told silent =
+    let c : Came (plan_of command) files_before files_after before after (Err stop) = came (plan_of command) files_before files_after before after (Err stop) d in
+    record {
+      at_most_seven = stop_low stop;
+      usage = λ two. absurd (stop_not_usage (plan_of command) files_before files_after before after stop c two);
+      answer = stop_answer (plan_of command) files_before files_after before after err_before err_after stop c told;
+      read_failed = stop_read_failed (plan_of command) files_before files_after before after err_before err_after stop c told;
+      no_read_failed = none_failed (plan_of command) files_before files_after before after (Err stop) d;
+      write_failed = stop_write_failed (plan_of command) files_before files_after before after stop c;
+      no_write_failed = λ other. ap (λ x. x.faults) (stop_nothing (plan_of command) files_before files_after before after stop c other);
+      nothing_out = λ _ _ other. stop_nothing (plan_of command) files_before files_after before after stop c other;
+      err_memory = λ six. told_line err_before err_after _ _ (line_of_memory stop six) told;
+      nothing_err = low_or_four (stop_high stop) silent;
+      complete = λ contents tells faultless three four. inl (stop_complete (plan_of command) files_before files_after before after stop c contents tells faultless three four);
+    }
 
 usage_ran : (files_before files_after : FilesSeen) (before after err_before err_after : SinkSeen) →
-    ((name : List ℕ) → files_after.faults name ≡ files_before.faults name) → after ≡ before → Told err_before err_after usage_line →
-    Ran None files_before files_after before after err_before err_after 2
-usage_ran files_before files_after before after err_before err_after reads same told = record {
+    files_after ≡ files_before → after ≡ before → Told err_before err_after usage_line → Ran None files_before files_after before after err_before err_after 2
+usage_ran files_before files_after before after err_before err_after files same told = record {
   at_most_seven = lit≤ tt;
   usage = λ _. refl;
   answer = λ _ _. (
@@ -173,7 +198,7 @@ usage_ran files_before files_after before after err_before err_after reads same 
     record { status_is = λ _. refl; out = λ _. took_same before after same; part = λ four. absurd (omega (arith, four)); err = λ _. told },
   );
   read_failed = λ three. absurd (omega (arith, three));
-  no_read_failed = λ _. reads;
+  no_read_failed = λ _ name. ap (λ (x : FilesSeen). x.faults name) files;
   write_failed = λ four. absurd (omega (arith, four));
   no_write_failed = λ _. ap (λ x. x.faults) same;
   nothing_out = λ _ _ _. same;
@@ -192,17 +217,16 @@ done_shows plan files_before files_after before after err status (inr (a, allowe
     (fits.1, fits.4, a, allowed, record { status_is = λ _. fits.0; out = λ _. fits.3; part = λ four. absurd (omega (arith, four, fits.1)); err = λ _. told_quiet err a.err fits.2 })
 
 command_done : (command : Command) (files_before files_after : FilesSeen) (before after err : SinkSeen) (status : ℕ) →
-    Came (plan_of command) files_before files_after before after (Ok status) → NoReadFailed files_before files_after (Ok status) →
-    Ran (Some command) files_before files_after before after err err status
-command_done command files_before files_after before after err status c reads =
-    let shows = done_shows (plan_of command) files_before files_after before after err status c in
+    Does (plan_of command) files_before files_after before after (Ok status) → Ran (Some command) files_before files_after before after err err status
+command_done command files_before files_after before after err status d =
+    let shows = done_shows (plan_of command) files_before files_after before after err status (came (plan_of command) files_before files_after before after (Ok status) d) in
     let low : status ≤ 1 = shows.0 in
     record {
       at_most_seven = omega arith;
       usage = λ two. absurd (omega (arith, two));
       answer = λ _ _. (shows.2, shows.3, shows.4);
       read_failed = λ three. absurd (omega (arith, three));
-      no_read_failed = λ _. reads refl;
+      no_read_failed = λ _. none_failed (plan_of command) files_before files_after before after (Ok status) d tt;
       write_failed = λ four. absurd (omega (arith, four));
       no_write_failed = λ _. shows.1;
       nothing_out = λ zeroth first _. absurd (not_low status zeroth first low);
@@ -217,36 +241,32 @@ command_done command files_before files_after before after err status c reads =
 -- ---- both
 
 pub ran_done : (form : Option Command) (files_before files_after : FilesSeen) (before after err : SinkSeen) (status : ℕ) →
-    Ended form files_before files_after before after (Ok status) → NoReadFailed files_before files_after (Ok status) →
-    Ran form files_before files_after before after err err status
+    Ended form files_before files_after before after (Ok status) → Ran form files_before files_after before after err err status
 unfolding Ended
-ran_done None files_before files_after before after err status e reads = absurd (cc (e.0))
-ran_done (Some command) files_before files_after before after err status e reads =
-    command_done command files_before files_after before after err status (came (plan_of command) files_before files_after before after (Ok status) e) reads
+ran_done None files_before files_after before after err status e = absurd (cc (e.0))
+ran_done (Some command) files_before files_after before after err status e = command_done command files_before files_after before after err status e
 
 stopped : (form : Option Command) (files_before files_after : FilesSeen) (before after err_before err_after : SinkSeen) (stop : code.Stop) →
-    Ended form files_before files_after before after (Err stop) → NoReadFailed {A = ℕ} files_before files_after (Err stop) →
-    Told err_before err_after (line_of stop) → (status_of stop ≡ 4 → err_after ≡ err_before) →
+    Ended form files_before files_after before after (Err stop) → Told err_before err_after (line_of stop) → (status_of stop ≡ 4 → err_after ≡ err_before) →
     Ran form files_before files_after before after err_before err_after (status_of stop)
 unfolding Ended
-stopped None files_before files_after before after err_before err_after stop e reads told silent =
+stopped None files_before files_after before after err_before err_after stop e told silent =
     let usage : stop ≡ Usage = cc (e.0) in
-    let P : code.Stop → Type 0 =
-    λ s. NoReadFailed {A = ℕ} files_before files_after (Err s) → Told err_before err_after (line_of s) → Ran None files_before files_after before after err_before err_after (status_of s) in
-    subst P (sym usage) (λ quiet. usage_ran files_before files_after before after err_before err_after (quiet refl) e.1) reads told
-stopped (Some command) files_before files_after before after err_before err_after stop e reads told silent =
-    command_stopped command files_before files_after before after err_before err_after stop (came (plan_of command) files_before files_after before after (Err stop) e) reads told silent
+    let P : code.Stop → Type 0 = λ s. Told err_before err_after (line_of s) → Ran None files_before files_after before after err_before err_after (status_of s) in
+    subst P (sym usage) (usage_ran files_before files_after before after err_before err_after e.1 e.2) told
+stopped (Some command) files_before files_after before after err_before err_after stop e told silent =
+    command_stopped command files_before files_after before after err_before err_after stop e told silent
 
 pub ran_stopped : (form : Option Command) (files_before files_after : FilesSeen) (before after err_before err_after : SinkSeen) (stop : code.Stop) (status : ℕ) →
-    Ended form files_before files_after before after (Err stop) → NoReadFailed {A = ℕ} files_before files_after (Err stop) →
-    status ≡ status_of stop → Told err_before err_after (line_of stop) → (status_of stop ≡ 4 → err_after ≡ err_before) → Ran form files_before files_after before after err_before err_after status
-ran_stopped form files_before files_after before after err_before err_after stop status e reads s told silent =
-    rw s (stopped form files_before files_after before after err_before err_after stop e reads told silent)
+    Ended form files_before files_after before after (Err stop) → status ≡ status_of stop → Told err_before err_after (line_of stop) →
+    (status_of stop ≡ 4 → err_after ≡ err_before) → Ran form files_before files_after before after err_before err_after status
+ran_stopped form files_before files_after before after err_before err_after stop status e s told silent =
+    rw s (stopped form files_before files_after before after err_before err_after stop e told silent)
 
 -- the words are no command
 pub no_command : (form : Option Command) (files : FilesSeen) (seen : SinkSeen) → form ≡ None → Ended form files files seen seen (Err Usage)
 unfolding Ended
-no_command form files seen none = rw none (refl, refl)
+no_command form files seen none = rw none (refl, refl, refl)
 
 pub command_ended : (form : Option Command) (command : Command) (files_before files_after : FilesSeen) (before after : SinkSeen) (result : Result ℕ code.Stop) →
     form ≡ Some command → Does (plan_of command) files_before files_after before after result → Ended form files_before files_after before after result
@@ -284,7 +304,7 @@ memory_ran form files seen err_before err_after status six told = record {
 
 unread_ran : (files : FilesSeen) (seen err_before err_after : SinkSeen) (status : ℕ) → status ≡ 2 → Told err_before err_after usage_line →
     Ran None files files seen seen err_before err_after status
-unread_ran files seen err_before err_after status two told = rw two (usage_ran files files seen seen err_before err_after (λ _. refl) refl told)
+unread_ran files seen err_before err_after status two told = rw two (usage_ran files files seen seen err_before err_after refl refl told)
 
 -- words that can't be read
 pub unread_stopped : (files : FilesSeen) (seen err_before err_after : SinkSeen) (stop : code.Stop) (status : ℕ) → (stop ≡ Memory) ⊎ (stop ≡ Usage) →

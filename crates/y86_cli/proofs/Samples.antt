@@ -18,13 +18,11 @@ use Rattle.rule_gates.specs.declared.rules.Rule.{Rule}
 use Rattle.rule_gates.specs.declared.rules.Rules.{Rules}
 use Rattle.y86_base.specs.declared.parts.Variant.{Variant}
 use Rattle.y86_cli.specs.Checks.{RefusesControl}
-use Rattle.y86_cli.specs.Does.{Says, SinkSeen}
+use Rattle.y86_cli.specs.Does.{Refuses, Says, SinkSeen}
 use Rattle.y86_cli.specs.Plan.{done}
 use Rattle.y86_cli.specs.Samples.{DrawnOf, IsFalseDrawn, IsSampled, NoneFalseDrawn, SampleAnswers, found_line, none_line}
-use Rattle.y86_cli.specs.Stops.{answer_at, status_of}
 use Rattle.y86_cli.specs.declared.stop.Stop as code
-use Rattle.y86_cli.specs.declared.stop.Stop.TheVariants.{Memory}
-use Rattle.y86_cli.proofs.Does.{refusal_says, says_more}
+use Rattle.y86_cli.proofs.Does.{refused_says, says_more}
 
 module _ (v : Variant) (terms : List Term) (ids : List ℕ) (o : IsOrderOf pipe_rows terms ids) (r : Rules) (h : AreFileRules v terms r) (seed : ℕ) where
   abbrev drawn : DrawnOf v terms
@@ -96,6 +94,6 @@ said_found name v terms seed count found old new result finds s =
     (λ a told. inr (inl (record { index = found.index; rule = found.rule; finds = finds; told = told }))) s
 
 pub said_sample_refusal : (name : List ℕ) (v : Variant) (terms : List Term) (seed count : ℕ) (seen : SinkSeen) (stop : code.Stop) →
-    (stop ≡ Memory) ⊎ ((status_of stop ≡ 5) × RefusesControl name pipe_rows terms (answer_at stop)) → Says (SampleAnswers name v terms seed count) seen seen (Err stop)
-said_sample_refusal name v terms seed count seen stop (inl memory) = rw memory refl
-said_sample_refusal name v terms seed count seen stop (inr refused) = refusal_says (SampleAnswers name v terms seed count) seen stop refused.0 (inr (inr refused.1))
+    Refuses (RefusesControl name pipe_rows terms) stop → Says (SampleAnswers name v terms seed count) seen seen (Err stop)
+said_sample_refusal name v terms seed count seen stop refuses =
+    refused_says (SampleAnswers name v terms seed count) (RefusesControl name pipe_rows terms) seen stop (λ a is. inr (inr is)) refuses

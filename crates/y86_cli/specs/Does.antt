@@ -1,12 +1,12 @@
 -- What a call did to the outside, against a plan.
-use Rattle.std.specs.Prelude.{◌≡◌, ◌⊎◌, ℕ, ◌≤◌, false, List, [], length, Option, Some, IfSome, Result, Ok, Err}
+use Rattle.std.specs.Prelude.{◌≡◌, ◌⊎◌, ℕ, ◌≤◌, List, [], length, Option, Some, IfSome, Result, Ok, Err, OnErr, OnOk}
 use Rattle.wb_io.specs.Causes.{counted}
 use Rattle.wb_io.specs.Files.{HasBytes, HasMore}
 use Rattle.wb_io.specs.Sinks.{Took, TookPart}
 use Rattle.y86_cli.specs.declared.stop.Stop as code
 use Rattle.y86_cli.specs.declared.stop.Stop.TheVariants.{Write, Refused, Memory, Read, TooLong}
 use Rattle.y86_cli.specs.Plan.{Answered, Plan, gives, says, reads}
-use Rattle.y86_cli.specs.Stops.{answer_at, ends_at_read, status_of}
+use Rattle.y86_cli.specs.Stops.{answer_at, status_of}
 
 -- the files: what they tell, and for each name a count of the reads that failed
 pub record FilesSeen : Type 0 where
@@ -24,31 +24,52 @@ files_seen told faults = record { told = told; faults = faults }
 abbrev pub sink_seen : Option (List ℕ) → ℕ → SinkSeen
 sink_seen taken faults = record { taken = taken; faults = faults }
 
+-- what a write counts: no fault at Ok, and just one at Err
+pub record CountsFaults {A E : Type 0} (before after : ℕ) (result : Result A E) : Type 0 where
+  pub no_fault_at_ok : OnOk result (after ≡ before)
+  pub one_fault_at_err : OnErr result (after ≡ counted before)
+
+-- no read of any file failed
+abbrev pub NoReadFailed : FilesSeen → FilesSeen → Type 0
+NoReadFailed before after = (name : List ℕ) → after.faults name ≡ before.faults name
+
 -- the files at a later time, when no further read has failed
 pub record IsLater (before after : FilesSeen) : Type 0 where
   pub stays : (name : List ℕ) → IfSome (before.told name) (λ known. after.told name ≡ Some known)
-  pub counts : (name : List ℕ) → after.faults name ≡ before.faults name
+  pub counts : NoReadFailed before after
 
--- where the call didn't end with a failed read, no read failed
-abbrev pub NoReadFailed : {A : Type 0} → FilesSeen → FilesSeen → Result A code.Stop → Type 0
-NoReadFailed before after result = ends_at_read result ≡ false → (name : List ℕ) → after.faults name ≡ before.faults name
-
--- why a read of a file stopped: it failed, the file has more bytes than the limit, or want of memory
+-- why a read of a file stopped: it failed; or none did, and the file has more bytes than the limit, or memory was wanted
 abbrev pub StopsAtRead : List ℕ → ℕ → FilesSeen → FilesSeen → code.Stop → Type 0
-StopsAtRead name limit before after Memory = Unit {0}
+StopsAtRead name limit before after Memory = NoReadFailed before after
 StopsAtRead name limit before after (Read other) = (other.now ≡ name) × (after.faults name ≡ counted (before.faults name))
-StopsAtRead name limit before after (TooLong other n) = (other.now ≡ name) × (n ≡ limit) × HasMore (before.told name) limit
+StopsAtRead name limit before after (TooLong other n) = (other.now ≡ name) × (n ≡ limit) × HasMore (before.told name) limit × NoReadFailed before after
 StopsAtRead name limit before after _ = ⊥
+
+-- a stop is a refusal that is one of the answers, or want of memory
+abbrev pub Refuses : (Answered → Type 0) → code.Stop → Type 0
+Refuses E stop = (stop ≡ Memory) ⊎ ((status_of stop ≡ 5) × E (answer_at stop))
 
 -- a stage gives one of the values, or a refusal that is one of the answers, or want of memory
 abbrev pub GivesOne : {A B : Type 0} → (A → Type 0) → (Answered → Type 0) → (B → A) → Result B code.Stop → Type 0
 GivesOne P E view (Ok x) = P (view x)
-GivesOne P E view (Err stop) = (stop ≡ Memory) ⊎ ((status_of stop ≡ 5) × E (answer_at stop))
+GivesOne P E view (Err stop) = Refuses E stop
 
 -- a stage gives what is defined, or the refusal that is defined, or want of memory
 abbrev pub Gives : {A B : Type 0} → (B → A) → Result A Answered → Result B code.Stop → Type 0
 Gives view defined (Ok x) = defined ≡ Ok (view x)
-Gives view defined (Err stop) = (stop ≡ Memory) ⊎ ((status_of stop ≡ 5) × (defined ≡ Err (answer_at stop)))
+Gives view defined (Err stop) = Refuses (λ a. defined ≡ Err a) stop
+
+-- these bytes of a file were read, within a limit; they agree with what the files tell, and no read failed
+pub record IsRead (name : List ℕ) (limit : ℕ) (before after : FilesSeen) (bytes : List ℕ) : Type 0 where
+  pub short : length bytes ≤ limit
+  pub has : HasBytes (before.told name) bytes
+  pub later : IsLater before after
+
+-- a stage that reads a file gives one of the values by its bytes, or a refusal by them; or it stops at the read
+abbrev pub ReadsOne : {A B : Type 0} → List ℕ → ℕ → (List ℕ → A → Type 0) → (List ℕ → Answered → Type 0) → (B → A) → FilesSeen → FilesSeen → Result B code.Stop → Type 0
+ReadsOne name limit P E view before after (Ok x) = (bytes : List ℕ) × IsRead name limit before after bytes × P bytes (view x)
+ReadsOne name limit P E view before after (Err stop) =
+    StopsAtRead name limit before after stop ⊎ ((bytes : List ℕ) × IsRead name limit before after bytes × Refuses (E bytes) stop)
 
 -- one of the answers went out whole, and nothing is to be told on standard error
 pub record SaidWhole (P : Answered → Type 0) (before after : SinkSeen) (status : ℕ) : Type 0 where
@@ -82,11 +103,22 @@ StopsReading name limit files_before files_after before after (Ok status) = ⊥
 StopsReading name limit files_before files_after before after (Err stop) =
     StopsAtRead name limit files_before files_after stop × (after ≡ before)
 
--- a call did what a plan says, by some contents that agree with what the files tell
+-- a call did what a plan says, by some contents that agree with what the files tell; no read failed but one that it ended with
 unfoldable pub Does : Plan → FilesSeen → FilesSeen → SinkSeen → SinkSeen → Result ℕ code.Stop → Type 0
-Does (says P) files_before files_after before after result = Says P before after result
+Does (says P) files_before files_after before after result = Says P before after result × NoReadFailed files_before files_after
 Does (reads name limit next) files_before files_after before after result =
     StopsReading name limit files_before files_after before after result
     ⊎ ((bytes : List ℕ) × (length bytes ≤ limit) × HasBytes (files_before.told name) bytes × Does (next bytes) files_before files_after before after result)
 Does (gives {A} P E next) files_before files_after before after result =
-    ((x : A) × P x × Does (next x) files_before files_after before after result) ⊎ Says E before after result
+    ((x : A) × P x × Does (next x) files_before files_after before after result) ⊎ (Says E before after result × NoReadFailed files_before files_after)
+
+-- ---- over any files and any sink, by what they tell, take and count
+
+abbrev pub SaysOn : {O : Type 0} → (O → Option (List ℕ)) → (O → ℕ) → (Answered → Type 0) → O → O → Result ℕ code.Stop → Type 0
+SaysOn taken faults P before after result = Says P (sink_seen (taken before) (faults before)) (sink_seen (taken after) (faults after)) result
+
+abbrev pub DoesOver : {F O : Type 0} → (F → List ℕ → Option (Option (List ℕ))) → (F → List ℕ → ℕ) → (O → Option (List ℕ)) → (O → ℕ) →
+    Plan → F → F → O → O → Result ℕ code.Stop → Type 0
+DoesOver told reads_failed taken faults plan files_before files_after before after result =
+    Does plan (files_seen (told files_before) (reads_failed files_before)) (files_seen (told files_after) (reads_failed files_after))
+    (sink_seen (taken before) (faults before)) (sink_seen (taken after) (faults after)) result

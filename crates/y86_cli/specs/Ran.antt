@@ -19,9 +19,9 @@ use Rattle.y86_cli.specs.Plan.{Answered, IsFaultless, Plan, Tells}
 abbrev pub words_behind : IntoIter (String Global) Global → List (List ℕ)
 words_behind args = map string_bytes (drop 1 (into_iter_items args))
 
--- the command was done, or there is none and nothing was written
+-- the command was done, or there is none and nothing was read or written
 unfoldable pub Ended : Option Command → FilesSeen → FilesSeen → SinkSeen → SinkSeen → Result ℕ code.Stop → Type 0
-Ended None files_before files_after before after result = (result ≡ Err Usage) × (after ≡ before)
+Ended None files_before files_after before after result = (result ≡ Err Usage) × (files_after ≡ files_before) × (after ≡ before)
 Ended (Some command) files_before files_after before after result = Does (plan_of command) files_before files_after before after result
 
 -- a text was told on standard error: whole, or a proper prefix of it, where a write failed there

@@ -1,22 +1,18 @@
 //! `aig`: the obligations of an HCL file for PIPE as an AIGER text.
-ghost use Rattle.std.specs.Prelude.{◌≡◌, ◌⊎◌, IfErr, IfOk, List, ℕ};
+ghost use Rattle.std.specs.Prelude.{◌≡◌, IfErr, IfOk, List, ℕ};
 ghost use Rattle.dp_signals.specs.PipeTable.{pipe_rows};
-ghost use Rattle.hcl_types.specs.Tables.{IsBound, IsOrderOf};
 ghost use Rattle.y86_cli.specs.AigerTexts.{AigAnswers, TellsObligations};
 ghost use Rattle.y86_cli.specs.Answers.{aig_plan};
 ghost use Rattle.y86_cli.specs.Checks.{RefusesControl};
-ghost use Rattle.y86_cli.specs.Does.{Does, NoReadFailed, Says, files_seen, sink_seen};
-ghost use Rattle.y86_cli.specs.Stops.{answer_at, status_of};
-ghost use Rattle.y86_cli.specs.declared.stop.Stop.TheVariants.{Memory as WantOfMemory};
+ghost use Rattle.y86_cli.specs.Designs.{IsOrdered};
+ghost use Rattle.y86_cli.specs.Does.{DoesOver, Refuses, SaysOn};
 
-use crate::design::{Ordered, pipe_design};
+use crate::design::{Ordered, pipe_file};
 use crate::saying::say;
-use crate::stages::{HCL_LIMIT, read_file};
 use crate::stop::Stop;
 use crate::verdict::control_stop;
 use aiger_out::write;
 use control_check::file_rules;
-use dp_signals::{law_of_tables, pipe_table};
 use std::alloc::Global;
 use verdicts::CheckFault;
 use wb_io::{Files, Sink};
@@ -30,21 +26,16 @@ fn obligation_text<'a>(
     variant: Variant,
     ordered: &Ordered,
 ) -> Result<Vec<u8>, Stop<'a>>
-    requires bound { IsBound pipe_rows ordered.now.design.terms }
-    requires order { IsOrderOf pipe_rows ordered.now.design.terms ordered.now.order.ids }
+    requires { IsOrdered pipe_rows ordered.now }
     ensures text { IfOk result (λ text. TellsObligations variant ordered.now.design.terms text.items) }
-    ensures refused { IfErr result (λ stop. (stop ≡ WantOfMemory) ⊎ ((status_of stop ≡ 5) × RefusesControl name.now pipe_rows ordered.now.design.terms (answer_at stop))) }
+    ensures refused { IfErr result (Refuses (RefusesControl name.now pipe_rows ordered.now.design.terms)) }
 {
-    law_of_tables();
-    let Ok(table) = pipe_table(alloc) else {
-        return Err(Stop::Memory);
-    };
     match file_rules(alloc, variant, &ordered.design, &ordered.order) {
         Ok(rules) => match write(alloc, &rules) {
             Ok(text) => Ok(text),
             Err(Memory) => Err(Stop::Memory),
         },
-        Err(CheckFault::Ctl(fault)) => Err(control_stop(alloc, name, table.rows.items(), fault)),
+        Err(CheckFault::Ctl(fault)) => Err(control_stop(alloc, name, ordered, fault)),
         Err(CheckFault::Memory) => Err(Stop::Memory),
     }
 }
@@ -58,10 +49,8 @@ fn say_obligations<'a, O: Sink>(
     ordered: &Ordered,
     out: &mut O,
 ) -> Result<u8, Stop<'a>>
-    requires bound { IsBound pipe_rows ordered.now.design.terms }
-    requires order { IsOrderOf pipe_rows ordered.now.design.terms ordered.now.order.ids }
-    ensures { Says (AigAnswers name.now variant ordered.now.design.terms)
-        (sink_seen (O.taken out.old) (O.faults out.old)) (sink_seen (O.taken out.new) (O.faults out.new)) result }
+    requires { IsOrdered pipe_rows ordered.now }
+    ensures { SaysOn O.taken O.faults (AigAnswers name.now variant ordered.now.design.terms) out.old out.new result }
 {
     match obligation_text(alloc, name, variant, ordered) {
         Ok(text) => say(0, text.as_slice(), out),
@@ -77,16 +66,10 @@ pub fn aig_file<'a, F: Files, O: Sink>(
     files: &mut F,
     out: &mut O,
 ) -> Result<u8, Stop<'a>>
-    ensures does { Does (aig_plan name.now variant)
-        (files_seen (F.told files.old) (F.faults files.old)) (files_seen (F.told files.new) (F.faults files.new))
-        (sink_seen (O.taken out.old) (O.faults out.old)) (sink_seen (O.taken out.new) (O.faults out.new)) result }
-    ensures no_read_failed { NoReadFailed (files_seen (F.told files.old) (F.faults files.old)) (files_seen (F.told files.new) (F.faults files.new)) result }
+    ensures { DoesOver F.told F.faults O.taken O.faults (aig_plan name.now variant)
+        files.old files.new out.old out.new result }
 {
-    let source = match read_file(alloc, name, HCL_LIMIT, files) {
-        Ok(source) => source,
-        Err(stop) => return Err(stop),
-    };
-    let ordered = match pipe_design(alloc, name, source.as_slice()) {
+    let ordered = match pipe_file(alloc, name, files) {
         Ok(ordered) => ordered,
         Err(stop) => return Err(stop),
     };

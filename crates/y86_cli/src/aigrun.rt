@@ -1,11 +1,9 @@
 //! `aigrun`: at how many of 512 vectors each output of an AIGER text is 1.
-ghost use Rattle.std.specs.Prelude.{◌≡◌, ◌⊎◌, IfErr, IfOk, List, ℕ};
+ghost use Rattle.std.specs.Prelude.{◌≡◌, IfErr, IfOk, List, ℕ};
 ghost use Rattle.aiger_run.specs.Told.{TellsCounts};
 ghost use Rattle.y86_cli.specs.AigerTexts.{AigrunAnswers, RefusesAag, aag_reason};
 ghost use Rattle.y86_cli.specs.Answers.{aigrun_plan};
-ghost use Rattle.y86_cli.specs.Does.{Does, NoReadFailed, Says, files_seen, sink_seen};
-ghost use Rattle.y86_cli.specs.Stops.{answer_at, status_of};
-ghost use Rattle.y86_cli.specs.declared.stop.Stop.TheVariants.{Memory as WantOfMemory};
+ghost use Rattle.y86_cli.specs.Does.{DoesOver, Refuses, SaysOn};
 
 use crate::saying::say;
 use crate::stages::read_file;
@@ -36,7 +34,7 @@ fn reason(why: AagWhy) -> &'static [u8]
 #[tactic(auto, using(crate::proofs::AigerTexts::refuses_aag))]
 fn counts_of<'a>(alloc: Global, name: &'a str, bytes: &[u8], seed: u64) -> Result<Vec<u8>, Stop<'a>>
     ensures text { IfOk result (λ text. TellsCounts bytes.now seed text.items) }
-    ensures refused { IfErr result (λ stop. (stop ≡ WantOfMemory) ⊎ ((status_of stop ≡ 5) × RefusesAag name.now bytes.now (answer_at stop))) }
+    ensures refused { IfErr result (Refuses (RefusesAag name.now bytes.now)) }
 {
     match count_outputs(alloc, bytes, seed) {
         Ok(text) => Ok(text),
@@ -60,8 +58,7 @@ fn say_counts<'a, O: Sink>(
     seed: u64,
     out: &mut O,
 ) -> Result<u8, Stop<'a>>
-    ensures { Says (AigrunAnswers name.now bytes.now seed)
-        (sink_seen (O.taken out.old) (O.faults out.old)) (sink_seen (O.taken out.new) (O.faults out.new)) result }
+    ensures { SaysOn O.taken O.faults (AigrunAnswers name.now bytes.now seed) out.old out.new result }
 {
     match counts_of(alloc, name, bytes, seed) {
         Ok(text) => say(0, text.as_slice(), out),
@@ -77,10 +74,8 @@ pub fn aigrun_file<'a, F: Files, O: Sink>(
     files: &mut F,
     out: &mut O,
 ) -> Result<u8, Stop<'a>>
-    ensures does { Does (aigrun_plan name.now seed)
-        (files_seen (F.told files.old) (F.faults files.old)) (files_seen (F.told files.new) (F.faults files.new))
-        (sink_seen (O.taken out.old) (O.faults out.old)) (sink_seen (O.taken out.new) (O.faults out.new)) result }
-    ensures no_read_failed { NoReadFailed (files_seen (F.told files.old) (F.faults files.old)) (files_seen (F.told files.new) (F.faults files.new)) result }
+    ensures { DoesOver F.told F.faults O.taken O.faults (aigrun_plan name.now seed)
+        files.old files.new out.old out.new result }
 {
     let bytes = match read_file(alloc, name, AAG_LIMIT, files) {
         Ok(bytes) => bytes,

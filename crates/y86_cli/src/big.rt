@@ -1,15 +1,13 @@
 //! `big`: runs a generated program by the instructions and on PIPE under an HCL file, and compares the reports.
-ghost use Rattle.std.specs.Prelude.{◌≡◌, ◌≤◌, OnOk, OnErr};
+ghost use Rattle.std.specs.Prelude.{◌≡◌, ◌≤◌};
 ghost use Rattle.dp_signals.specs.PipeTable.{pipe_rows};
-ghost use Rattle.hcl_types.specs.Tables.{IsBound, IsOrderOf};
-ghost use Rattle.wb_io.specs.Causes.{counted};
 ghost use Rattle.wb_io.specs.Sinks.{Puts};
 ghost use Rattle.y86_cli.specs.Answers.{big_plan};
 ghost use Rattle.y86_cli.specs.Big.{BigAnswers, big_line, big_status};
-ghost use Rattle.y86_cli.specs.Does.{Does, NoReadFailed, Says, files_seen, sink_seen};
+ghost use Rattle.y86_cli.specs.Designs.{IsOrdered};
+ghost use Rattle.y86_cli.specs.Does.{CountsFaults, DoesOver, SaysOn};
 
-use crate::design::{Ordered, pipe_design};
-use crate::stages::{HCL_LIMIT, read_file};
+use crate::design::{Ordered, pipe_file};
 use crate::stop::Stop;
 use pipe_runs::{BothWays, both_ways};
 use std::alloc::Global;
@@ -21,8 +19,7 @@ use yis_run::flag;
 #[tactic(auto, unfolding(crate::specs::Big::big_line))]
 fn put_big<O: Sink>(n: u64, both: &BothWays, out: &mut O) -> Result<(), Failed>
     ensures puts { Puts (O.taken out.old) (O.taken out.new) result (big_line n both.now) }
-    ensures no_fault_at_ok { OnOk result (O.faults out.new ≡ O.faults out.old) }
-    ensures one_fault_at_err { OnErr result (O.faults out.new ≡ counted (O.faults out.old)) }
+    ensures counts { CountsFaults (O.faults out.old) (O.faults out.new) result }
 {
     let number = Numeral::decimal(n);
     let steps = Numeral::decimal(both.steps);
@@ -62,12 +59,10 @@ fn say_big<'a, O: Sink>(
 ) -> Result<u8, Stop<'a>>
     requires least { 1 ≤ n }
     requires most { n ≤ 100000 }
-    requires bound { IsBound pipe_rows ordered.design.terms }
-    requires order { IsOrderOf pipe_rows ordered.design.terms ordered.order.ids }
-    ensures { Says (BigAnswers variant ordered.design.terms n)
-        (sink_seen (O.taken out.old) (O.faults out.old)) (sink_seen (O.taken out.new) (O.faults out.new)) result }
+    requires ordered { IsOrdered pipe_rows ordered }
+    ensures { SaysOn O.taken O.faults (BigAnswers variant ordered.design.terms n) out.old out.new result }
 {
-    let Ordered { design, order } = ordered;
+    let Ordered { design, order, .. } = ordered;
     let both = match both_ways(alloc, variant, design, order, n) {
         Ok(both) => both,
         Err(_) => return Err(Stop::Memory),
@@ -89,16 +84,10 @@ pub fn big<'a, F: Files, O: Sink>(
 ) -> Result<u8, Stop<'a>>
     requires least { 1 ≤ n }
     requires most { n ≤ 100000 }
-    ensures does { Does (big_plan n name.now variant)
-        (files_seen (F.told files.old) (F.faults files.old)) (files_seen (F.told files.new) (F.faults files.new))
-        (sink_seen (O.taken out.old) (O.faults out.old)) (sink_seen (O.taken out.new) (O.faults out.new)) result }
-    ensures no_read_failed { NoReadFailed (files_seen (F.told files.old) (F.faults files.old)) (files_seen (F.told files.new) (F.faults files.new)) result }
+    ensures { DoesOver F.told F.faults O.taken O.faults (big_plan n name.now variant)
+        files.old files.new out.old out.new result }
 {
-    let source = match read_file(alloc, name, HCL_LIMIT, files) {
-        Ok(source) => source,
-        Err(stop) => return Err(stop),
-    };
-    let ordered = match pipe_design(alloc, name, source.as_slice()) {
+    let ordered = match pipe_file(alloc, name, files) {
         Ok(ordered) => ordered,
         Err(stop) => return Err(stop),
     };

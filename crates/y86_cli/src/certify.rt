@@ -1,17 +1,14 @@
 //! `check pipe` with `--cert`: the verdict on the design of an HCL file, with a certificate of a Yes.
-ghost use Rattle.std.specs.Prelude.{◌≡◌, ◌⊎◌, IfErr, IfOk, List, ℕ};
+ghost use Rattle.std.specs.Prelude.{◌≡◌, IfErr, IfOk, List, ℕ};
 ghost use Rattle.dp_signals.specs.PipeTable.{pipe_rows};
-ghost use Rattle.hcl_types.specs.Tables.{IsBound, IsOrderOf};
 ghost use Rattle.y86_cli.specs.Answers.{certify_pipe_plan};
 ghost use Rattle.y86_cli.specs.Certified.{CertifiesOrDenies, PipeCertifies};
 ghost use Rattle.y86_cli.specs.Checks.{RefusesControl};
-ghost use Rattle.y86_cli.specs.Does.{Does, NoReadFailed, Says, files_seen, sink_seen};
-ghost use Rattle.y86_cli.specs.Stops.{answer_at, status_of};
-ghost use Rattle.y86_cli.specs.declared.stop.Stop.TheVariants.{Memory as WantOfMemory};
+ghost use Rattle.y86_cli.specs.Designs.{IsOrdered};
+ghost use Rattle.y86_cli.specs.Does.{DoesOver, Refuses, SaysOn};
 
-use crate::design::{Ordered, pipe_design};
+use crate::design::{Ordered, pipe_file};
 use crate::saying::say;
-use crate::stages::{HCL_LIMIT, read_file};
 use crate::stop::Stop;
 use crate::verdict::{Decided, PipeText, pipe_decision};
 use cert_log::certify;
@@ -27,10 +24,9 @@ fn certificate<'a>(
     variant: Variant,
     ordered: &Ordered,
 ) -> Result<PipeText, Stop<'a>>
-    requires bound { IsBound pipe_rows ordered.now.design.terms }
-    requires order { IsOrderOf pipe_rows ordered.now.design.terms ordered.now.order.ids }
+    requires { IsOrdered pipe_rows ordered.now }
     ensures text { IfOk result (CertifiesOrDenies variant ordered.now.design.terms) }
-    ensures refused { IfErr result (λ stop. (stop ≡ WantOfMemory) ⊎ ((status_of stop ≡ 5) × RefusesControl name.now pipe_rows ordered.now.design.terms (answer_at stop))) }
+    ensures refused { IfErr result (Refuses (RefusesControl name.now pipe_rows ordered.now.design.terms)) }
 {
     match pipe_decision(alloc, name, variant, ordered) {
         Ok(Decided::Yes(settings)) => {
@@ -53,10 +49,8 @@ fn say_certificate<'a, O: Sink>(
     ordered: &Ordered,
     out: &mut O,
 ) -> Result<u8, Stop<'a>>
-    requires bound { IsBound pipe_rows ordered.now.design.terms }
-    requires order { IsOrderOf pipe_rows ordered.now.design.terms ordered.now.order.ids }
-    ensures { Says (PipeCertifies name.now variant ordered.now.design.terms)
-        (sink_seen (O.taken out.old) (O.faults out.old)) (sink_seen (O.taken out.new) (O.faults out.new)) result }
+    requires { IsOrdered pipe_rows ordered.now }
+    ensures { SaysOn O.taken O.faults (PipeCertifies name.now variant ordered.now.design.terms) out.old out.new result }
 {
     match certificate(alloc, name, variant, ordered) {
         Ok(PipeText::Yes(text)) => say(0, text.as_slice(), out),
@@ -74,16 +68,10 @@ pub fn certify_pipe_file<'a, F: Files, O: Sink>(
     files: &mut F,
     out: &mut O,
 ) -> Result<u8, Stop<'a>>
-    ensures does { Does (certify_pipe_plan name.now variant)
-        (files_seen (F.told files.old) (F.faults files.old)) (files_seen (F.told files.new) (F.faults files.new))
-        (sink_seen (O.taken out.old) (O.faults out.old)) (sink_seen (O.taken out.new) (O.faults out.new)) result }
-    ensures no_read_failed { NoReadFailed (files_seen (F.told files.old) (F.faults files.old)) (files_seen (F.told files.new) (F.faults files.new)) result }
+    ensures { DoesOver F.told F.faults O.taken O.faults (certify_pipe_plan name.now variant)
+        files.old files.new out.old out.new result }
 {
-    let source = match read_file(alloc, name, HCL_LIMIT, files) {
-        Ok(source) => source,
-        Err(stop) => return Err(stop),
-    };
-    let ordered = match pipe_design(alloc, name, source.as_slice()) {
+    let ordered = match pipe_file(alloc, name, files) {
         Ok(ordered) => ordered,
         Err(stop) => return Err(stop),
     };

@@ -1,17 +1,16 @@
 //! `check seq`, `check seqplus` and `check pipe`: the verdict on the design of an HCL file.
 ghost use Rattle.std.specs.Prelude.{◌≡◌, List, ℕ};
 ghost use Rattle.dp_signals.specs.PipeTable.{pipe_rows};
-ghost use Rattle.hcl_types.specs.Tables.{IsBound, IsOrderOf};
 ghost use Rattle.y86_cli.specs.Answers.{check_pipe_plan, check_seq_plan};
 ghost use Rattle.y86_cli.specs.Checks.{PipeChecks, SeqChecks};
 ghost use Rattle.y86_cli.specs.Datapaths.{rows_of};
-ghost use Rattle.y86_cli.specs.Does.{Does, NoReadFailed, Says, files_seen, sink_seen};
+ghost use Rattle.y86_cli.specs.Designs.{IsOrdered};
+ghost use Rattle.y86_cli.specs.Does.{DoesOver, SaysOn};
 
 use crate::datapath::Datapath;
-use crate::design::{Ordered, pipe_design, seq_design, table_of};
+use crate::design::{Ordered, pipe_file, seq_file};
 use crate::saying::say;
 use crate::sequential::{decided, seq_text};
-use crate::stages::{HCL_LIMIT, read_file};
 use crate::stop::Stop;
 use crate::verdict::{PipeText, control_stop, pipe_verdict};
 use control_check::CheckFault;
@@ -29,21 +28,16 @@ fn say_seq<'a, O: Sink>(
     ordered: &Ordered,
     out: &mut O,
 ) -> Result<u8, Stop<'a>>
-    requires bound { IsBound (rows_of which) ordered.now.design.terms }
-    requires order { IsOrderOf (rows_of which) ordered.now.design.terms ordered.now.order.ids }
-    ensures { Says (SeqChecks which name.now variant ordered.now.design.terms)
-        (sink_seen (O.taken out.old) (O.faults out.old)) (sink_seen (O.taken out.new) (O.faults out.new)) result }
+    requires { IsOrdered (rows_of which) ordered.now }
+    ensures { SaysOn O.taken O.faults (SeqChecks which name.now variant ordered.now.design.terms) out.old out.new result }
 {
-    let Ok(table) = table_of(alloc, which) else {
-        return Err(Stop::Memory);
-    };
     match decided(alloc, which, variant, ordered) {
         Ok(None) => say(0, b"yes\n", out),
-        Ok(Some(failure)) => match seq_text(alloc, which, &table, ordered, &failure) {
+        Ok(Some(failure)) => match seq_text(alloc, which, ordered, &failure) {
             Ok(text) => say(1, text.as_slice(), out),
             Err(stop) => Err(stop),
         },
-        Err(CheckFault::Ctl(fault)) => Err(control_stop(alloc, name, table.rows.items(), fault)),
+        Err(CheckFault::Ctl(fault)) => Err(control_stop(alloc, name, ordered, fault)),
         Err(CheckFault::Memory) => Err(Stop::Memory),
     }
 }
@@ -58,16 +52,10 @@ pub fn check_seq_file<'a, F: Files, O: Sink>(
     files: &mut F,
     out: &mut O,
 ) -> Result<u8, Stop<'a>>
-    ensures does { Does (check_seq_plan which name.now variant)
-        (files_seen (F.told files.old) (F.faults files.old)) (files_seen (F.told files.new) (F.faults files.new))
-        (sink_seen (O.taken out.old) (O.faults out.old)) (sink_seen (O.taken out.new) (O.faults out.new)) result }
-    ensures no_read_failed { NoReadFailed (files_seen (F.told files.old) (F.faults files.old)) (files_seen (F.told files.new) (F.faults files.new)) result }
+    ensures { DoesOver F.told F.faults O.taken O.faults (check_seq_plan which name.now variant)
+        files.old files.new out.old out.new result }
 {
-    let source = match read_file(alloc, name, HCL_LIMIT, files) {
-        Ok(source) => source,
-        Err(stop) => return Err(stop),
-    };
-    let ordered = match seq_design(alloc, which, name, source.as_slice()) {
+    let ordered = match seq_file(alloc, which, name, files) {
         Ok(ordered) => ordered,
         Err(stop) => return Err(stop),
     };
@@ -83,10 +71,8 @@ fn say_pipe<'a, O: Sink>(
     ordered: &Ordered,
     out: &mut O,
 ) -> Result<u8, Stop<'a>>
-    requires bound { IsBound pipe_rows ordered.now.design.terms }
-    requires order { IsOrderOf pipe_rows ordered.now.design.terms ordered.now.order.ids }
-    ensures { Says (PipeChecks name.now variant ordered.now.design.terms)
-        (sink_seen (O.taken out.old) (O.faults out.old)) (sink_seen (O.taken out.new) (O.faults out.new)) result }
+    requires { IsOrdered pipe_rows ordered.now }
+    ensures { SaysOn O.taken O.faults (PipeChecks name.now variant ordered.now.design.terms) out.old out.new result }
 {
     match pipe_verdict(alloc, name, variant, ordered) {
         Ok(PipeText::Yes(text)) => say(0, text.as_slice(), out),
@@ -104,16 +90,10 @@ pub fn check_pipe_file<'a, F: Files, O: Sink>(
     files: &mut F,
     out: &mut O,
 ) -> Result<u8, Stop<'a>>
-    ensures does { Does (check_pipe_plan name.now variant)
-        (files_seen (F.told files.old) (F.faults files.old)) (files_seen (F.told files.new) (F.faults files.new))
-        (sink_seen (O.taken out.old) (O.faults out.old)) (sink_seen (O.taken out.new) (O.faults out.new)) result }
-    ensures no_read_failed { NoReadFailed (files_seen (F.told files.old) (F.faults files.old)) (files_seen (F.told files.new) (F.faults files.new)) result }
+    ensures { DoesOver F.told F.faults O.taken O.faults (check_pipe_plan name.now variant)
+        files.old files.new out.old out.new result }
 {
-    let source = match read_file(alloc, name, HCL_LIMIT, files) {
-        Ok(source) => source,
-        Err(stop) => return Err(stop),
-    };
-    let ordered = match pipe_design(alloc, name, source.as_slice()) {
+    let ordered = match pipe_file(alloc, name, files) {
         Ok(ordered) => ordered,
         Err(stop) => return Err(stop),
     };

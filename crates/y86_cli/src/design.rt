@@ -1,28 +1,30 @@
 //! The design stage: an HCL text, bound over a table, with an order of its signals; and names of rows as they are told.
-ghost use Rattle.std.specs.Prelude.{◌≡◌, ◌≢◌, ◌⊎◌, ◌++◌, ◌∷◌, [], Err, List, ℕ, IfOk, OnErr, OnOk, map};
+ghost use Rattle.std.specs.Prelude.{◌≡◌, ◌≢◌, ◌++◌, ◌∷◌, [], Err, List, ℕ, IfOk, OnErr, OnOk, map};
 ghost use Rattle.dp_signals.specs.PipeTable.{pipe_rows};
-ghost use Rattle.hcl_types.specs.Tables.{IsBound, IsOrderOf, IsSound, row_names};
+ghost use Rattle.hcl_types.specs.Tables.{IsSound, row_names};
 ghost use Rattle.hcl_types.specs.declared.fault.BindWhy.TheVariants.{Memory as OutOfMemory};
+ghost use Rattle.y86_cli.specs.Answers.{hcl_limit};
 ghost use Rattle.y86_cli.specs.Datapaths.{rows_of};
-ghost use Rattle.y86_cli.specs.Designs.{IsDesign, RefusesDesign};
-ghost use Rattle.y86_cli.specs.Does.{GivesOne};
+ghost use Rattle.y86_cli.specs.Designs.{IsDesign, IsOrdered, RefusesDesign};
+ghost use Rattle.y86_cli.specs.Does.{GivesOne, ReadsOne, Refuses, files_seen};
 ghost use Rattle.y86_cli.specs.Lines as text;
 ghost use Rattle.y86_cli.specs.Plan.{refused};
-ghost use Rattle.y86_cli.specs.Stops.{answer_at, status_of};
 ghost use Rattle.y86_cli.specs.declared.stop.Stop.TheVariants.{Memory as WantOfMemory};
 
 use crate::datapath::Datapath;
-use crate::stages::read_hcl;
+use crate::stages::{HCL_LIMIT, read_file, read_hcl};
 use crate::stop::{Refusal, Stop};
 use dp_signals::{law_of_tables, pipe_table, seq_table};
 use hcl_order::{OrderFault, order};
 use hcl_types::{BindFault, BindWhy, Design, Order, Row, Table, bind};
 use seq_plus::{law_of_table, plus_table};
 use std::alloc::{AllocError, Global};
+use wb_io::Files;
 
-/// A design and an order of its signals.
+/// A table, a design over it, and an order of the design's signals.
 #[derive(Drop)]
 pub struct Ordered {
+    pub table: Table,
     pub design: Design,
     pub order: Order,
 }
@@ -89,8 +91,7 @@ pub(crate) fn all_names(alloc: Global, rows: &[Row], ids: &[u32]) -> Result<Vec<
 
 /// The stop at a fault of binding.
 fn bind_stop<'a>(alloc: Global, name: &'a str, fault: BindFault) -> Stop<'a>
-    ensures { (result ≡ WantOfMemory)
-        ⊎ ((status_of result ≡ 5) × (fault.why ≢ OutOfMemory) × (answer_at result ≡ refused 5 (text.bind_fault_line name.now fault))) }
+    ensures { Refuses (λ a. (fault.why ≢ OutOfMemory) × (a ≡ refused 5 (text.bind_fault_line name.now fault))) result }
 {
     let why = match fault.why {
         BindWhy::Memory => return Stop::Memory,
@@ -104,8 +105,7 @@ fn bind_stop<'a>(alloc: Global, name: &'a str, fault: BindFault) -> Stop<'a>
 
 /// The stop at a cycle of rows.
 fn cycle_stop<'a>(alloc: Global, name: &'a str, rows: &[Row], ids: &[u32]) -> Stop<'a>
-    ensures { (result ≡ WantOfMemory)
-        ⊎ ((status_of result ≡ 5) × (answer_at result ≡ refused 5 (text.cycle_line name.now (text.names_at (row_names rows.now) ids.now)))) }
+    ensures { Refuses (λ a. a ≡ refused 5 (text.cycle_line name.now (text.names_at (row_names rows.now) ids.now))) result }
 {
     match all_names(alloc, rows, ids) {
         Ok(names) => Stop::Refused(
@@ -125,23 +125,26 @@ pub fn ordered_design<'a>(
     alloc: Global,
     name: &'a str,
     source: &[u8],
-    table: &Table,
+    table: Table,
 ) -> Result<Ordered, Stop<'a>>
-    requires { IsSound table.now.rows }
-    ensures design { GivesOne (IsDesign table.now.rows source.now) (RefusesDesign name.now table.now.rows source.now) (λ ordered. ordered.design.terms) result }
-    ensures bound { IfOk result (λ ordered. IsBound table.now.rows ordered.design.terms) }
-    ensures order { IfOk result (λ ordered. IsOrderOf table.now.rows ordered.design.terms ordered.order.ids) }
+    requires { IsSound table.rows }
+    ensures design { GivesOne (IsDesign table.rows source.now) (RefusesDesign name.now table.rows source.now) (λ ordered. ordered.design.terms) result }
+    ensures ordered { IfOk result (IsOrdered table.rows) }
 {
     let file = match read_hcl(alloc, name, source) {
         Ok(file) => file,
         Err(stop) => return Err(stop),
     };
-    let design = match bind(alloc, &file, table) {
+    let design = match bind(alloc, &file, &table) {
         Ok(design) => design,
         Err(fault) => return Err(bind_stop(alloc, name, fault)),
     };
-    match order(alloc, &design, table) {
-        Ok(order) => Ok(Ordered { design, order }),
+    match order(alloc, &design, &table) {
+        Ok(order) => Ok(Ordered {
+            table,
+            design,
+            order,
+        }),
         Err(OrderFault::Cycle(ids)) => {
             Err(cycle_stop(alloc, name, table.rows.items(), ids.items()))
         }
@@ -150,7 +153,7 @@ pub fn ordered_design<'a>(
 }
 
 /// The table of a sequential datapath.
-pub fn table_of<'a>(alloc: Global, which: Datapath) -> Result<Table, Stop<'a>>
+fn table_of<'a>(alloc: Global, which: Datapath) -> Result<Table, Stop<'a>>
     ensures rows { IfOk result (λ table. table.rows ≡ rows_of which) }
     ensures sound { IfOk result (λ table. IsSound table.rows) }
     ensures memory { OnErr result (result ≡ Err WantOfMemory) }
@@ -175,25 +178,56 @@ pub fn seq_design<'a>(
     source: &[u8],
 ) -> Result<Ordered, Stop<'a>>
     ensures design { GivesOne (IsDesign (rows_of which) source.now) (RefusesDesign name.now (rows_of which) source.now) (λ ordered. ordered.design.terms) result }
-    ensures bound { IfOk result (λ ordered. IsBound (rows_of which) ordered.design.terms) }
-    ensures order { IfOk result (λ ordered. IsOrderOf (rows_of which) ordered.design.terms ordered.order.ids) }
+    ensures ordered { IfOk result (IsOrdered (rows_of which)) }
 {
     let table = match table_of(alloc, which) {
         Ok(table) => table,
         Err(stop) => return Err(stop),
     };
-    ordered_design(alloc, name, source, &table)
+    ordered_design(alloc, name, source, table)
 }
 
 /// The design of an HCL text under a name, over PIPE's table, with an order of its signals.
 pub fn pipe_design<'a>(alloc: Global, name: &'a str, source: &[u8]) -> Result<Ordered, Stop<'a>>
     ensures design { GivesOne (IsDesign pipe_rows source.now) (RefusesDesign name.now pipe_rows source.now) (λ ordered. ordered.design.terms) result }
-    ensures bound { IfOk result (λ ordered. IsBound pipe_rows ordered.design.terms) }
-    ensures order { IfOk result (λ ordered. IsOrderOf pipe_rows ordered.design.terms ordered.order.ids) }
+    ensures ordered { IfOk result (IsOrdered pipe_rows) }
 {
     law_of_tables();
     let Ok(table) = pipe_table(alloc) else {
         return Err(Stop::Memory);
     };
-    ordered_design(alloc, name, source, &table)
+    ordered_design(alloc, name, source, table)
+}
+
+/// The design of an HCL file over the table of a sequential datapath, with that and an order of its signals.
+pub fn seq_file<'a, F: Files>(
+    alloc: Global,
+    which: Datapath,
+    name: &'a str,
+    files: &mut F,
+) -> Result<Ordered, Stop<'a>>
+    ensures design { ReadsOne name.now hcl_limit (IsDesign (rows_of which)) (RefusesDesign name.now (rows_of which)) (λ ordered. ordered.design.terms)
+        (files_seen (F.told files.old) (F.faults files.old)) (files_seen (F.told files.new) (F.faults files.new)) result }
+    ensures ordered { IfOk result (IsOrdered (rows_of which)) }
+{
+    match read_file(alloc, name, HCL_LIMIT, files) {
+        Ok(source) => seq_design(alloc, which, name, source.as_slice()),
+        Err(stop) => Err(stop),
+    }
+}
+
+/// The design of an HCL file over PIPE's table, with that and an order of its signals.
+pub fn pipe_file<'a, F: Files>(
+    alloc: Global,
+    name: &'a str,
+    files: &mut F,
+) -> Result<Ordered, Stop<'a>>
+    ensures design { ReadsOne name.now hcl_limit (IsDesign pipe_rows) (RefusesDesign name.now pipe_rows) (λ ordered. ordered.design.terms)
+        (files_seen (F.told files.old) (F.faults files.old)) (files_seen (F.told files.new) (F.faults files.new)) result }
+    ensures ordered { IfOk result (IsOrdered pipe_rows) }
+{
+    match read_file(alloc, name, HCL_LIMIT, files) {
+        Ok(source) => pipe_design(alloc, name, source.as_slice()),
+        Err(stop) => Err(stop),
+    }
 }

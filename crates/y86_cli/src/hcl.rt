@@ -1,7 +1,7 @@
 //! `hcl`: reads and prints an HCL file.
 ghost use Rattle.std.specs.Prelude.{◌≡◌, List, ℕ};
 ghost use Rattle.y86_cli.specs.Answers.{hcl_plan};
-ghost use Rattle.y86_cli.specs.Does.{Does, NoReadFailed, files_seen, sink_seen};
+ghost use Rattle.y86_cli.specs.Does.{DoesOver};
 
 use crate::saying::say;
 use crate::stages::{HCL_LIMIT, read_file, read_hcl};
@@ -18,10 +18,7 @@ pub fn hcl<'a, F: Files, O: Sink>(
     files: &mut F,
     out: &mut O,
 ) -> Result<u8, Stop<'a>>
-    ensures does { Does (hcl_plan name.now)
-        (files_seen (F.told files.old) (F.faults files.old)) (files_seen (F.told files.new) (F.faults files.new))
-        (sink_seen (O.taken out.old) (O.faults out.old)) (sink_seen (O.taken out.new) (O.faults out.new)) result }
-    ensures no_read_failed { NoReadFailed (files_seen (F.told files.old) (F.faults files.old)) (files_seen (F.told files.new) (F.faults files.new)) result }
+    ensures { DoesOver F.told F.faults O.taken O.faults (hcl_plan name.now) files.old files.new out.old out.new result }
 {
     let text = match read_file(alloc, name, HCL_LIMIT, files) {
         Ok(text) => text,

@@ -1,18 +1,17 @@
 //! `psim`: runs an object file on PIPE under an HCL file.
-ghost use Rattle.std.specs.Prelude.{◌≡◌, ◌<◌, ◌≤◌, ◌^◌, ◌++◌, List, ℕ, OnOk, OnErr, length};
+ghost use Rattle.std.specs.Prelude.{◌≡◌, ◌<◌, ◌≤◌, ◌^◌, ◌++◌, List, ℕ, length};
 ghost use Rattle.dp_signals.specs.PipeTable.{pipe_rows};
-ghost use Rattle.hcl_types.specs.Tables.{IsBound, IsOrderOf};
-ghost use Rattle.wb_io.specs.Causes.{counted};
 ghost use Rattle.wb_io.specs.Sinks.{Puts};
 ghost use Rattle.y86_base.specs.Image.{IsSize};
 ghost use Rattle.y86_cli.specs.Answers.{PipeAnswers, checked_plan, pipe_plan, psim_plan};
-ghost use Rattle.y86_cli.specs.Does.{Does, NoReadFailed, Says, files_seen, sink_seen};
+ghost use Rattle.y86_cli.specs.Designs.{IsOrdered};
+ghost use Rattle.y86_cli.specs.Does.{CountsFaults, DoesOver, SaysOn};
 ghost use Rattle.y86_cli.specs.PipeRuns.{ran_line};
 ghost use Rattle.yis_run.specs.Report as text;
 
-use crate::design::{Ordered, pipe_design};
+use crate::design::{Ordered, pipe_file};
 use crate::saying::say;
-use crate::stages::{FILE_LIMIT, HCL_LIMIT, load_image, read_file, status};
+use crate::stages::{FILE_LIMIT, load_image, read_file, status};
 use crate::stop::Stop;
 use crate::verdict::{PipeText, pipe_verdict};
 use hcl_compile::compile;
@@ -26,8 +25,7 @@ use yis_run::{End, report};
 /// Writes the line of the counts.
 fn put_ran<O: Sink>(cycles: u64, retired: u64, out: &mut O) -> Result<(), Failed>
     ensures puts { Puts (O.taken out.old) (O.taken out.new) result (ran_line cycles retired) }
-    ensures no_fault_at_ok { OnOk result (O.faults out.new ≡ O.faults out.old) }
-    ensures one_fault_at_err { OnErr result (O.faults out.new ≡ counted (O.faults out.old)) }
+    ensures counts { CountsFaults (O.faults out.old) (O.faults out.new) result }
 {
     let cycles = Numeral::decimal(cycles);
     let retired = Numeral::decimal(retired);
@@ -48,8 +46,7 @@ fn put_end<O: Sink>(drove: Drove, first: &Image, end: &End<'_>, out: &mut O) -> 
     requires one_size { length first.now ≡ length end.now.mem.now }
     ensures puts { Puts (O.taken out.old) (O.taken out.new) result
         (ran_line drove.cycles drove.retired ++ text.report first.now (text.ended end.now) drove.retired) }
-    ensures no_fault_at_ok { OnOk result (O.faults out.new ≡ O.faults out.old) }
-    ensures one_fault_at_err { OnErr result (O.faults out.new ≡ counted (O.faults out.old)) }
+    ensures counts { CountsFaults (O.faults out.old) (O.faults out.new) result }
 {
     put_ran(drove.cycles, drove.retired, out)?;
     report(first, end, drove.retired, out)
@@ -67,16 +64,14 @@ pub fn run_pipe<'a, O: Sink>(
     verdict: &[u8],
     out: &mut O,
 ) -> Result<u8, Stop<'a>>
-    requires bound { IsBound pipe_rows ordered.design.terms }
-    requires order { IsOrderOf pipe_rows ordered.design.terms ordered.order.ids }
+    requires ordered { IsOrdered pipe_rows ordered }
     requires limit { limit < 2 ^ 63 }
-    ensures { Says (PipeAnswers variant ordered.design.terms limit trace verdict.now image)
-        (sink_seen (O.taken out.old) (O.faults out.old)) (sink_seen (O.taken out.new) (O.faults out.new)) result }
+    ensures { SaysOn O.taken O.faults (PipeAnswers variant ordered.design.terms limit trace verdict.now image) out.old out.new result }
 {
     let Ok(first) = image.copy(alloc) else {
         return Err(Stop::Memory);
     };
-    let Ordered { design, order } = ordered;
+    let Ordered { design, order, .. } = ordered;
     let Ok(compiled) = compile(alloc, &design, &order) else {
         return Err(Stop::Memory);
     };
@@ -111,12 +106,9 @@ fn run_object<'a, F: Files, O: Sink>(
 ) -> Result<u8, Stop<'a>>
     requires size { IsSize mem }
     requires limit { limit ≤ 100000000 }
-    requires bound { IsBound pipe_rows ordered.design.terms }
-    requires order { IsOrderOf pipe_rows ordered.design.terms ordered.order.ids }
-    ensures does { Does (pipe_plan verdict.now ordered.design.terms obj.now mem limit trace variant)
-        (files_seen (F.told files.old) (F.faults files.old)) (files_seen (F.told files.new) (F.faults files.new))
-        (sink_seen (O.taken out.old) (O.faults out.old)) (sink_seen (O.taken out.new) (O.faults out.new)) result }
-    ensures no_read_failed { NoReadFailed (files_seen (F.told files.old) (F.faults files.old)) (files_seen (F.told files.new) (F.faults files.new)) result }
+    requires ordered { IsOrdered pipe_rows ordered }
+    ensures { DoesOver F.told F.faults O.taken O.faults (pipe_plan verdict.now ordered.design.terms obj.now mem limit trace variant)
+        files.old files.new out.old out.new result }
 {
     let bytes = match read_file(alloc, obj, FILE_LIMIT, files) {
         Ok(bytes) => bytes,
@@ -146,12 +138,9 @@ fn run_checked<'a, F: Files, O: Sink>(
 ) -> Result<u8, Stop<'a>>
     requires size { IsSize mem }
     requires limit { limit ≤ 100000000 }
-    requires bound { IsBound pipe_rows ordered.design.terms }
-    requires order { IsOrderOf pipe_rows ordered.design.terms ordered.order.ids }
-    ensures does { Does (checked_plan name.now ordered.design.terms obj.now mem limit trace checked variant)
-        (files_seen (F.told files.old) (F.faults files.old)) (files_seen (F.told files.new) (F.faults files.new))
-        (sink_seen (O.taken out.old) (O.faults out.old)) (sink_seen (O.taken out.new) (O.faults out.new)) result }
-    ensures no_read_failed { NoReadFailed (files_seen (F.told files.old) (F.faults files.old)) (files_seen (F.told files.new) (F.faults files.new)) result }
+    requires ordered { IsOrdered pipe_rows ordered }
+    ensures { DoesOver F.told F.faults O.taken O.faults (checked_plan name.now ordered.design.terms obj.now mem limit trace checked variant)
+        files.old files.new out.old out.new result }
 {
     if !checked {
         return run_object(
@@ -191,16 +180,10 @@ pub fn psim<'a, F: Files, O: Sink>(
 ) -> Result<u8, Stop<'a>>
     requires size { IsSize mem }
     requires limit { limit ≤ 100000000 }
-    ensures does { Does (psim_plan name.now obj.now mem limit trace checked variant)
-        (files_seen (F.told files.old) (F.faults files.old)) (files_seen (F.told files.new) (F.faults files.new))
-        (sink_seen (O.taken out.old) (O.faults out.old)) (sink_seen (O.taken out.new) (O.faults out.new)) result }
-    ensures no_read_failed { NoReadFailed (files_seen (F.told files.old) (F.faults files.old)) (files_seen (F.told files.new) (F.faults files.new)) result }
+    ensures { DoesOver F.told F.faults O.taken O.faults (psim_plan name.now obj.now mem limit trace checked variant)
+        files.old files.new out.old out.new result }
 {
-    let source = match read_file(alloc, name, HCL_LIMIT, files) {
-        Ok(source) => source,
-        Err(stop) => return Err(stop),
-    };
-    let ordered = match pipe_design(alloc, name, source.as_slice()) {
+    let ordered = match pipe_file(alloc, name, files) {
         Ok(ordered) => ordered,
         Err(stop) => return Err(stop),
     };

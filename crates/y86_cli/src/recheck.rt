@@ -2,21 +2,20 @@
 ghost use Rattle.std.specs.Prelude.{◌≡◌, List, ℕ};
 ghost use Rattle.ctl_atoms.specs.Atoms.{AreAtoms};
 ghost use Rattle.dp_signals.specs.PipeTable.{pipe_rows};
-ghost use Rattle.hcl_types.specs.Tables.{IsBound, IsOrderOf};
 ghost use Rattle.cert_log.specs.Files.{HasAtoms};
 ghost use Rattle.y86_cli.specs.Answers.{certificate_plan, recheck_plan};
 ghost use Rattle.y86_cli.specs.Certified.{Rechecks, TellsCert, cert_reason};
 ghost use Rattle.y86_cli.specs.Checks.{RefusesControl};
-ghost use Rattle.y86_cli.specs.Does.{Does, GivesOne, NoReadFailed, Says, files_seen, sink_seen};
+ghost use Rattle.y86_cli.specs.Designs.{IsOrdered};
+ghost use Rattle.y86_cli.specs.Does.{DoesOver, GivesOne, SaysOn};
 
-use crate::design::{Ordered, pipe_design};
+use crate::design::{Ordered, pipe_file};
 use crate::saying::say;
-use crate::stages::{HCL_LIMIT, read_file};
+use crate::stages::read_file;
 use crate::stop::{Refusal, Stop};
 use crate::verdict::control_stop;
 use cert_log::{CertError, CertWhy, holds, recheck_file};
 use ctl_atoms::{Atom, CtlFault, atoms};
-use dp_signals::{law_of_tables, pipe_table};
 use std::alloc::Global;
 use wb_io::{Files, Sink};
 use y86_base::Variant;
@@ -57,18 +56,13 @@ fn cert_stop<'a>(name: &'a str, error: CertError) -> Stop<'a>
 /// The atoms of a design for PIPE, if it has control values.
 #[tactic(auto, using(crate::proofs::Certified::has_atoms))]
 fn pipe_atoms<'a>(alloc: Global, name: &'a str, ordered: &Ordered) -> Result<Vec<Atom>, Stop<'a>>
-    requires bound { IsBound pipe_rows ordered.now.design.terms }
-    requires order { IsOrderOf pipe_rows ordered.now.design.terms ordered.now.order.ids }
+    requires { IsOrdered pipe_rows ordered.now }
     ensures { GivesOne (AreAtoms pipe_rows ordered.now.design.terms) (RefusesControl name.now pipe_rows ordered.now.design.terms) (λ list. list.items) result }
 {
-    law_of_tables();
-    let Ok(table) = pipe_table(alloc) else {
-        return Err(Stop::Memory);
-    };
-    match atoms(alloc, &ordered.design, &table, &ordered.order) {
+    match atoms(alloc, &ordered.design, &ordered.table, &ordered.order) {
         Ok(list) => Ok(list),
         Err(CtlFault::Memory) => Err(Stop::Memory),
-        Err(fault) => Err(control_stop(alloc, name, table.rows.items(), fault)),
+        Err(fault) => Err(control_stop(alloc, name, ordered, fault)),
     }
 }
 
@@ -82,11 +76,9 @@ fn say_recheck<'a, O: Sink>(
     text: &[u8],
     out: &mut O,
 ) -> Result<u8, Stop<'a>>
-    requires bound { IsBound pipe_rows ordered.now.design.terms }
-    requires order { IsOrderOf pipe_rows ordered.now.design.terms ordered.now.order.ids }
+    requires ordered { IsOrdered pipe_rows ordered.now }
     requires atoms { HasAtoms ordered.now.design.terms }
-    ensures { Says (Rechecks cert.now variant ordered.now.design.terms text.now)
-        (sink_seen (O.taken out.old) (O.faults out.old)) (sink_seen (O.taken out.new) (O.faults out.new)) result }
+    ensures { SaysOn O.taken O.faults (Rechecks cert.now variant ordered.now.design.terms text.now) out.old out.new result }
 {
     match recheck_file(alloc, variant, &ordered.design, &ordered.order, text) {
         Ok(settings) => match holds(alloc, &settings) {
@@ -106,13 +98,10 @@ fn recheck_text<'a, F: Files, O: Sink>(
     files: &mut F,
     out: &mut O,
 ) -> Result<u8, Stop<'a>>
-    requires bound { IsBound pipe_rows ordered.now.design.terms }
-    requires order { IsOrderOf pipe_rows ordered.now.design.terms ordered.now.order.ids }
+    requires ordered { IsOrdered pipe_rows ordered.now }
     requires atoms { HasAtoms ordered.now.design.terms }
-    ensures does { Does (certificate_plan cert.now variant ordered.now.design.terms)
-        (files_seen (F.told files.old) (F.faults files.old)) (files_seen (F.told files.new) (F.faults files.new))
-        (sink_seen (O.taken out.old) (O.faults out.old)) (sink_seen (O.taken out.new) (O.faults out.new)) result }
-    ensures no_read_failed { NoReadFailed (files_seen (F.told files.old) (F.faults files.old)) (files_seen (F.told files.new) (F.faults files.new)) result }
+    ensures { DoesOver F.told F.faults O.taken O.faults (certificate_plan cert.now variant ordered.now.design.terms)
+        files.old files.new out.old out.new result }
 {
     let text = match read_file(alloc, cert, CERT_LIMIT, files) {
         Ok(text) => text,
@@ -130,16 +119,10 @@ pub fn recheck<'a, F: Files, O: Sink>(
     files: &mut F,
     out: &mut O,
 ) -> Result<u8, Stop<'a>>
-    ensures does { Does (recheck_plan name.now cert.now variant)
-        (files_seen (F.told files.old) (F.faults files.old)) (files_seen (F.told files.new) (F.faults files.new))
-        (sink_seen (O.taken out.old) (O.faults out.old)) (sink_seen (O.taken out.new) (O.faults out.new)) result }
-    ensures no_read_failed { NoReadFailed (files_seen (F.told files.old) (F.faults files.old)) (files_seen (F.told files.new) (F.faults files.new)) result }
+    ensures { DoesOver F.told F.faults O.taken O.faults (recheck_plan name.now cert.now variant)
+        files.old files.new out.old out.new result }
 {
-    let source = match read_file(alloc, name, HCL_LIMIT, files) {
-        Ok(source) => source,
-        Err(stop) => return Err(stop),
-    };
-    let ordered = match pipe_design(alloc, name, source.as_slice()) {
+    let ordered = match pipe_file(alloc, name, files) {
         Ok(ordered) => ordered,
         Err(stop) => return Err(stop),
     };

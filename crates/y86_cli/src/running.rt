@@ -1,7 +1,7 @@
 //! The top call: does the command that the words are, and answers the status.
 ghost use Rattle.std.specs.Prelude.{◌≡◌, ◌≢◌, ◌≤◌, List, ℕ, None, map, string_bytes};
 ghost use Rattle.y86_cli.specs.Answers.{plan_of};
-ghost use Rattle.y86_cli.specs.Does.{Does, NoReadFailed, files_seen, sink_seen};
+ghost use Rattle.y86_cli.specs.Does.{DoesOver, files_seen, sink_seen};
 ghost use Rattle.y86_words.specs.Forms.{form_of};
 ghost use Rattle.y86_cli.specs.Ran.{Ended, Ran, Told};
 ghost use Rattle.y86_cli.specs.Stops.{line_of, status_of};
@@ -41,10 +41,8 @@ fn execute<'a, F: Files, O: Sink>(
     out: &mut O,
 ) -> Result<Status, Stop<'a>>
     requires { IsLegal (command_in command) }
-    ensures does { Does (plan_of (command_in command.entry))
-        (files_seen (F.told files.old) (F.faults files.old)) (files_seen (F.told files.new) (F.faults files.new))
-        (sink_seen (O.taken out.old) (O.faults out.old)) (sink_seen (O.taken out.new) (O.faults out.new)) result }
-    ensures no_read_failed { NoReadFailed (files_seen (F.told files.old) (F.faults files.old)) (files_seen (F.told files.new) (F.faults files.new)) result }
+    ensures { DoesOver F.told F.faults O.taken O.faults (plan_of (command_in command.entry))
+        files.old files.new out.old out.new result }
 {
     match command {
         Cmd::Yas { asm, mem, variant } => yas(alloc, asm, mem, variant, files, out),
@@ -139,10 +137,9 @@ fn outcome<'a, F: Files, O: Sink>(
     files: &mut F,
     out: &mut O,
 ) -> Result<Status, Stop<'a>>
-    ensures ended { Ended (form_of (map string_bytes command_words.now))
+    ensures { Ended (form_of (map string_bytes command_words.now))
         (files_seen (F.told files.old) (F.faults files.old)) (files_seen (F.told files.new) (F.faults files.new))
         (sink_seen (O.taken out.old) (O.faults out.old)) (sink_seen (O.taken out.new) (O.faults out.new)) result }
-    ensures no_read_failed { NoReadFailed (files_seen (F.told files.old) (F.faults files.old)) (files_seen (F.told files.new) (F.faults files.new)) result }
 {
     match words(command_words) {
         Err(Usage) => Err(Stop::Usage),

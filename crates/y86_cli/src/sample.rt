@@ -1,21 +1,17 @@
 //! `sample`: drawn control valuations against the obligations of an HCL file for PIPE.
-ghost use Rattle.std.specs.Prelude.{◌≡◌, ◌⊎◌, ◌≤◌, IfErr, IfOk, List, ℕ};
+ghost use Rattle.std.specs.Prelude.{◌≡◌, ◌≤◌, IfErr, IfOk, List, ℕ};
 ghost use Rattle.dp_signals.specs.PipeTable.{pipe_rows};
-ghost use Rattle.hcl_types.specs.Tables.{IsBound, IsOrderOf};
 ghost use Rattle.y86_cli.specs.Answers.{sample_plan};
 ghost use Rattle.y86_cli.specs.Checks.{RefusesControl};
-ghost use Rattle.y86_cli.specs.Does.{Does, NoReadFailed, Says, files_seen, sink_seen};
+ghost use Rattle.y86_cli.specs.Designs.{IsOrdered};
+ghost use Rattle.y86_cli.specs.Does.{DoesOver, Refuses, SaysOn};
 ghost use Rattle.y86_cli.specs.Plan.{done};
 ghost use Rattle.y86_cli.specs.Samples.{IsSampled, SampleAnswers, found_line, none_line};
-ghost use Rattle.y86_cli.specs.Stops.{answer_at, status_of};
-ghost use Rattle.y86_cli.specs.declared.stop.Stop.TheVariants.{Memory as WantOfMemory};
 
-use crate::design::{Ordered, pipe_design};
-use crate::stages::{HCL_LIMIT, read_file};
+use crate::design::{Ordered, pipe_file};
 use crate::stop::Stop;
 use crate::verdict::control_stop;
 use control_check::{CheckFault, file_rules};
-use dp_signals::{law_of_tables, pipe_table};
 use lane_eval::{Found, first_false};
 use std::alloc::Global;
 use wb_io::{Files, Sink, put_pieces};
@@ -30,21 +26,16 @@ fn sampled<'a>(
     seed: u64,
     count: u64,
 ) -> Result<Option<Found>, Stop<'a>>
-    requires bound { IsBound pipe_rows ordered.now.design.terms }
-    requires order { IsOrderOf pipe_rows ordered.now.design.terms ordered.now.order.ids }
+    requires { IsOrdered pipe_rows ordered.now }
     ensures found { IfOk result (IsSampled variant ordered.now.design.terms seed count) }
-    ensures refused { IfErr result (λ stop. (stop ≡ WantOfMemory) ⊎ ((status_of stop ≡ 5) × RefusesControl name.now pipe_rows ordered.now.design.terms (answer_at stop))) }
+    ensures refused { IfErr result (Refuses (RefusesControl name.now pipe_rows ordered.now.design.terms)) }
 {
-    law_of_tables();
-    let Ok(table) = pipe_table(alloc) else {
-        return Err(Stop::Memory);
-    };
     match file_rules(alloc, variant, &ordered.design, &ordered.order) {
         Ok(rules) => match first_false(alloc, &rules, seed, count) {
             Ok(found) => Ok(found),
             Err(Memory) => Err(Stop::Memory),
         },
-        Err(CheckFault::Ctl(fault)) => Err(control_stop(alloc, name, table.rows.items(), fault)),
+        Err(CheckFault::Ctl(fault)) => Err(control_stop(alloc, name, ordered, fault)),
         Err(CheckFault::Memory) => Err(Stop::Memory),
     }
 }
@@ -52,8 +43,7 @@ fn sampled<'a>(
 /// Writes that no obligation is false at so many valuations.
 #[tactic(auto, unfolding(crate::specs::Samples::none_line))]
 fn say_none<'a, O: Sink>(count: u64, out: &mut O) -> Result<u8, Stop<'a>>
-    ensures { Says (λ a. a ≡ done 0 (none_line count))
-        (sink_seen (O.taken out.old) (O.faults out.old)) (sink_seen (O.taken out.new) (O.faults out.new)) result }
+    ensures { SaysOn O.taken O.faults (λ a. a ≡ done 0 (none_line count)) out.old out.new result }
 {
     let number = Numeral::decimal(count);
     match put_pieces(out, &[b"none in ", number.as_bytes(), b"\n"]) {
@@ -65,8 +55,7 @@ fn say_none<'a, O: Sink>(count: u64, out: &mut O) -> Result<u8, Stop<'a>>
 /// Writes which obligation is false at which valuation.
 #[tactic(auto, unfolding(crate::specs::Samples::found_line))]
 fn say_found<'a, O: Sink>(found: Found, out: &mut O) -> Result<u8, Stop<'a>>
-    ensures { Says (λ a. a ≡ done 1 (found_line found.index found.rule))
-        (sink_seen (O.taken out.old) (O.faults out.old)) (sink_seen (O.taken out.new) (O.faults out.new)) result }
+    ensures { SaysOn O.taken O.faults (λ a. a ≡ done 1 (found_line found.index found.rule)) out.old out.new result }
 {
     let index = Numeral::decimal(found.index);
     let rule = Numeral::decimal(u64::from(found.rule));
@@ -90,10 +79,8 @@ fn say_sample<'a, O: Sink>(
     count: u64,
     out: &mut O,
 ) -> Result<u8, Stop<'a>>
-    requires bound { IsBound pipe_rows ordered.now.design.terms }
-    requires order { IsOrderOf pipe_rows ordered.now.design.terms ordered.now.order.ids }
-    ensures { Says (SampleAnswers name.now variant ordered.now.design.terms seed count)
-        (sink_seen (O.taken out.old) (O.faults out.old)) (sink_seen (O.taken out.new) (O.faults out.new)) result }
+    requires { IsOrdered pipe_rows ordered.now }
+    ensures { SaysOn O.taken O.faults (SampleAnswers name.now variant ordered.now.design.terms seed count) out.old out.new result }
 {
     match sampled(alloc, name, variant, ordered, seed, count) {
         Ok(None) => say_none(count, out),
@@ -112,16 +99,10 @@ pub fn sample<'a, F: Files, O: Sink>(
     files: &mut F,
     out: &mut O,
 ) -> Result<u8, Stop<'a>>
-    ensures does { Does (sample_plan name.now seed count variant)
-        (files_seen (F.told files.old) (F.faults files.old)) (files_seen (F.told files.new) (F.faults files.new))
-        (sink_seen (O.taken out.old) (O.faults out.old)) (sink_seen (O.taken out.new) (O.faults out.new)) result }
-    ensures no_read_failed { NoReadFailed (files_seen (F.told files.old) (F.faults files.old)) (files_seen (F.told files.new) (F.faults files.new)) result }
+    ensures { DoesOver F.told F.faults O.taken O.faults (sample_plan name.now seed count variant)
+        files.old files.new out.old out.new result }
 {
-    let source = match read_file(alloc, name, HCL_LIMIT, files) {
-        Ok(source) => source,
-        Err(stop) => return Err(stop),
-    };
-    let ordered = match pipe_design(alloc, name, source.as_slice()) {
+    let ordered = match pipe_file(alloc, name, files) {
         Ok(ordered) => ordered,
         Err(stop) => return Err(stop),
     };

@@ -1,6 +1,6 @@
 //! The text of an answer on standard output.
 ghost use Rattle.std.specs.Prelude.{◌≡◌, ◌≤◌};
-ghost use Rattle.y86_cli.specs.Does.{Says, sink_seen};
+ghost use Rattle.y86_cli.specs.Does.{SaysOn};
 ghost use Rattle.y86_cli.specs.Plan.{done};
 
 use crate::stop::Stop;
@@ -9,8 +9,7 @@ use wb_io::{Sink, put_all};
 /// Writes the text of an answer with a status, and with nothing to be told on standard error.
 pub fn say<'a, O: Sink>(status: u8, text: &[u8], out: &mut O) -> Result<u8, Stop<'a>>
     requires { status ≤ 1 }
-    ensures { Says (λ a. a ≡ done status text.now)
-        (sink_seen (O.taken out.old) (O.faults out.old)) (sink_seen (O.taken out.new) (O.faults out.new)) result }
+    ensures { SaysOn O.taken O.faults (λ a. a ≡ done status text.now) out.old out.new result }
 {
     match put_all(out, text) {
         Ok(()) => Ok(status),

@@ -3,10 +3,10 @@ ghost use Rattle.std.specs.Prelude.{◌≡◌, ◌≤◌, Err, IfErr, IfOk, List
 ghost use Rattle.ctl_atoms.specs.Atoms.{AreAtoms};
 ghost use Rattle.ctl_atoms.specs.declared.leaf.Atom.{Atom};
 ghost use Rattle.dp_signals.specs.SeqTable.{seq_rows};
-ghost use Rattle.hcl_types.specs.Tables.{IsBound, IsOrderOf, IsSound, row_names};
 ghost use Rattle.seq_plus.specs.PlusTable.{plus_rows};
 ghost use Rattle.verdicts.specs.Questions.{IsFault};
 ghost use Rattle.y86_cli.specs.Datapaths.{IsDecided, no_text, rows_of};
+ghost use Rattle.y86_cli.specs.Designs.{IsOrdered};
 ghost use Rattle.y86_cli.specs.declared.datapath.Datapath.TheVariants.{Plus as OnPlus, Seq as OnSeq};
 ghost use Rattle.y86_cli.specs.declared.stop.Stop.TheVariants.{Memory as WantOfMemory};
 
@@ -15,7 +15,7 @@ use crate::design::Ordered;
 use crate::stop::Stop;
 use control_check::{CheckFault, Failure, Verdict, check_seq};
 use ctl_atoms::{Atom, atoms};
-use hcl_types::{Row, Table};
+use hcl_types::Row;
 use nets::Valuation;
 use seq_plus::{Plain16, check_plus};
 use std::alloc::Global;
@@ -28,8 +28,7 @@ fn decide_seq(
     variant: Variant,
     ordered: &Ordered,
 ) -> Result<Option<Failure>, CheckFault>
-    requires bound { IsBound seq_rows ordered.now.design.terms }
-    requires order { IsOrderOf seq_rows ordered.now.design.terms ordered.now.order.ids }
+    requires { IsOrdered seq_rows ordered.now }
     ensures decided { IfOk result (IsDecided OnSeq variant ordered.now.design.terms) }
     ensures fault { IfErr result (IsFault seq_rows ordered.now.design.terms) }
 {
@@ -46,8 +45,7 @@ fn decide_plus(
     variant: Variant,
     ordered: &Ordered,
 ) -> Result<Option<Failure>, CheckFault>
-    requires bound { IsBound plus_rows ordered.now.design.terms }
-    requires order { IsOrderOf plus_rows ordered.now.design.terms ordered.now.order.ids }
+    requires { IsOrdered plus_rows ordered.now }
     ensures decided { IfOk result (IsDecided OnPlus variant ordered.now.design.terms) }
     ensures fault { IfErr result (IsFault plus_rows ordered.now.design.terms) }
 {
@@ -66,8 +64,7 @@ pub fn decided(
     variant: Variant,
     ordered: &Ordered,
 ) -> Result<Option<Failure>, CheckFault>
-    requires bound { IsBound (rows_of which) ordered.now.design.terms }
-    requires order { IsOrderOf (rows_of which) ordered.now.design.terms ordered.now.order.ids }
+    requires { IsOrdered (rows_of which) ordered.now }
     ensures decided { IfOk result (IsDecided which variant ordered.now.design.terms) }
     ensures fault { IfErr result (IsFault (rows_of which) ordered.now.design.terms) }
 {
@@ -101,26 +98,21 @@ fn refusal(
 pub fn seq_text<'a>(
     alloc: Global,
     which: Datapath,
-    table: &Table,
     ordered: &Ordered,
     failure: &Failure,
 ) -> Result<Vec<u8>, Stop<'a>>
-    requires rows { table.now.rows ≡ rows_of which }
-    requires sound { IsSound table.now.rows }
-    requires bound { IsBound (rows_of which) ordered.now.design.terms }
-    requires order { IsOrderOf (rows_of which) ordered.now.design.terms ordered.now.order.ids }
+    requires { IsOrdered (rows_of which) ordered.now }
     ensures text { IfOk result (λ text. (list : List Atom) × AreAtoms (rows_of which) ordered.now.design.terms list
         × (text.items ≡ no_text which failure.now.rule failure.now.valuation.bits list)) }
     ensures memory { OnErr result (result ≡ Err WantOfMemory) }
 {
-    let Ok(list) = atoms(alloc, &ordered.design, table, &ordered.order) else {
+    let Ok(list) = atoms(alloc, &ordered.design, &ordered.table, &ordered.order) else {
         return Err(Stop::Memory);
     };
-    let rows = table.rows.items();
     match refusal(
         alloc,
         which,
-        rows,
+        ordered.table.rows.items(),
         failure.rule,
         &failure.valuation,
         list.as_slice(),

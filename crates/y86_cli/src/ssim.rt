@@ -2,16 +2,16 @@
 ghost use Rattle.std.specs.Prelude.{◌≡◌, List, ℕ};
 ghost use Rattle.dp_signals.specs.SeqTable.{seq_rows};
 ghost use Rattle.seq_plus.specs.PlusTable.{plus_rows};
-ghost use Rattle.hcl_types.specs.Tables.{IsBound, IsOrderOf};
 ghost use Rattle.y86_base.specs.Image.{IsSize};
 ghost use Rattle.y86_cli.specs.Answers.{SeqAnswers, seq_plan, ssim_plan};
 ghost use Rattle.y86_cli.specs.Datapaths.{rows_of};
-ghost use Rattle.y86_cli.specs.Does.{Does, NoReadFailed, Says, files_seen, sink_seen};
+ghost use Rattle.y86_cli.specs.Designs.{IsOrdered};
+ghost use Rattle.y86_cli.specs.Does.{DoesOver, SaysOn};
 ghost use Rattle.y86_cli.specs.declared.datapath.Datapath.TheVariants.{Plus as OnPlus, Seq as OnSeq};
 
 use crate::datapath::Datapath;
-use crate::design::{Ordered, seq_design};
-use crate::stages::{FILE_LIMIT, HCL_LIMIT, load_image, read_file, status};
+use crate::design::{Ordered, seq_file};
+use crate::stages::{FILE_LIMIT, load_image, read_file, status};
 use crate::stop::Stop;
 use hcl_compile::compile;
 use seq_path::Seq;
@@ -30,15 +30,13 @@ fn run_seq<'a, O: Sink>(
     limit: u64,
     out: &mut O,
 ) -> Result<u8, Stop<'a>>
-    requires bound { IsBound seq_rows ordered.design.terms }
-    requires order { IsOrderOf seq_rows ordered.design.terms ordered.order.ids }
-    ensures { Says (SeqAnswers OnSeq variant ordered.design.terms limit image)
-        (sink_seen (O.taken out.old) (O.faults out.old)) (sink_seen (O.taken out.new) (O.faults out.new)) result }
+    requires { IsOrdered seq_rows ordered }
+    ensures { SaysOn O.taken O.faults (SeqAnswers OnSeq variant ordered.design.terms limit image) out.old out.new result }
 {
     let Ok(first) = image.copy(alloc) else {
         return Err(Stop::Memory);
     };
-    let Ordered { design, order } = ordered;
+    let Ordered { design, order, .. } = ordered;
     let Ok(compiled) = compile(alloc, &design, &order) else {
         return Err(Stop::Memory);
     };
@@ -60,15 +58,13 @@ fn run_plus<'a, O: Sink>(
     limit: u64,
     out: &mut O,
 ) -> Result<u8, Stop<'a>>
-    requires bound { IsBound plus_rows ordered.design.terms }
-    requires order { IsOrderOf plus_rows ordered.design.terms ordered.order.ids }
-    ensures { Says (SeqAnswers OnPlus variant ordered.design.terms limit image)
-        (sink_seen (O.taken out.old) (O.faults out.old)) (sink_seen (O.taken out.new) (O.faults out.new)) result }
+    requires { IsOrdered plus_rows ordered }
+    ensures { SaysOn O.taken O.faults (SeqAnswers OnPlus variant ordered.design.terms limit image) out.old out.new result }
 {
     let Ok(first) = image.copy(alloc) else {
         return Err(Stop::Memory);
     };
-    let Ordered { design, order } = ordered;
+    let Ordered { design, order, .. } = ordered;
     let Ok(compiled) = compile(alloc, &design, &order) else {
         return Err(Stop::Memory);
     };
@@ -91,10 +87,8 @@ fn run_image<'a, O: Sink>(
     limit: u64,
     out: &mut O,
 ) -> Result<u8, Stop<'a>>
-    requires bound { IsBound (rows_of which) ordered.design.terms }
-    requires order { IsOrderOf (rows_of which) ordered.design.terms ordered.order.ids }
-    ensures { Says (SeqAnswers which variant ordered.design.terms limit image)
-        (sink_seen (O.taken out.old) (O.faults out.old)) (sink_seen (O.taken out.new) (O.faults out.new)) result }
+    requires { IsOrdered (rows_of which) ordered }
+    ensures { SaysOn O.taken O.faults (SeqAnswers which variant ordered.design.terms limit image) out.old out.new result }
 {
     match which {
         Datapath::Seq => run_seq(alloc, variant, ordered, image, limit, out),
@@ -115,12 +109,9 @@ fn run_object<'a, F: Files, O: Sink>(
     out: &mut O,
 ) -> Result<u8, Stop<'a>>
     requires size { IsSize mem }
-    requires bound { IsBound (rows_of which) ordered.design.terms }
-    requires order { IsOrderOf (rows_of which) ordered.design.terms ordered.order.ids }
-    ensures does { Does (seq_plan which ordered.design.terms obj.now mem limit variant)
-        (files_seen (F.told files.old) (F.faults files.old)) (files_seen (F.told files.new) (F.faults files.new))
-        (sink_seen (O.taken out.old) (O.faults out.old)) (sink_seen (O.taken out.new) (O.faults out.new)) result }
-    ensures no_read_failed { NoReadFailed (files_seen (F.told files.old) (F.faults files.old)) (files_seen (F.told files.new) (F.faults files.new)) result }
+    requires ordered { IsOrdered (rows_of which) ordered }
+    ensures { DoesOver F.told F.faults O.taken O.faults (seq_plan which ordered.design.terms obj.now mem limit variant)
+        files.old files.new out.old out.new result }
 {
     let bytes = match read_file(alloc, obj, FILE_LIMIT, files) {
         Ok(bytes) => bytes,
@@ -146,16 +137,10 @@ pub fn ssim<'a, F: Files, O: Sink>(
     out: &mut O,
 ) -> Result<u8, Stop<'a>>
     requires { IsSize mem }
-    ensures does { Does (ssim_plan which name.now obj.now mem limit variant)
-        (files_seen (F.told files.old) (F.faults files.old)) (files_seen (F.told files.new) (F.faults files.new))
-        (sink_seen (O.taken out.old) (O.faults out.old)) (sink_seen (O.taken out.new) (O.faults out.new)) result }
-    ensures no_read_failed { NoReadFailed (files_seen (F.told files.old) (F.faults files.old)) (files_seen (F.told files.new) (F.faults files.new)) result }
+    ensures { DoesOver F.told F.faults O.taken O.faults (ssim_plan which name.now obj.now mem limit variant)
+        files.old files.new out.old out.new result }
 {
-    let source = match read_file(alloc, name, HCL_LIMIT, files) {
-        Ok(source) => source,
-        Err(stop) => return Err(stop),
-    };
-    let ordered = match seq_design(alloc, which, name, source.as_slice()) {
+    let ordered = match seq_file(alloc, which, name, files) {
         Ok(ordered) => ordered,
         Err(stop) => return Err(stop),
     };

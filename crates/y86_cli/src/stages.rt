@@ -6,7 +6,7 @@ ghost use Rattle.wb_io.specs.Files.{HasBytes};
 ghost use Rattle.y86_base.specs.Image.{IsSize};
 ghost use Rattle.y86_cli.specs.Answers.{image_of_text, run_status};
 ghost use Rattle.y86_cli.specs.Designs.{RefusesHcl};
-ghost use Rattle.y86_cli.specs.Does.{Gives, GivesOne, IsLater, NoReadFailed, StopsAtRead, files_seen};
+ghost use Rattle.y86_cli.specs.Does.{Gives, GivesOne, IsLater, StopsAtRead, files_seen};
 ghost use Rattle.y86_cli.specs.Lines.{hcl_reason, object_reason};
 ghost use Rattle.yo_object.specs.ObjectText.{object_of};
 
@@ -31,7 +31,6 @@ pub fn read_file<'a, F: Files>(
     files: &mut F,
 ) -> Result<Vec<u8>, Stop<'a>>
     ensures later { IfOk result (λ bytes. IsLater (files_seen (F.told files.old) (F.faults files.old)) (files_seen (F.told files.new) (F.faults files.new))) }
-    ensures no_read_failed { NoReadFailed (files_seen (F.told files.old) (F.faults files.old)) (files_seen (F.told files.new) (F.faults files.new)) result }
     ensures bytes { IfOk result (λ bytes. (length bytes.items ≤ limit) × HasBytes (F.told files.old name.now) bytes.items) }
     ensures stops { IfErr result (λ stop. StopsAtRead name.now limit
         (files_seen (F.told files.old) (F.faults files.old)) (files_seen (F.told files.new) (F.faults files.new)) stop) }

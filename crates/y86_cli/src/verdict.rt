@@ -1,22 +1,21 @@
 //! Verdicts on PIPE as texts, and the stop at a design without control values.
-ghost use Rattle.std.specs.Prelude.{◌≡◌, ◌≢◌, ◌⊎◌, Err, IfErr, IfOk, List, OnErr, ℕ};
+ghost use Rattle.std.specs.Prelude.{◌≡◌, ◌≢◌, Err, IfErr, IfOk, List, OnErr, ℕ};
 ghost use Rattle.ctl_atoms.specs.Atoms.{AreAtoms, IsCtlFault};
 ghost use Rattle.ctl_atoms.specs.declared.leaf.Atom.{Atom};
 ghost use Rattle.ctl_atoms.specs.declared.fault.CtlFault.TheVariants as cause;
 ghost use Rattle.dp_signals.specs.PipeTable.{pipe_rows};
-ghost use Rattle.hcl_types.specs.Tables.{IsBound, IsOrderOf, IsSound, row_names};
+ghost use Rattle.hcl_types.specs.Tables.{row_names};
 ghost use Rattle.hcl_types.specs.declared.term.Term.{Term};
 ghost use Rattle.verdict_text.specs.PipeLines.{pipe_no};
 ghost use Rattle.y86_cli.specs.Checks.{DecidesPipe, RefusesControl, TellsPipe};
-ghost use Rattle.y86_cli.specs.Stops.{answer_at, status_of};
+ghost use Rattle.y86_cli.specs.Designs.{IsOrdered};
+ghost use Rattle.y86_cli.specs.Does.{Refuses};
 ghost use Rattle.y86_cli.specs.declared.stop.Stop.TheVariants.{Memory as WantOfMemory};
 
 use crate::design::{Ordered, all_names};
 use crate::stop::{Refusal, Stop};
 use control_check::{CheckFault, Verdict, check_pipe};
 use ctl_atoms::{CtlFault, atoms};
-use dp_signals::{law_of_tables, pipe_table};
-use hcl_types::{Row, Table};
 use nets::Valuation;
 use pipe_motion::Settings;
 use std::alloc::Global;
@@ -25,12 +24,18 @@ use y86_base::Variant;
 
 /// The stop at a design without control values.
 #[tactic(auto, using(crate::proofs::Checks::mixed, crate::proofs::Checks::over))]
-pub fn control_stop<'a>(alloc: Global, name: &'a str, rows: &[Row], fault: CtlFault) -> Stop<'a>
+pub fn control_stop<'a>(
+    alloc: Global,
+    name: &'a str,
+    ordered: &Ordered,
+    fault: CtlFault,
+) -> Stop<'a>
     requires { fault ≢ cause.Memory }
-    ensures { (terms : List Term) → IsCtlFault rows.now terms fault → (result ≡ WantOfMemory) ⊎ ((status_of result ≡ 5) × RefusesControl name.now rows.now terms (answer_at result)) }
+    ensures { (terms : List Term) → IsCtlFault ordered.now.table.rows terms fault →
+        Refuses (RefusesControl name.now ordered.now.table.rows terms) result }
 {
     match fault {
-        CtlFault::Mixed(id) => match all_names(alloc, rows, &[id]) {
+        CtlFault::Mixed(id) => match all_names(alloc, ordered.table.rows.items(), &[id]) {
             Ok(names) => Stop::Refused(
                 name,
                 Refusal::OfNames {
@@ -68,23 +73,25 @@ pub enum PipeText {
 /// The text of a No of PIPE.
 fn pipe_no_text<'a>(
     alloc: Global,
-    table: &Table,
     ordered: &Ordered,
     rule: u32,
     valuation: &Valuation,
 ) -> Result<Vec<u8>, Stop<'a>>
-    requires rows { table.now.rows ≡ pipe_rows }
-    requires sound { IsSound table.now.rows }
-    requires bound { IsBound pipe_rows ordered.now.design.terms }
-    requires order { IsOrderOf pipe_rows ordered.now.design.terms ordered.now.order.ids }
+    requires { IsOrdered pipe_rows ordered.now }
     ensures text { IfOk result (λ text. (list : List Atom) × AreAtoms pipe_rows ordered.now.design.terms list
         × (text.items ≡ pipe_no (row_names pipe_rows) rule valuation.now.bits list)) }
     ensures memory { OnErr result (result ≡ Err WantOfMemory) }
 {
-    let Ok(list) = atoms(alloc, &ordered.design, table, &ordered.order) else {
+    let Ok(list) = atoms(alloc, &ordered.design, &ordered.table, &ordered.order) else {
         return Err(Stop::Memory);
     };
-    match pipe_refusal(alloc, table.rows.items(), rule, valuation, list.as_slice()) {
+    match pipe_refusal(
+        alloc,
+        ordered.table.rows.items(),
+        rule,
+        valuation,
+        list.as_slice(),
+    ) {
         Ok(text) => Ok(text),
         Err(_) => Err(Stop::Memory),
     }
@@ -98,24 +105,19 @@ pub fn pipe_decision<'a>(
     variant: Variant,
     ordered: &Ordered,
 ) -> Result<Decided, Stop<'a>>
-    requires bound { IsBound pipe_rows ordered.now.design.terms }
-    requires order { IsOrderOf pipe_rows ordered.now.design.terms ordered.now.order.ids }
+    requires { IsOrdered pipe_rows ordered.now }
     ensures verdict { IfOk result (DecidesPipe variant ordered.now.design.terms) }
-    ensures refused { IfErr result (λ stop. (stop ≡ WantOfMemory) ⊎ ((status_of stop ≡ 5) × RefusesControl name.now pipe_rows ordered.now.design.terms (answer_at stop))) }
+    ensures refused { IfErr result (Refuses (RefusesControl name.now pipe_rows ordered.now.design.terms)) }
 {
-    law_of_tables();
-    let Ok(table) = pipe_table(alloc) else {
-        return Err(Stop::Memory);
-    };
     match check_pipe(alloc, variant, &ordered.design, &ordered.order) {
         Ok(Verdict::Yes(settings)) => Ok(Decided::Yes(settings)),
         Ok(Verdict::No { rule, valuation }) => {
-            match pipe_no_text(alloc, &table, ordered, rule, &valuation) {
+            match pipe_no_text(alloc, ordered, rule, &valuation) {
                 Ok(text) => Ok(Decided::No(text)),
                 Err(stop) => Err(stop),
             }
         }
-        Err(CheckFault::Ctl(fault)) => Err(control_stop(alloc, name, table.rows.items(), fault)),
+        Err(CheckFault::Ctl(fault)) => Err(control_stop(alloc, name, ordered, fault)),
         Err(CheckFault::Memory) => Err(Stop::Memory),
     }
 }
@@ -128,10 +130,9 @@ pub fn pipe_verdict<'a>(
     variant: Variant,
     ordered: &Ordered,
 ) -> Result<PipeText, Stop<'a>>
-    requires bound { IsBound pipe_rows ordered.now.design.terms }
-    requires order { IsOrderOf pipe_rows ordered.now.design.terms ordered.now.order.ids }
+    requires { IsOrdered pipe_rows ordered.now }
     ensures verdict { IfOk result (TellsPipe variant ordered.now.design.terms) }
-    ensures refused { IfErr result (λ stop. (stop ≡ WantOfMemory) ⊎ ((status_of stop ≡ 5) × RefusesControl name.now pipe_rows ordered.now.design.terms (answer_at stop))) }
+    ensures refused { IfErr result (Refuses (RefusesControl name.now pipe_rows ordered.now.design.terms)) }
 {
     match pipe_decision(alloc, name, variant, ordered) {
         Ok(Decided::Yes(settings)) => match pipe_acceptance(alloc, &settings) {

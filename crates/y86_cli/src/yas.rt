@@ -2,7 +2,7 @@
 ghost use Rattle.std.specs.Prelude.{◌≡◌, List, ℕ};
 ghost use Rattle.yas_asm.specs.Assembly.{assembled};
 ghost use Rattle.y86_cli.specs.Answers.{text_of_listing, yas_plan};
-ghost use Rattle.y86_cli.specs.Does.{Does, Gives, NoReadFailed, files_seen, sink_seen};
+ghost use Rattle.y86_cli.specs.Does.{DoesOver, Gives};
 ghost use Rattle.y86_cli.specs.Lines.{assembly_reason};
 
 use crate::saying::say;
@@ -73,10 +73,8 @@ pub fn yas<'a, F: Files, O: Sink>(
     files: &mut F,
     out: &mut O,
 ) -> Result<u8, Stop<'a>>
-    ensures does { Does (yas_plan asm.now mem variant)
-        (files_seen (F.told files.old) (F.faults files.old)) (files_seen (F.told files.new) (F.faults files.new))
-        (sink_seen (O.taken out.old) (O.faults out.old)) (sink_seen (O.taken out.new) (O.faults out.new)) result }
-    ensures no_read_failed { NoReadFailed (files_seen (F.told files.old) (F.faults files.old)) (files_seen (F.told files.new) (F.faults files.new)) result }
+    ensures { DoesOver F.told F.faults O.taken O.faults (yas_plan asm.now mem variant)
+        files.old files.new out.old out.new result }
 {
     let bytes = match read_file(alloc, asm, FILE_LIMIT, files) {
         Ok(bytes) => bytes,

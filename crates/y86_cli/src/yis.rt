@@ -2,7 +2,7 @@
 ghost use Rattle.std.specs.Prelude.{◌≡◌, List, ℕ};
 ghost use Rattle.y86_base.specs.Image.{IsSize};
 ghost use Rattle.y86_cli.specs.Answers.{yis_plan, yis_run};
-ghost use Rattle.y86_cli.specs.Does.{Does, NoReadFailed, Says, files_seen, sink_seen};
+ghost use Rattle.y86_cli.specs.Does.{DoesOver, SaysOn};
 
 use crate::stages::{FILE_LIMIT, load_image, read_file, status};
 use crate::stop::Stop;
@@ -21,8 +21,7 @@ fn run_image<'a, O: Sink>(
     limit: u64,
     out: &mut O,
 ) -> Result<u8, Stop<'a>>
-    ensures { Says (λ a. a ≡ yis_run variant image limit)
-        (sink_seen (O.taken out.old) (O.faults out.old)) (sink_seen (O.taken out.new) (O.faults out.new)) result }
+    ensures { SaysOn O.taken O.faults (λ a. a ≡ yis_run variant image limit) out.old out.new result }
 {
     let Ok(first) = image.copy(alloc) else {
         return Err(Stop::Memory);
@@ -48,10 +47,8 @@ pub fn yis<'a, F: Files, O: Sink>(
     out: &mut O,
 ) -> Result<u8, Stop<'a>>
     requires { IsSize mem }
-    ensures does { Does (yis_plan obj.now mem limit variant)
-        (files_seen (F.told files.old) (F.faults files.old)) (files_seen (F.told files.new) (F.faults files.new))
-        (sink_seen (O.taken out.old) (O.faults out.old)) (sink_seen (O.taken out.new) (O.faults out.new)) result }
-    ensures no_read_failed { NoReadFailed (files_seen (F.told files.old) (F.faults files.old)) (files_seen (F.told files.new) (F.faults files.new)) result }
+    ensures { DoesOver F.told F.faults O.taken O.faults (yis_plan obj.now mem limit variant)
+        files.old files.new out.old out.new result }
 {
     let bytes = match read_file(alloc, obj, FILE_LIMIT, files) {
         Ok(bytes) => bytes,

@@ -3,7 +3,7 @@ ghost use Rattle.std.specs.Prelude.{◌≡◌, ◌≤◌, ◌↔◌, IfErr, IfOk
 ghost use Rattle.std.specs.IoError.{error_kind};
 ghost use Rattle.std.specs.Option.{option_map};
 ghost use Rattle.y86_base.specs.Image.{IsSize};
-ghost use Rattle.y86_cli.specs.Does.{NoReadFailed, files_seen, sink_seen};
+ghost use Rattle.y86_cli.specs.Does.{files_seen, sink_seen};
 ghost use Rattle.y86_cli.specs.Ran.{Told, words_behind};
 ghost use Rattle.y86_cli.specs.Stops.{status_of};
 ghost use Rattle.y86_words.specs.Forms.{form_of};
@@ -87,10 +87,9 @@ fn show_words<'a, F: Files, O: Sink>(
     files: &mut F,
     out: &mut O,
 ) -> Result<Status, Stop<'a>>
-    ensures ends { Ends (spec.request_of (form_of (map string_bytes psim_words.now))) window.now
+    ensures { Ends (spec.request_of (form_of (map string_bytes psim_words.now))) window.now
         (files_seen (F.told files.old) (F.faults files.old)) (files_seen (F.told files.new) (F.faults files.new))
         (sink_seen (O.taken out.old) (O.faults out.old)) (sink_seen (O.taken out.new) (O.faults out.new)) result }
-    ensures no_read_failed { NoReadFailed (files_seen (F.told files.old) (F.faults files.old)) (files_seen (F.told files.new) (F.faults files.new)) result }
 {
     let command = match words(psim_words) {
         Ok(command) => command,

@@ -1,10 +1,10 @@
 //! Runs an object file on PIPE under an HCL file, and shows its stages.
 ghost use Rattle.std.specs.Prelude.{◌≡◌, ◌≤◌};
 ghost use Rattle.dp_signals.specs.PipeTable.{pipe_rows};
-ghost use Rattle.hcl_types.specs.Tables.{IsBound, IsOrderOf};
 ghost use Rattle.y86_base.specs.Image.{IsSize};
-ghost use Rattle.y86_cli.specs.Does.{Does, NoReadFailed, Says, files_seen, sink_seen};
 ghost use Rattle.stage_text.specs.Listed.{listed};
+ghost use Rattle.y86_cli.specs.Designs.{IsOrdered};
+ghost use Rattle.y86_cli.specs.Does.{DoesOver, Says, sink_seen};
 ghost use Rattle.y86_stages.specs.Shown.{ShownAnswers, object_plan, stages_plan};
 
 use hcl_compile::compile;
@@ -27,8 +27,7 @@ fn show_image<'a, O: Sink>(
     window: &Window,
     out: &mut O,
 ) -> Result<u8, Stop<'a>>
-    requires bound { IsBound pipe_rows ordered.now.design.terms }
-    requires order { IsOrderOf pipe_rows ordered.now.design.terms ordered.now.order.ids }
+    requires ordered { IsOrdered pipe_rows ordered.now }
     requires limit { limit ≤ 100000000 }
     ensures { Says (ShownAnswers variant ordered.now.design.terms (listed object.now) limit window.now image)
         (sink_seen (O.taken out.old) (O.faults out.old)) (sink_seen (O.taken out.new) (O.faults out.new)) result }
@@ -67,12 +66,9 @@ fn show_object<'a, F: Files, O: Sink>(
 ) -> Result<u8, Stop<'a>>
     requires size { IsSize mem }
     requires limit { limit ≤ 100000000 }
-    requires bound { IsBound pipe_rows ordered.now.design.terms }
-    requires order { IsOrderOf pipe_rows ordered.now.design.terms ordered.now.order.ids }
-    ensures does { Does (object_plan ordered.now.design.terms obj.now mem limit variant window.now)
-        (files_seen (F.told files.old) (F.faults files.old)) (files_seen (F.told files.new) (F.faults files.new))
-        (sink_seen (O.taken out.old) (O.faults out.old)) (sink_seen (O.taken out.new) (O.faults out.new)) result }
-    ensures no_read_failed { NoReadFailed (files_seen (F.told files.old) (F.faults files.old)) (files_seen (F.told files.new) (F.faults files.new)) result }
+    requires ordered { IsOrdered pipe_rows ordered.now }
+    ensures { DoesOver F.told F.faults O.taken O.faults (object_plan ordered.now.design.terms obj.now mem limit variant window.now)
+        files.old files.new out.old out.new result }
 {
     let bytes = match read_file(alloc, obj, FILE_LIMIT, files) {
         Ok(bytes) => bytes,
@@ -100,10 +96,8 @@ pub fn show<'a, F: Files, O: Sink>(
 ) -> Result<u8, Stop<'a>>
     requires size { IsSize mem }
     requires limit { limit ≤ 100000000 }
-    ensures does { Does (stages_plan name.now obj.now mem limit variant window.now)
-        (files_seen (F.told files.old) (F.faults files.old)) (files_seen (F.told files.new) (F.faults files.new))
-        (sink_seen (O.taken out.old) (O.faults out.old)) (sink_seen (O.taken out.new) (O.faults out.new)) result }
-    ensures no_read_failed { NoReadFailed (files_seen (F.told files.old) (F.faults files.old)) (files_seen (F.told files.new) (F.faults files.new)) result }
+    ensures { DoesOver F.told F.faults O.taken O.faults (stages_plan name.now obj.now mem limit variant window.now)
+        files.old files.new out.old out.new result }
 {
     let source = match read_file(alloc, name, HCL_LIMIT, files) {
         Ok(source) => source,

@@ -3,11 +3,12 @@ use Rattle.std.proofs.Common.{◌≡◌, ℕ, ◌<◌, Bool, true, false, List, 
 use Rattle.std.specs.Prelude.{string_bytes, String}
 use Rattle.std.specs.Global.{Global}
 use Rattle.y86_words.specs.declared.option.Switch.{Switch}
+use Rattle.y86_words.specs.declared.option.Switch.TheVariants.{Full, Mem, Limit, Trace, Checked, Cert}
 use Rattle.std.specs.Borrow.{Bor}
 use Rattle.y86_words.specs.declared.form.Place as code_place
 use Rattle.y86_words.specs.Views.{place_in, words_in}
 use Rattle.y86_words.specs.Numbers.{number_that}
-use Rattle.y86_words.specs.Arguments.{Filled, added, all_added, Argument, place, switch, switch_of, takes, is_option, arguments, in_front}
+use Rattle.y86_words.specs.Arguments.{Filled, added, all_added, Argument, place, switch, switch_of, index_of, takes, is_option, arguments, in_front}
 use Rattle.y86_words.specs.Forms.{fits_places, fits_place}
 
 pub no_option : (word : List ℕ) (rest : List (List ℕ)) → is_option word ≡ true → switch_of word ≡ None → arguments (word ∷ rest) ≡ None
@@ -63,6 +64,15 @@ switch_read word value rest s n option some takes_one is =
     let t = a_number (takes s) takes_one in
     let yes : number_that t.0 value ≡ Some n = rw t.1 at is in
     rw (option, some, t.1, yes) refl
+
+-- each option has a slot
+pub index_below : (s : Switch) → index_of s < 6
+index_below Full = omega arith
+index_below Mem = omega arith
+index_below Limit = omega arith
+index_below Trace = omega arith
+index_below Checked = omega arith
+index_below Cert = omega arith
 
 -- ---- places
 

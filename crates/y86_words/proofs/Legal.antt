@@ -1,6 +1,7 @@
 -- The commands that words are, are legal.
 use Rattle.std.proofs.Common.{◌≡◌, ℕ, ◌%◌, Bool, true, false, cond, ◌&&◌, nat_le, nat_eq, List, [], ◌∷◌, get_or, slice_get, unwrap_or, refl, subst, Option, Some, None, option_and_then, lit≤, arith, ◌≤◌}
 use Rattle.std.proofs.lemmas.Bool.{eqb-true, leb-true}
+use Rattle.std.specs.List.{AllByRecursion}
 use Rattle.std.specs.Option.{option_map, option_to_list}
 use Rattle.y86_base.proofs.Booleans.{both_true}
 use Rattle.y86_base.specs.Image.{IsSize, is_image_size}
@@ -30,9 +31,8 @@ abbrev IsLegalArgument : Argument → Type 0
 IsLegalArgument (place word) = IsFileName word
 IsLegalArgument (switch s n) = IsNumberOf s n
 
-AllLegal : List Argument → Type 0
-AllLegal [] = Unit {0}
-AllLegal (argument ∷ rest) = IsLegalArgument argument × AllLegal rest
+abbrev AllLegal : List Argument → Type 0
+AllLegal read = AllByRecursion IsLegalArgument read
 
 -- what a word is, is legal
 abbrev IsLegalReading : Reading → Type 0
@@ -72,7 +72,6 @@ reading_legal word = at (is_option word) refl
 
 in_front_legal : (argument : Argument) (others : Option (List Argument)) (read : List Argument) → in_front (Some argument) others ≡ Some read →
     IsLegalArgument argument → ((rest : List Argument) → others ≡ Some rest → AllLegal rest) → AllLegal read
-unfolding AllLegal
 in_front_legal argument None read e p q = absurd (cc (e))
 in_front_legal argument (Some rest) read e p q =
     let same : argument ∷ rest ≡ read = cc (e) in subst AllLegal same (p, q rest refl)
@@ -89,7 +88,6 @@ number_legal s passes (Some n) others read e p q = at (passes n) refl e
     at false failed e = absurd (cc (e))
 
 last_legal : (reading : Reading) (read : List Argument) → IsLegalReading reading → last reading ≡ Some read → AllLegal read
-unfolding AllLegal
 last_legal (whole argument) read p e = let same : argument ∷ [] ≡ read = cc (e) in subst AllLegal same (p, tt)
 last_legal (needs s passes) read p e = absurd (cc (e))
 last_legal neither read p e = absurd (cc (e))
@@ -102,7 +100,7 @@ before_legal (needs s passes) next behind from read p e q r = number_legal s pas
 before_legal neither next behind from read p e q r = absurd (cc (e))
 
 arguments_legal : (words : List (List ℕ)) (read : List Argument) → arguments words ≡ Some read → AllLegal read
-unfolding arguments AllLegal
+unfolding arguments
 arguments_legal [] read e = let same : [] ≡ read = cc (e) in subst AllLegal same tt
 arguments_legal (word ∷ []) read e = last_legal (reading_of word) read (reading_legal word) e
 arguments_legal (word ∷ next ∷ rest) read e =
@@ -110,12 +108,7 @@ arguments_legal (word ∷ next ∷ rest) read e =
 
 -- ---- what was found in them is
 
-Each : {A : Type 0} → (A → Type 0) → List A → Type 0
-Each P [] = Unit {0}
-Each P (x ∷ rest) = P x × Each P rest
-
-places_legal : (read : List Argument) → AllLegal read → Each IsFileName (places_of read)
-unfolding AllLegal Each
+places_legal : (read : List Argument) → AllLegal read → AllByRecursion IsFileName (places_of read)
 places_legal [] h = tt
 places_legal (place word ∷ rest) h = (h.0, places_legal rest h.1)
 places_legal (switch s n ∷ rest) h = places_legal rest h.1
@@ -158,24 +151,21 @@ same_switch Checked Cert e = absurd (cc (e))
 same_switch Cert Checked e = absurd (cc (e))
 same_switch Cert Cert e = refl
 
-numbers_legal : (s : Switch) (read : List Argument) → AllLegal read → Each (IsNumberOf s) (numbers_of s read)
-unfolding AllLegal Each
+numbers_legal : (s : Switch) (read : List Argument) → AllLegal read → AllByRecursion (IsNumberOf s) (numbers_of s read)
 numbers_legal s [] h = tt
 numbers_legal s (place word ∷ rest) h = numbers_legal s rest h.1
 numbers_legal s (switch t n ∷ rest) h = at (nat_eq (index_of s) (index_of t)) refl (numbers_legal s rest h.1)
   where
-    at : (b : Bool) → nat_eq (index_of s) (index_of t) ≡ b → Each (IsNumberOf s) (numbers_of s rest) → Each (IsNumberOf s) (cond b (n ∷ numbers_of s rest) (numbers_of s rest))
+    at : (b : Bool) → nat_eq (index_of s) (index_of t) ≡ b → AllByRecursion (IsNumberOf s) (numbers_of s rest) → AllByRecursion (IsNumberOf s) (cond b (n ∷ numbers_of s rest) (numbers_of s rest))
     at true e more = let P : Switch → Type 0 = λ x. IsNumberOf x n in (subst P (same_switch s t e) h.0, more)
     at false e more = more
 
 -- the number or the default
-one_legal : (P : ℕ → Type 0) (default : ℕ) (number : Option ℕ) → P default → Each P (option_to_list number) → P (unwrap_or number default)
-unfolding Each
+one_legal : (P : ℕ → Type 0) (default : ℕ) (number : Option ℕ) → P default → AllByRecursion P (option_to_list number) → P (unwrap_or number default)
 one_legal P default None d h = d
 one_legal P default (Some n) d h = h.0
 
-first_legal : (words : List (List ℕ)) (word : List ℕ) → Each IsFileName words → slice_get words 0 ≡ Some word → IsFileName word
-unfolding Each
+first_legal : (words : List (List ℕ)) (word : List ℕ) → AllByRecursion IsFileName words → slice_get words 0 ≡ Some word → IsFileName word
 first_legal [] word h e = absurd (cc (e))
 first_legal (first ∷ rest) word h e = let same : first ≡ word = cc (e) in subst IsFileName same h.0
 
@@ -184,15 +174,15 @@ default_size = record { least = lit≤ tt; most = lit≤ tt; whole_words = refl 
 
 -- what was found is legal
 record IsLegalFound (f : Filled) : Type 0 where
-  words : Each IsFileName f.words
+  words : AllByRecursion IsFileName f.words
   size : IsSize (size_of f)
   limit : IsRunLimit (limit_of f)
 
 found_legal : (read : List Argument) (f : Filled) → IsFound read f → AllLegal read → IsLegalFound f
 found_legal read f found legal =
-    let of_switch = λ (s : Switch). subst (Each (IsNumberOf s)) (found.numbers s) (numbers_legal s read legal) in
+    let of_switch = λ (s : Switch). subst (AllByRecursion (IsNumberOf s)) (found.numbers s) (numbers_legal s read legal) in
     record {
-      words = subst (Each IsFileName) found.words (places_legal read legal);
+      words = subst (AllByRecursion IsFileName) found.words (places_legal read legal);
       size = one_legal IsSize 8192 (get_or f.values 1 None) default_size (of_switch Mem);
       limit = one_legal IsRunLimit 10000 (get_or f.values 2 None) (lit≤ tt, lit≤ tt) (of_switch Limit);
     }
@@ -217,8 +207,7 @@ hcl_legal f None command e made_is legal = absurd (cc (made_is))
 hcl_legal f (Some word) command e made_is legal =
     let same : hcl word ≡ command = cc (made_is) in subst IsLegal same (first_legal f.words word legal.words e)
 
-second_legal : (words : List (List ℕ)) (word : List ℕ) → Each IsFileName words → slice_get words 1 ≡ Some word → IsFileName word
-unfolding Each
+second_legal : (words : List (List ℕ)) (word : List ℕ) → AllByRecursion IsFileName words → slice_get words 1 ≡ Some word → IsFileName word
 second_legal [] word h e = absurd (cc (e))
 second_legal (first ∷ rest) word h e = first_legal rest word h.1 e
 

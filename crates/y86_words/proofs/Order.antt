@@ -1,14 +1,14 @@
 -- Options may stand anywhere behind the name.
 use Rattle.std.proofs.Common.{◌≡◌, ◌≢◌, ℕ, ◌<◌, Bool, true, false, cond, eqb, is_none, ltb, List, [], ◌∷◌, ◌++◌, length, get_or, set, refl, sym, ap, ◌∙◌, Option, Some, None, option_and_then, arith}
-use Rattle.std.proofs.lemmas.Bool.{eqb-true}
+use Rattle.std.proofs.lemmas.Bool.{eqb-true, eqb-false}
 use Rattle.std.proofs.lemmas.List.{get_or-set_same, get_or-set_other, length-set, set_comm}
 use Rattle.std.specs.Option.{option_map}
 use Rattle.y86_words.specs.declared.option.Switch.{Switch}
-use Rattle.y86_words.specs.declared.option.Switch.TheVariants.{Full, Mem, Limit, Trace, Checked, Cert}
 use Rattle.y86_words.specs.Arguments.{Argument, place, switch, Reading, whole, needs, neither, reading_of, in_front, arguments, index_of, Filled, nothing_filled, added, all_added}
 use Rattle.y86_words.specs.Forms.{forms, first_fit, form_of}
 use Rattle.y86_words.specs.Numbers.{number_that}
 use Rattle.y86_words.specs.Wording.{AreArguments, AreOptions, places_of}
+use Rattle.y86_words.proofs.Arguments.{index_below}
 
 -- ---- the arguments of words in front of other words
 
@@ -92,14 +92,6 @@ all_in_front (word ∷ next ∷ rest) back done e = at (reading_of word) refl (a
 
 -- ---- an option and another argument, in either order
 
-index_below : (s : Switch) → index_of s < 6
-index_below Full = omega arith
-index_below Mem = omega arith
-index_below Limit = omega arith
-index_below Trace = omega arith
-index_below Checked = omega arith
-index_below Cert = omega arith
-
 and_added : Argument → Option Filled → Option Filled
 and_added argument = option_and_then (λ f. added f argument)
 
@@ -143,10 +135,7 @@ exchanged f s n (switch t m) all_slots = at (eqb (index_of t) (index_of s)) refl
     at true e =
         let same = eqb-true (index_of t) (index_of s) e in
         twice f s t n m _ same all_slots refl ∙ sym (twice f t s m n _ (sym same) all_slots refl)
-    at false e = apart f s t n m _ _ (λ same. differ same e) refl refl
-      where
-        differ : index_of t ≡ index_of s → eqb (index_of t) (index_of s) ≡ false → ⊥
-        differ same h = grind (arith, same, h)
+    at false e = apart f s t n m _ _ (eqb-false (index_of t) (index_of s) e) refl refl
 
 -- ---- options in front of other arguments, or behind them
 

@@ -1,6 +1,6 @@
 -- The law of the words: the words of a command, and the commands that words are.
 use Rattle.std.proofs.Common.{◌≡◌, ℕ, ◌<◌, ◌≤◌, ◌^◌, Bool, true, false, cond, ltb, eqb, IsTrue, is_none, List, [], ◌∷◌, ◌++◌, length, get_or, set, refl, sym, ap, subst, ◌∙◌, Option, Some, None, option_and_then, Contains, append_assoc, append-nil, suc, arith}
-use Rattle.std.proofs.lemmas.Bool.{and_from, le-leb, lt-ltb, eq-eqb, eqb-true}
+use Rattle.std.proofs.lemmas.Bool.{and_from, le-leb, lt-ltb, eq-eqb, eqb-true, eqb-false}
 use Rattle.std.proofs.lemmas.Fmt.{decimal_is_IsNumeral, length-decimal-le}
 use Rattle.std.proofs.lemmas.List.{length-set, get_or-set_same, get_or-set_other}
 use Rattle.std.proofs.lemmas.Str.Parse.{digit_from_value}
@@ -21,7 +21,7 @@ use Rattle.y86_words.specs.Arguments.{Argument, place, switch, arguments, in_fro
 use Rattle.y86_words.specs.Forms.{Command, yas, yis, hcl, ssim, ssimp, psim, check_seq, check_plus, check_pipe, certify_pipe, recheck, Form, forms, fits, made, first_fit, form_of, sample, most_drawn, most_seed, aig, aigrun, big, most_instructions}
 use Rattle.y86_words.specs.Numbers.{is_number, number_of, number_that, is_run_limit, number_within}
 use Rattle.y86_words.specs.Wording.{IsFileName, IsRunLimit, IsLegal, trace_words, checked_words, variant_words, words_of, places_of, numbers_of, IsFound, HasForm}
-use Rattle.y86_words.proofs.Arguments.{place_read, switch_read}
+use Rattle.y86_words.proofs.Arguments.{index_below, place_read, switch_read}
 
 -- ---- the words of a legal command are that command
 
@@ -198,14 +198,6 @@ defaults_hold file name = (rw (file_arguments file [] name, no_arguments) refl, 
 
 -- ---- words that are a command
 
-index_below : (s : Switch) → index_of s < 6
-index_below Full = omega arith
-index_below Mem = omega arith
-index_below Limit = omega arith
-index_below Trace = omega arith
-index_below Checked = omega arith
-index_below Cert = omega arith
-
 -- what is found after more arguments
 pub record Grows (f g : Filled) (more : List Argument) : Type 0 where
   pub words : f.words ++ places_of more ≡ g.words
@@ -227,10 +219,7 @@ slot_after values s t n more true all_slots empty e =
     is_nothing None h = refl
     is_nothing (Some x) h = absurd (cc (h))
 slot_after values s t n more false all_slots empty e =
-    rw (get_or-set_other values (index_of t) (index_of s) (Some n) None (λ same. differ same e)) refl
-  where
-    differ : index_of s ≡ index_of t → eqb (index_of s) (index_of t) ≡ false → ⊥
-    differ same h = grind (arith, same, h)
+    rw (get_or-set_other values (index_of t) (index_of s) (Some n) None (eqb-false (index_of s) (index_of t) e)) refl
 
 grows_first : (f g : Filled) (w : List ℕ) (rest : List Argument) → Grows (record f { words = f.words ++ (w ∷ []) }) g rest → Grows f g (place w ∷ rest)
 grows_first f g w rest h = record { words = sym (append_assoc f.words (w ∷ []) (places_of rest)) ∙ h.words; numbers = h.numbers }

@@ -1,20 +1,13 @@
 use Rattle.y86_cli.specs.Answers.{aig_plan}
-use Rattle.y86_cli.proofs.Does.{one_goes_on, one_refuses, read_goes_on, read_stops, said}
+use Rattle.y86_cli.proofs.Does.{read_stage_goes_on, read_stage_stops, said}
 use Rattle.y86_cli.proofs.aig.aig_file.Goals as goal
 
-pub returns-in-Err-clause-does : goal.returns-in-Err-clause-does
+pub returns-in-Err : goal.returns-in-Err
 unfolding aig_plan
-returns-in-Err-clause-does g c = read_stops _ _ _ _ _ _ _ c.in-Err.ensures.stops
+returns-in-Err g c = read_stage_stops _ _ _ _ _ _ _ _ _ c.in-Err.ensures.design
 
-pub returns-in-Err-pipe_design-clause-does : goal.returns-in-Err-pipe_design-clause-does
+pub returns : goal.returns
 unfolding aig_plan
-returns-in-Err-pipe_design-clause-does g c =
-    read_goes_on _ _ _ _ _ _ _ _ _ _ c.in-Ok.ensures.later c.in-Ok.ensures.bytes.0 c.in-Ok.ensures.bytes.1
-    (one_refuses _ _ _ _ _ _ (rw c.as_slice.ensures.value at c.in-Err-pipe_design.ensures.design))
-
-pub returns-clause-does : goal.returns-clause-does
-unfolding aig_plan
-returns-clause-does g c =
-    read_goes_on _ _ _ _ _ _ _ _ _ _ c.in-Ok.ensures.later c.in-Ok.ensures.bytes.0 c.in-Ok.ensures.bytes.1
-    (one_goes_on _ _ c.in-Ok-pipe_design.ordered.design.terms _ _ _ _ _ _ (rw c.as_slice.ensures.value at c.in-Ok-pipe_design.ensures.design)
-    (said _ _ _ _ _ _ c.say_obligations.ensures))
+returns g c =
+    read_stage_goes_on _ _ _ _ c.in-Ok.ordered.design.terms _ _ _ _ _ _ _ c.in-Ok.ensures.design
+    (said _ _ _ _ _ c.say_obligations.ensures)

@@ -2,12 +2,12 @@ use Rattle.y86_cli.specs.Answers.{aigrun_plan}
 use Rattle.y86_cli.proofs.Does.{read_goes_on, read_stops, said}
 use Rattle.y86_cli.proofs.aigrun.aigrun_file.Goals as goal
 
-pub returns-in-Err-clause-does : goal.returns-in-Err-clause-does
+pub returns-in-Err : goal.returns-in-Err
 unfolding aigrun_plan
-returns-in-Err-clause-does g c = read_stops _ _ _ _ _ _ _ c.in-Err.ensures.stops
+returns-in-Err g c = read_stops _ _ _ _ _ _ _ c.in-Err.ensures.stops
 
-pub returns-clause-does : goal.returns-clause-does
+pub returns : goal.returns
 unfolding aigrun_plan
-returns-clause-does g c =
+returns g c =
     read_goes_on _ _ _ _ _ _ _ _ _ _ c.in-Ok.ensures.later c.in-Ok.ensures.bytes.0 c.in-Ok.ensures.bytes.1
-    (said _ _ _ _ _ _ (rw c.as_slice.ensures.value at c.say_counts.ensures))
+    (said _ _ _ _ _ (rw c.as_slice.ensures.value at c.say_counts.ensures))

@@ -1,20 +1,13 @@
 use Rattle.y86_cli.specs.Answers.{check_pipe_plan}
-use Rattle.y86_cli.proofs.Does.{one_goes_on, one_refuses, read_goes_on, read_stops, said}
+use Rattle.y86_cli.proofs.Does.{read_stage_goes_on, read_stage_stops, said}
 use Rattle.y86_cli.proofs.check.check_pipe_file.Goals as goal
 
-pub returns-in-Err-clause-does : goal.returns-in-Err-clause-does
+pub returns-in-Err : goal.returns-in-Err
 unfolding check_pipe_plan
-returns-in-Err-clause-does g c = read_stops _ _ _ _ _ _ _ c.in-Err.ensures.stops
+returns-in-Err g c = read_stage_stops _ _ _ _ _ _ _ _ _ c.in-Err.ensures.design
 
-pub returns-in-Err-pipe_design-clause-does : goal.returns-in-Err-pipe_design-clause-does
+pub returns : goal.returns
 unfolding check_pipe_plan
-returns-in-Err-pipe_design-clause-does g c =
-    read_goes_on _ _ _ _ _ _ _ _ _ _ c.in-Ok.ensures.later c.in-Ok.ensures.bytes.0 c.in-Ok.ensures.bytes.1
-    (one_refuses _ _ _ _ _ _ (rw c.as_slice.ensures.value at c.in-Err-pipe_design.ensures.design))
-
-pub returns-clause-does : goal.returns-clause-does
-unfolding check_pipe_plan
-returns-clause-does g c =
-    read_goes_on _ _ _ _ _ _ _ _ _ _ c.in-Ok.ensures.later c.in-Ok.ensures.bytes.0 c.in-Ok.ensures.bytes.1
-    (one_goes_on _ _ c.in-Ok-pipe_design.ordered.design.terms _ _ _ _ _ _ (rw c.as_slice.ensures.value at c.in-Ok-pipe_design.ensures.design)
-    (said _ _ _ _ _ _ c.say_pipe.ensures))
+returns g c =
+    read_stage_goes_on _ _ _ _ c.in-Ok.ordered.design.terms _ _ _ _ _ _ _ c.in-Ok.ensures.design
+    (said _ _ _ _ _ c.say_pipe.ensures)

@@ -1,10 +1,10 @@
 use Rattle.y86_cli.proofs.Checks.{said_no}
 use Rattle.y86_cli.proofs.check.say_seq.Goals as goal
 
-pub returns-in-Ok-seq_text : goal.returns-in-Ok-seq_text
-returns-in-Ok-seq_text g c =
+pub returns-in-Ok : goal.returns-in-Ok
+returns-in-Ok g c =
     said_no c.args.which c.args.name.now c.args.variant c.args.ordered.now.design.terms c.args.ordered.now.order.ids c.in-Ok-Some.failure
-    c.in-Ok-seq_text.text.items _ _ _ c.requires.order
+    c.in-Ok.text.items _ _ _ c.requires.order
     (rw c.in-Ok-Some.field-0-is at c.in-Ok-Some.ensures.decided)
-    c.in-Ok-seq_text.ensures.text
-    (rw c.as_slice.ensures.value at c.say-in-Ok-seq_text.ensures)
+    c.in-Ok.ensures.text
+    (rw c.as_slice.ensures.value at c.say-in-Ok.ensures)
