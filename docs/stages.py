@@ -404,10 +404,26 @@ def picks(runs):
         runs.check(f"{what} is picked", (re.findall(r"d_valA_from (\S+) d_valB_from (\S+)", out), err), ([("d_rvalA", wanted)], ""))
 
 
+def words(runs):
+    """The options that say what is shown stand anywhere, in any order, and may show nothing."""
+    end = "end HLT cycles 8 retired 3\n"
+    whole = runs.run("std.hcl", "load_use.yo")
+    runs.check("all cycles", (whole[0], whole[1].count("cycle "), whole[1].endswith(end)), (0, 8, True))
+    runs.check("from the first to the last", runs.run("std.hcl", "load_use.yo", "--to", str(2**64 - 1), "--from", "1"), whole)
+    second = runs.run("std.hcl", "load_use.yo", "--from", "2", "--to", "2")
+    runs.check("one cycle", [line for line in second[1].splitlines() if line.startswith("cycle ")], ["cycle 2"])
+    runs.check("the options first", runs.run("--from", "2", "--to", "2", "std.hcl", "load_use.yo"), second)
+    runs.check("between the files", runs.run("std.hcl", "--to", "2", "load_use.yo", "--limit", "100", "--from", "2"), second)
+    for shown in (("--from", "3", "--to", "2"), ("--from", "9"), ("--from", str(2**64 - 1))):
+        runs.check(f"nothing is shown: {shown}", runs.run("std.hcl", "load_use.yo", *shown), (0, end, ""))
+
+
 def refusals(runs):
     usage = (2, "", USAGE)
     for words in ((), ("std.hcl",), ("std.hcl", "a.yo", "--trace"), ("std.hcl", "a.yo", "--checked"), ("std.hcl", "a.yo", "--from"), ("std.hcl", "a.yo", "--to", "0"),
-        ("std.hcl", "a.yo", "--diagram", "--diagram"), ("std.hcl", "a.yo", "--from", "1", "--from", "2"), ("std.hcl", "a.yo", "--mem", "7"), ("std.hcl", "a.yo", "more")):
+        ("std.hcl", "a.yo", "--from", "0"), ("std.hcl", "a.yo", "--from", str(2**64)), ("std.hcl", "a.yo", "--from", "--to", "3"), ("std.hcl", "a.yo", "--to"),
+        ("std.hcl", "a.yo", "--diagram", "--diagram"), ("std.hcl", "a.yo", "--from", "1", "--from", "2"), ("std.hcl", "a.yo", "--to", "2", "--to", "2"),
+        ("std.hcl", "a.yo", "--mem", "7"), ("std.hcl", "a.yo", "more")):
         runs.check(f"the words {words}", runs.run(*words), usage)
     runs.write("bad.hcl", "word f_pc = ;\n")
     runs.write("bad.yo", "0x000: 3\n")
@@ -441,6 +457,7 @@ def main():
         ends(runs)
         listings(runs)
         picks(runs)
+        words(runs)
         refusals(runs)
         page(runs)
     print(f"{runs.passed} passed, {runs.failed} failed")
