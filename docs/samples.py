@@ -199,6 +199,9 @@ DESIGNS = [
     {"F_stall": "@ || f_icode == IPUSHQ"},
     {"E_bubble": "@ || D_icode == IOPQ && E_icode == INOP"},
     {"D_bubble": "@ || imem_icode == IOPQ && imem_ifun == 1"},
+    # two obligations that are false in the same situation, and one that is false in earlier ones than an obligation before it
+    {"d_srcA": "[ D_stat == SHLT : RRAX; @ ]", "d_dstE": "[ D_stat == SHLT : RRBX; @ ]"},
+    {"d_srcA": "[ D_stat == SHLT : RRAX; @ ]", "W_stall": "1", "W_bubble": "1"},
     # one atom; two; an atom with a field
     {"set_cc": "@ && F_predPC != 5"},
     {"set_cc": "@ && !(F_predPC == 5 && W_valM == 3)"},
