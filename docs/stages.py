@@ -277,6 +277,18 @@ SOURCES = {
     "0x035": ("d_rvalA", "d_rvalB"),
 }
 
+IADDQ = """
+  F  D  E  M  W       | 0x000 irmovq $7, %rdx
+     F  D  E  M  W    | 0x00a iaddq $-7, %rdx
+        F  D  E  M  W | 0x014 halt
+           F  D  e    | 0x015 halt
+              F  D  E | 0x016 halt
+                 F  D | 0x017 halt
+                    M | bubble
+                    F | 0x018 halt
+end HLT cycles 7 retired 3
+"""
+
 LIMIT = f"""
   F  D  E | {LOAD}
      F  D | 0x00a addq %rax, %rax
@@ -329,12 +341,13 @@ def without_texts(object_text):
 
 
 def examples(runs):
-    for name in ("std.hcl", "nb.hcl", "both.hcl", "load_use.yo", "both.yo", "fault.yo"):
+    for name in ("std.hcl", "nb.hcl", "fu.hcl", "both.hcl", "load_use.yo", "both.yo", "fault.yo"):
         with open(f"{HERE}/examples/{name}", encoding="utf-8") as file:
             text = file.read()
         runs.write(name, without_texts(text) if name.endswith(".yo") else text)
     for name, text in (("ret", RET), ("jump", JUMP), ("a", COMBINATION_A), ("b", COMBINATION_B)):
         runs.assembled(name, text)
+    runs.write("iaddq.yo", "0x000: 30f20700000000000000 |\n0x00a: c0f2f9ffffffffffffff |\n0x014: 00 |\n")
 
 
 def hazards(runs):
@@ -352,6 +365,9 @@ def hazards(runs):
 def ends(runs):
     runs.diagram("stalled and bubbled", "both", "both", PIP, 1)
     runs.diagram("an address outside the memory", "std", "fault", FAULT, 1)
+    runs.diagram("iaddq", "fu", "iaddq", IADDQ, 0, "--full")
+    status, out, _ = runs.run("fu.hcl", "iaddq.yo")
+    runs.check("iaddq in the smaller set", (status, out.splitlines()[-1]), (1, "end INS cycles 6 retired 2"))
     runs.diagram("a limit", "std", "load_use", LIMIT, 1, "--limit", "3")
     lines = runs.run("both.hcl", "both.yo", "--from", "4")[1].splitlines()
     runs.check("both", [line.split(" stat")[0] for line in lines[1:4]],
