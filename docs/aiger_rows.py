@@ -29,6 +29,11 @@ ROWS = [
     ("aag 2 2 0 1 0\n4\n2\n4\n", 0, "o0 256"),
     ("aag 5 3 0 1 2\n2\n4\n6\n10\n8 3 5\n10 8 7\n", 0, "o0 64"),
     ("aag 7 2 0 1 1\n14\n2\n9\n8 14 3\n", 0, "o0 384"),
+    # an operand of 2M+1, an output of 2M+1 that an AND defines, operands 0 and 1, an AND's variable below its operands'
+    ("aag 2 1 0 1 1\n4\n2\n2 5 5\n", 0, "o0 256"),
+    ("aag 2 1 0 1 1\n2\n5\n4 2 1\n", 0, "o0 256"),
+    ("aag 2 1 0 2 1\n2\n4\n5\n4 0 2\n", 0, "o0 0\no1 512"),
+    ("aag 2 1 0 1 1\n4\n2\n2 1 4\n", 0, "o0 256"),
     # an input of the line's place, not of the variable's number: input 0 is bit 0 of the vector
     ("aag 2 2 0 1 1\n2\n4\n2\n", 5, "5: TooMany".replace("5: TooMany", "1: TooMany")),
     # leading zeros, symbols in any order and repeated, a comment with anything behind it
@@ -36,6 +41,8 @@ ROWS = [
     (AND + "o0 an output\ni1 b\ni0 a\ni0 again\ni00 \ti\n", 0, "o0 128"),
     (AND + "i0  \n", 0, "o0 128"),
     (AND + "i0 a\r\n", 0, "o0 128"),
+    (AND + "o0 \0\xff\n", 0, "o0 128"),
+    (AND + "i0 a\nc\ni9 a\n6 2", 0, "o0 128"),
     (AND + "c\n", 0, "o0 128"),
     (AND + "c\nwhatever\n\n\0\xffx", 0, "o0 128"),
     # Syntax
@@ -198,6 +205,9 @@ def main():
                     compare(f"aig {name} {full}", (status, text, err), verdict)
                     continue
                 compare(f"aig {name} {full}", (status, err, text[:4]), (0, "", "aag "))
+                inputs = int(text.split(" ")[2])
+                symbols = [f"i{k} x{k}" for k in range(inputs)] + [f"o{k} O{k + 1}" for k in range(27)]
+                compare(f"the symbols of {name} {full}", text.split("\n")[-len(symbols) - 1 :], [*symbols, ""])
                 write(folder, "d.aag", text)
                 got = run(program, folder, "aigrun", "d.aag", "7")
                 compare(f"aigrun {name} {full}", got, (0, counts(text, 7), ""))

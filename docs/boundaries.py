@@ -203,6 +203,8 @@ SEQ_ONLY = [
 PLUS_ONLY = [
     ("S16 isn't asked behind a halt", {"pc": "[ pIcode == IHALT : pValC; @ ]"}, "yes"),
     ("nor behind an invalid instruction", {"pc": "[ pIcode == 15 : pValC; @ ]"}, "yes"),
+    ("nor behind an icode of the other set", {"pc": "[ pIcode in { 12, 13, 14 } : pValC; @ ]"}, "yes"),
+    ("S16 is asked behind a pop, the last icode", {"pc": "[ pIcode == IPOPQ : pValC; @ ]"}, "no S16"),
     ("S16 is asked behind a nop, with pCnd 0 too", {"pc": "[ pIcode == INOP && !pCnd : pValC; @ ]"}, "no S16"),
 ]
 

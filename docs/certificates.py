@@ -18,6 +18,8 @@ from concurrent.futures import ThreadPoolExecutor
 TOP = os.path.dirname(os.path.dirname(os.path.abspath(__file__)))
 HEAD = b"y86cert 1\nyes pt=1111111 pb=1111111 tv=0 lf=0 je=0 rm=0\n"
 OF_THE_TEXT = ("Syntax", "Number", "Claim")
+# The net of std.hcl has these many: the bits of a situation, since the file makes no comparison of words.
+VARIABLES = 107
 
 # Lines behind the head, and the line and the reason of the first fault, over std.hcl. No line of a gate is among them.
 BROKEN = [
@@ -53,10 +55,18 @@ BROKEN = [
     (b"t 0 0 1\nend\nend\n", 4, "Missing"),
     # names of terms, variables and claims
     (b"t 4294967296 0 1\n", 3, "Number"),
+    (b"t 106 0 1\nend\n", 4, "Missing"),
+    (b"t 107 0 1\n", 3, "Number"),
+    (b"a 0 0 0\ns 0 0 0 106 0 0\nend\n", 5, "Missing"),
+    (b"a 0 0 0\ns 0 0 0 107 0 0\n", 4, "Number"),
+    (b"n 0 1\nm 0 1 106 0 0\nend\n", 5, "Missing"),
+    (b"n 0 1\nm 0 1 107 0 0\n", 4, "Number"),
     (b"t 1000 0 1\n", 3, "Number"),
     (b"t 0 2 1\n", 3, "Number"),
     (b"t 0 0 1\nt 1 2 3\n", 4, "Number"),
     (b"t 0 0 1\nt 1 2 2\nend\n", 5, "Missing"),
+    # a term made twice, one on the variable of its part, one whose parts are the same, a claim made twice
+    (b"t 0 0 1\nt 0 0 1\nt 0 2 3\nt 5 2 2\nn 0 1\nn 0 1\nend\n", 9, "Missing"),
     (b"a 0 2 1\n", 3, "Number"),
     (b"s 0 0 0 0 0 0\n", 3, "Number"),
     (b"a 0 0 0\ns 0 0 0 0 0 1\n", 4, "Number"),
@@ -147,7 +157,7 @@ class Rows:
         told = f"{name}.crt:{line}: {why}\n".encode()
         self.row(f"{name}: {text[:200]!r}", self.call("recheck", words[0], f"{name}.crt", *words[1:]), (5, b"", told))
         if why in OF_THE_TEXT:
-            self.row(f"{name}, by lab/recheck", self.by_lab(text, 1000), (line, why))
+            self.row(f"{name}, by lab/recheck", self.by_lab(text, VARIABLES), (line, why))
 
     def examples(self):
         """Each design: its certificate is right, by both checkers, and a No is told as without `--cert`."""
@@ -187,6 +197,27 @@ class Rows:
         status, out, err = self.call("recheck", "std.hcl", "other_settings.crt")
         self.row("other settings", (status, out, err.split()[-1:] in ([b"Gate"], [b"Missing"], [b"Rule"])), (5, b"", True))
 
+    def more(self, text):
+        """A right certificate of std.hcl with lines more, and with its first gate before its claims: the form allows any order."""
+        lines = text.splitlines(keepends=True)
+        gate = next(line for line in lines if line[:1] == b"g")
+        lines.remove(gate)
+        lines.insert(next(k for k, line in enumerate(lines) if line[:1] in b"asnm"), gate)
+        self.write("order.crt", b"".join(lines[:-1]) + b"t 0 1 1\nt 0 0 1\nt 0 0 1\na 0 0 0\na 0 0 0\nend\n")
+        self.row("another order", self.call("recheck", "std.hcl", "order.crt"), (0, b"holds" + HEAD[13:], b""))
+
+    def demanded(self, text):
+        """The last gate, which is demanded and has term 1, gets another term that is true at every pattern: that isn't enough at the end."""
+        lines = text.splitlines()
+        terms, claims = ([line for line in lines[2:] if line[:1] in letters] for letters in (b"t", b"asnm"))
+        kind, term, claim = lines[-2].split()
+        self.row("the last gate is demanded", (kind, term), (b"h", b"1"))
+        new, last = len(terms) + 2, len(claims)
+        plain, cases = (b"n 0 1", b"m 0 %d 0 %d %d") if claims[int(claim)][:1] in b"nm" else (b"a 1 1 1", b"s 1 1 %d 0 %d %d")
+        lines[-2:] = [b"t 0 1 1", plain, cases % (new, last, last), b"h %d %d" % (new, last + 1), b"end"]
+        self.fault("true_everywhere", b"\n".join(lines) + b"\n", len(lines), "Rule")
+        self.fault("true_everywhere_and_more", b"\n".join(lines) + b"\nend\n", len(lines), "Rule")
+
     def place(self, text, at, byte):
         """One byte changed: refused, or else right by lab/recheck too."""
         changed = text[:at] + bytes([byte]) + text[at + 1:]
@@ -214,9 +245,15 @@ def main():
             rows.fault(f"broken{k}", HEAD + lines, line, why)
         for k, (text, line) in enumerate(HEADLESS):
             rows.fault(f"headless{k}", text, line, "Syntax")
+        # any settings may be stated: each digit alone is the other one
+        for at, byte in enumerate(HEAD):
+            if at > HEAD.index(b"yes") and byte in b"01":
+                rows.fault(f"stated{at}", HEAD[:at] + (b"1" if byte == ord("0") else b"0") + HEAD[at + 1 :] + b"end\n", 3, "Missing")
         with open(f"{folder}/std.hcl.crt", "rb") as it:
             text = it.read()
         rows.whole(text)
+        rows.more(text)
+        rows.demanded(text)
         rows.places(text, places)
         # faults of the HCL file and of the read go first
         rows.write("h.hcl", b"word x = ;\n")

@@ -88,7 +88,7 @@ def cycles(n):
 
 def rows():
     """Words, the files beside the examples, and the status, standard output (a text, or a test of it) and standard error."""
-    for n in [1, 2, 3, 7, 64, 999, 1000, 1000, 10000]:
+    for n in [1, 2, 3, 7, 64, 999, 1000, 1000, 10000, 100000]:
         yield ["big", str(n), "std.hcl"], {}, 0, f"big {n} steps {n + 1} cycles {cycles(n)} same 1\n", ""
     for design in ["nb", "lf", "nt", "bt", "fu", "je", "rm", "nj", "bj", "jl", "fast", "one"]:
         words = ["big", "2000", f"{design}.hcl", "--full"] if design == "fu" else ["big", "2000", f"{design}.hcl"]

@@ -130,7 +130,7 @@ word aluB = [ icode in { IIADDQ, IRMMOVQ, IMRMOVQ, IOPQ, ICALL, IPUSHQ, IRET, IP
 bool set_cc = icode in { IOPQ, IIADDQ };
 word dstE = [ icode == IRRMOVQ && Cnd : rB; icode in { IIRMOVQ, IOPQ, IIADDQ } : rB; icode in { IPUSHQ, IPOPQ, ICALL, IRET } : RRSP; 1 : RNONE; ];
 """
-# the words of a call on d.hcl and p.yo in 64 bytes of memory, the definitions in place of those of seq.hcl, the program, the status, the text
+# the words of a call on d.hcl and p.yo in 64 bytes of memory, the definitions in place of those of seq.hcl (of sp.hcl for ssimp), the program, the status, the text
 RUNS = [
     ("ssim d.hcl p.yo", "word Stat = 0;", LOAD, 1, report(1, 0, "BUB")),
     ("ssim d.hcl p.yo", "word Stat = 7;", LOAD, 1, report(1, 0, "BAD")),
@@ -138,6 +138,23 @@ RUNS = [
     # the word that is loaded wins, here the instruction's own bytes
     ("ssim d.hcl p.yo", "word dstE = RRAX;\nword dstM = RRAX;", LOAD, 0, report(2, 10, "HLT", "%rax:\t0x0000000000000000\t0x0000000000001250\n")),
     ("ssim d.hcl p.yo --full", IADDQ_TOO, ADDS, 0, report(3, 20, "HLT")),
+    # before the first cycle of SEQ+ a nop has gone: its icode is 1, and all else that it left is 0
+    ("ssimp d.hcl p.yo", "word pc = pIcode;", "00 00", 0, report(1, 1, "HLT")),
+    ("ssimp d.hcl p.yo", "word pc = [ pCnd : 2; 1 : pValM; ];", "00 00 00", 0, report(1, 0, "HLT")),
+    ("ssimp d.hcl p.yo", "word pc = pValC;", "00 00", 0, report(1, 0, "HLT")),
+    # what is kept is the signal icode, here that of a push read as a nop
+    ("ssimp d.hcl p.yo", "word icode = [ imem_icode == IPUSHQ : INOP; 1 : imem_icode; ];\nword pc = [ pIcode == INOP : pValP; 1 : 5; ];", "a0 00", 0, report(2, 1, "HLT")),
+    # and Cnd of whatever instruction: an andq has that of `l`, which doesn't hold, an addq that of ifun 0
+    ("ssimp d.hcl p.yo", "word pc = [ pIcode == IOPQ && !pCnd : 9; 1 : pValP; ];", "6200 00 00000000000000 00", 0, report(2, 9, "HLT")),
+    ("ssimp d.hcl p.yo", "word pc = [ pIcode == IOPQ && !pCnd : 9; 1 : pValP; ];", "6000 00 00000000000000 00", 0, report(2, 2, "HLT")),
+    # a cycle that stops changes nothing: no register, no flag, no memory, and not what the instruction before left
+    (
+        "ssimp d.hcl p.yo",
+        "word Stat = SADR;\nbool set_cc = 1;\nbool mem_write = 1;\nword mem_addr = 32;\nword mem_data = valC;",
+        "30f00500000000000000 00",
+        1,
+        report(1, 0, "ADR"),
+    ),
 ]
 
 
@@ -176,7 +193,7 @@ def small(program, folder):
         for command, name in (("ssim", "seq"), ("ssimp", "sp")):
             yield f"{command} on {code}", wanted, call(program, [command, "d.hcl", *words], folder, [("d.hcl", design(name, "")), *files])
     for words, definitions, code, status, text in RUNS:
-        files = [("d.hcl", design("seq", definitions)), ("p.yo", object_text(code))]
+        files = [("d.hcl", design("sp" if words.startswith("ssimp") else "seq", definitions)), ("p.yo", object_text(code))]
         yield f"{words}, {definitions!r} on {code}", (status, text, ""), call(program, [*words.split(), "--mem", "64"], folder, files)
     wanted = call(program, ["yis", "p.yo", "--full", "--mem", "64"], folder, [("p.yo", object_text(ADDS))])
     yield "yis of iaddq", wanted, (0, report(3, 20, "HLT"), "")

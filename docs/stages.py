@@ -277,6 +277,18 @@ SOURCES = {
     "0x035": ("d_rvalA", "d_rvalB"),
 }
 
+IADDQ = """
+  F  D  E  M  W       | 0x000 irmovq $7, %rdx
+     F  D  E  M  W    | 0x00a iaddq $-7, %rdx
+        F  D  E  M  W | 0x014 halt
+           F  D  e    | 0x015 halt
+              F  D  E | 0x016 halt
+                 F  D | 0x017 halt
+                    M | bubble
+                    F | 0x018 halt
+end HLT cycles 7 retired 3
+"""
+
 LIMIT = f"""
   F  D  E | {LOAD}
      F  D | 0x00a addq %rax, %rax
@@ -329,12 +341,13 @@ def without_texts(object_text):
 
 
 def examples(runs):
-    for name in ("std.hcl", "nb.hcl", "both.hcl", "load_use.yo", "both.yo", "fault.yo"):
+    for name in ("std.hcl", "nb.hcl", "fu.hcl", "both.hcl", "load_use.yo", "both.yo", "fault.yo"):
         with open(f"{HERE}/examples/{name}", encoding="utf-8") as file:
             text = file.read()
         runs.write(name, without_texts(text) if name.endswith(".yo") else text)
     for name, text in (("ret", RET), ("jump", JUMP), ("a", COMBINATION_A), ("b", COMBINATION_B)):
         runs.assembled(name, text)
+    runs.write("iaddq.yo", "0x000: 30f20700000000000000 |\n0x00a: c0f2f9ffffffffffffff |\n0x014: 00 |\n")
 
 
 def hazards(runs):
@@ -352,6 +365,9 @@ def hazards(runs):
 def ends(runs):
     runs.diagram("stalled and bubbled", "both", "both", PIP, 1)
     runs.diagram("an address outside the memory", "std", "fault", FAULT, 1)
+    runs.diagram("iaddq", "fu", "iaddq", IADDQ, 0, "--full")
+    status, out, _ = runs.run("fu.hcl", "iaddq.yo")
+    runs.check("iaddq in the smaller set", (status, out.splitlines()[-1]), (1, "end INS cycles 6 retired 2"))
     runs.diagram("a limit", "std", "load_use", LIMIT, 1, "--limit", "3")
     lines = runs.run("both.hcl", "both.yo", "--from", "4")[1].splitlines()
     runs.check("both", [line.split(" stat")[0] for line in lines[1:4]],
@@ -404,10 +420,26 @@ def picks(runs):
         runs.check(f"{what} is picked", (re.findall(r"d_valA_from (\S+) d_valB_from (\S+)", out), err), ([("d_rvalA", wanted)], ""))
 
 
+def words(runs):
+    """The options that say what is shown stand anywhere, in any order, and may show nothing."""
+    end = "end HLT cycles 8 retired 3\n"
+    whole = runs.run("std.hcl", "load_use.yo")
+    runs.check("all cycles", (whole[0], whole[1].count("cycle "), whole[1].endswith(end)), (0, 8, True))
+    runs.check("from the first to the last", runs.run("std.hcl", "load_use.yo", "--to", str(2**64 - 1), "--from", "1"), whole)
+    second = runs.run("std.hcl", "load_use.yo", "--from", "2", "--to", "2")
+    runs.check("one cycle", [line for line in second[1].splitlines() if line.startswith("cycle ")], ["cycle 2"])
+    runs.check("the options first", runs.run("--from", "2", "--to", "2", "std.hcl", "load_use.yo"), second)
+    runs.check("between the files", runs.run("std.hcl", "--to", "2", "load_use.yo", "--limit", "100", "--from", "2"), second)
+    for shown in (("--from", "3", "--to", "2"), ("--from", "9"), ("--from", str(2**64 - 1))):
+        runs.check(f"nothing is shown: {shown}", runs.run("std.hcl", "load_use.yo", *shown), (0, end, ""))
+
+
 def refusals(runs):
     usage = (2, "", USAGE)
     for words in ((), ("std.hcl",), ("std.hcl", "a.yo", "--trace"), ("std.hcl", "a.yo", "--checked"), ("std.hcl", "a.yo", "--from"), ("std.hcl", "a.yo", "--to", "0"),
-        ("std.hcl", "a.yo", "--diagram", "--diagram"), ("std.hcl", "a.yo", "--from", "1", "--from", "2"), ("std.hcl", "a.yo", "--mem", "7"), ("std.hcl", "a.yo", "more")):
+        ("std.hcl", "a.yo", "--from", "0"), ("std.hcl", "a.yo", "--from", str(2**64)), ("std.hcl", "a.yo", "--from", "--to", "3"), ("std.hcl", "a.yo", "--to"),
+        ("std.hcl", "a.yo", "--diagram", "--diagram"), ("std.hcl", "a.yo", "--from", "1", "--from", "2"), ("std.hcl", "a.yo", "--to", "2", "--to", "2"),
+        ("std.hcl", "a.yo", "--mem", "7"), ("std.hcl", "a.yo", "more")):
         runs.check(f"the words {words}", runs.run(*words), usage)
     runs.write("bad.hcl", "word f_pc = ;\n")
     runs.write("bad.yo", "0x000: 3\n")
@@ -441,6 +473,7 @@ def main():
         ends(runs)
         listings(runs)
         picks(runs)
+        words(runs)
         refusals(runs)
         page(runs)
     print(f"{runs.passed} passed, {runs.failed} failed")
