@@ -88,22 +88,36 @@ fn rules_rank(variable: u32) -> u32 {
     }
 }
 
+/// Its rank for a part of the valuations whose diagrams are large: the icode in E first, by which such a part is parted
+/// again (tried out: no other field makes the diagrams of changed files as small).
+fn large_part_rank(variable: u32) -> u32 {
+    let icode = places::E_ICODE;
+    if icode.first <= variable && variable - icode.first < icode.bits {
+        0
+    } else {
+        1 + settings_rank(variable)
+    }
+}
+
 /// Which formulas are asked.
 #[derive(Clone, Copy, Debug, PartialEq, Eq)]
 pub enum Formulas {
     Settings,
     Rules,
+    /// Settings or obligations in a part of the valuations where their diagrams are large.
+    InLargePart,
 }
 
 fn rank(formulas: Formulas, variable: u32) -> u32 {
     match formulas {
         Formulas::Settings => settings_rank(variable),
         Formulas::Rules => rules_rank(variable),
+        Formulas::InLargePart => large_part_rank(variable),
     }
 }
 
 /// More than all ranks.
-const RANKS: u32 = 11;
+const RANKS: u32 = 12;
 
 /// The variables rank by rank, those of one rank by their numbers.
 pub fn order_for(alloc: Global, formulas: Formulas, vars: u32) -> Result<Vec<u32>, Memory> {

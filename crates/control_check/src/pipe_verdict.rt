@@ -3,7 +3,7 @@ ghost use Rattle.std.specs.Prelude.{◌≡◌, ◌<◌, ◌≤◌, ◌+◌, ◌+
 ghost use Rattle.dp_signals.specs.PipeTable.{pipe_rows};
 ghost use Rattle.hcl_types.specs.Tables.{IsBound, IsOrderOf};
 ghost use Rattle.verdicts.specs.Decisions.{AreGatesOf, IsDecision};
-ghost use Rattle.decisions.specs.Decisions.{AreDecided, IsDecided};
+ghost use Rattle.decisions.specs.Decisions.{AreDecided, AreGatesOf as AreGates, IsDecided};
 ghost use Rattle.control_check.specs.PipeVerdicts.{AreFileRules, AreSettings, HasGates, IsPipeFault, IsPipeVerdict, RefinesPipe};
 ghost use Rattle.control_check.specs.SeqVerdicts.{is_yes};
 ghost use Rattle.hazard_rules.specs.Belonging.{BelongTo};
@@ -11,7 +11,7 @@ ghost use Rattle.hazard_rules.specs.Parts.{AreRules};
 
 use crate::orders::{Formulas, order_for};
 use crate::verdict::Verdict;
-use decisions::each_true;
+use decisions::{Orders, each_true};
 use hazard_rules::{Late, Parts, pipe_late, pipe_parts, pipe_rules};
 use hcl_types::{Design, Order};
 use nets::Net;
@@ -61,6 +61,20 @@ fn seven(truths: &[bool], from: usize) -> [bool; 7]
     seven
 }
 
+/// For each of the formulas of some settings whether it is true of every valuation.
+fn settings_true(alloc: Global, net: &Net, gates: &[u64]) -> Result<Vec<bool>, Memory>
+    requires gates { AreGates net.now gates.now }
+    ensures { IfOk result (λ truths. AreDecided net.now gates.now (length gates.now) truths.items) }
+{
+    let whole = order_for(alloc, Formulas::Settings, net.vars())?;
+    let finer = order_for(alloc, Formulas::InLargePart, net.vars())?;
+    let orders = Orders {
+        whole: whole.as_slice(),
+        finer: finer.as_slice(),
+    };
+    each_true(alloc, net, gates, orders)
+}
+
 /// Decides the formulas of the early settings.
 #[tactic(auto, using(crate::proofs::Early::early_of, crate::proofs::Early::enough, crate::proofs::Early::forward_decided, crate::proofs::Early::backward_decided, crate::proofs::Early::target_decided))]
 fn decide_early(alloc: Global, parts: &Parts) -> Result<Early, Memory>
@@ -71,9 +85,8 @@ fn decide_early(alloc: Global, parts: &Parts) -> Result<Early, Memory>
     ensures backward { IfOk result (λ e. AreDecided parts.now.net parts.now.pb 7 e.pb) }
     ensures target { IfOk result (λ e. IsDecided parts.now.net parts.now.tv e.tv) }
 {
-    let order = order_for(alloc, Formulas::Settings, parts.net.vars())?;
     let gates = early_gates(alloc, parts)?;
-    let truths = each_true(alloc, &parts.net, gates.as_slice(), order.as_slice())?;
+    let truths = settings_true(alloc, &parts.net, gates.as_slice())?;
     let pt = seven(truths.as_slice(), 0);
     let pb = seven(truths.as_slice(), 7);
     let tv = truths[14];
@@ -91,8 +104,7 @@ fn decide_late(alloc: Global, net: &Net, late: Late, early: Early) -> Result<Set
     ensures je { IfOk result (λ s. IsDecided net.now late.je (not s.je)) }
     ensures rm { IfOk result (λ s. IsDecided net.now late.rm (not s.rm)) }
 {
-    let order = order_for(alloc, Formulas::Settings, net.vars())?;
-    let truths = each_true(alloc, net, &[late.lf, late.je, late.rm], order.as_slice())?;
+    let truths = settings_true(alloc, net, &[late.lf, late.je, late.rm])?;
     let pt = early.pt;
     let pb = early.pb;
     Ok(Settings {
@@ -167,8 +179,13 @@ fn decide_pipe(alloc: Global, net: &Net, list: &[Rule]) -> Result<Option<Failure
     requires gates { AreGatesOf net.now list.now }
     ensures { IfOk result (IsDecision net.now list.now) }
 {
-    let order = order_for(alloc, Formulas::Rules, net.vars())?;
-    decide_in_order(alloc, net, list, order.as_slice())
+    let whole = order_for(alloc, Formulas::Rules, net.vars())?;
+    let finer = order_for(alloc, Formulas::InLargePart, net.vars())?;
+    let orders = Orders {
+        whole: whole.as_slice(),
+        finer: finer.as_slice(),
+    };
+    decide_in_order(alloc, net, list, orders)
 }
 
 /// The rules of a file, and the settings at which they are asked.

@@ -5,8 +5,9 @@ use Rattle.nets.specs.Nets.{Gates, truth}
 use Rattle.field_bits.specs.Spelling.{spelt}
 use Rattle.field_bits.proofs.Patterns.{spelt_lt}
 use Rattle.decisions.specs.Decisions.{IsAlwaysTrue, IsFirstFalse, IsLeastOf}
-use Rattle.decisions.specs.Splitting.{AreTrueTo, IsFalseAt, IsLeastIn, IsSearched, IsTrueWhere, StandFor}
+use Rattle.decisions.specs.Splitting.{AreTrueTo, IsFalseAt, IsLeastIn, IsPass, IsSearched, IsTrueWhere, StandFor}
 use Rattle.decisions.specs.declared.cuts.Part.{Part}
+use Rattle.decisions.specs.declared.pass.Pass.TheVariants as pass
 use Rattle.decisions.proofs.Bits.{lower, same_part}
 
 pub search_start : (n : Gates) (gates : List ℕ) (k : ℕ) → IsSearched n gates k 0 (length gates) 0
@@ -57,6 +58,19 @@ module _ (n : Gates) (gates : List ℕ) (k p m part : ℕ) (so_far : IsSearched 
 
 pub all_true : (n : Gates) (gates : List ℕ) (k m p : ℕ) → IsSearched n gates k (2 ^ k) m p → m ≡ length gates → (j : ℕ) → j < length gates → IsAlwaysTrue n (get_or gates j 0)
 all_true n gates k m p h e j lt w size = h.earlier j (omega (arith, e, lt)) (spelt w 0 k) (spelt_lt w 0 k) w size refl
+
+-- what a pass over the gates tells
+pub searched_true : (n : Gates) (gates : List ℕ) (k upto m p : ℕ) → upto ≡ 2 ^ k → IsSearched n gates k upto m p → m ≡ length gates → AreTrueTo n gates (length gates)
+searched_true n gates k upto m p all h e j lt = all_true n gates k m p (subst (λ (u : ℕ). IsSearched n gates k u m p) all h) e j lt
+
+pub searched_false : (n : Gates) (gates : List ℕ) (k upto m p : ℕ) → upto ≡ 2 ^ k → IsSearched n gates k upto m p → (m ≡ length gates → ⊥) → IsPass n gates (pass.False m)
+searched_false n gates k upto m p all h ne =
+    let lt : m < length gates = (let z = h.within in grind (arith, ne, z)) in
+    let f = h.fails lt in
+    (lt, earlier (subst (λ (u : ℕ). IsSearched n gates k u m p) all h), f.0, record { size = f.1.size; fails = f.1.fails })
+  where
+    earlier : IsSearched n gates k (2 ^ k) m p → AreTrueTo n gates m
+    earlier h j lt w size = h.earlier j lt (spelt w 0 k) (spelt_lt w 0 k) w size refl
 
 -- the least valuation of the first part in which there is one is the least of all
 least_of_all : (n : Gates) (gate k p : ℕ) (w : List Bool) → ((q : ℕ) → q < p → IsTrueWhere n gate k q) → IsLeastIn n gate k p w → IsLeastOf n.vars (λ u. truth n gate u ≡ false) w

@@ -29,6 +29,18 @@ pub fn cut_of(vars: u32) -> Cut
     }
 }
 
+/// The cut of a part whose diagrams become more than they may: by four bits.
+pub fn finer_cut(vars: u32) -> Cut
+    ensures parts { result.parts ≡ 2 ^ result.bits }
+    ensures bits { result.bits ≤ vars }
+{
+    if vars < 4 {
+        Cut { bits: 0, parts: 1 }
+    } else {
+        Cut { bits: 4, parts: 16 }
+    }
+}
+
 /// One of the bits of a part, the most significant one first.
 #[tactic(auto, using(crate::proofs::Bits::bit_before, crate::proofs::Bits::bit_last))]
 fn bit_of(part: u64, bits: u32, i: u32) -> bool
@@ -160,7 +172,6 @@ pub fn forced_part(
     ensures { IfOk result (StandFor net.now gates.now count bits part) }
 {
     let whole = part_of(alloc, net, gates, count, bits, part)?;
-    let once = with_forced(alloc, whole)?;
-    let twice = with_forced(alloc, once)?;
-    Ok(twice)
+    let copy = with_forced(alloc, whole)?;
+    Ok(copy)
 }

@@ -19,20 +19,36 @@ pub struct Counter {
     pub valuation: Valuation,
 }
 
+/// Orders of the variables for the diagrams. They are for time alone: none of them changes what is decided. One that lacks a
+/// variable isn't taken.
+#[derive(Clone, Copy, Debug)]
+pub struct Orders<'a> {
+    /// For a pass over the whole net.
+    pub whole: &'a [u32],
+    /// For a part whose diagrams become more than they may: by the first four it is parted again. Where it is empty, no
+    /// part is.
+    pub finer: &'a [u32],
+}
+
 /// How many steps the diagrams of a whole net may take together.
-pub(crate) const STEPS: u64 = 1_000_000;
+const STEPS: u64 = 600_000;
 
 /// How many nodes they may have.
 pub(crate) const NODES: u64 = 400_000;
 
 /// The decision part by part.
 #[tactic(auto, using(crate::proofs::Searching::all_true, crate::proofs::Searching::first_found, crate::proofs::Searching::not_none))]
-pub fn decide_in_parts(alloc: Global, net: &Net, gates: &[u64]) -> Result<Option<Counter>, Memory>
+pub fn decide_in_parts(
+    alloc: Global,
+    net: &Net,
+    gates: &[u64],
+    finer: &[u32],
+) -> Result<Option<Counter>, Memory>
     requires gates { AreGatesOf net.now gates.now }
     ensures { IfOk result (IsDecision net.now gates.now) }
 {
     let cut = cut_of(net.vars());
-    let found = search(alloc, net, gates, cut)?;
+    let found = search(alloc, net, gates, cut, finer)?;
     if found.place == gates.len() {
         return Ok(None);
     }
@@ -62,13 +78,14 @@ fn decide_from(
     net: &Net,
     gates: &[u64],
     from: usize,
+    finer: &[u32],
 ) -> Result<Option<Counter>, Memory>
     requires gates { AreGatesOf net.now gates.now }
     requires from { from ≤ length gates.now }
     requires earlier { AreTrueTo net.now gates.now from }
     ensures { IfOk result (IsDecision net.now gates.now) }
 {
-    match decide_in_parts(alloc, net, &gates[from..])? {
+    match decide_in_parts(alloc, net, &gates[from..], finer)? {
         Some(counter) => Ok(Some(Counter {
             place: from + counter.place,
             valuation: counter.valuation,
@@ -78,28 +95,27 @@ fn decide_from(
 }
 
 /// The first gate that is false of some valuation, by its place, with the least such valuation, the variables by their
-/// numbers and 0 before 1; `None` where every gate is true of every valuation. In the pass over the whole net the
-/// variables stand in the given order.
+/// numbers and 0 before 1; `None` where every gate is true of every valuation. The diagrams have the given orders.
 #[tactic(auto, using(crate::proofs::Deciding::alone_gates, crate::proofs::Deciding::alone_first, crate::proofs::Deciding::alone_not))]
 pub fn decide_in_order(
     alloc: Global,
     net: &Net,
     gates: &[u64],
-    order: &[u32],
+    orders: Orders,
 ) -> Result<Option<Counter>, Memory>
     requires gates { AreGatesOf net.now gates.now }
     ensures { IfOk result (IsDecision net.now gates.now) }
 {
-    match pass_whole(alloc, net, gates, order)? {
+    match pass_whole(alloc, net, gates, orders.whole)? {
         Pass::True => Ok(None),
-        Pass::False(k) => match decide_in_parts(alloc, net, &[gates[k]])? {
+        Pass::False(k) => match decide_in_parts(alloc, net, &[gates[k]], orders.finer)? {
             Some(counter) => Ok(Some(Counter {
                 place: k,
                 valuation: counter.valuation,
             })),
             None => unreachable!(),
         },
-        Pass::Stopped(k) => decide_from(alloc, net, gates, k),
+        Pass::Stopped(k) => decide_from(alloc, net, gates, k, orders.finer),
     }
 }
 
@@ -114,5 +130,9 @@ pub fn decide(alloc: Global, net: &Net, gates: &[u64]) -> Result<Option<Counter>
             return Err(Memory);
         }
     }
-    decide_in_order(alloc, net, gates, order.as_slice())
+    let orders = Orders {
+        whole: order.as_slice(),
+        finer: &[],
+    };
+    decide_in_order(alloc, net, gates, orders)
 }

@@ -5,7 +5,7 @@ ghost use Rattle.decisions.specs.Decisions.{AreDecided, AreGatesOf, IsDecided};
 ghost use Rattle.decisions.specs.Splitting.{Mirrors};
 
 use crate::cuts::Part;
-use crate::decision::{NODES, STEPS, decide_in_parts};
+use crate::decision::{NODES, Orders, decide_in_parts};
 use crate::pass::always_true;
 use crate::reordered::reordered;
 use bdd_core::{Built, Store};
@@ -13,13 +13,16 @@ use nets::Net;
 use std::alloc::Global;
 use y86_base::Memory;
 
+/// How many steps the diagrams of all gates may take together.
+const STEPS: u64 = 250_000;
+
 /// Whether a gate is true of every valuation, decided part by part.
 #[tactic(auto, using(crate::proofs::Deciding::one_gate, crate::proofs::Deciding::one_true, crate::proofs::Deciding::one_false))]
-fn true_in_parts(alloc: Global, net: &Net, gate: u64) -> Result<bool, Memory>
+fn true_in_parts(alloc: Global, net: &Net, gate: u64, finer: &[u32]) -> Result<bool, Memory>
     requires gate { gate < length net.now.gates }
     ensures decided { IfOk result (IsDecided net.now gate) }
 {
-    match decide_in_parts(alloc, net, &[gate])? {
+    match decide_in_parts(alloc, net, &[gate], finer)? {
         Some(_) => Ok(false),
         None => Ok(true),
     }
@@ -36,6 +39,7 @@ fn truth_at(
     net: &Net,
     gates: &[u64],
     k: usize,
+    finer: &[u32],
 ) -> Result<bool, Memory>
     requires gates { AreGatesOf net.now gates.now }
     requires place { k < length gates.now }
@@ -49,28 +53,37 @@ fn truth_at(
     let here = copy.gates.items()[k];
     match always_true(store, built, &copy.net, here)? {
         Some(truth) => Ok(truth),
-        None => true_in_parts(alloc, net, gates[k]),
+        None => true_in_parts(alloc, net, gates[k], finer),
     }
 }
 
-/// For each of some gates whether it is true of every valuation. They share their diagrams, in which the variables stand in
-/// the given order; a gate at which these become more than they may is decided part by part.
+/// For each of some gates whether it is true of every valuation. They share their diagrams, which have the given orders; a
+/// gate at which these become more than they may is decided part by part.
 #[tactic(auto, using(crate::proofs::Mirrors::decided_more))]
 pub fn each_true(
     alloc: Global,
     net: &Net,
     gates: &[u64],
-    order: &[u32],
+    orders: Orders,
 ) -> Result<Vec<bool>, Memory>
     requires gates { AreGatesOf net.now gates.now }
     ensures { IfOk result (λ truths. AreDecided net.now gates.now (length gates.now) truths.items) }
 {
-    let copy = reordered(alloc, net, gates, order)?;
+    let copy = reordered(alloc, net, gates, orders.whole)?;
     let mut store = Store::bounded(alloc, copy.net.vars(), STEPS, NODES);
     let mut built = Built::new(alloc, &copy.net)?;
     let mut truths: Vec<bool> = Vec::new(alloc);
     for k in 0..gates.len() {
-        let truth = truth_at(alloc, &mut store, &mut built, &copy, net, gates, k)?;
+        let truth = truth_at(
+            alloc,
+            &mut store,
+            &mut built,
+            &copy,
+            net,
+            gates,
+            k,
+            orders.finer,
+        )?;
         if truths.push(truth).is_err() {
             return Err(Memory);
         }

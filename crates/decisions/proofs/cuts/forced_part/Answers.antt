@@ -4,12 +4,5 @@ use Rattle.decisions.proofs.cuts.forced_part.Goals as goal
 pub with_forced-requires : goal.with_forced-requires
 with_forced-requires c = gates_inside c.args.net.now c.args.gates.now c.args.count c.args.bits c.args.part c.in_ok-whole.whole c.in_ok-whole.ensures
 
-pub with_forced-requires-2 : goal.with_forced-requires-2
-with_forced-requires-2 c =
-    gates_inside c.args.net.now c.args.gates.now c.args.count c.args.bits c.args.part c.in_ok-once.once
-    (c.in_ok-once.ensures c.args.net.now c.args.gates.now c.args.count c.args.bits c.args.part c.in_ok-whole.ensures)
-
 pub returns : goal.returns
-returns c =
-    c.in_ok-twice.ensures c.args.net.now c.args.gates.now c.args.count c.args.bits c.args.part
-    (c.in_ok-once.ensures c.args.net.now c.args.gates.now c.args.count c.args.bits c.args.part c.in_ok-whole.ensures)
+returns c = c.in_ok-copy.ensures c.args.net.now c.args.gates.now c.args.count c.args.bits c.args.part c.in_ok-whole.ensures
