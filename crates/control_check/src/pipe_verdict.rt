@@ -67,10 +67,10 @@ fn settings_true(alloc: Global, net: &Net, gates: &[u64]) -> Result<Vec<bool>, M
     ensures { IfOk result (λ truths. AreDecided net.now gates.now (length gates.now) truths.items) }
 {
     let whole = order_for(alloc, Formulas::Settings, net.vars())?;
-    let finer = order_for(alloc, Formulas::InLargePart, net.vars())?;
+    let part = order_for(alloc, Formulas::InLargePart, net.vars())?;
     let orders = Orders {
         whole: whole.as_slice(),
-        finer: finer.as_slice(),
+        part: part.as_slice(),
     };
     each_true(alloc, net, gates, orders)
 }
@@ -180,10 +180,10 @@ fn decide_pipe(alloc: Global, net: &Net, list: &[Rule]) -> Result<Option<Failure
     ensures { IfOk result (IsDecision net.now list.now) }
 {
     let whole = order_for(alloc, Formulas::Rules, net.vars())?;
-    let finer = order_for(alloc, Formulas::InLargePart, net.vars())?;
+    let part = order_for(alloc, Formulas::InLargePart, net.vars())?;
     let orders = Orders {
         whole: whole.as_slice(),
-        finer: finer.as_slice(),
+        part: part.as_slice(),
     };
     decide_in_order(alloc, net, list, orders)
 }

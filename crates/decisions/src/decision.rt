@@ -7,7 +7,7 @@ use crate::cuts::cut_of;
 use crate::least::least_in;
 use crate::pass::{Pass, run_pass};
 use crate::reordered::reordered;
-use crate::search::search;
+use crate::search::{Again, AtOnce, PartPass, search};
 use nets::{Net, Valuation};
 use std::alloc::Global;
 use y86_base::Memory;
@@ -25,9 +25,8 @@ pub struct Counter {
 pub struct Orders<'a> {
     /// For a pass over the whole net.
     pub whole: &'a [u32],
-    /// For a part whose diagrams become more than they may: by the first four it is parted again. Where it is empty, no
-    /// part is.
-    pub finer: &'a [u32],
+    /// For a part whose diagrams become more than they may: by the first four it is parted again.
+    pub part: &'a [u32],
 }
 
 /// How many steps the diagrams of a whole net may take together.
@@ -38,17 +37,17 @@ pub(crate) const NODES: u64 = 400_000;
 
 /// The decision part by part.
 #[tactic(auto, using(crate::proofs::Searching::all_true, crate::proofs::Searching::first_found, crate::proofs::Searching::not_none))]
-pub fn decide_in_parts(
+pub fn decide_in_parts<P: PartPass>(
     alloc: Global,
     net: &Net,
     gates: &[u64],
-    finer: &[u32],
+    how: &P,
 ) -> Result<Option<Counter>, Memory>
     requires gates { AreGatesOf net.now gates.now }
     ensures { IfOk result (IsDecision net.now gates.now) }
 {
     let cut = cut_of(net.vars());
-    let found = search(alloc, net, gates, cut, finer)?;
+    let found = search(alloc, net, gates, cut, how)?;
     if found.place == gates.len() {
         return Ok(None);
     }
@@ -73,19 +72,19 @@ fn pass_whole(alloc: Global, net: &Net, gates: &[u64], order: &[u32]) -> Result<
 
 /// The decision where the gates before a place are true.
 #[tactic(auto, using(crate::proofs::Deciding::later_gates, crate::proofs::Deciding::later_true, crate::proofs::Deciding::later_first))]
-fn decide_from(
+fn decide_from<P: PartPass>(
     alloc: Global,
     net: &Net,
     gates: &[u64],
     from: usize,
-    finer: &[u32],
+    how: &P,
 ) -> Result<Option<Counter>, Memory>
     requires gates { AreGatesOf net.now gates.now }
     requires from { from ≤ length gates.now }
     requires earlier { AreTrueTo net.now gates.now from }
     ensures { IfOk result (IsDecision net.now gates.now) }
 {
-    match decide_in_parts(alloc, net, &gates[from..], finer)? {
+    match decide_in_parts(alloc, net, &gates[from..], how)? {
         Some(counter) => Ok(Some(Counter {
             place: from + counter.place,
             valuation: counter.valuation,
@@ -94,9 +93,34 @@ fn decide_from(
     }
 }
 
+/// The decision by a pass over the whole net, with its variables in the given order, and where that doesn't tell, part
+/// by part.
+#[tactic(auto, using(crate::proofs::Deciding::alone_gates, crate::proofs::Deciding::alone_first, crate::proofs::Deciding::alone_not))]
+fn decide_by<P: PartPass>(
+    alloc: Global,
+    net: &Net,
+    gates: &[u64],
+    order: &[u32],
+    how: &P,
+) -> Result<Option<Counter>, Memory>
+    requires gates { AreGatesOf net.now gates.now }
+    ensures { IfOk result (IsDecision net.now gates.now) }
+{
+    match pass_whole(alloc, net, gates, order)? {
+        Pass::True => Ok(None),
+        Pass::False(k) => match decide_in_parts(alloc, net, &[gates[k]], how)? {
+            Some(counter) => Ok(Some(Counter {
+                place: k,
+                valuation: counter.valuation,
+            })),
+            None => unreachable!(),
+        },
+        Pass::Stopped(k) => decide_from(alloc, net, gates, k, how),
+    }
+}
+
 /// The first gate that is false of some valuation, by its place, with the least such valuation, the variables by their
 /// numbers and 0 before 1; `None` where every gate is true of every valuation. The diagrams have the given orders.
-#[tactic(auto, using(crate::proofs::Deciding::alone_gates, crate::proofs::Deciding::alone_first, crate::proofs::Deciding::alone_not))]
 pub fn decide_in_order(
     alloc: Global,
     net: &Net,
@@ -106,20 +130,16 @@ pub fn decide_in_order(
     requires gates { AreGatesOf net.now gates.now }
     ensures { IfOk result (IsDecision net.now gates.now) }
 {
-    match pass_whole(alloc, net, gates, orders.whole)? {
-        Pass::True => Ok(None),
-        Pass::False(k) => match decide_in_parts(alloc, net, &[gates[k]], orders.finer)? {
-            Some(counter) => Ok(Some(Counter {
-                place: k,
-                valuation: counter.valuation,
-            })),
-            None => unreachable!(),
-        },
-        Pass::Stopped(k) => decide_from(alloc, net, gates, k, orders.finer),
-    }
+    decide_by(
+        alloc,
+        net,
+        gates,
+        orders.whole,
+        &Again { order: orders.part },
+    )
 }
 
-/// The same, with the variables in the order of their numbers.
+/// The same, with the variables in the order of their numbers; no part is parted again.
 pub fn decide(alloc: Global, net: &Net, gates: &[u64]) -> Result<Option<Counter>, Memory>
     requires gates { AreGatesOf net.now gates.now }
     ensures { IfOk result (IsDecision net.now gates.now) }
@@ -130,9 +150,5 @@ pub fn decide(alloc: Global, net: &Net, gates: &[u64]) -> Result<Option<Counter>
             return Err(Memory);
         }
     }
-    let orders = Orders {
-        whole: order.as_slice(),
-        finer: &[],
-    };
-    decide_in_order(alloc, net, gates, orders)
+    decide_by(alloc, net, gates, order.as_slice(), &AtOnce)
 }

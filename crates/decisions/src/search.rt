@@ -17,18 +17,50 @@ pub struct Found {
     pub part: u64,
 }
 
-/// How many steps the diagrams of a part may take that can be parted again.
+/// A way to pass over the gates of a part.
+pub trait PartPass {
+    fn pass(&self, alloc: Global, part: &Part) -> Result<Pass, Memory>
+        requires { AreGatesOf part.now.net part.now.gates }
+        ensures { IfOk result (IsPass part.now.net part.now.gates) };
+}
+
+/// The pass in which the diagrams may take what they need.
+#[derive(Clone, Copy, Debug)]
+pub struct AtOnce;
+
+impl PartPass for AtOnce {
+    fn pass(&self, alloc: Global, part: &Part) -> Result<Pass, Memory> {
+        run_pass(alloc, &part.net, part.gates.items(), u64::MAX, u64::MAX)
+    }
+}
+
+/// The pass in which a part whose diagrams become more than they may is parted again.
+#[derive(Clone, Copy, Debug)]
+pub struct Again<'a> {
+    /// The variables in an order: it is parted by the first four.
+    pub order: &'a [u32],
+}
+
+/// How many steps the diagrams of a part may take before it is parted again.
 const PART_STEPS: u64 = 60_000;
 
-/// A pass over gates in the parts by the first four variables of an order.
-#[tactic(auto, using(crate::proofs::Mirrors::pass_mirrored, crate::proofs::Searching::searched_true, crate::proofs::Searching::searched_false))]
-fn pass_finer(alloc: Global, net: &Net, gates: &[u64], finer: &[u32]) -> Result<Pass, Memory>
+impl<'a> PartPass for Again<'a> {
+    fn pass(&self, alloc: Global, part: &Part) -> Result<Pass, Memory> {
+        match run_pass(alloc, &part.net, part.gates.items(), PART_STEPS, u64::MAX)? {
+            Pass::Stopped(_) => pass_parts(alloc, &part.net, part.gates.items(), self.order),
+            pass => Ok(pass),
+        }
+    }
+}
+
+/// A pass over gates, part by part, by the first four variables of an order.
+fn pass_parts(alloc: Global, net: &Net, gates: &[u64], order: &[u32]) -> Result<Pass, Memory>
     requires gates { AreGatesOf net.now gates.now }
     ensures { IfOk result (IsPass net.now gates.now) }
 {
-    let copy = reordered(alloc, net, gates, finer)?;
+    let copy = reordered(alloc, net, gates, order)?;
     let cut = finer_cut(copy.net.vars());
-    let found = search(alloc, &copy.net, copy.gates.items(), cut, &[])?;
+    let found = search(alloc, &copy.net, copy.gates.items(), cut, &AtOnce)?;
     if found.place == copy.gates.items().len() {
         Ok(Pass::True)
     } else {
@@ -36,32 +68,16 @@ fn pass_finer(alloc: Global, net: &Net, gates: &[u64], finer: &[u32]) -> Result<
     }
 }
 
-/// A pass over the gates of a part; where their diagrams become more than they may, it is parted again, by the first
-/// variables of an order. Where there is none, they may take what they need.
-fn pass_part(alloc: Global, part: &Part, finer: &[u32]) -> Result<Pass, Memory>
-    requires { AreGatesOf part.now.net part.now.gates }
-    ensures { IfOk result (IsPass part.now.net part.now.gates) }
-{
-    let gates = part.gates.items();
-    if finer.is_empty() {
-        return run_pass(alloc, &part.net, gates, u64::MAX, u64::MAX);
-    }
-    match run_pass(alloc, &part.net, gates, PART_STEPS, u64::MAX)? {
-        Pass::Stopped(_) => pass_finer(alloc, &part.net, gates, finer),
-        pass => Ok(pass),
-    }
-}
-
 /// Searches one part more, for the gates before the one that is found so far.
 #[tactic(auto, using(crate::proofs::Searching::search_zero, crate::proofs::Searching::search_none, crate::proofs::Searching::search_some))]
-fn search_part(
+fn search_part<P: PartPass>(
     alloc: Global,
     net: &Net,
     gates: &[u64],
     bits: u32,
     p: u64,
     so_far: Found,
-    finer: &[u32],
+    how: &P,
 ) -> Result<Found, Memory>
     requires gates { AreGatesOf net.now gates.now }
     requires bits { bits ≤ net.now.vars }
@@ -73,7 +89,7 @@ fn search_part(
         return Ok(so_far);
     }
     let part = forced_part(alloc, net, gates, so_far.place, bits, p)?;
-    match pass_part(alloc, &part, finer)? {
+    match how.pass(alloc, &part)? {
         Pass::True => Ok(so_far),
         Pass::False(place) => Ok(Found { place, part: p }),
         Pass::Stopped(_) => Err(Memory),
@@ -82,12 +98,12 @@ fn search_part(
 
 /// Searches the parts in their order, in each only the gates before the first that is known to be false.
 #[tactic(auto, using(crate::proofs::Searching::search_start))]
-pub fn search(
+pub fn search<P: PartPass>(
     alloc: Global,
     net: &Net,
     gates: &[u64],
     cut: Cut,
-    finer: &[u32],
+    how: &P,
 ) -> Result<Found, Memory>
     requires gates { AreGatesOf net.now gates.now }
     requires bits { cut.bits ≤ net.now.vars }
@@ -99,7 +115,7 @@ pub fn search(
         part: 0,
     };
     for p in 0..cut.parts {
-        so_far = search_part(alloc, net, gates, cut.bits, p, so_far, finer)?;
+        so_far = search_part(alloc, net, gates, cut.bits, p, so_far, how)?;
     }
     Ok(so_far)
 }

@@ -8,6 +8,7 @@ use crate::cuts::Part;
 use crate::decision::{NODES, Orders, decide_in_parts};
 use crate::pass::always_true;
 use crate::reordered::reordered;
+use crate::search::Again;
 use bdd_core::{Built, Store};
 use nets::Net;
 use std::alloc::Global;
@@ -18,11 +19,11 @@ const STEPS: u64 = 250_000;
 
 /// Whether a gate is true of every valuation, decided part by part.
 #[tactic(auto, using(crate::proofs::Deciding::one_gate, crate::proofs::Deciding::one_true, crate::proofs::Deciding::one_false))]
-fn true_in_parts(alloc: Global, net: &Net, gate: u64, finer: &[u32]) -> Result<bool, Memory>
+fn true_in_parts(alloc: Global, net: &Net, gate: u64, order: &[u32]) -> Result<bool, Memory>
     requires gate { gate < length net.now.gates }
     ensures decided { IfOk result (IsDecided net.now gate) }
 {
-    match decide_in_parts(alloc, net, &[gate], finer)? {
+    match decide_in_parts(alloc, net, &[gate], &Again { order })? {
         Some(_) => Ok(false),
         None => Ok(true),
     }
@@ -39,7 +40,7 @@ fn truth_at(
     net: &Net,
     gates: &[u64],
     k: usize,
-    finer: &[u32],
+    order: &[u32],
 ) -> Result<bool, Memory>
     requires gates { AreGatesOf net.now gates.now }
     requires place { k < length gates.now }
@@ -53,7 +54,7 @@ fn truth_at(
     let here = copy.gates.items()[k];
     match always_true(store, built, &copy.net, here)? {
         Some(truth) => Ok(truth),
-        None => true_in_parts(alloc, net, gates[k], finer),
+        None => true_in_parts(alloc, net, gates[k], order),
     }
 }
 
@@ -82,7 +83,7 @@ pub fn each_true(
             net,
             gates,
             k,
-            orders.finer,
+            orders.part,
         )?;
         if truths.push(truth).is_err() {
             return Err(Memory);
