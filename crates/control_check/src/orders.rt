@@ -1,4 +1,6 @@
 //! Orders of the bits of PIPE's control valuations in which the diagrams of its formulas are small.
+ghost use Rattle.std.specs.Prelude.{◌≤◌};
+
 use pipe_fields::{BIT_COUNT, places};
 use std::alloc::Global;
 use y86_base::Memory;
@@ -58,7 +60,9 @@ fn stage_of(variable: u32) -> Stage {
 }
 
 /// Its rank for settings: kinds first, then atoms, then stage by stage, the registers of each behind its other fields.
-fn settings_rank(variable: u32) -> u32 {
+fn settings_rank(variable: u32) -> u32
+    ensures { result ≤ 10 }
+{
     let registers = if is_register(variable) { 1 } else { 0 };
     match stage_of(variable) {
         Stage::Kind => 0,
