@@ -4,8 +4,8 @@
     python3 docs/stages.py Y86_STAGES Y86
 
 `Y86`, the program `y86`, assembles the programs. The hazards are those of CS:APP 3e, sections 4.5.5 and 4.5.8, under forwarding (std.hcl) and without it
-(nb.hcl). Then: how a run may end, what the object file lists at an address, where words come from by the picks of the file, the words of a call, the files
-that are refused, and the examples of docs/STAGES.md.
+(nb.hcl). Then: how a run may end, what the object file lists at an address, where words come from by the picks of the file, the words of a call, and the
+files that are refused. (docs/transcripts.py runs the examples of docs/STAGES.md.)
 """
 import os
 import re
@@ -453,15 +453,6 @@ def refusals(runs):
     runs.check("a full device", (run.returncode, run.stderr), (4, b""))
 
 
-def page(runs):
-    with open(f"{HERE}/docs/STAGES.md", encoding="utf-8") as file:
-        blocks = file.read().split("```")[1::2]
-    _, lines, _ = runs.run("std.hcl", f"{HERE}/examples/load_use.yo")
-    _, diagram, _ = runs.run("std.hcl", f"{HERE}/examples/load_use.yo", "--diagram")
-    runs.check("the lines of the page", (blocks[0].strip() + "\n" in lines, blocks[2].strip() + "\n" in lines), (True, True))
-    runs.check("the diagram of the page", blocks[3].strip("\n") + "\n", diagram)
-
-
 def main():
     if len(sys.argv) != 3:
         print(__doc__, file=sys.stderr)
@@ -475,7 +466,6 @@ def main():
         picks(runs)
         words(runs)
         refusals(runs)
-        page(runs)
     print(f"{runs.passed} passed, {runs.failed} failed")
     return 1 if runs.failed else 0
 

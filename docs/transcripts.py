@@ -7,7 +7,8 @@ The commands of one page run in one folder that has the examples and lab/, so th
 In a section such as `### O5`, the block behind "A file that breaks it: `std.hcl`" has definitions that stand in the place of that
 file's own, and the block behind "The check answers" is what `check pipe` (of `### S5`, `check seq`, and of a change of `sp.hcl`,
 `check seqplus`) prints of the file so made.
-The commands of `./y86-stages` are run with that program where it is built, and else left out.
+The commands of `./y86-stages` are run with that program where it is built, or PROGRAM is the launcher, and else left out. Of a launcher whose program isn't
+built, the unproved one is run.
 Prints each command that differs, and ends with `N passed, M failed`.
 """
 import os
@@ -79,16 +80,16 @@ def run(command, folder):
     return done.stdout.decode("utf-8", "replace")
 
 
-def check(path, program):
+def check(path, program, stages):
     passed = failed = 0
     with tempfile.TemporaryDirectory() as folder:
         shutil.copytree(f"{TOP}/examples", f"{folder}/examples")
         os.symlink(program, f"{folder}/y86")
-        os.symlink(STAGES, f"{folder}/y86-stages")
+        os.symlink(stages, f"{folder}/y86-stages")
         os.symlink(f"{TOP}/lab", f"{folder}/lab")
-        os.environ["Y86"] = program
+        os.environ["Y86"], os.environ["Y86_STAGES"] = program, stages
         for number, command, lines in transcripts(path):
-            if "./y86-stages" in command and not os.path.exists(STAGES):
+            if "./y86-stages" in command and not os.path.exists(stages):
                 continue
             got, want = run(command, folder).rstrip("\n"), "\n".join(lines).rstrip("\n")
             if got == want:
@@ -110,8 +111,14 @@ def check(path, program):
 
 
 def main():
-    program, pages = os.path.abspath(sys.argv[1]), sys.argv[2:]
-    results = [check(page, program) for page in pages]
+    sys.dont_write_bytecode = True
+    sys.path.append(f"{TOP}/lab")
+    from program import answering
+
+    named, pages = os.path.abspath(sys.argv[1]), sys.argv[2:]
+    program, stages = answering(named), f"{named}-stages"
+    stages = answering(stages, "y86_stages") if os.path.exists(stages) else STAGES
+    results = [check(page, program, stages) for page in pages]
     print(f"{sum(it[0] for it in results)} passed, {sum(it[1] for it in results)} failed")
     return 1 if any(it[1] for it in results) else 0
 

@@ -10,8 +10,6 @@ TOP = os.path.dirname(os.path.dirname(os.path.realpath(__file__)))
 EXAMPLES = os.path.join(TOP, "examples")
 Y86 = os.path.abspath(os.environ.get("Y86") or os.path.join(TOP, "y86"))
 STAGES = os.path.abspath(os.environ.get("Y86_STAGES") or os.path.join(TOP, "y86-stages"))
-# Tells whether the program that the launcher runs is built from the sources as they stand.
-BUILT = os.path.join(TOP, "launch", "built.sh")
 
 
 class Answer:
@@ -25,17 +23,26 @@ class Answer:
         sys.stderr.write("".join(it for it in lines if it.startswith("y86: ")))
 
 
-def ready():
-    """Where the program isn't built, has the launcher tell so once, and takes for the many calls of a command the unproved one that the launcher keeps."""
-    global Y86
-    if os.environ.get("Y86") or not os.path.exists(BUILT) or not subprocess.run(["sh", BUILT, TOP, "y86", "is_current"], check=False).returncode:
-        return
-    asked = subprocess.run([Y86], stdin=subprocess.DEVNULL, stdout=subprocess.DEVNULL, stderr=subprocess.PIPE, text=True, check=False)
+def answering(path, crate="y86"):
+    """The program to call where a launcher is named: where that one's isn't built, the unproved one that the launcher keeps, once it has told so."""
+    top = os.path.dirname(os.path.realpath(path))
+    built = os.path.join(top, "launch", "built.sh")
+    if os.path.realpath(path) != os.path.join(top, "y86") or not os.path.exists(built):
+        return path
+    if not subprocess.run(["sh", built, top, crate, "is_current"], check=False).returncode:
+        return path
+    asked = subprocess.run([path], stdin=subprocess.DEVNULL, stdout=subprocess.DEVNULL, stderr=subprocess.PIPE, text=True, check=False)
     sys.stderr.write("".join(it for it in asked.stderr.splitlines(True) if it.startswith("y86: ")))
     if asked.returncode in (126, 127):
-        sys.exit(f"lab: there is no program to ask; {TOP}/prove proves and builds it")
-    kept = [it for it in glob.glob(f"{glob.escape(TOP)}/crates/y86/out/unproved-*") if re.fullmatch(r"unproved-[0-9a-f]+", os.path.basename(it))]
-    Y86 = kept[0] if len(kept) == 1 else Y86
+        sys.exit(f"lab: there is no program to ask; {top}/prove proves and builds it")
+    kept = [it for it in glob.glob(f"{glob.escape(top)}/crates/{crate}/out/unproved-*") if re.fullmatch(r"unproved-[0-9a-f]+", os.path.basename(it))]
+    return kept[0] if len(kept) == 1 else path
+
+
+def ready():
+    """Has the many calls of a command, which may be limited in memory, go to the program itself."""
+    global Y86
+    Y86 = answering(Y86)
 
 
 def run(*words, seconds=120, megabytes=None, program=None):
