@@ -1,9 +1,11 @@
 -- The run of examples/call.yo, computed.
-use Rattle.std.proofs.Common.{◌≡◌, ◌⊎◌, ℕ, zero, suc, ◌+◌, ◌-◌, ◌<◌, nat_le, ltb, Bool, true, false, Option, Some, None, refl, ap, ◌∙◌, subst, inl, inr, arith}
+use Rattle.std.proofs.Common.{◌≡◌, ◌⊎◌, ℕ, zero, suc, ◌+◌, ◌-◌, ◌<◌, nat_le, nat_lt, ltb, Bool, true, false, List, ◌++◌, length, replicate, take, Option, Some, None, refl, ap, ◌∙◌, subst, inl, inr, arith}
+use Rattle.std.specs.List.{list_all}
 use Rattle.std.proofs.lemmas.Bool.{leb-true, ltb-false, ltb-true}
-use Rattle.y86_base.specs.Image.{put_word, word_at}
+use Rattle.std.proofs.lemmas.List.Sums.{AllPass-from_list_all}
+use Rattle.y86_base.specs.Image.{AreBytes, IsImage, IsSize, put_word, word_at}
 use Rattle.y86_base.specs.Registers.{register, with_register}
-use Rattle.y86_base.specs.declared.parts.Stat.TheVariants.{Hlt}
+use Rattle.y86_base.specs.declared.parts.Stat.TheVariants.{Aok, Hlt}
 use Rattle.y86_base.specs.declared.parts.Variant.{Variant}
 use Rattle.y86_base.specs.declared.parts.Variant.TheVariants.{Base, Full}
 use Rattle.y86_isa.specs.declared.machine.Machine.{Machine}
@@ -16,7 +18,33 @@ use Rattle.y86_isa.specs.Step.{advance, retired}
 use Rattle.y86_isa.specs.Table.{row}
 use Rattle.y86_isa.specs.Work.{work}
 use Rattle.y86_isa.proofs.Runs.{advance-stopped, run_from-last}
-use Rattle.pure_runs.specs.Purity.{LiesApart, StoresApart, call_image}
+use Rattle.pure_runs.specs.Purity.{LiesApart, StoresApart, call_bytes, call_image}
+
+-- ---- the image
+
+pub call_size : length call_image ≡ 512
+unfolding call_image
+call_size = refl
+
+pub call_begins : take (length call_bytes) call_image ≡ call_bytes
+unfolding call_image
+call_begins = refl
+
+call_sized : IsSize (length call_image)
+call_sized = rw call_size (record { least = omega arith; most = omega arith; whole_words = refl })
+
+abbrev is_byte : ℕ → Bool
+is_byte n = nat_lt n 256
+
+bytes_by : (xs : List ℕ) → list_all is_byte xs ≡ true → AreBytes xs
+bytes_by xs e = λ k d h. ltb-true _ 256 (AllPass-from_list_all is_byte xs e k d h)
+
+call_small : AreBytes call_image
+unfolding call_image
+call_small = bytes_by (call_bytes ++ replicate 491 0) refl
+
+pub call_is_image : IsImage call_image
+call_is_image = record { sized = call_sized; bytes = call_small }
 
 -- where the instruction at a machine's PC ends
 abbrev end_of : Variant → Machine → ℕ
@@ -32,6 +60,16 @@ store_at None = 248
 store_at (Some r) = store_from r.store
 
 -- ---- the four instructions, and the halt
+
+pub called : (v : Variant) → ((run v call_image 2).pc ≡ 20) × (word_at (run v call_image 2).mem 248 ≡ Some 19)
+unfolding call_image run_from advance retired work fetched reading row field_a field_b word_from constant_at behind alu_value alu_flags condition data_error data_read data_store stored word_at put_word register with_register
+called Base = (refl, refl)
+called Full = (refl, refl)
+
+pub returned : (v : Variant) → ((run v call_image 3).pc ≡ 19) × ((run v call_image 3).stat ≡ Aok)
+unfolding call_image run_from advance retired work fetched reading row field_a field_b word_from constant_at behind alu_value alu_flags condition data_error data_read data_store stored word_at put_word register with_register
+returned Base = (refl, refl)
+returned Full = (refl, refl)
 
 pub halted : (v : Variant) → (run v call_image 4).stat ≡ Hlt
 unfolding call_image run_from advance retired work fetched reading row field_a field_b word_from constant_at behind alu_value alu_flags condition data_error data_read data_store stored word_at put_word register with_register
