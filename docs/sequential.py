@@ -157,6 +157,32 @@ RUNS = [
     ),
 ]
 
+# the signals that each row of hardware is computed from; the PC of SEQ is no signal of the file
+READS = {
+    "imem_icode": ["pc"],
+    "imem_ifun": ["pc"],
+    "imem_error": ["pc"],
+    "rA": ["pc", "need_regids"],
+    "rB": ["pc", "need_regids"],
+    "valC": ["pc", "need_regids", "need_valC"],
+    "valP": ["pc", "need_regids", "need_valC"],
+    "valA": ["srcA"],
+    "valB": ["srcB"],
+    "valE": ["aluA", "aluB", "alufun"],
+    "Cnd": ["ifun"],
+    "valM": ["mem_addr", "mem_read"],
+    "dmem_error": ["mem_addr", "mem_read", "mem_write"],
+}
+TRUTHS = {"imem_error", "Cnd", "dmem_error"}
+
+
+def all_behind(row, text):
+    """A design in which what a row of hardware is computed from is 0, and each other signal that a file defines depends on the row: it has an order just
+    where the row depends on no more."""
+    asked = f"({row} && 0)" if row in TRUTHS else f"{row} == 100"
+    for kind, name in re.findall(r"^(word|bool) (\w+) =", text, flags=re.M):
+        yield f"{kind} {name} = 0;" if name in READS[row] else f"bool {name} = {asked};" if kind == "bool" else f"word {name} = [ {asked} : 1; 1 : 0; ];"
+
 
 def call(program, words, folder, files=()):
     """The status and both streams of a call, with these files (names and texts) in its folder."""
@@ -195,6 +221,10 @@ def small(program, folder):
     for words, definitions, code, status, text in RUNS:
         files = [("d.hcl", design("sp" if words.startswith("ssimp") else "seq", definitions)), ("p.yo", object_text(code))]
         yield f"{words}, {definitions!r} on {code}", (status, text, ""), call(program, [*words.split(), "--mem", "64"], folder, files)
+    for command, name in (("ssim", "seq"), ("ssimp", "sp")):
+        for row in READS:
+            files = [("d.hcl", "\n".join(all_behind(row, design(name, "")))), ("p.yo", object_text("00"))]
+            yield f"{command}: {row} depends on no more", (1, report(1, 0, "BUB"), ""), call(program, [command, "d.hcl", "p.yo", "--mem", "64"], folder, files)
     wanted = call(program, ["yis", "p.yo", "--full", "--mem", "64"], folder, [("p.yo", object_text(ADDS))])
     yield "yis of iaddq", wanted, (0, report(3, 20, "HLT"), "")
 

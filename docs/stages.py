@@ -13,6 +13,9 @@ import subprocess
 import sys
 import tempfile
 
+sys.dont_write_bytecode = True
+from comparing import changed, design
+
 HERE = os.path.dirname(os.path.dirname(os.path.abspath(__file__)))
 USAGE = "usage: y86-stages HCL OBJ [--full] [--mem N] [--limit N] [--from N] [--to N] [--diagram]\n"
 
@@ -296,6 +299,126 @@ LIMIT = f"""
 end AOK cycles 3 retired 0
 """
 
+# Without the bubble in E a load/use hazard leaves the addq in D and lets E have it too: it goes on twice, and its row has the later stage.
+TWICE = f"""
+  F  D  E  M  W          | {LOAD}
+     F  D  E  M  W  W    | 0x00a addq %rax, %rax
+        F  F  D  E  M  W | 0x00c halt
+              F  D  e    | 0x00d halt
+                 F  D  E | 0x00e halt
+                    F  D | 0x00f halt
+                       M | bubble
+                       F | 0x010 invalid
+end HLT cycles 8 retired 4
+"""
+
+# M and W are emptied behind a load in M: it is lost in M, the bubble behind it in E, and of the two new bubbles that in W has the first row.
+LOST = f"""
+  F  D  E  m             | {LOAD}
+     F  D  D  E  M  W    | 0x00a addq %rax, %rax
+        F  F  D  E  M  W | 0x00c halt
+           e             | bubble
+              W          | bubble
+              M  W       | bubble
+              F  D  e    | 0x00d halt
+                 F  D  E | 0x00e halt
+                    F  D | 0x00f halt
+                       M | bubble
+                       F | 0x010 invalid
+end HLT cycles 8 retired 2
+"""
+
+# Only what stands in a stage in these two cycles.
+WINDOW = f""" 04 05
+  M  W | {LOAD}
+  D  E | 0x00a addq %rax, %rax
+  F  D | 0x00c halt
+  E  M | bubble
+     F | 0x00d halt
+end HLT cycles 8 retired 3
+"""
+
+# A jump to itself has a row for each cycle.
+HUNDRED = """ 99 00 01
+  W       | 0x000 jmp 0x000
+  M  W    | 0x000 jmp 0x000
+  E  M  W | 0x000 jmp 0x000
+  D  E  M | 0x000 jmp 0x000
+  F  D  E | 0x000 jmp 0x000
+     F  D | 0x000 jmp 0x000
+        F | 0x000 jmp 0x000
+end AOK cycles 101 retired 97
+"""
+
+# Fields and signals that are one another's neighbours differ.
+FIELDS = """
+    irmovq $128, %rsp
+    irmovq $3, %rbx
+    irmovq $-5, %rcx
+    irmovq $7, %rsi
+    popq %rdx
+    pushq %rbx
+    subq %rsi, %rcx
+    rmmovq %rdx, 24(%rbx)
+    jne target
+    halt
+    .pos 0x50
+target:
+    halt
+    .pos 0x80
+    .quad 0x11
+"""
+
+FIELDS_LINES = """
+D row 5 at 0x028 next load stat AOK rA %rdx rB - valC 0x0 valP 0x2a d_srcA %rsp d_srcB %rsp d_dstE %rsp d_dstM %rdx d_valA 0x80 d_valB 0x80 d_valA_from d_rvalA d_valB_from d_rvalB | popq %rdx
+E row 6 at 0x02a next load stat AOK valC 0x0 valA 0x3 valB 0x88 srcA %rbx srcB %rsp dstE %rsp dstM - aluA 0xfffffffffffffff8 aluB 0x88 set_cc 0 e_Cnd 1 e_valE 0x80 e_dstE %rsp | pushq %rbx
+M row 5 at 0x028 next load stat AOK Cnd 1 valE 0x88 valA 0x80 dstE %rsp dstM %rdx mem_addr 0x80 mem_read 1 mem_write 0 m_valM 0x11 m_stat AOK | popq %rdx
+cycle 9
+F row 9 at 0x038 next load stat AOK F_predPC 0x38 f_valC 0x50 f_valP 0x41 f_predPC 0x50 f_pc_from F_predPC | jne 0x050
+D row 8 at 0x02e next load stat AOK rA %rdx rB %rbx valC 0x18 valP 0x38 d_srcA %rdx d_srcB %rbx d_dstE - d_dstM - d_valA 0x11 d_valB 0x3 d_valA_from W_valM d_valB_from d_rvalB | rmmovq %rdx, 24(%rbx)
+E row 7 at 0x02c next load stat AOK valC 0x0 valA 0x7 valB 0xfffffffffffffffb srcA %rsi srcB %rcx dstE %rcx dstM - aluA 0x7 aluB 0xfffffffffffffffb set_cc 1 e_Cnd 1 e_valE 0xfffffffffffffff4 e_dstE %rcx | subq %rsi, %rcx
+M row 6 at 0x02a next load stat AOK Cnd 1 valE 0x80 valA 0x3 dstE %rsp dstM - mem_addr 0x80 mem_read 0 mem_write 1 m_valM 0x0 m_stat AOK | pushq %rbx
+W row 5 at 0x028 next load stat AOK valE 0x88 valM 0x11 dstE %rsp dstM %rdx Stat AOK | popq %rdx
+flags ZF 1 SF 0 OF 0
+write %rsp 0x88
+write %rdx 0x11
+store 0x080 0x3
+cycle 10
+"""
+
+# Each instruction, as the text of its line says it.
+TEXTS = """
+    irmovq $256, %rsp
+    rrmovq %rax, %rcx
+    cmovle %rcx, %rdx
+    cmovl %rdx, %rbx
+    cmove %rbx, %rsi
+    cmovne %rsi, %rdi
+    cmovge %rdi, %r8
+    cmovg %r8, %r9
+    addq %r9, %r10
+    subq %r10, %r11
+    andq %r11, %r12
+    xorq %r12, %r13
+    iaddq $-1, %r14
+    rmmovq %r14, -8(%rsp)
+    mrmovq 264(%rbp), %rax
+    pushq %rax
+    popq %rbp
+    jmp 0x04b
+    jle 0x054
+    jl 0x05d
+    je 0x066
+    jne 0x06f
+    jge 0x078
+    jg 0x081
+    call 0x08b
+    halt
+    nop
+    ret
+"""
+
+
 
 class Runs:
     def __init__(self, stages, y86, folder):
@@ -310,10 +433,19 @@ class Runs:
         with open(f"{self.folder}/{name}", "w", encoding="utf-8") as file:
             file.write(text)
 
+    def changed(self, name, **bodies):
+        """Writes the book's pipeline with other definitions."""
+        text = design("std")
+        for signal, body in bodies.items():
+            text = changed(text, signal, body)
+        self.write(name, text)
+
     def assembled(self, name, text):
+        self.write(f"{name}.yo", without_texts(self.listing(name, text)))
+
+    def listing(self, name, text, *words):
         self.write(f"{name}.ys", text)
-        run = subprocess.run([self.y86, "yas", f"{name}.ys"], cwd=self.folder, stdout=subprocess.PIPE, check=True)
-        self.write(f"{name}.yo", without_texts(run.stdout.decode()))
+        return subprocess.run([self.y86, "yas", f"{name}.ys", *words], cwd=self.folder, stdout=subprocess.PIPE, check=True).stdout.decode()
 
     def check(self, what, got, wanted):
         if got == wanted:
@@ -360,6 +492,42 @@ def hazards(runs):
         runs.diagram("combination A", design, "a", A_BOTH, 0)
     runs.diagram("combination B", "std", "b", B_STD, 0)
     runs.diagram("combination B", "nb", "b", B_NB, 0)
+
+
+def motion(runs):
+    """Where control is another than the book's."""
+    runs.changed("twice.hcl", E_bubble="E_icode == IJXX && !e_Cnd")
+    runs.diagram("an instruction in two stages", "twice", "load_use", TWICE, 0)
+    runs.changed("lost.hcl", M_bubble="@ || M_icode == IMRMOVQ", W_bubble="M_icode == IMRMOVQ")
+    runs.diagram("what is lost in M", "lost", "load_use", LOST, 0)
+
+
+def windows(runs):
+    """Diagrams that don't begin with the first cycle."""
+    runs.check("two cycles of a diagram", runs.run("std.hcl", "load_use.yo", "--diagram", "--from", "4", "--to", "5"), (0, WINDOW, ""))
+    runs.write("loop.yo", "0x000: 700000000000000000 |\n")
+    hundred = runs.run("std.hcl", "loop.yo", "--diagram", "--from", "99", "--limit", "101")
+    runs.check("the hundredth cycle", hundred, (1, HUNDRED, ""))
+
+
+def lines(runs):
+    """What the lines of a cycle say."""
+    runs.assembled("fields", FIELDS)
+    out = runs.run("std.hcl", "fields.yo")[1]
+    first, cycle = FIELDS_LINES[1:].split("cycle 9\n")
+    runs.check("the fields of D, E and M", [line for line in first.splitlines() if f"\n{line}\n" not in out], [])
+    runs.check("the lines of a whole cycle", out[out.index("cycle 9\n") + 8 : out.index("cycle 10\n") + 9], cycle)
+    runs.check("the flags behind it", re.findall("^flags .*", out, re.M)[9], "flags ZF 0 SF 1 OF 0")
+    out = runs.run("std.hcl", "fault.yo")[1]
+    statuses = re.findall(r"^[MW] row 2 .* next (\w+) stat (\w+) .* (?:m_stat|Stat) (\w+) \|", out, re.M)
+    runs.check("a load that fails in M, and in W", statuses, [("bubble", "AOK", "ADR"), ("stall", "ADR", "ADR")])
+    runs.changed("twenty.hcl", d_srcA="20")
+    out = runs.run("twenty.hcl", "load_use.yo", "--to", "2")[1]
+    runs.check("a number that no register has", re.findall(r" (?:d_srcA|srcA) (\S+)", out), ["20", "-", "20", "20"])
+    runs.write("texts.yo", runs.listing("texts", TEXTS, "--full"))
+    rows = [line.split(" | ") for line in runs.run("fu.hcl", "texts.yo", "--full", "--diagram")[1].splitlines()]
+    said = {(row[1].split(" ", 1)[1], row[2]) for row in rows if len(row) == 3}
+    runs.check("each instruction is written as it is read", said, {(text.strip(), text.strip()) for text in TEXTS.splitlines() if text})
 
 
 def ends(runs):
@@ -430,6 +598,10 @@ def words(runs):
     runs.check("one cycle", [line for line in second[1].splitlines() if line.startswith("cycle ")], ["cycle 2"])
     runs.check("the options first", runs.run("--from", "2", "--to", "2", "std.hcl", "load_use.yo"), second)
     runs.check("between the files", runs.run("std.hcl", "--to", "2", "load_use.yo", "--limit", "100", "--from", "2"), second)
+    # a call that stores at 0x0f8
+    runs.write("call.yo", "0x000: 30f40001000000000000 |\n0x00a: 801300000000000000 |\n0x013: 00 |\n")
+    for size, wanted in (("256", (0, "end HLT cycles 7 retired 3\n", "")), ("248", (1, "end ADR cycles 6 retired 2\n", ""))):
+        runs.check(f"a memory of {size} bytes", runs.run("std.hcl", "call.yo", "--mem", size, "--from", "100"), wanted)
     for shown in (("--from", "3", "--to", "2"), ("--from", "9"), ("--from", str(2**64 - 1))):
         runs.check(f"nothing is shown: {shown}", runs.run("std.hcl", "load_use.yo", *shown), (0, end, ""))
 
@@ -443,11 +615,17 @@ def refusals(runs):
         runs.check(f"the words {words}", runs.run(*words), usage)
     runs.write("bad.hcl", "word f_pc = ;\n")
     runs.write("bad.yo", "0x000: 3\n")
-    runs.check("no file", runs.run("none.hcl", "a.yo"), (3, "", "read fault none.hcl\n"))
-    for words in (("bad.hcl", "a.yo"), ("std.hcl", "bad.yo")):
+    for words, name in ((("none.hcl", "a.yo"), "none.hcl"), (("std.hcl", "none.yo"), "none.yo"), (("none.hcl", "none.yo"), "none.hcl")):
+        runs.check(f"no file: {words}", runs.run(*words), (3, "", f"read fault {name}\n"))
+    long = f"0x000: 00 |\n  | {'x' * 65536}\n"
+    runs.write("long.yo", long)
+    runs.check("an object file that is longer than an HCL file may be", runs.run("std.hcl", "long.yo", "--from", "9"), (0, "end HLT cycles 5 retired 1\n", ""))
+    runs.write("long.hcl", f"{design('std')}#{'x' * 65536}\n")
+    runs.write("longer.yo", long * 17)
+    for words, status in ((("bad.hcl", "a.yo"), 5), (("std.hcl", "bad.yo"), 5), (("bad.hcl", "bad.yo"), 5), (("long.hcl", "a.yo"), 7), (("std.hcl", "longer.yo"), 7)):
         run = subprocess.run([runs.y86, "psim", *words], cwd=runs.folder, stdout=subprocess.PIPE, stderr=subprocess.PIPE, check=False)
         got = runs.run(*words)
-        runs.check(f"refused as by psim: {words}", (got, got[0]), ((run.returncode, run.stdout.decode(), run.stderr.decode()), 5))
+        runs.check(f"refused as by psim: {words}", (got, got[0]), ((run.returncode, run.stdout.decode(), run.stderr.decode()), status))
     with open("/dev/full", "w", encoding="utf-8") as full:
         run = subprocess.run([runs.stages, "std.hcl", "a.yo"], cwd=runs.folder, stdout=full, stderr=subprocess.PIPE, check=False)
     runs.check("a full device", (run.returncode, run.stderr), (4, b""))
@@ -461,6 +639,9 @@ def main():
         runs = Runs(sys.argv[1], sys.argv[2], folder)
         examples(runs)
         hazards(runs)
+        motion(runs)
+        windows(runs)
+        lines(runs)
         ends(runs)
         listings(runs)
         picks(runs)
