@@ -10,7 +10,7 @@ use Rattle.decisions.specs.Splitting.{AreChosen, StandFor}
 use Rattle.decisions.specs.declared.cuts.Part.{Part}
 use Rattle.decisions.proofs.Sources.{behind_at, length_behind, same_list}
 
-behind_settled : (to : List Source) (u : List Bool) → length u ≡ length to → Settle to u → behind to u ≡ u
+pub behind_settled : (to : List Source) (u : List Bool) → length u ≡ length to → Settle to u → behind to u ≡ u
 behind_settled to u size h =
     same_list (behind to u) u (length_behind to u ∙ sym size)
     (λ i lt. let inside : i < length to = (let l = length_behind to u in omega (arith, lt, l)) in behind_at to u i inside ∙ h i inside)

@@ -4,3 +4,4 @@ mod Searching
 pub mod Deciding
 mod Mirrors
 mod Forced
+mod Overlaid

@@ -3,13 +3,10 @@ use Rattle.std.proofs.Common.{◌≡◌, ◌⊎◌, ℕ, zero, suc, ◌^◌, ◌
 use Rattle.std.proofs.lemmas.Bool.{cases_lt, lt-ltb, le-ltb}
 use Rattle.nets.specs.Nets.{Gates, truth}
 use Rattle.field_bits.specs.Spelling.{spell, spelt}
-use Rattle.bdd_core.specs.Diagrams.{Diagrams}
-use Rattle.bdd_core.specs.Meaning.{Agree, Always, IsBuilt, IsLeastFalse, truth_of}
-use Rattle.bdd_core.specs.declared.store.Dia.{Dia}
 use Rattle.net_substitution.specs.Substitution.{AreCopies, AreSources, behind, source_truth}
 use Rattle.net_substitution.specs.declared.copies.Source.{Source}
 use Rattle.net_substitution.specs.declared.copies.Source.TheVariants.{Const, Var}
-use Rattle.decisions.specs.Decisions.{AreGatesOf}
+use Rattle.decisions.specs.Decisions.{AreGatesOf, IsAlwaysTrue, IsLeastOf}
 use Rattle.decisions.specs.Splitting.{AreChosen, AreSourcesIn, IsLeastIn, IsTrueWhere, StandFor, source_in}
 use Rattle.decisions.proofs.Bits.{bit_of_part, in_part}
 
@@ -91,19 +88,15 @@ mixed_high (suc k) (u ∷ us) (z ∷ zs) zero e le = absurd (omega (arith, le))
 mixed_high (suc k) (u ∷ us) (z ∷ zs) (suc i) e le = mixed_high k us zs i (omega (arith, e)) (omega (arith, le))
 
 module _ (k p : ℕ) (n : Gates) (to : List Source) (h : AreSourcesIn k p n.vars to) (bits : k ≤ n.vars) (small : p < 2 ^ k) (copy : Gates) (gate g : ℕ)
-    (tells : (u : List Bool) → truth copy g u ≡ truth n gate (behind to u)) (s : Diagrams) (d : Dia) (vars : s.vars ≡ n.vars) (built : IsBuilt s copy g d) where
-  told : (u : List Bool) → length u ≡ n.vars → truth_of s d u ≡ truth n gate (behind to u)
-  told u size = built.is u (size ∙ sym vars) ∙ tells u
+    (tells : (u : List Bool) → truth copy g u ≡ truth n gate (behind to u)) (vars : copy.vars ≡ n.vars) where
+  pub none_there : IsAlwaysTrue copy g → IsTrueWhere n gate k p
+  none_there always w size e = ap (truth n gate) (sym (behind_self k p n.vars to h bits w size e)) ∙ (sym (tells w) ∙ always w (size ∙ sym vars))
 
-  pub none_there : Always s d true → IsTrueWhere n gate k p
-  none_there always w size e = ap (truth n gate) (sym (behind_self k p n.vars to h bits w size e)) ∙ (sym (told w size) ∙ always w (size ∙ sym vars))
-
-  pub least_there : (u : List Bool) → IsLeastFalse s d u → IsLeastIn n gate k p (behind to u)
+  pub least_there : (u : List Bool) → IsLeastOf copy.vars (λ w. truth copy g w ≡ false) u → IsLeastIn n gate k p (behind to u)
   least_there u least =
-      let size : length u ≡ n.vars = least.size ∙ vars in
       record {
         size = length_behind to u ∙ h.size;
-        holds = (in_part k (behind to u) p small (λ i lt. low k p n.vars to h bits u i lt), sym (told u size) ∙ least.fails);
+        holds = (in_part k (behind to u) p small (λ i lt. low k p n.vars to h bits u i lt), sym (tells u) ∙ least.holds);
         least = λ z sz both y lt same off. at z sz both.0 both.1 y lt same off;
       }
     where
@@ -120,7 +113,7 @@ module _ (k p : ℕ) (n : Gates) (to : List Source) (h : AreSourcesIn k p n.vars
           other : List Bool
           other = mixed k u z
 
-          sizes : length other ≡ s.vars
+          sizes : length other ≡ copy.vars
           sizes = length_mixed k u z ∙ (sz ∙ sym vars)
 
           behind_other : behind to other ≡ z
@@ -134,10 +127,10 @@ module _ (k p : ℕ) (n : Gates) (to : List Source) (h : AreSourcesIn k p n.vars
                 | inr le2 ↦ high k p n.vars to h bits other i le2 l ∙ mixed_high k u z i both le2
               ]
 
-          fails : truth_of s d other ≡ false
-          fails = told other (length_mixed k u z ∙ sz) ∙ (ap (truth n gate) behind_other ∙ fz)
+          fails : truth copy g other ≡ false
+          fails = tells other ∙ (ap (truth n gate) behind_other ∙ fz)
 
-          agrees : Agree y u other
+          agrees : (i : ℕ) → i < y → get_or u i false ≡ get_or other i false
           agrees i l = elim (cases_lt i k) [
             | inl l2 ↦ sym (mixed_low k u z i both l2 (let e = least.size in omega (arith, e, l, lt, vars)))
             | inr le2 ↦ sym (high k p n.vars to h bits u i le2 (omega (arith, l, lt))) ∙ (same i l ∙ sym (mixed_high k u z i both le2))

@@ -2,6 +2,7 @@
 use Rattle.std.specs.Prelude.{◌≡◌, ℕ, ◌<◌, ◌≤◌, ◌^◌, nat_lt, Bool, true, false, List, length, get_or, if◌then◌else◌}
 use Rattle.nets.specs.Nets.{Gates, truth}
 use Rattle.field_bits.specs.Spelling.{spell, spelt}
+use Rattle.net_substitution.specs.Forcing.{Settle}
 use Rattle.net_substitution.specs.declared.copies.Source.{Source}
 use Rattle.net_substitution.specs.declared.copies.Source.TheVariants.{Const, Var}
 use Rattle.decisions.specs.Decisions.{AreGatesOf, IsAlwaysTrue, IsLeastOf}
@@ -62,6 +63,21 @@ source_in k p i = if nat_lt i k then Const (get_or (spell k p) i false) else Var
 pub record AreSourcesIn (k p vars : ℕ) (to : List Source) : Type 0 where
   pub size : length to ≡ vars
   pub each : (i : ℕ) → i < vars → get_or to i (Const false) ≡ source_in k p i
+
+-- a bit as it is, and each variable in its own place
+abbrev pub own : Source → ℕ → Source
+own (Const b) i = Const b
+own (Var x) i = Var i
+
+pub record AreOwn (found : List Source) (count : ℕ) (to : List Source) : Type 0 where
+  pub size : length to ≡ count
+  pub each : (i : ℕ) → i < count → get_or to i (Const false) ≡ own (get_or found i (Const false)) i
+
+-- bits that variables have wherever a gate is false, and each other variable in its own place
+pub record AreForcedBits (n : Gates) (gate : ℕ) (to : List Source) : Type 0 where
+  pub size : length to ≡ n.vars
+  pub own : (i x : ℕ) → i < n.vars → get_or to i (Const false) ≡ Var x → x ≡ i
+  pub settle : (u : List Bool) → truth n gate u ≡ false → Settle to u
 
 -- the least valuation of a part of which a gate is false
 abbrev pub IsLeastIn : Gates → ℕ → ℕ → ℕ → List Bool → Type 0

@@ -1,11 +1,13 @@
 //! The least valuation of a part of which a gate is false.
-ghost use Rattle.std.specs.Prelude.{◌≡◌, ◌<◌, ◌≤◌, ◌^◌, IfOk, MatchOption, length};
+ghost use Rattle.std.specs.Prelude.{◌≡◌, ◌<◌, ◌≤◌, ◌^◌, IfOk, MatchOption, false, length};
+ghost use Rattle.nets.specs.Nets.{truth};
 ghost use Rattle.net_substitution.specs.Substitution.{behind, source_truth};
-ghost use Rattle.decisions.specs.Splitting.{IsLeastIn, IsTrueWhere};
+ghost use Rattle.decisions.specs.Decisions.{IsAlwaysTrue, IsLeastOf};
+ghost use Rattle.decisions.specs.Splitting.{AreForcedBits, IsLeastIn, IsTrueWhere, own};
 
 use crate::cuts::sources_in;
 use bdd_core::Store;
-use net_substitution::{Source, substitute};
+use net_substitution::{Source, forced, substitute};
 use nets::{Net, Valuation};
 use std::alloc::Global;
 use y86_base::{Items, Memory};
@@ -35,6 +37,52 @@ fn carried(alloc: Global, to: &[Source], u: &Valuation) -> Result<Valuation, Mem
     })
 }
 
+/// A bit as it is, and a variable in its own place.
+fn own_source(source: Source, i: u32) -> Source
+    ensures { result ≡ own source i }
+{
+    match source {
+        Source::Const(bit) => Source::Const(bit),
+        Source::Var(_) => Source::Var(i),
+    }
+}
+
+/// The bits that variables have wherever a gate is false, and each other variable in its own place.
+#[tactic(auto, using(crate::proofs::Deciding::one_gate))]
+fn forced_bits(alloc: Global, net: &Net, gate: u64) -> Result<Vec<Source>, Memory>
+    requires { gate < length net.now.gates }
+    ensures { IfOk result (λ to. AreForcedBits net.now gate to.items) }
+{
+    let found = forced(alloc, net, &[gate])?;
+    let mut to: Vec<Source> = Vec::new(alloc);
+    for i in 0..net.vars() {
+        if to.push(own_source(found[i as usize], i)).is_err() {
+            return Err(Memory);
+        }
+    }
+    Ok(to)
+}
+
+/// The least valuation of which a gate is false: the bits that it forces stand in a copy, whose diagrams are smaller. `None` where
+/// there is none.
+#[tactic(auto, using(crate::proofs::Overlaid::forced_sources))]
+fn least_false(alloc: Global, net: &Net, gate: u64) -> Result<Option<Valuation>, Memory>
+    requires { gate < length net.now.gates }
+    ensures { IfOk result (λ o. MatchOption o (IsAlwaysTrue net.now gate) (λ w. IsLeastOf net.now.vars (λ u. truth net.now gate u ≡ false) w.bits)) }
+{
+    let to = forced_bits(alloc, net, gate)?;
+    let copy = substitute(alloc, net, net.vars(), to.as_slice())?;
+    let mut store = Store::new(alloc, copy.net.vars());
+    let diagram = store.build(&copy.net, copy.gates.items()[gate as usize])?;
+    match store.least_false(diagram)? {
+        Some(u) => {
+            let w = carried(alloc, to.as_slice(), &u)?;
+            Ok(Some(w))
+        }
+        None => Ok(None),
+    }
+}
+
 /// The least valuation of a part of which a gate is false. `None` where there is none.
 #[tactic(auto, using(crate::proofs::Sources::are_sources))]
 pub fn least_in(
@@ -51,9 +99,7 @@ pub fn least_in(
 {
     let to = sources_in(alloc, bits, part, net.vars())?;
     let copy = substitute(alloc, net, net.vars(), to.as_slice())?;
-    let mut store = Store::new(alloc, copy.net.vars());
-    let diagram = store.build(&copy.net, copy.gates.items()[gate as usize])?;
-    match store.least_false(diagram)? {
+    match least_false(alloc, &copy.net, copy.gates.items()[gate as usize])? {
         Some(u) => {
             let w = carried(alloc, to.as_slice(), &u)?;
             Ok(Some(w))

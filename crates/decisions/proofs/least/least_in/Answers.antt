@@ -1,4 +1,4 @@
-use Rattle.std.proofs.Common.{List, ℕ, ◌<◌, sym, ap, ◌∙◌, subst}
+use Rattle.std.proofs.Common.{List, Bool, ◌≡◌, false, ℕ, ◌<◌, sym, ap, ◌∙◌, subst}
 use Rattle.net_substitution.specs.Substitution.{AreCopies, behind}
 use Rattle.net_substitution.specs.declared.copies.Source.{Source}
 use Rattle.decisions.specs.Splitting.{AreSourcesIn, IsLeastIn}
@@ -7,22 +7,24 @@ use Rattle.decisions.proofs.least.least_in.Goals as goal
 
 pub returns-in-Some : goal.returns-in-Some
 returns-in-Some c =
-    let sources = subst (λ (vars : ℕ). AreSourcesIn c.args.bits c.args.part vars c.in_ok-to.to.items) c.vars.ensures c.in_ok-to.ensures in
-    let copies = subst (λ (xs : List Source). AreCopies c.args.net.now c.in_ok-copy.copy.net xs c.in_ok-copy.copy.gates) c.as_slice.ensures.value c.in_ok-copy.ensures.copies in
+    let n = c.args.net.now in
+    let to = c.in_ok-to.to.items in
+    let sources = subst (λ (vars : ℕ). AreSourcesIn c.args.bits c.args.part vars to) c.vars.ensures c.in_ok-to.ensures in
+    let copies = subst (λ (xs : List Source). AreCopies n c.in_ok-copy.copy.net xs c.in_ok-copy.copy.gates) c.as_slice.ensures.value c.in_ok-copy.ensures.copies in
     let inside = subst (λ (k : ℕ). c.args.gate < k) (sym c.in_ok-copy.ensures.size) c.requires.gate in
-    let vars = c.build.ensures.stay.vars ∙ (c.new-store.ensures.vars ∙ (c.vars-3.ensures ∙ (c.in_ok-copy.ensures.vars ∙ c.vars-2.ensures))) in
     let bits = c.in_ok-w-in-Some.ensures ∙ ap (λ (xs : List Source). behind xs c.in-Some.u.bits) c.as_slice-in-Some.ensures.value in
-    subst (IsLeastIn c.args.net.now c.args.gate c.args.bits c.args.part) (sym bits)
-    (least_there c.args.bits c.args.part c.args.net.now c.in_ok-to.to.items sources c.requires.bits c.requires.part c.in_ok-copy.copy.net c.args.gate _
-    (tells_of c.args.net.now c.in_ok-copy.copy.net c.in_ok-to.to.items c.in_ok-copy.copy.gates c.items.result.now c.args.gate copies c.items.ensures inside)
-    c.build.new.self c.in_ok-diagram.diagram vars c.in_ok-diagram.ensures.built c.in-Some.u.bits (rw c.in-Some.is at c.in_ok-u.ensures))
+    subst (IsLeastIn n c.args.gate c.args.bits c.args.part) (sym bits)
+    (least_there c.args.bits c.args.part n to sources c.requires.bits c.requires.part c.in_ok-copy.copy.net c.args.gate _
+    (tells_of n c.in_ok-copy.copy.net to c.in_ok-copy.copy.gates c.items.result.now c.args.gate copies c.items.ensures inside)
+    (c.in_ok-copy.ensures.vars ∙ c.vars-2.ensures) c.in-Some.u.bits (rw c.in-Some.is at c.in_ok-u.ensures))
 
 pub returns : goal.returns
 returns c =
-    let sources = subst (λ (vars : ℕ). AreSourcesIn c.args.bits c.args.part vars c.in_ok-to.to.items) c.vars.ensures c.in_ok-to.ensures in
-    let copies = subst (λ (xs : List Source). AreCopies c.args.net.now c.in_ok-copy.copy.net xs c.in_ok-copy.copy.gates) c.as_slice.ensures.value c.in_ok-copy.ensures.copies in
+    let n = c.args.net.now in
+    let to = c.in_ok-to.to.items in
+    let sources = subst (λ (vars : ℕ). AreSourcesIn c.args.bits c.args.part vars to) c.vars.ensures c.in_ok-to.ensures in
+    let copies = subst (λ (xs : List Source). AreCopies n c.in_ok-copy.copy.net xs c.in_ok-copy.copy.gates) c.as_slice.ensures.value c.in_ok-copy.ensures.copies in
     let inside = subst (λ (k : ℕ). c.args.gate < k) (sym c.in_ok-copy.ensures.size) c.requires.gate in
-    let vars = c.build.ensures.stay.vars ∙ (c.new-store.ensures.vars ∙ (c.vars-3.ensures ∙ (c.in_ok-copy.ensures.vars ∙ c.vars-2.ensures))) in
-    none_there c.args.bits c.args.part c.args.net.now c.in_ok-to.to.items sources c.requires.bits c.requires.part c.in_ok-copy.copy.net c.args.gate _
-    (tells_of c.args.net.now c.in_ok-copy.copy.net c.in_ok-to.to.items c.in_ok-copy.copy.gates c.items.result.now c.args.gate copies c.items.ensures inside)
-    c.build.new.self c.in_ok-diagram.diagram vars c.in_ok-diagram.ensures.built (rw c.in-None.is at c.in_ok-u.ensures)
+    none_there c.args.bits c.args.part n to sources c.requires.bits c.requires.part c.in_ok-copy.copy.net c.args.gate _
+    (tells_of n c.in_ok-copy.copy.net to c.in_ok-copy.copy.gates c.items.result.now c.args.gate copies c.items.ensures inside)
+    (c.in_ok-copy.ensures.vars ∙ c.vars-2.ensures) (rw c.in-None.is at c.in_ok-u.ensures)
