@@ -29,6 +29,9 @@ ROWS = [
     ("aag 2 2 0 1 0\n4\n2\n4\n", 0, "o0 256"),
     ("aag 5 3 0 1 2\n2\n4\n6\n10\n8 3 5\n10 8 7\n", 0, "o0 64"),
     ("aag 7 2 0 1 1\n14\n2\n9\n8 14 3\n", 0, "o0 384"),
+    # more outputs and more ANDs than any design has
+    ("aag 0 0 0 1000 0\n" + "1\n" * 1000, 0, "\n".join(f"o{k} 512" for k in range(1000))),
+    ("aag 20001 1 0 1 20000\n2\n40002\n" + "".join(f"{x} {x - 2} {x - 2}\n" for x in range(4, 40004, 2)), 0, "o0 256"),
     # an operand of 2M+1, an output of 2M+1 that an AND defines, operands 0 and 1, an AND's variable below its operands'
     ("aag 2 1 0 1 1\n4\n2\n2 5 5\n", 0, "o0 256"),
     ("aag 2 1 0 1 1\n2\n5\n4 2 1\n", 0, "o0 256"),
