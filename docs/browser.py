@@ -24,7 +24,7 @@ class Browser:
 
     def __init__(self, seconds=120):
         self.seconds, self.last, self.held, self.errors = seconds, 0, b"", []
-        self.room = tempfile.TemporaryDirectory(prefix="y86-browser-")
+        self.room = tempfile.TemporaryDirectory(prefix="y86-browser-", ignore_cleanup_errors=True)
         down, self.down = os.pipe()
         self.up, up = os.pipe()
         # The browser reads commands at 3, and writes answers at 4.
