@@ -5,7 +5,7 @@ use Rattle.std.proofs.lemmas.Bool.Decides.{nat_tests}
 use Rattle.std.proofs.lemmas.List.{get_or-set_same, get_or-set_other, get_or_append_left, get_or_push, length_push, length-replicate}
 use Rattle.std.proofs.Math.ListN.{length-set}
 use Rattle.nets.specs.Nets.{Begins, Gates, IsGate, truth}
-use Rattle.nets.proofs.Truths.{truth_kept, gate_kept}
+use Rattle.nets.proofs.Truths.{gate_kept}
 use Rattle.aiger_out.specs.declared.form.Header.{Header}
 use Rattle.aiger_out.specs.declared.form.AndLine.{AndLine}
 use Rattle.aiger_out.specs.declared.form.Line.{Line}
@@ -22,7 +22,7 @@ within_later h old new gates none g b v = omega (arith, g.within v, b.more)
 
 values_kept : (h : Header) (old new : Gates) (gates : List ℕ) (none : ℕ) → HasGates h old gates none → Begins old new → (bits : List Bool) (v : ℕ)
     → gate_values new gates none bits v ≡ gate_values old gates none bits v
-values_kept h old new gates none g b bits v = truth_kept b (get_or gates v none) bits (g.within v)
+values_kept h old new gates none g b bits v = b.same (get_or gates v none) bits (g.within v)
 
 both_sides : (fresh : Bool) (x v : ℕ) (a b : Bool) → fresh ≡ true → x ≢ v → (if fresh && x == v then a else b) ≡ b
 both_sides true x v a b e ne = let f : (x == v) ≡ false = grind (arith, nat_tests) in ap (λ (t : Bool). if t then a else b) f
@@ -82,7 +82,7 @@ built_and h old one two new gates none j line a first second g e has may b1 is1 
   where
     value : (bits : List Bool) → (truth two first bits && truth two second bits) ≡ (literal_value (gate_values old gates none bits) a.rhs0 && literal_value (gate_values old gates none bits) a.rhs1)
     value bits =
-        ap (λ (t : Bool). t && truth two second bits) (truth_kept b2 first bits is1.within ∙ is1.is bits)
+        ap (λ (t : Bool). t && truth two second bits) (b2.same first bits is1.within ∙ is1.is bits)
         ∙ ap (λ (t : Bool). literal_value (gate_values old gates none bits) a.rhs0 && t)
         (is2.is bits ∙ same_literal (gate_values one gates none bits) (gate_values old gates none bits) a.rhs1 (values_kept h old one gates none has b1 bits (a.rhs1 / 2)))
 

@@ -5,7 +5,6 @@ use Rattle.std.proofs.lemmas.List.{get_or-map, get_or_append_left, get_or_push, 
 use Rattle.std.proofs.lemmas.Option.{slice_get-get_or, slice_get_within}
 use Rattle.y86_base.specs.declared.parts.Variant.{Variant}
 use Rattle.nets.specs.Nets.{Begins, Gates, truth}
-use Rattle.nets.proofs.Truths.{truth_kept}
 use Rattle.hcl_types.specs.Tables.{IsOrderOf}
 use Rattle.hcl_types.specs.declared.term.Term.{Term}
 use Rattle.dp_signals.specs.PipeTable.{pipe_rows}
@@ -50,7 +49,7 @@ gates_all list gates k h e = e ∙ ap (map gate_of) (take_all k list h)
 formula_kept : (terms : List Term) (atoms : List Atom) (old new : Gates) (g : ℕ) (f : Truth) → Begins old new → IsFormula terms atoms old g f → IsFormula terms atoms new g f
 formula_kept terms atoms old new g f b h = record {
   within = (let w = h.within in let m = b.more in omega (arith, w, m));
-  is = λ w α cv are controls. truth_kept b g w h.within ∙ h.is w α cv are controls;
+  is = λ w α cv are controls. b.same g w h.within ∙ h.is w α cv are controls;
 }
 
 pub demanded : (v : Variant) (terms : List Term) (ids : List ℕ) (s : Settings) (p : whole.Parts) (net : Gates) (list : List Rule) (want : List ℕ) → IsOrderOf pipe_rows terms ids → BelongTo terms p → p.variant ≡ v →

@@ -3,9 +3,9 @@ use Rattle.std.proofs.Common.{◌≡◌, ◌⊎◌, inl, inr, ℕ, ◌+◌, ◌<
 use Rattle.std.proofs.lemmas.Bool.{cases_lt}
 use Rattle.std.proofs.lemmas.List.{get_or-map, get_or_append_left, get_or_push, length-map, length_push, map_more, same_lists, take_all, get_or_default}
 use Rattle.nets.specs.Nets.{Gates, truth}
-use Rattle.net_substitution.specs.Substitution.{AreCopies, AreSources, behind, source_truth}
-use Rattle.net_substitution.specs.declared.copies.Source.{Source}
-use Rattle.net_substitution.specs.declared.copies.Source.TheVariants as source
+use Rattle.nets.specs.Substitution.{AreCopies, AreSources, behind, source_truth}
+use Rattle.nets.specs.declared.copies.Source.{Source}
+use Rattle.nets.specs.declared.copies.Source.TheVariants as source
 use Rattle.bdd_core.specs.Building.{AreKnown, KnownGates}
 use Rattle.bdd_core.specs.Diagrams.{Diagrams}
 use Rattle.bdd_core.specs.Meaning.{IsBuilt, Stay}

@@ -1,11 +1,10 @@
 //! The diagrams of the gates of a net.
 ghost use Rattle.std.specs.Prelude.{◌≡◌, ◌++◌, ◌∷◌, [], length, map, IfOk, OnOk};
-ghost use Rattle.net_substitution.specs.declared.copies.Source.TheVariants as source;
+ghost use Rattle.nets.specs.declared.copies.Source.TheVariants as source;
 ghost use Rattle.cert_writer.specs.Nodes.{IsDrawn, IsOrder};
 
 use bdd_core::{Built, Dia, Store};
-use net_substitution::{Source, substitute};
-use nets::Net;
+use nets::{Net, Source, substitute};
 use std::alloc::Global;
 use y86_base::Memory;
 

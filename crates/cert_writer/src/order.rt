@@ -70,10 +70,13 @@ fn ranks_of(alloc: Global, order: &[u32]) -> Result<Option<Vec<u32>>, Memory>
     Ok(None)
 }
 
-/// The fields of a control valuation in an order in which the diagrams of PIPE's rules are small: what F, M, E, D and W
-/// hold, stage by stage, and registers last. Atoms stand before them all. With the fields in the order of their numbers
-/// the certificate of `nb.hcl` is twenty times as long.
-const FIELDS: [Place; FIELD_COUNT] = [
+/// How many fields are no numbers of registers.
+const OTHER_COUNT: usize = FIELD_COUNT - places::REGISTER_COUNT;
+
+/// These in an order in which the diagrams of PIPE's rules are small: what F, M, E, D and W hold, stage by stage. Atoms
+/// stand before them, and registers behind. With the fields in the order of their numbers the certificate of `nb.hcl` is
+/// twenty times as long.
+const OTHERS: [Place; OTHER_COUNT] = [
     places::F_ERROR,
     places::F_ICODE,
     places::F_IFUN,
@@ -104,16 +107,6 @@ const FIELDS: [Place; FIELD_COUNT] = [
     places::W_KIND,
     places::W_STAT,
     places::W_ICODE,
-    places::D_R_A,
-    places::D_R_B,
-    places::E_DST_E,
-    places::E_DST_M,
-    places::E_SRC_A,
-    places::E_SRC_B,
-    places::M_DST_E,
-    places::M_DST_M,
-    places::W_DST_E,
-    places::W_DST_M,
 ];
 
 /// Puts some variables behind an order.
@@ -126,14 +119,22 @@ fn put_range(out: &mut Vec<u32>, first: u32, end: u32) -> Result<(), Memory> {
     Ok(())
 }
 
+/// Puts the variables of some fields behind an order.
+fn put_fields(out: &mut Vec<u32>, fields: &[Place]) -> Result<(), Memory> {
+    for field in fields {
+        put_range(out, field.first, field.first.wrapping_add(field.bits))?;
+    }
+    Ok(())
+}
+
 /// The order for the rules of PIPE.
 fn registers_last(alloc: Global, vars: u32) -> Result<Vec<u32>, Memory> {
     let mut out: Vec<u32> = Vec::new(alloc);
     put_range(&mut out, BIT_COUNT, vars)?;
-    let fields = FIELDS;
-    for field in &fields {
-        put_range(&mut out, field.first, field.first.wrapping_add(field.bits))?;
-    }
+    let others = OTHERS;
+    put_fields(&mut out, &others)?;
+    let registers = places::REGISTERS;
+    put_fields(&mut out, &registers)?;
     Ok(out)
 }
 

@@ -37,27 +37,31 @@ module _ (n : Gates) (pt pb : List ℕ) (tv : ℕ) (early : List ℕ) (is : earl
     ]
   ]
 
-  module _ (truths : List Bool) (h : AreDecided n early (length early) truths) where
+  module _ (truths : List Bool) (whole : length truths ≡ length early) (h : AreDecided n early truths) where
     pub enough : length truths ≡ 15
-    enough = h.size ∙ size
+    enough = whole ∙ size
 
     decided : (k : ℕ) → k < 15 → IsDecided n (get_or early k 0) (get_or truths k false)
-    decided k lt = h.each k (omega (arith, lt, size))
+    decided k lt = h.each k (omega (arith, lt, enough))
 
-    pub forward_decided : (s : List Bool) → length s ≡ 7 → ((k : ℕ) → k < 7 → get_or s k false ≡ get_or truths (0 + k) false) → AreDecided n pt 7 s
-    forward_decided s seven e = record {
-      size = seven;
-      each = λ k lt. subst (λ (g : ℕ). IsDecided n g (get_or s k false)) (first k lt)
-          (subst (IsDecided n (get_or early k 0)) (sym (e k lt))
-          (subst (λ (i : ℕ). IsDecided n (get_or early k 0) (get_or truths i false)) (omega arith) (decided k (omega (arith, lt)))));
-    }
+    pub forward_decided : (s : List Bool) → length s ≡ 7 → ((k : ℕ) → k < 7 → get_or s k false ≡ get_or truths (0 + k) false) → AreDecided n pt s
+    forward_decided s seven e = record { each = each }
+      where
+        each : (k : ℕ) → k < length s → IsDecided n (get_or pt k 0) (get_or s k false)
+        each k within =
+            let lt : k < 7 = omega (arith, within, seven) in
+            subst (λ (g : ℕ). IsDecided n g (get_or s k false)) (first k lt)
+            (subst (IsDecided n (get_or early k 0)) (sym (e k lt))
+            (subst (λ (i : ℕ). IsDecided n (get_or early k 0) (get_or truths i false)) (omega arith) (decided k (omega (arith, lt)))))
 
-    pub backward_decided : (s : List Bool) → length s ≡ 7 → ((k : ℕ) → k < 7 → get_or s k false ≡ get_or truths (7 + k) false) → AreDecided n pb 7 s
-    backward_decided s seven e = record {
-      size = seven;
-      each = λ k lt. subst (λ (g : ℕ). IsDecided n g (get_or s k false)) (second k lt)
-          (subst (IsDecided n (get_or early (7 + k) 0)) (sym (e k lt)) (decided (7 + k) (omega (arith, lt))));
-    }
+    pub backward_decided : (s : List Bool) → length s ≡ 7 → ((k : ℕ) → k < 7 → get_or s k false ≡ get_or truths (7 + k) false) → AreDecided n pb s
+    backward_decided s seven e = record { each = each }
+      where
+        each : (k : ℕ) → k < length s → IsDecided n (get_or pb k 0) (get_or s k false)
+        each k within =
+            let lt : k < 7 = omega (arith, within, seven) in
+            subst (λ (g : ℕ). IsDecided n g (get_or s k false)) (second k lt)
+            (subst (IsDecided n (get_or early (7 + k) 0)) (sym (e k lt)) (decided (7 + k) (omega (arith, lt))))
 
     pub target_decided : IsDecided n tv (get_or truths 14 false)
     target_decided = subst (λ (g : ℕ). IsDecided n g (get_or truths 14 false)) third (decided 14 (omega arith))

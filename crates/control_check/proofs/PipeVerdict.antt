@@ -158,7 +158,7 @@ module _ (v : Variant) (terms : List Term) (ids : List ℕ) (o : IsOrderOf pipe_
       (decides_some v terms late_atoms (apart late_atoms k) exists net vars g (f late_atoms) (not b) formula decided))
 
   pub settings_are : (first : Gates) (pt pb : List ℕ) (tv : ℕ) (closed : AreClosed v terms first pt pb tv) (s : Settings) (pt' pb' : List Bool) (tv' : Bool) →
-      length s.pt ≡ 7 → length s.pb ≡ 7 → s.pt ≡ pt' → s.pb ≡ pb' → s.tv ≡ tv' → AreDecided first pt 7 pt' → AreDecided first pb 7 pb' → IsDecided first tv tv' →
+      length s.pt ≡ 7 → length s.pb ≡ 7 → s.pt ≡ pt' → s.pb ≡ pb' → s.tv ≡ tv' → AreDecided first pt pt' → AreDecided first pb pb' → IsDecided first tv tv' →
       (second : Gates) (lf je rm : ℕ) → AreLate v terms pt' pb' tv' second lf je rm → IsDecided second lf (not s.lf) → IsDecided second je (not s.je) → IsDecided second rm (not s.rm) →
       AreSettings v terms s
   settings_are first pt pb tv closed s pt' pb' tv' forward backward ept epb etv dpt dpb dtv second lf je rm late dlf dje drm =
@@ -169,9 +169,9 @@ module _ (v : Variant) (terms : List Term) (ids : List ℕ) (o : IsOrderOf pipe_
         backward = backward;
         set = record {
           pt = λ i lt. subst (λ (xs : List Bool). Decides (get_or xs i false) (Everywhere v closed.atoms (PipeControls terms) (predicts_taken v closed.atoms i false))) (sym ept)
-              (by_formula (get_or pt i 0) (predicts_taken v closed.atoms i false) (get_or pt' i false) (closed.forward i lt) (dpt.each i lt));
+              (by_formula (get_or pt i 0) (predicts_taken v closed.atoms i false) (get_or pt' i false) (closed.forward i lt) (dpt.each i (inside i pt' lt (sym (ap length ept) ∙ forward))));
           pb = λ i lt. subst (λ (xs : List Bool). Decides (get_or xs i false) (Everywhere v closed.atoms (PipeControls terms) (predicts_taken v closed.atoms i true))) (sym epb)
-              (by_formula (get_or pb i 0) (predicts_taken v closed.atoms i true) (get_or pb' i false) (closed.backward i lt) (dpb.each i lt));
+              (by_formula (get_or pb i 0) (predicts_taken v closed.atoms i true) (get_or pb' i false) (closed.backward i lt) (dpb.each i (inside i pb' lt (sym (ap length epb) ∙ backward))));
           tv = subst (λ b. Decides b (Everywhere v closed.atoms (PipeControls terms) (carries v s))) (sym etv) (by_formula tv (carries v s) tv' (closed.target s) dtv);
           lf = late_decides closed.atoms late.atoms second lf (λ them. shows_lf v s them) s.lf closed.are late.are late.vars (late.late s ept epb etv) dlf;
           je = late_decides closed.atoms late.atoms second je (λ them. shows_je v s them) s.je closed.are late.are late.vars (late.jump s ept epb etv) dje;
@@ -179,6 +179,9 @@ module _ (v : Variant) (terms : List Term) (ids : List ℕ) (o : IsOrderOf pipe_
         };
       }
     where
+      inside : (i : ℕ) (xs : List Bool) → i < 7 → length xs ≡ 7 → i < length xs
+      inside i xs lt seven = omega (arith, lt, seven)
+
       by_formula : (g : ℕ) (f : Truth) (b : Bool) → IsFormula terms closed.atoms first g f → IsDecided first g b → Decides b (Everywhere v closed.atoms (PipeControls terms) f)
       by_formula = decides v terms closed.atoms (apart closed.atoms closed.are) exists first closed.vars
 

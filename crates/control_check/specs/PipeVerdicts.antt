@@ -37,7 +37,7 @@ pub record AreFileRules (v : Variant) (terms : List Term) (r : Rules) : Type 0 w
   pub variant : r.variant ≡ v
 
 -- Yes: every obligation holds of every valuation, at the file's settings. No: one doesn't, and the first such is told with its least
--- valuation; so the design is accepted at no settings.
+-- valuation and the design's atoms; so the design is accepted at no settings.
 pub record AcceptsPipe (v : Variant) (terms : List Term) (s : Settings) : Type 0 where
   pub settings : AreSettings v terms s
   pub holds : Holds v settings.atoms (PipeControls terms) s
@@ -50,7 +50,7 @@ pub record RejectsPipe (v : Variant) (terms : List Term) (rule : ℕ) (w : List 
 
 abbrev pub IsPipeVerdict : Variant → List Term → Verdict → Type 0
 IsPipeVerdict v terms (Yes s) = AcceptsPipe v terms s
-IsPipeVerdict v terms (No rule valuation) = RejectsPipe v terms rule valuation.bits
+IsPipeVerdict v terms (No rule valuation atoms) = RejectsPipe v terms rule valuation.bits × AreAtoms pipe_rows terms atoms
 
 abbrev pub IsPipeFault : List Term → CheckFault → Type 0
 IsPipeFault terms f = IsFault pipe_rows terms f

@@ -38,11 +38,11 @@ pub record RejectsSeq (v : Variant) (terms : List Term) (rule : ℕ) (w : List B
 
 abbrev pub IsSeqVerdict : Variant → List Term → Verdict → Type 0
 IsSeqVerdict v terms (Yes settings) = AcceptsSeq v terms × (settings ≡ no_settings)
-IsSeqVerdict v terms (No rule valuation) = RejectsSeq v terms rule valuation.bits
+IsSeqVerdict v terms (No rule valuation atoms) = RejectsSeq v terms rule valuation.bits × AreAtoms seq_rows terms atoms
 
 abbrev pub IsSeqFault : List Term → CheckFault → Type 0
 IsSeqFault terms f = IsFault seq_rows terms f
 
 abbrev pub is_yes : Verdict → Bool
 is_yes (Yes settings) = true
-is_yes (No rule valuation) = false
+is_yes (No rule valuation atoms) = false

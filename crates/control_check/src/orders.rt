@@ -1,5 +1,7 @@
 //! Orders of the bits of PIPE's control valuations in which the diagrams of its formulas are small.
-ghost use Rattle.std.specs.Prelude.{◌≤◌};
+ghost use Rattle.std.specs.Prelude.{◌≡◌, ◌≤◌, IfOk};
+ghost use Rattle.std.specs.List.{range_with_len};
+ghost use Rattle.std.specs.List.Sorted.{IsPermutation};
 
 use pipe_fields::{BIT_COUNT, places};
 use std::alloc::Global;
@@ -7,19 +9,8 @@ use y86_base::Memory;
 
 /// Whether a variable is a bit of a register number.
 fn is_register(variable: u32) -> bool {
-    let fields = [
-        places::D_R_A,
-        places::D_R_B,
-        places::E_DST_E,
-        places::E_DST_M,
-        places::E_SRC_A,
-        places::E_SRC_B,
-        places::M_DST_E,
-        places::M_DST_M,
-        places::W_DST_E,
-        places::W_DST_M,
-    ];
-    for place in &fields {
+    let registers = places::REGISTERS;
+    for place in &registers {
         if place.first <= variable && variable - place.first < place.bits {
             return true;
         }
@@ -120,20 +111,27 @@ fn rank(formulas: Formulas, variable: u32) -> u32 {
     }
 }
 
-/// More than all ranks.
-const RANKS: u32 = 12;
-
-/// The variables rank by rank, those of one rank by their numbers.
-pub fn order_for(alloc: Global, formulas: Formulas, vars: u32) -> Result<Vec<u32>, Memory> {
+/// The variables by their numbers.
+#[tactic(auto, using(crate::proofs::Orders::numbers_more))]
+fn by_number(alloc: Global, vars: u32) -> Result<Vec<u32>, Memory>
+    ensures { IfOk result (λ order. order.items ≡ range_with_len 0 vars) }
+{
     let mut order: Vec<u32> = Vec::new(alloc);
-    for wanted in 0..RANKS {
-        for variable in 0..vars {
-            if rank(formulas, variable) == wanted {
-                if order.push(variable).is_err() {
-                    return Err(Memory);
-                }
-            }
+    for variable in 0..vars {
+        if order.push(variable).is_err() {
+            return Err(Memory);
         }
     }
     Ok(order)
+}
+
+/// The variables rank by rank, those of one rank by their numbers: each stands in it once.
+pub fn order_for(alloc: Global, formulas: Formulas, vars: u32) -> Result<Vec<u32>, Memory>
+    ensures { IfOk result (λ order. IsPermutation (range_with_len 0 vars) order.items) }
+{
+    let mut order = by_number(alloc, vars)?;
+    match order.sort_by_key(|variable| rank(formulas, *variable)) {
+        Ok(()) => Ok(order),
+        Err(_) => Err(Memory),
+    }
 }

@@ -2,6 +2,7 @@
 ghost use Rattle.std.specs.Prelude.{◌≡◌, ◌<◌, ◌≤◌, ◌+◌, ◌++◌, ◌∷◌, [], ℕ, IfErr, IfOk, OnOk, get_or, length, false, not, true};
 ghost use Rattle.dp_signals.specs.PipeTable.{pipe_rows};
 ghost use Rattle.hcl_types.specs.Tables.{IsBound, IsOrderOf};
+ghost use Rattle.ctl_atoms.specs.Atoms.{AreAtoms};
 ghost use Rattle.verdicts.specs.Decisions.{AreGatesOf, IsDecision};
 ghost use Rattle.decisions.specs.Decisions.{AreDecided, AreGatesOf as AreGates, IsDecided};
 ghost use Rattle.control_check.specs.PipeVerdicts.{AreFileRules, AreSettings, HasGates, IsPipeFault, IsPipeVerdict, RefinesPipe};
@@ -21,11 +22,21 @@ use std::alloc::Global;
 use verdicts::{CheckFault, Failure, decide_in_order, told};
 use y86_base::{Memory, Variant};
 
+/// How many jumps are predicted: by their ifun.
+const JUMPS: usize = 7;
+
+/// Where the gates of the early settings stand in their list: those of jumps forward, those of jumps backward, and the target's.
+const FORWARD: usize = 0;
+
+const BACKWARD: usize = FORWARD + JUMPS;
+
+const TARGET: usize = BACKWARD + JUMPS;
+
 /// The settings that hold where a formula is true of every valuation.
 #[derive(Clone, Copy, Debug, PartialEq, Eq)]
 struct Early {
-    pt: [bool; 7],
-    pb: [bool; 7],
+    pt: [bool; JUMPS],
+    pb: [bool; JUMPS],
     tv: bool,
 }
 
@@ -48,23 +59,24 @@ fn early_gates(alloc: Global, parts: &Parts) -> Result<Vec<u64>, Memory>
     Ok(gates)
 }
 
-/// Seven of some truths, from one on.
-fn seven(truths: &[bool], from: usize) -> [bool; 7]
+/// Of some truths those of the jumps, from one on.
+fn jumps_from(truths: &[bool], from: usize) -> [bool; JUMPS]
     requires { from + 7 ≤ length truths.now }
     ensures size { length result ≡ 7 }
     ensures truths { (k : ℕ) → k < 7 → get_or result k false ≡ get_or truths.now (from + k) false }
 {
-    let mut seven = [false; 7];
-    for k in 0..7 {
-        seven[k] = truths[from + k];
+    let mut jumps = [false; JUMPS];
+    for k in 0..JUMPS {
+        jumps[k] = truths[from + k];
     }
-    seven
+    jumps
 }
 
 /// For each of the formulas of some settings whether it is true of every valuation.
 fn settings_true(alloc: Global, net: &Net, gates: &[u64]) -> Result<Vec<bool>, Memory>
     requires gates { AreGates net.now gates.now }
-    ensures { IfOk result (λ truths. AreDecided net.now gates.now (length gates.now) truths.items) }
+    ensures size { IfOk result (λ truths. length truths.items ≡ length gates.now) }
+    ensures decided { IfOk result (λ truths. AreDecided net.now gates.now truths.items) }
 {
     let whole = order_for(alloc, Formulas::Settings, net.vars())?;
     let part = order_for(alloc, Formulas::InLargePart, net.vars())?;
@@ -81,15 +93,16 @@ fn decide_early(alloc: Global, parts: &Parts) -> Result<Early, Memory>
     requires forward { HasGates parts.now.net parts.now.pt }
     requires backward { HasGates parts.now.net parts.now.pb }
     requires target { parts.now.tv < length parts.now.net.gates }
-    ensures forward { IfOk result (λ e. AreDecided parts.now.net parts.now.pt 7 e.pt) }
-    ensures backward { IfOk result (λ e. AreDecided parts.now.net parts.now.pb 7 e.pb) }
+    ensures forward { IfOk result (λ e. AreDecided parts.now.net parts.now.pt e.pt) }
+    ensures backward { IfOk result (λ e. AreDecided parts.now.net parts.now.pb e.pb) }
+    ensures seven { IfOk result (λ e. (length e.pt ≡ 7) × (length e.pb ≡ 7)) }
     ensures target { IfOk result (λ e. IsDecided parts.now.net parts.now.tv e.tv) }
 {
     let gates = early_gates(alloc, parts)?;
     let truths = settings_true(alloc, &parts.net, gates.as_slice())?;
-    let pt = seven(truths.as_slice(), 0);
-    let pb = seven(truths.as_slice(), 7);
-    let tv = truths[14];
+    let pt = jumps_from(truths.as_slice(), FORWARD);
+    let pb = jumps_from(truths.as_slice(), BACKWARD);
+    let tv = truths[TARGET];
     Ok(Early { pt, pb, tv })
 }
 
@@ -207,6 +220,7 @@ fn rules_at_settings(
     ensures settings { IfOk result (λ r. AreSettings variant design.now.terms r.settings) }
     ensures rules { IfOk result (λ r. AreRules variant design.now.terms r.settings r.rules.net r.rules.list) }
     ensures variant { IfOk result (λ r. r.rules.variant ≡ variant) }
+    ensures atoms { IfOk result (λ r. AreAtoms pipe_rows design.now.terms r.rules.atoms) }
     ensures fault { IfErr result (IsPipeFault design.now.terms) }
 {
     let settled = settle(alloc, variant, design, order)?;
@@ -256,6 +270,7 @@ pub fn check_pipe(
         Ok(Some(failure)) => Ok(Verdict::No {
             rule: failure.rule,
             valuation: failure.valuation,
+            atoms: rules.atoms,
         }),
         Err(Memory) => Err(CheckFault::Memory),
     }

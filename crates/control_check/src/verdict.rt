@@ -5,21 +5,26 @@ ghost use Rattle.dp_signals.specs.SeqTable.{seq_rows};
 ghost use Rattle.seq_refinement.specs.Accepted.{RefinesSeq};
 ghost use Rattle.control_check.specs.SeqVerdicts.{IsSeqFault, IsSeqVerdict, is_yes};
 
+use ctl_atoms::Atom;
 use hcl_types::{Design, Order};
 use nets::Valuation;
 use pipe_motion::Settings;
 use seq_obligations::seq_rules;
 use std::alloc::Global;
 use verdicts::{CheckFault, decide, told};
-use y86_base::{Memory, Variant};
+use y86_base::{Items, Memory, Variant};
 
 /// Whether every obligation holds of a design, and if not, the number of the first that doesn't, with the least
-/// valuation of which it is false.
+/// valuation of which it is false, and the design's atoms.
 #[derive(Debug, PartialEq, Drop)]
 pub enum Verdict {
     /// With the settings under which the obligations were asked; for SEQ each is false.
     Yes(Settings),
-    No { rule: u32, valuation: Valuation },
+    No {
+        rule: u32,
+        valuation: Valuation,
+        atoms: Items<Atom>,
+    },
 }
 
 /// The settings of SEQ, which has none to choose.
@@ -55,6 +60,7 @@ pub fn check_seq(
         Ok(Some(failure)) => Ok(Verdict::No {
             rule: failure.rule,
             valuation: failure.valuation,
+            atoms: rules.atoms,
         }),
         Err(Memory) => Err(CheckFault::Memory),
     }

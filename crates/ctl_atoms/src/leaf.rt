@@ -1,6 +1,6 @@
 //! Atoms: comparisons of words that are left open.
-ghost use Rattle.std.specs.Prelude.{◌≡◌, Some};
-ghost use Rattle.ctl_atoms.specs.Leaves.{asked, asked_eq, asked_lt, atom_eq, kind_eq, leaf_eq};
+ghost use Rattle.std.specs.Prelude.{◌≡◌, false, slice_get, MatchOption, Some};
+ghost use Rattle.ctl_atoms.specs.Leaves.{asked, asked_eq, asked_lt, atom_eq, has_atom, kind_eq, leaf_eq};
 
 use hcl_types::{CmpOp, NameId};
 
@@ -66,6 +66,19 @@ pub fn same_atom(a: Atom, b: Atom) -> bool
     ensures { result ≡ atom_eq a b }
 {
     same_kind(a.kind, b.kind) && same_leaf(a.left, b.left) && same_leaf(a.right, b.right)
+}
+
+/// The place of an atom in a list.
+#[tactic(auto, using(crate::proofs::Same::atom_eq_true))]
+pub fn position(atoms: &[Atom], atom: Atom) -> Option<usize>
+    ensures { MatchOption result (has_atom atoms.now atom ≡ false) (λ k. slice_get atoms.now k ≡ Some atom) }
+{
+    for (i, a) in atoms.iter().enumerate() {
+        if same_atom(*a, atom) {
+            return Some(i);
+        }
+    }
+    None
 }
 
 /// An atom of two leaves.

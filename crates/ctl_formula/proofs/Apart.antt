@@ -1,6 +1,7 @@
 -- The leaves of a name stand once each.
 use Rattle.std.proofs.Common.{◌≡◌, ◌⊎◌, ℕ, ◌<◌, Bool, true, false, ◌||◌, List, [], ◌∷◌, ◌++◌, length, map, Option, Some, None, slice_get, IsTrue, if◌then◌else◌, refl, sym, ap, ◌∙◌, subst, arith, inl, inr}
 use Rattle.std.proofs.lemmas.Option.{slice_get_within}
+use Rattle.y86_base.proofs.Booleans.{clash}
 use Rattle.nets.specs.Nets.{Gates}
 use Rattle.hcl_types.specs.declared.term.Term.{Term}
 use Rattle.hcl_types.specs.declared.term.TermBranch.{TermBranch}
@@ -41,8 +42,8 @@ leaf_swap x y h = by (leaf_eq x y) refl
     by false e = refl
     by true e =
         let same = leaf_eq_true x y e in
-        let clash : true ≡ false = sym (leaf_eq_self y) ∙ (ap (λ z. leaf_eq y z) (sym same) ∙ h) in
-        clash
+        let wrong : true ≡ false = sym (leaf_eq_self y) ∙ (ap (λ z. leaf_eq y z) (sym same) ∙ h) in
+        wrong
 
 neither : (a b : Bool) → a || b ≡ false → (a ≡ false) × (b ≡ false)
 neither true b h = absurd (grind (arith, h))
@@ -120,9 +121,6 @@ module _ (rows : List Row) (terms : List Term) (places : List Place) (asks : Lis
       by : (x : Option Row) → slice_get rows n ≡ x → Apart (leaves_of_row x n (plan own (row_term rows terms n)).leaves)
       by None e = tt
       by (Some row) e = role_apart row.class n row.role (plan own (row_term rows terms n)).leaves (λ d. plan_apart own (row_term rows terms n) (h row e d))
-
-  clash : {P : Type 0} (b : Bool) → b ≡ true → b ≡ false → P
-  clash b t f = grind (arith, t, f)
 
   leaves_apart : (n : ℕ) → Apart (own n)
   leaves_apart n = along (needs rows terms) (known rows) (λ m. Apart (own m))

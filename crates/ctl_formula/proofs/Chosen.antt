@@ -9,7 +9,6 @@ use Rattle.ctl_atoms.specs.Leaves.{leaf_eq, leaf_cmp, Assignment}
 use Rattle.ctl_formula.specs.Chosen.{at, taken, Picked, row_holds, pairs_hold}
 use Rattle.ctl_formula.specs.Picks.{Within}
 use Rattle.ctl_atoms.proofs.Same.{leaf_eq_true, leaf_eq_self}
-use Rattle.nets.proofs.Truths.{truth_kept}
 use Rattle.ctl_atoms.specs.declared.leaf.Atom.{Atom}
 use Rattle.ctl_atoms.specs.Leaves.{is_listed, asked}
 use Rattle.ctl_formula.specs.Chosen.{row_listed, pairs_listed}
@@ -20,11 +19,11 @@ use Rattle.ctl_formula.proofs.Steps.{and_same, or_same, each_map}
 pub row_kept : {a b : Gates} → Begins a b → (w : List Bool) (α : Assignment) (o : CmpOp) (x : Leaf) (qs : List Pick) → Within (length a.gates) qs
     → row_holds (at b w) α o x qs ≡ row_holds (at a w) α o x qs
 row_kept k w α o x [] h = refl
-row_kept k w α o x (q ∷ qs) h = or_same _ _ _ _ (and_same _ _ _ _ (truth_kept k q.gate w h.0) refl) (row_kept k w α o x qs h.1)
+row_kept k w α o x (q ∷ qs) h = or_same _ _ _ _ (and_same _ _ _ _ (k.same q.gate w h.0) refl) (row_kept k w α o x qs h.1)
 
 pub taken_kept : {a b : Gates} → Begins a b → (w : List Bool) (qs : List Pick) → Within (length a.gates) qs → (x : Leaf) → taken (at b w) qs x ≡ taken (at a w) qs x
 taken_kept k w [] h x = refl
-taken_kept k w (q ∷ qs) h x = or_same _ _ _ _ (and_same _ _ _ _ refl (truth_kept k q.gate w h.0)) (taken_kept k w qs h.1 x)
+taken_kept k w (q ∷ qs) h x = or_same _ _ _ _ (and_same _ _ _ _ refl (k.same q.gate w h.0)) (taken_kept k w qs h.1 x)
 
 pub picked_kept : {a b : Gates} → Begins a b → (w : List Bool) (qs : List Pick) → Within (length a.gates) qs → (x : Leaf) → Picked (at a w) qs x → Picked (at b w) qs x
 picked_kept k w qs h x p = record { only = λ y. taken_kept k w qs h y ∙ p.only y }

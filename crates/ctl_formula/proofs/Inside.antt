@@ -1,7 +1,6 @@
 -- What gates tell stays as the net grows.
 use Rattle.std.proofs.Common.{◌≡◌, ℕ, ◌≤◌, Bool, ◌&&◌, ◌||◌, List, [], ◌∷◌, length, refl, ap, ◌∙◌, arith}
 use Rattle.nets.specs.Nets.{Gates, Begins, truth}
-use Rattle.nets.proofs.Truths.{truth_kept}
 use Rattle.ctl_atoms.specs.declared.leaf.Leaf.{Leaf}
 use Rattle.ctl_atoms.specs.Leaves.{Assignment}
 use Rattle.ctl_formula.specs.declared.controls.Pick.{Pick}
@@ -16,7 +15,7 @@ pub some_pick_kept : {old new : Gates} → Begins old new → (w : List Bool) (t
     → some_pick new w test ps ≡ some_pick old w test ps
 some_pick_kept k w test [] h = refl
 some_pick_kept {old} {new} k w test (p ∷ ps) h =
-    ap (λ b. (b && test p.leaf) || some_pick new w test ps) (truth_kept k p.gate w h.0)
+    ap (λ b. (b && test p.leaf) || some_pick new w test ps) (k.same p.gate w h.0)
     ∙ ap (λ b. (truth old p.gate w && test p.leaf) || b) (some_pick_kept k w test ps h.1)
 
 pub inside_more : {old new : Gates} {ctl : List Entry} → Begins old new → IsInside old ctl → IsInside new ctl
@@ -27,6 +26,6 @@ inside_more {old} {new} {ctl} k h = record {
 
 pub tells_more : {old new : Gates} {ctl : List Entry} {w : List Bool} {α : Assignment} {cv : ℕ → Leaf} → Begins old new → IsInside old ctl → Tells old ctl w α cv → Tells new ctl w α cv
 tells_more {old} {new} {ctl} {w} {α} {cv} k h t = record {
-  truths_are = λ n has. truth_kept k (gate_of ctl n) w (h.gates_in n has) ∙ t.truths_are n has;
+  truths_are = λ n has. k.same (gate_of ctl n) w (h.gates_in n has) ∙ t.truths_are n has;
   picks_are = λ n has test. some_pick_kept k w test (picks_of ctl n) (h.picks_in n has) ∙ t.picks_are n has test;
 }

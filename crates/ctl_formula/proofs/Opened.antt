@@ -8,7 +8,6 @@ use Rattle.nets.specs.Nets.{Gates, Begins}
 use Rattle.ctl_atoms.specs.Leaves.{Assignment}
 use Rattle.ctl_formula.specs.Chosen.{at}
 use Rattle.ctl_formula.specs.Readies.{IsOpen, Shows, EntryWithin, EntryShows}
-use Rattle.nets.proofs.Truths.{truth_kept}
 use Rattle.ctl_formula.proofs.Inside.{within_more}
 use Rattle.ctl_formula.proofs.Chosen.{picked_kept}
 
@@ -19,7 +18,7 @@ entry_within m n (Picks ps) h x = within_more m n ps h x
 
 pub entry_shows : {a b : Gates} → Begins a b → (w : List Bool) (α : Assignment) (e : Entry) (x : Leaf) → EntryWithin (length a.gates) e → EntryShows (at a w) α e x → EntryShows (at b w) α e x
 entry_shows k w α Absent x h s = tt
-entry_shows k w α (Truth g) x h s = truth_kept k g w h ∙ s
+entry_shows k w α (Truth g) x h s = k.same g w h ∙ s
 entry_shows k w α (Picks ps) x h s = picked_kept k w ps h x s
 
 pub open_kept : {a b : Gates} {es : List Entry} {atoms : List Atom} {first : ℕ} → Begins a b → IsOpen a es atoms first → IsOpen b es atoms first

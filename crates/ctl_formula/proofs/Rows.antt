@@ -1,6 +1,7 @@
 -- Rows of a table: what they need, which are known, and their equation.
 use Rattle.std.proofs.Common.{◌≡◌, ℕ, zero, suc, ◌+◌, Bool, true, false, cond, List, [], ◌∷◌, length, take, Option, Some, None, slice_get, if◌then◌else◌, refl, sym, ap, ◌∙◌, subst, arith}
 use Rattle.std.specs.Option.{unwrap_or}
+use Rattle.y86_base.proofs.Booleans.{clash}
 use Rattle.hcl_types.specs.declared.term.Term.{Term}
 use Rattle.hcl_types.specs.declared.table.Class.{Class}
 use Rattle.hcl_types.specs.declared.table.Role.{Role}
@@ -69,9 +70,6 @@ given_inputs (Constant k) e = refl
 given_inputs State e = refl
 given_inputs (Hardware ids) e = cc
 given_inputs Defined e = cc
-
-clash : {P : Type 0} (b : Bool) → b ≡ true → b ≡ false → P
-clash b t f = grind (arith, t, f)
 
 -- only a defined row has what its term tells
 role_same : (field : ℕ → ℕ) (n : ℕ) (class : Class) (role : Role) (x y : Leaf) → (is_defined role ≡ true → x ≡ y) → role_leaf field n class role x ≡ role_leaf field n class role y

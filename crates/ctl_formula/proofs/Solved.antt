@@ -102,9 +102,6 @@ module _ (f : ℕ → ℕ) where
   pub worth_value : (cv : ℕ → Leaf) (t : Term) → Each (λ m. worth f (cv m) ≡ f m) (names t) → worth f (value (picks (real f)) cv t) ≡ value words f t
   worth_value cv t h = related (picks (real f)) words (λ x n. worth f x ≡ n) alike cv f t h
 
-clash : {P : Type 0} (b : Bool) → b ≡ true → b ≡ false → P
-clash b t f = grind (arith, t, f)
-
 pub agreement : Agreement
 agreement rows terms ids field f cv o controls defined given = along (needs rows terms) (known rows) (λ n. worth f (cv n) ≡ f n) at_known at_unknown ids o
   where

@@ -8,7 +8,6 @@ use Rattle.ctl_atoms.specs.Leaves.{leaf_eq}
 use Rattle.ctl_formula.specs.Chosen.{at, taken}
 use Rattle.ctl_formula.specs.Picks.{Within}
 use Rattle.ctl_formula.specs.Readies.{leaves_of}
-use Rattle.nets.proofs.Truths.{truth_kept}
 use Rattle.ctl_formula.proofs.Chosen.{taken_kept}
 use Rattle.ctl_formula.proofs.Steps.{none, or_same, and_same}
 
@@ -44,7 +43,7 @@ module _ {a b : Gates} (keeps : Begins a b) (w : List Bool) where
       ∙ (grown (leaf_eq leaf y) (truth a p.gate w) (taken (at a w) ps y) m
       ∙ ap (λ (x : Leaf). ((leaf_eq x y && truth a p.gate w) || taken (at a w) ps y) || (leaf_eq leaf y && m)) (sym l))
   taken_set (p ∷ ps) (suc k) g leaf m i h l e y =
-      or_same _ _ _ _ (and_same _ _ _ _ refl (truth_kept keeps p.gate w i.0)) (taken_set ps k g leaf m i.1 (omega arith) l e y)
+      or_same _ _ _ _ (and_same _ _ _ _ refl (keeps.same p.gate w i.0)) (taken_set ps k g leaf m i.1 (omega arith) l e y)
       ∙ assoc (leaf_eq p.leaf y && truth a p.gate w) (taken (at a w) ps y) (leaf_eq leaf y && m)
 
 pub leaves_set : (ps : List Pick) (k g : ℕ) (leaf : Leaf) → k < length ps → (get_or ps k none).leaf ≡ leaf → leaves_of (set ps k (record { leaf = leaf; gate = g })) ≡ leaves_of ps

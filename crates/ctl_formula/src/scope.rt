@@ -1,5 +1,5 @@
 //! What a translation reads, and the gates of atoms and comparisons.
-ghost use Rattle.std.specs.Prelude.{◌≡◌, ◌<◌, ◌≤◌, ◌+◌, ◌^◌, length, List, Bool, IfOk, IsTrue, MatchOption, slice_get, Some, false};
+ghost use Rattle.std.specs.Prelude.{◌≡◌, ◌<◌, ◌≤◌, ◌+◌, ◌^◌, length, List, Bool, IfOk, IsTrue};
 ghost use Rattle.nets.specs.Nets.{Begins, truth};
 ghost use Rattle.ctl_atoms.specs.Leaves.{has_atom, AtomsAre, Assignment, asked_lt, asked_eq, asked, is_listed, decided_lt, leaf_lt, leaf_same, leaf_cmp};
 ghost use Rattle.ctl_atoms.specs.declared.leaf.Leaf.{Leaf};
@@ -9,7 +9,7 @@ ghost use Rattle.ctl_formula.specs.Readies.{leaves_listed, leaves_of};
 ghost use Rattle.hcl_types.specs.Lists.{each};
 
 use crate::controls::{Entry, Pick};
-use ctl_atoms::{Atom, Leaf, ask, same_atom, same_leaf};
+use ctl_atoms::{Atom, Leaf, ask, position, same_leaf};
 use hcl_types::{CmpOp, is_below};
 use nets::NetBuilder;
 use y86_base::Memory;
@@ -20,19 +20,6 @@ pub struct Scope<'a> {
     pub entries: &'a [Entry],
     pub atoms: &'a [Atom],
     pub first: u32,
-}
-
-/// The place of an atom in the list.
-#[tactic(auto, using(ctl_atoms::proofs::Same::atom_eq_true))]
-pub fn position(atoms: &[Atom], atom: Atom) -> Option<usize>
-    ensures { MatchOption result (has_atom atoms.now atom ≡ false) (λ k. slice_get atoms.now k ≡ Some atom) }
-{
-    for (i, a) in atoms.iter().enumerate() {
-        if same_atom(*a, atom) {
-            return Some(i);
-        }
-    }
-    None
 }
 
 /// Whether `x < y`, where that is known at once.

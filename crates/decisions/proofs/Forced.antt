@@ -2,9 +2,9 @@
 use Rattle.std.proofs.Common.{◌≡◌, ℕ, ◌<◌, Bool, true, false, List, length, get_or, refl, sym, ap, ◌∙◌, subst, arith}
 use Rattle.std.proofs.lemmas.Bool.{false≢true}
 use Rattle.nets.specs.Nets.{Gates, truth}
-use Rattle.net_substitution.specs.Forcing.{IsForced, Settle}
-use Rattle.net_substitution.specs.Substitution.{AreCopies, behind}
-use Rattle.net_substitution.specs.declared.copies.Source.{Source}
+use Rattle.nets.specs.Forcing.{IsForced, Settle}
+use Rattle.nets.specs.Substitution.{AreCopies, behind}
+use Rattle.nets.specs.declared.copies.Source.{Source}
 use Rattle.decisions.specs.Decisions.{AreGatesOf, IsAlwaysTrue}
 use Rattle.decisions.specs.Splitting.{AreChosen, StandFor}
 use Rattle.decisions.specs.declared.cuts.Part.{Part}

@@ -5,10 +5,10 @@ use Rattle.nets.specs.Nets.{Gates, truth}
 use Rattle.bdd_core.specs.Diagrams.{Diagrams}
 use Rattle.bdd_core.specs.Meaning.{Agree, Always, IsBuilt, IsLeastFalse, truth_of}
 use Rattle.bdd_core.specs.declared.store.Dia.{Dia}
-use Rattle.net_substitution.specs.Forcing.{IsForced, Settle}
-use Rattle.net_substitution.specs.Substitution.{AreSources, behind, source_truth}
-use Rattle.net_substitution.specs.declared.copies.Source.{Source}
-use Rattle.net_substitution.specs.declared.copies.Source.TheVariants.{Const, Var}
+use Rattle.nets.specs.Forcing.{IsForced}
+use Rattle.nets.specs.Substitution.{AreSources, behind, source_truth}
+use Rattle.nets.specs.declared.copies.Source.{Source}
+use Rattle.nets.specs.declared.copies.Source.TheVariants.{Const, Var}
 use Rattle.decisions.specs.Decisions.{IsAlwaysTrue, IsLeastOf}
 use Rattle.decisions.specs.Splitting.{AreForcedBits, AreOwn, own}
 use Rattle.decisions.proofs.Forced.{behind_settled}

@@ -1,11 +1,11 @@
 -- What stands in the places of the variables in the copy for a part: what the copy tells of the part, and where the least valuation is.
-use Rattle.std.proofs.Common.{◌≡◌, ◌⊎◌, ℕ, zero, suc, ◌^◌, ◌<◌, ◌≤◌, inl, inr, Bool, true, false, List, [], ◌∷◌, length, get_or, refl, sym, ap, ◌∙◌, subst, arith}
+use Rattle.std.proofs.Common.{◌≡◌, ◌⊎◌, ℕ, zero, suc, ◌^◌, ◌<◌, ◌≤◌, inl, inr, Bool, false, List, [], ◌∷◌, length, get_or, refl, sym, ap, ◌∙◌, subst, arith}
 use Rattle.std.proofs.lemmas.Bool.{cases_lt, lt-ltb, le-ltb}
 use Rattle.nets.specs.Nets.{Gates, truth}
 use Rattle.field_bits.specs.Spelling.{spell, spelt}
-use Rattle.net_substitution.specs.Substitution.{AreCopies, AreSources, behind, source_truth}
-use Rattle.net_substitution.specs.declared.copies.Source.{Source}
-use Rattle.net_substitution.specs.declared.copies.Source.TheVariants.{Const, Var}
+use Rattle.nets.specs.Substitution.{AreCopies, AreSources, behind, source_truth}
+use Rattle.nets.specs.declared.copies.Source.{Source}
+use Rattle.nets.specs.declared.copies.Source.TheVariants.{Const, Var}
 use Rattle.decisions.specs.Decisions.{AreGatesOf, IsAlwaysTrue, IsLeastOf}
 use Rattle.decisions.specs.Splitting.{AreChosen, AreSourcesIn, IsLeastIn, IsTrueWhere, StandFor, source_in}
 use Rattle.decisions.proofs.Bits.{bit_of_part, in_part}

@@ -13,10 +13,9 @@ pub record IsDecided (n : Gates) (gate : ℕ) (b : Bool) : Type 0 where
   pub yes : b ≡ true → IsAlwaysTrue n gate
   pub no : b ≡ false → (w : List Bool) × (length w ≡ n.vars) × (truth n gate w ≡ false)
 
--- the same of each of so many first gates
-pub record AreDecided (n : Gates) (gates : List ℕ) (count : ℕ) (truths : List Bool) : Type 0 where
-  pub size : length truths ≡ count
-  pub each : (k : ℕ) → k < count → IsDecided n (get_or gates k 0) (get_or truths k false)
+-- each truth tells it of the gate at its place
+pub record AreDecided (n : Gates) (gates : List ℕ) (truths : List Bool) : Type 0 where
+  pub each : (k : ℕ) → k < length truths → IsDecided n (get_or gates k 0) (get_or truths k false)
 
 -- w is the least of the lists of so many bits of which F holds: where another differs from it first, that one has 1 and w has 0
 pub record IsLeastOf (vars : ℕ) (F : List Bool → Type 0) (w : List Bool) : Type 0 where

@@ -2,10 +2,10 @@
 use Rattle.std.specs.Prelude.{◌≡◌, ℕ, ◌<◌, ◌≤◌, ◌^◌, nat_lt, Bool, true, false, List, length, get_or, if◌then◌else◌}
 use Rattle.nets.specs.Nets.{Gates, truth}
 use Rattle.field_bits.specs.Spelling.{spell, spelt}
-use Rattle.net_substitution.specs.Forcing.{Settle}
-use Rattle.net_substitution.specs.declared.copies.Source.{Source}
-use Rattle.net_substitution.specs.declared.copies.Source.TheVariants.{Const, Var}
-use Rattle.decisions.specs.Decisions.{AreGatesOf, IsAlwaysTrue, IsLeastOf}
+use Rattle.nets.specs.Forcing.{Settle}
+use Rattle.nets.specs.declared.copies.Source.{Source}
+use Rattle.nets.specs.declared.copies.Source.TheVariants.{Const, Var}
+use Rattle.decisions.specs.Decisions.{IsAlwaysTrue, IsLeastOf}
 use Rattle.decisions.specs.declared.cuts.Part.{Part}
 use Rattle.decisions.specs.declared.pass.Pass.{Pass}
 use Rattle.decisions.specs.declared.pass.Pass.TheVariants as pass
@@ -25,14 +25,6 @@ IsPass n gates pass.True = AreTrueTo n gates (length gates)
 IsPass n gates (pass.False m) = (m < length gates) × AreTrueTo n gates m × (w : List Bool) × IsFalseAt n (get_or gates m 0) w
 IsPass n gates (pass.Stopped m) = (m ≤ length gates) × AreTrueTo n gates m
 
--- Gates of a copy stand for those of a net: each is true of every valuation only where the other is, and false of one only where the
--- other is false of one.
-pub record Mirrors (n : Gates) (gates : List ℕ) (c : Part) : Type 0 where
-  pub size : length c.gates ≡ length gates
-  pub inside : AreGatesOf c.net c.gates
-  pub yes : (j : ℕ) → j < length gates → IsAlwaysTrue c.net (get_or c.gates j 0) → IsAlwaysTrue n (get_or gates j 0)
-  pub no : (j : ℕ) → j < length gates → (u : List Bool) → IsFalseAt c.net (get_or c.gates j 0) u → (w : List Bool) × IsFalseAt n (get_or gates j 0) w
-
 -- a gate is true of each valuation in a part
 abbrev pub IsTrueWhere : Gates → ℕ → ℕ → ℕ → Type 0
 IsTrueWhere n gate k p = (w : List Bool) → length w ≡ n.vars → spelt w 0 k ≡ p → truth n gate w ≡ true
@@ -49,7 +41,7 @@ pub record AreChosen (made gates : List ℕ) (count : ℕ) (chosen : List ℕ) :
   pub each : (j : ℕ) → j < count → get_or chosen j 0 ≡ get_or made (get_or gates j 0) 0
 
 -- Gates of a copy stand for so many first gates of a net in a part: each is true of every valuation only where the other is true in the
--- part, and false of one only where the other is false in it.
+-- part, and false of one only where the other is false in it. Part 0 by no bits is all valuations.
 pub record StandFor (n : Gates) (gates : List ℕ) (count k p : ℕ) (c : Part) : Type 0 where
   pub size : length c.gates ≡ count
   pub inside : (j : ℕ) → j < count → get_or c.gates j 0 < length c.net.gates

@@ -5,8 +5,7 @@ ghost use Rattle.field_bits.specs.Spelling.{spell};
 ghost use Rattle.decisions.specs.Decisions.{AreGatesOf};
 ghost use Rattle.decisions.specs.Splitting.{AreChosen, AreSourcesIn, StandFor};
 
-use net_substitution::{Source, forced, substitute};
-use nets::Net;
+use nets::{Net, Source, forced, substitute};
 use std::alloc::Global;
 use y86_base::{Items, Memory};
 

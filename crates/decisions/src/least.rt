@@ -1,14 +1,13 @@
 //! The least valuation of a part of which a gate is false.
 ghost use Rattle.std.specs.Prelude.{◌≡◌, ◌<◌, ◌≤◌, ◌^◌, IfOk, MatchOption, false, length};
 ghost use Rattle.nets.specs.Nets.{truth};
-ghost use Rattle.net_substitution.specs.Substitution.{behind, source_truth};
+ghost use Rattle.nets.specs.Substitution.{behind, source_truth};
 ghost use Rattle.decisions.specs.Decisions.{IsAlwaysTrue, IsLeastOf};
 ghost use Rattle.decisions.specs.Splitting.{AreForcedBits, IsLeastIn, IsTrueWhere, own};
 
 use crate::cuts::sources_in;
 use bdd_core::Store;
-use net_substitution::{Source, forced, substitute};
-use nets::{Net, Valuation};
+use nets::{Net, Source, Valuation, forced, substitute};
 use std::alloc::Global;
 use y86_base::{Items, Memory};
 

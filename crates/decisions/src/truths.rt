@@ -2,7 +2,7 @@
 ghost use Rattle.std.specs.Prelude.{◌≡◌, ◌<◌, IfOk, get_or, length};
 ghost use Rattle.bdd_core.specs.Building.{AreKnown};
 ghost use Rattle.decisions.specs.Decisions.{AreDecided, AreGatesOf, IsDecided};
-ghost use Rattle.decisions.specs.Splitting.{Mirrors};
+ghost use Rattle.decisions.specs.Splitting.{StandFor};
 
 use crate::cuts::Part;
 use crate::decision::{NODES, Orders, decide_in_parts};
@@ -44,7 +44,7 @@ fn truth_at(
 ) -> Result<bool, Memory>
     requires gates { AreGatesOf net.now gates.now }
     requires place { k < length gates.now }
-    requires mirrors { Mirrors net.now gates.now copy.now }
+    requires stands { StandFor net.now gates.now (length gates.now) 0 0 copy.now }
     requires vars { store.old.vars ≡ copy.now.net.vars }
     requires known { AreKnown store.old copy.now.net built.old }
     ensures vars { store.new.vars ≡ store.old.vars }
@@ -68,7 +68,8 @@ pub fn each_true(
     orders: Orders,
 ) -> Result<Vec<bool>, Memory>
     requires gates { AreGatesOf net.now gates.now }
-    ensures { IfOk result (λ truths. AreDecided net.now gates.now (length gates.now) truths.items) }
+    ensures size { IfOk result (λ truths. length truths.items ≡ length gates.now) }
+    ensures decided { IfOk result (λ truths. AreDecided net.now gates.now truths.items) }
 {
     let copy = reordered(alloc, net, gates, orders.whole)?;
     let mut store = Store::bounded(alloc, copy.net.vars(), STEPS, NODES);

@@ -1,7 +1,6 @@
 -- The number of a field, bit by bit.
 use Rattle.std.proofs.Common.{◌≡◌, ℕ, suc, ◌+◌, ◌-◌, ◌*◌, ◌/◌, ◌%◌, ◌<◌, Bool, true, false, ◌&&◌, ◌||◌, ◌==◌, nat_lt, nat_le, List, get_or, refl, ◌∙◌, arith}
 use Rattle.nets.specs.Nets.{Gates, Begins, IsGate, agree, truth}
-use Rattle.nets.proofs.Truths.{truth_kept}
 use Rattle.std.proofs.lemmas.Bool.Decides.{nat_tests}
 use Rattle.field_bits.specs.Spelling.{spelt, bit}
 
@@ -53,7 +52,7 @@ gate_as {n} {g} {f} {h} made e = record { within = made.within; is = λ w. made.
 -- two gates that were made one after the other, joined
 pub joined : {first second last : Gates} {x y g : ℕ} {p q : List Bool → Bool} → IsGate first x p → Begins first second → IsGate second y q
     → IsGate last g (λ w. truth second x w && truth second y w) → IsGate last g (λ w. p w && q w)
-joined {first} {second} {last} {x} {y} {g} {p} {q} a b c made = gate_as made (λ w. joined_and _ _ _ _ _ (truth_kept b x w a.within) (a.is w) (c.is w))
+joined {first} {second} {last} {x} {y} {g} {p} {q} a b c made = gate_as made (λ w. joined_and _ _ _ _ _ (b.same x w a.within) (a.is w) (c.is w))
 
 pub spells_zero : (w : List Bool) (first bits n : ℕ) → bits ≡ 0 → (n == 0) ≡ (spelt w first bits == n)
 spells_zero w first bits n e = zero_is (spelt w first bits) n (spelt_zero w first bits e)

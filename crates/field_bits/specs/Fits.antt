@@ -5,7 +5,7 @@ use Rattle.y86_isa.specs.declared.columns.Field.{Field}
 use Rattle.y86_isa.specs.declared.columns.Field.TheVariants.{Dash, FieldA, FieldB, Stack}
 use Rattle.y86_isa.specs.RowTests.{is_field_b}
 use Rattle.y86_isa.specs.Table.{ihalt, inop, iinvalid, no_register, stack_pointer}
-use Rattle.field_bits.specs.Spelling.{set}
+use Rattle.y86_base.specs.Words.{set}
 
 -- the icode of a reading: one that has a row, or that of an invalid instruction
 abbrev pub icode_fits : ℕ → ℕ → Bool

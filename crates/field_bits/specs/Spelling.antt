@@ -1,13 +1,9 @@
 -- The number that bits spell, and the bits of a number; the most significant bit stands first.
-use Rattle.std.specs.Prelude.{ℕ, zero, suc, ◌+◌, ◌*◌, ◌/◌, ◌%◌, Bool, true, false, not, ◌==◌, List, [], ◌∷◌, ◌++◌, get_or}
+use Rattle.std.specs.Prelude.{ℕ, zero, suc, ◌+◌, ◌*◌, ◌/◌, ◌%◌, Bool, true, false, ◌==◌, List, [], ◌∷◌, ◌++◌, get_or}
 
 abbrev pub bit : Bool → ℕ
 bit true = 1
 bit false = 0
-
--- a field of one bit that is 1
-abbrev pub set : ℕ → Bool
-set n = not (n == 0)
 
 -- the number that so many bits spell, from the first one on
 unfoldable pub spelt : List Bool → ℕ → ℕ → ℕ

@@ -11,7 +11,7 @@ use y86_base::Memory;
 use y86_isa::{Field, Row, is_field_b};
 
 /// The field is at most the number.
-#[tactic(auto, using(nets::proofs::Truths::truth_kept, nets::proofs::Truths::begins_more, crate::proofs::Fields::most_step))]
+#[tactic(auto, using(nets::proofs::Truths::begins_more, crate::proofs::Fields::most_step))]
 pub fn at_most(b: &mut NetBuilder, p: Place, most: u64) -> Result<u64, Memory>
     requires place { p.first + p.bits ≤ b.old.vars }
     requires most { most < 16 }
@@ -23,7 +23,7 @@ pub fn at_most(b: &mut NetBuilder, p: Place, most: u64) -> Result<u64, Memory>
 }
 
 /// The field is the number, and a test holds.
-fn spells_if(b: &mut NetBuilder, holds: bool, p: Place, n: u64) -> Result<u64, Memory>
+pub fn spells_if(b: &mut NetBuilder, holds: bool, p: Place, n: u64) -> Result<u64, Memory>
     requires { p.first + p.bits ≤ b.old.vars }
     ensures begins { Begins b.old b.new }
     ensures made { IfOk result (λ g. IsGate b.new g (λ w. (spelt w p.first p.bits == n) && holds)) }

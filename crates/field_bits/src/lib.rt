@@ -1,6 +1,6 @@
 //! Fields of a control valuation as numbers that Boolean variables spell, as tables and as gates; and which numbers
 //! the fields of an instruction can have, by the columns of the instruction table.
-#![tactic(auto, using(nets::proofs::Truths::truth_kept, nets::proofs::Truths::begins_more))]
+#![tactic(auto, using(nets::proofs::Truths::begins_more))]
 
 mod fits;
 mod gates;
@@ -9,9 +9,8 @@ mod spots;
 
 pub use fits::{
     at_most, cnd_fits, cnd_where, code_fits, destination_fits, half_fits, only_where, reading_fits,
-    register_fits, stat_fits, tied,
+    register_fits, spells_if, stat_fits, tied,
 };
 pub use gates::{below, bit_is, here, same, spells};
 pub use laws::{law_of_patterns, law_of_places};
-pub use nets::{choose, implies, without};
 pub use spots::{Place, Spot, place_in};

@@ -12,7 +12,6 @@ use Rattle.ctl_formula.specs.Places.{HavePlaces, Spells}
 use Rattle.pipe_fields.specs.Layout.{Fields, bit_count, fields_of, number_of}
 use Rattle.y86_base.specs.declared.parts.Variant.{Variant}
 use Rattle.nets.specs.Nets.{Gates, Begins}
-use Rattle.nets.proofs.Truths.{truth_kept}
 use Rattle.ctl_formula.proofs.Inside.{inside_more, tells_more}
 use Rattle.pipe_motion.specs.declared.settings.Settings.{Settings}
 use Rattle.rule_gates.specs.declared.rules.Rule.{Rule}
@@ -128,7 +127,7 @@ rm_freed v s atoms c α cv = refl
 pub formula_more : {old new : Gates} {terms : List Term} {atoms : List Atom} {g : ℕ} {f : Truth} → Begins old new → IsFormula terms atoms old g f → IsFormula terms atoms new g f
 formula_more {old} k h = record {
   within = (let l = h.within in let m = k.more in omega (arith, l, m));
-  is = λ w α cv l c. truth_kept k _ w h.within ∙ h.is w α cv l c;
+  is = λ w α cv l c. k.same _ w h.within ∙ h.is w α cv l c;
 }
 
 -- the gates of a design's names stay theirs as the net grows

@@ -1,46 +1,27 @@
 -- Lists of rules, one more at a time; what a gate tells stays told.
-use Rattle.std.proofs.Common.{◌≡◌, ℕ, ◌+◌, ◌<◌, ◌⊎◌, inl, inr, Bool, true, false, not, ◌||◌, if◌then◌else◌, List, [], ◌∷◌, ◌++◌, length, get_or, slice_get, slice_set, Some, refl, sym, ap, subst, ◌∙◌, arith}
-use Rattle.std.proofs.lemmas.List.{get_or_append_left, get_or_push, get_or-set_same, get_or-set_other, length_push}
-use Rattle.std.proofs.lemmas.Option.{slice_get_within, slice_get-get_or, get_or_from_slice_get}
+use Rattle.std.proofs.Common.{◌≡◌, ℕ, ◌+◌, ◌<◌, ◌⊎◌, inl, inr, Bool, true, false, not, ◌||◌, if◌then◌else◌, List, [], ◌∷◌, ◌++◌, length, get_or, slice_set, refl, sym, ap, subst, ◌∙◌, arith}
+use Rattle.std.proofs.lemmas.List.{get_or-set_same, get_or-set_other}
 use Rattle.y86_base.specs.declared.parts.Variant.{Variant}
-use Rattle.nets.specs.Nets.{Gates}
+use Rattle.nets.specs.Nets.{Gates, Begins}
 use Rattle.ctl_atoms.specs.declared.leaf.Atom.{Atom}
 use Rattle.ctl_formula.specs.declared.controls.Entry.{Entry}
 use Rattle.ctl_formula.specs.Picks.{IsInside}
 use Rattle.pipe_motion.specs.declared.settings.Settings.{Settings}
-use Rattle.pipe_motion.specs.Grows.{Grows}
 use Rattle.rule_gates.specs.declared.rules.Rule.{Rule}
 use Rattle.rule_gates.proofs.Kept.{tells_less}
+use Rattle.rule_gates.proofs.Lists.{pushed}
 use Rattle.pipe_obligations.specs.Settled.{Truth, predicts_taken}
 use Rattle.hazard_rules.specs.Parts.{IsToldRule, AreToldRules, TellPredictions}
 use Rattle.pipe_gates.specs.Told.{IsTold}
 
-pub told_more : {old new : Gates} {ctl : List Entry} {atoms : List Atom} {g : ℕ} {f : Truth} → Grows old new → IsInside old ctl → IsTold old ctl atoms g f → IsTold new ctl atoms g f
+pub told_more : {old new : Gates} {ctl : List Entry} {atoms : List Atom} {g : ℕ} {f : Truth} → Begins old new → IsInside old ctl → IsTold old ctl atoms g f → IsTold new ctl atoms g f
 told_more {old} {new} {ctl} {atoms} {g} {f} k i q = record {
   within = let x = k.more in let y = q.within in omega arith;
-  is = λ w α cv h t. k.same g w q.within ∙ q.is w α cv h (tells_less k.begins i t);
+  is = λ w α cv h t. k.same g w q.within ∙ q.is w α cv h (tells_less k i t);
 }
 
-pub rules_more : {old new : Gates} {ctl : List Entry} {atoms : List Atom} (v : Variant) (s : Settings) (list : List Rule) → Grows old new → IsInside old ctl → AreToldRules v s old ctl atoms list → AreToldRules v s new ctl atoms list
+pub rules_more : {old new : Gates} {ctl : List Entry} {atoms : List Atom} (v : Variant) (s : Settings) (list : List Rule) → Begins old new → IsInside old ctl → AreToldRules v s old ctl atoms list → AreToldRules v s new ctl atoms list
 rules_more v s list k i h = λ n x e. record { number = (h n x e).number; told = told_more k i (h n x e).told }
-
--- an element of a list with one more is one of the list, or the one
-pushed : {A : Type 0} (P : ℕ → A → Type 0) (xs : List A) (y : A) → ((k : ℕ) (x : A) → slice_get xs k ≡ Some x → P k x) → P (length xs) y
-    → (k : ℕ) (x : A) → slice_get (xs ++ y ∷ []) k ≡ Some x → P k x
-pushed P xs y h last k x e = by_place (below_or k (length xs) (omega (arith, slice_get_within (xs ++ y ∷ []) k x e, length_push xs y)))
-  where
-    below_or : (k n : ℕ) → k < n + 1 → (k < n) ⊎ (k ≡ n)
-    below_or k n lt = grind arith
-
-    read : get_or (xs ++ y ∷ []) k y ≡ x
-    read = get_or_from_slice_get (xs ++ y ∷ []) k x y e
-
-    by_place : (k < length xs) ⊎ (k ≡ length xs) → P k x
-    by_place (inl lt) = h k x (slice_get-get_or xs k y lt ∙ ap Some (sym (get_or_append_left xs (y ∷ []) y k lt) ∙ read))
-    by_place (inr eq) = subst (λ z. P k z) (sym (get_or_push xs y y k (sym eq)) ∙ read) (subst (λ n. P n y) (sym eq) last)
-
-pub counted : {A : Type 0} (xs ys : List A) (y : A) (n : ℕ) → ys ≡ xs ++ y ∷ [] → length xs ≡ n → length ys ≡ n + 1
-counted xs ys y n e size = ap length e ∙ (length_push xs y ∙ ap (λ k. k + 1) size)
 
 pub rules_pushed : {net : Gates} {ctl : List Entry} {atoms : List Atom} (v : Variant) (s : Settings) (xs ys : List Rule) (y : Rule) (n : ℕ) → ys ≡ xs ++ y ∷ [] → length xs ≡ n → AreToldRules v s net ctl atoms xs
     → IsToldRule v s net ctl atoms n y → AreToldRules v s net ctl atoms ys
@@ -48,7 +29,7 @@ rules_pushed {net} {ctl} {atoms} v s xs ys y n e size h last =
     subst (λ zs. AreToldRules v s net ctl atoms zs) (sym e) (pushed (λ k x. IsToldRule v s net ctl atoms k x) xs y h (subst (λ m. IsToldRule v s net ctl atoms m y) (sym size) last))
 
 -- a gate put at its place in a list, whose earlier gates have grown
-pub prediction_put : {old new : Gates} {ctl : List Entry} {atoms : List Atom} (v : Variant) (back : Bool) (gates : List ℕ) (n g : ℕ) → n < length gates → Grows old new → IsInside old ctl
+pub prediction_put : {old new : Gates} {ctl : List Entry} {atoms : List Atom} (v : Variant) (back : Bool) (gates : List ℕ) (n g : ℕ) → n < length gates → Begins old new → IsInside old ctl
     → TellPredictions v old ctl atoms back gates n → IsTold new ctl atoms g (predicts_taken v atoms n back) → TellPredictions v new ctl atoms back (slice_set gates n g) (n + 1)
 prediction_put {old} {new} {ctl} {atoms} v back gates n g inside k i h last j lt = by_place (below_or j n lt)
   where

@@ -3,7 +3,6 @@ ghost use Rattle.std.specs.Prelude.{◌<◌, ◌≤◌, ◌+◌, length, true, f
 ghost use Rattle.nets.specs.Nets.{Begins};
 ghost use Rattle.ctl_formula.specs.Picks.{Covers, IsInside};
 ghost use Rattle.dp_signals.specs.PipeTable.{pipe_rows};
-ghost use Rattle.pipe_motion.specs.Grows.{Grows};
 ghost use Rattle.hazard_rules.specs.Parts.{TellPredictions};
 ghost use Rattle.pipe_gates.specs.Told.{IsTold};
 ghost use Rattle.pipe_fields.specs.Layout.{bit_count, fields_of};
@@ -17,16 +16,15 @@ use ctl_formula::Controls;
 use dp_signals::pipe_row as signal;
 use field_bits::spells;
 use motion_rules::prediction_asked;
-use nets::NetBuilder;
+use nets::{NetBuilder, implies};
 use pipe_fields::allowed;
 use pipe_fields::places::E_KIND;
-use pipe_motion::implies;
 use rule_gates::{Wanted, takes};
 use stage_rules::target_told;
 use y86_base::{Memory, Variant};
 
 /// Jumps of this ifun that go back or not are predicted as taken: where one is fetched, f_predPC is f_valC.
-#[tactic(auto, using(pipe_motion::proofs::Growing::grown, pipe_motion::proofs::Growing::grows_more, ctl_formula::proofs::Inside::inside_more, pipe_gates::proofs::Known::known_f_predPC))]
+#[tactic(auto, using(nets::proofs::Truths::begins_more, ctl_formula::proofs::Inside::inside_more, pipe_gates::proofs::Known::known_f_predPC))]
 fn predicts(
     b: &mut NetBuilder,
     ctl: &Controls,
@@ -39,8 +37,8 @@ fn predicts(
     requires covers { Covers pipe_rows ctl.now }
     requires vars { bit_count + length atoms.now ≤ b.old.vars }
     requires few { length atoms.now ≤ 64 }
-    ensures told { IfOk result (λ g. IsTold b.new ctl.now atoms.now g (predicts_taken v atoms.now ifun back)) }
-    ensures grows { Grows b.old b.new }
+    ensures begins { Begins b.old b.new }
+    ensures made { IfOk result (λ g. IsTold b.new ctl.now atoms.now g (predicts_taken v atoms.now ifun back)) }
 {
     let taken = takes(
         b,
@@ -65,8 +63,8 @@ pub(crate) fn predictions(
     requires covers { Covers pipe_rows ctl.now }
     requires vars { bit_count + length atoms.now ≤ b.old.vars }
     requires few { length atoms.now ≤ 64 }
-    ensures told { IfOk result (λ gates. TellPredictions v b.new ctl.now atoms.now back gates 7) }
-    ensures grows { Grows b.old b.new }
+    ensures begins { Begins b.old b.new }
+    ensures made { IfOk result (λ gates. TellPredictions v b.new ctl.now atoms.now back gates 7) }
 {
     let mut gates = [0; 7];
     for i in 0..7 {
@@ -81,12 +79,12 @@ fn carries_told(b: &mut NetBuilder, ctl: &Controls, v: Variant) -> Result<u64, M
     requires inside { IsInside b.old ctl.now }
     requires ready { IsReady b.old.vars ctl.now }
     ensures begins { Begins b.old b.new }
-    ensures asked { (s : Settings) → IfOk result (λ g. IsAsked b.new ctl.now g (λ w α cv. carries v s (fields_of w) α cv)) }
+    ensures made { (s : Settings) → IfOk result (λ g. IsAsked b.new ctl.now g (λ w α cv. carries v s (fields_of w) α cv)) }
 {
     let fits = allowed(b, v)?;
     let good = spells(b, E_KIND, 1)?;
     let target = target_told(b, ctl, v, good)?;
-    let g = field_bits::implies(b, fits, target)?;
+    let g = implies(b, fits, target)?;
     Ok(g)
 }
 
@@ -110,10 +108,10 @@ pub(crate) fn closed_told(
     requires covers { Covers pipe_rows ctl.now }
     requires vars { bit_count + length atoms.now ≤ b.old.vars }
     requires few { length atoms.now ≤ 64 }
+    ensures begins { Begins b.old b.new }
     ensures forward { IfOk result (λ r. TellPredictions v b.new ctl.now atoms.now false r.pt 7) }
     ensures backward { IfOk result (λ r. TellPredictions v b.new ctl.now atoms.now true r.pb 7) }
     ensures target { (s : Settings) → IfOk result (λ r. IsTold b.new ctl.now atoms.now r.tv (carries v s)) }
-    ensures grows { Grows b.old b.new }
 {
     let pt = predictions(b, ctl, v, atoms, false)?;
     let pb = predictions(b, ctl, v, atoms, true)?;

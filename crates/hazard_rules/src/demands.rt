@@ -37,7 +37,7 @@ pub(crate) fn demand_gate(
     requires from { 1 ≤ number }
     requires to { number ≤ rule_count }
     ensures begins { Begins b.old b.new }
-    ensures asked { IfOk result (λ g. IsAsked b.new ctl.now g (λ w α cv.
+    ensures made { IfOk result (λ g. IsAsked b.new ctl.now g (λ w α cv.
         demand number v s.now (fields_of w) (view_at b.old w y.now) (movers_of α cv) α cv)) }
 {
     match number {

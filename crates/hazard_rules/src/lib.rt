@@ -13,7 +13,7 @@
 //! | 18 to 22 | `stage_rules` | `memory_18_to_22` | `obligation_18` to `obligation_22` |
 //! | 23, 24, 26, 27 | `motion_rules` | `moves_23_to_27` | `obligation_23`, `obligation_24`, `obligation_26`, `obligation_27` |
 //! | 25 | `motion_rules` | `fetch_25` | `obligation_25` |
-#![tactic(auto, using(pipe_motion::proofs::Growing::grows_more, pipe_motion::proofs::Growing::grows_self))]
+#![tactic(auto, using(nets::proofs::Truths::begins_more, nets::proofs::Truths::begins_self))]
 
 mod closed;
 mod demands;

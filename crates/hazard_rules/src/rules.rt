@@ -1,15 +1,13 @@
 //! The 27 obligations as gates.
-ghost use Rattle.std.specs.Prelude.{◌≡◌, ◌<◌, ◌≤◌, ◌+◌, false, true, if◌then◌else◌, List, Bool, length, IfOk};
-ghost use Rattle.nets.specs.Nets.{truth};
-ghost use Rattle.ctl_atoms.specs.Leaves.{Assignment, AtomsAre};
+ghost use Rattle.std.specs.Prelude.{◌≡◌, ◌≤◌, ◌+◌, false, true, if◌then◌else◌, length, IfOk};
+ghost use Rattle.nets.specs.Nets.{Begins};
 ghost use Rattle.ctl_formula.specs.Picks.{Covers, IsInside};
 ghost use Rattle.dp_signals.specs.PipeTable.{pipe_rows};
 ghost use Rattle.pipe_fields.specs.Layout.{bit_count, fields_of};
-ghost use Rattle.pipe_motion.specs.Grows.{Grows};
-ghost use Rattle.pipe_motion.specs.Gates.{view_at, HasView};
+ghost use Rattle.pipe_motion.specs.Gates.{IsView};
 ghost use Rattle.rule_gates.specs.declared.rules.Rule.{Rule};
 ghost use Rattle.hazard_rules.specs.Parts.{AreToldRules};
-ghost use Rattle.pipe_gates.specs.Told.{IsTold};
+ghost use Rattle.pipe_gates.specs.Told.{IsGateOver, IsTold};
 ghost use Rattle.motion_rules.specs.Legality as built;
 ghost use Rattle.pipe_obligations.specs.Rules as spec;
 ghost use Rattle.pipe_obligations.specs.Stages.{view_of};
@@ -18,9 +16,9 @@ use crate::demands::demand_gate;
 use ctl_atoms::Atom;
 use ctl_formula::Controls;
 use motion_rules::{is_always, premise_gate};
-use nets::NetBuilder;
+use nets::{NetBuilder, implies};
 use pipe_gates::view_gates;
-use pipe_motion::{Settings, ViewGates, implies};
+use pipe_motion::{Settings, ViewGates};
 use pipe_obligations::RULE_COUNT;
 use rule_gates::Rule;
 use std::alloc::Global;
@@ -43,13 +41,10 @@ fn premises_of(
 ) -> Result<Premises, Memory>
     requires vars { bit_count + length atoms.now ≤ b.old.vars }
     requires few { length atoms.now ≤ 64 }
-    ensures view { IfOk result (λ p. HasView (length b.new.gates) p.view) }
-    ensures view_is { (w : List Bool) → IfOk result (λ p. view_at b.new w p.view ≡ view_of v s.now (fields_of w)) }
-    ensures always_in { IfOk result (λ p. p.always < length b.new.gates) }
-    ensures going_in { IfOk result (λ p. p.going < length b.new.gates) }
-    ensures always_is { (w : List Bool) (α : Assignment) → AtomsAre atoms.now bit_count w α → IfOk result (λ p. truth b.new p.always w ≡ built.asked_when v s.now atoms.now true (fields_of w) α) }
-    ensures going_is { (w : List Bool) (α : Assignment) → AtomsAre atoms.now bit_count w α → IfOk result (λ p. truth b.new p.going w ≡ built.asked_when v s.now atoms.now false (fields_of w) α) }
-    ensures grows { Grows b.old b.new }
+    ensures begins { Begins b.old b.new }
+    ensures view { IfOk result (λ p. IsView b.new p.view (λ w. view_of v s.now (fields_of w))) }
+    ensures always { IfOk result (λ p. IsGateOver b.new atoms.now p.always (λ w α. built.asked_when v s.now atoms.now true (fields_of w) α)) }
+    ensures going { IfOk result (λ p. IsGateOver b.new atoms.now p.going (λ w α. built.asked_when v s.now atoms.now false (fields_of w) α)) }
 {
     let view = view_gates(b, v, s)?;
     let always = premise_gate(b, v, s, atoms, &view, true)?;
@@ -83,16 +78,13 @@ fn rule_gate(
     requires inside { IsInside b.old ctl.now }
     requires covers { Covers pipe_rows ctl.now }
     requires vars { bit_count + length atoms.now ≤ b.old.vars }
-    requires view { HasView (length b.old.gates) y.now }
-    requires view_is { (w : List Bool) → view_at b.old w y.now ≡ view_of v s.now (fields_of w) }
-    requires always_in { always < length b.old.gates }
-    requires going_in { going < length b.old.gates }
-    requires always_is { (w : List Bool) (α : Assignment) → AtomsAre atoms.now bit_count w α → truth b.old always w ≡ built.asked_when v s.now atoms.now true (fields_of w) α }
-    requires going_is { (w : List Bool) (α : Assignment) → AtomsAre atoms.now bit_count w α → truth b.old going w ≡ built.asked_when v s.now atoms.now false (fields_of w) α }
+    requires view { IsView b.old y.now (λ w. view_of v s.now (fields_of w)) }
+    requires always_asked { IsGateOver b.old atoms.now always (λ w α. built.asked_when v s.now atoms.now true (fields_of w) α) }
+    requires going_asked { IsGateOver b.old atoms.now going (λ w α. built.asked_when v s.now atoms.now false (fields_of w) α) }
     requires from { 1 ≤ number }
     requires to { number ≤ spec.rule_count }
-    ensures told { IfOk result (λ g. IsTold b.new ctl.now atoms.now g (spec.obligation v s.now atoms.now number)) }
-    ensures grows { Grows b.old b.new }
+    ensures begins { Begins b.old b.new }
+    ensures made { IfOk result (λ g. IsTold b.new ctl.now atoms.now g (spec.obligation v s.now atoms.now number)) }
 {
     let demand = demand_gate(b, ctl, v, s, y, number)?;
     let premise = one_of(is_always(number as u64), always, going);
@@ -113,9 +105,9 @@ pub(crate) fn rules_told(
     requires covers { Covers pipe_rows ctl.now }
     requires vars { bit_count + length atoms.now ≤ b.old.vars }
     requires few { length atoms.now ≤ 64 }
+    ensures begins { Begins b.old b.new }
     ensures count { IfOk result (λ list. length list.items ≡ spec.rule_count) }
     ensures rules { IfOk result (λ list. AreToldRules v s.now b.new ctl.now atoms.now list.items) }
-    ensures grows { Grows b.old b.new }
 {
     let p = premises_of(b, v, s, atoms)?;
     let mut list = Vec::new(alloc);

@@ -105,6 +105,7 @@ pub fn pipe_rules(alloc: Global, p: Parts, s: Settings) -> Result<Rules, Memory>
     ensures rules { (terms : List Term) → BelongTo terms p → IfOk result (λ r. AreRules p.variant terms s r.net r.list) }
     ensures begins { IfOk result (λ r. Begins p.net r.net) }
     ensures variant { IfOk result (λ r. r.variant ≡ p.variant) }
+    ensures atoms { IfOk result (λ r. r.atoms ≡ p.atoms.items) }
 {
     let variant = p.variant;
     let ctl = p.ctl;
@@ -115,5 +116,6 @@ pub fn pipe_rules(alloc: Global, p: Parts, s: Settings) -> Result<Rules, Memory>
         variant,
         net: b.finish(),
         list: Items::of(list),
+        atoms: Items::of(atoms),
     })
 }

@@ -1,5 +1,5 @@
 -- Valuations of a seed from an index on are those of a later seed.
-use Rattle.std.proofs.Common.{◌≡◌, ℕ, ◌+◌, ◌%◌, ◌^◌, ◌∙◌, ap, arith}
+use Rattle.std.proofs.Common.{◌≡◌, ℕ, ◌+◌, ◌%◌, ◌^◌, ap, arith}
 use Rattle.y86_base.specs.declared.parts.Variant.{Variant}
 use Rattle.prog_gen.specs.Choices.{valuation, valuation_from}
 

@@ -1,5 +1,5 @@
 -- One more gate in each place.
-use Rattle.std.proofs.Common.{◌≡◌, ℕ, ◌+◌, ◌<◌, ◌≤◌, Bool, false, List, [], ◌∷◌, ◌++◌, map, length, take, drop, set, get_or, slice_get, Some, refl, sym, ap, ◌∙◌, arith}
+use Rattle.std.proofs.Common.{◌≡◌, ℕ, ◌+◌, ◌<◌, Bool, false, List, [], ◌∷◌, ◌++◌, map, length, take, drop, set, get_or, slice_get, Some, sym, ap, ◌∙◌, arith}
 use Rattle.std.proofs.lemmas.List.{take_more_set, map-append, get_or-map, take_all, take-append-le}
 use Rattle.nets.specs.Nets.{Gates, values, truth, truths, gate_value}
 use Rattle.nets.specs.declared.net.Gate.{Gate}

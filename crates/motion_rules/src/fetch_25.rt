@@ -1,20 +1,21 @@
 //! Obligation 25: what is fetched, whether that is the next instruction, and the next cycle's view.
-ghost use Rattle.std.specs.Prelude.{◌≡◌, ◌<◌, ◌≤◌, ◌&&◌, ◌||◌, Bool, false, get_or, if◌then◌else◌, IfOk, IsTrue, length, List, not, ℕ};
+#![tactic(auto, using(nets::proofs::Truths::begins_more, ctl_formula::proofs::Inside::inside_more, pipe_motion::proofs::Kept::view_in, pipe_gates::proofs::Known::known_f_pc, pipe_gates::proofs::Known::known_f_stat, pipe_gates::proofs::Known::known_f_icode, pipe_gates::proofs::Known::known_f_ifun))]
+
+ghost use Rattle.std.specs.Prelude.{◌<◌, ◌≤◌, ◌&&◌, ◌||◌, false, get_or, if◌then◌else◌, IfOk, IsTrue, length};
 ghost use Rattle.nets.specs.Nets.{Begins, truth};
-ghost use Rattle.ctl_atoms.specs.declared.leaf.Leaf.{Leaf};
 ghost use Rattle.ctl_atoms.specs.declared.leaf.Leaf.TheVariants.{Name};
-ghost use Rattle.ctl_atoms.specs.Leaves.{Assignment};
-ghost use Rattle.ctl_formula.specs.Picks.{Covers, IsInside, Tells, has_picks};
-ghost use Rattle.field_bits.specs.Spelling.{set};
+ghost use Rattle.ctl_formula.specs.Picks.{Covers, IsInside, has_picks};
+ghost use Rattle.y86_base.specs.Words.{set};
 ghost use Rattle.dp_signals.specs.PipeNames as names;
 ghost use Rattle.dp_signals.specs.PipeTable.{pipe_rows};
 ghost use Rattle.rule_gates.specs.Asked.{IsAsked};
 ghost use Rattle.rule_gates.specs.Words as words;
 ghost use Rattle.pipe_fields.specs.Layout.{bit_count, fields_of};
-ghost use Rattle.pipe_motion.specs.Gates.{HasSlot, HasView, slot_at, view_at};
+ghost use Rattle.pipe_motion.specs.Gates.{HasView, view_at};
 ghost use Rattle.pipe_motion.specs.Predictions.{predicts};
 ghost use Rattle.pipe_motion.specs.Slots.{path};
 ghost use Rattle.pipe_gates.specs.Columns.{has};
+ghost use Rattle.pipe_gates.specs.Told.{IsAskedSlot};
 ghost use Rattle.pipe_obligations.specs.Obligations as spec;
 ghost use Rattle.pipe_obligations.specs.Stages as stages;
 
@@ -44,7 +45,7 @@ fn code_if(
     requires inside { IsInside b.old ctl.now }
     requires known { IsTrue (has_picks ctl.now name) }
     ensures begins { Begins b.old b.new }
-    ensures asked { IfOk result (λ g. IsAsked b.new ctl.now g (λ w α cv. words.is_number cv name code && counts)) }
+    ensures made { IfOk result (λ g. IsAsked b.new ctl.now g (λ w α cv. words.is_number cv name code && counts)) }
 {
     let here = takes(b, ctl, name, Wanted::This(Leaf::Number(code)))?;
     let count = b.constant(counts)?;
@@ -63,7 +64,7 @@ fn code_listed(
     requires known { IsTrue (has_picks ctl.now name) }
     requires few { length list.now ≤ 15 }
     ensures begins { Begins b.old b.new }
-    ensures asked { IfOk result (λ g. IsAsked b.new ctl.now g (λ w α cv. get_or list.now (spec.code_of (cv name)) false)) }
+    ensures made { IfOk result (λ g. IsAsked b.new ctl.now g (λ w α cv. get_or list.now (spec.code_of (cv name)) false)) }
 {
     let mut any = b.constant(false)?;
     for k in 0..list.len() {
@@ -84,7 +85,7 @@ fn code_has(
     requires inside { IsInside b.old ctl.now }
     requires known { IsTrue (has_picks ctl.now name) }
     ensures begins { Begins b.old b.new }
-    ensures asked { IfOk result (λ g. IsAsked b.new ctl.now g (λ w α cv. has v test (spec.code_of (cv name)))) }
+    ensures made { IfOk result (λ g. IsAsked b.new ctl.now g (λ w α cv. has v test (spec.code_of (cv name)))) }
 {
     let mut any = b.constant(false)?;
     for k in 0..15 {
@@ -100,7 +101,7 @@ fn fetched_stops(b: &mut NetBuilder, ctl: &Controls) -> Result<u64, Memory>
     requires known { IsTrue (has_picks ctl.now names.f_stat) }
     requires vars { bit_count ≤ b.old.vars }
     ensures begins { Begins b.old b.new }
-    ensures asked { IfOk result (λ g. IsAsked b.new ctl.now g (λ w α cv. stages.stops_by (spec.code_of (cv names.f_stat)) (fields_of w).f.stops)) }
+    ensures made { IfOk result (λ g. IsAsked b.new ctl.now g (λ w α cv. stages.stops_by (spec.code_of (cv names.f_stat)) (fields_of w).f.stops)) }
 {
     let running = takes(b, ctl, signal::F_STAT, Wanted::This(Leaf::Number(1)))?;
     let clear = spells(b, F_STOPS, 0)?;
@@ -115,7 +116,7 @@ fn fetched_jumps(b: &mut NetBuilder, ctl: &Controls, v: Variant) -> Result<u64, 
     requires stat_known { IsTrue (has_picks ctl.now names.f_stat) }
     requires icode_known { IsTrue (has_picks ctl.now names.f_icode) }
     ensures begins { Begins b.old b.new }
-    ensures asked { IfOk result (λ g. IsAsked b.new ctl.now g (λ w α cv. stages.is_jump v (spec.code_of (cv names.f_stat)) (spec.code_of (cv names.f_icode)))) }
+    ensures made { IfOk result (λ g. IsAsked b.new ctl.now g (λ w α cv. stages.is_jump v (spec.code_of (cv names.f_stat)) (spec.code_of (cv names.f_icode)))) }
 {
     let running = takes(b, ctl, signal::F_STAT, Wanted::This(Leaf::Number(1)))?;
     let branch = code_has(b, ctl, v, signal::F_ICODE, RowTest::Jump)?;
@@ -129,7 +130,7 @@ fn fetched_way(b: &mut NetBuilder, ctl: &Controls, s: &Settings) -> Result<u64, 
     requires known { IsTrue (has_picks ctl.now names.f_ifun) }
     requires vars { bit_count ≤ b.old.vars }
     ensures begins { Begins b.old b.new }
-    ensures asked { IfOk result (λ g. IsAsked b.new ctl.now g (λ w α cv. predicts s.now (spec.code_of (cv names.f_ifun)) (set (fields_of w).f.back))) }
+    ensures made { IfOk result (λ g. IsAsked b.new ctl.now g (λ w α cv. predicts s.now (spec.code_of (cv names.f_ifun)) (set (fields_of w).f.back))) }
 {
     let forward = code_listed(b, ctl, signal::F_IFUN, &s.pt)?;
     let backward = code_listed(b, ctl, signal::F_IFUN, &s.pb)?;
@@ -151,7 +152,7 @@ fn fetched_misses(
     requires ifun_known { IsTrue (has_picks ctl.now names.f_ifun) }
     requires vars { bit_count ≤ b.old.vars }
     ensures begins { Begins b.old b.new }
-    ensures asked { IfOk result (λ g. IsAsked b.new ctl.now g (λ w α cv.
+    ensures made { IfOk result (λ g. IsAsked b.new ctl.now g (λ w α cv.
         stages.misses v s.now (spec.code_of (cv names.f_stat)) (spec.code_of (cv names.f_icode)) (spec.code_of (cv names.f_ifun)) (fields_of w).f.taken (fields_of w).f.back)) }
 {
     let here = fetched_jumps(b, ctl, v)?;
@@ -175,10 +176,9 @@ fn fetched_facts(
     requires ifun_known { IsTrue (has_picks ctl.now names.f_ifun) }
     requires vars { bit_count ≤ b.old.vars }
     ensures begins { Begins b.old b.new }
-    ensures within { IfOk result (λ r. HasSlot (length b.new.gates) r) }
-    ensures told { (w : List Bool) (α : Assignment) (cv : ℕ → Leaf) → Tells b.new ctl.now w α cv → IfOk result (λ r.
-        slot_at b.new w r ≡ stages.slot_by 1 (stages.stops_by (spec.code_of (cv names.f_stat)) (fields_of w).f.stops) (stages.is_ret v (spec.code_of (cv names.f_icode)))
-        (stages.misses v s.now (spec.code_of (cv names.f_stat)) (spec.code_of (cv names.f_icode)) (spec.code_of (cv names.f_ifun)) (fields_of w).f.taken (fields_of w).f.back)) }
+    ensures made { IfOk result (λ r. IsAskedSlot b.new ctl.now r (λ w α cv.
+        stages.slot_by 1 (stages.stops_by (spec.code_of (cv names.f_stat)) (fields_of w).f.stops) (stages.is_ret v (spec.code_of (cv names.f_icode)))
+        (stages.misses v s.now (spec.code_of (cv names.f_stat)) (spec.code_of (cv names.f_icode)) (spec.code_of (cv names.f_ifun)) (fields_of w).f.taken (fields_of w).f.back))) }
 {
     let good = b.constant(true)?;
     let wrong = b.constant(false)?;
@@ -200,7 +200,7 @@ fn goes_to(b: &mut NetBuilder, ctl: &Controls, here: u64, leaf: NameId) -> Resul
     requires known { IsTrue (has_picks ctl.now names.f_pc) }
     requires here_in { here < length b.old.gates }
     ensures begins { Begins b.old b.new }
-    ensures asked { IfOk result (λ g. IsAsked b.new ctl.now g (λ w α cv. truth b.old here w && words.takes cv names.f_pc (Name leaf))) }
+    ensures made { IfOk result (λ g. IsAsked b.new ctl.now g (λ w α cv. truth b.old here w && words.takes cv names.f_pc (Name leaf))) }
 {
     let taken = takes(b, ctl, signal::F_PC, Wanted::This(Leaf::Name(leaf)))?;
     let g = b.and(here, taken)?;
@@ -213,7 +213,7 @@ pub fn right_after_e(b: &mut NetBuilder, ctl: &Controls, v: Variant) -> Result<u
     requires known { IsTrue (has_picks ctl.now names.f_pc) }
     requires vars { bit_count ≤ b.old.vars }
     ensures begins { Begins b.old b.new }
-    ensures asked { IfOk result (λ g. IsAsked b.new ctl.now g (λ w α cv.
+    ensures made { IfOk result (λ g. IsAsked b.new ctl.now g (λ w α cv.
         stages.is_jump v (fields_of w).e.stat (fields_of w).e.icode && words.takes cv names.f_pc (if set (fields_of w).e.cnd then Name names.E_valC else Name names.E_valA))) }
 {
     let here = jump(b, v, E_STAT, E_ICODE)?;
@@ -236,7 +236,7 @@ fn jump_after_m(b: &mut NetBuilder, ctl: &Controls, v: Variant, tv: bool) -> Res
     requires known { IsTrue (has_picks ctl.now names.f_pc) }
     requires vars { bit_count ≤ b.old.vars }
     ensures begins { Begins b.old b.new }
-    ensures asked { IfOk result (λ g. IsAsked b.new ctl.now g (λ w α cv.
+    ensures made { IfOk result (λ g. IsAsked b.new ctl.now g (λ w α cv.
         stages.is_jump v (fields_of w).m.stat (fields_of w).m.icode
         && (if set (fields_of w).m.cnd then tv && words.takes cv names.f_pc (Name names.M_valE) else words.takes cv names.f_pc (Name names.M_valA)))) }
 {
@@ -268,7 +268,7 @@ fn right_after_m(
     requires vars { bit_count ≤ b.old.vars }
     requires ret_in { ret < length b.old.gates }
     ensures begins { Begins b.old b.new }
-    ensures asked { IfOk result (λ g. IsAsked b.new ctl.now g (λ w α cv.
+    ensures made { IfOk result (λ g. IsAsked b.new ctl.now g (λ w α cv.
         (stages.is_jump v (fields_of w).m.stat (fields_of w).m.icode
         && (if set (fields_of w).m.cnd then tv && words.takes cv names.f_pc (Name names.M_valE) else words.takes cv names.f_pc (Name names.M_valA)))
         || (truth b.old ret w && words.takes cv names.f_pc (Name names.m_valM)))) }
@@ -280,7 +280,6 @@ fn right_after_m(
 }
 
 /// f_pc is where the youngest good instruction goes, as far as a stage tells it.
-#[tactic(auto, using(pipe_motion::proofs::Kept::view_in, ctl_formula::proofs::Inside::inside_more, nets::proofs::Truths::begins_more))]
 fn right_pc(
     b: &mut NetBuilder,
     ctl: &Controls,
@@ -293,7 +292,7 @@ fn right_pc(
     requires vars { bit_count ≤ b.old.vars }
     requires view { HasView (length b.old.gates) y.now }
     ensures begins { Begins b.old b.new }
-    ensures asked { IfOk result (λ g. IsAsked b.new ctl.now g (λ w α cv. spec.right_pc v s.now (fields_of w) (view_at b.old w y.now) (spec.movers_of α cv) α cv)) }
+    ensures made { IfOk result (λ g. IsAsked b.new ctl.now g (λ w α cv. spec.right_pc v s.now (fields_of w) (view_at b.old w y.now) (spec.movers_of α cv) α cv)) }
 {
     let never = b.constant(false)?;
     let e = right_after_e(b, ctl, v)?;
@@ -304,13 +303,12 @@ fn right_pc(
 }
 
 /// f_pc is the predicted PC, on the path.
-#[tactic(auto, using(pipe_motion::proofs::Kept::view_in, ctl_formula::proofs::Inside::inside_more, nets::proofs::Truths::begins_more))]
 fn on_path(b: &mut NetBuilder, ctl: &Controls, y: &ViewGates) -> Result<u64, Memory>
     requires inside { IsInside b.old ctl.now }
     requires known { IsTrue (has_picks ctl.now names.f_pc) }
     requires view { HasView (length b.old.gates) y.now }
     ensures begins { Begins b.old b.new }
-    ensures asked { IfOk result (λ g. IsAsked b.new ctl.now g (λ w α cv. words.takes cv names.f_pc (Name names.F_predPC) && path (view_at b.old w y.now))) }
+    ensures made { IfOk result (λ g. IsAsked b.new ctl.now g (λ w α cv. words.takes cv names.f_pc (Name names.F_predPC) && path (view_at b.old w y.now))) }
 {
     let path = path_gate(b, y)?;
     let ahead = takes(
@@ -324,7 +322,6 @@ fn on_path(b: &mut NetBuilder, ctl: &Controls, y: &ViewGates) -> Result<u64, Mem
 }
 
 /// The fetch is that of the next instruction.
-#[tactic(auto, using(pipe_motion::proofs::Kept::view_in, ctl_formula::proofs::Inside::inside_more, nets::proofs::Truths::begins_more))]
 fn fetch_good(
     b: &mut NetBuilder,
     ctl: &Controls,
@@ -337,7 +334,7 @@ fn fetch_good(
     requires vars { bit_count ≤ b.old.vars }
     requires view { HasView (length b.old.gates) y.now }
     ensures begins { Begins b.old b.new }
-    ensures asked { IfOk result (λ g. IsAsked b.new ctl.now g (λ w α cv. spec.fetch_good v s.now (fields_of w) (view_at b.old w y.now) (spec.movers_of α cv) α cv)) }
+    ensures made { IfOk result (λ g. IsAsked b.new ctl.now g (λ w α cv. spec.fetch_good v s.now (fields_of w) (view_at b.old w y.now) (spec.movers_of α cv) α cv)) }
 {
     let ahead = on_path(b, ctl, y)?;
     let right = right_pc(b, ctl, v, s, y)?;
@@ -349,7 +346,6 @@ fn fetch_good(
 }
 
 /// Obligation 25: the next cycle's view is lawful, has nothing wrong in M and W, and keeps the path.
-#[tactic(auto, using(pipe_gates::proofs::Known::known_f_pc, pipe_gates::proofs::Known::known_f_stat, pipe_gates::proofs::Known::known_f_icode, pipe_gates::proofs::Known::known_f_ifun, pipe_motion::proofs::Kept::view_in, ctl_formula::proofs::Inside::inside_more, nets::proofs::Truths::begins_more))]
 pub fn obligation_25(
     b: &mut NetBuilder,
     ctl: &Controls,
@@ -362,7 +358,7 @@ pub fn obligation_25(
     requires view { HasView (length b.old.gates) y.now }
     requires known { Covers pipe_rows ctl.now }
     ensures begins { Begins b.old b.new }
-    ensures asked { IfOk result (λ g. IsAsked b.new ctl.now g (λ w α cv. spec.o25 v s.now (fields_of w) (view_at b.old w y.now) (spec.movers_of α cv) α cv)) }
+    ensures made { IfOk result (λ g. IsAsked b.new ctl.now g (λ w α cv. spec.o25 v s.now (fields_of w) (view_at b.old w y.now) (spec.movers_of α cv) α cv)) }
 {
     let movers = movers_of(ctl);
     let good = fetch_good(b, ctl, v, s, y)?;

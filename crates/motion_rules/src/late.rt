@@ -1,33 +1,32 @@
 //! What decides the settings lf, je and rm of a file: each holds where its gate is false at some valuation.
-ghost use Rattle.std.specs.Prelude.{◌≡◌, ◌<◌, ◌≤◌, ◌==◌, ◌&&◌, not, List, Bool, length, IfOk};
-ghost use Rattle.nets.specs.Nets.{truth};
+ghost use Rattle.std.specs.Prelude.{◌<◌, ◌≤◌, ◌==◌, ◌&&◌, not, length, IfOk};
+ghost use Rattle.nets.specs.Nets.{Begins, IsGate, truth};
 ghost use Rattle.y86_isa.specs.Table.{row};
 ghost use Rattle.y86_isa.specs.RowTests.{stores_a};
 ghost use Rattle.pipe_fields.specs.Layout.{bit_count, fields_of};
-ghost use Rattle.pipe_motion.specs.Grows.{Grows};
 ghost use Rattle.pipe_motion.specs.Gates.{view_at, movers_at, HasMovers, HasView};
 ghost use Rattle.pipe_motion.specs.Slots.{leaves};
 
-use nets::NetBuilder;
+use field_bits::spells;
+use nets::{NetBuilder, without};
 use pipe_fields::places::{D_ICODE, E_DST_M};
-use pipe_gates::{RowTest, row_has, spells};
-use pipe_motion::{MoversGates, ViewGates, and, leaves_gate, not, without};
+use pipe_gates::{RowTest, row_has};
+use pipe_motion::{MoversGates, ViewGates, leaves_gate};
 use y86_base::{Memory, Variant};
 
 /// A store stands in D, and a good instruction in E that loads a register.
-#[tactic(auto, unfolding(pipe_fields::specs::Layout::fields_of), using(pipe_motion::proofs::Growing::grows_more, pipe_motion::proofs::Growing::grows_self))]
+#[tactic(auto, unfolding(pipe_fields::specs::Layout::fields_of), using(nets::proofs::Truths::begins_more, nets::proofs::Truths::begins_self))]
 fn store_behind_load(b: &mut NetBuilder, v: Variant, y: &ViewGates) -> Result<u64, Memory>
     requires vars { bit_count ≤ b.old.vars }
     requires view { HasView (length b.old.gates) y.now }
-    ensures within { IfOk result (λ g. g < length b.new.gates) }
-    ensures truth { (w : List Bool) → IfOk result (λ g. truth b.new g w ≡
-        (stores_a (row v (fields_of w).d.icode).memory && ((view_at b.old w y.now).e.good && not ((fields_of w).e.dst_m == 15)))) }
-    ensures grows { Grows b.old b.new }
+    ensures begins { Begins b.old b.new }
+    ensures made { IfOk result (λ g. IsGate b.new g (λ w.
+        stores_a (row v (fields_of w).d.icode).memory && ((view_at b.old w y.now).e.good && not ((fields_of w).e.dst_m == 15)))) }
 {
     let stores = row_has(b, v, D_ICODE, RowTest::StoresA)?;
     let none = spells(b, E_DST_M, 15)?;
     let loads = without(b, y.e.good, none)?;
-    let g = and(b, stores, loads)?;
+    let g = b.and(stores, loads)?;
     Ok(g)
 }
 
@@ -45,18 +44,17 @@ pub fn no_late_load(
     requires movers { HasMovers (length b.old.gates) k.now }
     requires equal_in { equal < length b.old.gates }
     requires plain_in { plain < length b.old.gates }
-    ensures within { IfOk result (λ g. g < length b.new.gates) }
-    ensures truth { (w : List Bool) → IfOk result (λ g. truth b.new g w ≡
+    ensures begins { Begins b.old b.new }
+    ensures made { IfOk result (λ g. IsGate b.new g (λ w.
         not ((stores_a (row v (fields_of w).d.icode).memory && ((view_at b.old w y.now).e.good && (not ((fields_of w).e.dst_m == 15)
-        && (truth b.old equal w && leaves (movers_at b.old w k.now) (view_at b.old w y.now))))) && truth b.old plain w)) }
-    ensures grows { Grows b.old b.new }
+        && (truth b.old equal w && leaves (movers_at b.old w k.now) (view_at b.old w y.now))))) && truth b.old plain w))) }
 {
     let pair = store_behind_load(b, v, y)?;
     let goes = leaves_gate(b, k, y)?;
-    let past = and(b, equal, goes)?;
-    let small = and(b, pair, past)?;
-    let shown = and(b, small, plain)?;
-    let g = not(b, shown)?;
+    let past = b.and(equal, goes)?;
+    let small = b.and(pair, past)?;
+    let shown = b.and(small, plain)?;
+    let g = b.not(shown)?;
     Ok(g)
 }
 
@@ -70,13 +68,12 @@ pub fn no_early_jump(
     requires view { HasView (length b.old.gates) y.now }
     requires right_in { right < length b.old.gates }
     requires plain_in { plain < length b.old.gates }
-    ensures within { IfOk result (λ g. g < length b.new.gates) }
-    ensures truth { (w : List Bool) → IfOk result (λ g. truth b.new g w ≡ not (((view_at b.old w y.now).e.missed && truth b.old right w) && truth b.old plain w)) }
-    ensures grows { Grows b.old b.new }
+    ensures begins { Begins b.old b.new }
+    ensures made { IfOk result (λ g. IsGate b.new g (λ w. not (((view_at b.old w y.now).e.missed && truth b.old right w) && truth b.old plain w))) }
 {
-    let small = and(b, y.e.missed, right)?;
-    let shown = and(b, small, plain)?;
-    let g = not(b, shown)?;
+    let small = b.and(y.e.missed, right)?;
+    let shown = b.and(small, plain)?;
+    let g = b.not(shown)?;
     Ok(g)
 }
 
@@ -90,14 +87,13 @@ pub fn no_early_ret(
     requires view { HasView (length b.old.gates) y.now }
     requires right_in { right < length b.old.gates }
     requires plain_in { plain < length b.old.gates }
-    ensures within { IfOk result (λ g. g < length b.new.gates) }
-    ensures truth { (w : List Bool) → IfOk result (λ g. truth b.new g w ≡
-        not ((((view_at b.old w y.now).m.ret && not (view_at b.old w y.now).m.stops) && truth b.old right w) && truth b.old plain w)) }
-    ensures grows { Grows b.old b.new }
+    ensures begins { Begins b.old b.new }
+    ensures made { IfOk result (λ g. IsGate b.new g (λ w.
+        not ((((view_at b.old w y.now).m.ret && not (view_at b.old w y.now).m.stops) && truth b.old right w) && truth b.old plain w))) }
 {
     let runs = without(b, y.m.ret, y.m.stops)?;
-    let small = and(b, runs, right)?;
-    let shown = and(b, small, plain)?;
-    let g = not(b, shown)?;
+    let small = b.and(runs, right)?;
+    let shown = b.and(small, plain)?;
+    let g = b.not(shown)?;
     Ok(g)
 }

@@ -1,63 +1,60 @@
 //! Gates of which valuations are legal.
-ghost use Rattle.std.specs.Prelude.{◌≡◌, ◌<◌, ◌≤◌, ◌+◌, ◌==◌, ◌&&◌, not, false, true, length, slice_get, List, Bool, IfOk, MatchOption};
-ghost use Rattle.nets.specs.Nets.{truth};
+#![tactic(auto, unfolding(pipe_fields::specs::Layout::fields_of), using(nets::proofs::Truths::begins_more, nets::proofs::Truths::begins_self))]
+
+ghost use Rattle.std.specs.Prelude.{◌≡◌, ◌<◌, ◌≤◌, ◌+◌, ◌==◌, ◌&&◌, not, length, IfOk};
+ghost use Rattle.nets.specs.Nets.{Begins, IsGate, truth};
 ghost use Rattle.ctl_atoms.specs.declared.leaf.Atom.{Atom};
-ghost use Rattle.ctl_atoms.specs.Leaves.{Assignment, AtomsAre, has_atom};
 ghost use Rattle.field_bits.specs.Spelling.{spelt};
 ghost use Rattle.pipe_fields.specs.Layout.{bit_count, fields_of};
-ghost use Rattle.pipe_motion.specs.Grows.{Grows};
 ghost use Rattle.pipe_motion.specs.Gates.{view_at, HasView};
+ghost use Rattle.pipe_gates.specs.Told.{IsGateOver};
 ghost use Rattle.motion_rules.specs.Legality as built;
 ghost use Rattle.pipe_obligations.specs.Stages as spec;
 
-use ctl_atoms::{Atom, AtomKind, Leaf, same_atom};
+use ctl_atoms::{Atom, AtomKind, Leaf, position};
 use dp_signals::pipe_row as signal;
-use field_bits::Place;
-use nets::NetBuilder;
+use field_bits::{Place, same, spells};
+use nets::{NetBuilder, implies, without};
 use pipe_fields::BIT_COUNT;
 use pipe_fields::places::{
     D_BACK, D_ICODE, D_STAT, E_BACK, E_ICODE, E_SRC_A, E_SRC_B, E_STAT, F_BACK, F_ERROR, F_ICODE,
     M_BACK, M_DST_M, M_ICODE, M_STAT, W_KIND, W_STAT,
 };
-use pipe_gates::{RowTest, jump, row_has, same, spells, variable};
-use pipe_motion::{ViewGates, and, constant, equal, implies, lawful_gate, not, or, without};
+use pipe_gates::{RowTest, jump, row_has};
+use pipe_motion::{ViewGates, lawful_gate};
 use y86_base::{Memory, Variant};
 
 /// The register that M loads is a source of E that has to be there.
-#[tactic(auto, unfolding(pipe_fields::specs::Layout::fields_of), using(pipe_motion::proofs::Growing::grows_more, pipe_motion::proofs::Growing::grows_self))]
 fn waits(b: &mut NetBuilder, v: Variant, lf: bool) -> Result<u64, Memory>
     requires { bit_count ≤ b.old.vars }
-    ensures within { IfOk result (λ g. g < length b.new.gates) }
-    ensures truth { (w : List Bool) → IfOk result (λ g. truth b.new g w ≡ built.waits v lf (fields_of w)) }
-    ensures grows { Grows b.old b.new }
+    ensures begins { Begins b.old b.new }
+    ensures made { IfOk result (λ g. IsGate b.new g (λ w. built.waits v lf (fields_of w))) }
 {
     let second = same(b, M_DST_M, E_SRC_B)?;
     let first = same(b, M_DST_M, E_SRC_A)?;
     if lf {
         let stores = row_has(b, v, E_ICODE, RowTest::StoresA)?;
         let early = without(b, first, stores)?;
-        let g = or(b, second, early)?;
+        let g = b.or(second, early)?;
         return Ok(g);
     }
-    let g = or(b, second, first)?;
+    let g = b.or(second, first)?;
     Ok(g)
 }
 
 /// A good instruction in E waits for the good one in M to load a register.
-#[tactic(auto, unfolding(pipe_fields::specs::Layout::fields_of), using(pipe_motion::proofs::Growing::grows_more, pipe_motion::proofs::Growing::grows_self))]
 fn source_waits(b: &mut NetBuilder, v: Variant, lf: bool, y: &ViewGates) -> Result<u64, Memory>
     requires vars { bit_count ≤ b.old.vars }
     requires view { HasView (length b.old.gates) y.now }
-    ensures within { IfOk result (λ g. g < length b.new.gates) }
-    ensures truth { (w : List Bool) → IfOk result (λ g. truth b.new g w ≡
-        (((view_at b.old w y.now).e.good && ((view_at b.old w y.now).m.good && not ((fields_of w).m.dst_m == 15))) && built.waits v lf (fields_of w))) }
-    ensures grows { Grows b.old b.new }
+    ensures begins { Begins b.old b.new }
+    ensures made { IfOk result (λ g. IsGate b.new g (λ w.
+        ((view_at b.old w y.now).e.good && ((view_at b.old w y.now).m.good && not ((fields_of w).m.dst_m == 15))) && built.waits v lf (fields_of w))) }
 {
     let waits = waits(b, v, lf)?;
     let none = spells(b, M_DST_M, 15)?;
     let loads = without(b, y.m.good, none)?;
-    let both = and(b, y.e.good, loads)?;
-    let g = and(b, both, waits)?;
+    let both = b.and(y.e.good, loads)?;
+    let g = b.and(both, waits)?;
     Ok(g)
 }
 
@@ -65,30 +62,16 @@ fn source_waits(b: &mut NetBuilder, v: Variant, lf: bool, y: &ViewGates) -> Resu
 fn no_source_waits(b: &mut NetBuilder, v: Variant, lf: bool, y: &ViewGates) -> Result<u64, Memory>
     requires vars { bit_count ≤ b.old.vars }
     requires view { HasView (length b.old.gates) y.now }
-    ensures within { IfOk result (λ g. g < length b.new.gates) }
-    ensures truth { (w : List Bool) → IfOk result (λ g. truth b.new g w ≡ spec.no_source_waits v lf (fields_of w) (view_at b.old w y.now)) }
-    ensures grows { Grows b.old b.new }
+    ensures begins { Begins b.old b.new }
+    ensures made { IfOk result (λ g. IsGate b.new g (λ w. spec.no_source_waits v lf (fields_of w) (view_at b.old w y.now))) }
 {
     let bad = source_waits(b, v, lf, y)?;
-    let g = not(b, bad)?;
+    let g = b.not(bad)?;
     Ok(g)
 }
 
-/// The place of an atom in the list.
-#[tactic(auto, using(ctl_atoms::proofs::Same::atom_eq_true))]
-fn position(atoms: &[Atom], atom: Atom) -> Option<usize>
-    ensures { MatchOption result (has_atom atoms.now atom ≡ false) (λ k. slice_get atoms.now k ≡ Some atom) }
-{
-    for (i, a) in atoms.iter().enumerate() {
-        if same_atom(*a, atom) {
-            return Some(i);
-        }
-    }
-    None
-}
-
 /// Where a jump is here, the atom that compares its two words is its back bit, if the file has the atom.
-#[tactic(auto, using(pipe_motion::proofs::Growing::grows_more, pipe_motion::proofs::Growing::grows_self, crate::proofs::Atoms::has_at))]
+#[tactic(auto, using(nets::proofs::Truths::begins_more, nets::proofs::Truths::begins_self, crate::proofs::Atoms::has_at))]
 fn tells_back(
     b: &mut NetBuilder,
     atoms: &[Atom],
@@ -101,10 +84,8 @@ fn tells_back(
     requires few { length atoms.now ≤ 64 }
     requires here { here < length b.old.gates }
     requires place { back.first + back.bits ≤ b.old.vars }
-    ensures within { IfOk result (λ g. g < length b.new.gates) }
-    ensures truth { (w : List Bool) (α : Assignment) → AtomsAre atoms.now bit_count w α →
-        IfOk result (λ g. truth b.new g w ≡ spec.tells_back atoms.now α x y (truth b.old here w) (spelt w back.first back.bits)) }
-    ensures grows { Grows b.old b.new }
+    ensures begins { Begins b.old b.new }
+    ensures made { IfOk result (λ g. IsGateOver b.new atoms.now g (λ w α. spec.tells_back atoms.now α x y (truth b.old here w) (spelt w back.first back.bits))) }
 {
     let below = Atom {
         kind: AtomKind::Lt,
@@ -112,12 +93,15 @@ fn tells_back(
         right: Leaf::Name(y),
     };
     match position(atoms, below) {
-        None => constant(b, true),
+        None => {
+            let always = b.constant(true)?;
+            Ok(always)
+        }
         Some(k) => {
-            let atom = variable(b, BIT_COUNT + k as u32)?;
+            let atom = b.variable(BIT_COUNT + k as u32)?;
             let clear = spells(b, back, 0)?;
-            let set = not(b, clear)?;
-            let agrees = equal(b, atom, set)?;
+            let set = b.not(clear)?;
+            let agrees = b.equal(atom, set)?;
             let g = implies(b, here, agrees)?;
             Ok(g)
         }
@@ -125,27 +109,23 @@ fn tells_back(
 }
 
 /// A jump is fetched.
-#[tactic(auto, unfolding(pipe_fields::specs::Layout::fields_of), using(pipe_motion::proofs::Growing::grows_more, pipe_motion::proofs::Growing::grows_self))]
 pub fn fetched_jump(b: &mut NetBuilder, v: Variant) -> Result<u64, Memory>
     requires { bit_count ≤ b.old.vars }
-    ensures within { IfOk result (λ g. g < length b.new.gates) }
-    ensures truth { (w : List Bool) → IfOk result (λ g. truth b.new g w ≡ spec.fetched_jump v (fields_of w)) }
-    ensures grows { Grows b.old b.new }
+    ensures begins { Begins b.old b.new }
+    ensures made { IfOk result (λ g. IsGate b.new g (λ w. spec.fetched_jump v (fields_of w))) }
 {
     let clear = spells(b, F_ERROR, 0)?;
     let branch = row_has(b, v, F_ICODE, RowTest::Jump)?;
-    let g = and(b, clear, branch)?;
+    let g = b.and(clear, branch)?;
     Ok(g)
 }
 
 /// Of the jump that is fetched, the atom is its back bit.
-#[tactic(auto, unfolding(pipe_fields::specs::Layout::fields_of), using(pipe_motion::proofs::Growing::grows_more, pipe_motion::proofs::Growing::grows_self))]
 pub fn back_told_in_f(b: &mut NetBuilder, v: Variant, atoms: &[Atom]) -> Result<u64, Memory>
     requires vars { bit_count + length atoms.now ≤ b.old.vars }
     requires few { length atoms.now ≤ 64 }
-    ensures within { IfOk result (λ g. g < length b.new.gates) }
-    ensures truth { (w : List Bool) (α : Assignment) → AtomsAre atoms.now bit_count w α → IfOk result (λ g. truth b.new g w ≡ spec.back_told_in_f v atoms.now (fields_of w) α) }
-    ensures grows { Grows b.old b.new }
+    ensures begins { Begins b.old b.new }
+    ensures made { IfOk result (λ g. IsGateOver b.new atoms.now g (λ w α. spec.back_told_in_f v atoms.now (fields_of w) α)) }
 {
     let here = fetched_jump(b, v)?;
     let g = tells_back(b, atoms, signal::F_VAL_C, signal::F_VAL_P, here, F_BACK)?;
@@ -171,20 +151,17 @@ fn stage_tells_back(
     requires icode_place { icode.first + icode.bits ≤ b.old.vars }
     requires bits { icode.bits ≡ 4 }
     requires place { back.first + back.bits ≤ b.old.vars }
-    ensures within { IfOk result (λ g. g < length b.new.gates) }
-    ensures truth { (w : List Bool) (α : Assignment) → AtomsAre atoms.now bit_count w α →
-        IfOk result (λ g. truth b.new g w ≡ spec.tells_back atoms.now α x y
-        (truth b.old good w && spec.is_jump v (spelt w stat.first stat.bits) (spelt w icode.first icode.bits)) (spelt w back.first back.bits)) }
-    ensures grows { Grows b.old b.new }
+    ensures begins { Begins b.old b.new }
+    ensures made { IfOk result (λ g. IsGateOver b.new atoms.now g (λ w α. spec.tells_back atoms.now α x y
+        (truth b.old good w && spec.is_jump v (spelt w stat.first stat.bits) (spelt w icode.first icode.bits)) (spelt w back.first back.bits))) }
 {
     let jump = jump(b, v, stat, icode)?;
-    let here = and(b, good, jump)?;
+    let here = b.and(good, jump)?;
     let g = tells_back(b, atoms, x, y, here, back)?;
     Ok(g)
 }
 
 /// The atoms that compare a jump's valC and valP are its back bit, in D and E, and with `tv` in M.
-#[tactic(auto, unfolding(pipe_fields::specs::Layout::fields_of), using(pipe_motion::proofs::Growing::grows_more, pipe_motion::proofs::Growing::grows_self))]
 fn stages_tell_back(
     b: &mut NetBuilder,
     v: Variant,
@@ -195,10 +172,8 @@ fn stages_tell_back(
     requires vars { bit_count + length atoms.now ≤ b.old.vars }
     requires few { length atoms.now ≤ 64 }
     requires view { HasView (length b.old.gates) y.now }
-    ensures within { IfOk result (λ g. g < length b.new.gates) }
-    ensures truth { (w : List Bool) (α : Assignment) → AtomsAre atoms.now bit_count w α →
-        IfOk result (λ g. truth b.new g w ≡ built.back_told_in_stages v tv atoms.now (fields_of w) (view_at b.old w y.now) α) }
-    ensures grows { Grows b.old b.new }
+    ensures begins { Begins b.old b.new }
+    ensures made { IfOk result (λ g. IsGateOver b.new atoms.now g (λ w α. built.back_told_in_stages v tv atoms.now (fields_of w) (view_at b.old w y.now) α)) }
 {
     let d = stage_tells_back(
         b,
@@ -223,7 +198,7 @@ fn stages_tell_back(
         E_BACK,
     )?;
     if !tv {
-        let both = and(b, d, e)?;
+        let both = b.and(d, e)?;
         return Ok(both);
     }
     let m = stage_tells_back(
@@ -237,18 +212,16 @@ fn stages_tell_back(
         M_ICODE,
         M_BACK,
     )?;
-    let last_two = and(b, e, m)?;
-    let g = and(b, d, last_two)?;
+    let last_two = b.and(e, m)?;
+    let g = b.and(d, last_two)?;
     Ok(g)
 }
 
 /// The cycle stops: the instruction in W is good, and its status isn't 1.
-#[tactic(auto, unfolding(pipe_fields::specs::Layout::fields_of), using(pipe_motion::proofs::Growing::grows_more, pipe_motion::proofs::Growing::grows_self))]
 pub fn stopping_gate(b: &mut NetBuilder) -> Result<u64, Memory>
     requires { bit_count ≤ b.old.vars }
-    ensures within { IfOk result (λ g. g < length b.new.gates) }
-    ensures truth { (w : List Bool) → IfOk result (λ g. truth b.new g w ≡ spec.is_stopping (fields_of w)) }
-    ensures grows { Grows b.old b.new }
+    ensures begins { Begins b.old b.new }
+    ensures made { IfOk result (λ g. IsGate b.new g (λ w. spec.is_stopping (fields_of w))) }
 {
     let good = spells(b, W_KIND, 1)?;
     let running = spells(b, W_STAT, 1)?;
@@ -257,7 +230,7 @@ pub fn stopping_gate(b: &mut NetBuilder) -> Result<u64, Memory>
 }
 
 /// The valuation is legal in a view, at settings of which `tv`, `lf`, `je` and `rm` count.
-#[tactic(auto, unfolding(crate::specs::Legality::legal_in), using(pipe_motion::proofs::Growing::grows_more, pipe_motion::proofs::Growing::grows_self))]
+#[tactic(auto, unfolding(crate::specs::Legality::legal_in), using(nets::proofs::Truths::begins_more, nets::proofs::Truths::begins_self))]
 pub fn legal_gate(
     b: &mut NetBuilder,
     v: Variant,
@@ -271,17 +244,15 @@ pub fn legal_gate(
     requires vars { bit_count + length atoms.now ≤ b.old.vars }
     requires few { length atoms.now ≤ 64 }
     requires view { HasView (length b.old.gates) y.now }
-    ensures within { IfOk result (λ g. g < length b.new.gates) }
-    ensures truth { (w : List Bool) (α : Assignment) → AtomsAre atoms.now bit_count w α →
-        IfOk result (λ g. truth b.new g w ≡ built.legal_in v tv lf je rm atoms.now (fields_of w) (view_at b.old w y.now) α) }
-    ensures grows { Grows b.old b.new }
+    ensures begins { Begins b.old b.new }
+    ensures made { IfOk result (λ g. IsGateOver b.new atoms.now g (λ w α. built.legal_in v tv lf je rm atoms.now (fields_of w) (view_at b.old w y.now) α)) }
 {
     let lawful = lawful_gate(b, y, je, rm)?;
     let waits = no_source_waits(b, v, lf, y)?;
     let in_f = back_told_in_f(b, v, atoms)?;
     let in_stages = stages_tell_back(b, v, tv, atoms, y)?;
-    let told = and(b, in_f, in_stages)?;
-    let last_two = and(b, waits, told)?;
-    let g = and(b, lawful, last_two)?;
+    let told = b.and(in_f, in_stages)?;
+    let last_two = b.and(waits, told)?;
+    let g = b.and(lawful, last_two)?;
     Ok(g)
 }

@@ -1,6 +1,6 @@
 //! Gates of what PIPE's valuations are asked of and how its instructions move: which valuations are legal, obligations 23 to
 //! 27, and what shows that a file is early or late.
-#![tactic(auto, using(pipe_motion::proofs::Growing::grows_more, pipe_motion::proofs::Growing::grows_self))]
+#![tactic(auto, using(nets::proofs::Truths::begins_more, nets::proofs::Truths::begins_self))]
 
 mod fetch_25;
 mod late;

@@ -19,7 +19,7 @@ pub fn obligation_23(b: &mut NetBuilder, ctl: &Controls) -> Result<u64, Memory>
     requires inside { IsInside b.old ctl.now }
     requires known { Covers pipe_rows ctl.now }
     ensures begins { Begins b.old b.new }
-    ensures asked { IfOk result (λ g. IsAsked b.new ctl.now g (λ w α cv. motion.o23 (movers_of α cv))) }
+    ensures made { IfOk result (λ g. IsAsked b.new ctl.now g (λ w α cv. motion.o23 (movers_of α cv))) }
 {
     let movers = movers_of(ctl);
     let g = pipe_motion::obligation_23(b, &movers)?;
@@ -32,7 +32,7 @@ pub fn obligation_24(b: &mut NetBuilder, ctl: &Controls, y: &ViewGates) -> Resul
     requires view { HasView (length b.old.gates) y.now }
     requires known { Covers pipe_rows ctl.now }
     ensures begins { Begins b.old b.new }
-    ensures asked { IfOk result (λ g. IsAsked b.new ctl.now g (λ w α cv. motion.o24 (movers_of α cv) (view_at b.old w y.now))) }
+    ensures made { IfOk result (λ g. IsAsked b.new ctl.now g (λ w α cv. motion.o24 (movers_of α cv) (view_at b.old w y.now))) }
 {
     let movers = movers_of(ctl);
     let g = pipe_motion::obligation_24(b, &movers, y)?;
@@ -45,7 +45,7 @@ pub fn obligation_26(b: &mut NetBuilder, ctl: &Controls, y: &ViewGates) -> Resul
     requires view { HasView (length b.old.gates) y.now }
     requires known { Covers pipe_rows ctl.now }
     ensures begins { Begins b.old b.new }
-    ensures asked { IfOk result (λ g. IsAsked b.new ctl.now g (λ w α cv. motion.o26 (movers_of α cv) (view_at b.old w y.now))) }
+    ensures made { IfOk result (λ g. IsAsked b.new ctl.now g (λ w α cv. motion.o26 (movers_of α cv) (view_at b.old w y.now))) }
 {
     let movers = movers_of(ctl);
     let g = pipe_motion::obligation_26(b, &movers, y)?;
@@ -58,7 +58,7 @@ pub fn obligation_27(b: &mut NetBuilder, ctl: &Controls, y: &ViewGates) -> Resul
     requires view { HasView (length b.old.gates) y.now }
     requires known { Covers pipe_rows ctl.now }
     ensures begins { Begins b.old b.new }
-    ensures asked { IfOk result (λ g. IsAsked b.new ctl.now g (λ w α cv. motion.o27 (movers_of α cv) (view_at b.old w y.now))) }
+    ensures made { IfOk result (λ g. IsAsked b.new ctl.now g (λ w α cv. motion.o27 (movers_of α cv) (view_at b.old w y.now))) }
 {
     let movers = movers_of(ctl);
     let g = pipe_motion::obligation_27(b, &movers, y)?;

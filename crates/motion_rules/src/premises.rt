@@ -1,35 +1,22 @@
 //! Gates of the premises: which valuations each obligation is asked of.
-ghost use Rattle.std.specs.Prelude.{◌≡◌, ◌<◌, ◌≤◌, ◌+◌, ◌==◌, ◌||◌, ◌&&◌, not, length, List, Bool, IfOk};
-ghost use Rattle.nets.specs.Nets.{truth, agree};
-ghost use Rattle.ctl_atoms.specs.Leaves.{Assignment, AtomsAre};
-ghost use Rattle.field_bits.specs.Spelling.{set};
+ghost use Rattle.std.specs.Prelude.{◌≡◌, ◌≤◌, ◌+◌, ◌==◌, ◌||◌, ◌&&◌, not, length, IfOk};
+ghost use Rattle.nets.specs.Nets.{Begins, IsGate, agree};
+ghost use Rattle.y86_base.specs.Words.{set};
 ghost use Rattle.pipe_fields.specs.Layout.{bit_count, fields_of};
 ghost use Rattle.pipe_fields.specs.Allowed.{allowed};
-ghost use Rattle.pipe_motion.specs.Grows.{Grows};
-ghost use Rattle.pipe_motion.specs.Gates.{view_at, HasView};
+ghost use Rattle.pipe_motion.specs.Gates.{view_at, HasView, IsView};
+ghost use Rattle.pipe_gates.specs.Told.{IsGateOver};
 ghost use Rattle.motion_rules.specs.Legality as built;
 ghost use Rattle.pipe_obligations.specs.Stages as spec;
 ghost use Rattle.pipe_obligations.specs.Rules as rules;
 
 use crate::legality::{back_told_in_f, fetched_jump, legal_gate, stopping_gate};
 use ctl_atoms::Atom;
-use nets::NetBuilder;
+use field_bits::spells;
+use nets::{NetBuilder, without};
 use pipe_fields::places::{F_BACK, F_IFUN};
-use pipe_gates::spells;
-use pipe_motion::{Settings, ViewGates, and, without};
+use pipe_motion::{Settings, ViewGates};
 use y86_base::{Memory, Variant};
-
-/// The valuation is allowed.
-#[tactic(auto, using(pipe_motion::proofs::Growing::grown))]
-fn allowed_gate(b: &mut NetBuilder, v: Variant) -> Result<u64, Memory>
-    requires { bit_count ≤ b.old.vars }
-    ensures within { IfOk result (λ g. g < length b.new.gates) }
-    ensures truth { (w : List Bool) → IfOk result (λ g. truth b.new g w ≡ allowed v (fields_of w)) }
-    ensures grows { Grows b.old b.new }
-{
-    let g = pipe_fields::allowed(b, v)?;
-    Ok(g)
-}
 
 /// The valuation is allowed and legal, in a cycle that doesn't stop, or (`always`) in any.
 pub fn asked_gate(
@@ -46,15 +33,13 @@ pub fn asked_gate(
     requires vars { bit_count + length atoms.now ≤ b.old.vars }
     requires few { length atoms.now ≤ 64 }
     requires view { HasView (length b.old.gates) y.now }
-    ensures within { IfOk result (λ g. g < length b.new.gates) }
-    ensures truth { (w : List Bool) (α : Assignment) → AtomsAre atoms.now bit_count w α →
-        IfOk result (λ g. truth b.new g w ≡ (allowed v (fields_of w)
+    ensures begins { Begins b.old b.new }
+    ensures made { IfOk result (λ g. IsGateOver b.new atoms.now g (λ w α. allowed v (fields_of w)
         && (built.legal_in v tv lf je rm atoms.now (fields_of w) (view_at b.old w y.now) α && (always || not (spec.is_stopping (fields_of w)))))) }
-    ensures grows { Grows b.old b.new }
 {
     let legal = legal_gate(b, v, tv, lf, je, rm, atoms, y)?;
-    let fits = allowed_gate(b, v)?;
-    let both = and(b, fits, legal)?;
+    let fits = pipe_fields::allowed(b, v)?;
+    let both = b.and(fits, legal)?;
     if always {
         return Ok(both);
     }
@@ -74,34 +59,30 @@ pub fn premise_gate(
 ) -> Result<u64, Memory>
     requires vars { bit_count + length atoms.now ≤ b.old.vars }
     requires few { length atoms.now ≤ 64 }
-    requires view { HasView (length b.old.gates) y.now }
-    requires view_is { (w : List Bool) → view_at b.old w y.now ≡ spec.view_of v s.now (fields_of w) }
-    ensures within { IfOk result (λ g. g < length b.new.gates) }
-    ensures truth { (w : List Bool) (α : Assignment) → AtomsAre atoms.now bit_count w α →
-        IfOk result (λ g. truth b.new g w ≡ built.asked_when v s.now atoms.now always (fields_of w) α) }
-    ensures grows { Grows b.old b.new }
+    requires view { IsView b.old y.now (λ w. spec.view_of v s.now (fields_of w)) }
+    ensures begins { Begins b.old b.new }
+    ensures made { IfOk result (λ g. IsGateOver b.new atoms.now g (λ w α. built.asked_when v s.now atoms.now always (fields_of w) α)) }
 {
     let g = asked_gate(b, v, s.tv, s.lf, s.je, s.rm, atoms, y, always)?;
     Ok(g)
 }
 
 /// A jump of this ifun that goes back or not is fetched.
-#[tactic(auto, unfolding(pipe_fields::specs::Layout::fields_of), using(pipe_motion::proofs::Growing::grows_more, pipe_motion::proofs::Growing::grows_self))]
+#[tactic(auto, unfolding(pipe_fields::specs::Layout::fields_of), using(nets::proofs::Truths::begins_more, nets::proofs::Truths::begins_self))]
 fn jump_of(b: &mut NetBuilder, v: Variant, ifun: u64, back: bool) -> Result<u64, Memory>
     requires { bit_count ≤ b.old.vars }
-    ensures within { IfOk result (λ g. g < length b.new.gates) }
-    ensures truth { (w : List Bool) → IfOk result (λ g. truth b.new g w ≡ (spec.fetched_jump v (fields_of w) && ((fields_of w).f.ifun == ifun && agree back (set (fields_of w).f.back)))) }
-    ensures grows { Grows b.old b.new }
+    ensures begins { Begins b.old b.new }
+    ensures made { IfOk result (λ g. IsGate b.new g (λ w. spec.fetched_jump v (fields_of w) && ((fields_of w).f.ifun == ifun && agree back (set (fields_of w).f.back)))) }
 {
     let jump = fetched_jump(b, v)?;
     let named = spells(b, F_IFUN, ifun)?;
-    let here = and(b, jump, named)?;
+    let here = b.and(jump, named)?;
     let clear = spells(b, F_BACK, 0)?;
     if back {
         let g = without(b, here, clear)?;
         Ok(g)
     } else {
-        let g = and(b, here, clear)?;
+        let g = b.and(here, clear)?;
         Ok(g)
     }
 }
@@ -116,17 +97,15 @@ pub fn prediction_asked(
 ) -> Result<u64, Memory>
     requires vars { bit_count + length atoms.now ≤ b.old.vars }
     requires few { length atoms.now ≤ 64 }
-    ensures within { IfOk result (λ g. g < length b.new.gates) }
-    ensures truth { (w : List Bool) (α : Assignment) → AtomsAre atoms.now bit_count w α →
-        IfOk result (λ g. truth b.new g w ≡ (allowed v (fields_of w) && (spec.fetched_jump v (fields_of w)
+    ensures begins { Begins b.old b.new }
+    ensures made { IfOk result (λ g. IsGateOver b.new atoms.now g (λ w α. allowed v (fields_of w) && (spec.fetched_jump v (fields_of w)
         && ((fields_of w).f.ifun == ifun && (agree back (set (fields_of w).f.back) && spec.back_told_in_f v atoms.now (fields_of w) α))))) }
-    ensures grows { Grows b.old b.new }
 {
-    let fits = allowed_gate(b, v)?;
+    let fits = pipe_fields::allowed(b, v)?;
     let jump = jump_of(b, v, ifun, back)?;
     let told = back_told_in_f(b, v, atoms)?;
-    let here = and(b, jump, told)?;
-    let g = and(b, fits, here)?;
+    let here = b.and(jump, told)?;
+    let g = b.and(fits, here)?;
     Ok(g)
 }
 

@@ -1,19 +1,17 @@
 //! What shows that a file is early or late: the gates that decide lf, je and rm.
-ghost use Rattle.std.specs.Prelude.{◌≡◌, ◌<◌, ◌≤◌, ◌+◌, ◌&&◌, Bool, if◌then◌else◌, IfOk, length, List, not};
+ghost use Rattle.std.specs.Prelude.{◌≡◌, ◌<◌, ◌≤◌, ◌+◌, ◌&&◌, if◌then◌else◌, IfOk, length, not};
 ghost use Rattle.nets.specs.Nets.{Begins, truth};
 ghost use Rattle.ctl_atoms.specs.declared.leaf.Leaf.TheVariants.{Name};
-ghost use Rattle.ctl_atoms.specs.Leaves.{Assignment, AtomsAre};
 ghost use Rattle.ctl_formula.specs.Picks.{Covers, IsInside};
-ghost use Rattle.field_bits.specs.Spelling.{set};
+ghost use Rattle.y86_base.specs.Words.{set};
 ghost use Rattle.dp_signals.specs.PipeNames as names;
 ghost use Rattle.dp_signals.specs.PipeTable.{pipe_rows};
 ghost use Rattle.rule_gates.specs.Asked.{IsAsked};
 ghost use Rattle.rule_gates.specs.Words as words;
 ghost use Rattle.pipe_fields.specs.Layout.{bit_count, fields_of};
-ghost use Rattle.pipe_motion.specs.Gates.{HasView, view_at};
-ghost use Rattle.pipe_motion.specs.Grows.{Grows};
+ghost use Rattle.pipe_motion.specs.Gates.{HasView, IsView, view_at};
 ghost use Rattle.pipe_obligations.specs.Obligations.{movers_of};
-ghost use Rattle.pipe_gates.specs.Told.{IsTold};
+ghost use Rattle.pipe_gates.specs.Told.{IsGateOver, IsTold};
 ghost use Rattle.pipe_obligations.specs.Settled.{leaves_past_load, may_show, most_free, shows_je, shows_lf, shows_rm};
 ghost use Rattle.pipe_obligations.specs.Stages.{is_jump, view_of};
 
@@ -45,7 +43,7 @@ fn no_load_passed(
     requires view { HasView (length b.old.gates) y.now }
     requires plain_in { plain < length b.old.gates }
     ensures begins { Begins b.old b.new }
-    ensures asked { IfOk result (λ g. IsAsked b.new ctl.now g (λ w α cv.
+    ensures made { IfOk result (λ g. IsAsked b.new ctl.now g (λ w α cv.
         not (leaves_past_load v (fields_of w) (view_at b.old w y.now) (movers_of α cv) cv && truth b.old plain w))) }
 {
     let movers = movers_of(ctl);
@@ -69,7 +67,7 @@ fn no_jump_early(
     requires view { HasView (length b.old.gates) y.now }
     requires plain_in { plain < length b.old.gates }
     ensures begins { Begins b.old b.new }
-    ensures asked { IfOk result (λ g. IsAsked b.new ctl.now g (λ w α cv.
+    ensures made { IfOk result (λ g. IsAsked b.new ctl.now g (λ w α cv.
         not (((view_at b.old w y.now).e.missed && (is_jump v (fields_of w).e.stat (fields_of w).e.icode
         && words.takes cv names.f_pc (if set (fields_of w).e.cnd then Name names.E_valC else Name names.E_valA))) && truth b.old plain w))) }
 {
@@ -91,7 +89,7 @@ fn no_ret_early(
     requires view { HasView (length b.old.gates) y.now }
     requires plain_in { plain < length b.old.gates }
     ensures begins { Begins b.old b.new }
-    ensures asked { IfOk result (λ g. IsAsked b.new ctl.now g (λ w α cv.
+    ensures made { IfOk result (λ g. IsAsked b.new ctl.now g (λ w α cv.
         not ((((view_at b.old w y.now).m.ret && not (view_at b.old w y.now).m.stops) && words.takes cv names.f_pc (Name names.m_valM)) && truth b.old plain w))) }
 {
     let right = takes(
@@ -121,11 +119,9 @@ fn free_legal(
     requires vars { bit_count + length atoms.now ≤ b.old.vars }
     requires few { length atoms.now ≤ 64 }
     requires free { most_free s.now ≡ s.now }
-    ensures view { IfOk result (λ r. HasView (length b.new.gates) r.view) }
-    ensures view_is { (w : List Bool) → IfOk result (λ r. view_at b.new w r.view ≡ view_of v s.now (fields_of w)) }
-    ensures plain_in { IfOk result (λ r. r.plain < length b.new.gates) }
-    ensures plain_is { (w : List Bool) (α : Assignment) → AtomsAre atoms.now bit_count w α → IfOk result (λ r. truth b.new r.plain w ≡ may_show v s.now atoms.now (fields_of w) α) }
-    ensures grows { Grows b.old b.new }
+    ensures begins { Begins b.old b.new }
+    ensures view { IfOk result (λ r. IsView b.new r.view (λ w. view_of v s.now (fields_of w))) }
+    ensures plain { IfOk result (λ r. IsGateOver b.new atoms.now r.plain (λ w α. may_show v s.now atoms.now (fields_of w) α)) }
 {
     let view = view_gates(b, v, s)?;
     let plain = premise_gate(b, v, s, atoms, &view, false)?;
@@ -155,10 +151,10 @@ pub fn shown_gates(
     requires vars { bit_count + length atoms.now ≤ b.old.vars }
     requires few { length atoms.now ≤ 64 }
     requires free { most_free s.now ≡ s.now }
+    ensures begins { Begins b.old b.new }
     ensures late { IfOk result (λ r. IsTold b.new ctl.now atoms.now r.lf (λ c α cv. not (shows_lf v s.now atoms.now c α cv))) }
     ensures jump { IfOk result (λ r. IsTold b.new ctl.now atoms.now r.je (λ c α cv. not (shows_je v s.now atoms.now c α cv))) }
     ensures ret { IfOk result (λ r. IsTold b.new ctl.now atoms.now r.rm (λ c α cv. not (shows_rm v s.now atoms.now c α cv))) }
-    ensures grows { Grows b.old b.new }
 {
     let p = free_legal(b, v, s, atoms)?;
     let lf = no_load_passed(b, ctl, v, &p.view, p.plain)?;

@@ -3,7 +3,7 @@ use Rattle.std.proofs.Common.{◌≡◌, ◌⊎◌, inl, inr, ℕ, ◌<◌, ◌�
 use Rattle.std.proofs.lemmas.List.{take-append-le, take_all, length_push, get_or_append_left, get_or_push}
 use Rattle.std.proofs.lemmas.Option.{slice_get_cases, slice_get_within, slice_get-get_or, get_or_from_slice_get}
 use Rattle.nets.specs.Nets.{Gates, IsNet, ReadsEarlier, Begins, IsAdded, IsGate, gate_value, truths}
-use Rattle.nets.proofs.Truths.{begins_self, truth_is}
+use Rattle.nets.proofs.Truths.{begins_by, begins_self, truth_is}
 use Rattle.nets.specs.declared.net.Gate.{Gate}
 
 module _ {vars : ℕ} {old : List Gate} {gate : Gate} (reads : ReadsEarlier vars (length old) gate) (net : IsNet record { vars = vars; gates = old }) where
@@ -31,11 +31,9 @@ module _ {vars : ℕ} {old : List Gate} {gate : Gate} (reads : ReadsEarlier vars
 
 pub added_begins : (vars : ℕ) (old new : List Gate) (gate : Gate) → IsAdded old new gate → Begins record { vars = vars; gates = old } record { vars = vars; gates = new }
 added_begins vars old new gate (inl e) = subst (λ (gs : List Gate). Begins record { vars = vars; gates = old } record { vars = vars; gates = gs }) (sym e) (begins_self _)
-added_begins vars old new gate (inr e) = record {
-  vars = refl;
-  more = omega (arith, ap length e, length_push old gate);
-  gates = ap (take (length old)) e ∙ (take-append-le (length old) old (gate ∷ []) (omega arith) ∙ take_all (length old) old (omega arith));
-}
+added_begins vars old new gate (inr e) =
+    begins_by record { vars = vars; gates = old } record { vars = vars; gates = new } refl (omega (arith, ap length e, length_push old gate))
+    (ap (take (length old)) e ∙ (take-append-le (length old) old (gate ∷ []) (omega arith) ∙ take_all (length old) old (omega arith)))
 
 -- an added gate has the truth that comes from the others
 pub added_gate : {n : Gates} {i : ℕ} {gate : Gate} → IsNet n → slice_get n.gates i ≡ Some gate → IsGate n i (λ w. gate_value w (truths n w) gate)

@@ -1,2 +1,5 @@
 pub mod Truths
 mod Added
+pub mod Gates
+pub mod Sources
+pub mod Forcing

@@ -1,5 +1,5 @@
 -- The truth of a gate stays as the net grows, and the truth of a gate comes from those before it.
-use Rattle.std.proofs.Common.{◌≡◌, ℕ, ◌+◌, ◌<◌, List, [], ◌∷◌, ◌++◌, Bool, true, false, not, ◌&&◌, length, take, drop, get_or, slice_get, Some, refl, sym, ap, ◌∙◌, subst, arith}
+use Rattle.std.proofs.Common.{◌≡◌, ℕ, ◌+◌, ◌<◌, ◌≤◌, List, [], ◌∷◌, ◌++◌, Bool, true, false, not, ◌&&◌, length, take, drop, get_or, slice_get, Some, refl, sym, ap, ◌∙◌, subst, arith}
 use Rattle.std.proofs.lemmas.List.{take-append-drop, get_or_append_left, get_or_push, length_push, take_all, take-take, take_more, length-take}
 use Rattle.std.proofs.lemmas.Option.{get_or_from_slice_get}
 use Rattle.nets.specs.Nets.{Gates, IsNet, ReadsEarlier, values, truths, truth, gate_value, Begins, IsGate}
@@ -70,25 +70,30 @@ truth_is n net i gate is h w =
     truth_last n w i gate is h
     ∙ sym (same_value w e (values w [] n.gates) n.vars gate reads (λ j below. ap (λ (xs : List Bool). get_or xs j false) all ∙ values_kept w e (drop i n.gates) j below))
 
--- an earlier gate keeps its truth
-pub truth_kept : {old new : Gates} → Begins old new → (g : ℕ) (w : List Bool) → g < length old.gates → truth new g w ≡ truth old g w
+-- an earlier gate keeps its truth in a net whose first gates are those of this one
+kept_by : (old new : Gates) → take (length old.gates) new.gates ≡ old.gates → (g : ℕ) (w : List Bool) → g < length old.gates → truth new g w ≡ truth old g w
 unfolding truth truths
-truth_kept {old} {new} b g w h =
+kept_by old new first g w h =
     let n : ℕ = length old.gates in
-    let parts : new.gates ≡ old.gates ++ drop n new.gates = sym (take-append-drop n new.gates) ∙ ap (λ (xs : List Gate). xs ++ drop n new.gates) b.gates in
+    let parts : new.gates ≡ old.gates ++ drop n new.gates = sym (take-append-drop n new.gates) ∙ ap (λ (xs : List Gate). xs ++ drop n new.gates) first in
     let inside : g < length (values w [] old.gates) = omega (arith, values_length w [] old.gates) in
     ap (λ (xs : List Gate). get_or (values w [] xs) g false) parts
     ∙ (ap (λ (xs : List Bool). get_or xs g false) (values_append w [] old.gates (drop n new.gates))
     ∙ values_kept w (values w [] old.gates) (drop n new.gates) g inside)
 
+-- a net begins with another that has its variables, and whose gates are its first
+pub begins_by : (old new : Gates) → new.vars ≡ old.vars → length old.gates ≤ length new.gates → take (length old.gates) new.gates ≡ old.gates → Begins old new
+begins_by old new vars more first = record { vars = vars; more = more; gates = first; same = kept_by old new first }
+
 pub begins_self : (n : Gates) → Begins n n
-begins_self n = record { vars = refl; more = omega arith; gates = take_all (length n.gates) n.gates (omega arith) }
+begins_self n = begins_by n n refl (omega arith) (take_all (length n.gates) n.gates (omega arith))
 
 pub begins_more : {a b c : Gates} → Begins a b → Begins b c → Begins a c
 begins_more {a} {b} {c} p q = record {
   vars = q.vars ∙ p.vars;
   more = let x = p.more in let y = q.more in omega arith;
   gates = sym (take-take (length a.gates) (length b.gates) c.gates p.more) ∙ (ap (take (length a.gates)) q.gates ∙ p.gates);
+  same = λ g w h. q.same g w (let x = p.more in omega (arith, h, x)) ∙ p.same g w h;
 }
 
 not_not : (b : Bool) → not (not b) ≡ b
@@ -99,20 +104,24 @@ not_not false = refl
 pub gate_kept : {old new : Gates} {g : ℕ} {f : List Bool → Bool} → Begins old new → IsGate old g f → IsGate new g f
 gate_kept {old} {new} {g} {f} b is = record {
   within = let x = b.more in let y = is.within in omega arith;
-  is = λ w. truth_kept b g w is.within ∙ is.is w;
+  is = λ w. b.same g w is.within ∙ is.is w;
 }
+
+-- a gate has its own truth
+pub gate_there : {n : Gates} {g : ℕ} → g < length n.gates → IsGate n g (λ w. truth n g w)
+gate_there h = record { within = h; is = λ w. refl }
 
 -- the truth of a gate just made, in the truths of the net before
 pub made_not : {old new : Gates} {a g : ℕ} → Begins old new → a < length old.gates → IsGate new g (λ w. gate_value w (truths new w) (Not a)) → IsGate new g (λ w. not (truth old a w))
 unfolding truth
-made_not {old} {new} {a} {g} b h made = record { within = made.within; is = λ w. made.is w ∙ ap not (truth_kept b a w h) }
+made_not {old} {new} {a} {g} b h made = record { within = made.within; is = λ w. made.is w ∙ ap not (b.same a w h) }
 
 pub made_and : {old new : Gates} {a b g : ℕ} → Begins old new → a < length old.gates → b < length old.gates → IsGate new g (λ w. gate_value w (truths new w) (And a b))
     → IsGate new g (λ w. truth old a w && truth old b w)
 unfolding truth
 made_and {old} {new} {a} {b} {g} begins h k made = record {
   within = made.within;
-  is = λ w. made.is w ∙ (ap (λ x. x && truth new b w) (truth_kept begins a w h) ∙ ap (λ x. truth old a w && x) (truth_kept begins b w k));
+  is = λ w. made.is w ∙ (ap (λ x. x && truth new b w) (begins.same a w h) ∙ ap (λ x. truth old a w && x) (begins.same b w k));
 }
 
 -- a gate that is the negation of another, which is then its negation

@@ -1,1 +1,4 @@
 pub mod Nets
+pub mod Substitution
+pub mod Parts
+pub mod Forcing

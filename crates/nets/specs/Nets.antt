@@ -44,11 +44,12 @@ truths n w = values w [] n.gates
 unfoldable pub truth : Gates → ℕ → List Bool → Bool
 truth n i w = get_or (truths n w) i false
 
--- the earlier gates stay
+-- the earlier gates stay, and each keeps its truth
 pub record Begins (old new : Gates) : Type 0 where
   pub vars : new.vars ≡ old.vars
   pub more : length old.gates ≤ length new.gates
   pub gates : take (length old.gates) new.gates ≡ old.gates
+  pub same : (g : ℕ) (w : List Bool) → g < length old.gates → truth new g w ≡ truth old g w
 
 -- gate g of the net has the truth f
 pub record IsGate (n : Gates) (g : ℕ) (f : List Bool → Bool) : Type 0 where

@@ -43,3 +43,27 @@ pub fn implies(b: &mut NetBuilder, x: u64, y: u64) -> Result<u64, Memory>
     let g = b.or(none, y)?;
     Ok(g)
 }
+
+/// `x` and `y` are not both true.
+pub fn excludes(b: &mut NetBuilder, x: u64, y: u64) -> Result<u64, Memory>
+    requires first { x < length b.old.gates }
+    requires second { y < length b.old.gates }
+    ensures begins { Begins b.old b.new }
+    ensures made { IfOk result (λ g. IsGate b.new g (λ w. not (truth b.old x w && truth b.old y w))) }
+{
+    let both = b.and(x, y)?;
+    let g = b.not(both)?;
+    Ok(g)
+}
+
+/// `x` and `y` are both false.
+pub fn neither(b: &mut NetBuilder, x: u64, y: u64) -> Result<u64, Memory>
+    requires first { x < length b.old.gates }
+    requires second { y < length b.old.gates }
+    ensures begins { Begins b.old b.new }
+    ensures made { IfOk result (λ g. IsGate b.new g (λ w. not (truth b.old x w || truth b.old y w))) }
+{
+    let either = b.or(x, y)?;
+    let g = b.not(either)?;
+    Ok(g)
+}

@@ -2,14 +2,23 @@
 //!
 //! A net is an and-inverter graph with constants (CS:APP 3e, section 4.2.2, combinational circuits): each gate
 //! stands behind the gates that it reads, so a net has no cycle.
-#![tactic(auto, using(crate::proofs::Truths::truth_kept, crate::proofs::Truths::begins_more))]
+//!
+//! A net can be copied with constants or other variables in the place of its variables: the diagrams of a copy may be far
+//! smaller than those of the net, and its valuations are those of the net.
+#![tactic(auto, using(crate::proofs::Truths::begins_more, crate::proofs::Truths::begins_self))]
 
 mod builder;
 mod connectives;
+mod copies;
 mod evaluation;
+mod implied;
 mod net;
+mod parts;
 
 pub use builder::NetBuilder;
-pub use connectives::{choose, implies, without};
+pub use connectives::{choose, excludes, implies, neither, without};
+pub use copies::{Source, Substituted, substitute};
 pub use evaluation::{Valuation, eval};
+pub use implied::forced;
 pub use net::{Gate, Net};
+pub use parts::part;

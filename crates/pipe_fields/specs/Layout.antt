@@ -1,5 +1,5 @@
 -- The fields of a control valuation of PIPE: five lines of numbers, and the bits that spell them.
-use Rattle.std.specs.Prelude.{ℕ, List, [], ◌∷◌, Bool, get_or, Option, Some, None}
+use Rattle.std.specs.Prelude.{ℕ, ◌+◌, List, [], ◌∷◌, Bool, get_or, Option, Some, None}
 use Rattle.dp_signals.specs.PipeNames as signal
 use Rattle.field_bits.specs.declared.spots.Place.{Place}
 use Rattle.field_bits.specs.declared.spots.Spot.{Spot}
@@ -105,9 +105,25 @@ spots =
     hidden 1 ∷  -- M: back
     read_by 3 signal.W_stat ∷ read_by 4 signal.W_icode ∷ read_by 4 signal.W_dstE ∷ read_by 4 signal.W_dstM ∷ []
 
+-- with which of them a line begins: F behind the kinds, and each of the others
+abbrev pub f_first : ℕ
+f_first = 4
+
+abbrev pub d_first : ℕ
+d_first = f_first + 6
+
+abbrev pub e_first : ℕ
+e_first = d_first + 8
+
+abbrev pub m_first : ℕ
+m_first = e_first + 10
+
+abbrev pub w_first : ℕ
+w_first = m_first + 8
+
 -- how many they are, and how many bits they have together
 abbrev pub field_count : ℕ
-field_count = 40
+field_count = w_first + 4
 
 abbrev pub bit_count : ℕ
 bit_count = 107

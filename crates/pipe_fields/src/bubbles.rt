@@ -1,4 +1,6 @@
 //! Gates for the lines of bubbles.
+#![tactic(auto, using(nets::proofs::Truths::begins_more), unfolding(crate::specs::Layout::fields_of))]
+
 ghost use Rattle.std.specs.Prelude.{◌≡◌, ◌<◌, ◌≤◌, ◌+◌, ◌==◌, ◌&&◌, ◌||◌, length, IfOk};
 ghost use Rattle.nets.specs.Nets.{Begins, IsGate, truth};
 ghost use Rattle.pipe_fields.specs.Layout.{bit_count, fields_of};
@@ -27,7 +29,6 @@ fn and_is(b: &mut NetBuilder, all: u64, p: Place, n: u64) -> Result<u64, Memory>
 }
 
 /// The line D of a bubble.
-#[tactic(auto, using(nets::proofs::Truths::truth_kept, nets::proofs::Truths::begins_more), unfolding(crate::specs::Layout::fields_of))]
 pub fn decode_bubble(b: &mut NetBuilder) -> Result<u64, Memory>
     requires vars { bit_count ≤ b.old.vars }
     ensures begins { Begins b.old b.new }
@@ -45,7 +46,6 @@ pub fn decode_bubble(b: &mut NetBuilder) -> Result<u64, Memory>
 }
 
 /// The line E of a bubble.
-#[tactic(auto, using(nets::proofs::Truths::truth_kept, nets::proofs::Truths::begins_more), unfolding(crate::specs::Layout::fields_of))]
 pub fn execute_bubble(b: &mut NetBuilder) -> Result<u64, Memory>
     requires vars { bit_count ≤ b.old.vars }
     ensures begins { Begins b.old b.new }
@@ -65,7 +65,6 @@ pub fn execute_bubble(b: &mut NetBuilder) -> Result<u64, Memory>
 }
 
 /// The line M of a bubble.
-#[tactic(auto, using(nets::proofs::Truths::truth_kept, nets::proofs::Truths::begins_more), unfolding(crate::specs::Layout::fields_of))]
 pub fn memory_bubble(b: &mut NetBuilder) -> Result<u64, Memory>
     requires vars { bit_count ≤ b.old.vars }
     ensures begins { Begins b.old b.new }
@@ -82,7 +81,6 @@ pub fn memory_bubble(b: &mut NetBuilder) -> Result<u64, Memory>
 }
 
 /// The line W of a bubble.
-#[tactic(auto, using(nets::proofs::Truths::truth_kept, nets::proofs::Truths::begins_more), unfolding(crate::specs::Layout::fields_of))]
 pub fn write_bubble(b: &mut NetBuilder) -> Result<u64, Memory>
     requires vars { bit_count ≤ b.old.vars }
     ensures begins { Begins b.old b.new }

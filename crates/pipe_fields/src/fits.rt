@@ -1,6 +1,8 @@
 //! Gates for the lines of instructions, where the icode is known.
+#![tactic(auto, using(nets::proofs::Truths::begins_more), unfolding(crate::specs::Layout::fields_of, crate::specs::Allowed::fetch_fits, crate::specs::Allowed::decode_fits, crate::specs::Allowed::execute_fits, crate::specs::Allowed::memory_fits, crate::specs::Allowed::write_fits))]
+
 ghost use Rattle.std.specs.Prelude.{◌≡◌, ◌<◌, ◌≤◌, ◌+◌, ◌==◌, ◌&&◌, ◌||◌, length, IfOk};
-ghost use Rattle.nets.specs.Nets.{Begins, IsGate, truth};
+ghost use Rattle.nets.specs.Nets.{Begins, IsGate};
 ghost use Rattle.pipe_fields.specs.Layout.{bit_count, fields_of};
 ghost use Rattle.pipe_fields.specs.Allowed as spec;
 ghost use Rattle.field_bits.specs.Fits.{cnd_where, only_where, register_fits};
@@ -77,7 +79,6 @@ fn fetch_taken(b: &mut NetBuilder, jump: bool, ifun: Place, taken: Place) -> Res
 }
 
 /// A jump without fault in D is taken where its condition holds, and no other instruction is.
-#[tactic(auto, using(nets::proofs::Truths::truth_kept, nets::proofs::Truths::begins_more), unfolding(crate::specs::Layout::fields_of))]
 fn decode_taken(b: &mut NetBuilder, jump: bool) -> Result<u64, Memory>
     requires vars { bit_count ≤ b.old.vars }
     ensures begins { Begins b.old b.new }
@@ -90,7 +91,6 @@ fn decode_taken(b: &mut NetBuilder, jump: bool) -> Result<u64, Memory>
 }
 
 /// The line F of an instruction of this icode.
-#[tactic(auto, using(nets::proofs::Truths::truth_kept, nets::proofs::Truths::begins_more), unfolding(crate::specs::Layout::fields_of, crate::specs::Allowed::fetch_fits))]
 pub fn fetch_fits(b: &mut NetBuilder, count: u64, icode: u64, row: &Row) -> Result<u64, Memory>
     requires vars { bit_count ≤ b.old.vars }
     requires top { row.now.ifun_top < 16 }
@@ -108,7 +108,6 @@ pub fn fetch_fits(b: &mut NetBuilder, count: u64, icode: u64, row: &Row) -> Resu
 }
 
 /// The line D of an instruction of this icode.
-#[tactic(auto, using(nets::proofs::Truths::truth_kept, nets::proofs::Truths::begins_more), unfolding(crate::specs::Layout::fields_of, crate::specs::Allowed::decode_fits))]
 pub fn decode_fits(b: &mut NetBuilder, count: u64, icode: u64, row: &Row) -> Result<u64, Memory>
     requires vars { bit_count ≤ b.old.vars }
     requires top { row.now.ifun_top < 16 }
@@ -130,7 +129,6 @@ pub fn decode_fits(b: &mut NetBuilder, count: u64, icode: u64, row: &Row) -> Res
 }
 
 /// The register numbers in E.
-#[tactic(auto, using(nets::proofs::Truths::truth_kept, nets::proofs::Truths::begins_more), unfolding(crate::specs::Layout::fields_of))]
 fn registers_fit(b: &mut NetBuilder, row: &Row) -> Result<u64, Memory>
     requires vars { bit_count ≤ b.old.vars }
     ensures begins { Begins b.old b.new }
@@ -149,7 +147,6 @@ fn registers_fit(b: &mut NetBuilder, row: &Row) -> Result<u64, Memory>
 }
 
 /// The line E of an instruction of this icode.
-#[tactic(auto, using(nets::proofs::Truths::truth_kept, nets::proofs::Truths::begins_more), unfolding(crate::specs::Layout::fields_of, crate::specs::Allowed::execute_fits))]
 pub fn execute_fits(b: &mut NetBuilder, count: u64, icode: u64, row: &Row) -> Result<u64, Memory>
     requires vars { bit_count ≤ b.old.vars }
     requires top { row.now.ifun_top < 16 }
@@ -169,7 +166,6 @@ pub fn execute_fits(b: &mut NetBuilder, count: u64, icode: u64, row: &Row) -> Re
 }
 
 /// The line M of an instruction of this icode.
-#[tactic(auto, using(nets::proofs::Truths::truth_kept, nets::proofs::Truths::begins_more), unfolding(crate::specs::Layout::fields_of, crate::specs::Allowed::memory_fits))]
 pub fn memory_fits(b: &mut NetBuilder, count: u64, icode: u64, row: &Row) -> Result<u64, Memory>
     requires vars { bit_count ≤ b.old.vars }
     requires top { row.now.ifun_top < 16 }
@@ -207,7 +203,6 @@ fn write_destination(b: &mut NetBuilder, row: &Row) -> Result<u64, Memory>
 }
 
 /// The line W of an instruction of this icode.
-#[tactic(auto, using(nets::proofs::Truths::truth_kept, nets::proofs::Truths::begins_more), unfolding(crate::specs::Layout::fields_of, crate::specs::Allowed::write_fits))]
 pub fn write_fits(b: &mut NetBuilder, count: u64, icode: u64, row: &Row) -> Result<u64, Memory>
     requires vars { bit_count ≤ b.old.vars }
     ensures begins { Begins b.old b.new }

@@ -1,6 +1,6 @@
 //! The fields of a control valuation of PIPE (CS:APP 3e, section 4.5): their bits, and which lines of numbers are
 //! allowed, as definitions by the instruction table and as gates.
-#![tactic(auto, using(nets::proofs::Truths::truth_kept, nets::proofs::Truths::begins_more))]
+#![tactic(auto, using(nets::proofs::Truths::begins_more))]
 
 mod bubbles;
 mod fits;
@@ -13,5 +13,5 @@ mod valuation;
 pub use laws::{law_of_bubbles, law_of_patterns, law_of_places, law_of_the_start};
 pub use lines::Line;
 pub use places::BIT_COUNT;
-pub use table::{FIELD_COUNT, place_of, spots};
+pub use table::{D_FIRST, E_FIRST, F_FIRST, FIELD_COUNT, M_FIRST, W_FIRST, place_of, spots};
 pub use valuation::{allowed, line_fits};

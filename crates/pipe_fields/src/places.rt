@@ -102,5 +102,13 @@ pub const W_DST_E: Place = place!(W + 7, 4);
 
 pub const W_DST_M: Place = place!(W + 11, 4);
 
+/// How many fields are numbers of registers.
+pub const REGISTER_COUNT: usize = 10;
+
+/// The fields that are numbers of registers, in the order of the variables.
+pub const REGISTERS: [Place; REGISTER_COUNT] = [
+    D_R_A, D_R_B, E_DST_E, E_DST_M, E_SRC_A, E_SRC_B, M_DST_E, M_DST_M, W_DST_E, W_DST_M,
+];
+
 /// How many bits the fields have together. The atoms of a control valuation stand behind them.
 pub const BIT_COUNT: u32 = W + 15;

@@ -22,8 +22,19 @@ macro_rules! spot {
     };
 }
 
+/// With which of the fields a line begins: F behind the four kinds, and each of the others.
+pub const F_FIRST: usize = 4;
+
+pub const D_FIRST: usize = F_FIRST + 6;
+
+pub const E_FIRST: usize = D_FIRST + 8;
+
+pub const M_FIRST: usize = E_FIRST + 10;
+
+pub const W_FIRST: usize = M_FIRST + 8;
+
 /// How many fields there are.
-pub const FIELD_COUNT: usize = 40;
+pub const FIELD_COUNT: usize = W_FIRST + 4;
 
 /// The fields in the order of the variables.
 static SPOTS: [Spot; FIELD_COUNT] = [

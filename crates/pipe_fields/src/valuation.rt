@@ -1,4 +1,6 @@
 //! The gate that tells whether lines are those of a control valuation.
+#![tactic(auto, using(nets::proofs::Truths::begins_more), unfolding(crate::specs::Layout::fields_of, crate::specs::Lines::fits_at))]
+
 ghost use Rattle.std.specs.Prelude.{◌≡◌, ◌<◌, ◌≤◌, ◌+◌, ◌==◌, ◌||◌, not, length, List, Bool, IfOk};
 ghost use Rattle.nets.specs.Nets.{Begins, IsGate, truth};
 ghost use Rattle.field_bits.specs.Icodes.{where_below};
@@ -17,7 +19,6 @@ use y86_base::{Memory, Variant};
 use y86_isa::{Row, icode_count, row};
 
 /// Where the icode of a line is.
-#[tactic(auto, unfolding(crate::specs::Layout::fields_of))]
 fn icode_place(line: Line) -> Place
     ensures is { (w : List Bool) → spelt w result.first result.bits ≡ icode_in line (fields_of w) }
     ensures within { result.first + result.bits ≤ bit_count }
@@ -55,7 +56,7 @@ fn row_fits(
 }
 
 /// Where the line has this icode, it fits the icode's row.
-#[tactic(auto, using(nets::proofs::Truths::truth_kept, nets::proofs::Truths::begins_more), unfolding(crate::specs::Lines::fits_at))]
+#[tactic(auto, using(nets::proofs::Truths::begins_more), unfolding(crate::specs::Lines::fits_at))]
 fn at_icode(b: &mut NetBuilder, v: Variant, line: Line, icode: u64) -> Result<u64, Memory>
     requires vars { bit_count ≤ b.old.vars }
     ensures begins { Begins b.old b.new }
@@ -119,7 +120,6 @@ fn stage_fits(
 }
 
 /// The line D of a control valuation.
-#[tactic(auto, using(nets::proofs::Truths::truth_kept, nets::proofs::Truths::begins_more), unfolding(crate::specs::Layout::fields_of, crate::specs::Lines::fits_at))]
 fn decode_allowed(b: &mut NetBuilder, v: Variant) -> Result<u64, Memory>
     requires vars { bit_count ≤ b.old.vars }
     ensures begins { Begins b.old b.new }
@@ -132,7 +132,6 @@ fn decode_allowed(b: &mut NetBuilder, v: Variant) -> Result<u64, Memory>
 }
 
 /// The line E of a control valuation.
-#[tactic(auto, using(nets::proofs::Truths::truth_kept, nets::proofs::Truths::begins_more), unfolding(crate::specs::Layout::fields_of, crate::specs::Lines::fits_at))]
 fn execute_allowed(b: &mut NetBuilder, v: Variant) -> Result<u64, Memory>
     requires vars { bit_count ≤ b.old.vars }
     ensures begins { Begins b.old b.new }
@@ -145,7 +144,6 @@ fn execute_allowed(b: &mut NetBuilder, v: Variant) -> Result<u64, Memory>
 }
 
 /// The line M of a control valuation.
-#[tactic(auto, using(nets::proofs::Truths::truth_kept, nets::proofs::Truths::begins_more), unfolding(crate::specs::Layout::fields_of, crate::specs::Lines::fits_at))]
 fn memory_allowed(b: &mut NetBuilder, v: Variant) -> Result<u64, Memory>
     requires vars { bit_count ≤ b.old.vars }
     ensures begins { Begins b.old b.new }
@@ -158,7 +156,6 @@ fn memory_allowed(b: &mut NetBuilder, v: Variant) -> Result<u64, Memory>
 }
 
 /// The line W of a control valuation.
-#[tactic(auto, using(nets::proofs::Truths::truth_kept, nets::proofs::Truths::begins_more), unfolding(crate::specs::Layout::fields_of, crate::specs::Lines::fits_at))]
 fn write_allowed(b: &mut NetBuilder, v: Variant) -> Result<u64, Memory>
     requires vars { bit_count ≤ b.old.vars }
     ensures begins { Begins b.old b.new }

@@ -1,16 +1,14 @@
 -- What is made of gates that tell control values.
-use Rattle.std.proofs.Common.{◌≡◌, ℕ, ◌<◌, Bool, true, false, if◌then◌else◌, List, length, refl, ap, ◌∙◌}
+use Rattle.std.proofs.Common.{◌≡◌, ℕ, Bool, true, false, if◌then◌else◌, List, refl, ap, ◌∙◌, arith}
 use Rattle.nets.specs.Nets.{Gates, Begins, IsGate, truth}
 use Rattle.ctl_atoms.specs.declared.leaf.Leaf.{Leaf}
+use Rattle.ctl_atoms.specs.declared.leaf.Atom.{Atom}
 use Rattle.ctl_atoms.specs.Leaves.{Assignment, leaf_eq}
 use Rattle.ctl_formula.specs.declared.controls.Entry.{Entry}
 use Rattle.ctl_formula.specs.Picks.{IsInside}
 use Rattle.rule_gates.specs.Asked.{IsAsked}
 use Rattle.rule_gates.proofs.Kept.{tells_less}
-
--- a gate that was there at first
-pub asked_there : {n : Gates} {ctl : List Entry} {g : ℕ} (f : List Bool → Bool) → g < length n.gates → ((w : List Bool) → truth n g w ≡ f w) → IsAsked n ctl g (λ w α cv. f w)
-asked_there f h e = record { within = h; is = λ w α cv t. e w }
+use Rattle.pipe_gates.specs.Told.{IsGateOver}
 
 -- a gate that is made of three
 pub asked_three : {old new : Gates} {ctl : List Entry} {x y z g : ℕ} {f h k : List Bool → Assignment → (ℕ → Leaf) → Bool} (join : Bool → Bool → Bool → Bool)
@@ -22,6 +20,13 @@ asked_three {old} {new} {ctl} {x} {y} {z} {g} {f} {h} {k} join b i p q r m = rec
       let u = tells_less b i t in
       m.is w ∙ (ap (λ c. join c (truth old y w) (truth old z w)) (p.is w α cv u)
       ∙ (ap (λ c. join (f w α cv) c (truth old z w)) (q.is w α cv u) ∙ ap (λ c. join (f w α cv) (h w α cv) c) (r.is w α cv u)));
+}
+
+-- a gate over atoms is one of a later net
+pub over_more : {old new : Gates} {atoms : List Atom} {g : ℕ} {f : List Bool → Assignment → Bool} → Begins old new → IsGateOver old atoms g f → IsGateOver new atoms g f
+over_more {old} {new} {atoms} {g} k h = record {
+  within = let x = k.more in let y = h.within in omega arith;
+  is = λ w α m. k.same g w h.within ∙ h.is w α m;
 }
 
 -- one that chooses an older gate where its own test fails

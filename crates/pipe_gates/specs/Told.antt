@@ -7,6 +7,9 @@ use Rattle.ctl_atoms.specs.Leaves.{Assignment, AtomsAre}
 use Rattle.ctl_formula.specs.declared.controls.Entry.{Entry}
 use Rattle.ctl_formula.specs.Picks.{Tells}
 use Rattle.pipe_fields.specs.Layout.{bit_count, fields_of}
+use Rattle.pipe_motion.specs.declared.slots.SlotGates.{SlotGates}
+use Rattle.pipe_motion.specs.Slots.{Slot}
+use Rattle.pipe_motion.specs.Gates.{HasSlot, slot_at}
 use Rattle.pipe_obligations.specs.Settled.{Truth}
 
 -- the gate has the truth f of the valuation that the bits spell, for the truths of atoms that they tell
@@ -14,3 +17,13 @@ pub record IsTold (net : Gates) (ctl : List Entry) (atoms : List Atom) (g : ℕ)
   pub within : g < length net.gates
   pub is : (w : List Bool) (α : Assignment) (cv : ℕ → Leaf) → AtomsAre atoms bit_count w α → Tells net ctl w α cv
       → truth net g w ≡ f (fields_of w) α cv
+
+-- the gate has the truth f of the bits, for the truths of atoms that they tell
+pub record IsGateOver (net : Gates) (atoms : List Atom) (g : ℕ) (f : List Bool → Assignment → Bool) : Type 0 where
+  pub within : g < length net.gates
+  pub is : (w : List Bool) (α : Assignment) → AtomsAre atoms bit_count w α → truth net g w ≡ f w α
+
+-- the gates of a slot have the truths f wherever the gates of names tell the control values
+pub record IsAskedSlot (net : Gates) (ctl : List Entry) (s : SlotGates) (f : List Bool → Assignment → (ℕ → Leaf) → Slot) : Type 0 where
+  pub within : HasSlot (length net.gates) s
+  pub is : (w : List Bool) (α : Assignment) (cv : ℕ → Leaf) → Tells net ctl w α cv → slot_at net w s ≡ f w α cv

@@ -52,7 +52,7 @@ pub fn none_leaves(b: &mut NetBuilder, ctl: &Controls, y: &ViewGates) -> Result<
     requires view { HasView (length b.old.gates) y.now }
     requires known { Covers pipe_rows ctl.now }
     ensures begins { Begins b.old b.new }
-    ensures asked { IfOk result (λ g. IsAsked b.new ctl.now g (λ w α cv. not (leaves (spec.movers_of α cv) (view_at b.old w y.now)))) }
+    ensures made { IfOk result (λ g. IsAsked b.new ctl.now g (λ w α cv. not (leaves (spec.movers_of α cv) (view_at b.old w y.now)))) }
 {
     let movers = movers_of(ctl);
     let goes = leaves_gate(b, &movers, y)?;

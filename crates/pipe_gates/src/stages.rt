@@ -1,37 +1,38 @@
 //! Gates of what stands in D, E, M and W.
-ghost use Rattle.std.specs.Prelude.{◌≡◌, ◌<◌, ◌≤◌, ◌+◌, not, false, length, List, Bool, IfOk};
-ghost use Rattle.nets.specs.Nets.{truth, agree};
-ghost use Rattle.field_bits.specs.Spelling.{spelt, set};
+#![tactic(auto, unfolding(pipe_fields::specs::Layout::fields_of), using(nets::proofs::Truths::begins_more, nets::proofs::Truths::begins_self))]
+
+ghost use Rattle.std.specs.Prelude.{◌≡◌, ◌<◌, ◌≤◌, ◌+◌, not, length, IfOk};
+ghost use Rattle.nets.specs.Nets.{Begins, IsGate, agree, truth};
+ghost use Rattle.y86_base.specs.Words.{set};
+ghost use Rattle.field_bits.specs.Spelling.{spelt};
 ghost use Rattle.pipe_fields.specs.Layout.{bit_count, fields_of};
-ghost use Rattle.pipe_motion.specs.Grows.{Grows};
-ghost use Rattle.pipe_motion.specs.Gates.{slot_at, view_at, HasSlot, HasView};
+ghost use Rattle.pipe_motion.specs.Gates.{IsSlot, IsView};
 ghost use Rattle.pipe_motion.specs.Predictions.{predicts};
 ghost use Rattle.pipe_obligations.specs.Stages as spec;
 
 use crate::columns::RowTest;
-use crate::fields::{listed, row_has, spells};
-use field_bits::Place;
-use nets::NetBuilder;
+use crate::fields::{listed, row_has};
+use field_bits::{Place, spells};
+use nets::{NetBuilder, choose};
 use pipe_fields::places::{
     D_BACK, D_ICODE, D_IFUN, D_KIND, D_STAT, D_STOPS, D_TAKEN, E_BACK, E_CND, E_ICODE, E_IFUN,
     E_KIND, E_STAT, E_STOPS, M_BACK, M_CND, M_ERROR, M_ICODE, M_IFUN, M_KIND, M_STAT, W_ICODE,
     W_KIND, W_STAT,
 };
-use pipe_motion::{Settings, SlotGates, ViewGates, and, choose, constant, equal, not};
+use pipe_motion::{Settings, SlotGates, ViewGates};
 use y86_base::{Memory, Variant};
 
 /// The instruction stops the machine: its status isn't 1, or its fault bit is set.
 fn stops(b: &mut NetBuilder, stat: Place, fault: Place) -> Result<u64, Memory>
     requires stat_place { stat.first + stat.bits ≤ b.old.vars }
     requires fault_place { fault.first + fault.bits ≤ b.old.vars }
-    ensures within { IfOk result (λ g. g < length b.new.gates) }
-    ensures truth { (w : List Bool) → IfOk result (λ g. truth b.new g w ≡ spec.stops_by (spelt w stat.first stat.bits) (spelt w fault.first fault.bits)) }
-    ensures grows { Grows b.old b.new }
+    ensures begins { Begins b.old b.new }
+    ensures made { IfOk result (λ g. IsGate b.new g (λ w. spec.stops_by (spelt w stat.first stat.bits) (spelt w fault.first fault.bits))) }
 {
     let running = spells(b, stat, 1)?;
     let clear = spells(b, fault, 0)?;
-    let goes_on = and(b, running, clear)?;
-    let g = not(b, goes_on)?;
+    let goes_on = b.and(running, clear)?;
+    let g = b.not(goes_on)?;
     Ok(g)
 }
 
@@ -40,13 +41,12 @@ pub fn jump(b: &mut NetBuilder, v: Variant, stat: Place, icode: Place) -> Result
     requires stat_place { stat.first + stat.bits ≤ b.old.vars }
     requires icode_place { icode.first + icode.bits ≤ b.old.vars }
     requires bits { icode.bits ≡ 4 }
-    ensures within { IfOk result (λ g. g < length b.new.gates) }
-    ensures truth { (w : List Bool) → IfOk result (λ g. truth b.new g w ≡ spec.is_jump v (spelt w stat.first stat.bits) (spelt w icode.first icode.bits)) }
-    ensures grows { Grows b.old b.new }
+    ensures begins { Begins b.old b.new }
+    ensures made { IfOk result (λ g. IsGate b.new g (λ w. spec.is_jump v (spelt w stat.first stat.bits) (spelt w icode.first icode.bits))) }
 {
     let running = spells(b, stat, 1)?;
     let branch = row_has(b, v, icode, RowTest::Jump)?;
-    let g = and(b, running, branch)?;
+    let g = b.and(running, branch)?;
     Ok(g)
 }
 
@@ -61,17 +61,16 @@ fn other_way(
     requires ifun_place { ifun.first + ifun.bits ≤ b.old.vars }
     requires taken_place { taken.first + taken.bits ≤ b.old.vars }
     requires back_place { back.first + back.bits ≤ b.old.vars }
-    ensures within { IfOk result (λ g. g < length b.new.gates) }
-    ensures truth { (w : List Bool) → IfOk result (λ g. truth b.new g w ≡
-        not (agree (set (spelt w taken.first taken.bits)) (predicts s.now (spelt w ifun.first ifun.bits) (set (spelt w back.first back.bits))))) }
-    ensures grows { Grows b.old b.new }
+    ensures begins { Begins b.old b.new }
+    ensures made { IfOk result (λ g. IsGate b.new g (λ w.
+        not (agree (set (spelt w taken.first taken.bits)) (predicts s.now (spelt w ifun.first ifun.bits) (set (spelt w back.first back.bits)))))) }
 {
     let forward = listed(b, &s.pt, ifun)?;
     let backward = listed(b, &s.pb, ifun)?;
     let ahead = spells(b, back, 0)?;
     let predicted = choose(b, ahead, forward, backward)?;
     let passed = spells(b, taken, 0)?;
-    let g = equal(b, passed, predicted)?;
+    let g = b.equal(passed, predicted)?;
     Ok(g)
 }
 
@@ -92,14 +91,13 @@ fn misses(
     requires ifun_place { ifun.first + ifun.bits ≤ b.old.vars }
     requires taken_place { taken.first + taken.bits ≤ b.old.vars }
     requires back_place { back.first + back.bits ≤ b.old.vars }
-    ensures within { IfOk result (λ g. g < length b.new.gates) }
-    ensures truth { (w : List Bool) → IfOk result (λ g. truth b.new g w ≡
-        spec.misses v s.now (spelt w stat.first stat.bits) (spelt w icode.first icode.bits) (spelt w ifun.first ifun.bits) (spelt w taken.first taken.bits) (spelt w back.first back.bits)) }
-    ensures grows { Grows b.old b.new }
+    ensures begins { Begins b.old b.new }
+    ensures made { IfOk result (λ g. IsGate b.new g (λ w.
+        spec.misses v s.now (spelt w stat.first stat.bits) (spelt w icode.first icode.bits) (spelt w ifun.first ifun.bits) (spelt w taken.first taken.bits) (spelt w back.first back.bits))) }
 {
     let here = jump(b, v, stat, icode)?;
     let other = other_way(b, s, ifun, taken, back)?;
-    let g = and(b, here, other)?;
+    let g = b.and(here, other)?;
     Ok(g)
 }
 
@@ -115,15 +113,14 @@ fn slot(
     requires stop_in { stop < length b.old.gates }
     requires turn_in { turn < length b.old.gates }
     requires miss_in { miss < length b.old.gates }
-    ensures within { IfOk result (λ r. HasSlot (length b.new.gates) r) }
-    ensures slot { (w : List Bool) → IfOk result (λ r. slot_at b.new w r ≡ spec.slot_by (spelt w kind.first kind.bits) (truth b.old stop w) (truth b.old turn w) (truth b.old miss w)) }
-    ensures grows { Grows b.old b.new }
+    ensures begins { Begins b.old b.new }
+    ensures made { IfOk result (λ r. IsSlot b.new r (λ w. spec.slot_by (spelt w kind.first kind.bits) (truth b.old stop w) (truth b.old turn w) (truth b.old miss w))) }
 {
     let good = spells(b, kind, 1)?;
     let wrong = spells(b, kind, 2)?;
-    let stops = and(b, good, stop)?;
-    let ret = and(b, good, turn)?;
-    let missed = and(b, good, miss)?;
+    let stops = b.and(good, stop)?;
+    let ret = b.and(good, turn)?;
+    let missed = b.and(good, miss)?;
     Ok(SlotGates {
         good,
         wrong,
@@ -134,12 +131,10 @@ fn slot(
 }
 
 /// What stands in D.
-#[tactic(auto, unfolding(pipe_fields::specs::Layout::fields_of), using(pipe_motion::proofs::Growing::grows_more, pipe_motion::proofs::Growing::grows_self))]
 fn decode_slot(b: &mut NetBuilder, v: Variant, s: &Settings) -> Result<SlotGates, Memory>
     requires { bit_count ≤ b.old.vars }
-    ensures within { IfOk result (λ r. HasSlot (length b.new.gates) r) }
-    ensures slot { (w : List Bool) → IfOk result (λ r. slot_at b.new w r ≡ spec.decode_slot v s.now (fields_of w).d) }
-    ensures grows { Grows b.old b.new }
+    ensures begins { Begins b.old b.new }
+    ensures made { IfOk result (λ r. IsSlot b.new r (λ w. spec.decode_slot v s.now (fields_of w).d)) }
 {
     let stop = stops(b, D_STAT, D_STOPS)?;
     let turn = row_has(b, v, D_ICODE, RowTest::Ret)?;
@@ -149,12 +144,10 @@ fn decode_slot(b: &mut NetBuilder, v: Variant, s: &Settings) -> Result<SlotGates
 }
 
 /// What stands in E.
-#[tactic(auto, unfolding(pipe_fields::specs::Layout::fields_of), using(pipe_motion::proofs::Growing::grows_more, pipe_motion::proofs::Growing::grows_self))]
 fn execute_slot(b: &mut NetBuilder, v: Variant, s: &Settings) -> Result<SlotGates, Memory>
     requires { bit_count ≤ b.old.vars }
-    ensures within { IfOk result (λ r. HasSlot (length b.new.gates) r) }
-    ensures slot { (w : List Bool) → IfOk result (λ r. slot_at b.new w r ≡ spec.execute_slot v s.now (fields_of w).e) }
-    ensures grows { Grows b.old b.new }
+    ensures begins { Begins b.old b.new }
+    ensures made { IfOk result (λ r. IsSlot b.new r (λ w. spec.execute_slot v s.now (fields_of w).e)) }
 {
     let stop = stops(b, E_STAT, E_STOPS)?;
     let turn = row_has(b, v, E_ICODE, RowTest::Ret)?;
@@ -164,12 +157,10 @@ fn execute_slot(b: &mut NetBuilder, v: Variant, s: &Settings) -> Result<SlotGate
 }
 
 /// What stands in M.
-#[tactic(auto, unfolding(pipe_fields::specs::Layout::fields_of), using(pipe_motion::proofs::Growing::grows_more, pipe_motion::proofs::Growing::grows_self))]
 fn memory_slot(b: &mut NetBuilder, v: Variant, s: &Settings) -> Result<SlotGates, Memory>
     requires { bit_count ≤ b.old.vars }
-    ensures within { IfOk result (λ r. HasSlot (length b.new.gates) r) }
-    ensures slot { (w : List Bool) → IfOk result (λ r. slot_at b.new w r ≡ spec.memory_slot v s.now (fields_of w).m) }
-    ensures grows { Grows b.old b.new }
+    ensures begins { Begins b.old b.new }
+    ensures made { IfOk result (λ r. IsSlot b.new r (λ w. spec.memory_slot v s.now (fields_of w).m)) }
 {
     let stop = stops(b, M_STAT, M_ERROR)?;
     let turn = row_has(b, v, M_ICODE, RowTest::Ret)?;
@@ -179,28 +170,25 @@ fn memory_slot(b: &mut NetBuilder, v: Variant, s: &Settings) -> Result<SlotGates
 }
 
 /// What stands in W.
-#[tactic(auto, unfolding(pipe_fields::specs::Layout::fields_of), using(pipe_motion::proofs::Growing::grows_more, pipe_motion::proofs::Growing::grows_self))]
 fn write_slot(b: &mut NetBuilder, v: Variant) -> Result<SlotGates, Memory>
     requires { bit_count ≤ b.old.vars }
-    ensures within { IfOk result (λ r. HasSlot (length b.new.gates) r) }
-    ensures slot { (w : List Bool) → IfOk result (λ r. slot_at b.new w r ≡ spec.write_slot v (fields_of w).w) }
-    ensures grows { Grows b.old b.new }
+    ensures begins { Begins b.old b.new }
+    ensures made { IfOk result (λ r. IsSlot b.new r (λ w. spec.write_slot v (fields_of w).w)) }
 {
     let running = spells(b, W_STAT, 1)?;
-    let stop = not(b, running)?;
+    let stop = b.not(running)?;
     let turn = row_has(b, v, W_ICODE, RowTest::Ret)?;
-    let none = constant(b, false)?;
+    let none = b.constant(false)?;
     let r = slot(b, W_KIND, stop, turn, none)?;
     Ok(r)
 }
 
 /// What stands in the stages of a valuation.
-#[tactic(auto, unfolding(pipe_obligations::specs::Stages::view_of), using(pipe_motion::proofs::Growing::grows_more, pipe_motion::proofs::Growing::grows_self, pipe_motion::proofs::Kept::slot_kept))]
+#[tactic(auto, unfolding(pipe_obligations::specs::Stages::view_of), using(nets::proofs::Truths::begins_more, nets::proofs::Truths::begins_self, pipe_motion::proofs::Kept::slot_kept))]
 pub fn view_gates(b: &mut NetBuilder, v: Variant, s: &Settings) -> Result<ViewGates, Memory>
     requires { bit_count ≤ b.old.vars }
-    ensures within { IfOk result (λ r. HasView (length b.new.gates) r) }
-    ensures view { (w : List Bool) → IfOk result (λ r. view_at b.new w r ≡ spec.view_of v s.now (fields_of w)) }
-    ensures grows { Grows b.old b.new }
+    ensures begins { Begins b.old b.new }
+    ensures made { IfOk result (λ r. IsView b.new r (λ w. spec.view_of v s.now (fields_of w))) }
 {
     let d = decode_slot(b, v, s)?;
     let e = execute_slot(b, v, s)?;

@@ -1,5 +1,5 @@
 -- Slots, views and movers as gates of a net: their truths under a valuation.
-use Rattle.std.specs.Prelude.{ℕ, ◌<◌, Bool, List}
+use Rattle.std.specs.Prelude.{ℕ, ◌<◌, ◌≡◌, Bool, List, length}
 use Rattle.nets.specs.Nets.{Gates, truth}
 use Rattle.pipe_motion.specs.declared.slots.SlotGates.{SlotGates}
 use Rattle.pipe_motion.specs.declared.slots.ViewGates.{ViewGates}
@@ -44,3 +44,12 @@ pub record HasMovers (count : ℕ) (k : MoversGates) : Type 0 where
   pub e : HasMover count k.e
   pub m : HasMover count k.m
   pub w : HasMover count k.w
+
+-- ---- they are gates of the net with these truths
+pub record IsSlot (n : Gates) (s : SlotGates) (f : List Bool → Slot) : Type 0 where
+  pub within : HasSlot (length n.gates) s
+  pub is : (w : List Bool) → slot_at n w s ≡ f w
+
+pub record IsView (n : Gates) (v : ViewGates) (f : List Bool → View) : Type 0 where
+  pub within : HasView (length n.gates) v
+  pub is : (w : List Bool) → view_at n w v ≡ f w

@@ -1,5 +1,4 @@
 pub mod Slots
-pub mod Grows
 pub mod Gates
 pub mod Laws
 pub mod Predictions

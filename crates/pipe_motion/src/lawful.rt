@@ -1,22 +1,20 @@
 //! Gates of: a view of the pipeline is lawful, and the path of its youngest good instruction.
-ghost use Rattle.std.specs.Prelude.{◌≡◌, ◌<◌, ◌||◌, ◌&&◌, not, if◌then◌else◌, List, Bool, length, IfOk};
-ghost use Rattle.nets.specs.Nets.{truth};
-ghost use Rattle.pipe_motion.specs.Grows.{Grows};
+#![tactic(auto, unfolding(crate::specs::Slots::lawful, crate::specs::Slots::path, crate::specs::Slots::youngest_stops), using(nets::proofs::Truths::begins_more, nets::proofs::Truths::begins_self))]
+
+ghost use Rattle.std.specs.Prelude.{◌<◌, ◌&&◌, length, IfOk};
+ghost use Rattle.nets.specs.Nets.{Begins, IsGate, truth};
 ghost use Rattle.pipe_motion.specs.Gates.{slot_at, view_at, HasSlot, HasView};
 ghost use Rattle.pipe_motion.specs.Slots as spec;
 
-use crate::connectives::excludes;
 use crate::slots::{SlotGates, ViewGates};
-use crate::steps::{and, choose, implies, not, or, without};
-use nets::NetBuilder;
+use nets::{NetBuilder, choose, excludes, implies, without};
 use y86_base::Memory;
 
 /// Where E is wrong, D isn't good.
 fn good_behind_wrong(b: &mut NetBuilder, v: &ViewGates) -> Result<u64, Memory>
     requires { HasView (length b.old.gates) v.now }
-    ensures within { IfOk result (λ g. g < length b.new.gates) }
-    ensures truth { (w : List Bool) → IfOk result (λ g. truth b.new g w ≡ spec.no_good_behind_wrong (view_at b.old w v.now)) }
-    ensures grows { Grows b.old b.new }
+    ensures begins { Begins b.old b.new }
+    ensures made { IfOk result (λ g. IsGate b.new g (λ w. spec.no_good_behind_wrong (view_at b.old w v.now))) }
 {
     let g = excludes(b, v.e.wrong, v.d.good)?;
     Ok(g)
@@ -25,30 +23,28 @@ fn good_behind_wrong(b: &mut NetBuilder, v: &ViewGates) -> Result<u64, Memory>
 /// No good instruction stops but the youngest.
 fn one_stops(b: &mut NetBuilder, v: &ViewGates) -> Result<u64, Memory>
     requires { HasView (length b.old.gates) v.now }
-    ensures within { IfOk result (λ g. g < length b.new.gates) }
-    ensures truth { (w : List Bool) → IfOk result (λ g. truth b.new g w ≡ spec.youngest_stops_alone (view_at b.old w v.now)) }
-    ensures grows { Grows b.old b.new }
+    ensures begins { Begins b.old b.new }
+    ensures made { IfOk result (λ g. IsGate b.new g (λ w. spec.youngest_stops_alone (view_at b.old w v.now))) }
 {
-    let behind_m = or(b, v.d.good, v.e.good)?;
-    let behind_w = or(b, behind_m, v.m.good)?;
+    let behind_m = b.or(v.d.good, v.e.good)?;
+    let behind_w = b.or(behind_m, v.m.good)?;
     let e = excludes(b, v.e.stops, v.d.good)?;
     let m = excludes(b, v.m.stops, behind_m)?;
     let w = excludes(b, v.w.stops, behind_w)?;
-    let both = and(b, m, w)?;
-    let all = and(b, e, both)?;
+    let both = b.and(m, w)?;
+    let all = b.and(e, both)?;
     Ok(all)
 }
 
 /// Wrong instructions may stand behind the youngest good one.
 fn reason(b: &mut NetBuilder, v: &ViewGates) -> Result<u64, Memory>
     requires { HasView (length b.old.gates) v.now }
-    ensures within { IfOk result (λ g. g < length b.new.gates) }
-    ensures truth { (w : List Bool) → IfOk result (λ g. truth b.new g w ≡ spec.wrong_may_follow (view_at b.old w v.now)) }
-    ensures grows { Grows b.old b.new }
+    ensures begins { Begins b.old b.new }
+    ensures made { IfOk result (λ g. IsGate b.new g (λ w. spec.wrong_may_follow (view_at b.old w v.now))) }
 {
     let d = without(b, v.d.stops, v.d.ret)?;
     let e_stops = without(b, v.e.stops, v.e.ret)?;
-    let e = or(b, e_stops, v.e.missed)?;
+    let e = b.or(e_stops, v.e.missed)?;
     let m = without(b, v.m.stops, v.m.ret)?;
     let from_m = choose(b, v.m.good, m, v.w.stops)?;
     let from_e = choose(b, v.e.good, e, from_m)?;
@@ -59,12 +55,11 @@ fn reason(b: &mut NetBuilder, v: &ViewGates) -> Result<u64, Memory>
 /// D and E are wrong only where that has a reason.
 fn wrong_reasons(b: &mut NetBuilder, v: &ViewGates) -> Result<u64, Memory>
     requires { HasView (length b.old.gates) v.now }
-    ensures within { IfOk result (λ g. g < length b.new.gates) }
-    ensures truth { (w : List Bool) → IfOk result (λ g. truth b.new g w ≡ spec.wrong_has_reason (view_at b.old w v.now)) }
-    ensures grows { Grows b.old b.new }
+    ensures begins { Begins b.old b.new }
+    ensures made { IfOk result (λ g. IsGate b.new g (λ w. spec.wrong_has_reason (view_at b.old w v.now))) }
 {
     let reason = reason(b, v)?;
-    let wrong = or(b, v.d.wrong, v.e.wrong)?;
+    let wrong = b.or(v.d.wrong, v.e.wrong)?;
     let g = implies(b, wrong, reason)?;
     Ok(g)
 }
@@ -72,82 +67,76 @@ fn wrong_reasons(b: &mut NetBuilder, v: &ViewGates) -> Result<u64, Memory>
 /// A missed jump is the youngest good instruction: in E, and in M unless `je`.
 fn missed_jumps(b: &mut NetBuilder, v: &ViewGates, je: bool) -> Result<u64, Memory>
     requires { HasView (length b.old.gates) v.now }
-    ensures within { IfOk result (λ g. g < length b.new.gates) }
-    ensures truth { (w : List Bool) → IfOk result (λ g. truth b.new g w ≡ spec.missed_jump_is_youngest je (view_at b.old w v.now)) }
-    ensures grows { Grows b.old b.new }
+    ensures begins { Begins b.old b.new }
+    ensures made { IfOk result (λ g. IsGate b.new g (λ w. spec.missed_jump_is_youngest je (view_at b.old w v.now))) }
 {
     let e = excludes(b, v.e.missed, v.d.good)?;
     if je {
         return Ok(e);
     }
-    let behind_m = or(b, v.d.good, v.e.good)?;
+    let behind_m = b.or(v.d.good, v.e.good)?;
     let m = excludes(b, v.m.missed, behind_m)?;
-    let both = and(b, e, m)?;
+    let both = b.and(e, m)?;
     Ok(both)
 }
 
 /// A ret is the youngest good instruction: in E and M, and in W unless `rm`.
 fn rets(b: &mut NetBuilder, v: &ViewGates, rm: bool) -> Result<u64, Memory>
     requires { HasView (length b.old.gates) v.now }
-    ensures within { IfOk result (λ g. g < length b.new.gates) }
-    ensures truth { (w : List Bool) → IfOk result (λ g. truth b.new g w ≡ spec.ret_is_youngest rm (view_at b.old w v.now)) }
-    ensures grows { Grows b.old b.new }
+    ensures begins { Begins b.old b.new }
+    ensures made { IfOk result (λ g. IsGate b.new g (λ w. spec.ret_is_youngest rm (view_at b.old w v.now))) }
 {
-    let behind_m = or(b, v.d.good, v.e.good)?;
+    let behind_m = b.or(v.d.good, v.e.good)?;
     let e = excludes(b, v.e.ret, v.d.good)?;
     let m = excludes(b, v.m.ret, behind_m)?;
-    let both = and(b, e, m)?;
+    let both = b.and(e, m)?;
     if rm {
         return Ok(both);
     }
-    let behind_w = or(b, behind_m, v.m.good)?;
+    let behind_w = b.or(behind_m, v.m.good)?;
     let w = excludes(b, v.w.ret, behind_w)?;
-    let all = and(b, both, w)?;
+    let all = b.and(both, w)?;
     Ok(all)
 }
 
 /// The last three of the five.
 fn reasons_and_turns(b: &mut NetBuilder, v: &ViewGates, je: bool, rm: bool) -> Result<u64, Memory>
     requires { HasView (length b.old.gates) v.now }
-    ensures within { IfOk result (λ g. g < length b.new.gates) }
-    ensures truth { (w : List Bool) → IfOk result (λ g. truth b.new g w ≡
-        (spec.wrong_has_reason (view_at b.old w v.now) && (spec.missed_jump_is_youngest je (view_at b.old w v.now) && spec.ret_is_youngest rm (view_at b.old w v.now)))) }
-    ensures grows { Grows b.old b.new }
+    ensures begins { Begins b.old b.new }
+    ensures made { IfOk result (λ g. IsGate b.new g (λ w.
+        spec.wrong_has_reason (view_at b.old w v.now) && (spec.missed_jump_is_youngest je (view_at b.old w v.now) && spec.ret_is_youngest rm (view_at b.old w v.now)))) }
 {
     let reasons = wrong_reasons(b, v)?;
     let jumps = missed_jumps(b, v, je)?;
     let rets = rets(b, v, rm)?;
-    let last_two = and(b, jumps, rets)?;
-    let all = and(b, reasons, last_two)?;
+    let last_two = b.and(jumps, rets)?;
+    let all = b.and(reasons, last_two)?;
     Ok(all)
 }
 
 /// The view is lawful, in a file that fetches early from E (`je`) or M (`rm`) or not.
-#[tactic(auto, unfolding(crate::specs::Slots::lawful), using(crate::proofs::Growing::grows_more, crate::proofs::Growing::grows_self))]
 pub fn lawful_gate(b: &mut NetBuilder, v: &ViewGates, je: bool, rm: bool) -> Result<u64, Memory>
     requires { HasView (length b.old.gates) v.now }
-    ensures within { IfOk result (λ g. g < length b.new.gates) }
-    ensures truth { (w : List Bool) → IfOk result (λ g. truth b.new g w ≡ spec.lawful je rm (view_at b.old w v.now)) }
-    ensures grows { Grows b.old b.new }
+    ensures begins { Begins b.old b.new }
+    ensures made { IfOk result (λ g. IsGate b.new g (λ w. spec.lawful je rm (view_at b.old w v.now))) }
 {
     let first = good_behind_wrong(b, v)?;
     let second = one_stops(b, v)?;
     let rest = reasons_and_turns(b, v, je, rm)?;
-    let last_two = and(b, second, rest)?;
-    let all = and(b, first, last_two)?;
+    let last_two = b.and(second, rest)?;
+    let all = b.and(first, last_two)?;
     Ok(all)
 }
 
 /// The instruction goes on where it was predicted to.
 fn follows(b: &mut NetBuilder, s: &SlotGates) -> Result<u64, Memory>
     requires { HasSlot (length b.old.gates) s.now }
-    ensures within { IfOk result (λ g. g < length b.new.gates) }
-    ensures truth { (w : List Bool) → IfOk result (λ g. truth b.new g w ≡ spec.follows_prediction (slot_at b.old w s.now)) }
-    ensures grows { Grows b.old b.new }
+    ensures begins { Begins b.old b.new }
+    ensures made { IfOk result (λ g. IsGate b.new g (λ w. spec.follows_prediction (slot_at b.old w s.now))) }
 {
-    let turns = or(b, s.ret, s.missed)?;
-    let any = or(b, s.stops, turns)?;
-    let follows = not(b, any)?;
+    let turns = b.or(s.ret, s.missed)?;
+    let any = b.or(s.stops, turns)?;
+    let follows = b.not(any)?;
     Ok(follows)
 }
 
@@ -165,9 +154,8 @@ pub fn of_youngest(
     requires e_in { e < length b.old.gates }
     requires m_in { m < length b.old.gates }
     requires w_in { w < length b.old.gates }
-    ensures within { IfOk result (λ g. g < length b.new.gates) }
-    ensures truth { (x : List Bool) → IfOk result (λ g. truth b.new g x ≡ spec.of_youngest (view_at b.old x v.now) (truth b.old d x) (truth b.old e x) (truth b.old m x) (truth b.old w x)) }
-    ensures grows { Grows b.old b.new }
+    ensures begins { Begins b.old b.new }
+    ensures made { IfOk result (λ g. IsGate b.new g (λ x. spec.of_youngest (view_at b.old x v.now) (truth b.old d x) (truth b.old e x) (truth b.old m x) (truth b.old w x))) }
 {
     let from_m = choose(b, v.m.good, m, w)?;
     let from_e = choose(b, v.e.good, e, from_m)?;
@@ -176,12 +164,10 @@ pub fn of_youngest(
 }
 
 /// The predicted PC is that of the next instruction.
-#[tactic(auto, unfolding(crate::specs::Slots::path), using(crate::proofs::Growing::grows_more, crate::proofs::Growing::grows_self))]
 pub fn path_gate(b: &mut NetBuilder, v: &ViewGates) -> Result<u64, Memory>
     requires { HasView (length b.old.gates) v.now }
-    ensures within { IfOk result (λ g. g < length b.new.gates) }
-    ensures truth { (w : List Bool) → IfOk result (λ g. truth b.new g w ≡ spec.path (view_at b.old w v.now)) }
-    ensures grows { Grows b.old b.new }
+    ensures begins { Begins b.old b.new }
+    ensures made { IfOk result (λ g. IsGate b.new g (λ w. spec.path (view_at b.old w v.now))) }
 {
     let d = follows(b, &v.d)?;
     let e = follows(b, &v.e)?;
@@ -192,12 +178,10 @@ pub fn path_gate(b: &mut NetBuilder, v: &ViewGates) -> Result<u64, Memory>
 }
 
 /// The youngest good instruction stops.
-#[tactic(auto, unfolding(crate::specs::Slots::youngest_stops), using(crate::proofs::Growing::grows_more, crate::proofs::Growing::grows_self))]
 pub fn stops_gate(b: &mut NetBuilder, v: &ViewGates) -> Result<u64, Memory>
     requires { HasView (length b.old.gates) v.now }
-    ensures within { IfOk result (λ g. g < length b.new.gates) }
-    ensures truth { (w : List Bool) → IfOk result (λ g. truth b.new g w ≡ spec.youngest_stops (view_at b.old w v.now)) }
-    ensures grows { Grows b.old b.new }
+    ensures begins { Begins b.old b.new }
+    ensures made { IfOk result (λ g. IsGate b.new g (λ w. spec.youngest_stops (view_at b.old w v.now))) }
 {
     let g = of_youngest(b, v, v.d.stops, v.e.stops, v.m.stops, v.w.stops)?;
     Ok(g)

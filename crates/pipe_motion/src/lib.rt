@@ -1,17 +1,14 @@
 //! What stands in the pipeline registers, in formulas: which views of them are lawful, how a view moves in a cycle,
 //! and what is demanded of the words that stall and bubble (CS:APP 3e, section 4.5.8, pipeline control).
-#![tactic(auto, using(crate::proofs::Growing::grows_more, crate::proofs::Growing::grows_self))]
+#![tactic(auto, using(nets::proofs::Truths::begins_more, nets::proofs::Truths::begins_self))]
 
-mod connectives;
 mod lawful;
 mod laws;
 mod motion;
 mod obligations;
 mod settings;
 mod slots;
-mod steps;
 
-pub use connectives::excludes;
 pub use lawful::{lawful_gate, of_youngest, path_gate, stops_gate};
 pub use laws::{law_of_lawful_views, law_of_the_start};
 pub use motion::{fetched_slot, load_gate, move_view};
@@ -20,4 +17,3 @@ pub use obligations::{
 };
 pub use settings::Settings;
 pub use slots::{MoverGates, MoversGates, SlotGates, ViewGates};
-pub use steps::{and, choose, constant, equal, implies, not, or, without};

@@ -1,22 +1,18 @@
 //! Gates of the next cycle: what the registers hold behind stalls and bubbles.
-ghost use Rattle.std.specs.Prelude.{◌≡◌, ◌<◌, ◌||◌, ◌&&◌, not, if◌then◌else◌, List, Bool, length, IfOk};
-ghost use Rattle.nets.specs.Nets.{truth};
-ghost use Rattle.pipe_motion.specs.Grows.{Grows};
-ghost use Rattle.pipe_motion.specs.Gates.{slot_at, view_at, mover_at, movers_at, HasSlot, HasView, HasMover, HasMovers};
+ghost use Rattle.std.specs.Prelude.{◌<◌, length, IfOk};
+ghost use Rattle.nets.specs.Nets.{Begins, IsGate, truth};
+ghost use Rattle.pipe_motion.specs.Gates.{slot_at, view_at, mover_at, movers_at, HasSlot, HasView, HasMover, HasMovers, IsSlot, IsView};
 ghost use Rattle.pipe_motion.specs.Slots as spec;
 
-use crate::connectives::neither;
 use crate::slots::{MoverGates, MoversGates, SlotGates, ViewGates};
-use crate::steps::{and, choose, constant, not, without};
-use nets::NetBuilder;
+use nets::{NetBuilder, choose, neither, without};
 use y86_base::Memory;
 
 /// The register is neither stalled nor bubbled.
 pub fn load_gate(b: &mut NetBuilder, k: &MoverGates) -> Result<u64, Memory>
     requires { HasMover (length b.old.gates) k.now }
-    ensures within { IfOk result (λ g. g < length b.new.gates) }
-    ensures truth { (w : List Bool) → IfOk result (λ g. truth b.new g w ≡ spec.loads (mover_at b.old w k.now)) }
-    ensures grows { Grows b.old b.new }
+    ensures begins { Begins b.old b.new }
+    ensures made { IfOk result (λ g. IsGate b.new g (λ w. spec.loads (mover_at b.old w k.now))) }
 {
     let loads = neither(b, k.stall, k.bubble)?;
     Ok(loads)
@@ -27,9 +23,8 @@ fn moved_bit(b: &mut NetBuilder, k: &MoverGates, old: u64, loaded: u64) -> Resul
     requires mover_in { HasMover (length b.old.gates) k.now }
     requires old_in { old < length b.old.gates }
     requires loaded_in { loaded < length b.old.gates }
-    ensures within { IfOk result (λ g. g < length b.new.gates) }
-    ensures truth { (w : List Bool) → IfOk result (λ g. truth b.new g w ≡ spec.moved_truth (mover_at b.old w k.now) (truth b.old old w) (truth b.old loaded w)) }
-    ensures grows { Grows b.old b.new }
+    ensures begins { Begins b.old b.new }
+    ensures made { IfOk result (λ g. IsGate b.new g (λ w. spec.moved_truth (mover_at b.old w k.now) (truth b.old old w) (truth b.old loaded w))) }
 {
     let comes = without(b, loaded, k.bubble)?;
     let moved = choose(b, k.stall, old, comes)?;
@@ -46,9 +41,8 @@ fn moved_slot(
     requires mover_in { HasMover (length b.old.gates) k.now }
     requires old_in { HasSlot (length b.old.gates) old.now }
     requires loaded_in { HasSlot (length b.old.gates) loaded.now }
-    ensures within { IfOk result (λ r. HasSlot (length b.new.gates) r) }
-    ensures slot { (w : List Bool) → IfOk result (λ r. slot_at b.new w r ≡ spec.moved (mover_at b.old w k.now) (slot_at b.old w old.now) (slot_at b.old w loaded.now)) }
-    ensures grows { Grows b.old b.new }
+    ensures begins { Begins b.old b.new }
+    ensures made { IfOk result (λ r. IsSlot b.new r (λ w. spec.moved (mover_at b.old w k.now) (slot_at b.old w old.now) (slot_at b.old w loaded.now))) }
 {
     let good = moved_bit(b, k, old.good, loaded.good)?;
     let wrong = moved_bit(b, k, old.wrong, loaded.wrong)?;
@@ -67,11 +61,10 @@ fn moved_slot(
 /// M's slot as W takes it: a missed jump stands in D, E or M alone.
 fn for_w(b: &mut NetBuilder, s: &SlotGates) -> Result<SlotGates, Memory>
     requires { HasSlot (length b.old.gates) s.now }
-    ensures within { IfOk result (λ r. HasSlot (length b.new.gates) r) }
-    ensures slot { (w : List Bool) → IfOk result (λ r. slot_at b.new w r ≡ spec.to_w (slot_at b.old w s.now)) }
-    ensures grows { Grows b.old b.new }
+    ensures begins { Begins b.old b.new }
+    ensures made { IfOk result (λ r. IsSlot b.new r (λ w. spec.to_w (slot_at b.old w s.now))) }
 {
-    let missed = constant(b, false)?;
+    let missed = b.constant(false)?;
     Ok(SlotGates {
         good: s.good,
         wrong: s.wrong,
@@ -85,14 +78,13 @@ fn for_w(b: &mut NetBuilder, s: &SlotGates) -> Result<SlotGates, Memory>
 pub fn fetched_slot(b: &mut NetBuilder, good: u64, s: &SlotGates) -> Result<SlotGates, Memory>
     requires good_in { good < length b.old.gates }
     requires slot_in { HasSlot (length b.old.gates) s.now }
-    ensures within { IfOk result (λ r. HasSlot (length b.new.gates) r) }
-    ensures slot { (w : List Bool) → IfOk result (λ r. slot_at b.new w r ≡ spec.fetched_slot (truth b.old good w) (slot_at b.old w s.now)) }
-    ensures grows { Grows b.old b.new }
+    ensures begins { Begins b.old b.new }
+    ensures made { IfOk result (λ r. IsSlot b.new r (λ w. spec.fetched_slot (truth b.old good w) (slot_at b.old w s.now))) }
 {
-    let wrong = not(b, good)?;
-    let stops = and(b, good, s.stops)?;
-    let ret = and(b, good, s.ret)?;
-    let missed = and(b, good, s.missed)?;
+    let wrong = b.not(good)?;
+    let stops = b.and(good, s.stops)?;
+    let ret = b.and(good, s.ret)?;
+    let missed = b.and(good, s.missed)?;
     Ok(SlotGates {
         good,
         wrong,
@@ -103,7 +95,7 @@ pub fn fetched_slot(b: &mut NetBuilder, good: u64, s: &SlotGates) -> Result<Slot
 }
 
 /// The view of the next cycle.
-#[tactic(auto, unfolding(crate::specs::Slots::moved_view), using(crate::proofs::Growing::grows_more, crate::proofs::Growing::grows_self, crate::proofs::Kept::slot_kept, crate::proofs::Kept::mover_kept))]
+#[tactic(auto, unfolding(crate::specs::Slots::moved_view), using(nets::proofs::Truths::begins_more, nets::proofs::Truths::begins_self, crate::proofs::Kept::slot_kept, crate::proofs::Kept::mover_kept))]
 pub fn move_view(
     b: &mut NetBuilder,
     k: &MoversGates,
@@ -113,9 +105,8 @@ pub fn move_view(
     requires movers_in { HasMovers (length b.old.gates) k.now }
     requires fetched_in { HasSlot (length b.old.gates) fetched.now }
     requires view_in { HasView (length b.old.gates) v.now }
-    ensures within { IfOk result (λ v. HasView (length b.new.gates) v) }
-    ensures view { (w : List Bool) → IfOk result (λ r. view_at b.new w r ≡ spec.moved_view (movers_at b.old w k.now) (slot_at b.old w fetched.now) (view_at b.old w v.now)) }
-    ensures grows { Grows b.old b.new }
+    ensures begins { Begins b.old b.new }
+    ensures made { IfOk result (λ r. IsView b.new r (λ w. spec.moved_view (movers_at b.old w k.now) (slot_at b.old w fetched.now) (view_at b.old w v.now))) }
 {
     let d = moved_slot(b, &k.d, &v.d, fetched)?;
     let e = moved_slot(b, &k.e, &v.e, &v.d)?;

@@ -1,48 +1,43 @@
 //! Gates of the obligations on motion.
-ghost use Rattle.std.specs.Prelude.{◌≡◌, ◌<◌, ◌||◌, ◌&&◌, not, if◌then◌else◌, List, Bool, length, IfOk};
-ghost use Rattle.nets.specs.Nets.{truth};
-ghost use Rattle.pipe_motion.specs.Grows.{Grows};
+ghost use Rattle.std.specs.Prelude.{◌<◌, ◌||◌, ◌&&◌, not, length, IfOk};
+ghost use Rattle.nets.specs.Nets.{Begins, IsGate, truth};
 ghost use Rattle.pipe_motion.specs.Gates.{slot_at, view_at, mover_at, movers_at, HasSlot, HasView, HasMover, HasMovers};
 ghost use Rattle.pipe_motion.specs.Slots as spec;
 
-use crate::connectives::{excludes, neither};
 use crate::lawful::{lawful_gate, path_gate};
 use crate::motion::{fetched_slot, load_gate, move_view};
 use crate::slots::{MoverGates, MoversGates, SlotGates, ViewGates};
-use crate::steps::{and, choose, implies, not, or, without};
-use nets::NetBuilder;
+use nets::{NetBuilder, choose, excludes, implies, neither, without};
 use y86_base::Memory;
 
 /// A good instruction leaves D.
 pub fn leaves_gate(b: &mut NetBuilder, k: &MoversGates, v: &ViewGates) -> Result<u64, Memory>
     requires movers_in { HasMovers (length b.old.gates) k.now }
     requires view_in { HasView (length b.old.gates) v.now }
-    ensures within { IfOk result (λ g. g < length b.new.gates) }
-    ensures truth { (w : List Bool) → IfOk result (λ g. truth b.new g w ≡ spec.leaves (movers_at b.old w k.now) (view_at b.old w v.now)) }
-    ensures grows { Grows b.old b.new }
+    ensures begins { Begins b.old b.new }
+    ensures made { IfOk result (λ g. IsGate b.new g (λ w. spec.leaves (movers_at b.old w k.now) (view_at b.old w v.now))) }
 {
     let e_loads = load_gate(b, &k.e)?;
     let goes = without(b, e_loads, k.d.stall)?;
-    let leaves = and(b, v.d.good, goes)?;
+    let leaves = b.and(v.d.good, goes)?;
     Ok(leaves)
 }
 
 /// No register is stalled and bubbled.
 pub fn obligation_23(b: &mut NetBuilder, k: &MoversGates) -> Result<u64, Memory>
     requires movers_in { HasMovers (length b.old.gates) k.now }
-    ensures within { IfOk result (λ g. g < length b.new.gates) }
-    ensures truth { (w : List Bool) → IfOk result (λ g. truth b.new g w ≡ spec.o23 (movers_at b.old w k.now)) }
-    ensures grows { Grows b.old b.new }
+    ensures begins { Begins b.old b.new }
+    ensures made { IfOk result (λ g. IsGate b.new g (λ w. spec.o23 (movers_at b.old w k.now))) }
 {
     let f = excludes(b, k.f.stall, k.f.bubble)?;
     let d = excludes(b, k.d.stall, k.d.bubble)?;
     let e = excludes(b, k.e.stall, k.e.bubble)?;
     let m = excludes(b, k.m.stall, k.m.bubble)?;
     let w = excludes(b, k.w.stall, k.w.bubble)?;
-    let last_two = and(b, m, w)?;
-    let last_three = and(b, e, last_two)?;
-    let last_four = and(b, d, last_three)?;
-    let all = and(b, f, last_four)?;
+    let last_two = b.and(m, w)?;
+    let last_three = b.and(e, last_two)?;
+    let last_four = b.and(d, last_three)?;
+    let all = b.and(f, last_four)?;
     Ok(all)
 }
 
@@ -51,9 +46,8 @@ fn passes(b: &mut NetBuilder, next: &MoverGates, own: &MoverGates, good: u64) ->
     requires next_in { HasMover (length b.old.gates) next.now }
     requires own_in { HasMover (length b.old.gates) own.now }
     requires good_in { good < length b.old.gates }
-    ensures within { IfOk result (λ g. g < length b.new.gates) }
-    ensures truth { (w : List Bool) → IfOk result (λ g. truth b.new g w ≡ (not (truth b.old good w) || (spec.loads (mover_at b.old w next.now) && not (truth b.old own.now.stall w)))) }
-    ensures grows { Grows b.old b.new }
+    ensures begins { Begins b.old b.new }
+    ensures made { IfOk result (λ g. IsGate b.new g (λ w. not (truth b.old good w) || (spec.loads (mover_at b.old w next.now) && not (truth b.old own.now.stall w)))) }
 {
     let loads = load_gate(b, next)?;
     let goes = without(b, loads, own.stall)?;
@@ -65,14 +59,13 @@ fn passes(b: &mut NetBuilder, next: &MoverGates, own: &MoverGates, good: u64) ->
 fn goes_or_stays(b: &mut NetBuilder, k: &MoversGates, v: &ViewGates) -> Result<u64, Memory>
     requires movers_in { HasMovers (length b.old.gates) k.now }
     requires view_in { HasView (length b.old.gates) v.now }
-    ensures within { IfOk result (λ g. g < length b.new.gates) }
-    ensures truth { (w : List Bool) → IfOk result (λ g. truth b.new g w ≡ spec.goes_or_stays (movers_at b.old w k.now) (view_at b.old w v.now)) }
-    ensures grows { Grows b.old b.new }
+    ensures begins { Begins b.old b.new }
+    ensures made { IfOk result (λ g. IsGate b.new g (λ w. spec.goes_or_stays (movers_at b.old w k.now) (view_at b.old w v.now))) }
 {
     let leaves = leaves_gate(b, k, v)?;
     let e_loads = load_gate(b, &k.e)?;
     let stays = without(b, k.d.stall, e_loads)?;
-    let either = or(b, leaves, stays)?;
+    let either = b.or(leaves, stays)?;
     let g = implies(b, v.d.good, either)?;
     Ok(g)
 }
@@ -81,17 +74,16 @@ fn goes_or_stays(b: &mut NetBuilder, k: &MoversGates, v: &ViewGates) -> Result<u
 pub fn obligation_24(b: &mut NetBuilder, k: &MoversGates, v: &ViewGates) -> Result<u64, Memory>
     requires movers_in { HasMovers (length b.old.gates) k.now }
     requires view_in { HasView (length b.old.gates) v.now }
-    ensures within { IfOk result (λ g. g < length b.new.gates) }
-    ensures truth { (w : List Bool) → IfOk result (λ g. truth b.new g w ≡ spec.o24 (movers_at b.old w k.now) (view_at b.old w v.now)) }
-    ensures grows { Grows b.old b.new }
+    ensures begins { Begins b.old b.new }
+    ensures made { IfOk result (λ g. IsGate b.new g (λ w. spec.o24 (movers_at b.old w k.now) (view_at b.old w v.now))) }
 {
     let w = excludes(b, v.w.good, k.w.stall)?;
     let m = passes(b, &k.w, &k.m, v.m.good)?;
     let e = passes(b, &k.m, &k.e, v.e.good)?;
     let d = goes_or_stays(b, k, v)?;
-    let last_two = and(b, e, d)?;
-    let last_three = and(b, m, last_two)?;
-    let all = and(b, w, last_three)?;
+    let last_two = b.and(e, d)?;
+    let last_three = b.and(m, last_two)?;
+    let all = b.and(w, last_three)?;
     Ok(all)
 }
 
@@ -107,21 +99,20 @@ fn path_kept(
     requires good_in { good < length b.old.gates }
     requires now_in { now < length b.old.gates }
     requires later_in { later < length b.old.gates }
-    ensures within { IfOk result (λ g. g < length b.new.gates) }
-    ensures truth { (w : List Bool) → IfOk result (λ g. truth b.new g w ≡ spec.path_is_kept (movers_at b.old w k.now) (truth b.old good w) (truth b.old now w) (truth b.old later w)) }
-    ensures grows { Grows b.old b.new }
+    ensures begins { Begins b.old b.new }
+    ensures made { IfOk result (λ g. IsGate b.new g (λ w. spec.path_is_kept (movers_at b.old w k.now) (truth b.old good w) (truth b.old now w) (truth b.old later w))) }
 {
     let d_loads = load_gate(b, &k.d)?;
-    let entered = and(b, d_loads, good)?;
+    let entered = b.and(d_loads, good)?;
     let f_loads = load_gate(b, &k.f)?;
-    let stayed = and(b, k.f.stall, now)?;
+    let stayed = b.and(k.f.stall, now)?;
     let either = choose(b, entered, f_loads, stayed)?;
     let g = implies(b, later, either)?;
     Ok(g)
 }
 
 /// The next view is lawful, nothing wrong comes to M or W, and the path is kept.
-#[tactic(auto, using(crate::proofs::Growing::grows_more, crate::proofs::Growing::grows_self, crate::proofs::Kept::view_kept, crate::proofs::Kept::movers_kept))]
+#[tactic(auto, using(nets::proofs::Truths::begins_more, nets::proofs::Truths::begins_self, crate::proofs::Kept::view_kept, crate::proofs::Kept::movers_kept))]
 fn next_right(
     b: &mut NetBuilder,
     k: &MoversGates,
@@ -135,18 +126,17 @@ fn next_right(
     requires good_in { good < length b.old.gates }
     requires view_in { HasView (length b.old.gates) v.now }
     requires next_in { HasView (length b.old.gates) next.now }
-    ensures within { IfOk result (λ g. g < length b.new.gates) }
-    ensures truth { (w : List Bool) → IfOk result (λ g. truth b.new g w ≡ spec.next_is_right je rm (movers_at b.old w k.now) (truth b.old good w) (view_at b.old w v.now) (view_at b.old w next.now)) }
-    ensures grows { Grows b.old b.new }
+    ensures begins { Begins b.old b.new }
+    ensures made { IfOk result (λ g. IsGate b.new g (λ w. spec.next_is_right je rm (movers_at b.old w k.now) (truth b.old good w) (view_at b.old w v.now) (view_at b.old w next.now))) }
 {
     let lawful = lawful_gate(b, next, je, rm)?;
-    let wrong = or(b, next.m.wrong, next.w.wrong)?;
-    let none_wrong = not(b, wrong)?;
+    let wrong = b.or(next.m.wrong, next.w.wrong)?;
+    let none_wrong = b.not(wrong)?;
     let now = path_gate(b, v)?;
     let later = path_gate(b, next)?;
     let kept = path_kept(b, k, good, now, later)?;
-    let last_two = and(b, none_wrong, kept)?;
-    let all = and(b, lawful, last_two)?;
+    let last_two = b.and(none_wrong, kept)?;
+    let all = b.and(lawful, last_two)?;
     Ok(all)
 }
 
@@ -165,9 +155,8 @@ pub fn obligation_25(
     requires good_in { good < length b.old.gates }
     requires facts_in { HasSlot (length b.old.gates) facts.now }
     requires view_in { HasView (length b.old.gates) v.now }
-    ensures within { IfOk result (λ g. g < length b.new.gates) }
-    ensures truth { (w : List Bool) → IfOk result (λ g. truth b.new g w ≡ spec.o25 je rm (movers_at b.old w k.now) (truth b.old good w) (slot_at b.old w facts.now) (view_at b.old w v.now)) }
-    ensures grows { Grows b.old b.new }
+    ensures begins { Begins b.old b.new }
+    ensures made { IfOk result (λ g. IsGate b.new g (λ w. spec.o25 je rm (movers_at b.old w k.now) (truth b.old good w) (slot_at b.old w facts.now) (view_at b.old w v.now))) }
 {
     let fetched = fetched_slot(b, good, facts)?;
     let next = move_view(b, k, &fetched, v)?;
@@ -178,15 +167,14 @@ pub fn obligation_25(
 /// Bubbles stand in E, M and W.
 fn drained(b: &mut NetBuilder, v: &ViewGates) -> Result<u64, Memory>
     requires view_in { HasView (length b.old.gates) v.now }
-    ensures within { IfOk result (λ g. g < length b.new.gates) }
-    ensures truth { (w : List Bool) → IfOk result (λ g. truth b.new g w ≡ spec.is_drained (view_at b.old w v.now)) }
-    ensures grows { Grows b.old b.new }
+    ensures begins { Begins b.old b.new }
+    ensures made { IfOk result (λ g. IsGate b.new g (λ w. spec.is_drained (view_at b.old w v.now))) }
 {
     let e = neither(b, v.e.good, v.e.wrong)?;
     let m = neither(b, v.m.good, v.m.wrong)?;
     let w = neither(b, v.w.good, v.w.wrong)?;
-    let last_two = and(b, m, w)?;
-    let all = and(b, e, last_two)?;
+    let last_two = b.and(m, w)?;
+    let all = b.and(e, last_two)?;
     Ok(all)
 }
 
@@ -194,12 +182,11 @@ fn drained(b: &mut NetBuilder, v: &ViewGates) -> Result<u64, Memory>
 pub fn obligation_26(b: &mut NetBuilder, k: &MoversGates, v: &ViewGates) -> Result<u64, Memory>
     requires movers_in { HasMovers (length b.old.gates) k.now }
     requires view_in { HasView (length b.old.gates) v.now }
-    ensures within { IfOk result (λ g. g < length b.new.gates) }
-    ensures truth { (w : List Bool) → IfOk result (λ g. truth b.new g w ≡ spec.o26 (movers_at b.old w k.now) (view_at b.old w v.now)) }
-    ensures grows { Grows b.old b.new }
+    ensures begins { Begins b.old b.new }
+    ensures made { IfOk result (λ g. IsGate b.new g (λ w. spec.o26 (movers_at b.old w k.now) (view_at b.old w v.now))) }
 {
     let drained = drained(b, v)?;
-    let here = and(b, v.d.good, drained)?;
+    let here = b.and(v.d.good, drained)?;
     let leaves = leaves_gate(b, k, v)?;
     let g = implies(b, here, leaves)?;
     Ok(g)
@@ -209,13 +196,12 @@ pub fn obligation_26(b: &mut NetBuilder, k: &MoversGates, v: &ViewGates) -> Resu
 pub fn obligation_27(b: &mut NetBuilder, k: &MoversGates, v: &ViewGates) -> Result<u64, Memory>
     requires movers_in { HasMovers (length b.old.gates) k.now }
     requires view_in { HasView (length b.old.gates) v.now }
-    ensures within { IfOk result (λ g. g < length b.new.gates) }
-    ensures truth { (w : List Bool) → IfOk result (λ g. truth b.new g w ≡ spec.o27 (movers_at b.old w k.now) (view_at b.old w v.now)) }
-    ensures grows { Grows b.old b.new }
+    ensures begins { Begins b.old b.new }
+    ensures made { IfOk result (λ g. IsGate b.new g (λ w. spec.o27 (movers_at b.old w k.now) (view_at b.old w v.now))) }
 {
     let d = neither(b, v.d.good, v.d.wrong)?;
     let drained = drained(b, v)?;
-    let here = and(b, d, drained)?;
+    let here = b.and(d, drained)?;
     let loads = load_gate(b, &k.d)?;
     let g = implies(b, here, loads)?;
     Ok(g)

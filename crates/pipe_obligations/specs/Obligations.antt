@@ -12,7 +12,7 @@ use Rattle.y86_isa.specs.Blocks.{fetch_status, register_number, destination_e, a
 use Rattle.ctl_atoms.specs.declared.leaf.Leaf.{Leaf}
 use Rattle.ctl_atoms.specs.declared.leaf.Leaf.TheVariants.{Name, Number}
 use Rattle.ctl_atoms.specs.Leaves.{Assignment, leaf_holds}
-use Rattle.field_bits.specs.Spelling.{set}
+use Rattle.y86_base.specs.Words.{set}
 use Rattle.rule_gates.specs.Words.{takes, takes_some, is_number, is_truth, operand_leaf_a, operand_leaf_b, address_leaf}
 use Rattle.pipe_fields.specs.Layout.{Fields}
 use Rattle.pipe_motion.specs.Slots.{Slot, View, path, youngest_stops, of_youngest, Mover, Movers, leaves}

@@ -10,7 +10,7 @@ use Rattle.ctl_atoms.specs.declared.leaf.Leaf.TheVariants.{Name}
 use Rattle.ctl_atoms.specs.declared.leaf.Atom.{Atom}
 use Rattle.ctl_atoms.specs.Leaves.{Assignment, AtomsAre}
 use Rattle.ctl_formula.specs.Controls.{AreControls}
-use Rattle.field_bits.specs.Spelling.{set}
+use Rattle.y86_base.specs.Words.{set}
 use Rattle.rule_gates.specs.Words.{takes, is_number}
 use Rattle.pipe_fields.specs.Layout.{Fields, InRange, bit_count, fields_of, number_of}
 use Rattle.pipe_fields.specs.Allowed.{allowed}

@@ -8,7 +8,7 @@ use Rattle.ctl_atoms.specs.declared.leaf.Leaf.TheVariants.{Name}
 use Rattle.ctl_atoms.specs.declared.leaf.Atom.{Atom}
 use Rattle.ctl_atoms.specs.declared.leaf.AtomKind.TheVariants.{Lt}
 use Rattle.ctl_atoms.specs.Leaves.{Assignment, has_atom}
-use Rattle.field_bits.specs.Spelling.{set}
+use Rattle.y86_base.specs.Words.{set}
 use Rattle.pipe_fields.specs.Layout.{DecodeLine, ExecuteLine, MemoryLine, WriteLine, Fields}
 use Rattle.pipe_motion.specs.Slots.{Slot, View, lawful}
 use Rattle.pipe_motion.specs.Predictions.{predicts}

@@ -1,5 +1,5 @@
 -- A record that retires is in normal form, so its destinations are register numbers or 15.
-use Rattle.std.proofs.Common.{◌≡◌, ℕ, ◌≤◌, ◌<◌, Bool, true, false, nat_lt, Option, Some, None, if◌then◌else◌, IfSome, refl, sym, subst, arith}
+use Rattle.std.proofs.Common.{◌≡◌, ℕ, ◌≤◌, Bool, true, false, nat_lt, Option, Some, None, if◌then◌else◌, IfSome, refl, arith}
 use Rattle.std.proofs.lemmas.Bool.Decides.{nat_tests}
 use Rattle.y86_isa.specs.Machine.{is_aok, normal, written_number, written_word}
 use Rattle.y86_isa.specs.declared.machine.Rec.{Rec}

@@ -1,21 +1,20 @@
 -- Calls of `cycle` on a new machine are its run, by induction on their number.
-use Rattle.std.proofs.Common.{◌≡◌, ℕ, zero, suc, ◌+◌, Bool, true, false, List, [], ◌∷◌, ◌++◌, length, Option, Some, None, refl, sym, ◌∙◌, ap, subst, arith, length-append}
+use Rattle.std.proofs.Common.{◌≡◌, ℕ, zero, suc, ◌+◌, Bool, true, false, List, ◌++◌, length, Option, Some, None, refl, ◌∙◌, ap, subst, arith, length-append}
 use Rattle.std.proofs.lemmas.List.{append-nil}
 use Rattle.std.specs.Option.{option_to_list}
 use Rattle.y86_base.specs.declared.parts.Variant.{Variant}
 use Rattle.y86_isa.specs.Machine.{is_aok}
 use Rattle.y86_isa.specs.declared.machine.Rec.{Rec}
 use Rattle.hcl_types.specs.declared.term.Term.{Term}
-use Rattle.dp_signals.specs.PipeCycle.{ending, next, retires}
+use Rattle.dp_signals.specs.PipeCycle.{ending, retires}
 use Rattle.dp_signals.specs.PipeEquations.{Solves}
 use Rattle.dp_signals.specs.PipeRun as run
-use Rattle.dp_signals.specs.PipeState.{start_state}
 use Rattle.dp_signals.specs.declared.movers.Ending.{Ending}
 use Rattle.dp_signals.specs.declared.movers.Ending.TheVariants.{Going, Stopped, Pip}
 use Rattle.pipe_path.specs.declared.pipe.Cycled.{Cycled}
 use Rattle.pipe_path.specs.declared.pipe.Cycled.TheVariants as told
-use Rattle.pipe_path.specs.Calls.{Calls, IsRun, record_in, CallsAreTheRun}
-use Rattle.pipe_path.specs.Pipe.{Pipe, Cycle, started, after_cycle, count, told_by, told_going}
+use Rattle.pipe_path.specs.Calls.{IsRun, record_in, CallsAreTheRun}
+use Rattle.pipe_path.specs.Pipe.{Pipe, Cycle, after_cycle, count, told_by}
 
 -- the machine of the definition of a run that a machine and its records stand for
 abbrev run_machine : Pipe → List Rec → run.Pipe

@@ -12,7 +12,8 @@ use Rattle.dp_signals.specs.PipeCycle.{loaded_d, loaded_e, loaded_m, loaded_w}
 use Rattle.dp_signals.specs.PipeNames as name
 use Rattle.dp_signals.specs.PipeRows.{PipeHardware}
 use Rattle.dp_signals.specs.PipeState.{bubble_d, bubble_e, bubble_m, bubble_w}
-use Rattle.dp_signals.specs.Values.{bit, set}
+use Rattle.y86_base.specs.Words.{set}
+use Rattle.dp_signals.specs.Values.{bit}
 use Rattle.dp_signals.specs.declared.pipe_state.PipeState.{PipeState}
 use Rattle.pipe_refinement.specs.Facts.{AlwaysFacts, DecodeFacts, ExecuteFacts, FetchFacts, MemoryFacts}
 use Rattle.pipe_refinement.specs.Invariant.{AllowedD, AllowedE, EmptyD, EmptyE, EmptyM, EmptyW, Given}

@@ -17,7 +17,8 @@ use Rattle.run_laws.proofs.Walk.{fetches, follows, live_aok, live_next, pc_next}
 use Rattle.dp_signals.specs.PipeCycle.{loaded_d}
 use Rattle.dp_signals.specs.PipeNames as name
 use Rattle.dp_signals.specs.PipeRows.{PipeHardware, PipeHolds}
-use Rattle.dp_signals.specs.Values.{bit, set}
+use Rattle.y86_base.specs.Words.{set}
+use Rattle.dp_signals.specs.Values.{bit}
 use Rattle.dp_signals.specs.declared.pipe_state.PipeState.{PipeState}
 use Rattle.pipe_refinement.specs.Facts.{FetchFacts, GoodFetch, RightPc, fell_m, jump_e, ret_m, ret_w, taken_m}
 use Rattle.pipe_refinement.specs.Invariant.{Given, InD, Inv, view_of}

@@ -17,7 +17,7 @@ use Rattle.y86_isa.proofs.WhatIsRead.{IsReading-reading}
 use Rattle.run_laws.specs.Instructions.{Live, before, doing, ret_at, row_of, stops_at}
 use Rattle.run_laws.proofs.Walk.{fetches, follows, not_false, pc_next}
 use Rattle.dp_signals.specs.PipeNames as name
-use Rattle.dp_signals.specs.Values.{set}
+use Rattle.y86_base.specs.Words.{set}
 use Rattle.dp_signals.specs.declared.pipe_state.PipeState.{PipeState}
 use Rattle.pipe_refinement.specs.Facts.{FetchFacts, predicted_pc}
 use Rattle.pipe_refinement.specs.Invariant.{Given, differ, missed_at, predicted_at}

@@ -24,7 +24,7 @@ use Rattle.run_laws.proofs.Walk.{aok-from_operand, follows, source_a, source_b}
 use Rattle.dp_signals.specs.PipeCycle.{next_flags, store_of}
 use Rattle.dp_signals.specs.PipeNames as name
 use Rattle.dp_signals.specs.PipeRows.{PipeHardware}
-use Rattle.dp_signals.specs.Values.{set}
+use Rattle.y86_base.specs.Words.{set}
 use Rattle.dp_signals.specs.declared.pipe_state.PipeState.{PipeState}
 use Rattle.pipe_refinement.specs.Facts.{AccessFacts, AddressIs, ExecuteFacts, FlagsIs, exempt, late_dst_e}
 use Rattle.pipe_refinement.specs.Invariant.{Given, InE, InM, Inv}

@@ -10,7 +10,7 @@ use Rattle.y86_isa.specs.RowTests.{has_operand_a, accesses, stores_a, is_branch,
 use Rattle.y86_isa.specs.Blocks.{fetch_status, register_number, destination_e, operand_a, operand_b, alu_function, is_load, is_store, data_address}
 use Rattle.hcl_types.specs.Terms.{signed_below}
 use Rattle.dp_signals.specs.PipeNames as name
-use Rattle.dp_signals.specs.Values.{set}
+use Rattle.y86_base.specs.Words.{set}
 use Rattle.dp_signals.specs.declared.pipe_state.PipeState.{PipeState}
 use Rattle.pipe_motion.specs.Slots.{Slot, View, loads, path, youngest_stops, o23, o24, o25, o26, o27}
 use Rattle.pipe_refinement.specs.Kinds.{is_good, is_wrong, Config, asked}

@@ -2,7 +2,7 @@
 use Rattle.std.specs.Prelude.{ℕ, ◌+◌, Bool, true, false, if◌then◌else◌}
 use Rattle.dp_signals.specs.PipeCycle.{mover, moved}
 use Rattle.dp_signals.specs.PipeNames as name
-use Rattle.dp_signals.specs.Values.{set}
+use Rattle.y86_base.specs.Words.{set}
 use Rattle.pipe_motion.specs.Slots.{Mover, Movers}
 
 -- a bubble, an instruction that was fetched in vain, or one of the run

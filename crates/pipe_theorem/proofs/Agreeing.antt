@@ -4,6 +4,7 @@ use Rattle.std.proofs.lemmas.Bool.{and_parts, cases_eq, cases_lt, eqb-true, leb-
 use Rattle.std.proofs.lemmas.List.{get_or_append_left}
 use Rattle.std.proofs.lemmas.Option.{slice_get_past, slice_get-get_or}
 use Rattle.y86_base.specs.declared.parts.Variant.{Variant}
+use Rattle.y86_base.proofs.Booleans.{clash}
 use Rattle.hcl_types.specs.Lists.{Each}
 use Rattle.hcl_types.specs.Tables.{IsBound, IsOrderOf, defined, inputs, is_defined, term_at}
 use Rattle.hcl_types.specs.Terms.{value, words}
@@ -164,9 +165,6 @@ by_number P n first le here later = elim (cases_eq n first) [
   where
     above : (n ≡ first → ⊥) → first + 1 ≤ n
     above ne = grind (arith, ne, le)
-
-clash : {P : Type 0} (b : Bool) → b ≡ true → b ≡ false → P
-clash b t f = grind (arith, t, f)
 
 given_leaf : (field : ℕ → ℕ) (n : ℕ) (r : Row) (a b : Leaf) → is_defined r.role ≡ false → role_leaf field n r.class r.role a ≡ role_leaf field n r.class r.role b
 given_leaf field n r a b d = by r.role d

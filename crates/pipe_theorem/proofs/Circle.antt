@@ -14,7 +14,8 @@ use Rattle.nets.specs.Nets.{agree}
 use Rattle.hcl_types.specs.Terms.{signed_below}
 use Rattle.dp_signals.specs.PipeNames as name
 use Rattle.dp_signals.specs.PipeRows.{PipeHardware, PipeHolds}
-use Rattle.dp_signals.specs.Values.{bit, set}
+use Rattle.y86_base.specs.Words.{set}
+use Rattle.dp_signals.specs.Values.{bit}
 use Rattle.dp_signals.specs.declared.pipe_state.PipeState.{PipeState}
 use Rattle.ctl_atoms.specs.Leaves.{has_atom}
 use Rattle.ctl_atoms.specs.declared.leaf.Atom.{Atom}

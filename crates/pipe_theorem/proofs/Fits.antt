@@ -23,7 +23,8 @@ use Rattle.run_laws.proofs.Walk.{access-from_fault_at, aok-from_access, aok-from
 use Rattle.hcl_types.specs.Terms.{signed_below}
 use Rattle.dp_signals.specs.PipeNames as name
 use Rattle.dp_signals.specs.PipeRows.{PipeHardware}
-use Rattle.dp_signals.specs.Values.{bit, set}
+use Rattle.y86_base.specs.Words.{set}
+use Rattle.dp_signals.specs.Values.{bit}
 use Rattle.dp_signals.specs.declared.pipe_state.PipeState.{PipeState}
 use Rattle.dp_signals.specs.declared.pipe_state.StageD.{StageD}
 use Rattle.field_bits.specs.Fits.{cnd_fits, cnd_where, code_fits, destination_fits, half_fits, icode_fits, only_where, reading_fits, register_fits, stat_fits, tied}

@@ -10,7 +10,7 @@ use Rattle.run_laws.proofs.Statuses.{fetch_one, one_is, stops_is}
 use Rattle.nets.specs.Nets.{agree}
 use Rattle.hcl_types.specs.Terms.{signed_below}
 use Rattle.dp_signals.specs.PipeNames as name
-use Rattle.dp_signals.specs.Values.{set}
+use Rattle.y86_base.specs.Words.{set}
 use Rattle.dp_signals.specs.declared.pipe_state.PipeState.{PipeState}
 use Rattle.pipe_motion.specs.Predictions.{predicts}
 use Rattle.pipe_motion.specs.Slots.{Slot, to_w}

@@ -13,7 +13,7 @@ use Rattle.dp_signals.specs.PipeEquations.{Solves}
 use Rattle.dp_signals.specs.PipeNames as name
 use Rattle.dp_signals.specs.PipeRows.{PipeHardware, PipeHolds}
 use Rattle.dp_signals.specs.PipeTable.{pipe_rows}
-use Rattle.dp_signals.specs.Values.{set}
+use Rattle.y86_base.specs.Words.{set}
 use Rattle.dp_signals.specs.declared.pipe_state.PipeState.{PipeState}
 use Rattle.dp_signals.proofs.PipeRows.{pipe_hardware_rows, pipe_holds}
 use Rattle.ctl_atoms.specs.Leaves.{Assignment}

@@ -1,14 +1,15 @@
 -- The numbers of an allowed valuation may stand behind one another.
-use Rattle.std.proofs.Common.{◌≡◌, ◌⊎◌, inl, inr, ℕ, zero, suc, ◌+◌, ◌<◌, ◌≤◌, Bool, true, false, not, ◌&&◌, ◌||◌, ◌==◌, nat_lt, nat_le, if◌then◌else◌, List, [], ◌∷◌, length, get_or, take, refl, sym, ap, ◌∙◌, subst, arith}
+use Rattle.std.proofs.Common.{◌≡◌, ℕ, ◌+◌, Bool, true, false, not, ◌&&◌, ◌||◌, ◌==◌, nat_lt, nat_le, if◌then◌else◌, length, get_or, take, refl, sym, ap, subst, arith}
 use Rattle.std.proofs.lemmas.Bool.{eqb-true}
 use Rattle.std.proofs.lemmas.Bool.Decides.{nat_tests}
 use Rattle.y86_base.specs.declared.parts.Variant.{Variant}
 use Rattle.y86_base.specs.declared.parts.Variant.TheVariants.{Base, Full}
+use Rattle.y86_base.proofs.Booleans.{clash}
 use Rattle.y86_isa.specs.declared.columns.Row.{Row}
-use Rattle.y86_isa.specs.RowTests.{accesses, is_branch, is_field_b}
+use Rattle.y86_isa.specs.RowTests.{accesses, is_branch}
 use Rattle.y86_isa.specs.Table.{rows, row, inop, no_register}
-use Rattle.field_bits.specs.Fits.{half_fits, register_fits, cnd_where, only_where, cnd_fits, code_fits, reading_fits, icode_fits, stat_fits, tied, destination_fits}
-use Rattle.field_bits.specs.Spelling.{set}
+use Rattle.field_bits.specs.Fits.{half_fits, register_fits, cnd_where, only_where, cnd_fits, code_fits, icode_fits, stat_fits, tied, destination_fits}
+use Rattle.y86_base.specs.Words.{set}
 use Rattle.pipe_fields.specs.Layout.{Fields, FetchLine, DecodeLine, ExecuteLine, MemoryLine, WriteLine, fields_by, numbers, bubble}
 use Rattle.pipe_fields.specs.Allowed.{allowed, fetch_fits, decode_fits, execute_fits, memory_fits, write_fits, registers_fit, fetch_allowed, decode_allowed, execute_allowed, memory_allowed, write_allowed, is_live, decode_bubble, execute_bubble, memory_bubble, write_bubble}
 use Rattle.pipe_fields.proofs.Told.{LinesAllowed, lines_allowed}
@@ -272,11 +273,7 @@ lost_or_kept : (r : Row) (ifun cnd d : ℕ) → destination_fits r cnd d ≡ tru
 lost_or_kept r ifun cnd d h c = by (r.conditional && not (set cnd)) refl
   where
     nonzero : (b : Bool) → (ifun == 0) ≡ b → set cnd ≡ false → not b ≡ true
-    nonzero true e off = absurd (clash (set cnd) (then_true _ _ _ e c) off)
-      where
-        clash : (b : Bool) → b ≡ true → b ≡ false → ⊥
-        clash true p q = cc
-        clash false p q = cc
+    nonzero true e off = clash (set cnd) (then_true _ _ _ e c) off
     nonzero false e off = refl
 
     negated : (b : Bool) → not b ≡ true → b ≡ false

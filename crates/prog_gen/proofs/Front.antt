@@ -1,5 +1,5 @@
 -- Numbers that may stand behind one another are those with which an allowed valuation begins.
-use Rattle.std.proofs.Common.{◌≡◌, ◌⊎◌, inl, inr, ℕ, zero, suc, ◌+◌, ◌-◌, ◌%◌, ◌^◌, ◌<◌, ◌≤◌, min, Bool, true, false, List, [], ◌∷◌, ◌++◌, length, get_or, take, slice_get, unwrap_or, None, refl, sym, ap, ◌∙◌, subst, arith}
+use Rattle.std.proofs.Common.{◌≡◌, ◌⊎◌, inl, inr, ℕ, zero, suc, ◌+◌, ◌-◌, ◌%◌, ◌^◌, ◌<◌, ◌≤◌, Bool, true, false, List, [], ◌∷◌, ◌++◌, length, get_or, take, unwrap_or, None, refl, sym, ap, ◌∙◌, subst, arith}
 use Rattle.std.specs.List.{All, Contains, filter, range_with_len}
 use Rattle.std.proofs.lemmas.Bool.{cases_eq}
 use Rattle.std.proofs.lemmas.List.{ext_get_or, get_or-take, length-take, take-append-le, take_all, length-append}
@@ -11,7 +11,7 @@ use Rattle.std.proofs.Math.Seq.{get_or-append_seam}
 use Rattle.y86_base.specs.declared.parts.Variant.{Variant}
 use Rattle.field_bits.specs.Spots as table
 use Rattle.field_bits.specs.declared.spots.Spot.{Spot}
-use Rattle.pipe_fields.specs.Layout.{Fields, InRange, fields_by, fields_of, numbers, pattern_of, spots, field_count}
+use Rattle.pipe_fields.specs.Layout.{Fields, InRange, fields_by, fields_of, numbers, spots, field_count}
 use Rattle.pipe_fields.specs.Allowed.{allowed}
 use Rattle.pipe_fields.proofs.Told.{has_pattern}
 use Rattle.prog_gen.specs.Choices.{AreChosen, choices, chosen, may_stand, numbers_drawn, truths_drawn, valuation, valuation_from, width, word_behind}

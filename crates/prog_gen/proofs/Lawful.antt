@@ -1,5 +1,5 @@
 -- Numbers that may stand behind one another are those of an allowed valuation.
-use Rattle.std.proofs.Common.{◌≡◌, ◌⊎◌, inl, inr, ℕ, zero, suc, ◌+◌, ◌<◌, ◌≤◌, Bool, true, false, not, ◌&&◌, ◌||◌, ◌==◌, nat_lt, nat_le, if◌then◌else◌, List, [], ◌∷◌, length, get_or, take, refl, sym, ap, ◌∙◌, subst, arith}
+use Rattle.std.proofs.Common.{◌≡◌, ℕ, ◌<◌, Bool, true, false, not, ◌&&◌, ◌||◌, ◌==◌, nat_lt, nat_le, if◌then◌else◌, length, get_or, take, refl, subst, arith}
 use Rattle.std.proofs.lemmas.Bool.{eqb-true}
 use Rattle.std.proofs.lemmas.Bool.Decides.{nat_tests}
 use Rattle.y86_base.specs.declared.parts.Variant.{Variant}
@@ -7,11 +7,11 @@ use Rattle.y86_base.specs.declared.parts.Variant.TheVariants.{Base, Full}
 use Rattle.y86_isa.specs.declared.columns.Row.{Row}
 use Rattle.y86_isa.specs.RowTests.{accesses, is_branch}
 use Rattle.y86_isa.specs.Table.{rows, row, inop, no_register}
-use Rattle.field_bits.specs.Fits.{half_fits, register_fits, cnd_where, only_where, cnd_fits, code_fits, reading_fits, icode_fits, stat_fits, tied, destination_fits}
-use Rattle.field_bits.specs.Spelling.{set}
+use Rattle.field_bits.specs.Fits.{half_fits, register_fits, cnd_where, only_where, cnd_fits, code_fits, icode_fits, tied, destination_fits}
+use Rattle.y86_base.specs.Words.{set}
 use Rattle.pipe_fields.specs.Layout.{Fields, FetchLine, DecodeLine, ExecuteLine, MemoryLine, WriteLine, fields_by, numbers, bubble, field_count}
 use Rattle.pipe_fields.specs.Allowed.{allowed, fetch_fits, decode_fits, execute_fits, memory_fits, write_fits, registers_fit, fetch_allowed, decode_allowed, execute_allowed, memory_allowed, write_allowed, is_live}
-use Rattle.prog_gen.specs.Choices.{may_stand, AreChosen, fetch_may, decode_may, stat_may, icode_may, ifun_may}
+use Rattle.prog_gen.specs.Choices.{may_stand, AreChosen, stat_may, icode_may, ifun_may}
 
 pub both : (a b : Bool) → a ≡ true → b ≡ true → (a && b) ≡ true
 both true b p q = q

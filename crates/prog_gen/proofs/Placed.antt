@@ -1,12 +1,12 @@
 -- What may stand at the last places.
-use Rattle.std.proofs.Common.{◌≡◌, ℕ, ◌-◌, ◌<◌, ◌≤◌, Bool, true, false, nat_lt, if◌then◌else◌, length, Option, Some, None, sym, ap, ◌∙◌, arith}
+use Rattle.std.proofs.Common.{◌≡◌, ℕ, ◌-◌, ◌≤◌, Bool, true, false, nat_lt, if◌then◌else◌, length, Option, Some, None, sym, ap, ◌∙◌, arith}
 use Rattle.std.specs.Prelude.{IfSome}
 use Rattle.std.proofs.lemmas.Bool.Decides.{nat_tests}
 use Rattle.y86_base.specs.declared.parts.Variant.{Variant}
 use Rattle.y86_isa.specs.RowTests.{accesses}
 use Rattle.y86_isa.specs.Table.{rows, row}
 use Rattle.pipe_fields.specs.Layout.{Fields}
-use Rattle.prog_gen.specs.Choices.{may_stand, write_may, fetch_may, decode_may, execute_may, memory_may}
+use Rattle.prog_gen.specs.Choices.{may_stand, write_may}
 use Rattle.prog_gen.specs.Spans.{IsSpanOf}
 use Rattle.prog_gen.specs.declared.spans.Span.{Span}
 

@@ -1,6 +1,5 @@
 -- Behind numbers that may stand behind one another another one may stand, at each place.
-use Rattle.std.proofs.Common.{◌≡◌, ◌⊎◌, inl, inr, ℕ, zero, suc, ◌+◌, ◌<◌, ◌≤◌, ◌^◌, Bool, true, false, not, ◌&&◌, ◌||◌, ◌==◌, nat_lt, nat_le, if◌then◌else◌, List, [], ◌∷◌, length, get_or, take, slice_get, unwrap_or, refl, sym, ap, ◌∙◌, subst, arith}
-use Rattle.std.proofs.lemmas.Bool.{cases_lt}
+use Rattle.std.proofs.Common.{◌≡◌, ℕ, zero, suc, ◌<◌, ◌^◌, Bool, true, false, not, ◌&&◌, ◌||◌, ◌==◌, nat_lt, nat_le, if◌then◌else◌, List, [], ◌∷◌, length, get_or, take, slice_get, unwrap_or, refl, ap, ◌∙◌, subst, arith}
 use Rattle.std.proofs.lemmas.Bool.Decides.{nat_tests}
 use Rattle.y86_base.specs.declared.parts.Variant.{Variant}
 use Rattle.y86_base.specs.declared.parts.Variant.TheVariants.{Base, Full}
@@ -10,11 +9,11 @@ use Rattle.y86_isa.specs.declared.columns.Field.TheVariants.{Dash, FieldA, Field
 use Rattle.y86_isa.specs.RowTests.{accesses, is_branch, is_field_b}
 use Rattle.y86_isa.specs.Table.{rows, row, dash_row, inop, no_register}
 use Rattle.field_bits.specs.Fits.{half_fits, register_fits, cnd_where, only_where, cnd_fits, icode_fits, stat_fits, destination_fits}
-use Rattle.field_bits.specs.Spelling.{set}
+use Rattle.y86_base.specs.Words.{set}
 use Rattle.pipe_fields.specs.Layout.{Fields, fields_by, numbers, bubble, field_count}
 use Rattle.pipe_fields.specs.Allowed.{is_live}
 use Rattle.prog_gen.specs.Choices.{may_stand, stat_may, icode_may, ifun_may, width}
-use Rattle.prog_gen.proofs.Lawful.{both, first, second, then_true, else_true, choose_then, choose_else}
+use Rattle.prog_gen.proofs.Lawful.{both, first, second, else_true, choose_then, choose_else}
 use Rattle.prog_gen.proofs.Forty.{forty}
 
 -- a number below a bound that passes a test

@@ -6,9 +6,9 @@ use Rattle.y86_isa.specs.declared.columns.Row.{Row}
 use Rattle.y86_isa.specs.RowTests.{accesses, is_branch}
 use Rattle.y86_isa.specs.Table.{rows, row, inop, no_register}
 use Rattle.field_bits.specs.Fits.{icode_fits, half_fits, register_fits, tied, destination_fits, cnd_fits, cnd_where, only_where, stat_fits}
-use Rattle.field_bits.specs.Spelling.{set, spell}
-use Rattle.field_bits.specs.declared.spots.Spot.{Spot}
-use Rattle.pipe_fields.specs.Layout.{FetchLine, DecodeLine, ExecuteLine, MemoryLine, WriteLine, Fields, bubble, fields_by, spots, bit_count, field_count}
+use Rattle.y86_base.specs.Words.{set}
+use Rattle.field_bits.specs.Spelling.{spell}
+use Rattle.pipe_fields.specs.Layout.{FetchLine, DecodeLine, ExecuteLine, MemoryLine, WriteLine, Fields, bubble, fields_by, spots, field_count, f_first, d_first, e_first, m_first, w_first}
 use Rattle.pipe_fields.specs.Allowed.{is_live}
 use Rattle.field_bits.specs.Spots as table
 use Rattle.prog_gen.specs.Draws.{advanced, given}
@@ -81,12 +81,12 @@ write_may count r faulted x i n =
 unfoldable pub may_stand : Variant → ℕ → Fields → ℕ → Bool
 may_stand v j c n =
     if nat_lt j 2 then nat_lt n 3
-    else (if nat_lt j 4 then nat_lt n 2
-    else (if nat_lt j 10 then fetch_may (length (rows v)) (row v c.f.icode) c.f (j - 4) n
-    else (if nat_lt j 18 then decode_may (length (rows v)) (row v c.d.icode) c.d (j - 10) n
-    else (if nat_lt j 28 then execute_may (length (rows v)) (row v c.e.icode) c.e (j - 18) n
-    else (if nat_lt j 36 then memory_may (length (rows v)) (row v c.m.icode) c.m (j - 28) n
-    else write_may (length (rows v)) (row v c.w.icode) (accesses (row v n).memory) c.w (j - 36) n)))))
+    else (if nat_lt j f_first then nat_lt n 2
+    else (if nat_lt j d_first then fetch_may (length (rows v)) (row v c.f.icode) c.f (j - f_first) n
+    else (if nat_lt j e_first then decode_may (length (rows v)) (row v c.d.icode) c.d (j - d_first) n
+    else (if nat_lt j m_first then execute_may (length (rows v)) (row v c.e.icode) c.e (j - e_first) n
+    else (if nat_lt j w_first then memory_may (length (rows v)) (row v c.m.icode) c.m (j - m_first) n
+    else write_may (length (rows v)) (row v c.w.icode) (accesses (row v n).memory) c.w (j - w_first) n)))))
 
 -- how many bits the field at a place has
 abbrev pub width : ℕ → ℕ

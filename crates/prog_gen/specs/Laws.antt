@@ -1,6 +1,6 @@
 -- What the choices of drawn valuations are: behind numbers with which some allowed valuation begins there is one, and they are the
 -- numbers with which some allowed valuation goes on.
-use Rattle.std.specs.Prelude.{ℕ, ◌≡◌, ◌<◌, ◌↔◌, Bool, true, List, [], ◌∷◌, ◌++◌, length, take}
+use Rattle.std.specs.Prelude.{ℕ, ◌≡◌, ◌<◌, ◌↔◌, true, List, [], ◌∷◌, ◌++◌, length, take}
 use Rattle.std.specs.List.{Contains}
 use Rattle.y86_base.specs.declared.parts.Variant.{Variant}
 use Rattle.pipe_fields.specs.Layout.{Fields, InRange, numbers}

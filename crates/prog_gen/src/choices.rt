@@ -2,7 +2,7 @@
 ghost use Rattle.std.specs.Prelude.{◌≡◌, ◌<◌, ◌≤◌, ◌^◌, ◌+◌, length, get_or};
 ghost use Rattle.prog_gen.specs.Choices as spec;
 ghost use Rattle.field_bits.specs.Fits as fit;
-ghost use Rattle.field_bits.specs.Spelling as spelling;
+ghost use Rattle.y86_base.specs.Words as words;
 ghost use Rattle.pipe_fields.specs.Allowed.{is_live as live};
 ghost use Rattle.pipe_fields.specs.Layout.{fields_by, field_count};
 ghost use Rattle.y86_isa.specs.RowTests as tests;
@@ -11,6 +11,7 @@ ghost use Rattle.y86_isa.specs.Table as table;
 
 use crate::spans::span_behind;
 use arrayvec::ArrayVec;
+use pipe_fields::{D_FIRST, E_FIRST, F_FIRST, M_FIRST, W_FIRST};
 use y86_base::Variant;
 use y86_isa::{Field, Row, accesses, icode_count, is_branch, is_field_b, row};
 
@@ -19,7 +20,7 @@ const NO_REGISTER: u64 = 15;
 const NOP: u64 = 1;
 
 fn is_set(n: u64) -> bool
-    ensures { result ≡ spelling.set n }
+    ensures { result ≡ words.set n }
 {
     n != 0
 }
@@ -138,12 +139,12 @@ pub(crate) fn at(before: &[u64], k: usize) -> u64
 }
 
 /// In the line F.
-fn fetch_may(v: Variant, before: &[u64], i: u64, n: u64) -> bool
+fn fetch_may(v: Variant, before: &[u64], i: usize, n: u64) -> bool
     ensures { result ≡ spec.fetch_may (length (rows v)) (table.row v (fields_by before.now).f.icode) (fields_by before.now).f i n }
 {
-    let error = at(before, 4);
-    let icode = at(before, 5);
-    let ifun = at(before, 6);
+    let error = at(before, F_FIRST);
+    let icode = at(before, F_FIRST + 1);
+    let ifun = at(before, F_FIRST + 2);
     let r = row(v, icode);
     match i {
         0 => true,
@@ -162,13 +163,13 @@ fn fetch_may(v: Variant, before: &[u64], i: u64, n: u64) -> bool
 }
 
 /// In the line D.
-fn decode_may(v: Variant, before: &[u64], i: u64, n: u64) -> bool
+fn decode_may(v: Variant, before: &[u64], i: usize, n: u64) -> bool
     ensures { result ≡ spec.decode_may (length (rows v)) (table.row v (fields_by before.now).d.icode) (fields_by before.now).d i n }
 {
     let kind = at(before, 0);
-    let stat = at(before, 10);
-    let icode = at(before, 11);
-    let ifun = at(before, 12);
+    let stat = at(before, D_FIRST);
+    let icode = at(before, D_FIRST + 1);
+    let ifun = at(before, D_FIRST + 2);
     let r = row(v, icode);
     let live = is_live(kind, stat);
     match i {
@@ -184,14 +185,14 @@ fn decode_may(v: Variant, before: &[u64], i: u64, n: u64) -> bool
 }
 
 /// In the line E.
-fn execute_may(v: Variant, before: &[u64], i: u64, n: u64) -> bool
+fn execute_may(v: Variant, before: &[u64], i: usize, n: u64) -> bool
     ensures { result ≡ spec.execute_may (length (rows v)) (table.row v (fields_by before.now).e.icode) (fields_by before.now).e i n }
 {
     let kind = at(before, 1);
-    let stat = at(before, 18);
-    let icode = at(before, 19);
-    let ifun = at(before, 20);
-    let dst_e = at(before, 21);
+    let stat = at(before, E_FIRST);
+    let icode = at(before, E_FIRST + 1);
+    let ifun = at(before, E_FIRST + 2);
+    let dst_e = at(before, E_FIRST + 3);
     let r = row(v, icode);
     let live = is_live(kind, stat);
     match i {
@@ -209,14 +210,14 @@ fn execute_may(v: Variant, before: &[u64], i: u64, n: u64) -> bool
 }
 
 /// In the line M.
-fn memory_may(v: Variant, before: &[u64], i: u64, n: u64) -> bool
+fn memory_may(v: Variant, before: &[u64], i: usize, n: u64) -> bool
     ensures { result ≡ spec.memory_may (length (rows v)) (table.row v (fields_by before.now).m.icode) (fields_by before.now).m i n }
 {
     let kind = at(before, 2);
-    let stat = at(before, 28);
-    let icode = at(before, 29);
-    let ifun = at(before, 30);
-    let dst_e = at(before, 31);
+    let stat = at(before, M_FIRST);
+    let icode = at(before, M_FIRST + 1);
+    let ifun = at(before, M_FIRST + 2);
+    let dst_e = at(before, M_FIRST + 3);
     let r = row(v, icode);
     let live = is_live(kind, stat);
     match i {
@@ -238,12 +239,12 @@ fn memory_may(v: Variant, before: &[u64], i: u64, n: u64) -> bool
 }
 
 /// In the line W.
-fn write_may(v: Variant, before: &[u64], i: u64, n: u64) -> bool
+fn write_may(v: Variant, before: &[u64], i: usize, n: u64) -> bool
     ensures { result ≡ spec.write_may (length (rows v)) (table.row v (fields_by before.now).w.icode) (tests.accesses (table.row v n).memory) (fields_by before.now).w i n }
 {
     let kind = at(before, 3);
-    let stat = at(before, 36);
-    let icode = at(before, 37);
+    let stat = at(before, W_FIRST);
+    let icode = at(before, W_FIRST + 1);
     let r = row(v, icode);
     match i {
         0 => stat_may(kind, n),
@@ -259,21 +260,21 @@ fn may_stand(v: Variant, before: &[u64], n: u64) -> bool
     requires { length before.now < field_count }
     ensures { result ≡ spec.may_stand v (length before.now) (fields_by before.now) n }
 {
-    let j = before.len() as u64;
+    let j = before.len();
     if j < 2 {
         n < 3
-    } else if j < 4 {
+    } else if j < F_FIRST {
         n < 2
-    } else if j < 10 {
-        fetch_may(v, before, j - 4, n)
-    } else if j < 18 {
-        decode_may(v, before, j - 10, n)
-    } else if j < 28 {
-        execute_may(v, before, j - 18, n)
-    } else if j < 36 {
-        memory_may(v, before, j - 28, n)
+    } else if j < D_FIRST {
+        fetch_may(v, before, j - F_FIRST, n)
+    } else if j < E_FIRST {
+        decode_may(v, before, j - D_FIRST, n)
+    } else if j < M_FIRST {
+        execute_may(v, before, j - E_FIRST, n)
+    } else if j < W_FIRST {
+        memory_may(v, before, j - M_FIRST, n)
     } else {
-        write_may(v, before, j - 36, n)
+        write_may(v, before, j - W_FIRST, n)
     }
 }
 

@@ -2,7 +2,7 @@
 ghost use Rattle.std.specs.Prelude.{◌≡◌, ◌<◌, ◌≤◌, ◌^◌, ◌&&◌, ◌||◌, ◌==◌, not, nat_le, nat_lt, ℕ, Bool, true, false, length, IfSome};
 ghost use Rattle.std.specs.List.{filter, range_with_len};
 ghost use Rattle.field_bits.specs.Fits as fit;
-ghost use Rattle.field_bits.specs.Spelling as spelling;
+ghost use Rattle.y86_base.specs.Words as words;
 ghost use Rattle.pipe_fields.specs.Layout.{fields_by, field_count};
 ghost use Rattle.prog_gen.specs.Choices as spec;
 ghost use Rattle.prog_gen.specs.Spans.{IsSpanOf};
@@ -11,6 +11,7 @@ ghost use Rattle.y86_isa.specs.Table.{rows};
 ghost use Rattle.y86_isa.specs.Table as table;
 
 use crate::choices::{at, is_live};
+use pipe_fields::{D_FIRST, E_FIRST, F_FIRST, M_FIRST, W_FIRST};
 use y86_base::Variant;
 use y86_isa::{Field, Row, accesses, icode_count, is_branch, row};
 
@@ -70,7 +71,7 @@ fn upto(last: u64) -> Span
 
 /// Numbers other than 0.
 fn set() -> Span
-    ensures { IsSpanOf result spelling.set }
+    ensures { IsSpanOf result words.set }
 {
     Span { first: 1, end: 16 }
 }
@@ -173,11 +174,11 @@ fn ifun(r: &Row, kind: u64, stat: u64) -> Span
 }
 
 /// In the line F.
-fn fetch(v: Variant, before: &[u64], i: u64) -> Option<Span>
+fn fetch(v: Variant, before: &[u64], i: usize) -> Option<Span>
     ensures { IfSome result (λ s. IsSpanOf s (spec.fetch_may (length (rows v)) (table.row v (fields_by before.now).f.icode) (fields_by before.now).f i)) }
 {
-    let ifun = at(before, 6);
-    let r = row(v, at(before, 5));
+    let ifun = at(before, F_FIRST + 2);
+    let r = row(v, at(before, F_FIRST + 1));
     match i {
         0 => Some(any()),
         1 => None,
@@ -189,13 +190,13 @@ fn fetch(v: Variant, before: &[u64], i: u64) -> Option<Span>
 }
 
 /// In the line D.
-fn decode(v: Variant, before: &[u64], i: u64) -> Option<Span>
+fn decode(v: Variant, before: &[u64], i: usize) -> Option<Span>
     ensures { IfSome result (λ s. IsSpanOf s (spec.decode_may (length (rows v)) (table.row v (fields_by before.now).d.icode) (fields_by before.now).d i)) }
 {
     let kind = at(before, 0);
-    let status = at(before, 10);
-    let function = at(before, 12);
-    let r = row(v, at(before, 11));
+    let status = at(before, D_FIRST);
+    let function = at(before, D_FIRST + 2);
+    let r = row(v, at(before, D_FIRST + 1));
     let live = is_live(kind, status);
     match i {
         0 => Some(stat(kind)),
@@ -210,13 +211,13 @@ fn decode(v: Variant, before: &[u64], i: u64) -> Option<Span>
 }
 
 /// In the line E.
-fn execute(v: Variant, before: &[u64], i: u64) -> Option<Span>
+fn execute(v: Variant, before: &[u64], i: usize) -> Option<Span>
     ensures { IfSome result (λ s. IsSpanOf s (spec.execute_may (length (rows v)) (table.row v (fields_by before.now).e.icode) (fields_by before.now).e i)) }
 {
     let kind = at(before, 1);
-    let status = at(before, 18);
-    let function = at(before, 20);
-    let r = row(v, at(before, 19));
+    let status = at(before, E_FIRST);
+    let function = at(before, E_FIRST + 2);
+    let r = row(v, at(before, E_FIRST + 1));
     let live = is_live(kind, status);
     match i {
         0 => Some(stat(kind)),
@@ -233,12 +234,12 @@ fn execute(v: Variant, before: &[u64], i: u64) -> Option<Span>
 }
 
 /// In the line M.
-fn memory(v: Variant, before: &[u64], i: u64) -> Option<Span>
+fn memory(v: Variant, before: &[u64], i: usize) -> Option<Span>
     ensures { IfSome result (λ s. IsSpanOf s (spec.memory_may (length (rows v)) (table.row v (fields_by before.now).m.icode) (fields_by before.now).m i)) }
 {
     let kind = at(before, 2);
-    let status = at(before, 28);
-    let r = row(v, at(before, 29));
+    let status = at(before, M_FIRST);
+    let r = row(v, at(before, M_FIRST + 1));
     let live = is_live(kind, status);
     match i {
         0 => Some(stat(kind)),
@@ -253,10 +254,10 @@ fn memory(v: Variant, before: &[u64], i: u64) -> Option<Span>
 }
 
 /// In the line W.
-fn write(v: Variant, before: &[u64], i: u64) -> Option<Span>
+fn write(v: Variant, before: &[u64], i: usize) -> Option<Span>
     ensures { IfSome result (λ s. IsSpanOf s (λ n. spec.write_may (length (rows v)) (table.row v (fields_by before.now).w.icode) (tests.accesses (table.row v n).memory) (fields_by before.now).w i n)) }
 {
-    let r = row(v, at(before, 37));
+    let r = row(v, at(before, W_FIRST + 1));
     match i {
         0 => Some(stat(at(before, 3))),
         1 => None,
@@ -271,20 +272,20 @@ pub(crate) fn span_behind(v: Variant, before: &[u64]) -> Option<Span>
     requires { length before.now < field_count }
     ensures { IfSome result (λ s. IsSpanOf s (spec.may_stand v (length before.now) (fields_by before.now))) }
 {
-    let j = before.len() as u64;
+    let j = before.len();
     if j < 2 {
         Some(below(3))
-    } else if j < 4 {
+    } else if j < F_FIRST {
         Some(below(2))
-    } else if j < 10 {
-        fetch(v, before, j - 4)
-    } else if j < 18 {
-        decode(v, before, j - 10)
-    } else if j < 28 {
-        execute(v, before, j - 18)
-    } else if j < 36 {
-        memory(v, before, j - 28)
+    } else if j < D_FIRST {
+        fetch(v, before, j - F_FIRST)
+    } else if j < E_FIRST {
+        decode(v, before, j - D_FIRST)
+    } else if j < M_FIRST {
+        execute(v, before, j - E_FIRST)
+    } else if j < W_FIRST {
+        memory(v, before, j - M_FIRST)
     } else {
-        write(v, before, j - 36)
+        write(v, before, j - W_FIRST)
     }
 }

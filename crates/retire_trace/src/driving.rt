@@ -1,6 +1,6 @@
 //! Drives: cycles until a machine stops, with a trace.
-ghost use Rattle.std.specs.Prelude.{◌≡◌, ◌<◌, ◌≤◌, ◌+◌, ◌^◌, ℕ, List, OnOk, OnErr, IfOk};
-ghost use Rattle.wb_io.specs.Causes.{counted};
+ghost use Rattle.std.specs.Prelude.{◌≡◌, ◌<◌, ◌≤◌, ◌+◌, ◌^◌, ℕ, List, OnErr, IfOk};
+ghost use Rattle.wb_io.specs.Causes.{CountsFaults};
 ghost use Rattle.wb_io.specs.Sinks.{Took};
 ghost use Rattle.y86_isa.specs.Machine.{is_aok};
 ghost use Rattle.pipe_path.specs.Calls.{record_in};
@@ -59,8 +59,7 @@ fn traced_cycle<C: SignalEval, S: Sink>(
     requires { p.old.cycles < 2 ^ 63 }
     ensures traced { spec.TracedCycle p.old p.new trace (S.taken out.old) (S.taken out.new) result }
     ensures counted { p.new.cycles ≤ p.old.cycles + 1 }
-    ensures no_fault_at_ok { OnOk result (S.faults out.new ≡ S.faults out.old) }
-    ensures one_fault_at_err { OnErr result (S.faults out.new ≡ counted (S.faults out.old)) }
+    ensures counts { CountsFaults (S.faults out.old) (S.faults out.new) result }
 {
     let retired = record_of(p.cycle());
     match retired {
@@ -91,8 +90,7 @@ pub fn drive<C: SignalEval, S: Sink>(
         × Took (S.taken out.old) (S.taken out.new) (spec.traced trace records)) }
     ensures failed { OnErr result ((k : ℕ) × (records : List Rec) × (last : Rec) × (n : ℕ)
         × spec.Fails p.old limit trace p.new (S.taken out.old) (S.taken out.new) k records last n) }
-    ensures no_fault_at_ok { OnOk result (S.faults out.new ≡ S.faults out.old) }
-    ensures one_fault_at_err { OnErr result (S.faults out.new ≡ counted (S.faults out.old)) }
+    ensures counts { CountsFaults (S.faults out.old) (S.faults out.new) result }
 {
     let mut retired = 0;
     for k in 0..limit {

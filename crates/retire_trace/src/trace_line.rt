@@ -1,6 +1,6 @@
 //! The trace line of a record.
-ghost use Rattle.std.specs.Prelude.{◌≡◌, ◌≤◌, OnOk, OnErr};
-ghost use Rattle.wb_io.specs.Causes.{counted};
+ghost use Rattle.std.specs.Prelude.{◌≤◌};
+ghost use Rattle.wb_io.specs.Causes.{CountsFaults};
 ghost use Rattle.wb_io.specs.Sinks.{Puts};
 ghost use Rattle.retire_trace.specs.TraceLine as text;
 
@@ -14,8 +14,7 @@ const NO_REGISTER: u64 = 15;
 #[tactic(auto, unfolding(crate::specs::TraceLine::head, crate::specs::TraceLine::digit))]
 fn put_head<S: Sink>(pc: u64, icode: u64, ifun: u64, out: &mut S) -> Result<(), Failed>
     ensures puts { Puts (S.taken out.old) (S.taken out.new) result (text.head pc icode ifun) }
-    ensures no_fault_at_ok { OnOk result (S.faults out.new ≡ S.faults out.old) }
-    ensures one_fault_at_err { OnErr result (S.faults out.new ≡ counted (S.faults out.old)) }
+    ensures counts { CountsFaults (S.faults out.old) (S.faults out.new) result }
 {
     let pc = Numeral::hex(3, pc);
     let icode_digit = Numeral::hex(1, icode);
@@ -36,8 +35,7 @@ fn put_head<S: Sink>(pc: u64, icode: u64, ifun: u64, out: &mut S) -> Result<(), 
 #[tactic(auto, unfolding(crate::specs::TraceLine::written))]
 fn put_written<S: Sink>(number: u64, word: u64, out: &mut S) -> Result<(), Failed>
     ensures puts { Puts (S.taken out.old) (S.taken out.new) result (text.written number word) }
-    ensures no_fault_at_ok { OnOk result (S.faults out.new ≡ S.faults out.old) }
-    ensures one_fault_at_err { OnErr result (S.faults out.new ≡ counted (S.faults out.old)) }
+    ensures counts { CountsFaults (S.faults out.old) (S.faults out.new) result }
 {
     if number == NO_REGISTER {
         return Ok(());
@@ -49,8 +47,7 @@ fn put_written<S: Sink>(number: u64, word: u64, out: &mut S) -> Result<(), Faile
 #[tactic(auto, unfolding(crate::specs::TraceLine::stored))]
 fn put_stored<S: Sink>(store: Option<Store>, out: &mut S) -> Result<(), Failed>
     ensures puts { Puts (S.taken out.old) (S.taken out.new) result (text.stored store) }
-    ensures no_fault_at_ok { OnOk result (S.faults out.new ≡ S.faults out.old) }
-    ensures one_fault_at_err { OnErr result (S.faults out.new ≡ counted (S.faults out.old)) }
+    ensures counts { CountsFaults (S.faults out.old) (S.faults out.new) result }
 {
     match store {
         None => Ok(()),
@@ -65,8 +62,7 @@ fn put_stored<S: Sink>(store: Option<Store>, out: &mut S) -> Result<(), Failed>
 #[tactic(auto, unfolding(crate::specs::TraceLine::tail))]
 fn put_tail<S: Sink>(flags: Flags, stat: Stat, out: &mut S) -> Result<(), Failed>
     ensures puts { Puts (S.taken out.old) (S.taken out.new) result (text.tail flags stat) }
-    ensures no_fault_at_ok { OnOk result (S.faults out.new ≡ S.faults out.old) }
-    ensures one_fault_at_err { OnErr result (S.faults out.new ≡ counted (S.faults out.old)) }
+    ensures counts { CountsFaults (S.faults out.old) (S.faults out.new) result }
 {
     let zero = flag(flags.zf);
     let sign = flag(flags.sf);
@@ -79,8 +75,7 @@ pub fn line<S: Sink>(r: &Rec, out: &mut S) -> Result<(), Failed>
     requires e { r.now.dst_e ≤ 15 }
     requires m { r.now.dst_m ≤ 15 }
     ensures puts { Puts (S.taken out.old) (S.taken out.new) result (text.trace_line r.now) }
-    ensures no_fault_at_ok { OnOk result (S.faults out.new ≡ S.faults out.old) }
-    ensures one_fault_at_err { OnErr result (S.faults out.new ≡ counted (S.faults out.old)) }
+    ensures counts { CountsFaults (S.faults out.old) (S.faults out.new) result }
 {
     put_head(r.pc, r.icode, r.ifun, out)?;
     put_written(r.dst_e, r.val_e, out)?;

@@ -1,7 +1,6 @@
 -- What a gate tells of control values stays as the net grows, and what is made of two such gates tells what both do.
 use Rattle.std.proofs.Common.{◌≡◌, ℕ, ◌+◌, ◌<◌, ◌≤◌, IsTrue, Bool, true, false, ◌&&◌, ◌||◌, if◌then◌else◌, List, [], ◌∷◌, length, get_or, drop, refl, sym, ap, ◌∙◌, arith, add-one, drop-cons}
 use Rattle.nets.specs.Nets.{Gates, Begins, IsGate, truth}
-use Rattle.nets.proofs.Truths.{truth_kept}
 use Rattle.ctl_atoms.specs.declared.leaf.Leaf.{Leaf}
 use Rattle.ctl_atoms.specs.declared.leaf.Leaf.TheVariants.{Name}
 use Rattle.ctl_atoms.specs.Leaves.{Assignment, leaf_eq}
@@ -18,14 +17,14 @@ use Rattle.rule_gates.specs.declared.asked.Wanted.{Wanted}
 -- what the larger net tells was told before
 pub tells_less : {old new : Gates} {ctl : List Entry} {w : List Bool} {α : Assignment} {cv : ℕ → Leaf} → Begins old new → IsInside old ctl → Tells new ctl w α cv → Tells old ctl w α cv
 tells_less {old} {new} {ctl} {w} {α} {cv} k h t = record {
-  truths_are = λ n has. sym (truth_kept k (gate_of ctl n) w (h.gates_in n has)) ∙ t.truths_are n has;
+  truths_are = λ n has. sym (k.same (gate_of ctl n) w (h.gates_in n has)) ∙ t.truths_are n has;
   picks_are = λ n has test. sym (some_pick_kept k w test (picks_of ctl n) (h.picks_in n has)) ∙ t.picks_are n has test;
 }
 
 pub asked_more : {old new : Gates} {ctl : List Entry} {g : ℕ} {f : List Bool → Assignment → (ℕ → Leaf) → Bool} → Begins old new → IsInside old ctl → IsAsked old ctl g f → IsAsked new ctl g f
 asked_more {old} {new} {ctl} {g} {f} k h q = record {
   within = let x = k.more in let y = q.within in omega arith;
-  is = λ w α cv t. truth_kept k g w q.within ∙ q.is w α cv (tells_less k h t);
+  is = λ w α cv t. k.same g w q.within ∙ q.is w α cv (tells_less k h t);
 }
 
 -- the same in other words

@@ -58,7 +58,7 @@ pub fn takes(b: &mut NetBuilder, ctl: &Controls, name: NameId, want: Wanted) -> 
     requires known { IsTrue (has_picks ctl.now name) }
     requires place { IsWithin b.old.vars want }
     ensures begins { Begins b.old b.new }
-    ensures asked { IfOk result (λ g. IsAsked b.new ctl.now g (λ w α cv. spec.takes cv name (wanted w want))) }
+    ensures made { IfOk result (λ g. IsAsked b.new ctl.now g (λ w α cv. spec.takes cv name (wanted w want))) }
 {
     let g = one_taken(b, ctl.picks(name), want)?;
     Ok(g)
@@ -74,7 +74,7 @@ pub fn takes_some(
     requires inside { IsInside b.old ctl.now }
     requires known { IsTrue (has_picks ctl.now name) }
     ensures begins { Begins b.old b.new }
-    ensures asked { IfOk result (λ g. IsAsked b.new ctl.now g (λ w α cv. spec.takes_some cv name leaf)) }
+    ensures made { IfOk result (λ g. IsAsked b.new ctl.now g (λ w α cv. spec.takes_some cv name leaf)) }
 {
     match leaf {
         None => {
@@ -103,7 +103,7 @@ pub fn takes_if(
     requires place_yes { IsWithin b.old.vars yes }
     requires place_no { IsWithin b.old.vars no }
     ensures begins { Begins b.old b.new }
-    ensures asked { IfOk result (λ g. IsAsked b.new ctl.now g (λ w α cv. spec.takes cv name (if truth b.old when w then wanted w yes else wanted w no))) }
+    ensures made { IfOk result (λ g. IsAsked b.new ctl.now g (λ w α cv. spec.takes cv name (if truth b.old when w then wanted w yes else wanted w no))) }
 {
     let first = takes(b, ctl, name, yes)?;
     let second = takes(b, ctl, name, no)?;
@@ -116,7 +116,7 @@ pub fn is_truth(b: &mut NetBuilder, ctl: &Controls, name: NameId, want: bool) ->
     requires inside { IsInside b.old ctl.now }
     requires known { IsTrue (has_gate ctl.now name) }
     ensures begins { Begins b.old b.new }
-    ensures asked { IfOk result (λ g. IsAsked b.new ctl.now g (λ w α cv. spec.is_truth α cv name want)) }
+    ensures made { IfOk result (λ g. IsAsked b.new ctl.now g (λ w α cv. spec.is_truth α cv name want)) }
 {
     let g = ctl.truth(name);
     if want {

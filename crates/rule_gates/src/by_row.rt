@@ -36,7 +36,7 @@ pub trait ByRow {
         requires known { knows self.now b.old.vars ctl.now }
         requires top { row.ifun_top < 16 }
         ensures begins { Begins b.old b.new }
-        ensures asked { IfOk result (λ g. IsAsked b.new ctl.now g (asks self.now icode row)) };
+        ensures made { IfOk result (λ g. IsAsked b.new ctl.now g (asks self.now icode row)) };
 }
 
 /// What a rule asks by the icode that a field spells, and its row in the table of the variant.
@@ -52,7 +52,7 @@ pub fn by_icode<R: ByRow>(
     requires place { icode.first + icode.bits ≤ b.old.vars }
     requires bits { icode.bits ≡ 4 }
     ensures begins { Begins b.old b.new }
-    ensures asked { IfOk result (λ g. IsAsked b.new ctl.now g (λ w. R.asks rule.now (spelt w icode.first icode.bits) (row v (spelt w icode.first icode.bits)) w)) }
+    ensures made { IfOk result (λ g. IsAsked b.new ctl.now g (λ w. R.asks rule.now (spelt w icode.first icode.bits) (row v (spelt w icode.first icode.bits)) w)) }
 {
     let mut all = b.constant(true)?;
     for code in 0..16 {

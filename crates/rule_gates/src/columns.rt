@@ -5,7 +5,8 @@ ghost use Rattle.y86_base.specs.Stat.{stat_number};
 ghost use Rattle.y86_isa.specs.Blocks.{alu_function, destination_e, fetch_status, register_number};
 ghost use Rattle.ctl_atoms.specs.declared.leaf.Leaf.{Leaf};
 ghost use Rattle.ctl_formula.specs.Picks.{IsInside, has_picks};
-ghost use Rattle.field_bits.specs.Spelling.{set, spelt};
+ghost use Rattle.y86_base.specs.Words.{set};
+ghost use Rattle.field_bits.specs.Spelling.{spelt};
 ghost use Rattle.rule_gates.specs.Asked.{IsAsked, register_wanted};
 ghost use Rattle.rule_gates.specs.Words as spec;
 
@@ -94,7 +95,7 @@ pub fn register_is(
     requires place_a { r_a.first + r_a.bits ≤ b.old.vars }
     requires place_b { r_b.first + r_b.bits ≤ b.old.vars }
     ensures begins { Begins b.old b.new }
-    ensures asked { IfOk result (λ g. IsAsked b.new ctl.now g (λ w α cv. spec.is_number cv name (register_number column (spelt w r_a.first r_a.bits) (spelt w r_b.first r_b.bits)))) }
+    ensures made { IfOk result (λ g. IsAsked b.new ctl.now g (λ w α cv. spec.is_number cv name (register_number column (spelt w r_a.first r_a.bits) (spelt w r_b.first r_b.bits)))) }
 {
     let g = takes(b, ctl, name, register_wanted(column, r_a, r_b))?;
     Ok(g)
@@ -118,7 +119,7 @@ pub fn destination_is(
     requires place_b { r_b.first + r_b.bits ≤ b.old.vars }
     requires place_cnd { cnd.first + cnd.bits ≤ b.old.vars }
     ensures begins { Begins b.old b.new }
-    ensures asked { IfOk result (λ g. IsAsked b.new ctl.now g (λ w α cv.
+    ensures made { IfOk result (λ g. IsAsked b.new ctl.now g (λ w α cv.
         spec.is_number cv name (destination_e conditional (set (spelt w cnd.first cnd.bits)) (register_number column (spelt w r_a.first r_a.bits) (spelt w r_b.first r_b.bits))))) }
 {
     if conditional {
@@ -150,7 +151,7 @@ pub fn function_is(
     requires known { IsTrue (has_picks ctl.now name) }
     requires place { ifun.first + ifun.bits ≤ b.old.vars }
     ensures begins { Begins b.old b.new }
-    ensures asked { IfOk result (λ g. IsAsked b.new ctl.now g (λ w α cv. spec.is_number cv name (alu_function selects (spelt w ifun.first ifun.bits)))) }
+    ensures made { IfOk result (λ g. IsAsked b.new ctl.now g (λ w α cv. spec.is_number cv name (alu_function selects (spelt w ifun.first ifun.bits)))) }
 {
     if selects {
         let g = takes(b, ctl, name, Wanted::Field(ifun))?;
@@ -186,7 +187,7 @@ pub fn status_is(
     requires known { IsTrue (has_picks ctl.now name) }
     requires gate { error < length b.old.gates }
     ensures begins { Begins b.old b.new }
-    ensures asked { IfOk result (λ g. IsAsked b.new ctl.now g (λ w α cv. spec.is_number cv name (stat_number (fetch_status (truth b.old error w) icode)))) }
+    ensures made { IfOk result (λ g. IsAsked b.new ctl.now g (λ w α cv. spec.is_number cv name (stat_number (fetch_status (truth b.old error w) icode)))) }
 {
     let g = takes_if(
         b,
@@ -215,7 +216,7 @@ pub fn next_is(
     requires known { IsTrue (has_picks ctl.now name) }
     requires place { cnd.first + cnd.bits ≤ b.old.vars }
     ensures begins { Begins b.old b.new }
-    ensures asked { IfOk result (λ g. IsAsked b.new ctl.now g (λ w α cv. spec.takes_some cv name (spec.next_leaf column val_p val_c val_m (set (spelt w cnd.first cnd.bits))))) }
+    ensures made { IfOk result (λ g. IsAsked b.new ctl.now g (λ w α cv. spec.takes_some cv name (spec.next_leaf column val_p val_c val_m (set (spelt w cnd.first cnd.bits))))) }
 {
     match column {
         Next::Itself => takes_some(b, ctl, name, None),
@@ -239,7 +240,7 @@ fn jump_is(
     requires known { IsTrue (has_picks ctl.now name) }
     requires place { cnd.first + cnd.bits ≤ b.old.vars }
     ensures begins { Begins b.old b.new }
-    ensures asked { IfOk result (λ g. IsAsked b.new ctl.now g (λ w α cv. spec.takes cv name (if set (spelt w cnd.first cnd.bits) then Leaf.Name val_c else Leaf.Name val_p))) }
+    ensures made { IfOk result (λ g. IsAsked b.new ctl.now g (λ w α cv. spec.takes cv name (if set (spelt w cnd.first cnd.bits) then Leaf.Name val_c else Leaf.Name val_p))) }
 {
     let fails = spells(b, cnd, 0)?;
     let g = takes_if(

@@ -1,5 +1,5 @@
 //! What the obligations of a datapath ask of single signals, as gates, by the columns of the instruction table.
-#![tactic(auto, using(nets::proofs::Truths::truth_kept, nets::proofs::Truths::begins_more, ctl_formula::proofs::Inside::inside_more))]
+#![tactic(auto, using(nets::proofs::Truths::begins_more, ctl_formula::proofs::Inside::inside_more))]
 
 mod asked;
 mod by_row;

@@ -1,4 +1,5 @@
 //! Rules: their numbers and gates, over one net.
+use ctl_atoms::Atom;
 use nets::Net;
 use y86_base::{Items, Variant};
 
@@ -9,10 +10,12 @@ pub struct Rule {
     pub gate: u64,
 }
 
-/// The rules of a datapath in their order, for one instruction set, over one net.
+/// The rules of a datapath in their order, for one instruction set, over one net; and the atoms of the design, in the order in which
+/// their truths stand behind the fields.
 #[derive(Drop)]
 pub struct Rules {
     pub variant: Variant,
     pub net: Net,
     pub list: Items<Rule>,
+    pub atoms: Items<Atom>,
 }

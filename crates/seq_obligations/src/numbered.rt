@@ -34,14 +34,14 @@ pub trait Numbered {
         requires inside { IsInside b.old ctl.now }
         requires known { knows self.now b.old.vars ctl.now }
         ensures begins { Begins b.old b.new }
-        ensures asked { IfOk result (λ g. IsAsked b.new ctl.now g (may self.now)) };
+        ensures made { IfOk result (λ g. IsAsked b.new ctl.now g (may self.now)) };
 
     /// A gate of what the rule of a number asks.
     fn demand(&self, b: &mut NetBuilder, ctl: &Controls, number: u32) -> Result<u64, Memory>
         requires inside { IsInside b.old ctl.now }
         requires known { knows self.now b.old.vars ctl.now }
         ensures begins { Begins b.old b.new }
-        ensures asked { IfOk result (λ g. IsAsked b.new ctl.now g (asks self.now number)) };
+        ensures made { IfOk result (λ g. IsAsked b.new ctl.now g (asks self.now number)) };
 }
 
 /// The rule of a number: it asks nothing of another valuation than these.
@@ -56,7 +56,7 @@ fn rule_told<N: Numbered>(
     requires known { N.knows rules.now b.old.vars ctl.now }
     requires fits { IsAsked b.old ctl.now fits (N.may rules.now) }
     ensures begins { Begins b.old b.new }
-    ensures asked { IfOk result (λ g. IsAsked b.new ctl.now g (λ w α cv. not (N.may rules.now w α cv) || N.asks rules.now number w α cv)) }
+    ensures made { IfOk result (λ g. IsAsked b.new ctl.now g (λ w α cv. not (N.may rules.now w α cv) || N.asks rules.now number w α cv)) }
 {
     let asked = rules.demand(b, ctl, number)?;
     let outside = b.not(fits)?;

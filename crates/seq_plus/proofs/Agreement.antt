@@ -4,6 +4,7 @@ use Rattle.std.proofs.lemmas.Bool.{and_parts, cases_lt, eqb-true, lt-ltb}
 use Rattle.std.proofs.lemmas.List.{get_or_append_left}
 use Rattle.std.proofs.lemmas.Option.{slice_get_past, slice_get-get_or, slice_get_within}
 use Rattle.y86_base.specs.declared.parts.Variant.{Variant}
+use Rattle.y86_base.proofs.Booleans.{clash}
 use Rattle.y86_isa.specs.Blocks.{field_a, field_b, condition}
 use Rattle.y86_isa.specs.Table.{row}
 use Rattle.hcl_types.specs.Lists.{Each}
@@ -26,7 +27,7 @@ use Rattle.ctl_formula.specs.Laws.{IsDefinedBy, IsWorthGiven, real, worth}
 use Rattle.ctl_formula.proofs.Solved.{agreement}
 use Rattle.seq_obligations.specs.Obligations.{shared_demand}
 use Rattle.seq_refinement.specs.Cycle.{Agrees}
-use Rattle.seq_refinement.proofs.Agreement.{each_number, number_tests, inputs_of, defines, constant_role, constant_row, leaf_constant, row_there, clash, by_number, no_error, chosen}
+use Rattle.seq_refinement.proofs.Agreement.{each_number, number_tests, inputs_of, defines, constant_role, constant_row, leaf_constant, row_there, by_number, no_error, chosen}
 use Rattle.seq_refinement.proofs.Reflected.{first, number_is, second, truth_is}
 use Rattle.seq_plus.specs.Cycle.{as_seq, fields_at}
 use Rattle.seq_plus.specs.Fields.{number_of}

@@ -7,7 +7,7 @@ use Rattle.y86_isa.specs.RowTests.{has_operand_a, has_operand_b}
 use Rattle.y86_isa.specs.Table.{row}
 use Rattle.hcl_types.specs.declared.term.Term.{Term}
 use Rattle.dp_signals.specs.Tables.{constant_rows}
-use Rattle.dp_signals.specs.Values.{set}
+use Rattle.y86_base.specs.Words.{set}
 use Rattle.ctl_atoms.specs.declared.leaf.Leaf.{Leaf}
 use Rattle.ctl_formula.specs.Controls.{AreControls, control_rule}
 use Rattle.ctl_formula.specs.Laws.{real, worth}

@@ -13,7 +13,8 @@ use Rattle.dp_signals.proofs.Rules.{order_computes, along_solves, one_solution}
 use Rattle.dp_signals.specs.Layout.{IsLaidOut, ReadsInputs}
 use Rattle.dp_signals.specs.PipeEquations.{constants}
 use Rattle.dp_signals.specs.Tables.{constant_rows}
-use Rattle.dp_signals.specs.Values.{bit, set}
+use Rattle.y86_base.specs.Words.{set}
+use Rattle.dp_signals.specs.Values.{bit}
 use Rattle.dp_signals.proofs.RowByRow.{by_row, Same, at_row, two, three}
 use Rattle.seq_plus.specs.PlusEquations.{plus_block, plus_given, plus_rule, PlusSolves}
 use Rattle.seq_plus.specs.PlusNames as row

@@ -30,7 +30,8 @@ use Rattle.dp_signals.specs.Equations.{rule_of}
 use Rattle.dp_signals.specs.PipeEquations.{constants}
 use Rattle.dp_signals.specs.SeqCycle.{seq_next, seq_record}
 use Rattle.dp_signals.specs.SeqRows.{SeqHardware}
-use Rattle.dp_signals.specs.Values.{bit, set}
+use Rattle.y86_base.specs.Words.{set}
+use Rattle.dp_signals.specs.Values.{bit}
 use Rattle.field_bits.specs.Spots.{InRange}
 use Rattle.ctl_atoms.specs.declared.leaf.Leaf.{Leaf}
 use Rattle.ctl_formula.specs.Controls.{AreControls}

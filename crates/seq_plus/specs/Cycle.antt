@@ -5,7 +5,7 @@ use Rattle.y86_isa.specs.Blocks.{next_address}
 use Rattle.y86_isa.specs.Table.{row}
 use Rattle.seq_refinement.specs.Cycle as seq
 use Rattle.dp_signals.specs.SeqNames as seq_name
-use Rattle.dp_signals.specs.Values.{set}
+use Rattle.y86_base.specs.Words.{set}
 use Rattle.seq_plus.specs.Fields.{Fields}
 use Rattle.seq_plus.specs.PlusNames as name
 use Rattle.seq_plus.specs.PlusRun.{at_pc}

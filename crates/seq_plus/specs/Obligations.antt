@@ -5,7 +5,7 @@ use Rattle.y86_base.specs.declared.parts.Variant.{Variant}
 use Rattle.y86_isa.specs.Table.{row}
 use Rattle.ctl_atoms.specs.declared.leaf.Leaf.{Leaf}
 use Rattle.ctl_atoms.specs.Leaves.{Assignment}
-use Rattle.field_bits.specs.Spelling.{set}
+use Rattle.y86_base.specs.Words.{set}
 use Rattle.rule_gates.specs.Words.{takes_some, next_leaf}
 use Rattle.seq_obligations.specs.Obligations.{shared_demand}
 use Rattle.seq_obligations.specs.declared.signals.Signals.{Signals}

@@ -6,7 +6,7 @@ use Rattle.y86_isa.specs.Blocks.{data_store, stored, flags_after, written_back}
 use Rattle.y86_isa.specs.Machine.{normal}
 use Rattle.y86_isa.specs.declared.machine.Rec.{Rec}
 use Rattle.y86_isa.specs.declared.machine.Store.{Store}
-use Rattle.dp_signals.specs.Values.{set}
+use Rattle.y86_base.specs.Words.{set}
 use Rattle.seq_plus.specs.PlusNames as row
 use Rattle.seq_plus.specs.declared.state.PlusState.{PlusState}
 use Rattle.seq_plus.specs.declared.state.Previous.{Previous}

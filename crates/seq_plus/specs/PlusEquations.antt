@@ -8,7 +8,8 @@ use Rattle.hcl_types.specs.declared.term.Term.{Term}
 use Rattle.hcl_types.specs.Equations.{Fixes}
 use Rattle.dp_signals.specs.Equations.{rule_of}
 use Rattle.dp_signals.specs.PipeEquations.{constants}
-use Rattle.dp_signals.specs.Values.{bit, set}
+use Rattle.y86_base.specs.Words.{set}
+use Rattle.dp_signals.specs.Values.{bit}
 use Rattle.seq_plus.specs.PlusNames as row
 use Rattle.seq_plus.specs.declared.state.PlusState.{PlusState}
 

@@ -33,8 +33,8 @@ pub record RejectsPlus (v : Variant) (terms : List Term) (rule : ℕ) (w : List 
 
 abbrev pub IsPlusVerdict : Variant → List Term → Plain16 → Type 0
 IsPlusVerdict v terms Yes = AcceptsPlus v terms
-IsPlusVerdict v terms (No rule valuation) = RejectsPlus v terms rule valuation.bits
+IsPlusVerdict v terms (No rule valuation atoms) = RejectsPlus v terms rule valuation.bits × AreAtoms plus_rows terms atoms
 
 abbrev pub is_yes : Plain16 → Bool
 is_yes Yes = true
-is_yes (No rule valuation) = false
+is_yes (No rule valuation atoms) = false

@@ -2,9 +2,10 @@
 ghost use Rattle.std.specs.Prelude.{◌≡◌, ◌<◌, ◌≤◌, ◌+◌, ◌||◌, ◌&&◌, not, ℕ, List, Bool, length, slice_get, Some, IfErr, IfOk, IsTrue};
 ghost use Rattle.nets.specs.Nets.{Begins, IsGate};
 ghost use Rattle.y86_isa.specs.Table.{row, rows};
-ghost use Rattle.ctl_atoms.specs.Atoms.{IsCtlFault};
+ghost use Rattle.ctl_atoms.specs.Atoms.{AreAtoms, IsCtlFault};
 ghost use Rattle.ctl_formula.specs.Picks.{IsInside, has_picks};
-ghost use Rattle.field_bits.specs.Spelling.{set, spelt};
+ghost use Rattle.y86_base.specs.Words.{set};
+ghost use Rattle.field_bits.specs.Spelling.{spelt};
 ghost use Rattle.hcl_types.specs.Tables.{IsBound, IsOrderOf};
 ghost use Rattle.rule_gates.specs.Asked.{IsAsked};
 ghost use Rattle.rule_gates.specs.Words.{next_leaf, takes_some};
@@ -63,7 +64,7 @@ impl ByRow for NextPc {
 }
 
 /// The code is that of an instruction that goes on.
-#[tactic(auto, using(nets::proofs::Truths::truth_kept, nets::proofs::Truths::begins_more))]
+#[tactic(auto, using(nets::proofs::Truths::begins_more))]
 fn code_allowed(b: &mut NetBuilder, v: Variant) -> Result<u64, Memory>
     requires { p_cnd.first + p_cnd.bits ≤ b.old.vars }
     ensures begins { Begins b.old b.new }
@@ -82,7 +83,7 @@ fn lines_allowed(b: &mut NetBuilder, ctl: &Controls, v: Variant) -> Result<u64, 
     requires inside { IsInside b.old ctl.now }
     requires ready { IsPlusReady b.old.vars ctl.now }
     ensures begins { Begins b.old b.new }
-    ensures asked { IfOk result (λ g. IsAsked b.new ctl.now g (λ w α cv. allowed v (fields_of w))) }
+    ensures made { IfOk result (λ g. IsAsked b.new ctl.now g (λ w α cv. allowed v (fields_of w))) }
 {
     let code = code_allowed(b, v)?;
     let rest = line_allowed(b, ctl, line(), v)?;
@@ -96,7 +97,7 @@ fn demand_told(b: &mut NetBuilder, ctl: &Controls, v: Variant, number: u32) -> R
     requires inside { IsInside b.old ctl.now }
     requires ready { IsPlusReady b.old.vars ctl.now }
     ensures begins { Begins b.old b.new }
-    ensures asked { IfOk result (λ g. IsAsked b.new ctl.now g (λ w α cv. demand_at v number (fields_of w) α cv)) }
+    ensures made { IfOk result (λ g. IsAsked b.new ctl.now g (λ w α cv. demand_at v number (fields_of w) α cv)) }
 {
     if number == 16 {
         let next = by_icode(b, ctl, v, P_ICODE, &NextPc)?;
@@ -140,6 +141,7 @@ pub fn plus_rules(
     requires ordered { IsOrderOf plus_rows design.now.terms order.now.ids }
     ensures rules { IfOk result (λ r. ArePlusRules variant design.now.terms r.net r.list) }
     ensures variant { IfOk result (λ r. r.variant ≡ variant) }
+    ensures atoms { IfOk result (λ r. AreAtoms plus_rows design.now.terms r.atoms) }
     ensures fault { IfErr result (IsCtlFault plus_rows design.now.terms) }
 {
     let table = match plus_table(alloc) {
@@ -155,6 +157,7 @@ pub fn plus_rules(
             variant,
             net: b.finish(),
             list: Items::of(list),
+            atoms: Items::of(listed),
         }),
     }
 }

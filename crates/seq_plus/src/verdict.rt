@@ -7,18 +7,23 @@ ghost use Rattle.seq_plus.specs.Verdicts.{IsPlusVerdict, is_yes};
 ghost use Rattle.verdicts.specs.Questions.{IsFault};
 
 use crate::rules::plus_rules;
+use ctl_atoms::Atom;
 use hcl_types::{Design, Order};
 use nets::Valuation;
 use std::alloc::Global;
 use verdicts::{CheckFault, decide, told};
-use y86_base::{Memory, Variant};
+use y86_base::{Items, Memory, Variant};
 
 /// Whether every rule holds of a design, and if not, the number of the first that doesn't, with the least valuation of
-/// which it is false.
+/// which it is false, and the design's atoms.
 #[derive(Debug, PartialEq, Drop)]
 pub enum Plain16 {
     Yes,
-    No { rule: u32, valuation: Valuation },
+    No {
+        rule: u32,
+        valuation: Valuation,
+        atoms: Items<Atom>,
+    },
 }
 
 /// The verdict on an HCL file for SEQ+. Where it is yes, the file's machine runs as the instructions do: on every
@@ -44,6 +49,7 @@ pub fn check_plus(
         Ok(Some(failure)) => Ok(Plain16::No {
             rule: failure.rule,
             valuation: failure.valuation,
+            atoms: rules.atoms,
         }),
         Err(Memory) => Err(CheckFault::Memory),
     }

@@ -1,5 +1,5 @@
 -- What is made of two gates, of which the first was made before the second, tells what both do.
-use Rattle.std.proofs.Common.{◌≡◌, IsTrue, ℕ, ◌<◌, ◌==◌, ◌&&◌, ◌||◌, not, Bool, true, false, if◌then◌else◌, List, length, refl, sym, ap, subst, ◌∙◌}
+use Rattle.std.proofs.Common.{◌≡◌, IsTrue, ℕ, ◌==◌, ◌&&◌, ◌||◌, not, Bool, true, false, if◌then◌else◌, List, refl, sym, ap, subst, ◌∙◌}
 use Rattle.nets.specs.Nets.{Gates, Begins, IsGate, agree, truth}
 use Rattle.ctl_atoms.specs.declared.leaf.Leaf.{Leaf}
 use Rattle.ctl_atoms.specs.declared.leaf.Leaf.TheVariants.{Number}
@@ -7,8 +7,13 @@ use Rattle.ctl_atoms.specs.Leaves.{Assignment, leaf_holds}
 use Rattle.ctl_formula.specs.declared.controls.Entry.{Entry}
 use Rattle.ctl_formula.specs.Picks.{IsInside, gate_of, has_gate}
 use Rattle.ctl_formula.proofs.Inside.{inside_more}
-use Rattle.field_bits.specs.Spelling.{set}
+use Rattle.y86_base.specs.Words.{set}
 use Rattle.stage_rules.specs.Signals.{IsReady}
+use Rattle.pipe_fields.specs.Layout.{Fields}
+use Rattle.pipe_motion.specs.declared.settings.Settings.{Settings}
+use Rattle.pipe_motion.specs.Slots.{Movers, View}
+use Rattle.pipe_obligations.specs.Obligations.{takes_right}
+use Rattle.y86_base.specs.declared.parts.Variant.{Variant}
 use Rattle.y86_isa.specs.Blocks.{destination_e}
 use Rattle.y86_isa.specs.Table.{no_register}
 use Rattle.rule_gates.specs.Asked.{IsAsked}
@@ -27,10 +32,6 @@ pub gate_then_asked : {n0 n1 n2 n3 : Gates} {ctl : List Entry} {x y g : ℕ} {p 
     → IsInside n0 ctl → Begins n0 n1 → IsGate n1 x p → Begins n1 n2 → IsAsked n2 ctl y q → Begins n2 n3
     → IsGate n3 g (λ w. join (truth n2 x w) (truth n2 y w)) → IsAsked n3 ctl g (λ w α cv. join (p w) (q w α cv))
 gate_then_asked join i k p l q m made = then_asked join i k (asked_gate p) l q m made
-
--- a gate that was there at first
-pub there : {n : Gates} {g : ℕ} → g < length n.gates → IsGate n g (λ w. truth n g w)
-there h = record { within = h; is = λ w. refl }
 
 -- a truth that is compared with the gate of a name
 pub truth_told : {old new : Gates} {ctl : List Entry} {told g : ℕ} (name want : ℕ) → IsInside old ctl → IsTrue (has_gate ctl name) → told ≡ gate_of ctl name → Begins old new
@@ -68,3 +69,8 @@ regroup false b x = refl
 -- signals keep their control values, and fields their places, as the net grows
 pub ready_more : {old new : Gates} {ctl : List Entry} → Begins old new → IsReady old.vars ctl → IsReady new.vars ctl
 ready_more {old} {new} {ctl} k r = subst (λ (n : ℕ). IsReady n ctl) (sym k.vars) r
+
+-- what is asked of a word, by what stands in the stages and what counts where its value isn't there
+pub right_by : (v : Variant) (s : Settings) (c : Fields) (k : Movers) (α : Assignment) (cv : ℕ → Leaf) (word source rest : ℕ) (y y' : View) (free free' : Bool) → y ≡ y' → free ≡ free'
+    → takes_right v s c y k α cv free word source rest ≡ takes_right v s c y' k α cv free' word source rest
+right_by v s c k α cv word source rest y y' free free' p q = rw (p, q) refl

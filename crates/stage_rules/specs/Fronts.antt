@@ -9,7 +9,7 @@ use Rattle.ctl_atoms.specs.Leaves.{Assignment}
 use Rattle.ctl_formula.specs.declared.controls.Entry.{Entry}
 use Rattle.ctl_formula.specs.Picks.{has_gate, has_picks}
 use Rattle.dp_signals.specs.PipeNames as signal
-use Rattle.field_bits.specs.Spelling.{set}
+use Rattle.y86_base.specs.Words.{set}
 use Rattle.pipe_fields.specs.Layout.{Fields, bit_count}
 use Rattle.pipe_motion.specs.Predictions.{predicts}
 use Rattle.rule_gates.specs.Words.{takes_some, is_number, is_truth}

@@ -1,11 +1,14 @@
 //! What is asked of the execute stage: obligations 12 to 17, and the jump's target. `good` is the gate that E holds a good
 //! instruction.
+#![tactic(auto, using(nets::proofs::Truths::begins_more, ctl_formula::proofs::Inside::inside_more, crate::proofs::Joined::ready_more), unfolding(pipe_fields::specs::Layout::fields_of))]
+
 ghost use Rattle.std.specs.Prelude.{◌≡◌, ◌<◌, ◌≤◌, ◌+◌, ◌==◌, ◌&&◌, ◌||◌, not, if◌then◌else◌, length, IfOk, IsTrue};
 ghost use Rattle.nets.specs.Nets.{Begins, IsGate, truth};
 ghost use Rattle.ctl_atoms.specs.declared.leaf.Leaf.TheVariants.{Name};
 ghost use Rattle.ctl_formula.specs.Picks.{IsInside, has_gate, has_picks};
 ghost use Rattle.dp_signals.specs.PipeNames as names;
-ghost use Rattle.field_bits.specs.Spelling.{set, spelt};
+ghost use Rattle.y86_base.specs.Words.{set};
+ghost use Rattle.field_bits.specs.Spelling.{spelt};
 ghost use Rattle.pipe_gates.specs.Columns.{has};
 ghost use Rattle.stage_rules.specs.Signals.{IsReady, asked_by};
 ghost use Rattle.pipe_obligations.specs.Stages.{is_jump};
@@ -28,7 +31,6 @@ use rule_gates::{Wanted, by_icode, takes, takes_if};
 use y86_base::{Memory, Variant};
 
 /// The good instruction in E goes on.
-#[tactic(auto, using(nets::proofs::Truths::begins_more, nets::proofs::Truths::truth_kept, ctl_formula::proofs::Inside::inside_more, crate::proofs::Joined::ready_more), unfolding(pipe_fields::specs::Layout::fields_of))]
 fn works(b: &mut NetBuilder, good: u64) -> Result<u64, Memory>
     requires vars { bit_count ≤ b.old.vars }
     requires good { good < length b.old.gates }
@@ -41,7 +43,6 @@ fn works(b: &mut NetBuilder, good: u64) -> Result<u64, Memory>
 }
 
 /// What a row asks of E, of a good instruction that goes on.
-#[tactic(auto, using(nets::proofs::Truths::begins_more, nets::proofs::Truths::truth_kept, ctl_formula::proofs::Inside::inside_more, crate::proofs::Joined::ready_more), unfolding(pipe_fields::specs::Layout::fields_of))]
 pub fn asked_in_e(
     b: &mut NetBuilder,
     ctl: &Controls,
@@ -53,7 +54,7 @@ pub fn asked_in_e(
     requires ready { IsReady b.old.vars ctl.now }
     requires good { good < length b.old.gates }
     ensures begins { Begins b.old b.new }
-    ensures asked { IfOk result (λ g. IsAsked b.new ctl.now g (λ w α cv.
+    ensures made { IfOk result (λ g. IsAsked b.new ctl.now g (λ w α cv.
         not (truth b.old good w && (fields_of w).e.stat == 1) || asked_by rule (row v (fields_of w).e.icode) (fields_of w) cv)) }
 {
     let works = works(b, good)?;
@@ -63,7 +64,6 @@ pub fn asked_in_e(
 }
 
 /// Obligation 14: the function of the ALU, where it is used.
-#[tactic(auto, using(nets::proofs::Truths::begins_more, nets::proofs::Truths::truth_kept, ctl_formula::proofs::Inside::inside_more, crate::proofs::Joined::ready_more), unfolding(pipe_fields::specs::Layout::fields_of))]
 pub fn obligation_14(
     b: &mut NetBuilder,
     ctl: &Controls,
@@ -74,7 +74,7 @@ pub fn obligation_14(
     requires ready { IsReady b.old.vars ctl.now }
     requires good { good < length b.old.gates }
     ensures begins { Begins b.old b.new }
-    ensures asked { IfOk result (λ g. IsAsked b.new ctl.now g (λ w α cv.
+    ensures made { IfOk result (λ g. IsAsked b.new ctl.now g (λ w α cv.
         not ((truth b.old good w && (fields_of w).e.stat == 1) && has_operand_a (row v (fields_of w).e.icode).alu_a) || words.is_number cv names.alufun (alu_function (row v (fields_of w).e.icode).selects (fields_of w).e.ifun))) }
 {
     let g = asked_in_e(b, ctl, v, good, RowRule::Function)?;
@@ -82,7 +82,6 @@ pub fn obligation_14(
 }
 
 /// The signal is true exactly where the gate is, and the row of the icode passes the test.
-#[tactic(auto, using(nets::proofs::Truths::begins_more, nets::proofs::Truths::truth_kept, ctl_formula::proofs::Inside::inside_more, crate::proofs::Joined::ready_more), unfolding(pipe_fields::specs::Layout::fields_of))]
 pub fn truth_where(
     b: &mut NetBuilder,
     ctl: &Controls,
@@ -98,7 +97,7 @@ pub fn truth_where(
     requires place { icode.first + icode.bits ≤ b.old.vars }
     requires bits { icode.bits ≡ 4 }
     ensures begins { Begins b.old b.new }
-    ensures asked { IfOk result (λ g. IsAsked b.new ctl.now g (λ w α cv.
+    ensures made { IfOk result (λ g. IsAsked b.new ctl.now g (λ w α cv.
         words.is_truth α cv name (truth b.old good w && has v test (spelt w icode.first icode.bits)))) }
 {
     let passed = row_has(b, v, icode, test)?;
@@ -109,7 +108,6 @@ pub fn truth_where(
 }
 
 /// Obligation 15: the flags are set by a good instruction that goes on and sets them.
-#[tactic(auto, using(nets::proofs::Truths::begins_more, nets::proofs::Truths::truth_kept, ctl_formula::proofs::Inside::inside_more, crate::proofs::Joined::ready_more), unfolding(pipe_fields::specs::Layout::fields_of))]
 pub fn obligation_15(
     b: &mut NetBuilder,
     ctl: &Controls,
@@ -120,7 +118,7 @@ pub fn obligation_15(
     requires ready { IsReady b.old.vars ctl.now }
     requires good { good < length b.old.gates }
     ensures begins { Begins b.old b.new }
-    ensures asked { IfOk result (λ g. IsAsked b.new ctl.now g (λ w α cv.
+    ensures made { IfOk result (λ g. IsAsked b.new ctl.now g (λ w α cv.
         words.is_truth α cv names.set_cc ((truth b.old good w && (fields_of w).e.stat == 1) && (row v (fields_of w).e.icode).sets_flags))) }
 {
     let works = works(b, good)?;
@@ -137,7 +135,6 @@ pub fn obligation_15(
 }
 
 /// A good instruction carries valA, or valP in its place, on to M.
-#[tactic(auto, using(nets::proofs::Truths::begins_more, nets::proofs::Truths::truth_kept, ctl_formula::proofs::Inside::inside_more, crate::proofs::Joined::ready_more), unfolding(pipe_fields::specs::Layout::fields_of))]
 fn carries(b: &mut NetBuilder, v: Variant, good: u64) -> Result<u64, Memory>
     requires vars { bit_count ≤ b.old.vars }
     requires good { good < length b.old.gates }
@@ -152,7 +149,6 @@ fn carries(b: &mut NetBuilder, v: Variant, good: u64) -> Result<u64, Memory>
 }
 
 /// What E stores is what M loads, where M holds a good instruction.
-#[tactic(auto, using(nets::proofs::Truths::begins_more, nets::proofs::Truths::truth_kept, ctl_formula::proofs::Inside::inside_more, crate::proofs::Joined::ready_more), unfolding(pipe_fields::specs::Layout::fields_of))]
 fn stores_loaded(b: &mut NetBuilder, v: Variant, loads: u64) -> Result<u64, Memory>
     requires vars { bit_count ≤ b.old.vars }
     requires loads { loads < length b.old.gates }
@@ -167,7 +163,6 @@ fn stores_loaded(b: &mut NetBuilder, v: Variant, loads: u64) -> Result<u64, Memo
 }
 
 /// With load forwarding, a store takes the word that it stores from the load in M.
-#[tactic(auto, using(nets::proofs::Truths::begins_more, nets::proofs::Truths::truth_kept, ctl_formula::proofs::Inside::inside_more, crate::proofs::Joined::ready_more), unfolding(pipe_fields::specs::Layout::fields_of))]
 fn taken_late(b: &mut NetBuilder, lf: bool, v: Variant, loads: u64) -> Result<u64, Memory>
     requires vars { bit_count ≤ b.old.vars }
     requires loads { loads < length b.old.gates }
@@ -184,7 +179,6 @@ fn taken_late(b: &mut NetBuilder, lf: bool, v: Variant, loads: u64) -> Result<u6
 }
 
 /// Obligation 16: e_valA is the value that the instruction carries on to M.
-#[tactic(auto, using(nets::proofs::Truths::begins_more, nets::proofs::Truths::truth_kept, ctl_formula::proofs::Inside::inside_more, crate::proofs::Joined::ready_more), unfolding(pipe_fields::specs::Layout::fields_of))]
 pub fn obligation_16(
     b: &mut NetBuilder,
     ctl: &Controls,
@@ -198,7 +192,7 @@ pub fn obligation_16(
     requires good { good < length b.old.gates }
     requires loads { loads < length b.old.gates }
     ensures begins { Begins b.old b.new }
-    ensures asked { IfOk result (λ g. IsAsked b.new ctl.now g (λ w α cv.
+    ensures made { IfOk result (λ g. IsAsked b.new ctl.now g (λ w α cv.
         not (truth b.old good w && (carries_a (row v (fields_of w).e.icode) || carries_p (row v (fields_of w).e.icode)))
         || words.takes cv names.e_valA (if lf && (stores_a (row v (fields_of w).e.icode).memory && (truth b.old loads w && (fields_of w).m.dst_m == (fields_of w).e.src_a)) then Name names.m_valM else Name names.E_valA))) }
 {
@@ -217,7 +211,6 @@ pub fn obligation_16(
 }
 
 /// The condition of the move in E does not hold.
-#[tactic(auto, using(nets::proofs::Truths::begins_more, nets::proofs::Truths::truth_kept, ctl_formula::proofs::Inside::inside_more, crate::proofs::Joined::ready_more), unfolding(pipe_fields::specs::Layout::fields_of))]
 fn loses(b: &mut NetBuilder, v: Variant) -> Result<u64, Memory>
     requires vars { bit_count ≤ b.old.vars }
     ensures begins { Begins b.old b.new }
@@ -230,7 +223,6 @@ fn loses(b: &mut NetBuilder, v: Variant) -> Result<u64, Memory>
 }
 
 /// The signal is E's destination after the condition.
-#[tactic(auto, using(nets::proofs::Truths::begins_more, nets::proofs::Truths::truth_kept, ctl_formula::proofs::Inside::inside_more, crate::proofs::Joined::ready_more), unfolding(pipe_fields::specs::Layout::fields_of))]
 pub fn late_destination_is(
     b: &mut NetBuilder,
     ctl: &Controls,
@@ -241,7 +233,7 @@ pub fn late_destination_is(
     requires vars { bit_count ≤ b.old.vars }
     requires known { IsTrue (has_picks ctl.now name) }
     ensures begins { Begins b.old b.new }
-    ensures asked { IfOk result (λ g. IsAsked b.new ctl.now g (λ w α cv.
+    ensures made { IfOk result (λ g. IsAsked b.new ctl.now g (λ w α cv.
         words.is_number cv name (destination_e (row v (fields_of w).e.icode).conditional (set (fields_of w).e.cnd) (fields_of w).e.dst_e))) }
 {
     let lost = loses(b, v)?;
@@ -257,7 +249,6 @@ pub fn late_destination_is(
 }
 
 /// Obligation 17: unless E holds a wrong instruction, e_dstE is E's destination after the condition.
-#[tactic(auto, using(nets::proofs::Truths::begins_more, nets::proofs::Truths::truth_kept, ctl_formula::proofs::Inside::inside_more, crate::proofs::Joined::ready_more), unfolding(pipe_fields::specs::Layout::fields_of))]
 pub fn obligation_17(
     b: &mut NetBuilder,
     ctl: &Controls,
@@ -268,7 +259,7 @@ pub fn obligation_17(
     requires ready { IsReady b.old.vars ctl.now }
     requires wrong { wrong < length b.old.gates }
     ensures begins { Begins b.old b.new }
-    ensures asked { IfOk result (λ g. IsAsked b.new ctl.now g (λ w α cv.
+    ensures made { IfOk result (λ g. IsAsked b.new ctl.now g (λ w α cv.
         truth b.old wrong w || words.is_number cv names.e_dstE (destination_e (row v (fields_of w).e.icode).conditional (set (fields_of w).e.cnd) (fields_of w).e.dst_e))) }
 {
     let told = late_destination_is(b, ctl, v, signal::E_DST_E)?;
@@ -277,7 +268,6 @@ pub fn obligation_17(
 }
 
 /// E holds a good jump that goes on.
-#[tactic(auto, using(nets::proofs::Truths::begins_more, nets::proofs::Truths::truth_kept, ctl_formula::proofs::Inside::inside_more, crate::proofs::Joined::ready_more), unfolding(pipe_fields::specs::Layout::fields_of))]
 fn jumps(b: &mut NetBuilder, v: Variant, good: u64) -> Result<u64, Memory>
     requires vars { bit_count ≤ b.old.vars }
     requires good { good < length b.old.gates }
@@ -292,12 +282,11 @@ fn jumps(b: &mut NetBuilder, v: Variant, good: u64) -> Result<u64, Memory>
 }
 
 /// The ALU adds 0 to E_valC.
-#[tactic(auto, using(nets::proofs::Truths::begins_more, nets::proofs::Truths::truth_kept, ctl_formula::proofs::Inside::inside_more, crate::proofs::Joined::ready_more), unfolding(pipe_fields::specs::Layout::fields_of))]
 fn adds_target(b: &mut NetBuilder, ctl: &Controls) -> Result<u64, Memory>
     requires inside { IsInside b.old ctl.now }
     requires ready { IsReady b.old.vars ctl.now }
     ensures begins { Begins b.old b.new }
-    ensures asked { IfOk result (λ g. IsAsked b.new ctl.now g (λ w α cv.
+    ensures made { IfOk result (λ g. IsAsked b.new ctl.now g (λ w α cv.
         words.takes cv names.aluA (Name names.E_valC) && (words.is_number cv names.aluB 0 && words.is_number cv names.alufun 0))) }
 {
     let target = takes(
@@ -314,13 +303,12 @@ fn adds_target(b: &mut NetBuilder, ctl: &Controls) -> Result<u64, Memory>
 }
 
 /// A jump in E carries its target through the ALU.
-#[tactic(auto, using(nets::proofs::Truths::begins_more, nets::proofs::Truths::truth_kept, ctl_formula::proofs::Inside::inside_more, crate::proofs::Joined::ready_more), unfolding(pipe_fields::specs::Layout::fields_of))]
 pub fn target_told(b: &mut NetBuilder, ctl: &Controls, v: Variant, good: u64) -> Result<u64, Memory>
     requires inside { IsInside b.old ctl.now }
     requires ready { IsReady b.old.vars ctl.now }
     requires good { good < length b.old.gates }
     ensures begins { Begins b.old b.new }
-    ensures asked { IfOk result (λ g. IsAsked b.new ctl.now g (λ w α cv.
+    ensures made { IfOk result (λ g. IsAsked b.new ctl.now g (λ w α cv.
         not (truth b.old good w && is_jump v (fields_of w).e.stat (fields_of w).e.icode)
         || (words.takes cv names.aluA (Name names.E_valC) && (words.is_number cv names.aluB 0 && words.is_number cv names.alufun 0)))) }
 {

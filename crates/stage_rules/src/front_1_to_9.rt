@@ -1,9 +1,11 @@
 //! What is asked of fetch and decode, whatever stands in the stages: obligations 1 to 9.
+#![tactic(auto, using(nets::proofs::Truths::begins_more, ctl_formula::proofs::Inside::inside_more), unfolding(pipe_fields::specs::Layout::fields_of))]
+
 ghost use Rattle.std.specs.Prelude.{◌<◌, ◌≤◌, ◌&&◌, ◌||◌, not, IfOk};
 ghost use Rattle.nets.specs.Nets.{Begins, IsGate};
 ghost use Rattle.ctl_formula.specs.Picks.{IsInside};
 ghost use Rattle.dp_signals.specs.PipeNames as names;
-ghost use Rattle.field_bits.specs.Spelling.{set};
+ghost use Rattle.y86_base.specs.Words.{set};
 ghost use Rattle.stage_rules.specs.Fronts.{IsFrontReady, asked_in_front};
 ghost use Rattle.pipe_obligations.specs.Obligations.{predicted_leaf};
 ghost use Rattle.pipe_fields.specs.Layout.{bit_count, fields_of};
@@ -42,7 +44,6 @@ pub enum FrontRule {
 }
 
 /// A jump of this ifun and back bit is predicted as taken.
-#[tactic(auto, unfolding(pipe_fields::specs::Layout::fields_of))]
 fn predicted(b: &mut NetBuilder, s: &Settings) -> Result<u64, Memory>
     requires { bit_count ≤ b.old.vars }
     ensures begins { Begins b.old b.new }
@@ -56,12 +57,11 @@ fn predicted(b: &mut NetBuilder, s: &Settings) -> Result<u64, Memory>
 }
 
 /// f_predPC is the target of a jump that is predicted as taken, and what stands behind any other.
-#[tactic(auto, unfolding(pipe_fields::specs::Layout::fields_of), using(nets::proofs::Truths::begins_more, ctl_formula::proofs::Inside::inside_more))]
 fn jump_predicted(b: &mut NetBuilder, ctl: &Controls, s: &Settings) -> Result<u64, Memory>
     requires inside { IsInside b.old ctl.now }
     requires ready { IsFrontReady b.old.vars ctl.now }
     ensures begins { Begins b.old b.new }
-    ensures asked { IfOk result (λ g. IsAsked b.new ctl.now g (λ w α cv.
+    ensures made { IfOk result (λ g. IsAsked b.new ctl.now g (λ w α cv.
         words.takes_some cv names.f_predPC (predicted_leaf way.Branch (predicts s.now (fields_of w).f.ifun (set (fields_of w).f.back))))) }
 {
     let taken = predicted(b, s)?;
@@ -77,7 +77,6 @@ fn jump_predicted(b: &mut NetBuilder, ctl: &Controls, s: &Settings) -> Result<u6
 }
 
 /// f_predPC is the PC that the row predicts, if it predicts one.
-#[tactic(auto, unfolding(pipe_fields::specs::Layout::fields_of))]
 fn next_predicted(
     b: &mut NetBuilder,
     ctl: &Controls,
@@ -87,7 +86,7 @@ fn next_predicted(
     requires inside { IsInside b.old ctl.now }
     requires ready { IsFrontReady b.old.vars ctl.now }
     ensures begins { Begins b.old b.new }
-    ensures asked { IfOk result (λ g. IsAsked b.new ctl.now g (λ w α cv.
+    ensures made { IfOk result (λ g. IsAsked b.new ctl.now g (λ w α cv.
         words.takes_some cv names.f_predPC (predicted_leaf next (predicts s.now (fields_of w).f.ifun (set (fields_of w).f.back))))) }
 {
     match next {
@@ -100,7 +99,6 @@ fn next_predicted(
 }
 
 /// The reading has an error.
-#[tactic(auto, unfolding(pipe_fields::specs::Layout::fields_of))]
 fn reading_fails(b: &mut NetBuilder) -> Result<u64, Memory>
     requires { bit_count ≤ b.old.vars }
     ensures begins { Begins b.old b.new }
@@ -112,12 +110,11 @@ fn reading_fails(b: &mut NetBuilder) -> Result<u64, Memory>
 }
 
 /// f_stat is the status of the icode that is read, or of the error.
-#[tactic(auto, using(nets::proofs::Truths::begins_more, ctl_formula::proofs::Inside::inside_more))]
 fn fetch_status_is(b: &mut NetBuilder, ctl: &Controls, icode: u64) -> Result<u64, Memory>
     requires inside { IsInside b.old ctl.now }
     requires ready { IsFrontReady b.old.vars ctl.now }
     ensures begins { Begins b.old b.new }
-    ensures asked { IfOk result (λ g. IsAsked b.new ctl.now g (λ w α cv. asked_in_front kind.Status icode dash_row (fields_of w) α cv)) }
+    ensures made { IfOk result (λ g. IsAsked b.new ctl.now g (λ w α cv. asked_in_front kind.Status icode dash_row (fields_of w) α cv)) }
 {
     let error = reading_fails(b)?;
     let g = status_is(b, ctl, signal::F_STAT, error, icode)?;
@@ -125,7 +122,6 @@ fn fetch_status_is(b: &mut NetBuilder, ctl: &Controls, icode: u64) -> Result<u64
 }
 
 /// What is asked by an icode and its row.
-#[tactic(auto, unfolding(pipe_fields::specs::Layout::fields_of))]
 fn front_asks(
     b: &mut NetBuilder,
     ctl: &Controls,
@@ -136,7 +132,7 @@ fn front_asks(
     requires inside { IsInside b.old ctl.now }
     requires ready { IsFrontReady b.old.vars ctl.now }
     ensures begins { Begins b.old b.new }
-    ensures asked { IfOk result (λ g. IsAsked b.new ctl.now g (λ w α cv. asked_in_front rule icode row.now (fields_of w) α cv)) }
+    ensures made { IfOk result (λ g. IsAsked b.new ctl.now g (λ w α cv. asked_in_front rule icode row.now (fields_of w) α cv)) }
 {
     match rule {
         FrontRule::Status => fetch_status_is(b, ctl, icode),
@@ -167,12 +163,11 @@ impl ByRow for FrontRule {
 }
 
 /// Obligation 1: f_icode and f_ifun are what was read.
-#[tactic(auto, unfolding(pipe_fields::specs::Layout::fields_of), using(nets::proofs::Truths::begins_more, ctl_formula::proofs::Inside::inside_more))]
 pub fn obligation_1(b: &mut NetBuilder, ctl: &Controls) -> Result<u64, Memory>
     requires inside { IsInside b.old ctl.now }
     requires ready { IsFrontReady b.old.vars ctl.now }
     ensures begins { Begins b.old b.new }
-    ensures asked { IfOk result (λ g. IsAsked b.new ctl.now g (λ w α cv.
+    ensures made { IfOk result (λ g. IsAsked b.new ctl.now g (λ w α cv.
         words.is_number cv names.f_icode (fields_of w).f.icode && words.is_number cv names.f_ifun (fields_of w).f.ifun)) }
 {
     let code = takes(b, ctl, signal::F_ICODE, Wanted::Field(F_ICODE))?;
@@ -182,7 +177,6 @@ pub fn obligation_1(b: &mut NetBuilder, ctl: &Controls) -> Result<u64, Memory>
 }
 
 /// What is asked by the icode that is fetched.
-#[tactic(auto, unfolding(pipe_fields::specs::Layout::fields_of))]
 pub fn fetch_told(
     b: &mut NetBuilder,
     ctl: &Controls,
@@ -192,14 +186,13 @@ pub fn fetch_told(
     requires inside { IsInside b.old ctl.now }
     requires ready { IsFrontReady b.old.vars ctl.now }
     ensures begins { Begins b.old b.new }
-    ensures asked { IfOk result (λ g. IsAsked b.new ctl.now g (λ w α cv. asked_in_front rule (fields_of w).f.icode (row v (fields_of w).f.icode) (fields_of w) α cv)) }
+    ensures made { IfOk result (λ g. IsAsked b.new ctl.now g (λ w α cv. asked_in_front rule (fields_of w).f.icode (row v (fields_of w).f.icode) (fields_of w) α cv)) }
 {
     let g = by_icode(b, ctl, v, F_ICODE, &rule)?;
     Ok(g)
 }
 
 /// What is asked by the icode in D.
-#[tactic(auto, unfolding(pipe_fields::specs::Layout::fields_of))]
 pub fn decode_told(
     b: &mut NetBuilder,
     ctl: &Controls,
@@ -209,14 +202,13 @@ pub fn decode_told(
     requires inside { IsInside b.old ctl.now }
     requires ready { IsFrontReady b.old.vars ctl.now }
     ensures begins { Begins b.old b.new }
-    ensures asked { IfOk result (λ g. IsAsked b.new ctl.now g (λ w α cv. asked_in_front rule (fields_of w).d.icode (row v (fields_of w).d.icode) (fields_of w) α cv)) }
+    ensures made { IfOk result (λ g. IsAsked b.new ctl.now g (λ w α cv. asked_in_front rule (fields_of w).d.icode (row v (fields_of w).d.icode) (fields_of w) α cv)) }
 {
     let g = by_icode(b, ctl, v, D_ICODE, &rule)?;
     Ok(g)
 }
 
 /// Obligation 5: f_predPC is the PC that is predicted behind what is fetched without an error.
-#[tactic(auto, unfolding(pipe_fields::specs::Layout::fields_of), using(nets::proofs::Truths::begins_more, ctl_formula::proofs::Inside::inside_more))]
 pub fn obligation_5(
     b: &mut NetBuilder,
     ctl: &Controls,
@@ -226,7 +218,7 @@ pub fn obligation_5(
     requires inside { IsInside b.old ctl.now }
     requires ready { IsFrontReady b.old.vars ctl.now }
     ensures begins { Begins b.old b.new }
-    ensures asked { IfOk result (λ g. IsAsked b.new ctl.now g (λ w α cv.
+    ensures made { IfOk result (λ g. IsAsked b.new ctl.now g (λ w α cv.
         set (fields_of w).f.error || words.takes_some cv names.f_predPC (predicted_leaf (row v (fields_of w).f.icode).next (predicts s.now (fields_of w).f.ifun (set (fields_of w).f.back))))) }
 {
     let error = reading_fails(b)?;

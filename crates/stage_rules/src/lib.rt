@@ -1,6 +1,6 @@
 //! Gates of obligations 1 to 22: what is asked of the signals of each stage (CS:APP 3e, sections 4.5.5 to 4.5.8), and that
 //! jumps carry their target.
-#![tactic(auto, using(pipe_motion::proofs::Growing::grows_more, pipe_motion::proofs::Growing::grows_self))]
+#![tactic(auto, using(nets::proofs::Truths::begins_more, nets::proofs::Truths::begins_self))]
 
 mod execute_12_to_17;
 mod front_1_to_9;

@@ -1,11 +1,13 @@
 //! What is asked of the memory and write-back stages: obligations 18 to 22. `good` is the gate that the stage holds a good
 //! instruction.
+#![tactic(auto, using(nets::proofs::Truths::begins_more, ctl_formula::proofs::Inside::inside_more, crate::proofs::Joined::ready_more), unfolding(pipe_fields::specs::Layout::fields_of))]
+
 ghost use Rattle.std.specs.Prelude.{◌<◌, ◌&&◌, ◌||◌, not, if◌then◌else◌, length, IfOk};
 ghost use Rattle.nets.specs.Nets.{Begins, truth};
 ghost use Rattle.ctl_atoms.specs.declared.leaf.Leaf.TheVariants.{Name};
 ghost use Rattle.ctl_formula.specs.Picks.{IsInside};
 ghost use Rattle.dp_signals.specs.PipeNames as names;
-ghost use Rattle.field_bits.specs.Spelling.{set};
+ghost use Rattle.y86_base.specs.Words.{set};
 ghost use Rattle.stage_rules.specs.Signals.{IsReady};
 ghost use Rattle.pipe_fields.specs.Layout.{fields_of};
 ghost use Rattle.rule_gates.specs.Asked.{IsAsked};
@@ -25,7 +27,6 @@ use rule_gates::{Wanted, by_icode, takes, takes_if};
 use y86_base::{Memory, Variant};
 
 /// Obligation 18: mem_addr is the address of a good instruction that accesses memory.
-#[tactic(auto, using(nets::proofs::Truths::begins_more, nets::proofs::Truths::truth_kept, ctl_formula::proofs::Inside::inside_more, crate::proofs::Joined::ready_more), unfolding(pipe_fields::specs::Layout::fields_of))]
 pub fn obligation_18(
     b: &mut NetBuilder,
     ctl: &Controls,
@@ -36,7 +37,7 @@ pub fn obligation_18(
     requires ready { IsReady b.old.vars ctl.now }
     requires good { good < length b.old.gates }
     ensures begins { Begins b.old b.new }
-    ensures asked { IfOk result (λ g. IsAsked b.new ctl.now g (λ w α cv.
+    ensures made { IfOk result (λ g. IsAsked b.new ctl.now g (λ w α cv.
         not (truth b.old good w) || words.takes_some cv names.mem_addr (words.address_leaf (row v (fields_of w).m.icode).memory names.M_valA names.M_valE))) }
 {
     let told = by_icode(b, ctl, v, M_ICODE, &RowRule::Address)?;
@@ -45,7 +46,6 @@ pub fn obligation_18(
 }
 
 /// Obligation 19: a word is read, is written, by a good instruction that reads, that writes.
-#[tactic(auto, using(nets::proofs::Truths::begins_more, nets::proofs::Truths::truth_kept, ctl_formula::proofs::Inside::inside_more, crate::proofs::Joined::ready_more), unfolding(pipe_fields::specs::Layout::fields_of))]
 pub fn obligation_19(
     b: &mut NetBuilder,
     ctl: &Controls,
@@ -56,7 +56,7 @@ pub fn obligation_19(
     requires ready { IsReady b.old.vars ctl.now }
     requires good { good < length b.old.gates }
     ensures begins { Begins b.old b.new }
-    ensures asked { IfOk result (λ g. IsAsked b.new ctl.now g (λ w α cv.
+    ensures made { IfOk result (λ g. IsAsked b.new ctl.now g (λ w α cv.
         words.is_truth α cv names.mem_read (truth b.old good w && is_load (row v (fields_of w).m.icode).memory)
         && words.is_truth α cv names.mem_write (truth b.old good w && is_store (row v (fields_of w).m.icode).memory))) }
 {
@@ -67,12 +67,11 @@ pub fn obligation_19(
 }
 
 /// Obligation 20: m_stat tells the fault.
-#[tactic(auto, using(nets::proofs::Truths::begins_more, nets::proofs::Truths::truth_kept, ctl_formula::proofs::Inside::inside_more, crate::proofs::Joined::ready_more), unfolding(pipe_fields::specs::Layout::fields_of))]
 pub fn obligation_20(b: &mut NetBuilder, ctl: &Controls) -> Result<u64, Memory>
     requires inside { IsInside b.old ctl.now }
     requires ready { IsReady b.old.vars ctl.now }
     ensures begins { Begins b.old b.new }
-    ensures asked { IfOk result (λ g. IsAsked b.new ctl.now g (λ w α cv.
+    ensures made { IfOk result (λ g. IsAsked b.new ctl.now g (λ w α cv.
         words.is_number cv names.m_stat (if set (fields_of w).m.error then 3 else (fields_of w).m.stat))) }
 {
     let fine = spells(b, M_ERROR, 0)?;
@@ -89,12 +88,11 @@ pub fn obligation_20(b: &mut NetBuilder, ctl: &Controls) -> Result<u64, Memory>
 }
 
 /// The values that are written are those of W.
-#[tactic(auto, using(nets::proofs::Truths::begins_more, nets::proofs::Truths::truth_kept, ctl_formula::proofs::Inside::inside_more, crate::proofs::Joined::ready_more), unfolding(pipe_fields::specs::Layout::fields_of))]
 fn values_written(b: &mut NetBuilder, ctl: &Controls) -> Result<u64, Memory>
     requires inside { IsInside b.old ctl.now }
     requires ready { IsReady b.old.vars ctl.now }
     ensures begins { Begins b.old b.new }
-    ensures asked { IfOk result (λ g. IsAsked b.new ctl.now g (λ w α cv.
+    ensures made { IfOk result (λ g. IsAsked b.new ctl.now g (λ w α cv.
         words.takes cv names.w_valE (Name names.W_valE) && words.takes cv names.w_valM (Name names.W_valM))) }
 {
     let val_e = takes(
@@ -114,12 +112,11 @@ fn values_written(b: &mut NetBuilder, ctl: &Controls) -> Result<u64, Memory>
 }
 
 /// What is written is what W holds.
-#[tactic(auto, using(nets::proofs::Truths::begins_more, nets::proofs::Truths::truth_kept, ctl_formula::proofs::Inside::inside_more, crate::proofs::Joined::ready_more), unfolding(pipe_fields::specs::Layout::fields_of))]
 fn registers_written(b: &mut NetBuilder, ctl: &Controls) -> Result<u64, Memory>
     requires inside { IsInside b.old ctl.now }
     requires ready { IsReady b.old.vars ctl.now }
     ensures begins { Begins b.old b.new }
-    ensures asked { IfOk result (λ g. IsAsked b.new ctl.now g (λ w α cv.
+    ensures made { IfOk result (λ g. IsAsked b.new ctl.now g (λ w α cv.
         words.is_number cv names.w_dstE (fields_of w).w.dst_e && (words.is_number cv names.w_dstM (fields_of w).w.dst_m && (words.takes cv names.w_valE (Name names.W_valE) && words.takes cv names.w_valM (Name names.W_valM))))) }
 {
     let dst_e = takes(b, ctl, signal::W_DST_E, Wanted::Field(W_DST_E))?;
@@ -131,13 +128,12 @@ fn registers_written(b: &mut NetBuilder, ctl: &Controls) -> Result<u64, Memory>
 }
 
 /// Obligation 21: a good instruction writes what W holds.
-#[tactic(auto, using(nets::proofs::Truths::begins_more, nets::proofs::Truths::truth_kept, ctl_formula::proofs::Inside::inside_more, crate::proofs::Joined::ready_more), unfolding(pipe_fields::specs::Layout::fields_of))]
 pub fn obligation_21(b: &mut NetBuilder, ctl: &Controls, good: u64) -> Result<u64, Memory>
     requires inside { IsInside b.old ctl.now }
     requires ready { IsReady b.old.vars ctl.now }
     requires good { good < length b.old.gates }
     ensures begins { Begins b.old b.new }
-    ensures asked { IfOk result (λ g. IsAsked b.new ctl.now g (λ w α cv.
+    ensures made { IfOk result (λ g. IsAsked b.new ctl.now g (λ w α cv.
         not (truth b.old good w) || (words.is_number cv names.w_dstE (fields_of w).w.dst_e && (words.is_number cv names.w_dstM (fields_of w).w.dst_m && (words.takes cv names.w_valE (Name names.W_valE) && words.takes cv names.w_valM (Name names.W_valM)))))) }
 {
     let told = registers_written(b, ctl)?;
@@ -146,13 +142,12 @@ pub fn obligation_21(b: &mut NetBuilder, ctl: &Controls, good: u64) -> Result<u6
 }
 
 /// Obligation 22: Stat is the status of the good instruction in W, and 1 without one.
-#[tactic(auto, using(nets::proofs::Truths::begins_more, nets::proofs::Truths::truth_kept, ctl_formula::proofs::Inside::inside_more, crate::proofs::Joined::ready_more), unfolding(pipe_fields::specs::Layout::fields_of))]
 pub fn obligation_22(b: &mut NetBuilder, ctl: &Controls, good: u64) -> Result<u64, Memory>
     requires inside { IsInside b.old ctl.now }
     requires ready { IsReady b.old.vars ctl.now }
     requires good { good < length b.old.gates }
     ensures begins { Begins b.old b.new }
-    ensures asked { IfOk result (λ g. IsAsked b.new ctl.now g (λ w α cv.
+    ensures made { IfOk result (λ g. IsAsked b.new ctl.now g (λ w α cv.
         words.is_number cv names.Stat (if truth b.old good w then (fields_of w).w.stat else 1))) }
 {
     let g = takes_if(

@@ -34,7 +34,7 @@ fn alu_function_is(b: &mut NetBuilder, ctl: &Controls, row: &Row) -> Result<u64,
     requires inside { IsInside b.old ctl.now }
     requires ready { IsReady b.old.vars ctl.now }
     ensures begins { Begins b.old b.new }
-    ensures asked { IfOk result (λ g. IsAsked b.new ctl.now g (λ w α cv.
+    ensures made { IfOk result (λ g. IsAsked b.new ctl.now g (λ w α cv.
         not (has_operand_a row.now.alu_a) || words.is_number cv names.alufun (alu_function row.now.selects (fields_of w).e.ifun))) }
 {
     if passes(row, RowTest::Computes) {
@@ -51,7 +51,7 @@ fn row_asks(b: &mut NetBuilder, ctl: &Controls, rule: RowRule, row: &Row) -> Res
     requires inside { IsInside b.old ctl.now }
     requires ready { IsReady b.old.vars ctl.now }
     ensures begins { Begins b.old b.new }
-    ensures asked { IfOk result (λ g. IsAsked b.new ctl.now g (λ w α cv. asked_by rule row.now (fields_of w) cv)) }
+    ensures made { IfOk result (λ g. IsAsked b.new ctl.now g (λ w α cv. asked_by rule row.now (fields_of w) cv)) }
 {
     match rule {
         RowRule::OperandA => takes_some(

@@ -1,6 +1,8 @@
 //! The right value of a source: that of the youngest older instruction that writes its register (CS:APP 3e, section 4.5.5,
 //! avoiding data hazards by forwarding). Obligations 10 and 11.
-ghost use Rattle.std.specs.Prelude.{◌≡◌, ◌<◌, ◌≤◌, ◌+◌, ◌&&◌, ◌||◌, Bool, if◌then◌else◌, IfOk, IsTrue, List, length, not};
+#![tactic(auto, using(nets::proofs::Truths::begins_more, ctl_formula::proofs::Inside::inside_more, pipe_motion::proofs::Kept::view_in, pipe_gates::proofs::Known::known_d_valA, pipe_gates::proofs::Known::known_d_srcA, pipe_gates::proofs::Known::known_d_valB, pipe_gates::proofs::Known::known_d_srcB), unfolding(pipe_fields::specs::Layout::fields_of))]
+
+ghost use Rattle.std.specs.Prelude.{◌<◌, ◌≤◌, ◌+◌, ◌&&◌, ◌||◌, if◌then◌else◌, IfOk, IsTrue, length, not};
 ghost use Rattle.nets.specs.Nets.{Begins, IsGate, truth};
 ghost use Rattle.ctl_atoms.specs.declared.leaf.Leaf.TheVariants.{Name};
 ghost use Rattle.ctl_formula.specs.Picks.{Covers, IsInside, has_picks};
@@ -13,7 +15,6 @@ ghost use Rattle.rule_gates.specs.Asked.{IsAsked};
 ghost use Rattle.rule_gates.specs.Words as words;
 ghost use Rattle.pipe_fields.specs.Layout.{bit_count, fields_of};
 ghost use Rattle.pipe_motion.specs.Gates.{HasView, view_at};
-ghost use Rattle.pipe_motion.specs.Slots.{View};
 ghost use Rattle.pipe_obligations.specs.Obligations as spec;
 
 use crate::execute_12_to_17::late_destination_is;
@@ -45,7 +46,7 @@ fn from_stage(
     requires place { at.first + at.bits ≤ b.old.vars }
     requires older_in { older < length b.old.gates }
     ensures begins { Begins b.old b.new }
-    ensures asked { IfOk result (λ g. IsAsked b.new ctl.now g (λ w α cv.
+    ensures made { IfOk result (λ g. IsAsked b.new ctl.now g (λ w α cv.
         if words.is_number cv source (spelt w at.first at.bits) then words.takes cv word (Name leaf) else truth b.old older w)) }
 {
     let here = takes(b, ctl, source, Wanted::Field(at))?;
@@ -55,7 +56,6 @@ fn from_stage(
 }
 
 /// The word takes the value of a source that no instruction in E writes: from M, from W, or from the register file.
-#[tactic(auto, unfolding(pipe_fields::specs::Layout::fields_of))]
 fn from_m_on(
     b: &mut NetBuilder,
     ctl: &Controls,
@@ -68,7 +68,7 @@ fn from_m_on(
     requires source_known { IsTrue (has_picks ctl.now source) }
     requires vars { bit_count ≤ b.old.vars }
     ensures begins { Begins b.old b.new }
-    ensures asked { IfOk result (λ g. IsAsked b.new ctl.now g (λ w α cv.
+    ensures made { IfOk result (λ g. IsAsked b.new ctl.now g (λ w α cv.
         if words.is_number cv source (fields_of w).m.dst_m then words.takes cv word (Name names.m_valM)
         else (if words.is_number cv source (fields_of w).m.dst_e then words.takes cv word (Name names.M_valE)
         else (if words.is_number cv source (fields_of w).w.dst_m then words.takes cv word (Name names.W_valM)
@@ -83,13 +83,13 @@ fn from_m_on(
     Ok(m_m)
 }
 
-/// The word takes the right value of a source. `good`: the instruction in E is good.
+/// The word takes the right value of a source.
 fn takes_value(
     b: &mut NetBuilder,
     ctl: &Controls,
     v: Variant,
     s: &Settings,
-    good: u64,
+    y: &ViewGates,
     word: NameId,
     source: NameId,
     rest: NameId,
@@ -98,15 +98,14 @@ fn takes_value(
     requires word_known { IsTrue (has_picks ctl.now word) }
     requires source_known { IsTrue (has_picks ctl.now source) }
     requires vars { bit_count ≤ b.old.vars }
-    requires good_in { good < length b.old.gates }
+    requires view { HasView (length b.old.gates) y.now }
     ensures begins { Begins b.old b.new }
-    ensures within { IfOk result (λ g. g < length b.new.gates) }
-    ensures asked { (view : List Bool → View) → ((w : List Bool) → truth b.old good w ≡ (view w).e.good) → IfOk result (λ g. IsAsked b.new ctl.now g (λ w α cv.
-        words.takes cv word (spec.right_value v s.now (fields_of w) (view w) (spec.movers_of α cv) α cv source rest))) }
+    ensures made { IfOk result (λ g. IsAsked b.new ctl.now g (λ w α cv.
+        words.takes cv word (spec.right_value v s.now (fields_of w) (view_at b.old w y.now) (spec.movers_of α cv) α cv source rest))) }
 {
     let older = from_m_on(b, ctl, word, source, rest)?;
     let writes = late_destination_is(b, ctl, v, source)?;
-    let in_e = b.and(good, writes)?;
+    let in_e = b.and(y.e.good, writes)?;
     let taken = takes(b, ctl, word, Wanted::This(Leaf::Name(signal::E_VAL_E)))?;
     let g = choose(b, in_e, taken, older)?;
     Ok(g)
@@ -118,7 +117,7 @@ fn takes_ready(
     ctl: &Controls,
     v: Variant,
     s: &Settings,
-    good: u64,
+    y: &ViewGates,
     free: u64,
     word: NameId,
     source: NameId,
@@ -128,17 +127,16 @@ fn takes_ready(
     requires word_known { IsTrue (has_picks ctl.now word) }
     requires source_known { IsTrue (has_picks ctl.now source) }
     requires vars { bit_count ≤ b.old.vars }
-    requires good_in { good < length b.old.gates }
+    requires view { HasView (length b.old.gates) y.now }
     requires free_in { free < length b.old.gates }
     ensures begins { Begins b.old b.new }
-    ensures within { IfOk result (λ g. g < length b.new.gates) }
-    ensures asked { (view : List Bool → View) → ((w : List Bool) → truth b.old good w ≡ (view w).e.good) → IfOk result (λ g. IsAsked b.new ctl.now g (λ w α cv.
-        if spec.loaded_in_e v s.now (fields_of w) (view w) (spec.movers_of α cv) α cv source then truth b.old free w
-        else words.takes cv word (spec.right_value v s.now (fields_of w) (view w) (spec.movers_of α cv) α cv source rest))) }
+    ensures made { IfOk result (λ g. IsAsked b.new ctl.now g (λ w α cv.
+        if spec.loaded_in_e v s.now (fields_of w) (view_at b.old w y.now) (spec.movers_of α cv) α cv source then truth b.old free w
+        else words.takes cv word (spec.right_value v s.now (fields_of w) (view_at b.old w y.now) (spec.movers_of α cv) α cv source rest))) }
 {
-    let right = takes_value(b, ctl, v, s, good, word, source, rest)?;
+    let right = takes_value(b, ctl, v, s, y, word, source, rest)?;
     let loads = takes(b, ctl, source, Wanted::Field(E_DST_M))?;
-    let loaded = b.and(good, loads)?;
+    let loaded = b.and(y.e.good, loads)?;
     let g = choose(b, loaded, free, right)?;
     Ok(g)
 }
@@ -149,7 +147,7 @@ fn takes_right(
     ctl: &Controls,
     v: Variant,
     s: &Settings,
-    good: u64,
+    y: &ViewGates,
     free: u64,
     word: NameId,
     source: NameId,
@@ -159,27 +157,25 @@ fn takes_right(
     requires word_known { IsTrue (has_picks ctl.now word) }
     requires source_known { IsTrue (has_picks ctl.now source) }
     requires vars { bit_count ≤ b.old.vars }
-    requires good_in { good < length b.old.gates }
+    requires view { HasView (length b.old.gates) y.now }
     requires free_in { free < length b.old.gates }
     ensures begins { Begins b.old b.new }
-    ensures within { IfOk result (λ g. g < length b.new.gates) }
-    ensures asked { (view : List Bool → View) → ((w : List Bool) → truth b.old good w ≡ (view w).e.good) → IfOk result (λ g. IsAsked b.new ctl.now g (λ w α cv.
-        spec.takes_right v s.now (fields_of w) (view w) (spec.movers_of α cv) α cv (truth b.old free w) word source rest)) }
+    ensures made { IfOk result (λ g. IsAsked b.new ctl.now g (λ w α cv.
+        spec.takes_right v s.now (fields_of w) (view_at b.old w y.now) (spec.movers_of α cv) α cv (truth b.old free w) word source rest)) }
 {
-    let ready = takes_ready(b, ctl, v, s, good, free, word, source, rest)?;
+    let ready = takes_ready(b, ctl, v, s, y, free, word, source, rest)?;
     let none = takes(b, ctl, source, Wanted::This(Leaf::Number(15)))?;
     let g = b.or(none, ready)?;
     Ok(g)
 }
 
 /// Where the instruction in D carries valP in the place of valA, d_valA is D_valP.
-#[tactic(auto, unfolding(pipe_fields::specs::Layout::fields_of))]
 fn takes_next_pc(b: &mut NetBuilder, ctl: &Controls, v: Variant) -> Result<u64, Memory>
     requires inside { IsInside b.old ctl.now }
     requires known { IsTrue (has_picks ctl.now names.d_valA) }
     requires vars { bit_count ≤ b.old.vars }
     ensures begins { Begins b.old b.new }
-    ensures asked { IfOk result (λ g. IsAsked b.new ctl.now g (λ w α cv.
+    ensures made { IfOk result (λ g. IsAsked b.new ctl.now g (λ w α cv.
         not (carries_p (row v (fields_of w).d.icode)) || words.takes cv names.d_valA (Name names.D_valP))) }
 {
     let carries = row_has(b, v, D_ICODE, RowTest::CarriesP)?;
@@ -194,7 +190,6 @@ fn takes_next_pc(b: &mut NetBuilder, ctl: &Controls, v: Variant) -> Result<u64, 
 }
 
 /// The instruction in D needn't wait for the word that it stores.
-#[tactic(auto, unfolding(pipe_fields::specs::Layout::fields_of))]
 fn stores_late(b: &mut NetBuilder, v: Variant, late: bool) -> Result<u64, Memory>
     requires vars { bit_count ≤ b.old.vars }
     ensures begins { Begins b.old b.new }
@@ -211,7 +206,6 @@ fn stores_late(b: &mut NetBuilder, v: Variant, late: bool) -> Result<u64, Memory
 
 /// Obligation 10: where a good instruction leaves D, d_valA is valP of a call and a jump, and else the right value of its
 /// source.
-#[tactic(auto, using(pipe_gates::proofs::Known::known_d_valA, pipe_gates::proofs::Known::known_d_srcA, pipe_gates::proofs::Known::known_d_valB, pipe_gates::proofs::Known::known_d_srcB, pipe_motion::proofs::Kept::view_in, ctl_formula::proofs::Inside::inside_more, nets::proofs::Truths::begins_more))]
 pub fn obligation_10(
     b: &mut NetBuilder,
     ctl: &Controls,
@@ -224,7 +218,7 @@ pub fn obligation_10(
     requires view { HasView (length b.old.gates) y.now }
     requires known { Covers pipe_rows ctl.now }
     ensures begins { Begins b.old b.new }
-    ensures asked { IfOk result (λ g. IsAsked b.new ctl.now g (λ w α cv. spec.o10 v s.now (fields_of w) (view_at b.old w y.now) (spec.movers_of α cv) α cv)) }
+    ensures made { IfOk result (λ g. IsAsked b.new ctl.now g (λ w α cv. spec.o10 v s.now (fields_of w) (view_at b.old w y.now) (spec.movers_of α cv) α cv)) }
 {
     let stays = none_leaves(b, ctl, y)?;
     let next_pc = takes_next_pc(b, ctl, v)?;
@@ -234,7 +228,7 @@ pub fn obligation_10(
         ctl,
         v,
         s,
-        y.e.good,
+        y,
         late,
         signal::D_VAL_A,
         signal::D_SRC_A,
@@ -246,7 +240,6 @@ pub fn obligation_10(
 }
 
 /// Obligation 11: where a good instruction leaves D, d_valB is the right value of its source.
-#[tactic(auto, using(pipe_gates::proofs::Known::known_d_valA, pipe_gates::proofs::Known::known_d_srcA, pipe_gates::proofs::Known::known_d_valB, pipe_gates::proofs::Known::known_d_srcB, pipe_motion::proofs::Kept::view_in, ctl_formula::proofs::Inside::inside_more, nets::proofs::Truths::begins_more))]
 pub fn obligation_11(
     b: &mut NetBuilder,
     ctl: &Controls,
@@ -259,7 +252,7 @@ pub fn obligation_11(
     requires view { HasView (length b.old.gates) y.now }
     requires known { Covers pipe_rows ctl.now }
     ensures begins { Begins b.old b.new }
-    ensures asked { IfOk result (λ g. IsAsked b.new ctl.now g (λ w α cv. spec.o11 v s.now (fields_of w) (view_at b.old w y.now) (spec.movers_of α cv) α cv)) }
+    ensures made { IfOk result (λ g. IsAsked b.new ctl.now g (λ w α cv. spec.o11 v s.now (fields_of w) (view_at b.old w y.now) (spec.movers_of α cv) α cv)) }
 {
     let stays = none_leaves(b, ctl, y)?;
     let never = b.constant(false)?;
@@ -268,7 +261,7 @@ pub fn obligation_11(
         ctl,
         v,
         s,
-        y.e.good,
+        y,
         never,
         signal::D_VAL_B,
         signal::D_SRC_B,

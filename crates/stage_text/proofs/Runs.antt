@@ -1,5 +1,5 @@
 -- The machine that is watched is the machine of the run, by induction on the number of cycles.
-use Rattle.std.proofs.Common.{◌≡◌, ℕ, zero, suc, ◌+◌, Bool, true, List, ◌++◌, length, Option, Some, None, refl, sym, ◌∙◌, ap, subst, length-append, arith, add-one}
+use Rattle.std.proofs.Common.{◌≡◌, ℕ, zero, suc, ◌+◌, Bool, true, false, List, ◌++◌, length, Option, Some, None, refl, sym, ◌∙◌, ap, subst, length-append, arith, add-one}
 use Rattle.std.specs.Option.{option_to_list}
 use Rattle.std.proofs.Math.Path.{fun_ext}
 use Rattle.y86_base.specs.Stat.{stat_of}
@@ -78,7 +78,9 @@ watches_the_run v terms window image (suc k) s h =
     let before = watches_the_run v terms window image k h.0 h.2 in
     one_more v terms window image k h.0 s h.1 before.0 before.1 before.2 h.3 h.4 h.5
 
--- what is shown depends on the texts at the addresses alone
-pub same_whole : (listing other : ℕ → Option (List ℕ)) → ((address : ℕ) → listing address ≡ other address) → (asked : Bool) (k : ℕ) (s : Watching) →
+-- what is shown depends on the texts at the addresses alone, and on none where no diagram is asked for
+pub same_whole : (listing other : ℕ → Option (List ℕ)) (asked : Bool) → (asked ≡ true → (address : ℕ) → listing address ≡ other address) → (k : ℕ) (s : Watching) →
     whole_text listing asked k s ≡ whole_text other asked k s
-same_whole listing other same asked k s = ap (λ texts. whole_text texts asked k s) (fun_ext same)
+unfolding whole_text
+same_whole listing other true same k s = ap (λ texts. whole_text texts true k s) (fun_ext (same refl))
+same_whole listing other false same k s = refl

@@ -4,7 +4,7 @@ use Rattle.y86_base.specs.declared.parts.Flags.{Flags}
 use Rattle.y86_isa.specs.declared.machine.Store.{Store}
 use Rattle.dp_signals.specs.PipeCycle.{store_of}
 use Rattle.dp_signals.specs.PipeNames as row
-use Rattle.dp_signals.specs.Values.{set}
+use Rattle.y86_base.specs.Words.{set}
 use Rattle.dp_signals.specs.declared.pipe_state.PipeState.{PipeState}
 use Rattle.stage_text.specs.Instruction.{instruction}
 use Rattle.stage_text.specs.Numbers.{address, number_pair, register_pair, status_pair, text_pair, word_pair}

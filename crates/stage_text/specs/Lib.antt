@@ -2,7 +2,6 @@ pub mod Numbers
 pub mod Instruction
 pub mod Watch
 pub mod Listed
-pub mod Lines
 pub mod Picked
 pub mod Cycle
 pub mod Diagram

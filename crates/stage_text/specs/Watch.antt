@@ -3,7 +3,7 @@ use Rattle.std.specs.Prelude.{ℕ, ◌+◌, Bool, true, false, ◌&&◌, ◌==�
 use Rattle.y86_isa.specs.Blocks.{field_a, field_b}
 use Rattle.dp_signals.specs.PipeCycle.{moved}
 use Rattle.dp_signals.specs.PipeNames as row
-use Rattle.dp_signals.specs.Values.{set}
+use Rattle.y86_base.specs.Words.{set}
 use Rattle.dp_signals.specs.declared.movers.Mover.{Mover}
 use Rattle.dp_signals.specs.declared.movers.Mover.TheVariants.{Stay, Bubble, Load}
 use Rattle.dp_signals.specs.declared.movers.Movers.{Movers}

@@ -1,7 +1,7 @@
 //! The lines of one cycle.
 ghost use Rattle.std.specs.Prelude.{◌≡◌, ◌++◌, OnOk};
 ghost use Rattle.dp_signals.specs.PipeCycle as pipe;
-ghost use Rattle.dp_signals.specs.Values.{set};
+ghost use Rattle.y86_base.specs.Words.{set};
 ghost use Rattle.hcl_types.specs.Terms.{at};
 ghost use Rattle.stage_text.specs.Cycle as text;
 ghost use Rattle.stage_text.specs.Picked.{sources_in};

@@ -1,60 +1,18 @@
 //! What an object text lists at addresses.
-ghost use Rattle.std.specs.Prelude.{◌≡◌, ◌≤◌, ℕ, IfOk, OnOk, Some, if◌then◌else◌, length, nat_eq, option_and_then, reverse};
+ghost use Rattle.std.specs.Prelude.{◌≡◌, ◌≤◌, ℕ, true, IfOk, OnOk, Some, if◌then◌else◌, length, nat_eq, reverse};
 ghost use Rattle.std.specs.List.{prefix_len};
-ghost use Rattle.std.specs.Option.{option_copied, option_map, option_or};
+ghost use Rattle.std.specs.Option.{option_copied, option_or};
 ghost use Rattle.y86_base.specs.Text.{is_blank};
-ghost use Rattle.yo_object.specs.ObjectText as object_text;
-ghost use Rattle.stage_text.specs.Lines.{digits_in};
+ghost use Rattle.yo_object.specs.Lines.{digits_in};
 ghost use Rattle.stage_text.specs.Listed as spec;
 
 use indexmap::IndexMap;
 use std::alloc::Global;
-use y86_base::{Memory, after_blanks, after_byte, first_line, is_blank, number_in_base, split_hex};
+use y86_base::{Memory, after_blanks, after_byte, first_line, is_blank, number_in_base};
+use yo_object::{LineDigits, line_digits};
 
 /// The texts by their addresses.
 pub(crate) type Listing = IndexMap<u64, Vec<u8>>;
-
-/// The digits of a line: those of its address, and those of its bytes.
-#[derive(Clone, Copy)]
-struct LineDigits<'a> {
-    address: &'a [u8],
-    bytes: &'a [u8],
-}
-
-/// What stands behind `0x`, where the text begins with it.
-fn after_prefix(text: &[u8]) -> Option<&[u8]>
-    ensures { option_copied result ≡ object_text.after_prefix text.now }
-{
-    let rest = after_byte(text, b'0')?;
-    after_byte(rest, b'x')
-}
-
-/// The end of the line, or `|` with anything after it.
-fn is_line_end(text: &[u8]) -> bool
-    ensures { result ≡ object_text.is_line_end text.now }
-{
-    match text.split_first() {
-        None => true,
-        Some((first, _)) => *first == b'|',
-    }
-}
-
-/// The digits of a line that is of the form, behind its `0x`.
-#[tactic(auto, unfolding(yo_object::specs::ObjectText::digits_of))]
-fn digits_behind(text: &[u8]) -> Option<LineDigits<'_>>
-    ensures { option_map digits_in result ≡ object_text.digits_of text.now }
-{
-    let (address, rest) = split_hex(text);
-    let Some(data) = after_byte(rest, b':') else {
-        return None;
-    };
-    let (bytes, rest) = split_hex(after_blanks(data));
-    if !address.is_empty() && is_line_end(after_blanks(rest)) {
-        Some(LineDigits { address, bytes })
-    } else {
-        None
-    }
-}
 
 /// The address that digits write, where they write bytes there.
 fn address_behind(digits: &LineDigits<'_>) -> Option<u64>
@@ -71,10 +29,7 @@ fn address_behind(digits: &LineDigits<'_>) -> Option<u64>
 fn address_of(line: &[u8]) -> Option<u64>
     ensures { result ≡ spec.address_of line.now }
 {
-    let Some(text) = after_prefix(after_blanks(line)) else {
-        return None;
-    };
-    match digits_behind(text) {
+    match line_digits(line) {
         None => None,
         Some(digits) => address_behind(&digits),
     }
@@ -167,7 +122,7 @@ fn put_line(alloc: Global, listing: &mut Listing, line: &[u8]) -> Result<(), Mem
 }
 
 /// The texts that an object text lists.
-pub(crate) fn listing_of(alloc: Global, object: &[u8]) -> Result<Listing, Memory>
+fn listing_of(alloc: Global, object: &[u8]) -> Result<Listing, Memory>
     ensures { IfOk result (λ listing. (place : ℕ) → spec.text_in listing.entries place ≡ spec.listed object.now place) }
 {
     let mut listing = IndexMap::new(alloc);
@@ -180,6 +135,16 @@ pub(crate) fn listing_of(alloc: Global, object: &[u8]) -> Result<Listing, Memory
         rest = behind;
     }
     Ok(listing)
+}
+
+/// What an object text lists at addresses, where the diagram is asked for, which alone tells it; else nothing is listed.
+pub(crate) fn listing_for(alloc: Global, object: &[u8], diagram: bool) -> Result<Listing, Memory>
+    ensures { IfOk result (λ listing. diagram ≡ true → (place : ℕ) → spec.text_in listing.entries place ≡ spec.listed object.now place) }
+{
+    if diagram {
+        return listing_of(alloc, object);
+    }
+    Ok(IndexMap::new(alloc))
 }
 
 /// The text at an address.

@@ -1,7 +1,7 @@
 //! What stands in the stages, by its row in the diagram: each move of a pipeline register moves what stands there.
 ghost use Rattle.std.specs.Prelude.{◌≡◌, ◌≤◌, ◌<◌, ◌+◌, ◌^◌};
 ghost use Rattle.dp_signals.specs.PipeCycle as pipe;
-ghost use Rattle.dp_signals.specs.Values.{set};
+ghost use Rattle.y86_base.specs.Words.{set};
 ghost use Rattle.hcl_types.specs.Terms.{at};
 ghost use Rattle.stage_text.specs.Watch as spec;
 

@@ -13,12 +13,12 @@ ghost use Rattle.stage_text.specs.Watching as spec;
 use crate::cycle::put_cycle;
 use crate::diagram::{Shown, put_diagram, shown_cycle};
 use crate::held::Held;
-use crate::listed::{Listing, listing_of};
+use crate::listed::{Listing, listing_for};
 use crate::numbers::{put, put_number_pair};
 use crate::picked::sources_of;
 use crate::watch::{Watch, asked_movers, fetched, first_watch, moved_watch};
 use dp_signals::{
-    Ending, PipeState, PipeValues, advance, end_of_cycle, ending, pipe_table, retires, solve_pipe,
+    Ending, PipeState, PipeValues, advance, end_of_cycle, ending, retires, solve_pipe,
 };
 use hcl_types::{Design, Order, Row, SignalEval};
 use std::alloc::Global;
@@ -290,6 +290,7 @@ fn watch_listed<C: SignalEval>(
 pub fn watch_run<C: SignalEval>(
     alloc: Global,
     variant: Variant,
+    rows: &[Row],
     design: &Design,
     order: &Order,
     evaluator: &mut C,
@@ -298,28 +299,17 @@ pub fn watch_run<C: SignalEval>(
     limit: u64,
     window: &Window,
 ) -> Result<Watched, Memory>
+    requires table { rows.now ≡ pipe_rows }
     requires evaluates { C.evaluates evaluator.old design.now.terms }
     requires bound { IsBound pipe_rows design.now.terms }
     requires ordered { IsOrderOf pipe_rows design.now.terms order.now.ids }
     requires limit { limit ≤ 100000000 }
     ensures { IfOk result (λ w. ShowsRun variant design.now.terms (listed object.now) window.now image limit w.text.items w.end) }
 {
-    let Ok(table) = pipe_table(alloc) else {
-        return Err(Memory);
-    };
-    let Ok(listing) = listing_of(alloc, object) else {
+    let Ok(listing) = listing_for(alloc, object, window.diagram) else {
         return Err(Memory);
     };
     watch_listed(
-        alloc,
-        variant,
-        table.rows.items(),
-        design,
-        order,
-        evaluator,
-        &listing,
-        image,
-        limit,
-        window,
+        alloc, variant, rows, design, order, evaluator, &listing, image, limit, window,
     )
 }

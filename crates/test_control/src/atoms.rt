@@ -1,6 +1,6 @@
 //! The atoms of designs, and designs that have none.
 use ctl_atoms::{Atom, AtomKind, CtlFault, Leaf, atoms};
-use dp_signals::{law_of_tables, pipe_table};
+use dp_signals::{law_of_tables, pipe_row as row, pipe_table};
 use example_designs::Example;
 use hcl_order::order;
 use hcl_read::read;
@@ -13,21 +13,21 @@ const LESS: AtomKind = AtomKind::Lt;
 
 const SAME: AtomKind = AtomKind::Eq;
 
-const F_PRED_PC: Leaf = Leaf::Name(54);
+const F_PRED_PC: Leaf = Leaf::Name(row::HELD_F_PRED_PC);
 
-const E_VAL_C: Leaf = Leaf::Name(57);
+const E_VAL_C: Leaf = Leaf::Name(row::HELD_E_VAL_C);
 
-const E_VAL_A: Leaf = Leaf::Name(58);
+const E_VAL_A: Leaf = Leaf::Name(row::HELD_E_VAL_A);
 
-const M_VAL_E: Leaf = Leaf::Name(60);
+const M_VAL_E: Leaf = Leaf::Name(row::HELD_M_VAL_E);
 
-const M_VAL_A: Leaf = Leaf::Name(61);
+const M_VAL_A: Leaf = Leaf::Name(row::HELD_M_VAL_A);
 
-const W_VAL_M: Leaf = Leaf::Name(63);
+const W_VAL_M: Leaf = Leaf::Name(row::HELD_W_VAL_M);
 
-const F_VAL_C: Leaf = Leaf::Name(68);
+const F_VAL_C: Leaf = Leaf::Name(row::F_VAL_C);
 
-const F_VAL_P: Leaf = Leaf::Name(69);
+const F_VAL_P: Leaf = Leaf::Name(row::F_VAL_P);
 
 /// Definitions where all others are 0, and their atoms.
 static ATOMS: [(&[u8], &[(AtomKind, Leaf, Leaf)]); 8] = [
@@ -118,24 +118,27 @@ static FAULTS: [(&[u8], Result<usize, CtlFault>); 9] = [
     (
         b"bool F_bubble = F_predPC in { 2, 3, 4, 5, 6, 7, 8, 9, 10, 11, 12, 13, 14, 15, 16, 17, 18, 19, 20, 21, 22, 23, 24, 25, 26, 27, 28, 29, 30, 31, 32, 33,
             34, 35, 36, 37, 38, 39, 40, 41, 42, 43, 44, 45, 46, 47, 48, 49, 50, 51, 52, 53, 54, 55, 56, 57, 58, 59, 60, 61, 62, 63, 64, 65, 66 };\nbool W_bubble = D_icode == D_valC;",
-        Err(CtlFault::Mixed(114)),
+        Err(CtlFault::Mixed(row::W_BUBBLE)),
     ),
     (
         b"bool F_bubble = E_icode == E_valC;",
-        Err(CtlFault::Mixed(106)),
+        Err(CtlFault::Mixed(row::F_BUBBLE)),
     ),
     (
         b"bool F_bubble = 1 in { E_icode, E_valC };",
-        Err(CtlFault::Mixed(106)),
+        Err(CtlFault::Mixed(row::F_BUBBLE)),
     ),
     (
         b"bool W_bubble = E_icode == E_valC;\nbool F_bubble = M_Cnd && [ 1 : 0; M_Cnd : E_icode; 1 : E_valC; ] == 0;",
-        Err(CtlFault::Mixed(106)),
+        Err(CtlFault::Mixed(row::F_BUBBLE)),
     ),
-    (b"word f_icode = f_valC;", Err(CtlFault::Mixed(77))),
+    (
+        b"word f_icode = f_valC;",
+        Err(CtlFault::Mixed(row::F_ICODE)),
+    ),
     (
         b"word f_pc = [ 1 : F_predPC; 1 : D_icode; ];\nword f_predPC = M_icode;",
-        Err(CtlFault::Mixed(76)),
+        Err(CtlFault::Mixed(row::F_PC)),
     ),
     (
         b"bool F_bubble = E_icode == 3 && 3 == E_valC && E_valC in { 3, IHALT };",

@@ -3,15 +3,16 @@
 ghost use Rattle.std.specs.Prelude.{◌≡◌, ◌<◌, ◌≤◌, IfOk, length};
 ghost use Rattle.hcl_types.specs.Tables.{IsBound, IsOrderOf};
 ghost use Rattle.dp_signals.specs.SeqTable.{seq_rows};
-ghost use Rattle.seq_obligations.specs.Signals.{places as spec_places};
 
 use ctl_atoms::atoms;
-use ctl_formula::{Place, translate};
-use dp_signals::{law_of_tables, seq_table};
+use ctl_formula::translate;
+use dp_signals::{law_of_tables, seq_row as row, seq_table};
+use field_bits::Place;
 use hcl_order::order;
 use hcl_read::read;
 use hcl_types::{Design, Order, bind};
 use nets::{Net, NetBuilder, Valuation, eval};
+use seq_obligations::{BIT_COUNT, LINE, places};
 use std::alloc::Global;
 use std::test::Fail;
 use y86_base::{Items, Memory};
@@ -84,42 +85,12 @@ fn means(number: usize, icode: u32, ifun: u32, atom: bool) -> bool {
     }
 }
 
-macro_rules! place {
-    ($name:expr, $first:expr, $bits:expr) => {
-        Place {
-            name: $name,
-            first: $first,
-            bits: $bits,
-        }
-    };
-}
-
-/// The places of SEQ's fields, by the rows of their signals: error, icode, ifun, rA, rB, cnd and derror.
-static PLACES: [Place; 7] = [
-    place!(36, 0, 1),
-    place!(34, 1, 4),
-    place!(35, 5, 4),
-    place!(37, 9, 4),
-    place!(38, 13, 4),
-    place!(44, 17, 1),
-    place!(46, 18, 1),
-];
-
-fn places() -> &'static [Place]
-    ensures { result.now ≡ spec_places }
-{
-    &PLACES
-}
-
 /// The gate of `set_cc` in the net of a design.
 #[derive(Drop)]
 struct Told {
     net: Net,
     gate: u64,
 }
-
-/// The row of `set_cc` in SEQ's table.
-const SET_CC: u32 = 59;
 
 /// The net of a design: the fields first, then the atoms.
 fn translated(alloc: Global, d: &Design, o: &Order) -> Result<Told, Memory>
@@ -135,14 +106,28 @@ fn translated(alloc: Global, d: &Design, o: &Order) -> Result<Told, Memory>
         Ok(listed) => listed,
         Err(_) => return Err(Memory),
     };
-    let mut b = NetBuilder::new(alloc, 19 + listed.len() as u32);
+    let mut b = NetBuilder::new(alloc, BIT_COUNT + listed.len() as u32);
     match translate(alloc, d, &t, o, places(), &mut b) {
         Ok(ctl) => {
-            let gate = ctl.truth(SET_CC);
+            let gate = ctl.truth(row::SET_CC);
             let net = b.finish();
             Ok(Told { net, gate })
         }
         Err(_) => Err(Memory),
+    }
+}
+
+/// The bit of a number of four bits at a variable, where it stands at a place; false beside it.
+fn bit_of(number: u32, place: Place, at: u32) -> bool {
+    if at < place.first {
+        return false;
+    }
+    match at - place.first {
+        0 => number / 8 % 2 == 1,
+        1 => number / 4 % 2 == 1,
+        2 => number / 2 % 2 == 1,
+        3 => number % 2 == 1,
+        _ => false,
     }
 }
 
@@ -156,18 +141,8 @@ fn pattern(alloc: Global, vars: u32, icode: u32, ifun: u32, atom: bool) -> Resul
     };
     let mut at = 0u32;
     for bit in bits.as_mut_slice() {
-        *bit = match at {
-            0 => atom,
-            1 => icode / 8 % 2 == 1,
-            2 => icode / 4 % 2 == 1,
-            3 => icode / 2 % 2 == 1,
-            4 => icode % 2 == 1,
-            5 => ifun / 8 % 2 == 1,
-            6 => ifun / 4 % 2 == 1,
-            7 => ifun / 2 % 2 == 1,
-            8 => ifun % 2 == 1,
-            _ => at >= 19 && atom,
-        };
+        let is_truth = at == LINE.error.first || at >= BIT_COUNT;
+        *bit = bit_of(icode, LINE.icode, at) || bit_of(ifun, LINE.ifun, at) || (is_truth && atom);
         at = at.saturating_add(1);
     }
     Ok(bits)

@@ -1,8 +1,9 @@
 //! The lines that control valuations can have, counted by hand.
 ghost use Rattle.std.specs.Prelude.{◌≡◌, IfOk, length};
+ghost use Rattle.pipe_fields.specs.Layout.{bit_count};
 
 use nets::{NetBuilder, Valuation, eval};
-use pipe_fields::{BIT_COUNT, Line, line_fits};
+use pipe_fields::{BIT_COUNT, Line, line_fits, places};
 use std::alloc::Global;
 use std::test::Fail;
 use y86_base::{Items, Memory, Variant};
@@ -16,9 +17,9 @@ fn pattern(
     number: u32,
     rest: bool,
 ) -> Result<Vec<bool>, Memory>
-    ensures { IfOk result (λ bits. length bits.items ≡ 107) }
+    ensures { IfOk result (λ bits. length bits.items ≡ bit_count) }
 {
-    let mut bits = match vec![in alloc; false; 107] {
+    let mut bits = match vec![in alloc; false; BIT_COUNT as usize] {
         Ok(bits) => bits,
         Err(_) => return Err(Memory),
     };
@@ -63,7 +64,7 @@ static COUNTED: [Counted; 3] = [
     Counted {
         variant: Variant::Base,
         line: Line::F,
-        first: 6,
+        first: places::F_ERROR.first,
         size: 12,
         patterns: 4096,
         rest: false,
@@ -72,7 +73,7 @@ static COUNTED: [Counted; 3] = [
     Counted {
         variant: Variant::Full,
         line: Line::F,
-        first: 6,
+        first: places::F_ERROR.first,
         size: 9,
         patterns: 512,
         rest: false,
@@ -81,7 +82,7 @@ static COUNTED: [Counted; 3] = [
     Counted {
         variant: Variant::Base,
         line: Line::W,
-        first: 92,
+        first: places::W_STAT.first,
         size: 11,
         patterns: 2048,
         rest: true,

@@ -3,7 +3,7 @@ ghost use Rattle.std.specs.Prelude.{◌<◌, ℕ};
 ghost use Rattle.pipe_motion.specs.Gates.{HasSlot};
 
 use nets::{NetBuilder, Valuation, eval};
-use pipe_motion::{SlotGates, ViewGates, constant, lawful_gate, path_gate};
+use pipe_motion::{SlotGates, ViewGates, lawful_gate, path_gate};
 use std::alloc::Global;
 use std::test::Fail;
 use y86_base::{Items, Memory};
@@ -116,8 +116,8 @@ fn slot(held: Held, yes: u64, no: u64) -> SlotGates
 /// Whether the view is lawful, and on the path.
 fn judged(alloc: Global, s: &Seen) -> Result<(bool, bool), Memory> {
     let mut b = NetBuilder::new(alloc, 1);
-    let yes = constant(&mut b, true)?;
-    let no = constant(&mut b, false)?;
+    let yes = b.constant(true)?;
+    let no = b.constant(false)?;
     let view = ViewGates {
         d: slot(s.d, yes, no),
         e: slot(s.e, yes, no),

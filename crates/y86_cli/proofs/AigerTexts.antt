@@ -1,5 +1,5 @@
 -- The obligations of a design as an AIGER text, and the counts of the outputs of one, as answers.
-use Rattle.std.proofs.Common.{◌≡◌, ◌⊎◌, inl, inr, ℕ, ◌+◌, ◌<◌, Bool, true, false, not, List, length, get_or, slice_get, Some, refl, sym, ap, ◌∙◌, Result, Err, arith}
+use Rattle.std.proofs.Common.{◌≡◌, inl, inr, ℕ, ◌+◌, ◌<◌, Bool, true, false, not, List, length, get_or, slice_get, Some, refl, sym, ap, ◌∙◌, Result, Err, arith}
 use Rattle.std.specs.Borrow.{Bor}
 use Rattle.std.proofs.lemmas.List.{length-map}
 use Rattle.std.proofs.lemmas.Option.{slice_get-get_or}

@@ -1,5 +1,5 @@
 -- Certificates of designs, as answers; and what an accepted certificate says of the run of instructions.
-use Rattle.std.proofs.Common.{◌≡◌, ◌⊎◌, ℕ, List, refl, sym, ap, subst, ◌∙◌, inl, inr, Option, Some, Result, Err, lit≤, arith}
+use Rattle.std.proofs.Common.{◌≡◌, ℕ, List, refl, sym, ap, subst, ◌∙◌, inl, inr, Option, Some, Result, Err, lit≤, arith}
 use Rattle.cert_log.specs.Files.{HasAtoms, IsCertificate, IsRefused, Meets, holds}
 use Rattle.certificates.specs.declared.fault.CertError.{CertError}
 use Rattle.certificates.specs.declared.fault.CertError.TheVariants as error

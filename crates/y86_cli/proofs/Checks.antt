@@ -1,5 +1,5 @@
 -- The verdict on a design, as an answer.
-use Rattle.std.proofs.Common.{◌≡◌, ◌⊎◌, ℕ, List, ◌∷◌, [], codes, refl, inl, inr, sym, ap, ◌∙◌, subst, None, Some, Result, Err, Vec}
+use Rattle.std.proofs.Common.{◌≡◌, ℕ, List, ◌∷◌, [], codes, refl, inl, inr, sym, ap, ◌∙◌, subst, None, Some, Result, Err, Vec}
 use Rattle.std.specs.Borrow.{Bor}
 use Rattle.std.specs.Global.{Global}
 use Rattle.ctl_atoms.specs.Atoms.{AreAtoms, IsCtlFault}
@@ -14,7 +14,6 @@ use Rattle.hcl_types.specs.declared.term.Term.{Term}
 use Rattle.nets.specs.declared.evaluation.Valuation.{Valuation}
 use Rattle.pipe_motion.specs.declared.settings.Settings.{Settings}
 use Rattle.verdict_text.specs.PipeLines.{pipe_no, pipe_yes}
-use Rattle.verdicts.specs.declared.decision.Failure.{Failure}
 use Rattle.y86_base.specs.declared.parts.Variant.{Variant}
 use Rattle.y86_cli.specs.Checks.{RefusesControl, AcceptsPipe, DeniesPipe, PipeChecks, RefusesPipe, SeqChecks}
 use Rattle.y86_cli.specs.Datapaths.{IsDecided, no_text, rows_of}
@@ -24,6 +23,7 @@ use Rattle.y86_cli.specs.Does.{Refuses, Says, SinkSeen}
 use Rattle.y86_cli.specs.Stops.{answer_at}
 use Rattle.y86_cli.proofs.Does.{refused_says, says_more}
 use Rattle.y86_cli.specs.declared.datapath.Datapath.{Datapath}
+use Rattle.y86_cli.specs.declared.sequential.Denial.{Denial}
 use Rattle.y86_cli.specs.declared.stop.Refusal.TheVariants.{OfNames}
 use Rattle.y86_cli.specs.declared.stop.Stop as code
 use Rattle.y86_cli.specs.declared.stop.Stop.TheVariants.{Refused}
@@ -45,16 +45,15 @@ over name why names rows terms many reason told = inr (record { over = many; tol
 accepted : (which : Datapath) (name : List ℕ) (v : Variant) (terms : List Term) (a : Answered) → IsDecided which v terms None → a ≡ done 0 (codes "yes\n") → SeqChecks which name v terms a
 accepted which name v terms a holds told = inl (record { accepted = holds.0; refines = holds.1; told = told })
 
-denied : (which : Datapath) (name : List ℕ) (v : Variant) (terms : List Term) (ids : List ℕ) (failure : Failure) (text : List ℕ) (a : Answered) → IsOrderOf (rows_of which) terms ids →
-    IsDecided which v terms (Some failure) →
-    (list : List Atom) × AreAtoms (rows_of which) terms list × (text ≡ no_text which failure.rule failure.valuation.bits list) → a ≡ done 1 text → SeqChecks which name v terms a
-denied which name v terms ids failure text a order rejects said told =
-    let same : said.0 ≡ rejects.atoms = atoms_one (rows_of which) terms ids said.0 rejects.atoms order said.1 rejects.are in
+denied : (which : Datapath) (name : List ℕ) (v : Variant) (terms : List Term) (ids : List ℕ) (denial : Denial) (text : List ℕ) (a : Answered) → IsOrderOf (rows_of which) terms ids →
+    IsDecided which v terms (Some denial) → text ≡ no_text which denial.rule denial.valuation.bits denial.atoms → a ≡ done 1 text → SeqChecks which name v terms a
+denied which name v terms ids denial text a order no said told =
+    let same : denial.atoms ≡ no.0.atoms = atoms_one (rows_of which) terms ids denial.atoms no.0.atoms order no.1 no.0.are in
     inr (inl (record {
-      rule = failure.rule;
-      valuation = failure.valuation.bits;
-      rejected = rejects;
-      told = told ∙ ap (done 1) (said.2 ∙ ap (λ (list : List Atom). no_text which failure.rule failure.valuation.bits list) same);
+      rule = denial.rule;
+      valuation = denial.valuation.bits;
+      rejected = no.0;
+      told = told ∙ ap (done 1) (said ∙ ap (λ (list : List Atom). no_text which denial.rule denial.valuation.bits list) same);
     }))
 
 -- and as what was said
@@ -64,12 +63,11 @@ pub said_yes : (which : Datapath) (name : List ℕ) (v : Variant) (terms : List 
 said_yes which name v terms text old new result holds same s =
     says_more (λ a. a ≡ done 0 text) (SeqChecks which name v terms) old new result (λ a told. accepted which name v terms a holds (told ∙ ap (done 0) same)) s
 
-pub said_no : (which : Datapath) (name : List ℕ) (v : Variant) (terms : List Term) (ids : List ℕ) (failure : Failure) (text : List ℕ) (old new : SinkSeen) (result : Result ℕ code.Stop) →
-    IsOrderOf (rows_of which) terms ids → IsDecided which v terms (Some failure) →
-    (list : List Atom) × AreAtoms (rows_of which) terms list × (text ≡ no_text which failure.rule failure.valuation.bits list) →
+pub said_no : (which : Datapath) (name : List ℕ) (v : Variant) (terms : List Term) (ids : List ℕ) (denial : Denial) (text : List ℕ) (old new : SinkSeen) (result : Result ℕ code.Stop) →
+    IsOrderOf (rows_of which) terms ids → IsDecided which v terms (Some denial) → text ≡ no_text which denial.rule denial.valuation.bits denial.atoms →
     Says (λ a. a ≡ done 1 text) old new result → Says (SeqChecks which name v terms) old new result
-said_no which name v terms ids failure text old new result order rejects told s =
-    says_more (λ a. a ≡ done 1 text) (SeqChecks which name v terms) old new result (λ a is. denied which name v terms ids failure text a order rejects told is) s
+said_no which name v terms ids denial text old new result order no told s =
+    says_more (λ a. a ≡ done 1 text) (SeqChecks which name v terms) old new result (λ a is. denied which name v terms ids denial text a order no told is) s
 
 pub said_refusal : (which : Datapath) (name : List ℕ) (v : Variant) (terms : List Term) (seen : SinkSeen) (stop : code.Stop) →
     Refuses (RefusesControl name (rows_of which) terms) stop → Says (SeqChecks which name v terms) seen seen (Err stop)
@@ -82,18 +80,17 @@ pub tells_yes : (v : Variant) (terms : List Term) (settings : Settings) (text : 
     text ≡ pipe_yes settings → AcceptsPipe v terms (done 0 text)
 tells_yes v terms settings text accepted refines is = record { settings = settings; accepted = accepted; refines = refines; told = ap (done 0) is }
 
-pub tells_no : (v : Variant) (terms : List Term) (ids : List ℕ) (rule : ℕ) (valuation : Valuation) (text : List ℕ) → IsOrderOf pipe_rows terms ids →
-    pipe.RejectsPipe v terms rule valuation.bits →
-    (list : List Atom) × AreAtoms pipe_rows terms list × (text ≡ pipe_no (row_names pipe_rows) rule valuation.bits list) → DeniesPipe v terms (done 1 text)
-tells_no v terms ids rule valuation text order rejected said = record {
+pub tells_no : (v : Variant) (terms : List Term) (ids : List ℕ) (rule : ℕ) (valuation : Valuation) (list : List Atom) (text : List ℕ) → IsOrderOf pipe_rows terms ids →
+    pipe.RejectsPipe v terms rule valuation.bits × AreAtoms pipe_rows terms list → text ≡ pipe_no (row_names pipe_rows) rule valuation.bits list → DeniesPipe v terms (done 1 text)
+tells_no v terms ids rule valuation list text order no said = record {
   rule = rule;
   valuation = valuation.bits;
-  rejected = rejected;
+  rejected = no.0;
   told =
       ap (done 1)
-      (said.2
-      ∙ ap (λ (list : List Atom). pipe_no (row_names pipe_rows) rule valuation.bits list)
-      (atoms_one pipe_rows terms ids said.0 rejected.settings.atoms order said.1 rejected.settings.are));
+      (said
+      ∙ ap (λ (them : List Atom). pipe_no (row_names pipe_rows) rule valuation.bits them)
+      (atoms_one pipe_rows terms ids list no.0.settings.atoms order no.1 no.0.settings.are));
 }
 
 pub said_pipe_yes : (name : List ℕ) (v : Variant) (terms : List Term) (text : List ℕ) (old new : SinkSeen) (result : Result ℕ code.Stop) → AcceptsPipe v terms (done 0 text) →

@@ -1,5 +1,5 @@
 -- The design of an HCL file, from what reading, binding and ordering answer.
-use Rattle.std.proofs.Common.{◌≡◌, ◌≢◌, ◌⊎◌, ◌∙◌, ◌<◌, ◌+◌, ℕ, List, [], ◌∷◌, ◌++◌, length, take, get_or, slice_get, unwrap_or, refl, sym, ap, inl, inr, Ok, Err, append_assoc, append-nil}
+use Rattle.std.proofs.Common.{◌≡◌, ◌≢◌, ◌∙◌, ◌<◌, ◌+◌, ℕ, List, [], ◌∷◌, ◌++◌, length, take, get_or, slice_get, unwrap_or, refl, sym, ap, inl, inr, Ok, Err, append_assoc, append-nil}
 use Rattle.std.proofs.lemmas.List.{take_more}
 use Rattle.hcl_read.specs.Read.{ReadsAs}
 use Rattle.hcl_read.specs.declared.tree.File.{File}

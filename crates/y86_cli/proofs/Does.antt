@@ -1,16 +1,12 @@
 -- How a call goes on, stage after stage.
-use Rattle.std.proofs.Common.{◌≡◌, ◌⊎◌, ℕ, ◌≤◌, List, length, refl, ap, subst, ◌∙◌, inl, inr, Option, Some, None, IfSome, Result, Ok, Err}
+use Rattle.std.proofs.Common.{◌≡◌, ◌⊎◌, ℕ, ◌≤◌, List, length, refl, ap, ◌∙◌, inl, inr, Option, Some, None, IfSome, Result, Ok, Err}
 use Rattle.wb_io.specs.Causes.{counted}
 use Rattle.wb_io.specs.Files.{HasBytes, HasMore}
 use Rattle.y86_cli.specs.declared.stop.Stop as code
 use Rattle.y86_cli.specs.declared.stop.Stop.TheVariants.{Usage, Read, Write, Refused, Memory, TooLong}
-use Rattle.y86_cli.specs.Does.{CountsFaults, FilesSeen, GivesOne, SinkSeen, IsLater, IsRead, NoReadFailed, ReadsOne, Refuses, StopsAtRead, StopsReading, Says, Does}
+use Rattle.y86_cli.specs.Does.{FilesSeen, GivesOne, SinkSeen, IsLater, IsRead, NoReadFailed, ReadsOne, Refuses, StopsAtRead, StopsReading, Says, Does}
 use Rattle.y86_cli.specs.Plan.{Answered, Plan, after, answers, gives, says, reads}
 use Rattle.y86_cli.specs.Stops.{answer_at, status_of}
-
--- a write behind one that counted nothing
-pub counts_behind : {A E : Type 0} (first before after : ℕ) (result : Result A E) → before ≡ first → CountsFaults before after result → CountsFaults first after result
-counts_behind first before after result same counts = subst (λ (n : ℕ). CountsFaults n after result) same counts
 
 fault_earlier : (first before now : ℕ) → before ≡ first → now ≡ counted before → now ≡ counted first
 fault_earlier first before now same fault = fault ∙ ap counted same

@@ -18,12 +18,12 @@ use Rattle.seq_plus.specs.declared.state.PlusState.{PlusState}
 use Rattle.seq_refinement.specs.Accepted.{RefinesSeq}
 use Rattle.verdict_text.specs.SeqLine.{plus_no, seq_no}
 use Rattle.verdicts.specs.Questions.{IsLeastFalse, Questions}
-use Rattle.verdicts.specs.declared.decision.Failure.{Failure}
 use Rattle.y86_base.specs.declared.parts.Variant.{Variant}
 use Rattle.y86_isa.specs.declared.machine.Machine.{Machine}
 use Rattle.y86_isa.specs.declared.machine.Rec.{Rec}
 use Rattle.y86_cli.specs.declared.datapath.Datapath.{Datapath}
 use Rattle.y86_cli.specs.declared.datapath.Datapath.TheVariants.{Seq, Plus}
+use Rattle.y86_cli.specs.declared.sequential.Denial.{Denial}
 
 abbrev pub rows_of : Datapath → List Row
 rows_of Seq = seq_rows
@@ -55,9 +55,9 @@ pub record Rejects (which : Datapath) (v : Variant) (terms : List Term) (rule : 
   pub are : AreAtoms (rows_of which) terms atoms
   pub least : IsLeastFalse (questions_of which v) terms atoms rule w
 
-abbrev pub IsDecided : Datapath → Variant → List Term → Option Failure → Type 0
+abbrev pub IsDecided : Datapath → Variant → List Term → Option Denial → Type 0
 IsDecided which v terms None = Accepts which v terms × Refines which v terms
-IsDecided which v terms (Some f) = Rejects which v terms f.rule f.valuation.bits
+IsDecided which v terms (Some d) = Rejects which v terms d.rule d.valuation.bits × AreAtoms (rows_of which) terms d.atoms
 
 -- the text of a No of SEQ+, by the fields of its valuation
 abbrev plus_text : List (List ℕ) → ℕ → Fields → List Bool → List Atom → List ℕ

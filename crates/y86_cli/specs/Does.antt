@@ -1,5 +1,5 @@
 -- What a call did to the outside, against a plan.
-use Rattle.std.specs.Prelude.{◌≡◌, ◌⊎◌, ℕ, ◌≤◌, List, [], length, Option, Some, IfSome, Result, Ok, Err, OnErr, OnOk}
+use Rattle.std.specs.Prelude.{◌≡◌, ◌⊎◌, ℕ, ◌≤◌, List, [], length, Option, Some, IfSome, Result, Ok, Err}
 use Rattle.wb_io.specs.Causes.{counted}
 use Rattle.wb_io.specs.Files.{HasBytes, HasMore}
 use Rattle.wb_io.specs.Sinks.{Took, TookPart}
@@ -23,11 +23,6 @@ files_seen told faults = record { told = told; faults = faults }
 
 abbrev pub sink_seen : Option (List ℕ) → ℕ → SinkSeen
 sink_seen taken faults = record { taken = taken; faults = faults }
-
--- what a write counts: no fault at Ok, and just one at Err
-pub record CountsFaults {A E : Type 0} (before after : ℕ) (result : Result A E) : Type 0 where
-  pub no_fault_at_ok : OnOk result (after ≡ before)
-  pub one_fault_at_err : OnErr result (after ≡ counted before)
 
 -- no read of any file failed
 abbrev pub NoReadFailed : FilesSeen → FilesSeen → Type 0

@@ -1,11 +1,12 @@
 //! `big`: runs a generated program by the instructions and on PIPE under an HCL file, and compares the reports.
 ghost use Rattle.std.specs.Prelude.{◌≡◌, ◌≤◌};
 ghost use Rattle.dp_signals.specs.PipeTable.{pipe_rows};
+ghost use Rattle.wb_io.specs.Causes.{CountsFaults};
 ghost use Rattle.wb_io.specs.Sinks.{Puts};
 ghost use Rattle.y86_cli.specs.Answers.{big_plan};
 ghost use Rattle.y86_cli.specs.Big.{BigAnswers, big_line, big_status};
 ghost use Rattle.y86_cli.specs.Designs.{IsOrdered};
-ghost use Rattle.y86_cli.specs.Does.{CountsFaults, DoesOver, SaysOn};
+ghost use Rattle.y86_cli.specs.Does.{DoesOver, SaysOn};
 
 use crate::design::{Ordered, pipe_file};
 use crate::stop::Stop;

@@ -33,7 +33,7 @@ fn say_seq<'a, O: Sink>(
 {
     match decided(alloc, which, variant, ordered) {
         Ok(None) => say(0, b"yes\n", out),
-        Ok(Some(failure)) => match seq_text(alloc, which, ordered, &failure) {
+        Ok(Some(denial)) => match seq_text(alloc, which, ordered, &denial) {
             Ok(text) => say(1, text.as_slice(), out),
             Err(stop) => Err(stop),
         },

@@ -1,7 +1,5 @@
 //! Verdicts on designs for the sequential datapaths, and the text of a No.
-ghost use Rattle.std.specs.Prelude.{◌≡◌, ◌≤◌, Err, IfErr, IfOk, List, OnErr, length};
-ghost use Rattle.ctl_atoms.specs.Atoms.{AreAtoms};
-ghost use Rattle.ctl_atoms.specs.declared.leaf.Atom.{Atom};
+ghost use Rattle.std.specs.Prelude.{◌≡◌, ◌≤◌, Err, IfErr, IfOk, OnErr, length};
 ghost use Rattle.dp_signals.specs.SeqTable.{seq_rows};
 ghost use Rattle.seq_plus.specs.PlusTable.{plus_rows};
 ghost use Rattle.verdicts.specs.Questions.{IsFault};
@@ -13,28 +11,46 @@ ghost use Rattle.y86_cli.specs.declared.stop.Stop.TheVariants.{Memory as WantOfM
 use crate::datapath::Datapath;
 use crate::design::Ordered;
 use crate::stop::Stop;
-use control_check::{CheckFault, Failure, Verdict, check_seq};
-use ctl_atoms::{Atom, atoms};
+use control_check::{CheckFault, Verdict, check_seq};
+use ctl_atoms::Atom;
 use hcl_types::Row;
 use nets::Valuation;
 use seq_plus::{Plain16, check_plus};
 use std::alloc::Global;
 use verdict_text::{plus_refusal, seq_refusal};
-use y86_base::{Memory, Variant};
+use y86_base::{Items, Memory, Variant};
+
+/// A No: the first obligation that is false of some valuation, the least such valuation, and the design's atoms.
+#[derive(Debug, Drop)]
+pub struct Denial {
+    pub rule: u32,
+    pub valuation: Valuation,
+    pub atoms: Items<Atom>,
+}
 
 /// The verdict on a design for SEQ, as `decided` gives it.
 fn decide_seq(
     alloc: Global,
     variant: Variant,
     ordered: &Ordered,
-) -> Result<Option<Failure>, CheckFault>
+) -> Result<Option<Denial>, CheckFault>
     requires { IsOrdered seq_rows ordered.now }
     ensures decided { IfOk result (IsDecided OnSeq variant ordered.now.design.terms) }
     ensures fault { IfErr result (IsFault seq_rows ordered.now.design.terms) }
 {
     match check_seq(alloc, variant, &ordered.design, &ordered.order) {
         Ok(Verdict::Yes(_)) => Ok(None),
-        Ok(Verdict::No { rule, valuation }) => Ok(Some(Failure { rule, valuation })),
+        Ok(
+            Verdict::No {
+                rule,
+                valuation,
+                atoms,
+            },
+        ) => Ok(Some(Denial {
+            rule,
+            valuation,
+            atoms,
+        })),
         Err(fault) => Err(fault),
     }
 }
@@ -44,26 +60,35 @@ fn decide_plus(
     alloc: Global,
     variant: Variant,
     ordered: &Ordered,
-) -> Result<Option<Failure>, CheckFault>
+) -> Result<Option<Denial>, CheckFault>
     requires { IsOrdered plus_rows ordered.now }
     ensures decided { IfOk result (IsDecided OnPlus variant ordered.now.design.terms) }
     ensures fault { IfErr result (IsFault plus_rows ordered.now.design.terms) }
 {
     match check_plus(alloc, variant, &ordered.design, &ordered.order) {
         Ok(Plain16::Yes) => Ok(None),
-        Ok(Plain16::No { rule, valuation }) => Ok(Some(Failure { rule, valuation })),
+        Ok(
+            Plain16::No {
+                rule,
+                valuation,
+                atoms,
+            },
+        ) => Ok(Some(Denial {
+            rule,
+            valuation,
+            atoms,
+        })),
         Err(fault) => Err(fault),
     }
 }
 
-/// The verdict on a design: `None` where it is accepted, else the first obligation that is false of some valuation, with
-/// the least such valuation.
+/// The verdict on a design: `None` where it is accepted.
 pub fn decided(
     alloc: Global,
     which: Datapath,
     variant: Variant,
     ordered: &Ordered,
-) -> Result<Option<Failure>, CheckFault>
+) -> Result<Option<Denial>, CheckFault>
     requires { IsOrdered (rows_of which) ordered.now }
     ensures decided { IfOk result (IsDecided which variant ordered.now.design.terms) }
     ensures fault { IfErr result (IsFault (rows_of which) ordered.now.design.terms) }
@@ -99,23 +124,20 @@ pub fn seq_text<'a>(
     alloc: Global,
     which: Datapath,
     ordered: &Ordered,
-    failure: &Failure,
+    denial: &Denial,
 ) -> Result<Vec<u8>, Stop<'a>>
-    requires { IsOrdered (rows_of which) ordered.now }
-    ensures text { IfOk result (λ text. (list : List Atom) × AreAtoms (rows_of which) ordered.now.design.terms list
-        × (text.items ≡ no_text which failure.now.rule failure.now.valuation.bits list)) }
+    requires ordered { IsOrdered (rows_of which) ordered.now }
+    requires few { length denial.now.atoms ≤ 64 }
+    ensures text { IfOk result (λ text. text.items ≡ no_text which denial.now.rule denial.now.valuation.bits denial.now.atoms) }
     ensures memory { OnErr result (result ≡ Err WantOfMemory) }
 {
-    let Ok(list) = atoms(alloc, &ordered.design, &ordered.table, &ordered.order) else {
-        return Err(Stop::Memory);
-    };
     match refusal(
         alloc,
         which,
         ordered.table.rows.items(),
-        failure.rule,
-        &failure.valuation,
-        list.as_slice(),
+        denial.rule,
+        &denial.valuation,
+        denial.atoms.items(),
     ) {
         Ok(text) => Ok(text),
         Err(_) => Err(Stop::Memory),

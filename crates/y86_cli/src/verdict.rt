@@ -1,7 +1,6 @@
 //! Verdicts on PIPE as texts, and the stop at a design without control values.
-ghost use Rattle.std.specs.Prelude.{◌≡◌, ◌≢◌, Err, IfErr, IfOk, List, OnErr, ℕ};
-ghost use Rattle.ctl_atoms.specs.Atoms.{AreAtoms, IsCtlFault};
-ghost use Rattle.ctl_atoms.specs.declared.leaf.Atom.{Atom};
+ghost use Rattle.std.specs.Prelude.{◌≡◌, ◌≢◌, ◌≤◌, Err, IfErr, IfOk, List, OnErr, ℕ, length};
+ghost use Rattle.ctl_atoms.specs.Atoms.{IsCtlFault};
 ghost use Rattle.ctl_atoms.specs.declared.fault.CtlFault.TheVariants as cause;
 ghost use Rattle.dp_signals.specs.PipeTable.{pipe_rows};
 ghost use Rattle.hcl_types.specs.Tables.{row_names};
@@ -15,7 +14,7 @@ ghost use Rattle.y86_cli.specs.declared.stop.Stop.TheVariants.{Memory as WantOfM
 use crate::design::{Ordered, all_names};
 use crate::stop::{Refusal, Stop};
 use control_check::{CheckFault, Verdict, check_pipe};
-use ctl_atoms::{CtlFault, atoms};
+use ctl_atoms::{Atom, CtlFault};
 use nets::Valuation;
 use pipe_motion::Settings;
 use std::alloc::Global;
@@ -70,28 +69,20 @@ pub enum PipeText {
     No(Vec<u8>),
 }
 
-/// The text of a No of PIPE.
+/// The text of a No of PIPE, with the design's atoms.
 fn pipe_no_text<'a>(
     alloc: Global,
     ordered: &Ordered,
     rule: u32,
     valuation: &Valuation,
+    list: &[Atom],
 ) -> Result<Vec<u8>, Stop<'a>>
-    requires { IsOrdered pipe_rows ordered.now }
-    ensures text { IfOk result (λ text. (list : List Atom) × AreAtoms pipe_rows ordered.now.design.terms list
-        × (text.items ≡ pipe_no (row_names pipe_rows) rule valuation.now.bits list)) }
+    requires ordered { IsOrdered pipe_rows ordered.now }
+    requires few { length list.now ≤ 64 }
+    ensures text { IfOk result (λ text. text.items ≡ pipe_no (row_names pipe_rows) rule valuation.now.bits list.now) }
     ensures memory { OnErr result (result ≡ Err WantOfMemory) }
 {
-    let Ok(list) = atoms(alloc, &ordered.design, &ordered.table, &ordered.order) else {
-        return Err(Stop::Memory);
-    };
-    match pipe_refusal(
-        alloc,
-        ordered.table.rows.items(),
-        rule,
-        valuation,
-        list.as_slice(),
-    ) {
+    match pipe_refusal(alloc, ordered.table.rows.items(), rule, valuation, list) {
         Ok(text) => Ok(text),
         Err(_) => Err(Stop::Memory),
     }
@@ -111,12 +102,16 @@ pub fn pipe_decision<'a>(
 {
     match check_pipe(alloc, variant, &ordered.design, &ordered.order) {
         Ok(Verdict::Yes(settings)) => Ok(Decided::Yes(settings)),
-        Ok(Verdict::No { rule, valuation }) => {
-            match pipe_no_text(alloc, ordered, rule, &valuation) {
-                Ok(text) => Ok(Decided::No(text)),
-                Err(stop) => Err(stop),
-            }
-        }
+        Ok(
+            Verdict::No {
+                rule,
+                valuation,
+                atoms,
+            },
+        ) => match pipe_no_text(alloc, ordered, rule, &valuation, atoms.items()) {
+            Ok(text) => Ok(Decided::No(text)),
+            Err(stop) => Err(stop),
+        },
         Err(CheckFault::Ctl(fault)) => Err(control_stop(alloc, name, ordered, fault)),
         Err(CheckFault::Memory) => Err(Stop::Memory),
     }

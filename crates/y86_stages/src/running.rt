@@ -12,9 +12,7 @@ use stage_text::{Window, watch_run};
 use std::alloc::Global;
 use wb_io::{Files, Sink};
 use y86_base::{Image, Variant};
-use y86_cli::{
-    FILE_LIMIT, HCL_LIMIT, Ordered, Stop, load_image, pipe_design, read_file, say, status,
-};
+use y86_cli::{FILE_LIMIT, Ordered, Stop, load_image, pipe_file, read_file, say, status};
 
 /// Runs the image of an object text, and says what is shown of it.
 fn show_image<'a, O: Sink>(
@@ -38,6 +36,7 @@ fn show_image<'a, O: Sink>(
     let watched = match watch_run(
         alloc,
         variant,
+        ordered.table.rows.items(),
         &ordered.design,
         &ordered.order,
         &mut compiled,
@@ -99,11 +98,7 @@ pub fn show<'a, F: Files, O: Sink>(
     ensures { DoesOver F.told F.faults O.taken O.faults (stages_plan name.now obj.now mem limit variant window.now)
         files.old files.new out.old out.new result }
 {
-    let source = match read_file(alloc, name, HCL_LIMIT, files) {
-        Ok(source) => source,
-        Err(stop) => return Err(stop),
-    };
-    let ordered = match pipe_design(alloc, name, source.as_slice()) {
+    let ordered = match pipe_file(alloc, name, files) {
         Ok(ordered) => ordered,
         Err(stop) => return Err(stop),
     };

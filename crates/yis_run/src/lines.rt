@@ -1,6 +1,6 @@
 //! The lines of a report.
-ghost use Rattle.std.specs.Prelude.{◌≡◌, ◌*◌, ◌/◌, ◌<◌, ◌++◌, length, OnOk, OnErr};
-ghost use Rattle.wb_io.specs.Causes.{counted};
+ghost use Rattle.std.specs.Prelude.{◌≡◌, ◌*◌, ◌/◌, ◌<◌, ◌++◌, length};
+ghost use Rattle.wb_io.specs.Causes.{CountsFaults};
 ghost use Rattle.wb_io.specs.Sinks.{Puts};
 ghost use Rattle.yis_run.specs.Report as text;
 
@@ -24,8 +24,7 @@ pub fn put_stopped<S: Sink>(
     out: &mut S,
 ) -> Result<(), Failed>
     ensures puts { Puts (S.taken out.old) (S.taken out.new) result (text.stopped steps pc stat flags) }
-    ensures no_fault_at_ok { OnOk result (S.faults out.new ≡ S.faults out.old) }
-    ensures one_fault_at_err { OnErr result (S.faults out.new ≡ counted (S.faults out.old)) }
+    ensures counts { CountsFaults (S.faults out.old) (S.faults out.new) result }
 {
     let steps = Numeral::decimal(steps);
     let pc = Numeral::hex(1, pc);
@@ -62,8 +61,7 @@ fn put_change<S: Sink>(
     out: &mut S,
 ) -> Result<(), Failed>
     ensures puts { Puts (S.taken out.old) (S.taken out.new) result (text.change (mark.now ++ name.now) old new) }
-    ensures no_fault_at_ok { OnOk result (S.faults out.new ≡ S.faults out.old) }
-    ensures one_fault_at_err { OnErr result (S.faults out.new ≡ counted (S.faults out.old)) }
+    ensures counts { CountsFaults (S.faults out.old) (S.faults out.new) result }
 {
     let old = Numeral::hex(16, old);
     let new = Numeral::hex(16, new);
@@ -85,8 +83,7 @@ fn put_change<S: Sink>(
 #[tactic(auto, unfolding(crate::specs::Report::register_line))]
 fn put_register<S: Sink>(regs: &Regs, n: u64, out: &mut S) -> Result<(), Failed>
     ensures puts { Puts (S.taken out.old) (S.taken out.new) result (text.register_line regs.now n) }
-    ensures no_fault_at_ok { OnOk result (S.faults out.new ≡ S.faults out.old) }
-    ensures one_fault_at_err { OnErr result (S.faults out.new ≡ counted (S.faults out.old)) }
+    ensures counts { CountsFaults (S.faults out.old) (S.faults out.new) result }
 {
     let word = regs.get(n);
     if word == 0 {
@@ -98,8 +95,7 @@ fn put_register<S: Sink>(regs: &Regs, n: u64, out: &mut S) -> Result<(), Failed>
 /// Writes the lines of the registers.
 pub fn put_registers<S: Sink>(regs: &Regs, out: &mut S) -> Result<(), Failed>
     ensures puts { Puts (S.taken out.old) (S.taken out.new) result (text.each_below 15 (text.register_line regs.now)) }
-    ensures no_fault_at_ok { OnOk result (S.faults out.new ≡ S.faults out.old) }
-    ensures one_fault_at_err { OnErr result (S.faults out.new ≡ counted (S.faults out.old)) }
+    ensures counts { CountsFaults (S.faults out.old) (S.faults out.new) result }
 {
     for n in 0..15 {
         match put_register(regs, n, out) {
@@ -115,8 +111,7 @@ pub fn put_registers<S: Sink>(regs: &Regs, out: &mut S) -> Result<(), Failed>
 fn put_word<S: Sink>(first: &Image, memory: &Image, n: u64, out: &mut S) -> Result<(), Failed>
     requires { 8 * n < length first.now }
     ensures puts { Puts (S.taken out.old) (S.taken out.new) result (text.memory_line first.now memory.now n) }
-    ensures no_fault_at_ok { OnOk result (S.faults out.new ≡ S.faults out.old) }
-    ensures one_fault_at_err { OnErr result (S.faults out.new ≡ counted (S.faults out.old)) }
+    ensures counts { CountsFaults (S.faults out.old) (S.faults out.new) result }
 {
     let _size = first.size();
     let address = 8 * n;
@@ -133,8 +128,7 @@ fn put_word<S: Sink>(first: &Image, memory: &Image, n: u64, out: &mut S) -> Resu
 pub fn put_memory<S: Sink>(first: &Image, memory: &Image, out: &mut S) -> Result<(), Failed>
     ensures puts { Puts (S.taken out.old) (S.taken out.new) result
         (text.each_below (length first.now / 8) (text.memory_line first.now memory.now)) }
-    ensures no_fault_at_ok { OnOk result (S.faults out.new ≡ S.faults out.old) }
-    ensures one_fault_at_err { OnErr result (S.faults out.new ≡ counted (S.faults out.old)) }
+    ensures counts { CountsFaults (S.faults out.old) (S.faults out.new) result }
 {
     let words = first.size() / 8;
     for n in 0..words {

@@ -1,6 +1,6 @@
 //! The report of a run.
-ghost use Rattle.std.specs.Prelude.{◌≡◌, length, OnOk, OnErr};
-ghost use Rattle.wb_io.specs.Causes.{counted};
+ghost use Rattle.std.specs.Prelude.{◌≡◌, length};
+ghost use Rattle.wb_io.specs.Causes.{CountsFaults};
 ghost use Rattle.wb_io.specs.Sinks.{Puts};
 ghost use Rattle.yis_run.specs.Report as text;
 
@@ -16,8 +16,7 @@ use y86_base::Image;
 pub fn report<S: Sink>(first: &Image, end: &End<'_>, steps: u64, out: &mut S) -> Result<(), Failed>
     requires one_size { length first.now ≡ length end.now.mem.now }
     ensures puts { Puts (S.taken out.old) (S.taken out.new) result (text.report first.now (text.ended end.now) steps) }
-    ensures no_fault_at_ok { OnOk result (S.faults out.new ≡ S.faults out.old) }
-    ensures one_fault_at_err { OnErr result (S.faults out.new ≡ counted (S.faults out.old)) }
+    ensures counts { CountsFaults (S.faults out.old) (S.faults out.new) result }
 {
     put_stopped(steps, end.pc, end.stat, end.flags, out)?;
     put_all(out, b"Changes to registers:\n")?;

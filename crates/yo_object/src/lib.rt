@@ -7,5 +7,6 @@ mod object;
 mod printer;
 
 pub use laws::{law_of_lines, law_of_loads, law_of_printing};
+pub use line::{LineDigits, line_digits};
 pub use object::{YoFault, YoWhy, load};
 pub use printer::print;

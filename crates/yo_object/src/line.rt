@@ -2,6 +2,7 @@
 ghost use Rattle.std.specs.Prelude.{◌≡◌, ◌<◌, ◌≤◌, ◌+◌, ◌∷◌, [], IfSome, MatchOption, length};
 ghost use Rattle.std.specs.Option.{option_copied, option_map};
 ghost use Rattle.y86_base.specs.Image.{with_bytes};
+ghost use Rattle.yo_object.specs.Grammar.{digits_in_line};
 ghost use Rattle.yo_object.specs.Loads.{Leaves};
 ghost use Rattle.yo_object.specs.Lines.{digits_in};
 ghost use Rattle.yo_object.specs.ObjectText as definition;
@@ -10,10 +11,10 @@ use crate::object::YoWhy;
 use y86_base::{Image, after_blanks, after_byte, hex_value, number_in_base, split_hex};
 
 /// The digits of a line: those of its address, and those of its bytes.
-#[derive(Clone, Copy)]
-struct Record<'a> {
-    address: &'a [u8],
-    bytes: &'a [u8],
+#[derive(Clone, Copy, Debug)]
+pub struct LineDigits<'a> {
+    pub address: &'a [u8],
+    pub bytes: &'a [u8],
 }
 
 /// What stands behind `0x`, where the text begins with it.
@@ -36,7 +37,7 @@ fn is_line_end(text: &[u8]) -> bool
 
 /// The digits of a line that is of the form, behind its `0x`.
 #[tactic(auto, unfolding(crate::specs::ObjectText::digits_of))]
-fn record_behind(text: &[u8]) -> Option<Record<'_>>
+fn digits_behind(text: &[u8]) -> Option<LineDigits<'_>>
     ensures { option_map digits_in result ≡ definition.digits_of text.now }
 {
     let (address, rest) = split_hex(text);
@@ -45,10 +46,20 @@ fn record_behind(text: &[u8]) -> Option<Record<'_>>
     };
     let (bytes, rest) = split_hex(after_blanks(data));
     if !address.is_empty() && is_line_end(after_blanks(rest)) {
-        Some(Record { address, bytes })
+        Some(LineDigits { address, bytes })
     } else {
         None
     }
+}
+
+/// The digits of a line, if it is of the form.
+pub fn line_digits(line: &[u8]) -> Option<LineDigits<'_>>
+    ensures { option_map digits_in result ≡ digits_in_line line.now }
+{
+    let Some(text) = after_prefix(after_blanks(line)) else {
+        return None;
+    };
+    digits_behind(text)
 }
 
 /// The byte that the first two hex digits write, and the digits behind them.
@@ -81,7 +92,7 @@ fn put_bytes(image: &mut Image, address: u64, digits: &[u8])
 
 /// Puts the bytes of a line of the form, or tells the first of its faults.
 #[tactic(auto, using(crate::proofs::Bytes::put_nothing, crate::proofs::Bytes::pairs_length, crate::proofs::Bytes::not_a_word), unfolding(crate::specs::ObjectText::put_digits))]
-fn put_digits(image: &mut Image, digits: &Record<'_>) -> Result<(), YoWhy>
+fn put_digits(image: &mut Image, digits: &LineDigits<'_>) -> Result<(), YoWhy>
     ensures { Leaves result image.new (definition.put_digits image.old (digits_in digits.now)) }
 {
     if digits.address.len() > 16 {
@@ -112,7 +123,7 @@ pub fn put_line(image: &mut Image, line: &[u8]) -> Result<(), YoWhy>
     let Some(text) = after_prefix(after_blanks(line)) else {
         return Ok(());
     };
-    match record_behind(text) {
+    match digits_behind(text) {
         None => Err(YoWhy::Syntax),
         Some(digits) => put_digits(image, &digits),
     }

@@ -1,5 +1,5 @@
 use Rattle.std.proofs.Common.{◌≡◌, List, ℕ, length, map, get_or, arith, subst, ◌∙◌}
-use Rattle.net_substitution.specs.declared.copies.Source.TheVariants as source
+use Rattle.nets.specs.declared.copies.Source.TheVariants as source
 use Rattle.bdd_core.specs.Meaning.{IsBuilt}
 use Rattle.cert_writer.proofs.Drawing.{drawn_all, drawn_more, drawn_none}
 use Rattle.cert_writer.proofs.drawn.draw.Goals as goal

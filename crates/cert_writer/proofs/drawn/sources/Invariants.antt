@@ -1,5 +1,5 @@
 use Rattle.std.proofs.Common.{◌≡◌, map, take}
-use Rattle.net_substitution.specs.declared.copies.Source.TheVariants as source
+use Rattle.nets.specs.declared.copies.Source.TheVariants as source
 use Rattle.cert_writer.proofs.drawn.sources.Given as goal
 
 abbrev pub invariant-loop-i : goal.invariant-loop-i

@@ -38,4 +38,4 @@ returns-in-Ok-Some-clause-verdict c =
     let made = c.in_ok-made.made.rules in
     let rules = c.in_ok-made.ensures.rules in
     let decided = subst (λ (list : List Rule). IsDecision made.net list (Some c.in-Ok-Some.failure)) c.items.ensures (rw c.in-Ok-Some.field-0-is at c.in-Ok-Some.ensures) in
-    rejects c.args.variant c.args.design.now.terms c.args.order.now.ids c.requires.ordered s made.net made.list c.in-Ok-Some.failure c.in_ok-made.ensures.settings rules decided
+    (rejects c.args.variant c.args.design.now.terms c.args.order.now.ids c.requires.ordered s made.net made.list c.in-Ok-Some.failure c.in_ok-made.ensures.settings rules decided, c.in_ok-made.ensures.atoms)

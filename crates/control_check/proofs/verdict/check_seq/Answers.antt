@@ -23,4 +23,4 @@ returns-in-Ok-None-clause-refines c =
 pub returns-in-Ok-Some-clause-verdict : goal.returns-in-Ok-Some-clause-verdict
 returns-in-Ok-Some-clause-verdict c =
     let decided = subst (λ (list : List Rule). IsDecision c.in-Ok.rules.net list (Some c.in-Ok-Some.failure)) c.items.ensures (rw c.in-Ok-Some.field-0-is at c.in-Ok-Some.ensures) in
-    rejects c.args.variant c.args.design.now.terms c.in-Ok.rules.net c.in-Ok.rules.list c.args.order.now.ids c.requires.ordered c.in-Ok.ensures.rules c.in-Ok-Some.failure decided
+    (rejects c.args.variant c.args.design.now.terms c.in-Ok.rules.net c.in-Ok.rules.list c.args.order.now.ids c.requires.ordered c.in-Ok.ensures.rules c.in-Ok-Some.failure decided, c.in-Ok.ensures.atoms)

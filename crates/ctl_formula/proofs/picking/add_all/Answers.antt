@@ -7,7 +7,7 @@ use Rattle.ctl_atoms.specs.Leaves.{leaf_eq}
 use Rattle.ctl_formula.specs.Chosen.{at, taken}
 use Rattle.ctl_formula.specs.Readies.{leaves_of}
 use Rattle.ctl_atoms.specs.Plans.{joined}
-use Rattle.nets.proofs.Truths.{truth_kept, begins_more}
+use Rattle.nets.proofs.Truths.{begins_more}
 use Rattle.ctl_formula.proofs.Chosen.{taken_kept}
 use Rattle.ctl_formula.proofs.Steps.{none, within_next, or_same, and_same}
 use Rattle.ctl_formula.proofs.Inside.{within_more}
@@ -36,7 +36,7 @@ loop-p-preserved c =
           ∙ (one_more (taken (at c.loop-p.b w) c.loop-p.out.items y) (truth c.args.b.now c.args.here w) (leaf_eq p.leaf y) (truth c.args.b.now p.gate w) (taken (at c.args.b.now w) (drop (i + 1) ps) y)
           (taken (at c.and.new.self w) c.loop-p.out.items y) (truth c.and.new.self c.in_ok-g.g w)
           (taken_kept c.in_ok-g.ensures.begins w c.loop-p.out.items c.loop-p.invariant.within y)
-          (c.in_ok-g.ensures.made.is w ∙ and_same _ _ _ _ (truth_kept begins c.args.here w c.requires.gate) (truth_kept begins p.gate w more.0))
+          (c.in_ok-g.ensures.made.is w ∙ and_same _ _ _ _ (begins.same c.args.here w c.requires.gate) (begins.same p.gate w more.0))
           ∙ (ap (λ (xs : List Pick). taken (at c.loop-p.b w) c.loop-p.out.items y || (truth c.args.b.now c.args.here w && taken (at c.args.b.now w) xs y)) (sym (drop_more ps i none inside))
           ∙ c.loop-p.invariant.is w y));
     }

@@ -1,6 +1,6 @@
 use Rattle.std.proofs.Common.{List, ℕ, ◌∙◌, subst}
-use Rattle.net_substitution.specs.Substitution.{AreCopies}
-use Rattle.net_substitution.specs.declared.copies.Source.{Source}
+use Rattle.nets.specs.Substitution.{AreCopies}
+use Rattle.nets.specs.declared.copies.Source.{Source}
 use Rattle.decisions.specs.Splitting.{AreChosen, AreSourcesIn}
 use Rattle.decisions.proofs.Sources.{stand_for}
 use Rattle.decisions.proofs.cuts.part_of.Goals as goal

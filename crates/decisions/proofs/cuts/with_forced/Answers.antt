@@ -1,7 +1,7 @@
 use Rattle.std.proofs.Common.{List, ℕ, ◌∙◌, subst}
-use Rattle.net_substitution.specs.Forcing.{IsForced}
-use Rattle.net_substitution.specs.Substitution.{AreCopies}
-use Rattle.net_substitution.specs.declared.copies.Source.{Source}
+use Rattle.nets.specs.Forcing.{IsForced}
+use Rattle.nets.specs.Substitution.{AreCopies}
+use Rattle.nets.specs.declared.copies.Source.{Source}
 use Rattle.decisions.proofs.Forced.{stand_still}
 use Rattle.decisions.proofs.cuts.with_forced.Goals as goal
 

@@ -1,5 +1,5 @@
 use Rattle.std.proofs.Common.{◌≡◌, take}
-use Rattle.net_substitution.specs.Substitution.{behind}
+use Rattle.nets.specs.Substitution.{behind}
 use Rattle.decisions.proofs.least.carried.Given as goal
 
 abbrev pub invariant-loop-i : goal.invariant-loop-i

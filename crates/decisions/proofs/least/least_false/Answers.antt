@@ -1,7 +1,7 @@
 use Rattle.std.proofs.Common.{List, Bool, ◌≡◌, false, ◌<◌, ℕ, sym, ap, ◌∙◌, subst}
 use Rattle.nets.specs.Nets.{truth}
-use Rattle.net_substitution.specs.Substitution.{AreCopies, behind}
-use Rattle.net_substitution.specs.declared.copies.Source.{Source}
+use Rattle.nets.specs.Substitution.{AreCopies, behind}
+use Rattle.nets.specs.declared.copies.Source.{Source}
 use Rattle.decisions.specs.Decisions.{IsLeastOf}
 use Rattle.decisions.proofs.Overlaid.{least_false, none_false}
 use Rattle.decisions.proofs.Sources.{tells_of}

@@ -1,6 +1,6 @@
-use Rattle.std.proofs.Common.{List, Bool, ◌≡◌, false, ℕ, ◌<◌, sym, ap, ◌∙◌, subst}
-use Rattle.net_substitution.specs.Substitution.{AreCopies, behind}
-use Rattle.net_substitution.specs.declared.copies.Source.{Source}
+use Rattle.std.proofs.Common.{List, ℕ, ◌<◌, sym, ap, ◌∙◌, subst}
+use Rattle.nets.specs.Substitution.{AreCopies, behind}
+use Rattle.nets.specs.declared.copies.Source.{Source}
 use Rattle.decisions.specs.Splitting.{AreSourcesIn, IsLeastIn}
 use Rattle.decisions.proofs.Sources.{least_there, none_there, tells_of}
 use Rattle.decisions.proofs.least.least_in.Goals as goal

@@ -1,7 +1,7 @@
 use Rattle.std.proofs.Common.{◌<◌, length, ◌∙◌, arith}
 use Rattle.std.proofs.lemmas.List.{length-set}
 use Rattle.ctl_formula.proofs.Inside.{inside_more}
-use Rattle.pipe_motion.proofs.Growing.{grows_more}
+use Rattle.nets.proofs.Truths.{begins_more}
 use Rattle.hazard_rules.proofs.Listed.{prediction_put}
 use Rattle.hazard_rules.proofs.closed.predictions.Goals as goal
 
@@ -11,7 +11,7 @@ loop-i-preserved c =
     let within : c.loop-i.i < length c.loop-i.gates = omega (arith, c.loop-i-test.true, old.size) in
     record {
       size = length-set c.loop-i.gates c.loop-i.i c.in_ok-gate.gate ∙ old.size;
-      grows = grows_more _ _ _ old.grows c.predicts.ensures.grows;
-      told = prediction_put c.args.v c.args.back c.loop-i.gates c.loop-i.i c.in_ok-gate.gate within c.predicts.ensures.grows
-          (inside_more old.grows.begins c.requires.inside) old.told c.in_ok-gate.ensures.told;
+      begins = begins_more old.begins c.predicts.ensures.begins;
+      told = prediction_put c.args.v c.args.back c.loop-i.gates c.loop-i.i c.in_ok-gate.gate within c.predicts.ensures.begins
+          (inside_more old.begins c.requires.inside) old.told c.in_ok-gate.ensures.made;
     }

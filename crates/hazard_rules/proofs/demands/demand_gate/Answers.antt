@@ -67,8 +67,8 @@ obligation_21-requires-clause-ready c = ready_by c.requires.vars c.requires.know
 pub obligation_22-requires-clause-ready : goal.obligation_22-requires-clause-ready
 obligation_22-requires-clause-ready c = ready_by c.requires.vars c.requires.known
 
-pub returns-in_default-clause-asked : goal.returns-in_default-clause-asked
-returns-in_default-clause-asked c =
+pub returns-in_default-clause-made : goal.returns-in_default-clause-made
+returns-in_default-clause-made c =
     let last : c.args.number ≡ 27 = omega (arith, c.in_default, c.requires.from, c.requires.to) in
     subst (λ n. IfOk c.obligation_27.result (λ g. IsAsked c.obligation_27.new.b c.args.ctl.now g (λ w α cv.
-    demand n c.args.v c.args.s.now (fields_of w) (view_at c.args.b.now w c.args.y.now) (movers_of α cv) α cv))) (sym last) c.obligation_27.ensures.asked
+    demand n c.args.v c.args.s.now (fields_of w) (view_at c.args.b.now w c.args.y.now) (movers_of α cv) α cv))) (sym last) c.obligation_27.ensures.made

@@ -15,7 +15,7 @@ returns-clause-late c = λ terms h.
     let new = c.shown_gates-late.new.b in
     let v = c.args.p.now.variant in
     let ctl = c.args.p.now.ctl in
-    let begins = subst (λ net. Begins net new) (c.resume-b.ensures ∙ c.replace.ensures.value) c.shown_gates-late.ensures.grows.begins in
+    let begins = subst (λ net. Begins net new) (c.resume-b.ensures ∙ c.replace.ensures.value) c.shown_gates-late.ensures.begins in
     told_of_three c.shown_gates-late.result c.shown_gates-late.ensures.late c.shown_gates-late.ensures.jump c.shown_gates-late.ensures.ret
     (λ r late jump ret. subst (λ net. AreLate v terms c.args.pt c.args.pb c.args.tv net r.lf r.je r.rm) (sym c.finish.ensures)
     (late_of v terms ctl _ c.args.pt c.args.pb c.args.tv s r.lf r.je r.rm refl h.names begins
@@ -25,5 +25,5 @@ returns-clause-late c = λ terms h.
 
 pub returns-clause-belong : goal.returns-clause-belong
 returns-clause-belong c = λ terms h.
-    let begins = subst (λ net. Begins net c.shown_gates-late.new.b) (c.resume-b.ensures ∙ c.replace.ensures.value) c.shown_gates-late.ensures.grows.begins in
+    let begins = subst (λ net. Begins net c.shown_gates-late.new.b) (c.resume-b.ensures ∙ c.replace.ensures.value) c.shown_gates-late.ensures.begins in
     belongs_more terms c.args.p.now _ h (subst (λ net. Begins c.args.p.now.net net) (sym c.finish.ensures) begins) refl

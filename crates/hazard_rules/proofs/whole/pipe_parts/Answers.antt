@@ -12,7 +12,7 @@ returns-in-Ok-clause-belong c =
     let e = c.as_slice.ensures.value in
     let gates = c.in-Ok.gates in
     let made = c.in_ok-made.made in
-    let k = c.closed_told.ensures.grows.begins in
+    let k = c.closed_told.ensures.begins in
     record {
       names = subst (λ net. IsTranslated c.args.d.now.terms net made.ctl made.listed.items) (sym c.finish.ensures) (names_more k c.in_ok-made.ensures.made);
       settings = subst (λ net. AreClosed c.args.v c.args.d.now.terms net gates.pt gates.pb gates.tv) (sym c.finish.ensures)

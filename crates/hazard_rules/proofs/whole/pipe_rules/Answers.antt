@@ -10,7 +10,7 @@ returns-clause-rules c = λ terms h.
     let new = c.rules_told.new.b in
     let list = c.in_ok-list.list in
     let told = subst (λ (xs : List Atom). AreToldRules c.args.p.variant c.args.s new c.args.p.ctl xs list.items) c.as_slice.ensures.value c.in_ok-list.ensures.rules in
-    let begins = subst (λ net. Begins net new) c.resume-b.ensures c.rules_told.ensures.grows.begins in
+    let begins = subst (λ net. Begins net new) c.resume-b.ensures c.rules_told.ensures.begins in
     subst (λ net. AreRules c.args.p.variant terms c.args.s net c.of.result) (sym c.finish.ensures)
     (subst (λ them. AreRules c.args.p.variant terms c.args.s new them) (sym c.of.ensures)
     (rules_of c.args.p.variant terms c.args.s _ _ _ h.names begins c.in_ok-list.ensures.count told))

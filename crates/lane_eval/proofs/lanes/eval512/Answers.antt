@@ -1,6 +1,5 @@
-use Rattle.std.proofs.Common.{◌≡◌, ℕ, ◌∙◌, ap, arith, length, take, List}
+use Rattle.std.proofs.Common.{◌≡◌, ℕ, ◌∙◌, arith, length, List}
 use Rattle.std.proofs.lemmas.Grind.{common_steps}
-use Rattle.nets.specs.Nets.{gate_value}
 use Rattle.lane_eval.specs.Lanes.{across}
 use Rattle.lane_eval.proofs.Steps.{lent, filled_last}
 use Rattle.lane_eval.proofs.lanes.eval512.Goals as goal

@@ -1,8 +1,8 @@
-use Rattle.std.proofs.Common.{◌≡◌, ◌≢◌, ◌<◌, ◌≤◌, ◌⊎◌, inl, inr, ◌+◌, ◌-◌, ◌*◌, ◌/◌, ◌%◌, ◌^◌, ◌∙◌, ℕ, List, Bool, length, sym, ap, arith}
+use Rattle.std.proofs.Common.{◌≡◌, ◌≢◌, ◌<◌, ◌≤◌, ◌⊎◌, inl, inr, ◌+◌, ◌-◌, ◌*◌, ◌/◌, ◌%◌, ◌^◌, ◌∙◌, ℕ, List, length, ap, arith}
 use Rattle.std.proofs.lemmas.Bool.{cases_lt}
 use Rattle.pipe_fields.specs.Layout.{bit_count}
 use Rattle.y86_base.specs.declared.parts.Variant.{Variant}
-use Rattle.prog_gen.specs.Choices.{valuation, valuation_from}
+use Rattle.prog_gen.specs.Choices.{valuation}
 use Rattle.lane_eval.specs.Lanes.{across, along}
 use Rattle.lane_eval.proofs.Seeds.{shifted_seed}
 use Rattle.lane_eval.proofs.search.draw_block.Goals as goal

@@ -1,4 +1,3 @@
-use Rattle.std.proofs.Common.{◌≡◌}
 use Rattle.lane_eval.specs.Search.{holds_in}
 use Rattle.lane_eval.proofs.Earliest.{IsBest}
 use Rattle.lane_eval.proofs.search.first_of.Given as goal

@@ -1,10 +1,9 @@
-use Rattle.std.proofs.Common.{◌≡◌, ◌-◌, ◌∙◌, ℕ, List, Bool, ap, subst, arith, length}
+use Rattle.std.proofs.Common.{◌-◌, ◌∙◌, ℕ, List, ap, subst}
 use Rattle.pipe_fields.specs.Layout.{bit_count}
-use Rattle.nets.specs.Nets.{truth, truths}
+use Rattle.nets.specs.Nets.{truths}
 use Rattle.rule_gates.specs.declared.rules.Rule.{Rule}
 use Rattle.rule_gates.specs.declared.rules.Rules.{Rules}
 use Rattle.prog_gen.specs.Choices.{valuation}
-use Rattle.lane_eval.specs.Lanes.{across}
 use Rattle.lane_eval.specs.Search.{IsFirstFalse, holds_drawn, holds_in}
 use Rattle.lane_eval.proofs.Earliest.{found_same}
 use Rattle.lane_eval.proofs.Steps.{place_truth}

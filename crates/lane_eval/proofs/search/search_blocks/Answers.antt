@@ -1,4 +1,4 @@
-use Rattle.std.proofs.Common.{◌≡◌, ◌+◌, ◌-◌, ◌<◌, ◌%◌, ◌^◌, ◌∙◌, ℕ, ap, arith, refl}
+use Rattle.std.proofs.Common.{◌≡◌, ◌+◌, ◌-◌, ◌%◌, ◌^◌, ℕ, ap, arith, refl}
 use Rattle.pipe_fields.specs.Layout.{bit_count}
 use Rattle.nets.specs.Nets.{truth}
 use Rattle.rule_gates.specs.declared.rules.Rule.{Rule}

@@ -1,4 +1,4 @@
-use Rattle.std.proofs.Common.{◌∙◌, ◌+◌, arith}
+use Rattle.std.proofs.Common.{◌+◌, arith}
 use Rattle.lane_eval.proofs.Shifted.{along_whole, along_others}
 use Rattle.lane_eval.proofs.words.shift_in.Goals as goal
 

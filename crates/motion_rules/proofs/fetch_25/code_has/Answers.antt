@@ -13,13 +13,13 @@ pub loop-k-preserved : goal.loop-k-preserved
 loop-k-preserved c =
     let i0 = inside_more c.loop-k.invariant.begins c.requires.inside in
     let k1 = c.code_if.ensures.begins in
-    let here = asked_as c.in_ok-here.ensures.asked (λ w α cv. ap (λ x. words.is_number cv c.args.name c.loop-k.k && x) (c.passes.ensures ∙ ap (λ (r : Row). passes r c.args.test) c.row.ensures.row)) in
+    let here = asked_as c.in_ok-here.ensures.made (λ w α cv. ap (λ x. words.is_number cv c.args.name c.loop-k.k && x) (c.passes.ensures ∙ ap (λ (r : Row). passes r c.args.test) c.row.ensures.row)) in
     record {
       begins = begins_more c.loop-k.invariant.begins (begins_more k1 c.or.ensures.begins);
       asked = asked_as (asked_two (λ w x y. x || y) c.or.ensures.begins (inside_more k1 i0) (asked_more k1 i0 c.loop-k.invariant.asked) here c.in_ok-any-2.ensures.made)
           (λ w α cv. code_step (has c.args.v c.args.test) (cv c.args.name) c.loop-k.k c.loop-k-test.true);
     }
 
-pub returns-clause-asked : goal.returns-clause-asked
-returns-clause-asked c = asked_as c.loop-k.invariant.asked
+pub returns-clause-made : goal.returns-clause-made
+returns-clause-made c = asked_as c.loop-k.invariant.asked
     (λ w α cv. below_all (has c.args.v c.args.test) c.loop-k.k (λ s h. has_past c.args.v c.args.test s (let end = c.loop-k-test.false in omega (arith, end, h))) (code_of (cv c.args.name)))

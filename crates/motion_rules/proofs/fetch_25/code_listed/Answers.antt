@@ -12,10 +12,10 @@ loop-k-preserved c =
     let k1 = c.code_if.ensures.begins in
     record {
       begins = begins_more c.loop-k.invariant.begins (begins_more k1 c.or.ensures.begins);
-      asked = asked_as (asked_two (λ w x y. x || y) c.or.ensures.begins (inside_more k1 i0) (asked_more k1 i0 c.loop-k.invariant.asked) c.in_ok-here.ensures.asked c.in_ok-any-2.ensures.made)
+      asked = asked_as (asked_two (λ w x y. x || y) c.or.ensures.begins (inside_more k1 i0) (asked_more k1 i0 c.loop-k.invariant.asked) c.in_ok-here.ensures.made c.in_ok-any-2.ensures.made)
           (λ w α cv. code_step (λ n. get_or c.args.list.now n false) (cv c.args.name) c.loop-k.k (let few = c.requires.few in let inside = c.loop-k-test.true in omega (arith, few, inside)));
     }
 
-pub returns-clause-asked : goal.returns-clause-asked
-returns-clause-asked c = asked_as c.loop-k.invariant.asked
+pub returns-clause-made : goal.returns-clause-made
+returns-clause-made c = asked_as c.loop-k.invariant.asked
     (λ w α cv. below_all (λ n. get_or c.args.list.now n false) c.loop-k.k (λ s h. listed_past c.args.list.now s (let end = c.loop-k-test.false in omega (arith, end, h))) (code_of (cv c.args.name)))

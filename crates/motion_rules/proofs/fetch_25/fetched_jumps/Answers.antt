@@ -8,9 +8,9 @@ use Rattle.pipe_obligations.specs.Obligations.{code_of}
 use Rattle.motion_rules.proofs.Codes.{code_is}
 use Rattle.motion_rules.proofs.fetch_25.fetched_jumps.Goals as goal
 
-pub returns-clause-asked : goal.returns-clause-asked
-returns-clause-asked c =
+pub returns-clause-made : goal.returns-clause-made
+returns-clause-made c =
     let i1 = inside_more c.takes.ensures.begins c.requires.inside in
     let k2 = c.code_has.ensures.begins in
-    asked_as (asked_two (λ w x y. x && y) c.and.ensures.begins (inside_more k2 i1) (asked_more k2 i1 c.in_ok-running.ensures.asked) c.in_ok-branch.ensures.asked c.in_ok-g.ensures.made)
+    asked_as (asked_two (λ w x y. x && y) c.and.ensures.begins (inside_more k2 i1) (asked_more k2 i1 c.in_ok-running.ensures.made) c.in_ok-branch.ensures.made c.in_ok-g.ensures.made)
     (λ w α cv. ap (λ z. z && has c.args.v Jump (code_of (cv names.f_icode))) (code_is (cv names.f_stat) 1 (omega arith)))

@@ -2,7 +2,7 @@ use Rattle.std.proofs.Common.{◌&&◌, ◌==◌, ap}
 use Rattle.nets.specs.Nets.{agree}
 use Rattle.nets.proofs.Truths.{begins_more}
 use Rattle.dp_signals.specs.PipeNames as names
-use Rattle.field_bits.specs.Spelling.{set}
+use Rattle.y86_base.specs.Words.{set}
 use Rattle.ctl_formula.proofs.Inside.{inside_more}
 use Rattle.pipe_fields.specs.Layout.{fields_of}
 use Rattle.pipe_motion.specs.Predictions.{predicts}
@@ -12,16 +12,16 @@ use Rattle.pipe_obligations.specs.Stages.{is_jump}
 use Rattle.motion_rules.proofs.Codes.{other_way}
 use Rattle.motion_rules.proofs.fetch_25.fetched_misses.Goals as goal
 
-pub returns-clause-asked : goal.returns-clause-asked
+pub returns-clause-made : goal.returns-clause-made
 unfolding fields_of
-returns-clause-asked c =
+returns-clause-made c =
     let i1 = inside_more c.fetched_jumps.ensures.begins c.requires.inside in
     let k2 = c.fetched_way.ensures.begins in
     let i2 = inside_more k2 i1 in
     let k3 = c.spells.ensures.begins in
     let i3 = inside_more k3 i2 in
     let k4 = c.equal.ensures.begins in
-    let other = asked_two (λ w x y. agree x y) k4 i3 (asked_gate c.in_ok-passed.ensures.made) (asked_more k3 i2 c.in_ok-way.ensures.asked) c.in_ok-other.ensures.made in
-    asked_as (asked_two (λ w x y. x && y) c.and.ensures.begins (inside_more k4 i3) (asked_more (begins_more k2 (begins_more k3 k4)) i1 c.in_ok-here.ensures.asked) other c.in_ok-g.ensures.made)
+    let other = asked_two (λ w x y. agree x y) k4 i3 (asked_gate c.in_ok-passed.ensures.made) (asked_more k3 i2 c.in_ok-way.ensures.made) c.in_ok-other.ensures.made in
+    asked_as (asked_two (λ w x y. x && y) c.and.ensures.begins (inside_more k4 i3) (asked_more (begins_more k2 (begins_more k3 k4)) i1 c.in_ok-here.ensures.made) other c.in_ok-g.ensures.made)
     (λ w α cv. ap (λ z. is_jump c.args.v (code_of (cv names.f_stat)) (code_of (cv names.f_icode)) && z)
     (other_way ((fields_of w).f.taken == 0) (predicts c.args.s.now (code_of (cv names.f_ifun)) (set (fields_of w).f.back))))

@@ -7,12 +7,12 @@ use Rattle.pipe_obligations.specs.Obligations.{code_of}
 use Rattle.motion_rules.proofs.Codes.{code_is, not_both}
 use Rattle.motion_rules.proofs.fetch_25.fetched_stops.Goals as goal
 
-pub returns-clause-asked : goal.returns-clause-asked
+pub returns-clause-made : goal.returns-clause-made
 unfolding fields_of
-returns-clause-asked c =
+returns-clause-made c =
     let i1 = inside_more c.takes.ensures.begins c.requires.inside in
     let k2 = c.spells.ensures.begins in
     let i2 = inside_more k2 i1 in
-    let both = asked_two (λ w x y. x && y) c.and.ensures.begins i2 (asked_more k2 i1 c.in_ok-running.ensures.asked) (asked_gate c.in_ok-clear.ensures.made) c.in_ok-goes_on.ensures.made in
+    let both = asked_two (λ w x y. x && y) c.and.ensures.begins i2 (asked_more k2 i1 c.in_ok-running.ensures.made) (asked_gate c.in_ok-clear.ensures.made) c.in_ok-goes_on.ensures.made in
     asked_as (asked_one (λ w x. not x) c.not.ensures.begins (inside_more c.and.ensures.begins i2) both c.in_ok-g.ensures.made)
     (λ w α cv. ap (λ z. not (z && (fields_of w).f.stops == 0)) (code_is (cv names.f_stat) 1 (omega arith)) ∙ not_both (code_of (cv names.f_stat) == 1) ((fields_of w).f.stops == 0))

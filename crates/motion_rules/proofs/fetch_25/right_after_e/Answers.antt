@@ -5,21 +5,19 @@ use Rattle.dp_signals.specs.PipeNames as names
 use Rattle.ctl_formula.proofs.Inside.{inside_more}
 use Rattle.pipe_fields.specs.Layout.{fields_of}
 use Rattle.rule_gates.specs.Words as words
-use Rattle.rule_gates.proofs.Kept.{asked_two, asked_more, asked_as}
-use Rattle.pipe_obligations.specs.Stages.{is_jump}
-use Rattle.pipe_gates.proofs.Choices.{asked_there}
+use Rattle.rule_gates.proofs.Kept.{asked_two, asked_more, asked_as, asked_gate}
 use Rattle.motion_rules.proofs.Codes.{choose_other}
 use Rattle.motion_rules.proofs.fetch_25.right_after_e.Goals as goal
 
-pub returns-clause-asked : goal.returns-clause-asked
+pub returns-clause-made : goal.returns-clause-made
 unfolding fields_of
-returns-clause-asked c =
-    let k1 = c.jump.ensures.grows.begins in
+returns-clause-made c =
+    let k1 = c.jump.ensures.begins in
     let i1 = inside_more k1 c.requires.inside in
     let k2 = c.spells.ensures.begins in
     let i2 = inside_more k2 i1 in
     let k3 = c.takes_if.ensures.begins in
-    let here = asked_more (begins_more k2 k3) i1 (asked_there (λ w. is_jump c.args.v (fields_of w).e.stat (fields_of w).e.icode) c.in_ok-here.ensures.within c.in_ok-here.ensures.truth) in
-    let taken = asked_as c.in_ok-taken.ensures.asked (λ w α cv. ap (words.takes cv names.f_pc)
+    let here = asked_more (begins_more k2 k3) i1 (asked_gate c.in_ok-here.ensures.made) in
+    let taken = asked_as c.in_ok-taken.ensures.made (λ w α cv. ap (words.takes cv names.f_pc)
     (ap (λ z. if z then Name names.E_valA else Name names.E_valC) (c.in_ok-falls.ensures.made.is w) ∙ choose_other ((fields_of w).e.cnd == 0) (Name names.E_valA) (Name names.E_valC))) in
     asked_two (λ w x y. x && y) c.and.ensures.begins (inside_more k3 i2) here taken c.in_ok-g.ensures.made

@@ -1,11 +1,10 @@
 use Rattle.std.proofs.Common.{◌&&◌, ◌||◌, ◌∙◌, if◌then◌else◌, ap}
-use Rattle.nets.proofs.Truths.{begins_more, truth_kept, gate_kept}
+use Rattle.nets.proofs.Truths.{begins_more, gate_kept}
 use Rattle.ctl_atoms.specs.declared.leaf.Leaf.TheVariants.{Name}
 use Rattle.dp_signals.specs.PipeNames as names
 use Rattle.ctl_formula.proofs.Inside.{inside_more}
-use Rattle.field_bits.specs.Spelling.{set}
+use Rattle.y86_base.specs.Words.{set}
 use Rattle.pipe_fields.specs.Layout.{fields_of}
-use Rattle.pipe_motion.proofs.Growing.{grown}
 use Rattle.pipe_motion.proofs.Kept.{view_kept}
 use Rattle.rule_gates.specs.Words as words
 use Rattle.rule_gates.proofs.Kept.{asked_more, asked_as, tells_less}
@@ -13,8 +12,8 @@ use Rattle.pipe_obligations.specs.Stages.{is_jump}
 use Rattle.motion_rules.proofs.Codes.{youngest_by}
 use Rattle.motion_rules.proofs.fetch_25.right_pc.Goals as goal
 
-pub returns-clause-asked : goal.returns-clause-asked
-returns-clause-asked c =
+pub returns-clause-made : goal.returns-clause-made
+returns-clause-made c =
     let i0 = c.requires.inside in
     let k1 = c.constant.ensures.begins in
     let i1 = inside_more k1 i0 in
@@ -24,19 +23,19 @@ returns-clause-asked c =
     let i3 = inside_more k3 i2 in
     let k4 = c.goes_to.ensures.begins in
     let i4 = inside_more k4 i3 in
-    let k5 = c.of_youngest.ensures.grows.begins in
+    let k5 = c.of_youngest.ensures.begins in
     let to2 = begins_more k1 k2 in
     let to3 = begins_more to2 k3 in
     let never = gate_kept (begins_more k2 (begins_more k3 k4)) c.in_ok-never.ensures.made in
-    let e = asked_more (begins_more k3 k4) i2 c.in_ok-e.ensures.asked in
-    let m = asked_more k4 i3 (asked_as c.in_ok-m.ensures.asked (λ w α cv.
+    let e = asked_more (begins_more k3 k4) i2 c.in_ok-e.ensures.made in
+    let m = asked_more k4 i3 (asked_as c.in_ok-m.ensures.made (λ w α cv.
     ap (λ z. (is_jump c.args.v (fields_of w).m.stat (fields_of w).m.icode
     && (if set (fields_of w).m.cnd then c.args.s.now.tv && words.takes cv names.f_pc (Name names.M_valE) else words.takes cv names.f_pc (Name names.M_valA)))
-    || (z && words.takes cv names.f_pc (Name names.m_valM))) (truth_kept to2 c.args.y.now.m.ret w c.requires.view.m.ret))) in
-    let last = asked_as c.in_ok-w.ensures.asked (λ w α cv. ap (λ z. z && words.takes cv names.f_pc (Name names.W_valM)) (truth_kept to3 c.args.y.now.w.ret w c.requires.view.w.ret)) in
+    || (z && words.takes cv names.f_pc (Name names.m_valM))) (to2.same c.args.y.now.m.ret w c.requires.view.m.ret))) in
+    let last = asked_as c.in_ok-w.ensures.made (λ w α cv. ap (λ z. z && words.takes cv names.f_pc (Name names.W_valM)) (to3.same c.args.y.now.w.ret w c.requires.view.w.ret)) in
     record {
-      within = c.in_ok-g.ensures.within;
+      within = c.in_ok-g.ensures.made.within;
       is = λ w α cv t.
           let u = tells_less k5 i4 t in
-          c.in_ok-g.ensures.truth w ∙ youngest_by _ _ _ _ _ _ _ _ _ _ (view_kept (grown (begins_more to3 k4)) c.args.y.now w c.requires.view) (never.is w) (e.is w α cv u) (m.is w α cv u) (last.is w α cv u);
+          c.in_ok-g.ensures.made.is w ∙ youngest_by _ _ _ _ _ _ _ _ _ _ (view_kept (begins_more to3 k4) c.args.y.now w c.requires.view) (never.is w) (e.is w α cv u) (m.is w α cv u) (last.is w α cv u);
     }

@@ -12,7 +12,10 @@ by_parts true false false z = refl
 by_parts true false true true = refl
 by_parts true false true false = refl
 
-pub returns-clause-truth : goal.returns-clause-truth
-returns-clause-truth c = λ w. c.in_ok-g.ensures.truth w ∙ (ap not (c.in_ok-bad.ensures.truth w)
-    ∙ by_parts ((view_at c.args.b.now w c.args.y.now).e.good && ((view_at c.args.b.now w c.args.y.now).m.good && not ((fields_of w).m.dst_m == 15)))
-    ((fields_of w).m.dst_m == (fields_of w).e.src_b) ((fields_of w).m.dst_m == (fields_of w).e.src_a) (c.args.lf && stores_a (row c.args.v (fields_of w).e.icode).memory))
+pub returns-clause-made : goal.returns-clause-made
+returns-clause-made c = record {
+  within = c.in_ok-g.ensures.made.within;
+  is = λ w. c.in_ok-g.ensures.made.is w ∙ (ap not (c.in_ok-bad.ensures.made.is w)
+      ∙ by_parts ((view_at c.args.b.now w c.args.y.now).e.good && ((view_at c.args.b.now w c.args.y.now).m.good && not ((fields_of w).m.dst_m == 15)))
+      ((fields_of w).m.dst_m == (fields_of w).e.src_b) ((fields_of w).m.dst_m == (fields_of w).e.src_a) (c.args.lf && stores_a (row c.args.v (fields_of w).e.icode).memory));
+}

@@ -5,10 +5,10 @@ use Rattle.pipe_motion.specs.Slots.{leaves}
 use Rattle.rule_gates.proofs.Kept.{tells_less}
 use Rattle.pipe_gates.proofs.movers.none_leaves.Goals as goal
 
-pub returns-clause-asked : goal.returns-clause-asked
-returns-clause-asked c = record {
+pub returns-clause-made : goal.returns-clause-made
+returns-clause-made c = record {
   within = c.in_ok-g.ensures.made.within;
   is = λ w α cv t.
-      c.in_ok-g.ensures.made.is w ∙ ap not (c.in_ok-goes.ensures.truth w
-      ∙ ap (λ k. leaves k (view_at c.args.b.now w c.args.y.now)) (c.movers_of-movers.ensures.told c.args.b.now w α cv (tells_less (begins_more c.leaves_gate.ensures.grows.begins c.not.ensures.begins) c.requires.inside t)));
+      c.in_ok-g.ensures.made.is w ∙ ap not (c.in_ok-goes.ensures.made.is w
+      ∙ ap (λ k. leaves k (view_at c.args.b.now w c.args.y.now)) (c.movers_of-movers.ensures.told c.args.b.now w α cv (tells_less (begins_more c.leaves_gate.ensures.begins c.not.ensures.begins) c.requires.inside t)));
 }

@@ -1,21 +1,25 @@
 use Rattle.std.proofs.Common.{◌∙◌}
-use Rattle.pipe_motion.proofs.Growing.{grows_more}
+use Rattle.nets.proofs.Truths.{begins_more}
 use Rattle.pipe_motion.proofs.Kept.{view_kept, movers_kept, kept_by}
 use Rattle.pipe_motion.proofs.obligations.next_right.Goals as goal
 
-pub returns-clause-truth : goal.returns-clause-truth
-returns-clause-truth c = λ w.
-    let to_3 = grows_more _ _ _ c.lawful_gate.ensures.grows (grows_more _ _ _ c.or.ensures.grows c.not.ensures.grows) in
-    let to_4 = grows_more _ _ _ to_3 c.path_gate.ensures.grows in
-    let to_5 = grows_more _ _ _ to_4 c.path_gate-2.ensures.grows in
-    let past_none = grows_more _ _ _ c.path_gate.ensures.grows (grows_more _ _ _ c.path_gate-2.ensures.grows c.path_kept.ensures.grows) in
-    let past_laws = grows_more _ _ _ c.or.ensures.grows (grows_more _ _ _ c.not.ensures.grows (grows_more _ _ _ past_none c.and.ensures.grows)) in
-    let wrong_m = c.lawful_gate.ensures.grows.same _ w c.requires.next_in.m.wrong in
-    let wrong_w = c.lawful_gate.ensures.grows.same _ w c.requires.next_in.w.wrong in
-    let none = rw (c.in_ok-wrong.ensures.truth w, wrong_m, wrong_w) at (c.in_ok-none_wrong.ensures.truth w) in
-    let now = rw (view_kept to_3 c.args.v.now w c.requires.view_in) at (c.in_ok-now.ensures.truth w) in
-    let later = rw (view_kept to_4 c.args.next.now w c.requires.next_in) at (c.in_ok-later.ensures.truth w) in
-    let kept = c.in_ok-kept.ensures.truth w ∙ kept_by _ _ _ _ _ _ _ _ (movers_kept to_5 c.args.k.now w c.requires.movers_in) (to_5.same _ w c.requires.good_in)
-    (c.path_gate-2.ensures.grows.same _ w c.in_ok-now.ensures.within ∙ now) later in
-    rw (past_laws.same _ w c.in_ok-lawful.ensures.within, c.in_ok-lawful.ensures.truth w, c.in_ok-last_two.ensures.truth w, past_none.same _ w c.in_ok-none_wrong.ensures.within, none, kept)
-    at (c.in_ok-all.ensures.truth w)
+pub returns-clause-made : goal.returns-clause-made
+returns-clause-made c =
+    let to_3 = begins_more c.lawful_gate.ensures.begins (begins_more c.or.ensures.begins c.not.ensures.begins) in
+    let to_4 = begins_more to_3 c.path_gate.ensures.begins in
+    let to_5 = begins_more to_4 c.path_gate-2.ensures.begins in
+    let past_none = begins_more c.path_gate.ensures.begins (begins_more c.path_gate-2.ensures.begins c.path_kept.ensures.begins) in
+    let past_laws = begins_more c.or.ensures.begins (begins_more c.not.ensures.begins (begins_more past_none c.and.ensures.begins)) in
+    record {
+      within = c.in_ok-all.ensures.made.within;
+      is = λ w.
+          let wrong_m = c.lawful_gate.ensures.begins.same _ w c.requires.next_in.m.wrong in
+          let wrong_w = c.lawful_gate.ensures.begins.same _ w c.requires.next_in.w.wrong in
+          let none = rw (c.in_ok-wrong.ensures.made.is w, wrong_m, wrong_w) at (c.in_ok-none_wrong.ensures.made.is w) in
+          let now = rw (view_kept to_3 c.args.v.now w c.requires.view_in) at (c.in_ok-now.ensures.made.is w) in
+          let later = rw (view_kept to_4 c.args.next.now w c.requires.next_in) at (c.in_ok-later.ensures.made.is w) in
+          let kept = c.in_ok-kept.ensures.made.is w ∙ kept_by _ _ _ _ _ _ _ _ (movers_kept to_5 c.args.k.now w c.requires.movers_in) (to_5.same _ w c.requires.good_in)
+          (c.path_gate-2.ensures.begins.same _ w c.in_ok-now.ensures.made.within ∙ now) later in
+          rw (past_laws.same _ w c.in_ok-lawful.ensures.made.within, c.in_ok-lawful.ensures.made.is w, c.in_ok-last_two.ensures.made.is w, past_none.same _ w c.in_ok-none_wrong.ensures.made.within, none, kept)
+          at (c.in_ok-all.ensures.made.is w);
+    }

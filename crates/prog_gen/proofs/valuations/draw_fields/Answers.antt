@@ -1,9 +1,9 @@
-use Rattle.std.proofs.Common.{◌≡◌, ◌∙◌, ◌<◌, ◌≤◌, ◌+◌, ◌-◌, ◌^◌, ◌++◌, [], ℕ, List, Bool, sym, ap, arith, length, get_or, take, drop, set, None, refl, Fits, w32}
-use Rattle.std.proofs.lemmas.List.{take-append-drop, take_all}
+use Rattle.std.proofs.Common.{◌≡◌, ◌∙◌, ◌<◌, ◌≤◌, ◌+◌, ◌-◌, ◌++◌, [], ℕ, List, Bool, sym, ap, arith, length, get_or, take, drop, None}
+use Rattle.std.proofs.lemmas.List.{take-append-drop}
 use Rattle.field_bits.specs.Spots.{total, pattern}
 use Rattle.field_bits.specs.declared.spots.Spot.{Spot}
 use Rattle.pipe_fields.specs.Layout.{spots, bit_count, field_count}
-use Rattle.prog_gen.specs.Choices.{width, numbers_drawn, word_behind, with_field, chosen, choices}
+use Rattle.prog_gen.specs.Choices.{width, numbers_drawn, chosen, choices}
 use Rattle.prog_gen.proofs.Fields.{width_small, total_more, total_within, number_more, word_more, bits_more, field_behind, all_numbers, all_words}
 use Rattle.prog_gen.proofs.valuations.draw_fields.Goals as goal
 

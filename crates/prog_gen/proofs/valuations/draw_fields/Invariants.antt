@@ -1,4 +1,4 @@
-use Rattle.std.proofs.Common.{◌≡◌, ◌≤◌, ◌-◌, ◌+◌, length, take, drop, []}
+use Rattle.std.proofs.Common.{◌≡◌, ◌-◌, take, drop, []}
 use Rattle.field_bits.specs.Spots.{pattern, total}
 use Rattle.pipe_fields.specs.Layout.{spots, bit_count, field_count}
 use Rattle.prog_gen.specs.Choices.{numbers_drawn, word_behind}

@@ -1,4 +1,4 @@
-use Rattle.std.proofs.Common.{◌≡◌, ◌∙◌, ◌%◌, ◌==◌, sym, ap, arith, length}
+use Rattle.std.proofs.Common.{◌∙◌, ◌%◌, ◌==◌, sym, ap, arith, length}
 use Rattle.prog_gen.proofs.Fields.{truth_more, truths_end}
 use Rattle.prog_gen.proofs.valuations.draw_truths.Goals as goal
 

@@ -1,4 +1,4 @@
-use Rattle.std.proofs.Common.{◌≡◌, ◌≤◌, ◌-◌, ◌+◌, length, take, ◌++◌}
+use Rattle.std.proofs.Common.{◌≡◌, ◌-◌, ◌+◌, length, take, ◌++◌}
 use Rattle.prog_gen.specs.Choices.{truths_drawn}
 use Rattle.prog_gen.proofs.valuations.draw_truths.Given as goal
 

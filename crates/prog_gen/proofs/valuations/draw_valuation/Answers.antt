@@ -1,4 +1,4 @@
-use Rattle.std.proofs.Common.{◌≡◌, ◌-◌, ℕ, ◌∙◌, ◌++◌, [], List, Bool, ap, arith, length, take, drop}
+use Rattle.std.proofs.Common.{◌≡◌, ◌-◌, ℕ, ◌∙◌, ◌++◌, [], ap, length, take, drop}
 use Rattle.field_bits.specs.Spots.{pattern}
 use Rattle.pipe_fields.specs.Layout.{spots, bit_count, field_count}
 use Rattle.prog_gen.specs.Choices.{word_behind, truths_drawn, numbers_drawn}

@@ -1,4 +1,4 @@
-use Rattle.std.proofs.Common.{◌≡◌, ℕ, ◌+◌, ◌-◌, ◌∙◌, sym, ap, arith, refl}
+use Rattle.std.proofs.Common.{◌≡◌, ℕ, ◌+◌, ◌-◌, ◌∙◌, sym, ap, arith}
 use Rattle.prog_gen.specs.Choices.{with_field}
 use Rattle.prog_gen.proofs.Fields.{field_step, field_none}
 use Rattle.prog_gen.proofs.valuations.put_bits.Goals as goal

@@ -19,5 +19,5 @@ loop-k-preserved g c =
           (sym c.is_going.ensures ∙ c.if-not-is_going.false) c.in-Ok.ensures.traced);
       few = omega arith;
       fewer = omega (arith, small, c.count-retired.ensures);
-      no_fault = c.in-Ok.ensures.no_fault_at_ok ∙ c.loop-k.invariant.no_fault;
+      no_fault = c.in-Ok.ensures.counts.no_fault_at_ok ∙ c.loop-k.invariant.no_fault;
     }

@@ -7,5 +7,5 @@ use Rattle.rule_gates.specs.Asked.{wanted}
 use Rattle.rule_gates.proofs.Kept.{asked_picks}
 use Rattle.rule_gates.proofs.asked.takes.Goals as goal
 
-pub returns-clause-asked : goal.returns-clause-asked
-returns-clause-asked c = asked_picks c.args.want c.one_taken.ensures.begins c.requires.inside c.requires.known c.picks.ensures c.in_ok-g.ensures.made
+pub returns-clause-made : goal.returns-clause-made
+returns-clause-made c = asked_picks c.args.want c.one_taken.ensures.begins c.requires.inside c.requires.known c.picks.ensures c.in_ok-g.ensures.made

@@ -21,7 +21,7 @@ loop-code-preserved g c =
     let i = inside_more c.loop-code.invariant.begins c.requires.inside in
     let j = inside_more c.at_row.ensures.begins i in
     let m = inside_more c.here.ensures.begins j in
-    let asked = subst (λ r. IsAsked c.at_row.new.b c.args.ctl.now c.in_ok-asked.asked (g.R.ByRow.asks c.args.rule.now c.loop-code.code r)) c.row.ensures.row c.in_ok-asked.ensures.asked in
+    let asked = subst (λ r. IsAsked c.at_row.new.b c.args.ctl.now c.in_ok-asked.asked (g.R.ByRow.asks c.args.rule.now c.loop-code.code r)) c.row.ensures.row c.in_ok-asked.ensures.made in
     let each = asked_one (λ w x. not (spelt w c.args.icode.first c.args.icode.bits == c.loop-code.code) || x) c.here.ensures.begins j asked c.in_ok-each.ensures.made in
     let before = asked_more (begins_more c.at_row.ensures.begins c.here.ensures.begins) i c.loop-code.invariant.are in
     record {
@@ -30,8 +30,8 @@ loop-code-preserved g c =
           (λ w α cv. sym (each_next c.loop-code.code (λ k. not (spelt w c.args.icode.first c.args.icode.bits == k) || g.R.ByRow.asks c.args.rule.now k (row c.args.v k) w α cv)));
     }
 
-pub returns-clause-asked : goal.returns-clause-asked
-returns-clause-asked g c =
+pub returns-clause-made : goal.returns-clause-made
+returns-clause-made g c =
     let e : c.loop-code.code ≡ 16 = omega arith in
     asked_as c.loop-code.invariant.are
     (λ w α cv. ap (λ n. where_below n (spelt w c.args.icode.first c.args.icode.bits) (λ k. g.R.ByRow.asks c.args.rule.now k (row c.args.v k) w α cv)) e

@@ -1,10 +1,11 @@
-use Rattle.std.proofs.Common.{◌≡◌, ℕ, ◌+◌, Bool, ◌||◌, not, List, refl}
+use Rattle.std.proofs.Common.{ℕ, Bool, ◌||◌, not, List, refl}
 use Rattle.nets.proofs.Truths.{begins_more}
 use Rattle.ctl_atoms.specs.declared.leaf.Leaf.{Leaf}
 use Rattle.ctl_atoms.specs.Leaves.{Assignment}
 use Rattle.ctl_formula.proofs.Inside.{inside_more}
 use Rattle.rule_gates.proofs.Kept.{asked_more}
-use Rattle.seq_obligations.proofs.Listed.{rules_more, counted, rules_pushed}
+use Rattle.rule_gates.proofs.Lists.{counted}
+use Rattle.seq_obligations.proofs.Listed.{rules_more, rules_pushed}
 use Rattle.seq_obligations.proofs.numbered.numbered_rules.Goals as goal
 
 pub rule_told-requires-clause-inside : goal.rule_told-requires-clause-inside
@@ -19,5 +20,5 @@ loop-i-preserved g c =
       begins = begins_more c.loop-i.invariant.begins grown;
       fits = asked_more grown i c.loop-i.invariant.fits;
       count = counted _ _ _ _ c.in-Ok.ensures.items c.loop-i.invariant.count;
-      rules = rules_pushed f _ _ _ _ c.in-Ok.ensures.items c.loop-i.invariant.count (rules_more f _ grown i c.loop-i.invariant.rules) (record { number = refl; asked = c.in_ok-gate.ensures.asked });
+      rules = rules_pushed f _ _ _ _ c.in-Ok.ensures.items c.loop-i.invariant.count (rules_more f _ grown i c.loop-i.invariant.rules) (record { number = refl; asked = c.in_ok-gate.ensures.made });
     }

@@ -43,3 +43,8 @@ returns-clause-rules c =
     (told_rules c.args.variant c.args.design.now.terms c.in-Ok.table.rows c.places.result.now c.in_ok-ctl.ctl c.in_ok-listed.listed.items c.in-Ok-numbered_rules.list.items c.new-b.result.vars
     c.in-Ok.ensures c.places.ensures c.in_ok-listed.ensures size c.translate.ensures.begins.vars c.in_ok-ctl.ensures.inside c.in_ok-ctl.ensures.tells
     c.numbered_rules.ensures.begins c.in-Ok-numbered_rules.ensures.count c.in-Ok-numbered_rules.ensures.rules))
+
+pub returns-clause-atoms : goal.returns-clause-atoms
+returns-clause-atoms c =
+    subst (AreAtoms plus_rows c.args.design.now.terms) (sym c.of-2.ensures)
+    (subst (λ rows. AreAtoms rows c.args.design.now.terms c.in_ok-listed.listed.items) c.in-Ok.ensures c.in_ok-listed.ensures)

@@ -7,10 +7,10 @@ use Rattle.rule_gates.specs.Words.{takes}
 use Rattle.y86_isa.specs.Table.{row, no_register}
 use Rattle.stage_rules.proofs.execute_12_to_17.late_destination_is.Goals as goal
 
-pub returns-clause-asked : goal.returns-clause-asked
+pub returns-clause-made : goal.returns-clause-made
 unfolding fields_of
-returns-clause-asked c =
-    asked_as c.in_ok-g.ensures.asked
+returns-clause-made c =
+    asked_as c.in_ok-g.ensures.made
     (λ w α cv.
     let n = (fields_of w).e in
     ap (λ l. takes cv c.args.name l)

@@ -7,8 +7,8 @@ use Rattle.dp_signals.specs.PipeNames.{set_cc}
 use Rattle.y86_isa.specs.Table.{row}
 use Rattle.stage_rules.proofs.execute_12_to_17.obligation_15.Goals as goal
 
-pub returns-clause-asked : goal.returns-clause-asked
+pub returns-clause-made : goal.returns-clause-made
 unfolding fields_of
-returns-clause-asked c =
-    asked_as c.in_ok-g.ensures.asked
+returns-clause-made c =
+    asked_as c.in_ok-g.ensures.made
     (λ w α cv. ap (λ x. agree (x && (row c.args.v (fields_of w).e.icode).sets_flags) (leaf_holds α (cv set_cc))) (c.in_ok-works.ensures.made.is w))

@@ -1,5 +1,5 @@
 use Rattle.std.proofs.Common.{◌≡◌, not, Bool, true, false, if◌then◌else◌, refl, ◌∙◌}
-use Rattle.nets.proofs.Truths.{truth_kept, begins_more}
+use Rattle.nets.proofs.Truths.{begins_more}
 use Rattle.pipe_fields.specs.Layout.{fields_of}
 use Rattle.stage_rules.proofs.front_1_to_9.predicted.Goals as goal
 
@@ -15,7 +15,7 @@ unfolding fields_of
 returns-clause-made c = record {
   within = c.in_ok-g.ensures.made.within;
   is = λ w.
-      let forward = truth_kept (begins_more c.listed-2.ensures.grows.begins c.spells.ensures.begins) _ w c.in_ok-forward.ensures.within ∙ c.in_ok-forward.ensures.truth w in
-      let backward = truth_kept c.spells.ensures.begins _ w c.in_ok-backward.ensures.within ∙ c.in_ok-backward.ensures.truth w in
+      let forward = (begins_more c.listed-2.ensures.begins c.spells.ensures.begins).same _ w c.in_ok-forward.ensures.made.within ∙ c.in_ok-forward.ensures.made.is w in
+      let backward = c.spells.ensures.begins.same _ w c.in_ok-backward.ensures.made.within ∙ c.in_ok-backward.ensures.made.is w in
       chosen _ _ _ _ _ _ _ (c.in_ok-ahead.ensures.made.is w) forward backward (c.in_ok-g.ensures.made.is w);
 }

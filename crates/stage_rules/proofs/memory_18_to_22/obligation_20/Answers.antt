@@ -4,14 +4,14 @@ use Rattle.stage_rules.proofs.Joined.{number_if}
 use Rattle.pipe_fields.specs.Layout.{fields_of}
 use Rattle.ctl_atoms.specs.declared.leaf.Leaf.TheVariants.{Number}
 use Rattle.dp_signals.specs.PipeNames.{m_stat}
-use Rattle.field_bits.specs.Spelling.{set}
+use Rattle.y86_base.specs.Words.{set}
 use Rattle.rule_gates.specs.Words.{takes}
 use Rattle.stage_rules.proofs.memory_18_to_22.obligation_20.Goals as goal
 
-pub returns-clause-asked : goal.returns-clause-asked
+pub returns-clause-made : goal.returns-clause-made
 unfolding fields_of
-returns-clause-asked c =
-    asked_as c.in_ok-g.ensures.asked
+returns-clause-made c =
+    asked_as c.in_ok-g.ensures.made
     (λ w α cv.
     let n = (fields_of w).m in
     ap (λ l. takes cv m_stat l)

@@ -1,15 +1,14 @@
-use Rattle.std.proofs.Common.{◌&&◌, refl, if◌then◌else◌}
-use Rattle.nets.specs.Nets.{truth}
-use Rattle.nets.proofs.Truths.{begins_more}
+use Rattle.std.proofs.Common.{◌&&◌, if◌then◌else◌}
+use Rattle.nets.proofs.Truths.{begins_more, gate_there}
 use Rattle.ctl_formula.proofs.Inside.{inside_more}
 use Rattle.pipe_fields.specs.Layout.{fields_of}
-use Rattle.rule_gates.proofs.Kept.{asked_two, asked_more}
-use Rattle.pipe_gates.proofs.Choices.{asked_there, asked_three}
+use Rattle.rule_gates.proofs.Kept.{asked_two, asked_more, asked_gate}
+use Rattle.pipe_gates.proofs.Choices.{asked_three}
 use Rattle.stage_rules.proofs.sources_10_11.takes_ready.Goals as goal
 
-pub returns-clause-asked : goal.returns-clause-asked
+pub returns-clause-made : goal.returns-clause-made
 unfolding fields_of
-returns-clause-asked c = λ view same.
+returns-clause-made c =
     let i0 = c.requires.inside in
     let k1 = c.takes_value.ensures.begins in
     let i1 = inside_more k1 i0 in
@@ -18,8 +17,8 @@ returns-clause-asked c = λ view same.
     let k3 = c.and.ensures.begins in
     let i3 = inside_more k3 i2 in
     let up = begins_more k1 k2 in
-    let good = asked_more up i0 (asked_there (λ w. (view w).e.good) c.requires.good_in same) in
-    let loaded = asked_two (λ w x y. x && y) k3 i2 good c.in_ok-loads.ensures.asked c.in_ok-loaded.ensures.made in
-    let free = asked_more (begins_more up k3) i0 (asked_there (λ w. truth c.args.b.now c.args.free w) c.requires.free_in (λ w. refl)) in
-    let right = asked_more (begins_more k2 k3) i1 (c.in_ok-right.ensures.asked view same) in
+    let good = asked_more up i0 (asked_gate (gate_there c.requires.view.e.good)) in
+    let loaded = asked_two (λ w x y. x && y) k3 i2 good c.in_ok-loads.ensures.made c.in_ok-loaded.ensures.made in
+    let free = asked_more (begins_more up k3) i0 (asked_gate (gate_there c.requires.free_in)) in
+    let right = asked_more (begins_more k2 k3) i1 c.in_ok-right.ensures.made in
     asked_three (λ x y z. if x then y else z) c.choose.ensures.begins i3 loaded free right c.in_ok-g.ensures.made

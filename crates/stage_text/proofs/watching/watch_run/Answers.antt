@@ -6,8 +6,5 @@ use Rattle.stage_text.proofs.watching.watch_run.Goals as goal
 pub returns : goal.returns
 returns g c =
     IfOk-weaker c.watch_listed.result _ _
-    (λ w h. (h.0, h.1, h.2, h.3 ∙ same_whole _ _ c.in-Ok-listing_of.ensures _ _ _, h.4))
+    (λ w h. (h.0, h.1, h.2, h.3 ∙ same_whole _ _ _ c.in-Ok.ensures _ _, h.4))
     c.watch_listed.ensures
-
-pub watch_listed-requires-clause-table : goal.watch_listed-requires-clause-table
-watch_listed-requires-clause-table g c = c.items.ensures ∙ c.in-Ok.ensures

@@ -11,5 +11,5 @@ returns-in-Err-clause-puts g c = part_each _ _ _ c.loop-n.n _ _ (omega arith) c.
 pub loop-n-preserved : goal.loop-n-preserved
 loop-n-preserved g c = record {
   taken = took_each _ _ _ _ _ c.loop-n.invariant.taken c.in-Ok.ensures.puts;
-  no_fault = c.in-Ok.ensures.no_fault_at_ok ∙ c.loop-n.invariant.no_fault;
+  no_fault = c.in-Ok.ensures.counts.no_fault_at_ok ∙ c.loop-n.invariant.no_fault;
 }

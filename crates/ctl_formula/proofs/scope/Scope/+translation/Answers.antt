@@ -16,7 +16,7 @@ use Rattle.ctl_atoms.specs.declared.leaf.Leaf.TheVariants.{Number}
 use Rattle.hcl_types.specs.Lists.{each, some}
 use Rattle.hcl_types.specs.Terms.{picked, value, branch_value}
 use Rattle.hcl_types.proofs.Values.{value_Num, value_Name, value_Not, value_And, value_Or, value_Cmp, value_In, value_Case}
-use Rattle.nets.proofs.Truths.{truth_kept, begins_more}
+use Rattle.nets.proofs.Truths.{begins_more}
 use Rattle.ctl_formula.proofs.Opened.{open_kept, shows_kept}
 use Rattle.ctl_formula.proofs.Chosen.{picked_kept, taken_kept}
 use Rattle.ctl_formula.proofs.Steps.{and_more, or_more, and_same, or_same}
@@ -154,7 +154,7 @@ all_of-loop-t-preserved t c =
       planned = (both _ _ (item_has (λ (ts : List Term). IsTrue (truths (map (ready c.args.self.now.entries.now c.args.self.now.atoms.now) ts))) all i x inside read c.loop-t.invariant.planned)).1;
       is = λ w α cv s.
           and_more _ (truth c.loop-t.b c.loop-t.g w) (leaf_holds α (value (picks α) cv x)) _ _ _
-          (c.in_ok-g-2.ensures.made.is w ∙ and_same _ _ _ _ (truth_kept c.in_ok-x.ensures.begins c.loop-t.g w c.loop-t.invariant.within)
+          (c.in_ok-g-2.ensures.made.is w ∙ and_same _ _ _ _ (c.in_ok-x.ensures.begins.same c.loop-t.g w c.loop-t.invariant.within)
           (c.in_ok-x.ensures.is w α cv (shows_kept begins c.requires.open s)))
           (item_is (λ (ts : List Term). each (leaf_holds α) (map (value (picks α) cv) ts)) all i x inside read)
           (c.loop-t.invariant.is w α cv s);
@@ -176,7 +176,7 @@ any_of-loop-t-preserved t c =
       planned = (both _ _ (item_has (λ (ts : List Term). IsTrue (truths (map (ready c.args.self.now.entries.now c.args.self.now.atoms.now) ts))) all i x inside read c.loop-t.invariant.planned)).1;
       is = λ w α cv s.
           or_more _ (truth c.loop-t.b c.loop-t.g w) (leaf_holds α (value (picks α) cv x)) _ _ _
-          (c.in_ok-g-2.ensures.made.is w ∙ or_same _ _ _ _ (truth_kept c.in_ok-x.ensures.begins c.loop-t.g w c.loop-t.invariant.within)
+          (c.in_ok-g-2.ensures.made.is w ∙ or_same _ _ _ _ (c.in_ok-x.ensures.begins.same c.loop-t.g w c.loop-t.invariant.within)
           (c.in_ok-x.ensures.is w α cv (shows_kept begins c.requires.open s)))
           (item_is (λ (ts : List Term). some (leaf_holds α) (map (value (picks α) cv) ts)) all i x inside read)
           (c.loop-t.invariant.is w α cv s);
@@ -211,7 +211,7 @@ member_of-loop-t-preserved t c =
       is = λ w α cv z s p.
           let v = value (picks α) cv in
           or_more _ (truth c.loop-t.b c.loop-t.g w) (leaf_cmp α Eq z (v x)) _ _ _
-          (c.in_ok-g-2.ensures.made.is w ∙ or_same _ _ _ _ (truth_kept upto c.loop-t.g w c.loop-t.invariant.within)
+          (c.in_ok-g-2.ensures.made.is w ∙ or_same _ _ _ _ (upto.same c.loop-t.g w c.loop-t.invariant.within)
           (c.in_ok-here.ensures.is w α z (v x) s.atoms
           (picked_kept (begins_more begins c.in_ok-qs.ensures.begins) w c.args.ps.now c.requires.within z p)
           (subst (λ (ps : List Pick). Picked (at c.word.new.b w) ps (v x)) (sym c.as_slice.ensures.value) (c.in_ok-qs.ensures.is w α cv (shows_kept begins c.requires.open s)))))
@@ -243,7 +243,7 @@ branch_of-returns-clause-shut t c = λ w α cv s h.
     let first = c.in_ok-guard.ensures in
     let upto = begins_more c.in_ok-ps.ensures.begins (begins_more c.in_ok-here.ensures.begins c.in_ok-add_all.ensures.begins) in
     c.in_ok-g.ensures.made.is w
-    ∙ (and_same _ _ _ _ refl (c.in_ok-past.ensures.made.is w ∙ ap not (truth_kept upto c.in_ok-guard.guard w first.within ∙ first.is w α cv s))
+    ∙ (and_same _ _ _ _ refl (c.in_ok-past.ensures.made.is w ∙ ap not (upto.same c.in_ok-guard.guard w first.within ∙ first.is w α cv s))
     ∙ shut (truth c.not.new.self c.args.free w) (leaf_holds α (value (picks α) cv c.args.branch.now.guard)) h)
 
 pub branch_of-returns-clause-is : goal.branch_of-returns-clause-is
@@ -267,11 +267,11 @@ branch_of-returns-clause-is t c = λ w α cv s r y.
     ∙ (added.is w y
     ∙ or_same _ _ _ _ (taken_kept three w out c.requires.within y)
     (and_same _ _ _ _
-    (here.made.is w ∙ and_same _ _ _ _ (truth_kept two c.args.free w c.requires.gate) (truth_kept second.begins c.in_ok-guard.guard w first.within ∙ guarded))
+    (here.made.is w ∙ and_same _ _ _ _ (two.same c.args.free w c.requires.gate) (second.begins.same c.in_ok-guard.guard w first.within ∙ guarded))
     (ap (λ (ps : List Pick). taken (at c.and.new.self w) ps y) c.as_slice.ensures.value ∙ (taken_kept here.begins w c.in_ok-ps.ps.items second.within y ∙ worth)))))
     (and_same _ _ _ _
-    (last.made.is w ∙ and_same _ _ _ _ (truth_kept five c.args.free w c.requires.gate)
-    (past.made.is w ∙ ap not (truth_kept four c.in_ok-guard.guard w first.within ∙ guarded)))
+    (last.made.is w ∙ and_same _ _ _ _ (five.same c.args.free w c.requires.gate)
+    (past.made.is w ∙ ap not (four.same c.in_ok-guard.guard w first.within ∙ guarded)))
     refl)
     ∙ case_step (taken (at c.args.b.now w) out y) (truth c.args.b.now c.args.free w) (leaf_holds α (v c.args.branch.now.guard)) (v c.args.branch.now.value) r y
 

@@ -1,4 +1,4 @@
-use Rattle.std.proofs.Common.{◌≡◌, false, refl, sym, subst, arith, IfSome}
+use Rattle.std.proofs.Common.{false, refl, sym, subst, arith, IfSome}
 use Rattle.hcl_types.specs.Terms.{at}
 use Rattle.pipe_path.specs.Destinations.{HasDestinations}
 use Rattle.pipe_path.proofs.Destinations.{retired_fits, told_fits}

@@ -1,5 +1,5 @@
-use Rattle.std.proofs.Common.{◌≡◌, ℕ, ◌+◌, ◌-◌, ◌^◌, ◌∙◌, min, sym, ap, arith}
-use Rattle.std.specs.List.{filter, range_with_len}
+use Rattle.std.proofs.Common.{◌≡◌, ℕ, ◌-◌, ◌^◌, ◌∙◌, min, sym, ap, arith}
+use Rattle.std.specs.List.{range_with_len}
 use Rattle.prog_gen.specs.Choices.{chosen}
 use Rattle.prog_gen.proofs.Chosen.{shift_small}
 use Rattle.prog_gen.proofs.Spanned.{spanned, chosen_some, chosen_none, small}

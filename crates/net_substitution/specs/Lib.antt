@@ -1,3 +1,0 @@
-pub mod Substitution
-pub mod Parts
-pub mod Forcing

@@ -1,0 +1,107 @@
+//! Copies of nets with something else in the place of each variable.
+ghost use Rattle.std.specs.Prelude.{◌≡◌, ◌<◌, ℕ, length, IfOk};
+ghost use Rattle.nets.specs.Nets.{Begins, IsGate, ReadsEarlier, gate_value, truths};
+ghost use Rattle.nets.specs.declared.copies.Source.TheVariants.{Var};
+ghost use Rattle.nets.specs.Substitution.{AreCopies, AreSources, behind, source_truth};
+
+use crate::builder::NetBuilder;
+use crate::net::{Gate, Net};
+use std::alloc::Global;
+use y86_base::{Items, Memory};
+
+/// What stands in the place of a variable: a constant, or a variable of the copy by its number.
+#[derive(Clone, Copy, Debug, PartialEq, Eq)]
+pub enum Source {
+    Const(bool),
+    Var(u32),
+}
+
+/// A copy of a net, and for each gate of the net the number of the gate of the copy with its truth.
+#[derive(Drop)]
+pub struct Substituted {
+    pub net: Net,
+    pub gates: Items<u64>,
+}
+
+/// The gate of what stands in the place of a variable.
+fn source_gate(b: &mut NetBuilder, source: Source) -> Result<u64, Memory>
+    requires { (x : ℕ) → source ≡ Var x → x < b.old.vars }
+    ensures begins { Begins b.old b.new }
+    ensures made { IfOk result (λ g. IsGate b.new g (λ u. source_truth u source)) }
+{
+    match source {
+        Source::Const(value) => {
+            let g = b.constant(value)?;
+            Ok(g)
+        }
+        Source::Var(x) => {
+            let g = b.variable(x)?;
+            Ok(g)
+        }
+    }
+}
+
+/// The gate of the copy that stands for a gate, from those for the gates that it reads.
+#[tactic(auto, using(crate::proofs::Gates::read_at, crate::proofs::Gates::variable_made, crate::proofs::Gates::not_made, crate::proofs::Gates::and_made))]
+fn copy_gate(
+    b: &mut NetBuilder,
+    n: &Net,
+    to: &[Source],
+    made: &[u64],
+    gate: Gate,
+) -> Result<u64, Memory>
+    requires sources { AreSources b.old.vars to.now }
+    requires whole { length to.now ≡ n.now.vars }
+    requires copies { AreCopies n.now b.old to.now made.now }
+    requires reads { ReadsEarlier n.now.vars (length made.now) gate }
+    ensures begins { Begins b.old b.new }
+    ensures made { IfOk result (λ g. IsGate b.new g (λ u. gate_value (behind to.now u) (truths n.now (behind to.now u)) gate)) }
+{
+    match gate {
+        Gate::Const(value) => {
+            let g = b.constant(value)?;
+            Ok(g)
+        }
+        Gate::Var(x) => {
+            let source = to[x as usize];
+            let g = source_gate(b, source)?;
+            Ok(g)
+        }
+        Gate::Not(a) => {
+            let arg = made[a as usize];
+            let g = b.not(arg)?;
+            Ok(g)
+        }
+        Gate::And(x, y) => {
+            let left = made[x as usize];
+            let right = made[y as usize];
+            let g = b.and(left, right)?;
+            Ok(g)
+        }
+    }
+}
+
+/// A copy of a net with `vars` variables, in which `to[i]` stands in the place of variable i.
+#[tactic(auto, using(crate::proofs::Gates::copies_none, crate::proofs::Gates::copies_more))]
+pub fn substitute(alloc: Global, n: &Net, vars: u32, to: &[Source]) -> Result<Substituted, Memory>
+    requires sources { AreSources vars to.now }
+    requires whole { length to.now ≡ n.now.vars }
+    ensures vars { IfOk result (λ s. s.net.vars ≡ vars) }
+    ensures size { IfOk result (λ s. length s.gates ≡ length n.now.gates) }
+    ensures copies { IfOk result (λ s. AreCopies n.now s.net to.now s.gates) }
+{
+    let mut b = NetBuilder::new(alloc, vars);
+    let mut made: Vec<u64> = Vec::new(alloc);
+    let mut i = 0;
+    while i < n.len() {
+        let g = copy_gate(&mut b, n, to, made.as_slice(), n.gate(i))?;
+        if made.push(g).is_err() {
+            return Err(Memory);
+        }
+        i += 1;
+    }
+    Ok(Substituted {
+        net: b.finish(),
+        gates: Items::of(made),
+    })
+}

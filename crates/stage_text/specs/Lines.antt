@@ -1,6 +1,0 @@
--- What the code keeps of a line of an object text, against the definitions of object text.
-use Rattle.yo_object.specs.ObjectText.{Digits}
-use Rattle.stage_text.specs.declared.listed.LineDigits.{LineDigits}
-
-abbrev pub digits_in : LineDigits → Digits
-digits_in digits = record { address = digits.address.now; bytes = digits.bytes.now }
