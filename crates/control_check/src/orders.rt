@@ -3,9 +3,10 @@ ghost use Rattle.std.specs.Prelude.{◌≡◌, ◌≤◌, IfOk};
 ghost use Rattle.std.specs.List.{range_with_len};
 ghost use Rattle.std.specs.List.Sorted.{IsPermutation};
 
+use decisions::Orders;
 use pipe_fields::{BIT_COUNT, places};
 use std::alloc::Global;
-use y86_base::Memory;
+use y86_base::{Items, Memory};
 
 /// Whether a variable is a bit of a register number.
 fn is_register(variable: u32) -> bool {
@@ -84,7 +85,7 @@ fn rules_rank(variable: u32) -> u32 {
 }
 
 /// Its rank for a part of the valuations whose diagrams are large: the icode in E first, by which such a part is parted
-/// again (tried out: no other field makes the diagrams of changed files as small).
+/// again (tried out beside the icodes in D and M, on the changed files whose diagrams are the largest).
 fn large_part_rank(variable: u32) -> u32 {
     let icode = places::E_ICODE;
     if icode.first <= variable && variable - icode.first < icode.bits {
@@ -94,20 +95,22 @@ fn large_part_rank(variable: u32) -> u32 {
     }
 }
 
-/// Which formulas are asked.
+/// What an order is for.
 #[derive(Clone, Copy, Debug, PartialEq, Eq)]
-pub enum Formulas {
-    Settings,
+pub enum Use {
+    /// Obligations, of all valuations.
     Rules,
-    /// Settings or obligations in a part of the valuations where their diagrams are large.
-    InLargePart,
+    /// Settings, of all valuations, and either in a part of them.
+    Settings,
+    /// Either in a part of the valuations where the diagrams are large.
+    LargePart,
 }
 
-fn rank(formulas: Formulas, variable: u32) -> u32 {
-    match formulas {
-        Formulas::Settings => settings_rank(variable),
-        Formulas::Rules => rules_rank(variable),
-        Formulas::InLargePart => large_part_rank(variable),
+fn rank(purpose: Use, variable: u32) -> u32 {
+    match purpose {
+        Use::Rules => rules_rank(variable),
+        Use::Settings => settings_rank(variable),
+        Use::LargePart => large_part_rank(variable),
     }
 }
 
@@ -126,12 +129,42 @@ fn by_number(alloc: Global, vars: u32) -> Result<Vec<u32>, Memory>
 }
 
 /// The variables rank by rank, those of one rank by their numbers: each stands in it once.
-pub fn order_for(alloc: Global, formulas: Formulas, vars: u32) -> Result<Vec<u32>, Memory>
+fn order_for(alloc: Global, purpose: Use, vars: u32) -> Result<Vec<u32>, Memory>
     ensures { IfOk result (λ order. IsPermutation (range_with_len 0 vars) order.items) }
 {
     let mut order = by_number(alloc, vars)?;
-    match order.sort_by_key(|variable| rank(formulas, *variable)) {
+    match order.sort_by_key(|variable| rank(purpose, *variable)) {
         Ok(()) => Ok(order),
         Err(_) => Err(Memory),
+    }
+}
+
+/// The orders with which formulas are decided.
+#[derive(Drop)]
+pub struct OrderList {
+    whole: Items<u32>,
+    part: Items<u32>,
+    again: Items<u32>,
+}
+
+impl OrderList {
+    /// Those for settings or obligations.
+    pub fn new(alloc: Global, whole: Use, vars: u32) -> Result<OrderList, Memory> {
+        let whole = order_for(alloc, whole, vars)?;
+        let part = order_for(alloc, Use::Settings, vars)?;
+        let again = order_for(alloc, Use::LargePart, vars)?;
+        Ok(OrderList {
+            whole: Items::of(whole),
+            part: Items::of(part),
+            again: Items::of(again),
+        })
+    }
+
+    pub fn as_orders(&self) -> Orders<'_> {
+        Orders {
+            whole: self.whole.items(),
+            part: self.part.items(),
+            again: self.again.items(),
+        }
     }
 }

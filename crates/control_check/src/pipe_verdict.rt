@@ -10,9 +10,9 @@ ghost use Rattle.control_check.specs.SeqVerdicts.{is_yes};
 ghost use Rattle.hazard_rules.specs.Belonging.{BelongTo};
 ghost use Rattle.hazard_rules.specs.Parts.{AreRules};
 
-use crate::orders::{Formulas, order_for};
+use crate::orders::{OrderList, Use};
 use crate::verdict::Verdict;
-use decisions::{Orders, each_true};
+use decisions::each_true;
 use hazard_rules::{Late, Parts, pipe_late, pipe_parts, pipe_rules};
 use hcl_types::{Design, Order};
 use nets::Net;
@@ -78,13 +78,8 @@ fn settings_true(alloc: Global, net: &Net, gates: &[u64]) -> Result<Vec<bool>, M
     ensures size { IfOk result (λ truths. length truths.items ≡ length gates.now) }
     ensures decided { IfOk result (λ truths. AreDecided net.now gates.now truths.items) }
 {
-    let whole = order_for(alloc, Formulas::Settings, net.vars())?;
-    let part = order_for(alloc, Formulas::InLargePart, net.vars())?;
-    let orders = Orders {
-        whole: whole.as_slice(),
-        part: part.as_slice(),
-    };
-    each_true(alloc, net, gates, orders)
+    let orders = OrderList::new(alloc, Use::Settings, net.vars())?;
+    each_true(alloc, net, gates, orders.as_orders())
 }
 
 /// Decides the formulas of the early settings.
@@ -192,13 +187,8 @@ fn decide_pipe(alloc: Global, net: &Net, list: &[Rule]) -> Result<Option<Failure
     requires gates { AreGatesOf net.now list.now }
     ensures { IfOk result (IsDecision net.now list.now) }
 {
-    let whole = order_for(alloc, Formulas::Rules, net.vars())?;
-    let part = order_for(alloc, Formulas::InLargePart, net.vars())?;
-    let orders = Orders {
-        whole: whole.as_slice(),
-        part: part.as_slice(),
-    };
-    decide_in_order(alloc, net, list, orders)
+    let orders = OrderList::new(alloc, Use::Rules, net.vars())?;
+    decide_in_order(alloc, net, list, orders.as_orders())
 }
 
 /// The rules of a file, and the settings at which they are asked.

@@ -16,27 +16,16 @@ pub struct Cut {
     pub parts: u64,
 }
 
-/// The cut of the valuations of so many variables: by six bits (for the pipeline these are the kinds of its stages).
-pub fn cut_of(vars: u32) -> Cut
+/// The cut of the valuations of so many variables by so many bits, into so many parts. Fewer variables aren't parted.
+pub fn cut_by(bits: u32, parts: u64, vars: u32) -> Cut
+    requires { parts ≡ 2 ^ bits }
     ensures parts { result.parts ≡ 2 ^ result.bits }
     ensures bits { result.bits ≤ vars }
 {
-    if vars < 6 {
+    if vars < bits {
         Cut { bits: 0, parts: 1 }
     } else {
-        Cut { bits: 6, parts: 64 }
-    }
-}
-
-/// The cut of a part whose diagrams become more than they may: by four bits.
-pub fn finer_cut(vars: u32) -> Cut
-    ensures parts { result.parts ≡ 2 ^ result.bits }
-    ensures bits { result.bits ≤ vars }
-{
-    if vars < 4 {
-        Cut { bits: 0, parts: 1 }
-    } else {
-        Cut { bits: 4, parts: 16 }
+        Cut { bits, parts }
     }
 }
 
@@ -171,6 +160,5 @@ pub fn forced_part(
     ensures { IfOk result (StandFor net.now gates.now count bits part) }
 {
     let whole = part_of(alloc, net, gates, count, bits, part)?;
-    let copy = with_forced(alloc, whole)?;
-    Ok(copy)
+    with_forced(alloc, whole)
 }

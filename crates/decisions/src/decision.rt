@@ -1,12 +1,11 @@
 //! The first gate that is false of a valuation.
 ghost use Rattle.std.specs.Prelude.{◌≡◌, ◌<◌, ◌≤◌, IfOk, length};
 ghost use Rattle.decisions.specs.Decisions.{AreGatesOf, IsDecision};
-ghost use Rattle.decisions.specs.Splitting.{AreTrueTo, IsPass};
+ghost use Rattle.decisions.specs.Splitting.{AreTrueTo};
 
-use crate::cuts::cut_of;
+use crate::cuts::cut_by;
 use crate::least::least_in;
-use crate::pass::{Pass, run_pass};
-use crate::reordered::reordered;
+use crate::pass::{Pass, pass_in_order};
 use crate::search::{Again, AtOnce, PartPass, search};
 use nets::{Net, Valuation};
 use std::alloc::Global;
@@ -25,9 +24,16 @@ pub struct Counter {
 pub struct Orders<'a> {
     /// For a pass over the whole net.
     pub whole: &'a [u32],
-    /// For a part whose diagrams become more than they may: by the first four it is parted again.
+    /// For a part of the valuations.
     pub part: &'a [u32],
+    /// For a part whose diagrams become more than they may: by the first four it is parted again.
+    pub again: &'a [u32],
 }
+
+/// By how many first bits the valuations are parted, and into how many parts (for the pipeline these are the kinds of its stages).
+const FIRST_BITS: u32 = 6;
+
+const FIRST_PARTS: u64 = 64;
 
 /// How many steps the diagrams of a whole net may take together.
 const STEPS: u64 = 600_000;
@@ -46,7 +52,7 @@ pub fn decide_in_parts<P: PartPass>(
     requires gates { AreGatesOf net.now gates.now }
     ensures { IfOk result (IsDecision net.now gates.now) }
 {
-    let cut = cut_of(net.vars());
+    let cut = cut_by(FIRST_BITS, FIRST_PARTS, net.vars());
     let found = search(alloc, net, gates, cut, how)?;
     if found.place == gates.len() {
         return Ok(None);
@@ -58,16 +64,6 @@ pub fn decide_in_parts<P: PartPass>(
         })),
         None => unreachable!(),
     }
-}
-
-/// A pass over the whole net, with its variables in the given order.
-#[tactic(auto, using(crate::proofs::Mirrors::pass_mirrored))]
-fn pass_whole(alloc: Global, net: &Net, gates: &[u64], order: &[u32]) -> Result<Pass, Memory>
-    requires gates { AreGatesOf net.now gates.now }
-    ensures { IfOk result (IsPass net.now gates.now) }
-{
-    let copy = reordered(alloc, net, gates, order)?;
-    run_pass(alloc, &copy.net, copy.gates.items(), STEPS, NODES)
 }
 
 /// The decision where the gates before a place are true.
@@ -106,7 +102,7 @@ fn decide_by<P: PartPass>(
     requires gates { AreGatesOf net.now gates.now }
     ensures { IfOk result (IsDecision net.now gates.now) }
 {
-    match pass_whole(alloc, net, gates, order)? {
+    match pass_in_order(alloc, net, gates, order, STEPS, NODES)? {
         Pass::True => Ok(None),
         Pass::False(k) => match decide_in_parts(alloc, net, &[gates[k]], how)? {
             Some(counter) => Ok(Some(Counter {
@@ -135,7 +131,10 @@ pub fn decide_in_order(
         net,
         gates,
         orders.whole,
-        &Again { order: orders.part },
+        &Again {
+            part: orders.part,
+            again: orders.again,
+        },
     )
 }
 

@@ -4,6 +4,7 @@ ghost use Rattle.bdd_core.specs.Building.{AreKnown};
 ghost use Rattle.decisions.specs.Decisions.{AreGatesOf, IsDecided};
 ghost use Rattle.decisions.specs.Splitting.{IsPass};
 
+use crate::reordered::reordered;
 use bdd_core::{Built, Store};
 use nets::Net;
 use std::alloc::Global;
@@ -64,4 +65,21 @@ pub fn run_pass(
         }
     }
     Ok(Pass::True)
+}
+
+/// The same, with the variables in the given order.
+#[tactic(auto, using(crate::proofs::Mirrors::pass_mirrored))]
+pub fn pass_in_order(
+    alloc: Global,
+    net: &Net,
+    gates: &[u64],
+    order: &[u32],
+    steps: u64,
+    nodes: u64,
+) -> Result<Pass, Memory>
+    requires gates { AreGatesOf net.now gates.now }
+    ensures { IfOk result (IsPass net.now gates.now) }
+{
+    let copy = reordered(alloc, net, gates, order)?;
+    run_pass(alloc, &copy.net, copy.gates.items(), steps, nodes)
 }

@@ -3,8 +3,8 @@ ghost use Rattle.std.specs.Prelude.{◌≡◌, ◌+◌, ◌<◌, ◌≤◌, ◌^
 ghost use Rattle.decisions.specs.Decisions.{AreGatesOf};
 ghost use Rattle.decisions.specs.Splitting.{IsPass, IsSearched};
 
-use crate::cuts::{Cut, Part, finer_cut, forced_part};
-use crate::pass::{Pass, run_pass};
+use crate::cuts::{Cut, Part, cut_by, forced_part};
+use crate::pass::{Pass, pass_in_order, run_pass};
 use crate::reordered::reordered;
 use nets::Net;
 use std::alloc::Global;
@@ -37,17 +37,25 @@ impl PartPass for AtOnce {
 /// The pass in which a part whose diagrams become more than they may is parted again.
 #[derive(Clone, Copy, Debug)]
 pub struct Again<'a> {
-    /// The variables in an order: it is parted by the first four.
-    pub order: &'a [u32],
+    /// The variables in an order for the diagrams of a part.
+    pub part: &'a [u32],
+    /// The variables in an order: by the first four the part is parted.
+    pub again: &'a [u32],
 }
 
 /// How many steps the diagrams of a part may take before it is parted again.
 const PART_STEPS: u64 = 60_000;
 
+/// By how many bits it is parted again, and into how many parts.
+const AGAIN_BITS: u32 = 4;
+
+const AGAIN_PARTS: u64 = 16;
+
 impl<'a> PartPass for Again<'a> {
     fn pass(&self, alloc: Global, part: &Part) -> Result<Pass, Memory> {
-        match run_pass(alloc, &part.net, part.gates.items(), PART_STEPS, u64::MAX)? {
-            Pass::Stopped(_) => pass_parts(alloc, &part.net, part.gates.items(), self.order),
+        let gates = part.gates.items();
+        match pass_in_order(alloc, &part.net, gates, self.part, PART_STEPS, u64::MAX)? {
+            Pass::Stopped(_) => pass_parts(alloc, &part.net, gates, self.again),
             pass => Ok(pass),
         }
     }
@@ -59,7 +67,7 @@ fn pass_parts(alloc: Global, net: &Net, gates: &[u64], order: &[u32]) -> Result<
     ensures { IfOk result (IsPass net.now gates.now) }
 {
     let copy = reordered(alloc, net, gates, order)?;
-    let cut = finer_cut(copy.net.vars());
+    let cut = cut_by(AGAIN_BITS, AGAIN_PARTS, copy.net.vars());
     let found = search(alloc, &copy.net, copy.gates.items(), cut, &AtOnce)?;
     if found.place == copy.gates.items().len() {
         Ok(Pass::True)

@@ -19,11 +19,11 @@ const STEPS: u64 = 250_000;
 
 /// Whether a gate is true of every valuation, decided part by part.
 #[tactic(auto, using(crate::proofs::Deciding::one_gate, crate::proofs::Deciding::one_true, crate::proofs::Deciding::one_false))]
-fn true_in_parts(alloc: Global, net: &Net, gate: u64, order: &[u32]) -> Result<bool, Memory>
+fn true_in_parts(alloc: Global, net: &Net, gate: u64, how: &Again) -> Result<bool, Memory>
     requires gate { gate < length net.now.gates }
     ensures decided { IfOk result (IsDecided net.now gate) }
 {
-    match decide_in_parts(alloc, net, &[gate], &Again { order })? {
+    match decide_in_parts(alloc, net, &[gate], how)? {
         Some(_) => Ok(false),
         None => Ok(true),
     }
@@ -40,7 +40,7 @@ fn truth_at(
     net: &Net,
     gates: &[u64],
     k: usize,
-    order: &[u32],
+    how: &Again,
 ) -> Result<bool, Memory>
     requires gates { AreGatesOf net.now gates.now }
     requires place { k < length gates.now }
@@ -54,7 +54,7 @@ fn truth_at(
     let here = copy.gates.items()[k];
     match always_true(store, built, &copy.net, here)? {
         Some(truth) => Ok(truth),
-        None => true_in_parts(alloc, net, gates[k], order),
+        None => true_in_parts(alloc, net, gates[k], how),
     }
 }
 
@@ -71,21 +71,16 @@ pub fn each_true(
     ensures size { IfOk result (λ truths. length truths.items ≡ length gates.now) }
     ensures decided { IfOk result (λ truths. AreDecided net.now gates.now truths.items) }
 {
+    let how = Again {
+        part: orders.part,
+        again: orders.again,
+    };
     let copy = reordered(alloc, net, gates, orders.whole)?;
     let mut store = Store::bounded(alloc, copy.net.vars(), STEPS, NODES);
     let mut built = Built::new(alloc, &copy.net)?;
     let mut truths: Vec<bool> = Vec::new(alloc);
     for k in 0..gates.len() {
-        let truth = truth_at(
-            alloc,
-            &mut store,
-            &mut built,
-            &copy,
-            net,
-            gates,
-            k,
-            orders.part,
-        )?;
+        let truth = truth_at(alloc, &mut store, &mut built, &copy, net, gates, k, &how)?;
         if truths.push(truth).is_err() {
             return Err(Memory);
         }
