@@ -9,6 +9,8 @@ use Rattle.decisions.specs.Decisions.{IsAlwaysTrue, IsLeastOf}
 use Rattle.decisions.specs.declared.cuts.Part.{Part}
 use Rattle.decisions.specs.declared.pass.Pass.{Pass}
 use Rattle.decisions.specs.declared.pass.Pass.TheVariants as pass
+use Rattle.decisions.specs.declared.truths.Diagrams.{Diagrams}
+use Rattle.bdd_core.specs.Building.{AreKnown}
 
 -- a gate is false of a valuation
 pub record IsFalseAt (n : Gates) (gate : ℕ) (w : List Bool) : Type 0 where
@@ -83,3 +85,8 @@ pub record IsSearched (n : Gates) (gates : List ℕ) (k upto m p : ℕ) : Type 0
   pub small : m < length gates → p < 2 ^ k
   pub before : m < length gates → (q : ℕ) → q < p → IsTrueWhere n (get_or gates m 0) k q
   pub fails : m < length gates → (w : List Bool) × IsFalseWhere n (get_or gates m 0) k p w
+
+-- what diagrams hold of gates of a net
+pub record AreDiagramsOf (n : Gates) (d : Diagrams) : Type 0 where
+  pub vars : d.store.vars ≡ n.vars
+  pub known : AreKnown d.store n d.built

@@ -1,8 +1,7 @@
 //! Which of several gates are true of every valuation.
-ghost use Rattle.std.specs.Prelude.{◌≡◌, ◌<◌, IfOk, get_or, length};
-ghost use Rattle.bdd_core.specs.Building.{AreKnown};
+ghost use Rattle.std.specs.Prelude.{◌≡◌, ◌<◌, IfOk, IfSome, get_or, length};
 ghost use Rattle.decisions.specs.Decisions.{AreDecided, AreGatesOf, IsDecided};
-ghost use Rattle.decisions.specs.Splitting.{StandFor};
+ghost use Rattle.decisions.specs.Splitting.{AreDiagramsOf, StandFor};
 
 use crate::cuts::Part;
 use crate::decision::{NODES, Orders, decide_in_parts};
@@ -14,7 +13,7 @@ use nets::Net;
 use std::alloc::Global;
 use y86_base::Memory;
 
-/// How many steps the diagrams of all gates may take together.
+/// How many steps the diagrams of several gates may take together.
 const STEPS: u64 = 250_000;
 
 /// Whether a gate is true of every valuation, decided part by part.
@@ -29,13 +28,69 @@ fn true_in_parts(alloc: Global, net: &Net, gate: u64, how: &Again) -> Result<boo
     }
 }
 
+/// The diagrams of a net's gates.
+#[derive(Drop)]
+pub struct Diagrams {
+    store: Store,
+    built: Built,
+    /// Whether they have told of no gate yet.
+    is_new: bool,
+}
+
+impl Diagrams {
+    /// Those of no gate.
+    fn new(alloc: Global, net: &Net) -> Result<Diagrams, Memory>
+        ensures { IfOk result (AreDiagramsOf net.now) }
+    {
+        let built = Built::new(alloc, net)?;
+        let store = Store::bounded(alloc, net.vars(), STEPS, NODES);
+        Ok(Diagrams {
+            store,
+            built,
+            is_new: true,
+        })
+    }
+
+    /// Whether a gate is true of every valuation. `None` where its diagrams become more than they may.
+    fn truth_of(&mut self, net: &Net, gate: u64) -> Result<Option<bool>, Memory>
+        requires gate { gate < length net.now.gates }
+        requires diagrams { AreDiagramsOf net.now self.old }
+        ensures diagrams { AreDiagramsOf net.now self.new }
+        ensures decided { IfOk result (λ o. IfSome o (IsDecided net.now gate)) }
+    {
+        let found = always_true(&mut self.store, &mut self.built, net, gate)?;
+        self.is_new = found.is_none();
+        Ok(found)
+    }
+
+    /// The same: where the diagrams of other gates leave too little, by new ones.
+    fn truth_anew(
+        &mut self,
+        alloc: Global,
+        net: &Net,
+        gate: u64,
+    ) -> Result<Option<bool>, Memory>
+        requires gate { gate < length net.now.gates }
+        requires diagrams { AreDiagramsOf net.now self.old }
+        ensures diagrams { AreDiagramsOf net.now self.new }
+        ensures decided { IfOk result (λ o. IfSome o (IsDecided net.now gate)) }
+    {
+        let was_new = self.is_new;
+        let found = self.truth_of(net, gate)?;
+        if was_new || found.is_some() {
+            return Ok(found);
+        }
+        *self = Diagrams::new(alloc, net)?;
+        self.truth_of(net, gate)
+    }
+}
+
 /// Whether the gate at a place is true of every valuation: by the diagrams of a copy, or, where they become more than they
 /// may, part by part.
 #[tactic(auto, using(crate::proofs::Mirrors::decided_mirrored))]
 fn truth_at(
     alloc: Global,
-    store: &mut Store,
-    built: &mut Built,
+    diagrams: &mut Diagrams,
     copy: &Part,
     net: &Net,
     gates: &[u64],
@@ -45,14 +100,12 @@ fn truth_at(
     requires gates { AreGatesOf net.now gates.now }
     requires place { k < length gates.now }
     requires stands { StandFor net.now gates.now (length gates.now) 0 0 copy.now }
-    requires vars { store.old.vars ≡ copy.now.net.vars }
-    requires known { AreKnown store.old copy.now.net built.old }
-    ensures vars { store.new.vars ≡ store.old.vars }
-    ensures known { AreKnown store.new copy.now.net built.new }
+    requires diagrams { AreDiagramsOf copy.now.net diagrams.old }
+    ensures diagrams { AreDiagramsOf copy.now.net diagrams.new }
     ensures decided { IfOk result (IsDecided net.now (get_or gates.now k 0)) }
 {
     let here = copy.gates.items()[k];
-    match always_true(store, built, &copy.net, here)? {
+    match diagrams.truth_anew(alloc, &copy.net, here)? {
         Some(truth) => Ok(truth),
         None => true_in_parts(alloc, net, gates[k], how),
     }
@@ -76,11 +129,10 @@ pub fn each_true(
         again: orders.again,
     };
     let copy = reordered(alloc, net, gates, orders.whole)?;
-    let mut store = Store::bounded(alloc, copy.net.vars(), STEPS, NODES);
-    let mut built = Built::new(alloc, &copy.net)?;
+    let mut diagrams = Diagrams::new(alloc, &copy.net)?;
     let mut truths: Vec<bool> = Vec::new(alloc);
     for k in 0..gates.len() {
-        let truth = truth_at(alloc, &mut store, &mut built, &copy, net, gates, k, &how)?;
+        let truth = truth_at(alloc, &mut diagrams, &copy, net, gates, k, &how)?;
         if truths.push(truth).is_err() {
             return Err(Memory);
         }

@@ -1,12 +1,11 @@
-use Rattle.std.proofs.Common.{length, ap, ◌∙◌, arith}
+use Rattle.std.proofs.Common.{length, ap, arith}
 use Rattle.decisions.proofs.truths.each_true.Goals as goal
 
 pub loop-k-init : goal.loop-k-init
 loop-k-init c =
     let none = ap length c.new-truths.ensures.items in
     record {
-      vars = c.bounded-store.ensures.vars ∙ c.vars.ensures;
-      known = c.in_ok-built.ensures c.bounded-store.result;
+      diagrams = c.in_ok-diagrams.ensures;
       size = none;
       decided = record { each = λ k lt. absurd (omega (arith, lt, none)) };
     }
