@@ -160,5 +160,6 @@ pub fn forced_part(
     ensures { IfOk result (StandFor net.now gates.now count bits part) }
 {
     let whole = part_of(alloc, net, gates, count, bits, part)?;
-    with_forced(alloc, whole)
+    let copy = with_forced(alloc, whole)?;
+    Ok(copy)
 }
