@@ -64,12 +64,7 @@ impl Diagrams {
     }
 
     /// The same: where the diagrams of other gates leave too little, by new ones.
-    fn truth_anew(
-        &mut self,
-        alloc: Global,
-        net: &Net,
-        gate: u64,
-    ) -> Result<Option<bool>, Memory>
+    fn truth_anew(&mut self, alloc: Global, net: &Net, gate: u64) -> Result<Option<bool>, Memory>
         requires gate { gate < length net.now.gates }
         requires diagrams { AreDiagramsOf net.now self.old }
         ensures diagrams { AreDiagramsOf net.now self.new }
