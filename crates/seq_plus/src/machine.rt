@@ -124,12 +124,11 @@ impl<C: SignalEval> Plus<C> {
         at(&values, row::PC)
     }
 
-    /// How the machine ended, or stands: its registers, flags and memory, the status, and as PC what `pc` answers. The machine
-    /// stays as it is.
-    pub fn end(&mut self) -> End<'_>
-        ensures { PlusEnds self.old.variant self.old.terms self.old.state (ended result) }
+    /// How the machine ended, or stands: its registers, flags and memory, the status, and the PC that `pc` answers.
+    pub fn end(&self, pc: u64) -> End<'_>
+        requires { PcIs self.now.variant self.now.terms self.now.state pc }
+        ensures { PlusEnds self.now.variant self.now.terms self.now.state (ended result) }
     {
-        let pc = self.pc();
         end_of(&self.state, pc)
     }
 }

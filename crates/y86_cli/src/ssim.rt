@@ -70,7 +70,8 @@ fn run_plus<'a, O: Sink>(
     };
     let mut machine = Plus::new(variant, design, order, compiled, image);
     let ran = seq_plus::run(&mut machine, limit);
-    let end = machine.end();
+    let pc = machine.pc();
+    let end = machine.end(pc);
     match report(&first, &end, ran.steps, out) {
         Ok(()) => Ok(status(end.stat)),
         Err(_) => Err(Stop::Write),

@@ -1,5 +1,0 @@
-//! Tests of the sequential machines inside.
-#![tactic(auto)]
-
-#[cfg(test)]
-mod plus;
