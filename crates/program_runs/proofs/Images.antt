@@ -9,6 +9,7 @@ use Rattle.y86_isa.specs.Encoding.{encoded}
 use Rattle.y86_isa.specs.Machine.{start}
 use Rattle.y86_isa.specs.Run.{IsImage}
 use Rattle.prog_gen.specs.Programs.{code, data_start, next_drawn, program}
+use Rattle.program_runs.specs.Laws.{HasDataArea}
 use Rattle.program_runs.proofs.Doings.{Fits}
 use Rattle.program_runs.proofs.Drawings.{drawn_fits, encoded_size, bytes_of_encoded}
 use Rattle.program_runs.proofs.Walking.{Ready}
@@ -54,6 +55,9 @@ unfolding program
 size_is n =
     let text : List ℕ = whole_code n in
     omega (arith, length-append text (replicate (data_start n + 2048 - length text) 0), length-replicate {A = ℕ} (data_start n + 2048 - length text) 0, room n)
+
+pub has_data : (n : ℕ) → HasDataArea (program n) n (data_start n)
+has_data n = record { words = omega (arith, size_is n); room = omega arith; first = omega arith; aligned = omega arith }
 
 pub sized : (n : ℕ) → n ≤ 100000 → IsSize (length (program n))
 sized n h = record { least = omega (arith, size_is n); most = omega (arith, size_is n, h); whole_words = omega (arith, size_is n) }

@@ -3,13 +3,14 @@ ghost use Rattle.std.specs.Prelude.{◌≡◌, ℕ, ◌+◌, ◌≤◌};
 ghost use Rattle.y86_base.specs.declared.parts.Variant.{Variant};
 ghost use Rattle.y86_isa.specs.Run.{IsImage, Pure};
 ghost use Rattle.prog_gen.specs.Programs.{program, data_start};
-ghost use Rattle.program_runs.specs.Laws.{RunsToHalt, KeepsCode};
+ghost use Rattle.program_runs.specs.Laws.{HasDataArea, RunsToHalt, KeepsCode};
 
-/// Program `n` is an image. Its run has n + 1 records and ends with HLT, for both instruction sets. What it fetches lies below its
+/// Program `n` is an image, the last 2048 bytes of which are its data area. Its run has n + 1 records and ends with HLT, for both instruction sets. What it fetches lies below its
 /// data area and what it stores lies in it, so that no instruction ever stores what another fetches.
 #[tactic(auto, using(crate::proofs::Images::is_image))]
 pub fn law_of_programs()
     ensures image { (n : ℕ) → 1 ≤ n → n ≤ 100000 → IsImage (program n) }
+    ensures data { (n : ℕ) → 1 ≤ n → n ≤ 100000 → HasDataArea (program n) n (data_start n) }
     ensures run { (v : Variant) (n : ℕ) → 1 ≤ n → n ≤ 100000 → RunsToHalt v (program n) (n + 1) }
     ensures code { (v : Variant) (n : ℕ) → 1 ≤ n → n ≤ 100000 → KeepsCode v (program n) (data_start n) }
     ensures pure { (v : Variant) (n k : ℕ) → 1 ≤ n → n ≤ 100000 → Pure v (program n) k }
