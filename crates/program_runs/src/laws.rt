@@ -5,8 +5,9 @@ ghost use Rattle.y86_isa.specs.Run.{IsImage, Pure};
 ghost use Rattle.prog_gen.specs.Programs.{program, data_start};
 ghost use Rattle.program_runs.specs.Laws.{HasDataArea, RunsToHalt, KeepsCode};
 
-/// Program `n` is an image, the last 2048 bytes of which are its data area. Its run has n + 1 records and ends with HLT, for both instruction sets. What it fetches lies below its
-/// data area and what it stores lies in it, so that no instruction ever stores what another fetches.
+/// Program `n` is an image, the last 2048 bytes of which are its data area. Its run has n + 1 records and ends with HLT,
+/// for both instruction sets. What it fetches lies below its data area and what it stores lies in it, so that no
+/// instruction ever stores what another fetches.
 #[tactic(auto, using(crate::proofs::Images::is_image))]
 pub fn law_of_programs()
     ensures image { (n : ℕ) → 1 ≤ n → n ≤ 100000 → IsImage (program n) }
