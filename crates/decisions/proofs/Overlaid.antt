@@ -12,7 +12,7 @@ use Rattle.nets.specs.declared.copies.Source.TheVariants.{Const, Var}
 use Rattle.decisions.specs.Decisions.{IsAlwaysTrue, IsLeastOf}
 use Rattle.decisions.specs.Splitting.{AreForcedBits, AreOwn, own}
 use Rattle.decisions.proofs.Forced.{behind_settled}
-use Rattle.decisions.proofs.Sources.{behind_at, length_behind, same_list}
+use Rattle.decisions.proofs.Sources.{behind_at, length_behind, same_list, same_variable}
 
 -- ---- bits, and each other variable in its own place
 
@@ -22,11 +22,7 @@ own_settled (Var x) i u e = refl
 
 own_is : (s : Source) (i x : ℕ) → own s i ≡ Var x → x ≡ i
 own_is (Const b) i x e = absurd (let z : Const b ≡ Var x = e in cc)
-own_is (Var y) i x e = sym (ap place e)
-  where
-    place : Source → ℕ
-    place (Const b) = 0
-    place (Var z) = z
+own_is (Var y) i x e = sym (same_variable i x e)
 
 pub are_forced : (n : Gates) (gate : ℕ) (xs : List ℕ) (found to : List Source) → xs ≡ gate ∷ [] → IsForced n xs found → length found ≡ n.vars → AreOwn found n.vars to → AreForcedBits n gate to
 are_forced n gate xs found to is forced size h = record {

@@ -141,13 +141,17 @@ module _ (k p : ℕ) (n : Gates) (to : List Source) (h : AreSourcesIn k p n.vars
 pub gates_made : (n : Gates) (gates made : List ℕ) → AreGatesOf n gates → length made ≡ length n.gates → (j : ℕ) → j < length gates → get_or gates j 0 < length made
 gates_made n gates made of size j lt = let g = of j lt in omega (arith, g, size)
 
-pub are_sources : (k p vars : ℕ) (to : List Source) → AreSourcesIn k p vars to → AreSources vars to
-are_sources k p vars to h = record { within = λ i x lt is. by i x lt is (cases_lt i k) }
+-- a variable stands in one place alone
+pub same_variable : (x y : ℕ) → Var x ≡ Var y → x ≡ y
+same_variable x y e = ap place e
   where
     place : Source → ℕ
     place (Const b) = 0
-    place (Var x) = x
+    place (Var z) = z
 
+pub are_sources : (k p vars : ℕ) (to : List Source) → AreSourcesIn k p vars to → AreSources vars to
+are_sources k p vars to h = record { within = λ i x lt is. by i x lt is (cases_lt i k) }
+  where
     low_is : (i : ℕ) → i < k → source_in k p i ≡ Const (get_or (spell k p) i false)
     low_is i lt = rw (lt-ltb i k lt) refl
 
@@ -158,7 +162,7 @@ are_sources k p vars to h = record { within = λ i x lt is. by i x lt is (cases_
     by i x lt is (inl l) = absurd (let e : Const (get_or (spell k p) i false) ≡ Var x = sym (low_is i l) ∙ (sym (h.each i (let z = h.size in omega (arith, lt, z))) ∙ is) in cc)
     by i x lt is (inr le) =
         let e : Var i ≡ Var x = sym (high_is i le) ∙ (sym (h.each i (let z = h.size in omega (arith, lt, z))) ∙ is) in
-        let same : i ≡ x = ap place e in
+        let same : i ≡ x = same_variable i x e in
         let z = h.size in omega (arith, lt, z, same)
 
 module _ (k p : ℕ) (n : Gates) (to : List Source) (h : AreSourcesIn k p n.vars to) (bits : k ≤ n.vars) (small : p < 2 ^ k) (copy : Gates) (made gates chosen : List ℕ) (count : ℕ)

@@ -63,6 +63,7 @@ abbrev pub own : Source → ℕ → Source
 own (Const b) i = Const b
 own (Var x) i = Var i
 
+-- of so many sources those that are bits, and each other variable in its own place
 pub record AreOwn (found : List Source) (count : ℕ) (to : List Source) : Type 0 where
   pub size : length to ≡ count
   pub each : (i : ℕ) → i < count → get_or to i (Const false) ≡ own (get_or found i (Const false)) i

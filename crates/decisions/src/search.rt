@@ -44,7 +44,7 @@ pub struct Again<'a> {
 }
 
 /// How many steps the diagrams of a part may take before it is parted again.
-const PART_STEPS: u64 = 60_000;
+const PART_STEPS: u64 = 30_000;
 
 /// By how many bits it is parted again, and into how many parts.
 const AGAIN_BITS: u32 = 4;
