@@ -46,5 +46,5 @@ returns-clause-rules c =
 
 pub returns-clause-atoms : goal.returns-clause-atoms
 returns-clause-atoms c =
-    subst (AreAtoms plus_rows c.args.design.now.terms) (sym c.of-2.ensures)
+    subst (AreAtoms plus_rows c.args.design.now.terms) (sym c.of-in-Ok-numbered_rules.ensures)
     (subst (λ rows. AreAtoms rows c.args.design.now.terms c.in_ok-listed.listed.items) c.in-Ok.ensures c.in_ok-listed.ensures)
