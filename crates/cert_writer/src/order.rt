@@ -2,7 +2,7 @@
 ghost use Rattle.std.specs.Prelude.{◌≡◌, ℕ, ◌<◌, ◌^◌, true, length, get_or, IfOk, IfSome};
 ghost use Rattle.cert_writer.specs.Nodes.{ArePlain, IsOrder};
 
-use field_bits::Place;
+use field_bits::FieldPlace;
 use pipe_fields::{BIT_COUNT, FIELD_COUNT, places};
 use std::alloc::Global;
 use y86_base::Memory;
@@ -76,7 +76,7 @@ const OTHER_COUNT: usize = FIELD_COUNT - places::REGISTER_COUNT;
 /// These in an order in which the diagrams of PIPE's rules are small: what F, M, E, D and W hold, stage by stage. Atoms
 /// stand before them, and registers behind. With the fields in the order of their numbers the certificate of `nb.hcl` is
 /// twenty times as long.
-const OTHERS: [Place; OTHER_COUNT] = [
+const OTHERS: [FieldPlace; OTHER_COUNT] = [
     places::F_ERROR,
     places::F_ICODE,
     places::F_IFUN,
@@ -120,7 +120,7 @@ fn put_range(out: &mut Vec<u32>, first: u32, end: u32) -> Result<(), Memory> {
 }
 
 /// Puts the variables of some fields behind an order.
-fn put_fields(out: &mut Vec<u32>, fields: &[Place]) -> Result<(), Memory> {
+fn put_fields(out: &mut Vec<u32>, fields: &[FieldPlace]) -> Result<(), Memory> {
     for field in fields {
         put_range(out, field.first, field.first.wrapping_add(field.bits))?;
     }

@@ -27,7 +27,7 @@ use Rattle.ctl_atoms.proofs.Plans.{plan_Num, plan_Name, plan_Not, plan_And, plan
 use Rattle.ctl_atoms.proofs.Same.{leaf_eq_true, leaf_eq_self}
 use Rattle.ctl_formula.specs.declared.controls.Entry.{Entry}
 use Rattle.ctl_formula.specs.declared.controls.Entry.TheVariants.{Absent}
-use Rattle.ctl_formula.specs.declared.controls.Place.{Place}
+use Rattle.ctl_formula.specs.declared.controls.NamePlace.{NamePlace}
 use Rattle.ctl_formula.specs.Picks.{entry_word, entry_picks}
 use Rattle.ctl_formula.specs.Readies.{IsEntryOf, leaves_of}
 use Rattle.ctl_formula.specs.Filled.{IsFilling}
@@ -114,7 +114,7 @@ role_apart class n State xs a = field_apart class n
 role_apart class n (Hardware ids) xs a = field_apart class n
 role_apart class n Defined xs a = class_apart class xs (a refl)
 
-module _ (rows : List Row) (terms : List Term) (places : List Place) (asks : List Atom) (first : ℕ) (ids : List ℕ) (o : IsOrderOf rows terms ids) (own : ℕ → List Leaf) (fixed : Fixes (leaf_rule rows terms) own) where
+module _ (rows : List Row) (terms : List Term) (places : List NamePlace) (asks : List Atom) (first : ℕ) (ids : List ℕ) (o : IsOrderOf rows terms ids) (own : ℕ → List Leaf) (fixed : Fixes (leaf_rule rows terms) own) where
   row_apart : (n : ℕ) → ((row : Row) → slice_get rows n ≡ Some row → is_defined row.role ≡ true → Each (λ m. Apart (own m)) (names (row_term rows terms n))) → Apart (own n)
   row_apart n h = subst Apart (sym (fixed n)) (by (slice_get rows n) refl)
     where

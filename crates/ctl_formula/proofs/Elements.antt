@@ -5,7 +5,7 @@ use Rattle.std.proofs.lemmas.Option.{slice_get_within}
 use Rattle.hcl_types.specs.declared.table.Row.{Row}
 use Rattle.hcl_types.specs.Lists.{Each}
 use Rattle.hcl_types.specs.Tables.{defined, is_defined}
-use Rattle.ctl_formula.specs.declared.controls.Place.{Place}
+use Rattle.ctl_formula.specs.declared.controls.NamePlace.{NamePlace}
 use Rattle.ctl_formula.specs.Places.{place_of, has_bits, is_field, are_placed}
 use Rattle.ctl_formula.proofs.Rows.{from_some}
 
@@ -69,7 +69,7 @@ split : (a b : Bool) → IsTrue (a && b) → IsTrue a × IsTrue b
 split true b h = (refl, h)
 split false b h = (h, cc)
 
-pub placed_at : (places : List Place) (k : ℕ) (rows : List Row) (n : ℕ) (row : Row) → slice_get rows n ≡ Some row → IsTrue (are_placed places k rows) → is_field row.role ≡ true → has_bits row.class ≡ true →
+pub placed_at : (places : List NamePlace) (k : ℕ) (rows : List Row) (n : ℕ) (row : Row) → slice_get rows n ≡ Some row → IsTrue (are_placed places k rows) → is_field row.role ≡ true → has_bits row.class ≡ true →
     IsTrue (is_some (place_of places (k + n)))
 placed_at places k [] n row e h f b = absurd (grind (arith, e))
 placed_at places k (r ∷ rows) zero row e h f b =

@@ -28,7 +28,7 @@ use Rattle.ctl_atoms.proofs.Listed.{listed}
 use Rattle.ctl_atoms.proofs.Solved.{leaves_exist, unknown_inside}
 use Rattle.ctl_formula.specs.declared.controls.Entry.{Entry}
 use Rattle.ctl_formula.specs.declared.controls.Entry.TheVariants.{Absent, Truth, Picks}
-use Rattle.ctl_formula.specs.declared.controls.Place.{Place}
+use Rattle.ctl_formula.specs.declared.controls.NamePlace.{NamePlace}
 use Rattle.ctl_formula.specs.Controls.{AreControls, role_leaf}
 use Rattle.ctl_formula.specs.Picks.{Covers, IsInside, Tells, Within, entry_truth, entry_word, entry_gate, entry_picks, some_pick}
 use Rattle.ctl_formula.specs.Places.{Spells}
@@ -43,7 +43,7 @@ use Rattle.ctl_formula.proofs.Rows.{known_row, needs_defined, given_undefined, r
 
 -- ---- given rows, one more
 
-pub given_none : (rows : List Row) (places : List Place) (net : Gates) → IsGiven rows places 0 net []
+pub given_none : (rows : List Row) (places : List NamePlace) (net : Gates) → IsGiven rows places 0 net []
 given_none rows places net = record {
   size = refl;
   within = λ n e i. absurd (grind (arith, i));
@@ -52,7 +52,7 @@ given_none rows places net = record {
   shows = λ w α field told s n row e r i. absurd (grind (arith, i));
 }
 
-pub given_next : {a b : Gates} → Begins a b → (rows : List Row) (places : List Place) (k : ℕ) (es : List Entry) (e : Entry) (row : Row) → slice_get rows k ≡ Some row → IsGiven rows places k a es →
+pub given_next : {a b : Gates} → Begins a b → (rows : List Row) (places : List NamePlace) (k : ℕ) (es : List Entry) (e : Entry) (row : Row) → slice_get rows k ≡ Some row → IsGiven rows places k a es →
     EntryWithin (length b.gates) e → (is_defined row.role ≡ true → e ≡ Absent) → (is_defined row.role ≡ false → IsEntryOf row.class (leaves_by_role row.class k row.role []) e) →
     ((w : List Bool) (α : Assignment) (field : ℕ → ℕ) (told : Leaf) → Spells places w field → EntryShows (at b w) α e (role_leaf field k row.class row.role told)) →
     IsGiven rows places (k + 1) b (es ++ e ∷ [])
@@ -116,7 +116,7 @@ defined_role class n State xs d = absurd (grind (arith, d))
 defined_role class n (Hardware ids) xs d = absurd (grind (arith, d))
 defined_role class n Defined xs d = refl
 
-module _ (rows : List Row) (terms : List Term) (places : List Place) (asks : List Atom) (first : ℕ) where
+module _ (rows : List Row) (terms : List Term) (places : List NamePlace) (asks : List Atom) (first : ℕ) where
   own_leaves : (leaves : ℕ → List Leaf) → Fixes (leaf_rule rows terms) leaves → (n : ℕ) (row : Row) → slice_get rows n ≡ Some row → leaves n ≡ leaves_by_role row.class n row.role (plan leaves (row_term rows terms n)).leaves
   own_leaves leaves fixed n row r = fixed n ∙ ap (λ (o : Option Row). leaves_of_row o n (plan leaves (row_term rows terms n)).leaves) r
 

@@ -11,7 +11,7 @@ use Rattle.ctl_atoms.specs.Leaves.{Assignment, AtomsAre}
 use Rattle.ctl_atoms.specs.Rows.{leaf_rule, leaves_by_role}
 use Rattle.ctl_formula.specs.declared.controls.Entry.{Entry}
 use Rattle.ctl_formula.specs.declared.controls.Entry.TheVariants.{Absent}
-use Rattle.ctl_formula.specs.declared.controls.Place.{Place}
+use Rattle.ctl_formula.specs.declared.controls.NamePlace.{NamePlace}
 use Rattle.ctl_formula.specs.Controls.{AreControls, role_leaf}
 use Rattle.ctl_formula.specs.Picks.{entry_truth, entry_word}
 use Rattle.ctl_formula.specs.Places.{Spells}
@@ -19,7 +19,7 @@ use Rattle.ctl_formula.specs.Chosen.{at}
 use Rattle.ctl_formula.specs.Readies.{EntryShows, EntryWithin, IsEntryOf}
 
 -- what is known of the first rows, so many, where no definition is read: each of them that isn't defined has its gates
-pub record IsGiven (rows : List Row) (places : List Place) (so_many : ℕ) (net : Gates) (es : List Entry) : Type 0 where
+pub record IsGiven (rows : List Row) (places : List NamePlace) (so_many : ℕ) (net : Gates) (es : List Entry) : Type 0 where
   pub size : length es ≡ so_many
   pub within : (n : ℕ) (e : Entry) → slice_get es n ≡ Some e → EntryWithin (length net.gates) e
   pub absent : (n : ℕ) (row : Row) (e : Entry) → slice_get rows n ≡ Some row → slice_get es n ≡ Some e → is_defined row.role ≡ true → e ≡ Absent
@@ -32,7 +32,7 @@ abbrev pub is_filled : Option Entry → Bool
 is_filled e = entry_truth e || entry_word e
 
 -- Every gate that is known stands in the net, is of its row's kind with the leaves of its name, and shows the control value.
-pub record IsFilling (rows : List Row) (terms : List Term) (places : List Place) (listed : List Atom) (first : ℕ) (net : Gates) (es : List Entry) : Type 0 where
+pub record IsFilling (rows : List Row) (terms : List Term) (places : List NamePlace) (listed : List Atom) (first : ℕ) (net : Gates) (es : List Entry) : Type 0 where
   pub size : length es ≡ length rows
   pub within : (n : ℕ) (e : Entry) → slice_get es n ≡ Some e → EntryWithin (length net.gates) e
   pub kinds : (leaves : ℕ → List Leaf) → Fixes (leaf_rule rows terms) leaves → (n : ℕ) (row : Row) (e : Entry) →
@@ -41,6 +41,6 @@ pub record IsFilling (rows : List Row) (terms : List Term) (places : List Place)
       (n : ℕ) (e : Entry) → slice_get es n ≡ Some e → EntryShows (at net w) α e (cv n)
 
 -- The same, and every row has a gate or picks.
-pub record IsTold (rows : List Row) (terms : List Term) (places : List Place) (listed : List Atom) (first : ℕ) (net : Gates) (es : List Entry) : Type 0 where
+pub record IsTold (rows : List Row) (terms : List Term) (places : List NamePlace) (listed : List Atom) (first : ℕ) (net : Gates) (es : List Entry) : Type 0 where
   pub filling : IsFilling rows terms places listed first net es
   pub filled : (n : ℕ) → n < length rows → IsTrue (is_filled (slice_get es n))

@@ -21,7 +21,7 @@ ghost use Rattle.ctl_formula.specs.Chosen.{at};
 ghost use Rattle.ctl_formula.specs.Readies.{EntryShows, EntryWithin, IsEntryOf, IsOpen, Shows, ready};
 ghost use Rattle.ctl_formula.specs.Filled.{IsFilling, IsGiven, IsTold, is_filled};
 
-use crate::controls::{Controls, Entry, Place};
+use crate::controls::{Controls, Entry, NamePlace};
 use crate::given::given_entry;
 use crate::scope::Scope;
 use ctl_atoms::{Atom, CtlFault, atoms, definitions_before};
@@ -124,7 +124,7 @@ fn given_entries(
     alloc: Global,
     b: &mut NetBuilder,
     rows: &[Row],
-    places: &[Place],
+    places: &[NamePlace],
 ) -> Result<Vec<Entry>, Memory>
     requires sound { IsSound rows.now }
     requires places { HavePlaces rows.now places.now b.old.vars }
@@ -175,11 +175,11 @@ fn put_row(
     requires atoms { AreAtoms rows.now d.now.terms listed.now }
     requires vars { first + length listed.now ≤ b.old.vars }
     requires leaves { (leaves : ℕ → List Leaf) × Fixes (leaf_rule rows.now d.now.terms) leaves }
-    requires filling { (places : List Place) × IsFilling rows.now d.now.terms places listed.now first b.old es.old.items }
+    requires filling { (places : List NamePlace) × IsFilling rows.now d.now.terms places listed.now first b.old es.old.items }
     requires needs { (row : Row) → slice_get rows.now id ≡ Some row → tables.is_defined row.role ≡ true →
         Each (λ m. m < length rows.now → IsTrue (is_filled (slice_get es.old.items m))) (names (row_term rows.now d.now.terms id)) }
     ensures begins { Begins b.old b.new }
-    ensures filling { (places : List Place) → IsFilling rows.now d.now.terms places listed.now first b.old es.old.items →
+    ensures filling { (places : List NamePlace) → IsFilling rows.now d.now.terms places listed.now first b.old es.old.items →
         OnOk result (IsFilling rows.now d.now.terms places listed.now first b.new es.new.items) }
     ensures filled { (row : Row) → slice_get rows.now id ≡ Some row → tables.is_defined row.role ≡ true → OnOk result (IsTrue (is_filled (slice_get es.new.items id))) }
     ensures kept { (n : ℕ) → IsTrue (is_filled (slice_get es.old.items n)) → OnOk result (IsTrue (is_filled (slice_get es.new.items n))) }
@@ -200,7 +200,7 @@ fn told_entries(
     d: &Design,
     t: &Table,
     o: &Order,
-    places: &[Place],
+    places: &[NamePlace],
     listed: &[Atom],
     first: u32,
     b: &mut NetBuilder,
@@ -237,7 +237,7 @@ fn controls(
     d: &Design,
     t: &Table,
     o: &Order,
-    places: &[Place],
+    places: &[NamePlace],
     listed: &[Atom],
     b: &mut NetBuilder,
 ) -> Result<Controls, Memory>
@@ -272,7 +272,7 @@ pub fn translate(
     d: &Design,
     t: &Table,
     o: &Order,
-    places: &[Place],
+    places: &[NamePlace],
     b: &mut NetBuilder,
 ) -> Result<Controls, CtlFault>
     requires sound { IsSound t.now.rows }

@@ -15,7 +15,7 @@ ghost use Rattle.ctl_formula.specs.Places.{IsInside, Spells, has_bits, is_field,
 ghost use Rattle.ctl_formula.specs.Chosen.{Picked, at};
 ghost use Rattle.ctl_formula.specs.Readies.{EntryShows, EntryWithin, IsEntryOf, leaves_of};
 
-use crate::controls::{Entry, Pick, Place};
+use crate::controls::{Entry, NamePlace, Pick};
 use crate::picking::put_pick;
 use ctl_atoms::Leaf;
 use field_bits::spells;
@@ -25,7 +25,7 @@ use std::alloc::Global;
 use y86_base::{Items, Memory};
 
 /// The place of a name.
-fn find_place(places: &[Place], name: NameId) -> Place
+fn find_place(places: &[NamePlace], name: NameId) -> NamePlace
     requires { IsTrue (is_some (place_of places.now name)) }
     ensures { place_of places.now name ≡ Some result }
 {
@@ -34,7 +34,7 @@ fn find_place(places: &[Place], name: NameId) -> Place
             return *place;
         }
     }
-    Place {
+    NamePlace {
         name,
         first: 0,
         bits: 0,
@@ -55,20 +55,20 @@ fn one_pick(alloc: Global, b: &mut NetBuilder, leaf: Leaf) -> Result<Vec<Pick>, 
 }
 
 /// The gate of: the bits of a place spell a number.
-fn spelling(b: &mut NetBuilder, place: Place, n: u64) -> Result<u64, Memory>
+fn spelling(b: &mut NetBuilder, place: NamePlace, n: u64) -> Result<u64, Memory>
     requires { place.first + place.bits ≤ b.old.vars }
     ensures begins { Begins b.old b.new }
     ensures made { IfOk result (λ g. IsGate b.new g (λ w. spelt w place.first place.bits == n)) }
 {
     let first = place.first;
     let bits = place.bits;
-    let g = spells(b, field_bits::Place { first, bits }, n)?;
+    let g = spells(b, field_bits::FieldPlace { first, bits }, n)?;
     Ok(g)
 }
 
 /// The gate of: the number at a place isn't 0.
 #[tactic(auto, using(nets::proofs::Truths::begins_more))]
-fn bit_gate(b: &mut NetBuilder, place: Place) -> Result<u64, Memory>
+fn bit_gate(b: &mut NetBuilder, place: NamePlace) -> Result<u64, Memory>
     requires { place.first + place.bits ≤ b.old.vars }
     ensures begins { Begins b.old b.new }
     ensures made { IfOk result (λ g. IsGate b.new g (λ w. not (spelt w place.first place.bits == 0))) }
@@ -79,7 +79,7 @@ fn bit_gate(b: &mut NetBuilder, place: Place) -> Result<u64, Memory>
 }
 
 /// The picks of a code: each number of 4 bits, where the bits of its place spell it.
-fn code_picks(alloc: Global, b: &mut NetBuilder, place: Place) -> Result<Vec<Pick>, Memory>
+fn code_picks(alloc: Global, b: &mut NetBuilder, place: NamePlace) -> Result<Vec<Pick>, Memory>
     requires few { place.bits ≤ 4 }
     requires inside { place.first + place.bits ≤ b.old.vars }
     ensures begins { Begins b.old b.new }
@@ -105,7 +105,7 @@ fn field_entry(
     b: &mut NetBuilder,
     class: Class,
     id: NameId,
-    places: &[Place],
+    places: &[NamePlace],
 ) -> Result<Entry, Memory>
     requires placed { has_bits class ≡ true → IsTrue (is_some (place_of places.now id)) }
     requires inside { Each (IsInside b.old.vars) places.now }
@@ -140,7 +140,7 @@ pub fn given_entry(
     b: &mut NetBuilder,
     row: &Row,
     id: NameId,
-    places: &[Place],
+    places: &[NamePlace],
 ) -> Result<Entry, Memory>
     requires sound { is_number row.now.class ≡ is_constant row.now.role }
     requires placed { is_field row.now.role ≡ true → has_bits row.now.class ≡ true → IsTrue (is_some (place_of places.now id)) }

@@ -12,7 +12,7 @@ use y86_base::Memory;
 
 /// The first gate that is false, by its place, and the first part in which it is: what is found behind all parts.
 #[derive(Clone, Copy, Debug)]
-pub struct Found {
+pub struct FoundGate {
     pub place: usize,
     pub part: u64,
 }
@@ -84,9 +84,9 @@ fn search_part<P: PartPass>(
     gates: &[u64],
     bits: u32,
     p: u64,
-    so_far: Found,
+    so_far: FoundGate,
     how: &P,
-) -> Result<Found, Memory>
+) -> Result<FoundGate, Memory>
     requires gates { AreGatesOf net.now gates.now }
     requires bits { bits ≤ net.now.vars }
     requires part { p < 2 ^ bits }
@@ -99,7 +99,7 @@ fn search_part<P: PartPass>(
     let part = forced_part(alloc, net, gates, so_far.place, bits, p)?;
     match how.pass(alloc, &part)? {
         Pass::True => Ok(so_far),
-        Pass::False(place) => Ok(Found { place, part: p }),
+        Pass::False(place) => Ok(FoundGate { place, part: p }),
         Pass::Stopped(_) => Err(Memory),
     }
 }
@@ -112,13 +112,13 @@ pub fn search<P: PartPass>(
     gates: &[u64],
     cut: Cut,
     how: &P,
-) -> Result<Found, Memory>
+) -> Result<FoundGate, Memory>
     requires gates { AreGatesOf net.now gates.now }
     requires bits { cut.bits ≤ net.now.vars }
     requires parts { cut.parts ≡ 2 ^ cut.bits }
     ensures { IfOk result (λ x. IsSearched net.now gates.now cut.bits cut.parts x.place x.part) }
 {
-    let mut so_far = Found {
+    let mut so_far = FoundGate {
         place: gates.len(),
         part: 0,
     };

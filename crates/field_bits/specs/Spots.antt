@@ -1,6 +1,6 @@
 -- A table of fields that stand one behind the other among the variables: where each is, its number, and the bits of a line of numbers.
 use Rattle.std.specs.Prelude.{ℕ, ◌+◌, ◌^◌, ◌<◌, ◌==◌, List, [], ◌∷◌, ◌++◌, Bool, false, Option, Some, None, if◌then◌else◌}
-use Rattle.field_bits.specs.declared.spots.Place.{Place}
+use Rattle.field_bits.specs.declared.spots.FieldPlace.{FieldPlace}
 use Rattle.field_bits.specs.declared.spots.Spot.{Spot}
 use Rattle.field_bits.specs.Spelling.{spelt, spell}
 
@@ -14,7 +14,7 @@ abbrev pub is_name : Option ℕ → ℕ → Bool
 is_name None name = false
 is_name (Some x) name = x == name
 
-abbrev pub place_from : List Spot → ℕ → ℕ → Option Place
+abbrev pub place_from : List Spot → ℕ → ℕ → Option FieldPlace
 place_from [] first name = None
 place_from (s ∷ ss) first name = if is_name s.name name then Some (record { first = first; bits = s.bits }) else place_from ss (first + s.bits) name
 

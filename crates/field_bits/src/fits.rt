@@ -5,14 +5,14 @@ ghost use Rattle.field_bits.specs.Fits as spec;
 ghost use Rattle.field_bits.specs.Spelling.{spelt};
 
 use crate::gates::{below, same, spells};
-use crate::spots::Place;
+use crate::spots::FieldPlace;
 use nets::{NetBuilder, choose, implies};
 use y86_base::Memory;
 use y86_isa::{Field, Row, is_field_b};
 
 /// The field is at most the number.
 #[tactic(auto, using(nets::proofs::Truths::begins_more, crate::proofs::Fields::most_step))]
-pub fn at_most(b: &mut NetBuilder, p: Place, most: u64) -> Result<u64, Memory>
+pub fn at_most(b: &mut NetBuilder, p: FieldPlace, most: u64) -> Result<u64, Memory>
     requires place { p.first + p.bits ≤ b.old.vars }
     requires most { most < 16 }
     ensures begins { Begins b.old b.new }
@@ -23,7 +23,7 @@ pub fn at_most(b: &mut NetBuilder, p: Place, most: u64) -> Result<u64, Memory>
 }
 
 /// The field is the number, and a test holds.
-pub fn spells_if(b: &mut NetBuilder, holds: bool, p: Place, n: u64) -> Result<u64, Memory>
+pub fn spells_if(b: &mut NetBuilder, holds: bool, p: FieldPlace, n: u64) -> Result<u64, Memory>
     requires { p.first + p.bits ≤ b.old.vars }
     ensures begins { Begins b.old b.new }
     ensures made { IfOk result (λ g. IsGate b.new g (λ w. (spelt w p.first p.bits == n) && holds)) }
@@ -38,7 +38,7 @@ pub fn spells_if(b: &mut NetBuilder, holds: bool, p: Place, n: u64) -> Result<u6
 }
 
 /// A bit is 1 only where the gate is true and a test holds.
-pub fn only_where(b: &mut NetBuilder, may: bool, live: u64, bit: Place) -> Result<u64, Memory>
+pub fn only_where(b: &mut NetBuilder, may: bool, live: u64, bit: FieldPlace) -> Result<u64, Memory>
     requires live { live < length b.old.gates }
     requires place { bit.first + bit.bits ≤ b.old.vars }
     ensures begins { Begins b.old b.new }
@@ -53,7 +53,7 @@ pub fn only_where(b: &mut NetBuilder, may: bool, live: u64, bit: Place) -> Resul
 }
 
 /// A bit tells the condition of an ifun.
-pub fn cnd_fits(b: &mut NetBuilder, ifun: Place, cnd: Place) -> Result<u64, Memory>
+pub fn cnd_fits(b: &mut NetBuilder, ifun: FieldPlace, cnd: FieldPlace) -> Result<u64, Memory>
     requires ifun { ifun.first + ifun.bits ≤ b.old.vars }
     requires cnd { cnd.first + cnd.bits ≤ b.old.vars }
     ensures begins { Begins b.old b.new }
@@ -73,8 +73,8 @@ pub fn cnd_where(
     b: &mut NetBuilder,
     may: bool,
     live: u64,
-    ifun: Place,
-    cnd: Place,
+    ifun: FieldPlace,
+    cnd: FieldPlace,
 ) -> Result<u64, Memory>
     requires live { live < length b.old.gates }
     requires ifun { ifun.first + ifun.bits ≤ b.old.vars }
@@ -93,7 +93,12 @@ pub fn cnd_where(
 }
 
 /// A register field of the register byte.
-pub fn half_fits(b: &mut NetBuilder, has_byte: bool, used: bool, p: Place) -> Result<u64, Memory>
+pub fn half_fits(
+    b: &mut NetBuilder,
+    has_byte: bool,
+    used: bool,
+    p: FieldPlace,
+) -> Result<u64, Memory>
     requires { p.first + p.bits ≤ b.old.vars }
     ensures begins { Begins b.old b.new }
     ensures made { IfOk result (λ g. IsGate b.new g (λ w. spec.half_fits has_byte used (spelt w p.first p.bits))) }
@@ -111,7 +116,7 @@ pub fn half_fits(b: &mut NetBuilder, has_byte: bool, used: bool, p: Place) -> Re
 }
 
 /// The number of the register that a column names.
-pub fn register_fits(b: &mut NetBuilder, field: Field, p: Place) -> Result<u64, Memory>
+pub fn register_fits(b: &mut NetBuilder, field: Field, p: FieldPlace) -> Result<u64, Memory>
     requires { p.first + p.bits ≤ b.old.vars }
     ensures begins { Begins b.old b.new }
     ensures made { IfOk result (λ g. IsGate b.new g (λ w. spec.register_fits field (spelt w p.first p.bits))) }
@@ -124,7 +129,12 @@ pub fn register_fits(b: &mut NetBuilder, field: Field, p: Place) -> Result<u64, 
 }
 
 /// The second source is the destination of valE where both are the field `rB`.
-pub fn tied(b: &mut NetBuilder, row: &Row, src_b: Place, dst_e: Place) -> Result<u64, Memory>
+pub fn tied(
+    b: &mut NetBuilder,
+    row: &Row,
+    src_b: FieldPlace,
+    dst_e: FieldPlace,
+) -> Result<u64, Memory>
     requires source { src_b.first + src_b.bits ≤ b.old.vars }
     requires destination { dst_e.first + dst_e.bits ≤ b.old.vars }
     ensures begins { Begins b.old b.new }
@@ -141,8 +151,8 @@ pub fn tied(b: &mut NetBuilder, row: &Row, src_b: Place, dst_e: Place) -> Result
 pub fn destination_fits(
     b: &mut NetBuilder,
     row: &Row,
-    cnd: Place,
-    dst_e: Place,
+    cnd: FieldPlace,
+    dst_e: FieldPlace,
 ) -> Result<u64, Memory>
     requires cnd { cnd.first + cnd.bits ≤ b.old.vars }
     requires destination { dst_e.first + dst_e.bits ≤ b.old.vars }
@@ -165,8 +175,8 @@ pub fn reading_fits(
     count: u64,
     icode: u64,
     row: &Row,
-    error: Place,
-    ifun: Place,
+    error: FieldPlace,
+    ifun: FieldPlace,
 ) -> Result<u64, Memory>
     requires error { error.first + error.bits ≤ b.old.vars }
     requires ifun { ifun.first + ifun.bits ≤ b.old.vars }
@@ -190,7 +200,7 @@ pub fn stat_fits(
     count: u64,
     faulted: bool,
     icode: u64,
-    stat: Place,
+    stat: FieldPlace,
 ) -> Result<u64, Memory>
     requires { stat.first + stat.bits ≤ b.old.vars }
     ensures begins { Begins b.old b.new }
@@ -207,7 +217,7 @@ pub fn stat_fits(
 }
 
 /// An instruction outside the memory has ifun 0.
-fn blank_outside(b: &mut NetBuilder, stat: Place, ifun: Place) -> Result<u64, Memory>
+fn blank_outside(b: &mut NetBuilder, stat: FieldPlace, ifun: FieldPlace) -> Result<u64, Memory>
     requires stat { stat.first + stat.bits ≤ b.old.vars }
     requires ifun { ifun.first + ifun.bits ≤ b.old.vars }
     ensures begins { Begins b.old b.new }
@@ -225,8 +235,8 @@ pub fn code_fits(
     count: u64,
     icode: u64,
     row: &Row,
-    stat: Place,
-    ifun: Place,
+    stat: FieldPlace,
+    ifun: FieldPlace,
 ) -> Result<u64, Memory>
     requires stat { stat.first + stat.bits ≤ b.old.vars }
     requires ifun { ifun.first + ifun.bits ≤ b.old.vars }

@@ -3,7 +3,7 @@ ghost use Rattle.std.specs.Prelude.{◌≡◌, ◌<◌, ◌≤◌, ◌+◌, ◌=
 ghost use Rattle.nets.specs.Nets.{Begins, IsGate, agree, truth};
 ghost use Rattle.field_bits.specs.Spelling.{spelt};
 
-use crate::spots::Place;
+use crate::spots::FieldPlace;
 use nets::{NetBuilder, implies};
 use y86_base::Memory;
 
@@ -31,7 +31,7 @@ fn bits_same(b: &mut NetBuilder, v: u32, u: u32) -> Result<u64, Memory>
 }
 
 /// The field is the number.
-pub fn spells(b: &mut NetBuilder, p: Place, n: u64) -> Result<u64, Memory>
+pub fn spells(b: &mut NetBuilder, p: FieldPlace, n: u64) -> Result<u64, Memory>
     requires { p.first + p.bits ≤ b.old.vars }
     ensures begins { Begins b.old b.new }
     ensures made { IfOk result (λ g. IsGate b.new g (λ w. spelt w p.first p.bits == n)) }
@@ -44,13 +44,13 @@ pub fn spells(b: &mut NetBuilder, p: Place, n: u64) -> Result<u64, Memory>
     let bits = p.bits - 1;
     let last = bit_is(b, p.first + bits, n % 2 == 1)?;
     let first = p.first;
-    let rest = spells(b, Place { first, bits }, n / 2)?;
+    let rest = spells(b, FieldPlace { first, bits }, n / 2)?;
     let g = b.and(last, rest)?;
     Ok(g)
 }
 
 /// The field is below the number.
-pub fn below(b: &mut NetBuilder, p: Place, n: u64) -> Result<u64, Memory>
+pub fn below(b: &mut NetBuilder, p: FieldPlace, n: u64) -> Result<u64, Memory>
     requires { p.first + p.bits ≤ b.old.vars }
     ensures begins { Begins b.old b.new }
     ensures made { IfOk result (λ g. IsGate b.new g (λ w. nat_lt (spelt w p.first p.bits) n)) }
@@ -65,7 +65,7 @@ pub fn below(b: &mut NetBuilder, p: Place, n: u64) -> Result<u64, Memory>
 }
 
 /// Two fields have one number.
-pub fn same(b: &mut NetBuilder, p: Place, q: Place) -> Result<u64, Memory>
+pub fn same(b: &mut NetBuilder, p: FieldPlace, q: FieldPlace) -> Result<u64, Memory>
     requires first { p.first + p.bits ≤ b.old.vars }
     requires second { q.first + q.bits ≤ b.old.vars }
     ensures begins { Begins b.old b.new }
@@ -85,11 +85,11 @@ pub fn same(b: &mut NetBuilder, p: Place, q: Place) -> Result<u64, Memory>
     let last = bits_same(b, p.first + bits_p, q.first + bits_q)?;
     let rest = same(
         b,
-        Place {
+        FieldPlace {
             first: p.first,
             bits: bits_p,
         },
-        Place {
+        FieldPlace {
             first: q.first,
             bits: bits_q,
         },
@@ -99,7 +99,7 @@ pub fn same(b: &mut NetBuilder, p: Place, q: Place) -> Result<u64, Memory>
 }
 
 /// Where the field is the number, the gate is true.
-pub fn here(b: &mut NetBuilder, p: Place, n: u64, x: u64) -> Result<u64, Memory>
+pub fn here(b: &mut NetBuilder, p: FieldPlace, n: u64, x: u64) -> Result<u64, Memory>
     requires place { p.first + p.bits ≤ b.old.vars }
     requires gate { x < length b.old.gates }
     ensures begins { Begins b.old b.new }

@@ -2,7 +2,7 @@
 ghost use Rattle.std.specs.Prelude.{List, ℕ, Bool, ◌≡◌, Some};
 ghost use Rattle.field_bits.specs.Laws.{IsPatternOf, IsPlaceOf};
 ghost use Rattle.field_bits.specs.Spots.{decoded, InRange, place_from};
-ghost use Rattle.field_bits.specs.declared.spots.Place.{Place};
+ghost use Rattle.field_bits.specs.declared.spots.FieldPlace.{FieldPlace};
 ghost use Rattle.field_bits.specs.declared.spots.Spot.{Spot};
 
 /// Numbers in the range of a table's fields have a pattern of bits that spells them, whatever stands behind it; and
@@ -14,5 +14,5 @@ pub fn law_of_patterns()
 
 /// The bits at the place of a signal spell the number of its field.
 pub fn law_of_places()
-    ensures { (ss : List Spot) (name : ℕ) (p : Place) → place_from ss 0 name ≡ Some p → IsPlaceOf ss name p }
+    ensures { (ss : List Spot) (name : ℕ) (p : FieldPlace) → place_from ss 0 name ≡ Some p → IsPlaceOf ss name p }
 {}

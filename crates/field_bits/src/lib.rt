@@ -13,4 +13,4 @@ pub use fits::{
 };
 pub use gates::{below, bit_is, here, same, spells};
 pub use laws::{law_of_patterns, law_of_places};
-pub use spots::{Place, Spot, place_in};
+pub use spots::{FieldPlace, Spot, place_in};

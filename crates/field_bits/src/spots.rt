@@ -4,7 +4,7 @@ ghost use Rattle.field_bits.specs.Spots.{total, place_from};
 
 /// Which variables are the bits of a field, the most significant one first.
 #[derive(Clone, Copy, Debug, PartialEq, Eq)]
-pub struct Place {
+pub struct FieldPlace {
     pub first: u32,
     pub bits: u32,
 }
@@ -18,14 +18,14 @@ pub struct Spot {
 
 /// The place of the field that is a signal, if there is one, where the fields stand one behind the other from
 /// variable 0 on.
-pub fn place_in(fields: &[Spot], name: u32) -> Option<Place>
+pub fn place_in(fields: &[Spot], name: u32) -> Option<FieldPlace>
     requires { total fields.now < 2 ^ 32 }
     ensures { result ≡ place_from fields.now 0 name }
 {
     let mut first = 0;
     for field in fields {
         if field.name == Some(name) {
-            return Some(Place {
+            return Some(FieldPlace {
                 first,
                 bits: field.bits,
             });

@@ -24,7 +24,7 @@ use Rattle.ctl_atoms.specs.declared.leaf.Leaf.{Leaf}
 use Rattle.ctl_atoms.specs.Leaves.{Assignment, AtomsAre}
 use Rattle.ctl_formula.specs.Controls.{AreControls}
 use Rattle.ctl_formula.specs.declared.controls.Entry.{Entry}
-use Rattle.ctl_formula.specs.declared.controls.Place.{Place}
+use Rattle.ctl_formula.specs.declared.controls.NamePlace.{NamePlace}
 use Rattle.ctl_formula.specs.Picks.{Covers, IsInside, Tells}
 use Rattle.hazard_rules.specs.Designs.{places, IsTranslated}
 use Rattle.hazard_rules.specs.Belonging.{BelongTo}
@@ -89,7 +89,7 @@ places_stand vars le = record {
 }
 
 -- what the translation of a design gives, over the table and the places that it was asked for
-pub told_design : {translated : Gates} (terms : List Term) (rows : List Row) (ps : List Place) (ctl : List Entry) (atoms : List Atom) (vars : ℕ)
+pub told_design : {translated : Gates} (terms : List Term) (rows : List Row) (ps : List NamePlace) (ctl : List Entry) (atoms : List Atom) (vars : ℕ)
     → rows ≡ pipe_rows → ps ≡ places → AreAtoms rows terms atoms → vars ≡ bit_count + length atoms → translated.vars ≡ vars → IsInside translated ctl → Covers rows ctl
     → ((w : List Bool) (α : Assignment) (field : ℕ → ℕ) (cv : ℕ → Leaf) (listed : List Atom) → AreAtoms rows terms listed → AtomsAre listed (vars - length listed) w α
     → Spells ps w field → AreControls rows terms field α cv → Tells translated ctl w α cv)

@@ -8,23 +8,23 @@ use Rattle.ctl_atoms.specs.declared.leaf.Atom.{Atom}
 use Rattle.ctl_atoms.specs.Leaves.{Assignment, AtomsAre}
 use Rattle.ctl_atoms.specs.Atoms.{AreAtoms}
 use Rattle.ctl_formula.specs.declared.controls.Entry.{Entry}
-use Rattle.ctl_formula.specs.declared.controls.Place.{Place}
+use Rattle.ctl_formula.specs.declared.controls.NamePlace.{NamePlace}
 use Rattle.ctl_formula.specs.Picks.{Covers, IsInside, Tells}
 use Rattle.field_bits.specs.declared.spots.Spot.{Spot}
 use Rattle.pipe_fields.specs.Layout.{bit_count, fields_of, spots}
 use Rattle.hazard_rules.specs.Parts.{Controls}
 
 -- where each field of a table that is a signal stands, with the first field's first bit at a number
-abbrev placed : Option ℕ → ℕ → ℕ → List Place → List Place
+abbrev placed : Option ℕ → ℕ → ℕ → List NamePlace → List NamePlace
 placed None first bits rest = rest
 placed (Some name) first bits rest = record { name = name; first = first; bits = bits } ∷ rest
 
-abbrev pub places_from : List Spot → ℕ → List Place
+abbrev pub places_from : List Spot → ℕ → List NamePlace
 places_from [] first = []
 places_from (s ∷ ss) first = placed s.name first s.bits (places_from ss (first + s.bits))
 
 -- where each signal that is a field stands among the variables
-abbrev pub places : List Place
+abbrev pub places : List NamePlace
 places = places_from spots 0
 
 -- the net has a variable for each bit of a field and each atom, and its gates tell the control values of the design's names

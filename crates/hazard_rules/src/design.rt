@@ -6,7 +6,7 @@ ghost use Rattle.dp_signals.specs.PipeTable.{pipe_rows};
 ghost use Rattle.hazard_rules.specs.Designs.{IsTranslated, places as spec_places};
 
 use ctl_atoms::{Atom, CtlFault, atoms};
-use ctl_formula::{Controls, Place, translate};
+use ctl_formula::{Controls, NamePlace, translate};
 use dp_signals::{pipe_row as row, pipe_table};
 use hcl_types::{Design, Order};
 use nets::NetBuilder;
@@ -24,7 +24,7 @@ pub(crate) struct DesignGates {
 /// The place of a signal that is a field.
 macro_rules! place {
     ($name:expr, $field:expr) => {
-        Place {
+        NamePlace {
             name: $name,
             first: $field.first,
             bits: $field.bits,
@@ -33,7 +33,7 @@ macro_rules! place {
 }
 
 /// The places of the signals that are fields.
-static PLACES: [Place; 27] = [
+static PLACES: [NamePlace; 27] = [
     place!(row::IMEM_ERROR, field::F_ERROR),
     place!(row::IMEM_ICODE, field::F_ICODE),
     place!(row::IMEM_IFUN, field::F_IFUN),
@@ -64,7 +64,7 @@ static PLACES: [Place; 27] = [
 ];
 
 /// The places of the signals that are fields, as the translation of a design asks for them.
-fn places() -> &'static [Place]
+fn places() -> &'static [NamePlace]
     ensures { result.now ≡ spec_places }
 {
     &PLACES

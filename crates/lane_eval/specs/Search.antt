@@ -6,7 +6,7 @@ use Rattle.rule_gates.specs.declared.rules.Rule.{Rule}
 use Rattle.rule_gates.specs.declared.rules.Rules.{Rules}
 use Rattle.prog_gen.specs.Choices.{valuation}
 use Rattle.lane_eval.specs.Lanes.{in_place}
-use Rattle.lane_eval.specs.declared.search.Found.{Found}
+use Rattle.lane_eval.specs.declared.search.FoundRule.{FoundRule}
 
 -- the gates of rules are gates of the net
 abbrev pub AreGatesOf : Gates → List Rule → Type 0
@@ -39,6 +39,6 @@ module _ (holds : ℕ → Rule → Bool) (list : List Rule) where
     pub numbered : number ≡ rule.number
 
   -- what is found below a count: the least index at which a rule is false, with the first such rule; or that there is none
-  abbrev pub IsFirstFalse : ℕ → Option Found → Type 0
+  abbrev pub IsFirstFalse : ℕ → Option FoundRule → Type 0
   IsFirstFalse count None = (i : ℕ) → i < count → AllHold i
   IsFirstFalse count (Some found) = (found.index < count) × ((i : ℕ) → i < found.index → AllHold i) × IsFirstAt found.index found.rule

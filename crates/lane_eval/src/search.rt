@@ -16,7 +16,7 @@ use y86_base::{Memory, Variant};
 
 /// A rule that is false of a drawn valuation: the valuation's index, and the rule's number.
 #[derive(Clone, Copy, Debug, PartialEq, Eq)]
-pub struct Found {
+pub struct FoundRule {
     pub index: u64,
     pub rule: u32,
 }
@@ -47,7 +47,7 @@ fn draw_block(v: Variant, seed: u64, bits: &mut [bool], words: &mut [u64], lanes
 }
 
 /// The first place in which some rule of a list is false, and the first such rule.
-fn first_of(list: &[Rule], s: &Scratch) -> Option<Found>
+fn first_of(list: &[Rule], s: &Scratch) -> Option<FoundRule>
     requires { (k : ℕ) (x : Rule) → slice_get list.now k ≡ Some x → x.gate < length s.now }
     ensures { IsFirstFalse (holds_in s.now) list.now 512 result }
 {
@@ -62,7 +62,7 @@ fn first_of(list: &[Rule], s: &Scratch) -> Option<Found>
         }
     }
     if best < 512 {
-        Some(Found {
+        Some(FoundRule {
             index: best,
             rule: number,
         })
@@ -79,7 +79,7 @@ fn search_block(
     words: &mut [u64],
     lanes: &mut [u64x8],
     s: &mut Scratch,
-) -> Option<Found>
+) -> Option<FoundRule>
     requires fields { bit_count ≤ r.now.net.vars }
     requires gates { AreGatesOf r.now.net r.now.list }
     requires bits { length bits.old ≡ r.now.net.vars }
@@ -103,7 +103,7 @@ fn search_blocks(
     words: &mut [u64],
     lanes: &mut [u64x8],
     s: &mut Scratch,
-) -> Option<Found>
+) -> Option<FoundRule>
     requires fields { bit_count ≤ r.now.net.vars }
     requires gates { AreGatesOf r.now.net r.now.list }
     requires bits { length bits.old ≡ r.now.net.vars }
@@ -118,7 +118,7 @@ fn search_blocks(
         match search_block(r, seed.wrapping_add(at), bits, words, lanes, s) {
             Some(found) => {
                 if found.index < left {
-                    return Some(Found {
+                    return Some(FoundRule {
                         index: at + found.index,
                         rule: found.rule,
                     });
@@ -150,7 +150,12 @@ fn zeros<T: Copy>(alloc: Global, zero: T, n: u32) -> Result<Vec<T>, Memory>
 
 /// The least index below `count` at whose valuation of `seed` some rule is false, and the first such rule; `None` where there
 /// is none. The rules' net has a variable for each bit of a control valuation's fields, and one for each atom.
-pub fn first_false(alloc: Global, r: &Rules, seed: u64, count: u64) -> Result<Option<Found>, Memory>
+pub fn first_false(
+    alloc: Global,
+    r: &Rules,
+    seed: u64,
+    count: u64,
+) -> Result<Option<FoundRule>, Memory>
     requires fields { bit_count ≤ r.now.net.vars }
     requires atoms { r.now.net.vars ≤ bit_count + 64 }
     requires gates { AreGatesOf r.now.net r.now.list }

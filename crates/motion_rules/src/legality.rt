@@ -13,7 +13,7 @@ ghost use Rattle.pipe_obligations.specs.Stages as spec;
 
 use ctl_atoms::{Atom, AtomKind, Leaf, position};
 use dp_signals::pipe_row as signal;
-use field_bits::{Place, same, spells};
+use field_bits::{FieldPlace, same, spells};
 use nets::{NetBuilder, implies, without};
 use pipe_fields::BIT_COUNT;
 use pipe_fields::places::{
@@ -78,7 +78,7 @@ fn tells_back(
     x: u32,
     y: u32,
     here: u64,
-    back: Place,
+    back: FieldPlace,
 ) -> Result<u64, Memory>
     requires vars { bit_count + length atoms.now ≤ b.old.vars }
     requires few { length atoms.now ≤ 64 }
@@ -140,9 +140,9 @@ fn stage_tells_back(
     x: u32,
     y: u32,
     good: u64,
-    stat: Place,
-    icode: Place,
-    back: Place,
+    stat: FieldPlace,
+    icode: FieldPlace,
+    back: FieldPlace,
 ) -> Result<u64, Memory>
     requires vars { bit_count + length atoms.now ≤ b.old.vars }
     requires few { length atoms.now ≤ 64 }

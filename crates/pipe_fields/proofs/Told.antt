@@ -4,7 +4,7 @@ use Rattle.std.proofs.lemmas.Bool.Decides.{nat_tests}
 use Rattle.field_bits.proofs.Patterns.{pattern_of, decoded_range}
 use Rattle.field_bits.proofs.Places.{place_of}
 use Rattle.field_bits.specs.Spots.{decoded, number_among}
-use Rattle.field_bits.specs.declared.spots.Place.{Place}
+use Rattle.field_bits.specs.declared.spots.FieldPlace.{FieldPlace}
 use Rattle.pipe_fields.specs.Allowed.{allowed, stage_fits, fetch_allowed, decode_allowed, execute_allowed, memory_allowed, write_allowed}
 use Rattle.pipe_fields.specs.Laws.{HasNoRegisters, IsPatternOf, IsPlaceOf, of_bubbles}
 use Rattle.pipe_fields.specs.Layout as layout
@@ -25,7 +25,7 @@ pub numbers_of : (w : List Bool) → numbers (fields_of w) ≡ decoded spots 0 w
 unfolding fields_of
 numbers_of w = refl
 
-pub has_place : (name : ℕ) (p : Place) → layout.place_of name ≡ Some p → IsPlaceOf name p
+pub has_place : (name : ℕ) (p : FieldPlace) → layout.place_of name ≡ Some p → IsPlaceOf name p
 unfolding layout.place_of number_of
 has_place name p e =
     let h = place_of spots name p e in

@@ -1,7 +1,7 @@
 -- The fields of a control valuation of PIPE: five lines of numbers, and the bits that spell them.
 use Rattle.std.specs.Prelude.{ℕ, ◌+◌, List, [], ◌∷◌, Bool, get_or, Option, Some, None}
 use Rattle.dp_signals.specs.PipeNames as signal
-use Rattle.field_bits.specs.declared.spots.Place.{Place}
+use Rattle.field_bits.specs.declared.spots.FieldPlace.{FieldPlace}
 use Rattle.field_bits.specs.declared.spots.Spot.{Spot}
 use Rattle.field_bits.specs.Spots as table
 
@@ -193,7 +193,7 @@ abbrev pub pattern_of : Fields → List Bool → List Bool
 pattern_of c behind = table.pattern spots (numbers c) behind
 
 -- the place of a signal that is a field
-unfoldable pub place_of : ℕ → Option Place
+unfoldable pub place_of : ℕ → Option FieldPlace
 place_of name = table.place_from spots 0 name
 
 -- the number that the fields give a signal, and 0 to one that is no field

@@ -12,12 +12,12 @@ use crate::places::{
     E_DST_M, E_ICODE, E_IFUN, E_SRC_A, E_SRC_B, E_STAT, E_STOPS, M_BACK, M_DST_E, M_DST_M, M_ERROR,
     M_ICODE, M_IFUN, M_STAT, W_DST_E, W_DST_M, W_ICODE, W_STAT,
 };
-use field_bits::{Place, spells};
+use field_bits::{FieldPlace, spells};
 use nets::NetBuilder;
 use y86_base::Memory;
 
 /// The gate is true, and the field is the number.
-fn and_is(b: &mut NetBuilder, all: u64, p: Place, n: u64) -> Result<u64, Memory>
+fn and_is(b: &mut NetBuilder, all: u64, p: FieldPlace, n: u64) -> Result<u64, Memory>
     requires place { p.first + p.bits ≤ b.old.vars }
     requires gate { all < length b.old.gates }
     ensures begins { Begins b.old b.new }

@@ -15,15 +15,15 @@ use crate::places::{
     W_STAT,
 };
 use field_bits::{
-    Place, cnd_fits, cnd_where, code_fits, destination_fits, half_fits, only_where, reading_fits,
-    register_fits, spells, stat_fits, tied,
+    FieldPlace, cnd_fits, cnd_where, code_fits, destination_fits, half_fits, only_where,
+    reading_fits, register_fits, spells, stat_fits, tied,
 };
 use nets::NetBuilder;
 use y86_base::Memory;
 use y86_isa::{Row, accesses, is_branch};
 
 /// An instruction that is good and has no fault so far.
-fn live(b: &mut NetBuilder, kind: Place, stat: Place) -> Result<u64, Memory>
+fn live(b: &mut NetBuilder, kind: FieldPlace, stat: FieldPlace) -> Result<u64, Memory>
     requires kind { kind.first + kind.bits ≤ b.old.vars }
     requires stat { stat.first + stat.bits ≤ b.old.vars }
     ensures begins { Begins b.old b.new }
@@ -39,9 +39,9 @@ fn live(b: &mut NetBuilder, kind: Place, stat: Place) -> Result<u64, Memory>
 fn live_only(
     b: &mut NetBuilder,
     may: bool,
-    kind: Place,
-    stat: Place,
-    bit: Place,
+    kind: FieldPlace,
+    stat: FieldPlace,
+    bit: FieldPlace,
 ) -> Result<u64, Memory>
     requires kind { kind.first + kind.bits ≤ b.old.vars }
     requires stat { stat.first + stat.bits ≤ b.old.vars }
@@ -56,7 +56,7 @@ fn live_only(
 }
 
 /// A hidden bit may be 1 where a test holds.
-fn only_if(b: &mut NetBuilder, may: bool, bit: Place) -> Result<u64, Memory>
+fn only_if(b: &mut NetBuilder, may: bool, bit: FieldPlace) -> Result<u64, Memory>
     requires { bit.first + bit.bits ≤ b.old.vars }
     ensures begins { Begins b.old b.new }
     ensures made { IfOk result (λ g. IsGate b.new g (λ w. only_where may (spelt w bit.first bit.bits))) }
@@ -67,7 +67,12 @@ fn only_if(b: &mut NetBuilder, may: bool, bit: Place) -> Result<u64, Memory>
 }
 
 /// A jump that is fetched is taken where its condition holds, and no other instruction is.
-fn fetch_taken(b: &mut NetBuilder, jump: bool, ifun: Place, taken: Place) -> Result<u64, Memory>
+fn fetch_taken(
+    b: &mut NetBuilder,
+    jump: bool,
+    ifun: FieldPlace,
+    taken: FieldPlace,
+) -> Result<u64, Memory>
     requires ifun { ifun.first + ifun.bits ≤ b.old.vars }
     requires taken { taken.first + taken.bits ≤ b.old.vars }
     ensures begins { Begins b.old b.new }

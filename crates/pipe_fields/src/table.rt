@@ -4,7 +4,7 @@ ghost use Rattle.pipe_fields.specs.Layout as layout;
 
 use crate::places as place;
 use dp_signals::pipe_row as row;
-use field_bits::{Place, Spot, place_in};
+use field_bits::{FieldPlace, Spot, place_in};
 
 /// The field at a place: the signal of a row, or one that no signal reads.
 macro_rules! spot {
@@ -89,7 +89,7 @@ pub fn spots() -> &'static [Spot]
 
 /// The place of the field that a signal is, if it is one.
 #[tactic(auto, unfolding(crate::specs::Layout::place_of))]
-pub fn place_of(name: u32) -> Option<Place>
+pub fn place_of(name: u32) -> Option<FieldPlace>
     ensures { result ≡ layout.place_of name }
 {
     place_in(spots(), name)

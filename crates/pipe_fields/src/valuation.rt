@@ -13,13 +13,13 @@ use crate::bubbles::{decode_bubble, execute_bubble, memory_bubble, write_bubble}
 use crate::fits::{decode_fits, execute_fits, fetch_fits, memory_fits, write_fits};
 use crate::lines::Line;
 use crate::places::{D_ICODE, D_KIND, E_ICODE, E_KIND, F_ICODE, M_ICODE, M_KIND, W_ICODE, W_KIND};
-use field_bits::{Place, below, here, spells};
+use field_bits::{FieldPlace, below, here, spells};
 use nets::{NetBuilder, choose};
 use y86_base::{Memory, Variant};
 use y86_isa::{Row, icode_count, row};
 
 /// Where the icode of a line is.
-fn icode_place(line: Line) -> Place
+fn icode_place(line: Line) -> FieldPlace
     ensures is { (w : List Bool) → spelt w result.first result.bits ≡ icode_in line (fields_of w) }
     ensures within { result.first + result.bits ≤ bit_count }
     ensures bits { result.bits ≡ 4 }
@@ -101,7 +101,7 @@ pub fn line_fits(b: &mut NetBuilder, v: Variant, line: Line) -> Result<u64, Memo
 fn stage_fits(
     b: &mut NetBuilder,
     kinds: u64,
-    kind: Place,
+    kind: FieldPlace,
     bubble: u64,
     fits: u64,
 ) -> Result<u64, Memory>

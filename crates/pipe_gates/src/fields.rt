@@ -5,13 +5,13 @@ ghost use Rattle.field_bits.specs.Spelling.{spelt};
 ghost use Rattle.pipe_gates.specs.Columns.{has};
 
 use crate::columns::{RowTest, passes};
-use field_bits::{Place, spells, spells_if};
+use field_bits::{FieldPlace, spells, spells_if};
 use nets::NetBuilder;
 use y86_base::{Memory, Variant};
 use y86_isa::row;
 
 /// The list has the truth `true` at the number of the field.
-pub fn listed(b: &mut NetBuilder, list: &[bool], p: Place) -> Result<u64, Memory>
+pub fn listed(b: &mut NetBuilder, list: &[bool], p: FieldPlace) -> Result<u64, Memory>
     requires { p.first + p.bits ≤ b.old.vars }
     ensures begins { Begins b.old b.new }
     ensures made { IfOk result (λ g. IsGate b.new g (λ w. get_or list.now (spelt w p.first p.bits) false)) }
@@ -27,7 +27,12 @@ pub fn listed(b: &mut NetBuilder, list: &[bool], p: Place) -> Result<u64, Memory
 }
 
 /// The row of the icode that the field is passes the test.
-pub fn row_has(b: &mut NetBuilder, v: Variant, icode: Place, test: RowTest) -> Result<u64, Memory>
+pub fn row_has(
+    b: &mut NetBuilder,
+    v: Variant,
+    icode: FieldPlace,
+    test: RowTest,
+) -> Result<u64, Memory>
     requires place { icode.first + icode.bits ≤ b.old.vars }
     requires bits { icode.bits ≡ 4 }
     ensures begins { Begins b.old b.new }

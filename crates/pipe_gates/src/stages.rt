@@ -12,7 +12,7 @@ ghost use Rattle.pipe_obligations.specs.Stages as spec;
 
 use crate::columns::RowTest;
 use crate::fields::{listed, row_has};
-use field_bits::{Place, spells};
+use field_bits::{FieldPlace, spells};
 use nets::{NetBuilder, choose};
 use pipe_fields::places::{
     D_BACK, D_ICODE, D_IFUN, D_KIND, D_STAT, D_STOPS, D_TAKEN, E_BACK, E_CND, E_ICODE, E_IFUN,
@@ -23,7 +23,7 @@ use pipe_motion::{Settings, SlotGates, ViewGates};
 use y86_base::{Memory, Variant};
 
 /// The instruction stops the machine: its status isn't 1, or its fault bit is set.
-fn stops(b: &mut NetBuilder, stat: Place, fault: Place) -> Result<u64, Memory>
+fn stops(b: &mut NetBuilder, stat: FieldPlace, fault: FieldPlace) -> Result<u64, Memory>
     requires stat_place { stat.first + stat.bits ≤ b.old.vars }
     requires fault_place { fault.first + fault.bits ≤ b.old.vars }
     ensures begins { Begins b.old b.new }
@@ -37,7 +37,12 @@ fn stops(b: &mut NetBuilder, stat: Place, fault: Place) -> Result<u64, Memory>
 }
 
 /// A conditional jump that goes on.
-pub fn jump(b: &mut NetBuilder, v: Variant, stat: Place, icode: Place) -> Result<u64, Memory>
+pub fn jump(
+    b: &mut NetBuilder,
+    v: Variant,
+    stat: FieldPlace,
+    icode: FieldPlace,
+) -> Result<u64, Memory>
     requires stat_place { stat.first + stat.bits ≤ b.old.vars }
     requires icode_place { icode.first + icode.bits ≤ b.old.vars }
     requires bits { icode.bits ≡ 4 }
@@ -54,9 +59,9 @@ pub fn jump(b: &mut NetBuilder, v: Variant, stat: Place, icode: Place) -> Result
 fn other_way(
     b: &mut NetBuilder,
     s: &Settings,
-    ifun: Place,
-    taken: Place,
-    back: Place,
+    ifun: FieldPlace,
+    taken: FieldPlace,
+    back: FieldPlace,
 ) -> Result<u64, Memory>
     requires ifun_place { ifun.first + ifun.bits ≤ b.old.vars }
     requires taken_place { taken.first + taken.bits ≤ b.old.vars }
@@ -79,11 +84,11 @@ fn misses(
     b: &mut NetBuilder,
     v: Variant,
     s: &Settings,
-    stat: Place,
-    icode: Place,
-    ifun: Place,
-    taken: Place,
-    back: Place,
+    stat: FieldPlace,
+    icode: FieldPlace,
+    ifun: FieldPlace,
+    taken: FieldPlace,
+    back: FieldPlace,
 ) -> Result<u64, Memory>
     requires stat_place { stat.first + stat.bits ≤ b.old.vars }
     requires icode_place { icode.first + icode.bits ≤ b.old.vars }
@@ -104,7 +109,7 @@ fn misses(
 /// What stands in a stage, by its kind and gates of what counts of a good instruction.
 fn slot(
     b: &mut NetBuilder,
-    kind: Place,
+    kind: FieldPlace,
     stop: u64,
     turn: u64,
     miss: u64,

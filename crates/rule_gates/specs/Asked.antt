@@ -9,7 +9,7 @@ use Rattle.ctl_formula.specs.Picks.{Tells}
 use Rattle.field_bits.specs.Spelling.{spelt}
 use Rattle.rule_gates.specs.declared.asked.Wanted.{Wanted}
 use Rattle.rule_gates.specs.declared.asked.Wanted.TheVariants as want
-use Rattle.field_bits.specs.declared.spots.Place.{Place}
+use Rattle.field_bits.specs.declared.spots.FieldPlace.{FieldPlace}
 use Rattle.y86_isa.specs.declared.columns.Field.{Field}
 use Rattle.y86_isa.specs.declared.columns.Field.TheVariants.{Dash, FieldA, FieldB, Stack}
 use Rattle.y86_isa.specs.Table.{no_register, stack_pointer}
@@ -30,7 +30,7 @@ IsWithin vars (want.This leaf) = Unit {0}
 IsWithin vars (want.Field p) = p.first + p.bits ≤ vars
 
 -- the register that a column names
-abbrev pub register_wanted : Field → Place → Place → Wanted
+abbrev pub register_wanted : Field → FieldPlace → FieldPlace → Wanted
 register_wanted Dash r_a r_b = want.This (Number no_register)
 register_wanted FieldA r_a r_b = want.Field r_a
 register_wanted FieldB r_a r_b = want.Field r_b

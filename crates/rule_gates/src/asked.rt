@@ -9,7 +9,7 @@ ghost use Rattle.rule_gates.specs.Words as spec;
 
 use ctl_atoms::{Leaf, same_leaf};
 use ctl_formula::{Controls, Pick};
-use field_bits::{Place, spells};
+use field_bits::{FieldPlace, spells};
 use hcl_types::NameId;
 use nets::{NetBuilder, choose};
 use y86_base::Memory;
@@ -18,7 +18,7 @@ use y86_base::Memory;
 #[derive(Clone, Copy, Debug, PartialEq, Eq)]
 pub enum Wanted {
     This(Leaf),
-    Field(Place),
+    Field(FieldPlace),
 }
 
 /// A leaf is the wanted one.

@@ -11,7 +11,7 @@ ghost use Rattle.field_bits.specs.Spelling.{spelt};
 ghost use Rattle.rule_gates.specs.Asked.{IsAsked};
 
 use ctl_formula::Controls;
-use field_bits::{Place, here};
+use field_bits::{FieldPlace, here};
 use nets::NetBuilder;
 use y86_base::{Memory, Variant};
 use y86_isa::{Row, row};
@@ -44,7 +44,7 @@ pub fn by_icode<R: ByRow>(
     b: &mut NetBuilder,
     ctl: &Controls,
     v: Variant,
-    icode: Place,
+    icode: FieldPlace,
     rule: &R,
 ) -> Result<u64, Memory>
     requires inside { IsInside b.old ctl.now }

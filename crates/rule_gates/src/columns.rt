@@ -13,7 +13,7 @@ ghost use Rattle.rule_gates.specs.Words as spec;
 use crate::asked::{Wanted, takes, takes_if, takes_some};
 use ctl_atoms::Leaf;
 use ctl_formula::Controls;
-use field_bits::{Place, spells};
+use field_bits::{FieldPlace, spells};
 use hcl_types::NameId;
 use nets::NetBuilder;
 use y86_base::Memory;
@@ -70,7 +70,7 @@ pub fn word_leaf(column: Access, val_a: NameId, val_p: NameId) -> Option<Leaf>
 }
 
 /// The register that a column names, by the fields rA and rB.
-fn register_wanted(column: Field, r_a: Place, r_b: Place) -> Wanted
+fn register_wanted(column: Field, r_a: FieldPlace, r_b: FieldPlace) -> Wanted
     ensures { result ≡ register_wanted column r_a r_b }
 {
     match column {
@@ -87,8 +87,8 @@ pub fn register_is(
     ctl: &Controls,
     name: NameId,
     column: Field,
-    r_a: Place,
-    r_b: Place,
+    r_a: FieldPlace,
+    r_b: FieldPlace,
 ) -> Result<u64, Memory>
     requires inside { IsInside b.old ctl.now }
     requires known { IsTrue (has_picks ctl.now name) }
@@ -109,9 +109,9 @@ pub fn destination_is(
     name: NameId,
     conditional: bool,
     column: Field,
-    r_a: Place,
-    r_b: Place,
-    cnd: Place,
+    r_a: FieldPlace,
+    r_b: FieldPlace,
+    cnd: FieldPlace,
 ) -> Result<u64, Memory>
     requires inside { IsInside b.old ctl.now }
     requires known { IsTrue (has_picks ctl.now name) }
@@ -145,7 +145,7 @@ pub fn function_is(
     ctl: &Controls,
     name: NameId,
     selects: bool,
-    ifun: Place,
+    ifun: FieldPlace,
 ) -> Result<u64, Memory>
     requires inside { IsInside b.old ctl.now }
     requires known { IsTrue (has_picks ctl.now name) }
@@ -210,7 +210,7 @@ pub fn next_is(
     val_p: NameId,
     val_c: NameId,
     val_m: NameId,
-    cnd: Place,
+    cnd: FieldPlace,
 ) -> Result<u64, Memory>
     requires inside { IsInside b.old ctl.now }
     requires known { IsTrue (has_picks ctl.now name) }
@@ -234,7 +234,7 @@ fn jump_is(
     name: NameId,
     val_p: NameId,
     val_c: NameId,
-    cnd: Place,
+    cnd: FieldPlace,
 ) -> Result<u64, Memory>
     requires inside { IsInside b.old ctl.now }
     requires known { IsTrue (has_picks ctl.now name) }

@@ -14,7 +14,7 @@ use Rattle.ctl_atoms.specs.declared.leaf.Atom.{Atom}
 use Rattle.ctl_atoms.specs.declared.leaf.Leaf.{Leaf}
 use Rattle.ctl_formula.specs.Controls.{AreControls}
 use Rattle.ctl_formula.specs.declared.controls.Entry.{Entry}
-use Rattle.ctl_formula.specs.declared.controls.Place.{Place}
+use Rattle.ctl_formula.specs.declared.controls.NamePlace.{NamePlace}
 use Rattle.ctl_formula.specs.Picks.{Covers, IsInside, Tells}
 use Rattle.ctl_formula.proofs.Inside.{tells_more}
 use Rattle.rule_gates.specs.declared.rules.Rule.{Rule}
@@ -84,7 +84,7 @@ rules_are v terms net ctl atoms list are vars count asked tells = record {
   };
 }
 
-pub told_rules : {translated last : Gates} (v : Variant) (terms : List Term) (rows : List Row) (ps : List Place) (ctl : List Entry) (atoms : List Atom) (list : List Rule) (vars : ℕ)
+pub told_rules : {translated last : Gates} (v : Variant) (terms : List Term) (rows : List Row) (ps : List NamePlace) (ctl : List Entry) (atoms : List Atom) (list : List Rule) (vars : ℕ)
     → rows ≡ plus_rows → ps ≡ places → AreAtoms rows terms atoms → vars ≡ plus_bit_count + length atoms → translated.vars ≡ vars → IsInside translated ctl
     → ((w : List Bool) (α : Assignment) (field : ℕ → ℕ) (cv : ℕ → Leaf) (listed : List Atom) → AreAtoms rows terms listed → AtomsAre listed (vars - length listed) w α
     → Spells ps w field → AreControls rows terms field α cv → Tells translated ctl w α cv)

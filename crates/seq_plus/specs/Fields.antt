@@ -4,7 +4,7 @@ use Rattle.std.specs.Prelude.{ℕ, Bool, ◌&&◌, List, [], ◌∷◌, length, 
 use Rattle.y86_base.specs.declared.parts.Variant.{Variant}
 use Rattle.y86_isa.specs.Table.{rows}
 use Rattle.field_bits.specs.declared.spots.Spot.{Spot}
-use Rattle.field_bits.specs.declared.spots.Place.{Place}
+use Rattle.field_bits.specs.declared.spots.FieldPlace.{FieldPlace}
 use Rattle.field_bits.specs.Spots.{decoded, number_among}
 use Rattle.seq_obligations.specs.Fields as seq
 use Rattle.seq_plus.specs.PlusNames as signal
@@ -15,7 +15,7 @@ pub record Fields : Type 0 where
   pub cnd : ℕ
   pub line : seq.Fields
 
-abbrev spot : Place → ℕ → Spot
+abbrev spot : FieldPlace → ℕ → Spot
 spot p name = record { bits = p.bits; name = Some name }
 
 -- the table of the fields, in the order of the variables

@@ -10,11 +10,11 @@ use Rattle.ctl_atoms.specs.declared.leaf.Leaf.{Leaf}
 use Rattle.ctl_formula.specs.Controls.{AreControls}
 use Rattle.ctl_formula.specs.Picks.{has_picks}
 use Rattle.ctl_formula.specs.declared.controls.Entry.{Entry}
-use Rattle.ctl_formula.specs.declared.controls.Place.{Place}
+use Rattle.ctl_formula.specs.declared.controls.NamePlace.{NamePlace}
 use Rattle.seq_obligations.specs.Fields.{p_cnd, p_icode, plus_line}
 use Rattle.seq_obligations.specs.Obligations.{rule_count}
 use Rattle.field_bits.specs.Spots.{total}
-use Rattle.field_bits.specs.declared.spots.Place as field
+use Rattle.field_bits.specs.declared.spots.FieldPlace as field
 use Rattle.rule_gates.specs.declared.rules.Rule.{Rule}
 use Rattle.seq_obligations.specs.Rules.{AreNumbered}
 use Rattle.seq_obligations.specs.Signals.{IsReady}
@@ -29,11 +29,11 @@ pub record IsPlusReady (vars : ℕ) (ctl : List Entry) : Type 0 where
   pub code : p_cnd.first + p_cnd.bits ≤ vars
   pub pc : IsTrue (has_picks ctl signal.pc)
 
-abbrev place : field.Place → ℕ → Place
+abbrev place : field.FieldPlace → ℕ → NamePlace
 place p name = record { name = name; first = p.first; bits = p.bits }
 
 -- the places of the signals that are fields
-abbrev pub places : List Place
+abbrev pub places : List NamePlace
 places =
     place p_icode signal.pIcode ∷
     place p_cnd signal.pCnd ∷

@@ -22,7 +22,7 @@ macro_rules! spot {
 /// The place of the signal of a row, which is a field.
 macro_rules! place {
     ($place:expr, $name:expr) => {
-        ctl_formula::Place {
+        ctl_formula::NamePlace {
             name: $name,
             first: $place.first,
             bits: $place.bits,
@@ -92,7 +92,7 @@ pub(crate) fn signals() -> &'static Signals
     &SIGNALS
 }
 
-static PLACES: [ctl_formula::Place; 9] = [
+static PLACES: [ctl_formula::NamePlace; 9] = [
     place!(P_ICODE, row::P_ICODE),
     place!(P_CND, row::P_CND),
     place!(PLUS_LINE.error, row::IMEM_ERROR),
@@ -105,7 +105,7 @@ static PLACES: [ctl_formula::Place; 9] = [
 ];
 
 /// The places of the signals that are fields, as the translation of a design asks for them.
-pub(crate) fn places() -> &'static [ctl_formula::Place]
+pub(crate) fn places() -> &'static [ctl_formula::NamePlace]
     ensures { result.now ≡ places }
 {
     &PLACES

@@ -22,7 +22,7 @@ ghost use Rattle.y86_isa.specs.Table.{row};
 use crate::row_rules::RowRule;
 use ctl_formula::{Controls, Leaf};
 use dp_signals::pipe_row as signal;
-use field_bits::{Place, same, spells};
+use field_bits::{FieldPlace, same, spells};
 use hcl_types::NameId;
 use nets::{NetBuilder, implies};
 use pipe_fields::places::{E_CND, E_DST_E, E_ICODE, E_SRC_A, E_STAT, M_DST_M};
@@ -87,7 +87,7 @@ pub fn truth_where(
     ctl: &Controls,
     v: Variant,
     good: u64,
-    icode: Place,
+    icode: FieldPlace,
     test: RowTest,
     name: NameId,
 ) -> Result<u64, Memory>

@@ -21,7 +21,7 @@ use crate::execute_12_to_17::late_destination_is;
 use ctl_atoms::Leaf;
 use ctl_formula::Controls;
 use dp_signals::pipe_row as signal;
-use field_bits::Place;
+use field_bits::FieldPlace;
 use hcl_types::NameId;
 use nets::{NetBuilder, choose, implies};
 use pipe_fields::places::{D_ICODE, E_DST_M, M_DST_E, M_DST_M, W_DST_E, W_DST_M};
@@ -36,7 +36,7 @@ fn from_stage(
     ctl: &Controls,
     word: NameId,
     source: NameId,
-    at: Place,
+    at: FieldPlace,
     leaf: NameId,
     older: u64,
 ) -> Result<u64, Memory>

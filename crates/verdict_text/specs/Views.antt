@@ -1,6 +1,6 @@
 -- The code's labels as those of the definitions, and places whose numbers the code can tell.
 use Rattle.std.specs.Prelude.{◌≤◌, List, map}
-use Rattle.field_bits.specs.declared.spots.Place.{Place}
+use Rattle.field_bits.specs.declared.spots.FieldPlace.{FieldPlace}
 use Rattle.seq_obligations.specs.declared.signals.Line.{Line}
 use Rattle.verdict_text.specs.Fields.{Labelled}
 use Rattle.verdict_text.specs.declared.numbers.Shown as code
@@ -9,7 +9,7 @@ abbrev pub shown : List code.Shown → List Labelled
 shown xs = map (λ (x : code.Shown). record { label = x.label.now; number = x.number }) xs
 
 -- few bits, not far behind the first variable
-pub record IsNear (p : Place) : Type 0 where
+pub record IsNear (p : FieldPlace) : Type 0 where
   pub few : p.bits ≤ 4
   pub near : p.first ≤ 1000
 

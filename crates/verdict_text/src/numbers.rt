@@ -5,7 +5,7 @@ ghost use Rattle.hcl_read.specs.Print.{signed_decimal};
 ghost use Rattle.verdict_text.specs.Fields.{labelled};
 ghost use Rattle.verdict_text.specs.Views.{IsNear, shown};
 
-use field_bits::Place;
+use field_bits::FieldPlace;
 use y86_base::{Memory, Numeral};
 
 /// Puts bytes behind a text.
@@ -63,7 +63,7 @@ pub(crate) struct Shown {
 }
 
 /// The number of a field.
-pub(crate) fn number_at(bits: &[bool], place: Place) -> u64
+pub(crate) fn number_at(bits: &[bool], place: FieldPlace) -> u64
     requires near { IsNear place }
     ensures { result ≡ spelt bits.now place.first place.bits }
 {
@@ -71,7 +71,7 @@ pub(crate) fn number_at(bits: &[bool], place: Place) -> u64
 }
 
 /// A label with the number of a field.
-pub(crate) fn shown_at(label: &'static [u8], bits: &[bool], place: Place) -> Shown
+pub(crate) fn shown_at(label: &'static [u8], bits: &[bool], place: FieldPlace) -> Shown
     requires near { IsNear place }
     ensures label { result.label.now ≡ label.now }
     ensures number { result.number ≡ spelt bits.now place.first place.bits }

@@ -12,7 +12,7 @@ use Rattle.dp_signals.specs.PipeTable.{pipe_rows}
 use Rattle.hcl_types.specs.Tables.{IsOrderOf}
 use Rattle.hcl_types.specs.declared.term.Term.{Term}
 use Rattle.lane_eval.specs.Search.{IsFirstFalse, holds_drawn}
-use Rattle.lane_eval.specs.declared.search.Found.{Found}
+use Rattle.lane_eval.specs.declared.search.FoundRule.{FoundRule}
 use Rattle.prog_gen.specs.Choices.{valuation}
 use Rattle.rule_gates.specs.declared.rules.Rule.{Rule}
 use Rattle.rule_gates.specs.declared.rules.Rules.{Rules}
@@ -58,7 +58,7 @@ module _ (v : Variant) (terms : List Term) (ids : List ℕ) (o : IsOrderOf pipe_
   all_met i all k l m f =
       unless i (k - 1) (get_or r.list (k - 1) none) (place_of k l m) (all (k - 1) _ (place_of k l m)) (subst (IsFalseDrawn v terms drawn seed i) (one_back k l) f)
 
-  pub sampled : (count : ℕ) (found : Option Found) → IsFirstFalse (holds_drawn r seed) r.list count found → IsSampled v terms seed count found
+  pub sampled : (count : ℕ) (found : Option FoundRule) → IsFirstFalse (holds_drawn r seed) r.list count found → IsSampled v terms seed count found
   sampled count None all = record { drawn = drawn; none = λ i lt. all_met i (all i lt) }
   sampled count (Some found) f =
       let place : ℕ = f.2.place in
@@ -86,7 +86,7 @@ pub said_none : (name : List ℕ) (v : Variant) (terms : List Term) (seed count 
 said_none name v terms seed count old new result finds s =
     says_more (λ a. a ≡ done 0 (none_line count)) (SampleAnswers name v terms seed count) old new result (λ a told. inl (record { finds = finds; told = told })) s
 
-pub said_found : (name : List ℕ) (v : Variant) (terms : List Term) (seed count : ℕ) (found : Found) (old new : SinkSeen) (result : Result ℕ code.Stop) →
+pub said_found : (name : List ℕ) (v : Variant) (terms : List Term) (seed count : ℕ) (found : FoundRule) (old new : SinkSeen) (result : Result ℕ code.Stop) →
     IsSampled v terms seed count (Some found) → Says (λ a. a ≡ done 1 (found_line found.index found.rule)) old new result →
     Says (SampleAnswers name v terms seed count) old new result
 said_found name v terms seed count found old new result finds s =

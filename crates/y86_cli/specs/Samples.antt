@@ -5,7 +5,7 @@ use Rattle.pipe_obligations.specs.Rules.{rule_count}
 use Rattle.control_check.specs.PipeVerdicts.{AreSettings}
 use Rattle.dp_signals.specs.PipeTable.{pipe_rows}
 use Rattle.hcl_types.specs.declared.term.Term.{Term}
-use Rattle.lane_eval.specs.declared.search.Found.{Found}
+use Rattle.lane_eval.specs.declared.search.FoundRule.{FoundRule}
 use Rattle.pipe_motion.specs.declared.settings.Settings.{Settings}
 use Rattle.pipe_obligations.specs.Settled.{IsFalseAt, PipeControls}
 use Rattle.prog_gen.specs.Choices.{valuation}
@@ -42,7 +42,7 @@ pub record FindsFirst (v : Variant) (terms : List Term) (seed count index rule :
   pub earlier : (i : ℕ) → i < index → NoneFalseDrawn v terms drawn seed i
   pub before : (k : ℕ) → 1 ≤ k → k < rule → IsFalseDrawn v terms drawn seed index k → ⊥
 
-abbrev pub IsSampled : Variant → List Term → ℕ → ℕ → Option Found → Type 0
+abbrev pub IsSampled : Variant → List Term → ℕ → ℕ → Option FoundRule → Type 0
 IsSampled v terms seed count None = FindsNone v terms seed count
 IsSampled v terms seed count (Some found) = FindsFirst v terms seed count found.index found.rule
 

@@ -12,7 +12,7 @@ use crate::design::{Ordered, pipe_file};
 use crate::stop::Stop;
 use crate::verdict::control_stop;
 use control_check::{CheckFault, file_rules};
-use lane_eval::{Found, first_false};
+use lane_eval::{FoundRule, first_false};
 use std::alloc::Global;
 use wb_io::{Files, Sink, put_pieces};
 use y86_base::{Memory, Numeral, Variant};
@@ -25,7 +25,7 @@ fn sampled<'a>(
     ordered: &Ordered,
     seed: u64,
     count: u64,
-) -> Result<Option<Found>, Stop<'a>>
+) -> Result<Option<FoundRule>, Stop<'a>>
     requires { IsOrdered pipe_rows ordered.now }
     ensures found { IfOk result (IsSampled variant ordered.now.design.terms seed count) }
     ensures refused { IfErr result (Refuses (RefusesControl name.now pipe_rows ordered.now.design.terms)) }
@@ -54,7 +54,7 @@ fn say_none<'a, O: Sink>(count: u64, out: &mut O) -> Result<u8, Stop<'a>>
 
 /// Writes which obligation is false at which valuation.
 #[tactic(auto, unfolding(crate::specs::Samples::found_line))]
-fn say_found<'a, O: Sink>(found: Found, out: &mut O) -> Result<u8, Stop<'a>>
+fn say_found<'a, O: Sink>(found: FoundRule, out: &mut O) -> Result<u8, Stop<'a>>
     ensures { SaysOn O.taken O.faults (λ a. a ≡ done 1 (found_line found.index found.rule)) out.old out.new result }
 {
     let index = Numeral::decimal(found.index);

@@ -5,7 +5,7 @@ use Rattle.std.specs.Global.{Global}
 use Rattle.y86_words.specs.declared.option.Switch.{Switch}
 use Rattle.y86_words.specs.declared.option.Switch.TheVariants.{Full, Mem, Limit, Trace, Checked, Cert}
 use Rattle.std.specs.Borrow.{Bor}
-use Rattle.y86_words.specs.declared.form.Place as code_place
+use Rattle.y86_words.specs.declared.form.FormPlace as code_place
 use Rattle.y86_words.specs.Views.{place_in, words_in}
 use Rattle.y86_words.specs.Numbers.{number_that}
 use Rattle.y86_words.specs.Arguments.{Filled, added, all_added, Argument, place, switch, switch_of, index_of, takes, is_option, arguments, in_front}
@@ -76,7 +76,7 @@ index_below Cert = omega arith
 
 -- ---- places
 
-pub other_lengths : (ps : List code_place.Place) (ws : List (Bor (List ℕ))) → length ps ≢ length ws → fits_places (map place_in ps) (words_in ws) ≡ false
+pub other_lengths : (ps : List code_place.FormPlace) (ws : List (Bor (List ℕ))) → length ps ≢ length ws → fits_places (map place_in ps) (words_in ws) ≡ false
 other_lengths [] [] h = absurd (h refl)
 other_lengths [] (w ∷ ws) h = refl
 other_lengths (p ∷ ps) [] h = refl

@@ -14,18 +14,18 @@ use Rattle.y86_words.specs.declared.form.Kind.{Kind}
 use Rattle.y86_words.specs.declared.form.Kind.TheVariants.{Yas, Yis, Hcl, Ssim, Ssimp, Psim, CheckSeq, CheckPlus, CheckPipe, CertifyPipe, Recheck, Sample, Aig, Aigrun, Big}
 
 -- what a place takes: this word, the name of a file, or a number from a least one to a most one
-pub data Place : Type 0 where
-  keyword : List ℕ → Place
-  file : Place
-  number : ℕ → ℕ → Place
+pub data FormPlace : Type 0 where
+  keyword : List ℕ → FormPlace
+  file : FormPlace
+  number : ℕ → ℕ → FormPlace
 
 pub record Form : Type 0 where
   pub kind : Kind
   pub name : List ℕ
-  pub places : List Place
+  pub places : List FormPlace
   pub options : List Switch
 
-abbrev pub row : Kind → List ℕ → List Place → List Switch → Form
+abbrev pub row : Kind → List ℕ → List FormPlace → List Switch → Form
 row kind name places options = record { kind = kind; name = name; places = places; options = options }
 
 -- the most valuations that are drawn
@@ -63,12 +63,12 @@ forms =
 
 -- ---- the form that words have
 
-abbrev pub fits_place : Place → List ℕ → Bool
+abbrev pub fits_place : FormPlace → List ℕ → Bool
 fits_place (keyword text) given = bytes_eq given text
 fits_place file given = true
 fits_place (number least most) given = is_some (number_within least most given)
 
-abbrev pub fits_places : List Place → List (List ℕ) → Bool
+abbrev pub fits_places : List FormPlace → List (List ℕ) → Bool
 fits_places [] [] = true
 fits_places [] (word ∷ words) = false
 fits_places (place ∷ places) [] = false

@@ -5,14 +5,14 @@ use Rattle.std.specs.declared.alloc.Global.{Global}
 use Rattle.std.specs.declared.string.String.{String}
 use Rattle.y86_words.specs.declared.argument.Argument as code
 use Rattle.y86_words.specs.declared.argument.Argument.TheVariants as code_variants
-use Rattle.y86_words.specs.declared.argument.Found as code_found
+use Rattle.y86_words.specs.declared.argument.FoundWords as code_found
 use Rattle.y86_words.specs.declared.cmd.Cmd as code_command
 use Rattle.y86_words.specs.declared.cmd.Cmd.TheVariants as code_commands
 use Rattle.y86_words.specs.declared.form.Form as code_form
-use Rattle.y86_words.specs.declared.form.Place as code_place
-use Rattle.y86_words.specs.declared.form.Place.TheVariants as code_places
+use Rattle.y86_words.specs.declared.form.FormPlace as code_place
+use Rattle.y86_words.specs.declared.form.FormPlace.TheVariants as code_places
 use Rattle.y86_words.specs.Arguments.{Argument, place, switch, arguments, in_front, Filled}
-use Rattle.y86_words.specs.Forms.{Command, yas, yis, hcl, ssim, ssimp, psim, check_seq, check_plus, check_pipe, certify_pipe, recheck, Form, Place, keyword, file, number, sample, aig, aigrun, big}
+use Rattle.y86_words.specs.Forms.{Command, yas, yis, hcl, ssim, ssimp, psim, check_seq, check_plus, check_pipe, certify_pipe, recheck, Form, FormPlace, keyword, file, number, sample, aig, aigrun, big}
 
 abbrev pub argument_in : code.Argument → Argument
 argument_in (code_variants.Place word) = place word.now
@@ -34,10 +34,10 @@ FirstArgument words (Some split) = arguments words ≡ in_front (Some split.argu
 abbrev pub words_in : List (Bor (List ℕ)) → List (List ℕ)
 words_in words = map (λ word. word.now) words
 
-abbrev pub filled_in : code_found.Found → Filled
+abbrev pub filled_in : code_found.FoundWords → Filled
 filled_in found = record { words = words_in found.words.items; values = found.values }
 
-abbrev pub place_in : code_place.Place → Place
+abbrev pub place_in : code_place.FormPlace → FormPlace
 place_in (code_places.Keyword text) = keyword text.now
 place_in code_places.File = file
 place_in (code_places.Number least most) = number least most

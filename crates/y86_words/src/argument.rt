@@ -44,13 +44,13 @@ fn first_argument<'a>(word: &'a str, behind: &'a [String]) -> Option<(Argument<'
 /// What was found in the words behind a name: the words of the places, in order, and the number of each option that is
 /// there.
 #[derive(Drop)]
-pub struct Found<'a> {
+pub struct FoundWords<'a> {
     pub words: ArrayVec<&'a str, 3>,
     pub values: [Option<u64>; 6],
 }
 
 /// What was found and one more argument, where its place or option isn't taken yet.
-fn added<'a>(found: Found<'a>, argument: Argument<'a>) -> Option<Found<'a>>
+fn added<'a>(found: FoundWords<'a>, argument: Argument<'a>) -> Option<FoundWords<'a>>
     ensures { option_map filled_in result ≡ spec.added (filled_in found.entry) (argument_in argument.entry) }
 {
     let mut found = found;
@@ -73,11 +73,11 @@ fn added<'a>(found: Found<'a>, argument: Argument<'a>) -> Option<Found<'a>>
 }
 
 /// What is found in some words, where all of them are arguments and none stands twice.
-pub fn found_in<'a>(words: &'a [String]) -> Option<Found<'a>>
+pub fn found_in<'a>(words: &'a [String]) -> Option<FoundWords<'a>>
     ensures { option_map filled_in result
         ≡ option_and_then (spec.all_added (Some spec.nothing_filled)) (spec.arguments (map string_bytes words.now)) }
 {
-    let mut found = Found {
+    let mut found = FoundWords {
         words: ArrayVec::new(),
         values: [None, None, None, None, None, None],
     };

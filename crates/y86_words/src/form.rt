@@ -6,7 +6,7 @@ ghost use Rattle.y86_words.specs.Arguments as arguments;
 ghost use Rattle.y86_words.specs.Forms as spec;
 ghost use Rattle.y86_words.specs.Views.{command_in, filled_in, form_in, place_in, words_in};
 
-use crate::argument::Found;
+use crate::argument::FoundWords;
 use crate::cmd::Cmd;
 use crate::number::number_within;
 use crate::option::{Switch, index_of};
@@ -22,14 +22,14 @@ const DEFAULT_LIMIT: u64 = 10_000;
 const MOST_DRAWN: u64 = 1_000_000;
 
 /// A number that draws begin with.
-const SEED: Place = Place::Number(0, u64::MAX);
+const SEED: FormPlace = FormPlace::Number(0, u64::MAX);
 
 /// The most instructions of a generated program, but for the last, which halts.
 const MOST_INSTRUCTIONS: u64 = 100_000;
 
 /// What a place of a form takes.
 #[derive(Clone, Copy, Debug)]
-pub enum Place {
+pub enum FormPlace {
     /// This word.
     Keyword(&'static str),
     /// The name of a file.
@@ -64,7 +64,7 @@ pub enum Kind {
 struct Form {
     kind: Kind,
     name: &'static str,
-    places: &'static [Place],
+    places: &'static [FormPlace],
     options: &'static [Switch],
 }
 
@@ -73,37 +73,37 @@ static FORMS: [Form; 15] = [
     Form {
         kind: Kind::Yas,
         name: "yas",
-        places: &[Place::File],
+        places: &[FormPlace::File],
         options: &[Switch::Full, Switch::Mem],
     },
     Form {
         kind: Kind::Yis,
         name: "yis",
-        places: &[Place::File],
+        places: &[FormPlace::File],
         options: &[Switch::Full, Switch::Mem, Switch::Limit],
     },
     Form {
         kind: Kind::Hcl,
         name: "hcl",
-        places: &[Place::File],
+        places: &[FormPlace::File],
         options: &[],
     },
     Form {
         kind: Kind::Ssim,
         name: "ssim",
-        places: &[Place::File, Place::File],
+        places: &[FormPlace::File, FormPlace::File],
         options: &[Switch::Full, Switch::Mem, Switch::Limit],
     },
     Form {
         kind: Kind::Ssimp,
         name: "ssimp",
-        places: &[Place::File, Place::File],
+        places: &[FormPlace::File, FormPlace::File],
         options: &[Switch::Full, Switch::Mem, Switch::Limit],
     },
     Form {
         kind: Kind::Psim,
         name: "psim",
-        places: &[Place::File, Place::File],
+        places: &[FormPlace::File, FormPlace::File],
         options: &[
             Switch::Full,
             Switch::Mem,
@@ -115,74 +115,74 @@ static FORMS: [Form; 15] = [
     Form {
         kind: Kind::CheckSeq,
         name: "check",
-        places: &[Place::Keyword("seq"), Place::File],
+        places: &[FormPlace::Keyword("seq"), FormPlace::File],
         options: &[Switch::Full],
     },
     Form {
         kind: Kind::CheckPlus,
         name: "check",
-        places: &[Place::Keyword("seqplus"), Place::File],
+        places: &[FormPlace::Keyword("seqplus"), FormPlace::File],
         options: &[Switch::Full],
     },
     Form {
         kind: Kind::CheckPipe,
         name: "check",
-        places: &[Place::Keyword("pipe"), Place::File],
+        places: &[FormPlace::Keyword("pipe"), FormPlace::File],
         options: &[Switch::Full],
     },
     // Only with `--cert`: without it the words have the form above.
     Form {
         kind: Kind::CertifyPipe,
         name: "check",
-        places: &[Place::Keyword("pipe"), Place::File],
+        places: &[FormPlace::Keyword("pipe"), FormPlace::File],
         options: &[Switch::Full, Switch::Cert],
     },
     Form {
         kind: Kind::Recheck,
         name: "recheck",
-        places: &[Place::File, Place::File],
+        places: &[FormPlace::File, FormPlace::File],
         options: &[Switch::Full],
     },
     Form {
         kind: Kind::Sample,
         name: "sample",
-        places: &[Place::File, SEED, Place::Number(0, MOST_DRAWN)],
+        places: &[FormPlace::File, SEED, FormPlace::Number(0, MOST_DRAWN)],
         options: &[Switch::Full],
     },
     Form {
         kind: Kind::Aig,
         name: "aig",
-        places: &[Place::File],
+        places: &[FormPlace::File],
         options: &[Switch::Full],
     },
     Form {
         kind: Kind::Aigrun,
         name: "aigrun",
-        places: &[Place::File, SEED],
+        places: &[FormPlace::File, SEED],
         options: &[],
     },
     Form {
         kind: Kind::Big,
         name: "big",
-        places: &[Place::Number(1, MOST_INSTRUCTIONS), Place::File],
+        places: &[FormPlace::Number(1, MOST_INSTRUCTIONS), FormPlace::File],
         options: &[Switch::Full],
     },
 ];
 
 /// Whether a place takes a word.
-fn fits_place(place: Place, word: &str) -> bool
+fn fits_place(place: FormPlace, word: &str) -> bool
     ensures { result ≡ spec.fits_place (place_in place) word.now }
 {
     match place {
-        Place::Keyword(text) => word == text,
-        Place::File => true,
-        Place::Number(least, most) => number_within(word.as_bytes(), least, most).is_some(),
+        FormPlace::Keyword(text) => word == text,
+        FormPlace::File => true,
+        FormPlace::Number(least, most) => number_within(word.as_bytes(), least, most).is_some(),
     }
 }
 
 /// Whether there are as many words as places, and each place takes its word.
 #[tactic(auto, using(crate::proofs::Arguments::other_lengths))]
-fn fits_places(places: &[Place], words: &[&str]) -> bool
+fn fits_places(places: &[FormPlace], words: &[&str]) -> bool
     ensures { result ≡ spec.fits_places (map place_in places.now) (words_in words.now) }
 {
     if places.len() != words.len() {
@@ -206,7 +206,7 @@ fn has(options: &[Switch], index: usize) -> bool
 }
 
 /// The number of an option, where it is there.
-fn value_of(found: &Found<'_>, switch: Switch) -> Option<u64>
+fn value_of(found: &FoundWords<'_>, switch: Switch) -> Option<u64>
     ensures { result ≡ get_or found.now.values (arguments.index_of switch) None }
 {
     let values = found.values;
@@ -214,14 +214,14 @@ fn value_of(found: &Found<'_>, switch: Switch) -> Option<u64>
 }
 
 /// Whether an option isn't there, or is one of the form's.
-fn fits_switch(options: &[Switch], found: &Found<'_>, switch: Switch) -> bool
+fn fits_switch(options: &[Switch], found: &FoundWords<'_>, switch: Switch) -> bool
     ensures { result ≡ spec.fits_switch options.now found.now.values switch }
 {
     value_of(found, switch).is_none() || has(options, index_of(switch))
 }
 
 /// Whether a name and what was found behind it have a form.
-fn fits(form: &Form, name: &str, found: &Found<'_>) -> bool
+fn fits(form: &Form, name: &str, found: &FoundWords<'_>) -> bool
     ensures { result ≡ spec.fits (form_in form.now) name.now (filled_in found.now) }
 {
     name == form.name
@@ -245,7 +245,7 @@ fn variant_with(full: Option<u64>) -> Variant
 }
 
 /// The number in a place, where it is within a range.
-fn number_at(found: &Found<'_>, at: usize, least: u64, most: u64) -> Option<u64>
+fn number_at(found: &FoundWords<'_>, at: usize, least: u64, most: u64) -> Option<u64>
     ensures { result ≡ spec.number_at least most at (filled_in found.now) }
 {
     let word = *found.words.as_slice().get(at)?;
@@ -253,7 +253,7 @@ fn number_at(found: &Found<'_>, at: usize, least: u64, most: u64) -> Option<u64>
 }
 
 /// The command of a row with what was found. An option that isn't there has its default.
-fn made<'a>(kind: Kind, found: &Found<'a>) -> Option<Cmd<'a>>
+fn made<'a>(kind: Kind, found: &FoundWords<'a>) -> Option<Cmd<'a>>
     ensures { option_map command_in result ≡ spec.made kind (filled_in found.now) }
 {
     let variant = variant_with(value_of(found, Switch::Full));
@@ -345,7 +345,7 @@ fn made<'a>(kind: Kind, found: &Found<'a>) -> Option<Cmd<'a>>
 
 /// The command of the first of some forms that a name and what was found behind it have.
 #[tactic(auto, unfolding(crate::specs::Forms::first_fit))]
-fn first_fit<'a>(forms: &[Form], name: &str, found: &Found<'a>) -> Option<Cmd<'a>>
+fn first_fit<'a>(forms: &[Form], name: &str, found: &FoundWords<'a>) -> Option<Cmd<'a>>
     ensures { option_map command_in result ≡ spec.first_fit (map form_in forms.now) name.now (filled_in found.now) }
 {
     for form in forms {
@@ -357,7 +357,7 @@ fn first_fit<'a>(forms: &[Form], name: &str, found: &Found<'a>) -> Option<Cmd<'a
 }
 
 /// The command of a name and what was found behind it.
-pub fn command_of<'a>(name: &str, found: &Found<'a>) -> Option<Cmd<'a>>
+pub fn command_of<'a>(name: &str, found: &FoundWords<'a>) -> Option<Cmd<'a>>
     ensures { option_map command_in result ≡ spec.first_fit spec.forms name.now (filled_in found.now) }
 {
     first_fit(&FORMS, name, found)
