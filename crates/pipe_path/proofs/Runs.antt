@@ -14,7 +14,9 @@ use Rattle.dp_signals.specs.declared.movers.Ending.TheVariants.{Going, Stopped, 
 use Rattle.pipe_path.specs.declared.pipe.Cycled.{Cycled}
 use Rattle.pipe_path.specs.declared.pipe.Cycled.TheVariants as told
 use Rattle.pipe_path.specs.Calls.{IsRun, record_in, CallsAreTheRun}
-use Rattle.pipe_path.specs.Pipe.{Pipe, Cycle, after_cycle, count, told_by}
+use Rattle.pipe_path.specs.Pipe.{Pipe, Cycle, after_cycle, told_by}
+use Rattle.machine_calls.specs.Records.{count}
+use Rattle.machine_calls.proofs.Records.{counted}
 
 -- the machine of the definition of a run that a machine and its records stand for
 abbrev run_machine : Pipe → List Rec → run.Pipe
@@ -25,10 +27,6 @@ record_told Going None = refl
 record_told Going (Some r) = refl
 record_told Stopped r = refl
 record_told Pip r = refl
-
-pub counted : (r : Option Rec) → length (option_to_list r) ≡ count r
-counted None = refl
-counted (Some r) = refl
 
 -- what one call adds to a run
 module _ (v : Variant) (terms : List Term) (image : List ℕ) (k : ℕ) (m : Pipe) (before : List Rec) (so_far : IsRun v terms image k m before) where

@@ -16,6 +16,7 @@ use Rattle.dp_signals.specs.PipeState.{start_state}
 use Rattle.dp_signals.specs.declared.movers.Ending.{Ending}
 use Rattle.dp_signals.specs.declared.movers.Ending.TheVariants.{Going, Stopped, Pip}
 use Rattle.dp_signals.specs.declared.pipe_state.PipeState.{PipeState}
+use Rattle.machine_calls.specs.Records.{count}
 use Rattle.pipe_path.specs.declared.pipe.Cycled.{Cycled}
 use Rattle.pipe_path.specs.declared.pipe.Cycled.TheVariants as told
 
@@ -38,10 +39,6 @@ seen v terms order state cycles retired end =
 -- the machine before its first cycle
 abbrev pub started : Variant → List Term → List ℕ → List ℕ → Pipe
 started v terms order image = seen v terms order (start_state image) 0 0 stat.Aok
-
-abbrev pub count : Option Rec → ℕ
-count None = 0
-count (Some r) = 1
 
 -- the machine after a cycle with these values
 abbrev pub after_cycle : Pipe → (ℕ → ℕ) → Pipe

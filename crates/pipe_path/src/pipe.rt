@@ -2,7 +2,6 @@
 ghost use Rattle.std.specs.Prelude.{◌≡◌, ◌<◌, ◌^◌, ◌+◌, ◌≤◌, Option, Some, None, IfSome};
 ghost use Rattle.dp_signals.specs.PipeTable.{pipe_rows};
 ghost use Rattle.hcl_types.specs.Tables.{IsBound, IsOrderOf};
-ghost use Rattle.y86_isa.specs.Machine.{is_aok};
 ghost use Rattle.yis_run.specs.Report.{ended};
 ghost use Rattle.dp_signals.specs.PipeRun as run;
 ghost use Rattle.pipe_path.specs.Calls.{record_in};
@@ -11,6 +10,7 @@ ghost use Rattle.pipe_path.specs.Pipe as spec;
 
 use dp_signals::{Ending, PipeState, advance, end_of_cycle, ending, retires, solve_pipe};
 use hcl_types::{Design, Order, SignalEval};
+use machine_calls::{count, is_going};
 use std::marker::Model;
 use y86_base::{Image, Stat, Variant};
 use y86_isa::Rec;
@@ -57,21 +57,6 @@ impl<C: SignalEval> Model for Pipe<C> {
     ghost view = { λ p. seen p.variant p.design.terms p.order.ids p.state p.cycles p.retired p.end };
 
     ghost invariant = { λ p. C.evaluates p.evaluator p.design.terms × IsPipe p.design.terms p.order.ids p.cycles p.retired };
-}
-
-fn is_going(end: Stat) -> bool
-    ensures { result ≡ is_aok end }
-{
-    matches!(end, Stat::Aok)
-}
-
-fn count(retired: Option<Rec>) -> u64
-    ensures { result ≡ spec.count retired }
-{
-    match retired {
-        Some(_) => 1,
-        None => 0,
-    }
 }
 
 fn told(ending: Ending, retired: Option<Rec>) -> Cycled

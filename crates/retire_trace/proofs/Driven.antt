@@ -9,9 +9,10 @@ use Rattle.wb_io.proofs.Writes.{took_nothing, took_more}
 use Rattle.y86_isa.specs.Machine.{is_aok}
 use Rattle.y86_isa.specs.declared.machine.Rec.{Rec}
 use Rattle.pipe_path.specs.Calls.{record_in}
-use Rattle.pipe_path.specs.Pipe.{Pipe, Cycle, count}
+use Rattle.machine_calls.specs.Records.{count}
+use Rattle.machine_calls.proofs.Records as lengths
+use Rattle.pipe_path.specs.Pipe.{Pipe, Cycle}
 use Rattle.pipe_path.specs.declared.pipe.Cycled.{Cycled}
-use Rattle.pipe_path.proofs.Runs as runs
 use Rattle.retire_trace.specs.TraceLine.{trace_line}
 use Rattle.retire_trace.specs.Drive.{Goes, TracedCycle, Drives, Fails, traced}
 use Rattle.retire_trace.specs.declared.driving.Drove.{Drove}
@@ -45,10 +46,6 @@ traced_off trace rs e = ap (λ b. traced b rs) e
 pub traced_on : (trace : Bool) (r : Rec) → trace ≡ true → traced trace (r ∷ []) ≡ trace_line r
 traced_on trace r e = ap (λ b. traced b (r ∷ [])) e ∙ traced_one r
 
-pub count_small : (r : Option Rec) → count r ≤ 1
-count_small None = omega arith
-count_small (Some r) = omega arith
-
 -- what a drive has done: k cycles, before each of which the machine went on, and the lines of what retired
 pub record Driven (p : Pipe) (k : ℕ) (q : Pipe) (trace : Bool) (old new : Option (List ℕ)) (retired : ℕ) : Type 0 where
   pub records : List Rec
@@ -74,7 +71,7 @@ driven_more p k m q trace old mid new n retired d going t =
     record {
       records = d.records ++ option_to_list retired;
       goes = one_more p k m q d.records t.0 retired d.goes going t.1 t.2;
-      counted = ap (λ z. z + count retired) d.counted ∙ (ap (λ z. length d.records + z) (sym (runs.counted retired)) ∙ sym (length-append d.records (option_to_list retired)));
+      counted = ap (λ z. z + count retired) d.counted ∙ (ap (λ z. length d.records + z) (sym (lengths.counted retired)) ∙ sym (length-append d.records (option_to_list retired)));
       taken = rw (traced_append trace d.records (option_to_list retired)) (took_more old mid new (traced trace d.records) (traced trace (option_to_list retired)) d.taken t.3);
     }
 

@@ -2,13 +2,12 @@
 ghost use Rattle.std.specs.Prelude.{◌≡◌, ◌<◌, ◌≤◌, ◌+◌, ◌^◌, ℕ, List, OnErr, IfOk};
 ghost use Rattle.wb_io.specs.Causes.{CountsFaults};
 ghost use Rattle.wb_io.specs.Sinks.{Took};
-ghost use Rattle.y86_isa.specs.Machine.{is_aok};
 ghost use Rattle.pipe_path.specs.Calls.{record_in};
-ghost use Rattle.pipe_path.specs.Pipe as pipe;
 ghost use Rattle.retire_trace.specs.Drive as spec;
 
 use crate::trace_line::line;
 use hcl_types::SignalEval;
+use machine_calls::{count, is_going};
 use pipe_path::{Cycled, Pipe};
 use wb_io::{Failed, Sink};
 use y86_base::Stat;
@@ -33,21 +32,6 @@ fn record_of(cycled: Cycled) -> Option<Rec>
         Cycled::Bubble => None,
         Cycled::Ended => None,
     }
-}
-
-fn count(retired: Option<Rec>) -> u64
-    ensures { result ≡ pipe.count retired }
-{
-    match retired {
-        Some(_) => 1,
-        None => 0,
-    }
-}
-
-fn is_going<C: SignalEval>(p: &Pipe<C>) -> bool
-    ensures { result ≡ is_aok p.now.end }
-{
-    matches!(p.status(), Stat::Aok)
 }
 
 /// Does one cycle, and writes the line of the record that retired where a trace is asked for.
@@ -94,7 +78,7 @@ pub fn drive<C: SignalEval, S: Sink>(
 {
     let mut retired = 0;
     for k in 0..limit {
-        if !is_going(p) {
+        if !is_going(p.status()) {
             return Ok(Drove {
                 cycles: k,
                 retired,

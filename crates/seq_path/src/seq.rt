@@ -3,13 +3,12 @@ ghost use Rattle.std.specs.Prelude.{◌≡◌, ◌≢◌, ◌↔◌, IsNone};
 ghost use Rattle.dp_signals.specs.SeqTable.{seq_rows};
 ghost use Rattle.hcl_types.specs.Tables.{IsBound, IsOrderOf};
 ghost use Rattle.y86_base.specs.declared.parts.Stat.TheVariants.{Aok};
-ghost use Rattle.y86_isa.specs.Machine.{is_aok};
 ghost use Rattle.yis_run.specs.Report.{ended};
 ghost use Rattle.seq_path.specs.Seq as spec;
 
 use dp_signals::{SeqState, seq_advance, seq_record, solve_seq};
 use hcl_types::{Design, Order, SignalEval};
-use machine_calls::Cycles;
+use machine_calls::{Cycles, is_going};
 use std::marker::Model;
 use y86_base::{Image, Stat, Variant};
 use y86_isa::Rec;
@@ -38,12 +37,6 @@ impl<C: SignalEval> Model for Seq<C> {
     ghost view = { λ p. seen p.variant p.design.terms p.order.ids p.state };
 
     ghost invariant = { λ p. C.evaluates p.evaluator p.design.terms × IsSeq p.design.terms p.order.ids };
-}
-
-fn is_going(stat: Stat) -> bool
-    ensures { result ≡ is_aok stat }
-{
-    matches!(stat, Stat::Aok)
 }
 
 impl<C: SignalEval> Seq<C> {

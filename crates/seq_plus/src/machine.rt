@@ -2,7 +2,6 @@
 ghost use Rattle.std.specs.Prelude.{◌≡◌, ◌≢◌, ◌↔◌, IsNone};
 ghost use Rattle.hcl_types.specs.Tables.{IsBound, IsOrderOf};
 ghost use Rattle.y86_base.specs.declared.parts.Stat.TheVariants.{Aok};
-ghost use Rattle.y86_isa.specs.Machine.{is_aok};
 ghost use Rattle.yis_run.specs.Report.{ended};
 ghost use Rattle.seq_plus.specs.PlusTable.{plus_rows};
 ghost use Rattle.seq_plus.specs.PlusRun.{PcIs, PlusEnds, at_pc};
@@ -14,7 +13,7 @@ use crate::state::{PlusState, Previous};
 use crate::values::solve_plus;
 use dp_signals::at;
 use hcl_types::{Design, Order, SignalEval};
-use machine_calls::Cycles;
+use machine_calls::{Cycles, is_going};
 use std::marker::Model;
 use y86_base::{Image, Stat, Variant};
 use y86_isa::{Machine, Rec};
@@ -42,12 +41,6 @@ impl<C: SignalEval> Model for Plus<C> {
     ghost view = { λ p. seen p.variant p.design.terms p.order.ids p.state };
 
     ghost invariant = { λ p. C.evaluates p.evaluator p.design.terms × IsPlus p.design.terms p.order.ids };
-}
-
-fn is_going(stat: Stat) -> bool
-    ensures { result ≡ is_aok stat }
-{
-    matches!(stat, Stat::Aok)
 }
 
 impl<C: SignalEval> Plus<C> {

@@ -12,14 +12,12 @@ use Rattle.dp_signals.specs.PipeEquations.{Solves}
 use Rattle.dp_signals.specs.PipeNames as row
 use Rattle.dp_signals.specs.PipeRun.{Pipe, PipeRun, after_cycle, end_by, start_pipe}
 use Rattle.dp_signals.specs.PipeTable.{pipe_rows}
+use Rattle.machine_calls.specs.Records.{count}
+use Rattle.machine_calls.proofs.Records.{counted}
 use Rattle.stage_text.specs.Picked.{Sources, sources}
 use Rattle.stage_text.specs.Watch.{fetched, moved_watch}
-use Rattle.stage_text.specs.Watching.{IsOfRun, Watches, WatchesTheRun, Watching, after, count, cycles_shown, lines_shown, whole_text}
+use Rattle.stage_text.specs.Watching.{IsOfRun, Watches, WatchesTheRun, Watching, after, cycles_shown, lines_shown, whole_text}
 use Rattle.stage_text.specs.declared.watching.Window.{Window}
-
-counted : (r : Option Rec) → length (option_to_list r) ≡ count r
-counted None = refl
-counted (Some r) = refl
 
 module _ (v : Variant) (terms : List Term) (window : Window) (image : List ℕ) (k : ℕ) (u s : Watching) (f : ℕ → ℕ) (p : Pipe) where
   state_after : IsOfRun u p → s ≡ after (sources pipe_rows terms) window (suc k) u f → s.state ≡ next p.state f

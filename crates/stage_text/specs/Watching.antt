@@ -16,6 +16,7 @@ use Rattle.dp_signals.specs.PipeTable.{pipe_rows}
 use Rattle.dp_signals.specs.declared.movers.Ending.{Ending}
 use Rattle.dp_signals.specs.declared.movers.Ending.TheVariants.{Going, Stopped, Pip}
 use Rattle.dp_signals.specs.declared.pipe_state.PipeState.{PipeState}
+use Rattle.machine_calls.specs.Records.{count}
 use Rattle.stage_text.specs.Cycle.{cycle_text}
 use Rattle.stage_text.specs.Diagram.{diagram, shown_cycle}
 use Rattle.stage_text.specs.Numbers.{number_pair}
@@ -39,11 +40,6 @@ pub record Watching : Type 0 where
 abbrev pub seen : PipeState → Watch → ℕ → Stat → List ℕ → List Shown → Watching
 seen state watch retired end text cycles =
     record { state = state; watch = watch; retired = retired; end = end; text = text; cycles = cycles }
-
--- how many instructions retire in a cycle
-abbrev pub count : Option Rec → ℕ
-count None = 0
-count (Some r) = 1
 
 abbrev pub goes_on : Ending → Bool
 goes_on Going = true

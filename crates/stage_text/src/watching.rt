@@ -6,7 +6,6 @@ ghost use Rattle.hcl_types.specs.Tables.{IsBound, IsOrderOf};
 ghost use Rattle.hcl_types.specs.Terms.{at};
 ghost use Rattle.stage_text.specs.Listed.{listed, text_in};
 ghost use Rattle.stage_text.specs.Picked.{sources};
-ghost use Rattle.y86_isa.specs.Machine.{is_aok};
 ghost use Rattle.stage_text.specs.Watching.{ShowsRun};
 ghost use Rattle.stage_text.specs.Watching as spec;
 
@@ -21,6 +20,7 @@ use dp_signals::{
     Ending, PipeState, PipeValues, advance, end_of_cycle, ending, retires, solve_pipe,
 };
 use hcl_types::{Design, Order, Row, SignalEval};
+use machine_calls::{count, is_going};
 use std::alloc::Global;
 use std::marker::Model;
 use y86_base::{Image, Memory, Stat, Variant};
@@ -62,26 +62,10 @@ pub struct Watched {
     pub end: Stat,
 }
 
-fn is_going(s: &Watching) -> bool
-    ensures { result ≡ is_aok s.now.end }
-{
-    matches!(s.end, Stat::Aok)
-}
-
 fn goes_on(ending: Ending) -> bool
     ensures { result ≡ spec.goes_on ending }
 {
     matches!(ending, Ending::Going)
-}
-
-fn count(retired: Option<Rec>) -> u64
-    ensures count { result ≡ spec.count retired }
-    ensures few { result ≤ 1 }
-{
-    match retired {
-        Some(_) => 1,
-        None => 0,
-    }
 }
 
 /// Whether a cycle is one of those that are shown.
@@ -266,7 +250,7 @@ fn watch_listed<C: SignalEval>(
         cycles: Vec::new(alloc),
     };
     for k in 0..limit {
-        if !is_going(&s) {
+        if !is_going(s.end) {
             return finished(s, listing, window.diagram, k);
         }
         match cycle(

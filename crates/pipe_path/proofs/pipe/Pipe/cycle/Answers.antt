@@ -12,7 +12,7 @@ returns-clause-cycle g c =
       goes = λ going. (
         at c.solve_pipe-values.result,
         c.solve_pipe-values.ensures.solves,
-        rw (c.advance.ensures, c.count.ensures, c.end_of_cycle-self-inside.ensures, c.retires-record.ensures, c.ending-ending.ensures) refl,
+        rw (c.advance.ensures, c.count.ensures.count, c.end_of_cycle-self-inside.ensures, c.retires-record.ensures, c.ending-ending.ensures) refl,
         rw (c.told.ensures, c.ending-ending.ensures, c.retires-record.ensures) refl,
       );
     })
