@@ -16,7 +16,7 @@ use Rattle.pipe_path.specs.declared.pipe.Cycled.TheVariants as told
 use Rattle.pipe_path.specs.Calls.{IsRun, record_in, CallsAreTheRun}
 use Rattle.pipe_path.specs.Pipe.{Pipe, Cycle, after_cycle, told_by}
 use Rattle.machine_calls.specs.Records.{count}
-use Rattle.machine_calls.proofs.Records.{counted}
+use Rattle.machine_calls.proofs.Counted.{counted}
 
 -- the machine of the definition of a run that a machine and its records stand for
 abbrev run_machine : Pipe → List Rec → run.Pipe

@@ -10,7 +10,7 @@ use Rattle.y86_isa.specs.Machine.{is_aok}
 use Rattle.y86_isa.specs.declared.machine.Rec.{Rec}
 use Rattle.pipe_path.specs.Calls.{record_in}
 use Rattle.machine_calls.specs.Records.{count}
-use Rattle.machine_calls.proofs.Records as lengths
+use Rattle.machine_calls.proofs.Counted as lengths
 use Rattle.pipe_path.specs.Pipe.{Pipe, Cycle}
 use Rattle.pipe_path.specs.declared.pipe.Cycled.{Cycled}
 use Rattle.retire_trace.specs.TraceLine.{trace_line}

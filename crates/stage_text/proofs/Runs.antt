@@ -13,7 +13,7 @@ use Rattle.dp_signals.specs.PipeNames as row
 use Rattle.dp_signals.specs.PipeRun.{Pipe, PipeRun, after_cycle, end_by, start_pipe}
 use Rattle.dp_signals.specs.PipeTable.{pipe_rows}
 use Rattle.machine_calls.specs.Records.{count}
-use Rattle.machine_calls.proofs.Records.{counted}
+use Rattle.machine_calls.proofs.Counted.{counted}
 use Rattle.stage_text.specs.Picked.{Sources, sources}
 use Rattle.stage_text.specs.Watch.{fetched, moved_watch}
 use Rattle.stage_text.specs.Watching.{IsOfRun, Watches, WatchesTheRun, Watching, after, cycles_shown, lines_shown, whole_text}
