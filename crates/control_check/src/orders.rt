@@ -115,7 +115,7 @@ fn rank(purpose: Use, variable: u32) -> u32 {
 }
 
 /// The variables by their numbers.
-#[tactic(auto, using(crate::proofs::Orders::numbers_more))]
+#[tactic(auto, using(crate::proofs::Numbers::numbers_more))]
 fn by_number(alloc: Global, vars: u32) -> Result<Vec<u32>, Memory>
     ensures { IfOk result (λ order. order.items ≡ range_with_len 0 vars) }
 {
