@@ -6,6 +6,7 @@ ghost use Rattle.hcl_types.specs.Tables.{IsBound, IsOrderOf};
 ghost use Rattle.hcl_types.specs.Terms.{at};
 ghost use Rattle.stage_text.specs.Listed.{listed, text_in};
 ghost use Rattle.stage_text.specs.Picked.{sources};
+ghost use Rattle.y86_isa.specs.Machine.{is_aok};
 ghost use Rattle.stage_text.specs.Watching.{ShowsRun};
 ghost use Rattle.stage_text.specs.Watching as spec;
 
@@ -60,6 +61,12 @@ impl Model for Watching {
 pub struct Watched {
     pub text: Vec<u8>,
     pub end: Stat,
+}
+
+fn is_running(s: &Watching) -> bool
+    ensures { result ≡ is_aok s.now.end }
+{
+    is_going(s.end)
 }
 
 fn goes_on(ending: Ending) -> bool
@@ -250,7 +257,7 @@ fn watch_listed<C: SignalEval>(
         cycles: Vec::new(alloc),
     };
     for k in 0..limit {
-        if !is_going(s.end) {
+        if !is_running(&s) {
             return finished(s, listing, window.diagram, k);
         }
         match cycle(

@@ -9,7 +9,7 @@ loop-k-preserved g c =
     let rows = c.in-Ok.ensures.few_rows in
     let retired = c.in-Ok.ensures.few_retired in
     record {
-      watches = watches_more _ _ _ _ c.loop-k.k c.loop-k.s _ went.0 before.watches (sym c.is_going.ensures ∙ c.if-not-is_going.false) went.1 (rw c.requires.table at went.2);
+      watches = watches_more _ _ _ _ c.loop-k.k c.loop-k.s _ went.0 before.watches (sym c.is_running.ensures ∙ c.if-not-is_running.false) went.1 (rw c.requires.table at went.2);
       rows = omega (arith, rows, before.rows);
       retired = omega (arith, retired, before.retired);
       kept = c.in-Ok.ensures.kept;
