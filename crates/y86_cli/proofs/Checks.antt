@@ -47,12 +47,12 @@ accepted which name v terms a holds told = inl (record { accepted = holds.0; ref
 
 denied : (which : Datapath) (name : List ℕ) (v : Variant) (terms : List Term) (ids : List ℕ) (denial : Denial) (text : List ℕ) (a : Answered) → IsOrderOf (rows_of which) terms ids →
     IsDecided which v terms (Some denial) → text ≡ no_text which denial.rule denial.valuation.bits denial.atoms → a ≡ done 1 text → SeqChecks which name v terms a
-denied which name v terms ids denial text a order no said told =
-    let same : denial.atoms ≡ no.0.atoms = atoms_one (rows_of which) terms ids denial.atoms no.0.atoms order no.1 no.0.are in
+denied which name v terms ids denial text a order found said told =
+    let same : denial.atoms ≡ found.0.atoms = atoms_one (rows_of which) terms ids denial.atoms found.0.atoms order found.1 found.0.are in
     inr (inl (record {
       rule = denial.rule;
       valuation = denial.valuation.bits;
-      rejected = no.0;
+      rejected = found.0;
       told = told ∙ ap (done 1) (said ∙ ap (λ (list : List Atom). no_text which denial.rule denial.valuation.bits list) same);
     }))
 
@@ -66,8 +66,8 @@ said_yes which name v terms text old new result holds same s =
 pub said_no : (which : Datapath) (name : List ℕ) (v : Variant) (terms : List Term) (ids : List ℕ) (denial : Denial) (text : List ℕ) (old new : SinkSeen) (result : Result ℕ code.Stop) →
     IsOrderOf (rows_of which) terms ids → IsDecided which v terms (Some denial) → text ≡ no_text which denial.rule denial.valuation.bits denial.atoms →
     Says (λ a. a ≡ done 1 text) old new result → Says (SeqChecks which name v terms) old new result
-said_no which name v terms ids denial text old new result order no told s =
-    says_more (λ a. a ≡ done 1 text) (SeqChecks which name v terms) old new result (λ a is. denied which name v terms ids denial text a order no told is) s
+said_no which name v terms ids denial text old new result order found told s =
+    says_more (λ a. a ≡ done 1 text) (SeqChecks which name v terms) old new result (λ a is. denied which name v terms ids denial text a order found told is) s
 
 pub said_refusal : (which : Datapath) (name : List ℕ) (v : Variant) (terms : List Term) (seen : SinkSeen) (stop : code.Stop) →
     Refuses (RefusesControl name (rows_of which) terms) stop → Says (SeqChecks which name v terms) seen seen (Err stop)
@@ -82,15 +82,15 @@ tells_yes v terms settings text accepted refines is = record { settings = settin
 
 pub tells_no : (v : Variant) (terms : List Term) (ids : List ℕ) (rule : ℕ) (valuation : Valuation) (list : List Atom) (text : List ℕ) → IsOrderOf pipe_rows terms ids →
     pipe.RejectsPipe v terms rule valuation.bits × AreAtoms pipe_rows terms list → text ≡ pipe_no (row_names pipe_rows) rule valuation.bits list → DeniesPipe v terms (done 1 text)
-tells_no v terms ids rule valuation list text order no said = record {
+tells_no v terms ids rule valuation list text order found said = record {
   rule = rule;
   valuation = valuation.bits;
-  rejected = no.0;
+  rejected = found.0;
   told =
       ap (done 1)
       (said
       ∙ ap (λ (them : List Atom). pipe_no (row_names pipe_rows) rule valuation.bits them)
-      (atoms_one pipe_rows terms ids list no.0.settings.atoms order no.1 no.0.settings.are));
+      (atoms_one pipe_rows terms ids list found.0.settings.atoms order found.1 found.0.settings.are));
 }
 
 pub said_pipe_yes : (name : List ℕ) (v : Variant) (terms : List Term) (text : List ℕ) (old new : SinkSeen) (result : Result ℕ code.Stop) → AcceptsPipe v terms (done 0 text) →
