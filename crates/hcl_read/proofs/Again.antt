@@ -2,6 +2,7 @@
 use Rattle.std.proofs.Common.{◌≡◌, ◌≤◌, sym, subst, ℕ, zero, suc, Bool, true, false, cond, List, [], ◌∷◌, map, refl, inl, inr, arith, le_refl, le_trans, suc-le-suc, not-suc-le-zero, nat_lt, zero-le, le_of_lt, lit≤}
 use Rattle.std.specs.Prelude.{◌⊎◌}
 use Rattle.std.proofs.lemmas.Bool.Decides.{nat_tests}
+use Rattle.std.specs.List.{AllByRecursion}
 use Rattle.hcl_read.specs.declared.tree.CmpOp.{CmpOp}
 use Rattle.hcl_read.specs.declared.tree.Branch.{Branch, fold_out-Branch}
 use Rattle.hcl_read.specs.declared.tree.Expr.{Expr}
@@ -82,11 +83,6 @@ reads m d e most fine rest = go (nat_lt (said e).rank m) refl
     go true under = down 4 m d (OpenParen ∷ (said e).put (CloseParen ∷ rest)) e rest most (group (inl (f.1 under).1) (down (said e).rank 0 (suc d) ((said e).put (CloseParen ∷ rest)) e (CloseParen ∷ rest) zero-le ((f.1 under).0 (CloseParen ∷ rest))))
     go false more = down (said e).rank m d ((said e).put rest) e rest (enough (said e).rank m more) (f.0 rest)
 
--- all of some expressions
-pub data Each (P : Expr → Type 0) : List Expr → Type 0 where
-  none : Each P []
-  one : {e : Expr} {es : List Expr} → P e → Each P es → Each P (e ∷ es)
-
 pub said_branch_is : (guard value : Expr) → said_branch (branch guard value) ≡ (λ rest. (said guard).put (Colon ∷ (said value).put (Semicolon ∷ rest)))
 said_branch_is guard value = fold_out-Branch Said (List Token → List Token) said_layer branch_layer (branch guard value)
 
@@ -96,31 +92,31 @@ fine_at m d d0 e le fine d1 h = fine d1 (le_trans h le)
 reads_at : (m d d0 : ℕ) (e : Expr) → m ≤ 4 → d0 ≤ d → Fine m d e → (rest : List Token) → ByRank m d0 (put_within m (said e) rest) e rest
 reads_at m d d0 e most le fine rest = reads m d0 e most (fine_at m d d0 e le fine) rest
 
-or_tail_reads : (d d0 : ℕ) → d0 ≤ d → (es : List Expr) → Each (Fine 1 d) es → (rest : List Token) → OrTail 0 d0 (put_further OrOr 1 (map said es) rest) es rest
+or_tail_reads : (d d0 : ℕ) → d0 ≤ d → (es : List Expr) → AllByRecursion (Fine 1 d) es → (rest : List Token) → OrTail 0 d0 (put_further OrOr 1 (map said es) rest) es rest
 unfolding put_further
-or_tail_reads d d0 le [] none rest = no_or
-or_tail_reads d d0 le (e ∷ es) (one f more) rest = more_or (reads_at 1 d d0 e (lit≤ tt) le f (put_further OrOr 1 (map said es) rest)) (or_tail_reads d d0 le es more rest)
+or_tail_reads d d0 le [] h rest = no_or
+or_tail_reads d d0 le (e ∷ es) h rest = more_or (reads_at 1 d d0 e (lit≤ tt) le h.0 (put_further OrOr 1 (map said es) rest)) (or_tail_reads d d0 le es h.1 rest)
 
-and_tail_reads : (d d0 : ℕ) → d0 ≤ d → (es : List Expr) → Each (Fine 2 d) es → (rest : List Token) → AndTail 0 d0 (put_further AndAnd 2 (map said es) rest) es rest
+and_tail_reads : (d d0 : ℕ) → d0 ≤ d → (es : List Expr) → AllByRecursion (Fine 2 d) es → (rest : List Token) → AndTail 0 d0 (put_further AndAnd 2 (map said es) rest) es rest
 unfolding put_further
-and_tail_reads d d0 le [] none rest = no_and
-and_tail_reads d d0 le (e ∷ es) (one f more) rest = more_and (reads_at 2 d d0 e (lit≤ tt) le f (put_further AndAnd 2 (map said es) rest)) (and_tail_reads d d0 le es more rest)
+and_tail_reads d d0 le [] h rest = no_and
+and_tail_reads d d0 le (e ∷ es) h rest = more_and (reads_at 2 d d0 e (lit≤ tt) le h.0 (put_further AndAnd 2 (map said es) rest)) (and_tail_reads d d0 le es h.1 rest)
 
-set_tail_reads : (d d0 : ℕ) → d0 ≤ d → (es : List Expr) → Each (Fine 0 d) es → (rest : List Token) → SetTail 0 d0 (put_further Comma 0 (map said es) rest) es rest
+set_tail_reads : (d d0 : ℕ) → d0 ≤ d → (es : List Expr) → AllByRecursion (Fine 0 d) es → (rest : List Token) → SetTail 0 d0 (put_further Comma 0 (map said es) rest) es rest
 unfolding put_further
-set_tail_reads d d0 le [] none rest = no_member
-set_tail_reads d d0 le (e ∷ es) (one f more) rest = more_members (reads_at 0 d d0 e zero-le le f (put_further Comma 0 (map said es) rest)) (set_tail_reads d d0 le es more rest)
+set_tail_reads d d0 le [] h rest = no_member
+set_tail_reads d d0 le (e ∷ es) h rest = more_members (reads_at 0 d d0 e zero-le le h.0 (put_further Comma 0 (map said es) rest)) (set_tail_reads d d0 le es h.1 rest)
 
-fine_or : (d : ℕ) (e : Expr) (es : List Expr) → Fine 1 d e → Each (Fine 1 d) es → Fine 0 d (or_of (e ∷ es))
+fine_or : (d : ℕ) (e : Expr) (es : List Expr) → Fine 1 d e → AllByRecursion (Fine 1 d) es → Fine 0 d (or_of (e ∷ es))
 unfolding put_joined
-fine_or d e [] f none = fine_less 1 0 d e zero-le f
+fine_or d e [] f all = fine_less 1 0 d e zero-le f
 fine_or d e (x ∷ es) f more =
     fine_as 0 d 0 (expr.Or (e ∷ x ∷ es)) _ (said_Or (e ∷ x ∷ es)) refl
     (λ d0 le rest. or_list (reads_at 1 d d0 e (lit≤ tt) le f (put_further OrOr 1 (map said (x ∷ es)) rest)) (or_tail_reads d d0 le (x ∷ es) more rest))
 
-fine_and : (d : ℕ) (e : Expr) (es : List Expr) → Fine 2 d e → Each (Fine 2 d) es → Fine 1 d (and_of (e ∷ es))
+fine_and : (d : ℕ) (e : Expr) (es : List Expr) → Fine 2 d e → AllByRecursion (Fine 2 d) es → Fine 1 d (and_of (e ∷ es))
 unfolding put_joined
-fine_and d e [] f none = fine_less 2 1 d e (lit≤ tt) f
+fine_and d e [] f all = fine_less 2 1 d e (lit≤ tt) f
 fine_and d e (x ∷ es) f more =
     fine_as 1 d 1 (expr.And (e ∷ x ∷ es)) _ (said_And (e ∷ x ∷ es)) refl
     (λ d0 le rest. and_list (reads_at 2 d d0 e (lit≤ tt) le f (put_further AndAnd 2 (map said (x ∷ es)) rest)) (and_tail_reads d d0 le (x ∷ es) more rest))
@@ -138,14 +134,10 @@ within_64 d t ts (inr h) = absurd (not-suc-le-zero h)
 abbrev FineBranch : ℕ → Branch → Type 0
 FineBranch d b = (d0 : ℕ) → d0 ≤ d → (rest : List Token) → IsCase 0 d0 (said_branch b rest) b rest
 
-data EachBranch (d : ℕ) : List Branch → Type 0 where
-  no_branch : EachBranch d []
-  one_branch : {b : Branch} {bs : List Branch} → FineBranch d b → EachBranch d bs → EachBranch d (b ∷ bs)
-
-case_tail_reads : (d d0 : ℕ) → d0 ≤ d → (bs : List Branch) → EachBranch d bs → (rest : List Token) → CaseTail 0 d0 (put_branches (map said_branch bs) rest) bs rest
+case_tail_reads : (d d0 : ℕ) → d0 ≤ d → (bs : List Branch) → AllByRecursion (FineBranch d) bs → (rest : List Token) → CaseTail 0 d0 (put_branches (map said_branch bs) rest) bs rest
 unfolding put_branches
-case_tail_reads d d0 le [] no_branch rest = no_case
-case_tail_reads d d0 le (b ∷ bs) (one_branch f more) rest = more_cases (f d0 le (put_branches (map said_branch bs) rest)) (case_tail_reads d d0 le bs more rest)
+case_tail_reads d d0 le [] h rest = no_case
+case_tail_reads d d0 le (b ∷ bs) h rest = more_cases (h.0 d0 le (put_branches (map said_branch bs) rest)) (case_tail_reads d d0 le bs h.1 rest)
 
 fine_branch : (d : ℕ) (guard value : Expr) → Fine 0 d guard → Fine 0 d value → FineBranch d (branch guard value)
 unfolding put_within
@@ -164,14 +156,14 @@ fine_compare d op left right l r =
     fine_as 3 d 3 (expr.Cmp op left right) _ (said_Cmp op left right) refl
     (λ d0 le rest. compared (reads_at 4 d d0 left (le_refl 4) le l (Compare op ∷ put_within 4 (said right) rest)) (reads_at 4 d d0 right (le_refl 4) le r rest))
 
-fine_in : (d : ℕ) (left e : Expr) (es : List Expr) (ts : List Token) → Fine 4 d left → Room 0 (suc d) (OpenBrace ∷ ts) → Fine 0 (suc d) e → Each (Fine 0 (suc d)) es → Fine 3 d (expr.In left (e ∷ es))
+fine_in : (d : ℕ) (left e : Expr) (es : List Expr) (ts : List Token) → Fine 4 d left → Room 0 (suc d) (OpenBrace ∷ ts) → Fine 0 (suc d) e → AllByRecursion (Fine 0 (suc d)) es → Fine 3 d (expr.In left (e ∷ es))
 unfolding put_joined
 fine_in d left e es ts l room f more =
     fine_as 3 d 3 (expr.In left (e ∷ es)) _ (said_In left (e ∷ es)) refl
     (λ d0 le rest. member (reads_at 4 d d0 left (le_refl 4) le l (KeyIn ∷ OpenBrace ∷ put_within 0 (said e) (put_further Comma 0 (map said es) (CloseBrace ∷ rest)))) (room_at d d0 OpenBrace ts _ le room)
     (reads_at 0 (suc d) (suc d0) e zero-le (suc-le-suc le) f (put_further Comma 0 (map said es) (CloseBrace ∷ rest))) (set_tail_reads (suc d) (suc d0) (suc-le-suc le) es more (CloseBrace ∷ rest)))
 
-fine_case : (d : ℕ) (b : Branch) (bs : List Branch) (ts : List Token) → Room 0 (suc d) (OpenBracket ∷ ts) → FineBranch (suc d) b → EachBranch (suc d) bs → Fine 4 d (expr.Case (b ∷ bs))
+fine_case : (d : ℕ) (b : Branch) (bs : List Branch) (ts : List Token) → Room 0 (suc d) (OpenBracket ∷ ts) → FineBranch (suc d) b → AllByRecursion (FineBranch (suc d)) bs → Fine 4 d (expr.Case (b ∷ bs))
 unfolding put_branches
 fine_case d b bs ts room f more =
     fine_as 4 d 4 (expr.Case (b ∷ bs)) _ (said_Case (b ∷ bs)) refl
@@ -187,16 +179,16 @@ mutual
   again_expr : {d : ℕ} {ts rest : List Token} {e : Expr} → IsExpr 0 d ts e rest → Fine 0 d e
   again_expr (or_list {depth = d} {e = e} {es = es} h t) = fine_or d e es (again_and h) (again_or_tail t)
 
-  again_or_tail : {d : ℕ} {ts rest : List Token} {es : List Expr} → OrTail 0 d ts es rest → Each (Fine 1 d) es
-  again_or_tail no_or = none
-  again_or_tail (more_or h t) = one (again_and h) (again_or_tail t)
+  again_or_tail : {d : ℕ} {ts rest : List Token} {es : List Expr} → OrTail 0 d ts es rest → AllByRecursion (Fine 1 d) es
+  again_or_tail no_or = tt
+  again_or_tail (more_or h t) = (again_and h, again_or_tail t)
 
   again_and : {d : ℕ} {ts rest : List Token} {e : Expr} → IsAnd 0 d ts e rest → Fine 1 d e
   again_and (and_list {depth = d} {e = e} {es = es} h t) = fine_and d e es (again_not h) (again_and_tail t)
 
-  again_and_tail : {d : ℕ} {ts rest : List Token} {es : List Expr} → AndTail 0 d ts es rest → Each (Fine 2 d) es
-  again_and_tail no_and = none
-  again_and_tail (more_and h t) = one (again_not h) (again_and_tail t)
+  again_and_tail : {d : ℕ} {ts rest : List Token} {es : List Expr} → AndTail 0 d ts es rest → AllByRecursion (Fine 2 d) es
+  again_and_tail no_and = tt
+  again_and_tail (more_and h t) = (again_not h, again_and_tail t)
 
   again_not : {d : ℕ} {ts rest : List Token} {e : Expr} → IsNot 0 d ts e rest → Fine 2 d e
   again_not (negated {depth = d} {ts = ts} {e = e} room h) = fine_not d e ts room (again_not h)
@@ -207,9 +199,9 @@ mutual
   again_rel (compared {depth = d} {op = op} {left = left} {right = right} h r) = fine_compare d op left right (again_prim h) (again_prim r)
   again_rel (member {depth = d} {inside = inside} {left = left} {e = e} {es = es} h room i t) = fine_in d left e es inside (again_prim h) room (again_expr i) (again_set_tail t)
 
-  again_set_tail : {d : ℕ} {ts rest : List Token} {es : List Expr} → SetTail 0 d ts es rest → Each (Fine 0 d) es
-  again_set_tail no_member = none
-  again_set_tail (more_members h t) = one (again_expr h) (again_set_tail t)
+  again_set_tail : {d : ℕ} {ts rest : List Token} {es : List Expr} → SetTail 0 d ts es rest → AllByRecursion (Fine 0 d) es
+  again_set_tail no_member = tt
+  again_set_tail (more_members h t) = (again_expr h, again_set_tail t)
 
   again_prim : {d : ℕ} {ts rest : List Token} {e : Expr} → IsPrim 0 d ts e rest → Fine 4 d e
   again_prim (a_number {depth = d} {n = n}) = fine_as 4 d 4 (expr.Num n) _ (said_Num n) refl (λ d0 le rest. a_number)
@@ -221,9 +213,9 @@ mutual
   again_case : {d : ℕ} {ts rest : List Token} {b : Branch} → IsCase 0 d ts b rest → FineBranch d b
   again_case (guarded {depth = d} {guard = guard} {value = value} g v) = fine_branch d guard value (again_expr g) (again_expr v)
 
-  again_case_tail : {d : ℕ} {ts rest : List Token} {bs : List Branch} → CaseTail 0 d ts bs rest → EachBranch d bs
-  again_case_tail no_case = no_branch
-  again_case_tail (more_cases h t) = one_branch (again_case h) (again_case_tail t)
+  again_case_tail : {d : ℕ} {ts rest : List Token} {bs : List Branch} → CaseTail 0 d ts bs rest → AllByRecursion (FineBranch d) bs
+  again_case_tail no_case = tt
+  again_case_tail (more_cases h t) = (again_case h, again_case_tail t)
 
 item_again : {ts rest : List Token} {i : Item} → IsItem 0 ts i rest → (rest' : List Token) → IsItem 0 (put_item i rest') i rest'
 item_again quoted rest' = quoted

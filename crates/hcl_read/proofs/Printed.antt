@@ -5,6 +5,7 @@ use Rattle.std.specs.List.{list_all}
 use Rattle.std.proofs.lemmas.Bool.Decides.{nat_tests}
 use Rattle.y86_base.specs.Text.{begins, is_letter}
 use Rattle.y86_base.specs.Keyword.{meaning_of}
+use Rattle.std.specs.List.{AllByRecursion}
 use Rattle.hcl_read.specs.declared.tree.Kind.{Kind}
 use Rattle.hcl_read.specs.declared.tree.Kind.TheVariants.{Word, Bool as Truth}
 use Rattle.hcl_read.specs.declared.tree.CmpOp.{CmpOp}
@@ -20,7 +21,7 @@ use Rattle.hcl_read.specs.Tokens.{is_quoted, tokens}
 use Rattle.hcl_read.specs.Print.{Shown, shown_as, within, further, joined, operator, branches, shown, branch_text, signal_word, kind_word, item_text, printed}
 use Rattle.hcl_read.proofs.Said.{Said, said_as, put_within, put_further, put_joined, put_branches, said, said_branch, said_Num, said_Name, said_Not, said_And, said_Or, said_Cmp, said_In, said_Case, put_item, put_items}
 use Rattle.hcl_read.proofs.ShownAs.{shown_Num, shown_Name, shown_Not, shown_And, shown_Or, shown_Cmp, shown_In, shown_Case, shown_branch}
-use Rattle.hcl_read.proofs.Again.{Each, none, one, said_branch_is}
+use Rattle.hcl_read.proofs.Again.{said_branch_is}
 use Rattle.hcl_read.proofs.Good.{Good, AllGood}
 use Rattle.hcl_read.proofs.Spelled.{Ends, space, line_feed, open_paren, close_paren, open_brace, close_brace, open_bracket, close_bracket, semicolon, comma, colon, assign, bang, or_or, and_and, compare, word_step, quoted_step, signed_step, signed_begins, nothing_left}
 
@@ -90,17 +91,17 @@ further_ends separator t m s [] rest ends = ends
 further_ends separator t m s (e ∷ es) rest ends =
     subst Ends (sym (as4 separator (within m (shown e)) (further separator m (map shown es)) rest)) (s.ends (within m (shown e) ++ (further separator m (map shown es) ++ rest)))
 
-further_spells : (separator : List ℕ) (t : Token) (m : ℕ) → Separates separator t → (es : List Expr) → Each Spells es → (rest : List ℕ) → Ends rest
+further_spells : (separator : List ℕ) (t : Token) (m : ℕ) → Separates separator t → (es : List Expr) → AllByRecursion Spells es → (rest : List ℕ) → Ends rest
     → tokens (further separator m (map shown es) ++ rest) ≡ put_further t m (map said es) (tokens rest)
 unfolding further put_further
-further_spells separator t m s [] none rest ends = refl
-further_spells separator t m s (e ∷ es) (one h more) rest ends =
+further_spells separator t m s [] h rest ends = refl
+further_spells separator t m s (e ∷ es) h rest ends =
     let behind : List ℕ = further separator m (map shown es) ++ rest in
     ap tokens (as4 separator (within m (shown e)) (further separator m (map shown es)) rest)
     ∙ s.steps (within m (shown e) ++ behind)
-    ∙ ap (λ ts. t ∷ ts) (within_spells m e h behind (further_ends separator t m s es rest ends) ∙ ap (put_within m (said e)) (further_spells separator t m s es more rest ends))
+    ∙ ap (λ ts. t ∷ ts) (within_spells m e h.0 behind (further_ends separator t m s es rest ends) ∙ ap (put_within m (said e)) (further_spells separator t m s es h.1 rest ends))
 
-joined_spells : (separator : List ℕ) (t : Token) (m : ℕ) → Separates separator t → (e : Expr) (es : List Expr) → Spells e → Each Spells es → (rest : List ℕ) → Ends rest
+joined_spells : (separator : List ℕ) (t : Token) (m : ℕ) → Separates separator t → (e : Expr) (es : List Expr) → Spells e → AllByRecursion Spells es → (rest : List ℕ) → Ends rest
     → tokens (joined separator m (map shown (e ∷ es)) ++ rest) ≡ put_joined t m (map said (e ∷ es)) (tokens rest)
 unfolding joined put_joined
 joined_spells separator t m s e es h more rest ends =
@@ -121,13 +122,13 @@ and_separates = record { steps = and_and; ends = λ rest. refl }
 comma_separates : Separates (codes ", ") Comma
 comma_separates = record { steps = λ rest. comma (32 ∷ rest) ∙ ap (λ ts. Comma ∷ ts) (space rest); ends = λ rest. refl }
 
-spells_or : (e : Expr) (es : List Expr) → Spells e → Each Spells es → Spells (or_of (e ∷ es))
-spells_or e [] h none = h
+spells_or : (e : Expr) (es : List Expr) → Spells e → AllByRecursion Spells es → Spells (or_of (e ∷ es))
+spells_or e [] h all = h
 spells_or e (x ∷ es) h more =
     spells_as (expr.Or (e ∷ x ∷ es)) 0 _ _ (shown_Or (e ∷ x ∷ es)) (said_Or (e ∷ x ∷ es)) (joined_starts (codes " || ") 1 e (x ∷ es) h) (joined_spells (codes " || ") OrOr 1 or_separates e (x ∷ es) h more)
 
-spells_and : (e : Expr) (es : List Expr) → Spells e → Each Spells es → Spells (and_of (e ∷ es))
-spells_and e [] h none = h
+spells_and : (e : Expr) (es : List Expr) → Spells e → AllByRecursion Spells es → Spells (and_of (e ∷ es))
+spells_and e [] h all = h
 spells_and e (x ∷ es) h more =
     spells_as (expr.And (e ∷ x ∷ es)) 1 _ _ (shown_And (e ∷ x ∷ es)) (said_And (e ∷ x ∷ es)) (joined_starts (codes " && ") 2 e (x ∷ es) h) (joined_spells (codes " && ") AndAnd 2 and_separates e (x ∷ es) h more)
 
@@ -162,7 +163,7 @@ in_opens rest =
     space _ ∙ word_step (codes "in") (32 ∷ 123 ∷ 32 ∷ rest) refl refl refl
     ∙ ap (λ ts. KeyIn ∷ ts) (space _ ∙ open_brace (32 ∷ rest) ∙ ap (λ ts. OpenBrace ∷ ts) (space rest))
 
-spells_in : (left e : Expr) (es : List Expr) → Spells left → Spells e → Each Spells es → Spells (expr.In left (e ∷ es))
+spells_in : (left e : Expr) (es : List Expr) → Spells left → Spells e → AllByRecursion Spells es → Spells (expr.In left (e ∷ es))
 spells_in left e es l h more =
     let inside : List ℕ = joined (codes ", ") 0 (map shown (e ∷ es)) in
     spells_as (expr.In left (e ∷ es)) 3 _ _ (shown_In left (e ∷ es)) (said_In left (e ∷ es))
@@ -179,10 +180,6 @@ spells_in left e es l h more =
 abbrev SpellsBranch : Branch → Type 0
 SpellsBranch b = (rest : List ℕ) → tokens (branch_text b ++ rest) ≡ said_branch b (tokens rest)
 
-data EachBranch : List Branch → Type 0 where
-  no_branch : EachBranch []
-  one_branch : {b : Branch} {bs : List Branch} → SpellsBranch b → EachBranch bs → EachBranch (b ∷ bs)
-
 spells_branch : (guard value : Expr) → Spells guard → Spells value → SpellsBranch (branch guard value)
 spells_branch guard value g v rest =
     ap (λ text. tokens (text ++ rest)) (shown_branch guard value)
@@ -191,13 +188,13 @@ spells_branch guard value g v rest =
     ∙ ap (said guard).put (space _ ∙ colon _ ∙ ap (λ ts. Colon ∷ ts) (space _ ∙ v.spelled (codes "; " ++ rest) refl ∙ ap (said value).put (semicolon _ ∙ ap (λ ts. Semicolon ∷ ts) (space rest))))
     ∙ ap (λ (put : List Token → List Token). put (tokens rest)) (sym (said_branch_is guard value))
 
-branches_spell : (bs : List Branch) → EachBranch bs → (rest : List ℕ) → tokens (branches (map branch_text bs) ++ rest) ≡ put_branches (map said_branch bs) (tokens rest)
+branches_spell : (bs : List Branch) → AllByRecursion SpellsBranch bs → (rest : List ℕ) → tokens (branches (map branch_text bs) ++ rest) ≡ put_branches (map said_branch bs) (tokens rest)
 unfolding branches put_branches
-branches_spell [] no_branch rest = refl
-branches_spell (b ∷ bs) (one_branch h more) rest =
-    ap tokens (as3 (branch_text b) (branches (map branch_text bs)) rest) ∙ h (branches (map branch_text bs) ++ rest) ∙ ap (said_branch b) (branches_spell bs more rest)
+branches_spell [] h rest = refl
+branches_spell (b ∷ bs) h rest =
+    ap tokens (as3 (branch_text b) (branches (map branch_text bs)) rest) ∙ h.0 (branches (map branch_text bs) ++ rest) ∙ ap (said_branch b) (branches_spell bs h.1 rest)
 
-spells_case : (bs : List Branch) → EachBranch bs → Spells (expr.Case bs)
+spells_case : (bs : List Branch) → AllByRecursion SpellsBranch bs → Spells (expr.Case bs)
 spells_case bs all =
     let inside : List ℕ = branches (map branch_text bs) in
     spells_as (expr.Case bs) 4 _ _ (shown_Case bs) (said_Case bs) (91, 32 ∷ inside ++ codes "]", refl, refl)
@@ -230,12 +227,12 @@ mutual
       let b = or_tail_spells t a.1 in
       (spells_or e es a.0 b.0, b.1)
 
-  or_tail_spells : {d : ℕ} {ts rest : List Token} {es : List Expr} → OrTail 0 d ts es rest → AllGood ts → Each Spells es × AllGood rest
-  or_tail_spells no_or good = (none, good)
+  or_tail_spells : {d : ℕ} {ts rest : List Token} {es : List Expr} → OrTail 0 d ts es rest → AllGood ts → AllByRecursion Spells es × AllGood rest
+  or_tail_spells no_or good = (tt, good)
   or_tail_spells (more_or h t) good =
       let a = and_spells h good.1 in
       let b = or_tail_spells t a.1 in
-      (one a.0 b.0, b.1)
+      ((a.0, b.0), b.1)
 
   and_spells : {d : ℕ} {ts rest : List Token} {e : Expr} → IsAnd 0 d ts e rest → AllGood ts → Spells e × AllGood rest
   and_spells (and_list {e = e} {es = es} h t) good =
@@ -243,12 +240,12 @@ mutual
       let b = and_tail_spells t a.1 in
       (spells_and e es a.0 b.0, b.1)
 
-  and_tail_spells : {d : ℕ} {ts rest : List Token} {es : List Expr} → AndTail 0 d ts es rest → AllGood ts → Each Spells es × AllGood rest
-  and_tail_spells no_and good = (none, good)
+  and_tail_spells : {d : ℕ} {ts rest : List Token} {es : List Expr} → AndTail 0 d ts es rest → AllGood ts → AllByRecursion Spells es × AllGood rest
+  and_tail_spells no_and good = (tt, good)
   and_tail_spells (more_and h t) good =
       let a = not_spells h good.1 in
       let b = and_tail_spells t a.1 in
-      (one a.0 b.0, b.1)
+      ((a.0, b.0), b.1)
 
   not_spells : {d : ℕ} {ts rest : List Token} {e : Expr} → IsNot 0 d ts e rest → AllGood ts → Spells e × AllGood rest
   not_spells (negated {e = e} room h) good =
@@ -268,12 +265,12 @@ mutual
       let c = set_tail_spells t b.1 in
       (spells_in left e es a.0 b.0 c.0, c.1.1)
 
-  set_tail_spells : {d : ℕ} {ts rest : List Token} {es : List Expr} → SetTail 0 d ts es rest → AllGood ts → Each Spells es × AllGood rest
-  set_tail_spells no_member good = (none, good)
+  set_tail_spells : {d : ℕ} {ts rest : List Token} {es : List Expr} → SetTail 0 d ts es rest → AllGood ts → AllByRecursion Spells es × AllGood rest
+  set_tail_spells no_member good = (tt, good)
   set_tail_spells (more_members h t) good =
       let a = expr_spells h good.1 in
       let b = set_tail_spells t a.1 in
-      (one a.0 b.0, b.1)
+      ((a.0, b.0), b.1)
 
   prim_spells : {d : ℕ} {ts rest : List Token} {e : Expr} → IsPrim 0 d ts e rest → AllGood ts → Spells e × AllGood rest
   prim_spells (a_number {n = n}) good = (spells_number n good.0, good.1)
@@ -285,7 +282,7 @@ mutual
   prim_spells (case_list {b = b} {bs = bs} room h t) good =
       let a = case_spells h good.1 in
       let c = case_tail_spells t a.1 in
-      (spells_case (b ∷ bs) (one_branch a.0 c.0), c.1.1)
+      (spells_case (b ∷ bs) (a.0, c.0), c.1.1)
 
   case_spells : {d : ℕ} {ts rest : List Token} {b : Branch} → IsCase 0 d ts b rest → AllGood ts → SpellsBranch b × AllGood rest
   case_spells (guarded {guard = guard} {value = value} g v) good =
@@ -293,12 +290,12 @@ mutual
       let c = expr_spells v a.1.1 in
       (spells_branch guard value a.0 c.0, c.1.1)
 
-  case_tail_spells : {d : ℕ} {ts rest : List Token} {bs : List Branch} → CaseTail 0 d ts bs rest → AllGood ts → EachBranch bs × AllGood rest
-  case_tail_spells no_case good = (no_branch, good)
+  case_tail_spells : {d : ℕ} {ts rest : List Token} {bs : List Branch} → CaseTail 0 d ts bs rest → AllGood ts → AllByRecursion SpellsBranch bs × AllGood rest
+  case_tail_spells no_case good = (tt, good)
   case_tail_spells (more_cases h t) good =
       let a = case_spells h good in
       let c = case_tail_spells t a.1 in
-      (one_branch a.0 c.0, c.1)
+      ((a.0, c.0), c.1)
 
 signal_spelled : (kind : Kind) (rest : List ℕ) → tokens (signal_word kind ++ rest) ≡ KeySig kind ∷ tokens rest
 unfolding meaning_of
