@@ -65,6 +65,13 @@ impl Nodes {
         self.vars
     }
 
+    /// How many nodes there are, without the two ends.
+    pub fn len(&self) -> usize
+        ensures { result ≡ length self.now.nodes }
+    {
+        self.list.len()
+    }
+
     /// The node of a diagram.
     pub fn node(&self, d: u32) -> Decision
         requires { d < count self.now }

@@ -38,8 +38,8 @@ fn same(a: Key, b: Key) -> bool
     op && a.left == b.left && a.right == b.right
 }
 
-/// The place of an operation among the results.
-fn place(key: Key) -> usize {
+/// The place of an operation among so many results.
+fn place(key: Key, size: usize) -> usize {
     let op = match key.op {
         Op::And => 0,
         Op::Not => 1,
@@ -47,14 +47,14 @@ fn place(key: Key) -> usize {
     let left = (key.left as u64).wrapping_mul(11_400_714_819_323_198_485);
     let right = (key.right as u64).wrapping_mul(14_029_467_366_897_019_727);
     let mixed = left.wrapping_add(right).wrapping_add(op);
-    (mixed >> 32) as usize % RESULTS
+    (mixed >> 32) as usize & size.wrapping_sub(1)
 }
 
 /// The result that is remembered of an operation.
 pub fn known(entries: &[Entry], key: Key) -> Option<u32>
     ensures { IfSome result (Holds entries.now key) }
 {
-    match entries.get(place(key)) {
+    match entries.get(place(key, entries.len())) {
         Some(entry) => {
             if same(entry.key, key) {
                 Some(entry.answer)
@@ -71,14 +71,17 @@ pub fn remember(entries: &mut [Entry], key: Key, answer: u32)
     ensures { (i : ℕ) (e : Entry) → slice_get entries.new i ≡ Some e →
         (slice_get entries.old i ≡ Some e) ⊎ (e ≡ record { key = key; answer = answer }) }
 {
-    let at = place(key);
+    let at = place(key, entries.len());
     if at < entries.len() {
         entries[at] = Entry { key, answer };
     }
 }
 
-/// How many results are remembered: a power of 2, so that a place is a few bits of a product.
-pub const RESULTS: usize = 65_536;
+/// How many results are remembered at first: a power of 2, so that a place is a few bits of a product.
+pub const FIRST_RESULTS: usize = 4_096;
+
+/// How many are remembered at most, a power of 2 too: a longer table takes longer to look up than it saves.
+pub const MOST_RESULTS: usize = 65_536;
 
 /// Places for results, in each of which stands that falsehood and falsehood is falsehood.
 pub fn blanks(alloc: Global, size: usize) -> Result<Vec<Entry>, Memory>

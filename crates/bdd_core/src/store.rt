@@ -5,7 +5,7 @@ ghost use Rattle.bdd_core.specs.Diagrams.{IsWell, Keeps, at, count};
 ghost use Rattle.bdd_core.specs.Meaning.{Always, IsDia, IsLeastFalse, IsNode, Stay, truth_of};
 
 use crate::nodes::{Decision, Nodes};
-use crate::results::{Entry, Key, RESULTS, blanks, known, remember};
+use crate::results::{Entry, FIRST_RESULTS, Key, MOST_RESULTS, blanks, known, remember};
 use std::alloc::Global;
 use std::marker::Model;
 use y86_base::Memory;
@@ -75,6 +75,7 @@ impl Store {
             return Err(Memory);
         }
         self.steps -= 1;
+        self.widen();
         Ok(())
     }
 
@@ -91,9 +92,24 @@ impl Store {
     {
         let _ = self.nodes.vars();
         if self.results.is_empty() {
-            self.results = blanks(self.alloc, RESULTS)?;
+            self.results = blanks(self.alloc, FIRST_RESULTS)?;
         }
         Ok(())
+    }
+
+    /// Takes four times as many places for results, where there are more nodes than places: what was remembered is
+    /// forgotten. Where memory is refused, the places that are there serve on.
+    #[tactic(auto, using(crate::proofs::Applying::blank_answers))]
+    fn widen(&mut self)
+        ensures { self.new ≡ self.old }
+    {
+        let size = self.results.len();
+        let _ = self.nodes.vars();
+        if size < MOST_RESULTS && size < self.nodes.len() {
+            if let Ok(results) = blanks(self.alloc, size * 4) {
+                self.results = results;
+            }
+        }
     }
 
     /// The number of variables; and what holds of the diagrams of every store.
