@@ -5,7 +5,7 @@ ghost use Rattle.std.specs.Prelude.{◌≡◌, ◌<◌, ◌≤◌, ◌+◌, ◌=
 ghost use Rattle.nets.specs.Nets.{Begins, IsGate};
 ghost use Rattle.pipe_fields.specs.Layout.{bit_count, fields_of};
 ghost use Rattle.pipe_fields.specs.Allowed as spec;
-ghost use Rattle.field_bits.specs.Fits.{cnd_where, only_where, register_fits};
+ghost use Rattle.field_bits.specs.Fits.{cnd_where, code_fits, destination_fits, half_fits, only_where, register_fits};
 ghost use Rattle.field_bits.specs.Spelling.{spelt};
 
 use crate::places::{
@@ -112,6 +112,24 @@ pub fn fetch_fits(b: &mut NetBuilder, count: u64, icode: u64, row: &Row) -> Resu
     Ok(g)
 }
 
+/// Status, ifun and the halves of the register byte in D.
+fn decode_code(b: &mut NetBuilder, count: u64, icode: u64, row: &Row) -> Result<u64, Memory>
+    requires vars { bit_count ≤ b.old.vars }
+    requires top { row.now.ifun_top < 16 }
+    ensures begins { Begins b.old b.new }
+    ensures made { IfOk result (λ g. IsGate b.new g (λ w.
+        code_fits count row.now (fields_of w).d.stat icode (fields_of w).d.ifun
+        && half_fits row.now.has_byte row.now.uses_a (fields_of w).d.r_a
+        && half_fits row.now.has_byte row.now.uses_b (fields_of w).d.r_b)) }
+{
+    let code = code_fits(b, count, icode, row, D_STAT, D_IFUN)?;
+    let r_a = half_fits(b, row.has_byte, row.uses_a, D_R_A)?;
+    let all = b.and(code, r_a)?;
+    let r_b = half_fits(b, row.has_byte, row.uses_b, D_R_B)?;
+    let g = b.and(all, r_b)?;
+    Ok(g)
+}
+
 /// The line D of an instruction of this icode.
 pub fn decode_fits(b: &mut NetBuilder, count: u64, icode: u64, row: &Row) -> Result<u64, Memory>
     requires vars { bit_count ≤ b.old.vars }
@@ -119,13 +137,9 @@ pub fn decode_fits(b: &mut NetBuilder, count: u64, icode: u64, row: &Row) -> Res
     ensures begins { Begins b.old b.new }
     ensures made { IfOk result (λ g. IsGate b.new g (λ w. spec.decode_fits count icode row.now (fields_of w).d)) }
 {
-    let code = code_fits(b, count, icode, row, D_STAT, D_IFUN)?;
-    let r_a = half_fits(b, row.has_byte, row.uses_a, D_R_A)?;
-    let all = b.and(code, r_a)?;
-    let r_b = half_fits(b, row.has_byte, row.uses_b, D_R_B)?;
-    let all = b.and(all, r_b)?;
+    let code = decode_code(b, count, icode, row)?;
     let taken = decode_taken(b, is_branch(row.next))?;
-    let all = b.and(all, taken)?;
+    let all = b.and(code, taken)?;
     let stops = live_only(b, accesses(row.memory), D_KIND, D_STAT, D_STOPS)?;
     let all = b.and(all, stops)?;
     let back = live_only(b, is_branch(row.next), D_KIND, D_STAT, D_BACK)?;
@@ -170,6 +184,24 @@ pub fn execute_fits(b: &mut NetBuilder, count: u64, icode: u64, row: &Row) -> Re
     Ok(g)
 }
 
+/// Status, ifun and the destinations in M.
+fn memory_code(b: &mut NetBuilder, count: u64, icode: u64, row: &Row) -> Result<u64, Memory>
+    requires vars { bit_count ≤ b.old.vars }
+    requires top { row.now.ifun_top < 16 }
+    ensures begins { Begins b.old b.new }
+    ensures made { IfOk result (λ g. IsGate b.new g (λ w.
+        code_fits count row.now (fields_of w).m.stat icode (fields_of w).m.ifun
+        && destination_fits row.now (fields_of w).m.cnd (fields_of w).m.dst_e
+        && register_fits row.now.dst_m (fields_of w).m.dst_m)) }
+{
+    let code = code_fits(b, count, icode, row, M_STAT, M_IFUN)?;
+    let dst_e = destination_fits(b, row, M_CND, M_DST_E)?;
+    let all = b.and(code, dst_e)?;
+    let dst_m = register_fits(b, row.dst_m, M_DST_M)?;
+    let g = b.and(all, dst_m)?;
+    Ok(g)
+}
+
 /// The line M of an instruction of this icode.
 pub fn memory_fits(b: &mut NetBuilder, count: u64, icode: u64, row: &Row) -> Result<u64, Memory>
     requires vars { bit_count ≤ b.old.vars }
@@ -177,13 +209,9 @@ pub fn memory_fits(b: &mut NetBuilder, count: u64, icode: u64, row: &Row) -> Res
     ensures begins { Begins b.old b.new }
     ensures made { IfOk result (λ g. IsGate b.new g (λ w. spec.memory_fits count icode row.now (fields_of w).m)) }
 {
-    let code = code_fits(b, count, icode, row, M_STAT, M_IFUN)?;
-    let dst_e = destination_fits(b, row, M_CND, M_DST_E)?;
-    let all = b.and(code, dst_e)?;
-    let dst_m = register_fits(b, row.dst_m, M_DST_M)?;
-    let all = b.and(all, dst_m)?;
+    let code = memory_code(b, count, icode, row)?;
     let cnd = cnd_fits(b, M_IFUN, M_CND)?;
-    let all = b.and(all, cnd)?;
+    let all = b.and(code, cnd)?;
     let error = live_only(b, accesses(row.memory), M_KIND, M_STAT, M_ERROR)?;
     let all = b.and(all, error)?;
     let back = live_only(b, is_branch(row.next), M_KIND, M_STAT, M_BACK)?;
