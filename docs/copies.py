@@ -1,7 +1,7 @@
 #!/usr/bin/env python3
 """copies.py
 
-Compares the copies of designs of examples/ that the crate `example_designs` holds with those files, comments and blanks aside, and the bytes of which a
+Compares the copies of designs of examples/ that the crate `test_designs` holds with those files, comments and blanks aside, and the bytes of which a
 theorem of `pure_runs` speaks with examples/call.yo. Prints each that differs, and ends with `N passed, M failed`.
 """
 import re
@@ -28,9 +28,9 @@ def code(objects):
 
 def rows():
     """Each copy: where it stands, the file that it copies, and its text; and that there are eight."""
-    copies = re.findall(r'^const (\w+): &\[u8\] =\s*b"(.*?)";$', read("crates/example_designs/src/files.rt"), flags=re.M | re.S)
+    copies = re.findall(r'^const (\w+): &\[u8\] =\s*b"(.*?)";$', read("crates/test_designs/src/files.rt"), flags=re.M | re.S)
     for name, text in copies:
-        yield f"example_designs {name}", meat(read(f"examples/{name.lower()}.hcl")), meat(text)
+        yield f"test_designs {name}", meat(read(f"examples/{name.lower()}.hcl")), meat(text)
     yield "copies", 8, len(copies)
     purity = read("crates/pure_runs/specs/Purity.antt")
     listed = re.search(r"^call_bytes = (.*) ∷ \[\]$", purity, flags=re.M)[1].split(" ∷ ")

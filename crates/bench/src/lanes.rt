@@ -3,7 +3,6 @@ ghost use Rattle.std.specs.Prelude.{◌≡◌, IfOk, length};
 
 use control_check::file_rules;
 use dp_signals::{law_of_tables, pipe_table};
-use example_designs::Example;
 use hcl_order::order;
 use hcl_read::read;
 use hcl_types::bind;
@@ -11,6 +10,7 @@ use lane_eval::{Scratch, first_false_place};
 use nets::{Net, Valuation, eval};
 use std::alloc::{AllocError, Global};
 use std::simd::u64x8;
+use test_designs::Example;
 use y86_base::{Items, Memory, Variant};
 
 /// The gates of the obligations of the book's pipeline.

@@ -2,7 +2,6 @@
 ghost use Rattle.std.specs.Prelude.{◌≡◌, ◌<◌, ◌^◌};
 
 use dp_signals::{law_of_tables, pipe_table, seq_table};
-use example_designs::Example;
 use hcl_order::order;
 use hcl_read::read;
 use hcl_types::{Plain, bind};
@@ -10,6 +9,7 @@ use pipe_path::Pipe;
 use retire_trace::drive;
 use seq_path::{Seq, run};
 use std::alloc::{AllocError, Global};
+use test_designs::Example;
 use wb_io::SureSink;
 use y86_base::{Image, Variant};
 

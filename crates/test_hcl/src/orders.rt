@@ -1,11 +1,11 @@
 //! Orders of signals, and the programs of definitions.
 use dp_signals::{law_of_tables, pipe_table, seq_table};
-use example_designs::Example;
 use hcl_compile::{Slot, compile};
 use hcl_order::order;
 use hcl_read::read;
 use hcl_types::{CmpOp, bind};
 use std::test::Fail;
+use test_designs::Example;
 
 /// A definition of f_pc, and the slots that it takes.
 const F_PC: &[u8] =

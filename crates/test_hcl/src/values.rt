@@ -3,13 +3,13 @@ ghost use Rattle.std.specs.Prelude.{◌≡◌};
 ghost use Rattle.dp_signals.specs.PipeTable.{pipe_rows};
 
 use dp_signals::{PipeState, law_of_tables, pipe_table, solve_pipe};
-use example_designs::Example;
 use hcl_compile::compile;
 use hcl_order::order;
 use hcl_read::read;
 use hcl_types::{Plain, Table, bind};
 use std::process::Abort;
 use std::test::Fail;
+use test_designs::Example;
 use y86_base::{Image, Variant};
 
 /// The least and the greatest number of a word in two's complement, and -1 and -8.

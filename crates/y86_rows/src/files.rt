@@ -1,6 +1,6 @@
 //! The files of the calls: texts as the input spells them, and designs of `examples/` with other definitions.
-use example_designs::Example;
 use std::alloc::{AllocError, Global};
+use test_designs::Example;
 use wb_io::MemFiles;
 
 /// A file: its name, and its text, or a design and the definitions that stand in place of the design's own.
