@@ -1,3 +1,4 @@
 pub mod SeqVerdicts
 pub mod PipeVerdicts
 pub mod Accepted
+pub mod Orders

@@ -2,6 +2,7 @@
 ghost use Rattle.std.specs.Prelude.{◌≡◌, ◌≤◌, IfOk};
 ghost use Rattle.std.specs.List.{range_with_len};
 ghost use Rattle.std.specs.List.Sorted.{IsPermutation};
+ghost use Rattle.control_check.specs.Orders.{AreOrders};
 
 use decisions::Orders;
 use pipe_fields::{BIT_COUNT, places};
@@ -97,7 +98,7 @@ fn large_part_rank(variable: u32) -> u32 {
 
 /// What an order is for.
 #[derive(Clone, Copy, Debug, PartialEq, Eq)]
-pub enum Use {
+enum Use {
     /// Obligations, of all valuations.
     Rules,
     /// Settings, of all valuations, and either in a part of them.
@@ -148,8 +149,24 @@ pub struct OrderList {
 }
 
 impl OrderList {
-    /// Those for settings or obligations.
-    pub fn new(alloc: Global, whole: Use, vars: u32) -> Result<OrderList, Memory> {
+    /// Those for obligations.
+    pub fn for_rules(alloc: Global, vars: u32) -> Result<OrderList, Memory>
+        ensures { IfOk result (AreOrders vars) }
+    {
+        OrderList::with(alloc, Use::Rules, vars)
+    }
+
+    /// Those for settings.
+    pub fn for_settings(alloc: Global, vars: u32) -> Result<OrderList, Memory>
+        ensures { IfOk result (AreOrders vars) }
+    {
+        OrderList::with(alloc, Use::Settings, vars)
+    }
+
+    /// Those in which the one of all valuations is for this.
+    fn with(alloc: Global, whole: Use, vars: u32) -> Result<OrderList, Memory>
+        ensures { IfOk result (AreOrders vars) }
+    {
         let whole = order_for(alloc, whole, vars)?;
         let part = order_for(alloc, Use::Settings, vars)?;
         let again = order_for(alloc, Use::LargePart, vars)?;

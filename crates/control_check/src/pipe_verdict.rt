@@ -10,7 +10,7 @@ ghost use Rattle.control_check.specs.SeqVerdicts.{is_yes};
 ghost use Rattle.hazard_rules.specs.Belonging.{BelongTo};
 ghost use Rattle.hazard_rules.specs.Parts.{AreRules};
 
-use crate::orders::{OrderList, Use};
+use crate::orders::OrderList;
 use crate::verdict::Verdict;
 use decisions::each_true;
 use hazard_rules::{Late, Parts, pipe_late, pipe_parts, pipe_rules};
@@ -78,7 +78,7 @@ fn settings_true(alloc: Global, net: &Net, gates: &[u64]) -> Result<Vec<bool>, M
     ensures size { IfOk result (λ truths. length truths.items ≡ length gates.now) }
     ensures decided { IfOk result (λ truths. AreDecided net.now gates.now truths.items) }
 {
-    let orders = OrderList::new(alloc, Use::Settings, net.vars())?;
+    let orders = OrderList::for_settings(alloc, net.vars())?;
     each_true(alloc, net, gates, orders.as_orders())
 }
 
@@ -187,7 +187,7 @@ fn decide_pipe(alloc: Global, net: &Net, list: &[Rule]) -> Result<Option<Failure
     requires gates { AreGatesOf net.now list.now }
     ensures { IfOk result (IsDecision net.now list.now) }
 {
-    let orders = OrderList::new(alloc, Use::Rules, net.vars())?;
+    let orders = OrderList::for_rules(alloc, net.vars())?;
     decide_in_order(alloc, net, list, orders.as_orders())
 }
 

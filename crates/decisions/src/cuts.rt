@@ -16,16 +16,16 @@ pub struct Cut {
     pub parts: u64,
 }
 
-/// The cut of the valuations of so many variables by so many bits, into so many parts. Fewer variables aren't parted.
-pub fn cut_by(bits: u32, parts: u64, vars: u32) -> Cut
-    requires { parts ≡ 2 ^ bits }
+/// The cut of the valuations of so many variables. Where they are fewer than its bits, they aren't parted.
+pub fn cut_of(cut: Cut, vars: u32) -> Cut
+    requires { cut.parts ≡ 2 ^ cut.bits }
     ensures parts { result.parts ≡ 2 ^ result.bits }
     ensures bits { result.bits ≤ vars }
 {
-    if vars < bits {
+    if vars < cut.bits {
         Cut { bits: 0, parts: 1 }
     } else {
-        Cut { bits, parts }
+        cut
     }
 }
 

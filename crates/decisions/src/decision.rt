@@ -3,7 +3,7 @@ ghost use Rattle.std.specs.Prelude.{◌≡◌, ◌<◌, ◌≤◌, IfOk, length}
 ghost use Rattle.decisions.specs.Decisions.{AreGatesOf, IsDecision};
 ghost use Rattle.decisions.specs.Splitting.{AreTrueTo};
 
-use crate::cuts::cut_by;
+use crate::cuts::{Cut, cut_of};
 use crate::least::least_in;
 use crate::pass::{Pass, pass_in_order};
 use crate::search::{Again, AtOnce, PartPass, search};
@@ -30,10 +30,8 @@ pub struct Orders<'a> {
     pub again: &'a [u32],
 }
 
-/// By how many first bits the valuations are parted, and into how many parts (for the pipeline these are the kinds of its stages).
-const FIRST_BITS: u32 = 6;
-
-const FIRST_PARTS: u64 = 64;
+/// How the valuations are parted (for the pipeline by the kinds of its stages).
+const FIRST: Cut = Cut { bits: 6, parts: 64 };
 
 /// How many steps the diagrams of a whole net may take together.
 const STEPS: u64 = 600_000;
@@ -52,7 +50,7 @@ pub fn decide_in_parts<P: PartPass>(
     requires gates { AreGatesOf net.now gates.now }
     ensures { IfOk result (IsDecision net.now gates.now) }
 {
-    let cut = cut_by(FIRST_BITS, FIRST_PARTS, net.vars());
+    let cut = cut_of(FIRST, net.vars());
     let found = search(alloc, net, gates, cut, how)?;
     if found.place == gates.len() {
         return Ok(None);

@@ -3,7 +3,7 @@ ghost use Rattle.std.specs.Prelude.{◌≡◌, ◌+◌, ◌<◌, ◌≤◌, ◌^
 ghost use Rattle.decisions.specs.Decisions.{AreGatesOf};
 ghost use Rattle.decisions.specs.Splitting.{IsPass, IsSearched};
 
-use crate::cuts::{Cut, Part, cut_by, forced_part};
+use crate::cuts::{Cut, Part, cut_of, forced_part};
 use crate::pass::{Pass, pass_in_order, run_pass};
 use crate::reordered::reordered;
 use nets::Net;
@@ -46,10 +46,8 @@ pub struct Again<'a> {
 /// How many steps the diagrams of a part may take before it is parted again.
 const PART_STEPS: u64 = 30_000;
 
-/// By how many bits it is parted again, and into how many parts.
-const AGAIN_BITS: u32 = 4;
-
-const AGAIN_PARTS: u64 = 16;
+/// How it is parted again.
+const AGAIN: Cut = Cut { bits: 4, parts: 16 };
 
 impl<'a> PartPass for Again<'a> {
     fn pass(&self, alloc: Global, part: &Part) -> Result<Pass, Memory> {
@@ -67,7 +65,7 @@ fn pass_parts(alloc: Global, net: &Net, gates: &[u64], order: &[u32]) -> Result<
     ensures { IfOk result (IsPass net.now gates.now) }
 {
     let copy = reordered(alloc, net, gates, order)?;
-    let cut = cut_by(AGAIN_BITS, AGAIN_PARTS, copy.net.vars());
+    let cut = cut_of(AGAIN, copy.net.vars());
     let found = search(alloc, &copy.net, copy.gates.items(), cut, &AtOnce)?;
     if found.place == copy.gates.items().len() {
         Ok(Pass::True)

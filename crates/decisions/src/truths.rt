@@ -59,7 +59,7 @@ impl Diagrams {
         ensures decided { IfOk result (λ o. IfSome o (IsDecided net.now gate)) }
     {
         let found = always_true(&mut self.store, &mut self.built, net, gate)?;
-        self.is_new = found.is_none();
+        self.is_new &= found.is_none();
         Ok(found)
     }
 

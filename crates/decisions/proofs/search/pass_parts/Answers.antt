@@ -9,17 +9,17 @@ pub returns-then-found-items : goal.returns-then-found-items
 returns-then-found-items c =
     let copy = c.in_ok-copy.copy in
     let found = c.in_ok-found.found in
-    let cut = c.cut_by-cut.result in
+    let cut = c.cut_of-cut.result in
     let searched = subst (λ (xs : List ℕ). IsSearched copy.net xs cut.bits cut.parts found.place found.part) c.items.ensures c.in_ok-found.ensures in
     let all : found.place ≡ length copy.gates = c.if-found-items.true ∙ ap length c.items-2.ensures in
     pass_mirrored c.args.net.now c.args.gates.now copy c.in_ok-copy.ensures pass.True
-    (searched_true copy.net copy.gates cut.bits cut.parts found.place found.part c.cut_by-cut.ensures.parts searched all)
+    (searched_true copy.net copy.gates cut.bits cut.parts found.place found.part c.cut_of-cut.ensures.parts searched all)
 
 pub returns : goal.returns
 returns c =
     let copy = c.in_ok-copy.copy in
     let found = c.in_ok-found.found in
-    let cut = c.cut_by-cut.result in
+    let cut = c.cut_of-cut.result in
     let searched = subst (λ (xs : List ℕ). IsSearched copy.net xs cut.bits cut.parts found.place found.part) c.items.ensures c.in_ok-found.ensures in
     pass_mirrored c.args.net.now c.args.gates.now copy c.in_ok-copy.ensures (pass.False found.place)
-    (searched_false copy.net copy.gates cut.bits cut.parts found.place found.part c.cut_by-cut.ensures.parts searched (λ all. c.if-found-items.false (all ∙ sym (ap length c.items-2.ensures))))
+    (searched_false copy.net copy.gates cut.bits cut.parts found.place found.part c.cut_of-cut.ensures.parts searched (λ all. c.if-found-items.false (all ∙ sym (ap length c.items-2.ensures))))
