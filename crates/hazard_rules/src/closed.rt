@@ -1,10 +1,11 @@
 //! What decides the settings pt, pb and tv of a file.
 ghost use Rattle.std.specs.Prelude.{◌<◌, ◌≤◌, ◌+◌, length, true, false, IfOk};
-ghost use Rattle.nets.specs.Nets.{Begins};
+ghost use Rattle.nets.specs.Nets.{Begins, IsGate};
 ghost use Rattle.ctl_formula.specs.Picks.{Covers, IsInside};
 ghost use Rattle.dp_signals.specs.PipeTable.{pipe_rows};
 ghost use Rattle.hazard_rules.specs.Parts.{TellPredictions};
 ghost use Rattle.pipe_gates.specs.Told.{IsTold};
+ghost use Rattle.pipe_fields.specs.Allowed as spec;
 ghost use Rattle.pipe_fields.specs.Layout.{bit_count, fields_of};
 ghost use Rattle.pipe_motion.specs.declared.settings.Settings.{Settings};
 ghost use Rattle.rule_gates.specs.Asked.{IsAsked};
@@ -30,11 +31,13 @@ fn predicts(
     ctl: &Controls,
     v: Variant,
     atoms: &[Atom],
+    fits: u64,
     ifun: u64,
     back: bool,
 ) -> Result<u64, Memory>
     requires inside { IsInside b.old ctl.now }
     requires covers { Covers pipe_rows ctl.now }
+    requires fits { IsGate b.old fits (λ w. spec.allowed v (fields_of w)) }
     requires vars { bit_count + length atoms.now ≤ b.old.vars }
     requires few { length atoms.now ≤ 64 }
     ensures begins { Begins b.old b.new }
@@ -46,7 +49,7 @@ fn predicts(
         signal::F_PRED_PC,
         Wanted::This(Leaf::Name(signal::F_VAL_C)),
     )?;
-    let asked = prediction_asked(b, v, atoms, ifun, back)?;
+    let asked = prediction_asked(b, v, atoms, fits, ifun, back)?;
     let g = implies(b, asked, taken)?;
     Ok(g)
 }
@@ -57,10 +60,12 @@ pub(crate) fn predictions(
     ctl: &Controls,
     v: Variant,
     atoms: &[Atom],
+    fits: u64,
     back: bool,
 ) -> Result<[u64; 7], Memory>
     requires inside { IsInside b.old ctl.now }
     requires covers { Covers pipe_rows ctl.now }
+    requires fits { IsGate b.old fits (λ w. spec.allowed v (fields_of w)) }
     requires vars { bit_count + length atoms.now ≤ b.old.vars }
     requires few { length atoms.now ≤ 64 }
     ensures begins { Begins b.old b.new }
@@ -68,20 +73,20 @@ pub(crate) fn predictions(
 {
     let mut gates = [0; 7];
     for i in 0..7 {
-        let gate = predicts(b, ctl, v, atoms, i as u64, back)?;
+        let gate = predicts(b, ctl, v, atoms, fits, i as u64, back)?;
         gates[i] = gate;
     }
     Ok(gates)
 }
 
 /// A jump carries its target through the ALU, in every allowed valuation.
-fn carries_told(b: &mut NetBuilder, ctl: &Controls, v: Variant) -> Result<u64, Memory>
+fn carries_told(b: &mut NetBuilder, ctl: &Controls, v: Variant, fits: u64) -> Result<u64, Memory>
     requires inside { IsInside b.old ctl.now }
     requires ready { IsReady b.old.vars ctl.now }
+    requires fits { IsGate b.old fits (λ w. spec.allowed v (fields_of w)) }
     ensures begins { Begins b.old b.new }
     ensures made { (s : Settings) → IfOk result (λ g. IsAsked b.new ctl.now g (λ w α cv. carries v s (fields_of w) α cv)) }
 {
-    let fits = allowed(b, v)?;
     let good = spells(b, E_KIND, 1)?;
     let target = target_told(b, ctl, v, good)?;
     let g = implies(b, fits, target)?;
@@ -113,8 +118,9 @@ pub(crate) fn closed_told(
     ensures backward { IfOk result (λ r. TellPredictions v b.new ctl.now atoms.now true r.pb 7) }
     ensures target { (s : Settings) → IfOk result (λ r. IsTold b.new ctl.now atoms.now r.tv (carries v s)) }
 {
-    let pt = predictions(b, ctl, v, atoms, false)?;
-    let pb = predictions(b, ctl, v, atoms, true)?;
-    let tv = carries_told(b, ctl, v)?;
+    let fits = allowed(b, v)?;
+    let pt = predictions(b, ctl, v, atoms, fits, false)?;
+    let pb = predictions(b, ctl, v, atoms, fits, true)?;
+    let tv = carries_told(b, ctl, v, fits)?;
     Ok(Closed { pt, pb, tv })
 }

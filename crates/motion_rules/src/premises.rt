@@ -87,21 +87,23 @@ fn jump_of(b: &mut NetBuilder, v: Variant, ifun: u64, back: bool) -> Result<u64,
     }
 }
 
-/// The valuations of which a prediction is asked: allowed ones, where such a jump is fetched and its atom is its back bit.
+/// The valuations of which a prediction is asked: allowed ones (`fits` is their gate), where such a jump is fetched and its atom
+/// is its back bit.
 pub fn prediction_asked(
     b: &mut NetBuilder,
     v: Variant,
     atoms: &[Atom],
+    fits: u64,
     ifun: u64,
     back: bool,
 ) -> Result<u64, Memory>
     requires vars { bit_count + length atoms.now ≤ b.old.vars }
     requires few { length atoms.now ≤ 64 }
+    requires fits { IsGate b.old fits (λ w. allowed v (fields_of w)) }
     ensures begins { Begins b.old b.new }
     ensures made { IfOk result (λ g. IsGateOver b.new atoms.now g (λ w α. allowed v (fields_of w) && (spec.fetched_jump v (fields_of w)
         && ((fields_of w).f.ifun == ifun && (agree back (set (fields_of w).f.back) && spec.back_told_in_f v atoms.now (fields_of w) α))))) }
 {
-    let fits = pipe_fields::allowed(b, v)?;
     let jump = jump_of(b, v, ifun, back)?;
     let told = back_told_in_f(b, v, atoms)?;
     let here = b.and(jump, told)?;

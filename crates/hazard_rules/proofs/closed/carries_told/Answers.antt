@@ -13,13 +13,11 @@ use Rattle.hazard_rules.proofs.closed.carries_told.Goals as goal
 pub returns-clause-made : goal.returns-clause-made
 unfolding fields_of carries view_of
 returns-clause-made c = λ s.
-    let i0 = c.requires.inside in
-    let k1 = c.allowed.ensures.begins in
-    let i1 = inside_more k1 i0 in
+    let i1 = c.requires.inside in
     let k2 = c.spells.ensures.begins in
     let i2 = inside_more k2 i1 in
     let k3 = c.target_told.ensures.begins in
     let target = asked_as c.in_ok-target.ensures.made (λ w α cv.
     ap (λ z. not (z && is_jump c.args.v (fields_of w).e.stat (fields_of w).e.icode)
     || (words.takes cv names.aluA (Name names.E_valC) && (words.is_number cv names.aluB 0 && words.is_number cv names.alufun 0))) (c.in_ok-good.ensures.made.is w)) in
-    asked_two (λ w x y. not x || y) c.implies.ensures.begins (inside_more k3 i2) (asked_more (begins_more k2 k3) i1 (asked_gate c.in_ok-fits.ensures.made)) target c.in_ok-g.ensures.made
+    asked_two (λ w x y. not x || y) c.implies.ensures.begins (inside_more k3 i2) (asked_more (begins_more k2 k3) i1 (asked_gate c.requires.fits)) target c.in_ok-g.ensures.made

@@ -1,7 +1,7 @@
 use Rattle.std.proofs.Common.{◌<◌, length, ◌∙◌, arith}
 use Rattle.std.proofs.lemmas.List.{length-set}
 use Rattle.ctl_formula.proofs.Inside.{inside_more}
-use Rattle.nets.proofs.Truths.{begins_more}
+use Rattle.nets.proofs.Truths.{begins_more, gate_kept}
 use Rattle.hazard_rules.proofs.Listed.{prediction_put}
 use Rattle.hazard_rules.proofs.closed.predictions.Goals as goal
 
@@ -15,3 +15,6 @@ loop-i-preserved c =
       told = prediction_put c.args.v c.args.back c.loop-i.gates c.loop-i.i c.in_ok-gate.gate within c.predicts.ensures.begins
           (inside_more old.begins c.requires.inside) old.told c.in_ok-gate.ensures.made;
     }
+
+pub predicts-requires-clause-fits : goal.predicts-requires-clause-fits
+predicts-requires-clause-fits c = gate_kept c.loop-i.invariant.begins c.requires.fits

@@ -1,10 +1,13 @@
 use Rattle.std.proofs.Common.{◌∙◌}
 use Rattle.ctl_formula.proofs.Inside.{inside_more}
-use Rattle.nets.proofs.Truths.{begins_more}
+use Rattle.nets.proofs.Truths.{begins_more, gate_kept}
 use Rattle.rule_gates.proofs.Kept.{tells_less}
 use Rattle.pipe_obligations.specs.Settled.{predicts_taken}
 use Rattle.hazard_rules.proofs.Listed.{rule_by}
 use Rattle.hazard_rules.proofs.closed.predicts.Goals as goal
+
+pub prediction_asked-requires-clause-fits : goal.prediction_asked-requires-clause-fits
+prediction_asked-requires-clause-fits c = gate_kept c.takes.ensures.begins c.requires.fits
 
 pub returns-clause-made : goal.returns-clause-made
 unfolding predicts_taken
