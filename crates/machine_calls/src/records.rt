@@ -1,7 +1,7 @@
 //! What the calls of every machine ask: whether it goes on, and how many records a cycle leaves.
-ghost use Rattle.std.specs.Prelude.{◌≡◌, ◌≤◌};
+ghost use Rattle.std.specs.Prelude.{◌≡◌, ◌≤◌, length};
+ghost use Rattle.std.specs.Option.{option_to_list};
 ghost use Rattle.y86_isa.specs.Machine.{is_aok};
-ghost use Rattle.machine_calls.specs.Records as spec;
 
 use y86_base::Stat;
 use y86_isa::Rec;
@@ -15,7 +15,7 @@ pub fn is_going(stat: Stat) -> bool
 
 /// How many records a cycle leaves that retires this.
 pub fn count(retired: Option<Rec>) -> u64
-    ensures count { result ≡ spec.count retired }
+    ensures count { result ≡ length (option_to_list retired) }
     ensures few { result ≤ 1 }
 {
     match retired {

@@ -15,8 +15,6 @@ use Rattle.pipe_path.specs.declared.pipe.Cycled.{Cycled}
 use Rattle.pipe_path.specs.declared.pipe.Cycled.TheVariants as told
 use Rattle.pipe_path.specs.Calls.{IsRun, record_in, CallsAreTheRun}
 use Rattle.pipe_path.specs.Pipe.{Pipe, Cycle, after_cycle, told_by}
-use Rattle.machine_calls.specs.Records.{count}
-use Rattle.machine_calls.proofs.Counted.{counted}
 
 -- the machine of the definition of a run that a machine and its records stand for
 abbrev run_machine : Pipe → List Rec → run.Pipe
@@ -60,7 +58,7 @@ module _ (v : Variant) (terms : List Term) (image : List ℕ) (k : ℕ) (m : Pip
           so_far.run,
           record { ended = λ over. absurd (grind (arith, over, going)); goes = λ _. (f, solves', rw (after, more) refl) },
         );
-        retired = rw (after, more, length-append, counted) (ap (λ n. n + count (retires m.state f)) so_far.retired);
+        retired = rw (after, more, length-append) (ap (λ n. n + length (option_to_list (retires m.state f))) so_far.retired);
       }
 
   one_more : (q : Pipe) (r : Cycled) (records : List Rec) → Cycle m r q → records ≡ before ++ option_to_list (record_in r) →

@@ -1,5 +1,6 @@
 -- A pipelined machine as its callers see it, and what one call of `cycle` does.
-use Rattle.std.specs.Prelude.{◌≡◌, ℕ, ◌+◌, true, false, List, Option, Some, None}
+use Rattle.std.specs.Prelude.{◌≡◌, ℕ, ◌+◌, true, false, List, length, Option, Some, None}
+use Rattle.std.specs.Option.{option_to_list}
 use Rattle.y86_base.specs.Stat.{stat_of}
 use Rattle.y86_base.specs.declared.parts.Stat.{Stat}
 use Rattle.y86_base.specs.declared.parts.Stat.TheVariants as stat
@@ -16,7 +17,6 @@ use Rattle.dp_signals.specs.PipeState.{start_state}
 use Rattle.dp_signals.specs.declared.movers.Ending.{Ending}
 use Rattle.dp_signals.specs.declared.movers.Ending.TheVariants.{Going, Stopped, Pip}
 use Rattle.dp_signals.specs.declared.pipe_state.PipeState.{PipeState}
-use Rattle.machine_calls.specs.Records.{count}
 use Rattle.pipe_path.specs.declared.pipe.Cycled.{Cycled}
 use Rattle.pipe_path.specs.declared.pipe.Cycled.TheVariants as told
 
@@ -46,7 +46,7 @@ after_cycle p f =
     record p {
       state = next p.state f;
       cycles = p.cycles + 1;
-      retired = p.retired + count (retires p.state f);
+      retired = p.retired + length (option_to_list (retires p.state f));
       end = end_by (ending f) (stat_of (f row.Stat));
     }
 

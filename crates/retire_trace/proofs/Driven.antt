@@ -9,8 +9,6 @@ use Rattle.wb_io.proofs.Writes.{took_nothing, took_more}
 use Rattle.y86_isa.specs.Machine.{is_aok}
 use Rattle.y86_isa.specs.declared.machine.Rec.{Rec}
 use Rattle.pipe_path.specs.Calls.{record_in}
-use Rattle.machine_calls.specs.Records.{count}
-use Rattle.machine_calls.proofs.Counted as lengths
 use Rattle.pipe_path.specs.Pipe.{Pipe, Cycle}
 use Rattle.pipe_path.specs.declared.pipe.Cycled.{Cycled}
 use Rattle.retire_trace.specs.TraceLine.{trace_line}
@@ -66,12 +64,12 @@ one_more p k m q before r retired goes going cycle is =
 
 pub driven_more : (p : Pipe) (k : ℕ) (m q : Pipe) (trace : Bool) (old mid new : Option (List ℕ)) (n : ℕ) (retired : Option Rec) →
     Driven p k m trace old mid n → is_aok m.end ≡ true → TracedCycle m q trace mid new (Ok retired) →
-    Driven p (k + 1) q trace old new (n + count retired)
+    Driven p (k + 1) q trace old new (n + length (option_to_list retired))
 driven_more p k m q trace old mid new n retired d going t =
     record {
       records = d.records ++ option_to_list retired;
       goes = one_more p k m q d.records t.0 retired d.goes going t.1 t.2;
-      counted = ap (λ z. z + count retired) d.counted ∙ (ap (λ z. length d.records + z) (sym (lengths.counted retired)) ∙ sym (length-append d.records (option_to_list retired)));
+      counted = ap (λ z. z + length (option_to_list retired)) d.counted ∙ sym (length-append d.records (option_to_list retired));
       taken = rw (traced_append trace d.records (option_to_list retired)) (took_more old mid new (traced trace d.records) (traced trace (option_to_list retired)) d.taken t.3);
     }
 

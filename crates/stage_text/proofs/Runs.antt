@@ -12,8 +12,6 @@ use Rattle.dp_signals.specs.PipeEquations.{Solves}
 use Rattle.dp_signals.specs.PipeNames as row
 use Rattle.dp_signals.specs.PipeRun.{Pipe, PipeRun, after_cycle, end_by, start_pipe}
 use Rattle.dp_signals.specs.PipeTable.{pipe_rows}
-use Rattle.machine_calls.specs.Records.{count}
-use Rattle.machine_calls.proofs.Counted.{counted}
 use Rattle.stage_text.specs.Picked.{Sources, sources}
 use Rattle.stage_text.specs.Watch.{fetched, moved_watch}
 use Rattle.stage_text.specs.Watching.{IsOfRun, Watches, WatchesTheRun, Watching, after, cycles_shown, lines_shown, whole_text}
@@ -32,9 +30,8 @@ module _ (v : Variant) (terms : List Term) (window : Window) (image : List ℕ) 
   unfolding after
   retired_after so_far e =
       ap (λ (x : Watching). x.retired) e
-      ∙ ap (λ x. u.retired + count (retires x f)) so_far.state
-      ∙ ap (λ n. n + count (retires p.state f)) so_far.retired
-      ∙ ap (λ n. length p.records + n) (sym (counted (retires p.state f)))
+      ∙ ap (λ x. u.retired + length (option_to_list (retires x f))) so_far.state
+      ∙ ap (λ n. n + length (option_to_list (retires p.state f))) so_far.retired
       ∙ sym (length-append p.records (option_to_list (retires p.state f)))
 
   one_more : PipeRun v terms image k p → IsOfRun u p → is_aok u.end ≡ true → Solves v terms u.state f → s ≡ after (sources pipe_rows terms) window (suc k) u f →
@@ -49,7 +46,7 @@ module _ (v : Variant) (terms : List Term) (window : Window) (image : List ℕ) 
 
 -- the machine after a cycle, by its parts
 pub seen_after : (tells : (ℕ → ℕ) → Sources) (window : Window) (number : ℕ) (s t : Watching) (f : ℕ → ℕ) → t.state ≡ next s.state f →
-    t.watch ≡ moved_watch s.watch (fetched s.watch s.state f) (asked_movers f) → t.retired ≡ s.retired + count (retires s.state f) →
+    t.watch ≡ moved_watch s.watch (fetched s.watch s.state f) (asked_movers f) → t.retired ≡ s.retired + length (option_to_list (retires s.state f)) →
     t.end ≡ end_by (ending f) (stat_of (f row.Stat)) → t.text ≡ s.text ++ lines_shown tells window number s.watch (fetched s.watch s.state f) s.state f →
     t.cycles ≡ s.cycles ++ cycles_shown window number s.watch (fetched s.watch s.state f) f → t ≡ after tells window number s f
 unfolding after

@@ -1,5 +1,6 @@
 -- The run of a machine, and what is shown of it, cycle by cycle.
 use Rattle.std.specs.Prelude.{◌≡◌, ℕ, zero, suc, ◌+◌, ◌≤◌, ◌<◌, Bool, true, false, not, ◌&&◌, nat_le, List, [], ◌∷◌, ◌++◌, length, codes, Option, Some, None, if◌then◌else◌}
+use Rattle.std.specs.Option.{option_to_list}
 use Rattle.y86_base.specs.Stat.{stat_name, stat_of}
 use Rattle.y86_base.specs.declared.parts.Stat.{Stat}
 use Rattle.y86_base.specs.declared.parts.Stat.TheVariants as stat
@@ -16,7 +17,6 @@ use Rattle.dp_signals.specs.PipeTable.{pipe_rows}
 use Rattle.dp_signals.specs.declared.movers.Ending.{Ending}
 use Rattle.dp_signals.specs.declared.movers.Ending.TheVariants.{Going, Stopped, Pip}
 use Rattle.dp_signals.specs.declared.pipe_state.PipeState.{PipeState}
-use Rattle.machine_calls.specs.Records.{count}
 use Rattle.stage_text.specs.Cycle.{cycle_text}
 use Rattle.stage_text.specs.Diagram.{diagram, shown_cycle}
 use Rattle.stage_text.specs.Numbers.{number_pair}
@@ -62,7 +62,7 @@ cycles_shown window number watch fetch f =
 unfoldable pub after : ((ℕ → ℕ) → Sources) → Window → ℕ → Watching → (ℕ → ℕ) → Watching
 after tells window number s f =
     let fetch = fetched s.watch s.state f in
-    seen (next s.state f) (moved_watch s.watch fetch (asked_movers f)) (s.retired + count (retires s.state f)) (end_by (ending f) (stat_of (f row.Stat)))
+    seen (next s.state f) (moved_watch s.watch fetch (asked_movers f)) (s.retired + length (option_to_list (retires s.state f))) (end_by (ending f) (stat_of (f row.Stat)))
     (s.text ++ lines_shown tells window number s.watch fetch s.state f) (s.cycles ++ cycles_shown window number s.watch fetch f)
 
 abbrev pub first_seen : List ℕ → Watching
