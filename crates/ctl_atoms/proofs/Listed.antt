@@ -1,7 +1,8 @@
 -- The list of atoms: each one once, and each that is asked.
 use Rattle.std.proofs.Common.{◌≡◌, ℕ, Bool, true, false, ◌&&◌, ◌||◌, List, [], ◌∷◌, ◌++◌, map, Option, Some, None, if◌then◌else◌, IsTrue, refl, sym, ap, ◌∙◌, inl, inr, arith}
+use Rattle.std.specs.List.{AllByRecursion}
 use Rattle.hcl_types.specs.declared.term.Term.{Term}
-use Rattle.hcl_types.specs.Lists.{Each, IsApart, IsIn, each}
+use Rattle.hcl_types.specs.Lists.{IsApart, IsIn, each}
 use Rattle.ctl_atoms.specs.declared.leaf.Leaf.{Leaf}
 use Rattle.ctl_atoms.specs.declared.leaf.Atom.{Atom}
 use Rattle.ctl_atoms.specs.Leaves.{atom_eq, has_atom, is_listed}
@@ -21,14 +22,14 @@ each_split p (x ∷ xs) ys h =
     (rw (here.0, rest.0) refl, rest.1)
 
 all_listed : (atoms : List Atom) (leaves : ℕ → List Leaf) (terms : List Term) → each (is_listed atoms) (all_ask (map (plan leaves) terms)) ≡ true →
-    Each (λ t. IsTrue (each (is_listed atoms) (plan leaves t).asks)) terms
+    AllByRecursion (λ t. IsTrue (each (is_listed atoms) (plan leaves t).asks)) terms
 all_listed atoms leaves [] h = tt
 all_listed atoms leaves (t ∷ ts) h =
     let parts = each_split (is_listed atoms) (plan leaves t).asks (all_ask (map (plan leaves) ts)) h in
     (parts.0, all_listed atoms leaves ts parts.1)
 
 -- each atom that a definition asks is in the list
-pub listed : (leaves : ℕ → List Leaf) (terms : List Term) → Each (λ t. IsTrue (each (is_listed (atoms_of leaves terms)) (plan leaves t).asks)) terms
+pub listed : (leaves : ℕ → List Leaf) (terms : List Term) → AllByRecursion (λ t. IsTrue (each (is_listed (atoms_of leaves terms)) (plan leaves t).asks)) terms
 listed leaves terms = all_listed (atoms_of leaves terms) leaves terms (added_lists [] (all_ask (map (plan leaves) terms)))
 
 or_left : (a b : Bool) → a || b ≡ false → (a ≡ false) × (b ≡ false)

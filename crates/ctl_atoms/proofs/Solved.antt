@@ -3,11 +3,11 @@ use Rattle.std.proofs.Common.{◌≡◌, ℕ, zero, suc, ◌+◌, ◌<◌, Bool,
 use Rattle.std.proofs.lemmas.Bool.Decides.{nat_tests}
 use Rattle.std.proofs.lemmas.List.{drop_more, get_or_past, get_or-set_same, get_or-set_other, length-set}
 use Rattle.std.proofs.lemmas.Option.{slice_get_past}
+use Rattle.std.specs.List.{AllByRecursion}
 use Rattle.hcl_types.specs.declared.term.Term.{Term}
 use Rattle.hcl_types.specs.declared.table.Role.{Role}
 use Rattle.hcl_types.specs.declared.table.Role.TheVariants as role
 use Rattle.hcl_types.specs.declared.table.Row.{Row}
-use Rattle.hcl_types.specs.Lists.{Each}
 use Rattle.hcl_types.specs.Terms.{names}
 use Rattle.hcl_types.specs.Tables.{IsOrderOf, defined, is_defined, is_given, known, needs, needs_from, term_at}
 use Rattle.hcl_types.specs.Equations.{Fixes, IsLocal, IsStore, filled, is_known, needs_of}
@@ -64,7 +64,7 @@ module _ (rows : List Row) (terms : List Term) where
       by_role row e role.State q = rw q refl
       by_role row e (role.Hardware ids) q = rw q refl
       by_role row e role.Defined q =
-          let own = subst (Each (λ m. f m ≡ g m)) (needs_defined rows terms n row e (rw q refl)) same in
+          let own = subst (AllByRecursion (λ m. f m ≡ g m)) (needs_defined rows terms n row e (rw q refl)) same in
           ap (λ (p : Plan). leaves_by_role row.class n row.role p.leaves) (same_plan f g (row_term rows terms n) own)
 
       by : (o : Option Row) → slice_get rows n ≡ o → leaves_of_row o n (plan f (row_term rows terms n)).leaves ≡ leaves_of_row o n (plan g (row_term rows terms n)).leaves

@@ -1,7 +1,8 @@
 //! Theorems about atoms and leaves. Each is a function that does nothing and whose contract is the theorem.
 ghost use Rattle.std.specs.Prelude.{◌≡◌, ℕ, IsTrue, List};
+ghost use Rattle.std.specs.List.{AllByRecursion};
 ghost use Rattle.hcl_types.specs.Equations.{Fixes};
-ghost use Rattle.hcl_types.specs.Lists.{Each, IsApart, each};
+ghost use Rattle.hcl_types.specs.Lists.{IsApart, each};
 ghost use Rattle.hcl_types.specs.Tables.{IsOrderOf};
 ghost use Rattle.hcl_types.specs.declared.table.Row.{Row};
 ghost use Rattle.hcl_types.specs.declared.term.Term.{Term};
@@ -21,5 +22,5 @@ pub fn law_of_leaves()
 /// No atom of a design stands in the list twice, and each one that a definition asks stands there.
 pub fn law_of_atoms()
     ensures apart { (leaves : ℕ → List Leaf) (terms : List Term) → IsApart (atoms_of leaves terms) }
-    ensures listed { (leaves : ℕ → List Leaf) (terms : List Term) → Each (λ t. IsTrue (each (is_listed (atoms_of leaves terms)) (plan leaves t).asks)) terms }
+    ensures listed { (leaves : ℕ → List Leaf) (terms : List Term) → AllByRecursion (λ t. IsTrue (each (is_listed (atoms_of leaves terms)) (plan leaves t).asks)) terms }
 {}

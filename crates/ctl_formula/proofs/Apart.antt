@@ -1,6 +1,7 @@
 -- The leaves of a name stand once each.
 use Rattle.std.proofs.Common.{◌≡◌, ◌⊎◌, ℕ, ◌<◌, Bool, true, false, ◌||◌, List, [], ◌∷◌, ◌++◌, length, map, Option, Some, None, slice_get, IsTrue, if◌then◌else◌, refl, sym, ap, ◌∙◌, subst, arith, inl, inr}
 use Rattle.std.proofs.lemmas.Option.{slice_get_within}
+use Rattle.std.specs.List.{AllByRecursion}
 use Rattle.y86_base.proofs.Booleans.{clash}
 use Rattle.nets.specs.Nets.{Gates}
 use Rattle.hcl_types.specs.declared.term.Term.{Term}
@@ -11,7 +12,6 @@ use Rattle.hcl_types.specs.declared.table.Role.{Role}
 use Rattle.hcl_types.specs.declared.table.Role.TheVariants.{Constant, State, Hardware, Defined}
 use Rattle.hcl_types.specs.declared.table.Row.{Row}
 use Rattle.hcl_types.specs.Equations.{Fixes}
-use Rattle.hcl_types.specs.Lists.{Each}
 use Rattle.hcl_types.specs.Tables.{IsOrderOf, is_defined, known, needs}
 use Rattle.hcl_types.specs.Terms.{names}
 use Rattle.hcl_types.proofs.Inductions.{induct}
@@ -81,10 +81,10 @@ case_apart xs (b ∷ bs) a = by (case_apart (joined xs b.1.leaves) bs (joined_ap
     by rest false = rest
 
 module _ (own : ℕ → List Leaf) where
-  plan_apart : (t : Term) → Each (λ id. Apart (own id)) (names t) → Apart (plan own t).leaves
-  plan_apart = induct (λ t. Each (λ id. Apart (own id)) (names t) → Apart (plan own t).leaves) (λ (b : TermBranch). Unit {0})
+  plan_apart : (t : Term) → AllByRecursion (λ id. Apart (own id)) (names t) → Apart (plan own t).leaves
+  plan_apart = induct (λ t. AllByRecursion (λ id. Apart (own id)) (names t) → Apart (plan own t).leaves) (λ (b : TermBranch). Unit {0})
       (λ n h. subst Apart (sym (ap (λ (p : Plan). p.leaves) (plan_Num own n))) (refl, tt))
-      (λ id h. subst Apart (sym (ap (λ (p : Plan). p.leaves) (plan_Name own id))) (subst (Each (λ id. Apart (own id))) (names_Name id) h).0)
+      (λ id h. subst Apart (sym (ap (λ (p : Plan). p.leaves) (plan_Name own id))) (subst (AllByRecursion (λ id. Apart (own id))) (names_Name id) h).0)
       (λ t g h. subst Apart (sym (ap (λ (p : Plan). p.leaves) (plan_Not own t))) tt)
       (λ ts g h. subst Apart (sym (ap (λ (p : Plan). p.leaves) (plan_And own ts))) tt)
       (λ ts g h. subst Apart (sym (ap (λ (p : Plan). p.leaves) (plan_Or own ts))) tt)
@@ -115,7 +115,7 @@ role_apart class n (Hardware ids) xs a = field_apart class n
 role_apart class n Defined xs a = class_apart class xs (a refl)
 
 module _ (rows : List Row) (terms : List Term) (places : List NamePlace) (asks : List Atom) (first : ℕ) (ids : List ℕ) (o : IsOrderOf rows terms ids) (own : ℕ → List Leaf) (fixed : Fixes (leaf_rule rows terms) own) where
-  row_apart : (n : ℕ) → ((row : Row) → slice_get rows n ≡ Some row → is_defined row.role ≡ true → Each (λ m. Apart (own m)) (names (row_term rows terms n))) → Apart (own n)
+  row_apart : (n : ℕ) → ((row : Row) → slice_get rows n ≡ Some row → is_defined row.role ≡ true → AllByRecursion (λ m. Apart (own m)) (names (row_term rows terms n))) → Apart (own n)
   row_apart n h = subst Apart (sym (fixed n)) (by (slice_get rows n) refl)
     where
       by : (x : Option Row) → slice_get rows n ≡ x → Apart (leaves_of_row x n (plan own (row_term rows terms n)).leaves)
@@ -125,7 +125,7 @@ module _ (rows : List Row) (terms : List Term) (places : List NamePlace) (asks :
   leaves_apart : (n : ℕ) → Apart (own n)
   leaves_apart n = along (needs rows terms) (known rows) (λ m. Apart (own m))
       (λ m k. row_apart m (λ row r d. clash (is_defined row.role) d (given_undefined row.role (sym (known_row rows m row r) ∙ k))))
-      (λ m u h. row_apart m (λ row r d. subst (Each (λ i. Apart (own i))) (needs_defined rows terms m row r d) h))
+      (λ m u h. row_apart m (λ row r d. subst (AllByRecursion (λ i. Apart (own i))) (needs_defined rows terms m row r d) h))
       ids o n
 
   -- the picks of each name have different leaves

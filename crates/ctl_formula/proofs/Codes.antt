@@ -2,9 +2,9 @@
 use Rattle.std.proofs.Common.{◌≡◌, ℕ, zero, suc, ◌+◌, ◌-◌, ◌<◌, ◌≤◌, ◌^◌, ◌==◌, Bool, true, false, ◌&&◌, ◌||◌, List, [], ◌∷◌, ◌++◌, nat_eq, nat_lt, refl, sym, ap, ◌∙◌, arith, Some, subst, if◌then◌else◌}
 use Rattle.std.proofs.lemmas.Bool.Decides.{nat_tests}
 use Rattle.std.proofs.lemmas.List.{append_assoc}
+use Rattle.std.specs.List.{AllByRecursion}
 use Rattle.field_bits.specs.Spelling.{spelt}
 use Rattle.field_bits.proofs.Patterns.{spelt_lt}
-use Rattle.hcl_types.specs.Lists.{Each}
 use Rattle.ctl_atoms.specs.declared.leaf.Leaf.{Leaf}
 use Rattle.ctl_atoms.specs.declared.leaf.Leaf.TheVariants.{Name, Number}
 use Rattle.ctl_atoms.specs.Leaves.{leaf_eq}
@@ -62,7 +62,7 @@ spelt_below w first bits h = by bits h (spelt_lt w first bits)
     by (suc (suc (suc (suc (suc n))))) h l = absurd (omega (arith, h))
 
 -- a place that is found is one of the list, and of the name
-pub place_at : (P : NamePlace → Type 0) (ps : List NamePlace) (n : ℕ) (p : NamePlace) → place_of ps n ≡ Some p → Each P ps → P p × (p.name ≡ n)
+pub place_at : (P : NamePlace → Type 0) (ps : List NamePlace) (n : ℕ) (p : NamePlace) → place_of ps n ≡ Some p → AllByRecursion P ps → P p × (p.name ≡ n)
 place_at P [] n p e h = absurd (grind (arith, e))
 place_at P (q ∷ ps) n p e h = by (λ f. place_at P ps n p f h.1) (q.name == n) refl
   where

@@ -2,8 +2,8 @@
 use Rattle.std.proofs.Common.{◌≡◌, ◌⊎◌, ℕ, zero, suc, ◌+◌, ◌<◌, Bool, true, false, cond, not, ◌&&◌, ◌||◌, is_some, List, [], ◌∷◌, ◌++◌, length, take, Option, Some, slice_get, IsTrue, refl, sym, ap, ◌∙◌, subst, arith, inl, inr}
 use Rattle.std.proofs.Math.ListN.{set}
 use Rattle.std.proofs.lemmas.Option.{slice_get_within}
+use Rattle.std.specs.List.{AllByRecursion}
 use Rattle.hcl_types.specs.declared.table.Row.{Row}
-use Rattle.hcl_types.specs.Lists.{Each}
 use Rattle.hcl_types.specs.Tables.{defined, is_defined}
 use Rattle.ctl_formula.specs.declared.controls.NamePlace.{NamePlace}
 use Rattle.ctl_formula.specs.Places.{place_of, has_bits, is_field, are_placed}
@@ -82,7 +82,7 @@ placed_at places k (r ∷ rows) (suc n) row e h f b =
     subst (λ i. IsTrue (is_some (place_of places i))) (let q : (k + 1) + n ≡ k + suc n = omega arith in q)
     (placed_at places (k + 1) rows n row e (split (not (is_field r.role && has_bits r.class) || is_some (place_of places k)) (are_placed places (k + 1) rows) h).1 f b)
 
-pub each_at : {A : Type 0} (P : A → Type 0) (xs : List A) (n : ℕ) (x : A) → slice_get xs n ≡ Some x → Each P xs → P x
+pub each_at : {A : Type 0} (P : A → Type 0) (xs : List A) (n : ℕ) (x : A) → slice_get xs n ≡ Some x → AllByRecursion P xs → P x
 each_at P [] n x e h = absurd (grind (arith, e))
 each_at P (y ∷ xs) zero x e h = subst P (from_some y x e) h.0
 each_at P (y ∷ xs) (suc n) x e h = each_at P xs n x e h.1

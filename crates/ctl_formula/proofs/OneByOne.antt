@@ -4,6 +4,7 @@ use Rattle.std.proofs.Math.ListN.{set}
 use Rattle.std.proofs.lemmas.List.{length-set, length_push}
 use Rattle.std.proofs.lemmas.Option.{slice_get_within, slice_get_past, slice_get-get_or}
 use Rattle.std.proofs.lemmas.Bool.Decides.{nat_tests}
+use Rattle.std.specs.List.{AllByRecursion}
 use Rattle.nets.specs.Nets.{Gates, Begins, truth}
 use Rattle.hcl_types.specs.declared.term.Term.{Term}
 use Rattle.hcl_types.specs.declared.term.Term.TheVariants.{Num}
@@ -14,7 +15,7 @@ use Rattle.hcl_types.specs.declared.table.Role.TheVariants.{Constant, State, Har
 use Rattle.hcl_types.specs.declared.table.Row.{Row}
 use Rattle.hcl_types.specs.Equations.{Fixes, IsOrdered, is_known, needs_of}
 use Rattle.hcl_types.specs.Kinds.{is_truth, kinds, kinds_of_row, has_class}
-use Rattle.hcl_types.specs.Lists.{Each, IsIn, each}
+use Rattle.hcl_types.specs.Lists.{IsIn, each}
 use Rattle.hcl_types.specs.Tables.{IsBound, IsOrderOf, defined, is_defined, is_given, known, needs, term_at}
 use Rattle.hcl_types.specs.Terms.{names, value}
 use Rattle.hcl_types.proofs.Each.{each_in}
@@ -167,24 +168,24 @@ module _ (rows : List Row) (terms : List Term) (places : List NamePlace) (asks :
           leaves = ap entry_leaves i ∙ k.own;
         }
 
-    all_stand : (ids : List ℕ) → Each (λ n. n < length rows) ids → Each (λ n. IsTrue (is_filled (slice_get es n))) ids → Each (Stands es asks rows leaves) ids
+    all_stand : (ids : List ℕ) → AllByRecursion (λ n. n < length rows) ids → AllByRecursion (λ n. IsTrue (is_filled (slice_get es n))) ids → AllByRecursion (Stands es asks rows leaves) ids
     all_stand [] l f = tt
     all_stand (n ∷ ids) l f = (stands_at n l.0 f.0, all_stand ids l.1 f.1)
 
     -- the term of a defined row whose needs have their gates can be translated
     pub readied_at : IsBound rows terms → asks ≡ atoms_of leaves terms → (n : ℕ) (row : Row) → slice_get rows n ≡ Some row → is_defined row.role ≡ true →
-        Each (λ m. m < length rows → IsTrue (is_filled (slice_get es m))) (names (row_term rows terms n)) → Readied es asks rows leaves (row_term rows terms n)
+        AllByRecursion (λ m. m < length rows → IsTrue (is_filled (slice_get es m))) (names (row_term rows terms n)) → Readied es asks rows leaves (row_term rows terms n)
     readied_at bound same n row r d filled =
         let k : ℕ = length (defined (take n rows)) in
         let lt : k < length terms = (let q = defined_below rows n row r d in let z = bound.whole in omega (arith, q, z)) in
         let read : slice_get terms k ≡ Some (term_at terms k) = slice_get-get_or terms k (Num 0) lt in
-        let inside : Each (λ m. m < length rows) (names (row_term rows terms n)) = each_at (λ (t : Term). Each (λ m. m < length rows) (names t)) terms k (term_at terms k) read bound.inside in
+        let inside : AllByRecursion (λ m. m < length rows) (names (row_term rows terms n)) = each_at (λ (t : Term). AllByRecursion (λ m. m < length rows) (names t)) terms k (term_at terms k) read bound.inside in
         let asked : IsTrue (each (is_listed (atoms_of leaves terms)) (plan leaves (row_term rows terms n)).asks) =
         each_at (λ (t : Term). IsTrue (each (is_listed (atoms_of leaves terms)) (plan leaves t).asks)) terms k (term_at terms k) read (listed leaves terms) in
         readied es asks rows leaves (row_term rows terms n) (all_stand (names (row_term rows terms n)) inside (both (names (row_term rows terms n)) inside filled))
         (subst (λ (xs : List Atom). IsTrue (each (is_listed xs) (plan leaves (row_term rows terms n)).asks)) (sym same) asked)
       where
-        both : (ids : List ℕ) → Each (λ m. m < length rows) ids → Each (λ m. m < length rows → IsTrue (is_filled (slice_get es m))) ids → Each (λ m. IsTrue (is_filled (slice_get es m))) ids
+        both : (ids : List ℕ) → AllByRecursion (λ m. m < length rows) ids → AllByRecursion (λ m. m < length rows → IsTrue (is_filled (slice_get es m))) ids → AllByRecursion (λ m. IsTrue (is_filled (slice_get es m))) ids
         both [] l f = tt
         both (m ∷ ids) l f = (f.0 l.0, both ids l.1 f.1)
 
@@ -248,7 +249,7 @@ module _ (rows : List Row) (terms : List Term) (places : List NamePlace) (asks :
   -- ---- what is needed has its gates
 
   pub needs_filled : (es : List Entry) (done ids : List ℕ) → ((n : ℕ) (row : Row) → slice_get rows n ≡ Some row → is_defined row.role ≡ false → IsTrue (is_filled (slice_get es n))) →
-      Each (λ n. IsTrue (is_filled (slice_get es n))) done → Each (λ m. (is_known (known rows) m ≡ true) ⊎ IsIn m done) ids → Each (λ m. m < length rows → IsTrue (is_filled (slice_get es m))) ids
+      AllByRecursion (λ n. IsTrue (is_filled (slice_get es n))) done → AllByRecursion (λ m. (is_known (known rows) m ≡ true) ⊎ IsIn m done) ids → AllByRecursion (λ m. m < length rows → IsTrue (is_filled (slice_get es m))) ids
   needs_filled es done [] given f o = tt
   needs_filled es done (m ∷ ids) given f o = (here o.0, needs_filled es done ids given f o.1)
     where
@@ -257,7 +258,7 @@ module _ (rows : List Row) (terms : List Term) (places : List NamePlace) (asks :
       here (inr i) lt = each_in (λ n. IsTrue (is_filled (slice_get es n))) done m f i
 
   pub all_filled : (es : List Entry) (done ids : List ℕ) → IsOrderOf rows terms ids → ((n : ℕ) (row : Row) → slice_get rows n ≡ Some row → is_defined row.role ≡ false → IsTrue (is_filled (slice_get es n))) →
-      Each (λ n. IsTrue (is_filled (slice_get es n))) done → ((n : ℕ) → IsIn n ids → IsIn n done) → (n : ℕ) → n < length rows → IsTrue (is_filled (slice_get es n))
+      AllByRecursion (λ n. IsTrue (is_filled (slice_get es n))) done → ((n : ℕ) → IsIn n ids → IsIn n done) → (n : ℕ) → n < length rows → IsTrue (is_filled (slice_get es n))
   all_filled es done ids o given f covers n lt = let found = row_at rows n lt in by found.0 found.1 (is_defined found.0.role) refl
     where
       undefined : (role : Role) → is_defined role ≡ true → is_given role ≡ false
@@ -276,7 +277,7 @@ module _ (rows : List Row) (terms : List Term) (places : List NamePlace) (asks :
   pub record IsAlong (ids rest : List ℕ) (es : List Entry) : Type 0 where
     pub done : List ℕ
     pub ordered : IsOrdered (needs rows terms) (known rows) done rest
-    pub filled : Each (λ n. IsTrue (is_filled (slice_get es n))) done
+    pub filled : AllByRecursion (λ n. IsTrue (is_filled (slice_get es n))) done
     pub covers : (n : ℕ) → IsIn n ids → IsIn n done ⊎ IsIn n rest
 
   pub along_start : (ids : List ℕ) (es : List Entry) → IsOrderOf rows terms ids → IsAlong ids ids es
@@ -291,7 +292,7 @@ module _ (rows : List Row) (terms : List Term) (places : List NamePlace) (asks :
     covers = λ n i. next n (h.covers n i);
   }
     where
-      more : (xs : List ℕ) → Each (λ n. IsTrue (is_filled (slice_get es n))) xs → Each (λ n. IsTrue (is_filled (slice_get es' n))) xs
+      more : (xs : List ℕ) → AllByRecursion (λ n. IsTrue (is_filled (slice_get es n))) xs → AllByRecursion (λ n. IsTrue (is_filled (slice_get es' n))) xs
       more [] f = tt
       more (x ∷ xs) f = (kept x f.0, more xs f.1)
 
@@ -302,9 +303,9 @@ module _ (rows : List Row) (terms : List Term) (places : List NamePlace) (asks :
 
   pub along_needs : (ids : List ℕ) (k : ℕ) (rest : List ℕ) (es : List Entry) → IsAlong ids (k ∷ rest) es →
       ((n : ℕ) (row : Row) → slice_get rows n ≡ Some row → is_defined row.role ≡ false → IsTrue (is_filled (slice_get es n))) →
-      (row : Row) → slice_get rows k ≡ Some row → is_defined row.role ≡ true → Each (λ m. m < length rows → IsTrue (is_filled (slice_get es m))) (names (row_term rows terms k))
+      (row : Row) → slice_get rows k ≡ Some row → is_defined row.role ≡ true → AllByRecursion (λ m. m < length rows → IsTrue (is_filled (slice_get es m))) (names (row_term rows terms k))
   along_needs ids k rest es h given row r d =
-      subst (Each (λ m. m < length rows → IsTrue (is_filled (slice_get es m)))) (needs_defined rows terms k row r d)
+      subst (AllByRecursion (λ m. m < length rows → IsTrue (is_filled (slice_get es m)))) (needs_defined rows terms k row r d)
       (needs_filled es h.done (needs_of (needs rows terms) k) given h.filled h.ordered.0)
 
   pub along_end : (ids : List ℕ) (es : List Entry) → IsAlong ids [] es → IsOrderOf rows terms ids →

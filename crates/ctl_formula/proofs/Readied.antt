@@ -1,6 +1,7 @@
 -- Where each name of a term has its entry and what its comparisons ask is listed, the term can be translated, and its picks have
 -- the leaves of its plan.
 use Rattle.std.proofs.Common.{rules, ◌≡◌, ℕ, Bool, true, false, ◌&&◌, List, [], ◌∷◌, ◌++◌, map, nat_eq, nat_lt, Option, slice_get, if◌then◌else◌, IsTrue, refl, sym, ap, ◌∙◌, subst}
+use Rattle.std.specs.List.{AllByRecursion}
 use Rattle.hcl_read.specs.declared.tree.CmpOp.{CmpOp}
 use Rattle.hcl_read.specs.declared.tree.CmpOp.TheVariants as op
 use Rattle.hcl_types.specs.declared.term.Term.{Term, Term-F, fold-roll-Term}
@@ -10,7 +11,7 @@ use Rattle.hcl_types.specs.declared.term.Term.TheVariants.{Num, Name, Not, And, 
 use Rattle.hcl_types.specs.declared.kinds.Kinds.{Kinds}
 use Rattle.hcl_types.specs.declared.table.Row.{Row}
 use Rattle.hcl_types.specs.Kinds.{kinds, branch_kinds, kinds_of_row, kinds_in_layer, kinds_of_branch}
-use Rattle.hcl_types.specs.Lists.{Each, each}
+use Rattle.hcl_types.specs.Lists.{each}
 use Rattle.hcl_types.specs.Terms.{names, branch_names, joined}
 use Rattle.hcl_types.proofs.Each.{each_left, each_right, each_joined}
 use Rattle.hcl_types.proofs.Inductions.{induct}
@@ -61,14 +62,14 @@ module _ (es : List Entry) (atoms : List Atom) (rows : List Row) (own : ℕ → 
   Listed asks = IsTrue (each (is_listed atoms) asks)
 
   abbrev Good : Term → Type 0
-  Good t = Each Stands (names t) → Listed (plan own t).asks → Readied t
+  Good t = AllByRecursion Stands (names t) → Listed (plan own t).asks → Readied t
 
   record ReadiedBranch (b : TermBranch) : Type 0 where
     guard : Readied b.guard
     value : Readied b.value
 
   abbrev GoodBranch : TermBranch → Type 0
-  GoodBranch b = Each Stands (branch_names b) → Listed ((branch_plan own b).0.asks ++ (branch_plan own b).1.asks) → ReadiedBranch b
+  GoodBranch b = AllByRecursion Stands (branch_names b) → Listed ((branch_plan own b).0.asks ++ (branch_plan own b).1.asks) → ReadiedBranch b
 
   -- ---- what the variants ask of their parts
 
@@ -141,19 +142,19 @@ module _ (es : List Entry) (atoms : List Atom) (rows : List Row) (own : ℕ → 
       row [] k = refl
       row (z ∷ zs) k = let p = both (is_listed atoms (asked o x z)) (each (is_listed atoms) (map (asked o x) zs)) k in joins (is_listed atoms (asked o x z)) (each (λ (y : Leaf). is_listed atoms (asked o x y)) zs) p.0 (row zs p.1)
 
-  all_good : (ts : List Term) → Each Good ts → Each (λ t. Each Stands (names t)) ts → Listed (all_ask (map (plan own) ts)) → Each Readied ts
+  all_good : (ts : List Term) → AllByRecursion Good ts → AllByRecursion (λ t. AllByRecursion Stands (names t)) ts → Listed (all_ask (map (plan own) ts)) → AllByRecursion Readied ts
   all_good [] g s h = tt
   all_good (t ∷ ts) g s h =
       let parts = each_append (is_listed atoms) (plan own t).asks (all_ask (map (plan own) ts)) h in
       (g.0 s.0 parts.0, all_good ts g.1 s.1 parts.1)
 
-  all_true : (ts : List Term) → Each Readied ts → IsTrue (each (λ (x : Kinds). x.truth) (map (kinds rows) ts)) → IsTrue (truths (map (ready es atoms) ts))
+  all_true : (ts : List Term) → AllByRecursion Readied ts → IsTrue (each (λ (x : Kinds). x.truth) (map (kinds rows) ts)) → IsTrue (truths (map (ready es atoms) ts))
   all_true [] r h = refl
   all_true (t ∷ ts) r h =
       let parts = both (kinds rows t).truth (each (λ (x : Kinds). x.truth) (map (kinds rows) ts)) h in
       joins (ready es atoms t).truth (truths (map (ready es atoms) ts)) (r.0.truth parts.0) (all_true ts r.1 parts.1)
 
-  members_good : (xs : List Leaf) (ts : List Term) → Each Good ts → Each (λ t. Each Stands (names t)) ts → Listed (members_ask xs (map (plan own) ts)) →
+  members_good : (xs : List Leaf) (ts : List Term) → AllByRecursion Good ts → AllByRecursion (λ t. AllByRecursion Stands (names t)) ts → Listed (members_ask xs (map (plan own) ts)) →
       IsTrue (each (λ (y : Kinds). y.word) (map (kinds rows) ts)) → IsTrue (members atoms xs (map (ready es atoms) ts))
   members_good xs [] g s h k = refl
   members_good xs (t ∷ ts) g s h k =
@@ -166,13 +167,13 @@ module _ (es : List Entry) (atoms : List Atom) (rows : List Row) (own : ℕ → 
       (subst (λ (ls : List Leaf). IsTrue (leaves_listed atoms op.Eq xs ls)) (sym done.leaves) (pairs_listed op.Eq xs (plan own t).leaves here.1)))
       (members_good xs ts g.1 s.1 parts.1 kind.1)
 
-  branches_good : (cs : List TermBranch) → Each GoodBranch cs → Each (λ c. Each Stands (branch_names c)) cs → Listed (branches_ask (map (branch_plan own) cs)) → Each ReadiedBranch cs
+  branches_good : (cs : List TermBranch) → AllByRecursion GoodBranch cs → AllByRecursion (λ c. AllByRecursion Stands (branch_names c)) cs → Listed (branches_ask (map (branch_plan own) cs)) → AllByRecursion ReadiedBranch cs
   branches_good [] g s h = tt
   branches_good (c ∷ cs) g s h =
       let parts = each_append (is_listed atoms) ((branch_plan own c).0.asks ++ (branch_plan own c).1.asks) (branches_ask (map (branch_plan own) cs)) h in
       (g.0 s.0 parts.0, branches_good cs g.1 s.1 parts.1)
 
-  branches_true : (cs : List TermBranch) → Each ReadiedBranch cs → IsTrue (each (λ (b : Kinds × Kinds). b.0.truth && b.1.word) (map (branch_kinds rows) cs)) → IsTrue (branches (map (branch_ready es atoms) cs))
+  branches_true : (cs : List TermBranch) → AllByRecursion ReadiedBranch cs → IsTrue (each (λ (b : Kinds × Kinds). b.0.truth && b.1.word) (map (branch_kinds rows) cs)) → IsTrue (branches (map (branch_ready es atoms) cs))
   branches_true [] r h = refl
   branches_true (c ∷ cs) r h =
       let parts = both ((branch_kinds rows c).0.truth && (branch_kinds rows c).1.word) (each (λ (b : Kinds × Kinds). b.0.truth && b.1.word) (map (branch_kinds rows) cs)) h in
@@ -181,7 +182,7 @@ module _ (es : List Entry) (atoms : List Atom) (rows : List Row) (own : ℕ → 
       joins ((branch_ready es atoms c).0.truth && (branch_ready es atoms c).1.word) (branches (map (branch_ready es atoms) cs))
       (subst (λ (b : Ready × Ready). IsTrue (b.0.truth && b.1.word)) (sym (branch_ready_is es atoms c)) here) (branches_true cs r.1 parts.1)
 
-  branches_leaves : (ls : List Leaf) (cs : List TermBranch) → Each ReadiedBranch cs → case_leaves ls (map (branch_ready es atoms) cs) ≡ plans.case_leaves ls (map (branch_plan own) cs)
+  branches_leaves : (ls : List Leaf) (cs : List TermBranch) → AllByRecursion ReadiedBranch cs → case_leaves ls (map (branch_ready es atoms) cs) ≡ plans.case_leaves ls (map (branch_plan own) cs)
   branches_leaves ls [] r = refl
   branches_leaves ls (c ∷ cs) r =
       ap (λ (b : Ready × Ready). case_leaves ls (b ∷ map (branch_ready es atoms) cs)) (branch_ready_is es atoms c)
@@ -192,7 +193,7 @@ module _ (es : List Entry) (atoms : List Atom) (rows : List Row) (own : ℕ → 
 
   -- ---- the induction
 
-  pub readied : (t : Term) → Each Stands (names t) → IsTrue (each (is_listed atoms) (plan own t).asks) → Readied t
+  pub readied : (t : Term) → AllByRecursion Stands (names t) → IsTrue (each (is_listed atoms) (plan own t).asks) → Readied t
   readied = induct Good GoodBranch
       (λ n s h. record {
         one = ap (λ (r : Ready). r.one) (ready_Num n) ∙ sym (ap (λ (p : Plan). p.one) (plan_Num own n));
@@ -201,7 +202,7 @@ module _ (es : List Entry) (atoms : List Atom) (rows : List Row) (own : ℕ → 
         leaves = ap (λ (r : Ready). r.leaves) (ready_Num n) ∙ sym (ap (λ (p : Plan). p.leaves) (plan_Num own n));
       })
       (λ id s h.
-      let here = (subst (Each Stands) (names_Name id) s).0 in
+      let here = (subst (AllByRecursion Stands) (names_Name id) s).0 in
       record {
         one = ap (λ (r : Ready). r.one) (ready_Name id) ∙ sym (ap (λ (p : Plan). p.one) (plan_Name own id));
         truth = λ k. ap (λ (r : Ready). r.truth) (ready_Name id) ∙ (here.truth ∙ (sym (ap (λ (x : Kinds). x.truth) (kinds_Name id)) ∙ k));
@@ -209,7 +210,7 @@ module _ (es : List Entry) (atoms : List Atom) (rows : List Row) (own : ℕ → 
         leaves = ap (λ (r : Ready). r.leaves) (ready_Name id) ∙ (here.leaves ∙ sym (ap (λ (p : Plan). p.leaves) (plan_Name own id)));
       })
       (λ t g s h.
-      let done = g (subst (Each Stands) (names_Not t) s) (subst (λ (p : Plan). Listed p.asks) (plan_Not own t) h) in
+      let done = g (subst (AllByRecursion Stands) (names_Not t) s) (subst (λ (p : Plan). Listed p.asks) (plan_Not own t) h) in
       record {
         one = ap (λ (r : Ready). r.one) (ready_Not t) ∙ sym (ap (λ (p : Plan). p.one) (plan_Not own t));
         truth = λ k. ap (λ (r : Ready). r.truth) (ready_Not t) ∙ done.truth (sym (ap (λ (x : Kinds). x.truth) (kinds_Not t)) ∙ k);
@@ -217,7 +218,7 @@ module _ (es : List Entry) (atoms : List Atom) (rows : List Row) (own : ℕ → 
         leaves = ap (λ (r : Ready). r.leaves) (ready_Not t) ∙ sym (ap (λ (p : Plan). p.leaves) (plan_Not own t));
       })
       (λ ts g s h.
-      let done = all_good ts g (each_joined Stands names ts (subst (Each Stands) (names_And ts) s)) (subst (λ (p : Plan). Listed p.asks) (plan_And own ts) h) in
+      let done = all_good ts g (each_joined Stands names ts (subst (AllByRecursion Stands) (names_And ts) s)) (subst (λ (p : Plan). Listed p.asks) (plan_And own ts) h) in
       record {
         one = ap (λ (r : Ready). r.one) (ready_And ts) ∙ sym (ap (λ (p : Plan). p.one) (plan_And own ts));
         truth = λ k. ap (λ (r : Ready). r.truth) (ready_And ts) ∙ all_true ts done (sym (ap (λ (x : Kinds). x.truth) (kinds_And ts)) ∙ k);
@@ -225,7 +226,7 @@ module _ (es : List Entry) (atoms : List Atom) (rows : List Row) (own : ℕ → 
         leaves = ap (λ (r : Ready). r.leaves) (ready_And ts) ∙ sym (ap (λ (p : Plan). p.leaves) (plan_And own ts));
       })
       (λ ts g s h.
-      let done = all_good ts g (each_joined Stands names ts (subst (Each Stands) (names_Or ts) s)) (subst (λ (p : Plan). Listed p.asks) (plan_Or own ts) h) in
+      let done = all_good ts g (each_joined Stands names ts (subst (AllByRecursion Stands) (names_Or ts) s)) (subst (λ (p : Plan). Listed p.asks) (plan_Or own ts) h) in
       record {
         one = ap (λ (r : Ready). r.one) (ready_Or ts) ∙ sym (ap (λ (p : Plan). p.one) (plan_Or own ts));
         truth = λ k. ap (λ (r : Ready). r.truth) (ready_Or ts) ∙ all_true ts done (sym (ap (λ (x : Kinds). x.truth) (kinds_Or ts)) ∙ k);
@@ -233,7 +234,7 @@ module _ (es : List Entry) (atoms : List Atom) (rows : List Row) (own : ℕ → 
         leaves = ap (λ (r : Ready). r.leaves) (ready_Or ts) ∙ sym (ap (λ (p : Plan). p.leaves) (plan_Or own ts));
       })
       (λ o t u g g' s h.
-      let stands = subst (Each Stands) (names_Cmp o t u) s in
+      let stands = subst (AllByRecursion Stands) (names_Cmp o t u) s in
       let asks = each_append (is_listed atoms) (plan own t).asks ((plan own u).asks ++ pairs_ask o (plan own t).leaves (plan own u).leaves) (subst (λ (p : Plan). Listed p.asks) (plan_Cmp own o t u) h) in
       let rest = each_append (is_listed atoms) (plan own u).asks (pairs_ask o (plan own t).leaves (plan own u).leaves) asks.1 in
       let left = g (each_left Stands (names t) (names u) stands) asks.0 in
@@ -251,7 +252,7 @@ module _ (es : List Entry) (atoms : List Atom) (rows : List Row) (own : ℕ → 
         leaves = ap (λ (r : Ready). r.leaves) (ready_Cmp o t u) ∙ sym (ap (λ (p : Plan). p.leaves) (plan_Cmp own o t u));
       })
       (λ t us g g' s h.
-      let stands = subst (Each Stands) (names_In t us) s in
+      let stands = subst (AllByRecursion Stands) (names_In t us) s in
       let asks = each_append (is_listed atoms) (plan own t).asks (members_ask (plan own t).leaves (map (plan own) us)) (subst (λ (p : Plan). Listed p.asks) (plan_In own t us) h) in
       let left = g (each_left Stands (names t) (joined (map names us)) stands) asks.0 in
       record {
@@ -266,7 +267,7 @@ module _ (es : List Entry) (atoms : List Atom) (rows : List Row) (own : ℕ → 
         leaves = ap (λ (r : Ready). r.leaves) (ready_In t us) ∙ sym (ap (λ (p : Plan). p.leaves) (plan_In own t us));
       })
       (λ cs g s h.
-      let done = branches_good cs g (each_joined Stands branch_names cs (subst (Each Stands) (names_Case cs) s)) (subst (λ (p : Plan). Listed p.asks) (plan_Case own cs) h) in
+      let done = branches_good cs g (each_joined Stands branch_names cs (subst (AllByRecursion Stands) (names_Case cs) s)) (subst (λ (p : Plan). Listed p.asks) (plan_Case own cs) h) in
       record {
         one = ap (λ (r : Ready). r.one) (ready_Case cs) ∙ sym (ap (λ (p : Plan). p.one) (plan_Case own cs));
         truth = λ k. (let e : false ≡ true = sym (ap (λ (x : Kinds). x.truth) (kinds_Case cs)) ∙ k in cc);
@@ -274,7 +275,7 @@ module _ (es : List Entry) (atoms : List Atom) (rows : List Row) (own : ℕ → 
         leaves = ap (λ (r : Ready). r.leaves) (ready_Case cs) ∙ (branches_leaves [] cs done ∙ sym (ap (λ (p : Plan). p.leaves) (plan_Case own cs)));
       })
       (λ b g g' s h.
-      let stands = subst (Each Stands) (names_branch b) s in
+      let stands = subst (AllByRecursion Stands) (names_branch b) s in
       let asks = each_append (is_listed atoms) (plan own b.guard).asks (plan own b.value).asks (subst (λ (p : Plan × Plan). Listed (p.0.asks ++ p.1.asks)) (plan_branch own b) h) in
       record {
         guard = g (each_left Stands (names b.guard) (names b.value) stands) asks.0;

@@ -1,13 +1,13 @@
 -- Rows of a table: what they need, which are known, and their equation.
 use Rattle.std.proofs.Common.{◌≡◌, ℕ, zero, suc, ◌+◌, Bool, true, false, cond, List, [], ◌∷◌, length, take, Option, Some, None, slice_get, if◌then◌else◌, refl, sym, ap, ◌∙◌, subst, arith}
 use Rattle.std.specs.Option.{unwrap_or}
+use Rattle.std.specs.List.{AllByRecursion}
 use Rattle.y86_base.proofs.Booleans.{clash}
 use Rattle.hcl_types.specs.declared.term.Term.{Term}
 use Rattle.hcl_types.specs.declared.table.Class.{Class}
 use Rattle.hcl_types.specs.declared.table.Role.{Role}
 use Rattle.hcl_types.specs.declared.table.Role.TheVariants.{Constant, State, Hardware, Defined}
 use Rattle.hcl_types.specs.declared.table.Row.{Row}
-use Rattle.hcl_types.specs.Lists.{Each}
 use Rattle.hcl_types.specs.Equations.{IsLocal, is_known, needs_of}
 use Rattle.hcl_types.specs.Tables.{is_defined, is_given, inputs, defined, known, needs, needs_from, term_at}
 use Rattle.hcl_types.specs.Terms.{names, value}
@@ -102,7 +102,7 @@ module _ (rows : List Row) (terms : List Term) (field : ℕ → ℕ) (α : Assig
       by (Some row) e = rule_row n f row e ∙ (role_same field n row.class row.role _ _ (h row e) ∙ sym (rule_row n g row e))
 
   pub rule_local : IsLocal (control_rule rows terms field α) (needs rows terms)
-  rule_local n f g h = same_at n f g (λ row e d. local_value (picks α) f g (row_term rows terms n) (subst (λ ids. Each (λ m. f m ≡ g m) ids) (needs_defined rows terms n row e d) h))
+  rule_local n f g h = same_at n f g (λ row e d. local_value (picks α) f g (row_term rows terms n) (subst (λ ids. AllByRecursion (λ m. f m ≡ g m) ids) (needs_defined rows terms n row e d) h))
 
   -- the equation of a known row reads nothing
   pub rule_known : (n : ℕ) → is_known (known rows) n ≡ true → (f g : ℕ → Leaf) → control_rule rows terms field α n f ≡ control_rule rows terms field α n g

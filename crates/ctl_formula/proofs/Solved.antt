@@ -1,11 +1,11 @@
 -- Control values exist where there is an order, and there is one assignment of them; beside a real cycle's values they agree.
 use Rattle.std.proofs.Common.{◌≡◌, ℕ, Bool, true, false, not, List, [], ◌∷◌, Option, Some, None, slice_get, nat_eq, nat_lt, refl, sym, ap, ◌∙◌, subst, arith}
 use Rattle.std.proofs.lemmas.Bool.Decides.{nat_tests}
+use Rattle.std.specs.List.{AllByRecursion}
 use Rattle.hcl_read.specs.declared.tree.CmpOp.{CmpOp}
 use Rattle.hcl_read.specs.declared.tree.CmpOp.TheVariants as op
 use Rattle.hcl_types.specs.declared.term.Term.{Term}
 use Rattle.hcl_types.specs.declared.table.Row.{Row}
-use Rattle.hcl_types.specs.Lists.{Each}
 use Rattle.hcl_types.specs.Equations.{filled, is_known, needs_of}
 use Rattle.hcl_types.specs.Tables.{is_defined, is_given, known, needs, IsOrderOf}
 use Rattle.hcl_types.specs.Terms.{names, value, words, signed_below, compare_words}
@@ -20,7 +20,7 @@ use Rattle.ctl_formula.specs.Controls.{control_rule, AreControls}
 use Rattle.ctl_formula.specs.Laws.{HasControls, worth, real, Agreement}
 use Rattle.ctl_formula.proofs.Rows.{known_row, needs_defined, needs_given, given_undefined, given_inputs, defined_leaf, rule_past, rule_row, rule_local, rule_known}
 
-each_unit : (ids : List ℕ) → Each (λ (n : ℕ). Unit {0}) ids
+each_unit : (ids : List ℕ) → AllByRecursion (λ (n : ℕ). Unit {0}) ids
 each_unit [] = tt
 each_unit (n ∷ ids) = (tt, each_unit ids)
 
@@ -99,7 +99,7 @@ module _ (f : ℕ → ℕ) where
     compares = λ o x x' y y' e e'. cmp_is o x x' ∙ (ap (λ z. compare_words o z (worth f x')) e ∙ ap (compare_words o y) e');
   }
 
-  pub worth_value : (cv : ℕ → Leaf) (t : Term) → Each (λ m. worth f (cv m) ≡ f m) (names t) → worth f (value (picks (real f)) cv t) ≡ value words f t
+  pub worth_value : (cv : ℕ → Leaf) (t : Term) → AllByRecursion (λ m. worth f (cv m) ≡ f m) (names t) → worth f (value (picks (real f)) cv t) ≡ value words f t
   worth_value cv t h = related (picks (real f)) words (λ x n. worth f x ≡ n) alike cv f t h
 
 pub agreement : Agreement
@@ -115,17 +115,17 @@ agreement rows terms ids field f cv o controls defined given = along (needs rows
         by None e = past n e
         by (Some row) e =
             let is_so : is_given row.role ≡ true = sym (known_row rows n row e) ∙ k in
-            given n row e (given_undefined row.role is_so) (subst (λ is. Each (λ m. worth f (cv m) ≡ f m) is) (sym (given_inputs row.role is_so)) tt)
+            given n row e (given_undefined row.role is_so) (subst (λ is. AllByRecursion (λ m. worth f (cv m) ≡ f m) is) (sym (given_inputs row.role is_so)) tt)
 
-    at_unknown : (n : ℕ) → is_known (known rows) n ≡ false → Each (λ m. worth f (cv m) ≡ f m) (needs_of (needs rows terms) n) → worth f (cv n) ≡ f n
+    at_unknown : (n : ℕ) → is_known (known rows) n ≡ false → AllByRecursion (λ m. worth f (cv m) ≡ f m) (needs_of (needs rows terms) n) → worth f (cv n) ≡ f n
     at_unknown n u h = by (slice_get rows n) refl
       where
         row_at : (row : Row) → slice_get rows n ≡ Some row → (b : Bool) → is_defined row.role ≡ b → worth f (cv n) ≡ f n
         row_at row e true d =
             let told : Leaf = value (picks (real f)) cv (row_term rows terms n) in
             ap (worth f) (controls n ∙ (rule_row rows terms field (real f) n cv row e ∙ defined_leaf field n row.class row.role told d))
-            ∙ (worth_value f cv (row_term rows terms n) (subst (λ is. Each (λ m. worth f (cv m) ≡ f m) is) (needs_defined rows terms n row e d) h) ∙ sym (defined.defined n row e d))
-        row_at row e false d = given n row e d (subst (λ is. Each (λ m. worth f (cv m) ≡ f m) is) (needs_given rows terms n row e d) h)
+            ∙ (worth_value f cv (row_term rows terms n) (subst (λ is. AllByRecursion (λ m. worth f (cv m) ≡ f m) is) (needs_defined rows terms n row e d) h) ∙ sym (defined.defined n row e d))
+        row_at row e false d = given n row e d (subst (λ is. AllByRecursion (λ m. worth f (cv m) ≡ f m) is) (needs_given rows terms n row e d) h)
 
         by : (x : Option Row) → slice_get rows n ≡ x → worth f (cv n) ≡ f n
         by None e = past n e

@@ -1,8 +1,8 @@
 -- Control values beside the values of a real cycle, and what picks are.
 use Rattle.std.specs.Prelude.{ℕ, ◌≡◌, Bool, true, false, IsTrue, List, [], ◌∷◌, nat_eq, Some, None, slice_get}
+use Rattle.std.specs.List.{AllByRecursion}
 use Rattle.hcl_types.specs.declared.term.Term.{Term}
 use Rattle.hcl_types.specs.declared.table.Row.{Row}
-use Rattle.hcl_types.specs.Lists.{Each}
 use Rattle.hcl_types.specs.Tables.{is_defined, inputs, IsOrderOf}
 use Rattle.hcl_types.specs.Terms.{value, words, signed_below}
 use Rattle.ctl_atoms.specs.declared.leaf.Leaf.{Leaf}
@@ -41,7 +41,7 @@ pub record IsDefinedBy (rows : List Row) (terms : List Term) (f : ℕ → ℕ) :
 -- The control value of each row that isn't defined is worth its value, of a hardware row once this holds of what it depends on.
 abbrev pub IsWorthGiven : List Row → (ℕ → ℕ) → (ℕ → Leaf) → Type 0
 IsWorthGiven rows f cv =
-    (n : ℕ) (row : Row) → slice_get rows n ≡ Some row → is_defined row.role ≡ false → Each (λ m. worth f (cv m) ≡ f m) (inputs row.role) → worth f (cv n) ≡ f n
+    (n : ℕ) (row : Row) → slice_get rows n ≡ Some row → is_defined row.role ≡ false → AllByRecursion (λ m. worth f (cv m) ≡ f m) (inputs row.role) → worth f (cv n) ≡ f n
 
 -- Where comparisons are those of the values, and what is given agrees, each control value is worth its name's value.
 abbrev pub Agreement : Type 0

@@ -1,9 +1,10 @@
 -- Gates and picks of names, and what they tell of control values.
 use Rattle.std.specs.Prelude.{ℕ, ◌<◌, ◌≡◌, Bool, true, false, IsTrue, ◌&&◌, List, [], length, Option, Some, None, slice_get}
+use Rattle.std.specs.List.{AllByRecursion}
 use Rattle.nets.specs.Nets.{Gates, truth}
 use Rattle.hcl_types.specs.declared.table.Row.{Row}
 use Rattle.hcl_types.specs.Kinds.{kinds_of_row}
-use Rattle.hcl_types.specs.Lists.{Each, some}
+use Rattle.hcl_types.specs.Lists.{some}
 use Rattle.ctl_atoms.specs.declared.leaf.Leaf.{Leaf}
 use Rattle.ctl_atoms.specs.Leaves.{Assignment, leaf_holds}
 use Rattle.ctl_formula.specs.declared.controls.Pick.{Pick}
@@ -58,7 +59,7 @@ pub record Covers (rows : List Row) (ctl : List Entry) : Type 0 where
 
 -- the gates of picks are among the first n
 abbrev pub Within : ℕ → List Pick → Type 0
-Within n ps = Each (λ (p : Pick). p.gate < n) ps
+Within n ps = AllByRecursion (λ (p : Pick). p.gate < n) ps
 
 -- some pick whose gate is true passes the test
 abbrev pub some_pick : Gates → List Bool → (Leaf → Bool) → List Pick → Bool

@@ -1,11 +1,11 @@
 -- The variables that are the bits of the Code and Truth names of the state and the hardware.
 use Rattle.std.specs.Prelude.{ℕ, ◌+◌, ◌≤◌, ◌≡◌, ◌==◌, ◌&&◌, ◌||◌, not, Bool, true, false, is_some, if◌then◌else◌, IsTrue, List, [], ◌∷◌, Option, Some, None}
+use Rattle.std.specs.List.{AllByRecursion}
 use Rattle.hcl_types.specs.declared.table.Class.{Class}
 use Rattle.hcl_types.specs.declared.table.Class.TheVariants as class
 use Rattle.hcl_types.specs.declared.table.Role.{Role}
 use Rattle.hcl_types.specs.declared.table.Role.TheVariants as role
 use Rattle.hcl_types.specs.declared.table.Row.{Row}
-use Rattle.hcl_types.specs.Lists.{Each}
 use Rattle.field_bits.specs.Spelling.{spelt}
 use Rattle.ctl_formula.specs.declared.controls.NamePlace.{NamePlace}
 
@@ -39,8 +39,8 @@ IsInside vars p = (p.bits ≤ 4) × (p.first + p.bits ≤ vars)
 -- each Code or Truth name that is state or hardware has a place, and each place is of at most 4 of the variables
 pub record HavePlaces (rows : List Row) (places : List NamePlace) (vars : ℕ) : Type 0 where
   pub placed : IsTrue (are_placed places 0 rows)
-  pub inside : Each (IsInside vars) places
+  pub inside : AllByRecursion (IsInside vars) places
 
 -- the bits at each place spell the number of its name's field
 abbrev pub Spells : List NamePlace → List Bool → (ℕ → ℕ) → Type 0
-Spells places w field = Each (λ (p : NamePlace). field p.name ≡ spelt w p.first p.bits) places
+Spells places w field = AllByRecursion (λ (p : NamePlace). field p.name ≡ spelt w p.first p.bits) places

@@ -1,10 +1,10 @@
 //! The gates and picks of all names of a table, along an order.
 ghost use Rattle.std.specs.Prelude.{◌≡◌, ◌≤◌, ◌<◌, ◌-◌, ◌++◌, ◌∷◌, [], true, false, ◌+◌, length, List, Bool, ℕ, IfOk, IfErr, OnOk, IsTrue, slice_get, slice_set, take, Some};
+ghost use Rattle.std.specs.List.{AllByRecursion};
 ghost use Rattle.nets.specs.Nets.{Begins};
 ghost use Rattle.hcl_types.specs.declared.table.Row.{Row};
 ghost use Rattle.hcl_types.specs.Equations.{Fixes};
 ghost use Rattle.hcl_types.specs.Kinds.{is_truth};
-ghost use Rattle.hcl_types.specs.Lists.{Each};
 ghost use Rattle.hcl_types.specs.Tables.{IsBound, IsOrderOf, IsSound};
 ghost use Rattle.hcl_types.specs.Tables as tables;
 ghost use Rattle.hcl_types.specs.Terms.{names, value};
@@ -177,7 +177,7 @@ fn put_row(
     requires leaves { (leaves : ℕ → List Leaf) × Fixes (leaf_rule rows.now d.now.terms) leaves }
     requires filling { (places : List NamePlace) × IsFilling rows.now d.now.terms places listed.now first b.old es.old.items }
     requires needs { (row : Row) → slice_get rows.now id ≡ Some row → tables.is_defined row.role ≡ true →
-        Each (λ m. m < length rows.now → IsTrue (is_filled (slice_get es.old.items m))) (names (row_term rows.now d.now.terms id)) }
+        AllByRecursion (λ m. m < length rows.now → IsTrue (is_filled (slice_get es.old.items m))) (names (row_term rows.now d.now.terms id)) }
     ensures begins { Begins b.old b.new }
     ensures filling { (places : List NamePlace) → IsFilling rows.now d.now.terms places listed.now first b.old es.old.items →
         OnOk result (IsFilling rows.now d.now.terms places listed.now first b.new es.new.items) }

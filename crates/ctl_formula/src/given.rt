@@ -1,8 +1,8 @@
 //! The gates and picks of names that no definition gives: constants, state and hardware.
 ghost use Rattle.std.specs.Prelude.{◌≡◌, ◌<◌, ◌≤◌, ◌+◌, ◌==◌, ◌∷◌, [], not, is_some, true, false, length, List, Bool, ℕ, IfOk, IsTrue, Some};
+ghost use Rattle.std.specs.List.{AllByRecursion};
 ghost use Rattle.nets.specs.Nets.{Begins, IsGate};
 ghost use Rattle.field_bits.specs.Spelling.{spelt};
-ghost use Rattle.hcl_types.specs.Lists.{Each};
 ghost use Rattle.hcl_types.specs.Tables.{is_constant, is_defined, is_number};
 ghost use Rattle.ctl_atoms.specs.declared.leaf.Leaf.{Leaf};
 ghost use Rattle.ctl_atoms.specs.declared.leaf.Leaf.TheVariants.{Number};
@@ -108,7 +108,7 @@ fn field_entry(
     places: &[NamePlace],
 ) -> Result<Entry, Memory>
     requires placed { has_bits class ≡ true → IsTrue (is_some (place_of places.now id)) }
-    requires inside { Each (IsInside b.old.vars) places.now }
+    requires inside { AllByRecursion (IsInside b.old.vars) places.now }
     ensures begins { Begins b.old b.new }
     ensures within { IfOk result (EntryWithin (length b.new.gates)) }
     ensures entry { IfOk result (IsEntryOf class (field_leaves class id)) }
@@ -144,7 +144,7 @@ pub fn given_entry(
 ) -> Result<Entry, Memory>
     requires sound { is_number row.now.class ≡ is_constant row.now.role }
     requires placed { is_field row.now.role ≡ true → has_bits row.now.class ≡ true → IsTrue (is_some (place_of places.now id)) }
-    requires inside { Each (IsInside b.old.vars) places.now }
+    requires inside { AllByRecursion (IsInside b.old.vars) places.now }
     ensures begins { Begins b.old b.new }
     ensures within { IfOk result (EntryWithin (length b.new.gates)) }
     ensures absent { is_defined row.now.role ≡ true → IfOk result (λ e. e ≡ entry.Absent) }

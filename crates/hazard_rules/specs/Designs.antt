@@ -12,7 +12,7 @@ use Rattle.ctl_formula.specs.declared.controls.NamePlace.{NamePlace}
 use Rattle.ctl_formula.specs.Picks.{Covers, IsInside, Tells}
 use Rattle.field_bits.specs.declared.spots.Spot.{Spot}
 use Rattle.pipe_fields.specs.Layout.{bit_count, fields_of, spots}
-use Rattle.hazard_rules.specs.Parts.{Controls}
+use Rattle.pipe_obligations.specs.Settled.{PipeControls}
 
 -- where each field of a table that is a signal stands, with the first field's first bit at a number
 abbrev placed : Option ℕ → ℕ → ℕ → List NamePlace → List NamePlace
@@ -33,4 +33,4 @@ pub record IsTranslated (terms : List Term) (net : Gates) (ctl : List Entry) (at
   pub vars : net.vars ≡ bit_count + length atoms
   pub inside : IsInside net ctl
   pub covers : Covers pipe_rows ctl
-  pub tells : (w : List Bool) (α : Assignment) (cv : ℕ → Leaf) → AtomsAre atoms bit_count w α → Controls terms (fields_of w) α cv → Tells net ctl w α cv
+  pub tells : (w : List Bool) (α : Assignment) (cv : ℕ → Leaf) → AtomsAre atoms bit_count w α → PipeControls terms (fields_of w) α cv → Tells net ctl w α cv

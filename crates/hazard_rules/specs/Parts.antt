@@ -8,23 +8,18 @@ use Rattle.ctl_atoms.specs.declared.leaf.Leaf.{Leaf}
 use Rattle.ctl_atoms.specs.declared.leaf.Atom.{Atom}
 use Rattle.ctl_atoms.specs.Leaves.{Assignment, AtomsAre}
 use Rattle.ctl_atoms.specs.Atoms.{AreAtoms}
-use Rattle.ctl_formula.specs.Controls.{AreControls}
 use Rattle.ctl_formula.specs.declared.controls.Entry.{Entry}
-use Rattle.pipe_fields.specs.Layout.{Fields, bit_count, fields_of, number_of}
+use Rattle.pipe_fields.specs.Layout.{bit_count, fields_of}
 use Rattle.pipe_motion.specs.declared.settings.Settings.{Settings}
 use Rattle.rule_gates.specs.declared.rules.Rule.{Rule}
 use Rattle.pipe_gates.specs.Told.{IsTold}
 use Rattle.pipe_obligations.specs.Rules.{obligation, rule_count}
-use Rattle.pipe_obligations.specs.Settled.{Truth, predicts_taken, carries, shows_lf, shows_je, shows_rm}
-
--- the control values of the names of a file with these definitions
-abbrev pub Controls : List Term → Fields → Assignment → (ℕ → Leaf) → Type 0
-Controls terms c α cv = AreControls pipe_rows terms (number_of c) α cv
+use Rattle.pipe_obligations.specs.Settled.{PipeControls, Truth, predicts_taken, carries, shows_lf, shows_je, shows_rm}
 
 -- the gate has the truth f of the valuation that the bits spell, for the truths of atoms that they tell, and its control values
 pub record IsFormula (terms : List Term) (atoms : List Atom) (net : Gates) (g : ℕ) (f : Truth) : Type 0 where
   pub within : g < length net.gates
-  pub is : (w : List Bool) (α : Assignment) (cv : ℕ → Leaf) → AtomsAre atoms bit_count w α → Controls terms (fields_of w) α cv
+  pub is : (w : List Bool) (α : Assignment) (cv : ℕ → Leaf) → AtomsAre atoms bit_count w α → PipeControls terms (fields_of w) α cv
       → truth net g w ≡ f (fields_of w) α cv
 
 -- the gates that decide pt, pb and tv: each setting holds where its gate is true at every valuation

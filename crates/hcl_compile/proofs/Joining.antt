@@ -1,8 +1,9 @@
 -- Truths joined from the last to the first, and equalities.
 use Rattle.std.proofs.Common.{◌≡◌, ◌+◌, ◌-◌, ◌<◌, ◌&&◌, ◌||◌, ℕ, zero, suc, Bool, true, false, List, [], ◌∷◌, ◌++◌, length, map, take, drop, slice_index, refl, sym, ap, subst, ◌∙◌, arith}
 use Rattle.std.proofs.lemmas.List.{drop_more, take_more, map-append}
+use Rattle.std.specs.List.{AllByRecursion}
 use Rattle.hcl_read.specs.declared.tree.CmpOp.TheVariants.{Eq}
-use Rattle.hcl_types.specs.Lists.{Each, each, some}
+use Rattle.hcl_types.specs.Lists.{each, some}
 use Rattle.hcl_types.specs.Terms.{at, compare_words, words}
 use Rattle.hcl_compile.specs.declared.slot.Slot.{Slot}
 use Rattle.hcl_compile.specs.declared.slot.Slot.TheVariants.{Cmp}
@@ -60,7 +61,7 @@ pub record IsJoining (j : Join) (parts : List ℕ) (old slots : List Slot) (plac
   pub truth : (env : ℕ → ℕ) → words.holds (at (written env [] slots) place) ≡ joined_truth j (truths env old (drop left parts))
   pub whole : left + 1 < length parts → (env : ℕ → ℕ) → at (written env [] slots) place ≡ word (joined_truth j (truths env old (drop left parts)))
 
-each_at : (k n : ℕ) (xs : List ℕ) → Each (λ x. x < n) xs → k < length xs → slice_index xs k < n
+each_at : (k n : ℕ) (xs : List ℕ) → AllByRecursion (λ x. x < n) xs → k < length xs → slice_index xs k < n
 each_at k n [] h l = absurd (omega arith)
 each_at zero n (x ∷ xs) h l = h.0
 each_at (suc k) n (x ∷ xs) h l = each_at k n xs h.1 (omega arith)
@@ -90,7 +91,7 @@ join_one j (x ∷ []) old new only place e s p = placed_as _ [] _ (joined_word j
     twice join.Some true = refl
     twice join.Some false = refl
 
-pub join_begin : (j : Join) (parts : List ℕ) (old : List Slot) (left : ℕ) → IsFormed 0 old → Each (λ place. place < length old) parts → left + 1 ≡ length parts
+pub join_begin : (j : Join) (parts : List ℕ) (old : List Slot) (left : ℕ) → IsFormed 0 old → AllByRecursion (λ place. place < length old) parts → left + 1 ≡ length parts
     → IsJoining j parts old old (slice_index parts left) left
 join_begin j parts old left f h e = record {
   grows = grows_none [] old f;
@@ -100,7 +101,7 @@ join_begin j parts old left f h e = record {
   whole = λ l. absurd (omega arith);
 }
 
-pub join_step : (j : Join) (parts : List ℕ) (old slots new : List Slot) (place left next on : ℕ) → IsJoining j parts old slots place left → Each (λ place. place < length old) parts
+pub join_step : (j : Join) (parts : List ℕ) (old slots new : List Slot) (place left next on : ℕ) → IsJoining j parts old slots place left → AllByRecursion (λ place. place < length old) parts
     → next + 1 ≡ left
     → IsPlaced (own_names (join_slot j (slice_index parts next) place)) (λ env. slot_value env (written env [] slots) (join_slot j (slice_index parts next) place)) slots new on
     → IsJoining j parts old new on next
@@ -148,7 +149,7 @@ equals slots one parts env = map (λ part. word (compare_words Eq (at (written e
 pub equals_none : (slots : List Slot) (one : ℕ) (places : List ℕ) → IsFormed 0 slots → places ≡ [] → ArePlaced [] (equals slots one []) slots slots places
 equals_none slots one places f e = rw e (record { grows = grows_none [] slots f; inside = tt; values = λ env. refl })
 
-pub equals_more : (old slots new : List Slot) (one index place : ℕ) (parts places : List ℕ) → one < length old → Each (λ place. place < length old) parts → index < length parts
+pub equals_more : (old slots new : List Slot) (one index place : ℕ) (parts places : List ℕ) → one < length old → AllByRecursion (λ place. place < length old) parts → index < length parts
     → ArePlaced [] (equals old one (take index parts)) old slots places
     → IsPlaced [] (λ env. slot_value env (written env [] slots) (Cmp Eq one (slice_index parts index))) slots new place
     → ArePlaced [] (equals old one (take (index + 1) parts)) old new (places ++ place ∷ [])

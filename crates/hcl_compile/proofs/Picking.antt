@@ -1,7 +1,7 @@
 -- Choices made from the last to the first.
 use Rattle.std.proofs.Common.{◌≡◌, ◌+◌, ◌<◌, ◌≤◌, ℕ, if◌then◌else◌, List, [], ◌∷◌, ◌++◌, length, map, drop, get_or, refl, sym, ap, subst, ◌∙◌, arith}
 use Rattle.std.proofs.lemmas.List.{drop_more}
-use Rattle.hcl_types.specs.Lists.{Each}
+use Rattle.std.specs.List.{AllByRecursion}
 use Rattle.hcl_types.specs.Terms.{at, picked, words}
 use Rattle.hcl_types.proofs.Each.{each_more}
 use Rattle.hcl_compile.specs.declared.slot.Slot.{Slot}
@@ -35,7 +35,7 @@ pick_begin choices last old left f l e = record {
 }
 
 pub pick_step : (choices : List Choice) (last : ℕ) (old slots new : List Slot) (place left next on : ℕ) (c : Choice) → IsPicking choices last old slots place left
-    → Each (IsChoice (length old)) choices → next + 1 ≡ left → c ≡ get_or choices next c
+    → AllByRecursion (IsChoice (length old)) choices → next + 1 ≡ left → c ≡ get_or choices next c
     → IsPlaced [] (λ env. slot_value env (written env [] slots) (Pick c.guard c.value place)) slots new on → IsPicking choices last old new on next
 pick_step choices last old slots new place left next on c w h e s p = record {
   grows = grows_on [] [] old slots new w.grows p.grows refl;
@@ -65,12 +65,12 @@ pub picked_append : (none : ℕ) (xs ys : List (ℕ × ℕ)) → picked words.ho
 picked_append none [] ys = refl
 picked_append none (x ∷ xs) ys = ap (λ z. if words.holds x.0 then x.1 else z) (picked_append none xs ys)
 
-pub kept_choices : (ids : List ℕ) (old new : List Slot) (env : ℕ → ℕ) (choices : List Choice) → Grows ids old new → Each (IsChoice (length old)) choices
+pub kept_choices : (ids : List ℕ) (old new : List Slot) (env : ℕ → ℕ) (choices : List Choice) → Grows ids old new → AllByRecursion (IsChoice (length old)) choices
     → map (choice (written env [] new)) choices ≡ map (choice (written env [] old)) choices
 kept_choices ids old new env [] g h = refl
 kept_choices ids old new env (c ∷ choices) g h = rw (kept ids old new env c.guard g h.0.0, kept ids old new env c.value g h.0.1, kept_choices ids old new env choices g h.1) refl
 
-pub still_choices : (ids : List ℕ) (old new : List Slot) (choices : List Choice) → Grows ids old new → Each (IsChoice (length old)) choices → Each (IsChoice (length new)) choices
+pub still_choices : (ids : List ℕ) (old new : List Slot) (choices : List Choice) → Grows ids old new → AllByRecursion (IsChoice (length old)) choices → AllByRecursion (IsChoice (length new)) choices
 still_choices ids old new choices g h = each_more (λ c l. (omega (arith, l.0, length_grown ids old new g), omega (arith, l.1, length_grown ids old new g))) choices h
 
 pub ruleset picking = (pick_begin, pick_step, pick_end)

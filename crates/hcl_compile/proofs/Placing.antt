@@ -1,7 +1,8 @@
 -- Slots that are appended: what stands keeps its value.
 use Rattle.std.proofs.Common.{◌≡◌, ◌+◌, ◌<◌, ◌≤◌, inl, inr, ℕ, List, [], ◌∷◌, ◌++◌, length, map, get_or, refl, sym, ap, subst, ◌∙◌, arith}
 use Rattle.std.proofs.lemmas.List.{append-nil, append_assoc, length-append, get_or_at, map-append}
-use Rattle.hcl_types.specs.Lists.{Each, IsIn}
+use Rattle.std.specs.List.{AllByRecursion}
+use Rattle.hcl_types.specs.Lists.{IsIn}
 use Rattle.hcl_types.specs.Terms.{at}
 use Rattle.hcl_types.proofs.Each.{each_more}
 use Rattle.hcl_compile.specs.declared.slot.Slot.{Slot}
@@ -10,7 +11,7 @@ use Rattle.hcl_compile.specs.Slots.{IsFormed, ReadsBefore, ReadsName, slot_value
 use Rattle.hcl_compile.specs.Building.{Grows, IsPlaced, ArePlaced, own_names}
 use Rattle.hcl_compile.proofs.Written.{written_more, length-written, written_keeps, written_at, formed_more}
 
-pub each_append : {A : Type 0} (P : A → Type 0) (xs ys : List A) → Each P xs → Each P ys → Each P (xs ++ ys)
+pub each_append : {A : Type 0} (P : A → Type 0) (xs ys : List A) → AllByRecursion P xs → AllByRecursion P ys → AllByRecursion P (xs ++ ys)
 each_append P [] ys h i = i
 each_append P (x ∷ xs) ys h i = (h.0, each_append P xs ys h.1 i)
 
@@ -107,12 +108,12 @@ pub placed_on : (ids jds : List ℕ) (f g : (ℕ → ℕ) → ℕ) (a b c : List
     → IsPlaced ids g a c place
 placed_on ids jds f g a b c place h p e s = record { grows = grows_on ids jds a b c h p.grows e; inside = p.inside; value = λ env. p.value env ∙ s env }
 
-pub kept_all : (ids : List ℕ) (old new : List Slot) (env : ℕ → ℕ) (places : List ℕ) → Grows ids old new → Each (λ place. place < length old) places
+pub kept_all : (ids : List ℕ) (old new : List Slot) (env : ℕ → ℕ) (places : List ℕ) → Grows ids old new → AllByRecursion (λ place. place < length old) places
     → map (at (written env [] new)) places ≡ map (at (written env [] old)) places
 kept_all ids old new env [] g h = refl
 kept_all ids old new env (place ∷ places) g h = rw (kept ids old new env place g h.0, kept_all ids old new env places g h.1) refl
 
-pub still_inside : (ids : List ℕ) (old new : List Slot) (places : List ℕ) → Grows ids old new → Each (λ place. place < length old) places → Each (λ place. place < length new) places
+pub still_inside : (ids : List ℕ) (old new : List Slot) (places : List ℕ) → Grows ids old new → AllByRecursion (λ place. place < length old) places → AllByRecursion (λ place. place < length new) places
 still_inside ids old new places g h = each_more (λ place l. omega (arith, length_grown ids old new g)) places h
 
 pub placed_more : (ids jds : List ℕ) (fs : (ℕ → ℕ) → List ℕ) (f : (ℕ → ℕ) → ℕ) (a b c : List Slot) (places : List ℕ) (place : ℕ) → ArePlaced ids fs a b places → IsPlaced jds f b c place

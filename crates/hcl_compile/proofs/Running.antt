@@ -2,8 +2,8 @@
 use Rattle.std.proofs.Common.{◌≡◌, ◌+◌, ◌-◌, ◌<◌, ◌≤◌, ℕ, zero, suc, Bool, true, false, if◌then◌else◌, List, [], ◌∷◌, ◌++◌, length, take, set, get_or, refl, sym, ap, subst, ◌∙◌, arith}
 use Rattle.std.proofs.lemmas.List.{get_or-take, get_or_at, length-append, take_all, take_more, take_more_set}
 use Rattle.std.specs.Prelude.{slice_get, Some}
+use Rattle.std.specs.List.{AllByRecursion}
 use Rattle.hcl_types.specs.declared.term.Term.{Term}
-use Rattle.hcl_types.specs.Lists.{Each}
 use Rattle.hcl_types.specs.Terms.{at, names, words}
 use Rattle.hcl_compile.specs.declared.slot.Slot.{Slot}
 use Rattle.hcl_compile.specs.declared.slot.Slot.TheVariants.{Num, Name, Not, And, Or, Cmp, Pick}
@@ -28,7 +28,7 @@ formed_at n k [] other f h = absurd (omega arith)
 formed_at n zero (slot ∷ slots) other f h = let e : n + 0 ≡ n = omega arith in rw e f.0
 formed_at n (suc k) (slot ∷ slots) other f h = let e : n + suc k ≡ n + 1 + k = omega arith in rw e (formed_at (n + 1) k slots other f.1 (omega arith))
 
-pub each_get : {A : Type 0} (P : A → Type 0) (xs : List A) (k : ℕ) (other : A) → Each P xs → k < length xs → P (get_or xs k other)
+pub each_get : {A : Type 0} (P : A → Type 0) (xs : List A) (k : ℕ) (other : A) → AllByRecursion P xs → k < length xs → P (get_or xs k other)
 each_get P [] k other h l = absurd (omega arith)
 each_get P (x ∷ xs) zero other h l = h.0
 each_get P (x ∷ xs) (suc k) other h l = each_get P xs k other h.1 (omega arith)
@@ -70,7 +70,7 @@ program_at (u ∷ terms) [] k t other a e = absurd a
 program_at (u ∷ terms) (prog ∷ progs) zero t other a e = (omega arith, subst (λ x. IsProgram x prog.slots) (some_of u t e) a.0)
 program_at (u ∷ terms) (prog ∷ progs) (suc k) t other a e = let w = program_at terms progs k t other a.1 e in (omega (arith, w.0), w.1)
 
-pub names_within : (ids : List ℕ) (entries : ℕ) (slots : List Slot) → Each (λ id. id < entries) ids → Each (ReadsName ids) slots → Each (NameWithin entries) slots
+pub names_within : (ids : List ℕ) (entries : ℕ) (slots : List Slot) → AllByRecursion (λ id. id < entries) ids → AllByRecursion (ReadsName ids) slots → AllByRecursion (NameWithin entries) slots
 names_within ids entries slots h r = each_more (λ s q. name_within s q) slots r
   where
     name_within : (slot : Slot) → ReadsName ids slot → NameWithin entries slot
@@ -87,9 +87,9 @@ pub record IsAsked (progs : List Prog) (most entries def : ℕ) (t : Term) (slot
   pub inside : def < length progs
   pub program : IsProgram t slots
   pub room : length slots ≤ most
-  pub names : Each (NameWithin entries) slots
+  pub names : AllByRecursion (NameWithin entries) slots
 
-pub asked : (terms : List Term) (progs : List Prog) (room entries def : ℕ) (t : Term) (other : Prog) → Evaluates progs room terms → slice_get terms def ≡ Some t → Each (λ id. id < entries) (names t)
+pub asked : (terms : List Term) (progs : List Prog) (room entries def : ℕ) (t : Term) (other : Prog) → Evaluates progs room terms → slice_get terms def ≡ Some t → AllByRecursion (λ id. id < entries) (names t)
     → IsAsked progs room entries def t (get_or progs def other).slots
 asked terms progs room entries def t other e s n = let w = program_at terms progs def t other e.programs s in record {
   inside = w.0;
@@ -123,8 +123,8 @@ program_last t old slots place o p e = record {
   value = λ env. let last : length slots - 1 ≡ place = omega arith in rw last (p.value env);
 }
   where
-    all_read : Each (ReadsName (names t)) slots
-    all_read = subst (Each (ReadsName (names t))) (sym (p.grows.is ∙ ap (λ x. x ++ p.grows.more) o)) p.grows.reads
+    all_read : AllByRecursion (ReadsName (names t)) slots
+    all_read = subst (AllByRecursion (ReadsName (names t))) (sym (p.grows.is ∙ ap (λ x. x ++ p.grows.more) o)) p.grows.reads
 
 pub program_repeated : (t : Term) (old slots new : List Slot) (place : ℕ) → old ≡ [] → IsTerm t old slots place → new ≡ slots ++ Pick place place place ∷ [] → IsProgram t new
 program_repeated t old slots new place o p e = record {
@@ -141,18 +141,18 @@ program_repeated t old slots new place o p e = record {
     size : length new ≡ length slots + 1
     size = ap length e ∙ length-append slots (Pick place place place ∷ [])
 
-    all_read : Each (ReadsName (names t)) slots
-    all_read = subst (Each (ReadsName (names t))) (sym (p.grows.is ∙ ap (λ x. x ++ p.grows.more) o)) p.grows.reads
+    all_read : AllByRecursion (ReadsName (names t)) slots
+    all_read = subst (AllByRecursion (ReadsName (names t))) (sym (p.grows.is ∙ ap (λ x. x ++ p.grows.more) o)) p.grows.reads
 
     same : (b : Bool) (x : ℕ) → (if b then x else x) ≡ x
     same true x = refl
     same false x = refl
 
-pub room_more : (progs : List Prog) (prog : Prog) (index most next : ℕ) → index < length progs → prog ≡ get_or progs index prog → Each (λ (p : Prog). length p.slots ≤ most) (take index progs)
-    → most ≤ next → length prog.slots ≤ next → Each (λ (p : Prog). length p.slots ≤ next) (take (index + 1) progs)
+pub room_more : (progs : List Prog) (prog : Prog) (index most next : ℕ) → index < length progs → prog ≡ get_or progs index prog → AllByRecursion (λ (p : Prog). length p.slots ≤ most) (take index progs)
+    → most ≤ next → length prog.slots ≤ next → AllByRecursion (λ (p : Prog). length p.slots ≤ next) (take (index + 1) progs)
 room_more progs prog index most next l s h m n =
     let split : take index progs ++ prog ∷ [] ≡ take (index + 1) progs = sym (take_more progs index prog l ∙ ap (λ x. take index progs ++ x ∷ []) (sym s)) in
     rw (← split) (each_append (λ (p : Prog). length p.slots ≤ next) (take index progs) (prog ∷ []) (each_more (λ p q. omega arith) (take index progs) h) (n, tt))
 
-pub room_end : (progs : List Prog) (index most : ℕ) → length progs ≤ index → Each (λ (p : Prog). length p.slots ≤ most) (take index progs) → Each (λ (p : Prog). length p.slots ≤ most) progs
-room_end progs index most l h = subst (Each (λ (p : Prog). length p.slots ≤ most)) (take_all index progs l) h
+pub room_end : (progs : List Prog) (index most : ℕ) → length progs ≤ index → AllByRecursion (λ (p : Prog). length p.slots ≤ most) (take index progs) → AllByRecursion (λ (p : Prog). length p.slots ≤ most) progs
+room_end progs index most l h = subst (AllByRecursion (λ (p : Prog). length p.slots ≤ most)) (take_all index progs l) h

@@ -1,8 +1,8 @@
 -- A program as it grows.
 use Rattle.std.specs.Prelude.{ℕ, ◌≡◌, ◌<◌, ◌&&◌, ◌||◌, Bool, true, false, Option, None, Some, List, [], ◌∷◌, ◌++◌, length, map}
+use Rattle.std.specs.List.{AllByRecursion}
 use Rattle.hcl_types.specs.declared.term.Term.{Term}
 use Rattle.hcl_types.specs.declared.term.TermBranch.{TermBranch}
-use Rattle.hcl_types.specs.Lists.{Each}
 use Rattle.hcl_types.specs.Terms.{at, branch_names, branch_value, joined, names, picked, value, words}
 use Rattle.hcl_compile.specs.declared.slot.Slot.{Slot}
 use Rattle.hcl_compile.specs.declared.slot.Slot.TheVariants as slots
@@ -16,7 +16,7 @@ pub record Grows (ids : List ℕ) (old new : List Slot) : Type 0 where
   pub more : List Slot
   pub is : new ≡ old ++ more
   pub formed : IsFormed 0 new
-  pub reads : Each (ReadsName ids) more
+  pub reads : AllByRecursion (ReadsName ids) more
 
 -- the slot at a place has the value f of the names' values
 pub record IsPlaced (ids : List ℕ) (f : (ℕ → ℕ) → ℕ) (old new : List Slot) (place : ℕ) : Type 0 where
@@ -31,7 +31,7 @@ IsTerm t = IsPlaced (names t) (λ env. value words env t)
 -- the slots at some places have the values fs
 pub record ArePlaced (ids : List ℕ) (fs : (ℕ → ℕ) → List ℕ) (old new : List Slot) (places : List ℕ) : Type 0 where
   pub grows : Grows ids old new
-  pub inside : Each (λ place. place < length new) places
+  pub inside : AllByRecursion (λ place. place < length new) places
   pub values : (env : ℕ → ℕ) → map (at (written env [] new)) places ≡ fs env
 
 abbrev pub AreTerms : List Term → List Slot → List Slot → List ℕ → Type 0
@@ -68,7 +68,7 @@ IsChoice k c = (c.guard < k) × (c.value < k)
 -- the choices of some branches: whatever stands for no branch, they pick what the branches pick
 pub record AreChoices (bs : List TermBranch) (old new : List Slot) (choices : List Choice) : Type 0 where
   pub grows : Grows (joined (map branch_names bs)) old new
-  pub inside : Each (IsChoice (length new)) choices
+  pub inside : AllByRecursion (IsChoice (length new)) choices
   pub picks : (env : ℕ → ℕ) (none : ℕ) → picked words.holds none (map (choice (written env [] new)) choices) ≡ picked words.holds none (map (branch_value words env) bs)
 
 -- a branch that is always taken, with the place of its value, or else its choice
@@ -80,7 +80,7 @@ IsBranch b old new before after (Some last) = (after ≡ before) × ((env : ℕ 
 -- choices of branches, and the place of what is left where none is taken
 pub record AreBranches (bs : List TermBranch) (old new : List Slot) (choices : List Choice) (last : ℕ) : Type 0 where
   pub grows : Grows (joined (map branch_names bs)) old new
-  pub inside : Each (IsChoice (length new)) choices
+  pub inside : AllByRecursion (IsChoice (length new)) choices
   pub last_inside : last < length new
   pub picks : (env : ℕ → ℕ) → picked words.holds (at (written env [] new) last) (map (choice (written env [] new)) choices) ≡ picked words.holds 0 (map (branch_value words env) bs)
 

@@ -1,7 +1,8 @@
 -- What slots mean, and when programs of slots evaluate a design.
 use Rattle.std.specs.Prelude.{ℕ, ◌≡◌, ◌+◌, ◌-◌, ◌<◌, ◌≤◌, ◌&&◌, ◌||◌, Bool, not, if◌then◌else◌, List, [], ◌∷◌, ◌++◌, length}
+use Rattle.std.specs.List.{AllByRecursion}
 use Rattle.hcl_types.specs.declared.term.Term.{Term}
-use Rattle.hcl_types.specs.Lists.{Each, IsIn}
+use Rattle.hcl_types.specs.Lists.{IsIn}
 use Rattle.hcl_types.specs.Terms.{at, compare_words, names, value, words}
 use Rattle.hcl_compile.specs.declared.slot.Slot.{Slot}
 use Rattle.hcl_compile.specs.declared.slot.Slot.TheVariants.{Num, Name, Not, And, Or, Cmp, Pick}
@@ -58,7 +59,7 @@ ReadsName ids (Pick guard taken rest) = Unit {0}
 pub record IsProgram (t : Term) (slots : List Slot) : Type 0 where
   pub formed : IsFormed 0 slots
   pub some : 0 < length slots
-  pub reads : Each (ReadsName (names t)) slots
+  pub reads : AllByRecursion (ReadsName (names t)) slots
   pub value : (env : ℕ → ℕ) → program_value env slots ≡ value words env t
 
 -- a program for each term, in order
@@ -71,7 +72,7 @@ ArePrograms (t ∷ terms) (prog ∷ progs) = IsProgram t prog.slots × AreProgra
 -- programs of the design's terms, with a word for each slot of the longest
 pub record Evaluates (progs : List Prog) (words : ℕ) (terms : List Term) : Type 0 where
   pub programs : ArePrograms terms progs
-  pub room : Each (λ (prog : Prog). length prog.slots ≤ words) progs
+  pub room : AllByRecursion (λ (prog : Prog). length prog.slots ≤ words) progs
 
 -- the name that a slot reads, if any, has an entry among so many
 abbrev pub NameWithin : ℕ → Slot → Type 0

@@ -1,6 +1,6 @@
 //! The programs of a design, one for each definition.
 ghost use Rattle.std.specs.Prelude.{◌≤◌, IfOk, length};
-ghost use Rattle.hcl_types.specs.Lists.{Each};
+ghost use Rattle.std.specs.List.{AllByRecursion};
 ghost use Rattle.hcl_compile.specs.declared.slot.Prog.{Prog};
 ghost use Rattle.hcl_compile.specs.Slots.{ArePrograms, Evaluates, IsProgram};
 
@@ -66,7 +66,7 @@ fn programs(alloc: Global, terms: &[Term]) -> Result<Vec<Prog>, AllocError>
 
 /// How many slots the longest program has.
 fn longest(progs: &[Prog]) -> usize
-    ensures { Each (λ (prog : Prog). length prog.slots ≤ result) progs.now }
+    ensures { AllByRecursion (λ (prog : Prog). length prog.slots ≤ result) progs.now }
 {
     let mut most = 0;
     for prog in progs {

@@ -1,6 +1,6 @@
 //! Slots of `&&`, `||` and `in`.
 ghost use Rattle.std.specs.Prelude.{◌≡◌, ◌<◌, IfOk, [], length, map};
-ghost use Rattle.hcl_types.specs.Lists.{Each};
+ghost use Rattle.std.specs.List.{AllByRecursion};
 ghost use Rattle.hcl_types.specs.Terms.{at, compare_words, words};
 ghost use Rattle.hcl_read.specs.declared.tree.CmpOp.TheVariants.{Eq};
 ghost use Rattle.hcl_compile.specs.Slots.{IsFormed, word, written};
@@ -40,7 +40,7 @@ fn slot_of_none(join: Join) -> Slot
 /// Joins the truths of some slots.
 pub fn put_join(join: Join, parts: &[u64], slots: &mut Vec<Slot>) -> Result<u64, AllocError>
     requires formed { IsFormed 0 slots.old.items }
-    requires parts { Each (λ place. place < length slots.old.items) parts.now }
+    requires parts { AllByRecursion (λ place. place < length slots.old.items) parts.now }
     ensures { IfOk result (IsPlaced [] (λ env. word (joined_truth join (map words.holds (map (at (written env [] slots.old.items)) parts.now))))
         slots.old.items slots.new.items) }
 {
@@ -70,7 +70,7 @@ pub fn put_equals(
 ) -> Result<Vec<u64>, AllocError>
     requires formed { IsFormed 0 slots.old.items }
     requires one { one < length slots.old.items }
-    requires parts { Each (λ place. place < length slots.old.items) parts.now }
+    requires parts { AllByRecursion (λ place. place < length slots.old.items) parts.now }
     ensures { IfOk result (λ places. ArePlaced [] (λ env. map (λ part. word (compare_words Eq (at (written env [] slots.old.items) one) part))
         (map (at (written env [] slots.old.items)) parts.now)) slots.old.items slots.new.items places.items) }
 {

@@ -1,6 +1,6 @@
 //! Runs compiled definitions on the values of names.
 ghost use Rattle.std.specs.Prelude.{◌≡◌, ◌<◌, ◌≤◌, [], length};
-ghost use Rattle.hcl_types.specs.Lists.{Each};
+ghost use Rattle.std.specs.List.{AllByRecursion};
 ghost use Rattle.hcl_types.specs.Terms.{at, words};
 ghost use Rattle.hcl_compile.specs.Slots.{Evaluates, IsFormed, NameWithin, ReadsBefore, program_value, slot_value, word, written};
 
@@ -41,7 +41,7 @@ fn run(slots: &[Slot], vals: &[u64], words: &mut [u64]) -> u64
     requires formed { IsFormed 0 slots.now }
     requires some { 0 < length slots.now }
     requires room { length slots.now ≤ length words.old }
-    requires names { Each (NameWithin (length vals.now)) slots.now }
+    requires names { AllByRecursion (NameWithin (length vals.now)) slots.now }
     ensures value { result ≡ program_value (at vals.now) slots.now }
     ensures room { length words.new ≡ length words.old }
 {
@@ -55,7 +55,7 @@ fn run(slots: &[Slot], vals: &[u64], words: &mut [u64]) -> u64
 #[cycle(walking)]
 fn operand(slots: &[Slot], vals: &[u64], place: u64) -> u64
     requires formed { IsFormed 0 slots.now }
-    requires names { Each (NameWithin (length vals.now)) slots.now }
+    requires names { AllByRecursion (NameWithin (length vals.now)) slots.now }
     requires inside { place < length slots.now }
     ensures { result ≡ at (written (at vals.now) [] slots.now) place }
 {
@@ -70,7 +70,7 @@ fn operand(slots: &[Slot], vals: &[u64], place: u64) -> u64
 #[cycle(walking)]
 fn part_holds(slots: &[Slot], vals: &[u64], place: u64) -> bool
     requires formed { IsFormed 0 slots.now }
-    requires names { Each (NameWithin (length vals.now)) slots.now }
+    requires names { AllByRecursion (NameWithin (length vals.now)) slots.now }
     requires inside { place < length slots.now }
     ensures { result ≡ words.holds (at (written (at vals.now) [] slots.now) place) }
 {
@@ -88,7 +88,7 @@ fn part_holds(slots: &[Slot], vals: &[u64], place: u64) -> bool
 #[cycle(walking)]
 fn holds_at(slots: &[Slot], vals: &[u64], place: u64) -> bool
     requires formed { IsFormed 0 slots.now }
-    requires names { Each (NameWithin (length vals.now)) slots.now }
+    requires names { AllByRecursion (NameWithin (length vals.now)) slots.now }
     requires inside { place < length slots.now }
     ensures { result ≡ words.holds (at (written (at vals.now) [] slots.now) place) }
 {
@@ -129,7 +129,7 @@ fn holds_at(slots: &[Slot], vals: &[u64], place: u64) -> bool
 #[cycle(walking)]
 fn word_at(slots: &[Slot], vals: &[u64], place: u64) -> u64
     requires formed { IsFormed 0 slots.now }
-    requires names { Each (NameWithin (length vals.now)) slots.now }
+    requires names { AllByRecursion (NameWithin (length vals.now)) slots.now }
     requires inside { place < length slots.now }
     ensures { result ≡ at (written (at vals.now) [] slots.now) place }
 {
@@ -160,7 +160,7 @@ fn program_word(slots: &[Slot], vals: &[u64], words: &mut [u64]) -> u64
     requires formed { IsFormed 0 slots.now }
     requires some { 0 < length slots.now }
     requires room { length slots.now ≤ length words.old }
-    requires names { Each (NameWithin (length vals.now)) slots.now }
+    requires names { AllByRecursion (NameWithin (length vals.now)) slots.now }
     ensures value { result ≡ program_value (at vals.now) slots.now }
     ensures room { length words.new ≡ length words.old }
 {

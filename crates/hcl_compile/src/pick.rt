@@ -1,6 +1,6 @@
 //! Slots of case lists.
 ghost use Rattle.std.specs.Prelude.{◌≡◌, ◌<◌, IfOk, [], length, map};
-ghost use Rattle.hcl_types.specs.Lists.{Each};
+ghost use Rattle.std.specs.List.{AllByRecursion};
 ghost use Rattle.hcl_types.specs.Terms.{at, picked, words};
 ghost use Rattle.hcl_compile.specs.Slots.{IsFormed, written};
 ghost use Rattle.hcl_compile.specs.Building.{IsChoice, IsPlaced, choice};
@@ -19,7 +19,7 @@ pub struct Choice {
 /// The value of the first of some choices whose guard holds, or else that of `last`.
 pub fn put_picks(choices: &[Choice], last: u64, slots: &mut Vec<Slot>) -> Result<u64, AllocError>
     requires formed { IsFormed 0 slots.old.items }
-    requires choices { Each (IsChoice (length slots.old.items)) choices.now }
+    requires choices { AllByRecursion (IsChoice (length slots.old.items)) choices.now }
     requires last { last < length slots.old.items }
     ensures { IfOk result (IsPlaced [] (λ env. picked words.holds (at (written env [] slots.old.items) last) (map (choice (written env [] slots.old.items)) choices.now))
         slots.old.items slots.new.items) }

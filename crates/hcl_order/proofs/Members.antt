@@ -1,6 +1,7 @@
 -- Members of a list, by their place.
 use Rattle.std.proofs.Common.{◌≡◌, ◌<◌, ◌≤◌, ◌⊎◌, inl, inr, ℕ, zero, suc, List, [], ◌∷◌, ◌++◌, length, get_or, refl, sym, ap, subst, arith}
-use Rattle.hcl_types.specs.Lists.{Each, IsIn}
+use Rattle.std.specs.List.{AllByRecursion}
+use Rattle.hcl_types.specs.Lists.{IsIn}
 
 pub in_at : (xs : List ℕ) (k : ℕ) → k < length xs → IsIn (get_or xs k 0) xs
 in_at [] k h = absurd (omega arith)
@@ -45,6 +46,6 @@ le_or zero b = inl (omega arith)
 le_or (suc a) zero = inr (omega arith)
 le_or (suc a) (suc b) = elim (le_or a b) [ inl h ↦ inl (omega arith) | inr h ↦ inr (omega arith) ]
 
-pub each_of : (P : ℕ → Type 0) (xs : List ℕ) → ((n : ℕ) → IsIn n xs → P n) → Each P xs
+pub each_of : (P : ℕ → Type 0) (xs : List ℕ) → ((n : ℕ) → IsIn n xs → P n) → AllByRecursion P xs
 each_of P [] h = tt
 each_of P (x ∷ xs) h = (h x (inl refl), each_of P xs (λ n i. h n (inr i)))

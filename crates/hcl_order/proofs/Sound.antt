@@ -1,5 +1,6 @@
 -- What a sound table and a design bound to it say of needs.
 use Rattle.std.proofs.Common.{◌≡◌, ◌+◌, ◌<◌, ℕ, zero, suc, Bool, true, false, if◌then◌else◌, List, [], ◌∷◌, length, refl, sym, ap, subst, ◌∙◌}
+use Rattle.std.specs.List.{AllByRecursion}
 use Rattle.hcl_types.specs.declared.term.Term.{Term}
 use Rattle.hcl_types.specs.declared.term.Term.TheOpen.{Term-F}
 use Rattle.hcl_types.specs.declared.term.Term.TheFolds.{fold-roll-Term}
@@ -7,7 +8,7 @@ use Rattle.hcl_types.specs.declared.term.Term.TheVariants.{Num, rolls-Num}
 use Rattle.hcl_types.specs.declared.table.Role.{Role}
 use Rattle.hcl_types.specs.declared.table.Role.TheVariants.{Constant, State, Hardware, Defined}
 use Rattle.hcl_types.specs.declared.table.Row.{Row}
-use Rattle.hcl_types.specs.Lists.{Each, IsIn}
+use Rattle.hcl_types.specs.Lists.{IsIn}
 use Rattle.hcl_types.specs.Terms.{names, names_in_layer, names_in_branch}
 use Rattle.hcl_types.specs.Equations.{is_known, needs_of}
 use Rattle.hcl_types.specs.Tables.{IsSound, IsBound, needs, needs_from, known, inputs, is_defined, is_given, term_at}
@@ -28,18 +29,18 @@ known-length (row ∷ rows) = ap suc (known-length rows)
 no_names : names (Num 0) ≡ []
 no_names = ap names (sym (rolls-Num 0)) ∙ fold-roll-Term (List ℕ) (List ℕ) names_in_layer names_in_branch (Term-F.Num 0)
 
-term_inside : (bound k : ℕ) (terms : List Term) → Each (λ t. Each (λ id. id < bound) (names t)) terms → Each (λ id. id < bound) (names (term_at terms k))
+term_inside : (bound k : ℕ) (terms : List Term) → AllByRecursion (λ t. AllByRecursion (λ id. id < bound) (names t)) terms → AllByRecursion (λ id. id < bound) (names (term_at terms k))
 term_inside bound k [] h = rw no_names tt
 term_inside bound zero (t ∷ terms) h = h.0
 term_inside bound (suc k) (t ∷ terms) h = term_inside bound k terms h.1
 
-own_inside : (bound k : ℕ) (row : Row) (terms : List Term) (b : Bool) → is_defined row.role ≡ b → Each (λ id. id < bound) (inputs row.role) → Each (λ t. Each (λ id. id < bound) (names t)) terms
-    → Each (λ id. id < bound) (if is_defined row.role then names (term_at terms k) else inputs row.role)
+own_inside : (bound k : ℕ) (row : Row) (terms : List Term) (b : Bool) → is_defined row.role ≡ b → AllByRecursion (λ id. id < bound) (inputs row.role) → AllByRecursion (λ t. AllByRecursion (λ id. id < bound) (names t)) terms
+    → AllByRecursion (λ id. id < bound) (if is_defined row.role then names (term_at terms k) else inputs row.role)
 own_inside bound k row terms true e i h = rw e (term_inside bound k terms h)
 own_inside bound k row terms false e i h = rw e i
 
-needs_inside : (bound k : ℕ) (rows : List Row) (terms : List Term) → Each (λ (row : Row). Each (λ id. id < bound) (inputs row.role)) rows
-    → Each (λ t. Each (λ id. id < bound) (names t)) terms → (a : ℕ) → Each (λ id. id < bound) (needs_of (needs_from k rows terms) a)
+needs_inside : (bound k : ℕ) (rows : List Row) (terms : List Term) → AllByRecursion (λ (row : Row). AllByRecursion (λ id. id < bound) (inputs row.role)) rows
+    → AllByRecursion (λ t. AllByRecursion (λ id. id < bound) (names t)) terms → (a : ℕ) → AllByRecursion (λ id. id < bound) (needs_of (needs_from k rows terms) a)
 needs_inside bound k [] terms r h a = tt
 needs_inside bound k (row ∷ rows) terms r h zero = own_inside bound k row terms (is_defined row.role) refl r.0 h
 needs_inside bound k (row ∷ rows) terms r h (suc a) = needs_inside bound (if is_defined row.role then k + 1 else k) rows terms r.1 h a

@@ -3,7 +3,7 @@ use Rattle.std.proofs.Common.{◌≡◌, ℕ, zero, suc, ◌<◌, Bool, true, fa
 use Rattle.std.proofs.lemmas.Bool.Decides.{nat_tests}
 use Rattle.std.proofs.lemmas.List.{length-map}
 use Rattle.std.proofs.lemmas.Option.{slice_get_within, get_or_from_slice_get}
-use Rattle.std.specs.List.{position_or_len}
+use Rattle.std.specs.List.{AllByRecursion, position_or_len}
 use Rattle.std.specs.Cmp.Lexicographic.{pointwise, bytes_decides}
 use Rattle.hcl_read.specs.declared.tree.Kind.{Kind}
 use Rattle.hcl_read.specs.declared.tree.Item.{Item}
@@ -13,7 +13,7 @@ use Rattle.hcl_types.specs.declared.term.Term.{Term}
 use Rattle.hcl_types.specs.declared.term.Term.TheVariants.{Num}
 use Rattle.hcl_types.specs.declared.table.Row.{Row}
 use Rattle.hcl_types.specs.declared.fault.BindFault.{BindFault}
-use Rattle.hcl_types.specs.Lists.{Each, IsIn, IsApart}
+use Rattle.hcl_types.specs.Lists.{IsIn, IsApart}
 use Rattle.hcl_types.specs.Kinds.{has_class}
 use Rattle.hcl_types.specs.Terms.{names}
 use Rattle.hcl_types.specs.Tables.{IsBound, defined, is_defined, row_names}
@@ -131,11 +131,11 @@ module _ (rows : List Row) where
       subst (λ z. has_class rows row.class z ≡ true) same a.fits
 
   -- each name in the term of a row is a row
-  all_inside : (items : List Item) (rs : List Row) → Each (λ (row : Row). WhereOk (λ t. Each (λ id. id < length (row_names rows)) (names t)) (row_term rows row (definition items row.name))) rs
+  all_inside : (items : List Item) (rs : List Row) → AllByRecursion (λ (row : Row). WhereOk (λ t. AllByRecursion (λ id. id < length (row_names rows)) (names t)) (row_term rows row (definition items row.name))) rs
   all_inside items [] = tt
   all_inside items (row ∷ rs) = (by (definition items row.name), all_inside items rs)
     where
-      by : (d : Option Expr) → WhereOk (λ t. Each (λ id. id < length (row_names rows)) (names t)) (row_term rows row d)
+      by : (d : Option Expr) → WhereOk (λ t. AllByRecursion (λ id. id < length (row_names rows)) (names t)) (row_term rows row d)
       by None = tt
       by (Some body) = term_inside (row_names rows) body
 
@@ -150,9 +150,9 @@ module _ (rows : List Row) where
       let each = ok_at (λ (row : Row). row_term rows row (definition items row.name)) (defined rows) terms both.1 in
       record {
         whole = each.0;
-        inside = subst (λ n. Each (λ t. Each (λ id. id < n) (names t)) terms) (length-map rows (λ (row : Row). row.name))
-            (subst (WhereOk (Each (λ t. Each (λ id. id < length (row_names rows)) (names t)))) both.1
-            (each_ok (λ t. Each (λ id. id < length (row_names rows)) (names t)) (λ (row : Row). row_term rows row (definition items row.name)) (defined rows) (all_inside items (defined rows))));
+        inside = subst (λ n. AllByRecursion (λ t. AllByRecursion (λ id. id < n) (names t)) terms) (length-map rows (λ (row : Row). row.name))
+            (subst (WhereOk (AllByRecursion (λ t. AllByRecursion (λ id. id < length (row_names rows)) (names t)))) both.1
+            (each_ok (λ t. AllByRecursion (λ id. id < length (row_names rows)) (names t)) (λ (row : Row). row_term rows row (definition items row.name)) (defined rows) (all_inside items (defined rows))));
         classes = λ k row at_k.
             let found = each.1 k row at_k in
             let its = filtered_at (λ (r : Row). is_defined r.role) rows k row at_k in

@@ -1,5 +1,6 @@
 -- Induction over terms, variant by variant.
 use Rattle.std.proofs.Common.{ℕ, List, [], ◌∷◌, map, subst, sym}
+use Rattle.std.specs.List.{AllByRecursion}
 use Rattle.hcl_read.specs.declared.tree.CmpOp.{CmpOp}
 use Rattle.hcl_types.specs.declared.term.Term.{Term}
 use Rattle.hcl_types.specs.declared.term.TermBranch.{TermBranch}
@@ -7,19 +8,18 @@ use Rattle.hcl_types.specs.declared.term.Term.TheOpen.{Term-F, TermBranch-F}
 use Rattle.hcl_types.specs.declared.term.Term.TheFolds.{map-Term, map-TermBranch, ind-Term}
 use Rattle.hcl_types.specs.declared.term.Term.TheViews.{roll-Term, roll-TermBranch}
 use Rattle.hcl_types.specs.declared.term.Term.TheVariants.{Num, Name, Not, And, Or, Cmp, In, Case, rolls-Num, rolls-Name, rolls-Not, rolls-And, rolls-Or, rolls-Cmp, rolls-In, rolls-Case}
-use Rattle.hcl_types.specs.Lists.{Each}
 
 -- what holds beside each element holds of each element
-pub each_beside : {A : Type 0} {P : A → Type 0} (es : List ((x : A) × P x)) → Each P (map (λ (e : (x : A) × P x). e.0) es)
+pub each_beside : {A : Type 0} {P : A → Type 0} (es : List ((x : A) × P x)) → AllByRecursion P (map (λ (e : (x : A) × P x). e.0) es)
 each_beside [] = tt
 each_beside (e ∷ es) = (e.1, each_beside es)
 
 module _ (P : Term → Type 0) (Q : TermBranch → Type 0)
     (num : (n : ℕ) → P (Num n)) (name : (id : ℕ) → P (Name id)) (negated : (t : Term) → P t → P (Not t))
-    (conjunction : (ts : List Term) → Each P ts → P (And ts)) (disjunction : (ts : List Term) → Each P ts → P (Or ts))
+    (conjunction : (ts : List Term) → AllByRecursion P ts → P (And ts)) (disjunction : (ts : List Term) → AllByRecursion P ts → P (Or ts))
     (comparison : (op : CmpOp) (t u : Term) → P t → P u → P (Cmp op t u))
-    (membership : (t : Term) (us : List Term) → P t → Each P us → P (In t us))
-    (choice : (bs : List TermBranch) → Each Q bs → P (Case bs))
+    (membership : (t : Term) (us : List Term) → P t → AllByRecursion P us → P (In t us))
+    (choice : (bs : List TermBranch) → AllByRecursion Q bs → P (Case bs))
     (branch : (b : TermBranch) → P b.guard → P b.value → Q b) where
   at_layer : (y : Term-F ((t : Term) × P t) ((b : TermBranch) × Q b)) →
       P (roll-Term (map-Term ((t : Term) × P t) ((b : TermBranch) × Q b) Term TermBranch (λ e. e.0) (λ e. e.0) y))

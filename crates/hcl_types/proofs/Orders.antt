@@ -1,14 +1,15 @@
 -- Computing along an order solves the equations; induction along an order; solutions compared.
 use Rattle.std.proofs.Common.{◌≡◌, ℕ, Bool, true, false, List, [], ◌∷◌, refl, sym, ◌∙◌, subst, inl, inr, arith}
 use Rattle.std.specs.Prelude.{◌⊎◌}
-use Rattle.hcl_types.specs.Lists.{Each, IsIn, IsApart}
+use Rattle.std.specs.List.{AllByRecursion}
+use Rattle.hcl_types.specs.Lists.{IsIn, IsApart}
 use Rattle.hcl_types.specs.Equations.{Fixes, IsOrder, IsOrdered, IsStore, IsLocal, filled, is_known, needs_of}
 use Rattle.hcl_types.proofs.Each.{each_in, each_more}
 
 true_is_not_false : {P : Type 0} (b : Bool) → b ≡ true → b ≡ false → P
 true_is_not_false b t f = grind (arith, t, f)
 
-apart_from : {A : Type 0} (x : A) (xs : List A) → (IsIn x xs → ⊥) → Each (λ y. x ≡ y → ⊥) xs
+apart_from : {A : Type 0} (x : A) (xs : List A) → (IsIn x xs → ⊥) → AllByRecursion (λ y. x ≡ y → ⊥) xs
 apart_from x [] h = tt
 apart_from x (y ∷ ys) h = (λ e. h (inl e), apart_from x ys (λ i. h (inr i)))
 
@@ -16,8 +17,8 @@ apart_from x (y ∷ ys) h = (λ e. h (inl e), apart_from x ys (λ i. h (inr i)))
 
 module _ (needs : List (List ℕ)) (known : List Bool) (P : ℕ → Type 0)
     (given : (n : ℕ) → is_known known n ≡ true → P n)
-    (step : (n : ℕ) → is_known known n ≡ false → Each P (needs_of needs n) → P n) where
-  all_along : (done ids : List ℕ) → Each P done → Each (λ n. is_known known n ≡ false) ids → IsOrdered needs known done ids → Each P ids
+    (step : (n : ℕ) → is_known known n ≡ false → AllByRecursion P (needs_of needs n) → P n) where
+  all_along : (done ids : List ℕ) → AllByRecursion P done → AllByRecursion (λ n. is_known known n ≡ false) ids → IsOrdered needs known done ids → AllByRecursion P ids
   all_along done [] p u o = tt
   all_along done (n ∷ ids) p u o =
       let each_needed = each_more {P = λ m. (is_known known m ≡ true) ⊎ IsIn m done} {Q = P} (λ m h. needed m h) (needs_of needs n) o.0 in
@@ -40,7 +41,7 @@ module _ (needs : List (List ℕ)) (known : List Bool) (P : ℕ → Type 0)
 pub by_order : {A B : Type 0} (needs : List (List ℕ)) (known : List Bool) (ids : List ℕ) → IsOrder needs known ids →
     (rule : ℕ → (ℕ → A) → A) (other : ℕ → (ℕ → B) → B) (f : ℕ → A) (g : ℕ → B) → Fixes rule f → Fixes other g → (R : ℕ → A → B → Type 0) →
     ((n : ℕ) → is_known known n ≡ true → R n (rule n f) (other n g)) →
-    ((n : ℕ) → is_known known n ≡ false → Each (λ m. R m (f m) (g m)) (needs_of needs n) → R n (rule n f) (other n g)) →
+    ((n : ℕ) → is_known known n ≡ false → AllByRecursion (λ m. R m (f m) (g m)) (needs_of needs n) → R n (rule n f) (other n g)) →
     (n : ℕ) → R n (f n) (g n)
 by_order needs known ids o rule other f g fixed fixed' R given step =
     along needs known (λ n. R n (f n) (g n))
@@ -58,14 +59,14 @@ unique needs known ids o rule local given f g fixed fixed' =
 -- ---- computing along an order
 
 module _ {S A : Type 0} (get : S → ℕ → A) (put : S → ℕ → A → S) (Has : S → ℕ → Type 0) (store : IsStore S A get put Has) (rule : ℕ → (ℕ → A) → A) where
-  untouched : (s : S) (ids : List ℕ) (m : ℕ) → Each (λ n. n ≡ m → ⊥) ids → get (filled get put rule s ids) m ≡ get s m
+  untouched : (s : S) (ids : List ℕ) (m : ℕ) → AllByRecursion (λ n. n ≡ m → ⊥) ids → get (filled get put rule s ids) m ≡ get s m
   untouched s [] m h = refl
   untouched s (n ∷ ids) m h = untouched (put s n (rule n (get s))) ids m h.1 ∙ store.other s n m (rule n (get s)) h.0
 
   module _ (needs : List (List ℕ)) (known : List Bool) (local : IsLocal rule needs) where
-    all_solved : (s : S) (done ids : List ℕ) → Each (Has s) ids → Each (λ n. is_known known n ≡ false) ids → IsApart ids →
-        Each (λ n. IsIn n done → ⊥) ids → IsOrdered needs known done ids →
-        Each (λ n. get (filled get put rule s ids) n ≡ rule n (get (filled get put rule s ids))) ids
+    all_solved : (s : S) (done ids : List ℕ) → AllByRecursion (Has s) ids → AllByRecursion (λ n. is_known known n ≡ false) ids → IsApart ids →
+        AllByRecursion (λ n. IsIn n done → ⊥) ids → IsOrdered needs known done ids →
+        AllByRecursion (λ n. get (filled get put rule s ids) n ≡ rule n (get (filled get put rule s ids))) ids
     all_solved s done [] h u a d o = tt
     all_solved s done (n ∷ ids) h u a d o =
         let put_there = store.same s n (rule n (get s)) h.0 in
@@ -78,11 +79,11 @@ module _ {S A : Type 0} (get : S → ℕ → A) (put : S → ℕ → A → S) (H
         after : S
         after = put s n (rule n (get s))
 
-        clear : (m : ℕ) → (is_known known m ≡ true) ⊎ IsIn m done → Each (λ i. i ≡ m → ⊥) (n ∷ ids)
+        clear : (m : ℕ) → (is_known known m ≡ true) ⊎ IsIn m done → AllByRecursion (λ i. i ≡ m → ⊥) (n ∷ ids)
         clear m (inl k) = each_more {P = λ i. is_known known i ≡ false} {Q = λ i. i ≡ m → ⊥} (λ i no e. true_is_not_false (is_known known m) k (subst (λ z. is_known known z ≡ false) e no)) (n ∷ ids) u
         clear m (inr i) = each_more {P = λ j. IsIn j done → ⊥} {Q = λ j. j ≡ m → ⊥} (λ j no e. no (subst (λ z. IsIn z done) (sym e) i)) (n ∷ ids) d
 
-        not_done : (rest : List ℕ) → Each (λ m. n ≡ m → ⊥) rest → Each (λ m. IsIn m done → ⊥) rest → Each (λ m. IsIn m (n ∷ done) → ⊥) rest
+        not_done : (rest : List ℕ) → AllByRecursion (λ m. n ≡ m → ⊥) rest → AllByRecursion (λ m. IsIn m done → ⊥) rest → AllByRecursion (λ m. IsIn m (n ∷ done) → ⊥) rest
         not_done [] x y = tt
         not_done (m ∷ rest) x y = (neither m x.0 y.0, not_done rest x.1 y.1)
           where
@@ -91,7 +92,7 @@ module _ {S A : Type 0} (get : S → ℕ → A) (put : S → ℕ → A → S) (H
             neither m p q (inr i) = q i
 
     -- where the known rows have their values from the start, computing along an order solves the equations
-    pub solved : (s : S) (ids : List ℕ) → IsOrder needs known ids → Each (Has s) ids →
+    pub solved : (s : S) (ids : List ℕ) → IsOrder needs known ids → AllByRecursion (Has s) ids →
         ((n : ℕ) → is_known known n ≡ true → (f : ℕ → A) → get s n ≡ rule n f) → Fixes rule (get (filled get put rule s ids))
     solved s ids o h given n = by (is_known known n) refl
       where

@@ -1,5 +1,6 @@
 -- The fault of an expression: a name in it that is no row.
 use Rattle.std.proofs.Common.{◌≡◌, ℕ, List, [], ◌∷◌, ◌++◌, map, Option, Some, None, Result, Ok, Err, refl, sym, subst, inl, inr}
+use Rattle.std.specs.List.{AllByRecursion}
 use Rattle.hcl_read.specs.declared.tree.Expr.{Expr}
 use Rattle.hcl_read.specs.declared.tree.Branch.{Branch}
 use Rattle.hcl_read.specs.declared.tree.Expr.TheOpen.{Expr-F, Branch-F}
@@ -10,7 +11,7 @@ use Rattle.hcl_types.specs.declared.term.TermBranch.{TermBranch}
 use Rattle.hcl_types.specs.declared.term.Term.TheVariants as term
 use Rattle.hcl_types.specs.declared.fault.BindFault.{BindFault}
 use Rattle.hcl_types.specs.declared.fault.BindWhy.TheVariants as why
-use Rattle.hcl_types.specs.Lists.{Each, IsIn}
+use Rattle.hcl_types.specs.Lists.{IsIn}
 use Rattle.hcl_types.specs.Binding.{and_then, all_ok, place, named, term_of, branch_of, term_layer, term_branch}
 use Rattle.hcl_types.specs.Faults.{uses, branch_uses, uses_in_layer, uses_in_branch, all_uses}
 use Rattle.hcl_types.proofs.Inductions.{each_beside}
@@ -42,7 +43,7 @@ module _ (rows : List (List ℕ)) where
   wider xs ys h (Ok x) p = tt
   wider xs ys h (Err e) p = (p.0, p.1, h e.name p.2)
 
-  all_lack : {A B : Type 0} (f : A → Result B BindFault) (u : A → List (List ℕ)) (xs : List A) → Each (λ x. WhereErr (Lacks (u x)) (f x)) xs → WhereErr (Lacks (all_uses (map u xs))) (all_ok (map f xs))
+  all_lack : {A B : Type 0} (f : A → Result B BindFault) (u : A → List (List ℕ)) (xs : List A) → AllByRecursion (λ x. WhereErr (Lacks (u x)) (f x)) xs → WhereErr (Lacks (all_uses (map u xs))) (all_ok (map f xs))
   all_lack f u [] h = tt
   all_lack f u (x ∷ xs) h =
       then_err (Lacks (u x ++ all_uses (map u xs))) (λ y. and_then (all_ok (map f xs)) (λ ys. Ok (y ∷ ys))) (f x)

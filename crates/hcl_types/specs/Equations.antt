@@ -1,6 +1,7 @@
 -- Equations without order, orders in which they can be computed, and what computing along one gives.
 use Rattle.std.specs.Prelude.{◌≡◌, ◌⊎◌, ℕ, Bool, true, false, List, [], ◌∷◌, get_or}
-use Rattle.hcl_types.specs.Lists.{Each, IsIn, IsApart}
+use Rattle.std.specs.List.{AllByRecursion}
+use Rattle.hcl_types.specs.Lists.{IsIn, IsApart}
 
 -- f is a solution of the equations: each entry has the value that its rule gives, where every rule may read any entry
 abbrev pub Fixes : {A : Type 0} → (ℕ → (ℕ → A) → A) → (ℕ → A) → Type 0
@@ -18,11 +19,11 @@ is_known known n = get_or known n true
 abbrev pub IsOrdered : List (List ℕ) → List Bool → List ℕ → List ℕ → Type 0
 IsOrdered needs known done [] = Unit {0}
 IsOrdered needs known done (n ∷ ids) =
-    Each (λ m. (is_known known m ≡ true) ⊎ IsIn m done) (needs_of needs n) × IsOrdered needs known (n ∷ done) ids
+    AllByRecursion (λ m. (is_known known m ≡ true) ⊎ IsIn m done) (needs_of needs n) × IsOrdered needs known (n ∷ done) ids
 
 -- each row that isn't known stands in ids, once, after all that it needs
 pub record IsOrder (needs : List (List ℕ)) (known : List Bool) (ids : List ℕ) : Type 0 where
-  pub unknown : Each (λ n. is_known known n ≡ false) ids
+  pub unknown : AllByRecursion (λ n. is_known known n ≡ false) ids
   pub apart : IsApart ids
   pub ordered : IsOrdered needs known [] ids
   pub whole : (n : ℕ) → is_known known n ≡ false → IsIn n ids
@@ -40,4 +41,4 @@ filled get put rule s (n ∷ ids) = filled get put rule (put s n (rule n (get s)
 
 -- rule n reads only what row n needs
 abbrev pub IsLocal : {A : Type 0} → (ℕ → (ℕ → A) → A) → List (List ℕ) → Type 0
-IsLocal {A} rule needs = (n : ℕ) (f g : ℕ → A) → Each (λ m. f m ≡ g m) (needs_of needs n) → rule n f ≡ rule n g
+IsLocal {A} rule needs = (n : ℕ) (f g : ℕ → A) → AllByRecursion (λ m. f m ≡ g m) (needs_of needs n) → rule n f ≡ rule n g

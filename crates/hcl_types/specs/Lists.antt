@@ -1,11 +1,6 @@
 -- Facts and tests on lists, by recursion.
 use Rattle.std.specs.Prelude.{◌≡◌, ◌⊎◌, Bool, true, false, ◌&&◌, ◌||◌, List, [], ◌∷◌}
 
--- P of each element
-abbrev pub Each : {A : Type 0} → (A → Type 0) → List A → Type 0
-Each P [] = Unit {0}
-Each P (x ∷ xs) = P x × Each P xs
-
 abbrev pub IsIn : {A : Type 0} → A → List A → Type 0
 IsIn y [] = ⊥
 IsIn y (x ∷ xs) = (y ≡ x) ⊎ IsIn y xs

@@ -1,9 +1,9 @@
 -- What an evaluator may be asked.
 use Rattle.std.specs.Prelude.{◌≡◌, ◌<◌, ℕ, List, slice_get, Some}
+use Rattle.std.specs.List.{AllByRecursion}
 use Rattle.hcl_types.specs.declared.term.Term.{Term}
-use Rattle.hcl_types.specs.Lists.{Each}
 use Rattle.hcl_types.specs.Terms.{names}
 
 -- def is a position of the design's terms, and each name in that term has an entry among so many
 abbrev pub Asks : List Term → ℕ → ℕ → Type 0
-Asks terms def entries = (t : Term) × (slice_get terms def ≡ Some t) × Each (λ id. id < entries) (names t)
+Asks terms def entries = (t : Term) × (slice_get terms def ≡ Some t) × AllByRecursion (λ id. id < entries) (names t)

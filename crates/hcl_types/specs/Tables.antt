@@ -1,5 +1,6 @@
 -- Tables, designs and orders: what is sound, what belongs together.
 use Rattle.std.specs.Prelude.{◌≡◌, ◌<◌, ◌^◌, ◌+◌, ℕ, Bool, true, false, IsTrue, if◌then◌else◌, List, [], ◌∷◌, length, map, filter, get_or, slice_get, Some}
+use Rattle.std.specs.List.{AllByRecursion}
 use Rattle.hcl_types.specs.declared.term.Term.{Term}
 use Rattle.hcl_types.specs.declared.term.Term.TheVariants.{Num}
 use Rattle.hcl_types.specs.declared.table.Class.{Class}
@@ -7,7 +8,7 @@ use Rattle.hcl_types.specs.declared.table.Class.TheVariants.{Number, Code, Value
 use Rattle.hcl_types.specs.declared.table.Role.{Role}
 use Rattle.hcl_types.specs.declared.table.Role.TheVariants.{Constant, State, Hardware, Defined}
 use Rattle.hcl_types.specs.declared.table.Row.{Row}
-use Rattle.hcl_types.specs.Lists.{Each, IsApart}
+use Rattle.hcl_types.specs.Lists.{IsApart}
 use Rattle.hcl_types.specs.Terms.{names}
 use Rattle.hcl_types.specs.Kinds.{has_class}
 use Rattle.hcl_types.specs.Equations.{IsOrder}
@@ -55,8 +56,8 @@ defined rows = filter (λ (row : Row). is_defined row.role) rows
 pub record IsSound (rows : List Row) : Type 0 where
   pub few : length rows < 2 ^ 32
   pub apart : IsApart (row_names rows)
-  pub inside : Each (λ (row : Row). Each (λ id. id < length rows) (inputs row.role)) rows
-  pub numbers : Each (λ (row : Row). is_number row.class ≡ is_constant row.role) rows
+  pub inside : AllByRecursion (λ (row : Row). AllByRecursion (λ id. id < length rows) (inputs row.role)) rows
+  pub numbers : AllByRecursion (λ (row : Row). is_number row.class ≡ is_constant row.role) rows
 
 -- The term of the k-th defined row. A design that is bound has one for each.
 abbrev pub term_at : List Term → ℕ → Term
@@ -65,7 +66,7 @@ term_at terms k = get_or terms k (Num 0)
 -- One term for each defined row; each name in it is a row; it is of its row's class.
 pub record IsBound (rows : List Row) (terms : List Term) : Type 0 where
   pub whole : length terms ≡ length (defined rows)
-  pub inside : Each (λ t. Each (λ id. id < length rows) (names t)) terms
+  pub inside : AllByRecursion (λ t. AllByRecursion (λ id. id < length rows) (names t)) terms
   pub classes : (k : ℕ) (row : Row) → slice_get (defined rows) k ≡ Some row → IsTrue (has_class rows row.class (term_at terms k))
 
 -- What each row needs: a defined row the names in its term, hardware what it depends on. k: the defined rows before these.

@@ -1,6 +1,6 @@
 //! What evaluates the definitions of a design.
 ghost use Rattle.std.specs.Prelude.{◌≡◌, ◌<◌, ℕ, List, length, slice_get, Some};
-ghost use Rattle.hcl_types.specs.Lists.{Each};
+ghost use Rattle.std.specs.List.{AllByRecursion};
 ghost use Rattle.hcl_types.specs.Signals.{Asks};
 ghost use Rattle.hcl_types.specs.Terms.{at, names, value, words};
 ghost use Rattle.hcl_types.specs.declared.term.Term.{Term};
@@ -20,7 +20,7 @@ pub trait SignalEval {
     fn eval(&mut self, def: u32, vals: &[u64]) -> u64
         requires { (terms : List Term) × evaluates self.old terms × Asks terms def (length vals.now) }
         ensures value { (terms : List Term) (t : Term) → evaluates self.old terms → slice_get terms def ≡ Some t →
-            Each (λ id. id < length vals.now) (names t) → result ≡ value words (at vals.now) t }
+            AllByRecursion (λ id. id < length vals.now) (names t) → result ≡ value words (at vals.now) t }
         ensures kept { (terms : List Term) → evaluates self.old terms → evaluates self.new terms };
 }
 

@@ -1,7 +1,7 @@
 //! Theorems about terms and equations. Each is a function that does nothing and whose contract is the theorem.
 ghost use Rattle.std.specs.Prelude.{◌≡◌, ℕ, ◌<◌, Bool, true, List, length, slice_set};
+ghost use Rattle.std.specs.List.{AllByRecursion};
 ghost use Rattle.hcl_types.specs.Equations.{Fixes, IsLocal, IsOrder, filled, is_known};
-ghost use Rattle.hcl_types.specs.Lists.{Each};
 ghost use Rattle.hcl_types.specs.Terms.{at, names, value, words};
 ghost use Rattle.hcl_types.specs.declared.term.Term.{Term};
 ghost use Rattle.hcl_types.specs.declared.table.Row.{Row};
@@ -13,7 +13,7 @@ ghost use Rattle.hcl_types.specs.Tables.{IsSound};
 
 /// The value of a term depends on the names in it alone.
 pub fn law_of_values()
-    ensures { (t : Term) (f g : ℕ → ℕ) → Each (λ id. f id ≡ g id) (names t) → value words f t ≡ value words g t }
+    ensures { (t : Term) (f g : ℕ → ℕ) → AllByRecursion (λ id. f id ≡ g id) (names t) → value words f t ≡ value words g t }
 {}
 
 /// What a fault of binding says of the file and the table: an `Unknown` name is no row, and some item mentions it; a name that
@@ -27,7 +27,7 @@ pub fn law_of_faults()
 /// reads only what its row needs; known rows have their values from the start.
 pub fn law_of_orders()
     ensures solved { (needs : List (List ℕ)) (known : List Bool) (ids : List ℕ) (rule : ℕ → (ℕ → ℕ) → ℕ) (vals : List ℕ) →
-        IsOrder needs known ids → IsLocal rule needs → Each (λ n. n < length vals) ids →
+        IsOrder needs known ids → IsLocal rule needs → AllByRecursion (λ n. n < length vals) ids →
         ((n : ℕ) → is_known known n ≡ true → (f : ℕ → ℕ) → at vals n ≡ rule n f) →
         Fixes rule (at (filled at slice_set rule vals ids)) }
     ensures unique { (needs : List (List ℕ)) (known : List Bool) (ids : List ℕ) (rule : ℕ → (ℕ → ℕ) → ℕ) →

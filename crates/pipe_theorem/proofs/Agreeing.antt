@@ -3,9 +3,9 @@ use Rattle.std.proofs.Common.{◌≡◌, ℕ, zero, suc, ◌+◌, ◌-◌, ◌<�
 use Rattle.std.proofs.lemmas.Bool.{and_parts, cases_eq, cases_lt, eqb-true, leb-true, lt-ltb}
 use Rattle.std.proofs.lemmas.List.{get_or_append_left}
 use Rattle.std.proofs.lemmas.Option.{slice_get_past, slice_get-get_or}
+use Rattle.std.specs.List.{AllByRecursion}
 use Rattle.y86_base.specs.declared.parts.Variant.{Variant}
 use Rattle.y86_base.proofs.Booleans.{clash}
-use Rattle.hcl_types.specs.Lists.{Each}
 use Rattle.hcl_types.specs.Tables.{IsBound, IsOrderOf, defined, inputs, is_defined, term_at}
 use Rattle.hcl_types.specs.Terms.{value, words}
 use Rattle.hcl_types.specs.declared.table.Class.TheVariants as class
@@ -183,7 +183,7 @@ module _ (x : Given) (terms : List Term) (c : Config) (p : PipeState) (f : ℕ �
 
   -- the leaf of a row that the file doesn't define is worth the value of its name, once those of its inputs are
   Step : ℕ → Type 0
-  Step n = Each (λ m. worth f (cv m) ≡ f m) (inputs_at (slice_get pipe_rows n)) → worth f (row_leaf numbers n (slice_get pipe_rows n) (Number 0)) ≡ f n
+  Step n = AllByRecursion (λ m. worth f (cv m) ≡ f m) (inputs_at (slice_get pipe_rows n)) → worth f (row_leaf numbers n (slice_get pipe_rows n) (Number 0)) ≡ f n
 
   given_word : (n : ℕ) → n < name.hardware → f n ≡ get_or (given p) n 0
   unfolding given constants state_words rule_of
@@ -266,7 +266,7 @@ module _ (x : Given) (terms : List Term) (c : Config) (p : PipeState) (f : ℕ �
       ap (worth f) (k n
       ∙ rule_row pipe_rows terms (number_of (fields_at x c p f (f_line x c f))) (real f) n cv r e
       ∙ given_leaf (number_of (fields_at x c p f (f_line x c f))) n r _ (Number 0) d)
-      ∙ subst (λ o. worth f (row_leaf numbers n o (Number 0)) ≡ f n) e (step n r e d (subst (λ o. Each (λ m. worth f (cv m) ≡ f m) (inputs_at o)) (sym e) a))
+      ∙ subst (λ o. worth f (row_leaf numbers n o (Number 0)) ≡ f n) e (step n r e d (subst (λ o. AllByRecursion (λ m. worth f (cv m) ≡ f m) (inputs_at o)) (sym e) a))
 
   -- along the order, with M's error bit once what it depends on agrees
   pub all_agree : (ids : List ℕ) → IsBound pipe_rows terms → IsOrderOf pipe_rows terms ids →

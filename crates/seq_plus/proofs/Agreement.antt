@@ -3,11 +3,11 @@ use Rattle.std.proofs.Common.{◌≡◌, ℕ, ◌+◌, ◌-◌, ◌<◌, ◌≤�
 use Rattle.std.proofs.lemmas.Bool.{and_parts, cases_lt, eqb-true, lt-ltb}
 use Rattle.std.proofs.lemmas.List.{get_or_append_left}
 use Rattle.std.proofs.lemmas.Option.{slice_get_past, slice_get-get_or, slice_get_within}
+use Rattle.std.specs.List.{AllByRecursion}
 use Rattle.y86_base.specs.declared.parts.Variant.{Variant}
 use Rattle.y86_base.proofs.Booleans.{clash}
 use Rattle.y86_isa.specs.Blocks.{field_a, field_b, condition}
 use Rattle.y86_isa.specs.Table.{row}
-use Rattle.hcl_types.specs.Lists.{Each}
 use Rattle.hcl_types.specs.Tables.{defined, inputs, is_defined, term_at, IsBound, IsOrderOf}
 use Rattle.hcl_types.specs.Terms.{value, words}
 use Rattle.hcl_types.specs.declared.table.Row.{Row}
@@ -115,7 +115,7 @@ module _ (v : Variant) (terms : List Term) (t : PlusState) (f : ℕ → ℕ) (cv
   -- ---- the hardware
 
   Step : ℕ → Type 0
-  Step n = Each (Agrees f cv) (inputs_of (slice_get plus_rows n)) → Agrees f cv n
+  Step n = AllByRecursion (Agrees f cv) (inputs_of (slice_get plus_rows n)) → Agrees f cv n
 
   at_icode : Step name.imem_icode
   unfolding Step inputs_of control_rule plus_rows constant_rows plus_state plus_hardware plus_defined
@@ -252,8 +252,8 @@ module _ (v : Variant) (terms : List Term) (t : PlusState) (f : ℕ → ℕ) (cv
     ]
   ]
     where
-      inputs_there : (n : ℕ) (r : Row) → slice_get plus_rows n ≡ Some r → Each (Agrees f cv) (inputs r.role) → Each (Agrees f cv) (inputs_of (slice_get plus_rows n))
-      inputs_there n r e a = subst (λ o. Each (Agrees f cv) (inputs_of o)) (sym e) a
+      inputs_there : (n : ℕ) (r : Row) → slice_get plus_rows n ≡ Some r → AllByRecursion (Agrees f cv) (inputs r.role) → AllByRecursion (Agrees f cv) (inputs_of (slice_get plus_rows n))
+      inputs_there n r e a = subst (λ o. AllByRecursion (Agrees f cv) (inputs_of o)) (sym e) a
 
       is_so : (n : ℕ) (r : Row) → slice_get plus_rows n ≡ Some r → name.defined ≤ n → n < name.count → is_defined r.role ≡ true
       is_so n r e le lt =

@@ -1,10 +1,10 @@
 -- SEQ+'s rules read only what its table lists, so that computing them along an order solves them.
 use Rattle.std.proofs.Common.{◌≡◌, ℕ, ◌+◌, ◌-◌, ◌<◌, ◌≤◌, List, [], ◌++◌, length, map, get_or, replicate, refl, sym, ap, ◌∙◌, subst, arith}
+use Rattle.std.specs.List.{AllByRecursion}
 use Rattle.y86_base.specs.Registers.{register}
 use Rattle.y86_base.specs.declared.parts.Variant.{Variant}
 use Rattle.y86_isa.specs.Blocks.{reading, field_a, field_b, constant_at, behind, alu_value, condition, data_read, data_error}
 use Rattle.hcl_types.specs.declared.table.Row.{Row}
-use Rattle.hcl_types.specs.Lists.{Each}
 use Rattle.hcl_types.specs.Tables.{inputs, IsBound, IsOrderOf}
 use Rattle.hcl_types.specs.Terms.{at}
 use Rattle.hcl_types.specs.declared.term.Term.{Term}
@@ -57,16 +57,16 @@ unfolding plus_hardware
 thirteen = refl
 
 pub plus_reads : (v : Variant) (s : PlusState) → ReadsInputs plus_hardware row.hardware row.defined (plus_block v s)
-plus_reads v s k f g lt h = reads v s (row.hardware + k) f g (omega arith) (omega (arith, lt, thirteen)) (subst (λ i. Each (λ m. f m ≡ g m) (get_or (map (λ (row : Row). inputs row.role) plus_hardware) i [])) (omega arith) h)
+plus_reads v s k f g lt h = reads v s (row.hardware + k) f g (omega arith) (omega (arith, lt, thirteen)) (subst (λ i. AllByRecursion (λ m. f m ≡ g m) (get_or (map (λ (row : Row). inputs row.role) plus_hardware) i [])) (omega arith) h)
 
 pub length-plus_start : (s : PlusState) → length (plus_given s ++ replicate (row.count - row.hardware) 0) ≡ row.count
 unfolding plus_given constants
 length-plus_start s = refl
 
 pub plus_computes : (v : Variant) (s : PlusState) (terms : List Term) (ids : List ℕ) (entries : ℕ) → entries ≡ row.count → IsBound plus_rows terms → IsOrderOf plus_rows terms ids →
-    Each (λ id. IsComputed (length (plus_given s)) row.defined terms entries id) ids
+    AllByRecursion (λ id. IsComputed (length (plus_given s)) row.defined terms entries id) ids
 plus_computes v s terms ids entries e bound o =
-    subst (λ n. Each (λ id. IsComputed (length (plus_given s)) row.defined terms n id) ids) (length-plus_rows ∙ sym e)
+    subst (λ n. AllByRecursion (λ id. IsComputed (length (plus_given s)) row.defined terms n id) ids) (length-plus_rows ∙ sym e)
     (order_computes plus_rows (constant_rows ++ plus_state) plus_hardware plus_defined row.hardware row.defined plus_layout (plus_given s) (plus_block v s) terms (length-plus_given s) (plus_reads v s) bound ids o)
 
 pub plus_solves : (v : Variant) (s : PlusState) (terms : List Term) (ids : List ℕ) → IsBound plus_rows terms → IsOrderOf plus_rows terms ids →

@@ -4,8 +4,8 @@ use Rattle.std.specs.Prelude.{nat_eq, option_and_then}
 use Rattle.std.proofs.lemmas.Bool.Decides.{nat_tests}
 use Rattle.std.proofs.lemmas.List.{drop_more}
 use Rattle.std.proofs.lemmas.Option.{none-some}
+use Rattle.std.specs.List.{AllByRecursion}
 use Rattle.hcl_read.specs.declared.tree.CmpOp.{CmpOp}
-use Rattle.hcl_types.specs.Lists.{Each}
 use Rattle.hcl_types.specs.Terms.{branch_value, names, picked, value, words}
 use Rattle.hcl_types.specs.declared.term.Term.{Term}
 use Rattle.hcl_types.specs.declared.term.Term.TheVariants.{Num, Name, Not, And, Or, Cmp, In, Case}
@@ -50,7 +50,7 @@ module _ (f : ℕ → ℕ) where
     compares = λ op x x' y y' r r'. ap (λ z. words.cmp op z x'.word) r.0 ∙ ap (words.cmp op y) r'.0;
   }
 
-  at_names : (ids : List ℕ) → Each (λ id. Agrees f (by_name f id) (f id)) ids
+  at_names : (ids : List ℕ) → AllByRecursion (λ id. Agrees f (by_name f id) (f id)) ids
   at_names [] = tt
   at_names (id ∷ ids) = ((refl, λ other e. ap f (some_is id other e)), at_names ids)
 

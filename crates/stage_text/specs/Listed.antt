@@ -1,10 +1,9 @@
 -- What an object text lists at an address: the text behind the `|` of the line whose bytes begin there.
 use Rattle.std.specs.Prelude.{◌≡◌, ◌↔◌, ◌<◌, ◌^◌, ℕ, Bool, true, false, not, ◌==◌, nat_eq, nat_lt, if◌then◌else◌, List, [], ◌∷◌, ◌++◌, length, reverse, Option, Some, None, option_and_then, unwrap_or, Vec}
-use Rattle.std.specs.List.{list_all}
+use Rattle.std.specs.List.{AllByRecursion, list_all}
 use Rattle.std.specs.Map.{lookup}
 use Rattle.std.specs.Option.{option_map, option_or}
 use Rattle.std.specs.Str.Parse.{digits_value}
-use Rattle.hcl_types.specs.Lists.{Each}
 use Rattle.y86_base.specs.Text.{after_byte, begins, behind, below_word, is_blank, lines}
 use Rattle.yo_object.specs.Grammar.{IsObjectLine, digits_in_line}
 use Rattle.yo_object.specs.ObjectText.{Digits}
@@ -61,11 +60,11 @@ ListsNone address line = text_at address line ≡ None
 
 abbrev pub LastLineCounts : Type 0
 LastLineCounts =
-    (address : ℕ) (before after : List (List ℕ)) (line text : List ℕ) → text_at address line ≡ Some text → Each (ListsNone address) after →
+    (address : ℕ) (before after : List (List ℕ)) (line text : List ℕ) → text_at address line ≡ Some text → AllByRecursion (ListsNone address) after →
     listed_in address (before ++ line ∷ after) ≡ Some text
 
 abbrev pub NoneIsListed : Type 0
-NoneIsListed = (address : ℕ) (all : List (List ℕ)) → Each (ListsNone address) all → listed_in address all ≡ None
+NoneIsListed = (address : ℕ) (all : List (List ℕ)) → AllByRecursion (ListsNone address) all → listed_in address all ≡ None
 
 -- ---- a line, in the words of the form
 

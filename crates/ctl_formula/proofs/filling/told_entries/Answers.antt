@@ -1,9 +1,9 @@
 use Rattle.std.proofs.Common.{◌≡◌, ℕ, ◌+◌, ◌<◌, ◌≤◌, true, List, length, drop, get_or, Some, slice_get, IsTrue, sym, subst}
 use Rattle.std.proofs.lemmas.List.{drop_more, at_drop_all}
+use Rattle.std.specs.List.{AllByRecursion}
 use Rattle.nets.proofs.Truths.{begins_more}
 use Rattle.hcl_types.specs.declared.table.Row.{Row}
 use Rattle.hcl_types.specs.Equations.{Fixes}
-use Rattle.hcl_types.specs.Lists.{Each}
 use Rattle.hcl_types.specs.Tables.{is_defined}
 use Rattle.hcl_types.specs.Terms.{names}
 use Rattle.ctl_atoms.specs.declared.leaf.Leaf.{Leaf}
@@ -47,9 +47,9 @@ put_row-requires-clause-needs c =
     let along = subst (λ (xs : List ℕ). IsAlong rows terms places asks c.args.first ids xs es) (drop_more ids i 0 inside) c.loop-id.invariant.along in
     let base = along_needs rows terms places asks c.args.first ids (get_or ids i 0) (drop (i + 1) ids) es along c.loop-id.invariant.given in
     subst (λ (rs : List Row). (row : Row) → slice_get rs (get_or c.items-id-items.result.now i 0) ≡ Some row → is_defined row.role ≡ true →
-    Each (λ m. m < length rs → IsTrue (is_filled (slice_get es m))) (names (row_term rs terms (get_or c.items-id-items.result.now i 0)))) (sym c.items-in-loop-id.ensures)
+    AllByRecursion (λ m. m < length rs → IsTrue (is_filled (slice_get es m))) (names (row_term rs terms (get_or c.items-id-items.result.now i 0)))) (sym c.items-in-loop-id.ensures)
     (subst (λ (xs : List ℕ). (row : Row) → slice_get rows (get_or xs i 0) ≡ Some row → is_defined row.role ≡ true →
-    Each (λ m. m < length rows → IsTrue (is_filled (slice_get es m))) (names (row_term rows terms (get_or xs i 0)))) (sym c.items-id-items.ensures) base)
+    AllByRecursion (λ m. m < length rows → IsTrue (is_filled (slice_get es m))) (names (row_term rows terms (get_or xs i 0)))) (sym c.items-id-items.ensures) base)
 
 pub loop-id-preserved : goal.loop-id-preserved
 loop-id-preserved c =
