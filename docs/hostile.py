@@ -129,7 +129,7 @@ def streams(calls):
         closed = calls.run(words.split(), stderr=None, preexec_fn=lambda: os.close(2))
         calls.told(f"{words}, standard error closed", closed, (status, b"", None))
     with open("/dev/full", "wb") as full:
-        limit = lambda: resource.setrlimit(resource.RLIMIT_AS, (6 << 20, 6 << 20))
+        limit = lambda: resource.setrlimit(resource.RLIMIT_AS, (5 << 20, 5 << 20))
         calls.told("want of memory, a full disk under standard error", calls.run(["check", "pipe", "std.hcl"], stderr=full, preexec_fn=limit), (6, b"", None))
 
 
