@@ -67,7 +67,7 @@ impl Store {
         }
     }
 
-    /// Takes one step of those that are left.
+    /// Takes one step of those that are left, and first widens the table of results where it has become full for its size.
     pub(crate) fn take_step(&mut self) -> Result<(), Memory>
         ensures { self.new ≡ self.old }
     {

@@ -1,8 +1,9 @@
 -- Orders of variables.
 use Rattle.std.proofs.Common.{◌≡◌, ◌⊎◌, inl, inr, ⊎_elim, ℕ, ◌+◌, ◌<◌, ◌≤◌, List, [], ◌∷◌, ◌++◌, length, get_or, sym, ap, ◌∙◌, subst, arith}
 use Rattle.std.proofs.lemmas.Bool.{cases_lt}
-use Rattle.std.proofs.lemmas.List.{get_or_append_left, get_or_push, length_push}
-use Rattle.cert_writer.specs.Nodes.{ArePlain, IsOrder}
+use Rattle.std.specs.List.{range_with_len}
+use Rattle.std.proofs.lemmas.List.FromFn.{length-range_with_len, get_or-range_with_len}
+use Rattle.cert_writer.specs.Nodes.{IsOrder}
 
 -- so far two lists undo each other
 pub record AreInverse (order ranks : List ℕ) (n : ℕ) : Type 0 where
@@ -40,21 +41,22 @@ inverse_all order ranks i size h a = record {
   forth = λ x l. a.forth x (omega (arith, h, l));
 }
 
-pub plain_none : (order : List ℕ) → order ≡ [] → ArePlain order
-plain_none order e = record { each = λ x h. absurd (let l = ap length e in omega (arith, h, l)) }
+-- ---- the order of the numbers
 
-pub plain_more : (old new : List ℕ) (i : ℕ) → ArePlain old → length old ≡ i → new ≡ old ++ i ∷ [] → ArePlain new
-plain_more old new i a size e = subst ArePlain (sym e) (record { each = λ x h. by x (let l = length_push old i in omega (arith, h, l)) (cases_lt x (length old)) })
-  where
-    by : (x : ℕ) → x < length old + 1 → (x < length old) ⊎ (length old ≤ x) → get_or (old ++ i ∷ []) x 0 ≡ x
-    by x h (inl less) = get_or_append_left old (i ∷ []) 0 x less ∙ a.each x less
-    by x h (inr more) = get_or_push old i 0 x (omega (arith, h, more)) ∙ sym size ∙ (let e : length old ≡ x = omega (arith, h, more) in e)
+pub numbers_size : (order : List ℕ) (n : ℕ) → order ≡ range_with_len 0 n → length order ≡ n
+numbers_size order n e = ap length e ∙ length-range_with_len 0 n
 
-pub plain_order : (order ranks : List ℕ) → ArePlain order → ArePlain ranks → length ranks ≡ length order → IsOrder order ranks
-plain_order order ranks o r size = record {
-  size = size;
-  there = λ x h. (let e = o.each x h in omega (arith, e, h));
-  back = λ x h. ap (λ n. get_or ranks n 0) (o.each x h) ∙ r.each x (omega (arith, h, size));
-  below = λ v h. (let e = r.each v (omega (arith, h, size)) in omega (arith, e, h));
-  forth = λ v h. ap (λ n. get_or order n 0) (r.each v (omega (arith, h, size))) ∙ o.each v h;
+number_at : (order : List ℕ) (n : ℕ) → order ≡ range_with_len 0 n → (x : ℕ) → x < n → get_or order x 0 ≡ x
+number_at order n e x h = ap (λ (xs : List ℕ). get_or xs x 0) e ∙ get_or-range_with_len 0 n x 0 h
+
+pub numbers_order : (order ranks : List ℕ) (n : ℕ) → order ≡ range_with_len 0 n → ranks ≡ range_with_len 0 n → IsOrder order ranks
+numbers_order order ranks n o r = record {
+  size = numbers_size ranks n r ∙ sym (numbers_size order n o);
+  there = λ x h. subst (λ (k : ℕ). k < length order) (sym (number_at order n o x (below x h))) h;
+  back = λ x h. ap (λ (k : ℕ). get_or ranks k 0) (number_at order n o x (below x h)) ∙ number_at ranks n r x (below x h);
+  below = λ v h. subst (λ (k : ℕ). k < length order) (sym (number_at ranks n r v (below v h))) h;
+  forth = λ v h. ap (λ (k : ℕ). get_or order k 0) (number_at ranks n r v (below v h)) ∙ number_at order n o v (below v h);
 }
+  where
+    below : (x : ℕ) → x < length order → x < n
+    below x h = subst (λ (k : ℕ). x < k) (numbers_size order n o) h

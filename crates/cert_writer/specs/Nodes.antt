@@ -16,10 +16,6 @@ pub record IsOrder (order ranks : List ℕ) : Type 0 where
   pub below : (v : ℕ) → v < length order → get_or ranks v 0 < length order
   pub forth : (v : ℕ) → v < length order → get_or order (get_or ranks v 0) 0 ≡ v
 
--- each variable has its own number as its place
-pub record ArePlain (order : List ℕ) : Type 0 where
-  pub each : (x : ℕ) → x < length order → get_or order x 0 ≡ x
-
 -- the bits of the diagrams' variables under a pattern of bits of the net's
 abbrev pub places_of : List ℕ → List Bool → List Bool
 places_of order w = map (λ v. get_or w v false) order

@@ -1,8 +1,9 @@
 //! An order of a net's variables in which its diagrams are small.
 ghost use Rattle.std.specs.Prelude.{◌≡◌, ℕ, ◌<◌, ◌^◌, true, length, get_or, IfOk, IfSome};
-ghost use Rattle.cert_writer.specs.Nodes.{ArePlain, IsOrder};
+ghost use Rattle.cert_writer.specs.Nodes.{IsOrder};
 
 use field_bits::FieldPlace;
+use nets::by_number;
 use pipe_fields::{BIT_COUNT, FIELD_COUNT, places};
 use std::alloc::Global;
 use y86_base::Memory;
@@ -31,21 +32,6 @@ fn are_inverse(order: &[u32], ranks: &[u32]) -> bool
         }
     }
     true
-}
-
-/// The variables in the order of their numbers. This order undoes itself.
-#[tactic(auto, using(crate::proofs::Orders::plain_none, crate::proofs::Orders::plain_more))]
-fn plain(alloc: Global, vars: u32) -> Result<Vec<u32>, Memory>
-    ensures size { IfOk result (λ o. length o.items ≡ vars) }
-    ensures order { IfOk result (λ o. ArePlain o.items) }
-{
-    let mut out: Vec<u32> = Vec::new(alloc);
-    for i in 0..vars {
-        if out.push(i).is_err() {
-            return Err(Memory);
-        }
-    }
-    Ok(out)
 }
 
 /// The ranks of an order, if it has each variable once.
@@ -139,7 +125,7 @@ fn registers_last(alloc: Global, vars: u32) -> Result<Vec<u32>, Memory> {
 }
 
 /// An order of some variables.
-#[tactic(auto, using(crate::proofs::Orders::plain_order))]
+#[tactic(auto, using(crate::proofs::Orders::numbers_size, crate::proofs::Orders::numbers_order))]
 pub fn order_of(alloc: Global, vars: u32) -> Result<Orders, Memory>
     ensures size { IfOk result (λ o. length o.order.items ≡ vars) }
     ensures order { IfOk result (λ o. IsOrder o.order.items o.ranks.items) }
@@ -152,7 +138,8 @@ pub fn order_of(alloc: Global, vars: u32) -> Result<Orders, Memory>
             None => {}
         }
     }
-    let order = plain(alloc, vars)?;
-    let ranks = plain(alloc, vars)?;
+    // the order of the numbers undoes itself
+    let order = by_number(alloc, vars)?;
+    let ranks = by_number(alloc, vars)?;
     Ok(Orders { order, ranks })
 }

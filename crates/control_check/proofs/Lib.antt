@@ -2,4 +2,3 @@ mod Early
 pub mod SeqVerdict
 pub mod OneSettings
 pub mod PipeVerdict
-pub mod Numbers

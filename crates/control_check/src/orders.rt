@@ -5,6 +5,7 @@ ghost use Rattle.std.specs.List.Sorted.{IsPermutation};
 ghost use Rattle.control_check.specs.Orders.{AreOrders};
 
 use decisions::Orders;
+use nets::by_number;
 use pipe_fields::{BIT_COUNT, places};
 use std::alloc::Global;
 use y86_base::{Items, Memory};
@@ -115,20 +116,6 @@ fn rank(purpose: Use, variable: u32) -> u32 {
     }
 }
 
-/// The variables by their numbers.
-#[tactic(auto, using(crate::proofs::Numbers::numbers_more))]
-fn by_number(alloc: Global, vars: u32) -> Result<Vec<u32>, Memory>
-    ensures { IfOk result (λ order. order.items ≡ range_with_len 0 vars) }
-{
-    let mut order: Vec<u32> = Vec::new(alloc);
-    for variable in 0..vars {
-        if order.push(variable).is_err() {
-            return Err(Memory);
-        }
-    }
-    Ok(order)
-}
-
 /// The variables rank by rank, those of one rank by their numbers: each stands in it once.
 fn order_for(alloc: Global, purpose: Use, vars: u32) -> Result<Vec<u32>, Memory>
     ensures { IfOk result (λ order. IsPermutation (range_with_len 0 vars) order.items) }
@@ -177,7 +164,11 @@ impl OrderList {
         })
     }
 
-    pub fn as_orders(&self) -> Orders<'_> {
+    pub fn as_orders(&self) -> Orders<'_>
+        ensures whole { result.whole.now ≡ self.now.whole }
+        ensures part { result.part.now ≡ self.now.part }
+        ensures again { result.again.now ≡ self.now.again }
+    {
         Orders {
             whole: self.whole.items(),
             part: self.part.items(),

@@ -1,10 +1,10 @@
 -- What a pass tells, and what is decided behind it.
-use Rattle.std.proofs.Common.{◌≡◌, ℕ, ◌+◌, ◌-◌, ◌<◌, ◌≤◌, inl, inr, Bool, true, false, List, [], ◌∷◌, length, drop, get_or, refl, sym, ap, ◌∙◌, subst, arith}
+use Rattle.std.proofs.Common.{◌≡◌, ◌⊎◌, ◌↔◌, ℕ, zero, suc, ◌+◌, ◌-◌, ◌<◌, ◌≤◌, inl, inr, IsTrue, Bool, true, false, List, [], ◌∷◌, length, drop, get_or, refl, sym, ap, ◌∙◌, subst, unit, arith}
 use Rattle.std.proofs.lemmas.Bool.{cases_eq, cases_lt, false≢true}
 use Rattle.std.proofs.lemmas.List.{get_or-drop, length-drop}
 use Rattle.nets.specs.Nets.{Gates, truth}
 use Rattle.bdd_core.specs.Diagrams.{Diagrams}
-use Rattle.bdd_core.specs.Meaning.{Always, IsBuilt, IsLeastFalse}
+use Rattle.bdd_core.specs.Meaning.{Always, IsBuilt}
 use Rattle.bdd_core.specs.declared.store.Dia.{Dia}
 use Rattle.decisions.specs.Decisions.{AreGatesOf, IsAlwaysTrue, IsDecided, IsFirstFalse, IsLeastOf}
 use Rattle.decisions.specs.Splitting.{AreTrueTo, IsFalseAt}
@@ -14,14 +14,42 @@ use Rattle.decisions.specs.Splitting.{AreTrueTo, IsFalseAt}
 pub always_true : (s : Diagrams) (n : Gates) (gate : ℕ) (d : Dia) → s.vars ≡ n.vars → IsBuilt s n gate d → Always s d true → IsAlwaysTrue n gate
 always_true s n gate d e built always w size = sym (built.is w (size ∙ sym e)) ∙ always w (size ∙ sym e)
 
-pub false_at : (s : Diagrams) (n : Gates) (gate : ℕ) (d : Dia) (w : List Bool) → s.vars ≡ n.vars → IsBuilt s n gate d → IsLeastFalse s d w → IsFalseAt n gate w
-false_at s n gate d w e built h = record { size = h.size ∙ e; fails = sym (built.is w h.size) ∙ h.fails }
+-- either a truth of so many bits holds of all, or it fails of some
+some_false : (n : ℕ) (f : List Bool → Bool) → ((w : List Bool) → length w ≡ n → f w ≡ true) ⊎ ((w : List Bool) × (length w ≡ n) × (f w ≡ false))
+some_false zero f = by (f []) refl
+  where
+    nil : (w : List Bool) → length w ≡ 0 → w ≡ []
+    nil [] size = refl
+    nil (b ∷ w) size = absurd (omega (arith, size))
 
-pub always_decided : (s : Diagrams) (n : Gates) (gate : ℕ) (d : Dia) → s.vars ≡ n.vars → IsBuilt s n gate d → Always s d true → IsDecided n gate true
-always_decided s n gate d e built always = record { yes = λ t. always_true s n gate d e built always; no = λ f. cc }
+    by : (b : Bool) → f [] ≡ b → ((w : List Bool) → length w ≡ 0 → f w ≡ true) ⊎ ((w : List Bool) × (length w ≡ 0) × (f w ≡ false))
+    by true e = inl (λ w size. ap f (nil w size) ∙ e)
+    by false e = inr ([], refl, e)
+some_false (suc n) f = by (some_false n (λ w. f (false ∷ w))) (some_false n (λ w. f (true ∷ w)))
+  where
+    Holds : Bool → Type 0
+    Holds b = (w : List Bool) → length w ≡ n → f (b ∷ w) ≡ true
 
-pub not_decided : (s : Diagrams) (n : Gates) (gate : ℕ) (d : Dia) (w : List Bool) → s.vars ≡ n.vars → IsBuilt s n gate d → IsLeastFalse s d w → IsDecided n gate false
-not_decided s n gate d w e built h = record { yes = λ t. cc; no = λ f. (let at = false_at s n gate d w e built h in (w, at.size, at.fails)) }
+    Fails : Bool → Type 0
+    Fails b = (w : List Bool) × (length w ≡ n) × (f (b ∷ w) ≡ false)
+
+    at : Holds false → Holds true → (w : List Bool) → length w ≡ suc n → f w ≡ true
+    at low high [] size = absurd (omega (arith, size))
+    at low high (false ∷ w) size = low w (omega (arith, size))
+    at low high (true ∷ w) size = high w (omega (arith, size))
+
+    by : Holds false ⊎ Fails false → Holds true ⊎ Fails true → ((w : List Bool) → length w ≡ suc n → f w ≡ true) ⊎ ((w : List Bool) × (length w ≡ suc n) × (f w ≡ false))
+    by (inl low) (inl high) = inl (at low high)
+    by (inl low) (inr (w, size, fails)) = inr (true ∷ w, ap suc size, fails)
+    by (inr (w, size, fails)) high = inr (false ∷ w, ap suc size, fails)
+
+pub valid_decided : (s : Diagrams) (n : Gates) (gate : ℕ) (d : Dia) (b : Bool) → s.vars ≡ n.vars → IsBuilt s n gate d → IsTrue b ↔ Always s d true → IsDecided n gate b
+valid_decided s n gate d true e built valid = record { yes = λ t. always_true s n gate d e built (valid.0 unit); no = λ f. cc }
+valid_decided s n gate d false e built valid = record { yes = λ t. cc; no = λ f. by (some_false n.vars (truth n gate)) }
+  where
+    by : IsAlwaysTrue n gate ⊎ ((w : List Bool) × (length w ≡ n.vars) × (truth n gate w ≡ false)) → (w : List Bool) × (length w ≡ n.vars) × (truth n gate w ≡ false)
+    by (inl always) = absurd (valid.1 (λ w size. built.is w size ∙ always w (size ∙ e)))
+    by (inr fails) = fails
 
 true_more : (n : Gates) (gates : List ℕ) (k gate : ℕ) → AreTrueTo n gates k → gate ≡ get_or gates k 0 → IsAlwaysTrue n gate → AreTrueTo n gates (k + 1)
 true_more n gates k gate h e here j lt = elim (cases_eq j k) [

@@ -7,7 +7,7 @@ use crate::cuts::{Cut, cut_of};
 use crate::least::least_in;
 use crate::pass::{Pass, pass_in_order};
 use crate::search::{Again, AtOnce, PartPass, search};
-use nets::{Net, Valuation};
+use nets::{Net, Valuation, by_number};
 use std::alloc::Global;
 use y86_base::Memory;
 
@@ -141,11 +141,6 @@ pub fn decide(alloc: Global, net: &Net, gates: &[u64]) -> Result<Option<Counter>
     requires gates { AreGatesOf net.now gates.now }
     ensures { IfOk result (IsDecision net.now gates.now) }
 {
-    let mut order: Vec<u32> = Vec::new(alloc);
-    for i in 0..net.vars() {
-        if order.push(i).is_err() {
-            return Err(Memory);
-        }
-    }
+    let order = by_number(alloc, net.vars())?;
     decide_by(alloc, net, gates, order.as_slice(), &AtOnce)
 }

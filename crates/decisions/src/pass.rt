@@ -20,26 +20,18 @@ pub enum Pass {
 }
 
 /// Whether a gate is true of every valuation. `None` where its diagrams became more than they may.
-#[tactic(auto, using(crate::proofs::Deciding::always_decided, crate::proofs::Deciding::not_decided))]
-pub fn always_true(
-    store: &mut Store,
-    built: &mut Built,
-    net: &Net,
-    gate: u64,
-) -> Result<Option<bool>, Memory>
+#[tactic(auto, using(crate::proofs::Deciding::valid_decided))]
+pub fn always_true(store: &mut Store, built: &mut Built, net: &Net, gate: u64) -> Option<bool>
     requires gate { gate < length net.now.gates }
     requires vars { store.old.vars ≡ net.now.vars }
     requires known { AreKnown store.old net.now built.old }
     ensures vars { store.new.vars ≡ store.old.vars }
     ensures known { AreKnown store.new net.now built.new }
-    ensures decided { IfOk result (λ o. IfSome o (IsDecided net.now gate)) }
+    ensures decided { IfSome result (IsDecided net.now gate) }
 {
     match store.build_on(net, built, gate) {
-        Ok(diagram) => match store.least_false(diagram)? {
-            Some(_) => Ok(Some(false)),
-            None => Ok(Some(true)),
-        },
-        Err(Memory) => Ok(None),
+        Ok(diagram) => Some(store.valid(diagram)),
+        Err(Memory) => None,
     }
 }
 
@@ -58,7 +50,7 @@ pub fn run_pass(
     let mut store = Store::bounded(alloc, net.vars(), steps, nodes);
     let mut built = Built::new(alloc, net)?;
     for k in 0..gates.len() {
-        match always_true(&mut store, &mut built, net, gates[k])? {
+        match always_true(&mut store, &mut built, net, gates[k]) {
             Some(true) => {}
             Some(false) => return Ok(Pass::False(k)),
             None => return Ok(Pass::Stopped(k)),

@@ -52,15 +52,15 @@ impl Diagrams {
     }
 
     /// Whether a gate is true of every valuation. `None` where its diagrams become more than they may.
-    fn truth_of(&mut self, net: &Net, gate: u64) -> Result<Option<bool>, Memory>
+    fn truth_of(&mut self, net: &Net, gate: u64) -> Option<bool>
         requires gate { gate < length net.now.gates }
         requires diagrams { AreDiagramsOf net.now self.old }
         ensures diagrams { AreDiagramsOf net.now self.new }
-        ensures decided { IfOk result (λ o. IfSome o (IsDecided net.now gate)) }
+        ensures decided { IfSome result (IsDecided net.now gate) }
     {
-        let found = always_true(&mut self.store, &mut self.built, net, gate)?;
+        let found = always_true(&mut self.store, &mut self.built, net, gate);
         self.is_new &= found.is_none();
-        Ok(found)
+        found
     }
 
     /// The same: where the diagrams of other gates leave too little, by new ones.
@@ -71,12 +71,12 @@ impl Diagrams {
         ensures decided { IfOk result (λ o. IfSome o (IsDecided net.now gate)) }
     {
         let was_new = self.is_new;
-        let found = self.truth_of(net, gate)?;
+        let found = self.truth_of(net, gate);
         if was_new || found.is_some() {
             return Ok(found);
         }
         *self = Diagrams::new(alloc, net)?;
-        self.truth_of(net, gate)
+        Ok(self.truth_of(net, gate))
     }
 }
 

@@ -24,7 +24,8 @@ use rule_gates::{Wanted, takes};
 use stage_rules::target_told;
 use y86_base::{Memory, Variant};
 
-/// Jumps of this ifun that go back or not are predicted as taken: where one is fetched, f_predPC is f_valC.
+/// Jumps of this ifun that go back or not are predicted as taken: where one is fetched, f_predPC is f_valC. `fits` is the gate of
+/// the valuations that are allowed.
 #[tactic(auto, using(nets::proofs::Truths::begins_more, ctl_formula::proofs::Inside::inside_more, pipe_gates::proofs::Known::known_f_predPC))]
 fn predicts(
     b: &mut NetBuilder,

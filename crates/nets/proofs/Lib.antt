@@ -1,5 +1,6 @@
 pub mod Truths
 mod Added
+pub mod Numbers
 pub mod Gates
 pub mod Sources
 pub mod Forcing

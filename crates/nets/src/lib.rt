@@ -14,6 +14,7 @@ mod evaluation;
 mod implied;
 mod net;
 mod parts;
+mod variables;
 
 pub use builder::NetBuilder;
 pub use connectives::{choose, excludes, implies, neither, without};
@@ -22,3 +23,4 @@ pub use evaluation::{Valuation, eval};
 pub use implied::forced;
 pub use net::{Gate, Net};
 pub use parts::part;
+pub use variables::by_number;
