@@ -1,3 +1,10 @@
 pub mod Orders
 pub mod Cycles
 pub mod Atoms
+pub mod Again
+pub mod Good
+pub mod Printed
+pub mod Said
+pub mod SameNames
+pub mod ShownAs
+pub mod Spelled

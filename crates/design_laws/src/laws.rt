@@ -1,5 +1,8 @@
 //! Theorems about designs. Each is a function that does nothing and whose contract is the theorem.
 ghost use Rattle.std.specs.Prelude.{◌≡◌, ℕ, List};
+ghost use Rattle.hcl_read.specs.Print.{printed};
+ghost use Rattle.hcl_read.specs.Read.{ReadsAs};
+ghost use Rattle.hcl_read.specs.declared.tree.File.{File};
 ghost use Rattle.hcl_types.specs.Equations.{needs_of};
 ghost use Rattle.hcl_types.specs.Tables.{IsBound, IsOrderOf, IsSound, needs};
 ghost use Rattle.hcl_types.specs.declared.table.Row.{Row};
@@ -26,4 +29,10 @@ pub fn law_of_atoms()
     ensures mixed_or_atoms { (rows : List Row) (terms : List Term) (n : ℕ) (a : List Atom) → IsFirstMixed rows terms n → AreAtoms rows terms a → ⊥ }
     ensures mixed_or_over { (rows : List Row) (terms : List Term) (n : ℕ) → IsFirstMixed rows terms n → IsOver64 rows terms → ⊥ }
     ensures over_or_atoms { (rows : List Row) (terms : List Term) (ids : List ℕ) → IsOrderOf rows terms ids → (a : List Atom) → IsOver64 rows terms → AreAtoms rows terms a → ⊥ }
+{}
+
+/// What was read, printed and read again is the same file.
+#[tactic(auto, using(crate::proofs::Printed::printed_again))]
+pub fn law_of_printing()
+    ensures { (text : List ℕ) (f : File) → ReadsAs text f → ReadsAs (printed f.items) f }
 {}

@@ -1,18 +1,13 @@
 -- The laws of texts, files and faults.
-use Rattle.std.proofs.Common.{◌≡◌, ◌≤◌, sym, subst, length, ℕ, List, [], ◌++◌, Ok, Err, inl, inr}
+use Rattle.std.proofs.Common.{◌≡◌, ℕ, List, [], ◌++◌, Ok, Err, inl, inr}
 use Rattle.std.specs.Prelude.{◌⊎◌}
 use Rattle.hcl_read.specs.declared.tree.File.{File}
 use Rattle.hcl_read.specs.declared.fault.HclWhy.{HclWhy}
 use Rattle.hcl_read.specs.declared.tokens.Token.{Token}
 use Rattle.hcl_read.specs.Fault.{Accepts, FaultAt}
-use Rattle.hcl_read.specs.Print.{printed}
 use Rattle.hcl_read.specs.Read.{ReadsAs}
 use Rattle.hcl_read.specs.Tokens.{tokens}
 use Rattle.hcl_read.specs.Machine.{Outcome, outcome, start}
-use Rattle.hcl_read.proofs.Again.{items_again}
-use Rattle.hcl_read.proofs.SameNames.{items_keep}
-use Rattle.hcl_read.proofs.Printed.{items_spell}
-use Rattle.hcl_read.proofs.Good.{good_tokens}
 use Rattle.hcl_read.proofs.Exact.{Answers, answers, one_file}
 
 pub at_most_one_file : (text : List ℕ) (f g : File) → ReadsAs text f → ReadsAs text g → f ≡ g
@@ -25,8 +20,3 @@ file_or_fault ts = go (outcome [] start ts) (answers ts)
     go : (o : Outcome) → Answers ts o → ((f : File) × Accepts ts f) ⊎ ((front : List Token) × (rest : List Token) × (why : HclWhy) × (ts ≡ front ++ rest) × FaultAt front rest why)
     go (Ok f) a = inl (f, a)
     go (Err (rest, why)) a = inr (a.0, rest, why, a.1, a.2)
-
-pub printed_again : (text : List ℕ) (f : File) → ReadsAs text f → ReadsAs (printed f.items) f
-printed_again text f a =
-    subst (λ ts. Accepts ts f) (sym (items_spell a.0 (good_tokens text)))
-    (items_again a.0, subst (λ names. length names ≤ 256) (items_keep a.0 []) a.1)

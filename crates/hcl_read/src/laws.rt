@@ -1,7 +1,6 @@
 //! Theorems about the definitions of HCL text. Each is a function that does nothing and whose contract is the theorem.
 ghost use Rattle.std.specs.Prelude.{◌≡◌, ◌++◌, ◌⊎◌, ℕ, false, List, [], ◌∷◌};
 ghost use Rattle.hcl_read.specs.Fault.{Accepts, FaultAt};
-ghost use Rattle.hcl_read.specs.Print.{printed};
 ghost use Rattle.hcl_read.specs.Read.{IsFault, ReadsAs};
 ghost use Rattle.hcl_read.specs.Tokens as tokens;
 ghost use Rattle.hcl_read.specs.declared.fault.HclFault.{HclFault};
@@ -31,10 +30,4 @@ pub fn law_of_faults()
         ⊎ ((front : List Token) × (rest : List Token) × (why : HclWhy) × (ts ≡ front ++ rest) × FaultAt front rest why) }
     ensures not_both { (text : List ℕ) (f : File) (fault : HclFault) → ReadsAs text f → IsFault text fault → ⊥ }
     ensures one { (text : List ℕ) (a b : HclFault) → IsFault text a → IsFault text b → a ≡ b }
-{}
-
-/// What was read, printed and read again is the same file.
-#[tactic(auto, using(crate::proofs::LawLemmas::printed_again))]
-pub fn law_of_printing()
-    ensures { (text : List ℕ) (f : File) → ReadsAs text f → ReadsAs (printed f.items) f }
 {}

@@ -17,7 +17,7 @@ mod tokens;
 mod tree;
 
 pub use fault::{HclFault, HclWhy};
-pub use laws::{law_of_faults, law_of_files, law_of_printing, law_of_tokens};
+pub use laws::{law_of_faults, law_of_files, law_of_tokens};
 pub use printer::print;
 pub use reading::read;
 pub use text::Text;

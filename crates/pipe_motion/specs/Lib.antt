@@ -1,4 +1,3 @@
 pub mod Slots
 pub mod Gates
-pub mod Laws
 pub mod Predictions

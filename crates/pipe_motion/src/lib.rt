@@ -3,14 +3,12 @@
 #![tactic(auto, using(nets::proofs::Truths::begins_more, nets::proofs::Truths::begins_self))]
 
 mod lawful;
-mod laws;
 mod motion;
 mod obligations;
 mod settings;
 mod slots;
 
 pub use lawful::{lawful_gate, of_youngest, path_gate, stops_gate};
-pub use laws::{law_of_lawful_views, law_of_the_start};
 pub use motion::{fetched_slot, load_gate, move_view};
 pub use obligations::{
     leaves_gate, obligation_23, obligation_24, obligation_25, obligation_26, obligation_27,

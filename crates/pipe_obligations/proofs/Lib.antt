@@ -1,1 +1,2 @@
 mod Start
+pub mod Older

@@ -6,7 +6,7 @@ use Rattle.ctl_atoms.specs.Leaves.{Assignment}
 use Rattle.pipe_fields.specs.Laws.{of_bubbles}
 use Rattle.pipe_fields.specs.Layout.{FetchLine}
 use Rattle.pipe_motion.specs.declared.settings.Settings.{Settings}
-use Rattle.pipe_motion.proofs.Older.{empty_is_lawful}
+use Rattle.pipe_obligations.proofs.Older.{empty_is_lawful}
 use Rattle.pipe_obligations.specs.Stages.{back_told_in_f, legal, view_of}
 
 or_true : (b : Bool) → not b || true ≡ true

@@ -2,10 +2,5 @@ pub mod Valid
 pub mod Laid
 pub mod Fields
 pub mod Chosen
-pub mod Lawful
 pub mod Spanned
 pub mod Placed
-pub mod Forty
-pub mod Witness
-pub mod Behind
-pub mod Front

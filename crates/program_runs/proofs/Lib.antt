@@ -5,3 +5,8 @@ pub mod Standing
 pub mod Walking
 pub mod Images
 pub mod Whole
+pub mod Behind
+pub mod Forty
+pub mod Drawn
+pub mod Lawful
+pub mod Witness

@@ -1,7 +1,11 @@
-//! Theorems about generated programs. Each is a function that does nothing and whose contract is the theorem.
-ghost use Rattle.std.specs.Prelude.{◌≡◌, ℕ, ◌+◌, ◌≤◌};
+//! Theorems about generated programs and drawn valuations. Each is a function that does nothing and whose contract is the theorem.
+ghost use Rattle.std.specs.Prelude.{◌≡◌, ◌<◌, ◌≤◌, ℕ, ◌+◌, true, List, length};
 ghost use Rattle.y86_base.specs.declared.parts.Variant.{Variant};
 ghost use Rattle.y86_isa.specs.Run.{IsImage, Pure};
+ghost use Rattle.pipe_fields.specs.Allowed.{allowed};
+ghost use Rattle.pipe_fields.specs.Layout.{fields_of, field_count};
+ghost use Rattle.prog_gen.specs.Choices.{valuation};
+ghost use Rattle.program_runs.specs.Begun.{GoOn, IsBegun};
 ghost use Rattle.prog_gen.specs.Programs.{program, data_start};
 ghost use Rattle.program_runs.specs.Laws.{HasDataArea, RunsToHalt, KeepsCode};
 
@@ -15,4 +19,11 @@ pub fn law_of_programs()
     ensures run { (v : Variant) (n : ℕ) → 1 ≤ n → n ≤ 100000 → RunsToHalt v (program n) (n + 1) }
     ensures code { (v : Variant) (n : ℕ) → 1 ≤ n → n ≤ 100000 → KeepsCode v (program n) (data_start n) }
     ensures pure { (v : Variant) (n k : ℕ) → 1 ≤ n → n ≤ 100000 → Pure v (program n) k }
+{}
+
+/// What is drawn is an allowed valuation. Behind numbers with which an allowed valuation begins there is a choice, and the choices
+/// are just the numbers with which an allowed valuation goes on.
+pub fn law_of_draws()
+    ensures drawn { (v : Variant) (atoms seed i : ℕ) → allowed v (fields_of (valuation v atoms seed i)) ≡ true }
+    ensures choices { (v : Variant) (before : List ℕ) → length before < field_count → IsBegun v before → GoOn v before }
 {}

@@ -9,7 +9,7 @@ use Rattle.y86_base.specs.Text.{after_byte, behind, below_word, is_blank}
 use Rattle.y86_base.proofs.Runs.{after_byte_some, behind-run, run_and_rest, run_passes}
 use Rattle.yo_object.specs.Grammar.{digits_in_line}
 use Rattle.yo_object.specs.ObjectText.{Digits}
-use Rattle.yo_object.proofs.Grammar.{form_found, form_read}
+use Rattle.assembly_laws.proofs.Grammar.{form_found, form_read}
 use Rattle.stage_text.specs.Listed.{IsBetween, Lists, ListsByForm, address_behind, address_of, comment_of, is_before_bar, some_text, text_at, text_of, without_end}
 use Rattle.stage_text.proofs.Listings.{lists_text}
 use Rattle.stage_text.proofs.Trimmed.{between_is, is_between}

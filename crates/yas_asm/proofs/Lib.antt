@@ -5,14 +5,3 @@ pub mod LabelLemmas
 pub mod SoundLemmas
 pub mod PassLemmas
 pub mod SoundGrammar
-pub mod LawLemmas
-pub mod FaultLemmas
-pub mod ReasonLemmas
-pub mod ShownLines
-pub mod ByteLemmas
-pub mod ImageLemmas
-pub mod SpacingLemmas
-pub mod SweepLaw
-pub mod SpacingGrammar
-pub mod SpacingLaw
-pub mod TextLemmas

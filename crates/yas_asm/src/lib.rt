@@ -9,7 +9,6 @@ mod comment;
 mod fault;
 mod grammar;
 mod labels;
-mod laws;
 mod listing;
 mod name;
 mod number;
@@ -21,8 +20,4 @@ mod used;
 
 pub use assembler::assemble;
 pub use fault::{AsmFault, AsmWhy};
-pub use laws::{
-    law_of_align, law_of_bytes, law_of_comments, law_of_faults, law_of_images, law_of_labels,
-    law_of_lines, law_of_listings, law_of_spacing, law_of_texts,
-};
 pub use listing::{Line, Listing};

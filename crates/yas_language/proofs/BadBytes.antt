@@ -4,7 +4,7 @@ use Rattle.std.specs.Prelude.{not, ◌||◌}
 use Rattle.std.proofs.lemmas.Bool.{false≢true}
 use Rattle.std.proofs.lemmas.Bool.Decides.{nat_tests}
 use Rattle.yas_asm.specs.Comments.{bad_outside, comment_length, is_good}
-use Rattle.yas_asm.proofs.SweepLaw.{sweep_passes_comments}
+use Rattle.assembly_laws.proofs.SweepLaw.{sweep_passes_comments}
 use Rattle.yas_language.specs.Tokens.{IsComment, hash, slashes, closed}
 use Rattle.yas_language.specs.BadBytes.{HasBadByte, here, behind_byte, behind_comment, IsAllowed}
 use Rattle.yas_language.proofs.Comments.{comment_found, comment_measured}

@@ -1,12 +1,2 @@
 pub mod Bytes
 pub mod Texts
-pub mod Grammar
-pub mod LoadedLines
-pub mod HexDigits
-pub mod ListingImage
-pub mod PrintedLines
-pub mod ListedLines
-pub mod ReadBack
-pub mod Images
-pub mod Apart
-pub mod LoadedText

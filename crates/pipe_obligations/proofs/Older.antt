@@ -1,0 +1,56 @@
+-- What lawful says of a view, of the older of two good instructions.
+use Rattle.std.proofs.Common.{◌≡◌, Bool, true, false, not, ◌&&◌, refl, arith}
+use Rattle.pipe_motion.specs.Slots.{View, lawful, path, empty_view, no_good_behind_wrong, youngest_stops_alone, wrong_has_reason, missed_jump_is_youngest, ret_is_youngest}
+use Rattle.pipe_obligations.specs.Views.{OlderGoesOn, OlderHasTurned}
+
+-- of five truths joined, each
+record Five (a b c d e : Bool) : Type 0 where
+  first : a ≡ true
+  second : b ≡ true
+  fourth : d ≡ true
+  fifth : e ≡ true
+
+five : (a b c d e : Bool) → (a && (b && (c && (d && e)))) ≡ true → Five a b c d e
+five a b c d e h = record { first = grind (arith, h); second = grind (arith, h); fourth = grind (arith, h); fifth = grind (arith, h) }
+
+parts : (je rm : Bool) (v : View) → lawful je rm v ≡ true → Five (no_good_behind_wrong v) (youngest_stops_alone v) (wrong_has_reason v) (missed_jump_is_youngest je v) (ret_is_youngest rm v)
+unfolding lawful
+parts je rm v h = five _ _ _ _ _ h
+
+-- the first of two or of three that don't go together with what is behind them
+apart : (x b : Bool) → not (x && b) ≡ true → b ≡ true → x ≡ false
+apart x b h k = grind (arith, h, k)
+
+first_of : (x y : Bool) → (x && y) ≡ true → x ≡ true
+first_of x y h = grind (arith, h)
+
+second_of : (x y : Bool) → (x && y) ≡ true → y ≡ true
+second_of x y h = grind (arith, h)
+
+pub older_goes_on : (je rm : Bool) (v : View) → lawful je rm v ≡ true → OlderGoesOn v
+older_goes_on je rm v h =
+    let p = (parts je rm v h).second in
+    let q = second_of _ _ p in
+    record { in_e = apart _ _ (first_of _ _ p); in_m = apart _ _ (first_of _ _ q); in_w = apart _ _ (second_of _ _ q) }
+
+pub older_has_turned : (je rm : Bool) (v : View) → lawful je rm v ≡ true → OlderHasTurned v
+older_has_turned je rm v h =
+    let p = parts je rm v h in
+    record { no_missed = apart _ _ (first_of _ _ p.fourth); no_ret_in_e = apart _ _ (first_of _ _ p.fifth); no_ret_in_m = apart _ _ (first_of _ _ (second_of _ _ p.fifth)) }
+
+pub none_behind_wrong : (je rm : Bool) (v : View) → lawful je rm v ≡ true → v.e.wrong ≡ true → v.d.good ≡ false
+none_behind_wrong je rm v h w = behind _ _ (parts je rm v h).first w
+  where
+    behind : (x b : Bool) → not (x && b) ≡ true → x ≡ true → b ≡ false
+    behind x b h k = grind (arith, h, k)
+
+pub empty_is_lawful : (je rm : Bool) → lawful je rm empty_view ≡ true
+unfolding lawful
+empty_is_lawful true true = refl
+empty_is_lawful true false = refl
+empty_is_lawful false true = refl
+empty_is_lawful false false = refl
+
+pub empty_on_path : path empty_view ≡ true
+unfolding path
+empty_on_path = refl

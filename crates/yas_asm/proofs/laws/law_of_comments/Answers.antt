@@ -1,5 +1,0 @@
-use Rattle.yas_asm.proofs.SweepLaw.{close_is_first, sweep_passes_comments}
-use Rattle.yas_asm.proofs.laws.law_of_comments.Goals as goal
-
-pub returns : goal.returns
-returns c = record { close = close_is_first; sweep = sweep_passes_comments }

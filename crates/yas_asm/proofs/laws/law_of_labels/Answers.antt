@@ -1,5 +1,0 @@
-use Rattle.yas_asm.proofs.LawLemmas.{labels_are_addresses, labels_are_of_lines}
-use Rattle.yas_asm.proofs.laws.law_of_labels.Goals as goal
-
-pub returns : goal.returns
-returns c = record { addresses = labels_are_addresses; lines = labels_are_of_lines }
