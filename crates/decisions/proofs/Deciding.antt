@@ -1,5 +1,5 @@
 -- What a pass tells, and what is decided behind it.
-use Rattle.std.proofs.Common.{◌≡◌, ◌⊎◌, ◌↔◌, ℕ, zero, suc, ◌+◌, ◌-◌, ◌<◌, ◌≤◌, inl, inr, IsTrue, Bool, true, false, List, [], ◌∷◌, length, drop, get_or, refl, sym, ap, ◌∙◌, subst, unit, arith}
+use Rattle.std.proofs.Common.{◌≡◌, ◌⊎◌, ◌↔◌, ℕ, zero, suc, ◌+◌, ◌-◌, ◌<◌, ◌≤◌, inl, inr, IsTrue, Bool, true, false, List, [], ◌∷◌, length, drop, get_or, refl, sym, ap, ◌∙◌, subst, arith}
 use Rattle.std.proofs.lemmas.Bool.{cases_eq, cases_lt, false≢true}
 use Rattle.std.proofs.lemmas.List.{get_or-drop, length-drop}
 use Rattle.nets.specs.Nets.{Gates, truth}
@@ -44,11 +44,11 @@ some_false (suc n) f = by (some_false n (λ w. f (false ∷ w))) (some_false n (
     by (inr (w, size, fails)) high = inr (false ∷ w, ap suc size, fails)
 
 pub valid_decided : (s : Diagrams) (n : Gates) (gate : ℕ) (d : Dia) (b : Bool) → s.vars ≡ n.vars → IsBuilt s n gate d → IsTrue b ↔ Always s d true → IsDecided n gate b
-valid_decided s n gate d true e built valid = record { yes = λ t. always_true s n gate d e built (valid.0 unit); no = λ f. cc }
+valid_decided s n gate d true e built valid = record { yes = λ t. always_true s n gate d e built (valid.0 refl); no = λ f. cc }
 valid_decided s n gate d false e built valid = record { yes = λ t. cc; no = λ f. by (some_false n.vars (truth n gate)) }
   where
     by : IsAlwaysTrue n gate ⊎ ((w : List Bool) × (length w ≡ n.vars) × (truth n gate w ≡ false)) → (w : List Bool) × (length w ≡ n.vars) × (truth n gate w ≡ false)
-    by (inl always) = absurd (valid.1 (λ w size. built.is w size ∙ always w (size ∙ e)))
+    by (inl always) = absurd (false≢true (valid.1 (λ w size. built.is w size ∙ always w (size ∙ e))))
     by (inr fails) = fails
 
 true_more : (n : Gates) (gates : List ℕ) (k gate : ℕ) → AreTrueTo n gates k → gate ≡ get_or gates k 0 → IsAlwaysTrue n gate → AreTrueTo n gates (k + 1)
