@@ -20,7 +20,6 @@ pub enum Pass {
 }
 
 /// Whether a gate is true of every valuation. `None` where its diagrams became more than they may.
-#[tactic(auto, using(crate::proofs::Deciding::valid_decided))]
 pub fn always_true(store: &mut Store, built: &mut Built, net: &Net, gate: u64) -> Option<bool>
     requires gate { gate < length net.now.gates }
     requires vars { store.old.vars ≡ net.now.vars }
