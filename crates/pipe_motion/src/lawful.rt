@@ -1,7 +1,7 @@
 //! Gates of: a view of the pipeline is lawful, and the path of its youngest good instruction.
 #![tactic(auto, unfolding(crate::specs::Slots::lawful, crate::specs::Slots::path, crate::specs::Slots::youngest_stops), using(nets::proofs::Truths::begins_more, nets::proofs::Truths::begins_self))]
 
-ghost use Rattle.std.specs.Prelude.{◌<◌, ◌&&◌, length, IfOk};
+ghost use Rattle.std.specs.Prelude.{◌<◌, ◌&&◌, not, length, IfOk};
 ghost use Rattle.nets.specs.Nets.{Begins, IsGate, truth};
 ghost use Rattle.pipe_motion.specs.Gates.{slot_at, view_at, HasSlot, HasView};
 ghost use Rattle.pipe_motion.specs.Slots as spec;
@@ -20,17 +20,40 @@ fn good_behind_wrong(b: &mut NetBuilder, v: &ViewGates) -> Result<u64, Memory>
     Ok(g)
 }
 
+/// What M has, no good instruction in D or E is behind.
+fn youngest_in_m(b: &mut NetBuilder, v: &ViewGates, has: u64) -> Result<u64, Memory>
+    requires view_in { HasView (length b.old.gates) v.now }
+    requires has_in { has < length b.old.gates }
+    ensures begins { Begins b.old b.new }
+    ensures made { IfOk result (λ g. IsGate b.new g (λ w. not (truth b.old has w && spec.behind_m (view_at b.old w v.now)))) }
+{
+    let behind = b.or(v.d.good, v.e.good)?;
+    let g = excludes(b, has, behind)?;
+    Ok(g)
+}
+
+/// What W has, no good instruction in D, E or M is behind.
+fn youngest_in_w(b: &mut NetBuilder, v: &ViewGates, has: u64) -> Result<u64, Memory>
+    requires view_in { HasView (length b.old.gates) v.now }
+    requires has_in { has < length b.old.gates }
+    ensures begins { Begins b.old b.new }
+    ensures made { IfOk result (λ g. IsGate b.new g (λ w. not (truth b.old has w && spec.behind_w (view_at b.old w v.now)))) }
+{
+    let behind_m = b.or(v.d.good, v.e.good)?;
+    let behind = b.or(behind_m, v.m.good)?;
+    let g = excludes(b, has, behind)?;
+    Ok(g)
+}
+
 /// No good instruction stops but the youngest.
 fn one_stops(b: &mut NetBuilder, v: &ViewGates) -> Result<u64, Memory>
     requires { HasView (length b.old.gates) v.now }
     ensures begins { Begins b.old b.new }
     ensures made { IfOk result (λ g. IsGate b.new g (λ w. spec.youngest_stops_alone (view_at b.old w v.now))) }
 {
-    let behind_m = b.or(v.d.good, v.e.good)?;
-    let behind_w = b.or(behind_m, v.m.good)?;
     let e = excludes(b, v.e.stops, v.d.good)?;
-    let m = excludes(b, v.m.stops, behind_m)?;
-    let w = excludes(b, v.w.stops, behind_w)?;
+    let m = youngest_in_m(b, v, v.m.stops)?;
+    let w = youngest_in_w(b, v, v.w.stops)?;
     let both = b.and(m, w)?;
     let all = b.and(e, both)?;
     Ok(all)
@@ -46,10 +69,8 @@ fn reason(b: &mut NetBuilder, v: &ViewGates) -> Result<u64, Memory>
     let e_stops = without(b, v.e.stops, v.e.ret)?;
     let e = b.or(e_stops, v.e.missed)?;
     let m = without(b, v.m.stops, v.m.ret)?;
-    let from_m = choose(b, v.m.good, m, v.w.stops)?;
-    let from_e = choose(b, v.e.good, e, from_m)?;
-    let from_d = choose(b, v.d.good, d, from_e)?;
-    Ok(from_d)
+    let reason = of_youngest(b, v, d, e, m, v.w.stops)?;
+    Ok(reason)
 }
 
 /// D and E are wrong only where that has a reason.
@@ -74,8 +95,7 @@ fn missed_jumps(b: &mut NetBuilder, v: &ViewGates, je: bool) -> Result<u64, Memo
     if je {
         return Ok(e);
     }
-    let behind_m = b.or(v.d.good, v.e.good)?;
-    let m = excludes(b, v.m.missed, behind_m)?;
+    let m = youngest_in_m(b, v, v.m.missed)?;
     let both = b.and(e, m)?;
     Ok(both)
 }
@@ -86,15 +106,13 @@ fn rets(b: &mut NetBuilder, v: &ViewGates, rm: bool) -> Result<u64, Memory>
     ensures begins { Begins b.old b.new }
     ensures made { IfOk result (λ g. IsGate b.new g (λ w. spec.ret_is_youngest rm (view_at b.old w v.now))) }
 {
-    let behind_m = b.or(v.d.good, v.e.good)?;
     let e = excludes(b, v.e.ret, v.d.good)?;
-    let m = excludes(b, v.m.ret, behind_m)?;
+    let m = youngest_in_m(b, v, v.m.ret)?;
     let both = b.and(e, m)?;
     if rm {
         return Ok(both);
     }
-    let behind_w = b.or(behind_m, v.m.good)?;
-    let w = excludes(b, v.w.ret, behind_w)?;
+    let w = youngest_in_w(b, v, v.w.ret)?;
     let all = b.and(both, w)?;
     Ok(all)
 }

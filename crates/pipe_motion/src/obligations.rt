@@ -23,21 +23,41 @@ pub fn leaves_gate(b: &mut NetBuilder, k: &MoversGates, v: &ViewGates) -> Result
     Ok(leaves)
 }
 
+/// The register isn't stalled and bubbled.
+fn one_way(b: &mut NetBuilder, k: &MoverGates) -> Result<u64, Memory>
+    requires mover_in { HasMover (length b.old.gates) k.now }
+    ensures begins { Begins b.old b.new }
+    ensures made { IfOk result (λ g. IsGate b.new g (λ w. spec.one_way (mover_at b.old w k.now))) }
+{
+    let g = excludes(b, k.stall, k.bubble)?;
+    Ok(g)
+}
+
+/// Neither E nor M nor W is stalled and bubbled.
+fn last_one_way(b: &mut NetBuilder, k: &MoversGates) -> Result<u64, Memory>
+    requires movers_in { HasMovers (length b.old.gates) k.now }
+    ensures begins { Begins b.old b.new }
+    ensures made { IfOk result (λ g. IsGate b.new g (λ w. spec.one_way (mover_at b.old w k.now.e) && (spec.one_way (mover_at b.old w k.now.m) && spec.one_way (mover_at b.old w k.now.w)))) }
+{
+    let e = one_way(b, &k.e)?;
+    let m = one_way(b, &k.m)?;
+    let w = one_way(b, &k.w)?;
+    let last_two = b.and(m, w)?;
+    let all = b.and(e, last_two)?;
+    Ok(all)
+}
+
 /// No register is stalled and bubbled.
 pub fn obligation_23(b: &mut NetBuilder, k: &MoversGates) -> Result<u64, Memory>
     requires movers_in { HasMovers (length b.old.gates) k.now }
     ensures begins { Begins b.old b.new }
     ensures made { IfOk result (λ g. IsGate b.new g (λ w. spec.o23 (movers_at b.old w k.now))) }
 {
-    let f = excludes(b, k.f.stall, k.f.bubble)?;
-    let d = excludes(b, k.d.stall, k.d.bubble)?;
-    let e = excludes(b, k.e.stall, k.e.bubble)?;
-    let m = excludes(b, k.m.stall, k.m.bubble)?;
-    let w = excludes(b, k.w.stall, k.w.bubble)?;
-    let last_two = b.and(m, w)?;
-    let last_three = b.and(e, last_two)?;
-    let last_four = b.and(d, last_three)?;
-    let all = b.and(f, last_four)?;
+    let f = one_way(b, &k.f)?;
+    let d = one_way(b, &k.d)?;
+    let rest = last_one_way(b, k)?;
+    let last = b.and(d, rest)?;
+    let all = b.and(f, last)?;
     Ok(all)
 }
 
