@@ -1,2 +1,3 @@
 pub mod Icodes
 pub mod Told
+pub mod Extended

@@ -28,20 +28,53 @@ fn and_is(b: &mut NetBuilder, all: u64, p: FieldPlace, n: u64) -> Result<u64, Me
     Ok(g)
 }
 
+/// The status and the code of a bubble: a nop of status 0.
+fn nop_code(
+    b: &mut NetBuilder,
+    stat: FieldPlace,
+    icode: FieldPlace,
+    ifun: FieldPlace,
+) -> Result<u64, Memory>
+    requires stat { stat.first + stat.bits ≤ b.old.vars }
+    requires icode { icode.first + icode.bits ≤ b.old.vars }
+    requires ifun { ifun.first + ifun.bits ≤ b.old.vars }
+    ensures begins { Begins b.old b.new }
+    ensures made { IfOk result (λ g. IsGate b.new g (λ w.
+        spelt w stat.first stat.bits == 0 && spelt w icode.first icode.bits == 1 && spelt w ifun.first ifun.bits == 0)) }
+{
+    let all = spells(b, stat, 0)?;
+    let all = and_is(b, all, icode, 1)?;
+    let g = and_is(b, all, ifun, 0)?;
+    Ok(g)
+}
+
 /// The line D of a bubble.
 pub fn decode_bubble(b: &mut NetBuilder) -> Result<u64, Memory>
     requires vars { bit_count ≤ b.old.vars }
     ensures begins { Begins b.old b.new }
     ensures made { IfOk result (λ g. IsGate b.new g (λ w. spec.decode_bubble (fields_of w).d)) }
 {
-    let all = spells(b, D_STAT, 0)?;
-    let all = and_is(b, all, D_ICODE, 1)?;
-    let all = and_is(b, all, D_IFUN, 0)?;
+    let all = nop_code(b, D_STAT, D_ICODE, D_IFUN)?;
     let all = and_is(b, all, D_R_A, 15)?;
     let all = and_is(b, all, D_R_B, 15)?;
     let all = and_is(b, all, D_TAKEN, 0)?;
     let all = and_is(b, all, D_STOPS, 0)?;
     let g = and_is(b, all, D_BACK, 0)?;
+    Ok(g)
+}
+
+/// The gate is true, and no register is named in E.
+fn and_no_registers(b: &mut NetBuilder, all: u64) -> Result<u64, Memory>
+    requires vars { bit_count ≤ b.old.vars }
+    requires gate { all < length b.old.gates }
+    ensures begins { Begins b.old b.new }
+    ensures made { IfOk result (λ g. IsGate b.new g (λ w.
+        truth b.old all w && (fields_of w).e.dst_e == 15 && (fields_of w).e.dst_m == 15 && (fields_of w).e.src_a == 15 && (fields_of w).e.src_b == 15)) }
+{
+    let all = and_is(b, all, E_DST_E, 15)?;
+    let all = and_is(b, all, E_DST_M, 15)?;
+    let all = and_is(b, all, E_SRC_A, 15)?;
+    let g = and_is(b, all, E_SRC_B, 15)?;
     Ok(g)
 }
 
@@ -51,13 +84,8 @@ pub fn execute_bubble(b: &mut NetBuilder) -> Result<u64, Memory>
     ensures begins { Begins b.old b.new }
     ensures made { IfOk result (λ g. IsGate b.new g (λ w. spec.execute_bubble (fields_of w).e)) }
 {
-    let all = spells(b, E_STAT, 0)?;
-    let all = and_is(b, all, E_ICODE, 1)?;
-    let all = and_is(b, all, E_IFUN, 0)?;
-    let all = and_is(b, all, E_DST_E, 15)?;
-    let all = and_is(b, all, E_DST_M, 15)?;
-    let all = and_is(b, all, E_SRC_A, 15)?;
-    let all = and_is(b, all, E_SRC_B, 15)?;
+    let code = nop_code(b, E_STAT, E_ICODE, E_IFUN)?;
+    let all = and_no_registers(b, code)?;
     let all = and_is(b, all, E_CND, 1)?;
     let all = and_is(b, all, E_STOPS, 0)?;
     let g = and_is(b, all, E_BACK, 0)?;
@@ -70,9 +98,7 @@ pub fn memory_bubble(b: &mut NetBuilder) -> Result<u64, Memory>
     ensures begins { Begins b.old b.new }
     ensures made { IfOk result (λ g. IsGate b.new g (λ w. spec.memory_bubble (fields_of w).m)) }
 {
-    let all = spells(b, M_STAT, 0)?;
-    let all = and_is(b, all, M_ICODE, 1)?;
-    let all = and_is(b, all, M_IFUN, 0)?;
+    let all = nop_code(b, M_STAT, M_ICODE, M_IFUN)?;
     let all = and_is(b, all, M_DST_E, 15)?;
     let all = and_is(b, all, M_DST_M, 15)?;
     let all = and_is(b, all, M_ERROR, 0)?;

@@ -2,7 +2,7 @@
 #![tactic(auto, using(nets::proofs::Truths::begins_more), unfolding(crate::specs::Layout::fields_of, crate::specs::Allowed::fetch_fits, crate::specs::Allowed::decode_fits, crate::specs::Allowed::execute_fits, crate::specs::Allowed::memory_fits, crate::specs::Allowed::write_fits))]
 
 ghost use Rattle.std.specs.Prelude.{◌≡◌, ◌<◌, ◌≤◌, ◌+◌, ◌==◌, ◌&&◌, ◌||◌, length, IfOk};
-ghost use Rattle.nets.specs.Nets.{Begins, IsGate};
+ghost use Rattle.nets.specs.Nets.{Begins, IsGate, truth};
 ghost use Rattle.pipe_fields.specs.Layout.{bit_count, fields_of};
 ghost use Rattle.pipe_fields.specs.Allowed as spec;
 ghost use Rattle.field_bits.specs.Fits.{cnd_where, code_fits, destination_fits, half_fits, only_where, register_fits};
@@ -20,7 +20,7 @@ use field_bits::{
 };
 use nets::NetBuilder;
 use y86_base::Memory;
-use y86_isa::{Row, accesses, is_branch};
+use y86_isa::{Field, Row, accesses, is_branch};
 
 /// An instruction that is good and has no fault so far.
 fn live(b: &mut NetBuilder, kind: FieldPlace, stat: FieldPlace) -> Result<u64, Memory>
@@ -35,9 +35,10 @@ fn live(b: &mut NetBuilder, kind: FieldPlace, stat: FieldPlace) -> Result<u64, M
     Ok(g)
 }
 
-/// A hidden bit is 1 only in an instruction without fault for which a test holds.
-fn live_only(
+/// The gate is true, and a hidden bit is 1 only in an instruction without fault for which a test holds.
+fn and_live_only(
     b: &mut NetBuilder,
+    all: u64,
     may: bool,
     kind: FieldPlace,
     stat: FieldPlace,
@@ -46,23 +47,27 @@ fn live_only(
     requires kind { kind.first + kind.bits ≤ b.old.vars }
     requires stat { stat.first + stat.bits ≤ b.old.vars }
     requires bit { bit.first + bit.bits ≤ b.old.vars }
+    requires gate { all < length b.old.gates }
     ensures begins { Begins b.old b.new }
     ensures made { IfOk result (λ g. IsGate b.new g (λ w.
-        only_where (spec.is_live (spelt w kind.first kind.bits) (spelt w stat.first stat.bits) && may) (spelt w bit.first bit.bits))) }
+        truth b.old all w && only_where (spec.is_live (spelt w kind.first kind.bits) (spelt w stat.first stat.bits) && may) (spelt w bit.first bit.bits))) }
 {
     let live = live(b, kind, stat)?;
-    let g = only_where(b, may, live, bit)?;
+    let only = only_where(b, may, live, bit)?;
+    let g = b.and(all, only)?;
     Ok(g)
 }
 
-/// A hidden bit may be 1 where a test holds.
-fn only_if(b: &mut NetBuilder, may: bool, bit: FieldPlace) -> Result<u64, Memory>
-    requires { bit.first + bit.bits ≤ b.old.vars }
+/// The gate is true, and a hidden bit is 1 only where a test holds.
+fn and_only_if(b: &mut NetBuilder, all: u64, may: bool, bit: FieldPlace) -> Result<u64, Memory>
+    requires bit { bit.first + bit.bits ≤ b.old.vars }
+    requires gate { all < length b.old.gates }
     ensures begins { Begins b.old b.new }
-    ensures made { IfOk result (λ g. IsGate b.new g (λ w. only_where may (spelt w bit.first bit.bits))) }
+    ensures made { IfOk result (λ g. IsGate b.new g (λ w. truth b.old all w && only_where may (spelt w bit.first bit.bits))) }
 {
     let always = b.constant(true)?;
-    let g = only_where(b, may, always, bit)?;
+    let only = only_where(b, may, always, bit)?;
+    let g = b.and(all, only)?;
     Ok(g)
 }
 
@@ -105,10 +110,8 @@ pub fn fetch_fits(b: &mut NetBuilder, count: u64, icode: u64, row: &Row) -> Resu
     let read = reading_fits(b, count, icode, row, F_ERROR, F_IFUN)?;
     let taken = fetch_taken(b, is_branch(row.next), F_IFUN, F_TAKEN)?;
     let all = b.and(read, taken)?;
-    let stops = only_if(b, accesses(row.memory), F_STOPS)?;
-    let all = b.and(all, stops)?;
-    let back = only_if(b, is_branch(row.next), F_BACK)?;
-    let g = b.and(all, back)?;
+    let all = and_only_if(b, all, accesses(row.memory), F_STOPS)?;
+    let g = and_only_if(b, all, is_branch(row.next), F_BACK)?;
     Ok(g)
 }
 
@@ -140,10 +143,25 @@ pub fn decode_fits(b: &mut NetBuilder, count: u64, icode: u64, row: &Row) -> Res
     let code = decode_code(b, count, icode, row)?;
     let taken = decode_taken(b, is_branch(row.next))?;
     let all = b.and(code, taken)?;
-    let stops = live_only(b, accesses(row.memory), D_KIND, D_STAT, D_STOPS)?;
-    let all = b.and(all, stops)?;
-    let back = live_only(b, is_branch(row.next), D_KIND, D_STAT, D_BACK)?;
-    let g = b.and(all, back)?;
+    let all = and_live_only(b, all, accesses(row.memory), D_KIND, D_STAT, D_STOPS)?;
+    let g = and_live_only(b, all, is_branch(row.next), D_KIND, D_STAT, D_BACK)?;
+    Ok(g)
+}
+
+/// The gate is true, and a field has the number of a register, or none, as a column asks.
+fn and_register(
+    b: &mut NetBuilder,
+    all: u64,
+    column: Field,
+    field: FieldPlace,
+) -> Result<u64, Memory>
+    requires field { field.first + field.bits ≤ b.old.vars }
+    requires gate { all < length b.old.gates }
+    ensures begins { Begins b.old b.new }
+    ensures made { IfOk result (λ g. IsGate b.new g (λ w. truth b.old all w && register_fits column (spelt w field.first field.bits))) }
+{
+    let fits = register_fits(b, column, field)?;
+    let g = b.and(all, fits)?;
     Ok(g)
 }
 
@@ -153,13 +171,10 @@ fn registers_fit(b: &mut NetBuilder, row: &Row) -> Result<u64, Memory>
     ensures begins { Begins b.old b.new }
     ensures made { IfOk result (λ g. IsGate b.new g (λ w. spec.registers_fit row.now (fields_of w).e)) }
 {
-    let dst_e = register_fits(b, row.dst_e, E_DST_E)?;
-    let dst_m = register_fits(b, row.dst_m, E_DST_M)?;
-    let all = b.and(dst_e, dst_m)?;
-    let src_a = register_fits(b, row.src_a, E_SRC_A)?;
-    let all = b.and(all, src_a)?;
-    let src_b = register_fits(b, row.src_b, E_SRC_B)?;
-    let all = b.and(all, src_b)?;
+    let all = register_fits(b, row.dst_e, E_DST_E)?;
+    let all = and_register(b, all, row.dst_m, E_DST_M)?;
+    let all = and_register(b, all, row.src_a, E_SRC_A)?;
+    let all = and_register(b, all, row.src_b, E_SRC_B)?;
     let tied = tied(b, row, E_SRC_B, E_DST_E)?;
     let g = b.and(all, tied)?;
     Ok(g)
@@ -177,10 +192,8 @@ pub fn execute_fits(b: &mut NetBuilder, count: u64, icode: u64, row: &Row) -> Re
     let all = b.and(code, registers)?;
     let cnd = cnd_fits(b, E_IFUN, E_CND)?;
     let all = b.and(all, cnd)?;
-    let stops = live_only(b, accesses(row.memory), E_KIND, E_STAT, E_STOPS)?;
-    let all = b.and(all, stops)?;
-    let back = live_only(b, is_branch(row.next), E_KIND, E_STAT, E_BACK)?;
-    let g = b.and(all, back)?;
+    let all = and_live_only(b, all, accesses(row.memory), E_KIND, E_STAT, E_STOPS)?;
+    let g = and_live_only(b, all, is_branch(row.next), E_KIND, E_STAT, E_BACK)?;
     Ok(g)
 }
 
@@ -197,8 +210,7 @@ fn memory_code(b: &mut NetBuilder, count: u64, icode: u64, row: &Row) -> Result<
     let code = code_fits(b, count, icode, row, M_STAT, M_IFUN)?;
     let dst_e = destination_fits(b, row, M_CND, M_DST_E)?;
     let all = b.and(code, dst_e)?;
-    let dst_m = register_fits(b, row.dst_m, M_DST_M)?;
-    let g = b.and(all, dst_m)?;
+    let g = and_register(b, all, row.dst_m, M_DST_M)?;
     Ok(g)
 }
 
@@ -212,10 +224,8 @@ pub fn memory_fits(b: &mut NetBuilder, count: u64, icode: u64, row: &Row) -> Res
     let code = memory_code(b, count, icode, row)?;
     let cnd = cnd_fits(b, M_IFUN, M_CND)?;
     let all = b.and(code, cnd)?;
-    let error = live_only(b, accesses(row.memory), M_KIND, M_STAT, M_ERROR)?;
-    let all = b.and(all, error)?;
-    let back = live_only(b, is_branch(row.next), M_KIND, M_STAT, M_BACK)?;
-    let g = b.and(all, back)?;
+    let all = and_live_only(b, all, accesses(row.memory), M_KIND, M_STAT, M_ERROR)?;
+    let g = and_live_only(b, all, is_branch(row.next), M_KIND, M_STAT, M_BACK)?;
     Ok(g)
 }
 
@@ -244,7 +254,6 @@ pub fn write_fits(b: &mut NetBuilder, count: u64, icode: u64, row: &Row) -> Resu
     let status = stat_fits(b, count, accesses(row.memory), icode, W_STAT)?;
     let dst_e = write_destination(b, row)?;
     let all = b.and(status, dst_e)?;
-    let dst_m = register_fits(b, row.dst_m, W_DST_M)?;
-    let g = b.and(all, dst_m)?;
+    let g = and_register(b, all, row.dst_m, W_DST_M)?;
     Ok(g)
 }

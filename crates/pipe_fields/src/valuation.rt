@@ -1,7 +1,7 @@
 //! The gate that tells whether lines are those of a control valuation.
 #![tactic(auto, using(nets::proofs::Truths::begins_more), unfolding(crate::specs::Layout::fields_of, crate::specs::Lines::fits_at))]
 
-ghost use Rattle.std.specs.Prelude.{◌≡◌, ◌<◌, ◌≤◌, ◌+◌, ◌==◌, ◌||◌, not, length, List, Bool, IfOk};
+ghost use Rattle.std.specs.Prelude.{◌≡◌, ◌<◌, ◌≤◌, ◌+◌, ◌==◌, ◌&&◌, ◌||◌, not, length, List, Bool, IfOk};
 ghost use Rattle.nets.specs.Nets.{Begins, IsGate, truth};
 ghost use Rattle.field_bits.specs.Icodes.{where_below};
 ghost use Rattle.field_bits.specs.Spelling.{spelt};
@@ -119,51 +119,59 @@ fn stage_fits(
     Ok(g)
 }
 
-/// The line D of a control valuation.
-fn decode_allowed(b: &mut NetBuilder, v: Variant) -> Result<u64, Memory>
+/// The gate is true, and the line D is that of a control valuation.
+fn and_decode(b: &mut NetBuilder, v: Variant, all: u64) -> Result<u64, Memory>
     requires vars { bit_count ≤ b.old.vars }
+    requires gate { all < length b.old.gates }
     ensures begins { Begins b.old b.new }
-    ensures made { IfOk result (λ g. IsGate b.new g (λ w. spec.decode_allowed v (fields_of w).d)) }
+    ensures made { IfOk result (λ g. IsGate b.new g (λ w. truth b.old all w && spec.decode_allowed v (fields_of w).d)) }
 {
     let fits = line_fits(b, v, Line::D)?;
     let bubble = decode_bubble(b)?;
-    let g = stage_fits(b, 3, D_KIND, bubble, fits)?;
+    let line = stage_fits(b, 3, D_KIND, bubble, fits)?;
+    let g = b.and(all, line)?;
     Ok(g)
 }
 
-/// The line E of a control valuation.
-fn execute_allowed(b: &mut NetBuilder, v: Variant) -> Result<u64, Memory>
+/// The gate is true, and the line E is that of a control valuation.
+fn and_execute(b: &mut NetBuilder, v: Variant, all: u64) -> Result<u64, Memory>
     requires vars { bit_count ≤ b.old.vars }
+    requires gate { all < length b.old.gates }
     ensures begins { Begins b.old b.new }
-    ensures made { IfOk result (λ g. IsGate b.new g (λ w. spec.execute_allowed v (fields_of w).e)) }
+    ensures made { IfOk result (λ g. IsGate b.new g (λ w. truth b.old all w && spec.execute_allowed v (fields_of w).e)) }
 {
     let fits = line_fits(b, v, Line::E)?;
     let bubble = execute_bubble(b)?;
-    let g = stage_fits(b, 3, E_KIND, bubble, fits)?;
+    let line = stage_fits(b, 3, E_KIND, bubble, fits)?;
+    let g = b.and(all, line)?;
     Ok(g)
 }
 
-/// The line M of a control valuation.
-fn memory_allowed(b: &mut NetBuilder, v: Variant) -> Result<u64, Memory>
+/// The gate is true, and the line M is that of a control valuation.
+fn and_memory(b: &mut NetBuilder, v: Variant, all: u64) -> Result<u64, Memory>
     requires vars { bit_count ≤ b.old.vars }
+    requires gate { all < length b.old.gates }
     ensures begins { Begins b.old b.new }
-    ensures made { IfOk result (λ g. IsGate b.new g (λ w. spec.memory_allowed v (fields_of w).m)) }
+    ensures made { IfOk result (λ g. IsGate b.new g (λ w. truth b.old all w && spec.memory_allowed v (fields_of w).m)) }
 {
     let fits = line_fits(b, v, Line::M)?;
     let bubble = memory_bubble(b)?;
-    let g = stage_fits(b, 2, M_KIND, bubble, fits)?;
+    let line = stage_fits(b, 2, M_KIND, bubble, fits)?;
+    let g = b.and(all, line)?;
     Ok(g)
 }
 
-/// The line W of a control valuation.
-fn write_allowed(b: &mut NetBuilder, v: Variant) -> Result<u64, Memory>
+/// The gate is true, and the line W is that of a control valuation.
+fn and_write(b: &mut NetBuilder, v: Variant, all: u64) -> Result<u64, Memory>
     requires vars { bit_count ≤ b.old.vars }
+    requires gate { all < length b.old.gates }
     ensures begins { Begins b.old b.new }
-    ensures made { IfOk result (λ g. IsGate b.new g (λ w. spec.write_allowed v (fields_of w).w)) }
+    ensures made { IfOk result (λ g. IsGate b.new g (λ w. truth b.old all w && spec.write_allowed v (fields_of w).w)) }
 {
     let fits = line_fits(b, v, Line::W)?;
     let bubble = write_bubble(b)?;
-    let g = stage_fits(b, 2, W_KIND, bubble, fits)?;
+    let line = stage_fits(b, 2, W_KIND, bubble, fits)?;
+    let g = b.and(all, line)?;
     Ok(g)
 }
 
@@ -174,13 +182,9 @@ pub fn allowed(b: &mut NetBuilder, v: Variant) -> Result<u64, Memory>
     ensures made { IfOk result (λ g. IsGate b.new g (λ w. spec.allowed v (fields_of w))) }
 {
     let f = line_fits(b, v, Line::F)?;
-    let d = decode_allowed(b, v)?;
-    let all = b.and(f, d)?;
-    let e = execute_allowed(b, v)?;
-    let all = b.and(all, e)?;
-    let m = memory_allowed(b, v)?;
-    let all = b.and(all, m)?;
-    let w = write_allowed(b, v)?;
-    let g = b.and(all, w)?;
+    let all = and_decode(b, v, f)?;
+    let all = and_execute(b, v, all)?;
+    let all = and_memory(b, v, all)?;
+    let g = and_write(b, v, all)?;
     Ok(g)
 }
