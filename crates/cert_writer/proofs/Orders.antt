@@ -1,5 +1,5 @@
 -- Orders of variables.
-use Rattle.std.proofs.Common.{◌≡◌, ◌⊎◌, inl, inr, ⊎_elim, ℕ, ◌+◌, ◌<◌, ◌≤◌, List, [], ◌∷◌, ◌++◌, length, get_or, sym, ap, ◌∙◌, subst, arith}
+use Rattle.std.proofs.Common.{◌≡◌, ◌⊎◌, inl, inr, ⊎_elim, ℕ, ◌+◌, ◌<◌, ◌≤◌, List, [], ◌∷◌, ◌++◌, length, get_or, sym, ap, ◌∙◌, subst, zero-add, arith}
 use Rattle.std.proofs.lemmas.Bool.{cases_lt}
 use Rattle.std.specs.List.{range_with_len}
 use Rattle.std.proofs.lemmas.List.FromFn.{length-range_with_len, get_or-range_with_len}
@@ -47,7 +47,7 @@ pub numbers_size : (order : List ℕ) (n : ℕ) → order ≡ range_with_len 0 n
 numbers_size order n e = ap length e ∙ length-range_with_len 0 n
 
 number_at : (order : List ℕ) (n : ℕ) → order ≡ range_with_len 0 n → (x : ℕ) → x < n → get_or order x 0 ≡ x
-number_at order n e x h = ap (λ (xs : List ℕ). get_or xs x 0) e ∙ get_or-range_with_len 0 n x 0 h
+number_at order n e x h = ap (λ (xs : List ℕ). get_or xs x 0) e ∙ (get_or-range_with_len 0 n x 0 h ∙ zero-add x)
 
 pub numbers_order : (order ranks : List ℕ) (n : ℕ) → order ≡ range_with_len 0 n → ranks ≡ range_with_len 0 n → IsOrder order ranks
 numbers_order order ranks n o r = record {

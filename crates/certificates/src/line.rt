@@ -1,7 +1,7 @@
 //! The lines of a certificate between the first two and the last.
 
 /// A line of a certificate, with its numbers as they are written: those of variables, of terms and of claims.
-#[derive(Clone, Copy, Debug, PartialEq, Eq)]
+#[derive(Clone, Copy)]
 pub enum Line {
     /// Makes the next term: `low` where the variable is 0, and `high` where it is 1.
     Term {

@@ -10,7 +10,7 @@ use crate::form::command_of;
 use y86_base::Variant;
 
 /// A command with its file names and numbers.
-#[derive(Clone, Copy, Debug, PartialEq, Eq)]
+#[derive(Clone, Copy)]
 pub enum Cmd<'a> {
     /// Prints the object text of an assembly file. `mem` is the size of the memory in bytes.
     Yas {
