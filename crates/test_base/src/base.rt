@@ -6,7 +6,7 @@ use y86_base::{
 };
 
 #[test]
-fn images_at_their_edges(rt: HostRuntime) -> Result<(), Fail> {
+fn sizes_of_images(rt: HostRuntime) -> Result<(), Fail> {
     static SIZES: [(u64, bool); 10] = [
         (0, false),
         (8, false),
@@ -25,7 +25,11 @@ fn images_at_their_edges(rt: HostRuntime) -> Result<(), Fail> {
             Err(fault) => assert!(rt; !*legal && fault == ImageFault::Size, "{size}"),
         }
     }
+    Ok(())
+}
 
+#[test]
+fn images_at_their_edges(rt: HostRuntime) -> Result<(), Fail> {
     // An image of 64 bytes: the word put, at an address; whether it is inside; then the byte at the address.
     static WORDS: [(u64, u64, bool, Option<u8>); 7] = [
         (0, 0x1122_3344_5566_7788, true, Some(0x88)),
@@ -51,6 +55,14 @@ fn images_at_their_edges(rt: HostRuntime) -> Result<(), Fail> {
             image.put_byte(*address, *byte);
         }
     }
+    Ok(())
+}
+
+#[test]
+fn copies_of_images(rt: HostRuntime) -> Result<(), Fail> {
+    let mut image = Image::new(rt.alloc(), 64)?;
+    image.put(0, 0x1122_3344_5566_7788);
+    image.put(56, 0x0102_0304_0506_0708);
     let copy = image.copy(rt.alloc())?;
     image.put(0, 0);
     assert_eq!(rt;
@@ -65,7 +77,7 @@ fn images_at_their_edges(rt: HostRuntime) -> Result<(), Fail> {
 }
 
 #[test]
-fn texts(rt: HostRuntime) -> Result<(), Fail> {
+fn places_of_bytes(rt: HostRuntime) -> Result<(), Fail> {
     // The place of each byte, and the place of the end.
     static PLACES: [(Option<u8>, u64, u64); 8] = [
         (Some(b'a'), 1, 1),
@@ -84,7 +96,11 @@ fn texts(rt: HostRuntime) -> Result<(), Fail> {
         assert_eq!(rt; cursor.next(), *byte, "{line}:{column}");
     }
     assert_eq!(rt; (cursor.next(), cursor.line(), cursor.col()), (None, 4, 2));
+    Ok(())
+}
 
+#[test]
+fn numerals(rt: HostRuntime) -> Result<(), Fail> {
     static DECIMALS: [(u64, &str); 4] = [
         (0, "0"),
         (9, "9"),
@@ -106,12 +122,20 @@ fn texts(rt: HostRuntime) -> Result<(), Fail> {
     for (least, n, text) in &HEXES {
         assert_eq!(rt; Numeral::hex(*least, *n).as_bytes(), text.as_bytes(), "{n}");
     }
+    Ok(())
+}
 
+#[test]
+fn first_lines(rt: HostRuntime) -> Result<(), Fail> {
     let (first, rest) = first_line(b"x y\r\n\nz").ok_or("no line")?;
     assert_eq!(rt; (first, rest), (b"x y\r".as_slice(), b"\nz".as_slice()));
     let (second, rest) = first_line(rest).ok_or("no line")?;
     assert_eq!(rt; (second, rest), (b"".as_slice(), b"z".as_slice()));
+    Ok(())
+}
 
+#[test]
+fn lists_of_items(rt: HostRuntime) -> Result<(), Fail> {
     let mut items = Items::of([3, 1, 4].to_vec(rt.alloc())?);
     let same = Items::of([3, 9, 4].to_vec(rt.alloc())?);
     assert!(rt; items != same);
@@ -122,7 +146,7 @@ fn texts(rt: HostRuntime) -> Result<(), Fail> {
 }
 
 #[test]
-fn fronts_and_numbers(rt: HostRuntime) -> Result<(), Fail> {
+fn numbers(rt: HostRuntime) -> Result<(), Fail> {
     // The base and the digits, and the number.
     static NUMBERS: [(u64, &str, Option<u64>); 13] = [
         (10, "", Some(0)),
@@ -145,7 +169,11 @@ fn fronts_and_numbers(rt: HostRuntime) -> Result<(), Fail> {
             "{digits}"
         );
     }
+    Ok(())
+}
 
+#[test]
+fn fronts(rt: HostRuntime) -> Result<(), Fail> {
     // A text, what stands behind its blanks, the hex digits at its front, and what stands behind them.
     static FRONTS: [(&str, &str, &str, &str); 6] = [
         ("", "", "", ""),
@@ -163,7 +191,11 @@ fn fronts_and_numbers(rt: HostRuntime) -> Result<(), Fail> {
             "{rest}"
         );
     }
+    Ok(())
+}
 
+#[test]
+fn decimals(rt: HostRuntime) -> Result<(), Fail> {
     // A text, whether a `-` stands in front, the word of its number from -32768 to 65535, and what stands behind it.
     static DECIMALS: [(&str, bool, Option<u64>, &str); 8] = [
         ("-32768,", true, Some(u64::MAX - 32767), ","),
@@ -188,7 +220,7 @@ fn fronts_and_numbers(rt: HostRuntime) -> Result<(), Fail> {
 }
 
 #[test]
-fn names_and_boxes(rt: HostRuntime) -> Result<(), Fail> {
+fn names(rt: HostRuntime) -> Result<(), Fail> {
     assert_eq!(rt;
         keyword_at(register_names(), b"%r10,8"),
         Some((10, b",8".as_slice()))
@@ -204,7 +236,11 @@ fn names_and_boxes(rt: HostRuntime) -> Result<(), Fail> {
     assert!(rt;
         is_less(u64::MAX, 0) && is_less(1 << 63, u64::MAX) && !is_less(0, 1 << 63) && !is_less(7, 7)
     );
+    Ok(())
+}
 
+#[test]
+fn boxes(rt: HostRuntime) -> Result<(), Fail> {
     let boxed = Boxed::of(rt.alloc(), 7_u64)?;
     let same = Boxed::of(rt.alloc(), 7_u64)?;
     assert!(rt; boxed == same && *boxed.get() == 7);
