@@ -1,5 +1,4 @@
 //! Runs at the level of instructions, and their reports.
-use std::process::Abort;
 use std::test::Fail;
 use wb_io::{Failed, MemSink};
 use y86_base::{Image, Variant};
@@ -60,29 +59,6 @@ static CASES: [Case; 6] = [
     },
 ];
 
-/// The report in a sink that fills up.
-fn fill_up(
-    rt: &(impl Abort + AllocGlobal),
-    first: &Image,
-    end: &End,
-    steps: u64,
-) -> Result<(), Fail> {
-    let mut small = MemSink::new(rt.alloc(), Vec::new(rt.alloc()));
-    small.reserve(10)?;
-    assert_eq!(rt; report(first, end, steps, &mut small), Err(Failed));
-    assert_eq!(rt; small.bytes(), b"Stopped in".as_slice());
-    Ok(())
-}
-
-/// The report in a sink whose third write fails.
-fn fail(rt: &(impl Abort + AllocGlobal), first: &Image, end: &End) -> Result<(), Fail> {
-    let mut failing = MemSink::new(rt.alloc(), [2].to_vec(rt.alloc())?);
-    failing.reserve(1000)?;
-    assert_eq!(rt; report(first, end, 12, &mut failing), Err(Failed));
-    assert_eq!(rt; failing.bytes(), b"Stopped in 12".as_slice());
-    Ok(())
-}
-
 #[test]
 fn reports_of_runs(rt: HostRuntime) -> Result<(), Fail> {
     for case in &CASES {
@@ -99,8 +75,16 @@ fn reports_of_runs(rt: HostRuntime) -> Result<(), Fail> {
         out.reserve(1000)?;
         assert_eq!(rt; report(&first, &end, ran.steps, &mut out), Ok(()));
         assert_eq!(rt; out.bytes(), case.report.as_bytes(), "{}", case.report);
-        fill_up(&rt, &first, &end, ran.steps)?;
-        fail(&rt, &first, &end)?;
+
+        // A sink that fills up, and one whose third write fails.
+        let mut small = MemSink::new(rt.alloc(), Vec::new(rt.alloc()));
+        small.reserve(10)?;
+        assert_eq!(rt; report(&first, &end, ran.steps, &mut small), Err(Failed));
+        assert_eq!(rt; small.bytes(), b"Stopped in".as_slice());
+        let mut failing = MemSink::new(rt.alloc(), [2].to_vec(rt.alloc())?);
+        failing.reserve(1000)?;
+        assert_eq!(rt; report(&first, &end, 12, &mut failing), Err(Failed));
+        assert_eq!(rt; failing.bytes(), b"Stopped in 12".as_slice());
     }
     Ok(())
 }
