@@ -1,6 +1,6 @@
 #!/usr/bin/env bash
-# Measures the built program on generated inputs, the program of measures, and the gate from nothing and with everything kept. It prints the table of
-# BENCH.md. With the word `program` it leaves the gate out.
+# Measures the built program on generated inputs, the program of measures, and the gate from nothing and with everything kept. It prints rows of the
+# table of BENCH.md. With the word `program` it leaves the gate out.
 here=$(cd "$(dirname "$0")/.." && pwd) || exit 1
 work=$(mktemp -d) || exit 1
 trap 'rm -rf "$work"' EXIT
@@ -15,6 +15,7 @@ loop:
     jmp loop
 SOURCE
 awk 'BEGIN { for (i = 0; i < 65535; i++) printf "L%05d: nop #xx\n", i }' >"$work/labels.ys"
+awk 'BEGIN { printf "0x000: "; for (i = 0; i < 524200; i++) printf "00"; printf "\n" }' >"$work/zeros.yo"
 awk 'BEGIN { for (i = 0; i < 963; i++) print "bool set_cc = E_icode == IOPQ && !(m_stat in { SADR, SINS, SHLT });" }' >"$work/long.hcl"
 
 # The seconds of the fastest of three calls of the program with these words.

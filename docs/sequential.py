@@ -227,6 +227,8 @@ def small(program, folder):
             yield f"{command}: {row} depends on no more", (1, report(1, 0, "BUB"), ""), call(program, [command, "d.hcl", "p.yo", "--mem", "64"], folder, files)
     wanted = call(program, ["yis", "p.yo", "--full", "--mem", "64"], folder, [("p.yo", object_text(ADDS))])
     yield "yis of iaddq", wanted, (0, report(3, 20, "HLT"), "")
+    wanted = call(program, ["yis", "p.yo", "--mem", "64"], folder, [("p.yo", object_text(ADDS))])
+    yield "yis of iaddq in the smaller set", wanted, (1, report(2, 10, "INS", "%rdx:\t0x0000000000000000\t0x0000000000000007\n"), "")
 
 
 def answers(program, folder):
