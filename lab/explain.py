@@ -146,7 +146,7 @@ def definition(design, path, name, now, told):
     if below:
         values = [f"{it} is {t.in_short(it, now.signal(it))} ({place_of(design, path, it)})" for it in below]
         paragraph(f"where {', '.join(values)}", "      ", "        ")
-    told |= set(below)
+    told.update(below)
 
 
 def goes_by(design, name, now, told):

@@ -251,7 +251,7 @@ class Situation:
         return -1
 
     def goes_by(self, node):
-        """The names that the value of an expression goes by: the guards up to the case that is taken, and its value; of `||` and `&&` the part that decides."""
+        """The names that a value goes by: the guards up to the case that is taken, and its value; of `||`, `&&` and `in` the part that decides."""
         form, parts = node.form, node.parts
         if form in ("name", "number"):
             return [parts] if form == "name" else []
@@ -261,8 +261,11 @@ class Situation:
             inner += [parts[taken][1]] if taken in range(len(parts)) else []
         elif form in ("or", "and"):
             inner = [it for it in parts if self.joined([self.value(it)], int(form == "or")) == int(form == "or")][:1] or parts
+        elif form == "in":
+            left, members = self.value(parts[0]), parts[1]
+            inner = [parts[0], *([it for it in members if self.compared("==", left, self.value(it))][:1] or members)]
         else:
-            inner = [parts] if form == "not" else parts[1:] if form == "compare" else [parts[0], *parts[1]]
+            inner = [parts] if form == "not" else parts[1:]
         return [name for it in inner for name in self.goes_by(it)]
 
     @staticmethod
