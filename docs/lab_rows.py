@@ -75,11 +75,22 @@ def values(folder):
         yield "its values", True, "where m_stat is SAOK (mine.hcl:92)" in it.read()
 
 
+def towering():
+    """std.hcl with Booleans of which each stands on the next one, below 62 `!`."""
+    text = design("std")
+    names = "D_stall E_bubble set_cc mem_read mem_write F_stall F_bubble D_bubble E_stall M_stall M_bubble W_stall W_bubble need_valC need_regids".split()
+    for name, below in zip([*names, "instr_valid"], [*names[1:], "instr_valid", "imem_error"]):
+        text = changed(text, name, "!" * 62 + f"(0 || {below})")
+    return text
+
+
 def faults(folder):
     """What `explain` says of files with a fault."""
     for script in ("explain", "witness", "page"):
         status, out, said = lab(folder, [("deep.hcl", DEEP)], "lab", script, "deep.hcl")
         yield f"30,000 brackets: {script}", (1, b"deep.hcl:1:79: DepthOver64", b""), (status, out.split(b"\n")[0], said)
+    status, _, said = explained(folder, towering())
+    yield "definitions as a tower", (1, b"lab: the definitions stand on each other too deeply; what ./y86 check answers holds\n"), (status, said)
     yield "5,000 digits", "mine.hcl:1:13: NumberTooWide", explained(folder, f"word aluA = {'1' * 5000};\n")[1][0]
     lines = ["mine.hcl: Missing f_pc", "", "Missing: the signal isn't defined; where several are missing, the first in the order of the tables"]
     yield "an empty file", (1, lines, b""), explained(folder, "")
