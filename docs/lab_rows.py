@@ -10,7 +10,7 @@ import sys
 import tempfile
 
 sys.dont_write_bytecode = True
-from comparing import TOP, called, compared
+from comparing import TOP, called, changed, compared, design
 
 
 def lab(folder, files, script, *words):
@@ -18,9 +18,142 @@ def lab(folder, files, script, *words):
     return called(sys.executable, [f"{TOP}/lab/{script}", *words], folder, files)
 
 
+WITNESS = "`lab/lab witness mine.hcl` looks for a program that shows it."
+IADDQ = "`iaddq` wasn't asked: `--full` asks it too."
+DEEP = b"bool set_cc = " + b"(" * 30000 + b"1" + b")" * 30000 + b";\n"
+UNPAIRED = b"bool F_bubble = 0\n\n# F waits\nbool F_stall = 1;\n"
+
+
+def explained(folder, text, *flags):
+    """The status of `explain` of a file, the lines that it prints, and what comes on standard error."""
+    status, out, said = lab(folder, [("mine.hcl", text.encode())], "lab", "explain", "mine.hcl", *flags)
+    return status, out.decode().splitlines(), said
+
+
+def shown(folder, name, body):
+    """What `explain` shows of std.hcl with another definition: the lines behind "What the file says there"."""
+    lines = explained(folder, changed(design("std"), name, body))[1]
+    return lines[lines.index("What the file says there:") + 2 :] if "What the file says there:" in lines else lines
+
+
+def answers(folder):
+    """What is shown below a No: the line that is wrong, and what its value goes by."""
+    wrong = changed(design("fu"), "set_cc", "0")
+    yield "the hint has --full", WITNESS.replace("mine.hcl", "mine.hcl --full"), explained(folder, wrong, "--full")[1][-1]
+    yield "iaddq isn't asked: a no", [WITNESS, "", IADDQ], explained(folder, wrong)[1][-3:]
+    yield "iaddq isn't asked: a yes", (0, IADDQ), (lambda it: (it[0], it[1][-1]))(explained(folder, design("fu")))
+    yield "iaddq in a comment", False, IADDQ in explained(folder, "# IIADDQ\n" + design("std"))[1]
+    lines = ["  M_stall is 0", "    mine.hcl:136: bool M_stall = 0;", "  M_bubble is 0"]
+    yield "M isn't bubbled", [*lines, "    mine.hcl:139: bool M_bubble = 0;", "", WITNESS], shown(folder, "M_bubble", "0")[-6:]
+    body = "m_stat in { SHLT } || W_stat in { SHLT }"
+    lines += [f"    mine.hcl:139: bool M_bubble = {body};", "      where m_stat is SADR (mine.hcl:92)", "", WITNESS]
+    yield "M is bubbled for a halt alone", lines, shown(folder, "M_bubble", body)[-7:]
+    lines = ["  F_stall is 0", "    mine.hcl:117: bool F_stall = 0;", "  D_stall is 1"]
+    lines += ["    mine.hcl:120: bool D_stall = E_icode in { IMRMOVQ, IPOPQ } && E_dstM in { d_srcA, d_srcB };"]
+    lines += ["      where d_srcA is %rax (mine.hcl:34)", "  D_bubble is 0"]
+    yield "F isn't stalled: each signal once", lines, shown(folder, "F_stall", "0")[6:12]
+    lines = ["  D_stall is 0", "    mine.hcl:121: bool D_stall = 0;", "  D_bubble is 0"]
+    yield "D isn't stalled", lines, shown(folder, "D_stall", "0")[:3]
+
+
+def values(folder):
+    """The signals behind `where`: those of the guards up to the case that is taken."""
+    lines = ["  set_cc is 1; 0 is wanted", "    mine.hcl:71: bool set_cc = E_icode == IOPQ && !m_stat in { SADR, SINS, SHLT } && !W_stat in {"]
+    lines += ["        SADR, SINS, SHLT };", "      where m_stat is SAOK (mine.hcl:92)", "", WITNESS]
+    yield "m_stat without dmem_error", lines, shown(folder, "m_stat", "M_stat")
+    where = "      where d_srcA is %rax (mine.hcl:34), e_dstE is %rax (mine.hcl:77)"
+    yield "e_dstE without the condition", ["         ];", where, "", WITNESS], shown(folder, "e_dstE", "E_dstE")[-4:]
+    lines = ["  f_stat is SINS (4); SAOK (1) is wanted", "    mine.hcl:20: word f_stat = [", "         imem_error : SADR;", "      => !instr_valid : SINS;"]
+    lines += ["         f_icode == IHALT : SHLT;", "         1 : SAOK;", "         ];"]
+    lines += ["      where instr_valid is 0 (mine.hcl:16), f_icode is IRET (mine.hcl:10)", "", WITNESS]
+    body = "f_icode in { INOP, IHALT, IRRMOVQ, IIRMOVQ, IRMMOVQ, IMRMOVQ,\n IOPQ, IJXX, ICALL, IPUSHQ, IPOPQ }"
+    yield "no ret is valid", lines, shown(folder, "instr_valid", body)
+    files = [("mine.hcl", changed(design("std"), "m_stat", "M_stat").encode())]
+    made = lab(folder, files, "lab", "page", "mine.hcl", "-o", "no.html")
+    yield "the page of a no", (0, b"no.html: no, O15 doesn't hold\n", b""), made
+    with open(os.path.join(folder, "no.html"), encoding="utf-8") as it:
+        yield "its values", True, "where m_stat is SAOK (mine.hcl:92)" in it.read()
+
+
+def towering():
+    """std.hcl with Booleans of which each stands on the next one, below 62 `!`."""
+    text = design("std")
+    names = "D_stall E_bubble set_cc mem_read mem_write F_stall F_bubble D_bubble E_stall M_stall M_bubble W_stall W_bubble need_valC need_regids".split()
+    for name, below in zip([*names, "instr_valid"], [*names[1:], "instr_valid", "imem_error"]):
+        text = changed(text, name, "!" * 62 + f"(0 || {below})")
+    return text
+
+
+def faults(folder):
+    """What `explain` says of files with a fault."""
+    for script in ("explain", "witness", "page"):
+        status, out, said = lab(folder, [("deep.hcl", DEEP)], "lab", script, "deep.hcl")
+        yield f"30,000 brackets: {script}", (1, b"deep.hcl:1:79: DepthOver64", b""), (status, out.split(b"\n")[0], said)
+    status, _, said = explained(folder, towering())
+    yield "definitions as a tower", (1, b"lab: the definitions stand on each other too deeply; what ./y86 check answers holds\n"), (status, said)
+    yield "5,000 digits", "mine.hcl:1:13: NumberTooWide", explained(folder, f"word aluA = {'1' * 5000};\n")[1][0]
+    lines = ["mine.hcl: Missing f_pc", "", "Missing: the signal isn't defined; where several are missing, the first in the order of the tables"]
+    yield "an empty file", (1, lines, b""), explained(folder, "")
+    words = ["PYTHONCOERCECLOCALE=0", "LC_ALL=C", "PYTHONUTF8=0", sys.executable, f"{TOP}/lab/lab", "explain", "mine.hcl"]
+    status, out, said = called("env", words, folder, [("mine.hcl", "bool F_stall = \u201c0;\n".encode())])
+    lines = [b"mine.hcl:1:16: BadByte", b"", b"       1 | bool F_stall = ?0;", b"         |                ^"]
+    yield "no such character in the locale", (1, lines, b""), (status, out.splitlines()[:4], said)
+    usage = b"usage: y86 yas|yis|hcl|ssim|psim|check|sample|big|recheck|ssimp|aig|aigrun\n"
+    yield "a name that is no text", (1, usage, b""), lab(folder, [("\udce9.hcl", b"")], "lab", "explain", "\udce9.hcl")
+    many = "D_valC == 0" + "".join(f" || D_valC == {it}" for it in range(1, 65))
+    lines = ["mine.hcl: AtomsOver64", "", "AtomsOver64: the definitions compare more than 64 different pairs of words, too many for `check`,"]
+    yield "65 comparisons", lines, explained(folder, changed(design("std"), "F_bubble", many))[1][:3]
+    lines = ["mine.hcl: KindMismatch M_Cnd", "", "       1 | wordsig M_Cnd 'M'", "         |         ^"]
+    yield "a wrong declaration", lines, explained(folder, "wordsig M_Cnd 'M'\n" + design("std"))[1][:4]
+    lines = ["mine.hcl: KindMismatch F_bubble", "", "       1 | word F_bubble = 0;", "         |      ^"]
+    lines += ["", "       2 | boolsig F_bubble 'F'", "         |         ^"]
+    yield "a wrong definition", lines, explained(folder, "word F_bubble = 0;\nboolsig F_bubble 'F'\n")[1][:7]
+    lines = ["mine.hcl: TooLong 65536", "", "TooLong: the file has more than 65,536 bytes; the status is 7"]
+    yield "a file that is too long", (1, lines, b""), explained(folder, "#" * 65537)
+
+
+def swaps(folder):
+    """`swap` over files with a fault, and behind a last line without a line feed."""
+    files = [("good.hcl", b"bool F_bubble = 0;\n# the end"), ("bad.hcl", UNPAIRED), ("new.hcl", b"bool F_stall = 1;"), ("deep.hcl", DEEP)]
+    files += [("twice.hcl", b"bool F_stall = 1;\nbool F_stall = 0;\n")]
+    rows = [
+        ("good.hcl new.hcl", 0, b"bool F_bubble = 0;\n# the end\nbool F_stall = 1;\n", b""),
+        ("good.hcl bad.hcl", 1, b"", b"bad.hcl:4:1: Syntax\n"),
+        ("bad.hcl new.hcl", 1, b"", b"bad.hcl:4:1: Syntax\n"),
+        ("good.hcl twice.hcl", 1, b"", b"twice.hcl: Twice F_stall\n"),
+        ("good.hcl deep.hcl", 1, b"", b"deep.hcl:1:79: DepthOver64\n"),
+        ("good.hcl none.hcl", 1, b"", b"lab: none.hcl: No such file or directory\n"),
+    ]
+    for words, *wanted in rows:
+        yield f"swap {words}", tuple(wanted), lab(folder, files, "lab", "swap", *words.split())
+
+
+def without_page(folder):
+    """`page` of files that have none, and the usage of each command."""
+    files = [(f"{it}.hcl", design(it).encode()) for it in ("seq", "sp", "std")]
+    alone = "the page of a run is there for PIPE alone"
+    rows = [
+        ("page seq.hcl", f"seq.hcl: yes, so there is no situation to draw; {alone}"),
+        ("page std.hcl", "std.hcl: yes, so there is no situation to draw; with an object file the page shows its run"),
+        ("page seq.hcl a.yo", f"seq.hcl: {alone}, and this file is one for SEQ"),
+        ("page sp.hcl a.yo", f"sp.hcl: {alone}, and this file is one for SEQ+"),
+    ]
+    for words, wanted in rows:
+        yield words, (1, f"{wanted}\n".encode(), b""), lab(folder, files, "lab", *words.split())
+    for words in ("explain --help", "explain mine.hcl -h", "page --help", "swap --help", "witness --help"):
+        usage = f"usage: lab {words.split()[0]} HCL ".encode()
+        status, out, said = lab(folder, [], "lab", *words.split())
+        yield words, (2, usage, b""), (status, out[: len(usage)], said)
+    yield "lab --help", lab(folder, [], "lab"), lab(folder, [], "lab", "--help")
+
+
 def texts(folder):
     """The rows of `explain`, `swap` and `page`: the name of each, what is wanted, and what came."""
-    yield from ()
+    yield from answers(folder)
+    yield from values(folder)
+    yield from faults(folder)
+    yield from swaps(folder)
+    yield from without_page(folder)
 
 
 def scores(folder):

@@ -51,6 +51,8 @@ def main(words):
         print(f"{path}: no answer in ten minutes. docs/HCL.md says under Limits which files take so long.")
     else:
         told_fault(path, text, design, answer.err.strip())
+    if answer.status in (0, 1) and t.not_asked(text, full):
+        print(f"\n{t.not_asked(text, full)}")
     return 0 if answer.status == 0 else 1
 
 
@@ -129,15 +131,37 @@ def comparisons(view):
     return [f"{left} {signs[sign][1 - truth]} {right}" for (sign, left, right), truth in view.atoms.items()]
 
 
-def definition(design, path, name, now):
-    """Prints a definition with its lines, the case that is taken marked."""
+def place_of(design, path, name):
+    return f"{os.path.basename(path)}:{design.line(design.by_name[name].start)}"
+
+
+def definition(design, path, name, now, told):
+    """Prints a definition, and the values that it goes by, but for those of the signals that are told of already."""
     it = design.by_name[name]
-    line = design.line(it.start)
-    if it.body.form != "cases":
-        paragraph(design.source(it.start, it.end), f"    {os.path.basename(path)}:{line}: ", "        ")
-        return
+    if it.body.form == "cases":
+        cases(design, path, it, now)
+    else:
+        paragraph(design.source(it.start, it.end), f"    {place_of(design, path, name)}: ", "        ")
+    below = goes_by(design, name, now, told)
+    if below:
+        values = [f"{it} is {t.in_short(it, now.signal(it))} ({place_of(design, path, it)})" for it in below]
+        paragraph(f"where {', '.join(values)}", "      ", "        ")
+    told.update(below)
+
+
+def goes_by(design, name, now, told):
+    """The signals of the file that the value of a signal goes by, and those that these go by."""
+    found = [name]
+    for it in found:
+        names = dict.fromkeys(now.goes_by(design.by_name[it].body))
+        found += [below for below in names if below in design.by_name and below not in told and below not in found and now.signal(below) is not None]
+    return found[1:]
+
+
+def cases(design, path, it, now):
+    """Prints a definition by cases with its lines, the case that is taken marked."""
     head = design.text[it.start : it.body.start + 1]
-    print(f"    {os.path.basename(path)}:{line}: {' '.join(head.split())}")
+    print(f"    {place_of(design, path, it.name)}: {' '.join(head.split())}")
     taken = now.taken(it.body)
     for number, (guard, value) in enumerate(it.body.parts):
         mark = "=>" if number == taken else "  "
@@ -158,8 +182,10 @@ def concerned(rule, view, full):
         return [(f"{it}_{what}", None) for it in both for what in ("stall", "bubble")]
     if rule in ("O10", "O11"):
         return [(it, None) for it in ("D_stall", "E_bubble")]
-    shown = [it for it in rules.SIGNALS[rule].split() if view.signal(it) or it in ("f_pc", "F_stall", "D_stall", "D_bubble", "E_bubble")]
-    return [(it, None) for it in shown if view.signal(it) or view.now.design.by_name[it].body.form != "number"]
+    # (what a wrong instruction enters, by a stall or bubble that is 0)
+    entered = [it for it, slot in rules.moved(view).items() if slot.wrong] if rule == "O25" else []
+    even_0 = ["f_pc", "F_stall", "D_stall", "D_bubble", "E_bubble", *[f"{it}_{what}" for it in entered for what in ("stall", "bubble")]]
+    return [(it, None) for it in rules.SIGNALS[rule].split() if view.signal(it) or it in even_0]
 
 
 def told_no(path, design, lines, full):
@@ -186,14 +212,16 @@ def told_no(path, design, lines, full):
         for it in motion:
             paragraph(it)
     print("\nWhat the file says there:\n")
-    for name, want in concerned(rule, view, full):
+    shown = concerned(rule, view, full)
+    told = {name for name, _ in shown}
+    for name, want in shown:
         got = view.signal(name)
         said = f"{name} is {t.constant(name, got)}" if got is not None else f"{name} can't be told here"
         print(f"  {said}{'' if want is None or want == got else f'; {t.constant(name, want)} is wanted'}")
         if name in design.by_name:
-            definition(design, path, name, view.now)
+            definition(design, path, name, view.now, told)
     print()
-    print(f"`lab witness {path}` looks for a program that shows it.")
+    print(f"`lab/lab witness {path}{' --full' if full else ''}` looks for a program that shows it.")
 
 
 # A fault.
@@ -232,4 +260,8 @@ def faulty(design, reason, name):
         return uses[:1]
     if reason == "Twice":
         return [design.text.index(name, it.start) for it in defined[:2]]
+    if reason == "KindMismatch":
+        kinds = {it.kind.startswith("bool") for it in defined}
+        defined = [*defined[:1], *[it for it in design.declared if it.name == name and kinds != {it.kind.startswith("bool")}]]
+        return [design.text.index(name, it.start) for it in defined]
     return [design.text.index(name, it.start) for it in defined[:1]]

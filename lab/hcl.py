@@ -9,6 +9,8 @@ TOKEN = re.compile(
 )
 KINDS = {"word", "bool", "int"}
 DECLARATIONS = {"wordsig", "boolsig", "intsig"}
+# The most brackets and `!` that may be open.
+DEEPEST = 64
 
 
 class SyntaxFault(Exception):
@@ -46,7 +48,7 @@ class Node:
 
 
 class Definition:
-    """`word NAME = EXPRESSION;` or `bool NAME = EXPRESSION;`"""
+    """`word NAME = EXPRESSION;` or `bool NAME = EXPRESSION;`, or without a body `wordsig NAME 'text'` or `boolsig NAME 'text'`."""
 
     def __init__(self, kind, name, body, start, end):
         self.kind, self.name, self.body, self.start, self.end = kind, name, body, start, end
@@ -56,7 +58,7 @@ class Reader:
     """A reader by recursive descent over the tokens of a text."""
 
     def __init__(self, text):
-        self.text, self.tokens, self.at = text, [], 0
+        self.text, self.tokens, self.at, self.open, self.declared = text, [], 0, 0, []
         at = 0
         while at < len(text):
             found = TOKEN.match(text, at)
@@ -97,8 +99,9 @@ class Reader:
                 self.take(";")
                 found.append(Definition(word, name, body, start, self.ended()))
             elif word in DECLARATIONS:
+                name = self.take()[1]
                 self.take()
-                self.take()
+                self.declared.append(Definition(word, name, None, start, self.ended()))
             elif word == "quote":
                 self.take()
             else:
@@ -120,9 +123,19 @@ class Reader:
         return self.joined("&&", "and", self.negated)
 
     def negated(self):
+        self.open += 1
+        start = self.peek()[2]
+        if self.open > DEEPEST + 1:
+            raise SyntaxFault(start)
         if self.is_next("!"):
-            start = self.take()[2]
-            return Node("not", self.negated(), start, self.ended())
+            self.take()
+            found = Node("not", self.negated(), start, self.ended())
+        else:
+            found = self.compared()
+        self.open -= 1
+        return found
+
+    def compared(self):
         start = self.peek()[2]
         left = self.simple()
         if self.is_next("==", "!=", "<", "<=", ">", ">="):
@@ -143,7 +156,11 @@ class Reader:
     def simple(self):
         kind, text, start = self.take()
         if kind == "number":
-            return Node("number", int(text), start, self.ended())
+            digits = text.lstrip("-0") or "0"
+            # (a word has 19 digits at most)
+            if len(digits) > 19:
+                raise SyntaxFault(start)
+            return Node("number", int(digits) * (-1 if text[0] == "-" else 1), start, self.ended())
         if kind == "name":
             return Node("name", text, start, self.ended())
         if text == "(":
@@ -167,7 +184,8 @@ class Design:
     """The definitions of a file by their names; of a name that is defined twice the first."""
 
     def __init__(self, text):
-        self.text, self.all = text, Reader(text).file()
+        reader = Reader(text)
+        self.text, self.all, self.declared = text, reader.file(), reader.declared
         self.by_name = {}
         for it in self.all:
             self.by_name.setdefault(it.name, it)
@@ -231,6 +249,24 @@ class Situation:
             if truth:
                 return number
         return -1
+
+    def goes_by(self, node):
+        """The names that a value goes by: the guards up to the case that is taken, and its value; of `||`, `&&` and `in` the part that decides."""
+        form, parts = node.form, node.parts
+        if form in ("name", "number"):
+            return [parts] if form == "name" else []
+        if form == "cases":
+            taken = self.taken(node)
+            inner = [guard for guard, _ in parts[: taken + 1 if taken in range(len(parts)) else None]]
+            inner += [parts[taken][1]] if taken in range(len(parts)) else []
+        elif form in ("or", "and"):
+            inner = [it for it in parts if self.joined([self.value(it)], int(form == "or")) == int(form == "or")][:1] or parts
+        elif form == "in":
+            left, members = self.value(parts[0]), parts[1]
+            inner = [parts[0], *([it for it in members if self.compared("==", left, self.value(it))][:1] or members)]
+        else:
+            inner = [parts] if form == "not" else parts[1:]
+        return [name for it in inner for name in self.goes_by(it)]
 
     @staticmethod
     def joined(values, decides):

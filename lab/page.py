@@ -16,6 +16,7 @@ import tables as t
 
 # A page of more cycles would be slow to read and to open.
 MOST = 1000
+ALONE = "the page of a run is there for PIPE alone"
 HEADS = {"F": "Fetch", "D": "Decode", "E": "Execute", "M": "Memory", "W": "Write back", "P": "Instruction before", "S": "Instruction"}
 
 
@@ -58,6 +59,9 @@ def written(data):
 
 def run(path, object_path, given):
     """The data of a run and what to say of it, or none and why."""
+    design = explain.load(path)[1]
+    if design and t.datapath(design) != "pipe":
+        return None, f"{path}: {ALONE}, and this file is one for {'SEQ' if t.datapath(design) == 'seq' else 'SEQ+'}"
     if not os.path.exists(program.STAGES):
         return None, f"lab: the page of a run needs the program y86-stages, and {program.STAGES} isn't there; Y86_STAGES in the environment may name it"
     lines = program.run(path, object_path, *given, "--to", str(MOST), program=program.STAGES, seconds=600)
@@ -94,13 +98,15 @@ def situation(path, flags):
     kind = t.datapath(design) if design else "pipe"
     answer = program.run("check", kind, path, *flags, seconds=600)
     if answer.status == 0:
-        return None, f"{path}: yes, so there is no situation to draw; with an object file the page shows its run"
+        return None, f"{path}: yes, so there is no situation to draw; {'with an object file the page shows its run' if kind == 'pipe' else ALONE}"
     if answer.status != 1:
         return None, answer.err.strip() or f"{path}: the check gave no answer"
     lines = answer.out.splitlines()
     rule = lines[0].split()[1]
     view = rules.View(design, lines[1:])
     asks, why = pages.obligation(rule, view.path)
+    shown = explain.concerned(rule, view, bool(flags))
+    told = {name for name, _ in shown}
     order = {"pipe": "FDEMW", "seqplus": "SP"}.get(view.path, "S")
     boxes = [{"stage": it, "head": HEADS[it], "kind": view.kinds[it], "lines": explain.box(view, it)} for it in order]
     data = {
@@ -111,16 +117,16 @@ def situation(path, flags):
         "situation": boxes,
         "where": explain.comparisons(view),
         "motion": rules.motion(rule, view),
-        "signals": [signal(design, path, view, name, want) for name, want in explain.concerned(rule, view, bool(flags))],
+        "signals": [signal(design, path, view, name, want, told) for name, want in shown],
     }
     return data, f"no, {rule} doesn't hold"
 
 
-def signal(design, path, view, name, want):
-    """What the file says of a signal in the situation: its value, the one that is wanted, and its definition."""
+def signal(design, path, view, name, want, told):
+    """What the file says of a signal in the situation: its value, the one that is wanted, and its definition, with the values that it goes by."""
     got, said = view.signal(name), io.StringIO()
     with contextlib.redirect_stdout(said):
         if name in design.by_name:
-            explain.definition(design, path, name, view.now)
+            explain.definition(design, path, name, view.now, told)
     value = t.constant(name, got) if got is not None else "can't be told here"
     return {"name": name, "value": value, "want": "" if want is None or want == got else t.constant(name, want), "text": textwrap.dedent(said.getvalue())}

@@ -19,6 +19,6 @@ def obligation(rule, path):
 
 
 def fault(reason):
-    """What a reason means, and what to do about it."""
-    found = re.search(rf"^\| `{reason}[^`]*` \| (.*) \|$", page("HCL.md"), re.M)
-    return found[1] if found else ""
+    """What a reason means, and what to do about it; an empty text where it is none."""
+    found = re.search(rf"^\| `{reason}(?: \w+)?` \| (.*) \|$", page("HCL.md"), re.M)
+    return found[1] if found and reason else ""

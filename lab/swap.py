@@ -9,13 +9,21 @@ def main(words):
     if len(words) != 2 or any(it.startswith("--") for it in words):
         print("usage: lab swap HCL DEFINITIONS")
         return 2
-    try:
-        whole, others = (hcl.Design(program.read(it)) for it in words)
-    except hcl.SyntaxFault as fault:
-        print(f"lab: this isn't HCL: {fault}", file=sys.stderr)
-        return 1
+    whole, others = (design(it) for it in words)
+    names = [it.name for it in others.all]
+    twice = next((it for at, it in enumerate(names) if it in names[:at]), None)
+    if twice:
+        sys.exit(f"{words[1]}: Twice {twice}")
     print(swapped(whole, others), end="")
     return 0
+
+
+def design(path):
+    """The design of a file; where it isn't HCL, y86 says where."""
+    try:
+        return hcl.Design(program.read(path))
+    except hcl.SyntaxFault as fault:
+        sys.exit(program.run("hcl", path).err.strip() or f"lab: {path}: {fault}")
 
 
 def swapped(whole, others):
@@ -26,4 +34,6 @@ def swapped(whole, others):
             new = others.by_name[it.name]
             text = text[: it.start] + others.text[new.start : new.end] + text[it.end :]
             left.pop(it.name, None)
+    # (the last line may be a comment)
+    text += "\n" if left and text and not text.endswith("\n") else ""
     return text + "".join(f"{others.text[it.start : it.end]}\n" for it in left.values())

@@ -1,4 +1,5 @@
 """Y86-64 and its datapaths, as lab's commands tell of them: names of numbers, the instructions, the signals. CS:APP 3e, chapter 4."""
+import re
 
 REGISTERS = "%rax %rcx %rdx %rbx %rsp %rbp %rsi %rdi %r8 %r9 %r10 %r11 %r12 %r13 %r14".split()
 STATUSES = ["bubble", "AOK", "HLT", "ADR", "INS"]
@@ -39,6 +40,8 @@ DEFINED = {
 def datapath(design):
     """The datapath that a file is for, by the names that it defines."""
     names = set(design.by_name)
+    if not names:
+        return "pipe"
     return max(("pipe", "seq", "seqplus"), key=lambda it: (len(names & set(DEFINED[it])), it == "seq"))
 
 
@@ -73,14 +76,26 @@ def operands(icode, a, b, c):
     return first, second
 
 
-def constant(name, number):
-    """How HCL writes a number of this signal."""
+def in_short(name, number):
+    """The constant or the register that a number of this signal is, or the number."""
     if not isinstance(number, int):
         return str(number)
     last = name.rsplit("_", 1)[-1]
     groups = {"icode": "I", "pIcode": "I", "stat": "S", "Stat": "S"}
     if last in groups:
-        return next((f"{it} ({number})" for it, value in CONSTANTS.items() if value == number and it[0] == groups[last]), str(number))
-    if last in ("srcA", "srcB", "dstE", "dstM", "rA", "rB"):
-        return f"{number} ({register(number)})"
-    return str(number)
+        return next((it for it, value in CONSTANTS.items() if value == number and it[0] == groups[last]), str(number))
+    return register(number) if last in ("srcA", "srcB", "dstE", "dstM", "rA", "rB") else str(number)
+
+
+def constant(name, number):
+    """How HCL writes a number of this signal."""
+    short = in_short(name, number)
+    if short == str(number):
+        return short
+    return f"{short} ({number})" if short in CONSTANTS else f"{number} ({short})"
+
+
+def not_asked(text, full):
+    """What to say of a file that has `iaddq` where the check wasn't told so, or an empty text."""
+    has_it = re.search(r"\bIIADDQ\b", re.sub(r"#[^\n]*", "", text))
+    return "`iaddq` wasn't asked: `--full` asks it too." if has_it and not full else ""
