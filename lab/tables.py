@@ -1,4 +1,5 @@
 """Y86-64 and its datapaths, as lab's commands tell of them: names of numbers, the instructions, the signals. CS:APP 3e, chapter 4."""
+import re
 
 REGISTERS = "%rax %rcx %rdx %rbx %rsp %rbp %rsi %rdi %r8 %r9 %r10 %r11 %r12 %r13 %r14".split()
 STATUSES = ["bubble", "AOK", "HLT", "ADR", "INS"]
@@ -38,8 +39,17 @@ DEFINED = {
 
 def datapath(design):
     """The datapath that a file is for, by the names that it defines."""
-    names = set(design.by_name)
+    return datapath_of(set(design.by_name))
+
+
+def datapath_of(names):
     return max(("pipe", "seq", "seqplus"), key=lambda it: (len(names & set(DEFINED[it])), it == "seq"))
+
+
+def not_asked(text, full):
+    """What to say of a file that names `IIADDQ` and is checked without `--full`; empty for others."""
+    is_named = re.search(r"\bIIADDQ\b", re.sub(r"#[^\n]*", "", text))
+    return "`iaddq` wasn't asked: `--full` asks it too." if is_named and not full else ""
 
 
 def register(number):
