@@ -124,7 +124,7 @@ class Lab:
         """What the assembler says of the driver, as it is for the function."""
         found = re.search(r":(\d+): (.*)", said)
         if not found:
-            return said.strip() or "the assembler gives no answer"
+            return said.strip().replace(os.path.join(self.folder, "driver.ys"), self.source) or "the assembler gives no answer"
         line, reason = int(found[1]) - driver("", 1).split("lab_begin:\n")[0].count("\n") - 1, found[2]
         lines = self.function.split("\n")
         if line < 1:
