@@ -6,11 +6,13 @@ what is wrong and where, and never a traceback. What they print of good files st
 differs, and ends with `N passed, M failed`.
 """
 import os
+import re
+import shutil
 import sys
 import tempfile
 
 sys.dont_write_bytecode = True
-from comparing import TOP, called, changed, compared, design
+from comparing import EXAMPLES, TOP, called, changed, compared, design
 
 
 def lab(folder, files, script, *words):
@@ -158,7 +160,122 @@ def texts(folder):
 
 def scores(folder):
     """The rows of `witness`, `archlab`, `class`, `cycles` and of lab/recheck."""
-    yield from ()
+    room = os.path.join(folder, "scores")
+    os.mkdir(room)
+    files = [(f"{name}.hcl", design(name).encode()) for name in ("std", "sp", "seq", "both")]
+    # (of iaddq it forgets the flags)
+    files += [("flags.hcl", changed(design("fu"), "set_cc", "E_icode == IOPQ && !m_stat in { SADR, SINS, SHLT } && !W_stat in { SADR, SINS, SHLT }").encode())]
+    for name in ("add.yo", "ncopy.ys", "ncopy_iaddq.ys", "tiny.crt"):
+        with open(f"{EXAMPLES}/{name}", "rb") as it:
+            files.append((name, it.read()))
+    for words, status, out, err in (*WITNESS, *CYCLES, *archlab(files), *CLASS):
+        yield " ".join(words), (status, out, err), lab(room, files, "lab", *words)
+    for files, words, status, out, err in RECHECK:
+        yield f"recheck {words}", (status, out, err), lab(room, files, "recheck", *words)
+    yield from table(room)
+
+
+YES = b"yes pt=1111111 pb=1111111 tv=0 lf=0 je=0 rm=0\n"
+# The words, the status and both streams.
+WITNESS = [
+    (("witness", "flags.hcl"), 0, b"flags.hcl: " + YES + b"So no program without `iaddq` shows a mistake: this file is right for every one.\n"
+        b"`iaddq` wasn't asked: `--full` asks it too.\n", b""),
+    (("witness", "both.hcl", "--tries", "1"), 1, b"both.hcl: no O23\nTrying up to 1 programs until one shows it: about 1 s at most.\n"
+        b"None of 1 programs shows the mistake. The rule is broken all the same: a program that shows it may be rare,\n"
+        b"or there is none, for a No promises that the rule fails in the situation that it shows, and no more.\n", b""),
+    (("witness", "both.hcl", "--tries", "0"), 2, b"", b"lab: --tries 0: a number from 1 to 1000000 is wanted\n"),
+    (("witness", "both.hcl", "--tries", "99999999999999999999"), 2, b"", b"lab: --tries 99999999999999999999: a number from 1 to 1000000 is wanted\n"),
+]
+NUMBERS = b"lab: `--mem` takes a multiple of 8 from 64 to 1048576, and `--limit` a number from 1 to 100000000\n"
+CYCLES = [
+    (("cycles", "std.hcl", "add.yo", "--limit", "7"), 0, b"cycle  waits  instruction\n"
+        b"    5     +4  0x000: irmovq $10, %rdx         filling the pipeline\n"
+        b"    6         0x00a: irmovq $3, %rax\n"
+        b"    7         0x014: addq %rdx, %rax\n\n"
+        b"where the cycles went:\n      3  an instruction each\n      4  filling the pipeline\n"
+        b"      7  cycles for 3 instructions, cut off at the limit: 2.33 cycles per instruction\n", b""),
+    (("cycles", "sp.hcl", "add.yo", "--limit", "2"), 0,
+        b"2 cycles for 2 instructions, cut off at the limit: a sequential processor takes one cycle for each\n", b""),
+    # (its last byte is at 0x16)
+    (("cycles", "std.hcl", "add.yo", "--mem", "64", "--limit", "100000000", "--sum"), 0, b"where the cycles went:\n      4  an instruction each\n"
+        b"      4  filling the pipeline\n      8  cycles for 4 instructions, to the end with HLT: 2.00 cycles per instruction\n", b""),
+    (("cycles", "std.hcl", "add.yo", "--limit", "0"), 2, b"", NUMBERS),
+    (("cycles", "std.hcl", "add.yo", "--mem", "12"), 2, b"", NUMBERS),
+    (("cycles", "std.hcl", "nofile.yo"), 1, b"read fault nofile.yo\n", b""),
+]
+CLASS = [
+    (("class", "nodir"), 2, b"", b"lab: nodir: no such folder or file\n"),
+    (("class", "std.hcl", "--jobs", "0"), 2, b"", b"lab: --jobs 0: a number from 1 to 1000000 is wanted\n"),
+    (("class", "std.hcl", "--seconds", "99999999999999999999"), 2, b"", b"lab: --seconds 99999999999999999999: a number from 1 to 1000000 is wanted\n"),
+]
+# The input is x, and the output is "x and not x".
+AIG = b"aag 2 1 0 1 1\n2\n4\n4 2 3\n"
+# The files, the words, the status and both streams.
+RECHECK = [
+    ([], ("nofile",), 5, b"", b"nofile: No such file or directory\n"),
+    ([], (".",), 5, b"", b".: Is a directory\n"),
+    ([("empty.crt", b"")], ("empty.crt",), 5, b"", b"empty.crt:1: Syntax\n"),
+    ([("x.aag", AIG)], ("tiny.crt", "x.aag"), 0, b"holds" + YES[3:], b""),
+    ([], ("nofile", "x.aag"), 5, b"", b"nofile: No such file or directory\n"),
+    ([], ("tiny.crt", "std.hcl"), 5, b"", b"std.hcl:1: Syntax\n"),
+    ([("x.aag", b"")], ("tiny.crt", "x.aag"), 5, b"", b"x.aag:1: Syntax\n"),
+    ([("x.aag", b"\xff\n")], ("tiny.crt", "x.aag"), 5, b"", b"x.aag:1: Syntax\n"),
+    ([("x.aag", AIG[:16])], ("tiny.crt", "x.aag"), 5, b"", b"x.aag:3: Syntax\n"),
+    ([("x.aag", AIG.replace(b"4 2 3", b"4 2 x"))], ("tiny.crt", "x.aag"), 5, b"", b"x.aag:4: Syntax\n"),
+    ([("x.aag", b"aag 900000000 1 0 1 900000000\n2\n4\n")], ("tiny.crt", "x.aag"), 5, b"", b"x.aag:4: Syntax\n"),
+    # (literal 6 is nobody's; x itself isn't 0)
+    ([("x.aag", AIG.replace(b"\n4\n", b"\n6\n"))], ("tiny.crt", "x.aag"), 5, b"", b"x.aag: an output isn't shown to be 0\n"),
+    ([("x.aag", AIG.replace(b"\n4\n", b"\n2\n"))], ("tiny.crt", "x.aag"), 5, b"", b"x.aag: an output isn't shown to be 0\n"),
+]
+
+
+def archlab(files):
+    """The rows of `archlab`; three functions more stand among the files then."""
+    plain = dict(files)["ncopy.ys"]
+    files += [("endless.ys", plain.replace(b"jg next", b"jmp next")), ("other.ys", plain.replace(b"ncopy:", b"copy:")), ("twice.ys", plain + b"lab_to:\n")]
+    yield ("archlab", "endless.ys", "std.hcl"), 1, (b"std.hcl: " + YES + b"length 1, yis: it doesn't end within 2000 steps\n"
+        b"length 1, psim: it doesn't end within 2000 cycles\nlength 2, yis: it doesn't end within 3000 steps\n"
+        b"length 2, psim: it doesn't end within 3000 cycles\nlength 3, yis: it doesn't end within 4000 steps\n"
+        b"correct for lengths 0 to 64 and 128, 192, 256: no\nbytes of the function: 94, of 1000 at most\n"
+        b"score: 0 of 60, for the results are wrong\n"), b""
+    for words, said in (
+        (("other.ys", "std.hcl"), b"other.ys: it defines no label `ncopy`\n"),
+        (("std.hcl", "ncopy.ys"), b"std.hcl: it defines no label `ncopy`\n"),
+        (("twice.ys", "std.hcl"), b"twice.ys: with the labels `lab_..` and the data that are put behind it: LabelTwice\n"),
+        (("ncopy_iaddq.ys", "std.hcl"), b"the function, line 8: Syntax (`iaddq` needs `--full`)\n"),
+        (("ncopy.ys", "nofile.hcl"), b"read fault nofile.hcl\n"),
+        (("ncopy.ys", "seq.hcl"), b"seq.hcl: Unknown icode\n"),
+    ):
+        yield ("archlab", *words), 1, said, b""
+
+
+def table(room):
+    """The rows of `class` on a folder of all that isn't a good file, and on a program that gives no answer; without the seconds, which differ."""
+    folder = os.path.join(room, "class")
+    os.mkdir(folder)
+    os.mkfifo(f"{folder}/pipe.hcl")
+    os.symlink("nothing", f"{folder}/link.hcl")
+    wrong = {name: b"bool x = ];\n" + design(name).encode() for name in ("std", "sp", "seq")}
+    # (flags.hcl asks nothing of iaddq, and breaks O15 besides)
+    flags = changed(design("fu"), "set_cc", "E_icode == IIADDQ").encode()
+    files = [*((f"{name}.hcl", text) for name, text in wrong.items()), ("flags.hcl", flags), ("PIPE.HCL", flags), ("pipe.txt", flags)]
+    files += [("junk.hcl", b"%%\n"), ("empty.hcl", b""), ("long.hcl", b" " * 65537), ("deep.hcl", b"bool f_icode = " + b"(" * 3000), (b"l\xe9.hcl", flags)]
+    for name, text in files:
+        with open(os.path.join(os.fsencode(folder), os.fsencode(name)), "wb") as it:
+            it.write(text)
+    status, out, err = lab(room, (), "lab", "class", "class", "--jobs", "2")
+    lines = dict(it.partition(b",")[::2] for it in re.sub(rb",[\d.]+$", b"", out, flags=re.M).splitlines())
+    yield "class: status and standard error", (0, b"lab: PIPE.HCL: passed over, for its name doesn't end with `.hcl`\n"
+        b"lab: pipe.txt: passed over, for its name doesn't end with `.hcl`\nlab: flags.hcl: `iaddq` wasn't asked: `--full` asks it too.\n"), (status, err)
+    yield "class: rows", {
+        b"file": b"datapath,verdict,obligation,fault,settings,cycles,seconds",
+        b"deep.hcl": b"pipe,fault,,1:80: DepthOver64,,", b"empty.hcl": b",fault,,Missing f_pc,,", b"flags.hcl": b"pipe,no,O15,,,",
+        b"junk.hcl": b",fault,,1:1: Syntax,,", b"link.hcl": b",unreadable,,,,", b"long.hcl": b",fault,,TooLong 65536,,", b"l\xe9.hcl": b",unreadable,,,,",
+        b"pipe.hcl": b",unreadable,,,,", b"seq.hcl": b"seq,fault,,1:10: Syntax,,",
+        b"sp.hcl": b"seqplus,fault,,1:10: Syntax,,", b"std.hcl": b"pipe,fault,,1:10: Syntax,,",
+    }, lines
+    status, out, err = called("env", [f"Y86={shutil.which('false')}", sys.executable, f"{TOP}/lab/lab", "class", "std.hcl", "--no-head"], room)
+    yield "class: stopped", (0, b"std.hcl,pipe,stopped,,,,", b""), (status, out.rpartition(b",")[0], err)
 
 
 def rows(folder):

@@ -1,4 +1,5 @@
 """lab archlab NCOPY.ys HCL: the book's lab, part C: is a copy loop right, how many cycles does it take for an element, and what does that score."""
+import itertools
 import os
 import random
 import re
@@ -8,6 +9,7 @@ import program
 
 LENGTHS, LARGER = range(65), (128, 192, 256)
 BYTES, MEMORY = 1000, "65536"
+MOST_TOLD = 5
 UNTOUCHED, GUARD = 0xCDEFAB, 0xBCDEFA
 
 
@@ -19,14 +21,17 @@ def main(words):
     (source, path), flags, _ = found
     program.ready()
     with tempfile.TemporaryDirectory() as folder:
-        lab = Lab(program.read(source), path, sorted(flags), folder)
+        lab = Lab(source, path, sorted(flags), folder)
         size = lab.size()
         if size is None:
             return 1
         verdict = program.run("check", "pipe", path, *lab.flags, seconds=600)
-        print(f"{path}: {(verdict.out or verdict.err).splitlines()[0]}")
-        wrong = [text for length in [*LENGTHS, *LARGER] for text in lab.wrong(length)]
-        for it in wrong[:5]:
+        if verdict.status not in (0, 1):
+            print(verdict.err.strip() or f"{path}: the check gives no answer")
+            return 1
+        print(f"{path}: {verdict.out.splitlines()[0]}", flush=True)
+        wrong = list(itertools.islice((text for length in [*LENGTHS, *LARGER] for text in lab.wrong(length)), MOST_TOLD))
+        for it in wrong:
             print(it)
         print(f"correct for lengths 0 to 64 and {', '.join(map(str, LARGER))}: {'no' if wrong else 'yes'}")
         print(f"bytes of the function: {size}, of {BYTES} at most")
@@ -34,22 +39,24 @@ def main(words):
 
 
 def told(lab, is_wrong, size, accepted):
-    """Prints the cycles per element and the score."""
-    each = {length: cycles / length for length, cycles in lab.cycles.items() if 0 < length <= 64}
-    print("\n  length  cycles  per element")
-    for length in (1, 2, 3, 4, 8, 16, 32, 64):
-        if length in each:
-            print(f"{length:>8}  {lab.cycles[length]:>6}  {each[length]:>11.2f}")
-    if len(each) < 64:
-        return 1
-    mean = sum(each.values()) / len(each)
-    print(f"\nmean of lengths 1 to 64: {mean:.2f} cycles per element")
+    """Prints the cycles per element, where the results are right, and the score."""
+    mean = 0 if is_wrong else table(lab.cycles)
     if is_wrong or size > BYTES or not accepted:
         why = "the results are wrong" if is_wrong else "the function is too long" if size > BYTES else "the processor isn't accepted"
         print(f"score: 0 of 60, for {why}")
         return 1
     print(f"score: {score(mean):.1f} of 60")
     return 0
+
+
+def table(cycles):
+    """Prints the cycles per element of some lengths, and their mean over lengths 1 to 64, which it returns."""
+    print("\n  length  cycles  per element")
+    for length in (1, 2, 3, 4, 8, 16, 32, 64):
+        print(f"{length:>8}  {cycles[length]:>6}  {cycles[length] / length:>11.2f}")
+    mean = sum(cycles[length] / length for length in range(1, 65)) / 64
+    print(f"\nmean of lengths 1 to 64: {mean:.2f} cycles per element")
+    return mean
 
 
 def score(mean):
@@ -91,8 +98,9 @@ lab_stack:
 class Lab:
     """A copy function and a pipeline; the cycles of each length that was run."""
 
-    def __init__(self, function, path, flags, folder):
-        self.function, self.path, self.flags, self.folder, self.cycles = function, path, flags, folder, {}
+    def __init__(self, source, path, flags, folder):
+        self.source, self.function = source, program.read(source)
+        self.path, self.flags, self.folder, self.cycles = path, flags, folder, {}
 
     def assemble(self, length):
         source, self.object = (os.path.join(self.folder, f"driver.{it}") for it in ("ys", "yo"))
@@ -107,23 +115,37 @@ class Lab:
         """The bytes of the function, or None where it isn't assembled."""
         answer = self.assemble(1)
         if answer.status != 0:
-            found = re.search(r":(\d+): (.*)", answer.err)
-            before = driver("", 1).split("lab_begin:\n")[0].count("\n") + 1
-            print(f"the function, line {int(found[1]) - before}: {found[2]}" if found else answer.err)
+            print(self.refused(answer.err))
             return None
         at = {name: int(re.search(rf"^0x([0-9a-f]+):.*\| {name}:", answer.out, re.M)[1], 16) for name in ("lab_begin", "lab_end", "lab_from", "lab_to")}
         return at["lab_end"] - at["lab_begin"]
+
+    def refused(self, said):
+        """What the assembler says of the driver, as it is for the function."""
+        found = re.search(r":(\d+): (.*)", said)
+        if not found:
+            return said.strip().replace(os.path.join(self.folder, "driver.ys"), self.source) or "the assembler gives no answer"
+        line, reason = int(found[1]) - driver("", 1).split("lab_begin:\n")[0].count("\n") - 1, found[2]
+        lines = self.function.split("\n")
+        if line < 1:
+            return f"{self.source}: it defines no label `ncopy`"
+        if line > len(lines):
+            return f"{self.source}: with the labels `lab_..` and the data that are put behind it: {reason}"
+        hint = " (`iaddq` needs `--full`)" if "iaddq" in lines[line - 1].split("#")[0] and not self.flags else ""
+        return f"the function, line {line}: {reason}{hint}"
 
     def wrong(self, length):
         """What is wrong with the copy of so many words, under `yis` and under `psim`."""
         listing = self.assemble(length).out
         at = {name: int(re.search(rf"^0x([0-9a-f]+):.*\| {name}:", listing, re.M)[1], 16) for name in ("lab_from", "lab_to", "lab_behind")}
-        options = [self.object, "--mem", MEMORY, *self.flags, "--limit", "100000"]
+        limit = 1000 * (length + 1)
+        options = [self.object, "--mem", MEMORY, *self.flags, "--limit", str(limit)]
         for name, answer in (("yis", program.run("yis", *options)), ("psim", program.run("psim", self.path, *options))):
             found = re.search(r"^Ran (\d+) cycles", answer.out, re.M)
             if found:
                 self.cycles[length] = int(found[1])
-            fault = self.fault(answer.out, length, at)
+            ends = re.search(r"Status 'AOK'", answer.out) is None
+            fault = self.fault(answer.out, length, at) if ends else f"it doesn't end within {limit} {'steps' if name == 'yis' else 'cycles'}"
             if fault:
                 yield f"length {length}, {name}: {fault}"
 

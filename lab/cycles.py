@@ -1,5 +1,6 @@
 """lab cycles HCL OBJ: where the cycles of a run went: when each instruction retires, what waited before it and why, and the CPI."""
 import re
+import sys
 
 import explain
 import hcl
@@ -13,16 +14,22 @@ CAUSES = [FILL, "load/use", "no forwarding", "mispredicted jumps", "returns", "o
 
 
 def main(words):
-    found = program.options(words, ("--full", "--sum"))
+    found = program.options(words, ("--full", "--sum"), ("--mem", "--limit"))
     if not found or len(found[0]) != 2:
-        print("usage: lab cycles HCL OBJ [--full] [--sum]")
+        print("usage: lab cycles HCL OBJ [--full] [--sum] [--mem N] [--limit N]")
         return 2
-    (path, object_path), flags, _ = found
+    (path, object_path), flags, numbers = found
+    memory, most = numbers.get("--mem", 64), numbers.get("--limit", 1)
+    if memory % 8 or not 64 <= memory <= 1048576 or not 1 <= most <= 100000000:
+        print("lab: `--mem` takes a multiple of 8 from 64 to 1048576, and `--limit` a number from 1 to 100000000", file=sys.stderr)
+        return 2
     program.ready()
     given, design = ["--full"] if "--full" in flags else [], explain.load(path)[1]
+    given += ["--mem", str(numbers["--mem"])] if "--mem" in numbers else []
+    limit = ["--limit", str(numbers["--limit"])] if "--limit" in numbers else []
     if design and t.datapath(design) != "pipe":
-        return sequential(t.datapath(design), path, object_path, given)
-    run = Run(path, object_path, given)
+        return sequential(t.datapath(design), path, object_path, [*given, *limit])
+    run = Run(path, object_path, given, limit)
     if run.problem:
         print(run.problem)
         return 1
@@ -43,16 +50,21 @@ def sequential(kind, path, object_path, given):
     if not found:
         print(answer.err.strip() or "the program gave no answer")
         return 1
-    print(f"{found[1]} cycles for {found[1]} instructions, to the end with {found[2]}: a sequential processor takes one cycle for each")
+    print(f"{found[1]} cycles for {found[1]} instructions, {end(found[2])}: a sequential processor takes one cycle for each")
     return 0
+
+
+def end(status):
+    """How a run ended: only at the limit is the status still AOK."""
+    return "cut off at the limit" if status == "AOK" else f"to the end with {status}"
 
 
 class Run:
     """A run of a program under a pipeline."""
 
-    def __init__(self, path, object_path, flags):
+    def __init__(self, path, object_path, flags, limit):
         self.path, self.object, self.flags, self.known = path, object_path, flags, {0: 0}
-        answer = program.run("psim", path, object_path, "--trace", *flags)
+        answer = program.run("psim", path, object_path, "--trace", *flags, *limit)
         found = re.search(r"^Ran (\d+) cycles, retired (\d+)", answer.out, re.M)
         self.problem = None if found else answer.err.strip() or "psim gave no answer"
         if found:
@@ -145,8 +157,8 @@ class Run:
         for cause in CAUSES:
             if self.spent[cause]:
                 print(f"{self.spent[cause]:>7}  {cause}")
-        end = self.total - self.retired - sum(self.spent.values())
-        if end:
-            print(f"{end:>7}  after the last instruction")
+        left = self.total - self.retired - sum(self.spent.values())
+        if left:
+            print(f"{left:>7}  after the last instruction")
         cpi = f": {self.total / self.retired:.2f} cycles per instruction" if self.retired else ""
-        print(f"{self.total:>7}  cycles for {self.retired} instructions, to the end with {self.ends}{cpi}")
+        print(f"{self.total:>7}  cycles for {self.retired} instructions, {end(self.ends)}{cpi}")

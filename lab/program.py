@@ -80,7 +80,8 @@ def options(words, flags=(), numbers=()):
             found.add(it)
         elif it in numbers:
             number = next(words, "")
-            if not number.isdigit():
+            # (longer ones are numbers that no option takes)
+            if not re.fullmatch("[0-9]{1,40}", number):
                 return None
             given[it] = int(number)
         elif it.startswith("--"):

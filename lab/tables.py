@@ -40,9 +40,17 @@ DEFINED = {
 def datapath(design):
     """The datapath that a file is for, by the names that it defines."""
     names = set(design.by_name)
-    if not names:
-        return "pipe"
+    return datapath_of(names) if names else "pipe"
+
+
+def datapath_of(names):
     return max(("pipe", "seq", "seqplus"), key=lambda it: (len(names & set(DEFINED[it])), it == "seq"))
+
+
+def not_asked(text, full):
+    """What to say of a file that names `IIADDQ` and is checked without `--full`; empty for others."""
+    is_named = re.search(r"\bIIADDQ\b", re.sub(r"#[^\n]*", "", text))
+    return "`iaddq` wasn't asked: `--full` asks it too." if is_named and not full else ""
 
 
 def register(number):
@@ -93,9 +101,3 @@ def constant(name, number):
     if short == str(number):
         return short
     return f"{short} ({number})" if short in CONSTANTS else f"{number} ({short})"
-
-
-def not_asked(text, full):
-    """What to say of a file that has `iaddq` where the check wasn't told so, or an empty text."""
-    has_it = re.search(r"\bIIADDQ\b", re.sub(r"#[^\n]*", "", text))
-    return "`iaddq` wasn't asked: `--full` asks it too." if has_it and not full else ""

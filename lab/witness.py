@@ -2,6 +2,7 @@
 import itertools
 import os
 import re
+import sys
 import tempfile
 
 import explain
@@ -11,7 +12,9 @@ import programs
 import swap
 import tables as t
 
-LIMIT, TRIES = 2000, 1200
+LIMIT, TRIES, MOST = 2000, 1200, 1000000
+# So many programs are tried in a second, on a busy machine.
+A_SECOND = 20
 
 
 def main(words):
@@ -20,29 +23,41 @@ def main(words):
         print("usage: lab witness HCL [--full] [--tries N] [--seed N]")
         return 2
     (path,), flags, numbers = found
-    _, design = explain.load(path)
+    tries, full = numbers.get("--tries", TRIES), "--full" in flags
+    if not 1 <= tries <= MOST:
+        print(f"lab: --tries {tries}: a number from 1 to {MOST} is wanted", file=sys.stderr)
+        return 2
+    text, design = explain.load(path)
     program.ready()
-    kind, full = t.datapath(design) if design else "pipe", "--full" in flags
+    kind = t.datapath(design) if design else "pipe"
     answer = program.run("check", kind, path, *(["--full"] if full else []), seconds=600)
     if answer.status not in (0, 1):
         print(answer.err.strip() or f"{path}: the check gives no answer")
         return 1
     print(f"{path}: {answer.out.splitlines()[0]}")
+    skipped = t.not_asked(text, full)
     if answer.status == 0:
-        print("So no program shows a mistake: this file is right for every one.")
-        return 0
+        print(f"So no program{' without `iaddq`' if skipped else ''} shows a mistake: this file is right for every one.")
+    if skipped:
+        print(skipped)
+    return 0 if answer.status == 0 else shown_by(path, kind, design, full, tries, numbers.get("--seed", 7))
+
+
+def shown_by(path, kind, design, full, tries, seed):
+    """Looks for a program that shows the mistake, or for why there is none, and tells it. Returns the exit status."""
     if kind == "seq" and (where := unseen(design, path, full)):
         print(f"No program shows it: {where} `icode` isn't what was read, but each other signal of the file is the same as")
         print("with what was read, so the machine does the same; and with `word icode = imem_icode;` the file is right.")
         return 1
+    print(f"Trying up to {tries} programs until one shows it: about {-(-tries // A_SECOND)} s at most.", flush=True)
     with tempfile.TemporaryDirectory() as folder:
         trial = Trial(path, kind, full, folder)
-        tries = itertools.chain(programs.special(), programs.pairs(full), programs.at_random(numbers.get("--seed", 7), full))
-        for number, lines in enumerate(itertools.islice(tries, numbers.get("--tries", TRIES)), 1):
+        drawn = itertools.chain(programs.special(), programs.pairs(full), programs.at_random(seed, full))
+        for number, lines in enumerate(itertools.islice(drawn, tries), 1):
             if trial.shows(lines):
                 tell(trial, shortest(trial, lines), number)
                 return 0
-    print(f"None of {numbers.get('--tries', TRIES)} programs shows the mistake. The rule is broken all the same: a program that shows it may be rare,")
+    print(f"None of {tries} programs shows the mistake. The rule is broken all the same: a program that shows it may be rare,")
     print("or there is none, for a No promises that the rule fails in the situation that it shows, and no more.")
     return 1
 
