@@ -20,7 +20,7 @@ def lab(folder, files, script, *words):
     return called(sys.executable, [f"{TOP}/lab/{script}", *words], folder, files)
 
 
-WITNESS = "`lab/lab witness mine.hcl` looks for a program that shows it."
+HINT = "`lab/lab witness mine.hcl` looks for a program that shows it."
 IADDQ = "`iaddq` wasn't asked: `--full` asks it too."
 DEEP = b"bool set_cc = " + b"(" * 30000 + b"1" + b")" * 30000 + b";\n"
 UNPAIRED = b"bool F_bubble = 0\n\n# F waits\nbool F_stall = 1;\n"
@@ -41,14 +41,14 @@ def shown(folder, name, body):
 def answers(folder):
     """What is shown below a No: the line that is wrong, and what its value goes by."""
     wrong = changed(design("fu"), "set_cc", "0")
-    yield "the hint has --full", WITNESS.replace("mine.hcl", "mine.hcl --full"), explained(folder, wrong, "--full")[1][-1]
-    yield "iaddq isn't asked: a no", [WITNESS, "", IADDQ], explained(folder, wrong)[1][-3:]
+    yield "the hint has --full", HINT.replace("mine.hcl", "mine.hcl --full"), explained(folder, wrong, "--full")[1][-1]
+    yield "iaddq isn't asked: a no", [HINT, "", IADDQ], explained(folder, wrong)[1][-3:]
     yield "iaddq isn't asked: a yes", (0, IADDQ), (lambda it: (it[0], it[1][-1]))(explained(folder, design("fu")))
     yield "iaddq in a comment", False, IADDQ in explained(folder, "# IIADDQ\n" + design("std"))[1]
     lines = ["  M_stall is 0", "    mine.hcl:136: bool M_stall = 0;", "  M_bubble is 0"]
-    yield "M isn't bubbled", [*lines, "    mine.hcl:139: bool M_bubble = 0;", "", WITNESS], shown(folder, "M_bubble", "0")[-6:]
+    yield "M isn't bubbled", [*lines, "    mine.hcl:139: bool M_bubble = 0;", "", HINT], shown(folder, "M_bubble", "0")[-6:]
     body = "m_stat in { SHLT } || W_stat in { SHLT }"
-    lines += [f"    mine.hcl:139: bool M_bubble = {body};", "      where m_stat is SADR (mine.hcl:92)", "", WITNESS]
+    lines += [f"    mine.hcl:139: bool M_bubble = {body};", "      where m_stat is SADR (mine.hcl:92)", "", HINT]
     yield "M is bubbled for a halt alone", lines, shown(folder, "M_bubble", body)[-7:]
     lines = ["  F_stall is 0", "    mine.hcl:117: bool F_stall = 0;", "  D_stall is 1"]
     lines += ["    mine.hcl:120: bool D_stall = E_icode in { IMRMOVQ, IPOPQ } && E_dstM in { d_srcA, d_srcB };"]
@@ -61,13 +61,13 @@ def answers(folder):
 def values(folder):
     """The signals behind `where`: those of the guards up to the case that is taken."""
     lines = ["  set_cc is 1; 0 is wanted", "    mine.hcl:71: bool set_cc = E_icode == IOPQ && !m_stat in { SADR, SINS, SHLT } && !W_stat in {"]
-    lines += ["        SADR, SINS, SHLT };", "      where m_stat is SAOK (mine.hcl:92)", "", WITNESS]
+    lines += ["        SADR, SINS, SHLT };", "      where m_stat is SAOK (mine.hcl:92)", "", HINT]
     yield "m_stat without dmem_error", lines, shown(folder, "m_stat", "M_stat")
     where = "      where d_srcA is %rax (mine.hcl:34), e_dstE is %rax (mine.hcl:77)"
-    yield "e_dstE without the condition", ["         ];", where, "", WITNESS], shown(folder, "e_dstE", "E_dstE")[-4:]
+    yield "e_dstE without the condition", ["         ];", where, "", HINT], shown(folder, "e_dstE", "E_dstE")[-4:]
     lines = ["  f_stat is SINS (4); SAOK (1) is wanted", "    mine.hcl:20: word f_stat = [", "         imem_error : SADR;", "      => !instr_valid : SINS;"]
     lines += ["         f_icode == IHALT : SHLT;", "         1 : SAOK;", "         ];"]
-    lines += ["      where instr_valid is 0 (mine.hcl:16), f_icode is IRET (mine.hcl:10)", "", WITNESS]
+    lines += ["      where instr_valid is 0 (mine.hcl:16), f_icode is IRET (mine.hcl:10)", "", HINT]
     body = "f_icode in { INOP, IHALT, IRRMOVQ, IIRMOVQ, IRMMOVQ, IMRMOVQ,\n IOPQ, IJXX, ICALL, IPUSHQ, IPOPQ }"
     yield "no ret is valid", lines, shown(folder, "instr_valid", body)
     files = [("mine.hcl", changed(design("std"), "m_stat", "M_stat").encode())]
