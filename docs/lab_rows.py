@@ -43,7 +43,8 @@ def answers(folder):
     wrong = changed(design("fu"), "set_cc", "0")
     yield "the hint has --full", HINT.replace("mine.hcl", "mine.hcl --full"), explained(folder, wrong, "--full")[1][-1]
     yield "iaddq isn't asked: a no", [HINT, "", IADDQ], explained(folder, wrong)[1][-3:]
-    yield "iaddq isn't asked: a yes", (0, IADDQ), (lambda it: (it[0], it[1][-1]))(explained(folder, design("fu")))
+    status, lines, _ = explained(folder, design("fu"))
+    yield "iaddq isn't asked: a yes", (0, IADDQ), (status, lines[-1])
     yield "iaddq in a comment", False, IADDQ in explained(folder, "# IIADDQ\n" + design("std"))[1]
     lines = ["  M_stall is 0", "    mine.hcl:136: bool M_stall = 0;", "  M_bubble is 0"]
     yield "M isn't bubbled", [*lines, "    mine.hcl:139: bool M_bubble = 0;", "", HINT], shown(folder, "M_bubble", "0")[-6:]

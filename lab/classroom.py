@@ -11,8 +11,8 @@ import program
 import tables as t
 
 HEAD = ["file", "datapath", "verdict", "obligation", "fault", "settings", "cycles", "seconds"]
-# The largest number of an option, and the longest text that `y86` takes.
-MOST, LONGEST = 1000000, 65536
+# The longest text that `y86` takes.
+LONGEST = 65536
 
 
 def main(words):
@@ -22,7 +22,7 @@ def main(words):
         return 2
     places, flags, numbers = found
     wrong = [f"{it}: no such folder or file" for it in places if not os.path.lexists(it)]
-    wrong += [f"{name} {number}: a number from 1 to {MOST} is wanted" for name, number in numbers.items() if not 1 <= number <= MOST]
+    wrong += program.out_of_range(numbers)
     if wrong:
         say(*wrong)
         return 2

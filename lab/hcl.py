@@ -257,10 +257,12 @@ class Situation:
             return [parts] if form == "name" else []
         if form == "cases":
             taken = self.taken(node)
-            inner = [guard for guard, _ in parts[: taken + 1 if taken in range(len(parts)) else None]]
-            inner += [parts[taken][1]] if taken in range(len(parts)) else []
+            case = [] if taken in (None, -1) else [parts[taken]]
+            looked_at = parts[: taken + 1] if case else parts
+            inner = [guard for guard, _ in looked_at] + [value for _, value in case]
         elif form in ("or", "and"):
-            inner = [it for it in parts if self.joined([self.value(it)], int(form == "or")) == int(form == "or")][:1] or parts
+            truths = [(it, self.value(it)) for it in parts]
+            inner = [it for it, truth in truths if truth is not None and bool(truth) == (form == "or")][:1] or parts
         elif form == "in":
             left, members = self.value(parts[0]), parts[1]
             inner = [parts[0], *([it for it in members if self.compared("==", left, self.value(it))][:1] or members)]

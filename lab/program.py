@@ -89,3 +89,8 @@ def options(words, flags=(), numbers=()):
         else:
             rest.append(it)
     return rest, found, given
+
+
+def out_of_range(numbers, most=1000000):
+    """What to say of the options whose number isn't one from 1 to the largest."""
+    return [f"{name} {number}: a number from 1 to {most} is wanted" for name, number in numbers.items() if not 1 <= number <= most]

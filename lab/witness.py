@@ -12,7 +12,7 @@ import programs
 import swap
 import tables as t
 
-LIMIT, TRIES, MOST = 2000, 1200, 1000000
+LIMIT, TRIES = 2000, 1200
 # So many programs are tried in a second, on a busy machine.
 A_SECOND = 20
 
@@ -24,8 +24,9 @@ def main(words):
         return 2
     (path,), flags, numbers = found
     tries, full = numbers.get("--tries", TRIES), "--full" in flags
-    if not 1 <= tries <= MOST:
-        print(f"lab: --tries {tries}: a number from 1 to {MOST} is wanted", file=sys.stderr)
+    wrong = program.out_of_range({"--tries": tries})
+    if wrong:
+        print(f"lab: {wrong[0]}", file=sys.stderr)
         return 2
     text, design = explain.load(path)
     program.ready()
