@@ -1,7 +1,8 @@
 -- What a certificate of a file for PIPE has to show at settings, and what it shows.
 use Rattle.std.specs.Prelude.{ℕ, ◌≡◌, ◌+◌, ◌<◌, true, cond, List, length, get_or}
 use Rattle.y86_base.specs.declared.parts.Variant.{Variant}
-use Rattle.y86_isa.specs.Run.{IsImage, Pure}
+use Rattle.y86_isa.specs.Run.{IsImage}
+use Rattle.pure_runs.specs.Near.{NearPure}
 use Rattle.hcl_types.specs.Tables.{IsBound, IsOrderOf}
 use Rattle.hcl_types.specs.declared.term.Term.{Term}
 use Rattle.dp_signals.specs.PipeTable.{pipe_rows}
@@ -50,4 +51,4 @@ CertifiedFilesHold =
 abbrev pub CertifiedFilesRefine : Type 0
 CertifiedFilesRefine =
     (v : Variant) (terms : List Term) (ids : List ℕ) (s : Settings) (g : Demands) (text : List ℕ) (image : List ℕ) (k : ℕ) →
-    IsBound pipe_rows terms → IsOrderOf pipe_rows terms ids → DemandsFor v terms s g → CertOk g text → IsImage image → Pure v image k → Refines v terms image k
+    IsBound pipe_rows terms → IsOrderOf pipe_rows terms ids → DemandsFor v terms s g → CertOk g text → IsImage image → NearPure v image k → Refines v terms image k

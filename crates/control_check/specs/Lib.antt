@@ -2,3 +2,4 @@ pub mod SeqVerdicts
 pub mod PipeVerdicts
 pub mod Accepted
 pub mod Orders
+pub mod Tails

@@ -1,7 +1,8 @@
 -- Verdicts on HCL files for PIPE.
 use Rattle.std.specs.Prelude.{◌≡◌, ℕ, ◌<◌, Bool, true, List, length, get_or}
 use Rattle.y86_base.specs.declared.parts.Variant.{Variant}
-use Rattle.y86_isa.specs.Run.{IsImage, Pure}
+use Rattle.y86_isa.specs.Run.{IsImage}
+use Rattle.pure_runs.specs.Near.{NearPure}
 use Rattle.nets.specs.Nets.{Gates}
 use Rattle.hcl_types.specs.declared.term.Term.{Term}
 use Rattle.dp_signals.specs.PipeTable.{pipe_rows}
@@ -55,7 +56,7 @@ IsPipeVerdict v terms (No rule valuation atoms) = RejectsPipe v terms rule valua
 abbrev pub IsPipeFault : List Term → CheckFault → Type 0
 IsPipeFault terms f = IsFault pipe_rows terms f
 
--- after any number of cycles on any image whose instructions fetch no byte that an earlier one stored, the pipeline is where the
--- instructions are
+-- after any number of cycles on any image whose instructions fetch no byte that one of the three before them stored, the pipeline is
+-- where the instructions are
 abbrev pub RefinesPipe : Variant → List Term → Type 0
-RefinesPipe v terms = (image : List ℕ) (k : ℕ) → IsImage image → Pure v image k → Refines v terms image k
+RefinesPipe v terms = (image : List ℕ) (k : ℕ) → IsImage image → NearPure v image k → Refines v terms image k

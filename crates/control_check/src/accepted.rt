@@ -63,7 +63,7 @@ impl<'a> Accepted<'a> {
 }
 
 /// The design, if the verdict on it is yes. Then its pipeline refines the run of instructions on every image whose
-/// instructions fetch no byte that an earlier one stored.
+/// instructions fetch no byte that one of the three before them stored.
 pub fn accept_pipe<'a>(
     alloc: Global,
     variant: Variant,

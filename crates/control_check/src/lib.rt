@@ -9,6 +9,8 @@ mod verdict;
 
 pub use accepted::{Accepted, accept_pipe};
 pub use laws::law_of_settings;
-pub use pipe_verdict::{check_pipe, file_rules, file_settings};
+pub use pipe_verdict::{
+    Ruled, check_pipe, decide_pipe, file_rules, file_settings, rules_at_settings, rules_true,
+};
 pub use verdict::{Verdict, check_seq};
 pub use verdicts::{CheckFault, Failure, decide, told};

@@ -1,9 +1,10 @@
 //! The verdict on a design for PIPE: its settings, and then the rules at them.
-ghost use Rattle.std.specs.Prelude.{◌≡◌, ◌<◌, ◌≤◌, ◌+◌, ◌++◌, ◌∷◌, [], ℕ, IfErr, IfOk, OnOk, get_or, length, false, not, true};
+ghost use Rattle.std.specs.Prelude.{◌≡◌, ◌<◌, ◌≤◌, ◌+◌, ◌++◌, ◌∷◌, [], ℕ, IfErr, IfOk, OnOk, Some, drop, get_or, length, slice_get, false, not, true};
 ghost use Rattle.dp_signals.specs.PipeTable.{pipe_rows};
 ghost use Rattle.hcl_types.specs.Tables.{IsBound, IsOrderOf};
 ghost use Rattle.ctl_atoms.specs.Atoms.{AreAtoms};
 ghost use Rattle.verdicts.specs.Decisions.{AreGatesOf, IsDecision};
+ghost use Rattle.control_check.specs.Tails.{AreNumbered, AreTold, IsFilled};
 ghost use Rattle.decisions.specs.Decisions.{AreDecided, AreGatesOf as AreGates, IsDecided};
 ghost use Rattle.control_check.specs.PipeVerdicts.{AreFileRules, AreSettings, HasGates, IsPipeFault, IsPipeVerdict, RefinesPipe};
 ghost use Rattle.control_check.specs.SeqVerdicts.{is_yes};
@@ -183,7 +184,7 @@ pub fn file_settings(
 }
 
 /// The decision on PIPE's rules.
-fn decide_pipe(alloc: Global, net: &Net, list: &[Rule]) -> Result<Option<Failure>, Memory>
+pub fn decide_pipe(alloc: Global, net: &Net, list: &[Rule]) -> Result<Option<Failure>, Memory>
     requires gates { AreGatesOf net.now list.now }
     ensures { IfOk result (IsDecision net.now list.now) }
 {
@@ -193,13 +194,13 @@ fn decide_pipe(alloc: Global, net: &Net, list: &[Rule]) -> Result<Option<Failure
 
 /// The rules of a file, and the settings at which they are asked.
 #[derive(Drop)]
-struct Ruled {
-    settings: Settings,
-    rules: Rules,
+pub struct Ruled {
+    pub settings: Settings,
+    pub rules: Rules,
 }
 
 /// Settles a file, and makes its rules at its settings.
-fn rules_at_settings(
+pub fn rules_at_settings(
     alloc: Global,
     variant: Variant,
     design: &Design,
@@ -221,6 +222,91 @@ fn rules_at_settings(
     }
 }
 
+/// Puts a truth behind the others.
+fn put_truth(truths: &mut Vec<bool>, truth: bool) -> Result<(), Memory>
+    ensures { OnOk result (truths.new.items ≡ truths.old.items ++ truth ∷ []) }
+{
+    match truths.push(truth) {
+        Ok(()) => Ok(()),
+        Err(_) => Err(Memory),
+    }
+}
+
+/// Puts `true` behind the others, until there are so many.
+#[tactic(auto, using(crate::proofs::Tails::filled_none, crate::proofs::Tails::filled_more))]
+fn fill(truths: &mut Vec<bool>, until: usize) -> Result<(), Memory>
+    requires { length truths.old.items ≤ until }
+    ensures { OnOk result (IsFilled truths.old.items until truths.new.items) }
+{
+    let from = truths.len();
+    for _k in from..until {
+        match put_truth(truths, true) {
+            Ok(()) => {}
+            Err(e) => return Err(e),
+        }
+    }
+    Ok(())
+}
+
+/// How many truths there are.
+fn how_many(truths: &Vec<bool>) -> usize
+    ensures { result ≡ length truths.now.items }
+{
+    truths.len()
+}
+
+/// The rules from one on.
+fn behind(list: &[Rule], from: usize) -> &[Rule]
+    requires { from ≤ length list.now }
+    ensures { result.now ≡ drop from list.now }
+{
+    &list[from..]
+}
+
+/// Tells the rules up to the next one that is false of some valuation.
+#[tactic(auto, using(crate::proofs::Tails::gates_from, crate::proofs::Tails::all_left, crate::proofs::Tails::next_left, crate::proofs::Tails::next_more))]
+fn tell_next(alloc: Global, net: &Net, list: &[Rule], truths: &mut Vec<bool>) -> Result<(), Memory>
+    requires gates { AreGatesOf net.now list.now }
+    requires numbers { AreNumbered list.now }
+    requires some { length truths.old.items < length list.now }
+    requires told { AreTold net.now list.now truths.old.items }
+    ensures told { OnOk result (AreTold net.now list.now truths.new.items) }
+    ensures more { OnOk result (length truths.old.items < length truths.new.items) }
+{
+    let from = how_many(truths);
+    match decide_pipe(alloc, net, behind(list, from))? {
+        None => {
+            fill(truths, list.len())?;
+            Ok(())
+        }
+        Some(failure) => {
+            fill(truths, (failure.rule as usize).saturating_sub(1))?;
+            put_truth(truths, false)?;
+            Ok(())
+        }
+    }
+}
+
+/// For each of PIPE's rules whether it is true of every valuation.
+#[tactic(auto, using(crate::proofs::Tails::none_told))]
+pub fn rules_true(alloc: Global, net: &Net, list: &[Rule]) -> Result<Vec<bool>, Memory>
+    requires gates { AreGatesOf net.now list.now }
+    requires numbers { AreNumbered list.now }
+    ensures size { IfOk result (λ truths. length truths.items ≡ length list.now) }
+    ensures told { IfOk result (λ truths. AreTold net.now list.now truths.items) }
+{
+    let mut truths: Vec<bool> = Vec::new(alloc);
+    for _k in 0..list.len() {
+        if truths.len() < list.len() {
+            match tell_next(alloc, net, list, &mut truths) {
+                Ok(()) => {}
+                Err(e) => return Err(e),
+            }
+        }
+    }
+    Ok(truths)
+}
+
 /// The 27 obligations of an HCL file for PIPE at its settings, in their order, as gates over a net with a variable for each bit
 /// of a control valuation.
 pub fn file_rules(
@@ -239,7 +325,7 @@ pub fn file_rules(
 }
 
 /// The verdict on an HCL file for PIPE. Where it is yes, the file's machine refines the run of instructions on every
-/// image whose instructions fetch no byte that an earlier one stored.
+/// image whose instructions fetch no byte that one of the three before them stored.
 pub fn check_pipe(
     alloc: Global,
     variant: Variant,

@@ -5,13 +5,14 @@ use Rattle.y86_base.specs.declared.parts.Stat.TheVariants.{Aok}
 use Rattle.y86_base.specs.declared.parts.Variant.{Variant}
 use Rattle.y86_isa.specs.Blocks.{behind, condition, constant_at, fetch_status, fetched, field_a, field_b, next_address, reading}
 use Rattle.y86_isa.specs.RowTests.{carries_p, is_branch, is_loaded}
-use Rattle.y86_isa.specs.Run.{IsImage, Pure}
+use Rattle.y86_isa.specs.Run.{IsImage}
+use Rattle.pure_runs.specs.Near.{NearPure}
 use Rattle.y86_isa.specs.Table.{row}
 use Rattle.y86_isa.specs.declared.columns.Next.TheVariants.{Branch, Fall, Itself, Loaded, Target}
 use Rattle.y86_isa.specs.declared.columns.Next.{Next}
 use Rattle.y86_isa.specs.declared.fetch.Fetched.{Fetched}
 use Rattle.y86_isa.specs.declared.machine.Rec.{Rec}
-use Rattle.y86_isa.proofs.Purity.{fetched_early}
+use Rattle.pure_runs.proofs.Near.{fetched_near}
 use Rattle.run_laws.specs.Instructions.{Live, before, doing, row_of, stops_at}
 use Rattle.run_laws.proofs.Walk.{fetches, follows, live_aok, live_next, pc_next}
 use Rattle.dp_signals.specs.PipeCycle.{loaded_d}
@@ -102,13 +103,17 @@ pub or_right : (a b : Bool) → b ≡ true → (a || b) ≡ true
 or_right true b h = refl
 or_right false b h = h
 
-before_early : (x : Given) (n i j : ℕ) → IsImage x.image → Pure x.v x.image n → i < n → j ≤ i → (before x.v x.image i).stat ≡ Aok →
+before_near : (x : Given) (n i j : ℕ) → IsImage x.image → NearPure x.v x.image n → i < n → j ≤ i → i ≤ j + 3 → (before x.v x.image i).stat ≡ Aok →
     fetched x.v (before x.v x.image j).mem (before x.v x.image i).pc ≡ fetched x.v (before x.v x.image i).mem (before x.v x.image i).pc
 unfolding before
-before_early x n i j image pure lt le aok = fetched_early x.v x.image n i j image pure lt le aok
+before_near x n i j image pure lt le near aok = fetched_near x.v x.image n i j image pure lt le near aok
+
+at_most_one : (b : Bool) → count b ≤ 1
+at_most_one true = omega arith
+at_most_one false = omega arith
 
 module _ (x : Given) (n t : ℕ) (c : Config) (p : PipeState) (f : ℕ → ℕ) (rs : List Rec)
-    (image : IsImage x.image) (pure : Pure x.v x.image n) (lt : t < n)
+    (image : IsImage x.image) (pure : NearPure x.v x.image n) (lt : t < n)
     (i : Inv x t c p rs) (st : PipeHolds p f) (b : PipeHardware x.v p f)
     (valm : is_good c.m ≡ true → f name.m_valM ≡ (doing x.v x.image (in_m c)).val_m)
     (q : FetchFacts x.v x.s f) (gf : GoodFetch x.v x.s p f c (view_of x c)) where
@@ -209,9 +214,13 @@ module _ (x : Given) (n t : ℕ) (c : Config) (p : PipeState) (f : ℕ → ℕ) 
   early : in_m c ≤ in_f c
   early = omega arith
 
-  -- the one use of Pure
+  -- the instructions that haven't stored stand in D, E and M
+  near : in_f c ≤ in_m c + 3
+  near = omega (arith, at_most_one (is_good c.m), at_most_one (is_good c.e), at_most_one (is_good c.d))
+
+  -- the one use of NearPure
   pub fetch_same : fetched x.v p.mem (f name.f_pc) ≡ fetched x.v (before x.v x.image (in_f c)).mem (before x.v x.image (in_f c)).pc
-  fetch_same = rw (i.mem, fetch_pc) (before_early x n (in_f c) (in_m c) image pure (omega (arith, i.few)) early (live_aok x.v x.image (in_f c) fetch_live))
+  fetch_same = rw (i.mem, fetch_pc) (before_near x n (in_f c) (in_m c) image pure (omega (arith, i.few)) early near (live_aok x.v x.image (in_f c) fetch_live))
 
   -- what D loads is instruction in_f
   pub fetch_words : InD x (in_f c) (loaded_d p f)

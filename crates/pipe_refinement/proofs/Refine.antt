@@ -4,7 +4,8 @@ use Rattle.std.proofs.lemmas.Bool.{false≢true}
 use Rattle.y86_base.specs.declared.parts.Stat.TheVariants.{Aok, Pip}
 use Rattle.y86_base.specs.declared.parts.Stat.{Stat}
 use Rattle.y86_isa.specs.Machine.{is_aok}
-use Rattle.y86_isa.specs.Run.{IsImage, Pure, records, records_from, run, run_from}
+use Rattle.pure_runs.specs.Near.{NearPure}
+use Rattle.y86_isa.specs.Run.{IsImage, records, records_from, run, run_from}
 use Rattle.run_laws.specs.Instructions.{before, stops_at}
 use Rattle.hcl_types.specs.declared.term.Term.{Term}
 use Rattle.dp_signals.specs.PipeCycle.{ending}
@@ -68,7 +69,7 @@ pub record Running (x : Given) (k : ℕ) (p : Pipe) : Type 0 where
   pub aok : p.end ≡ Aok
   pub soon : k + dist config ≤ 5 * config.retired + 5
 
-module _ (x : Given) (terms : List Term) (n : ℕ) (image : IsImage x.image) (pure : Pure x.v x.image n) (gives : MeetsFacts x terms n) where
+module _ (x : Given) (terms : List Term) (n : ℕ) (image : IsImage x.image) (pure : NearPure x.v x.image n) (gives : MeetsFacts x terms n) where
   ends_aok : (f : ℕ → ℕ) (s : Stat) → ending f ≡ Going → end_by (ending f) s ≡ Aok
   ends_aok f s e = rw e refl
 

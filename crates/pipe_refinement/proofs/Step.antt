@@ -4,7 +4,8 @@ use Rattle.std.specs.Option.{option_to_list}
 use Rattle.std.proofs.lemmas.Bool.{false≢true, and_parts, cases_lt, eqb-true, eq-eqb, ne_eqb, cases_eq}
 use Rattle.y86_isa.specs.Blocks.{fetched}
 use Rattle.y86_isa.specs.RowTests.{stores_a}
-use Rattle.y86_isa.specs.Run.{IsImage, Pure}
+use Rattle.y86_isa.specs.Run.{IsImage}
+use Rattle.pure_runs.specs.Near.{NearPure}
 use Rattle.y86_isa.specs.Table.{row}
 use Rattle.y86_isa.specs.declared.machine.Rec.{Rec}
 use Rattle.run_laws.specs.Instructions.{Live, before, doing, stops_at}
@@ -80,7 +81,7 @@ unfolding path
 path_d v g h = sym (rw g refl) ∙ h
 
 module _ (x : Given) (n t : ℕ) (c : Config) (p : PipeState) (f : ℕ → ℕ) (rs : List Rec) (fetch_good : Bool)
-    (image : IsImage x.image) (pure : Pure x.v x.image n) (lt : t < n)
+    (image : IsImage x.image) (pure : NearPure x.v x.image n) (lt : t < n)
     (i : Inv x t c p rs) (st : PipeHolds p f) (b : PipeHardware x.v p f)
     (a : AlwaysFacts x.v p f c) (q : CycleFacts x.v x.s p f c (view_of x c) fetch_good (slot_of x Good (in_f c)))
     (run_on : is_good c.w ≡ true → stops_at x.v x.image (in_w c) ≡ false) where

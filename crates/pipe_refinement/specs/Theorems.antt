@@ -1,7 +1,8 @@
 -- The refinement, over what the values of each cycle meet.
 use Rattle.std.specs.Prelude.{◌≡◌, ℕ, ◌<◌, Bool, true, false, List}
 use Rattle.y86_isa.specs.declared.machine.Rec.{Rec}
-use Rattle.y86_isa.specs.Run.{IsImage, Pure}
+use Rattle.y86_isa.specs.Run.{IsImage}
+use Rattle.pure_runs.specs.Near.{NearPure}
 use Rattle.run_laws.specs.Instructions.{stops_at}
 use Rattle.hcl_types.specs.declared.term.Term.{Term}
 use Rattle.dp_signals.specs.PipeEquations.{Solves}
@@ -23,8 +24,9 @@ MeetsFacts x terms n =
     (t : ℕ) (c : Config) (p : PipeState) (rs : List Rec) (f : ℕ → ℕ) →
     t < n → Inv x t c p rs → Solves x.v terms p f → HasFacts x c p f
 
--- a design whose cycles have the facts refines the run of instructions on every pure image
+-- a design whose cycles have the facts refines the run of instructions on every image whose instructions fetch nothing that one of the
+-- three before them stored
 abbrev pub FactsRefine : Type 0
 FactsRefine =
     (x : Given) (terms : List Term) (n : ℕ) →
-    IsImage x.image → Pure x.v x.image n → MeetsFacts x terms n → Refines x.v terms x.image n
+    IsImage x.image → NearPure x.v x.image n → MeetsFacts x terms n → Refines x.v terms x.image n

@@ -12,7 +12,7 @@ pub fn law_of_motion()
 {}
 
 /// A design whose cycles meet what the obligations say refines the run of instructions, on every image whose instructions fetch nothing
-/// that was stored before.
+/// that one of the three before them stored.
 pub fn law_of_refinement()
     ensures { FactsRefine }
 {}

@@ -1,5 +1,5 @@
 //! The pipeline refines the run of instructions: where the obligations hold of a design, its pipelined machine computes what the
-//! instructions compute, for every image whose instructions fetch nothing that was stored before.
+//! instructions compute, for every image whose instructions fetch nothing that one of the three before them stored.
 #![tactic(auto)]
 
 mod laws;

@@ -16,6 +16,7 @@ use Rattle.prog_gen.specs.Programs.{program}
 use Rattle.program_runs.specs.Laws.{RunsToHalt}
 use Rattle.program_runs.proofs.Whole.{runs}
 use Rattle.pipe_runs.specs.BothWays.{GoesBothWays, RunsAlike, run_limit}
+use Rattle.pipe_runs.specs.Ends.{EndsAs, StopsIn}
 use Rattle.pipe_runs.specs.RunsTo.{Goes, RunsTo, end_of}
 use Rattle.pipe_runs.specs.declared.both.BothWays.{BothWays}
 
@@ -39,21 +40,21 @@ records_stay v image r (suc d) off =
     ∙ (ap (λ o. records v image (r + d) ++ option_to_list o) (retired-stopped v (run v image (r + d)) stopped)
     ∙ (append-nil (records v image (r + d)) ∙ records_stay v image r d off)))
 
--- the run of a program with so many records, the last of a halt
-halt_stops : (v : Variant) (image : List ℕ) (count : ℕ) → RunsToHalt v image count → is_aok (run v image count).stat ≡ false
-halt_stops v image count h = ap is_aok h.halted
+-- the run of a program that has stopped behind so many records
+stops_off : (v : Variant) (image : List ℕ) (count : ℕ) → StopsIn v image count → is_aok (run v image count).stat ≡ false
+stops_off v image count h = is_aok-from_not (run v image count).stat h.stopped
 
-run_behind : (v : Variant) (image : List ℕ) (count k : ℕ) → RunsToHalt v image count → count ≤ k → run v image k ≡ run v image count
+pub run_behind : (v : Variant) (image : List ℕ) (count k : ℕ) → StopsIn v image count → count ≤ k → run v image k ≡ run v image count
 run_behind v image count k h le =
     let sum : k ≡ count + (k - count) = omega arith in
-    ap (run v image) sum ∙ run_stays v image count (k - count) (halt_stops v image count h)
+    ap (run v image) sum ∙ run_stays v image count (k - count) (stops_off v image count h)
 
-records_behind : (v : Variant) (image : List ℕ) (count k : ℕ) → RunsToHalt v image count → count ≤ k → length (records v image k) ≡ count
+pub records_behind : (v : Variant) (image : List ℕ) (count k : ℕ) → StopsIn v image count → count ≤ k → length (records v image k) ≡ count
 records_behind v image count k h le =
     let sum : k ≡ count + (k - count) = omega arith in
-    ap (λ n. length (records v image n)) sum ∙ (ap length (records_stay v image count (k - count) (halt_stops v image count h)) ∙ h.records)
+    ap (λ n. length (records v image n)) sum ∙ (ap length (records_stay v image count (k - count) (stops_off v image count h)) ∙ h.records)
 
-few : (v : Variant) (image : List ℕ) (count k : ℕ) → RunsToHalt v image count → length (records v image k) ≤ count
+few : (v : Variant) (image : List ℕ) (count k : ℕ) → StopsIn v image count → length (records v image k) ≤ count
 few v image count k h =
     elim (cases_lt k count) [
       | inl lt ↦ omega (arith, length-records_from v (start image) k, lt)
@@ -61,7 +62,7 @@ few v image count k h =
     ]
 
 -- where it has stopped behind as many instructions as it has records, these are all
-all_of_them : (v : Variant) (image : List ℕ) (count r : ℕ) → RunsToHalt v image count → r ≡ length (records v image r) → is_aok (run v image r).stat ≡ false → r ≡ count
+all_of_them : (v : Variant) (image : List ℕ) (count r : ℕ) → StopsIn v image count → r ≡ length (records v image r) → is_aok (run v image r).stat ≡ false → r ≡ count
 all_of_them v image count r h whole off =
     elim (cases_lt r count) [
       | inl lt ↦ absurd (short lt)
@@ -95,10 +96,10 @@ off_stopped Ins h p = refl
 off_stopped Pip h p = absurd (p refl)
 off_stopped Bad h p = refl
 
--- a design that refines the run of instructions on an image, whose run has so many records, the last of a halt
+-- a design that refines the run of instructions on an image, whose run has stopped behind so many records
 record Refined (v : Variant) (terms : List Term) (image : List ℕ) (count : ℕ) : Type 0 where
   refines : (k : ℕ) → Refines v terms image k
-  halts : RunsToHalt v image count
+  halts : StopsIn v image count
 
 stopped_there : (v : Variant) (terms : List Term) (image : List ℕ) (count : ℕ) → Refined v terms image count → (p : Pipe) → PipeRun v terms image (5 * (count + 1)) p → has_stopped p.end ≡ true
 stopped_there v terms image count r p ran =
@@ -169,16 +170,28 @@ agrees v terms image count limit k p r runs_to room =
       end = rw (stops.registers, stops.flags, stops.pc, stops.stat, stops.memory) (ap (run v image) all);
     }
 
+pub ends_as : (v : Variant) (terms : List Term) (image : List ℕ) (count limit cycles : ℕ) (p : Pipe) → ((k : ℕ) → Refines v terms image k) → StopsIn v image count →
+    RunsTo v terms image limit cycles p → 5 * (count + 1) ≤ limit → EndsAs v image count cycles p
+ends_as v terms image count limit cycles p refines stops runs_to room =
+    let r : Refined v terms image count = record { refines = refines; halts = stops } in
+    let same : Agrees v image count p = agrees v terms image count limit cycles p r runs_to room in
+    record {
+      in_time = in_time v terms image count cycles p r runs_to.goes;
+      retired = (refines cycles).records p (pipe_run v terms image cycles p runs_to.goes) ∙ ap (records v image) same.retired_all;
+      end = same.end;
+    }
+
 pub runs_alike : (v : Variant) (terms : List Term) (n : ℕ) (b : BothWays) → 1 ≤ n → n ≤ 100000 → ((k : ℕ) → Refines v terms (program n) k) → GoesBothWays v terms n b → RunsAlike n b
 runs_alike v terms n b least most refines both =
     let image : List ℕ = program n in
     let halts : RunsToHalt v image (n + 1) = runs v n least most in
-    let r : Refined v terms image (n + 1) = record { refines = refines; halts = halts } in
+    let stops : StopsIn v image (n + 1) = record { records = halts.records; stopped = λ e. absurd (cc (halts.halted, e)) } in
+    let r : Refined v terms image (n + 1) = record { refines = refines; halts = stops } in
     let room : 5 * ((n + 1) + 1) ≤ run_limit n = omega arith in
     let enough : n + 1 ≤ run_limit n = omega arith in
     let same : Agrees v image (n + 1) both.end = agrees v terms image (n + 1) (run_limit n) b.cycles both.end r both.runs room in
-    let machine : run v image (run_limit n) ≡ run v image (n + 1) = run_behind v image (n + 1) (run_limit n) halts enough in
-    let steps : b.steps ≡ n + 1 = both.steps ∙ records_behind v image (n + 1) (run_limit n) halts enough in
+    let machine : run v image (run_limit n) ≡ run v image (n + 1) = run_behind v image (n + 1) (run_limit n) stops enough in
+    let steps : b.steps ≡ n + 1 = both.steps ∙ records_behind v image (n + 1) (run_limit n) stops enough in
     record {
       steps = steps;
       cycles = omega (arith, in_time v terms image (n + 1) b.cycles both.end r both.runs.goes);

@@ -1,2 +1,3 @@
 pub mod RunsTo
+pub mod Ends
 pub mod BothWays

@@ -6,5 +6,5 @@ mod laws;
 mod reports;
 
 pub use both::{BothWays, both_ways};
-pub use laws::law_of_both_ways;
+pub use laws::{law_of_both_ways, law_of_ends};
 pub use reports::same_reports;

@@ -2,7 +2,8 @@
 use Rattle.std.proofs.Common.{◌≡◌, ℕ, ◌<◌, ◌≤◌, inl, inr, Bool, true, false, not, ◌&&◌, ◌||◌, ◌==◌, List, refl, sym, ap, ◌∙◌, subst, arith}
 use Rattle.std.proofs.lemmas.Bool.{cases_Bool, false≢true, and_from}
 use Rattle.y86_isa.specs.Blocks.{condition, fetched}
-use Rattle.y86_isa.specs.Run.{IsImage, Pure}
+use Rattle.y86_isa.specs.Run.{IsImage}
+use Rattle.pure_runs.specs.Near.{NearPure}
 use Rattle.y86_isa.specs.declared.machine.Rec.{Rec}
 use Rattle.run_laws.specs.Instructions.{before, doing, stops_at}
 use Rattle.run_laws.proofs.Statuses.{one_is}
@@ -55,7 +56,7 @@ abbrev pub the_fields : Given → Config → PipeState → (ℕ → ℕ) → Fie
 the_fields x c p f = fields_at x c p f (f_line x c f)
 
 module _ (x : Given) (terms : List Term) (ids : List ℕ) (atoms : List Atom) (bound : IsBound pipe_rows terms) (order : IsOrderOf pipe_rows terms ids)
-    (holds : Holds x.v atoms (PipeControls terms) x.s) (n : ℕ) (image : IsImage x.image) (pure : Pure x.v x.image n) where
+    (holds : Holds x.v atoms (PipeControls terms) x.s) (n : ℕ) (image : IsImage x.image) (pure : NearPure x.v x.image n) where
   module _ (t : ℕ) (c : Config) (p : PipeState) (rs : List Rec) (f : ℕ → ℕ) (lt : t < n) (i : Inv x t c p rs) (s : Solves x.v terms p f) where
     st : PipeHolds p f
     st = pipe_holds x.v terms p f s

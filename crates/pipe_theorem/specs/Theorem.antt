@@ -1,7 +1,8 @@
 -- The refinement theorem: a file for PIPE whose obligations hold computes what the instructions compute.
 use Rattle.std.specs.Prelude.{ℕ, List}
 use Rattle.y86_base.specs.declared.parts.Variant.{Variant}
-use Rattle.y86_isa.specs.Run.{IsImage, Pure}
+use Rattle.y86_isa.specs.Run.{IsImage}
+use Rattle.pure_runs.specs.Near.{NearPure}
 use Rattle.hcl_types.specs.declared.term.Term.{Term}
 use Rattle.hcl_types.specs.Tables.{IsBound, IsOrderOf}
 use Rattle.dp_signals.specs.PipeTable.{pipe_rows}
@@ -16,9 +17,10 @@ abbrev pub MeetsObligations : Variant → List Term → List Atom → Settings �
 MeetsObligations v terms atoms s = Holds v atoms (PipeControls terms) s
 
 -- For every instruction set, design, settings, image and number of cycles: a design that is bound, has an order and meets the
--- obligations refines the run of instructions, where none of the first instructions fetches a byte that an earlier one stored.
+-- obligations refines the run of instructions, where none of the first instructions fetches a byte that one of the three before it
+-- stored.
 abbrev pub ObligationsRefine : Type 0
 ObligationsRefine =
     (v : Variant) (terms : List Term) (ids : List ℕ) (atoms : List Atom) (s : Settings) (image : List ℕ) (k : ℕ) →
     IsBound pipe_rows terms → IsOrderOf pipe_rows terms ids → MeetsObligations v terms atoms s →
-    IsImage image → Pure v image k → Refines v terms image k
+    IsImage image → NearPure v image k → Refines v terms image k

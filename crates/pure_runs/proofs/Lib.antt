@@ -1,2 +1,3 @@
 pub mod Purity
+pub mod Near
 pub mod Calls

@@ -36,12 +36,15 @@ not_both v m address (Some s) apart fetched inside = by (apart s refl)
     by (inl front) = absurd (omega (arith, front, fetched.from, inside.0, inside.1))
     by (inr behind) = absurd (omega (arith, behind, fetched.to, inside.0, inside.1))
 
+-- the same of the store of what retired
+pub pair_pure : (v : Variant) (m : Machine) (o : Option Rec) (address : ℕ) → ((r : Rec) (s : Store) → o ≡ Some r → r.store ≡ Some s → LiesApart v m s) →
+    IsFetched v m.mem m.pc address → IsStoredBy o address → ⊥
+pair_pure v m None address apart fetched stored = stored
+pair_pure v m (Some r) address apart fetched stored = not_both v m address r.store (λ s is. apart r s refl is) fetched stored
+
 pub pure_apart : (v : Variant) (image : List ℕ) (n : ℕ) → StoresApart v image n → Pure v image n
-pure_apart v image n apart i j address within earlier on fetched stored = by (retired v (run v image j)) refl stored
-  where
-    by : (o : Option Rec) → retired v (run v image j) ≡ o → IsStoredBy o address → ⊥
-    by None e inside = inside
-    by (Some r) e inside = not_both v (run v image i) address r.store (λ s is. apart i j r s within earlier on e is) fetched inside
+pure_apart v image n apart i j address within earlier on fetched stored =
+    pair_pure v (run v image i) (retired v (run v image j)) address (λ r s told is. apart i j r s within earlier on told is) fetched stored
 
 -- ---- where no byte of a store is fetched, it lies apart
 
@@ -130,10 +133,17 @@ stored_inside v m _ _ r s (stays e) is has = absurd (cc is)
 stored_inside v m _ _ r s (stops e w) is has = record_inside v m r s is has
 stored_inside v m _ _ r s (goes e w) is has = record_inside v m r s is has
 
-pub apart_pure : (v : Variant) (image : List ℕ) (n : ℕ) → Pure v image n → StoresApart v image n
-apart_pure v image n pure i j r s within earlier on told is =
+-- a store of step j lies apart from the instruction at step i where that fetches none of its bytes
+pub pair_apart : (v : Variant) (image : List ℕ) (i j : ℕ) (r : Rec) (s : Store) →
+    ((address : ℕ) → IsFetched v (run v image i).mem (run v image i).pc address → IsStoredBy (retired v (run v image j)) address → ⊥) →
+    retired v (run v image j) ≡ Some r → r.store ≡ Some s → LiesApart v (run v image i) s
+pair_apart v image i j r s neither told is =
     let inside : s.addr + 8 ≤ length (run v image j).mem = stored_inside v (run v image j) _ _ r s (advances v (run v image j)) told is in
     let here = length-run_from v (start image) i in
     let there = length-run_from v (start image) j in
     apart_unless_both v (run v image i) s (omega (arith, inside, here, there)) (λ address fetched stored.
-    pure i j address within earlier on fetched (subst (λ (o : Option Rec). IsStoredBy o address) (sym told) (subst (λ (o : Option Store). IsInStore o address) (sym is) stored)))
+    neither address fetched (subst (λ (o : Option Rec). IsStoredBy o address) (sym told) (subst (λ (o : Option Store). IsInStore o address) (sym is) stored)))
+
+pub apart_pure : (v : Variant) (image : List ℕ) (n : ℕ) → Pure v image n → StoresApart v image n
+apart_pure v image n pure i j r s within earlier on told is =
+    pair_apart v image i j r s (λ address fetched stored. pure i j address within earlier on fetched stored) told is

@@ -1,1 +1,2 @@
 pub mod Purity
+pub mod Near

@@ -1,6 +1,6 @@
-//! Programs that fetch nothing that they stored: when an image is one, and an example.
+//! Programs that fetch nothing that they stored, or nothing that they have just stored: when an image is one, and an example.
 #![tactic(auto)]
 
 mod laws;
 
-pub use laws::{law_of_call, law_of_purity};
+pub use laws::{law_of_call, law_of_near_purity, law_of_purity};

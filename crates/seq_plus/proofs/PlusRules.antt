@@ -69,11 +69,16 @@ plus_computes v s terms ids entries e bound o =
     subst (λ n. AllByRecursion (λ id. IsComputed (length (plus_given s)) row.defined terms n id) ids) (length-plus_rows ∙ sym e)
     (order_computes plus_rows (constant_rows ++ plus_state) plus_hardware plus_defined row.hardware row.defined plus_layout (plus_given s) (plus_block v s) terms (length-plus_given s) (plus_reads v s) bound ids o)
 
+-- whatever stands behind what is given
+pub plus_solves_over : (v : Variant) (s : PlusState) (terms : List Term) (ids rest : List ℕ) → length rest ≡ row.count - row.hardware → IsBound plus_rows terms → IsOrderOf plus_rows terms ids →
+    PlusSolves v terms s (at (values_along (plus_rule v terms s) (plus_given s ++ rest) ids))
+plus_solves_over v s terms ids rest size bound o =
+    along_solves plus_rows (constant_rows ++ plus_state) plus_hardware plus_defined row.hardware row.defined plus_layout (plus_given s) (plus_block v s) terms (length-plus_given s) (plus_reads v s) bound rest ids
+    (omega (arith, size, length-plus_given s, length-plus_rows)) o
+
 pub plus_solves : (v : Variant) (s : PlusState) (terms : List Term) (ids : List ℕ) → IsBound plus_rows terms → IsOrderOf plus_rows terms ids →
     PlusSolves v terms s (at (values_along (plus_rule v terms s) (plus_given s ++ replicate (row.count - row.hardware) 0) ids))
-plus_solves v s terms ids bound o =
-    along_solves plus_rows (constant_rows ++ plus_state) plus_hardware plus_defined row.hardware row.defined plus_layout (plus_given s) (plus_block v s) terms (length-plus_given s) (plus_reads v s) bound (row.count - row.hardware) ids
-    (omega (arith, length-plus_given s, length-plus_rows)) o
+plus_solves v s terms ids bound o = plus_solves_over v s terms ids (replicate (row.count - row.hardware) 0) refl bound o
 
 pub plus_unique : (v : Variant) (s : PlusState) (terms : List Term) (ids : List ℕ) → IsBound plus_rows terms → IsOrderOf plus_rows terms ids →
     (f h : ℕ → ℕ) → PlusSolves v terms s f → PlusSolves v terms s h → (n : ℕ) → f n ≡ h n

@@ -18,6 +18,7 @@ use Rattle.dp_signals.specs.PipeTable.{pipe_rows}
 use Rattle.prog_gen.specs.Programs.{program}
 use Rattle.program_runs.proofs.Images.{is_image}
 use Rattle.program_runs.proofs.Whole.{pure}
+use Rattle.pure_runs.proofs.Near.{near_from_pure}
 use Rattle.pipe_runs.proofs.Refined.{runs_alike}
 use Rattle.pipe_runs.specs.BothWays.{GoesBothWays, RunsAlike}
 use Rattle.pipe_runs.specs.declared.both.BothWays.{BothWays}
@@ -55,7 +56,7 @@ said_part v terms n both before after goes told one_fault = record {
 
 -- ---- the one design of a text
 
-one_design : (rows : List Row) (text : List ℕ) (terms others : List Term) → IsDesign rows text terms → IsDesign rows text others → terms ≡ others
+pub one_design : (rows : List Row) (text : List ℕ) (terms others : List Term) → IsDesign rows text terms → IsDesign rows text others → terms ≡ others
 one_design rows text terms others d e =
     let one : bound rows d.file.items ≡ bound rows e.file.items = ap (λ (f : File). bound rows f.items) (at_most_one_file text d.file e.file d.reads e.reads) in
     let same : Result.Ok terms ≡ Ok others = sym d.binds ∙ (one ∙ e.binds) in
@@ -65,7 +66,7 @@ a_cycle : (needed : ℕ → List ℕ) (cycle : List ℕ) → FirstCycle needed c
 a_cycle needed [] first acyclic = first
 a_cycle needed (row ∷ between) first acyclic = acyclic row (between, first.walks)
 
-not_refused : (name : List ℕ) (rows : List Row) (text : List ℕ) (terms : List Term) (a : Answered) → IsDesign rows text terms → RefusesDesign name rows text a → ⊥
+pub not_refused : (name : List ℕ) (rows : List Row) (text : List ℕ) (terms : List Term) (a : Answered) → IsDesign rows text terms → RefusesDesign name rows text a → ⊥
 not_refused name rows text terms a d (inl (fault, is, told)) = file_has_no_fault text d.file fault d.reads is
 not_refused name rows text terms a d (inr (inl unbound)) =
     let one : bound rows d.file.items ≡ bound rows unbound.file.items = ap (λ (f : File). bound rows f.items) (at_most_one_file text d.file unbound.file d.reads unbound.reads) in
@@ -84,17 +85,17 @@ pub record Alike (n : ℕ) (a : Answered) : Type 0 where
 
 big_alike : (v : Variant) (terms : List Term) (n : ℕ) (a : Answered) → 1 ≤ n → n ≤ 100000 → RefinesPipe v terms → BigAnswers v terms n a → Alike n a
 big_alike v terms n a least most refines (both, goes, is) =
-    record { both = both; alike = runs_alike v terms n both least most (λ k. refines (program n) k (is_image n least most) (pure v n k least most)) goes; is = is }
+    record { both = both; alike = runs_alike v terms n both least most (λ k. refines (program n) k (is_image n least most) (near_from_pure v (program n) k (pure v n k least most))) goes; is = is }
 
-same_bytes : (known : Option (Option (List ℕ))) (text bytes : List ℕ) → known ≡ Some (Some text) → HasBytes known bytes → text ≡ bytes
+pub same_bytes : (known : Option (Option (List ℕ))) (text bytes : List ℕ) → known ≡ Some (Some text) → HasBytes known bytes → text ≡ bytes
 same_bytes None text bytes is has = absurd (cc (is))
 same_bytes (Some known) text bytes is has = cc (is, has)
 
-not_missing : (known : Option (Option (List ℕ))) (text : List ℕ) → known ≡ Some (Some text) → IfSome known (λ x. x ≡ None) → ⊥
+pub not_missing : (known : Option (Option (List ℕ))) (text : List ℕ) → known ≡ Some (Some text) → IfSome known (λ x. x ≡ None) → ⊥
 not_missing None text is none = absurd (cc (is))
 not_missing (Some known) text is none = absurd (cc (is, none))
 
-not_long : (known : Option (Option (List ℕ))) (text : List ℕ) (limit : ℕ) → known ≡ Some (Some text) → length text ≤ limit → HasMore known limit → ⊥
+pub not_long : (known : Option (Option (List ℕ))) (text : List ℕ) (limit : ℕ) → known ≡ Some (Some text) → length text ≤ limit → HasMore known limit → ⊥
 not_long None text limit is short more = absurd (cc (is))
 not_long (Some known) text limit is short more =
     let same : known ≡ Some text = cc (is) in

@@ -10,7 +10,8 @@ use Rattle.verdict_text.specs.PipeLines.{pipe_yes}
 use Rattle.wb_io.specs.Files.{HasBytes}
 use Rattle.wb_io.specs.Sinks.{Took}
 use Rattle.y86_base.specs.declared.parts.Variant.{Variant}
-use Rattle.y86_isa.specs.Run.{Pure, records, run}
+use Rattle.y86_isa.specs.Run.{records, run}
+use Rattle.pure_runs.specs.Near.{NearPure}
 use Rattle.yis_run.specs.Report.{register_lines, report}
 use Rattle.yo_object.specs.ObjectText.{object_of}
 use Rattle.y86_cli.specs.Answers.{run_status}
@@ -23,8 +24,8 @@ use Rattle.y86_cli.specs.PipeRuns.{RunsTo, end_of, run_text}
 use Rattle.y86_cli.specs.declared.datapath.Datapath.{Datapath}
 
 -- A file with an accepted design: the bytes that are told of it, if any, are the text; the text is read, bound and ordered; every
--- obligation holds of the design at its settings. So on every image whose instructions fetch no byte that an earlier one stored,
--- its pipeline is after each number of cycles where the instructions are.
+-- obligation holds of the design at its settings. So on every image whose instructions fetch no byte that one of the three before
+-- them stored, its pipeline is after each number of cycles where the instructions are.
 pub record HasAccepted (v : Variant) (told : Option (Option (List ℕ))) : Type 0 where
   pub text : List ℕ
   pub has : HasBytes told text
@@ -52,7 +53,7 @@ pub record Agrees (v : Variant) (image : List ℕ) (trace : Bool) (p : Pipe) : T
       report image (end_of p) (length p.records) ≡ report image (run v image (length p.records)) (length p.records)
 
 -- A file was accepted, and an image ran on it: behind the Yes stand the trace, the counts and the report. They agree with the run of
--- instructions where none of the first ones, as many as there were cycles, fetches a byte that an earlier one stored.
+-- instructions where none of the first ones, as many as there were cycles, fetches a byte that one of the three before it stored.
 pub record RanAccepted (v : Variant) (size limit : ℕ) (trace : Bool) (hcl object : Option (Option (List ℕ))) (before after : SinkSeen) (status : ℕ) : Type 0 where
   pub file : HasAccepted v hcl
   pub bytes : List ℕ
@@ -64,7 +65,7 @@ pub record RanAccepted (v : Variant) (size limit : ℕ) (trace : Bool) (hcl obje
   pub runs : RunsTo v file.terms image limit cycles end
   pub status_is : status ≡ run_status end.end
   pub told : Took before.taken after.taken (pipe_yes file.settings ++ run_text trace image cycles end)
-  pub agrees : Pure v image cycles → Agrees v image trace end
+  pub agrees : NearPure v image cycles → Agrees v image trace end
 
 -- A file was refused, and nothing ran: the No was told.
 pub record ToldNo (v : Variant) (hcl : Option (Option (List ℕ))) (before after : SinkSeen) (status : ℕ) : Type 0 where

@@ -92,7 +92,7 @@ TellsCert name error.Memory stop = stop ≡ Memory
 
 -- A file and a certificate of it: the bytes that are told of them, if any, are a text and the certificate; the text is read, bound and
 -- ordered; every obligation holds of its design at the settings that the certificate states. So on every image whose instructions fetch no
--- byte that an earlier one stored, its pipeline is after each number of cycles where the instructions are.
+-- byte that one of the three before them stored, its pipeline is after each number of cycles where the instructions are.
 pub record HasCertified (v : Variant) (told told_cert : Option (Option (List ℕ))) : Type 0 where
   pub text : List ℕ
   pub has : HasBytes told text

@@ -60,7 +60,7 @@ fn say_certificate<'a, O: Sink>(
 }
 
 /// `check pipe` with `--cert`: decides whether PIPE under an HCL file does what its instructions mean, for every program
-/// that doesn't store over its own instructions, and writes a certificate of a Yes.
+/// that doesn't store over one of the next three instructions, and writes a certificate of a Yes.
 pub fn certify_pipe_file<'a, F: Files, O: Sink>(
     alloc: Global,
     name: &'a str,

@@ -82,7 +82,7 @@ fn say_pipe<'a, O: Sink>(
 }
 
 /// `check pipe`: decides whether PIPE under an HCL file does what its instructions mean, for every program that doesn't
-/// store over its own instructions.
+/// store over one of the next three instructions.
 pub fn check_pipe_file<'a, F: Files, O: Sink>(
     alloc: Global,
     name: &'a str,

@@ -43,7 +43,7 @@ pub fn law_of_plans()
 /// What an accepted file means for a user of the program, from the words of a call and what `run` says of it. Where a call
 /// of `check seq` or of `check seqplus` ends with 0, the file has an accepted design, and on every image its machine is that
 /// of the run of instructions. Where a call of `check pipe` ends with 0, the file has an accepted design, and on every image whose
-/// instructions fetch no byte that an earlier one stored its pipeline retires the instructions of that run, one after
+/// instructions fetch no byte that one of the three before them stored its pipeline retires the instructions of that run, one after
 /// another, and stops as it does; with `--cert` too. Where a call of `recheck` ends with 0, the second file is a certificate
 /// of the first, and the pipeline of its design does the same. Where a call of `psim` with `--checked` ends with 0 or 1, the
 /// text on standard output is a No; or it is a Yes of such a file, and what stands behind it agrees with the run of

@@ -1,10 +1,12 @@
 -- What the bytes of a memory read as.
-use Rattle.std.proofs.Common.{◌≡◌, ℕ, ◌+◌, ◌-◌, ◌^◌, ◌<◌, ◌≤◌, List, length, take, drop, get_or, Some, slice_get, refl, sym, ap, ◌∙◌, arith, length-take, length-drop}
+use Rattle.std.proofs.Common.{◌≡◌, ℕ, ◌+◌, ◌-◌, ◌%◌, ◌^◌, inl, inr, ◌<◌, ◌≤◌, List, length, take, drop, get_or, Some, slice_get, refl, sym, ap, ◌∙◌, arith, length-take, length-drop}
 use Rattle.std.proofs.lemmas.List.{get_or-drop, get_or-take}
 use Rattle.std.proofs.lemmas.Option.{slice_get-get_or}
+use Rattle.std.proofs.lemmas.Bool.{cases_lt}
 use Rattle.std.proofs.Math.Nat.{mod-eq_of_lt}
 use Rattle.std.specs.Int.{from_le_bytes, w64}
-use Rattle.y86_base.specs.Image.{IsSize}
+use Rattle.y86_base.specs.Image.{IsSize, word_at}
+use Rattle.y86_base.proofs.Memories.{word_inside, word_outside}
 use Rattle.y86_isa.specs.Blocks.{byte_at, word_from}
 use Rattle.y86_isa.specs.Encoding.{Holds}
 
@@ -42,3 +44,25 @@ pub word_from-bytes : (memory word : List ℕ) (address : ℕ) → ((k : ℕ) �
 unfolding word_from
 word_from-bytes memory word address h =
     rw (h 0 (omega arith), h 1 (omega arith), h 2 (omega arith), h 3 (omega arith), h 4 (omega arith), h 5 (omega arith), h 6 (omega arith), h 7 (omega arith)) refl
+
+-- a word that is all inside is the word of its bytes
+word_of_inside : (memory : List ℕ) (address : ℕ) → IsSize (length memory) → address + 8 ≤ length memory → word_from memory address ≡ from_le_bytes w64 (take 8 (drop address memory))
+word_of_inside memory address size h =
+    let bytes = take 8 (drop address memory) in
+    let eight : length bytes ≡ 8 = simp (length-take, length-drop) (omega arith) in
+    let holds : Holds memory address bytes = rw eight refl in
+    word_from-bytes memory bytes address (λ k lt. held_byte_at memory bytes address k size holds (omega (arith, eight)))
+
+pub word_read : (memory : List ℕ) (address word : ℕ) → IsSize (length memory) → word_at memory address ≡ Some word → word_from memory address ≡ word
+word_read memory address word size e =
+    elim (cases_lt (length memory) (address + 8)) [
+      | inl lt ↦ absurd (cc (e, word_outside memory address lt))
+      | inr inside ↦ cc (word_of_inside memory address size inside, word_inside memory address inside, e)
+    ]
+
+-- addresses are taken modulo 2^64
+pub word_wrapped : (memory : List ℕ) (address : ℕ) → word_from memory (address % 2 ^ 64) ≡ word_from memory address
+unfolding word_from
+word_wrapped memory address =
+    let at : (k : ℕ) → (address % 2 ^ 64 + k) % 2 ^ 64 ≡ (address + k) % 2 ^ 64 = λ k. omega arith in
+    rw (at 0, at 1, at 2, at 3, at 4, at 5, at 6, at 7) refl

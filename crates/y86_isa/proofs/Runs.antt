@@ -39,6 +39,11 @@ pub retired-stopped : (v : Variant) (m : Machine) → is_aok m.stat ≡ false �
 unfolding retired
 retired-stopped v m h = rw h refl
 
+-- one that goes on leaves one
+pub retired-going : (v : Variant) (m : Machine) → is_aok m.stat ≡ true → retired v m ≡ Some (step v m).1
+unfolding retired
+retired-going v m h = rw h refl
+
 stopped_by : (b : Bool) (r : Rec) → cond b (Some r) None ≡ None → b ≡ false
 stopped_by true r h = cc
 stopped_by false r h = refl

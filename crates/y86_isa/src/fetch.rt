@@ -40,6 +40,7 @@ fn byte_at(memory: &Image, address: u64) -> u8
 }
 
 /// The fields `rA` and `rB` behind the first byte where there is a register byte, and 15 where there is none.
+#[inline(always)]
 #[tactic(auto, unfolding(crate::specs::Blocks::field_a, crate::specs::Blocks::field_b))]
 pub fn register_fields(memory: &Image, pc: u64, need_regids: bool) -> (u64, u64)
     ensures a { result.0 ≡ blocks.field_a memory.now pc need_regids }
@@ -52,16 +53,13 @@ pub fn register_fields(memory: &Image, pc: u64, need_regids: bool) -> (u64, u64)
     (byte / 16, byte % 16)
 }
 
-/// The constant behind the first byte and the register byte, little-endian, and 0 where there is none. A byte
-/// outside the memory counts as 0.
-#[tactic(auto, unfolding(crate::specs::Blocks::constant_at, crate::specs::Blocks::word_from))]
-pub fn constant_at(memory: &Image, pc: u64, need_regids: bool, need_const: bool) -> u64
-    ensures { result ≡ blocks.constant_at memory.now pc need_regids need_const }
+/// The 8 bytes from an address on, little-endian, where some may be outside the memory.
+#[cold]
+#[inline(never)]
+#[tactic(auto, unfolding(crate::specs::Blocks::word_from))]
+fn word_by_bytes(memory: &Image, at: u64) -> u64
+    ensures { result ≡ blocks.word_from memory.now at }
 {
-    if !need_const {
-        return 0;
-    }
-    let at = pc.wrapping_add(if need_regids { 2 } else { 1 });
     u64::from_le_bytes([
         byte_at(memory, at),
         byte_at(memory, at.wrapping_add(1)),
@@ -74,7 +72,34 @@ pub fn constant_at(memory: &Image, pc: u64, need_regids: bool, need_const: bool)
     ])
 }
 
+/// The 8 bytes from an address on, little-endian. A byte outside the memory counts as 0.
+#[inline(always)]
+#[tactic(auto, using(crate::proofs::Fetching::word_read))]
+fn word_from(memory: &Image, at: u64) -> u64
+    ensures { result ≡ blocks.word_from memory.now at }
+{
+    let _size = memory.size();
+    match memory.word(at) {
+        Some(word) => word,
+        None => word_by_bytes(memory, at),
+    }
+}
+
+/// The constant behind the first byte and the register byte, little-endian, and 0 where there is none. A byte
+/// outside the memory counts as 0.
+#[inline(always)]
+#[tactic(auto, using(crate::proofs::Fetching::word_wrapped), unfolding(crate::specs::Blocks::constant_at))]
+pub fn constant_at(memory: &Image, pc: u64, need_regids: bool, need_const: bool) -> u64
+    ensures { result ≡ blocks.constant_at memory.now pc need_regids need_const }
+{
+    if !need_const {
+        return 0;
+    }
+    word_from(memory, pc.wrapping_add(if need_regids { 2 } else { 1 }))
+}
+
 /// The address behind an instruction at `pc`.
+#[inline(always)]
 #[tactic(auto, unfolding(crate::specs::Blocks::behind))]
 pub fn behind(pc: u64, need_regids: bool, need_const: bool) -> u64
     ensures { result ≡ blocks.behind pc need_regids need_const }
@@ -84,7 +109,8 @@ pub fn behind(pc: u64, need_regids: bool, need_const: bool) -> u64
     fields.wrapping_add(if need_const { 8 } else { 0 })
 }
 
-fn is_inside(memory: &Image, pc: u64, bytes: u64) -> bool
+#[inline(always)]
+pub fn is_inside(memory: &Image, pc: u64, bytes: u64) -> bool
     ensures { result ≡ nat_le (pc + bytes) (length memory.now) }
 {
     let size = memory.size();
@@ -92,7 +118,8 @@ fn is_inside(memory: &Image, pc: u64, bytes: u64) -> bool
 }
 
 /// Whether a register field that the row uses names no register.
-fn lacks_register(memory: &Image, pc: u64, row: &Row) -> bool
+#[inline(always)]
+pub fn lacks_register(memory: &Image, pc: u64, row: &Row) -> bool
     ensures { result ≡ blocks.lacks_register memory.now pc row.now }
 {
     let (r_a, r_b) = register_fields(memory, pc, row.has_byte);
@@ -139,13 +166,11 @@ pub fn read(v: Variant, memory: &Image, pc: u64) -> Reading
     }
 }
 
-/// Fetches the instruction at `pc`: reads it, and splits it into its fields.
-#[tactic(auto, unfolding(crate::specs::Blocks::fetched))]
-pub fn split(v: Variant, memory: &Image, pc: u64) -> Fetched
-    ensures { result ≡ blocks.fetched v memory.now pc }
+/// Splits the instruction that was read at `pc` into its fields, where this is its row.
+#[inline(always)]
+pub fn split_by(memory: &Image, pc: u64, row: &Row, read: Reading) -> Fetched
+    ensures { result ≡ blocks.fetched_by memory.now pc read row.now }
 {
-    let read = read(v, memory, pc);
-    let row = row(v, read.icode);
     let (r_a, r_b) = register_fields(memory, pc, row.has_byte);
     Fetched {
         error: read.error,
@@ -156,4 +181,13 @@ pub fn split(v: Variant, memory: &Image, pc: u64) -> Fetched
         val_c: constant_at(memory, pc, row.has_byte, row.has_const),
         val_p: behind(pc, row.has_byte, row.has_const),
     }
+}
+
+/// Fetches the instruction at `pc`: reads it, and splits it into its fields.
+#[tactic(auto, unfolding(crate::specs::Blocks::fetched))]
+pub fn split(v: Variant, memory: &Image, pc: u64) -> Fetched
+    ensures { result ≡ blocks.fetched v memory.now pc }
+{
+    let read = read(v, memory, pc);
+    split_by(memory, pc, &row(v, read.icode), read)
 }

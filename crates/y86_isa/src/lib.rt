@@ -14,7 +14,7 @@ mod table;
 mod unit;
 mod work;
 
-pub use advance::step;
+pub use advance::{do_step, step};
 pub use columns::{Access, Field, Next, Row, TermA, TermB};
 pub use encoding::{Instr, encode, valid};
 pub use fetch::{Fetched, Reading, behind, constant_at, read, register_fields, split};

@@ -139,6 +139,7 @@ pub fn put_store(memory: &mut Image, store: Option<Store>)
 }
 
 /// Writes both destinations to the registers, that of valM last.
+#[inline(always)]
 pub fn write_back(regs: &mut Regs, dst_e: u64, val_e: u64, dst_m: u64, val_m: u64)
     ensures { regs.new ≡ blocks.written_back regs.old dst_e val_e dst_m val_m }
 {
@@ -147,6 +148,7 @@ pub fn write_back(regs: &mut Regs, dst_e: u64, val_e: u64, dst_m: u64, val_m: u6
 }
 
 /// The decode stage.
+#[inline(always)]
 pub fn decode(regs: &Regs, row: &Row, fetched: &Fetched) -> Decoded
     ensures { result ≡ spec.decoded regs.now row.now fetched.now }
 {
@@ -163,6 +165,7 @@ pub fn decode(regs: &Regs, row: &Row, fetched: &Fetched) -> Decoded
 }
 
 /// The execute stage, under the flags before the instruction.
+#[inline(always)]
 pub fn execute(before: Flags, row: &Row, fetched: &Fetched, decoded: &Decoded) -> Executed
     ensures { result ≡ spec.executed before row.now fetched.now decoded.now }
 {
@@ -185,6 +188,7 @@ pub fn execute(before: Flags, row: &Row, fetched: &Fetched, decoded: &Decoded) -
 }
 
 /// The memory stage. Nothing is written yet.
+#[inline(always)]
 pub fn access(memory: &Image, row: &Row, fetched: &Fetched, val_a: u64, val_e: u64) -> Accessed
     ensures { result ≡ spec.accessed memory.now row.now fetched.now val_a val_e }
 {

@@ -18,7 +18,7 @@ pub const NO_REGISTER: u64 = 15;
 pub const STACK_POINTER: u64 = 4;
 
 /// A row of one byte with a dash in each column.
-const DASH: Row = Row {
+pub const DASH: Row = Row {
     length: 1,
     uses_a: false,
     uses_b: false,
@@ -38,18 +38,18 @@ const DASH: Row = Row {
     next: Next::Itself,
 };
 
-const HALT: Row = Row {
+pub const HALT: Row = Row {
     ifun_top: 15,
     ..DASH
 };
 
-const NOP: Row = Row {
+pub const NOP: Row = Row {
     ifun_top: 15,
     next: Next::Fall,
     ..DASH
 };
 
-const RRMOVQ: Row = Row {
+pub const RRMOVQ: Row = Row {
     length: 2,
     uses_a: true,
     uses_b: true,
@@ -64,7 +64,7 @@ const RRMOVQ: Row = Row {
     ..DASH
 };
 
-const IRMOVQ: Row = Row {
+pub const IRMOVQ: Row = Row {
     length: 10,
     uses_b: true,
     has_byte: true,
@@ -77,7 +77,7 @@ const IRMOVQ: Row = Row {
     ..DASH
 };
 
-const RMMOVQ: Row = Row {
+pub const RMMOVQ: Row = Row {
     length: 10,
     uses_a: true,
     uses_b: true,
@@ -93,7 +93,7 @@ const RMMOVQ: Row = Row {
     ..DASH
 };
 
-const MRMOVQ: Row = Row {
+pub const MRMOVQ: Row = Row {
     length: 10,
     uses_a: true,
     uses_b: true,
@@ -109,7 +109,7 @@ const MRMOVQ: Row = Row {
     ..DASH
 };
 
-const OPQ: Row = Row {
+pub const OPQ: Row = Row {
     length: 2,
     uses_a: true,
     uses_b: true,
@@ -126,7 +126,7 @@ const OPQ: Row = Row {
     ..DASH
 };
 
-const JXX: Row = Row {
+pub const JXX: Row = Row {
     length: 9,
     has_const: true,
     ifun_top: 6,
@@ -134,7 +134,7 @@ const JXX: Row = Row {
     ..DASH
 };
 
-const CALL: Row = Row {
+pub const CALL: Row = Row {
     length: 9,
     has_const: true,
     ifun_top: 15,
@@ -147,7 +147,7 @@ const CALL: Row = Row {
     ..DASH
 };
 
-const RET: Row = Row {
+pub const RET: Row = Row {
     ifun_top: 15,
     src_a: Field::Stack,
     src_b: Field::Stack,
@@ -159,7 +159,7 @@ const RET: Row = Row {
     ..DASH
 };
 
-const PUSHQ: Row = Row {
+pub const PUSHQ: Row = Row {
     length: 2,
     uses_a: true,
     has_byte: true,
@@ -174,7 +174,7 @@ const PUSHQ: Row = Row {
     ..DASH
 };
 
-const POPQ: Row = Row {
+pub const POPQ: Row = Row {
     length: 2,
     uses_a: true,
     has_byte: true,
@@ -191,7 +191,7 @@ const POPQ: Row = Row {
 };
 
 /// `iaddq` (CS:APP 3e, exercises 4.51 and 4.52).
-const IADDQ: Row = Row {
+pub const IADDQ: Row = Row {
     length: 10,
     uses_b: true,
     has_byte: true,

@@ -75,7 +75,8 @@ fn next_address(next: Next, pc: u64, fetched: &Fetched, val_m: u64, cnd: bool) -
 
 impl Work {
     /// The work of an instruction that was fetched.
-    fn after_fetch(m: &Machine, row: &Row, fetched: &Fetched) -> Work
+    #[inline(always)]
+    pub fn after_fetch(m: &Machine, row: &Row, fetched: &Fetched) -> Work
         ensures { result ≡ spec.worked m.now row.now fetched.now }
     {
         let decoded = decode(&m.regs, row, fetched);

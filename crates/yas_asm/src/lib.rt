@@ -20,4 +20,9 @@ mod used;
 
 pub use assembler::assemble;
 pub use fault::{AsmFault, AsmWhy};
+pub use grammar::read_line;
 pub use listing::{Line, Listing};
+pub use name::Name;
+pub use reader::Reader;
+pub use statement::{Directive, Operand, Operation, Parsed, Shape, Statement, Width};
+pub use tables::{directives, mnemonics};

@@ -3,7 +3,7 @@ ghost use Rattle.std.specs.Prelude.{◌≡◌, ◌≢◌, ◌<◌, ◌≤◌, le
 ghost use Rattle.y86_isa.specs.Run.{records_from, run_from};
 
 use y86_base::{Stat, Variant};
-use y86_isa::{Machine, step};
+use y86_isa::{Machine, do_step};
 
 /// What a run did.
 #[derive(Clone, Copy, Debug, PartialEq, Eq)]
@@ -21,10 +21,12 @@ pub fn run(v: Variant, m: &mut Machine, limit: u64) -> Ran
 {
     let mut steps = 0;
     while steps < limit {
-        match step(v, m) {
-            Some(_) => steps += 1,
-            None => break,
+        match m.stat {
+            Stat::Aok => {}
+            _ => break,
         }
+        do_step(v, m);
+        steps += 1;
     }
     Ran { steps }
 }

@@ -1,0 +1,20 @@
+-- Rules that are told one after another: whether each is true of every valuation.
+use Rattle.std.specs.Prelude.{◌≡◌, ℕ, ◌+◌, ◌<◌, ◌≤◌, Bool, true, false, List, length, get_or, slice_get, Some}
+use Rattle.nets.specs.Nets.{Gates}
+use Rattle.rule_gates.specs.declared.rules.Rule.{Rule}
+use Rattle.decisions.specs.Decisions.{IsDecided}
+
+-- the rules are numbered from 1 on
+abbrev pub AreNumbered : List Rule → Type 0
+AreNumbered list = (k : ℕ) (x : Rule) → slice_get list k ≡ Some x → x.number ≡ k + 1
+
+-- the truths are those of the first rules
+pub record AreTold (net : Gates) (list : List Rule) (truths : List Bool) : Type 0 where
+  pub within : length truths ≤ length list
+  pub each : (k : ℕ) (x : Rule) → k < length truths → slice_get list k ≡ Some x → IsDecided net x.gate (get_or truths k false)
+
+-- the old ones stay, and true stands behind them
+pub record IsFilled (old : List Bool) (until : ℕ) (new : List Bool) : Type 0 where
+  pub size : length new ≡ until
+  pub stay : (k : ℕ) → k < length old → get_or new k false ≡ get_or old k false
+  pub more : (k : ℕ) → length old ≤ k → k < until → get_or new k false ≡ true
