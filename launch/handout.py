@@ -9,16 +9,16 @@ import time
 from proving import crates_of, tell
 
 # The folders, and of docs/ the pages and scripts, where they are there.
-FOLDERS = ("examples", "lab")
-DOCS = ("COMMANDS.md", "HCL.md", "OBLIGATIONS.md", "THEOREM.md", "ASSEMBLY.md", "TUTORIAL.md", "LAB.md", "STAGES.md", "CERTIFICATES.md", "AIGER.md", "random_programs.py")
+FOLDERS = ("examples", "lab", "tools")
+DOCS = ("COMMANDS.md", "HCL.md", "OBLIGATIONS.md", "THEOREM.md", "ASSEMBLY.md", "TUTORIAL.md", "LAB.md", "STAGES.md", "CERTIFICATES.md", "AIGER.md")
 README = """\
 # y86
 
 The Y86-64 workbench, proved and built, for a class that works with Y86-64 programs and processors: nothing has to be proved, built or installed here.
 It runs on Linux on x86-64 and needs the C library alone{libc}:
 
-    ./y86 yis examples/asum.yo
-    ./y86 check pipe examples/std.hcl{calls}
+    ./y86 yis examples/programs/asum.yo
+    ./y86 check pipe examples/designs/std.hcl{calls}
 
 `examples/` has programs and the control logic of processors.{more}
 
@@ -34,7 +34,7 @@ The {crates} crates that it stands on were proved on {date}{toolchain}, from {co
     {sums}
 """
 # What the README shows of a program besides.
-CALLS = {"y86-stages": "\n    ./y86-stages examples/std.hcl examples/load_use.yo --diagram"}
+CALLS = {"y86-stages": "\n    ./y86-stages examples/designs/std.hcl examples/programs/load_use.yo --diagram"}
 
 
 def said_by(words, here):
@@ -125,7 +125,7 @@ def hand_out(here, programs, folder):
         os.makedirs(folder, exist_ok=True)
         for it in files:
             os.makedirs(os.path.dirname(f"{folder}/{it}"), exist_ok=True)
-            shutil.copy(f"{here}/{it}", f"{folder}/{it}")
+            shutil.copy(f"{here}/{it}", f"{folder}/{it}", follow_symlinks=False)
         for name, it in built.items():
             shutil.copy(it, f"{folder}/{name}")
         with open(f"{folder}/README.md", "w", encoding="utf-8") as it:

@@ -1,0 +1,94 @@
+#!/usr/bin/env bash
+# Measures the built program on generated inputs, the program of measures, and the gate from nothing and with everything kept. It prints rows of the
+# table of BENCH.md. With the word `program` it leaves the gate out.
+here=$(cd "$(dirname "$0")/.." && pwd) || exit 1
+work=$(mktemp -d) || exit 1
+trap 'rm -rf "$work"' EXIT
+
+cat >"$work/loop.ys" <<'SOURCE'
+    irmovq $1, %rcx
+    irmovq $0x1000, %rdx
+loop:
+    rmmovq %rcx, (%rdx)
+    mrmovq (%rdx), %rbx
+    addq %rcx, %rax
+    jmp loop
+SOURCE
+awk 'BEGIN { for (i = 0; i < 65535; i++) printf "L%05d: nop #xx\n", i }' >"$work/labels.ys"
+awk 'BEGIN { printf "0x000: "; for (i = 0; i < 524200; i++) printf "00"; printf "\n" }' >"$work/zeros.yo"
+awk 'BEGIN { for (i = 0; i < 963; i++) print "bool set_cc = E_icode == IOPQ && !(m_stat in { SADR, SINS, SHLT });" }' >"$work/long.hcl"
+
+# The seconds of the fastest of three calls of the program with these words.
+fastest() {
+    for _ in 1 2 3; do
+        start=$EPOCHREALTIME
+        "$here/y86" "$@" >"$work/out"
+        echo "$start $EPOCHREALTIME"
+    done | awk 'NR == 1 || $2 - $1 < best { best = $2 - $1 } END { printf "%.3f", best }'
+}
+
+# The memory in KiB of the processes of a session, with what several of them share counted once.
+memory_of() {
+    for process in $(pgrep -s "$1"); do
+        cat "/proc/$process/smaps_rollup" 2>/dev/null
+    done | awk '/^Pss:/ { sum += $2 } END { print sum + 0 }'
+}
+
+# A row of the table: a run of the gate, its time and the most memory that it had at the end of a second.
+gate() {
+    name=$1
+    shift
+    start=$EPOCHSECONDS
+    (cd "$here" && exec setsid rt ci "$@") >"$work/gate" 2>&1 &
+    session=$!
+    peak=0
+    while kill -0 "$session" 2>/dev/null; do
+        now=$(memory_of "$session")
+        [ "$now" -gt "$peak" ] && peak=$now
+        sleep 1
+    done
+    wait "$session"
+    status=$?
+    seconds=$((EPOCHSECONDS - start))
+    echo "| $name | $((seconds / 60)) min $((seconds % 60)) s, $((peak / 1024)) MiB, status $status: $(tail -1 "$work/gate") |"
+}
+
+"$here/y86" yas "$work/loop.ys" >"$work/loop.yo" || exit 1
+echo "| what, on $(nproc) cores ($(sed -n 's/^model name[^:]*: //p' /proc/cpuinfo | head -1)) | figure |"
+echo "|---|---|"
+seconds=$(fastest yis "$work/loop.yo" --limit 20000000)
+echo "| \`yis\`, 20,000,000 steps of a loop that stores, loads, adds and jumps | $seconds s, $(awk "BEGIN { printf \"%.1f\", 20 / $seconds }") million steps a second |"
+echo "| \`yas\`, $(wc -c <"$work/labels.ys") bytes of source with 65,535 labels | $(fastest yas "$work/labels.ys" --mem 1048576) s |"
+echo "| \`yis\`, $(wc -c <"$work/zeros.yo") bytes of object text loaded into 1,048,576 bytes of memory | $(fastest yis "$work/zeros.yo" --mem 1048576) s |"
+echo "| \`hcl\`, $(wc -c <"$work/long.hcl") bytes of HCL read and printed | $(fastest hcl "$work/long.hcl") s |"
+for machine in "ssim seq" "psim std"; do
+    command=${machine% *} design=${machine#* }.hcl
+    seconds=$(fastest "$command" "$here/examples/designs/$design" "$work/loop.yo" --limit 2000000)
+    echo "| \`$command $design\`, 2,000,000 cycles of the same loop | $seconds s, $(awk "BEGIN { printf \"%.2f\", 2 / $seconds }") million cycles a second |"
+done
+
+echo "| \`big 100000 std.hcl\`: $("$here/y86" big 100000 "$here/examples/designs/std.hcl" | awk '{ print $4 " steps and " $6 " cycles" }'), on images of 1 MB | $(fastest big 100000 "$here/examples/designs/std.hcl") s |"
+
+echo "| \`sample std.hcl 7 1000000\`, the whole call | $(fastest sample "$here/examples/designs/std.hcl" 7 1000000) s |"
+
+# A row of the table: a request to the program of measures, which stands where the gate built it, with how many things it does and how they are told.
+# The time is that of the processor in the fastest of three calls, so that other work beside it matters less.
+measure() {
+    [ -x "$here/crates/bench/out/bench" ] || return
+    seconds=$(for _ in 1 2 3; do
+        TIMEFORMAT=%U
+        { time echo "$1" | "$here/crates/bench/out/bench" >"$work/out"; } 2>&1
+    done | sort -n | head -1)
+    echo "| \`bench\`, $(cat "$work/out") | $seconds s${2:+, $(awk "BEGIN { printf \"$3\", $2 / $seconds }")} |"
+}
+
+measure "gates 20000" "20000 * 512 * 5651 / 1000000" "%.0f million gates a second, one of 512 valuations counted as 512"
+measure "single 20000" "20000 * 5651 / 1000000" "%.0f million gates a second"
+measure "ssim 2000000" 2 "%.2f million cycles a second by walking the terms"
+measure "psim 2000000" 2 "%.2f million cycles a second by walking the terms"
+measure "nodes adders 32"
+measure "nodes queens 8"
+measure "nodes words 18"
+[ "$1" = program ] && exit 0
+gate "the gate from nothing, \`rt ci --anew\`" --anew
+gate "the gate with everything kept, \`rt ci\`"
