@@ -1,0 +1,4 @@
+mod Loops
+mod Fields
+pub mod Solved
+pub mod AtomsGiven

@@ -1,0 +1,189 @@
+//! The control values of all names at a valuation, along an order.
+ghost use Rattle.std.specs.Prelude.{◌≡◌, ◌≤◌, ◌<◌, ◌^◌, ◌++◌, ◌∷◌, [], ℕ, IfOk, OnOk, false, get_or, length, slice_get, slice_set};
+ghost use Rattle.std.specs.List.{AllByRecursion};
+ghost use Rattle.field_bits.specs.Spelling.{bit, spelt};
+ghost use Rattle.hcl_types.specs.Tables.{IsOrderOf, IsSound};
+ghost use Rattle.hcl_types.specs.Terms.{value};
+ghost use Rattle.ctl_atoms.specs.declared.leaf.Leaf.TheVariants.{Number};
+ghost use Rattle.ctl_atoms.specs.Leaves.{picks};
+ghost use Rattle.ctl_atoms.specs.Rows.{row_term};
+ghost use Rattle.ctl_formula.specs.Controls.{AreControls, control_rule, field_leaf, role_leaf};
+ghost use Rattle.ctl_formula.specs.Controls as spec;
+ghost use Rattle.control_values.specs.Given.{AreNear, assigned, at, field_at, given_leaf};
+
+use crate::scope::Scope;
+use ctl_atoms::{Atom, Leaf, definitions_before};
+use field_bits::{Spot, place_in};
+use hcl_types::{Class, Design, NameId, Order, Role, Row, Table, Term};
+use std::alloc::Global;
+use y86_base::Memory;
+
+/// A valuation: its bits, the table of its fields, and the atoms, whose truths are the bits from `first` on.
+#[derive(Clone, Copy)]
+pub struct Situation<'a> {
+    pub fields: &'a [Spot],
+    pub atoms: &'a [Atom],
+    pub first: usize,
+    pub bits: &'a [bool],
+}
+
+/// A bit of a valuation as a number.
+fn bit_number(bits: &[bool], i: usize) -> u64
+    ensures { result ≡ bit (get_or bits.now i false) }
+{
+    match bits.get(i).copied().unwrap_or(false) {
+        true => 1,
+        false => 0,
+    }
+}
+
+/// The number that some bits of a valuation spell, the most significant one first.
+#[tactic(auto, using(crate::proofs::Loops::number_none, crate::proofs::Loops::number_more, crate::proofs::Loops::number_small))]
+pub fn number_at(bits: &[bool], first: usize, count: usize) -> u64
+    requires few { count ≤ 4 }
+    requires near { first ≤ 1000 }
+    ensures { result ≡ spelt bits.now first count }
+{
+    let mut n = 0;
+    for k in 0..count {
+        n = 2 * n + bit_number(bits, first + k);
+    }
+    n
+}
+
+/// The number of the field that a name is, and 0 of one that is no field.
+#[tactic(auto, using(crate::proofs::Fields::few_bits, crate::proofs::Fields::near_first, crate::proofs::Fields::number_there, crate::proofs::Fields::number_nowhere))]
+fn field_number(fields: &[Spot], bits: &[bool], id: NameId) -> u64
+    requires { AreNear fields.now }
+    ensures { result ≡ field_at fields.now bits.now id }
+{
+    match place_in(fields, id) {
+        Some(place) => number_at(bits, place.first as usize, place.bits as usize),
+        None => 0,
+    }
+}
+
+/// What a name of the state or the hardware is.
+fn leaf_of_field(s: &Situation<'_>, class: Class, id: NameId) -> Leaf
+    requires { AreNear s.now.fields.now }
+    ensures { result ≡ field_leaf (field_at s.now.fields.now s.now.bits.now) id class }
+{
+    match class {
+        Class::Number => Leaf::Name(id),
+        Class::Code => Leaf::Number(field_number(s.fields, s.bits, id)),
+        Class::Value => Leaf::Name(id),
+        Class::Truth => Leaf::Number(field_number(s.fields, s.bits, id)),
+    }
+}
+
+/// What a row is whose definition, if it has one, is worth this.
+fn leaf_by_role(s: &Situation<'_>, row: &Row, id: NameId, told: Leaf) -> Leaf
+    requires { AreNear s.now.fields.now }
+    ensures { result ≡ role_leaf (field_at s.now.fields.now s.now.bits.now) id row.now.class row.now.role told }
+{
+    match &row.role {
+        Role::Constant(n) => Leaf::Number(*n),
+        Role::State => leaf_of_field(s, row.class, id),
+        Role::Hardware(_) => leaf_of_field(s, row.class, id),
+        Role::Defined => told,
+    }
+}
+
+/// What the term of a defined row picks.
+fn told_leaf(s: &Situation<'_>, rows: &[Row], terms: &[Term], id: usize, leaves: &[Leaf]) -> Leaf
+    requires near { s.now.first ≤ 1000 }
+    requires row { id ≤ length rows.now }
+    ensures { result ≡ value (picks (assigned s.now.atoms.now s.now.first s.now.bits.now)) (at leaves.now) (row_term rows.now terms.now id) }
+{
+    let scope = Scope {
+        atoms: s.atoms,
+        first: s.first,
+        bits: s.bits,
+        leaves,
+    };
+    match terms.get(definitions_before(rows, id)) {
+        Some(t) => scope.leaf_of(t),
+        None => scope.leaf_of(&Term::Num(0)),
+    }
+}
+
+/// What a row is, where the leaves of the names that it needs are known.
+#[tactic(auto, unfolding(ctl_formula::specs::Controls::control_rule))]
+fn leaf_of_row(s: &Situation<'_>, rows: &[Row], terms: &[Term], id: NameId, leaves: &[Leaf]) -> Leaf
+    requires near { s.now.first ≤ 1000 }
+    requires places { AreNear s.now.fields.now }
+    ensures { result ≡ control_rule rows.now terms.now (field_at s.now.fields.now s.now.bits.now) (assigned s.now.atoms.now s.now.first s.now.bits.now) id (at leaves.now) }
+{
+    match rows.get(id as usize) {
+        None => Leaf::Number(0),
+        Some(row) => {
+            let told = told_leaf(s, rows, terms, id as usize, leaves);
+            leaf_by_role(s, row, id, told)
+        }
+    }
+}
+
+/// Puts a leaf behind the others.
+fn push_leaf(leaves: &mut Vec<Leaf>, leaf: Leaf) -> Result<(), Memory>
+    ensures { OnOk result (leaves.new.items ≡ leaves.old.items ++ leaf ∷ []) }
+{
+    match leaves.push(leaf) {
+        Ok(()) => Ok(()),
+        Err(_) => Err(Memory),
+    }
+}
+
+/// What a row is that no definition gives, and 0 for the others.
+fn given_at(s: &Situation<'_>, rows: &[Row], id: usize) -> Leaf
+    requires few { length rows.now < 2 ^ 32 }
+    requires places { AreNear s.now.fields.now }
+    ensures { result ≡ given_leaf (field_at s.now.fields.now s.now.bits.now) rows.now id }
+{
+    match rows.get(id) {
+        None => Leaf::Number(0),
+        Some(row) => leaf_by_role(s, row, id as NameId, Leaf::Number(0)),
+    }
+}
+
+/// What each row is that no definition gives, and 0 for the others.
+fn given_leaves(alloc: Global, s: &Situation<'_>, rows: &[Row]) -> Result<Vec<Leaf>, Memory>
+    requires few { length rows.now < 2 ^ 32 }
+    requires places { AreNear s.now.fields.now }
+    ensures whole { IfOk result (λ leaves. length leaves.items ≡ length rows.now) }
+    ensures given { IfOk result (λ leaves. (n : ℕ) → at leaves.items n ≡ given_leaf (field_at s.now.fields.now s.now.bits.now) rows.now n) }
+{
+    let mut leaves = Vec::new(alloc);
+    for id in 0..rows.len() {
+        let leaf = given_at(s, rows, id);
+        match push_leaf(&mut leaves, leaf) {
+            Ok(()) => {}
+            Err(_) => return Err(Memory),
+        }
+    }
+    Ok(leaves)
+}
+
+/// The control value of each row of a table at a valuation: they solve the equations of the design.
+pub fn control_values(
+    alloc: Global,
+    d: &Design,
+    t: &Table,
+    o: &Order,
+    s: &Situation<'_>,
+) -> Result<Vec<Leaf>, Memory>
+    requires sound { IsSound t.now.rows }
+    requires ordered { IsOrderOf t.now.rows d.now.terms o.now.ids }
+    requires near { s.now.first ≤ 1000 }
+    requires places { AreNear s.now.fields.now }
+    ensures whole { IfOk result (λ leaves. length leaves.items ≡ length t.now.rows) }
+    ensures solved { IfOk result (λ leaves. AreControls t.now.rows d.now.terms (field_at s.now.fields.now s.now.bits.now)
+        (assigned s.now.atoms.now s.now.first s.now.bits.now) (at leaves.items)) }
+{
+    let rows = t.rows.items();
+    let mut leaves = given_leaves(alloc, s, rows)?;
+    for id in o.ids.items() {
+        let leaf = leaf_of_row(s, rows, d.terms.items(), *id, leaves.as_slice());
+        leaves[*id as usize] = leaf;
+    }
+    Ok(leaves)
+}
