@@ -1,20 +1,14 @@
-#!/usr/bin/env python3
-"""machine.py PROGRAM
-
-Runs the sequential and the pipelined machine of PROGRAM (a path to y86) under odd control: examples/designs/seq.hcl or examples/designs/std.hcl with
+"""Runs the sequential and the pipelined machine under odd control: examples/designs/seq.hcl or examples/designs/std.hcl with
 a definition or two changed, so that what a machine does beyond what the book's designs ask of it shows in the report and the trace:
 what a register holds that is bubbled or stalled, what the last cycle still does, when the register file is written and a record
 retires, at which PC a run ends, what the names of the constants are worth, what is read outside memory. Each wanted text was worked
 out by hand from the tables of the instruction set and of the datapaths. No theorem can notice a mistake of this kind: it would stand
-in the definition of the machine and in the code alike. Prints each row that differs, and ends with `N passed, M failed`.
+in the definition of the machine and in the code alike.
 """
-import os
-import sys
-import tempfile
 from functools import partial
 
-sys.dont_write_bytecode = True
-from comparing import called, changed, compared, design
+from helpers.cases import cases, same
+from helpers.designs import changed, design
 
 STOPS = "{ SADR, SINS, SHLT }"
 
@@ -281,23 +275,12 @@ ROWS = [
 ]
 
 
-def rows(program, folder):
-    """Each row: its name, the status and both streams that are wanted, and those that came."""
-    designs = {"psim": design("std"), "ssim": design("seq")}
-    for shows, command, definitions, source, text in ROWS:
-        words = command.split()
-        hcl = designs[words[0]]
-        for name, body in definitions.items():
-            hcl = changed(hcl, name, body)
-        files = [("d.hcl", hcl.encode()), ("p.yo", f"{source}\n".encode())]
-        wanted = (0 if "'HLT'" in text else 1, text.encode(), b"")
-        yield f"{shows}: {command}, with {definitions}", wanted, called(program, [words[0], "d.hcl", "p.yo", *words[1:]], folder, files)
+DESIGNS = {"psim": "std", "ssim": "seq"}
 
 
-def main():
-    with tempfile.TemporaryDirectory() as folder:
-        return compared(rows(os.path.abspath(sys.argv[1]), folder))
-
-
-if __name__ == "__main__":
-    sys.exit(main())
+@cases(ROWS)
+def test_machine(row, y86):
+    _, command, definitions, source, text = row
+    words = command.split()
+    files = {"d.hcl": changed(design(DESIGNS[words[0]]), **definitions), "p.yo": f"{source}\n"}
+    same(y86(words[0], "d.hcl", "p.yo", *words[1:], files=files), (0 if "'HLT'" in text else 1, text.encode(), b""))

@@ -1,19 +1,13 @@
-#!/usr/bin/env python3
-"""pipelined.py PROGRAM
-
-Runs PROGRAM (a path to y86) cycle by cycle: `psim --trace` with each limit up to the end of a run, under pipeline designs of examples/ and under
+"""Runs PIPE cycle by cycle: `psim --trace` with each limit up to the end of a run, under pipeline designs of examples/ and under
 std.hcl with other pipeline control. After each cycle the lines of the trace have to be those of the records that have retired, and at the end the
 cycles, the status, the PC, four registers and a word of memory have to be those that stand here, worked out by hand from the pipeline diagrams;
-after the end nothing is done. Prints each row that differs, and ends with `N passed, M failed`.
+after the end nothing is done.
 """
-import os
 import re
-import sys
-import tempfile
 from collections import namedtuple
 
-sys.dont_write_bytecode = True
-from comparing import called, changed, compared, design
+from helpers.cases import cases, same
+from helpers.designs import changed, design
 
 # a program: its bytes at 0, and a word of data with its address
 Program = namedtuple("Program", "code data", defaults=[(0x40, 0)])
@@ -272,30 +266,29 @@ def ended(text, run):
     return (status, int(pc, 16)), registers, (at, int.from_bytes(memory[at : at + 8], "little"))
 
 
-def rows(program, folder):
-    """Each row: its name, what is wanted, and what came; a row for each cycle of a run, and one for its end."""
+def limited():
+    """Each run, up to each of its cycles; one that stops also far beyond its end."""
     for run in BOOK + CONTROLS:
-        text = design(run.logic)
-        for name, body in run.definitions.items():
-            text = changed(text, name, body)
-        files = [("d.hcl", text.encode()), ("p.yo", object_text(run.program).encode())]
-        shows = f"{run.logic}.hcl with {run.definitions} on {run.program.code}"
-        stops = run.end[0] != "AOK"
         limits = [it for it in range(1, run.cycles + 1) if it < 20 or it == run.cycles]
-        for limit in [*limits, 10000] if stops else limits:
-            came = called(program, ["psim", "d.hcl", "p.yo", "--trace", "--limit", str(limit)], folder, files)[1].decode()
-            done = min(limit, run.cycles)
-            lines = [line for cycle, line in run.records.items() if cycle <= done]
-            front, _, report = came.partition("Stopped in ")
-            yield f"{shows}, limit {limit}", "".join(f"{line}\n" for line in [*lines, f"Ran {done} cycles, retired {len(lines)} instructions"]), front
-            if limit >= run.cycles:
-                yield f"{shows}, the end, limit {limit}", (run.end, run.registers, run.word), ended(report, run)
+        for limit in [*limits, 10000] if run.end[0] != "AOK" else limits:
+            yield f"{run.logic} with {run.definitions} on {run.program.code}"[:100] + f" limit {limit}", run, limit
 
 
-def main():
-    with tempfile.TemporaryDirectory() as folder:
-        return compared(rows(os.path.abspath(sys.argv[1]), folder))
+def call(y86, run, limit):
+    files = {"d.hcl": changed(design(run.logic), **run.definitions), "p.yo": object_text(run.program)}
+    front, _, report = y86("psim", "d.hcl", "p.yo", "--trace", "--limit", str(limit), files=files).out.decode().partition("Stopped in ")
+    return front, report
 
 
-if __name__ == "__main__":
-    sys.exit(main())
+@cases(limited())
+def test_records(row, y86):
+    _, run, limit = row
+    done = min(limit, run.cycles)
+    lines = [line for cycle, line in run.records.items() if cycle <= done]
+    same(call(y86, run, limit)[0], "".join(f"{line}\n" for line in [*lines, f"Ran {done} cycles, retired {len(lines)} instructions"]))
+
+
+@cases((row for row in limited() if row[2] >= row[1].cycles))
+def test_end(row, y86):
+    _, run, limit = row
+    same(ended(call(y86, run, limit)[1], run), (run.end, run.registers, run.word))

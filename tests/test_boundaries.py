@@ -1,20 +1,13 @@
-#!/usr/bin/env python3
-"""boundaries.py PROGRAM
-
-Designs on the boundary of what the 27 obligations of PIPE demand, and the 16 of SEQ and SEQ+. Each is examples/designs/std.hcl (or load_forwarding.hcl, seq.hcl, seq_plus.hcl)
+"""Designs on the boundary of what the 27 obligations of PIPE demand, and the 16 of SEQ and SEQ+. Each is examples/designs/std.hcl (or load_forwarding.hcl, seq.hcl, seq_plus.hcl)
 with a definition or two changed, and stands just on this side, or just on that, of one obligation's premise, of the lines that are allowed, of what is
 legal, or of what a setting is found by: an obligation that were asked of more than it is would refuse those that are accepted here, and one that were
 asked of less would accept those that are refused. A theorem can't notice the first kind of mistake, since a premise that is too strong only makes it say
-less. What is expected was found by reasoning, from the definitions. Prints each row that answers otherwise, and ends with `N passed, M failed`.
+less. What is expected was found by reasoning, from the definitions.
 """
-import os
 import re
-import sys
-import tempfile
-from concurrent.futures import ThreadPoolExecutor
 
-sys.dont_write_bytecode = True
-from comparing import called, changed, compared, design
+from helpers.cases import cases, same
+from helpers.designs import changed, design
 
 STD = "yes pt=1111111 pb=1111111 tv=0 lf=0 je=0 rm=0"
 STOPS = "{ SADR, SINS, SHLT }"
@@ -209,32 +202,21 @@ PLUS_ONLY = [
 ]
 
 
+def rows():
+    """Each row: its name, the datapath, the design that is changed, the changed definitions, and the first line of the answer."""
+    for why, bodies, wanted in ROWS:
+        yield f"pipe {why}", "pipe", bodies.get("file", "std"), {name: body for name, body in bodies.items() if name != "file"}, wanted
+    for why, bodies, wanted in SEQ_ROWS + SEQ_ONLY:
+        yield f"seq {why}", "seq", "seq", bodies, wanted
+    for why, bodies, wanted in SEQ_ROWS + PLUS_ONLY:
+        yield f"seqplus {why}", "seqplus", "seq_plus", bodies, wanted
 
-def answer(program, command, file, bodies):
-    """The first line of the answer to a check of an example with other definitions."""
-    text = design(file)
-    for name, body in bodies.items():
-        text = changed(text, name, body)
+
+@cases(rows())
+def test_boundary(row, y86):
+    _, datapath, file, bodies, wanted = row
+    text = changed(design(file), **bodies)
     if "e_dstE" in bodies and "d_valA" in bodies:
         text = re.sub(r"d_src([AB]) == e_dstE : e_valE; *", "", text)
-    with tempfile.TemporaryDirectory() as folder:
-        _, out, err = called(program, ["check", command, "d.hcl"], folder, [("d.hcl", text.encode())])
-    return (out + err).decode().partition("\n")[0]
-
-
-def main():
-    program = os.path.abspath(sys.argv[1])
-    rows = [("pipe", bodies.get("file", "std"), why, bodies, want) for why, bodies, want in ROWS]
-    rows += [("seq", "seq", *row) for row in SEQ_ROWS + SEQ_ONLY]
-    rows += [("seqplus", "seq_plus", *row) for row in SEQ_ROWS + PLUS_ONLY]
-
-    def ask(row):
-        command, file, why, bodies, want = row
-        return f"{command}: {why}", want, answer(program, command, file, {name: body for name, body in bodies.items() if name != "file"})
-
-    with ThreadPoolExecutor(os.cpu_count()) as pool:
-        return compared(pool.map(ask, rows))
-
-
-if __name__ == "__main__":
-    sys.exit(main())
+    answer = y86("check", datapath, "d.hcl", files={"d.hcl": text})
+    same((answer.out + answer.err).decode().partition("\n")[0], wanted)

@@ -1,18 +1,14 @@
-#!/usr/bin/env python3
-"""designs.py PROGRAM
+"""HCL files as `y86` reads, prints, binds and orders them.
 
-HCL files as PROGRAM (a path to y86) reads, prints, binds and orders them: each fault of a text with its place and reason, the limits, the one
-form that is printed, which reads as the same file again; the first fault of a file that doesn't bind, and the cycle of one that has no order.
-Each wanted text was worked out by hand from the rules of the language and the tables of signals. Prints each row that differs, and ends with
-`N passed, M failed`.
+Each fault of a text with its place and reason; the limits; the one form that is printed, which reads as the same file again; the first fault of a file
+that doesn't bind, and the cycle of one that has no order. Each wanted text was worked out by hand from the rules of the language and the tables of signals.
 """
-import os
 import re
-import sys
-import tempfile
 
-sys.dont_write_bytecode = True
-from comparing import DESIGNS, called, compared, design
+import pytest
+
+from helpers.cases import cases, same
+from helpers.designs import design, example, without
 
 # ---- texts that are refused, with the place and the reason
 
@@ -169,13 +165,6 @@ REPORT = b"Stopped in 1 steps at PC = 0x0.  Status 'HLT', CC Z=1 S=0 O=0\nChange
 STOPPED = {"psim": b"Ran 5 cycles, retired 1 instructions\n" + REPORT, "ssim": REPORT}
 
 
-def without(text, names):
-    """A design without its definitions of these names."""
-    for name in names:
-        text = re.sub(rf"^(?:word|bool) {name} =\s*(?:\[[^\]]*\]|[^;\[]*);", "", text, flags=re.M)
-    return text
-
-
 def zeros(text, definitions):
     """These definitions, and 0 for each other name that a design defines."""
     rest = [f"{kind} {name} = 0;" for kind, name in re.findall(r"^(word|bool) (\w+) =", text, flags=re.M) if f" {name} =" not in definitions]
@@ -199,32 +188,48 @@ def bound(std):
     yield "ssim", "", "Missing icode"
 
 
-def rows(program, folder):
-    """Each row: its name, what is wanted, and what came."""
-
-    def hcl(text):
-        return called(program, ["hcl", "h.hcl"], folder, [("h.hcl", text)])
-
-    refused = [*FAULTS, (NAMES + b"wordsig n256 'x'\n", "257:9: NamesOver256"), (NAMES + b"word n000 = n255;\nn256", "258:1: Syntax")]
-    for text, told in refused:
-        yield f"{text[:80]}", (5, b"", f"h.hcl:{told}\n".encode()), hcl(text)
-    for text, wanted in PRINTED:
-        yield f"{text[:80]}", (0, wanted, b""), hcl(text)
-        yield f"{wanted[:80]}, printed again", (0, wanted, b""), hcl(wanted)
-    for name in ("std", "no_bypassing", "load_forwarding", "not_taken", "backward_taken", "with_iaddq", "seq"):
-        with open(f"{DESIGNS}/{name}.hcl", "rb") as it:
-            first = hcl(it.read())
-        yield f"{name}.hcl, printed", (0, True, b""), (first[0], len(first[1]) > 1000, first[2])
-        yield f"{name}.hcl, printed again", first, hcl(first[1])
-    for command, text, told in bound(design("std")):
-        wanted = (5, b"", f"d.hcl: {told}\n".encode()) if told else (0, STOPPED[command], b"")
-        yield f"{command}, {text[-80:]!r}", wanted, called(program, [command, "d.hcl", "p.yo"], folder, [("d.hcl", text.encode()), ("p.yo", HALT)])
+REFUSED = [*FAULTS, (NAMES + b"wordsig n256 'x'\n", "257:9: NamesOver256"), (NAMES + b"word n000 = n255;\nn256", "258:1: Syntax")]
 
 
-def main():
-    with tempfile.TemporaryDirectory() as folder:
-        return compared(rows(os.path.abspath(sys.argv[1]), folder))
+def printed(y86, text):
+    return y86("hcl", "h.hcl", files={"h.hcl": text})
 
 
-if __name__ == "__main__":
-    sys.exit(main())
+@cases(((text[:80], text, fault) for text, fault in REFUSED))
+def test_refused(row, y86):
+    _, text, fault = row
+    same(printed(y86, text), (5, b"", f"h.hcl:{fault}\n".encode()))
+
+
+@cases(((text[:80], text, wanted) for text, wanted in PRINTED))
+def test_printed(row, y86):
+    _, text, wanted = row
+    same(printed(y86, text), (0, wanted, b""))
+
+
+@cases(((wanted[:80], wanted) for _, wanted in PRINTED))
+def test_printed_again(row, y86):
+    _, wanted = row
+    same(printed(y86, wanted), (0, wanted, b""))
+
+
+BOOK = ("std", "no_bypassing", "load_forwarding", "not_taken", "backward_taken", "with_iaddq", "seq")
+
+
+@pytest.mark.parametrize("name", BOOK)
+def test_design_is_printed(name, y86):
+    status, out, err = printed(y86, example(name))
+    same((status, len(out) > 1000, err), (0, True, b""))
+
+
+@pytest.mark.parametrize("name", BOOK)
+def test_printed_design_is_printed_again(name, y86):
+    first = printed(y86, example(name))
+    same(printed(y86, first.out), first)
+
+
+@cases(((f"{command} {text[-80:]}", command, text, fault) for command, text, fault in bound(design("std"))))
+def test_bound(row, y86):
+    _, command, text, fault = row
+    wanted = (5, b"", f"d.hcl: {fault}\n".encode()) if fault else (0, STOPPED[command], b"")
+    same(y86(command, "d.hcl", "p.yo", files={"d.hcl": text, "p.yo": HALT}), wanted)

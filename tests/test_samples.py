@@ -1,22 +1,14 @@
-#!/usr/bin/env python3
-"""samples.py PROGRAM
-
-Runs `sample HCL SEED COUNT` of PROGRAM (a path to y86) on designs that break an obligation in few situations, and compares what it finds with a model of this
+"""Runs `sample HCL SEED COUNT` on designs that break an obligation in few situations, and compares what it finds with a model of this
 file's own. The model draws the situations by the rules of docs/DECISIONS.md: for each of the 40 fields and each atom one draw of a generator that starts at
 SEED plus the situation's number; a field gets one of the numbers that may stand there behind those in front. Which obligations are false in a situation is
 told by the text that `aig` writes. No theorem says which draw is which number: a mistake of this kind would stand in the definition and in the code alike.
-Prints each row that differs, and ends with `N passed, M failed`.
 """
 import functools
-import os
-import sys
-import tempfile
 
-sys.dont_write_bytecode = True
-from comparing import TOP, called, changed, compared, design
-
-sys.path.insert(0, os.path.join(TOP, "tools", "y86lab"))
-import aiger
+from helpers.aiger import Aag
+from helpers.cases import cases, same
+from helpers.designs import changed, design
+from helpers.situations import FIELDS
 
 WORD = 2**64
 COUNT = 4000
@@ -50,15 +42,6 @@ TABLE = [
 ]
 TABLE[2].moves = TABLE[7].jumps = TABLE[6].is_tied = TABLE[12].is_tied = True
 NO_ROW = Row(top=0)
-
-# the fields in their order, with their bits
-FIELDS = [(f"{stage} kind", bits) for stage, bits in zip("DEMW", (2, 2, 1, 1))]
-FIELDS += [(f"F {name}", bits) for name, bits in [("error", 1), ("icode", 4), ("ifun", 4), ("taken", 1), ("stops", 1), ("back", 1)]]
-FIELDS += [(f"D {name}", bits) for name, bits in [("stat", 3), ("icode", 4), ("ifun", 4), ("rA", 4), ("rB", 4), ("taken", 1), ("stops", 1), ("back", 1)]]
-FIELDS += [(f"E {name}", 4) for name in "stat icode ifun dstE dstM srcA srcB".split()] + [("E cnd", 1), ("E stops", 1), ("E back", 1)]
-FIELDS += [(f"M {name}", 4) for name in "stat icode ifun dstE dstM".split()] + [("M cnd", 1), ("M error", 1), ("M back", 1)]
-FIELDS += [(f"W {name}", 4) for name in "stat icode dstE dstM".split()]
-FIELDS = [(name, 3 if name.endswith("stat") else bits) for name, bits in FIELDS]
 
 BUBBLE = {"stat": [0], "icode": [1], "ifun": [0], "rA": [NONE], "rB": [NONE], "dstE": [NONE], "dstM": [NONE], "srcA": [NONE], "srcB": [NONE], "cnd": [1]}
 
@@ -156,7 +139,7 @@ def lanes(seed, icodes):
 
 def found(text, seed, icodes):
     """The first of the drawn situations in which an output is 1, and the first such output, as `sample` says it."""
-    aag, every = aiger.Aag(text), (1 << COUNT) - 1
+    aag, every = Aag(text), (1 << COUNT) - 1
     value = [0] * (aag.most + 1)
     for literal, truths in zip(aag.inputs, lanes(seed, icodes)):
         value[literal // 2] = truths
@@ -210,22 +193,25 @@ DESIGNS = [
 ]
 
 
-def rows(program):
-    """Each design, from two seeds, the second of which passes 2^64; some of them with iaddq too."""
+def with_files():
+    """Each design; some of them also with iaddq."""
     for bodies in DESIGNS:
-        for file, words, icodes in [("std", (), 12)] + ([("with_iaddq", ("--full",), 13)] if {"d_dstE", "set_cc"} & set(bodies) else []):
-            text = design(file)
-            for name, body in bodies.items():
-                text = changed(text, name, body)
-            with tempfile.TemporaryDirectory() as folder:
-                files = [("d.hcl", text.encode())]
-                status, aag, err = called(program, ["aig", "d.hcl", *words], folder, files)
-                yield f"aig {bodies}", (0, b""), (status, err)
-                for seed in (7, WORD - 2000):
-                    wanted = found(aag.decode(), seed, icodes)
-                    status, out, _ = called(program, ["sample", "d.hcl", str(seed), str(COUNT), *words], folder, files)
-                    yield f"sample from {seed}: {file} with {bodies}", wanted, (status, out.decode())
+        yield str(bodies), bodies, "std", ()
+        if {"d_dstE", "set_cc"} & set(bodies):
+            yield f"iaddq {bodies}", bodies, "with_iaddq", ("--full",)
 
 
-if __name__ == "__main__":
-    sys.exit(compared(rows(os.path.abspath(sys.argv[1]))))
+@cases(with_files())
+def test_aig_writes(row, y86):
+    _, bodies, file, full = row
+    status, _, err = y86("aig", "d.hcl", *full, files={"d.hcl": changed(design(file), **bodies)})
+    same((status, err), (0, b""))
+
+
+# The second seed passes 2^64.
+@cases((f"from {seed} {row[0]}", seed, *row[1:]) for row in with_files() for seed in (7, WORD - 2000))
+def test_sample(row, y86):
+    _, seed, bodies, file, full = row
+    aag = y86("aig", "d.hcl", *full, files={"d.hcl": changed(design(file), **bodies)}).out.decode()
+    status, out, _ = y86("sample", "d.hcl", str(seed), str(COUNT), *full)
+    same((status, out.decode()), found(aag, seed, 13 if full else 12))

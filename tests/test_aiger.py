@@ -1,19 +1,16 @@
-#!/usr/bin/env python3
-"""aiger_rows.py PROGRAM
-
-Texts for `aigrun`, with what it must say of each, and the texts of `aig` under `aigrun`. Prints each that answers otherwise, and ends
-with `N passed, M failed`.
-"""
-import os
+"""AIGER texts: what `aigrun` says of them, and what `aig` writes of each design."""
+import shutil
 import subprocess
 import sys
-import tempfile
 
-TOP = os.path.dirname(os.path.dirname(os.path.abspath(__file__)))
-sys.dont_write_bytecode = True
-sys.path.insert(0, os.path.join(TOP, "tools", "y86lab"))
-import aiger
+import pytest
 
+from helpers.aiger import Aag, counts
+from helpers.cases import cases, same
+from helpers.paths import DESIGNS, TOP, pipeline_designs
+from helpers.situations import bits_of
+
+SOLVERS = ("cadical", "minisat")
 BIG = 2**64
 AND = "aag 3 2 0 1 1\n2\n4\n6\n6 2 4\n"
 
@@ -138,91 +135,88 @@ def expected(status, said, name):
     return (said + "\n" if said else "", "") if status == 0 else ("", f"{name}:{said}\n")
 
 
-def run(program, folder, *words):
-    done = subprocess.run([program, *words], cwd=folder, capture_output=True, timeout=120, check=False)
-    return done.returncode, done.stdout.decode("latin-1"), done.stderr.decode("latin-1")
+def answer(came):
+    return came.status, came.out.decode("latin-1"), came.err.decode("latin-1")
 
 
-def write(folder, name, text):
-    with open(os.path.join(folder, name), "wb") as it:
-        it.write(text.encode("latin-1"))
+@cases((text[:100], text, status, said) for text, status, said in ROWS)
+def test_text(row, y86):
+    _, text, status, said = row
+    came = y86("aigrun", "a.aag", "7", files={"a.aag": text.encode("latin-1")})
+    same(answer(came), (status, *expected(status, said, "a.aag")))
 
 
-def draws(seed, vector, count):
-    """Bits of the further inputs of a vector: x = 6364136223846793005 x + 1442695040888963407, and of it the bits from 33 on."""
-    x, bits = (seed + vector) % 2**64, []
-    for _ in range(count):
-        x = (x * 6364136223846793005 + 1442695040888963407) % 2**64
-        bits.append(x >> 33 & 1)
-    return bits
+# Each proper front of a text stops at the line where it ends, or at the output.
+@pytest.mark.parametrize("cut", range(len(AND)))
+def test_first_bytes(cut, y86):
+    line = AND[:cut].count("\n") + 1
+    said = "4: Undefined" if line == 5 else f"{line}: Syntax"
+    same(answer(y86("aigrun", "a.aag", "7", files={"a.aag": AND[:cut]})), (5, "", f"a.aag:{said}\n"))
 
 
-def counts(text, seed):
-    """How often each output is 1, by evaluation of the text line after line."""
-    aag = aiger.Aag(text)
-    found = [0] * len(aag.outputs)
-    for vector in range(512):
-        bits = [vector >> k & 1 for k in range(min(9, len(aag.inputs)))] + draws(seed, vector, len(aag.inputs) - 9)
-        found = [n + value for n, value in zip(found, aag.values(bits))]
-    return "".join(f"o{k} {n}\n" for k, n in enumerate(found))
+# More than nine inputs: draws, one for each further line, from SEED plus the vector's number.
+WIDE = "aag 14 12 0 3 2\n" + "".join(f"{2 * k + 2}\n" for k in range(12)) + "28\n24\n27\n26 20 23\n28 26 4\n"
 
 
-def main():
-    program, failed, tried = os.path.abspath(sys.argv[1]), 0, 0
-
-    def compare(what, got, want):
-        nonlocal failed, tried
-        tried += 1
-        if got != want:
-            failed += 1
-            print(f"{what}: {got} in place of {want}")
-
-    with tempfile.TemporaryDirectory() as folder:
-        for text, status, said in ROWS:
-            write(folder, "a.aag", text)
-            compare(repr(text[:80]), run(program, folder, "aigrun", "a.aag", "7"), (status, *expected(status, said, "a.aag")))
-        # each proper front of a text stops at the line where it ends, or at the output
-        for cut in range(len(AND)):
-            write(folder, "a.aag", AND[:cut])
-            line = AND[:cut].count("\n") + 1
-            said = "4: Undefined" if line == 5 else f"{line}: Syntax"
-            compare(f"the first {cut} bytes", run(program, folder, "aigrun", "a.aag", "7"), (5, "", f"a.aag:{said}\n"))
-        # more than nine inputs: draws, one for each further line, from SEED plus the vector's number
-        wide = "aag 14 12 0 3 2\n" + "".join(f"{2 * k + 2}\n" for k in range(12)) + "28\n24\n27\n26 20 23\n28 26 4\n"
-        write(folder, "w.aag", wide)
-        for seed in (0, 7, 2**64 - 1):
-            compare(f"draws from {seed}", run(program, folder, "aigrun", "w.aag", str(seed)), (0, counts(wide, seed), ""))
-        compare("no SEED", run(program, folder, "aigrun", "w.aag")[0], 2)
-        compare("a SEED of 2^64", run(program, folder, "aigrun", "w.aag", str(BIG))[0], 2)
-        compare("--full at aigrun", run(program, folder, "aigrun", "w.aag", "7", "--full")[0], 2)
-        compare("no file", run(program, folder, "aigrun", "none.aag", "7")[0], 3)
-        # the obligations of each design for PIPE
-        for name in sorted(os.listdir(os.path.join(TOP, "examples", "designs"))):
-            path = os.path.join(TOP, "examples", "designs", name)
-            if not name.endswith(".hcl") or name in ("seq.hcl", "seq_plus.hcl", "table.hcl"):
-                continue
-            for full in ((), ("--full",)):
-                status, text, err = run(program, folder, "aig", path, *full)
-                verdict = run(program, folder, "check", "pipe", path, *full)
-                if verdict[0] not in (0, 1):
-                    compare(f"aig {name} {full}", (status, text, err), verdict)
-                    continue
-                compare(f"aig {name} {full}", (status, err, text[:4]), (0, "", "aag "))
-                inputs = int(text.split(" ")[2])
-                symbols = [f"i{k} x{k}" for k in range(inputs)] + [f"o{k} O{k + 1}" for k in range(27)]
-                compare(f"the symbols of {name} {full}", text.split("\n")[-len(symbols) - 1 :], [*symbols, ""])
-                write(folder, "d.aag", text)
-                got = run(program, folder, "aigrun", "d.aag", "7")
-                compare(f"aigrun {name} {full}", got, (0, counts(text, 7), ""))
-                if verdict[0] == 0:
-                    compare(f"no obligation of {name} is false", got[1], "".join(f"o{k} 0\n" for k in range(27)))
-                else:
-                    values = aiger.Aag(text).values(aiger.valuation(verdict[1].split("\n")[1:-1]))
-                    rule = int(verdict[1].split("\n")[0][4:])
-                    compare(f"the situation of {name}", values[:rule], [False] * (rule - 1) + [True])
-    print(f"{tried - failed} passed, {failed} failed")
-    return 1 if failed else 0
+@pytest.mark.parametrize("seed", (0, 7, 2**64 - 1))
+def test_draws(seed, y86):
+    same(answer(y86("aigrun", "w.aag", str(seed), files={"w.aag": WIDE})), (0, counts(WIDE, seed), ""))
 
 
-if __name__ == "__main__":
-    sys.exit(main())
+@cases((("no SEED", ()), ("a SEED of 2^64", (str(BIG),)), ("--full at aigrun", ("7", "--full"))))
+def test_no_command(row, y86):
+    same(y86("aigrun", "w.aag", *row[1], files={"w.aag": WIDE}).status, 2)
+
+
+def test_no_file(y86):
+    same(y86("aigrun", "none.aag", "7").status, 3)
+
+
+EACH_DESIGN = [(f"{name} {' '.join(full)}".strip(), f"{DESIGNS}/{name}.hcl", full) for name in pipeline_designs() for full in ((), ("--full",))]
+
+
+@cases(EACH_DESIGN)
+def test_aig_writes(row, y86):
+    _, path, full = row
+    status, out, err = answer(y86("aig", path, *full))
+    same((status, err, out[:4]), (0, "", "aag "))
+
+
+@cases(EACH_DESIGN)
+def test_symbols(row, y86):
+    _, path, full = row
+    text = answer(y86("aig", path, *full))[1]
+    inputs = int(text.split(" ")[2])
+    symbols = [f"i{k} x{k}" for k in range(inputs)] + [f"o{k} O{k + 1}" for k in range(27)]
+    same(text.split("\n")[-len(symbols) - 1 :], [*symbols, ""])
+
+
+@cases(EACH_DESIGN)
+def test_counts(row, y86):
+    _, path, full = row
+    text = answer(y86("aig", path, *full))[1]
+    same(answer(y86("aigrun", "d.aag", "7", files={"d.aag": text})), (0, counts(text, 7), ""))
+
+
+@cases(EACH_DESIGN)
+def test_outputs_agree_with_the_check(row, y86):
+    """After a yes no output is ever 1; the situation of a no makes the output of its obligation 1, and none before it."""
+    _, path, full = row
+    text = answer(y86("aig", path, *full))[1]
+    status, verdict, _ = answer(y86("check", "pipe", path, *full))
+    if status == 0:
+        same(answer(y86("aigrun", "d.aag", "7", files={"d.aag": text}))[1], "".join(f"o{k} 0\n" for k in range(27)))
+    else:
+        rule = int(verdict.split("\n")[0][4:])
+        values = Aag(text).values(bits_of(verdict.split("\n")[1:-1]))
+        same(values[:rule], [False] * (rule - 1) + [True])
+
+
+@pytest.mark.parametrize("name", ("std", "stall_and_bubble"))
+def test_solvers_agree(name, programs):
+    """Solvers that are installed agree with the yes and with the no."""
+    if not any(map(shutil.which, SOLVERS)):
+        pytest.skip(f"no solver is installed: {', '.join(SOLVERS)}")
+    words = [sys.executable, f"{TOP}/lab/lab", "aig", "confirm", programs("y86"), f"{DESIGNS}/{name}.hcl", *[word for it in SOLVERS for word in ("--solver", it)]]
+    done = subprocess.run(words, capture_output=True, text=True, timeout=600, check=False)
+    same((done.returncode, done.stdout.rstrip("\n").rpartition("\n")[2]), (0, "1 confirmed, 0 not"))

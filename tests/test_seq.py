@@ -1,18 +1,13 @@
-#!/usr/bin/env python3
-"""sequential.py PROGRAM
-
-Runs the sequential datapaths of PROGRAM (a path to y86) and compares: under examples/designs/seq_plus.hcl and examples/designs/seq.hcl each example
+"""Runs the sequential datapaths: under examples/designs/seq_plus.hcl and examples/designs/seq.hcl each example
 program, and each of some small ones, has the report and the status of `yis`, at its end and at small limits; and what `ssim`, `ssimp`,
 `check seq` and `check seqplus` answer to designs that are almost right, or wrong as a whole, is the text that stands here, worked out by
-hand. Prints each row that differs, and ends with `N passed, M failed`.
+hand.
 """
-import os
 import re
-import sys
-import tempfile
 
-sys.dont_write_bytecode = True
-from comparing import DESIGNS, EXAMPLES, called, compared
+from helpers.cases import cases, same
+from helpers.designs import example, replaced
+from helpers.paths import DESIGNS, PROGRAMS as FOLDER, names
 
 LIMITS = ["1", "2", "3", "5", "8", "10000"]
 HALT = "S error=0 icode=0 ifun=0 rA=15 rB=15 cnd=1 derror=0\natoms\n"
@@ -88,13 +83,6 @@ ROWS = [
     ("check seqplus d.hcl --limit 3", "seq_plus", "", 2, None),
     ("check plus d.hcl", "seq_plus", "", 2, None),
 ]
-
-
-def changed(text, definitions):
-    """An HCL file with these definitions in the place of its own."""
-    for name in re.findall(r"^(?:word|bool) (\w+) =", definitions, flags=re.M):
-        text = re.sub(rf"^(?:word|bool) {name} =\s*(?:\[[^\]]*\]|[^;\[]*);", "", text, flags=re.M)
-    return f"{text}\n{definitions}\n"
 
 
 def report(steps, pc, status, registers=""):
@@ -184,73 +172,59 @@ def all_behind(row, text):
         yield f"{kind} {name} = 0;" if name in READS[row] else f"bool {name} = {asked};" if kind == "bool" else f"word {name} = [ {asked} : 1; 1 : 0; ];"
 
 
-def call(program, words, folder, files=()):
-    """The status and both streams of a call, with these files (names and texts) in its folder."""
-    status, out, err = called(program, words, folder, [(name, text.encode()) for name, text in files])
-    return status, out.decode(), err.decode()
-
-
-def design(name, definitions):
-    if not name:
-        return ""
-    with open(f"{DESIGNS}/{name}.hcl", encoding="utf-8") as it:
-        return changed(it.read(), definitions)
-
-
 def object_text(code):
     return f"0x000: {code.replace(' ', '')} |\n"
 
 
-def examples(program):
-    """Each program of examples/ on both datapaths, at each limit."""
-    for name in sorted(it for it in os.listdir(f"{EXAMPLES}/programs") if it.endswith(".yo")):
-        for limit in LIMITS:
-            wanted = call(program, ["yis", name, "--limit", limit], f"{EXAMPLES}/programs")
-            for command, design in (("ssim", "seq.hcl"), ("ssimp", "seq_plus.hcl")):
-                yield f"{command} {design} {name} --limit {limit}", wanted, call(program, [command, f"{DESIGNS}/{design}", name, "--limit", limit], f"{EXAMPLES}/programs")
+def changed(name, definitions):
+    return replaced(example(name), definitions) if definitions else example(name)
 
 
-def small(program, folder):
-    """The small programs on both datapaths, and the runs."""
-    for code, limit in PROGRAMS:
-        words = ["p.yo", "--mem", "64", "--limit", limit]
-        files = [("p.yo", object_text(code))]
-        wanted = call(program, ["yis", *words], folder, files)
-        for command, name in (("ssim", "seq"), ("ssimp", "seq_plus")):
-            yield f"{command} on {code}", wanted, call(program, [command, "d.hcl", *words], folder, [("d.hcl", design(name, "")), *files])
-    for words, definitions, code, status, text in RUNS:
-        files = [("d.hcl", design("seq_plus" if words.startswith("ssimp") else "seq", definitions)), ("p.yo", object_text(code))]
-        yield f"{words}, {definitions!r} on {code}", (status, text, ""), call(program, [*words.split(), "--mem", "64"], folder, files)
-    for command, name in (("ssim", "seq"), ("ssimp", "seq_plus")):
-        for row in READS:
-            files = [("d.hcl", "\n".join(all_behind(row, design(name, "")))), ("p.yo", object_text("00"))]
-            yield f"{command}: {row} depends on no more", (1, report(1, 0, "BUB"), ""), call(program, [command, "d.hcl", "p.yo", "--mem", "64"], folder, files)
-    wanted = call(program, ["yis", "p.yo", "--full", "--mem", "64"], folder, [("p.yo", object_text(ADDS))])
-    yield "yis of iaddq", wanted, (0, report(3, 20, "HLT"), "")
-    wanted = call(program, ["yis", "p.yo", "--mem", "64"], folder, [("p.yo", object_text(ADDS))])
-    yield "yis of iaddq in the smaller set", wanted, (1, report(2, 10, "INS", "%rdx:\t0x0000000000000000\t0x0000000000000007\n"), "")
+DATAPATHS = (("ssim", "seq"), ("ssimp", "seq_plus"))
 
 
-def answers(program, folder):
-    """The rows of designs."""
-    files = [("p.yo", "0x000: 30f30a00000000000000 |\n0x00a: 00 |\n")]
-    for words, name, definitions, status, text in ROWS:
-        got = call(program, words.split(), folder, [("d.hcl", design(name, definitions)), *files])
-        wanted = (status, text, "") if status <= 1 else (status, "", got[2] if text is None else text)
-        yield f"{words}, {name} with {definitions!r}", wanted, got
+@cases((f"{command} {name} limit {limit}", command, file, name, limit) for name in names(FOLDER, ".yo") for limit in LIMITS for command, file in DATAPATHS)
+def test_example(row, y86):
+    _, command, file, name, limit = row
+    wanted = y86("yis", f"{name}.yo", "--limit", limit, folder=FOLDER)
+    same(y86(command, f"{DESIGNS}/{file}.hcl", f"{name}.yo", "--limit", limit, folder=FOLDER), wanted)
 
 
-def rows(program):
-    """Each row: its name, what is wanted, and what came."""
-    yield from examples(program)
-    with tempfile.TemporaryDirectory() as folder:
-        yield from small(program, folder)
-        yield from answers(program, folder)
+@cases((f"{command} on {code}", command, file, code, limit) for code, limit in PROGRAMS for command, file in DATAPATHS)
+def test_small_program(row, y86):
+    _, command, file, code, limit = row
+    words = ["p.yo", "--mem", "64", "--limit", limit]
+    wanted = y86("yis", *words, files={"p.yo": object_text(code)})
+    same(y86(command, "d.hcl", *words, files={"d.hcl": example(file)}), wanted)
 
 
-def main():
-    return compared(rows(os.path.abspath(sys.argv[1])))
+@cases((f"{words} {definitions} on {code}", words, definitions, code, status, text) for words, definitions, code, status, text in RUNS)
+def test_run(row, y86):
+    _, words, definitions, code, status, text = row
+    files = {"d.hcl": changed("seq_plus" if words.startswith("ssimp") else "seq", definitions), "p.yo": object_text(code)}
+    same(y86(*words.split(), "--mem", "64", files=files).text(), (status, text, ""))
 
 
-if __name__ == "__main__":
-    sys.exit(main())
+@cases((f"{command} {row}", command, file, row) for command, file in DATAPATHS for row in READS)
+def test_row_depends_on_no_more(row, y86):
+    _, command, file, signal = row
+    files = {"d.hcl": "\n".join(all_behind(signal, example(file))), "p.yo": object_text("00")}
+    same(y86(command, "d.hcl", "p.yo", "--mem", "64", files=files).text(), (1, report(1, 0, "BUB"), ""))
+
+
+def test_iaddq(y86):
+    same(y86("yis", "p.yo", "--full", "--mem", "64", files={"p.yo": object_text(ADDS)}).text(), (0, report(3, 20, "HLT"), ""))
+
+
+def test_iaddq_in_the_smaller_set(y86):
+    came = y86("yis", "p.yo", "--mem", "64", files={"p.yo": object_text(ADDS)})
+    same(came.text(), (1, report(2, 10, "INS", "%rdx:\t0x0000000000000000\t0x0000000000000007\n"), ""))
+
+
+@cases((f"{words} {name} with {definitions}", words, name, definitions, status, text) for words, name, definitions, status, text in ROWS)
+def test_answer(row, y86):
+    _, words, name, definitions, status, text = row
+    files = {"d.hcl": changed(name, definitions) if name else "", "p.yo": "0x000: 30f30a00000000000000 |\n0x00a: 00 |\n"}
+    came = y86(*words.split(), files=files).text()
+    wanted = (status, text, "") if status <= 1 else (status, "", came[2] if text is None else text)
+    same(came, wanted)

@@ -1,0 +1,2 @@
+"""The programs of the repository, by the names of their crates. Each has a launcher beside `prove`, a link to `y86` with `-` in place of `_`."""
+PROGRAMS = ("y86", "y86_stages", "y86_tell")

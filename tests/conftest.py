@@ -1,0 +1,60 @@
+"""The fixtures of all tests: the programs, a folder for each test, and the command `lab`."""
+import os
+import tempfile
+
+import pytest
+
+from helpers.paths import TOP
+from helpers.programs import PROGRAMS, NoProgram, Program, program_path
+
+
+def pytest_addoption(parser):
+    parser.addoption("--proved", action="store_true", help="test the built programs, and fail where one isn't there")
+
+
+@pytest.fixture(scope="session")
+def programs(request):
+    """Where a crate's program is: `programs("y86")`. It skips where the repository has no such crate."""
+    found = {}
+
+    def path(crate):
+        assert crate in PROGRAMS, f"{crate} isn't listed in launch/programs.py"
+        if not os.path.isdir(f"{TOP}/crates/{crate}"):
+            pytest.skip(f"there is no crate {crate}")
+        if crate not in found:
+            try:
+                found[crate] = program_path(crate, request.config.getoption("proved"))
+            except NoProgram as why:
+                pytest.exit(f"there is no program {crate} to test: {why}", returncode=2)
+        return found[crate]
+
+    return path
+
+
+@pytest.fixture
+def folder():
+    """A folder of the test's own."""
+    with tempfile.TemporaryDirectory() as room:
+        yield os.path.realpath(room)
+
+
+@pytest.fixture
+def y86(programs, folder):
+    """The program `y86`, called in the test's folder: `y86("yis", "p.yo", files={"p.yo": text})`."""
+    return Program(programs("y86"), folder)
+
+
+@pytest.fixture
+def y86_stages(programs, folder):
+    return Program(programs("y86_stages"), folder)
+
+
+@pytest.fixture
+def y86_tell(programs, folder):
+    return Program(programs("y86_tell"), folder)
+
+
+@pytest.fixture(scope="session")
+def usage():
+    """The answer to an invalid command line."""
+    return 2, "", "usage: y86 yas|yis|hcl|ssim|psim|check|sample|big|recheck|ssimp|aig|aigrun\n"
