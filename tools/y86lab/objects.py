@@ -1,43 +1,67 @@
 """Object files: their bytes, their source lines, and the instructions in them."""
+from __future__ import annotations
+
 import re
+from dataclasses import dataclass
 
-import program
-import tables as t
+from .calls import read_text
+from .explaining import isa
+
+LINE = re.compile(r"\s*0x([0-9a-fA-F]+):\s*([0-9a-fA-F]*)\s*\|?(.*)")
 
 
-class Object:
+@dataclass(frozen=True)
+class Instruction:
+    """The instruction at an address: its fields, the registers that it reads and writes, and its text."""
+
+    address: int
+    icode: int
+    ifun: int
+    valC: int
+    valP: int
+    srcA: int
+    srcB: int
+    dstE: int
+    dstM: int
+    text: str
+
+    def reads(self) -> set[int]:
+        return {self.srcA, self.srcB} - {isa.NONE}
+
+
+class ObjectFile:
     """The bytes of an object file by address, and the source text of each address that begins a statement."""
 
-    def __init__(self, path):
-        self.bytes, self.source = {}, {}
-        for line in program.read(path).split("\n"):
-            found = re.match(r"\s*0x([0-9a-fA-F]+):\s*([0-9a-fA-F]*)\s*\|?(.*)", line)
-            if not found or not found[2]:
+    def __init__(self, path: str) -> None:
+        self.bytes: dict[int, int] = {}
+        self.source: dict[int, str] = {}
+        for line in read_text(path).split("\n"):
+            match = LINE.match(line)
+            if not match or not match[2] or len(match[2]) % 2:
                 continue
-            at = int(found[1], 16)
-            self.source[at] = re.sub(r"\s+", " ", found[3].split("#")[0]).strip()
-            for number, byte in enumerate(bytes.fromhex(found[2])):
-                self.bytes[at + number] = byte
+            address = int(match[1], 16)
+            self.source[address] = re.sub(r"\s+", " ", match[3].split("#")[0]).strip()
+            for number, byte in enumerate(bytes.fromhex(match[2])):
+                self.bytes[address + number] = byte
 
-    def word(self, at):
-        return sum(self.bytes.get(at + number, 0) << 8 * number for number in range(8))
+    def word(self, address: int) -> int:
+        return sum(self.bytes.get(address + number, 0) << 8 * number for number in range(8))
 
-    def instruction(self, at):
-        return Instruction(self, at)
-
-
-class Instruction:
-    """The instruction at an address."""
-
-    def __init__(self, held, at):
-        first, second = held.bytes.get(at, 0), held.bytes.get(at + 1, 0)
-        self.at, self.icode, self.ifun = at, first >> 4, first & 15
-        with_registers = self.icode in t.WITH_REGISTERS
-        self.rA, self.rB = (second >> 4, second & 15) if with_registers else (15, 15)
-        self.valC = held.word(at + 1 + with_registers) if self.icode in t.WITH_CONSTANT else 0
-        self.valP = at + 1 + with_registers + 8 * (self.icode in t.WITH_CONSTANT)
-        self.srcA, self.srcB, self.dstE, self.dstM = t.row(self.icode, self.rA, self.rB)
-        self.text = held.source.get(at) or t.mnemonic(self.icode, self.ifun)
-
-    def reads(self):
-        return {self.srcA, self.srcB} - {t.NONE}
+    def instruction(self, address: int) -> Instruction:
+        first, second = self.bytes.get(address, 0), self.bytes.get(address + 1, 0)
+        icode, ifun = first >> 4, first & 15
+        has_registers, has_constant = icode in isa.WITH_REGISTERS, icode in isa.WITH_CONSTANT
+        rA, rB = (second >> 4, second & 15) if has_registers else (isa.NONE, isa.NONE)
+        srcA, srcB, dstE, dstM = isa.registers_of(icode, rA, rB)
+        return Instruction(
+            address,
+            icode,
+            ifun,
+            self.word(address + 1 + has_registers) if has_constant else 0,
+            address + 1 + has_registers + 8 * has_constant,
+            srcA,
+            srcB,
+            dstE,
+            dstM,
+            self.source.get(address) or isa.mnemonic(icode, ifun),
+        )

@@ -1,0 +1,1 @@
+"""AIGER files of `y86 aig`, for solvers of other makers."""

@@ -1,0 +1,138 @@
+"""y86-lab witness HCL: looks for a program that shows the mistake of a file, and shortens it."""
+from __future__ import annotations
+
+import argparse
+import itertools
+import os
+import tempfile
+from typing import Optional
+
+from .. import explaining, hcl, trial_programs
+from ..arguments import MOST, Command, add_full, digits, number_to
+from ..calls import Programs, read_text
+from ..errors import DONE, OUT_OF_TIME, REFUSED, LabError
+from ..explaining.unseen import unseen_icode
+from ..trial import COMMANDS, OutOfTime, Trial, shortened, source_of
+from ..trial_programs import Lines
+
+
+def add_arguments(parser: argparse.ArgumentParser) -> None:
+    parser.add_argument("file", metavar="HCL", help="the file that has a mistake")
+    add_full(parser)
+    parser.add_argument("-o", "--output", metavar="FILE", help="write the program into this file, for yas")
+    parser.add_argument(
+        "--tries", type=number_to(MOST), default=1200, metavar="N", help="the most programs to try (default 1200)"
+    )
+    parser.add_argument(
+        "--seconds", type=number_to(MOST), default=60, metavar="N", help="the longest time to search (default 60)"
+    )
+    parser.add_argument(
+        "--seed", type=digits, default=7, metavar="N", help="what the random programs are drawn from (default 7)"
+    )
+
+
+def run(arguments: argparse.Namespace, programs: Programs) -> int:
+    path, full = arguments.file, arguments.full
+    text = read_text(path)
+    design = hcl.design_of(text)
+    datapath = explaining.datapath(design)
+    answer = programs.check(datapath, path, full)
+    if answer.status is None or answer.status not in (DONE, REFUSED):
+        print(answer.err.strip() or f"{path}: the check gives no answer")
+        return OUT_OF_TIME if answer.status is None else answer.status
+    print(f"{path}: {answer.out.splitlines()[0]}")
+    note = explaining.unasked(text, full)
+    if answer.status == DONE:
+        which = " without `iaddq`" if note else ""
+        print(f"So no program{which} shows a mistake: this file is right for every one.")
+    if note:
+        print(note)
+    return DONE if answer.status == DONE or not design else search(arguments, programs, datapath, design)
+
+
+def search(arguments: argparse.Namespace, programs: Programs, datapath: str, design: hcl.Design) -> int:
+    """Looks for a program that shows the mistake, or for why there is none."""
+    path, full, tries, seconds = arguments.file, arguments.full, arguments.tries, arguments.seconds
+    where = unseen_icode(programs, design, full) if datapath == "seq" else None
+    if where:
+        print(f"No program shows it: {where} `icode` isn't what was read, but each other signal of the file is the same as")
+        print("with what was read, so the machine does the same; and with `word icode = imem_icode;` the file is right.")
+        return REFUSED
+    print(f"Trying up to {tries} programs until one shows it, for at most {seconds} s.", flush=True)
+    with tempfile.TemporaryDirectory() as folder:
+        trial = Trial(programs, path, datapath, full, folder)
+        trial.keep_to(seconds)
+        tried, lines = first_that_shows(trial, full, tries, arguments.seed)
+        if lines is not None:
+            lines, is_shortest = shortened(trial, lines)
+            trial.keep_to(None)
+            print_witness(trial, lines, tried, is_shortest)
+            if arguments.output:
+                write(arguments.output, path, lines)
+            return DONE
+    done = f"None of {tried} programs" if tried == tries else f"None of the {tried} programs that {seconds} s were enough for"
+    print(f"{done} shows the mistake. The rule is broken all the same: a program that shows it may be rare,")
+    print("or there is none, for a No promises that the rule fails in the situation that it shows, and no more.")
+    return REFUSED
+
+
+def first_that_shows(trial: Trial, full: bool, tries: int, seed: int) -> tuple[int, Optional[Lines]]:
+    """How many programs were tried, and the last of them if it shows the mistake."""
+    drawn = itertools.chain(
+        trial_programs.special(), trial_programs.pairs(full), trial_programs.at_random(seed, full)
+    )
+    number = 0
+    try:
+        for number, lines in enumerate(itertools.islice(drawn, tries), 1):
+            if trial.shows(lines):
+                return number, lines
+    except OutOfTime:
+        return number - 1, None
+    return number, None
+
+
+def print_witness(trial: Trial, lines: Lines, number: int, is_shortest: bool) -> None:
+    runs = trial.runs(lines)
+    if runs is None:
+        raise LabError("the program that shows the mistake doesn't run a second time")
+    how = "until no line of it can be left out" if is_shortest else "as far as the time was enough"
+    print(f"Program {number} shows it. Shortened {how}:\n")
+    print_indented(runs.listing)
+    print("yis, the instructions one by one:\n")
+    print_indented(runs.wanted)
+    cycles = f", {runs.cycles.split(',')[0]}" if runs.cycles else ""
+    print(f"{COMMANDS[trial.datapath]} under {os.path.basename(trial.path)}{cycles}:\n")
+    print_indented(runs.report)
+    print_difference(runs.wanted_trace, runs.trace, runs.wanted, runs.report)
+
+
+def print_indented(text: str) -> None:
+    """Prints a text with a margin, and an empty line below it."""
+    print("\n".join(f"    {line}".rstrip() for line in text.splitlines()), end="\n\n")
+
+
+def print_difference(wanted_trace: list[str], trace: list[str], wanted: str, report: str) -> None:
+    """Where two runs part: the first instruction that retires otherwise, or the lines of the reports that differ."""
+    for number, (right, retired) in enumerate(itertools.zip_longest(wanted_trace, trace), 1):
+        if right != retired:
+            print(f"They part at instruction {number}:\n")
+            print(f"    wanted   {right or '(none)'}\n    retired  {retired or '(none)'}")
+            return
+    print("They part in these lines of the reports:\n")
+    lines, others = wanted.splitlines(), report.splitlines()
+    for sign, these, those in (("wanted", lines, others), ("got   ", others, lines)):
+        for line in these:
+            if line not in those:
+                print(f"    {sign}   {line}")
+
+
+def write(output: str, path: str, lines: Lines) -> None:
+    try:
+        with open(output, "w", encoding="utf-8", errors="surrogateescape") as file:
+            file.write(f"# shows the mistake of {path}\n{source_of(lines)}")
+    except OSError as fault:
+        raise LabError(f"{output}: {fault.strerror}") from fault
+    print(f"\nThe program is in {output}.")
+
+
+COMMAND = Command("witness", "looks for a program that shows the mistake of a file", add_arguments, run)
