@@ -9,7 +9,7 @@ import time
 from proving import crates_of, tell
 
 # The folders, and of docs/ the pages and scripts, where they are there.
-FOLDERS = ("examples", "lab", "tools")
+FOLDERS = ("examples", "tools")
 DOCS = ("COMMANDS.md", "HCL.md", "OBLIGATIONS.md", "THEOREM.md", "ASSEMBLY.md", "TUTORIAL.md", "LAB.md", "STAGES.md", "CERTIFICATES.md", "AIGER.md")
 README = """\
 # y86
@@ -48,7 +48,7 @@ def said_by(words, here):
 
 def files_of(here):
     """Returns the files to hand out: those of the repository, and none that lies beside them."""
-    wanted = [*FOLDERS, *[f"docs/{it}" for it in DOCS]]
+    wanted = [*FOLDERS, "y86-lab", *[f"docs/{it}" for it in DOCS]]
     listed = said_by(["git", "ls-files", "-z", "--", *wanted], here)
     if listed:
         return [it for it in listed.split("\0") if it and os.path.isfile(f"{here}/{it}")]
@@ -97,8 +97,8 @@ def readme(here, programs, built, files):
     more = ""
     if any(it.endswith(".md") for it in files):
         more += " `docs/` has the pages: " + ", ".join(f"[{it[5:-3]}]({it})" for it in files if it.startswith("docs/") and it.endswith(".md")) + "."
-    if any(it.startswith("lab/") for it in files):
-        more += " `lab/` has scripts for a student's evening and a teacher's class, which need Python 3."
+    if "y86-lab" in files:
+        more += " `./y86-lab --help` lists commands for a student's evening and a teacher's class, which need Python 3."
     toolchain = toolchain_of(here, next(iter(built.values())))
     return README.format(
         libc=libc_of(built.values()),

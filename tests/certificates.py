@@ -1,9 +1,9 @@
 #!/usr/bin/env python3
 """certificates.py PROGRAM [PLACES]
 
-Writes a certificate of each design for PIPE in examples/ with PROGRAM (y86), and checks it with PROGRAM and with lab/recheck. Then it breaks
+Writes a certificate of each design for PIPE in examples/ with PROGRAM (y86), and checks it with PROGRAM and with tools/y86-recheck. Then it breaks
 certificates, in each way that docs/CERTIFICATES.md names, and compares the fault that PROGRAM tells with the one that the page asks for, and with that of
-lab/recheck where the fault doesn't depend on the net's gates. At the end it changes one byte at each of PLACES places (default 40) of one certificate. Prints each
+tools/y86-recheck where the fault doesn't depend on the net's gates. At the end it changes one byte at each of PLACES places (default 40) of one certificate. Prints each
 row that differs, and ends with `N passed, M failed`.
 """
 import importlib.machinery
@@ -114,7 +114,7 @@ HEADLESS = [
 
 
 def lab():
-    loader = importlib.machinery.SourceFileLoader("recheck", f"{TOP}/lab/recheck")
+    loader = importlib.machinery.SourceFileLoader("recheck", f"{TOP}/tools/y86-recheck")
     sys.dont_write_bytecode = True
     module = importlib.util.module_from_spec(importlib.util.spec_from_loader("recheck", loader))
     loader.exec_module(module)
@@ -144,11 +144,11 @@ class Rows:
             print(f"{name}\n--- wanted\n{want}\n--- got\n{got}")
 
     def by_lab(self, text, variables=None):
-        """The first fault of a text by lab/recheck, if any."""
+        """The first fault of a text by tools/y86-recheck, if any."""
         try:
             self.lab.check(text, variables)
         except self.lab.Fault as fault:
-            return fault.args
+            return fault.line, fault.reason
         return None
 
     def fault(self, name, text, line, why, words=("std.hcl",)):
@@ -157,7 +157,7 @@ class Rows:
         told = f"{name}.crt:{line}: {why}\n".encode()
         self.row(f"{name}: {text[:200]!r}", self.call("recheck", words[0], f"{name}.crt", *words[1:]), (5, b"", told))
         if why in OF_THE_TEXT:
-            self.row(f"{name}, by lab/recheck", self.by_lab(text, VARIABLES), (line, why))
+            self.row(f"{name}, by tools/y86-recheck", self.by_lab(text, VARIABLES), (line, why))
 
     def examples(self):
         """Each design: its certificate is right, by both checkers, and a No is told as without `--cert`."""
@@ -188,7 +188,7 @@ class Rows:
         # a right line of a term or a claim more changes nothing
         self.write("more.crt", text[:-4] + b"t 0 0 1\na 0 0 0\nend\n")
         self.row("more lines", self.call("recheck", "std.hcl", "more.crt"), (0, b"holds" + HEAD[13:], b""))
-        self.row("by lab/recheck", self.by_lab(text), None)
+        self.row("by tools/y86-recheck", self.by_lab(text), None)
         for name, other in (("another_file", ("no_bypassing.hcl",)), ("another_set", ("std.hcl", "--full"))):
             status, out, err = self.call("recheck", other[0], "std.hcl.crt", *other[1:])
             self.row(name, (status, out, err.split()[-1:] in ([b"Gate"], [b"Missing"], [b"Rule"])), (5, b"", True))
@@ -219,7 +219,7 @@ class Rows:
         self.fault("true_everywhere_and_more", b"\n".join(lines) + b"\nend\n", len(lines), "Rule")
 
     def place(self, text, at, byte):
-        """One byte changed: refused, or else right by lab/recheck too."""
+        """One byte changed: refused, or else right by tools/y86-recheck too."""
         changed = text[:at] + bytes([byte]) + text[at + 1:]
         name = f"place{at}.crt"
         self.write(name, changed)

@@ -1,9 +1,9 @@
 #!/usr/bin/env python3
 """lab_rows.py PROGRAM
 
-Calls the scripts of lab/ over PROGRAM (a path to y86) with wrong words and wrong files, and compares the status and what they print: one line that says
-what is wrong and where, and never a traceback. What they print of good files stands on the pages (docs/LAB.md, docs/TUTORIAL.md). Prints each row that
-differs, and ends with `N passed, M failed`.
+Calls `y86-lab` and `y86-recheck` over PROGRAM (a path to y86) with wrong arguments and wrong files, and compares the status and what they print.
+They print what is wrong and where, and never a traceback. The pages have what they print of good files (docs/LAB.md, docs/TUTORIAL.md).
+Prints each row that differs, and ends with `N passed, M failed`.
 """
 import os
 import re
@@ -16,11 +16,11 @@ from comparing import EXAMPLES, TOP, called, changed, compared, design
 
 
 def lab(folder, files, script, *words):
-    """The status and both streams of a script of lab/ in a folder with these files (name and bytes)."""
-    return called(sys.executable, [f"{TOP}/lab/{script}", *words], folder, files)
+    """The status and both streams of `y86-lab` or `y86-recheck` in a folder with these files (name and bytes)."""
+    return called({"lab": f"{TOP}/y86-lab", "recheck": f"{TOP}/tools/y86-recheck"}[script], words, folder, files)
 
 
-HINT = "`lab/lab witness mine.hcl` looks for a program that shows it."
+HINT = "`./y86-lab witness mine.hcl` looks for a program that shows it."
 IADDQ = "`iaddq` wasn't asked: `--full` asks it too."
 DEEP = b"bool set_cc = " + b"(" * 30000 + b"1" + b")" * 30000 + b";\n"
 UNPAIRED = b"bool F_bubble = 0\n\n# F waits\nbool F_stall = 1;\n"
@@ -89,20 +89,22 @@ def towering():
 
 def faults(folder):
     """What `explain` says of files with a fault."""
-    for script in ("explain", "witness", "page"):
-        status, out, said = lab(folder, [("deep.hcl", DEEP)], "lab", script, "deep.hcl")
-        yield f"30,000 brackets: {script}", (1, b"deep.hcl:1:79: DepthOver64", b""), (status, out.split(b"\n")[0], said)
+    status, out, said = lab(folder, [("deep.hcl", DEEP)], "lab", "explain", "deep.hcl")
+    yield "30,000 brackets: explain", (5, b"deep.hcl:1:79: DepthOver64", b""), (status, out.split(b"\n")[0], said)
+    for script in ("witness", "page"):
+        wanted = (5, b"", b"deep.hcl:1:79: DepthOver64\n")
+        yield f"30,000 brackets: {script}", wanted, lab(folder, [("deep.hcl", DEEP)], "lab", script, "deep.hcl")
     status, _, said = explained(folder, towering())
-    yield "definitions as a tower", (1, b"lab: the definitions stand on each other too deeply; what ./y86 check answers holds\n"), (status, said)
+    yield "definitions as a tower", (1, b""), (status, said)
     yield "5,000 digits", "mine.hcl:1:13: NumberTooWide", explained(folder, f"word aluA = {'1' * 5000};\n")[1][0]
     lines = ["mine.hcl: Missing f_pc", "", "Missing: the signal isn't defined; where several are missing, the first in the order of the tables"]
-    yield "an empty file", (1, lines, b""), explained(folder, "")
-    words = ["PYTHONCOERCECLOCALE=0", "LC_ALL=C", "PYTHONUTF8=0", sys.executable, f"{TOP}/lab/lab", "explain", "mine.hcl"]
+    yield "an empty file", (5, lines, b""), explained(folder, "")
+    words = ["PYTHONCOERCECLOCALE=0", "LC_ALL=C", "PYTHONUTF8=0", f"{TOP}/y86-lab", "explain", "mine.hcl"]
     status, out, said = called("env", words, folder, [("mine.hcl", "bool F_stall = \u201c0;\n".encode())])
     lines = [b"mine.hcl:1:16: BadByte", b"", b"       1 | bool F_stall = ?0;", b"         |                ^"]
-    yield "no such character in the locale", (1, lines, b""), (status, out.splitlines()[:4], said)
+    yield "no such character in the locale", (5, lines, b""), (status, out.splitlines()[:4], said)
     usage = b"usage: y86 yas|yis|hcl|ssim|psim|check|sample|big|recheck|ssimp|aig|aigrun\n"
-    yield "a name that is no text", (1, usage, b""), lab(folder, [("\udce9.hcl", b"")], "lab", "explain", "\udce9.hcl")
+    yield "a name that is no text", (2, usage, b""), lab(folder, [("\udce9.hcl", b"")], "lab", "explain", "\udce9.hcl")
     many = "D_valC == 0" + "".join(f" || D_valC == {it}" for it in range(1, 65))
     lines = ["mine.hcl: AtomsOver64", "", "AtomsOver64: the definitions compare more than 64 different pairs of words, too many for `check`,"]
     yield "65 comparisons", lines, explained(folder, changed(design("std"), "F_bubble", many))[1][:3]
@@ -112,7 +114,7 @@ def faults(folder):
     lines += ["", "       2 | boolsig F_bubble 'F'", "         |         ^"]
     yield "a wrong definition", lines, explained(folder, "word F_bubble = 0;\nboolsig F_bubble 'F'\n")[1][:7]
     lines = ["mine.hcl: TooLong 65536", "", "TooLong: the file has more than 65,536 bytes; the status is 7"]
-    yield "a file that is too long", (1, lines, b""), explained(folder, "#" * 65537)
+    yield "a file that is too long", (7, lines, b""), explained(folder, "#" * 65537)
 
 
 def swaps(folder):
@@ -121,11 +123,11 @@ def swaps(folder):
     files += [("twice.hcl", b"bool F_stall = 1;\nbool F_stall = 0;\n")]
     rows = [
         ("good.hcl new.hcl", 0, b"bool F_bubble = 0;\n# the end\nbool F_stall = 1;\n", b""),
-        ("good.hcl bad.hcl", 1, b"", b"bad.hcl:4:1: Syntax\n"),
-        ("bad.hcl new.hcl", 1, b"", b"bad.hcl:4:1: Syntax\n"),
-        ("good.hcl twice.hcl", 1, b"", b"twice.hcl: Twice F_stall\n"),
-        ("good.hcl deep.hcl", 1, b"", b"deep.hcl:1:79: DepthOver64\n"),
-        ("good.hcl none.hcl", 1, b"", b"lab: none.hcl: No such file or directory\n"),
+        ("good.hcl bad.hcl", 5, b"", b"bad.hcl:4:1: Syntax\n"),
+        ("bad.hcl new.hcl", 5, b"", b"bad.hcl:4:1: Syntax\n"),
+        ("good.hcl twice.hcl", 5, b"", b"twice.hcl: Twice F_stall\n"),
+        ("good.hcl deep.hcl", 5, b"", b"deep.hcl:1:79: DepthOver64\n"),
+        ("good.hcl none.hcl", 3, b"", b"none.hcl: No such file or directory\n"),
     ]
     for words, *wanted in rows:
         yield f"swap {words}", tuple(wanted), lab(folder, files, "lab", "swap", *words.split())
@@ -142,12 +144,16 @@ def without_page(folder):
         ("page seq_plus.hcl a.yo", f"seq_plus.hcl: {alone}, and this file is one for SEQ+"),
     ]
     for words, wanted in rows:
-        yield words, (1, f"{wanted}\n".encode(), b""), lab(folder, files, "lab", *words.split())
+        yield words, (1, b"", f"{wanted}\n".encode()), lab(folder, files, "lab", *words.split())
     for words in ("explain --help", "explain mine.hcl -h", "page --help", "swap --help", "witness --help"):
-        usage = f"usage: lab {words.split()[0]} HCL ".encode()
+        usage = f"usage: y86-lab {words.split()[0]} [-h]".encode()
         status, out, said = lab(folder, [], "lab", *words.split())
-        yield words, (2, usage, b""), (status, out[: len(usage)], said)
-    yield "lab --help", lab(folder, [], "lab"), lab(folder, [], "lab", "--help")
+        yield words, (0, usage, b""), (status, out[: len(usage)], said)
+    listed = lab(folder, [], "lab", "--help")
+    yield "y86-lab --help", (0, b"usage: y86-lab COMMAND ..", b""), (listed[0], listed[1].split(b"\n")[0], listed[2])
+    yield "y86-lab without arguments", (2, *listed[1:]), lab(folder, [], "lab")
+    said = b"usage: y86-lab COMMAND ..\ny86-lab: error: there is no command `explian`; did you mean `explain`?\n"
+    yield "a misspelt command", (2, b"", said), lab(folder, [], "lab", "explian", "std.hcl")
 
 
 def texts(folder):
@@ -160,7 +166,7 @@ def texts(folder):
 
 
 def scores(folder):
-    """The rows of `witness`, `archlab`, `class`, `cycles` and of lab/recheck."""
+    """The rows of `witness`, `archlab`, `class`, `cycles` and of `y86-recheck`."""
     room = os.path.join(folder, "scores")
     os.mkdir(room)
     files = [(f"{name}.hcl", design(name).encode()) for name in ("std", "seq_plus", "seq", "stall_and_bubble")]
@@ -177,17 +183,19 @@ def scores(folder):
 
 
 YES = b"yes pt=1111111 pb=1111111 tv=0 lf=0 je=0 rm=0\n"
+USAGE_WITNESS = b"usage: y86-lab witness [-h] [--full] [-o FILE] [--tries N] [--seconds N] [--seed N] HCL\ny86-lab witness: error: "
 # The words, the status and both streams.
 WITNESS = [
     (("witness", "flags.hcl"), 0, b"flags.hcl: " + YES + b"So no program without `iaddq` shows a mistake: this file is right for every one.\n"
         b"`iaddq` wasn't asked: `--full` asks it too.\n", b""),
-    (("witness", "stall_and_bubble.hcl", "--tries", "1"), 1, b"stall_and_bubble.hcl: no O23\nTrying up to 1 programs until one shows it: about 1 s at most.\n"
+    (("witness", "stall_and_bubble.hcl", "--tries", "1"), 1, b"stall_and_bubble.hcl: no O23\nTrying up to 1 programs until one shows it, for at most 60 s.\n"
         b"None of 1 programs shows the mistake. The rule is broken all the same: a program that shows it may be rare,\n"
         b"or there is none, for a No promises that the rule fails in the situation that it shows, and no more.\n", b""),
-    (("witness", "stall_and_bubble.hcl", "--tries", "0"), 2, b"", b"lab: --tries 0: a number from 1 to 1000000 is wanted\n"),
-    (("witness", "stall_and_bubble.hcl", "--tries", "99999999999999999999"), 2, b"", b"lab: --tries 99999999999999999999: a number from 1 to 1000000 is wanted\n"),
+    (("witness", "stall_and_bubble.hcl", "--tries", "0"), 2, b"", USAGE_WITNESS + b"argument --tries: 0: a number from 1 to 1000000 is wanted\n"),
+    (("witness", "stall_and_bubble.hcl", "--tries", "9" * 20), 2, b"",
+        USAGE_WITNESS + b"argument --tries: 99999999999999999999: a number from 1 to 1000000 is wanted\n"),
 ]
-NUMBERS = b"lab: `--mem` takes a multiple of 8 from 64 to 1048576, and `--limit` a number from 1 to 100000000\n"
+USAGE_CYCLES = b"usage: y86-lab cycles [-h] [--sum] [--full] [--mem N] [--limit N] HCL OBJ\ny86-lab cycles: error: "
 CYCLES = [
     (("cycles", "std.hcl", "add.yo", "--limit", "7"), 0, b"cycle  waits  instruction\n"
         b"    5     +4  0x000: irmovq $10, %rdx         filling the pipeline\n"
@@ -200,33 +208,68 @@ CYCLES = [
     # (its last byte is at 0x16)
     (("cycles", "std.hcl", "add.yo", "--mem", "64", "--limit", "100000000", "--sum"), 0, b"where the cycles went:\n      4  an instruction each\n"
         b"      4  filling the pipeline\n      8  cycles for 4 instructions, to the end with HLT: 2.00 cycles per instruction\n", b""),
-    (("cycles", "std.hcl", "add.yo", "--limit", "0"), 2, b"", NUMBERS),
-    (("cycles", "std.hcl", "add.yo", "--mem", "12"), 2, b"", NUMBERS),
-    (("cycles", "std.hcl", "nofile.yo"), 1, b"read fault nofile.yo\n", b""),
+    (("cycles", "std.hcl", "add.yo", "--limit", "0"), 2, b"", USAGE_CYCLES + b"argument --limit: 0: a number from 1 to 100000000 is wanted\n"),
+    (("cycles", "std.hcl", "add.yo", "--mem", "12"), 2, b"",
+        USAGE_CYCLES + b"argument --mem: 12: a multiple of 8 from 64 to 1048576 is wanted\n"),
+    (("cycles", "std.hcl", "nofile.yo"), 3, b"", b"read fault nofile.yo\n"),
 ]
+USAGE_CLASS = b"usage: y86-lab class [-h] [--jobs N] [--seconds N] [--megabytes N] [--no-head] [--full]\n                     FOLDER [FOLDER ...]\n"
+USAGE_CLASS += b"y86-lab class: error: "
 CLASS = [
-    (("class", "nodir"), 2, b"", b"lab: nodir: no such folder or file\n"),
-    (("class", "std.hcl", "--jobs", "0"), 2, b"", b"lab: --jobs 0: a number from 1 to 1000000 is wanted\n"),
-    (("class", "std.hcl", "--seconds", "99999999999999999999"), 2, b"", b"lab: --seconds 99999999999999999999: a number from 1 to 1000000 is wanted\n"),
+    (("class", "nodir"), 2, b"", b"nodir: no such folder or file\n"),
+    (("class", "std.hcl", "--jobs", "0"), 2, b"", USAGE_CLASS + b"argument --jobs: 0: a number from 1 to 1000000 is wanted\n"),
+    (("class", "std.hcl", "--seconds", "9" * 20), 2, b"",
+        USAGE_CLASS + b"argument --seconds: 99999999999999999999: a number from 1 to 1000000 is wanted\n"),
 ]
-# The input is x, and the output is "x and not x".
-AIG = b"aag 2 1 0 1 1\n2\n4\n4 2 3\n"
+# The input is x, and each of the 27 outputs is "x and not x".
+AIG = b"aag 2 1 0 27 1\n2\n" + b"4\n" * 27 + b"4 2 3\n"
+RIGHT = b"right: 4 terms, 6 claims, 4 gates"
+SHOWN = b"; all 27 outputs are 0 at every input\n"
+
+
+def with_text(name, text, status, out, err):
+    """A row of `y86-recheck` with the small certificate and another AIGER file."""
+    return [(name, text)], ("tiny.crt", name), status, out, err
+
+
+with open(f"{EXAMPLES}/certificates/tiny.crt", "rb") as tiny:
+    TINY = tiny.read()
 # The files, the words, the status and both streams.
 RECHECK = [
     ([], ("nofile",), 5, b"", b"nofile: No such file or directory\n"),
     ([], (".",), 5, b"", b".: Is a directory\n"),
     ([("empty.crt", b"")], ("empty.crt",), 5, b"", b"empty.crt:1: Syntax\n"),
-    ([("x.aag", AIG)], ("tiny.crt", "x.aag"), 0, b"holds" + YES[3:], b""),
+    ([], ("tiny.crt",), 0, RIGHT + b"\n", b""),
+    ([("x.aag", AIG)], ("tiny.crt", "x.aag"), 0, RIGHT + SHOWN, b""),
+    # (it doesn't know the settings, so it prints none)
+    ([("tv.crt", TINY.replace(b"tv=0", b"tv=1"))], ("tv.crt", "x.aag"), 0, RIGHT + SHOWN, b""),
     ([], ("nofile", "x.aag"), 5, b"", b"nofile: No such file or directory\n"),
     ([], ("tiny.crt", "std.hcl"), 5, b"", b"std.hcl:1: Syntax\n"),
-    ([("x.aag", b"")], ("tiny.crt", "x.aag"), 5, b"", b"x.aag:1: Syntax\n"),
-    ([("x.aag", b"\xff\n")], ("tiny.crt", "x.aag"), 5, b"", b"x.aag:1: Syntax\n"),
-    ([("x.aag", AIG[:16])], ("tiny.crt", "x.aag"), 5, b"", b"x.aag:3: Syntax\n"),
-    ([("x.aag", AIG.replace(b"4 2 3", b"4 2 x"))], ("tiny.crt", "x.aag"), 5, b"", b"x.aag:4: Syntax\n"),
-    ([("x.aag", b"aag 900000000 1 0 1 900000000\n2\n4\n")], ("tiny.crt", "x.aag"), 5, b"", b"x.aag:4: Syntax\n"),
-    # (literal 6 is nobody's; x itself isn't 0)
-    ([("x.aag", AIG.replace(b"\n4\n", b"\n6\n"))], ("tiny.crt", "x.aag"), 5, b"", b"x.aag: an output isn't shown to be 0\n"),
-    ([("x.aag", AIG.replace(b"\n4\n", b"\n2\n"))], ("tiny.crt", "x.aag"), 5, b"", b"x.aag: an output isn't shown to be 0\n"),
+    with_text("x.aag", b"", 5, b"", b"x.aag:1: Syntax\n"),
+    with_text("x.aag", b"\xff\n", 5, b"", b"x.aag:1: Syntax\n"),
+    # no output, one, 26, 28
+    with_text("x.aag", b"aag 0 0 0 0 0\n", 5, b"", b"x.aag:1: Syntax\n"),
+    with_text("x.aag", b"aag 2 1 0 1 1\n2\n4\n4 2 3\n", 5, b"", b"x.aag:1: Syntax\n"),
+    with_text("x.aag", AIG.replace(b"27", b"26"), 5, b"", b"x.aag:1: Syntax\n"),
+    with_text("x.aag", AIG.replace(b"27", b"28"), 5, b"", b"x.aag:1: Syntax\n"),
+    # a file that ends early: in an output, before its line end, before the gate's
+    with_text("x.aag", AIG[:18], 5, b"", b"x.aag:3: Syntax\n"),
+    with_text("x.aag", AIG[:-7], 5, b"", b"x.aag:29: Syntax\n"),
+    with_text("x.aag", AIG[:-1], 5, b"", b"x.aag:30: Syntax\n"),
+    with_text("x.aag", AIG.replace(b"4 2 3", b"4 2 x"), 5, b"", b"x.aag:30: Syntax\n"),
+    with_text("x.aag", b"aag 900000000 1 0 27 900000000\n2\n" + b"4\n" * 27, 5, b"", b"x.aag:30: Syntax\n"),
+    # an input that is odd, the constant, or there twice; a gate that is odd, the constant, an input, or there twice
+    with_text("x.aag", AIG.replace(b"\n2\n", b"\n3\n", 1), 5, b"", b"x.aag:2: Syntax\n"),
+    with_text("x.aag", AIG.replace(b"\n2\n", b"\n0\n", 1), 5, b"", b"x.aag:2: Syntax\n"),
+    with_text("x.aag", b"aag 2 2 0 27 0\n2\n2\n" + b"0\n" * 27, 5, b"", b"x.aag:3: Syntax\n"),
+    with_text("x.aag", AIG.replace(b"4 2 3", b"5 2 3"), 5, b"", b"x.aag:30: Syntax\n"),
+    with_text("x.aag", AIG.replace(b"4 2 3", b"0 2 3"), 5, b"", b"x.aag:30: Syntax\n"),
+    with_text("x.aag", AIG.replace(b"4 2 3", b"2 2 3"), 5, b"", b"x.aag:30: Syntax\n"),
+    with_text("x.aag", AIG.replace(b"27 1\n", b"27 2\n") + b"4 2 3\n", 5, b"", b"x.aag:31: Syntax\n"),
+    # (literal 6 is nobody's; x itself isn't 0; one output of the 27 isn't)
+    with_text("x.aag", AIG.replace(b"\n4\n", b"\n6\n", 1), 5, b"", b"x.aag: an output isn't shown to be 0\n"),
+    with_text("x.aag", AIG.replace(b"\n4\n", b"\n2\n", 1), 5, b"", b"x.aag: an output isn't shown to be 0\n"),
+    with_text("x.aag", AIG[:-8] + b"2\n4 2 3\n", 5, b"", b"x.aag: an output isn't shown to be 0\n"),
 ]
 
 
@@ -239,15 +282,15 @@ def archlab(files):
         b"length 2, psim: it doesn't end within 3000 cycles\nlength 3, yis: it doesn't end within 4000 steps\n"
         b"correct for lengths 0 to 64 and 128, 192, 256: no\nbytes of the function: 94, of 1000 at most\n"
         b"score: 0 of 60, for the results are wrong\n"), b""
-    for words, said in (
-        (("other.ys", "std.hcl"), b"other.ys: it defines no label `ncopy`\n"),
-        (("std.hcl", "ncopy.ys"), b"std.hcl: it defines no label `ncopy`\n"),
-        (("twice.ys", "std.hcl"), b"twice.ys: with the labels `lab_..` and the data that are put behind it: LabelTwice\n"),
-        (("ncopy_iaddq.ys", "std.hcl"), b"the function, line 8: Syntax (`iaddq` needs `--full`)\n"),
-        (("ncopy.ys", "nofile.hcl"), b"read fault nofile.hcl\n"),
-        (("ncopy.ys", "seq.hcl"), b"seq.hcl: Unknown icode\n"),
+    for words, status, said in (
+        (("other.ys", "std.hcl"), 1, b"other.ys: it defines no label `ncopy`\n"),
+        (("std.hcl", "ncopy.ys"), 1, b"std.hcl: it defines no label `ncopy`\n"),
+        (("twice.ys", "std.hcl"), 1, b"twice.ys: with the labels `lab_..` and the data that are put behind it: LabelTwice\n"),
+        (("ncopy_iaddq.ys", "std.hcl"), 1, b"the function, line 8: Syntax (`iaddq` needs `--full`)\n"),
+        (("ncopy.ys", "nofile.hcl"), 3, b"read fault nofile.hcl\n"),
+        (("ncopy.ys", "seq.hcl"), 5, b"seq.hcl: Unknown icode\n"),
     ):
-        yield ("archlab", *words), 1, said, b""
+        yield ("archlab", *words), status, b"", said
 
 
 def table(room):
@@ -266,8 +309,8 @@ def table(room):
             it.write(text)
     status, out, err = lab(room, (), "lab", "class", "class", "--jobs", "2")
     lines = dict(it.partition(b",")[::2] for it in re.sub(rb",[\d.]+$", b"", out, flags=re.M).splitlines())
-    yield "class: status and standard error", (0, b"lab: PIPE.HCL: passed over, for its name doesn't end with `.hcl`\n"
-        b"lab: pipe.txt: passed over, for its name doesn't end with `.hcl`\nlab: flags.hcl: `iaddq` wasn't asked: `--full` asks it too.\n"), (status, err)
+    yield "class: status and standard error", (3, b"PIPE.HCL: passed over, for its name doesn't end with `.hcl`\n"
+        b"pipe.txt: passed over, for its name doesn't end with `.hcl`\nflags.hcl: `iaddq` wasn't asked: `--full` asks it too.\n"), (status, err)
     yield "class: rows", {
         b"file": b"datapath,verdict,obligation,fault,settings,cycles,seconds",
         b"deep.hcl": b"pipe,fault,,1:80: DepthOver64,,", b"empty.hcl": b",fault,,Missing f_pc,,", b"flags.hcl": b"pipe,no,O15,,,",
@@ -275,12 +318,32 @@ def table(room):
         b"pipe.hcl": b",unreadable,,,,", b"seq.hcl": b"seq,fault,,1:10: Syntax,,",
         b"seq_plus.hcl": b"seqplus,fault,,1:10: Syntax,,", b"std.hcl": b"pipe,fault,,1:10: Syntax,,",
     }, lines
-    status, out, err = called("env", [f"Y86={shutil.which('false')}", sys.executable, f"{TOP}/lab/lab", "class", "std.hcl", "--no-head"], room)
-    yield "class: stopped", (0, b"std.hcl,pipe,stopped,,,,", b""), (status, out.rpartition(b",")[0], err)
+    status, out, err = called("env", [f"Y86={shutil.which('false')}", f"{TOP}/y86-lab", "class", "std.hcl", "--no-head"], room)
+    yield "class: stopped", (3, b"std.hcl,pipe,stopped,,,,", b""), (status, out.rpartition(b",")[0], err)
+
+
+def statuses(folder):
+    """The status of `class` says whether all files are right, and a name of a file is no formula."""
+    room = os.path.join(folder, "statuses")
+    os.mkdir(room)
+    files = [("std.hcl", design("std").encode()), ("no.hcl", changed(design("std"), "set_cc", "0").encode()), ("fault.hcl", b"%%\n")]
+    for names, status in (("std.hcl", 0), ("std.hcl no.hcl", 1), ("std.hcl fault.hcl", 1), ("no.hcl fault.hcl", 1)):
+        yield f"class {names}: status", (status, b""), lab(room, files, "lab", "class", *names.split())[::2]
+    for name in ("=cmd|' calc'!A0.hcl", "+1.hcl", "@sum.hcl", "\t1.hcl"):
+        row = lab(room, [(name, b"%%\n")], "lab", "class", "--no-head", f"./{name}")[1]
+        yield f"class: a file named {name}", b"./" + name.encode() + b",,fault,,1:1: Syntax,,,", row[: row.rindex(b",") + 1]
+        os.remove(f"{room}/{name}")
+        os.mkdir(f"{room}/folder")
+        row = lab(room, [(f"folder/{name}", b"%%\n")], "lab", "class", "--no-head", "folder")[1]
+        yield f"class: {name} of a folder", b"'" + name.encode() + b",,fault,,1:1: Syntax,,,", row[: row.rindex(b",") + 1]
+        shutil.rmtree(f"{room}/folder")
+    row = lab(room, [("-1.hcl", b"%%\n")], "lab", "class", "--no-head", "--", "-1.hcl")[1]
+    yield "class: a file named -1.hcl", b"'-1.hcl,,fault,,1:1: Syntax,,,", row[: row.rindex(b",") + 1]
 
 
 def rows(folder):
     yield from texts(folder)
+    yield from statuses(folder)
     yield from scores(folder)
 
 

@@ -41,7 +41,7 @@ class Rows:
         """Makes a page, and returns where it is; nothing else may lie beside it."""
         path = tempfile.mkdtemp(dir=self.room) + "/page.html"
         environment = {**os.environ, "Y86": self.programs[0], "Y86_STAGES": self.programs[1]}
-        made = subprocess.run([f"{TOP}/lab/lab", "page", *words, "-o", path], env=environment, capture_output=True, text=True, check=False)
+        made = subprocess.run([f"{TOP}/y86-lab", "page", *words, "-o", path], env=environment, capture_output=True, text=True, check=False)
         self.check(f"page {words}", (made.returncode, made.stderr, os.listdir(os.path.dirname(path))), (0, "", ["page.html"]))
         with open(path, encoding="utf-8") as it:
             self.check("no other file, and no network", re.findall(r"https?:|src=|href=|@import|url\(", it.read()), [])
@@ -85,6 +85,9 @@ class Rows:
         self.check("a button moves", (self.page.value(BOXES), self.page.value("location.hash")), (LOAD_USE[3], "#cycle=3"))
         self.page.value("document.querySelector('.cell[data-cycle=\"5\"]').click()")
         self.check("a click on the diagram moves", self.page.value(BOXES), LOAD_USE[5])
+        self.page.value("document.getElementById('all').focus(); document.getElementById('all').click()")
+        self.page.press("ArrowLeft")
+        self.check("the arrow keys move behind \"all fields\"", self.page.value("document.getElementById('number').textContent"), "4")
         self.page.press("End")
         self.check("the last cycle says how it ends", self.page.value(TOLD)[-1], "The run ends with HLT.")
 
@@ -114,6 +117,16 @@ class Rows:
         got = {at: now.get(at) or next((word for it, word in now.items() if it.startswith("0x") and int(it, 16) == int(at, 16)), None) for at in changed}
         self.check(f"what {name} under {hcl} leaves", got, changed)
 
+    def negative_words(self):
+        """A word of 16 digits breaks no name of a register or an address."""
+        self.page.open(self.made(f"{EXAMPLES}/designs/std.hcl", f"{EXAMPLES}/programs/sort.yo"), "#cycle=200")
+        for width in (1280, 400):
+            self.page.size(width, 900)
+            broken = """[...document.querySelectorAll(".state div")].map((it) => it.firstChild)
+                .filter((it) => it.offsetHeight > 30).map((it) => it.textContent)"""
+            self.check(f"names that are broken at {width} pixels", self.page.value(broken), [])
+        self.page.size(1280, 900)
+
     def no(self):
         path = f"{self.room}/broken.hcl"
         with open(f"{EXAMPLES}/designs/std.hcl", encoding="utf-8") as it:
@@ -140,6 +153,7 @@ def main():
         if os.access(programs[1], os.X_OK):
             rows.load_use()
             rows.listed()
+            rows.negative_words()
             rows.whole_run("std", "asum")
             rows.whole_run("no_bypassing", "jump")
         else:

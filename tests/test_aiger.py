@@ -1,7 +1,7 @@
 """AIGER texts: what `aigrun` says of them, and what `aig` writes of each design."""
+import os
 import shutil
 import subprocess
-import sys
 
 import pytest
 
@@ -217,6 +217,6 @@ def test_solvers_agree(name, programs):
     """Solvers that are installed agree with the yes and with the no."""
     if not any(map(shutil.which, SOLVERS)):
         pytest.skip(f"no solver is installed: {', '.join(SOLVERS)}")
-    words = [sys.executable, f"{TOP}/lab/lab", "aig", "confirm", programs("y86"), f"{DESIGNS}/{name}.hcl", *[word for it in SOLVERS for word in ("--solver", it)]]
-    done = subprocess.run(words, capture_output=True, text=True, timeout=600, check=False)
+    words = [f"{TOP}/y86-lab", "aig", "confirm", f"{DESIGNS}/{name}.hcl", *[word for it in SOLVERS for word in ("--solver", it)]]
+    done = subprocess.run(words, env={**os.environ, "Y86": programs("y86")}, capture_output=True, text=True, timeout=600, check=False)
     same((done.returncode, done.stdout.rstrip("\n").rpartition("\n")[2]), (0, "1 confirmed, 0 not"))

@@ -3,7 +3,7 @@
 
 Runs the commands of the transcripts in these pages with PROGRAM in the place of ./y86, and compares what each prints with
 what the page says. A transcript is an indented block: a line `    $ COMMAND`, and below it what it prints on both streams.
-The commands of one page run in one folder that has the examples and lab/, so that a later one finds what an earlier one wrote.
+The commands of one page run in one folder that has the examples and tools/, so that a later one finds what an earlier one wrote.
 In a section such as `### O5`, the block behind "A file that breaks it: `std.hcl`" has definitions that stand in the place of that
 file's own, and the block behind "The check answers" is what `check pipe` (of `### S5`, `check seq`, and of a change of `seq_plus.hcl`,
 `check seqplus`) prints of the file so made.
@@ -86,7 +86,8 @@ def check(path, program, stages):
         shutil.copytree(f"{TOP}/examples", f"{folder}/examples")
         os.symlink(program, f"{folder}/y86")
         os.symlink(stages, f"{folder}/y86-stages")
-        os.symlink(f"{TOP}/lab", f"{folder}/lab")
+        os.symlink(f"{TOP}/tools", f"{folder}/tools")
+        os.symlink(f"{TOP}/y86-lab", f"{folder}/y86-lab")
         os.environ["Y86"], os.environ["Y86_STAGES"] = program, stages
         for number, command, lines in transcripts(path):
             if "./y86-stages" in command and not os.path.exists(stages):
@@ -112,12 +113,12 @@ def check(path, program, stages):
 
 def main():
     sys.dont_write_bytecode = True
-    sys.path.append(f"{TOP}/tools/y86lab")
-    from program import answering
+    sys.path.append(f"{TOP}/tools")
+    from y86lab.calls import past_launcher
 
     named, pages = os.path.abspath(sys.argv[1]), sys.argv[2:]
-    program, stages = answering(named), f"{named}-stages"
-    stages = answering(stages, "y86_stages") if os.path.exists(stages) else STAGES
+    program, stages = past_launcher(named, "y86"), f"{named}-stages"
+    stages = past_launcher(stages, "y86-stages") if os.path.exists(stages) else STAGES
     results = [check(page, program, stages) for page in pages]
     print(f"{sum(it[0] for it in results)} passed, {sum(it[1] for it in results)} failed")
     return 1 if any(it[1] for it in results) else 0

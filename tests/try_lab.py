@@ -1,7 +1,7 @@
 #!/usr/bin/env python3
 """try_lab.py PROGRAM
 
-Tries `lab explain` and `lab witness` on the files of docs/OBLIGATIONS.md that break an obligation each, with PROGRAM: `explain` has to name what is wrong in the
+Tries `y86-lab explain` and `y86-lab witness` on the files of docs/OBLIGATIONS.md that break an obligation each, with PROGRAM: `explain` has to name what is wrong in the
 situation of the answer, and `witness` has to find a program, but for the file of S1, on which no program differs: it has to say so. Prints a line for each file, and ends with
 `N passed, M failed`. It takes two minutes, and isn't part of the gate.
 """
@@ -18,7 +18,7 @@ UNSEEN = {"S1"}
 
 
 def lab(*words):
-    return subprocess.run([f"{TOP}/lab/lab", *words], stdin=subprocess.DEVNULL, stdout=subprocess.PIPE, stderr=subprocess.STDOUT, timeout=600, check=False).stdout.decode()
+    return subprocess.run([f"{TOP}/y86-lab", *words], stdin=subprocess.DEVNULL, stdout=subprocess.PIPE, stderr=subprocess.STDOUT, timeout=600, check=False).stdout.decode()
 
 
 def is_explained(name, said):

@@ -38,8 +38,8 @@ def run(arguments: argparse.Namespace, programs: Programs) -> int:
     datapath = explaining.datapath(design)
     answer = programs.check(datapath, path, full)
     if answer.status is None or answer.status not in (DONE, REFUSED):
-        print(answer.err.strip() or f"{path}: the check gives no answer")
-        return OUT_OF_TIME if answer.status is None else answer.status
+        status = OUT_OF_TIME if answer.status is None else answer.status
+        raise LabError(answer.err.strip() or f"{path}: the check gives no answer", status)
     print(f"{path}: {answer.out.splitlines()[0]}")
     note = explaining.unasked(text, full)
     if answer.status == DONE:
