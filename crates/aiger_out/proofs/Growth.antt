@@ -60,6 +60,7 @@ module _ (vars : ℕ) (gates : List Gate) (i : ℕ) (gate : Gate) (is : slice_ge
   -- what a literal for the new gate has to be
   record Fits (literals : List ℕ) (old new : List code.And) (x : ℕ) : Type 0 where
     earlier : length old ≤ length new
+    few : length new ≤ length old + 1
     kept : (k : ℕ) → k < length old → and_at new k ≡ and_at old k
     solves : (bits : List Bool) (env : ℕ → Bool) → Solves vars bits new env → Solves vars bits old env
     within : x / 2 ≤ vars + length new
@@ -71,6 +72,7 @@ module _ (vars : ℕ) (gates : List Gate) (i : ℕ) (gate : Gate) (is : slice_ge
       → IsGraphOf vars (take (i + 1) gates) (literals ++ x ∷ []) new
   grown literals old new x g f = record {
     size = omega (arith, length_push literals x, g.size, front_size, length-take (i + 1) gates, inside);
+    few = omega (arith, f.few, g.few, front_size, length-take (i + 1) gates, inside);
     within = λ k h. within_by k h (cases_lt k (length literals));
     first = λ k h. first_by k h (cases_lt k (length old));
     second = λ k h. second_by k h (cases_lt k (length old));
@@ -113,6 +115,7 @@ module _ (vars : ℕ) (gates : List Gate) (i : ℕ) (gate : Gate) (is : slice_ge
       subst (λ (xs : List code.And). Fits literals old xs x) (sym e)
       (record {
         earlier = omega arith;
+        few = omega arith;
         kept = λ k h. refl;
         solves = λ bits env s. s;
         within = small;
@@ -127,6 +130,7 @@ joined : (vars : ℕ) (gates : List Gate) (i a b : ℕ) (is : slice_get gates i 
     → Fits vars gates i (And a b) is inside literals old (old ++ record { first = get_or literals a 0; second = get_or literals b 0 } ∷ []) (2 * (vars + (length old + 1)))
 joined vars gates i a b is inside literals old g ha hb = record {
   earlier = omega (arith, more);
+  few = omega (arith, more);
   kept = λ k h. get_or_append_left old (last ∷ []) (record { first = 0; second = 0 }) k h;
   solves = λ bits env s. fewer vars bits old last env s;
   within = omega (arith, more);

@@ -13,3 +13,4 @@ pub mod Laid
 pub mod Sections
 pub mod WrittenText
 pub mod OneAnswer
+pub mod ReadBack

@@ -262,6 +262,7 @@ module _ (net : Gates) (gates numbers : List ℕ) (h : Header) (literals outs : 
   pub written_is : IsWritten net gates numbers text h
   written_is = record {
     form = record { header = header_line h outs ands numbers words text is; fine = header_fine; lines = λ j from. each_fine j from (cases_lt j (rest_from h)) };
+    small = omega (arith, hd.most, graph.few);
     inputs = hd.inputs;
     outputs = hd.outputs;
     in_order = laid_out.inputs;

@@ -29,9 +29,10 @@ IsLiteralOf vars (Not a) literals old new x =
 IsLiteralOf vars (And a b) literals old new x =
     (x ≡ 2 * (vars + (length old + 1))) × (new ≡ old ++ record { first = get_or literals a 0; second = get_or literals b 0 } ∷ [])
 
--- each gate has a literal of its truth, over variables that stand before it
+-- each gate has a literal of its truth, over variables that come before it, and there are no more ANDs than gates
 pub record IsGraphOf (vars : ℕ) (gates : List Gate) (literals : List ℕ) (ands : List code.And) : Type 0 where
   pub size : length literals ≡ length gates
+  pub few : length ands ≤ length gates
   pub within : (g : ℕ) → g < length literals → get_or literals g 0 / 2 ≤ vars + length ands
   pub first : (k : ℕ) → k < length ands → (and_at ands k).first / 2 ≤ vars + k
   pub second : (k : ℕ) → k < length ands → (and_at ands k).second / 2 ≤ vars + k

@@ -1,5 +1,5 @@
 -- The lines that the writer writes, and what they say.
-use Rattle.std.specs.Prelude.{◌≡◌, ℕ, zero, suc, ◌+◌, ◌*◌, Bool, not, codes, List, [], ◌∷◌, ◌++◌, length, get_or, slice_get, Some, max, ◌<◌}
+use Rattle.std.specs.Prelude.{◌≡◌, ℕ, zero, suc, ◌+◌, ◌*◌, Bool, not, codes, List, [], ◌∷◌, ◌++◌, length, get_or, slice_get, Some, max, ◌<◌, ◌≤◌}
 use Rattle.nets.specs.Nets.{Gates, truth}
 use Rattle.y86_base.specs.Numeral.{numeral}
 use Rattle.aiger_out.specs.declared.form.AndLine.{AndLine}
@@ -36,10 +36,12 @@ abbrev pub each : (ℕ → List ℕ) → ℕ → List (List ℕ)
 each line zero = []
 each line (suc n) = each line n ++ line n ∷ []
 
--- the text of a net with one output for each of some gates, named by a number: it has the form but for the bound of a million; its inputs
--- are the variables in their order, each output is 1 exactly where its gate is false, and the symbols name all of them
+-- The text of a net with one output for each of some gates, named by a number. It has the form but for the bound of a million, and no more
+-- variables than the net has variables and gates. Its inputs are the variables in their order, each output is 1 exactly where its gate is
+-- false, and the symbols name all of them.
 pub record IsWritten (net : Gates) (gates numbers : List ℕ) (text : List ℕ) (h : Header) : Type 0 where
   pub form : IsAag (max h.most h.outputs) text h
+  pub small : h.most ≤ net.vars + length net.gates
   pub inputs : h.inputs ≡ net.vars
   pub outputs : h.outputs ≡ length gates
   pub in_order : (k : ℕ) → k < h.inputs → line_at h (ended text) (1 + k) ≡ Input (2 * (k + 1))

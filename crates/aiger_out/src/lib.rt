@@ -16,6 +16,6 @@ mod tail;
 mod writer;
 
 pub use fault::{AagError, AagFault, AagWhy};
-pub use laws::{law_of_form, law_of_values};
+pub use laws::{law_of_form, law_of_reading_back, law_of_values};
 pub use reader::{Aig, read};
 pub use writer::write;
