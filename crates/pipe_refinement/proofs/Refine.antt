@@ -5,6 +5,7 @@ use Rattle.y86_base.specs.declared.parts.Stat.TheVariants.{Aok, Pip}
 use Rattle.y86_base.specs.declared.parts.Stat.{Stat}
 use Rattle.y86_isa.specs.Machine.{is_aok}
 use Rattle.pure_runs.specs.Near.{NearPure}
+use Rattle.y86_isa.proofs.Runs.{is_aok-from_not}
 use Rattle.y86_isa.specs.Run.{IsImage, records, records_from, run, run_from}
 use Rattle.run_laws.specs.Instructions.{before, stops_at}
 use Rattle.hcl_types.specs.declared.term.Term.{Term}
@@ -133,6 +134,12 @@ module _ (x : Given) (terms : List Term) (n : ℕ) (image : IsImage x.image) (pu
         not_aok = λ z. false≢true (sym e.stopped ∙ ap is_aok (e.stat ∙ z));
       }
 
+  stops_now : (p : Pipe) → Running x n p ⊎ Ended x p → (run x.v x.image (length p.records)).stat ≢ Aok → has_stopped p.end ≡ true
+  unfolding before
+  stops_now p (inl run) off =
+      absurd (false≢true (sym (is_aok-from_not _ off) ∙ (ap (λ j. is_aok (before x.v x.image j).stat) run.inv.counted ∙ run.inv.last_live)))
+  stops_now p (inr e) off = e.halted
+
   not_pip : (p : Pipe) → Running x n p ⊎ Ended x p → p.end ≢ Pip
   not_pip p (inl run) e = aok_not_pip (sym run.aok ∙ e)
   not_pip p (inr z) e = z.not_pip e
@@ -146,6 +153,7 @@ module _ (x : Given) (terms : List Term) (n : ℕ) (image : IsImage x.image) (pu
     records = λ p r. same_records p (runs n p (omega arith) r);
     registers = λ p r. same_registers p (runs n p (omega arith) r);
     stop = λ p r h. stops_as p (runs n p (omega arith) r) h;
+    stops_at_once = λ p r off. stops_now p (runs n p (omega arith) r) off;
     never_pip = λ p r. not_pip p (runs n p (omega arith) r);
     five_cycles = λ m p le r. bound m p (runs (5 * m) p le r);
   }

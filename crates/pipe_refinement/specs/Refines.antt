@@ -17,11 +17,13 @@ pub record StopsAs (p : Pipe) (m : Machine) : Type 0 where
   pub not_aok : m.stat ≢ Aok
 
 -- For every machine that the design reaches on the image in k cycles: its records are the first records of the run of
--- instructions, and its registers those behind them; where it has stopped, it is as the machine of that run; it never ends by a
--- register that is stalled and bubbled. By the end of cycle 5n, n instructions have retired, or it has stopped.
+-- instructions, and its registers are those after them. Where it has stopped, it is as the machine of that run. The cycle in which a
+-- record that isn't AOK retires stops it. It never ends by a register that is stalled and bubbled. By the end of cycle 5n, n instructions
+-- have retired, or it has stopped.
 pub record Refines (v : Variant) (terms : List Term) (image : List ℕ) (k : ℕ) : Type 0 where
   pub records : (p : Pipe) → PipeRun v terms image k p → p.records ≡ records v image (length p.records)
   pub registers : (p : Pipe) → PipeRun v terms image k p → p.state.regs ≡ (run v image (length p.records)).regs
   pub stop : (p : Pipe) → PipeRun v terms image k p → has_stopped p.end ≡ true → StopsAs p (run v image (length p.records))
+  pub stops_at_once : (p : Pipe) → PipeRun v terms image k p → (run v image (length p.records)).stat ≢ Aok → has_stopped p.end ≡ true
   pub never_pip : (p : Pipe) → PipeRun v terms image k p → p.end ≢ Pip
   pub five_cycles : (n : ℕ) (p : Pipe) → 5 * n ≤ k → PipeRun v terms image (5 * n) p → (n ≤ length p.records) ⊎ (has_stopped p.end ≡ true)
