@@ -1,7 +1,7 @@
 """Runs `big N HCL` and compares what it prints with what is known otherwise. A model of this file's own draws
 program N by the rules of docs/DECISIONS.md and runs it; it tells how many cycles the book's pipeline takes: one for each instruction,
 four to fill it, two more for each jump that isn't taken and one more for each word that is used right behind its load. Under the other
-accepted designs of examples/ the answer has to be `same 1` within 5 (N + 2) cycles; under a design that forwards too little it has to be
+accepted designs of examples/ the answer has to be `same 1` within 5 (N + 1) cycles; under a design that forwards too little it has to be
 `same 0`.
 """
 import re
@@ -105,7 +105,7 @@ OTHERS = (
 def within(n, same_as, came):
     """Whether the answer has the steps, few enough cycles, and says whether the runs are the same."""
     line = re.fullmatch(rf"big {n} steps {n + 1} cycles (\d+) same {same_as}\n", came)
-    return line is not None and int(line[1]) <= 5 * (n + 2)
+    return line is not None and int(line[1]) <= 5 * (n + 1)
 
 
 @pytest.mark.parametrize("name", OTHERS)

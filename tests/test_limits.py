@@ -65,6 +65,15 @@ def test_text(row, y86):
     same(y86(*words, files={words[-1]: text}), tuple(wanted))
 
 
+# A text whose comment fills the file: an input, and an output that is its negation.
+AAG = b"aag 1 1 0 1 0\n2\n3\nc\n"
+
+
+@pytest.mark.parametrize("size, wanted", [(33554432, (0, b"o0 256\n", b"")), (33554433, (7, b"", b"t.aag: TooLong 33554432\n"))])
+def test_a_long_aiger_text(size, wanted, y86):
+    same(y86("aigrun", "t.aag", "7", files={"t.aag": AAG.ljust(size, b"\0")}), wanted)
+
+
 def test_an_empty_hcl_file(y86):
     same(y86("psim", "e.hcl", "p.yo", files={"e.hcl": "", "p.yo": HALT}), (5, b"", b"e.hcl: Missing f_pc\n"))
 
