@@ -81,31 +81,25 @@ class Programs:
         """Calls a program with these words."""
         path = self.path(program)
         try:
-            process = subprocess.Popen(
+            done = subprocess.run(
                 [*limits.command(), path, *words],
                 stdin=subprocess.DEVNULL,
-                stdout=subprocess.PIPE,
-                stderr=subprocess.PIPE,
+                capture_output=True,
+                timeout=max(limits.timeout(), 0.01),
+                check=False,
             )
+        except subprocess.TimeoutExpired:
+            return Answer(None, "", "")
         except OSError as fault:
             variable = program.upper().replace("-", "_")
             told = f"{path}: {fault.strerror}; {variable} in the environment may name another program"
             raise LabError(told, NO_PROGRAM) from fault
-        try:
-            out, err = process.communicate(timeout=max(limits.timeout(), 0.01))
-        except subprocess.TimeoutExpired:
-            process.kill()
-            process.communicate()
-            return Answer(None, "", "")
-        except BaseException:
-            process.kill()
-            raise
-        ended_for_time = process.returncode in (-signal.SIGXCPU, -signal.SIGKILL)
-        lines = err.decode("utf-8", "replace").splitlines(True)
+        ended_for_time = done.returncode in (-signal.SIGXCPU, -signal.SIGKILL)
+        lines = done.stderr.decode("utf-8", "replace").splitlines(True)
         sys.stderr.write("".join(line for line in lines if line.startswith(LAUNCHER)))
         return Answer(
-            None if ended_for_time else process.returncode,
-            out.decode("utf-8", "replace"),
+            None if ended_for_time else done.returncode,
+            done.stdout.decode("utf-8", "replace"),
             "".join(line for line in lines if not line.startswith(LAUNCHER)),
         )
 
@@ -121,7 +115,8 @@ def full_flag(full: bool) -> list[str]:
 def past_launcher(path: str, program: str) -> str:
     """The program itself where the path is a launcher's.
 
-    A launcher whose program isn't built compiles an unproved one and keeps it: it is called once, so that it reports that.
+    A launcher whose program isn't built compiles an unproved one and keeps it.
+    It is called once, so that it reports that.
     """
     top = os.path.dirname(os.path.realpath(path))
     built = os.path.join(top, "launch", "built.sh")

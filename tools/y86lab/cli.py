@@ -58,7 +58,7 @@ def add_completion_arguments(parser: argparse.ArgumentParser) -> None:
     parser.add_argument("shell", choices=("bash", "zsh"), help="the shell")
 
 
-def run_completion(arguments: argparse.Namespace, programs: Programs) -> int:
+def run_completion(arguments: argparse.Namespace, _programs: Programs) -> int:
     written = manual.bash_completion if arguments.shell == "bash" else manual.zsh_completion
     print(written(all_programs()), end="")
     return DONE

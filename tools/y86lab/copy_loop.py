@@ -17,7 +17,7 @@ MOST_POINTS, BEST_MEAN, WORST_MEAN = 60.0, 7.5, 10.5
 
 
 def score(mean: float) -> float:
-    """The lab's rule for the mean of the cycles per element: nothing above 10.5, 60 points below 7.5, a line between."""
+    """The points for a mean of the cycles per element: nothing above 10.5, 60 below 7.5, a line between."""
     if mean > WORST_MEAN:
         return 0.0
     return MOST_POINTS if mean < BEST_MEAN else MOST_POINTS / (WORST_MEAN - BEST_MEAN) * (WORST_MEAN - mean)
@@ -62,7 +62,7 @@ def label(listing: str, name: str) -> int:
 
 
 class CopyLoop:
-    """A copy function and a pipeline. The folder is for the drivers; `cycles` has the cycles of each length that was run."""
+    """A copy function and a pipeline, with the cycles of each length that was run. The folder is for the drivers."""
 
     def __init__(self, programs: Programs, source: str, path: str, flags: list[str], folder: str) -> None:
         self.programs, self.source, self.function = programs, source, read_text(source)

@@ -70,7 +70,7 @@ Y86 = Program(
         Form("big", "N HCL", (FULL,), "runs a drawn program of N instructions by instructions and on PIPE"),
         Form("check", "seq|seqplus|pipe HCL", (FULL, CERT), "decides whether the obligations hold of the file"),
         Form("recheck", "HCL CERT", (FULL,), "checks a certificate of the file"),
-        Form("sample", "HCL SEED COUNT", (FULL,), "tries COUNT situations, drawn from SEED, on the obligations of PIPE"),
+        Form("sample", "HCL SEED COUNT", (FULL,), "tries COUNT situations, drawn from SEED, on PIPE's obligations"),
         Form("aig", "HCL", (FULL,), "writes the obligations of PIPE in AIGER"),
         Form("aigrun", "AAG SEED", (), "runs an AIGER file on 512 vectors"),
     ),

@@ -92,7 +92,7 @@ class PipelineRun:
         return retirements
 
     def losses(self, instruction: Instruction, before: list[Instruction], waits: int) -> list[Loss]:
-        """The causes of the bubbles before an instruction. `before` has the four instructions before it, the last one first."""
+        """The causes of the bubbles before an instruction, by the four instructions before it, the last one first."""
         if not waits:
             return []
         if not before:

@@ -82,8 +82,8 @@ class Cycle:
         reads = {decode["d_srcA"], decode["d_srcB"]} - {"-"}
         if not execute.is_bubble and execute["dstM"] in reads:
             return [
-                f"Load/use: {decode.text} waits in D for {execute['dstM']}, which {execute.text} in E has still to load."
-                " A bubble goes into E."
+                f"Load/use: {decode.text} waits in D for {execute['dstM']}, which {execute.text} in E has still to"
+                " load. A bubble goes into E."
             ]
         for stage in "EMW":
             older = self[stage]
@@ -129,7 +129,8 @@ class Cycle:
             stat = held.stat if stage == "W" or held["m_stat"] in ("-", "AOK", "BUB") else held["m_stat"]
             if not held.is_bubble and stat not in ("AOK", "BUB"):
                 later = "will stop the machine: nothing behind it may change flags or memory"
-                return [f"{held.text} in {stage} has the status {stat}, and {'stops the machine' if stage == 'W' else later}."]
+                does = "stops the machine" if stage == "W" else later
+                return [f"{held.text} in {stage} has the status {stat}, and {does}."]
         return []
 
     def forwarded(self) -> list[str]:
@@ -172,7 +173,7 @@ def cycles_of(text: str) -> tuple[list[Cycle], dict[str, str]]:
 def diagram_of(text: str) -> list[tuple[str, str, str]]:
     """The rows of a diagram.
 
-    Each has the letter of each column, blank where there is none, what the row is, and what the object file lists there.
+    Each has the letters of its columns (a blank if there is none), what the row is, and what the object file lists.
     """
     rows = []
     for line in text.split("\n"):

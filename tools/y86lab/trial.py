@@ -120,9 +120,9 @@ def writes_code(listing: str, trace: Lines) -> bool:
 
 
 def shortened(trial: Trial, lines: Lines) -> tuple[Lines, bool]:
-    """The program without the lines that it can do without, but for a `halt`, and whether the time was enough for all of them.
+    """The program without the lines that it can do without, but for a `halt`, and whether the time was enough.
 
-    First many lines at a time, then one by one until none can go.
+    First many lines go at a time, then one by one until none can go.
     """
     size = max(len(lines) // 2, 1)
     while True:

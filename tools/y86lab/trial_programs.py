@@ -1,4 +1,4 @@
-"""Programs that try a processor: some made for what random programs miss, pairs of an instruction and its use, and random ones.
+"""Programs that try a processor: some made for what random ones miss, pairs of an instruction and its use, random ones.
 
 A program is a list of lines of assembly. None writes its own code: data and stack are above 0x400.
 """
@@ -134,7 +134,8 @@ def some_block(chance: random.Random, number: int, full: bool) -> Lines:
 def at_random(seed: int, full: bool) -> Iterator[Lines]:
     """Random programs without end.
 
-    They load words before their use, store, push and pop, move by conditions, jump, loop and call, and may end with a fault.
+    They load words before their use, store, push and pop, move by conditions, jump, loop and call.
+    Some end with a fault.
     """
     chance = random.Random(seed)
     stops = ["mrmovq -8(%r12), %rax", ".byte 0xf0", "rmmovq %rcx, 0x4000(%r12)", "jmp 0x4000"]

@@ -18,7 +18,7 @@ class And:
 
 @dataclass(frozen=True)
 class Network:
-    """The largest variable, inputs and outputs as literals, the gates in their order, and the names of inputs and outputs."""
+    """A file: its largest variable, its inputs and outputs as literals, its gates in their order, its symbols."""
 
     most: int
     inputs: list[int]
@@ -30,14 +30,14 @@ class Network:
         """The value of each output at these bits of the inputs."""
         value = [False] * (self.most + 1)
 
-        def of(literal: int) -> bool:
+        def value_of(literal: int) -> bool:
             return value[literal // 2] ^ bool(literal & 1)
 
         for literal, bit in zip(self.inputs, bits):
             value[literal // 2] = bool(bit)
         for gate in self.gates:
-            value[gate.left // 2] = of(gate.first) and of(gate.second)
-        return [of(literal) for literal in self.outputs]
+            value[gate.left // 2] = value_of(gate.first) and value_of(gate.second)
+        return [value_of(literal) for literal in self.outputs]
 
     def cone(self, literals: Sequence[int]) -> list[And]:
         """The gates that some literals depend on."""

@@ -87,4 +87,5 @@ def broken_files(programs: Programs, page: str, folder: str) -> Iterator[tuple[s
         yield f"{broken.obligation}: {broken.base}, changed", path
 
 
-COMMAND = Command("aig", "makes the obligations readable for solvers of other makers, and asks them", add_arguments, run)
+SUMMARY = "makes the obligations readable for solvers of other makers, and asks them"
+COMMAND = Command("aig", SUMMARY, add_arguments, run)

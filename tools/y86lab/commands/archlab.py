@@ -1,4 +1,4 @@
-"""y86-lab archlab NCOPY.ys HCL: the book's lab, part C: is a copy loop right, how many cycles does an element take, what is the score."""
+"""y86-lab archlab NCOPY.ys HCL: the book's lab, part C: is a copy loop right, its cycles per element, its score."""
 from __future__ import annotations
 
 import argparse

@@ -1,4 +1,4 @@
-"""y86-lab class FOLDER: every HCL file of a folder, or of every student's folder in it, checked: a CSV with a row for each."""
+"""y86-lab class FOLDER: checks every HCL file of a folder and of the folders in it: a CSV with a row for each."""
 from __future__ import annotations
 
 import argparse

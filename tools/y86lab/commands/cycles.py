@@ -1,4 +1,4 @@
-"""y86-lab cycles HCL OBJ: where the cycles of a run went: when each instruction retires, what waited before it, and the CPI."""
+"""y86-lab cycles HCL OBJ: where the cycles of a run went: when each instruction retires, its bubbles, and the CPI."""
 from __future__ import annotations
 
 import argparse
@@ -54,7 +54,8 @@ def ending(status: str) -> str:
 def print_retirements(retirements: Sequence[Retirement]) -> None:
     print("cycle  waits  instruction")
     for each in retirements:
-        waits, text = f"+{each.waits}" if each.waits else "", f"0x{each.instruction.address:03x}: {each.instruction.text}"
+        waits = f"+{each.waits}" if each.waits else ""
+        text = f"0x{each.instruction.address:03x}: {each.instruction.text}"
         why = ", ".join(loss.text for loss in each.losses)
         print(f"{each.cycle:>5}  {waits:>5}  {text:<32}{why}".rstrip())
     print()

@@ -1,4 +1,4 @@
-"""y86-lab page HCL [OBJ]: one HTML file that shows a run stage by stage and cycle by cycle, or the situation of a `no`."""
+"""y86-lab page HCL [OBJ]: an HTML file that shows a run by stages and cycles, or the situation of a `no`."""
 from __future__ import annotations
 
 import argparse

@@ -15,6 +15,13 @@ from ..explaining.unseen import unseen_icode
 from ..trial import COMMANDS, OutOfTime, Trial, shortened, source_of
 from ..trial_programs import Lines
 
+UNSEEN = """\
+No program shows it: {where} `icode` isn't what was read, but each other signal of the file is the same as
+with what was read, so the machine does the same; and with `word icode = imem_icode;` the file is right."""
+NONE_SHOWS = """\
+None of {which} shows the mistake. The rule is broken all the same: a program that shows it may be rare,
+or there is none, for a No promises that the rule fails in the situation that it shows, and no more."""
+
 
 def add_arguments(parser: argparse.ArgumentParser) -> None:
     parser.add_argument("file", metavar="HCL", help="the file that has a mistake")
@@ -55,8 +62,7 @@ def search(arguments: argparse.Namespace, programs: Programs, datapath: str, des
     path, full, tries, seconds = arguments.file, arguments.full, arguments.tries, arguments.seconds
     where = unseen_icode(programs, design, full) if datapath == "seq" else None
     if where:
-        print(f"No program shows it: {where} `icode` isn't what was read, but each other signal of the file is the same as")
-        print("with what was read, so the machine does the same; and with `word icode = imem_icode;` the file is right.")
+        print(UNSEEN.format(where=where))
         return REFUSED
     print(f"Trying up to {tries} programs until one shows it, for at most {seconds} s.", flush=True)
     with tempfile.TemporaryDirectory() as folder:
@@ -70,9 +76,8 @@ def search(arguments: argparse.Namespace, programs: Programs, datapath: str, des
             if arguments.output:
                 write(arguments.output, path, lines)
             return DONE
-    done = f"None of {tried} programs" if tried == tries else f"None of the {tried} programs that {seconds} s were enough for"
-    print(f"{done} shows the mistake. The rule is broken all the same: a program that shows it may be rare,")
-    print("or there is none, for a No promises that the rule fails in the situation that it shows, and no more.")
+    which = f"{tried} programs" if tried == tries else f"the {tried} programs that {seconds} s were enough for"
+    print(NONE_SHOWS.format(which=which))
     return REFUSED
 
 

@@ -124,7 +124,7 @@ def next_cycle(view: View) -> list[str]:
     """The sentences of O25: what is fetched, how the registers move, and what is wrong with the next cycle."""
     after = slots_next(view)
     moves = ", ".join(f"{stage} {move_of(view, stage)}" for stage in "FDEMW")
-    kinds = ", ".join(f"{stage} {'a bubble' if after[stage].kind == 'bubble' else after[stage].kind}" for stage in "DEMW")
+    kinds = ", ".join(f"{stage} {after[stage].kind}" for stage in "DEMW").replace("bubble", "a bubble")
     return [fetched(view), f"Then {moves}.", f"The next cycle has {kinds}.", *faults_of_next(view, after)]
 
 

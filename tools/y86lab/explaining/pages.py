@@ -1,4 +1,4 @@
-"""What docs/OBLIGATIONS.md and docs/HCL.md say of an obligation and of a fault, and the files there that break an obligation."""
+"""What docs/OBLIGATIONS.md and docs/HCL.md say of obligations and faults, and the files that break an obligation."""
 from __future__ import annotations
 
 import os

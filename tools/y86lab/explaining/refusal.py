@@ -1,4 +1,4 @@
-"""A `no` as people read it: the boxes of the situation, what goes wrong in it, and the lines of the file that are concerned."""
+"""A `no` as people read it: the boxes of the situation, what goes wrong in it, and the concerned lines of the file."""
 from __future__ import annotations
 
 import textwrap
@@ -31,7 +31,7 @@ class Box:
 
 @dataclass(frozen=True)
 class Fact:
-    """A signal in a situation: its value, the wanted one where it is another, and the definition with the values it depends on."""
+    """A signal in a situation: its value, the wanted one if it is another, its definition with what it depends on."""
 
     name: str
     value: str
@@ -56,11 +56,12 @@ def refusal_of(top: str, path: str, design: hcl.Design, lines: list[str], full: 
     """What the lines of a `no` mean for a file."""
     rule, view = lines[0].split()[1], View(design, lines[1:])
     asks_text, why = pages.obligation(top, rule, view.datapath)
+    stages = STAGES[view.datapath].items()
     return Refusal(
         rule,
         asks_text,
         why,
-        [Box(stage, title, view.kinds[stage], box_lines(view, stage)) for stage, title in STAGES[view.datapath].items()],
+        [Box(stage, title, view.kinds[stage], box_lines(view, stage)) for stage, title in stages],
         [f"{left} {SIGNS[sign][truth]} {right}" for (sign, left, right), truth in view.atoms.items()],
         motion.sentences(rule, view),
         facts_of(path, design, rule, view, full),
@@ -97,9 +98,8 @@ def instruction_name(stage: str, fields: dict[str, int]) -> str:
 
 def register_lines(fields: dict[str, int]) -> list[str]:
     names = {"rA": "rA", "rB": "rB", "srcA": "reads A", "srcB": "reads B", "dstE": "result to", "dstM": "loads"}
-    lines = [
-        f"{title} {isa.register(fields[name])}" for name, title in names.items() if fields.get(name, isa.NONE) != isa.NONE
-    ]
+    shown = [(name, title) for name, title in names.items() if fields.get(name, isa.NONE) != isa.NONE]
+    lines = [f"{title} {isa.register(fields[name])}" for name, title in shown]
     status = fields.get("stat", isa.AOK)
     return lines if status == isa.AOK else [*lines, f"status {isa.STATUSES[status]}"]
 
@@ -187,13 +187,14 @@ def definition_lines(path: str, design: hcl.Design, name: str, now: Situation, t
 
 def needed_signals(design: hcl.Design, name: str, now: Situation, told: set[str]) -> list[str]:
     """The signals of the file that a value depends on, directly or indirectly."""
-    names = [name]
-    for each in names:
-        for below in dict.fromkeys(now.decided_by(design.by_name[each].body)):
+    names, done = [name], 0
+    while done < len(names):
+        for below in dict.fromkeys(now.decided_by(design.by_name[names[done]].body)):
             is_new = below in design.by_name and below not in told and below not in names
             value: Value = now.signal(below) if is_new else None
             if value is not None:
                 names.append(below)
+        done += 1
     return names[1:]
 
 

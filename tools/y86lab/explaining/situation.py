@@ -1,6 +1,7 @@
 """The values of a file's signals in one situation.
 
-A word that the datapath gives is known by its name alone. So a comparison of two words has a value only if the situation gives it one.
+A word that the datapath gives is known by its name alone.
+So a comparison of two words has a value only if the situation gives it one.
 """
 from __future__ import annotations
 
@@ -70,7 +71,8 @@ class Situation:
     def decided_by(self, expression: hcl.Expression) -> list[str]:
         """The names that a value depends on here.
 
-        Of cases these are the guards up to the case that is taken, and its value; of `||`, `&&` and `in` the part that decides.
+        Of cases these are the guards up to the case that is taken, and its value.
+        Of `||`, `&&` and `in` it is the part that decides.
         """
         if isinstance(expression, hcl.Name):
             return [expression.name]
@@ -103,7 +105,8 @@ class Situation:
         elif sign in ("<", ">="):
             truth = self.is_below(left, right)
         else:
-            truth = self.is_below(right, left)
+            lower, upper = right, left
+            truth = self.is_below(lower, upper)
         return None if truth is None else int(truth != (sign in ("!=", "<=", ">=")))
 
     def is_equal(self, left: Value, right: Value) -> Optional[bool]:
@@ -111,7 +114,8 @@ class Situation:
             return True
         if isinstance(left, int) and isinstance(right, int):
             return False
-        truth = self.atoms.get(("eq", str(left), str(right)), self.atoms.get(("eq", str(right), str(left))))
+        first, second = str(left), str(right)
+        truth = self.atoms.get(("eq", first, second), self.atoms.get(("eq", second, first)))
         return None if truth is None else bool(truth)
 
     def is_below(self, left: Value, right: Value) -> Optional[bool]:

@@ -1,4 +1,4 @@
-"""A mistake of a file for SEQ that no program shows: an `icode` that isn't what was read, where nothing depends on it."""
+"""A mistake of a file for SEQ that no program shows: a wrong `icode` on which nothing depends."""
 from __future__ import annotations
 
 import itertools
