@@ -51,8 +51,8 @@ def print_acceptance(datapath: str, line: str) -> None:
         print_paragraph("This processor does what the instructions mean, for every program.")
         return
     print_paragraph(
-        "This pipeline does what the instructions mean, for every program that doesn't write its own code. Its"
-        " settings, as the check found them in the file:"
+        "This pipeline does what the instructions mean, for every program that doesn't overwrite its next"
+        " three instructions. Its settings, as the check found them in the file:"
     )
     print()
     for sentence in explaining.settings_in_words(line):
