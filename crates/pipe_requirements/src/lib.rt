@@ -1,0 +1,23 @@
+//! What PIPE's obligations require of each signal at a valuation, as data.
+//!
+//! Each of the obligations 1 to 22 is met exactly where each of its requirements is (`law_of_requirements`).
+//! For example obligation 20 requires `m_stat` to be ADR where the memory reports an error, and else M's status.
+//! The obligations 23 to 27 require nothing of a single signal: `motion_repairs` is about these.
+#![tactic(auto)]
+
+mod laws;
+mod lines;
+mod listing;
+mod now;
+mod requirement;
+mod view;
+
+pub use laws::law_of_requirements;
+pub use lines::{DecodeLine, ExecuteLine, FetchLine, Lines, MemoryLine, WriteLine, lines_of};
+pub use listing::requirements_of;
+pub use now::{Now, is_number, leaf_at};
+pub use requirement::{Requirement, Wanted};
+pub use view::{
+    MoverNow, MoversNow, SlotNow, ViewNow, is_jump, leaves, loads, misses, predicts, set, stops_by,
+    view_of,
+};

@@ -1,0 +1,370 @@
+//! What each of the obligations 1 to 22 requires at a valuation.
+ghost use Rattle.std.specs.Prelude.{◌≡◌, ◌≤◌, ◌++◌, ◌∷◌, [], IfOk, OnOk, if◌then◌else◌};
+ghost use Rattle.control_values.specs.Given.{at};
+ghost use Rattle.pipe_requirements.specs.Requirements as spec;
+ghost use Rattle.pipe_requirements.specs.Views.{fields_in, movers_in, view_in};
+
+use crate::now::{Now, alu_function, fetched_status, is_number, register_number};
+use crate::requirement::{Requirement, Wanted};
+use crate::view::{leaves, set};
+use ctl_atoms::Leaf;
+use dp_signals::pipe_row as name;
+use hcl_types::NameId;
+use rule_gates::{address_leaf, operand_leaf_a, operand_leaf_b};
+use std::alloc::Global;
+use y86_base::Memory;
+use y86_isa::{carries_a, carries_p, has_operand_a, is_load, is_store, row, stores_a};
+
+/// Appends a requirement.
+fn put(out: &mut Vec<Requirement>, signal: NameId, wanted: Wanted) -> Result<(), Memory>
+    ensures { OnOk result (out.new.items ≡ out.old.items ++ spec.requirement_of signal wanted ∷ []) }
+{
+    match out.push(Requirement { signal, wanted }) {
+        Ok(()) => Ok(()),
+        Err(_) => Err(Memory),
+    }
+}
+
+/// Puts: the signal picks a leaf.
+fn put_word(out: &mut Vec<Requirement>, signal: NameId, leaf: Leaf) -> Result<(), Memory>
+    ensures { OnOk result (out.new.items ≡ out.old.items ++ spec.word signal leaf) }
+{
+    put(out, signal, Wanted::Word(leaf))
+}
+
+/// Puts: the signal picks a leaf, if there is one.
+fn put_some(out: &mut Vec<Requirement>, signal: NameId, leaf: Option<Leaf>) -> Result<(), Memory>
+    ensures { OnOk result (out.new.items ≡ out.old.items ++ spec.some_word signal leaf) }
+{
+    match leaf {
+        None => Ok(()),
+        Some(leaf) => put_word(out, signal, leaf),
+    }
+}
+
+/// Puts: the signal picks a number.
+fn put_number(out: &mut Vec<Requirement>, signal: NameId, number: u64) -> Result<(), Memory>
+    ensures { OnOk result (out.new.items ≡ out.old.items ++ spec.number signal number) }
+{
+    put_word(out, signal, Leaf::Number(number))
+}
+
+/// Puts: the signal is a truth.
+fn put_truth(out: &mut Vec<Requirement>, signal: NameId, truth: bool) -> Result<(), Memory>
+    ensures { OnOk result (out.new.items ≡ out.old.items ++ spec.truth signal truth) }
+{
+    put(out, signal, Wanted::Truth(truth))
+}
+
+/// Puts the right value of a source.
+fn put_right(
+    out: &mut Vec<Requirement>,
+    n: &Now<'_>,
+    free: bool,
+    word: NameId,
+    source: NameId,
+    rest: NameId,
+) -> Result<(), Memory>
+    ensures { OnOk result (out.new.items ≡ out.old.items ++ spec.right_word n.now.v n.now.s.now (fields_in n.now.l.now) (view_in n.now.y.now) (movers_in n.now.mv.now) (at n.now.leaves.now) free word source rest) }
+{
+    if is_number(n.leaves, source, 15) {
+        return Ok(());
+    }
+    if n.loaded_in_e(source) {
+        if free {
+            return Ok(());
+        }
+        return put(out, word, Wanted::Nothing);
+    }
+    put_word(out, word, n.right_value(source, rest))
+}
+
+/// What obligation 1 requires.
+fn put_1(out: &mut Vec<Requirement>, n: &Now<'_>) -> Result<(), Memory>
+    ensures { OnOk result (out.new.items ≡ out.old.items ++ spec.required1 n.now.v n.now.s.now (fields_in n.now.l.now) (view_in n.now.y.now) (movers_in n.now.mv.now) (at n.now.leaves.now)) }
+{
+    put_word(out, name::F_ICODE, Leaf::Number(n.l.f.icode))?;
+    put_number(out, name::F_IFUN, n.l.f.ifun)
+}
+
+/// What obligation 2 requires.
+fn put_2(out: &mut Vec<Requirement>, n: &Now<'_>) -> Result<(), Memory>
+    ensures { OnOk result (out.new.items ≡ out.old.items ++ spec.required2 n.now.v n.now.s.now (fields_in n.now.l.now) (view_in n.now.y.now) (movers_in n.now.mv.now) (at n.now.leaves.now)) }
+{
+    put_number(
+        out,
+        name::F_STAT,
+        fetched_status(set(n.l.f.error), n.l.f.icode),
+    )
+}
+
+/// What obligation 3 requires.
+fn put_3(out: &mut Vec<Requirement>, n: &Now<'_>) -> Result<(), Memory>
+    ensures { OnOk result (out.new.items ≡ out.old.items ++ spec.required3 n.now.v n.now.s.now (fields_in n.now.l.now) (view_in n.now.y.now) (movers_in n.now.mv.now) (at n.now.leaves.now)) }
+{
+    put_truth(out, name::NEED_REGIDS, row(n.v, n.l.f.icode).has_byte)
+}
+
+/// What obligation 4 requires.
+fn put_4(out: &mut Vec<Requirement>, n: &Now<'_>) -> Result<(), Memory>
+    ensures { OnOk result (out.new.items ≡ out.old.items ++ spec.required4 n.now.v n.now.s.now (fields_in n.now.l.now) (view_in n.now.y.now) (movers_in n.now.mv.now) (at n.now.leaves.now)) }
+{
+    put_truth(out, name::NEED_VAL_C, row(n.v, n.l.f.icode).has_const)
+}
+
+/// What obligation 5 requires.
+fn put_5(out: &mut Vec<Requirement>, n: &Now<'_>) -> Result<(), Memory>
+    ensures { OnOk result (out.new.items ≡ out.old.items ++ spec.required5 n.now.v n.now.s.now (fields_in n.now.l.now) (view_in n.now.y.now) (movers_in n.now.mv.now) (at n.now.leaves.now)) }
+{
+    if set(n.l.f.error) {
+        return Ok(());
+    }
+    put_some(out, name::F_PRED_PC, n.predicted())
+}
+
+/// What obligation 6 requires.
+fn put_6(out: &mut Vec<Requirement>, n: &Now<'_>) -> Result<(), Memory>
+    ensures { OnOk result (out.new.items ≡ out.old.items ++ spec.required6 n.now.v n.now.s.now (fields_in n.now.l.now) (view_in n.now.y.now) (movers_in n.now.mv.now) (at n.now.leaves.now)) }
+{
+    put_number(
+        out,
+        name::D_SRC_A,
+        register_number(row(n.v, n.l.d.icode).src_a, n.l.d.r_a, n.l.d.r_b),
+    )
+}
+
+/// What obligation 7 requires.
+fn put_7(out: &mut Vec<Requirement>, n: &Now<'_>) -> Result<(), Memory>
+    ensures { OnOk result (out.new.items ≡ out.old.items ++ spec.required7 n.now.v n.now.s.now (fields_in n.now.l.now) (view_in n.now.y.now) (movers_in n.now.mv.now) (at n.now.leaves.now)) }
+{
+    put_number(
+        out,
+        name::D_SRC_B,
+        register_number(row(n.v, n.l.d.icode).src_b, n.l.d.r_a, n.l.d.r_b),
+    )
+}
+
+/// What obligation 8 requires.
+fn put_8(out: &mut Vec<Requirement>, n: &Now<'_>) -> Result<(), Memory>
+    ensures { OnOk result (out.new.items ≡ out.old.items ++ spec.required8 n.now.v n.now.s.now (fields_in n.now.l.now) (view_in n.now.y.now) (movers_in n.now.mv.now) (at n.now.leaves.now)) }
+{
+    put_number(
+        out,
+        name::D_DST_E,
+        register_number(row(n.v, n.l.d.icode).dst_e, n.l.d.r_a, n.l.d.r_b),
+    )
+}
+
+/// What obligation 9 requires.
+fn put_9(out: &mut Vec<Requirement>, n: &Now<'_>) -> Result<(), Memory>
+    ensures { OnOk result (out.new.items ≡ out.old.items ++ spec.required9 n.now.v n.now.s.now (fields_in n.now.l.now) (view_in n.now.y.now) (movers_in n.now.mv.now) (at n.now.leaves.now)) }
+{
+    put_number(
+        out,
+        name::D_DST_M,
+        register_number(row(n.v, n.l.d.icode).dst_m, n.l.d.r_a, n.l.d.r_b),
+    )
+}
+
+/// What obligation 10 requires.
+fn put_10(out: &mut Vec<Requirement>, n: &Now<'_>) -> Result<(), Memory>
+    ensures { OnOk result (out.new.items ≡ out.old.items ++ spec.required10 n.now.v n.now.s.now (fields_in n.now.l.now) (view_in n.now.y.now) (movers_in n.now.mv.now) (at n.now.leaves.now)) }
+{
+    if !leaves(n.mv, n.y) {
+        return Ok(());
+    }
+    let here = row(n.v, n.l.d.icode);
+    if carries_p(&here) {
+        put_word(out, name::D_VAL_A, Leaf::Name(name::HELD_D_VAL_P))?;
+    }
+    put_right(
+        out,
+        n,
+        n.s.lf && stores_a(here.memory),
+        name::D_VAL_A,
+        name::D_SRC_A,
+        name::D_RVAL_A,
+    )
+}
+
+/// What obligation 11 requires.
+fn put_11(out: &mut Vec<Requirement>, n: &Now<'_>) -> Result<(), Memory>
+    ensures { OnOk result (out.new.items ≡ out.old.items ++ spec.required11 n.now.v n.now.s.now (fields_in n.now.l.now) (view_in n.now.y.now) (movers_in n.now.mv.now) (at n.now.leaves.now)) }
+{
+    if !leaves(n.mv, n.y) {
+        return Ok(());
+    }
+    put_right(out, n, false, name::D_VAL_B, name::D_SRC_B, name::D_RVAL_B)
+}
+
+/// What obligation 12 requires.
+fn put_12(out: &mut Vec<Requirement>, n: &Now<'_>) -> Result<(), Memory>
+    ensures { OnOk result (out.new.items ≡ out.old.items ++ spec.required12 n.now.v n.now.s.now (fields_in n.now.l.now) (view_in n.now.y.now) (movers_in n.now.mv.now) (at n.now.leaves.now)) }
+{
+    if !n.works_in_e() {
+        return Ok(());
+    }
+    put_some(
+        out,
+        name::ALU_A,
+        operand_leaf_a(
+            row(n.v, n.l.e.icode).alu_a,
+            name::HELD_E_VAL_A,
+            name::HELD_E_VAL_C,
+        ),
+    )
+}
+
+/// What obligation 13 requires.
+fn put_13(out: &mut Vec<Requirement>, n: &Now<'_>) -> Result<(), Memory>
+    ensures { OnOk result (out.new.items ≡ out.old.items ++ spec.required13 n.now.v n.now.s.now (fields_in n.now.l.now) (view_in n.now.y.now) (movers_in n.now.mv.now) (at n.now.leaves.now)) }
+{
+    if !n.works_in_e() {
+        return Ok(());
+    }
+    put_some(
+        out,
+        name::ALU_B,
+        operand_leaf_b(row(n.v, n.l.e.icode).alu_b, name::HELD_E_VAL_B),
+    )
+}
+
+/// What obligation 14 requires.
+fn put_14(out: &mut Vec<Requirement>, n: &Now<'_>) -> Result<(), Memory>
+    ensures { OnOk result (out.new.items ≡ out.old.items ++ spec.required14 n.now.v n.now.s.now (fields_in n.now.l.now) (view_in n.now.y.now) (movers_in n.now.mv.now) (at n.now.leaves.now)) }
+{
+    let here = row(n.v, n.l.e.icode);
+    if !(n.works_in_e() && has_operand_a(here.alu_a)) {
+        return Ok(());
+    }
+    put_number(out, name::ALUFUN, alu_function(here.selects, n.l.e.ifun))
+}
+
+/// What obligation 15 requires.
+fn put_15(out: &mut Vec<Requirement>, n: &Now<'_>) -> Result<(), Memory>
+    ensures { OnOk result (out.new.items ≡ out.old.items ++ spec.required15 n.now.v n.now.s.now (fields_in n.now.l.now) (view_in n.now.y.now) (movers_in n.now.mv.now) (at n.now.leaves.now)) }
+{
+    put_truth(
+        out,
+        name::SET_CC,
+        n.works_in_e() && row(n.v, n.l.e.icode).sets_flags,
+    )
+}
+
+/// What obligation 16 requires.
+fn put_16(out: &mut Vec<Requirement>, n: &Now<'_>) -> Result<(), Memory>
+    ensures { OnOk result (out.new.items ≡ out.old.items ++ spec.required16 n.now.v n.now.s.now (fields_in n.now.l.now) (view_in n.now.y.now) (movers_in n.now.mv.now) (at n.now.leaves.now)) }
+{
+    let here = row(n.v, n.l.e.icode);
+    if !(n.y.e.good && (carries_a(&here) || carries_p(&here))) {
+        return Ok(());
+    }
+    if n.taken_late() {
+        put_word(out, name::E_VAL_A, Leaf::Name(name::M_VAL_M))
+    } else {
+        put_word(out, name::E_VAL_A, Leaf::Name(name::HELD_E_VAL_A))
+    }
+}
+
+/// What obligation 17 requires.
+fn put_17(out: &mut Vec<Requirement>, n: &Now<'_>) -> Result<(), Memory>
+    ensures { OnOk result (out.new.items ≡ out.old.items ++ spec.required17 n.now.v n.now.s.now (fields_in n.now.l.now) (view_in n.now.y.now) (movers_in n.now.mv.now) (at n.now.leaves.now)) }
+{
+    if n.y.e.wrong {
+        return Ok(());
+    }
+    put_number(out, name::E_DST_E, n.late_dst_e())
+}
+
+/// What obligation 18 requires.
+fn put_18(out: &mut Vec<Requirement>, n: &Now<'_>) -> Result<(), Memory>
+    ensures { OnOk result (out.new.items ≡ out.old.items ++ spec.required18 n.now.v n.now.s.now (fields_in n.now.l.now) (view_in n.now.y.now) (movers_in n.now.mv.now) (at n.now.leaves.now)) }
+{
+    if !n.y.m.good {
+        return Ok(());
+    }
+    put_some(
+        out,
+        name::MEM_ADDR,
+        address_leaf(
+            row(n.v, n.l.m.icode).memory,
+            name::HELD_M_VAL_A,
+            name::HELD_M_VAL_E,
+        ),
+    )
+}
+
+/// What obligation 19 requires.
+fn put_19(out: &mut Vec<Requirement>, n: &Now<'_>) -> Result<(), Memory>
+    ensures { OnOk result (out.new.items ≡ out.old.items ++ spec.required19 n.now.v n.now.s.now (fields_in n.now.l.now) (view_in n.now.y.now) (movers_in n.now.mv.now) (at n.now.leaves.now)) }
+{
+    let memory = row(n.v, n.l.m.icode).memory;
+    put_truth(out, name::MEM_READ, n.y.m.good && is_load(memory))?;
+    put_truth(out, name::MEM_WRITE, n.y.m.good && is_store(memory))
+}
+
+/// What obligation 20 requires.
+fn put_20(out: &mut Vec<Requirement>, n: &Now<'_>) -> Result<(), Memory>
+    ensures { OnOk result (out.new.items ≡ out.old.items ++ spec.required20 n.now.v n.now.s.now (fields_in n.now.l.now) (view_in n.now.y.now) (movers_in n.now.mv.now) (at n.now.leaves.now)) }
+{
+    put_number(
+        out,
+        name::M_STAT,
+        if set(n.l.m.error) { 3 } else { n.l.m.stat },
+    )
+}
+
+/// What obligation 21 requires.
+fn put_21(out: &mut Vec<Requirement>, n: &Now<'_>) -> Result<(), Memory>
+    ensures { OnOk result (out.new.items ≡ out.old.items ++ spec.required21 n.now.v n.now.s.now (fields_in n.now.l.now) (view_in n.now.y.now) (movers_in n.now.mv.now) (at n.now.leaves.now)) }
+{
+    if !n.y.w.good {
+        return Ok(());
+    }
+    put_number(out, name::W_DST_E, n.l.w.dst_e)?;
+    put_number(out, name::W_DST_M, n.l.w.dst_m)?;
+    put_word(out, name::W_VAL_E, Leaf::Name(name::HELD_W_VAL_E))?;
+    put_word(out, name::W_VAL_M, Leaf::Name(name::HELD_W_VAL_M))
+}
+
+/// What obligation 22 requires.
+fn put_22(out: &mut Vec<Requirement>, n: &Now<'_>) -> Result<(), Memory>
+    ensures { OnOk result (out.new.items ≡ out.old.items ++ spec.required22 n.now.v n.now.s.now (fields_in n.now.l.now) (view_in n.now.y.now) (movers_in n.now.mv.now) (at n.now.leaves.now)) }
+{
+    put_number(out, name::STAT, if n.y.w.good { n.l.w.stat } else { 1 })
+}
+
+/// What an obligation from 1 to 22 requires, signal by signal.
+#[tactic(auto, unfolding(crate::specs::Requirements::requirements))]
+pub fn requirements_of(alloc: Global, n: &Now<'_>, rule: u32) -> Result<Vec<Requirement>, Memory>
+    requires first { 1 ≤ rule }
+    requires last { rule ≤ 22 }
+    ensures { IfOk result (λ r. r.items ≡ spec.requirements n.now.v n.now.s.now (fields_in n.now.l.now) (view_in n.now.y.now) (movers_in n.now.mv.now) (at n.now.leaves.now) rule) }
+{
+    let mut out = Vec::new(alloc);
+    match rule {
+        1 => put_1(&mut out, n)?,
+        2 => put_2(&mut out, n)?,
+        3 => put_3(&mut out, n)?,
+        4 => put_4(&mut out, n)?,
+        5 => put_5(&mut out, n)?,
+        6 => put_6(&mut out, n)?,
+        7 => put_7(&mut out, n)?,
+        8 => put_8(&mut out, n)?,
+        9 => put_9(&mut out, n)?,
+        10 => put_10(&mut out, n)?,
+        11 => put_11(&mut out, n)?,
+        12 => put_12(&mut out, n)?,
+        13 => put_13(&mut out, n)?,
+        14 => put_14(&mut out, n)?,
+        15 => put_15(&mut out, n)?,
+        16 => put_16(&mut out, n)?,
+        17 => put_17(&mut out, n)?,
+        18 => put_18(&mut out, n)?,
+        19 => put_19(&mut out, n)?,
+        20 => put_20(&mut out, n)?,
+        21 => put_21(&mut out, n)?,
+        _ => put_22(&mut out, n)?,
+    }
+    Ok(out)
+}

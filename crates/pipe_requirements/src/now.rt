@@ -1,0 +1,175 @@
+//! What is known at a valuation, and the tests of the obligations on it.
+ghost use Rattle.std.specs.Prelude.{◌≡◌, ◌≤◌, if◌then◌else◌};
+ghost use Rattle.y86_base.specs.Stat.{stat_number};
+ghost use Rattle.y86_isa.specs.Blocks as blocks;
+ghost use Rattle.ctl_atoms.specs.declared.leaf.Leaf.TheVariants.{Name};
+ghost use Rattle.rule_gates.specs.Words as words;
+ghost use Rattle.control_values.specs.Given.{at};
+ghost use Rattle.pipe_motion.specs.Slots as slots;
+ghost use Rattle.pipe_obligations.specs.Obligations as rule;
+ghost use Rattle.pipe_motion.specs.Predictions as predictions;
+ghost use Rattle.y86_base.specs.Words as numbers;
+ghost use Rattle.y86_isa.specs.Table as table;
+ghost use Rattle.pipe_requirements.specs.Requirements.{unread};
+ghost use Rattle.pipe_requirements.specs.Views.{fields_in, movers_in, view_in};
+
+use crate::lines::Lines;
+use crate::view::{MoversNow, ViewNow, predicts, set};
+use ctl_atoms::{Leaf, same_leaf};
+use dp_signals::pipe_row as name;
+use hcl_types::NameId;
+use pipe_motion::Settings;
+use y86_base::Variant;
+use y86_isa::{Field, Next, row, stores_a};
+
+/// What is known at a valuation: the fields, the instructions in the stages, the stall and bubble signals, the control value of each name.
+#[derive(Clone, Copy)]
+pub struct Now<'a> {
+    pub v: Variant,
+    pub s: &'a Settings,
+    pub l: &'a Lines,
+    pub y: &'a ViewNow,
+    pub mv: &'a MoversNow,
+    pub leaves: &'a [Leaf],
+}
+
+/// The control value of a name.
+pub fn leaf_at(leaves: &[Leaf], n: NameId) -> Leaf
+    ensures { result ≡ at leaves.now n }
+{
+    match leaves.get(n as usize) {
+        Some(leaf) => *leaf,
+        None => Leaf::Number(0),
+    }
+}
+
+/// The signal picks this number.
+pub fn is_number(leaves: &[Leaf], n: NameId, number: u64) -> bool
+    ensures { result ≡ words.is_number (at leaves.now) n number }
+{
+    same_leaf(leaf_at(leaves, n), Leaf::Number(number))
+}
+
+/// The register that a column names.
+pub fn register_number(column: Field, r_a: u64, r_b: u64) -> u64
+    ensures { result ≡ blocks.register_number column r_a r_b }
+{
+    match column {
+        Field::Dash => 15,
+        Field::FieldA => r_a,
+        Field::FieldB => r_b,
+        Field::Stack => 4,
+    }
+}
+
+/// The number of the status of what was read.
+pub fn fetched_status(error: bool, icode: u64) -> u64
+    ensures { result ≡ stat_number (blocks.fetch_status error icode) }
+{
+    if error {
+        3
+    } else if icode == 15 {
+        4
+    } else if icode == 0 {
+        2
+    } else {
+        1
+    }
+}
+
+/// The function of the ALU.
+pub fn alu_function(selects: bool, ifun: u64) -> u64
+    ensures { result ≡ blocks.alu_function selects ifun }
+{
+    if selects { ifun } else { 0 }
+}
+
+/// A destination after the condition.
+pub fn destination_e(conditional: bool, cnd: bool, raw: u64) -> u64
+    ensures { result ≡ blocks.destination_e conditional cnd raw }
+{
+    if conditional && !cnd { 15 } else { raw }
+}
+
+/// What is predicted behind an instruction.
+pub fn predicted_leaf(next: Next, taken: bool) -> Option<Leaf>
+    ensures { result ≡ rule.predicted_leaf next taken }
+{
+    match next {
+        Next::Itself => None,
+        Next::Fall => Some(Leaf::Name(name::F_VAL_P)),
+        Next::Branch => {
+            if taken {
+                Some(Leaf::Name(name::F_VAL_C))
+            } else {
+                Some(Leaf::Name(name::F_VAL_P))
+            }
+        }
+        Next::Target => Some(Leaf::Name(name::F_VAL_C)),
+        Next::Loaded => None,
+    }
+}
+
+impl<'a> Now<'a> {
+    /// E's destination after the condition.
+    pub fn late_dst_e(&self) -> u64
+        ensures { result ≡ rule.late_dst_e self.now.v self.now.s.now (fields_in self.now.l.now) (view_in self.now.y.now) (movers_in self.now.mv.now) unread (at self.now.leaves.now) }
+    {
+        destination_e(
+            row(self.v, self.l.e.icode).conditional,
+            set(self.l.e.cnd),
+            self.l.e.dst_e,
+        )
+    }
+
+    /// The source is the register that the good instruction in E loads.
+    pub fn loaded_in_e(&self, source: NameId) -> bool
+        ensures { result ≡ rule.loaded_in_e self.now.v self.now.s.now (fields_in self.now.l.now) (view_in self.now.y.now) (movers_in self.now.mv.now) unread (at self.now.leaves.now) source }
+    {
+        self.y.e.good && is_number(self.leaves, source, self.l.e.dst_m)
+    }
+
+    /// Where the value of a source stands.
+    pub fn right_value(&self, source: NameId, rest: NameId) -> Leaf
+        ensures { result ≡ rule.right_value self.now.v self.now.s.now (fields_in self.now.l.now) (view_in self.now.y.now) (movers_in self.now.mv.now) unread (at self.now.leaves.now) source rest }
+    {
+        let late = self.late_dst_e();
+        if self.y.e.good && is_number(self.leaves, source, late) {
+            Leaf::Name(name::E_VAL_E)
+        } else if is_number(self.leaves, source, self.l.m.dst_m) {
+            Leaf::Name(name::M_VAL_M)
+        } else if is_number(self.leaves, source, self.l.m.dst_e) {
+            Leaf::Name(name::HELD_M_VAL_E)
+        } else if is_number(self.leaves, source, self.l.w.dst_m) {
+            Leaf::Name(name::HELD_W_VAL_M)
+        } else if is_number(self.leaves, source, self.l.w.dst_e) {
+            Leaf::Name(name::HELD_W_VAL_E)
+        } else {
+            Leaf::Name(rest)
+        }
+    }
+
+    /// The good instruction in E goes on.
+    pub fn works_in_e(&self) -> bool
+        ensures { result ≡ rule.works_in_e self.now.v self.now.s.now (fields_in self.now.l.now) (view_in self.now.y.now) (movers_in self.now.mv.now) unread (at self.now.leaves.now) }
+    {
+        self.y.e.good && self.l.e.stat == 1
+    }
+
+    /// A store takes the word that it stores late.
+    pub fn taken_late(&self) -> bool
+        ensures { result ≡ rule.taken_late self.now.v self.now.s.now (fields_in self.now.l.now) (view_in self.now.y.now) (movers_in self.now.mv.now) unread (at self.now.leaves.now) }
+    {
+        self.s.lf
+            && (stores_a(row(self.v, self.l.e.icode).memory)
+                && (self.y.m.good && self.l.m.dst_m == self.l.e.src_a))
+    }
+
+    /// What a jump that is fetched is predicted as.
+    pub fn predicted(&self) -> Option<Leaf>
+        ensures { result ≡ rule.predicted_leaf (table.row self.now.v self.now.l.now.f.icode).next (predictions.predicts self.now.s.now self.now.l.now.f.ifun (numbers.set self.now.l.now.f.back)) }
+    {
+        let taken = predicts(self.s, self.l.f.ifun, set(self.l.f.back));
+        predicted_leaf(row(self.v, self.l.f.icode).next, taken)
+    }
+}
