@@ -1,0 +1,5 @@
+pub mod Stacks
+pub mod Listing
+pub mod Runs
+pub mod ItemLemmas
+pub mod StopLemmas

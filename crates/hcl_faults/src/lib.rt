@@ -1,0 +1,24 @@
+//! The faults of an HCL text as facts: where the reader stopped, what could stand there and what is open; every fault
+//! of binding; the places of definitions and of their cases. Sentences are made of them elsewhere.
+#![tactic(auto)]
+
+mod binding;
+mod brackets;
+mod cases;
+mod expected;
+mod kinds;
+mod lists;
+mod places;
+mod stop;
+mod tokens;
+
+pub use binding::{ItemFault, is_defined_by, item_faults, law_of_first_faults, missing_names};
+pub use brackets::open_brackets;
+pub use cases::{
+    case_place, case_start, definition_name, definition_place, item_start, token_text,
+};
+pub use expected::{FOLLOW_KINDS, expected_kinds, law_of_expected};
+pub use kinds::{TokenKind, kind_of, sample};
+pub use places::{TextPlace, place_at};
+pub use stop::{Stopped, stop_in};
+pub use tokens::{TokenAt, token_list};
