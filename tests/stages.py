@@ -74,7 +74,7 @@ LOAD_USE = f"""
                  F  D  E | 0x00e halt
                     F  D | 0x00f halt
                        M | bubble
-                       F | 0x010 invalid
+                       F | 0x010 halt
 end HLT cycles 8 retired 3
 """
 
@@ -89,7 +89,7 @@ LOAD_USE_NB = f"""
                        F  D  E | 0x00e halt
                           F  D | 0x00f halt
                              M | bubble
-                             F | 0x010 invalid
+                             F | 0x010 halt
 end HLT cycles 10 retired 3
 """
 
@@ -308,7 +308,7 @@ TWICE = f"""
                  F  D  E | 0x00e halt
                     F  D | 0x00f halt
                        M | bubble
-                       F | 0x010 invalid
+                       F | 0x010 halt
 end HLT cycles 8 retired 4
 """
 
@@ -324,8 +324,35 @@ LOST = f"""
                  F  D  E | 0x00e halt
                     F  D | 0x00f halt
                        M | bubble
-                       F | 0x010 invalid
+                       F | 0x010 halt
 end HLT cycles 8 retired 2
+"""
+
+# E stays while M is emptied behind a load: what D holds is lost, and what E holds isn't.
+STALLED_E = f"""
+  F  D  E  M  W          | {LOAD}
+     F  D  d             | 0x00a addq %rax, %rax
+        F  F  D  E  M  W | 0x00c halt
+           E  E  M  W    | bubble
+              M  W       | bubble
+              F  D  e    | 0x00d halt
+                 F  D  E | 0x00e halt
+                    F  D | 0x00f halt
+                       M | bubble
+                       F | 0x010 halt
+end HLT cycles 8 retired 2
+"""
+
+# F is emptied while D stays: the fetch is lost, and the next one is from address 0.
+EMPTIED_F = f"""
+  F  D  E  M  W    | {LOAD}
+     F  D  D  E  M | 0x00a addq %rax, %rax
+        f          | 0x00c halt
+           E  M  W | bubble
+           F  D  E | {LOAD}
+              F  D | 0x00a addq %rax, %rax
+                 f | 0x00c halt
+end AOK cycles 6 retired 1
 """
 
 # Only what stands in a stage in these two cycles.
@@ -371,12 +398,12 @@ target:
 
 FIELDS_LINES = """
 D row 5 at 0x028 next load stat AOK rA %rdx rB - valC 0x0 valP 0x2a d_srcA %rsp d_srcB %rsp d_dstE %rsp d_dstM %rdx d_valA 0x80 d_valB 0x80 d_valA_from d_rvalA d_valB_from d_rvalB | popq %rdx
-E row 6 at 0x02a next load stat AOK valC 0x0 valA 0x3 valB 0x88 srcA %rbx srcB %rsp dstE %rsp dstM - aluA 0xfffffffffffffff8 aluB 0x88 set_cc 0 e_Cnd 1 e_valE 0x80 e_dstE %rsp | pushq %rbx
+E row 6 at 0x02a next load stat AOK valC 0x0 valA 0x3 valB 0x88 srcA %rbx srcB %rsp dstE %rsp dstM - aluA 0xfffffffffffffff8 aluB 0x88 alufun add set_cc 0 e_Cnd 1 e_valE 0x80 e_dstE %rsp | pushq %rbx
 M row 5 at 0x028 next load stat AOK Cnd 1 valE 0x88 valA 0x80 dstE %rsp dstM %rdx mem_addr 0x80 mem_read 1 mem_write 0 m_valM 0x11 m_stat AOK | popq %rdx
 cycle 9
 F row 9 at 0x038 next load stat AOK F_predPC 0x38 f_valC 0x50 f_valP 0x41 f_predPC 0x50 f_pc_from F_predPC | jne 0x050
 D row 8 at 0x02e next load stat AOK rA %rdx rB %rbx valC 0x18 valP 0x38 d_srcA %rdx d_srcB %rbx d_dstE - d_dstM - d_valA 0x11 d_valB 0x3 d_valA_from W_valM d_valB_from d_rvalB | rmmovq %rdx, 24(%rbx)
-E row 7 at 0x02c next load stat AOK valC 0x0 valA 0x7 valB 0xfffffffffffffffb srcA %rsi srcB %rcx dstE %rcx dstM - aluA 0x7 aluB 0xfffffffffffffffb set_cc 1 e_Cnd 1 e_valE 0xfffffffffffffff4 e_dstE %rcx | subq %rsi, %rcx
+E row 7 at 0x02c next load stat AOK valC 0x0 valA 0x7 valB 0xfffffffffffffffb srcA %rsi srcB %rcx dstE %rcx dstM - aluA 0x7 aluB 0xfffffffffffffffb alufun sub set_cc 1 e_Cnd 1 e_valE 0xfffffffffffffff4 e_dstE %rcx | subq %rsi, %rcx
 M row 6 at 0x02a next load stat AOK Cnd 1 valE 0x80 valA 0x3 dstE %rsp dstM - mem_addr 0x80 mem_read 0 mem_write 1 m_valM 0x0 m_stat AOK | pushq %rbx
 W row 5 at 0x028 next load stat AOK valE 0x88 valM 0x11 dstE %rsp dstM %rdx Stat AOK | popq %rdx
 flags ZF 1 SF 0 OF 0
@@ -385,6 +412,38 @@ write %rdx 0x11
 store 0x080 0x3
 cycle 10
 """
+
+# Instructions with ifuns that they ignore, and how they are told.
+IGNORED = """
+0x000: 1f
+0x001: 35f40001000000000000
+0x00b: 4f040000000000000000
+0x015: 59040000000000000000
+0x01f: a10f
+0x021: b20f
+0x023: cff00100000000000000
+0x02d: 833700000000000000
+0x036: 0e
+0x037: 97
+"""
+
+IGNORED_TEXTS = [
+    "0x000 nop", "0x001 irmovq $256, %rsp", "0x00b rmmovq %rax, 0(%rsp)", "0x015 mrmovq 0(%rsp), %rax", "0x01f pushq %rax", "0x021 popq %rax",
+    "0x023 iaddq $1, %rax", "0x02d call 0x037", "0x037 ret", "0x036 halt"]
+
+# A halt whose ifun is 5.
+HALT_5 = """
+  F  D  E  M  W | 0x000 halt
+     F  D  e    | 0x001 halt
+        F  D  E | 0x002 halt
+           F  D | 0x003 halt
+              M | bubble
+              F | 0x004 halt
+end HLT cycles 5 retired 1
+"""
+
+# Bytes that are no instruction: an icode or an ifun that there isn't, a register that there isn't, and a byte that the smaller set hasn't.
+INVALID = ("d0", "f0", "2701", "6401", "770000000000000000", "20f0", "30ff0100000000000000", "a0ff", "c0f00100000000000000")
 
 # Each instruction, as the text of its line says it.
 TEXTS = """
@@ -500,6 +559,10 @@ def motion(runs):
     runs.diagram("an instruction in two stages", "twice", "load_use", TWICE, 0)
     runs.changed("lost.hcl", M_bubble="@ || M_icode == IMRMOVQ", W_bubble="M_icode == IMRMOVQ")
     runs.diagram("what is lost in M", "lost", "load_use", LOST, 0)
+    runs.changed("stalled_e.hcl", E_stall="M_icode == IMRMOVQ", M_bubble="@ || M_icode == IMRMOVQ")
+    runs.diagram("E stays and M is emptied", "stalled_e", "load_use", STALLED_E, 0)
+    runs.changed("emptied_f.hcl", F_stall="IRET in { D_icode, E_icode, M_icode }", F_bubble="E_icode == IMRMOVQ && E_dstM in { d_srcA, d_srcB }")
+    runs.diagram("F is emptied and D stays", "emptied_f", "load_use", EMPTIED_F, 1, "--limit", "6")
 
 
 def windows(runs):
@@ -528,6 +591,44 @@ def lines(runs):
     rows = [line.split(" | ") for line in runs.run("with_iaddq.hcl", "texts.yo", "--full", "--diagram")[1].splitlines()]
     said = {(row[1].split(" ", 1)[1], row[2]) for row in rows if len(row) == 3}
     runs.check("each instruction is written as it is read", said, {(text.strip(), text.strip()) for text in TEXTS.splitlines() if text})
+
+
+def texts(runs):
+    """What an instruction is called, where its ifun is ignored, where it is invalid, and where its fetch failed."""
+    runs.write("halt_5.yo", "0x000: 05 |\n")
+    runs.diagram("a halt with an ifun", "std", "halt_5", HALT_5, 0)
+    runs.write("ignored.yo", IGNORED)
+    rows = runs.run("with_iaddq.hcl", "ignored.yo", "--full", "--diagram")[1].splitlines()[1:-1]
+    runs.check("ifuns that are ignored", [row.split(" | ")[1] for row in rows if re.match(r" *F[ FD]*  E  M  W", row)], IGNORED_TEXTS)
+    for bytes_ in INVALID:
+        runs.write("invalid.yo", f"0x000: {bytes_} |\n")
+        out = runs.run("std.hcl", "invalid.yo", "--diagram")[1].splitlines()
+        runs.check(f"{bytes_} is invalid", (out[1].split(" | ")[1], out[-1].split()[1]), ("0x000 invalid", "INS"))
+    for at, bytes_ in (("0x040", ""), ("0x03f", "0x03f: 30 |\n"), ("0xfffffffffffffff8", "")):
+        runs.assembled("outside", f"jmp {at}")
+        with open(f"{runs.folder}/outside.yo", "a", encoding="ascii") as file:
+            file.write(bytes_)
+        out = runs.run("std.hcl", "outside.yo", "--mem", "64")[1]
+        runs.check(f"a fetch at {at}", re.findall(rf"^W row 2 at {at} .* stat (\w+) .* \| (.*)", out, re.M), [("ADR", "failed fetch")])
+
+
+def changes(runs):
+    """What a store or a load that fails changes: nothing."""
+    runs.assembled("store_fails", "irmovq $1, %rcx\nrmmovq %rcx, 0x2000(%rcx)\n")
+    out = runs.run("std.hcl", "store_fails.yo")[1]
+    runs.check("a store that fails", (re.findall("^(?:write|store) .*", out, re.M), re.findall(r"^M row 2 .* mem_write (\d) .* m_stat (\w+)", out, re.M)),
+        (["write %rcx 0x1"], [("1", "ADR")]))
+    out = runs.run("std.hcl", "fault.yo")[1]
+    runs.check("a load that fails", re.findall("^(?:write|store) .*", out, re.M), ["write %rbx 0x2000"])
+
+
+def functions(runs):
+    """What the ALU computes."""
+    runs.assembled("functions", "addq %rax, %rax\nsubq %rax, %rax\nandq %rax, %rax\nxorq %rax, %rax\npushq %rax\nhalt\n")
+    said = told(runs.run("std.hcl", "functions.yo")[1], "E", "alufun")
+    runs.check("the functions of the ALU", [said[at] for at in ("0x000", "0x002", "0x004", "0x006", "0x008")], ["add", "sub", "and", "xor", "add"])
+    runs.changed("nine.hcl", alufun="9")
+    runs.check("a number that is no function", told(runs.run("nine.hcl", "functions.yo")[1], "E", "alufun")["0x000"], "9")
 
 
 def ends(runs):
@@ -642,6 +743,9 @@ def main():
         motion(runs)
         windows(runs)
         lines(runs)
+        texts(runs)
+        changes(runs)
+        functions(runs)
         ends(runs)
         listings(runs)
         picks(runs)

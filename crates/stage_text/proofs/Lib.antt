@@ -4,3 +4,8 @@ pub mod Trimmed
 pub mod Listings
 pub mod ListedLines
 pub mod Picks
+pub mod Texts
+pub mod TextsOfRuns
+pub mod Changes
+pub mod RowsTell
+pub mod Written

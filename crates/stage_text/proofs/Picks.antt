@@ -142,7 +142,7 @@ picks_the_value f t id e = (agrees f t).1 id e
 
 -- ---- in a cycle
 
-value_of_source : (f : ℕ → ℕ) (id : ℕ) (term : Option Term) → option_and_then (picked_name f) term ≡ Some id → term_value term f ≡ f id
+pub value_of_source : (f : ℕ → ℕ) (id : ℕ) (term : Option Term) → option_and_then (picked_name f) term ≡ Some id → term_value term f ≡ f id
 value_of_source f id None e = absurd (none-some id e)
 value_of_source f id (Some t) e = picks_the_value f t id e
 

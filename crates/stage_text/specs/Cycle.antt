@@ -1,13 +1,16 @@
 -- The lines of one cycle: of a state of the machine, with f for the value of each signal, and what the picks of the file tell of it.
-use Rattle.std.specs.Prelude.{ℕ, Bool, ◌==◌, nat_lt, List, [], ◌++◌, codes, Option, Some, None, if◌then◌else◌}
+use Rattle.std.specs.Prelude.{ℕ, Bool, ◌==◌, nat_lt, List, [], ◌∷◌, ◌++◌, map, codes, Option, Some, None, if◌then◌else◌}
+use Rattle.std.specs.List.{concat}
+use Rattle.y86_base.specs.Stat.{stat_name}
 use Rattle.y86_base.specs.declared.parts.Flags.{Flags}
+use Rattle.y86_base.specs.declared.parts.Stat.{Stat}
 use Rattle.y86_isa.specs.declared.machine.Store.{Store}
 use Rattle.dp_signals.specs.PipeCycle.{store_of}
 use Rattle.dp_signals.specs.PipeNames as row
 use Rattle.y86_base.specs.Words.{set}
 use Rattle.dp_signals.specs.declared.pipe_state.PipeState.{PipeState}
 use Rattle.stage_text.specs.Instruction.{instruction}
-use Rattle.stage_text.specs.Numbers.{address, number_pair, register_pair, status_pair, text_pair, word_pair}
+use Rattle.stage_text.specs.Numbers.{address, function_pair, number_pair, register_pair, status_pair, text_pair, word_pair}
 use Rattle.stage_text.specs.Picked.{Sources}
 use Rattle.stage_text.specs.declared.held.Held.{Held}
 use Rattle.stage_text.specs.declared.watch.Watch.{Watch}
@@ -74,18 +77,21 @@ execute_registers p =
     ++ (register_pair (codes " srcB ") p.e.src_b
     ++ (register_pair (codes " dstE ") p.e.dst_e ++ register_pair (codes " dstM ") p.e.dst_m))
 
-unfoldable pub execute_signals : (ℕ → ℕ) → List ℕ
-execute_signals f =
+unfoldable pub execute_operands : (ℕ → ℕ) → List ℕ
+execute_operands f =
     word_pair (codes " aluA ") (f row.aluA)
     ++ (word_pair (codes " aluB ") (f row.aluB)
-    ++ (number_pair (codes " set_cc ") (f row.set_cc)
-    ++ (number_pair (codes " e_Cnd ") (f row.e_Cnd)
-    ++ (word_pair (codes " e_valE ") (f row.e_valE) ++ register_pair (codes " e_dstE ") (f row.e_dstE)))))
+    ++ (function_pair (codes " alufun ") (f row.alufun) ++ number_pair (codes " set_cc ") (f row.set_cc)))
+
+unfoldable pub execute_signals : (ℕ → ℕ) → List ℕ
+execute_signals f =
+    number_pair (codes " e_Cnd ") (f row.e_Cnd)
+    ++ (word_pair (codes " e_valE ") (f row.e_valE) ++ register_pair (codes " e_dstE ") (f row.e_dstE))
 
 unfoldable pub execute_line : Held → PipeState → (ℕ → ℕ) → List ℕ
 execute_line h p f =
     head (codes "E") h (set (f row.E_stall)) (set (f row.E_bubble)) p.e.stat
-    ++ (execute_words p ++ (execute_registers p ++ (execute_signals f ++ tail h)))
+    ++ (execute_words p ++ (execute_registers p ++ (execute_operands f ++ (execute_signals f ++ tail h))))
 
 unfoldable pub memory_fields : PipeState → List ℕ
 memory_fields p =
@@ -131,23 +137,39 @@ flags_line flags =
     number_pair (codes "flags ZF ") (bit flags.zf)
     ++ (number_pair (codes " SF ") (bit flags.sf) ++ (number_pair (codes " OF ") (bit flags.of) ++ codes "\n"))
 
--- a register that is written
-unfoldable pub written_line : ℕ → ℕ → List ℕ
-written_line register word =
-    if nat_lt register 15 then register_pair (codes "write ") register ++ (word_pair (codes " ") word ++ codes "\n") else []
+-- the registers that a cycle writes, each with its word: the destination of valE and then that of valM; in PIPE where W_stat is AOK
+abbrev pub written : ℕ → ℕ → List (ℕ × ℕ)
+written register word = if nat_lt register 15 then (register, word) ∷ [] else []
 
--- the registers that are written where W_stat is AOK: w_dstE, and then w_dstM
-unfoldable pub written_lines : PipeState → (ℕ → ℕ) → List ℕ
-written_lines p f =
-    if p.w.stat == 1 then written_line (f row.w_dstE) (f row.w_valE) ++ written_line (f row.w_dstM) (f row.w_valM) else []
+abbrev pub writes : Bool → ℕ → ℕ → ℕ → ℕ → List (ℕ × ℕ)
+writes done dst_e val_e dst_m val_m = if done then written dst_e val_e ++ written dst_m val_m else []
 
-unfoldable pub stored_line : Option Store → List ℕ
-stored_line None = []
-stored_line (Some s) = codes "store " ++ (address s.addr ++ (word_pair (codes " ") s.word ++ codes "\n"))
+unfoldable pub told_writes : PipeState → (ℕ → ℕ) → List (ℕ × ℕ)
+told_writes p f = writes (p.w.stat == 1) (f row.w_dstE) (f row.w_valE) (f row.w_dstM) (f row.w_valM)
+
+abbrev pub register_line : ℕ × ℕ → List ℕ
+register_line write = register_pair (codes "write ") write.0 ++ (word_pair (codes " ") write.1 ++ codes "\n")
+
+unfoldable pub register_lines : List (ℕ × ℕ) → List ℕ
+register_lines writes = concat (map register_line writes)
+
+-- the store that a cycle does
+abbrev pub told_store : PipeState → (ℕ → ℕ) → Option Store
+told_store p f = store_of p f
+
+unfoldable pub store_line : Option Store → List ℕ
+store_line None = []
+store_line (Some s) = codes "store " ++ (address s.addr ++ (word_pair (codes " ") s.word ++ codes "\n"))
 
 -- ---- a cycle, by its number
 
 unfoldable pub cycle_text : ℕ → Watch → Held → PipeState → (ℕ → ℕ) → Sources → List ℕ
 cycle_text number watch fetch p f from =
     number_pair (codes "cycle ") number
-    ++ (codes "\n" ++ (stage_lines watch fetch p f from ++ (flags_line p.flags ++ (written_lines p f ++ stored_line (store_of p f)))))
+    ++ (codes "\n" ++ (stage_lines watch fetch p f from ++ (flags_line p.flags ++ (register_lines (told_writes p f) ++ store_line (told_store p f)))))
+
+-- ---- how a run ended: its status, and how many cycles it had and instructions retired
+
+unfoldable pub end_line : Stat → ℕ → ℕ → List ℕ
+end_line end cycles retired =
+    codes "end " ++ (stat_name end ++ (number_pair (codes " cycles ") cycles ++ (number_pair (codes " retired ") retired ++ codes "\n")))

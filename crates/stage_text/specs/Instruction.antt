@@ -1,6 +1,8 @@
--- The text of an instruction, as the assembler reads it (CS:APP 3e, figures 4.2 and 4.3).
-use Rattle.std.specs.Prelude.{ℕ, List, [], ◌∷◌, ◌++◌, ◌==◌, length, codes, slice_index_or, not, if◌then◌else◌}
+-- The text of an instruction, as the assembler reads it (CS:APP 3e, figures 4.2 and 4.3), and the words for what is none.
+use Rattle.std.specs.Prelude.{ℕ, Bool, List, [], ◌∷◌, ◌++◌, codes, slice_index_or, not, if◌then◌else◌}
 use Rattle.hcl_read.specs.Print.{signed_decimal}
+use Rattle.y86_base.specs.declared.parts.Variant.TheVariants.{Full}
+use Rattle.y86_isa.specs.Table.{is_instruction}
 use Rattle.stage_text.specs.Numbers.{address, register}
 use Rattle.stage_text.specs.declared.held.Held.{Held}
 use Rattle.stage_text.specs.declared.instruction.Shape.{Shape}
@@ -13,7 +15,7 @@ shape_of icode =
     (Alone ∷ Alone ∷ Registers ∷ Immediate ∷ Store ∷ Load ∷ Registers ∷ Target ∷ Target ∷ Alone ∷ Single ∷ Single ∷ Immediate ∷ [])
     icode Alone
 
--- the names of an icode by ifun; no bytes where there is no such instruction
+-- the names of the icodes that several instructions share, by ifun
 unfoldable pub moves : List (List ℕ)
 moves = codes "rrmovq" ∷ codes "cmovle" ∷ codes "cmovl" ∷ codes "cmove" ∷ codes "cmovne" ∷ codes "cmovge" ∷ codes "cmovg" ∷ []
 
@@ -23,16 +25,12 @@ operations = codes "addq" ∷ codes "subq" ∷ codes "andq" ∷ codes "xorq" ∷
 unfoldable pub jumps : List (List ℕ)
 jumps = codes "jmp" ∷ codes "jle" ∷ codes "jl" ∷ codes "je" ∷ codes "jne" ∷ codes "jge" ∷ codes "jg" ∷ []
 
-abbrev pub only : List ℕ → ℕ → List ℕ
-only name ifun = if ifun == 0 then name else []
-
--- the name of an instruction
+-- the name of an instruction: that of its icode, or of its ifun where its icode has several
 unfoldable pub mnemonic : ℕ → ℕ → List ℕ
 mnemonic icode ifun =
     slice_index_or
-    (only (codes "halt") ifun ∷ only (codes "nop") ifun ∷ slice_index_or moves ifun [] ∷ only (codes "irmovq") ifun ∷ only (codes "rmmovq") ifun
-    ∷ only (codes "mrmovq") ifun ∷ slice_index_or operations ifun [] ∷ slice_index_or jumps ifun [] ∷ only (codes "call") ifun ∷ only (codes "ret") ifun
-    ∷ only (codes "pushq") ifun ∷ only (codes "popq") ifun ∷ only (codes "iaddq") ifun ∷ [])
+    (codes "halt" ∷ codes "nop" ∷ slice_index_or moves ifun [] ∷ codes "irmovq" ∷ codes "rmmovq" ∷ codes "mrmovq" ∷ slice_index_or operations ifun []
+    ∷ slice_index_or jumps ifun [] ∷ codes "call" ∷ codes "ret" ∷ codes "pushq" ∷ codes "popq" ∷ codes "iaddq" ∷ [])
     icode []
 
 -- the operands of each shape
@@ -66,9 +64,14 @@ operands Load h = load h
 operands Target h = target h
 operands Single h = single h
 
--- what stands in a stage
+-- an instruction by its codes: an ifun that the instruction ignores may be any
+abbrev pub is_valid : ℕ → ℕ → Bool
+is_valid icode ifun = is_instruction Full icode ifun
+
+-- what a stage holds. A fetch fails where a byte of the instruction is outside the memory.
 unfoldable pub instruction : Held → List ℕ
 instruction h =
     if not h.live then codes "bubble"
-    else (if length (mnemonic h.icode h.ifun) == 0 then codes "invalid"
-    else mnemonic h.icode h.ifun ++ operands (shape_of h.icode) h)
+    else (if h.failed then codes "failed fetch"
+    else (if not (is_valid h.icode h.ifun) then codes "invalid"
+    else mnemonic h.icode h.ifun ++ operands (shape_of h.icode) h))

@@ -6,3 +6,6 @@ pub mod Picked
 pub mod Cycle
 pub mod Diagram
 pub mod Watching
+pub mod Texts
+pub mod Changes
+pub mod Rows

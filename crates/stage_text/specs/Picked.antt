@@ -59,9 +59,9 @@ PicksTheValue = (f : ℕ → ℕ) (t : Term) (id : ℕ) → picked_name f t ≡ 
 
 -- ---- the names that are told of a cycle
 
--- the name that the definition of a row picks, where the file has one
-abbrev pub name_picked : List Term → (ℕ → ℕ) → ℕ → Option ℕ
-name_picked terms f id = option_and_then (picked_name f) (slice_get terms (id - row.f_pc))
+-- the name that the definition of a row picks, where the file has one; first is the first row that a file defines
+abbrev pub name_picked : ℕ → List Term → (ℕ → ℕ) → ℕ → Option ℕ
+name_picked first terms f id = option_and_then (picked_name f) (slice_get terms (id - first))
 
 -- where f_pc, d_valA and d_valB come from, as it is told
 pub record Sources : Type 0 where
@@ -74,12 +74,16 @@ abbrev pub name_text : List Row → Option ℕ → List ℕ
 name_text rows None = codes "-"
 name_text rows (Some id) = option_map_or (λ (it : Row). it.name) (slice_get rows id) (codes "-")
 
-abbrev pub source : List Row → List Term → (ℕ → ℕ) → ℕ → List ℕ
-source rows terms f id = name_text rows (name_picked terms f id)
+abbrev pub source : ℕ → List Row → List Term → (ℕ → ℕ) → ℕ → List ℕ
+source first rows terms f id = name_text rows (name_picked first terms f id)
 
 unfoldable pub sources : List Row → List Term → (ℕ → ℕ) → Sources
 sources rows terms f =
-    record { pc = source rows terms f row.f_pc; val_a = source rows terms f row.d_valA; val_b = source rows terms f row.d_valB }
+    record {
+      pc = source row.f_pc rows terms f row.f_pc;
+      val_a = source row.f_pc rows terms f row.d_valA;
+      val_b = source row.f_pc rows terms f row.d_valB;
+    }
 
 abbrev pub sources_in : code.Sources → Sources
 sources_in s = record { pc = s.pc.now; val_a = s.val_a.now; val_b = s.val_b.now }
@@ -87,4 +91,4 @@ sources_in s = record { pc = s.pc.now; val_a = s.val_a.now; val_b = s.val_b.now 
 -- in a cycle of the machine a signal has the value of the row that its definition picks
 abbrev pub HasItsSource : ℕ → Type 0
 HasItsSource signal =
-    (v : Variant) (terms : List Term) (p : PipeState) (f : ℕ → ℕ) (id : ℕ) → Solves v terms p f → name_picked terms f signal ≡ Some id → f signal ≡ f id
+    (v : Variant) (terms : List Term) (p : PipeState) (f : ℕ → ℕ) (id : ℕ) → Solves v terms p f → name_picked row.f_pc terms f signal ≡ Some id → f signal ≡ f id

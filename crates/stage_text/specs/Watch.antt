@@ -13,7 +13,7 @@ use Rattle.stage_text.specs.declared.watch.Watch.{Watch}
 
 -- a bubble
 abbrev pub bubble : ℕ → Held
-bubble row = record { row = row; live = false; addr = 0; icode = 1; ifun = 0; r_a = 15; r_b = 15; val_c = 0 }
+bubble row = record { row = row; live = false; failed = false; addr = 0; icode = 1; ifun = 0; r_a = 15; r_b = 15; val_c = 0 }
 
 -- before the first cycle
 abbrev pub first_watch : Watch
@@ -29,6 +29,7 @@ fetched watch p f =
     record {
       row = if waits watch (f row.f_pc) then watch.kept.row else watch.rows + 1;
       live = true;
+      failed = set (f row.imem_error);
       addr = f row.f_pc;
       icode = f row.f_icode;
       ifun = f row.f_ifun;

@@ -17,7 +17,7 @@ use Rattle.dp_signals.specs.PipeTable.{pipe_rows}
 use Rattle.dp_signals.specs.declared.movers.Ending.{Ending}
 use Rattle.dp_signals.specs.declared.movers.Ending.TheVariants.{Going, Stopped, Pip}
 use Rattle.dp_signals.specs.declared.pipe_state.PipeState.{PipeState}
-use Rattle.stage_text.specs.Cycle.{cycle_text}
+use Rattle.stage_text.specs.Cycle.{cycle_text, end_line}
 use Rattle.stage_text.specs.Diagram.{diagram, shown_cycle}
 use Rattle.stage_text.specs.Numbers.{number_pair}
 use Rattle.stage_text.specs.Picked.{Sources, sources}
@@ -54,9 +54,15 @@ abbrev pub lines_shown : ((ℕ → ℕ) → Sources) → Window → ℕ → Watc
 lines_shown tells window number watch fetch p f =
     if not window.diagram && is_within window number then cycle_text number watch fetch p f (tells f) else []
 
+abbrev pub cycle_shown : ℕ → Watch → Held → (ℕ → ℕ) → Shown
+cycle_shown number watch fetch f = shown_cycle number watch fetch (asked_movers f) (goes_on (ending f))
+
 abbrev pub cycles_shown : Window → ℕ → Watch → Held → (ℕ → ℕ) → List Shown
-cycles_shown window number watch fetch f =
-    if window.diagram && is_within window number then shown_cycle number watch fetch (asked_movers f) (goes_on (ending f)) ∷ [] else []
+cycles_shown window number watch fetch f = if window.diagram && is_within window number then cycle_shown number watch fetch f ∷ [] else []
+
+-- what the diagram shows of the next cycle of a watched machine
+abbrev pub shown_of : ℕ → Watching → (ℕ → ℕ) → Shown
+shown_of number s f = cycle_shown number s.watch (fetched s.watch s.state f) f
 
 -- the watched machine after the cycle of this number, with these values
 unfoldable pub after : ((ℕ → ℕ) → Sources) → Window → ℕ → Watching → (ℕ → ℕ) → Watching
@@ -82,10 +88,6 @@ pub record WatchesTo (v : Variant) (terms : List Term) (window : Window) (image 
   pub whole : k < limit → is_aok s.end ≡ false
 
 -- ---- what is shown of a run
-
-unfoldable pub end_line : Stat → ℕ → ℕ → List ℕ
-end_line end cycles retired =
-    codes "end " ++ (stat_name end ++ (number_pair (codes " cycles ") cycles ++ (number_pair (codes " retired ") retired ++ codes "\n")))
 
 abbrev pub diagram_shown : (ℕ → Option (List ℕ)) → Bool → Watching → List ℕ
 diagram_shown listing asked s = if asked then diagram listing s.watch.rows s.cycles else []

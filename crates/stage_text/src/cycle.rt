@@ -1,6 +1,5 @@
 //! The lines of one cycle.
 ghost use Rattle.std.specs.Prelude.{◌≡◌, ◌++◌, OnOk};
-ghost use Rattle.dp_signals.specs.PipeCycle as pipe;
 ghost use Rattle.y86_base.specs.Words.{set};
 ghost use Rattle.hcl_types.specs.Terms.{at};
 ghost use Rattle.stage_text.specs.Cycle as text;
@@ -9,13 +8,13 @@ ghost use Rattle.stage_text.specs.Picked.{sources_in};
 use crate::held::Held;
 use crate::instruction::put_instruction;
 use crate::numbers::{
-    put, put_address, put_number_pair, put_register_pair, put_status_pair, put_text_pair,
-    put_word_pair,
+    put, put_address, put_function_pair, put_number_pair, put_register_pair, put_status_pair,
+    put_text_pair, put_word_pair,
 };
 use crate::picked::Sources;
 use crate::watch::Watch;
 use dp_signals::{PipeState, PipeValues, at, pipe_row as row};
-use y86_base::{Flags, Memory};
+use y86_base::{Flags, Memory, Stat};
 use y86_isa::{Store, data_store};
 
 const AOK: u64 = 1;
@@ -188,13 +187,20 @@ fn put_execute_registers(out: &mut Vec<u8>, p: &PipeState) -> Result<(), Memory>
     put_register_pair(out, b" dstM ", p.e.dst_m)
 }
 
+#[tactic(auto, unfolding(crate::specs::Cycle::execute_operands))]
+fn put_execute_operands(out: &mut Vec<u8>, values: &PipeValues) -> Result<(), Memory>
+    ensures { OnOk result (out.new.items ≡ out.old.items ++ text.execute_operands (at values.now)) }
+{
+    put_word_pair(out, b" aluA ", at(values, row::ALU_A))?;
+    put_word_pair(out, b" aluB ", at(values, row::ALU_B))?;
+    put_function_pair(out, b" alufun ", at(values, row::ALUFUN))?;
+    put_number_pair(out, b" set_cc ", at(values, row::SET_CC))
+}
+
 #[tactic(auto, unfolding(crate::specs::Cycle::execute_signals))]
 fn put_execute_signals(out: &mut Vec<u8>, values: &PipeValues) -> Result<(), Memory>
     ensures { OnOk result (out.new.items ≡ out.old.items ++ text.execute_signals (at values.now)) }
 {
-    put_word_pair(out, b" aluA ", at(values, row::ALU_A))?;
-    put_word_pair(out, b" aluB ", at(values, row::ALU_B))?;
-    put_number_pair(out, b" set_cc ", at(values, row::SET_CC))?;
     put_number_pair(out, b" e_Cnd ", at(values, row::E_CND))?;
     put_word_pair(out, b" e_valE ", at(values, row::E_VAL_E))?;
     put_register_pair(out, b" e_dstE ", at(values, row::E_DST_E))
@@ -219,6 +225,7 @@ fn put_execute(
     )?;
     put_execute_words(out, p)?;
     put_execute_registers(out, p)?;
+    put_execute_operands(out, values)?;
     put_execute_signals(out, values)?;
     put_tail(out, held)
 }
@@ -306,8 +313,9 @@ fn bit(flag: bool) -> u64
     if flag { 1 } else { 0 }
 }
 
+/// Puts the line of the flags.
 #[tactic(auto, unfolding(crate::specs::Cycle::flags_line))]
-fn put_flags(out: &mut Vec<u8>, flags: Flags) -> Result<(), Memory>
+pub fn put_flags(out: &mut Vec<u8>, flags: Flags) -> Result<(), Memory>
     ensures { OnOk result (out.new.items ≡ out.old.items ++ text.flags_line flags) }
 {
     put_number_pair(out, b"flags ZF ", bit(flags.zf))?;
@@ -317,9 +325,9 @@ fn put_flags(out: &mut Vec<u8>, flags: Flags) -> Result<(), Memory>
 }
 
 /// Puts the line of a register that is written; none for a number that no register has.
-#[tactic(auto, unfolding(crate::specs::Cycle::written_line))]
+#[tactic(auto, unfolding(crate::specs::Cycle::register_lines))]
 fn put_written(out: &mut Vec<u8>, register: u64, word: u64) -> Result<(), Memory>
-    ensures { OnOk result (out.new.items ≡ out.old.items ++ text.written_line register word) }
+    ensures { OnOk result (out.new.items ≡ out.old.items ++ text.register_lines (text.written register word)) }
 {
     if register >= NO_REGISTER {
         return Ok(());
@@ -329,21 +337,42 @@ fn put_written(out: &mut Vec<u8>, register: u64, word: u64) -> Result<(), Memory
     put(out, b"\n")
 }
 
-/// Puts the lines of the registers that are written at the end of the cycle.
-#[tactic(auto, unfolding(crate::specs::Cycle::written_lines))]
-fn put_registers(out: &mut Vec<u8>, p: &PipeState, values: &PipeValues) -> Result<(), Memory>
-    ensures { OnOk result (out.new.items ≡ out.old.items ++ text.written_lines p.now (at values.now)) }
+/// Puts the lines of the registers that are written where `done` says so.
+pub fn put_writes(
+    out: &mut Vec<u8>,
+    done: bool,
+    dst_e: u64,
+    val_e: u64,
+    dst_m: u64,
+    val_m: u64,
+) -> Result<(), Memory>
+    ensures { OnOk result (out.new.items ≡ out.old.items ++ text.register_lines (text.writes done dst_e val_e dst_m val_m)) }
 {
-    if p.w.stat != AOK {
+    if !done {
         return Ok(());
     }
-    put_written(out, at(values, row::W_DST_E), at(values, row::W_VAL_E))?;
-    put_written(out, at(values, row::W_DST_M), at(values, row::W_VAL_M))
+    put_written(out, dst_e, val_e)?;
+    put_written(out, dst_m, val_m)
+}
+
+/// Puts the lines of the registers that are written at the end of the cycle.
+#[tactic(auto, unfolding(crate::specs::Cycle::told_writes))]
+fn put_registers(out: &mut Vec<u8>, p: &PipeState, values: &PipeValues) -> Result<(), Memory>
+    ensures { OnOk result (out.new.items ≡ out.old.items ++ text.register_lines (text.told_writes p.now (at values.now))) }
+{
+    put_writes(
+        out,
+        p.w.stat == AOK,
+        at(values, row::W_DST_E),
+        at(values, row::W_VAL_E),
+        at(values, row::W_DST_M),
+        at(values, row::W_VAL_M),
+    )
 }
 
 /// What is stored at the end of the cycle.
 fn store_of(p: &PipeState, values: &PipeValues) -> Option<Store>
-    ensures { result ≡ pipe.store_of p.now (at values.now) }
+    ensures { result ≡ text.told_store p.now (at values.now) }
 {
     data_store(
         at(values, row::MEM_ADDR),
@@ -354,9 +383,9 @@ fn store_of(p: &PipeState, values: &PipeValues) -> Option<Store>
 }
 
 /// Puts the line of what is stored.
-#[tactic(auto, unfolding(crate::specs::Cycle::stored_line))]
-fn put_stored(out: &mut Vec<u8>, store: Option<Store>) -> Result<(), Memory>
-    ensures { OnOk result (out.new.items ≡ out.old.items ++ text.stored_line store) }
+#[tactic(auto, unfolding(crate::specs::Cycle::store_line))]
+pub fn put_stored(out: &mut Vec<u8>, store: Option<Store>) -> Result<(), Memory>
+    ensures { OnOk result (out.new.items ≡ out.old.items ++ text.store_line store) }
 {
     match store {
         None => Ok(()),
@@ -407,4 +436,16 @@ pub(crate) fn put_cycle(
     put_flags(out, p.flags)?;
     put_registers(out, p, values)?;
     put_stored(out, store_of(p, values))
+}
+
+/// Puts the line of the end of a run.
+#[tactic(auto, unfolding(crate::specs::Cycle::end_line))]
+pub fn put_end(out: &mut Vec<u8>, end: Stat, cycles: u64, retired: u64) -> Result<(), Memory>
+    ensures { OnOk result (out.new.items ≡ out.old.items ++ text.end_line end cycles retired) }
+{
+    put(out, b"end ")?;
+    put(out, end.name())?;
+    put_number_pair(out, b" cycles ", cycles)?;
+    put_number_pair(out, b" retired ", retired)?;
+    put(out, b"\n")
 }

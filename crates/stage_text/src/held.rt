@@ -2,11 +2,13 @@
 ghost use Rattle.std.specs.Prelude.{◌≡◌};
 ghost use Rattle.stage_text.specs.Watch as spec;
 
-/// What stands in a stage: its row in the diagram, and of an instruction where and as what it was fetched.
+/// What a stage holds: its row in the diagram, and of an instruction its address and its fetched fields. `failed` says that a byte of the instruction is
+/// outside the memory.
 #[derive(Clone, Copy, Debug, PartialEq, Eq)]
 pub struct Held {
     pub row: u64,
     pub live: bool,
+    pub failed: bool,
     pub addr: u64,
     pub icode: u64,
     pub ifun: u64,
@@ -23,6 +25,7 @@ impl Held {
         Held {
             row,
             live: false,
+            failed: false,
             addr: 0,
             icode: 1,
             ifun: 0,

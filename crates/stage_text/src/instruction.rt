@@ -4,7 +4,8 @@ ghost use Rattle.stage_text.specs.Instruction as text;
 
 use crate::held::Held;
 use crate::numbers::{put, put_address, put_register, put_signed};
-use y86_base::Memory;
+use y86_base::{Memory, Variant};
+use y86_isa::{icode_count, row};
 
 /// The operands of an instruction, in the order in which they are written.
 #[derive(Clone, Copy, Debug, PartialEq, Eq)]
@@ -45,11 +46,11 @@ fn shape_of(icode: u64) -> Shape
     }
 }
 
-/// The name of the only instruction of an icode.
-fn only(name: &'static [u8], ifun: u64) -> &'static [u8]
-    ensures { result.now ≡ text.only name.now ifun }
+/// Whether an icode and an ifun are those of an instruction.
+fn is_valid(icode: u64, ifun: u64) -> bool
+    ensures { result ≡ text.is_valid icode ifun }
 {
-    if ifun == 0 { name } else { b"" }
+    icode < icode_count(Variant::Full) && ifun <= row(Variant::Full, icode).ifun_top
 }
 
 #[tactic(auto, unfolding(crate::specs::Instruction::moves))]
@@ -97,25 +98,25 @@ fn jump_name(ifun: u64) -> &'static [u8]
     }
 }
 
-/// The name of an instruction; no bytes where there is none of these codes.
+/// The name of an instruction.
 #[tactic(auto, unfolding(crate::specs::Instruction::mnemonic))]
 fn mnemonic(icode: u64, ifun: u64) -> &'static [u8]
     ensures { result.now ≡ text.mnemonic icode ifun }
 {
     match icode {
-        0 => only(b"halt", ifun),
-        1 => only(b"nop", ifun),
+        0 => b"halt",
+        1 => b"nop",
         2 => move_name(ifun),
-        3 => only(b"irmovq", ifun),
-        4 => only(b"rmmovq", ifun),
-        5 => only(b"mrmovq", ifun),
+        3 => b"irmovq",
+        4 => b"rmmovq",
+        5 => b"mrmovq",
         6 => operation_name(ifun),
         7 => jump_name(ifun),
-        8 => only(b"call", ifun),
-        9 => only(b"ret", ifun),
-        10 => only(b"pushq", ifun),
-        11 => only(b"popq", ifun),
-        12 => only(b"iaddq", ifun),
+        8 => b"call",
+        9 => b"ret",
+        10 => b"pushq",
+        11 => b"popq",
+        12 => b"iaddq",
         _ => b"",
     }
 }
@@ -202,18 +203,20 @@ fn put_operands(out: &mut Vec<u8>, held: &Held) -> Result<(), Memory>
     }
 }
 
-/// Puts what stands in a stage: an instruction with its operands, or a bubble.
+/// Puts what a stage holds: an instruction with its operands, a bubble, or a fetch that failed.
 #[tactic(auto, unfolding(crate::specs::Instruction::instruction))]
-pub(crate) fn put_instruction(out: &mut Vec<u8>, held: &Held) -> Result<(), Memory>
+pub fn put_instruction(out: &mut Vec<u8>, held: &Held) -> Result<(), Memory>
     ensures { OnOk result (out.new.items ≡ out.old.items ++ text.instruction held.now) }
 {
     if !held.live {
         return put(out, b"bubble");
     }
-    let name = mnemonic(held.icode, held.ifun);
-    if name.len() == 0 {
+    if held.failed {
+        return put(out, b"failed fetch");
+    }
+    if !is_valid(held.icode, held.ifun) {
         return put(out, b"invalid");
     }
-    put(out, name)?;
+    put(out, mnemonic(held.icode, held.ifun))?;
     put_operands(out, held)
 }

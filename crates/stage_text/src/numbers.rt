@@ -1,5 +1,5 @@
 //! Texts of labels and numbers.
-ghost use Rattle.std.specs.Prelude.{◌≡◌, ◌++◌, OnOk};
+ghost use Rattle.std.specs.Prelude.{◌≡◌, ◌++◌, [], OnOk, slice_index_or};
 ghost use Rattle.hcl_read.specs.Print.{signed_decimal};
 ghost use Rattle.stage_text.specs.Numbers as text;
 
@@ -7,8 +7,11 @@ use y86_base::{Memory, Numeral, Regs, Stat};
 
 const NO_REGISTER: u64 = 15;
 
+/// How many functions the ALU has.
+const ALU_FUNCTIONS: u64 = 4;
+
 /// Puts bytes behind a text.
-pub(crate) fn put(out: &mut Vec<u8>, bytes: &[u8]) -> Result<(), Memory>
+pub fn put(out: &mut Vec<u8>, bytes: &[u8]) -> Result<(), Memory>
     ensures { OnOk result (out.new.items ≡ out.old.items ++ bytes.now) }
 {
     match out.extend_from_slice(bytes) {
@@ -32,7 +35,7 @@ pub(crate) fn put_signed(out: &mut Vec<u8>, n: u64) -> Result<(), Memory>
 
 /// Puts an address.
 #[tactic(auto, unfolding(crate::specs::Numbers::address))]
-pub(crate) fn put_address(out: &mut Vec<u8>, n: u64) -> Result<(), Memory>
+pub fn put_address(out: &mut Vec<u8>, n: u64) -> Result<(), Memory>
     ensures { OnOk result (out.new.items ≡ out.old.items ++ text.address n) }
 {
     put(out, b"0x")?;
@@ -55,7 +58,7 @@ pub(crate) fn put_register(out: &mut Vec<u8>, n: u64) -> Result<(), Memory>
 
 /// Puts a key and a text.
 #[tactic(auto, unfolding(crate::specs::Numbers::text_pair))]
-pub(crate) fn put_text_pair(out: &mut Vec<u8>, key: &[u8], value: &[u8]) -> Result<(), Memory>
+pub fn put_text_pair(out: &mut Vec<u8>, key: &[u8], value: &[u8]) -> Result<(), Memory>
     ensures { OnOk result (out.new.items ≡ out.old.items ++ text.text_pair key.now value.now) }
 {
     put(out, key)?;
@@ -64,7 +67,7 @@ pub(crate) fn put_text_pair(out: &mut Vec<u8>, key: &[u8], value: &[u8]) -> Resu
 
 /// Puts a key and a word.
 #[tactic(auto, unfolding(crate::specs::Numbers::word_pair))]
-pub(crate) fn put_word_pair(out: &mut Vec<u8>, key: &[u8], n: u64) -> Result<(), Memory>
+pub fn put_word_pair(out: &mut Vec<u8>, key: &[u8], n: u64) -> Result<(), Memory>
     ensures { OnOk result (out.new.items ≡ out.old.items ++ text.word_pair key.now n) }
 {
     put(out, key)?;
@@ -74,7 +77,7 @@ pub(crate) fn put_word_pair(out: &mut Vec<u8>, key: &[u8], n: u64) -> Result<(),
 
 /// Puts a key and a register.
 #[tactic(auto, unfolding(crate::specs::Numbers::register_pair))]
-pub(crate) fn put_register_pair(out: &mut Vec<u8>, key: &[u8], n: u64) -> Result<(), Memory>
+pub fn put_register_pair(out: &mut Vec<u8>, key: &[u8], n: u64) -> Result<(), Memory>
     ensures { OnOk result (out.new.items ≡ out.old.items ++ text.register_pair key.now n) }
 {
     put(out, key)?;
@@ -83,16 +86,51 @@ pub(crate) fn put_register_pair(out: &mut Vec<u8>, key: &[u8], n: u64) -> Result
 
 /// Puts a key and a number.
 #[tactic(auto, unfolding(crate::specs::Numbers::number_pair))]
-pub(crate) fn put_number_pair(out: &mut Vec<u8>, key: &[u8], n: u64) -> Result<(), Memory>
+pub fn put_number_pair(out: &mut Vec<u8>, key: &[u8], n: u64) -> Result<(), Memory>
     ensures { OnOk result (out.new.items ≡ out.old.items ++ text.number_pair key.now n) }
 {
     put(out, key)?;
     put(out, Numeral::decimal(n).as_bytes())
 }
 
+/// The name of a function of the ALU; no bytes for another number.
+#[tactic(auto, unfolding(crate::specs::Numbers::functions))]
+fn function_name(n: u64) -> &'static [u8]
+    ensures { result.now ≡ slice_index_or text.functions n [] }
+{
+    match n {
+        0 => b"add",
+        1 => b"sub",
+        2 => b"and",
+        3 => b"xor",
+        _ => b"",
+    }
+}
+
+/// Puts a function of the ALU by its number.
+#[tactic(auto, unfolding(crate::specs::Numbers::function))]
+fn put_function(out: &mut Vec<u8>, n: u64) -> Result<(), Memory>
+    ensures { OnOk result (out.new.items ≡ out.old.items ++ text.function n) }
+{
+    if n < ALU_FUNCTIONS {
+        put(out, function_name(n))
+    } else {
+        put(out, Numeral::decimal(n).as_bytes())
+    }
+}
+
+/// Puts a key and a function of the ALU.
+#[tactic(auto, unfolding(crate::specs::Numbers::function_pair))]
+pub fn put_function_pair(out: &mut Vec<u8>, key: &[u8], n: u64) -> Result<(), Memory>
+    ensures { OnOk result (out.new.items ≡ out.old.items ++ text.function_pair key.now n) }
+{
+    put(out, key)?;
+    put_function(out, n)
+}
+
 /// Puts a key and the status of a number.
 #[tactic(auto, unfolding(crate::specs::Numbers::status_pair))]
-pub(crate) fn put_status_pair(out: &mut Vec<u8>, key: &[u8], n: u64) -> Result<(), Memory>
+pub fn put_status_pair(out: &mut Vec<u8>, key: &[u8], n: u64) -> Result<(), Memory>
     ensures { OnOk result (out.new.items ≡ out.old.items ++ text.status_pair key.now n) }
 {
     put(out, key)?;

@@ -2,7 +2,6 @@
 ghost use Rattle.std.specs.Prelude.{◌≡◌, ◌≤◌};
 ghost use Rattle.hcl_types.specs.Terms.{at};
 ghost use Rattle.hcl_types.specs.declared.term.Term.TheVariants.{Case};
-ghost use Rattle.dp_signals.specs.PipeNames as name;
 ghost use Rattle.stage_text.specs.Picked as spec;
 
 use dp_signals::pipe_row as row;
@@ -47,11 +46,11 @@ fn picked_branch(all: &[TermBranch], values: &[u64]) -> Option<NameId>
 }
 
 /// The name that the definition of a row picks.
-fn picked_of(design: &Design, values: &[u64], id: NameId) -> Option<NameId>
-    requires { name.f_pc ≤ id }
-    ensures { result ≡ spec.name_picked design.now.terms (at values.now) id }
+fn picked_of(design: &Design, values: &[u64], first: NameId, id: NameId) -> Option<NameId>
+    requires { first ≤ id }
+    ensures { result ≡ spec.name_picked first design.now.terms (at values.now) id }
 {
-    match design.terms.items().get((id - row::F_PC) as usize) {
+    match design.terms.items().get((id - first) as usize) {
         Some(term) => picked_name(term, values),
         None => None,
     }
@@ -70,12 +69,18 @@ fn name_text(rows: &[Row], id: Option<NameId>) -> &[u8]
     }
 }
 
-/// The name that the definition of a row picks, as it is told.
-fn source<'a>(rows: &'a [Row], design: &Design, values: &[u64], id: NameId) -> &'a [u8]
-    requires { name.f_pc ≤ id }
-    ensures { result.now ≡ spec.source rows.now design.now.terms (at values.now) id }
+/// The name that the definition of the row `id` picks in a cycle with these values, and `-` where it picks none. `first` is the first row that a file defines.
+pub fn source<'a>(
+    rows: &'a [Row],
+    design: &Design,
+    values: &[u64],
+    first: NameId,
+    id: NameId,
+) -> &'a [u8]
+    requires { first ≤ id }
+    ensures { result.now ≡ spec.source first rows.now design.now.terms (at values.now) id }
 {
-    name_text(rows, picked_of(design, values, id))
+    name_text(rows, picked_of(design, values, first, id))
 }
 
 /// Where f_pc, d_valA and d_valB come from in a cycle with these values.
@@ -84,8 +89,8 @@ pub(crate) fn sources_of<'a>(rows: &'a [Row], design: &Design, values: &[u64]) -
     ensures { spec.sources_in result ≡ spec.sources rows.now design.now.terms (at values.now) }
 {
     Sources {
-        pc: source(rows, design, values, row::F_PC),
-        val_a: source(rows, design, values, row::D_VAL_A),
-        val_b: source(rows, design, values, row::D_VAL_B),
+        pc: source(rows, design, values, row::F_PC, row::F_PC),
+        val_a: source(rows, design, values, row::F_PC, row::D_VAL_A),
+        val_b: source(rows, design, values, row::F_PC, row::D_VAL_B),
     }
 }

@@ -83,6 +83,7 @@ pub(crate) fn fetched(watch: &Watch, p: &PipeState, values: &PipeValues) -> Held
     Held {
         row,
         live: true,
+        failed: at(values, row::IMEM_ERROR) != 0,
         addr: pc,
         icode: at(values, row::F_ICODE),
         ifun: at(values, row::F_IFUN),

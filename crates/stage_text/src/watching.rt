@@ -10,11 +10,10 @@ ghost use Rattle.y86_isa.specs.Machine.{is_aok};
 ghost use Rattle.stage_text.specs.Watching.{ShowsRun};
 ghost use Rattle.stage_text.specs.Watching as spec;
 
-use crate::cycle::put_cycle;
+use crate::cycle::{put_cycle, put_end};
 use crate::diagram::{Shown, put_diagram, shown_cycle};
 use crate::held::Held;
 use crate::listed::{Listing, listing_for};
-use crate::numbers::{put, put_number_pair};
 use crate::picked::sources_of;
 use crate::watch::{Watch, asked_movers, fetched, first_watch, moved_watch};
 use dp_signals::{
@@ -76,7 +75,7 @@ fn goes_on(ending: Ending) -> bool
 }
 
 /// Whether a cycle is one of those that are shown.
-fn is_within(window: &Window, number: u64) -> bool
+pub fn is_within(window: &Window, number: u64) -> bool
     ensures { result ≡ spec.is_within window.now number }
 {
     window.from <= number && number <= window.to
@@ -192,18 +191,6 @@ fn cycle<C: SignalEval>(
 {
     let values = solve_pipe(variant, design, order, state_of(s), evaluator);
     step(s, rows, design, window, number, &values)
-}
-
-/// Puts the line of the end.
-#[tactic(auto, unfolding(crate::specs::Watching::end_line))]
-fn put_end(out: &mut Vec<u8>, end: Stat, cycles: u64, retired: u64) -> Result<(), Memory>
-    ensures { OnOk result (out.new.items ≡ out.old.items ++ spec.end_line end cycles retired) }
-{
-    put(out, b"end ")?;
-    put(out, end.name())?;
-    put_number_pair(out, b" cycles ", cycles)?;
-    put_number_pair(out, b" retired ", retired)?;
-    put(out, b"\n")
 }
 
 /// Puts the diagram, where it is asked for, and the line of the end.
