@@ -1,0 +1,163 @@
+"""The programs compile for the browser by the toolchain alone, and a module of another shape is refused."""
+import pytest
+
+from helpers.browser_build import kit, programs
+from helpers.cases import cases, same
+from wasm import compiling, rewriting
+
+# Lines that stay as they are.
+KEPT = [
+    "  %r1 = getelementptr i8, ptr %r0, i64 8",
+    "  %r1 = getelementptr inbounds nuw i8, ptr @static.3, i64 %r0",
+    "  %r1 = load i64, ptr %r0, align 8, !noundef !1",
+    "  %r1 = load ptr, ptr %r0, align 8",
+    "  %r1 = load { ptr, i64 }, ptr %r0, align 8",
+    "  %r1 = load { i64, i64 }, ptr %r0, align 8",
+    "  store ptr @static.3, ptr %r0, align 8",
+    "  store <4 x i64> %r1, ptr %r0, align 8",
+    "  %r1 = alloca [24 x i8], align 8",
+    '  %r1 = call { ptr, i64 } @"a::asm::b"(ptr %r0)',
+    "@static.0 = private unnamed_addr constant [6 x i8] c\"ptr %r\", align 1",
+    "declare void @llvm.memmove.p0.p0.i64(ptr writeonly captures(none), ptr readonly captures(none), i64, i1 immarg) #4",
+    "declare noundef i64 @read(i32 noundef, ptr noundef, i64 noundef) #2",
+    "    i8 1, label %arm.2",
+    "entry:",
+    "",
+]
+# Lines that change, and what becomes of them.
+CHANGED = [
+    ("  %r1 = alloca ptr, align 8", "  %r1 = alloca i64, align 8"),
+    ("  %r1 = ptrtoaddr ptr %r0 to i64", "  %r1 = ptrtoint ptr %r0 to i64"),
+    ("@a = private constant <{ ptr, [8 x i8] }> <{ ptr @b, [8 x i8] c\"ptr @b..\" }>, align 8", "@a = private constant <{ ptr, [4 x i8], [8 x i8] }> <{ ptr @b, [4 x i8] zeroinitializer, [8 x i8] c\"ptr @b..\" }>, align 8"),
+    (f'target triple = "{rewriting.WAS_TRIPLE}"', f'target triple = "{rewriting.TRIPLE}"'),
+    ('attributes #0 = { nounwind sanitize_address "frame-pointer"="all" "target-cpu"="x86-64" }', 'attributes #0 = { nounwind     "retargeted" }'),
+    (
+        "  %r1 = load { i8, ptr }, ptr %r0, align 8",
+        "  %w.0a = load i8, ptr %r0, align 1\n  %w.0g = getelementptr i8, ptr %r0, i64 8\n  %w.0b = load ptr, ptr %w.0g, align 8\n"
+        "  %w.0s = insertvalue { i8, ptr } poison, i8 %w.0a, 0\n  %r1 = insertvalue { i8, ptr } %w.0s, ptr %w.0b, 1",
+    ),
+]
+# Lines whose places in memory would move, or that no module has had.
+REFUSED = [
+    "  %r1 = alloca { ptr, i64 }, align 8",
+    "  %r1 = alloca [2 x ptr], align 8",
+    "  %r1 = load { i8, i8, ptr }, ptr %r0, align 8",
+    "  %r1 = load { i32, { ptr, i64 } }, ptr %r0, align 8",
+    "  %r1 = load [2 x ptr], ptr %r0, align 8",
+    "  %r1 = load volatile i64, ptr %r0, align 8",
+    "  %r1 = load ptr, ptr addrspace(10) %r0, align 8",
+    "  store { ptr, ptr } %r1, ptr %r0, align 8",
+    "  %r1 = getelementptr { ptr, i64 }, ptr %r0, i64 1",
+    "  %r1 = getelementptr ptr, ptr %r0, i64 1",
+    "  %r1 = inttoptr i64 %r0 to ptr",
+    "  %r1 = ptrtoint ptr %r0 to i64",
+    "  %r1 = atomicrmw add ptr %r0, i64 1 seq_cst, align 8",
+    "  %r1 = fadd double %r0, %r2",
+    "  call void asm sideeffect \"nop\", \"\"()",
+    "  call void @f(ptr sret({ ptr, ptr }) %r0)",
+    "  call void @f(ptr byval([16 x i8]) %r0)",
+    "@a = global i64 0, align 8",
+    "@a = private constant { ptr, i64 } { ptr @b, i64 1 }, align 8",
+    "@a = private constant <{ ptr, i64 }> <{ ptr @b, i64 1 }>, align 8",
+    "@a = private constant <{ ptr }> <{ ptr blockaddress(@f, %b) }>, align 8",
+    "%T = type { ptr, i64 }",
+    'target triple = "aarch64-unknown-linux-gnu"',
+    'target datalayout = "e-m:e-p:64:64"',
+    'attributes #0 = { "vector"="512" }',
+    "declare i64 @llvm.objectsize.i64.p0(ptr, i1, i1, i1)",
+    "declare void @llvm.va_start.p0(ptr)",
+    "module asm \"nop\"",
+]
+
+
+@pytest.mark.parametrize("line", KEPT)
+def test_kept(line):
+    same(rewriting.rewritten(line), line)
+
+
+@cases(CHANGED)
+def test_changed(row):
+    same(rewriting.rewritten(row[0]), row[1])
+
+
+@pytest.mark.parametrize("line", REFUSED)
+def test_refused(line):
+    with pytest.raises(rewriting.Unknown):
+        rewriting.rewritten(line)
+
+
+def number(data, at):
+    """The unsigned LEB128 number at a place, and the place after it."""
+    value = shift = 0
+    while True:
+        byte = data[at]
+        value, shift, at = value | (byte & 127) << shift, shift + 7, at + 1
+        if byte < 128:
+            return value, at
+
+
+def sections(data):
+    """The sections of a WebAssembly module by their numbers."""
+    found, at = {}, 8
+    while at < len(data):
+        kind, (size, at) = data[at], number(data, at + 1)
+        found[kind] = data[at : at + size]
+        at += size
+    return found
+
+
+def text(data, at):
+    """The name at a place, and the place after it."""
+    size, at = number(data, at)
+    return data[at : at + size].decode(), at + size
+
+
+def imports(data):
+    """The names that a module imports; each is a function."""
+    (count, at), found = number(data, 0), []
+    for _ in range(count):
+        module, at = text(data, at)
+        name, at = text(data, at)
+        assert data[at] == 0, "an import that isn't a function"
+        _, at = number(data, at + 1)
+        found.append(f"{module}.{name}")
+    return found
+
+
+def exports(data):
+    (count, at), found = number(data, 0), []
+    for _ in range(count):
+        name, at = text(data, at)
+        _, at = number(data, at + 1)
+        found.append(name)
+    return found
+
+
+def test_linked():
+    """Each program is a module that asks the page for words, files and output, and for nothing else."""
+    for it in programs():
+        with open(it.file, "rb") as file:
+            data = file.read()
+        same(data[:8], b"\0asm\1\0\0\0")
+        parts = sections(data)
+        same(sorted(imports(parts[2])), ["host.open", "host.read", "host.word", "host.write"])
+        same(sorted(exports(parts[7])), ["memory", "run"])
+
+
+# Modules that clang accepts and that must not become a program.
+MODULES = [
+    ("a shape that isn't known", "define i32 @main() {\n  %a = alloca { ptr, i64 }, align 8\n  ret i32 0\n}\n", "launch/wasm/rewriting.py doesn't know"),
+    ("a function that the shim hasn't", "declare i32 @fork()\ndefine i32 @main() {\n  %a = call i32 @fork()\n  ret i32 %a\n}\n", "wasm-ld"),
+    ("a function that the shim has with another type", "declare i64 @close(i64)\ndefine i32 @main() {\n  %a = call i64 @close(i64 1)\n  %b = trunc i64 %a to i32\n  ret i32 %b\n}\n", "wasm-ld"),
+]
+
+
+@cases(MODULES)
+def test_no_program(row, folder):
+    _, body, why = row
+    head = f'target datalayout = "{rewriting.WAS_LAYOUT}"\ntarget triple = "{rewriting.WAS_TRIPLE}"\n'
+    with open(f"{folder}/module.ll", "w", encoding="utf-8") as it:
+        it.write(head + body)
+    with pytest.raises(compiling.NotCompiled) as refused:
+        compiling.compiled(kit().tools, it.name, f"{folder}/made.wasm")
+    assert why in str(refused.value)

@@ -1,0 +1,115 @@
+// All processors of a class: the HCL files of a folder, or of every student's folder in it, each with its verdict.
+import { by, download, escaped, make } from "./dom.mjs";
+import { Engine, Stopped } from "./engine.mjs";
+import { PATHS, datapath, knowsIaddq } from "./names.mjs";
+import { full, isFull, load } from "./texts.mjs";
+import { ruleText } from "./verdict.mjs";
+
+const LONGEST = 65536, SECONDS = 60, HEADS = ["file", "datapath", "verdict", "obligation", "fault", "settings", "note"];
+const grader = new Engine();
+
+/** Checks one text, for so many seconds at most. Gives a row of the table. */
+async function checked(name, text) {
+  const path = datapath(text), row = { file: name, datapath: PATHS[path], verdict: "", obligation: "", fault: "", settings: "", note: "" };
+  if (new TextEncoder().encode(text).length > LONGEST) return { ...row, verdict: "fault", fault: "TooLong" };
+  if (knowsIaddq(text) && !isFull()) row.note = "iaddq wasn’t checked";
+  const timer = setTimeout(() => grader.stop(), SECONDS * 1000);
+  try {
+    const said = await grader.call("y86", ["check", path, "my.hcl", ...full()], { "my.hcl": text });
+    return { ...row, ...verdictOf(said) };
+  } catch (stopped) {
+    if (!(stopped instanceof Stopped)) throw stopped;
+    return { ...row, verdict: "none", note: `no answer in ${SECONDS} s` };
+  } finally {
+    clearTimeout(timer);
+  }
+}
+
+function verdictOf({ status, out, err }) {
+  const line = out.split("\n")[0];
+  if (status === 0) return { verdict: "yes", settings: line.replace(/^yes ?/, "") };
+  if (status === 1) return { verdict: "no", obligation: line.split(" ")[1] };
+  if (status === 5 || status === 7) return { verdict: "fault", fault: err.split("\n")[0].replace(/^my\.hcl:\s?/, "") };
+  return { verdict: "none", note: status === 6 ? "out of memory" : `status ${status}` };
+}
+
+const cell = (text) => (/[",\n]/.test(text) ? `"${text.replace(/"/g, '""')}"` : text);
+/** The rows as CSV. A field that a spreadsheet would compute begins with an apostrophe. */
+const csvOf = (rows) => [HEADS, ...rows.map((it) => HEADS.map((head) => it[head]))].map((row) => row.map((it) => cell(/^[=+\-@]/.test(it) ? `'${it}` : it)).join(",")).join("\n");
+
+function rowOf(row, text) {
+  const open = make("button", { type: "button", className: "small", textContent: "Open" });
+  open.setAttribute("aria-label", `Open ${row.file}`);
+  open.onclick = () => {
+    by("dialog").close();
+    load("hcl", text, row.file.split("/").pop());
+  };
+  const what = [row.obligation && `${row.obligation}: ${ruleText(row.obligation, row.datapath === "SEQ+" ? "seqplus" : "pipe").short}`, row.fault, row.settings, row.note].filter(Boolean).join("; ");
+  const tr = make("tr", { className: row.verdict });
+  for (const it of [row.file, row.datapath, row.verdict, what]) tr.append(make("td", { textContent: it.replace(/`/g, "") }));
+  tr.append(make("td", {}, open));
+  return tr;
+}
+
+async function grade(files) {
+  const found = files.filter((it) => /\.hcl$/i.test(it.name)).sort((one, other) => pathOf(one).localeCompare(pathOf(other))), rows = [];
+  const body = by("class-rows"), said = by("class-said");
+  body.replaceChildren();
+  by("class-csv").disabled = true;
+  for (const [at, file] of found.entries()) {
+    if (!by("dialog").open) return grader.stop();
+    said.textContent = `${at} of ${found.length} files: ${pathOf(file)} …`;
+    const text = (await file.text()).replace(/\r\n?/g, "\n"), row = await checked(pathOf(file), text);
+    rows.push(row);
+    body.append(rowOf(row, text));
+  }
+  const count = (verdict) => rows.filter((it) => it.verdict === verdict).length;
+  said.textContent = `${rows.length} files: ${count("yes")} yes, ${count("no")} no, ${count("fault")} with a fault${count("none") ? `, ${count("none")} without an answer` : ""}.`;
+  by("class-csv").disabled = !rows.length;
+  by("class-csv").onclick = () => download("class.csv", `${csvOf(rows)}\n`, "text/csv");
+}
+
+const pathOf = (file) => file.webkitRelativePath || file.name;
+
+/** The files of a folder that was dropped. */
+async function filesOf(entry, folder = "") {
+  if (entry.isFile) {
+    const file = await new Promise((done, fail) => entry.file(done, fail));
+    Object.defineProperty(file, "webkitRelativePath", { value: `${folder}${entry.name}` });
+    return [file];
+  }
+  const reader = entry.createReader(), found = [];
+  for (;;) {
+    const part = await new Promise((done, fail) => reader.readEntries(done, fail));
+    if (!part.length) break;
+    for (const it of part) found.push(...(await filesOf(it, `${folder}${entry.name}/`)));
+  }
+  return found;
+}
+
+function show() {
+  const heads = ["File", "Datapath", "Verdict", "", ""].map((it) => `<th scope="col">${escaped(it)}</th>`).join("");
+  by("dialog").classList.add("wide");
+  by("dialog").innerHTML = `<h2 id="dialog-title">A class</h2><p>Checks every HCL file of a folder${isFull() ? ", iaddq included" : ""}. The files stay in this browser.</p>`
+    + `<p class="buttons"><button type="button" class="primary" id="class-pick">Choose a folder</button> <button type="button" id="class-csv" disabled>Save as CSV</button><span id="class-said" role="status">Or drop one here.</span></p>`
+    + `<div class="scroll"><table class="list"><thead><tr>${heads}</tr></thead><tbody id="class-rows"></tbody></table></div><form method="dialog"><button>Close</button></form>`;
+  by("class-pick").onclick = () => by("pick-folder").click();
+  by("dialog").showModal();
+}
+
+export function wireClassroom() {
+  const pick = by("pick-folder"), it = by("dialog");
+  by("class").onclick = show;
+  pick.onchange = () => {
+    grade([...pick.files]);
+    pick.value = "";
+  };
+  it.addEventListener("close", () => it.classList.remove("wide"));
+  it.addEventListener("drop", async (event) => {
+    if (!by("class-rows")) return;
+    event.preventDefault();
+    event.stopPropagation();
+    const entries = [...event.dataTransfer.items].map((item) => item.webkitGetAsEntry()).filter(Boolean);
+    grade((await Promise.all(entries.map((entry) => filesOf(entry)))).flat());
+  });
+}

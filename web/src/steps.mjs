@@ -1,0 +1,55 @@
+// The run by instructions, and where the run of the processor first differs from it.
+import { recordDifferences } from "./compare.mjs";
+import { by, escaped } from "./dom.mjs";
+import { PATHS } from "./names.mjs";
+import { instructionAt } from "./outcome.mjs";
+import { address } from "./run.mjs";
+import { on, state, tell } from "./state.mjs";
+
+const MOST = 2000;
+
+const changes = (it) => it.changes.map(({ name, word }) => `<code>${escaped(name)}</code> = <code>${escaped(word)}</code>`).join(", ");
+
+function differenceHTML(mine, right) {
+  const said = recordDifferences(mine, right).map(({ name, got, want }) =>
+    (name ? `<code>${escaped(name)}</code>: <span class="got">${escaped(got)}</span>, <span class="want">${escaped(want)}</span> is right` : `<span class="got">${escaped(got)}</span>`));
+  return said.join("; ");
+}
+
+function rowHTML(right, mine, number, first) {
+  const isFirst = number === first, it = right ?? mine, label = state.lines.lineOf[it.pc];
+  const differs = isFirst ? `<tr class="differs"><td></td><td colspan="5">Here the processor differs first: ${differenceHTML(mine, right)} <button type="button" class="small" data-record="${number}">Go to its cycle</button></td></tr>` : "";
+  const cells = `<td>${address(it.pc)}</td><td>${escaped(instructionAt(it.pc))}</td><td>${right ? changes(right) : ""}</td><td>${[...it.flags].join(" ")}</td><td>${it.status}</td>`;
+  return `<tr class="${isFirst ? "wrong" : first && number > first ? "later" : ""}" data-line="${label ?? ""}"><th scope="row">${number}</th>${cells}</tr>${differs}`;
+}
+
+function whyNone({ path }) {
+  return path === "pipe" ? "This program overwrites its own instructions, so they can’t be listed one by one." : `The instructions can’t be listed: this program overwrites them, or ${PATHS[path]} stops it otherwise.`;
+}
+
+function show() {
+  const it = state.compared, panel = by("panel-steps");
+  if (!it) {
+    panel.innerHTML = '<div class="blank">There is no run.</div>';
+    return;
+  }
+  if (!it.steps) {
+    panel.innerHTML = `<div class="blank">${whyNone(it)}</div>`;
+    return;
+  }
+  const { steps, records, first, path } = it, count = first > steps.length ? first : steps.length;
+  const rows = Array.from({ length: Math.min(count, MOST) }, (_, at) => rowHTML(steps[at], path === "pipe" ? records[at] : steps[at], at + 1, first));
+  const said = first ? `The processor’s run differs first at instruction ${first}.` : path === "pipe" ? "The processor’s run is the same." : "";
+  const cut = count > MOST ? ` The first ${MOST} of ${count} are listed.` : "";
+  panel.innerHTML = `<div class="card scroll"><p>What each instruction does, one after another. ${said}${cut}</p><table class="list"><thead><tr><th scope="col">#</th><th scope="col">address</th><th scope="col">instruction</th><th scope="col">changes</th><th scope="col">ZF SF OF</th><th scope="col">status</th></tr></thead><tbody>${rows.join("")}</tbody></table></div>`;
+  panel.querySelector(".wrong")?.scrollIntoView({ block: "center" });
+}
+
+export function wireSteps() {
+  on("run", () => state.tab === "steps" && show());
+  on("tab", (name) => name === "steps" && show());
+  by("panel-steps").addEventListener("click", (event) => {
+    const button = event.target.closest("[data-record]");
+    if (button) tell("goto-record", Number(button.dataset.record));
+  });
+}

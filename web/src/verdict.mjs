@@ -1,0 +1,122 @@
+// Is the processor right for every program? The check, as its text changes, and the card with its answer.
+import { card, head, mark } from "./cards.mjs";
+import { TEXTS } from "./data.mjs";
+import { by, download, escaped, inline, later, small, toast } from "./dom.mjs";
+import { Stopped, judge } from "./engine.mjs";
+import { placeWords, readFault } from "./faults.mjs";
+import { PATHS, datapath, knowsIaddq } from "./names.mjs";
+import { settings } from "./settings.mjs";
+import { on, state, tell } from "./state.mjs";
+import { editors, full, isFull, moment } from "./texts.mjs";
+import { explained } from "./why/situation.mjs";
+
+const FILE = "my.hcl", WAIT = 260;
+
+/** What an obligation asks and why, by the pages. */
+export function ruleText(rule, path) {
+  return TEXTS.rules[path === "seqplus" && rule === "S16" ? "S16 of SEQ+" : rule] ?? { short: "", asks: "", why: "" };
+}
+
+const notAsked = (text) => (knowsIaddq(text) && !isFull() ? " <code>iaddq</code> wasn’t checked: the box at the top includes it." : "");
+
+/** What can be saved of a verdict. */
+function saves(path, isYes) {
+  if (path !== "pipe") return "";
+  const link = (id, text) => `<button type="button" class="textual" id="${id}">${text}</button>`;
+  return ` <span class="saves">Save: ${isYes ? `${link("save-cert", "certificate")}, ` : ""}${link("save-aig", "AIGER")}</span>`;
+}
+
+function showYes(it, path, line) {
+  state.verdict = { at: it.at, kind: "yes" };
+  const title = path === "pipe" ? "Right for every program" : `${PATHS[path]}: right for every program`;
+  const more = path === "pipe" ? ' <small>that doesn’t overwrite its next three instructions</small>' : "";
+  const said = path === "pipe" ? settings(line).join(" ") : "In every cycle this processor does the program’s next instruction.";
+  card("verdict", "yes", `${head("yes", title, more)}<p>${escaped(said)}${notAsked(it.hcl)}${saves(path, true)}</p>`);
+}
+
+function showNo(it, path, lines) {
+  const rule = lines[0].split(" ")[1], told = explained(it.hcl, lines, isFull()), said = ruleText(rule, path);
+  state.verdict = { at: it.at, kind: "no", rule, told, lines, path };
+  const main = told?.signals.find((signal) => (signal.isWrong || signal.isBlamed) && signal.from) ?? told?.signals.find((signal) => signal.from);
+  const line = main?.cases?.find((branch) => branch.isTaken)?.line ?? main?.from;
+  const brief = told?.brief ? `<p><b class="got">${inline(told.brief)}</b>${main ? ` ${small("goto", `line ${line}`)}` : ""}</p>` : "";
+  const title = head(`no: ${rule}`, "Not right for every program", ` <span class="grow"></span>${small("why", "See why")}`);
+  card("verdict", "no", `${title}${brief}<p class="soft">${rule}: ${inline(said.short)}.${notAsked(it.hcl)}${saves(path, false)}</p>`);
+  by("why").onclick = () => tell("why");
+  if (main) by("goto").onclick = () => editors.hcl.reveal(line, 1);
+}
+
+function showFault(it, err) {
+  const fault = readFault(err, "hcl", it.hcl, isFull(), TEXTS);
+  state.verdict = { at: it.at, kind: "fault", fault };
+  const place = placeWords(fault);
+  card("verdict", "", `${head("no answer", "Every program")}<p>The processor has a fault${place ? ` in ${place}` : ""}: <b>${escaped(fault.said)}</b>.</p>`);
+}
+
+function showNone(it, said) {
+  state.verdict = { at: it.at, kind: "none" };
+  const why = said.status === 6 ? "The check ran out of memory." : `The check gave no answer: ${said.fault || said.err || `status ${said.status}`}`;
+  card("verdict", "", `${head("no answer", "Every program")}<p>${escaped(why)}</p>`);
+}
+
+function showStopped(it) {
+  state.verdict = { at: it.at, kind: "none" };
+  card("verdict", "", `${head("stopped", "Every program")}<p class="soft">The check was stopped: no verdict.</p><p>${small("again", "Check again")}</p>`);
+  by("again").onclick = () => {
+    mark("verdict", "checking …", judge);
+    check();
+  };
+}
+
+function show(it, path, said) {
+  const lines = said.out.trim().split("\n");
+  if (said.status === 0) showYes(it, path, lines[0]);
+  else if (said.status === 1 && lines[0].startsWith("no ")) showNo(it, path, lines);
+  else if (said.status === 5 || said.status === 7) showFault(it, said.err);
+  else showNone(it, said);
+  if (by("save-cert")) by("save-cert").onclick = () => save("cert");
+  if (by("save-aig")) by("save-aig").onclick = () => save("aig");
+  by("verdict").dataset.ms = Math.round(said.ms);
+}
+
+async function check() {
+  const it = moment(), path = datapath(it.hcl);
+  if (judge.isBusy) judge.stop();
+  try {
+    const said = await judge.call("y86", ["check", path, FILE, ...full()], { [FILE]: it.hcl });
+    if (!it.isHcl()) return;
+    show(it, path, said);
+  } catch (stopped) {
+    if (!(stopped instanceof Stopped)) throw stopped;
+    if (!it.isHcl()) return;
+    showStopped(it);
+  }
+  tell("verdict");
+}
+
+const SAVED = {
+  cert: { words: (path) => ["check", path, FILE, "--cert"], ending: ".crt", what: "certificate", wanted: "yes" },
+  aig: { words: () => ["aig", FILE], ending: ".aag", what: "obligations in AIGER", wanted: "" },
+};
+
+/** Makes a certificate, or the obligations in AIGER, and saves it. */
+async function save(kind) {
+  const { words, ending, what } = SAVED[kind], it = moment(), button = by(`save-${kind}`);
+  button.disabled = true;
+  try {
+    const said = await judge.call("y86", [...words(datapath(it.hcl)), ...full()], { [FILE]: it.hcl });
+    if (said.status !== 0) toast(`No ${what}: ${said.err.trim() || `status ${said.status}`}`);
+    else {
+      download(`${state.names.hcl.replace(/\.\w+$/, "")}${ending}`, said.out);
+      toast(`The ${what}: ${(said.out.length / 1e6).toFixed(1)} MB`);
+    }
+  } catch (stopped) {
+    if (!(stopped instanceof Stopped)) throw stopped;
+  }
+  button.disabled = false;
+}
+
+export function wireVerdict() {
+  on("stale", (which) => which === "hcl" && mark("verdict", "checking …", judge));
+  on("text", (which) => which === "hcl" && later("check", WAIT, check));
+}
