@@ -1,0 +1,63 @@
+-- Changes of one of the ten stall and bubble signals, and which of them meet all obligations on motion.
+use Rattle.std.specs.Prelude.{ℕ, Bool, not, ◌&&◌, ◌==◌, if◌then◌else◌, List, [], ◌∷◌, filter, slice_set}
+use Rattle.y86_base.specs.declared.parts.Variant.{Variant}
+use Rattle.ctl_atoms.specs.declared.leaf.Leaf.{Leaf}
+use Rattle.ctl_atoms.specs.declared.leaf.Leaf.TheVariants.{Name}
+use Rattle.ctl_atoms.specs.Leaves.{Assignment}
+use Rattle.control_values.specs.Given.{at}
+use Rattle.pipe_fields.specs.Layout.{Fields}
+use Rattle.pipe_motion.specs.Slots.{View, Mover, Movers}
+use Rattle.pipe_motion.specs.declared.settings.Settings.{Settings}
+use Rattle.pipe_obligations.specs.Obligations.{o10, o11, o23, o24, o25, o26, o27}
+use Rattle.dp_signals.specs.PipeNames as signal
+
+-- a signal's truth, inverted if it has this name
+abbrev pub inverted : ℕ → ℕ → Bool → Bool
+inverted name own b = if name == own then not b else b
+
+abbrev pub mover_inverted : ℕ → ℕ → ℕ → Mover → Mover
+mover_inverted name stall bubble k = record { stall = inverted name stall k.stall; bubble = inverted name bubble k.bubble }
+
+abbrev pub with_inverted : ℕ → Movers → Movers
+with_inverted name k = record {
+  f = mover_inverted name signal.F_stall signal.F_bubble k.f;
+  d = mover_inverted name signal.D_stall signal.D_bubble k.d;
+  e = mover_inverted name signal.E_stall signal.E_bubble k.e;
+  m = mover_inverted name signal.M_stall signal.M_bubble k.m;
+  w = mover_inverted name signal.W_stall signal.W_bubble k.w;
+}
+
+-- the obligations that depend on the stall and bubble signals
+abbrev pub meets_motion : Variant → Settings → Fields → View → Movers → Assignment → (ℕ → Leaf) → Bool
+meets_motion v s c y mv α cv =
+    o10 v s c y mv α cv
+    && (o11 v s c y mv α cv
+    && (o23 v s c y mv α cv
+    && (o24 v s c y mv α cv
+    && (o25 v s c y mv α cv
+    && (o26 v s c y mv α cv
+    && o27 v s c y mv α cv)))))
+
+abbrev pub stall_bubble_signals : List ℕ
+stall_bubble_signals =
+    signal.F_stall ∷ signal.F_bubble ∷ signal.D_stall ∷ signal.D_bubble ∷ signal.E_stall ∷ signal.E_bubble ∷ signal.M_stall ∷ signal.M_bubble ∷ signal.W_stall ∷ signal.W_bubble ∷ []
+
+-- the names that f_pc may pick
+abbrev pub pc_sources : List ℕ
+pc_sources = signal.F_predPC ∷ signal.E_valC ∷ signal.E_valA ∷ signal.M_valE ∷ signal.M_valA ∷ signal.m_valM ∷ signal.W_valM ∷ []
+
+-- the control values, of which f_pc picks this name
+abbrev pub with_pc : ℕ → List Leaf → List Leaf
+with_pc source leaves = slice_set leaves signal.f_pc (Name source)
+
+-- whether they are met where f_pc picks this name
+unfoldable pub is_pc_repair : Variant → Settings → Fields → View → Movers → Assignment → List Leaf → ℕ → Bool
+is_pc_repair v s c y mv α leaves source = meets_motion v s c y mv α (at (with_pc source leaves))
+
+-- the names of which each, picked by f_pc, meets them all
+unfoldable pub pc_repairs : Variant → Settings → Fields → View → Movers → Assignment → List Leaf → List ℕ
+pc_repairs v s c y mv α leaves = filter (is_pc_repair v s c y mv α leaves) pc_sources
+
+-- the signals of which each, inverted alone, meets them all
+unfoldable pub repairs : Variant → Settings → Fields → View → Movers → Assignment → (ℕ → Leaf) → List ℕ
+repairs v s c y mv α cv = filter (λ name. meets_motion v s c y (with_inverted name mv) α cv) stall_bubble_signals

@@ -1,0 +1,235 @@
+//! Which changes of stall and bubble signals meet all obligations on motion.
+ghost use Rattle.std.specs.Prelude.{◌≡◌, ◌≤◌, ◌++◌, ◌∷◌, ◌==◌, [], IfOk, OnOk, filter, if◌then◌else◌};
+ghost use Rattle.control_values.specs.Given.{at};
+ghost use Rattle.pipe_requirements.specs.Requirements.{unread};
+ghost use Rattle.pipe_requirements.specs.Views.{fields_in, mover_in, movers_in, view_in};
+ghost use Rattle.pipe_obligations.specs.Obligations as rule;
+ghost use Rattle.motion_repairs.specs.Changes as spec;
+
+use crate::fetch::{fetched, is_fetch_good, takes};
+use crate::moves::is_met;
+use ctl_atoms::{Leaf, same_leaf};
+use dp_signals::pipe_row as name;
+use hcl_types::NameId;
+use pipe_requirements::{MoverNow, MoversNow, Now, is_number, leaf_at, leaves};
+use std::alloc::Global;
+use y86_base::Memory;
+use y86_isa::{carries_p, row, stores_a};
+
+/// A signal's truth, inverted if it has this name.
+fn inverted(signal: NameId, own: NameId, b: bool) -> bool
+    ensures { result ≡ spec.inverted signal own b }
+{
+    if signal == own { !b } else { b }
+}
+
+fn mover_inverted(signal: NameId, stall: NameId, bubble: NameId, k: MoverNow) -> MoverNow
+    ensures { mover_in result ≡ spec.mover_inverted signal stall bubble (mover_in k) }
+{
+    MoverNow {
+        stall: inverted(signal, stall, k.stall),
+        bubble: inverted(signal, bubble, k.bubble),
+    }
+}
+
+/// The ten signals with one of them inverted.
+pub fn with_inverted(signal: NameId, k: &MoversNow) -> MoversNow
+    ensures { movers_in result ≡ spec.with_inverted signal (movers_in k.now) }
+{
+    MoversNow {
+        f: mover_inverted(signal, name::F_STALL, name::F_BUBBLE, k.f),
+        d: mover_inverted(signal, name::D_STALL, name::D_BUBBLE, k.d),
+        e: mover_inverted(signal, name::E_STALL, name::E_BUBBLE, k.e),
+        m: mover_inverted(signal, name::M_STALL, name::M_BUBBLE, k.m),
+        w: mover_inverted(signal, name::W_STALL, name::W_BUBBLE, k.w),
+    }
+}
+
+/// The signal picks the right value of a source.
+fn takes_right(n: &Now<'_>, free: bool, signal: NameId, source: NameId, rest: NameId) -> bool
+    ensures { result ≡ rule.takes_right n.now.v n.now.s.now (fields_in n.now.l.now) (view_in n.now.y.now) (movers_in n.now.mv.now) unread (at n.now.leaves.now) free signal source rest }
+{
+    is_number(n.leaves, source, 15)
+        || (if n.loaded_in_e(source) {
+            free
+        } else {
+            same_leaf(leaf_at(n.leaves, signal), n.right_value(source, rest))
+        })
+}
+
+fn met_10(n: &Now<'_>) -> bool
+    ensures { result ≡ rule.o10 n.now.v n.now.s.now (fields_in n.now.l.now) (view_in n.now.y.now) (movers_in n.now.mv.now) unread (at n.now.leaves.now) }
+{
+    let here = row(n.v, n.l.d.icode);
+    !leaves(n.mv, n.y)
+        || ((!carries_p(&here) || takes(n.leaves, name::D_VAL_A, name::HELD_D_VAL_P))
+            && takes_right(
+                n,
+                n.s.lf && stores_a(here.memory),
+                name::D_VAL_A,
+                name::D_SRC_A,
+                name::D_RVAL_A,
+            ))
+}
+
+fn met_11(n: &Now<'_>) -> bool
+    ensures { result ≡ rule.o11 n.now.v n.now.s.now (fields_in n.now.l.now) (view_in n.now.y.now) (movers_in n.now.mv.now) unread (at n.now.leaves.now) }
+{
+    !leaves(n.mv, n.y) || takes_right(n, false, name::D_VAL_B, name::D_SRC_B, name::D_RVAL_B)
+}
+
+/// An obligation from 23 to 27 is met.
+fn moves_well(n: &Now<'_>, number: u32) -> bool
+    requires first { 23 ≤ number }
+    requires last { number ≤ 27 }
+    ensures { result ≡ (if number == 23 then rule.o23 n.now.v n.now.s.now (fields_in n.now.l.now) (view_in n.now.y.now) (movers_in n.now.mv.now) unread (at n.now.leaves.now)
+        else (if number == 24 then rule.o24 n.now.v n.now.s.now (fields_in n.now.l.now) (view_in n.now.y.now) (movers_in n.now.mv.now) unread (at n.now.leaves.now)
+        else (if number == 25 then rule.o25 n.now.v n.now.s.now (fields_in n.now.l.now) (view_in n.now.y.now) (movers_in n.now.mv.now) unread (at n.now.leaves.now)
+        else (if number == 26 then rule.o26 n.now.v n.now.s.now (fields_in n.now.l.now) (view_in n.now.y.now) (movers_in n.now.mv.now) unread (at n.now.leaves.now)
+        else rule.o27 n.now.v n.now.s.now (fields_in n.now.l.now) (view_in n.now.y.now) (movers_in n.now.mv.now) unread (at n.now.leaves.now))))) }
+{
+    let facts = fetched(n);
+    is_met(number, n.s.je, n.s.rm, n.mv, is_fetch_good(n), &facts, n.y)
+}
+
+/// Whether all obligations on motion are met.
+pub fn meets_motion(n: &Now<'_>) -> bool
+    ensures { result ≡ spec.meets_motion n.now.v n.now.s.now (fields_in n.now.l.now) (view_in n.now.y.now) (movers_in n.now.mv.now) unread (at n.now.leaves.now) }
+{
+    met_10(n)
+        && (met_11(n)
+            && (moves_well(n, 23)
+                && (moves_well(n, 24)
+                    && (moves_well(n, 25) && (moves_well(n, 26) && moves_well(n, 27))))))
+}
+
+/// Whether they are met with one of the signals inverted.
+fn is_repaired(n: &Now<'_>, signal: NameId) -> bool
+    ensures { result ≡ spec.meets_motion n.now.v n.now.s.now (fields_in n.now.l.now) (view_in n.now.y.now) (spec.with_inverted signal (movers_in n.now.mv.now)) unread (at n.now.leaves.now) }
+{
+    let mv = with_inverted(signal, n.mv);
+    let other = Now {
+        v: n.v,
+        s: n.s,
+        l: n.l,
+        y: n.y,
+        mv: &mv,
+        leaves: n.leaves,
+    };
+    meets_motion(&other)
+}
+
+/// The ten stall and bubble signals.
+static SIGNALS: [NameId; 10] = [
+    name::F_STALL,
+    name::F_BUBBLE,
+    name::D_STALL,
+    name::D_BUBBLE,
+    name::E_STALL,
+    name::E_BUBBLE,
+    name::M_STALL,
+    name::M_BUBBLE,
+    name::W_STALL,
+    name::W_BUBBLE,
+];
+
+fn stall_bubble_signals() -> &'static [NameId]
+    ensures { result.now ≡ spec.stall_bubble_signals }
+{
+    &SIGNALS
+}
+
+fn put(out: &mut Vec<NameId>, signal: NameId) -> Result<(), Memory>
+    ensures { OnOk result (out.new.items ≡ out.old.items ++ signal ∷ []) }
+{
+    match out.push(signal) {
+        Ok(()) => Ok(()),
+        Err(_) => Err(Memory),
+    }
+}
+
+/// The signals of which each, inverted alone, meets all obligations on motion.
+#[tactic(auto, unfolding(crate::specs::Changes::repairs))]
+pub fn repairs(alloc: Global, n: &Now<'_>) -> Result<Vec<NameId>, Memory>
+    ensures { IfOk result (λ r. r.items ≡ spec.repairs n.now.v n.now.s.now (fields_in n.now.l.now) (view_in n.now.y.now) (movers_in n.now.mv.now) unread (at n.now.leaves.now)) }
+{
+    let mut out = Vec::new(alloc);
+    for signal in stall_bubble_signals() {
+        if is_repaired(n, *signal) {
+            match put(&mut out, *signal) {
+                Ok(()) => {}
+                Err(e) => return Err(e),
+            }
+        }
+    }
+    Ok(out)
+}
+
+/// The control values, of which `f_pc` picks another name.
+fn with_pc(alloc: Global, leaves: &[Leaf], source: NameId) -> Result<Vec<Leaf>, Memory>
+    ensures { IfOk result (λ r. r.items ≡ spec.with_pc source leaves.now) }
+{
+    let Ok(mut copy) = Vec::from_slice(alloc, leaves) else {
+        return Err(Memory);
+    };
+    let place = name::F_PC as usize;
+    if place < copy.len() {
+        copy[place] = Leaf::Name(source);
+    }
+    Ok(copy)
+}
+
+/// Whether the obligations on motion are met where `f_pc` picks this name.
+#[tactic(auto, unfolding(crate::specs::Changes::is_pc_repair))]
+fn is_repaired_by_pc(alloc: Global, n: &Now<'_>, source: NameId) -> Result<bool, Memory>
+    ensures { IfOk result (λ met. met ≡ spec.is_pc_repair n.now.v n.now.s.now (fields_in n.now.l.now) (view_in n.now.y.now) (movers_in n.now.mv.now) unread n.now.leaves.now source) }
+{
+    let leaves = with_pc(alloc, n.leaves, source)?;
+    let other = Now {
+        v: n.v,
+        s: n.s,
+        l: n.l,
+        y: n.y,
+        mv: n.mv,
+        leaves: leaves.as_slice(),
+    };
+    Ok(meets_motion(&other))
+}
+
+/// The names that `f_pc` may pick.
+static PC_SOURCES: [NameId; 7] = [
+    name::HELD_F_PRED_PC,
+    name::HELD_E_VAL_C,
+    name::HELD_E_VAL_A,
+    name::HELD_M_VAL_E,
+    name::HELD_M_VAL_A,
+    name::M_VAL_M,
+    name::HELD_W_VAL_M,
+];
+
+fn pc_sources() -> &'static [NameId]
+    ensures { result.now ≡ spec.pc_sources }
+{
+    &PC_SOURCES
+}
+
+/// The names of which each, picked by `f_pc`, meets all obligations on motion.
+#[tactic(auto, unfolding(crate::specs::Changes::pc_repairs))]
+pub fn pc_repairs(alloc: Global, n: &Now<'_>) -> Result<Vec<NameId>, Memory>
+    ensures { IfOk result (λ r. r.items ≡ spec.pc_repairs n.now.v n.now.s.now (fields_in n.now.l.now) (view_in n.now.y.now) (movers_in n.now.mv.now) unread n.now.leaves.now) }
+{
+    let mut out = Vec::new(alloc);
+    for source in pc_sources() {
+        let met = match is_repaired_by_pc(alloc, n, *source) {
+            Ok(met) => met,
+            Err(e) => return Err(e),
+        };
+        if met {
+            match put(&mut out, *source) {
+                Ok(()) => {}
+                Err(e) => return Err(e),
+            }
+        }
+    }
+    Ok(out)
+}
