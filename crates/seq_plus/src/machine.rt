@@ -9,14 +9,14 @@ ghost use Rattle.seq_plus.specs.Plus as spec;
 
 use crate::cycle::{advance, record_of};
 use crate::row;
-use crate::state::{PlusState, Previous};
+use crate::state::PlusState;
 use crate::values::solve_plus;
 use dp_signals::at;
 use hcl_types::{Design, Order, SignalEval};
 use machine_calls::{Cycles, is_going};
 use std::marker::Model;
 use y86_base::{Image, Stat, Variant};
-use y86_isa::{Machine, Rec};
+use y86_isa::Rec;
 use yis_run::End;
 
 /// A machine of SEQ+: a design with an order of its signals, an evaluator of the design, and the state that it is in.
@@ -52,32 +52,12 @@ impl<C: SignalEval> Plus<C> {
         requires ordered { IsOrderOf plus_rows design.terms order.ids }
         ensures { result ≡ spec.started variant design.terms order.ids mem }
     {
-        let Machine {
-            regs,
-            flags,
-            stat,
-            mem,
-            ..
-        } = Machine::start(mem);
-        let previous = Previous {
-            icode: 1,
-            cnd: 0,
-            val_m: 0,
-            val_c: 0,
-            val_p: 0,
-        };
         Plus {
             variant,
             design,
             order,
             evaluator,
-            state: PlusState {
-                previous,
-                regs,
-                flags,
-                stat,
-                mem,
-            },
+            state: PlusState::start(mem),
         }
     }
 
