@@ -1,0 +1,54 @@
+use Rattle.std.proofs.Common.{◌∙◌, ◌≤◌, sym, ap, subst, ℕ, List, map}
+use Rattle.hcl_types.specs.declared.table.Row.{Row}
+use Rattle.hcl_types.specs.declared.term.Term.{Term}
+use Rattle.hcl_types.specs.Tables.{IsSound}
+use Rattle.dp_signals.specs.PipeTable.{pipe_rows}
+use Rattle.dp_signals.proofs.Sound.{pipe_sound}
+use Rattle.ctl_atoms.specs.declared.leaf.Leaf.{Leaf}
+use Rattle.ctl_formula.specs.Controls.{AreControls}
+use Rattle.control_values.specs.Given.{assigned, at, field_at}
+use Rattle.field_bits.specs.declared.spots.Spot.{Spot}
+use Rattle.pipe_fields.specs.Layout.{bit_count, fields_of, spots}
+use Rattle.pipe_requirements.specs.Requirements.{requirements, unread}
+use Rattle.motion_repairs.specs.Changes as changes
+use Rattle.pipe_obligations.specs.Obligations.{movers_of}
+use Rattle.pipe_obligations.specs.Stages.{view_of}
+use Rattle.pipe_diagnosis.proofs.OneWrong.{atoms_given, controls_are, one_wrong}
+use Rattle.pipe_diagnosis.specs.Diagnosis.{are_right, finding}
+use Rattle.pipe_diagnosis.proofs.diagnosis.diagnose.Goals as goal
+
+pub control_values-requires-clause-sound : goal.control_values-requires-clause-sound
+control_values-requires-clause-sound c = subst IsSound (sym c.in-Ok.ensures) pipe_sound
+
+pub returns : goal.returns
+returns c =
+    let terms = c.args.d.now.terms in
+    let atoms = c.args.atoms.now in
+    let w = c.args.bits.now in
+    let α = assigned atoms bit_count w in
+    let ls = c.in_ok-leaves.leaves.items in
+    let solved = subst (λ (rows : List Row). AreControls rows terms (field_at c.spots.result.now w) α (at ls)) c.in-Ok.ensures c.in_ok-leaves.ensures.solved in
+    let own = subst (λ (ss : List Spot). AreControls pipe_rows terms (field_at ss w) α (at ls)) c.spots.ensures solved in
+    let cv : ℕ → Leaf = at c.of.result in
+    let controls = controls_are terms w α cv (subst (λ (xs : List Leaf). AreControls pipe_rows terms (field_at spots w) α (at xs)) (sym c.of.ensures) own) in
+    let given = atoms_given terms c.args.o.now.ids atoms w c.requires.ordered c.requires.atoms in
+    let v = c.args.v in
+    let s = c.args.s.now in
+    let i = c.args.number in
+    let same = c.as_slice.ensures.value ∙ sym c.of.ensures in
+    let here = c.as_slice.result.now in
+    let findings = λ (le : i ≤ 22). c.in_ok-found.ensures.findings le
+    ∙ ap (λ (ts : List Term). map (finding ts α (at here)) (requirements v s (fields_of w) (view_of v s (fields_of w)) (movers_of α (at here)) (at here) i)) c.items.ensures
+    ∙ ap (λ (xs : List Leaf). map (finding terms α (at xs)) (requirements v s (fields_of w) (view_of v s (fields_of w)) (movers_of α (at xs)) (at xs) i)) same in
+    let false_there = c.requires.fails α cv given controls in
+    record {
+      diagnosis = record {
+        atoms_are = given;
+        controls = controls;
+        false_there = false_there;
+        findings = findings;
+        one_wrong = λ le. ap are_right (findings le) ∙ one_wrong v terms s atoms i w α cv c.requires.first le false_there;
+        repairs = c.in_ok-found.ensures.repairs ∙ ap (λ (xs : List Leaf). changes.repairs v s (fields_of w) (view_of v s (fields_of w)) (movers_of α (at xs)) unread (at xs)) same;
+        pc_repairs = c.in_ok-found.ensures.pc_repairs ∙ ap (λ (xs : List Leaf). changes.pc_repairs v s (fields_of w) (view_of v s (fields_of w)) (movers_of α (at xs)) unread xs) same;
+      };
+    }

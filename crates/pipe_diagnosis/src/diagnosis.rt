@@ -1,0 +1,257 @@
+//! The findings at a valuation.
+ghost use Rattle.std.specs.Prelude.{◌≡◌, ◌≤◌, ◌++◌, ◌∷◌, [], ◌+◌, ◌-◌, IfOk, OnOk, length, map, slice_get};
+ghost use Rattle.hcl_types.specs.Tables.{IsBound, IsOrderOf};
+ghost use Rattle.dp_signals.specs.PipeTable.{pipe_rows};
+ghost use Rattle.ctl_atoms.specs.Atoms.{AreAtoms};
+ghost use Rattle.control_values.specs.Given.{assigned, at};
+ghost use Rattle.ctl_atoms.specs.Leaves.{leaf_holds};
+ghost use Rattle.pipe_requirements.specs.Requirements.{requirements, is_met, unread};
+ghost use Rattle.pipe_requirements.specs.Views.{fields_in, movers_in, view_in};
+ghost use Rattle.pipe_fields.specs.Layout.{bit_count, fields_of};
+ghost use Rattle.motion_repairs.specs.Changes as changes;
+ghost use Rattle.pipe_obligations.specs.Obligations as rule;
+ghost use Rattle.pipe_obligations.specs.Settled.{PipeControls};
+ghost use Rattle.pipe_obligations.specs.Stages as stages;
+ghost use Rattle.pipe_diagnosis.specs.Diagnosis as spec;
+
+use control_values::{Scope, Situation, control_values, holds, taken_case};
+use ctl_atoms::{Atom, Leaf, same_leaf};
+use dp_signals::{pipe_row as name, pipe_table};
+use hcl_types::{Design, NameId, Order, Term};
+use motion_repairs::{pc_repairs, repairs};
+use pipe_fields::{BIT_COUNT, spots};
+use pipe_motion::Settings;
+use pipe_requirements::{
+    MoverNow, MoversNow, Now, Requirement, Wanted, leaf_at, lines_of, requirements_of, view_of,
+};
+use std::alloc::Global;
+use y86_base::{Items, Memory, Variant};
+
+/// A signal: what is required of it, what the file picks, and whether that is right.
+#[derive(Clone, Copy)]
+pub struct Finding {
+    pub requirement: Requirement,
+    pub picked: Leaf,
+    pub is_right: bool,
+    /// The case that the signal's definition takes, counted from 0.
+    pub taken_case: Option<usize>,
+}
+
+/// Findings, and the repairs.
+#[derive(Drop)]
+struct Found {
+    findings: Items<Finding>,
+    repairs: Items<NameId>,
+    pc_repairs: Items<NameId>,
+}
+
+/// What is wrong at a valuation.
+#[derive(Drop)]
+pub struct Diagnosis {
+    /// The control value of each row of the table.
+    pub leaves: Items<Leaf>,
+    /// A finding for each signal of an obligation from 1 to 22.
+    pub findings: Items<Finding>,
+    /// The stall and bubble signals of which each, inverted alone, would meet all obligations on motion.
+    pub repairs: Items<NameId>,
+    /// The names of which each, picked by `f_pc`, would meet all obligations on motion.
+    pub pc_repairs: Items<NameId>,
+}
+
+/// Whether a signal meets a requirement.
+fn meets(scope: &Scope<'_>, requirement: Requirement) -> bool
+    requires { scope.now.first ≤ 1000 }
+    ensures { result ≡ is_met (assigned scope.now.atoms.now scope.now.first scope.now.bits.now) (at scope.now.leaves.now) requirement }
+{
+    match requirement.wanted {
+        Wanted::Word(leaf) => same_leaf(leaf_at(scope.leaves, requirement.signal), leaf),
+        Wanted::Truth(truth) => truth == holds(scope, leaf_at(scope.leaves, requirement.signal)),
+        Wanted::Nothing => false,
+    }
+}
+
+/// The case that the definition of a signal takes.
+fn case_of(scope: &Scope<'_>, terms: &[Term], id: NameId) -> Option<usize>
+    requires { scope.now.first ≤ 1000 }
+    ensures { result ≡ spec.case_of terms.now (assigned scope.now.atoms.now scope.now.first scope.now.bits.now) (at scope.now.leaves.now) id }
+{
+    match terms.get((id as usize).saturating_sub(name::F_PC as usize)) {
+        Some(term) => taken_case(scope, term),
+        None => None,
+    }
+}
+
+/// The finding on a requirement.
+fn finding_of(scope: &Scope<'_>, terms: &[Term], requirement: Requirement) -> Finding
+    requires { scope.now.first ≤ 1000 }
+    ensures { result ≡ spec.finding terms.now (assigned scope.now.atoms.now scope.now.first scope.now.bits.now) (at scope.now.leaves.now) requirement }
+{
+    Finding {
+        requirement,
+        picked: leaf_at(scope.leaves, requirement.signal),
+        is_right: meets(scope, requirement),
+        taken_case: case_of(scope, terms, requirement.signal),
+    }
+}
+
+fn put(out: &mut Vec<Finding>, finding: Finding) -> Result<(), Memory>
+    ensures { OnOk result (out.new.items ≡ out.old.items ++ finding ∷ []) }
+{
+    match out.push(finding) {
+        Ok(()) => Ok(()),
+        Err(_) => Err(Memory),
+    }
+}
+
+/// The findings on requirements.
+fn findings_of(
+    alloc: Global,
+    scope: &Scope<'_>,
+    terms: &[Term],
+    all: &[Requirement],
+) -> Result<Vec<Finding>, Memory>
+    requires { scope.now.first ≤ 1000 }
+    ensures { IfOk result (λ r. r.items ≡ map (spec.finding terms.now (assigned scope.now.atoms.now scope.now.first scope.now.bits.now) (at scope.now.leaves.now)) all.now) }
+{
+    let mut out = Vec::new(alloc);
+    for requirement in all {
+        match put(&mut out, finding_of(scope, terms, *requirement)) {
+            Ok(()) => {}
+            Err(e) => return Err(e),
+        }
+    }
+    Ok(out)
+}
+
+/// Whether a signal holds.
+fn is_on(scope: &Scope<'_>, signal: NameId) -> bool
+    requires { scope.now.first ≤ 1000 }
+    ensures { result ≡ leaf_holds (assigned scope.now.atoms.now scope.now.first scope.now.bits.now) (at scope.now.leaves.now signal) }
+{
+    holds(scope, leaf_at(scope.leaves, signal))
+}
+
+/// The ten stall and bubble signals at a valuation.
+pub fn movers_at(scope: &Scope<'_>) -> MoversNow
+    requires { scope.now.first ≤ 1000 }
+    ensures { movers_in result ≡ rule.movers_of (assigned scope.now.atoms.now scope.now.first scope.now.bits.now) (at scope.now.leaves.now) }
+{
+    MoversNow {
+        f: MoverNow {
+            stall: is_on(scope, name::F_STALL),
+            bubble: is_on(scope, name::F_BUBBLE),
+        },
+        d: MoverNow {
+            stall: is_on(scope, name::D_STALL),
+            bubble: is_on(scope, name::D_BUBBLE),
+        },
+        e: MoverNow {
+            stall: is_on(scope, name::E_STALL),
+            bubble: is_on(scope, name::E_BUBBLE),
+        },
+        m: MoverNow {
+            stall: is_on(scope, name::M_STALL),
+            bubble: is_on(scope, name::M_BUBBLE),
+        },
+        w: MoverNow {
+            stall: is_on(scope, name::W_STALL),
+            bubble: is_on(scope, name::W_BUBBLE),
+        },
+    }
+}
+
+/// What an obligation requires; an obligation on motion requires nothing of a single signal.
+fn requirements_at(alloc: Global, n: &Now<'_>, number: u32) -> Result<Vec<Requirement>, Memory>
+    requires { 1 ≤ number }
+    ensures { number ≤ 22 → IfOk result (λ r. r.items ≡ requirements n.now.v n.now.s.now (fields_in n.now.l.now) (view_in n.now.y.now) (movers_in n.now.mv.now) (at n.now.leaves.now) number) }
+{
+    if number <= 22 {
+        requirements_of(alloc, n, number)
+    } else {
+        Ok(Vec::new(alloc))
+    }
+}
+
+/// The findings and repairs at a valuation.
+fn found_at(
+    alloc: Global,
+    v: Variant,
+    s: &Settings,
+    scope: &Scope<'_>,
+    terms: &[Term],
+    number: u32,
+) -> Result<Found, Memory>
+    requires near { scope.now.first ≤ 1000 }
+    requires first { 1 ≤ number }
+    ensures findings { number ≤ 22 → IfOk result (λ r. r.findings ≡ map (spec.finding terms.now (assigned scope.now.atoms.now scope.now.first scope.now.bits.now) (at scope.now.leaves.now))
+        (requirements v s.now (fields_of scope.now.bits.now) (stages.view_of v s.now (fields_of scope.now.bits.now))
+        (rule.movers_of (assigned scope.now.atoms.now scope.now.first scope.now.bits.now) (at scope.now.leaves.now)) (at scope.now.leaves.now) number)) }
+    ensures repairs { IfOk result (λ r. r.repairs ≡ changes.repairs v s.now (fields_of scope.now.bits.now) (stages.view_of v s.now (fields_of scope.now.bits.now))
+        (rule.movers_of (assigned scope.now.atoms.now scope.now.first scope.now.bits.now) (at scope.now.leaves.now)) unread (at scope.now.leaves.now)) }
+    ensures pc_repairs { IfOk result (λ r. r.pc_repairs ≡ changes.pc_repairs v s.now (fields_of scope.now.bits.now) (stages.view_of v s.now (fields_of scope.now.bits.now))
+        (rule.movers_of (assigned scope.now.atoms.now scope.now.first scope.now.bits.now) (at scope.now.leaves.now)) unread scope.now.leaves.now) }
+{
+    let l = lines_of(scope.bits);
+    let y = view_of(v, s, &l);
+    let mv = movers_at(scope);
+    let n = Now {
+        v,
+        s,
+        l: &l,
+        y: &y,
+        mv: &mv,
+        leaves: scope.leaves,
+    };
+    let all = requirements_at(alloc, &n, number)?;
+    let findings = findings_of(alloc, scope, terms, all.as_slice())?;
+    let repairs = repairs(alloc, &n)?;
+    let by_pc = pc_repairs(alloc, &n)?;
+    Ok(Found {
+        findings: Items::of(findings),
+        repairs: Items::of(repairs),
+        pc_repairs: Items::of(by_pc),
+    })
+}
+
+/// Diagnoses a valuation at which an obligation is false.
+pub fn diagnose(
+    alloc: Global,
+    v: Variant,
+    d: &Design,
+    o: &Order,
+    s: &Settings,
+    atoms: &[Atom],
+    number: u32,
+    bits: &[bool],
+) -> Result<Diagnosis, Memory>
+    requires ordered { IsOrderOf pipe_rows d.now.terms o.now.ids }
+    requires atoms { AreAtoms pipe_rows d.now.terms atoms.now }
+    requires first { 1 ≤ number }
+    requires fails { spec.Fails v d.now.terms s.now atoms.now number bits.now }
+    ensures diagnosis { IfOk result (spec.IsDiagnosis v d.now.terms s.now atoms.now number bits.now) }
+{
+    let t = match pipe_table(alloc) {
+        Ok(t) => t,
+        Err(_) => return Err(Memory),
+    };
+    let situation = Situation {
+        fields: spots(),
+        atoms,
+        first: BIT_COUNT as usize,
+        bits,
+    };
+    let leaves = control_values(alloc, d, &t, o, &situation)?;
+    let scope = Scope {
+        atoms,
+        first: BIT_COUNT as usize,
+        bits,
+        leaves: leaves.as_slice(),
+    };
+    let found = found_at(alloc, v, s, &scope, d.terms.items(), number)?;
+    Ok(Diagnosis {
+        leaves: Items::of(leaves),
+        findings: found.findings,
+        repairs: found.repairs,
+        pc_repairs: found.pc_repairs,
+    })
+}

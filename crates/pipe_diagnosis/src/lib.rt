@@ -1,0 +1,12 @@
+//! A diagnosis of one counterexample: an obligation of PIPE, and a valuation at which it is false.
+//!
+//! Of an obligation from 1 to 22 it says of each signal what the obligation requires and what the file picks.
+//! At least one signal is wrong.
+//! Of an obligation on motion it says which single change of a stall or bubble signal meets all of them.
+#![tactic(auto)]
+
+mod diagnosis;
+mod refusal;
+
+pub use diagnosis::{Diagnosis, Finding, diagnose, movers_at};
+pub use refusal::{Refusal, Refutation};
