@@ -1,0 +1,155 @@
+-- From the decisions on a file's rules to refutations.
+use Rattle.std.proofs.Common.{◌≡◌, ℕ, zero, suc, ◌+◌, ◌-◌, ◌<◌, ◌≤◌, ◌==◌, ◌||◌, ◌++◌, inl, inr, ◌⊎◌, Bool, true, false, List, [], ◌∷◌, length, drop, get_or, slice_get, Option, None, Some, refl, sym, ap, ◌∙◌, subst, arith}
+use Rattle.std.specs.List.{AllByRecursion}
+use Rattle.std.proofs.lemmas.Bool.{false≢true, cases_lt}
+use Rattle.std.proofs.lemmas.Bool.Decides.{nat_tests}
+use Rattle.std.proofs.lemmas.List.{get_or_past}
+use Rattle.std.proofs.lemmas.Option.{slice_get-get_or, slice_get_within}
+use Rattle.y86_base.specs.declared.parts.Variant.{Variant}
+use Rattle.nets.specs.Nets.{Gates}
+use Rattle.hcl_types.specs.Lists.{some}
+use Rattle.hcl_types.specs.Tables.{IsOrderOf}
+use Rattle.hcl_types.specs.declared.term.Term.{Term}
+use Rattle.dp_signals.specs.PipeTable.{pipe_rows}
+use Rattle.ctl_atoms.specs.declared.leaf.Atom.{Atom}
+use Rattle.ctl_atoms.specs.Atoms.{AreAtoms}
+use Rattle.ctl_atoms.proofs.Solved.{leaves_exist}
+use Rattle.ctl_formula.proofs.Solved.{controls_exist}
+use Rattle.hazard_rules.proofs.Designed.{atoms_one}
+use Rattle.hazard_rules.specs.Parts.{AreRules}
+use Rattle.pipe_fields.specs.Layout.{bit_count}
+use Rattle.pipe_motion.specs.declared.settings.Settings.{Settings}
+use Rattle.pipe_obligations.specs.Rules.{obligation, rule_count}
+use Rattle.pipe_obligations.specs.Settled.{Everywhere, IsFalseAt, PipeControls}
+use Rattle.rule_gates.specs.declared.rules.Rule.{Rule}
+use Rattle.decisions.specs.Decisions.{IsAlwaysTrue}
+use Rattle.verdicts.specs.Decisions.{AreGatesOf, IsDecision}
+use Rattle.verdicts.specs.declared.decision.Failure.{Failure}
+use Rattle.verdicts.proofs.AtomBits.{AreApart, apart_added}
+use Rattle.verdicts.proofs.Decided.{no_rule}
+use Rattle.control_check.proofs.PipeVerdict.{everywhere}
+use Rattle.control_check.proofs.Tails.{from_drop}
+use Rattle.pipe_diagnosis.specs.Diagnosis.{Fails}
+use Rattle.pipe_refusals.specs.Answered.{AreRefuted, IsLeast, IsRefutation, is_refuted}
+use Rattle.pipe_diagnosis.specs.declared.refusal.Refutation.{Refutation}
+
+pub gates_from : (net : Gates) (list : List Rule) (n : ℕ) → AreGatesOf net list → AreGatesOf net (drop n list)
+gates_from net list n h k r at = h (n + k) r (sym (from_drop list n k) ∙ at)
+
+either : (a b : Bool) → (a || b) ≡ false → (a ≡ false) × (b ≡ false)
+either true b e = cc
+either false b e = (refl, e)
+
+neither : (a b : Bool) → a ≡ false → b ≡ false → (a || b) ≡ false
+neither true b e f = cc
+neither false b e f = f
+
+-- none of a longer list
+none_of : (f : Refutation → Bool) (xs : List Refutation) (x : Refutation) → some f (xs ++ x ∷ []) ≡ false → (some f xs ≡ false) × (f x ≡ false)
+none_of f [] x e = (refl, (either (f x) false e).0)
+none_of f (y ∷ ys) x e =
+    let here = either (f y) (some f (ys ++ x ∷ [])) e in
+    let rest = none_of f ys x here.1 in
+    (neither (f y) (some f ys) here.0 rest.0, rest.1)
+
+pub all_more : (P : Refutation → Type 0) (xs : List Refutation) (x : Refutation) → AllByRecursion P xs → P x → AllByRecursion P (xs ++ x ∷ [])
+all_more P [] x h p = (p, tt)
+all_more P (y ∷ ys) x h p = (h.0, all_more P ys x h.1 p)
+
+is_own : (m n i : ℕ) → m ≡ n → i ≡ n → (m == i) ≡ true
+is_own m n i e f = let same : m ≡ i = e ∙ sym f in grind (arith, nat_tests, same)
+
+module _ (v : Variant) (terms : List Term) (s : Settings) (net : Gates) (list : List Rule) (rules : AreRules v terms s net list) where
+  pub gates_of : AreGatesOf net list
+  gates_of = λ k r at. (rules.gates k r at).within
+
+  -- the failure's rule in the whole list
+  there : (from : ℕ) (failure : Failure) (h : IsDecision net (drop from list) (Some failure)) → slice_get list (from + h.0) ≡ Some h.1
+  there from failure h = sym (from_drop list from h.0) ∙ (h.2).there
+
+  place : (from : ℕ) (failure : Failure) (h : IsDecision net (drop from list) (Some failure)) → failure.rule ≡ from + h.0 + 1
+  place from failure h = h.3 ∙ rules.numbers (from + h.0) h.1 (there from failure h)
+
+  pub first_rule : (from : ℕ) (failure : Failure) → IsDecision net (drop from list) (Some failure) → 1 ≤ failure.rule
+  first_rule from failure h = let at = place from failure h in omega (arith, at)
+
+  pub next_rule : (from : ℕ) (failure : Failure) → IsDecision net (drop from list) (Some failure) → from < failure.rule
+  next_rule from failure h = let at = place from failure h in omega (arith, at)
+
+  pub within_list : (from : ℕ) (failure : Failure) → IsDecision net (drop from list) (Some failure) → failure.rule ≤ length list
+  within_list from failure h = let at = place from failure h in let inside = slice_get_within list (from + h.0) h.1 (there from failure h) in omega (arith, at, inside)
+
+  pub last_rule : (from : ℕ) (failure : Failure) → IsDecision net (drop from list) (Some failure) → failure.rule ≤ rule_count
+  last_rule from failure h = let inside = within_list from failure h in let count = rules.count in omega (arith, inside, count)
+
+  module _ (ids : List ℕ) (order : IsOrderOf pipe_rows terms ids) (atoms : List Atom) (are : AreAtoms pipe_rows terms atoms) where
+    same_atoms : rules.atoms ≡ atoms
+    same_atoms = atoms_one pipe_rows terms ids rules.atoms atoms order rules.are are
+
+    apart : AreApart rules.atoms
+    apart = let found = leaves_exist pipe_rows terms ids order in subst AreApart (sym (rules.are.are found.0 found.1)) (apart_added [] _ tt)
+
+    pub fails_at : (from : ℕ) (failure : Failure) → IsDecision net (drop from list) (Some failure) → Fails v terms s atoms failure.rule failure.valuation.bits
+    fails_at from failure h =
+        let k = from + h.0 in
+        let at = there from failure h in
+        let number : k + 1 ≡ failure.rule = sym (place from failure h) in
+        let w = failure.valuation.bits in
+        let own : Fails v terms s rules.atoms (k + 1) w = λ α cv given controls. sym ((rules.gates k h.1 at).is w α cv given controls) ∙ (h.2).least.holds in
+        subst (λ (xs : List Atom). Fails v terms s xs failure.rule w) same_atoms (subst (λ n. Fails v terms s rules.atoms n w) number own)
+
+    pub size_at : (from : ℕ) (failure : Failure) → IsDecision net (drop from list) (Some failure) → length failure.valuation.bits ≡ bit_count + length atoms
+    size_at from failure h = (h.2).least.size ∙ (rules.vars ∙ ap (λ (xs : List Atom). bit_count + length xs) same_atoms)
+
+    pub least_at : (from : ℕ) (failure : Failure) → IsDecision net (drop from list) (Some failure) → IsLeast v terms s atoms failure.rule failure.valuation.bits
+    least_at from failure h =
+        subst (λ (xs : List Atom). IsLeast v terms s xs failure.rule w) same_atoms (subst (λ n. IsLeast v terms s rules.atoms n w) (sym (place from failure h)) own)
+      where
+        w : List Bool
+        w = failure.valuation.bits
+
+        own : IsLeast v terms s rules.atoms (from + h.0 + 1) w
+        own u size f y same off = elim (cases_lt y net.vars) [
+          | inl lt ↦ (h.2).least.least u (size ∙ sym rules.vars) ((rules.gates (from + h.0) h.1 (there from failure h)).is u f.α f.cv f.atoms_are f.controls ∙ f.false_there) y lt same off
+          | inr le ↦ get_or_past w y false (let e = (h.2).least.size in omega (arith, le, e))
+        ]
+
+    -- a rule that is always true
+    holds_at : (i : ℕ) → 1 ≤ i → i ≤ length list → ((r : Rule) → slice_get list (i - 1) ≡ Some r → IsAlwaysTrue net r.gate) → Everywhere v atoms (PipeControls terms) (obligation v s atoms i)
+    holds_at i l h always =
+        let k = i - 1 in
+        let x = get_or list k no_rule in
+        let at = slice_get-get_or list k no_rule (omega (arith, l, h)) in
+        let number : k + 1 ≡ i = omega (arith, l) in
+        let own = everywhere v terms rules.atoms apart (λ field α. controls_exist pipe_rows terms ids field α order) net rules.vars x.gate (obligation v s rules.atoms (k + 1)) (rules.gates k x at) (always x at) in
+        subst (λ (xs : List Atom). Everywhere v xs (PipeControls terms) (obligation v s xs i)) same_atoms
+        (subst (λ n. Everywhere v rules.atoms (PipeControls terms) (obligation v s rules.atoms n)) number own)
+
+    pub none_refuted : AreRefuted v terms s atoms 0 []
+    none_refuted = record { each = tt; others = λ i l h e. absurd (omega (arith, l, h)) }
+
+    -- one more is false somewhere, and those between it and the last are not
+    pub one_more : (from : ℕ) (failure : Failure) (all : List Refutation) (x : Refutation) → IsDecision net (drop from list) (Some failure) → x.rule ≡ failure.rule →
+        IsRefutation v terms s atoms x → AreRefuted v terms s atoms from all → AreRefuted v terms s atoms failure.rule (all ++ x ∷ [])
+    one_more from failure all x h is own told = record {
+      each = all_more (IsRefutation v terms s atoms) all x told.each own;
+      others = λ i l le none. by i l le (none_of (λ (y : Refutation). y.rule == i) all x none) (cases_lt from i);
+    }
+      where
+        by : (i : ℕ) → 1 ≤ i → i ≤ failure.rule → (is_refuted i all ≡ false) × ((x.rule == i) ≡ false) → (from < i) ⊎ (i ≤ from) → Everywhere v atoms (PipeControls terms) (obligation v s atoms i)
+        by i l le none (inr before) = told.others i l before none.0
+        by i l le none (inl behind) = elim (cases_lt i failure.rule) [
+          | inl lt ↦ holds_at i l (let inside = within_list from failure h in omega (arith, le, inside))
+              (λ r at. let p = place from failure h in let e : i - 1 ≡ from + (i - 1 - from) = omega (arith, behind, l) in
+              (h.2).earlier (i - 1 - from) r (omega (arith, p, lt, behind)) (from_drop list from (i - 1 - from) ∙ (ap (slice_get list) (sym e) ∙ at)))
+          | inr ge ↦ absurd (false≢true (sym none.1 ∙ is_own x.rule failure.rule i is (omega (arith, le, ge))))
+        ]
+
+    -- all that is left holds
+    pub rest_holds : (from : ℕ) (all : List Refutation) → IsDecision net (drop from list) None → AreRefuted v terms s atoms from all → AreRefuted v terms s atoms (length list) all
+    rest_holds from all h told = record { each = told.each; others = λ i l le none. by i l le none (cases_lt from i) }
+      where
+        by : (i : ℕ) → 1 ≤ i → i ≤ length list → is_refuted i all ≡ false → (from < i) ⊎ (i ≤ from) → Everywhere v atoms (PipeControls terms) (obligation v s atoms i)
+        by i l le none (inr before) = told.others i l before none
+        by i l le none (inl behind) = holds_at i l le (λ r at. let e : i - 1 ≡ from + (i - 1 - from) = omega (arith, behind, l) in
+            h (i - 1 - from) r (from_drop list from (i - 1 - from) ∙ (ap (slice_get list) (sym e) ∙ at)))

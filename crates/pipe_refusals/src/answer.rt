@@ -1,0 +1,193 @@
+//! The verdict, and the diagnosis of a refusal.
+ghost use Rattle.std.specs.Prelude.{◌≡◌, ◌≤◌, ◌<◌, ◌∷◌, ◌++◌, [], ℕ, IfErr, IfOk, OnOk, Some, drop, length, true};
+ghost use Rattle.dp_signals.specs.PipeTable.{pipe_rows};
+ghost use Rattle.hcl_types.specs.Tables.{IsBound, IsOrderOf};
+ghost use Rattle.ctl_atoms.specs.Atoms.{AreAtoms};
+ghost use Rattle.control_check.specs.PipeVerdicts.{AreSettings, IsPipeFault, RefinesPipe};
+ghost use Rattle.hazard_rules.specs.Parts.{AreRules};
+ghost use Rattle.pipe_obligations.specs.Rules.{rule_count};
+ghost use Rattle.verdicts.specs.Decisions.{IsDecision};
+ghost use Rattle.pipe_refusals.specs.Answered as spec;
+
+use control_check::{CheckFault, Failure, decide_pipe, rules_at_settings};
+use hcl_types::{Design, Order};
+use pipe_diagnosis::{Refusal, Refutation, diagnose};
+use pipe_motion::Settings;
+use rule_gates::{Rule, Rules};
+use std::alloc::Global;
+use y86_base::{Items, Memory, Variant};
+
+/// The answer on a file.
+#[derive(Drop)]
+pub enum Answer {
+    Yes(Settings),
+    No(Refusal),
+}
+
+/// The rules from one on.
+fn rules_from(list: &[Rule], from: usize) -> &[Rule]
+    requires { from ≤ length list.now }
+    ensures { result.now ≡ drop from list.now }
+{
+    &list[from..]
+}
+
+/// Refutes the first obligation behind some that is false somewhere.
+fn refute(
+    alloc: Global,
+    v: Variant,
+    d: &Design,
+    o: &Order,
+    settings: &Settings,
+    rules: &Rules,
+    from: usize,
+    failure: Failure,
+) -> Result<Refutation, Memory>
+    requires ordered { IsOrderOf pipe_rows d.now.terms o.now.ids }
+    requires rules { AreRules v d.now.terms settings.now rules.now.net rules.now.list }
+    requires atoms { AreAtoms pipe_rows d.now.terms rules.now.atoms }
+    requires failure { IsDecision rules.now.net (drop from rules.now.list) (Some failure) }
+    ensures refutation { IfOk result (spec.IsRefutation v d.now.terms settings.now rules.now.atoms) }
+    ensures rule { IfOk result (λ x. x.rule ≡ failure.rule) }
+    ensures valuation { IfOk result (λ x. x.valuation ≡ failure.valuation) }
+{
+    let diagnosis = diagnose(
+        alloc,
+        v,
+        d,
+        o,
+        settings,
+        rules.atoms.items(),
+        failure.rule,
+        failure.valuation.bits.items(),
+    )?;
+    Ok(Refutation {
+        rule: failure.rule,
+        valuation: failure.valuation,
+        diagnosis,
+    })
+}
+
+/// Appends a refutation.
+fn put(out: &mut Vec<Refutation>, refutation: Refutation) -> Result<(), Memory>
+    ensures { OnOk result (out.new.items ≡ out.old.items ++ refutation ∷ []) }
+{
+    match out.push(refutation) {
+        Ok(()) => Ok(()),
+        Err(_) => Err(Memory),
+    }
+}
+
+/// Refutes the next obligation that is false somewhere, and says up to which obligation all are decided then.
+#[tactic(auto, using(crate::proofs::Refuting::gates_from))]
+fn refute_next(
+    alloc: Global,
+    v: Variant,
+    d: &Design,
+    o: &Order,
+    settings: &Settings,
+    rules: &Rules,
+    first: &Refutation,
+    from: usize,
+    others: &mut Vec<Refutation>,
+) -> Result<usize, Memory>
+    requires ordered { IsOrderOf pipe_rows d.now.terms o.now.ids }
+    requires rules { AreRules v d.now.terms settings.now rules.now.net rules.now.list }
+    requires atoms { AreAtoms pipe_rows d.now.terms rules.now.atoms }
+    requires from { from < length rules.now.list }
+    requires refuted { spec.AreRefuted v d.now.terms settings.now rules.now.atoms from (first.now ∷ others.old.items) }
+    ensures refuted { IfOk result (λ until. spec.AreRefuted v d.now.terms settings.now rules.now.atoms until (first.now ∷ others.new.items)) }
+    ensures more { IfOk result (λ until. from < until) }
+    ensures within { IfOk result (λ until. until ≤ length rules.now.list) }
+{
+    let list = rules.list.items();
+    match decide_pipe(alloc, &rules.net, rules_from(list, from))? {
+        None => Ok(list.len()),
+        Some(failure) => {
+            let until = failure.rule as usize;
+            let refutation = refute(alloc, v, d, o, settings, rules, from, failure)?;
+            put(others, refutation)?;
+            Ok(until)
+        }
+    }
+}
+
+/// Refutes the obligations behind the first false one.
+fn refute_others(
+    alloc: Global,
+    v: Variant,
+    d: &Design,
+    o: &Order,
+    settings: &Settings,
+    rules: &Rules,
+    first: &Refutation,
+) -> Result<Vec<Refutation>, Memory>
+    requires ordered { IsOrderOf pipe_rows d.now.terms o.now.ids }
+    requires rules { AreRules v d.now.terms settings.now rules.now.net rules.now.list }
+    requires atoms { AreAtoms pipe_rows d.now.terms rules.now.atoms }
+    requires within { first.now.rule ≤ length rules.now.list }
+    requires first { spec.AreRefuted v d.now.terms settings.now rules.now.atoms first.now.rule (first.now ∷ []) }
+    ensures { IfOk result (λ others. spec.AreRefuted v d.now.terms settings.now rules.now.atoms (length rules.now.list) (first.now ∷ others.items)) }
+{
+    let mut others = Vec::new(alloc);
+    let mut from = first.rule as usize;
+    let count = rules.list.items().len();
+    for _k in 0..count {
+        if from < count {
+            match refute_next(alloc, v, d, o, settings, rules, first, from, &mut others) {
+                Ok(until) => from = until,
+                Err(e) => return Err(e),
+            }
+        }
+    }
+    Ok(others)
+}
+
+/// Diagnoses a refused file.
+fn refuse(
+    alloc: Global,
+    v: Variant,
+    d: &Design,
+    o: &Order,
+    settings: Settings,
+    rules: Rules,
+    failure: Failure,
+) -> Result<Refusal, Memory>
+    requires ordered { IsOrderOf pipe_rows d.now.terms o.now.ids }
+    requires settings { AreSettings v d.now.terms settings }
+    requires rules { AreRules v d.now.terms settings rules.net rules.list }
+    requires atoms { AreAtoms pipe_rows d.now.terms rules.atoms }
+    requires failure { IsDecision rules.net rules.list (Some failure) }
+    ensures { IfOk result (spec.IsRefusal v d.now.terms) }
+{
+    let first = refute(alloc, v, d, o, &settings, &rules, 0, failure)?;
+    let others = refute_others(alloc, v, d, o, &settings, &rules, &first)?;
+    Ok(Refusal {
+        settings,
+        atoms: rules.atoms,
+        first,
+        others: Items::of(others),
+    })
+}
+
+/// The verdict on a file for PIPE, and the diagnosis of a refusal. The verdict is that of `check_pipe`: where it is yes, the file's
+/// machine refines the run of instructions on every image whose instructions fetch no byte that one of the three before them stored.
+pub fn diagnose_pipe(alloc: Global, v: Variant, d: &Design, o: &Order) -> Result<Answer, CheckFault>
+    requires bound { IsBound pipe_rows d.now.terms }
+    requires ordered { IsOrderOf pipe_rows d.now.terms o.now.ids }
+    ensures answer { IfOk result (spec.IsAnswer v d.now.terms) }
+    ensures refines { IfOk result (λ answer. spec.is_yes answer ≡ true → RefinesPipe v d.now.terms) }
+    ensures fault { IfErr result (IsPipeFault d.now.terms) }
+{
+    let made = rules_at_settings(alloc, v, d, o)?;
+    let settings = made.settings;
+    let rules = made.rules;
+    match decide_pipe(alloc, &rules.net, rules.list.items()) {
+        Ok(None) => Ok(Answer::Yes(settings)),
+        Ok(Some(failure)) => match refuse(alloc, v, d, o, settings, rules, failure) {
+            Ok(refusal) => Ok(Answer::No(refusal)),
+            Err(Memory) => Err(CheckFault::Memory),
+        },
+        Err(Memory) => Err(CheckFault::Memory),
+    }
+}
