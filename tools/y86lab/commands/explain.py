@@ -2,6 +2,7 @@
 from __future__ import annotations
 
 import argparse
+from dataclasses import dataclass
 from typing import Optional, Sequence
 
 from .. import explaining, hcl
@@ -13,33 +14,76 @@ from ..explaining.refusal import WIDTH, wrapped
 
 def add_arguments(parser: argparse.ArgumentParser) -> None:
     parser.add_argument("file", metavar="HCL", help="the file to check")
+    parser.add_argument(
+        "--places", action="store_true", help="print the places alone, as FILE:LINE:COLUMN: MESSAGE, for editors"
+    )
     add_full(parser)
+
+
+@dataclass(frozen=True)
+class Checked:
+    """A file, and what the check says of it."""
+
+    path: str
+    text: str
+    design: Optional[hcl.Design]
+    answer: Answer
+    full: bool
+
+    def refusal(self, programs: Programs) -> Optional[explaining.Refusal]:
+        """What a `no` means."""
+        if self.answer.status != REFUSED or not self.design:
+            return None
+        return explaining.refusal_of(programs.top, self.path, self.design, self.answer.out.splitlines(), self.full)
+
+    def fault(self, programs: Programs) -> tuple[str, explaining.FileFault]:
+        """The line of a fault, and what it means."""
+        line = self.answer.err.strip() or f"{self.path}: the check ended without an answer"
+        return line, explaining.fault_of(programs.top, self.design, line)
 
 
 def run(arguments: argparse.Namespace, programs: Programs) -> int:
     path, full = arguments.file, arguments.full
     text = read_text(path)
     design = hcl.design_of(text)
-    datapath = explaining.datapath(design)
-    answer = programs.check(datapath, path, full)
-    print_answer(programs, path, text, design, answer, full)
-    if answer.status in (DONE, REFUSED) and explaining.unasked(text, full):
-        print(f"\n{explaining.unasked(text, full)}")
-    return OUT_OF_TIME if answer.status is None else answer.status
+    checked = Checked(path, text, design, programs.check(explaining.datapath(design), path, full), full)
+    if arguments.places:
+        print("\n".join(places(checked, programs)))
+    else:
+        print_answer(checked, programs)
+    status = checked.answer.status
+    return OUT_OF_TIME if status is None else status
 
 
-def print_answer(
-    programs: Programs, path: str, text: str, design: Optional[hcl.Design], answer: Answer, full: bool
-) -> None:
+def places(checked: Checked, programs: Programs) -> list[str]:
+    """A line for each place that the answer is about."""
+    path, refusal = checked.path, checked.refusal(programs)
+    if refusal:
+        where = [fact for fact in refusal.facts if fact.line]
+        return [f"{path}:{fact.line}:1: {refusal.rule}: {fact}" for fact in where]
+    if checked.answer.status == DONE:
+        return [f"{path}: yes"]
+    if checked.answer.status is None:
+        return [f"{path}: no answer in ten minutes"]
+    line, fault = checked.fault(programs)
+    reason = line.rpartition(": ")[2]
+    return [f"{path}:{number}:{column}: {reason}" for number, column in fault.places] or [line]
+
+
+def print_answer(checked: Checked, programs: Programs) -> None:
+    path, answer, refusal = checked.path, checked.answer, checked.refusal(programs)
     if answer.status == DONE:
         print(f"{path}: yes\n")
-        print_acceptance(explaining.datapath(design), answer.out)
-    elif answer.status == REFUSED and design:
-        print_refusal(path, explaining.refusal_of(programs.top, path, design, answer.out.splitlines(), full), full)
+        print_acceptance(explaining.datapath(checked.design), answer.out)
+    elif refusal:
+        print_refusal(path, refusal, checked.full)
     elif answer.status is None:
         print(f"{path}: no answer in ten minutes. docs/HCL.md says under Limits which files take so long.")
     else:
-        print_fault(programs, path, text, design, answer.err.strip())
+        print_fault(checked, programs)
+    note = explaining.unasked(checked.text, checked.full)
+    if answer.status in (DONE, REFUSED) and note:
+        print(f"\n{note}")
 
 
 def print_paragraph(text: str, first: str = "", rest: str = "") -> None:
@@ -75,14 +119,9 @@ def print_refusal(path: str, refusal: explaining.Refusal, full: bool) -> None:
             print_paragraph(sentence)
     print("\nWhat the file says there:\n")
     for fact in refusal.facts:
-        print(f"  {fact_line(fact)}")
+        print(f"  {fact}")
         print("\n".join(fact.definition), end="\n" if fact.definition else "")
     print(f"\n`./y86-lab witness {path}{' --full' if full else ''}` looks for a program that shows it.")
-
-
-def fact_line(fact: explaining.Fact) -> str:
-    value = f"{fact.name} is {fact.value}" if fact.value else f"{fact.name} can't be told here"
-    return f"{value}; {fact.wanted} is wanted" if fact.wanted else value
 
 
 def picture(boxes: Sequence[explaining.Box]) -> list[str]:
@@ -98,21 +137,24 @@ def picture(boxes: Sequence[explaining.Box]) -> list[str]:
     return [f"    {row.rstrip()}" for row in [*rows, edge]]
 
 
-def print_fault(programs: Programs, path: str, text: str, design: Optional[hcl.Design], line: str) -> None:
-    print(line or f"{path}: the check ended without an answer")
-    fault = explaining.fault_of(programs.top, design, line)
+def print_fault(checked: Checked, programs: Programs) -> None:
+    line, fault = checked.fault(programs)
+    print(line)
     for place in fault.places:
-        print_place(text, *place)
+        # (the first line may have the place already)
+        at = f"{checked.path}:{place[0]}:{place[1]}"
+        print_place("" if line.startswith(f"{at}:") else f"\n   --> {at}", checked.text, *place)
     if fault.meaning:
         print()
         print_paragraph(f"{fault.reason}: {fault.meaning}")
 
 
-def print_place(text: str, line: int, column: int) -> None:
+def print_place(head: str, text: str, line: int, column: int) -> None:
+    """Prints a line of a file with a mark below a column."""
     lines = text.split("\n")
     if 0 < line <= len(lines):
         shown = lines[line - 1].replace("\t", " ")
-        print(f"\n    {line:>4} | {shown}\n         | {' ' * (column - 1)}^")
+        print(f"{head}\n    {line:>4} | {shown}\n         | {' ' * (column - 1)}^")
 
 
 COMMAND = Command("explain", "checks a file, and says the answer in words", add_arguments, run)

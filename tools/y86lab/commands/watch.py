@@ -9,7 +9,7 @@ from typing import Optional
 
 from ..arguments import MOST, Command, add_full, number_to
 from ..calls import Programs, full_flag
-from ..errors import DONE, LabError
+from ..errors import DONE, UNREADABLE, LabError
 from . import explain
 
 SECONDS_BETWEEN = 0.2
@@ -18,6 +18,7 @@ CLEAR = "\x1b[2J\x1b[3J\x1b[H"
 
 def add_arguments(parser: argparse.ArgumentParser) -> None:
     parser.add_argument("file", metavar="FILE", help="an HCL file, or an assembly file (.ys)")
+    parser.add_argument("--places", action="store_true", help="the places alone, as explain --places prints them")
     parser.add_argument("--times", type=number_to(MOST), metavar="N", help="end after N answers")
     add_full(parser)
 
@@ -37,18 +38,20 @@ def run(arguments: argparse.Namespace, programs: Programs) -> int:
         # (an editor may take the file away for a moment)
         now = stamp(arguments.file)
         if now is None and not answers:
-            raise LabError(f"{arguments.file}: there is no such file")
+            raise LabError(f"{arguments.file}: No such file or directory", UNREADABLE)
         if now is None or now == last:
             time.sleep(SECONDS_BETWEEN)
             continue
         last = now
         if sys.stdout.isatty():
             print(CLEAR, end="")
+        # (editors go by this line and the last one)
+        print(f"-- {arguments.file} at {time.strftime('%H:%M:%S')}", flush=True)
         answer(arguments, programs)
         answers += 1
         if answers == arguments.times:
             return DONE
-        print(f"-- {time.strftime('%H:%M:%S')}, again at the next save; Ctrl-C ends it", flush=True)
+        print("-- again at the next save; Ctrl-C ends it", flush=True)
 
 
 def answer(arguments: argparse.Namespace, programs: Programs) -> None:

@@ -36,7 +36,7 @@ def offsets_of(design: Design, reason: str, name: str) -> list[int]:
     """The offsets in the text that a fault with this name is about."""
     defined: list[Declaration] = [each for each in design.definitions if each.name == name]
     if reason == "Unknown":
-        return [used.start for used in design.uses(name)[:1]]
+        return sorted([used.start for used in design.uses(name)] + [each.name_start for each in defined])[:1]
     if reason == "Twice":
         return [each.name_start for each in defined[:2]]
     if reason == "KindMismatch":

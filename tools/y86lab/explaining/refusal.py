@@ -31,12 +31,20 @@ class Box:
 
 @dataclass(frozen=True)
 class Fact:
-    """A signal in a situation: its value, the wanted one if it is another, its definition with what it depends on."""
+    """A signal in a situation: its value, the wanted one if it is another, its definition with what it depends on.
+
+    The line is that of the definition; 0 if the file has none.
+    """
 
     name: str
     value: str
     wanted: str
     definition: list[str]
+    line: int
+
+    def __str__(self) -> str:
+        value = f"{self.name} is {self.value}" if self.value else f"{self.name} can't be told here"
+        return f"{value}; {self.wanted} is wanted" if self.wanted else value
 
 
 @dataclass(frozen=True)
@@ -134,6 +142,7 @@ def facts_of(path: str, design: hcl.Design, rule: str, view: View, full: bool) -
                 "" if value is None else in_full(name, value),
                 "" if wanted is None or wanted == value else in_full(name, wanted),
                 definition_lines(path, design, name, view.now, told) if name in design.by_name else [],
+                design.line(design.by_name[name].start) if name in design.by_name else 0,
             )
         )
     return facts
