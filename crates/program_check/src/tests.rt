@@ -1,5 +1,5 @@
 //! A program that stores over the constant of an instruction some steps before it is fetched.
-ghost use Rattle.std.specs.Prelude.{◌≤◌};
+ghost use Rattle.std.specs.Prelude.{◌<◌};
 
 use crate::recent::NearFetch;
 use crate::watching::{Watched, watch};
@@ -9,7 +9,7 @@ use y86_base::{Image, ImageFault, Variant};
 
 /// irmovq target, %rbx; irmovq $2, %rcx; rmmovq %rcx, 2(%rbx); nops; target: irmovq $1, %rax; halt
 fn storing(alloc: Global, nops: u64) -> Result<Image, ImageFault>
-    requires { nops ≤ 16 }
+    requires { nops < 100 }
 {
     let mut image = Image::new(alloc, 64)?;
     let target = 30 + nops;
