@@ -1,5 +1,5 @@
 //! Theorems about designs. Each is a function that does nothing and whose contract is the theorem.
-ghost use Rattle.std.specs.Prelude.{◌≡◌, ℕ, List};
+ghost use Rattle.std.specs.Prelude.{◌≡◌, ◌⊎◌, ℕ, List};
 ghost use Rattle.hcl_read.specs.Print.{printed};
 ghost use Rattle.hcl_read.specs.Read.{ReadsAs};
 ghost use Rattle.hcl_read.specs.declared.tree.File.{File};
@@ -22,8 +22,11 @@ pub fn law_of_cycles()
     ensures { (needs : ℕ → List ℕ) (a b : List ℕ) → FirstCycle needs a → FirstCycle needs b → a ≡ b }
 {}
 
-/// A design with an order has one list of atoms at most, or one reason why it has none.
+/// A design with an order has one list of atoms, or one reason why it has none: a first definition that mixes codes with
+/// words, or over 64 atoms.
 pub fn law_of_atoms()
+    ensures some { (rows : List Row) (terms : List Term) (ids : List ℕ) → IsOrderOf rows terms ids →
+        ((a : List Atom) × AreAtoms rows terms a) ⊎ (((n : ℕ) × IsFirstMixed rows terms n) ⊎ IsOver64 rows terms) }
     ensures one { (rows : List Row) (terms : List Term) (ids : List ℕ) → IsOrderOf rows terms ids → (a b : List Atom) → AreAtoms rows terms a → AreAtoms rows terms b → a ≡ b }
     ensures mixed { (rows : List Row) (terms : List Term) (m n : ℕ) → IsFirstMixed rows terms m → IsFirstMixed rows terms n → m ≡ n }
     ensures mixed_or_atoms { (rows : List Row) (terms : List Term) (n : ℕ) (a : List Atom) → IsFirstMixed rows terms n → AreAtoms rows terms a → ⊥ }

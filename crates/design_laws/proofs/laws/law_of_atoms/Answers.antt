@@ -1,5 +1,8 @@
-use Rattle.design_laws.proofs.Atoms.{mixed_has_no_atoms, mixed_is_not_over, one_list, one_mixed, over_has_no_atoms}
+use Rattle.design_laws.proofs.Atoms.{atoms_or_reason, mixed_has_no_atoms, mixed_is_not_over, one_list, one_mixed, over_has_no_atoms}
 use Rattle.design_laws.proofs.laws.law_of_atoms.Goals as goal
+
+pub returns-clause-some : goal.returns-clause-some
+returns-clause-some c = λ rows terms ids o. atoms_or_reason rows terms ids o
 
 pub returns-clause-one : goal.returns-clause-one
 returns-clause-one c = λ rows terms ids o a b h k. one_list rows terms ids o a b h k
