@@ -1,4 +1,4 @@
-"""Proves the crates that a program stands on, and builds it."""
+"""Proves the crates that programs stand on, and builds the programs."""
 import os
 import re
 import shutil
@@ -11,19 +11,20 @@ import time
 OF_A_JOB = 2_000_000_000
 # A line comes at least so often, in seconds.
 SILENT_FOR = 60
-FAILED = re.compile(r"^(logic=not-proved|rattle build: nothing was built|rt: the library )", re.M)
+# A crate that is proved alone, by fewer jobs than there are, begins again with all of them after so many seconds, over what it kept.
+ALONE_FOR = 20
 
 
 class Stopped(Exception):
-    """Why the program isn't built."""
+    """Why the programs aren't built."""
 
 
 def tell(text):
     print(f"y86: {text}", file=sys.stderr, flush=True)
 
 
-def crates_of(here, program):
-    """Returns the program's crate and those that it stands on, each with those right below it, lowest first."""
+def crates_of(here, programs):
+    """Returns the crates of the programs and those that they stand on, each with those right below it, lowest first."""
     listed = {}
     with open(f"{here}/crates.txt", encoding="utf-8") as file:
         for line in file:
@@ -39,7 +40,8 @@ def crates_of(here, program):
                 add(it)
         found[name] = below
 
-    add(program)
+    for program in programs:
+        add(program)
     return found
 
 
@@ -63,20 +65,60 @@ def jobs_at_once():
     return max(number, 1)
 
 
-class Proof:
-    """A run of the prover over the crates of a program. Several crates are proved at once, one job each; once those that are left have to wait for one
-    another, each gets all jobs, over what it kept."""
+class Run:
+    """A run of the prover over one crate. What it says goes to the file `build.log` of the crate's folder `out/`."""
 
-    def __init__(self, here, program):
-        self.here, self.program = here, program
-        self.crates = crates_of(here, program)
-        self.jobs = jobs_at_once()
-        self.out = f"{here}/crates/{program}/out"
+    def __init__(self, here, crate, verb, jobs):
+        self.crate, self.verb, self.jobs = crate, verb, jobs
+        self.out = f"{here}/crates/{crate}/out"
+        os.makedirs(self.out, exist_ok=True)
         # (two calls may prove at once)
         self.log = f"{self.out}/build.log.{os.getpid()}"
-        self.proved, self.failed = [], []
-        self.command = None
+        with open(self.log, "wb") as log:
+            how = {"cwd": f"{here}/crates/{crate}", "stdin": subprocess.DEVNULL, "stdout": log, "stderr": subprocess.STDOUT}
+            self.command = subprocess.Popen(["rt", verb, "--jobs", str(jobs)], **how)
+        self.start = time.monotonic()
+
+    def is_running(self):
+        return self.command.poll() is None
+
+    def said(self):
+        with open(self.log, encoding="utf-8", errors="replace") as it:
+            return it.read()
+
+    def so_far(self):
+        """Returns the crate, and how much of it is checked where the prover said it last."""
+        found = re.search(r"^so far: (\d+ of \d+ functions)[^\n]*\n\Z", self.said(), re.M)
+        return f"{self.crate} ({found[1]})" if found else self.crate
+
+    def has_proved(self):
+        # (a program is run with no words, which has a status of its own)
+        return bool(re.search(r"^rt: running ", self.said(), re.M)) if self.verb == "run" else self.command.returncode == 0
+
+    def end(self):
+        if self.is_running():
+            self.command.terminate()
+        self.command.wait()
+        os.replace(self.log, f"{self.out}/build.log")
+
+
+class Proof:
+    """The proof of all crates that programs stand on. As many crates are proved at once as there are jobs, those that most others wait for first."""
+
+    def __init__(self, here, programs):
+        self.here, self.programs = here, programs
+        self.crates = crates_of(here, programs)
+        self.heights = self.heights_of()
+        self.jobs = jobs_at_once()
+        self.proved, self.runs = [], []
         self.start = self.told = time.monotonic()
+
+    def heights_of(self):
+        """Returns for each crate how many crates have to be proved one after another from it on."""
+        heights = {}
+        for name in reversed(self.crates):
+            heights[name] = 1 + max((heights[upper] for upper, below in self.crates.items() if name in below), default=0)
+        return heights
 
     def since(self):
         seconds = int(time.monotonic() - self.start)
@@ -87,119 +129,62 @@ class Proof:
         tell(text)
 
     def ready(self):
-        """Returns the crates that can be proved now."""
-        through = {*self.proved, *self.failed}
-        return [name for name, below in self.crates.items() if name not in through and all(it in self.proved for it in below)]
+        """Returns the crates that can be begun now, those that most wait for first."""
+        begun = {*self.proved, *(run.crate for run in self.runs)}
+        found = [name for name, below in self.crates.items() if name not in begun and all(it in self.proved for it in below)]
+        return sorted(found, key=lambda name: -self.heights[name])
 
-    def is_a_row(self):
-        """Whether the crates that are left can only be proved one behind the other."""
-        left = [name for name in self.crates if name not in self.proved]
-        if self.jobs == 1:
-            return left == [self.program]
-        # (they are listed lowest first)
-        return all(lower in self.crates[upper] for lower, upper in zip(left, left[1:]))
-
-    def begin(self, crate, *words):
-        """Starts rt in the folder of a crate."""
-        with open(self.log, "ab") as log:
-            how = {"cwd": f"{self.here}/crates/{crate}", "stdin": subprocess.DEVNULL, "stdout": log, "stderr": subprocess.STDOUT}
-            self.command = subprocess.Popen(["rt", *words], **how)
-
-    def is_running(self):
-        """Waits a moment, and returns whether the command goes on."""
-        try:
-            self.command.wait(timeout=0.5)
-            return False
-        except subprocess.TimeoutExpired:
-            if time.monotonic() - self.told >= SILENT_FOR:
-                at = f"{', '.join(self.ready()[: self.jobs])}{self.so_far()}"
-                self.tell(f"at {at}; {len(self.proved)} of {len(self.crates)} are proved, after {self.since()}")
-            return True
-
-    def so_far(self):
-        """Returns how much of a crate is checked, where the prover said it last."""
-        with open(self.log, "rb") as it:
-            it.seek(max(os.path.getsize(self.log) - 200, 0))
-            found = re.search(rb"^so far: (\d+ of \d+ functions)[^\n]*\n\Z", it.read(), re.M)
-        return f" ({found[1].decode()})" if found else ""
-
-    def end(self):
-        if self.command and self.command.poll() is None:
-            self.command.terminate()
-            self.command.wait()
-
-    def has_proved(self, crate):
-        self.proved.append(crate)
-        self.tell(f"{crate} is proved, {len(self.proved)} of {len(self.crates)}, after {self.since()}")
-
-    def read(self, start):
-        """Reads what a run over several crates has written behind a place of the log: of each crate, once it is through, a heading and lines."""
-        with open(self.log, encoding="utf-8", errors="replace") as it:
-            it.seek(start)
-            parts = re.split(r"^== (\w+)\n", it.read(), flags=re.M)
-        for crate, said in zip(parts[1::2], parts[2::2]):
-            if crate in self.crates and crate not in self.proved and crate not in self.failed:
-                if FAILED.search(said):
-                    self.failed.append(crate)
-                    self.keep(crate, said)
-                elif crate != self.program:
-                    self.has_proved(crate)
-
-    def keep(self, crate, said):
-        """Tells that a crate has no proof, and keeps what the prover said of it."""
-        path = f"{self.here}/crates/{crate}/out/build.log"
-        os.makedirs(os.path.dirname(path), exist_ok=True)
-        with open(path, "w", encoding="utf-8") as it:
-            it.write(said)
-        self.tell(f"no proof of {crate}; {path} says why")
-
-    def prove_side_by_side(self):
-        """Proves crates at once, until a row of them is left."""
-        start = os.path.getsize(self.log)
-        self.begin(self.program, "all", "check", "--jobs", str(self.jobs))
-        while self.is_running():
-            self.read(start)
-            if self.is_a_row() and not self.failed:
-                self.end()
-                return
-        self.read(start)
-        if self.failed or self.command.returncode:
-            raise Stopped("" if self.failed else "the proof broke off")
-
-    def prove_alone(self, crate):
-        """Proves one crate, or the program, which is built then."""
-        if crate == self.program:
+    def begin(self, crate, jobs):
+        is_program = crate in self.programs
+        if is_program:
             # (a program that is half written isn't taken for one that is built)
-            with open(f"{self.out}/building", "w", encoding="utf-8"):
+            os.makedirs(f"{self.here}/crates/{crate}/out", exist_ok=True)
+            with open(f"{self.here}/crates/{crate}/out/building", "w", encoding="utf-8"):
                 pass
-        start = os.path.getsize(self.log)
-        self.begin(crate, "run" if crate == self.program else "lib", "--jobs", str(self.jobs))
-        while self.is_running():
-            pass
-        with open(self.log, encoding="utf-8", errors="replace") as it:
-            it.seek(start)
-            said = it.read()
-        # (the program is run with no words, which has a status of its own)
-        if crate == self.program and re.search(r"^rt: running ", said, re.M) or crate != self.program and not self.command.returncode:
-            self.has_proved(crate)
-        else:
-            self.failed.append(crate)
-            self.keep(crate, said)
-            raise Stopped("")
+        self.runs.append(Run(self.here, crate, "run" if is_program else "lib", jobs))
+
+    def begin_ready(self):
+        """Begins as many crates as there are jobs; the jobs are shared among them."""
+        ready = self.ready()
+        while ready and (free := self.jobs - sum(run.jobs for run in self.runs)) > 0:
+            self.begin(ready.pop(0), max(free // (len(ready) + 1), 1))
+
+    def begin_again(self):
+        """Has a crate that is proved alone begin again with all jobs."""
+        if len(self.runs) == 1 and self.runs[0].jobs < self.jobs and time.monotonic() - self.runs[0].start >= ALONE_FOR:
+            run = self.runs.pop()
+            run.end()
+            self.begin(run.crate, self.jobs)
+
+    def note_ended(self):
+        """Notes the crates whose run has ended, and stops where one has no proof."""
+        for run in [it for it in self.runs if not it.is_running()]:
+            self.runs.remove(run)
+            run.end_is_proved = run.has_proved()
+            run.end()
+            if not run.end_is_proved:
+                raise Stopped(f"no proof of {run.crate}; {run.out}/build.log says why")
+            self.proved.append(run.crate)
+            self.tell(f"{run.crate} is proved, {len(self.proved)} of {len(self.crates)}, after {self.since()}")
+
+    def now(self):
+        return ", ".join(run.so_far() for run in self.runs)
 
     def run(self):
-        os.makedirs(self.out, exist_ok=True)
-        with open(self.log, "w", encoding="utf-8"):
-            pass
-        self.tell(f"proving {len(self.crates)} crates, {self.jobs} at once, behind a quick look at all of them; from nothing that takes half an hour to an hour on four processors")
+        self.tell(f"proving {len(self.crates)} crates, {self.jobs} jobs at once; from nothing that takes half an hour to an hour on four processors")
         try:
-            if not self.is_a_row():
-                self.prove_side_by_side()
-            while ready := self.ready():
-                self.prove_alone(ready[0])
+            while len(self.proved) < len(self.crates):
+                self.begin_ready()
+                time.sleep(0.1)
+                self.note_ended()
+                if not self.ready():
+                    self.begin_again()
+                if time.monotonic() - self.told >= SILENT_FOR:
+                    self.tell(f"at {self.now()}; {len(self.proved)} of {len(self.crates)} are proved, after {self.since()}")
         finally:
-            self.end()
-            os.replace(self.log, f"{self.out}/build.log")
+            self.at_end = ", ".join(run.crate for run in self.runs)
+            for run in self.runs:
+                run.end()
 
 
 def sources(here, program, *words):
@@ -212,33 +197,45 @@ def broken_off(number, _):
     raise KeyboardInterrupt(number)
 
 
-def build(here, program):
-    """Proves what isn't, and builds the program. Returns the status to end with."""
-    if sources(here, program, "is_current")[0] == 0:
-        tell("the program is built, and no source has changed since")
+def are_built(programs):
+    names = [it.replace("_", "-") for it in programs]
+    return f"{names[0]} is built" if len(names) == 1 else f"{', '.join(names[:-1])} and {names[-1]} are built"
+
+
+def mark(here, program, sum_before):
+    """Notes that a program is built, from which sources and by which toolchain."""
+    out = f"{here}/crates/{program}/out"
+    sources(here, program, "mark", sum_before)
+    with open(f"{out}/toolchain", "w", encoding="utf-8") as it:
+        subprocess.run(["rt", "version"], stdout=it, check=False)
+    os.remove(f"{out}/building")
+
+
+def build(here, programs):
+    """Proves what isn't proved, and builds the programs. Returns the status to end with."""
+    wanted = [it for it in programs if sources(here, it, "is_current")[0]]
+    if not wanted:
+        tell(f"{are_built(programs)}, and no source has changed since")
         return 0
     if not shutil.which("rt"):
         tell("the toolchain's command rt isn't on the PATH")
         return 127
     for number in (signal.SIGHUP, signal.SIGINT, signal.SIGTERM):
         signal.signal(number, broken_off)
-    _, sum_before = sources(here, program, "sum")
-    proof = Proof(here, program)
+    sums = {it: sources(here, it, "sum")[1] for it in wanted}
+    proof = Proof(here, wanted)
     try:
         proof.run()
     except KeyboardInterrupt:
-        tell(f"broken off after {proof.since()}, in {', '.join(proof.ready()[: proof.jobs])}; what was proved is kept")
+        tell(f"broken off after {proof.since()}, in {proof.at_end}; what was proved is kept")
         return 130
     except Stopped as why:
-        if str(why):
-            tell(f"{why}; {proof.out}/build.log says more")
+        tell(str(why))
         return 1
-    if sources(here, program, "sum")[1] != sum_before:
+    if any(sources(here, it, "sum")[1] != sums[it] for it in wanted):
         tell("sources changed during the proof: run this again")
         return 1
-    sources(here, program, "mark", sum_before)
-    with open(f"{proof.out}/toolchain", "w", encoding="utf-8") as it:
-        subprocess.run(["rt", "version"], stdout=it, check=False)
-    os.remove(f"{proof.out}/building")
-    tell(f"the program is built, after {proof.since()}: {here}/crates/{program}/out/{program}")
+    for it in wanted:
+        mark(here, it, sums[it])
+    tell(f"{are_built(wanted)}, after {proof.since()}")
     return 0
