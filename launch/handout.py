@@ -105,7 +105,7 @@ def readme(here, programs, built, files):
         calls="".join(CALLS.get(name, "") for name in built),
         more=more,
         proved=what_is_proved(here),
-        crates=len({crate for program in programs for crate in crates_of(here, program)}),
+        crates=len(crates_of(here, programs)),
         date=time.strftime("%Y-%m-%d", time.gmtime(max(os.stat(it).st_mtime for it in built.values()))),
         toolchain=f" by the toolchain `{toolchain}`" if toolchain else "",
         commit=commit_of(here),

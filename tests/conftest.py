@@ -4,6 +4,7 @@ import tempfile
 
 import pytest
 
+from helpers.browser import Browser, command
 from helpers.paths import TOP
 from helpers.programs import PROGRAMS, NoProgram, Program, program_path
 
@@ -58,3 +59,20 @@ def y86_tell(programs, folder):
 def usage():
     """The answer to an invalid command line."""
     return 2, "", "usage: y86 yas|yis|hcl|ssim|psim|check|sample|big|recheck|ssimp|aig|aigrun\n"
+
+
+@pytest.fixture(scope="session")
+def one_browser():
+    if not command():
+        pytest.skip("no browser is here: install chromium")
+    with Browser() as page:
+        yield page
+
+
+@pytest.fixture
+def browser(one_browser):
+    """A headless Chromium with one page, 1280 by 900, light. A test that uses it fails where a script of the page failed."""
+    one_browser.size(1280, 900)
+    one_browser.errors.clear()
+    yield one_browser
+    assert one_browser.errors == []

@@ -1,0 +1,453 @@
+"""`y86-lab` and `y86-recheck` with wrong arguments and wrong files: they print what is wrong and where, and never a traceback.
+
+The pages have what they print of good files (docs/LAB.md, docs/TUTORIAL.md).
+"""
+import os
+import re
+import shutil
+
+import pytest
+
+from helpers.cases import cases, same
+from helpers.designs import changed, design
+from helpers.paths import EXAMPLES, TOP
+from helpers.programs import Program, put
+
+HINT = "`./y86-lab witness mine.hcl` looks for a program that shows it."
+IADDQ = "`iaddq` wasn't asked: `--full` asks it too."
+DEEP = b"bool set_cc = " + b"(" * 30000 + b"1" + b")" * 30000 + b";\n"
+UNPAIRED = b"bool F_bubble = 0\n\n# F waits\nbool F_stall = 1;\n"
+
+
+def read(name):
+    """A file of examples/."""
+    with open(f"{EXAMPLES}/{name}", "rb") as it:
+        return it.read()
+
+
+def std(**bodies):
+    return changed(design("std"), **bodies)
+
+
+@pytest.fixture
+def lab(folder, programs):
+    """`y86-lab`, called in the test's folder."""
+    program = Program(f"{TOP}/y86-lab", folder)
+    environment = {**os.environ, "Y86": programs("y86")}
+
+    def call(*words, files=None, **more):
+        return program(*words, files=files, env={**environment, **more})
+
+    return call
+
+
+@pytest.fixture
+def explain(lab):
+    """The status of `explain` of a file, the lines that it prints, and what comes on standard error."""
+
+    def call(text, *flags):
+        status, out, err = lab("explain", "mine.hcl", *flags, files={"mine.hcl": text})
+        return status, out.decode().splitlines(), err
+
+    return call
+
+
+@pytest.fixture
+def shown(explain):
+    """What `explain` shows of std.hcl with other definitions: the lines behind "What the file says there"."""
+
+    def call(**bodies):
+        lines = explain(std(**bodies))[1]
+        return lines[lines.index("What the file says there:") + 2 :] if "What the file says there:" in lines else lines
+
+    return call
+
+
+# ---- what `explain` shows below a no
+
+WITHOUT_FLAGS = changed(design("with_iaddq"), set_cc="0")
+
+
+def test_the_hint_has_full(explain):
+    same(explain(WITHOUT_FLAGS, "--full")[1][-1], HINT.replace("mine.hcl", "mine.hcl --full"))
+
+
+def test_iaddq_is_not_asked_in_a_no(explain):
+    same(explain(WITHOUT_FLAGS)[1][-3:], [HINT, "", IADDQ])
+
+
+def test_iaddq_is_not_asked_in_a_yes(explain):
+    status, lines, _ = explain(design("with_iaddq"))
+    same((status, lines[-1]), (0, IADDQ))
+
+
+def test_iaddq_in_a_comment(explain):
+    same(IADDQ in explain("# IIADDQ\n" + design("std"))[1], False)
+
+
+M_STALL = ["  M_stall is 0", "    mine.hcl:136: bool M_stall = 0;", "  M_bubble is 0"]
+HALT_ALONE = "m_stat in { SHLT } || W_stat in { SHLT }"
+F_STALL = ["  F_stall is 0", "    mine.hcl:117: bool F_stall = 0;", "  D_stall is 1"]
+F_STALL += ["    mine.hcl:120: bool D_stall = E_icode in { IMRMOVQ, IPOPQ } && E_dstM in { d_srcA, d_srcB };"]
+F_STALL += ["      where d_srcA is %rax (mine.hcl:34)", "  D_bubble is 0"]
+SET_CC = ["  set_cc is 1; 0 is wanted", "    mine.hcl:71: bool set_cc = E_icode == IOPQ && !m_stat in { SADR, SINS, SHLT } && !W_stat in {"]
+SET_CC += ["        SADR, SINS, SHLT };", "      where m_stat is SAOK (mine.hcl:92)", "", HINT]
+WITHOUT_RET = "f_icode in { INOP, IHALT, IRRMOVQ, IIRMOVQ, IRMMOVQ, IMRMOVQ,\n IOPQ, IJXX, ICALL, IPUSHQ, IPOPQ }"
+F_STAT = ["  f_stat is SINS (4); SAOK (1) is wanted", "    mine.hcl:20: word f_stat = [", "         imem_error : SADR;", "      => !instr_valid : SINS;"]
+F_STAT += ["         f_icode == IHALT : SHLT;", "         1 : SAOK;", "         ];"]
+F_STAT += ["      where instr_valid is 0 (mine.hcl:16), f_icode is IRET (mine.hcl:10)", "", HINT]
+# The changed definition of std.hcl, the lines that are compared, and these.
+SHOWN_LINES = [
+    ("M isn't bubbled", {"M_bubble": "0"}, slice(-6, None), [*M_STALL, "    mine.hcl:139: bool M_bubble = 0;", "", HINT]),
+    ("M is bubbled for a halt alone", {"M_bubble": HALT_ALONE}, slice(-7, None),
+        [*M_STALL, f"    mine.hcl:139: bool M_bubble = {HALT_ALONE};", "      where m_stat is SADR (mine.hcl:92)", "", HINT]),
+    ("F isn't stalled: each signal once", {"F_stall": "0"}, slice(6, 12), F_STALL),
+    ("D isn't stalled", {"D_stall": "0"}, slice(3), ["  D_stall is 0", "    mine.hcl:121: bool D_stall = 0;", "  D_bubble is 0"]),
+    # the signals behind `where`: those of the guards up to the case that is taken
+    ("m_stat without dmem_error", {"m_stat": "M_stat"}, slice(None), SET_CC),
+    ("e_dstE without the condition", {"e_dstE": "E_dstE"}, slice(-4, None),
+        ["         ];", "      where d_srcA is %rax (mine.hcl:34), e_dstE is %rax (mine.hcl:77)", "", HINT]),
+    ("no ret is valid", {"instr_valid": WITHOUT_RET}, slice(None), F_STAT),
+]
+
+
+@cases(SHOWN_LINES)
+def test_shown(row, shown):
+    _, bodies, lines, wanted = row
+    same(shown(**bodies)[lines], wanted)
+
+
+def test_the_page_of_a_no(lab):
+    same(lab("page", "mine.hcl", "-o", "no.html", files={"mine.hcl": std(m_stat="M_stat")}), (0, b"no.html: no, O15 doesn't hold\n", b""))
+
+
+def test_the_values_on_the_page_of_a_no(lab, folder):
+    lab("page", "mine.hcl", "-o", "no.html", files={"mine.hcl": std(m_stat="M_stat")})
+    with open(f"{folder}/no.html", encoding="utf-8") as it:
+        same("where m_stat is SAOK (mine.hcl:92)" in it.read(), True)
+
+
+# ---- files with a fault
+
+def towering():
+    """std.hcl with Booleans of which each stands on the next one, below 62 `!`."""
+    text = design("std")
+    names = "D_stall E_bubble set_cc mem_read mem_write F_stall F_bubble D_bubble E_stall M_stall M_bubble W_stall W_bubble need_valC need_regids".split()
+    for name, below in zip([*names, "instr_valid"], [*names[1:], "instr_valid", "imem_error"]):
+        text = changed(text, **{name: "!" * 62 + f"(0 || {below})"})
+    return text
+
+
+def test_30000_brackets_explained(lab):
+    status, out, err = lab("explain", "deep.hcl", files={"deep.hcl": DEEP})
+    same((status, out.split(b"\n")[0], err), (5, b"deep.hcl:1:79: DepthOver64", b""))
+
+
+@pytest.mark.parametrize("command", ("witness", "page"))
+def test_30000_brackets(command, lab):
+    same(lab(command, "deep.hcl", files={"deep.hcl": DEEP}), (5, b"", b"deep.hcl:1:79: DepthOver64\n"))
+
+
+def test_definitions_as_a_tower(explain):
+    status, _, err = explain(towering())
+    same((status, err), (1, b""))
+
+
+def test_5000_digits(explain):
+    same(explain(f"word aluA = {'1' * 5000};\n")[1][0], "mine.hcl:1:13: NumberTooWide")
+
+
+def test_an_empty_file(explain):
+    lines = ["mine.hcl: Missing f_pc", "", "Missing: the signal isn't defined; where several are missing, the first in the order of the tables"]
+    same(explain(""), (5, lines, b""))
+
+
+def test_no_such_character_in_the_locale(lab):
+    text = "bool F_stall = \u201c0;\n"
+    status, out, err = lab("explain", "mine.hcl", files={"mine.hcl": text}, PYTHONCOERCECLOCALE="0", LC_ALL="C", PYTHONUTF8="0")
+    lines = [b"mine.hcl:1:16: BadByte", b"", b"       1 | bool F_stall = ?0;", b"         |                ^"]
+    same((status, out.splitlines()[:4], err), (5, lines, b""))
+
+
+def test_a_name_that_is_no_text(lab, usage):
+    same(lab("explain", "\udce9.hcl", files={"\udce9.hcl": ""}).text(), (2, usage[2], ""))
+
+
+MANY = "D_valC == 0" + "".join(f" || D_valC == {it}" for it in range(1, 65))
+WRONG = ["mine.hcl: KindMismatch F_bubble", "", "       1 | word F_bubble = 0;", "         |      ^"]
+WRONG += ["", "       2 | boolsig F_bubble 'F'", "         |         ^"]
+FIRST_LINES = [
+    ("65 comparisons", std(F_bubble=MANY),
+        ["mine.hcl: AtomsOver64", "", "AtomsOver64: the definitions compare more than 64 different pairs of words, too many for `check`,"]),
+    ("a wrong declaration", "wordsig M_Cnd 'M'\n" + design("std"), ["mine.hcl: KindMismatch M_Cnd", "", "       1 | wordsig M_Cnd 'M'", "         |         ^"]),
+    ("a wrong definition", "word F_bubble = 0;\nboolsig F_bubble 'F'\n", WRONG),
+]
+
+
+@cases(FIRST_LINES)
+def test_first_lines(row, explain):
+    _, text, wanted = row
+    same(explain(text)[1][: len(wanted)], wanted)
+
+
+def test_a_file_that_is_too_long(explain):
+    same(explain("#" * 65537), (7, ["mine.hcl: TooLong 65536", "", "TooLong: the file has more than 65,536 bytes; the status is 7"], b""))
+
+
+# ---- `swap` over files with a fault, and behind a last line without a line feed
+
+SWAPPED = {"good.hcl": b"bool F_bubble = 0;\n# the end", "bad.hcl": UNPAIRED, "new.hcl": b"bool F_stall = 1;", "deep.hcl": DEEP}
+SWAPPED["twice.hcl"] = b"bool F_stall = 1;\nbool F_stall = 0;\n"
+SWAPS = [
+    ("good.hcl new.hcl", 0, b"bool F_bubble = 0;\n# the end\nbool F_stall = 1;\n", b""),
+    ("good.hcl bad.hcl", 5, b"", b"bad.hcl:4:1: Syntax\n"),
+    ("bad.hcl new.hcl", 5, b"", b"bad.hcl:4:1: Syntax\n"),
+    ("good.hcl twice.hcl", 5, b"", b"twice.hcl: Twice F_stall\n"),
+    ("good.hcl deep.hcl", 5, b"", b"deep.hcl:1:79: DepthOver64\n"),
+    ("good.hcl none.hcl", 3, b"", b"none.hcl: No such file or directory\n"),
+]
+
+
+@cases(SWAPS)
+def test_swap(row, lab):
+    words, *wanted = row
+    same(lab("swap", *words.split(), files=SWAPPED), tuple(wanted))
+
+
+# ---- `page` of files that have none, and the usage of each command
+
+ALONE = "the page of a run is there for PIPE alone"
+NO_PAGE = [
+    ("page seq.hcl", f"seq.hcl: yes, so there is no situation to draw; {ALONE}"),
+    ("page std.hcl", "std.hcl: yes, so there is no situation to draw; with an object file the page shows its run"),
+    ("page seq.hcl a.yo", f"seq.hcl: {ALONE}, and this file is one for SEQ"),
+    ("page seq_plus.hcl a.yo", f"seq_plus.hcl: {ALONE}, and this file is one for SEQ+"),
+]
+
+
+@cases(NO_PAGE)
+def test_no_page(row, lab):
+    words, wanted = row
+    same(lab(*words.split(), files={f"{it}.hcl": design(it) for it in ("seq", "seq_plus", "std")}), (1, b"", f"{wanted}\n".encode()))
+
+
+@pytest.mark.parametrize("words", ("explain --help", "explain mine.hcl -h", "page --help", "swap --help", "witness --help"))
+def test_help(words, lab):
+    line = f"usage: y86-lab {words.split()[0]} [-h]".encode()
+    status, out, err = lab(*words.split())
+    same((status, out[: len(line)], err), (0, line, b""))
+
+
+def test_help_of_y86_lab(lab):
+    status, out, err = lab("--help")
+    same((status, out.split(b"\n")[0], err), (0, b"usage: y86-lab COMMAND ..", b""))
+
+
+def test_y86_lab_without_arguments(lab):
+    same(lab(), (2, *lab("--help")[1:]))
+
+
+def test_a_misspelt_command(lab):
+    said = b"usage: y86-lab COMMAND ..\ny86-lab: error: there is no command `explian`; did you mean `explain`?\n"
+    same(lab("explian", "std.hcl"), (2, b"", said))
+
+
+# ---- `witness`, `archlab`, `class`, `cycles` and `y86-recheck`
+
+YES = b"yes pt=1111111 pb=1111111 tv=0 lf=0 je=0 rm=0\n"
+USAGE_WITNESS = b"usage: y86-lab witness [-h] [--full] [-o FILE] [--tries N] [--seconds N] [--seed N] HCL\ny86-lab witness: error: "
+# The words, the status and both streams.
+WITNESS = [
+    (("witness", "flags.hcl"), 0, b"flags.hcl: " + YES + b"So no program without `iaddq` shows a mistake: this file is right for every one.\n"
+        b"`iaddq` wasn't asked: `--full` asks it too.\n", b""),
+    (("witness", "stall_and_bubble.hcl", "--tries", "1"), 1, b"stall_and_bubble.hcl: no O23\nTrying up to 1 programs until one shows it, for at most 60 s.\n"
+        b"None of 1 programs shows the mistake. The rule is broken all the same: a program that shows it may be rare,\n"
+        b"or there is none, for a No promises that the rule fails in the situation that it shows, and no more.\n", b""),
+    (("witness", "stall_and_bubble.hcl", "--tries", "0"), 2, b"", USAGE_WITNESS + b"argument --tries: 0: a number from 1 to 1000000 is wanted\n"),
+    (("witness", "stall_and_bubble.hcl", "--tries", "9" * 20), 2, b"",
+        USAGE_WITNESS + b"argument --tries: 99999999999999999999: a number from 1 to 1000000 is wanted\n"),
+]
+USAGE_CYCLES = b"usage: y86-lab cycles [-h] [--sum] [--full] [--mem N] [--limit N] HCL OBJ\ny86-lab cycles: error: "
+CYCLES = [
+    (("cycles", "std.hcl", "add.yo", "--limit", "7"), 0, b"cycle  waits  instruction\n"
+        b"    5     +4  0x000: irmovq $10, %rdx         filling the pipeline\n"
+        b"    6         0x00a: irmovq $3, %rax\n"
+        b"    7         0x014: addq %rdx, %rax\n\n"
+        b"where the cycles went:\n      3  an instruction each\n      4  filling the pipeline\n"
+        b"      7  cycles for 3 instructions, cut off at the limit: 2.33 cycles per instruction\n", b""),
+    (("cycles", "seq_plus.hcl", "add.yo", "--limit", "2"), 0,
+        b"2 cycles for 2 instructions, cut off at the limit: a sequential processor takes one cycle for each\n", b""),
+    # (its last byte is at 0x16)
+    (("cycles", "std.hcl", "add.yo", "--mem", "64", "--limit", "100000000", "--sum"), 0, b"where the cycles went:\n      4  an instruction each\n"
+        b"      4  filling the pipeline\n      8  cycles for 4 instructions, to the end with HLT: 2.00 cycles per instruction\n", b""),
+    (("cycles", "std.hcl", "add.yo", "--limit", "0"), 2, b"", USAGE_CYCLES + b"argument --limit: 0: a number from 1 to 100000000 is wanted\n"),
+    (("cycles", "std.hcl", "add.yo", "--mem", "12"), 2, b"",
+        USAGE_CYCLES + b"argument --mem: 12: a multiple of 8 from 64 to 1048576 is wanted\n"),
+    (("cycles", "std.hcl", "nofile.yo"), 3, b"", b"read fault nofile.yo\n"),
+]
+USAGE_CLASS = b"usage: y86-lab class [-h] [--jobs N] [--seconds N] [--megabytes N] [--no-head] [--full]\n                     FOLDER [FOLDER ...]\n"
+USAGE_CLASS += b"y86-lab class: error: "
+CLASS = [
+    (("class", "nodir"), 2, b"", b"nodir: no such folder or file\n"),
+    (("class", "std.hcl", "--jobs", "0"), 2, b"", USAGE_CLASS + b"argument --jobs: 0: a number from 1 to 1000000 is wanted\n"),
+    (("class", "std.hcl", "--seconds", "9" * 20), 2, b"",
+        USAGE_CLASS + b"argument --seconds: 99999999999999999999: a number from 1 to 1000000 is wanted\n"),
+]
+# The input is x, and each of the 27 outputs is "x and not x".
+AIG = b"aag 2 1 0 27 1\n2\n" + b"4\n" * 27 + b"4 2 3\n"
+RIGHT = b"right: 4 terms, 6 claims, 4 gates"
+SHOWN = b"; all 27 outputs are 0 at every input\n"
+
+
+def with_text(name, text, status, out, err):
+    """A row of `y86-recheck` with the small certificate and another AIGER file."""
+    return [(name, text)], ("tiny.crt", name), status, out, err
+
+
+TINY = read("certificates/tiny.crt")
+# The files, the words, the status and both streams.
+RECHECK = [
+    ([], ("nofile",), 5, b"", b"nofile: No such file or directory\n"),
+    ([], (".",), 5, b"", b".: Is a directory\n"),
+    ([("empty.crt", b"")], ("empty.crt",), 5, b"", b"empty.crt:1: Syntax\n"),
+    ([], ("tiny.crt",), 0, RIGHT + b"\n", b""),
+    ([("x.aag", AIG)], ("tiny.crt", "x.aag"), 0, RIGHT + SHOWN, b""),
+    # (it doesn't know the settings, so it prints none)
+    ([("tv.crt", TINY.replace(b"tv=0", b"tv=1"))], ("tv.crt", "x.aag"), 0, RIGHT + SHOWN, b""),
+    ([], ("nofile", "x.aag"), 5, b"", b"nofile: No such file or directory\n"),
+    ([], ("tiny.crt", "std.hcl"), 5, b"", b"std.hcl:1: Syntax\n"),
+    with_text("x.aag", b"", 5, b"", b"x.aag:1: Syntax\n"),
+    with_text("x.aag", b"\xff\n", 5, b"", b"x.aag:1: Syntax\n"),
+    # no output, one, 26, 28
+    with_text("x.aag", b"aag 0 0 0 0 0\n", 5, b"", b"x.aag:1: Syntax\n"),
+    with_text("x.aag", b"aag 2 1 0 1 1\n2\n4\n4 2 3\n", 5, b"", b"x.aag:1: Syntax\n"),
+    with_text("x.aag", AIG.replace(b"27", b"26"), 5, b"", b"x.aag:1: Syntax\n"),
+    with_text("x.aag", AIG.replace(b"27", b"28"), 5, b"", b"x.aag:1: Syntax\n"),
+    # a file that ends early: in an output, before its line end, before the gate's
+    with_text("x.aag", AIG[:18], 5, b"", b"x.aag:3: Syntax\n"),
+    with_text("x.aag", AIG[:-7], 5, b"", b"x.aag:29: Syntax\n"),
+    with_text("x.aag", AIG[:-1], 5, b"", b"x.aag:30: Syntax\n"),
+    with_text("x.aag", AIG.replace(b"4 2 3", b"4 2 x"), 5, b"", b"x.aag:30: Syntax\n"),
+    with_text("x.aag", b"aag 900000000 1 0 27 900000000\n2\n" + b"4\n" * 27, 5, b"", b"x.aag:30: Syntax\n"),
+    # an input that is odd, the constant, or there twice; a gate that is odd, the constant, an input, or there twice
+    with_text("x.aag", AIG.replace(b"\n2\n", b"\n3\n", 1), 5, b"", b"x.aag:2: Syntax\n"),
+    with_text("x.aag", AIG.replace(b"\n2\n", b"\n0\n", 1), 5, b"", b"x.aag:2: Syntax\n"),
+    with_text("x.aag", b"aag 2 2 0 27 0\n2\n2\n" + b"0\n" * 27, 5, b"", b"x.aag:3: Syntax\n"),
+    with_text("x.aag", AIG.replace(b"4 2 3", b"5 2 3"), 5, b"", b"x.aag:30: Syntax\n"),
+    with_text("x.aag", AIG.replace(b"4 2 3", b"0 2 3"), 5, b"", b"x.aag:30: Syntax\n"),
+    with_text("x.aag", AIG.replace(b"4 2 3", b"2 2 3"), 5, b"", b"x.aag:30: Syntax\n"),
+    with_text("x.aag", AIG.replace(b"27 1\n", b"27 2\n") + b"4 2 3\n", 5, b"", b"x.aag:31: Syntax\n"),
+    # (literal 6 is nobody's; x itself isn't 0; one output of the 27 isn't)
+    with_text("x.aag", AIG.replace(b"\n4\n", b"\n6\n", 1), 5, b"", b"x.aag: an output isn't shown to be 0\n"),
+    with_text("x.aag", AIG.replace(b"\n4\n", b"\n2\n", 1), 5, b"", b"x.aag: an output isn't shown to be 0\n"),
+    with_text("x.aag", AIG[:-8] + b"2\n4 2 3\n", 5, b"", b"x.aag: an output isn't shown to be 0\n"),
+]
+NCOPY = read("copy/ncopy.ys")
+ENDLESS = (b"std.hcl: " + YES + b"length 1, yis: it doesn't end within 2000 steps\n"
+    b"length 1, psim: it doesn't end within 2000 cycles\nlength 2, yis: it doesn't end within 3000 steps\n"
+    b"length 2, psim: it doesn't end within 3000 cycles\nlength 3, yis: it doesn't end within 4000 steps\n"
+    b"correct for lengths 0 to 64 and 128, 192, 256: no\nbytes of the function: 94, of 1000 at most\n"
+    b"score: 0 of 60, for the results are wrong\n")
+ARCHLAB = [
+    (("archlab", "endless.ys", "std.hcl"), 1, ENDLESS, b""),
+    (("archlab", "other.ys", "std.hcl"), 1, b"", b"other.ys: it defines no label `ncopy`\n"),
+    (("archlab", "std.hcl", "ncopy.ys"), 1, b"", b"std.hcl: it defines no label `ncopy`\n"),
+    (("archlab", "twice.ys", "std.hcl"), 1, b"", b"twice.ys: with the labels `lab_..` and the data that are put behind it: LabelTwice\n"),
+    (("archlab", "ncopy_iaddq.ys", "std.hcl"), 1, b"", b"the function, line 8: Syntax (`iaddq` needs `--full`)\n"),
+    (("archlab", "ncopy.ys", "nofile.hcl"), 3, b"", b"read fault nofile.hcl\n"),
+    (("archlab", "ncopy.ys", "seq.hcl"), 5, b"", b"seq.hcl: Unknown icode\n"),
+]
+FILES = {f"{name}.hcl": design(name) for name in ("std", "seq_plus", "seq", "stall_and_bubble")}
+# (of iaddq it forgets the flags)
+FILES["flags.hcl"] = changed(design("with_iaddq"), set_cc="E_icode == IOPQ && !m_stat in { SADR, SINS, SHLT } && !W_stat in { SADR, SINS, SHLT }")
+FILES |= {"add.yo": read("programs/add.yo"), "ncopy.ys": NCOPY, "ncopy_iaddq.ys": read("copy/ncopy_iaddq.ys")}
+FILES |= {"endless.ys": NCOPY.replace(b"jg next", b"jmp next"), "other.ys": NCOPY.replace(b"ncopy:", b"copy:"), "twice.ys": NCOPY + b"lab_to:\n"}
+
+
+@cases((" ".join(words), words, status, out, err) for words, status, out, err in (*WITNESS, *CYCLES, *ARCHLAB, *CLASS))
+def test_command(row, lab):
+    _, words, *wanted = row
+    same(lab(*words, files=FILES), tuple(wanted))
+
+
+@cases((f"{number} {' '.join(words)}", files, words, status, out, err) for number, (files, words, status, out, err) in enumerate(RECHECK))
+def test_recheck(row, folder):
+    _, files, words, *wanted = row
+    recheck = Program(f"{TOP}/tools/y86-recheck", folder)
+    same(recheck(*words, files={"tiny.crt": TINY, "std.hcl": design("std"), **dict(files)}), tuple(wanted))
+
+
+# ---- `class`, on a folder of all that isn't a good file, and on a program that gives no answer; without the seconds, which differ
+
+# (it asks nothing of iaddq, and breaks O15 besides)
+ODD = changed(design("with_iaddq"), set_cc="E_icode == IIADDQ")
+CLASS_FILES = {f"{name}.hcl": "bool x = ];\n" + design(name) for name in ("std", "seq_plus", "seq")}
+CLASS_FILES |= {"flags.hcl": ODD, "PIPE.HCL": ODD, "pipe.txt": ODD, "junk.hcl": "%%\n", "empty.hcl": "", "long.hcl": " " * 65537}
+CLASS_FILES |= {"deep.hcl": "bool f_icode = " + "(" * 3000, "l\udce9.hcl": ODD}
+CLASS_ROWS = {
+    b"file": b"datapath,verdict,obligation,fault,settings,cycles,seconds",
+    b"deep.hcl": b"pipe,fault,,1:80: DepthOver64,,", b"empty.hcl": b",fault,,Missing f_pc,,", b"flags.hcl": b"pipe,no,O15,,,",
+    b"junk.hcl": b",fault,,1:1: Syntax,,", b"link.hcl": b",unreadable,,,,", b"long.hcl": b",fault,,TooLong 65536,,", b"l\xe9.hcl": b",unreadable,,,,",
+    b"pipe.hcl": b",unreadable,,,,", b"seq.hcl": b"seq,fault,,1:10: Syntax,,",
+    b"seq_plus.hcl": b"seqplus,fault,,1:10: Syntax,,", b"std.hcl": b"pipe,fault,,1:10: Syntax,,",
+}
+PASSED_OVER = b"PIPE.HCL: passed over, for its name doesn't end with `.hcl`\npipe.txt: passed over, for its name doesn't end with `.hcl`\n"
+PASSED_OVER += b"flags.hcl: `iaddq` wasn't asked: `--full` asks it too.\n"
+
+
+@pytest.fixture
+def odd_class(lab, folder):
+    os.mkdir(f"{folder}/class")
+    os.mkfifo(f"{folder}/class/pipe.hcl")
+    os.symlink("nothing", f"{folder}/class/link.hcl")
+    put(f"{folder}/class", CLASS_FILES)
+    return lab("class", "class", "--jobs", "2")
+
+
+def test_class_status_and_standard_error(odd_class):
+    same((odd_class.status, odd_class.err), (3, PASSED_OVER))
+
+
+def test_class_rows(odd_class):
+    same(dict(it.partition(b",")[::2] for it in re.sub(rb",[\d.]+$", b"", odd_class.out, flags=re.M).splitlines()), CLASS_ROWS)
+
+
+def test_class_stopped(lab):
+    status, out, err = lab("class", "std.hcl", "--no-head", files={"std.hcl": design("std")}, Y86=shutil.which("false"))
+    same((status, out.rpartition(b",")[0], err), (3, b"std.hcl,pipe,stopped,,,,", b""))
+
+
+GRADED = {"std.hcl": design("std"), "no.hcl": std(set_cc="0"), "fault.hcl": "%%\n"}
+
+
+@cases([("std.hcl", 0), ("std.hcl no.hcl", 1), ("std.hcl fault.hcl", 1), ("no.hcl fault.hcl", 1)])
+def test_class_status(row, lab):
+    names, status = row
+    came = lab("class", *names.split(), files=GRADED)
+    same((came.status, came.err), (status, b""))
+
+
+# A file's name is no formula.
+FORMULAS = ("=cmd|' calc'!A0.hcl", "+1.hcl", "@sum.hcl", "\t1.hcl")
+
+
+def class_row(lab, *words, files):
+    out = lab("class", "--no-head", *words, files=files).out
+    return out[: out.rindex(b",") + 1]
+
+
+@cases((name,) for name in FORMULAS)
+def test_class_of_a_file_named(row, lab):
+    name = row[0]
+    same(class_row(lab, f"./{name}", files={name: "%%\n"}), b"./" + name.encode() + b",,fault,,1:1: Syntax,,,")
+
+
+@cases((name,) for name in FORMULAS)
+def test_class_of_a_folder_with_a_file_named(row, lab, folder):
+    name = row[0]
+    os.mkdir(f"{folder}/folder")
+    same(class_row(lab, "folder", files={f"folder/{name}": "%%\n"}), b"'" + name.encode() + b",,fault,,1:1: Syntax,,,")
+
+
+def test_class_of_a_file_named_as_an_option(lab):
+    same(class_row(lab, "--", "-1.hcl", files={"-1.hcl": "%%\n"}), b"'-1.hcl,,fault,,1:1: Syntax,,,")

@@ -1,0 +1,47 @@
+"""`y86-lab explain` and `y86-lab witness` on the files of docs/OBLIGATIONS.md that break an obligation each.
+
+`explain` names what is wrong in the situation of the answer, and `witness` finds a program that shows it. For the file of S1 no program differs, and
+`witness` has to say so.
+"""
+import os
+import re
+
+import pytest
+
+from helpers.cases import cases
+from helpers.designs import example, replaced
+from helpers.pages import broken
+from helpers.paths import TOP
+from helpers.programs import Program
+
+UNSEEN = {"S1"}
+
+
+@pytest.fixture
+def lab(folder, programs):
+    program = Program(f"{TOP}/y86-lab", folder)
+
+    def call(command, base, definitions):
+        files = {"mine.hcl": replaced(example(base), definitions)}
+        came = program(command, "mine.hcl", files=files, env={**os.environ, "Y86": programs("y86")}, timeout=600)
+        return (came.out + came.err).decode()
+
+    return call
+
+
+@cases(broken())
+def test_explain(row, lab):
+    """The rule is named, with a signal that has another value than is wanted, or with words on how the registers move."""
+    name, base, definitions, _ = row
+    said = lab("explain", base, definitions)
+    assert f": no, {name.split(' ')[0]} doesn't hold" in said, said
+    moves = r"^(?:\w is stalled and bubbled|D keeps|An instruction|D holds|The pipeline is empty)"
+    assert re.search(r"^  \w+ is .*; .* is wanted$", said, re.M) or re.search(moves, said, re.M), said
+
+
+@cases(broken())
+def test_witness(row, lab):
+    name, base, definitions, _ = row
+    said = lab("witness", base, definitions)
+    found = re.search(r"^(?:Program (\d+)|No program) shows it", said, re.M)
+    assert found and bool(found[1]) != (name in UNSEEN), said
