@@ -6,21 +6,53 @@ import shutil
 import subprocess
 import time
 
+from programs import launcher
 from proving import crates_of, tell
 
-# The folders, and of docs/ the pages and scripts, where they are there.
+# The folders and files that are handed out.
 FOLDERS = ("examples", "tools")
-DOCS = ("COMMANDS.md", "HCL.md", "OBLIGATIONS.md", "THEOREM.md", "ASSEMBLY.md", "TUTORIAL.md", "LAB.md", "STAGES.md", "CERTIFICATES.md", "AIGER.md")
+FILES = ("y86-lab",)
+# The pages of docs/, in the order to read them, and what each is for.
+PAGES = {
+    "TUTORIAL.md": "a slow pipeline becomes fast, in an evening",
+    "ASSEMBLY.md": "how to write and run a Y86-64 program",
+    "HCL.md": "how to write a processor: each signal, and what to do about each fault",
+    "OBLIGATIONS.md": "what a `no` means, and what to do about it",
+    "STAGES.md": "pipeline diagrams",
+    "TELL.md": "answers in sentences",
+    "LAB.md": "tools for a student's evening and a teacher's class",
+    "COMMANDS.md": "every command, its arguments and exit statuses",
+    "THEOREM.md": "why a `yes` holds for every program",
+    "TRUST.md": "what to read and to trust to believe a `yes`",
+    "CERTIFICATES.md": "the format of a certificate, for those who write a checker of their own",
+    "AIGER.md": "the obligations for SAT solvers",
+}
+# What solves an exercise of the book (CS:APP 3e, 4.53 to 4.57, and part C of the lab), or shows how to. `--without-solutions` leaves it out.
+SOLUTIONS = (
+    *(f"examples/designs/{it}.hcl" for it in (
+        "no_bypassing", "with_iaddq", "not_taken", "backward_taken", "load_forwarding", "one_at_a_time", "early_jumps_and_loads",
+        "not_taken_early_jumps", "backward_taken_early_jumps", "all_shortcuts",
+    )),
+    "examples/copy/ncopy_",
+    "examples/tutorial/",
+    "docs/TUTORIAL.md",
+)
 README = """\
 # y86
 
 The Y86-64 workbench, proved and built, for a class that works with Y86-64 programs and processors: nothing has to be proved, built or installed here.
-It runs on Linux on x86-64 and needs the C library alone{libc}:
+It runs on Linux on x86-64 and needs the C library alone{libc}.{python}
+
+## Begin here
 
     ./y86 yis examples/programs/asum.yo
     ./y86 check pipe examples/designs/std.hcl{calls}
 
-`examples/` has programs and the control logic of processors.{more}
+The first runs a program. The second decides whether the book's pipeline is right for every program. Then read the pages, in this order:
+
+{pages}
+
+[examples/README.md](examples/README.md) lists the programs and the processors.{left_out}
 
 ## What was proved
 
@@ -28,7 +60,7 @@ It runs on Linux on x86-64 and needs the C library alone{libc}:
 
 The {crates} crates that it stands on were proved on {date}{toolchain}, from {commit}.
 
-## Whether this is what was built
+## Is this what was built?
 
     $ sha256sum {names}
     {sums}
@@ -46,14 +78,16 @@ def said_by(words, here):
     return run.stdout if run.returncode == 0 else ""
 
 
-def files_of(here):
+def files_of(here, has_solutions):
     """Returns the files to hand out: those of the repository, and none that lies beside them."""
-    wanted = [*FOLDERS, "y86-lab", *[f"docs/{it}" for it in DOCS]]
-    listed = said_by(["git", "ls-files", "-z", "--", *wanted], here)
+    files = [*FILES, *[f"docs/{it}" for it in PAGES]]
+    listed = said_by(["git", "ls-files", "-z", "--", *FOLDERS, *files], here)
     if listed:
-        return [it for it in listed.split("\0") if it and os.path.isfile(f"{here}/{it}")]
-    found = [os.path.relpath(f"{at}/{name}", here) for it in FOLDERS for at, _, names in os.walk(f"{here}/{it}") for name in names]
-    return sorted(found) + [it for it in wanted[len(FOLDERS) :] if os.path.isfile(f"{here}/{it}")]
+        found = [it for it in listed.split("\0") if it]
+    else:
+        found = [os.path.relpath(f"{at}/{name}", here) for it in FOLDERS for at, _, names in os.walk(f"{here}/{it}") for name in names]
+        found = [it for it in sorted(found) if "/__pycache__/" not in it] + files
+    return [it for it in found if os.path.isfile(f"{here}/{it}") and (has_solutions or not it.startswith(SOLUTIONS))]
 
 
 def commit_of(here):
@@ -93,17 +127,26 @@ def libc_of(files):
     return f" (GNU's, {'.'.join(map(str, max(versions)))} or later)" if versions else ""
 
 
-def readme(here, programs, built, files):
-    more = ""
-    if any(it.endswith(".md") for it in files):
-        more += " `docs/` has the pages: " + ", ".join(f"[{it[5:-3]}]({it})" for it in files if it.startswith("docs/") and it.endswith(".md")) + "."
-    if "y86-lab" in files:
-        more += " `./y86-lab --help` lists commands for a student's evening and a teacher's class, which need Python 3."
+def without_links_out(text, page, files):
+    """Returns a page without its links to files that aren't handed out; their texts stay."""
+
+    def shown(link):
+        target = os.path.normpath(os.path.join(os.path.dirname(page), link[2].partition("#")[0]))
+        is_here = ":" in link[2] or link[2].startswith("#") or target in files or any(it.startswith(f"{target}/") for it in files)
+        return link[0] if is_here else link[1]
+
+    return re.sub(r"\[([^]]*)\]\(([^)\s]*)\)", shown, text)
+
+
+def readme(here, programs, built, files, has_solutions):
     toolchain = toolchain_of(here, next(iter(built.values())))
+    pages = [f"- [docs/{name}](docs/{name}): {what}" for name, what in PAGES.items() if f"docs/{name}" in files]
     return README.format(
         libc=libc_of(built.values()),
+        python=" `./y86-lab` needs Python 3 besides." if "y86-lab" in files else "",
         calls="".join(CALLS.get(name, "") for name in built),
-        more=more,
+        pages="\n".join(pages),
+        left_out="" if has_solutions else "\nSolutions of the book's exercises were left out, and the pages name some files that aren't here.",
         proved=what_is_proved(here),
         crates=len(crates_of(here, programs)),
         date=time.strftime("%Y-%m-%d", time.gmtime(max(os.stat(it).st_mtime for it in built.values()))),
@@ -114,24 +157,36 @@ def readme(here, programs, built, files):
     )
 
 
-def hand_out(here, programs, folder):
+def fill(here, built, folder, has_solutions=True):
+    """Fills a folder with programs, each the path of a built one by the name of its launcher, and with what belongs to them. Returns the files' names."""
+    files = files_of(here, has_solutions)
+    os.makedirs(folder, exist_ok=True)
+    for it in files:
+        os.makedirs(os.path.dirname(f"{folder}/{it}") or folder, exist_ok=True)
+        shutil.copy(f"{here}/{it}", f"{folder}/{it}")
+        if it.endswith(".md"):
+            with open(f"{folder}/{it}", "r+", encoding="utf-8") as page:
+                text = without_links_out(page.read(), it, files)
+                page.seek(0)
+                page.write(text)
+                page.truncate()
+    for name, it in built.items():
+        shutil.copy(it, f"{folder}/{name}")
+    with open(f"{folder}/README.md", "w", encoding="utf-8") as it:
+        it.write(readme(here, [name.replace("-", "_") for name in built], built, files, has_solutions))
+    return files
+
+
+def hand_out(here, programs, folder, has_solutions=True):
     """Fills the folder with the programs, by the names of their crates, and what belongs to them. Returns the status to end with."""
     if os.path.lexists(folder) and not (os.path.isdir(folder) and not os.listdir(folder)):
         tell(f"{folder} is there already, and not empty")
         return 1
-    built = {program.replace("_", "-"): f"{here}/crates/{program}/out/{program}" for program in programs}
-    files = files_of(here)
+    built = {launcher(program): f"{here}/crates/{program}/out/{program}" for program in programs}
     try:
-        os.makedirs(folder, exist_ok=True)
-        for it in files:
-            os.makedirs(os.path.dirname(f"{folder}/{it}"), exist_ok=True)
-            shutil.copy(f"{here}/{it}", f"{folder}/{it}", follow_symlinks=False)
-        for name, it in built.items():
-            shutil.copy(it, f"{folder}/{name}")
-        with open(f"{folder}/README.md", "w", encoding="utf-8") as it:
-            it.write(readme(here, programs, built, files))
+        files = fill(here, built, folder, has_solutions)
     except OSError as error:
         tell(f"{error.filename}: {error.strerror}")
         return 1
-    tell(f"{folder} has {' and '.join(built)}, {len(files)} files of examples, pages and scripts, and README.md, which says what was proved")
+    tell(f"{folder} has {', '.join(built)}, {len(files)} files of examples, pages and tools, and README.md, where to begin")
     return 0
