@@ -374,7 +374,7 @@ def test_command(row, lab):
 def test_recheck(row, folder):
     _, files, words, *wanted = row
     recheck = Program(f"{TOP}/tools/y86-recheck", folder)
-    same(recheck(*words, files={"tiny.crt": TINY, "std.hcl": design("std"), **dict(files)}), tuple(wanted))
+    same(recheck(*words, files={"tiny.crt": TINY, "std.hcl": design("std"), "x.aag": AIG, **dict(files)}), tuple(wanted))
 
 
 # ---- `class`, on a folder of all that isn't a good file, and on a program that gives no answer; without the seconds, which differ
