@@ -4,9 +4,18 @@ import os
 import select
 import shutil
 import subprocess
+import sys
 import tempfile
 import time
 
+# Becomes the browser, with two descriptors as its 3 and 4.
+BEGIN = """\
+import fcntl, os, sys
+down, up = (fcntl.fcntl(int(it), fcntl.F_DUPFD, 10) for it in sys.argv[1:3])
+os.dup2(down, 3)
+os.dup2(up, 4)
+os.execvp(sys.argv[3], sys.argv[3:])
+"""
 NAMES = ("chromium", "chromium-browser", "google-chrome", "google-chrome-stable")
 
 
@@ -29,9 +38,9 @@ class Browser:
         self.up, up = os.pipe()
         # The browser reads commands at 3, and writes answers at 4.
         words = [command(), "--headless", "--no-sandbox", "--disable-gpu", "--disable-dev-shm-usage", "--hide-scrollbars", f"--user-data-dir={self.room.name}"]
-        shell = ["sh", "-c", f'exec "$@" 3<&{down} 4>&{up}', "sh", *words, "--remote-debugging-pipe", "about:blank"]
+        begin = [sys.executable, "-c", BEGIN, str(down), str(up), *words, "--remote-debugging-pipe", "about:blank"]
         quiet = {"stdin": subprocess.DEVNULL, "stdout": subprocess.DEVNULL, "stderr": subprocess.DEVNULL}
-        self.process = subprocess.Popen(shell, pass_fds=(down, up), **quiet)
+        self.process = subprocess.Popen(begin, pass_fds=(down, up), **quiet)
         os.close(down)
         os.close(up)
         self.session = None
