@@ -48,7 +48,7 @@ It runs on Linux on x86-64 and needs the C library alone{libc}.{python}
     ./y86 yis examples/programs/asum.yo
     ./y86 check pipe examples/designs/std.hcl{calls}
 
-The first runs a program. The second decides whether the book's pipeline is right for every program. Then read the pages, in this order:
+The first runs a program. The second decides whether the book's pipeline is right for every program.{browser} Then read the pages, in this order:
 
 {pages}
 
@@ -88,6 +88,11 @@ def files_of(here, has_solutions):
         found = [os.path.relpath(f"{at}/{name}", here) for it in FOLDERS for at, _, names in os.walk(f"{here}/{it}") for name in names]
         found = [it for it in sorted(found) if "/__pycache__/" not in it] + files
     return [it for it in found if os.path.isfile(f"{here}/{it}") and (has_solutions or not it.startswith(SOLUTIONS))]
+
+
+def solutions(here):
+    """Returns the files that solve exercises of the book."""
+    return {it for it in files_of(here, True) if it.startswith(SOLUTIONS)}
 
 
 def commit_of(here):
@@ -138,13 +143,14 @@ def without_links_out(text, page, files):
     return re.sub(r"\[([^]]*)\]\(([^)\s]*)\)", shown, text)
 
 
-def readme(here, programs, built, files, has_solutions):
+def readme(here, programs, built, files, has_solutions, has_page):
     toolchain = toolchain_of(here, next(iter(built.values())))
     pages = [f"- [docs/{name}](docs/{name}): {what}" for name, what in PAGES.items() if f"docs/{name}" in files]
     return README.format(
         libc=libc_of(built.values()),
         python=" `./y86-lab` needs Python 3 besides." if "y86-lab" in files else "",
         calls="".join(CALLS.get(name, "") for name in built),
+        browser=" `y86.html` does the same in a browser: open it." if has_page else "",
         pages="\n".join(pages),
         left_out="" if has_solutions else "\nSolutions of the book's exercises were left out, and the pages name some files that aren't here.",
         proved=what_is_proved(here),
@@ -157,8 +163,9 @@ def readme(here, programs, built, files, has_solutions):
     )
 
 
-def fill(here, built, folder, has_solutions=True):
-    """Fills a folder with programs, each the path of a built one by the name of its launcher, and with what belongs to them. Returns the files' names."""
+def fill(here, built, folder, has_solutions=True, has_page=False):
+    """Fills a folder with programs, each the path of a built one by the name of its launcher, and with what belongs to them. Returns the files' names.
+    With `has_page` the README names the workbench for a browser, which is put there later."""
     files = files_of(here, has_solutions)
     os.makedirs(folder, exist_ok=True)
     for it in files:
@@ -173,7 +180,7 @@ def fill(here, built, folder, has_solutions=True):
     for name, it in built.items():
         shutil.copy(it, f"{folder}/{name}")
     with open(f"{folder}/README.md", "w", encoding="utf-8") as it:
-        it.write(readme(here, [name.replace("-", "_") for name in built], built, files, has_solutions))
+        it.write(readme(here, [name.replace("-", "_") for name in built], built, files, has_solutions, has_page))
     return files
 
 
@@ -184,7 +191,7 @@ def hand_out(here, programs, folder, has_solutions=True):
         return 1
     built = {launcher(program): f"{here}/crates/{program}/out/{program}" for program in programs}
     try:
-        files = fill(here, built, folder, has_solutions)
+        files = fill(here, built, folder, has_solutions, has_page=True)
     except OSError as error:
         tell(f"{error.filename}: {error.strerror}")
         return 1

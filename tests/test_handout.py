@@ -65,7 +65,7 @@ def read(path):
 
 
 def test_what_is_handed_out(handed):
-    same(files_in(handed), ["README.md", "docs/HCL.md", "examples/designs/std.hcl", "y86", "y86-stages"])
+    same(files_in(handed), ["README.md", "docs/HCL.md", "examples/designs/not_taken.hcl", "examples/designs/std.hcl", "y86", "y86-stages", "y86.html"])
 
 
 def test_what_its_readme_says(repository, handed):
@@ -74,6 +74,13 @@ def test_what_its_readme_says(repository, handed):
     wanted = ["1. **One**, and\n   more.\n2. Two.\n", "The 6 crates", "`stand-in 1`", f"the commit {commit.strip()}.", *sums, "./y86-stages examples/designs/std.hcl"]
     text = read(f"{handed}/README.md")
     same([it for it in wanted if it not in text] + [it for it in ("3. No.",) if it in text], [])
+
+
+def test_without_solutions_of_the_book(repository):
+    repository.run([repository.prove, "--to", "for class", "--without-solutions"])
+    folder = f"{repository.work}/for class"
+    same(files_in(folder), ["README.md", "docs/HCL.md", "examples/designs/std.hcl", "y86", "y86-stages", "y86.html"])
+    same(read(f"{folder}/y86.html"), "True examples/designs/not_taken.hcl\n")
 
 
 def test_the_programs_run_where_no_toolchain_is(repository, handed):
