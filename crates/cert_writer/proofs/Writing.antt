@@ -6,7 +6,7 @@ use Rattle.std.proofs.lemmas.Option.{slice_get-get_or, slice_get_within}
 use Rattle.nets.specs.Nets.{Gates, ReadsEarlier}
 use Rattle.nets.specs.declared.net.Gate.{Gate}
 use Rattle.nets.specs.declared.net.Gate.TheVariants as gate
-use Rattle.certificates.specs.Certificates.{CertOk, GoesOn, head_text, last_line}
+use Rattle.certificates.specs.Certificates.{AreSeven, CertOk, GoesOn, head_text, last_line}
 use Rattle.certificates.specs.Facts.{Facts, after, facts_of, nothing}
 use Rattle.certificates.specs.Facts as spec
 use Rattle.certificates.specs.Lines.{IsLine, line_text, lines_text}
@@ -31,11 +31,12 @@ no_flaw net k l n j f =
     ∙ (λ i. cond (not (j i)) (Some why.Claim) (cond (not (fits net k l)) (Some why.Gate) None))
     ∙ (λ i. cond (not (f i)) (Some why.Gate) None)
 
-pub wrote_start : (g : Demands) (text : List ℕ) → text ≡ head_text g.settings → Wrote g text nothing
+pub wrote_start : (g : Demands) (text : List ℕ) → AreSeven g.settings → text ≡ head_text g.settings → Wrote g text nothing
 unfolding lines_text spec.after_all
-wrote_start g text e = record {
+wrote_start g text seven e = record {
   lines = [];
   goes_on = record {
+    seven = seven;
     each = λ k l is. absurd (none_at k l is);
     right = λ k l is. absurd (none_at k l is);
     whole = e ∙ sym (append-nil (head_text g.settings));
@@ -59,6 +60,7 @@ wrote_more g text new facts l w is n j f e = record {
   where
     here : GoesOn g new w.lines (line_text l ++ [])
     here = record {
+      seven = w.goes_on.seven;
       each = w.goes_on.each;
       right = w.goes_on.right;
       whole =
@@ -72,6 +74,7 @@ pub wrote_end : (g : Demands) (text new : List ℕ) (facts : Facts) → Wrote g 
 wrote_end g text new facts w all demanded e = record {
   lines = w.lines;
   goes_on = record {
+    seven = w.goes_on.seven;
     each = w.goes_on.each;
     right = w.goes_on.right;
     whole =

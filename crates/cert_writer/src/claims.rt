@@ -21,6 +21,7 @@ pub struct Claims<'a> {
     ranks: &'a [u32],
     steps: Vec<Line>,
     places: Vec<u32>,
+    most: usize,
 }
 
 impl<'a> Model for Claims<'a> {
@@ -37,24 +38,26 @@ impl<'a> Model for Claims<'a> {
 /// How many claims there may be, so that each number fits in 32 bits.
 const MOST: usize = 4_000_000_000;
 
-/// How many places there are for claims that are found again.
-const PLACES: usize = 1_048_576;
+/// How many places there are for claims that are found again: an even number, since a claim has two places.
+const PLACES: usize = 4_194_304;
 
-/// The place of a claim on two terms among `size`.
-fn place(a: u32, b: u32, size: usize) -> usize
-    requires { 0 < size }
-    ensures { result < size }
-{
+/// The first place of a claim on two terms. Its second place is the neighbour: of 2n it is 2n + 1, and of that 2n.
+fn place(a: u32, b: u32) -> usize {
     let left = (a as u64).wrapping_mul(11_400_714_819_323_198_485);
     let right = (b as u64).wrapping_mul(14_029_467_366_897_019_727);
     let mixed = left ^ right;
-    (mixed ^ (mixed >> 29) ^ (mixed >> 47)) as usize % size
+    (mixed ^ (mixed >> 29) ^ (mixed >> 47)) as usize % PLACES
 }
 
 impl<'a> Claims<'a> {
-    /// No claims yet.
+    /// No claims yet. There will be no more than `most`.
     #[tactic(auto, using(crate::proofs::Steps::proved_none))]
-    pub fn new(alloc: Global, terms: &'a [Made], ranks: &'a [u32]) -> Result<Claims<'a>, Memory>
+    pub fn new(
+        alloc: Global,
+        terms: &'a [Made],
+        ranks: &'a [u32],
+        most: usize,
+    ) -> Result<Claims<'a>, Memory>
         ensures terms { IfOk result (λ c. c.terms ≡ terms.now) }
         ensures ranks { IfOk result (λ c. c.ranks ≡ ranks.now) }
         ensures none { IfOk result (λ c. c.steps ≡ []) }
@@ -68,6 +71,7 @@ impl<'a> Claims<'a> {
             ranks,
             steps: Vec::new(alloc),
             places,
+            most,
         })
     }
 
@@ -123,14 +127,11 @@ impl<'a> Claims<'a> {
         part(self.terms, var as u64, high, t as u64) as u32
     }
 
-    /// The claim that two terms together are a third, if it is remembered.
-    fn known_and(&self, a: u32, b: u32, c: u32) -> Option<u32>
+    /// The claim at a place, if it is that two terms together are a third.
+    fn and_at(&self, at: usize, a: u32, b: u32, c: u32) -> Option<u32>
         ensures { IfSome result (Makes self.now (claim.And a b c)) }
     {
-        if self.places.is_empty() {
-            return None;
-        }
-        let p = self.places[place(a, b, self.places.len())];
+        let p = self.places.get(at).copied().unwrap_or(0);
         match self.steps.as_slice().get(p as usize).copied() {
             Some(Line::And { left, right, both })
             | Some(
@@ -151,14 +152,22 @@ impl<'a> Claims<'a> {
         }
     }
 
-    /// The claim that a term is the negation of another, if it is remembered.
-    fn known_not(&self, a: u32, c: u32) -> Option<u32>
+    /// The claim that two terms together are a third, if it is remembered.
+    fn known_and(&self, a: u32, b: u32, c: u32) -> Option<u32>
+        ensures { IfSome result (Makes self.now (claim.And a b c)) }
+    {
+        let at = place(a, b);
+        match self.and_at(at, a, b, c) {
+            Some(p) => Some(p),
+            None => self.and_at(at ^ 1, a, b, c),
+        }
+    }
+
+    /// The claim at a place, if it is that a term is the negation of another.
+    fn not_at(&self, at: usize, a: u32, c: u32) -> Option<u32>
         ensures { IfSome result (Makes self.now (claim.Not a c)) }
     {
-        if self.places.is_empty() {
-            return None;
-        }
-        let p = self.places[place(a, u32::MAX, self.places.len())];
+        let p = self.places.get(at).copied().unwrap_or(0);
         match self.steps.as_slice().get(p as usize).copied() {
             Some(Line::Not { of, not }) | Some(Line::NotCases { of, not, .. }) => {
                 if of == a as u64 && not == c as u64 {
@@ -171,12 +180,25 @@ impl<'a> Claims<'a> {
         }
     }
 
-    /// Remembers a claim.
+    /// The claim that a term is the negation of another, if it is remembered.
+    fn known_not(&self, a: u32, c: u32) -> Option<u32>
+        ensures { IfSome result (Makes self.now (claim.Not a c)) }
+    {
+        let at = place(a, u32::MAX);
+        match self.not_at(at, a, c) {
+            Some(p) => Some(p),
+            None => self.not_at(at ^ 1, a, c),
+        }
+    }
+
+    /// Remembers a claim, and the claim before it at its place at the other place.
     fn remember(&mut self, a: u32, b: u32, p: u32)
         ensures { self.new ≡ self.old }
     {
-        if !self.places.is_empty() {
-            let at = place(a, b, self.places.len());
+        let at = place(a, b);
+        let other = at ^ 1;
+        if at < self.places.len() && other < self.places.len() {
+            self.places[other] = self.places[at];
             self.places[at] = p;
         }
     }
@@ -189,7 +211,7 @@ impl<'a> Claims<'a> {
         ensures last { IfOk result (Makes self.new (claim_of line)) }
     {
         let p = self.steps.len();
-        if p >= MOST {
+        if p >= self.most || p >= MOST {
             return Err(Memory);
         }
         match self.steps.push(line) {

@@ -40,8 +40,17 @@ fn push_dia(dias: &mut Vec<Dia>, d: Dia) -> Result<(), Memory>
 }
 
 /// The diagrams of the gates of a net, with variable `order[x]` of the net as variable x.
+///
+/// Errors: `Memory`, also where it takes more operations or nodes than a limit.
 #[tactic(auto, using(crate::proofs::Drawing::are_sources, crate::proofs::Drawing::whole, crate::proofs::Drawing::drawn_none, crate::proofs::Drawing::drawn_more, crate::proofs::Drawing::drawn_all, crate::proofs::Drawing::gate_within))]
-pub fn draw(alloc: Global, n: &Net, order: &[u32], ranks: &[u32]) -> Result<Drawn, Memory>
+pub fn draw(
+    alloc: Global,
+    n: &Net,
+    order: &[u32],
+    ranks: &[u32],
+    steps: u64,
+    nodes: u64,
+) -> Result<Drawn, Memory>
     requires vars { length order.now ≡ n.now.vars }
     requires order { IsOrder order.now ranks.now }
     ensures { IfOk result (λ d. IsDrawn n.now order.now d.store d.dias.items) }
@@ -50,7 +59,7 @@ pub fn draw(alloc: Global, n: &Net, order: &[u32], ranks: &[u32]) -> Result<Draw
     let vars = n.vars();
     let to = sources(alloc, ranks)?;
     let copy = substitute(alloc, n, vars, to.as_slice())?;
-    let mut store = Store::new(alloc, vars);
+    let mut store = Store::bounded(alloc, vars, steps, nodes);
     let mut built = Built::new(alloc, &copy.net)?;
     let mut dias: Vec<Dia> = Vec::new(alloc);
     for i in 0..n.len() {

@@ -1,4 +1,9 @@
-//! An order of a net's variables in which its diagrams are small.
+//! Orders of a net's variables in which its diagrams are small.
+//!
+//! Atoms come first, then what F, M, E, D and W hold apart from register numbers, and the register numbers last. Where
+//! registers of one stage are compared with each other or with constants, their fields are best one after another. Where a
+//! file compares registers of several stages, that order doubles the diagrams with each bit that lies between, and the bits
+//! of the compared registers are best side by side.
 ghost use Rattle.std.specs.Prelude.{◌≡◌, ℕ, ◌<◌, ◌^◌, true, length, get_or, IfOk, IfSome};
 ghost use Rattle.cert_writer.specs.Nodes.{IsOrder};
 
@@ -59,9 +64,8 @@ fn ranks_of(alloc: Global, order: &[u32]) -> Result<Option<Vec<u32>>, Memory>
 /// How many fields are no numbers of registers.
 const OTHER_COUNT: usize = FIELD_COUNT - places::REGISTER_COUNT;
 
-/// These in an order in which the diagrams of PIPE's rules are small: what F, M, E, D and W hold, stage by stage. Atoms
-/// stand before them, and registers behind. With the fields in the order of their numbers the certificate of `nb.hcl` is
-/// twenty times as long.
+/// The fields that are no register numbers, stage by stage. With the fields in the order of their numbers the certificate
+/// of `nb.hcl` is twenty times as long.
 const OTHERS: [FieldPlace; OTHER_COUNT] = [
     places::F_ERROR,
     places::F_ICODE,
@@ -95,17 +99,50 @@ const OTHERS: [FieldPlace; OTHER_COUNT] = [
     places::W_ICODE,
 ];
 
-/// Puts some variables behind an order.
+/// How many register fields stand side by side, bit by bit.
+#[derive(Clone, Copy)]
+pub enum Weave {
+    /// None: the fields follow one another.
+    Apart,
+    /// Four, in the order of their variables: those of D and the destinations of E, and so on.
+    Fours,
+    /// Eight: those of D, E and M, and then those of W.
+    Eights,
+    /// All.
+    Whole,
+}
+
+impl Weave {
+    /// The number of fields that stand side by side.
+    fn width(self) -> usize
+        ensures { 0 < result }
+    {
+        match self {
+            Weave::Apart => 1,
+            Weave::Fours => 4,
+            Weave::Eights => 8,
+            Weave::Whole => places::REGISTER_COUNT,
+        }
+    }
+}
+
+/// Puts a variable after an order.
+fn put_variable(out: &mut Vec<u32>, v: u32) -> Result<(), Memory> {
+    match out.push(v) {
+        Ok(()) => Ok(()),
+        Err(_) => Err(Memory),
+    }
+}
+
+/// Puts some variables after an order.
 fn put_range(out: &mut Vec<u32>, first: u32, end: u32) -> Result<(), Memory> {
     for v in first..end {
-        if out.push(v).is_err() {
-            return Err(Memory);
-        }
+        put_variable(out, v)?;
     }
     Ok(())
 }
 
-/// Puts the variables of some fields behind an order.
+/// Puts the variables of some fields after an order, one field after another.
 fn put_fields(out: &mut Vec<u32>, fields: &[FieldPlace]) -> Result<(), Memory> {
     for field in fields {
         put_range(out, field.first, field.first.wrapping_add(field.bits))?;
@@ -113,24 +150,39 @@ fn put_fields(out: &mut Vec<u32>, fields: &[FieldPlace]) -> Result<(), Memory> {
     Ok(())
 }
 
+/// The number of bits of a register field.
+const REGISTER_BITS: u32 = 4;
+
+/// Puts the variables of some register fields after an order: all first bits, then all second ones, and so on.
+fn put_woven(out: &mut Vec<u32>, fields: &[FieldPlace]) -> Result<(), Memory> {
+    for bit in 0..REGISTER_BITS {
+        for field in fields {
+            put_variable(out, field.first.wrapping_add(bit))?;
+        }
+    }
+    Ok(())
+}
+
 /// The order for the rules of PIPE.
-fn registers_last(alloc: Global, vars: u32) -> Result<Vec<u32>, Memory> {
+fn registers_last(alloc: Global, vars: u32, weave: Weave) -> Result<Vec<u32>, Memory> {
     let mut out: Vec<u32> = Vec::new(alloc);
     put_range(&mut out, BIT_COUNT, vars)?;
     let others = OTHERS;
     put_fields(&mut out, &others)?;
     let registers = places::REGISTERS;
-    put_fields(&mut out, &registers)?;
+    for fields in registers.chunks(weave.width()) {
+        put_woven(&mut out, fields)?;
+    }
     Ok(out)
 }
 
 /// An order of some variables.
 #[tactic(auto, using(crate::proofs::Orders::numbers_size, crate::proofs::Orders::numbers_order))]
-pub fn order_of(alloc: Global, vars: u32) -> Result<Orders, Memory>
+pub fn order_of(alloc: Global, vars: u32, weave: Weave) -> Result<Orders, Memory>
     ensures size { IfOk result (λ o. length o.order.items ≡ vars) }
     ensures order { IfOk result (λ o. IsOrder o.order.items o.ranks.items) }
 {
-    let order = registers_last(alloc, vars)?;
+    let order = registers_last(alloc, vars, weave)?;
     if order.len() as u64 == vars as u64 {
         let found = ranks_of(alloc, order.as_slice())?;
         match found {

@@ -1,13 +1,13 @@
 //! A certificate of what is demanded.
 ghost use Rattle.std.specs.Prelude.{◌≡◌, ◌++◌, ◌<◌, true, false, length, get_or, MatchOption, IfOk, IfSome, OnOk, None};
-ghost use Rattle.certificates.specs.Certificates.{CertOk, head_text};
+ghost use Rattle.certificates.specs.Certificates.{AreSeven, CertOk, head_text};
 ghost use Rattle.bdd_core.specs.Meaning.{Always, IsDia, IsLeastFalse};
 ghost use Rattle.cert_writer.specs.Nodes.{IsDrawn, IsOrder, no_dia};
 ghost use Rattle.cert_writer.specs.Writing.{AreGateTerms, AreInside, AreTrue, IsOpen};
 
 use crate::claims::Claims;
 use crate::drawn::{Drawn, draw};
-use crate::order::order_of;
+use crate::order::{Weave, order_of};
 use crate::terms::Terms;
 use crate::text::{put, put_gates, put_steps, put_terms};
 use certificates::Demands;
@@ -53,27 +53,65 @@ fn is_open(g: &Demands, order: &[u32], ranks: &[u32], drawn: &Drawn) -> Result<b
 
 /// Puts the first two lines.
 #[tactic(auto, using(crate::proofs::Demanded::head_put))]
-fn put_head(alloc: Global, out: &mut Vec<u8>, settings: &Settings) -> Result<(), Memory>
-    ensures { OnOk result (out.new.items ≡ out.old.items ++ head_text settings.now) }
+fn put_head(alloc: Global, out: &mut Vec<u8>, settings: Settings) -> Result<(), Memory>
+    ensures put { OnOk result (out.new.items ≡ out.old.items ++ head_text settings) }
+    ensures seven { AreSeven settings }
 {
-    let yes = pipe_acceptance(alloc, settings)?;
+    let yes = pipe_acceptance(alloc, &settings)?;
     put(out, b"y86cert 1\n")?;
     put(out, yes.as_slice())?;
     Ok(())
 }
 
+/// How large a certificate may become in one order of variables.
+#[derive(Clone, Copy)]
+struct Limits {
+    /// Of operations on diagrams.
+    steps: u64,
+    terms: u64,
+    claims: usize,
+}
+
+/// A certificate within these limits has less than 60 MB.
+const SHORT: Limits = Limits {
+    steps: 3_000_000,
+    terms: 650_000,
+    claims: 1_050_000,
+};
+
+/// A certificate within these limits is short enough for `recheck`, which reads 536,870,912 bytes.
+const READABLE: Limits = Limits {
+    steps: 30_000_000,
+    terms: 4_000_000,
+    claims: 9_000_000,
+};
+
+const NO_LIMITS: Limits = Limits {
+    steps: u64::MAX,
+    terms: u64::MAX,
+    claims: usize::MAX,
+};
+
 /// The text of a certificate, from the terms of the gates.
-fn text_of(alloc: Global, g: &Demands, terms: &Terms, ts: &[u32]) -> Result<Vec<u8>, Memory>
+///
+/// Errors: `Memory`, also where there are more claims than `most`.
+fn text_of(
+    alloc: Global,
+    g: &Demands,
+    terms: &Terms,
+    ts: &[u32],
+    most: usize,
+) -> Result<Vec<u8>, Memory>
     requires inside { AreInside g.now }
     requires vars { length terms.now.order ≡ g.now.net.vars }
     requires shut { AreTrue g.now }
     requires terms { AreGateTerms g.now.net (length terms.now.order) terms.now.terms ts.now (length g.now.net.gates) }
     ensures { IfOk result (λ text. CertOk g.now text.items) }
 {
-    let mut claims = Claims::new(alloc, terms.made(), terms.ranks())?;
+    let mut claims = Claims::new(alloc, terms.made(), terms.ranks(), most)?;
     let by = claims.gate_claims(alloc, &g.net, ts)?;
     let mut out = Vec::new(alloc);
-    put_head(alloc, &mut out, &g.settings)?;
+    put_head(alloc, &mut out, g.settings)?;
     put_terms(&mut out, g, terms.made())?;
     put_steps(&mut out, g, &claims)?;
     put_gates(&mut out, g, &claims, ts, by.as_slice())?;
@@ -81,21 +119,71 @@ fn text_of(alloc: Global, g: &Demands, terms: &Terms, ts: &[u32]) -> Result<Vec<
     Ok(out)
 }
 
-/// A certificate of what is demanded; `None` where a demanded gate is false at some pattern of bits.
-pub fn write(alloc: Global, g: &Demands) -> Result<Option<Vec<u8>>, Memory>
+/// A certificate in one order of variables; `None` where a demanded gate is false at some pattern of bits.
+///
+/// Errors: `Memory`, also where it would be larger than the limits allow.
+fn write_in(
+    alloc: Global,
+    g: &Demands,
+    weave: Weave,
+    limits: Limits,
+) -> Result<Option<Vec<u8>>, Memory>
     requires inside { AreInside g.now }
     ensures some { IfOk result (λ o. IfSome o (λ text. CertOk g.now text.items)) }
     ensures none { IfOk result (λ o. o ≡ None → IsOpen g.now) }
 {
-    let orders = order_of(alloc, g.net.vars())?;
+    let orders = order_of(alloc, g.net.vars(), weave)?;
     let order = orders.order.as_slice();
     let ranks = orders.ranks.as_slice();
-    let drawn = draw(alloc, &g.net, order, ranks)?;
+    let drawn = draw(alloc, &g.net, order, ranks, limits.steps, limits.terms)?;
     if is_open(g, order, ranks, &drawn)? {
         return Ok(None);
     }
     let mut terms = Terms::new(alloc, &drawn.store, order, ranks, drawn.dias.as_slice())?;
     let ts = terms.gate_terms(alloc, &g.net, drawn.dias.as_slice())?;
-    let text = text_of(alloc, g, &terms, ts.as_slice())?;
+    let text = text_of(alloc, g, &terms, ts.as_slice(), limits.claims)?;
     Ok(Some(text))
+}
+
+/// A certificate in the first of the orders in which it stays within the limits; `None` where a demanded gate is false at
+/// some pattern of bits.
+///
+/// Errors: `Memory`, also where it stays within them in none.
+fn write_within(alloc: Global, g: &Demands, limits: Limits) -> Result<Option<Vec<u8>>, Memory>
+    requires inside { AreInside g.now }
+    ensures some { IfOk result (λ o. IfSome o (λ text. CertOk g.now text.items)) }
+    ensures none { IfOk result (λ o. o ≡ None → IsOpen g.now) }
+{
+    match write_in(alloc, g, Weave::Apart, limits) {
+        Ok(text) => return Ok(text),
+        Err(Memory) => {}
+    }
+    match write_in(alloc, g, Weave::Fours, limits) {
+        Ok(text) => return Ok(text),
+        Err(Memory) => {}
+    }
+    match write_in(alloc, g, Weave::Eights, limits) {
+        Ok(text) => return Ok(text),
+        Err(Memory) => {}
+    }
+    write_in(alloc, g, Weave::Whole, limits)
+}
+
+/// A certificate of what is demanded; `None` where a demanded gate is false at some pattern of bits.
+///
+/// Which order of variables makes it short depends on the registers that the file compares, so several are tried.
+pub fn write(alloc: Global, g: &Demands) -> Result<Option<Vec<u8>>, Memory>
+    requires inside { AreInside g.now }
+    ensures some { IfOk result (λ o. IfSome o (λ text. CertOk g.now text.items)) }
+    ensures none { IfOk result (λ o. o ≡ None → IsOpen g.now) }
+{
+    match write_within(alloc, g, SHORT) {
+        Ok(text) => return Ok(text),
+        Err(Memory) => {}
+    }
+    match write_within(alloc, g, READABLE) {
+        Ok(text) => return Ok(text),
+        Err(Memory) => {}
+    }
+    write_in(alloc, g, Weave::Fours, NO_LIMITS)
 }

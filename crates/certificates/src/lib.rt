@@ -19,6 +19,6 @@ pub use demands::Demands;
 pub use fault::{CertError, CertFault, CertWhy};
 pub use heading::stated;
 pub use known::{Claim, Made};
-pub use laws::{law_of_certificates, law_of_faults};
+pub use laws::{law_of_certificates, law_of_faults, law_of_other_nets};
 pub use line::Line;
 pub use rules::{is_made, is_plain_and, is_plain_not, made_at, part};

@@ -6,8 +6,8 @@ use Rattle.cert_writer.proofs.drawn.draw.Goals as goal
 
 pub loop-i-init : goal.loop-i-init
 loop-i-init c =
-    let vars : c.in_ok-copy.copy.net.vars ≡ c.new-store.result.vars = (let copied = c.in_ok-copy.ensures.vars in let new = c.new-store.ensures.vars in omega (arith, copied, new)) in
-    drawn_none c.in_ok-copy.copy.net c.in_ok-copy.copy.gates c.new-store.result c.in_ok-built.built c.new-dias.result.items vars (c.in_ok-built.ensures c.new-store.result) c.new-dias.ensures.items
+    let vars : c.in_ok-copy.copy.net.vars ≡ c.bounded-store.result.vars = (let copied = c.in_ok-copy.ensures.vars in let new = c.bounded-store.ensures.vars in omega (arith, copied, new)) in
+    drawn_none c.in_ok-copy.copy.net c.in_ok-copy.copy.gates c.bounded-store.result c.in_ok-built.built c.new-dias.result.items vars (c.in_ok-built.ensures c.bounded-store.result) c.new-dias.ensures.items
 
 pub loop-i-preserved : goal.loop-i-preserved
 loop-i-preserved c =

@@ -9,7 +9,7 @@ use Rattle.cert_writer.proofs.writer.text_of.Goals as goal
 
 pub put_terms-requires-clause-wrote : goal.put_terms-requires-clause-wrote
 put_terms-requires-clause-wrote c =
-    wrote_start c.args.g.now c.put_head.new.out.items (c.in_ok-put_head.ensures ∙ ap (λ (xs : List ℕ). xs ++ head_text c.args.g.now.settings) c.new-out.ensures.items)
+    wrote_start c.args.g.now c.put_head.new.out.items c.put_head.ensures.seven (c.in_ok-put_head.ensures.put ∙ ap (λ (xs : List ℕ). xs ++ head_text c.args.g.now.settings) c.new-out.ensures.items)
 
 pub put_gates-requires-clause-gates : goal.put_gates-requires-clause-gates
 put_gates-requires-clause-gates c =
