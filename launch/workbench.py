@@ -14,7 +14,7 @@ from dataclasses import dataclass
 
 import unproved
 from handout import commit_of, said_by
-from programs import PROGRAMS
+from programs import PROGRAMS, programs_in
 from proving import jobs_at_once, tell
 from wasm import compiling, keeping
 
@@ -35,7 +35,7 @@ class Program:
 
 def crates_there(here: str) -> list[str]:
     """Returns the crates of the programs that are there; the page does without the others."""
-    return [it for it in PROGRAMS if os.path.isfile(f"{here}/crates/{it}/src/main.rt")]
+    return programs_in(here)
 
 
 def sum_of(here: str, crate: str, kit: unproved.Kit) -> str:

@@ -6,11 +6,18 @@ import pytest
 
 from helpers.browser import Browser, command
 from helpers.paths import TOP
-from helpers.programs import PROGRAMS, NoProgram, Program, program_path
+from helpers.programs import NoProgram, Program, program_path
+from programs import PROGRAMS, programs_in
 
 
 def pytest_addoption(parser):
     parser.addoption("--proved", action="store_true", help="test the built programs, and fail where one isn't there")
+
+
+def pytest_configure(config):
+    lost = [it for it in programs_in(TOP) if not os.access(f"{TOP}/crates/{it}/out/{it}", os.X_OK)]
+    if config.getoption("proved") and lost:
+        raise pytest.UsageError(f"--proved: {', '.join(lost)} isn't built")
 
 
 @pytest.fixture(scope="session")
@@ -20,13 +27,15 @@ def programs(request):
 
     def path(crate):
         assert crate in PROGRAMS, f"{crate} isn't listed in launch/programs.py"
-        if not os.path.isdir(f"{TOP}/crates/{crate}"):
+        if crate not in programs_in(TOP):
             pytest.skip(f"there is no crate {crate}")
         if crate not in found:
             try:
                 found[crate] = program_path(crate, request.config.getoption("proved"))
             except NoProgram as why:
-                pytest.exit(f"there is no program {crate} to test: {why}", returncode=2)
+                found[crate] = why
+        if isinstance(found[crate], NoProgram):
+            pytest.fail(f"there is no program {crate} to test: {found[crate]}", pytrace=False)
         return found[crate]
 
     return path

@@ -17,7 +17,7 @@ from helpers.cases import cases, identifier, same
 from helpers.pages import Session, transcripts
 from helpers.paths import TOP
 from helpers.repository import Repository
-from programs import PROGRAMS, launcher
+from programs import launcher, programs_in
 from y86lab import cli
 
 # All that the commands of the pages may call beside the programs.
@@ -109,7 +109,7 @@ def test_a_link_to_a_page_that_is_not_handed_out(handed):
 def class_folder(programs, tmp_path_factory):
     """The folder of a class, with the programs that are tested, and a PATH of the tools that the pages' commands name."""
     room = os.path.realpath(tmp_path_factory.mktemp("class"))
-    built = {launcher(crate): programs(crate) for crate in PROGRAMS if os.path.isdir(f"{TOP}/crates/{crate}")}
+    built = {launcher(crate): programs(crate) for crate in programs_in(TOP)}
     handout.fill(TOP, built, f"{room}/folder")
     handout.fill(TOP, built, f"{room}/without", has_solutions=False)
     for path, names in ((f"{room}/tools", [*TOOLS, "python3"]), (f"{room}/python", ["python3"])):

@@ -125,18 +125,37 @@ def test_told(cycle, pages, browser):
     same((WAITS in told, [it for it in told if it in FORWARDED]), (cycle == 3, FORWARDED if cycle == 4 else []))
 
 
-def test_moving(pages, browser):
-    """The slider, a button, a click on the diagram and the keys move to another cycle, the arrow keys also after "all fields"."""
-    browser.open(pages("load/use").path, "#cycle=5")
+def at_cycle(browser, pages, cycle):
+    browser.open(pages("load/use").path, f"#cycle={cycle}")
+
+
+def test_the_slider_moves(pages, browser):
+    at_cycle(browser, pages, 5)
     browser.value("document.getElementById('slider').value = 4; document.getElementById('slider').dispatchEvent(new Event('input'))")
     same(browser.value(BOXES), LOAD_USE[4])
+
+
+def test_a_button_moves(pages, browser):
+    at_cycle(browser, pages, 4)
     browser.value("document.getElementById('back').click()")
     same((browser.value(BOXES), browser.value("location.hash")), (LOAD_USE[3], "#cycle=3"))
+
+
+def test_a_click_on_the_diagram_moves(pages, browser):
+    at_cycle(browser, pages, 3)
     browser.value("document.querySelector('.cell[data-cycle=\"5\"]').click()")
     same(browser.value(BOXES), LOAD_USE[5])
+
+
+def test_the_arrow_keys_move_after_all_fields(pages, browser):
+    at_cycle(browser, pages, 5)
     browser.value("document.getElementById('all').focus(); document.getElementById('all').click()")
     browser.press("ArrowLeft")
     same(browser.value("document.getElementById('number').textContent"), "4")
+
+
+def test_the_last_cycle_says_how_it_ends(pages, browser):
+    at_cycle(browser, pages, 3)
     browser.press("End")
     same(browser.value(TOLD)[-1], "The run ends with HLT.")
 
@@ -177,11 +196,13 @@ def cycles(said):
     return found
 
 
-@cases([("asum under std", "std", "asum"), ("jump under no_bypassing", "no_bypassing", "jump")])
-def test_whole_run(row, pages, browser, y86, y86_stages):
-    """By its keys: each cycle shows what the program says, and the last one the words that `psim` ends with."""
+RUNS = [("asum under std", "std", "asum"), ("jump under no_bypassing", "no_bypassing", "jump")]
+
+
+@cases(RUNS)
+def test_whole_run(row, pages, browser, y86_stages):
+    """By its keys: each cycle shows what the program says."""
     name, hcl, program = row
-    browser.size(1280, 900)
     browser.open(pages(name).path)
     shown, wanted = [], cycles(y86_stages(*of(hcl, program)).out.decode())
     for _, state in wanted:
@@ -189,6 +210,14 @@ def test_whole_run(row, pages, browser, y86, y86_stages):
         shown.append((browser.value(BOXES), {it: now.get(it) for it in state}))
         browser.press("ArrowRight")
     same(shown, wanted)
+
+
+@cases(RUNS)
+def test_what_a_run_leaves(row, pages, browser, y86):
+    """The last cycle shows the words that `psim` ends with."""
+    name, hcl, program = row
+    browser.open(pages(name).path)
+    browser.press("End")
     now, ended = browser.value(STATE), y86("psim", *of(hcl, program)).out.decode()
     left = {at: hex(int(word, 16)) for at, word in re.findall(r"^(\S+):\t\S+\t(\S+)$", ended, re.M)}
     same({at: now.get(at) or next((word for it, word in now.items() if it.startswith("0x") and int(it, 16) == int(at, 16)), None) for at in left}, left)

@@ -8,7 +8,7 @@ from helpers.cases import identifier, same
 from helpers.designs import example, replaced
 from helpers.pages import Session, broken, datapath, pages, transcripts
 from helpers.paths import TOP
-from programs import PROGRAMS, launcher
+from programs import launcher, programs_in
 
 
 def commands():
@@ -32,10 +32,9 @@ def sessions(programs, tmp_path_factory):
                 if os.path.exists(f"{TOP}/{name}"):
                     os.symlink(f"{TOP}/{name}", room / name)
             environment = dict(os.environ)
-            for crate in PROGRAMS:
-                if os.path.isdir(f"{TOP}/crates/{crate}"):
-                    os.symlink(programs(crate), room / launcher(crate))
-                    environment[crate.upper()] = programs(crate)
+            for crate in programs_in(TOP):
+                os.symlink(programs(crate), room / launcher(crate))
+                environment[crate.upper()] = programs(crate)
             found[page] = Session(page, room, environment)
         return found[page]
 

@@ -10,9 +10,7 @@ import sys
 from typing import NamedTuple
 
 from helpers.paths import TOP
-from programs import PROGRAMS
 
-__all__ = ["PROGRAMS", "Answer", "NoProgram", "Program", "program_path", "put"]
 
 
 class NoProgram(Exception):

@@ -7,7 +7,7 @@ import time
 from dataclasses import dataclass
 from typing import Optional
 
-from .calls import Answer, Limits, Programs, full_flag
+from .calls import Answer, Limits, Programs, full_flag, read_text
 from .trial_programs import Lines
 
 # The most steps of a program; of cycles it has five times as many.
@@ -48,6 +48,8 @@ class Trial:
         self.flags = full_flag(full)
         self.source, self.object = os.path.join(folder, "p.ys"), os.path.join(folder, "p.yo")
         self.right = os.path.join(programs.examples, *right_design(full))
+        # (a folder without the book's solutions lacks the one with iaddq)
+        read_text(self.right)
         self.deadline: Optional[float] = None
 
     def keep_to(self, seconds: Optional[float]) -> None:
