@@ -25,3 +25,7 @@ pub record IsStopped (text : List ℕ) (s : Stopped) : Type 0 where
   pub is_fault : IsFault text s.fault
   pub place : IsPlace text s.fault.line s.fault.col s.at
   pub there : Describes text s
+
+-- the tokens that begin before the place of a fault are just those in front of it, with which files begin
+abbrev pub IndexIsOfFront : Type 0
+IndexIsOfFront = (text : List ℕ) (s : Stopped) (stopped : IsStopped text s) → s.index ≡ length stopped.is_fault.front

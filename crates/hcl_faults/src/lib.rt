@@ -20,5 +20,5 @@ pub use cases::{
 pub use expected::{FOLLOW_KINDS, expected_kinds, law_of_expected};
 pub use kinds::{TokenKind, kind_of, sample};
 pub use places::{TextPlace, place_at};
-pub use stop::{Stopped, stop_in};
+pub use stop::{Stopped, law_of_fronts, stop_in};
 pub use tokens::{TokenAt, token_list};

@@ -98,3 +98,9 @@ pub fn stop_in(alloc: Global, text: &[u8]) -> Result<Option<Stopped>, Memory>
         },
     }
 }
+
+/// The tokens that begin before the place at which the reader stops are just those with which the fault says that a file
+/// can begin: no other token is in front, and the one at the place is the one that is refused.
+pub fn law_of_fronts()
+    ensures { spec.IndexIsOfFront }
+{}

@@ -1,0 +1,139 @@
+//! A report as JSON (RFC 8259), in one line. Bytes that are no printable ASCII are escaped as the characters of their
+//! numbers.
+use fault_report::{Fault, Related, Report, datapath_name, put_bytes, put_decimal};
+use std::alloc::Global;
+use y86_base::{Memory, Numeral};
+
+/// Adds a byte of a string.
+fn put_char(out: &mut Vec<u8>, byte: u8) -> Result<(), Memory> {
+    if byte == b'"' || byte == b'\\' {
+        put_bytes(out, b"\\")?;
+        return put_bytes(out, &[byte]);
+    }
+    if b' ' <= byte && byte <= b'~' {
+        return put_bytes(out, &[byte]);
+    }
+    put_bytes(out, b"\\u")?;
+    let digits = Numeral::hex(4, u64::from(byte));
+    put_bytes(out, digits.as_bytes())
+}
+
+/// Adds a string.
+fn put_string(out: &mut Vec<u8>, bytes: &[u8]) -> Result<(), Memory> {
+    put_bytes(out, b"\"")?;
+    for byte in bytes {
+        match put_char(out, *byte) {
+            Err(memory) => return Err(memory),
+            Ok(()) => {}
+        }
+    }
+    put_bytes(out, b"\"")
+}
+
+/// Adds a member of an object whose value is a string. The name has what is in front of it.
+fn put_text(out: &mut Vec<u8>, name: &[u8], bytes: &[u8]) -> Result<(), Memory> {
+    put_bytes(out, name)?;
+    put_string(out, bytes)
+}
+
+/// Adds a member of an object whose value is a number.
+fn put_number(out: &mut Vec<u8>, name: &[u8], number: u64) -> Result<(), Memory> {
+    put_bytes(out, name)?;
+    put_decimal(out, number)
+}
+
+/// Adds what parts two elements.
+fn put_comma(out: &mut Vec<u8>, is_first: bool) -> Result<(), Memory> {
+    if is_first {
+        Ok(())
+    } else {
+        put_bytes(out, b", ")
+    }
+}
+
+/// Adds the names of what could be at the place.
+fn put_expected(out: &mut Vec<u8>, expected: &[&'static [u8]]) -> Result<(), Memory> {
+    put_bytes(out, b", \"expected\": [")?;
+    let mut is_first = true;
+    for name in expected {
+        match put_comma(out, is_first) {
+            Err(memory) => return Err(memory),
+            Ok(()) => {}
+        }
+        match put_string(out, *name) {
+            Err(memory) => return Err(memory),
+            Ok(()) => is_first = false,
+        }
+    }
+    put_bytes(out, b"]")
+}
+
+/// Adds another place.
+fn put_place(out: &mut Vec<u8>, place: &Related) -> Result<(), Memory> {
+    put_text(out, b"{\"role\": ", place.role)?;
+    put_text(out, b", \"text\": ", place.text.bytes())?;
+    put_number(out, b", \"line\": ", place.line)?;
+    put_number(out, b", \"column\": ", place.column)?;
+    put_bytes(out, b"}")
+}
+
+/// Adds the other places.
+fn put_places(out: &mut Vec<u8>, places: &[Related]) -> Result<(), Memory> {
+    put_bytes(out, b", \"related\": [")?;
+    let mut is_first = true;
+    for place in places {
+        match put_comma(out, is_first) {
+            Err(memory) => return Err(memory),
+            Ok(()) => {}
+        }
+        match put_place(out, place) {
+            Err(memory) => return Err(memory),
+            Ok(()) => is_first = false,
+        }
+    }
+    put_bytes(out, b"]")
+}
+
+/// Adds a fault.
+fn put_fault(out: &mut Vec<u8>, fault: &Fault) -> Result<(), Memory> {
+    put_number(out, b"{\"line\": ", fault.line)?;
+    put_number(out, b", \"column\": ", fault.column)?;
+    put_text(out, b", \"code\": ", fault.code)?;
+    put_text(out, b", \"reason\": ", fault.reason)?;
+    put_text(out, b", \"sentence\": ", fault.sentence.bytes())?;
+    put_text(out, b", \"found\": ", fault.found.bytes())?;
+    put_expected(out, fault.expected.items())?;
+    put_places(out, fault.related.items())?;
+    put_bytes(out, b"}")
+}
+
+/// Adds all faults.
+fn put_faults(out: &mut Vec<u8>, faults: &[Fault]) -> Result<(), Memory> {
+    put_bytes(out, b"\"faults\": [")?;
+    let mut is_first = true;
+    for fault in faults {
+        match put_comma(out, is_first) {
+            Err(memory) => return Err(memory),
+            Ok(()) => {}
+        }
+        match put_fault(out, fault) {
+            Err(memory) => return Err(memory),
+            Ok(()) => is_first = false,
+        }
+    }
+    put_bytes(out, b"]")
+}
+
+/// A report as a JSON object with a line feed behind it: `file`, `datapath` where there is one, and `faults`, each with
+/// `line`, `column`, `code`, `reason`, `sentence`, `found`, `expected` and `related`.
+pub fn report_json(alloc: Global, file: &[u8], report: &Report) -> Result<Vec<u8>, Memory> {
+    let mut out = Vec::new(alloc);
+    put_text(&mut out, b"{\"file\": ", file)?;
+    if let Some(datapath) = report.datapath {
+        put_text(&mut out, b", \"datapath\": ", datapath_name(datapath))?;
+    }
+    put_bytes(&mut out, b", ")?;
+    put_faults(&mut out, report.faults.items())?;
+    put_bytes(&mut out, b"}\n")?;
+    Ok(out)
+}

@@ -1,0 +1,5 @@
+use Rattle.std.proofs.Common.{length}
+use Rattle.fault_report.proofs.assembly.put_labels.Given as goal
+
+abbrev pub decreases-lines : goal.decreases-lines
+decreases-lines l = length l.rest

@@ -1,0 +1,105 @@
+//! What is told of a file: its faults, each with its place, its sentence and the facts that the sentence is made of.
+use hcl_read::Text;
+use hcl_types::Table;
+use std::alloc::Global;
+use y86_base::{Items, Memory};
+
+/// A datapath of CS:APP 3e, chapter 4.
+#[derive(Clone, Copy, Debug, PartialEq, Eq)]
+pub enum Datapath {
+    Seq,
+    SeqPlus,
+    Pipe,
+}
+
+/// The tables of names of the three datapaths.
+#[derive(Drop)]
+pub struct Tables {
+    pub seq: Table,
+    pub seq_plus: Table,
+    pub pipe: Table,
+}
+
+/// Another place that a fault speaks of, and what is there.
+#[derive(Debug, Drop)]
+pub struct Related {
+    /// `bracket`, `before`, `first`, `cycle`
+    pub role: &'static [u8],
+    pub text: Text,
+    pub line: u64,
+    pub column: u64,
+}
+
+/// A fault of a file.
+#[derive(Debug, Drop)]
+pub struct Fault {
+    /// From 1; 0 where the fault belongs to no line, as a signal that is missing.
+    pub line: u64,
+    /// In bytes, from 1; 0 where the whole line is meant.
+    pub column: u64,
+    /// The stable name of this kind of fault, as `hcl.semicolon`.
+    pub code: &'static [u8],
+    /// The word by which `y86` refuses the file for it.
+    pub reason: &'static [u8],
+    /// One or two sentences without a line feed.
+    pub sentence: Text,
+    /// The token or the name that it is about; empty at the end of the text.
+    pub found: Text,
+    /// What could stand at the place, by name.
+    pub expected: Items<&'static [u8]>,
+    pub related: Items<Related>,
+}
+
+/// The faults of a file, in the order in which they are told. A file without any is accepted; one of HCL is a design
+/// for the datapath then.
+#[derive(Debug, Drop)]
+pub struct Report {
+    pub datapath: Option<Datapath>,
+    pub faults: Items<Fault>,
+}
+
+/// The name of a datapath.
+pub fn datapath_name(datapath: Datapath) -> &'static [u8] {
+    match datapath {
+        Datapath::Seq => b"SEQ",
+        Datapath::SeqPlus => b"SEQ+",
+        Datapath::Pipe => b"PIPE",
+    }
+}
+
+/// Adds an element to a list.
+pub fn put<T: Drop>(list: &mut Vec<T>, last: T) -> Result<(), Memory> {
+    match list.push(last) {
+        Ok(()) => Ok(()),
+        Err(_) => Err(Memory),
+    }
+}
+
+/// The part of a text between two places; nothing where they are no such places.
+pub fn part(text: &[u8], from: usize, to: usize) -> &[u8] {
+    if from <= to && to <= text.len() {
+        let front = text.split_at(to).0;
+        front.split_at(from).1
+    } else {
+        text.split_at(text.len()).1
+    }
+}
+
+/// Another place with what is there.
+pub fn other_place(
+    alloc: Global,
+    role: &'static [u8],
+    bytes: &[u8],
+    line: u64,
+    column: u64,
+) -> Result<Related, Memory> {
+    match Text::of(alloc, bytes) {
+        Err(memory) => Err(memory),
+        Ok(text) => Ok(Related {
+            role,
+            text,
+            line,
+            column,
+        }),
+    }
+}

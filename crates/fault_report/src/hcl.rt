@@ -1,0 +1,138 @@
+//! The faults of an HCL text.
+ghost use Rattle.hcl_types.specs.Tables.{IsSound};
+
+use crate::facts::{Datapath, Fault, Report, Tables, put};
+use crate::hcl_binding::{Source, count_unknown, datapath_fault, table_faults};
+use crate::hcl_reading::reading_fault;
+use hcl_faults::{TokenAt, stop_in, token_list};
+use hcl_read::read;
+use hcl_types::Table;
+use std::alloc::Global;
+use y86_base::{Items, Memory};
+
+/// The table of a datapath.
+fn table_of(tables: &Tables, datapath: Datapath) -> &Table
+    requires seq { IsSound tables.now.seq.rows }
+    requires seq_plus { IsSound tables.now.seq_plus.rows }
+    requires pipe { IsSound tables.now.pipe.rows }
+    ensures { IsSound result.now.rows }
+{
+    match datapath {
+        Datapath::Seq => &tables.seq,
+        Datapath::SeqPlus => &tables.seq_plus,
+        Datapath::Pipe => &tables.pipe,
+    }
+}
+
+/// The faults of a text that is HCL, over the names of a datapath.
+fn faults_over<'a>(
+    alloc: Global,
+    text: &'a [u8],
+    tokens: &'a [TokenAt],
+    tables: &Tables,
+    datapath: Datapath,
+) -> Result<Vec<Fault>, Memory>
+    requires seq { IsSound tables.now.seq.rows }
+    requires seq_plus { IsSound tables.now.seq_plus.rows }
+    requires pipe { IsSound tables.now.pipe.rows }
+{
+    let source = Source {
+        text,
+        tokens,
+        datapath,
+    };
+    match read(alloc, text) {
+        Err(_) => Err(Memory),
+        Ok(file) => table_faults(alloc, &source, file, table_of(tables, datapath)),
+    }
+}
+
+/// How many names of a text a datapath lacks.
+fn lacks(text: &[u8], tokens: &[TokenAt], tables: &Tables, datapath: Datapath) -> u64
+    requires seq { IsSound tables.now.seq.rows }
+    requires seq_plus { IsSound tables.now.seq_plus.rows }
+    requires pipe { IsSound tables.now.pipe.rows }
+{
+    count_unknown(text, tokens, table_of(tables, datapath).rows.items())
+}
+
+/// The datapath that lacks the fewest names of a text: of several the first of PIPE, SEQ and SEQ+.
+fn nearest(text: &[u8], tokens: &[TokenAt], tables: &Tables) -> Datapath
+    requires seq { IsSound tables.now.seq.rows }
+    requires seq_plus { IsSound tables.now.seq_plus.rows }
+    requires pipe { IsSound tables.now.pipe.rows }
+{
+    let pipe = lacks(text, tokens, tables, Datapath::Pipe);
+    let seq = lacks(text, tokens, tables, Datapath::Seq);
+    let seq_plus = lacks(text, tokens, tables, Datapath::SeqPlus);
+    if pipe <= seq && pipe <= seq_plus {
+        Datapath::Pipe
+    } else if seq <= seq_plus {
+        Datapath::Seq
+    } else {
+        Datapath::SeqPlus
+    }
+}
+
+/// The faults over the names of a datapath that was asked for. Where it lacks names and another has all of them, that is
+/// the one fault which is told.
+fn faults_of_asked<'a>(
+    alloc: Global,
+    text: &'a [u8],
+    tokens: &'a [TokenAt],
+    tables: &Tables,
+    asked: Datapath,
+) -> Result<Vec<Fault>, Memory>
+    requires seq { IsSound tables.now.seq.rows }
+    requires seq_plus { IsSound tables.now.seq_plus.rows }
+    requires pipe { IsSound tables.now.pipe.rows }
+{
+    let other = nearest(text, tokens, tables);
+    let is_other = lacks(text, tokens, tables, asked) > 0
+        && lacks(text, tokens, tables, other) == 0;
+    if !is_other {
+        return faults_over(alloc, text, tokens, tables, asked);
+    }
+    let source = Source {
+        text,
+        tokens,
+        datapath: asked,
+    };
+    let rows = table_of(tables, asked).rows.items();
+    let mut out = Vec::new(alloc);
+    put(&mut out, datapath_fault(alloc, &source, rows, other)?)?;
+    Ok(out)
+}
+
+/// The faults of an HCL text for a datapath, or for the one whose names fit best: where it is no HCL that one fault,
+/// else every fault of binding, or a cycle. None: the file is a design for the datapath.
+pub fn hcl_report(
+    alloc: Global,
+    text: &[u8],
+    tables: &Tables,
+    asked: Option<Datapath>,
+) -> Result<Report, Memory>
+    requires seq { IsSound tables.now.seq.rows }
+    requires seq_plus { IsSound tables.now.seq_plus.rows }
+    requires pipe { IsSound tables.now.pipe.rows }
+{
+    if let Some(stop) = stop_in(alloc, text)? {
+        let mut out = Vec::new(alloc);
+        put(&mut out, reading_fault(alloc, text, &stop)?)?;
+        let faults = Items::of(out);
+        return Ok(Report {
+            datapath: asked,
+            faults,
+        });
+    }
+    let tokens = token_list(alloc, text)?;
+    let datapath = match asked {
+        Some(datapath) => datapath,
+        None => nearest(text, tokens.as_slice(), tables),
+    };
+    let faults = faults_of_asked(alloc, text, tokens.as_slice(), tables, datapath)?;
+    Ok(Report {
+        datapath: Some(datapath),
+        faults: Items::of(faults),
+    })
+}

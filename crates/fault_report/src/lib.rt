@@ -1,0 +1,22 @@
+//! The faults of HCL, assembly and object text in sentences: text in, sentences and facts out. The sentences are data, in
+//! the tables of `hcl_rules` and `asm_rules`, and in `hcl_binding` and `object` those on what has one sentence a reason.
+#![tactic(auto)]
+
+mod asm_rules;
+mod assembly;
+mod blame;
+mod facts;
+mod fill;
+mod hcl;
+mod hcl_binding;
+mod hcl_reading;
+mod hcl_rules;
+mod object;
+mod show;
+
+pub use assembly::assembly_report;
+pub use facts::{Datapath, Fault, Related, Report, Tables, datapath_name};
+pub use fill::{put_bytes, put_decimal};
+pub use hcl::hcl_report;
+pub use object::object_report;
+pub use show::sentences_of;

@@ -1,0 +1,201 @@
+//! The faults of object text, as sentences.
+ghost use Rattle.y86_base.specs.Image.{IsSize};
+
+use crate::facts::{Fault, Report, part, put};
+use crate::fill::{filled, no_words};
+use crate::hcl_binding::{NOTHING_SAID, Saying};
+use hcl_read::Text;
+use std::alloc::Global;
+use y86_base::{Items, Memory, Variant, first_line};
+use yas_asm::{Statement, read_line};
+use yo_object::{YoFault, YoWhy, line_digits, load};
+
+/// The sentences on object text, in the order of `Said`.
+static OBJECT_SAYINGS: [Saying; 7] = [
+    Saying {
+        code: b"yo.line",
+        reason: b"Syntax",
+        pattern: b"A line of an object file is `0xADDRESS: BYTES`, both in hex digits, and then its end or `|` and a comment.",
+    },
+    Saying {
+        code: b"yo.digits",
+        reason: b"OddDigits",
+        pattern: b"The bytes have a hex digit too few: each byte has two.",
+    },
+    Saying {
+        code: b"yo.outside",
+        reason: b"OutsideMemory",
+        pattern: b"A byte of this line is past the end of the memory, which has ~number~ bytes (`--mem`).",
+    },
+    Saying {
+        code: b"yo.address",
+        reason: b"AddressTooWide",
+        pattern: b"The address has more than 16 hex digits.",
+    },
+    Saying {
+        code: b"yo.memory",
+        reason: b"Memory",
+        pattern: b"Out of memory.",
+    },
+    Saying {
+        code: b"yo.source",
+        reason: b"NoBytes",
+        pattern: b"This is a source and no object file: assemble it by `yas` first. As an object file it puts no byte anywhere.",
+    },
+    Saying {
+        code: b"yo.empty",
+        reason: b"NoBytes",
+        pattern: b"No line puts a byte anywhere: a program of it is one `halt` at address 0.",
+    },
+];
+
+/// Which sentence is said, in the order of the table.
+#[derive(Clone, Copy)]
+enum Said {
+    Line,
+    Digits,
+    Outside,
+    Address,
+    Memory,
+    Source,
+    Empty,
+}
+
+/// The sentences on object text.
+pub fn object_sayings() -> &'static [Saying] {
+    &OBJECT_SAYINGS
+}
+
+/// The sentence of the table.
+fn saying_at(said: Said) -> Saying {
+    match object_sayings().get(said as usize) {
+        Some(saying) => *saying,
+        None => NOTHING_SAID,
+    }
+}
+
+/// The sentence on a reason.
+fn said_of(why: YoWhy) -> Said {
+    match why {
+        YoWhy::Syntax => Said::Line,
+        YoWhy::OddDigits => Said::Digits,
+        YoWhy::OutsideMemory => Said::Outside,
+        YoWhy::AddressTooWide => Said::Address,
+        YoWhy::Memory => Said::Memory,
+    }
+}
+
+/// A fault of a line, or of the whole text at line 0.
+fn told(alloc: Global, line: u64, size: u64, said: Said) -> Result<Fault, Memory> {
+    let saying = saying_at(said);
+    let mut words = no_words();
+    words.number = size;
+    let sentence = filled(alloc, saying.pattern, &words)?;
+    Ok(Fault {
+        line,
+        column: 0,
+        code: saying.code,
+        reason: saying.reason,
+        sentence: Text::of(alloc, sentence.as_slice())?,
+        found: Text::empty(alloc),
+        expected: Items::of(Vec::new(alloc)),
+        related: Items::of(Vec::new(alloc)),
+    })
+}
+
+/// What is behind some lines of a text.
+fn behind_lines(text: &[u8], count: u64) -> &[u8] {
+    let mut left = count;
+    let mut rest = text;
+    'lines: while left > 0 {
+        match first_line(rest) {
+            None => return rest,
+            Some((_, behind)) => {
+                left -= 1;
+                rest = behind;
+            }
+        }
+    }
+    rest
+}
+
+/// Tells of each line with a fault: the first, then the first behind it, and so on, since no line's fault depends on
+/// another line.
+fn put_faults(alloc: Global, text: &[u8], size: u64, out: &mut Vec<Fault>) -> Result<(), Memory>
+    requires { IsSize size }
+{
+    let mut rest = text;
+    let mut passed: u64 = 0;
+    'faults: for _round in 0..text.len() {
+        match load(alloc, rest, size) {
+            Ok(_) => return Ok(()),
+            Err(YoFault { line, why }) => {
+                if why == YoWhy::Memory {
+                    return Err(Memory);
+                }
+                let number = passed.saturating_add(line);
+                match told(alloc, number, size, said_of(why)) {
+                    Err(memory) => return Err(memory),
+                    Ok(fault) => match put(out, fault) {
+                        Err(memory) => return Err(memory),
+                        Ok(()) => {}
+                    },
+                }
+                rest = behind_lines(rest, line);
+                passed = number;
+            }
+        }
+    }
+    Ok(())
+}
+
+/// Whether some line puts a byte.
+fn has_bytes(text: &[u8]) -> bool {
+    let mut rest = text;
+    'lines: while let Some((line, behind)) = first_line(rest) {
+        if let Some(digits) = line_digits(line) {
+            if !digits.bytes.is_empty() {
+                return true;
+            }
+        }
+        rest = behind;
+    }
+    false
+}
+
+/// Whether some line is a statement of assembly.
+fn has_statement(text: &[u8]) -> bool {
+    let mut rest = text;
+    'lines: while let Some((line, behind)) = first_line(rest) {
+        if let Ok(parsed) = read_line(Variant::Full, line) {
+            match parsed.statement {
+                Statement::Nothing => {}
+                _ => return true,
+            }
+        }
+        rest = behind;
+    }
+    false
+}
+
+/// The faults of an object text for a memory of a size: each line with one, or that no line puts a byte. None: it is
+/// accepted, and some byte is put.
+pub fn object_report(alloc: Global, text: &[u8], size: u64) -> Result<Report, Memory>
+    requires { IsSize size }
+{
+    let mut out = Vec::new(alloc);
+    put_faults(alloc, text, size, &mut out)?;
+    if out.is_empty() && !has_bytes(text) {
+        let said = if has_statement(text) {
+            Said::Source
+        } else {
+            Said::Empty
+        };
+        let fault = told(alloc, 0, size, said)?;
+        put(&mut out, fault)?;
+    }
+    Ok(Report {
+        datapath: None,
+        faults: Items::of(out),
+    })
+}
