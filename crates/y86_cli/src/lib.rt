@@ -26,7 +26,7 @@ mod yis;
 
 pub use crate::calling::{call, unread, words_behind};
 pub use crate::datapath::Datapath;
-pub use crate::design::{Ordered, pipe_design, pipe_file};
+pub use crate::design::{Ordered, pipe_design, pipe_file, seq_file};
 pub use crate::laws::{law_of_accepted_files, law_of_answers, law_of_big, law_of_plans};
 pub use crate::running::{Status, run, tell};
 pub use crate::saying::say;

@@ -1,0 +1,23 @@
+use Rattle.std.proofs.Common.{sym, ◌∙◌, arith}
+use Rattle.stage_text.specs.declared.watching.Watched.{Watched}
+use Rattle.seq_text.proofs.Runs.{at_limit, before_limit, shows_run, watches_more}
+use Rattle.seq_text.proofs.seq.watch_seq.Goals as goal
+
+pub loop-k-preserved : goal.loop-k-preserved
+loop-k-preserved g c =
+    let before = c.loop-k.invariant in
+    let went = c.in-Ok.ensures.cycle in
+    record {
+      watches = watches_more _ _ _ _ c.loop-k.k c.loop-k.s _ _ _ went.0 before.watches (sym c.is_going.ensures ∙ c.if-not-is_going.false) went.1 went.2;
+      kept = c.in-Ok.ensures.kept;
+    }
+
+pub returns-then-not-is_going : goal.returns-then-not-is_going
+returns-then-not-is_going g c =
+    shows_run _ _ _ _ _ _ _ _ (λ (w : Watched). w.text.items) (λ (w : Watched). w.end) c.finished.result c.finished.ensures.text c.finished.ensures.end
+    (before_limit _ _ _ _ _ _ _ _ c.loop-k-test.true c.loop-k.invariant.watches (sym c.is_going.ensures ∙ c.if-not-is_going.true))
+
+pub returns : goal.returns
+returns g c =
+    shows_run _ _ _ _ _ _ _ _ (λ (w : Watched). w.text.items) (λ (w : Watched). w.end) c.finished-2.result c.finished-2.ensures.text c.finished-2.ensures.end
+    (at_limit _ _ _ _ _ _ _ _ (omega (arith, c.loop-k-test.false, c.loop-k.auto.k-end)) c.loop-k.invariant.watches)

@@ -1,0 +1,4 @@
+pub mod Signals
+pub mod Lines
+pub mod Watching
+pub mod Laws

@@ -1,0 +1,14 @@
+//! The cycles of SEQ and SEQ+ as text: the signals of each stage, cycle by cycle, and what each cycle writes.
+#![tactic(auto)]
+
+mod laws;
+mod lines;
+mod plus;
+mod seq;
+mod shown;
+mod signals;
+
+pub use laws::{law_of_changes, law_of_sources, law_of_watching};
+pub use plus::watch_plus;
+pub use seq::watch_seq;
+pub use signals::{Signals, Sources};

@@ -1,0 +1,127 @@
+//! The run of SEQ+, and what is shown of it.
+ghost use Rattle.std.specs.Prelude.{◌≡◌, ◌≤◌, ◌++◌, IfOk, List, OnOk, ℕ};
+ghost use Rattle.seq_plus.specs.PlusTable.{plus_rows};
+ghost use Rattle.hcl_types.specs.Tables.{IsBound, IsOrderOf};
+ghost use Rattle.hcl_types.specs.Terms.{at};
+ghost use Rattle.seq_text.specs.Signals.{plus_sources as told_sources};
+ghost use Rattle.seq_text.specs.Watching.{ShowsRun, PlusShows, plus_stat};
+ghost use Rattle.seq_text.specs.Watching as text;
+ghost use Rattle.seq_plus.specs.PlusRun.{plus_start};
+ghost use Rattle.seq_text.specs.Signals.{sources_in};
+
+use crate::lines::{put_choice, put_stages, put_state};
+use crate::shown::{finished, put_number};
+use crate::signals::{Sources, plus_signals, plus_sources};
+use dp_signals::at;
+use hcl_types::{Design, Order, Row, SignalEval};
+use machine_calls::is_going;
+use seq_plus::{PlusState, PlusValues, advance, row as plus_row, solve_plus};
+use stage_text::{Watched, Window, is_within};
+use std::alloc::Global;
+use y86_base::{Image, Memory, Variant};
+
+/// Puts the lines of a cycle.
+#[tactic(auto, unfolding(crate::specs::Watching::plus_lines))]
+fn put_lines(
+    out: &mut Vec<u8>,
+    s: &PlusState,
+    values: &PlusValues,
+    sources: &Sources<'_>,
+) -> Result<(), Memory>
+    ensures { OnOk result (out.new.items ≡ out.old.items ++ text.plus_lines s.now (at values.now) (sources_in sources.now)) }
+{
+    let signals = plus_signals(values);
+    put_choice(out, s.previous, at(values, plus_row::PC), sources)?;
+    put_stages(out, &signals, sources)?;
+    put_state(out, s.flags, &signals)
+}
+
+/// Puts what is shown of the cycle of a number.
+#[tactic(auto, unfolding(crate::specs::Watching::shown))]
+fn put_shown(
+    out: &mut Vec<u8>,
+    rows: &[Row],
+    design: &Design,
+    window: &Window,
+    number: u64,
+    s: &PlusState,
+    values: &PlusValues,
+) -> Result<(), Memory>
+    ensures { OnOk result (out.new.items
+        ≡ out.old.items ++ text.shown window.now number (text.plus_lines s.now (at values.now) (told_sources rows.now design.now.terms (at values.now)))) }
+{
+    if !is_within(window, number) {
+        return Ok(());
+    }
+    put_number(out, number)?;
+    put_lines(out, s, values, &plus_sources(rows, design, values))
+}
+
+/// Does the cycle of a number, and puts what is shown of it.
+fn cycle<C: SignalEval>(
+    s: &mut PlusState,
+    out: &mut Vec<u8>,
+    variant: Variant,
+    rows: &[Row],
+    design: &Design,
+    order: &Order,
+    evaluator: &mut C,
+    window: &Window,
+    number: u64,
+) -> Result<(), Memory>
+    requires table { rows.now ≡ plus_rows }
+    requires evaluates { C.evaluates evaluator.old design.now.terms }
+    requires bound { IsBound plus_rows design.now.terms }
+    requires ordered { IsOrderOf plus_rows design.now.terms order.now.ids }
+    ensures kept { OnOk result (C.evaluates evaluator.new design.now.terms) }
+    ensures cycle { OnOk result ((lines : List ℕ) × PlusShows variant design.now.terms s.old lines s.new
+        × (out.new.items ≡ out.old.items ++ text.shown window.now number lines)) }
+{
+    let values = solve_plus(variant, design, order, s, evaluator);
+    put_shown(out, rows, design, window, number, s, &values)?;
+    advance(s, &values);
+    Ok(())
+}
+
+/// Runs an image on SEQ+ under a design to its end or to the limit of cycles, and gives what is shown of it.
+pub fn watch_plus<C: SignalEval>(
+    alloc: Global,
+    variant: Variant,
+    rows: &[Row],
+    design: &Design,
+    order: &Order,
+    evaluator: &mut C,
+    image: Image,
+    limit: u64,
+    window: &Window,
+) -> Result<Watched, Memory>
+    requires table { rows.now ≡ plus_rows }
+    requires evaluates { C.evaluates evaluator.old design.now.terms }
+    requires bound { IsBound plus_rows design.now.terms }
+    requires ordered { IsOrderOf plus_rows design.now.terms order.now.ids }
+    requires limit { limit ≤ 100000000 }
+    ensures { IfOk result (λ w. ShowsRun (PlusShows variant design.now.terms) plus_stat window.now (plus_start image) limit w.text.items w.end) }
+{
+    let mut s = PlusState::start(image);
+    let mut lines = Vec::new(alloc);
+    for k in 0..limit {
+        if !is_going(s.stat) {
+            return finished(lines, s.stat, k);
+        }
+        match cycle(
+            &mut s,
+            &mut lines,
+            variant,
+            rows,
+            design,
+            order,
+            evaluator,
+            window,
+            k + 1,
+        ) {
+            Ok(()) => {}
+            Err(_) => return Err(Memory),
+        }
+    }
+    finished(lines, s.stat, limit)
+}
