@@ -1,0 +1,23 @@
+//! A refusal in sentences, and as JSON.
+//!
+//! The facts are those of `pipe_refusals`: the counterexample, the findings, the repairs, the false obligations. This crate writes them
+//! down. That it writes the right ones is tested, and not proved.
+#![tactic(auto)]
+
+mod findings;
+mod json_page;
+mod mending;
+mod motion;
+mod page;
+mod paragraph;
+mod scene;
+mod settings;
+mod stages;
+mod words;
+
+pub use json_page::put_refusal_json;
+pub use mending::{first_to_mend, is_motion, wrong_signals};
+pub use page::{CasePlace, put_refusal};
+pub use scene::{Scene, name_of, scene_of};
+pub use settings::{put_settings, put_settings_json};
+pub use words::{instruction, mnemonic, put_value, register, status, value_name};

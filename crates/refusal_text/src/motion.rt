@@ -1,0 +1,264 @@
+//! What goes wrong in the motion of the pipeline registers, in sentences.
+use crate::scene::Scene;
+use motion_repairs::{fetched, is_fetch_good, next_view, path, youngest_stops};
+use pipe_diagnosis::movers_at;
+use pipe_requirements::{
+    Lines, MoverNow, MoversNow, Now, SlotNow, ViewNow, leaves, lines_of, loads, view_of,
+};
+use std::alloc::{AllocError, Global};
+
+/// How the pipeline registers move in the situation of a counterexample.
+#[derive(Clone, Copy)]
+pub struct Motion {
+    pub lines: Lines,
+    pub view: ViewNow,
+    pub movers: MoversNow,
+    /// Whether the fetched instruction is the one that the program does next.
+    pub is_good: bool,
+    /// Whether the program goes on at the predicted PC.
+    pub is_on_path: bool,
+    /// Whether the youngest instruction of the program stops the machine.
+    pub stops: bool,
+    pub next: ViewNow,
+}
+
+/// The motion in a scene.
+pub fn motion_of(scene: &Scene<'_>) -> Motion {
+    let lines = lines_of(scene.bits);
+    let view = view_of(scene.variant, scene.settings, &lines);
+    let movers = movers_at(&scene.scope());
+    let now = Now {
+        v: scene.variant,
+        s: scene.settings,
+        l: &lines,
+        y: &view,
+        mv: &movers,
+        leaves: scene.diagnosis.leaves.items(),
+    };
+    let is_good = is_fetch_good(&now);
+    let facts = fetched(&now);
+    let next = next_view(&movers, is_good, &facts, &view);
+    let is_on_path = path(&view);
+    let stops = youngest_stops(&view);
+    Motion {
+        lines,
+        view,
+        movers,
+        is_good,
+        is_on_path,
+        stops,
+        next,
+    }
+}
+
+/// What a register does in a cycle.
+pub fn move_name(mover: MoverNow) -> &'static str {
+    if mover.stall && mover.bubble {
+        "is stalled and bubbled"
+    } else if mover.stall {
+        "is stalled"
+    } else if mover.bubble {
+        "is bubbled"
+    } else {
+        "loads"
+    }
+}
+
+/// What a register holds.
+pub fn slot_name(slot: &SlotNow) -> &'static str {
+    if slot.good {
+        "an instruction of the program"
+    } else if slot.wrong {
+        "one on the wrong path"
+    } else {
+        "a bubble"
+    }
+}
+
+/// Sentences that are collected.
+#[derive(Drop)]
+struct Sentences {
+    all: Vec<&'static str>,
+}
+
+impl Sentences {
+    /// Adds a sentence where it applies.
+    fn add_if(&mut self, applies: bool, sentence: &'static str) -> Result<(), AllocError> {
+        if applies {
+            self.all.push(sentence)?;
+        }
+        Ok(())
+    }
+}
+
+/// What is stalled and bubbled at once.
+fn add_clashes(said: &mut Sentences, k: &MoversNow) -> Result<(), AllocError> {
+    said.add_if(k.f.stall && k.f.bubble, "F is stalled and bubbled at once.")?;
+    said.add_if(k.d.stall && k.d.bubble, "D is stalled and bubbled at once.")?;
+    said.add_if(k.e.stall && k.e.bubble, "E is stalled and bubbled at once.")?;
+    said.add_if(k.m.stall && k.m.bubble, "M is stalled and bubbled at once.")?;
+    said.add_if(k.w.stall && k.w.bubble, "W is stalled and bubbled at once.")
+}
+
+/// Which instruction of the program is lost or done twice.
+fn add_losses(said: &mut Sentences, k: &MoversNow, y: &ViewNow) -> Result<(), AllocError> {
+    said.add_if(
+        y.w.good && k.w.stall,
+        "The instruction in W retires, and W keeps it: it retires again.",
+    )?;
+    said.add_if(
+        y.m.good && !loads(k.w),
+        "W doesn't load the instruction in M: it is lost.",
+    )?;
+    said.add_if(
+        y.m.good && k.m.stall,
+        "M keeps an instruction that goes on to W: it is done twice.",
+    )?;
+    said.add_if(
+        y.e.good && !loads(k.m),
+        "M doesn't load the instruction in E: it is lost.",
+    )?;
+    said.add_if(
+        y.e.good && k.e.stall,
+        "E keeps an instruction that goes on to M: it is done twice.",
+    )?;
+    let stays = y.d.good && !leaves(k, y);
+    said.add_if(
+        stays && k.d.stall && loads(k.e),
+        "D keeps an instruction that goes on to E: it is done twice.",
+    )?;
+    said.add_if(
+        stays && !k.d.stall,
+        "The instruction in D doesn't go on to E, and D doesn't keep it: it is lost.",
+    )
+}
+
+/// Whether the youngest instruction of the next cycle may have others on the wrong path after it.
+fn may_be_followed(y: &ViewNow) -> bool {
+    if y.d.good {
+        y.d.stops && !y.d.ret
+    } else if y.e.good {
+        (y.e.stops && !y.e.ret) || y.e.missed
+    } else if y.m.good {
+        y.m.stops && !y.m.ret
+    } else {
+        y.w.good && y.w.stops
+    }
+}
+
+/// What is wrong with the instructions on the wrong path in the next cycle.
+fn add_wrong_path(said: &mut Sentences, y: &ViewNow) -> Result<(), AllocError> {
+    said.add_if(
+        y.m.wrong,
+        "An instruction on the wrong path reaches M, where it changes something.",
+    )?;
+    said.add_if(
+        y.w.wrong,
+        "An instruction on the wrong path reaches W, where it changes something.",
+    )?;
+    said.add_if(
+        y.e.wrong && y.d.good,
+        "An instruction of the program follows one on the wrong path.",
+    )?;
+    let kept = !may_be_followed(y);
+    said.add_if(
+        y.d.wrong && kept,
+        "An instruction on the wrong path enters D, and nothing ahead of it will cancel it.",
+    )?;
+    said.add_if(
+        y.e.wrong && kept,
+        "An instruction on the wrong path is in E, and nothing ahead of it will cancel it.",
+    )
+}
+
+/// What follows an instruction that nothing may follow, in the next cycle.
+fn add_followers(said: &mut Sentences, y: &ViewNow, je: bool, rm: bool) -> Result<(), AllocError> {
+    let after_e = y.d.good;
+    let after_m = after_e || y.e.good;
+    let after_w = after_m || y.m.good;
+    said.add_if(
+        (y.e.stops && after_e) || (y.m.stops && after_m) || (y.w.stops && after_w),
+        "An instruction stops the machine, and one that counts as the program's follows it.",
+    )?;
+    said.add_if(
+        (y.e.missed && after_e) || (!je && y.m.missed && after_m),
+        "An instruction that counts as the program's follows a mispredicted jump.",
+    )?;
+    said.add_if(
+        (y.e.ret && after_e) || (y.m.ret && after_m) || (!rm && y.w.ret && after_w),
+        "An instruction that counts as the program's follows a ret.",
+    )
+}
+
+/// What is wrong with the fetch, where the program goes on at the predicted PC in the next cycle.
+fn add_fetch(said: &mut Sentences, m: &Motion) -> Result<(), AllocError> {
+    if !path(&m.next) {
+        return Ok(());
+    }
+    let k = &m.movers;
+    let enters = m.is_good && loads(k.d);
+    said.add_if(
+        enters && !loads(k.f),
+        "The fetched instruction enters D, and F doesn't load the address after it: it is fetched again.",
+    )?;
+    said.add_if(
+        !enters && !k.f.stall,
+        "The fetched instruction doesn't enter D, and F goes on: an instruction is skipped.",
+    )?;
+    said.add_if(
+        !enters && k.f.stall && !m.is_on_path,
+        "F keeps an address at which the program doesn't go on, and nothing ahead repairs it.",
+    )
+}
+
+/// What waits forever.
+fn add_waits(said: &mut Sentences, m: &Motion) -> Result<(), AllocError> {
+    let y = &m.view;
+    let drained = !(y.e.good || y.e.wrong || y.m.good || y.m.wrong || y.w.good || y.w.wrong);
+    said.add_if(
+        y.d.good && drained && !leaves(&m.movers, y),
+        "Nothing is ahead of the instruction in D, and it doesn't go on to E.",
+    )?;
+    said.add_if(
+        !(y.d.good || y.d.wrong) && drained && !loads(m.movers.d),
+        "The pipeline is empty, and D doesn't load.",
+    )
+}
+
+/// What goes wrong with the motion of an obligation's counterexample.
+pub fn motion_faults(
+    alloc: Global,
+    scene: &Scene<'_>,
+    rule: u32,
+    m: &Motion,
+) -> Result<Vec<&'static str>, AllocError> {
+    let mut said = Sentences {
+        all: Vec::new(alloc),
+    };
+    match rule {
+        23 => add_clashes(&mut said, &m.movers)?,
+        24 => add_losses(&mut said, &m.movers, &m.view)?,
+        25 => {
+            add_wrong_path(&mut said, &m.next)?;
+            add_followers(&mut said, &m.next, scene.settings.je, scene.settings.rm)?;
+            add_fetch(&mut said, m)?;
+        }
+        26 => add_waits(&mut said, m)?,
+        27 => add_waits(&mut said, m)?,
+        _ => {}
+    }
+    Ok(said.all)
+}
+
+/// Where the fetch goes, and whether the program goes on there.
+pub fn fetch_sentence(m: &Motion) -> &'static str {
+    if m.stops {
+        "The youngest instruction of the program stops the machine, so the fetch is on the wrong path."
+    } else if m.is_good {
+        "The program goes on there."
+    } else if m.is_on_path {
+        "The program goes on at F_predPC, so the fetch is on the wrong path."
+    } else {
+        "The program doesn't go on there, so the fetch is on the wrong path."
+    }
+}

@@ -1,0 +1,302 @@
+//! The page of a refusal: everything that is known of it, in sentences.
+use crate::findings::{put_comparisons, put_finding, put_reads};
+use crate::mending::first_to_mend;
+use crate::motion::{Motion, fetch_sentence, motion_faults, motion_of, move_name, slot_name};
+use crate::paragraph::put_paragraph;
+use crate::scene::{Scene, scene_of};
+use crate::stages::put_stages;
+use dp_signals::pipe_row as name;
+use explanations::{Obligation, Path, obligation_at};
+use hcl_types::{NameId, Row, Term};
+use pipe_diagnosis::{Refusal, Refutation};
+use pipe_requirements::Wanted;
+use std::alloc::{AllocError, Global};
+use y86_base::Variant;
+
+/// What begins the lines that follow a finding.
+const INDENT: &str = "           ";
+
+/// The same for the text of a case.
+const DEEP_INDENT: &str = "               ";
+
+/// A case of a definition in the text of a file: its signal, its number, counted from 0, its place, counted from 1, and its bytes.
+#[derive(Clone, Copy, Debug)]
+pub struct CasePlace<'a> {
+    pub signal: &'a str,
+    pub number: usize,
+    pub line: u64,
+    pub column: u64,
+    pub text: &'a str,
+}
+
+/// The place of a case.
+pub fn place_of<'a>(
+    cases: &'a [CasePlace<'a>],
+    signal: &str,
+    number: usize,
+) -> Option<&'a CasePlace<'a>> {
+    for case in cases {
+        if case.number == number && case.signal == signal {
+            return Some(case);
+        }
+    }
+    None
+}
+
+/// Writes `O10`.
+fn put_label(out: &mut String, rule: u32) -> Result<(), AllocError> {
+    write!(out, "O{rule}")
+}
+
+/// Writes what an obligation demands, and why.
+fn put_obligation(alloc: Global, out: &mut String, o: &Obligation) -> Result<(), AllocError> {
+    out.push_str(o.label)?;
+    put_paragraph(alloc, out, " demands: ", "", o.demand)?;
+    put_paragraph(alloc, out, "Why: ", "", o.reason)?;
+    put_paragraph(alloc, out, "See CS:APP 3e, ", "", o.book)
+}
+
+/// Writes which case the definition of a signal takes.
+fn put_case(
+    alloc: Global,
+    out: &mut String,
+    cases: &[CasePlace<'_>],
+    signal: &str,
+    case: Option<usize>,
+) -> Result<(), AllocError> {
+    let Some(number) = case else {
+        return Ok(());
+    };
+    let count = usize::wrapping_add(number, 1);
+    write!(out, "{INDENT}It takes case {count} of its definition")?;
+    match place_of(cases, signal, number) {
+        Some(place) => {
+            let line = place.line;
+            let column = place.column;
+            write!(out, ", at line {line}, column {column}:\n")?;
+            put_paragraph(alloc, out, DEEP_INDENT, DEEP_INDENT, place.text)
+        }
+        None => out.push_str(".\n"),
+    }
+}
+
+/// Writes the values that the definition of a signal reads.
+fn put_values(
+    alloc: Global,
+    out: &mut String,
+    scene: &Scene<'_>,
+    id: NameId,
+) -> Result<(), AllocError> {
+    let mut values = String::new(alloc);
+    put_reads(alloc, &mut values, scene, id)?;
+    if values.as_str().is_empty() {
+        return Ok(());
+    }
+    let mut said = String::from_str(alloc, "It reads ")?;
+    said.push_str(values.as_str())?;
+    said.push_str(".")?;
+    put_paragraph(alloc, out, INDENT, INDENT, said.as_str())
+}
+
+/// Writes the findings of an obligation on single signals.
+fn put_findings(
+    alloc: Global,
+    out: &mut String,
+    scene: &Scene<'_>,
+    cases: &[CasePlace<'_>],
+) -> Result<(), AllocError> {
+    out.push_str("\nThe signals there:\n\n")?;
+    for finding in scene.diagnosis.findings.items() {
+        let id = finding.requirement.signal;
+        out.push_str(if finding.is_right {
+            "    right  "
+        } else {
+            "    WRONG  "
+        })?;
+        let mut said = String::new(alloc);
+        put_finding(&mut said, scene, finding)?;
+        put_paragraph(alloc, out, "", INDENT, said.as_str())?;
+        if !finding.is_right {
+            put_case(alloc, out, cases, scene.name(id), finding.taken_case)?;
+            put_values(alloc, out, scene, id)?;
+        }
+    }
+    Ok(())
+}
+
+/// Writes what a register does and holds in the next cycle.
+fn put_move(out: &mut String, stage: &str, what: &str, holds: &str) -> Result<(), AllocError> {
+    out.push_str("    ")?;
+    out.push_str(stage)?;
+    out.push_str(" ")?;
+    out.push_str(what)?;
+    out.push_str(": it has ")?;
+    out.push_str(holds)?;
+    out.push_str(".\n")
+}
+
+/// Writes how the registers move, and what is wrong with that.
+fn put_motion(
+    alloc: Global,
+    out: &mut String,
+    scene: &Scene<'_>,
+    rule: u32,
+    m: &Motion,
+) -> Result<(), AllocError> {
+    out.push_str("\nThe fetch: f_pc is ")?;
+    crate::findings::put_leaf(out, scene, name::F_PC, scene.leaf(name::F_PC))?;
+    out.push_str(". ")?;
+    out.push_str(fetch_sentence(m))?;
+    out.push_str("\nThe next cycle:\n\n    F ")?;
+    out.push_str(move_name(m.movers.f))?;
+    out.push_str(".\n")?;
+    put_move(out, "D", move_name(m.movers.d), slot_name(&m.next.d))?;
+    put_move(out, "E", move_name(m.movers.e), slot_name(&m.next.e))?;
+    put_move(out, "M", move_name(m.movers.m), slot_name(&m.next.m))?;
+    put_move(out, "W", move_name(m.movers.w), slot_name(&m.next.w))?;
+    let faults = motion_faults(alloc, scene, rule, m)?;
+    if !faults.as_slice().is_empty() {
+        out.push_str("\n")?;
+    }
+    for fault in faults.as_slice() {
+        put_paragraph(alloc, out, "WRONG: ", "       ", fault)?;
+    }
+    Ok(())
+}
+
+/// Writes names, with `or` before the last.
+fn put_choices(out: &mut String, scene: &Scene<'_>, ids: &[NameId]) -> Result<(), AllocError> {
+    let mut place = 0;
+    for id in ids {
+        place = usize::wrapping_add(place, 1);
+        if place > 1 {
+            out.push_str(if place == ids.len() { " or " } else { ", " })?;
+        }
+        out.push_str(scene.name(*id))?;
+    }
+    Ok(())
+}
+
+/// Writes which changes would repair the motion.
+fn put_repairs(out: &mut String, scene: &Scene<'_>) -> Result<(), AllocError> {
+    let signals = scene.diagnosis.repairs.items();
+    let sources = scene.diagnosis.pc_repairs.items();
+    if signals.is_empty() && sources.is_empty() {
+        return out.push_str(
+            "\nNo single change of a stall or bubble signal meets O10, O11 and O23 to O27 here, and no other\nchoice of f_pc does.\n",
+        );
+    }
+    out.push_str("\nA repair: one of these changes alone meets O10, O11 and O23 to O27 here.\n")?;
+    if !signals.is_empty() {
+        out.push_str("    Invert ")?;
+        put_choices(out, scene, signals)?;
+        out.push_str(".\n")?;
+    }
+    if !sources.is_empty() {
+        out.push_str("    Let f_pc be ")?;
+        put_choices(out, scene, sources)?;
+        out.push_str(".\n")?;
+    }
+    Ok(())
+}
+
+/// Writes in a line what is wrong at the counterexample of another obligation.
+fn put_other(
+    alloc: Global,
+    page: &mut String,
+    scene: &Scene<'_>,
+    other: &Refutation,
+) -> Result<(), AllocError> {
+    let mut said = String::new(alloc);
+    let out = &mut said;
+    put_label(out, other.rule)?;
+    out.push_str(": ")?;
+    let mut is_first = true;
+    for finding in other.diagnosis.findings.items() {
+        if !finding.is_right {
+            out.push_str(if is_first { "" } else { " " })?;
+            is_first = false;
+            put_finding(out, scene, finding)?;
+        }
+    }
+    if is_first {
+        let ids = other.diagnosis.repairs.items();
+        out.push_str("it is about stalls and bubbles")?;
+        if !ids.is_empty() {
+            out.push_str("; inverting ")?;
+            put_choices(out, scene, ids)?;
+            out.push_str(" would repair it")?;
+        }
+        out.push_str(".")?;
+    }
+    put_paragraph(alloc, page, "    ", "         ", said.as_str())
+}
+
+/// Writes the other obligations that are false somewhere, and which to mend first.
+fn put_others(
+    alloc: Global,
+    out: &mut String,
+    variant: Variant,
+    rows: &[Row],
+    terms: &[Term],
+    refusal: &Refusal,
+) -> Result<(), AllocError> {
+    if refusal.others.items().is_empty() {
+        return out.push_str("\nAll other obligations hold.\n");
+    }
+    out.push_str("\nAlso false somewhere, each in a situation of its own:\n\n")?;
+    for other in refusal.others.items() {
+        let scene = scene_of(variant, rows, terms, refusal, other);
+        put_other(alloc, out, &scene, other)?;
+    }
+    let first = first_to_mend(alloc, variant, rows, terms, refusal)?;
+    out.push_str("\nAll other obligations hold. Mend ")?;
+    put_label(out, first)?;
+    out.push_str(" first: its wrong signals don't depend on those of another one.\n")
+}
+
+/// Whether stalls and bubbles are to blame: of an obligation on motion, and where no value is right.
+fn moves_wrongly(rule: u32, refutation: &Refutation) -> bool {
+    let mut waits = rule >= 23;
+    for finding in refutation.diagnosis.findings.items() {
+        if finding.requirement.wanted == Wanted::Nothing {
+            waits = true;
+        }
+    }
+    waits
+}
+
+/// Writes a refusal of a file for PIPE.
+pub fn put_refusal(
+    alloc: Global,
+    out: &mut String,
+    variant: Variant,
+    rows: &[Row],
+    terms: &[Term],
+    cases: &[CasePlace<'_>],
+    refusal: &Refusal,
+) -> Result<(), AllocError> {
+    let rule = refusal.first.rule;
+    let scene = scene_of(variant, rows, terms, refusal, &refusal.first);
+    let motion = motion_of(&scene);
+    out.push_str("no: ")?;
+    put_label(out, rule)?;
+    out.push_str(" is false somewhere.\n\n")?;
+    if let Some(o) = obligation_at(Path::Pipe, rule) {
+        put_obligation(alloc, out, o)?;
+    }
+    out.push_str("\nThe smallest counterexample:\n\n")?;
+    put_stages(out, &motion.lines)?;
+    put_comparisons(out, &scene)?;
+    if rule <= 22 {
+        put_findings(alloc, out, &scene, cases)?;
+    }
+    if moves_wrongly(rule, &refusal.first) {
+        put_motion(alloc, out, &scene, rule, &motion)?;
+        put_repairs(out, &scene)?;
+    }
+    put_others(alloc, out, variant, rows, terms, refusal)?;
+    out.push_str(
+        "\nA file may work and be refused: the counterexample needn't be reached by a program.\n",
+    )
+}

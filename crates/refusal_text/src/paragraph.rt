@@ -1,0 +1,49 @@
+//! Paragraphs: lines of at most 96 columns.
+use std::alloc::{AllocError, Global};
+
+/// The most columns of a line.
+const WIDTH: usize = 96;
+
+/// Writes a text in one line, without the marks around names of signals.
+fn put_plain(out: &mut String, text: &str) -> Result<(), AllocError> {
+    for line in text.split('\n') {
+        for part in line.split('`') {
+            out.push_str(part)?;
+        }
+        out.push_str(" ")?;
+    }
+    Ok(())
+}
+
+/// Writes the words of a text in lines: `first` begins the first line, and `rest` each other one. A line end follows.
+pub fn put_paragraph(
+    alloc: Global,
+    out: &mut String,
+    first: &str,
+    rest: &str,
+    text: &str,
+) -> Result<(), AllocError> {
+    let mut plain = String::new(alloc);
+    put_plain(&mut plain, text)?;
+    out.push_str(first)?;
+    let mut column = first.len();
+    let mut is_first = true;
+    for word in plain.as_str().split(' ') {
+        if word.is_empty() {
+            continue;
+        }
+        if is_first {
+            is_first = false;
+        } else if column.saturating_add(word.len()) >= WIDTH {
+            out.push_str("\n")?;
+            out.push_str(rest)?;
+            column = rest.len();
+        } else {
+            out.push_str(" ")?;
+            column = column.saturating_add(1);
+        }
+        out.push_str(word)?;
+        column = column.saturating_add(word.len());
+    }
+    out.push_str("\n")
+}
