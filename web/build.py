@@ -68,7 +68,8 @@ def function(name: str, is_top: bool) -> str:
     text = read(f"{HERE}/src/{name}.mjs")
     given = EXPORT.findall(text)
     text = IMPORT.sub(lambda it: f'const {{{it[1].replace(" as ", ": ")}}} = bundled["{named(name, it[2])}"];', text)
-    if left := re.search(r"^(?:import|export (?!const|let|class|function|async)).*", text, re.M):
+    # (a declaration exports one name)
+    if left := re.search(r"^(?:import|export (?!(?:const|let) \w+ =|class|function|async)|export (?:const|let) \w+ = [\w.\"]+,).*", text, re.M):
         raise NoPage(f"{name}.mjs: {left[0]}")
     text = re.sub(r"^export ", "", text, flags=re.M)
     return text if is_top else f'bundled["{name}"] = (() => {{\n{text}\nreturn {{ {", ".join(given)} }};\n}})();'

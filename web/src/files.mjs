@@ -3,8 +3,7 @@ import { by, download, toast } from "./dom.mjs";
 import { standalone } from "./exports.mjs";
 import { rowName } from "./grid.mjs";
 import { diagramSVG } from "./draw/diagram.mjs";
-import { datapath } from "./draw/pipe.mjs";
-import { sceneNow } from "./player.mjs";
+import { drawingNow } from "./player.mjs";
 import { state } from "./state.mjs";
 import { editors, load } from "./texts.mjs";
 
@@ -48,7 +47,7 @@ function wireDrop(which) {
 export const titled = () => `${state.names.ys} under ${state.names.hcl}`;
 
 function saveDatapath() {
-  if (state.run) download(`${stem(state.names.ys)}-cycle${state.cycle}.svg`, standalone(datapath(sceneNow())), "image/svg+xml");
+  if (state.run) download(`${stem(state.names.ys)}-cycle${state.cycle}.svg`, standalone(drawingNow("run")), "image/svg+xml");
 }
 
 function saveDiagram() {

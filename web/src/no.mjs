@@ -3,7 +3,7 @@ import { by, download, escaped, inline, lineAt } from "./dom.mjs";
 import { datapath } from "./draw/pipe.mjs";
 import { standalone } from "./exports.mjs";
 import { noFault, showFault } from "./fault_view.mjs";
-import { on, state } from "./state.mjs";
+import { on, state, tell } from "./state.mjs";
 import { offerNo, tab } from "./tabs.mjs";
 import { editors } from "./texts.mjs";
 import { ruleText } from "./verdict.mjs";
@@ -49,7 +49,8 @@ function caseRow(it) {
 /** What the file says of a signal. */
 function signalHTML(it) {
   const want = it.isWrong ? `, and <span class="want">${escaped(it.wanted)}</span> is wanted` : "";
-  const head = `<p><code>${it.name}</code> is <span class="${it.isWrong ? "got" : ""}">${escaped(it.value)}</span>${want}</p>`;
+  const reads = it.reads?.length ? `<p class="hint">It reads ${it.reads.map(([name, value]) => `<code>${escaped(name)}</code> = ${escaped(value)}`).join(", ")}.</p>` : "";
+  const head = `<p><code>${it.name}</code> is <span class="${it.isWrong ? "got" : ""}">${escaped(it.value)}</span>${want}</p>${reads}`;
   if (it.cases) return `${head}<ol class="code">${it.cases.map(caseRow).join("")}${it.taken === -1 ? "<li>no case is taken: 0</li>" : ""}</ol>`;
   return it.source ? `${head}<ol class="code"><li data-line="${it.from}"><span>${escaped(it.name)} = ${escaped(it.source)};</span></li></ol>` : head;
 }
@@ -70,8 +71,21 @@ function boxesHTML({ boxes }) {
   return `<div class="pair">${Object.entries(boxes).map(card).join("")}</div>`;
 }
 
-function drawn({ rule, told, lines, path }) {
-  const panel = by("panel-no"), said = ruleText(rule, path);
+/** The obligations that are refuted, to look at one after another. */
+function othersHTML({ rule, refusals }) {
+  if (refusals.length < 2) return "";
+  const button = (it) => `<button type="button" class="small" data-rule="${it.rule}" aria-pressed="${it.rule === rule}">${it.rule}</button>`;
+  return `<div class="refuted" role="group" aria-label="Refuted obligations"><span>Refuted:</span>${refusals.map(button).join("")}</div>`;
+}
+
+/** What an obligation asks and why: as y86-tell says it, or as the page of docs/ does. */
+function saysOf(rule, path, told) {
+  if (!told?.says) return ruleText(rule, path);
+  return { asks: told.says.demand, why: `${told.says.reason} CS:APP 3e, ${told.says.book}.` };
+}
+
+function drawn({ rule, told, lines, path, refusals }) {
+  const panel = by("panel-no"), said = saysOf(rule, path, told);
   if (!told) {
     panel.innerHTML = `<div class="card"><pre>${escaped(lines.join("\n"))}</pre></div>`;
     return;
@@ -81,8 +95,9 @@ function drawn({ rule, told, lines, path }) {
   const signals = told.signals.map(signalHTML).join("") || "<p>No single signal is known to be wrong.</p>";
   const asks = `<h3>${rule} asks</h3><p>${inline(said.asks)}</p><h3>Why</h3><p>${inline(said.why)}</p><p class="hint">${NOT_A_CYCLE}${isPipe ? READING : ""}</p>`;
   const save = isPipe ? '<button type="button" class="small" id="save-no" aria-label="Save this drawing as SVG">Drawing .svg</button>' : "";
-  panel.innerHTML = `${motionHTML(told)}${scene}<div class="two"><section class="card"><div class="cardhead"><h3>What the file says there</h3><span class="grow"></span>${save}</div>${signals}</section>`
+  panel.innerHTML = `${othersHTML({ rule, refusals })}${motionHTML(told)}${scene}<div class="two"><section class="card"><div class="cardhead"><h3>What the file says there</h3><span class="grow"></span>${save}</div>${signals}</section>`
     + `<section class="card">${asks}</section></div>`;
+  for (const it of panel.querySelectorAll("[data-rule]")) it.onclick = () => tell("refusal", it.dataset.rule);
   if (by("save-no")) by("save-no").onclick = () => download(`${rule}.svg`, standalone(datapath(told.scene, "no")), "image/svg+xml");
 }
 
