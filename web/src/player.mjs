@@ -8,7 +8,6 @@ import { address } from "./run.mjs";
 import { seqScene, seqStages } from "./seqrun.mjs";
 import { on, state, tell } from "./state.mjs";
 import { tab } from "./tabs.mjs";
-import { editors } from "./texts.mjs";
 
 const MOST_TICKS = 150, ACTS = { stall: "stalls", bubble: "bubble next", both: "stall and bubble" };
 
@@ -46,7 +45,6 @@ function showCycle() {
   by("stages").innerHTML = stagesHTML(scene, cycle);
   by("first").disabled = by("back").disabled = state.cycle === 1;
   by("end").disabled = by("on").disabled = state.cycle === count();
-  editors.ys.at(state.lines.lineOf[parseInt(cycle.stages.F.at, 16)] ?? 0, "here");
 }
 
 export function go(number) {
@@ -135,14 +133,9 @@ function showRun() {
   tell("breaks");
 }
 
-function breaksShown() {
-  editors.ys.breaks([...state.breaks].map((it) => state.lines.lineOf[it]).filter(Boolean));
-}
-
 export function wirePlayer() {
   on("run", () => state.run && showRun());
   on("stale", stopPlaying);
-  on("breaks", breaksShown);
   on("tab", (name) => name !== "run" && stopPlaying());
   on("goto-record", (number) => {
     tab("run");
@@ -153,7 +146,6 @@ export function wirePlayer() {
     state.wrongRow = placeOfRecord(number).row;
     tell("rows");
   });
-  editors.ys.onLine = (line) => toggleBreak(state.lines.addressOf[line]);
   const does = { first: () => go(1), back: () => go(state.cycle - 1), on: () => go(state.cycle + 1), end: () => go(count()), play, hazard: () => nextHazard() };
   for (const id in does) by(id).onclick = does[id];
   by("slider").oninput = () => go(Number(by("slider").value));

@@ -5,6 +5,7 @@ import { by, download, escaped, inline, later, small, toast } from "./dom.mjs";
 import { Stopped, has, judge } from "./engine.mjs";
 import { placeWords, readFault } from "./faults.mjs";
 import { PATHS, datapath, knowsIaddq } from "./names.mjs";
+import { ruleText } from "./rule_text.mjs";
 import { settings } from "./settings.mjs";
 import { on, state, tell } from "./state.mjs";
 import { editors, full, isFull, moment } from "./texts.mjs";
@@ -12,11 +13,6 @@ import { explained } from "./why/situation.mjs";
 import { refusalOf } from "./why/told.mjs";
 
 const FILE = "my.hcl", WAIT = 260;
-
-/** What an obligation asks and why, by the pages. */
-export function ruleText(rule, path) {
-  return TEXTS.rules[path === "seqplus" && rule === "S16" ? "S16 of SEQ+" : rule] ?? { short: "", asks: "", why: "" };
-}
 
 const notAsked = (text) => (knowsIaddq(text) && !isFull() ? " <code>iaddq</code> wasn’t checked: the box at the top includes it." : "");
 
