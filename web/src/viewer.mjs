@@ -9,15 +9,16 @@ import { go, wirePlayer } from "./player.mjs";
 import { drawRefusal } from "./refusal.mjs";
 import { wireRegisters } from "./registers.mjs";
 import { readRun } from "./run.mjs";
+import { readSeqRun } from "./seqrun.mjs";
 import { on, state, tell } from "./state.mjs";
 import { wireTheme } from "./theme.mjs";
 import { explained } from "./why/situation.mjs";
 
-const { names, lines, diagram, object, hcl, refusal, isFull } = DATA.viewer;
+const { names, path, lines, diagram, object, hcl, refusal, isFull } = DATA.viewer;
 
 /** Shows a run, from the cycle that the address names. */
 function showRun() {
-  state.run = readRun(lines, diagram, object);
+  state.run = path === "pipe" ? readRun(lines, diagram, object) : readSeqRun(path, lines, object);
   state.cycle = Number(/^#cycle=(\d+)$/.exec(location.hash)?.[1] ?? 1);
   on("cycle", () => history.replaceState(null, "", `#cycle=${state.cycle}`));
   addEventListener("hashchange", () => go(Number(/^#cycle=(\d+)$/.exec(location.hash)?.[1] ?? state.cycle)));
