@@ -10,7 +10,7 @@ from programs import launcher
 from proving import crates_of, tell
 
 # The folders and files that are handed out.
-FOLDERS = ("examples", "tools")
+FOLDERS = ("examples", "tools", "web")
 FILES = ("y86-lab",)
 # The pages of docs/, in the order to read them, and what each is for.
 PAGES = {

@@ -68,7 +68,8 @@ def function(name: str, is_top: bool) -> str:
     text = read(f"{HERE}/src/{name}.mjs")
     given = EXPORT.findall(text)
     text = IMPORT.sub(lambda it: f'const {{{it[1].replace(" as ", ": ")}}} = bundled["{named(name, it[2])}"];', text)
-    if left := re.search(r"^(?:import|export (?!const|let|class|function|async)).*", text, re.M):
+    # (a declaration exports one name)
+    if left := re.search(r"^(?:import|export (?!(?:const|let) \w+ =|class|function|async)|export (?:const|let) \w+ = [\w.\"]+,).*", text, re.M):
         raise NoPage(f"{name}.mjs: {left[0]}")
     text = re.sub(r"^export ", "", text, flags=re.M)
     return text if is_top else f'bundled["{name}"] = (() => {{\n{text}\nreturn {{ {", ".join(given)} }};\n}})();'
@@ -95,25 +96,41 @@ def said_of(about: dict[str, object]) -> str:
     return f"Nothing in it was proved. {whence}."
 
 
+def filled(template: str, app: str, data: dict[str, object], more: dict[str, str]) -> str:
+    """Returns a page of a template: its styles, its script, its data, and what else it names."""
+    digest = base64.b64encode(hashlib.sha256(app.encode()).digest()).decode()
+    parts: dict[str, str] = {
+        "POLICY": POLICY.format(script=f"sha256-{digest}"),
+        "STYLE": styles(),
+        "DRAWING": read(f"{HERE}/styles/drawing.css"),
+        "CONTROLS": read(f"{HERE}/controls.html"),
+        "RUN": read(f"{HERE}/run.html"),
+        "DATA": as_json(data),
+        "APP": app,
+        **more,
+    }
+    return re.sub(r"@@([A-Z]+)@@", lambda it: parts[it[1]], read(f"{HERE}/{template}.html"))
+
+
 def page(here: str, programs: dict[str, str], about: dict[str, object], without: frozenset[str]) -> str:
-    """Returns the text of the page. `programs` are files of WebAssembly by the program's name, `without` files that aren't offered."""
-    app = script("main")
+    """Returns the text of the workbench.
+
+    `programs` are files of WebAssembly by the program's name, `without` files that aren't offered.
+    """
     data: dict[str, object] = {
         "programs": {name: packed(it) for name, it in programs.items()},
         "examples": examples(here, without),
         "texts": texts(here),
         "about": dict(about, said=said_of(about)),
     }
-    parts: dict[str, str] = {
-        "POLICY": POLICY.format(script=f"sha256-{base64.b64encode(hashlib.sha256(app.encode()).digest()).decode()}"),
-        "STYLE": styles(),
-        "DRAWING": read(f"{HERE}/styles/drawing.css"),
-        "UNPROVED": "" if about["proved"] else f'<p class="unproved" id="unproved">{html.escape(UNPROVED)}</p>',
-        "DATA": as_json(data),
-        "WORKER": script("worker"),
-        "APP": app,
-    }
-    return re.sub(r"@@([A-Z]+)@@", lambda it: parts[it[1]], read(f"{HERE}/page.html"))
+    unproved = "" if about["proved"] else f'<p class="unproved" id="unproved">{html.escape(UNPROVED)}</p>'
+    return filled("page", script("main"), data, {"UNPROVED": unproved, "WORKER": script("worker")})
+
+
+def viewer(here: str, title: str, shown: dict[str, object]) -> str:
+    """Returns the text of a page of one run or one refusal, as `shown` has it (src/viewer.mjs)."""
+    data: dict[str, object] = {"programs": {}, "examples": {}, "about": {}, "texts": texts(here), "viewer": shown}
+    return filled("viewer", script("viewer"), data, {"TITLE": html.escape(title)})
 
 
 def written(here: str, programs: dict[str, str], about: dict[str, object], file: str, without: frozenset[str] = frozenset()) -> None:

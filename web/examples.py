@@ -36,7 +36,7 @@ SEQUENTIAL = ("seq", "seq_plus")
 BOTH = "stall_and_bubble"
 HAZARD = "E_icode in { IMRMOVQ, IPOPQ } && E_dstM in { d_srcA, d_srcB }"
 LATE = [(f" d_src{x} == e_dstE : e_valE;", "") for x in "AB"] + [(f"d_src{x} == W_dstM", f"d_src{x} == e_dstE : e_valE; d_src{x} == W_dstM") for x in "AB"]
-# A title, the changes of std.hcl, and a program that comes out wrong (none for a fault).
+# A title, the changes of std.hcl, and a program of the examples that comes out wrong, if there is one.
 MISTAKES: list[tuple[str, list[tuple[str, str]], str]] = [
     (
         "no stall for load/use",
@@ -50,7 +50,7 @@ MISTAKES: list[tuple[str, list[tuple[str, str]], str]] = [
     ),
     ("memory before execute", LATE, "call"),
     ("nothing from execute", [(" d_srcA == e_dstE : e_valE;", "")], "swap"),
-    ("E_dstE in place of e_dstE", [("d_srcA == e_dstE : e_valE", "d_srcA == E_dstE : e_valE")], "abs"),
+    ("E_dstE in place of e_dstE", [("d_srcA == e_dstE : e_valE", "d_srcA == E_dstE : e_valE")], ""),
     ("valE before valM (popq %rsp)", [("d_srcA == M_dstM : m_valM; d_srcA == M_dstE : M_valE;", "d_srcA == M_dstE : M_valE; d_srcA == M_dstM : m_valM;")], "stack_pointer"),
     (
         "the wrong path isn't cancelled",

@@ -19,16 +19,16 @@ LAYOUT = "e-m:e-p:32:32-p10:8:8-p20:8:8-i64:64-i128:128-n32:64-S128-ni:1:10:20"
 WAS_LAYOUT = "e-m:e-p270:32:32-p271:32:32-p272:64:64-i64:64-i128:128-f80:128-n8:16:32:64-S128"
 WAS_TRIPLE = "x86_64-unknown-linux-gnu"
 # Of these types, and of no other, are values in memory; a pointer apart.
-NUMBER = r"i(?:1|8|16|32|64|128|256)"
+NUMBER = r"(?:i(?:1|8|16|32|64|128|256)|double)"
 VECTOR = rf"<\d+ x {NUMBER}>"
-SIZES = {"i1": 1, "i8": 1, "i16": 2, "i32": 4, "i64": 8, "ptr": 8}
+SIZES = {"i1": 1, "i8": 1, "i16": 2, "i32": 4, "i64": 8, "double": 8, "ptr": 8}
 # Instructions that touch no memory and that know no layout.
 PLAIN = frozenset(
-    "add and ashr bitcast br call extractelement extractvalue freeze icmp insertelement insertvalue lshr mul or phi ret sdiv select sext shl shufflevector srem sub switch"
-    " trunc udiv unreachable urem xor zext".split()
+    "add and ashr bitcast br call extractelement extractvalue fadd fcmp fdiv fmul fneg freeze fsub icmp insertelement insertvalue lshr mul or phi ret sdiv select sext shl"
+    " shufflevector sitofp srem sub switch trunc udiv uitofp unreachable urem xor zext".split()
 )
 # Words that say how an argument lies in memory, or that leave the known address space.
-FOREIGN = re.compile(r"\b(?:asm|byref|byval|inalloca|inttoptr|ptrtoint|preallocated|sret|swifterror|thread_local|addrspace|vscale|half|float|double|fp128|x86_\w+)\b")
+FOREIGN = re.compile(r"\b(?:asm|byref|byval|inalloca|inttoptr|ptrtoint|preallocated|sret|swifterror|thread_local|addrspace|vscale|half|bfloat|float|fp128|x86_\w+)\b")
 INSTRUCTION = re.compile(r"  (?:(%[\w.]+) = )?(?:tail )?([a-z]+)\b")
 ALLOCA = re.compile(rf"  %[\w.]+ = alloca (?:{NUMBER}|\[\d+ x i8\]|(ptr)), align \d+")
 LOAD = re.compile(rf"  (%[\w.]+) = load ({NUMBER}|{VECTOR}|ptr|\{{ [\w, ]+ \}}), ptr (%[\w.]+|@[\w.$]+|@\"[^\"]+\"), align (\d+)(?:, !(?:noundef|range|nonnull) !\d+)*")
@@ -43,7 +43,7 @@ POINTER = re.compile(r"\bptr (@[\w.$]+|@\"[^\"]+\"|getelementptr \(i8, ptr (?:@[
 OF_THE_MACHINE = re.compile(r'\bsanitize_address\b|"(?:frame-pointer|probe-stack|stack-probe-size|target-cpu|target-features|tune-cpu)"="[^"]*"')
 KNOWN_ATTRIBUTES = re.compile(r"[\w\s]*(?:\b(?:memory|captures|allockind|allocsize)\([^)]*\)[\w\s]*)*")
 # What a module may ask of LLVM itself: nothing that goes by the size of a pointer.
-INTRINSIC = re.compile(r"declare .*?@llvm\.(?:memmove\.p0\.p0\.i64|memcpy\.p0\.p0\.i64|memset\.p0\.i64|trap|(?:ctlz|cttz|ctpop|bswap|fshl|fshr|[us]min|[us]max|abs)\.(?:v\d+)?i\d+|[us](?:add|sub|mul)\.(?:with\.overflow|sat)\.i\d+)\(.*")
+INTRINSIC = re.compile(r"declare .*?@llvm\.(?:memmove\.p0\.p0\.i64|memcpy\.p0\.p0\.i64|memset\.p0\.i64|trap|arithmetic\.fence\.f64|(?:ctlz|cttz|ctpop|bswap|fshl|fshr|[us]min|[us]max|abs)\.(?:v\d+)?i\d+|[us](?:add|sub|mul)\.(?:with\.overflow|sat)\.i\d+)\(.*")
 # Lines of other kinds: a function's head and end, a label, a case of a switch, metadata, nothing.
 OTHERS = re.compile(r"define .*\{|declare .*|\}|[\w.$-]+:(?: +;.*)?|\"[^\"]+\":|    i\d+ -?\d+, label %[\w.]+|  \]|![\w.]+ = .*|source_filename = .*|;.*|")
 
@@ -87,8 +87,8 @@ def load(line: str, number: int) -> str:
     if len(fields) != 2 or any(it not in SIZES for it in fields) or offsets(fields) != [0, 8]:
         raise Unknown(line)
     one, two = fields
-    # (an i64 goes to byte 8 in either layout)
-    if two == "i64":
+    # (these go to byte 8 in either layout)
+    if two in ("i64", "double"):
         return line
     return "\n".join(
         (

@@ -185,7 +185,7 @@ int run(u64 limit) {
     return main();
 }
 
-/* The product of 128-bit numbers, which clang calls by this name. */
+/* Sums on 128-bit numbers that clang calls by name: a product, and shifts by 0 to 127. */
 typedef unsigned __int128 u128;
 typedef union {
     u128 whole;
@@ -200,4 +200,18 @@ u128 __multi3(u128 x, u128 y) {
     product.low = third << 32 | (first & 0xffffffff);
     product.high = a1 * b1 + (second >> 32) + (third >> 32) + a.low * b.high + a.high * b.low;
     return product.whole;
+}
+u128 __ashlti3(u128 x, int n) {
+    Halves a = {x}, shifted;
+    if (n == 0) return x;
+    shifted.low = n < 64 ? a.low << n : 0;
+    shifted.high = n < 64 ? a.high << n | a.low >> (64 - n) : a.low << (n - 64);
+    return shifted.whole;
+}
+u128 __lshrti3(u128 x, int n) {
+    Halves a = {x}, shifted;
+    if (n == 0) return x;
+    shifted.high = n < 64 ? a.high >> n : 0;
+    shifted.low = n < 64 ? a.low >> n | a.high << (64 - n) : a.high >> (n - 64);
+    return shifted.whole;
 }

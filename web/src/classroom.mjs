@@ -2,8 +2,8 @@
 import { by, download, escaped, make } from "./dom.mjs";
 import { Engine, Stopped } from "./engine.mjs";
 import { PATHS, datapath, knowsIaddq } from "./names.mjs";
+import { ruleText } from "./rule_text.mjs";
 import { full, isFull, load } from "./texts.mjs";
-import { ruleText } from "./verdict.mjs";
 
 const LONGEST = 65536, SECONDS = 60, HEADS = ["file", "datapath", "verdict", "obligation", "fault", "settings", "note"];
 const grader = new Engine();

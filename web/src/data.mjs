@@ -1,5 +1,5 @@
 // What the page carries: the programs, examples, texts of docs/, and where it comes from.
-const DATA = JSON.parse(document.getElementById("data").textContent);
+export const DATA = JSON.parse(document.getElementById("data").textContent);
 
 export const PACKED = DATA.programs;
 export const EXAMPLES = DATA.examples;

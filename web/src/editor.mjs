@@ -89,7 +89,7 @@ export class Editor {
     this.under.style.transform = `translateY(${-y}px)`;
     this.over.style.transform = `translateY(${-y}px)`;
     this.gutter.firstElementChild.style.transform = `translateY(${-y}px)`;
-    this.completion.close();
+    if (this.completion.isOpen) this.place(this.completion.list, this.completion.typed.length);
   }
 
   draw() {

@@ -1,15 +1,9 @@
 // Files that are opened, dropped and saved.
 import { by, download, toast } from "./dom.mjs";
-import { standalone } from "./exports.mjs";
-import { rowName } from "./grid.mjs";
-import { diagramSVG } from "./draw/diagram.mjs";
-import { datapath } from "./draw/pipe.mjs";
-import { sceneNow } from "./player.mjs";
 import { state } from "./state.mjs";
 import { editors, load } from "./texts.mjs";
 
-const LONGEST = { hcl: 65536, ys: 1048576 }, ACCEPTED = { hcl: ".hcl,text/plain", ys: ".ys,.s,text/plain" }, MOST_CYCLES = 400;
-const stem = (name) => name.replace(/\.\w+$/, "");
+const LONGEST = { hcl: 65536, ys: 1048576 }, ACCEPTED = { hcl: ".hcl,text/plain", ys: ".ys,.s,text/plain" };
 
 async function opened(file, which) {
   const as = /\.(ys|s)$/i.test(file.name) ? "ys" : /\.hcl$/i.test(file.name) ? "hcl" : which;
@@ -44,24 +38,9 @@ function wireDrop(which) {
   });
 }
 
-/** What a picture or a sheet of paper is headed by. */
-export const titled = () => `${state.names.ys} under ${state.names.hcl}`;
-
-function saveDatapath() {
-  if (state.run) download(`${stem(state.names.ys)}-cycle${state.cycle}.svg`, standalone(datapath(sceneNow())), "image/svg+xml");
-}
-
-function saveDiagram() {
-  if (!state.run) return;
-  const svg = diagramSVG(state.run, 1, Math.min(MOST_CYCLES, state.run.cycles.length), rowName, titled());
-  download(`${stem(state.names.ys)}-diagram.svg`, standalone(svg), "image/svg+xml");
-}
-
 export function wireFiles() {
   for (const which of ["hcl", "ys"]) wireDrop(which);
   for (const it of ["dragover", "drop"]) addEventListener(it, (event) => event.preventDefault());
   for (const it of document.querySelectorAll("[data-open]")) it.onclick = () => pick(it.dataset.open);
   for (const it of document.querySelectorAll("[data-save]")) it.onclick = () => download(state.names[it.dataset.save], editors[it.dataset.save].text);
-  by("save-path").onclick = saveDatapath;
-  by("save-diagram").onclick = saveDiagram;
 }

@@ -6,10 +6,12 @@ import { ready } from "./engine.mjs";
 import { wireFiles } from "./files.mjs";
 import { wireGrid } from "./grid.mjs";
 import { wireKeys } from "./keys.mjs";
+import { wireLines } from "./lines.mjs";
 import { fromBefore, fromLink, wireLinks } from "./links.mjs";
 import { wireNo } from "./no.mjs";
 import { wireOutcome } from "./outcome.mjs";
 import { wirePaper } from "./paper.mjs";
+import { wirePictures } from "./pictures.mjs";
 import { wirePlayer } from "./player.mjs";
 import { wireRegisters } from "./registers.mjs";
 import { state } from "./state.mjs";
@@ -22,8 +24,8 @@ import { wireVerdict } from "./verdict.mjs";
 import { wireSearch } from "./witness/search.mjs";
 
 const WIRES = [
-  wireTheme, wireTexts, wireTabs, wireVerdict, wireNo, wireOutcome, wireGrid, wirePlayer, wireRegisters, wireSteps, wireStrips, wireSearch, wireFiles, wireLinks,
-  wirePaper, wireClassroom, wireKeys,
+  wireTheme, wireTexts, wireTabs, wireVerdict, wireNo, wireOutcome, wireGrid, wirePlayer, wireLines, wireRegisters, wireSteps, wireStrips, wireSearch, wireFiles, wireLinks,
+  wirePictures, wirePaper, wireClassroom, wireKeys,
 ];
 
 for (const it of WIRES) it();

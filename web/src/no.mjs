@@ -1,15 +1,10 @@
-// Why not every program: the smallest counterexample in the drawing, what the file says there, and the marks in the file.
-import { by, download, escaped, inline, lineAt } from "./dom.mjs";
-import { datapath } from "./draw/pipe.mjs";
-import { standalone } from "./exports.mjs";
+// Why not every program: the refusal in its panel, and the marks in the file.
+import { escaped, lineAt } from "./dom.mjs";
 import { noFault, showFault } from "./fault_view.mjs";
+import { drawRefusal } from "./refusal.mjs";
 import { on, state } from "./state.mjs";
 import { offerNo, tab } from "./tabs.mjs";
 import { editors } from "./texts.mjs";
-import { ruleText } from "./verdict.mjs";
-
-const NOT_A_CYCLE = "This is the smallest counterexample to the obligation, not a cycle of your program. A program that reaches it may be rare, or there may be none.";
-const READING = " The oldest instruction is on the right; a “·” is any word.";
 
 /** What a note says of a wrong signal. */
 function noteOf(text, rule, it) {
@@ -41,55 +36,10 @@ function marksOf(text, { rule, signals, motion }) {
   return { marks, notes };
 }
 
-function caseRow(it) {
-  const kind = it.isTaken ? "taken" : it.isLate ? "late" : "", more = it.isTaken ? "  ← is taken" : it.isLate ? "  ← would be right, too late" : "";
-  return `<li data-line="${it.line}" class="${kind}"><span>${escaped(it.guard)} : ${escaped(it.value)};${more}</span></li>`;
-}
-
-/** What the file says of a signal. */
-function signalHTML(it) {
-  const want = it.isWrong ? `, and <span class="want">${escaped(it.wanted)}</span> is wanted` : "";
-  const head = `<p><code>${it.name}</code> is <span class="${it.isWrong ? "got" : ""}">${escaped(it.value)}</span>${want}</p>`;
-  if (it.cases) return `${head}<ol class="code">${it.cases.map(caseRow).join("")}${it.taken === -1 ? "<li>no case is taken: 0</li>" : ""}</ol>`;
-  return it.source ? `${head}<ol class="code"><li data-line="${it.from}"><span>${escaped(it.name)} = ${escaped(it.source)};</span></li></ol>` : head;
-}
-
-function motionHTML({ motion, brief, where, signals }) {
-  const rows = motion.map((it) => `<li class="${it.isStep ? "step" : "both"}">${inline(it.text)}</li>`);
-  if (!rows.length) rows.push(`<li class="both">${inline(brief)}</li>`);
-  if (where.length) rows.push(`<li class="plain">where ${escaped(where.join(", "))}</li>`);
-  const isSaid = rows.length <= 1 && !signals.some((it) => it.isWrong) && !motion.length;
-  return isSaid ? "" : `<ul class="told">${rows.join("")}</ul>`;
-}
-
-function boxesHTML({ boxes }) {
-  const card = ([stage, [what, ...more]]) => {
-    const title = stage === "P" ? "The instruction before" : "The instruction";
-    return `<div class="card"><h3>${title}</h3><p><b><code>${escaped(what)}</code></b></p>${more.map((it) => `<p>${escaped(it)}</p>`).join("")}</div>`;
-  };
-  return `<div class="pair">${Object.entries(boxes).map(card).join("")}</div>`;
-}
-
-function drawn({ rule, told, lines, path }) {
-  const panel = by("panel-no"), said = ruleText(rule, path);
-  if (!told) {
-    panel.innerHTML = `<div class="card"><pre>${escaped(lines.join("\n"))}</pre></div>`;
-    return;
-  }
-  const isPipe = path === "pipe";
-  const scene = isPipe ? `<div class="sheet" id="no-path">${datapath(told.scene, "no")}</div>` : boxesHTML(told);
-  const signals = told.signals.map(signalHTML).join("") || "<p>No single signal is known to be wrong.</p>";
-  const asks = `<h3>${rule} asks</h3><p>${inline(said.asks)}</p><h3>Why</h3><p>${inline(said.why)}</p><p class="hint">${NOT_A_CYCLE}${isPipe ? READING : ""}</p>`;
-  const save = isPipe ? '<button type="button" class="small" id="save-no" aria-label="Save this drawing as SVG">Drawing .svg</button>' : "";
-  panel.innerHTML = `${motionHTML(told)}${scene}<div class="two"><section class="card"><div class="cardhead"><h3>What the file says there</h3><span class="grow"></span>${save}</div>${signals}</section>`
-    + `<section class="card">${asks}</section></div>`;
-  if (by("save-no")) by("save-no").onclick = () => download(`${rule}.svg`, standalone(datapath(told.scene, "no")), "image/svg+xml");
-}
-
 function showNo(verdict) {
   const { told, rule } = verdict, text = editors.hcl.text;
   offerNo(rule);
-  drawn(verdict);
+  drawRefusal(verdict);
   if (told) {
     const { marks, notes } = marksOf(text, told);
     editors.hcl.show(marks, notes);

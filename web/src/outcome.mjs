@@ -8,6 +8,7 @@ import { faultOf, noFault, showFault } from "./fault_view.mjs";
 import { excerpt, placeWords } from "./faults.mjs";
 import { PATHS, datapath } from "./names.mjs";
 import { address, readRun, sourceLines } from "./run.mjs";
+import { readSeqRun } from "./seqrun.mjs";
 import { on, state, tell } from "./state.mjs";
 import { editors, full, isFull, moment } from "./texts.mjs";
 
@@ -56,28 +57,37 @@ async function run() {
     if (ran.status > 1) return it.isBoth() && showNoRun(ran, it.hcl);
     const by_ = await runner.call("y86", ["yis", OBJECT, ...flags], files);
     const book = await runner.call("y86", ["psim", BOOK, OBJECT, "--trace", ...flags], files);
-    const stages = path === "pipe" ? await staged(files, flags) : null;
+    const staged = await STAGED[path](path, files, flags, made.out);
     if (!it.isBoth()) return;
     Object.assign(state, { object: made.out, lines: sourceLines(made.out), compared: compared(path, made.out, ran, by_, book) });
-    showRun(stages && readRun(...stages, made.out), path, ran);
+    showRun(staged, path, ran);
   } catch (stopped) {
     if (!(stopped instanceof Stopped)) throw stopped;
     if (it.isBoth()) showStopped();
   }
 }
 
-/** What y86-stages prints of the run by cycles, and as a diagram. */
-async function staged(files, flags) {
-  const words = [DESIGN, OBJECT, "--to", String(SHOWN), ...flags];
-  const lines = await runner.call("y86-stages", words, files), diagram = await runner.call("y86-stages", [...words, "--diagram"], files);
-  return [lines.out, diagram.out];
+const stageWords = (flags) => [DESIGN, OBJECT, "--to", String(SHOWN), ...flags];
+
+/** The run on the pipeline by cycles: what y86-stages prints of it, and its diagram. */
+async function pipeRun(_, files, flags, object) {
+  const lines = await runner.call("y86-stages", stageWords(flags), files), diagram = await runner.call("y86-stages", [...stageWords(flags), "--diagram"], files);
+  return readRun(lines.out, diagram.out, object);
 }
+
+/** The run on SEQ or SEQ+ by cycles. */
+async function seqRun(path, files, flags, object) {
+  const lines = await runner.call("y86-stages", [...stageWords(flags), `--${path}`], files);
+  return lines.status > 1 ? null : readSeqRun(path, lines.out, object);
+}
+
+const STAGED = { pipe: pipeRun, seq: seqRun, seqplus: seqRun };
 
 function showRun(run, path, ran) {
   state.run = run;
   if (run) by("blank").hidden = true;
   else {
-    blank(`The drawing and the diagram are for PIPE; this file is one for ${PATHS[path]}. The report of the run:`, false);
+    blank(`There is no drawing of ${PATHS[path]} in this page. The report of the run:`, false);
     by("blank").innerHTML += `<pre class="frame">${escaped(ran.out)}</pre>`;
   }
   by("shown").hidden = !run;

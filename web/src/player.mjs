@@ -2,21 +2,30 @@
 import { by, escaped, toast } from "./dom.mjs";
 import { sceneOfCycle } from "./draw/cycle.mjs";
 import { NAMES, datapath } from "./draw/pipe.mjs";
+import { SEQ_NAMES, seqPath } from "./draw/seq.mjs";
 import { hue } from "./draw/sheet.mjs";
 import { address } from "./run.mjs";
+import { seqScene, seqStages } from "./seqrun.mjs";
 import { on, state, tell } from "./state.mjs";
 import { tab } from "./tabs.mjs";
-import { editors } from "./texts.mjs";
 
 const MOST_TICKS = 150, ACTS = { stall: "stalls", bubble: "bubble next", both: "stall and bubble" };
 
 const count = () => state.run?.cycles.length ?? 0;
 export const cycleNow = () => state.run?.cycles[state.cycle - 1];
-/** The scene of the cycle that is shown. */
-export const sceneNow = () => sceneOfCycle(state.run, state.cycle);
+const isPipe = () => state.run.path === "pipe";
+const sceneNow = () => (isPipe() ? sceneOfCycle(state.run, state.cycle) : seqScene(state.run, state.cycle));
+/** The drawing of the cycle that is shown. `name` tells it from others on the page. */
+export const drawingNow = (name) => (isPipe() ? datapath(sceneNow(), name) : seqPath(sceneNow(), name));
 
-/** The five stages as a table: what the drawing shows, in words. */
+function seqStagesHTML(scene) {
+  const row = ([it, what, more]) => `<tr style="--h:${hue(scene.row)}"><th scope="row" title="${SEQ_NAMES[it]}">${it}</th><td><span class="what">${escaped(what)}</span><small>${escaped(more)}</small></td><td class="act"></td></tr>`;
+  return `<caption>The stages in cycle ${state.cycle}</caption><tbody>${seqStages(scene).map(row).join("")}</tbody>`;
+}
+
+/** The stages as a table: what the drawing shows, in words. */
 function stagesHTML(scene, cycle) {
+  if (!isPipe()) return seqStagesHTML(scene);
   const forwards = cycle.forwards.map((it) => `${it.to} = ${it.value} from ${it.from}`).join(", ");
   const rows = [..."FDEMW"].map((it) => {
     const { kind, text, at, row } = scene.stages[it], does = ACTS[scene.next[it]] ?? "", got = it === "D" ? forwards : "";
@@ -32,11 +41,10 @@ function showCycle() {
   slider.value = state.cycle;
   slider.setAttribute("aria-valuetext", `cycle ${state.cycle}: ${cycle.told.map((it) => it.text).join(" ")}`);
   by("told").innerHTML = cycle.told.map((it) => `<li class="${it.kind}">${escaped(it.text)}</li>`).join("");
-  by("path").innerHTML = datapath(scene);
+  by("path").innerHTML = drawingNow("run");
   by("stages").innerHTML = stagesHTML(scene, cycle);
   by("first").disabled = by("back").disabled = state.cycle === 1;
   by("end").disabled = by("on").disabled = state.cycle === count();
-  editors.ys.at(state.lines.lineOf[parseInt(cycle.stages.F.at, 16)] ?? 0, "here");
 }
 
 export function go(number) {
@@ -69,7 +77,7 @@ export function stopPlaying() {
 function playOn() {
   go(state.cycle + 1);
   const { F } = cycleNow().stages, before = state.run.cycles[state.cycle - 2]?.stages.F;
-  if (state.breaks.has(parseInt(F.at, 16)) && before?.row !== F.row) {
+  if (state.breaks.has(parseInt(F.at, 16)) && (!isPipe() || before?.row !== F.row)) {
     stopPlaying();
     toast(`Breakpoint at ${F.at}: ${F.text} is fetched`);
   } else if (state.cycle === count()) stopPlaying();
@@ -104,6 +112,7 @@ function retires(number) {
 
 /** The row of the n-th instruction that retires, and the cycle in which it is decoded last. */
 function placeOfRecord(number) {
+  if (!isPipe()) return { row: number - 1, cycle: number };
   const at = retires(number), row = state.run.cycles[at - 1].stages.W.row;
   return { row: row - 1, cycle: (state.run.rows[row - 1]?.letters ?? "").toUpperCase().lastIndexOf("D") + 1 || at };
 }
@@ -124,14 +133,9 @@ function showRun() {
   tell("breaks");
 }
 
-function breaksShown() {
-  editors.ys.breaks([...state.breaks].map((it) => state.lines.lineOf[it]).filter(Boolean));
-}
-
 export function wirePlayer() {
   on("run", () => state.run && showRun());
   on("stale", stopPlaying);
-  on("breaks", breaksShown);
   on("tab", (name) => name !== "run" && stopPlaying());
   on("goto-record", (number) => {
     tab("run");
@@ -142,7 +146,6 @@ export function wirePlayer() {
     state.wrongRow = placeOfRecord(number).row;
     tell("rows");
   });
-  editors.ys.onLine = (line) => toggleBreak(state.lines.addressOf[line]);
   const does = { first: () => go(1), back: () => go(state.cycle - 1), on: () => go(state.cycle + 1), end: () => go(count()), play, hazard: () => nextHazard() };
   for (const id in does) by(id).onclick = does[id];
   by("slider").oninput = () => go(Number(by("slider").value));

@@ -28,7 +28,7 @@ function show() {
   const cycle = cycleNow();
   if (!cycle) return;
   const used = usedRegisters(state.run), words = Object.keys(cycle.memory).sort((one, other) => parseInt(one, 16) - parseInt(other, 16));
-  by("others").textContent = used.length === REGISTERS.length ? "" : used.length ? `other ${REGISTERS.length - used.length}: 0` : "all 0";
+  by("others").textContent = used.length === REGISTERS.length ? "" : used.length ? `${REGISTERS.length - used.length} more: 0` : "all 0";
   by("registers").innerHTML = used.map((it) => pairHTML(it, cycle.registers[it] ?? "0x0", cycle)).join("");
   by("flags").innerHTML = FLAGS.map((it) => `<span class="${cycle.fresh.has(it) ? "new" : ""}">${it} ${cycle.flags[it]}</span>`).join("");
   by("memory-hint").textContent = words.length ? "stored, or laid down by .quad" : "the run stores nothing";

@@ -14,14 +14,15 @@ function stageOf(rest) {
   return { row: Number(row), at, next, stat, text, fields };
 }
 
-function addLine(cycle, head, rest) {
-  if (head.length === 1 && "FDEMWS".includes(head)) cycle.stages[head] = stageOf(rest);
+function addLine(cycle, head, rest, stageFrom) {
+  if (head.length === 1 && "FDEMWP".includes(head)) cycle.stages[head] = stageFrom(rest);
   else if (head === "flags") cycle.flags = pairs(rest.split(" "));
   else if (head === "write") cycle.writes.push(rest.split(" "));
   else if (head === "store") cycle.stores.push(rest.split(" "));
 }
 
-function cyclesOf(text) {
+/** The cycles of an output and its last line; `stageFrom` reads the line of a stage. */
+export function readCycles(text, stageFrom) {
   const cycles = [];
   let end = {};
   for (const line of text.split("\n")) {
@@ -30,7 +31,7 @@ function cyclesOf(text) {
     else if (head === "end") {
       const [status, ...words] = rest.split(" ");
       end = { status, ...pairs(words) };
-    } else if (cycles.length) addLine(cycles.at(-1), head, rest);
+    } else if (cycles.length) addLine(cycles.at(-1), head, rest, stageFrom);
   }
   return { cycles, end };
 }
@@ -93,16 +94,19 @@ function freshOf(cycle, before) {
   return fresh;
 }
 
+/** Gives each cycle its state and what has changed, and returns the memory as the run begins. */
+export function withStates(cycles, object) {
+  const start = memoryOf(cycles, object);
+  addStates(cycles, start);
+  cycles.forEach((it, at) => (it.fresh = freshOf(it, cycles[at - 1])));
+  return start;
+}
+
 /** A run on the pipeline: what y86-stages printed by cycles and as a diagram, and the object file. */
 export function readRun(lines, diagram, object) {
-  const { cycles, end } = cyclesOf(lines), start = memoryOf(cycles, object);
-  addStates(cycles, start);
-  cycles.forEach((it, at) => {
-    it.fresh = freshOf(it, cycles[at - 1]);
-    it.told = told(it.stages);
-    it.hazard = hazardOf(it.told);
-    it.forwards = forwards(it.stages);
-  });
+  const { cycles, end } = readCycles(lines, stageOf), start = withStates(cycles, object);
+  for (const it of cycles) Object.assign(it, { told: told(it.stages), forwards: forwards(it.stages) });
+  for (const it of cycles) it.hazard = hazardOf(it.told);
   return { path: "pipe", cycles, rows: rowsOf(diagram), end, start };
 }
 

@@ -2,7 +2,8 @@
 import { by } from "./dom.mjs";
 import { state, tell } from "./state.mjs";
 
-const NAMES = ["run", "steps", "no"];
+// (a page of one run has no tabs)
+const NAMES = ["run", "steps", "no"].filter((it) => by(`tab-${it}`));
 const open = () => NAMES.filter((it) => !by(`tab-${it}`).hidden);
 
 export function tab(name) {
@@ -13,7 +14,7 @@ export function tab(name) {
     by(`tab-${it}`).tabIndex = is ? 0 : -1;
     by(`panel-${it}`).hidden = !is;
   }
-  by("controls").classList.toggle("away", name !== "run");
+  if (NAMES.length) by("controls").classList.toggle("away", name !== "run");
   tell("tab", name);
 }
 
@@ -27,6 +28,7 @@ export function offerNo(rule) {
 /** The next tab, or the one before. */
 export function nextTab(step = 1) {
   const names = open(), at = names.indexOf(state.tab);
+  if (!names.length) return "";
   const to = names[(at + step + names.length) % names.length];
   tab(to);
   return to;

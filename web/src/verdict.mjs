@@ -2,20 +2,17 @@
 import { card, head, mark } from "./cards.mjs";
 import { TEXTS } from "./data.mjs";
 import { by, download, escaped, inline, later, small, toast } from "./dom.mjs";
-import { Stopped, judge } from "./engine.mjs";
+import { Stopped, has, judge } from "./engine.mjs";
 import { placeWords, readFault } from "./faults.mjs";
 import { PATHS, datapath, knowsIaddq } from "./names.mjs";
+import { ruleText } from "./rule_text.mjs";
 import { settings } from "./settings.mjs";
 import { on, state, tell } from "./state.mjs";
 import { editors, full, isFull, moment } from "./texts.mjs";
 import { explained } from "./why/situation.mjs";
+import { refusalOf } from "./why/told.mjs";
 
 const FILE = "my.hcl", WAIT = 260;
-
-/** What an obligation asks and why, by the pages. */
-export function ruleText(rule, path) {
-  return TEXTS.rules[path === "seqplus" && rule === "S16" ? "S16 of SEQ+" : rule] ?? { short: "", asks: "", why: "" };
-}
 
 const notAsked = (text) => (knowsIaddq(text) && !isFull() ? " <code>iaddq</code> wasn’t checked: the box at the top includes it." : "");
 
@@ -34,16 +31,48 @@ function showYes(it, path, line) {
   card("verdict", "yes", `${head("yes", title, more)}<p>${escaped(said)}${notAsked(it.hcl)}${saves(path, true)}</p>`);
 }
 
-function showNo(it, path, lines) {
-  const rule = lines[0].split(" ")[1], told = explained(it.hcl, lines, isFull()), said = ruleText(rule, path);
-  state.verdict = { at: it.at, kind: "no", rule, told, lines, path };
-  const main = told?.signals.find((signal) => (signal.isWrong || signal.isBlamed) && signal.from) ?? told?.signals.find((signal) => signal.from);
-  const line = main?.cases?.find((branch) => branch.isTaken)?.line ?? main?.from;
-  const brief = told?.brief ? `<p><b class="got">${inline(told.brief)}</b>${main ? ` ${small("goto", `line ${line}`)}` : ""}</p>` : "";
+/** The signal to look at first, and its line. */
+function mainOf(told) {
+  const main = told?.signals.find((it) => (it.isWrong || it.isBlamed) && it.from) ?? told?.signals.find((it) => it.from);
+  return main && (main.cases?.find((it) => it.isTaken)?.line ?? main.from);
+}
+
+/** Shows a refusal: `refusals` explain the obligations that are refuted, of which `shown` is looked at. */
+function showNo(it, path, lines, refusals, shown) {
+  const told = refusals.find((one) => one.rule === shown) ?? refusals[0], rule = told?.rule ?? lines[0].split(" ")[1], line = mainOf(told);
+  state.verdict = { at: it.at, kind: "no", rule, told, refusals, lines, path };
+  const brief = told?.brief ? `<p><b class="got">${inline(told.brief)}</b>${line ? ` ${small("goto", `line ${line}`)}` : ""}</p>` : "";
+  const others = refusals.map((one) => one.rule).filter((one) => one !== rule), more = others.length ? ` Refuted too: ${others.join(", ")}.` : "";
   const title = head(`no: ${rule}`, "Not right for every program", ` <span class="grow"></span>${small("why", "See why")}`);
-  card("verdict", "no", `${title}${brief}<p class="soft">${rule}: ${inline(said.short)}.${notAsked(it.hcl)}${saves(path, false)}</p>`);
+  card("verdict", "no", `${title}${brief}<p class="soft">${rule}: ${inline(shortOf(rule, path, told))}${more}${notAsked(it.hcl)}${saves(path, false)}</p>`);
   by("why").onclick = () => tell("why");
-  if (main) by("goto").onclick = () => editors.hcl.reveal(line, 1);
+  if (line) by("goto").onclick = () => editors.hcl.reveal(line, 1);
+}
+
+/** An obligation in a line. */
+function shortOf(rule, path, told) {
+  const { short } = ruleText(rule, path);
+  return short ? `${short}.` : told?.says?.demand ?? "";
+}
+
+/** What y86-tell says of a refusal; null where the page doesn't have it, or it gives no answer. */
+async function toldOf(it, path) {
+  if (!has("y86-tell")) return null;
+  const said = await judge.call("y86-tell", ["check", path, FILE, "--json", ...full()], { [FILE]: it.hcl });
+  try {
+    const { refuted, mend_first } = JSON.parse(said.out);
+    return { refusals: refuted.map((one) => refusalOf(it.hcl, one, path)), first: mend_first };
+  } catch {
+    return null;
+  }
+}
+
+/** Explains a refusal, by y86-tell where the page has it. */
+async function explain(it, path, lines) {
+  const said = await toldOf(it, path);
+  if (!it.isHcl()) return;
+  const own = said ? [] : [explained(it.hcl, lines, isFull())].filter(Boolean);
+  showNo(it, path, lines, said?.refusals ?? own, said?.first);
 }
 
 function showFault(it, err) {
@@ -68,10 +97,10 @@ function showStopped(it) {
   };
 }
 
-function show(it, path, said) {
+async function show(it, path, said) {
   const lines = said.out.trim().split("\n");
   if (said.status === 0) showYes(it, path, lines[0]);
-  else if (said.status === 1 && lines[0].startsWith("no ")) showNo(it, path, lines);
+  else if (said.status === 1 && lines[0].startsWith("no ")) await explain(it, path, lines);
   else if (said.status === 5 || said.status === 7) showFault(it, said.err);
   else showNone(it, said);
   if (by("save-cert")) by("save-cert").onclick = () => save("cert");
@@ -85,7 +114,8 @@ async function check() {
   try {
     const said = await judge.call("y86", ["check", path, FILE, ...full()], { [FILE]: it.hcl });
     if (!it.isHcl()) return;
-    show(it, path, said);
+    await show(it, path, said);
+    if (!it.isHcl()) return;
   } catch (stopped) {
     if (!(stopped instanceof Stopped)) throw stopped;
     if (!it.isHcl()) return;
@@ -116,7 +146,15 @@ async function save(kind) {
   button.disabled = false;
 }
 
+/** Looks at another obligation that is refuted. */
+function showOther(rule) {
+  const { lines, refusals, path } = state.verdict;
+  showNo(moment(), path, lines, refusals, rule);
+  tell("verdict");
+}
+
 export function wireVerdict() {
+  on("refusal", showOther);
   on("stale", (which) => which === "hcl" && mark("verdict", "checking …", judge));
   on("text", (which) => which === "hcl" && later("check", WAIT, check));
 }

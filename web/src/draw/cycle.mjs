@@ -35,7 +35,7 @@ function execute({ E }, texts, on) {
   if (isBubble(E)) return;
   for (const it of ["aluB", "aluA", "e_valE"]) texts[it] = shortWord(E.fields[it], 9);
   texts.e_dstE = orDash(E.fields.e_dstE);
-  if (!/^(j|nop|halt|invalid)/.test(E.text)) {
+  if (!/^(j|nop|halt|invalid|failed)/.test(E.text)) {
     on.add("alu");
     texts.alufun = E.fields.alufun;
   }

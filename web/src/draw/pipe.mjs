@@ -29,7 +29,7 @@ const INTO = {
 };
 const UNDER = { A: 279, B: 303 };
 const LANE_NAMES = [["e_valE", 590], ["m_valM", 770], ["M_valE", 664], ["W_valM", 870], ["W_valE", 870]];
-const ALU = "M563 240L597 252L597 290L563 302L563 278L571 271L563 264Z", ALU_SIGNS = ["+", "−", "&", "^"];
+const ALU = "M563 240L597 252L597 290L563 302L563 278L571 271L563 264Z", ALU_SIGNS = { add: "+", sub: "−", and: "&", xor: "^" };
 
 /** The way of a word to the choice of valA or valB; null where it has none. */
 function forwardWay(side, from) {

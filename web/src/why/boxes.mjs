@@ -1,7 +1,7 @@
 // What is in a stage of a situation, in words.
 import { register } from "../names.mjs";
 import { STATUSES, mnemonic } from "./values.mjs";
-import { IADDQ, IRMOVQ, JXX, MRMOVQ, NONE, OPQ, POPQ, PUSHQ, RMMOVQ, RRMOVQ } from "./view.mjs";
+import { IADDQ, IRMOVQ, JXX, MRMOVQ, NONE, OPQ, POPQ, PUSHQ, RMMOVQ, RRMOVQ } from "./numbers.mjs";
 
 const WORDS = [["rA", "rA"], ["rB", "rB"], ["srcA", "reads A"], ["srcB", "reads B"], ["dstE", "result to"], ["dstM", "loads"]];
 
@@ -22,39 +22,35 @@ function condition({ icode, ifun = 0, ...it }, stage) {
   return lines;
 }
 
-/** The lines of a stage: its instruction first, then what counts of it. */
-export function box(view, stage) {
-  if (view.kinds[stage] === "bubble") return ["bubble"];
-  const it = view.fields[stage];
+/** The lines of a stage `{ kind, icode, .. }`: its instruction first, then what counts of it. */
+export function boxOf(it, stage) {
+  if (it.kind === "bubble") return ["bubble"];
   if ("FS".includes(stage) && it.error) return ["the fetch fails"];
   const lines = [nameOf(it, stage)];
   for (const [name, word] of WORDS) if ((it[name] ?? NONE) !== NONE) lines.push(`${word} ${register(it[name])}`);
-  return [...lines, ...remarks(view, stage)];
+  return [...lines, ...remarks(it, stage)];
 }
 
 /** What is to be said of a stage besides its registers. */
-export function remarks(view, stage) {
-  const it = view.fields[stage], lines = [];
+export function remarks(it, stage) {
+  const lines = [];
   if ((it.stat ?? 1) !== 1) lines.push(`status ${STATUSES[it.stat]}`);
   lines.push(...condition(it, stage));
   if (it.stops || (it.error && stage === "M") || it.derror) lines.push("its address is bad");
-  if ("DEMW".includes(stage) && view.kinds[stage] === "wrong") lines.push("on the wrong path");
+  if ("DEMW".includes(stage) && it.kind === "wrong") lines.push("on the wrong path");
   return lines;
 }
 
-/** The comparisons of words that the situation decides. */
-export function comparisons(view) {
-  return Object.entries(view.atoms).map(([it, truth]) => {
-    const [sign, left, right] = it.split(" ");
-    const words = { lt: ["isn't below", "is below"], eq: ["doesn't equal", "equals"] }[sign];
-    return `${left} ${words[truth]} ${right}`;
-  });
+/** A comparison of two words that the situation decides, as `lt` or `eq`. */
+export function comparison(sign, left, right, truth) {
+  const words = { lt: ["isn't below", "is below"], eq: ["doesn't equal", "equals"] }[sign];
+  return `${left} ${words[Number(truth)]} ${right}`;
 }
 
 const shown = (number) => (number === undefined || number === NONE ? "…" : register(number));
 
-function writer(view, stage, name) {
-  const { dstE, dstM } = view.fields[stage], to = [dstE, dstM].filter((it) => it !== undefined && it !== NONE).map(register);
+function writer({ dstE, dstM }, name) {
+  const to = [dstE, dstM].filter((it) => it !== undefined && it !== NONE).map(register);
   return to.length ? `${name} → ${[...new Set(to)].join(", ")}` : name;
 }
 
@@ -70,12 +66,12 @@ ASSEMBLY[OPQ] = ASSEMBLY[RRMOVQ];
 ASSEMBLY[IADDQ] = ASSEMBLY[IRMOVQ];
 
 /** The assembly that a stage of the situation might be. */
-export function instruction(view, stage) {
-  if (view.kinds[stage] === "bubble") return "bubble";
-  const it = view.fields[stage], name = box(view, stage)[0];
+export function instructionOf(it, stage) {
+  const name = boxOf(it, stage)[0];
+  if (it.kind === "bubble") return "bubble";
   if (it.error && stage === "F") return "fetch fails";
   if (it.stat === 3 && "DE".includes(stage)) return "failed fetch";
-  if (stage === "F" || stage === "W") return writer(view, stage, name);
+  if (stage === "F" || stage === "W") return writer(it, name);
   const second = it.rB ?? (it.srcB !== undefined && it.srcB !== NONE ? it.srcB : it.dstE);
   return ASSEMBLY[it.icode]?.(name, stage, it.rA ?? it.srcA, second, it) ?? name;
 }

@@ -1,5 +1,5 @@
 // What goes wrong as the pipeline registers move on, a sentence each (docs/OBLIGATIONS.md, O23 to O27).
-import { HALT, JXX, NONE, RET } from "./view.mjs";
+import { HALT, JXX, NONE, RET } from "./numbers.mjs";
 
 const slot = (kind, stops = false, isRet = false, isMispredicted = false) =>
   ({ kind, isGood: kind === "good", isWrong: kind === "wrong", stops, isRet, isMispredicted });

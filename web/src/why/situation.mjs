@@ -1,9 +1,9 @@
 // A refusal explained: the smallest counterexample, what the file says there, and what is wanted. The page asks `explained` alone.
 import { lineAt } from "../dom.mjs";
-import { box, comparisons, instruction } from "./boxes.mjs";
+import { boxOf, comparison, instructionOf } from "./boxes.mjs";
 import { motion } from "./motion.mjs";
 import { design as read } from "./reader.mjs";
-import { sceneOf } from "./scene.mjs";
+import { actOf, sceneOf } from "./scene.mjs";
 import { constant } from "./values.mjs";
 import { View } from "./view.mjs";
 import { concerned, wanted } from "./wanted.mjs";
@@ -61,10 +61,18 @@ export function explained(text, lines, isFull) {
   for (const name of guilty) if (!shown.some((it) => it[0] === name)) shown.push([name, null]);
   shown.sort((one, other) => guilty.includes(other[0]) - guilty.includes(one[0]));
   const signals = shown.map((it) => signalOf(text, design, view, it, guilty));
+  const stages = Object.fromEntries(Object.keys(view.kinds).map((it) => [it, { kind: view.kinds[it], ...view.fields[it] }]));
   const told = {
-    rule, path: view.path, signals, motion: moves, where: comparisons(view), brief: inShort(rule, signals, moves),
-    boxes: Object.fromEntries(Object.keys(view.kinds).map((it) => [it, box(view, it)])),
-    stages: Object.fromEntries(Object.keys(view.kinds).map((it) => [it, instruction(view, it)])),
+    rule, path: view.path, signals, motion: moves, brief: inShort(rule, signals, moves),
+    where: Object.entries(view.atoms).map(([it, truth]) => comparison(...it.split(" "), truth)),
+    boxes: Object.fromEntries(Object.entries(stages).map(([stage, it]) => [stage, boxOf(it, stage)])),
+    stages: Object.fromEntries(Object.entries(stages).map(([stage, it]) => [stage, instructionOf(it, stage)])),
   };
-  return view.path === "pipe" ? { ...told, scene: sceneOf(view, rule, signals, guilty) } : told;
+  return view.path === "pipe" ? { ...told, scene: sceneOf(situationOf(view, stages), rule, signals) } : told;
+}
+
+/** The situation as its drawing takes it. */
+function situationOf(view, stages) {
+  const acts = Object.fromEntries([..."FDEMW"].map((it) => [it, actOf(view.signal(`${it}_stall`), view.signal(`${it}_bubble`))]));
+  return { stages, acts, value: (name) => view.signal(name), isFetchRight: view.isFetchGood() };
 }

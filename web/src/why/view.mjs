@@ -1,9 +1,8 @@
 // The situation of a refusal: what is in the stages, and what the file says there. After the lines that `y86 check` prints (docs/OBLIGATIONS.md).
 import { WORDS } from "../names.mjs";
+import { JXX, MRMOVQ, NONE, PUSHQ, RET, RMMOVQ, RSP } from "./numbers.mjs";
 import { Situation } from "./values.mjs";
 
-export const NONE = 15, RSP = 4;
-export const [HALT, NOP, RRMOVQ, IRMOVQ, RMMOVQ, MRMOVQ, OPQ, JXX, CALL, RET, PUSHQ, POPQ, IADDQ] = Array(13).keys();
 // The lines' names of what a file calls otherwise.
 const RENAMED = {
   Ferror: "imem_error", Ficode: "imem_icode", Fifun: "imem_ifun", Ecnd: "e_Cnd", Mcnd: "M_Cnd", Merror: "dmem_error",

@@ -1,5 +1,5 @@
 // What an obligation asks of each signal in a situation (docs/OBLIGATIONS.md).
-import { CALL, HALT, IADDQ, IRMOVQ, JXX, MRMOVQ, NONE, OPQ, POPQ, PUSHQ, RET, RMMOVQ, RRMOVQ, RSP } from "./view.mjs";
+import { CALL, HALT, IADDQ, IRMOVQ, JXX, MRMOVQ, NONE, OPQ, POPQ, PUSHQ, RET, RMMOVQ, RRMOVQ, RSP } from "./numbers.mjs";
 import { moved } from "./motion.mjs";
 
 const isIn = (it, ...set) => set.includes(it);

@@ -1,0 +1,55 @@
+#!/usr/bin/env python3
+"""by_hand.py OUT.html: a page that makes some 250 calls in the browser that opens it, and says how many gave the answers of the native programs.
+
+For Firefox and Safari's engine, before a release. The programs are the proved ones if both kinds are built.
+"""
+import os
+import sys
+
+TOP = os.path.dirname(os.path.dirname(os.path.dirname(os.path.realpath(__file__))))
+sys.dont_write_bytecode = True
+sys.path[:0] = [f"{TOP}/{it}" for it in ("web", "tests", "tools", "launch")]
+import tempfile
+
+import build
+from helpers.browser_build import programs
+from helpers.programs import Program, program_path
+from test_browser_calls import of_designs, of_programs, of_runs
+
+SHARE = 8
+PAGE = """<!DOCTYPE html><html lang="en"><meta charset="utf-8"><title>y86: calls by hand</title>
+<p id="said">…</p><pre id="wrong"></pre>
+<script type="application/json" id="data">{data}</script><script type="text/plain" id="worker">{worker}</script><script type="module">{app}</script></html>"""
+
+
+def sum_of(data):
+    """A sum of bytes, as web/src/by_hand.mjs has it."""
+    found = 0x811C9DC5
+    for byte in data:
+        found = (found ^ byte) * 0x01000193 & 0xFFFFFFFF
+    return found
+
+
+def main(words):
+    if len(words) != 1:
+        print(__doc__, file=sys.stderr)
+        return 2
+    calls = [*of_programs(), *of_designs(), *of_runs()][::SHARE]
+    native = {it: program_path(it) for it in {call.crate for call in calls}}
+    with tempfile.TemporaryDirectory() as room:
+        asked = []
+        for call in calls:
+            answer = Program(native[call.crate], room)(*call.words, files=call.files)
+            files = {name: text.decode() for name, text in call.files.items()}
+            sums = [answer.status, sum_of(answer.out), sum_of(answer.err)]
+            asked.append({"program": call.crate.replace("_", "-"), "words": call.words, "files": files, "answer": sums})
+    packed = {it.name: build.packed(it.file) for it in programs()}
+    data = build.as_json({"programs": packed, "calls": asked, "examples": {}, "texts": {}, "about": {}})
+    with open(words[0], "w", encoding="utf-8") as it:
+        it.write(PAGE.format(data=data, worker=build.script("worker"), app=build.script("by_hand")))
+    print(f"{words[0]} makes {len(asked)} calls: open it in each browser")
+    return 0
+
+
+if __name__ == "__main__":
+    sys.exit(main(sys.argv[1:]))

@@ -1,0 +1,580 @@
+"""The workbench in a headless Chromium, opened from a file: what a student and a teacher do with it. Needs Chromium."""
+import base64
+import json
+import os
+import re
+import zlib
+
+import pytest
+
+from helpers.browser import command
+from helpers.browser_build import is_proved, page
+from helpers.cases import cases, same
+from helpers.designs import example
+from helpers.programs import Program
+from helpers.workbench_page import CTRL, Workbench
+
+pytestmark = pytest.mark.xdist_group("browser page")
+WIDE = (1440, 900)
+# Layouts for a screen, a tablet and a phone.
+WIDTHS = [WIDE, (1024, 768), (390, 844)]
+STD = example("std")
+
+
+@pytest.fixture(scope="module")
+def at():
+    """The page, opened once; each test begins with the book's pipeline and the array sum."""
+    if not command():
+        pytest.skip("Chromium isn't here, so the page wasn't opened")
+    with Workbench() as it:
+        it.path = page()
+        it.size(*WIDE)
+        it.begin(it.path)
+        yield it
+
+
+@pytest.fixture(autouse=True)
+def fresh(request):
+    """The texts as they are at first, and no error in the console after each test."""
+    if "at" not in request.fixturenames:
+        yield
+        return
+    it = request.getfixturevalue("at")
+    it.do("(() => { if (el('dialog').open) el('dialog').close(); el('full').checked = false; localStorage.clear(); })()")
+    it.choose("yss", "asum.ys")
+    it.choose("hcls", "std.hcl")
+    it.do("el('tab-run').click(), el('first').click()")
+    it.leave()
+    yield
+    errors, it.errors[:] = list(it.errors), []
+    same(errors, [])
+
+
+def said(at, id, *wanted):
+    text = re.sub(r"\s+", " ", at.text(id))
+    for it in wanted:
+        assert it in text, f"{id} says {text!r}, and not {it!r}"
+
+
+# ---- what is there at once
+
+def test_first_screen(at):
+    said(at, "verdict", "Right for every program", "Jumps predicted as taken: all.", "two bubbles, a return three")
+    said(at, "outcome", "This program comes out right", "Ends at a halt.")
+    inside = "['verdict', 'outcome', 'path', 'grid', 'registers'].filter((id) => { const r = el(id).getBoundingClientRect(); return !(r.top >= 0 && r.bottom <= innerHeight + 1 && r.height > 30); })"
+    same(at.do(inside), [])
+
+
+def test_what_is_proved(at):
+    same(at.do("Boolean(el('unproved'))"), not is_proved())
+    said(at, "made", "rattle-kit", "Nothing leaves this page", "were proved" if is_proved() else "Nothing in it was proved")
+
+
+# ---- the run by cycles
+
+def test_buttons(at):
+    last = at.do("workbench.run.cycles.length")
+    for selector, wanted in (("#on", 2), ("#on", 3), ("#back", 2), ("#end", last), ("#first", 1)):
+        at.click(selector)
+        same((selector, at.cycle()), (selector, wanted))
+    assert at.do("el('back').disabled && !el('on').disabled")
+    at.do("(() => { el('slider').value = 20; el('slider').dispatchEvent(new Event('input')); })()")
+    same(at.cycle(), 20)
+    at.click("#grid .heads button:nth-of-type(18)")
+    same(at.cycle(), 18)
+    at.click("#grid .box[data-cycle='17']")
+    same(at.cycle(), 17)
+
+
+def test_keys(at):
+    last = at.do("workbench.run.cycles.length")
+    for key, wanted in (("ArrowRight", 2), ("End", last), ("ArrowLeft", last - 1), ("Home", 1)):
+        at.key(key)
+        same((key, at.cycle()), (key, wanted))
+    at.do("el('base').focus()")
+    at.key("ArrowRight")
+    same(at.cycle(), 2)
+    at.do("el('grid').focus()")
+    at.key("ArrowRight")
+    same(at.cycle(), 3)
+
+
+def test_hazards(at):
+    at.key("n")
+    first = at.cycle()
+    said(at, "told", "Load/use: addq %r10, %rax waits in D for %r10")
+    same(at.do("every('#path .act').map((it) => it.textContent)"), ["stall", "stall", "bubble"])
+    assert not at.do("one('#path .tip')"), "an instruction that waits takes no word"
+    at.key("ArrowRight")
+    said(at, "told", "gets %r10 = 0xd000d000d forwarded as valA from m_valM")
+    assert at.do("every('#path .tip text').some((it) => /^m_valM 0x/.test(it.textContent))")
+    assert at.do("every('#grid path.forward.is').length >= 1"), "no line from M to D in the diagram"
+    at.key("n")
+    second = at.cycle()
+    assert second > first
+    at.key("N")
+    assert at.cycle() < second
+    at.key("Home")
+    at.click("#hazard")
+    same(at.cycle(), first)
+
+
+def test_play(at):
+    at.do("el('speed').value = '15'")
+    at.key(" ")
+    at.until("workbench.cycle > 3")
+    at.key(" ")
+    paused = at.cycle()
+    at.do("new Promise((done) => setTimeout(done, 250))")
+    same(at.cycle(), paused)
+
+
+def test_breakpoints(at):
+    at.click("#grid .row:nth-child(5) .name")
+    (place,) = at.do("[...workbench.breaks]")
+    same(at.do("every('#ys .gutter .break').length"), 1)
+    at.do("el('speed').value = '15'")
+    at.click("#play")
+    at.until("!workbench.playing")
+    same(at.do("parseInt(workbench.run.cycles[workbench.cycle - 1].stages.F.at, 16)"), place)
+    at.click("#ys .gutter .break")
+    same(at.do("workbench.breaks.size"), 0)
+    at.leave()
+    at.key("b")
+    same(at.do("workbench.breaks.size"), 1)
+
+
+def test_state(at):
+    at.click("#grid .heads button:nth-of-type(6)")
+    same(at.do("every('#registers .new').map((it) => it.textContent)"), ["%rsp0x200"])
+    at.click("#base")
+    same(at.do("every('#registers .new').map((it) => it.textContent)"), ["%rsp512"])
+    at.click("#base")
+
+
+def test_stages_as_a_table(at):
+    rows = at.do("every('#stages tr').map((it) => [it.children[0].textContent, it.querySelector('.what').textContent])")
+    same([it for it, _ in rows], list("FDEMW"))
+    same(rows[0][1], at.do("workbench.run.cycles[0].stages.F.text"))
+
+
+# ---- a refusal
+
+# A mistake, the obligation, what the card says, and its program.
+REFUSED = [
+    ("memory before execute", "O10", "d_valA picks M_valE; e_valE is wanted", "call.ys"),
+    ("no stall for load/use", "O10", "has to wait for the load in E", "load_use.ys"),
+    ("a ret isn't waited for", "O25", "", "call.ys"),
+    ("the wrong path isn't cancelled", "O25", "", "jump.ys"),
+]
+
+
+@cases(REFUSED)
+def test_refused(row, at):
+    title, rule, brief, program = row
+    at.choose("hcls", f"mistake: {title}")
+    said(at, "verdict", f"no: {rule}", "Not right for every program", brief)
+    same(at.do("el('yss').value"), program)
+    said(at, "outcome", "This program comes out wrong", "First wrong: instruction")
+    same(at.do("workbench.tab"), "no")
+    assert at.do("every('#hcl .gutter .no, #hcl .gutter .case').length > 0")
+    assert at.do("Boolean(one('#hcl .note'))")
+
+
+def test_why_no(at):
+    at.choose("hcls", "mistake: memory before execute")
+    same(at.do("[every('#no-path .wire.bad').length, every('#no-path .wire.want').length]"), [1, 1])
+    said(at, "panel-no", "Where a good instruction leaves D", "is taken", "would be right, too late", "not a cycle of your program")
+    same(at.do("every('#hcl .gutter .case').map((it) => it.textContent)"), ["50"])
+    at.click("#goto")
+    assert at.do("document.activeElement === one('#hcl textarea')")
+    at.leave()
+    at.key("w")
+    same(at.do("workbench.tab"), "run")
+    at.click("#wrong-at")
+    same(at.do("every('#grid .row.wrong').length"), 1)
+    assert at.cycle() > 1
+    at.click("#tab-no")
+    name, drawing = at.saved(lambda: at.click("#save-no"))
+    same(name, "O10.svg")
+    assert "e_valE wanted" in drawing
+
+
+def test_witness(at):
+    """A program that comes out right under a refused processor; an example that doesn't is found, and one is drawn where no example does."""
+    at.choose("hcls", "mistake: memory before execute")
+    at.choose("yss", "add.ys")
+    said(at, "outcome", "comes out right", "Another may not.")
+    at.click("#find")
+    at.until("/comes out wrong/.test(el('outcome').textContent)")
+    same(at.do("el('yss').value"), "abs.ys")
+    at.choose("hcls", "mistake: E_dstE in place of e_dstE")
+    at.choose("yss", "add.ys")
+    at.click("#find")
+    at.until("/comes out wrong/.test(el('outcome').textContent)", 200)
+    at.settle()
+    said(at, "outcome", "First wrong")
+    assert len(at.source("ys").split("\n")) < 20, "the program wasn't shortened"
+
+
+def test_by_instructions(at):
+    at.click("#tab-steps")
+    rows = at.do("every('#panel-steps tbody tr').length")
+    same(rows, at.do("workbench.compared.right.steps"))
+    said(at, "panel-steps", "The processor’s run is the same.", "irmovq $512, %rsp")
+    at.choose("hcls", "mistake: memory before execute")
+    at.click("#tab-steps")
+    said(at, "panel-steps", "differs first at instruction 3", "%rsp")
+    at.click("#panel-steps [data-record]")
+    same(at.do("workbench.tab"), "run")
+
+
+# ---- faults
+
+HCL_FAULTS = [
+    ("a case without its end", STD.replace("1 : f_valP; ];", "1 : f_valP ];"), "Syntax: Put ; after f_valP in line 29"),
+    ("= for ==", STD.replace("E_icode == IOPQ : E_ifun", "E_icode = IOPQ : E_ifun"), "Write == to compare"),
+    ("& for &&", STD.replace("&& !e_Cnd", "& !e_Cnd", 1), "Write && for “and”"),
+    ("a set in parentheses", STD.replace("in { IJXX, ICALL }", "in ( IJXX, ICALL )", 1), "A set is written with braces"),
+    ("a comment of C", STD + "\n// end\n", "A comment begins with #"),
+    ("a signal of SEQ", STD.replace("d_srcA == e_dstE", "srcA == e_dstE"), "srcA is a signal of SEQ and SEQ+, and this file is one for PIPE"),
+    ("a misspelled signal", STD.replace("d_srcB == W_dstM", "d_srcB == W_dstm"), "PIPE has no signal of this name"),
+    ("a definition that is missing", re.sub(r"bool set_cc[^;]*;", "", STD), "set_cc isn’t defined"),
+]
+ASM_FAULTS = [
+    ("movq %rax, %rbx", "four moves"),
+    ("adq %rax, %rbx", "There is no instruction adq"),
+    ("addq $1, %rax", "takes two registers"),
+    ("addq %rax %rbx", "A comma is missing"),
+    ("addq %rax, %ebx", "There is no register %ebx"),
+    ("rrmovq %rax, %r15", "no %r15"),
+    ("iaddq $1, %rax", "needs the box “iaddq”"),
+    ("jmp nowhere", "LabelUnknown"),
+]
+
+
+@cases(HCL_FAULTS)
+def test_hcl_fault(row, at):
+    at.write("hcl", row[1])
+    said(at, "hcl-strip", row[2])
+    said(at, "verdict", "no answer", "The processor has a fault")
+    assert at.do("el('shown').hidden && el('tab-no').hidden && el('controls').hidden")
+    assert "Did you mean" not in at.do("document.body.textContent")
+    assert at.do("one('#hcl textarea').getAttribute('aria-invalid') === 'true' && one('#hcl .note') !== null")
+
+
+@cases(ASM_FAULTS)
+def test_asm_fault(row, at):
+    at.write("ys", f"    {row[0]}\n    halt\n")
+    said(at, "ys-strip", row[1])
+
+
+def test_names_are_completed(at):
+    at.do("(() => { const it = one('#hcl textarea'); it.focus(); it.setSelectionRange(it.value.length, it.value.length); })()")
+    at.type("\nbool W_bubble = E_ds")
+    same(at.do("every('#hcl-names li').map((it) => it.textContent)"), ["E_dstE", "E_dstM"])
+    at.key("ArrowDown")
+    at.key("Tab")
+    assert at.source("hcl").endswith("bool W_bubble = E_dstM")
+    at.type(" == Xy")
+    assert at.do("el('hcl-names').hidden"), "a name was offered for what no name begins with"
+
+
+def test_iaddq(at):
+    at.choose("hcls", "with_iaddq.hcl")
+    assert at.do("el('full').checked")
+    at.write("ys", "    iaddq $1, %rax\n    halt\n")
+    said(at, "verdict", "Right for every program")
+    said(at, "outcome", "comes out right")
+    at.click("#full")
+    at.settle()
+    said(at, "verdict", "iaddq wasn’t checked")
+
+
+# ---- answers that belong to the texts
+
+def test_stale(at):
+    at.do("(() => { const it = one('#hcl textarea'); it.value += '#'; it.dispatchEvent(new Event('input', { bubbles: true })); })()")
+    assert at.do("['verdict', 'outcome', 'shown'].every((id) => el(id).classList.contains('stale'))")
+    at.settle()
+
+
+def test_stop(at):
+    """A check without an end is stopped, the run doesn't wait for it, and the next check answers."""
+    bits = [f"E_ds{x}" for x in ("tE", "tM")]
+    guards = " && ".join(f"(f_valC < {a} || {b} < E_val{c})" for a in ("E_valA", "E_valB", "D_valP", "M_valA", "W_valE") for b in ("W_valM", "d_rvalA", "M_valE", "d_rvalB") for c in "ABC")
+    assert bits
+    at.do(f"(() => {{ const it = one('#hcl textarea'); it.value = {json.dumps(STD.replace('bool M_bubble = ', f'bool M_bubble = {guards} && '))}; it.dispatchEvent(new Event('input', {{ bubbles: true }})); }})()")
+    at.do("new Promise((done) => setTimeout(done, 2200))")
+    if at.do("Boolean(one('#verdict .busy button'))"):
+        at.until("!one('#outcome.stale')")
+        at.click("#verdict .busy button")
+        at.settle()
+        said(at, "verdict", "stopped")
+    at.choose("hcls", "std.hcl")
+    said(at, "verdict", "Right for every program")
+
+
+def test_endless(at):
+    at.write("ys", "loop:\n    jmp loop\n")
+    said(at, "outcome", "no end within the limit")
+    said(at, "now", "cycle 1 of 2000+")
+
+
+def test_other_ends(at):
+    at.choose("yss", "fault.ys")
+    said(at, "outcome", "ADR", "comes out right")
+    at.write("ys", "")
+    assert "undefined" not in at.text("outcome")
+    at.choose("hcls", "stall_and_bubble.hcl")
+    said(at, "verdict", "no: O23")
+    said(at, "outcome", "PIP")
+
+
+def test_sequential(at):
+    for name, path in (("seq.hcl", "SEQ"), ("seq_plus.hcl", "SEQ+")):
+        at.choose("hcls", name)
+        said(at, "verdict", f"{path}: right for every program")
+        said(at, "outcome", "comes out right")
+    at.write("hcl", example("seq").replace("1 : valP;", "1 : valC;"))
+    said(at, "verdict", "no: S16", "new_pc picks valC; valP is wanted")
+    said(at, "panel-no", "The instruction", "is taken")
+
+
+def test_every_example(at):
+    """No example breaks the page."""
+    for which in ("yss", "hcls"):
+        for name in at.do(f"every('#{which} option').map((it) => it.value).filter(Boolean)"):
+            at.do("el('full').checked = false")
+            at.choose(which, name)
+            shown = at.do("document.body.innerText")
+            assert not re.search(r"undefined|NaN|\[object", shown), name
+
+
+# ---- files, links, pictures, paper
+
+def test_own_text(at):
+    at.write("hcl", f"{STD}\n# mine\n")
+    at.choose("hcls", "no_bypassing.hcl")
+    at.choose("hcls", "")
+    assert at.source("hcl").endswith("# mine\n")
+
+
+def link(texts):
+    """A link that carries texts, made as the page makes it."""
+    packed = zlib.compressobj(9, zlib.DEFLATED, -15)
+    data = packed.compress(json.dumps(texts).encode()) + packed.flush()
+    return "#w=" + base64.urlsafe_b64encode(data).decode().rstrip("=")
+
+
+def test_link(at):
+    at.write("ys", "    irmovq $7, %rax\n    halt\n")
+    at.leave()
+    at.click("#link")
+    at.until("location.hash.startsWith('#w=')")
+    fragment = at.do("location.hash")
+    at.do("localStorage.clear()")
+    at.begin(at.path, fragment)
+    same(at.source("ys"), "    irmovq $7, %rax\n    halt\n")
+    same(at.source("hcl"), STD)
+    at.begin(at.path, "#w=AAAA")
+    said(at, "toast", "The link is damaged")
+
+
+HOSTILE = "</script><img src=x onerror=\"window.hit=1\"><svg onload='window.hit=1'>`${window.hit=1}` $& $' ]]> &lt;b&gt; <b id=hit>"
+
+
+def test_hostile_texts(at):
+    """What a link carries is text: it becomes no element, and no script of it runs."""
+    for texts in (
+        {"h": HOSTILE, "p": HOSTILE, "f": 1, "n": [HOSTILE, HOSTILE]},
+        {"h": f"{STD}\n# {HOSTILE}\n", "p": f"a: halt # {HOSTILE}\n", "f": 0, "n": ["a.hcl", "b.ys"]},
+        {"h": STD.replace("1 : d_rvalA;", f"1 : d_rvalB; # {HOSTILE}\n"), "p": "    .quad 1 # <b id=hit>\n    halt\n", "n": {"0": HOSTILE}},
+        {"h": {"toString": 1}, "p": [HOSTILE], "n": [["<b id=hit>"]]},
+    ):
+        at.begin(at.path, link(texts))
+        for tab in ("run", "steps", "no"):
+            at.do(f"el('tab-{tab}').click()")
+            same(at.do("[window.hit, every('#hit, img, [onerror], [onload], body script:not(#data, #worker, [type=module])').length]"), [None, 0])
+    at.do("localStorage.clear()")
+    at.begin(at.path)
+
+
+def test_policy(at):
+    """The page runs its own script alone, and loads nothing."""
+    at.do("(() => { const it = document.createElement('script'); it.textContent = 'window.hit = 1'; document.body.append(it); it.remove(); })()")
+    at.do("(() => { const it = document.createElement('b'); it.setAttribute('onclick', 'window.hit = 1'); document.body.append(it); it.click(); it.remove(); })()")
+    assert at.do("fetch('data:text/plain,1').then(() => 'loaded', () => 'refused')") == "refused"
+    same(at.do("window.hit ?? 0"), 0)
+    assert at.errors and all("Content Security Policy" in it for it in at.errors), at.errors
+    at.errors.clear()
+    with open(at.path, encoding="utf-8") as it:
+        text = it.read()
+    shell = re.sub(r'<script type="(?:application/json|text/plain)".*?</script>', "", text, flags=re.S)
+    same(re.findall(r"\bsrc=\"|<link\b|@import|url\((?!#)|https?://(?!www\.w3\.org/2000/svg)", shell), [])
+
+
+def test_drop(at):
+    at.do("(() => { const d = new DataTransfer(); d.items.add(new File(['    halt\\n'], 'tiny.ys')); el('hcl-file').dispatchEvent(new DragEvent('drop', { dataTransfer: d, bubbles: true, cancelable: true })); })()")
+    at.until("one('#ys textarea').value === '    halt\\n'")
+    at.settle()
+    same(at.saved(lambda: at.click("[data-save=ys]")), ("tiny.ys", "    halt\n"))
+    at.do("(() => { const d = new DataTransfer(); d.items.add(new File(['x'.repeat(70000)], 'long.hcl')); el('hcl-file').dispatchEvent(new DragEvent('drop', { dataTransfer: d, bubbles: true, cancelable: true })); })()")
+    said(at, "toast", "too long")
+
+
+def test_pictures(at):
+    at.key("n")
+    for selector, ending in (("#save-path", r"asum-cycle\d+\.svg"), ("#save-diagram", r"asum-diagram\.svg")):
+        name, text = at.saved(lambda selector=selector: at.click(selector))
+        assert re.fullmatch(ending, name)
+        same(at.do(f"new DOMParser().parseFromString({json.dumps(text)}, 'image/svg+xml').querySelector('parsererror')"), None)
+        assert "var(--" in text and re.search(r"--ink:#\w+", text), "the picture has no colours of its own"
+
+
+def test_certificate(at, programs, folder):
+    y86, files = Program(programs("y86"), folder), {"std.hcl": STD}
+    name, text = at.saved(lambda: at.click("#save-cert"))
+    same((name, text.encode()), ("std.crt", y86("check", "pipe", "std.hcl", "--cert", files=files).out))
+    name, text = at.saved(lambda: at.click("#save-aig"))
+    same((name, text.encode()), ("std.aag", y86("aig", "std.hcl", files=files).out))
+
+
+def test_print(at):
+    pdf = base64.b64decode(at.call("Page.printToPDF", landscape=True, printBackground=True)["data"])
+    assert len(pdf) > 8000 and pdf.startswith(b"%PDF")
+
+
+def test_class(at):
+    """A folder of a class: each file's verdict, a CSV, and a file to open."""
+    files = {"ann/pipe.hcl": STD, "bob, jr/pipe.hcl": STD.replace(" d_srcA == e_dstE : e_valE;", ""), "cy/=x.hcl": "word f_pc = ;", "dee/seq.hcl": example("seq"), "dee/notes.txt": "no"}
+    at.click("#class")
+    given = json.dumps([[name, text] for name, text in files.items()])
+    at.do(f"(() => {{ const files = {given}.map(([name, text]) => {{ const it = new File([text], name.split('/').pop()); Object.defineProperty(it, 'webkitRelativePath', {{ value: name }}); return it; }});"
+          " const pick = el('pick-folder'); Object.defineProperty(pick, 'files', { value: files, configurable: true }); pick.onchange(); })()")
+    at.until("!el('class-csv').disabled")
+    rows = at.do("every('#class-rows tr').map((it) => [...it.children].slice(0, 3).map((cell) => cell.textContent))")
+    same(rows, [["ann/pipe.hcl", "PIPE", "yes"], ["bob, jr/pipe.hcl", "PIPE", "no"], ["cy/=x.hcl", "PIPE", "fault"], ["dee/seq.hcl", "SEQ", "yes"]])
+    said(at, "class-said", "4 files: 2 yes, 1 no, 1 with a fault.")
+    name, text = at.saved(lambda: at.click("#class-csv"))
+    same(name, "class.csv")
+    same(text.split("\n")[:3], ["file,datapath,verdict,obligation,fault,settings,note", "ann/pipe.hcl,PIPE,yes,,,pt=1111111 pb=1111111 tv=0 lf=0 je=0 rm=0,", '"bob, jr/pipe.hcl",PIPE,no,O10,,,'])
+    at.click("#class-rows tr:nth-child(2) button")
+    at.settle()
+    said(at, "verdict", "no: O10")
+
+
+# ---- for everybody: keys alone, names, contrast, widths
+
+def test_tab_order(at):
+    """Tab reaches everything, and leaves the texts."""
+    at.do("document.activeElement.blur()")
+    seen = set()
+    for _ in range(80):
+        at.key("Tab")
+        seen.add(at.do("document.activeElement.id || document.activeElement.dataset.save || document.activeElement.dataset.open || document.activeElement.getAttribute('aria-label') || ''"))
+    wanted = {"full", "class", "link", "print", "theme", "help", "hcls", "yss", "Processor, in HCL", "Program, in Y86-64 assembly", "on", "play", "slider", "hazard", "speed", "grid", "tab-run", "save-path", "base", "save-cert"}
+    same(wanted - seen, set())
+    at.do("one('#hcl textarea').focus()")
+    at.key("Enter", CTRL)
+    same(at.do("document.activeElement.id"), "result")
+    at.do("el('tab-run').focus()")
+    at.key("ArrowRight")
+    same(at.do("[workbench.tab, document.activeElement.id]"), ["steps", "tab-steps"])
+
+
+def test_help(at):
+    at.key("?")
+    assert at.do("el('dialog').open")
+    said(at, "dialog", "next hazard")
+    at.key("Escape")
+    assert not at.do("el('dialog').open")
+
+
+NAMELESS = """every('button, select, input, textarea, a, [role]').filter((it) => it.getClientRects().length)
+    .filter((it) => !(it.textContent.trim() || it.getAttribute('aria-label') || it.labels?.length || it.title)).map((it) => it.outerHTML.slice(0, 90))"""
+POINTS_NOWHERE = """every('[aria-controls], [aria-labelledby], [aria-describedby]').flatMap((it) => ['aria-controls', 'aria-labelledby', 'aria-describedby']
+    .map((name) => it.getAttribute(name)).filter((id) => id && !el(id)))"""
+TWICE = "Object.entries(every('[id]').reduce((all, it) => ({ ...all, [it.id]: (all[it.id] ?? 0) + 1 }), {})).filter(([, n]) => n > 1).map(([id]) => id)"
+
+
+def test_names(at):
+    """Each control has a name, each reference leads somewhere, and no id is there twice."""
+    for name in ("std.hcl", "mistake: memory before execute"):
+        at.choose("hcls", name)
+        same(at.do(NAMELESS), [])
+        same([it for it in at.do(POINTS_NOWHERE) if it != "dialog-title"], [])
+        same(at.do(TWICE), [])
+    same(at.do("every('img:not([alt]), svg[role=img]:not([aria-label])').length"), 0)
+
+
+# The contrast of each text that can be seen with what is behind it, where it is below 4.5.
+CONTRAST = """(() => {
+  const canvas = document.createElement("canvas").getContext("2d", { willReadFrequently: true });
+  const rgb = (it) => { canvas.clearRect(0, 0, 1, 1); canvas.fillStyle = "#000"; canvas.fillStyle = it; canvas.fillRect(0, 0, 1, 1); return [...canvas.getImageData(0, 0, 1, 1).data]; };
+  const part = (it) => ((it /= 255) <= 0.03928 ? it / 12.92 : ((it + 0.055) / 1.055) ** 2.4);
+  const light = ([r, g, b]) => 0.2126 * part(r) + 0.7152 * part(g) + 0.0722 * part(b);
+  const behind = (it) => {
+    const svg = it.closest("svg");
+    for (const shape of [it.closest("g")?.querySelector(":scope > rect, :scope > path"), it.closest(".bar")?.querySelector(".frame")])
+      if (svg && shape && getComputedStyle(shape).fill !== "none") return rgb(getComputedStyle(shape).fill);
+    for (let at = svg ? svg.parentElement : it; at; at = at.parentElement) { const found = rgb(getComputedStyle(at).backgroundColor); if (found[3] > 250) return found; }
+    return [255, 255, 255, 255];
+  };
+  const low = {};
+  for (const it of every("body *")) {
+    if (!it.getClientRects().length || it.closest(".stages") || it.tagName === "TEXTAREA" || it.disabled || ![...it.childNodes].some((node) => node.nodeType === 3 && node.data.trim())) continue;
+    const style = getComputedStyle(it), [dark, bright] = [light(rgb(it.closest("svg") ? style.fill : style.color)), light(behind(it))].sort((a, b) => a - b);
+    if ((bright + 0.05) / (dark + 0.05) < 4.5) low[it.outerHTML.slice(0, 70)] = ((bright + 0.05) / (dark + 0.05)).toFixed(2);
+  }
+  return low;
+})()"""
+
+
+@cases([("light",), ("dark",)])
+def test_contrast(row, at):
+    at.media(prefers_color_scheme=row[0])
+    for design, program in (("std.hcl", "jump.ys"), ("mistake: memory before execute", "call.ys"), ("mistake: a signal is misspelled", "asum.ys")):
+        at.choose("hcls", design)
+        at.choose("yss", program)
+        at.do("document.activeElement.blur()")
+        for _ in range(8 if design == "std.hcl" else 1):
+            same(at.do(CONTRAST), {})
+            at.do("el('on').click()")
+        at.do("el('tab-steps').click()")
+        same(at.do(CONTRAST), {})
+    at.media(prefers_color_scheme="light")
+
+
+def test_theme(at):
+    at.media(prefers_color_scheme="dark", prefers_reduced_motion="reduce")
+    at.until("document.documentElement.dataset.theme === 'dark'")
+    same(at.do("document.getAnimations().length"), 0)
+    at.click("#theme")
+    same(at.do("document.documentElement.dataset.theme"), "light")
+    at.click("#theme")
+    at.click("#theme")
+    at.media(prefers_color_scheme="light")
+
+
+@cases([(f"{width} by {height}", width, height) for width, height in WIDTHS])
+def test_widths(row, at):
+    """At each width nothing is cut off at the side, no name breaks within a word, and the controls can be reached."""
+    _, width, height = row
+    at.size(width, height)
+    for design in ("std.hcl", "mistake: memory before execute", "seq.hcl"):
+        at.choose("hcls", design)
+        same(at.do("document.documentElement.scrollWidth"), width)
+    at.choose("hcls", "std.hcl")
+    at.choose("yss", "sort.ys")
+    at.click("#on")
+    same(at.cycle(), 2)
+    broken = "every('#registers span, #memory span, #grid .name, [role=tab]').filter((it) => getComputedStyle(it).whiteSpace !== 'nowrap').length"
+    same(at.do(broken), 0)
+    if width < 700:
+        same(at.do("every('#stages tr').filter((it) => it.getBoundingClientRect().height > 20).length"), 5)
+    at.size(*WIDE)
+
+
+def test_size():
+    assert os.path.getsize(page()) < 2_000_000
