@@ -10,3 +10,4 @@ pub mod Forty
 pub mod Drawn
 pub mod Lawful
 pub mod Witness
+pub mod FirstBytes

@@ -3,6 +3,7 @@ pub mod PlusRules
 pub mod PlusRows
 pub mod Agreement
 pub mod Followed
+pub mod PlusCycles
 pub mod Runs
 pub mod Calls
 pub mod OneRun

@@ -6,7 +6,7 @@ use Rattle.y86_base.specs.declared.parts.Variant.{Variant}
 use Rattle.y86_base.specs.declared.parts.Variant.TheVariants.{Base, Full}
 use Rattle.y86_base.specs.Stat.{stat_of}
 use Rattle.y86_base.specs.declared.parts.Stat.{Stat}
-use Rattle.y86_isa.specs.Blocks.{next_address, reading, stored, written_back}
+use Rattle.y86_isa.specs.Blocks.{next_address, reading}
 use Rattle.y86_isa.specs.Machine.{is_aok, start}
 use Rattle.y86_isa.specs.Run.{IsImage, run_from, records_from}
 use Rattle.y86_isa.specs.Step.{advance, retired}
@@ -48,7 +48,7 @@ use Rattle.seq_plus.specs.Accepted.{AcceptedPlus, RefinesPlus}
 use Rattle.seq_plus.specs.Cycle.{as_seq, fields_at, pc_behind}
 use Rattle.seq_plus.specs.Fields.{allowed, numbers, number_of, spots}
 use Rattle.seq_plus.specs.Obligations.{demand_at, signals}
-use Rattle.seq_plus.specs.PlusCycle.{previous_of, plus_flags, plus_next, plus_record, plus_record_from, plus_store}
+use Rattle.seq_plus.specs.PlusCycle.{plus_next}
 use Rattle.seq_plus.specs.PlusEquations.{PlusSolves, plus_given}
 use Rattle.seq_plus.specs.PlusNames as name
 use Rattle.seq_plus.specs.PlusRun.{at_pc, plus_start, PlusCycle, PlusRunFrom}
@@ -56,6 +56,7 @@ use Rattle.seq_plus.specs.PlusTable.{plus_rows}
 use Rattle.seq_plus.specs.declared.state.PlusState.{PlusState}
 use Rattle.seq_plus.proofs.Agreement.{all_agree}
 use Rattle.seq_plus.proofs.Followed.{follows, going}
+use Rattle.seq_plus.proofs.PlusCycles.{record_as_seq, updated}
 use Rattle.seq_plus.proofs.PlusRows.{hardware_rows}
 
 met : (a b : Bool) → (not a || b) ≡ true → a ≡ true → b ≡ true
@@ -202,16 +203,6 @@ module _ (v : Variant) (terms : List Term) (ids : List ℕ) (bound : IsBound plu
 
     -- ---- the state behind it
 
-    abbrev updated : Stat → PlusState
-    updated stat =
-        record {
-          previous = previous_of f;
-          regs = written_back t.regs (f name.dstE) (f name.valE) (f name.dstM) (f name.valM);
-          flags = plus_flags t.flags f;
-          stat = stat;
-          mem = stored t.mem (plus_store f);
-        }
-
     pc_behind_is : f name.Stat ≡ 1 →
         next_address (row v (f name.icode)).next 0 (f name.valP) (f name.valC) (f name.valM) (set (f name.Cnd)) ≡ pc_behind v f
     pc_behind_is e =
@@ -219,29 +210,20 @@ module _ (v : Variant) (terms : List Term) (ids : List ℕ) (bound : IsBound plu
         rw same_code
         (any_pc (row v (f name.imem_icode)).next 0 (f name.pc) _ _ _ _ (goes_on v (at_pc t (f name.pc)) (f name.imem_icode) hw.imem_icode k.0 k.1))
 
-    after_by : (b : Bool) (stat : Stat) → (b ≡ true → next_of v (updated stat) ≡ pc_behind v f) →
-        at_pc (cond b (updated stat) (record t { stat = stat })) (next_of v (cond b (updated stat) (record t { stat = stat })))
-        ≡ cond b (record (at_pc (updated stat) (pc_behind v f)) { stat = stat }) (record (at_pc t (f name.pc)) { stat = stat })
-    after_by true stat h = ap (at_pc (updated stat)) (h refl)
+    after_by : (b : Bool) (stat : Stat) → (b ≡ true → next_of v (updated t f stat) ≡ pc_behind v f) →
+        at_pc (cond b (updated t f stat) (record t { stat = stat })) (next_of v (cond b (updated t f stat) (record t { stat = stat })))
+        ≡ cond b (record (at_pc (updated t f stat) (pc_behind v f)) { stat = stat }) (record (at_pc t (f name.pc)) { stat = stat })
+    after_by true stat h = ap (at_pc (updated t f stat)) (h refl)
     after_by false stat h = ap (λ pc. record (at_pc t pc) { stat = stat }) (sym pc_next)
 
     pub after : at_pc (plus_next t f) (next_of v (plus_next t f)) ≡ seq_next (at_pc t (f name.pc)) (as_seq v f)
     unfolding plus_next seq_next
     after = after_by (f name.Stat == 1) (stat_of (f name.Stat)) (λ e. pc_behind_is (eqb-true _ _ e))
 
-    flags_by : (b : Bool) (stat : Stat) → (cond b (updated stat) (record t { stat = stat })).flags
-        ≡ (cond b (record (at_pc (updated stat) (pc_behind v f)) { stat = stat }) (record (at_pc t (f name.pc)) { stat = stat })).flags
-    flags_by true stat = refl
-    flags_by false stat = refl
-
-    pub told : plus_record t f ≡ seq_record (at_pc t (f name.pc)) (as_seq v f)
-    unfolding plus_next seq_next plus_record seq_record
-    told = ap (λ flags. plus_record_from flags f) (flags_by (f name.Stat == 1) (stat_of (f name.Stat)))
-
     abbrev HasCode : PlusState → Type 0
     HasCode u = (1 ≤ u.previous.icode) × (u.previous.icode < length (rows v)) × (u.previous.cnd < 2)
 
-    codes_by : (b : Bool) (stat : Stat) → (b ≡ true → HasCode (updated stat)) → HasCode (cond b (updated stat) (record t { stat = stat }))
+    codes_by : (b : Bool) (stat : Stat) → (b ≡ true → HasCode (updated t f stat)) → HasCode (cond b (updated t f stat) (record t { stat = stat }))
     codes_by true stat h = h refl
     codes_by false stat h = (le, lt, small)
 
@@ -273,7 +255,7 @@ module _ (v : Variant) (terms : List Term) (ids : List ℕ) (bound : IsBound plu
       let next : advance v q ≡ at_pc (plus_next t f) (next_of v (plus_next t f)) =
       (rw e refl) ∙ sym (steps.next_is q (as_seq v f) (work v q) w) ∙ ap (λ y. seq_next y (as_seq v f)) (sym here) ∙ sym (after t f goes.1 image r.from_one r.within r.small) in (
         subst (λ y. Related v y (advance v q)) (sym goes.2) (record { machine = next; from_one = k.0; within = k.1; small = k.2 }),
-        goes.3 ∙ ap Some (told t f goes.1 image r.from_one r.within r.small ∙ ap (λ y. seq_record y (as_seq v f)) here ∙ steps.record_is q (as_seq v f) (work v q) w) ∙ (rw e refl),
+        goes.3 ∙ ap Some (record_as_seq v t f ∙ ap (λ y. seq_record y (as_seq v f)) here ∙ steps.record_is q (as_seq v f) (work v q) w) ∙ (rw e refl),
       )
   cycle_case t u q x r g h false e =
       let same : q.stat ≡ t.stat = ap (λ (y : Machine). y.stat) r.machine in

@@ -3,6 +3,7 @@ pub mod PlusTable
 pub mod PlusEquations
 pub mod PlusCycle
 pub mod PlusRun
+pub mod Told
 pub mod Plus
 pub mod Calls
 pub mod Fields

@@ -1,5 +1,5 @@
 //! Theorems about SEQ+. Each is a function that does nothing and whose contract is the theorem.
-ghost use Rattle.std.specs.Prelude.{◌≡◌, ℕ, List};
+ghost use Rattle.std.specs.Prelude.{◌≡◌, ℕ, List, Option, IfSome};
 ghost use Rattle.y86_base.specs.declared.parts.Variant.{Variant};
 ghost use Rattle.y86_isa.specs.declared.machine.Rec.{Rec};
 ghost use Rattle.hcl_types.specs.Tables.{IsBound, IsOrderOf, IsSound};
@@ -7,8 +7,9 @@ ghost use Rattle.hcl_types.specs.declared.term.Term.{Term};
 ghost use Rattle.seq_plus.specs.Accepted.{AcceptedPlus, RefinesPlus};
 ghost use Rattle.seq_plus.specs.Calls.{CallsAreTheRun};
 ghost use Rattle.seq_plus.specs.PlusEquations.{PlusSolves};
-ghost use Rattle.seq_plus.specs.PlusRun.{PlusRun};
+ghost use Rattle.seq_plus.specs.PlusRun.{PlusCycle, PlusRun};
 ghost use Rattle.seq_plus.specs.PlusTable.{plus_rows};
+ghost use Rattle.seq_plus.specs.Told.{TellsCycle};
 ghost use Rattle.seq_plus.specs.declared.state.PlusState.{PlusState};
 
 /// The table is sound: its names differ, hardware depends on its rows, and its constants are its rows of class `Number`.
@@ -33,6 +34,13 @@ pub fn law_of_runs()
     ensures alone { (v : Variant) (terms : List Term) (ids image : List ℕ) (k : ℕ) →
         IsBound plus_rows terms → IsOrderOf plus_rows terms ids → (t u : PlusState) (rs xs : List Rec) →
         PlusRun v terms image k t rs → PlusRun v terms image k u xs → (t ≡ u) × (rs ≡ xs) }
+{}
+
+/// Under any HCL file the record of a cycle says all that the cycle changed: memory by its store alone, registers by its two destinations,
+/// that of valM last. Its address, icode and ifun are the values of the signals `pc`, `icode` and `ifun`.
+pub fn law_of_plus_cycles()
+    ensures { (v : Variant) (terms : List Term) (s : PlusState) (r : Option Rec) (t : PlusState) → PlusCycle v terms s r t →
+        IfSome r (λ x. (f : ℕ → ℕ) × PlusSolves v terms s f × TellsCycle s t f x) }
 {}
 
 /// Calls of `cycle` on a new machine are its run: the state and the records after k calls are those after k cycles.

@@ -16,7 +16,10 @@ mod verdict;
 
 pub use cycle::advance;
 pub use fields::spots;
-pub use laws::{law_of_calls, law_of_refinement, law_of_runs, law_of_solutions, law_of_table};
+pub use laws::{
+    law_of_calls, law_of_plus_cycles, law_of_refinement, law_of_runs, law_of_solutions,
+    law_of_table,
+};
 pub use machine::Plus;
 pub use machine_calls::run;
 pub use rules::plus_rules;

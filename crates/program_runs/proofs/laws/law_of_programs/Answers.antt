@@ -1,3 +1,4 @@
+use Rattle.program_runs.proofs.FirstBytes.{begins_1, begins_2, begins_5, begins_7}
 use Rattle.program_runs.proofs.Images.{has_data}
 use Rattle.program_runs.proofs.Whole.{runs, keeps, pure}
 use Rattle.program_runs.proofs.laws.law_of_programs.Goals as goal
@@ -13,3 +14,15 @@ returns-clause-code c = keeps
 
 pub returns-clause-pure : goal.returns-clause-pure
 returns-clause-pure c = pure
+
+pub returns-clause-first : goal.returns-clause-first
+returns-clause-first c = begins_1
+
+pub returns-clause-second : goal.returns-clause-second
+returns-clause-second c = begins_2
+
+pub returns-clause-fifth : goal.returns-clause-fifth
+returns-clause-fifth c = begins_5
+
+pub returns-clause-seventh : goal.returns-clause-seventh
+returns-clause-seventh c = begins_7
