@@ -121,6 +121,36 @@ def changed(rng, text, all_names):
     return "".join(ts)
 
 
+REGISTERS = "D_rA D_rB E_dstE E_dstM E_srcA E_srcB M_dstE M_dstM W_dstE W_dstM d_srcA d_srcB d_dstE d_dstM e_dstE".split()
+STAGE_CODES = "f_icode D_icode E_icode M_icode W_icode".split()
+
+
+def comparison(rng):
+    """A comparison, mostly of two registers."""
+    kind = rng.random()
+    if kind < 0.8:
+        left, right = rng.sample(REGISTERS, 2)
+        return f"{left} {rng.choice(['==', '==', '==', '!=', '<', '<='])} {right}"
+    if kind < 0.9:
+        return f"{rng.choice(REGISTERS)} == {rng.choice(['RRSP', 'RNONE'])}"
+    return f"{rng.choice(STAGE_CODES)} == {rng.choice(CODES[:-1])}"
+
+
+def with_comparisons(rng, text):
+    """Puts one or two cases more in front of lists of cases. Each is guarded by one to four comparisons and has a value that its list has already, so
+    that often nothing changes that an obligation is about."""
+    ts = tokens(text)
+    for _ in range(rng.choice([1, 1, 2])):
+        at = rng.choice([k for k, t in enumerate(ts) if t == "["])
+        values = [case.split(":")[-1].strip() for case in "".join(ts[at + 1 : ts.index("]", at)]).split(";") if ":" in case]
+        guard = comparison(rng)
+        for _ in range(rng.randint(0, 3)):
+            guard += rng.choice([" && ", " && ", " && ", " || "]) + comparison(rng)
+        where = rng.choice(["", "", f"{rng.choice(STAGE_CODES)} == {rng.choice(CODES[:-1])} && "])
+        ts[at:at + 1] = ["[", f" {where}({guard}) : {rng.choice(values)};"]
+    return "".join(ts)
+
+
 def run(program, path, seconds):
     """The status, the seconds of the processor and the memory of one call; a status of None is a call that was ended."""
 

@@ -1,5 +1,5 @@
 -- Each command's answer is one.
-use Rattle.std.proofs.Common.{◌≡◌, ◌≢◌, ℕ, Bool, true, false, List, [], Option, ap, sym, ◌∙◌, subst}
+use Rattle.std.proofs.Common.{◌≡◌, ◌≢◌, ◌⊎◌, inl, inr, None, refl, ℕ, Bool, true, false, List, [], Option, ap, sym, ◌∙◌, subst}
 use Rattle.dp_signals.specs.PipeTable.{pipe_rows}
 use Rattle.dp_signals.proofs.Sound.{pipe_sound, seq_sound}
 use Rattle.hcl_read.specs.Read.{ReadsAs}
@@ -9,24 +9,26 @@ use Rattle.hcl_types.specs.declared.term.Term.{Term}
 use Rattle.seq_plus.proofs.Sound.{plus_sound}
 use Rattle.wb_io.specs.Sinks.{Took}
 use Rattle.y86_base.specs.declared.parts.Variant.{Variant}
-use Rattle.y86_cli.specs.Answers.{PipeAnswers, SeqAnswers, aigrun_plan, big_plan, check_pipe_plan, check_seq_plan, checked_plan, hcl_plan, pipe_plan, plan_in, psim_plan, sample_plan, seq_plan, ssim_plan, yas_plan, yis_plan}
-use Rattle.y86_cli.specs.AigerTexts.{AigrunAnswers}
+use Rattle.y86_cli.specs.Answers.{PipeAnswers, SeqAnswers, aig_plan, aigrun_plan, big_plan, certify_pipe_plan, check_pipe_plan, check_seq_plan, checked_plan, hcl_plan, pipe_plan, plan_in, psim_plan, sample_plan, seq_plan, ssim_plan, yas_plan, yis_plan}
+use Rattle.y86_cli.specs.AigerTexts.{AigAnswers, AigrunAnswers}
+use Rattle.y86_cli.specs.Certified.{CertifiesPipe, PipeCertifies}
+use Rattle.verdict_text.specs.PipeLines.{pipe_yes}
 use Rattle.y86_cli.specs.Big.{BigAnswers}
 use Rattle.y86_cli.specs.Checks.{AcceptsPipe, PipeChecks, RefusesPipe, SeqChecks}
 use Rattle.y86_cli.specs.Datapaths.{rows_of}
 use Rattle.y86_cli.specs.Designs.{IsDesign, RefusesDesign, RefusesHcl}
 use Rattle.y86_cli.specs.Does.{FilesSeen, SinkSeen}
 use Rattle.y86_cli.specs.Plan.{Answered, Plan, Tells, done, gives}
-use Rattle.y86_cli.specs.Ran.{Ran}
+use Rattle.y86_cli.specs.Ran.{Ran, Told}
 use Rattle.y86_cli.specs.Samples.{SampleAnswers}
 use Rattle.y86_cli.specs.declared.datapath.Datapath.{Datapath}
 use Rattle.y86_cli.specs.declared.datapath.Datapath.TheVariants.{Seq, Plus}
 use Rattle.y86_words.specs.Forms.{Command}
-use Rattle.answer_laws.specs.OneAnswer.{HasOneAnswer, ToldAlike}
-use Rattle.answer_laws.proofs.Checked.{accepts_pipe_one, pipe_apart, pipe_check_one, refuses_pipe_one, seq_check_one}
+use Rattle.answer_laws.specs.OneAnswer.{AreYes, HasOneAnswer, HasOneRefusal, ToldAlike}
+use Rattle.answer_laws.proofs.Checked.{accepts_pipe_one, control_apart, control_one, pipe_apart, pipe_check_one, refuses_pipe_one, seq_check_one}
 use Rattle.answer_laws.proofs.Counted.{aigrun_one}
 use Rattle.answer_laws.proofs.Designs.{design_apart, design_belongs, design_one, design_ordered, hcl_one, read_apart, refusal_one}
-use Rattle.answer_laws.proofs.Plans.{after_one, answers_one, gives_one, reads_one, says_one}
+use Rattle.answer_laws.proofs.Plans.{after_one, answers_one, gives_one, gives_yes, reads_one, reads_yes, says_one, says_yes}
 use Rattle.answer_laws.proofs.Runs.{big_one, pipe_answers_one, seq_answers_one}
 use Rattle.answer_laws.proofs.Sampled.{sample_one}
 
@@ -123,6 +125,53 @@ unfolding sample_plan
 sample_plan_one name seed count v =
     reads_one _ _ _ (λ text. pipe_stage name text _ (λ terms ids bound o. says_one (SampleAnswers name v terms seed count) (sample_one name v terms ids o seed count)))
 
+-- ---- words that are no command
+
+pub no_command_one : HasOneAnswer (plan_in None)
+no_command_one = answers_one _
+
+-- ---- one answer but for the text of a yes
+
+yes_stage : (name text : List ℕ) (next : List Term → Plan) → ((terms : List Term) (ids : List ℕ) → IsOrderOf pipe_rows terms ids → HasOneRefusal (next terms)) →
+    HasOneRefusal (gives (IsDesign pipe_rows text) (RefusesDesign name pipe_rows text) next)
+yes_stage name text next one =
+    gives_yes (IsDesign pipe_rows text) (RefusesDesign name pipe_rows text) next
+    (design_one pipe_rows text) (refusal_one pipe_rows text name) (design_apart pipe_rows text name)
+    (λ terms d. let o = design_ordered pipe_rows text pipe_sound terms d in one terms o.0 o.1)
+
+both_yes : (a b : Answered) (x y : List ℕ) → a ≡ done 0 x → b ≡ done 0 y → AreYes a b
+both_yes a b x y p q = record {
+  first = ap (λ (z : Answered). z.status) p;
+  second = ap (λ (z : Answered). z.status) q;
+  quiet = ap (λ (z : Answered). z.err) p;
+  still = ap (λ (z : Answered). z.err) q;
+}
+
+module _ (name : List ℕ) (v : Variant) (terms : List Term) (ids : List ℕ) (o : IsOrderOf pipe_rows terms ids) where
+  pub certificate_or_refusal : (a b : Answered) → CertifiesPipe v terms a → RefusesPipe name v terms b → ⊥
+  certificate_or_refusal a b h k =
+      pipe_apart name v terms ids o (done 0 (pipe_yes h.settings)) b (record { settings = h.settings; accepted = h.accepted; refines = h.refines; told = refl }) k
+
+  certify_yes : (a b : Answered) → PipeCertifies name v terms a → PipeCertifies name v terms b → (a ≡ b) ⊎ AreYes a b
+  certify_yes a b (inl h) (inl k) = inr (both_yes a b h.text k.text h.told k.told)
+  certify_yes a b (inl h) (inr k) = absurd (certificate_or_refusal a b h k)
+  certify_yes a b (inr h) (inl k) = absurd (certificate_or_refusal b a k h)
+  certify_yes a b (inr h) (inr k) = inl (refuses_pipe_one name v terms ids o a b h k)
+
+  aig_yes : (a b : Answered) → AigAnswers name v terms a → AigAnswers name v terms b → (a ≡ b) ⊎ AreYes a b
+  aig_yes a b (inl h) (inl k) = inr (both_yes a b h.text k.text h.told k.told)
+  aig_yes a b (inl h) (inr k) = absurd (control_apart name pipe_rows terms ids o b k h.tells.are.atoms h.tells.are.are)
+  aig_yes a b (inr h) (inl k) = absurd (control_apart name pipe_rows terms ids o a h k.tells.are.atoms k.tells.are.are)
+  aig_yes a b (inr h) (inr k) = inl (control_one name pipe_rows terms ids o a b h k)
+
+pub certify_plan_yes : (name : List ℕ) (v : Variant) → HasOneRefusal (certify_pipe_plan name v)
+unfolding certify_pipe_plan
+certify_plan_yes name v = reads_yes _ _ _ (λ text. yes_stage name text _ (λ terms ids o. says_yes (PipeCertifies name v terms) (certify_yes name v terms ids o)))
+
+pub aig_plan_yes : (name : List ℕ) (v : Variant) → HasOneRefusal (aig_plan name v)
+unfolding aig_plan
+aig_plan_yes name v = reads_yes _ _ _ (λ text. yes_stage name text _ (λ terms ids o. says_yes (AigAnswers name v terms) (aig_yes name v terms ids o)))
+
 -- ---- two calls
 
 pub told_alike : (form : Option Command) → HasOneAnswer (plan_in form) → (files_before files_after others_before others_after : FilesSeen)
@@ -131,15 +180,19 @@ pub told_alike : (form : Option Command) → HasOneAnswer (plan_in form) → (fi
     Ran form others_before others_after out_before2 out_after2 err_before2 err_after2 other →
     (contents : List (Option (List ℕ))) → Tells files_before.told (plan_in form) contents → Tells others_before.told (plan_in form) contents →
     status ≢ 3 → status ≢ 4 → status ≢ 6 → other ≢ 3 → other ≢ 4 → other ≢ 6 →
-    ToldAlike out_before out_after out_before2 out_after2 status other
+    ToldAlike (plan_in form) contents out_before out_after err_before err_after out_before2 out_after2 err_before2 err_after2 status other
 told_alike form one files_before files_after others_before others_after out_before out_after err_before err_after out_before2 out_after2 err_before2 err_after2 status other
     ran ran2 contents tells tells2 three four six three2 four2 six2 =
     let a = ran.answer three six in
     let b = ran2.answer three2 six2 in
     let same : a.0 ≡ b.0 = one.one contents a.0 b.0 (a.1.by_told contents tells) (b.1.by_told contents tells2) in
     record {
-      same_status = a.2.status_is four ∙ ap (λ (x : Answered). x.status) same ∙ sym (b.2.status_is four2);
-      text = b.0.out;
-      one = subst (λ (x : Answered). Took out_before.taken out_after.taken x.out) same (a.2.out four);
-      two = b.2.out four2;
+      answer = b.0;
+      allowed = b.1.by_told contents tells2;
+      status_is = a.2.status_is four ∙ ap (λ (x : Answered). x.status) same;
+      other_is = b.2.status_is four2;
+      out = subst (λ (x : Answered). Took out_before.taken out_after.taken x.out) same (a.2.out four);
+      other_out = b.2.out four2;
+      err = subst (λ (x : Answered). Told err_before err_after x.err) same (a.2.err four);
+      other_err = b.2.err four2;
     }

@@ -8,3 +8,4 @@ pub mod Runs
 pub mod Sampled
 pub mod Counted
 pub mod Commands
+pub mod Kept

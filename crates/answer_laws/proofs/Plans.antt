@@ -1,7 +1,7 @@
 -- Plans with one answer at most.
-use Rattle.std.proofs.Common.{◌≡◌, ℕ, List, [], ◌∷◌, Option, Some, None, Result, Ok, Err, sym, ◌∙◌, subst, inl, inr, arith}
+use Rattle.std.proofs.Common.{◌≡◌, ◌⊎◌, ℕ, List, [], ◌∷◌, Option, Some, None, Result, Ok, Err, sym, ◌∙◌, subst, inl, inr, arith}
 use Rattle.y86_cli.specs.Plan.{Allows, Answered, Plan, after, answers, gives, reads, says}
-use Rattle.answer_laws.specs.OneAnswer.{HasOneAnswer}
+use Rattle.answer_laws.specs.OneAnswer.{AreYes, HasOneAnswer, HasOneRefusal}
 
 pub says_one : (P : Answered → Type 0) → ((a b : Answered) → P a → P b → a ≡ b) → HasOneAnswer (says P)
 says_one P one = record { one = λ contents a b p q. one a b p q }
@@ -37,3 +37,31 @@ pub after_one : {A : Type 0} (stage : Result A Answered) (next : A → Plan) →
 unfolding after
 after_one stage next one =
     gives_one (λ x. stage ≡ Ok x) (λ a. stage ≡ Err a) next (λ x y p q. cc (p, q)) (λ a b p q. cc (p, q)) (λ x a p q. absurd (cc (p, q))) (λ x p. one x)
+
+-- ---- plans with one answer but for a text
+
+pub says_yes : (P : Answered → Type 0) → ((a b : Answered) → P a → P b → (a ≡ b) ⊎ AreYes a b) → HasOneRefusal (says P)
+says_yes P one = record { one = λ contents a b p q. one a b p q }
+
+read_yes : (name : List ℕ) (limit : ℕ) (next : List ℕ → Plan) → ((bytes : List ℕ) → HasOneRefusal (next bytes)) → (contents : List (Option (List ℕ))) (a b : Answered) →
+    Allows (reads name limit next) contents a → Allows (reads name limit next) contents b → (a ≡ b) ⊎ AreYes a b
+read_yes name limit next one [] a b p q = inl (p ∙ sym q)
+read_yes name limit next one (None ∷ rest) a b p q = inl (p ∙ sym q)
+read_yes name limit next one (Some bytes ∷ rest) a b (inl p) (inl q) = inl (p.1 ∙ sym q.1)
+read_yes name limit next one (Some bytes ∷ rest) a b (inl p) (inr q) = absurd (omega (arith, p.0, q.0))
+read_yes name limit next one (Some bytes ∷ rest) a b (inr p) (inl q) = absurd (omega (arith, p.0, q.0))
+read_yes name limit next one (Some bytes ∷ rest) a b (inr p) (inr q) = (one bytes).one rest a b p.1 q.1
+
+pub reads_yes : (name : List ℕ) (limit : ℕ) (next : List ℕ → Plan) → ((bytes : List ℕ) → HasOneRefusal (next bytes)) → HasOneRefusal (reads name limit next)
+reads_yes name limit next one = record { one = read_yes name limit next one }
+
+module _ {A : Type 0} (P : A → Type 0) (E : Answered → Type 0) (next : A → Plan) (value : (x y : A) → P x → P y → x ≡ y) (answer : (a b : Answered) → E a → E b → a ≡ b)
+    (apart : (x : A) (a : Answered) → P x → E a → ⊥) (one : (x : A) → P x → HasOneRefusal (next x)) where
+  stage_yes : (contents : List (Option (List ℕ))) (a b : Answered) → Allows (gives P E next) contents a → Allows (gives P E next) contents b → (a ≡ b) ⊎ AreYes a b
+  stage_yes contents a b (inl p) (inl q) = (one p.0 p.1).one contents a b p.2 (subst (λ x. Allows (next x) contents b) (value q.0 p.0 q.1 p.1) q.2)
+  stage_yes contents a b (inl p) (inr e) = absurd (apart p.0 b p.1 e)
+  stage_yes contents a b (inr d) (inl q) = absurd (apart q.0 a q.1 d)
+  stage_yes contents a b (inr d) (inr e) = inl (answer a b d e)
+
+  pub gives_yes : HasOneRefusal (gives P E next)
+  gives_yes = record { one = stage_yes }

@@ -1,16 +1,53 @@
 -- Plans whose answer is a function of what the files hold.
-use Rattle.std.specs.Prelude.{◌≡◌, ℕ, List, Option}
+use Rattle.std.specs.Prelude.{◌≡◌, ◌⊎◌, ◌≤◌, ℕ, List, [], Option}
+use Rattle.cert_log.specs.Files.{holds}
+use Rattle.certificates.specs.Faults.{IsOfGates}
+use Rattle.certificates.specs.declared.fault.CertFault.{CertFault}
+use Rattle.control_check.specs.PipeVerdicts.{AcceptsPipe}
+use Rattle.dp_signals.specs.PipeTable.{pipe_rows}
+use Rattle.hcl_types.specs.declared.term.Term.{Term}
+use Rattle.pipe_motion.specs.declared.settings.Settings.{Settings}
 use Rattle.wb_io.specs.Sinks.{Took}
+use Rattle.y86_base.specs.declared.parts.Variant.{Variant}
+use Rattle.y86_cli.specs.Certified.{cert_fault_line}
+use Rattle.y86_cli.specs.Designs.{IsDesign}
 use Rattle.y86_cli.specs.Does.{SinkSeen}
 use Rattle.y86_cli.specs.Plan.{Allows, Answered, Plan}
+use Rattle.y86_cli.specs.Ran.{Told}
 
 -- whatever the contents of the files are, there is one answer at most
 pub record HasOneAnswer (plan : Plan) : Type 0 where
   pub one : (contents : List (Option (List ℕ))) (a b : Answered) → Allows plan contents a → Allows plan contents b → a ≡ b
 
--- two calls ended with one status, and told one text on standard output
-pub record ToldAlike (out_before out_after other_before other_after : SinkSeen) (status other : ℕ) : Type 0 where
-  pub same_status : status ≡ other
-  pub text : List ℕ
-  pub one : Took out_before.taken out_after.taken text
-  pub two : Took other_before.taken other_after.taken text
+-- two answers have status 0, and nothing on standard error: their texts may differ
+pub record AreYes (a b : Answered) : Type 0 where
+  pub first : a.status ≡ 0
+  pub second : b.status ≡ 0
+  pub quiet : a.err ≡ []
+  pub still : b.err ≡ []
+
+-- whatever the contents of the files are, there is one answer at most, but for the text of those with status 0
+pub record HasOneRefusal (plan : Plan) : Type 0 where
+  pub one : (contents : List (Option (List ℕ))) (a b : Answered) → Allows plan contents a → Allows plan contents b → (a ≡ b) ⊎ AreYes a b
+
+-- two calls told one and the same answer, which the plan allows for these contents
+pub record ToldAlike (plan : Plan) (contents : List (Option (List ℕ))) (out_before out_after err_before err_after other_before other_after said_before said_after : SinkSeen)
+    (status other : ℕ) : Type 0 where
+  pub answer : Answered
+  pub allowed : Allows plan contents answer
+  pub status_is : status ≡ answer.status
+  pub other_is : other ≡ answer.status
+  pub out : Took out_before.taken out_after.taken answer.out
+  pub other_out : Took other_before.taken other_after.taken answer.out
+  pub err : Told err_before err_after answer.err
+  pub other_err : Told said_before said_after answer.err
+
+-- A certificate that was written for a file was checked over it: it was accepted, at the settings that the file is accepted at; or it was
+-- refused because of the gates of the net, and nothing else.
+pub record KeptCertificate (v : Variant) (text cert : List ℕ) (out_before out_after err_before err_after : SinkSeen) (status : ℕ) : Type 0 where
+  pub terms : List Term
+  pub design : IsDesign pipe_rows text terms
+  pub settings : Settings
+  pub accepted : AcceptsPipe v terms settings
+  pub outcome : ((status ≡ 0) × Took out_before.taken out_after.taken (holds settings))
+      ⊎ ((status ≡ 5) × ((fault : CertFault) × IsOfGates fault.why × (3 ≤ fault.line) × Told err_before err_after (cert_fault_line cert fault)))

@@ -1,16 +1,17 @@
 //! Theorems about the answers of commands. Each is a function that does nothing and whose contract is the theorem.
-ghost use Rattle.std.specs.Prelude.{◌≢◌, ℕ, Bool, List, Option};
+ghost use Rattle.std.specs.Prelude.{◌≡◌, ◌≢◌, ◌≤◌, ℕ, Bool, List, [], Option, Some, None, length};
 ghost use Rattle.y86_base.specs.declared.parts.Variant.{Variant};
-ghost use Rattle.y86_cli.specs.Answers.{aigrun_plan, big_plan, check_pipe_plan, check_seq_plan, hcl_plan, plan_in, psim_plan, sample_plan, ssim_plan, yas_plan, yis_plan};
+ghost use Rattle.y86_cli.specs.Answers.{aig_plan, aigrun_plan, big_plan, certify_pipe_plan, check_pipe_plan, check_seq_plan, hcl_plan, plan_in, psim_plan, sample_plan, ssim_plan, yas_plan, yis_plan};
 ghost use Rattle.y86_cli.specs.Does.{FilesSeen, SinkSeen};
 ghost use Rattle.y86_cli.specs.Plan.{Tells};
 ghost use Rattle.y86_cli.specs.Ran.{Ran};
 ghost use Rattle.y86_cli.specs.declared.datapath.Datapath.{Datapath};
-ghost use Rattle.y86_words.specs.Forms.{Command};
-ghost use Rattle.answer_laws.specs.OneAnswer.{HasOneAnswer, ToldAlike};
+ghost use Rattle.y86_words.specs.Forms.{Command, certify_pipe, form_of, recheck};
+ghost use Rattle.answer_laws.specs.OneAnswer.{HasOneAnswer, HasOneRefusal, KeptCertificate, ToldAlike};
 
-/// Whatever the files of a command hold, its plan allows one answer at most. (`aig` and `check pipe` with `--cert` may write any of
-/// many texts that are right, so of these and of `recheck` it isn't said.)
+/// Whatever the files of a command hold, its plan allows one answer at most. `aig` and `check pipe` with `--cert` may write any of
+/// many right texts: of these commands all but the text of a yes is one answer. (Of `recheck` it isn't so: two calls may make
+/// two nets of one file, and a certificate of one of them is none of the other.)
 pub fn law_of_one_answer()
     ensures yas { (source : List ℕ) (size : ℕ) (v : Variant) → HasOneAnswer (yas_plan source size v) }
     ensures yis { (object : List ℕ) (size limit : ℕ) (v : Variant) → HasOneAnswer (yis_plan object size limit v) }
@@ -22,11 +23,15 @@ pub fn law_of_one_answer()
     ensures check_pipe { (name : List ℕ) (v : Variant) → HasOneAnswer (check_pipe_plan name v) }
     ensures big { (n : ℕ) (name : List ℕ) (v : Variant) → HasOneAnswer (big_plan n name v) }
     ensures sample { (name : List ℕ) (seed count : ℕ) (v : Variant) → HasOneAnswer (sample_plan name seed count v) }
+    ensures certify_pipe { (name : List ℕ) (v : Variant) → HasOneRefusal (certify_pipe_plan name v) }
+    ensures aig { (name : List ℕ) (v : Variant) → HasOneRefusal (aig_plan name v) }
+    ensures no_command { HasOneAnswer (plan_in None) }
     ensures aigrun { (name : List ℕ) (seed : ℕ) → HasOneAnswer (aigrun_plan name seed) }
 {}
 
 /// Two calls of a command whose plan has one answer at most, on files that tell the same contents, end with the same status and tell
-/// the same text, unless one of them ends with 3, 4 or 6.
+/// the same text and the same line on standard error, unless one of them ends with 3, 4 or 6; and these are what the plan
+/// allows for the contents.
 pub fn law_of_calls()
     ensures { (form : Option Command) → HasOneAnswer (plan_in form) → (files_before files_after others_before others_after : FilesSeen)
         (out_before out_after err_before err_after out_before2 out_after2 err_before2 err_after2 : SinkSeen) (status other : ℕ) →
@@ -34,5 +39,20 @@ pub fn law_of_calls()
         Ran form others_before others_after out_before2 out_after2 err_before2 err_after2 other →
         (contents : List (Option (List ℕ))) → Tells files_before.told (plan_in form) contents → Tells others_before.told (plan_in form) contents →
         status ≢ 3 → status ≢ 4 → status ≢ 6 → other ≢ 3 → other ≢ 4 → other ≢ 6 →
-        ToldAlike out_before out_after out_before2 out_after2 status other }
+        ToldAlike (plan_in form) contents out_before out_after err_before err_after out_before2 out_after2 err_before2 err_after2 status other }
+{}
+
+/// What `check pipe` with `--cert` wrote for a file, `recheck` accepts over the same file at the same settings, or refuses it
+/// because of the gates of the net alone, unless it ends with 3, 4 or 6: the form, each number and each claim are right.
+pub fn law_of_own_certificates()
+    ensures { (words others : List (List ℕ)) (name cert : List ℕ) (v : Variant) (text bytes : List ℕ)
+        (files_before files_after later_before later_after : FilesSeen)
+        (out_before out_after err_before err_after out_before2 out_after2 err_before2 err_after2 : SinkSeen) (status : ℕ) →
+        form_of words ≡ Some (certify_pipe name v) → form_of others ≡ Some (recheck name cert v) →
+        Ran (form_of words) files_before files_after out_before out_after err_before err_after 0 →
+        files_before.told name ≡ Some (Some text) → out_before.taken ≡ Some [] → out_after.taken ≡ Some bytes →
+        Ran (form_of others) later_before later_after out_before2 out_after2 err_before2 err_after2 status →
+        later_before.told name ≡ Some (Some text) → later_before.told cert ≡ Some (Some bytes) → length bytes ≤ 536870912 →
+        status ≢ 3 → status ≢ 4 → status ≢ 6 →
+        KeptCertificate v text cert out_before2 out_after2 err_before2 err_after2 status }
 {}

@@ -3,4 +3,4 @@
 
 mod laws;
 
-pub use laws::{law_of_calls, law_of_one_answer};
+pub use laws::{law_of_calls, law_of_one_answer, law_of_own_certificates};

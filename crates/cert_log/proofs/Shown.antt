@@ -1,5 +1,5 @@
 -- Certificates of files.
-use Rattle.std.proofs.Common.{◌≡◌, ℕ, ◌-◌, ◌≤◌, List, length, drop, take, sym, ap, ◌∙◌, arith}
+use Rattle.std.proofs.Common.{◌≡◌, ℕ, ◌+◌, ◌-◌, ◌≤◌, List, ◌++◌, length, drop, take, sym, ap, ◌∙◌, inl, inr, arith}
 use Rattle.std.proofs.lemmas.Bool.{false≢true}
 use Rattle.std.proofs.lemmas.List.{take_rest}
 use Rattle.y86_base.specs.declared.parts.Variant.{Variant}
@@ -15,7 +15,15 @@ use Rattle.certificates.specs.Certificates.{CertOk}
 use Rattle.certificates.specs.declared.demands.Demands.{Demands}
 use Rattle.cert_writer.specs.Writing.{IsOpen}
 use Rattle.cert_log.specs.Demanded.{DemandsFor}
-use Rattle.cert_log.specs.Files.{HasAtoms, Meets}
+use Rattle.cert_log.specs.Files.{CertificatesAreKept, HasAtoms, IsCertificate, IsRefused, Meets}
+use Rattle.certificates.specs.Certificates.{last_line}
+use Rattle.certificates.specs.Faults.{IsOfGates}
+use Rattle.certificates.specs.Lines.{lines_text}
+use Rattle.certificates.specs.declared.fault.CertError.TheVariants as error
+use Rattle.certificates.specs.declared.fault.CertFault.{CertFault}
+use Rattle.certificates.proofs.Unique.{headed, others_refuse_by_gates, same_settings}
+use Rattle.pipe_fields.specs.Layout.{bit_count}
+use Rattle.ctl_atoms.specs.declared.leaf.Atom.{Atom}
 use Rattle.cert_log.proofs.Wanted.{certified_hold, certified_refine, demands_tell}
 
 -- ---- a design with control values has no fault of them
@@ -50,6 +58,31 @@ met v terms ids s g text o h d c = record { atoms = h.atoms; are = h.are; meets 
 pub refined : (v : Variant) (terms : List Term) (ids : List ℕ) (s : Settings) (g : Demands) (text : List ℕ) → IsBound pipe_rows terms → IsOrderOf pipe_rows terms ids → DemandsFor v terms s g →
     CertOk g text → RefinesPipe v terms
 refined v terms ids s g text bound o d c = λ image k is_image pure. certified_refine v terms ids s g text image k bound o d c is_image pure
+
+-- ---- a certificate over the same design
+
+module _ (v : Variant) (terms : List Term) (ids : List ℕ) (s : Settings) (text : List ℕ) (o : IsOrderOf pipe_rows terms ids) (c : IsCertificate v terms s text) where
+  one_settings : (t : Settings) → IsCertificate v terms t text → t ≡ s
+  one_settings t d =
+      sym d.are.settings
+      ∙ same_settings d.demands.settings c.demands.settings (lines_text d.right.lines ++ last_line) (lines_text c.right.lines ++ last_line)
+      d.right.goes_on.seven c.right.goes_on.seven (sym d.right.goes_on.whole ∙ c.right.goes_on.whole)
+      ∙ c.are.settings
+
+  by_gates : (fault : CertFault) → IsRefused v terms text (error.Cert fault) → IsOfGates fault.why × (3 ≤ fault.line)
+  by_gates fault (inl head) =
+      absurd (headed text (lines_text c.right.lines ++ last_line) c.demands.settings fault c.right.goes_on.seven c.right.goes_on.whole head)
+  by_gates fault (inr h) =
+      let leaves = leaves_exist pipe_rows terms ids o in
+      let atoms : c.are.atoms ≡ h.are.atoms = c.are.are.are leaves.0 leaves.1 ∙ sym (h.are.are.are leaves.0 leaves.1) in
+      let settings : c.demands.settings ≡ h.demands.settings =
+      same_settings c.demands.settings h.settings (lines_text c.right.lines ++ last_line) h.rest c.right.goes_on.seven h.states.seven (sym c.right.goes_on.whole ∙ h.states.whole)
+      ∙ sym h.are.settings in
+      others_refuse_by_gates c.demands h.demands text fault settings
+      (c.are.vars ∙ ap (λ (xs : List Atom). bit_count + length xs) atoms ∙ sym h.are.vars) c.right h.first
+
+pub certificates_kept : CertificatesAreKept
+certificates_kept v terms ids s text o c = (one_settings v terms ids s text o c, by_gates v terms ids s text o c)
 
 -- ---- the line of an accepted certificate
 

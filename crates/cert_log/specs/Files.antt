@@ -1,7 +1,8 @@
 -- Certificates of files: a right one, and why a text is none.
-use Rattle.std.specs.Prelude.{ℕ, ◌⊎◌, List, ◌++◌, codes, drop}
+use Rattle.std.specs.Prelude.{ℕ, ◌≡◌, ◌≤◌, ◌⊎◌, List, ◌++◌, codes, drop}
 use Rattle.y86_base.specs.declared.parts.Variant.{Variant}
 use Rattle.hcl_types.specs.declared.term.Term.{Term}
+use Rattle.hcl_types.specs.Tables.{IsOrderOf}
 use Rattle.dp_signals.specs.PipeTable.{pipe_rows}
 use Rattle.ctl_atoms.specs.Atoms.{AreAtoms}
 use Rattle.ctl_atoms.specs.declared.leaf.Atom.{Atom}
@@ -9,6 +10,7 @@ use Rattle.pipe_motion.specs.declared.settings.Settings.{Settings}
 use Rattle.pipe_theorem.specs.Theorem.{MeetsObligations}
 use Rattle.verdict_text.specs.PipeLines.{pipe_yes}
 use Rattle.certificates.specs.Certificates.{CertOk, HasNoHead, IsFirstFault, States}
+use Rattle.certificates.specs.Faults.{IsOfGates}
 use Rattle.certificates.specs.declared.demands.Demands.{Demands}
 use Rattle.certificates.specs.declared.fault.CertError.{CertError}
 use Rattle.certificates.specs.declared.fault.CertError.TheVariants as error
@@ -45,6 +47,14 @@ pub record HasFault (v : Variant) (terms : List Term) (text : List ℕ) (fault :
 abbrev pub IsRefused : Variant → List Term → List ℕ → CertError → Type 0
 IsRefused v terms text (error.Cert fault) = HasNoHead text fault ⊎ HasFault v terms text fault
 IsRefused v terms text error.Memory = Unit {0}
+
+-- A certificate of a design is of one list of settings, and the check of it over the same design can refuse it only because of the gates
+-- of its net: never because of the form, a number or a claim. (Nothing says that two calls make the same net.)
+abbrev pub CertificatesAreKept : Type 0
+CertificatesAreKept =
+    (v : Variant) (terms : List Term) (ids : List ℕ) (s : Settings) (text : List ℕ) → IsOrderOf pipe_rows terms ids → IsCertificate v terms s text →
+    ((t : Settings) → IsCertificate v terms t text → t ≡ s)
+    × ((fault : CertFault) → IsRefused v terms text (error.Cert fault) → IsOfGates fault.why × (3 ≤ fault.line))
 
 -- the line of an accepted certificate: that of a yes at its settings, but for the first word
 unfoldable pub holds : Settings → List ℕ

@@ -1,5 +1,6 @@
 //! The theorems about certificates of files. Each is a function that does nothing and whose contract is the theorem.
 ghost use Rattle.cert_log.specs.Demanded.{CertifiedFilesHold, CertifiedFilesRefine, DemandsTell};
+ghost use Rattle.cert_log.specs.Files.{CertificatesAreKept};
 
 /// What is demanded of a file at settings is true at every pattern of bits exactly where the file meets its obligations at
 /// them. So `write` has a certificate of each file that meets them.
@@ -15,4 +16,10 @@ pub fn law_of_certified_files()
 /// So its pipelined machine refines the run of instructions.
 pub fn law_of_certified_refinement()
     ensures { CertifiedFilesRefine }
+{}
+
+/// A certificate of a design is of one list of settings. Checked over the same design it can be refused only because of the
+/// gates of the net.
+pub fn law_of_kept_certificates()
+    ensures { CertificatesAreKept }
 {}

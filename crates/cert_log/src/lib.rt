@@ -11,4 +11,6 @@ pub use certificates::{
 };
 pub use demanded::demands;
 pub use files::{certify, holds, recheck_file};
-pub use laws::{law_of_certified_files, law_of_certified_refinement, law_of_demands};
+pub use laws::{
+    law_of_certified_files, law_of_certified_refinement, law_of_demands, law_of_kept_certificates,
+};

@@ -76,7 +76,7 @@ all_of_them v image count r h whole off =
         ap (λ n. length (records v image n)) sum ∙ (ap length (records_stay v image r (count - r) off) ∙ sym whole) in
         omega (arith, same, h.records, lt)
 
--- ---- the pipeline has stopped by the end of cycle 5 (n + 2)
+-- ---- the pipeline has stopped by the end of cycle 5 count
 
 stopped_off : (s : Stat) → has_stopped s ≡ true → is_aok s ≡ false
 stopped_off Bub h = refl
@@ -87,7 +87,7 @@ stopped_off Ins h = refl
 stopped_off Pip h = refl
 stopped_off Bad h = refl
 
-off_stopped : (s : Stat) → is_aok s ≡ false → s ≢ Pip → has_stopped s ≡ true
+pub off_stopped : (s : Stat) → is_aok s ≡ false → s ≢ Pip → has_stopped s ≡ true
 off_stopped Bub h p = refl
 off_stopped Aok h p = absurd (cc (h))
 off_stopped Hlt h p = refl
@@ -101,49 +101,53 @@ record Refined (v : Variant) (terms : List Term) (image : List ℕ) (count : ℕ
   refines : (k : ℕ) → Refines v terms image k
   halts : StopsIn v image count
 
-stopped_there : (v : Variant) (terms : List Term) (image : List ℕ) (count : ℕ) → Refined v terms image count → (p : Pipe) → PipeRun v terms image (5 * (count + 1)) p → has_stopped p.end ≡ true
+-- by the end of cycle 5 count it has stopped: else all have retired, and the last one stopped it
+stopped_there : (v : Variant) (terms : List Term) (image : List ℕ) (count : ℕ) → Refined v terms image count → (p : Pipe) → PipeRun v terms image (5 * count) p → has_stopped p.end ≡ true
 stopped_there v terms image count r p ran =
-    elim ((r.refines (5 * (count + 1))).five_cycles (count + 1) p (omega arith) ran) [
-      | inl many ↦ absurd (omega (arith, many, ap length ((r.refines (5 * (count + 1))).records p ran), few v image count (length p.records) r.halts))
+    let refines : Refines v terms image (5 * count) = r.refines (5 * count) in
+    elim (refines.five_cycles count p (omega arith) ran) [
+      | inl many ↦
+          let all : length p.records ≡ count = omega (arith, many, ap length (refines.records p ran), few v image count (length p.records) r.halts) in
+          refines.stops_at_once p ran (λ on. r.halts.stopped (sym (ap (λ k. (run v image k).stat) all) ∙ on))
       | inr stopped ↦ stopped
     ]
 
-stopped_behind : (v : Variant) (terms : List Term) (image : List ℕ) (count : ℕ) → Refined v terms image count → (d : ℕ) (p : Pipe) → PipeRun v terms image (d + 5 * (count + 1)) p →
+stopped_behind : (v : Variant) (terms : List Term) (image : List ℕ) (count : ℕ) → Refined v terms image count → (d : ℕ) (p : Pipe) → PipeRun v terms image (d + 5 * count) p →
     has_stopped p.end ≡ true
 stopped_behind v terms image count r zero p ran =
-    let none : 0 + 5 * (count + 1) ≡ 5 * (count + 1) = omega arith in
+    let none : 0 + 5 * count ≡ 5 * count = omega arith in
     stopped_there v terms image count r p (subst (λ (k : ℕ). PipeRun v terms image k p) none ran)
 stopped_behind v terms image count r (suc d) p ran =
-    let more : suc d + 5 * (count + 1) ≡ suc (d + 5 * (count + 1)) = omega arith in
+    let more : suc d + 5 * count ≡ suc (d + 5 * count) = omega arith in
     one (subst (λ (k : ℕ). PipeRun v terms image k p) more ran) (stopped_behind v terms image count r d)
   where
-    one : PipeRun v terms image (suc (d + 5 * (count + 1))) p → ((q : Pipe) → PipeRun v terms image (d + 5 * (count + 1)) q → has_stopped q.end ≡ true) → has_stopped p.end ≡ true
+    one : PipeRun v terms image (suc (d + 5 * count)) p → ((q : Pipe) → PipeRun v terms image (d + 5 * count) q → has_stopped q.end ≡ true) → has_stopped p.end ≡ true
     one (q, before, cycle) earlier =
         let over : has_stopped q.end ≡ true = earlier q before in
         ap (λ (x : Pipe). has_stopped x.end) (cycle.ended (stopped_off q.end over)) ∙ over
 
-stopped_from : (v : Variant) (terms : List Term) (image : List ℕ) (count k : ℕ) → Refined v terms image count → 5 * (count + 1) ≤ k → (p : Pipe) → PipeRun v terms image k p →
+stopped_from : (v : Variant) (terms : List Term) (image : List ℕ) (count k : ℕ) → Refined v terms image count → 5 * count ≤ k → (p : Pipe) → PipeRun v terms image k p →
     has_stopped p.end ≡ true
 stopped_from v terms image count k r le p ran =
-    let sum : k ≡ (k - 5 * (count + 1)) + 5 * (count + 1) = omega arith in
-    stopped_behind v terms image count r (k - 5 * (count + 1)) p (subst (λ (i : ℕ). PipeRun v terms image i p) sum ran)
+    let sum : k ≡ (k - 5 * count) + 5 * count = omega arith in
+    stopped_behind v terms image count r (k - 5 * count) p (subst (λ (i : ℕ). PipeRun v terms image i p) sum ran)
 
 -- ---- a run to its end
 
-pipe_run : (v : Variant) (terms : List Term) (image : List ℕ) (k : ℕ) (p : Pipe) → Goes v terms image k p → PipeRun v terms image k p
+pub pipe_run : (v : Variant) (terms : List Term) (image : List ℕ) (k : ℕ) (p : Pipe) → Goes v terms image k p → PipeRun v terms image k p
 pipe_run v terms image zero p goes = goes
 pipe_run v terms image (suc k) p goes = (goes.0, pipe_run v terms image k goes.0 goes.1, goes.3)
 
--- it ends by cycle 5 (count + 1)
-in_time : (v : Variant) (terms : List Term) (image : List ℕ) (count k : ℕ) (p : Pipe) → Refined v terms image count → Goes v terms image k p → k ≤ 5 * (count + 1)
+-- it ends by cycle 5 count
+in_time : (v : Variant) (terms : List Term) (image : List ℕ) (count k : ℕ) (p : Pipe) → Refined v terms image count → Goes v terms image k p → k ≤ 5 * count
 in_time v terms image count zero p r goes = omega arith
 in_time v terms image count (suc k) p r (q, before, going, cycle) =
-    elim (cases_lt k (5 * (count + 1))) [
+    elim (cases_lt k (5 * count)) [
       | inl lt ↦ omega (arith, lt)
       | inr le ↦ absurd (false≢true (sym (stopped_off q.end (stopped_from v terms image count k r le q (pipe_run v terms image k q before))) ∙ going))
     ]
 
-has_ended : (v : Variant) (terms : List Term) (image : List ℕ) (count limit k : ℕ) (p : Pipe) → Refined v terms image count → RunsTo v terms image limit k p → 5 * (count + 1) ≤ limit →
+has_ended : (v : Variant) (terms : List Term) (image : List ℕ) (count limit k : ℕ) (p : Pipe) → Refined v terms image count → RunsTo v terms image limit k p → 5 * count ≤ limit →
     is_aok p.end ≡ false
 has_ended v terms image count limit k p r runs_to room =
     elim (cases_lt k limit) [
@@ -156,7 +160,7 @@ record Agrees (v : Variant) (image : List ℕ) (count : ℕ) (p : Pipe) : Type 0
   retired_all : length p.records ≡ count
   end : end_of p ≡ run v image count
 
-agrees : (v : Variant) (terms : List Term) (image : List ℕ) (count limit k : ℕ) (p : Pipe) → Refined v terms image count → RunsTo v terms image limit k p → 5 * (count + 1) ≤ limit →
+agrees : (v : Variant) (terms : List Term) (image : List ℕ) (count limit k : ℕ) (p : Pipe) → Refined v terms image count → RunsTo v terms image limit k p → 5 * count ≤ limit →
     Agrees v image count p
 agrees v terms image count limit k p r runs_to room =
     let ran : PipeRun v terms image k p = pipe_run v terms image k p runs_to.goes in
@@ -171,7 +175,7 @@ agrees v terms image count limit k p r runs_to room =
     }
 
 pub ends_as : (v : Variant) (terms : List Term) (image : List ℕ) (count limit cycles : ℕ) (p : Pipe) → ((k : ℕ) → Refines v terms image k) → StopsIn v image count →
-    RunsTo v terms image limit cycles p → 5 * (count + 1) ≤ limit → EndsAs v image count cycles p
+    RunsTo v terms image limit cycles p → 5 * count ≤ limit → EndsAs v image count cycles p
 ends_as v terms image count limit cycles p refines stops runs_to room =
     let r : Refined v terms image count = record { refines = refines; halts = stops } in
     let same : Agrees v image count p = agrees v terms image count limit cycles p r runs_to room in
@@ -187,7 +191,7 @@ runs_alike v terms n b least most refines both =
     let halts : RunsToHalt v image (n + 1) = runs v n least most in
     let stops : StopsIn v image (n + 1) = record { records = halts.records; stopped = λ e. absurd (cc (halts.halted, e)) } in
     let r : Refined v terms image (n + 1) = record { refines = refines; halts = stops } in
-    let room : 5 * ((n + 1) + 1) ≤ run_limit n = omega arith in
+    let room : 5 * (n + 1) ≤ run_limit n = omega arith in
     let enough : n + 1 ≤ run_limit n = omega arith in
     let same : Agrees v image (n + 1) both.end = agrees v terms image (n + 1) (run_limit n) b.cycles both.end r both.runs room in
     let machine : run v image (run_limit n) ≡ run v image (n + 1) = run_behind v image (n + 1) (run_limit n) stops enough in

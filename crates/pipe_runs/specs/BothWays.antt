@@ -24,9 +24,9 @@ pub record GoesBothWays (v : Variant) (terms : List Term) (n : ℕ) (b : code.Bo
       ↔ (report (program n) (run v (program n) (run_limit n)) b.steps ≡ report (program n) (end_of end) (length end.records))
   pub halted : (b.halted ≡ true) ↔ (((run v (program n) (run_limit n)).stat ≡ Hlt) × (end.end ≡ Hlt))
 
--- both runs did the whole program: n instructions and the halt, in at most 5 (n + 2) cycles, to the same report
+-- both runs did the whole program: n instructions and the halt, in at most 5 (n + 1) cycles, to the same report
 pub record RunsAlike (n : ℕ) (b : code.BothWays) : Type 0 where
   pub steps : b.steps ≡ n + 1
-  pub cycles : b.cycles ≤ 5 * (n + 2)
+  pub cycles : b.cycles ≤ 5 * (n + 1)
   pub same : b.same ≡ true
   pub halted : b.halted ≡ true

@@ -1,5 +1,5 @@
 //! Theorems about programs on PIPE. Each is a function that does nothing and whose contract is the theorem.
-ghost use Rattle.std.specs.Prelude.{ℕ, ◌+◌, ◌*◌, ◌≤◌, List};
+ghost use Rattle.std.specs.Prelude.{ℕ, ◌*◌, ◌≤◌, List};
 ghost use Rattle.y86_base.specs.declared.parts.Variant.{Variant};
 ghost use Rattle.hcl_types.specs.declared.term.Term.{Term};
 ghost use Rattle.pipe_refinement.specs.Refines.{Refines};
@@ -11,16 +11,16 @@ ghost use Rattle.pipe_runs.specs.BothWays.{GoesBothWays, RunsAlike};
 ghost use Rattle.pipe_runs.specs.declared.both.BothWays.{BothWays};
 
 /// Under a design that refines the run of instructions on program `n`, both runs of the program do all of it, n instructions and the
-/// halt, the pipeline in at most 5(n + 2) cycles, and their reports are the same bytes.
+/// halt, the pipeline in at most 5(n + 1) cycles, and their reports are the same bytes.
 pub fn law_of_both_ways()
     ensures { (v : Variant) (terms : List Term) (n : ℕ) (b : BothWays) → 1 ≤ n → n ≤ 100000 →
         ((k : ℕ) → Refines v terms (program n) k) → GoesBothWays v terms n b → RunsAlike n b }
 {}
 
 /// Under a design that refines the run of instructions on an image, where that run stops behind some instructions, the pipeline retires
-/// just these and stops as it does, in at most five cycles for each and five more.
+/// just these and stops as it does, in at most five cycles for each.
 pub fn law_of_ends()
     ensures { (v : Variant) (terms : List Term) (image : List ℕ) (count limit cycles : ℕ) (p : Pipe) →
-        ((k : ℕ) → Refines v terms image k) → StopsIn v image count → RunsTo v terms image limit cycles p → 5 * (count + 1) ≤ limit →
+        ((k : ℕ) → Refines v terms image k) → StopsIn v image count → RunsTo v terms image limit cycles p → 5 * count ≤ limit →
         EndsAs v image count cycles p }
 {}

@@ -1,5 +1,5 @@
 -- What the answers of `check`, and of `psim` behind a check, say of the run of instructions.
-use Rattle.std.proofs.Common.{◌≡◌, ◌⊎◌, ℕ, zero, suc, ◌≤◌, Bool, true, List, ◌++◌, length, refl, sym, ap, subst, ◌∙◌, inl, inr, Option, Some, Result, Ok, Err, lit≤, arith}
+use Rattle.std.proofs.Common.{◌≡◌, ◌⊎◌, codes, ℕ, zero, suc, ◌≤◌, Bool, true, List, ◌++◌, length, refl, sym, ap, subst, ◌∙◌, inl, inr, Option, Some, Result, Ok, Err, lit≤, arith}
 use Rattle.dp_signals.specs.PipeRun.{Pipe, PipeRun}
 use Rattle.dp_signals.specs.PipeTable.{pipe_rows}
 use Rattle.hcl_types.specs.declared.table.Row.{Row}
@@ -16,7 +16,7 @@ use Rattle.y86_isa.specs.declared.machine.Machine.{Machine}
 use Rattle.yis_run.specs.Report.{register_lines, report}
 use Rattle.yo_object.specs.ObjectText.{object_of}
 use Rattle.yo_object.specs.declared.object.YoFault.{YoFault}
-use Rattle.y86_cli.specs.Agreement.{Agrees, HasAccepted, HasAcceptedSeq, RanAccepted, ToldNo}
+use Rattle.y86_cli.specs.Agreement.{Agrees, HasAccepted, HasAcceptedSeq, RanAccepted, ToldAccepted, ToldAcceptedSeq, ToldNo}
 use Rattle.y86_cli.specs.Answers.{PipeAnswers, check_pipe_plan, check_seq_plan, checked_plan, image_of_text, pipe_plan, psim_plan}
 use Rattle.y86_cli.specs.Checks.{AcceptsPipe, RefusesControl}
 use Rattle.y86_cli.specs.Datapaths.{rows_of}
@@ -26,7 +26,7 @@ use Rattle.y86_words.specs.Forms.{check_pipe, check_plus, check_seq, form_of, ps
 use Rattle.y86_cli.specs.Lines.{object_fault_line}
 use Rattle.y86_cli.specs.Plan.{Answered, MayAnswer, after, done, refused}
 use Rattle.y86_cli.specs.PipeRuns.{Goes, end_of, run_text}
-use Rattle.y86_cli.specs.Ran.{Ran}
+use Rattle.y86_cli.specs.Ran.{Ran, Shows}
 use Rattle.y86_words.proofs.Legal.{form_legal}
 use Rattle.y86_cli.specs.declared.datapath.Datapath.{Datapath}
 use Rattle.y86_cli.specs.declared.datapath.Datapath.TheVariants.{Seq, Plus}
@@ -65,7 +65,7 @@ pub control_high : (name : List ℕ) (rows : List Row) (terms : List Term) (a : 
 control_high name rows terms a (inl mixed) low = high a 5 _ mixed.told (lit≤ tt) low
 control_high name rows terms a (inr over) low = high a 5 _ over.told (lit≤ tt) low
 
-loads_ok : (name : List ℕ) (loaded : Result (List ℕ) YoFault) (image : List ℕ) → image_of_text name loaded ≡ Ok image → loaded ≡ Ok image
+pub loads_ok : (name : List ℕ) (loaded : Result (List ℕ) YoFault) (image : List ℕ) → image_of_text name loaded ≡ Ok image → loaded ≡ Ok image
 loads_ok name (Ok one) image e = let same : one ≡ image = cc (e) in ap Ok same
 loads_ok name (Err fault) image e = absurd (cc (e))
 
@@ -81,49 +81,57 @@ has_accepted v told text terms a has design accepts =
     record { text = text; has = has; terms = terms; design = design; settings = accepts.settings; accepted = accepts.accepted; refines = accepts.refines }
 
 check_told : (told : List ℕ → Option (Option (List ℕ))) (name : List ℕ) (v : Variant) (a : Answered) → MayAnswer told (check_pipe_plan name v) a → a.status ≡ 0 →
-    HasAccepted v (told name)
-unfolding check_pipe_plan
+    (file : HasAccepted v (told name)) × (a.out ≡ pipe_yes file.settings)
+unfolding check_pipe_plan has_accepted
 check_told told name v a (inl failed) none = absurd (high a 3 _ failed.1 (lit≤ tt) (omega (arith, none)))
 check_told told name v a (inr (inl long)) none = absurd (high a 7 _ long.1 (lit≤ tt) (omega (arith, none)))
 check_told told name v a (inr (inr (text, has, short, inr refuses))) none = absurd (design_high name pipe_rows text a refuses (omega (arith, none)))
-check_told told name v a (inr (inr (text, has, short, inl (terms, design, inl accepts)))) none = has_accepted v (told name) text terms a has design accepts
+check_told told name v a (inr (inr (text, has, short, inl (terms, design, inl accepts)))) none =
+    (has_accepted v (told name) text terms a has design accepts, ap (λ (x : Answered). x.out) accepts.told)
 check_told told name v a (inr (inr (text, has, short, inl (terms, design, inr (inl denies))))) none =
     let one : a.status ≡ 1 = ap (λ x. x.status) denies.told in absurd (omega (arith, one, none))
 check_told told name v a (inr (inr (text, has, short, inl (terms, design, inr (inr refuses))))) none =
     absurd (control_high name pipe_rows terms a refuses (omega (arith, none)))
 
 check_accepts : (name : List ℕ) (v : Variant) (files_before files_after : FilesSeen) (out_before out_after err_before err_after : SinkSeen) →
-    Ran (Some (check_pipe name v)) files_before files_after out_before out_after err_before err_after 0 → HasAccepted v (files_before.told name)
+    Ran (Some (check_pipe name v)) files_before files_after out_before out_after err_before err_after 0 → ToldAccepted v (files_before.told name) out_before out_after
 check_accepts name v files_before files_after out_before out_after err_before err_after ran =
     let given = ran.answer (λ three. omega (arith, three)) (λ six. omega (arith, six)) in
-    check_told files_before.told name v given.0 given.1.by_some (sym (given.2.status_is (λ four. omega (arith, four))))
+    let said = check_told files_before.told name v given.0 given.1.by_some (sym (given.2.status_is (λ four. omega (arith, four)))) in
+    record { file = said.0; line = subst (Took out_before.taken out_after.taken) said.1 (given.2.out (λ four. omega (arith, four))) }
 
 -- ---- `check seq` and `check seqplus`
 
 check_seq_told : (which : Datapath) (told : List ℕ → Option (Option (List ℕ))) (name : List ℕ) (v : Variant) (a : Answered) → MayAnswer told (check_seq_plan which name v) a →
-    a.status ≡ 0 → HasAcceptedSeq which v (told name)
+    a.status ≡ 0 → HasAcceptedSeq which v (told name) × (a.out ≡ codes "yes\n")
 unfolding check_seq_plan
 check_seq_told which told name v a (inl failed) none = absurd (high a 3 _ failed.1 (lit≤ tt) (omega (arith, none)))
 check_seq_told which told name v a (inr (inl long)) none = absurd (high a 7 _ long.1 (lit≤ tt) (omega (arith, none)))
 check_seq_told which told name v a (inr (inr (text, has, short, inr refuses))) none = absurd (design_high name (rows_of which) text a refuses (omega (arith, none)))
 check_seq_told which told name v a (inr (inr (text, has, short, inl (terms, design, inl accepts)))) none =
-    record { text = text; has = has; terms = terms; design = design; accepted = accepts.accepted; refines = accepts.refines }
+    (record { text = text; has = has; terms = terms; design = design; accepted = accepts.accepted; refines = accepts.refines }, ap (λ (x : Answered). x.out) accepts.told)
 check_seq_told which told name v a (inr (inr (text, has, short, inl (terms, design, inr (inl denies))))) none =
     let one : a.status ≡ 1 = ap (λ x. x.status) denies.told in absurd (omega (arith, one, none))
 check_seq_told which told name v a (inr (inr (text, has, short, inl (terms, design, inr (inr refuses))))) none =
     absurd (control_high name (rows_of which) terms a refuses (omega (arith, none)))
 
+check_seq_says : (which : Datapath) (name : List ℕ) (v : Variant) (a : Answered) (files_before : FilesSeen) (out_before out_after err_before err_after : SinkSeen) →
+    MayAnswer files_before.told (check_seq_plan which name v) a → Shows a out_before out_after err_before err_after 0 → ToldAcceptedSeq which v (files_before.told name) out_before out_after
+check_seq_says which name v a files_before out_before out_after err_before err_after may shows =
+    let said = check_seq_told which files_before.told name v a may (sym (shows.status_is (λ four. omega (arith, four)))) in
+    record { file = said.0; line = subst (Took out_before.taken out_after.taken) said.1 (shows.out (λ four. omega (arith, four))) }
+
 check_seq_accepts : (name : List ℕ) (v : Variant) (files_before files_after : FilesSeen) (out_before out_after err_before err_after : SinkSeen) →
-    Ran (Some (check_seq name v)) files_before files_after out_before out_after err_before err_after 0 → HasAcceptedSeq Seq v (files_before.told name)
+    Ran (Some (check_seq name v)) files_before files_after out_before out_after err_before err_after 0 → ToldAcceptedSeq Seq v (files_before.told name) out_before out_after
 check_seq_accepts name v files_before files_after out_before out_after err_before err_after ran =
     let given = ran.answer (λ three. omega (arith, three)) (λ six. omega (arith, six)) in
-    check_seq_told Seq files_before.told name v given.0 given.1.by_some (sym (given.2.status_is (λ four. omega (arith, four))))
+    check_seq_says Seq name v given.0 files_before out_before out_after err_before err_after given.1.by_some given.2
 
 check_plus_accepts : (name : List ℕ) (v : Variant) (files_before files_after : FilesSeen) (out_before out_after err_before err_after : SinkSeen) →
-    Ran (Some (check_plus name v)) files_before files_after out_before out_after err_before err_after 0 → HasAcceptedSeq Plus v (files_before.told name)
+    Ran (Some (check_plus name v)) files_before files_after out_before out_after err_before err_after 0 → ToldAcceptedSeq Plus v (files_before.told name) out_before out_after
 check_plus_accepts name v files_before files_after out_before out_after err_before err_after ran =
     let given = ran.answer (λ three. omega (arith, three)) (λ six. omega (arith, six)) in
-    check_seq_told Plus files_before.told name v given.0 given.1.by_some (sym (given.2.status_is (λ four. omega (arith, four))))
+    check_seq_says Plus name v given.0 files_before out_before out_after err_before err_after given.1.by_some given.2
 
 -- ---- `psim` behind a check
 
@@ -201,17 +209,20 @@ psim_agrees name object size limit trace v files_before files_after out_before o
 -- ---- the same of the words of a call
 
 pub accepting_seq_words : (words : List (List ℕ)) (name : List ℕ) (v : Variant) (files_before files_after : FilesSeen) (out_before out_after err_before err_after : SinkSeen) →
-    form_of words ≡ Some (check_seq name v) → Ran (form_of words) files_before files_after out_before out_after err_before err_after 0 → HasAcceptedSeq Seq v (files_before.told name)
+    form_of words ≡ Some (check_seq name v) → Ran (form_of words) files_before files_after out_before out_after err_before err_after 0 →
+    ToldAcceptedSeq Seq v (files_before.told name) out_before out_after
 accepting_seq_words words name v files_before files_after out_before out_after err_before err_after is ran =
     check_seq_accepts name v files_before files_after out_before out_after err_before err_after (rw is at ran)
 
 pub accepting_plus_words : (words : List (List ℕ)) (name : List ℕ) (v : Variant) (files_before files_after : FilesSeen) (out_before out_after err_before err_after : SinkSeen) →
-    form_of words ≡ Some (check_plus name v) → Ran (form_of words) files_before files_after out_before out_after err_before err_after 0 → HasAcceptedSeq Plus v (files_before.told name)
+    form_of words ≡ Some (check_plus name v) → Ran (form_of words) files_before files_after out_before out_after err_before err_after 0 →
+    ToldAcceptedSeq Plus v (files_before.told name) out_before out_after
 accepting_plus_words words name v files_before files_after out_before out_after err_before err_after is ran =
     check_plus_accepts name v files_before files_after out_before out_after err_before err_after (rw is at ran)
 
 pub accepting_words : (words : List (List ℕ)) (name : List ℕ) (v : Variant) (files_before files_after : FilesSeen) (out_before out_after err_before err_after : SinkSeen) →
-    form_of words ≡ Some (check_pipe name v) → Ran (form_of words) files_before files_after out_before out_after err_before err_after 0 → HasAccepted v (files_before.told name)
+    form_of words ≡ Some (check_pipe name v) → Ran (form_of words) files_before files_after out_before out_after err_before err_after 0 →
+    ToldAccepted v (files_before.told name) out_before out_after
 accepting_words words name v files_before files_after out_before out_after err_before err_after is ran =
     check_accepts name v files_before files_after out_before out_after err_before err_after (rw is at ran)
 

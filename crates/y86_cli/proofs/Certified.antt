@@ -1,5 +1,5 @@
 -- Certificates of designs, as answers; and what an accepted certificate says of the run of instructions.
-use Rattle.std.proofs.Common.{◌≡◌, ℕ, List, refl, sym, ap, subst, ◌∙◌, inl, inr, Option, Some, Result, Err, lit≤, arith}
+use Rattle.std.proofs.Common.{◌≡◌, ◌⊎◌, ℕ, ◌≤◌, List, length, refl, sym, ap, subst, ◌∙◌, inl, inr, Option, Some, Result, Err, lit≤, arith}
 use Rattle.cert_log.specs.Files.{HasAtoms, IsCertificate, IsRefused, Meets, holds}
 use Rattle.certificates.specs.declared.fault.CertError.{CertError}
 use Rattle.certificates.specs.declared.fault.CertError.TheVariants as error
@@ -9,14 +9,16 @@ use Rattle.ctl_atoms.specs.declared.leaf.Atom.{Atom}
 use Rattle.dp_signals.specs.PipeTable.{pipe_rows}
 use Rattle.hcl_types.specs.declared.term.Term.{Term}
 use Rattle.pipe_motion.specs.declared.settings.Settings.{Settings}
+use Rattle.wb_io.specs.Sinks.{Took, TookPart}
+use Rattle.y86_cli.specs.Designs.{RefusesDesign}
 use Rattle.y86_base.specs.declared.parts.Variant.{Variant}
 use Rattle.y86_words.specs.Forms.{certify_pipe, form_of, recheck}
-use Rattle.y86_cli.specs.Agreement.{HasAccepted}
+use Rattle.y86_cli.specs.Agreement.{HasAccepted, ToldCertified, ToldCertifiedPart, WroteCertificate}
 use Rattle.y86_cli.specs.Answers.{certificate_plan, certify_pipe_plan, recheck_plan}
 use Rattle.y86_cli.specs.Certified.{CertifiesPipe, HasCertified, PipeCertifies, Rechecks, TellsCert}
 use Rattle.y86_cli.specs.Checks.{DeniesPipe, RefusesControl, RefusesPipe}
 use Rattle.y86_cli.specs.Does.{FilesSeen, Refuses, Says, SinkSeen}
-use Rattle.y86_cli.specs.Plan.{Answered, MayAnswer, done}
+use Rattle.y86_cli.specs.Plan.{Answered, MayAnswer, done, refused}
 use Rattle.y86_cli.specs.Ran.{Ran}
 use Rattle.y86_cli.specs.declared.stop.Stop as code
 use Rattle.y86_cli.proofs.Agreement.{control_high, design_high, high}
@@ -72,67 +74,141 @@ said_cert_refusal name v terms text seen error.Memory stop refused told = rw tol
 -- ---- what an answer with status 0 says
 
 certify_told : (told : List ℕ → Option (Option (List ℕ))) (name : List ℕ) (v : Variant) (a : Answered) → MayAnswer told (certify_pipe_plan name v) a → a.status ≡ 0 →
-    HasAccepted v (told name)
+    (file : HasAccepted v (told name)) × (text : List ℕ) × IsCertificate v file.terms file.settings text × (a.out ≡ text)
 unfolding certify_pipe_plan
 certify_told told name v a (inl failed) none = absurd (high a 3 _ failed.1 (lit≤ tt) (omega (arith, none)))
 certify_told told name v a (inr (inl long)) none = absurd (high a 7 _ long.1 (lit≤ tt) (omega (arith, none)))
 certify_told told name v a (inr (inr (text, has, short, inr refuses))) none = absurd (design_high name pipe_rows text a refuses (omega (arith, none)))
-certify_told told name v a (inr (inr (text, has, short, inl (terms, design, inl certifies)))) none =
-    record { text = text; has = has; terms = terms; design = design; settings = certifies.settings; accepted = certifies.accepted; refines = certifies.refines }
+certify_told told name v a (inr (inr (text, has, short, inl (terms, design, inl certifies)))) none = (
+  record { text = text; has = has; terms = terms; design = design; settings = certifies.settings; accepted = certifies.accepted; refines = certifies.refines },
+  certifies.text,
+  certifies.certificate,
+  ap (λ (x : Answered). x.out) certifies.told,
+)
 certify_told told name v a (inr (inr (text, has, short, inl (terms, design, inr (inl denies))))) none =
     let one : a.status ≡ 1 = ap (λ x. x.status) denies.told in absurd (omega (arith, one, none))
 certify_told told name v a (inr (inr (text, has, short, inl (terms, design, inr (inr refuses))))) none =
     absurd (control_high name pipe_rows terms a refuses (omega (arith, none)))
 
-recheck_told : (told : List ℕ → Option (Option (List ℕ))) (name cert : List ℕ) (v : Variant) (a : Answered) → MayAnswer told (recheck_plan name cert v) a → a.status ≡ 0 →
-    HasCertified v (told name) (told cert)
-unfolding recheck_plan certificate_plan
-recheck_told told name cert v a (inl failed) none = absurd (high a 3 _ failed.1 (lit≤ tt) (omega (arith, none)))
-recheck_told told name cert v a (inr (inl long)) none = absurd (high a 7 _ long.1 (lit≤ tt) (omega (arith, none)))
-recheck_told told name cert v a (inr (inr (text, has, short, inr refuses))) none = absurd (design_high name pipe_rows text a refuses (omega (arith, none)))
-recheck_told told name cert v a (inr (inr (text, has, short, inl (terms, design, inr refuses)))) none =
-    absurd (control_high name pipe_rows terms a refuses (omega (arith, none)))
-recheck_told told name cert v a (inr (inr (text, has, short, inl (terms, design, inl (atoms, are, inl failed))))) none =
-    absurd (high a 3 _ failed.1 (lit≤ tt) (omega (arith, none)))
-recheck_told told name cert v a (inr (inr (text, has, short, inl (terms, design, inl (atoms, are, inr (inl long)))))) none =
-    absurd (high a 7 _ long.1 (lit≤ tt) (omega (arith, none)))
-recheck_told told name cert v a (inr (inr (text, has, short, inl (terms, design, inl (atoms, are, inr (inr (bytes, has_cert, short_cert, inl accepts))))))) none =
-    record {
-      text = text;
-      has = has;
-      terms = terms;
-      design = design;
-      bytes = bytes;
-      has_certificate = has_cert;
-      settings = accepts.settings;
-      certificate = accepts.certificate;
-      meets = accepts.meets;
-      refines = accepts.refines;
-    }
-recheck_told told name cert v a (inr (inr (text, has, short, inl (terms, design, inl (atoms, are, inr (inr (bytes, has_cert, short_cert, inr (inl head)))))))) none =
-    absurd (high a 5 _ head.told (lit≤ tt) (omega (arith, none)))
-recheck_told told name cert v a (inr (inr (text, has, short, inl (terms, design, inl (atoms, are, inr (inr (bytes, has_cert, short_cert, inr (inr refuses)))))))) none =
-    absurd (high a 5 _ refuses.told (lit≤ tt) (omega (arith, none)))
-
 certify_accepts : (name : List ℕ) (v : Variant) (files_before files_after : FilesSeen) (out_before out_after err_before err_after : SinkSeen) →
-    Ran (Some (certify_pipe name v)) files_before files_after out_before out_after err_before err_after 0 → HasAccepted v (files_before.told name)
+    Ran (Some (certify_pipe name v)) files_before files_after out_before out_after err_before err_after 0 → WroteCertificate v (files_before.told name) out_before out_after
 certify_accepts name v files_before files_after out_before out_after err_before err_after ran =
     let given = ran.answer (λ three. omega (arith, three)) (λ six. omega (arith, six)) in
-    certify_told files_before.told name v given.0 given.1.by_some (sym (given.2.status_is (λ four. omega (arith, four))))
+    let said = certify_told files_before.told name v given.0 given.1.by_some (sym (given.2.status_is (λ four. omega (arith, four)))) in
+    record { file = said.0; text = said.1; certificate = said.2; went = subst (Took out_before.taken out_after.taken) said.3 (given.2.out (λ four. omega (arith, four))) }
 
-recheck_accepts : (name cert : List ℕ) (v : Variant) (files_before files_after : FilesSeen) (out_before out_after err_before err_after : SinkSeen) →
-    Ran (Some (recheck name cert v)) files_before files_after out_before out_after err_before err_after 0 → HasCertified v (files_before.told name) (files_before.told cert)
-recheck_accepts name cert v files_before files_after out_before out_after err_before err_after ran =
-    let given = ran.answer (λ three. omega (arith, three)) (λ six. omega (arith, six)) in
-    recheck_told files_before.told name cert v given.0 given.1.by_some (sym (given.2.status_is (λ four. omega (arith, four))))
+-- ---- the answers of `recheck`
+
+-- a refusal, with a status from 2 on
+pub record IsRefusal (a : Answered) : Type 0 where
+  pub status : ℕ
+  pub line : List ℕ
+  pub large : 2 ≤ status
+  pub is : a ≡ refused status line
+
+refusal : (a : Answered) (n : ℕ) (line : List ℕ) → 2 ≤ n → a ≡ refused n line → IsRefusal a
+refusal a n line large is = record { status = n; line = line; large = large; is = is }
+
+design_refusal : (name text : List ℕ) (a : Answered) → RefusesDesign name pipe_rows text a → IsRefusal a
+design_refusal name text a (inl unread) = refusal a 5 _ (lit≤ tt) unread.2
+design_refusal name text a (inr (inl unbound)) = refusal a 5 _ (lit≤ tt) unbound.told
+design_refusal name text a (inr (inr unordered)) = refusal a 5 _ (lit≤ tt) unordered.told
+
+control_refusal : (name : List ℕ) (terms : List Term) (a : Answered) → RefusesControl name pipe_rows terms a → IsRefusal a
+control_refusal name terms a (inl mixed) = refusal a 5 _ (lit≤ tt) mixed.told
+control_refusal name terms a (inr over) = refusal a 5 _ (lit≤ tt) over.told
+
+-- `recheck` tells an accepted certificate, or refuses
+abbrev pub Rechecked : Variant → Option (Option (List ℕ)) → Option (Option (List ℕ)) → Answered → Type 0
+Rechecked v told told_cert a = ((file : HasCertified v told told_cert) × (a ≡ done 0 (holds file.settings))) ⊎ IsRefusal a
+
+recheck_told : (told : List ℕ → Option (Option (List ℕ))) (name cert : List ℕ) (v : Variant) (a : Answered) → MayAnswer told (recheck_plan name cert v) a →
+    Rechecked v (told name) (told cert) a
+unfolding recheck_plan certificate_plan
+recheck_told told name cert v a (inl failed) = inr (refusal a 3 _ (lit≤ tt) failed.1)
+recheck_told told name cert v a (inr (inl long)) = inr (refusal a 7 _ (lit≤ tt) long.1)
+recheck_told told name cert v a (inr (inr (text, has, short, inr refuses))) = inr (design_refusal name text a refuses)
+recheck_told told name cert v a (inr (inr (text, has, short, inl (terms, design, inr refuses)))) = inr (control_refusal name terms a refuses)
+recheck_told told name cert v a (inr (inr (text, has, short, inl (terms, design, inl (atoms, are, inl failed))))) = inr (refusal a 3 _ (lit≤ tt) failed.1)
+recheck_told told name cert v a (inr (inr (text, has, short, inl (terms, design, inl (atoms, are, inr (inl long)))))) = inr (refusal a 7 _ (lit≤ tt) long.1)
+recheck_told told name cert v a (inr (inr (text, has, short, inl (terms, design, inl (atoms, are, inr (inr (bytes, has_cert, short_cert, inl accepts))))))) = inl (
+  record {
+    text = text;
+    has = has;
+    terms = terms;
+    design = design;
+    bytes = bytes;
+    has_certificate = has_cert;
+    settings = accepts.settings;
+    certificate = accepts.certificate;
+    meets = accepts.meets;
+    refines = accepts.refines;
+  },
+  accepts.told,
+)
+recheck_told told name cert v a (inr (inr (text, has, short, inl (terms, design, inl (atoms, are, inr (inr (bytes, has_cert, short_cert, inr (inl head)))))))) =
+    inr (refusal a 5 _ (lit≤ tt) head.told)
+recheck_told told name cert v a (inr (inr (text, has, short, inl (terms, design, inl (atoms, are, inr (inr (bytes, has_cert, short_cert, inr (inr refuses)))))))) =
+    inr (refusal a 5 _ (lit≤ tt) refuses.told)
+
+recheck_whole : (v : Variant) (told told_cert : Option (Option (List ℕ))) (a : Answered) (before after : SinkSeen) → Rechecked v told told_cert a → a.status ≡ 0 →
+    Took before.taken after.taken a.out → ToldCertified v told told_cert before after
+recheck_whole v told told_cert a before after (inl said) none took =
+    record { file = said.0; line = subst (Took before.taken after.taken) (ap (λ (x : Answered). x.out) said.1) took }
+recheck_whole v told told_cert a before after (inr r) none took =
+    let same : a.status ≡ r.status = ap (λ (x : Answered). x.status) r.is in absurd (omega (arith, same, none, r.large))
+
+recheck_part : (v : Variant) (told told_cert : Option (Option (List ℕ))) (a : Answered) (before after : SinkSeen) → Rechecked v told told_cert a →
+    TookPart before.taken after.taken a.out → ToldCertifiedPart v told told_cert before after
+recheck_part v told told_cert a before after (inl said) took =
+    record { file = said.0; part = subst (TookPart before.taken after.taken) (ap (λ (x : Answered). x.out) said.1) took }
+recheck_part v told told_cert a before after (inr r) took =
+    let none : length a.out ≡ 0 = ap (λ (x : Answered). length x.out) r.is in absurd (omega (arith, took.1, none))
+
+recheck_not_one : (v : Variant) (told told_cert : Option (Option (List ℕ))) (a : Answered) → Rechecked v told told_cert a → a.status ≡ 1 → ⊥
+recheck_not_one v told told_cert a (inl said) one = let same : a.status ≡ 0 = ap (λ (x : Answered). x.status) said.1 in omega (arith, same, one)
+recheck_not_one v told told_cert a (inr r) one =
+    let same : a.status ≡ r.status = ap (λ (x : Answered). x.status) r.is in omega (arith, same, one, r.large)
+
+module _ (name cert : List ℕ) (v : Variant) (files_before files_after : FilesSeen) (out_before out_after err_before err_after : SinkSeen) where
+  recheck_accepts : Ran (Some (recheck name cert v)) files_before files_after out_before out_after err_before err_after 0 →
+      ToldCertified v (files_before.told name) (files_before.told cert) out_before out_after
+  recheck_accepts ran =
+      let given = ran.answer (λ three. omega (arith, three)) (λ six. omega (arith, six)) in
+      recheck_whole v (files_before.told name) (files_before.told cert) given.0 out_before out_after (recheck_told files_before.told name cert v given.0 given.1.by_some)
+      (sym (given.2.status_is (λ four. omega (arith, four)))) (given.2.out (λ four. omega (arith, four)))
+
+  recheck_breaks : Ran (Some (recheck name cert v)) files_before files_after out_before out_after err_before err_after 4 →
+      ToldCertifiedPart v (files_before.told name) (files_before.told cert) out_before out_after
+  recheck_breaks ran =
+      let given = ran.answer (λ three. omega (arith, three)) (λ six. omega (arith, six)) in
+      recheck_part v (files_before.told name) (files_before.told cert) given.0 out_before out_after (recheck_told files_before.told name cert v given.0 given.1.by_some) (given.2.part refl)
+
+  recheck_one : Ran (Some (recheck name cert v)) files_before files_after out_before out_after err_before err_after 1 → ⊥
+  recheck_one ran =
+      let given = ran.answer (λ three. omega (arith, three)) (λ six. omega (arith, six)) in
+      recheck_not_one v (files_before.told name) (files_before.told cert) given.0 (recheck_told files_before.told name cert v given.0 given.1.by_some)
+      (sym (given.2.status_is (λ four. omega (arith, four))))
 
 pub certifying_words : (words : List (List ℕ)) (name : List ℕ) (v : Variant) (files_before files_after : FilesSeen) (out_before out_after err_before err_after : SinkSeen) →
-    form_of words ≡ Some (certify_pipe name v) → Ran (form_of words) files_before files_after out_before out_after err_before err_after 0 → HasAccepted v (files_before.told name)
+    form_of words ≡ Some (certify_pipe name v) → Ran (form_of words) files_before files_after out_before out_after err_before err_after 0 →
+    WroteCertificate v (files_before.told name) out_before out_after
 certifying_words words name v files_before files_after out_before out_after err_before err_after is ran =
     certify_accepts name v files_before files_after out_before out_after err_before err_after (rw is at ran)
 
 pub rechecking_words : (words : List (List ℕ)) (name cert : List ℕ) (v : Variant) (files_before files_after : FilesSeen) (out_before out_after err_before err_after : SinkSeen) →
     form_of words ≡ Some (recheck name cert v) → Ran (form_of words) files_before files_after out_before out_after err_before err_after 0 →
-    HasCertified v (files_before.told name) (files_before.told cert)
+    ToldCertified v (files_before.told name) (files_before.told cert) out_before out_after
 rechecking_words words name cert v files_before files_after out_before out_after err_before err_after is ran =
     recheck_accepts name cert v files_before files_after out_before out_after err_before err_after (rw is at ran)
+
+pub breaking_words : (words : List (List ℕ)) (name cert : List ℕ) (v : Variant) (files_before files_after : FilesSeen) (out_before out_after err_before err_after : SinkSeen) →
+    form_of words ≡ Some (recheck name cert v) → Ran (form_of words) files_before files_after out_before out_after err_before err_after 4 →
+    ToldCertifiedPart v (files_before.told name) (files_before.told cert) out_before out_after
+breaking_words words name cert v files_before files_after out_before out_after err_before err_after is ran =
+    recheck_breaks name cert v files_before files_after out_before out_after err_before err_after (rw is at ran)
+
+pub never_one_words : (words : List (List ℕ)) (name cert : List ℕ) (v : Variant) (files_before files_after : FilesSeen) (out_before out_after err_before err_after : SinkSeen) →
+    form_of words ≡ Some (recheck name cert v) → Ran (form_of words) files_before files_after out_before out_after err_before err_after 1 → ⊥
+never_one_words words name cert v files_before files_after out_before out_after err_before err_after is ran =
+    recheck_one name cert v files_before files_after out_before out_after err_before err_after (rw is at ran)

@@ -1,5 +1,6 @@
 -- What an answer to `check`, or to `psim` behind a check, says of the run of instructions.
-use Rattle.std.specs.Prelude.{◌≡◌, ℕ, Bool, true, List, ◌++◌, length, Option, Ok}
+use Rattle.std.specs.Prelude.{◌≡◌, ℕ, codes, Bool, true, List, ◌++◌, length, Option, Ok}
+use Rattle.cert_log.specs.Files.{IsCertificate, holds}
 use Rattle.control_check.specs.PipeVerdicts.{AcceptsPipe, RefinesPipe}
 use Rattle.dp_signals.specs.PipeRun.{Pipe, has_stopped}
 use Rattle.dp_signals.specs.PipeTable.{pipe_rows}
@@ -8,13 +9,14 @@ use Rattle.pipe_motion.specs.declared.settings.Settings.{Settings}
 use Rattle.retire_trace.specs.Drive.{traced}
 use Rattle.verdict_text.specs.PipeLines.{pipe_yes}
 use Rattle.wb_io.specs.Files.{HasBytes}
-use Rattle.wb_io.specs.Sinks.{Took}
+use Rattle.wb_io.specs.Sinks.{Took, TookPart}
 use Rattle.y86_base.specs.declared.parts.Variant.{Variant}
 use Rattle.y86_isa.specs.Run.{records, run}
 use Rattle.pure_runs.specs.Near.{NearPure}
 use Rattle.yis_run.specs.Report.{register_lines, report}
 use Rattle.yo_object.specs.ObjectText.{object_of}
 use Rattle.y86_cli.specs.Answers.{run_status}
+use Rattle.y86_cli.specs.Certified.{HasCertified}
 use Rattle.y86_cli.specs.Checks.{DeniesPipe}
 use Rattle.y86_cli.specs.Datapaths.{Accepts, Refines, rows_of}
 use Rattle.y86_cli.specs.Designs.{IsDesign}
@@ -43,6 +45,32 @@ pub record HasAcceptedSeq (which : Datapath) (v : Variant) (told : Option (Optio
   pub design : IsDesign (rows_of which) text terms
   pub accepted : Accepts which v terms
   pub refines : Refines which v terms
+
+-- Such a file was accepted, and its settings were told: the text on standard output is the line of a Yes.
+pub record ToldAccepted (v : Variant) (told : Option (Option (List ℕ))) (before after : SinkSeen) : Type 0 where
+  pub file : HasAccepted v told
+  pub line : Took before.taken after.taken (pipe_yes file.settings)
+
+pub record ToldAcceptedSeq (which : Datapath) (v : Variant) (told : Option (Option (List ℕ))) (before after : SinkSeen) : Type 0 where
+  pub file : HasAcceptedSeq which v told
+  pub line : Took before.taken after.taken (codes "yes\n")
+
+-- Such a file was accepted, and a certificate of its design at its settings went to standard output.
+pub record WroteCertificate (v : Variant) (told : Option (Option (List ℕ))) (before after : SinkSeen) : Type 0 where
+  pub file : HasAccepted v told
+  pub text : List ℕ
+  pub certificate : IsCertificate v file.terms file.settings text
+  pub went : Took before.taken after.taken text
+
+-- A certificate of a file was accepted, and its settings were told: the text on standard output is the line that tells them.
+pub record ToldCertified (v : Variant) (told told_cert : Option (Option (List ℕ))) (before after : SinkSeen) : Type 0 where
+  pub file : HasCertified v told told_cert
+  pub line : Took before.taken after.taken (holds file.settings)
+
+-- The same where a write on standard output failed: a proper prefix of the line went out.
+pub record ToldCertifiedPart (v : Variant) (told told_cert : Option (Option (List ℕ))) (before after : SinkSeen) : Type 0 where
+  pub file : HasCertified v told told_cert
+  pub part : TookPart before.taken after.taken (holds file.settings)
 
 -- What is printed of a pipeline that has retired r instructions is of the run of these: the lines of the trace are of its records,
 -- those of the registers of its registers; and where the pipeline has stopped, the whole report is of its machine.

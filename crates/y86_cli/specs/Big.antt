@@ -23,9 +23,9 @@ big_status both = if both.same && both.halted then 0 else 1
 abbrev pub BigAnswers : Variant → List Term → ℕ → Answered → Type 0
 BigAnswers v terms n a = (both : BothWays) × GoesBothWays v terms n both × (a ≡ done (big_status both) (big_line n both))
 
--- both runs did all of program n, to the same report, the pipeline in at most 5 (n + 2) cycles, and the line that says so was told
+-- both runs did all of program n, to the same report, the pipeline in at most 5 (n + 1) cycles, and the line that says so was told
 pub record ToldSame (n : ℕ) (before after : SinkSeen) (status : ℕ) : Type 0 where
   pub cycles : ℕ
-  pub in_time : cycles ≤ 5 * (n + 2)
+  pub in_time : cycles ≤ 5 * (n + 1)
   pub status_is : status ≡ 0
   pub told : Took before.taken after.taken (big_line n (record { steps = n + 1; cycles = cycles; same = true; halted = true }))

@@ -2,10 +2,9 @@
 ghost use Rattle.std.specs.Prelude.{◌≡◌, ◌≢◌, ◌⊎◌, ◌↔◌, ◌≤◌, Bool, List, [], ℕ, length, Option, Some, None, true};
 ghost use Rattle.wb_io.specs.Sinks.{Took, TookPart};
 ghost use Rattle.y86_base.specs.declared.parts.Variant.{Variant};
-ghost use Rattle.y86_cli.specs.Agreement.{HasAccepted, HasAcceptedSeq, RanAccepted, ToldNo};
+ghost use Rattle.y86_cli.specs.Agreement.{HasAccepted, RanAccepted, ToldAccepted, ToldAcceptedSeq, ToldCertified, ToldCertifiedPart, ToldNo, WroteCertificate};
 ghost use Rattle.y86_cli.specs.Answers.{plan_in, yas_plan, yis_plan};
 ghost use Rattle.y86_cli.specs.Big.{ToldSame};
-ghost use Rattle.y86_cli.specs.Certified.{HasCertified};
 ghost use Rattle.y86_cli.specs.Does.{FilesSeen, SinkSeen};
 ghost use Rattle.y86_words.specs.Forms.{Command, big, certify_pipe, check_pipe, check_plus, check_seq, form_of, psim, recheck};
 ghost use Rattle.y86_cli.specs.declared.datapath.Datapath.TheVariants.{Plus, Seq};
@@ -44,26 +43,33 @@ pub fn law_of_plans()
 /// of `check seq` or of `check seqplus` ends with 0, the file has an accepted design, and on every image its machine is that
 /// of the run of instructions. Where a call of `check pipe` ends with 0, the file has an accepted design, and on every image whose
 /// instructions fetch no byte that one of the three before them stored its pipeline retires the instructions of that run, one after
-/// another, and stops as it does; with `--cert` too. Where a call of `recheck` ends with 0, the second file is a certificate
-/// of the first, and the pipeline of its design does the same. Where a call of `psim` with `--checked` ends with 0 or 1, the
+/// another, and stops as it does; with `--cert` too, and there a certificate of the design went to standard output, and
+/// without it the line of a Yes. Where a call of `recheck` ends with 0, the second file is a certificate of the first, the
+/// pipeline of its design does the same, and the line with the certificate's settings went out. With 4 it is so too, and
+/// a part of the line went out; `recheck` never ends with 1. Where a call of `psim` with `--checked` ends with 0 or 1, the
 /// text on standard output is a No; or it is a Yes of such a file, and what stands behind it agrees with the run of
 /// instructions: the trace, the registers, and where the pipeline stopped the whole report.
 pub fn law_of_accepted_files()
     ensures check_seq { (words : List (List ℕ)) (name : List ℕ) (v : Variant) (files_before files_after : FilesSeen) (out_before out_after err_before err_after : SinkSeen) →
         form_of words ≡ Some (check_seq name v) → Ran (form_of words) files_before files_after out_before out_after err_before err_after 0 →
-        HasAcceptedSeq Seq v (files_before.told name) }
+        ToldAcceptedSeq Seq v (files_before.told name) out_before out_after }
     ensures check_plus { (words : List (List ℕ)) (name : List ℕ) (v : Variant) (files_before files_after : FilesSeen) (out_before out_after err_before err_after : SinkSeen) →
         form_of words ≡ Some (check_plus name v) → Ran (form_of words) files_before files_after out_before out_after err_before err_after 0 →
-        HasAcceptedSeq Plus v (files_before.told name) }
+        ToldAcceptedSeq Plus v (files_before.told name) out_before out_after }
     ensures check_pipe { (words : List (List ℕ)) (name : List ℕ) (v : Variant) (files_before files_after : FilesSeen) (out_before out_after err_before err_after : SinkSeen) →
         form_of words ≡ Some (check_pipe name v) → Ran (form_of words) files_before files_after out_before out_after err_before err_after 0 →
-        HasAccepted v (files_before.told name) }
+        ToldAccepted v (files_before.told name) out_before out_after }
     ensures certify_pipe { (words : List (List ℕ)) (name : List ℕ) (v : Variant) (files_before files_after : FilesSeen) (out_before out_after err_before err_after : SinkSeen) →
         form_of words ≡ Some (certify_pipe name v) → Ran (form_of words) files_before files_after out_before out_after err_before err_after 0 →
-        HasAccepted v (files_before.told name) }
+        WroteCertificate v (files_before.told name) out_before out_after }
     ensures recheck { (words : List (List ℕ)) (name cert : List ℕ) (v : Variant) (files_before files_after : FilesSeen) (out_before out_after err_before err_after : SinkSeen) →
         form_of words ≡ Some (recheck name cert v) → Ran (form_of words) files_before files_after out_before out_after err_before err_after 0 →
-        HasCertified v (files_before.told name) (files_before.told cert) }
+        ToldCertified v (files_before.told name) (files_before.told cert) out_before out_after }
+    ensures recheck_part { (words : List (List ℕ)) (name cert : List ℕ) (v : Variant) (files_before files_after : FilesSeen) (out_before out_after err_before err_after : SinkSeen) →
+        form_of words ≡ Some (recheck name cert v) → Ran (form_of words) files_before files_after out_before out_after err_before err_after 4 →
+        ToldCertifiedPart v (files_before.told name) (files_before.told cert) out_before out_after }
+    ensures recheck_never_one { (words : List (List ℕ)) (name cert : List ℕ) (v : Variant) (files_before files_after : FilesSeen) (out_before out_after err_before err_after : SinkSeen) →
+        form_of words ≡ Some (recheck name cert v) → Ran (form_of words) files_before files_after out_before out_after err_before err_after 1 → ⊥ }
     ensures psim { (words : List (List ℕ)) (name object : List ℕ) (size limit : ℕ) (trace : Bool) (v : Variant) (files_before files_after : FilesSeen)
         (out_before out_after err_before err_after : SinkSeen) (status : ℕ) → form_of words ≡ Some (psim name object size limit trace true v) → status ≤ 1 →
         Ran (form_of words) files_before files_after out_before out_after err_before err_after status →
@@ -72,7 +78,7 @@ pub fn law_of_accepted_files()
 {}
 
 /// Of an accepted file, of the length that is read, `big` answers that both runs came to the same report, n + 1 steps and at most
-/// 5(n + 2) cycles, with status 0; but for a failed read, a failed write and want of memory.
+/// 5(n + 1) cycles, with status 0; but for a failed read, a failed write and want of memory.
 pub fn law_of_big()
     ensures { (words : List (List ℕ)) (n : ℕ) (name : List ℕ) (v : Variant) (files_before files_after : FilesSeen)
         (out_before out_after err_before err_after : SinkSeen) (status : ℕ) (text : List ℕ) → form_of words ≡ Some (big n name v) →

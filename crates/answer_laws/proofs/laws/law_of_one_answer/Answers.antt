@@ -1,4 +1,4 @@
-use Rattle.answer_laws.proofs.Commands.{aigrun_plan_one, big_plan_one, check_pipe_plan_one, check_seq_plan_one, hcl_plan_one, psim_plan_one, sample_plan_one, ssim_plan_one, yas_plan_one, yis_plan_one}
+use Rattle.answer_laws.proofs.Commands.{aig_plan_yes, aigrun_plan_one, big_plan_one, certify_plan_yes, check_pipe_plan_one, check_seq_plan_one, hcl_plan_one, no_command_one, psim_plan_one, sample_plan_one, ssim_plan_one, yas_plan_one, yis_plan_one}
 use Rattle.answer_laws.proofs.laws.law_of_one_answer.Goals as goal
 
 pub returns-clause-yas : goal.returns-clause-yas
@@ -27,6 +27,15 @@ returns-clause-big c = big_plan_one
 
 pub returns-clause-sample : goal.returns-clause-sample
 returns-clause-sample c = sample_plan_one
+
+pub returns-clause-certify_pipe : goal.returns-clause-certify_pipe
+returns-clause-certify_pipe c = certify_plan_yes
+
+pub returns-clause-aig : goal.returns-clause-aig
+returns-clause-aig c = aig_plan_yes
+
+pub returns-clause-no_command : goal.returns-clause-no_command
+returns-clause-no_command c = no_command_one
 
 pub returns-clause-aigrun : goal.returns-clause-aigrun
 returns-clause-aigrun c = aigrun_plan_one

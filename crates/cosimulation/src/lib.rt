@@ -1,0 +1,11 @@
+//! The run by instructions and the run of PIPE under a design, side by side: to the first retired record that differs, or to the end.
+#![tactic(auto)]
+
+mod laws;
+mod lockstep;
+mod records;
+mod states;
+
+pub use laws::law_of_agreement;
+pub use lockstep::{Compared, RecordDiffers, compare};
+pub use states::{Part, difference};

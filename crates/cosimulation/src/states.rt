@@ -1,0 +1,80 @@
+//! The first part in which two final states differ.
+ghost use Rattle.std.specs.Prelude.{◌≡◌, ◌≢◌, ◌↔◌, ◌<◌, ◌*◌, ◌/◌, IfNone, IfSome, length, true, ℕ};
+ghost use Rattle.cosimulation.specs.States.{DiffersIn, SameState};
+ghost use Rattle.y86_base.specs.Registers.{register};
+ghost use Rattle.yis_run.specs.Report.{aligned_word, ended};
+
+use y86_base::{Flags, Image, Regs, Stat};
+use yis_run::End;
+
+/// A part of the state, with what the one and the other state have there. A register goes by its number, and an aligned word of memory by
+/// its place: 8 times that is its address.
+#[derive(Clone, Copy, Debug, PartialEq, Eq)]
+pub enum Part {
+    Stat(Stat, Stat),
+    Pc(u64, u64),
+    Flags(Flags, Flags),
+    Register(u64, u64, u64),
+    Memory(u64, u64, u64),
+}
+
+/// The first register in which they differ.
+fn register_difference(one: &Regs, other: &Regs) -> Option<u64>
+    ensures none { IfNone result ((n : ℕ) → n < 15 → register one.now n ≡ register other.now n) }
+    ensures some { IfSome result (λ n. register one.now n ≢ register other.now n) }
+{
+    for n in 0..15 {
+        if one.get(n) != other.get(n) {
+            return Some(n);
+        }
+    }
+    None
+}
+
+/// The aligned word at a place of a memory, 0 outside.
+fn word_of(memory: &Image, n: u64) -> u64
+    requires { 8 * n < length memory.now }
+    ensures { result ≡ aligned_word memory.now n }
+{
+    let _size = memory.size();
+    memory.word(8 * n).unwrap_or(0)
+}
+
+/// The first aligned word in which they differ.
+fn memory_difference(one: &Image, other: &Image) -> Option<u64>
+    requires { length one.now ≡ length other.now }
+    ensures none { IfNone result ((n : ℕ) → n < length one.now / 8 → aligned_word one.now n ≡ aligned_word other.now n) }
+    ensures some { IfSome result (λ n. (n < length one.now / 8) × (aligned_word one.now n ≢ aligned_word other.now n)) }
+{
+    let words = one.size() / 8;
+    for n in 0..words {
+        if word_of(one, n) != word_of(other, n) {
+            return Some(n);
+        }
+    }
+    None
+}
+
+/// The first part in which two final states differ.
+pub fn difference(one: &End<'_>, other: &End<'_>) -> Option<Part>
+    requires { length one.now.mem.now ≡ length other.now.mem.now }
+    ensures none { IfNone result (SameState (ended one.now) (ended other.now)) }
+    ensures some { IfSome result (λ part. DiffersIn (ended one.now) (ended other.now) part) }
+{
+    if one.stat.number() != other.stat.number() {
+        return Some(Part::Stat(one.stat, other.stat));
+    }
+    if one.pc != other.pc {
+        return Some(Part::Pc(one.pc, other.pc));
+    }
+    if one.flags != other.flags {
+        return Some(Part::Flags(one.flags, other.flags));
+    }
+    if let Some(n) = register_difference(one.regs, other.regs) {
+        return Some(Part::Register(n, one.regs.get(n), other.regs.get(n)));
+    }
+    if let Some(n) = memory_difference(one.mem, other.mem) {
+        return Some(Part::Memory(n, word_of(one.mem, n), word_of(other.mem, n)));
+    }
+    None
+}
