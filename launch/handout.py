@@ -68,7 +68,10 @@ The {crates} crates that it stands on were proved on {date}{toolchain}, from {co
     {sums}
 """
 # What the README shows of a program besides.
-CALLS = {"y86-stages": "\n    ./y86-stages examples/designs/std.hcl examples/programs/load_use.yo --diagram"}
+CALLS = {
+    "y86-stages": "\n    ./y86-stages examples/designs/std.hcl examples/programs/load_use.yo --diagram",
+    "y86-tell": "\n    ./y86-tell check pipe examples/designs/stall_and_bubble.hcl",
+}
 
 
 def said_by(words, here):

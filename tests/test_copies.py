@@ -36,6 +36,10 @@ def test_std_of_y86_stages():
     same(meat(read("crates/y86_stages/data/std.hcl")), meat(read("examples/designs/std.hcl")))
 
 
+def test_std_of_y86_tell():
+    same(meat(read("crates/y86_tell/data/std.hcl")), meat(read("examples/designs/std.hcl")))
+
+
 def listed():
     return [int(byte) for byte in re.search(r"^call_bytes = (.*) ∷ \[\]$", PURITY, flags=re.M)[1].split(" ∷ ")]
 
