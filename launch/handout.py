@@ -14,12 +14,14 @@ FOLDERS = ("examples", "tools", "web")
 FILES = ("y86-lab",)
 # The pages of docs/, in the order to read them, and what each is for.
 PAGES = {
+    "BROWSER.md": "the workbench in a browser, `y86.html`: nothing to install",
     "TUTORIAL.md": "a slow pipeline becomes fast, in an evening",
     "ASSEMBLY.md": "how to write and run a Y86-64 program",
     "HCL.md": "how to write a processor: each signal, and what to do about each fault",
     "OBLIGATIONS.md": "what a `no` means, and what to do about it",
     "STAGES.md": "pipeline diagrams",
     "TELL.md": "answers in sentences",
+    "BROWSER.md": "the workbench in a browser, `y86.html`",
     "LAB.md": "tools for a student's evening and a teacher's class",
     "COMMANDS.md": "every command, its arguments and exit statuses",
     "THEOREM.md": "why a `yes` holds for every program",
@@ -66,7 +68,10 @@ The {crates} crates that it stands on were proved on {date}{toolchain}, from {co
     {sums}
 """
 # What the README shows of a program besides.
-CALLS = {"y86-stages": "\n    ./y86-stages examples/designs/std.hcl examples/programs/load_use.yo --diagram"}
+CALLS = {
+    "y86-stages": "\n    ./y86-stages examples/designs/std.hcl examples/programs/load_use.yo --diagram",
+    "y86-tell": "\n    ./y86-tell check pipe examples/designs/stall_and_bubble.hcl",
+}
 
 
 def said_by(words, here):

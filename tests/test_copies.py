@@ -1,4 +1,6 @@
 """The crates' copies of files of examples/: each is still its file's, comments and blanks aside."""
+import glob
+import os
 import re
 
 from helpers.cases import cases, same
@@ -32,8 +34,23 @@ def test_how_many_designs():
     same(len(COPIES), 8)
 
 
-def test_std_of_y86_stages():
-    same(meat(read("crates/y86_stages/data/std.hcl")), meat(read("examples/designs/std.hcl")))
+# The files that a stored run of a program reads, and the example of the same name.
+DATA = sorted(glob.glob("crates/*/data/*", root_dir=TOP))
+PAIRS = [(path, example) for path in DATA for example in glob.glob(f"examples/*/{os.path.basename(path)}", root_dir=TOP)]
+
+
+@cases(PAIRS)
+def test_file_of_a_stored_run(row):
+    copy, example = row
+    same(read(copy), read(example))
+
+
+def test_a_stored_run_reads_std():
+    assert ("crates/y86_stages/data/std.hcl", "examples/designs/std.hcl") in PAIRS
+
+
+def test_std_of_y86_tell():
+    same(meat(read("crates/y86_tell/data/std.hcl")), meat(read("examples/designs/std.hcl")))
 
 
 def listed():

@@ -1,7 +1,9 @@
 """The pages of `y86-lab page`, opened in a headless Chromium: they show what the programs print, at both widths, light and dark."""
 import os
 import re
+import shutil
 import subprocess
+from xml.etree import ElementTree
 
 import pytest
 
@@ -11,10 +13,14 @@ from helpers.paths import DESIGNS, PROGRAMS, TOP
 from helpers.programs import put
 
 pytestmark = pytest.mark.xdist_group("browser")
-BOXES = """[...document.querySelectorAll(".box")].map((it) => it.querySelector(".head b").textContent + " " + it.querySelector(".what").textContent
-    + (it.querySelector(".at") ? " " + it.querySelector(".at").textContent : ""))"""
+BOXES = """[...document.querySelectorAll("#stages tr")].map((it) => {
+    const [at] = it.querySelector("small").textContent.split(" ");
+    return it.cells[0].textContent + " " + it.querySelector(".what").textContent + (at.startsWith("0x") ? " at " + at : "");
+})"""
 TOLD = '[...document.querySelectorAll("#told li")].map((it) => it.textContent)'
-STATE = 'Object.fromEntries([...document.querySelectorAll(".state div")].map((it) => [it.firstChild.textContent, it.lastChild.textContent]))'
+# Registers and words by their titles, which have them whole, and flags.
+STATE = """Object.fromEntries([...document.querySelectorAll(".pairs div")].map((it) => it.title.split(" = ").slice(0, 2))
+    .concat([...document.querySelectorAll("#flags span")].map((it) => it.textContent.split(" "))))"""
 # The load/use hazard, by hand: CS:APP 3e, section 4.5.5 (figure 4.54).
 LOAD_USE = {
     3: ["F halt at 0x00c", "D addq %rax, %rax at 0x00a", "E mrmovq 16(%rdi), %rax at 0x000", "M bubble", "W bubble"],
@@ -23,8 +29,7 @@ LOAD_USE = {
 }
 WAITS = "Load/use: addq %rax, %rax waits in D for %rax, which mrmovq 16(%rdi), %rax in E has still to load. A bubble goes into E."
 # What D picks there, once the load is in M.
-FORWARDED = ["addq %rax, %rax gets %rax = 0x5 forwarded as d_valA from m_valM, of mrmovq 16(%rdi), %rax in M.",
-    "addq %rax, %rax gets %rax = 0x5 forwarded as d_valB from m_valM, of mrmovq 16(%rdi), %rax in M."]
+FORWARDED = ["addq %rax, %rax gets %rax = 0x5 forwarded as valA and valB from m_valM, of mrmovq 16(%rdi), %rax in M."]
 
 
 class Made:
@@ -87,7 +92,7 @@ def test_made(name, pages):
 @pytest.mark.parametrize("name", NAMES)
 def test_no_other_file_and_no_network(name, pages):
     with open(pages(name).path, encoding="utf-8") as it:
-        same(re.findall(r"https?:|src=|href=|@import|url\(", it.read()), [])
+        same(re.findall(r"https?:(?!//www\.w3\.org/2000/svg)|\bsrc=|\bhref=|@import|url\((?!#)", it.read()), [])
 
 
 @pytest.mark.parametrize("is_dark", (False, True), ids=("light", "dark"))
@@ -143,21 +148,21 @@ def test_a_button_moves(pages, browser):
 
 def test_a_click_on_the_diagram_moves(pages, browser):
     at_cycle(browser, pages, 3)
-    browser.value("document.querySelector('.cell[data-cycle=\"5\"]').click()")
+    browser.value("document.querySelector('.box[data-cycle=\"5\"]').click()")
     same(browser.value(BOXES), LOAD_USE[5])
 
 
-def test_the_arrow_keys_move_after_all_fields(pages, browser):
+def test_the_arrow_keys_move_after_a_button(pages, browser):
     at_cycle(browser, pages, 5)
-    browser.value("document.getElementById('all').focus(); document.getElementById('all').click()")
+    browser.value("document.getElementById('base').focus(); document.getElementById('base').click()")
     browser.press("ArrowLeft")
-    same(browser.value("document.getElementById('number').textContent"), "4")
+    same(browser.value("document.querySelector('#now b').textContent"), "4")
 
 
 def test_the_last_cycle_says_how_it_ends(pages, browser):
     at_cycle(browser, pages, 3)
     browser.press("End")
-    same(browser.value(TOLD)[-1], "The run ends with HLT.")
+    same(browser.value(TOLD)[-1], "halt in W has the status HLT, and stops the machine.")
 
 
 # ---- what is listed, and whole runs
@@ -165,12 +170,12 @@ def test_the_last_cycle_says_how_it_ends(pages, browser):
 def test_what_is_listed(pages, browser):
     """A row has the text of the object file at its address."""
     browser.open(pages("listed").path)
-    same(browser.value('[...document.querySelectorAll(".name")].map((it) => it.textContent)')[1:3], [f"0x000 nop{TEXT}", "0x001 halt"])
+    same(browser.value('[...document.querySelectorAll("#grid .name")].map((it) => it.textContent)')[:2], [f"0x000 {TEXT}", "0x001 halt"])
 
 
 def test_it_is_a_text(pages, browser):
     browser.open(pages("listed").path)
-    same(browser.value('document.querySelectorAll(".name b, .name script").length'), 0)
+    same(browser.value('document.querySelectorAll(".name b, .name script, h1 b").length'), 0)
 
 
 @pytest.mark.parametrize("width", (1280, 400))
@@ -178,7 +183,7 @@ def test_negative_words(width, pages, browser):
     """A word of 16 digits breaks no name of a register or an address."""
     browser.size(width, 900)
     browser.open(pages("sort under std").path, "#cycle=200")
-    broken = """[...document.querySelectorAll(".state div")].map((it) => it.firstChild)
+    broken = """[...document.querySelectorAll(".pairs div")].map((it) => it.firstChild)
         .filter((it) => it.offsetHeight > 30).map((it) => it.textContent)"""
     same(browser.value(broken), [])
 
@@ -225,12 +230,47 @@ def test_what_a_run_leaves(row, pages, browser, y86):
 
 # ---- the situation of a no
 
-def test_the_boxes_of_a_no(pages, browser):
+def test_the_stages_of_a_no(pages, browser):
     browser.open(pages("a no").path)
-    same(browser.value(BOXES), ["F halt", "D rrmovq", "E mrmovq", "M bubble", "W bubble"])
+    drawn = browser.value("document.querySelector('#no-path svg').getAttribute('aria-label')")
+    same(re.findall(r"\b([FDEMW]): (\w+)", drawn), [("F", "halt"), ("D", "rrmovq"), ("E", "mrmovq"), ("M", "bubble"), ("W", "bubble")])
 
 
 def test_the_title_and_the_words_of_a_no(pages, browser):
     browser.open(pages("a no").path)
-    same(browser.value("document.title + '; ' + document.querySelector('#motion li').textContent"),
+    same(browser.value("document.title + '; ' + document.querySelector('#panel-no .told .both').textContent"),
         "broken.hcl: no, O24 doesn't hold; The instruction in D doesn't go on to E and isn't kept in D: it is lost.")
+
+
+# ---- pictures
+
+def drawn(programs, folder, *words):
+    """A call of `y86-lab draw`, and the picture that it made."""
+    if not (shutil.which("node") or shutil.which("nodejs")):
+        pytest.skip("Node isn't here, so no picture was drawn")
+    environment = {**os.environ, "Y86": programs("y86"), "Y86_STAGES": programs("y86_stages")}
+    made = subprocess.run([f"{TOP}/y86-lab", "draw", *words, "-o", f"{folder}/it.svg"], env=environment, capture_output=True, text=True, check=False)
+    return made, ElementTree.parse(f"{folder}/it.svg").getroot() if made.returncode == 0 else None
+
+
+def texts_of(picture):
+    return [it.text for it in picture.iter("{http://www.w3.org/2000/svg}text")]
+
+
+def test_diagram(programs, folder):
+    """The rows and letters are those of the book's figure 4.54, and one word is forwarded."""
+    made, picture = drawn(programs, folder, *of("std", "load_use"))
+    same((made.returncode, made.stderr), (0, ""))
+    rows = "".join(it for it in texts_of(picture) if it in "FDEMW")
+    assert rows.startswith("FDEMW" + "FDDEMW" + "FFDEMW"), rows
+    same(len(picture.findall(".//{http://www.w3.org/2000/svg}path[@class='forward']")), 1)
+
+
+def test_datapath(programs, folder):
+    _, picture = drawn(programs, folder, *of("std", "load_use"), "--cycle", "4")
+    assert "m_valM 0x5 → %rax" in texts_of(picture)
+
+
+def test_no_such_cycle(programs, folder):
+    made, _ = drawn(programs, folder, *of("std", "load_use"), "--cycle", "40")
+    same(made.returncode != 0 and made.stderr.strip().endswith("the run has 8 cycles"), True)

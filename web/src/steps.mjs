@@ -7,6 +7,7 @@ import { address } from "./run.mjs";
 import { on, state, tell } from "./state.mjs";
 
 const MOST = 2000;
+const HEADS = ["#", "address", "instruction", "changes", "ZF SF OF", "status"].map((it) => `<th scope="col">${it}</th>`).join("");
 
 const changes = (it) => it.changes.map(({ name, word }) => `<code>${escaped(name)}</code> = <code>${escaped(word)}</code>`).join(", ");
 
@@ -41,7 +42,8 @@ function show() {
   const rows = Array.from({ length: Math.min(count, MOST) }, (_, at) => rowHTML(steps[at], path === "pipe" ? records[at] : steps[at], at + 1, first));
   const said = first ? `The processor’s run differs first at instruction ${first}.` : path === "pipe" ? "The processor’s run is the same." : "";
   const cut = count > MOST ? ` The first ${MOST} of ${count} are listed.` : "";
-  panel.innerHTML = `<div class="card scroll"><p>What each instruction does, one after another. ${said}${cut}</p><table class="list"><thead><tr><th scope="col">#</th><th scope="col">address</th><th scope="col">instruction</th><th scope="col">changes</th><th scope="col">ZF SF OF</th><th scope="col">status</th></tr></thead><tbody>${rows.join("")}</tbody></table></div>`;
+  const intro = `What each instruction does, one after another. ${said}${cut}`;
+  panel.innerHTML = `<div class="card scroll"><p>${intro}</p><table class="list"><thead><tr>${HEADS}</tr></thead><tbody>${rows.join("")}</tbody></table></div>`;
   panel.querySelector(".wrong")?.scrollIntoView({ block: "center" });
 }
 

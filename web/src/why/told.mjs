@@ -4,7 +4,7 @@ import { boxOf, comparison, instructionOf } from "./boxes.mjs";
 import { definitionOf } from "./places.mjs";
 import { actOf, sceneOf } from "./scene.mjs";
 
-const STAGES = [..."FDEMW"];
+const STAGES = [..."FDEMW"], SIGNS = { "<": "lt", "==": "eq" }, WRONG = "wrong path";
 
 /** A value of the JSON as HCL writes it. */
 function shown(value) {
@@ -48,7 +48,7 @@ function motionOf(motion, isStillLoaded) {
   if (!motion) return [];
   const said = motion.faults.map((text) => ({ text }));
   if (said.length) said.unshift({ text: nextInWords(motion), isStep: true });
-  const repairs = [...motion.invert.map((it) => `inverting ${it}`), ...(motion.f_pc ?? []).map((it) => `f_pc as ${shown(it)}`)];
+  const repairs = [...motion.invert.map((it) => `inverting ${it}`), ...motion.f_pc.map((it) => `f_pc as ${it}`)];
   if (repairs.length) said.push({ text: `A repair in this situation: ${repairs.join(", or ")}.`, isStep: true });
   if (isStillLoaded) said.push({ text: "The instruction in E still has to load that register, so no choice is right: the instruction in D has to wait, and it goes on to E." });
   return said;
@@ -68,9 +68,10 @@ export function refusalOf(text, refuted, path) {
   const signals = refuted.signals.filter((it) => !it.right || refuted.signals.every((other) => other.right)).map((it) => signalOf(text, it));
   for (const it of motion?.invert ?? []) signals.push(repairOf(text, it, motion));
   if (isStillLoaded) for (const it of ["D_stall", "E_bubble"]) if (motion && !motion[it[0]][it.slice(2)]) signals.push(repairOf(text, it, motion));
-  const moves = motionOf(motion, isStillLoaded), { comparisons, ...stages } = counterexample;
+  const moves = motionOf(motion, isStillLoaded), { comparisons, ...lines } = counterexample;
+  const stages = Object.fromEntries(Object.entries(lines).map(([stage, it]) => [stage, it.kind === WRONG ? { ...it, kind: "wrong" } : it]));
   const told = {
-    rule, path, signals, motion: moves, where: (comparisons ?? []).map((it) => comparison(it.sign, it.left, it.right, it.holds)), brief: briefOf(rule, signals, moves, isStillLoaded), says: obligation,
+    rule, path, signals, motion: moves, where: comparisons.map((it) => comparison(SIGNS[it.sign], it.left, it.right, it.holds)), brief: briefOf(rule, signals, moves, isStillLoaded), says: obligation,
     boxes: Object.fromEntries(Object.entries(stages).map(([stage, it]) => [stage, boxOf(it, stage)])),
     stages: Object.fromEntries(Object.entries(stages).map(([stage, it]) => [stage, instructionOf(it, stage)])),
   };

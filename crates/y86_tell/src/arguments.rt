@@ -1,0 +1,156 @@
+//! The arguments of a call.
+use clap::{Arg, ArgAction, Command, Error};
+use explanations::Path;
+use std::alloc::{AllocError, Global};
+use y86_base::Variant;
+
+/// What a call asks for.
+#[derive(Clone, Copy, Debug)]
+pub enum Call<'a> {
+    /// Explain the verdict on an HCL file.
+    Check {
+        path: Path,
+        hcl: &'a str,
+        variant: Variant,
+        json: bool,
+    },
+    /// Say whether the theorem covers the program of an object file.
+    Program {
+        obj: &'a str,
+        variant: Variant,
+        mem: u64,
+        limit: u64,
+    },
+    /// Explain a word.
+    Show {
+        word: &'a str,
+    },
+}
+
+/// The words for the datapaths.
+static PATHS: [&str; 3] = ["seq", "seqplus", "pipe"];
+
+/// The option `--full`.
+fn full<'a>(alloc: Global) -> Arg<'a> {
+    Arg::new(alloc, "full")
+        .long("full")
+        .action(ArgAction::SetTrue)
+        .help("With the instruction iaddq")
+}
+
+/// The option `--json`.
+fn json<'a>(alloc: Global) -> Arg<'a> {
+    Arg::new(alloc, "json")
+        .long("json")
+        .action(ArgAction::SetTrue)
+        .help("The same facts as JSON")
+}
+
+/// The command `check`.
+fn check_command<'a>(alloc: Global) -> Result<Command<'a>, AllocError> {
+    let path = Arg::new(alloc, "path")
+        .required(true)
+        .action(ArgAction::Set)
+        .value_parser(PATHS.as_slice())
+        .help("The processor that the file is for");
+    let hcl = Arg::new(alloc, "hcl")
+        .required(true)
+        .action(ArgAction::Set)
+        .help("The HCL file");
+    Command::new(alloc, "check")
+        .about("Explain the verdict on an HCL file")
+        .arg(path)?
+        .arg(hcl)?
+        .arg(full(alloc))?
+        .arg(json(alloc))
+}
+
+/// The command `program`.
+fn program_command<'a>(alloc: Global) -> Result<Command<'a>, AllocError> {
+    let obj = Arg::new(alloc, "obj")
+        .required(true)
+        .action(ArgAction::Set)
+        .help("The object file");
+    let mem = Arg::new(alloc, "mem")
+        .long("mem")
+        .action(ArgAction::Set)
+        .value_parser(clap::value_parser!(u64).range(64..=1_048_576))
+        .default_value("8192")
+        .help("The bytes of memory, a multiple of 8");
+    let limit = Arg::new(alloc, "limit")
+        .long("limit")
+        .action(ArgAction::Set)
+        .value_parser(clap::value_parser!(u64).range(1..=100_000_000))
+        .default_value("10000")
+        .help("The most instructions");
+    Command::new(alloc, "program")
+        .about(
+            "Say whether the theorem covers a program: whether it fetches no byte that it has just stored",
+        )
+        .arg(obj)?
+        .arg(full(alloc))?
+        .arg(mem)?
+        .arg(limit)
+}
+
+/// The command `show`.
+fn show_command<'a>(alloc: Global) -> Result<Command<'a>, AllocError> {
+    let word = Arg::new(alloc, "word")
+        .required(true)
+        .action(ArgAction::Set)
+        .help("An obligation, a signal or an instruction: O10, d_valA, popq");
+    Command::new(alloc, "show")
+        .about("Explain an obligation, a signal or an instruction")
+        .arg(word)
+}
+
+/// The program's commands.
+fn command<'a>(alloc: Global) -> Result<Command<'a>, AllocError> {
+    Command::new(alloc, "y86-tell")
+        .bin_name("y86-tell")?
+        .about("Explain what y86 answers, in sentences")
+        .subcommand_required(true)
+        .subcommand(check_command(alloc)?)?
+        .subcommand(program_command(alloc)?)?
+        .subcommand(show_command(alloc)?)
+}
+
+/// The datapath with this name.
+fn path_of(name: &str) -> Path {
+    match name {
+        "seq" => Path::Seq,
+        "seqplus" => Path::SeqPlus,
+        _ => Path::Pipe,
+    }
+}
+
+/// The instruction set, by the option `--full`.
+fn variant_of(full: bool) -> Variant {
+    if full { Variant::Full } else { Variant::Base }
+}
+
+/// Reads the arguments, the program's own name first. `None` where they name no command.
+pub fn call_of<'a>(alloc: Global, words: &'a [String]) -> Result<Option<Call<'a>>, Error> {
+    let matches = command(alloc)?.try_get_matches_from(words)?;
+    let Some((name, own)) = matches.subcommand() else {
+        return Ok(None);
+    };
+    Ok(match name {
+        "check" => Some(Call::Check {
+            path: path_of(own.get_str("path").unwrap_or("pipe")),
+            hcl: own.get_str("hcl").unwrap_or(""),
+            variant: variant_of(own.get_flag("full")),
+            json: own.get_flag("json"),
+        }),
+        "program" => Some(Call::Program {
+            obj: own.get_str("obj").unwrap_or(""),
+            variant: variant_of(own.get_flag("full")),
+            mem: own.get_one::<u64>("mem").unwrap_or(8192),
+            limit: own.get_one::<u64>("limit").unwrap_or(10_000),
+        }),
+        "show" => Some(Call::Show {
+            word: own.get_str("word").unwrap_or(""),
+        }),
+        _ => None,
+    })
+}

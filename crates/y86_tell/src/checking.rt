@@ -1,0 +1,173 @@
+//! `check pipe`: the verdict on an HCL file, explained.
+ghost use Rattle.std.specs.Prelude.{◌≡◌, ◌↔◌, IfOk, true};
+ghost use Rattle.y86_tell.specs.Explained.{Answers, IsOrdered};
+ghost use Rattle.pipe_refusals.specs.Answered.{is_yes};
+
+use crate::cases::case_places;
+use crate::designs::{NoDesign, Ordered, pipe_design};
+use crate::faults::fault_text;
+use crate::stop::{Stop, unread};
+use control_check::CheckFault;
+use ctl_atoms::CtlFault;
+use json::Writer;
+use pipe_diagnosis::Refusal;
+use pipe_motion::Settings;
+use pipe_refusals::{Answer, diagnose_pipe};
+use refusal_text::{
+    CasePlace, name_of, put_refusal, put_refusal_json, put_settings, put_settings_json,
+};
+use std::alloc::{AllocError, Global};
+use wb_io::Files;
+use y86_base::Variant;
+
+/// The most bytes that an HCL file has.
+const HCL_LIMIT: u64 = 65_536;
+
+/// What is printed, and the status.
+#[derive(Drop)]
+pub struct Said {
+    pub status: u8,
+    pub text: Vec<u8>,
+}
+
+/// The verdict on a design, and the diagnosis of a refusal.
+pub fn answer_design(
+    alloc: Global,
+    variant: Variant,
+    ordered: &Ordered,
+) -> Result<Answer, CheckFault>
+    requires { IsOrdered ordered.now }
+    ensures { IfOk result (Answers variant ordered.now.design.terms) }
+{
+    diagnose_pipe(alloc, variant, &ordered.design, &ordered.order)
+}
+
+/// The stop at a design without control values.
+fn control_stop(
+    alloc: Global,
+    file: &str,
+    ordered: &Ordered,
+    fault: CtlFault,
+) -> Result<Stop, AllocError> {
+    let mut out = String::from_str(alloc, file)?;
+    match fault {
+        CtlFault::Mixed(id) => {
+            let name = name_of(ordered.table.rows.items(), id);
+            write!(
+                out,
+                ": {name} joins a code with a word of the datapath, and the check has no meaning for that.\n"
+            )?;
+        }
+        CtlFault::AtomsOver64 => out.push_str(
+            ": the definitions compare more than 64 different pairs of words, too many for the check.\n",
+        )?,
+        CtlFault::Memory => return Ok(Stop::Memory),
+    }
+    Ok(Stop::Fault(out))
+}
+
+/// The text of a JSON writer, with a line end.
+fn json_text(out: Writer<Global>) -> Result<Vec<u8>, AllocError> {
+    let mut text = out.into_inner();
+    text.push(b'\n')?;
+    Ok(text)
+}
+
+/// What is printed of a yes.
+fn yes_text(alloc: Global, settings: &Settings, json: bool) -> Result<Vec<u8>, AllocError> {
+    if json {
+        let mut out = Writer::new(Vec::new(alloc));
+        out.begin_object()?;
+        out.key("verdict")?;
+        out.string("yes")?;
+        out.key("settings")?;
+        put_settings_json(&mut out, settings)?;
+        out.end_object()?;
+        return json_text(out);
+    }
+    let mut out = String::new(alloc);
+    put_settings(&mut out, settings)?;
+    Ok(out.into_bytes())
+}
+
+/// What is printed of a no.
+fn no_text(
+    alloc: Global,
+    cases: &[CasePlace<'_>],
+    variant: Variant,
+    ordered: &Ordered,
+    refusal: &Refusal,
+    json: bool,
+) -> Result<Vec<u8>, AllocError> {
+    let rows = ordered.table.rows.items();
+    let terms = ordered.design.terms.items();
+    if json {
+        let mut out = Writer::new(Vec::new(alloc));
+        put_refusal_json(alloc, &mut out, variant, rows, terms, cases, refusal)?;
+        return json_text(out);
+    }
+    let mut out = String::new(alloc);
+    put_refusal(alloc, &mut out, variant, rows, terms, cases, refusal)?;
+    Ok(out.into_bytes())
+}
+
+/// What is printed of an answer.
+fn answer_text(
+    alloc: Global,
+    cases: &[CasePlace<'_>],
+    variant: Variant,
+    ordered: &Ordered,
+    answer: &Answer,
+    json: bool,
+) -> Result<Said, AllocError>
+    ensures { IfOk result (λ said. (said.status ≡ 0) ↔ (is_yes answer.now ≡ true)) }
+{
+    match answer {
+        Answer::Yes(settings) => Ok(Said {
+            status: 0,
+            text: yes_text(alloc, settings, json)?,
+        }),
+        Answer::No(refusal) => Ok(Said {
+            status: 1,
+            text: no_text(alloc, cases, variant, ordered, refusal, json)?,
+        }),
+    }
+}
+
+/// Explains the verdict on an HCL file for PIPE.
+pub fn check_pipe<F: Files>(
+    alloc: Global,
+    file: &str,
+    variant: Variant,
+    json: bool,
+    files: &mut F,
+) -> Result<Said, Stop> {
+    let source = match files.read(alloc, file, HCL_LIMIT) {
+        Ok(source) => source,
+        Err(error) => return Err(unread(error)),
+    };
+    let ordered = match pipe_design(alloc, source.as_slice()) {
+        Ok(ordered) => ordered,
+        Err(fault) => return Err(fault_stop(alloc, file, &fault)),
+    };
+    let cases = case_places(alloc, source.as_slice())?;
+    let answer = match answer_design(alloc, variant, &ordered) {
+        Ok(answer) => answer,
+        Err(CheckFault::Ctl(fault)) => {
+            return Err(control_stop(alloc, file, &ordered, fault)?);
+        }
+        Err(CheckFault::Memory) => return Err(Stop::Memory),
+    };
+    Ok(answer_text(alloc, cases.as_slice(), variant, &ordered, &answer, json)?)
+}
+
+/// The stop at a text without a design.
+fn fault_stop(alloc: Global, file: &str, fault: &NoDesign) -> Stop {
+    let Ok(table) = dp_signals::pipe_table(alloc) else {
+        return Stop::Memory;
+    };
+    match fault_text(alloc, file, table.rows.items(), fault) {
+        Ok(text) => Stop::Fault(text),
+        Err(_) => Stop::Memory,
+    }
+}

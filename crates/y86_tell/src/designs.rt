@@ -1,0 +1,69 @@
+//! The design of an HCL text for PIPE, or why there is none.
+ghost use Rattle.std.specs.Prelude.{IfOk};
+ghost use Rattle.y86_tell.specs.Explained.{HasDesign, IsOrdered};
+
+use dp_signals::{law_of_tables, pipe_table};
+use hcl_order::{OrderFault, order};
+use hcl_read::{HclFault, HclWhy, read};
+use hcl_types::{BindFault, BindWhy, Design, Order, Table, bind};
+use std::alloc::Global;
+use y86_base::Items;
+
+/// PIPE's table, a design over it, and an order of the design's signals.
+#[derive(Drop)]
+pub struct Ordered {
+    pub table: Table,
+    pub design: Design,
+    pub order: Order,
+}
+
+/// Why a text has no design.
+#[derive(Drop)]
+pub enum NoDesign {
+    /// It can't be read.
+    Unread(HclFault),
+    /// Its definitions don't fit the table.
+    Unbound(BindFault),
+    /// Its definitions depend on each other in a cycle.
+    Cycle(Items<u32>),
+    /// Out of memory.
+    Memory,
+}
+
+/// The design of an HCL text for PIPE.
+pub fn pipe_design(alloc: Global, source: &[u8]) -> Result<Ordered, NoDesign>
+    ensures design { IfOk result (λ ordered. HasDesign source.now ordered.design.terms) }
+    ensures ordered { IfOk result IsOrdered }
+{
+    law_of_tables();
+    let Ok(table) = pipe_table(alloc) else {
+        return Err(NoDesign::Memory);
+    };
+    let file = match read(alloc, source) {
+        Ok(file) => file,
+        Err(fault) => {
+            return Err(match fault.why {
+                HclWhy::Memory => NoDesign::Memory,
+                _ => NoDesign::Unread(fault),
+            });
+        }
+    };
+    let design = match bind(alloc, &file, &table) {
+        Ok(design) => design,
+        Err(fault) => {
+            return Err(match fault.why {
+                BindWhy::Memory => NoDesign::Memory,
+                _ => NoDesign::Unbound(fault),
+            });
+        }
+    };
+    match order(alloc, &design, &table) {
+        Ok(order) => Ok(Ordered {
+            table,
+            design,
+            order,
+        }),
+        Err(OrderFault::Cycle(ids)) => Err(NoDesign::Cycle(ids)),
+        Err(OrderFault::Memory) => Err(NoDesign::Memory),
+    }
+}

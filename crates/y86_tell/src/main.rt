@@ -1,0 +1,123 @@
+//! The program: explains what `y86` answers in sentences, or as JSON.
+#![tactic(auto)]
+
+mod arguments;
+mod cases;
+mod checking;
+mod designs;
+mod faults;
+mod programs;
+mod showing;
+mod stop;
+
+use crate::arguments::{Call, call_of};
+use crate::checking::{Said, check_pipe};
+use crate::programs::{is_size, report_program};
+use crate::showing::show;
+use crate::stop::Stop;
+use explanations::Path;
+use std::alloc::Global;
+use std::process::ExitCode;
+use std::{env, io};
+use wb_io::{Files, HostFiles, HostSink, Sink, put_all};
+
+/// Writes what was said, and gives the status.
+fn say<O: Sink>(said: Said, out: &mut O) -> Result<u8, Stop> {
+    match put_all(out, said.text.as_slice()) {
+        Ok(()) => Ok(said.status),
+        Err(_) => Err(Stop::Write),
+    }
+}
+
+/// Does what a call asks for, and gives the status.
+fn answer<F: Files, O: Sink>(
+    alloc: Global,
+    call: Call<'_>,
+    files: &mut F,
+    out: &mut O,
+) -> Result<u8, Stop> {
+    match call {
+        Call::Check {
+            path,
+            hcl,
+            variant,
+            json,
+        } => match path {
+            Path::Pipe => say(check_pipe(alloc, hcl, variant, json, files)?, out),
+            _ => Err(Stop::Usage("check seq and check seqplus aren't explained yet: ask y86\n")),
+        },
+        Call::Program {
+            obj,
+            variant,
+            mem,
+            limit,
+        } => {
+            if is_size(mem) {
+                report_program(alloc, obj, variant, mem, limit, files, out)
+            } else {
+                Err(Stop::Usage("the bytes of memory have to be a multiple of 8\n"))
+            }
+        }
+        Call::Show { word } => say(show(alloc, word)?, out),
+    }
+}
+
+/// Writes a stop on standard error, and gives its status.
+fn tell_stop<E: Sink>(stop: &Stop, err: &mut E) -> u8 {
+    let text = match stop {
+        Stop::Usage(text) => *text,
+        Stop::Read => "the file can't be read\n",
+        Stop::Write => "",
+        Stop::Fault(text) => text.as_str(),
+        Stop::TooLong =>
+            "the file is too long: over 65,536 bytes for HCL, over 1,048,576 for an object file\n",
+        Stop::Memory => "out of memory\n",
+    };
+    let _ = put_all(err, text.as_bytes());
+    stop.status()
+}
+
+/// Does what a call asks for, and gives the status that the program ends with.
+fn respond<F: Files, O: Sink, E: Sink>(
+    alloc: Global,
+    call: Call<'_>,
+    files: &mut F,
+    out: &mut O,
+    err: &mut E,
+) -> u8 {
+    match answer(alloc, call, files, out) {
+        Ok(status) => status,
+        Err(stop) => tell_stop(&stop, err),
+    }
+}
+
+/// The status of a call that names no command.
+fn misuse<R: Print + Eprint>(rt: &R, error: &clap::Error) -> u8 {
+    let _ = error.print(rt);
+    match error.exit_code() {
+        0 => 0,
+        _ => 2,
+    }
+}
+
+fn main(rt: HostRuntime) -> ExitCode {
+    let alloc = rt.alloc();
+    let words: Vec<String> = match env::args(&rt) {
+        Ok(args) => match args.collect(alloc) {
+            Ok(words) => words,
+            Err(_) => return ExitCode::from(6),
+        },
+        Err(_) => return ExitCode::from(2),
+    };
+    let status = match call_of(alloc, words.as_slice()) {
+        Ok(Some(call)) => {
+            let mut files = HostFiles::new(&rt);
+            let mut out = HostSink::new(io::writer(&rt));
+            let mut err = HostSink::new(rt.stderr());
+            respond(alloc, call, &mut files, &mut out, &mut err)
+        }
+        Ok(None) => 2,
+        Err(error) => misuse(&rt, &error),
+    };
+    ExitCode::from(status)
+}

@@ -1,0 +1,62 @@
+//! `program`: whether the theorem on accepted HCL files covers a program.
+ghost use Rattle.std.specs.Prelude.{◌≡◌, true};
+ghost use Rattle.y86_base.specs.Image.{IsSize};
+
+use crate::stop::{Stop, unread};
+use program_report::{put_watched, watch_object, watched_status};
+use std::alloc::{AllocError, Global};
+use wb_io::{Files, Sink};
+use y86_base::Variant;
+use yo_object::{YoFault, YoWhy};
+
+/// The most bytes that an object file has.
+const OBJECT_LIMIT: u64 = 1_048_576;
+
+/// Whether a memory may have this size: a multiple of 8 from 64 to 1,048,576.
+pub fn is_size(size: u64) -> bool
+    ensures { result ≡ true → IsSize size }
+{
+    size >= 64 && size <= 1_048_576 && size % 8 == 0
+}
+
+/// The stop at an object text with a fault.
+fn object_stop(alloc: Global, file: &str, fault: &YoFault) -> Result<Stop, AllocError> {
+    if fault.why == YoWhy::Memory {
+        return Ok(Stop::Memory);
+    }
+    let line = fault.line;
+    let why = match fault.why {
+        YoWhy::Syntax => "this is no line of an object file",
+        YoWhy::OddDigits => "an odd number of hexadecimal digits",
+        YoWhy::OutsideMemory => "these bytes are outside the memory",
+        YoWhy::AddressTooWide => "the address has too many digits",
+        YoWhy::Memory => "out of memory",
+    };
+    Ok(Stop::Fault(format!(in alloc; "{file}:{line}: {why}.\n")?))
+}
+
+/// Says whether the theorem covers the program of an object file.
+pub fn report_program<F: Files, O: Sink>(
+    alloc: Global,
+    file: &str,
+    variant: Variant,
+    size: u64,
+    limit: u64,
+    files: &mut F,
+    out: &mut O,
+) -> Result<u8, Stop>
+    requires { IsSize size }
+{
+    let text = match files.read(alloc, file, OBJECT_LIMIT) {
+        Ok(text) => text,
+        Err(error) => return Err(unread(error)),
+    };
+    let watched = match watch_object(alloc, variant, text.as_slice(), size, limit) {
+        Ok(watched) => watched,
+        Err(fault) => return Err(object_stop(alloc, file, &fault)?),
+    };
+    match put_watched(watched, out) {
+        Ok(()) => Ok(watched_status(watched)),
+        Err(_) => Err(Stop::Write),
+    }
+}
