@@ -96,17 +96,17 @@ module _ (name cert : List ℕ) (v : Variant) (text bytes : List ℕ) (w : Writt
 
     -- the answers to a certificate of the design
     outcome : Rechecks cert v w.terms bytes a → KeptCertificate v text cert out_before out_after err_before err_after status
-    outcome (inl yes) =
+    outcome (inl accepts) =
         kept out_before out_after err_before err_after status
         (inl (
-          shows.status_is four ∙ ap (λ (x : Answered). x.status) yes.told,
+          shows.status_is four ∙ ap (λ (x : Answered). x.status) accepts.told,
           subst (λ (line : List ℕ). Took out_before.taken out_after.taken line)
-              (ap (λ (x : Answered). x.out) yes.told
-              ∙ ap holds ((certificates_kept v w.terms order.0 w.settings bytes order.1 w.certificate).0 yes.settings yes.certificate))
+              (ap (λ (x : Answered). x.out) accepts.told
+              ∙ ap holds ((certificates_kept v w.terms order.0 w.settings bytes order.1 w.certificate).0 accepts.settings accepts.certificate))
               (shows.out four),
         ))
     outcome (inr (inl head)) = by_gates head.fault (inl head.head) head.told
-    outcome (inr (inr no)) = by_gates no.fault (inr no.has) no.told
+    outcome (inr (inr refuses)) = by_gates refuses.fault (inr refuses.has) refuses.told
 
   kept_by : (a : Answered) (out_before out_after err_before err_after : SinkSeen) (status : ℕ) → Allows (recheck_plan name cert v) (Some text ∷ Some bytes ∷ []) a →
       Shows a out_before out_after err_before err_after status → status ≢ 4 → KeptCertificate v text cert out_before out_after err_before err_after status

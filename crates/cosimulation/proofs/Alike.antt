@@ -59,8 +59,8 @@ records_more v m steps (suc zero) few =
     let here : Machine = run_from v m steps in
     records_from-last v m steps
     ∙ ap (λ xs. records_from v m steps ++ xs)
-      (sym (records_from-last v (run_from v m steps) 0 ∙ (ap (λ xs. xs ++ option_to_list (retired v (run_from v (run_from v m steps) 0))) (records_from-none v (run_from v m steps))
-      ∙ ap (λ x. option_to_list (retired v x)) (run_from-none v (run_from v m steps)))))
+    (sym (records_from-last v (run_from v m steps) 0 ∙ (ap (λ xs. xs ++ option_to_list (retired v (run_from v (run_from v m steps) 0))) (records_from-none v (run_from v m steps))
+    ∙ ap (λ x. option_to_list (retired v x)) (run_from-none v (run_from v m steps)))))
 records_more v m steps (suc (suc count)) few = absurd (omega (arith, few))
 
 machine_more : (v : Variant) (m : Machine) (steps count : ℕ) → count ≤ 1 → run_from v m (steps + count) ≡ run_from v (run_from v m steps) count

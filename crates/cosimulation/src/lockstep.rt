@@ -86,12 +86,7 @@ fn ended<C: SignalEval>(m: &Machine, p: &Pipe<C>, steps: u64, cycles: u64) -> Co
 }
 
 /// Runs both machines for at most `limit` cycles.
-fn run_both<C: SignalEval>(
-    v: Variant,
-    m: &mut Machine,
-    p: &mut Pipe<C>,
-    limit: u64,
-) -> Compared
+fn run_both<C: SignalEval>(v: Variant, m: &mut Machine, p: &mut Pipe<C>, limit: u64) -> Compared
     requires { p.old.cycles + limit < 2 ^ 63 }
     ensures { IsCompared v p.old m.old limit result }
 {
