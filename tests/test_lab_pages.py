@@ -239,7 +239,7 @@ def test_the_stages_of_a_no(pages, browser):
 def test_the_title_and_the_words_of_a_no(pages, browser):
     browser.open(pages("a no").path)
     same(browser.value("document.title + '; ' + document.querySelector('#panel-no .told .both').textContent"),
-        "broken.hcl: no, O24 doesn't hold; The instruction in D doesn't go on to E and isn't kept in D: it is lost.")
+        "broken.hcl: no, O24 doesn't hold; The instruction in D doesn't go on to E, and D doesn't keep it: it is lost.")
 
 
 # ---- pictures
