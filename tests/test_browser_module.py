@@ -1,8 +1,11 @@
 """The programs compile for the browser by the toolchain alone, and a module of another shape is refused."""
 import pytest
 
+from handout import solutions
 from helpers.browser_build import kit, programs
 from helpers.cases import cases, same
+from helpers.designs import design
+from helpers.paths import TOP
 from wasm import compiling, rewriting
 
 # Lines that stay as they are.
@@ -166,3 +169,25 @@ def test_no_program(row, folder):
     with pytest.raises(compiling.NotCompiled) as refused:
         compiling.compiled(kit().tools, it.name, f"{folder}/made.wasm")
     assert why in str(refused.value)
+
+
+def offered(without):
+    from choices import examples
+
+    return {it["name"]: it["text"] for groups in examples(TOP, without).values() for _, group in groups for it in group}
+
+
+def test_examples():
+    """All designs, programs and steps of the tutorial are offered; each step is the pipeline with the definitions of its file."""
+    found = offered(frozenset())
+    assert {"std.hcl", "seq.hcl", "tutorial 0", "tutorial 11", "asum.ys", "ncopy_tree.ys", "mistake: memory before execute"} <= set(found)
+    same(found["tutorial 0"].count("e_valE"), design("no_bypassing").count("e_valE"))
+    assert "d_srcA == e_dstE : e_valE" in found["tutorial 1"]
+
+
+def test_without_solutions():
+    left_out = frozenset(solutions(TOP))
+    assert left_out
+    found = offered(left_out)
+    same([it for it in found if it.startswith("tutorial") or f"examples/designs/{it}" in left_out or f"examples/copy/{it}" in left_out], [])
+    assert "std.hcl" in found

@@ -184,7 +184,11 @@ def test_refused(row, at):
 def test_why_no(at):
     at.choose("hcls", "mistake: memory before execute")
     same(at.do("[every('#no-path .wire.bad').length, every('#no-path .wire.want').length]"), [1, 1])
-    said(at, "panel-no", "Where a good instruction leaves D", "is taken", "would be right, too late", "not a cycle of your program")
+    said(at, "panel-no", "e_valE is wanted", "is taken", "It reads D_icode = IRRMOVQ, d_srcA = %rax", "not a cycle of your program")
+    same(at.do("every('#panel-no [data-rule]').map((it) => [it.textContent, it.ariaPressed])"), [["O10", "true"], ["O11", "false"]])
+    at.click("#panel-no [data-rule=O11]")
+    said(at, "verdict", "no: O11", "d_valB picks M_valE; e_valE is wanted", "Refuted too: O10")
+    at.click("#panel-no [data-rule=O10]")
     same(at.do("every('#hcl .gutter .case').map((it) => it.textContent)"), ["50"])
     at.click("#goto")
     assert at.do("document.activeElement === one('#hcl textarea')")
@@ -331,11 +335,24 @@ def test_other_ends(at):
     said(at, "outcome", "PIP")
 
 
+def test_which_to_mend_first(at):
+    """Of several obligations that are refuted, the one whose signal the others go by."""
+    at.choose("hcls", "mistake: a bad address changes nothing")
+    said(at, "verdict", "no: O20", "m_stat is SAOK; SADR is wanted", "Refuted too: O15, O25")
+
+
 def test_sequential(at):
+    """SEQ and SEQ+ by cycles: an instruction each."""
+    at.choose("yss", "call.ys")
     for name, path in (("seq.hcl", "SEQ"), ("seq_plus.hcl", "SEQ+")):
         at.choose("hcls", name)
         said(at, "verdict", f"{path}: right for every program")
         said(at, "outcome", "comes out right")
+        same(at.do("[workbench.run.cycles.length, every('#path svg.seq').length]"), [4, 1])
+        at.do("document.activeElement.blur(), el('first').click()")
+        at.key("ArrowRight")
+        said(at, "told", "call 0x014", "%rsp becomes 0xf8", "the word at 0x0f8 becomes 0x13")
+        same(at.do("every('#registers .comes').map((it) => it.textContent)"), ["%rsp0x100"])
     at.write("hcl", example("seq").replace("1 : valP;", "1 : valC;"))
     said(at, "verdict", "no: S16", "new_pc picks valC; valP is wanted")
     said(at, "panel-no", "The instruction", "is taken")

@@ -45,7 +45,7 @@ def make(programs, tmp_path_factory):
 
     def made(*words):
         path = f"{tmp_path_factory.mktemp('page')}/page.html"
-        environment = {**os.environ, "Y86": programs("y86"), "Y86_STAGES": programs("y86_stages")}
+        environment = {**os.environ, "Y86": programs("y86"), "Y86_STAGES": programs("y86_stages"), "Y86_TELL": programs("y86_tell")}
         return Made(subprocess.run([f"{TOP}/y86-lab", "page", *words, "-o", path], env=environment, capture_output=True, text=True, check=False), path)
 
     return made
@@ -239,7 +239,7 @@ def test_the_stages_of_a_no(pages, browser):
 def test_the_title_and_the_words_of_a_no(pages, browser):
     browser.open(pages("a no").path)
     same(browser.value("document.title + '; ' + document.querySelector('#panel-no .told .both').textContent"),
-        "broken.hcl: no, O24 doesn't hold; The instruction in D doesn't go on to E and isn't kept in D: it is lost.")
+        "broken.hcl: no, O24 doesn't hold; The instruction in D doesn't go on to E, and D doesn't keep it: it is lost.")
 
 
 # ---- pictures
@@ -248,7 +248,7 @@ def drawn(programs, folder, *words):
     """A call of `y86-lab draw`, and the picture that it made."""
     if not (shutil.which("node") or shutil.which("nodejs")):
         pytest.skip("Node isn't here, so no picture was drawn")
-    environment = {**os.environ, "Y86": programs("y86"), "Y86_STAGES": programs("y86_stages")}
+    environment = {**os.environ, "Y86": programs("y86"), "Y86_STAGES": programs("y86_stages"), "Y86_TELL": programs("y86_tell")}
     made = subprocess.run([f"{TOP}/y86-lab", "draw", *words, "-o", f"{folder}/it.svg"], env=environment, capture_output=True, text=True, check=False)
     return made, ElementTree.parse(f"{folder}/it.svg").getroot() if made.returncode == 0 else None
 

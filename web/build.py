@@ -11,7 +11,7 @@ import json
 import os
 import re
 
-from examples import examples
+from choices import examples
 from texts import texts
 
 HERE = os.path.dirname(os.path.realpath(__file__))

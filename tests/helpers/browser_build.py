@@ -17,7 +17,6 @@ from helpers.paths import TOP
 from helpers.programs import Answer
 
 sys.path.insert(0, f"{TOP}/web")
-CRATES = ("y86", "y86_stages")
 
 
 class Call(NamedTuple):

@@ -21,7 +21,7 @@ const ENDS = {
 };
 
 /** The pipeline of the examples that is right: what retires there is what the instructions do. */
-export const bookDesign = () => example("hcl", isFull() ? "with_iaddq.hcl" : "std.hcl").text;
+export const bookDesign = () => (example("hcl", isFull() ? "with_iaddq.hcl" : "std.hcl") ?? example("hcl", "std.hcl")).text;
 
 /** Whether a store of these records meets code of the listing. */
 export function writesCode(listing, records) {

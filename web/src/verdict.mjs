@@ -9,8 +9,8 @@ import { ruleText } from "./rule_text.mjs";
 import { settings } from "./settings.mjs";
 import { on, state, tell } from "./state.mjs";
 import { editors, full, isFull, moment } from "./texts.mjs";
-import { explained } from "./why/situation.mjs";
-import { refusalOf } from "./why/told.mjs";
+import { explained } from "./why/sequential.mjs";
+import { refusalsOf } from "./why/told.mjs";
 
 const FILE = "my.hcl", WAIT = 260;
 
@@ -55,24 +55,17 @@ function shortOf(rule, path, told) {
   return short ? `${short}.` : told?.says?.demand ?? "";
 }
 
-/** What y86-tell says of a refusal; null where the page doesn't have it, or it gives no answer. */
-async function toldOf(it, path) {
-  if (!has("y86-tell")) return null;
-  const said = await judge.call("y86-tell", ["check", path, FILE, "--json", ...full()], { [FILE]: it.hcl });
-  try {
-    const { refuted, mend_first } = JSON.parse(said.out);
-    return { refusals: refuted.map((one) => refusalOf(it.hcl, one, path)), first: mend_first };
-  } catch {
-    return null;
-  }
+/** What y86-tell says of a refusal of PIPE; none where it gives no answer. */
+async function toldOf(it) {
+  if (!has("y86-tell")) return { refusals: [] };
+  const said = await judge.call("y86-tell", ["check", "pipe", FILE, "--json", ...full()], { [FILE]: it.hcl });
+  return refusalsOf(it.hcl, said.out);
 }
 
-/** Explains a refusal, by y86-tell where the page has it. */
+/** Explains a refusal. */
 async function explain(it, path, lines) {
-  const said = await toldOf(it, path);
-  if (!it.isHcl()) return;
-  const own = said ? [] : [explained(it.hcl, lines, isFull())].filter(Boolean);
-  showNo(it, path, lines, said?.refusals ?? own, said?.first);
+  const { refusals, first } = path === "pipe" ? await toldOf(it) : { refusals: [explained(it.hcl, lines, isFull())].filter(Boolean) };
+  if (it.isHcl()) showNo(it, path, lines, refusals, first);
 }
 
 function showFault(it, err) {

@@ -12,9 +12,10 @@ import { readRun } from "./run.mjs";
 import { readSeqRun } from "./seqrun.mjs";
 import { on, state, tell } from "./state.mjs";
 import { wireTheme } from "./theme.mjs";
-import { explained } from "./why/situation.mjs";
+import { explained } from "./why/sequential.mjs";
+import { refusalsOf } from "./why/told.mjs";
 
-const { names, path, lines, diagram, object, hcl, refusal, isFull } = DATA.viewer;
+const { names, path, lines, diagram, object, hcl, refusal, told, isFull } = DATA.viewer;
 
 /** Shows a run, from the cycle that the address names. */
 function showRun() {
@@ -25,11 +26,17 @@ function showRun() {
   tell("run");
 }
 
+/** Shows a refusal: the obligation that is to be looked at first, and buttons for the others. */
 function showRefusal() {
-  const told = explained(hcl, refusal, isFull), rule = refusal[0].split(" ")[1];
+  const own = told ? null : explained(hcl, refusal, isFull), { refusals, first } = told ? refusalsOf(hcl, told) : { refusals: own ? [own] : [] };
+  const show = (name) => {
+    const shown = refusals.find((it) => it.rule === name) ?? refusals[0];
+    drawRefusal({ rule: shown?.rule ?? refusal[0].split(" ")[1], told: shown, lines: refusal, path, refusals });
+  };
   by("panel-run").hidden = by("controls").hidden = true;
   by("panel-no").hidden = false;
-  drawRefusal({ rule, told, lines: refusal, path: told?.path ?? "pipe", refusals: [] });
+  on("refusal", show);
+  show(first);
 }
 
 for (const it of [wireTheme, wireGrid, wirePlayer, wireRegisters, wirePictures, wirePaper, wireKeys]) it();

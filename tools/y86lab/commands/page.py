@@ -18,6 +18,7 @@ from ..errors import DONE, OUT_OF_TIME, REFUSED, LabError
 # A page of more cycles would be slow to read and to open.
 MOST_CYCLES = 1000
 STAGES = "y86-stages"
+TELL = "y86-tell"
 # What the page shows: web/src/viewer.mjs reads it.
 Data = dict[str, Any]
 
@@ -99,7 +100,17 @@ def refusal_data(programs: Programs, path: str, full: bool) -> tuple[str, Data, 
     lines = answer.out.splitlines()
     said = f"no, {lines[0].split()[1]} doesn't hold"
     names = {"hcl": os.path.basename(path), "ys": ""}
-    return f"{names['hcl']}: {said}", {"names": names, "hcl": text, "refusal": lines, "isFull": full}, said
+    told = told_by_tell(programs, path, full) if datapath == "pipe" else ""
+    data = {"names": names, "path": datapath, "hcl": text, "refusal": lines, "told": told, "isFull": full}
+    return f"{names['hcl']}: {said}", data, said
+
+
+def told_by_tell(programs: Programs, path: str, full: bool) -> str:
+    """What y86-tell says of a refusal of PIPE, as JSON."""
+    if not programs.is_there(TELL):
+        raise LabError(f"the page of a no needs the program {TELL}, and {programs.named(TELL)} isn't there")
+    words = ["check", "pipe", path, "--json", *(["--full"] if full else [])]
+    return programs.run(*words, program=TELL, limits=Limits(LONG)).out
 
 
 COMMAND = Command("page", "draws a run by cycles, or a no, into an HTML file", add_arguments, run)

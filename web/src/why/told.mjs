@@ -61,8 +61,8 @@ function briefOf(rule, signals, motion, isStillLoaded) {
   return motion.find((said) => !said.isStep)?.text.replace(/\.$/, "") ?? "";
 }
 
-/** One refuted obligation of the JSON, in the form that `explained` of situation.mjs gives. */
-export function refusalOf(text, refuted, path) {
+/** One refuted obligation of the JSON, in the form that `explained` of sequential.mjs gives, with a scene for the drawing, and `says`, the obligation. */
+function refusalOf(text, refuted) {
   const { obligation, counterexample, motion } = refuted, rule = obligation.label;
   const isStillLoaded = refuted.signals.some((it) => !it.right && it.wanted === null);
   const signals = refuted.signals.filter((it) => !it.right || refuted.signals.every((other) => other.right)).map((it) => signalOf(text, it));
@@ -71,11 +71,21 @@ export function refusalOf(text, refuted, path) {
   const moves = motionOf(motion, isStillLoaded), { comparisons, ...lines } = counterexample;
   const stages = Object.fromEntries(Object.entries(lines).map(([stage, it]) => [stage, it.kind === WRONG ? { ...it, kind: "wrong" } : it]));
   const told = {
-    rule, path, signals, motion: moves, where: comparisons.map((it) => comparison(SIGNS[it.sign], it.left, it.right, it.holds)), brief: briefOf(rule, signals, moves, isStillLoaded), says: obligation,
+    rule, path: "pipe", signals, motion: moves, where: comparisons.map((it) => comparison(SIGNS[it.sign], it.left, it.right, it.holds)), brief: briefOf(rule, signals, moves, isStillLoaded), says: obligation,
     boxes: Object.fromEntries(Object.entries(stages).map(([stage, it]) => [stage, boxOf(it, stage)])),
     stages: Object.fromEntries(Object.entries(stages).map(([stage, it]) => [stage, instructionOf(it, stage)])),
   };
-  return path === "pipe" ? { ...told, scene: sceneOf(situationOf(stages, motion, refuted.signals), rule, signals) } : told;
+  return { ...told, scene: sceneOf(situationOf(stages, motion, refuted.signals), rule, signals) };
+}
+
+/** All refuted obligations of what y86-tell printed, and which to mend first; no refusals where that is no JSON. */
+export function refusalsOf(text, printed) {
+  try {
+    const { refuted, mend_first } = JSON.parse(printed);
+    return { refusals: refuted.map((it) => refusalOf(text, it)), first: mend_first };
+  } catch {
+    return { refusals: [], first: "" };
+  }
 }
 
 /** The situation as its drawing takes it: the values that are known are those of the signals and of what they read. */

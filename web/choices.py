@@ -34,6 +34,8 @@ TOLD = {
 }
 SEQUENTIAL = ("seq", "seq_plus")
 BOTH = "stall_and_bubble"
+# Where the tutorial begins.
+START = "designs/no_bypassing.hcl"
 HAZARD = "E_icode in { IMRMOVQ, IPOPQ } && E_dstM in { d_srcA, d_srcB }"
 LATE = [(f" d_src{x} == e_dstE : e_valE;", "") for x in "AB"] + [(f"d_src{x} == W_dstM", f"d_src{x} == e_dstE : e_valE; d_src{x} == W_dstM") for x in "AB"]
 # A title, the changes of std.hcl, and a program of the examples that comes out wrong, if there is one.
@@ -118,9 +120,12 @@ def mistakes(std: str, both: Example) -> list[Example]:
     return [*found, both]
 
 
-def tutorial(here: str, start: str) -> list[Example]:
-    """Returns the tutorial's pipeline after each of its steps."""
-    steps = sorted(glob.glob(f"{here}/examples/tutorial/*.hcl"), key=lambda it: int(stem(it)))
+def tutorial(here: str, without: frozenset[str]) -> list[Example]:
+    """Returns the tutorial's pipeline after each of its steps, or none if a step isn't to be offered."""
+    beginning, all_steps = listed(here, START, frozenset()), listed(here, "tutorial/*.hcl", frozenset())
+    if any(os.path.relpath(it, here) in without for it in (*beginning, *all_steps)):
+        return []
+    start, steps = read(beginning[0]), sorted(all_steps, key=lambda it: int(stem(it)))
     found: list[Example] = [{"name": "tutorial 0", "title": "the start: no forwarding", "file": "mine.hcl", "text": start, "program": "sort.ys"}]
     for it in steps:
         step = read(it)
@@ -160,7 +165,7 @@ def examples(here: str, without: frozenset[str] = frozenset()) -> dict[str, Grou
     groups: Groups = [
         ("Pipelines", pipes),
         ("Mistakes", mistakes(by_name["std"]["text"], by_name[BOTH])),
-        ("Tutorial", tutorial(here, by_name["no_bypassing"]["text"])),
+        ("Tutorial", tutorial(here, without)),
         ("Sequential", sequential),
     ]
-    return {"hcl": groups, "ys": [("Programs", programs(here, "programs", without)), ("Copy loops", programs(here, "copy", without))]}
+    return {"hcl": [(name, found) for name, found in groups if found], "ys": [("Programs", programs(here, "programs", without)), ("Copy loops", programs(here, "copy", without))]}
