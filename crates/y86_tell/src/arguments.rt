@@ -21,6 +21,13 @@ pub enum Call<'a> {
         mem: u64,
         limit: u64,
     },
+    /// Report every fault of a file.
+    Fault {
+        file: &'a str,
+        variant: Variant,
+        mem: u64,
+        json: bool,
+    },
     /// Explain a word.
     Show {
         word: &'a str,
@@ -65,18 +72,22 @@ fn check_command<'a>(alloc: Global) -> Result<Command<'a>, AllocError> {
         .arg(json(alloc))
 }
 
+/// The option `--mem`.
+fn mem<'a>(alloc: Global) -> Arg<'a> {
+    Arg::new(alloc, "mem")
+        .long("mem")
+        .action(ArgAction::Set)
+        .value_parser(clap::value_parser!(u64).range(64..=1_048_576))
+        .default_value("8192")
+        .help("The bytes of memory, a multiple of 8")
+}
+
 /// The command `program`.
 fn program_command<'a>(alloc: Global) -> Result<Command<'a>, AllocError> {
     let obj = Arg::new(alloc, "obj")
         .required(true)
         .action(ArgAction::Set)
         .help("The object file");
-    let mem = Arg::new(alloc, "mem")
-        .long("mem")
-        .action(ArgAction::Set)
-        .value_parser(clap::value_parser!(u64).range(64..=1_048_576))
-        .default_value("8192")
-        .help("The bytes of memory, a multiple of 8");
     let limit = Arg::new(alloc, "limit")
         .long("limit")
         .action(ArgAction::Set)
@@ -89,8 +100,22 @@ fn program_command<'a>(alloc: Global) -> Result<Command<'a>, AllocError> {
         )
         .arg(obj)?
         .arg(full(alloc))?
-        .arg(mem)?
+        .arg(mem(alloc))?
         .arg(limit)
+}
+
+/// The command `fault`.
+fn fault_command<'a>(alloc: Global) -> Result<Command<'a>, AllocError> {
+    let file = Arg::new(alloc, "file")
+        .required(true)
+        .action(ArgAction::Set)
+        .help("The file: HCL (.hcl), object text (.yo), or assembly");
+    Command::new(alloc, "fault")
+        .about("Report every fault of a file")
+        .arg(file)?
+        .arg(full(alloc))?
+        .arg(mem(alloc))?
+        .arg(json(alloc))
 }
 
 /// The command `show`.
@@ -111,6 +136,7 @@ fn command<'a>(alloc: Global) -> Result<Command<'a>, AllocError> {
         .about("Explain what y86 answers, in sentences")
         .subcommand_required(true)
         .subcommand(check_command(alloc)?)?
+        .subcommand(fault_command(alloc)?)?
         .subcommand(program_command(alloc)?)?
         .subcommand(show_command(alloc)?)
 }
@@ -147,6 +173,12 @@ pub fn call_of<'a>(alloc: Global, words: &'a [String]) -> Result<Option<Call<'a>
             variant: variant_of(own.get_flag("full")),
             mem: own.get_one::<u64>("mem").unwrap_or(8192),
             limit: own.get_one::<u64>("limit").unwrap_or(10_000),
+        }),
+        "fault" => Some(Call::Fault {
+            file: own.get_str("file").unwrap_or(""),
+            variant: variant_of(own.get_flag("full")),
+            mem: own.get_one::<u64>("mem").unwrap_or(8192),
+            json: own.get_flag("json"),
         }),
         "show" => Some(Call::Show {
             word: own.get_str("word").unwrap_or(""),

@@ -5,10 +5,11 @@ ghost use Rattle.pipe_refusals.specs.Answered.{is_yes};
 
 use crate::cases::case_places;
 use crate::designs::{NoDesign, Ordered, pipe_design};
-use crate::faults::fault_text;
+use crate::faulty::{hcl_faults_of, printed};
 use crate::stop::{Stop, unread};
 use control_check::CheckFault;
 use ctl_atoms::CtlFault;
+use fault_report::Datapath;
 use json::Writer;
 use pipe_diagnosis::Refusal;
 use pipe_motion::Settings;
@@ -63,7 +64,7 @@ fn control_stop(
         )?,
         CtlFault::Memory => return Ok(Stop::Memory),
     }
-    Ok(Stop::Fault(out))
+    Ok(Stop::Fault(out.into_bytes()))
 }
 
 /// The text of a JSON writer, with a line end.
@@ -148,7 +149,7 @@ pub fn check_pipe<F: Files>(
     };
     let ordered = match pipe_design(alloc, source.as_slice()) {
         Ok(ordered) => ordered,
-        Err(fault) => return Err(fault_stop(alloc, file, &fault)),
+        Err(fault) => return Err(fault_stop(alloc, file, source.as_slice(), &fault)),
     };
     let cases = case_places(alloc, source.as_slice())?;
     let answer = match answer_design(alloc, variant, &ordered) {
@@ -161,12 +162,16 @@ pub fn check_pipe<F: Files>(
     Ok(answer_text(alloc, cases.as_slice(), variant, &ordered, &answer, json)?)
 }
 
-/// The stop at a text without a design.
-fn fault_stop(alloc: Global, file: &str, fault: &NoDesign) -> Stop {
-    let Ok(table) = dp_signals::pipe_table(alloc) else {
+/// The stop at a text without a design: every fault of it.
+fn fault_stop(alloc: Global, file: &str, source: &[u8], fault: &NoDesign) -> Stop {
+    match fault {
+        NoDesign::Memory => return Stop::Memory,
+        NoDesign::Refused => {}
+    }
+    let Ok(report) = hcl_faults_of(alloc, source, Some(Datapath::Pipe)) else {
         return Stop::Memory;
     };
-    match fault_text(alloc, file, table.rows.items(), fault) {
+    match printed(alloc, file, &report, false) {
         Ok(text) => Stop::Fault(text),
         Err(_) => Stop::Memory,
     }

@@ -4,10 +4,9 @@ ghost use Rattle.y86_tell.specs.Explained.{HasDesign, IsOrdered};
 
 use dp_signals::{law_of_tables, pipe_table};
 use hcl_order::{OrderFault, order};
-use hcl_read::{HclFault, HclWhy, read};
-use hcl_types::{BindFault, BindWhy, Design, Order, Table, bind};
+use hcl_read::{HclWhy, read};
+use hcl_types::{BindWhy, Design, Order, Table, bind};
 use std::alloc::Global;
-use y86_base::Items;
 
 /// PIPE's table, a design over it, and an order of the design's signals.
 #[derive(Drop)]
@@ -18,14 +17,10 @@ pub struct Ordered {
 }
 
 /// Why a text has no design.
-#[derive(Drop)]
+#[derive(Clone, Copy, Debug, PartialEq, Eq)]
 pub enum NoDesign {
-    /// It can't be read.
-    Unread(HclFault),
-    /// Its definitions don't fit the table.
-    Unbound(BindFault),
-    /// Its definitions depend on each other in a cycle.
-    Cycle(Items<u32>),
+    /// It has a fault.
+    Refused,
     /// Out of memory.
     Memory,
 }
@@ -44,7 +39,7 @@ pub fn pipe_design(alloc: Global, source: &[u8]) -> Result<Ordered, NoDesign>
         Err(fault) => {
             return Err(match fault.why {
                 HclWhy::Memory => NoDesign::Memory,
-                _ => NoDesign::Unread(fault),
+                _ => NoDesign::Refused,
             });
         }
     };
@@ -53,7 +48,7 @@ pub fn pipe_design(alloc: Global, source: &[u8]) -> Result<Ordered, NoDesign>
         Err(fault) => {
             return Err(match fault.why {
                 BindWhy::Memory => NoDesign::Memory,
-                _ => NoDesign::Unbound(fault),
+                _ => NoDesign::Refused,
             });
         }
     };
@@ -63,7 +58,7 @@ pub fn pipe_design(alloc: Global, source: &[u8]) -> Result<Ordered, NoDesign>
             design,
             order,
         }),
-        Err(OrderFault::Cycle(ids)) => Err(NoDesign::Cycle(ids)),
+        Err(OrderFault::Cycle(_)) => Err(NoDesign::Refused),
         Err(OrderFault::Memory) => Err(NoDesign::Memory),
     }
 }

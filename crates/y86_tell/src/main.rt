@@ -5,13 +5,14 @@ mod arguments;
 mod cases;
 mod checking;
 mod designs;
-mod faults;
+mod faulty;
 mod programs;
 mod showing;
 mod stop;
 
 use crate::arguments::{Call, call_of};
 use crate::checking::{Said, check_pipe};
+use crate::faulty::tell_faults;
 use crate::programs::{is_size, report_program};
 use crate::showing::show;
 use crate::stop::Stop;
@@ -20,6 +21,9 @@ use std::alloc::Global;
 use std::process::ExitCode;
 use std::{env, io};
 use wb_io::{Files, HostFiles, HostSink, Sink, put_all};
+
+/// What is said of a memory whose size is no multiple of 8.
+const ODD_SIZE: &str = "the bytes of memory have to be a multiple of 8\n";
 
 /// Writes what was said, and gives the status.
 fn say<O: Sink>(said: Said, out: &mut O) -> Result<u8, Stop> {
@@ -55,7 +59,19 @@ fn answer<F: Files, O: Sink>(
             if is_size(mem) {
                 report_program(alloc, obj, variant, mem, limit, files, out)
             } else {
-                Err(Stop::Usage("the bytes of memory have to be a multiple of 8\n"))
+                Err(Stop::Usage(ODD_SIZE))
+            }
+        }
+        Call::Fault {
+            file,
+            variant,
+            mem,
+            json,
+        } => {
+            if is_size(mem) {
+                say(tell_faults(alloc, file, variant, mem, json, files)?, out)
+            } else {
+                Err(Stop::Usage(ODD_SIZE))
             }
         }
         Call::Show { word } => say(show(alloc, word)?, out),
@@ -65,15 +81,16 @@ fn answer<F: Files, O: Sink>(
 /// Writes a stop on standard error, and gives its status.
 fn tell_stop<E: Sink>(stop: &Stop, err: &mut E) -> u8 {
     let text = match stop {
-        Stop::Usage(text) => *text,
-        Stop::Read => "the file can't be read\n",
-        Stop::Write => "",
-        Stop::Fault(text) => text.as_str(),
-        Stop::TooLong =>
-            "the file is too long: over 65,536 bytes for HCL, over 1,048,576 for an object file\n",
-        Stop::Memory => "out of memory\n",
+        Stop::Usage(text) => text.as_bytes(),
+        Stop::Read => b"the file can't be read\n".as_slice(),
+        Stop::Write => b"".as_slice(),
+        Stop::Fault(text) => text.as_slice(),
+        Stop::TooLong => {
+            b"the file is too long: over 65,536 bytes for HCL, over 1,048,576 for others\n".as_slice()
+        }
+        Stop::Memory => b"out of memory\n".as_slice(),
     };
-    let _ = put_all(err, text.as_bytes());
+    let _ = put_all(err, text);
     stop.status()
 }
 

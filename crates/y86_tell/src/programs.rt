@@ -2,9 +2,11 @@
 ghost use Rattle.std.specs.Prelude.{◌≡◌, true};
 ghost use Rattle.y86_base.specs.Image.{IsSize};
 
+use crate::faulty::printed;
 use crate::stop::{Stop, unread};
+use fault_report::object_report;
 use program_report::{put_watched, watch_object, watched_status};
-use std::alloc::{AllocError, Global};
+use std::alloc::Global;
 use wb_io::{Files, Sink};
 use y86_base::Variant;
 use yo_object::{YoFault, YoWhy};
@@ -20,19 +22,19 @@ pub fn is_size(size: u64) -> bool
 }
 
 /// The stop at an object text with a fault.
-fn object_stop(alloc: Global, file: &str, fault: &YoFault) -> Result<Stop, AllocError> {
+fn object_stop(alloc: Global, file: &str, text: &[u8], size: u64, fault: &YoFault) -> Stop
+    requires { IsSize size }
+{
     if fault.why == YoWhy::Memory {
-        return Ok(Stop::Memory);
+        return Stop::Memory;
     }
-    let line = fault.line;
-    let why = match fault.why {
-        YoWhy::Syntax => "this is no line of an object file",
-        YoWhy::OddDigits => "an odd number of hexadecimal digits",
-        YoWhy::OutsideMemory => "these bytes are outside the memory",
-        YoWhy::AddressTooWide => "the address has too many digits",
-        YoWhy::Memory => "out of memory",
+    let Ok(report) = object_report(alloc, text, size) else {
+        return Stop::Memory;
     };
-    Ok(Stop::Fault(format!(in alloc; "{file}:{line}: {why}.\n")?))
+    match printed(alloc, file, &report, false) {
+        Ok(text) => Stop::Fault(text),
+        Err(_) => Stop::Memory,
+    }
 }
 
 /// Says whether the theorem covers the program of an object file.
@@ -53,7 +55,7 @@ pub fn report_program<F: Files, O: Sink>(
     };
     let watched = match watch_object(alloc, variant, text.as_slice(), size, limit) {
         Ok(watched) => watched,
-        Err(fault) => return Err(object_stop(alloc, file, &fault)?),
+        Err(fault) => return Err(object_stop(alloc, file, text.as_slice(), size, &fault)),
     };
     match put_watched(watched, out) {
         Ok(()) => Ok(watched_status(watched)),

@@ -12,7 +12,7 @@ pub enum Stop {
     /// A write on standard output failed.
     Write,
     /// The file has a fault.
-    Fault(String),
+    Fault(Vec<u8>),
     /// The file has more bytes than its limit.
     TooLong,
     /// Out of memory.

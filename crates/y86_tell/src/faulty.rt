@@ -1,0 +1,125 @@
+//! `fault`: every fault of a file, in sentences or as JSON.
+ghost use Rattle.std.specs.Prelude.{IfOk};
+ghost use Rattle.hcl_types.specs.Tables.{IsSound};
+ghost use Rattle.y86_base.specs.Image.{IsSize};
+
+use crate::checking::Said;
+use crate::stop::{Stop, unread};
+use dp_signals::{law_of_tables, pipe_table, seq_table};
+use fault_output::{report_json, report_text};
+use fault_report::{Datapath, Report, Tables, assembly_report, hcl_report, object_report};
+use seq_plus::{law_of_table, plus_table};
+use std::alloc::Global;
+use wb_io::Files;
+use y86_base::{Memory, Variant};
+
+/// What a file is, by the end of its name.
+#[derive(Clone, Copy, Debug, PartialEq, Eq)]
+enum Kind {
+    Hcl,
+    Assembly,
+    Object,
+}
+
+/// The most bytes of a file that is read for its faults.
+const LIMIT: u64 = 1_048_576;
+
+/// What a file is: `.hcl`, `.yo`, and assembly otherwise.
+fn kind_of(file: &str) -> Kind {
+    let name = file.as_bytes();
+    if name.ends_with(b".hcl") {
+        Kind::Hcl
+    } else if name.ends_with(b".yo") {
+        Kind::Object
+    } else {
+        Kind::Assembly
+    }
+}
+
+/// The tables of the three datapaths.
+fn tables(alloc: Global) -> Result<Tables, Memory>
+    ensures seq { IfOk result (λ t. IsSound t.seq.rows) }
+    ensures seq_plus { IfOk result (λ t. IsSound t.seq_plus.rows) }
+    ensures pipe { IfOk result (λ t. IsSound t.pipe.rows) }
+{
+    law_of_tables();
+    law_of_table();
+    let seq = seq_table(alloc)?;
+    let seq_plus = plus_table(alloc)?;
+    let pipe = pipe_table(alloc)?;
+    Ok(Tables {
+        seq,
+        seq_plus,
+        pipe,
+    })
+}
+
+/// The faults of an HCL text; for the datapath that is asked, or for the one whose names fit best.
+pub fn hcl_faults_of(
+    alloc: Global,
+    text: &[u8],
+    asked: Option<Datapath>,
+) -> Result<Report, Memory> {
+    let tables = tables(alloc)?;
+    hcl_report(alloc, text, &tables, asked)
+}
+
+/// The faults of a text.
+fn report_of(
+    alloc: Global,
+    kind: Kind,
+    text: &[u8],
+    variant: Variant,
+    size: u64,
+) -> Result<Report, Memory>
+    requires { IsSize size }
+{
+    match kind {
+        Kind::Hcl => hcl_faults_of(alloc, text, None),
+        Kind::Assembly => assembly_report(alloc, variant, text, size),
+        Kind::Object => object_report(alloc, text, size),
+    }
+}
+
+/// What is printed of a report.
+pub fn printed(alloc: Global, file: &str, report: &Report, json: bool) -> Result<Vec<u8>, Memory> {
+    if json {
+        return report_json(alloc, file.as_bytes(), report);
+    }
+    if report.faults.items().is_empty() {
+        return match Vec::from_slice(alloc, b"no fault\n") {
+            Ok(text) => Ok(text),
+            Err(_) => Err(Memory),
+        };
+    }
+    report_text(alloc, file.as_bytes(), report)
+}
+
+/// Says every fault of a file: status 5 where there is one.
+pub fn tell_faults<F: Files>(
+    alloc: Global,
+    file: &str,
+    variant: Variant,
+    size: u64,
+    json: bool,
+    files: &mut F,
+) -> Result<Said, Stop>
+    requires { IsSize size }
+{
+    let text = match files.read(alloc, file, LIMIT) {
+        Ok(text) => text,
+        Err(error) => return Err(unread(error)),
+    };
+    let Ok(report) = report_of(alloc, kind_of(file), text.as_slice(), variant, size) else {
+        return Err(Stop::Memory);
+    };
+    let Ok(text) = printed(alloc, file, &report, json) else {
+        return Err(Stop::Memory);
+    };
+    let status = if report.faults.items().is_empty() {
+        0
+    } else {
+        5
+    };
+    Ok(Said { status, text })
+}
