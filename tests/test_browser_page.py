@@ -348,6 +348,10 @@ def test_sequential(at):
         at.choose("hcls", name)
         said(at, "verdict", f"{path}: right for every program")
         said(at, "outcome", "comes out right")
+        if at.do("workbench.run === null"):
+            # (a y86-stages that doesn't know SEQ)
+            said(at, "blank", f"There is no drawing of {path}", "Stopped in 4 steps")
+            continue
         same(at.do("[workbench.run.cycles.length, every('#path svg.seq').length]"), [4, 1])
         at.do("document.activeElement.blur(), el('first').click()")
         at.key("ArrowRight")

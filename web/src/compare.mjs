@@ -1,6 +1,8 @@
 // Reports of two runs, and the records of what retired: where a run and the instructions' own differ.
+import { escaped } from "./dom.mjs";
 
 const STOPPED = /Stopped in (\d+) steps? at PC = (0x[0-9a-f]+)\.\s+Status '(\w+)', CC Z=(\d) S=(\d) O=(\d)/;
+const NOT_WRITTEN = "not written";
 const short = (it) => it.replace(/^0x0+(?=[0-9a-f])/, "0x");
 const hex = (it) => (it === undefined ? "nothing" : short(it));
 const isSame = (one, other) => BigInt(one) === BigInt(other);
@@ -53,7 +55,7 @@ const shownFlags = (it) => [...it].join(" ");
 export function recordDifferences(mine, right) {
   if (!right) return [{ name: "", got: "one more instruction retires", want: "the program has ended" }];
   if (!mine) return [{ name: "", got: "nothing more retires", want: "one more instruction" }];
-  const said = [], of = (record, name) => record.changes.findLast((it) => it.name === name)?.word ?? "not written";
+  const said = [], of = (record, name) => record.changes.findLast((it) => it.name === name)?.word ?? NOT_WRITTEN;
   if (mine.pc !== right.pc) said.push({ name: "PC", got: `0x${mine.pc.toString(16)}`, want: `0x${right.pc.toString(16)}` });
   else if (mine.code !== right.code) said.push({ name: "instruction", got: mine.code, want: right.code });
   for (const name of new Set([...right.changes, ...mine.changes].map((it) => it.name)))
@@ -61,6 +63,14 @@ export function recordDifferences(mine, right) {
   if (mine.flags !== right.flags) said.push({ name: "ZF SF OF", got: shownFlags(mine.flags), want: shownFlags(right.flags) });
   if (mine.status !== right.status) said.push({ name: "status", got: mine.status, want: right.status });
   return said;
+}
+
+/** A difference of two records in HTML. */
+export function differenceHTML({ name, got, want }) {
+  const code = `<code>${escaped(name)}</code>`, wrong = `<span class="got">${escaped(got)}</span>`, right = `<span class="want">${escaped(want)}</span>`;
+  if (!name) return wrong;
+  if (want === NOT_WRITTEN) return `${code} becomes ${wrong}, and <span class="want">should keep its word</span>`;
+  return got === NOT_WRITTEN ? `${code} <span class="got">isn’t written</span>; ${right} is right` : `${code} is ${wrong}, ${right} is right`;
 }
 
 /** The number, from 1, of the first record in which two traces differ; 0 where they agree as far as both go. */

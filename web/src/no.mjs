@@ -30,7 +30,7 @@ function marksOf(text, { rule, signals, motion }) {
   }
   const first = signals.find((it) => it.from && (isBlamed ? it.isBlamed : !it.isAsked));
   if (!notes.length && first) {
-    const html = `${rule}: ${escaped(motion.at(-1)?.text ?? "")} There <code>${first.name}</code> is <b>${escaped(first.value)}</b>.`;
+    const html = `${rule}: ${escaped(motion.findLast((it) => !it.isStep)?.text ?? "")} There <code>${first.name}</code> is <b>${escaped(first.value)}</b>.`;
     notes.push({ line: first.to, column: 0, kind: "no", html });
   }
   return { marks, notes };

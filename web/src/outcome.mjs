@@ -1,6 +1,6 @@
 // Does this program come out right? Its run under the processor, beside the run by instructions, and the card with the answer.
 import { card, head, isStale, mark } from "./cards.mjs";
-import { differences, firstDifference, recordDifferences, report, trace } from "./compare.mjs";
+import { differenceHTML, differences, firstDifference, recordDifferences, report, trace } from "./compare.mjs";
 import { example } from "./data.mjs";
 import { by, escaped, later, small } from "./dom.mjs";
 import { Stopped, runner } from "./engine.mjs";
@@ -180,8 +180,7 @@ export function instructionAt(pc) {
 function whereHTML({ steps, records, first, path }) {
   if (!steps) return path === "pipe" ? "<p>It overwrites its own instructions, so they can’t be compared one by one.</p>" : "";
   if (path !== "pipe" || !first) return "";
-  const [difference] = recordDifferences(records[first - 1], steps[first - 1]), pc = (records[first - 1] ?? steps[first - 1]).pc;
-  const what = difference.name ? `<code>${escaped(difference.name)}</code> is <span class="got">${escaped(difference.got)}</span>, <span class="want">${escaped(difference.want)}</span> is right` : escaped(difference.got);
+  const [difference] = recordDifferences(records[first - 1], steps[first - 1]), pc = (records[first - 1] ?? steps[first - 1]).pc, what = differenceHTML(difference);
   return `<p>First wrong: instruction ${first}, <button type="button" class="small" id="wrong-at"><code>${escaped(`${address(pc)} ${instructionAt(pc)}`)}</code></button> ${what}</p>`;
 }
 

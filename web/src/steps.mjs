@@ -1,5 +1,5 @@
 // The run by instructions, and where the run of the processor first differs from it.
-import { recordDifferences } from "./compare.mjs";
+import { differenceHTML, recordDifferences } from "./compare.mjs";
 import { by, escaped } from "./dom.mjs";
 import { PATHS } from "./names.mjs";
 import { instructionAt } from "./outcome.mjs";
@@ -11,15 +11,9 @@ const HEADS = ["#", "address", "instruction", "changes", "ZF SF OF", "status"].m
 
 const changes = (it) => it.changes.map(({ name, word }) => `<code>${escaped(name)}</code> = <code>${escaped(word)}</code>`).join(", ");
 
-function differenceHTML(mine, right) {
-  const said = recordDifferences(mine, right).map(({ name, got, want }) =>
-    (name ? `<code>${escaped(name)}</code>: <span class="got">${escaped(got)}</span>, <span class="want">${escaped(want)}</span> is right` : `<span class="got">${escaped(got)}</span>`));
-  return said.join("; ");
-}
-
 function rowHTML(right, mine, number, first) {
   const isFirst = number === first, it = right ?? mine, label = state.lines.lineOf[it.pc];
-  const differs = isFirst ? `<tr class="differs"><td></td><td colspan="5">Here the processor differs first: ${differenceHTML(mine, right)} <button type="button" class="small" data-record="${number}">Go to its cycle</button></td></tr>` : "";
+  const differs = isFirst ? `<tr class="differs"><td></td><td colspan="5">Here the processor differs first: ${recordDifferences(mine, right).map(differenceHTML).join("; ")} <button type="button" class="small" data-record="${number}">Go to its cycle</button></td></tr>` : "";
   const cells = `<td>${address(it.pc)}</td><td>${escaped(instructionAt(it.pc))}</td><td>${right ? changes(right) : ""}</td><td>${[...it.flags].join(" ")}</td><td>${it.status}</td>`;
   return `<tr class="${isFirst ? "wrong" : first && number > first ? "later" : ""}" data-line="${label ?? ""}"><th scope="row">${number}</th>${cells}</tr>${differs}`;
 }

@@ -51,8 +51,8 @@ function showNo(it, path, lines, refusals, shown) {
 
 /** An obligation in a line. */
 function shortOf(rule, path, told) {
-  const { short } = ruleText(rule, path);
-  return short ? `${short}.` : told?.says?.demand ?? "";
+  const demand = told?.says?.demand;
+  return demand ? demand.replace(/(\.) .*/s, "$1") : `${ruleText(rule, path).short}.`;
 }
 
 /** What y86-tell says of a refusal of PIPE; none where it gives no answer. */

@@ -13,7 +13,7 @@ from typing import Any
 from .. import explaining, hcl
 from ..arguments import Command, add_run_options, run_options
 from ..calls import LONG, Limits, Programs, read_text
-from ..errors import DONE, OUT_OF_TIME, REFUSED, LabError
+from ..errors import DONE, OUT_OF_TIME, REFUSED, USAGE, LabError
 
 # A page of more cycles would be slow to read and to open.
 MOST_CYCLES = 1000
@@ -67,6 +67,8 @@ def run_texts(programs: Programs, path: str, object_path: str, options: list[str
     if datapath != "pipe":
         words.append(f"--{datapath}")
     answer = programs.run(*words, program=STAGES, limits=Limits(LONG))
+    if datapath != "pipe" and answer.status == USAGE:
+        raise LabError(f"{path}: this {STAGES} shows runs on PIPE alone, and the file is one for {explaining.DATAPATHS[datapath]}")
     if answer.status not in (DONE, REFUSED) or "\nend " not in f"\n{answer.out}":
         status = OUT_OF_TIME if answer.status is None else answer.status or REFUSED
         raise LabError(answer.err.strip() or f"{STAGES} gave no answer", status)
