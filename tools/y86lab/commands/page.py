@@ -18,6 +18,8 @@ from ..errors import DONE, OUT_OF_TIME, REFUSED, USAGE, LabError
 # A page of more cycles would be slow to read and to open.
 MOST_CYCLES = 1000
 STAGES = "y86-stages"
+# (a y86-stages that doesn't know SEQ)
+ALONE = "the page of a run is there for PIPE alone"
 TELL = "y86-tell"
 # What the page shows: web/src/viewer.mjs reads it.
 Data = dict[str, Any]
@@ -68,7 +70,7 @@ def run_texts(programs: Programs, path: str, object_path: str, options: list[str
         words.append(f"--{datapath}")
     answer = programs.run(*words, program=STAGES, limits=Limits(LONG))
     if datapath != "pipe" and answer.status == USAGE:
-        raise LabError(f"{path}: this {STAGES} shows runs on PIPE alone, and the file is one for {explaining.DATAPATHS[datapath]}")
+        raise LabError(f"{path}: {ALONE}, and this file is one for {explaining.DATAPATHS[datapath]}")
     if answer.status not in (DONE, REFUSED) or "\nend " not in f"\n{answer.out}":
         status = OUT_OF_TIME if answer.status is None else answer.status or REFUSED
         raise LabError(answer.err.strip() or f"{STAGES} gave no answer", status)
@@ -95,7 +97,8 @@ def refusal_data(programs: Programs, path: str, full: bool) -> tuple[str, Data, 
     datapath = explaining.datapath(hcl.design_of(text))
     answer = programs.check(datapath, path, full)
     if answer.status == DONE:
-        raise LabError(f"{path}: yes, so there is no situation to draw; with an object file the page shows its run")
+        rest = "with an object file the page shows its run" if datapath == "pipe" else ALONE
+        raise LabError(f"{path}: yes, so there is no situation to draw; {rest}")
     if answer.status != REFUSED:
         status = OUT_OF_TIME if answer.status is None else answer.status
         raise LabError(answer.err.strip() or f"{path}: the check gave no answer", status)
