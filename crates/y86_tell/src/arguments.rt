@@ -24,6 +24,7 @@ pub enum Call<'a> {
     /// Report every fault of a file.
     Fault {
         file: &'a str,
+        path: Option<Path>,
         variant: Variant,
         mem: u64,
         json: bool,
@@ -110,9 +111,14 @@ fn fault_command<'a>(alloc: Global) -> Result<Command<'a>, AllocError> {
         .required(true)
         .action(ArgAction::Set)
         .help("The file: HCL (.hcl), object text (.yo), or assembly");
+    let path = Arg::new(alloc, "path")
+        .action(ArgAction::Set)
+        .value_parser(PATHS.as_slice())
+        .help("The processor that an HCL file is for");
     Command::new(alloc, "fault")
         .about("Report every fault of a file")
         .arg(file)?
+        .arg(path)?
         .arg(full(alloc))?
         .arg(mem(alloc))?
         .arg(json(alloc))
@@ -150,6 +156,14 @@ fn path_of(name: &str) -> Path {
     }
 }
 
+/// The datapath that is asked for, if there is one.
+fn asked_path(name: Option<&str>) -> Option<Path> {
+    match name {
+        Some(name) => Some(path_of(name)),
+        None => None,
+    }
+}
+
 /// The instruction set, by the option `--full`.
 fn variant_of(full: bool) -> Variant {
     if full { Variant::Full } else { Variant::Base }
@@ -176,6 +190,7 @@ pub fn call_of<'a>(alloc: Global, words: &'a [String]) -> Result<Option<Call<'a>
         }),
         "fault" => Some(Call::Fault {
             file: own.get_str("file").unwrap_or(""),
+            path: asked_path(own.get_str("path")),
             variant: variant_of(own.get_flag("full")),
             mem: own.get_one::<u64>("mem").unwrap_or(8192),
             json: own.get_flag("json"),

@@ -6,6 +6,7 @@ ghost use Rattle.y86_base.specs.Image.{IsSize};
 use crate::checking::Said;
 use crate::stop::{Stop, unread};
 use dp_signals::{law_of_tables, pipe_table, seq_table};
+use explanations::Path;
 use fault_output::{report_json, report_text};
 use fault_report::{Datapath, Report, Tables, assembly_report, hcl_report, object_report};
 use seq_plus::{law_of_table, plus_table};
@@ -64,10 +65,21 @@ pub fn hcl_faults_of(
     hcl_report(alloc, text, &tables, asked)
 }
 
+/// The datapath that is asked for, as reports name it.
+fn datapath_of(asked: Option<Path>) -> Option<Datapath> {
+    match asked {
+        Some(Path::Seq) => Some(Datapath::Seq),
+        Some(Path::SeqPlus) => Some(Datapath::SeqPlus),
+        Some(Path::Pipe) => Some(Datapath::Pipe),
+        None => None,
+    }
+}
+
 /// The faults of a text.
 fn report_of(
     alloc: Global,
     kind: Kind,
+    asked: Option<Path>,
     text: &[u8],
     variant: Variant,
     size: u64,
@@ -75,7 +87,7 @@ fn report_of(
     requires { IsSize size }
 {
     match kind {
-        Kind::Hcl => hcl_faults_of(alloc, text, None),
+        Kind::Hcl => hcl_faults_of(alloc, text, datapath_of(asked)),
         Kind::Assembly => assembly_report(alloc, variant, text, size),
         Kind::Object => object_report(alloc, text, size),
     }
@@ -99,6 +111,7 @@ pub fn printed(alloc: Global, file: &str, report: &Report, json: bool) -> Result
 pub fn tell_faults<F: Files>(
     alloc: Global,
     file: &str,
+    asked: Option<Path>,
     variant: Variant,
     size: u64,
     json: bool,
@@ -110,7 +123,7 @@ pub fn tell_faults<F: Files>(
         Ok(text) => text,
         Err(error) => return Err(unread(error)),
     };
-    let Ok(report) = report_of(alloc, kind_of(file), text.as_slice(), variant, size) else {
+    let Ok(report) = report_of(alloc, kind_of(file), asked, text.as_slice(), variant, size) else {
         return Err(Stop::Memory);
     };
     let Ok(text) = printed(alloc, file, &report, json) else {

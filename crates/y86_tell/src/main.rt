@@ -64,12 +64,16 @@ fn answer<F: Files, O: Sink>(
         }
         Call::Fault {
             file,
+            path,
             variant,
             mem,
             json,
         } => {
             if is_size(mem) {
-                say(tell_faults(alloc, file, variant, mem, json, files)?, out)
+                say(
+                    tell_faults(alloc, file, path, variant, mem, json, files)?,
+                    out,
+                )
             } else {
                 Err(Stop::Usage(ODD_SIZE))
             }
