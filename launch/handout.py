@@ -21,7 +21,6 @@ PAGES = {
     "OBLIGATIONS.md": "what a `no` means, and what to do about it",
     "STAGES.md": "pipeline diagrams",
     "TELL.md": "answers in sentences",
-    "BROWSER.md": "the workbench in a browser, `y86.html`",
     "LAB.md": "tools for a student's evening and a teacher's class",
     "COMMANDS.md": "every command, its arguments and exit statuses",
     "THEOREM.md": "why a `yes` holds for every program",

@@ -83,6 +83,6 @@ class Session:
         while len(self.printed) <= number:
             command = self.commands[len(self.printed)][1]
             done = subprocess.run(["bash", "-c", command], cwd=self.folder, env=self.environment, stdin=subprocess.DEVNULL, stdout=subprocess.PIPE,
-                stderr=subprocess.STDOUT, timeout=600, check=False)
+                stderr=subprocess.STDOUT, timeout=900, check=False)
             self.printed.append(done.stdout.decode("utf-8", "replace").rstrip("\n"))
         return self.printed[number]

@@ -59,7 +59,7 @@ class Program:
     def __init__(self, path, folder):
         self.path, self.folder = path, folder
 
-    def __call__(self, *words, files=None, folder=None, timeout=120, **how):
+    def __call__(self, *words, files=None, folder=None, timeout=900, **how):
         """Calls the program on these words, with these files (a name and a text each) in its folder."""
         folder = folder or self.folder
         put(folder, files or {})

@@ -2,14 +2,18 @@
 
 A row is files and calls, line by line, up to an empty line:
 
+    ## TEXT              a comment
     # TEXT               what the row shows: its name
     file NAME            a file; `|TEXT` appends a line to it, `+TEXT` a text, `\\hh` in them is a byte
     design NAME DESIGN   a file: examples/designs/DESIGN.hcl, with the definitions below it in place of its own
-    $ WORD..             a call; behind it stand its text, `! ` and the line on standard error, `= ` and the status
+    change NAME DESIGN   a file: the design with other bodies of definitions, a line `|SIGNAL: BODY` each; `@` in a body is the old one, or the
+                         branches of an old case list
+    $ WORD..             a call; after it come its text, `! ` and the line on standard error, `= ` and the status. A line `...` before the status
+                         stands for the rest of the text, whatever it is
 """
 import re
 
-from helpers.designs import example, replaced
+from helpers.designs import changed, design, example, replaced
 
 
 def bytes_of(text):
@@ -20,14 +24,17 @@ class Row:
     """Files, and calls that find them."""
 
     def __init__(self):
-        self.shows, self.files, self.designs, self.calls = "", {}, {}, []
+        self.shows, self.files, self.designs, self.changes, self.calls = "", {}, {}, {}, []
 
     def contents(self):
         """The files by their names."""
         found = dict(self.files)
-        for name, design in self.designs.items():
+        for name, base in self.designs.items():
             definitions = self.files[name].decode()
-            found[name] = replaced(example(design), definitions) if definitions else example(design)
+            found[name] = replaced(example(base), definitions) if definitions else example(base)
+        for name, base in self.changes.items():
+            bodies = dict(line.split(": ", 1) for line in self.files[name].decode().splitlines())
+            found[name] = changed(design(base), **bodies)
         return found
 
 
@@ -45,6 +52,8 @@ def rows_of(path):
             row, last = Row(), None
         elif line.startswith("$ "):
             row.calls.append((line[2:], []))
+        elif line.startswith("## "):
+            continue
         elif line.startswith("# "):
             row.shows = line[2:]
         elif line[0] in "|+":
@@ -52,9 +61,10 @@ def rows_of(path):
         elif line.startswith("file "):
             last = line[5:]
             row.files[last] = b""
-        elif line.startswith("design "):
-            _, last, design = line.split(" ")
-            row.files[last], row.designs[last] = b"", design
+        elif line.startswith(("design ", "change ")):
+            kind, last, base = line.split(" ")
+            row.files[last] = b""
+            (row.designs if kind == "design" else row.changes)[last] = base
         else:
             raise ValueError(f"{path}: no line of a row: {line}")
 
@@ -65,3 +75,10 @@ def transcript(answer):
     if text and not text.endswith("\n"):
         text += "\\\n"
     return text + (f"! {err}" if err else "") + f"= {status}"
+
+
+def cut(came, wanted):
+    """What a call printed, with `...` in place of the rest where the row has that."""
+    front, dots, back = wanted.partition("...\n= ")
+    status = came.rpartition("= ")
+    return f"{front}{dots}{status[2]}" if dots and came.startswith(front) and status[2] == back else came
