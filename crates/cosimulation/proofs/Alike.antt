@@ -1,5 +1,5 @@
 -- Two machines side by side: one cycle more, and the end.
-use Rattle.std.proofs.Common.{◌≡◌, ◌≢◌, ℕ, zero, suc, ◌+◌, ◌<◌, ◌≤◌, true, false, List, [], ◌∷◌, ◌++◌, length, Option, Some, None, refl, sym, ap, ◌∙◌, subst, add-one, arith, length-append}
+use Rattle.std.proofs.Common.{◌≡◌, ℕ, zero, suc, ◌+◌, ◌<◌, ◌≤◌, true, false, List, [], ◌∷◌, ◌++◌, length, Option, Some, None, refl, sym, ap, ◌∙◌, subst, add-one, arith, length-append}
 use Rattle.std.proofs.lemmas.List.{append-nil}
 use Rattle.std.specs.Option.{option_to_list}
 use Rattle.pipe_path.specs.Calls.{record_in}
@@ -13,10 +13,9 @@ use Rattle.y86_isa.specs.Step.{advance, retired}
 use Rattle.y86_isa.specs.declared.machine.Machine.{Machine}
 use Rattle.y86_isa.specs.declared.machine.Rec.{Rec}
 use Rattle.y86_isa.proofs.Runs.{records_from-last, records_from-none, run_from-last, run_from-none}
-use Rattle.cosimulation.specs.Lockstep.{EndsAs, GoApart, GoBoth, IsAlike, IsCompared, IsFirstDifferent}
+use Rattle.cosimulation.specs.Lockstep.{EndsAs, GoApart, GoBoth, IsAlike, IsCompared}
 use Rattle.cosimulation.specs.declared.lockstep.Compared.{Compared}
 use Rattle.cosimulation.specs.declared.lockstep.Compared.TheVariants.{Same, Open, Record, State}
-use Rattle.cosimulation.specs.declared.lockstep.RecordDiffers.{RecordDiffers}
 
 -- ---- no step and one step of the run by instructions
 

@@ -1,5 +1,5 @@
 -- The run of PIPE beside the run by instructions: the first record that differs, or the final states.
-use Rattle.std.specs.Prelude.{◌≡◌, ◌≢◌, ℕ, ◌≤◌, true, false, List, [], ◌∷◌, ◌++◌, length, Option, Some}
+use Rattle.std.specs.Prelude.{◌≡◌, ◌≢◌, ℕ, ◌≤◌, true, false, [], ◌∷◌, ◌++◌, length, Option, Some}
 use Rattle.std.specs.Option.{option_to_list}
 use Rattle.pipe_path.specs.Calls.{record_in}
 use Rattle.pipe_path.specs.Pipe.{Cycle, Pipe, end_of}

@@ -1,5 +1,5 @@
 //! The first part in which two final states differ.
-ghost use Rattle.std.specs.Prelude.{◌≡◌, ◌≢◌, ◌↔◌, ◌<◌, ◌*◌, ◌/◌, IfNone, IfSome, length, true, ℕ};
+ghost use Rattle.std.specs.Prelude.{◌≡◌, ◌≢◌, ◌<◌, ◌^◌, ◌/◌, IfNone, IfSome, length, ℕ};
 ghost use Rattle.cosimulation.specs.States.{DiffersIn, SameState};
 ghost use Rattle.y86_base.specs.Registers.{register};
 ghost use Rattle.yis_run.specs.Report.{aligned_word, ended};
@@ -33,23 +33,23 @@ fn register_difference(one: &Regs, other: &Regs) -> Option<u64>
 
 /// The aligned word at a place of a memory, 0 outside.
 fn word_of(memory: &Image, n: u64) -> u64
-    requires { 8 * n < length memory.now }
+    requires { n < 2 ^ 60 }
     ensures { result ≡ aligned_word memory.now n }
 {
-    let _size = memory.size();
     memory.word(8 * n).unwrap_or(0)
 }
 
-/// The first aligned word in which they differ.
-fn memory_difference(one: &Image, other: &Image) -> Option<u64>
-    requires { length one.now ≡ length other.now }
+/// The first aligned word in which they differ, by its place, and what both have there.
+fn memory_difference(one: &Image, other: &Image) -> Option<(u64, u64, u64)>
     ensures none { IfNone result ((n : ℕ) → n < length one.now / 8 → aligned_word one.now n ≡ aligned_word other.now n) }
-    ensures some { IfSome result (λ n. (n < length one.now / 8) × (aligned_word one.now n ≢ aligned_word other.now n)) }
+    ensures some { IfSome result (λ d. (d.1 ≡ aligned_word one.now d.0) × (d.2 ≡ aligned_word other.now d.0) × (d.1 ≢ d.2)) }
 {
     let words = one.size() / 8;
     for n in 0..words {
-        if word_of(one, n) != word_of(other, n) {
-            return Some(n);
+        let first = word_of(one, n);
+        let second = word_of(other, n);
+        if first != second {
+            return Some((n, first, second));
         }
     }
     None
@@ -57,7 +57,6 @@ fn memory_difference(one: &Image, other: &Image) -> Option<u64>
 
 /// The first part in which two final states differ.
 pub fn difference(one: &End<'_>, other: &End<'_>) -> Option<Part>
-    requires { length one.now.mem.now ≡ length other.now.mem.now }
     ensures none { IfNone result (SameState (ended one.now) (ended other.now)) }
     ensures some { IfSome result (λ part. DiffersIn (ended one.now) (ended other.now) part) }
 {
@@ -73,8 +72,8 @@ pub fn difference(one: &End<'_>, other: &End<'_>) -> Option<Part>
     if let Some(n) = register_difference(one.regs, other.regs) {
         return Some(Part::Register(n, one.regs.get(n), other.regs.get(n)));
     }
-    if let Some(n) = memory_difference(one.mem, other.mem) {
-        return Some(Part::Memory(n, word_of(one.mem, n), word_of(other.mem, n)));
+    if let Some((n, first, second)) = memory_difference(one.mem, other.mem) {
+        return Some(Part::Memory(n, first, second));
     }
     None
 }
