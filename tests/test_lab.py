@@ -2,6 +2,7 @@
 
 The pages have what they print of good files (docs/LAB.md, docs/TUTORIAL.md).
 """
+import json
 import os
 import re
 import shutil
@@ -33,7 +34,7 @@ def std(**bodies):
 def lab(folder, programs):
     """`y86-lab`, called in the test's folder."""
     program = Program(f"{TOP}/y86-lab", folder)
-    environment = {**os.environ, "Y86": programs("y86")}
+    environment = {**os.environ, **{it.upper(): programs(it) for it in ("y86", "y86_stages", "y86_tell")}}
 
     def call(*words, files=None, **more):
         return program(*words, files=files, env={**environment, **more})
@@ -124,7 +125,10 @@ def test_the_page_of_a_no(lab):
 def test_the_values_on_the_page_of_a_no(lab, folder):
     lab("page", "mine.hcl", "-o", "no.html", files={"mine.hcl": std(m_stat="M_stat")})
     with open(f"{folder}/no.html", encoding="utf-8") as it:
-        same("where m_stat is SAOK (mine.hcl:92)" in it.read(), True)
+        data = re.search(r'<script type="application/json" id="data">(.*?)</script>', it.read(), re.S)[1]
+    finding = json.loads(json.loads(data)["viewer"]["told"])["refuted"][0]["signals"][0]
+    same(finding["signal"], "set_cc")
+    same([it["value"]["constant"] for it in finding["reads"] if it["signal"] == "m_stat"], ["SAOK"])
 
 
 # ---- files with a fault
