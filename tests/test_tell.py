@@ -9,7 +9,7 @@ import pytest
 
 from helpers.cases import cases
 from helpers.designs import design, example, replaced
-from helpers.paths import TOP
+from helpers.pages import broken
 
 # The obligation, then its wrong signals as the page of a refusal says them.
 SIGNALS = [
@@ -52,16 +52,10 @@ MOTION = [
 ]
 
 
-def page():
-    with open(f"{TOP}/docs/OBLIGATIONS.md", encoding="utf-8") as it:
-        return it.read()
-
-
-def broken(label):
-    """The file that the page shows as one that breaks the obligation."""
-    section = re.search(rf"^### {label}\n(.*?)(?=^##)", page(), flags=re.S | re.M)[1]
-    shown = re.search(r"\*A file that breaks it\*: `(\w+)\.hcl` with this.*?\n\n((?:    [^\n]*\n)+)", section, flags=re.S)
-    return replaced(design(shown[1]), re.sub(r"^    ", "", shown[2], flags=re.M))
+def broken_file(label):
+    """The file that docs/OBLIGATIONS.md shows as one that breaks the obligation."""
+    _, base, definitions, _ = next(row for row in broken() if row[0] == label)
+    return replaced(design(base), definitions)
 
 
 def flat(text):
@@ -71,7 +65,7 @@ def flat(text):
 @cases(SIGNALS)
 def test_signals(row, y86_tell):
     label, wanted = row
-    status, out, err = y86_tell("check", "pipe", "d.hcl", files={"d.hcl": broken(label)}).text()
+    status, out, err = y86_tell("check", "pipe", "d.hcl", files={"d.hcl": broken_file(label)}).text()
     assert (status, err) == (1, "")
     assert out.startswith(f"no: {label} is false somewhere.\n")
     first = out.split("\nAlso false somewhere")[0].split("\nAll other obligations")[0]
@@ -82,7 +76,7 @@ def test_signals(row, y86_tell):
 @cases(MOTION)
 def test_motion(row, y86_tell):
     label, faults, repairs = row
-    status, out, err = y86_tell("check", "pipe", "d.hcl", "--json", files={"d.hcl": broken(label)}).text()
+    status, out, err = y86_tell("check", "pipe", "d.hcl", "--json", files={"d.hcl": broken_file(label)}).text()
     assert (status, err) == (1, "")
     first = json.loads(out)["refuted"][0]
     assert first["obligation"]["label"] == label
