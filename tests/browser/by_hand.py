@@ -1,7 +1,7 @@
 #!/usr/bin/env python3
 """by_hand.py OUT.html: a page that makes some 250 calls in the browser that opens it, and says how many gave the answers of the native programs.
 
-For Firefox and Safari's engine, before a release. The programs are the proved ones if both kinds are built.
+For Firefox and Safari's engine, before a release. It needs a Python with pytest: $(tests/interpreter) tests/browser/by_hand.py calls.html.
 """
 import os
 import sys

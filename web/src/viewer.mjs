@@ -33,7 +33,7 @@ function showRefusal() {
     const shown = refusals.find((it) => it.rule === name) ?? refusals[0];
     drawRefusal({ rule: shown?.rule ?? refusal[0].split(" ")[1], told: shown, lines: refusal, path, refusals });
   };
-  by("panel-run").hidden = by("controls").hidden = true;
+  by("panel-run").hidden = by("controls").parentElement.hidden = true;
   by("panel-no").hidden = false;
   on("refusal", show);
   show(first);
