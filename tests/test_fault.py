@@ -54,7 +54,7 @@ HCL = [
 
 
 def lines_of(answer):
-    return [line.split(":", 1)[1] for line in answer.text().out.splitlines() if line.startswith("f.")]
+    return [line.split(":", 1)[1] for line in answer.text()[1].splitlines() if line.startswith("f.")]
 
 
 @cases(HCL)
@@ -85,7 +85,7 @@ def test_binding(row, y86_tell):
     _, change, wanted = row
     text = change(design("std"))
     answer = y86_tell("fault", "f.hcl", "pipe", files={"f.hcl": text})
-    told = [line.split(": ", 1)[1] for line in answer.text().out.splitlines() if line.startswith("f.")]
+    told = [line.split(": ", 1)[1] for line in answer.text()[1].splitlines() if line.startswith("f.")]
     same([line.startswith(start) for line, start in zip(told, wanted)] + [len(told)], [True] * len(wanted) + [len(wanted)])
 
 
@@ -136,7 +136,7 @@ def test_every_faulty_line(y86_tell):
     """Each line that is faulty by itself is told, and no other."""
     text = "start: irmovq 1 %rax\n  halt\n  movl %eax, %ebx\nstart: nop\n  jmp end\n  .pos 0\n"
     answer = y86_tell("fault", "f.ys", files={"f.ys": text})
-    same([line.split(":")[1] for line in answer.text().out.splitlines() if line.startswith("f.")], ["1", "3", "4", "5"])
+    same([line.split(":")[1] for line in answer.text()[1].splitlines() if line.startswith("f.")], ["1", "3", "4", "5"])
 
 
 def test_object_text(y86_tell):
