@@ -22,6 +22,7 @@ PAGES = {
     "STAGES.md": "pipeline diagrams",
     "TELL.md": "answers in sentences",
     "LAB.md": "tools for a student's evening and a teacher's class",
+    "TEACHING.md": "a class: what to hand out, and how to grade",
     "COMMANDS.md": "every command, its arguments and exit statuses",
     "THEOREM.md": "why a `yes` holds for every program",
     "TRUST.md": "what to read and to trust to believe a `yes`",
@@ -36,7 +37,9 @@ SOLUTIONS = (
     )),
     "examples/copy/ncopy_",
     "examples/tutorial/",
+    "examples/class/",
     "docs/TUTORIAL.md",
+    "docs/TEACHING.md",
 )
 README = """\
 # y86
@@ -167,6 +170,13 @@ def readme(here, programs, built, files, has_solutions, has_page):
     )
 
 
+def version(here, built):
+    """Returns what `y86-lab --version` prints in a folder that was handed out."""
+    toolchain = toolchain_of(here, next(iter(built.values())))
+    by = f", by the toolchain {toolchain}" if toolchain else ""
+    return "\n".join([f"The Y86-64 workbench, {commit_of(here)}", *[f"{name}: proved and built{by}" for name in built], ""])
+
+
 def fill(here, built, folder, has_solutions=True, has_page=False):
     """Fills a folder with programs, each the path of a built one by the name of its launcher, and with what belongs to them. Returns the files' names.
     With `has_page` the README names the workbench for a browser, which is put there later."""
@@ -183,6 +193,8 @@ def fill(here, built, folder, has_solutions=True, has_page=False):
                 page.truncate()
     for name, it in built.items():
         shutil.copy(it, f"{folder}/{name}")
+    with open(f"{folder}/VERSION", "w", encoding="utf-8") as it:
+        it.write(version(here, built))
     with open(f"{folder}/README.md", "w", encoding="utf-8") as it:
         it.write(readme(here, [name.replace("-", "_") for name in built], built, files, has_solutions, has_page))
     return files

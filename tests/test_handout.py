@@ -65,7 +65,7 @@ def read(path):
 
 
 def test_what_is_handed_out(handed):
-    same(files_in(handed), ["README.md", "docs/HCL.md", "examples/designs/not_taken.hcl", "examples/designs/std.hcl", "y86", "y86-stages", "y86.html"])
+    same(files_in(handed), ["README.md", "VERSION", "docs/HCL.md", "examples/designs/not_taken.hcl", "examples/designs/std.hcl", "y86", "y86-stages", "y86.html"])
 
 
 def test_what_its_readme_says(repository, handed):
@@ -76,10 +76,17 @@ def test_what_its_readme_says(repository, handed):
     same([it for it in wanted if it not in text] + [it for it in ("3. No.",) if it in text], [])
 
 
+def test_what_its_version_says(handed):
+    """`y86-lab --version` prints it there."""
+    lines = read(f"{handed}/VERSION").splitlines()
+    assert re.fullmatch("The Y86-64 workbench, the commit [0-9a-f]{40}", lines[0]), lines
+    same(lines[1:], [f"{name}: proved and built, by the toolchain stand-in 1" for name in ("y86", "y86-stages")])
+
+
 def test_without_solutions_of_the_book(repository):
     repository.run([repository.prove, "--to", "for class", "--without-solutions"])
     folder = f"{repository.work}/for class"
-    same(files_in(folder), ["README.md", "docs/HCL.md", "examples/designs/std.hcl", "y86", "y86-stages", "y86.html"])
+    same(files_in(folder), ["README.md", "VERSION", "docs/HCL.md", "examples/designs/std.hcl", "y86", "y86-stages", "y86.html"])
     same(read(f"{folder}/y86.html"), "True examples/designs/not_taken.hcl\n")
 
 

@@ -6,7 +6,7 @@ import random
 import re
 from typing import Iterator, Optional
 
-from .calls import Answer, Programs, read_text
+from .calls import Answer, Limits, Programs, read_text
 from .errors import LabError
 
 LENGTHS, LARGER = range(65), (128, 192, 256)
@@ -64,16 +64,18 @@ def label(listing: str, name: str) -> int:
 class CopyLoop:
     """A copy function and a pipeline, with the cycles of each length that was run. The folder is for the drivers."""
 
-    def __init__(self, programs: Programs, source: str, path: str, flags: list[str], folder: str) -> None:
+    def __init__(
+        self, programs: Programs, source: str, path: str, flags: list[str], folder: str, limits: Limits = Limits()
+    ) -> None:
         self.programs, self.source, self.function = programs, source, read_text(source)
-        self.path, self.flags = path, flags
+        self.path, self.flags, self.limits = path, flags, limits
         self.driver, self.object = os.path.join(folder, "driver.ys"), os.path.join(folder, "driver.yo")
         self.cycles: dict[int, int] = {}
 
     def assemble(self, length: int) -> Answer:
         with open(self.driver, "w", encoding="utf-8") as file:
             file.write(driver(self.function, length))
-        answer = self.programs.run("yas", self.driver, "--mem", MEMORY, *self.flags)
+        answer = self.programs.run("yas", self.driver, "--mem", MEMORY, *self.flags, limits=self.limits)
         with open(self.object, "w", encoding="utf-8") as file:
             file.write(answer.out)
         return answer
@@ -107,7 +109,7 @@ class CopyLoop:
         limit = 1000 * (length + 1)
         options = [self.object, "--mem", MEMORY, *self.flags, "--limit", str(limit)]
         for name, unit, words in (("yis", "steps", options), ("psim", "cycles", [self.path, *options])):
-            answer = self.programs.run(name, *words)
+            answer = self.programs.run(name, *words, limits=self.limits)
             ran = re.search(r"^Ran (\d+) cycles", answer.out, re.M)
             if ran:
                 self.cycles[length] = int(ran[1])

@@ -14,13 +14,12 @@ from typing import Iterator, Optional
 from .. import explaining, hcl
 from ..arguments import MOST, Command, add_full, number_to
 from ..calls import Answer, Limits, Programs, full_flag
+from ..cells import cell
 from ..errors import DONE, FAULT, MEMORY, REFUSED, TOO_LONG, UNREADABLE, USAGE, LabError
 
 HEAD = ["file", "datapath", "verdict", "obligation", "fault", "settings", "cycles", "seconds"]
 # The longest text that `y86` takes.
 LONGEST = 65536
-# A spreadsheet takes a cell that begins so for a formula.
-FORMULA = ("=", "+", "-", "@", "\t", "\r")
 
 
 @dataclass
@@ -79,11 +78,6 @@ def status_of(verdicts: set[str]) -> int:
     if verdicts <= {"yes"}:
         return DONE
     return REFUSED if verdicts <= {"yes", "no", "fault"} else UNREADABLE
-
-
-def cell(value: str) -> str:
-    """A value as the text of a cell that is no formula."""
-    return f"'{value}" if value.startswith(FORMULA) else value
 
 
 def warn(text: str) -> None:

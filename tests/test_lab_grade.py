@@ -1,0 +1,301 @@
+"""`y86-lab grade` and `try`: the grades of examples/class, worked out by hand, the forms of grades, and hand-ins that try to do harm."""
+import csv
+import html
+import io
+import json
+import os
+import re
+import shutil
+import subprocess
+import sys
+import xml.etree.ElementTree as tree
+
+import pytest
+
+from helpers.cases import same
+from helpers.designs import changed, design, example
+from helpers.paths import TOP
+from helpers.programs import put
+from y86lab.errors import LabError
+from y86lab.grading.formats import as_csv, as_gradescope, as_json, as_junit
+from y86lab.grading.feedback import file_name
+from y86lab.grading.grader import Grade, Score, words
+from y86lab.grading.handins import hand_ins
+from y86lab.grading.rubric import Cycles, Item, Obligations, Program, Rubric, Run, Size, read_rubric, rubric_of
+
+LAB, CLASS = f"{TOP}/y86-lab", f"{TOP}/examples/class"
+pytestmark = pytest.mark.skipif(sys.version_info < (3, 11), reason="a rubric needs Python 3.11 or later")
+
+
+@pytest.fixture
+def lab(programs, folder):
+    def call(*words, files=None, tell="/nowhere"):
+        put(folder, files or {})
+        done = subprocess.run([LAB, *words], cwd=folder, stdin=subprocess.DEVNULL, capture_output=True, text=True, timeout=600, check=False,
+            env={**os.environ, "Y86": programs("y86"), "Y86_TELL": tell})
+        return done.returncode, done.stdout, done.stderr
+
+    return call
+
+
+# The class of examples/. Where y86-tell isn't there, an obligation after the first false one counts as one that doesn't hold.
+PROGRAMS = """\
+name,points,of,sum,rsum,copy
+ann,30,30,10,10,10
+bob,10,30,10,0,0
+cy,0,30,0,0,0
+Ελένη,10,30,10,0,0
+"""
+# Bob: S11. Cy, without iaddq: S2, S3, S5, S6, S8, S9, S11, S15.
+SEQ = """\
+name,points,of,fetch,decode,execute,memory and the rest
+ann,20,20,5,5,5,5
+bob,13.75,20,5,5,3.75,0
+cy,1.67,20,1.67,0,0,0
+dee,0,20,0,0,0,0
+"""
+# Ann's loop takes 8.48 cycles per element (60 (10.5 - 8.48) / 3) and 488 bytes (10 (1000 - 488) / 800). Bob: O10, and more. Dee: O22.
+PIPE = """\
+name,points,of,stages,forwarding,hazards and exceptions,cycles of the copy loop,bytes of the copy loop
+ann,86.71,110,15,10,15,40.31,6.4
+bob,22.03,110,5.36,6.67,0,0,10
+cy,10,110,0,0,0,0,10
+dee,37.14,110,15,10,2.14,0,10
+"""
+
+
+@pytest.mark.parametrize("part,grades", [("programs", PROGRAMS), ("seq", SEQ), ("pipe", PIPE)], ids=("programs", "seq", "pipe"))
+def test_class_of_the_examples(part, grades, lab):
+    same(lab("grade", f"{CLASS}/hand_ins/{part}", "--rubric", f"{CLASS}/{part}.toml"), (0, grades, ""))
+
+
+def stand_in(folder, *labels):
+    """A y86-tell that says these obligations are false."""
+    said = json.dumps({"verdict": "no", "refuted": [{"obligation": {"label": label}} for label in labels]})
+    put(folder, {"tell": f"#!/bin/sh\ncat <<'END'\n{said}\nEND\nexit 1\n"})
+    os.chmod(f"{folder}/tell", 0o755)
+    return f"{folder}/tell"
+
+
+def test_all_false_obligations_count(lab, folder):
+    """Bob's file, by what y86-tell says of it: O10, O11, O16 and O25 (no load/use hazard)."""
+    tell = stand_in(folder, "O10", "O11", "O16", "O25")
+    shutil.copytree(f"{CLASS}/hand_ins/pipe/bob", f"{folder}/in/bob")
+    status, out, _ = lab("grade", "in", "--rubric", f"{CLASS}/pipe.toml", "--format", "json", tell=tell)
+    items = json.loads(out)["grades"][0]["items"]
+    same((status, [item["points"] for item in items]), (0, [round(15 * 13 / 14, 2), round(10 * 4 / 6, 2), round(15 * 6 / 7, 2), 0.0, 10.0]))
+    same([item["reason"] for item in items[:3]], ["false: O16", "false: O10, O11", "false: O25"])
+
+
+def test_y86_tell_says_all(lab, programs):
+    """The same with the program itself."""
+    status, out, _ = lab("grade", f"{CLASS}/hand_ins/pipe", "--rubric", f"{CLASS}/pipe.toml", tell=programs("y86_tell"))
+    rows = {row["name"]: row for row in csv.DictReader(io.StringIO(out))}
+    same((status, [rows["bob"][name] for name in ("stages", "forwarding", "hazards and exceptions")]), (0, ["13.93", "6.67", "12.86"]))
+    same([rows["dee"][name] for name in ("stages", "forwarding", "hazards and exceptions")], ["15", "10", "12.86"])
+
+
+# Rubrics.
+
+
+def test_rubric_of_the_examples():
+    rubric = read_rubric(f"{CLASS}/pipe.toml")
+    same((rubric.full, rubric.most, rubric.files()), (True, 110.0, ["pipe.hcl", "ncopy.ys"]))
+    same([type(item.task) for item in rubric.items], [Obligations, Obligations, Obligations, Cycles, Size])
+    same(rubric.items[1].task.labels, ("O6", "O7", "O8", "O9", "O10", "O11", "S4", "S5", "S6", "S7"))
+    same(read_rubric(f"{CLASS}/programs.toml").items[2].task, Program("copy.ys", "references/copy.ys", ("%rax",), (("dest", 3),)))
+
+
+def test_every_obligation_is_in_one_group():
+    rubric = rubric_of("r", {"name": "all", "item": [{"name": name, "points": 1, "file": "a.hcl", "obligations": [name]} for name in
+        ("fetch", "decode and forwarding", "execute", "memory", "write-back", "hazards", "exceptions", "next address")]})
+    labels = [label for item in rubric.items for label in item.task.labels]
+    same(sorted(labels), sorted([f"O{number}" for number in range(1, 28)] + [f"S{number}" for number in range(1, 17)]))
+
+
+def item(**entries):
+    return {"name": "x", "points": 1, "file": "a.hcl", "obligations": ["O1"], **entries}
+
+
+WRONG = [
+    ({"item": [item()]}, "r: `name` is to be a text"),
+    ({"name": "n"}, "r: the rubric has no [[item]]"),
+    ({"name": "n", "full": 1, "item": [item()]}, "r: `full` is to be true or false"),
+    ({"name": "n", "ful": True, "item": [item()]}, "r: there is no `ful`"),
+    ({"name": "n", "item": [item(points=0)]}, "r: item 1: `points` is to be above 0"),
+    ({"name": "n", "item": [item(points="1")]}, "r: item 1: `points` is to be a number"),
+    ({"name": "n", "item": [item(file="../a.hcl")]}, "r: item 1: `file` is to be the name of a file, without a folder"),
+    ({"name": "n", "item": [item(file="..")]}, "r: item 1: `file` is to be the name of a file, without a folder"),
+    ({"name": "n", "item": [item(on="b.hcl")]}, "r: item 1: there is no `on`"),
+    ({"name": "n", "item": [item(), {"name": "y", "points": 1, "file": "a.ys", "on": "a.hcl", "cycles": [9, 9]}]},
+        "r: item 2: `cycles` is to be two numbers, the better one first"),
+    ({"name": "n", "item": [{"name": "y", "points": 1, "file": "a.ys", "reference": "r.ys", "words": {"dest": "3"}}]},
+        "r: item 1: `words` is to be a table of labels with a number of words each"),
+]
+
+
+@pytest.mark.parametrize("table,told", WRONG, ids=[told[3:40] for _, told in WRONG])
+def test_wrong_rubrics(table, told):
+    with pytest.raises(LabError) as fault:
+        rubric_of("r", table)
+    same((str(fault.value), fault.value.status), (told, 2))
+
+
+def test_wrong_arguments(lab, folder):
+    rubric = f"{CLASS}/seq.toml"
+    same(lab("grade", "nowhere", "--rubric", rubric)[::2], (2, "nowhere: no such folder\n"))
+    same(lab("grade", ".", "--rubric", "nowhere.toml")[::2], (2, "nowhere.toml: No such file or directory\n"))
+    same(lab("grade", ".", "--rubric", "a.toml", files={"a.toml": "name = \n"})[0], 2)
+    same(lab("grade", ".", "--rubric", rubric, "--format", "gradescope")[::2], (2, "Gradescope's results are of one hand-in: --single\n"))
+    os.mkdir(f"{folder}/none")
+    same(lab("grade", "none", "--rubric", rubric)[::2], (2, "none: it has no hand-in\n"))
+
+
+# Hand-ins.
+
+
+def test_flat_hand_ins(folder):
+    """Files that begin with a name; those of others are passed over."""
+    put(folder, {name: "" for name in ("ann_pipe.hcl", "ann-ncopy.ys", "bob pipe.hcl", "notes.txt", "d.e.pipe.hcl", "pipe.hcl")})
+    found = {each.name: (sorted(each.files), each.missing) for each in hand_ins(folder, ["pipe.hcl", "ncopy.ys"])}
+    missing = {"ncopy.ys": "it is missing"}
+    same(found, {"ann": (["ncopy.ys", "pipe.hcl"], {}), "bob": (["pipe.hcl"], missing), "d.e": (["pipe.hcl"], missing)})
+
+
+def test_flat_hand_ins_of_one_file(folder):
+    put(folder, {name: "" for name in ("ann.hcl", "bob_pipe.hcl", "x.ys")})
+    same([each.name for each in hand_ins(folder, ["pipe.hcl"])], ["ann", "bob"])
+
+
+def test_links_out_of_the_folder(folder):
+    """None is followed, of a file or of a folder; one inside is."""
+    for name in ("in/ann", "in/bob", "in/cy", "out"):
+        os.makedirs(f"{folder}/{name}")
+    put(folder, {"out/pipe.hcl": "secret", "in/cy/mine.hcl": "mine"})
+    os.symlink("../../out/pipe.hcl", f"{folder}/in/ann/pipe.hcl")
+    os.symlink("mine.hcl", f"{folder}/in/cy/pipe.hcl")
+    os.symlink("../../out", f"{folder}/in/bob/more")
+    os.symlink("../out", f"{folder}/in/dee")
+    os.mkfifo(f"{folder}/in/eve")
+    found = {each.name: (each.files, each.missing) for each in hand_ins(f"{folder}/in", ["pipe.hcl"])}
+    out = {"pipe.hcl": "it is a link out of the folder"}
+    same(found, {"ann": ({}, out), "bob": ({}, {"pipe.hcl": "it is missing"}), "cy": ({"pipe.hcl": f"{folder}/in/cy/pipe.hcl"}, {}), "dee": ({}, out)})
+
+
+def test_hand_ins_that_try_to_do_harm(lab, folder):
+    """A FIFO, a file that is huge, one that is no text, a loop without end, and a name that is a formula: each gets its line."""
+    names = ["=cmd|' calc'!A0", "<script>", "fifo", "huge", "loop", "noise"]
+    for name in names:
+        os.makedirs(f"{folder}/in/{name}")
+    os.mkfifo(f"{folder}/in/fifo/sum.ys")
+    with open(f"{folder}/in/huge/sum.ys", "wb") as file:
+        file.truncate(1 << 32)
+    put(folder, {"in/loop/sum.ys": "loop: jmp loop\n", "in/noise/sum.ys": bytes(range(256)), "in/<script>/sum.ys": "<script>alert(1)</script>\n",
+        "in/=cmd|' calc'!A0/sum.ys": "irmovq $0xcba, %rax\nhalt\n"})
+    status, out, err = lab("grade", "in", "--rubric", f"{CLASS}/programs.toml", "--feedback", "pages", "--jobs", "2")
+    same((status, err), (0, ""))
+    same([row[:4] for row in csv.reader(io.StringIO(out))][1:],
+        [["<script>", "0", "30", "0"], ["'=cmd|' calc'!A0", "10", "30", "10"], *[[name, "0", "30", "0"] for name in names[2:]]])
+    pages = sorted(os.listdir(f"{folder}/pages"))
+    same(pages, ["cmd_calc_A0.html", "fifo.html", "huge.html", "loop.html", "noise.html", "script.html"])
+    for page in pages:
+        with open(f"{folder}/pages/{page}", encoding="utf-8") as file:
+            text = file.read()
+        assert "<script" not in text and "30 points" in text, page
+    with open(f"{folder}/pages/huge.html", encoding="utf-8") as file:
+        assert "the source is too long" in file.read()
+
+
+def test_names_of_pages():
+    taken = set()
+    same([file_name(name, taken) for name in ("ann", "Ann", "../etc", "-rf", "a/b", "Ελένη", "...", "x" * 300)],
+        ["ann.html", "Ann-2.html", "etc.html", "rf.html", "a_b.html", "Ελένη.html", "hand-in.html", "x" * 100 + ".html"])
+
+
+def test_feedback_shows_the_mistake(lab, folder):
+    """The page has what `explain` says, and the program that shows it."""
+    wrong = changed(design("std"), d_valA="[ D_icode in { ICALL, IJXX } : D_valP; d_srcA == M_dstE : M_valE; @ ]")
+    os.mkdir(f"{folder}/in")
+    put(folder, {"in/ann.hcl": wrong, "in/bob.hcl": example("std"),
+        "r.toml": 'name = "Forwarding"\n[[item]]\nname = "forwarding"\npoints = 6\nfile = "pipe.hcl"\nobligations = ["O6", "O10"]\n'})
+    status, out, err = lab("grade", "in", "--rubric", "r.toml", "--feedback", "pages", "-o", "grades.csv")
+    same((status, out, err), (0, "", ""))
+    with open(f"{folder}/grades.csv", encoding="utf-8") as file:
+        same(file.read(), "name,points,of,forwarding\nann,3,6,3\nbob,6,6,6\n")
+    with open(f"{folder}/pages/ann.html", encoding="utf-8") as file:
+        page = html.unescape(re.sub("<[^>]*>", "", file.read()))
+    for text in ("pipe.hcl: no, O10 doesn't hold", "They part at instruction", "3 of 6 points"):
+        assert text in page, page
+    assert folder not in page
+    with open(f"{folder}/pages/bob.html", encoding="utf-8") as file:
+        assert "<pre>" not in file.read()
+
+
+# The forms of grades.
+
+RUBRIC = Rubric("=Lab & co", False, (Item("one", 2, Run("a.ys", "b.hcl")), Item("-two", 3, Run("a.ys", "b.hcl"))))
+GRADES = [Grade("@ann <x>", (Score("one", 2.0, 2, "all hold"), Score("-two", 0.75, 3, "a < b & \0c")), {1: 33}), Grade("bob", (Score("one", 0.0, 2, ""), Score("-two", 3.0, 3, "")), {})]
+
+
+def test_csv():
+    same(as_csv(RUBRIC, GRADES), "name,points,of,one,'-two\n'@ann <x>,2.75,5,2,0.75\nbob,3,5,0,3\n")
+
+
+def test_json():
+    data = json.loads(as_json(RUBRIC, GRADES))
+    same((data["rubric"], data["of"], data["grades"][0]["cycles"]), ("=Lab & co", 5, {"1": 33}))
+    same(data["grades"][0]["items"][1], {"name": "-two", "points": 0.75, "of": 3, "reason": "a < b & \0c"})
+
+
+def test_junit():
+    top = tree.fromstring(as_junit(RUBRIC, GRADES))
+    same([(suite.get("name"), suite.get("tests"), suite.get("failures")) for suite in top], [("@ann <x>", "2", "1"), ("bob", "2", "1")])
+    failure = top[0][1][0]
+    same((failure.tag, failure.get("message"), failure.text), ("failure", "0.75 of 3", "a < b & \ufffdc"))
+
+
+def test_gradescope():
+    data = json.loads(as_gradescope(RUBRIC, GRADES))
+    same((data["score"], [(each["name"], each["score"], each["max_score"], each["status"]) for each in data["tests"]]),
+        (2.75, [("one", 2.0, 2, "passed"), ("-two", 0.75, 3, "failed")]))
+
+
+def test_gradescope_of_a_hand_in(lab):
+    status, out, err = lab("grade", f"{CLASS}/hand_ins/programs/bob", "--single", "--rubric", f"{CLASS}/programs.toml", "--format", "gradescope")
+    data = json.loads(out)
+    same((status, err, data["score"], [each["score"] for each in data["tests"]]), (0, "", 10.0, [10.0, 0.0, 0.0]))
+
+
+def test_scripts_for_course_systems():
+    for name in ("setup.sh", "run_autograder"):
+        assert os.access(f"{CLASS}/gradescope/{name}", os.X_OK), name
+        same(subprocess.run(["bash", "-n", f"{CLASS}/gradescope/{name}"], capture_output=True, check=False).stderr, b"")
+
+
+def test_words_after_a_label():
+    """What the run didn't change is as the object file has it."""
+    listing = "0x000: 00                   | halt\n0x008:                      | dest:\n0x008: 0a00000000000000     |     .quad 10\n0x010: 0b00000000000000     |     .quad 11\n"
+    report = "Stopped in 1 steps at PC = 0x0.  Status 'HLT', CC Z=1 S=0 O=0\nChanges to memory:\n0x0010:\t0x000000000000000b\t0x00000000000000ff\n"
+    same((words(report, listing, "dest", 2), words(report, listing, "nowhere", 1)), ("0xa 0xff", "no label nowhere"))
+
+
+# `try`.
+
+
+def test_try(lab):
+    """A program on a right pipeline, and on one without the load/use hazard: with 0x0 the old word was right too."""
+    program = "irmovq word, %rdi\nmrmovq (%rdi), %rax\naddq %rax, %rax\nhalt\n.align 8\nword:\n.quad 0\n"
+    wrong = re.sub(r"bool ([DF])_stall =[^;]*;", r"bool \1_stall = 0;", re.sub(r"bool E_bubble =[^;]*;", "bool E_bubble = 0;", design("std")))
+    files = {"p.ys": program, "std.hcl": example("std"), "wrong.hcl": wrong}
+    same(lab("try", "p.ys", "std.hcl", files=files), (0, "p.ys ends under std.hcl as by its instructions with each of 20 inputs.\n", ""))
+    status, out, err = lab("try", "p.ys", "wrong.hcl")
+    same((status, err, out.splitlines()[0]), (1, "", "The processor ends otherwise than the instructions say."))
+    assert re.search(r"^The \.quad lines were: -?\d+$", out, re.M) and "on the processor:\n    Stopped in 4 steps" in out, out
+    same(lab("try", "p.ys", "wrong.hcl", "--inputs", "1")[:2], (0, "p.ys ends under wrong.hcl as by its instructions.\n"))
+
+
+def test_try_of_an_object_file(lab):
+    files = {"std.hcl": example("std"), "seq.hcl": example("seq"), "p.yo": "0x000: 00 |\n", "q.ys": "movq\n"}
+    same(lab("try", "p.yo", "seq.hcl", files=files), (0, "p.yo ends under seq.hcl as by its instructions.\n", ""))
+    same(lab("try", "q.ys", "std.hcl"), (5, "", "q.ys:1: Syntax\n"))
+    same(lab("try", "none.ys", "std.hcl")[0], 3)

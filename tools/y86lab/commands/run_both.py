@@ -1,0 +1,106 @@
+"""y86-lab try PROGRAM HCL: a program on a processor against the run by its instructions, over many inputs."""
+from __future__ import annotations
+
+import argparse
+import os
+import random
+import re
+import tempfile
+from typing import Iterator
+
+from .. import explaining, hcl
+from ..arguments import MOST, Command, add_run_options, number_to, run_options
+from ..calls import Limits, Programs, read_text
+from ..errors import DONE, OUT_OF_TIME, REFUSED, LabError
+
+COMMANDS = {"pipe": "psim", "seq": "ssim", "seqplus": "ssimp"}
+WORD = re.compile(r"^(\s*\.quad\s+)(0x[0-9a-fA-F]+|-?\d+)(\s*(?:#.*)?)$")
+LONG_RUN = 120
+
+
+def add_arguments(parser: argparse.ArgumentParser) -> None:
+    parser.add_argument("program", metavar="PROGRAM", help="an assembly file (.ys), or an object file (.yo)")
+    parser.add_argument("file", metavar="HCL", help="the processor")
+    parser.add_argument(
+        "--inputs", type=number_to(MOST), default=20, metavar="N",
+        help="of a source: with its own words, and N - 1 times with others in its .quad lines (default 20)",
+    )
+    add_run_options(parser)
+
+
+def run(arguments: argparse.Namespace, programs: Programs) -> int:
+    datapath = explaining.datapath(hcl.design_of(read_text(arguments.file)))
+    options = run_options(arguments)
+    tried = 0
+    with tempfile.TemporaryDirectory() as folder:
+        for words, made in objects(arguments, programs, folder):
+            report, wanted = both(programs, datapath, arguments.file, made, options)
+            tried += 1
+            if report != wanted:
+                print_difference(words, wanted, report)
+                return REFUSED
+    inputs = "" if tried == 1 else f" with each of {tried} inputs"
+    print(f"{arguments.program} ends under {arguments.file} as by its instructions{inputs}.")
+    return DONE
+
+
+def objects(arguments: argparse.Namespace, programs: Programs, folder: str) -> Iterator[tuple[list[str], str]]:
+    """The object files to run, each with the words that were put into it."""
+    if not arguments.program.endswith(".ys"):
+        yield [], arguments.program
+        return
+    source = read_text(arguments.program).split("\n")
+    places = [number for number, line in enumerate(source) if WORD.match(line)]
+    for turn in range(arguments.inputs if places else 1):
+        words = other_words(turn, len(places)) if turn else []
+        lines = list(source)
+        for place, word in zip(places, words):
+            lines[place] = WORD.sub(rf"\g<1>{word}\g<3>", lines[place])
+        yield words, assembled(arguments, programs, folder, "\n".join(lines))
+
+
+def other_words(turn: int, count: int) -> list[str]:
+    """Small numbers of both signs, and now and then large ones; the same at each call."""
+    chance = random.Random(turn)
+    return [str(chance.choice([chance.randrange(-20, 20), chance.getrandbits(63) - (1 << 62)])) for _ in range(count)]
+
+
+def assembled(arguments: argparse.Namespace, programs: Programs, folder: str, text: str) -> str:
+    source, made = os.path.join(folder, "p.ys"), os.path.join(folder, "p.yo")
+    with open(source, "w", encoding="utf-8") as file:
+        file.write(text)
+    options = ["--full"] if arguments.full else []
+    options += ["--mem", str(arguments.mem)] if arguments.mem is not None else []
+    answer = programs.run("yas", source, *options)
+    if answer.status != DONE:
+        raise LabError(answer.err.strip().replace(source, arguments.program), answer.status or REFUSED)
+    with open(made, "w", encoding="utf-8") as file:
+        file.write(answer.out)
+    return made
+
+
+def both(programs: Programs, datapath: str, path: str, made: str, options: list[str]) -> tuple[str, str]:
+    """The report on the processor, and the one by the instructions."""
+    limits = Limits(LONG_RUN)
+    by_instructions = programs.run("yis", made, *options, limits=limits)
+    on_processor = programs.run(COMMANDS[datapath], path, made, *options, limits=limits)
+    for answer in (by_instructions, on_processor):
+        if "Stopped in " not in answer.out:
+            status = OUT_OF_TIME if answer.status is None else answer.status or REFUSED
+            raise LabError(answer.err.strip() or "a run gave no report in time", status)
+    return on_processor.out[on_processor.out.index("Stopped in ") :], by_instructions.out
+
+
+def print_difference(words: list[str], wanted: str, report: str) -> None:
+    print("The processor ends otherwise than the instructions say.\n")
+    if words:
+        print(f"The .quad lines were: {' '.join(words)}\n")
+    for title, text, other in (("by the instructions", wanted, report), ("on the processor", report, wanted)):
+        print(f"{title}:")
+        others = set(other.splitlines())
+        for line in text.splitlines():
+            if line and line not in others:
+                print(f"    {line}")
+
+
+COMMAND = Command("try", "runs a program on a processor and by its instructions, with many inputs", add_arguments, run)

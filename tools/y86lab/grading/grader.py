@@ -1,0 +1,235 @@
+"""What a hand-in is worth by a rubric."""
+from __future__ import annotations
+
+import os
+import re
+import tempfile
+from dataclasses import dataclass
+from functools import lru_cache
+
+from ..calls import Answer, Limits, Programs, full_flag
+from ..copy_loop import LARGER, LENGTHS, CopyLoop
+from ..errors import DONE, LabError
+from .handins import HandIn
+from .obligations import Verdict, verdict
+from .rubric import Cycles, Item, Obligations, Program, Rubric, Run, Size
+
+# The longest source that y86 takes.
+LONGEST = 1048576
+COMMANDS = {"pipe": "psim", "seq": "ssim", "seqplus": "ssimp"}
+
+
+@dataclass(frozen=True)
+class Score:
+    """The points of an item, and why."""
+
+    name: str
+    points: float
+    most: float
+    reason: str
+
+
+@dataclass(frozen=True)
+class Grade:
+    """The scores of a hand-in, and the cycles of a copy loop by its lengths if the rubric asks for them."""
+
+    name: str
+    scores: tuple[Score, ...]
+    cycles: dict[int, int]
+
+    @property
+    def points(self) -> float:
+        return sum(score.points for score in self.scores)
+
+    @property
+    def most(self) -> float:
+        return sum(score.most for score in self.scores)
+
+
+class NoPoints(Exception):
+    """Why an item is worth nothing."""
+
+
+class Grader:
+    """Grades one hand-in. Whatever its files do, each item gets a score."""
+
+    def __init__(self, programs: Programs, rubric: Rubric, limits: Limits, hand_in: HandIn) -> None:
+        self.programs, self.rubric, self.limits, self.hand_in = programs, rubric, limits, hand_in
+        self.flags = full_flag(rubric.full)
+        self.verdicts: dict[str, Verdict] = {}
+        self.cycles: dict[int, int] = {}
+
+    def grade(self) -> Grade:
+        return Grade(self.hand_in.name, tuple(self.score(item) for item in self.rubric.items), self.cycles)
+
+    def score(self, item: Item) -> Score:
+        try:
+            share, reason = self.share(item)
+        except (NoPoints, LabError) as why:
+            share, reason = 0.0, str(why)
+        except (OSError, RecursionError, ValueError) as why:
+            share, reason = 0.0, f"it could not be graded: {why}"
+        return Score(item.name, round(item.points * share, 2), item.points, reason)
+
+    def share(self, item: Item) -> tuple[float, str]:
+        """Which part of the points an item gets, and why."""
+        task = item.task
+        if isinstance(task, Obligations):
+            return self.share_of_obligations(task)
+        if isinstance(task, Program):
+            return self.share_of_program(task)
+        if isinstance(task, Run):
+            return self.share_of_run(task)
+        return self.share_of_cycles(task) if isinstance(task, Cycles) else self.share_of_size(task)
+
+    def path(self, name: str) -> str:
+        """The file of the hand-in with this name."""
+        if name not in self.hand_in.files:
+            raise NoPoints(f"{name}: {self.hand_in.missing.get(name, 'it is missing')}")
+        return self.hand_in.files[name]
+
+    def verdict(self, name: str) -> Verdict:
+        if name not in self.verdicts:
+            self.verdicts[name] = verdict(self.programs, self.path(name), self.rubric.full, self.limits)
+        return self.verdicts[name]
+
+    def share_of_obligations(self, task: Obligations) -> tuple[float, str]:
+        judged = self.verdict(task.file)
+        if judged.fault:
+            raise NoPoints(judged.fault.replace(self.path(task.file), task.file))
+        letter = "O" if judged.datapath == "pipe" else "S"
+        asked = [label for label in task.labels if label.startswith(letter)]
+        if not asked:
+            raise NoPoints(f"{task.file} is a file for another processor")
+        false = [label for label in asked if label in judged.false]
+        if not judged.is_complete:
+            # (what comes after the first false one isn't known)
+            first = int(judged.false[0][1:])
+            unknown = [label for label in asked if int(label[1:]) > first]
+            share = (len(asked) - len(false) - len(unknown)) / len(asked)
+            return share, f"{judged.false[0]} is false; later ones weren't decided"
+        if not false:
+            return 1.0, "all hold"
+        return (len(asked) - len(false)) / len(asked), f"false: {', '.join(false)}"
+
+    def assembled(self, path: str, folder: str, name: str) -> tuple[str, str]:
+        """The object file of a source, and its listing."""
+        if os.path.getsize(path) > LONGEST:
+            raise NoPoints("the source is too long")
+        answer = self.programs.run("yas", path, *self.flags, limits=self.limits)
+        if answer.status != DONE:
+            raise NoPoints(answer.err.strip().replace(path, os.path.basename(path)) or "the assembler gave no answer")
+        made = os.path.join(folder, name)
+        with open(made, "w", encoding="utf-8") as file:
+            file.write(answer.out)
+        return made, answer.out
+
+    def run_by_instructions(self, made: str) -> Answer:
+        answer = self.programs.run("yis", made, *self.flags, limits=self.limits)
+        if answer.status is None or "Status '" not in answer.out:
+            raise NoPoints("the program gave no report in time" if answer.status is None else answer.err.strip())
+        return answer
+
+    def share_of_program(self, task: Program) -> tuple[float, str]:
+        reference_path = os.path.join(self.rubric.folder, task.reference)
+        with tempfile.TemporaryDirectory() as folder:
+            own, own_listing = self.assembled(self.path(task.file), folder, "own.yo")
+            right, right_listing = self.assembled(reference_path, folder, "right.yo")
+            report, wanted = self.run_by_instructions(own).out, self.run_by_instructions(right).out
+        differences = [compared("the status", status_of(wanted), status_of(report))]
+        for name in task.registers:
+            differences.append(compared(name, register(wanted, name), register(report, name)))
+        for name, count in task.words:
+            right_words, own_words = words(wanted, right_listing, name, count), words(report, own_listing, name, count)
+            differences.append(compared(f"the words at {name}", right_words, own_words))
+        if any(differences):
+            raise NoPoints("; ".join(difference for difference in differences if difference))
+        return 1.0, "it ends as the reference does"
+
+    def share_of_run(self, task: Run) -> tuple[float, str]:
+        path = self.path(task.processor)
+        judged = self.verdict(task.processor)
+        with tempfile.TemporaryDirectory() as folder:
+            made, _ = self.assembled(self.path(task.file), folder, "own.yo")
+            wanted = self.run_by_instructions(made).out
+            answer = self.programs.run(COMMANDS[judged.datapath], path, made, *self.flags, limits=self.limits)
+        report = answer.out[answer.out.find("Stopped in ") :] if "Stopped in " in answer.out else ""
+        if not report:
+            raise NoPoints(answer.err.strip() or "the processor gave no report in time")
+        if report != wanted:
+            raise NoPoints(f"it ends otherwise than by its instructions: {first_difference(wanted, report)}")
+        return 1.0, "it ends as by its instructions"
+
+    def copy_loop(self, name: str, processor: str, folder: str) -> CopyLoop:
+        path = self.path(name)
+        if os.path.getsize(path) > LONGEST:
+            raise NoPoints("the source is too long")
+        return CopyLoop(self.programs, path, processor, self.flags, folder, self.limits)
+
+    def share_of_cycles(self, task: Cycles) -> tuple[float, str]:
+        judged = self.verdict(task.processor)
+        if judged.fault or judged.false or judged.datapath != "pipe":
+            raise NoPoints(f"{task.processor} isn't accepted as a pipeline")
+        with tempfile.TemporaryDirectory() as folder:
+            loop = self.copy_loop(task.file, self.path(task.processor), folder)
+            loop.size()
+            for length in [*LENGTHS, *LARGER]:
+                for fault in loop.faults(length):
+                    raise NoPoints(fault)
+            self.cycles = loop.cycles
+            mean = loop.mean()
+        share = (task.worst - mean) / (task.worst - task.best)
+        return min(1.0, max(0.0, share)), f"{mean:.2f} cycles per element"
+
+    def share_of_size(self, task: Size) -> tuple[float, str]:
+        with tempfile.TemporaryDirectory() as folder:
+            size = self.copy_loop(task.file, "", folder).size()
+        share = 1.0 if size <= task.best else (task.worst - size) / (task.worst - task.best)
+        return max(0.0, share), f"{size} bytes"
+
+
+def compared(what: str, wanted: str, got: str) -> str:
+    return "" if wanted == got else f"{what}: {got or 'nothing'} in place of {wanted or 'nothing'}"
+
+
+def status_of(report: str) -> str:
+    match = re.search(r"Status '(\w+)'", report)
+    return match[1] if match else ""
+
+
+def register(report: str, name: str) -> str:
+    """The value of a register at the end; 0 if it isn't among the changes."""
+    match = re.search(rf"^{re.escape(name)}:\t\S+\t0x(\w+)$", report, re.M)
+    return hex(int(match[1], 16)) if match else "0x0"
+
+
+@lru_cache(maxsize=64)
+def bytes_of(listing: str) -> dict[int, int]:
+    """The bytes of a listing by address."""
+    held: dict[int, int] = {}
+    for address, digits in re.findall(r"^0x([0-9a-f]+): ([0-9a-f]+) *\|", listing, re.M):
+        for number, byte in enumerate(bytes.fromhex(digits)):
+            held[int(address, 16) + number] = byte
+    return held
+
+
+def words(report: str, listing: str, label: str, count: int) -> str:
+    """The words after a label at the end of a run."""
+    place = re.search(rf"^0x([0-9a-f]+):.*\|\s*{re.escape(label)}:", listing, re.M)
+    if not place:
+        return f"no label {label}"
+    start, held = int(place[1], 16), bytes_of(listing)
+    changed = {
+        int(address, 16): int(word, 16) for address, word in re.findall(r"^0x(\w+):\t\S+\t0x(\w+)$", report, re.M)
+    }
+    values = []
+    for address in range(start, start + 8 * count, 8):
+        before = sum(held.get(address + number, 0) << 8 * number for number in range(8))
+        values.append(changed.get(address, before))
+    return " ".join(map(hex, values))
+
+
+def first_difference(wanted: str, report: str) -> str:
+    """The first line of a report that isn't in another."""
+    lines = set(wanted.splitlines())
+    return next((line.strip() for line in report.splitlines() if line not in lines), "lines are missing")

@@ -1,0 +1,96 @@
+"""The hand-ins of a class: a folder for each name, or files that begin with the names.
+
+No link out of the folder is followed.
+"""
+from __future__ import annotations
+
+import os
+import re
+from dataclasses import dataclass
+from typing import Iterable
+
+# What parts the name from the file in a flat folder.
+PARTING = "-_. "
+
+
+@dataclass(frozen=True)
+class HandIn:
+    """A name, its files by the names of the rubric, and what is wrong with those that it lacks."""
+
+    name: str
+    files: dict[str, str]
+    missing: dict[str, str]
+
+
+def hand_ins(folder: str, wanted: Iterable[str], is_single: bool = False) -> list[HandIn]:
+    """The hand-ins of a folder; of a single hand-in the folder itself."""
+    names = list(wanted)
+    top = os.path.realpath(folder)
+    if is_single:
+        return [in_folder(os.path.basename(top), top, top, names)]
+    entries = sorted(os.scandir(folder), key=lambda entry: entry.name)
+    folders = [entry for entry in entries if entry.is_dir()]
+    if folders:
+        return [in_folder(entry.name, entry.path, top, names) for entry in folders]
+    return flat([entry.path for entry in entries], top, names)
+
+
+def in_folder(name: str, folder: str, top: str, wanted: list[str]) -> HandIn:
+    """The hand-in of a folder: each file there, or in one folder below."""
+    files, missing = {}, {}
+    for file in wanted:
+        places = [os.path.join(folder, file)]
+        if is_inside(folder, top):
+            below = sorted(entry.path for entry in os.scandir(folder) if entry.is_dir(follow_symlinks=False))
+            places += [os.path.join(place, file) for place in below]
+        path = next((place for place in places if os.path.lexists(place)), places[0])
+        fault = fault_of(path, top)
+        if fault:
+            missing[file] = fault
+        else:
+            files[file] = path
+    return HandIn(name, files, missing)
+
+
+def flat(paths: list[str], top: str, wanted: list[str]) -> list[HandIn]:
+    """Hand-ins of files such as `ann_pipe.hcl`; of one file alone also `ann.hcl`."""
+    found: dict[str, HandIn] = {}
+    for path in paths:
+        base = os.path.basename(path)
+        for file in wanted:
+            match = re.fullmatch(rf"(.+)[{re.escape(PARTING)}]{re.escape(file)}", base, re.S)
+            name = match[1] if match else ""
+            if not name and len(wanted) == 1 and os.path.splitext(base)[1] == os.path.splitext(file)[1]:
+                name = os.path.splitext(base)[0]
+            if not name:
+                continue
+            hand_in = found.setdefault(name, HandIn(name, {}, {each: "it is missing" for each in wanted}))
+            fault = fault_of(path, top)
+            if fault:
+                hand_in.missing[file] = fault
+            else:
+                hand_in.files[file] = path
+                del hand_in.missing[file]
+            break
+    return [found[name] for name in sorted(found)]
+
+
+def is_inside(path: str, top: str) -> bool:
+    return os.path.commonpath([os.path.realpath(path), top]) == top
+
+
+def fault_of(path: str, top: str) -> str:
+    """Why a path is no file to grade; empty if it is one."""
+    if not os.path.lexists(path):
+        return "it is missing"
+    if not is_inside(path, top):
+        return "it is a link out of the folder"
+    if not os.path.isfile(path):
+        return "it is no regular file"
+    if not os.access(path, os.R_OK):
+        return "it can't be read"
+    try:
+        path.encode()
+    except UnicodeEncodeError:
+        return "its name isn't UTF-8"
+    return ""
