@@ -14,7 +14,6 @@ from y86lab.explaining import isa
 from y86lab.explaining.signals import datapath_of_text, in_full, in_short, unasked
 from y86lab.explaining.situation import NO_CASE, Situation
 from y86lab.hcl import Cases, Design, design_of
-from y86lab.stages import cycles_of, diagram_of
 from y86lab.trial import writes_code
 from y86lab.trial_programs import at_random, pairs, special
 
@@ -149,64 +148,6 @@ def test_settings_in_words():
     same(said[1], "pb=0000000: of jumps backward, it predicts as taken: no jump")
     same([sentence.split(":")[0] for sentence in said[2:]], ["tv=0", "lf=1", "je=1", "rm=0"])
     same(said[4].rpartition(": ")[2], "it costs one bubble")
-
-
-# Runs.
-
-CYCLE = """\
-cycle 4
-F row 3 at 0x00c next stall stat AOK F_predPC 0xc f_pc_from F_predPC | halt
-D row 2 at 0x00a next stall stat AOK d_srcA %rax d_srcB - d_valA 0x5 d_valA_from m_valM | addq %rax, %rax
-E row 1 at 0x000 next bubble stat AOK dstM %rax e_dstE - e_Cnd 1 | mrmovq (%rdi), %rax
-M row 0 at - next load stat BUB m_stat BUB | bubble
-W row 0 at - next load stat BUB | bubble
-flags ZF 1 SF 0 OF 0
-write %rax 0x5
-store 0x500 0x6
-end HLT cycles 9 retired 4
-"""
-
-
-def test_cycles_of_stages():
-    cycles, end = cycles_of(CYCLE)
-    same((len(cycles), cycles[0].number, end), (1, 4, {"status": "HLT", "cycles": "9", "retired": "4"}))
-    same((cycles[0].flags, cycles[0].writes, cycles[0].stores), ({"ZF": "1", "SF": "0", "OF": "0"}, [["%rax", "0x5"]], [["0x500", "0x6"]]))
-    same((cycles[0]["D"].row, cycles[0]["D"].address, cycles[0]["D"]["d_srcA"], cycles[0]["M"].is_bubble), ("2", "0x00a", "%rax", True))
-
-
-SENTENCES = [
-    ({}, ["Load/use: addq %rax, %rax waits in D for %rax, which mrmovq (%rdi), %rax in E has still to load. A bubble goes into E."]),
-    ({"dstM %rax e_dstE -": "dstM - e_dstE %rax"}, ["addq %rax, %rax waits in D for %rax, which mrmovq (%rdi), %rax in E hasn't written yet."]),
-    ({"dstM %rax": "dstM -"}, ["addq %rax, %rax waits in D."]),
-    ({"at 0x00a next stall": "at 0x00a next load", "next bubble": "next load"},
-        []),
-    ({"at 0x00a next stall": "at 0x00a next load", "next bubble": "next both"},
-        ["E is to stall and to take a bubble at once: the machine ends with PIP."]),
-    ({"at 0x00a next stall": "at 0x00a next load", "mrmovq (%rdi), %rax": "jne 0x040"},
-        ["Mispredicted: jne 0x040 in E is taken, so what was fetched behind it goes no further, and bubbles take its place."]),
-    ({"at 0x00a next stall": "at 0x00a next bubble", "addq %rax, %rax": "ret"},
-        ["A ret is in D, and its address isn't read yet: what is fetched at 0x00c is fetched in vain, and a bubble goes into D."]),
-]
-
-
-@pytest.mark.parametrize("changes,sentences", SENTENCES, ids=[(sentences or ["nothing"])[0][:20] for _, sentences in SENTENCES])
-def test_sentences_of_a_cycle(changes, sentences):
-    text = CYCLE
-    for old, new in changes.items():
-        assert old in text
-        text = text.replace(old, new)
-    same(cycles_of(text)[0][0].sentences(), sentences or ["Each instruction goes on to the next stage."])
-
-
-def test_forwarding_is_told():
-    text = CYCLE.replace("at 0x00a next stall", "at 0x00a next load").replace("next bubble", "next load")
-    text = text.replace("M row 0 at - next load stat BUB m_stat BUB | bubble", "M row 0 at 0x000 next load stat AOK m_stat AOK | popq %rax")
-    same(cycles_of(text)[0][0].sentences(), ["addq %rax, %rax gets %rax = 0x5 forwarded as d_valA from m_valM, of popq %rax in M."])
-
-
-def test_rows_of_a_diagram():
-    text = " 01 02 03\n  F  D  E | 0x000 nop | nop # a\n     F  d | bubble\n"
-    same(diagram_of(text), [("FDE", "0x000 nop", "nop # a"), (" Fd", "bubble", "")])
 
 
 # Programs for the witness.

@@ -5,8 +5,9 @@ The page is made of the same modules as the workbench for a browser, in web/.
 from __future__ import annotations
 
 import argparse
-import importlib
+import json
 import os
+import subprocess
 import sys
 from typing import Any
 
@@ -41,21 +42,27 @@ def run(arguments: argparse.Namespace, programs: Programs) -> int:
     output = arguments.output or "-".join(os.path.splitext(os.path.basename(path))[0] for path in files) + ".html"
     try:
         with open(output, "w", encoding="utf-8", errors="replace") as file:
-            file.write(builder(programs).viewer(programs.top, title, data))
+            file.write(page_with(programs, title, data))
     except OSError as fault:
         raise LabError(f"{output}: {fault.strerror}") from fault
     print(f"{output}: {said}")
     return DONE
 
 
-def builder(programs: Programs) -> Any:
-    """The module that puts pages together, which lies in web/ beside the programs."""
-    folder = os.path.join(programs.top, "web")
-    if not os.path.isdir(folder):
-        raise LabError(f"a page needs the folder {folder}, which isn't there")
-    if folder not in sys.path:
-        sys.path.insert(0, folder)
-    return importlib.import_module("build")
+def page_with(programs: Programs, title: str, data: Data) -> str:
+    """The page, which web/viewer.py puts together."""
+    script = os.path.join(programs.top, "web", "viewer.py")
+    if not os.path.isfile(script):
+        raise LabError(f"a page needs {script}, which isn't there")
+    made = subprocess.run(
+        [sys.executable, "-B", script],
+        input=json.dumps({"title": title, "data": data}).encode(),
+        capture_output=True,
+        check=False,
+    )
+    if made.returncode:
+        raise LabError(made.stderr.decode("utf-8", "replace").strip().rpartition("\n")[2])
+    return made.stdout.decode("utf-8")
 
 
 def run_texts(programs: Programs, path: str, object_path: str, options: list[str]) -> Data:
