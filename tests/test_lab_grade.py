@@ -78,7 +78,7 @@ def stand_in(folder, *labels):
 
 
 def test_all_false_obligations_count(lab, folder):
-    """Bob's file, by what y86-tell says of it: O10, O11, O16 and O25 (no load/use hazard)."""
+    """Bob's file, with a stand-in that says O10, O11, O16 and O25."""
     tell = stand_in(folder, "O10", "O11", "O16", "O25")
     shutil.copytree(f"{CLASS}/hand_ins/pipe/bob", f"{folder}/in/bob")
     status, out, _ = lab("grade", "in", "--rubric", f"{CLASS}/pipe.toml", "--format", "json", tell=tell)
@@ -88,10 +88,10 @@ def test_all_false_obligations_count(lab, folder):
 
 
 def test_y86_tell_says_all(lab, programs):
-    """The same with the program itself."""
+    """The program itself: of Bob's file O10, O11 and O16 are false (a value is taken before it is loaded), since nothing is lost or done twice; of Dee's O22."""
     status, out, _ = lab("grade", f"{CLASS}/hand_ins/pipe", "--rubric", f"{CLASS}/pipe.toml", tell=programs("y86_tell"))
     rows = {row["name"]: row for row in csv.DictReader(io.StringIO(out))}
-    same((status, [rows["bob"][name] for name in ("stages", "forwarding", "hazards and exceptions")]), (0, ["13.93", "6.67", "12.86"]))
+    same((status, [rows["bob"][name] for name in ("stages", "forwarding", "hazards and exceptions")]), (0, ["13.93", "6.67", "15"]))
     same([rows["dee"][name] for name in ("stages", "forwarding", "hazards and exceptions")], ["15", "10", "12.86"])
 
 
