@@ -147,6 +147,17 @@ def test_table_has_the_commands_of_the_page():
     same({name: {option.name for option in form.options} for name, form in forms(manual.Y86).items()}, written)
 
 
+def test_table_has_the_forms_of_y86_tell():
+    """As docs/TELL.md lists them."""
+    with open(f"{TOP}/docs/TELL.md", encoding="utf-8") as file:
+        listed = re.findall(r"^    \./y86-tell (\w+ .*)$", file.read().partition("\n## ")[0], re.M)
+    table = []
+    for name, form in forms(manual.TELL).items():
+        options = [f"[{option.name}{' ' + option.value if option.value else ''}]" for option in form.options]
+        table.append(" ".join([name, form.words, *options]))
+    same(table, listed)
+
+
 def test_table_has_the_commands_of_the_program(y86):
     usage = y86("nothing")[2].decode()
     same(set(re.fullmatch(r"usage: y86 (.*)\n", usage)[1].split("|")), set(forms(manual.Y86)))
@@ -192,6 +203,8 @@ def test_bash_completion(folder):
     same(completed(folder, "y86-stages", "a.hcl", "p.yo", "--d"), ["--diagram"])
     same(completed(folder, "y86-lab", "class", "n"), ["n.aag", "notes.txt"])
     same(completed(folder, "y86-lab", "aig", "c"), ["cnf", "confirm"])
+    same(completed(folder, "y86-tell", "check", "p"), ["pipe"])
+    same(completed(folder, "y86-tell", "fault", "se"), ["seq", "seqplus"])
 
 
 def test_zsh_completion(folder):

@@ -88,11 +88,10 @@ TELL = Program(
     "says in sentences what is wrong with a file, a program or a run",
     "docs/TELL.md",
     (
-        Form("check", "seq|seqplus|pipe HCL", (FULL, JSON), "says what the check answers"),
-        Form("fault", "FILE", (JSON,), "says what is wrong with a file as HCL or as assembly"),
-        Form("run", "HCL OBJ", (FULL, JSON), "compares a run under a file with the run by instructions"),
-        Form("program", "OBJ", (JSON,), "lists the instructions of an object file"),
-        Form("show", "NAME", (JSON,), "says what a signal, an instruction or an obligation is"),
+        Form("check", "pipe HCL", (FULL, JSON), "says why the check refuses a file, and what would repair it"),
+        Form("fault", "FILE [seq|seqplus|pipe]", (FULL, MEM, JSON), "says all that is wrong with a file"),
+        Form("program", "OBJ", (FULL, MEM, LIMIT), "says whether the theorem covers a program"),
+        Form("show", "WORD", (), "says what an obligation or a signal is"),
     ),
 )
 RECHECK = Program(
@@ -180,6 +179,8 @@ def usage(form: Form) -> str:
 
 SUFFIXES = {"HCL": "hcl", "OBJ": "yo", "ASM": "ys", "NCOPY.ys": "ys", "CERT": "crt", "AAG": "aag", "DEFINITIONS": "hcl"}
 ANY_FILE = {"FILE", "FOLDER", "PAGE", "PROGRAM"}
+# Words that are their own choice.
+FIXED = {"pipe"}
 
 
 def suffixes(form: Form) -> list[str]:
@@ -191,7 +192,8 @@ def suffixes(form: Form) -> list[str]:
 
 def choices(form: Form) -> list[str]:
     """The fixed words that a command takes."""
-    return [choice for word in form.words.split() if "|" in word for choice in word.split("|")]
+    words = form.words.replace("[", " ").replace("]", " ").split()
+    return [choice for word in words if "|" in word or word in FIXED for choice in word.split("|")]
 
 
 def bash_completion(programs: Sequence[Program]) -> str:
