@@ -12,7 +12,7 @@ from helpers.designs import changed, design, example
 from helpers.paths import PROGRAMS
 from helpers.programs import Program
 
-USAGE = "usage: y86-stages HCL OBJ [--full] [--mem N] [--limit N] [--from N] [--to N] [--diagram]\n"
+USAGE = "usage: y86-stages HCL OBJ [--seq|--seqplus] [--full] [--mem N] [--limit N] [--from N] [--to N] [--diagram]\n"
 
 RET = """
     irmovq stack, %rsp

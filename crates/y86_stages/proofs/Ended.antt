@@ -14,7 +14,7 @@ module _ (said : Option Read) (files_before files_after : FilesSeen) (out_before
   unfolding EndsAs Ends
   none_ends files out = (refl, files, out)
 
-  some_ends : (r : Read) (result : Result ℕ code.Stop) → Ends (request_of (form_of r.words)) (window_of r) files_before files_after out_before out_after result →
+  some_ends : (r : Read) (result : Result ℕ code.Stop) → Ends r.processor (request_of (form_of r.words)) (window_of r) files_before files_after out_before out_after result →
       EndsAs (Some r) files_before files_after out_before out_after result
   unfolding EndsAs
   some_ends r result ends = ends
@@ -33,7 +33,7 @@ module _ (said : Option Read) (files_before files_after : FilesSeen) (out_before
       record { result = Err Memory; ends = inr (refl, files, out); tells = (six, told, λ four. absurd (cc (four))) }
 
   -- the run was shown
-  pub called_done : (r : Read) (shown : ℕ) → Some r ≡ said → Ends (request_of (form_of r.words)) (window_of r) files_before files_after out_before out_after (Ok shown) →
+  pub called_done : (r : Read) (shown : ℕ) → Some r ≡ said → Ends r.processor (request_of (form_of r.words)) (window_of r) files_before files_after out_before out_after (Ok shown) →
       status ≡ shown → err_after ≡ err_before → Called said files_before files_after out_before out_after err_before err_after status
   called_done r shown e ends same quiet =
       let P : Option Read → Type 0 = λ r. EndsAs r files_before files_after out_before out_after (Ok shown) in
@@ -41,7 +41,7 @@ module _ (said : Option Read) (files_before files_after : FilesSeen) (out_before
 
   -- it stopped
   pub called_stopped : (r : Read) (stop : code.Stop) → Some r ≡ said →
-      Ends (request_of (form_of r.words)) (window_of r) files_before files_after out_before out_after (Err stop) →
+      Ends r.processor (request_of (form_of r.words)) (window_of r) files_before files_after out_before out_after (Err stop) →
       status ≡ status_of stop → Told err_before err_after (stop_line stop) → (status_of stop ≡ 4 → err_after ≡ err_before) →
       Called said files_before files_after out_before out_after err_before err_after status
   called_stopped r stop e ends is told quiet =

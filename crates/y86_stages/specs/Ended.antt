@@ -9,11 +9,13 @@ use Rattle.y86_cli.specs.declared.stop.Stop as code
 use Rattle.y86_cli.specs.declared.stop.Stop.TheVariants.{Memory, Usage}
 use Rattle.y86_words.specs.Forms.{Command, form_of, psim}
 use Rattle.y86_stages.specs.declared.calling.Request as code_request
+use Rattle.y86_stages.specs.declared.reading.Processor.{Processor}
+use Rattle.y86_stages.specs.declared.reading.Processor.TheVariants.{Pipe}
 use Rattle.y86_stages.specs.Shown.{stages_plan}
 use Rattle.y86_stages.specs.Words.{Read, first_read, window_of}
 
 abbrev pub usage : List ℕ
-usage = codes "usage: y86-stages HCL OBJ [--full] [--mem N] [--limit N] [--from N] [--to N] [--diagram]\n"
+usage = codes "usage: y86-stages HCL OBJ [--seq|--seqplus] [--full] [--mem N] [--limit N] [--from N] [--to N] [--diagram]\n"
 
 -- the line on standard error for a stop
 abbrev pub stop_line : code.Stop → List ℕ
@@ -38,10 +40,10 @@ abbrev pub request_in : code_request.Request → Request
 request_in r = record { name = r.hcl.now; object = r.obj.now; size = r.mem; limit = r.limit; variant = r.variant }
 
 -- the run is shown; or there is none, and nothing is read or written
-unfoldable pub Ends : Option Request → Window → FilesSeen → FilesSeen → SinkSeen → SinkSeen → Result ℕ code.Stop → Type 0
-Ends None window files_before files_after before after result = (result ≡ Err Usage) × (files_after ≡ files_before) × (after ≡ before)
-Ends (Some r) window files_before files_after before after result =
-    Does (stages_plan r.name r.object r.size r.limit r.variant window) files_before files_after before after result
+unfoldable pub Ends : Processor → Option Request → Window → FilesSeen → FilesSeen → SinkSeen → SinkSeen → Result ℕ code.Stop → Type 0
+Ends processor None window files_before files_after before after result = (result ≡ Err Usage) × (files_after ≡ files_before) × (after ≡ before)
+Ends processor (Some r) window files_before files_after before after result =
+    Does (stages_plan processor r.name r.object r.size r.limit r.variant window) files_before files_after before after result
 
 -- the status, and the line on standard error
 abbrev pub TellsEnd : SinkSeen → SinkSeen → Result ℕ code.Stop → ℕ → Type 0
@@ -51,9 +53,9 @@ TellsEnd before after (Err stop) told =
 
 -- a call whose words say this, if they have a form
 unfoldable pub EndsAs : Option Read → FilesSeen → FilesSeen → SinkSeen → SinkSeen → Result ℕ code.Stop → Type 0
-EndsAs None files_before files_after before after result = Ends None (window_of first_read) files_before files_after before after result
+EndsAs None files_before files_after before after result = Ends Pipe None (window_of first_read) files_before files_after before after result
 EndsAs (Some r) files_before files_after before after result =
-    Ends (request_of (form_of r.words)) (window_of r) files_before files_after before after result
+    Ends r.processor (request_of (form_of r.words)) (window_of r) files_before files_after before after result
 
 -- a call did what its words say and told how that ended, or there was want of memory and nothing was read or shown
 pub record Called (said : Option Read) (files_before files_after : FilesSeen) (out_before out_after err_before err_after : SinkSeen) (status : ℕ) : Type 0 where

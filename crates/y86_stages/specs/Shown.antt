@@ -1,28 +1,49 @@
 -- What is shown of a run, as an answer, and the plan of a call.
 use Rattle.std.specs.Prelude.{◌≡◌, ℕ, List, Option}
 use Rattle.dp_signals.specs.PipeTable.{pipe_rows}
+use Rattle.dp_signals.specs.SeqTable.{seq_rows}
+use Rattle.hcl_types.specs.declared.table.Row.{Row}
 use Rattle.hcl_types.specs.declared.term.Term.{Term}
+use Rattle.seq_plus.specs.PlusRun.{plus_start}
+use Rattle.seq_plus.specs.PlusTable.{plus_rows}
+use Rattle.seq_text.specs.Watching as seq
 use Rattle.stage_text.specs.Listed.{listed}
-use Rattle.stage_text.specs.Watching.{Watching, WatchesTo, whole_text}
+use Rattle.stage_text.specs.Watching.{ShowsRun}
 use Rattle.stage_text.specs.declared.watching.Window.{Window}
+use Rattle.y86_base.specs.declared.parts.Stat.{Stat}
 use Rattle.y86_base.specs.declared.parts.Variant.{Variant}
 use Rattle.y86_cli.specs.Answers.{file_limit, hcl_limit, image_of_text, run_status}
 use Rattle.y86_cli.specs.Designs.{IsDesign, RefusesDesign}
 use Rattle.y86_cli.specs.Plan.{Answered, Plan, after, done, gives, reads, says}
+use Rattle.y86_isa.specs.Machine.{start}
 use Rattle.yo_object.specs.ObjectText.{object_of}
+use Rattle.y86_stages.specs.declared.reading.Processor.{Processor}
+use Rattle.y86_stages.specs.declared.reading.Processor.TheVariants.{Pipe, Seq, SeqPlus}
 
--- the answers to the run of an image on PIPE under a design, with what is listed at each address
-abbrev pub ShownAnswers : Variant → List Term → (ℕ → Option (List ℕ)) → ℕ → Window → List ℕ → Answered → Type 0
-ShownAnswers v terms listing limit window image a =
-    (k : ℕ) × (s : Watching) × WatchesTo v terms window image limit k s × (a ≡ done (run_status s.end) (whole_text listing window.diagram k s))
+abbrev pub rows_of : Processor → List Row
+rows_of Pipe = pipe_rows
+rows_of Seq = seq_rows
+rows_of SeqPlus = plus_rows
+
+-- a text and an end of the run of an image under a design, with what is listed at each address
+unfoldable pub Shows : Processor → Variant → List Term → (ℕ → Option (List ℕ)) → ℕ → Window → List ℕ → List ℕ → Stat → Type 0
+Shows Pipe v terms listing limit window image text end = ShowsRun v terms listing window image limit text end
+Shows Seq v terms listing limit window image text end = seq.ShowsRun (seq.SeqShows v terms) seq.seq_stat window (start image) limit text end
+Shows SeqPlus v terms listing limit window image text end = seq.ShowsRun (seq.PlusShows v terms) seq.plus_stat window (plus_start image) limit text end
+
+-- the answers to that run
+abbrev pub ShownAnswers : Processor → Variant → List Term → (ℕ → Option (List ℕ)) → ℕ → Window → List ℕ → Answered → Type 0
+ShownAnswers processor v terms listing limit window image a =
+    (text : List ℕ) × (end : Stat) × Shows processor v terms listing limit window image text end × (a ≡ done (run_status end) text)
 
 -- the run of an object file under a design
-unfoldable pub object_plan : List Term → List ℕ → ℕ → ℕ → Variant → Window → Plan
-object_plan terms object size limit v window =
+unfoldable pub object_plan : Processor → List Term → List ℕ → ℕ → ℕ → Variant → Window → Plan
+object_plan processor terms object size limit v window =
     reads object file_limit (λ bytes.
-    after (image_of_text object (object_of bytes size)) (λ image. says (ShownAnswers v terms (listed bytes) limit window image)))
+    after (image_of_text object (object_of bytes size)) (λ image. says (ShownAnswers processor v terms (listed bytes) limit window image)))
 
--- the run of an object file under an HCL file: the files are read and refused as by `psim`
-unfoldable pub stages_plan : List ℕ → List ℕ → ℕ → ℕ → Variant → Window → Plan
-stages_plan name object size limit v window =
-    reads name hcl_limit (λ text. gives (IsDesign pipe_rows text) (RefusesDesign name pipe_rows text) (λ terms. object_plan terms object size limit v window))
+-- the run of an object file under an HCL file: the files are read and refused as by `psim`, `ssim` and `ssimp`
+unfoldable pub stages_plan : Processor → List ℕ → List ℕ → ℕ → ℕ → Variant → Window → Plan
+stages_plan processor name object size limit v window =
+    reads name hcl_limit (λ text.
+    gives (IsDesign (rows_of processor) text) (RefusesDesign name (rows_of processor) text) (λ terms. object_plan processor terms object size limit v window))

@@ -1,27 +1,30 @@
 -- The words of a call: those of `psim`, and among them the options that say what is shown.
-use Rattle.std.specs.Prelude.{◌≡◌, ℕ, Bool, true, false, if◌then◌else◌, List, [], ◌∷◌, ◌++◌, map, codes, string_bytes, Option, Some, None, is_none, is_some, unwrap_or, option_and_then}
+use Rattle.std.specs.Prelude.{◌≡◌, ℕ, Bool, true, false, not, ◌&&◌, ◌||◌, if◌then◌else◌, List, [], ◌∷◌, ◌++◌, map, codes, string_bytes, Option, Some, None, is_none, is_some, unwrap_or, option_and_then}
 use Rattle.std.specs.Option.{option_map}
 use Rattle.std.specs.Str.{bytes_eq}
 use Rattle.stage_text.specs.declared.watching.Window.{Window}
 use Rattle.y86_words.specs.Numbers.{number_within}
 use Rattle.y86_stages.specs.declared.reading.Own.{Own}
-use Rattle.y86_stages.specs.declared.reading.Own.TheVariants.{Diagram, From, To}
+use Rattle.y86_stages.specs.declared.reading.Own.TheVariants.{Diagram, From, OnSeq, OnSeqPlus, To}
+use Rattle.y86_stages.specs.declared.reading.Processor.{Processor}
+use Rattle.y86_stages.specs.declared.reading.Processor.TheVariants.{Pipe, Seq, SeqPlus}
 use Rattle.y86_stages.specs.declared.reading.Reading as code
 
 -- what was read: the words of `psim`, its name first, what the options say, and an option whose number is the next word
 pub record Read : Type 0 where
   pub words : List (List ℕ)
+  pub processor : Processor
   pub diagram : Bool
   pub from : Option ℕ
   pub to : Option ℕ
   pub wants : Option Own
 
 abbrev pub read_in : code.Reading → Read
-read_in r = record { words = map string_bytes r.words.items; diagram = r.diagram; from = r.from; to = r.to; wants = r.wants }
+read_in r = record { words = map string_bytes r.words.items; processor = r.processor; diagram = r.diagram; from = r.from; to = r.to; wants = r.wants }
 
 -- before the first word
 abbrev pub first_read : Read
-first_read = record { words = codes "psim" ∷ []; diagram = false; from = None; to = None; wants = None }
+first_read = record { words = codes "psim" ∷ []; processor = Pipe; diagram = false; from = None; to = None; wants = None }
 
 -- the option that a word is
 abbrev pub own_of : List ℕ → Option Own
@@ -29,7 +32,9 @@ own_of word =
     if bytes_eq word (codes "--diagram") then Some Diagram
     else (if bytes_eq word (codes "--from") then Some From
     else (if bytes_eq word (codes "--to") then Some To
-    else None))
+    else (if bytes_eq word (codes "--seq") then Some OnSeq
+    else (if bytes_eq word (codes "--seqplus") then Some OnSeqPlus
+    else None))))
 
 -- the number of a cycle
 abbrev pub most_cycle : ℕ
@@ -43,12 +48,21 @@ abbrev pub with_number : Read → Own → ℕ → Read
 with_number r Diagram n = record r { wants = None }
 with_number r From n = record r { from = Some n; wants = None }
 with_number r To n = record r { to = Some n; wants = None }
+with_number r OnSeq n = record r { wants = None }
+with_number r OnSeqPlus n = record r { wants = None }
 
--- an option stands at most once
+abbrev pub is_pipe : Processor → Bool
+is_pipe Pipe = true
+is_pipe Seq = false
+is_pipe SeqPlus = false
+
+-- an option stands at most once, and so does a processor
 abbrev pub with_option : Read → Own → Option Read
 with_option r Diagram = if r.diagram then None else Some (record r { diagram = true })
 with_option r From = if is_some r.from then None else Some (record r { wants = Some From })
 with_option r To = if is_some r.to then None else Some (record r { wants = Some To })
+with_option r OnSeq = if is_pipe r.processor then Some (record r { processor = Seq }) else None
+with_option r OnSeqPlus = if is_pipe r.processor then Some (record r { processor = SeqPlus }) else None
 
 abbrev pub with_kept : Read → List ℕ → Read
 with_kept r word = record r { words = r.words ++ word ∷ [] }
@@ -78,8 +92,9 @@ abbrev pub Reads : Read → List ℕ → Bool → Read → Type 0
 Reads old word true new = read_word old word ≡ Some new
 Reads old word false new = read_word old word ≡ None
 
+-- there is a diagram of PIPE alone
 abbrev pub whole : Read → Option Read
-whole r = if is_none r.wants then Some r else None
+whole r = if is_none r.wants && (is_pipe r.processor || not r.diagram) then Some r else None
 
 unfoldable pub all_read : Read → List (List ℕ) → Option Read
 all_read r [] = whole r

@@ -14,7 +14,7 @@ ghost use Rattle.y86_stages.specs.Ended as spec;
 ghost use Rattle.y86_stages.specs.Words.{read_in, read_of};
 ghost use Rattle.y86_stages.specs.Words as reading;
 
-use crate::reading::{Reading, read_words};
+use crate::reading::{Processor, Reading, read_words};
 use crate::running::show;
 use stage_text::Window;
 use std::alloc::Global;
@@ -82,12 +82,13 @@ fn request_of<'a>(command: Cmd<'a>) -> Option<Request<'a>>
 #[tactic(auto, unfolding(crate::specs::Ended::Ends))]
 fn show_words<'a, F: Files, O: Sink>(
     alloc: Global,
+    processor: Processor,
     psim_words: &'a [String],
     window: &Window,
     files: &mut F,
     out: &mut O,
 ) -> Result<Status, Stop<'a>>
-    ensures { Ends (spec.request_of (form_of (map string_bytes psim_words.now))) window.now
+    ensures { Ends processor (spec.request_of (form_of (map string_bytes psim_words.now))) window.now
         (files_seen (F.told files.old) (F.faults files.old)) (files_seen (F.told files.new) (F.faults files.new))
         (sink_seen (O.taken out.old) (O.faults out.old)) (sink_seen (O.taken out.new) (O.faults out.new)) result }
 {
@@ -98,7 +99,7 @@ fn show_words<'a, F: Files, O: Sink>(
     match request_of(command) {
         None => Err(Stop::Usage),
         Some(r) => show(
-            alloc, r.hcl, r.obj, r.mem, r.limit, r.variant, window, files, out,
+            alloc, processor, r.hcl, r.obj, r.mem, r.limit, r.variant, window, files, out,
         ),
     }
 }
@@ -114,7 +115,7 @@ fn tell_stop<E: Sink>(stop: &Stop<'_>, err: &mut E) -> Status
         Stop::Usage => {
             match put_all(
                 err,
-                b"usage: y86-stages HCL OBJ [--full] [--mem N] [--limit N] [--from N] [--to N] [--diagram]\n",
+                b"usage: y86-stages HCL OBJ [--seq|--seqplus] [--full] [--mem N] [--limit N] [--from N] [--to N] [--diagram]\n",
             ) {
                 Ok(()) => {}
                 Err(_) => {}
@@ -144,7 +145,14 @@ pub fn run<F: Files, O: Sink, E: Sink>(
         Err(_) => return tell_stop(&Stop::Memory, err),
     };
     let window = window_of(&reading);
-    match show_words(alloc, reading.words.as_slice(), &window, files, out) {
+    match show_words(
+        alloc,
+        reading.processor,
+        reading.words.as_slice(),
+        &window,
+        files,
+        out,
+    ) {
         Ok(status) => status,
         Err(stop) => tell_stop(&stop, err),
     }

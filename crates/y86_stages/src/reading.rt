@@ -7,6 +7,14 @@ use std::alloc::Global;
 use y86_base::Memory;
 use y86_words::number_within;
 
+/// The processor whose cycles are shown.
+#[derive(Clone, Copy, Debug, PartialEq, Eq)]
+pub enum Processor {
+    Pipe,
+    Seq,
+    SeqPlus,
+}
+
 /// An option that says what is shown.
 #[derive(Clone, Copy, Debug, PartialEq, Eq)]
 pub enum Own {
@@ -16,12 +24,17 @@ pub enum Own {
     From,
     /// `--to N`
     To,
+    /// `--seq`
+    OnSeq,
+    /// `--seqplus`
+    OnSeqPlus,
 }
 
 /// What was read of the words: those that are `psim`'s, behind its name, and what the options say. `wants` is an option whose number is the next word.
 #[derive(Drop)]
 pub struct Reading {
     pub words: Vec<String>,
+    pub processor: Processor,
     pub diagram: bool,
     pub from: Option<u64>,
     pub to: Option<u64>,
@@ -40,6 +53,12 @@ fn own_of(word: &str) -> Option<Own>
     }
     if word == "--to" {
         return Some(Own::To);
+    }
+    if word == "--seq" {
+        return Some(Own::OnSeq);
+    }
+    if word == "--seqplus" {
+        return Some(Own::OnSeqPlus);
     }
     None
 }
@@ -62,9 +81,16 @@ fn read_number(r: &mut Reading, own: Own, word: &str) -> bool
     match own {
         Own::From => r.from = Some(number),
         Own::To => r.to = Some(number),
-        Own::Diagram => {}
+        Own::Diagram | Own::OnSeq | Own::OnSeqPlus => {}
     }
     true
+}
+
+/// Whether the processor is PIPE.
+fn is_pipe(processor: Processor) -> bool
+    ensures { result ≡ spec.is_pipe processor }
+{
+    matches!(processor, Processor::Pipe)
 }
 
 /// Reads an option, and says whether it stands there for the first time.
@@ -89,6 +115,18 @@ fn read_option(r: &mut Reading, own: Own) -> bool
                 return false;
             }
             r.wants = Some(Own::To);
+        }
+        Own::OnSeq => {
+            if !is_pipe(r.processor) {
+                return false;
+            }
+            r.processor = Processor::Seq;
+        }
+        Own::OnSeqPlus => {
+            if !is_pipe(r.processor) {
+                return false;
+            }
+            r.processor = Processor::SeqPlus;
         }
     }
     true
@@ -138,6 +176,7 @@ fn first_reading(alloc: Global) -> Result<Reading, Memory>
     }
     Ok(Reading {
         words,
+        processor: Processor::Pipe,
         diagram: false,
         from: None,
         to: None,
@@ -161,7 +200,7 @@ pub fn read_words(alloc: Global, words: &[String]) -> Result<Option<Reading>, Me
             Err(_) => return Err(Memory),
         }
     }
-    if r.wants.is_some() {
+    if r.wants.is_some() || (r.diagram && !is_pipe(r.processor)) {
         return Ok(None);
     }
     Ok(Some(r))

@@ -1,22 +1,103 @@
-//! Runs an object file on PIPE under an HCL file, and shows its stages.
-ghost use Rattle.std.specs.Prelude.{◌≡◌, ◌≤◌};
-ghost use Rattle.dp_signals.specs.PipeTable.{pipe_rows};
+//! Runs an object file on a processor under an HCL file, and shows its cycles.
+ghost use Rattle.std.specs.Prelude.{◌≡◌, ◌≤◌, IfOk};
 ghost use Rattle.y86_base.specs.Image.{IsSize};
 ghost use Rattle.stage_text.specs.Listed.{listed};
-ghost use Rattle.y86_cli.specs.Designs.{IsOrdered};
-ghost use Rattle.y86_cli.specs.Does.{DoesOver, Says, sink_seen};
-ghost use Rattle.y86_stages.specs.Shown.{ShownAnswers, object_plan, stages_plan};
+ghost use Rattle.y86_cli.specs.Answers.{hcl_limit};
+ghost use Rattle.y86_cli.specs.Designs.{IsDesign, IsOrdered, RefusesDesign};
+ghost use Rattle.y86_cli.specs.Does.{DoesOver, ReadsOne, Says, files_seen, sink_seen};
+ghost use Rattle.y86_stages.specs.Shown.{ShownAnswers, Shows, object_plan, rows_of, stages_plan};
 
+use crate::reading::Processor;
 use hcl_compile::compile;
-use stage_text::{Window, watch_run};
+use seq_text::{watch_plus, watch_seq};
+use stage_text::{Watched, Window, watch_run};
 use std::alloc::Global;
 use wb_io::{Files, Sink};
-use y86_base::{Image, Variant};
-use y86_cli::{FILE_LIMIT, Ordered, Stop, load_image, pipe_file, read_file, say, status};
+use y86_base::{Image, Memory, Variant};
+use y86_cli::{
+    Datapath, FILE_LIMIT, Ordered, Stop, load_image, pipe_file, read_file, say, seq_file, status,
+};
+
+/// The design of an HCL file for a processor.
+fn design_file<'a, F: Files>(
+    alloc: Global,
+    processor: Processor,
+    name: &'a str,
+    files: &mut F,
+) -> Result<Ordered, Stop<'a>>
+    ensures design { ReadsOne name.now hcl_limit (IsDesign (rows_of processor)) (RefusesDesign name.now (rows_of processor)) (λ ordered. ordered.design.terms)
+        (files_seen (F.told files.old) (F.faults files.old)) (files_seen (F.told files.new) (F.faults files.new)) result }
+    ensures ordered { IfOk result (IsOrdered (rows_of processor)) }
+{
+    match processor {
+        Processor::Pipe => pipe_file(alloc, name, files),
+        Processor::Seq => seq_file(alloc, Datapath::Seq, name, files),
+        Processor::SeqPlus => seq_file(alloc, Datapath::Plus, name, files),
+    }
+}
+
+/// Runs the image of an object text, and gives what is shown of it.
+#[tactic(auto, unfolding(crate::specs::Shown::Shows))]
+fn watch(
+    alloc: Global,
+    processor: Processor,
+    variant: Variant,
+    ordered: &Ordered,
+    object: &[u8],
+    image: Image,
+    limit: u64,
+    window: &Window,
+) -> Result<Watched, Memory>
+    requires ordered { IsOrdered (rows_of processor) ordered.now }
+    requires limit { limit ≤ 100000000 }
+    ensures { IfOk result (λ w. Shows processor variant ordered.now.design.terms (listed object.now) limit window.now image w.text.items w.end) }
+{
+    let Ok(mut compiled) = compile(alloc, &ordered.design, &ordered.order) else {
+        return Err(Memory);
+    };
+    let rows = ordered.table.rows.items();
+    match processor {
+        Processor::Pipe => watch_run(
+            alloc,
+            variant,
+            rows,
+            &ordered.design,
+            &ordered.order,
+            &mut compiled,
+            object,
+            image,
+            limit,
+            window,
+        ),
+        Processor::Seq => watch_seq(
+            alloc,
+            variant,
+            rows,
+            &ordered.design,
+            &ordered.order,
+            &mut compiled,
+            image,
+            limit,
+            window,
+        ),
+        Processor::SeqPlus => watch_plus(
+            alloc,
+            variant,
+            rows,
+            &ordered.design,
+            &ordered.order,
+            &mut compiled,
+            image,
+            limit,
+            window,
+        ),
+    }
+}
 
 /// Runs the image of an object text, and says what is shown of it.
 fn show_image<'a, O: Sink>(
     alloc: Global,
+    processor: Processor,
     variant: Variant,
     ordered: &Ordered,
     object: &[u8],
@@ -25,35 +106,23 @@ fn show_image<'a, O: Sink>(
     window: &Window,
     out: &mut O,
 ) -> Result<u8, Stop<'a>>
-    requires ordered { IsOrdered pipe_rows ordered.now }
+    requires ordered { IsOrdered (rows_of processor) ordered.now }
     requires limit { limit ≤ 100000000 }
-    ensures { Says (ShownAnswers variant ordered.now.design.terms (listed object.now) limit window.now image)
+    ensures { Says (ShownAnswers processor variant ordered.now.design.terms (listed object.now) limit window.now image)
         (sink_seen (O.taken out.old) (O.faults out.old)) (sink_seen (O.taken out.new) (O.faults out.new)) result }
 {
-    let Ok(mut compiled) = compile(alloc, &ordered.design, &ordered.order) else {
-        return Err(Stop::Memory);
-    };
-    let watched = match watch_run(
-        alloc,
-        variant,
-        ordered.table.rows.items(),
-        &ordered.design,
-        &ordered.order,
-        &mut compiled,
-        object,
-        image,
-        limit,
-        window,
+    match watch(
+        alloc, processor, variant, ordered, object, image, limit, window,
     ) {
-        Ok(watched) => watched,
-        Err(_) => return Err(Stop::Memory),
-    };
-    say(status(watched.end), watched.text.as_slice(), out)
+        Ok(watched) => say(status(watched.end), watched.text.as_slice(), out),
+        Err(_) => Err(Stop::Memory),
+    }
 }
 
 /// Reads an object file, and shows its run under a design.
 fn show_object<'a, F: Files, O: Sink>(
     alloc: Global,
+    processor: Processor,
     variant: Variant,
     ordered: &Ordered,
     obj: &'a str,
@@ -65,8 +134,8 @@ fn show_object<'a, F: Files, O: Sink>(
 ) -> Result<u8, Stop<'a>>
     requires size { IsSize mem }
     requires limit { limit ≤ 100000000 }
-    requires ordered { IsOrdered pipe_rows ordered.now }
-    ensures { DoesOver F.told F.faults O.taken O.faults (object_plan ordered.now.design.terms obj.now mem limit variant window.now)
+    requires ordered { IsOrdered (rows_of processor) ordered.now }
+    ensures { DoesOver F.told F.faults O.taken O.faults (object_plan processor ordered.now.design.terms obj.now mem limit variant window.now)
         files.old files.new out.old out.new result }
 {
     let bytes = match read_file(alloc, obj, FILE_LIMIT, files) {
@@ -78,12 +147,15 @@ fn show_object<'a, F: Files, O: Sink>(
         Ok(image) => image,
         Err(stop) => return Err(stop),
     };
-    show_image(alloc, variant, ordered, object, image, limit, window, out)
+    show_image(
+        alloc, processor, variant, ordered, object, image, limit, window, out,
+    )
 }
 
 /// Reads an HCL file and an object file, and shows the run.
 pub fn show<'a, F: Files, O: Sink>(
     alloc: Global,
+    processor: Processor,
     name: &'a str,
     obj: &'a str,
     mem: u64,
@@ -95,14 +167,14 @@ pub fn show<'a, F: Files, O: Sink>(
 ) -> Result<u8, Stop<'a>>
     requires size { IsSize mem }
     requires limit { limit ≤ 100000000 }
-    ensures { DoesOver F.told F.faults O.taken O.faults (stages_plan name.now obj.now mem limit variant window.now)
+    ensures { DoesOver F.told F.faults O.taken O.faults (stages_plan processor name.now obj.now mem limit variant window.now)
         files.old files.new out.old out.new result }
 {
-    let ordered = match pipe_file(alloc, name, files) {
+    let ordered = match design_file(alloc, processor, name, files) {
         Ok(ordered) => ordered,
         Err(stop) => return Err(stop),
     };
     show_object(
-        alloc, variant, &ordered, obj, mem, limit, window, files, out,
+        alloc, processor, variant, &ordered, obj, mem, limit, window, files, out,
     )
 }
