@@ -230,9 +230,13 @@ NO_PAGE = [
 
 
 @cases(NO_PAGE)
-def test_no_page(row, lab):
+def test_no_page(row, lab, y86_stages):
     words, wanted = row
-    same(lab(*words.split(), files={f"{it}.hcl": design(it) for it in ("seq", "seq_plus", "std")}), (1, b"", f"{wanted}\n".encode()))
+    answer = 1, b"", f"{wanted}\n".encode()
+    if words.endswith(".yo") and y86_stages("none.hcl", "a.yo", "--seq").status != 2:
+        # (a y86-stages that knows SEQ reads the object file, which isn't there)
+        answer = 3, b"", b"read fault a.yo\n"
+    same(lab(*words.split(), files={f"{it}.hcl": design(it) for it in ("seq", "seq_plus", "std")}), answer)
 
 
 @pytest.mark.parametrize("words", ("explain --help", "explain mine.hcl -h", "page --help", "swap --help", "witness --help"))
