@@ -222,7 +222,7 @@ def test_swap(row, lab):
 
 ALONE = "the page of a run is there for PIPE alone"
 NO_PAGE = [
-    ("page seq.hcl", f"seq.hcl: yes, so there is no situation to draw; {ALONE}"),
+    ("page seq.hcl", "seq.hcl: yes, so there is no situation to draw; with an object file the page shows its run"),
     ("page std.hcl", "std.hcl: yes, so there is no situation to draw; with an object file the page shows its run"),
     ("page seq.hcl a.yo", f"seq.hcl: {ALONE}, and this file is one for SEQ"),
     ("page seq_plus.hcl a.yo", f"seq_plus.hcl: {ALONE}, and this file is one for SEQ+"),

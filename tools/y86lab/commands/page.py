@@ -104,8 +104,7 @@ def refusal_data(programs: Programs, path: str, full: bool) -> tuple[str, Data, 
     datapath = explaining.datapath(hcl.design_of(text))
     answer = programs.check(datapath, path, full)
     if answer.status == DONE:
-        rest = "with an object file the page shows its run" if datapath == "pipe" else ALONE
-        raise LabError(f"{path}: yes, so there is no situation to draw; {rest}")
+        raise LabError(f"{path}: yes, so there is no situation to draw; with an object file the page shows its run")
     if answer.status != REFUSED:
         status = OUT_OF_TIME if answer.status is None else answer.status
         raise LabError(answer.err.strip() or f"{path}: the check gave no answer", status)

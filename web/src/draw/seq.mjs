@@ -26,7 +26,7 @@ function bands(sheet, { stages, path, row }) {
     sheet.add("</g>");
   }
   sheet.text(WIDE / 2, 56, `${stages.F.at}: ${stages.F.text}`, "mid what");
-  const where = path === "seq" ? "The PC is computed as the cycle ends" : "The PC is computed as the cycle begins";
+  const where = path === "seq" ? "The new PC comes last" : "The PC comes first";
   sheet.text(8, TALL - 6, where, "name");
 }
 
