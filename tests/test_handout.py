@@ -21,7 +21,7 @@ from programs import launcher, programs_in
 from y86lab import cli
 
 # All that the commands of the pages may call beside the programs.
-TOOLS = "awk bash cat cp cut diff env grep head ls mkdir paste printf rm sed seq sh sort tail tr uniq wc".split()
+TOOLS = "awk bash cat cp cut diff env find grep head ls mkdir paste printf rm sed seq sh sort tail tr uniq wc xargs".split()
 
 # ---- over the stand-in
 

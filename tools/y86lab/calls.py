@@ -17,6 +17,8 @@ from .errors import NO_PROGRAM, UNREADABLE, LabError
 
 # The launcher's own lines begin with this; none of a program does.
 LAUNCHER = "y86: "
+# (the PATH may have nothing but Python)
+SHELL = "/bin/sh"
 # The longest time that a check may take, in seconds.
 LONG = 600
 
@@ -45,7 +47,7 @@ class Limits:
         if self.megabytes is None:
             return []
         limits = f"ulimit -c 0; ulimit -v {self.megabytes << 10}; ulimit -t {int(self.seconds)}"
-        return ["sh", "-c", f'{limits}; exec "$@"', "sh"]
+        return [SHELL, "-c", f'{limits}; exec "$@"', "sh"]
 
     def timeout(self) -> float:
         return self.seconds if self.megabytes is None else 10 * self.seconds
@@ -124,7 +126,7 @@ def past_launcher(path: str, program: str) -> str:
         return path
     crate = program.replace("-", "_")
     out = os.path.join(top, "crates", crate, "out")
-    if subprocess.run(["sh", built, top, crate, "is_current"], check=False).returncode == 0:
+    if subprocess.run([SHELL, built, top, crate, "is_current"], check=False).returncode == 0:
         return os.path.join(out, crate)
     launched = subprocess.run([path], stdin=subprocess.DEVNULL, capture_output=True, check=False)
     lines = launched.stderr.decode("utf-8", "replace").splitlines(True)

@@ -5,7 +5,7 @@ import os
 import subprocess
 from typing import Optional
 
-from .calls import Programs
+from .calls import SHELL, Programs
 
 CRATES = {"y86": "y86", "y86-stages": "y86_stages", "y86-tell": "y86_tell"}
 # Written by `./prove --to` into the folder that it hands out.
@@ -42,7 +42,7 @@ def state_of(programs: Programs, name: str) -> Optional[str]:
     crate, built = CRATES[name], os.path.join(programs.top, "launch", "built.sh")
     if not programs.is_there(name):
         return None
-    if subprocess.run(["sh", built, programs.top, crate, "is_current"], check=False).returncode:
+    if subprocess.run([SHELL, built, programs.top, crate, "is_current"], check=False).returncode:
         return "not proved: the unproved program answers, after a line that says so"
     toolchain = first_line(os.path.join(programs.top, "crates", crate, "out", "toolchain"))
     return f"proved and built{', by the toolchain ' + toolchain if toolchain else ''}"
