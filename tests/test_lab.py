@@ -178,12 +178,12 @@ def test_a_name_that_is_no_text(lab, usage):
 
 
 MANY = "D_valC == 0" + "".join(f" || D_valC == {it}" for it in range(1, 65))
-WRONG = ["mine.hcl: KindMismatch F_bubble", "", "       1 | word F_bubble = 0;", "         |      ^"]
-WRONG += ["", "       2 | boolsig F_bubble 'F'", "         |         ^"]
+WRONG = ["mine.hcl: KindMismatch F_bubble", "", "   --> mine.hcl:1:6", "       1 | word F_bubble = 0;", "         |      ^"]
+WRONG += ["", "   --> mine.hcl:2:9", "       2 | boolsig F_bubble 'F'", "         |         ^"]
 FIRST_LINES = [
     ("65 comparisons", std(F_bubble=MANY),
         ["mine.hcl: AtomsOver64", "", "AtomsOver64: the definitions compare more than 64 different pairs of words, too many for `check`,"]),
-    ("a wrong declaration", "wordsig M_Cnd 'M'\n" + design("std"), ["mine.hcl: KindMismatch M_Cnd", "", "       1 | wordsig M_Cnd 'M'", "         |         ^"]),
+    ("a wrong declaration", "wordsig M_Cnd 'M'\n" + design("std"), ["mine.hcl: KindMismatch M_Cnd", "", "   --> mine.hcl:1:9", "       1 | wordsig M_Cnd 'M'", "         |         ^"]),
     ("a wrong definition", "word F_bubble = 0;\nboolsig F_bubble 'F'\n", WRONG),
 ]
 
