@@ -129,9 +129,9 @@ fn show_command<'a>(alloc: Global) -> Result<Command<'a>, AllocError> {
     let word = Arg::new(alloc, "word")
         .required(true)
         .action(ArgAction::Set)
-        .help("An obligation, a signal or an instruction: O10, d_valA, popq");
+        .help("An obligation or a signal: O10, d_valA");
     Command::new(alloc, "show")
-        .about("Explain an obligation, a signal or an instruction")
+        .about("Explain an obligation or a signal")
         .arg(word)
 }
 

@@ -1,4 +1,4 @@
-//! `show`: what an obligation, a signal or an instruction is.
+//! `show`: what an obligation or a signal is.
 use crate::checking::Said;
 use explanations::{Obligation, Path, Staged, obligation_at, obligation_count, signal_named};
 use std::alloc::{AllocError, Global};
