@@ -70,37 +70,76 @@ struct Limits {
     steps: u64,
     terms: u64,
     claims: usize,
+    bytes: usize,
 }
 
-/// A certificate within these limits has less than 60 MB.
-const SHORT: Limits = Limits {
-    steps: 3_000_000,
-    terms: 650_000,
-    claims: 1_050_000,
+/// Most designs stay within these limits where the registers follow one another.
+const FEW: Limits = Limits {
+    steps: 700_000,
+    terms: 300_000,
+    claims: 700_000,
+    bytes: SHORT_BYTES,
 };
 
-/// A certificate within these limits is short enough for `recheck`, which reads 536,870,912 bytes.
+/// Most designs stay within these limits where eight registers stand side by side.
+const SOME: Limits = Limits {
+    steps: 1_200_000,
+    terms: 500_000,
+    claims: 1_000_000,
+    bytes: SHORT_BYTES,
+};
+
+/// Limits of a short certificate.
+const SHORT: Limits = Limits {
+    steps: 3_000_000,
+    terms: 900_000,
+    claims: 1_400_000,
+    bytes: SHORT_BYTES,
+};
+
+/// Limits of a certificate that `recheck` can read.
 const READABLE: Limits = Limits {
     steps: 30_000_000,
     terms: 4_000_000,
     claims: 9_000_000,
+    bytes: 536_870_912,
 };
 
 const NO_LIMITS: Limits = Limits {
     steps: u64::MAX,
     terms: u64::MAX,
     claims: usize::MAX,
+    bytes: usize::MAX,
 };
+
+/// How many bytes a short certificate has at most.
+const SHORT_BYTES: usize = 60_000_000;
+
+/// The orders that are tried and their limits, from what takes little time to what takes long.
+const ATTEMPTS: [(Weave, Limits); 12] = [
+    (Weave::Apart, FEW),
+    (Weave::Fours, FEW),
+    (Weave::Eights, SOME),
+    (Weave::Fours, SHORT),
+    (Weave::Apart, SHORT),
+    (Weave::Whole, SHORT),
+    (Weave::Eights, SHORT),
+    (Weave::Apart, READABLE),
+    (Weave::Fours, READABLE),
+    (Weave::Eights, READABLE),
+    (Weave::Whole, READABLE),
+    (Weave::Fours, NO_LIMITS),
+];
 
 /// The text of a certificate, from the terms of the gates.
 ///
-/// Errors: `Memory`, also where there are more claims than `most`.
+/// Errors: `Memory`, also where there are more claims or bytes than the limits allow.
 fn text_of(
     alloc: Global,
     g: &Demands,
     terms: &Terms,
     ts: &[u32],
-    most: usize,
+    limits: Limits,
 ) -> Result<Vec<u8>, Memory>
     requires inside { AreInside g.now }
     requires vars { length terms.now.order ≡ g.now.net.vars }
@@ -108,7 +147,7 @@ fn text_of(
     requires terms { AreGateTerms g.now.net (length terms.now.order) terms.now.terms ts.now (length g.now.net.gates) }
     ensures { IfOk result (λ text. CertOk g.now text.items) }
 {
-    let mut claims = Claims::new(alloc, terms.made(), terms.ranks(), most)?;
+    let mut claims = Claims::new(alloc, terms.made(), terms.ranks(), limits.claims)?;
     let by = claims.gate_claims(alloc, &g.net, ts)?;
     let mut out = Vec::new(alloc);
     put_head(alloc, &mut out, g.settings)?;
@@ -116,6 +155,9 @@ fn text_of(
     put_steps(&mut out, g, &claims)?;
     put_gates(&mut out, g, &claims, ts, by.as_slice())?;
     put(&mut out, b"end\n")?;
+    if out.len() > limits.bytes {
+        return Err(Memory);
+    }
     Ok(out)
 }
 
@@ -141,32 +183,8 @@ fn write_in(
     }
     let mut terms = Terms::new(alloc, &drawn.store, order, ranks, drawn.dias.as_slice())?;
     let ts = terms.gate_terms(alloc, &g.net, drawn.dias.as_slice())?;
-    let text = text_of(alloc, g, &terms, ts.as_slice(), limits.claims)?;
+    let text = text_of(alloc, g, &terms, ts.as_slice(), limits)?;
     Ok(Some(text))
-}
-
-/// A certificate in the first of the orders in which it stays within the limits; `None` where a demanded gate is false at
-/// some pattern of bits.
-///
-/// Errors: `Memory`, also where it stays within them in none.
-fn write_within(alloc: Global, g: &Demands, limits: Limits) -> Result<Option<Vec<u8>>, Memory>
-    requires inside { AreInside g.now }
-    ensures some { IfOk result (λ o. IfSome o (λ text. CertOk g.now text.items)) }
-    ensures none { IfOk result (λ o. o ≡ None → IsOpen g.now) }
-{
-    match write_in(alloc, g, Weave::Apart, limits) {
-        Ok(text) => return Ok(text),
-        Err(Memory) => {}
-    }
-    match write_in(alloc, g, Weave::Fours, limits) {
-        Ok(text) => return Ok(text),
-        Err(Memory) => {}
-    }
-    match write_in(alloc, g, Weave::Eights, limits) {
-        Ok(text) => return Ok(text),
-        Err(Memory) => {}
-    }
-    write_in(alloc, g, Weave::Whole, limits)
 }
 
 /// A certificate of what is demanded; `None` where a demanded gate is false at some pattern of bits.
@@ -177,13 +195,12 @@ pub fn write(alloc: Global, g: &Demands) -> Result<Option<Vec<u8>>, Memory>
     ensures some { IfOk result (λ o. IfSome o (λ text. CertOk g.now text.items)) }
     ensures none { IfOk result (λ o. o ≡ None → IsOpen g.now) }
 {
-    match write_within(alloc, g, SHORT) {
-        Ok(text) => return Ok(text),
-        Err(Memory) => {}
+    let attempts = ATTEMPTS;
+    for attempt in attempts.as_slice() {
+        match write_in(alloc, g, attempt.0, attempt.1) {
+            Ok(text) => return Ok(text),
+            Err(Memory) => {}
+        }
     }
-    match write_within(alloc, g, READABLE) {
-        Ok(text) => return Ok(text),
-        Err(Memory) => {}
-    }
-    write_in(alloc, g, Weave::Fours, NO_LIMITS)
+    Err(Memory)
 }
