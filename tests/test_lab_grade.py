@@ -18,9 +18,9 @@ from helpers.paths import TOP
 from helpers.programs import put
 from y86lab.errors import LabError
 from y86lab.grading.formats import as_csv, as_gradescope, as_json, as_junit
-from y86lab.grading.feedback import file_name
-from y86lab.grading.grader import Grade, Score, words
+from y86lab.grading.grader import Grade, Report, Score, words
 from y86lab.grading.handins import hand_ins
+from y86lab.output import plain_name
 from y86lab.grading.rubric import Cycles, Item, Obligations, Program, Rubric, Run, Size, read_rubric, rubric_of
 
 LAB, CLASS = f"{TOP}/y86-lab", f"{TOP}/examples/class"
@@ -46,12 +46,13 @@ bob,10,30,10,0,0
 cy,0,30,0,0,0
 Ελένη,10,30,10,0,0
 """
-# Bob: S11. Cy, without iaddq: S2, S3, S5, S6, S8, S9, S11, S15.
+# False of Bob's is S11, the last of the four of execute. Cy's is without iaddq: two of the three of fetch (S2, S3) are false, two of the four of decode (S5, S6),
+# three of the four of execute (S8, S9, S11), and one of the five others (S15). Dee's isn't HCL.
 SEQ = """\
 name,points,of,fetch,decode,execute,memory and the rest
 ann,20,20,5,5,5,5
-bob,13.75,20,5,5,3.75,0
-cy,1.67,20,1.67,0,0,0
+bob,18.75,20,5,5,3.75,5
+cy,9.42,20,1.67,2.5,1.25,4
 dee,0,20,0,0,0,0
 """
 # Ann's loop takes 8.48 cycles per element (60 (10.5 - 8.48) / 3) and 488 bytes (10 (1000 - 488) / 800). Bob: O10, and more. Dee: O22.
@@ -208,8 +209,8 @@ def test_hand_ins_that_try_to_do_harm(lab, folder):
 
 def test_names_of_pages():
     taken = set()
-    same([file_name(name, taken) for name in ("ann", "Ann", "../etc", "-rf", "a/b", "Ελένη", "...", "x" * 300)],
-        ["ann.html", "Ann-2.html", "etc.html", "rf.html", "a_b.html", "Ελένη.html", "hand-in.html", "x" * 100 + ".html"])
+    same([plain_name(name, taken) for name in ("ann", "Ann", "../etc", "-rf", "a/b", "Ελένη", "...", "x" * 300)],
+        ["ann", "Ann-2", "etc", "rf", "a_b", "Ελένη", "hand-in", "x" * 100])
 
 
 def test_feedback_shows_the_mistake(lab, folder):
@@ -276,7 +277,7 @@ def test_words_after_a_label():
     """What the run didn't change is as the object file has it."""
     listing = "0x000: 00                   | halt\n0x008:                      | dest:\n0x008: 0a00000000000000     |     .quad 10\n0x010: 0b00000000000000     |     .quad 11\n"
     report = "Stopped in 1 steps at PC = 0x0.  Status 'HLT', CC Z=1 S=0 O=0\nChanges to memory:\n0x0010:\t0x000000000000000b\t0x00000000000000ff\n"
-    same((words(report, listing, "dest", 2), words(report, listing, "nowhere", 1)), ("0xa 0xff", "no label nowhere"))
+    same((words(Report(listing, report), "dest", 2), words(Report(listing, report), "nowhere", 1)), ("0xa 0xff", "no label nowhere"))
 
 
 # `try`.

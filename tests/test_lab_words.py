@@ -8,7 +8,7 @@ from y86lab.aig.confirm import bits_of
 from y86lab.aig.network import blif, clauses_below, clauses_of, network_of
 from y86lab.commands.classroom import Row, cell, set_verdict, status_of
 from y86lab.calls import Answer
-from y86lab.copy_loop import driver, result_fault, score, words_of
+from y86lab.copy_loop import data_of, result_fault, score, words_of
 from y86lab.explaining import broken_files, settings_in_words
 from y86lab.explaining import isa
 from y86lab.explaining.signals import datapath_of_text, in_full, in_short, unasked
@@ -179,11 +179,12 @@ def test_score():
     same([round(score(mean), 1) for mean in (10.6, 10.5, 10.0, 9.0, 7.5, 7.4)], [0.0, 0.0, 10.0, 30.0, 60.0, 60.0])
 
 
-def test_driver_has_the_words():
-    text = driver("ncopy:\n    ret", 3)
-    same([line.strip() for line in text.split("lab_from:")[1].split("lab_to:")[0].splitlines() if line],
-        [*[f".quad {word}" for word in words_of(3)], f".quad {0xBCDEFA}"])
-    assert "irmovq $3, %rdx" in text and words_of(3) == words_of(3)
+def test_data_of_the_driver():
+    """The words, a guard in each place after them, and the untouched places for the copy, each of eight bytes from the low one on."""
+    held = bytes.fromhex(data_of(3))
+    places = [int.from_bytes(held[at : at + 8], "little", signed=True) for at in range(0, len(held), 8)]
+    same((places[:3], places[3:257], places[257:]), (words_of(3), [0xBCDEFA] * 254, [0xCDEFAB] * 257))
+    same([abs(word) for word in words_of(3)], [1, 2, 3])
 
 
 def report(status="HLT", rax=None, words=None, more=()):

@@ -4,16 +4,41 @@ from __future__ import annotations
 import os
 import random
 import re
-from typing import Iterator, Optional
+from functools import lru_cache
+from typing import Optional, Sequence
 
 from .calls import Answer, Limits, Programs, read_text
 from .errors import LabError
 
 LENGTHS, LARGER = range(65), (128, 192, 256)
+ALL_LENGTHS = (*LENGTHS, *LARGER)
+LONGEST = max(ALL_LENGTHS)
 MOST_BYTES, MEMORY = 1000, "65536"
 UNTOUCHED, GUARD = 0xCDEFAB, 0xBCDEFA
 STACK = range(0x7000, 0x8000)
 MOST_POINTS, BEST_MEAN, WORST_MEAN = 60.0, 7.5, 10.5
+# The driver, around the function. The words that are copied, their number, and the places for the copy come later:
+# a line of an object file may overwrite the bytes of those before it.
+FIRST = """    irmovq lab_stack, %rsp
+    irmovq lab_from, %rdi
+    irmovq lab_to, %rsi
+    irmovq $0, %rdx
+    call ncopy
+    halt
+lab_begin:
+"""
+PLACES = "    .quad 0\n" * (LONGEST + 1)
+LAST = f"""
+lab_end:
+    .align 8
+lab_from:
+{PLACES}lab_to:
+{PLACES}    .align 16
+    .pos 0x8000
+lab_stack:
+"""
+# The address of the constant of the fourth instruction, the number of words.
+NUMBER_OF_WORDS = 32
 
 
 def score(mean: float) -> float:
@@ -23,77 +48,72 @@ def score(mean: float) -> float:
     return MOST_POINTS if mean < BEST_MEAN else MOST_POINTS / (WORST_MEAN - BEST_MEAN) * (WORST_MEAN - mean)
 
 
+@lru_cache(maxsize=None)
 def words_of(length: int) -> list[int]:
     """The words that are copied: signs at random, the same at each call."""
     chance = random.Random(length)
     return [chance.choice((-1, 1)) * (number + 1) for number in range(length)]
 
 
-def driver(function: str, length: int) -> str:
-    """A program that calls the function on so many words."""
-    words = "".join(f"    .quad {word}\n" for word in words_of(length))
-    places = f"    .quad {UNTOUCHED}\n" * length
-    return f"""    irmovq lab_stack, %rsp
-    irmovq lab_from, %rdi
-    irmovq lab_to, %rsi
-    irmovq ${length}, %rdx
-    call ncopy
-    halt
-lab_begin:
-{function}
-lab_end:
-    .align 8
-lab_from:
-{words}    .quad {GUARD}
-lab_to:
-{places}lab_behind:
-    .quad {GUARD}
-    .align 16
-    .pos 0x8000
-lab_stack:
-"""
+def hexadecimal(words: Sequence[int]) -> str:
+    """The bytes of some words, as an object file has them."""
+    return b"".join((word % (1 << 64)).to_bytes(8, "little") for word in words).hex()
 
 
-def label(listing: str, name: str) -> int:
-    match = re.search(rf"^0x([0-9a-f]+):.*\| {name}:", listing, re.M)
+@lru_cache(maxsize=None)
+def data_of(length: int) -> str:
+    """The bytes from `lab_from` on: so many words, and a guard in each other place; then the places for the copy."""
+    copied = [*words_of(length), *[GUARD] * (LONGEST + 1 - length)]
+    return hexadecimal([*copied, *[UNTOUCHED] * (LONGEST + 1)])
+
+
+def line_of(listing: str, name: str) -> re.Match[str]:
+    """The line of a label: its address, and where it begins. (A comment may have all but the first `|`.)"""
+    match = re.search(rf"^0x([0-9a-f]+):[^|\n]*\| {name}:", listing, re.M)
     if not match:
         raise LabError(f"the listing has no label {name}")
-    return int(match[1], 16)
+    return match
+
+
+def address_of(listing: str, name: str) -> int:
+    return int(line_of(listing, name)[1], 16)
 
 
 class CopyLoop:
-    """A copy function and a pipeline, with the cycles of each length that was run. The folder is for the drivers."""
+    """A copy function, with the cycles of each length that was run. The folder is for the drivers."""
 
-    def __init__(
-        self, programs: Programs, source: str, path: str, flags: list[str], folder: str, limits: Limits = Limits()
-    ) -> None:
+    def __init__(self, programs: Programs, source: str, flags: list[str], folder: str, limits: Limits) -> None:
         self.programs, self.source, self.function = programs, source, read_text(source)
-        self.path, self.flags, self.limits = path, flags, limits
-        self.driver, self.object = os.path.join(folder, "driver.ys"), os.path.join(folder, "driver.yo")
+        self.flags, self.folder, self.limits = flags, folder, limits
         self.cycles: dict[int, int] = {}
+        self.listing = ""
 
-    def assemble(self, length: int) -> Answer:
-        with open(self.driver, "w", encoding="utf-8") as file:
-            file.write(driver(self.function, length))
-        answer = self.programs.run("yas", self.driver, "--mem", MEMORY, *self.flags, limits=self.limits)
-        with open(self.object, "w", encoding="utf-8") as file:
-            file.write(answer.out)
-        return answer
+    def path(self, name: str) -> str:
+        return os.path.join(self.folder, name)
+
+    def assemble(self) -> str:
+        """The listing of the function in its driver."""
+        if not self.listing:
+            with open(self.path("driver.ys"), "w", encoding="utf-8") as file:
+                file.write(f"{FIRST}{self.function}{LAST}")
+            words = ["yas", self.path("driver.ys"), "--mem", MEMORY, *self.flags]
+            answer = self.programs.run(*words, limits=self.limits)
+            if answer.status != 0:
+                raise LabError(self.assembly_fault(answer))
+            self.listing = answer.out
+        return self.listing
 
     def size(self) -> int:
         """The bytes of the function."""
-        answer = self.assemble(1)
-        if answer.status != 0:
-            raise LabError(self.assembly_fault(answer))
-        return label(answer.out, "lab_end") - label(answer.out, "lab_begin")
+        listing = self.assemble()
+        return address_of(listing, "lab_end") - address_of(listing, "lab_begin")
 
     def assembly_fault(self, answer: Answer) -> str:
         """What is wrong with the function, by the assembler's answer on its driver."""
         match = re.search(r":(\d+): (.*)", answer.err)
         if not match:
-            return answer.err.strip().replace(self.driver, self.source) or "the assembler gives no answer"
-        lines_before = driver("", 1).split("lab_begin:\n")[0].count("\n") + 1
-        line, reason = int(match[1]) - lines_before, match[2]
+            return answer.err.strip().replace(self.path("driver.ys"), self.source) or "the assembler gives no answer"
+        line, reason = int(match[1]) - FIRST.count("\n"), match[2]
         lines = self.function.split("\n")
         if line < 1:
             return f"{self.source}: it defines no label `ncopy`"
@@ -102,23 +122,36 @@ class CopyLoop:
         has_iaddq = "iaddq" in lines[line - 1].split("#")[0] and not self.flags
         return f"the function, line {line}: {reason}{' (`iaddq` needs `--full`)' if has_iaddq else ''}"
 
-    def faults(self, length: int) -> Iterator[str]:
-        """What is wrong with the copy of so many words, under `yis` and under `psim`."""
-        listing = self.assemble(length).out
-        copy = label(listing, "lab_to")
-        limit = 1000 * (length + 1)
-        options = [self.object, "--mem", MEMORY, *self.flags, "--limit", str(limit)]
-        for name, unit, words in (("yis", "steps", options), ("psim", "cycles", [self.path, *options])):
-            answer = self.programs.run(name, *words, limits=self.limits)
+    def object_file(self, length: int) -> str:
+        """The driver with so many words."""
+        path = self.path(f"{length}.yo")
+        start = line_of(self.assemble(), "lab_from")
+        code = self.listing[: start.start()]
+        with open(path, "w", encoding="utf-8") as file:
+            file.write(f"{code}0x{NUMBER_OF_WORDS:x}: {hexadecimal([length])} |\n0x{start[1]}: {data_of(length)} |\n")
+        return path
+
+    def faults(self, processor: str, lengths: Sequence[int], most: int) -> list[str]:
+        """The first faults of the copies of so many words, by instructions and on a pipeline."""
+        copy, calls, runs = address_of(self.assemble(), "lab_to"), [], []
+        for length in lengths:
+            limit = 1000 * (length + 1)
+            words = [self.object_file(length), "--mem", MEMORY, *self.flags, "--limit", str(limit)]
+            calls += [["yis", *words], ["psim", processor, *words]]
+            runs += [(length, "yis", f"{limit} steps"), (length, "psim", f"{limit} cycles")]
+        faults = []
+        for (length, name, limit_in_words), answer in zip(runs, self.programs.run_all(calls, self.limits, most)):
             ran = re.search(r"^Ran (\d+) cycles", answer.out, re.M)
             if ran:
                 self.cycles[length] = int(ran[1])
-            if "Status 'AOK'" in answer.out:
-                yield f"length {length}, {name}: it doesn't end within {limit} {unit}"
-                continue
             fault = result_fault(answer.out, length, copy)
+            if answer.status is None:
+                fault = "it gave no report in time"
+            elif "Status 'AOK'" in answer.out:
+                fault = f"it doesn't end within {limit_in_words}"
             if fault:
-                yield f"length {length}, {name}: {fault}"
+                faults.append(f"length {length}, {name}: {fault}")
+        return faults[:most]
 
     def mean(self) -> float:
         """The mean of the cycles per element over lengths 1 to 64."""

@@ -4,40 +4,32 @@ from __future__ import annotations
 import argparse
 import os
 import sys
-from concurrent.futures import ThreadPoolExecutor
+import tempfile
 from dataclasses import dataclass
 
-from ..arguments import MOST, Command, number_to
-from ..calls import Limits, Programs
+from ..arguments import Command
+from ..calls import Limits, Programs, full_flag
 from ..errors import DONE, USAGE, LabError
 from ..grading import feedback
 from ..grading.formats import FORMATS
-from ..grading.grader import Grade, Grader
+from ..grading.grader import Grade, Grader, Right, Runner, references
 from ..grading.handins import HandIn, hand_ins
 from ..grading.rubric import Rubric, read_rubric
+from ..output import make_folder, plain_name, write
+from ..progress import add_limits, all_results, limits_of
 
 # The longest search for a program that shows a mistake, in seconds.
 LONGEST_SEARCH = 20
 
 
 def add_arguments(parser: argparse.ArgumentParser) -> None:
-    number = number_to(MOST)
     parser.add_argument("folder", metavar="FOLDER", help="a folder with a folder for each hand-in, or with all files")
     parser.add_argument("--rubric", metavar="FILE", required=True, help="what is worth how many points, in TOML")
     parser.add_argument("--format", choices=tuple(FORMATS), default="csv", help="the form of the grades (default csv)")
     parser.add_argument("-o", "--output", metavar="FILE", help="write the grades into this file")
     parser.add_argument("--feedback", metavar="FOLDER", help="write a page for each hand-in into this folder")
     parser.add_argument("--single", action="store_true", help="FOLDER is one hand-in")
-    processors = os.cpu_count() or 1
-    parser.add_argument(
-        "--jobs", type=number, default=processors, metavar="N", help="how many at once (default: all processors)"
-    )
-    parser.add_argument(
-        "--seconds", type=number, default=60, metavar="N", help="the processor time of a call (default 60)"
-    )
-    parser.add_argument(
-        "--megabytes", type=number, default=2000, metavar="N", help="the memory of a call (default 2000)"
-    )
+    add_limits(parser)
 
 
 def run(arguments: argparse.Namespace, programs: Programs) -> int:
@@ -54,19 +46,22 @@ def run(arguments: argparse.Namespace, programs: Programs) -> int:
     for name in ("y86", "y86-tell"):
         if programs.is_there(name):
             programs.path(name)
-    limits = Limits(arguments.seconds, arguments.megabytes)
+    limits = limits_of(arguments)
+    right = references(programs, rubric, limits)
     seconds = min(arguments.seconds, LONGEST_SEARCH) if arguments.feedback else 0
-    results = all_results(Task(programs, rubric, limits, seconds), found, arguments.jobs)
+    results = all_results(Task(programs, rubric, right, limits, seconds).result, found, arguments.jobs)
     taken: set[str] = set()
     for grade, page in results:
         if page:
-            feedback.write(arguments.feedback, feedback.file_name(grade.name, taken), page)
+            write(os.path.join(arguments.feedback, f"{plain_name(grade.name, taken)}.html"), page)
     text = FORMATS[arguments.format](rubric, [grade for grade, _ in results])
+    # (a name may have bytes that aren't UTF-8)
+    errors = "surrogateescape" if arguments.format == "csv" else "replace"
     if arguments.output:
-        feedback.write(os.path.dirname(arguments.output), os.path.basename(arguments.output), text)
+        write(arguments.output, text, errors)
     else:
         sys.stdout.flush()
-        sys.stdout.buffer.write(text.encode("utf-8", "surrogateescape" if arguments.format == "csv" else "replace"))
+        sys.stdout.buffer.write(text.encode("utf-8", errors))
     return DONE
 
 
@@ -76,39 +71,17 @@ class Task:
 
     programs: Programs
     rubric: Rubric
+    right: Right
     limits: Limits
     seconds: int
 
     def result(self, hand_in: HandIn) -> tuple[Grade, str]:
-        grade = Grader(self.programs, self.rubric, self.limits, hand_in).grade()
+        with tempfile.TemporaryDirectory() as folder:
+            runner = Runner(self.programs, full_flag(self.rubric.full), self.limits, folder)
+            grade = Grader(runner, self.rubric, self.right, hand_in).grade()
         if not self.seconds:
             return grade, ""
         return grade, feedback.page(self.programs, self.rubric, hand_in, grade, self.seconds)
-
-
-def make_folder(path: str) -> None:
-    try:
-        os.makedirs(path, exist_ok=True)
-    except OSError as fault:
-        raise LabError(f"{path}: {fault.strerror}") from fault
-
-
-def all_results(task: Task, found: list[HandIn], jobs: int) -> list[tuple[Grade, str]]:
-    """The grades and the pages, in the order of the hand-ins."""
-    results = []
-    with ThreadPoolExecutor(jobs) as pool:
-        for result in pool.map(task.result, found):
-            results.append(result)
-            show_progress(len(results), len(found))
-    return results
-
-
-def show_progress(done: int, total: int) -> None:
-    """A bar, on a terminal."""
-    if sys.stderr.isatty():
-        width = 40 * done // total
-        end = "\n" if done == total else ""
-        print(f"\r[{'#' * width}{' ' * (40 - width)}] {done} of {total}", end=end, file=sys.stderr, flush=True)
 
 
 COMMAND = Command("grade", "grades the hand-ins of a class by a rubric", add_arguments, run)

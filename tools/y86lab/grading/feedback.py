@@ -6,12 +6,10 @@ from __future__ import annotations
 
 import html
 import os
-import re
 import subprocess
 import sys
 
 from ..calls import LAUNCHER, Programs, full_flag
-from ..errors import LabError
 from .formats import number
 from .grader import Grade
 from .handins import HandIn
@@ -85,24 +83,3 @@ def page(programs: Programs, rubric: Rubric, hand_in: HandIn, grade: Grade, seco
         rows="\n".join(rows),
         details=details(programs, rubric, hand_in, grade, seconds),
     )
-
-
-def file_name(name: str, taken: set[str]) -> str:
-    """A name of a file for a hand-in that is no path, no option and no other one's."""
-    plain = re.sub(r"[^\w.-]+", "_", name.encode("utf-8", "replace").decode()).strip(".-_") or "hand-in"
-    plain, number_after = plain[:100], 1
-    unique = plain
-    while unique.lower() in taken:
-        number_after += 1
-        unique = f"{plain}-{number_after}"
-    taken.add(unique.lower())
-    return f"{unique}.html"
-
-
-def write(folder: str, name: str, text: str) -> None:
-    path = os.path.join(folder, name)
-    try:
-        with open(path, "w", encoding="utf-8", errors="replace") as file:
-            file.write(text)
-    except OSError as fault:
-        raise LabError(f"{path}: {fault.strerror}") from fault

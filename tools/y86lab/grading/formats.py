@@ -4,16 +4,12 @@ from __future__ import annotations
 import csv
 import io
 import json
-import re
 from typing import Callable, Sequence
-from xml.sax.saxutils import escape, quoteattr
+from xml.sax.saxutils import quoteattr
 
-from ..cells import cell
+from ..cells import cell, xml, xml_text
 from .grader import Grade
 from .rubric import Rubric
-
-# Characters that XML doesn't take.
-NOT_IN_XML = re.compile("[^\t\n\r\u0020-\ud7ff\ue000-\ufffd\U00010000-\U0010ffff]")
 
 
 def number(value: float) -> str:
@@ -75,10 +71,6 @@ def as_gradescope(rubric: Rubric, grades: Sequence[Grade]) -> str:
     return json.dumps(data, indent=2) + "\n"
 
 
-def xml(text: str) -> str:
-    return NOT_IN_XML.sub("\ufffd", text)
-
-
 def as_junit(rubric: Rubric, grades: Sequence[Grade]) -> str:
     """A test suite for each hand-in. An item with all its points passes."""
     lines = ['<?xml version="1.0" encoding="UTF-8"?>', f"<testsuites name={quoteattr(xml(rubric.name))}>"]
@@ -90,7 +82,7 @@ def as_junit(rubric: Rubric, grades: Sequence[Grade]) -> str:
             lines.append(f"    <testcase classname={quoteattr(xml(grade.name))} name={quoteattr(xml(score.name))}>")
             points = f"{number(score.points)} of {number(score.most)}"
             if score.points < score.most:
-                lines.append(f"      <failure message={quoteattr(points)}>{escape(xml(score.reason))}</failure>")
+                lines.append(f"      <failure message={quoteattr(points)}>{xml_text(score.reason)}</failure>")
             lines.append("    </testcase>")
         lines.append("  </testsuite>")
     return "\n".join([*lines, "</testsuites>", ""])

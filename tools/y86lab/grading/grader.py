@@ -6,10 +6,12 @@ import re
 import tempfile
 from dataclasses import dataclass
 from functools import lru_cache
+from typing import Optional
 
-from ..calls import Answer, Limits, Programs, full_flag
-from ..copy_loop import LARGER, LENGTHS, CopyLoop
-from ..errors import DONE, LabError
+from .. import hcl
+from ..calls import Answer, Limits, Programs, full_flag, read_text
+from ..copy_loop import ALL_LENGTHS, CopyLoop
+from ..errors import DONE, USAGE, LabError
 from .handins import HandIn
 from .obligations import Verdict, verdict
 from .rubric import Cycles, Item, Obligations, Program, Rubric, Run, Size
@@ -50,13 +52,85 @@ class NoPoints(Exception):
     """Why an item is worth nothing."""
 
 
-class Grader:
-    """Grades one hand-in. Whatever its files do, each item gets a score."""
+@dataclass(frozen=True)
+class Report:
+    """How a program ends by its instructions, and its listing."""
 
-    def __init__(self, programs: Programs, rubric: Rubric, limits: Limits, hand_in: HandIn) -> None:
-        self.programs, self.rubric, self.limits, self.hand_in = programs, rubric, limits, hand_in
-        self.flags = full_flag(rubric.full)
+    listing: str
+    text: str
+
+
+@dataclass(frozen=True)
+class Right:
+    """The references of a rubric, by their names: each is read, or run, once for a class."""
+
+    reports: dict[str, Report]
+    designs: dict[str, hcl.Design]
+
+
+class Runner:
+    """Assembles and runs programs within the limits. The folder is for their object files."""
+
+    def __init__(self, programs: Programs, flags: list[str], limits: Limits, folder: str) -> None:
+        self.programs, self.flags, self.limits, self.folder = programs, flags, limits, folder
+
+    def assembled(self, path: str) -> tuple[str, str]:
+        """The object file of a source, and its listing."""
+        if os.path.getsize(path) > LONGEST:
+            raise NoPoints("the source is too long")
+        answer = self.programs.run("yas", path, *self.flags, limits=self.limits)
+        if answer.status != DONE:
+            raise NoPoints(answer.err.strip().replace(path, os.path.basename(path)) or "the assembler gave no answer")
+        made = os.path.join(self.folder, "own.yo")
+        with open(made, "w", encoding="utf-8") as file:
+            file.write(answer.out)
+        return made, answer.out
+
+    def report(self, path: str) -> Report:
+        """The run of a source by its instructions."""
+        made, listing = self.assembled(path)
+        return Report(listing, self.run_by_instructions(made).out)
+
+    def run_by_instructions(self, made: str) -> Answer:
+        answer = self.programs.run("yis", made, *self.flags, limits=self.limits)
+        if answer.status is None or "Status '" not in answer.out:
+            raise NoPoints("the program gave no report in time" if answer.status is None else answer.err.strip())
+        return answer
+
+
+def references(programs: Programs, rubric: Rubric, limits: Limits) -> Right:
+    """The references of a rubric. One that can't be used is the teacher's fault, and ends the command."""
+    right = Right({}, {})
+    with tempfile.TemporaryDirectory() as folder:
+        runner = Runner(programs, full_flag(rubric.full), limits, folder)
+        for item in rubric.items:
+            name = getattr(item.task, "reference", "")
+            path = os.path.join(rubric.folder, name)
+            try:
+                if name and isinstance(item.task, Program) and name not in right.reports:
+                    right.reports[name] = runner.report(path)
+                elif name and isinstance(item.task, Obligations) and name not in right.designs:
+                    right.designs[name] = design_of_reference(path)
+            except (NoPoints, OSError) as why:
+                raise LabError(f"the reference {name}: {why}", USAGE) from why
+    return right
+
+
+def design_of_reference(path: str) -> hcl.Design:
+    design = hcl.design_of(read_text(path))
+    if design is None:
+        raise NoPoints("it isn't HCL")
+    return design
+
+
+class Grader:
+    """Grades one hand-in. Whatever its files do, each item gets a score. The folder is for the files of its runs."""
+
+    def __init__(self, runner: Runner, rubric: Rubric, right: Right, hand_in: HandIn) -> None:
+        self.runner, self.rubric, self.right, self.hand_in = runner, rubric, right, hand_in
+        self.programs, self.limits, self.flags = runner.programs, runner.limits, runner.flags
         self.verdicts: dict[str, Verdict] = {}
+        self.loops: dict[str, CopyLoop] = {}
         self.cycles: dict[int, int] = {}
 
     def grade(self) -> Grade:
@@ -90,8 +164,15 @@ class Grader:
 
     def verdict(self, name: str) -> Verdict:
         if name not in self.verdicts:
-            self.verdicts[name] = verdict(self.programs, self.path(name), self.rubric.full, self.limits)
+            right = self.right_design(name)
+            self.verdicts[name] = verdict(self.programs, self.path(name), self.rubric.full, self.limits, right)
         return self.verdicts[name]
+
+    def right_design(self, name: str) -> Optional[hcl.Design]:
+        """The right file that the rubric has for this one."""
+        tasks = [item.task for item in self.rubric.items if isinstance(item.task, Obligations)]
+        named = [task.reference for task in tasks if task.file == name and task.reference]
+        return self.right.designs[named[0]] if named else None
 
     def share_of_obligations(self, task: Obligations) -> tuple[float, str]:
         judged = self.verdict(task.file)
@@ -112,36 +193,13 @@ class Grader:
             return 1.0, "all hold"
         return (len(asked) - len(false)) / len(asked), f"false: {', '.join(false)}"
 
-    def assembled(self, path: str, folder: str, name: str) -> tuple[str, str]:
-        """The object file of a source, and its listing."""
-        if os.path.getsize(path) > LONGEST:
-            raise NoPoints("the source is too long")
-        answer = self.programs.run("yas", path, *self.flags, limits=self.limits)
-        if answer.status != DONE:
-            raise NoPoints(answer.err.strip().replace(path, os.path.basename(path)) or "the assembler gave no answer")
-        made = os.path.join(folder, name)
-        with open(made, "w", encoding="utf-8") as file:
-            file.write(answer.out)
-        return made, answer.out
-
-    def run_by_instructions(self, made: str) -> Answer:
-        answer = self.programs.run("yis", made, *self.flags, limits=self.limits)
-        if answer.status is None or "Status '" not in answer.out:
-            raise NoPoints("the program gave no report in time" if answer.status is None else answer.err.strip())
-        return answer
-
     def share_of_program(self, task: Program) -> tuple[float, str]:
-        reference_path = os.path.join(self.rubric.folder, task.reference)
-        with tempfile.TemporaryDirectory() as folder:
-            own, own_listing = self.assembled(self.path(task.file), folder, "own.yo")
-            right, right_listing = self.assembled(reference_path, folder, "right.yo")
-            report, wanted = self.run_by_instructions(own).out, self.run_by_instructions(right).out
-        differences = [compared("the status", status_of(wanted), status_of(report))]
+        own, wanted = self.runner.report(self.path(task.file)), self.right.reports[task.reference]
+        differences = [compared("the status", status_of(wanted.text), status_of(own.text))]
         for name in task.registers:
-            differences.append(compared(name, register(wanted, name), register(report, name)))
+            differences.append(compared(name, register(wanted.text, name), register(own.text, name)))
         for name, count in task.words:
-            right_words, own_words = words(wanted, right_listing, name, count), words(report, own_listing, name, count)
-            differences.append(compared(f"the words at {name}", right_words, own_words))
+            differences.append(compared(f"the words at {name}", words(wanted, name, count), words(own, name, count)))
         if any(differences):
             raise NoPoints("; ".join(difference for difference in differences if difference))
         return 1.0, "it ends as the reference does"
@@ -149,10 +207,9 @@ class Grader:
     def share_of_run(self, task: Run) -> tuple[float, str]:
         path = self.path(task.processor)
         judged = self.verdict(task.processor)
-        with tempfile.TemporaryDirectory() as folder:
-            made, _ = self.assembled(self.path(task.file), folder, "own.yo")
-            wanted = self.run_by_instructions(made).out
-            answer = self.programs.run(COMMANDS[judged.datapath], path, made, *self.flags, limits=self.limits)
+        made, _ = self.runner.assembled(self.path(task.file))
+        wanted = self.runner.run_by_instructions(made).out
+        answer = self.programs.run(COMMANDS[judged.datapath], path, made, *self.flags, limits=self.limits)
         report = answer.out[answer.out.find("Stopped in ") :] if "Stopped in " in answer.out else ""
         if not report:
             raise NoPoints(answer.err.strip() or "the processor gave no report in time")
@@ -160,30 +217,27 @@ class Grader:
             raise NoPoints(f"it ends otherwise than by its instructions: {first_difference(wanted, report)}")
         return 1.0, "it ends as by its instructions"
 
-    def copy_loop(self, name: str, processor: str, folder: str) -> CopyLoop:
-        path = self.path(name)
-        if os.path.getsize(path) > LONGEST:
-            raise NoPoints("the source is too long")
-        return CopyLoop(self.programs, path, processor, self.flags, folder, self.limits)
+    def copy_loop(self, name: str) -> CopyLoop:
+        if name not in self.loops:
+            path = self.path(name)
+            if os.path.getsize(path) > LONGEST:
+                raise NoPoints("the source is too long")
+            self.loops[name] = CopyLoop(self.programs, path, self.flags, self.runner.folder, self.limits)
+        return self.loops[name]
 
     def share_of_cycles(self, task: Cycles) -> tuple[float, str]:
         judged = self.verdict(task.processor)
         if judged.fault or judged.false or judged.datapath != "pipe":
             raise NoPoints(f"{task.processor} isn't accepted as a pipeline")
-        with tempfile.TemporaryDirectory() as folder:
-            loop = self.copy_loop(task.file, self.path(task.processor), folder)
-            loop.size()
-            for length in [*LENGTHS, *LARGER]:
-                for fault in loop.faults(length):
-                    raise NoPoints(fault)
-            self.cycles = loop.cycles
-            mean = loop.mean()
+        loop = self.copy_loop(task.file)
+        for fault in loop.faults(self.path(task.processor), ALL_LENGTHS, 1):
+            raise NoPoints(fault)
+        self.cycles, mean = loop.cycles, loop.mean()
         share = (task.worst - mean) / (task.worst - task.best)
         return min(1.0, max(0.0, share)), f"{mean:.2f} cycles per element"
 
     def share_of_size(self, task: Size) -> tuple[float, str]:
-        with tempfile.TemporaryDirectory() as folder:
-            size = self.copy_loop(task.file, "", folder).size()
+        size = self.copy_loop(task.file).size()
         share = 1.0 if size <= task.best else (task.worst - size) / (task.worst - task.best)
         return max(0.0, share), f"{size} bytes"
 
@@ -213,14 +267,15 @@ def bytes_of(listing: str) -> dict[int, int]:
     return held
 
 
-def words(report: str, listing: str, label: str, count: int) -> str:
-    """The words after a label at the end of a run."""
-    place = re.search(rf"^0x([0-9a-f]+):.*\|\s*{re.escape(label)}:", listing, re.M)
+def words(report: Report, label: str, count: int) -> str:
+    """The words after a label at the end of a run. (A comment may have all of a label's line but the first `|`.)"""
+    place = re.search(rf"^0x([0-9a-f]+):[^|\n]*\|\s*{re.escape(label)}:", report.listing, re.M)
     if not place:
         return f"no label {label}"
-    start, held = int(place[1], 16), bytes_of(listing)
+    start, held = int(place[1], 16), bytes_of(report.listing)
     changed = {
-        int(address, 16): int(word, 16) for address, word in re.findall(r"^0x(\w+):\t\S+\t0x(\w+)$", report, re.M)
+        int(address, 16): int(word, 16)
+        for address, word in re.findall(r"^0x(\w+):\t\S+\t0x(\w+)$", report.text, re.M)
     }
     values = []
     for address in range(start, start + 8 * count, 8):

@@ -1,4 +1,8 @@
-"""Which obligations are false of a file: all of them by y86-tell, or the first alone if that program isn't there."""
+"""Which obligations are false of a file.
+
+y86-tell says all of them. If it doesn't, `mending` finds those of a sequential processor.
+If neither helps, the first one alone is known, by y86.
+"""
 from __future__ import annotations
 
 import json
@@ -8,6 +12,7 @@ from typing import Optional
 from .. import explaining, hcl
 from ..calls import Answer, Limits, Programs, full_flag
 from ..errors import DONE, FAULT, MEMORY, REFUSED, TOO_LONG
+from .mending import Mending
 
 LONGEST = 65536
 
@@ -34,32 +39,42 @@ def design_of(text: str) -> Optional[hcl.Design]:
         return None
 
 
-def verdict(programs: Programs, path: str, full: bool, limits: Limits) -> Verdict:
-    """What holds of a file."""
+def verdict(programs: Programs, path: str, full: bool, limits: Limits, right: Optional[hcl.Design] = None) -> Verdict:
+    """What holds of a file. A right file helps to find all that is false of a sequential processor."""
     text = text_of(path)
-    datapath = explaining.datapath_of_text(text, design_of(text)) or "pipe"
+    design = design_of(text)
+    datapath = explaining.datapath_of_text(text, design) or "pipe"
+    told = told_as_false(programs, datapath, path, full, limits)
+    if told is not None:
+        return Verdict(told, "", True, datapath)
     answer = programs.run("check", datapath, path, *full_flag(full), limits=limits)
     if answer.status == DONE:
         return Verdict((), "", True, datapath)
     if answer.status != REFUSED or not answer.out.startswith("no "):
         return Verdict((), fault_in_words(answer), True, datapath)
     first = answer.out.split()[1]
-    others = all_false(programs, datapath, path, full, limits)
+    others: tuple[str, ...] = ()
+    if datapath != "pipe" and design and right:
+        others = Mending(programs, datapath, full, limits, right).all_false(design, first)
     return Verdict(others or (first,), "", bool(others), datapath)
 
 
-def all_false(programs: Programs, datapath: str, path: str, full: bool, limits: Limits) -> tuple[str, ...]:
-    """All false obligations, if y86-tell says them."""
+def told_as_false(
+    programs: Programs, datapath: str, path: str, full: bool, limits: Limits
+) -> Optional[tuple[str, ...]]:
+    """All false obligations by y86-tell, none after a yes; None if it doesn't say them."""
     if not programs.is_there("y86-tell"):
-        return ()
+        return None
     answer = programs.run("check", datapath, path, "--json", *full_flag(full), program="y86-tell", limits=limits)
-    if answer.status != REFUSED:
+    if answer.status == DONE:
         return ()
+    if answer.status != REFUSED:
+        return None
     try:
         refuted = json.loads(answer.out)["refuted"]
         return tuple(str(each["obligation"]["label"]) for each in refuted)
     except (ValueError, KeyError, TypeError):
-        return ()
+        return None
 
 
 def fault_in_words(answer: Answer) -> str:

@@ -40,10 +40,11 @@ GROUPS = {
 
 @dataclass(frozen=True)
 class Obligations:
-    """Points for the obligations of a file that hold: each counts the same."""
+    """Points for the obligations of a file that hold: each counts the same. A right file may help to judge others."""
 
     file: str
     labels: tuple[str, ...]
+    reference: str
 
 
 @dataclass(frozen=True)
@@ -145,7 +146,8 @@ def item_of(place: str, table: object) -> Item:
     if points <= 0:
         raise reader.fault("points", "above 0")
     if "obligations" in table:
-        task: Task = Obligations(reader.file("file"), labels_of(reader))
+        right = reader.text("reference") if "reference" in table else ""
+        task: Task = Obligations(reader.file("file"), labels_of(reader), right)
     elif "reference" in table:
         words = tuple((label, count) for label, count in reader.counts("words").items())
         registers = tuple(reader.texts("registers"))
