@@ -15,7 +15,7 @@ FILES = ("y86-lab",)
 # The pages of docs/, in the order to read them, and what each is for.
 PAGES = {
     "BROWSER.md": "the workbench in a browser, `y86.html`: nothing to install",
-    "TUTORIAL.md": "a slow pipeline becomes fast, in an evening",
+    "TUTORIAL.md": "three weeks: programs, an instruction for SEQ, and a pipeline that becomes fast",
     "ASSEMBLY.md": "how to write and run a Y86-64 program",
     "HCL.md": "how to write a processor: each signal, and what to do about each fault",
     "OBLIGATIONS.md": "what a `no` means, and what to do about it",

@@ -1,0 +1,2 @@
+# It sets the flags too.
+bool set_cc = icode in { IOPQ, IIADDQ };
