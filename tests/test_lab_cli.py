@@ -158,6 +158,16 @@ def test_table_has_the_forms_of_y86_tell():
     same(table, listed)
 
 
+def test_table_has_the_options_of_prove():
+    said = subprocess.run([sys.executable, f"{TOP}/prove", "--help"], capture_output=True, text=True, check=True).stdout
+    same([option.name for form in manual.PROVE.forms for option in form.options], [name for name in re.findall(r"^  (--[\w-]+)", said, re.M) if name != "--help"])
+
+
+def test_table_has_the_options_of_y86_stages(y86_stages):
+    usage = y86_stages("nothing")[2].decode()
+    same({option.name for form in manual.STAGES.forms for option in form.options}, set(re.findall(r"--\w+", usage)))
+
+
 def test_table_has_the_commands_of_the_program(y86):
     usage = y86("nothing")[2].decode()
     same(set(re.fullmatch(r"usage: y86 (.*)\n", usage)[1].split("|")), set(forms(manual.Y86)))

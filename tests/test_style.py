@@ -1,8 +1,6 @@
-"""pyflakes over all Python, and mypy over the package of tools. Where they aren't installed, these tests are skipped."""
+"""pyflakes over all Python (test_tools_style.py has mypy and pylint over the tools). Where it isn't installed, these tests are skipped."""
 import io
 import os
-import subprocess
-import sys
 
 import pytest
 
@@ -31,9 +29,3 @@ def test_pyflakes(path):
     said = io.StringIO()
     api.checkPath(f"{TOP}/{path}", reporter(said, said))
     assert said.getvalue() == ""
-
-
-def test_mypy():
-    pytest.importorskip("mypy", reason="mypy isn't installed (mypy)")
-    done = subprocess.run([sys.executable, "-m", "mypy", "--strict", "--cache-dir", os.devnull, "tools/y86lab"], cwd=TOP, capture_output=True, text=True, check=False)
-    assert done.returncode == 0, done.stdout + done.stderr

@@ -43,6 +43,8 @@ CERT = Option("--cert", "", "check pipe: a certificate in the place of a yes")
 FROM = Option("--from", "N", "the first cycle to show")
 TO = Option("--to", "N", "the last cycle to show")
 DIAGRAM = Option("--diagram", "", "a diagram: a row for each instruction, a column for each cycle")
+SEQ = Option("--seq", "", "SEQ in the place of PIPE")
+SEQ_PLUS = Option("--seqplus", "", "SEQ+ in the place of PIPE")
 JSON = Option("--json", "", "the answer as JSON")
 
 STATUSES = (
@@ -78,9 +80,16 @@ Y86 = Program(
 )
 STAGES = Program(
     "y86-stages",
-    "shows the stages of the pipeline, cycle by cycle",
+    "shows the stages of a processor, cycle by cycle",
     "docs/STAGES.md",
-    (Form("", "HCL OBJ", (FULL, MEM, LIMIT, FROM, TO, DIAGRAM), "shows the run of an object file on PIPE"),),
+    (
+        Form(
+            "",
+            "HCL OBJ",
+            (SEQ, SEQ_PLUS, FULL, MEM, LIMIT, FROM, TO, DIAGRAM),
+            "shows the run of an object file on PIPE",
+        ),
+    ),
     STATUSES,
 )
 TELL = Program(
@@ -104,7 +113,19 @@ PROVE = Program(
     "prove",
     "proves the programs and builds them",
     "README.md",
-    (Form("", "", (Option("--to", "FOLDER", "put what a class needs into a folder"),), "proves and builds"),),
+    (
+        Form(
+            "",
+            "",
+            (
+                Option("--to", "FOLDER", "put what a class needs into a folder"),
+                Option("--without-solutions", "", "with --to: leave out what solves an exercise of the book"),
+                Option("--page", "FILE", "make the workbench for a browser"),
+                Option("--unproved-page", "FILE", "prove nothing, and make the workbench from the sources as they are"),
+            ),
+            "proves and builds",
+        ),
+    ),
 )
 BESIDE = (Y86, STAGES, TELL, RECHECK, PROVE)
 

@@ -1,20 +1,23 @@
-"""A run under a pipeline: when each instruction retires, how many bubbles came before it, and why."""
+"""A run on a pipeline: when each instruction retires, how many bubbles came before it, and why.
+
+All of it is read from what y86-stages prints of each cycle (docs/STAGES.md).
+"""
 from __future__ import annotations
 
 import re
 from dataclasses import dataclass
+from typing import Iterator, NamedTuple, Optional
 
-from .calls import Programs, read_text
-from .errors import OUT_OF_TIME, REFUSED, LabError
-from .explaining import isa
-from .explaining.settings import Settings
-from .hcl import Design, names_in
-from .objects import Instruction, ObjectFile
+from .calls import LONG, Limits, Programs, read_text
+from .errors import DONE, OUT_OF_TIME, REFUSED, LabError
 
 FILLING, LOAD_USE, UNFORWARDED, MISPREDICTED, RETURNS, OTHER = (
     "filling the pipeline", "load/use", "no forwarding", "mispredicted jumps", "returns", "other",
 )
 CAUSES = [FILLING, LOAD_USE, UNFORWARDED, MISPREDICTED, RETURNS, OTHER]
+# What `at` says of a bubble, and a field of no register.
+NOTHING = "-"
+LISTED = re.compile(r"\s*0x([0-9a-fA-F]+):\s*(?:[0-9a-fA-F]{2})+\s*\|(.*)")
 
 
 @dataclass(frozen=True)
@@ -28,99 +31,133 @@ class Loss:
 
 @dataclass(frozen=True)
 class Retirement:
-    """An instruction with the cycle in which it retires and the bubbles before it."""
+    """An instruction with the cycle in which it retires and the losses before it."""
 
     cycle: int
     waits: int
-    instruction: Instruction
+    address: int
+    text: str
     losses: list[Loss]
 
 
+class Slot(NamedTuple):
+    """What a stage has in a cycle: the row of the diagram, the fields and signals by their names, and the text."""
+
+    row: int
+    fields: dict[str, str]
+    text: str
+
+    @property
+    def is_bubble(self) -> bool:
+        return self.fields["at"] == NOTHING
+
+
+# The stages of a cycle by their letters.
+Cycle = dict[str, Slot]
+
+
+class Wait(NamedTuple):
+    """Why a bubble was put into a stage: a wait's cause with a word on it, or None: what was fetched was cancelled."""
+
+    cause: str
+    text: str
+
+
+def slot_of(line: str) -> tuple[str, Slot]:
+    """The stage of a line such as `D row 2 at 0x00a next stall .. | addq %rax, %rax`, and what it has."""
+    head, _, text = line.partition(" | ")
+    words = head.split(" ")
+    fields = dict(zip(words[1::2], words[2::2]))
+    return words[0], Slot(int(fields["row"]), fields, text)
+
+
+def cycles_of(lines: list[str]) -> Iterator[Cycle]:
+    cycle: Cycle = {}
+    for line in lines:
+        if line.startswith(("F ", "D ", "E ", "M ", "W ")):
+            stage, slot = slot_of(line)
+            cycle[stage] = slot
+            if stage == "W":
+                yield cycle
+                cycle = {}
+
+
+def sources_of(path: str) -> dict[int, str]:
+    """The source text at each address of an object file."""
+    matches = (LISTED.match(line) for line in read_text(path).split("\n"))
+    return {int(match[1], 16): " ".join(match[2].split("#")[0].split()) for match in matches if match}
+
+
 class PipelineRun:
-    """A run of a program under a file for PIPE."""
+    """A run of a program on a pipeline."""
 
-    def __init__(self, programs: Programs, path: str, object_path: str, options: list[str], limit: list[str]) -> None:
-        self.programs, self.path, self.object, self.options = programs, path, object_path, options
-        answer = programs.run("psim", path, object_path, "--trace", *options, *limit)
-        report = re.search(r"^Ran (\d+) cycles, retired (\d+)(?:.|\n)*?Status '(\w+)'", answer.out, re.M)
-        if not report:
+    def __init__(self, programs: Programs, path: str, object_path: str, options: list[str]) -> None:
+        answer = programs.run(path, object_path, *options, program="y86-stages", limits=Limits(LONG))
+        ended = re.search(r"^end (\w+) cycles (\d+) retired (\d+)\n\Z", answer.out, re.M)
+        if answer.status not in (DONE, REFUSED) or not ended:
             status = OUT_OF_TIME if answer.status is None else answer.status or REFUSED
-            raise LabError(answer.err.strip() or "psim gave no answer", status)
-        self.cycles, self.retired, self.status = int(report[1]), int(report[2]), report[3]
-        self.trace = answer.out[: report.start()].splitlines()
-        self.retired_by = {0: 0, self.cycles: self.retired}
-        self.held = ObjectFile(object_path)
-        design = Design(read_text(path))
-        self.settings = Settings(design)
-        self.forwards = "e_valE" in {each.name for each in names_in(design.by_name["d_valB"].body)}
-
-    def retired_after(self, cycles: int) -> int:
-        """How many instructions have retired after so many cycles."""
-        if cycles not in self.retired_by:
-            answer = self.programs.run("psim", self.path, self.object, "--limit", str(cycles), *self.options)
-            report = re.search(r"retired (\d+)", answer.out)
-            if not report:
-                raise LabError(answer.err.strip() or "psim gave no answer")
-            self.retired_by[cycles] = int(report[1])
-        return self.retired_by[cycles]
-
-    def retiring_cycles(self) -> list[int]:
-        """The cycle in which each instruction retires.
-
-        Stretches in which all cycles retire one, or none, need no further call.
-        """
-        cycles: list[int] = []
-        stretches = [(0, self.cycles)]
-        while stretches:
-            low, high = stretches.pop()
-            retired = self.retired_after(high) - self.retired_after(low)
-            if retired == high - low:
-                cycles += range(low + 1, high + 1)
-            elif retired:
-                middle = (low + high) // 2
-                stretches += [(middle, high), (low, middle)]
-        return cycles
+            raise LabError(answer.err.strip() or "y86-stages gave no answer", status)
+        self.status, self.cycles, self.retired = ended[1], int(ended[2]), int(ended[3])
+        self.lines = answer.out.splitlines()
+        self.sources = sources_of(object_path)
 
     def retirements(self) -> list[Retirement]:
+        """An instruction retires in each cycle in which W has it."""
         retirements: list[Retirement] = []
-        last, before = 0, list[Instruction]()
-        for line, cycle in zip(self.trace, self.retiring_cycles()):
-            instruction = self.held.instruction(int(line.split()[0], 16))
-            waits = cycle - last - 1
-            retirements.append(Retirement(cycle, waits, instruction, self.losses(instruction, before, waits)))
-            before, last = [instruction, *before[:3]], cycle
+        bubbles: dict[int, Optional[Wait]] = {}
+        before: Cycle = {}
+        waits: list[Optional[Wait]] = []
+        last = ""
+        for number, cycle in enumerate(cycles_of(self.lines), 1):
+            for stage, slot in cycle.items():
+                if slot.is_bubble and slot.row not in bubbles and before:
+                    bubbles[slot.row] = reason_for_bubble(before, cycle, stage)
+            here = cycle["W"]
+            if here.is_bubble:
+                waits.append(bubbles.get(here.row))
+            elif len(retirements) < self.retired:
+                address = int(here.fields["at"], 16)
+                losses = losses_of(last, waits) if retirements else filling(len(waits))
+                text = self.sources.get(address) or here.text
+                retirements.append(Retirement(number, len(waits), address, text, losses))
+                last, waits = here.text, []
+            before = cycle
         return retirements
 
-    def losses(self, instruction: Instruction, before: list[Instruction], waits: int) -> list[Loss]:
-        """The causes of the bubbles before an instruction, by the four instructions before it, the last one first."""
-        if not waits:
-            return []
-        if not before:
-            return [Loss(FILLING, waits, FILLING)]
-        losses, left, last = [], waits, before[0]
-        if last.icode == isa.RET:
-            lost = min(left, 2 if self.settings.returns_early else 3)
-            losses.append(Loss(RETURNS, lost, "the ret's address"))
-            left -= lost
-        elif self.was_mispredicted(last, instruction):
-            lost = min(left, 1 if self.settings.repairs_early else 2)
-            losses.append(Loss(MISPREDICTED, lost, "the jump was mispredicted"))
-            left -= lost
-        return [*losses, self.wait(instruction, before, left)] if left else losses
 
-    def was_mispredicted(self, jump: Instruction, after: Instruction) -> bool:
-        if jump.icode != isa.JXX or not jump.ifun or jump.valC == jump.valP:
-            return False
-        target, next_address = (value - (1 << 64) if value >> 63 else value for value in (jump.valC, jump.valP))
-        was_taken = after.address != jump.valP
-        return was_taken != bool(self.settings.predicted(jump.ifun, int(target < next_address)))
+def reason_for_bubble(before: Cycle, now: Cycle, stage: str) -> Optional[Wait]:
+    """Why a bubble is new in a stage: the instruction in front of it waited there, or was cancelled."""
+    front = "FDEMW"["FDEMW".index(stage) - 1]
+    is_kept = now[front].row == before[front].row
+    return reason_for_wait(before) if is_kept and front != "F" else None
 
-    def wait(self, instruction: Instruction, before: list[Instruction], cycles: int) -> Loss:
-        """The older instruction whose word an instruction waited for."""
-        if self.forwards and before[0].dstM in instruction.reads():
-            return Loss(LOAD_USE, cycles, f"{isa.register(before[0].dstM)} was being loaded")
-        if not self.forwards:
-            for older in before[:3]:
-                for register in sorted({older.dstE, older.dstM} & instruction.reads()):
-                    return Loss(UNFORWARDED, cycles, f"{isa.register(register)} wasn't written yet")
-        return Loss(OTHER, cycles, "the file's control")
+
+def reason_for_wait(cycle: Cycle) -> Wait:
+    """The register that the instruction in D waits for: the youngest older instruction that writes one has it."""
+    read = {cycle["D"].fields["d_srcA"], cycle["D"].fields["d_srcB"]} - {NOTHING}
+    for stage, field in (("E", "dstM"), ("E", "dstE"), ("M", "dstM"), ("M", "dstE"), ("W", "dstM"), ("W", "dstE")):
+        register = cycle[stage].fields[field]
+        if register in read:
+            if (stage, field) == ("E", "dstM"):
+                return Wait(LOAD_USE, f"{register} was being loaded")
+            return Wait(UNFORWARDED, f"{register} wasn't written yet")
+    return Wait(OTHER, "the file's control")
+
+
+def filling(cycles: int) -> list[Loss]:
+    return [Loss(FILLING, cycles, FILLING)] if cycles else []
+
+
+def losses_of(last: str, waits: list[Optional[Wait]]) -> list[Loss]:
+    """The causes of the bubbles behind an instruction with this text."""
+    losses = []
+    cancelled = waits.count(None)
+    if cancelled and last == "ret":
+        losses.append(Loss(RETURNS, cancelled, "the ret's address"))
+    elif cancelled and last.startswith("j"):
+        losses.append(Loss(MISPREDICTED, cancelled, "the jump was mispredicted"))
+    elif cancelled:
+        losses.append(Loss(OTHER, cancelled, "the file's control"))
+    # (where it waited longer, the last reason is the one that a shorter wait would have had too)
+    reasons = [wait for wait in waits if wait]
+    return [*losses, Loss(reasons[-1].cause, len(reasons), reasons[-1].text)] if reasons else losses

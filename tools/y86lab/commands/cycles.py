@@ -24,9 +24,7 @@ def run(arguments: argparse.Namespace, programs: Programs) -> int:
     datapath = explaining.datapath(hcl.design_of(read_text(path)))
     if datapath != "pipe":
         return print_sequential(programs, datapath, path, object_path, run_options(arguments))
-    limit = ["--limit", str(arguments.limit)] if arguments.limit is not None else []
-    options = run_options(argparse.Namespace(full=arguments.full, mem=arguments.mem, limit=None))
-    pipeline_run = PipelineRun(programs, path, object_path, options, limit)
+    pipeline_run = PipelineRun(programs, path, object_path, run_options(arguments))
     retirements = pipeline_run.retirements()
     if not arguments.sum:
         print_retirements(retirements)
@@ -55,9 +53,9 @@ def print_retirements(retirements: Sequence[Retirement]) -> None:
     print("cycle  waits  instruction")
     for each in retirements:
         waits = f"+{each.waits}" if each.waits else ""
-        text = f"0x{each.instruction.address:03x}: {each.instruction.text}"
+        text = f"0x{each.address:03x}: {each.text}"
         why = ", ".join(loss.text for loss in each.losses)
-        print(f"{each.cycle:>5}  {waits:>5}  {text:<32}{why}".rstrip())
+        print(f"{each.cycle:>5}  {waits:>5}  {text:<31} {why}".rstrip())
     print()
 
 
