@@ -6,6 +6,7 @@ each hand-in is a pipeline that is accepted, with a copy loop that runs on all l
 """
 import argparse
 import os
+import resource
 import shutil
 import subprocess
 import sys
@@ -34,9 +35,12 @@ def students_of(part):
 
 
 def timed(*words):
-    start = time.monotonic()
+    """The seconds of a call of the lab, and those of all its processes on a processor."""
+    start, before = time.monotonic(), resource.getrusage(resource.RUSAGE_CHILDREN)
     subprocess.run([f"{TOP}/y86-lab", *words], stdout=subprocess.DEVNULL, check=True)
-    return time.monotonic() - start
+    seconds, after = time.monotonic() - start, resource.getrusage(resource.RUSAGE_CHILDREN)
+    on_processor = after.ru_utime + after.ru_stime - before.ru_utime - before.ru_stime
+    return f"{seconds:.1f} s, {on_processor:.1f} s on a processor"
 
 
 def main():
@@ -54,12 +58,12 @@ def main():
         for name, part, students in classes:
             make(f"{folder}/{name}", part, arguments.hand_ins, students)
             words = ["grade", f"{folder}/{name}", "--rubric", f"{CLASS}/{part}.toml"]
-            print(f"| `y86-lab grade`, {arguments.hand_ins} hand-ins of {name} | {timed(*words):.1f} s |", flush=True)
+            print(f"| `y86-lab grade`, {arguments.hand_ins} hand-ins of {name} | {timed(*words)} |", flush=True)
             if arguments.feedback:
                 seconds = timed(*words, "--feedback", f"{folder}/pages of {name}")
-                print(f"| the same with `--feedback` | {seconds:.1f} s |", flush=True)
+                print(f"| the same with `--feedback` | {seconds} |", flush=True)
         seconds = timed("archlab", f"{folder}/{name}", "--full", "--curves", f"{folder}/curves")
-        print(f"| `y86-lab archlab`, the same hand-ins, with their plots | {seconds:.1f} s |", flush=True)
+        print(f"| `y86-lab archlab`, the same hand-ins, with their plots | {seconds} |", flush=True)
 
 
 if __name__ == "__main__":

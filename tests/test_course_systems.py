@@ -41,6 +41,34 @@ def fill_rubric(folder, part):
     fill(folder, {"rubric.toml": f"{CLASS}/{part}.toml", "references": f"{CLASS}/references"})
 
 
+# A server: the folder is on the PATH, and each student works in a folder of his own.
+
+
+def files_of(folder):
+    return {os.path.join(at, name) for at, _, names in os.walk(folder) for name in names}
+
+
+def test_the_folder_on_the_path(handed, folder):
+    """All programs answer there, and nothing is written into the folder of the class."""
+    before = files_of(handed)
+    shutil.copy(f"{TOP}/examples/programs/add.ys", folder)
+    shutil.copy(f"{TOP}/examples/designs/std.hcl", f"{folder}/mine.hcl")
+    script = "y86 yas add.ys >add.yo && y86 check pipe mine.hcl && y86-stages mine.hcl add.yo >/dev/null && y86-tell check pipe mine.hcl >/dev/null && y86-lab try add.ys mine.hcl"
+    environment = {"PATH": f"{handed}:{os.path.dirname(sys.executable)}:/usr/bin:/bin", "HOME": "/root", "LANG": "C.UTF-8"}
+    done = subprocess.run(["bash", "-c", script], cwd=folder, env=environment, stdin=subprocess.DEVNULL, capture_output=True, text=True, timeout=300, check=False)
+    same((done.returncode, done.stderr, done.stdout.splitlines()[0], files_of(handed) - before), (0, "", "yes pt=1111111 pb=1111111 tv=0 lf=0 je=0 rm=0", set()))
+
+
+def test_commands_of_the_page():
+    """Each command on docs/TEACHING.md is run: a transcript by test_pages.py, and the two others here and in test_handout.py."""
+    with open(f"{TOP}/docs/TEACHING.md", encoding="utf-8") as file:
+        blocks = [block for block in file.read().split("\n\n") if block.startswith("    ")]
+    others = [block.strip() for block in blocks if not block.startswith("    $ ")]
+    same(others, ["./prove --to y86-class --without-solutions", "export PATH=/srv/y86-class:$PATH"])
+    with open(f"{TOP}/tests/test_handout.py", encoding="utf-8") as file:
+        assert '"--to", "for class", "--without-solutions"' in file.read()
+
+
 # Gradescope. It puts the zip's files into /autograder/source, and a copy of run_autograder into /autograder.
 
 # The apt-get of the image writes down its words; of the two Pythons the older one has no tomllib.

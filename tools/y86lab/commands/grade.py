@@ -6,11 +6,12 @@ import os
 import sys
 import tempfile
 from dataclasses import dataclass
+from typing import Optional
 
 from ..arguments import Command
 from ..calls import Limits, Programs, full_flag
 from ..errors import DONE, USAGE, LabError
-from ..grading import feedback
+from ..grading.feedback import Pages
 from ..grading.formats import FORMATS
 from ..grading.grader import Grade, Grader, Right, Runner, references
 from ..grading.handins import HandIn, hand_ins
@@ -48,8 +49,8 @@ def run(arguments: argparse.Namespace, programs: Programs) -> int:
             programs.path(name)
     limits = limits_of(arguments)
     right = references(programs, rubric, limits)
-    seconds = min(arguments.seconds, LONGEST_SEARCH) if arguments.feedback else 0
-    results = all_results(Task(programs, rubric, right, limits, seconds).result, found, arguments.jobs)
+    pages = Pages(programs, rubric, limits, min(arguments.seconds, LONGEST_SEARCH)) if arguments.feedback else None
+    results = all_results(Task(programs, rubric, right, limits, pages).result, found, arguments.jobs)
     taken: set[str] = set()
     for grade, page in results:
         if page:
@@ -67,21 +68,19 @@ def run(arguments: argparse.Namespace, programs: Programs) -> int:
 
 @dataclass(frozen=True)
 class Task:
-    """What is done with each hand-in: a grade, and a page if a search for a program may take some seconds."""
+    """What is done with each hand-in: a grade, and perhaps a page."""
 
     programs: Programs
     rubric: Rubric
     right: Right
     limits: Limits
-    seconds: int
+    pages: Optional[Pages]
 
     def result(self, hand_in: HandIn) -> tuple[Grade, str]:
         with tempfile.TemporaryDirectory() as folder:
             runner = Runner(self.programs, full_flag(self.rubric.full), self.limits, folder)
             grade = Grader(runner, self.rubric, self.right, hand_in).grade()
-        if not self.seconds:
-            return grade, ""
-        return grade, feedback.page(self.programs, self.rubric, hand_in, grade, self.seconds)
+        return grade, self.pages.page(hand_in, grade) if self.pages else ""
 
 
 COMMAND = Command("grade", "grades the hand-ins of a class by a rubric", add_arguments, run)

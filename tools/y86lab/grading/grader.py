@@ -4,7 +4,7 @@ from __future__ import annotations
 import os
 import re
 import tempfile
-from dataclasses import dataclass
+from dataclasses import dataclass, field
 from functools import lru_cache
 from typing import Optional
 
@@ -33,11 +33,12 @@ class Score:
 
 @dataclass(frozen=True)
 class Grade:
-    """The scores of a hand-in, and the cycles of a copy loop by its lengths if the rubric asks for them."""
+    """The scores of a hand-in, the cycles of its copy loop by its lengths, and the verdicts on its processors."""
 
     name: str
     scores: tuple[Score, ...]
     cycles: dict[int, int]
+    verdicts: dict[str, Verdict] = field(default_factory=dict)
 
     @property
     def points(self) -> float:
@@ -134,7 +135,8 @@ class Grader:
         self.cycles: dict[int, int] = {}
 
     def grade(self) -> Grade:
-        return Grade(self.hand_in.name, tuple(self.score(item) for item in self.rubric.items), self.cycles)
+        scores = tuple(self.score(item) for item in self.rubric.items)
+        return Grade(self.hand_in.name, scores, self.cycles, self.verdicts)
 
     def score(self, item: Item) -> Score:
         try:

@@ -19,12 +19,13 @@ LONGEST = 65536
 
 @dataclass(frozen=True)
 class Verdict:
-    """The labels that are false, or why there is no verdict."""
+    """The labels that are false, or why there is no verdict: a fault of the file, or no answer within the limits."""
 
     false: tuple[str, ...]
     fault: str
     is_complete: bool
     datapath: str
+    is_answered: bool = True
 
 
 def text_of(path: str) -> str:
@@ -51,7 +52,7 @@ def verdict(programs: Programs, path: str, full: bool, limits: Limits, right: Op
     if answer.status == DONE:
         return Verdict((), "", True, datapath)
     if answer.status != REFUSED or not answer.out.startswith("no "):
-        return Verdict((), fault_in_words(answer), True, datapath)
+        return Verdict((), fault_in_words(answer), True, datapath, answer.status in (FAULT, TOO_LONG))
     first = answer.out.split()[1]
     others: tuple[str, ...] = ()
     if datapath != "pipe" and design and right:
