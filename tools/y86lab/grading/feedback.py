@@ -1,4 +1,4 @@
-"""A page for each hand-in: its grade, what y86-tell says of its processor, a picture, and a program that shows a mistake.
+"""A page for each hand-in: its grade, what y86-tell says of its processor, a picture, a program that shows a mistake.
 
 A page is one HTML file that can be mailed. No text of a hand-in is markup in it.
 """
