@@ -12,6 +12,7 @@ import shlex
 import signal
 import subprocess
 import sys
+import tempfile
 from dataclasses import dataclass, field
 from typing import Mapping, Optional, Sequence
 
@@ -139,19 +140,23 @@ class Programs:
 
 def in_a_shell(script: str, seconds: float) -> tuple[bool, str]:
     """Whether the time was over before the end of a script, and what its commands printed."""
-    with subprocess.Popen(
-        [SHELL], stdin=subprocess.PIPE, stdout=subprocess.PIPE, stderr=subprocess.DEVNULL, start_new_session=True
-    ) as shell:
-        try:
-            out, _ = shell.communicate(os.fsencode(script), max(seconds, 0.01))
-            return False, out.decode("utf-8", "replace")
-        except subprocess.TimeoutExpired:
-            os.killpg(shell.pid, signal.SIGKILL)
-            out, _ = shell.communicate()
-            return True, out.decode("utf-8", "replace")
-        except BaseException:
-            os.killpg(shell.pid, signal.SIGKILL)
-            raise
+    with tempfile.TemporaryFile() as lines, tempfile.TemporaryFile() as out:
+        lines.write(os.fsencode(script))
+        lines.seek(0)
+        with subprocess.Popen(
+            [SHELL], stdin=lines, stdout=out, stderr=subprocess.DEVNULL, start_new_session=True
+        ) as shell:
+            try:
+                shell.wait(max(seconds, 0.01))
+                is_over = False
+            except subprocess.TimeoutExpired:
+                os.killpg(shell.pid, signal.SIGKILL)
+                is_over = True
+            except BaseException:
+                os.killpg(shell.pid, signal.SIGKILL)
+                raise
+        out.seek(0)
+        return is_over, out.read().decode("utf-8", "replace")
 
 
 def full_flag(full: bool) -> list[str]:
