@@ -1,7 +1,6 @@
 -- Where an obligation is false, one of its requirements isn't met. The computed control values are those of PIPE.
 use Rattle.std.proofs.Common.{◌≡◌, ℕ, ◌≤◌, Bool, true, false, not, ◌&&◌, ◌||◌, List, [], ◌∷◌, map, refl, sym, ap, ◌∙◌, subst}
 use Rattle.y86_base.specs.declared.parts.Variant.{Variant}
-use Rattle.hcl_types.specs.Lists.{each}
 use Rattle.hcl_types.specs.declared.term.Term.{Term}
 use Rattle.hcl_types.specs.Tables.{IsOrderOf}
 use Rattle.ctl_atoms.specs.declared.leaf.Leaf.{Leaf}
@@ -23,16 +22,11 @@ use Rattle.pipe_obligations.specs.Obligations.{movers_of}
 use Rattle.pipe_obligations.specs.Rules.{demand, demand_at, is_asked, obligation}
 use Rattle.pipe_obligations.specs.Settled.{PipeControls}
 use Rattle.pipe_obligations.specs.Stages.{view_of}
-use Rattle.pipe_requirements.specs.declared.requirement.Requirement.{Requirement}
-use Rattle.pipe_requirements.specs.Requirements.{requirements, is_met}
+use Rattle.dp_signals.specs.PipeNames as signal
+use Rattle.findings.proofs.EachMet.{demand_false, findings_right}
+use Rattle.findings.specs.Findings.{are_right, finding}
+use Rattle.pipe_requirements.specs.Requirements.{requirements}
 use Rattle.pipe_requirements.proofs.ByRequirements.{by_requirements}
-use Rattle.pipe_diagnosis.specs.Diagnosis.{are_right, finding}
-
--- the atoms of a design are apart
-pub atoms_given : (terms : List Term) (ids : List ℕ) (atoms : List Atom) (w : List Bool) → IsOrderOf pipe_rows terms ids → AreAtoms pipe_rows terms atoms → AtomsAre atoms bit_count w (assigned atoms bit_count w)
-atoms_given terms ids atoms w order are =
-    let found = leaves_exist pipe_rows terms ids order in
-    given_atoms atoms bit_count w (subst IsApart (sym (are.are found.0 found.1)) (apart found.0 terms))
 
 -- the number of each field is that of the valuation
 pub numbers_are : (w : List Bool) (n : ℕ) → field_at spots w n ≡ number_of (fields_of w) n
@@ -42,18 +36,10 @@ numbers_are w n = ap (λ (xs : List ℕ). number_among spots xs n) (sym (numbers
 pub controls_are : (terms : List Term) (w : List Bool) (α : Assignment) (cv : ℕ → Leaf) → AreControls pipe_rows terms (field_at spots w) α cv → PipeControls terms (fields_of w) α cv
 controls_are terms w α cv h = subst (λ (f : ℕ → ℕ). AreControls pipe_rows terms f α cv) (λ i n. numbers_are w n i) h
 
-findings_right : (terms : List Term) (α : Assignment) (cv : ℕ → Leaf) (all : List Requirement) → are_right (map (finding terms α cv) all) ≡ each (is_met α cv) all
-findings_right terms α cv [] = refl
-findings_right terms α cv (x ∷ xs) = ap (λ b. is_met α cv x && b) (findings_right terms α cv xs)
-
-demand_false : (b d : Bool) → (not b || d) ≡ false → d ≡ false
-demand_false true d e = e
-demand_false false d e = cc
-
 pub one_wrong : (v : Variant) (terms : List Term) (s : Settings) (atoms : List Atom) (i : ℕ) (w : List Bool) (α : Assignment) (cv : ℕ → Leaf) → 1 ≤ i → i ≤ 22 → obligation v s atoms i (fields_of w) α cv ≡ false →
-    are_right (map (finding terms α cv) (requirements v s (fields_of w) (view_of v s (fields_of w)) (movers_of α cv) cv i)) ≡ false
+    are_right (map (finding signal.f_pc terms α cv) (requirements v s (fields_of w) (view_of v s (fields_of w)) (movers_of α cv) cv i)) ≡ false
 unfolding demand_at
 one_wrong v terms s atoms i w α cv ge le e =
     let c = fields_of w in
-    findings_right terms α cv (requirements v s c (view_of v s c) (movers_of α cv) cv i)
+    findings_right signal.f_pc terms α cv (requirements v s c (view_of v s c) (movers_of α cv) cv i)
     ∙ (sym (by_requirements v s c (view_of v s c) (movers_of α cv) α cv i ge le) ∙ demand_false (is_asked v s atoms i c α) (demand i v s c (view_of v s c) (movers_of α cv) α cv) e)

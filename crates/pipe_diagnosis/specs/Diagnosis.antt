@@ -1,13 +1,11 @@
 -- The diagnosis of a valuation at which an obligation of PIPE is false.
-use Rattle.std.specs.Prelude.{ℕ, ◌≡◌, ◌≤◌, ◌-◌, Bool, false, List, Option, map, slice_get}
-use Rattle.std.specs.Option.{option_and_then}
+use Rattle.std.specs.Prelude.{ℕ, ◌≡◌, ◌≤◌, Bool, false, List, map}
 use Rattle.y86_base.specs.declared.parts.Variant.{Variant}
-use Rattle.hcl_types.specs.Lists.{each}
 use Rattle.hcl_types.specs.declared.term.Term.{Term}
 use Rattle.ctl_atoms.specs.declared.leaf.Leaf.{Leaf}
 use Rattle.ctl_atoms.specs.declared.leaf.Atom.{Atom}
 use Rattle.ctl_atoms.specs.Leaves.{Assignment, AtomsAre}
-use Rattle.control_values.specs.Given.{assigned, at, taken}
+use Rattle.control_values.specs.Given.{assigned, at}
 use Rattle.dp_signals.specs.PipeNames as signal
 use Rattle.pipe_fields.specs.Layout.{bit_count, fields_of}
 use Rattle.pipe_motion.specs.declared.settings.Settings.{Settings}
@@ -15,27 +13,10 @@ use Rattle.pipe_obligations.specs.Obligations.{movers_of}
 use Rattle.pipe_obligations.specs.Rules.{obligation}
 use Rattle.pipe_obligations.specs.Settled.{PipeControls}
 use Rattle.pipe_obligations.specs.Stages.{view_of}
-use Rattle.pipe_requirements.specs.declared.requirement.Requirement.{Requirement}
-use Rattle.pipe_requirements.specs.Requirements.{requirements, is_met, unread}
+use Rattle.findings.specs.Findings.{are_right, finding}
+use Rattle.pipe_requirements.specs.Requirements.{requirements, unread}
 use Rattle.motion_repairs.specs.Changes as changes
-use Rattle.pipe_diagnosis.specs.declared.diagnosis.Finding.{Finding}
 use Rattle.pipe_diagnosis.specs.declared.diagnosis.Diagnosis.{Diagnosis}
-
--- the case that the definition of a signal takes, counted from 0
-abbrev pub case_of : List Term → Assignment → (ℕ → Leaf) → ℕ → Option ℕ
-case_of terms α cv id = option_and_then (taken α cv) (slice_get terms (id - signal.f_pc))
-
--- a signal: what is required of it, what the file picks, whether that is right, and by which case
-abbrev pub finding : List Term → Assignment → (ℕ → Leaf) → Requirement → Finding
-finding terms α cv requirement = record {
-  requirement = requirement;
-  picked = cv requirement.signal;
-  is_right = is_met α cv requirement;
-  taken_case = case_of terms α cv requirement.signal;
-}
-
-abbrev pub are_right : List Finding → Bool
-are_right findings = each (λ (f : Finding). f.is_right) findings
 
 -- Obligation i is false of the valuation that the bits spell.
 abbrev pub Fails : Variant → List Term → Settings → List Atom → ℕ → List Bool → Type 0
@@ -48,7 +29,7 @@ pub record IsDiagnosis (v : Variant) (terms : List Term) (s : Settings) (atoms :
   pub false_there : obligation v s atoms i (fields_of w) (assigned atoms bit_count w) (at diagnosis.leaves) ≡ false
   -- an obligation from 1 to 22: a finding for each requirement
   pub findings : i ≤ 22 → diagnosis.findings
-      ≡ map (finding terms (assigned atoms bit_count w) (at diagnosis.leaves)) (requirements v s (fields_of w) (view_of v s (fields_of w)) (movers_of (assigned atoms bit_count w) (at diagnosis.leaves)) (at diagnosis.leaves) i)
+      ≡ map (finding signal.f_pc terms (assigned atoms bit_count w) (at diagnosis.leaves)) (requirements v s (fields_of w) (view_of v s (fields_of w)) (movers_of (assigned atoms bit_count w) (at diagnosis.leaves)) (at diagnosis.leaves) i)
   -- at least one isn't met
   pub one_wrong : i ≤ 22 → are_right diagnosis.findings ≡ false
   -- the stall and bubble signals of which each, inverted alone, would meet all obligations on motion

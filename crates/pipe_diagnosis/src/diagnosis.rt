@@ -5,8 +5,10 @@ ghost use Rattle.dp_signals.specs.PipeTable.{pipe_rows};
 ghost use Rattle.ctl_atoms.specs.Atoms.{AreAtoms};
 ghost use Rattle.control_values.specs.Given.{assigned, at};
 ghost use Rattle.ctl_atoms.specs.Leaves.{leaf_holds};
-ghost use Rattle.pipe_requirements.specs.Requirements.{requirements, is_met, unread};
+ghost use Rattle.pipe_requirements.specs.Requirements.{requirements, unread};
 ghost use Rattle.pipe_requirements.specs.Views.{fields_in, movers_in, view_in};
+ghost use Rattle.dp_signals.specs.PipeNames as signal;
+ghost use Rattle.findings.specs.Findings.{finding};
 ghost use Rattle.pipe_fields.specs.Layout.{bit_count, fields_of};
 ghost use Rattle.motion_repairs.specs.Changes as changes;
 ghost use Rattle.pipe_obligations.specs.Obligations as rule;
@@ -14,28 +16,17 @@ ghost use Rattle.pipe_obligations.specs.Settled.{PipeControls};
 ghost use Rattle.pipe_obligations.specs.Stages as stages;
 ghost use Rattle.pipe_diagnosis.specs.Diagnosis as spec;
 
-use control_values::{Scope, Situation, control_values, holds, taken_case};
-use ctl_atoms::{Atom, Leaf, same_leaf};
+use control_values::{Scope, Situation, control_values, holds};
+use ctl_atoms::{Atom, Leaf};
 use dp_signals::{pipe_row as name, pipe_table};
+use findings::{Finding, Requirement, findings_of, leaf_at};
 use hcl_types::{Design, NameId, Order, Term};
 use motion_repairs::{pc_repairs, repairs};
 use pipe_fields::{BIT_COUNT, spots};
 use pipe_motion::Settings;
-use pipe_requirements::{
-    MoverNow, MoversNow, Now, Requirement, Wanted, leaf_at, lines_of, requirements_of, view_of,
-};
+use pipe_requirements::{MoverNow, MoversNow, Now, lines_of, requirements_of, view_of};
 use std::alloc::Global;
 use y86_base::{Items, Memory, Variant};
-
-/// A signal: what is required of it, what the file picks, and whether that is right.
-#[derive(Clone, Copy)]
-pub struct Finding {
-    pub requirement: Requirement,
-    pub picked: Leaf,
-    pub is_right: bool,
-    /// The case that the signal's definition takes, counted from 0.
-    pub taken_case: Option<usize>,
-}
 
 /// Findings, and the repairs.
 #[derive(Drop)]
@@ -56,71 +47,6 @@ pub struct Diagnosis {
     pub repairs: Items<NameId>,
     /// The names of which each, picked by `f_pc`, would meet all obligations on motion.
     pub pc_repairs: Items<NameId>,
-}
-
-/// Whether a signal meets a requirement.
-fn meets(scope: &Scope<'_>, requirement: Requirement) -> bool
-    requires { scope.now.first ≤ 1000 }
-    ensures { result ≡ is_met (assigned scope.now.atoms.now scope.now.first scope.now.bits.now) (at scope.now.leaves.now) requirement }
-{
-    match requirement.wanted {
-        Wanted::Word(leaf) => same_leaf(leaf_at(scope.leaves, requirement.signal), leaf),
-        Wanted::Truth(truth) => truth == holds(scope, leaf_at(scope.leaves, requirement.signal)),
-        Wanted::Nothing => false,
-    }
-}
-
-/// The case that the definition of a signal takes.
-fn case_of(scope: &Scope<'_>, terms: &[Term], id: NameId) -> Option<usize>
-    requires { scope.now.first ≤ 1000 }
-    ensures { result ≡ spec.case_of terms.now (assigned scope.now.atoms.now scope.now.first scope.now.bits.now) (at scope.now.leaves.now) id }
-{
-    match terms.get((id as usize).saturating_sub(name::F_PC as usize)) {
-        Some(term) => taken_case(scope, term),
-        None => None,
-    }
-}
-
-/// The finding on a requirement.
-fn finding_of(scope: &Scope<'_>, terms: &[Term], requirement: Requirement) -> Finding
-    requires { scope.now.first ≤ 1000 }
-    ensures { result ≡ spec.finding terms.now (assigned scope.now.atoms.now scope.now.first scope.now.bits.now) (at scope.now.leaves.now) requirement }
-{
-    Finding {
-        requirement,
-        picked: leaf_at(scope.leaves, requirement.signal),
-        is_right: meets(scope, requirement),
-        taken_case: case_of(scope, terms, requirement.signal),
-    }
-}
-
-fn put(out: &mut Vec<Finding>, finding: Finding) -> Result<(), Memory>
-    ensures { OnOk result (out.new.items ≡ out.old.items ++ finding ∷ []) }
-{
-    match out.push(finding) {
-        Ok(()) => Ok(()),
-        Err(_) => Err(Memory),
-    }
-}
-
-/// The findings on requirements.
-fn findings_of(
-    alloc: Global,
-    scope: &Scope<'_>,
-    terms: &[Term],
-    all: &[Requirement],
-) -> Result<Vec<Finding>, Memory>
-    requires { scope.now.first ≤ 1000 }
-    ensures { IfOk result (λ r. r.items ≡ map (spec.finding terms.now (assigned scope.now.atoms.now scope.now.first scope.now.bits.now) (at scope.now.leaves.now)) all.now) }
-{
-    let mut out = Vec::new(alloc);
-    for requirement in all {
-        match put(&mut out, finding_of(scope, terms, *requirement)) {
-            Ok(()) => {}
-            Err(e) => return Err(e),
-        }
-    }
-    Ok(out)
 }
 
 /// Whether a signal holds.
@@ -183,7 +109,7 @@ fn found_at(
 ) -> Result<Found, Memory>
     requires near { scope.now.first ≤ 1000 }
     requires first { 1 ≤ number }
-    ensures findings { number ≤ 22 → IfOk result (λ r. r.findings ≡ map (spec.finding terms.now (assigned scope.now.atoms.now scope.now.first scope.now.bits.now) (at scope.now.leaves.now))
+    ensures findings { number ≤ 22 → IfOk result (λ r. r.findings ≡ map (finding signal.f_pc terms.now (assigned scope.now.atoms.now scope.now.first scope.now.bits.now) (at scope.now.leaves.now))
         (requirements v s.now (fields_of scope.now.bits.now) (stages.view_of v s.now (fields_of scope.now.bits.now))
         (rule.movers_of (assigned scope.now.atoms.now scope.now.first scope.now.bits.now) (at scope.now.leaves.now)) (at scope.now.leaves.now) number)) }
     ensures repairs { IfOk result (λ r. r.repairs ≡ changes.repairs v s.now (fields_of scope.now.bits.now) (stages.view_of v s.now (fields_of scope.now.bits.now))
@@ -203,7 +129,7 @@ fn found_at(
         leaves: scope.leaves,
     };
     let all = requirements_at(alloc, &n, number)?;
-    let findings = findings_of(alloc, scope, terms, all.as_slice())?;
+    let findings = findings_of(alloc, scope, terms, name::F_PC, all.as_slice())?;
     let repairs = repairs(alloc, &n)?;
     let by_pc = pc_repairs(alloc, &n)?;
     Ok(Found {

@@ -7,7 +7,8 @@ use Rattle.std.proofs.lemmas.List.{get_or_past}
 use Rattle.std.proofs.lemmas.Option.{slice_get-get_or, slice_get_within}
 use Rattle.y86_base.specs.declared.parts.Variant.{Variant}
 use Rattle.nets.specs.Nets.{Gates}
-use Rattle.hcl_types.specs.Lists.{some}
+use Rattle.findings.proofs.EachMet.{is_own, none_of}
+use Rattle.hcl_types.proofs.Each.{each_both}
 use Rattle.hcl_types.specs.Tables.{IsOrderOf}
 use Rattle.hcl_types.specs.declared.term.Term.{Term}
 use Rattle.dp_signals.specs.PipeTable.{pipe_rows}
@@ -35,29 +36,6 @@ use Rattle.pipe_diagnosis.specs.declared.refusal.Refutation.{Refutation}
 
 pub gates_from : (net : Gates) (list : List Rule) (n : ℕ) → AreGatesOf net list → AreGatesOf net (drop n list)
 gates_from net list n h k r at = h (n + k) r (sym (from_drop list n k) ∙ at)
-
-either : (a b : Bool) → (a || b) ≡ false → (a ≡ false) × (b ≡ false)
-either true b e = cc
-either false b e = (refl, e)
-
-neither : (a b : Bool) → a ≡ false → b ≡ false → (a || b) ≡ false
-neither true b e f = cc
-neither false b e f = f
-
--- none of a longer list
-none_of : (f : Refutation → Bool) (xs : List Refutation) (x : Refutation) → some f (xs ++ x ∷ []) ≡ false → (some f xs ≡ false) × (f x ≡ false)
-none_of f [] x e = (refl, (either (f x) false e).0)
-none_of f (y ∷ ys) x e =
-    let here = either (f y) (some f (ys ++ x ∷ [])) e in
-    let rest = none_of f ys x here.1 in
-    (neither (f y) (some f ys) here.0 rest.0, rest.1)
-
-pub all_more : (P : Refutation → Type 0) (xs : List Refutation) (x : Refutation) → AllByRecursion P xs → P x → AllByRecursion P (xs ++ x ∷ [])
-all_more P [] x h p = (p, tt)
-all_more P (y ∷ ys) x h p = (h.0, all_more P ys x h.1 p)
-
-is_own : (m n i : ℕ) → m ≡ n → i ≡ n → (m == i) ≡ true
-is_own m n i e f = let same : m ≡ i = e ∙ sym f in grind (arith, nat_tests, same)
 
 module _ (v : Variant) (terms : List Term) (s : Settings) (net : Gates) (list : List Rule) (rules : AreRules v terms s net list) where
   pub gates_of : AreGatesOf net list
@@ -132,7 +110,7 @@ module _ (v : Variant) (terms : List Term) (s : Settings) (net : Gates) (list : 
     pub one_more : (from : ℕ) (failure : Failure) (all : List Refutation) (x : Refutation) → IsDecision net (drop from list) (Some failure) → x.rule ≡ failure.rule →
         IsRefutation v terms s atoms x → AreRefuted v terms s atoms from all → AreRefuted v terms s atoms failure.rule (all ++ x ∷ [])
     one_more from failure all x h is own told = record {
-      each = all_more (IsRefutation v terms s atoms) all x told.each own;
+      each = each_both (IsRefutation v terms s atoms) all (x ∷ []) told.each (own, tt);
       others = λ i l le none. by i l le (none_of (λ (y : Refutation). y.rule == i) all x none) (cases_lt from i);
     }
       where

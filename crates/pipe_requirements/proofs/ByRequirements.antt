@@ -1,5 +1,5 @@
 -- An obligation is met exactly where each of its requirements is.
-use Rattle.std.proofs.Common.{◌≡◌, ℕ, ◌≤◌, Bool, true, false, not, ◌&&◌, ◌||◌, ◌==◌, List, [], ◌∷◌, ◌++◌, Option, Some, None, if◌then◌else◌, refl, ap, ◌∙◌, arith}
+use Rattle.std.proofs.Common.{◌≡◌, ℕ, ◌≤◌, Bool, true, false, ◌&&◌, ◌||◌, ◌==◌, [], ◌∷◌, if◌then◌else◌, refl, ap, arith}
 use Rattle.std.proofs.lemmas.Bool.Decides.{nat_tests}
 use Rattle.y86_base.specs.declared.parts.Variant.{Variant}
 use Rattle.y86_base.specs.Words.{set}
@@ -10,58 +10,24 @@ use Rattle.hcl_types.specs.Lists.{each}
 use Rattle.ctl_atoms.specs.declared.leaf.Leaf.{Leaf}
 use Rattle.ctl_atoms.specs.declared.leaf.Leaf.TheVariants.{Name}
 use Rattle.ctl_atoms.specs.Leaves.{Assignment}
-use Rattle.rule_gates.specs.Words.{takes, takes_some, is_number, is_truth, operand_leaf_a, operand_leaf_b, address_leaf}
+use Rattle.rule_gates.specs.Words.{takes, is_number, is_truth, operand_leaf_a, operand_leaf_b, address_leaf}
 use Rattle.pipe_fields.specs.Layout.{Fields}
 use Rattle.pipe_motion.specs.Slots.{View, Movers, leaves}
 use Rattle.pipe_motion.specs.Predictions.{predicts}
 use Rattle.pipe_motion.specs.declared.settings.Settings.{Settings}
 use Rattle.pipe_obligations.specs.Obligations as rule
 use Rattle.dp_signals.specs.PipeNames as signal
-use Rattle.pipe_requirements.specs.declared.requirement.Requirement.{Requirement}
-use Rattle.pipe_requirements.specs.declared.requirement.Wanted.TheVariants as wanted
-use Rattle.pipe_requirements.specs.Requirements.{is_met, requirement_of, word, some_word, only_if, unless, right_word, required1, required5, required10, required11, required12, required13, required14, required16, required17, required18, required19, required21, requirements, IsByRequirements}
-
-one : (a : Bool) → a ≡ (a && true)
-one true = refl
-one false = refl
-
-two : (a b : Bool) → (a && b) ≡ (a && (b && true))
-two true b = one b
-two false b = refl
+use Rattle.findings.specs.Requirements.{is_met, requirement_of, word, only_if, unless}
+use Rattle.findings.specs.declared.requirement.Wanted.TheVariants as wanted
+use Rattle.findings.proofs.EachMet.{one, two, if_both, guarded, excused, both, some_is}
+use Rattle.pipe_requirements.specs.Requirements.{right_word, required1, required5, required10, required11, required12, required13, required14, required16, required17, required18, required19, required21, requirements, IsByRequirements}
 
 four : (a b c d : Bool) → (a && (b && (c && d))) ≡ (a && (b && (c && (d && true))))
 four true true c d = two c d
 four true false c d = refl
 four false b c d = refl
 
-if_both : (f : Requirement → Bool) (b x y : Bool) (xs ys : List Requirement) → x ≡ each f xs → y ≡ each f ys → (if b then x else y) ≡ each f (if b then xs else ys)
-if_both f true x y xs ys p q = p
-if_both f false x y xs ys p q = q
-
-guarded : (f : Requirement → Bool) (b x : Bool) (xs : List Requirement) → x ≡ each f xs → (not b || x) ≡ each f (only_if b xs)
-guarded f true x xs p = p
-guarded f false x xs p = refl
-
-excused : (f : Requirement → Bool) (b x : Bool) (xs : List Requirement) → x ≡ each f xs → (b || x) ≡ each f (unless b xs)
-excused f true x xs p = refl
-excused f false x xs p = p
-
-and_assoc : (a b c : Bool) → (a && b) && c ≡ a && (b && c)
-and_assoc true b c = refl
-and_assoc false b c = refl
-
-each_append : (f : Requirement → Bool) (xs ys : List Requirement) → each f xs && each f ys ≡ each f (xs ++ ys)
-each_append f [] ys = refl
-each_append f (x ∷ xs) ys = and_assoc (f x) (each f xs) (each f ys) ∙ ap (λ b. f x && b) (each_append f xs ys)
-
-both : (f : Requirement → Bool) (x y : Bool) (xs ys : List Requirement) → x ≡ each f xs → y ≡ each f ys → (x && y) ≡ each f (xs ++ ys)
-both f x y xs ys p q = rw (p, q) (each_append f xs ys)
-
 module _ (v : Variant) (s : Settings) (c : Fields) (y : View) (mv : Movers) (α : Assignment) (cv : ℕ → Leaf) where
-  some_is : (name : ℕ) (o : Option Leaf) → takes_some cv name o ≡ each (is_met α cv) (some_word name o)
-  some_is name None = refl
-  some_is name (Some leaf) = one (takes cv name leaf)
-
   right_is : (free : Bool) (name source rest : ℕ) → rule.takes_right v s c y mv α cv free name source rest ≡ each (is_met α cv) (right_word v s c y mv cv free name source rest)
   right_is free name source rest =
       excused (is_met α cv) (is_number cv source no_register) _ _
@@ -75,7 +41,7 @@ module _ (v : Variant) (s : Settings) (c : Fields) (y : View) (mv : Movers) (α 
   at1 = ap (λ b. is_number cv signal.f_icode c.f.icode && b) (one (is_number cv signal.f_ifun c.f.ifun))
 
   at5 : rule.o5 v s c y mv α cv ≡ each (is_met α cv) (required5 v s c y mv cv)
-  at5 = excused (is_met α cv) (set c.f.error) _ _ (some_is signal.f_predPC (rule.predicted_leaf (row v c.f.icode).next (predicts s c.f.ifun (set c.f.back))))
+  at5 = excused (is_met α cv) (set c.f.error) _ _ (some_is α cv signal.f_predPC (rule.predicted_leaf (row v c.f.icode).next (predicts s c.f.ifun (set c.f.back))))
 
   at10 : rule.o10 v s c y mv α cv ≡ each (is_met α cv) (required10 v s c y mv cv)
   at10 =
@@ -88,10 +54,10 @@ module _ (v : Variant) (s : Settings) (c : Fields) (y : View) (mv : Movers) (α 
   at11 = guarded (is_met α cv) (leaves mv y) _ _ (right_is false signal.d_valB signal.d_srcB signal.d_rvalB)
 
   at12 : rule.o12 v s c y mv α cv ≡ each (is_met α cv) (required12 v s c y mv cv)
-  at12 = guarded (is_met α cv) (rule.works_in_e v s c y mv α cv) _ _ (some_is signal.aluA (operand_leaf_a (row v c.e.icode).alu_a signal.E_valA signal.E_valC))
+  at12 = guarded (is_met α cv) (rule.works_in_e v s c y mv α cv) _ _ (some_is α cv signal.aluA (operand_leaf_a (row v c.e.icode).alu_a signal.E_valA signal.E_valC))
 
   at13 : rule.o13 v s c y mv α cv ≡ each (is_met α cv) (required13 v s c y mv cv)
-  at13 = guarded (is_met α cv) (rule.works_in_e v s c y mv α cv) _ _ (some_is signal.aluB (operand_leaf_b (row v c.e.icode).alu_b signal.E_valB))
+  at13 = guarded (is_met α cv) (rule.works_in_e v s c y mv α cv) _ _ (some_is α cv signal.aluB (operand_leaf_b (row v c.e.icode).alu_b signal.E_valB))
 
   at14 : rule.o14 v s c y mv α cv ≡ each (is_met α cv) (required14 v s c y mv cv)
   at14 = guarded (is_met α cv) (rule.works_in_e v s c y mv α cv && has_operand_a (row v c.e.icode).alu_a) _ _ (one _)
@@ -103,7 +69,7 @@ module _ (v : Variant) (s : Settings) (c : Fields) (y : View) (mv : Movers) (α 
   at17 = excused (is_met α cv) y.e.wrong _ _ (one _)
 
   at18 : rule.o18 v s c y mv α cv ≡ each (is_met α cv) (required18 v s c y mv cv)
-  at18 = guarded (is_met α cv) y.m.good _ _ (some_is signal.mem_addr (address_leaf (row v c.m.icode).memory signal.M_valA signal.M_valE))
+  at18 = guarded (is_met α cv) y.m.good _ _ (some_is α cv signal.mem_addr (address_leaf (row v c.m.icode).memory signal.M_valA signal.M_valE))
 
   at19 : rule.o19 v s c y mv α cv ≡ each (is_met α cv) (required19 v s c y mv cv)
   at19 = two (is_truth α cv signal.mem_read (y.m.good && is_load (row v c.m.icode).memory)) (is_truth α cv signal.mem_write (y.m.good && is_store (row v c.m.icode).memory))

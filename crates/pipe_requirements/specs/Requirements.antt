@@ -1,6 +1,6 @@
 -- What the obligations 1 to 22 require at a valuation, signal by signal.
 -- An obligation is met exactly where each requirement is (`IsByRequirements`).
-use Rattle.std.specs.Prelude.{ℕ, ◌≡◌, Bool, false, ◌&&◌, ◌||◌, ◌==◌, List, [], ◌∷◌, ◌++◌, Option, Some, None, if◌then◌else◌}
+use Rattle.std.specs.Prelude.{ℕ, ◌≡◌, Bool, false, ◌&&◌, ◌||◌, ◌==◌, List, [], ◌∷◌, ◌++◌, if◌then◌else◌}
 use Rattle.y86_base.specs.declared.parts.Variant.{Variant}
 use Rattle.y86_base.specs.Stat.{stat_number}
 use Rattle.y86_base.specs.Words.{set}
@@ -11,7 +11,7 @@ use Rattle.hcl_types.specs.Lists.{each}
 use Rattle.ctl_atoms.specs.declared.leaf.Leaf.{Leaf}
 use Rattle.ctl_atoms.specs.declared.leaf.Leaf.TheVariants.{Name, Number}
 use Rattle.ctl_atoms.specs.Leaves.{Assignment}
-use Rattle.rule_gates.specs.Words.{takes, is_number, is_truth, operand_leaf_a, operand_leaf_b, address_leaf}
+use Rattle.rule_gates.specs.Words.{is_number, operand_leaf_a, operand_leaf_b, address_leaf}
 use Rattle.pipe_fields.specs.Layout.{Fields}
 use Rattle.pipe_motion.specs.Slots.{View, Movers, leaves}
 use Rattle.pipe_motion.specs.Predictions.{predicts}
@@ -19,42 +19,9 @@ use Rattle.pipe_motion.specs.declared.settings.Settings.{Settings}
 use Rattle.pipe_obligations.specs.Obligations as rule
 use Rattle.pipe_obligations.specs.Rules.{demand}
 use Rattle.dp_signals.specs.PipeNames as signal
-use Rattle.pipe_requirements.specs.declared.requirement.Requirement.{Requirement}
-use Rattle.pipe_requirements.specs.declared.requirement.Wanted.{Wanted}
-use Rattle.pipe_requirements.specs.declared.requirement.Wanted.TheVariants as wanted
-
--- whether a signal meets what is wanted of it
-abbrev pub meets : Assignment → (ℕ → Leaf) → ℕ → Wanted → Bool
-meets α cv name (wanted.Word leaf) = takes cv name leaf
-meets α cv name (wanted.Truth b) = is_truth α cv name b
-meets α cv name wanted.Nothing = false
-
-abbrev pub is_met : Assignment → (ℕ → Leaf) → Requirement → Bool
-is_met α cv requirement = meets α cv requirement.signal requirement.wanted
-
--- ---- lists of requirements
-
-abbrev pub requirement_of : ℕ → Wanted → Requirement
-requirement_of name w = record { signal = name; wanted = w }
-
-abbrev pub word : ℕ → Leaf → List Requirement
-word name leaf = requirement_of name (wanted.Word leaf) ∷ []
-
-abbrev pub number : ℕ → ℕ → List Requirement
-number name n = word name (Number n)
-
-abbrev pub truth : ℕ → Bool → List Requirement
-truth name b = requirement_of name (wanted.Truth b) ∷ []
-
-abbrev pub some_word : ℕ → Option Leaf → List Requirement
-some_word name None = []
-some_word name (Some leaf) = word name leaf
-
-abbrev pub only_if : Bool → List Requirement → List Requirement
-only_if b xs = if b then xs else []
-
-abbrev pub unless : Bool → List Requirement → List Requirement
-unless b xs = if b then [] else xs
+use Rattle.findings.specs.Requirements.{is_met, requirement_of, word, number, truth, some_word, only_if, unless}
+use Rattle.findings.specs.declared.requirement.Requirement.{Requirement}
+use Rattle.findings.specs.declared.requirement.Wanted.TheVariants as wanted
 
 -- requirements and motion don't read the truth of any atom
 abbrev pub unread : Assignment

@@ -9,15 +9,14 @@ mod laws;
 mod lines;
 mod listing;
 mod now;
-mod requirement;
 mod view;
 
+pub use findings::{Requirement, Wanted, is_number, leaf_at, set};
 pub use laws::law_of_requirements;
 pub use lines::{DecodeLine, ExecuteLine, FetchLine, Lines, MemoryLine, WriteLine, lines_of};
 pub use listing::requirements_of;
-pub use now::{Now, is_number, leaf_at};
-pub use requirement::{Requirement, Wanted};
+pub use now::Now;
 pub use view::{
-    MoverNow, MoversNow, SlotNow, ViewNow, is_jump, leaves, loads, misses, predicts, set, stops_by,
+    MoverNow, MoversNow, SlotNow, ViewNow, is_jump, leaves, loads, misses, predicts, stops_by,
     view_of,
 };

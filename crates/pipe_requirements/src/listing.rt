@@ -4,57 +4,19 @@ ghost use Rattle.control_values.specs.Given.{at};
 ghost use Rattle.pipe_requirements.specs.Requirements as spec;
 ghost use Rattle.pipe_requirements.specs.Views.{fields_in, movers_in, view_in};
 
-use crate::now::{Now, alu_function, fetched_status, is_number, register_number};
-use crate::requirement::{Requirement, Wanted};
-use crate::view::{leaves, set};
+use crate::now::Now;
+use crate::view::leaves;
 use ctl_atoms::Leaf;
 use dp_signals::pipe_row as name;
+use findings::{
+    Requirement, Wanted, alu_function, fetched_status, is_number, put, put_number, put_some,
+    put_truth, put_word, register_number, set,
+};
 use hcl_types::NameId;
 use rule_gates::{address_leaf, operand_leaf_a, operand_leaf_b};
 use std::alloc::Global;
 use y86_base::Memory;
 use y86_isa::{carries_a, carries_p, has_operand_a, is_load, is_store, row, stores_a};
-
-/// Appends a requirement.
-fn put(out: &mut Vec<Requirement>, signal: NameId, wanted: Wanted) -> Result<(), Memory>
-    ensures { OnOk result (out.new.items ≡ out.old.items ++ spec.requirement_of signal wanted ∷ []) }
-{
-    match out.push(Requirement { signal, wanted }) {
-        Ok(()) => Ok(()),
-        Err(_) => Err(Memory),
-    }
-}
-
-/// Puts: the signal picks a leaf.
-fn put_word(out: &mut Vec<Requirement>, signal: NameId, leaf: Leaf) -> Result<(), Memory>
-    ensures { OnOk result (out.new.items ≡ out.old.items ++ spec.word signal leaf) }
-{
-    put(out, signal, Wanted::Word(leaf))
-}
-
-/// Puts: the signal picks a leaf, if there is one.
-fn put_some(out: &mut Vec<Requirement>, signal: NameId, leaf: Option<Leaf>) -> Result<(), Memory>
-    ensures { OnOk result (out.new.items ≡ out.old.items ++ spec.some_word signal leaf) }
-{
-    match leaf {
-        None => Ok(()),
-        Some(leaf) => put_word(out, signal, leaf),
-    }
-}
-
-/// Puts: the signal picks a number.
-fn put_number(out: &mut Vec<Requirement>, signal: NameId, number: u64) -> Result<(), Memory>
-    ensures { OnOk result (out.new.items ≡ out.old.items ++ spec.number signal number) }
-{
-    put_word(out, signal, Leaf::Number(number))
-}
-
-/// Puts: the signal is a truth.
-fn put_truth(out: &mut Vec<Requirement>, signal: NameId, truth: bool) -> Result<(), Memory>
-    ensures { OnOk result (out.new.items ≡ out.old.items ++ spec.truth signal truth) }
-{
-    put(out, signal, Wanted::Truth(truth))
-}
 
 /// Puts the right value of a source.
 fn put_right(

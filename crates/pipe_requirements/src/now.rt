@@ -1,9 +1,6 @@
 //! What is known at a valuation, and the tests of the obligations on it.
 ghost use Rattle.std.specs.Prelude.{◌≡◌, ◌≤◌, if◌then◌else◌};
-ghost use Rattle.y86_base.specs.Stat.{stat_number};
-ghost use Rattle.y86_isa.specs.Blocks as blocks;
 ghost use Rattle.ctl_atoms.specs.declared.leaf.Leaf.TheVariants.{Name};
-ghost use Rattle.rule_gates.specs.Words as words;
 ghost use Rattle.control_values.specs.Given.{at};
 ghost use Rattle.pipe_motion.specs.Slots as slots;
 ghost use Rattle.pipe_obligations.specs.Obligations as rule;
@@ -14,13 +11,14 @@ ghost use Rattle.pipe_requirements.specs.Requirements.{unread};
 ghost use Rattle.pipe_requirements.specs.Views.{fields_in, movers_in, view_in};
 
 use crate::lines::Lines;
-use crate::view::{MoversNow, ViewNow, predicts, set};
-use ctl_atoms::{Leaf, same_leaf};
+use crate::view::{MoversNow, ViewNow, predicts};
+use ctl_atoms::Leaf;
 use dp_signals::pipe_row as name;
+use findings::{destination_e, is_number, set};
 use hcl_types::NameId;
 use pipe_motion::Settings;
 use y86_base::Variant;
-use y86_isa::{Field, Next, row, stores_a};
+use y86_isa::{Next, row, stores_a};
 
 /// What is known at a valuation: the fields, the instructions in the stages, the stall and bubble signals, the control value of each name.
 #[derive(Clone, Copy)]
@@ -31,64 +29,6 @@ pub struct Now<'a> {
     pub y: &'a ViewNow,
     pub mv: &'a MoversNow,
     pub leaves: &'a [Leaf],
-}
-
-/// The control value of a name.
-pub fn leaf_at(leaves: &[Leaf], n: NameId) -> Leaf
-    ensures { result ≡ at leaves.now n }
-{
-    match leaves.get(n as usize) {
-        Some(leaf) => *leaf,
-        None => Leaf::Number(0),
-    }
-}
-
-/// The signal picks this number.
-pub fn is_number(leaves: &[Leaf], n: NameId, number: u64) -> bool
-    ensures { result ≡ words.is_number (at leaves.now) n number }
-{
-    same_leaf(leaf_at(leaves, n), Leaf::Number(number))
-}
-
-/// The register that a column names.
-pub fn register_number(column: Field, r_a: u64, r_b: u64) -> u64
-    ensures { result ≡ blocks.register_number column r_a r_b }
-{
-    match column {
-        Field::Dash => 15,
-        Field::FieldA => r_a,
-        Field::FieldB => r_b,
-        Field::Stack => 4,
-    }
-}
-
-/// The number of the status of what was read.
-pub fn fetched_status(error: bool, icode: u64) -> u64
-    ensures { result ≡ stat_number (blocks.fetch_status error icode) }
-{
-    if error {
-        3
-    } else if icode == 15 {
-        4
-    } else if icode == 0 {
-        2
-    } else {
-        1
-    }
-}
-
-/// The function of the ALU.
-pub fn alu_function(selects: bool, ifun: u64) -> u64
-    ensures { result ≡ blocks.alu_function selects ifun }
-{
-    if selects { ifun } else { 0 }
-}
-
-/// A destination after the condition.
-pub fn destination_e(conditional: bool, cnd: bool, raw: u64) -> u64
-    ensures { result ≡ blocks.destination_e conditional cnd raw }
-{
-    if conditional && !cnd { 15 } else { raw }
 }
 
 /// What is predicted behind an instruction.

@@ -3,11 +3,11 @@ ghost use Rattle.std.specs.Prelude.{◌≡◌, ◌≤◌};
 ghost use Rattle.pipe_motion.specs.Predictions as spec_predictions;
 ghost use Rattle.pipe_motion.specs.Slots as slots;
 ghost use Rattle.pipe_obligations.specs.Stages as spec;
-ghost use Rattle.y86_base.specs.Words as words;
 ghost use Rattle.nets.specs.Nets.{agree};
 ghost use Rattle.pipe_requirements.specs.Views.{fields_in, movers_in, slot_in, view_in};
 
 use crate::lines::Lines;
+use findings::set;
 use pipe_motion::Settings;
 use y86_base::Variant;
 use y86_isa::{is_branch, is_loaded, row};
@@ -46,13 +46,6 @@ pub struct MoversNow {
     pub e: MoverNow,
     pub m: MoverNow,
     pub w: MoverNow,
-}
-
-/// Whether a number isn't 0.
-pub fn set(n: u64) -> bool
-    ensures { result ≡ words.set n }
-{
-    n != 0
 }
 
 /// Whether a jump of this ifun, that goes back or not, is predicted as taken.

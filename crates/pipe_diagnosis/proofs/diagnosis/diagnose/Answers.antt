@@ -13,8 +13,10 @@ use Rattle.pipe_requirements.specs.Requirements.{requirements, unread}
 use Rattle.motion_repairs.specs.Changes as changes
 use Rattle.pipe_obligations.specs.Obligations.{movers_of}
 use Rattle.pipe_obligations.specs.Stages.{view_of}
-use Rattle.pipe_diagnosis.proofs.OneWrong.{atoms_given, controls_are, one_wrong}
-use Rattle.pipe_diagnosis.specs.Diagnosis.{are_right, finding}
+use Rattle.findings.proofs.EachMet.{atoms_given}
+use Rattle.pipe_diagnosis.proofs.OneWrong.{controls_are, one_wrong}
+use Rattle.dp_signals.specs.PipeNames as signal
+use Rattle.findings.specs.Findings.{are_right, finding}
 use Rattle.pipe_diagnosis.proofs.diagnosis.diagnose.Goals as goal
 
 pub control_values-requires-clause-sound : goal.control_values-requires-clause-sound
@@ -31,15 +33,15 @@ returns c =
     let own = subst (λ (ss : List Spot). AreControls pipe_rows terms (field_at ss w) α (at ls)) c.spots.ensures solved in
     let cv : ℕ → Leaf = at c.of.result in
     let controls = controls_are terms w α cv (subst (λ (xs : List Leaf). AreControls pipe_rows terms (field_at spots w) α (at xs)) (sym c.of.ensures) own) in
-    let given = atoms_given terms c.args.o.now.ids atoms w c.requires.ordered c.requires.atoms in
+    let given = atoms_given pipe_rows terms c.args.o.now.ids atoms bit_count w c.requires.ordered c.requires.atoms in
     let v = c.args.v in
     let s = c.args.s.now in
     let i = c.args.number in
     let same = c.as_slice.ensures.value ∙ sym c.of.ensures in
     let here = c.as_slice.result.now in
     let findings = λ (le : i ≤ 22). c.in_ok-found.ensures.findings le
-    ∙ ap (λ (ts : List Term). map (finding ts α (at here)) (requirements v s (fields_of w) (view_of v s (fields_of w)) (movers_of α (at here)) (at here) i)) c.items.ensures
-    ∙ ap (λ (xs : List Leaf). map (finding terms α (at xs)) (requirements v s (fields_of w) (view_of v s (fields_of w)) (movers_of α (at xs)) (at xs) i)) same in
+    ∙ ap (λ (ts : List Term). map (finding signal.f_pc ts α (at here)) (requirements v s (fields_of w) (view_of v s (fields_of w)) (movers_of α (at here)) (at here) i)) c.items.ensures
+    ∙ ap (λ (xs : List Leaf). map (finding signal.f_pc terms α (at xs)) (requirements v s (fields_of w) (view_of v s (fields_of w)) (movers_of α (at xs)) (at xs) i)) same in
     let false_there = c.requires.fails α cv given controls in
     record {
       diagnosis = record {

@@ -1,0 +1,13 @@
+//! What obligations require of signals, as data, and what is found of the signals at one valuation.
+//!
+//! A requirement names a signal and what it has to be. A finding says of a requirement what the file picks, whether that is right,
+//! and by which case of the signal's definition.
+#![tactic(auto)]
+
+mod columns;
+mod finding;
+mod requirement;
+
+pub use columns::{alu_function, destination_e, fetched_status, register_number, set};
+pub use finding::{Finding, findings_of, is_number, leaf_at};
+pub use requirement::{Requirement, Wanted, put, put_number, put_some, put_truth, put_word};

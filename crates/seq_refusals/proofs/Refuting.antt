@@ -1,0 +1,226 @@
+-- From the decisions on the rules of a sequential datapath to refutations.
+use Rattle.std.proofs.Common.{◌≡◌, ℕ, zero, suc, ◌+◌, ◌-◌, ◌<◌, ◌≤◌, ◌==◌, ◌++◌, inl, inr, ◌⊎◌, Bool, true, false, List, [], ◌∷◌, length, get_or, slice_get, Option, None, Some, refl, sym, ap, ◌∙◌, subst, arith}
+use Rattle.std.proofs.lemmas.Bool.{false≢true, cases_lt}
+use Rattle.std.proofs.lemmas.Option.{slice_get-get_or, slice_get_within}
+use Rattle.y86_base.specs.declared.parts.Variant.{Variant}
+use Rattle.nets.specs.Nets.{Gates, truth}
+use Rattle.hcl_types.proofs.Each.{each_both}
+use Rattle.hcl_types.specs.Tables.{IsBound, IsOrderOf}
+use Rattle.hcl_types.specs.declared.term.Term.{Term}
+use Rattle.ctl_atoms.specs.declared.leaf.Atom.{Atom}
+use Rattle.ctl_atoms.specs.Atoms.{AreAtoms}
+use Rattle.ctl_formula.proofs.Rows.{from_some}
+use Rattle.field_bits.specs.Spots.{total}
+use Rattle.findings.proofs.EachMet.{is_own, none_of}
+use Rattle.control_check.proofs.SeqVerdict as seq_verdict
+use Rattle.decisions.specs.Decisions.{IsAlwaysTrue, IsLeastOf}
+use Rattle.rule_gates.specs.declared.rules.Rule.{Rule}
+use Rattle.seq_obligations.proofs.Designed.{atoms_one}
+use Rattle.seq_obligations.specs.Fields.{fields_of as seq_fields_of}
+use Rattle.seq_obligations.specs.Obligations.{rule_count}
+use Rattle.seq_plus.proofs.PlusVerdict as plus_verdict
+use Rattle.seq_plus.proofs.Runs.{refines as plus_refines}
+use Rattle.seq_refinement.proofs.Refining.{refines as seq_refines}
+use Rattle.seq_plus.specs.Fields.{fields_of as plus_fields_of}
+use Rattle.verdicts.specs.Decisions.{AreGatesOf, IsDecision}
+use Rattle.verdicts.specs.Questions.{AreRules, Fails, IsAccepted, IsRule, Questions}
+use Rattle.verdicts.specs.declared.decision.Failure.{Failure}
+use Rattle.verdicts.proofs.Answered.{verdict_by}
+use Rattle.verdicts.proofs.Decided.{no_rule}
+use Rattle.seq_requirements.specs.Datapaths.{questions_of, rows_of, spots_of}
+use Rattle.seq_requirements.specs.declared.datapath.Datapath.{Datapath}
+use Rattle.seq_requirements.specs.declared.datapath.Datapath.TheVariants.{Seq, Plus}
+use Rattle.seq_diagnosis.specs.Diagnosis as diagnosis
+use Rattle.seq_diagnosis.specs.declared.refusal.Refutation.{Refutation}
+use Rattle.seq_refusals.specs.Answered.{Accepts, AreRefuted, Everywhere, IsRefutation, Refines, Rejects, is_refuted}
+use Rattle.seq_refusals.specs.Failures.{AreRulesOf, IsFailure}
+
+-- the rules as those of the datapath's questions
+own_rules : (which : Datapath) (v : Variant) (terms : List Term) (net : Gates) (list : List Rule) → AreRulesOf which v terms net list → AreRules (questions_of which v) terms net list
+unfolding seq_fields_of plus_fields_of
+own_rules Seq v terms net list r =
+    record { atoms = r.atoms; are = r.are; vars = r.vars; count = r.count; each = λ k x e. record { number = (r.each k x e).number; within = (r.each k x e).within; is = (r.each k x e).is } }
+own_rules Plus v terms net list r =
+    record { atoms = r.atoms; are = r.are; vars = r.vars; count = r.count; each = λ k x e. record { number = (r.each k x e).number; within = (r.each k x e).within; is = (r.each k x e).is } }
+
+-- the questions of obligation i alone
+abbrev only : Questions → ℕ → Questions
+only q i = record { rows = q.rows; spots = q.spots; count = 1; asks = λ n xs α cv. q.asks i xs α cv }
+
+abbrev first_of : Rule → Rule
+first_of r = record { number = 1; gate = r.gate }
+
+-- a first failure, and that of one rule, are failures
+pub failure_first : (net : Gates) (list : List Rule) (failure : Failure) → IsDecision net list (Some failure) → IsFailure net list failure
+failure_first net list failure d = record { place = d.0; rule = d.1; there = (d.2).there; number = d.3; least = (d.2).least }
+
+pub one_gate : (net : Gates) (x : Rule) → x.gate < length net.gates → AreGatesOf net (x ∷ [])
+one_gate net x lt zero r e = subst (λ (y : Rule). y.gate < length net.gates) (from_some x r e) lt
+one_gate net x lt (suc k) r e = cc
+
+pub one_true : (net : Gates) (r : Rule) → IsDecision net (r ∷ []) None → IsAlwaysTrue net r.gate
+one_true net r d = d 0 r refl
+
+pub one_false : (net : Gates) (list : List Rule) (k : ℕ) (r : Rule) (failure : Failure) → slice_get list k ≡ Some r → IsDecision net (r ∷ []) (Some failure) → IsFailure net list failure
+one_false net list k r failure at d = record {
+  place = k;
+  rule = r;
+  there = at;
+  number = d.3 ∙ ap (λ (x : Rule). x.number) (sym same);
+  least = subst (λ (x : Rule). IsLeastOf net.vars (λ u. truth net x.gate u ≡ false) failure.valuation.bits) (sym same) (d.2).least;
+}
+  where
+    only_one : (j : ℕ) (x : Rule) → slice_get (r ∷ []) j ≡ Some x → r ≡ x
+    only_one zero x e = from_some r x e
+    only_one (suc j) x e = cc
+
+    same : r ≡ d.1
+    same = only_one d.0 d.1 (d.2).there
+
+-- the machine of an accepted design runs as the instructions do
+pub refines : (which : Datapath) (v : Variant) (terms : List Term) (ids : List ℕ) → IsBound (rows_of which) terms → IsOrderOf (rows_of which) terms ids → Accepts which v terms → Refines which v terms
+refines Seq v terms ids bound ordered a = seq_refines v terms ids bound ordered a.holds
+refines Plus v terms ids bound ordered a = plus_refines v terms ids bound ordered a.holds
+
+module _ (which : Datapath) (v : Variant) (terms : List Term) (net : Gates) (list : List Rule) (ids : List ℕ) (ordered : IsOrderOf (rows_of which) terms ids) (rules : AreRulesOf which v terms net list) where
+  pub accepts : IsDecision net list None → Accepts which v terms
+  accepts d = by which ordered rules
+    where
+      by : (p : Datapath) → IsOrderOf (rows_of p) terms ids → AreRulesOf p v terms net list → Accepts p v terms
+      by Seq o r = seq_verdict.accepts v terms net list ids o r d
+      by Plus o r = plus_verdict.accepts v terms net list ids o r d
+
+  pub rejects : (failure : Failure) → IsDecision net list (Some failure) → Rejects which v terms failure.rule failure.valuation.bits
+  rejects failure d = by which ordered rules
+    where
+      by : (p : Datapath) → IsOrderOf (rows_of p) terms ids → AreRulesOf p v terms net list → Rejects p v terms failure.rule failure.valuation.bits
+      by Seq o r = seq_verdict.rejects v terms net list ids o r failure d
+      by Plus o r = plus_verdict.rejects v terms net list ids o r failure d
+
+  abbrev own : AreRules (questions_of which v) terms net list
+  own = own_rules which v terms net list rules
+
+  pub gates_of : AreGatesOf net list
+  gates_of = λ k r at. (own.each k r at).within
+
+  pub count_is : length list ≡ rule_count
+  count_is = own.count
+
+  -- obligation k + 1 alone, as one rule
+  alone : (k : ℕ) (r : Rule) → slice_get list k ≡ Some r → AreRules (only (questions_of which v) (k + 1)) terms net (first_of r ∷ [])
+  alone k r at = record { atoms = own.atoms; are = own.are; vars = own.vars; count = refl; each = λ j x e. by j x e }
+    where
+      by : (j : ℕ) (x : Rule) → slice_get (first_of r ∷ []) j ≡ Some x → IsRule (only (questions_of which v) (k + 1)) terms own.atoms net (j + 1) x
+      by zero x e = subst (λ (y : Rule). IsRule (only (questions_of which v) (k + 1)) terms own.atoms net 1 y) (from_some (first_of r) x e)
+          (record { number = refl; within = (own.each k r at).within; is = (own.each k r at).is })
+      by (suc j) x e = cc
+
+  -- a rule that is always true
+  always_at : (k : ℕ) (r : Rule) → slice_get list k ≡ Some r → IsAlwaysTrue net r.gate → Everywhere which v terms (k + 1)
+  always_at k r at always =
+      let accepted : IsAccepted (only (questions_of which v) (k + 1)) terms = verdict_by (only (questions_of which v) (k + 1)) terms net (first_of r ∷ []) ids ordered (alone k r at) None (λ j x e. by j x e) in
+      λ xs α cv range controls. accepted.holds 1 xs α cv (omega arith) (omega arith) range controls
+    where
+      by : (j : ℕ) (x : Rule) → slice_get (first_of r ∷ []) j ≡ Some x → IsAlwaysTrue net x.gate
+      by zero x e = subst (λ (y : Rule). IsAlwaysTrue net y.gate) (from_some (first_of r) x e) always
+      by (suc j) x e = cc
+
+  holds_at : (i : ℕ) → 1 ≤ i → i ≤ length list → ((r : Rule) → slice_get list (i - 1) ≡ Some r → IsAlwaysTrue net r.gate) → Everywhere which v terms i
+  holds_at i l h always =
+      let k = i - 1 in
+      let x = get_or list k no_rule in
+      let at = slice_get-get_or list k no_rule (omega (arith, l, h)) in
+      let number : k + 1 ≡ i = omega (arith, l) in
+      subst (λ (n : ℕ). Everywhere which v terms n) number (always_at k x at (always x at))
+
+  -- the failure's rule
+  place : (failure : Failure) (f : IsFailure net list failure) → failure.rule ≡ f.place + 1
+  place failure f = f.number ∙ (own.each f.place f.rule f.there).number
+
+  -- a failure of the rule at a place
+  pub place_one : (k : ℕ) (r : Rule) (failure : Failure) → slice_get list k ≡ Some r → IsDecision net (r ∷ []) (Some failure) → failure.rule ≡ k + 1
+  unfolding one_false
+  place_one k r failure at d = place failure (one_false net list k r failure at d)
+
+  pub first_rule : (failure : Failure) → IsFailure net list failure → 1 ≤ failure.rule
+  first_rule failure f = let at = place failure f in omega (arith, at)
+
+  pub within_list : (failure : Failure) → IsFailure net list failure → failure.rule ≤ length list
+  within_list failure f = let at = place failure f in let inside = slice_get_within list f.place f.rule f.there in omega (arith, at, inside)
+
+  pub last_rule : (failure : Failure) → IsFailure net list failure → failure.rule ≤ rule_count
+  last_rule failure f = let inside = within_list failure f in let count = own.count in omega (arith, inside, count)
+
+  module _ (atoms : List Atom) (are : AreAtoms (rows_of which) terms atoms) where
+    same_atoms : own.atoms ≡ atoms
+    same_atoms = atoms_one (rows_of which) terms ids own.atoms atoms ordered own.are are
+
+    pub fails_at : (failure : Failure) → IsFailure net list failure → diagnosis.Fails which v terms atoms failure.rule failure.valuation.bits
+    fails_at failure f =
+        let w = failure.valuation.bits in
+        let there : diagnosis.Fails which v terms own.atoms (f.place + 1) w = λ α cv given controls. sym ((own.each f.place f.rule f.there).is w α cv given controls) ∙ f.least.holds in
+        subst (λ (xs : List Atom). diagnosis.Fails which v terms xs failure.rule w) same_atoms
+        (subst (λ (n : ℕ). diagnosis.Fails which v terms own.atoms n w) (sym (place failure f)) there)
+
+    pub least_at : (failure : Failure) → IsFailure net list failure → IsLeastOf (total (spots_of which) + length atoms) (Fails (questions_of which v) terms atoms failure.rule) failure.valuation.bits
+    least_at failure f =
+        subst (λ (xs : List Atom). IsLeastOf (total (spots_of which) + length xs) (Fails (questions_of which v) terms xs failure.rule) w) same_atoms
+        (subst (λ (n : ℕ). IsLeastOf (total (spots_of which) + length own.atoms) (Fails (questions_of which v) terms own.atoms n) w) (sym (place failure f)) there)
+      where
+        w : List Bool
+        w = failure.valuation.bits
+
+        q : Questions
+        q = questions_of which v
+
+        to : (u : List Bool) → Fails (only q (f.place + 1)) terms own.atoms 1 u → Fails q terms own.atoms (f.place + 1) u
+        to u h = record { truths = h.truths; values = h.values; atoms_are = h.atoms_are; controls = h.controls; fails = h.fails }
+
+        from : (u : List Bool) → Fails q terms own.atoms (f.place + 1) u → Fails (only q (f.place + 1)) terms own.atoms 1 u
+        from u h = record { truths = h.truths; values = h.values; atoms_are = h.atoms_are; controls = h.controls; fails = h.fails }
+
+        decided : IsDecision net (first_of f.rule ∷ []) (Some (record { rule = 1; valuation = failure.valuation }))
+        decided = (0, first_of f.rule, record { there = refl; earlier = λ j r lt at. absurd (omega (arith, lt)); least = f.least }, refl)
+
+        there : IsLeastOf (total (spots_of which) + length own.atoms) (Fails q terms own.atoms (f.place + 1)) w
+        there =
+            let no = verdict_by (only q (f.place + 1)) terms net (first_of f.rule ∷ []) ids ordered (alone f.place f.rule f.there) (Some (record { rule = 1; valuation = failure.valuation })) decided in
+            let least = subst (λ (xs : List Atom). IsLeastOf (total (spots_of which) + length xs) (Fails (only q (f.place + 1)) terms xs 1) w)
+            (atoms_one (rows_of which) terms ids no.1 own.atoms ordered no.2 own.are) no.3.least in
+            record { size = least.size; holds = to w least.holds; least = λ u s h y lt same off. least.least u s (from u h) y lt same off }
+
+    -- ---- one rule after the other
+
+    abbrev Refuted : ℕ → List Refutation → Type 0
+    Refuted until all = AreRefuted which v terms atoms until all
+
+    -- the next rule holds
+    pub next_holds : (k : ℕ) (all : List Refutation) (r : Rule) → slice_get list k ≡ Some r → IsAlwaysTrue net r.gate → Refuted k all → Refuted (k + 1) all
+    next_holds k all r at always told = record { each = told.each; others = λ i l le none. by i l le none (cases_lt k i) }
+      where
+        by : (i : ℕ) → 1 ≤ i → i ≤ k + 1 → is_refuted i all ≡ false → (k < i) ⊎ (i ≤ k) → Everywhere which v terms i
+        by i l le none (inr before) = told.others i l before none
+        by i l le none (inl behind) = let e : k + 1 ≡ i = omega (arith, le, behind) in subst (λ (n : ℕ). Everywhere which v terms n) e (always_at k r at always)
+
+    -- the next rule is refuted
+    pub next_refuted : (k : ℕ) (all : List Refutation) (x : Refutation) → x.rule ≡ k + 1 → IsRefutation which v terms atoms x → Refuted k all → Refuted (k + 1) (all ++ x ∷ [])
+    next_refuted k all x is it told = record {
+      each = each_both (IsRefutation which v terms atoms) all (x ∷ []) told.each (it, tt);
+      others = λ i l le none. by i l le (none_of (λ (y : Refutation). y.rule == i) all x none) (cases_lt k i);
+    }
+      where
+        by : (i : ℕ) → 1 ≤ i → i ≤ k + 1 → (is_refuted i all ≡ false) × ((x.rule == i) ≡ false) → (k < i) ⊎ (i ≤ k) → Everywhere which v terms i
+        by i l le none (inr before) = told.others i l before none.0
+        by i l le none (inl behind) = absurd (false≢true (sym none.1 ∙ is_own x.rule (k + 1) i is (omega (arith, le, behind))))
+
+    -- the first that is false
+    pub first_refuted : (failure : Failure) (x : Refutation) → IsDecision net list (Some failure) → x.rule ≡ failure.rule → IsRefutation which v terms atoms x → Refuted x.rule (x ∷ [])
+    first_refuted failure x d is it = record { each = (it, tt); others = λ i l le none. by i l le none (cases_lt i x.rule) }
+      where
+        number : x.rule ≡ d.0 + 1
+        number = is ∙ (d.3 ∙ (own.each d.0 d.1 (d.2).there).number)
+
+        by : (i : ℕ) → 1 ≤ i → i ≤ x.rule → is_refuted i (x ∷ []) ≡ false → (i < x.rule) ⊎ (x.rule ≤ i) → Everywhere which v terms i
+        by i l le none (inl lt) = holds_at i l (let inside = slice_get_within list d.0 d.1 (d.2).there in omega (arith, le, number, inside))
+            (λ r at. (d.2).earlier (i - 1) r (omega (arith, lt, l, number)) at)
+        by i l le none (inr ge) = absurd (false≢true (sym (none_of (λ (y : Refutation). y.rule == i) [] x none).1 ∙ is_own x.rule x.rule i refl (omega (arith, le, ge))))

@@ -1,0 +1,81 @@
+-- The answer on a file for SEQ or SEQ+: the verdict, and of a refusal each obligation that is false somewhere with its least counterexample.
+use Rattle.std.specs.Prelude.{ℕ, ◌+◌, ◌≡◌, ◌≤◌, ◌==◌, Bool, true, false, List, ◌∷◌, length}
+use Rattle.std.specs.List.{AllByRecursion}
+use Rattle.y86_base.specs.declared.parts.Variant.{Variant}
+use Rattle.hcl_types.specs.Lists.{some}
+use Rattle.hcl_types.specs.declared.term.Term.{Term}
+use Rattle.ctl_atoms.specs.Atoms.{AreAtoms}
+use Rattle.ctl_atoms.specs.Leaves.{Assignment}
+use Rattle.ctl_atoms.specs.declared.leaf.Atom.{Atom}
+use Rattle.ctl_atoms.specs.declared.leaf.Leaf.{Leaf}
+use Rattle.ctl_formula.specs.Controls.{AreControls}
+use Rattle.field_bits.specs.Spots.{InRange, number_among, total}
+use Rattle.decisions.specs.Decisions.{IsLeastOf}
+use Rattle.seq_obligations.specs.Obligations.{rule_count}
+use Rattle.seq_refinement.specs.Accepted.{RefinesSeq}
+use Rattle.seq_plus.specs.Accepted.{RefinesPlus}
+use Rattle.seq_plus.specs.Verdicts.{AcceptsPlus, RejectsPlus}
+use Rattle.control_check.specs.SeqVerdicts.{AcceptsSeq, RejectsSeq}
+use Rattle.verdicts.specs.Questions.{Fails}
+use Rattle.seq_requirements.specs.Datapaths.{questions_of, rows_of, spots_of}
+use Rattle.seq_requirements.specs.declared.datapath.Datapath.{Datapath}
+use Rattle.seq_requirements.specs.declared.datapath.Datapath.TheVariants.{Seq, Plus}
+use Rattle.seq_diagnosis.specs.Diagnosis.{IsDiagnosis}
+use Rattle.seq_diagnosis.specs.declared.refusal.Refusal.{Refusal}
+use Rattle.seq_diagnosis.specs.declared.refusal.Refutation.{Refutation}
+use Rattle.seq_refusals.specs.declared.answer.Answer.{Answer}
+use Rattle.seq_refusals.specs.declared.answer.Answer.TheVariants.{Yes, No}
+
+-- ---- what `check seq` and `check seqplus` say
+
+-- the design has control values, and every obligation holds of it
+abbrev pub Accepts : Datapath → Variant → List Term → Type 0
+Accepts Seq v terms = AcceptsSeq v terms
+Accepts Plus v terms = AcceptsPlus v terms
+
+-- the first obligation that is false of some valuation, and the least such valuation
+abbrev pub Rejects : Datapath → Variant → List Term → ℕ → List Bool → Type 0
+Rejects Seq v terms i w = RejectsSeq v terms i w
+Rejects Plus v terms i w = RejectsPlus v terms i w
+
+-- on every image and for every number of cycles, its machine is that of the run of instructions
+abbrev pub Refines : Datapath → Variant → List Term → Type 0
+Refines Seq v terms = RefinesSeq v terms
+Refines Plus v terms = RefinesPlus v terms
+
+-- ---- all obligations that are false somewhere
+
+-- obligation i holds of every valuation
+abbrev pub Everywhere : Datapath → Variant → List Term → ℕ → Type 0
+Everywhere which v terms i =
+    (xs : List ℕ) (α : Assignment) (cv : ℕ → Leaf) → InRange (spots_of which) xs → AreControls (rows_of which) terms (number_among (spots_of which) xs) α cv
+    → (questions_of which v).asks i xs α cv ≡ true
+
+-- An obligation that is false somewhere: its least counterexample, and the diagnosis there.
+pub record IsRefutation (which : Datapath) (v : Variant) (terms : List Term) (atoms : List Atom) (x : Refutation) : Type 0 where
+  pub first : 1 ≤ x.rule
+  pub last : x.rule ≤ rule_count
+  pub least : IsLeastOf (total (spots_of which) + length atoms) (Fails (questions_of which v) terms atoms x.rule) x.valuation.bits
+  pub diagnosis : IsDiagnosis which v terms atoms x.rule x.valuation.bits x.diagnosis
+
+-- whether obligation i is among those that are refuted
+abbrev pub is_refuted : ℕ → List Refutation → Bool
+is_refuted i all = some (λ (x : Refutation). x.rule == i) all
+
+-- Of the obligations from 1 to `until` exactly these are false somewhere.
+pub record AreRefuted (which : Datapath) (v : Variant) (terms : List Term) (atoms : List Atom) (until : ℕ) (all : List Refutation) : Type 0 where
+  pub each : AllByRecursion (IsRefutation which v terms atoms) all
+  pub others : (i : ℕ) → 1 ≤ i → i ≤ until → is_refuted i all ≡ false → Everywhere which v terms i
+
+pub record IsRefusal (which : Datapath) (v : Variant) (terms : List Term) (r : Refusal) : Type 0 where
+  pub atoms : AreAtoms (rows_of which) terms r.atoms
+  pub rejects : Rejects which v terms r.first.rule r.first.valuation.bits
+  pub refuted : AreRefuted which v terms r.atoms rule_count (r.first ∷ r.others)
+
+abbrev pub IsAnswer : Datapath → Variant → List Term → Answer → Type 0
+IsAnswer which v terms Yes = Accepts which v terms
+IsAnswer which v terms (No r) = IsRefusal which v terms r
+
+abbrev pub is_yes : Answer → Bool
+is_yes Yes = true
+is_yes (No r) = false

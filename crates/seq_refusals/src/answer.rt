@@ -1,0 +1,224 @@
+//! The verdict, and the diagnosis of a refusal.
+ghost use Rattle.std.specs.Prelude.{◌≡◌, ◌≤◌, ◌<◌, ◌+◌, ◌∷◌, ◌++◌, [], IfErr, IfOk, OnOk, Some, length, slice_get, true};
+ghost use Rattle.hcl_types.specs.Tables.{IsBound, IsOrderOf};
+ghost use Rattle.ctl_atoms.specs.Atoms.{AreAtoms, IsCtlFault};
+ghost use Rattle.seq_requirements.specs.Datapaths.{rows_of};
+ghost use Rattle.verdicts.specs.Decisions.{IsDecision};
+ghost use Rattle.verdicts.specs.Questions.{IsFault};
+ghost use Rattle.seq_refusals.specs.Answered as spec;
+ghost use Rattle.seq_refusals.specs.Failures.{AreRulesOf, IsFailure};
+
+use control_check::{CheckFault, Failure, decide, told};
+use ctl_atoms::CtlFault;
+use hcl_types::{Design, Order};
+use nets::Net;
+use rule_gates::{Rule, Rules};
+use seq_diagnosis::{Refusal, Refutation, diagnose};
+use seq_obligations::seq_rules;
+use seq_plus::plus_rules;
+use seq_requirements::Datapath;
+use std::alloc::Global;
+use y86_base::{Items, Memory, Variant};
+
+/// The answer on a file.
+#[derive(Drop)]
+pub enum Answer {
+    Yes,
+    No(Refusal),
+}
+
+/// The rules of a design.
+fn rules_of(
+    alloc: Global,
+    which: Datapath,
+    v: Variant,
+    d: &Design,
+    o: &Order,
+) -> Result<Rules, CtlFault>
+    requires bound { IsBound (rows_of which) d.now.terms }
+    requires ordered { IsOrderOf (rows_of which) d.now.terms o.now.ids }
+    ensures rules { IfOk result (λ r. AreRulesOf which v d.now.terms r.net r.list) }
+    ensures atoms { IfOk result (λ r. AreAtoms (rows_of which) d.now.terms r.atoms) }
+    ensures fault { IfErr result (IsCtlFault (rows_of which) d.now.terms) }
+{
+    match which {
+        Datapath::Seq => seq_rules(alloc, v, d, o),
+        Datapath::Plus => plus_rules(alloc, v, d, o),
+    }
+}
+
+/// Whether a rule is true of every valuation, and else the least of which it is false.
+#[tactic(auto, using(crate::proofs::Refuting::one_gate))]
+fn decide_one(alloc: Global, net: &Net, rule: Rule) -> Result<Option<Failure>, Memory>
+    requires { rule.gate < length net.now.gates }
+    ensures { IfOk result (IsDecision net.now (rule ∷ [])) }
+{
+    let one = [rule];
+    decide(alloc, net, &one)
+}
+
+/// The rule at a place.
+fn rule_at(list: &[Rule], k: usize) -> Rule
+    requires { k < length list.now }
+    ensures { slice_get list.now k ≡ Some result }
+{
+    list[k]
+}
+
+/// Refutes an obligation that is false somewhere.
+fn refute(
+    alloc: Global,
+    which: Datapath,
+    v: Variant,
+    d: &Design,
+    o: &Order,
+    rules: &Rules,
+    failure: Failure,
+) -> Result<Refutation, Memory>
+    requires ordered { IsOrderOf (rows_of which) d.now.terms o.now.ids }
+    requires rules { AreRulesOf which v d.now.terms rules.now.net rules.now.list }
+    requires atoms { AreAtoms (rows_of which) d.now.terms rules.now.atoms }
+    requires failure { IsFailure rules.now.net rules.now.list failure }
+    ensures refutation { IfOk result (spec.IsRefutation which v d.now.terms rules.now.atoms) }
+    ensures rule { IfOk result (λ x. x.rule ≡ failure.rule) }
+    ensures valuation { IfOk result (λ x. x.valuation ≡ failure.valuation) }
+{
+    let diagnosis = diagnose(
+        alloc,
+        which,
+        v,
+        d,
+        o,
+        rules.atoms.items(),
+        failure.rule,
+        failure.valuation.bits.items(),
+    )?;
+    Ok(Refutation {
+        rule: failure.rule,
+        valuation: failure.valuation,
+        diagnosis,
+    })
+}
+
+/// Appends a refutation.
+fn put(out: &mut Vec<Refutation>, refutation: Refutation) -> Result<(), Memory>
+    ensures { OnOk result (out.new.items ≡ out.old.items ++ refutation ∷ []) }
+{
+    match out.push(refutation) {
+        Ok(()) => Ok(()),
+        Err(_) => Err(Memory),
+    }
+}
+
+/// Refutes the obligation of the rule at a place, if it is false somewhere.
+fn refute_at(
+    alloc: Global,
+    which: Datapath,
+    v: Variant,
+    d: &Design,
+    o: &Order,
+    rules: &Rules,
+    k: usize,
+    first: &Refutation,
+    others: &mut Vec<Refutation>,
+) -> Result<(), Memory>
+    requires ordered { IsOrderOf (rows_of which) d.now.terms o.now.ids }
+    requires rules { AreRulesOf which v d.now.terms rules.now.net rules.now.list }
+    requires atoms { AreAtoms (rows_of which) d.now.terms rules.now.atoms }
+    requires within { k < length rules.now.list }
+    requires refuted { spec.AreRefuted which v d.now.terms rules.now.atoms k (first.now ∷ others.old.items) }
+    ensures { OnOk result (spec.AreRefuted which v d.now.terms rules.now.atoms (k + 1) (first.now ∷ others.new.items)) }
+{
+    let rule = rule_at(rules.list.items(), k);
+    match decide_one(alloc, &rules.net, rule)? {
+        None => Ok(()),
+        Some(failure) => {
+            let refutation = refute(alloc, which, v, d, o, rules, failure)?;
+            put(others, refutation)?;
+            Ok(())
+        }
+    }
+}
+
+/// Refutes the obligations behind the first false one.
+fn refute_others(
+    alloc: Global,
+    which: Datapath,
+    v: Variant,
+    d: &Design,
+    o: &Order,
+    rules: &Rules,
+    first: &Refutation,
+) -> Result<Vec<Refutation>, Memory>
+    requires ordered { IsOrderOf (rows_of which) d.now.terms o.now.ids }
+    requires rules { AreRulesOf which v d.now.terms rules.now.net rules.now.list }
+    requires atoms { AreAtoms (rows_of which) d.now.terms rules.now.atoms }
+    requires within { first.now.rule ≤ length rules.now.list }
+    requires first { spec.AreRefuted which v d.now.terms rules.now.atoms first.now.rule (first.now ∷ []) }
+    ensures { IfOk result (λ others. spec.AreRefuted which v d.now.terms rules.now.atoms (length rules.now.list) (first.now ∷ others.items)) }
+{
+    let mut others = Vec::new(alloc);
+    let from = first.rule as usize;
+    let count = rules.list.items().len();
+    for k in from..count {
+        match refute_at(alloc, which, v, d, o, rules, k, first, &mut others) {
+            Ok(()) => {}
+            Err(e) => return Err(e),
+        }
+    }
+    Ok(others)
+}
+
+/// Diagnoses a refused file.
+fn refuse(
+    alloc: Global,
+    which: Datapath,
+    v: Variant,
+    d: &Design,
+    o: &Order,
+    rules: Rules,
+    failure: Failure,
+) -> Result<Refusal, Memory>
+    requires ordered { IsOrderOf (rows_of which) d.now.terms o.now.ids }
+    requires rules { AreRulesOf which v d.now.terms rules.net rules.list }
+    requires atoms { AreAtoms (rows_of which) d.now.terms rules.atoms }
+    requires failure { IsDecision rules.net rules.list (Some failure) }
+    ensures { IfOk result (spec.IsRefusal which v d.now.terms) }
+{
+    let first = refute(alloc, which, v, d, o, &rules, failure)?;
+    let others = refute_others(alloc, which, v, d, o, &rules, &first)?;
+    Ok(Refusal {
+        atoms: rules.atoms,
+        first,
+        others: Items::of(others),
+    })
+}
+
+/// The verdict on a file for SEQ or SEQ+, and the diagnosis of a refusal. The verdict is that of `check_seq` or `check_plus`: where it is
+/// yes, the file's machine runs as the instructions do, on every image, for every number of cycles.
+pub fn diagnose_seq(
+    alloc: Global,
+    which: Datapath,
+    v: Variant,
+    d: &Design,
+    o: &Order,
+) -> Result<Answer, CheckFault>
+    requires bound { IsBound (rows_of which) d.now.terms }
+    requires ordered { IsOrderOf (rows_of which) d.now.terms o.now.ids }
+    ensures answer { IfOk result (spec.IsAnswer which v d.now.terms) }
+    ensures refines { IfOk result (λ answer. spec.is_yes answer ≡ true → spec.Refines which v d.now.terms) }
+    ensures fault { IfErr result (IsFault (rows_of which) d.now.terms) }
+{
+    let rules = match rules_of(alloc, which, v, d, o) {
+        Ok(rules) => rules,
+        Err(fault) => return Err(told(fault)),
+    };
+    match decide(alloc, &rules.net, rules.list.items()) {
+        Ok(None) => Ok(Answer::Yes),
+        Ok(Some(failure)) => match refuse(alloc, which, v, d, o, rules, failure) {
+            Ok(refusal) => Ok(Answer::No(refusal)),
+            Err(Memory) => Err(CheckFault::Memory),
+        },
+        Err(Memory) => Err(CheckFault::Memory),
+    }
+}

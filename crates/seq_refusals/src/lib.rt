@@ -1,0 +1,6 @@
+//! The verdict on a file for SEQ or SEQ+, with a diagnosis of a refusal.
+#![tactic(auto)]
+
+mod answer;
+
+pub use answer::{Answer, diagnose_seq};

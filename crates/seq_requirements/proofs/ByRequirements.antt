@@ -1,0 +1,57 @@
+-- An obligation is met exactly where each of its requirements is.
+use Rattle.std.proofs.Common.{◌≡◌, ℕ, ◌==◌, List, refl}
+use Rattle.y86_base.specs.declared.parts.Variant.{Variant}
+use Rattle.y86_base.specs.Words.{set}
+use Rattle.y86_isa.specs.declared.columns.Row.{Row}
+use Rattle.y86_isa.specs.Table.{row}
+use Rattle.y86_isa.specs.RowTests.{has_operand_a}
+use Rattle.y86_isa.specs.Blocks.{is_load, is_store}
+use Rattle.hcl_types.specs.Lists.{each}
+use Rattle.ctl_atoms.specs.declared.leaf.Leaf.{Leaf}
+use Rattle.ctl_atoms.specs.Leaves.{Assignment}
+use Rattle.rule_gates.specs.Words.{is_number, is_truth, operand_leaf_a, operand_leaf_b, address_leaf, word_leaf, next_leaf}
+use Rattle.dp_signals.specs.SeqNames as seq_row
+use Rattle.findings.specs.Requirements.{is_met}
+use Rattle.findings.proofs.EachMet.{one, two, if_both, guarded, excused, some_is}
+use Rattle.seq_obligations.specs.Fields as seq
+use Rattle.seq_obligations.specs.Obligations.{demand_at as seq_demand_at, faulted, shared_demand}
+use Rattle.seq_obligations.specs.declared.signals.Signals.{Signals}
+use Rattle.seq_plus.specs.Fields as plus
+use Rattle.seq_plus.specs.Obligations.{demand_at as plus_demand_at}
+use Rattle.seq_plus.specs.PlusNames as plus_row
+use Rattle.seq_requirements.specs.Datapaths.{line_of, signals_of}
+use Rattle.seq_requirements.specs.Requirements.{IsByRequirements, row_of, shared_requirements}
+use Rattle.seq_requirements.specs.declared.datapath.Datapath.{Datapath}
+use Rattle.seq_requirements.specs.declared.datapath.Datapath.TheVariants.{Seq, Plus}
+
+module _ (α : Assignment) (cv : ℕ → Leaf) where
+  shared_is : (s : Signals) (i : ℕ) (r : Row) (c : seq.Fields) → shared_demand s i r c α cv ≡ each (is_met α cv) (shared_requirements s i r c)
+  shared_is s i r c =
+      if_both (is_met α cv) (i == 1) _ _ _ _ (two (is_number cv s.icode c.icode) (is_number cv s.ifun c.ifun))
+      (if_both (is_met α cv) (i == 2) _ _ _ _ (one _)
+      (if_both (is_met α cv) (i == 3) _ _ _ _ (one _)
+      (if_both (is_met α cv) (i == 4) _ _ _ _ (one _)
+      (if_both (is_met α cv) (i == 5) _ _ _ _ (one _)
+      (if_both (is_met α cv) (i == 6) _ _ _ _ (one _)
+      (if_both (is_met α cv) (i == 7) _ _ _ _ (one _)
+      (if_both (is_met α cv) (i == 8) _ _ _ _ (some_is α cv s.alu_a (operand_leaf_a r.alu_a s.val_a s.val_c))
+      (if_both (is_met α cv) (i == 9) _ _ _ _ (some_is α cv s.alu_b (operand_leaf_b r.alu_b s.val_b))
+      (if_both (is_met α cv) (i == 10) _ _ _ _ (guarded (is_met α cv) (has_operand_a r.alu_a) _ _ (one _))
+      (if_both (is_met α cv) (i == 11) _ _ _ _ (one _)
+      (if_both (is_met α cv) (i == 12) _ _ _ _ (some_is α cv s.mem_addr (address_leaf r.memory s.val_a s.val_e))
+      (if_both (is_met α cv) (i == 13) _ _ _ _ (two (is_truth α cv s.mem_read (is_load r.memory)) (is_truth α cv s.mem_write (is_store r.memory)))
+      (if_both (is_met α cv) (i == 14) _ _ _ _ (some_is α cv s.mem_data (word_leaf r.memory s.val_a s.val_p))
+      (if_both (is_met α cv) (i == 15) _ _ _ _ (one _) refl))))))))))))))
+
+  pub by_requirements : (which : Datapath) (v : Variant) (xs : List ℕ) (i : ℕ) → IsByRequirements which v xs α cv i
+  unfolding seq_demand_at plus_demand_at
+  by_requirements Seq v xs i =
+      let c = seq.fields_by xs in
+      if_both (is_met α cv) (i == 16) _ _ _ _
+      (excused (is_met α cv) (faulted c) _ _ (some_is α cv seq_row.new_pc (next_leaf (row v c.icode).next seq_row.valP seq_row.valC seq_row.valM (set c.cnd))))
+      (shared_is (signals_of Seq) i (row_of Seq v xs) (line_of Seq xs))
+  by_requirements Plus v xs i =
+      let c = plus.fields_by xs in
+      if_both (is_met α cv) (i == 16) _ _ _ _
+      (some_is α cv plus_row.pc (next_leaf (row v c.icode).next plus_row.pValP plus_row.pValC plus_row.pValM (set c.cnd)))
+      (shared_is (signals_of Plus) i (row_of Plus v xs) (line_of Plus xs))

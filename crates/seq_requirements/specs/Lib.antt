@@ -1,0 +1,3 @@
+pub mod Datapaths
+pub mod Lines
+pub mod Requirements
