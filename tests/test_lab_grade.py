@@ -96,6 +96,48 @@ def test_y86_tell_says_all(lab, programs):
     same([rows["dee"][name] for name in ("stages", "forwarding", "hazards and exceptions")], ["15", "10", "12.86"])
 
 
+def items_of(lab, folder, rubric, *words):
+    status, out, err = lab("grade", folder, "--single", "--rubric", rubric, "--format", "json", *words)
+    same((status, err), (0, ""))
+    return json.loads(out)["grades"][0]
+
+
+def test_a_reference_that_is_wrong_itself(lab, folder):
+    """Then y86 never comes to a yes, and what comes after the first false obligation counts as false: of Cy's, S2 of the three of fetch, and S3."""
+    os.mkdir(f"{folder}/references")
+    put(folder, {"references/seq.hcl": example("seq")})
+    shutil.copy(f"{CLASS}/seq.toml", folder)
+    items = items_of(lab, f"{CLASS}/hand_ins/seq/cy", "seq.toml")["items"]
+    same([item["points"] for item in items], [1.67, 0.0, 0.0, 0.0])
+    same({item["reason"] for item in items}, {"S2 is false; later ones weren't decided"})
+
+
+def test_a_reference_that_is_not_there(lab, folder):
+    """That is the teacher's fault, and ends the command."""
+    shutil.copy(f"{CLASS}/programs.toml", folder)
+    status, out, err = lab("grade", f"{CLASS}/hand_ins/programs", "--rubric", "programs.toml")
+    same((status, out, err.partition(": ")[0]), (2, "", "the reference references/sum.ys"))
+
+
+def test_cycles_of_all_lengths_are_kept(lab):
+    """Ann's mean is that of lengths 1 to 64, whose points the row above has."""
+    cycles = {int(length): number for length, number in items_of(lab, f"{CLASS}/hand_ins/pipe/ann", f"{CLASS}/pipe.toml")["cycles"].items()}
+    same(list(cycles), [*range(65), 128, 192, 256])
+    same(f"{sum(cycles[length] / length for length in range(1, 65)) / 64:.2f}", "8.48")
+
+
+def test_limits_of_time_and_memory(lab, folder):
+    """A file whose diagrams grow without end (docs/HCL.md, Limits) ends at the one or the other."""
+    pairs = "".join(f" || D_valC == {number} && E_valC == {number}" for number in range(1, 31))
+    words = "".join(f" || D_valC == {number}" for number in range(1, 31))
+    text = re.sub(r"^bool F_stall = ", f"bool F_stall = 0 && (0{words}) || ", design("std"), flags=re.M)
+    os.mkdir(f"{folder}/in")
+    put(folder, {"in/pipe.hcl": re.sub(r"^bool F_bubble = 0", f"bool F_bubble = 0{pairs}", text, flags=re.M),
+        "r.toml": 'name = "Hazards"\n[[item]]\nname = "hazards"\npoints = 6\nfile = "pipe.hcl"\nobligations = ["hazards"]\n'})
+    for words, reason in ((["--seconds", "1"], "the check gave no answer in time"), (["--megabytes", "16"], "the check ran out of memory")):
+        same([item["reason"] for item in items_of(lab, "in", "r.toml", *words)["items"]], [reason])
+
+
 # Rubrics.
 
 
