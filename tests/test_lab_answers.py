@@ -23,7 +23,7 @@ def lab(folder, programs):
 
     def call(command, base, definitions):
         files = {"mine.hcl": replaced(example(base), definitions)}
-        came = program(command, "mine.hcl", files=files, env={**os.environ, "Y86": programs("y86")}, timeout=600)
+        came = program(command, "mine.hcl", files=files, env={**os.environ, "Y86": programs("y86"), "Y86_TELL": programs("y86_tell")}, timeout=600)
         return (came.out + came.err).decode()
 
     return call

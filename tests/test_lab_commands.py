@@ -22,7 +22,7 @@ def lab(programs, folder):
     def call(*words, files=None, **environment):
         put(folder, files or {})
         done = subprocess.run([LAB, *words], cwd=folder, stdin=subprocess.DEVNULL, capture_output=True, text=True, timeout=300, check=False,
-            env={**os.environ, "Y86": programs("y86"), **environment})
+            env={**os.environ, "Y86": programs("y86"), "Y86_TELL": programs("y86_tell"), **environment})
         return done.returncode, done.stdout, done.stderr
 
     return call

@@ -255,19 +255,19 @@ def test_names_of_pages():
         ["ann", "Ann-2", "etc", "rf", "a_b", "Ελένη", "hand-in", "x" * 100])
 
 
-def test_feedback_shows_the_mistake(lab, folder):
+def test_feedback_shows_the_mistake(lab, folder, programs):
     """The page has what `explain` says, and the program that shows it."""
     wrong = changed(design("std"), d_valA="[ D_icode in { ICALL, IJXX } : D_valP; d_srcA == M_dstE : M_valE; @ ]")
     os.mkdir(f"{folder}/in")
     put(folder, {"in/ann.hcl": wrong, "in/bob.hcl": example("std"),
         "r.toml": 'name = "Forwarding"\n[[item]]\nname = "forwarding"\npoints = 6\nfile = "pipe.hcl"\nobligations = ["O6", "O10"]\n'})
-    status, out, err = lab("grade", "in", "--rubric", "r.toml", "--feedback", "pages", "-o", "grades.csv")
+    status, out, err = lab("grade", "in", "--rubric", "r.toml", "--feedback", "pages", "-o", "grades.csv", tell=programs("y86_tell"))
     same((status, out, err), (0, "", ""))
     with open(f"{folder}/grades.csv", encoding="utf-8") as file:
         same(file.read(), "name,points,of,forwarding\nann,3,6,3\nbob,6,6,6\n")
     with open(f"{folder}/pages/ann.html", encoding="utf-8") as file:
         page = html.unescape(re.sub("<[^>]*>", "", file.read()))
-    for text in ("pipe.hcl: no, O10 doesn't hold", "They part at instruction", "3 of 6 points"):
+    for text in ("pipe.hcl: no, O10 doesn't hold", " of the program, and does it wrong:\n", "3 of 6 points"):
         assert text in page, page
     assert folder not in page
     with open(f"{folder}/pages/bob.html", encoding="utf-8") as file:
@@ -325,16 +325,38 @@ def test_words_after_a_label():
 # `try`.
 
 
-def test_try(lab):
+def test_try(lab, programs):
     """A program on a right pipeline, and on one without the load/use hazard: with 0x0 the old word was right too."""
     program = "irmovq word, %rdi\nmrmovq (%rdi), %rax\naddq %rax, %rax\nhalt\n.align 8\nword:\n.quad 0\n"
     wrong = re.sub(r"bool ([DF])_stall =[^;]*;", r"bool \1_stall = 0;", re.sub(r"bool E_bubble =[^;]*;", "bool E_bubble = 0;", design("std")))
     files = {"p.ys": program, "std.hcl": example("std"), "wrong.hcl": wrong}
-    same(lab("try", "p.ys", "std.hcl", files=files), (0, "p.ys ends under std.hcl as by its instructions with each of 20 inputs.\n", ""))
-    status, out, err = lab("try", "p.ys", "wrong.hcl")
-    same((status, err, out.splitlines()[0]), (1, "", "The processor ends otherwise than the instructions say."))
-    assert re.search(r"^The \.quad lines were: -?\d+$", out, re.M) and "on the processor:\n    Stopped in 4 steps" in out, out
-    same(lab("try", "p.ys", "wrong.hcl", "--inputs", "1")[:2], (0, "p.ys ends under wrong.hcl as by its instructions.\n"))
+    tell = programs("y86_tell")
+    same(lab("try", "p.ys", "std.hcl", files=files, tell=tell), (0, "p.ys ends under std.hcl as by its instructions with each of 20 inputs.\n", ""))
+    status, out, err = lab("try", "p.ys", "wrong.hcl", tell=tell)
+    same((status, err), (1, ""))
+    lines = out.splitlines()
+    assert re.fullmatch(r"The \.quad lines were: -?\d+", lines[0]), out
+    # irmovq is fetched in cycle 1, mrmovq in cycle 2, and addq in cycle 3: it retires in cycle 7
+    same(lines[2:5], ["In cycle 7 the pipeline retires instruction 3 of the program, and does it wrong:", "", "    0x014: addq %rax, %rax"])
+    same(lines[-1], "So the theorem doesn't cover this run.")
+    same(lab("try", "p.ys", "wrong.hcl", "--inputs", "1", tell=tell)[:2], (0, "p.ys ends under wrong.hcl as by its instructions.\n"))
+
+
+def test_try_on_seq(lab):
+    """On SEQ the reports are compared: subq the other way round."""
+    program = "irmovq $3, %rax\nirmovq $5, %rbx\nsubq %rax, %rbx\nhalt\n"
+    files = {"p.ys": program, "seq.hcl": changed(design("seq"), aluB="[ icode == IOPQ : 0; @ ]")}
+    same(lab("try", "p.ys", "seq.hcl", files=files), (1, """\
+The processor ends otherwise than the instructions say.
+
+by the instructions:
+    Stopped in 4 steps at PC = 0x16.  Status 'HLT', CC Z=0 S=0 O=0
+    %rbx:\t0x0000000000000000\t0x0000000000000002
+
+on the processor:
+    Stopped in 4 steps at PC = 0x16.  Status 'HLT', CC Z=0 S=1 O=0
+    %rbx:\t0x0000000000000000\t0xfffffffffffffffd
+""", ""))
 
 
 def test_try_of_an_object_file(lab):

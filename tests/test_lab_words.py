@@ -1,9 +1,10 @@
 """What the lab says of situations, runs and results: its tables by the book, and its sentences."""
 import itertools
+import json
 
 import pytest
 
-from helpers.cases import same
+from helpers.cases import cases, same
 from y86lab.aig.confirm import bits_of
 from y86lab.aig.network import blif, clauses_below, clauses_of, network_of
 from y86lab.commands.classroom import Row, cell, set_verdict, status_of
@@ -14,7 +15,7 @@ from y86lab.explaining import isa
 from y86lab.explaining.signals import datapath_of_text, in_full, in_short, unasked
 from y86lab.explaining.situation import NO_CASE, Situation
 from y86lab.hcl import Cases, Design, design_of
-from y86lab.trial import writes_code
+from y86lab.trial import shows_mistake
 from y86lab.trial_programs import at_random, pairs, special
 
 RAX, RBX, RSP, NONE = 0, 3, 4, 15
@@ -165,10 +166,22 @@ def test_iaddq_is_drawn_with_full_alone():
         same(any(line.startswith("iaddq") for line in lines), full)
 
 
-def test_programs_that_write_code():
-    listing = "0x000: 30f40005000000000000 | irmovq $0x500, %rsp\n0x00a: 00 | halt\n0x500: 0000000000000000 | .quad 0\n"
-    same([writes_code(listing, [f"0x000 40 [{address}]=0x1 100 AOK"]) for address in ("0x3", "0xa", "0x500", "0xb", "0xfffffffffffffff8")],
-        [True, True, False, False, False])
+# What a run came to, whether the program meets the theorem's premise, its steps, and whether it shows a mistake.
+RUNS = [
+    ("another instruction", "instruction", "holds", 9, True),
+    ("another state", "state", "holds", 9, True),
+    ("no end in five cycles for each step", "limit", "holds", 2000, True),
+    ("too many steps for the limit", "limit", "holds", 2001, False),
+    ("no end of the program", "limit", "open", 10000, False),
+    ("code that is stored too late", "instruction", "fails", 9, False),
+    ("agreement", "same", "holds", 9, False),
+]
+
+
+@cases(RUNS)
+def test_runs_that_show_a_mistake(row):
+    _, outcome, premise, steps, wanted = row
+    same(shows_mistake(json.dumps({"outcome": outcome, "premise": premise, "steps": steps})), wanted)
 
 
 # The copy loop.

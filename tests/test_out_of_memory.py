@@ -6,34 +6,8 @@ import pytest
 
 from helpers.cases import same
 from helpers.paths import EXAMPLES
-from helpers.shims import built
+from helpers.shims import REFUSING, built
 
-SHIM = r"""
-#define _GNU_SOURCE
-#include <dlfcn.h>
-#include <errno.h>
-#include <stdlib.h>
-
-static unsigned long count, refused;
-static void *(*next_malloc)(size_t), *(*next_realloc)(void *, size_t);
-
-static void begin(void) {
-    char *number = getenv("FAIL_ALLOC");
-    refused = number ? strtoul(number, 0, 10) : 0;
-    next_malloc = dlsym(RTLD_NEXT, "malloc");
-    next_realloc = dlsym(RTLD_NEXT, "realloc");
-}
-
-static int fails(void) {
-    if (!next_malloc) begin();
-    if (++count != refused) return 0;
-    errno = ENOMEM;
-    return 1;
-}
-
-void *malloc(size_t size) { return fails() ? 0 : next_malloc(size); }
-void *realloc(void *at, size_t size) { return fails() ? 0 : next_realloc(at, size); }
-"""
 CALLS = [
     "yis programs/asum.yo",
     "yas programs/asum.ys",
@@ -53,7 +27,7 @@ BEHIND = 50
 @pytest.mark.slow
 @pytest.mark.parametrize("words", CALLS)
 def test_each_request_refused(words, y86, folder):
-    library = built(folder, SHIM)
+    library = built(folder, REFUSING)
 
     def call(number):
         return y86(*words.split(), folder=EXAMPLES, env={**os.environ, "LD_PRELOAD": library, "FAIL_ALLOC": str(number)})

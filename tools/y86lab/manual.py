@@ -46,6 +46,7 @@ DIAGRAM = Option("--diagram", "", "a diagram: a row for each instruction, a colu
 SEQ = Option("--seq", "", "SEQ in the place of PIPE")
 SEQ_PLUS = Option("--seqplus", "", "SEQ+ in the place of PIPE")
 JSON = Option("--json", "", "the answer as JSON")
+UNCHECKED = Option("--unchecked", "", "don't ask the check whether the theorem covers the run")
 
 STATUSES = (
     (0, "done; a run ended at a halt"),
@@ -100,6 +101,7 @@ TELL = Program(
         Form("check", "pipe HCL", (FULL, JSON), "says why the check refuses a file, and what would repair it"),
         Form("fault", "FILE [seq|seqplus|pipe]", (FULL, MEM, JSON), "says all that is wrong with a file"),
         Form("program", "OBJ", (FULL, MEM, LIMIT), "says whether the theorem covers a program"),
+        Form("run", "HCL OBJ", (FULL, MEM, LIMIT, JSON, UNCHECKED), "says where a program goes wrong on a pipeline"),
         Form("show", "WORD", (), "says what an obligation or a signal is"),
     ),
 )

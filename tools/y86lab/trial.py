@@ -1,17 +1,18 @@
 """Runs programs under a file, and as the instructions say, until a time is over."""
 from __future__ import annotations
 
+import json
 import os
-import re
 import time
-from dataclasses import dataclass
 from typing import Optional
 
 from .calls import Answer, Limits, Programs, full_flag
+from .errors import DONE, REFUSED
 from .trial_programs import Lines
 
-# The most steps of a program; of cycles it has five times as many.
+# The most steps of a program; of cycles it has five times as many, which are enough for each pipeline that the check accepts.
 STEPS = 2000
+LIMIT = 5 * STEPS
 LONGEST_CALL = 120
 COMMANDS = {"pipe": "psim", "seq": "ssim", "seqplus": "ssimp"}
 
@@ -20,24 +21,16 @@ class OutOfTime(Exception):
     """The time for all programs is over."""
 
 
-@dataclass(frozen=True)
-class Runs:
-    """A program's listing, what it should do, and what it does: traces (for PIPE alone), reports, and the cycles."""
-
-    listing: str
-    wanted_trace: list[str]
-    wanted: str
-    trace: list[str]
-    report: str
-    cycles: str
-
-    @property
-    def differ(self) -> bool:
-        return self.wanted != self.report or self.wanted_trace != self.trace
-
-
 def source_of(lines: Lines) -> str:
     return "".join(f"{line}\n" if line.endswith(":") else f"    {line}\n" for line in lines)
+
+
+def shows_mistake(told: str) -> bool:
+    """Whether a run that y86-tell tells in JSON shows a mistake of its pipeline: another instruction or state, or no end in time."""
+    run = json.loads(told)
+    if run["premise"] != "holds" or run["steps"] > STEPS:
+        return False
+    return run["outcome"] != "same"
 
 
 class Trial:
@@ -47,20 +40,17 @@ class Trial:
         self.programs, self.path, self.datapath = programs, path, datapath
         self.flags = full_flag(full)
         self.source, self.object = os.path.join(folder, "p.ys"), os.path.join(folder, "p.yo")
-        self.right = os.path.join(programs.examples, *right_design(full))
-        # (a folder that was handed out without solutions lacks the one for iaddq)
-        self.has_right = os.path.exists(self.right)
         self.deadline: Optional[float] = None
 
     def keep_to(self, seconds: Optional[float]) -> None:
         """Ends the trial by OutOfTime after so many seconds from now on; never for None."""
         self.deadline = None if seconds is None else time.monotonic() + seconds
 
-    def call(self, *words: str) -> Answer:
+    def call(self, *words: str, program: str = "y86") -> Answer:
         left = LONGEST_CALL if self.deadline is None else min(LONGEST_CALL, self.deadline - time.monotonic())
         if left <= 0:
             raise OutOfTime
-        answer = self.programs.run(*words, *self.flags, limits=Limits(left))
+        answer = self.programs.run(*words, *self.flags, program=program, limits=Limits(left))
         if answer.status is None and left < LONGEST_CALL:
             raise OutOfTime
         return answer
@@ -76,51 +66,27 @@ class Trial:
             file.write(answer.out)
         return answer.out
 
-    def pipe(self, path: str) -> tuple[list[str], str, str]:
-        """The trace, the line of cycles, and the report of a run on a pipeline."""
-        out = self.call("psim", path, self.object, "--trace", "--limit", str(5 * STEPS)).out
-        trace, _, rest = out.partition("Ran ")
-        cycles, _, report = rest.partition("\n")
-        return trace.splitlines(), cycles, report
+    def by_instructions(self) -> str:
+        """The report of the assembled program's run by its instructions."""
+        return self.call("yis", self.object, "--limit", str(STEPS)).out
 
-    def runs(self, lines: Lines) -> Optional[Runs]:
-        """Both runs of a program; None if the program is none to judge by."""
-        listing = self.assemble(lines)
-        if listing is None:
-            return None
-        wanted = self.call("yis", self.object, "--limit", str(STEPS)).out
-        if "Status 'AOK'" in wanted:
-            return None
-        if self.datapath != "pipe":
-            report = self.call(COMMANDS[self.datapath], self.path, self.object, "--limit", str(STEPS)).out
-            return Runs(listing, [], wanted, [], report, "")
-        trace, cycles, report = self.pipe(self.path)
-        if not self.has_right:
-            return None if writes_code(listing, trace) else Runs(listing, [], wanted, [], report, cycles)
-        right, _, right_report = self.pipe(self.right)
-        if right_report != wanted or writes_code(listing, right):
-            return None
-        return Runs(listing, right, wanted, trace, report, cycles)
+    def on_processor(self) -> str:
+        """The report of the assembled program's run under the file; of a pipeline below the line of its cycles."""
+        return self.call(COMMANDS[self.datapath], self.path, self.object, "--limit", str(LIMIT)).out
+
+    def told(self, *options: str) -> Answer:
+        """Where the assembled program's run under a pipeline differs from that by its instructions, as y86-tell says it."""
+        return self.call("run", self.path, self.object, "--limit", str(LIMIT), "--unchecked", *options, program="y86-tell")
 
     def shows(self, lines: Lines) -> bool:
         """Whether a program shows a mistake of the file."""
-        runs = self.runs(lines)
-        return runs is not None and runs.differ
-
-
-def right_design(full: bool) -> tuple[str, ...]:
-    """The example that is a right pipeline for the instructions."""
-    return ("designs", "with_iaddq.hcl" if full else "std.hcl")
-
-
-def writes_code(listing: str, trace: Lines) -> bool:
-    """Whether a store of the trace meets a byte of a statement that isn't data."""
-    code: set[int] = set()
-    for address, held, source in re.findall(r"^0x([0-9a-f]+): ([0-9a-f]+) *\|(.*)$", listing, re.M):
-        if ".quad" not in source:
-            code |= set(range(int(address, 16), int(address, 16) + len(held) // 2))
-    stores = [int(address, 16) for address in re.findall(r"\[0x([0-9a-f]+)\]=", "\n".join(trace))]
-    return any(not code.isdisjoint(range(address, address + 8)) for address in stores)
+        if self.assemble(lines) is None:
+            return False
+        if self.datapath == "pipe":
+            answer = self.told("--json")
+            return answer.status in (DONE, REFUSED) and shows_mistake(answer.out)
+        wanted = self.by_instructions()
+        return "Status 'AOK'" not in wanted and wanted != self.on_processor()
 
 
 def shortened(trial: Trial, lines: Lines) -> tuple[Lines, bool]:

@@ -1,4 +1,5 @@
 //! The arguments of a call.
+use crate::running::Asked;
 use clap::{Arg, ArgAction, Command, Error};
 use explanations::Path;
 use std::alloc::{AllocError, Global};
@@ -20,6 +21,12 @@ pub enum Call<'a> {
         variant: Variant,
         mem: u64,
         limit: u64,
+    },
+    /// Run a program under an HCL file for PIPE and by its instructions.
+    Run {
+        hcl: &'a str,
+        obj: &'a str,
+        asked: Asked,
     },
     /// Report every fault of a file.
     Fault {
@@ -54,6 +61,32 @@ fn json<'a>(alloc: Global) -> Arg<'a> {
         .help("The same facts as JSON")
 }
 
+/// The argument that is an HCL file.
+fn hcl<'a>(alloc: Global) -> Arg<'a> {
+    Arg::new(alloc, "hcl")
+        .required(true)
+        .action(ArgAction::Set)
+        .help("The HCL file")
+}
+
+/// The argument that is an object file.
+fn obj<'a>(alloc: Global) -> Arg<'a> {
+    Arg::new(alloc, "obj")
+        .required(true)
+        .action(ArgAction::Set)
+        .help("The object file")
+}
+
+/// The option `--limit`.
+fn limit<'a>(alloc: Global, help: &'a str) -> Arg<'a> {
+    Arg::new(alloc, "limit")
+        .long("limit")
+        .action(ArgAction::Set)
+        .value_parser(clap::value_parser!(u64).range(1..=100_000_000))
+        .default_value("10000")
+        .help(help)
+}
+
 /// The command `check`.
 fn check_command<'a>(alloc: Global) -> Result<Command<'a>, AllocError> {
     let path = Arg::new(alloc, "path")
@@ -61,14 +94,10 @@ fn check_command<'a>(alloc: Global) -> Result<Command<'a>, AllocError> {
         .action(ArgAction::Set)
         .value_parser(PATHS.as_slice())
         .help("The processor that the file is for");
-    let hcl = Arg::new(alloc, "hcl")
-        .required(true)
-        .action(ArgAction::Set)
-        .help("The HCL file");
     Command::new(alloc, "check")
         .about("Explain the verdict on an HCL file")
         .arg(path)?
-        .arg(hcl)?
+        .arg(hcl(alloc))?
         .arg(full(alloc))?
         .arg(json(alloc))
 }
@@ -85,24 +114,33 @@ fn mem<'a>(alloc: Global) -> Arg<'a> {
 
 /// The command `program`.
 fn program_command<'a>(alloc: Global) -> Result<Command<'a>, AllocError> {
-    let obj = Arg::new(alloc, "obj")
-        .required(true)
-        .action(ArgAction::Set)
-        .help("The object file");
-    let limit = Arg::new(alloc, "limit")
-        .long("limit")
-        .action(ArgAction::Set)
-        .value_parser(clap::value_parser!(u64).range(1..=100_000_000))
-        .default_value("10000")
-        .help("The most instructions");
     Command::new(alloc, "program")
         .about(
             "Say whether the theorem covers a program: whether it fetches no byte that it has just stored",
         )
-        .arg(obj)?
+        .arg(obj(alloc))?
         .arg(full(alloc))?
         .arg(mem(alloc))?
-        .arg(limit)
+        .arg(limit(alloc, "The most instructions"))
+}
+
+/// The command `run`.
+fn run_command<'a>(alloc: Global) -> Result<Command<'a>, AllocError> {
+    let unchecked = Arg::new(alloc, "unchecked")
+        .long("unchecked")
+        .action(ArgAction::SetTrue)
+        .help("Don't ask the check whether the theorem covers the run");
+    Command::new(alloc, "run")
+        .about(
+            "Run a program on PIPE and by its instructions, and say where they differ; and whether the theorem says beforehand that they don't",
+        )
+        .arg(hcl(alloc))?
+        .arg(obj(alloc))?
+        .arg(full(alloc))?
+        .arg(mem(alloc))?
+        .arg(limit(alloc, "The most cycles"))?
+        .arg(json(alloc))?
+        .arg(unchecked)
 }
 
 /// The command `fault`.
@@ -144,6 +182,7 @@ fn command<'a>(alloc: Global) -> Result<Command<'a>, AllocError> {
         .subcommand(check_command(alloc)?)?
         .subcommand(fault_command(alloc)?)?
         .subcommand(program_command(alloc)?)?
+        .subcommand(run_command(alloc)?)?
         .subcommand(show_command(alloc)?)
 }
 
@@ -187,6 +226,17 @@ pub fn call_of<'a>(alloc: Global, words: &'a [String]) -> Result<Option<Call<'a>
             variant: variant_of(own.get_flag("full")),
             mem: own.get_one::<u64>("mem").unwrap_or(8192),
             limit: own.get_one::<u64>("limit").unwrap_or(10_000),
+        }),
+        "run" => Some(Call::Run {
+            hcl: own.get_str("hcl").unwrap_or(""),
+            obj: own.get_str("obj").unwrap_or(""),
+            asked: Asked {
+                variant: variant_of(own.get_flag("full")),
+                size: own.get_one::<u64>("mem").unwrap_or(8192),
+                limit: own.get_one::<u64>("limit").unwrap_or(10_000),
+                json: own.get_flag("json"),
+                checked: !own.get_flag("unchecked"),
+            },
         }),
         "fault" => Some(Call::Fault {
             file: own.get_str("file").unwrap_or(""),

@@ -22,7 +22,7 @@ use wb_io::Files;
 use y86_base::Variant;
 
 /// The most bytes that an HCL file has.
-const HCL_LIMIT: u64 = 65_536;
+pub const HCL_LIMIT: u64 = 65_536;
 
 /// What is printed, and the status.
 #[derive(Drop)]
@@ -68,7 +68,7 @@ fn control_stop(
 }
 
 /// The text of a JSON writer, with a line end.
-fn json_text(out: Writer<Global>) -> Result<Vec<u8>, AllocError> {
+pub fn json_text(out: Writer<Global>) -> Result<Vec<u8>, AllocError> {
     let mut text = out.into_inner();
     text.push(b'\n')?;
     Ok(text)
@@ -163,7 +163,7 @@ pub fn check_pipe<F: Files>(
 }
 
 /// The stop at a text without a design: every fault of it.
-fn fault_stop(alloc: Global, file: &str, source: &[u8], fault: &NoDesign) -> Stop {
+pub fn fault_stop(alloc: Global, file: &str, source: &[u8], fault: &NoDesign) -> Stop {
     match fault {
         NoDesign::Memory => return Stop::Memory,
         NoDesign::Refused => {}

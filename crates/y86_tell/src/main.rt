@@ -7,6 +7,7 @@ mod checking;
 mod designs;
 mod faulty;
 mod programs;
+mod running;
 mod showing;
 mod stop;
 
@@ -14,6 +15,7 @@ use crate::arguments::{Call, call_of};
 use crate::checking::{Said, check_pipe};
 use crate::faulty::tell_faults;
 use crate::programs::{is_size, report_program};
+use crate::running::{Asked, is_limit, tell_run};
 use crate::showing::show;
 use crate::stop::Stop;
 use explanations::Path;
@@ -24,6 +26,9 @@ use wb_io::{Files, HostFiles, HostSink, Sink, put_all};
 
 /// What is said of a memory whose size is no multiple of 8.
 const ODD_SIZE: &str = "the bytes of memory have to be a multiple of 8\n";
+
+/// What is said of a limit that is out of range.
+const ODD_LIMIT: &str = "the limit has to be from 1 to 100000000\n";
 
 /// Writes what was said, and gives the status.
 fn say<O: Sink>(said: Said, out: &mut O) -> Result<u8, Stop> {
@@ -61,6 +66,15 @@ fn answer<F: Files, O: Sink>(
             } else {
                 Err(Stop::Usage(ODD_SIZE))
             }
+        }
+        Call::Run { hcl, obj, asked } => {
+            if !is_size(asked.size) {
+                return Err(Stop::Usage(ODD_SIZE));
+            }
+            if !is_limit(asked.limit) {
+                return Err(Stop::Usage(ODD_LIMIT));
+            }
+            say(tell_run(alloc, hcl, obj, &asked, files)?, out)
         }
         Call::Fault {
             file,

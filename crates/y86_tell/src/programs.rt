@@ -12,7 +12,7 @@ use y86_base::Variant;
 use yo_object::{YoFault, YoWhy};
 
 /// The most bytes that an object file has.
-const OBJECT_LIMIT: u64 = 1_048_576;
+pub const OBJECT_LIMIT: u64 = 1_048_576;
 
 /// Whether a memory may have this size: a multiple of 8 from 64 to 1,048,576.
 pub fn is_size(size: u64) -> bool
@@ -22,7 +22,7 @@ pub fn is_size(size: u64) -> bool
 }
 
 /// The stop at an object text with a fault.
-fn object_stop(alloc: Global, file: &str, text: &[u8], size: u64, fault: &YoFault) -> Stop
+pub fn object_stop(alloc: Global, file: &str, text: &[u8], size: u64, fault: &YoFault) -> Stop
     requires { IsSize size }
 {
     if fault.why == YoWhy::Memory {

@@ -10,10 +10,10 @@ from typing import Iterator
 
 from .. import explaining, hcl
 from ..arguments import MOST, Command, add_run_options, number_to, run_options
-from ..calls import Limits, Programs, read_text
+from ..calls import Answer, Limits, Programs, read_text
 from ..errors import DONE, OUT_OF_TIME, REFUSED, LabError
 
-COMMANDS = {"pipe": "psim", "seq": "ssim", "seqplus": "ssimp"}
+COMMANDS = {"seq": "ssim", "seqplus": "ssimp"}
 WORD = re.compile(r"^(\s*\.quad\s+)(0x[0-9a-fA-F]+|-?\d+)(\s*(?:#.*)?)$")
 LONG_RUN = 120
 
@@ -31,13 +31,16 @@ def add_arguments(parser: argparse.ArgumentParser) -> None:
 def run(arguments: argparse.Namespace, programs: Programs) -> int:
     datapath = explaining.datapath(hcl.design_of(read_text(arguments.file)))
     options = run_options(arguments)
+    difference = pipeline_difference if datapath == "pipe" else sequential_difference
     tried = 0
     with tempfile.TemporaryDirectory() as folder:
         for words, made in objects(arguments, programs, folder):
-            report, wanted = both(programs, datapath, arguments.file, made, options)
+            told = difference(programs, datapath, arguments.file, made, options)
             tried += 1
-            if report != wanted:
-                print_difference(words, wanted, report)
+            if told:
+                if words:
+                    print(f"The .quad lines were: {' '.join(words)}\n")
+                print(told, end="")
                 return REFUSED
     inputs = "" if tried == 1 else f" with each of {tried} inputs"
     print(f"{arguments.program} ends under {arguments.file} as by its instructions{inputs}.")
@@ -79,28 +82,34 @@ def assembled(arguments: argparse.Namespace, programs: Programs, folder: str, te
     return made
 
 
-def both(programs: Programs, datapath: str, path: str, made: str, options: list[str]) -> tuple[str, str]:
-    """The report on the processor, and the one by the instructions."""
-    limits = Limits(LONG_RUN)
-    by_instructions = programs.run("yis", made, *options, limits=limits)
-    on_processor = programs.run(COMMANDS[datapath], path, made, *options, limits=limits)
-    for answer in (by_instructions, on_processor):
-        if "Stopped in " not in answer.out:
-            status = OUT_OF_TIME if answer.status is None else answer.status or REFUSED
-            raise LabError(answer.err.strip() or "a run gave no report in time", status)
-    return on_processor.out[on_processor.out.index("Stopped in ") :], by_instructions.out
+def pipeline_difference(programs: Programs, _: str, path: str, made: str, options: list[str]) -> str:
+    """Where a pipeline's run differs from that by the instructions, and whether the theorem covers it; empty if nothing differs."""
+    said = answered(programs, "run", path, made, "--unchecked", *options, program="y86-tell")
+    if said.status == DONE:
+        return ""
+    return answered(programs, "run", path, made, *options, program="y86-tell").out
 
 
-def print_difference(words: list[str], wanted: str, report: str) -> None:
-    print("The processor ends otherwise than the instructions say.\n")
-    if words:
-        print(f"The .quad lines were: {' '.join(words)}\n")
+def sequential_difference(programs: Programs, datapath: str, path: str, made: str, options: list[str]) -> str:
+    """The lines in which the reports of SEQ or SEQ+ and of the instructions differ; empty if none does."""
+    wanted = answered(programs, "yis", made, *options).out
+    report = answered(programs, COMMANDS[datapath], path, made, *options).out
+    if report == wanted:
+        return ""
+    lines = ["The processor ends otherwise than the instructions say."]
     for title, text, other in (("by the instructions", wanted, report), ("on the processor", report, wanted)):
-        print(f"{title}:")
         others = set(other.splitlines())
-        for line in text.splitlines():
-            if line and line not in others:
-                print(f"    {line}")
+        lines += ["", f"{title}:", *(f"    {line}" for line in text.splitlines() if line and line not in others)]
+    return "".join(f"{line}\n" for line in lines)
+
+
+def answered(programs: Programs, *words: str, program: str = "y86") -> Answer:
+    """The answer of a call that gives one: a run that ended, at its limit or before."""
+    answer = programs.run(*words, program=program, limits=Limits(LONG_RUN))
+    if answer.status not in (DONE, REFUSED):
+        status = OUT_OF_TIME if answer.status is None else answer.status
+        raise LabError(answer.err.strip() or "a run gave no report in time", status)
+    return answer
 
 
 COMMAND = Command("try", "runs a program on a processor and by its instructions, with many inputs", add_arguments, run)

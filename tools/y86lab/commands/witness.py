@@ -4,6 +4,7 @@ from __future__ import annotations
 import argparse
 import itertools
 import os
+import re
 import tempfile
 from typing import Optional
 
@@ -97,18 +98,26 @@ def first_that_shows(trial: Trial, full: bool, tries: int, seed: int) -> tuple[i
 
 
 def print_witness(trial: Trial, lines: Lines, number: int, is_shortest: bool) -> None:
-    runs = trial.runs(lines)
-    if runs is None:
-        raise LabError("the program that shows the mistake doesn't run a second time")
+    listing = trial.assemble(lines) or ""
+    wanted, (cycles, report) = trial.by_instructions(), parted(trial.on_processor())
     how = "until no line of it can be left out" if is_shortest else "as far as the time was enough"
     print(f"Program {number} shows it. Shortened {how}:\n")
-    print_indented(runs.listing)
+    print_indented(listing)
     print("yis, the instructions one by one:\n")
-    print_indented(runs.wanted)
-    cycles = f", {runs.cycles.split(',')[0]}" if runs.cycles else ""
+    print_indented(wanted)
     print(f"{COMMANDS[trial.datapath]} under {os.path.basename(trial.path)}{cycles}:\n")
-    print_indented(runs.report)
-    print_difference(runs.wanted_trace, runs.trace, runs.wanted, runs.report)
+    print_indented(report)
+    if trial.datapath == "pipe":
+        print(trial.told().out, end="")
+    else:
+        print_difference(wanted, report)
+
+
+def parted(out: str) -> tuple[str, str]:
+    """The cycles of a run on a pipeline, and the report below; of another run the report."""
+    head, _, rest = out.partition("\n")
+    ran = re.match(r"Ran (\d+ cycles)", head)
+    return (f", {ran[1]}", rest) if ran else ("", out)
 
 
 def print_indented(text: str) -> None:
@@ -116,13 +125,8 @@ def print_indented(text: str) -> None:
     print("\n".join(f"    {line}".rstrip() for line in text.splitlines()), end="\n\n")
 
 
-def print_difference(wanted_trace: list[str], trace: list[str], wanted: str, report: str) -> None:
-    """Where two runs part: the first instruction that retires otherwise, or the lines of the reports that differ."""
-    for number, (right, retired) in enumerate(itertools.zip_longest(wanted_trace, trace), 1):
-        if right != retired:
-            print(f"They part at instruction {number}:\n")
-            print(f"    wanted   {right or '(none)'}\n    retired  {retired or '(none)'}")
-            return
+def print_difference(wanted: str, report: str) -> None:
+    """The lines of the reports that differ."""
     print("They part in these lines of the reports:\n")
     lines, others = wanted.splitlines(), report.splitlines()
     for sign, these, those in (("wanted", lines, others), ("got   ", others, lines)):

@@ -1,0 +1,19 @@
+-- The run of a program under an HCL text for PIPE.
+use Rattle.std.specs.Prelude.{ℕ, ◌≡◌, List, Ok, true}
+use Rattle.cosimulation.specs.Agreement.{FindsNone}
+use Rattle.hcl_types.specs.declared.term.Term.{Term}
+use Rattle.run_report.specs.Outcome.{IsOutcome, is_covered}
+use Rattle.run_report.specs.declared.outcome.Outcome.{Outcome}
+use Rattle.y86_base.specs.declared.parts.Variant.{Variant}
+use Rattle.yo_object.specs.ObjectText.{object_of}
+use Rattle.y86_tell.specs.Explained.{HasDesign}
+
+-- The outcome is that of the image of an object text under the design of an HCL text. Where the theorem covers the run, nothing differs.
+pub record IsRun (v : Variant) (source object : List ℕ) (size limit : ℕ) (o : Outcome) : Type 0 where
+  pub terms : List Term
+  pub order : List ℕ
+  pub image : List ℕ
+  pub design : HasDesign source terms
+  pub loads : object_of object size ≡ Ok image
+  pub outcome : IsOutcome v terms order image limit o
+  pub covered : is_covered o.judged o.watched ≡ true → FindsNone o.compared

@@ -1,0 +1,144 @@
+//! `run`: a program under an HCL file for PIPE beside its run by instructions.
+ghost use Rattle.std.specs.Prelude.{◌≡◌, ◌≢◌, ◌↔◌, ◌<◌, ◌^◌, IfOk, true};
+ghost use Rattle.run_report.specs.Outcome.{is_same};
+ghost use Rattle.run_report.specs.declared.outcome.Outcome.{Outcome};
+ghost use Rattle.y86_base.specs.Image.{IsSize};
+ghost use Rattle.y86_tell.specs.Running.{IsRun};
+
+use crate::checking::{HCL_LIMIT, Said, fault_stop, json_text};
+use crate::designs::{NoDesign, Ordered, pipe_design};
+use crate::programs::{OBJECT_LIMIT, object_stop};
+use crate::stop::{Stop, unread};
+use hcl_types::{Row, Table};
+use json::Writer;
+use run_report::{Judged, Outcome, object_outcome, outcome_status, put_outcome, put_outcome_json};
+use std::alloc::{AllocError, Global};
+use wb_io::Files;
+use y86_base::Variant;
+use yo_object::YoFault;
+
+/// What a call of `run` asks, beside its files.
+#[derive(Clone, Copy, Debug)]
+pub struct Asked {
+    pub variant: Variant,
+    /// The bytes of memory.
+    pub size: u64,
+    /// The most cycles.
+    pub limit: u64,
+    pub json: bool,
+    /// Whether the check is asked too.
+    pub checked: bool,
+}
+
+/// Why there is no run.
+#[derive(Clone, Copy, Debug)]
+enum NoRun {
+    Design(NoDesign),
+    Object(YoFault),
+}
+
+/// A run, and the names of its signals.
+#[derive(Drop)]
+struct Run {
+    table: Table,
+    outcome: Outcome,
+}
+
+/// Whether a run may have this limit of cycles.
+pub fn is_limit(limit: u64) -> bool
+    ensures { result ≡ true → limit < 2 ^ 63 }
+{
+    limit >= 1 && limit <= 100_000_000
+}
+
+/// Runs an object text under an HCL text, and by its instructions.
+fn run_texts(alloc: Global, source: &[u8], object: &[u8], asked: &Asked) -> Result<Run, NoRun>
+    requires size { IsSize asked.now.size }
+    requires limit { asked.now.limit < 2 ^ 63 }
+    ensures run { IfOk result (λ run. IsRun asked.now.variant source.now object.now asked.now.size asked.now.limit run.outcome) }
+    ensures asked { IfOk result (λ run. (asked.now.checked ≡ true) ↔ (run.outcome.judged ≢ Judged.Unasked)) }
+{
+    let ordered = match pipe_design(alloc, source) {
+        Ok(ordered) => ordered,
+        Err(fault) => return Err(NoRun::Design(fault)),
+    };
+    let Ordered {
+        table,
+        design,
+        order,
+    } = ordered;
+    match object_outcome(
+        alloc,
+        asked.checked,
+        asked.variant,
+        design,
+        order,
+        object,
+        asked.size,
+        asked.limit,
+    ) {
+        Ok(outcome) => Ok(Run { table, outcome }),
+        Err(fault) => Err(NoRun::Object(fault)),
+    }
+}
+
+/// What is printed of an outcome.
+fn outcome_text(
+    alloc: Global,
+    asked: &Asked,
+    rows: &[Row],
+    outcome: &Outcome,
+) -> Result<Vec<u8>, AllocError> {
+    if asked.json {
+        let mut out = Writer::new(Vec::new(alloc));
+        put_outcome_json(alloc, &mut out, asked.limit, outcome)?;
+        return json_text(out);
+    }
+    let mut out = Vec::new(alloc);
+    match put_outcome(alloc, &mut out, asked.variant, rows, asked.limit, outcome) {
+        Ok(()) => Ok(out),
+        Err(_) => Err(AllocError),
+    }
+}
+
+/// What is said of a run. The status is 0 exactly where both runs ended alike.
+fn said_of(alloc: Global, asked: &Asked, run: &Run) -> Result<Said, AllocError>
+    ensures { IfOk result (λ said. (said.status ≡ 0) ↔ (is_same run.now.outcome.compared ≡ true)) }
+{
+    Ok(Said {
+        status: outcome_status(&run.outcome.compared),
+        text: outcome_text(alloc, asked, run.table.rows.items(), &run.outcome)?,
+    })
+}
+
+/// Runs a program under an HCL file for PIPE and by its instructions, and says where they differ.
+pub fn tell_run<F: Files>(
+    alloc: Global,
+    hcl: &str,
+    obj: &str,
+    asked: &Asked,
+    files: &mut F,
+) -> Result<Said, Stop>
+    requires size { IsSize asked.now.size }
+    requires limit { asked.now.limit < 2 ^ 63 }
+{
+    let source = match files.read(alloc, hcl, HCL_LIMIT) {
+        Ok(source) => source,
+        Err(error) => return Err(unread(error)),
+    };
+    let object = match files.read(alloc, obj, OBJECT_LIMIT) {
+        Ok(object) => object,
+        Err(error) => return Err(unread(error)),
+    };
+    match run_texts(alloc, source.as_slice(), object.as_slice(), asked) {
+        Ok(run) => Ok(said_of(alloc, asked, &run)?),
+        Err(NoRun::Design(fault)) => Err(fault_stop(alloc, hcl, source.as_slice(), &fault)),
+        Err(NoRun::Object(fault)) => Err(object_stop(
+            alloc,
+            obj,
+            object.as_slice(),
+            asked.size,
+            &fault,
+        )),
+    }
+}
