@@ -11,11 +11,15 @@ from helpers.paths import DESIGNS, EXAMPLES, TOP, pipeline_designs
 sys.path.insert(0, f"{TOP}/bench")
 from changed_files import changed, is_name, tokens, with_comparisons
 
-# The most bytes of a certificate, but for a few odd designs, and the most that `recheck` reads.
-MOST, READABLE = 60_000_000, 536_870_912
+# The most bytes of a certificate of a design whose comparisons aren't many.
+MOST = 60_000_000
 
 # A file of a few comparisons of registers, of the kind that made certificates long.
 LONG = "compared_registers"
+
+# A case more in front of those of `f_icode`. In the order with the registers one after another the certificate has 86 MB, and in that of
+# four side by side 48 MB.
+FETCHED = ("word f_icode = [", "(E_srcA == W_dstE || M_dstE == M_dstM && D_rA < d_srcB) : imem_icode;")
 
 
 def read(path):
@@ -23,7 +27,7 @@ def read(path):
         return it.read()
 
 
-def certified(y86, folder, text, *words, most=MOST):
+def certified(y86, folder, text, *words):
     """The line of a yes of the file, if it has one. Then a certificate of it is written, short enough, and accepted."""
     yes = y86("check", "pipe", "d.hcl", *words, files={"d.hcl": text})
     if yes.status:
@@ -31,13 +35,21 @@ def certified(y86, folder, text, *words, most=MOST):
     with open(os.path.join(folder, "d.crt"), "wb") as to:
         written = y86("check", "pipe", "d.hcl", "--cert", *words, stdout=to)
     same((written.status, written.err), (0, b""))
-    assert os.path.getsize(os.path.join(folder, "d.crt")) <= most
+    assert os.path.getsize(os.path.join(folder, "d.crt")) <= MOST
     same(y86("recheck", "d.hcl", "d.crt", *words), (0, yes.out.replace(b"yes", b"holds"), b""))
     return yes.out
 
 
 def test_compared_registers(y86, folder):
     assert certified(y86, folder, read(f"{EXAMPLES}/slow/{LONG}.hcl"))
+
+
+@pytest.mark.slow
+def test_compared_in_fetch(y86, folder):
+    first, case = FETCHED
+    text = read(f"{DESIGNS}/no_bypassing.hcl")
+    assert first in text
+    assert certified(y86, folder, text.replace(first, f"{first} {case}"))
 
 
 def texts():
@@ -67,7 +79,7 @@ def test_comparisons(row, y86, folder):
 @cases([(f"comparisons {20 * k} to {20 * k + 19}", range(20 * k, 20 * k + 20)) for k in range(20)])
 def test_many_comparisons(row, y86, folder):
     for number in row[1]:
-        certified(y86, folder, compared(number), most=READABLE)
+        certified(y86, folder, compared(number))
 
 
 def changed_design(y86, number):
