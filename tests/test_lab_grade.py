@@ -255,19 +255,19 @@ def test_names_of_pages():
         ["ann", "Ann-2", "etc", "rf", "a_b", "Ελένη", "hand-in", "x" * 100])
 
 
-def test_feedback_shows_the_mistake(lab, folder, programs):
-    """The page has what `explain` says, and the program that shows it."""
+def test_feedback_shows_the_mistake(lab, folder):
+    """Without y86-tell the page has what `explain` says; with it test_lab_hostile.py has the words."""
     wrong = changed(design("std"), d_valA="[ D_icode in { ICALL, IJXX } : D_valP; d_srcA == M_dstE : M_valE; @ ]")
     os.mkdir(f"{folder}/in")
     put(folder, {"in/ann.hcl": wrong, "in/bob.hcl": example("std"),
         "r.toml": 'name = "Forwarding"\n[[item]]\nname = "forwarding"\npoints = 6\nfile = "pipe.hcl"\nobligations = ["O6", "O10"]\n'})
-    status, out, err = lab("grade", "in", "--rubric", "r.toml", "--feedback", "pages", "-o", "grades.csv", tell=programs("y86_tell"))
+    status, out, err = lab("grade", "in", "--rubric", "r.toml", "--feedback", "pages", "-o", "grades.csv")
     same((status, out, err), (0, "", ""))
     with open(f"{folder}/grades.csv", encoding="utf-8") as file:
         same(file.read(), "name,points,of,forwarding\nann,3,6,3\nbob,6,6,6\n")
     with open(f"{folder}/pages/ann.html", encoding="utf-8") as file:
         page = html.unescape(re.sub("<[^>]*>", "", file.read()))
-    for text in ("pipe.hcl: no, O10 doesn't hold", " of the program, and does it wrong:\n", "3 of 6 points"):
+    for text in ("pipe.hcl: no, O10 doesn't hold", "3 of 6 points"):
         assert text in page, page
     assert folder not in page
     with open(f"{folder}/pages/bob.html", encoding="utf-8") as file:

@@ -93,6 +93,6 @@ def test_page_shows_what_y86_tell_says(lab, folder):
     # (a conditional move whose condition fails is in E, and what it would write is read in D)
     same([(kind, stage) for kind, stage, _ in boxes], [("good", "F"), ("good", "D"), ("good", "E"), ("bubble", "M"), ("bubble", "W")])
     same((boxes[1][2].partition("<br>")[0], "its condition fails" in boxes[2][2]), ("rrmovq", True))
-    for text in ("no: O10 is false somewhere.", "WRONG  d_valA is e_valE. It has to be d_rvalA.", "They part at instruction"):
+    for text in ("no: O10 is false somewhere.", "WRONG  d_valA is e_valE. It has to be d_rvalA.", " of the program, and does it wrong:"):
         assert text in page, page
     assert folder not in page
