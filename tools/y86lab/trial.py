@@ -10,7 +10,7 @@ from .calls import Answer, Limits, Programs, full_flag
 from .errors import DONE, REFUSED
 from .trial_programs import Lines
 
-# The most steps of a program; of cycles it has five times as many, which are enough for each pipeline that the check accepts.
+# The most steps of a program. Five cycles for each are enough for every pipeline that the check accepts.
 STEPS = 2000
 LIMIT = 5 * STEPS
 LONGEST_CALL = 120
@@ -26,11 +26,11 @@ def source_of(lines: Lines) -> str:
 
 
 def shows_mistake(told: str) -> bool:
-    """Whether a run that y86-tell tells in JSON shows a mistake of its pipeline: another instruction or state, or no end in time."""
+    """Whether a run, as y86-tell says it in JSON, shows a mistake of its pipeline: a difference, or no end in time."""
     run = json.loads(told)
     if run["premise"] != "holds" or run["steps"] > STEPS:
         return False
-    return run["outcome"] != "same"
+    return bool(run["outcome"] != "same")
 
 
 class Trial:
@@ -75,8 +75,9 @@ class Trial:
         return self.call(COMMANDS[self.datapath], self.path, self.object, "--limit", str(LIMIT)).out
 
     def told(self, *options: str) -> Answer:
-        """Where the assembled program's run under a pipeline differs from that by its instructions, as y86-tell says it."""
-        return self.call("run", self.path, self.object, "--limit", str(LIMIT), "--unchecked", *options, program="y86-tell")
+        """Where the assembled program's run differs from that by its instructions, as y86-tell says it."""
+        words = ["run", self.path, self.object, "--limit", str(LIMIT), "--unchecked", *options]
+        return self.call(*words, program="y86-tell")
 
     def shows(self, lines: Lines) -> bool:
         """Whether a program shows a mistake of the file."""

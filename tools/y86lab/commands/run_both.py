@@ -83,7 +83,7 @@ def assembled(arguments: argparse.Namespace, programs: Programs, folder: str, te
 
 
 def pipeline_difference(programs: Programs, _: str, path: str, made: str, options: list[str]) -> str:
-    """Where a pipeline's run differs from that by the instructions, and whether the theorem covers it; empty if nothing differs."""
+    """Where a pipeline's run differs, and whether the theorem covers it; empty if nothing differs."""
     said = answered(programs, "run", path, made, "--unchecked", *options, program="y86-tell")
     if said.status == DONE:
         return ""
