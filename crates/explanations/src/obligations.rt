@@ -4,6 +4,10 @@
 #[derive(Clone, Copy, Debug)]
 pub struct Obligation {
     pub label: &'static str,
+    /// What kind of work it is about; a rubric may name it.
+    pub group: &'static str,
+    /// What it is about, in a few words.
+    pub brief: &'static str,
     /// The signals that it is about, each followed by a blank but the last.
     pub signals: &'static str,
     pub demand: &'static str,
@@ -20,10 +24,12 @@ pub enum Path {
     Pipe,
 }
 
-/// The obligations of PIPE.
-static PIPE: [Obligation; 27] = [
+/// The obligations of PIPE on fetch: O1 to O5.
+static FETCH: [Obligation; 5] = [
     Obligation {
         label: "O1",
+        group: "fetch",
+        brief: "the instruction and its function are those that were fetched",
         signals: "f_icode f_ifun",
         demand: "`f_icode` is `imem_icode`, and `f_ifun` is `imem_ifun`.",
         reason: "Everything after the fetch depends on these two numbers: with another icode, another instruction is executed.",
@@ -31,6 +37,8 @@ static PIPE: [Obligation; 27] = [
     },
     Obligation {
         label: "O2",
+        group: "fetch",
+        brief: "the status that the instruction takes along",
         signals: "f_stat",
         demand: "`f_stat` is 3 (ADR) if the fetch failed. Otherwise it is 4 (INS) for an invalid instruction, 2 (HLT) for `halt`, and 1 (AOK) for all others.",
         reason: "The status travels with the instruction. It decides where the machine stops, and with what status.",
@@ -38,6 +46,8 @@ static PIPE: [Obligation; 27] = [
     },
     Obligation {
         label: "O3",
+        group: "fetch",
+        brief: "there is a register byte, or none",
         signals: "need_regids",
         demand: "`need_regids` is 1 exactly if the instruction has a register byte.",
         reason: "Without that byte, valC and valP are taken one byte too early, and rA and rB are lost.",
@@ -45,6 +55,8 @@ static PIPE: [Obligation; 27] = [
     },
     Obligation {
         label: "O4",
+        group: "fetch",
+        brief: "there is a constant, or none",
         signals: "need_valC",
         demand: "`need_valC` is 1 exactly if the instruction has a constant.",
         reason: "Without the constant, valC is 0, and valP points into the constant.",
@@ -52,55 +64,79 @@ static PIPE: [Obligation; 27] = [
     },
     Obligation {
         label: "O5",
+        group: "fetch",
+        brief: "the predicted PC, as the file predicts jumps",
         signals: "f_predPC",
-        demand: "`f_predPC` is the predicted PC: valC for a `call`, valC or valP for a jump as the file predicts it, and valP for all others. After `halt`, `ret`, an invalid instruction or a failed fetch, it may be anything.",
+        demand: "`f_predPC` is the predicted PC: valC for a `call`, valC or valP for a jump as the file predicts it (`pt` and `pb`), and valP for all others. For `halt`, `ret`, an invalid instruction and a failed fetch it may be anything.",
         reason: "The next fetch goes there. A wrong prediction is repaired only for jumps, so it must be right for all others.",
         book: "section 4.5.4 (next PC prediction)",
     },
+];
+
+/// The obligations of PIPE on decode: O6 to O11.
+static DECODE: [Obligation; 6] = [
     Obligation {
         label: "O6",
+        group: "decode and forwarding",
+        brief: "the register that valA is read from",
         signals: "d_srcA",
-        demand: "`d_srcA` is the register that the instruction in D reads as valA, and 15 (RNONE) if it reads none.",
+        demand: "`d_srcA` is the register that the instruction in D reads as valA, and 15 (RNONE) if it reads none. This applies to bubbles and on the wrong path too.",
         reason: "Otherwise valA would be the word of another register.",
         book: "sections 4.3.4 and 4.5.7 (decode and write-back)",
     },
     Obligation {
         label: "O7",
+        group: "decode and forwarding",
+        brief: "the register that valB is read from",
         signals: "d_srcB",
-        demand: "`d_srcB` is the register that the instruction in D reads as valB, and 15 (RNONE) if it reads none.",
+        demand: "`d_srcB` is the register that the instruction in D reads as valB, and 15 (RNONE) if it reads none. This applies to bubbles and on the wrong path too.",
         reason: "Otherwise valB would be the word of another register.",
         book: "sections 4.3.4 and 4.5.7 (decode and write-back)",
     },
     Obligation {
         label: "O8",
+        group: "decode and forwarding",
+        brief: "the register that valE is written to",
         signals: "d_dstE",
-        demand: "`d_dstE` is the register that valE is written to, and 15 (RNONE) if there is none. For a conditional move it is the register as if the condition held.",
-        reason: "Otherwise the result would go to another register, or get lost. A bubble that writes a register is no bubble, so this applies to bubbles too.",
+        demand: "`d_dstE` is the register that valE is written to, and 15 (RNONE) if there is none. For a conditional move it is the register as if the condition held. This applies to bubbles and on the wrong path too.",
+        reason: "Otherwise the result would go to another register, or get lost. A bubble that writes a register is no bubble.",
         book: "sections 4.3.4 and 4.5.7 (decode and write-back)",
     },
     Obligation {
         label: "O9",
+        group: "decode and forwarding",
+        brief: "the register that valM is written to",
         signals: "d_dstM",
-        demand: "`d_dstM` is the register that valM is written to, and 15 (RNONE) if there is none.",
+        demand: "`d_dstM` is the register that valM is written to, and 15 (RNONE) if there is none. This applies to bubbles and on the wrong path too.",
         reason: "Otherwise the loaded word would go to another register, or get lost.",
         book: "sections 4.3.4 and 4.5.7 (decode and write-back)",
     },
     Obligation {
         label: "O10",
+        group: "decode and forwarding",
+        brief: "valA is the newest word of its register; an instruction that has to wait for it waits",
         signals: "d_valA D_stall E_stall E_bubble",
-        demand: "When an instruction of the program leaves D, `d_valA` is the newest word of its source register. That is the word of the youngest older instruction that writes the register: `e_valE`, `m_valM`, `M_valE`, `W_valM` or `W_valE`, in this order, and `d_rvalA` if there is none. For a jump or a `call`, `d_valA` is valP. While the instruction in E is still loading the register, no choice is right: the instruction in D must wait.",
+        demand: "When an instruction of the program leaves D, `d_valA` is the newest word of its source register `d_srcA`, if that is a register. This is the word of the youngest older instruction that writes the register: `e_valE`, `m_valM`, `M_valE`, `W_valM` or `W_valE`, in this order, and `d_rvalA` if there is none. For a jump or a `call`, `d_valA` is valP. While the instruction in E is still loading the register, no choice is right: the instruction in D must wait. With load forwarding (`lf`), a store or push needn't wait for the word that it stores.",
         reason: "This is forwarding: the register file doesn't have the newest words yet.",
         book: "sections 4.5.5 (pipeline hazards) and 4.5.7 (decode and write-back)",
     },
     Obligation {
         label: "O11",
+        group: "decode and forwarding",
+        brief: "valB is the newest word of its register; an instruction that has to wait for it waits",
         signals: "d_valB D_stall E_stall E_bubble",
-        demand: "When an instruction of the program leaves D, `d_valB` is the newest word of its source register: `e_valE`, `m_valM`, `M_valE`, `W_valM` or `W_valE`, in this order, and `d_rvalB` if none of these writes the register. While the instruction in E is still loading the register, the instruction in D must wait.",
+        demand: "When an instruction of the program leaves D, `d_valB` is the newest word of its source register `d_srcB`, if that is a register: `e_valE`, `m_valM`, `M_valE`, `W_valM` or `W_valE`, in this order, and `d_rvalB` if none of these writes the register. While the instruction in E is still loading the register, the instruction in D must wait. A store or push has no exception here.",
         reason: "This is forwarding: the register file doesn't have the newest words yet.",
         book: "sections 4.5.5 (pipeline hazards) and 4.5.7 (decode and write-back)",
     },
+];
+
+/// The obligations of PIPE on execute: O12 to O17.
+static EXECUTE: [Obligation; 6] = [
     Obligation {
         label: "O12",
+        group: "execute",
+        brief: "the ALU's first operand",
         signals: "aluA",
         demand: "For an instruction of the program in E with status AOK, `aluA` is the first operand of its row: valA, valC, -8 or 8, if there is one.",
         reason: "Otherwise the ALU would work on another word.",
@@ -108,6 +144,8 @@ static PIPE: [Obligation; 27] = [
     },
     Obligation {
         label: "O13",
+        group: "execute",
+        brief: "the ALU's second operand",
         signals: "aluB",
         demand: "For an instruction of the program in E with status AOK, `aluB` is the second operand of its row: 0 or valB, if there is one.",
         reason: "Otherwise the ALU would work on another word.",
@@ -115,6 +153,8 @@ static PIPE: [Obligation; 27] = [
     },
     Obligation {
         label: "O14",
+        group: "execute",
+        brief: "the ALU's function",
         signals: "alufun",
         demand: "For an instruction of the program in E with status AOK, `alufun` is the ifun of an OPq, and 0 (addition) for all others that use the ALU.",
         reason: "Otherwise the ALU would compute something else.",
@@ -122,6 +162,8 @@ static PIPE: [Obligation; 27] = [
     },
     Obligation {
         label: "O15",
+        group: "execute",
+        brief: "the flags are set by what the program does, and by nothing else",
         signals: "set_cc",
         demand: "`set_cc` is 1 exactly if E has an instruction of the program with status AOK that sets the flags. This applies to cycles that stop the machine too.",
         reason: "An instruction on the wrong path, or after one that stops the machine, must not change the flags.",
@@ -129,20 +171,30 @@ static PIPE: [Obligation; 27] = [
     },
     Obligation {
         label: "O16",
+        group: "execute",
+        brief: "valA goes on to memory",
         signals: "e_valA",
-        demand: "For an instruction of the program in E that needs valA in M, `e_valA` is `E_valA`. With load forwarding, a store or push takes the word from the load in M, `m_valM`.",
+        demand: "For an instruction of the program in E that needs valA in M, `e_valA` is `E_valA`: the word of a store or push, the address of a `popq` or `ret`, valP of a `call`, or where a jump goes on that isn't taken. With load forwarding (`lf`), a store or push takes its word from a load of it in M, `m_valM`.",
         reason: "Otherwise M would store another word or read at another address, or a mispredicted jump would go on elsewhere.",
         book: "section 4.5.7 (execute)",
     },
     Obligation {
         label: "O17",
+        group: "execute",
+        brief: "a conditional move is done if its condition holds",
         signals: "e_dstE",
-        demand: "`e_dstE` is 15 (RNONE) for a conditional move whose condition fails, and `E_dstE` otherwise.",
+        demand: "For an instruction of the program in E, and for a bubble, `e_dstE` is 15 (RNONE) for a conditional move whose condition fails, and `E_dstE` otherwise.",
         reason: "Otherwise a move would be done in spite of its condition, or never.",
         book: "section 4.5.7 (execute)",
     },
+];
+
+/// The obligations of PIPE on memory and write-back: O18 to O22.
+static MEMORY: [Obligation; 5] = [
     Obligation {
         label: "O18",
+        group: "memory",
+        brief: "the address in memory",
         signals: "mem_addr",
         demand: "For an instruction of the program in M that accesses memory, `mem_addr` is its address: `M_valE`, or `M_valA` for `popq` and `ret`.",
         reason: "Otherwise another word would be read or written.",
@@ -150,6 +202,8 @@ static PIPE: [Obligation; 27] = [
     },
     Obligation {
         label: "O19",
+        group: "memory",
+        brief: "memory is read, is written, or neither",
         signals: "mem_read mem_write",
         demand: "`mem_read` is 1 exactly if M has an instruction of the program that loads, and `mem_write` exactly if it has one that stores. This applies to cycles that stop the machine too.",
         reason: "Otherwise a store would be lost, or a word would be written that no instruction writes.",
@@ -157,13 +211,17 @@ static PIPE: [Obligation; 27] = [
     },
     Obligation {
         label: "O20",
+        group: "exceptions",
+        brief: "a bad address becomes the status",
         signals: "m_stat",
-        demand: "`m_stat` is 3 (ADR) if the access to memory fails, and `M_stat` otherwise.",
+        demand: "`m_stat` is 3 (ADR) if the access to memory fails, and `M_stat` otherwise. This applies to bubbles too.",
         reason: "Otherwise the machine would go on after a bad address. A bubble must keep its status 0.",
         book: "sections 4.5.6 and 4.5.7 (memory)",
     },
     Obligation {
         label: "O21",
+        group: "write-back",
+        brief: "what W holds is written",
         signals: "w_dstE w_valE w_dstM w_valM",
         demand: "For an instruction of the program in W, `w_dstE`, `w_valE`, `w_dstM` and `w_valM` are what W holds.",
         reason: "Otherwise the register file would get other words.",
@@ -171,13 +229,21 @@ static PIPE: [Obligation; 27] = [
     },
     Obligation {
         label: "O22",
+        group: "exceptions",
+        brief: "the status of the machine",
         signals: "Stat",
-        demand: "`Stat` is the status of the instruction of the program in W, and 1 (AOK) if W has a bubble.",
+        demand: "`Stat` is the status of the instruction of the program in W, and 1 (AOK) if W has a bubble. This applies to cycles that stop the machine too.",
         reason: "The machine stops by it: at the right instruction, and never at a bubble.",
         book: "sections 4.5.6 and 4.5.7 (memory)",
     },
+];
+
+/// The obligations of PIPE on motion: O23 to O27.
+static MOTION: [Obligation; 5] = [
     Obligation {
         label: "O23",
+        group: "hazards",
+        brief: "no register is stalled and bubbled at once",
         signals: "F_stall F_bubble D_stall D_bubble E_stall E_bubble M_stall M_bubble W_stall W_bubble",
         demand: "No pipeline register is stalled and bubbled in one cycle.",
         reason: "That has no meaning: the machine ends there with status PIP.",
@@ -185,20 +251,26 @@ static PIPE: [Obligation; 27] = [
     },
     Obligation {
         label: "O24",
+        group: "hazards",
+        brief: "no instruction is lost, and none is done twice",
         signals: "D_stall E_stall E_bubble M_stall M_bubble W_stall W_bubble",
-        demand: "No instruction of the program is lost, and none is done twice. One in W isn't stalled. One in M or E goes on to the next stage. One in D goes on, or it is stalled and E doesn't load it.",
+        demand: "No instruction of the program is lost, and none is done twice. One in W isn't stalled. One in M or E goes on to the next stage, and its own doesn't keep it. One in D goes on, or it is stalled and E doesn't load it.",
         reason: "Otherwise an instruction would be done never or twice.",
         book: "section 4.5.8 (pipeline control logic)",
     },
     Obligation {
         label: "O25",
+        group: "hazards",
+        brief: "instructions on the wrong path are cancelled, and the fetch follows the program",
         signals: "f_pc F_stall F_bubble D_stall D_bubble E_stall E_bubble M_stall M_bubble W_stall W_bubble",
-        demand: "The next cycle is legal again. No instruction on the wrong path reaches M or W. The predicted PC is right then, or something ahead of it will repair it.",
+        demand: "The next cycle is again one of the situations that are considered (rules 1 to 5 of docs/OBLIGATIONS.md). No instruction on the wrong path reaches M or W. If the next cycle needs a right predicted PC, it has one: F loads if D loads the program's next instruction, and otherwise F is stalled and its predicted PC is right now.",
         reason: "This is how a pipeline stays right: it cancels instructions on the wrong path before they change anything, it skips none and fetches none twice, and the fetch follows the program.",
         book: "sections 4.5.5 (control hazards) and 4.5.8",
     },
     Obligation {
         label: "O26",
+        group: "hazards",
+        brief: "no instruction waits in D forever",
         signals: "D_stall E_stall E_bubble",
         demand: "If D has an instruction of the program and E, M and W have bubbles, the instruction leaves D.",
         reason: "Otherwise it could wait forever.",
@@ -206,6 +278,8 @@ static PIPE: [Obligation; 27] = [
     },
     Obligation {
         label: "O27",
+        group: "hazards",
+        brief: "an empty pipeline fetches",
         signals: "D_stall D_bubble",
         demand: "If D, E, M and W have bubbles, D loads.",
         reason: "Otherwise the machine could wait forever without an instruction.",
@@ -213,10 +287,12 @@ static PIPE: [Obligation; 27] = [
     },
 ];
 
-/// The obligations of SEQ, of which the first 15 are those of SEQ+ too.
-static SEQ: [Obligation; 16] = [
+/// The obligations of SEQ and SEQ+ up to write-back: S1 to S7.
+static SEQ_FIRST: [Obligation; 7] = [
     Obligation {
         label: "S1",
+        group: "fetch",
+        brief: "the instruction and its function are those that were read",
         signals: "icode ifun",
         demand: "`icode` is `imem_icode`, and `ifun` is `imem_ifun`.",
         reason: "Everything else depends on these two numbers.",
@@ -224,6 +300,8 @@ static SEQ: [Obligation; 16] = [
     },
     Obligation {
         label: "S2",
+        group: "fetch",
+        brief: "there is a register byte, or none",
         signals: "need_regids",
         demand: "`need_regids` is 1 exactly if the instruction has a register byte.",
         reason: "Without that byte, valC and valP are taken one byte too early, and rA and rB are lost.",
@@ -231,6 +309,8 @@ static SEQ: [Obligation; 16] = [
     },
     Obligation {
         label: "S3",
+        group: "fetch",
+        brief: "there is a constant, or none",
         signals: "need_valC",
         demand: "`need_valC` is 1 exactly if the instruction has a constant.",
         reason: "Without the constant, valC is 0, and valP points into the constant.",
@@ -238,6 +318,8 @@ static SEQ: [Obligation; 16] = [
     },
     Obligation {
         label: "S4",
+        group: "decode and forwarding",
+        brief: "the register that valA is read from",
         signals: "srcA",
         demand: "`srcA` is the register that the instruction reads as valA, and 15 (RNONE) if it reads none.",
         reason: "Otherwise valA would be the word of another register.",
@@ -245,6 +327,8 @@ static SEQ: [Obligation; 16] = [
     },
     Obligation {
         label: "S5",
+        group: "decode and forwarding",
+        brief: "the register that valB is read from",
         signals: "srcB",
         demand: "`srcB` is the register that the instruction reads as valB, and 15 (RNONE) if it reads none.",
         reason: "Otherwise valB would be the word of another register.",
@@ -252,6 +336,8 @@ static SEQ: [Obligation; 16] = [
     },
     Obligation {
         label: "S6",
+        group: "decode and forwarding",
+        brief: "the register that valE is written to",
         signals: "dstE",
         demand: "`dstE` is the register that valE is written to, and 15 (RNONE) if there is none. For a conditional move there is one only if `Cnd` is 1.",
         reason: "Otherwise the result would go to another register, or get lost.",
@@ -259,13 +345,21 @@ static SEQ: [Obligation; 16] = [
     },
     Obligation {
         label: "S7",
+        group: "decode and forwarding",
+        brief: "the register that valM is written to",
         signals: "dstM",
         demand: "`dstM` is the register that valM is written to, and 15 (RNONE) if there is none.",
         reason: "Otherwise the loaded word would go to another register, or get lost.",
         book: "section 4.3.4 (decode and write-back)",
     },
+];
+
+/// The others of SEQ, S8 to S16. All but the last one are those of SEQ+ too.
+static SEQ_LAST: [Obligation; 9] = [
     Obligation {
         label: "S8",
+        group: "execute",
+        brief: "the ALU's first operand",
         signals: "aluA",
         demand: "`aluA` is the first operand of the instruction's row: valA, valC, -8 or 8, if there is one.",
         reason: "Otherwise the ALU would work on another word.",
@@ -273,6 +367,8 @@ static SEQ: [Obligation; 16] = [
     },
     Obligation {
         label: "S9",
+        group: "execute",
+        brief: "the ALU's second operand",
         signals: "aluB",
         demand: "`aluB` is the second operand of the instruction's row: 0 or valB, if there is one.",
         reason: "Otherwise the ALU would work on another word.",
@@ -280,6 +376,8 @@ static SEQ: [Obligation; 16] = [
     },
     Obligation {
         label: "S10",
+        group: "execute",
+        brief: "the ALU's function",
         signals: "alufun",
         demand: "`alufun` is the ifun of an OPq, and 0 (addition) for all others that use the ALU.",
         reason: "Otherwise the ALU would compute something else.",
@@ -287,6 +385,8 @@ static SEQ: [Obligation; 16] = [
     },
     Obligation {
         label: "S11",
+        group: "execute",
+        brief: "the flags are set, or not",
         signals: "set_cc",
         demand: "`set_cc` is 1 exactly for an instruction that sets the flags: OPq, and `iaddq` with `--full`.",
         reason: "Otherwise flags would change, or not, where the program doesn't say so.",
@@ -294,6 +394,8 @@ static SEQ: [Obligation; 16] = [
     },
     Obligation {
         label: "S12",
+        group: "memory",
+        brief: "the address in memory",
         signals: "mem_addr",
         demand: "For an instruction that accesses memory, `mem_addr` is its address: valE, or valA for `popq` and `ret`.",
         reason: "Otherwise another word would be read or written.",
@@ -301,6 +403,8 @@ static SEQ: [Obligation; 16] = [
     },
     Obligation {
         label: "S13",
+        group: "memory",
+        brief: "memory is read, is written, or neither",
         signals: "mem_read mem_write",
         demand: "`mem_read` is 1 exactly for an instruction that loads, and `mem_write` exactly for one that stores.",
         reason: "Otherwise a store would be lost, or a word would be written that no instruction writes.",
@@ -308,6 +412,8 @@ static SEQ: [Obligation; 16] = [
     },
     Obligation {
         label: "S14",
+        group: "memory",
+        brief: "the word that is written to memory",
         signals: "mem_data",
         demand: "`mem_data` is the word that is stored: valA, or valP for a `call`.",
         reason: "Otherwise another word would be stored.",
@@ -315,6 +421,8 @@ static SEQ: [Obligation; 16] = [
     },
     Obligation {
         label: "S15",
+        group: "exceptions",
+        brief: "the status",
         signals: "Stat",
         demand: "`Stat` is 3 (ADR) if the fetch or the access to memory failed. Otherwise it is 4 (INS) for an invalid instruction, 2 (HLT) for `halt`, and 1 (AOK) for all others.",
         reason: "Otherwise the machine would stop elsewhere, or with another status.",
@@ -322,6 +430,8 @@ static SEQ: [Obligation; 16] = [
     },
     Obligation {
         label: "S16",
+        group: "next address",
+        brief: "the next PC",
         signals: "new_pc",
         demand: "If the status is 1 (AOK), `new_pc` is the next PC: valC for a `call` and a jump that is taken, valM for a `ret`, and valP for all others.",
         reason: "Otherwise the program would go on elsewhere.",
@@ -332,27 +442,78 @@ static SEQ: [Obligation; 16] = [
 /// The last obligation of SEQ+.
 static SEQ_PLUS_LAST: [Obligation; 1] = [Obligation {
     label: "S16",
+    group: "next address",
+    brief: "the PC, by the instruction before",
     signals: "pc",
     demand: "`pc` is where the instruction before goes on: pValC for a `call` and for a jump with `pCnd` 1, pValM for a `ret`, and pValP for all others.",
     reason: "Otherwise the run would leave the program. No cycle follows an instruction that faults, so there is no exception for faults.",
     book: "section 4.5.1",
 }];
 
-/// The obligations of a datapath from the first one on. SEQ+'s last one is apart.
-fn table(path: Path) -> &'static [Obligation] {
-    match path {
-        Path::Seq => &SEQ,
-        Path::SeqPlus => &SEQ,
-        Path::Pipe => &PIPE,
+fn fetch() -> &'static [Obligation] {
+    &FETCH
+}
+
+fn decode() -> &'static [Obligation] {
+    &DECODE
+}
+
+fn execute() -> &'static [Obligation] {
+    &EXECUTE
+}
+
+fn memory() -> &'static [Obligation] {
+    &MEMORY
+}
+
+fn motion() -> &'static [Obligation] {
+    &MOTION
+}
+
+fn seq_first() -> &'static [Obligation] {
+    &SEQ_FIRST
+}
+
+fn seq_last() -> &'static [Obligation] {
+    &SEQ_LAST
+}
+
+fn seq_plus_last() -> &'static [Obligation] {
+    &SEQ_PLUS_LAST
+}
+
+/// The obligation with this place in a group whose first one has this number.
+fn from(group: &'static [Obligation], first: usize, number: usize) -> Option<&'static Obligation> {
+    group.get(number.wrapping_sub(first))
+}
+
+/// The obligation of PIPE with this number.
+fn pipe_obligation(number: usize) -> Option<&'static Obligation> {
+    if number <= 5 {
+        from(fetch(), 1, number)
+    } else if number <= 11 {
+        from(decode(), 6, number)
+    } else if number <= 17 {
+        from(execute(), 12, number)
+    } else if number <= 22 {
+        from(memory(), 18, number)
+    } else {
+        from(motion(), 23, number)
     }
 }
 
 /// The obligation of a datapath with this number, counted from 1.
 pub fn obligation_at(path: Path, number: u32) -> Option<&'static Obligation> {
-    if path == Path::SeqPlus && number == 16 {
-        return SEQ_PLUS_LAST.get(0);
+    let place = number as usize;
+    if path == Path::Pipe {
+        pipe_obligation(place)
+    } else if place <= 7 {
+        from(seq_first(), 1, place)
+    } else if path == Path::SeqPlus && place == 16 {
+        from(seq_plus_last(), 16, place)
+    } else {
+        from(seq_last(), 8, place)
     }
-    table(path).get((number as usize).wrapping_sub(1))
 }
 
 /// How many obligations a datapath has.

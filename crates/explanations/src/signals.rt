@@ -365,56 +365,37 @@ fn find(stage: &'static str, signals: &'static [Signal], name: &str) -> Option<S
     None
 }
 
-/// PIPE's signal with this name.
-fn pipe_signal(name: &str) -> Option<Staged>
-    ensures { IfSome result (λ found. found.signal.now.name.now ≡ name.now) }
-{
-    if let Some(found) = find("fetch", &PIPE_FETCH, name) {
-        return Some(found);
-    }
-    if let Some(found) = find("decode", &PIPE_DECODE, name) {
-        return Some(found);
-    }
-    if let Some(found) = find("execute", &PIPE_EXECUTE, name) {
-        return Some(found);
-    }
-    if let Some(found) = find("memory", &PIPE_MEMORY, name) {
-        return Some(found);
-    }
-    if let Some(found) = find("write-back", &PIPE_WRITE_BACK, name) {
-        return Some(found);
-    }
-    find("pipeline control", &PIPE_PIPELINE_CONTROL, name)
-}
+/// The number of groups of signals.
+pub const GROUP_COUNT: usize = 12;
 
-/// The signal with this name that only SEQ or SEQ+ has.
-fn seq_signal(name: &str) -> Option<Staged>
-    ensures { IfSome result (λ found. found.signal.now.name.now ≡ name.now) }
-{
-    if let Some(found) = find("fetch", &SEQ_FETCH, name) {
-        return Some(found);
+/// A group of signals: its stage, and the signals. The first six are PIPE's. The others only SEQ or SEQ+ has.
+pub fn signal_group(number: usize) -> (&'static str, &'static [Signal]) {
+    match number {
+        0 => ("fetch", &PIPE_FETCH),
+        1 => ("decode", &PIPE_DECODE),
+        2 => ("execute", &PIPE_EXECUTE),
+        3 => ("memory", &PIPE_MEMORY),
+        4 => ("write-back", &PIPE_WRITE_BACK),
+        5 => ("pipeline control", &PIPE_PIPELINE_CONTROL),
+        6 => ("fetch", &SEQ_FETCH),
+        7 => ("decode", &SEQ_DECODE),
+        8 => ("write-back", &SEQ_WRITE_BACK),
+        9 => ("memory", &SEQ_MEMORY),
+        10 => ("PC update", &SEQ_PC_UPDATE),
+        11 => ("execute", &SEQ_EXECUTE),
+        _ => ("", &[]),
     }
-    if let Some(found) = find("decode", &SEQ_DECODE, name) {
-        return Some(found);
-    }
-    if let Some(found) = find("write-back", &SEQ_WRITE_BACK, name) {
-        return Some(found);
-    }
-    if let Some(found) = find("memory", &SEQ_MEMORY, name) {
-        return Some(found);
-    }
-    if let Some(found) = find("PC update", &SEQ_PC_UPDATE, name) {
-        return Some(found);
-    }
-    find("execute", &SEQ_EXECUTE, name)
 }
 
 /// The signal with this name that a file defines or a block gives. Fields of pipeline registers have no entry.
 pub fn signal_named(name: &str) -> Option<Staged>
     ensures { IfSome result (λ found. found.signal.now.name.now ≡ name.now) }
 {
-    match pipe_signal(name) {
-        Some(found) => Some(found),
-        None => seq_signal(name),
+    for number in 0..GROUP_COUNT {
+        let (stage, signals) = signal_group(number);
+        if let Some(found) = find(stage, signals, name) {
+            return Some(found);
+        }
     }
+    None
 }

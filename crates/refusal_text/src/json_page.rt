@@ -1,140 +1,19 @@
 //! A refusal as JSON: the same facts as its page, with names that are stable.
-use crate::findings::names_read;
 use crate::mending::{first_to_mend, is_motion};
 use crate::motion::{Motion, motion_faults, motion_of};
-use crate::page::{CasePlace, place_of};
 use crate::scene::{Scene, scene_of};
 use crate::settings::put_settings_json;
 use crate::stages::kind_name;
-use crate::words::value_name;
-use ctl_atoms::{AtomKind, Leaf};
 use explanations::{Path, obligation_at};
+use finding_text::{
+    CasePlace, Out, put_comparison_facts, put_finding_facts, put_number, put_obligation_facts,
+    put_text, put_truth,
+};
 use hcl_types::{NameId, Row, Term};
-use json::Writer;
-use pipe_diagnosis::{Finding, Refusal, Refutation};
-use pipe_fields::BIT_COUNT;
-use pipe_requirements::{Lines, MoverNow, SlotNow, Wanted};
+use pipe_diagnosis::{Refusal, Refutation};
+use pipe_requirements::{Lines, MoverNow, SlotNow};
 use std::alloc::{AllocError, Global};
 use y86_base::Variant;
-
-type Out = Writer<Global>;
-
-fn put_text(out: &mut Out, name: &str, text: &str) -> Result<(), AllocError> {
-    out.key(name)?;
-    out.string(text)
-}
-
-fn put_number(out: &mut Out, name: &str, n: u64) -> Result<(), AllocError> {
-    out.key(name)?;
-    out.u64(n)
-}
-
-fn put_truth(out: &mut Out, name: &str, truth: bool) -> Result<(), AllocError> {
-    out.key(name)?;
-    out.boolean(truth)
-}
-
-/// Writes a control value of a signal: `{"name": ..}`, or `{"number": .., "constant": ..}`.
-fn put_leaf(out: &mut Out, scene: &Scene<'_>, id: NameId, leaf: Leaf) -> Result<(), AllocError> {
-    out.begin_object()?;
-    match leaf {
-        Leaf::Name(name) => put_text(out, "name", scene.name(name))?,
-        Leaf::Number(n) => {
-            put_number(out, "number", n)?;
-            if let Some(constant) = value_name(scene.name(id), n) {
-                put_text(out, "constant", constant)?;
-            }
-        }
-    }
-    out.end_object()
-}
-
-fn put_wanted(
-    out: &mut Out,
-    scene: &Scene<'_>,
-    id: NameId,
-    wanted: Wanted,
-) -> Result<(), AllocError> {
-    out.key("wanted")?;
-    match wanted {
-        Wanted::Word(leaf) => put_leaf(out, scene, id, leaf),
-        Wanted::Truth(true) => put_leaf(out, scene, id, Leaf::Number(1)),
-        Wanted::Truth(false) => put_leaf(out, scene, id, Leaf::Number(0)),
-        Wanted::Nothing => out.null(),
-    }
-}
-
-fn put_case(
-    out: &mut Out,
-    cases: &[CasePlace<'_>],
-    signal: &str,
-    case: Option<usize>,
-) -> Result<(), AllocError> {
-    out.key("case")?;
-    let Some(number) = case else {
-        return out.null();
-    };
-    out.begin_object()?;
-    put_number(out, "number", usize::wrapping_add(number, 1) as u64)?;
-    if let Some(place) = place_of(cases, signal, number) {
-        put_number(out, "line", place.line)?;
-        put_number(out, "column", place.column)?;
-        put_text(out, "text", place.text)?;
-    }
-    out.end_object()
-}
-
-fn put_reads(
-    alloc: Global,
-    out: &mut Out,
-    scene: &Scene<'_>,
-    id: NameId,
-) -> Result<(), AllocError> {
-    out.key("reads")?;
-    out.begin_array()?;
-    let names = names_read(alloc, scene, id)?;
-    for name in names.as_slice() {
-        out.begin_object()?;
-        put_text(out, "signal", scene.name(*name))?;
-        out.key("value")?;
-        put_leaf(out, scene, *name, scene.leaf(*name))?;
-        out.end_object()?;
-    }
-    out.end_array()
-}
-
-fn put_finding(
-    alloc: Global,
-    out: &mut Out,
-    scene: &Scene<'_>,
-    cases: &[CasePlace<'_>],
-    finding: &Finding,
-) -> Result<(), AllocError> {
-    let id = finding.requirement.signal;
-    out.begin_object()?;
-    put_text(out, "signal", scene.name(id))?;
-    put_truth(out, "right", finding.is_right)?;
-    out.key("value")?;
-    put_leaf(out, scene, id, finding.picked)?;
-    put_wanted(out, scene, id, finding.requirement.wanted)?;
-    put_case(out, cases, scene.name(id), finding.taken_case)?;
-    put_reads(alloc, out, scene, id)?;
-    out.end_object()
-}
-
-fn put_findings(
-    alloc: Global,
-    out: &mut Out,
-    scene: &Scene<'_>,
-    cases: &[CasePlace<'_>],
-) -> Result<(), AllocError> {
-    out.key("signals")?;
-    out.begin_array()?;
-    for finding in scene.diagnosis.findings.items() {
-        put_finding(alloc, out, scene, cases, finding)?;
-    }
-    out.end_array()
-}
 
 fn put_fetch_and_decode(out: &mut Out, l: &Lines) -> Result<(), AllocError> {
     out.key("F")?;
@@ -200,47 +79,13 @@ fn put_memory_and_write(out: &mut Out, l: &Lines) -> Result<(), AllocError> {
     out.end_object()
 }
 
-fn put_word(out: &mut Out, scene: &Scene<'_>, name: &str, leaf: Leaf) -> Result<(), AllocError> {
-    match leaf {
-        Leaf::Name(id) => put_text(out, name, scene.name(id)),
-        Leaf::Number(n) => put_number(out, name, n),
-    }
-}
-
-fn put_comparisons(out: &mut Out, scene: &Scene<'_>) -> Result<(), AllocError> {
-    out.key("comparisons")?;
-    out.begin_array()?;
-    let mut place = BIT_COUNT as usize;
-    for atom in scene.atoms {
-        out.begin_object()?;
-        put_word(out, scene, "left", atom.left)?;
-        put_text(
-            out,
-            "sign",
-            match atom.kind {
-                AtomKind::Lt => "<",
-                AtomKind::Eq => "==",
-            },
-        )?;
-        put_word(out, scene, "right", atom.right)?;
-        put_truth(
-            out,
-            "holds",
-            scene.bits.get(place).copied().unwrap_or(false),
-        )?;
-        place = usize::wrapping_add(place, 1);
-        out.end_object()?;
-    }
-    out.end_array()
-}
-
 fn put_situation(out: &mut Out, scene: &Scene<'_>, l: &Lines) -> Result<(), AllocError> {
     out.key("counterexample")?;
     out.begin_object()?;
     put_fetch_and_decode(out, l)?;
     put_execute(out, l)?;
     put_memory_and_write(out, l)?;
-    put_comparisons(out, scene)?;
+    put_comparison_facts(out, &scene.values)?;
     out.end_object()
 }
 
@@ -314,19 +159,6 @@ fn put_motion(
     out.end_object()
 }
 
-fn put_obligation(out: &mut Out, rule: u32) -> Result<(), AllocError> {
-    out.key("obligation")?;
-    let Some(o) = obligation_at(Path::Pipe, rule) else {
-        return out.null();
-    };
-    out.begin_object()?;
-    put_text(out, "label", o.label)?;
-    put_text(out, "demand", o.demand)?;
-    put_text(out, "reason", o.reason)?;
-    put_text(out, "book", o.book)?;
-    out.end_object()
-}
-
 /// Writes an obligation that is false somewhere.
 fn put_refutation(
     alloc: Global,
@@ -337,9 +169,15 @@ fn put_refutation(
 ) -> Result<(), AllocError> {
     let motion = motion_of(scene);
     out.begin_object()?;
-    put_obligation(out, refutation.rule)?;
+    put_obligation_facts(out, obligation_at(Path::Pipe, refutation.rule))?;
     put_situation(out, scene, &motion.lines)?;
-    put_findings(alloc, out, scene, cases)?;
+    put_finding_facts(
+        alloc,
+        out,
+        &scene.values,
+        cases,
+        scene.diagnosis.findings.items(),
+    )?;
     put_motion(alloc, out, scene, refutation.rule, &motion)?;
     out.end_object()
 }

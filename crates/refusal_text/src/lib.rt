@@ -4,20 +4,16 @@
 //! down. That it writes the right ones is tested, and not proved.
 #![tactic(auto)]
 
-mod findings;
 mod json_page;
 mod mending;
 mod motion;
 mod page;
-mod paragraph;
 mod scene;
 mod settings;
 mod stages;
-mod words;
 
 pub use json_page::put_refusal_json;
 pub use mending::{first_to_mend, is_motion, wrong_signals};
-pub use page::{CasePlace, put_refusal};
-pub use scene::{Scene, name_of, scene_of};
+pub use page::put_refusal;
+pub use scene::{Scene, scene_of};
 pub use settings::{put_settings, put_settings_json};
-pub use words::{instruction, mnemonic, put_value, register, status, value_name};

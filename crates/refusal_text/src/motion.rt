@@ -24,7 +24,7 @@ pub struct Motion {
 
 /// The motion in a scene.
 pub fn motion_of(scene: &Scene<'_>) -> Motion {
-    let lines = lines_of(scene.bits);
+    let lines = lines_of(scene.values.bits);
     let view = view_of(scene.variant, scene.settings, &lines);
     let movers = movers_at(&scene.scope());
     let now = Now {

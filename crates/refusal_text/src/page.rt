@@ -1,127 +1,22 @@
 //! The page of a refusal: everything that is known of it, in sentences.
-use crate::findings::{put_comparisons, put_finding, put_reads};
 use crate::mending::first_to_mend;
 use crate::motion::{Motion, fetch_sentence, motion_faults, motion_of, move_name, slot_name};
-use crate::paragraph::put_paragraph;
 use crate::scene::{Scene, scene_of};
 use crate::stages::put_stages;
 use dp_signals::pipe_row as name;
-use explanations::{Obligation, Path, obligation_at};
+use explanations::{Path, obligation_at};
+use finding_text::{
+    CasePlace, put_comparisons, put_finding, put_findings, put_leaf, put_obligation, put_paragraph,
+};
 use hcl_types::{NameId, Row, Term};
 use pipe_diagnosis::{Refusal, Refutation};
 use pipe_requirements::Wanted;
 use std::alloc::{AllocError, Global};
 use y86_base::Variant;
 
-/// What begins the lines that follow a finding.
-const INDENT: &str = "           ";
-
-/// The same for the text of a case.
-const DEEP_INDENT: &str = "               ";
-
-/// A case of a definition in the text of a file: its signal, its number, counted from 0, its place, counted from 1, and its bytes.
-#[derive(Clone, Copy, Debug)]
-pub struct CasePlace<'a> {
-    pub signal: &'a str,
-    pub number: usize,
-    pub line: u64,
-    pub column: u64,
-    pub text: &'a str,
-}
-
-/// The place of a case.
-pub fn place_of<'a>(
-    cases: &'a [CasePlace<'a>],
-    signal: &str,
-    number: usize,
-) -> Option<&'a CasePlace<'a>> {
-    for case in cases {
-        if case.number == number && case.signal == signal {
-            return Some(case);
-        }
-    }
-    None
-}
-
 /// Writes `O10`.
 fn put_label(out: &mut String, rule: u32) -> Result<(), AllocError> {
     write!(out, "O{rule}")
-}
-
-/// Writes what an obligation demands, and why.
-fn put_obligation(alloc: Global, out: &mut String, o: &Obligation) -> Result<(), AllocError> {
-    out.push_str(o.label)?;
-    put_paragraph(alloc, out, " demands: ", "", o.demand)?;
-    put_paragraph(alloc, out, "Why: ", "", o.reason)?;
-    put_paragraph(alloc, out, "See CS:APP 3e, ", "", o.book)
-}
-
-/// Writes which case the definition of a signal takes.
-fn put_case(
-    alloc: Global,
-    out: &mut String,
-    cases: &[CasePlace<'_>],
-    signal: &str,
-    case: Option<usize>,
-) -> Result<(), AllocError> {
-    let Some(number) = case else {
-        return Ok(());
-    };
-    let count = usize::wrapping_add(number, 1);
-    write!(out, "{INDENT}It takes case {count} of its definition")?;
-    match place_of(cases, signal, number) {
-        Some(place) => {
-            let line = place.line;
-            let column = place.column;
-            write!(out, ", at line {line}, column {column}:\n")?;
-            put_paragraph(alloc, out, DEEP_INDENT, DEEP_INDENT, place.text)
-        }
-        None => out.push_str(".\n"),
-    }
-}
-
-/// Writes the values that the definition of a signal reads.
-fn put_values(
-    alloc: Global,
-    out: &mut String,
-    scene: &Scene<'_>,
-    id: NameId,
-) -> Result<(), AllocError> {
-    let mut values = String::new(alloc);
-    put_reads(alloc, &mut values, scene, id)?;
-    if values.as_str().is_empty() {
-        return Ok(());
-    }
-    let mut said = String::from_str(alloc, "It reads ")?;
-    said.push_str(values.as_str())?;
-    said.push_str(".")?;
-    put_paragraph(alloc, out, INDENT, INDENT, said.as_str())
-}
-
-/// Writes the findings of an obligation on single signals.
-fn put_findings(
-    alloc: Global,
-    out: &mut String,
-    scene: &Scene<'_>,
-    cases: &[CasePlace<'_>],
-) -> Result<(), AllocError> {
-    out.push_str("\nThe signals there:\n\n")?;
-    for finding in scene.diagnosis.findings.items() {
-        let id = finding.requirement.signal;
-        out.push_str(if finding.is_right {
-            "    right  "
-        } else {
-            "    WRONG  "
-        })?;
-        let mut said = String::new(alloc);
-        put_finding(&mut said, scene, finding)?;
-        put_paragraph(alloc, out, "", INDENT, said.as_str())?;
-        if !finding.is_right {
-            put_case(alloc, out, cases, scene.name(id), finding.taken_case)?;
-            put_values(alloc, out, scene, id)?;
-        }
-    }
-    Ok(())
 }
 
 /// Writes what a register does and holds in the next cycle.
@@ -144,7 +39,7 @@ fn put_motion(
     m: &Motion,
 ) -> Result<(), AllocError> {
     out.push_str("\nThe fetch: f_pc is ")?;
-    crate::findings::put_leaf(out, scene, name::F_PC, scene.leaf(name::F_PC))?;
+    put_leaf(out, &scene.values, name::F_PC, scene.leaf(name::F_PC))?;
     out.push_str(". ")?;
     out.push_str(fetch_sentence(m))?;
     out.push_str("\nThe next cycle:\n\n    F ")?;
@@ -216,7 +111,7 @@ fn put_other(
         if !finding.is_right {
             out.push_str(if is_first { "" } else { " " })?;
             is_first = false;
-            put_finding(out, scene, finding)?;
+            put_finding(out, &scene.values, finding)?;
         }
     }
     if is_first {
@@ -287,9 +182,15 @@ pub fn put_refusal(
     }
     out.push_str("\nThe smallest counterexample:\n\n")?;
     put_stages(out, &motion.lines)?;
-    put_comparisons(out, &scene)?;
+    put_comparisons(out, &scene.values)?;
     if rule <= 22 {
-        put_findings(alloc, out, &scene, cases)?;
+        put_findings(
+            alloc,
+            out,
+            &scene.values,
+            cases,
+            scene.diagnosis.findings.items(),
+        )?;
     }
     if moves_wrongly(rule, &refusal.first) {
         put_motion(alloc, out, &scene, rule, &motion)?;

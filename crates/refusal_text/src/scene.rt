@@ -1,8 +1,9 @@
 //! What a refusal is explained over: the names of the table, the definitions, and one counterexample.
 ghost use Rattle.std.specs.Prelude.{◌≤◌};
 
-use control_values::{Scope, taken_case};
-use ctl_atoms::{Atom, Leaf};
+use control_values::Scope;
+use ctl_atoms::Leaf;
+use finding_text::Values;
 use hcl_types::{NameId, Row, Term};
 use pipe_diagnosis::{Diagnosis, Refusal, Refutation};
 use pipe_fields::BIT_COUNT;
@@ -13,12 +14,9 @@ use y86_base::Variant;
 #[derive(Clone, Copy)]
 pub struct Scene<'a> {
     pub variant: Variant,
-    pub rows: &'a [Row],
-    pub terms: &'a [Term],
     pub settings: &'a Settings,
-    pub atoms: &'a [Atom],
-    pub bits: &'a [bool],
     pub diagnosis: &'a Diagnosis,
+    pub values: Values<'a>,
 }
 
 /// The scene of a refutation.
@@ -31,35 +29,29 @@ pub fn scene_of<'a>(
 ) -> Scene<'a> {
     Scene {
         variant,
-        rows,
-        terms,
         settings: &refusal.settings,
-        atoms: refusal.atoms.items(),
-        bits: refutation.valuation.bits.items(),
         diagnosis: &refutation.diagnosis,
-    }
-}
-
-/// The name of a row.
-pub fn name_of<'a>(rows: &'a [Row], id: NameId) -> &'a str {
-    match rows.get(id as usize) {
-        Some(row) => std::str::from_utf8(row.name.bytes()).unwrap_or("?"),
-        None => "?",
+        values: Values {
+            rows,
+            terms,
+            defined: dp_signals::pipe_row::F_PC,
+            atoms: refusal.atoms.items(),
+            first: BIT_COUNT as usize,
+            bits: refutation.valuation.bits.items(),
+            leaves: refutation.diagnosis.leaves.items(),
+        },
     }
 }
 
 impl<'a> Scene<'a> {
     /// The name of a row.
     pub fn name(&self, id: NameId) -> &'a str {
-        name_of(self.rows, id)
+        self.values.name(id)
     }
 
     /// The control value of a row.
     pub fn leaf(&self, id: NameId) -> Leaf {
-        match self.diagnosis.leaves.items().get(id as usize) {
-            Some(leaf) => *leaf,
-            None => Leaf::Number(0),
-        }
+        self.values.leaf(id)
     }
 
     /// The terms at this counterexample.
@@ -67,27 +59,10 @@ impl<'a> Scene<'a> {
         ensures { result.first ≤ 1000 }
     {
         Scope {
-            atoms: self.atoms,
+            atoms: self.values.atoms,
             first: BIT_COUNT as usize,
-            bits: self.bits,
-            leaves: self.diagnosis.leaves.items(),
-        }
-    }
-
-    /// The definition of a signal.
-    pub fn term(&self, id: NameId) -> Option<&'a Term> {
-        let first = dp_signals::pipe_row::F_PC;
-        if id < first {
-            return None;
-        }
-        self.terms.get((id - first) as usize)
-    }
-
-    /// The case that the definition of a signal takes, counted from 0.
-    pub fn case(&self, id: NameId) -> Option<usize> {
-        match self.term(id) {
-            Some(term) => taken_case(&self.scope(), term),
-            None => None,
+            bits: self.values.bits,
+            leaves: self.values.leaves,
         }
     }
 }

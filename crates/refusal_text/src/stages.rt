@@ -1,5 +1,5 @@
 //! The situation of a counterexample, a line for each stage.
-use crate::words::{instruction, mnemonic, register, status};
+use finding_text::{instruction, mnemonic, register, status};
 use pipe_requirements::{DecodeLine, ExecuteLine, FetchLine, Lines, MemoryLine, WriteLine};
 use std::alloc::AllocError;
 

@@ -1,30 +1,46 @@
--- What is explained of an HCL text: its design for PIPE, the verdict, and the diagnosis of a refusal.
+-- What is explained of an HCL text: its design, the verdict, and the diagnosis of a refusal.
 use Rattle.std.specs.Prelude.{ℕ, ◌≡◌, List, Ok, true}
 use Rattle.y86_base.specs.declared.parts.Variant.{Variant}
 use Rattle.hcl_read.specs.Read.{ReadsAs}
 use Rattle.hcl_read.specs.declared.tree.File.{File}
 use Rattle.hcl_types.specs.Binding.{bound}
 use Rattle.hcl_types.specs.Tables.{IsBound, IsOrderOf}
+use Rattle.hcl_types.specs.declared.table.Row.{Row}
 use Rattle.hcl_types.specs.declared.term.Term.{Term}
 use Rattle.dp_signals.specs.PipeTable.{pipe_rows}
 use Rattle.control_check.specs.PipeVerdicts.{RefinesPipe}
 use Rattle.pipe_refusals.specs.Answered.{IsAnswer, is_yes}
 use Rattle.pipe_refusals.specs.declared.answer.Answer.{Answer}
+use Rattle.seq_requirements.specs.declared.datapath.Datapath.{Datapath}
+use Rattle.seq_refusals.specs.Answered as seq
+use Rattle.seq_refusals.specs.declared.answer.Answer as seq_answer
 use Rattle.y86_tell.specs.declared.designs.Ordered.{Ordered}
 
--- the text is a file with this design over PIPE's table
-pub record HasDesign (text : List ℕ) (terms : List Term) : Type 0 where
+-- the text is a file with this design over a table
+pub record HasDesignOver (rows : List Row) (text : List ℕ) (terms : List Term) : Type 0 where
   pub file : File
   pub reads : ReadsAs text file
-  pub binds : bound pipe_rows file.items ≡ Ok terms
+  pub binds : bound rows file.items ≡ Ok terms
 
--- a design over PIPE's table, with an order of its signals
-pub record IsOrdered (ordered : Ordered) : Type 0 where
-  pub table : ordered.table.rows ≡ pipe_rows
-  pub bound : IsBound pipe_rows ordered.design.terms
-  pub order : IsOrderOf pipe_rows ordered.design.terms ordered.order.ids
+-- a design over a table, with an order of its signals
+pub record IsOrderedOver (rows : List Row) (ordered : Ordered) : Type 0 where
+  pub table : ordered.table.rows ≡ rows
+  pub bound : IsBound rows ordered.design.terms
+  pub order : IsOrderOf rows ordered.design.terms ordered.order.ids
 
--- the answer on a design: the verdict is right, its diagnosis too, and a file with a yes refines the run of instructions
+-- both over PIPE's table
+abbrev pub HasDesign : List ℕ → List Term → Type 0
+HasDesign text terms = HasDesignOver pipe_rows text terms
+
+abbrev pub IsOrdered : Ordered → Type 0
+IsOrdered ordered = IsOrderedOver pipe_rows ordered
+
+-- the answer on a design for PIPE: the verdict is right, its diagnosis too, and a file with a yes refines the run of instructions
 pub record Answers (v : Variant) (terms : List Term) (answer : Answer) : Type 0 where
   pub is : IsAnswer v terms answer
   pub refines : is_yes answer ≡ true → RefinesPipe v terms
+
+-- the same of a design for SEQ or SEQ+
+pub record SeqAnswers (which : Datapath) (v : Variant) (terms : List Term) (answer : seq_answer.Answer) : Type 0 where
+  pub is : seq.IsAnswer which v terms answer
+  pub refines : seq.is_yes answer ≡ true → seq.Refines which v terms

@@ -36,9 +36,10 @@ pub enum Call<'a> {
         mem: u64,
         json: bool,
     },
-    /// Explain a word.
+    /// Explain a word, or list the words.
     Show {
-        word: &'a str,
+        word: Option<&'a str>,
+        json: bool,
     },
 }
 
@@ -164,13 +165,13 @@ fn fault_command<'a>(alloc: Global) -> Result<Command<'a>, AllocError> {
 
 /// The command `show`.
 fn show_command<'a>(alloc: Global) -> Result<Command<'a>, AllocError> {
-    let word = Arg::new(alloc, "word")
-        .required(true)
-        .action(ArgAction::Set)
-        .help("An obligation or a signal: O10, d_valA");
+    let word = Arg::new(alloc, "word").action(ArgAction::Set).help(
+        "O10, mrmovq, d_valA, hcl.semicolon; without a word all of them are listed",
+    );
     Command::new(alloc, "show")
-        .about("Explain an obligation or a signal")
-        .arg(word)
+        .about("Explain an obligation, an instruction, a signal or a kind of fault")
+        .arg(word)?
+        .arg(json(alloc))
 }
 
 /// The program's commands.
@@ -246,7 +247,8 @@ pub fn call_of<'a>(alloc: Global, words: &'a [String]) -> Result<Option<Call<'a>
             json: own.get_flag("json"),
         }),
         "show" => Some(Call::Show {
-            word: own.get_str("word").unwrap_or(""),
+            word: own.get_str("word"),
+            json: own.get_flag("json"),
         }),
         _ => None,
     })

@@ -1,6 +1,6 @@
 //! Where an HCL text has the cases of its definitions.
+use finding_text::CasePlace;
 use hcl_faults::{TokenAt, TokenKind, place_at, token_list};
-use refusal_text::CasePlace;
 use std::alloc::{AllocError, Global};
 
 /// A walk along the tokens of a text: the definition that it is in, how many case lists are open, the number of the case and where

@@ -10,13 +10,12 @@ use crate::stop::{Stop, unread};
 use control_check::CheckFault;
 use ctl_atoms::CtlFault;
 use fault_report::Datapath;
+use finding_text::{CasePlace, name_of, names_iaddq, put_unasked};
 use json::Writer;
 use pipe_diagnosis::Refusal;
 use pipe_motion::Settings;
 use pipe_refusals::{Answer, diagnose_pipe};
-use refusal_text::{
-    CasePlace, name_of, put_refusal, put_refusal_json, put_settings, put_settings_json,
-};
+use refusal_text::{put_refusal, put_refusal_json, put_settings, put_settings_json};
 use std::alloc::{AllocError, Global};
 use wb_io::Files;
 use y86_base::Variant;
@@ -44,7 +43,7 @@ pub fn answer_design(
 }
 
 /// The stop at a design without control values.
-fn control_stop(
+pub fn control_stop(
     alloc: Global,
     file: &str,
     ordered: &Ordered,
@@ -74,13 +73,37 @@ pub fn json_text(out: Writer<Global>) -> Result<Vec<u8>, AllocError> {
     Ok(text)
 }
 
+/// Writes the members of a yes: the verdict, whether iaddq was asked, and whether the file names it.
+pub fn put_yes_facts(
+    out: &mut Writer<Global>,
+    variant: Variant,
+    is_named: bool,
+) -> Result<(), AllocError> {
+    out.key("verdict")?;
+    out.string("yes")?;
+    out.key("full")?;
+    out.boolean(variant == Variant::Full)?;
+    out.key("names_iaddq")?;
+    out.boolean(is_named)
+}
+
 /// What is printed of a yes.
-fn yes_text(alloc: Global, settings: &Settings, json: bool) -> Result<Vec<u8>, AllocError> {
+fn yes_text(
+    alloc: Global,
+    variant: Variant,
+    ordered: &Ordered,
+    settings: &Settings,
+    json: bool,
+) -> Result<Vec<u8>, AllocError> {
+    let is_named = names_iaddq(
+        alloc,
+        ordered.table.rows.items(),
+        ordered.design.terms.items(),
+    )?;
     if json {
         let mut out = Writer::new(Vec::new(alloc));
         out.begin_object()?;
-        out.key("verdict")?;
-        out.string("yes")?;
+        put_yes_facts(&mut out, variant, is_named)?;
         out.key("settings")?;
         put_settings_json(&mut out, settings)?;
         out.end_object()?;
@@ -88,6 +111,7 @@ fn yes_text(alloc: Global, settings: &Settings, json: bool) -> Result<Vec<u8>, A
     }
     let mut out = String::new(alloc);
     put_settings(&mut out, settings)?;
+    put_unasked(&mut out, variant, is_named)?;
     Ok(out.into_bytes())
 }
 
@@ -126,7 +150,7 @@ fn answer_text(
     match answer {
         Answer::Yes(settings) => Ok(Said {
             status: 0,
-            text: yes_text(alloc, settings, json)?,
+            text: yes_text(alloc, variant, ordered, settings, json)?,
         }),
         Answer::No(refusal) => Ok(Said {
             status: 1,
@@ -149,7 +173,13 @@ pub fn check_pipe<F: Files>(
     };
     let ordered = match pipe_design(alloc, source.as_slice()) {
         Ok(ordered) => ordered,
-        Err(fault) => return Err(fault_stop(alloc, file, source.as_slice(), &fault)),
+        Err(fault) => return Err(fault_stop(
+            alloc,
+            file,
+            source.as_slice(),
+            Datapath::Pipe,
+            &fault,
+        )),
     };
     let cases = case_places(alloc, source.as_slice())?;
     let answer = match answer_design(alloc, variant, &ordered) {
@@ -163,12 +193,18 @@ pub fn check_pipe<F: Files>(
 }
 
 /// The stop at a text without a design: every fault of it.
-pub fn fault_stop(alloc: Global, file: &str, source: &[u8], fault: &NoDesign) -> Stop {
+pub fn fault_stop(
+    alloc: Global,
+    file: &str,
+    source: &[u8],
+    datapath: Datapath,
+    fault: &NoDesign,
+) -> Stop {
     match fault {
         NoDesign::Memory => return Stop::Memory,
         NoDesign::Refused => {}
     }
-    let Ok(report) = hcl_faults_of(alloc, source, Some(Datapath::Pipe)) else {
+    let Ok(report) = hcl_faults_of(alloc, source, Some(datapath)) else {
         return Stop::Memory;
     };
     match printed(alloc, file, &report, false) {

@@ -1,14 +1,18 @@
-//! The design of an HCL text for PIPE, or why there is none.
+//! The design of an HCL text over a table, or why there is none.
 ghost use Rattle.std.specs.Prelude.{IfOk};
-ghost use Rattle.y86_tell.specs.Explained.{HasDesign, IsOrdered};
+ghost use Rattle.hcl_types.specs.Tables.{IsSound};
+ghost use Rattle.seq_requirements.specs.Datapaths.{rows_of};
+ghost use Rattle.y86_tell.specs.Explained.{HasDesign, HasDesignOver, IsOrdered, IsOrderedOver};
 
 use dp_signals::{law_of_tables, pipe_table};
 use hcl_order::{OrderFault, order};
 use hcl_read::{HclWhy, read};
 use hcl_types::{BindWhy, Design, Order, Table, bind};
+use seq_plus::law_of_table;
+use seq_requirements::{Datapath, table_of};
 use std::alloc::Global;
 
-/// PIPE's table, a design over it, and an order of the design's signals.
+/// A table, a design over it, and an order of the design's signals.
 #[derive(Drop)]
 pub struct Ordered {
     pub table: Table,
@@ -25,15 +29,12 @@ pub enum NoDesign {
     Memory,
 }
 
-/// The design of an HCL text for PIPE.
-pub fn pipe_design(alloc: Global, source: &[u8]) -> Result<Ordered, NoDesign>
-    ensures design { IfOk result (λ ordered. HasDesign source.now ordered.design.terms) }
-    ensures ordered { IfOk result IsOrdered }
+/// The design of an HCL text over a table.
+fn design_over(alloc: Global, source: &[u8], table: Table) -> Result<Ordered, NoDesign>
+    requires { IsSound table.rows }
+    ensures design { IfOk result (λ ordered. HasDesignOver table.rows source.now ordered.design.terms) }
+    ensures ordered { IfOk result (IsOrderedOver table.rows) }
 {
-    law_of_tables();
-    let Ok(table) = pipe_table(alloc) else {
-        return Err(NoDesign::Memory);
-    };
     let file = match read(alloc, source) {
         Ok(file) => file,
         Err(fault) => {
@@ -60,5 +61,30 @@ pub fn pipe_design(alloc: Global, source: &[u8]) -> Result<Ordered, NoDesign>
         }),
         Err(OrderFault::Cycle(_)) => Err(NoDesign::Refused),
         Err(OrderFault::Memory) => Err(NoDesign::Memory),
+    }
+}
+
+/// The design of an HCL text for PIPE.
+pub fn pipe_design(alloc: Global, source: &[u8]) -> Result<Ordered, NoDesign>
+    ensures design { IfOk result (λ ordered. HasDesign source.now ordered.design.terms) }
+    ensures ordered { IfOk result IsOrdered }
+{
+    law_of_tables();
+    match pipe_table(alloc) {
+        Ok(table) => design_over(alloc, source, table),
+        Err(_) => Err(NoDesign::Memory),
+    }
+}
+
+/// The design of an HCL text for SEQ or SEQ+.
+pub fn seq_design(alloc: Global, which: Datapath, source: &[u8]) -> Result<Ordered, NoDesign>
+    ensures design { IfOk result (λ ordered. HasDesignOver (rows_of which) source.now ordered.design.terms) }
+    ensures ordered { IfOk result (IsOrderedOver (rows_of which)) }
+{
+    law_of_tables();
+    law_of_table();
+    match table_of(alloc, which) {
+        Ok(table) => design_over(alloc, source, table),
+        Err(_) => Err(NoDesign::Memory),
     }
 }

@@ -38,7 +38,7 @@ fn kind_of(file: &str) -> Kind {
 }
 
 /// The tables of the three datapaths.
-fn tables(alloc: Global) -> Result<Tables, Memory>
+pub fn tables(alloc: Global) -> Result<Tables, Memory>
     ensures seq { IfOk result (λ t. IsSound t.seq.rows) }
     ensures seq_plus { IfOk result (λ t. IsSound t.seq_plus.rows) }
     ensures pipe { IfOk result (λ t. IsSound t.pipe.rows) }

@@ -8,6 +8,7 @@ mod designs;
 mod faulty;
 mod programs;
 mod running;
+mod sequential;
 mod showing;
 mod stop;
 
@@ -16,9 +17,11 @@ use crate::checking::{Said, check_pipe};
 use crate::faulty::tell_faults;
 use crate::programs::{is_size, report_program};
 use crate::running::{Asked, is_limit, tell_run};
+use crate::sequential::{Question, check_sequential};
 use crate::showing::show;
 use crate::stop::Stop;
 use explanations::Path;
+use seq_requirements::Datapath;
 use std::alloc::Global;
 use std::process::ExitCode;
 use std::{env, io};
@@ -53,7 +56,22 @@ fn answer<F: Files, O: Sink>(
             json,
         } => match path {
             Path::Pipe => say(check_pipe(alloc, hcl, variant, json, files)?, out),
-            _ => Err(Stop::Usage("check seq and check seqplus aren't explained yet: ask y86\n")),
+            Path::Seq => {
+                let asked = Question {
+                    which: Datapath::Seq,
+                    variant,
+                    json,
+                };
+                say(check_sequential(alloc, hcl, asked, files)?, out)
+            }
+            Path::SeqPlus => {
+                let asked = Question {
+                    which: Datapath::Plus,
+                    variant,
+                    json,
+                };
+                say(check_sequential(alloc, hcl, asked, files)?, out)
+            }
         },
         Call::Program {
             obj,
@@ -92,7 +110,7 @@ fn answer<F: Files, O: Sink>(
                 Err(Stop::Usage(ODD_SIZE))
             }
         }
-        Call::Show { word } => say(show(alloc, word)?, out),
+        Call::Show { word, json } => say(show(alloc, word, json)?, out),
     }
 }
 

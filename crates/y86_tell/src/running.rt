@@ -9,6 +9,7 @@ use crate::checking::{HCL_LIMIT, Said, fault_stop, json_text};
 use crate::designs::{NoDesign, Ordered, pipe_design};
 use crate::programs::{OBJECT_LIMIT, object_stop};
 use crate::stop::{Stop, unread};
+use fault_report::Datapath;
 use hcl_types::{Row, Table};
 use json::Writer;
 use run_report::{Judged, Outcome, object_outcome, outcome_status, put_outcome, put_outcome_json};
@@ -132,7 +133,13 @@ pub fn tell_run<F: Files>(
     };
     match run_texts(alloc, source.as_slice(), object.as_slice(), asked) {
         Ok(run) => Ok(said_of(alloc, asked, &run)?),
-        Err(NoRun::Design(fault)) => Err(fault_stop(alloc, hcl, source.as_slice(), &fault)),
+        Err(NoRun::Design(fault)) => Err(fault_stop(
+            alloc,
+            hcl,
+            source.as_slice(),
+            Datapath::Pipe,
+            &fault,
+        )),
         Err(NoRun::Object(fault)) => Err(object_stop(
             alloc,
             obj,

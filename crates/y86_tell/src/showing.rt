@@ -1,57 +1,51 @@
-//! `show`: what an obligation or a signal is.
-use crate::checking::Said;
-use explanations::{Obligation, Path, Staged, obligation_at, obligation_count, signal_named};
+//! `show`: what an obligation, an instruction, a signal or a kind of fault is.
+use crate::checking::{Said, json_text};
+use crate::faulty::tables;
+use crate::stop::Stop;
+use json::Writer;
+use show_text::{Found, found_of, put_found, put_found_json, put_names};
 use std::alloc::{AllocError, Global};
+use y86_base::Memory;
 
-/// The obligation of a datapath with this label.
-fn obligation_labelled(path: Path, label: &str) -> Option<&'static Obligation> {
-    for k in 0..obligation_count(path) {
-        if let Some(found) = obligation_at(path, u32::wrapping_add(k, 1)) {
-            if found.label == label {
-                return Some(found);
+/// What is found as JSON.
+fn found_json(alloc: Global, found: &Found) -> Result<Vec<u8>, AllocError> {
+    let tables = match tables(alloc) {
+        Ok(tables) => tables,
+        Err(Memory) => return Err(AllocError),
+    };
+    let mut out = Writer::new(Vec::new(alloc));
+    put_found_json(alloc, &mut out, &tables, found)?;
+    json_text(out)
+}
+
+/// What is found in sentences; the names of everything, where no word is given.
+fn found_text(alloc: Global, word: Option<&str>, found: &Found) -> Result<Vec<u8>, AllocError> {
+    let mut text = String::new(alloc);
+    match word {
+        None => put_names(alloc, &mut text, found)?,
+        Some(word) => {
+            if found.is_empty() {
+                write!(
+                    text,
+                    "{word} is no obligation, no instruction, no signal and no code of a fault. y86-tell show lists all names.\n"
+                )?;
             }
+            put_found(alloc, &mut text, found)?;
         }
     }
-    None
-}
-
-/// Writes an obligation.
-fn put_obligation(out: &mut String, o: &Obligation) -> Result<(), AllocError> {
-    let label = o.label;
-    let demand = o.demand;
-    let reason = o.reason;
-    let book = o.book;
-    let signals = o.signals;
-    write!(
-        out,
-        "{label}: {demand}\nWhy: {reason}\nSignals: {signals}\nSee CS:APP 3e, {book}.\n"
-    )
-}
-
-/// Writes a signal.
-fn put_signal(out: &mut String, it: &Staged) -> Result<(), AllocError> {
-    let name = it.signal.name;
-    let stage = it.stage;
-    let meaning = it.signal.meaning;
-    write!(out, "{name} ({stage}): {meaning}\n")
+    Ok(text.into_bytes())
 }
 
 /// Explains a word: status 1 where there is nothing of this name.
-pub fn show(alloc: Global, word: &str) -> Result<Said, AllocError> {
-    let mut text = String::new(alloc);
-    let mut is_known = true;
-    if let Some(o) = obligation_labelled(Path::Pipe, word) {
-        put_obligation(&mut text, o)?;
-    } else if let Some(o) = obligation_labelled(Path::Seq, word) {
-        put_obligation(&mut text, o)?;
-    } else if let Some(it) = signal_named(word) {
-        put_signal(&mut text, &it)?;
+pub fn show(alloc: Global, word: Option<&str>, json: bool) -> Result<Said, Stop> {
+    let found = found_of(alloc, word)?;
+    let text = if json {
+        found_json(alloc, &found)?
     } else {
-        is_known = false;
-        write!(text, "{word} is no obligation and no signal.\n")?;
-    }
+        found_text(alloc, word, &found)?
+    };
     Ok(Said {
-        status: if is_known { 0 } else { 1 },
-        text: text.into_bytes(),
+        status: if found.is_empty() { 1 } else { 0 },
+        text,
     })
 }

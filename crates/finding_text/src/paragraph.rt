@@ -16,19 +16,11 @@ fn put_plain(out: &mut String, text: &str) -> Result<(), AllocError> {
 }
 
 /// Writes the words of a text in lines: `first` begins the first line, and `rest` each other one. A line end follows.
-pub fn put_paragraph(
-    alloc: Global,
-    out: &mut String,
-    first: &str,
-    rest: &str,
-    text: &str,
-) -> Result<(), AllocError> {
-    let mut plain = String::new(alloc);
-    put_plain(&mut plain, text)?;
+pub fn put_lines(out: &mut String, first: &str, rest: &str, text: &str) -> Result<(), AllocError> {
     out.push_str(first)?;
     let mut column = first.len();
     let mut is_first = true;
-    for word in plain.as_str().split(' ') {
+    for word in text.split(' ') {
         if word.is_empty() {
             continue;
         }
@@ -46,4 +38,17 @@ pub fn put_paragraph(
         column = column.saturating_add(word.len());
     }
     out.push_str("\n")
+}
+
+/// Writes the words of a text in lines, without the marks around names of signals.
+pub fn put_paragraph(
+    alloc: Global,
+    out: &mut String,
+    first: &str,
+    rest: &str,
+    text: &str,
+) -> Result<(), AllocError> {
+    let mut plain = String::new(alloc);
+    put_plain(&mut plain, text)?;
+    put_lines(out, first, rest, plain.as_str())
 }

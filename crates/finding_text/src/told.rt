@@ -1,43 +1,41 @@
 //! What each signal of an obligation picks, and what is wanted.
-use crate::scene::Scene;
+use crate::values::Values;
 use crate::words::put_value;
 use ctl_atoms::{AtomKind, Leaf};
+use findings::{Finding, Wanted};
 use hcl_types::{NameId, Role, put_names};
-use pipe_diagnosis::Finding;
-use pipe_fields::BIT_COUNT;
-use pipe_requirements::Wanted;
 use std::alloc::{AllocError, Global};
 
 /// Writes a control value of a signal.
 pub fn put_leaf(
     out: &mut String,
-    scene: &Scene<'_>,
+    values: &Values<'_>,
     id: NameId,
     leaf: Leaf,
 ) -> Result<(), AllocError> {
     match leaf {
-        Leaf::Name(name) => out.push_str(scene.name(name)),
-        Leaf::Number(n) => put_value(out, scene.name(id), n),
+        Leaf::Name(name) => out.push_str(values.name(name)),
+        Leaf::Number(n) => put_value(out, values.name(id), n),
     }
 }
 
 /// Writes what a signal picks and what is wanted, as a sentence.
 pub fn put_finding(
     out: &mut String,
-    scene: &Scene<'_>,
+    values: &Values<'_>,
     finding: &Finding,
 ) -> Result<(), AllocError> {
     let id = finding.requirement.signal;
-    out.push_str(scene.name(id))?;
+    out.push_str(values.name(id))?;
     out.push_str(" is ")?;
-    put_leaf(out, scene, id, finding.picked)?;
+    put_leaf(out, values, id, finding.picked)?;
     if finding.is_right {
         return out.push_str(", as it has to be.");
     }
     match finding.requirement.wanted {
         Wanted::Word(leaf) => {
             out.push_str(". It has to be ")?;
-            put_leaf(out, scene, id, leaf)?;
+            put_leaf(out, values, id, leaf)?;
             out.push_str(".")
         }
         Wanted::Truth(true) => out.push_str(". It has to be 1."),
@@ -49,29 +47,33 @@ pub fn put_finding(
 }
 
 /// Whether the value of a name is worth telling: constants and words that stand for themselves aren't.
-fn is_told(scene: &Scene<'_>, id: NameId) -> bool {
-    match scene.rows.get(id as usize) {
+fn is_told(values: &Values<'_>, id: NameId) -> bool {
+    match values.rows.get(id as usize) {
         Some(row) => match &row.role {
             Role::Constant(_) => return false,
             _ => {}
         },
         None => return false,
     }
-    match scene.leaf(id) {
+    match values.leaf(id) {
         Leaf::Name(name) => name != id,
         Leaf::Number(_) => true,
     }
 }
 
 /// The names in the definition of a signal, each once, whose values are worth telling.
-pub fn names_read(alloc: Global, scene: &Scene<'_>, id: NameId) -> Result<Vec<NameId>, AllocError> {
+pub fn names_read(
+    alloc: Global,
+    values: &Values<'_>,
+    id: NameId,
+) -> Result<Vec<NameId>, AllocError> {
     let mut all: Vec<NameId> = Vec::new(alloc);
-    if let Some(term) = scene.term(id) {
+    if let Some(term) = values.term(id) {
         put_names(term, &mut all)?;
     }
     let mut once: Vec<NameId> = Vec::new(alloc);
     for name in all.as_slice() {
-        if is_told(scene, *name) && !once.as_slice().contains(name) {
+        if is_told(values, *name) && !once.as_slice().contains(name) {
             once.push(*name)?;
         }
     }
@@ -82,45 +84,45 @@ pub fn names_read(alloc: Global, scene: &Scene<'_>, id: NameId) -> Result<Vec<Na
 pub fn put_reads(
     alloc: Global,
     out: &mut String,
-    scene: &Scene<'_>,
+    values: &Values<'_>,
     id: NameId,
 ) -> Result<(), AllocError> {
-    let names = names_read(alloc, scene, id)?;
+    let names = names_read(alloc, values, id)?;
     let mut is_first = true;
     for name in names.as_slice() {
         out.push_str(if is_first { "" } else { ", " })?;
         is_first = false;
-        out.push_str(scene.name(*name))?;
+        out.push_str(values.name(*name))?;
         out.push_str(" = ")?;
-        put_leaf(out, scene, *name, scene.leaf(*name))?;
+        put_leaf(out, values, *name, values.leaf(*name))?;
     }
     Ok(())
 }
 
 /// Writes the comparisons of words that the file makes, with their truths.
-pub fn put_comparisons(out: &mut String, scene: &Scene<'_>) -> Result<(), AllocError> {
-    let mut place = BIT_COUNT as usize;
-    for atom in scene.atoms {
-        let holds = scene.bits.get(place).copied().unwrap_or(false);
+pub fn put_comparisons(out: &mut String, values: &Values<'_>) -> Result<(), AllocError> {
+    let mut place = values.first;
+    for atom in values.atoms {
+        let holds = values.bits.get(place).copied().unwrap_or(false);
         place = place.wrapping_add(1);
         out.push_str("    ")?;
-        put_word(out, scene, atom.left)?;
+        put_word(out, values, atom.left)?;
         out.push_str(match (atom.kind, holds) {
             (AtomKind::Lt, true) => " is below ",
             (AtomKind::Lt, false) => " isn't below ",
             (AtomKind::Eq, true) => " equals ",
             (AtomKind::Eq, false) => " doesn't equal ",
         })?;
-        put_word(out, scene, atom.right)?;
+        put_word(out, values, atom.right)?;
         out.push_str("\n")?;
     }
     Ok(())
 }
 
 /// Writes a word that is compared.
-fn put_word(out: &mut String, scene: &Scene<'_>, leaf: Leaf) -> Result<(), AllocError> {
+fn put_word(out: &mut String, values: &Values<'_>, leaf: Leaf) -> Result<(), AllocError> {
     match leaf {
-        Leaf::Name(name) => out.push_str(scene.name(name)),
+        Leaf::Name(name) => out.push_str(values.name(name)),
         Leaf::Number(n) => write!(out, "{n}"),
     }
 }

@@ -1,0 +1,28 @@
+//! What is found of signals at a counterexample, in sentences and as JSON: what the file picks, what is required, which case is taken,
+//! and what the definition reads.
+//!
+//! It serves all processors. That it writes the right facts is tested, and not proved.
+#![tactic(auto)]
+
+mod cases;
+mod facts;
+mod iaddq;
+mod lines;
+mod mending;
+mod paragraph;
+mod told;
+mod values;
+mod words;
+
+pub use cases::{CasePlace, place_of};
+pub use facts::{
+    Out, put_comparison_facts, put_finding_facts, put_number, put_obligation_facts, put_text,
+    put_truth,
+};
+pub use iaddq::{names_iaddq, put_unasked};
+pub use lines::{put_findings, put_obligation};
+pub use mending::{first_alone, put_once};
+pub use paragraph::{put_lines, put_paragraph};
+pub use told::{put_comparisons, put_finding, put_leaf};
+pub use values::{Values, name_of};
+pub use words::{instruction, mnemonic, put_value, register, status, value_name};

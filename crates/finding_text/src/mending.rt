@@ -1,0 +1,85 @@
+//! Which of some obligations has wrong signals that depend on no other one's wrong signals.
+use crate::values::Values;
+use hcl_types::{NameId, put_names};
+use std::alloc::{AllocError, Global};
+
+/// Adds a name that isn't listed.
+pub fn put_once(out: &mut Vec<NameId>, id: NameId) -> Result<(), AllocError> {
+    if !out.as_slice().contains(&id) {
+        out.push(id)?;
+    }
+    Ok(())
+}
+
+/// All signals that the definition of a signal depends on, directly or indirectly.
+fn dependencies(alloc: Global, values: &Values<'_>, id: NameId) -> Result<Vec<NameId>, AllocError> {
+    let mut found: Vec<NameId> = Vec::new(alloc);
+    if let Some(term) = values.term(id) {
+        put_names(term, &mut found)?;
+    }
+    let mut place = 0;
+    for _k in 0..values.rows.len() {
+        let mut names: Vec<NameId> = Vec::new(alloc);
+        for _n in 0..found.len() {
+            if let Some(name) = found.get(place).copied() {
+                place = place.wrapping_add(1);
+                if let Some(term) = values.term(name) {
+                    put_names(term, &mut names)?;
+                }
+            }
+        }
+        for name in names.as_slice() {
+            put_once(&mut found, *name)?;
+        }
+    }
+    Ok(found)
+}
+
+/// Whether one of some signals depends on one of others, which isn't one of them.
+fn depend(
+    alloc: Global,
+    values: &Values<'_>,
+    signals: &[NameId],
+    others: &[NameId],
+) -> Result<bool, AllocError> {
+    for signal in signals {
+        let needed = dependencies(alloc, values, *signal)?;
+        for other in others {
+            if needed.as_slice().contains(other) && !signals.contains(other) {
+                return Ok(true);
+            }
+        }
+    }
+    Ok(false)
+}
+
+/// Whether one of some signals depends on one of any list, which isn't one of them.
+fn depend_on_any(
+    alloc: Global,
+    values: &Values<'_>,
+    signals: &[NameId],
+    all: &[Vec<NameId>],
+) -> Result<bool, AllocError> {
+    for others in all {
+        if depend(alloc, values, signals, others.as_slice())? {
+            return Ok(true);
+        }
+    }
+    Ok(false)
+}
+
+/// The place of the first list of signals that depend on no other list's signals, and 0 where there is none.
+pub fn first_alone(
+    alloc: Global,
+    values: &Values<'_>,
+    all: &[Vec<NameId>],
+) -> Result<usize, AllocError> {
+    let mut place = 0;
+    for signals in all {
+        if !depend_on_any(alloc, values, signals.as_slice(), all)? {
+            return Ok(place);
+        }
+        place = usize::wrapping_add(place, 1);
+    }
+    Ok(0)
+}

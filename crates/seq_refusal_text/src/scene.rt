@@ -1,0 +1,76 @@
+//! What a refusal is explained over: the names of the table, the definitions, and one counterexample.
+use explanations::{Obligation, Path, obligation_at};
+use finding_text::Values;
+use hcl_types::{NameId, Row, Term};
+use seq_diagnosis::{Refusal, Refutation};
+use seq_requirements::{Datapath, PreviousNow, bit_count, first_defined, previous_of};
+use std::alloc::{AllocError, Global};
+
+/// The datapath, as obligations name it.
+pub fn path_of(which: Datapath) -> Path {
+    match which {
+        Datapath::Seq => Path::Seq,
+        Datapath::Plus => Path::SeqPlus,
+    }
+}
+
+/// An obligation of the datapath.
+pub fn obligation_of(which: Datapath, rule: u32) -> Option<&'static Obligation> {
+    obligation_at(path_of(which), rule)
+}
+
+/// The values at the counterexample of a refutation.
+pub fn values_of<'a>(
+    which: Datapath,
+    rows: &'a [Row],
+    terms: &'a [Term],
+    refusal: &'a Refusal,
+    refutation: &'a Refutation,
+) -> Values<'a> {
+    Values {
+        rows,
+        terms,
+        defined: first_defined(which),
+        atoms: refusal.atoms.items(),
+        first: bit_count(which) as usize,
+        bits: refutation.valuation.bits.items(),
+        leaves: refutation.diagnosis.leaves.items(),
+    }
+}
+
+/// What is held of the instruction before: in SEQ+ alone.
+pub fn before(which: Datapath, bits: &[bool]) -> Option<PreviousNow> {
+    match which {
+        Datapath::Seq => None,
+        Datapath::Plus => Some(previous_of(bits)),
+    }
+}
+
+/// The signals that are wrong at a counterexample.
+fn wrong_signals(alloc: Global, refutation: &Refutation) -> Result<Vec<NameId>, AllocError> {
+    let mut out: Vec<NameId> = Vec::new(alloc);
+    for finding in refutation.diagnosis.findings.items() {
+        if !finding.is_right {
+            finding_text::put_once(&mut out, finding.requirement.signal)?;
+        }
+    }
+    Ok(out)
+}
+
+/// The obligation to mend first: the first whose wrong signals depend on no other one's.
+pub fn first_to_mend(
+    alloc: Global,
+    values: &Values<'_>,
+    refusal: &Refusal,
+) -> Result<u32, AllocError> {
+    let mut all: Vec<Vec<NameId>> = Vec::new(alloc);
+    all.push(wrong_signals(alloc, &refusal.first)?)?;
+    for other in refusal.others.items() {
+        all.push(wrong_signals(alloc, other)?)?;
+    }
+    let place = finding_text::first_alone(alloc, values, all.as_slice())?;
+    match refusal.others.items().get(place.wrapping_sub(1)) {
+        Some(other) => Ok(other.rule),
+        None => Ok(refusal.first.rule),
+    }
+}

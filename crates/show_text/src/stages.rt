@@ -1,0 +1,196 @@
+//! What each stage does for an instruction, as in CS:APP 3e, figures 4.18 to 4.21: from its row of the instruction table.
+use crate::instructions::Instruction;
+use std::alloc::{AllocError, Global};
+use y86_isa::{Access, Field, Next, Row, TermA, TermB};
+
+/// The stages.
+pub static STAGES: [&str; 6] = [
+    "fetch",
+    "decode",
+    "execute",
+    "memory",
+    "write-back",
+    "PC update",
+];
+
+/// The register that a column names.
+pub fn field_name(field: Field) -> Option<&'static str> {
+    match field {
+        Field::Dash => None,
+        Field::FieldA => Some("rA"),
+        Field::FieldB => Some("rB"),
+        Field::Stack => Some("%rsp"),
+    }
+}
+
+/// Adds a step.
+fn put(out: &mut Vec<String>, step: String) -> Result<(), AllocError> {
+    out.push(step)?;
+    Ok(())
+}
+
+/// Adds a step that is the same for all instructions that have it.
+fn put_fixed(alloc: Global, out: &mut Vec<String>, step: &str) -> Result<(), AllocError> {
+    put(out, String::from_str(alloc, step)?)
+}
+
+fn fetch(alloc: Global, out: &mut Vec<String>, row: &Row) -> Result<(), AllocError> {
+    put_fixed(alloc, out, "icode:ifun <- M1[PC]")?;
+    if row.has_byte {
+        put_fixed(alloc, out, "rA:rB <- M1[PC + 1]")?;
+    }
+    if row.has_const {
+        put_fixed(
+            alloc,
+            out,
+            if row.has_byte {
+                "valC <- M8[PC + 2]"
+            } else {
+                "valC <- M8[PC + 1]"
+            },
+        )?;
+    }
+    let length = row.length;
+    let mut step = String::new(alloc);
+    write!(step, "valP <- PC + {length}")?;
+    put(out, step)
+}
+
+/// Adds a read of a register.
+fn put_read(
+    alloc: Global,
+    out: &mut Vec<String>,
+    word: &str,
+    field: Field,
+) -> Result<(), AllocError> {
+    match field_name(field) {
+        Some(name) => {
+            let mut step = String::new(alloc);
+            write!(step, "{word} <- R[{name}]")?;
+            put(out, step)
+        }
+        None => Ok(()),
+    }
+}
+
+/// Adds a write of a register.
+fn put_write(
+    alloc: Global,
+    out: &mut Vec<String>,
+    before: &str,
+    field: Field,
+    word: &str,
+) -> Result<(), AllocError> {
+    match field_name(field) {
+        Some(name) => {
+            let mut step = String::new(alloc);
+            write!(step, "{before}R[{name}] <- {word}")?;
+            put(out, step)
+        }
+        None => Ok(()),
+    }
+}
+
+/// The ALU's first operand in a sum.
+fn first_operand(term: TermA) -> Option<&'static str> {
+    match term {
+        TermA::NoA => None,
+        TermA::ValA => Some("valA"),
+        TermA::ValC => Some("valC"),
+        TermA::Minus8 => Some("(-8)"),
+        TermA::Plus8 => Some("8"),
+    }
+}
+
+/// The ALU's second operand.
+fn second_operand(term: TermB) -> &'static str {
+    match term {
+        TermB::NoB => "",
+        TermB::Zero => "0",
+        TermB::ValB => "valB",
+    }
+}
+
+fn execute(alloc: Global, out: &mut Vec<String>, row: &Row) -> Result<(), AllocError> {
+    if let Some(first) = first_operand(row.alu_a) {
+        let second = second_operand(row.alu_b);
+        let operation = if row.selects { "OP" } else { "+" };
+        let mut step = String::new(alloc);
+        write!(step, "valE <- {second} {operation} {first}")?;
+        put(out, step)?;
+    }
+    if row.sets_flags {
+        put_fixed(alloc, out, "Set CC")?;
+    }
+    if row.conditional || row.next == Next::Branch {
+        put_fixed(alloc, out, "Cnd <- Cond(CC, ifun)")?;
+    }
+    Ok(())
+}
+
+fn memory(alloc: Global, out: &mut Vec<String>, row: &Row) -> Result<(), AllocError> {
+    match row.memory {
+        Access::NoMem => Ok(()),
+        Access::StoreA => put_fixed(alloc, out, "M8[valE] <- valA"),
+        Access::StoreP => put_fixed(alloc, out, "M8[valE] <- valP"),
+        Access::LoadE => put_fixed(alloc, out, "valM <- M8[valE]"),
+        Access::LoadA => put_fixed(alloc, out, "valM <- M8[valA]"),
+    }
+}
+
+fn update_pc(alloc: Global, out: &mut Vec<String>, row: &Row) -> Result<(), AllocError> {
+    put_fixed(
+        alloc,
+        out,
+        match row.next {
+            Next::Itself => "the machine stops with status HLT",
+            Next::Fall => "PC <- valP",
+            Next::Branch => "PC <- Cnd ? valC : valP",
+            Next::Target => "PC <- valC",
+            Next::Loaded => "PC <- valM",
+        },
+    )
+}
+
+/// What a stage does for an instruction, a step each. The stages are numbered from 0.
+pub fn steps_of(
+    alloc: Global,
+    instruction: &Instruction,
+    stage: usize,
+) -> Result<Vec<String>, AllocError> {
+    let row = &instruction.row;
+    let mut out: Vec<String> = Vec::new(alloc);
+    match stage {
+        0 => fetch(alloc, &mut out, row)?,
+        1 => {
+            put_read(alloc, &mut out, "valA", row.src_a)?;
+            put_read(alloc, &mut out, "valB", row.src_b)?;
+        }
+        2 => execute(alloc, &mut out, row)?,
+        3 => memory(alloc, &mut out, row)?,
+        4 => {
+            let before = if row.conditional { "if (Cnd) " } else { "" };
+            put_write(alloc, &mut out, before, row.dst_e, "valE")?;
+            put_write(alloc, &mut out, "", row.dst_m, "valM")?;
+        }
+        _ => update_pc(alloc, &mut out, row)?,
+    }
+    Ok(out)
+}
+
+/// Writes the bytes of an instruction as in CS:APP 3e, figure 4.2: the first byte, the register byte, and the constant.
+pub fn put_layout(out: &mut String, instruction: &Instruction) -> Result<(), AllocError> {
+    let row = &instruction.row;
+    let icode = instruction.icode;
+    let ifun = instruction.ifun;
+    write!(out, "{icode:x}{ifun:x}")?;
+    if row.has_byte {
+        out.push_str(if row.uses_a { " rA" } else { " F" })?;
+        out.push_str(if row.uses_b { ":rB" } else { ":F" })?;
+    }
+    if row.has_const {
+        let is_address = row.memory == Access::StoreA || row.memory == Access::LoadE;
+        out.push_str(if is_address { " D" } else { " V" })?;
+    }
+    Ok(())
+}
