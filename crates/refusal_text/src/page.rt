@@ -162,14 +162,14 @@ fn moves_wrongly(rule: u32, refutation: &Refutation) -> bool {
 }
 
 /// Writes a refusal of a file for PIPE.
-pub fn put_refusal(
+pub fn put_refusal<'a>(
     alloc: Global,
     out: &mut String,
     variant: Variant,
-    rows: &[Row],
-    terms: &[Term],
+    rows: &'a [Row],
+    terms: &'a [Term],
     cases: &[CasePlace<'_>],
-    refusal: &Refusal,
+    refusal: &'a Refusal,
 ) -> Result<(), AllocError> {
     let rule = refusal.first.rule;
     let scene = scene_of(variant, rows, terms, refusal, &refusal.first);
@@ -184,13 +184,8 @@ pub fn put_refusal(
     put_stages(out, &motion.lines)?;
     put_comparisons(out, &scene.values)?;
     if rule <= 22 {
-        put_findings(
-            alloc,
-            out,
-            &scene.values,
-            cases,
-            scene.diagnosis.findings.items(),
-        )?;
+        let findings = refusal.first.diagnosis.findings.items();
+        put_findings(alloc, out, &scene.values, cases, findings)?;
     }
     if moves_wrongly(rule, &refusal.first) {
         put_motion(alloc, out, &scene, rule, &motion)?;
