@@ -8,7 +8,7 @@ import re
 import pytest
 
 from helpers.cases import cases
-from helpers.designs import design, example, replaced
+from helpers.designs import changed, design, example, replaced
 from helpers.pages import broken
 
 # The obligation, then its wrong signals as the page of a refusal says them.
@@ -103,6 +103,41 @@ def test_others(row, y86_tell):
     said = json.loads(answer.out)
     assert [it["obligation"]["label"] for it in said["refuted"]] == labels
     assert said["mend_first"] == first
+
+
+# A change of std.hcl that leaves two signals wrong at once, and what repairs them: the pairs of signals, then a signal with a choice of `f_pc`.
+TWO = [
+    # Figure 4.66, load/use: F and D have to stall while E is bubbled. If D alone does, F goes on and the instruction that F fetched is skipped.
+    ("load/use stalls neither F nor D", {"F_stall": "IRET in { D_icode, E_icode, M_icode }", "D_stall": "0"}, "O24", [["F_stall", "D_stall"]], []),
+    # The ret in W: its target is W_valM, which only f_pc picks, and D has to load what is fetched there.
+    (
+        "f_pc without the ret, and D bubbled there",
+        {"f_pc": "[ M_icode == IJXX && !M_Cnd : M_valA; 1 : F_predPC; ]", "D_bubble": "W_icode == IRET || (@)"},
+        "O25",
+        [],
+        [{"invert": "D_bubble", "f_pc": "W_valM"}],
+    ),
+    # One alone repairs it: D_stall inverted, D keeps the instruction that waits for the load. Pairs aren't named then.
+    ("D never stalls", {"D_stall": "0"}, "O24", [], []),
+]
+
+
+@cases(TWO)
+def test_two_changes(row, y86_tell):
+    """Where no change alone repairs the motion, the pairs that do are named, and they are the definitions of std.hcl that were changed."""
+    _, bodies, label, both, with_pc = row
+    answer = y86_tell("check", "pipe", "d.hcl", "--json", files={"d.hcl": changed(design("std"), **bodies)})
+    first = json.loads(answer.out)["refuted"][0]
+    assert first["obligation"]["label"] == label
+    motion = first["motion"]
+    assert (motion["invert_both"], motion["invert_and_f_pc"]) == (both, with_pc)
+    assert (motion["invert"] == [] and motion["f_pc"] == []) == bool(both or with_pc)
+
+
+def test_two_changes_in_words(y86_tell):
+    _, bodies, _, _, _ = TWO[1]
+    out = y86_tell("check", "pipe", "d.hcl", files={"d.hcl": changed(design("std"), **bodies)}).text()[1]
+    assert "A repair: no change alone meets O10, O11 and O23 to O27 here, but each of these pairs does.\n    Invert D_bubble, and let f_pc be W_valM.\n" in out
 
 
 def test_yes(y86_tell):

@@ -59,5 +59,5 @@ unfoldable pub pc_repairs : Variant → Settings → Fields → View → Movers 
 pc_repairs v s c y mv α leaves = filter (is_pc_repair v s c y mv α leaves) pc_sources
 
 -- the signals of which each, inverted alone, meets them all
-unfoldable pub repairs : Variant → Settings → Fields → View → Movers → Assignment → (ℕ → Leaf) → List ℕ
-repairs v s c y mv α cv = filter (λ name. meets_motion v s c y (with_inverted name mv) α cv) stall_bubble_signals
+unfoldable pub signal_repairs : Variant → Settings → Fields → View → Movers → Assignment → (ℕ → Leaf) → List ℕ
+signal_repairs v s c y mv α cv = filter (λ name. meets_motion v s c y (with_inverted name mv) α cv) stall_bubble_signals

@@ -104,7 +104,7 @@ pub fn meets_motion(n: &Now<'_>) -> bool
 }
 
 /// Whether they are met with one of the signals inverted.
-fn is_repaired(n: &Now<'_>, signal: NameId) -> bool
+pub(crate) fn is_repaired(n: &Now<'_>, signal: NameId) -> bool
     ensures { result ≡ spec.meets_motion n.now.v n.now.s.now (fields_in n.now.l.now) (view_in n.now.y.now) (spec.with_inverted signal (movers_in n.now.mv.now)) unread (at n.now.leaves.now) }
 {
     let mv = with_inverted(signal, n.mv);
@@ -133,7 +133,7 @@ static SIGNALS: [NameId; 10] = [
     name::W_BUBBLE,
 ];
 
-fn stall_bubble_signals() -> &'static [NameId]
+pub(crate) fn stall_bubble_signals() -> &'static [NameId]
     ensures { result.now ≡ spec.stall_bubble_signals }
 {
     &SIGNALS
@@ -149,9 +149,9 @@ fn put(out: &mut Vec<NameId>, signal: NameId) -> Result<(), Memory>
 }
 
 /// The signals of which each, inverted alone, meets all obligations on motion.
-#[tactic(auto, unfolding(crate::specs::Changes::repairs))]
-pub fn repairs(alloc: Global, n: &Now<'_>) -> Result<Vec<NameId>, Memory>
-    ensures { IfOk result (λ r. r.items ≡ spec.repairs n.now.v n.now.s.now (fields_in n.now.l.now) (view_in n.now.y.now) (movers_in n.now.mv.now) unread (at n.now.leaves.now)) }
+#[tactic(auto, unfolding(crate::specs::Changes::signal_repairs))]
+pub fn signal_repairs(alloc: Global, n: &Now<'_>) -> Result<Vec<NameId>, Memory>
+    ensures { IfOk result (λ r. r.items ≡ spec.signal_repairs n.now.v n.now.s.now (fields_in n.now.l.now) (view_in n.now.y.now) (movers_in n.now.mv.now) unread (at n.now.leaves.now)) }
 {
     let mut out = Vec::new(alloc);
     for signal in stall_bubble_signals() {
@@ -181,7 +181,7 @@ fn with_pc(alloc: Global, leaves: &[Leaf], source: NameId) -> Result<Vec<Leaf>, 
 
 /// Whether the obligations on motion are met where `f_pc` picks this name.
 #[tactic(auto, unfolding(crate::specs::Changes::is_pc_repair))]
-fn is_repaired_by_pc(alloc: Global, n: &Now<'_>, source: NameId) -> Result<bool, Memory>
+pub(crate) fn is_repaired_by_pc(alloc: Global, n: &Now<'_>, source: NameId) -> Result<bool, Memory>
     ensures { IfOk result (λ met. met ≡ spec.is_pc_repair n.now.v n.now.s.now (fields_in n.now.l.now) (view_in n.now.y.now) (movers_in n.now.mv.now) unread n.now.leaves.now source) }
 {
     let leaves = with_pc(alloc, n.leaves, source)?;
@@ -207,7 +207,7 @@ static PC_SOURCES: [NameId; 7] = [
     name::HELD_W_VAL_M,
 ];
 
-fn pc_sources() -> &'static [NameId]
+pub(crate) fn pc_sources() -> &'static [NameId]
     ensures { result.now ≡ spec.pc_sources }
 {
     &PC_SOURCES

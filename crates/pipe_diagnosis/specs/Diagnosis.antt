@@ -15,7 +15,7 @@ use Rattle.pipe_obligations.specs.Settled.{PipeControls}
 use Rattle.pipe_obligations.specs.Stages.{view_of}
 use Rattle.findings.specs.Findings.{are_right, finding}
 use Rattle.pipe_requirements.specs.Requirements.{requirements, unread}
-use Rattle.motion_repairs.specs.Changes as changes
+use Rattle.motion_repairs.specs.Pairs.{AreRepairs}
 use Rattle.pipe_diagnosis.specs.declared.diagnosis.Diagnosis.{Diagnosis}
 
 -- Obligation i is false of the valuation that the bits spell.
@@ -32,9 +32,5 @@ pub record IsDiagnosis (v : Variant) (terms : List Term) (s : Settings) (atoms :
       ≡ map (finding signal.f_pc terms (assigned atoms bit_count w) (at diagnosis.leaves)) (requirements v s (fields_of w) (view_of v s (fields_of w)) (movers_of (assigned atoms bit_count w) (at diagnosis.leaves)) (at diagnosis.leaves) i)
   -- at least one isn't met
   pub one_wrong : i ≤ 22 → are_right diagnosis.findings ≡ false
-  -- the stall and bubble signals of which each, inverted alone, would meet all obligations on motion
-  pub repairs : diagnosis.repairs
-      ≡ changes.repairs v s (fields_of w) (view_of v s (fields_of w)) (movers_of (assigned atoms bit_count w) (at diagnosis.leaves)) unread (at diagnosis.leaves)
-  -- the names of which each, picked by f_pc, would meet all obligations on motion
-  pub pc_repairs : diagnosis.pc_repairs
-      ≡ changes.pc_repairs v s (fields_of w) (view_of v s (fields_of w)) (movers_of (assigned atoms bit_count w) (at diagnosis.leaves)) unread diagnosis.leaves
+  -- the changes that would meet all obligations on motion
+  pub repairs : AreRepairs v s (fields_of w) (view_of v s (fields_of w)) (movers_of (assigned atoms bit_count w) (at diagnosis.leaves)) unread diagnosis.leaves diagnosis.repairs

@@ -10,7 +10,7 @@ ghost use Rattle.pipe_requirements.specs.Views.{fields_in, movers_in, view_in};
 ghost use Rattle.dp_signals.specs.PipeNames as signal;
 ghost use Rattle.findings.specs.Findings.{finding};
 ghost use Rattle.pipe_fields.specs.Layout.{bit_count, fields_of};
-ghost use Rattle.motion_repairs.specs.Changes as changes;
+ghost use Rattle.motion_repairs.specs.Pairs as pairs;
 ghost use Rattle.pipe_obligations.specs.Obligations as rule;
 ghost use Rattle.pipe_obligations.specs.Settled.{PipeControls};
 ghost use Rattle.pipe_obligations.specs.Stages as stages;
@@ -21,7 +21,7 @@ use ctl_atoms::{Atom, Leaf};
 use dp_signals::{pipe_row as name, pipe_table};
 use findings::{Finding, Requirement, findings_of, leaf_at};
 use hcl_types::{Design, NameId, Order, Term};
-use motion_repairs::{pc_repairs, repairs};
+use motion_repairs::{Repairs, repairs_of};
 use pipe_fields::{BIT_COUNT, spots};
 use pipe_motion::Settings;
 use pipe_requirements::{MoverNow, MoversNow, Now, lines_of, requirements_of, view_of};
@@ -32,8 +32,7 @@ use y86_base::{Items, Memory, Variant};
 #[derive(Drop)]
 struct Found {
     findings: Items<Finding>,
-    repairs: Items<NameId>,
-    pc_repairs: Items<NameId>,
+    repairs: Repairs,
 }
 
 /// What is wrong at a valuation.
@@ -43,10 +42,8 @@ pub struct Diagnosis {
     pub leaves: Items<Leaf>,
     /// A finding for each signal of an obligation from 1 to 22.
     pub findings: Items<Finding>,
-    /// The stall and bubble signals of which each, inverted alone, would meet all obligations on motion.
-    pub repairs: Items<NameId>,
-    /// The names of which each, picked by `f_pc`, would meet all obligations on motion.
-    pub pc_repairs: Items<NameId>,
+    /// The changes that would meet all obligations on motion.
+    pub repairs: Repairs,
 }
 
 /// Whether a signal holds.
@@ -112,10 +109,8 @@ fn found_at(
     ensures findings { number ≤ 22 → IfOk result (λ r. r.findings ≡ map (finding signal.f_pc terms.now (assigned scope.now.atoms.now scope.now.first scope.now.bits.now) (at scope.now.leaves.now))
         (requirements v s.now (fields_of scope.now.bits.now) (stages.view_of v s.now (fields_of scope.now.bits.now))
         (rule.movers_of (assigned scope.now.atoms.now scope.now.first scope.now.bits.now) (at scope.now.leaves.now)) (at scope.now.leaves.now) number)) }
-    ensures repairs { IfOk result (λ r. r.repairs ≡ changes.repairs v s.now (fields_of scope.now.bits.now) (stages.view_of v s.now (fields_of scope.now.bits.now))
-        (rule.movers_of (assigned scope.now.atoms.now scope.now.first scope.now.bits.now) (at scope.now.leaves.now)) unread (at scope.now.leaves.now)) }
-    ensures pc_repairs { IfOk result (λ r. r.pc_repairs ≡ changes.pc_repairs v s.now (fields_of scope.now.bits.now) (stages.view_of v s.now (fields_of scope.now.bits.now))
-        (rule.movers_of (assigned scope.now.atoms.now scope.now.first scope.now.bits.now) (at scope.now.leaves.now)) unread scope.now.leaves.now) }
+    ensures repairs { IfOk result (λ r. pairs.AreRepairs v s.now (fields_of scope.now.bits.now) (stages.view_of v s.now (fields_of scope.now.bits.now))
+        (rule.movers_of (assigned scope.now.atoms.now scope.now.first scope.now.bits.now) (at scope.now.leaves.now)) unread scope.now.leaves.now r.repairs) }
 {
     let l = lines_of(scope.bits);
     let y = view_of(v, s, &l);
@@ -130,12 +125,10 @@ fn found_at(
     };
     let all = requirements_at(alloc, &n, number)?;
     let findings = findings_of(alloc, scope, terms, name::F_PC, all.as_slice())?;
-    let repairs = repairs(alloc, &n)?;
-    let by_pc = pc_repairs(alloc, &n)?;
+    let repairs = repairs_of(alloc, &n)?;
     Ok(Found {
         findings: Items::of(findings),
-        repairs: Items::of(repairs),
-        pc_repairs: Items::of(by_pc),
+        repairs,
     })
 }
 
@@ -178,6 +171,5 @@ pub fn diagnose(
         leaves: Items::of(leaves),
         findings: found.findings,
         repairs: found.repairs,
-        pc_repairs: found.pc_repairs,
     })
 }

@@ -2,7 +2,7 @@
 //!
 //! Of an obligation from 1 to 22 it says of each signal what the obligation requires and what the file picks.
 //! At least one signal is wrong.
-//! Of an obligation on motion it says which single change of a stall or bubble signal meets all of them.
+//! Of an obligation on motion it says which changes meet all of them: of stall and bubble signals, and of `f_pc`.
 #![tactic(auto)]
 
 mod diagnosis;

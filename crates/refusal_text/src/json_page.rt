@@ -129,6 +129,31 @@ fn put_mover(
     out.end_object()
 }
 
+/// Writes the changes that repair the motion.
+fn put_repairs(out: &mut Out, scene: &Scene<'_>) -> Result<(), AllocError> {
+    let repairs = &scene.diagnosis.repairs;
+    put_names(out, scene, "invert", repairs.invert.items())?;
+    put_names(out, scene, "f_pc", repairs.f_pc.items())?;
+    out.key("invert_both")?;
+    out.begin_array()?;
+    for pair in repairs.invert_both.items() {
+        out.begin_array()?;
+        out.string(scene.name(pair.first))?;
+        out.string(scene.name(pair.second))?;
+        out.end_array()?;
+    }
+    out.end_array()?;
+    out.key("invert_and_f_pc")?;
+    out.begin_array()?;
+    for pair in repairs.invert_and_f_pc.items() {
+        out.begin_object()?;
+        put_text(out, "invert", scene.name(pair.first))?;
+        put_text(out, "f_pc", scene.name(pair.second))?;
+        out.end_object()?;
+    }
+    out.end_array()
+}
+
 fn put_motion(
     alloc: Global,
     out: &mut Out,
@@ -154,8 +179,7 @@ fn put_motion(
         out.string(fault)?;
     }
     out.end_array()?;
-    put_names(out, scene, "invert", scene.diagnosis.repairs.items())?;
-    put_names(out, scene, "f_pc", scene.diagnosis.pc_repairs.items())?;
+    put_repairs(out, scene)?;
     out.end_object()
 }
 

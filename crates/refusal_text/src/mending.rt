@@ -11,8 +11,8 @@ pub fn is_motion(rule: u32) -> bool {
     rule == 10 || rule == 11 || rule >= 23
 }
 
-/// The signals that are wrong at a counterexample: those of its findings. Of an obligation on motion without one the signals that
-/// would repair it, and `f_pc` where none would.
+/// The signals that are wrong at a counterexample: those of its findings. Of an obligation on motion the signals that repairs
+/// invert, and `f_pc` where they invert none.
 pub fn wrong_signals(alloc: Global, refutation: &Refutation) -> Result<Vec<NameId>, AllocError> {
     let mut out: Vec<NameId> = Vec::new(alloc);
     for finding in refutation.diagnosis.findings.items() {
@@ -21,8 +21,16 @@ pub fn wrong_signals(alloc: Global, refutation: &Refutation) -> Result<Vec<NameI
         }
     }
     if refutation.rule >= 23 {
-        for signal in refutation.diagnosis.repairs.items() {
+        let repairs = &refutation.diagnosis.repairs;
+        for signal in repairs.invert.items() {
             put_once(&mut out, *signal)?;
+        }
+        for pair in repairs.invert_both.items() {
+            put_once(&mut out, pair.first)?;
+            put_once(&mut out, pair.second)?;
+        }
+        for pair in repairs.invert_and_f_pc.items() {
+            put_once(&mut out, pair.first)?;
         }
         if out.is_empty() {
             out.push(dp_signals::pipe_row::F_PC)?;

@@ -9,6 +9,7 @@ use finding_text::{
     CasePlace, put_comparisons, put_finding, put_findings, put_leaf, put_obligation, put_paragraph,
 };
 use hcl_types::{NameId, Row, Term};
+use motion_repairs::Repairs;
 use pipe_diagnosis::{Refusal, Refutation};
 use pipe_requirements::Wanted;
 use std::alloc::{AllocError, Global};
@@ -72,27 +73,95 @@ fn put_choices(out: &mut String, scene: &Scene<'_>, ids: &[NameId]) -> Result<()
     Ok(())
 }
 
-/// Writes which changes would repair the motion.
-fn put_repairs(out: &mut String, scene: &Scene<'_>) -> Result<(), AllocError> {
-    let signals = scene.diagnosis.repairs.items();
-    let sources = scene.diagnosis.pc_repairs.items();
-    if signals.is_empty() && sources.is_empty() {
-        return out.push_str(
-            "\nNo single change of a stall or bubble signal meets O10, O11 and O23 to O27 here, and no other\nchoice of f_pc does.\n",
-        );
-    }
+/// Writes a name, and what comes before it.
+fn put_change(
+    out: &mut String,
+    scene: &Scene<'_>,
+    before: &str,
+    id: NameId,
+) -> Result<(), AllocError> {
+    out.push_str(before)?;
+    out.push_str(scene.name(id))
+}
+
+/// Writes the changes of which each alone repairs the motion.
+fn put_single_repairs(
+    out: &mut String,
+    scene: &Scene<'_>,
+    repairs: &Repairs,
+) -> Result<(), AllocError> {
     out.push_str("\nA repair: one of these changes alone meets O10, O11 and O23 to O27 here.\n")?;
-    if !signals.is_empty() {
+    if !repairs.invert.items().is_empty() {
         out.push_str("    Invert ")?;
-        put_choices(out, scene, signals)?;
+        put_choices(out, scene, repairs.invert.items())?;
         out.push_str(".\n")?;
     }
-    if !sources.is_empty() {
+    if !repairs.f_pc.items().is_empty() {
         out.push_str("    Let f_pc be ")?;
-        put_choices(out, scene, sources)?;
+        put_choices(out, scene, repairs.f_pc.items())?;
         out.push_str(".\n")?;
     }
     Ok(())
+}
+
+/// Writes the changes of which two together repair the motion.
+fn put_double_repairs(
+    out: &mut String,
+    scene: &Scene<'_>,
+    repairs: &Repairs,
+) -> Result<(), AllocError> {
+    out.push_str(
+        "\nA repair: no change alone meets O10, O11 and O23 to O27 here, but each of these pairs does.\n",
+    )?;
+    for pair in repairs.invert_both.items() {
+        put_change(out, scene, "    Invert ", pair.first)?;
+        put_change(out, scene, " and ", pair.second)?;
+        out.push_str(".\n")?;
+    }
+    for pair in repairs.invert_and_f_pc.items() {
+        put_change(out, scene, "    Invert ", pair.first)?;
+        put_change(out, scene, ", and let f_pc be ", pair.second)?;
+        out.push_str(".\n")?;
+    }
+    Ok(())
+}
+
+/// Writes which changes would repair the motion.
+fn put_repairs(out: &mut String, scene: &Scene<'_>) -> Result<(), AllocError> {
+    let repairs = &scene.diagnosis.repairs;
+    if !repairs.invert.items().is_empty() || !repairs.f_pc.items().is_empty() {
+        put_single_repairs(out, scene, repairs)
+    } else if !repairs.invert_both.items().is_empty()
+        || !repairs.invert_and_f_pc.items().is_empty()
+    {
+        put_double_repairs(out, scene, repairs)
+    } else {
+        out.push_str(
+            "\nNo change alone meets O10, O11 and O23 to O27 here, and no two changes together do.\n",
+        )
+    }
+}
+
+/// Writes which inverted signals would repair the motion, if any would: one alone, or two together.
+fn put_other_repairs(
+    out: &mut String,
+    scene: &Scene<'_>,
+    repairs: &Repairs,
+) -> Result<(), AllocError> {
+    let single = repairs.invert.items();
+    let both = repairs.invert_both.items();
+    if single.is_empty() && both.is_empty() {
+        return Ok(());
+    }
+    out.push_str("; inverting ")?;
+    put_choices(out, scene, single)?;
+    let mut is_first = true;
+    for pair in both {
+        put_change(out, scene, if is_first { "" } else { " or " }, pair.first)?;
+        put_change(out, scene, " and ", pair.second)?;
+        is_first = false;
+    }
+    out.push_str(" would repair it")
 }
 
 /// Writes in a line what is wrong at the counterexample of another obligation.
@@ -115,13 +184,8 @@ fn put_other(
         }
     }
     if is_first {
-        let ids = other.diagnosis.repairs.items();
         out.push_str("it is about stalls and bubbles")?;
-        if !ids.is_empty() {
-            out.push_str("; inverting ")?;
-            put_choices(out, scene, ids)?;
-            out.push_str(" would repair it")?;
-        }
+        put_other_repairs(out, scene, &other.diagnosis.repairs)?;
         out.push_str(".")?;
     }
     put_paragraph(alloc, page, "    ", "         ", said.as_str())

@@ -38,6 +38,11 @@ function repairOf(text, name, motion) {
   return place ? Object.assign(found, { from: place.from, to: place.to, start: place.start, end: place.end, source: place.body }) : found;
 }
 
+/** The signals that the repairs invert, each once. */
+function invertedBy(motion) {
+  return [...new Set([...motion.invert, ...motion.invert_both.flat(), ...motion.invert_and_f_pc.map((it) => it.invert)])];
+}
+
 function nextInWords(motion) {
   const does = (it) => (motion[it].stall && motion[it].bubble ? "is stalled and bubbled" : motion[it].stall ? "is stalled" : motion[it].bubble ? "is bubbled" : "loads");
   return `${STAGES.map((it) => `${it} ${does(it)}`).join(", ")}; the fetch is ${motion.fetch_is_right ? "right" : "on the wrong path"}.`;
@@ -48,7 +53,10 @@ function motionOf(motion, isStillLoaded) {
   if (!motion) return [];
   const said = motion.faults.map((text) => ({ text }));
   if (said.length) said.unshift({ text: nextInWords(motion), isStep: true });
-  const repairs = [...motion.invert.map((it) => `inverting ${it}`), ...motion.f_pc.map((it) => `f_pc as ${it}`)];
+  const repairs = [
+    ...motion.invert.map((it) => `inverting ${it}`), ...motion.f_pc.map((it) => `f_pc as ${it}`),
+    ...motion.invert_both.map((it) => `inverting ${it.join(" and ")}`), ...motion.invert_and_f_pc.map((it) => `inverting ${it.invert} with f_pc as ${it.f_pc}`),
+  ];
   if (repairs.length) said.push({ text: `A repair in this situation: ${repairs.join(", or ")}.`, isStep: true });
   if (isStillLoaded) said.push({ text: "The instruction in E still has to load that register, so no choice is right: the instruction in D has to wait, and it goes on to E." });
   return said;
@@ -66,7 +74,7 @@ function refusalOf(text, refuted) {
   const { obligation, counterexample, motion } = refuted, rule = obligation.label;
   const isStillLoaded = refuted.signals.some((it) => !it.right && it.wanted === null);
   const signals = refuted.signals.filter((it) => !it.right || refuted.signals.every((other) => other.right)).map((it) => signalOf(text, it));
-  for (const it of motion?.invert ?? []) signals.push(repairOf(text, it, motion));
+  for (const it of motion ? invertedBy(motion) : []) signals.push(repairOf(text, it, motion));
   if (isStillLoaded) for (const it of ["D_stall", "E_bubble"]) if (motion && !motion[it[0]][it.slice(2)]) signals.push(repairOf(text, it, motion));
   const moves = motionOf(motion, isStillLoaded), { comparisons, ...lines } = counterexample;
   const stages = Object.fromEntries(Object.entries(lines).map(([stage, it]) => [stage, it.kind === WRONG ? { ...it, kind: "wrong" } : it]));

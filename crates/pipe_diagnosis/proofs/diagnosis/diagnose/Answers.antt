@@ -10,7 +10,7 @@ use Rattle.control_values.specs.Given.{assigned, at, field_at}
 use Rattle.field_bits.specs.declared.spots.Spot.{Spot}
 use Rattle.pipe_fields.specs.Layout.{bit_count, fields_of, spots}
 use Rattle.pipe_requirements.specs.Requirements.{requirements, unread}
-use Rattle.motion_repairs.specs.Changes as changes
+use Rattle.motion_repairs.specs.Pairs.{AreRepairs}
 use Rattle.pipe_obligations.specs.Obligations.{movers_of}
 use Rattle.pipe_obligations.specs.Stages.{view_of}
 use Rattle.findings.proofs.EachMet.{atoms_given}
@@ -50,7 +50,6 @@ returns c =
         false_there = false_there;
         findings = findings;
         one_wrong = λ le. ap are_right (findings le) ∙ one_wrong v terms s atoms i w α cv c.requires.first le false_there;
-        repairs = c.in_ok-found.ensures.repairs ∙ ap (λ (xs : List Leaf). changes.repairs v s (fields_of w) (view_of v s (fields_of w)) (movers_of α (at xs)) unread (at xs)) same;
-        pc_repairs = c.in_ok-found.ensures.pc_repairs ∙ ap (λ (xs : List Leaf). changes.pc_repairs v s (fields_of w) (view_of v s (fields_of w)) (movers_of α (at xs)) unread xs) same;
+        repairs = subst (λ (xs : List Leaf). AreRepairs v s (fields_of w) (view_of v s (fields_of w)) (movers_of α (at xs)) unread xs c.in_ok-found.found.repairs) same c.in_ok-found.ensures.repairs;
       };
     }

@@ -3,7 +3,7 @@ use Rattle.control_values.specs.Given.{at}
 use Rattle.pipe_requirements.specs.Requirements.{unread}
 use Rattle.pipe_requirements.specs.Views.{fields_in, movers_in, view_in}
 use Rattle.motion_repairs.specs.Changes.{meets_motion, with_inverted}
-use Rattle.motion_repairs.proofs.changes.repairs.Given as goal
+use Rattle.motion_repairs.proofs.changes.signal_repairs.Given as goal
 
 abbrev pub invariant-loop-signal : goal.invariant-loop-signal
 invariant-loop-signal l =
