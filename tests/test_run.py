@@ -111,6 +111,17 @@ def test_another_instruction_retires(told, run):
     assert "\n    it retires        0x00e: nop\n    it should retire  0x010: halt\n" in run(NO_WAIT_FOR_RET, text)[1]
 
 
+def test_an_instruction_behind_the_end(told, run):
+    """W keeps the halt, and Stat isn't its status: it retires again in the next cycle."""
+    again = changed(design("std"), Stat="[ W_stat == SHLT : SAOK; @ ]")
+    status, said = told(again, "0x000: 00 |\n")
+    same((status, some(said, ("outcome", "instructions", "cycles", "wrong", "wanted", "steps"))),
+        (1, {"outcome": "instruction", "instructions": 1, "cycles": 6, "wrong": ["instruction"], "wanted": None, "steps": 1}))
+    same((said["retired"]["address"], said["retired"]["instruction"]), ("0x000", "halt"))
+    out = run(again, "0x000: 00 |\n")[1]
+    assert out.startswith("In cycle 6 the pipeline retires an instruction, but the program has stopped with status HLT:\n\n    0x000: halt\n")
+
+
 # A file, a program, the instructions, the cycles, the name of what is wrong, and what it is and should be.
 STATES = [
     # ret waits in D for the load in E and behind itself: D is stalled and bubbled in cycle 4
