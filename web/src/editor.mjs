@@ -1,15 +1,20 @@
-// An editor: a textarea over its coloured text, with line numbers, marks, and notes under a line. The textarea keeps the browser's own undo and selection.
+// An editor: a textarea over its coloured text, with line numbers, marks, and notes under a line. The textarea keeps
+// the browser's own undo and selection. Its text can't be seen, and it has no room for a note between two lines: so it
+// is moved by its padding to where the line is that is worked on, by keys or with the pointer.
 import { coloured } from "./colours.mjs";
 import { Completion } from "./completion.mjs";
 import { lineAt, startOf } from "./dom.mjs";
+import { Gaps } from "./gaps.mjs";
 
-const PAD = 8, LABELS = { hcl: "Processor, in HCL", ys: "Program, in Y86-64 assembly" };
-const frame = (label) => `<div class="gutter"><div></div></div><div class="paper"><div class="under"></div><pre class="colours" aria-hidden="true"></pre>
-<textarea spellcheck="false" autocapitalize="off" autocomplete="off" autocorrect="off" wrap="off" aria-label="${label}"></textarea><div class="notes"></div></div>`;
+const PAD = 8, MARGIN = 3, TAB = 8, LABELS = { hcl: "Processor, in HCL", ys: "Program, in Y86-64 assembly" };
+const PLAIN = 'spellcheck="false" autocapitalize="off" autocomplete="off" autocorrect="off" wrap="off"';
+const frame = (label) => `<div class="gutter"><div></div></div><div class="paper"><div class="under"></div>`
+  + `<pre class="colours" aria-hidden="true"></pre><textarea ${PLAIN} aria-label="${label}"></textarea>`
+  + `<div class="notes"></div></div>`;
 
 export class Editor {
   constructor(root, which, changed) {
-    Object.assign(this, { root, which, changed, marks: [], notes: [], lines: 0, onLine: null });
+    Object.assign(this, { root, which, changed, marks: [], notes: [], gaps: new Gaps(), lines: 0, onLine: null });
     root.innerHTML = frame(LABELS[which]);
     [this.gutter, this.paper] = root.children;
     [this.under, this.pre, this.area, this.over] = this.paper.children;
@@ -22,7 +27,10 @@ export class Editor {
     this.area.addEventListener("input", () => this.typed());
     this.area.addEventListener("scroll", () => this.scrolled());
     this.area.addEventListener("keydown", (it) => this.key(it));
-    for (const it of ["keyup", "click", "focus", "blur"]) this.area.addEventListener(it, () => this.uncover());
+    for (const it of ["keydown", "keyup", "click"]) this.area.addEventListener(it, () => this.toCaret());
+    for (const it of ["pointermove", "pointerdown"]) this.area.addEventListener(it, (event) => this.toPointer(event));
+    this.area.addEventListener("pointerleave", () => this.toCaret());
+    new ResizeObserver(() => this.notes.length && this.paint()).observe(this.paper);
     this.gutter.addEventListener("click", (it) => {
       const line = it.target.closest("[data-line]");
       if (line) this.onLine?.(Number(line.dataset.line));
@@ -30,6 +38,7 @@ export class Editor {
     this.over.addEventListener("click", (it) => {
       if (it.target.closest("button")) this.hide(it.target.closest(".note"));
     });
+    this.over.addEventListener("wheel", (it) => (this.area.scrollTop += it.deltaY), { passive: true });
   }
 
   get text() {
@@ -49,11 +58,18 @@ export class Editor {
   }
 
   typed() {
-    this.marks = [];
-    this.notes = [];
+    const before = this.lines;
     this.draw();
+    this.keep(this.lines - before);
     this.changed();
     this.completion.offer();
+  }
+
+  /** Keeps the notes at their lines until the next answer comes, so that nothing jumps; so many lines are new. */
+  keep(more) {
+    const [, line] = this.caretLines, first = line - Math.max(more, 0);
+    const moved = (it) => (it >= first ? Math.max(line, it + more) : it);
+    this.show([], this.notes.map((it) => ({ ...it, line: moved(it.line), column: 0, span: null, isOld: true })));
   }
 
   key(event) {
@@ -75,10 +91,56 @@ export class Editor {
     this.area.dispatchEvent(new Event("input"));
   }
 
+  /** Where a line begins, from the text's top; a line that is `more` lines long ends there. */
+  top(line, more = 0) {
+    return PAD + (line - 1 + more) * this.lineHeight + this.gaps.above(line);
+  }
+
+  /** The lines of the selection's ends; that of the caret twice where nothing is selected. */
+  get caretLines() {
+    const { value, selectionStart, selectionEnd } = this.area, last = lineAt(value, selectionEnd);
+    return [document.activeElement === this.area ? lineAt(value, selectionStart) : last, last];
+  }
+
+  /** How many letters wide the text of a line before a place is. */
+  columnAt(offset) {
+    const before = this.text.slice(this.text.lastIndexOf("\n", offset - 1) + 1, offset);
+    return Array.from(before).reduce((column, it) => (it === "\t" ? column + TAB - (column % TAB) : column + 1), 0);
+  }
+
+  /** Moves the textarea's text to where the caret's line is drawn. A selection over a note closes the gap. */
+  toCaret() {
+    const [first, last] = this.caretLines, isOver = this.gaps.above(first) !== this.gaps.above(last);
+    if (isOver && !this.isClosed) this.close(true);
+    else if (this.isClosed && first === last) this.close(false);
+    this.align(last);
+  }
+
+  /** Moves it to where the line under the pointer is drawn, so that a click meets it. */
+  toPointer({ clientY }) {
+    if (!this.gaps.total) return;
+    const height = clientY - this.area.getBoundingClientRect().top + this.area.scrollTop - PAD;
+    this.align(this.gaps.lineAt(height, this.lineHeight));
+  }
+
+  align(line) {
+    const above = this.gaps.above(line), { style } = this.area;
+    style.paddingTop = `${PAD + above}px`;
+    style.paddingBottom = `${PAD + this.gaps.total - above}px`;
+    this.area.classList.toggle("away", above !== this.gaps.above(this.caretLines[1]));
+  }
+
+  /** Hides the notes and their gaps, or shows them again. */
+  close(isClosed) {
+    this.isClosed = isClosed;
+    this.paint();
+  }
+
   /** Puts a list under the caret, so many letters back. */
   place(list, back) {
-    const { value, selectionStart: at } = this.area, line = lineAt(value, at), column = at - value.lastIndexOf("\n", at - 1) - 1 - back;
-    list.style.top = `${PAD + line * this.lineHeight - this.area.scrollTop}px`;
+    const { value, selectionStart: at } = this.area, line = lineAt(value, at);
+    const column = this.columnAt(at) - back;
+    list.style.top = `${this.top(line, 1) - this.area.scrollTop}px`;
     list.style.left = `calc(${column}ch + 10px - ${this.area.scrollLeft}px)`;
   }
 
@@ -92,13 +154,24 @@ export class Editor {
     if (this.completion.isOpen) this.place(this.completion.list, this.completion.typed.length);
   }
 
+  /** Draws the text in colours; a gap takes the place of the end of its line. */
+  colour() {
+    const gap = (line, none) => {
+      const tall = this.gaps.under(line);
+      return tall ? `<span class="gap" style="height:${tall}px"></span>` : none;
+    };
+    const lines = coloured(this.text, this.which).split("\n").map((it, at) => it + gap(at + 1, "\n"));
+    this.pre.innerHTML = gap(0, "") + lines.join("");
+  }
+
   draw() {
-    this.pre.innerHTML = `${coloured(this.text, this.which)}\n`;
+    this.colour();
     const count = this.text.split("\n").length;
     if (count !== this.lines) {
       this.lines = count;
       const numbers = Array.from({ length: count }, (_, at) => `<span data-line="${at + 1}">${at + 1}</span>`);
       this.gutter.firstElementChild.innerHTML = numbers.join("");
+      this.spread();
       this.scrolled();
     }
     this.paint();
@@ -106,7 +179,7 @@ export class Editor {
 
   /** Shows marks, `{ from, to, kind }` by lines, and notes under lines, `{ line, column, kind, html, span }`. */
   show(marks, notes) {
-    Object.assign(this, { marks, notes });
+    Object.assign(this, { marks, notes, isClosed: false });
     this.paint();
   }
 
@@ -115,20 +188,49 @@ export class Editor {
   }
 
   paint() {
-    const tall = this.lineHeight;
-    this.under.innerHTML = this.marks.map((it) =>
-      `<div class="mark ${it.kind}" style="top:${PAD + (it.from - 1) * tall}px;height:${(it.to - it.from + 1) * tall}px"></div>`).join("");
-    this.over.innerHTML = this.notes.map((it, number) => this.note(it, number)).join("");
+    this.makeRoom();
+    const mark = ({ from, to, kind }) => {
+      const top = this.top(from), tall = this.top(to, 1) - top;
+      return `<div class="mark ${kind}" style="top:${top}px;height:${tall}px"></div>`;
+    };
+    this.under.innerHTML = this.marks.map(mark).join("");
     for (const it of this.gutter.querySelectorAll(".bad, .case, .no")) it.classList.remove("bad", "case", "no");
     for (const it of this.marks) for (let line = it.from; line <= it.to; line++) this.row(line)?.classList.add(it.kind);
     for (const it of this.notes) if (it.span) this.underline(it);
-    this.uncover();
+    this.toCaret();
+  }
+
+  /** Puts the notes under their lines, and gaps as tall as they are between the lines. */
+  makeRoom() {
+    const had = JSON.stringify(this.gaps.list), notes = this.isClosed ? [] : this.notes;
+    this.over.innerHTML = notes.map((it, number) => this.note(it, number)).join("");
+    const talls = Array.from(this.over.children, (it) => it.offsetHeight + 2 * MARGIN);
+    this.gaps.set(notes.map(({ line }, at) => ({ line, tall: talls[at] })));
+    const used = new Map();
+    notes.forEach(({ line }, at) => {
+      const before = used.get(line) ?? 0;
+      this.over.children[at].style.top = `${this.top(line, 1) + before + MARGIN}px`;
+      used.set(line, before + talls[at]);
+    });
+    if (JSON.stringify(this.gaps.list) === had) return;
+    this.colour();
+    this.spread();
+    this.scrolled();
+  }
+
+  /** Gives the numbers the gaps of their lines. */
+  spread() {
+    const numbers = this.gutter.firstElementChild;
+    numbers.style.paddingTop = `${this.gaps.under(0)}px`;
+    for (const it of numbers.children) it.style.marginBottom = `${this.gaps.under(Number(it.dataset.line))}px`;
   }
 
   note(it, number) {
-    const caret = it.column ? `<b class="caret" style="left:calc(${it.column - 1}ch + 10px)"></b>` : "";
+    const column = it.column ? this.columnAt(startOf(this.text, it.line) + it.column - 1) : 0;
+    const caret = it.column ? `<b class="caret" style="left:calc(${column}ch + 2px)"></b>` : "";
     const hide = '<button type="button" aria-label="Hide this note" title="Hide this note">×</button>';
-    return `<div class="note ${it.kind}" style="top:${PAD + it.line * this.lineHeight}px" data-note="${number}">${caret}<div class="said">${it.html}</div>${hide}</div>`;
+    return `<div class="note ${it.kind}${it.isOld ? " old" : ""}" data-note="${number}">`
+      + `${caret}<div class="said">${it.html}</div>${hide}</div>`;
   }
 
   hide(note) {
@@ -139,24 +241,15 @@ export class Editor {
 
   /** Draws a line under the place that a note is about. */
   underline({ span: [from, to], kind }) {
-    const line = lineAt(this.text, from), column = from - this.text.lastIndexOf("\n", from - 1) - 1;
+    const line = lineAt(this.text, from), column = this.columnAt(from);
     const end = (this.text.indexOf("\n", from) + 1 || this.text.length + 1) - 1;
     const mark = document.createElement("div");
     mark.className = `span ${kind}`;
-    mark.style.top = `${PAD + (line - 1) * this.lineHeight}px`;
+    mark.style.top = `${this.top(line)}px`;
     mark.style.height = `${this.lineHeight}px`;
     mark.style.left = `calc(${column}ch + 10px)`;
-    mark.style.width = `${Math.max(1, Math.min(to, end) - from)}ch`;
+    mark.style.width = `${Math.max(1, this.columnAt(Math.min(to, end)) - column)}ch`;
     this.under.append(mark);
-  }
-
-  /** A note that lies over the caret's line steps aside. */
-  uncover() {
-    const line = document.activeElement === this.area ? lineAt(this.text, this.area.selectionStart) : 0;
-    for (const it of this.over.children) {
-      const from = this.notes[Number(it.dataset.note)]?.line ?? 0;
-      it.classList.toggle("aside", line > from && line <= from + 2);
-    }
   }
 
   breaks(lines) {
@@ -172,13 +265,17 @@ export class Editor {
 
   /** Brings a line into view; with the caret, if a column is given. */
   reveal(line, column = 0) {
-    const y = (line - 1) * this.lineHeight, { scrollTop, clientHeight } = this.area;
-    if (y < scrollTop + PAD || y + 4 * this.lineHeight > scrollTop + clientHeight) this.area.scrollTop = Math.max(0, y - clientHeight / 3);
     if (column) {
       const at = startOf(this.text, line) + column - 1;
-      this.area.focus();
       this.area.setSelectionRange(at, at);
+      // (a browser would go to where the caret was before)
+      this.area.focus({ preventScroll: true });
+      this.root.scrollIntoView({ block: "nearest" });
+      this.toCaret();
     }
+    const y = this.top(line) - PAD, { scrollTop, clientHeight } = this.area;
+    if (y < scrollTop + PAD || y + 4 * this.lineHeight > scrollTop + clientHeight)
+      this.area.scrollTop = Math.max(0, y - clientHeight / 3);
     this.scrolled();
   }
 }
