@@ -1,7 +1,8 @@
 #!/usr/bin/env python3
-"""by_hand.py OUT.html: a page that makes some 250 calls in the browser that opens it, and says how many gave the answers of the native programs.
+"""by_hand.py OUT.html [BROWSER..]: a page that makes some 250 calls in the browser that opens it, and says how many gave the answers of the native programs.
 
-For Firefox and Safari's engine, before a release. It needs a Python with pytest: $(tests/interpreter) tests/browser/by_hand.py calls.html.
+It opens the page itself in the browsers that are named: chromium, firefox, webkit (Safari's engine). docs/TESTING.md says what they need.
+It needs a Python with pytest: $(tests/interpreter) tests/browser/by_hand.py calls.html firefox webkit.
 """
 import os
 import sys
@@ -10,9 +11,11 @@ TOP = os.path.dirname(os.path.dirname(os.path.dirname(os.path.realpath(__file__)
 sys.dont_write_bytecode = True
 sys.path[:0] = [f"{TOP}/{it}" for it in ("web", "tests", "tools", "launch")]
 import tempfile
+import time
 
 import build
 from helpers.browser_build import programs
+from helpers.engines import ENGINES
 from helpers.programs import Program, program_path
 from test_browser_calls import of_designs, of_programs, of_runs
 
@@ -30,8 +33,22 @@ def sum_of(data):
     return found
 
 
+def opened(name, path):
+    """Opens the page in a browser. Returns whether all calls gave the same."""
+    if not ENGINES[name].command():
+        print(f"{name} isn't here")
+        return False
+    with ENGINES[name]() as browser:
+        browser.open(os.path.abspath(path))
+        while not browser.evaluate("", "window.ready === true"):
+            time.sleep(0.3)
+        said, wrong = browser.evaluate("", "['said', 'wrong'].map((it) => document.getElementById(it).textContent)")
+    print(f"{name}: {said}", wrong, sep="\n" if wrong else "")
+    return not wrong
+
+
 def main(words):
-    if len(words) != 1:
+    if not words or not set(words[1:]) <= set(ENGINES):
         print(__doc__, file=sys.stderr)
         return 2
     calls = [*of_programs(), *of_designs(), *of_runs()][::SHARE]
@@ -48,7 +65,7 @@ def main(words):
     with open(words[0], "w", encoding="utf-8") as it:
         it.write(PAGE.format(data=data, worker=build.script("worker"), app=build.script("by_hand")))
     print(f"{words[0]} makes {len(asked)} calls: open it in each browser")
-    return 0
+    return 0 if all([opened(it, words[0]) for it in words[1:]]) else 1
 
 
 if __name__ == "__main__":

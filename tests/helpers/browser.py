@@ -1,4 +1,5 @@
 """A headless Chromium, driven by its DevTools protocol over a pipe, with Python's standard library alone."""
+import base64
 import json
 import os
 import select
@@ -19,6 +20,10 @@ os.execvp(sys.argv[3], sys.argv[3:])
 NAMES = ("chromium", "chromium-browser", "google-chrome", "google-chrome-stable")
 
 
+CODES = {"ArrowLeft": 37, "ArrowRight": 39, "ArrowUp": 38, "ArrowDown": 40, "Home": 36, "End": 35, "Tab": 9, "Enter": 13, "Escape": 27, " ": 32}
+CTRL = 2
+
+
 class Broken(Exception):
     """What the browser refused, or didn't answer."""
 
@@ -30,6 +35,9 @@ def command():
 
 class Browser:
     """A browser with one page. What the page's scripts throw, and the console's errors, are in `errors`."""
+
+    has_media = True
+    command = staticmethod(command)
 
     def __init__(self, seconds=120):
         self.seconds, self.last, self.held, self.errors = seconds, 0, b"", []
@@ -107,6 +115,40 @@ class Browser:
             if time.monotonic() > until:
                 raise Broken("the page doesn't load")
             time.sleep(0.05)
+
+    def evaluate(self, before, script):
+        """The value of an expression in the page, awaited; `before` are declarations that it may use."""
+        got = self.call("Runtime.evaluate", expression=before + script, returnByValue=True, awaitPromise=True, userGesture=True)
+        if "exceptionDetails" in got:
+            details = got["exceptionDetails"]
+            raise Broken(details.get("exception", {}).get("description") or details["text"])
+        return got["result"].get("value")
+
+    def mouse(self, x, y):
+        """Clicks at a place."""
+        for kind in ("mousePressed", "mouseReleased"):
+            self.call("Input.dispatchMouseEvent", type=kind, x=x, y=y, button="left", clickCount=1)
+
+    def press_key(self, key, is_ctrl):
+        """Presses a key and lets it go."""
+        text = None if is_ctrl else key if len(key) == 1 else "\r" if key == "Enter" else None
+        more = {"key": key, "windowsVirtualKeyCode": CODES.get(key, ord(key[0].upper())), "modifiers": CTRL if is_ctrl else 0}
+        self.call("Input.dispatchKeyEvent", type="keyDown" if text else "rawKeyDown", **more, **({"text": text} if text else {}))
+        self.call("Input.dispatchKeyEvent", type="keyUp", **more)
+
+    def insert(self, text):
+        self.call("Input.insertText", text=text)
+
+    def picture(self):
+        """The page as it can be seen, a PNG."""
+        return base64.b64decode(self.call("Page.captureScreenshot")["data"])
+
+    def media(self, **features):
+        """What a system asks for: prefers_color_scheme, prefers_reduced_motion."""
+        self.call("Emulation.setEmulatedMedia", features=[{"name": name.replace("_", "-"), "value": it} for name, it in features.items()])
+
+    def gather(self):
+        """Adds what the console says to `errors`: here `hear` has done so."""
 
     def press(self, key):
         for kind in ("keyDown", "keyUp"):

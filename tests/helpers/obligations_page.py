@@ -4,7 +4,6 @@ The sentences stand once, in crates/explanations. `python3 tests/helpers/obligat
 """
 import json
 import os
-import re
 import subprocess
 import sys
 import textwrap

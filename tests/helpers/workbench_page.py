@@ -1,40 +1,52 @@
-"""The workbench in a headless Chromium: what a reader does, and what the page then shows."""
+"""The workbench in a browser: what a reader does, and what the page then shows."""
 import json
 import time
 
-from helpers.browser import Browser, Broken
+import pytest
+
+from helpers.browser import Broken
 
 # For scripts in the page.
 SHORT = """
 var el = (id) => document.getElementById(id), one = (it) => document.querySelector(it), every = (it) => [...document.querySelectorAll(it)];
 """
+# The middle of an element, and whether a click there meets it.
+CLICKED = """(() => {
+  const it = one(%s);
+  it.scrollIntoView({ block: 'nearest', inline: 'nearest' });
+  const r = it.getBoundingClientRect(), x = r.x + r.width / 2, y = r.y + r.height / 2, hit = document.elementFromPoint(x, y);
+  return [x, y, Boolean(hit) && it.contains(hit)];
+})()"""
 SETTLED = "!one('.stale') && !one('.busy')"
-KEYS = {"ArrowLeft": 37, "ArrowRight": 39, "ArrowUp": 38, "ArrowDown": 40, "Home": 36, "End": 35, "Tab": 9, "Enter": 13, "Escape": 27, " ": 32}
-CTRL = 2
 
 
-class Workbench(Browser):
-    """A page of the workbench. `do` runs a script, `text` and `shown` say what is there."""
+class Workbench:
+    """A page of the workbench in a browser. `do` runs a script; `text` says what is there."""
+
+    def __init__(self, browser):
+        self.browser = browser
+
+    @property
+    def errors(self):
+        """What the page's scripts threw, and the console's errors."""
+        self.browser.gather()
+        return self.browser.errors
 
     def do(self, script):
         """The value of an expression in the page, awaited."""
-        got = self.call("Runtime.evaluate", expression=SHORT + script, returnByValue=True, awaitPromise=True, userGesture=True)
-        if "exceptionDetails" in got:
-            details = got["exceptionDetails"]
-            raise Broken(details.get("exception", {}).get("description") or details["text"])
-        return got["result"].get("value")
+        return self.browser.evaluate(SHORT, script)
 
     def until(self, condition, seconds=60):
         """Waits until a condition holds in the page."""
         end = time.monotonic() + seconds
-        while not self.do(condition):
+        while not self.do(f"Boolean({condition})"):
             if time.monotonic() > end:
                 raise Broken(f"never: {condition}")
             time.sleep(0.03)
 
     def begin(self, path, fragment=""):
         """Opens the page as for the first time."""
-        self.open(path, fragment)
+        self.browser.open(path, fragment)
         self.until("window.ready === true")
         self.settle()
 
@@ -44,21 +56,18 @@ class Workbench(Browser):
         self.until(SETTLED)
 
     def click(self, selector):
-        """Clicks at the middle of an element, as a mouse does."""
-        at = self.do(f"(() => {{ const it = one({json.dumps(selector)}); it.scrollIntoView({{ block: 'nearest' }}); const r = it.getBoundingClientRect(); return [r.x + r.width / 2, r.y + r.height / 2]; }})()")
-        for kind in ("mousePressed", "mouseReleased"):
-            self.call("Input.dispatchMouseEvent", type=kind, x=at[0], y=at[1], button="left", clickCount=1)
+        """Clicks at the middle of an element, as a mouse does. Nothing may lie over it."""
+        x, y, is_there = self.do(CLICKED % json.dumps(selector))
+        if not is_there:
+            raise Broken(f"{selector} can't be clicked: something lies over it")
+        self.browser.mouse(x, y)
 
-    def key(self, key, modifiers=0):
+    def key(self, key, is_ctrl=False):
         """Presses a key and lets it go."""
-        text = key if len(key) == 1 and not modifiers else "\r" if key == "Enter" and not modifiers else None
-        code = KEYS.get(key, ord(key[0].upper()))
-        more = {"text": text} if text else {}
-        self.call("Input.dispatchKeyEvent", type="keyDown" if text else "rawKeyDown", key=key, windowsVirtualKeyCode=code, modifiers=modifiers, **more)
-        self.call("Input.dispatchKeyEvent", type="keyUp", key=key, windowsVirtualKeyCode=code, modifiers=modifiers)
+        self.browser.press_key(key, is_ctrl)
 
     def type(self, text):
-        self.call("Input.insertText", text=text)
+        self.browser.insert(text)
 
     def choose(self, which, name):
         """Chooses an example of the list `hcls` or `yss`."""
@@ -83,8 +92,14 @@ class Workbench(Browser):
         """Leaves the text, for the keys of the result."""
         self.do("document.activeElement.blur(), el('result').focus()")
 
+    def size(self, width, height):
+        self.browser.size(width, height)
+
     def media(self, **features):
-        self.call("Emulation.setEmulatedMedia", features=[{"name": name.replace("_", "-"), "value": it} for name, it in features.items()])
+        """What a system asks for; skips where the browser can't be told."""
+        if not self.browser.has_media:
+            pytest.skip("this browser can't be told what a system asks for")
+        self.browser.media(**features)
 
     def saved(self, does):
         """The files that are saved while something is done: name and text each."""
