@@ -34,8 +34,9 @@ TOLD = {
 }
 SEQUENTIAL = ("seq", "seq_plus")
 BOTH = "stall_and_bubble"
-# Where the tutorial begins.
-START = "designs/no_bypassing.hcl"
+# The tutorial's parts: where each begins, the folder of its steps, and a program to run.
+SEQ_PART = ("designs/seq.hcl", "tutorial/seq", "tutorial seq", "count.ys")
+PIPE_PART = ("designs/no_bypassing.hcl", "tutorial", "tutorial", "sort.ys")
 HAZARD = "E_icode in { IMRMOVQ, IPOPQ } && E_dstM in { d_srcA, d_srcB }"
 LATE = [(f" d_src{x} == e_dstE : e_valE;", "") for x in "AB"] + [(f"d_src{x} == W_dstM", f"d_src{x} == e_dstE : e_valE; d_src{x} == W_dstM") for x in "AB"]
 # A title, the changes of std.hcl, and a program of the examples that comes out wrong, if there is one.
@@ -120,19 +121,19 @@ def mistakes(std: str, both: Example) -> list[Example]:
     return [*found, both]
 
 
-def tutorial(here: str, without: frozenset[str]) -> list[Example]:
-    """Returns the tutorial's pipeline after each of its steps, or none if a step isn't to be offered."""
-    beginning, all_steps = listed(here, START, frozenset()), listed(here, "tutorial/*.hcl", frozenset())
-    if any(os.path.relpath(it, here) in without for it in (*beginning, *all_steps)):
+def steps(here: str, start: str, folder: str, kind: str, program: str, without: frozenset[str]) -> list[Example]:
+    """Returns a processor after each of the tutorial's steps in a folder, or none if a step isn't to be offered."""
+    beginning, all_steps = listed(here, start, frozenset()), listed(here, f"{folder}/*.hcl", frozenset())
+    if not all_steps or any(os.path.relpath(it, here) in without for it in (*beginning, *all_steps)):
         return []
-    start, steps = read(beginning[0]), sorted(all_steps, key=lambda it: int(stem(it)))
-    found: list[Example] = [{"name": "tutorial 0", "title": "the start: no forwarding", "file": "mine.hcl", "text": start, "program": "sort.ys"}]
-    for it in steps:
+    text, told = read(beginning[0]), f"the start: {TOLD[stem(start)]}"
+    found: list[Example] = [{"name": f"{kind} 0", "title": told, "file": "mine.hcl", "text": text, "program": program}]
+    for it in sorted(all_steps, key=lambda it: int(stem(it))):
         step = read(it)
-        start = swapped(start, step)
+        text = swapped(text, step)
         said = re.match(r"# (.*)", step)
         title = f"step {stem(it)}" + (f": {said[1].rstrip('.')}" if said else "")
-        found.append({"name": f"tutorial {stem(it)}", "title": title, "file": "mine.hcl", "text": start, "program": "sort.ys"})
+        found.append({"name": f"{kind} {stem(it)}", "title": title, "file": "mine.hcl", "text": text, "program": program})
     return found
 
 
@@ -165,7 +166,10 @@ def examples(here: str, without: frozenset[str] = frozenset()) -> dict[str, Grou
     groups: Groups = [
         ("Pipelines", pipes),
         ("Mistakes", mistakes(by_name["std"]["text"], by_name[BOTH])),
-        ("Tutorial", tutorial(here, without)),
+        ("Tutorial: PIPE", steps(here, *PIPE_PART, without)),
         ("Sequential", sequential),
+        ("Tutorial: SEQ", steps(here, *SEQ_PART, without)),
     ]
-    return {"hcl": [(name, found) for name, found in groups if found], "ys": [("Programs", programs(here, "programs", without)), ("Copy loops", programs(here, "copy", without))]}
+    sources = [("Programs", "programs"), ("Copy loops", "copy"), ("Tutorial", "tutorial/programs")]
+    offered = [(name, programs(here, folder, without)) for name, folder in sources]
+    return {"hcl": [it for it in groups if it[1]], "ys": [it for it in offered if it[1]]}

@@ -1,4 +1,4 @@
-"""What the pages in docs/ say of obligations, faults and signals, as data for the workbench."""
+"""What the pages in docs/ say of obligations and signals, as data for the workbench."""
 import os
 import re
 
@@ -24,7 +24,7 @@ FIELDS = {
     "W": "stat icode valE valM dstE dstM",
 }
 # As many as the program's own tables have.
-RULES, HCL_FAULTS, ASM_FAULTS = 44, 14, 8
+RULES = 44
 
 Rule = dict[str, str]
 
@@ -68,18 +68,6 @@ def cells(text: str) -> list[list[str]]:
     return [[cell.strip().replace("\\|", "|") for cell in re.split(r"(?<!\\)\|", it.strip("|\n "))] for it in rows]
 
 
-def faults(text: str, name: str, least: int) -> dict[str, str]:
-    """Returns what each reason of a fault means."""
-    found: dict[str, str] = {}
-    for reason, meaning in re.findall(r"^\| `([A-Z]\w+)(?: \w+)?` \| ([^|]*(?:\\\|[^|]*)*) \|$", text, re.M):
-        if not is_signal(reason):
-            # (the first table counts: that of sources, before that of object files)
-            found.setdefault(reason, meaning.replace("\\|", "|"))
-    if len(found) < least:
-        raise Changed(f"docs/{name}: {len(found)} faults")
-    return found
-
-
 def is_signal(name: str) -> bool:
     """Returns whether a name of a table is a signal's, and not a reason's."""
     return name == "Stat" or not re.match(r"^[A-Z][a-z]+[A-Z]?\w*$", name)
@@ -107,12 +95,7 @@ def given() -> dict[str, str]:
 
 def texts(here: str) -> dict[str, object]:
     """Returns all of it."""
-    hcl = page(here, "HCL.md")
-    told = signals(hcl)
     return {
         "rules": rules(page(here, "OBLIGATIONS.md")),
-        "hclFaults": faults(hcl, "HCL.md", HCL_FAULTS),
-        "asmFaults": faults(page(here, "ASSEMBLY.md"), "ASSEMBLY.md", ASM_FAULTS),
-        "signals": told,
-        "names": {**given(), **told},
+        "names": {**given(), **signals(page(here, "HCL.md"))},
     }

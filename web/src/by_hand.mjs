@@ -14,7 +14,8 @@ const engine = new Engine(), { calls } = DATA, wrong = [];
 await ready();
 for (const [number, { program, words, files, answer }] of calls.entries()) {
   const { status, out, err, fault } = await engine.call(program, words, files);
-  if (fault || status !== answer[0] || sumOf(out) !== answer[1] || sumOf(err) !== answer[2]) wrong.push(`${program} ${words.join(" ")}`);
+  if (fault || status !== answer[0] || sumOf(out) !== answer[1] || sumOf(err) !== answer[2])
+    wrong.push(`${program} ${words.join(" ")}`);
   by("said").textContent = `${number + 1 - wrong.length} of ${number + 1} calls the same`;
 }
 by("said").textContent = `${calls.length - wrong.length} of ${calls.length} calls the same, in ${navigator.userAgent}`;

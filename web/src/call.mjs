@@ -1,5 +1,5 @@
-// A call of a program: its WebAssembly, its arguments, its files. Each call has an instance of its own, so memory is given back whole, and nothing is
-// left of a call that was stopped. launch/wasm/shim.c is the other side.
+// A call of a program: its WebAssembly, its arguments, its files. Each call has an instance of its own, so memory is
+// given back whole, and nothing is left of a call that was stopped. launch/wasm/shim.c is the other side.
 
 const NO_ANSWER = 126;
 
@@ -28,8 +28,9 @@ function host(memory, argv, lookup, out) {
 }
 
 /**
- * Runs a program. `lookup(name)` gives the bytes of a file, or null. `out(stream, bytes)` takes output, and answers false where it takes no more.
- * `limit` is the most memory in bytes; 0 is as much as there is. Returns the exit status; 126 where the program broke off, with the fault.
+ * Runs a program. `lookup(name)` gives the bytes of a file, or null. `out(stream, bytes)` takes output, and answers
+ * false where it takes no more. `limit` is the most memory in bytes; 0 is as much as there is. Returns the exit status;
+ * 126 where the program broke off, with the fault.
  */
 export function call(module, words, lookup, out, limit = 0) {
   const utf8 = new TextEncoder(), argv = ["y86", ...words].map((it) => utf8.encode(it));

@@ -15,7 +15,8 @@ export function mark(id, text, engine) {
   card.append(busy);
   clearTimeout(card.stopper);
   card.stopper = setTimeout(() => {
-    const stop = make("button", { type: "button", className: "small", textContent: "Stop", onclick: () => engine.stop() });
+    const stop = make("button", { type: "button", className: "small", textContent: "Stop",
+      onclick: () => engine.stop() });
     if (busy.isConnected) busy.append(stop);
   }, SHOW_STOP);
 }

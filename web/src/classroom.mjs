@@ -10,7 +10,8 @@ const grader = new Engine();
 
 /** Checks one text, for so many seconds at most. Gives a row of the table. */
 async function checked(name, text) {
-  const path = datapath(text), row = { file: name, datapath: PATHS[path], verdict: "", obligation: "", fault: "", settings: "", note: "" };
+  const path = datapath(text);
+  const row = { file: name, datapath: PATHS[path], verdict: "", obligation: "", fault: "", settings: "", note: "" };
   if (new TextEncoder().encode(text).length > LONGEST) return { ...row, verdict: "fault", fault: "TooLong" };
   if (knowsIaddq(text) && !isFull()) row.note = "iaddq wasn’t checked";
   const timer = setTimeout(() => grader.stop(), SECONDS * 1000);
@@ -35,7 +36,8 @@ function verdictOf({ status, out, err }) {
 
 const cell = (text) => (/[",\n]/.test(text) ? `"${text.replace(/"/g, '""')}"` : text);
 /** The rows as CSV. A field that a spreadsheet would compute begins with an apostrophe. */
-const csvOf = (rows) => [HEADS, ...rows.map((it) => HEADS.map((head) => it[head]))].map((row) => row.map((it) => cell(/^[=+\-@]/.test(it) ? `'${it}` : it)).join(",")).join("\n");
+const csvOf = (rows) => [HEADS, ...rows.map((it) => HEADS.map((head) => it[head]))]
+  .map((row) => row.map((it) => cell(/^[=+\-@]/.test(it) ? `'${it}` : it)).join(",")).join("\n");
 
 function rowOf(row, text) {
   const open = make("button", { type: "button", className: "small", textContent: "Open" });
@@ -44,15 +46,20 @@ function rowOf(row, text) {
     by("dialog").close();
     load("hcl", text, row.file.split("/").pop());
   };
-  const what = [row.obligation && `${row.obligation}: ${ruleText(row.obligation, row.datapath === "SEQ+" ? "seqplus" : "pipe").short}`, row.fault, row.settings, row.note].filter(Boolean).join("; ");
+  const { short } = ruleText(row.obligation, row.datapath === "SEQ+" ? "seqplus" : "pipe");
+  const rule = row.obligation && `${row.obligation}: ${short}`;
+  const what = [rule, row.fault, row.settings, row.note].filter(Boolean).join("; ");
   const tr = make("tr", { className: row.verdict });
-  for (const it of [row.file, row.datapath, row.verdict, what]) tr.append(make("td", { textContent: it.replace(/`/g, "") }));
+  for (const it of [row.file, row.datapath, row.verdict, what])
+    tr.append(make("td", { textContent: it.replace(/`/g, "") }));
   tr.append(make("td", {}, open));
   return tr;
 }
 
 async function grade(files) {
-  const found = files.filter((it) => /\.hcl$/i.test(it.name)).sort((one, other) => pathOf(one).localeCompare(pathOf(other))), rows = [];
+  const byPath = (one, other) => pathOf(one).localeCompare(pathOf(other));
+  const found = files.filter((it) => /\.hcl$/i.test(it.name)).sort(byPath);
+  const rows = [];
   const body = by("class-rows"), said = by("class-said");
   body.replaceChildren();
   by("class-csv").disabled = true;
@@ -64,7 +71,8 @@ async function grade(files) {
     body.append(rowOf(row, text));
   }
   const count = (verdict) => rows.filter((it) => it.verdict === verdict).length;
-  said.textContent = `${rows.length} files: ${count("yes")} yes, ${count("no")} no, ${count("fault")} with a fault${count("none") ? `, ${count("none")} without an answer` : ""}.`;
+  const none = count("none") ? `, ${count("none")} without an answer` : "", faults = `${count("fault")} with a fault`;
+  said.textContent = `${rows.length} files: ${count("yes")} yes, ${count("no")} no, ${faults}${none}.`;
   by("class-csv").disabled = !rows.length;
   by("class-csv").onclick = () => download("class.csv", `${csvOf(rows)}\n`, "text/csv");
 }
@@ -90,9 +98,14 @@ async function filesOf(entry, folder = "") {
 function show() {
   const heads = ["File", "Datapath", "Verdict", "", ""].map((it) => `<th scope="col">${escaped(it)}</th>`).join("");
   by("dialog").classList.add("wide");
-  by("dialog").innerHTML = `<h2 id="dialog-title">A class</h2><p>Checks every HCL file of a folder${isFull() ? ", iaddq included" : ""}. The files stay in this browser.</p>`
-    + `<p class="buttons"><button type="button" class="primary" id="class-pick">Choose a folder</button> <button type="button" id="class-csv" disabled>Save as CSV</button><span id="class-said" role="status">Or drop one here.</span></p>`
-    + `<div class="scroll"><table class="list"><thead><tr>${heads}</tr></thead><tbody id="class-rows"></tbody></table></div><form method="dialog"><button>Close</button></form>`;
+  const full = isFull() ? ", iaddq included" : "";
+  const what = `Checks every HCL file of a folder${full}. The files stay in this browser.`;
+  by("dialog").innerHTML = `<h2 id="dialog-title">A class</h2><p>${what}</p>`
+    + `<p class="buttons"><button type="button" class="primary" id="class-pick">Choose a folder</button> `
+    + `<button type="button" id="class-csv" disabled>Save as CSV</button>`
+    + `<span id="class-said" role="status">Or drop one here.</span></p>`
+    + `<div class="scroll"><table class="list"><thead><tr>${heads}</tr></thead><tbody id="class-rows"></tbody></table>`
+    + `</div><form method="dialog"><button>Close</button></form>`;
   by("class-pick").onclick = () => by("pick-folder").click();
   by("dialog").showModal();
 }

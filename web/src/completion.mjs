@@ -1,4 +1,5 @@
-// Names to complete, from the lists of the datapath or of the instruction set. Nothing is guessed: a name is offered if it begins as the one that is typed.
+// Names to complete, from the lists of the datapath or of the instruction set. Nothing is guessed: a name is offered if
+// it begins as the one that is typed.
 import { make } from "./dom.mjs";
 import { CONSTANTS, DEFINED, DIRECTIVES, GIVEN, KEYWORDS, MNEMONICS, REGISTERS, datapath } from "./names.mjs";
 

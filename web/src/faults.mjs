@@ -1,61 +1,40 @@
-// A fault that a program reported: where it is, what its reason means, and a hint.
-import { escaped, inline, lineAt, startOf } from "./dom.mjs";
-import { asmHint, hclHint, unknownHint } from "./hints.mjs";
-import { bare } from "./names.mjs";
+// The faults of a text: where each is, and what to do about it, in the words of y86-tell.
+import { escaped, inline, startOf } from "./dom.mjs";
+import { has } from "./engine.mjs";
+import { datapath } from "./names.mjs";
+import { full } from "./texts.mjs";
 
-// Reasons that name a signal in place of a line.
-const NAMED = new Set(["Unknown", "Redefines", "Twice", "KindMismatch", "Cycle", "Mixed", "Missing"]);
+const FILES = { hcl: "my.hcl", ys: "my.ys" }, BOX = " On this page that is the box “iaddq” at the top.";
 
-/** Where a named fault is: the first use of an unknown name, or the definition that it is about; -1 where there is none. */
-function placeOf(text, reason, name) {
-  const plain = bare(text).replace(/'[^'\n]*'/g, (it) => " ".repeat(it.length));
-  if (reason === "Unknown") return plain.search(new RegExp(`\\b${name}\\b`));
-  const defined = [...plain.matchAll(new RegExp(`\\b(?:word|bool|int)\\s+(${name})\\b`, "g"))];
-  const it = defined[reason === "Twice" ? 1 : 0];
-  return it ? it.index + it[0].length - name.length : -1;
+/** A fault of y86-tell's JSON: `{ line, column, span, html }`; line and column are 0 where there is none. */
+function placed(text, { line, column, found, sentence }) {
+  const start = startOf(text, line) + column - 1, hint = sentence.includes("`--full`") ? BOX : "";
+  const span = line && column ? [start, start + Math.max(1, found.length)] : null;
+  return { line, column, span, html: `${inline(sentence)}${hint}` };
 }
 
-function placed(found, text, at, length) {
-  found.line = lineAt(text, at);
-  found.column = at - text.lastIndexOf("\n", at - 1);
-  found.span = [at, at + length];
+/** A fault as y86 says it. */
+function plain(err) {
+  const [line] = err.split("\n"), at = /^[^:]*:(\d+)(?::(\d+))?: (.*)/.exec(line);
+  const said = at?.[3] ?? line.replace(/^[^:]*:\s?/, "");
+  return { line: Number(at?.[1] ?? 0), column: Number(at?.[2] ?? 0), span: null, html: escaped(said) };
 }
 
-function hintOf(found, text, which, isFull, signals) {
-  const { reason, names } = found;
-  if (which === "ys") return reason === "Syntax" ? asmHint(text.split("\n")[found.line - 1] ?? "", isFull) : "";
-  if (reason === "Syntax" && found.span) return hclHint(text, found.span[0]);
-  if (reason === "Unknown") return unknownHint(names[0], text);
-  if (reason === "Missing" && signals[names[0]]) return `<code>${escaped(names[0])}</code>: ${inline(signals[names[0]])}.`;
-  return "";
-}
-
-/**
- * Reads the first line that a program wrote about a fault in a text of `hcl` or `ys`.
- * Gives `{ reason, names, said, line, column, span, meaning, hint }`; meaning and hint are texts of docs/ and HTML.
- */
-export function readFault(said, which, text, isFull, texts) {
-  const line = said.split("\n")[0].trim(), at = /^[^:]*:(\d+)(?::(\d+))?: (\w+)/.exec(line), named = /^[^:]*: (\w+)(?: ([\w ,]+))?/.exec(line);
-  const reason = at?.[3] ?? named?.[1] ?? "", names = at ? [] : (named?.[2] ?? "").match(/[A-Za-z_]\w*/g) ?? [];
-  const meaning = (which === "hcl" ? texts.hclFaults : texts.asmFaults)[reason] ?? "";
-  const found = { reason, names, said: line.replace(/^[^:]*:\s?/, "").replace(/^\d+(:\d+)?: /, ""), line: 0, column: 0, meaning };
-  if (at) {
-    found.line = Number(at[1]);
-    const start = startOf(text, found.line) + Number(at[2] ?? 1) - 1;
-    if (at[2]) placed(found, text, start, /^\w+|^./.exec(text.slice(start))?.[0].length ?? 1);
-  } else if (names.length && NAMED.has(reason)) {
-    const start = placeOf(text, reason, names[0]);
-    if (start >= 0) placed(found, text, start, names[0].length);
+function faultsIn(text, printed) {
+  try {
+    return JSON.parse(printed).faults.map((it) => placed(text, it));
+  } catch {
+    return [];
   }
-  found.hint = hintOf(found, text, which, isFull, texts.signals);
-  return found;
 }
 
-/** A fault in a sentence of HTML: a hint that fits says more than all that the reason may mean. */
-export function told(it) {
-  const head = it.reason === "Missing" ? `<b>${escaped(it.names.join(", "))}</b> isn’t defined` : `<b>${escaped(it.said || it.reason)}</b>`;
-  const more = it.hint || (it.meaning ? `${inline(it.meaning)}.` : "");
-  return more ? `${head}: ${more}` : head;
+/** The faults of a text of `hcl` or `ys` that y86 refuses with this line; of others than y86-tell knows that one. */
+export async function faultsOf(engine, which, text, err) {
+  const name = FILES[which], words = which === "hcl" ? [name, datapath(text)] : [name];
+  if (!has("y86-tell")) return [plain(err)];
+  const said = await engine.call("y86-tell", ["fault", ...words, "--json", ...full()], { [name]: text });
+  const found = faultsIn(text, said.out);
+  return found.length ? found : [plain(err)];
 }
 
 /** The place of a fault in words. */
@@ -63,6 +42,9 @@ export function placeWords(it) {
   if (!it.line) return "";
   return `line ${it.line}${it.column ? `, column ${it.column}` : ""}`;
 }
+
+/** How many faults there are besides the first. */
+export const moreWords = (faults) => (faults.length > 1 ? `, and ${faults.length - 1} more` : "");
 
 /** The lines around a fault, with a caret below its place, as HTML. */
 export function excerpt(text, it) {

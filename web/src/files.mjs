@@ -7,7 +7,8 @@ const LONGEST = { hcl: 65536, ys: 1048576 }, ACCEPTED = { hcl: ".hcl,text/plain"
 
 async function opened(file, which) {
   const as = /\.(ys|s)$/i.test(file.name) ? "ys" : /\.hcl$/i.test(file.name) ? "hcl" : which;
-  if (file.size > LONGEST[as]) return toast(`${file.name} is too long: ${file.size} bytes, and ${LONGEST[as]} are the most`);
+  if (file.size > LONGEST[as])
+    return toast(`${file.name} is too long: ${file.size} bytes, and ${LONGEST[as]} are the most`);
   load(as, await file.text(), file.name);
   toast(`${file.name} is open`);
 }
@@ -42,5 +43,6 @@ export function wireFiles() {
   for (const which of ["hcl", "ys"]) wireDrop(which);
   for (const it of ["dragover", "drop"]) addEventListener(it, (event) => event.preventDefault());
   for (const it of document.querySelectorAll("[data-open]")) it.onclick = () => pick(it.dataset.open);
-  for (const it of document.querySelectorAll("[data-save]")) it.onclick = () => download(state.names[it.dataset.save], editors[it.dataset.save].text);
+  for (const it of document.querySelectorAll("[data-save]"))
+    it.onclick = () => download(state.names[it.dataset.save], editors[it.dataset.save].text);
 }

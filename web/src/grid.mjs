@@ -15,9 +15,12 @@ export const rowName = (row) => (row.isBubble ? "        bubble" : `${address(ro
 function makeGrid() {
   const { run } = state, grid = by("grid");
   names = parseFloat(getComputedStyle(grid).getPropertyValue("--names"));
-  const head = (it, at) => `<button type="button" tabindex="-1" class="${it.hazard ? "hazard" : ""}" style="left:${names + at * STEP}px" data-cycle="${at + 1}" aria-label="cycle ${at + 1}">${at + 1}</button>`;
+  const head = (it, at) => `<button type="button" tabindex="-1" class="${it.hazard ? "hazard" : ""}" `
+    + `style="left:${names + at * STEP}px" data-cycle="${at + 1}" aria-label="cycle ${at + 1}">${at + 1}</button>`;
   const size = `height:${TOP + run.rows.length * ROW + MARGIN}px;width:${names + run.cycles.length * STEP + 10}px`;
-  grid.innerHTML = `<div class="all" style="${size}"><div class="column"></div><div class="heads"><span class="corner">cycle</span>${run.cycles.map(head).join("")}</div><div class="rows"></div><svg class="lines" aria-hidden="true"></svg></div>`;
+  grid.innerHTML = `<div class="all" style="${size}"><div class="column"></div><div class="heads">`
+    + `<span class="corner">cycle</span>${run.cycles.map(head).join("")}</div><div class="rows"></div>`
+    + `<svg class="lines" aria-hidden="true"></svg></div>`;
   fillGrid();
 }
 
@@ -27,22 +30,29 @@ function boxes(row) {
     const letter = row.letters[at];
     if (letter === " ") continue;
     const kind = `${/[a-z]/.test(letter) ? " cancelled" : ""}${at + 1 === state.cycle ? " is" : ""}`;
-    out.push(`<span class="box${kind}" data-cycle="${at + 1}" style="left:${names + at * STEP + 1}px">${letter.toUpperCase()}</span>`);
+    out.push(`<span class="box${kind}" data-cycle="${at + 1}" style="left:${names + at * STEP + 1}px">`
+      + `${letter.toUpperCase()}</span>`);
   }
   return out.join("");
 }
 
 function nameHTML(row, at) {
-  if (row.isBubble) return `<button type="button" class="name" data-row="${at}" disabled aria-label="bubble"><span class="dot"></span>bubble</button>`;
+  if (row.isBubble)
+    return `<button type="button" class="name" data-row="${at}" disabled aria-label="bubble"><span class="dot">`
+      + `</span>bubble</button>`;
   const place = address(row.at);
-  return `<button type="button" class="name" data-row="${at}" aria-pressed="${state.breaks.has(row.at)}" title="Breakpoint at ${place}: play stops where it is fetched">`
-    + `<span class="dot"></span><span class="addr">${place}</span> <span class="ins">${escaped(listed(row))}</span></button>`;
+  return `<button type="button" class="name" data-row="${at}" aria-pressed="${state.breaks.has(row.at)}" `
+    + `title="Breakpoint at ${place}: play stops where it is fetched">`
+    + `<span class="dot"></span><span class="addr">${place}</span> <span class="ins">${escaped(listed(row))}</span>`
+    + "</button>";
 }
 
 function rowHTML(row, at) {
   const isHere = row.first + 1 <= state.cycle && row.last + 1 >= state.cycle;
-  const kind = `${at === state.wrongRow ? " wrong" : ""}${row.isBubble ? " bubble" : ""}${row.isCancelled ? " cancelled" : ""}${isHere ? "" : " idle"}`;
-  return `<div class="row${kind}" style="--h:${hue(at + 1)};top:${TOP + at * ROW}px">${nameHTML(row, at)}${boxes(row)}</div>`;
+  const is = { wrong: at === state.wrongRow, bubble: row.isBubble, cancelled: row.isCancelled, idle: !isHere };
+  const kind = Object.keys(is).filter((it) => is[it]).map((it) => ` ${it}`).join("");
+  return `<div class="row${kind}" style="--h:${hue(at + 1)};top:${TOP + at * ROW}px">`
+    + `${nameHTML(row, at)}${boxes(row)}</div>`;
 }
 
 /** The forwarded words of the cycles that can be seen, from box to box. */
@@ -56,11 +66,14 @@ function linesSVG(run, from, to) {
 function fillGrid() {
   const { run } = state, grid = by("grid"), rows = grid.querySelector(".rows");
   if (!run || !rows) return;
-  const first = Math.max(0, Math.floor((grid.scrollTop - TOP) / ROW) - MARGIN), last = Math.min(run.rows.length, first + Math.ceil(grid.clientHeight / ROW) + 14);
+  const first = Math.max(0, Math.floor((grid.scrollTop - TOP) / ROW) - MARGIN);
+  const last = Math.min(run.rows.length, first + Math.ceil(grid.clientHeight / ROW) + 14);
   const focused = document.activeElement?.dataset?.row;
   rows.innerHTML = run.rows.slice(first, last).map((row, at) => rowHTML(row, first + at)).join("");
-  const shown = run.rows.slice(first, last), from = Math.min(...shown.map((it) => it.first + 1)), to = Math.max(...shown.map((it) => it.last + 1));
-  grid.querySelector(".lines").innerHTML = shown.length ? linesSVG(run, Math.max(1, from), Math.min(to, run.cycles.length)) : "";
+  const shown = run.rows.slice(first, last), from = Math.min(...shown.map((it) => it.first + 1));
+  const to = Math.max(...shown.map((it) => it.last + 1));
+  const lines = shown.length ? linesSVG(run, Math.max(1, from), Math.min(to, run.cycles.length)) : "";
+  grid.querySelector(".lines").innerHTML = lines;
   if (focused !== undefined) rows.querySelector(`[data-row="${focused}"]`)?.focus({ preventScroll: true });
 }
 
@@ -68,9 +81,11 @@ function fillGrid() {
 function follow() {
   const { run, cycle } = state, grid = by("grid"), x = (cycle - 1) * STEP, wide = grid.clientWidth - names;
   const there = run.rows.flatMap((row, at) => (row.first < cycle && row.last + 1 >= cycle ? [at] : []));
-  if (x < grid.scrollLeft + STEP || x > grid.scrollLeft + wide - 3 * STEP) grid.scrollLeft = Math.max(0, x - wide * 0.55);
+  if (x < grid.scrollLeft + STEP || x > grid.scrollLeft + wide - 3 * STEP)
+    grid.scrollLeft = Math.max(0, x - wide * 0.55);
   if (there.length) {
-    const top = there[0] * ROW, bottom = (there.at(-1) + 1) * ROW + TOP, whole = (it) => Math.max(0, Math.ceil(it / ROW) * ROW);
+    const top = there[0] * ROW, bottom = (there.at(-1) + 1) * ROW + TOP;
+    const whole = (it) => Math.max(0, Math.ceil(it / ROW) * ROW);
     if (bottom > grid.scrollTop + grid.clientHeight - 4) grid.scrollTop = whole(bottom - grid.clientHeight + 4);
     if (top < grid.scrollTop) grid.scrollTop = whole(top - ROW);
   }

@@ -5,16 +5,21 @@ import { state } from "./state.mjs";
 import { nextTab } from "./tabs.mjs";
 
 const ROWS = [
-  ["← →", "a cycle back, on"], ["Home End", "first, last cycle"], ["space", "play to the next breakpoint, pause"], ["n N", "next hazard, the one before"],
-  ["b", "breakpoint at the fetched instruction; or click a row, or a line number of the program"], ["w", "the next tab: this run, by instructions, why no"],
+  ["← →", "a cycle back, on"], ["Home End", "first, last cycle"], ["space", "play to the next breakpoint, pause"],
+  ["n N", "next hazard, the one before"],
+  ["b", "breakpoint at the fetched instruction; or click a row, or a line number of the program"],
+  ["w", "the next tab: this run, by instructions, why no"],
   ["Ctrl Enter", "from a text to the result"], ["Ctrl space", "in a text: the names that fit"],
 ];
-const TEXT = `<p>On the left are a processor’s control logic in HCL and a Y86-64 program. On the right, always for these very texts: is the processor right for <em>every</em> program,
+const TEXT = `<p>On the left are a processor’s control logic in HCL and a Y86-64 program. On the right, always for `
+  + `these very texts: is the processor right for <em>every</em> program,
 does <em>this</em> program come out right, and the run cycle by cycle.</p>`;
-const MORE = `<p>The keys work outside of the texts; <kbd>Tab</kbd> leaves a text. Files can be dropped. What you write stays in this browser; a copied link has both texts after its <code>#</code>.</p>`;
+const MORE = `<p>The keys work outside of the texts; <kbd>Tab</kbd> leaves a text. Files can be dropped. What you `
+  + `write stays in this browser; a copied link has both texts after its <code>#</code>.</p>`;
 
-export function help() {
-  const rows = ROWS.map(([keys, does]) => `<tr><th scope="row">${keys.split(" ").map((it) => `<kbd>${it}</kbd>`).join(" ")}</th><td>${does}</td></tr>`);
+function help() {
+  const rows = ROWS.map(([keys, does]) => `<tr>`
+    + `<th scope="row">${keys.split(" ").map((it) => `<kbd>${it}</kbd>`).join(" ")}</th><td>${does}</td></tr>`);
   dialog("The workbench", `${TEXT}<table>${rows.join("")}</table>${MORE}`);
 }
 
@@ -41,7 +46,8 @@ function pressed(event) {
   const { target, key } = event;
   if (target.closest?.("textarea, select, dialog")) return inText(event);
   if (event.ctrlKey || event.metaKey || event.altKey || event.defaultPrevented) return;
-  const isSpace = key === " " && target.closest?.("button, a, label, input"), isSlider = target.id === "slider" && /^(Arrow|Home|End)/.test(key);
+  const isSpace = key === " " && target.closest?.("button, a, label, input");
+  const isSlider = target.id === "slider" && /^(Arrow|Home|End)/.test(key);
   if (!DOES[key] || isSpace || isSlider) return;
   event.preventDefault();
   DOES[key]();

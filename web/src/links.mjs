@@ -1,12 +1,15 @@
-// A link that carries both texts after its `#`, and what this browser keeps. What a link carries is text: it goes into the editors and nowhere else.
+// A link that carries both texts after its `#`, and what this browser keeps. What a link carries is text: it goes into
+// the editors and nowhere else.
 import { by, dialog, escaped, later, toast } from "./dom.mjs";
 import { on, state } from "./state.mjs";
 import { chosen, editors, isFull, load } from "./texts.mjs";
 
 const KEY = "y86-workbench", LONGEST = 1 << 21, LONGEST_NAME = 80;
 
-const toBase64 = (bytes) => btoa(Array.from(bytes, (it) => String.fromCharCode(it)).join("")).replace(/\+/g, "-").replace(/\//g, "_").replace(/=+$/, "");
-const fromBase64 = (text) => Uint8Array.from(atob(text.replace(/-/g, "+").replace(/_/g, "/")), (it) => it.charCodeAt(0));
+const toBase64 = (bytes) => btoa(Array.from(bytes, (it) => String.fromCharCode(it)).join("")).replace(/\+/g, "-")
+  .replace(/\//g, "_").replace(/=+$/, "");
+const fromBase64 = (text) => Uint8Array.from(atob(text.replace(/-/g, "+").replace(/_/g, "/")),
+  (it) => it.charCodeAt(0));
 
 async function through(bytes, stream) {
   return new Uint8Array(await new Response(new Blob([bytes]).stream().pipeThrough(stream)).arrayBuffer());
@@ -24,7 +27,8 @@ async function unpacked(bytes) {
   }
 }
 
-const texts = () => ({ h: editors.hcl.text, p: editors.ys.text, f: isFull() ? 1 : 0, n: [state.names.hcl, state.names.ys] });
+const texts = () => ({ h: editors.hcl.text, p: editors.ys.text, f: isFull() ? 1 : 0,
+  n: [state.names.hcl, state.names.ys] });
 
 async function linkOf() {
   const packed = await through(new TextEncoder().encode(JSON.stringify(texts())), new CompressionStream("deflate-raw"));
@@ -82,7 +86,8 @@ async function copyLink() {
     await navigator.clipboard.writeText(it);
     toast(`The link is copied (${it.length} letters)`);
   } catch {
-    dialog("The link", `<textarea readonly aria-label="The link">${escaped(it)}</textarea>`).querySelector("textarea").select();
+    dialog("The link", `<textarea readonly aria-label="The link">${escaped(it)}</textarea>`).querySelector("textarea")
+      .select();
   }
 }
 

@@ -24,7 +24,8 @@ import { wireVerdict } from "./verdict.mjs";
 import { wireSearch } from "./witness/search.mjs";
 
 const WIRES = [
-  wireTheme, wireTexts, wireTabs, wireVerdict, wireNo, wireOutcome, wireGrid, wirePlayer, wireLines, wireRegisters, wireSteps, wireStrips, wireSearch, wireFiles, wireLinks,
+  wireTheme, wireTexts, wireTabs, wireVerdict, wireNo, wireOutcome, wireGrid, wirePlayer, wireLines, wireRegisters,
+  wireSteps, wireStrips, wireSearch, wireFiles, wireLinks,
   wirePictures, wirePaper, wireClassroom, wireKeys,
 ];
 

@@ -14,21 +14,25 @@ export const CONSTANTS = {
 };
 export const REGISTERS = split("%rax %rcx %rdx %rbx %rsp %rbp %rsi %rdi %r8 %r9 %r10 %r11 %r12 %r13 %r14");
 export const MNEMONICS = split(
-  "halt nop rrmovq irmovq rmmovq mrmovq addq subq andq xorq jmp jle jl je jne jge jg cmovle cmovl cmove cmovne cmovge cmovg call ret pushq popq iaddq",
+  "halt nop rrmovq irmovq rmmovq mrmovq addq subq andq xorq jmp jle jl je jne jge jg cmovle cmovl cmove cmovne cmovge"
+  + " cmovg call ret pushq popq iaddq",
 );
 export const DIRECTIVES = split(".pos .align .quad");
 export const KEYWORDS = split("word bool int wordsig boolsig intsig quote in");
 
 // What each datapath gives as a word, and what it gives besides.
-export const WORDS = {
-  pipe: new Set(split("F_predPC f_valC f_valP D_valC D_valP d_rvalA d_rvalB E_valC E_valA E_valB e_valE M_valE M_valA m_valM W_valE W_valM")),
+const WORDS = {
+  pipe: new Set(split(
+    "F_predPC f_valC f_valP D_valC D_valP d_rvalA d_rvalB E_valC E_valA E_valB e_valE M_valE M_valA m_valM"
+    + " W_valE W_valM",
+  )),
   seq: new Set(split("pc valC valP valA valB valE valM")),
   seqplus: new Set(split("pValM pValC pValP valC valP valA valB valE valM")),
 };
 const CODES = {
   pipe: split(
-    "imem_icode imem_ifun imem_error dmem_error e_Cnd D_stat D_icode D_ifun D_rA D_rB E_stat E_icode E_ifun E_dstE E_dstM E_srcA E_srcB"
-    + " M_stat M_icode M_ifun M_Cnd M_dstE M_dstM W_stat W_icode W_dstE W_dstM",
+    "imem_icode imem_ifun imem_error dmem_error e_Cnd D_stat D_icode D_ifun D_rA D_rB E_stat E_icode E_ifun E_dstE"
+    + " E_dstM E_srcA E_srcB M_stat M_icode M_ifun M_Cnd M_dstE M_dstM W_stat W_icode W_dstE W_dstM",
   ),
   seq: split("imem_icode imem_ifun imem_error dmem_error Cnd rA rB"),
   seqplus: split("imem_icode imem_ifun imem_error dmem_error Cnd rA rB pIcode pCnd"),
@@ -38,10 +42,14 @@ export const GIVEN = Object.fromEntries(Object.keys(WORDS).map((it) => [it, new 
 // What a file defines.
 export const DEFINED = {
   pipe: split(
-    "f_pc f_icode f_ifun instr_valid f_stat need_regids need_valC f_predPC d_srcA d_srcB d_dstE d_dstM d_valA d_valB aluA aluB alufun set_cc e_valA e_dstE"
-    + " mem_addr mem_read mem_write m_stat w_dstE w_valE w_dstM w_valM Stat F_stall F_bubble D_stall D_bubble E_stall E_bubble M_stall M_bubble W_stall W_bubble",
+    "f_pc f_icode f_ifun instr_valid f_stat need_regids need_valC f_predPC d_srcA d_srcB d_dstE d_dstM d_valA d_valB"
+    + " aluA aluB alufun set_cc e_valA e_dstE mem_addr mem_read mem_write m_stat w_dstE w_valE w_dstM w_valM Stat"
+    + " F_stall F_bubble D_stall D_bubble E_stall E_bubble M_stall M_bubble W_stall W_bubble",
   ),
-  seq: split("icode ifun instr_valid need_regids need_valC srcA srcB dstE dstM aluA aluB alufun set_cc mem_addr mem_read mem_write mem_data Stat new_pc"),
+  seq: split(
+    "icode ifun instr_valid need_regids need_valC srcA srcB dstE dstM aluA aluB alufun set_cc mem_addr mem_read"
+    + " mem_write mem_data Stat new_pc",
+  ),
 };
 DEFINED.seqplus = ["pc", ...DEFINED.seq.filter((it) => it !== "new_pc")];
 

@@ -1,21 +1,18 @@
 // Why not every program: the refusal in its panel, and the marks in the file.
 import { escaped, lineAt } from "./dom.mjs";
-import { noFault, showFault } from "./fault_view.mjs";
+import { noFault, showFaults } from "./fault_view.mjs";
 import { drawRefusal } from "./refusal.mjs";
 import { on, state } from "./state.mjs";
 import { offerNo, tab } from "./tabs.mjs";
 import { editors } from "./texts.mjs";
 
 /** What a note says of a wrong signal. */
-function noteOf(text, rule, it) {
-  const start = `In the counterexample to ${rule}, <code>${it.name}</code>`, wants = `<code>${escaped(it.wanted)}</code> is wanted.`;
-  const taken = it.cases?.find((branch) => branch.isTaken);
-  if (!taken) {
-    const none = it.taken === -1 ? " None of its cases is taken." : "";
-    return { line: it.to, column: 0, kind: "no", html: `${start} is <b>${escaped(it.value)}</b>; ${wants}${none}`, span: [it.start, it.end] };
-  }
-  const does = `takes this case and ${it.isPicked ? "picks" : "is"}`, late = it.isLate ? " That case is further down: it comes too late." : "";
-  return { line: lineAt(text, taken.end), column: 0, kind: "no", html: `${start} ${does} <b>${escaped(it.value)}</b>; ${wants}${late}`, span: [taken.start, taken.end] };
+function noteOf(text, rule, { name, value, wanted, isPicked, taken, to, start, end }) {
+  const where = `In the counterexample to ${rule}, <code>${name}</code>`;
+  const wants = `<code>${escaped(wanted)}</code> is wanted`;
+  const does = `${taken ? "takes this case and " : ""}${taken && isPicked ? "picks" : "is"} <b>${escaped(value)}</b>`;
+  const line = taken ? lineAt(text, taken.end) : to, span = taken ? [taken.start, taken.end] : [start, end];
+  return { line, column: 0, kind: "no", html: `${where} ${does}; ${wants}.`, span };
 }
 
 /** Marks at the definitions that the refusal is about, and at the case that is taken. */
@@ -24,13 +21,13 @@ function marksOf(text, { rule, signals, motion }) {
   const counts = (it) => it.from && (it.isWrong || (isBlamed ? it.isBlamed : !it.isAsked));
   for (const it of signals.filter(counts)) {
     marks.push({ from: it.from, to: it.to, kind: "no" });
-    const taken = it.cases?.find((branch) => branch.isTaken);
-    if (it.isWrong && taken) marks.push({ from: taken.line, to: taken.line, kind: "case" });
+    if (it.isWrong && it.taken) marks.push({ from: it.taken.line, to: it.taken.line, kind: "case" });
     if (it.isWrong) notes.push(noteOf(text, rule, it));
   }
   const first = signals.find((it) => it.from && (isBlamed ? it.isBlamed : !it.isAsked));
   if (!notes.length && first) {
-    const html = `${rule}: ${escaped(motion.findLast((it) => !it.isStep)?.text ?? "")} There <code>${first.name}</code> is <b>${escaped(first.value)}</b>.`;
+    const html = `${rule}: ${escaped(motion.findLast((it) => !it.isStep)?.text ?? "")} There `
+      + `<code>${first.name}</code> is <b>${escaped(first.value)}</b>.`;
     notes.push({ line: first.to, column: 0, kind: "no", html });
   }
   return { marks, notes };
@@ -53,7 +50,7 @@ export function wireNo() {
   on("verdict", () => {
     const it = state.verdict;
     editors.hcl.show([], []);
-    if (it.kind === "fault") showFault("hcl", it.fault);
+    if (it.kind === "fault") showFaults("hcl", it.faults);
     else noFault("hcl");
     if (it.kind === "no") showNo(it);
     else offerNo("");

@@ -1,46 +1,60 @@
-// Does this program come out right? Its run under the processor, beside the run by instructions, and the card with the answer.
+// Does this program come out right? Its run under the processor, beside the run by instructions, and the card with the
+// answer.
 import { card, head, isStale, mark } from "./cards.mjs";
-import { differenceHTML, differences, firstDifference, recordDifferences, report, trace } from "./compare.mjs";
+import { differenceHTML, differences, firstDifference, report, trace } from "./compare.mjs";
 import { example } from "./data.mjs";
 import { by, escaped, later, small } from "./dom.mjs";
-import { Stopped, runner } from "./engine.mjs";
-import { faultOf, noFault, showFault } from "./fault_view.mjs";
-import { excerpt, placeWords } from "./faults.mjs";
+import { Stopped, has, runner } from "./engine.mjs";
+import { noFault, showFaults } from "./fault_view.mjs";
+import { excerpt, faultsOf, moreWords, placeWords } from "./faults.mjs";
+import { lockstep } from "./lockstep.mjs";
 import { PATHS, datapath } from "./names.mjs";
 import { address, readRun, sourceLines } from "./run.mjs";
-import { readSeqRun } from "./seqrun.mjs";
+import { readSeqRun, seqRecords } from "./seqrun.mjs";
 import { on, state, tell } from "./state.mjs";
 import { editors, full, isFull, moment } from "./texts.mjs";
 
-const WAIT = 260, SHOWN = 2000, LIMIT = "10,000";
+const WAIT = 260, SHOWN = 2000, MOST_FAULTS = 5, LIMIT = "10,000";
 const SOURCE = "my.ys", OBJECT = "my.yo", DESIGN = "my.hcl", BOOK = "book.hcl";
-const COMMANDS = { pipe: ["psim", DESIGN, OBJECT, "--trace"], seq: ["ssim", DESIGN, OBJECT], seqplus: ["ssimp", DESIGN, OBJECT] };
+const COMMANDS = {
+  pipe: ["psim", DESIGN, OBJECT, "--trace"], seq: ["ssim", DESIGN, OBJECT], seqplus: ["ssimp", DESIGN, OBJECT],
+};
 const ENDS = {
   HLT: "Ends at a halt.", AOK: `Runs to the limit of ${LIMIT}.`, ADR: "Ends with a bad address (ADR).",
   INS: "Ends with an invalid instruction (INS).", PIP: "A register was stalled and bubbled at once (PIP).",
 };
 
 /** The pipeline of the examples that is right: what retires there is what the instructions do. */
-export const bookDesign = () => (example("hcl", isFull() ? "with_iaddq.hcl" : "std.hcl") ?? example("hcl", "std.hcl")).text;
+const bookDesign = () => (example("hcl", isFull() ? "with_iaddq.hcl" : "std.hcl")
+  ?? example("hcl", "std.hcl")).text;
 
 /** Whether a store of these records meets code of the listing. */
-export function writesCode(listing, records) {
+function writesCode(listing, records) {
   const code = new Set();
   for (const [, at, digits, source] of listing.matchAll(/^0x([0-9a-f]+): ([0-9a-f]+) *\|(.*)$/gm))
-    if (!source.includes(".quad")) for (let place = 0; place < digits.length / 2; place++) code.add(parseInt(at, 16) + place);
-  const stores = records.flatMap((it) => it.changes).filter((it) => it.name[0] === "[").map((it) => parseInt(it.name.slice(1), 16));
+    if (!source.includes(".quad"))
+      for (let place = 0; place < digits.length / 2; place++) code.add(parseInt(at, 16) + place);
+  const stores = records.flatMap((it) => it.changes).filter((it) => it.name[0] === "[")
+    .map((it) => parseInt(it.name.slice(1), 16));
   return stores.some((at) => [0, 1, 2, 3, 4, 5, 6, 7].some((place) => code.has(at + place)));
 }
 
 /** The two runs compared: records by instructions and by the machine, and the number of the first that differs. */
-function compared(path, listing, ran, by_, book) {
+function compared(path, listing, ran, by_, book, run, told) {
   const right = report(by_.out), mine = report(ran.out), reference = report(book.out), steps = trace(book.out);
-  const isKnown = Boolean(right && reference) && (right.whole === reference.whole || (right.status === "AOK" && !writesCode(listing, steps)));
-  const records = path === "pipe" ? trace(ran.out) : [];
-  return {
-    path, right, mine, steps: isKnown ? steps : null, records, isSame: Boolean(right && mine) && right.whole === mine.whole,
-    first: isKnown && path === "pipe" ? firstDifference(records, steps) : 0, isCut: right?.status === "AOK",
-  };
+  const isKnown = Boolean(right && reference) && (right.whole === reference.whole
+    || (right.status === "AOK" && !writesCode(listing, steps)));
+  const found = { path, right, mine, steps: isKnown ? steps : null, premise: told?.premise };
+  const isSame = Boolean(right && mine) && right.whole === mine.whole;
+  if (path === "pipe") {
+    const { outcome, first = null } = told ?? { outcome: isSame ? "same" : "state" };
+    return { ...found, records: trace(ran.out), isSame: outcome === "same", isCut: outcome === "limit", first };
+  }
+  const records = run ? seqRecords(run) : [];
+  // (of a long run the first cycles are there)
+  const isPart = right?.status === "AOK" || records.length < mine?.steps;
+  const first = isKnown && records.length ? firstDifference(records, steps, isPart) : null;
+  return { ...found, records, isSame, isCut: false, first };
 }
 
 async function run() {
@@ -49,17 +63,18 @@ async function run() {
   try {
     const made = await runner.call("y86", ["yas", SOURCE, ...flags], { [SOURCE]: it.ys });
     if (!it.isBoth()) return;
-    if (made.status !== 0) return showSourceFault(made.err, it.ys);
+    if (made.status !== 0) return await showSourceFault(it, made.err);
     editors.ys.show([], []);
     noFault("ys");
     const files = { [DESIGN]: it.hcl, [OBJECT]: made.out, [BOOK]: bookDesign() };
     const ran = await runner.call("y86", [...COMMANDS[path], ...flags], files);
-    if (ran.status > 1) return it.isBoth() && showNoRun(ran, it.hcl);
+    if (ran.status > 1) return await showNoRun(it, ran);
     const by_ = await runner.call("y86", ["yis", OBJECT, ...flags], files);
     const book = await runner.call("y86", ["psim", BOOK, OBJECT, "--trace", ...flags], files);
-    const staged = await STAGED[path](path, files, flags, made.out);
+    const staged = await STAGED[path](path, files, flags, made.out), told = await toldOf(path, files, flags);
     if (!it.isBoth()) return;
-    Object.assign(state, { object: made.out, lines: sourceLines(made.out), compared: compared(path, made.out, ran, by_, book) });
+    Object.assign(state, { object: made.out, lines: sourceLines(made.out),
+      compared: compared(path, made.out, ran, by_, book, staged, told) });
     showRun(staged, path, ran);
   } catch (stopped) {
     if (!(stopped instanceof Stopped)) throw stopped;
@@ -67,11 +82,19 @@ async function run() {
   }
 }
 
+/** Where the pipeline first differs from the instructions, as y86-tell says it. */
+async function toldOf(path, files, flags) {
+  if (path !== "pipe" || !has("y86-tell")) return null;
+  const said = await runner.call("y86-tell", ["run", DESIGN, OBJECT, "--json", "--unchecked", ...flags], files);
+  return lockstep(said.out);
+}
+
 const stageWords = (flags) => [DESIGN, OBJECT, "--to", String(SHOWN), ...flags];
 
 /** The run on the pipeline by cycles: what y86-stages prints of it, and its diagram. */
 async function pipeRun(_, files, flags, object) {
-  const lines = await runner.call("y86-stages", stageWords(flags), files), diagram = await runner.call("y86-stages", [...stageWords(flags), "--diagram"], files);
+  const lines = await runner.call("y86-stages", stageWords(flags), files);
+  const diagram = await runner.call("y86-stages", [...stageWords(flags), "--diagram"], files);
   return readRun(lines.out, diagram.out, object);
 }
 
@@ -98,40 +121,55 @@ function showRun(run, path, ran) {
   outcome();
 }
 
-function noRun(html, why, which, fault) {
+function noRun(html, why, which, faults) {
   Object.assign(state, { run: null, compared: null });
   card("outcome", "", html);
-  blank(why, true, which, fault);
+  blank(why, true, which, faults);
   tell("run");
 }
 
-function showSourceFault(err, text) {
-  const fault = faultOf(err, "ys", text), place = placeWords(fault);
-  showFault("ys", fault);
-  noRun(`${head("no run", "This program")}<p>The program has a fault${place ? ` in ${place}` : ""}: <b>${escaped(fault.reason)}</b>.</p>`, "The program has a fault, so there is no run to show.", "ys", fault);
+async function showSourceFault(it, err) {
+  const faults = await faultsOf(runner, "ys", it.ys, err);
+  if (!it.isBoth()) return;
+  const place = placeWords(faults[0]), where = place ? ` in ${place}${moreWords(faults)}` : "";
+  showFaults("ys", faults);
+  const said = `${head("no run", "This program")}<p>The program has a fault${where}: ${faults[0].html}</p>`;
+  noRun(said, "The program has a fault, so there is no run to show.", "ys", faults);
 }
 
-function showNoRun(ran, hcl) {
-  if (ran.status !== 5 && ran.status !== 7) return noRun(`${head("no run", "This program")}<p>${escaped(ran.err || ran.fault)}</p>`, "There is no run to show.");
-  const why = "The processor has a fault, so there is no run to show.";
-  return noRun(`${head("no run", "This program")}<p>It assembles; the processor has a fault, so it can’t run.</p>`, why, "hcl", faultOf(ran.err, "hcl", hcl));
+async function showNoRun(it, ran) {
+  if (ran.status !== 5 && ran.status !== 7) {
+    const said = `${head("no run", "This program")}<p>${escaped(ran.err || ran.fault)}</p>`;
+    return it.isBoth() && noRun(said, "There is no run to show.");
+  }
+  const faults = await faultsOf(runner, "hcl", it.hcl, ran.err);
+  if (!it.isBoth()) return;
+  const said = `${head("no run", "This program")}<p>It assembles; the processor has a fault, so it can’t run.</p>`;
+  noRun(said, "The processor has a fault, so there is no run to show.", "hcl", faults);
 }
 
 function showStopped() {
-  noRun(`${head("stopped", "This program")}<p>The run was stopped. ${small("rerun", "Run again")}</p>`, "The run was stopped.");
+  noRun(`${head("stopped", "This program")}<p>The run was stopped. ${small("rerun", "Run again")}</p>`,
+    "The run was stopped.");
   by("rerun").onclick = () => {
     mark("outcome", "running …", runner);
     run();
   };
 }
 
+/** A fault with the lines around it. */
+function faultHTML(which, it) {
+  const file = `${state.names[which]}${it.line ? `, ${placeWords(it)}` : ""}`;
+  return `<p><b>${escaped(file)}</b>: ${it.html}</p>${excerpt(editors[which].text, it)}`;
+}
+
 /** In place of a run, why there is none. */
-function blank(text, isWarning, which, fault) {
-  const it = by("blank"), file = which && `${state.names[which]}${fault.line ? `, ${placeWords(fault)}` : ""}`;
-  const meaning = fault?.meaning ? `<p class="hint"><code>${fault.reason}</code> means: ${escaped(fault.meaning)}.</p>` : "";
+function blank(text, isWarning, which, faults = []) {
+  const it = by("blank"), rest = faults.length > MOST_FAULTS ? `<p>${faults.length - MOST_FAULTS} more.</p>` : "";
   it.hidden = false;
   it.className = `blank ${isWarning ? "warn" : ""}`;
-  it.innerHTML = `<p>${escaped(text)}</p>${fault ? `<p><b>${escaped(file)}: ${escaped(fault.said)}</b></p>${excerpt(editors[which].text, fault)}${fault.hint ? `<p>${fault.hint}</p>` : ""}${meaning}` : ""}`;
+  const shown = faults.slice(0, MOST_FAULTS).map((fault) => faultHTML(which, fault)).join("");
+  it.innerHTML = `<p>${escaped(text)}</p>${shown}${rest}`;
   by("shown").hidden = true;
   by("shown").classList.remove("stale");
   by("controls").hidden = true;
@@ -149,50 +187,55 @@ function outcome() {
   const it = state.compared;
   if (!it?.mine || !it.right) return it && card("outcome", "", head("no report", "This program"));
   if (it.isSame) return showSame(it);
-  if (it.isCut && it.path === "pipe" && it.mine.status === "AOK" && isSameSoFar(it)) return showCut(it);
+  if (it.isCut) return showCut(it);
   return showDifferent(it);
-}
-
-/** Whether all that retired within the limit is right; the faster machine is further on. */
-function isSameSoFar({ steps, records, first }) {
-  return Boolean(steps) && (first === 0 || first > Math.min(steps.length, records.length));
 }
 
 function showCut({ mine, records }) {
   const said = `What retired, ${records.length} instructions, is what the instructions do.`;
-  card("outcome", "", `${head("limit", "This program: no end within the limit")}<p>${ranWords(mine)}</p><p class="soft">${said}</p>`);
+  card("outcome", "", `${head("limit", "This program: no end within the limit")}<p>${ranWords(mine)}</p>`
+    + `<p class="soft">${said}</p>`);
 }
 
-function showSame({ mine, path }) {
+/** Whether the verdict speaks of this program. */
+const premiseWords = ({ premise }) => (premise === "fails"
+  ? " It fetches what one of the three instructions before stored, so the verdict doesn’t speak of it." : "");
+
+function showSame(it) {
+  const { mine, path } = it;
   const isRefused = state.verdict?.kind === "no" && state.verdict.at === state.changes.hcl;
   const others = isRefused ? ` <b class="got">Another may not.</b> ${small("find", "Find one")}` : "";
-  card("outcome", "yes", `${head("same report", "This program comes out right")}<p>${ENDS[mine.status] ?? mine.status} ${ranWords(mine)}</p><p class="soft">Its report is that of the run by instructions.${others}</p>`);
+  card("outcome", "yes", `${head("same report", "This program comes out right")}<p>${ENDS[mine.status] ?? mine.status} `
+    + `${ranWords(mine)}</p><p class="soft">Its report is that of the run by instructions.`
+    + `${premiseWords(it)}${others}</p>`);
   if (isRefused) by("find").onclick = () => tell("find", path);
 }
 
 /** The instruction at an address, as the run or the listing has it. */
 export function instructionAt(pc) {
   const row = state.run?.rows.find((it) => it.at === pc), line = state.lines.lineOf[pc];
-  const source = line ? editors.ys.text.split("\n")[line - 1].replace(/#.*/, "").replace(/^\s*[\w.$]+:/, "").trim().replace(/\s+/g, " ") : "";
+  const source = line ? editors.ys.text.split("\n")[line - 1].replace(/#.*/, "").replace(/^\s*[\w.$]+:/, "").trim()
+    .replace(/\s+/g, " ") : "";
   return row?.text ?? source;
 }
 
-function whereHTML({ steps, records, first, path }) {
-  if (!steps) return path === "pipe" ? "<p>It overwrites its own instructions, so they can’t be compared one by one.</p>" : "";
-  if (path !== "pipe" || !first) return "";
-  const [difference] = recordDifferences(records[first - 1], steps[first - 1]), pc = (records[first - 1] ?? steps[first - 1]).pc, what = differenceHTML(difference);
-  return `<p>First wrong: instruction ${first}, <button type="button" class="small" id="wrong-at"><code>${escaped(`${address(pc)} ${instructionAt(pc)}`)}</code></button> ${what}</p>`;
+function whereHTML({ first }) {
+  if (!first) return "";
+  const { number, pc, differences: [difference] } = first, code = escaped(`${address(pc)} ${instructionAt(pc)}`);
+  return `<p>First wrong: instruction ${number}, <button type="button" class="small" id="wrong-at"><code>${code}</code>`
+    + `</button> ${differenceHTML(difference)}</p>`;
 }
 
 function showDifferent(it) {
   const said = differences(it.mine, it.right), more = said.length > 1 ? `; ${said.length - 1} more` : "";
   const end = said.length ? `At the end ${escaped(said[0])}${more}. ` : "";
-  card("outcome", "no", `${head("differs", "This program comes out wrong")}${whereHTML(it)}<p class="soft">${end}${ranWords(it.mine)}</p>`);
+  card("outcome", "no", `${head("differs", "This program comes out wrong")}${whereHTML(it)}<p class="soft">`
+    + `${end}${ranWords(it.mine)}${premiseWords(it)}</p>`);
   if (by("wrong-at")) {
     by("wrong-at").title = "Go to the cycle in which it is decoded";
-    by("wrong-at").onclick = () => tell("goto-record", it.first);
+    by("wrong-at").onclick = () => tell("goto-record", it.first.number);
   }
-  if (it.first) tell("wrong", it.first);
+  if (it.first) tell("wrong", it.first.number);
 }
 
 export function wireOutcome() {

@@ -26,8 +26,10 @@ function parts(run) {
 function fill() {
   const { run } = state, theme = document.documentElement.dataset.theme;
   const end = run ? ` ${run.end.cycles} cycles, ${run.end.retired} retired, ${run.end.status}.` : "";
-  const drawing = run ? `<h3>Cycle ${state.cycle}</h3>${drawingNow("paper")}<h3>Instructions by cycles</h3>${parts(run).join("")}` : "<p>No run.</p>";
-  by("paper").innerHTML = `<h2>${escaped(titled())}</h2><p>${escaped(headingOf("outcome"))}${escaped(headingOf("verdict"))}${end}</p>${drawing}`;
+  const drawing = run ? `<h3>Cycle ${state.cycle}</h3>${drawingNow("paper")}<h3>Instructions by cycles</h3>`
+    + `${parts(run).join("")}` : "<p>No run.</p>";
+  by("paper").innerHTML = `<h2>${escaped(titled())}</h2>`
+    + `<p>${escaped(headingOf("outcome"))}${escaped(headingOf("verdict"))}${end}</p>${drawing}`;
   document.documentElement.dataset.theme = "light";
   const back = () => {
     document.documentElement.dataset.theme = theme;

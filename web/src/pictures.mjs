@@ -13,7 +13,8 @@ const stem = (name) => name.replace(/\.\w+$/, "");
 export const titled = () => `${state.names.ys} under ${state.names.hcl}`;
 
 function saveDatapath() {
-  if (state.run) download(`${stem(state.names.ys)}-cycle${state.cycle}.svg`, standalone(drawingNow("run")), "image/svg+xml");
+  if (state.run)
+    download(`${stem(state.names.ys)}-cycle${state.cycle}.svg`, standalone(drawingNow("run")), "image/svg+xml");
 }
 
 function saveDiagram() {

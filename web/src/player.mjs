@@ -19,7 +19,9 @@ const sceneNow = () => (isPipe() ? sceneOfCycle(state.run, state.cycle) : seqSce
 export const drawingNow = (name) => (isPipe() ? datapath(sceneNow(), name) : seqPath(sceneNow(), name));
 
 function seqStagesHTML(scene) {
-  const row = ([it, what, more]) => `<tr style="--h:${hue(scene.row)}"><th scope="row" title="${SEQ_NAMES[it]}">${it}</th><td><span class="what">${escaped(what)}</span><small>${escaped(more)}</small></td><td class="act"></td></tr>`;
+  const row = ([it, what, more]) => `<tr style="--h:${hue(scene.row)}">`
+    + `<th scope="row" title="${SEQ_NAMES[it]}">${it}</th><td><span class="what">${escaped(what)}</span>`
+    + `<small>${escaped(more)}</small></td><td class="act"></td></tr>`;
   return `<caption>The stages in cycle ${state.cycle}</caption><tbody>${seqStages(scene).map(row).join("")}</tbody>`;
 }
 
@@ -28,15 +30,19 @@ function stagesHTML(scene, cycle) {
   if (!isPipe()) return seqStagesHTML(scene);
   const forwards = cycle.forwards.map((it) => `${it.to} = ${it.value} from ${it.from}`).join(", ");
   const rows = [..."FDEMW"].map((it) => {
-    const { kind, text, at, row } = scene.stages[it], does = ACTS[scene.next[it]] ?? "", got = it === "D" ? forwards : "";
+    const { kind, text, at, row } = scene.stages[it], does = ACTS[scene.next[it]] ?? "";
+    const got = it === "D" ? forwards : "";
     const more = [at, kind === "cancelled" ? "cancelled" : "", got].filter(Boolean).join(" ");
-    return `<tr class="${kind}" style="--h:${hue(row)}"><th scope="row" title="${NAMES[it]}">${it}</th><td><span class="what">${escaped(text)}</span><small>${escaped(more)}</small></td><td class="act">${does}</td></tr>`;
+    return `<tr class="${kind}" style="--h:${hue(row)}"><th scope="row" title="${NAMES[it]}">${it}</th><td>`
+      + `<span class="what">${escaped(text)}</span><small>${escaped(more)}</small></td>`
+      + `<td class="act">${does}</td></tr>`;
   });
   return `<caption>The stages in cycle ${state.cycle}</caption><tbody>${rows.join("")}</tbody>`;
 }
 
 function showCycle() {
-  const cycle = cycleNow(), scene = sceneNow(), slider = by("slider"), total = Number(state.run.end.cycles), of = total > count() ? `${count()}+` : count();
+  const cycle = cycleNow(), scene = sceneNow(), slider = by("slider"), total = Number(state.run.end.cycles);
+  const of = total > count() ? `${count()}+` : count();
   by("now").innerHTML = `cycle <b>${state.cycle}</b> of ${of}`;
   slider.value = state.cycle;
   slider.setAttribute("aria-valuetext", `cycle ${state.cycle}: ${cycle.told.map((it) => it.text).join(" ")}`);
@@ -66,7 +72,7 @@ export function nextHazard(step = 1) {
   toast(step > 0 ? "No hazard after this cycle" : "No hazard before this cycle");
 }
 
-export function stopPlaying() {
+function stopPlaying() {
   clearInterval(state.playing);
   state.playing = 0;
   document.body.classList.remove("playing");
@@ -98,7 +104,8 @@ export function toggleBreak(at) {
   if (at === null || at === undefined || Number.isNaN(at)) return;
   const had = state.breaks.delete(at);
   if (!had) state.breaks.add(at);
-  toast(had ? `No breakpoint at ${address(at)} any more` : `Breakpoint at ${address(at)}: play stops where it is fetched`);
+  const place = address(at);
+  toast(had ? `No breakpoint at ${place} any more` : `Breakpoint at ${place}: play stops where it is fetched`);
   tell("breaks");
 }
 
@@ -120,9 +127,11 @@ function placeOfRecord(number) {
 function showRun() {
   const { run } = state, ticks = run.cycles.flatMap((it, at) => (it.hazard ? [at] : [])), most = count() - 1;
   by("slider").max = count();
-  by("ticks").innerHTML = ticks.length > MOST_TICKS ? "" : ticks.map((at) => `<i style="left:${most ? (at / most) * 100 : 0}%"></i>`).join("");
+  by("ticks").innerHTML = ticks.length > MOST_TICKS ? ""
+    : ticks.map((at) => `<i style="left:${most ? (at / most) * 100 : 0}%"></i>`).join("");
   by("hazard").disabled = !ticks.length;
-  by("now").title = Number(run.end.cycles) > count() ? `The first ${count()} of ${run.end.cycles} cycles are shown` : "";
+  const { cycles } = run.end;
+  by("now").title = Number(cycles) > count() ? `The first ${count()} of ${cycles} cycles are shown` : "";
   state.wrongRow = -1;
   // (a breakpoint stays where its address still has an instruction)
   for (const it of state.breaks) if (!run.rows.some((row) => row.at === it)) state.breaks.delete(it);
@@ -146,7 +155,8 @@ export function wirePlayer() {
     state.wrongRow = placeOfRecord(number).row;
     tell("rows");
   });
-  const does = { first: () => go(1), back: () => go(state.cycle - 1), on: () => go(state.cycle + 1), end: () => go(count()), play, hazard: () => nextHazard() };
+  const does = { first: () => go(1), back: () => go(state.cycle - 1), on: () => go(state.cycle + 1),
+    end: () => go(count()), play, hazard: () => nextHazard() };
   for (const id in does) by(id).onclick = does[id];
   by("slider").oninput = () => go(Number(by("slider").value));
   by("speed").onchange = () => {

@@ -15,7 +15,8 @@ function shown(word) {
 function pairHTML(name, word, cycle) {
   const isFresh = cycle.fresh.has(name), isNext = [...cycle.writes, ...cycle.stores].some(([it]) => it === name);
   const kind = `${isFresh ? "new" : /^0x0*$/.test(word) ? "zero" : ""}${isNext ? " comes" : ""}`;
-  const title = `${name} = ${word} = ${BigInt.asIntN(64, BigInt(word))}${isFresh ? ", changed by the cycle before" : ""}${isNext ? ", written at the end of this cycle" : ""}`;
+  const when = `${isFresh ? ", changed by the cycle before" : ""}${isNext ? ", written at the end of this cycle" : ""}`;
+  const title = `${name} = ${word} = ${BigInt.asIntN(64, BigInt(word))}${when}`;
   return `<div class="${kind}" title="${title}"><span>${escaped(name)}</span><span>${shown(word)}</span></div>`;
 }
 
@@ -27,10 +28,13 @@ function usedRegisters(run) {
 function show() {
   const cycle = cycleNow();
   if (!cycle) return;
-  const used = usedRegisters(state.run), words = Object.keys(cycle.memory).sort((one, other) => parseInt(one, 16) - parseInt(other, 16));
-  by("others").textContent = used.length === REGISTERS.length ? "" : used.length ? `${REGISTERS.length - used.length} more: 0` : "all 0";
+  const used = usedRegisters(state.run);
+  const words = Object.keys(cycle.memory).sort((one, other) => parseInt(one, 16) - parseInt(other, 16));
+  const others = REGISTERS.length - used.length;
+  by("others").textContent = !others ? "" : used.length ? `${others} more: 0` : "all 0";
   by("registers").innerHTML = used.map((it) => pairHTML(it, cycle.registers[it] ?? "0x0", cycle)).join("");
-  by("flags").innerHTML = FLAGS.map((it) => `<span class="${cycle.fresh.has(it) ? "new" : ""}">${it} ${cycle.flags[it]}</span>`).join("");
+  const flag = (it) => `<span class="${cycle.fresh.has(it) ? "new" : ""}">${it} ${cycle.flags[it]}</span>`;
+  by("flags").innerHTML = FLAGS.map(flag).join("");
   by("memory-hint").textContent = words.length ? "stored, or laid down by .quad" : "the run stores nothing";
   by("memory").innerHTML = words.slice(0, MOST_WORDS).map((it) => pairHTML(it, cycle.memory[it], cycle)).join("");
 }

@@ -1,7 +1,9 @@
-// A run, from what y86-stages prints (docs/STAGES.md): its cycles, the rows of the diagram, and the state as each cycle begins.
+// A run, from what y86-stages prints (docs/STAGES.md): its cycles, the rows of the diagram, and the state as each cycle
+// begins.
 import { forwards, hazardOf, told } from "./hazards.mjs";
 
-const pairs = (words) => Object.fromEntries(words.flatMap((it, at) => (at % 2 || at + 1 === words.length ? [] : [[it, words[at + 1]]])));
+const pairs = (words) =>
+  Object.fromEntries(words.flatMap((it, at) => (at % 2 || at + 1 === words.length ? [] : [[it, words[at + 1]]])));
 
 /** The two parts of a text around the first mark. */
 export function split(text, mark) {
@@ -42,7 +44,8 @@ function rowsOf(diagram) {
   for (const line of diagram.split("\n")) {
     const at = line.indexOf(" | ");
     if (at < 0) continue;
-    const [what, listed] = split(line.slice(at + 3), " | "), [address, text] = split(what, " "), isBubble = what === "bubble";
+    const [what, listed] = split(line.slice(at + 3), " | "), [address, text] = split(what, " ");
+    const isBubble = what === "bubble";
     let letters = "";
     for (let column = 2; column < at; column += 3) letters += line[column];
     rows.push({
@@ -57,7 +60,8 @@ function rowsOf(diagram) {
 function bytesOf(object) {
   const bytes = new Map();
   for (const [, at, digits] of object.matchAll(/^\s*0x([0-9a-fA-F]+):\s*([0-9a-fA-F]+)/gm))
-    for (let place = 0; 2 * place < digits.length; place++) bytes.set(parseInt(at, 16) + place, parseInt(digits.slice(2 * place, 2 * place + 2), 16));
+    for (let place = 0; 2 * place < digits.length; place++)
+      bytes.set(parseInt(at, 16) + place, parseInt(digits.slice(2 * place, 2 * place + 2), 16));
   return bytes;
 }
 
@@ -66,7 +70,8 @@ export const address = (number) => `0x${number.toString(16).padStart(3, "0")}`;
 /** The words of memory to show as the run begins: those that it stores, and those that the program lays down. */
 function memoryOf(cycles, object) {
   const bytes = bytesOf(object), found = {};
-  const laid = [...object.matchAll(/^(0x[0-9a-f]+): [0-9a-f]{16} *\|.*\.quad/gm)].map(([, at]) => address(parseInt(at, 16)));
+  const laid = [...object.matchAll(/^(0x[0-9a-f]+): [0-9a-f]{16} *\|.*\.quad/gm)]
+    .map(([, at]) => address(parseInt(at, 16)));
   for (const at of new Set([...cycles.flatMap((it) => it.stores.map(([place]) => place)), ...laid.slice(0, 64)])) {
     let word = 0n;
     for (let place = 7; place >= 0; place--) word = (word << 8n) | BigInt(bytes.get(parseInt(at, 16) + place) ?? 0);
@@ -110,7 +115,9 @@ export function readRun(lines, diagram, object) {
   return { path: "pipe", cycles, rows: rowsOf(diagram), end, start };
 }
 
-/** The line of the source of each address, and the address of each line: yas prints a line for each line of the source. */
+/**
+ * The line of the source of each address, and the address of each line: yas prints a line for each line of the source.
+ */
 export function sourceLines(object) {
   const lineOf = {}, addressOf = {};
   object.split("\n").forEach((line, at) => {

@@ -12,7 +12,8 @@ function jumps(digits) {
 export function settings(line) {
   const { pt, pb, tv, lf, je, rm } = Object.fromEntries(line.split(" ").slice(1).map((it) => it.split("=")));
   return [
-    pt === pb ? `Jumps predicted as taken: ${jumps(pt)}.` : `Jumps predicted as taken: forward ${jumps(pt)}; backward ${jumps(pb)}.`,
+    pt === pb ? `Jumps predicted as taken: ${jumps(pt)}.` : `Jumps predicted as taken: forward ${jumps(pt)}; backward `
+      + `${jumps(pb)}.`,
     `A mispredicted jump costs ${je === "1" ? "one bubble" : "two bubbles"}, a return ${rm === "1" ? "two" : "three"}.`,
     lf === "1" ? "A store doesn’t wait for a word that is just loaded." : "A word that is just loaded is waited for.",
     ...(tv === "1" ? ["Jumps carry their target through the ALU."] : []),

@@ -1,11 +1,12 @@
-// What the page knows, and who is told when it changes. Each answer belongs to the texts of one moment; `changes` counts them.
+// What the page knows, and who is told when it changes. Each answer belongs to the texts of one moment; `changes`
+// counts them.
 
 export const state = {
   changes: { hcl: 0, ys: 0 },
   names: { hcl: "my.hcl", ys: "my.ys" },
   // Texts of the reader's own, kept while an example is shown.
   own: {},
-  // { at, kind: yes, no, fault, none; rule, told, lines, fault }
+  // { at, kind: yes, no, fault, none; rule, told, lines, faults }
   verdict: null,
   // What run.mjs reads, or null.
   run: null,

@@ -1,26 +1,33 @@
 // The run by instructions, and where the run of the processor first differs from it.
-import { differenceHTML, recordDifferences } from "./compare.mjs";
+import { differenceHTML } from "./compare.mjs";
 import { by, escaped } from "./dom.mjs";
-import { PATHS } from "./names.mjs";
 import { instructionAt } from "./outcome.mjs";
 import { address } from "./run.mjs";
 import { on, state, tell } from "./state.mjs";
 
 const MOST = 2000;
-const HEADS = ["#", "address", "instruction", "changes", "ZF SF OF", "status"].map((it) => `<th scope="col">${it}</th>`).join("");
+const HEADS = ["#", "address", "instruction", "changes", "ZF SF OF", "status"].map((it) => `<th scope="col">${it}</th>`)
+  .join("");
 
-const changes = (it) => it.changes.map(({ name, word }) => `<code>${escaped(name)}</code> = <code>${escaped(word)}</code>`).join(", ");
+const changes = (it) => it.changes.map(({ name, word }) => `<code>${escaped(name)}</code> = `
+  + `<code>${escaped(word)}</code>`).join(", ");
+
+function differsHTML({ number, differences }) {
+  return `<tr class="differs"><td></td><td colspan="5">Here the processor differs first: `
+    + `${differences.map(differenceHTML).join("; ")} `
+    + `<button type="button" class="small" data-record="${number}">Go to its cycle</button></td></tr>`;
+}
 
 function rowHTML(right, mine, number, first) {
-  const isFirst = number === first, it = right ?? mine, label = state.lines.lineOf[it.pc];
-  const differs = isFirst ? `<tr class="differs"><td></td><td colspan="5">Here the processor differs first: ${recordDifferences(mine, right).map(differenceHTML).join("; ")} <button type="button" class="small" data-record="${number}">Go to its cycle</button></td></tr>` : "";
-  const cells = `<td>${address(it.pc)}</td><td>${escaped(instructionAt(it.pc))}</td><td>${right ? changes(right) : ""}</td><td>${[...it.flags].join(" ")}</td><td>${it.status}</td>`;
-  return `<tr class="${isFirst ? "wrong" : first && number > first ? "later" : ""}" data-line="${label ?? ""}"><th scope="row">${number}</th>${cells}</tr>${differs}`;
+  const isFirst = number === first?.number, it = right ?? mine, label = state.lines.lineOf[it.pc];
+  const cells = `<td>${address(it.pc)}</td><td>${escaped(instructionAt(it.pc))}</td>`
+    + `<td>${right ? changes(right) : ""}</td><td>${[...it.flags].join(" ")}</td><td>${it.status}</td>`;
+  const kind = isFirst ? "wrong" : first && number > first.number ? "later" : "";
+  return `<tr class="${kind}" data-line="${label ?? ""}"><th scope="row">${number}</th>${cells}</tr>`
+    + (isFirst ? differsHTML(first) : "");
 }
 
-function whyNone({ path }) {
-  return path === "pipe" ? "This program overwrites its own instructions, so they can’t be listed one by one." : `The instructions can’t be listed: this program overwrites them, or ${PATHS[path]} stops it otherwise.`;
-}
+const NONE = "This program overwrites its own instructions, so they can’t be listed one by one.";
 
 function show() {
   const it = state.compared, panel = by("panel-steps");
@@ -29,15 +36,18 @@ function show() {
     return;
   }
   if (!it.steps) {
-    panel.innerHTML = `<div class="blank">${whyNone(it)}</div>`;
+    panel.innerHTML = `<div class="blank">${NONE}</div>`;
     return;
   }
-  const { steps, records, first, path } = it, count = first > steps.length ? first : steps.length;
-  const rows = Array.from({ length: Math.min(count, MOST) }, (_, at) => rowHTML(steps[at], path === "pipe" ? records[at] : steps[at], at + 1, first));
-  const said = first ? `The processor’s run differs first at instruction ${first}.` : path === "pipe" ? "The processor’s run is the same." : "";
+  const { steps, records, first } = it, count = Math.max(first?.number ?? 0, steps.length);
+  const rows = Array.from({ length: Math.min(count, MOST) }, (_, at) =>
+    rowHTML(steps[at], records[at] ?? steps[at], at + 1, first));
+  const said = first ? `The processor’s run differs first at instruction ${first.number}.`
+    : it.isSame ? "The processor’s run is the same." : "";
   const cut = count > MOST ? ` The first ${MOST} of ${count} are listed.` : "";
   const intro = `What each instruction does, one after another. ${said}${cut}`;
-  panel.innerHTML = `<div class="card scroll"><p>${intro}</p><table class="list"><thead><tr>${HEADS}</tr></thead><tbody>${rows.join("")}</tbody></table></div>`;
+  panel.innerHTML = `<div class="card scroll"><p>${intro}</p><table class="list"><thead><tr>${HEADS}</tr></thead>`
+    + `<tbody>${rows.join("")}</tbody></table></div>`;
   panel.querySelector(".wrong")?.scrollIntoView({ block: "center" });
 }
 

@@ -5,7 +5,8 @@ import { Editor } from "./editor.mjs";
 import { knowsIaddq } from "./names.mjs";
 import { state, tell } from "./state.mjs";
 
-export const editors = { hcl: new Editor(by("hcl"), "hcl", () => typed("hcl")), ys: new Editor(by("ys"), "ys", () => typed("ys")) };
+export const editors = { hcl: new Editor(by("hcl"), "hcl", () => typed("hcl")),
+  ys: new Editor(by("ys"), "ys", () => typed("ys")) };
 const CHOICES = { hcl: "hcls", ys: "yss" };
 
 export const isFull = () => by("full").checked;
@@ -16,11 +17,12 @@ export const full = () => (isFull() ? ["--full"] : []);
 export function moment() {
   const { hcl, ys } = state.changes, wasFull = isFull();
   const isHcl = () => hcl === state.changes.hcl && wasFull === isFull();
-  return { hcl: editors.hcl.text, ys: editors.ys.text, at: hcl, isHcl, isBoth: () => isHcl() && ys === state.changes.ys };
+  return { hcl: editors.hcl.text, ys: editors.ys.text, at: hcl, isHcl,
+    isBoth: () => isHcl() && ys === state.changes.ys };
 }
 
 /** A text has changed: no answer counts as current any more. */
-export function changed(which) {
+function changed(which) {
   state.changes[which]++;
   tell("stale", which);
   tell("text", which);

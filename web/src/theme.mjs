@@ -5,7 +5,7 @@ import { state } from "./state.mjs";
 const KEY = "y86-workbench-theme", NEXT = { auto: "light", light: "dark", dark: "auto" };
 const dark = matchMedia("(prefers-color-scheme: dark)");
 
-export function setTheme(it) {
+function setTheme(it) {
   state.theme = it;
   document.documentElement.dataset.theme = it === "auto" ? (dark.matches ? "dark" : "light") : it;
   by("theme").textContent = `Theme: ${it}`;

@@ -1,50 +1,57 @@
 // Is the processor right for every program? The check, as its text changes, and the card with its answer.
 import { card, head, mark } from "./cards.mjs";
-import { TEXTS } from "./data.mjs";
 import { by, download, escaped, inline, later, small, toast } from "./dom.mjs";
 import { Stopped, has, judge } from "./engine.mjs";
-import { placeWords, readFault } from "./faults.mjs";
+import { faultsOf, moreWords, placeWords } from "./faults.mjs";
 import { PATHS, datapath, knowsIaddq } from "./names.mjs";
 import { ruleText } from "./rule_text.mjs";
 import { settings } from "./settings.mjs";
 import { on, state, tell } from "./state.mjs";
 import { editors, full, isFull, moment } from "./texts.mjs";
-import { explained } from "./why/sequential.mjs";
 import { refusalsOf } from "./why/told.mjs";
 
 const FILE = "my.hcl", WAIT = 260;
 
-const notAsked = (text) => (knowsIaddq(text) && !isFull() ? " <code>iaddq</code> wasn’t checked: the box at the top includes it." : "");
+const notAsked = (text) =>
+  (knowsIaddq(text) && !isFull() ? " <code>iaddq</code> wasn’t checked: the box at the top includes it." : "");
 
 /** What can be saved of a verdict. */
 function saves(path, isYes) {
   if (path !== "pipe") return "";
   const link = (id, text) => `<button type="button" class="textual" id="${id}">${text}</button>`;
-  return ` <span class="saves">Save: ${isYes ? `${link("save-cert", "certificate")}, ` : ""}${link("save-aig", "AIGER")}</span>`;
+  return ` <span class="saves">Save: `
+    + `${isYes ? `${link("save-cert", "certificate")}, ` : ""}${link("save-aig", "AIGER")}</span>`;
 }
 
 function showYes(it, path, line) {
   state.verdict = { at: it.at, kind: "yes" };
   const title = path === "pipe" ? "Right for every program" : `${PATHS[path]}: right for every program`;
   const more = path === "pipe" ? ' <small>that doesn’t overwrite its next three instructions</small>' : "";
-  const said = path === "pipe" ? settings(line).join(" ") : "In every cycle this processor does the program’s next instruction.";
+  const said = path === "pipe" ? settings(line).join(" ")
+    : "In every cycle this processor does the program’s next instruction.";
   card("verdict", "yes", `${head("yes", title, more)}<p>${escaped(said)}${notAsked(it.hcl)}${saves(path, true)}</p>`);
 }
 
 /** The signal to look at first, and its line. */
 function mainOf(told) {
-  const main = told?.signals.find((it) => (it.isWrong || it.isBlamed) && it.from) ?? told?.signals.find((it) => it.from);
-  return main && (main.cases?.find((it) => it.isTaken)?.line ?? main.from);
+  const main = told?.signals.find((it) => (it.isWrong || it.isBlamed) && it.from)
+    ?? told?.signals.find((it) => it.from);
+  return main && (main.taken?.line ?? main.from);
 }
 
 /** Shows a refusal: `refusals` explain the obligations that are refuted, of which `shown` is looked at. */
 function showNo(it, path, lines, refusals, shown) {
-  const told = refusals.find((one) => one.rule === shown) ?? refusals[0], rule = told?.rule ?? lines[0].split(" ")[1], line = mainOf(told);
+  const told = refusals.find((one) => one.rule === shown) ?? refusals[0], rule = told?.rule ?? lines[0].split(" ")[1];
+  const line = mainOf(told);
   state.verdict = { at: it.at, kind: "no", rule, told, refusals, lines, path };
-  const brief = told?.brief ? `<p><b class="got">${inline(told.brief)}</b>${line ? ` ${small("goto", `line ${line}`)}` : ""}</p>` : "";
-  const others = refusals.map((one) => one.rule).filter((one) => one !== rule), more = others.length ? ` Refuted too: ${others.join(", ")}.` : "";
-  const title = head(`no: ${rule}`, "Not right for every program", ` <span class="grow"></span>${small("why", "See why")}`);
-  card("verdict", "no", `${title}${brief}<p class="soft">${rule}: ${inline(shortOf(rule, path, told))}${more}${notAsked(it.hcl)}${saves(path, false)}</p>`);
+  const brief = told?.brief ? `<p><b class="got">${inline(told.brief)}</b>`
+    + `${line ? ` ${small("goto", `line ${line}`)}` : ""}</p>` : "";
+  const others = refusals.map((one) => one.rule).filter((one) => one !== rule);
+  const more = others.length ? ` Refuted too: ${others.join(", ")}.` : "";
+  const title = head(`no: ${rule}`, "Not right for every program", ` <span class="grow">`
+    + `</span>${small("why", "See why")}`);
+  card("verdict", "no", `${title}${brief}<p class="soft">${rule}: `
+    + `${inline(shortOf(rule, path, told))}${more}${notAsked(it.hcl)}${saves(path, false)}</p>`);
   by("why").onclick = () => tell("why");
   if (line) by("goto").onclick = () => editors.hcl.reveal(line, 1);
 }
@@ -55,35 +62,39 @@ function shortOf(rule, path, told) {
   return demand ? demand.replace(/(\.) .*/s, "$1") : `${ruleText(rule, path).short}.`;
 }
 
-/** What y86-tell says of a refusal of PIPE; none where it gives no answer. */
-async function toldOf(it) {
+/** What y86-tell says of a refusal; none where it gives no answer. */
+async function toldOf(it, path) {
   if (!has("y86-tell")) return { refusals: [] };
-  const said = await judge.call("y86-tell", ["check", "pipe", FILE, "--json", ...full()], { [FILE]: it.hcl });
-  return refusalsOf(it.hcl, said.out);
+  const said = await judge.call("y86-tell", ["check", path, FILE, "--json", ...full()], { [FILE]: it.hcl });
+  return refusalsOf(it.hcl, said.out, path);
 }
 
 /** Explains a refusal. */
 async function explain(it, path, lines) {
-  const { refusals, first } = path === "pipe" ? await toldOf(it) : { refusals: [explained(it.hcl, lines, isFull())].filter(Boolean) };
+  const { refusals, first } = await toldOf(it, path);
   if (it.isHcl()) showNo(it, path, lines, refusals, first);
 }
 
-function showFault(it, err) {
-  const fault = readFault(err, "hcl", it.hcl, isFull(), TEXTS);
-  state.verdict = { at: it.at, kind: "fault", fault };
-  const place = placeWords(fault);
-  card("verdict", "", `${head("no answer", "Every program")}<p>The processor has a fault${place ? ` in ${place}` : ""}: <b>${escaped(fault.said)}</b>.</p>`);
+async function showFault(it, err) {
+  const faults = await faultsOf(judge, "hcl", it.hcl, err);
+  if (!it.isHcl()) return;
+  state.verdict = { at: it.at, kind: "fault", faults };
+  const place = placeWords(faults[0]), where = place ? ` in ${place}${moreWords(faults)}` : "";
+  const said = `The processor has a fault${where}: ${faults[0].html}`;
+  card("verdict", "", `${head("no answer", "Every program")}<p>${said}</p>`);
 }
 
 function showNone(it, said) {
   state.verdict = { at: it.at, kind: "none" };
-  const why = said.status === 6 ? "The check ran out of memory." : `The check gave no answer: ${said.fault || said.err || `status ${said.status}`}`;
+  const why = said.status === 6 ? "The check ran out of memory." : `The check gave no answer: `
+    + `${said.fault || said.err || `status ${said.status}`}`;
   card("verdict", "", `${head("no answer", "Every program")}<p>${escaped(why)}</p>`);
 }
 
 function showStopped(it) {
   state.verdict = { at: it.at, kind: "none" };
-  card("verdict", "", `${head("stopped", "Every program")}<p class="soft">The check was stopped: no verdict.</p><p>${small("again", "Check again")}</p>`);
+  card("verdict", "", `${head("stopped", "Every program")}<p class="soft">The check was stopped: no verdict.</p>`
+    + `<p>${small("again", "Check again")}</p>`);
   by("again").onclick = () => {
     mark("verdict", "checking …", judge);
     check();
@@ -94,7 +105,7 @@ async function show(it, path, said) {
   const lines = said.out.trim().split("\n");
   if (said.status === 0) showYes(it, path, lines[0]);
   else if (said.status === 1 && lines[0].startsWith("no ")) await explain(it, path, lines);
-  else if (said.status === 5 || said.status === 7) showFault(it, said.err);
+  else if (said.status === 5 || said.status === 7) await showFault(it, said.err);
   else showNone(it, said);
   if (by("save-cert")) by("save-cert").onclick = () => save("cert");
   if (by("save-aig")) by("save-aig").onclick = () => save("aig");

@@ -12,10 +12,9 @@ import { readRun } from "./run.mjs";
 import { readSeqRun } from "./seqrun.mjs";
 import { on, state, tell } from "./state.mjs";
 import { wireTheme } from "./theme.mjs";
-import { explained } from "./why/sequential.mjs";
 import { refusalsOf } from "./why/told.mjs";
 
-const { names, path, lines, diagram, object, hcl, refusal, told, isFull } = DATA.viewer;
+const { names, path, lines, diagram, object, hcl, refusal, told } = DATA.viewer;
 
 /** Shows a run, from the cycle that the address names. */
 function showRun() {
@@ -28,7 +27,7 @@ function showRun() {
 
 /** Shows a refusal: the obligation that is to be looked at first, and buttons for the others. */
 function showRefusal() {
-  const own = told ? null : explained(hcl, refusal, isFull), { refusals, first } = told ? refusalsOf(hcl, told) : { refusals: own ? [own] : [] };
+  const { refusals, first } = refusalsOf(hcl, told, path);
   const show = (name) => {
     const shown = refusals.find((it) => it.rule === name) ?? refusals[0];
     drawRefusal({ rule: shown?.rule ?? refusal[0].split(" ")[1], told: shown, lines: refusal, path, refusals });

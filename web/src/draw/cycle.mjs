@@ -10,7 +10,8 @@ const isBubble = (it) => it.text === "bubble";
 function stageOf(run, stages, stage, number) {
   const it = stages[stage], isEmpty = isBubble(it), isLost = isCancelled(run, it.row, number);
   const bad = ["AOK", "BUB"].includes(it.stat) ? "" : it.stat;
-  return { text: it.text, at: isEmpty ? "" : it.at, row: it.row, kind: isEmpty ? "bubble" : isLost ? "cancelled" : "", tag: isLost ? "cancelled" : bad };
+  return { text: it.text, at: isEmpty ? "" : it.at, row: it.row, kind: isEmpty ? "bubble" : isLost ? "cancelled" : "",
+    tag: isLost ? "cancelled" : bad };
 }
 
 function fieldsOf(stages, stage) {
@@ -71,8 +72,11 @@ function forward(cycle, on) {
   }
   for (const side of "AB") {
     const from = D.fields[`d_val${side}_from`], it = cycle.forwards.find((way) => way.side === side);
-    const isRead = from === `d_rval${side}` && D.fields[`d_src${side}`] !== "-", isValP = from === "D_valP" && side === "A" && /^(call|j)/.test(D.text);
-    if (it) found.push({ side, from, kind: "lit", label: `${from} ${shortWord(it.value, 10)} → ${it.register}`, row: cycle.stages[it.stage].row });
+    const isRead = from === `d_rval${side}` && D.fields[`d_src${side}`] !== "-";
+    const isValP = from === "D_valP" && side === "A" && /^(call|j)/.test(D.text);
+    if (it)
+      found.push({ side, from, kind: "lit", label: `${from} ${shortWord(it.value, 10)} → ${it.register}`,
+        row: cycle.stages[it.stage].row });
     else if (isRead || isValP) found.push({ side, from, kind: "lit", row: D.row });
   }
   return found;
@@ -87,7 +91,8 @@ function pcOf({ F, ...stages }) {
 function inWords(scene, number) {
   const one = (it) => {
     const { text, kind } = scene.stages[it], next = scene.next[it];
-    return `${NAMES[it]}: ${text}${kind === "cancelled" ? ", cancelled" : ""}${next === "load" ? "" : `, ${next} next`}`;
+    return `${NAMES[it]}: ${text}${kind === "cancelled" ? ", cancelled" : ""}${next === "load" ? ""
+      : `, ${next} next`}`;
   };
   return `Datapath in cycle ${number}: ${[..."FDEMW"].map(one).join("; ")}`;
 }

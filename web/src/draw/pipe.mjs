@@ -10,7 +10,8 @@ const BANDS = { F: [8, 170], D: [184, 210], E: [400, 218], M: [624, 196], W: [82
 const SLOTS = {
   F: [[7, "predPC"]],
   D: [[0, "stat"], [1, "icode"], [2, "rA"], [3, "rB"], [6, "valC"], [7, "valP"]],
-  E: [[0, "stat"], [1, "icode"], [2, "dstE"], [3, "dstM"], [4, "srcA"], [5, "srcB"], [6, "valC"], [7, "valA"], [8, "valB"]],
+  E: [[0, "stat"], [1, "icode"], [2, "dstE"], [3, "dstM"], [4, "srcA"], [5, "srcB"], [6, "valC"], [7, "valA"],
+    [8, "valB"]],
   M: [[0, "stat"], [1, "icode"], [2, "dstE"], [3, "dstM"], [4, "Cnd"], [6, "valA"], [8, "valE"]],
   W: [[0, "stat"], [1, "icode"], [2, "dstE"], [3, "dstM"], [6, "valM"], [8, "valE"]],
 };
@@ -19,7 +20,8 @@ const TOP = 76, TALL = 25, BOTTOM = TOP + 9 * TALL, mid = (slot) => TOP + slot *
 const TRACKS = { e_valE: 338, m_valM: 351, M_valE: 364, W_valM: 377, W_valE: 390 }, PC = 406;
 // Where a word leaves for its lane.
 const TAPS = {
-  e_valE: [[612, mid(8)]], m_valM: [[819, mid(6)]], M_valE: [[716, mid(8)]], W_valM: [[914, mid(6)], [938, mid(6)]], W_valE: [[914, mid(8)], [928, mid(8)]],
+  e_valE: [[612, mid(8)]], m_valM: [[819, mid(6)]], M_valE: [[716, mid(8)]], W_valM: [[914, mid(6)], [938, mid(6)]],
+    W_valE: [[914, mid(8)], [928, mid(8)]],
   M_valA: [[722, mid(6)]], E_valA: [[496, mid(7)]], E_valC: [[493, mid(6)]],
 };
 // Where a lane goes up into the choice of valA and of valB.
@@ -29,7 +31,8 @@ const INTO = {
 };
 const UNDER = { A: 279, B: 303 };
 const LANE_NAMES = [["e_valE", 590], ["m_valM", 770], ["M_valE", 664], ["W_valM", 870], ["W_valE", 870]];
-const ALU = "M563 240L597 252L597 290L563 302L563 278L571 271L563 264Z", ALU_SIGNS = { add: "+", sub: "−", and: "&", xor: "^" };
+const ALU = "M563 240L597 252L597 290L563 302L563 278L571 271L563 264Z";
+const ALU_SIGNS = { add: "+", sub: "−", and: "&", xor: "^" };
 
 /** The way of a word to the choice of valA or valB; null where it has none. */
 function forwardWay(side, from) {
@@ -117,7 +120,8 @@ function fetchBlocks(sheet, texts) {
 
 function decodeBlocks(sheet, texts, lit) {
   const [isWritten, row] = lit("write", "W");
-  sheet.block([280, 168, 112, 58], isWritten && "written", [["Register file"], [texts.readA ?? "", "val"], [texts.readB ?? "", "val"]], "", row);
+  sheet.block([280, 168, 112, 58], isWritten && "written", [["Register file"], [texts.readA ?? "", "val"],
+    [texts.readB ?? "", "val"]], "", row);
   sheet.block([276, 248, 58, 31], "", [["Sel+Fwd"], ["A"]], "d_valA");
   sheet.block([340, 274, 52, 29], "", [["Fwd B"]], "d_valB");
 }
@@ -162,7 +166,8 @@ function signals(sheet, texts) {
 
 function cell(sheet, stage, [slot, name], value) {
   const [x, wide] = BARS[stage], y = TOP + slot * TALL, isNone = value === "-" || value === "–", isF = stage === "F";
-  sheet.add(`<g class="cell${isNone ? " none" : ""}${sheet.mark(`${stage}_${name}`)}"><title>${stage}_${name} = ${escaped(isNone ? "none" : value)}</title>`);
+  sheet.add(`<g class="cell${isNone ? " none" : ""}${sheet.mark(`${stage}_${name}`)}">`
+    + `<title>${stage}_${name} = ${escaped(isNone ? "none" : value)}</title>`);
   sheet.add(`<rect x="${x + 1.5}" y="${y + 1.5}" width="${wide - 3}" height="${TALL - 3}" rx="4"/>`);
   sheet.text(x + 6, isF ? y - 3 : y + 16, name, "name");
   sheet.text(x + wide - 6, y + 16.5, isNone ? "–" : shortWord(value, isF ? 7 : 8), "val end");
@@ -171,10 +176,12 @@ function cell(sheet, stage, [slot, name], value) {
 
 /** What a register does at the end of the cycle, or should do, below it. */
 function act(sheet, stage, next, wanted) {
-  const [x, wide] = BARS[stage], does = next && next !== "load", text = does ? (next === "both" ? "stall+bubble" : next) : wanted;
+  const [x, wide] = BARS[stage], does = next && next !== "load";
+  const text = does ? (next === "both" ? "stall+bubble" : next) : wanted;
   if (!text) return;
   const room = does ? wide + 4 : Math.max(wide + 4, text.length * 6.6 + 18);
-  sheet.add(`<g class="act act-${does ? next : "wanted"}"><rect x="${x + (wide - room) / 2}" y="${BOTTOM + 4}" width="${room}" height="18" rx="9"/>`);
+  sheet.add(`<g class="act act-${does ? next : "wanted"}"><rect x="${x + (wide - room) / 2}" y="${BOTTOM + 4}" `
+    + `width="${room}" height="18" rx="9"/>`);
   sheet.text(x + wide / 2, BOTTOM + 17, text, "mid");
   sheet.add("</g>");
 }
@@ -191,9 +198,11 @@ function bar(sheet, stage, { stages, fields, next, wanted = {} }) {
 /** The instruction of a stage, above it. */
 function band(sheet, stage, { text, at, tag, kind, row }) {
   const [x, wide] = BANDS[stage], room = Math.floor((wide - 18) / 7.35);
-  sheet.add(`<g class="band ${kind}" style="--h:${hue(row)}"><title>${escaped(`${NAMES[stage]}: ${text}${at ? ` at ${at}` : ""}`)}</title>`);
+  sheet.add(`<g class="band ${kind}" style="--h:${hue(row)}">`
+    + `<title>${escaped(`${NAMES[stage]}: ${text}${at ? ` at ${at}` : ""}`)}</title>`);
   sheet.add(`<rect x="${x}" y="4" width="${wide}" height="50" rx="8"/>`);
-  sheet.add(`<text x="${x + 10}" y="21" class="stage"><tspan class="letter">${stage}</tspan> <tspan>${NAMES[stage]}</tspan></text>`);
+  sheet.add(`<text x="${x + 10}" y="21" class="stage"><tspan class="letter">${stage}</tspan> `
+    + `<tspan>${NAMES[stage]}</tspan></text>`);
   if (tag) sheet.text(x + wide - 9, 21, tag, "tag end");
   else if (at && kind !== "bubble") sheet.text(x + wide - 9, 21, at, "at end");
   sheet.text(x + 10, 43, text.length > room ? `${text.slice(0, room - 1)}…` : text, "what");
@@ -210,7 +219,8 @@ function ways(sheet, { forward, pc }) {
     sheet.wire(way, it.kind, it.row);
     // (the same word for both operands has one label)
     if (!it.label || labels.some(([, , label]) => label === it.label)) continue;
-    const wide = it.label.length * 6.9 + 16, x = track ? right + wide / 2 : it.from === "D_valP" ? 290 : it.side === "A" ? 300 : 366;
+    const wide = it.label.length * 6.9 + 16;
+    const x = track ? right + wide / 2 : it.from === "D_valP" ? 290 : it.side === "A" ? 300 : 366;
     labels.push([x, track ?? 237, it.label, it.kind, it.row]);
     if (track) right += wide + 10;
   }
@@ -223,8 +233,9 @@ function ways(sheet, { forward, pc }) {
 }
 
 /**
- * Draws a scene: `stages` ({ text, at, row, kind, tag }), `fields`, `next` (load, stall, bubble, both) and `wanted` by stage; `marks` (bad, look) and
- * `texts` by signal; `on`, the wires that carry something; `forward` ({ side, from, kind, label, row }); `pc`; and `label`, the drawing in words.
+ * Draws a scene: `stages` ({ text, at, row, kind, tag }), `fields`, `next` (load, stall, bubble, both) and `wanted` by
+ * stage; `marks` (bad, look) and `texts` by signal; `on`, the wires that carry something; `forward` ({ side, from,
+ * kind, label, row }); `pc`; and `label`, the drawing in words.
  */
 export function datapath(scene, name = "run") {
   const sheet = new Sheet(name, scene.marks), { texts, stages, on } = scene;

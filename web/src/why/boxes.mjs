@@ -3,7 +3,8 @@ import { register } from "../names.mjs";
 import { STATUSES, mnemonic } from "./values.mjs";
 import { IADDQ, IRMOVQ, JXX, MRMOVQ, NONE, OPQ, POPQ, PUSHQ, RMMOVQ, RRMOVQ } from "./numbers.mjs";
 
-const WORDS = [["rA", "rA"], ["rB", "rB"], ["srcA", "reads A"], ["srcB", "reads B"], ["dstE", "result to"], ["dstM", "loads"]];
+const WORDS = [["rA", "rA"], ["rB", "rB"], ["srcA", "reads A"], ["srcB", "reads B"], ["dstE", "result to"],
+  ["dstM", "loads"]];
 
 function nameOf({ icode, ifun = 0, stat }, stage) {
   if (stat === 3 && "DE".includes(stage)) return "a failed fetch";
@@ -14,7 +15,8 @@ function nameOf({ icode, ifun = 0, stat }, stage) {
 /** What the jump or the move will do, or has done. */
 function condition({ icode, ifun = 0, ...it }, stage) {
   const lines = [];
-  if ((icode === RRMOVQ || icode === JXX) && ifun && "cnd" in it) lines.push(it.cnd ? "condition holds" : "condition fails");
+  if ((icode === RRMOVQ || icode === JXX) && ifun && "cnd" in it)
+    lines.push(it.cnd ? "condition holds" : "condition fails");
   if (icode !== JXX) return lines;
   if (stage === "P") lines.push(it.cnd ? "was taken" : "wasn't taken");
   if ("FD".includes(stage)) lines.push(it.taken ? "will be taken" : "won't be taken");
@@ -55,10 +57,12 @@ function writer({ dstE, dstM }, name) {
 }
 
 const ASSEMBLY = {
-  [RRMOVQ]: (name, stage, a, b, it) => `${name} ${stage === "M" ? "…" : shown(a)}, ${shown(stage === "M" ? it.dstE : b)}`,
+  [RRMOVQ]: (name, stage, a, b, it) => `${name} ${stage === "M" ? "…" : shown(a)}, `
+    + `${shown(stage === "M" ? it.dstE : b)}`,
   [IRMOVQ]: (name, stage, a, b, it) => `${name} $…, ${shown(it.rB ?? it.dstE)}`,
   [RMMOVQ]: (name, stage, a, b) => (stage === "M" ? name : `${name} ${shown(a)}, …(${shown(b)})`),
-  [MRMOVQ]: (name, stage, a, b, it) => (stage === "D" ? `${name} …(${shown(it.rB)}), ${shown(it.rA)}` : `${name} …(${shown(it.srcB)}), ${shown(it.dstM)}`),
+  [MRMOVQ]: (name, stage, a, b, it) => ("DS".includes(stage) ? `${name} …(${shown(it.rB)}), ${shown(it.rA)}`
+    : `${name} …(${shown(it.srcB)}), ${shown(it.dstM)}`),
   [PUSHQ]: (name, stage, a) => (stage === "M" ? name : `${name} ${shown(a)}`),
   [POPQ]: (name, stage, a, b, it) => `${name} ${shown(it.rA ?? it.dstM)}`,
 };
@@ -69,7 +73,7 @@ ASSEMBLY[IADDQ] = ASSEMBLY[IRMOVQ];
 export function instructionOf(it, stage) {
   const name = boxOf(it, stage)[0];
   if (it.kind === "bubble") return "bubble";
-  if (it.error && stage === "F") return "fetch fails";
+  if (it.error && "FS".includes(stage)) return "fetch fails";
   if (it.stat === 3 && "DE".includes(stage)) return "failed fetch";
   if (stage === "F" || stage === "W") return writer(it, name);
   const second = it.rB ?? (it.srcB !== undefined && it.srcB !== NONE ? it.srcB : it.dstE);

@@ -6,7 +6,8 @@ import { NONE } from "./numbers.mjs";
 
 const TRACKED = ["e_valE", "m_valM", "M_valE", "W_valM", "W_valE", "D_valP"];
 // (any word will do)
-const ANY = "·", LEFT_OPEN = { D: ["valC", "valP"], E: ["valC", "valA", "valB"], M: ["valA", "valE"], W: ["valM", "valE"] };
+const ANY = "·";
+const LEFT_OPEN = { D: ["valC", "valP"], E: ["valC", "valA", "valB"], M: ["valA", "valE"], W: ["valM", "valE"] };
 const shortRegister = (number) => (number === NONE ? "–" : register(number));
 const isGood = (it) => !["bubble", "wrong"].includes(it.kind);
 
@@ -20,7 +21,8 @@ function fieldsOf(it, stage) {
   const isBubble = it.kind === "bubble";
   if (stage === "F") return { predPC: ANY };
   const found = { stat: isBubble ? "BUB" : STATUSES[it.stat], icode: isBubble ? "nop" : boxOf(it, stage)[0] };
-  for (const name of ["rA", "rB", "dstE", "dstM", "srcA", "srcB"]) if (name in it) found[name] = shortRegister(it[name]);
+  for (const name of ["rA", "rB", "dstE", "dstM", "srcA", "srcB"])
+    if (name in it) found[name] = shortRegister(it[name]);
   for (const name of LEFT_OPEN[stage]) found[name] = ANY;
   if (stage === "M") found.Cnd = String(it.cnd);
   return found;
@@ -33,9 +35,11 @@ function textsOf({ stages, value }, rule) {
     if (it === null || it === undefined) return undefined;
     return typeof it === "number" && /_(src|dst)/.test(name) ? shortRegister(it) : String(it);
   };
-  const status = (name) => (value(name) === null || value(name) === undefined ? undefined : constant(name, value(name)));
+  const status = (name) => (value(name) === null || value(name) === undefined ? undefined
+    : constant(name, value(name)));
   const found = { Stat: status("Stat"), cnd: condition(stages.E) }, has = (stage) => stages[stage].kind !== "bubble";
-  const names = [...(has("D") ? ["d_srcA", "d_srcB", "d_dstE", "d_dstM"] : []), ...(has("E") ? ["aluA", "aluB", "e_dstE"] : [])];
+  const names = [...(has("D") ? ["d_srcA", "d_srcB", "d_dstE", "d_dstM"] : []),
+    ...(has("E") ? ["aluA", "aluB", "e_dstE"] : [])];
   for (const name of names) found[name] = show(name);
   if (!has("M")) return found;
   const reads = value("mem_read"), writes = value("mem_write");
@@ -55,7 +59,8 @@ function forwards({ stages, value }, signals, marks, on) {
     if (!it) continue;
     const ways = [[it.isWrong ? it.value : "", "bad", "picked"], [it.wanted, "want", "wanted"]];
     for (const [from, kind, word] of ways)
-      if (TRACKED.includes(from) || from.startsWith("d_rval")) found.push({ side, from, kind, label: `${from} ${word}`, row: 1 });
+      if (TRACKED.includes(from) || from.startsWith("d_rval"))
+        found.push({ side, from, kind, label: `${from} ${word}`, row: 1 });
     if (it.isWrong && it.isAsked) on.add(`val${side}`);
     const source = value(`d_src${side}`);
     for (const stage of "EMW") for (const to of ["dstE", "dstM"])
@@ -93,8 +98,9 @@ function pcOf({ value, isFetchRight }, rule) {
 export const actOf = (stall, bubble) => (stall && bubble ? "both" : stall ? "stall" : bubble ? "bubble" : "load");
 
 /**
- * The scene of a situation `{ stages, acts, value, isFetchRight }`: by stage `{ kind, icode, .. }` and load, stall, bubble or both;
- * `value(name)` is a signal's number, or the name of the word that it picks, or null where that isn't known.
+ * The scene of a situation `{ stages, acts, value, isFetchRight }`: by stage `{ kind, icode, .. }` and load, stall,
+ * bubble or both; `value(name)` is a signal's number, or the name of the word that it picks, or null where that isn't
+ * known.
  */
 export function sceneOf(situation, rule, signals) {
   const scene = { stages: {}, fields: {}, next: situation.acts, marks: {}, on: new Set() };
@@ -110,5 +116,6 @@ export function sceneOf(situation, rule, signals) {
     return `${it}: ${text}${kind === "cancelled" ? ", wrong path" : ""}${next === "load" ? "" : `, ${next} next`}`;
   };
   const label = `The smallest counterexample to ${rule}: ${[..."FDEMW"].map(one).join("; ")}`;
-  return { ...scene, texts: textsOf(situation, rule), forward, pc: pcOf(situation, rule), label, wanted: actsWanted(situation, rule, signals) };
+  return { ...scene, texts: textsOf(situation, rule), forward, pc: pcOf(situation, rule), label,
+    wanted: actsWanted(situation, rule, signals) };
 }

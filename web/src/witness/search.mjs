@@ -1,39 +1,46 @@
 // Looks for a program that comes out wrong under a refused processor, among the examples first, and shortens it.
-import { report, trace } from "../compare.mjs";
+import { report } from "../compare.mjs";
 import { EXAMPLES } from "../data.mjs";
 import { by, toast } from "../dom.mjs";
 import { Stopped, judge } from "../engine.mjs";
+import { lockstep } from "../lockstep.mjs";
 import { datapath } from "../names.mjs";
-import { bookDesign, writesCode } from "../outcome.mjs";
 import { on } from "../state.mjs";
 import { tab } from "../tabs.mjs";
 import { choose, full, isFull, load, moment } from "../texts.mjs";
 import { programs, sourceOf } from "./programs.mjs";
 
-const TRIES = 1200, LIMIT = "2000", CYCLES = "10000";
-const HEAD = "# A program that comes out wrong under this processor.\n# It was found by trial and shortened: each of its lines counts.\n";
+const TRIES = 1200, LIMIT = "2000", CYCLES = "10000", COMMANDS = { seq: "ssim", seqplus: "ssimp" };
+const HEAD = "# A program that comes out wrong under this processor.\n"
+  + "# It was found by trial and shortened: each of its lines counts.\n";
 
 /** Runs programs under a design and as the instructions say. */
 class Trial {
   constructor(hcl, path) {
-    Object.assign(this, { path, flags: full(), files: { "my.hcl": hcl, "book.hcl": bookDesign() } });
+    Object.assign(this, { path, flags: full(), files: { "my.hcl": hcl } });
   }
 
-  async call(command, words, files = {}) {
-    return judge.call("y86", [command, ...words, ...this.flags], { ...this.files, ...files });
+  async call(words, files, program = "y86") {
+    return judge.call(program, [...words, ...this.flags], { ...this.files, ...files });
   }
 
-  /** Whether a program comes out wrong, and is one to judge by: it ends, and doesn't write its own code. */
+  /** Whether a program comes out wrong, and is one to judge by: it ends, and the theorem speaks of it. */
   async shows(source) {
-    const made = await this.call("yas", ["p.ys"], { "p.ys": source });
+    const made = await this.call(["yas", "p.ys"], { "p.ys": source });
     if (made.status !== 0) return false;
-    const object = { "p.yo": made.out }, right = report((await this.call("yis", ["p.yo", "--limit", LIMIT], object)).out);
+    const object = { "p.yo": made.out };
+    if (this.path !== "pipe") return this.differs(object);
+    const words = ["run", "my.hcl", "p.yo", "--json", "--unchecked", "--limit", CYCLES];
+    const told = lockstep((await this.call(words, object, "y86-tell")).out);
+    return told?.premise === "holds" && ["instruction", "state"].includes(told.outcome);
+  }
+
+  /** Whether the reports of the two runs differ, on SEQ and SEQ+. */
+  async differs(object) {
+    const right = report((await this.call(["yis", "p.yo", "--limit", LIMIT], object)).out);
     if (!right || right.status === "AOK") return false;
-    const book = (await this.call("psim", ["book.hcl", "p.yo", "--trace", "--limit", CYCLES], object)).out, records = trace(book);
-    if (report(book)?.whole !== right.whole || writesCode(made.out, records)) return false;
-    if (this.path !== "pipe") return report((await this.call(this.path === "seq" ? "ssim" : "ssimp", ["my.hcl", "p.yo", "--limit", LIMIT], object)).out)?.whole !== right.whole;
-    const mine = (await this.call("psim", ["my.hcl", "p.yo", "--trace", "--limit", CYCLES], object)).out, own = trace(mine);
-    return report(mine)?.whole !== right.whole || own.map((it) => it.line).join("\n") !== records.map((it) => it.line).join("\n");
+    const mine = await this.call([COMMANDS[this.path], "my.hcl", "p.yo", "--limit", LIMIT], object);
+    return report(mine.out)?.whole !== right.whole;
   }
 
   /** A program without the lines that it can do without: many at a time first, then one by one. */
@@ -41,7 +48,8 @@ class Trial {
     for (let size = Math.max(lines.length >> 1, 1); ; size = Math.max(size >> 1, 1)) {
       let hasChanged = false;
       for (let at = 0; at < lines.length; ) {
-        const less = [...lines.slice(0, at), ...lines.slice(at + size)], keepsHalt = less.includes("halt") || !lines.includes("halt");
+        const less = [...lines.slice(0, at), ...lines.slice(at + size)];
+        const keepsHalt = less.includes("halt") || !lines.includes("halt");
         if (keepsHalt && (await this.shows(sourceOf(less)))) {
           lines = less;
           hasChanged = true;
