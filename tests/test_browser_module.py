@@ -180,9 +180,21 @@ def offered(without):
 def test_examples():
     """All designs, programs and steps of the tutorial are offered; each step is the pipeline with the definitions of its file."""
     found = offered(frozenset())
-    assert {"std.hcl", "seq.hcl", "tutorial 0", "tutorial 11", "asum.ys", "ncopy_tree.ys", "mistake: memory before execute"} <= set(found)
+    assert {"std.hcl", "seq.hcl", "tutorial 0", "tutorial 11", "tutorial seq 0", "tutorial seq 4", "count.ys", "asum.ys", "ncopy_tree.ys", "mistake: memory before execute"} <= set(found)
     same(found["tutorial 0"].count("e_valE"), design("no_bypassing").count("e_valE"))
     assert "d_srcA == e_dstE : e_valE" in found["tutorial 1"]
+
+
+# Where the tutorial's parts end: the step, the check, and its options.
+ENDS = [("tutorial 11", "pipe", []), ("tutorial seq 4", "seq", ["--full"])]
+
+
+@cases(ENDS)
+def test_end_of_tutorial(row, y86):
+    """After the last step of each part the processor is right for every program."""
+    name, path, more = row
+    answer = y86("check", path, "mine.hcl", *more, files={"mine.hcl": offered(frozenset())[name].encode()})
+    same((answer.status, answer.out[:3]), (0, b"yes"))
 
 
 def test_without_solutions():

@@ -1,4 +1,7 @@
-"""The workbench in a headless Chromium, opened from a file: what a student and a teacher do with it. Needs Chromium."""
+"""The workbench in a headless Chromium, opened from a file: what a student and a teacher do with it. Needs Chromium.
+
+With Y86_BROWSER=firefox or Y86_BROWSER=webkit in the environment these tests run in that browser (docs/TESTING.md).
+"""
 import base64
 import json
 import os
@@ -7,12 +10,13 @@ import zlib
 
 import pytest
 
-from helpers.browser import command
+from helpers.both_ways import comes_out_wrong
 from helpers.browser_build import is_proved, page
 from helpers.cases import cases, same
 from helpers.designs import example
+from helpers.engines import ENGINES
 from helpers.programs import Program
-from helpers.workbench_page import CTRL, Workbench
+from helpers.workbench_page import Workbench
 
 pytestmark = pytest.mark.xdist_group("browser page")
 WIDE = (1440, 900)
@@ -24,9 +28,11 @@ STD = example("std")
 @pytest.fixture(scope="module")
 def at():
     """The page, opened once; each test begins with the book's pipeline and the array sum."""
-    if not command():
-        pytest.skip("Chromium isn't here, so the page wasn't opened")
-    with Workbench() as it:
+    engine = ENGINES[os.environ.get("Y86_BROWSER", "chromium")]
+    if not engine.command():
+        pytest.skip(f"{engine.__name__} isn't here, so the page wasn't opened")
+    with engine() as browser:
+        it = Workbench(browser)
         it.path = page()
         it.size(*WIDE)
         it.begin(it.path)
@@ -46,7 +52,8 @@ def fresh(request):
     it.do("el('tab-run').click(), el('first').click()")
     it.leave()
     yield
-    errors, it.errors[:] = list(it.errors), []
+    errors = list(it.errors)
+    it.browser.errors.clear()
     same(errors, [])
 
 
@@ -192,6 +199,8 @@ def test_why_no(at):
     same(at.do("every('#hcl .gutter .case').map((it) => it.textContent)"), ["50"])
     at.click("#goto")
     assert at.do("document.activeElement === one('#hcl textarea')")
+    same(at.do(f"({CARET})"), [50, 0])
+    assert at.do("(() => { const r = one('#hcl .gutter .case').getBoundingClientRect(), all = el('hcl').getBoundingClientRect(); return r.top >= all.top && r.bottom <= all.bottom; })()")
     at.leave()
     at.key("w")
     same(at.do("workbench.tab"), "run")
@@ -204,14 +213,19 @@ def test_why_no(at):
     assert "e_valE wanted" in drawing
 
 
-def test_witness(at):
-    """A program that comes out right under a refused processor; an example that doesn't is found, and one is drawn where no example does."""
+def test_witness(at, programs, folder):
+    """A program that comes out right under a refused processor; an example that doesn't is found, and one is drawn where no example does.
+
+    The programs of the repository say that both come out wrong.
+    """
+    y86 = Program(programs("y86"), folder)
     at.choose("hcls", "mistake: memory before execute")
     at.choose("yss", "add.ys")
     said(at, "outcome", "comes out right", "Another may not.")
     at.click("#find")
     at.until("/comes out wrong/.test(el('outcome').textContent)")
     same(at.do("el('yss').value"), "abs.ys")
+    assert comes_out_wrong(y86, at.source("hcl"), at.source("ys"))
     at.choose("hcls", "mistake: E_dstE in place of e_dstE")
     at.choose("yss", "add.ys")
     at.click("#find")
@@ -219,6 +233,7 @@ def test_witness(at):
     at.settle()
     said(at, "outcome", "First wrong")
     assert len(at.source("ys").split("\n")) < 20, "the program wasn't shortened"
+    assert comes_out_wrong(y86, at.source("hcl"), at.source("ys"))
 
 
 def test_by_instructions(at):
@@ -235,42 +250,96 @@ def test_by_instructions(at):
 
 # ---- faults
 
+# A text that is refused, the first faulty line, and what the page says, among what y86-tell says of it.
 HCL_FAULTS = [
-    ("a case without its end", STD.replace("1 : f_valP; ];", "1 : f_valP ];"), "Syntax: Put ; after f_valP in line 29"),
-    ("= for ==", STD.replace("E_icode == IOPQ : E_ifun", "E_icode = IOPQ : E_ifun"), "Write == to compare"),
-    ("& for &&", STD.replace("&& !e_Cnd", "& !e_Cnd", 1), "Write && for “and”"),
-    ("a set in parentheses", STD.replace("in { IJXX, ICALL }", "in ( IJXX, ICALL )", 1), "A set is written with braces"),
-    ("a comment of C", STD + "\n// end\n", "A comment begins with #"),
-    ("a signal of SEQ", STD.replace("d_srcA == e_dstE", "srcA == e_dstE"), "srcA is a signal of SEQ and SEQ+, and this file is one for PIPE"),
-    ("a misspelled signal", STD.replace("d_srcB == W_dstM", "d_srcB == W_dstm"), "PIPE has no signal of this name"),
-    ("a definition that is missing", re.sub(r"bool set_cc[^;]*;", "", STD), "set_cc isn’t defined"),
+    ("a case without its end", STD.replace("1 : f_valP; ];", "1 : f_valP ];"), 29, "Put one after f_valP in line 29"),
+    ("= for ==", STD.replace("E_icode == IOPQ : E_ifun", "E_icode = IOPQ : E_ifun"), 68, "Write == to compare"),
+    ("& for &&", STD.replace("&& !e_Cnd", "& !e_Cnd", 1), 77, "Write && for"),
+    ("a set in parentheses", STD.replace("in { IJXX, ICALL }", "in ( IJXX, ICALL )", 1), 29, "x in { a, b }"),
+    ("a comment of C", STD + "\n// end\n", STD.count("\n") + 2, "A comment begins with #"),
+    ("a signal of SEQ", STD.replace("d_srcA == e_dstE", "srcA == e_dstE"), 49, "srcA is no name of PIPE"),
+    ("a misspelled signal", STD.replace("d_srcB == W_dstM", "d_srcB == W_dstm"), 55, "W_dstm is no name of PIPE"),
+    ("a definition that is missing", re.sub(r"bool set_cc[^;]*;", "", STD), 0, "set_cc has no definition"),
+    ("several", STD.replace("d_srcA == e_dstE", "srcA == e_dstE").replace("d_srcB == W_dstM", "d_srcB == W_dstm"), 49, "and 1 more"),
 ]
 ASM_FAULTS = [
     ("movq %rax, %rbx", "four moves"),
-    ("adq %rax, %rbx", "There is no instruction adq"),
-    ("addq $1, %rax", "takes two registers"),
-    ("addq %rax %rbx", "A comma is missing"),
-    ("addq %rax, %ebx", "There is no register %ebx"),
-    ("rrmovq %rax, %r15", "no %r15"),
-    ("iaddq $1, %rax", "needs the box “iaddq”"),
-    ("jmp nowhere", "LabelUnknown"),
+    ("adq %rax, %rbx", "adq is no mnemonic"),
+    ("addq $1, %rax", "works on two registers"),
+    ("addq %rax %rbx", "is missing before %rbx"),
+    ("addq %rax, %ebx", "names 32 bits"),
+    ("rrmovq %rax, %r15", "Y86-64 has no %r15"),
+    ("iaddq $1, %rax", "the box “iaddq” at the top"),
+    ("jmp nowhere", "No line defines the label nowhere"),
 ]
 
 
+def faults_told(programs, folder, name, text, *words):
+    """The lines of the faults that y86-tell reports, and its sentences as the page shows them."""
+    told = json.loads(Program(programs("y86_tell"), folder)("fault", name, *words, "--json", files={name: text.encode()}).out)["faults"]
+    return [it["line"] for it in told], [it["sentence"].replace("`", "") for it in told]
+
+
 @cases(HCL_FAULTS)
-def test_hcl_fault(row, at):
-    at.write("hcl", row[1])
-    said(at, "hcl-strip", row[2])
-    said(at, "verdict", "no answer", "The processor has a fault")
+def test_hcl_fault(row, at, programs, folder):
+    """Each fault is under its line, in the words of y86-tell."""
+    _, text, line, words = row
+    at.write("hcl", text)
+    lines, sentences = faults_told(programs, folder, "a.hcl", text, "pipe")
+    same(lines[0], line)
+    same([sentence in note for sentence, note in zip(sentences, at.do("every('#hcl .note').map((it) => it.textContent)"))], [True] * len(sentences))
+    same(at.do("every('#hcl .gutter .bad').map((it) => Number(it.textContent))"), [it for it in lines if it])
+    said(at, "hcl-strip", sentences[0])
+    said(at, "verdict", "no answer", "The processor has a fault", sentences[0])
+    assert words in at.text("hcl-strip")
     assert at.do("el('shown').hidden && el('tab-no').hidden && el('controls').hidden")
     assert "Did you mean" not in at.do("document.body.textContent")
-    assert at.do("one('#hcl textarea').getAttribute('aria-invalid') === 'true' && one('#hcl .note') !== null")
+    same(at.do("[one('#hcl textarea').getAttribute('aria-invalid'), every('#hcl .note').length]"), ["true", len(sentences)])
 
 
 @cases(ASM_FAULTS)
-def test_asm_fault(row, at):
-    at.write("ys", f"    {row[0]}\n    halt\n")
-    said(at, "ys-strip", row[1])
+def test_asm_fault(row, at, programs, folder):
+    text = f"    {row[0]}\n    halt\n"
+    at.write("ys", text)
+    lines, sentences = faults_told(programs, folder, "a.ys", text)
+    same(lines, [1])
+    said(at, "ys-strip", row[1], sentences[0])
+
+
+# The lines that a note lies over; and where the textarea has the caret's line, beside where it is drawn.
+COVERED = """(() => {
+  const notes = every('#hcl .note').map((it) => it.getBoundingClientRect());
+  return every('#hcl .gutter span').filter((it) => { const r = it.getBoundingClientRect(); return notes.some((n) => n.top < r.bottom - 1 && n.bottom > r.top + 1); })
+    .map((it) => it.textContent);
+})()"""
+CARET = """(() => {
+  const area = one('#hcl textarea'), line = area.value.slice(0, area.selectionEnd).split('\\n').length, lines = every('#hcl .gutter span');
+  const tall = lines[1].getBoundingClientRect().height, top = lines[line - 1].getBoundingClientRect().top - area.getBoundingClientRect().top;
+  return [line, Math.round(parseFloat(area.style.paddingTop) + (line - 1) * tall - area.scrollTop - top)];
+})()"""
+
+
+def test_notes(at):
+    """A note lies between two lines, and over none; a click below it meets the line that is clicked, and so do the keys."""
+    at.choose("hcls", "mistake: memory before execute")
+    assert at.do("every('#hcl .note').length")
+    same(at.do(COVERED), [])
+    (note,) = at.do("every('#hcl .note').slice(0, 1).map((it) => it.getBoundingClientRect().bottom)")
+    below = at.do(f"every('#hcl .gutter span').filter((it) => it.getBoundingClientRect().top > {note} - 2).slice(0, 3).map((it) => [Number(it.textContent), it.getBoundingClientRect().top + 9])")
+    left = at.do("one('#hcl .paper').getBoundingClientRect().left + 30")
+    for line, y in [*below, *reversed(below)]:
+        at.browser.mouse(left, y)
+        same(at.do(CARET), [line, 0])
+    first = below[0][0]
+    for line in (first - 1, first - 2, first - 1, first, first + 1):
+        at.key("ArrowUp" if line < at.do(CARET)[0] else "ArrowDown")
+        same(at.do(CARET), [line, 0])
+    at.key("End")
+    at.type("#")
+    assert at.do("every('#hcl .note.old').length"), "the note doesn't wait for the next answer"
+    at.settle()
+    at.write("hcl", STD.replace("1 : f_valP; ];", "1 : f_valP ];"))
+    same(at.do(COVERED), [])
 
 
 def test_names_are_completed(at):
@@ -359,7 +428,8 @@ def test_sequential(at):
         same(at.do("every('#registers .comes').map((it) => it.textContent)"), ["%rsp0x100"])
     at.write("hcl", example("seq").replace("1 : valP;", "1 : valC;"))
     said(at, "verdict", "no: S16", "new_pc picks valC; valP is wanted")
-    said(at, "panel-no", "The instruction", "is taken")
+    said(at, "panel-no", "What the file says there", "1 : valC; ← is taken")
+    same(at.do("[every('#no-path svg.seq').length, every('#no-path .cell.bad').length]"), [1, 1])
 
 
 def test_examples(at):
@@ -427,8 +497,9 @@ def test_policy(at):
     at.do("(() => { const it = document.createElement('b'); it.setAttribute('onclick', 'window.hit = 1'); document.body.append(it); it.click(); it.remove(); })()")
     assert at.do("fetch('data:text/plain,1').then(() => 'loaded', () => 'refused')") == "refused"
     same(at.do("window.hit ?? 0"), 0)
-    assert at.errors and all("Content Security Policy" in it for it in at.errors), at.errors
-    at.errors.clear()
+    errors = list(at.errors)
+    at.browser.errors.clear()
+    assert errors and all("Content Security Policy" in it or "Content-Security-Policy" in it for it in errors), errors
     with open(at.path, encoding="utf-8") as it:
         text = it.read()
     shell = re.sub(r'<script type="(?:application/json|text/plain)".*?</script>', "", text, flags=re.S)
@@ -462,7 +533,9 @@ def test_certificate(at, programs, folder):
 
 
 def test_print(at):
-    pdf = base64.b64decode(at.call("Page.printToPDF", landscape=True, printBackground=True)["data"])
+    if not isinstance(at.browser, ENGINES["chromium"]):
+        pytest.skip("only Chromium prints into a file")
+    pdf = base64.b64decode(at.browser.call("Page.printToPDF", landscape=True, printBackground=True)["data"])
     assert len(pdf) > 8000 and pdf.startswith(b"%PDF")
 
 
@@ -497,7 +570,7 @@ def test_tab_order(at):
     wanted = {"full", "class", "link", "print", "theme", "help", "hcls", "yss", "Processor, in HCL", "Program, in Y86-64 assembly", "on", "play", "slider", "hazard", "speed", "grid", "tab-run", "save-path", "base", "save-cert"}
     same(wanted - seen, set())
     at.do("one('#hcl textarea').focus()")
-    at.key("Enter", CTRL)
+    at.key("Enter", is_ctrl=True)
     same(at.do("document.activeElement.id"), "result")
     at.do("el('tab-run').focus()")
     at.key("ArrowRight")
@@ -512,7 +585,7 @@ def test_help(at):
     assert not at.do("el('dialog').open")
 
 
-NAMELESS = """every('button, select, input, textarea, a, [role]').filter((it) => it.getClientRects().length)
+NAMELESS = """every('button, select, input, textarea, a, [role]:not([role=status])').filter((it) => it.getClientRects().length)
     .filter((it) => !(it.textContent.trim() || it.getAttribute('aria-label') || it.labels?.length || it.title)).map((it) => it.outerHTML.slice(0, 90))"""
 POINTS_NOWHERE = """every('[aria-controls], [aria-labelledby], [aria-describedby]').flatMap((it) => ['aria-controls', 'aria-labelledby', 'aria-describedby']
     .map((name) => it.getAttribute(name)).filter((id) => id && !el(id)))"""
@@ -595,6 +668,47 @@ def test_widths(row, at):
     if width < 700:
         same(at.do("every('#stages tr').filter((it) => it.getBoundingClientRect().height > 20).length"), 5)
     at.size(*WIDE)
+
+
+# What is clicked with a mistake shown, and then with the book's pipeline; and a condition that then holds.
+WITH_A_MISTAKE = [
+    ("#tab-run", "workbench.tab === 'run'"), ("#why", "workbench.tab === 'no'"), ("#panel-no [data-rule=O11]", "workbench.verdict.rule === 'O11'"),
+    ("#panel-no [data-rule=O10]", "workbench.verdict.rule === 'O10'"), ("#goto", "document.activeElement === one('#hcl textarea')"),
+    ("#hcl .note button", "!one('#hcl .note')"), ("#tab-steps", "el('panel-steps').querySelector('.wrong')"), ("#panel-steps [data-record]", "workbench.tab === 'run'"),
+    ("#wrong-at", "one('#grid .row.wrong')"), ("#tab-no", "workbench.tab === 'no'"),
+]
+WITH_A_RUN = [
+    ("#tab-run", "workbench.tab === 'run'"), ("#on", "workbench.cycle === 2"), ("#end", "workbench.cycle === workbench.run.cycles.length"), ("#back", "el('on').disabled === false"),
+    ("#first", "workbench.cycle === 1"), ("#hazard", "workbench.run.cycles[workbench.cycle - 1].hazard"),
+]
+
+
+@cases([(f"{width} by {height}", width, height) for width, height in WIDTHS])
+def test_everything_at_each_width(row, at):
+    """By mouse, where nothing lies over what is clicked."""
+    at.size(*row[1:])
+    at.choose("hcls", "mistake: memory before execute")
+    for selector, then in WITH_A_MISTAKE:
+        at.click(selector)
+        at.until(then, 5)
+    name, drawing = at.saved(lambda: at.click("#save-no"))
+    same((name, drawing[:4]), ("O10.svg", "<svg"))
+    at.choose("hcls", "std.hcl")
+    at.choose("yss", "asum.ys")
+    for selector, then in WITH_A_RUN:
+        at.click(selector)
+        at.until(then, 5)
+        at.settle()
+    at.size(*WIDE)
+
+
+def test_structure(at):
+    """One heading of the first level, a language, a title, landmarks, a type for each button, and one tab that is chosen."""
+    same(at.do("[document.documentElement.lang, document.title, every('h1').length, every('main').length, every('header').length, every('footer').length]"), ["en", "Y86-64 workbench", 1, 1, 1, 1])
+    same(at.do("every('body > :not(dialog) button:not([type])').length"), 0)
+    same(at.do("every('[role=tab][aria-selected=true]').map((it) => it.id)"), ["tab-run"])
+    same(at.do("every('[role=tab]').filter((it) => !it.hidden).map((it) => [it.tabIndex, el(it.getAttribute('aria-controls')).getAttribute('role')])"), [[0, "tabpanel"], [-1, "tabpanel"]])
+    same(at.do("every('th:not([scope])').length"), 0)
 
 
 def test_size():
