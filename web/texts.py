@@ -52,11 +52,6 @@ def rules(text: str) -> dict[str, Rule]:
     for name, short in re.findall(r"^\| \[([OS]\d+)\]\(#\w+\) \| (.*?) \|", text, re.M):
         if name in found:
             found[name]["short"] = short
-    # (O11 is told as O10 with the other operand)
-    if "O10" in found and "O11" in found:
-        found["O11"]["short"] = found["O10"]["short"].replace("valA", "valB")
-        for key in ("asks", "why"):
-            found["O11"][key] += f" O10: {found['O10'][key]}"
     if len(found) < RULES:
         raise Changed(f"docs/OBLIGATIONS.md: {len(found)} obligations")
     return found
