@@ -13,6 +13,7 @@ from helpers.cases import same
 from helpers.designs import design, example
 from helpers.paths import TOP
 from helpers.programs import put
+from y86lab.grading.feedback import picture
 
 LAB = f"{TOP}/y86-lab"
 pytestmark = pytest.mark.skipif(sys.version_info < (3, 11), reason="a rubric needs Python 3.11 or later")
@@ -96,3 +97,10 @@ def test_page_shows_what_y86_tell_says(lab, folder):
     for text in ("no: O10 is false somewhere.", "WRONG  d_valA is e_valE. It has to be d_rvalA.", " of the program, and does it wrong:"):
         assert text in page, page
     assert folder not in page
+
+
+def test_picture_of_a_sequential_processor():
+    """One box, or two for SEQ+; a text of y86-tell without a counterexample has none."""
+    said = "    The instruction before: jXX, its condition fails\n    The instruction: <halt>\n"
+    boxes = '<div class="good"><b>The instruction before</b>jXX<br>its condition fails</div><div class="good"><b>The instruction</b>&lt;halt&gt;</div>'
+    same((picture(said), picture("pipe.hcl:1:10: No `[` is open here\n")), (f'<div class="stages">{boxes}</div>\n', ""))

@@ -43,7 +43,10 @@ pre {{ overflow-x: auto; padding: .8rem; border: 1px solid #8884; border-radius:
 </body></html>
 """
 ROW = '<tr><td>{name}</td><td class="points">{points} of {most}</td><td>{reason}</td></tr>'
-STAGE = re.compile(r"^    ([FDEMW])  (fetch|decode|execute|memory|write-back) +(.+)$", re.M)
+# A stage of a counterexample in y86-tell's words: of PIPE, and of the sequential processors.
+STAGE = re.compile(
+    r"^    ([FDEMW]  (?:fetch|decode|execute|memory|write-back)|The instruction(?: before)?:) +(.+)$", re.M
+)
 
 
 def printed(programs: Programs, seconds: float, *words: str) -> str:
@@ -64,12 +67,12 @@ def printed(programs: Programs, seconds: float, *words: str) -> str:
 
 
 def picture(said: str) -> str:
-    """The five stages of a counterexample, the oldest instruction on the right; empty if none is told."""
+    """The stages of a counterexample, those of PIPE with the oldest instruction on the right; empty if none is told."""
     boxes = []
-    for letter, stage, what in STAGE.findall(said):
+    for stage, what in STAGE.findall(said):
         kind = "bubble" if what == "bubble" else "wrong" if "wrong path" in what else "good"
         parts = "<br>".join(html.escape(part) for part in what.split(", "))
-        boxes.append(f'<div class="{kind}"><b>{letter} {stage}</b>{parts}</div>')
+        boxes.append(f'<div class="{kind}"><b>{" ".join(stage.rstrip(":").split())}</b>{parts}</div>')
     return f'<div class="stages">{"".join(boxes)}</div>\n' if boxes else ""
 
 
