@@ -30,9 +30,10 @@ def test_extension_names_its_files():
 
 PLACES = [
     ("f.hcl:1:18: Syntax", ("f.hcl", "1", "18", "Syntax")),
-    ("a b/f.hcl:121:1: O23: D_stall is 1", ("a b/f.hcl", "121", "1", "O23: D_stall is 1")),
+    ("a b/f.hcl:121:1: O23: D is stalled and bubbled at once.", ("a b/f.hcl", "121", "1", "O23: D is stalled and bubbled at once.")),
     ("p.ys:12: LabelTwice", ("p.ys", "12", None, "LabelTwice")),
     ("f.hcl: yes", None),
+    ("f.hcl: `aluB` has no definition: every file for PIPE defines it.", None),
     ("    f.hcl:49: word d_valA = [", None),
 ]
 
@@ -73,6 +74,7 @@ def mistakes(folder):
     return folder
 
 
+NO_MOVQ = "Y86-64 has no `movq`, but four moves: `rrmovq rA, rB`, `irmovq V, rB`, `rmmovq rA, D(rB)` and `mrmovq D(rB), rA`."
 VIM = """\
 set rtp^={editors}/vim
 let g:y86_folder = '{top}'
@@ -97,14 +99,14 @@ def test_vim(mistakes, programs):
     if not shutil.which("vim") or "+quickfix" not in subprocess.run(["vim", "--version"], capture_output=True, text=True, check=False).stdout:
         pytest.skip("there is no vim that goes to places")
     put(mistakes, {"said.vim": VIM.format(editors=EDITORS, top=mistakes)})
-    os.symlink(programs("y86"), f"{mistakes}/y86")
+    os.symlink(programs("y86_tell"), f"{mistakes}/y86-tell")
     os.symlink(f"{TOP}/y86-lab", f"{mistakes}/y86-lab")
-    subprocess.run(["vim", "-es", "-u", "NONE", "-S", "said.vim"], cwd=mistakes, env={**os.environ, "Y86": programs("y86")}, stdin=subprocess.DEVNULL,
+    subprocess.run(["vim", "-es", "-u", "NONE", "-S", "said.vim"], cwd=mistakes, env={**os.environ, "Y86": programs("y86"), "Y86_TELL": programs("y86_tell")}, stdin=subprocess.DEVNULL,
         stdout=subprocess.DEVNULL, stderr=subprocess.DEVNULL, timeout=120, check=False)
     with open(f"{mistakes}/said", encoding="utf-8") as file:
         said = file.read().splitlines()
-    same([line for line in said if not line.startswith("other.hcl")], ["no.hcl y86hcl", "no.hcl:121:1: O23: D_stall is 1", "no.hcl:124:1: O23: D_bubble is 1",
-        "name.hcl y86hcl", "name.hcl:64:6: Redefines e_valE", "p.ys ys", "p.ys:2:0: Syntax"])
+    same([line for line in said if not line.startswith("other.hcl")], ["no.hcl y86hcl", "no.hcl:124:1: O23: D is stalled and bubbled at once. Inverting D_bubble repairs it.",
+        "name.hcl y86hcl", "name.hcl:64:6: `e_valE` cannot be defined: it is a constant of PIPE, or the datapath computes it.", "p.ys ys", f"p.ys:2:3: {NO_MOVQ}"])
     assert "other.hcl y86hcl" not in said
 
 

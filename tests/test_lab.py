@@ -16,6 +16,7 @@ from helpers.programs import Program, put
 
 HINT = "`./y86-lab witness mine.hcl` looks for a program that shows it."
 IADDQ = "`iaddq` wasn't asked: `--full` asks it too."
+NAMES_IADDQ = "The file names IIADDQ, and iaddq wasn't asked. With --full it is asked too."
 DEEP = b"bool set_cc = " + b"(" * 30000 + b"1" + b")" * 30000 + b";\n"
 UNPAIRED = b"bool F_bubble = 0\n\n# F waits\nbool F_stall = 1;\n"
 
@@ -53,17 +54,6 @@ def explain(lab):
     return call
 
 
-@pytest.fixture
-def shown(explain):
-    """What `explain` shows of std.hcl with other definitions: the lines behind "What the file says there"."""
-
-    def call(**bodies):
-        lines = explain(std(**bodies))[1]
-        return lines[lines.index("What the file says there:") + 2 :] if "What the file says there:" in lines else lines
-
-    return call
-
-
 # ---- what `explain` shows below a no
 
 WITHOUT_FLAGS = changed(design("with_iaddq"), set_cc="0")
@@ -78,44 +68,57 @@ def test_iaddq_is_not_asked_in_a_no(explain):
 
 
 def test_iaddq_is_not_asked_in_a_yes(explain):
+    """y86-tell says it, once."""
     status, lines, _ = explain(design("with_iaddq"))
-    same((status, lines[-1]), (0, IADDQ))
+    same((status, lines[-1], [it for it in lines if "iaddq" in it]), (0, NAMES_IADDQ, [NAMES_IADDQ]))
 
 
 def test_iaddq_in_a_comment(explain):
-    same(IADDQ in explain("# IIADDQ\n" + design("std"))[1], False)
+    same([it for it in explain("# IIADDQ\n" + design("std"))[1] if "iaddq" in it], [])
 
 
-M_STALL = ["  M_stall is 0", "    mine.hcl:136: bool M_stall = 0;", "  M_bubble is 0"]
+REACHES_M = ["WRONG: An instruction on the wrong path reaches M, where it changes something.", "",
+    "A repair: one of these changes alone meets O10, O11 and O23 to O27 here.", "    Invert M_bubble."]
 HALT_ALONE = "m_stat in { SHLT } || W_stat in { SHLT }"
-F_STALL = ["  F_stall is 0", "    mine.hcl:117: bool F_stall = 0;", "  D_stall is 1"]
-F_STALL += ["    mine.hcl:120: bool D_stall = E_icode in { IMRMOVQ, IPOPQ } && E_dstM in { d_srcA, d_srcB };"]
-F_STALL += ["      where d_srcA is %rax (mine.hcl:34)", "  D_bubble is 0"]
-SET_CC = ["  set_cc is 1; 0 is wanted", "    mine.hcl:71: bool set_cc = E_icode == IOPQ && !m_stat in { SADR, SINS, SHLT } && !W_stat in {"]
-SET_CC += ["        SADR, SINS, SHLT };", "      where m_stat is SAOK (mine.hcl:92)", "", HINT]
+SKIPPED = "The fetched instruction doesn't enter D, and F goes on: an instruction is skipped."
+LOST = "The instruction in D doesn't go on to E, and D doesn't keep it: it is lost."
+SET_CC = ["    WRONG  set_cc is 1. It has to be 0.", "           It reads E_icode = 6 (IOPQ), m_stat = 1 (SAOK), W_stat = 0 (SBUB)."]
+MEND_FIRST = "All other obligations hold. Mend {} first: its wrong signals don't depend on those of another one."
+D_VALA = ["    WRONG  d_valA is e_valE. It has to be d_rvalA.", "           It takes case 2 of its definition, at line 49, column 54:",
+    "               d_srcA == e_dstE : e_valE;"]
 WITHOUT_RET = "f_icode in { INOP, IHALT, IRRMOVQ, IIRMOVQ, IRMMOVQ, IMRMOVQ,\n IOPQ, IJXX, ICALL, IPUSHQ, IPOPQ }"
-F_STAT = ["  f_stat is SINS (4); SAOK (1) is wanted", "    mine.hcl:20: word f_stat = [", "         imem_error : SADR;", "      => !instr_valid : SINS;"]
-F_STAT += ["         f_icode == IHALT : SHLT;", "         1 : SAOK;", "         ];"]
-F_STAT += ["      where instr_valid is 0 (mine.hcl:16), f_icode is IRET (mine.hcl:10)", "", HINT]
-# The changed definition of std.hcl, the lines that are compared, and these.
+F_STAT = ["    WRONG  f_stat is 4 (SINS). It has to be 1 (SAOK).", "           It takes case 2 of its definition, at line 20, column 36:",
+    "               !instr_valid : SINS;", "           It reads imem_error = 0, instr_valid = 0, f_icode = 9 (IRET)."]
+# The changed definition of std.hcl; lines that are shown, one after another; and the places: of each the line, the column, and what begins the message.
 SHOWN_LINES = [
-    ("M isn't bubbled", {"M_bubble": "0"}, slice(-6, None), [*M_STALL, "    mine.hcl:139: bool M_bubble = 0;", "", HINT]),
-    ("M is bubbled for a halt alone", {"M_bubble": HALT_ALONE}, slice(-7, None),
-        [*M_STALL, f"    mine.hcl:139: bool M_bubble = {HALT_ALONE};", "      where m_stat is SADR (mine.hcl:92)", "", HINT]),
-    ("F isn't stalled: each signal once", {"F_stall": "0"}, slice(6, 12), F_STALL),
-    ("D isn't stalled", {"D_stall": "0"}, slice(3), ["  D_stall is 0", "    mine.hcl:121: bool D_stall = 0;", "  D_bubble is 0"]),
-    # the signals behind `where`: those of the guards up to the case that is taken
-    ("m_stat without dmem_error", {"m_stat": "M_stat"}, slice(None), SET_CC),
-    ("e_dstE without the condition", {"e_dstE": "E_dstE"}, slice(-4, None),
-        ["         ];", "      where d_srcA is %rax (mine.hcl:34), e_dstE is %rax (mine.hcl:77)", "", HINT]),
-    ("no ret is valid", {"instr_valid": WITHOUT_RET}, slice(None), F_STAT),
+    ("M isn't bubbled", {"M_bubble": "0"}, REACHES_M, ["139:1: O25: An instruction on the wrong path reaches M"]),
+    ("M is bubbled for a halt alone", {"M_bubble": HALT_ALONE}, REACHES_M, ["139:1: O25: An instruction on the wrong path reaches M"]),
+    ("F isn't stalled", {"F_stall": "0"}, [f"WRONG: {SKIPPED}"], [f"117:1: O25: {SKIPPED} Inverting F_stall repairs it."]),
+    # (in a cycle without a right predicted PC, D takes what was fetched on the wrong path)
+    ("D isn't stalled", {"D_stall": "0"}, [f"WRONG: {LOST}"], [f"121:1: O24: {LOST} Inverting D_stall repairs it.", "121:1: O25: "]),
+    # (the rule's own signal is right by a wrong one that it reads)
+    ("m_stat without dmem_error", {"m_stat": "M_stat"}, SET_CC,
+        ["71:1: O15: set_cc is 1. It has to be 0.", "92:1: O20: m_stat is 1 (SAOK). It has to be 3 (SADR).", "139:1: O25: "]),
+    ("m_stat is to be mended first", {"m_stat": "M_stat"}, [MEND_FIRST.format("O20")], ["71:1: O15: ", "92:1: O20: ", "139:1: O25: "]),
+    ("e_dstE without the condition", {"e_dstE": "E_dstE"}, D_VALA,
+        ["49:54: O10: d_valA is e_valE. It has to be d_rvalA.", "54:17: O11: d_valB is e_valE. It has to be d_rvalB.",
+            "77:1: O17: e_dstE is 0 (%rax). It has to be 15 (RNONE)."]),
+    ("e_dstE is to be mended first", {"e_dstE": "E_dstE"}, [MEND_FIRST.format("O17")], ["49:54: O10: ", "54:17: O11: ", "77:1: O17: "]),
+    ("no ret is valid", {"instr_valid": WITHOUT_RET}, F_STAT, ["20:36: O2: f_stat is 4 (SINS). It has to be 1 (SAOK)."]),
 ]
 
 
 @cases(SHOWN_LINES)
-def test_shown(row, shown):
-    _, bodies, lines, wanted = row
-    same(shown(**bodies)[lines], wanted)
+def test_shown(row, explain):
+    """The sentences of y86-tell; below them the place of each wrong signal, and of each signal that repairs a motion."""
+    _, bodies, wanted, places = row
+    status, lines, err = explain(std(**bodies))
+    assert any(lines[at : at + len(wanted)] == wanted for at in range(len(lines))), "\n".join(lines)
+    same((status, err, lines[-1]), (1, b"", HINT))
+    joined = re.sub(r"\n {8}", " ", "\n".join(lines[lines.index("The places in the file:") + 2 : -2])).split("\n")
+    same(len(joined), len(places))
+    for line, place in zip(joined, places):
+        same(line[: len(place) + 13], f"    mine.hcl:{place}")
 
 
 def test_the_page_of_a_no(lab):
@@ -144,7 +147,7 @@ def towering():
 
 def test_30000_brackets_explained(lab):
     status, out, err = lab("explain", "deep.hcl", files={"deep.hcl": DEEP})
-    same((status, out.split(b"\n")[0], err), (5, b"deep.hcl:1:79: DepthOver64", b""))
+    same((status, out.split(b"\n")[0], err), (5, b"deep.hcl:1:79: With this `(` more than 64 brackets and `!` are open at one place.", b""))
 
 
 @pytest.mark.parametrize("command", ("witness", "page"))
@@ -158,32 +161,33 @@ def test_definitions_as_a_tower(explain):
 
 
 def test_5000_digits(explain):
-    same(explain(f"word aluA = {'1' * 5000};\n")[1][0], "mine.hcl:1:13: NumberTooWide")
+    same(explain(f"word aluA = {'1' * 5000};\n")[1][0], f"mine.hcl:1:13: `{'1' * 5000}` is out of range: numbers go from -2^63 to 2^63-1.")
 
 
 def test_an_empty_file(explain):
-    lines = ["mine.hcl: Missing f_pc", "", "Missing: the signal isn't defined; where several are missing, the first in the order of the tables"]
-    same(explain(""), (5, lines, b""))
+    """Each signal that is missing, in the order of the table."""
+    status, lines, err = explain("")
+    same((status, lines[0], len(lines), err), (5, "mine.hcl: `f_pc` has no definition: every file for PIPE defines it.", 39, b""))
 
 
 def test_no_such_character_in_the_locale(lab):
     text = "bool F_stall = \u201c0;\n"
     status, out, err = lab("explain", "mine.hcl", files={"mine.hcl": text}, PYTHONCOERCECLOCALE="0", LC_ALL="C", PYTHONUTF8="0")
-    lines = [b"mine.hcl:1:16: BadByte", b"", b"       1 | bool F_stall = ?0;", b"         |                ^"]
-    same((status, out.splitlines()[:4], err), (5, lines, b""))
+    lines = [b"mine.hcl:1:16: The byte here is no printable ASCII.", b"", b"       1 | bool F_stall = ?0;", b"         |                ^"]
+    same((status, [out.splitlines()[0].partition(b" Outside ")[0], *out.splitlines()[1:4]], err), (5, lines, b""))
 
 
-def test_a_name_that_is_no_text(lab, usage):
-    same(lab("explain", "\udce9.hcl", files={"\udce9.hcl": ""}).text(), (2, usage[2], ""))
+def test_a_name_that_is_no_text(lab):
+    same(lab("explain", "\udce9.hcl", files={"\udce9.hcl": ""}).text(), (2, "?.hcl: its name isn't UTF-8\n", ""))
 
 
 MANY = "D_valC == 0" + "".join(f" || D_valC == {it}" for it in range(1, 65))
-WRONG = ["mine.hcl: KindMismatch F_bubble", "", "   --> mine.hcl:1:6", "       1 | word F_bubble = 0;", "         |      ^"]
-WRONG += ["", "   --> mine.hcl:2:9", "       2 | boolsig F_bubble 'F'", "         |         ^"]
+WRONG = ["mine.hcl:1:6: `F_bubble` is a Boolean: its definition begins with `bool`.", "", "       1 | word F_bubble = 0;", "         |      ^"]
 FIRST_LINES = [
     ("65 comparisons", std(F_bubble=MANY),
-        ["mine.hcl: AtomsOver64", "", "AtomsOver64: the definitions compare more than 64 different pairs of words, too many for `check`,"]),
-    ("a wrong declaration", "wordsig M_Cnd 'M'\n" + design("std"), ["mine.hcl: KindMismatch M_Cnd", "", "   --> mine.hcl:1:9", "       1 | wordsig M_Cnd 'M'", "         |         ^"]),
+        ["mine.hcl: the definitions compare more than 64 different pairs of words, too many for the check."]),
+    ("a wrong declaration", "wordsig M_Cnd 'M'\n" + design("std"),
+        ["mine.hcl:1:9: `M_Cnd` is a Boolean: its declaration begins with `boolsig`.", "", "       1 | wordsig M_Cnd 'M'", "         |         ^"]),
     ("a wrong definition", "word F_bubble = 0;\nboolsig F_bubble 'F'\n", WRONG),
 ]
 
@@ -195,7 +199,7 @@ def test_first_lines(row, explain):
 
 
 def test_a_file_that_is_too_long(explain):
-    same(explain("#" * 65537), (7, ["mine.hcl: TooLong 65536", "", "TooLong: the file has more than 65,536 bytes; the status is 7"], b""))
+    same(explain("#" * 65537), (7, ["mine.hcl: the file is too long: over 65,536 bytes for HCL, over 1,048,576 for others"], b""))
 
 
 # ---- `swap` over files with a fault, and behind a last line without a line feed
@@ -268,7 +272,7 @@ USAGE_WITNESS = b"usage: y86-lab witness [-h] [--full] [-o FILE] [--tries N] [--
 WITNESS = [
     (("witness", "flags.hcl"), 0, b"flags.hcl: " + YES + b"So no program without `iaddq` shows a mistake: this file is right for every one.\n"
         b"`iaddq` wasn't asked: `--full` asks it too.\n", b""),
-    (("witness", "stall_and_bubble.hcl", "--tries", "1"), 1, b"stall_and_bubble.hcl: no O23\nTrying up to 1 programs until one shows it, for at most 60 s.\n"
+    (("witness", "unseen.hcl", "--tries", "1"), 1, b"unseen.hcl: no O25\nTrying up to 1 programs until one shows it, for at most 60 s.\n"
         b"None of 1 programs shows the mistake. The rule is broken all the same: a program that shows it may be rare,\n"
         b"or there is none, for a No promises that the rule fails in the situation that it shows, and no more.\n", b""),
     (("witness", "stall_and_bubble.hcl", "--tries", "0"), 2, b"", USAGE_WITNESS + b"argument --tries: 0: a number from 1 to 1000000 is wanted\n"),
@@ -368,6 +372,8 @@ ARCHLAB = [
 FILES = {f"{name}.hcl": design(name) for name in ("std", "seq_plus", "seq", "stall_and_bubble")}
 # (of iaddq it forgets the flags)
 FILES["flags.hcl"] = changed(design("with_iaddq"), set_cc="E_icode == IOPQ && !m_stat in { SADR, SINS, SHLT } && !W_stat in { SADR, SINS, SHLT }")
+# (a jump in M never needs the second case, and the check asks for it)
+FILES["unseen.hcl"] = changed(design("early_jumps"), f_pc="[ E_icode == IJXX && !e_Cnd : E_valA; W_icode == IRET : W_valM; 1 : F_predPC; ]")
 FILES |= {"add.yo": read("programs/add.yo"), "ncopy.ys": NCOPY, "ncopy_iaddq.ys": read("copy/ncopy_iaddq.ys")}
 FILES |= {"endless.ys": NCOPY.replace(b"jg next", b"jmp next"), "other.ys": NCOPY.replace(b"ncopy:", b"copy:"), "twice.ys": NCOPY + b"lab_to:\n"}
 

@@ -31,12 +31,16 @@ def lab(folder, programs):
 
 @cases(broken())
 def test_explain(row, lab):
-    """The rule is named, with a signal that has another value than is wanted, or with words on how the registers move."""
+    """The rule is named, with a signal that isn't what it has to be, or with what is wrong about how the registers move; and a place."""
     name, base, definitions, _ = row
     said = lab("explain", base, definitions)
-    assert f": no, {name.split(' ')[0]} doesn't hold" in said, said
-    moves = r"^(?:\w is stalled and bubbled|D keeps|An instruction|D holds|The pipeline is empty)"
-    assert re.search(r"^  \w+ is .*; .* is wanted$", said, re.M) or re.search(moves, said, re.M), said
+    rule = name.split(" ")[0]
+    assert said.startswith(f"no: {rule} is false somewhere.\n"), said
+    joined = re.sub(r"\n {6,}", " ", said)
+    signal = r"^    WRONG  (\w+) is .*\. It has to be .*\.$"
+    moves = r"^WRONG: (?:\w is stalled and bubbled|The instruction in D|An instruction|Nothing is ahead|The pipeline is empty)"
+    assert re.search(signal if rule[0] == "S" or int(rule[1:]) < 23 else moves, joined, re.M), said
+    assert re.search(rf"^    mine\.hcl:\d+:\d+: {rule}: ", said, re.M), said
 
 
 @cases(broken())

@@ -26,7 +26,7 @@ LAB, SVG = f"{TOP}/y86-lab", "{http://www.w3.org/2000/svg}"
 def lab(programs, folder):
     def call(*words, **how):
         done = subprocess.run([LAB, *words], cwd=folder, stdin=subprocess.DEVNULL, capture_output=True, text=True, timeout=600, check=False,
-            env={**os.environ, "Y86": programs("y86"), "Y86_TELL": "/nowhere"}, **how)
+            env={**os.environ, "Y86": programs("y86"), "Y86_TELL": programs("y86_tell")}, **how)
         return done.returncode, done.stdout, done.stderr
 
     return call
@@ -209,7 +209,7 @@ def test_bar_on_a_terminal(programs):
     """A terminal shows it on standard error; a pipe shows nothing (see the other tests)."""
     ours, theirs = pty.openpty()
     words = [LAB, "grade", f"{TOP}/examples/class/hand_ins/seq", "--rubric", f"{TOP}/examples/class/seq.toml"]
-    done = subprocess.run(words, stdout=subprocess.PIPE, stderr=theirs, text=True, check=False, env={**os.environ, "Y86": programs("y86"), "Y86_TELL": "/nowhere"})
+    done = subprocess.run(words, stdout=subprocess.PIPE, stderr=theirs, text=True, check=False, env={**os.environ, "Y86": programs("y86"), "Y86_TELL": programs("y86_tell")})
     os.close(theirs)
     shown = b""
     while True:

@@ -73,7 +73,10 @@ def test_without_python(folder):
 
 
 def test_no_program():
-    status, out, err = lab("explain", "README.md", Y86="/nowhere/y86")
+    """Of each program that a command calls."""
+    status, out, err = lab("explain", "README.md", Y86_TELL="/nowhere/y86-tell")
+    same((status, out, err), (127, "", "/nowhere/y86-tell: No such file or directory; Y86_TELL in the environment may name another program\n"))
+    status, out, err = lab("swap", "README.md", "README.md", Y86="/nowhere/y86")
     same((status, out, err), (127, "", "/nowhere/y86: No such file or directory; Y86 in the environment may name another program\n"))
 
 

@@ -28,37 +28,51 @@ def lab(programs, folder):
     return call
 
 
+NO_NAME = "`{}` is no name of PIPE: a file uses and defines the names of its datapath alone."
 WRONG = changed(design("std"), d_valA="[ D_icode in { ICALL, IJXX } : D_valP; d_srcA == M_dstE : M_valE; @ ]")
 PLACES = [
     (example("std"), 0, "a.hcl: yes\n"),
-    (changed(design("std"), m_stat="M_stat"), 1, "a.hcl:71:1: O15: set_cc is 1; 0 is wanted\n"),
-    ("bool x = ];\n", 5, "a.hcl:1:10: Syntax\n"),
-    ("word aluA = nothing;\n", 5, "a.hcl:1:13: Unknown nothing\n"),
-    ("# nothing\nwordsig nothing 'nothing'\nword aluA = 1; word aluB = [ 1 : nothing; ];\n", 5, "a.hcl:3:34: Unknown nothing\n"),
-    ("word mine = 0;\nword aluA = mine;\n", 5, "a.hcl:1:6: Unknown mine\n"),
-    ("bool aluA = 0;\n", 5, "a.hcl:1:6: KindMismatch aluA\n"),
-    ("word aluA = 0;\nword aluA = 0;\n", 5, "a.hcl:1:6: Twice aluA\na.hcl:2:6: Twice aluA\n"),
-    ("", 5, "a.hcl: Missing f_pc\n"),
+    (changed(design("std"), set_cc="0"), 1, "a.hcl:71:1: O15: set_cc is 0. It has to be 1.\n"),
+    ("bool x = ];\n", 5, "a.hcl:1:10: No `[` is open here: this `]` is one too many.\n"),
+    ("word aluA = nothing;\n", 5, f"a.hcl:1:13: {NO_NAME.format('nothing')}\n"),
+    ("# nothing\nwordsig nothing 'nothing'\nword aluA = 1; word aluB = [ 1 : nothing; ];\n", 5, f"a.hcl:2:9: {NO_NAME.format('nothing')}\n"),
+    ("word mine = 0;\nword aluA = mine;\n", 5, f"a.hcl:1:6: {NO_NAME.format('mine')}\n"),
+    ("bool aluA = 0;\n", 5, "a.hcl:1:6: `aluA` is a word: its definition begins with `word`.\n"),
+    ("word aluA = 0;\nword aluA = 0;\n", 5, "a.hcl:2:6: `aluA` is defined a second time; its first definition is in line 1.\n"),
+    ("", 5, ""),
 ]
 
 
 @pytest.mark.parametrize("text,status,out", PLACES, ids=[out.strip().partition(": ")[2][:30] for _, _, out in PLACES])
 def test_places(text, status, out, lab):
-    """One line a place; the caret of `explain` stands at the same place."""
-    same(lab("explain", "--places", "a.hcl", files={"a.hcl": text}), (status, out, ""))
+    """One line a place; the caret of `explain` stands at the same place. Last come the signals that are missing."""
+    came, said, err = lab("explain", "--places", "a.hcl", files={"a.hcl": text})
+    same((came, re.sub(r"^a\.hcl: `\w+` has no definition: .*\n", "", said, flags=re.M), err), (status, out, ""))
     shown = lab("explain", "a.hcl")[1]
-    for line, column in re.findall(r"^a\.hcl:(\d+):(\d+): \w+ \w+$", out, re.M):
-        assert f"   --> a.hcl:{line}:{column}\n    {line:>4} | " in shown
-    same([len(mark) for mark in re.findall(r"^         \|( *)\^$", shown, re.M)], [int(column) for column in re.findall(r":\d+:(\d+): (?!O)", out)])
+    for fault, line in re.findall(r"^(a\.hcl:(\d+):\d+: (?!O\d).*)$", out, re.M):
+        assert f"{fault}\n\n    {line:>4} | " in shown
+    same([len(mark) for mark in re.findall(r"^         \|( *)\^$", shown, re.M)], [int(column) for column in re.findall(r":\d+:(\d+): (?!O\d)", out)])
+
+
+def test_a_missing_signal_has_no_place(lab):
+    same(lab("explain", "--places", "a.hcl", files={"a.hcl": ""})[1].partition("\n")[0], "a.hcl: `f_pc` has no definition: every file for PIPE defines it.")
+
+
+def test_places_of_all_that_is_false(lab):
+    """docs/TELL.md: a forgotten `dmem_error` in `m_stat` makes `set_cc` and `M_bubble` wrong too."""
+    said = lab("explain", "--places", "a.hcl", files={"a.hcl": changed(design("std"), m_stat="M_stat")})[1].splitlines()
+    same(said[:2], ["a.hcl:71:1: O15: set_cc is 1. It has to be 0.", "a.hcl:92:1: O20: m_stat is 1 (SAOK). It has to be 3 (SADR)."])
+    same([re.sub(r": .*\. Inv", ": .. Inv", line) for line in said[2:]], ["a.hcl:139:1: .. Inverting M_bubble repairs it."])
 
 
 def test_places_keep_their_folder(lab, folder):
     """A place is the path as it was given, so that a click opens it."""
     os.mkdir(f"{folder}/work")
     put(folder, {"work/a.hcl": changed(design("std"), m_stat="M_stat")})
-    same(lab("explain", "--places", "work/a.hcl")[1], "work/a.hcl:71:1: O15: set_cc is 1; 0 is wanted\n")
+    first = "work/a.hcl:71:1: O15: set_cc is 1. It has to be 0.\n"
+    same(lab("explain", "--places", "work/a.hcl")[1][: len(first)], first)
     said = lab("explain", "work/a.hcl")[1]
-    assert "    work/a.hcl:71: bool set_cc" in said and "m_stat is SAOK (work/a.hcl:92)" in said
+    assert f"    {first}" in said and "    work/a.hcl:92:1: O20: m_stat is 1" in said
 
 
 def test_swap_in_place(lab, folder):
@@ -104,7 +118,7 @@ def test_watch(programs, folder):
     """It answers at once, again at each save, also where the file is taken away and put back, and ends after the answers that are asked for."""
     put(folder, {"a.hcl": "bool x = ];\n"})
     words = [LAB, "watch", "--places", "--times", "3", "a.hcl"]
-    watching = subprocess.Popen(words, cwd=folder, stdout=subprocess.PIPE, text=True, env={**os.environ, "Y86": programs("y86")})
+    watching = subprocess.Popen(words, cwd=folder, stdout=subprocess.PIPE, text=True, env={**os.environ, "Y86": programs("y86"), "Y86_TELL": programs("y86_tell")})
     lines = []
 
     def until_told():
@@ -113,13 +127,13 @@ def test_watch(programs, folder):
             assert lines[-1] or watching.poll() is None, lines
 
     until_told()
-    same([lines[0].partition(" at ")[0], *lines[1:]], ["-- a.hcl", "a.hcl:1:10: Syntax", "-- again at the next save; Ctrl-C ends it"])
+    same([lines[0].partition(" at ")[0], *lines[1:]], ["-- a.hcl", "a.hcl:1:10: No `[` is open here: this `]` is one too many.", "-- again at the next save; Ctrl-C ends it"])
     lines.clear()
     os.remove(f"{folder}/a.hcl")
     time.sleep(0.5)
     put(folder, {"a.hcl": "word x = 10;\n"})
     until_told()
-    same(lines[1], "a.hcl:1:6: Unknown x")
+    same(lines[1], f"a.hcl:1:6: {NO_NAME.format('x')}")
     lines.clear()
     put(folder, {"next": example("std")})
     os.replace(f"{folder}/next", f"{folder}/a.hcl")
@@ -128,7 +142,8 @@ def test_watch(programs, folder):
 
 
 def test_watch_of_assembly(lab):
-    same(lab("watch", "--times", "1", "p.ys", files={"p.ys": "movq\n"})[1].splitlines()[1:], ["p.ys:1: Syntax"])
+    same(lab("watch", "--times", "1", "p.ys", files={"p.ys": "movq\n"})[1].splitlines()[1:], 
+        ["p.ys:1:1: Y86-64 has no `movq`, but four moves: `rrmovq rA, rB`, `irmovq V, rB`, `rmmovq rA, D(rB)` and `mrmovq D(rB), rA`."])
     same(lab("watch", "--times", "1", "p.ys", files={"p.ys": "halt\n"})[1].splitlines()[1:], ["0x000: 00                   | halt", ""])
 
 

@@ -12,15 +12,17 @@ import xml.etree.ElementTree as tree
 
 import pytest
 
-from helpers.cases import same
+from helpers.cases import cases, same
 from helpers.designs import changed, design, example
 from helpers.paths import TOP
 from helpers.programs import put
+from y86lab.calls import Programs
 from y86lab.errors import LabError
 from y86lab.grading.formats import as_csv, as_gradescope, as_json, as_junit
 from y86lab.grading.grader import Grade, Report, Score, words
 from y86lab.grading.handins import hand_ins
 from y86lab.output import plain_name
+from y86lab.tell import Table
 from y86lab.grading.rubric import Cycles, Item, Obligations, Program, Rubric, Run, Size, read_rubric, rubric_of
 
 LAB, CLASS = f"{TOP}/y86-lab", f"{TOP}/examples/class"
@@ -29,8 +31,9 @@ pytestmark = pytest.mark.skipif(sys.version_info < (3, 11), reason="a rubric nee
 
 @pytest.fixture
 def lab(programs, folder):
-    def call(*words, files=None, tell="/nowhere"):
+    def call(*words, files=None, tell=None):
         put(folder, files or {})
+        tell = tell or stand_in(folder, programs("y86_tell"), "exit 6")
         done = subprocess.run([LAB, *words], cwd=folder, stdin=subprocess.DEVNULL, capture_output=True, text=True, timeout=600, check=False,
             env={**os.environ, "Y86": programs("y86"), "Y86_TELL": tell})
         return done.returncode, done.stdout, done.stderr
@@ -38,7 +41,7 @@ def lab(programs, folder):
     return call
 
 
-# The class of examples/. Where y86-tell isn't there, an obligation after the first false one counts as one that doesn't hold.
+# The class of examples/. Where y86-tell gives no answer, an obligation after the first false one counts as one that doesn't hold.
 PROGRAMS = """\
 name,points,of,sum,rsum,copy
 ann,30,30,10,10,10
@@ -70,17 +73,22 @@ def test_class_of_the_examples(part, grades, lab):
     same(lab("grade", f"{CLASS}/hand_ins/{part}", "--rubric", f"{CLASS}/{part}.toml"), (0, grades, ""))
 
 
-def stand_in(folder, *labels):
-    """A y86-tell that says these obligations are false."""
-    said = json.dumps({"verdict": "no", "refuted": [{"obligation": {"label": label}} for label in labels]})
-    put(folder, {"tell": f"#!/bin/sh\ncat <<'END'\n{said}\nEND\nexit 1\n"})
+def stand_in(folder, program, check):
+    """A y86-tell whose check is this script; for all else it asks the program."""
+    put(folder, {"tell": f'#!/bin/sh\n[ "$1" = check ] || exec {program} "$@"\n{check}\n'})
     os.chmod(f"{folder}/tell", 0o755)
     return f"{folder}/tell"
 
 
-def test_all_false_obligations_count(lab, folder):
+def said_false(*labels):
+    """A script that says these obligations are false."""
+    said = json.dumps({"verdict": "no", "refuted": [{"obligation": {"label": label}} for label in labels]})
+    return f"cat <<'END'\n{said}\nEND\nexit 1"
+
+
+def test_all_false_obligations_count(lab, folder, programs):
     """Bob's file, with a stand-in that says O10, O11, O16 and O25."""
-    tell = stand_in(folder, "O10", "O11", "O16", "O25")
+    tell = stand_in(folder, programs("y86_tell"), said_false("O10", "O11", "O16", "O25"))
     shutil.copytree(f"{CLASS}/hand_ins/pipe/bob", f"{folder}/in/bob")
     status, out, _ = lab("grade", "in", "--rubric", f"{CLASS}/pipe.toml", "--format", "json", tell=tell)
     items = json.loads(out)["grades"][0]["items"]
@@ -94,6 +102,11 @@ def test_y86_tell_says_all(lab, programs):
     rows = {row["name"]: row for row in csv.DictReader(io.StringIO(out))}
     same((status, [rows["bob"][name] for name in ("stages", "forwarding", "hazards and exceptions")]), (0, ["13.93", "6.67", "15"]))
     same([rows["dee"][name] for name in ("stages", "forwarding", "hazards and exceptions")], ["15", "10", "12.86"])
+
+
+def test_y86_tell_says_all_of_seq(lab, programs):
+    """The same grades as above, where y86 alone was asked again and again."""
+    same(lab("grade", f"{CLASS}/hand_ins/seq", "--rubric", f"{CLASS}/seq.toml", tell=programs("y86_tell")), (0, SEQ, ""))
 
 
 def items_of(lab, folder, rubric, *words):
@@ -141,17 +154,23 @@ def test_limits_of_time_and_memory(lab, folder):
 # Rubrics.
 
 
-def test_rubric_of_the_examples():
-    rubric = read_rubric(f"{CLASS}/pipe.toml")
+@pytest.fixture(scope="session")
+def groups(programs):
+    """The groups of the obligations, as y86-tell shows them."""
+    return Table(Programs(TOP, {"Y86_TELL": programs("y86_tell")})).groups()
+
+
+def test_rubric_of_the_examples(groups):
+    rubric = read_rubric(f"{CLASS}/pipe.toml", groups)
     same((rubric.full, rubric.most, rubric.files()), (True, 110.0, ["pipe.hcl", "ncopy.ys"]))
     same([type(item.task) for item in rubric.items], [Obligations, Obligations, Obligations, Cycles, Size])
     same(rubric.items[1].task.labels, ("O6", "O7", "O8", "O9", "O10", "O11", "S4", "S5", "S6", "S7"))
-    same(read_rubric(f"{CLASS}/programs.toml").items[2].task, Program("copy.ys", "references/copy.ys", ("%rax",), (("dest", 3),)))
+    same(read_rubric(f"{CLASS}/programs.toml", groups).items[2].task, Program("copy.ys", "references/copy.ys", ("%rax",), (("dest", 3),)))
 
 
-def test_every_obligation_is_in_one_group():
+def test_every_obligation_is_in_one_group(groups):
     rubric = rubric_of("r", {"name": "all", "item": [{"name": name, "points": 1, "file": "a.hcl", "obligations": [name]} for name in
-        ("fetch", "decode and forwarding", "execute", "memory", "write-back", "hazards", "exceptions", "next address")]})
+        ("fetch", "decode and forwarding", "execute", "memory", "write-back", "hazards", "exceptions", "next address")]}, groups)
     labels = [label for item in rubric.items for label in item.task.labels]
     same(sorted(labels), sorted([f"O{number}" for number in range(1, 28)] + [f"S{number}" for number in range(1, 17)]))
 
@@ -178,9 +197,9 @@ WRONG = [
 
 
 @pytest.mark.parametrize("table,told", WRONG, ids=[told[3:40] for _, told in WRONG])
-def test_wrong_rubrics(table, told):
+def test_wrong_rubrics(table, told, groups):
     with pytest.raises(LabError) as fault:
-        rubric_of("r", table)
+        rubric_of("r", table, groups)
     same((str(fault.value), fault.value.status), (told, 2))
 
 
@@ -255,19 +274,29 @@ def test_names_of_pages():
         ["ann", "Ann-2", "etc", "rf", "a_b", "Ελένη", "hand-in", "x" * 100])
 
 
-def test_feedback_shows_the_mistake(lab, folder):
-    """Without y86-tell the page has what `explain` says; with it test_lab_hostile.py has the words."""
+# Of y86-tell's check: the program itself, and one that gives no answer. And what a page has then.
+FEEDBACK = [
+    ("y86-tell", None, ("no: O10 is false somewhere.", " of the program, and does it wrong:\n", "3 of 6 points")),
+    ("no answer", "exit 6", ("pipe.hcl: the check ended without an answer", "O10 is false; later ones weren't decided", "3 of 6 points")),
+]
+
+
+@cases(FEEDBACK)
+def test_feedback_shows_the_mistake(row, lab, folder, programs):
+    """The page has what y86-tell says, and a program that shows it; what isn't known is said."""
+    _, check, texts = row
+    tell = stand_in(folder, programs("y86_tell"), check) if check else programs("y86_tell")
     wrong = changed(design("std"), d_valA="[ D_icode in { ICALL, IJXX } : D_valP; d_srcA == M_dstE : M_valE; @ ]")
     os.mkdir(f"{folder}/in")
     put(folder, {"in/ann.hcl": wrong, "in/bob.hcl": example("std"),
         "r.toml": 'name = "Forwarding"\n[[item]]\nname = "forwarding"\npoints = 6\nfile = "pipe.hcl"\nobligations = ["O6", "O10"]\n'})
-    status, out, err = lab("grade", "in", "--rubric", "r.toml", "--feedback", "pages", "-o", "grades.csv")
+    status, out, err = lab("grade", "in", "--rubric", "r.toml", "--feedback", "pages", "-o", "grades.csv", tell=tell)
     same((status, out, err), (0, "", ""))
     with open(f"{folder}/grades.csv", encoding="utf-8") as file:
         same(file.read(), "name,points,of,forwarding\nann,3,6,3\nbob,6,6,6\n")
     with open(f"{folder}/pages/ann.html", encoding="utf-8") as file:
         page = html.unescape(re.sub("<[^>]*>", "", file.read()))
-    for text in ("pipe.hcl: no, O10 doesn't hold", "3 of 6 points"):
+    for text in texts:
         assert text in page, page
     assert folder not in page
     with open(f"{folder}/pages/bob.html", encoding="utf-8") as file:

@@ -5,137 +5,207 @@ import json
 import pytest
 
 from helpers.cases import cases, same
+from helpers.designs import changed, design
+from helpers.paths import TOP
+from y86lab.aig.broken import broken_files
 from y86lab.aig.confirm import bits_of
 from y86lab.aig.network import blif, clauses_below, clauses_of, network_of
 from y86lab.commands.classroom import Row, cell, set_verdict, status_of
-from y86lab.calls import Answer
+from y86lab.calls import Answer, Programs
 from y86lab.copy_loop import data_of, result_fault, score, words_of
-from y86lab.explaining import broken_files, settings_in_words
-from y86lab.explaining import isa
-from y86lab.explaining.signals import datapath_of_text, in_full, in_short, unasked
-from y86lab.explaining.situation import NO_CASE, Situation
-from y86lab.hcl import Cases, Design, design_of
+from y86lab.counterexample import programs_of
+from y86lab.places import messages, value_in_words
+from y86lab.tell import Table, unasked
 from y86lab.trial import shows_mistake
 from y86lab.trial_programs import at_random, pairs, special
 
-RAX, RBX, RSP, NONE = 0, 3, 4, 15
-# CS:APP 3e, figures 4.18 to 4.21: srcA, srcB, dstE, dstM of each instruction with rA = %rax and rB = %rbx.
+# CS:APP 3e, figures 4.18 to 4.21: srcA, srcB, dstE, dstM of each instruction.
 REGISTERS = {
-    isa.HALT: (NONE, NONE, NONE, NONE),
-    isa.NOP: (NONE, NONE, NONE, NONE),
-    isa.RRMOVQ: (RAX, NONE, RBX, NONE),
-    isa.IRMOVQ: (NONE, NONE, RBX, NONE),
-    isa.RMMOVQ: (RAX, RBX, NONE, NONE),
-    isa.MRMOVQ: (NONE, RBX, NONE, RAX),
-    isa.OPQ: (RAX, RBX, RBX, NONE),
-    isa.JXX: (NONE, NONE, NONE, NONE),
-    isa.CALL: (NONE, RSP, RSP, NONE),
-    isa.RET: (RSP, RSP, RSP, NONE),
-    isa.PUSHQ: (RAX, RSP, RSP, NONE),
-    isa.POPQ: (RSP, RSP, RSP, RAX),
-    isa.IADDQ: (NONE, RBX, RBX, NONE),
+    "halt": (None, None, None, None),
+    "nop": (None, None, None, None),
+    "rrmovq": ("rA", None, "rB", None),
+    "irmovq": (None, None, "rB", None),
+    "rmmovq": ("rA", "rB", None, None),
+    "mrmovq": (None, "rB", None, "rA"),
+    "addq": ("rA", "rB", "rB", None),
+    "jmp": (None, None, None, None),
+    "call": (None, "%rsp", "%rsp", None),
+    "ret": ("%rsp", "%rsp", "%rsp", None),
+    "pushq": ("rA", "%rsp", "%rsp", None),
+    "popq": ("%rsp", "%rsp", "%rsp", "rA"),
+    "iaddq": (None, "rB", "rB", None),
 }
 # The same figures: aluA and aluB.
 OPERANDS = {
-    isa.HALT: (None, None),
-    isa.RRMOVQ: ("a", 0),
-    isa.IRMOVQ: ("c", 0),
-    isa.RMMOVQ: ("c", "b"),
-    isa.MRMOVQ: ("c", "b"),
-    isa.OPQ: ("a", "b"),
-    isa.JXX: (None, None),
-    isa.CALL: (-8, "b"),
-    isa.RET: (8, "b"),
-    isa.PUSHQ: (-8, "b"),
-    isa.POPQ: (8, "b"),
-    isa.IADDQ: ("c", "b"),
+    "halt": (None, None),
+    "rrmovq": ("valA", 0),
+    "irmovq": ("valC", 0),
+    "rmmovq": ("valC", "valB"),
+    "mrmovq": ("valC", "valB"),
+    "addq": ("valA", "valB"),
+    "jmp": (None, None),
+    "call": (-8, "valB"),
+    "ret": (8, "valB"),
+    "pushq": (-8, "valB"),
+    "popq": (8, "valB"),
+    "iaddq": ("valC", "valB"),
+}
+# Figure 4.3, and figure 3.15 for the conditions.
+MNEMONICS = {
+    (6, 0): "addq", (6, 1): "subq", (6, 2): "andq", (6, 3): "xorq",
+    (7, 0): "jmp", (7, 1): "jle", (7, 2): "jl", (7, 3): "je", (7, 4): "jne", (7, 5): "jge", (7, 6): "jg",
+    (2, 0): "rrmovq", (2, 1): "cmovle", (2, 2): "cmovl", (2, 3): "cmove", (2, 4): "cmovne", (2, 5): "cmovge", (2, 6): "cmovg",
+    (0, 0): "halt", (1, 0): "nop", (3, 0): "irmovq", (4, 0): "rmmovq", (5, 0): "mrmovq", (8, 0): "call", (9, 0): "ret",
+    (10, 0): "pushq", (11, 0): "popq", (12, 0): "iaddq",
 }
 
 
-@pytest.mark.parametrize("icode", REGISTERS, ids=isa.ICODES)
-def test_registers_of_an_instruction(icode):
-    same(isa.registers_of(icode, RAX, RBX), REGISTERS[icode])
+@pytest.fixture(scope="module")
+def table(programs):
+    """What y86-tell shows of the machine: the lab has no instruction and no obligation of its own."""
+    return Table(Programs(TOP, {"Y86_TELL": programs("y86_tell")}))
 
 
-@pytest.mark.parametrize("icode", OPERANDS, ids=[isa.ICODES[icode] for icode in OPERANDS])
-def test_operands_of_an_instruction(icode):
-    same(isa.operands(icode, "a", "b", "c"), OPERANDS[icode])
+@pytest.fixture(scope="module")
+def rows(table):
+    return {row.name: row for row in table.instructions()}
 
 
-def test_a_move_whose_condition_fails_writes_nothing():
-    same(isa.registers_of(isa.RRMOVQ, RAX, RBX, False), (RAX, NONE, NONE, NONE))
+@pytest.mark.parametrize("name", REGISTERS)
+def test_registers_of_an_instruction(name, rows):
+    row = rows[name]
+    same((row.srcA, row.srcB, row.dstE, row.dstM), REGISTERS[name])
 
 
-def test_mnemonics():
-    same([isa.mnemonic(isa.OPQ, ifun) for ifun in range(5)], ["addq", "subq", "andq", "xorq", "OPq"])
-    same([isa.mnemonic(isa.JXX, ifun) for ifun in (0, 1, 6, 7)], ["jmp", "jle", "jg", "jmp"])
-    same([isa.mnemonic(isa.RRMOVQ, ifun) for ifun in (0, 3, 7)], ["rrmovq", "cmove", "rrmovq"])
-    same([isa.mnemonic(icode, 0) for icode in (12, 13, 15)], ["iaddq", "invalid", "invalid"])
+@pytest.mark.parametrize("name", OPERANDS)
+def test_operands_of_an_instruction(name, table):
+    same([(each["aluA"], each["aluB"]) for each in table.shown["instructions"] if each["name"] == name], [OPERANDS[name]])
 
 
-# Values of signals in a situation.
-
-DESIGN = Design("""
-bool both = x == 1 && y == 2;
-bool either = a == b || D_stat == SAOK;
-word picked = [ either : f_valC; x in { 3, 4 } : 7; 1 : f_valP; ];
-word none = [ x == 9 : 1; ];
-bool round = !round;
-bool below = f_valC < f_valP;
-word x = 3;
-word y = 2;
-""")
+def test_a_move_whose_condition_fails_writes_nothing(table):
+    """The moves alone write by their condition; so a move whose condition fails writes nothing."""
+    moves = ["rrmovq", *(f"cmov{condition}" for condition in "le l e ne ge g".split())]
+    same([each["name"] for each in table.shown["instructions"] if each["conditional"]], moves)
 
 
-def situation(**atoms):
-    given = {"D_stat": 1}
-    return Situation(DESIGN, "pipe", given, {("lt", "f_valC", "f_valP"): 1, **atoms})
+def test_mnemonics(rows):
+    same({(row.icode, row.ifun): row.name for row in rows.values()}, MNEMONICS)
+    same([row.name for row in rows.values() if row.needs_full], ["iaddq"])
 
 
-def test_values():
-    now = situation()
-    same([now.signal(name) for name in ("both", "either", "picked", "none", "below")], [0, 1, "f_valC", 0, 1])
-    same([now.signal(name) for name in ("SAOK", "f_valP", "round", "nowhere")], [1, "f_valP", None, None])
+def test_how_instructions_go_on(rows):
+    """Figures 4.18 to 4.21, the PC update: what a program of a counterexample needs of a row."""
+    ways = {name: row.goes_on for name, row in rows.items() if row.goes_on != "valP"}
+    same(ways, {"halt": None, "call": "valC", "ret": "valM", **dict.fromkeys("jmp jle jl je jne jge jg".split(), "branch")})
+    same([name for name, row in rows.items() if row.has_access], ["rmmovq", "mrmovq", "call", "ret", "pushq", "popq"])
 
 
-def test_taken_cases():
-    now = situation()
-    picked, none = DESIGN.by_name["picked"].body, DESIGN.by_name["none"].body
-    assert isinstance(picked, Cases) and isinstance(none, Cases)
-    same((now.taken_case(picked), now.taken_case(none)), (0, NO_CASE))
+# Values of signals in a counterexample: what y86-tell says of std.hcl with other definitions.
+
+WITH_REGISTERS = "IRRMOVQ, IOPQ, IPUSHQ, IPOPQ, IIRMOVQ, IRMMOVQ, IMRMOVQ"
 
 
-def test_what_decides():
-    """`x == 1` alone decides `both`, and the second part `either`; `picked` goes by its first case."""
-    now = situation()
-    decided = [now.decided_by(DESIGN.by_name[name].body) for name in ("both", "either", "picked", "none")]
-    same(decided, [["x"], ["D_stat", "SAOK"], ["either", "f_valC"], ["x"]])
+@pytest.fixture
+def told(y86_tell):
+    """The first obligation that is false of std.hcl with other definitions."""
+
+    def call(**bodies):
+        answer = y86_tell("check", "pipe", "--json", "mine.hcl", files={"mine.hcl": changed(design("std"), **bodies)})
+        return json.loads(answer.out)["refuted"][0]
+
+    return call
 
 
-@pytest.mark.parametrize("sign,truth", [("==", None), ("!=", None), ("<", 1), (">=", 0), (">", None), ("<=", None)])
-def test_comparisons_of_words(sign, truth):
-    """A comparison of words is what the situation says, in that order of the words."""
-    same(situation().compared(sign, "f_valC", "f_valP"), truth)
+def finding(refuted, signal):
+    return next(each for each in refuted["signals"] if each["signal"] == signal)
 
 
-def test_equality_is_symmetric():
-    now = Situation(DESIGN, "pipe", {}, {("eq", "f_valC", "f_valP"): 1})
-    same([now.compared(sign, "f_valP", "f_valC") for sign in ("==", "!=")], [1, 0])
-    same([now.compared(sign, "f_valP", "f_valP") for sign in ("==", "<", "<=")], [1, 0, 1])
+# The signal, its body, its value in the counterexample by hand, and what it has to be: its register byte is there or not.
+VALUES = [
+    ("need_regids", "0", 0, 1),
+    ("need_regids", "1", 1, 0),
+    ("need_regids", f"f_icode in {{ {WITH_REGISTERS.replace(', IMRMOVQ', '')} }}", 0, 1),
+    # (the first part decides; both of its parts; neither)
+    ("need_regids", f"f_icode == IRET || f_icode in {{ {WITH_REGISTERS} }}", 1, 0),
+    ("need_regids", f"f_icode == IRET && !imem_error || f_icode in {{ {WITH_REGISTERS} }}", 1, 0),
+    ("need_regids", f"f_icode == IRET && f_icode == INOP || f_icode in {{ {WITH_REGISTERS.replace('IOPQ, ', '')} }}", 0, 1),
+    ("need_valC", "!(f_icode == IJXX)", 1, 0),
+]
+
+
+@pytest.mark.parametrize("signal,body,value,wanted", VALUES, ids=[f"{signal} {body}"[:60] for signal, body, *_ in VALUES])
+def test_values(signal, body, value, wanted, told):
+    found = finding(told(**{signal: body}), signal)
+    same((found["right"], found["value"], found["wanted"]), (False, {"number": value}, {"number": wanted}))
+
+
+def test_taken_cases(told):
+    """The first case whose guard holds; none where no guard holds, and the value is 0 then."""
+    body = "[ imem_error : FNONE; f_icode == IHALT : 7; f_icode == IHALT : 8; 1 : imem_ifun; ]"
+    found = finding(told(f_ifun=body), "f_ifun")
+    same((found["case"]["number"], found["case"]["text"], found["value"]), (2, "f_icode == IHALT : 7;", {"number": 7}))
+    found = finding(told(f_ifun="[ imem_icode == 16 : 1; ]"), "f_ifun")
+    same((found["case"], found["value"]), (None, {"number": 0}))
+
+
+def test_what_is_read(told):
+    """Each name of the definition once, with its value: not a constant, and not a word that is known by its name alone."""
+    found = finding(told(d_valA="[ D_icode in { ICALL, IJXX } : D_valP; d_srcA == e_dstE : e_valE; d_srcA == e_dstE : e_valE; 1 : d_rvalA; ]"), "d_valA")
+    same([each["signal"] for each in found["reads"]], ["D_icode", "d_srcA", "e_dstE"])
+
+
+@pytest.mark.parametrize("sign", ("==", "!=", "<", ">=", ">", "<="))
+def test_comparisons_of_words(sign, told):
+    """What a comparison of two words gives is what the situation says of them: `f_predPC` is wrong for a `nop`, and picks f_valC where it holds."""
+    refuted = told(f_predPC=f"[ f_valC {sign} f_valP : f_valC; f_icode in {{ ICALL, IJXX }} : f_valC; 1 : f_valP; ]")
+    same(refuted["obligation"]["label"], "O5")
+    same([finding(refuted, "f_predPC")[key] for key in ("value", "wanted")], [{"name": "f_valC"}, {"name": "f_valP"}])
+    same(finding(refuted, "f_predPC")["case"]["number"], 1)
+    [said] = refuted["counterexample"]["comparisons"]
+    pair, holds = (said["left"], said["right"]), said["holds"]
+    truths = {"==": holds, "!=": not holds} if said["sign"] == "==" else {"<": holds, ">=": not holds} if pair == ("f_valC", "f_valP") else {">": holds, "<=": not holds}
+    same(truths.get(sign), True)
+
+
+def test_equality_is_symmetric(told):
+    """Written the other way round it is the same comparison."""
+    refuted = told(f_predPC="[ f_valC == f_valP && f_valP != f_valC : f_valP; f_valP == f_valC : f_valC; f_icode in { ICALL, IJXX } : f_valC; 1 : f_valP; ]")
+    same((finding(refuted, "f_predPC")["case"]["number"], len(refuted["counterexample"]["comparisons"])), (2, 1))
 
 
 def test_values_as_people_write_them():
-    same([in_full(name, 4) for name in ("f_stat", "d_srcA", "f_icode", "aluB")], ["SINS (4)", "4 (%rsp)", "IRMMOVQ (4)", "4"])
-    same([in_short(name, 15) for name in ("e_dstE", "icode", "aluA")], ["none", "15", "15"])
-    same(in_short("d_valA", "e_valE"), "e_valE")
+    """A constant and a register with its number; a word by its name."""
+    values = [{"number": 4, "constant": "SINS"}, {"number": 4, "constant": "%rsp"}, {"number": 4, "constant": "IRMMOVQ"}, {"number": 4}, {"name": "e_valE"}]
+    same([value_in_words(value) for value in values], ["4 (SINS)", "4 (%rsp)", "4 (IRMMOVQ)", "4", "e_valE"])
 
 
-def test_datapaths():
-    same([datapath_of_text(text, design_of(text)) for text in ("bool F_stall = 0;", "word new_pc = 1;", "word pc = 1;", "word x = 1;", "")],
+def refuted_with(signals=(), motion=None):
+    return {"obligation": {"label": "O24"}, "signals": list(signals), "motion": motion}
+
+
+def test_messages():
+    """A wrong signal with its value and the right one; each change that repairs a motion; right signals aren't named."""
+    wrong = {"signal": "d_valA", "right": False, "value": {"name": "e_valE"}, "wanted": {"name": "d_rvalA"}}
+    same(list(messages(refuted_with([wrong, {**wrong, "right": True}]))), [("d_valA", "d_valA is e_valE. It has to be d_rvalA.")])
+    motion = {"faults": ["It is lost."], "invert": ["D_stall", "E_bubble"], "f_pc": []}
+    repairs = [("D_stall", "It is lost. Inverting D_stall repairs it."), ("E_bubble", "It is lost. Inverting E_bubble repairs it.")]
+    same(list(messages(refuted_with(motion=motion))), repairs)
+    same(list(messages(refuted_with(motion={**motion, "invert": [], "f_pc": ["M_valA", "M_valE"]}))),
+        [("f_pc", "It is lost. Letting f_pc be M_valA or M_valE repairs it.")])
+    # (no change repairs it: what the file asks for)
+    still = {stage: {"stall": stage == "D", "bubble": stage == "E"} for stage in "FDEMW"}
+    same(list(messages(refuted_with(motion={**motion, **still, "invert": []}))), [("D_stall", "It is lost. D_stall is 1."), ("E_bubble", "It is lost. E_bubble is 1.")])
+    waits = list(messages(refuted_with([{**wrong, "wanted": None}], {**motion, "faults": []})))
+    same(waits[0], ("d_valA", "d_valA is e_valE. No value is right: D has to wait."))
+    same(waits[1:], [("D_stall", "Inverting D_stall repairs it."), ("E_bubble", "Inverting E_bubble repairs it.")])
+
+
+def test_datapaths(table):
+    """Also of a text that isn't HCL; by none that is in a comment."""
+    same([table.datapath_by_names(text) for text in ("bool F_stall = 0;", "word new_pc = 1;", "word pc = 1;", "word x = 1;", "")],
         ["pipe", "seq", "seqplus", "", ""])
-    # (no HCL: by all names in it)
-    same(datapath_of_text("word new_pc = ;", None), "seq")
-    same(datapath_of_text("word x = ; # new_pc", None), "")
+    same(table.datapath_by_names("word new_pc = ;"), "seq")
+    same(table.datapath_by_names("word x = ; # new_pc"), "")
 
 
 def test_iaddq_that_isnt_asked():
@@ -143,15 +213,83 @@ def test_iaddq_that_isnt_asked():
     same([unasked(text, full) for text, full in (("IIADDQ", False), ("IIADDQ", True), ("# IIADDQ", False), ("IIADDQS", False))], [note, "", "", ""])
 
 
-def test_settings_in_words():
-    said = settings_in_words("yes pt=1000000 pb=0000000 tv=0 lf=1 je=1 rm=0")
-    same(said[0], "pt=1000000: of jumps forward (or to the next instruction), it predicts as taken: jmp")
-    same(said[1], "pb=0000000: of jumps backward, it predicts as taken: no jump")
-    same([sentence.split(":")[0] for sentence in said[2:]], ["tv=0", "lf=1", "je=1", "rm=0"])
-    same(said[4].rpartition(": ")[2], "it costs one bubble")
+def test_settings_in_words(y86_tell):
+    """The sentences of a yes: of the jumps the predicted ones, and a sentence for each other setting."""
+    said = y86_tell("check", "pipe", "a.hcl", files={"a.hcl": design("all_shortcuts")}).out.decode()
+    lines = [line.strip() for line in said[said.index("Its settings:") :].splitlines()[2:8]]
+    same(lines[0], "Of forward jumps it predicts as taken: jmp.")
+    same(lines[1], "Of backward jumps it predicts as taken: jmp, jle, jl, je, jne, jge, jg.")
+    same(len(lines), 6)
+    same(lines[4].rpartition(": ")[2], "it costs one bubble.")
 
 
 # Programs for the witness.
+
+BUBBLE = {"kind": "bubble", "stat": 0, "icode": 1, "ifun": 0, "dstE": 15, "dstM": 15, "srcA": 15, "srcB": 15}
+HALT = {"error": 0, "icode": 0, "ifun": 0, "taken": 0, "stops": 0, "back": 0}
+
+
+def counterexample_of(**stages):
+    return {"F": HALT, "D": BUBBLE, "E": BUBBLE, "M": BUBBLE, "W": BUBBLE, "comparisons": [], **stages}
+
+
+def made_lines(table, full=False, **stages):
+    """The lines of the first program that is made from a counterexample, after its setup and before its data."""
+    made = list(programs_of(counterexample_of(**stages), table.instructions(), full))
+    lines = made[0]
+    return lines[lines.index("nop") + 4 : next(number for number, line in enumerate(lines) if line.startswith(".pos"))]
+
+
+def stage(icode, ifun=0, **fields):
+    return {"kind": "program", "stat": 1, "icode": icode, "ifun": ifun, **fields}
+
+
+END = ["end:", "halt", "far:", "halt"]
+# The stages of a counterexample, and the instructions by hand: the oldest first, with the registers that the fields name.
+MADE = [
+    ("popq and its use", {"M": stage(11, dstE=4, dstM=4), "D": stage(2, rA=4, rB=0)}, ["popq %rsp", "rrmovq %rsp, %rax", "halt", *END]),
+    ("a load and its use", {"E": stage(5, dstE=15, dstM=3, srcA=15, srcB=6), "D": stage(6, rA=3, rB=7)},
+        ["mrmovq 8(%rsi), %rbx", "addq %rbx, %rdi", "halt", *END]),
+    ("a store, by what it reads", {"E": stage(4, dstE=15, dstM=15, srcA=8, srcB=9)}, ["rmmovq %r8, 8(%r9)", "halt", *END]),
+    ("a constant", {"W": stage(3, dstE=14, dstM=15)}, ["irmovq $7, %r14", "halt", *END]),
+    ("a jump: the younger ones are on both of its ways", {"E": stage(7, 1, dstE=15, dstM=15, srcA=15, srcB=15), "D": stage(1, rA=15, rB=15)},
+        ["jle far", "nop", "halt", "end:", "halt", "far:", "nop", "halt", "halt"]),
+    ("a call and a ret go to what is next", {"E": stage(8), "D": stage(9, rA=15, rB=15)}, ["call near2", "near2:", "ret", "near_ret3:", "halt", *END]),
+    ("no such instruction", {"D": stage(15, 3, rA=15, rB=15)}, [".byte 0xf3", "halt", *END]),
+    ("an address that fails", {"M": {**stage(5, dstE=15, dstM=0), "error": 1}}, ["mrmovq 0x100000(%rdx), %rax", "halt", *END]),
+    ("a fetch that fails", {"F": {**HALT, "icode": 1, "error": 1}}, ["jmp 0x100000", *END]),
+    ("a halt in M", {"M": stage(0, stat=2, dstE=15, dstM=15)}, ["halt", "halt", *END]),
+    ("iaddq without --full", {"D": stage(12, rA=15, rB=0)}, [".byte 0xc0", "halt", *END]),
+]
+
+
+@pytest.mark.parametrize("stages,wanted", [row[1:] for row in MADE], ids=[row[0] for row in MADE])
+def test_programs_of_a_counterexample(stages, wanted, table):
+    same(made_lines(table, **stages), wanted)
+
+
+def test_iaddq_in_a_counterexample(table):
+    same(made_lines(table, full=True, D=stage(12, rA=15, rB=0))[0], "iaddq $7, %rax")
+
+
+def test_the_words_behind_a_ret(table):
+    """Each word of the stack is the address behind the `ret`, so that it goes on there."""
+    lines = next(programs_of(counterexample_of(D=stage(9, rA=15, rB=15)), table.instructions(), False))
+    same({line for line in lines if line.startswith(".quad")}, {".quad near_ret3"})
+
+
+def test_a_bubble_is_a_nop_or_nothing(table):
+    made = list(programs_of(counterexample_of(), table.instructions(), False))
+    same([lines.count("nop") for lines in made], [4, 4, 4, 8, 8, 8])
+
+
+def test_programs_of_a_counterexample_of_seq(table):
+    """Of SEQ+ the instruction before comes first; SEQ has the instruction alone."""
+    of_seq = {"S": {"error": 0, "icode": 6, "ifun": 1, "rA": 0, "rB": 3, "cnd": 1, "derror": 0}, "comparisons": []}
+    for counterexample, wanted in ((of_seq, ["subq %rax, %rbx"]), ({"P": {"icode": 9, "cnd": 1}, **of_seq}, ["ret", "near_ret0:", "subq %rax, %rbx"])):
+        lines = next(programs_of(counterexample, table.instructions(), False))
+        start = lines.index("nop") + 4
+        same(lines[start : start + len(wanted)], wanted)
 
 
 def test_drawn_programs_are_the_same_at_each_call():

@@ -2,7 +2,7 @@
 
 ;;; Commentary:
 ;; (add-to-list 'load-path "FOLDER/tools/editors/emacs") (require 'y86)
-;; `M-x compile' checks the file: `y86-lab explain --places' for HCL, `y86 yas' for assembly.  `C-x `' goes to the places.
+;; `M-x compile' checks the file: `y86-lab explain --places' for HCL, `y86-tell fault' for assembly.  `C-x `' goes to the places.
 
 ;;; Code:
 
@@ -81,7 +81,7 @@
   (setq-local indent-tabs-mode nil)
   (setq-local tab-width 4)
   (setq-local font-lock-defaults '(y86-assembly-keywords))
-  (y86--compile "y86" "yas"))
+  (y86--compile "y86-tell" "fault"))
 
 ;;;###autoload
 (define-derived-mode y86-object-mode y86-assembly-mode "Y86-object"

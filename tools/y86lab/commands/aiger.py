@@ -8,8 +8,9 @@ import sys
 import tempfile
 from typing import Iterator
 
-from .. import explaining, hcl
+from .. import hcl
 from ..aig import network, solvers
+from ..aig.broken import broken_files
 from ..aig.confirm import confirm
 from ..arguments import Command, add_full, digits
 from ..calls import Programs, read_text
@@ -62,7 +63,7 @@ def confirm_all(arguments: argparse.Namespace, programs: Programs) -> int:
     confirmed = failed = 0
     with tempfile.TemporaryDirectory() as folder:
         files = [(os.path.basename(path), path) for path in arguments.files]
-        files += [file for page in arguments.broken for file in broken_files(programs, page, folder)]
+        files += [file for page in arguments.broken for file in made_files(programs, page, folder)]
         for name, path in files:
             try:
                 confirmation = confirm(programs, name, path, arguments.full, asked)
@@ -75,9 +76,9 @@ def confirm_all(arguments: argparse.Namespace, programs: Programs) -> int:
     return REFUSED if failed else DONE
 
 
-def broken_files(programs: Programs, page: str, folder: str) -> Iterator[tuple[str, str]]:
+def made_files(programs: Programs, page: str, folder: str) -> Iterator[tuple[str, str]]:
     """The files of a page that break an obligation of PIPE, made in a folder."""
-    for broken in explaining.broken_files(read_text(page)):
+    for broken in broken_files(read_text(page)):
         if not broken.obligation.startswith("O"):
             continue
         base = hcl.Design(read_text(os.path.join(programs.examples, "designs", broken.base)))

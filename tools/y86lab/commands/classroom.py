@@ -11,7 +11,7 @@ from concurrent.futures import ThreadPoolExecutor
 from dataclasses import astuple, dataclass
 from typing import Iterator, Optional
 
-from .. import explaining, hcl
+from .. import tell
 from ..arguments import MOST, Command, add_full, number_to
 from ..calls import Answer, Limits, Programs, full_flag
 from ..cells import cell
@@ -64,7 +64,8 @@ def run(arguments: argparse.Namespace, programs: Programs) -> int:
             table.writerow(HEAD)
         with ThreadPoolExecutor(arguments.jobs) as pool:
             places = files_of(arguments.places)
-            for row, note in pool.map(lambda place: checked(programs, place, arguments.full, limits), places):
+            check = Checker(programs, tell.Table(programs), arguments.full, limits)
+            for row, note in pool.map(check.row, places):
                 table.writerow([cell(value) for value in astuple(row)])
                 out.flush()
                 verdicts.add(row.verdict)
@@ -113,24 +114,34 @@ def text_of(path: str) -> Optional[str]:
         return None
 
 
-def checked(programs: Programs, place: tuple[str, str], full: bool, limits: Limits) -> tuple[Row, str]:
-    """The row of a file, and what wasn't asked of it. Whatever the file does, the row is there."""
-    path, name = place
-    text, start = text_of(path), time.monotonic()
-    row = Row(name)
-    if text is None:
-        return row, ""
-    try:
-        design = hcl.design_of(text)
-    except RecursionError:
-        design = None
-    row.datapath = explaining.datapath_of_text(text, design)
-    datapath = row.datapath or "pipe"
-    set_verdict(row, programs.run("check", datapath, path, *full_flag(full), limits=limits))
-    if row.verdict == "yes" and datapath == "pipe":
-        row.cycles = cycles_of_examples(programs, path, full, limits)
-    row.seconds = f"{time.monotonic() - start:.1f}"
-    return row, explaining.unasked(text, full) if row.verdict in ("yes", "no") else ""
+@dataclass(frozen=True)
+class Checker:
+    """Checks files of a class, each with the same limits."""
+
+    programs: Programs
+    table: tell.Table
+    full: bool
+    limits: Limits
+
+    def row(self, place: tuple[str, str]) -> tuple[Row, str]:
+        """The row of a file, and what wasn't asked of it. Whatever the file does, the row is there."""
+        path, name = place
+        text, start = text_of(path), time.monotonic()
+        row = Row(name)
+        if text is None:
+            return row, ""
+        row.datapath = self.datapath(path, text)
+        datapath = row.datapath or "pipe"
+        set_verdict(row, self.programs.run("check", datapath, path, *full_flag(self.full), limits=self.limits))
+        if row.verdict == "yes" and datapath == "pipe":
+            row.cycles = cycles_of_examples(self.programs, path, self.full, self.limits)
+        row.seconds = f"{time.monotonic() - start:.1f}"
+        return row, tell.unasked(text, self.full) if row.verdict in ("yes", "no") else ""
+
+    def datapath(self, path: str, text: str) -> str:
+        """The datapath that a file is for; empty if no name in it shows one."""
+        named = self.table.datapath_by_names(text)
+        return named and (tell.datapath_if_read(self.programs, path, self.limits) or named)
 
 
 def set_verdict(row: Row, answer: Answer) -> None:

@@ -5,7 +5,7 @@ import argparse
 import re
 from typing import Sequence
 
-from .. import explaining, hcl
+from .. import tell
 from ..arguments import Command, add_run_options, run_options
 from ..calls import Programs, read_text
 from ..errors import DONE, OUT_OF_TIME, REFUSED, LabError
@@ -21,7 +21,8 @@ def add_arguments(parser: argparse.ArgumentParser) -> None:
 
 def run(arguments: argparse.Namespace, programs: Programs) -> int:
     path, object_path = arguments.file, arguments.object
-    datapath = explaining.datapath(hcl.design_of(read_text(path)))
+    read_text(path)
+    datapath = tell.datapath(programs, path)
     if datapath != "pipe":
         return print_sequential(programs, datapath, path, object_path, run_options(arguments))
     pipeline_run = PipelineRun(programs, path, object_path, run_options(arguments))

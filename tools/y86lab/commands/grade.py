@@ -8,6 +8,7 @@ import tempfile
 from dataclasses import dataclass
 from typing import Optional
 
+from .. import tell
 from ..arguments import Command
 from ..calls import Limits, Programs, full_flag
 from ..errors import DONE, USAGE, LabError
@@ -38,15 +39,13 @@ def run(arguments: argparse.Namespace, programs: Programs) -> int:
         raise LabError(f"{arguments.folder}: no such folder", USAGE)
     if arguments.format == "gradescope" and not arguments.single:
         raise LabError("Gradescope's results are of one hand-in: --single", USAGE)
-    rubric = read_rubric(arguments.rubric)
+    rubric = read_rubric(arguments.rubric, tell.Table(programs).groups())
     if arguments.feedback:
         make_folder(arguments.feedback)
     found = hand_ins(arguments.folder, rubric.files(), arguments.single)
     if not found:
         raise LabError(f"{arguments.folder}: it has no hand-in", USAGE)
-    for name in ("y86", "y86-tell"):
-        if programs.is_there(name):
-            programs.path(name)
+    programs.path("y86")
     limits = limits_of(arguments)
     right = references(programs, rubric, limits)
     pages = Pages(programs, rubric, limits, min(arguments.seconds, LONGEST_SEARCH)) if arguments.feedback else None

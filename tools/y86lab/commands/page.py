@@ -11,7 +11,7 @@ import subprocess
 import sys
 from typing import Any
 
-from .. import explaining, hcl
+from .. import tell
 from ..arguments import Command, add_run_options, run_options
 from ..calls import LONG, Limits, Programs, read_text
 from ..errors import DONE, OUT_OF_TIME, REFUSED, USAGE, LabError
@@ -21,7 +21,6 @@ MOST_CYCLES = 1000
 STAGES = "y86-stages"
 # (a y86-stages that doesn't know SEQ)
 ALONE = "the page of a run is there for PIPE alone"
-TELL = "y86-tell"
 # What the page shows: web/src/viewer.mjs reads it.
 Data = dict[str, Any]
 
@@ -67,7 +66,8 @@ def page_with(programs: Programs, title: str, data: Data) -> str:
 
 def run_texts(programs: Programs, path: str, object_path: str, options: list[str]) -> Data:
     """A run by cycles: what y86-stages prints of it, and the object file."""
-    datapath = explaining.datapath(hcl.design_of(read_text(path)))
+    read_text(path)
+    datapath = tell.datapath(programs, path)
     if not programs.is_there(STAGES):
         named = programs.named(STAGES)
         told = f"a run by cycles needs the program {STAGES}, and {named} isn't there"
@@ -77,7 +77,7 @@ def run_texts(programs: Programs, path: str, object_path: str, options: list[str
         words.append(f"--{datapath}")
     answer = programs.run(*words, program=STAGES, limits=Limits(LONG))
     if datapath != "pipe" and answer.status == USAGE:
-        raise LabError(f"{path}: {ALONE}, and this file is one for {explaining.DATAPATHS[datapath]}")
+        raise LabError(f"{path}: {ALONE}, and this file is one for {tell.DATAPATHS[datapath]}")
     if answer.status not in (DONE, REFUSED) or "\nend " not in f"\n{answer.out}":
         status = OUT_OF_TIME if answer.status is None else answer.status or REFUSED
         raise LabError(answer.err.strip() or f"{STAGES} gave no answer", status)
@@ -101,7 +101,7 @@ def run_data(programs: Programs, path: str, object_path: str, options: list[str]
 def refusal_data(programs: Programs, path: str, full: bool) -> tuple[str, Data, str]:
     """The title of the page of a `no`, its data, and what to say of it."""
     text = read_text(path)
-    datapath = explaining.datapath(hcl.design_of(text))
+    datapath = tell.datapath(programs, path)
     answer = programs.check(datapath, path, full)
     if answer.status == DONE:
         raise LabError(f"{path}: yes, so there is no situation to draw; with an object file the page shows its run")
@@ -111,17 +111,9 @@ def refusal_data(programs: Programs, path: str, full: bool) -> tuple[str, Data, 
     lines = answer.out.splitlines()
     said = f"no, {lines[0].split()[1]} doesn't hold"
     names = {"hcl": os.path.basename(path), "ys": ""}
-    told = told_by_tell(programs, path, full) if datapath == "pipe" else ""
+    told = tell.check(programs, datapath, path, full)[0].out
     data = {"names": names, "path": datapath, "hcl": text, "refusal": lines, "told": told, "isFull": full}
     return f"{names['hcl']}: {said}", data, said
-
-
-def told_by_tell(programs: Programs, path: str, full: bool) -> str:
-    """What y86-tell says of a refusal of PIPE, as JSON."""
-    if not programs.is_there(TELL):
-        raise LabError(f"the page of a no needs the program {TELL}, and {programs.named(TELL)} isn't there")
-    words = ["check", "pipe", path, "--json", *(["--full"] if full else [])]
-    return programs.run(*words, program=TELL, limits=Limits(LONG)).out
 
 
 COMMAND = Command("page", "draws a run by cycles, or a no, into an HTML file", add_arguments, run)

@@ -8,7 +8,7 @@ import re
 import tempfile
 from typing import Iterator
 
-from .. import explaining, hcl
+from .. import tell
 from ..arguments import MOST, Command, add_run_options, number_to, run_options
 from ..calls import Answer, Limits, Programs, read_text
 from ..errors import DONE, OUT_OF_TIME, REFUSED, LabError
@@ -29,7 +29,8 @@ def add_arguments(parser: argparse.ArgumentParser) -> None:
 
 
 def run(arguments: argparse.Namespace, programs: Programs) -> int:
-    datapath = explaining.datapath(hcl.design_of(read_text(arguments.file)))
+    read_text(arguments.file)
+    datapath = tell.datapath(programs, arguments.file)
     options = run_options(arguments)
     difference = pipeline_difference if datapath == "pipe" else sequential_difference
     tried = 0

@@ -7,6 +7,7 @@ import sys
 import time
 from typing import Optional
 
+from .. import tell
 from ..arguments import MOST, Command, add_full, number_to
 from ..calls import Programs, full_flag
 from ..errors import DONE, UNREADABLE, LabError
@@ -61,7 +62,7 @@ def answer(arguments: argparse.Namespace, programs: Programs) -> None:
             explain.run(arguments, programs)
             return
         assembled = programs.run("yas", arguments.file, *full_flag(arguments.full))
-        print(assembled.out or assembled.err.strip())
+        print(assembled.out or tell.faults_in_words(programs, arguments.file, arguments.full) or assembled.err.strip())
     except LabError as fault:
         print(fault)
 

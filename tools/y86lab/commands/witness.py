@@ -6,19 +6,19 @@ import itertools
 import os
 import re
 import tempfile
-from typing import Optional
+from typing import Iterator, Optional
 
-from .. import explaining, hcl, trial_programs
+from .. import counterexample, hcl, tell, trial_programs
 from ..arguments import MOST, Command, add_full, digits, number_to
 from ..calls import Programs, read_text
 from ..errors import DONE, OUT_OF_TIME, REFUSED, LabError
-from ..explaining.unseen import unseen_icode
 from ..trial import COMMANDS, OutOfTime, Trial, shortened, source_of
 from ..trial_programs import Lines
+from ..unseen import is_icode_unseen
 
 UNSEEN = """\
-No program shows it: {where} `icode` isn't what was read, but each other signal of the file is the same as
-with what was read, so the machine does the same; and with `word icode = imem_icode;` the file is right."""
+No program shows it: `icode` isn't what was read, but each other signal of the file is right all the same, so the
+machine does what the instructions say; and with `word icode = imem_icode;` the file is right."""
 NONE_SHOWS = """\
 None of {which} shows the mistake. The rule is broken all the same: a program that shows it may be rare,
 or there is none, for a No promises that the rule fails in the situation that it shows, and no more."""
@@ -43,13 +43,13 @@ def run(arguments: argparse.Namespace, programs: Programs) -> int:
     path, full = arguments.file, arguments.full
     text = read_text(path)
     design = hcl.design_of(text)
-    datapath = explaining.datapath(design)
+    datapath = tell.datapath(programs, path)
     answer = programs.check(datapath, path, full)
     if answer.status is None or answer.status not in (DONE, REFUSED):
         status = OUT_OF_TIME if answer.status is None else answer.status
         raise LabError(answer.err.strip() or f"{path}: the check gives no answer", status)
     print(f"{path}: {answer.out.splitlines()[0]}")
-    note = explaining.unasked(text, full)
+    note = tell.unasked(text, full)
     if answer.status == DONE:
         which = " without `iaddq`" if note else ""
         print(f"So no program{which} shows a mistake: this file is right for every one.")
@@ -61,15 +61,15 @@ def run(arguments: argparse.Namespace, programs: Programs) -> int:
 def search(arguments: argparse.Namespace, programs: Programs, datapath: str, design: hcl.Design) -> int:
     """Looks for a program that shows the mistake, or for why there is none."""
     path, full, tries, seconds = arguments.file, arguments.full, arguments.tries, arguments.seconds
-    where = unseen_icode(programs, design, full) if datapath == "seq" else None
-    if where:
-        print(UNSEEN.format(where=where))
+    if datapath == "seq" and is_icode_unseen(programs, design, full):
+        print(UNSEEN)
         return REFUSED
     print(f"Trying up to {tries} programs until one shows it, for at most {seconds} s.", flush=True)
     with tempfile.TemporaryDirectory() as folder:
         trial = Trial(programs, path, datapath, full, folder)
         trial.keep_to(seconds)
-        tried, lines = first_that_shows(trial, full, tries, arguments.seed)
+        made = made_for(programs, datapath, path, full)
+        tried, lines = first_that_shows(trial, itertools.islice(drawn(made, full, arguments.seed), tries))
         if lines is not None:
             lines, is_shortest = shortened(trial, lines)
             trial.keep_to(None)
@@ -82,14 +82,26 @@ def search(arguments: argparse.Namespace, programs: Programs, datapath: str, des
     return REFUSED
 
 
-def first_that_shows(trial: Trial, full: bool, tries: int, seed: int) -> tuple[int, Optional[Lines]]:
-    """How many programs were tried, and the last of them if it shows the mistake."""
-    drawn = itertools.chain(
-        trial_programs.special(), trial_programs.pairs(full), trial_programs.at_random(seed, full)
+def made_for(programs: Programs, datapath: str, path: str, full: bool) -> Iterator[Lines]:
+    """The programs that are made from the counterexamples of a file: first of all from that of the answer."""
+    said = tell.check(programs, datapath, path, full)[1]
+    instructions = tell.Table(programs).instructions()
+    for refuted in said.get("refuted", []):
+        yield from counterexample.programs_of(refuted["counterexample"], instructions, full)
+
+
+def drawn(made: Iterator[Lines], full: bool, seed: int) -> Iterator[Lines]:
+    """The programs to try: those made for the file, those made for rare situations, and others."""
+    return itertools.chain(
+        made, trial_programs.special(), trial_programs.pairs(full), trial_programs.at_random(seed, full)
     )
+
+
+def first_that_shows(trial: Trial, programs: Iterator[Lines]) -> tuple[int, Optional[Lines]]:
+    """How many programs were tried, and the last of them if it shows the mistake."""
     number = 0
     try:
-        for number, lines in enumerate(itertools.islice(drawn, tries), 1):
+        for number, lines in enumerate(programs, 1):
             if trial.shows(lines):
                 return number, lines
     except OutOfTime:

@@ -119,9 +119,8 @@ class Pages:
 
     def said_of(self, datapath: str, path: str) -> str:
         """What y86-tell says of a file; what the lab says if that program doesn't."""
-        if self.programs.is_there("y86-tell"):
-            words = ["check", datapath, path, *self.flags]
-            answer = self.programs.run(*words, program="y86-tell", limits=self.limits)
-            if answer.status in (DONE, REFUSED, FAULT, TOO_LONG):
-                return answer.out + answer.err
+        words = ["check", datapath, path, *self.flags]
+        answer = self.programs.run(*words, program="y86-tell", limits=self.limits)
+        if answer.status in (DONE, REFUSED, FAULT, TOO_LONG):
+            return answer.out + answer.err
         return printed(self.programs, self.limits.timeout(), "explain", *self.flags, "--", path)

@@ -9,41 +9,26 @@ import os
 import re
 import tempfile
 from dataclasses import dataclass
+from typing import Mapping
 
 from .. import hcl
 from ..calls import Limits, Programs, full_flag
 from ..errors import DONE
 
-# The signals that an obligation of the sequential processors is about (docs/OBLIGATIONS.md).
-SIGNALS = {
-    "S1": ("icode", "ifun"),
-    "S2": ("need_regids",),
-    "S3": ("need_valC",),
-    "S4": ("srcA",),
-    "S5": ("srcB",),
-    "S6": ("dstE",),
-    "S7": ("dstM",),
-    "S8": ("aluA",),
-    "S9": ("aluB",),
-    "S10": ("alufun",),
-    "S11": ("set_cc",),
-    "S12": ("mem_addr",),
-    "S13": ("mem_read", "mem_write"),
-    "S14": ("mem_data",),
-    "S15": ("Stat", "instr_valid"),
-    "S16": ("new_pc", "pc"),
-}
-
 
 @dataclass(frozen=True)
 class Mending:
-    """Asks y86 again and again, each time with the signals of the last false obligation as a right file has them."""
+    """Asks y86 again and again, each time with the signals of the last false obligation as a right file has them.
+
+    The earlier obligations hold by then, so what these signals read is right already, or has no obligation of its own.
+    """
 
     programs: Programs
     datapath: str
     full: bool
     limits: Limits
     right: hcl.Design
+    signals: Mapping[str, tuple[str, ...]]
 
     def all_false(self, design: hcl.Design, first: str) -> tuple[str, ...]:
         """The labels that were false in turn; none if y86 didn't come to a yes."""
@@ -63,6 +48,11 @@ class Mending:
                 labels.append(said[1])
 
     def definitions(self, labels: list[str]) -> hcl.Design:
-        """The right file's definitions of the signals of these obligations."""
-        wanted = [self.right.by_name[name] for label in labels for name in SIGNALS[label] if name in self.right.by_name]
+        """The right file's definitions of the signals of these obligations, and of the signals that these read."""
+        names = list(dict.fromkeys(name for label in labels for name in self.signals[label]))
+        for name in names:
+            own = self.right.by_name.get(name)
+            read = [used.name for used in hcl.names_in(own.body)] if own else []
+            names += [below for below in dict.fromkeys(read) if below not in names and below in self.right.by_name]
+        wanted = [self.right.by_name[name] for name in names if name in self.right.by_name]
         return hcl.Design("".join(f"{self.right.text[each.start:each.end]}\n" for each in wanted))

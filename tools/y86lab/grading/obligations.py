@@ -5,16 +5,13 @@ If neither helps, the first one alone is known, by y86.
 """
 from __future__ import annotations
 
-import json
 from dataclasses import dataclass
 from typing import Optional
 
-from .. import explaining, hcl
-from ..calls import Answer, Limits, Programs, full_flag
+from .. import hcl, tell
+from ..calls import Answer, Limits, Programs, full_flag, read_text
 from ..errors import DONE, FAULT, MEMORY, REFUSED, TOO_LONG
 from .mending import Mending
-
-LONGEST = 65536
 
 
 @dataclass(frozen=True)
@@ -28,23 +25,16 @@ class Verdict:
     is_answered: bool = True
 
 
-def text_of(path: str) -> str:
-    with open(path, encoding="utf-8", errors="replace") as file:
-        return file.read(LONGEST + 1)
-
-
-def design_of(text: str) -> Optional[hcl.Design]:
+def design_of(path: str) -> Optional[hcl.Design]:
     try:
-        return hcl.design_of(text)
+        return hcl.design_of(read_text(path))
     except RecursionError:
         return None
 
 
 def verdict(programs: Programs, path: str, full: bool, limits: Limits, right: Optional[hcl.Design] = None) -> Verdict:
     """What holds of a file. A right file helps to find all that is false of a sequential processor."""
-    text = text_of(path)
-    design = design_of(text)
-    datapath = explaining.datapath_of_text(text, design) or "pipe"
+    datapath = tell.datapath_if_read(programs, path, limits) or "pipe"
     told = told_as_false(programs, datapath, path, full, limits)
     if told is not None:
         return Verdict(told, "", True, datapath)
@@ -55,27 +45,23 @@ def verdict(programs: Programs, path: str, full: bool, limits: Limits, right: Op
         return Verdict((), fault_in_words(answer), True, datapath, answer.status in (FAULT, TOO_LONG))
     first = answer.out.split()[1]
     others: tuple[str, ...] = ()
-    if datapath != "pipe" and design and right:
-        others = Mending(programs, datapath, full, limits, right).all_false(design, first)
+    design = design_of(path) if datapath != "pipe" and right else None
+    if design and right:
+        signals = tell.Table(programs).signals_by_label(datapath)
+        others = Mending(programs, datapath, full, limits, right, signals).all_false(design, first)
     return Verdict(others or (first,), "", bool(others), datapath)
 
 
 def told_as_false(
     programs: Programs, datapath: str, path: str, full: bool, limits: Limits
 ) -> Optional[tuple[str, ...]]:
-    """All false obligations by y86-tell, none after a yes; None if it doesn't say them."""
-    if not programs.is_there("y86-tell"):
-        return None
-    answer = programs.run("check", datapath, path, "--json", *full_flag(full), program="y86-tell", limits=limits)
+    """All false obligations by y86-tell, none after a yes; None if it doesn't decide them within the limits."""
+    answer, said = tell.check(programs, datapath, path, full, limits)
     if answer.status == DONE:
         return ()
-    if answer.status != REFUSED:
+    if answer.status != REFUSED or "refuted" not in said:
         return None
-    try:
-        refuted = json.loads(answer.out)["refuted"]
-        return tuple(str(each["obligation"]["label"]) for each in refuted)
-    except (ValueError, KeyError, TypeError):
-        return None
+    return tuple(str(each["obligation"]["label"]) for each in said["refuted"])
 
 
 def fault_in_words(answer: Answer) -> str:

@@ -5,7 +5,7 @@ import os
 import re
 import sys
 from dataclasses import dataclass, field
-from typing import Any, BinaryIO, Optional, Union
+from typing import Any, BinaryIO, Mapping, Optional, Union
 
 from ..errors import USAGE, LabError
 
@@ -21,21 +21,8 @@ else:
         raise LabError("a rubric needs Python 3.11 or later, which reads TOML", USAGE)
 
 
-def numbered(letter: str, *numbers: int) -> tuple[str, ...]:
-    return tuple(f"{letter}{number}" for number in numbers)
-
-
-# The obligations of PIPE and of the sequential processors by what they are about (docs/OBLIGATIONS.md).
-GROUPS = {
-    "fetch": (*numbered("O", 1, 2, 3, 4, 5), *numbered("S", 1, 2, 3)),
-    "decode and forwarding": (*numbered("O", 6, 7, 8, 9, 10, 11), *numbered("S", 4, 5, 6, 7)),
-    "execute": (*numbered("O", 12, 13, 14, 15, 16, 17), *numbered("S", 8, 9, 10, 11)),
-    "memory": (*numbered("O", 18, 19), *numbered("S", 12, 13, 14)),
-    "write-back": numbered("O", 21),
-    "hazards": numbered("O", 23, 24, 25, 26, 27),
-    "exceptions": (*numbered("O", 20, 22), *numbered("S", 15)),
-    "next address": numbered("S", 16),
-}
+# The labels of the obligations by what they are about, as y86-tell shows them.
+Groups = Mapping[str, tuple[str, ...]]
 
 
 @dataclass(frozen=True)
@@ -115,7 +102,7 @@ class Rubric:
         return list(dict.fromkeys(names))
 
 
-def read_rubric(path: str) -> Rubric:
+def read_rubric(path: str, groups: Groups) -> Rubric:
     """The rubric of a file."""
     try:
         with open(path, "rb") as file:
@@ -124,21 +111,21 @@ def read_rubric(path: str) -> Rubric:
         raise LabError(f"{path}: {fault.strerror}", USAGE) from fault
     except ValueError as fault:
         raise LabError(f"{path}: {fault}", USAGE) from fault
-    return rubric_of(path, table)
+    return rubric_of(path, table, groups)
 
 
-def rubric_of(path: str, table: dict[str, Any]) -> Rubric:
+def rubric_of(path: str, table: dict[str, Any], groups: Groups) -> Rubric:
     reader = TableReader(path, table)
     items = table.pop("item", None)
     name, full = reader.text("name"), reader.truth("full")
     reader.end()
     if not isinstance(items, list) or not items:
         raise LabError(f"{path}: the rubric has no [[item]]", USAGE)
-    read = tuple(item_of(f"{path}: item {number}", entry) for number, entry in enumerate(items, 1))
+    read = tuple(item_of(f"{path}: item {number}", entry, groups) for number, entry in enumerate(items, 1))
     return Rubric(name, full, read, os.path.dirname(path))
 
 
-def item_of(place: str, table: object) -> Item:
+def item_of(place: str, table: object, groups: Groups) -> Item:
     if not isinstance(table, dict):
         raise LabError(f"{place}: an item is a table", USAGE)
     reader = TableReader(place, table)
@@ -147,7 +134,7 @@ def item_of(place: str, table: object) -> Item:
         raise reader.fault("points", "above 0")
     if "obligations" in table:
         right = reader.text("reference") if "reference" in table else ""
-        task: Task = Obligations(reader.file("file"), labels_of(reader), right)
+        task: Task = Obligations(reader.file("file"), labels_of(reader, groups), right)
     elif "reference" in table:
         words = tuple((label, count) for label, count in reader.counts("words").items())
         registers = tuple(reader.texts("registers"))
@@ -164,13 +151,13 @@ def item_of(place: str, table: object) -> Item:
     return Item(name, points, task)
 
 
-def labels_of(reader: TableReader) -> tuple[str, ...]:
+def labels_of(reader: TableReader, groups: Groups) -> tuple[str, ...]:
     """Obligations by their labels, or by the names of groups."""
     labels: list[str] = []
     for text in reader.texts("obligations"):
-        if text not in GROUPS and not re.fullmatch(r"[OS]\d{1,2}", text):
-            raise reader.fault("obligations", f"labels such as O10, or of these groups: {', '.join(GROUPS)}")
-        labels += GROUPS.get(text, (text,))
+        if text not in groups and not re.fullmatch(r"[OS]\d{1,2}", text):
+            raise reader.fault("obligations", f"labels such as O10, or of these groups: {', '.join(groups)}")
+        labels += groups.get(text, (text,))
     return tuple(dict.fromkeys(labels))
 
 
