@@ -38,7 +38,7 @@ def test_explain(row, lab):
     assert said.startswith(f"no: {rule} is false somewhere.\n"), said
     joined = re.sub(r"\n {6,}", " ", said)
     signal = r"^    WRONG  (\w+) is .*\. It has to be .*\.$"
-    moves = r"^WRONG: (?:\w is stalled and bubbled|The instruction in D|An instruction|Nothing is ahead|The pipeline is empty)"
+    moves = r"^WRONG: (?:\w is stalled and bubbled|The instruction in D|D keeps|An instruction|Nothing is ahead|The pipeline is empty)"
     assert re.search(signal if rule[0] == "S" or int(rule[1:]) < 23 else moves, joined, re.M), said
     assert re.search(rf"^    mine\.hcl:\d+:\d+: {rule}: ", said, re.M), said
 

@@ -192,6 +192,9 @@ def test_messages():
     same(list(messages(refuted_with(motion=motion))), repairs)
     same(list(messages(refuted_with(motion={**motion, "invert": [], "f_pc": ["M_valA", "M_valE"]}))),
         [("f_pc", "It is lost. Letting f_pc be M_valA or M_valE repairs it.")])
+    pairs = {**motion, "invert": [], "invert_both": [["F_stall", "D_stall"]], "invert_and_f_pc": [{"invert": "D_bubble", "f_pc": "W_valM"}]}
+    same(list(messages(refuted_with(motion=pairs))), [("F_stall", "It is lost. Inverting F_stall and D_stall repairs it."),
+        ("D_bubble", "It is lost. Inverting D_bubble and letting f_pc be W_valM repairs it.")])
     # (no change repairs it: what the file asks for)
     still = {stage: {"stall": stage == "D", "bubble": stage == "E"} for stage in "FDEMW"}
     same(list(messages(refuted_with(motion={**motion, **still, "invert": []}))), [("D_stall", "It is lost. D_stall is 1."), ("E_bubble", "It is lost. E_bubble is 1.")])

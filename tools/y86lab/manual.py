@@ -98,7 +98,7 @@ TELL = Program(
     "says in sentences what is wrong with a file, a program or a run",
     "docs/TELL.md",
     (
-        Form("check", "seq|seqplus|pipe HCL", (FULL, JSON), "says why the check refuses a file, and what would repair it"),
+        Form("check", "seq|seqplus|pipe HCL", (FULL, JSON), "says why the check refuses a file, and what repairs it"),
         Form("fault", "FILE [seq|seqplus|pipe]", (FULL, MEM, JSON), "says all that is wrong with a file"),
         Form("program", "OBJ", (FULL, MEM, LIMIT), "says whether the theorem covers a program"),
         Form("run", "HCL OBJ", (FULL, MEM, LIMIT, JSON, UNCHECKED), "says where a program goes wrong on a pipeline"),

@@ -32,17 +32,28 @@ def messages(refuted: Json) -> Iterator[tuple[str, str]]:
         rest = f"It has to be {value_in_words(wanted)}." if wanted else "No value is right: D has to wait."
         yield each["signal"], f"{each['signal']} is {value_in_words(each['value'])}. {rest}"
     motion = refuted["motion"]
-    if not motion or wrong and not motion["invert"] and not motion["f_pc"]:
+    if not motion:
         return
     faults = " ".join(motion["faults"])
-    for signal in motion["invert"]:
-        yield signal, f"{faults} Inverting {signal} repairs it.".strip()
-    if motion["f_pc"]:
-        yield "f_pc", f"{faults} Letting f_pc be {' or '.join(motion['f_pc'])} repairs it.".strip()
-    if not motion["invert"] and not motion["f_pc"]:
+    repairs = list(repairs_of(motion))
+    for signal, change in repairs:
+        yield signal, f"{faults} {change} repairs it.".strip()
+    if not wrong and not repairs:
         asked = [f"{stage}_{name}" for stage in "FDEMW" for name in ("stall", "bubble") if motion[stage][name]]
         for signal in asked or [""]:
             yield signal, f"{faults} {signal} is 1." if signal else faults
+
+
+def repairs_of(motion: Json) -> Iterator[tuple[str, str]]:
+    """The changes that repair a motion, each with the signal at which it begins."""
+    for signal in motion["invert"]:
+        yield signal, f"Inverting {signal}"
+    if motion["f_pc"]:
+        yield "f_pc", f"Letting f_pc be {' or '.join(motion['f_pc'])}"
+    for first, second in motion.get("invert_both", []):
+        yield first, f"Inverting {first} and {second}"
+    for pair in motion.get("invert_and_f_pc", []):
+        yield pair["invert"], f"Inverting {pair['invert']} and letting f_pc be {pair['f_pc']}"
 
 
 def value_in_words(value: Optional[Json]) -> str:
