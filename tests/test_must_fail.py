@@ -1,0 +1,35 @@
+"""Each must-fail edit says which clause of which function refuses it, and that function's contract has the clause."""
+import glob
+import os
+import re
+
+from helpers.cases import cases
+from helpers.paths import TOP
+
+SHOWS = re.compile(r"shows: (?:clause `(?P<clause>\w+)`|the clause) of `(?P<function>\w+)`: \S.*")
+EDITS = sorted(glob.glob("crates/*/must-fail/*.edit", root_dir=TOP))
+
+
+def read(path):
+    with open(f"{TOP}/{path}", encoding="utf-8") as it:
+        return it.read()
+
+
+def contracts(crate, function):
+    """The clauses of each function of this name in a crate, by their names: that of a clause without a name is None."""
+    for path in sorted(glob.glob(f"crates/{crate}/src/**/*.rt", recursive=True, root_dir=TOP)):
+        for head in re.findall(rf"^[^\n/]*\bfn {function}\b(.*?)(?:^ *\{{|\{{\n|;\n)", read(path), flags=re.M | re.S):
+            yield [name or None for name in re.findall(r"^ *ensures (?:(\w+) )?\{", head, flags=re.M)]
+
+
+@cases((os.path.relpath(path, "crates").replace("/must-fail/", "/"), path) for path in EDITS)
+def test_edit(row):
+    _, path = row
+    crate = path.split("/")[1]
+    shows = SHOWS.fullmatch(read(path).split("\n", 1)[0])
+    assert shows, "an edit begins with a line: shows: clause `NAME` of `FUNCTION`: what is right"
+    assert any(shows["clause"] in clauses for clauses in contracts(crate, shows["function"]))
+
+
+def test_there_are_edits():
+    assert len(EDITS) > 100
