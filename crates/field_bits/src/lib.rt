@@ -1,5 +1,8 @@
 //! Fields of a control valuation as numbers that Boolean variables spell, as tables and as gates; and which numbers
 //! the fields of an instruction can have, by the columns of the instruction table.
+//!
+//! An example: an icode has four bits. That it is 6 is a gate over these: `!b0 && b1 && b2 && !b3`, the most
+//! significant bit first.
 #![tactic(auto, using(nets::proofs::Truths::begins_more))]
 
 mod fits;

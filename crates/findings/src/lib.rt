@@ -2,6 +2,9 @@
 //!
 //! A requirement names a signal and what it has to be. A finding says of a requirement what the file picks, whether that is right,
 //! and by which case of the signal's definition.
+//!
+//! An example: D holds `addq %rax, %rbx`, so `d_dstE` has to be the number of `%rbx`. A finding says that the file
+//! picks `D_rA`, that this is wrong, and that the second case of the definition was taken.
 #![tactic(auto)]
 
 mod columns;

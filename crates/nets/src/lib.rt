@@ -5,6 +5,9 @@
 //!
 //! A net can be copied with constants or other variables in the place of its variables: the diagrams of a copy may be far
 //! smaller than those of the net, and its valuations are those of the net.
+//!
+//! An example: `a && !b`, where `a` is variable 0 and `b` variable 1, is four gates: 0 is `Var(0)`, 1 is `Var(1)`, 2 is
+//! `Not(1)`, and 3 is `And(0, 2)`.
 #![tactic(auto, using(crate::proofs::Truths::begins_more, crate::proofs::Truths::begins_self))]
 
 mod builder;
