@@ -3,7 +3,6 @@ use Rattle.std.proofs.Common.{◌≡◌, ◌⊎◌, inl, inr, ℕ, ◌+◌, ◌<
 use Rattle.std.proofs.lemmas.Bool.{cases_lt, cases_eq, false≢true}
 use Rattle.std.proofs.lemmas.List.{get_or-set_other, get_or-set_same, get_or-replicate, get_or_past, length-replicate, length-set, get_or_append_left, get_or_push, length_push}
 use Rattle.nets.specs.Nets.{Gates, gate_value, truth, truths}
-use Rattle.nets.specs.declared.net.Gate.{Gate}
 use Rattle.nets.specs.declared.net.Gate.TheVariants as gate
 use Rattle.nets.specs.Substitution.{AreSources, source_truth}
 use Rattle.nets.specs.declared.copies.Source.{Source}

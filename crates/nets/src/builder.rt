@@ -68,8 +68,7 @@ impl NetBuilder {
         ensures begins { Begins self.old self.new }
         ensures made { IfOk result (λ g. IsGate self.new g (λ w. value)) }
     {
-        let g = self.net.add(Gate::Const(value))?;
-        Ok(g)
+        self.net.add(Gate::Const(value))
     }
 
     /// A gate that is true where variable `v` is 1.
@@ -78,8 +77,7 @@ impl NetBuilder {
         ensures begins { Begins self.old self.new }
         ensures made { IfOk result (λ g. IsGate self.new g (λ w. get_or w v false)) }
     {
-        let g = self.net.add(Gate::Var(v))?;
-        Ok(g)
+        self.net.add(Gate::Var(v))
     }
 
     /// A gate that is true where `a` is false.
@@ -92,7 +90,7 @@ impl NetBuilder {
         match self.net.gate(a) {
             Gate::Const(value) => self.constant(!value),
             Gate::Not(inner) => Ok(inner),
-            _ => self.add_not(a),
+            Gate::Var(_) | Gate::And(..) => self.add_not(a),
         }
     }
 
@@ -103,8 +101,7 @@ impl NetBuilder {
         ensures begins { Begins self.old self.new }
         ensures made { IfOk result (λ g. IsGate self.new g (λ w. not (truth self.old a w))) }
     {
-        let g = self.net.add(Gate::Not(a))?;
-        Ok(g)
+        self.net.add(Gate::Not(a))
     }
 
     /// A gate that is true where `a` and `b` are.
@@ -133,8 +130,7 @@ impl NetBuilder {
         ensures begins { Begins self.old self.new }
         ensures made { IfOk result (λ g. IsGate self.new g (λ w. truth self.old a w && truth self.old b w)) }
     {
-        let g = self.net.add(Gate::And(a, b))?;
-        Ok(g)
+        self.net.add(Gate::And(a, b))
     }
 
     /// A gate that is true where `a` or `b` is.
@@ -147,8 +143,7 @@ impl NetBuilder {
         let x = self.not(a)?;
         let y = self.not(b)?;
         let none = self.and(x, y)?;
-        let g = self.not(none)?;
-        Ok(g)
+        self.not(none)
     }
 
     /// A gate that is true where `a` and `b` have the same truth.
@@ -163,7 +158,6 @@ impl NetBuilder {
         }
         let x = implies(self, a, b)?;
         let y = implies(self, b, a)?;
-        let g = self.and(x, y)?;
-        Ok(g)
+        self.and(x, y)
     }
 }

@@ -16,8 +16,7 @@ pub fn choose(b: &mut NetBuilder, c: u64, x: u64, y: u64) -> Result<u64, Memory>
     let first = b.and(c, x)?;
     let other = b.not(c)?;
     let second = b.and(other, y)?;
-    let g = b.or(first, second)?;
-    Ok(g)
+    b.or(first, second)
 }
 
 /// `x` is true and `y` is false.
@@ -28,8 +27,7 @@ pub fn without(b: &mut NetBuilder, x: u64, y: u64) -> Result<u64, Memory>
     ensures made { IfOk result (λ g. IsGate b.new g (λ w. truth b.old x w && not (truth b.old y w))) }
 {
     let none = b.not(y)?;
-    let g = b.and(x, none)?;
-    Ok(g)
+    b.and(x, none)
 }
 
 /// `x` is false or `y` is true.
@@ -40,8 +38,7 @@ pub fn implies(b: &mut NetBuilder, x: u64, y: u64) -> Result<u64, Memory>
     ensures made { IfOk result (λ g. IsGate b.new g (λ w. not (truth b.old x w) || truth b.old y w)) }
 {
     let none = b.not(x)?;
-    let g = b.or(none, y)?;
-    Ok(g)
+    b.or(none, y)
 }
 
 /// `x` and `y` are not both true.
@@ -52,8 +49,7 @@ pub fn excludes(b: &mut NetBuilder, x: u64, y: u64) -> Result<u64, Memory>
     ensures made { IfOk result (λ g. IsGate b.new g (λ w. not (truth b.old x w && truth b.old y w))) }
 {
     let both = b.and(x, y)?;
-    let g = b.not(both)?;
-    Ok(g)
+    b.not(both)
 }
 
 /// `x` and `y` are both false.
@@ -64,6 +60,5 @@ pub fn neither(b: &mut NetBuilder, x: u64, y: u64) -> Result<u64, Memory>
     ensures made { IfOk result (λ g. IsGate b.new g (λ w. not (truth b.old x w || truth b.old y w))) }
 {
     let either = b.or(x, y)?;
-    let g = b.not(either)?;
-    Ok(g)
+    b.not(either)
 }

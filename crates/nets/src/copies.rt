@@ -30,14 +30,8 @@ fn source_gate(b: &mut NetBuilder, source: Source) -> Result<u64, Memory>
     ensures made { IfOk result (λ g. IsGate b.new g (λ u. source_truth u source)) }
 {
     match source {
-        Source::Const(value) => {
-            let g = b.constant(value)?;
-            Ok(g)
-        }
-        Source::Var(x) => {
-            let g = b.variable(x)?;
-            Ok(g)
-        }
+        Source::Const(value) => b.constant(value),
+        Source::Var(x) => b.variable(x),
     }
 }
 
@@ -58,25 +52,19 @@ fn copy_gate(
     ensures made { IfOk result (λ g. IsGate b.new g (λ u. gate_value (behind to.now u) (truths n.now (behind to.now u)) gate)) }
 {
     match gate {
-        Gate::Const(value) => {
-            let g = b.constant(value)?;
-            Ok(g)
-        }
+        Gate::Const(value) => b.constant(value),
         Gate::Var(x) => {
             let source = to[x as usize];
-            let g = source_gate(b, source)?;
-            Ok(g)
+            source_gate(b, source)
         }
         Gate::Not(a) => {
             let arg = made[a as usize];
-            let g = b.not(arg)?;
-            Ok(g)
+            b.not(arg)
         }
         Gate::And(x, y) => {
             let left = made[x as usize];
             let right = made[y as usize];
-            let g = b.and(left, right)?;
-            Ok(g)
+            b.and(left, right)
         }
     }
 }

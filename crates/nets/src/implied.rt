@@ -32,7 +32,7 @@ fn mark_parts(n: &Net, i: u64, marked: &mut [bool])
                 marked[a as usize] = true;
                 marked[b as usize] = true;
             }
-            _ => {}
+            Gate::Const(_) | Gate::Var(_) | Gate::Not(_) => {}
         }
     }
 }
@@ -64,7 +64,7 @@ fn implied(alloc: Global, n: &Net, gate: u64) -> Result<Vec<bool>, Memory>
     match n.gate(gate) {
         Gate::Const(true) => marks(alloc, n.len(), true),
         Gate::Not(a) => conjuncts(alloc, n, a),
-        _ => marks(alloc, n.len(), false),
+        Gate::Const(false) | Gate::Var(_) | Gate::And(..) => marks(alloc, n.len(), false),
     }
 }
 
@@ -107,9 +107,9 @@ fn settle(n: &Net, gate: u64, to: &mut [Source])
         Gate::Var(x) => to[x as usize] = Source::Const(true),
         Gate::Not(a) => match n.gate(a) {
             Gate::Var(x) => to[x as usize] = Source::Const(false),
-            _ => {}
+            Gate::Const(_) | Gate::Not(_) | Gate::And(..) => {}
         },
-        _ => {}
+        Gate::Const(_) | Gate::And(..) => {}
     }
 }
 

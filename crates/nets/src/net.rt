@@ -91,7 +91,6 @@ impl Net {
         ensures added { IfOk result (λ i. slice_get self.new.gates i ≡ Some gate) }
         ensures meaning { IfOk result (λ i. IsGate self.new i (λ w. gate_value w (truths self.new w) gate)) }
     {
-        let i = place(&mut self.gates, gate)?;
-        Ok(i)
+        place(&mut self.gates, gate)
     }
 }

@@ -1,6 +1,7 @@
 use Rattle.std.proofs.Common.{rules}
+use Rattle.std.proofs.lemmas.Result.{IfOk-weaker}
 use Rattle.nets.proofs.Truths.{made_not}
 use Rattle.nets.proofs.builder.NetBuilder.add_not.Goals as goal
 
 pub returns-clause-made : goal.returns-clause-made
-returns-clause-made c = made_not {a = c.args.a} (search rules) c.requires (search rules)
+returns-clause-made c = IfOk-weaker c.add.result _ _ (λ g made. made_not {a = c.args.a} (search rules) c.requires made) c.add.ensures.meaning

@@ -1,4 +1,5 @@
 use Rattle.std.proofs.Common.{rules, ◌≡◌, slice_get, Some, List, subst}
+use Rattle.std.proofs.lemmas.Result.{IfOk-weaker}
 use Rattle.nets.specs.Nets.{Gates, Begins, IsNet}
 use Rattle.nets.specs.declared.net.Gate.{Gate}
 use Rattle.nets.proofs.Added.{added_gate, added_begins, added_net}
@@ -9,14 +10,8 @@ returns-clause-begins c =
     subst (λ (n : Gates). Begins n record { vars = c.self.inside.vars; gates = c.place.new.gates.keys }) c.self.view_is
     (added_begins c.self.inside.vars c.self.inside.gates.keys c.place.new.gates.keys c.args.gate c.place.ensures.grows)
 
-pub returns-in_err-i-clause-begins : goal.returns-in_err-i-clause-begins
-returns-in_err-i-clause-begins c =
-    subst (λ (n : Gates). Begins n record { vars = c.self.inside.vars; gates = c.place.new.gates.keys }) c.self.view_is
-    (added_begins c.self.inside.vars c.self.inside.gates.keys c.place.new.gates.keys c.args.gate c.place.ensures.grows)
-
 pub returns-clause-meaning : goal.returns-clause-meaning
 returns-clause-meaning c =
     let gates : List Gate = c.place.new.gates.keys in
     let net : IsNet record { vars = c.self.inside.vars; gates = gates } = search (rules, added_net) in
-    let is : slice_get gates c.in_ok-i.i ≡ Some c.args.gate = search rules in
-    added_gate net is
+    IfOk-weaker c.place.result (λ i. slice_get gates i ≡ Some c.args.gate) _ (λ i is. added_gate net is) c.place.ensures.found
