@@ -18,8 +18,7 @@ pub fn at_most(b: &mut NetBuilder, p: FieldPlace, most: u64) -> Result<u64, Memo
     ensures begins { Begins b.old b.new }
     ensures made { IfOk result (λ g. IsGate b.new g (λ w. nat_le (spelt w p.first p.bits) most)) }
 {
-    let g = below(b, p, most + 1)?;
-    Ok(g)
+    below(b, p, most + 1)
 }
 
 /// The field is the number, and a test holds.
@@ -29,11 +28,9 @@ pub fn spells_if(b: &mut NetBuilder, holds: bool, p: FieldPlace, n: u64) -> Resu
     ensures made { IfOk result (λ g. IsGate b.new g (λ w. (spelt w p.first p.bits == n) && holds)) }
 {
     if holds {
-        let g = spells(b, p, n)?;
-        Ok(g)
+        spells(b, p, n)
     } else {
-        let never = b.constant(false)?;
-        Ok(never)
+        b.constant(false)
     }
 }
 
@@ -48,8 +45,7 @@ pub fn only_where(b: &mut NetBuilder, may: bool, live: u64, bit: FieldPlace) -> 
     if !may {
         return Ok(clear);
     }
-    let g = b.or(live, clear)?;
-    Ok(g)
+    b.or(live, clear)
 }
 
 /// A bit tells the condition of an ifun.
@@ -64,8 +60,7 @@ pub fn cnd_fits(b: &mut NetBuilder, ifun: FieldPlace, cnd: FieldPlace) -> Result
     let known = below(b, ifun, 7)?;
     let free = b.or(known, clear)?;
     let set = b.not(clear)?;
-    let g = choose(b, always, set, free)?;
-    Ok(g)
+    choose(b, always, set, free)
 }
 
 /// A bit tells the condition of an ifun where the gate is true and a test holds, and is 0 elsewhere.
@@ -88,8 +83,7 @@ pub fn cnd_where(
         return Ok(clear);
     }
     let fits = cnd_fits(b, ifun, cnd)?;
-    let g = choose(b, live, fits, clear)?;
-    Ok(g)
+    choose(b, live, fits, clear)
 }
 
 /// A register field of the register byte.
@@ -104,15 +98,12 @@ pub fn half_fits(
     ensures made { IfOk result (λ g. IsGate b.new g (λ w. spec.half_fits has_byte used (spelt w p.first p.bits))) }
 {
     if !has_byte {
-        let none = spells(b, p, 15)?;
-        return Ok(none);
+        return spells(b, p, 15);
     }
     if used {
-        let register = below(b, p, 15)?;
-        return Ok(register);
+        return below(b, p, 15);
     }
-    let any = b.constant(true)?;
-    Ok(any)
+    b.constant(true)
 }
 
 /// The number of the register that a column names.
@@ -165,8 +156,7 @@ pub fn destination_fits(
     }
     let lost = spells(b, cnd, 0)?;
     let none = spells(b, dst_e, 15)?;
-    let g = choose(b, lost, none, register)?;
-    Ok(g)
+    choose(b, lost, none, register)
 }
 
 /// What is fetched: a nop with an error, or an icode with an ifun that it takes.
@@ -190,8 +180,7 @@ pub fn reading_fits(
     let outside = spells_if(b, icode == 1, ifun, 0)?;
     let read = choose(b, fine, known, outside)?;
     let most = at_most(b, ifun, row.ifun_top)?;
-    let g = b.and(read, most)?;
-    Ok(g)
+    b.and(read, most)
 }
 
 /// The status is one that goes with the icode.
@@ -212,8 +201,7 @@ pub fn stat_fits(
     let outside = spells_if(b, (icode == 1) | faulted, stat, 3)?;
     let inside = b.or(fine, outside)?;
     let invalid = spells_if(b, icode == 15, stat, 4)?;
-    let g = b.or(inside, invalid)?;
-    Ok(g)
+    b.or(inside, invalid)
 }
 
 /// An instruction outside the memory has ifun 0.
@@ -225,8 +213,7 @@ fn blank_outside(b: &mut NetBuilder, stat: FieldPlace, ifun: FieldPlace) -> Resu
 {
     let outside = spells(b, stat, 3)?;
     let zero = spells(b, ifun, 0)?;
-    let g = implies(b, outside, zero)?;
-    Ok(g)
+    implies(b, outside, zero)
 }
 
 /// Status and ifun of an instruction of this icode behind its fetch.
@@ -249,6 +236,5 @@ pub fn code_fits(
     let most = at_most(b, ifun, row.ifun_top)?;
     let both = b.and(status, most)?;
     let blank = blank_outside(b, stat, ifun)?;
-    let g = b.and(both, blank)?;
-    Ok(g)
+    b.and(both, blank)
 }

@@ -26,8 +26,7 @@ fn bits_same(b: &mut NetBuilder, v: u32, u: u32) -> Result<u64, Memory>
 {
     let x = b.variable(v)?;
     let y = b.variable(u)?;
-    let g = b.equal(x, y)?;
-    Ok(g)
+    b.equal(x, y)
 }
 
 /// The field is the number.
@@ -37,16 +36,14 @@ pub fn spells(b: &mut NetBuilder, p: FieldPlace, n: u64) -> Result<u64, Memory>
     ensures made { IfOk result (λ g. IsGate b.new g (λ w. spelt w p.first p.bits == n)) }
 {
     if p.bits == 0 {
-        let none = b.constant(n == 0)?;
-        return Ok(none);
+        return b.constant(n == 0);
     }
     let _vars = b.vars();
     let bits = p.bits - 1;
     let last = bit_is(b, p.first + bits, n % 2 == 1)?;
     let first = p.first;
     let rest = spells(b, FieldPlace { first, bits }, n / 2)?;
-    let g = b.and(last, rest)?;
-    Ok(g)
+    b.and(last, rest)
 }
 
 /// The field is below the number.
@@ -60,8 +57,7 @@ pub fn below(b: &mut NetBuilder, p: FieldPlace, n: u64) -> Result<u64, Memory>
     }
     let here = spells(b, p, n - 1)?;
     let rest = below(b, p, n - 1)?;
-    let g = b.or(here, rest)?;
-    Ok(g)
+    b.or(here, rest)
 }
 
 /// Two fields have one number.
@@ -72,12 +68,10 @@ pub fn same(b: &mut NetBuilder, p: FieldPlace, q: FieldPlace) -> Result<u64, Mem
     ensures made { IfOk result (λ g. IsGate b.new g (λ w. spelt w p.first p.bits == spelt w q.first q.bits)) }
 {
     if p.bits == 0 {
-        let zero = spells(b, q, 0)?;
-        return Ok(zero);
+        return spells(b, q, 0);
     }
     if q.bits == 0 {
-        let zero = spells(b, p, 0)?;
-        return Ok(zero);
+        return spells(b, p, 0);
     }
     let _vars = b.vars();
     let bits_p = p.bits - 1;
@@ -94,8 +88,7 @@ pub fn same(b: &mut NetBuilder, p: FieldPlace, q: FieldPlace) -> Result<u64, Mem
             bits: bits_q,
         },
     )?;
-    let g = b.and(last, rest)?;
-    Ok(g)
+    b.and(last, rest)
 }
 
 /// Where the field is the number, the gate is true.
@@ -106,6 +99,5 @@ pub fn here(b: &mut NetBuilder, p: FieldPlace, n: u64, x: u64) -> Result<u64, Me
     ensures made { IfOk result (λ g. IsGate b.new g (λ w. not (spelt w p.first p.bits == n) || truth b.old x w)) }
 {
     let is = spells(b, p, n)?;
-    let g = implies(b, is, x)?;
-    Ok(g)
+    implies(b, is, x)
 }
