@@ -450,38 +450,6 @@ static SEQ_PLUS_LAST: [Obligation; 1] = [Obligation {
     book: "section 4.5.1",
 }];
 
-fn fetch() -> &'static [Obligation] {
-    &FETCH
-}
-
-fn decode() -> &'static [Obligation] {
-    &DECODE
-}
-
-fn execute() -> &'static [Obligation] {
-    &EXECUTE
-}
-
-fn memory() -> &'static [Obligation] {
-    &MEMORY
-}
-
-fn motion() -> &'static [Obligation] {
-    &MOTION
-}
-
-fn seq_first() -> &'static [Obligation] {
-    &SEQ_FIRST
-}
-
-fn seq_last() -> &'static [Obligation] {
-    &SEQ_LAST
-}
-
-fn seq_plus_last() -> &'static [Obligation] {
-    &SEQ_PLUS_LAST
-}
-
 /// The obligation with this place in a group whose first one has this number.
 fn from(group: &'static [Obligation], first: usize, number: usize) -> Option<&'static Obligation> {
     group.get(number.wrapping_sub(first))
@@ -490,15 +458,15 @@ fn from(group: &'static [Obligation], first: usize, number: usize) -> Option<&'s
 /// The obligation of PIPE with this number.
 fn pipe_obligation(number: usize) -> Option<&'static Obligation> {
     if number <= 5 {
-        from(fetch(), 1, number)
+        from(&FETCH, 1, number)
     } else if number <= 11 {
-        from(decode(), 6, number)
+        from(&DECODE, 6, number)
     } else if number <= 17 {
-        from(execute(), 12, number)
+        from(&EXECUTE, 12, number)
     } else if number <= 22 {
-        from(memory(), 18, number)
+        from(&MEMORY, 18, number)
     } else {
-        from(motion(), 23, number)
+        from(&MOTION, 23, number)
     }
 }
 
@@ -508,11 +476,11 @@ pub fn obligation_at(path: Path, number: u32) -> Option<&'static Obligation> {
     if path == Path::Pipe {
         pipe_obligation(place)
     } else if place <= 7 {
-        from(seq_first(), 1, place)
+        from(&SEQ_FIRST, 1, place)
     } else if path == Path::SeqPlus && place == 16 {
-        from(seq_plus_last(), 16, place)
+        from(&SEQ_PLUS_LAST, 16, place)
     } else {
-        from(seq_last(), 8, place)
+        from(&SEQ_LAST, 8, place)
     }
 }
 
