@@ -16,8 +16,7 @@ fn good_behind_wrong(b: &mut NetBuilder, v: &ViewGates) -> Result<u64, Memory>
     ensures begins { Begins b.old b.new }
     ensures made { IfOk result (λ g. IsGate b.new g (λ w. spec.no_good_behind_wrong (view_at b.old w v.now))) }
 {
-    let g = excludes(b, v.e.wrong, v.d.good)?;
-    Ok(g)
+    excludes(b, v.e.wrong, v.d.good)
 }
 
 /// What M has, no good instruction in D or E is behind.
@@ -28,8 +27,7 @@ fn youngest_in_m(b: &mut NetBuilder, v: &ViewGates, has: u64) -> Result<u64, Mem
     ensures made { IfOk result (λ g. IsGate b.new g (λ w. not (truth b.old has w && spec.behind_m (view_at b.old w v.now)))) }
 {
     let behind = b.or(v.d.good, v.e.good)?;
-    let g = excludes(b, has, behind)?;
-    Ok(g)
+    excludes(b, has, behind)
 }
 
 /// What W has, no good instruction in D, E or M is behind.
@@ -41,8 +39,7 @@ fn youngest_in_w(b: &mut NetBuilder, v: &ViewGates, has: u64) -> Result<u64, Mem
 {
     let behind_m = b.or(v.d.good, v.e.good)?;
     let behind = b.or(behind_m, v.m.good)?;
-    let g = excludes(b, has, behind)?;
-    Ok(g)
+    excludes(b, has, behind)
 }
 
 /// No good instruction stops but the youngest.
@@ -55,8 +52,7 @@ fn one_stops(b: &mut NetBuilder, v: &ViewGates) -> Result<u64, Memory>
     let m = youngest_in_m(b, v, v.m.stops)?;
     let w = youngest_in_w(b, v, v.w.stops)?;
     let both = b.and(m, w)?;
-    let all = b.and(e, both)?;
-    Ok(all)
+    b.and(e, both)
 }
 
 /// Wrong instructions may stand behind the youngest good one.
@@ -69,8 +65,7 @@ fn reason(b: &mut NetBuilder, v: &ViewGates) -> Result<u64, Memory>
     let e_stops = without(b, v.e.stops, v.e.ret)?;
     let e = b.or(e_stops, v.e.missed)?;
     let m = without(b, v.m.stops, v.m.ret)?;
-    let reason = of_youngest(b, v, d, e, m, v.w.stops)?;
-    Ok(reason)
+    of_youngest(b, v, d, e, m, v.w.stops)
 }
 
 /// D and E are wrong only where that has a reason.
@@ -81,8 +76,7 @@ fn wrong_reasons(b: &mut NetBuilder, v: &ViewGates) -> Result<u64, Memory>
 {
     let reason = reason(b, v)?;
     let wrong = b.or(v.d.wrong, v.e.wrong)?;
-    let g = implies(b, wrong, reason)?;
-    Ok(g)
+    implies(b, wrong, reason)
 }
 
 /// A missed jump is the youngest good instruction: in E, and in M unless `je`.
@@ -96,8 +90,7 @@ fn missed_jumps(b: &mut NetBuilder, v: &ViewGates, je: bool) -> Result<u64, Memo
         return Ok(e);
     }
     let m = youngest_in_m(b, v, v.m.missed)?;
-    let both = b.and(e, m)?;
-    Ok(both)
+    b.and(e, m)
 }
 
 /// A ret is the youngest good instruction: in E and M, and in W unless `rm`.
@@ -113,8 +106,7 @@ fn rets(b: &mut NetBuilder, v: &ViewGates, rm: bool) -> Result<u64, Memory>
         return Ok(both);
     }
     let w = youngest_in_w(b, v, v.w.ret)?;
-    let all = b.and(both, w)?;
-    Ok(all)
+    b.and(both, w)
 }
 
 /// The last three of the five.
@@ -128,8 +120,7 @@ fn reasons_and_turns(b: &mut NetBuilder, v: &ViewGates, je: bool, rm: bool) -> R
     let jumps = missed_jumps(b, v, je)?;
     let rets = rets(b, v, rm)?;
     let last_two = b.and(jumps, rets)?;
-    let all = b.and(reasons, last_two)?;
-    Ok(all)
+    b.and(reasons, last_two)
 }
 
 /// The view is lawful, in a file that fetches early from E (`je`) or M (`rm`) or not.
@@ -142,8 +133,7 @@ pub fn lawful_gate(b: &mut NetBuilder, v: &ViewGates, je: bool, rm: bool) -> Res
     let second = one_stops(b, v)?;
     let rest = reasons_and_turns(b, v, je, rm)?;
     let last_two = b.and(second, rest)?;
-    let all = b.and(first, last_two)?;
-    Ok(all)
+    b.and(first, last_two)
 }
 
 /// The instruction goes on where it was predicted to.
@@ -154,8 +144,7 @@ fn follows(b: &mut NetBuilder, s: &SlotGates) -> Result<u64, Memory>
 {
     let turns = b.or(s.ret, s.missed)?;
     let any = b.or(s.stops, turns)?;
-    let follows = b.not(any)?;
-    Ok(follows)
+    b.not(any)
 }
 
 /// A gate of the youngest good instruction: one for each of D, E and M, and one for W and where there is none.
@@ -177,8 +166,7 @@ pub fn of_youngest(
 {
     let from_m = choose(b, v.m.good, m, w)?;
     let from_e = choose(b, v.e.good, e, from_m)?;
-    let from_d = choose(b, v.d.good, d, from_e)?;
-    Ok(from_d)
+    choose(b, v.d.good, d, from_e)
 }
 
 /// The predicted PC is that of the next instruction.
@@ -191,8 +179,7 @@ pub fn path_gate(b: &mut NetBuilder, v: &ViewGates) -> Result<u64, Memory>
     let e = follows(b, &v.e)?;
     let m = follows(b, &v.m)?;
     let w = follows(b, &v.w)?;
-    let g = of_youngest(b, v, d, e, m, w)?;
-    Ok(g)
+    of_youngest(b, v, d, e, m, w)
 }
 
 /// The youngest good instruction stops.
@@ -201,6 +188,5 @@ pub fn stops_gate(b: &mut NetBuilder, v: &ViewGates) -> Result<u64, Memory>
     ensures begins { Begins b.old b.new }
     ensures made { IfOk result (λ g. IsGate b.new g (λ w. spec.youngest_stops (view_at b.old w v.now))) }
 {
-    let g = of_youngest(b, v, v.d.stops, v.e.stops, v.m.stops, v.w.stops)?;
-    Ok(g)
+    of_youngest(b, v, v.d.stops, v.e.stops, v.m.stops, v.w.stops)
 }

@@ -14,8 +14,7 @@ pub fn load_gate(b: &mut NetBuilder, k: &MoverGates) -> Result<u64, Memory>
     ensures begins { Begins b.old b.new }
     ensures made { IfOk result (λ g. IsGate b.new g (λ w. spec.loads (mover_at b.old w k.now))) }
 {
-    let loads = neither(b, k.stall, k.bubble)?;
-    Ok(loads)
+    neither(b, k.stall, k.bubble)
 }
 
 /// A bit of a register after a cycle: where it stays the old one, where it is bubbled false, else the loaded one.
@@ -27,8 +26,7 @@ fn moved_bit(b: &mut NetBuilder, k: &MoverGates, old: u64, loaded: u64) -> Resul
     ensures made { IfOk result (λ g. IsGate b.new g (λ w. spec.moved_truth (mover_at b.old w k.now) (truth b.old old w) (truth b.old loaded w))) }
 {
     let comes = without(b, loaded, k.bubble)?;
-    let moved = choose(b, k.stall, old, comes)?;
-    Ok(moved)
+    choose(b, k.stall, old, comes)
 }
 
 /// What stands in a register after a cycle.

@@ -19,8 +19,7 @@ pub fn leaves_gate(b: &mut NetBuilder, k: &MoversGates, v: &ViewGates) -> Result
 {
     let e_loads = load_gate(b, &k.e)?;
     let goes = without(b, e_loads, k.d.stall)?;
-    let leaves = b.and(v.d.good, goes)?;
-    Ok(leaves)
+    b.and(v.d.good, goes)
 }
 
 /// The register isn't stalled and bubbled.
@@ -29,8 +28,7 @@ fn one_way(b: &mut NetBuilder, k: &MoverGates) -> Result<u64, Memory>
     ensures begins { Begins b.old b.new }
     ensures made { IfOk result (λ g. IsGate b.new g (λ w. spec.one_way (mover_at b.old w k.now))) }
 {
-    let g = excludes(b, k.stall, k.bubble)?;
-    Ok(g)
+    excludes(b, k.stall, k.bubble)
 }
 
 /// Neither E nor M nor W is stalled and bubbled.
@@ -43,8 +41,7 @@ fn last_one_way(b: &mut NetBuilder, k: &MoversGates) -> Result<u64, Memory>
     let m = one_way(b, &k.m)?;
     let w = one_way(b, &k.w)?;
     let last_two = b.and(m, w)?;
-    let all = b.and(e, last_two)?;
-    Ok(all)
+    b.and(e, last_two)
 }
 
 /// No register is stalled and bubbled.
@@ -57,8 +54,7 @@ pub fn obligation_23(b: &mut NetBuilder, k: &MoversGates) -> Result<u64, Memory>
     let d = one_way(b, &k.d)?;
     let rest = last_one_way(b, k)?;
     let last = b.and(d, rest)?;
-    let all = b.and(f, last)?;
-    Ok(all)
+    b.and(f, last)
 }
 
 /// A good instruction goes on: the next register loads, and its own isn't stalled.
@@ -71,8 +67,7 @@ fn passes(b: &mut NetBuilder, next: &MoverGates, own: &MoverGates, good: u64) ->
 {
     let loads = load_gate(b, next)?;
     let goes = without(b, loads, own.stall)?;
-    let g = implies(b, good, goes)?;
-    Ok(g)
+    implies(b, good, goes)
 }
 
 /// A good D leaves, or it stays and E doesn't load.
@@ -86,8 +81,7 @@ fn goes_or_stays(b: &mut NetBuilder, k: &MoversGates, v: &ViewGates) -> Result<u
     let e_loads = load_gate(b, &k.e)?;
     let stays = without(b, k.d.stall, e_loads)?;
     let either = b.or(leaves, stays)?;
-    let g = implies(b, v.d.good, either)?;
-    Ok(g)
+    implies(b, v.d.good, either)
 }
 
 /// A good instruction is neither lost nor doubled.
@@ -103,8 +97,7 @@ pub fn obligation_24(b: &mut NetBuilder, k: &MoversGates, v: &ViewGates) -> Resu
     let d = goes_or_stays(b, k, v)?;
     let last_two = b.and(e, d)?;
     let last_three = b.and(m, last_two)?;
-    let all = b.and(w, last_three)?;
-    Ok(all)
+    b.and(w, last_three)
 }
 
 /// Where the path will hold: a good fetch that entered D has loaded F, and F stayed on the path where none did.
@@ -127,8 +120,7 @@ fn path_kept(
     let f_loads = load_gate(b, &k.f)?;
     let stayed = b.and(k.f.stall, now)?;
     let either = choose(b, entered, f_loads, stayed)?;
-    let g = implies(b, later, either)?;
-    Ok(g)
+    implies(b, later, either)
 }
 
 /// The next view is lawful, nothing wrong comes to M or W, and the path is kept.
@@ -156,8 +148,7 @@ fn next_right(
     let later = path_gate(b, next)?;
     let kept = path_kept(b, k, good, now, later)?;
     let last_two = b.and(none_wrong, kept)?;
-    let all = b.and(lawful, last_two)?;
-    Ok(all)
+    b.and(lawful, last_two)
 }
 
 /// The next view is lawful, nothing wrong comes to M or W, and the path is kept: where the fetch is good or not, and
@@ -180,8 +171,7 @@ pub fn obligation_25(
 {
     let fetched = fetched_slot(b, good, facts)?;
     let next = move_view(b, k, &fetched, v)?;
-    let g = next_right(b, k, good, v, &next, je, rm)?;
-    Ok(g)
+    next_right(b, k, good, v, &next, je, rm)
 }
 
 /// Bubbles stand in E, M and W.
@@ -194,8 +184,7 @@ fn drained(b: &mut NetBuilder, v: &ViewGates) -> Result<u64, Memory>
     let m = neither(b, v.m.good, v.m.wrong)?;
     let w = neither(b, v.w.good, v.w.wrong)?;
     let last_two = b.and(m, w)?;
-    let all = b.and(e, last_two)?;
-    Ok(all)
+    b.and(e, last_two)
 }
 
 /// Behind empty stages a good D leaves.
@@ -208,8 +197,7 @@ pub fn obligation_26(b: &mut NetBuilder, k: &MoversGates, v: &ViewGates) -> Resu
     let drained = drained(b, v)?;
     let here = b.and(v.d.good, drained)?;
     let leaves = leaves_gate(b, k, v)?;
-    let g = implies(b, here, leaves)?;
-    Ok(g)
+    implies(b, here, leaves)
 }
 
 /// An empty pipeline loads D.
@@ -223,6 +211,5 @@ pub fn obligation_27(b: &mut NetBuilder, k: &MoversGates, v: &ViewGates) -> Resu
     let drained = drained(b, v)?;
     let here = b.and(d, drained)?;
     let loads = load_gate(b, &k.d)?;
-    let g = implies(b, here, loads)?;
-    Ok(g)
+    implies(b, here, loads)
 }
