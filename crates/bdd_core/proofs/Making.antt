@@ -1,5 +1,5 @@
 -- The node that decides a variable between two diagrams.
-use Rattle.std.proofs.Common.{◌≡◌, ◌⊎◌, inl, inr, ℕ, ◌+◌, ◌-◌, ◌<◌, ◌≤◌, true, false, List, [], ◌∷◌, ◌++◌, length, take, slice_get, Some, sym, ap, ◌∙◌, subst, arith}
+use Rattle.std.proofs.Common.{◌≡◌, ◌⊎◌, inl, inr, ℕ, ◌+◌, ◌-◌, ◌<◌, ◌≤◌, true, false, List, [], ◌∷◌, ◌++◌, length, take, slice_get, Some, Result, Ok, Err, IfOk, OnErr, sym, ap, ◌∙◌, subst, arith}
 use Rattle.std.proofs.lemmas.Bool.{cases_lt}
 use Rattle.std.proofs.lemmas.List.{length_push, take-append-le, take_all, get_or_append_left, get_or_push}
 use Rattle.std.proofs.lemmas.Option.{slice_get_within, get_or_from_slice_get, slice_get-get_or}
@@ -7,7 +7,7 @@ use Rattle.bdd_core.specs.Diagrams.{Diagrams, at, count, IsBranch, Keeps}
 use Rattle.bdd_core.specs.Answers.{IsMade}
 use Rattle.bdd_core.specs.Tables.{IsTable, IsUnique, IsNewIn, AreNodes}
 use Rattle.bdd_core.proofs.Canonical.{part_here, part_behind}
-use Rattle.bdd_core.proofs.Truths.{at_list, at_last}
+use Rattle.bdd_core.proofs.Truths.{at_list, at_last, keeps_self}
 use Rattle.bdd_core.proofs.Adding.{pushed_well, pushed_keeps}
 use Rattle.bdd_core.proofs.Tables.{table_unique}
 use Rattle.bdd_core.specs.declared.nodes.Decision.{Decision}
@@ -84,6 +84,11 @@ pub keeps_pushed : (old new : Diagrams) (c : Decision) → new.vars ≡ old.vars
 keeps_pushed old new c v n =
     let same : record { vars = old.vars; nodes = old.nodes ++ c ∷ [] } ≡ new = λ i. record { vars = sym v i; nodes = sym n i } in
     subst (Keeps old) same (pushed_keeps old c)
+
+-- a node that may be put behind the others
+pub keeps_added : (old new : Diagrams) (c : Decision) {E : Type 0} (r : Result ℕ E) → new.vars ≡ old.vars → IfOk r (λ d. (d ≡ count old) × (new.nodes ≡ old.nodes ++ c ∷ [])) → OnErr r (new ≡ old) → Keeps old new
+keeps_added old new c (Ok d) v added same = keeps_pushed old new c v added.1
+keeps_added old new c (Err e) v added same = subst (Keeps old) (sym same) (keeps_self old)
 
 -- nodes with another table
 pub nodes_table : {vars : ℕ} {list : List Decision} {old new : List ℕ} → AreNodes vars list old → IsTable list new → AreNodes vars list new

@@ -85,7 +85,7 @@ impl Store {
         ensures well { IsWell self.new }
         ensures answer { IfOk result (IsAnswer self.new key) }
     {
-        let _ = self.vars();
+        let _ = self.vars(); // brings the invariant of the store
         if let Some(d) = settled(key) {
             return Ok(d);
         }
@@ -118,7 +118,7 @@ impl Store {
         ensures well { IsWell self.new }
         ensures answer { IfOk result (IsAnswer self.new key) }
     {
-        let _ = self.vars();
+        let _ = self.vars(); // brings the invariant of the store
         let d = self.make(split.var, low, high)?;
         self.keep(key, d);
         Ok(d)

@@ -19,30 +19,25 @@ impl Store {
         ensures well { IsWell self.new }
         ensures made { IfOk result (IsMadeOf self.old self.new made.now gate) }
     {
-        let _ = self.vars();
+        let _ = self.vars(); // brings the invariant of the store
         match gate {
             Gate::Const(false) => Ok(0),
             Gate::Const(true) => Ok(1),
-            Gate::Var(x) => {
-                let d = self.make(x, 0, 1)?;
-                Ok(d)
-            }
+            Gate::Var(x) => self.make(x, 0, 1),
             Gate::Not(a) => {
                 let arg = made[a as usize];
-                let d = self.apply(Key {
+                self.apply(Key {
                     op: Op::Not,
                     left: arg,
                     right: arg,
-                })?;
-                Ok(d)
+                })
             }
             Gate::And(a, b) => {
-                let d = self.apply(Key {
+                self.apply(Key {
                     op: Op::And,
                     left: made[a as usize],
                     right: made[b as usize],
-                })?;
-                Ok(d)
+                })
             }
         }
     }

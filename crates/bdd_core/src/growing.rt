@@ -73,7 +73,7 @@ impl Store {
         ensures all { KnowsAll built.old built.new }
         ensures added { OnOk result (get_or built.new.known i false ≡ true) }
     {
-        let _ = self.vars();
+        let _ = self.vars(); // brings the invariant of the store
         let d = self.add_gate(built.made.as_slice(), n.gate(i))?;
         built.made[i as usize] = d;
         built.known[i as usize] = true;
@@ -100,7 +100,7 @@ impl Store {
         ensures all { KnowsAll built.old built.new }
         ensures before { OnOk result (KnowsBefore needed.now built.new (i + 1)) }
     {
-        let _ = self.vars();
+        let _ = self.vars(); // brings the invariant of the store
         if !needed[i as usize] || built.known[i as usize] {
             return Ok(());
         }
@@ -119,7 +119,7 @@ impl Store {
         ensures all { KnowsAll built.old built.new }
         ensures added { OnOk result (get_or built.new.known gate false ≡ true) }
     {
-        let _ = self.vars();
+        let _ = self.vars(); // brings the invariant of the store
         let needed = cone(self.allocator(), n, gate)?;
         let mut i = 0;
         while i <= gate {
@@ -141,7 +141,7 @@ impl Store {
         ensures all { KnowsAll built.old built.new }
         ensures added { OnOk result (get_or built.new.known gate false ≡ true) }
     {
-        let _ = self.vars();
+        let _ = self.vars(); // brings the invariant of the store
         if built.known[gate as usize] {
             return Ok(());
         }
@@ -164,7 +164,7 @@ impl Store {
         ensures built { IfOk result (IsBuilt self.new n.now gate) }
         ensures added { IfOk result (λ d. get_or built.new.known gate false ≡ true) }
     {
-        let _ = self.vars();
+        let _ = self.vars(); // brings the invariant of the store
         self.ready()?;
         self.add_for(n, built, gate)?;
         Ok(Dia {

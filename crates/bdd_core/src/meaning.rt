@@ -14,7 +14,7 @@ impl Store {
         requires { IsDia self.now d }
         ensures { IsNode self.now d result }
     {
-        let _ = self.vars();
+        let _ = self.vars(); // brings the invariant of the store
         if d.id == 0 {
             return Node::False;
         }
@@ -38,7 +38,7 @@ impl Store {
         requires { IsDia self.now d }
         ensures { IsTrue result ↔ Always self.now d true }
     {
-        let _ = self.vars();
+        let _ = self.vars(); // brings the invariant of the store
         d.id == 1
     }
 
@@ -48,7 +48,7 @@ impl Store {
         requires right { IsDia self.now b }
         ensures { IsTrue result ↔ ((v : List Bool) → length v ≡ self.now.vars → truth_of self.now a v ≡ truth_of self.now b v) }
     {
-        let _ = self.vars();
+        let _ = self.vars(); // brings the invariant of the store
         a.id == b.id
     }
 

@@ -135,10 +135,7 @@ impl Nodes {
         let c = Decision { var, low, high };
         match self.find(c) {
             Some(d) => Ok(d),
-            None => {
-                let d = self.add(c)?;
-                Ok(d)
-            }
+            None => self.add(c),
         }
     }
 }

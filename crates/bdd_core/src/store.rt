@@ -90,7 +90,7 @@ impl Store {
         ensures kept { Keeps self.old self.new }
         ensures well { IsWell self.new }
     {
-        let _ = self.nodes.vars();
+        let _ = self.nodes.vars(); // brings the invariant of the nodes
         if self.results.is_empty() {
             self.results = blanks(self.alloc, FIRST_RESULTS)?;
         }
@@ -104,7 +104,7 @@ impl Store {
         ensures { self.new ≡ self.old }
     {
         let size = self.results.len();
-        let _ = self.nodes.vars();
+        let _ = self.nodes.vars(); // brings the invariant of the nodes
         if size < MOST_RESULTS && size < self.nodes.len() {
             if let Ok(results) = blanks(self.alloc, size * 4) {
                 self.results = results;
@@ -127,7 +127,7 @@ impl Store {
         ensures node { result ≡ at self.now d }
         ensures well { IsWell self.now }
     {
-        let _ = self.nodes.vars();
+        let _ = self.nodes.vars(); // brings the invariant of the nodes
         self.nodes.node(d)
     }
 
@@ -143,9 +143,9 @@ impl Store {
         ensures well { IsWell self.new }
         ensures made { IfOk result (IsMade self.new var low high) }
     {
-        let _ = self.nodes.vars();
+        let _ = self.nodes.vars(); // brings the invariant of the nodes
         let d = self.nodes.make(var, low, high);
-        let _ = self.nodes.vars();
+        let _ = self.nodes.vars(); // brings the invariant of the nodes
         d
     }
 
