@@ -60,8 +60,7 @@ fn rule_told<N: Numbered>(
 {
     let asked = rules.demand(b, ctl, number)?;
     let outside = b.not(fits)?;
-    let g = b.or(outside, asked)?;
-    Ok(g)
+    b.or(outside, asked)
 }
 
 /// The rules in their order.
