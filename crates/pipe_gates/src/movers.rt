@@ -56,6 +56,5 @@ pub fn none_leaves(b: &mut NetBuilder, ctl: &Controls, y: &ViewGates) -> Result<
 {
     let movers = movers_of(ctl);
     let goes = leaves_gate(b, &movers, y)?;
-    let g = b.not(goes)?;
-    Ok(g)
+    b.not(goes)
 }

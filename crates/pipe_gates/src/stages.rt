@@ -32,8 +32,7 @@ fn stops(b: &mut NetBuilder, stat: FieldPlace, fault: FieldPlace) -> Result<u64,
     let running = spells(b, stat, 1)?;
     let clear = spells(b, fault, 0)?;
     let goes_on = b.and(running, clear)?;
-    let g = b.not(goes_on)?;
-    Ok(g)
+    b.not(goes_on)
 }
 
 /// A conditional jump that goes on.
@@ -51,8 +50,7 @@ pub fn jump(
 {
     let running = spells(b, stat, 1)?;
     let branch = row_has(b, v, icode, RowTest::Jump)?;
-    let g = b.and(running, branch)?;
-    Ok(g)
+    b.and(running, branch)
 }
 
 /// A jump's way isn't the predicted one.
@@ -75,35 +73,58 @@ fn other_way(
     let ahead = spells(b, back, 0)?;
     let predicted = choose(b, ahead, forward, backward)?;
     let passed = spells(b, taken, 0)?;
-    let g = b.equal(passed, predicted)?;
-    Ok(g)
+    b.equal(passed, predicted)
 }
 
-/// A jump that takes another way than predicted.
-fn misses(
-    b: &mut NetBuilder,
-    v: Variant,
-    s: &Settings,
+/// The fields of a stage that tell whether its jump was predicted well.
+#[derive(Clone, Copy, Debug)]
+struct JumpFields {
     stat: FieldPlace,
     icode: FieldPlace,
     ifun: FieldPlace,
     taken: FieldPlace,
     back: FieldPlace,
-) -> Result<u64, Memory>
-    requires stat_place { stat.first + stat.bits ≤ b.old.vars }
-    requires icode_place { icode.first + icode.bits ≤ b.old.vars }
-    requires bits { icode.bits ≡ 4 }
-    requires ifun_place { ifun.first + ifun.bits ≤ b.old.vars }
-    requires taken_place { taken.first + taken.bits ≤ b.old.vars }
-    requires back_place { back.first + back.bits ≤ b.old.vars }
+}
+
+const JUMP_IN_D: JumpFields = JumpFields {
+    stat: D_STAT,
+    icode: D_ICODE,
+    ifun: D_IFUN,
+    taken: D_TAKEN,
+    back: D_BACK,
+};
+
+const JUMP_IN_E: JumpFields = JumpFields {
+    stat: E_STAT,
+    icode: E_ICODE,
+    ifun: E_IFUN,
+    taken: E_CND,
+    back: E_BACK,
+};
+
+const JUMP_IN_M: JumpFields = JumpFields {
+    stat: M_STAT,
+    icode: M_ICODE,
+    ifun: M_IFUN,
+    taken: M_CND,
+    back: M_BACK,
+};
+
+/// A jump that takes another way than predicted.
+fn misses(b: &mut NetBuilder, v: Variant, s: &Settings, at: JumpFields) -> Result<u64, Memory>
+    requires stat_place { at.stat.first + at.stat.bits ≤ b.old.vars }
+    requires icode_place { at.icode.first + at.icode.bits ≤ b.old.vars }
+    requires bits { at.icode.bits ≡ 4 }
+    requires ifun_place { at.ifun.first + at.ifun.bits ≤ b.old.vars }
+    requires taken_place { at.taken.first + at.taken.bits ≤ b.old.vars }
+    requires back_place { at.back.first + at.back.bits ≤ b.old.vars }
     ensures begins { Begins b.old b.new }
-    ensures made { IfOk result (λ g. IsGate b.new g (λ w.
-        spec.misses v s.now (spelt w stat.first stat.bits) (spelt w icode.first icode.bits) (spelt w ifun.first ifun.bits) (spelt w taken.first taken.bits) (spelt w back.first back.bits))) }
+    ensures made { IfOk result (λ g. IsGate b.new g (λ w. spec.misses v s.now (spelt w at.stat.first at.stat.bits) (spelt w at.icode.first at.icode.bits)
+        (spelt w at.ifun.first at.ifun.bits) (spelt w at.taken.first at.taken.bits) (spelt w at.back.first at.back.bits))) }
 {
-    let here = jump(b, v, stat, icode)?;
-    let other = other_way(b, s, ifun, taken, back)?;
-    let g = b.and(here, other)?;
-    Ok(g)
+    let here = jump(b, v, at.stat, at.icode)?;
+    let other = other_way(b, s, at.ifun, at.taken, at.back)?;
+    b.and(here, other)
 }
 
 /// What stands in a stage, by its kind and gates of what counts of a good instruction.
@@ -143,9 +164,8 @@ fn decode_slot(b: &mut NetBuilder, v: Variant, s: &Settings) -> Result<SlotGates
 {
     let stop = stops(b, D_STAT, D_STOPS)?;
     let turn = row_has(b, v, D_ICODE, RowTest::Ret)?;
-    let miss = misses(b, v, s, D_STAT, D_ICODE, D_IFUN, D_TAKEN, D_BACK)?;
-    let r = slot(b, D_KIND, stop, turn, miss)?;
-    Ok(r)
+    let miss = misses(b, v, s, JUMP_IN_D)?;
+    slot(b, D_KIND, stop, turn, miss)
 }
 
 /// What stands in E.
@@ -156,9 +176,8 @@ fn execute_slot(b: &mut NetBuilder, v: Variant, s: &Settings) -> Result<SlotGate
 {
     let stop = stops(b, E_STAT, E_STOPS)?;
     let turn = row_has(b, v, E_ICODE, RowTest::Ret)?;
-    let miss = misses(b, v, s, E_STAT, E_ICODE, E_IFUN, E_CND, E_BACK)?;
-    let r = slot(b, E_KIND, stop, turn, miss)?;
-    Ok(r)
+    let miss = misses(b, v, s, JUMP_IN_E)?;
+    slot(b, E_KIND, stop, turn, miss)
 }
 
 /// What stands in M.
@@ -169,9 +188,8 @@ fn memory_slot(b: &mut NetBuilder, v: Variant, s: &Settings) -> Result<SlotGates
 {
     let stop = stops(b, M_STAT, M_ERROR)?;
     let turn = row_has(b, v, M_ICODE, RowTest::Ret)?;
-    let miss = misses(b, v, s, M_STAT, M_ICODE, M_IFUN, M_CND, M_BACK)?;
-    let r = slot(b, M_KIND, stop, turn, miss)?;
-    Ok(r)
+    let miss = misses(b, v, s, JUMP_IN_M)?;
+    slot(b, M_KIND, stop, turn, miss)
 }
 
 /// What stands in W.
@@ -184,8 +202,7 @@ fn write_slot(b: &mut NetBuilder, v: Variant) -> Result<SlotGates, Memory>
     let stop = b.not(running)?;
     let turn = row_has(b, v, W_ICODE, RowTest::Ret)?;
     let none = b.constant(false)?;
-    let r = slot(b, W_KIND, stop, turn, none)?;
-    Ok(r)
+    slot(b, W_KIND, stop, turn, none)
 }
 
 /// What stands in the stages of a valuation.
