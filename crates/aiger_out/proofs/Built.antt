@@ -115,9 +115,6 @@ built_more h at j old new before after none a b = record {
       b.values bits v ∙ (same_with h bits (gate_values old before none bits) (solution h at bits j) j (at j) v (a.values bits) ∙ sym (solution_next h at bits j v));
 }
 
-pub within_since : (h : Header) (old new : Gates) (gates : List ℕ) (none : ℕ) → HasGates h old gates none → Begins old new → (v : ℕ) → get_or gates v none < length new.gates
-within_since h old new gates none g b v = omega (arith, g.within v, b.more)
-
 pub outputs_start : (h : Header) (at : ℕ → Line) (values : List Bool → ℕ → Bool) (net : Gates) → AreOutputs h at values 0 net []
 outputs_start h at values net = record { size = refl; gates = λ i l. absurd (omega (arith, l)) }
 

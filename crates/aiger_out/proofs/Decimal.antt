@@ -1,28 +1,17 @@
 -- What is written is read again.
-use Rattle.std.proofs.Common.{◌≡◌, ℕ, ◌^◌, ◌<◌, ◌≤◌, Bool, true, false, ◌&&◌, ◌||◌, nat_lt, if◌then◌else◌, All, List, [], ◌∷◌, ◌++◌, length, drop, take_while, Some, None, unwrap_or, refl, sym, ap, ◌∙◌, arith}
+use Rattle.std.proofs.Common.{◌≡◌, ℕ, ◌^◌, ◌<◌, Bool, true, false, ◌||◌, nat_lt, if◌then◌else◌, All, List, [], ◌∷◌, ◌++◌, length, drop, take_while, Some, None, unwrap_or, refl, sym, ap, ◌∙◌, arith}
 use Rattle.std.specs.List.{list_all}
-use Rattle.std.specs.Str.Parse.{AllDigits, IsNumeral, digits_value}
+use Rattle.std.specs.Str.Parse.{IsNumeral, digits_value}
 use Rattle.std.proofs.lemmas.Bool.Decides.{nat_tests}
 use Rattle.std.proofs.lemmas.List.{append-nil, drop_all}
 use Rattle.std.proofs.lemmas.List.Elements.{All-append, All-cons, All-nil, All-head, All-tail}
-use Rattle.std.proofs.lemmas.Str.Parse.{digit_at}
 use Rattle.y86_base.specs.Text.{HasNoLineFeed, begins, behind, is_decimal, is_line_feed, is_lower_hex, with_line_feeds}
-use Rattle.y86_base.proofs.Numerals.{numeral_digits, numeral_lower, numeral_value, word_has_room}
+use Rattle.y86_base.proofs.Numerals.{numeral_digits, numeral_lower, numeral_value, word_has_room, all_decimal}
 use Rattle.y86_base.proofs.Runs.{begins_front, behind-run, take_while-run}
 use Rattle.aiger_out.specs.declared.form.AndLine.{AndLine}
 use Rattle.aiger_out.specs.declared.form.Header.{Header}
 use Rattle.aiger_out.specs.Lines.{behind_aag, counted, ended, grown, header_of, number_at, number_behind, one_number, three_numbers, unended}
 use Rattle.aiger_out.specs.Written.{and_text, decimal, header_text, input_symbol, output_symbol, spaced}
-
-small_digit : (x : ℕ) → 48 ≤ x → x ≤ 57 → is_decimal x ≡ true
-small_digit x low high = grind (arith, nat_tests)
-
-all_decimal : (ds : List ℕ) → AllDigits 10 ds → list_all is_decimal ds ≡ true
-all_decimal [] h = refl
-all_decimal (d ∷ ds) h =
-    let r = digit_at (d ∷ ds) 0 h (omega arith) in
-    let e : is_decimal d ≡ true = small_digit d r.0 r.1 in
-    ap (λ (b : Bool). b && list_all is_decimal ds) e ∙ all_decimal ds h.1
 
 is_numeral : (n : ℕ) → n < 2 ^ 64 → IsNumeral 10 (decimal n)
 is_numeral n h = numeral_digits 10 1 n (omega arith) (omega arith) (word_has_room 10 n (omega arith) h)

@@ -1,6 +1,8 @@
 -- What a line without a fault says.
 use Rattle.std.proofs.Common.{◌≡◌, ℕ, ◌/◌, ◌%◌, ◌≤◌, Bool, true, false, not, ◌&&◌, ◌||◌, ◌==◌, nat_lt, nat_le, Option, None, refl, sym, ap, ◌∙◌, arith}
 use Rattle.std.proofs.lemmas.Bool.Decides.{nat_tests}
+use Rattle.std.proofs.lemmas.Bool.{not-false, or_parts, and_parts}
+use Rattle.y86_base.proofs.Numbers.{eqb_self}
 use borrow.Author.Tests.{eqb-true}
 use Rattle.aiger_out.specs.declared.fault.AagWhy.{AagWhy}
 use Rattle.aiger_out.specs.declared.form.Header.{Header}
@@ -13,18 +15,6 @@ pub first_of_none : (b : Bool) (why : AagWhy) (rest : Option AagWhy) → first_o
 first_of_none true why rest e = absurd (cc)
 first_of_none false why rest e = (refl, e)
 
-not_false : (b : Bool) → not b ≡ false → b ≡ true
-not_false true e = refl
-not_false false e = absurd (cc)
-
-pub or_false : (a b : Bool) → (a || b) ≡ false → (a ≡ false) × (b ≡ false)
-or_false true b e = absurd (cc)
-or_false false b e = (refl, e)
-
-pub and_true : (a b : Bool) → (a && b) ≡ true → (a ≡ true) × (b ≡ true)
-and_true true b e = (refl, e)
-and_true false b e = absurd (cc)
-
 -- an input line without a fault
 pub record IsFineInput (h : Header) (at : ℕ → Line) (j x : ℕ) : Type 0 where
   pub fresh : is_fresh h x ≡ true
@@ -34,7 +24,7 @@ pub fine_input : (h : Header) (at : ℕ → Line) (j x : ℕ) → line_fault h a
 fine_input h at j x e =
     let a = first_of_none (not (is_fresh h x)) _ _ e in
     let b = first_of_none (is_defined h at j (x / 2)) _ _ a.1 in
-    record { fresh = not_false (is_fresh h x) a.0; new = b.0 }
+    record { fresh = not-false (is_fresh h x) a.0; new = b.0 }
 
 -- an output line without a fault
 pub record IsFineOutput (h : Header) (at : ℕ → Line) (x : ℕ) : Type 0 where
@@ -45,7 +35,7 @@ pub fine_output : (h : Header) (at : ℕ → Line) (j x : ℕ) → line_fault h 
 fine_output h at j x e =
     let a = first_of_none (nat_lt (top h) x) _ _ e in
     let b = first_of_none (not (is_defined h at (rest_from h) (x / 2))) _ _ a.1 in
-    record { inside = a.0; defined = not_false (is_defined h at (rest_from h) (x / 2)) b.0 }
+    record { inside = a.0; defined = not-false (is_defined h at (rest_from h) (x / 2)) b.0 }
 
 -- an AND line without a fault
 pub record IsFineAnd (h : Header) (at : ℕ → Line) (j : ℕ) (a : AndLine) : Type 0 where
@@ -59,43 +49,40 @@ fine_and h at j a e =
     let x = first_of_none (not (is_fresh h a.lhs) || nat_lt (top h) a.rhs0 || nat_lt (top h) a.rhs1) _ _ e in
     let y = first_of_none (is_defined h at j (a.lhs / 2)) _ _ x.1 in
     let z = first_of_none (not (is_defined h at j (a.rhs0 / 2)) || not (is_defined h at j (a.rhs1 / 2))) _ _ y.1 in
-    let low = or_false (not (is_fresh h a.lhs) || nat_lt (top h) a.rhs0) (nat_lt (top h) a.rhs1) x.0 in
-    let lower = or_false (not (is_fresh h a.lhs)) (nat_lt (top h) a.rhs0) low.0 in
-    let both = or_false (not (is_defined h at j (a.rhs0 / 2))) (not (is_defined h at j (a.rhs1 / 2))) z.0 in
+    let low = or_parts (not (is_fresh h a.lhs) || nat_lt (top h) a.rhs0) (nat_lt (top h) a.rhs1) x.0 in
+    let lower = or_parts (not (is_fresh h a.lhs)) (nat_lt (top h) a.rhs0) low.0 in
+    let both = or_parts (not (is_defined h at j (a.rhs0 / 2))) (not (is_defined h at j (a.rhs1 / 2))) z.0 in
     record {
-      fresh = not_false (is_fresh h a.lhs) lower.0;
+      fresh = not-false (is_fresh h a.lhs) lower.0;
       new = y.0;
-      first = not_false (is_defined h at j (a.rhs0 / 2)) both.0;
-      second = not_false (is_defined h at j (a.rhs1 / 2)) both.1;
+      first = not-false (is_defined h at j (a.rhs0 / 2)) both.0;
+      second = not-false (is_defined h at j (a.rhs1 / 2)) both.1;
     }
 
 -- a fresh literal is in range, and not that of the constant
 pub fresh_bounds : (h : Header) (x : ℕ) → is_fresh h x ≡ true → (2 ≤ x) × (x ≤ top h)
 fresh_bounds h x e =
-    let a = and_true (x % 2 == 0 && nat_le 2 x) (nat_le x (top h)) e in
-    let b = and_true (x % 2 == 0) (nat_le 2 x) a.0 in
+    let a = and_parts (x % 2 == 0 && nat_le 2 x) (nat_le x (top h)) e in
+    let b = and_parts (x % 2 == 0) (nat_le 2 x) a.0 in
     let low = b.1 in
     let high = a.1 in
     (grind (arith, nat_tests), grind (arith, nat_tests))
 
-same : (x : ℕ) → (x == x) ≡ true
-same x = grind (arith, nat_tests)
-
 pub own : (fresh : Bool) (v : ℕ) → fresh ≡ true → (fresh && v == v) ≡ true
-own true v e = same v
+own true v e = eqb_self v
 own false v e = absurd (cc)
 
 pub other_variable : (h : Header) (x : ℕ) → (is_fresh h x && x / 2 == 0) ≡ true → ⊥
 other_variable h x e =
-    let a = and_true (is_fresh h x) (x / 2 == 0) e in
+    let a = and_parts (is_fresh h x) (x / 2 == 0) e in
     let b = fresh_bounds h x a.0 in
     let z : x / 2 ≡ 0 = eqb-true (x / 2) 0 a.1 in
     omega (arith, z, b.0)
 
 -- what a line defines is new, where it has no fault
 pub defines_new : (h : Header) (at : ℕ → Line) (j : ℕ) (line : Line) (v : ℕ) → line_fault h at j line ≡ None → defines h line v ≡ true → is_defined h at j v ≡ false
-defines_new h at j (Input x) v fine d = sym (ap (is_defined h at j) (eqb-true (x / 2) v (and_true (is_fresh h x) (x / 2 == v) d).1)) ∙ (fine_input h at j x fine).new
-defines_new h at j (And a) v fine d = sym (ap (is_defined h at j) (eqb-true (a.lhs / 2) v (and_true (is_fresh h a.lhs) (a.lhs / 2 == v) d).1)) ∙ (fine_and h at j a fine).new
+defines_new h at j (Input x) v fine d = sym (ap (is_defined h at j) (eqb-true (x / 2) v (and_parts (is_fresh h x) (x / 2 == v) d).1)) ∙ (fine_input h at j x fine).new
+defines_new h at j (And a) v fine d = sym (ap (is_defined h at j) (eqb-true (a.lhs / 2) v (and_parts (is_fresh h a.lhs) (a.lhs / 2 == v) d).1)) ∙ (fine_and h at j a fine).new
 defines_new h at j (Output x) v fine d = absurd (cc)
 defines_new h at j Other v fine d = absurd (cc)
 

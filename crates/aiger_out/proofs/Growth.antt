@@ -6,15 +6,10 @@ use Rattle.std.proofs.lemmas.List.{get_or_append_left, get_or_push, length_push,
 use Rattle.nets.specs.Nets.{values, gate_value, ReadsEarlier}
 use Rattle.nets.specs.declared.net.Gate.{Gate}
 use Rattle.nets.specs.declared.net.Gate.TheVariants.{Const, Var, Not, And}
-use Rattle.nets.proofs.Truths.{values_more}
+use Rattle.nets.proofs.Truths.{values_more, values_length}
 use Rattle.aiger_out.specs.declared.graph.And as code
 use Rattle.aiger_out.specs.Values.{literal_value}
 use Rattle.aiger_out.specs.Graphs.{and_at, Solves, IsLiteralOf, IsGraphOf}
-
-pub values_length : (w e : List Bool) (xs : List Gate) → length (values w e xs) ≡ length e + length xs
-unfolding values
-values_length w e [] = omega arith
-values_length w e (x ∷ xs) = omega (arith, values_length w (e ++ gate_value w e x ∷ []) xs, length_push e (gate_value w e x))
 
 -- the literal of a variable that isn't negated
 even_literal : (env : ℕ → Bool) (n : ℕ) → literal_value env (2 * n) ≡ env n

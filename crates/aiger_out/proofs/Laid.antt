@@ -1,7 +1,8 @@
 -- Inputs, outputs and ANDs in the writer's order have no fault.
 use Rattle.std.proofs.Common.{◌≡◌, ◌⊎◌, inl, inr, ℕ, zero, suc, ◌+◌, ◌-◌, ◌*◌, ◌/◌, ◌%◌, ◌<◌, ◌≤◌, Bool, true, false, not, ◌&&◌, ◌||◌, ◌==◌, nat_lt, nat_le, None, refl, ap, ◌∙◌, arith}
-use Rattle.std.proofs.lemmas.Bool.{cases_lt}
+use Rattle.std.proofs.lemmas.Bool.{cases_lt, le-leb}
 use Rattle.std.proofs.lemmas.Bool.Decides.{nat_tests}
+use Rattle.std.proofs.Math.Bool.{or-false}
 use Rattle.aiger_out.specs.declared.fault.AagWhy.{AagWhy}
 use Rattle.aiger_out.specs.declared.fault.AagWhy.TheVariants.{Literal, Twice, Undefined}
 use Rattle.aiger_out.specs.declared.form.Header.{Header}
@@ -40,15 +41,8 @@ defines_one : (b : Bool) (x v : ℕ) → b ≡ true → (b && x == v) ≡ (x == 
 defines_one true x v e = refl
 defines_one false x v e = absurd (cc)
 
-or_none : (b : Bool) → (b || false) ≡ b
-or_none true = refl
-or_none false = refl
-
 not_below : (b : Bool) (why : AagWhy) → b ≡ false → first_of b why None ≡ None
 not_below b why e = ap (λ (t : Bool). first_of t why None) e
-
-at_least : (x k : ℕ) → x ≤ k → nat_le x k ≡ true
-at_least x k h = grind (arith, nat_tests)
 
 above : (x k : ℕ) → k < x → nat_le x k ≡ false
 above x k h = grind (arith, nat_tests)
@@ -98,7 +92,7 @@ module _ (h : Header) (at : ℕ → Line) (outs first second : ℕ → ℕ) (l :
   of_outputs zero v to = ap (λ (n : ℕ). is_defined h at n v) (omega arith) ∙ of_inputs h.inputs v (omega arith)
   of_outputs (suc k) v to =
       next_at (outputs_from h + k) (outputs_from h + suc k) v (nat_le v h.inputs) false (omega arith) (of_outputs k v (omega (arith, to))) (by_output k v (omega (arith, to)))
-      ∙ or_none (nat_le v h.inputs)
+      ∙ or-false (nat_le v h.inputs)
 
   pub of_ands : (k v : ℕ) → k ≤ h.ands → is_defined h at (ands_from h + k) v ≡ nat_le v (h.inputs + k)
   of_ands zero v to =
@@ -116,7 +110,7 @@ module _ (h : Header) (at : ℕ → Line) (outs first second : ℕ → ℕ) (l :
       ap (λ (t : Bool). first_of (not t) Literal (first_of (is_defined h at (1 + k) (2 * (k + 1) / 2)) Twice None)) a ∙ not_below (is_defined h at (1 + k) (2 * (k + 1) / 2)) Twice b
 
   all_defined : (x : ℕ) → x / 2 ≤ h.inputs + h.ands → is_defined h at (rest_from h) (x / 2) ≡ true
-  all_defined x small = of_ands h.ands (x / 2) (omega arith) ∙ at_least (x / 2) (h.inputs + h.ands) small
+  all_defined x small = of_ands h.ands (x / 2) (omega arith) ∙ le-leb (x / 2) (h.inputs + h.ands) small
 
   fine_output : (j x : ℕ) → x / 2 ≤ h.inputs + h.ands → line_fault h at j (Output x) ≡ None
   fine_output j x small =
@@ -125,7 +119,7 @@ module _ (h : Header) (at : ℕ → Line) (outs first second : ℕ → ℕ) (l :
       ∙ ap (λ (t : Bool). first_of (not t) Undefined None) (all_defined x small)
 
   so_far : (k x : ℕ) → k < h.ands → x / 2 ≤ h.inputs + k → is_defined h at (ands_from h + k) (x / 2) ≡ true
-  so_far k x low small = of_ands k (x / 2) (omega (arith, low)) ∙ at_least (x / 2) (h.inputs + k) small
+  so_far k x low small = of_ands k (x / 2) (omega (arith, low)) ∙ le-leb (x / 2) (h.inputs + k) small
 
   fine_and : (k x y : ℕ) → k < h.ands → x / 2 ≤ h.inputs + k → y / 2 ≤ h.inputs + k
       → line_fault h at (ands_from h + k) (And (record { lhs = 2 * (h.inputs + (k + 1)); rhs0 = x; rhs1 = y })) ≡ None

@@ -1,6 +1,6 @@
 -- A text has the form or one fault, and its equations one solution.
 use Rattle.std.proofs.Common.{◌≡◌, ◌⊎◌, inl, inr, ℕ, zero, suc, ◌+◌, ◌-◌, ◌<◌, ◌≤◌, Bool, true, false, ◌&&◌, ◌==◌, nat_lt, if◌then◌else◌, List, length, slice_get, Option, Some, None, refl, sym, ap, ◌∙◌, subst, arith}
-use Rattle.std.proofs.lemmas.Bool.{cases_lt}
+use Rattle.std.proofs.lemmas.Bool.{cases_lt, and_left}
 use Rattle.std.proofs.lemmas.Bool.Decides.{nat_tests}
 use Rattle.std.proofs.lemmas.Option.{slice_get_past}
 use Rattle.aiger_out.specs.declared.fault.AagWhy.{AagWhy}
@@ -43,12 +43,10 @@ search_to fault (suc n) = next fault n (search_to fault n) (cases_lt 0 n)
 
 -- ---- no fault stands behind the end
 
-no_fault : (b t : Bool) → t ≡ false → (if b then None else (if t then Some Syntax else None)) ≡ None
+-- where the second test fails too, there is no fault
+pub no_fault : (b t : Bool) → t ≡ false → (if b then None else (if t then Some Syntax else None)) ≡ None
 no_fault true t e = refl
 no_fault false t e = ap (λ (s : Bool). if s then Some Syntax else None) e
-
-and_false : (a b : Bool) → a ≡ false → (a && b) ≡ false
-and_false a b e = ap (λ (t : Bool). t && b) e
 
 behind_end : (text : List ℕ) (h : Header) (j : ℕ) → rest_from h + length (ended text) + 1 ≤ j → text_fault text h j ≡ None
 unfolding fault_at
@@ -59,7 +57,7 @@ behind_end text h j past =
     else (if comment_within (ended text) (rest_from h) (j - rest_from h) then None
     else tail_fault h (slice_get (ended text) j) (j == length (ended text) && has_more text))) a
     ∙ (ap (λ (x : Option (List ℕ)). if comment_within (ended text) (rest_from h) (j - rest_from h) then None else tail_fault h x (j == length (ended text) && has_more text)) (slice_get_past (ended text) j (omega (arith, past)))
-    ∙ no_fault (comment_within (ended text) (rest_from h) (j - rest_from h)) (j == length (ended text) && has_more text) (and_false (j == length (ended text)) (has_more text) b))
+    ∙ no_fault (comment_within (ended text) (rest_from h) (j - rest_from h)) (j == length (ended text) && has_more text) (and_left (j == length (ended text)) (has_more text) b))
 
 all_none : (text : List ℕ) (h : Header) → NoneBefore (text_fault text h) (rest_from h + length (ended text) + 1) → (j : ℕ) → 1 ≤ j → text_fault text h j ≡ None
 all_none text h none j from = by (cases_lt j (rest_from h + length (ended text) + 1))

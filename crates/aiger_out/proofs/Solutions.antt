@@ -1,6 +1,6 @@
 -- The equations of lines without a fault have one solution: the values line after line.
 use Rattle.std.proofs.Common.{◌≡◌, ◌⊎◌, inl, inr, ℕ, zero, suc, ◌+◌, ◌-◌, ◌/◌, ◌%◌, ◌<◌, ◌≤◌, Bool, true, false, not, ◌&&◌, ◌||◌, ◌==◌, if◌then◌else◌, List, None, refl, sym, ap, ◌∙◌, subst, arith, add-one}
-use Rattle.std.proofs.lemmas.Bool.{cases_lt}
+use Rattle.std.proofs.lemmas.Bool.{cases_lt, or_left, or_right, and_parts}
 use borrow.Author.Tests.{eqb-true}
 use Rattle.aiger_out.specs.declared.form.Header.{Header}
 use Rattle.aiger_out.specs.declared.form.Line.{Line}
@@ -9,7 +9,7 @@ use Rattle.aiger_out.specs.Form.{defines, is_defined, is_fresh, line_fault}
 use Rattle.aiger_out.specs.Rows.{IsFine}
 use Rattle.aiger_out.specs.Values.{literal_value, IsMet, AreValues}
 use Rattle.aiger_out.specs.Solution.{line_value, solution, with_line}
-use Rattle.aiger_out.proofs.Faults.{and_true, own, never_zero, defines_new, fine_input, fine_and}
+use Rattle.aiger_out.proofs.Faults.{own, never_zero, defines_new, fine_input, fine_and}
 use Rattle.aiger_out.proofs.Firsts.{defined_next}
 
 pub two_truths : (b : Bool) → (b ≡ true) ⊎ (b ≡ false)
@@ -26,14 +26,6 @@ defined_value h at bits j v d = solution_next h at bits j v ∙ ap (λ (b : Bool
 
 kept_value : (h : Header) (at : ℕ → Line) (bits : List Bool) (j v : ℕ) → defines h (at j) v ≡ false → solution h at bits (j + 1) v ≡ solution h at bits j v
 kept_value h at bits j v d = solution_next h at bits j v ∙ ap (λ (b : Bool). if b then line_value bits (solution h at bits j) j (at j) else solution h at bits j v) d
-
-or_left : (a b : Bool) → a ≡ true → (a || b) ≡ true
-or_left true b e = refl
-or_left false b e = absurd (cc)
-
-or_right : (a b : Bool) → b ≡ true → (a || b) ≡ true
-or_right true b e = refl
-or_right false b e = e
 
 pub defined_later : (h : Header) (at : ℕ → Line) (i d v : ℕ) → is_defined h at i v ≡ true → is_defined h at (i + d) v ≡ true
 defined_later h at i zero v e = ap (λ (n : ℕ). is_defined h at n v) (omega arith) ∙ e
@@ -121,11 +113,11 @@ module _ (h : Header) (at : ℕ → Line) (bits : List Bool) (n : ℕ) (fine : I
   -- every solution has these values, line after line
   of_line : (env : ℕ → Bool) (j : ℕ) (line : Line) (v : ℕ) → at j ≡ line → j < n → IsMet bits env j line → defines h line v ≡ true
       → ((u : ℕ) → is_defined h at j u ≡ true → env u ≡ solution h at bits j u) → env v ≡ line_value bits (solution h at bits j) j line
-  of_line env j (Input x) v e to met d so_far = sym (ap env (eqb-true (x / 2) v (and_true (is_fresh h x) (x / 2 == v) d).1)) ∙ met
+  of_line env j (Input x) v e to met d so_far = sym (ap env (eqb-true (x / 2) v (and_parts (is_fresh h x) (x / 2 == v) d).1)) ∙ met
   of_line env j (And a) v e to met d so_far =
       let from : 1 ≤ j = from_one j (And a) e (λ o. cc) in
       let f = fine_and h at j a (sym (ap (line_fault h at j) e) ∙ fine j from to) in
-      sym (ap env (eqb-true (a.lhs / 2) v (and_true (is_fresh h a.lhs) (a.lhs / 2 == v) d).1)) ∙ (met
+      sym (ap env (eqb-true (a.lhs / 2) v (and_parts (is_fresh h a.lhs) (a.lhs / 2 == v) d).1)) ∙ (met
       ∙ (ap (λ (b : Bool). b && literal_value env a.rhs1) (same_literal env (solution h at bits j) a.rhs0 (so_far (a.rhs0 / 2) f.first))
       ∙ ap (λ (b : Bool). literal_value (solution h at bits j) a.rhs0 && b) (same_literal env (solution h at bits j) a.rhs1 (so_far (a.rhs1 / 2) f.second))))
   of_line env j (Output x) v e to met d so_far = absurd (cc)

@@ -1,7 +1,7 @@
 -- The lines behind the AND lines, one after another.
 use Rattle.std.proofs.Common.{◌≡◌, ◌⊎◌, inl, inr, ℕ, zero, suc, ◌+◌, ◌-◌, ◌<◌, ◌≤◌, Bool, true, false, ◌&&◌, ◌||◌, ◌==◌, nat_lt, if◌then◌else◌, List, [], ◌∷◌, length, drop, slice_get, Option, Some, None, refl, sym, ap, ◌∙◌, arith, add-one, length-drop}
 use Rattle.std.specs.Option.{option_map_or}
-use Rattle.std.proofs.lemmas.Bool.{cases_lt}
+use Rattle.std.proofs.lemmas.Bool.{cases_lt, or_left}
 use Rattle.std.proofs.lemmas.Bool.Decides.{nat_tests}
 use Rattle.std.proofs.lemmas.Option.{slice_get_past}
 use Rattle.std.proofs.lemmas.List.{drop-drop}
@@ -23,15 +23,11 @@ comment_next : (lines : List (List ℕ)) (k : ℕ) → comment_within lines 0 (k
 unfolding comment_within
 comment_next lines k = rw add-one (ap (λ (i : ℕ). comment_within lines 0 k || option_map_or is_comment (slice_get lines i) false) (omega arith))
 
-or_true : (a b : Bool) → a ≡ true → (a || b) ≡ true
-or_true true b e = refl
-or_true false b e = absurd (cc)
-
 comment_later : (lines : List (List ℕ)) (k d : ℕ) → comment_within lines 0 k ≡ true → comment_within lines 0 (k + d) ≡ true
 comment_later lines k zero e = ap (comment_within lines 0) (omega arith) ∙ e
 comment_later lines k (suc d) e =
     let s : k + suc d ≡ (k + d) + 1 = omega arith in
-    ap (comment_within lines 0) s ∙ (comment_next lines (k + d) ∙ or_true (comment_within lines 0 (k + d)) (option_map_or is_comment (slice_get lines (k + d)) false) (comment_later lines k d e))
+    ap (comment_within lines 0) s ∙ (comment_next lines (k + d) ∙ or_left (comment_within lines 0 (k + d)) (option_map_or is_comment (slice_get lines (k + d)) false) (comment_later lines k d e))
 
 -- the fault of a line that is there, where isnt comment stands before
 there : (h : Header) (lines : List (List ℕ)) (more : Bool) (k : ℕ) (line : List ℕ) → comment_within lines 0 k ≡ false → slice_get lines k ≡ Some line

@@ -1,11 +1,12 @@
 -- The text of the writer has the form, and its outputs are the negations of the rules' gates.
 use Rattle.std.proofs.Common.{◌≡◌, ◌⊎◌, inl, inr, ℕ, ◌+◌, ◌-◌, ◌*◌, ◌/◌, ◌^◌, ◌<◌, ◌≤◌, Bool, true, false, not, ◌&&◌, ◌||◌, ◌==◌, nat_lt, max, if◌then◌else◌, All, List, [], ◌∷◌, ◌++◌, length, get_or, slice_get, Option, Some, None, option_and_then, option_map, unwrap_or, append_assoc, refl, sym, ap, ◌∙◌, subst, arith}
 use Rattle.std.specs.Option.{option_map_or}
-use Rattle.std.proofs.lemmas.Bool.{cases_lt}
+use Rattle.std.proofs.lemmas.Bool.{cases_lt, or_left, or_right}
 use Rattle.std.proofs.lemmas.Bool.Decides.{nat_tests}
 use Rattle.std.proofs.lemmas.List.{get_or_append_left, get_or_past, get_or_push, length-map, length_push}
 use Rattle.std.proofs.lemmas.Option.{get_or_from_slice_get, slice_get-map, slice_get_past, unwrap_or-slice_get}
 use Rattle.nets.specs.Nets.{Gates, truth, truths, values}
+use Rattle.nets.proofs.Truths.{values_length}
 use Rattle.y86_base.specs.Text.{HasNoLineFeed, after_byte, with_line_feeds}
 use Rattle.aiger_out.specs.declared.fault.AagWhy.{AagWhy}
 use Rattle.aiger_out.specs.declared.fault.AagWhy.TheVariants.{Syntax}
@@ -25,8 +26,8 @@ use Rattle.aiger_out.proofs.Decimal.{AreWords, and_free, and_read, decimal_free,
 use Rattle.aiger_out.proofs.Sections.{section_a, section_b, section_c, section_d, section_e, sections_free, sections_size}
 use Rattle.aiger_out.proofs.FromRows.{line_first}
 use Rattle.aiger_out.proofs.Each.{fed_append}
-use Rattle.aiger_out.proofs.Growth.{values_length}
 use Rattle.aiger_out.proofs.Laid.{Laid, laid_fine}
+use Rattle.aiger_out.proofs.OneAnswer.{no_fault}
 
 of_some : (h : Header) (lines : List (List ℕ)) (j : ℕ) (line : List ℕ) (r : Line) → slice_get lines j ≡ Some line → line_read h j line ≡ r → line_at h lines j ≡ r
 unfolding line_at
@@ -59,22 +60,10 @@ named count k rest (x ∷ name) n e low some =
     let t : nat_lt n count ≡ true = grind (arith, nat_tests) in
     ap (names_below count) e ∙ ap (λ (b : Bool). b && true) t
 
-or_left : (a b : Bool) → a ≡ true → (a || b) ≡ true
-or_left true b e = refl
-or_left false b e = absurd (cc)
-
-or_right : (a b : Bool) → b ≡ true → (a || b) ≡ true
-or_right true b e = refl
-or_right false b e = e
-
 -- a symbol's line has no fault, behind a comment or not
 no_tail_fault : (h : Header) (b : Bool) (line : List ℕ) (c : Bool) → is_symbol h line ≡ true → (if b then None else (if is_symbol h line || c then None else Some Syntax)) ≡ None
 no_tail_fault h true line c e = refl
 no_tail_fault h false line c e = ap (λ (t : Bool). if t || c then None else Some Syntax) e
-
-no_end_fault : (b t : Bool) → t ≡ false → (if b then None else (if t then Some Syntax else None)) ≡ None
-no_end_fault true t e = refl
-no_end_fault false t e = ap (λ (s : Bool). if s then Some Syntax else None) e
 
 both_false : (a b : Bool) → b ≡ false → (a && b) ≡ false
 both_false true b e = e
@@ -168,7 +157,7 @@ module _ (h : Header) (outs : List ℕ) (ands : List code.And) (numbers : List �
       symbol_fine j (output_symbol (j - (rest_from h + h.inputs)) (get_or numbers (j - (rest_from h + h.inputs)) 0)) past (ap (slice_get (ended text)) e ∙ output_name (j - (rest_from h + h.inputs)) k)
       (output_is_symbol (j - (rest_from h + h.inputs)) k)
   tail_fine j past (inr a) (inr b) =
-      tail_by j None None past (slice_get_past (ended text) j (omega (arith, b, line_count))) (λ c. no_end_fault c (j == length (ended text) && false) (both_false (j == length (ended text)) false refl))
+      tail_by j None None past (slice_get_past (ended text) j (omega (arith, b, line_count))) (λ c. no_fault c (j == length (ended text) && false) (both_false (j == length (ended text)) false refl))
 
 -- the text as a whole
 module _ (net : Gates) (gates numbers : List ℕ) (h : Header) (literals outs : List ℕ) (ands : List code.And) (text : List ℕ)

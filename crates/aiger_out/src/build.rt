@@ -80,7 +80,7 @@ fn output_literal(line: Line) -> u64
 }
 
 /// Gates for the outputs.
-#[tactic(auto, using(crate::proofs::Built::outputs_start, crate::proofs::Built::outputs_more, crate::proofs::Built::within_since, nets::proofs::Truths::begins_self, nets::proofs::Truths::begins_more))]
+#[tactic(auto, using(crate::proofs::Built::outputs_start, crate::proofs::Built::outputs_more, crate::proofs::Built::within_later, nets::proofs::Truths::begins_self, nets::proofs::Truths::begins_more))]
 fn put_outputs(
     alloc: Global,
     b: &mut NetBuilder,

@@ -8,17 +8,7 @@ ghost use Rattle.aiger_out.specs.WrittenLines.{and_line_of, numbers_of, output_s
 use crate::form::Header;
 use crate::graph::And;
 use rule_gates::Rule;
-use y86_base::{Memory, Numeral};
-
-/// Puts bytes behind a text.
-fn put(out: &mut Vec<u8>, bytes: &[u8]) -> Result<(), Memory>
-    ensures { OnOk result (out.new.items ≡ out.old.items ++ bytes.now) }
-{
-    match out.extend_from_slice(bytes) {
-        Ok(()) => Ok(()),
-        Err(_) => Err(Memory),
-    }
-}
+use y86_base::{Memory, Numeral, put};
 
 /// Puts a number.
 fn put_number(out: &mut Vec<u8>, n: u64) -> Result<(), Memory>

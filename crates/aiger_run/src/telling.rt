@@ -8,17 +8,7 @@ ghost use Rattle.y86_base.specs.Text.{with_line_feeds};
 use crate::counting::counts;
 use aiger_out::{AagError, read};
 use std::alloc::Global;
-use y86_base::{Memory, Numeral};
-
-/// Puts bytes behind a text.
-fn put(out: &mut Vec<u8>, bytes: &[u8]) -> Result<(), Memory>
-    ensures { OnOk result (out.new.items ≡ out.old.items ++ bytes.now) }
-{
-    match out.extend_from_slice(bytes) {
-        Ok(()) => Ok(()),
-        Err(_) => Err(Memory),
-    }
-}
+use y86_base::{Memory, Numeral, put};
 
 /// Puts a number.
 fn put_number(out: &mut Vec<u8>, n: u64) -> Result<(), Memory>

@@ -1,22 +1,16 @@
 -- The counts of an AIGER text are one list.
-use Rattle.std.proofs.Common.{◌≡◌, ℕ, zero, suc, ◌+◌, ◌<◌, Bool, if◌then◌else◌, List, length, get_or, refl, sym, ap, ◌∙◌, subst, inl, inr, arith}
+use Rattle.std.proofs.Common.{◌≡◌, ℕ, ◌<◌, Bool, List, length, get_or, sym, ap, ◌∙◌, subst, inl, inr, arith}
 use Rattle.std.proofs.lemmas.List.{get_or_default, same_lists}
 use Rattle.aiger_out.specs.Form.{IsAag}
 use Rattle.aiger_out.specs.Values.{Out}
 use Rattle.aiger_out.specs.declared.form.Header.{Header}
 use Rattle.aiger_out.proofs.OneAnswer.{not_both, one_fault, one_solution}
-use Rattle.aiger_run.specs.Counts.{count_below}
 use Rattle.aiger_run.specs.Told.{IsCount, TellsCounts, counts_text}
 use Rattle.aiger_run.specs.Vectors.{vector}
+use Rattle.aiger_run.proofs.Places.{same_count}
 use Rattle.y86_cli.specs.AigerTexts.{AigrunAnswers, aag_reason}
 use Rattle.y86_cli.specs.Lines.{fault_line}
 use Rattle.y86_cli.specs.Plan.{Answered, done, refused}
-
-same_count : (f g : ℕ → Bool) (n : ℕ) → ((p : ℕ) → p < n → f p ≡ g p) → count_below f n ≡ count_below g n
-unfolding count_below
-same_count f g zero h = refl
-same_count f g (suc n) h =
-    ap (λ k. k + (if f n then 1 else 0)) (same_count f g n (λ p lt. h p (omega (arith, lt)))) ∙ ap (λ b. count_below g n + (if b then 1 else 0)) (h n (omega arith))
 
 module _ (text : List ℕ) (seed : ℕ) where
   one_value : (h : Header) → IsAag 1000000 text h → (i : ℕ) (bits : List Bool) (x y : Bool) → Out h text i bits x → Out h text i bits y → x ≡ y

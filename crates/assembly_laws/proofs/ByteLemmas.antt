@@ -3,10 +3,9 @@ use Rattle.std.proofs.Common.{◌≡◌, ◌+◌, ◌<◌, ◌≤◌, ap, sym, s
 use Rattle.std.specs.Prelude.{nat_eq, nat_le, nat_lt, ◌||◌}
 use Rattle.std.specs.List.{list_any, range_with_len}
 use Rattle.std.specs.Int.{to_le_bytes, w64}
-use Rattle.std.proofs.lemmas.Bool.{false≢true}
+use Rattle.std.proofs.lemmas.Bool.{false≢true, or_parts, eqb-true, ltb-true, and_parts}
 use Rattle.std.proofs.lemmas.Bool.Decides.{nat_tests}
 use Rattle.y86_base.specs.declared.parts.Variant.{Variant}
-use Rattle.y86_base.proofs.Booleans.{both_true, both_false}
 use Rattle.y86_isa.specs.declared.columns.Row.{Row}
 use Rattle.y86_isa.specs.Table.{row, rows}
 use Rattle.y86_isa.specs.Encoding.{encoded}
@@ -27,15 +26,15 @@ use Rattle.y86_base.specs.Text.{lines}
 use Rattle.yas_asm.specs.Grammar.{bytes_of, read_line}
 use Rattle.yas_asm.specs.Assembly.{Placed, placed, address_after, source_lines, labels, first_fault, listing, listed, line_fault, filled, addresses, emitted, place, overlaps, width_of, bytes_at, shown_at, value_of}
 use Rattle.yas_asm.specs.Laws.{emits_at, emits, BytesHaveOneLine}
-use Rattle.yas_asm.proofs.Parts.{head_is, tail_is, no_cons, at_most, below, eq_is}
+use Rattle.yas_asm.proofs.Parts.{head_is, tail_is, no_cons, at_most}
 use Rattle.yas_asm.proofs.PassLemmas.{faultless}
 use Rattle.assembly_laws.proofs.LawLemmas.{fault_at, accepted}
 
 -- where a line emits
 pub emits_within : (first count a : ℕ) → emits_at (Some first) count a ≡ true → (first ≤ a) × (a < first + count)
 emits_within first count a e =
-    let two = both_true (nat_le first a) (nat_lt a (first + count)) e in
-    (at_most first a two.0, below a (first + count) two.1)
+    let two = and_parts (nat_le first a) (nat_lt a (first + count)) e in
+    (at_most first a two.0, ltb-true a (first + count) two.1)
 
 emits_none : (addr : Option ℕ) (a : ℕ) → emits_at addr 0 a ≡ true → ⊥
 emits_none None a e = false≢true e
@@ -87,8 +86,8 @@ apart used address (suc n) a o u h k =
     by : (b : Bool) → nat_eq a address ≡ b → (list_any (nat_eq address) used || overlaps used (address + 1) n) ≡ false
         → (overlaps used (address + 1) n ≡ false → address + 1 ≤ a → ⊥) → ⊥
     by true t o later =
-        false≢true (sym (both_false _ _ o).0 ∙ subst (λ (x : ℕ). list_any (nat_eq x) used ≡ true) (eq_is a address t) u)
-    by false t o later = later (both_false _ _ o).1 (grind (arith, nat_tests))
+        false≢true (sym (or_parts _ _ o).0 ∙ subst (λ (x : ℕ). list_any (nat_eq x) used ≡ true) (eqb-true a address t) u)
+    by false t o later = later (or_parts _ _ o).1 (grind (arith, nat_tests))
 
 any_left : (test : ℕ → Bool) (xs ys : List ℕ) → list_any test xs ≡ true → list_any test (xs ++ ys) ≡ true
 any_left test [] ys e = absurd (false≢true e)

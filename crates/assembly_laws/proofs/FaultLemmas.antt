@@ -2,7 +2,7 @@
 use Rattle.std.proofs.Common.{◌≡◌, ◌+◌, ap, sym, subst, ◌∙◌, ℕ, true, List, [], ◌∷◌, ◌++◌, length, map, Option, None, Some, Result, Ok, Err, refl}
 use Rattle.std.specs.Prelude.{is_ok}
 use Rattle.std.proofs.lemmas.List.{append-nil, append_assoc}
-use Rattle.std.proofs.lemmas.Option.{none-some}
+use Rattle.std.proofs.lemmas.Option.{none-some, same_Some}
 use Rattle.y86_base.specs.declared.parts.Variant.{Variant}
 use Rattle.y86_base.specs.Text.{lines}
 use Rattle.yas_asm.specs.declared.fault.AsmWhy.{AsmWhy}
@@ -11,7 +11,7 @@ use Rattle.yas_asm.specs.declared.listing.Line.{Line}
 use Rattle.yas_asm.specs.Grammar.{read_line}
 use Rattle.yas_asm.specs.Assembly.{Placed, placed, source_lines, address_after, labels, assembled, assembled_with, first_fault, fault_behind, fault_or, listing, listing_unless}
 use Rattle.yas_asm.specs.Laws.{LinesFollow, IsFaultless, AcceptedWithoutFault, FirstFaultIsTold}
-use Rattle.yas_asm.proofs.Parts.{head_is, tail_is, no_cons, some_is}
+use Rattle.yas_asm.proofs.Parts.{head_is, tail_is, no_cons}
 use Rattle.assembly_laws.proofs.LawLemmas.{fault_at, accepted}
 
 module _ (variant : Variant) (size : ℕ) where
@@ -75,7 +75,7 @@ module _ (variant : Variant) (size : ℕ) (table : List (List ℕ × ℕ)) where
           → (first_fault variant size table (before ++ line ∷ []) rest ≡ Some fault → IsFoundAt variant size table (before ++ line ∷ []) rest fault)
           → IsFoundAt variant size table before (line ∷ rest) fault
       by (Some why) h e later =
-          let same = some_is _ _ e in
+          let same = same_Some _ _ e in
           record {
             front = [];
             line = line;

@@ -1,13 +1,12 @@
 -- The definition of an object line reads the grammar's form.
 use Rattle.std.proofs.Common.{◌≡◌, ℕ, ◌<◌, Bool, true, false, cond, ◌&&◌, nat_lt, List, [], ◌∷◌, ◌++◌, length, refl, sym, ap, ◌∙◌, Option, Some, None, take_while, arith}
 use Rattle.std.specs.List.{list_all}
-use Rattle.std.proofs.lemmas.Bool.{eqb-true, lt-ltb, ltb-true}
+use Rattle.std.proofs.lemmas.Bool.{eqb-true, lt-ltb, ltb-true, and_parts}
 use Rattle.std.proofs.lemmas.Bool.Decides.{nat_tests}
 use Rattle.std.proofs.lemmas.List.{append_assoc}
 use Rattle.std.proofs.lemmas.Option.{option_and_then_some}
 use Rattle.y86_base.specs.Text.{after_byte, begins, behind, is_blank, is_hex}
 use Rattle.y86_base.proofs.Runs.{after_byte_some, behind-run, list_all-append, run_and_rest, run_passes, take_while-run}
-use Rattle.y86_base.proofs.Booleans.{both_true}
 use Rattle.yo_object.specs.ObjectText.{after_prefix, is_line_end, Digits, digits_behind_colon, digits_of}
 use Rattle.yo_object.specs.Grammar.{IsObjectLine, BeginsObjectLine, digits_in_line, ReadsTheForm, SkipsTheRest}
 
@@ -38,7 +37,7 @@ end_stops_hex (first ∷ comment) h = let e : first ≡ 124 = eqb-true first 124
 -- blanks, and then what hex digits stop at, stop hex digits
 blanks_stop_hex : (trail comment : List ℕ) → list_all is_blank trail ≡ true → Stops is_hex comment → Stops is_hex (trail ++ comment)
 blanks_stop_hex [] comment h stops = stops
-blanks_stop_hex (first ∷ trail) comment h stops = blank_not_hex first (both_true (is_blank first) (list_all is_blank trail) h).0
+blanks_stop_hex (first ∷ trail) comment h stops = blank_not_hex first (and_parts (is_blank first) (list_all is_blank trail) h).0
 
 -- what is read behind the colon
 pub record IsData (text bytes : List ℕ) : Type 0 where
@@ -58,7 +57,7 @@ data_read gap [] trail comment blank_gap hex blank_trail ends =
 data_read gap (first ∷ bytes) trail comment blank_gap hex blank_trail ends =
     let stops : Stops is_hex (trail ++ comment) = blanks_stop_hex trail comment blank_trail (end_stops_hex comment ends) in
     let at : behind is_blank (gap ++ (first ∷ (bytes ++ (trail ++ comment)))) ≡ (first ∷ bytes) ++ (trail ++ comment) =
-    behind-run is_blank gap _ blank_gap (hex_not_blank first (both_true (is_hex first) (list_all is_hex bytes) hex).0) in
+    behind-run is_blank gap _ blank_gap (hex_not_blank first (and_parts (is_hex first) (list_all is_hex bytes) hex).0) in
     record {
       digits = rw at (take_while-run is_hex (first ∷ bytes) (trail ++ comment) hex stops);
       ends = rw (at, behind-run is_hex (first ∷ bytes) (trail ++ comment) hex stops, behind-run is_blank trail comment blank_trail (end_stops_blanks comment ends)) ends;
@@ -94,7 +93,7 @@ colon_found read text address bytes h =
         cond {A = Option Digits} b (Some (record { address = read; bytes = take_while is_hex (behind is_blank text) })) None ≡ Some (record { address = address; bytes = bytes }) →
         IsFound read text address bytes
     at true e found =
-        let both : (nat_lt 0 (length read) ≡ true) × (is_line_end (behind is_blank (behind is_hex (behind is_blank text))) ≡ true) = both_true _ _ e in
+        let both : (nat_lt 0 (length read) ≡ true) × (is_line_end (behind is_blank (behind is_hex (behind is_blank text))) ≡ true) = and_parts _ _ e in
         let mine : Digits = record { address = read; bytes = take_while is_hex (behind is_blank text) } in
         let theirs : Digits = record { address = address; bytes = bytes } in
         let same : mine ≡ theirs = cc in

@@ -5,7 +5,7 @@ use Rattle.std.specs.List.{list_all}
 use Rattle.std.specs.Fmt.{digit_glyph, digits_onto, digits}
 use Rattle.std.specs.Str.Parse.{AllDigits, digits_value}
 use Rattle.std.proofs.Math.Nat.{pow-suc}
-use Rattle.std.proofs.lemmas.Bool.{cases_lt}
+use Rattle.std.proofs.lemmas.Bool.{cases_lt, and_parts}
 use Rattle.std.proofs.lemmas.Bool.Decides.{nat_tests}
 use Rattle.std.proofs.lemmas.Fmt.{digits_is_IsNumeral}
 use Rattle.std.proofs.lemmas.List.{length-replicate}
@@ -13,7 +13,6 @@ use Rattle.std.proofs.lemmas.List.Elements.{All-head, All-tail}
 use Rattle.y86_base.specs.Image.{AreBytes}
 use Rattle.y86_base.specs.Text.{is_hex, hex_value}
 use Rattle.y86_base.specs.Numeral.{numeral}
-use Rattle.y86_base.proofs.Booleans.{both_true}
 use Rattle.y86_base.proofs.Digits.{digits_onto-nothing, digits_onto-last, digits_onto-more}
 use Rattle.y86_base.proofs.Numerals.{numeral_value, numeral_width}
 use Rattle.yo_object.specs.ObjectText.{bytes_of_pairs}
@@ -78,8 +77,8 @@ first_pair : (byte : ℕ) (two made : List ℕ) → IsHexOf 2 2 byte two → byt
 first_pair byte [] made h = absurd (omega (arith, h.wide))
 first_pair byte (high ∷ []) made h = absurd (omega (arith, h.wide))
 first_pair byte (high ∷ low ∷ []) made h =
-    let of_high = both_true (is_hex high) (is_hex low && true) h.hex in
-    let of_low = both_true (is_hex low) true of_high.1 in
+    let of_high = and_parts (is_hex high) (is_hex low && true) h.hex in
+    let of_low = and_parts (is_hex low) true of_high.1 in
     let value : 16 * hex_value high + hex_value low ≡ byte = omega (arith, h.number, hex_value_is high of_high.0, hex_value_is low of_low.0) in
     ap (λ b. b ∷ bytes_of_pairs made) value
 first_pair byte (high ∷ low ∷ more ∷ two) made h = absurd (omega (arith, h.few))

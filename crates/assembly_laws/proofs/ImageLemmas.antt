@@ -2,11 +2,10 @@
 use Rattle.std.proofs.Common.{◌≡◌, ◌+◌, ◌-◌, ◌<◌, ◌≤◌, ap, sym, subst, ◌∙◌, ℕ, Bool, true, false, cond, List, [], ◌∷◌, ◌++◌, length, take, drop, fold, Option, None, Some, Result, Ok, Err, refl, arith, get_or}
 use Rattle.std.specs.Prelude.{is_some, nat_le, nat_lt, ◌&&◌, ◌||◌, replicate, unwrap_or}
 use Rattle.std.specs.List.{list_any}
-use Rattle.std.proofs.lemmas.Bool.{false≢true}
+use Rattle.std.proofs.lemmas.Bool.{false≢true, or_parts}
 use Rattle.std.proofs.lemmas.Bool.Decides.{nat_tests}
 use Rattle.std.proofs.lemmas.Grind.{elements, common_steps}
 use Rattle.y86_base.specs.declared.parts.Variant.{Variant}
-use Rattle.y86_base.proofs.Booleans.{both_false}
 use Rattle.y86_isa.specs.Table.{row}
 use Rattle.yas_asm.specs.declared.fault.AsmWhy.{AsmWhy}
 use Rattle.yas_asm.specs.declared.listing.Line.{Line}
@@ -84,7 +83,7 @@ fold-kept : (size a : ℕ) (lines : List Line) (memory : List ℕ) → AllFit si
 unfolding AllFit
 fold-kept size a [] memory f e n = refl
 fold-kept size a (line ∷ lines) memory f e n =
-    let two = both_false (emits line a) (list_any (λ line. emits line a) lines) n in
+    let two = or_parts (emits line a) (list_any (λ line. emits line a) lines) n in
     fold-kept size a lines (put_at line.addr line.bytes.items memory) f.1 (length-put_at size line.addr line.bytes.items memory f.0 e) two.1
     ∙ put_at-outside size line.addr line.bytes.items memory a f.0 e two.0
 

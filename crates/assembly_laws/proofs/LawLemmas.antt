@@ -5,7 +5,7 @@ use Rattle.std.specs.Str.{bytes_eq}
 use Rattle.std.proofs.lemmas.Slice.Eq.{bytes_eq-Decides}
 use Rattle.std.proofs.lemmas.Bool.{false≢true}
 use Rattle.std.proofs.lemmas.List.{append-nil, append_assoc}
-use Rattle.std.proofs.lemmas.Option.{none-some, cond_some}
+use Rattle.std.proofs.lemmas.Option.{none-some, cond_some, same_Some}
 use Rattle.std.proofs.lemmas.Grind.{fold-append}
 use Rattle.y86_base.specs.declared.parts.Variant.{Variant}
 use Rattle.yas_asm.specs.declared.fault.AsmWhy.{AsmWhy}
@@ -15,7 +15,7 @@ use Rattle.yas_asm.specs.declared.statement.Parsed.{Parsed}
 use Rattle.y86_base.specs.Keyword.{meaning_of}
 use Rattle.yas_asm.specs.Assembly.{Placed, source_lines, labels, label_of, label_limit, with_label, with_name, assembled, assembled_with, first_fault, fault_or, listing, listing_unless, line_fault, filled, is_defined, is_past_limit}
 use Rattle.yas_asm.specs.Laws.{LabelsAreAddresses, LabelsAreOfLines, IsLabelled}
-use Rattle.yas_asm.proofs.Parts.{head_is, no_middle, not_here, some_is, tail_is}
+use Rattle.yas_asm.proofs.Parts.{head_is, no_middle, not_here, tail_is}
 use Rattle.yas_asm.proofs.PassLemmas.{faultless}
 
 -- a look-up finds what it found when further names are put behind
@@ -216,7 +216,7 @@ from_lines table (line ∷ all) name a e = at (meaning_of (step table line) name
         → (meaning_of table name ≡ Some a) ⊎ IsLabelled (line ∷ all) name a
     at None s rest = later s rest
     at (Some b) s rest =
-        let same : b ≡ a = some_is _ _ (sym (fold-kept (step table line) all name b s) ∙ e) in
+        let same : b ≡ a = same_Some _ _ (sym (fold-kept (step table line) all name b s) ∙ e) in
         here (from_label table line.address (label_of line.read) name a (s ∙ ap Some same))
 
 pub labels_are_of_lines : LabelsAreOfLines

@@ -3,9 +3,8 @@ use Rattle.std.proofs.Common.{◌≡◌, ◌⊎◌, ℕ, ◌+◌, ◌/◌, ◌%�
 use Rattle.std.specs.Prelude.{option_and_then}
 use Rattle.std.specs.Option.{option_map_or}
 use Rattle.std.specs.Str.Parse.{digits_value}
-use Rattle.std.proofs.lemmas.Bool.{eqb-true, eqb-false, lt-ltb}
+use Rattle.std.proofs.lemmas.Bool.{eqb-true, eqb-false, lt-ltb, and_parts}
 use Rattle.y86_base.specs.Text.{is_blank, behind}
-use Rattle.y86_base.proofs.Booleans.{both_true}
 use Rattle.yo_object.specs.declared.object.YoWhy.{YoWhy}
 use Rattle.yo_object.specs.declared.object.YoWhy.TheVariants.{Syntax, OddDigits, OutsideMemory, AddressTooWide}
 use Rattle.y86_base.specs.Image.{with_bytes}
@@ -49,7 +48,7 @@ say_digits memory digits =
     by true odd outside w o x = ltb-true 16 (length digits.address) w
     by false true outside w o x = (ltb-false 16 (length digits.address) w, eqb-true (length digits.bytes % 2) 1 o)
     by false false true w o x =
-        let both = both_true (nat_lt 0 (length digits.bytes)) _ x in
+        let both = and_parts (nat_lt 0 (length digits.bytes)) _ x in
         let odd = eqb-false (length digits.bytes % 2) 1 o in
         (ltb-false 16 (length digits.address) w, omega (arith, odd), ltb-true 0 (length digits.bytes) both.0, ltb-true (length memory) _ both.1)
     by false false false w o x =

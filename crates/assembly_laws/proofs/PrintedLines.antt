@@ -1,12 +1,11 @@
 -- A printed line is read as its address and its bytes, and the printed lines are the lines of the text.
-use Rattle.std.proofs.Common.{◌≡◌, ℕ, zero, suc, ◌+◌, ◌-◌, ◌^◌, ◌<◌, ◌≤◌, Bool, true, false, not, List, [], ◌∷◌, ◌++◌, length, codes, take, drop, fold, replicate, All, IfSome, Option, Some, None, Ok, refl, ap, sym, subst, ◌∙◌, arith, append_assoc, length-append, length-take, length-drop}
+use Rattle.std.proofs.Common.{◌≡◌, ℕ, zero, suc, ◌+◌, ◌-◌, ◌^◌, ◌<◌, ◌≤◌, Bool, true, not, List, [], ◌∷◌, ◌++◌, length, codes, take, drop, fold, replicate, All, IfSome, Option, Some, None, Ok, refl, ap, sym, subst, ◌∙◌, arith, append_assoc, length-append, length-take, length-drop}
 use Rattle.std.specs.List.{list_all, flat_map}
-use Rattle.std.proofs.lemmas.Bool.{false≢true}
+use Rattle.std.proofs.lemmas.Bool.{not-true, and_parts}
 use Rattle.std.proofs.lemmas.Bool.Decides.{nat_tests}
 use Rattle.std.proofs.lemmas.List.Elements.{All-head, All-tail}
 use Rattle.y86_base.specs.Image.{AreBytes}
 use Rattle.y86_base.specs.Text.{is_blank, is_hex, is_line_feed, lines}
-use Rattle.y86_base.proofs.Booleans.{both_true}
 use Rattle.y86_base.specs.Numeral.{numeral}
 use Rattle.yas_asm.specs.declared.listing.Line.{Line}
 use Rattle.yas_asm.specs.Laws.{put_at}
@@ -33,23 +32,19 @@ hex_plain byte h = grind (arith, nat_tests)
 all_plain : (digits : List ℕ) → list_all is_hex digits ≡ true → list_all is_plain digits ≡ true
 all_plain [] h = refl
 all_plain (digit ∷ digits) h =
-    let b = both_true (is_hex digit) (list_all is_hex digits) h in
+    let b = and_parts (is_hex digit) (list_all is_hex digits) h in
     rw (hex_plain digit b.0, all_plain digits b.1) refl
 
 blanks_plain : (count : ℕ) → list_all is_plain (replicate count 32) ≡ true
 blanks_plain zero = refl
 blanks_plain (suc count) = blanks_plain count
 
-not_is : (b : Bool) → not b ≡ true → b ≡ false
-not_is true h = absurd (false≢true h)
-not_is false h = refl
-
 -- a text up to a line feed is the first line, and the lines behind it are the others
 next_line : (line rest : List ℕ) → list_all is_plain line ≡ true → lines (line ++ (10 ∷ rest)) ≡ line ∷ lines rest
 next_line [] rest h = refl
 next_line (byte ∷ line) rest h =
-    let b = both_true (is_plain byte) (list_all is_plain line) h in
-    rw (not_is (is_line_feed byte) b.0, next_line line rest b.1) refl
+    let b = and_parts (is_plain byte) (list_all is_plain line) h in
+    rw (not-true (is_line_feed byte) b.0, next_line line rest b.1) refl
 
 -- the text of a line
 

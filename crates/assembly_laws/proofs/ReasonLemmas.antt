@@ -2,9 +2,8 @@
 use Rattle.std.proofs.Common.{◌≡◌, ◌≤◌, ap, sym, subst, ◌∙◌, ℕ, Bool, true, false, cond, List, [], ◌∷◌, Option, None, Some, Ok, Err, refl}
 use Rattle.std.specs.Prelude.{is_none, not, ◌||◌, nat_le}
 use Rattle.std.specs.List.{list_all}
-use Rattle.std.proofs.lemmas.Bool.{false≢true}
+use Rattle.std.proofs.lemmas.Bool.{false≢true, and_parts}
 use Rattle.y86_base.specs.declared.parts.Variant.{Variant}
-use Rattle.y86_base.proofs.Booleans.{both_true}
 use Rattle.yas_asm.specs.declared.fault.AsmWhy.{AsmWhy}
 use Rattle.yas_asm.specs.declared.fault.AsmWhy.TheVariants.{Syntax, BadByte, NumberTooWide, LabelTwice, LabelUnknown, OutsideMemory, Overlap, LabelLimit, Memory}
 use Rattle.yas_asm.specs.declared.statement.Parsed.{Parsed}
@@ -21,15 +20,15 @@ reasons = Syntax ∷ BadByte ∷ NumberTooWide ∷ LabelTwice ∷ LabelUnknown �
 -- what holds of the list of all reasons holds of each
 each : (test : AsmWhy → Bool) → list_all test reasons ≡ true → (why : AsmWhy) → test why ≡ true
 each test e why =
-    let t1 = both_true _ _ e in
-    let t2 = both_true _ _ t1.1 in
-    let t3 = both_true _ _ t2.1 in
-    let t4 = both_true _ _ t3.1 in
-    let t5 = both_true _ _ t4.1 in
-    let t6 = both_true _ _ t5.1 in
-    let t7 = both_true _ _ t6.1 in
-    let t8 = both_true _ _ t7.1 in
-    let t9 = both_true _ _ t8.1 in
+    let t1 = and_parts _ _ e in
+    let t2 = and_parts _ _ t1.1 in
+    let t3 = and_parts _ _ t2.1 in
+    let t4 = and_parts _ _ t3.1 in
+    let t5 = and_parts _ _ t4.1 in
+    let t6 = and_parts _ _ t5.1 in
+    let t7 = and_parts _ _ t6.1 in
+    let t8 = and_parts _ _ t7.1 in
+    let t9 = and_parts _ _ t8.1 in
     by t1.0 t2.0 t3.0 t4.0 t5.0 t6.0 t7.0 t8.0 t9.0 why
   where
     by : test Syntax ≡ true → test BadByte ≡ true → test NumberTooWide ≡ true → test LabelTwice ≡ true → test LabelUnknown ≡ true → test OutsideMemory ≡ true

@@ -2,10 +2,9 @@
 use Rattle.std.proofs.Common.{◌≡◌, ◌+◌, ap, sym, ◌∙◌, ℕ, Bool, true, false, cond, zero, suc, List, [], ◌∷◌, ◌++◌, length, map, drop, fold, Option, None, Some, Result, Ok, Err, refl, arith}
 use Rattle.std.specs.Prelude.{nat_le, not, ◌&&◌, ◌==◌, ◌||◌}
 use Rattle.std.specs.List.{list_all}
-use Rattle.std.proofs.lemmas.Bool.{false≢true}
+use Rattle.std.proofs.lemmas.Bool.{false≢true, eqb-true, and_parts}
 use Rattle.y86_base.specs.declared.parts.Variant.{Variant}
 use Rattle.y86_base.specs.Text.{begins, behind, is_blank, lines}
-use Rattle.y86_base.proofs.Booleans.{both_true}
 use Rattle.yas_asm.specs.declared.fault.AsmWhy.{AsmWhy}
 use Rattle.yas_asm.specs.declared.fault.AsmWhy.TheVariants.{BadByte}
 use Rattle.yas_asm.specs.declared.fault.AsmFault.{AsmFault}
@@ -15,7 +14,7 @@ use Rattle.yas_asm.specs.Comments.{bad_outside, comment_length, ends, is_good}
 use Rattle.yas_asm.specs.Grammar.{line, checked, read_line}
 use Rattle.yas_asm.specs.Assembly.{Placed, placed, source_lines, labels, label_of, with_label, address_after, addresses, assembled, assembled_with, filled, first_fault, fault_or, line_fault, listing, listing_unless, listed}
 use Rattle.yas_asm.specs.Spacing.{is_sign, squeezed, place_of, places, SpacingIsFree}
-use Rattle.yas_asm.proofs.Parts.{eq_is, head_is, tail_is, no_cons}
+use Rattle.yas_asm.proofs.Parts.{head_is, tail_is, no_cons}
 use Rattle.yas_asm.proofs.PassLemmas.{faults_from, first_fault-state}
 use Rattle.assembly_laws.proofs.SpacingLemmas.{after_blanks-blank, after_blanks-other, ends-other, hash_ends, no_comment, skips, squeezed-blank, squeezed-end, squeezed-none, squeezed-other, squeezed-slash}
 use Rattle.assembly_laws.proofs.SpacingGrammar.{line-squeezed}
@@ -30,7 +29,7 @@ blank_is_no : (byte c : ℕ) → is_blank byte ≡ true → is_blank c ≡ false
 blank_is_no byte c e f = by (byte == c) refl
   where
     by : (b : Bool) → (byte == c) ≡ b → b ≡ false
-    by true t = absurd (false≢true (sym f ∙ ap is_blank (sym (eq_is byte c t)) ∙ e))
+    by true t = absurd (false≢true (sym f ∙ ap is_blank (sym (eqb-true byte c t)) ∙ e))
     by false t = refl
 
 blank_passed : (byte : ℕ) (bytes : List ℕ) → is_blank byte ≡ true → bad_outside 0 (byte ∷ bytes) ≡ bad_outside 0 bytes
@@ -49,7 +48,7 @@ blanks_passed (byte ∷ bytes) = by (is_blank byte) refl (blanks_passed bytes)
 blanks_good : (bytes : List ℕ) → list_all is_blank bytes ≡ true → list_all is_good bytes ≡ true
 blanks_good [] e = refl
 blanks_good (byte ∷ bytes) e =
-    let two = both_true (is_blank byte) (list_all is_blank bytes) e in rw (blank_good byte two.0, blanks_good bytes two.1) refl
+    let two = and_parts (is_blank byte) (list_all is_blank bytes) e in rw (blank_good byte two.0, blanks_good bytes two.1) refl
 
 comment_passed : (text : List ℕ) → bad_outside 0 text ≡ bad_outside 0 (drop (comment_length text) text)
 comment_passed text = by (comment_length text) refl

@@ -3,11 +3,10 @@ use Rattle.std.proofs.Common.{◌≡◌, ◌+◌, ap, sym, subst, ◌∙◌, ℕ
 use Rattle.std.specs.Prelude.{nat_eq, not, ◌&&◌, ◌||◌, ◌==◌, codes, take_while, unwrap_or}
 use Rattle.std.specs.List.{list_all, starts_with, prefix_len}
 use Rattle.std.proofs.Math.Numerals.{one-add}
-use Rattle.std.proofs.lemmas.Bool.{false≢true}
+use Rattle.std.proofs.lemmas.Bool.{false≢true, not-true, or_parts, eqb-true, and_parts}
 use Rattle.std.proofs.lemmas.Bool.Decides.{nat_tests}
 use Rattle.std.specs.Str.Parse.{digits_value}
 use Rattle.y86_base.specs.Text.{after_byte, begins, behind, below_word, is_blank, is_decimal, is_hex, is_name_byte}
-use Rattle.y86_base.proofs.Booleans.{both_true, both_false}
 use Rattle.y86_base.specs.declared.number.Number.{Number}
 use Rattle.y86_base.specs.Keyword.{keyword_at}
 use Rattle.y86_base.specs.Number.{decimal_at, digits_at, unsigned_at}
@@ -15,7 +14,6 @@ use Rattle.y86_base.specs.Registers.{register_names}
 use Rattle.yas_asm.specs.Tokens.{is_name_start, sign, name_at, name, is_hex_number, number_at, number, next_is}
 use Rattle.yas_asm.specs.Comments.{comment_length, close_length, ends_at, ends}
 use Rattle.yas_asm.specs.Tables.{register, directives, directive}
-use Rattle.yas_asm.proofs.Parts.{eq_is}
 use Rattle.yas_asm.specs.Spacing.{is_sign, squeezed}
 
 -- a byte that ends each token: a blank, a sign, `#` or `/`
@@ -31,9 +29,9 @@ pub record IsPlain (byte : ℕ) : Type 0 where
 
 plain : (byte : ℕ) → stops byte ≡ false → IsPlain byte
 plain byte e =
-    let slash = both_false (is_blank byte || is_sign byte || byte == 35) (byte == 47) e in
-    let hash = both_false (is_blank byte || is_sign byte) (byte == 35) slash.0 in
-    let sign = both_false (is_blank byte) (is_sign byte) hash.0 in
+    let slash = or_parts (is_blank byte || is_sign byte || byte == 35) (byte == 47) e in
+    let hash = or_parts (is_blank byte || is_sign byte) (byte == 35) slash.0 in
+    let sign = or_parts (is_blank byte) (is_sign byte) hash.0 in
     record { blank = sign.0; sign = sign.1; hash = hash.1; slash = slash.1 }
 
 starts_more : (byte c : ℕ) (bytes w : List ℕ) → starts_with nat_eq (byte ∷ bytes) (c ∷ w) ≡ (nat_eq c byte && starts_with nat_eq bytes w)
@@ -221,8 +219,8 @@ outer test inner byte s = by (test byte) refl
     by : (b : Bool) → test byte ≡ b → test byte ≡ false
     by false e = e
     by true e =
-        let two = both_false (skips byte || byte == 35) (byte == 47) (inner byte e) in
-        absurd (false≢true (sym (both_false (skips byte) (byte == 35) two.0).0 ∙ s))
+        let two = or_parts (skips byte || byte == 35) (byte == 47) (inner byte e) in
+        absurd (false≢true (sym (or_parts (skips byte) (byte == 35) two.0).0 ∙ s))
 
 begins_skip : (test : ℕ → Bool) → IsOuter test → (bytes : List ℕ) → begins skips bytes ≡ true → begins test bytes ≡ false
 unfolding IsOuter
@@ -356,10 +354,6 @@ name-moved close bytes = behind_blanks name_at name_at-moved close bytes
 abbrev pub is_plain_text : List ℕ → Bool
 is_plain_text text = list_all (λ byte. not (stops byte)) text
 
-not_is : (b : Bool) → not b ≡ true → b ≡ false
-not_is true e = absurd (false≢true e)
-not_is false e = refl
-
 eq_outer : (c : ℕ) → stops c ≡ false → IsOuter (λ byte. nat_eq c byte)
 unfolding IsOuter
 eq_outer c p byte s = by (nat_eq c byte) refl
@@ -367,8 +361,8 @@ eq_outer c p byte s = by (nat_eq c byte) refl
     by : (b : Bool) → nat_eq c byte ≡ b → nat_eq c byte ≡ false
     by false e = e
     by true e =
-        let two = both_false (skips c || c == 35) (c == 47) p in
-        absurd (false≢true (sym (both_false (skips c) (c == 35) two.0).0 ∙ ap skips (eq_is c byte e) ∙ s))
+        let two = or_parts (skips c || c == 35) (c == 47) p in
+        absurd (false≢true (sym (or_parts (skips c) (c == 35) two.0).0 ∙ ap skips (eqb-true c byte e) ∙ s))
 
 starts_none : (c : ℕ) (w text : List ℕ) → begins (λ byte. nat_eq c byte) text ≡ false → starts_with nat_eq text (c ∷ w) ≡ false
 starts_none c w [] e = refl
@@ -377,15 +371,15 @@ starts_none c w (byte ∷ text) e = starts_more byte c text w ∙ ap (λ b. b &&
 starts-squeezed : (word text : List ℕ) → is_plain_text word ≡ true → starts_with nat_eq (squeezed false text) word ≡ starts_with nat_eq text word
 starts-squeezed [] text p = refl
 starts-squeezed (c ∷ word) [] p = ap (λ xs. starts_with nat_eq xs (c ∷ word)) (squeezed-none false)
-starts-squeezed (c ∷ word) (byte ∷ text) p = by (nat_eq c byte) refl (starts-squeezed word text (both_true (not (stops c)) (is_plain_text word) p).1)
+starts-squeezed (c ∷ word) (byte ∷ text) p = by (nat_eq c byte) refl (starts-squeezed word text (and_parts (not (stops c)) (is_plain_text word) p).1)
   where
     here : stops c ≡ false
-    here = not_is (stops c) (both_true (not (stops c)) (is_plain_text word) p).0
+    here = not-true (stops c) (and_parts (not (stops c)) (is_plain_text word) p).0
 
     by : (b : Bool) → nat_eq c byte ≡ b → starts_with nat_eq (squeezed false text) word ≡ starts_with nat_eq text word
         → starts_with nat_eq (squeezed false (byte ∷ text)) (c ∷ word) ≡ starts_with nat_eq (byte ∷ text) (c ∷ word)
     by true e rest =
-        ap (λ xs. starts_with nat_eq xs (c ∷ word)) (squeezed-plain false byte text (sym (ap stops (eq_is c byte e)) ∙ here))
+        ap (λ xs. starts_with nat_eq xs (c ∷ word)) (squeezed-plain false byte text (sym (ap stops (eqb-true c byte e)) ∙ here))
         ∙ starts_more byte c (squeezed false text) word ∙ ap (λ b. nat_eq c byte && b) rest ∙ sym (starts_more byte c text word)
     by false e rest =
         starts_none c word (squeezed false (byte ∷ text)) (begins-squeezed (λ b. nat_eq c b) (eq_outer c here) (byte ∷ text) e)
@@ -395,9 +389,9 @@ drop-squeezed : (word text : List ℕ) → is_plain_text word ≡ true → start
 drop-squeezed [] text p s = refl
 drop-squeezed (c ∷ word) [] p s = absurd (false≢true s)
 drop-squeezed (c ∷ word) (byte ∷ text) p s =
-    let two = both_true (nat_eq c byte) (starts_with nat_eq text word) (sym (starts_more byte c text word) ∙ s) in
-    let parts = both_true (not (stops c)) (is_plain_text word) p in
-    ap (drop (length (c ∷ word))) (squeezed-plain false byte text (sym (ap stops (eq_is c byte two.0)) ∙ not_is (stops c) parts.0))
+    let two = and_parts (nat_eq c byte) (starts_with nat_eq text word) (sym (starts_more byte c text word) ∙ s) in
+    let parts = and_parts (not (stops c)) (is_plain_text word) p in
+    ap (drop (length (c ∷ word))) (squeezed-plain false byte text (sym (ap stops (eqb-true c byte two.0)) ∙ not-true (stops c) parts.0))
     ∙ drop-squeezed word text parts.1 two.1
 
 module _ {A : Type 0} where
@@ -413,7 +407,7 @@ module _ {A : Type 0} where
   unfolding keyword_at
   keyword_at-moved [] text p = tt
   keyword_at-moved (row ∷ rows) text p =
-      let parts = both_true (is_plain_text row.0) (list_all (λ row. is_plain_text row.0) rows) p in
+      let parts = and_parts (is_plain_text row.0) (list_all (λ row. is_plain_text row.0) rows) p in
       keyword-step (starts_with nat_eq (squeezed false text) row.0) (starts_with nat_eq text row.0) row text (keyword_at rows text) (keyword_at rows (squeezed false text))
       (starts-squeezed row.0 text parts.0) (drop-squeezed row.0 text parts.0) (keyword_at-moved rows text parts.1)
 
@@ -447,7 +441,7 @@ is_minus byte = byte == 45
 
 inner_minus : IsInner (λ byte. byte == 45)
 unfolding IsInner
-inner_minus byte e = ap stops (eq_is byte 45 e)
+inner_minus byte e = ap stops (eqb-true byte 45 e)
 
 -- what stands behind a byte, by its test
 after_byte_is : (w : ℕ) (text : List ℕ) → after_byte w text ≡ cond (begins (λ byte. byte == w) text) (Some (drop 1 text)) None
@@ -468,7 +462,7 @@ minus-squeezed (byte ∷ text) = by (byte == 45) refl
     by : (b : Bool) → (byte == 45) ≡ b → unwrap_or (after_byte 45 (squeezed false (byte ∷ text))) (squeezed false (byte ∷ text)) ≡ squeezed false (unwrap_or (after_byte 45 (byte ∷ text)) (byte ∷ text))
     by true e =
         body true (squeezed false (byte ∷ text)) (begins_inner (λ byte. byte == 45) inner_minus (byte ∷ text) ∙ e)
-        ∙ ap (drop 1) (squeezed-plain false byte text (ap stops (eq_is byte 45 e)))
+        ∙ ap (drop 1) (squeezed-plain false byte text (ap stops (eqb-true byte 45 e)))
         ∙ ap (squeezed false) (sym (body true (byte ∷ text) e))
     by false e =
         body false (squeezed false (byte ∷ text)) (begins_inner (λ byte. byte == 45) inner_minus (byte ∷ text) ∙ e)
@@ -498,7 +492,7 @@ number_at-moved text =
     hex_step (is_hex_number (squeezed false text)) (is_hex_number text) (digits_at false 16 is_hex (drop 2 (squeezed false text))) (digits_at false 16 is_hex (drop 2 text)) _ _
     (is_hex_number-squeezed text)
     (λ h. digits-squeezed false 16 is_hex inner_hex (drop 2 text) (drop 2 (squeezed false text))
-    (drop-squeezed (codes "0x") text refl (both_true (starts_with nat_eq text (codes "0x")) (begins is_hex (drop 2 text)) h).0))
+    (drop-squeezed (codes "0x") text refl (and_parts (starts_with nat_eq text (codes "0x")) (begins is_hex (drop 2 text)) h).0))
     (unsigned_at-moved (begins (λ byte. byte == 45) text) (begins (λ byte. byte == 45) (squeezed false text)) (unwrap_or (after_byte 45 text) text) _
     (begins_inner (λ byte. byte == 45) inner_minus text) (minus-squeezed text))
 
@@ -510,7 +504,7 @@ number-moved close bytes = behind_blanks number_at number_at-moved close bytes
 head_sign : (w : ℕ) → is_blank w ≡ false → (w == 35) ≡ false → (w == 47) ≡ false → is_sign w ≡ true → (byte : ℕ) (text : List ℕ) → (byte == w) ≡ true
     → squeezed false (byte ∷ text) ≡ byte ∷ squeezed true text
 head_sign w b h s i byte text e =
-    let same = eq_is byte w e in
+    let same = eqb-true byte w e in
     squeezed-other false byte text (not_end byte text (ap is_blank same ∙ b) (ap (λ x. x == 35) same ∙ h) (ap (λ x. x == 47) same ∙ s)) (ap is_blank same ∙ b) (ap (λ x. x == 47) same ∙ s)
     ∙ ap (λ x. byte ∷ squeezed x text) (ap is_sign same ∙ i)
 

@@ -2,6 +2,7 @@
 use Rattle.std.proofs.Common.{◌≡◌, ◌⊎◌, inl, inr, ℕ, ◌<◌, ◌≤◌, min, Bool, true, false, not, ◌&&◌, cond, List, get_or, slice_get, Option, Some, None, refl, sym, ap, ◌∙◌, subst, arith}
 use Rattle.std.specs.Prelude.{nat_eq, IfSome}
 use Rattle.std.proofs.lemmas.Bool.{cases_Bool}
+use Rattle.std.proofs.Math.Bool.{and-true, and-false}
 use Rattle.bdd_core.specs.Diagrams.{Diagrams, at, count, reach, dia_truth, child, part, IsWell, Keeps}
 use Rattle.bdd_core.specs.Answers.{op_truth, IsKey, IsAnswer, AreAnswers, IsSplit, IsMade, IsSettled}
 use Rattle.bdd_core.specs.Results.{AreBlank, Holds}
@@ -22,14 +23,6 @@ first_truth s v well = reach_first well 0 v
 pub second_truth : (s : Diagrams) (v : List Bool) → IsWell s → dia_truth s 1 v ≡ true
 unfolding dia_truth
 second_truth s v well = reach_second well 1 v
-
-and_false : (x : Bool) → x && false ≡ false
-and_false true = refl
-and_false false = refl
-
-and_true : (x : Bool) → x && true ≡ x
-and_true true = refl
-and_true false = refl
 
 and_same : (x : Bool) → x && x ≡ x
 and_same true = refl
@@ -75,7 +68,7 @@ and_first k e f s well key = record {
   where
     by : (v : List Bool) → (k.left ≡ 0) ⊎ (k.right ≡ 0) → dia_truth s k.left v && dia_truth s k.right v ≡ false
     by v (inl l) = ap (λ x. x && dia_truth s k.right v) (ap (λ d. dia_truth s d v) l ∙ first_truth s v well)
-    by v (inr r) = ap (λ x. dia_truth s k.left v && x) (ap (λ d. dia_truth s d v) r ∙ first_truth s v well) ∙ and_false (dia_truth s k.left v)
+    by v (inr r) = ap (λ x. dia_truth s k.left v && x) (ap (λ d. dia_truth s d v) r ∙ first_truth s v well) ∙ and-false (dia_truth s k.left v)
 
 pub and_left : (k : Key) → k.op ≡ And → k.left ≡ 1 → IsSettled k k.right
 and_left k e f s well key = record {
@@ -96,7 +89,7 @@ and_right k e f s well key = record {
 }
   where
     by : (v : List Bool) → (k.right ≡ 1) ⊎ (k.left ≡ k.right) → dia_truth s k.left v && dia_truth s k.right v ≡ dia_truth s k.left v
-    by v (inl l) = ap (λ x. dia_truth s k.left v && x) (ap (λ d. dia_truth s d v) l ∙ second_truth s v well) ∙ and_true (dia_truth s k.left v)
+    by v (inl l) = ap (λ x. dia_truth s k.left v && x) (ap (λ d. dia_truth s d v) l ∙ second_truth s v well) ∙ and-true (dia_truth s k.left v)
     by v (inr r) = ap (λ x. dia_truth s k.left v && x) (ap (λ d. dia_truth s d v) (sym r)) ∙ and_same (dia_truth s k.left v)
 
 pub splits : (s : Diagrams) (k : Key) (p : Split) → IsWell s → IsKey s k → 2 ≤ k.left → p.var ≡ min (at s k.left).var (at s k.right).var

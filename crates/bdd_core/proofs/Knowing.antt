@@ -1,7 +1,8 @@
 -- The gates that have diagrams.
 use Rattle.std.proofs.Common.{◌≡◌, ◌⊎◌, inl, inr, ℕ, ◌+◌, ◌<◌, ◌≤◌, Bool, true, false, List, length, replicate, set, get_or, slice_get, Some, sym, ap, ◌∙◌, subst, arith}
-use Rattle.std.proofs.lemmas.Bool.{cases_lt, cases_eq, false≢true}
-use Rattle.std.proofs.lemmas.List.{get_or-set_other, get_or-set_same, length-set, get_or-replicate, get_or_past, length-replicate}
+use Rattle.std.proofs.lemmas.Bool.{cases_lt, cases_eq}
+use Rattle.std.proofs.lemmas.List.{get_or-set_other, get_or-set_same, length-set, length-replicate}
+use Rattle.y86_base.proofs.Lists.{none_true}
 use Rattle.nets.specs.Nets.{Gates, ReadsEarlier, gate_value, truths}
 use Rattle.nets.specs.Nets.{truth as gate_truth}
 use Rattle.nets.specs.declared.net.Gate.{Gate}
@@ -11,15 +12,8 @@ use Rattle.bdd_core.specs.Meaning.{IsBuilt}
 use Rattle.bdd_core.specs.declared.store.Dia.{Dia}
 use Rattle.bdd_core.proofs.Gates.{truth_stays, value_is}
 
-get_or_blank : (k j : ℕ) → get_or (replicate k false) j false ≡ true → ⊥
-get_or_blank k j e = by (cases_lt j k)
-  where
-    by : (j < k) ⊎ (k ≤ j) → ⊥
-    by (inl lt) = false≢true (sym (get_or-replicate k j false false lt) ∙ e)
-    by (inr le) = false≢true (sym (get_or_past (replicate k false) j false (let l = length-replicate k false in omega (arith, l, le))) ∙ e)
-
 pub none_known : (n : Gates) (b : KnownGates) (k : ℕ) → k ≡ length n.gates → b.known ≡ replicate k false → b.made ≡ replicate k 0 → (s : Diagrams) → AreKnown s n b
-none_known n b k e known made s = record { size = ap length known ∙ (length-replicate k false ∙ e); room = ap length made ∙ (length-replicate k 0 ∙ e); each = λ j h. absurd (get_or_blank k j (ap (λ (xs : List Bool). get_or xs j false) (sym known) ∙ h)) }
+none_known n b k e known made s = record { size = ap length known ∙ (length-replicate k false ∙ e); room = ap length made ∙ (length-replicate k 0 ∙ e); each = λ j h. absurd (none_true k j (ap (λ (xs : List Bool). get_or xs j false) (sym known) ∙ h)) }
 
 pub known_stays : {a b : Diagrams} {n : Gates} {k : KnownGates} → IsWell a → Keeps a b → AreKnown a n k → AreKnown b n k
 known_stays well keeps known = record { size = known.size; room = known.room; each = λ j h. truth_stays well keeps (known.each j h) }

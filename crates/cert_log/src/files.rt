@@ -1,5 +1,5 @@
 //! A certificate of a file that the check accepts, and the check of a certificate of a file.
-ghost use Rattle.std.specs.Prelude.{◌≡◌, ◌++◌, IfErr, IfOk, OnOk};
+ghost use Rattle.std.specs.Prelude.{◌≡◌, IfErr, IfOk, OnOk};
 ghost use Rattle.dp_signals.specs.PipeTable.{pipe_rows};
 ghost use Rattle.hcl_types.specs.Tables.{IsBound, IsOrderOf};
 ghost use Rattle.control_check.specs.PipeVerdicts.{RefinesPipe};
@@ -15,7 +15,7 @@ use hcl_types::{Design, Order};
 use pipe_motion::Settings;
 use std::alloc::Global;
 use verdict_text::pipe_acceptance;
-use y86_base::{Memory, Variant};
+use y86_base::{Memory, Variant, put};
 
 /// What a certificate of a design with control values has to show.
 #[tactic(auto, using(crate::proofs::Shown::not_mixed, crate::proofs::Shown::not_over))]
@@ -93,16 +93,6 @@ pub fn recheck_file(
     match recheck(alloc, &demands, bytes) {
         Ok(()) => Ok(settings),
         Err(error) => Err(error),
-    }
-}
-
-/// Puts bytes behind a text.
-fn put(out: &mut Vec<u8>, bytes: &[u8]) -> Result<(), Memory>
-    ensures { OnOk result (out.new.items ≡ out.old.items ++ bytes.now) }
-{
-    match out.extend_from_slice(bytes) {
-        Ok(()) => Ok(()),
-        Err(_) => Err(Memory),
     }
 }
 

@@ -8,17 +8,7 @@ ghost use Rattle.cert_writer.specs.Writing.{AreGates, AreNamed, Wrote, facts_wit
 use crate::claims::Claims;
 use certificates::{Demands, Line, Made};
 use nets::Gate;
-use y86_base::{Memory, Numeral};
-
-/// Puts bytes behind a text.
-pub(crate) fn put(out: &mut Vec<u8>, bytes: &[u8]) -> Result<(), Memory>
-    ensures { OnOk result (out.new.items ≡ out.old.items ++ bytes.now) }
-{
-    match out.extend_from_slice(bytes) {
-        Ok(()) => Ok(()),
-        Err(_) => Err(Memory),
-    }
-}
+use y86_base::{Memory, Numeral, put};
 
 /// Puts a blank and a number.
 #[tactic(auto, using(crate::proofs::Texts::number_put))]

@@ -9,13 +9,13 @@ use crate::claims::Claims;
 use crate::drawn::{Drawn, draw};
 use crate::order::{Weave, order_of};
 use crate::terms::Terms;
-use crate::text::{put, put_gates, put_steps, put_terms};
+use crate::text::{put_gates, put_steps, put_terms};
 use certificates::Demands;
 use nets::Valuation;
 use pipe_motion::Settings;
 use std::alloc::Global;
 use verdict_text::pipe_acceptance;
-use y86_base::Memory;
+use y86_base::{Memory, put};
 
 /// A valuation of the diagrams' variables at which a demanded gate is false, if any.
 fn counter(g: &Demands, drawn: &Drawn, k: usize) -> Result<Option<Valuation>, Memory>

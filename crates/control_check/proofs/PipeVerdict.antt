@@ -3,6 +3,7 @@ use Rattle.std.proofs.Common.{◌≡◌, ℕ, zero, suc, ◌+◌, ◌-◌, ◌<�
 use Rattle.std.proofs.lemmas.Bool.{false≢true, cases_lt}
 use Rattle.std.proofs.lemmas.List.{get_or_past}
 use Rattle.std.proofs.lemmas.Option.{slice_get_within}
+use Rattle.std.proofs.Math.Bool.{not-not}
 use Rattle.y86_base.specs.declared.parts.Variant.{Variant}
 use Rattle.nets.specs.Nets.{Gates, truth}
 use Rattle.hcl_types.specs.Tables.{IsOrderOf}
@@ -132,10 +133,6 @@ module _ (v : Variant) (terms : List Term) (atoms : List Atom) (apart : AreApart
 
 -- ---- the settings
 
-not_not : (b : Bool) → not (not b) ≡ b
-not_not true = refl
-not_not false = refl
-
 pub closed_gates : (terms : List Term) (atoms : List Atom) (net : Gates) (gates : List ℕ) (f : ℕ → Truth) → ((i : ℕ) → i < 7 → IsFormula terms atoms net (get_or gates i 0) (f i)) → HasGates net gates
 closed_gates terms atoms net gates f h i lt = (h i lt).within
 
@@ -154,7 +151,7 @@ module _ (v : Variant) (terms : List Term) (ids : List ℕ) (o : IsOrderOf pipe_
       Decides b (Somewhere v atoms (PipeControls terms) (f atoms))
   late_decides atoms late_atoms net g f b h k vars formula decided =
       subst (λ (them : List Atom). Decides b (Somewhere v them (PipeControls terms) (f them))) (same_list late_atoms atoms k h)
-      (subst (λ x. Decides x (Somewhere v late_atoms (PipeControls terms) (f late_atoms))) (not_not b)
+      (subst (λ x. Decides x (Somewhere v late_atoms (PipeControls terms) (f late_atoms))) (not-not b)
       (decides_some v terms late_atoms (apart late_atoms k) exists net vars g (f late_atoms) (not b) formula decided))
 
   pub settings_are : (first : Gates) (pt pb : List ℕ) (tv : ℕ) (closed : AreClosed v terms first pt pb tv) (s : Settings) (pt' pb' : List Bool) (tv' : Bool) →

@@ -1,24 +1,16 @@
 -- The bits of atoms that are apart are the truths that they are given.
 use Rattle.std.proofs.Common.{◌≡◌, ℕ, zero, suc, ◌+◌, Bool, true, false, if◌then◌else◌, List, [], ◌∷◌, get_or, slice_get, Some, refl, sym, ap, ◌∙◌, subst, inl, inr, arith}
+use Rattle.std.proofs.lemmas.Option.{same_Some}
 use Rattle.hcl_types.specs.Lists.{IsApart, IsIn}
 use Rattle.ctl_atoms.specs.declared.leaf.Atom.{Atom}
-use Rattle.ctl_atoms.specs.declared.leaf.AtomKind.{AtomKind}
-use Rattle.ctl_atoms.specs.declared.leaf.AtomKind.TheVariants.{Lt, Eq}
-use Rattle.ctl_atoms.specs.Leaves.{AtomsAre, atom_eq, kind_eq}
-use Rattle.ctl_atoms.proofs.Same.{atom_eq_true, leaf_eq_self}
-use Rattle.ctl_formula.proofs.Rows.{from_some}
+use Rattle.ctl_atoms.specs.Leaves.{AtomsAre, atom_eq}
+use Rattle.ctl_atoms.proofs.Same.{atom_eq_true}
+use Rattle.ctl_atoms.proofs.Added.{atom_eq_self}
 use Rattle.control_values.specs.Given.{assigned, truth_from}
-
-kind_self : (k : AtomKind) → kind_eq k k ≡ true
-kind_self Lt = refl
-kind_self Eq = refl
-
-atom_self : (a : Atom) → atom_eq a a ≡ true
-atom_self a = rw (kind_self a.kind, leaf_eq_self a.left, leaf_eq_self a.right) refl
 
 stands : (xs : List Atom) (k : ℕ) (a : Atom) → slice_get xs k ≡ Some a → IsIn a xs
 stands [] k a e = cc
-stands (x ∷ xs) zero a e = inl (sym (from_some x a e))
+stands (x ∷ xs) zero a e = inl (sym (same_Some x a e))
 stands (x ∷ xs) (suc k) a e = inr (stands xs k a e)
 
 at_head : (b : Bool) (x y : Bool) → b ≡ true → x ≡ (if b then x else y)
@@ -33,7 +25,7 @@ pub given_from : (xs : List Atom) (first : ℕ) (w : List Bool) → IsApart xs �
 given_from [] first w apart k a e = cc
 given_from (x ∷ xs) first w apart zero a e =
     ap (λ n. get_or w n false) (let z : first + 0 ≡ first = omega arith in z)
-    ∙ at_head (atom_eq x a) (get_or w first false) (truth_from (first + 1) xs w a) (subst (λ (y : Atom). atom_eq x y ≡ true) (from_some x a e) (atom_self x))
+    ∙ at_head (atom_eq x a) (get_or w first false) (truth_from (first + 1) xs w a) (subst (λ (y : Atom). atom_eq x y ≡ true) (same_Some x a e) (atom_eq_self x))
 given_from (x ∷ xs) first w apart (suc k) a e =
     behind (atom_eq x a) (get_or w first false) (truth_from (first + 1) xs w a) (get_or w (first + suc k) false)
     (λ same. apart.0 (subst (λ (y : Atom). IsIn y xs) (sym (atom_eq_true x a same)) (stands xs k a e)))

@@ -1,4 +1,3 @@
-mod Loops
 mod Fields
 pub mod Solved
 pub mod AtomsGiven

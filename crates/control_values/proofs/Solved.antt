@@ -1,5 +1,5 @@
 -- Leaves that are computed along an order from those of the given rows solve the equations of control values.
-use Rattle.std.proofs.Common.{◌≡◌, ℕ, zero, suc, ◌+◌, ◌-◌, ◌++◌, ◌<◌, ◌≤◌, Bool, true, false, List, [], ◌∷◌, length, drop, get_or, slice_get, slice_set, nat_lt, Option, Some, None, refl, sym, ap, ◌∙◌, subst, arith}
+use Rattle.std.proofs.Common.{◌≡◌, ℕ, ◌+◌, ◌-◌, ◌++◌, ◌<◌, ◌≤◌, Bool, true, false, List, [], ◌∷◌, length, drop, get_or, slice_get, slice_set, nat_lt, Option, Some, None, refl, sym, ap, ◌∙◌, subst, arith}
 use Rattle.std.proofs.lemmas.Bool.Decides.{nat_tests}
 use Rattle.std.proofs.lemmas.List.{drop_more, length-append, get_or_append_left, get_or-append_right, get_or_past, get_or-set_same, get_or-set_other, length-set}
 use Rattle.std.proofs.lemmas.Option.{slice_get_past}
@@ -15,15 +15,10 @@ use Rattle.hcl_types.proofs.Orders.{solved}
 use Rattle.ctl_atoms.specs.declared.leaf.Leaf.{Leaf}
 use Rattle.ctl_atoms.specs.declared.leaf.Leaf.TheVariants.{Number}
 use Rattle.ctl_atoms.specs.Leaves.{Assignment}
+use Rattle.ctl_atoms.proofs.Solved.{known_row, unknown_inside}
 use Rattle.ctl_formula.specs.Controls.{AreControls, control_rule, role_leaf, row_leaf}
-use Rattle.ctl_formula.proofs.Rows.{known_row, rule_local, rule_past, rule_row}
+use Rattle.ctl_formula.proofs.Rows.{rule_local, rule_past, rule_row}
 use Rattle.control_values.specs.Given.{at, given_leaf}
-
--- what isn't known is a row
-unknown_inside : (rows : List Row) (n : ℕ) → is_known (known rows) n ≡ false → n < length rows
-unknown_inside [] n e = absurd (grind (arith, e))
-unknown_inside (r ∷ rows) zero e = omega arith
-unknown_inside (r ∷ rows) (suc n) e = let rest = unknown_inside rows n e in omega (arith, rest)
 
 -- a given row is the same whatever its term is worth
 role_given : (field : ℕ → ℕ) (n : ℕ) (class : Class) (r : Role) (x y : Leaf) → is_given r ≡ true → role_leaf field n class r x ≡ role_leaf field n class r y

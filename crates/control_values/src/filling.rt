@@ -38,7 +38,7 @@ fn bit_number(bits: &[bool], i: usize) -> u64
 }
 
 /// The number that some bits of a valuation spell, the most significant one first.
-#[tactic(auto, using(crate::proofs::Loops::number_none, crate::proofs::Loops::number_more, crate::proofs::Loops::number_small))]
+#[tactic(auto, using(field_bits::proofs::Loops::number_none, field_bits::proofs::Loops::number_more, field_bits::proofs::Loops::number_small))]
 pub fn number_at(bits: &[bool], first: usize, count: usize) -> u64
     requires few { count ≤ 4 }
     requires near { first ≤ 1000 }

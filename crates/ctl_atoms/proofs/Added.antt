@@ -1,10 +1,9 @@
 -- The list of atoms by first appearance, as it grows.
 use Rattle.std.proofs.Common.{◌≡◌, Bool, true, false, ◌||◌, ◌&&◌, refl, sym, ap, ◌∙◌, List, [], ◌∷◌, ◌++◌, Option, Some, None, if◌then◌else◌}
+use Rattle.std.proofs.lemmas.Bool.{or_right}
 use Rattle.ctl_atoms.specs.declared.leaf.Atom.{Atom}
-use Rattle.ctl_atoms.specs.declared.leaf.AtomKind.{AtomKind}
-use Rattle.ctl_atoms.specs.declared.leaf.AtomKind.TheVariants as kind
-use Rattle.ctl_atoms.specs.Leaves.{has_atom, is_listed, atom_eq, kind_eq, leaf_eq}
-use Rattle.ctl_atoms.proofs.Same.{leaf_eq_self}
+use Rattle.ctl_atoms.specs.Leaves.{has_atom, is_listed, atom_eq, leaf_eq}
+use Rattle.ctl_atoms.proofs.Same.{kind_eq_self, leaf_eq_self}
 use Rattle.ctl_atoms.specs.Atoms.{added, with_atom}
 use Rattle.hcl_types.specs.Lists.{each}
 
@@ -21,16 +20,9 @@ pub added_one : (out : List Atom) (x : Option Atom) (xs : List (Option Atom)) �
 unfolding added
 added_one out x xs = refl
 
+-- an atom is equal to itself, as a test
 pub atom_eq_self : (a : Atom) → atom_eq a a ≡ true
-atom_eq_self a = ap (λ b. b && leaf_eq a.left a.left && leaf_eq a.right a.right) (same a.kind) ∙ (ap (λ b. b && leaf_eq a.right a.right) (leaf_eq_self a.left) ∙ leaf_eq_self a.right)
-  where
-    same : (k : AtomKind) → kind_eq k k ≡ true
-    same kind.Lt = refl
-    same kind.Eq = refl
-
-or_true : (a b : Bool) → b ≡ true → a || b ≡ true
-or_true true b h = refl
-or_true false b h = h
+atom_eq_self a = ap (λ b. b && leaf_eq a.left a.left && leaf_eq a.right a.right) (kind_eq_self a.kind) ∙ (ap (λ b. b && leaf_eq a.right a.right) (leaf_eq_self a.left) ∙ leaf_eq_self a.right)
 
 or_map : (a b c : Bool) → (b ≡ true → c ≡ true) → a || b ≡ true → a || c ≡ true
 or_map true b c f h = refl
@@ -42,7 +34,7 @@ had_more (x ∷ xs) ys a h = or_map (atom_eq x a) (has_atom xs a) (has_atom (xs 
 
 has_last : (xs : List Atom) (a : Atom) → has_atom (xs ++ a ∷ []) a ≡ true
 has_last [] a = ap (λ b. b || false) (atom_eq_self a)
-has_last (x ∷ xs) a = or_true (atom_eq x a) (has_atom (xs ++ a ∷ []) a) (has_last xs a)
+has_last (x ∷ xs) a = or_right (atom_eq x a) (has_atom (xs ++ a ∷ []) a) (has_last xs a)
 
 with_keeps : (out : List Atom) (x : Option Atom) (a : Atom) → has_atom out a ≡ true → has_atom (with_atom out x) a ≡ true
 with_keeps out None a h = h

@@ -1,6 +1,7 @@
 -- The list of atoms: each one once, and each that is asked.
-use Rattle.std.proofs.Common.{◌≡◌, ℕ, Bool, true, false, ◌&&◌, ◌||◌, List, [], ◌∷◌, ◌++◌, map, Option, Some, None, if◌then◌else◌, IsTrue, refl, sym, ap, ◌∙◌, inl, inr, arith}
+use Rattle.std.proofs.Common.{◌≡◌, ℕ, Bool, true, false, List, [], ◌∷◌, ◌++◌, map, Option, Some, None, if◌then◌else◌, IsTrue, refl, sym, ap, ◌∙◌, inl, inr, arith}
 use Rattle.std.specs.List.{AllByRecursion}
+use Rattle.std.proofs.lemmas.Bool.{or_parts, and_parts}
 use Rattle.hcl_types.specs.declared.term.Term.{Term}
 use Rattle.hcl_types.specs.Lists.{IsApart, IsIn, each}
 use Rattle.ctl_atoms.specs.declared.leaf.Leaf.{Leaf}
@@ -10,14 +11,10 @@ use Rattle.ctl_atoms.specs.Plans.{all_ask, plan}
 use Rattle.ctl_atoms.specs.Atoms.{added, atoms_of, with_atom}
 use Rattle.ctl_atoms.proofs.Added.{added_lists, atom_eq_self}
 
-both : (a b : Bool) → a && b ≡ true → (a ≡ true) × (b ≡ true)
-both true b h = (refl, h)
-both false b h = absurd (grind (arith, h))
-
 each_split : {A : Type 0} (p : A → Bool) (xs ys : List A) → each p (xs ++ ys) ≡ true → (each p xs ≡ true) × (each p ys ≡ true)
 each_split p [] ys h = (refl, h)
 each_split p (x ∷ xs) ys h =
-    let here = both (p x) (each p (xs ++ ys)) h in
+    let here = and_parts (p x) (each p (xs ++ ys)) h in
     let rest = each_split p xs ys here.1 in
     (rw (here.0, rest.0) refl, rest.1)
 
@@ -32,18 +29,14 @@ all_listed atoms leaves (t ∷ ts) h =
 pub listed : (leaves : ℕ → List Leaf) (terms : List Term) → AllByRecursion (λ t. IsTrue (each (is_listed (atoms_of leaves terms)) (plan leaves t).asks)) terms
 listed leaves terms = all_listed (atoms_of leaves terms) leaves terms (added_lists [] (all_ask (map (plan leaves) terms)))
 
-or_left : (a b : Bool) → a || b ≡ false → (a ≡ false) × (b ≡ false)
-or_left true b h = absurd (grind (arith, h))
-or_left false b h = (refl, h)
-
 -- what the test doesn't find isn't there
 not_in : (xs : List Atom) (a : Atom) → has_atom xs a ≡ false → IsIn a xs → ⊥
 not_in [] a h i = i
 not_in (x ∷ xs) a h (inl e) =
-    let first = (or_left (atom_eq x a) (has_atom xs a) h).0 in
+    let first = (or_parts (atom_eq x a) (has_atom xs a) h).0 in
     let same : atom_eq x a ≡ true = ap (λ (z : Atom). atom_eq z a) (sym e) ∙ atom_eq_self a in
     grind (arith, first, same)
-not_in (x ∷ xs) a h (inr i) = not_in xs a (or_left (atom_eq x a) (has_atom xs a) h).1 i
+not_in (x ∷ xs) a h (inr i) = not_in xs a (or_parts (atom_eq x a) (has_atom xs a) h).1 i
 
 in_more : (xs : List Atom) (a b : Atom) → IsIn b (xs ++ a ∷ []) → (b ≡ a → ⊥) → (IsIn b xs → ⊥) → ⊥
 in_more [] a b (inl e) p q = p e

@@ -1,6 +1,5 @@
 -- What a term can pick and asks, variant by variant.
-use Rattle.std.proofs.Common.{◌≡◌, ℕ, ◌+◌, ◌<◌, true, false, List, [], ◌∷◌, ◌++◌, map, length, get_or, drop, sym, ap, ◌∙◌, nat_eq, if◌then◌else◌}
-use Rattle.std.proofs.lemmas.List.{drop_more}
+use Rattle.std.proofs.Common.{◌≡◌, ℕ, ◌+◌, true, false, List, [], ◌∷◌, ◌++◌, map, sym, ap, ◌∙◌, nat_eq, if◌then◌else◌}
 use Rattle.hcl_read.specs.declared.tree.CmpOp.{CmpOp}
 use Rattle.hcl_types.specs.declared.term.TermBranch.{TermBranch}
 use Rattle.hcl_types.specs.declared.term.Term.{Term}
@@ -64,7 +63,3 @@ pub leaves_stop : (xs : List Leaf) (b : Plan × Plan) (g v : Plan) (rest : List 
     joined xs v.leaves ≡ case_leaves xs (b ∷ rest)
 leaves_stop xs b g v rest e h =
     sym (ap (λ (p : Plan × Plan). case_leaves xs (p ∷ rest)) e ∙ ap (λ o. if o then joined xs v.leaves else case_leaves (joined xs v.leaves) rest) h)
-
--- an element of a loop over a list whose elements are read with themselves as default
-pub item_is : {A B : Type 0} (F : List A → B) (xs : List A) (i : ℕ) (x : A) → i < length xs → x ≡ get_or xs i x → F (drop i xs) ≡ F (x ∷ drop (i + 1) xs)
-item_is {A} F xs i x h e = ap F (drop_more xs i x h) ∙ ap (λ (y : A). F (y ∷ drop (i + 1) xs)) (sym e)

@@ -35,6 +35,7 @@ needs_counted k (r ∷ rows) terms (suc n) row e d = by (λ j. needs_counted j r
     by rest true t = rw t (rest (k + 1) ∙ ap (λ j. names (term_at terms j)) (omega arith))
     by rest false t = rw t (rest k)
 
+-- what a defined row needs are the names in its term
 pub needs_defined : (rows : List Row) (terms : List Term) (n : ℕ) (row : Row) → slice_get rows n ≡ Some row → is_defined row.role ≡ true →
     needs_of (needs rows terms) n ≡ names (row_term rows terms n)
 needs_defined rows terms n row e d = needs_counted 0 rows terms n row e d ∙ ap (λ j. names (term_at terms j)) (omega arith)
@@ -114,6 +115,10 @@ module _ (rows : List Row) (terms : List Term) where
         other = λ s n m a h. get_or-set_other s n m a [] (λ e. h (sym e));
         keeps = λ s n m a h. subst (λ z. m < z) (sym (length-set s n a)) h;
       }
+
+-- a design has one list of atoms
+pub atoms_one : (rows : List Row) (terms : List Term) (ids : List ℕ) (xs ys : List Atom) → IsOrderOf rows terms ids → AreAtoms rows terms xs → AreAtoms rows terms ys → xs ≡ ys
+atoms_one rows terms ids xs ys o p q = let l = leaves_exist rows terms ids o in p.are (l.0) (l.1) ∙ sym (q.are (l.0) (l.1))
 
 -- one more row of the order
 pub one_filled : (rows : List Row) (terms : List Term) (lists : List (List Leaf)) (ids items : List ℕ) (i : ℕ) (own : List Leaf) → items ≡ ids → i < length ids →

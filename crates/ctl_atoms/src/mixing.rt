@@ -5,8 +5,8 @@ ghost use Rattle.ctl_atoms.specs.Mixing.{any, branch_sort, guards, is_code, is_v
 ghost use Rattle.ctl_atoms.specs.Mixing as mixing;
 ghost use Rattle.ctl_atoms.specs.Rows.{row_term};
 
-use crate::rows::{definitions_before, is_defined};
-use hcl_types::{Class, NameId, Row, Term, TermBranch};
+use crate::rows::definitions_before;
+use hcl_types::{Class, NameId, Row, Term, TermBranch, is_defined};
 
 /// What the value of a term can be, and whether the term mixes the two.
 #[derive(Clone, Copy, Debug)]

@@ -2,28 +2,15 @@
 ghost use Rattle.std.specs.Prelude.{◌≡◌, ◌≤◌, ◌<◌, ◌^◌, ◌∷◌, IfOk, [], length, slice_get, take, ℕ};
 ghost use Rattle.hcl_types.specs.Equations.{Fixes};
 ghost use Rattle.hcl_types.specs.Tables.{IsOrderOf, IsSound, defined};
-ghost use Rattle.hcl_types.specs.Tables as tables;
 ghost use Rattle.ctl_atoms.specs.Plans.{plan};
 ghost use Rattle.ctl_atoms.specs.Rows.{codes, defined_leaves, field_leaves, leaf_rule, leaves_at, leaves_by_role, row_term};
 ghost use Rattle.ctl_atoms.specs.Rows as specs;
 
 use crate::leaf::Leaf;
 use crate::leaves::term_leaves;
-use hcl_types::{Class, Design, NameId, Order, Role, Row, Table, Term};
+use hcl_types::{Class, Design, NameId, Order, Role, Row, Table, Term, is_defined};
 use std::alloc::{AllocError, Global};
 use y86_base::Items;
-
-/// Whether the HCL file defines a row.
-pub fn is_defined(role: &Role) -> bool
-    ensures { result ≡ tables.is_defined role.now }
-{
-    match role {
-        Role::Constant(_) => false,
-        Role::State => false,
-        Role::Hardware(_) => false,
-        Role::Defined => true,
-    }
-}
 
 /// How many of the rows before this one are defined: the place of its term in a design, where it is defined itself.
 pub fn definitions_before(rows: &[Row], id: usize) -> usize

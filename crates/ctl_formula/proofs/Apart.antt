@@ -2,7 +2,9 @@
 use Rattle.std.proofs.Common.{◌≡◌, ◌⊎◌, ℕ, ◌<◌, Bool, true, false, ◌||◌, List, [], ◌∷◌, ◌++◌, length, map, Option, Some, None, slice_get, IsTrue, if◌then◌else◌, refl, sym, ap, ◌∙◌, subst, arith, inl, inr}
 use Rattle.std.proofs.lemmas.Option.{slice_get_within}
 use Rattle.std.specs.List.{AllByRecursion}
+use Rattle.std.proofs.lemmas.Bool.{or_parts}
 use Rattle.y86_base.proofs.Booleans.{clash}
+use Rattle.y86_base.proofs.Lists.{element_at}
 use Rattle.nets.specs.Nets.{Gates}
 use Rattle.hcl_types.specs.declared.term.Term.{Term}
 use Rattle.hcl_types.specs.declared.term.TermBranch.{TermBranch}
@@ -25,6 +27,7 @@ use Rattle.ctl_atoms.specs.Plans.{Plan, plan, branch_plan, case_leaves, has_leaf
 use Rattle.ctl_atoms.specs.Rows.{row_term, codes, leaf_rule, leaves_by_role, leaves_of_row, field_leaves, defined_leaves}
 use Rattle.ctl_atoms.proofs.Plans.{plan_Num, plan_Name, plan_Not, plan_And, plan_Or, plan_Cmp, plan_In, plan_Case}
 use Rattle.ctl_atoms.proofs.Same.{leaf_eq_true, leaf_eq_self}
+use Rattle.ctl_atoms.proofs.Solved.{known_row, needs_defined}
 use Rattle.ctl_formula.specs.declared.controls.Entry.{Entry}
 use Rattle.ctl_formula.specs.declared.controls.Entry.TheVariants.{Absent}
 use Rattle.ctl_formula.specs.declared.controls.NamePlace.{NamePlace}
@@ -32,8 +35,7 @@ use Rattle.ctl_formula.specs.Picks.{entry_word, entry_picks}
 use Rattle.ctl_formula.specs.Readies.{IsEntryOf, leaves_of}
 use Rattle.ctl_formula.specs.Filled.{IsFilling}
 use Rattle.ctl_formula.specs.Laws.{Apart, AreApart}
-use Rattle.ctl_formula.proofs.Elements.{row_at}
-use Rattle.ctl_formula.proofs.Rows.{known_row, needs_defined, given_undefined}
+use Rattle.ctl_formula.proofs.Rows.{given_undefined}
 
 leaf_swap : (x y : Leaf) → leaf_eq y x ≡ false → leaf_eq x y ≡ false
 leaf_swap x y h = by (leaf_eq x y) refl
@@ -45,20 +47,16 @@ leaf_swap x y h = by (leaf_eq x y) refl
         let wrong : true ≡ false = sym (leaf_eq_self y) ∙ (ap (λ z. leaf_eq y z) (sym same) ∙ h) in
         wrong
 
-neither : (a b : Bool) → a || b ≡ false → (a ≡ false) × (b ≡ false)
-neither true b h = absurd (grind (arith, h))
-neither false b h = (refl, h)
-
 has_push : (xs : List Leaf) (x y : Leaf) → has_leaf xs y ≡ false → leaf_eq x y ≡ false → has_leaf (xs ++ x ∷ []) y ≡ false
 has_push [] x y h e = ap (λ b. b || false) e
 has_push (z ∷ xs) x y h e =
-    let parts = neither (leaf_eq z y) (has_leaf xs y) h in
+    let parts = or_parts (leaf_eq z y) (has_leaf xs y) h in
     ap (λ b. b || has_leaf (xs ++ x ∷ []) y) parts.0 ∙ has_push xs x y parts.1 e
 
 apart_push : (xs : List Leaf) (x : Leaf) → Apart xs → has_leaf xs x ≡ false → Apart (xs ++ x ∷ [])
 apart_push [] x a h = (refl, tt)
 apart_push (y ∷ xs) x a h =
-    let parts = neither (leaf_eq y x) (has_leaf xs x) h in
+    let parts = or_parts (leaf_eq y x) (has_leaf xs x) h in
     (has_push xs x y a.0 (leaf_swap x y parts.0), apart_push xs x a.1 parts.1)
 
 once_apart : (xs : List Leaf) (x : Leaf) → Apart xs → Apart (once xs x)
@@ -135,7 +133,7 @@ module _ (rows : List Row) (terms : List Term) (places : List NamePlace) (asks :
       entry_apart : (e : Entry) → slice_get es n ≡ Some e → IsTrue (entry_word (Some e)) → Apart (leaves_of (entry_picks (Some e)))
       entry_apart e i t =
           let lt : n < length rows = (let q = slice_get_within es n e i in let z = h.size in omega (arith, q, z)) in
-          let row = row_at rows n lt in
+          let row = element_at rows n lt in
           kind row.0 (h.kinds own fixed n row.0 e row.1 i)
         where
           kind : (row : Row) → (e ≡ Absent) ⊎ IsEntryOf row.class (own n) e → Apart (leaves_of (entry_picks (Some e)))

@@ -1,6 +1,7 @@
 -- What a term needs, variant by variant, and the steps of loops over terms.
-use Rattle.std.proofs.Common.{rules, ◌≡◌, Bool, true, false, not, ◌||◌, ◌&&◌, refl, sym, ap, ◌∙◌, subst, List, [], ◌∷◌, ℕ, ◌<◌, ◌≤◌, ◌+◌, length, get_or, drop, map, IsTrue, if◌then◌else◌}
+use Rattle.std.proofs.Common.{rules, ◌≡◌, Bool, true, false, not, ◌||◌, ◌&&◌, refl, sym, ap, ◌∙◌, subst, List, [], ◌∷◌, ℕ, ◌<◌, ◌≤◌, ◌+◌, length, get_or, drop, map, if◌then◌else◌}
 use Rattle.std.proofs.lemmas.List.{at_drop_all, drop_more}
+use Rattle.std.proofs.Math.Bool.{or-false, and-true, and_comm}
 use Rattle.hcl_read.specs.declared.tree.CmpOp.{CmpOp}
 use Rattle.hcl_types.specs.declared.term.TermBranch.{TermBranch, fold_out-TermBranch, fold-roll-TermBranch}
 use Rattle.hcl_types.specs.declared.term.TermBranch as bs
@@ -27,44 +28,22 @@ pub holds_bit : (α : Assignment) (b : Bool) → leaf_holds α (Number (if b the
 holds_bit α true = refl
 holds_bit α false = refl
 
-pub both : (a b : Bool) → IsTrue (a && b) → IsTrue a × IsTrue b
-both true b h = (refl, h)
-both false b h = (h, cc)
-
--- the items of a loop over a list whose elements are read with themselves as default
-pub item_is : {A B : Type 0} (F : List A → B) (xs : List A) (i : ℕ) (x : A) → i < length xs → x ≡ get_or xs i x → F (drop i xs) ≡ F (x ∷ drop (i + 1) xs)
-item_is {A} F xs i x h e = ap F (drop_more xs i x h) ∙ ap (λ (y : A). F (y ∷ drop (i + 1) xs)) (sym e)
-
 pub item_has : {A : Type 0} (P : List A → Type 0) (xs : List A) (i : ℕ) (x : A) → i < length xs → x ≡ get_or xs i x → P (drop i xs) → P (x ∷ drop (i + 1) xs)
 item_has {A} P xs i x h e p = subst P (drop_more xs i x h ∙ ap (λ (y : A). y ∷ drop (i + 1) xs) (sym e)) p
 
-and_true : (a : Bool) → a && true ≡ a
-and_true true = refl
-and_true false = refl
-
-or_false : (a : Bool) → a || false ≡ a
-or_false true = refl
-or_false false = refl
-
 pub and_end : {A : Type 0} (F : List A → Bool) (a whole : Bool) (xs : List A) (i : ℕ) → length xs ≤ i → F [] ≡ true → a && F (drop i xs) ≡ whole → a ≡ whole
-and_end F a whole xs i h t e = sym (and_true a) ∙ (ap (λ b. a && b) (sym (at_drop_all F xs i h ∙ t)) ∙ e)
+and_end F a whole xs i h t e = sym (and-true a) ∙ (ap (λ b. a && b) (sym (at_drop_all F xs i h ∙ t)) ∙ e)
 
 pub or_end : {A : Type 0} (F : List A → Bool) (a whole : Bool) (xs : List A) (i : ℕ) → length xs ≤ i → F [] ≡ false → a || F (drop i xs) ≡ whole → a ≡ whole
-or_end F a whole xs i h t e = sym (or_false a) ∙ (ap (λ b. a || b) (sym (at_drop_all F xs i h ∙ t)) ∙ e)
-
-and_swap : (a b : Bool) → a && b ≡ b && a
-and_swap true true = refl
-and_swap true false = refl
-and_swap false true = refl
-and_swap false false = refl
+or_end F a whole xs i h t e = sym (or-false a) ∙ (ap (λ b. a || b) (sym (at_drop_all F xs i h ∙ t)) ∙ e)
 
 -- at the end of a case list the number 0 is picked where no branch was
 pub case_end : (t o k t' w : Bool) → t' ≡ t || (k && o) → t || (o && k) ≡ w → t' ≡ w
-case_end t o k t' w p q = p ∙ (ap (λ b. t || b) (and_swap k o) ∙ q)
+case_end t o k t' w p q = p ∙ (ap (λ b. t || b) (and_comm k o) ∙ q)
 
 -- behind a guard that holds nothing is open
 pub case_shut : (t o k w : Bool) → o ≡ false → t || (o && k) ≡ w → t ≡ w
-case_shut t o k w p q = sym (or_false t) ∙ (ap (λ b. t || (b && k)) (sym p) ∙ q)
+case_shut t o k w p q = sym (or-false t) ∙ (ap (λ b. t || (b && k)) (sym p) ∙ q)
 
 spread : (c : Bool) (x r y : Leaf) → leaf_eq (if c then x else r) y ≡ (if c then leaf_eq x y else leaf_eq r y)
 spread true x r y = refl

@@ -1,5 +1,6 @@
 -- A test of the leaf that is picked.
 use Rattle.std.proofs.Common.{◌≡◌, Bool, true, false, ◌||◌, ◌&&◌, refl, sym, ap, ◌∙◌, List, [], ◌∷◌, ℕ, length}
+use Rattle.std.proofs.lemmas.Bool.{or_left, or_right}
 use Rattle.ctl_atoms.specs.declared.leaf.Leaf.{Leaf}
 use Rattle.ctl_formula.specs.declared.controls.Pick.{Pick}
 use Rattle.hcl_read.specs.declared.tree.CmpOp.{CmpOp}
@@ -28,13 +29,6 @@ taken_kept k w (q ∷ qs) h x = or_same _ _ _ _ (and_same _ _ _ _ refl (k.same q
 pub picked_kept : {a b : Gates} → Begins a b → (w : List Bool) (qs : List Pick) → Within (length a.gates) qs → (x : Leaf) → Picked (at a w) qs x → Picked (at b w) qs x
 picked_kept k w qs h x p = record { only = λ y. taken_kept k w qs h y ∙ p.only y }
 
-pub or_true : (a b : Bool) → b ≡ true → a || b ≡ true
-or_true true b h = refl
-or_true false b h = h
-
-pub or_left : (a b : Bool) → a ≡ true → a || b ≡ true
-or_left a b h = ap (λ x. x || b) h
-
 step : (g k t fp fx rest : Bool) → (g ≡ true → k ≡ true) → (k ≡ true → fp ≡ fx) → rest ≡ t && fx → (g && fp) || rest ≡ ((k && g) || t) && fx
 step false true t fp fx rest a b e = e
 step false false t fp fx rest a b e = e
@@ -54,7 +48,7 @@ tested tr f x (p ∷ ps) h =
     step (tr p.gate) (leaf_eq p.leaf x) (taken tr ps x) (f p.leaf) (f x) (some (λ (q : Pick). tr q.gate && f q.leaf) ps)
     (λ e. ap (leaf_eq p.leaf) (h p.leaf (or_left _ _ (and_same _ _ _ _ (leaf_eq_self p.leaf) e))) ∙ leaf_eq_self p.leaf)
     (λ e. ap f (leaf_eq_true p.leaf x e))
-    (tested tr f x ps (λ y t. h y (or_true _ _ t)))
+    (tested tr f x ps (λ y t. h y (or_right _ _ t)))
 
 pub chosen : (tr : ℕ → Bool) (f : Leaf → Bool) (x : Leaf) (ps : List Pick) → Picked tr ps x → some (λ (p : Pick). tr p.gate && f p.leaf) ps ≡ f x
 chosen tr f x ps h = tested tr f x ps (λ y t. leaf_eq_true x y (sym (h.only y) ∙ t)) ∙ ap (λ b. b && f x) (h.only x ∙ leaf_eq_self x)

@@ -1,8 +1,10 @@
 -- The sixteen picks of a code, one by one.
-use Rattle.std.proofs.Common.{◌≡◌, ℕ, zero, suc, ◌+◌, ◌-◌, ◌<◌, ◌≤◌, ◌^◌, ◌==◌, Bool, true, false, ◌&&◌, ◌||◌, List, [], ◌∷◌, ◌++◌, nat_eq, nat_lt, refl, sym, ap, ◌∙◌, arith, Some, subst, if◌then◌else◌}
+use Rattle.std.proofs.Common.{◌≡◌, ℕ, zero, suc, ◌+◌, ◌-◌, ◌<◌, ◌≤◌, ◌^◌, ◌==◌, Bool, true, false, ◌&&◌, ◌||◌, List, [], ◌∷◌, ◌++◌, nat_lt, refl, sym, ap, ◌∙◌, arith, Some, subst, if◌then◌else◌}
 use Rattle.std.proofs.lemmas.Bool.Decides.{nat_tests}
 use Rattle.std.proofs.lemmas.List.{append_assoc}
 use Rattle.std.specs.List.{AllByRecursion}
+use Rattle.std.proofs.lemmas.Bool.{eqb-true}
+use Rattle.std.proofs.lemmas.Option.{same_Some}
 use Rattle.field_bits.specs.Spelling.{spelt}
 use Rattle.field_bits.proofs.Patterns.{spelt_lt}
 use Rattle.ctl_atoms.specs.declared.leaf.Leaf.{Leaf}
@@ -13,10 +15,6 @@ use Rattle.ctl_formula.specs.declared.controls.NamePlace.{NamePlace}
 use Rattle.ctl_formula.specs.Places.{place_of}
 use Rattle.ctl_formula.specs.Readies.{leaves_of}
 use Rattle.ctl_formula.proofs.Taken.{leaves_push}
-use Rattle.ctl_formula.proofs.Rows.{from_some}
-
-nat_same : (x y : ℕ) → nat_eq x y ≡ true → x ≡ y
-nat_same x y h = grind (arith, nat_tests)
 
 -- so many numbers from one on
 abbrev pub numbers : ℕ → ℕ → List Leaf
@@ -68,6 +66,6 @@ place_at P (q ∷ ps) n p e h = by (λ f. place_at P ps n p f h.1) (q.name == n)
   where
     by : (place_of ps n ≡ Some p → P p × (p.name ≡ n)) → (b : Bool) → (q.name == n) ≡ b → P p × (p.name ≡ n)
     by go true t =
-        let same : q ≡ p = from_some q p (sym (ap (λ b. if b then Some q else place_of ps n) t) ∙ e) in
-        (subst P same h.0, sym (ap (λ (x : NamePlace). x.name) same) ∙ nat_same q.name n t)
+        let same : q ≡ p = same_Some q p (sym (ap (λ b. if b then Some q else place_of ps n) t) ∙ e) in
+        (subst P same h.0, sym (ap (λ (x : NamePlace). x.name) same) ∙ eqb-true q.name n t)
     by go false t = go (sym (ap (λ b. if b then Some q else place_of ps n) t) ∙ e)

@@ -1,21 +1,16 @@
 -- Elements of lists behind a push and a write, and rows by their places.
 use Rattle.std.proofs.Common.{◌≡◌, ◌⊎◌, ℕ, zero, suc, ◌+◌, ◌<◌, Bool, true, false, cond, not, ◌&&◌, ◌||◌, is_some, List, [], ◌∷◌, ◌++◌, length, take, Option, Some, slice_get, IsTrue, refl, sym, ap, ◌∙◌, subst, arith, inl, inr}
 use Rattle.std.proofs.Math.ListN.{set}
-use Rattle.std.proofs.lemmas.Option.{slice_get_within}
+use Rattle.std.proofs.lemmas.Option.{slice_get_within, same_Some}
 use Rattle.std.specs.List.{AllByRecursion}
+use Rattle.std.proofs.lemmas.Bool.{and_parts}
 use Rattle.hcl_types.specs.declared.table.Row.{Row}
 use Rattle.hcl_types.specs.Tables.{defined, is_defined}
 use Rattle.ctl_formula.specs.declared.controls.NamePlace.{NamePlace}
 use Rattle.ctl_formula.specs.Places.{place_of, has_bits, is_field, are_placed}
-use Rattle.ctl_formula.proofs.Rows.{from_some}
-
-pub row_at : {A : Type 0} (xs : List A) (n : ℕ) → n < length xs → (x : A) × (slice_get xs n ≡ Some x)
-row_at [] n h = absurd (omega arith)
-row_at (x ∷ xs) zero h = (x, refl)
-row_at (x ∷ xs) (suc n) h = row_at xs n (omega arith)
 
 pub push_case : {A : Type 0} (xs : List A) (y : A) (n : ℕ) (x : A) → slice_get (xs ++ y ∷ []) n ≡ Some x → (slice_get xs n ≡ Some x) ⊎ ((n ≡ length xs) × (x ≡ y))
-push_case [] y zero x h = inr (refl, sym (from_some y x h))
+push_case [] y zero x h = inr (refl, sym (same_Some y x h))
 push_case [] y (suc n) x h = absurd (grind (arith, h))
 push_case (z ∷ xs) y zero x h = inl h
 push_case {A} (z ∷ xs) y (suc n) x h = next (push_case xs y n x h)
@@ -27,7 +22,7 @@ push_case {A} (z ∷ xs) y (suc n) x h = next (push_case xs y n x h)
 -- an element of a list in which one was written
 pub set_case : {A : Type 0} (xs : List A) (k : ℕ) (y : A) (n : ℕ) (x : A) → slice_get (set xs k y) n ≡ Some x → ((n ≡ k) × (x ≡ y)) ⊎ (slice_get xs n ≡ Some x)
 set_case [] k y n x h = inr h
-set_case (z ∷ xs) zero y zero x h = inl (refl, sym (from_some y x h))
+set_case (z ∷ xs) zero y zero x h = inl (refl, sym (same_Some y x h))
 set_case (z ∷ xs) zero y (suc n) x h = inr h
 set_case (z ∷ xs) (suc k) y zero x h = inr h
 set_case {A} (z ∷ xs) (suc k) y (suc n) x h = next (set_case xs k y n x h)
@@ -53,7 +48,7 @@ set_here (z ∷ xs) (suc k) y h = set_here xs k y (omega arith)
 pub defined_at : (rows : List Row) (n : ℕ) (row : Row) → slice_get rows n ≡ Some row → is_defined row.role ≡ true → slice_get (defined rows) (length (defined (take n rows))) ≡ Some row
 defined_at [] n row e d = absurd (grind (arith, e))
 defined_at (r ∷ rows) zero row e d =
-    let same = from_some r row e in
+    let same = same_Some r row e in
     ap (λ b. slice_get (cond b (r ∷ defined rows) (defined rows)) 0) (ap (λ (x : Row). is_defined x.role) same ∙ d) ∙ e
 defined_at (r ∷ rows) (suc n) row e d = by (is_defined r.role) (defined_at rows n row e d)
   where
@@ -65,24 +60,20 @@ defined_at (r ∷ rows) (suc n) row e d = by (is_defined r.role) (defined_at row
 pub defined_below : (rows : List Row) (n : ℕ) (row : Row) → slice_get rows n ≡ Some row → is_defined row.role ≡ true → length (defined (take n rows)) < length (defined rows)
 defined_below rows n row e d = slice_get_within (defined rows) (length (defined (take n rows))) row (defined_at rows n row e d)
 
-split : (a b : Bool) → IsTrue (a && b) → IsTrue a × IsTrue b
-split true b h = (refl, h)
-split false b h = (h, cc)
-
 pub placed_at : (places : List NamePlace) (k : ℕ) (rows : List Row) (n : ℕ) (row : Row) → slice_get rows n ≡ Some row → IsTrue (are_placed places k rows) → is_field row.role ≡ true → has_bits row.class ≡ true →
     IsTrue (is_some (place_of places (k + n)))
 placed_at places k [] n row e h f b = absurd (grind (arith, e))
 placed_at places k (r ∷ rows) zero row e h f b =
-    let same = from_some r row e in
-    let here = (split (not (is_field r.role && has_bits r.class) || is_some (place_of places k)) (are_placed places (k + 1) rows) h).0 in
+    let same = same_Some r row e in
+    let here = (and_parts (not (is_field r.role && has_bits r.class) || is_some (place_of places k)) (are_placed places (k + 1) rows) h).0 in
     let at_row : IsTrue (not (is_field row.role && has_bits row.class) || is_some (place_of places k)) = subst (λ (x : Row). IsTrue (not (is_field x.role && has_bits x.class) || is_some (place_of places k))) same here in
     subst (λ i. IsTrue (is_some (place_of places i))) (let q : k ≡ k + 0 = omega arith in q)
     (sym (ap (λ x. not (x && has_bits row.class) || is_some (place_of places k)) f ∙ ap (λ x. not x || is_some (place_of places k)) b) ∙ at_row)
 placed_at places k (r ∷ rows) (suc n) row e h f b =
     subst (λ i. IsTrue (is_some (place_of places i))) (let q : (k + 1) + n ≡ k + suc n = omega arith in q)
-    (placed_at places (k + 1) rows n row e (split (not (is_field r.role && has_bits r.class) || is_some (place_of places k)) (are_placed places (k + 1) rows) h).1 f b)
+    (placed_at places (k + 1) rows n row e (and_parts (not (is_field r.role && has_bits r.class) || is_some (place_of places k)) (are_placed places (k + 1) rows) h).1 f b)
 
 pub each_at : {A : Type 0} (P : A → Type 0) (xs : List A) (n : ℕ) (x : A) → slice_get xs n ≡ Some x → AllByRecursion P xs → P x
 each_at P [] n x e h = absurd (grind (arith, e))
-each_at P (y ∷ xs) zero x e h = subst P (from_some y x e) h.0
+each_at P (y ∷ xs) zero x e h = subst P (same_Some y x e) h.0
 each_at P (y ∷ xs) (suc n) x e h = each_at P xs n x e h.1

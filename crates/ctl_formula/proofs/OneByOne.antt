@@ -5,6 +5,7 @@ use Rattle.std.proofs.lemmas.List.{length-set, length_push}
 use Rattle.std.proofs.lemmas.Option.{slice_get_within, slice_get_past, slice_get-get_or}
 use Rattle.std.proofs.lemmas.Bool.Decides.{nat_tests}
 use Rattle.std.specs.List.{AllByRecursion}
+use Rattle.y86_base.proofs.Lists.{element_at}
 use Rattle.nets.specs.Nets.{Gates, Begins, truth}
 use Rattle.hcl_types.specs.declared.term.Term.{Term}
 use Rattle.hcl_types.specs.declared.term.Term.TheVariants.{Num}
@@ -26,7 +27,7 @@ use Rattle.ctl_atoms.specs.Leaves.{Assignment, AtomsAre, leaf_holds, picks, is_l
 use Rattle.ctl_atoms.specs.Plans.{plan}
 use Rattle.ctl_atoms.specs.Rows.{row_term, leaf_rule, leaves_by_role, leaves_of_row, defined_leaves}
 use Rattle.ctl_atoms.proofs.Listed.{listed}
-use Rattle.ctl_atoms.proofs.Solved.{leaves_exist, unknown_inside}
+use Rattle.ctl_atoms.proofs.Solved.{leaves_exist, unknown_inside, known_row, needs_defined}
 use Rattle.ctl_formula.specs.declared.controls.Entry.{Entry}
 use Rattle.ctl_formula.specs.declared.controls.Entry.TheVariants.{Absent, Truth, Picks}
 use Rattle.ctl_formula.specs.declared.controls.NamePlace.{NamePlace}
@@ -39,8 +40,8 @@ use Rattle.ctl_formula.specs.Filled.{IsGiven, IsFilling, IsTold, is_filled}
 use Rattle.ctl_formula.proofs.Chosen.{chosen}
 use Rattle.ctl_formula.proofs.Opened.{entry_within, entry_shows}
 use Rattle.ctl_formula.proofs.Readied.{Readied, Stands, readied}
-use Rattle.ctl_formula.proofs.Elements.{row_at, push_case, set_case, defined_at, defined_below, each_at}
-use Rattle.ctl_formula.proofs.Rows.{known_row, needs_defined, given_undefined, rule_row, defined_leaf}
+use Rattle.ctl_formula.proofs.Elements.{push_case, set_case, defined_at, defined_below, each_at}
+use Rattle.ctl_formula.proofs.Rows.{given_undefined, rule_row, defined_leaf}
 
 -- ---- given rows, one more
 
@@ -132,7 +133,7 @@ module _ (rows : List Row) (terms : List Term) (places : List NamePlace) (asks :
     kinds = λ leaves fixed n row e r i. kind leaves fixed n row e r i (is_defined row.role) refl;
     shows = λ w α field cv a s controls n e i.
         let lt : n < length rows = (let q = slice_get_within es n e i in let z = given.size in omega (arith, q, z)) in
-        let found = row_at rows n lt in
+        let found = element_at rows n lt in
         subst (EntryShows (at net w) α e) (sym (control_at field α cv controls n found.0 found.1)) (given.shows w α field (value (picks α) cv (row_term rows terms n)) s n found.0 e found.1 i);
   }
     where
@@ -145,7 +146,7 @@ module _ (rows : List Row) (terms : List Term) (places : List NamePlace) (asks :
   pub given_filled : (net : Gates) (es : List Entry) → IsGiven rows places (length rows) net es → (n : ℕ) (row : Row) → slice_get rows n ≡ Some row → is_defined row.role ≡ false → IsTrue (is_filled (slice_get es n))
   given_filled net es given n row r d =
       let lt : n < length es = (let q = slice_get_within rows n row r in let z = given.size in omega (arith, q, z)) in
-      let found = row_at es n lt in
+      let found = element_at es n lt in
       ap is_filled found.1 ∙ filled_entry row.class (leaves_by_role row.class n row.role []) found.0 (given.entries n row found.0 r found.1 d)
 
   pub filling_open : (net : Gates) (es : List Entry) → first + length asks ≤ net.vars → IsFilling rows terms places asks first net es → IsOpen net es asks first
@@ -156,8 +157,8 @@ module _ (rows : List Row) (terms : List Term) (places : List NamePlace) (asks :
   module _ (leaves : ℕ → List Leaf) (fixed : Fixes (leaf_rule rows terms) leaves) (net : Gates) (es : List Entry) (h : IsFilling rows terms places asks first net es) where
     stands_at : (n : ℕ) → n < length rows → IsTrue (is_filled (slice_get es n)) → Stands es asks rows leaves n
     stands_at n lt filled =
-        let row = row_at rows n lt in
-        let e = row_at es n (let z = h.size in omega (arith, lt, z)) in
+        let row = element_at rows n lt in
+        let e = element_at es n (let z = h.size in omega (arith, lt, z)) in
         by row.0 row.1 e.0 e.1 (h.kinds leaves fixed n row.0 e.0 row.1 e.1)
       where
         by : (row : Row) → slice_get rows n ≡ Some row → (e : Entry) → slice_get es n ≡ Some e → (e ≡ Absent) ⊎ IsEntryOf row.class (leaves n) e → Stands es asks rows leaves n
@@ -254,12 +255,12 @@ module _ (rows : List Row) (terms : List Term) (places : List NamePlace) (asks :
   needs_filled es done (m ∷ ids) given f o = (here o.0, needs_filled es done ids given f o.1)
     where
       here : (is_known (known rows) m ≡ true) ⊎ IsIn m done → m < length rows → IsTrue (is_filled (slice_get es m))
-      here (inl k) lt = let found = row_at rows m lt in given m found.0 found.1 (given_undefined found.0.role (sym (known_row rows m found.0 found.1) ∙ k))
+      here (inl k) lt = let found = element_at rows m lt in given m found.0 found.1 (given_undefined found.0.role (sym (known_row rows m found.0 found.1) ∙ k))
       here (inr i) lt = each_in (λ n. IsTrue (is_filled (slice_get es n))) done m f i
 
   pub all_filled : (es : List Entry) (done ids : List ℕ) → IsOrderOf rows terms ids → ((n : ℕ) (row : Row) → slice_get rows n ≡ Some row → is_defined row.role ≡ false → IsTrue (is_filled (slice_get es n))) →
       AllByRecursion (λ n. IsTrue (is_filled (slice_get es n))) done → ((n : ℕ) → IsIn n ids → IsIn n done) → (n : ℕ) → n < length rows → IsTrue (is_filled (slice_get es n))
-  all_filled es done ids o given f covers n lt = let found = row_at rows n lt in by found.0 found.1 (is_defined found.0.role) refl
+  all_filled es done ids o given f covers n lt = let found = element_at rows n lt in by found.0 found.1 (is_defined found.0.role) refl
     where
       undefined : (role : Role) → is_defined role ≡ true → is_given role ≡ false
       undefined (Constant k) d = absurd (grind (arith, d))
@@ -323,7 +324,7 @@ module _ (rows : List Row) (terms : List Term) (places : List NamePlace) (asks :
   pub put_filled : (es es' : List Entry) (k : ℕ) → k < length rows → ((n : ℕ) (row : Row) → slice_get rows n ≡ Some row → is_defined row.role ≡ false → IsTrue (is_filled (slice_get es n))) →
       ((row : Row) → slice_get rows k ≡ Some row → is_defined row.role ≡ true → IsTrue (is_filled (slice_get es' k))) →
       ((n : ℕ) → IsTrue (is_filled (slice_get es n)) → IsTrue (is_filled (slice_get es' n))) → IsTrue (is_filled (slice_get es' k))
-  put_filled es es' k lt given filled kept = let found = row_at rows k lt in by found.0 found.1 (is_defined found.0.role) refl
+  put_filled es es' k lt given filled kept = let found = element_at rows k lt in by found.0 found.1 (is_defined found.0.role) refl
     where
       by : (row : Row) → slice_get rows k ≡ Some row → (b : Bool) → is_defined row.role ≡ b → IsTrue (is_filled (slice_get es' k))
       by row r true d = filled row r d

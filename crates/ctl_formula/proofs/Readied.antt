@@ -2,6 +2,7 @@
 -- the leaves of its plan.
 use Rattle.std.proofs.Common.{rules, ◌≡◌, ℕ, Bool, true, false, ◌&&◌, List, [], ◌∷◌, ◌++◌, map, nat_eq, nat_lt, Option, slice_get, if◌then◌else◌, IsTrue, refl, sym, ap, ◌∙◌, subst}
 use Rattle.std.specs.List.{AllByRecursion}
+use Rattle.std.proofs.lemmas.Bool.{and_parts}
 use Rattle.hcl_read.specs.declared.tree.CmpOp.{CmpOp}
 use Rattle.hcl_read.specs.declared.tree.CmpOp.TheVariants as op
 use Rattle.hcl_types.specs.declared.term.Term.{Term, Term-F, fold-roll-Term}
@@ -28,10 +29,6 @@ use Rattle.ctl_formula.specs.Picks.{entry_truth, entry_word}
 use Rattle.ctl_formula.specs.Readies.{Ready, ready, branch_ready, ready_layer, ready_pair, entry_leaves, leaves_listed, truths, members, branches, case_leaves}
 use Rattle.ctl_formula.proofs.Arms.{branch_ready_is}
 
-both : (a b : Bool) → IsTrue (a && b) → IsTrue a × IsTrue b
-both true b h = (refl, h)
-both false b h = (h, cc)
-
 joins : (a b : Bool) → IsTrue a → IsTrue b → IsTrue (a && b)
 joins true b h k = k
 joins false b h k = h
@@ -39,7 +36,7 @@ joins false b h k = h
 each_append : {A : Type 0} (p : A → Bool) (xs ys : List A) → IsTrue (each p (xs ++ ys)) → IsTrue (each p xs) × IsTrue (each p ys)
 each_append p [] ys h = (refl, h)
 each_append p (x ∷ xs) ys h =
-    let parts = both (p x) (each p (xs ++ ys)) h in
+    let parts = and_parts (p x) (each p (xs ++ ys)) h in
     let rest = each_append p xs ys parts.1 in
     (joins (p x) (each p xs) parts.0 rest.0, rest.1)
 
@@ -140,7 +137,7 @@ module _ (es : List Entry) (atoms : List Atom) (rows : List Row) (own : ℕ → 
     where
       row : (zs : List Leaf) → IsTrue (each (is_listed atoms) (map (asked o x) zs)) → IsTrue (each (λ (y : Leaf). is_listed atoms (asked o x y)) zs)
       row [] k = refl
-      row (z ∷ zs) k = let p = both (is_listed atoms (asked o x z)) (each (is_listed atoms) (map (asked o x) zs)) k in joins (is_listed atoms (asked o x z)) (each (λ (y : Leaf). is_listed atoms (asked o x y)) zs) p.0 (row zs p.1)
+      row (z ∷ zs) k = let p = and_parts (is_listed atoms (asked o x z)) (each (is_listed atoms) (map (asked o x) zs)) k in joins (is_listed atoms (asked o x z)) (each (λ (y : Leaf). is_listed atoms (asked o x y)) zs) p.0 (row zs p.1)
 
   all_good : (ts : List Term) → AllByRecursion Good ts → AllByRecursion (λ t. AllByRecursion Stands (names t)) ts → Listed (all_ask (map (plan own) ts)) → AllByRecursion Readied ts
   all_good [] g s h = tt
@@ -151,7 +148,7 @@ module _ (es : List Entry) (atoms : List Atom) (rows : List Row) (own : ℕ → 
   all_true : (ts : List Term) → AllByRecursion Readied ts → IsTrue (each (λ (x : Kinds). x.truth) (map (kinds rows) ts)) → IsTrue (truths (map (ready es atoms) ts))
   all_true [] r h = refl
   all_true (t ∷ ts) r h =
-      let parts = both (kinds rows t).truth (each (λ (x : Kinds). x.truth) (map (kinds rows) ts)) h in
+      let parts = and_parts (kinds rows t).truth (each (λ (x : Kinds). x.truth) (map (kinds rows) ts)) h in
       joins (ready es atoms t).truth (truths (map (ready es atoms) ts)) (r.0.truth parts.0) (all_true ts r.1 parts.1)
 
   members_good : (xs : List Leaf) (ts : List Term) → AllByRecursion Good ts → AllByRecursion (λ t. AllByRecursion Stands (names t)) ts → Listed (members_ask xs (map (plan own) ts)) →
@@ -160,7 +157,7 @@ module _ (es : List Entry) (atoms : List Atom) (rows : List Row) (own : ℕ → 
   members_good xs (t ∷ ts) g s h k =
       let parts = each_append (is_listed atoms) ((plan own t).asks ++ pairs_ask op.Eq xs (plan own t).leaves) (members_ask xs (map (plan own) ts)) h in
       let here = each_append (is_listed atoms) (plan own t).asks (pairs_ask op.Eq xs (plan own t).leaves) parts.0 in
-      let kind = both (kinds rows t).word (each (λ (y : Kinds). y.word) (map (kinds rows) ts)) k in
+      let kind = and_parts (kinds rows t).word (each (λ (y : Kinds). y.word) (map (kinds rows) ts)) k in
       let done = g.0 s.0 here.0 in
       joins ((ready es atoms t).word && leaves_listed atoms op.Eq xs (ready es atoms t).leaves) (members atoms xs (map (ready es atoms) ts))
       (joins (ready es atoms t).word (leaves_listed atoms op.Eq xs (ready es atoms t).leaves) (done.word kind.0)
@@ -176,8 +173,8 @@ module _ (es : List Entry) (atoms : List Atom) (rows : List Row) (own : ℕ → 
   branches_true : (cs : List TermBranch) → AllByRecursion ReadiedBranch cs → IsTrue (each (λ (b : Kinds × Kinds). b.0.truth && b.1.word) (map (branch_kinds rows) cs)) → IsTrue (branches (map (branch_ready es atoms) cs))
   branches_true [] r h = refl
   branches_true (c ∷ cs) r h =
-      let parts = both ((branch_kinds rows c).0.truth && (branch_kinds rows c).1.word) (each (λ (b : Kinds × Kinds). b.0.truth && b.1.word) (map (branch_kinds rows) cs)) h in
-      let kind = both (kinds rows c.guard).truth (kinds rows c.value).word (subst (λ (b : Kinds × Kinds). IsTrue (b.0.truth && b.1.word)) (kinds_branch c) parts.0) in
+      let parts = and_parts ((branch_kinds rows c).0.truth && (branch_kinds rows c).1.word) (each (λ (b : Kinds × Kinds). b.0.truth && b.1.word) (map (branch_kinds rows) cs)) h in
+      let kind = and_parts (kinds rows c.guard).truth (kinds rows c.value).word (subst (λ (b : Kinds × Kinds). IsTrue (b.0.truth && b.1.word)) (kinds_branch c) parts.0) in
       let here = joins (ready es atoms c.guard).truth (ready es atoms c.value).word (r.0.guard.truth kind.0) (r.0.value.word kind.1) in
       joins ((branch_ready es atoms c).0.truth && (branch_ready es atoms c).1.word) (branches (map (branch_ready es atoms) cs))
       (subst (λ (b : Ready × Ready). IsTrue (b.0.truth && b.1.word)) (sym (branch_ready_is es atoms c)) here) (branches_true cs r.1 parts.1)
@@ -242,7 +239,7 @@ module _ (es : List Entry) (atoms : List Atom) (rows : List Row) (own : ℕ → 
       record {
         one = ap (λ (r : Ready). r.one) (ready_Cmp o t u) ∙ sym (ap (λ (p : Plan). p.one) (plan_Cmp own o t u));
         truth = λ k.
-            let kind = both (kinds rows t).word (kinds rows u).word (sym (ap (λ (x : Kinds). x.truth) (kinds_Cmp o t u)) ∙ k) in
+            let kind = and_parts (kinds rows t).word (kinds rows u).word (sym (ap (λ (x : Kinds). x.truth) (kinds_Cmp o t u)) ∙ k) in
             ap (λ (r : Ready). r.truth) (ready_Cmp o t u)
             ∙ joins (ready es atoms t).word ((ready es atoms u).word && leaves_listed atoms o (ready es atoms t).leaves (ready es atoms u).leaves) (left.word kind.0)
             (joins (ready es atoms u).word (leaves_listed atoms o (ready es atoms t).leaves (ready es atoms u).leaves) (right.word kind.1)
@@ -258,7 +255,7 @@ module _ (es : List Entry) (atoms : List Atom) (rows : List Row) (own : ℕ → 
       record {
         one = ap (λ (r : Ready). r.one) (ready_In t us) ∙ sym (ap (λ (p : Plan). p.one) (plan_In own t us));
         truth = λ k.
-            let kind = both (kinds rows t).word (each (λ (y : Kinds). y.word) (map (kinds rows) us)) (sym (ap (λ (x : Kinds). x.truth) (kinds_In t us)) ∙ k) in
+            let kind = and_parts (kinds rows t).word (each (λ (y : Kinds). y.word) (map (kinds rows) us)) (sym (ap (λ (x : Kinds). x.truth) (kinds_In t us)) ∙ k) in
             ap (λ (r : Ready). r.truth) (ready_In t us)
             ∙ joins (ready es atoms t).word (members atoms (ready es atoms t).leaves (map (ready es atoms) us)) (left.word kind.0)
             (ap (λ (ls : List Leaf). members atoms ls (map (ready es atoms) us)) left.leaves

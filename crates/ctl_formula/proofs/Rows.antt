@@ -1,7 +1,7 @@
 -- Rows of a table: what they need, which are known, and their equation.
 use Rattle.std.proofs.Common.{◌≡◌, ℕ, zero, suc, ◌+◌, Bool, true, false, cond, List, [], ◌∷◌, length, take, Option, Some, None, slice_get, if◌then◌else◌, refl, sym, ap, ◌∙◌, subst, arith}
-use Rattle.std.specs.Option.{unwrap_or}
 use Rattle.std.specs.List.{AllByRecursion}
+use Rattle.std.proofs.lemmas.Option.{same_Some}
 use Rattle.y86_base.proofs.Booleans.{clash}
 use Rattle.hcl_types.specs.declared.term.Term.{Term}
 use Rattle.hcl_types.specs.declared.table.Class.{Class}
@@ -16,20 +16,13 @@ use Rattle.ctl_atoms.specs.declared.leaf.Leaf.{Leaf}
 use Rattle.ctl_atoms.specs.declared.leaf.Leaf.TheVariants.{Number}
 use Rattle.ctl_atoms.specs.Leaves.{Assignment, picks}
 use Rattle.ctl_atoms.specs.Rows.{row_term}
+use Rattle.ctl_atoms.proofs.Solved.{known_row, needs_defined}
 use Rattle.ctl_formula.specs.Controls.{role_leaf, row_leaf, control_rule}
-
-pub from_some : {A : Type 0} (x y : A) → Some x ≡ Some y → x ≡ y
-from_some x y e = ap (λ o. unwrap_or o x) e
 
 pub known_past : (rows : List Row) (n : ℕ) → slice_get rows n ≡ None → is_known (known rows) n ≡ true
 known_past [] n e = refl
 known_past (r ∷ rows) zero e = cc
 known_past (r ∷ rows) (suc n) e = known_past rows n e
-
-pub known_row : (rows : List Row) (n : ℕ) (row : Row) → slice_get rows n ≡ Some row → is_known (known rows) n ≡ is_given row.role
-known_row [] n row e = cc
-known_row (r ∷ rows) zero row e = ap (λ (x : Row). is_given x.role) (from_some r row e)
-known_row (r ∷ rows) (suc n) row e = known_row rows n row e
 
 -- what a row needs, where k defined rows stand before the table
 abbrev needed : List Term → Row → ℕ → List ℕ
@@ -42,7 +35,7 @@ place_more false k r rs = refl
 needs_from_row : (k : ℕ) (rows : List Row) (terms : List Term) (n : ℕ) (row : Row) → slice_get rows n ≡ Some row →
     needs_of (needs_from k rows terms) n ≡ needed terms row (k + length (defined (take n rows)))
 needs_from_row k [] terms n row e = cc
-needs_from_row k (r ∷ rows) terms zero row e = ap (λ (x : Row). needed terms x k) (from_some r row e) ∙ ap (needed terms row) (let same : k ≡ k + 0 = omega arith in same)
+needs_from_row k (r ∷ rows) terms zero row e = ap (λ (x : Row). needed terms x k) (same_Some r row e) ∙ ap (needed terms row) (let same : k ≡ k + 0 = omega arith in same)
 needs_from_row k (r ∷ rows) terms (suc n) row e =
     needs_from_row (if is_defined r.role then k + 1 else k) rows terms n row e
     ∙ ap (needed terms row) (place_more (is_defined r.role) k r (defined (take n rows)))
@@ -51,10 +44,6 @@ pub needs_row : (rows : List Row) (terms : List Term) (n : ℕ) (row : Row) → 
     needs_of (needs rows terms) n ≡ (if is_defined row.role then names (row_term rows terms n) else inputs row.role)
 needs_row rows terms n row e =
     needs_from_row 0 rows terms n row e ∙ ap (needed terms row) (let same : 0 + length (defined (take n rows)) ≡ length (defined (take n rows)) = omega arith in same)
-
--- what a defined row needs are the names in its term
-pub needs_defined : (rows : List Row) (terms : List Term) (n : ℕ) (row : Row) → slice_get rows n ≡ Some row → is_defined row.role ≡ true → needs_of (needs rows terms) n ≡ names (row_term rows terms n)
-needs_defined rows terms n row e d = needs_row rows terms n row e ∙ ap (λ b. if b then names (row_term rows terms n) else inputs row.role) d
 
 pub needs_given : (rows : List Row) (terms : List Term) (n : ℕ) (row : Row) → slice_get rows n ≡ Some row → is_defined row.role ≡ false → needs_of (needs rows terms) n ≡ inputs row.role
 needs_given rows terms n row e d = needs_row rows terms n row e ∙ ap (λ b. if b then names (row_term rows terms n) else inputs row.role) d

@@ -2,6 +2,8 @@
 use Rattle.std.proofs.Common.{◌≡◌, ℕ, Bool, true, false, not, List, [], ◌∷◌, Option, Some, None, slice_get, nat_eq, nat_lt, refl, sym, ap, ◌∙◌, subst, arith}
 use Rattle.std.proofs.lemmas.Bool.Decides.{nat_tests}
 use Rattle.std.specs.List.{AllByRecursion}
+use Rattle.std.proofs.lemmas.Bool.{eqb-true}
+use Rattle.y86_base.proofs.Numbers.{eqb_self}
 use Rattle.hcl_read.specs.declared.tree.CmpOp.{CmpOp}
 use Rattle.hcl_read.specs.declared.tree.CmpOp.TheVariants as op
 use Rattle.hcl_types.specs.declared.term.Term.{Term}
@@ -16,9 +18,10 @@ use Rattle.ctl_atoms.specs.declared.leaf.Leaf.{Leaf}
 use Rattle.ctl_atoms.specs.declared.leaf.Leaf.TheVariants.{Name, Number}
 use Rattle.ctl_atoms.specs.Leaves.{Assignment, picks, leaf_lt, leaf_same, leaf_cmp}
 use Rattle.ctl_atoms.specs.Rows.{row_term}
+use Rattle.ctl_atoms.proofs.Solved.{known_row, needs_defined}
 use Rattle.ctl_formula.specs.Controls.{control_rule, AreControls}
 use Rattle.ctl_formula.specs.Laws.{HasControls, worth, real, Agreement}
-use Rattle.ctl_formula.proofs.Rows.{known_row, needs_defined, needs_given, given_undefined, given_inputs, defined_leaf, rule_past, rule_row, rule_local, rule_known}
+use Rattle.ctl_formula.proofs.Rows.{needs_given, given_undefined, given_inputs, defined_leaf, rule_past, rule_row, rule_local, rule_known}
 
 each_unit : (ids : List ℕ) → AllByRecursion (λ (n : ℕ). Unit {0}) ids
 each_unit [] = tt
@@ -46,18 +49,12 @@ not_below x = grind (arith, nat_tests)
 same_swap : (x y : ℕ) → nat_eq x y ≡ nat_eq y x
 same_swap x y = grind (arith, nat_tests)
 
-same_self : (x : ℕ) → nat_eq x x ≡ true
-same_self x = grind (arith, nat_tests)
-
-nat_same : (x y : ℕ) → nat_eq x y ≡ true → x ≡ y
-nat_same x y h = grind (arith, nat_tests)
-
 module _ (f : ℕ → ℕ) where
   lt_names : (x y : ℕ) → leaf_lt (real f) (Name x) (Name y) ≡ signed_below (f x) (f y)
   lt_names x y = by (nat_eq x y) refl
     where
       by : (b : Bool) → nat_eq x y ≡ b → leaf_lt (real f) (Name x) (Name y) ≡ signed_below (f x) (f y)
-      by true e = rw e (sym (ap (λ z. signed_below (f x) (f z)) (sym (nat_same x y e)) ∙ not_below (f x)))
+      by true e = rw e (sym (ap (λ z. signed_below (f x) (f z)) (sym (eqb-true x y e)) ∙ not_below (f x)))
       by false e = rw e refl
 
   lt_is : (x y : Leaf) → leaf_lt (real f) x y ≡ signed_below (worth f x) (worth f y)
@@ -70,7 +67,7 @@ module _ (f : ℕ → ℕ) where
   eq_names x y = by (nat_eq x y) refl (nat_lt x y) refl
     where
       by : (b : Bool) → nat_eq x y ≡ b → (c : Bool) → nat_lt x y ≡ c → leaf_same (real f) (Name x) (Name y) ≡ nat_eq (f x) (f y)
-      by true e c l = rw e (sym (ap (λ z. nat_eq (f x) (f z)) (sym (nat_same x y e)) ∙ same_self (f x)))
+      by true e c l = rw e (sym (ap (λ z. nat_eq (f x) (f z)) (sym (eqb-true x y e)) ∙ eqb_self (f x)))
       by false e true l = rw (e, l) refl
       by false e false l = rw (e, l) (same_swap (f y) (f x))
 

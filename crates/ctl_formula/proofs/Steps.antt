@@ -1,6 +1,8 @@
 -- One step of a loop over picks that joins truths.
-use Rattle.std.proofs.Common.{◌≡◌, Bool, true, false, ◌||◌, ◌&&◌, refl, sym, ap, ◌∙◌, subst, List, [], ◌∷◌, ℕ, zero, suc, ◌<◌, ◌+◌, length, get_or, drop, map, arith, IsTrue}
+use Rattle.std.proofs.Common.{◌≡◌, Bool, ◌||◌, ◌&&◌, refl, sym, ap, ◌∙◌, subst, List, [], ◌∷◌, ℕ, zero, suc, ◌<◌, ◌+◌, length, get_or, drop, map, arith, IsTrue}
 use Rattle.std.proofs.lemmas.List.{drop_more}
+use Rattle.std.proofs.lemmas.Bool.{and_parts}
+use Rattle.std.proofs.Math.Bool.{or_assoc, and_assoc}
 use Rattle.ctl_formula.specs.declared.controls.Pick.{Pick}
 use Rattle.ctl_atoms.specs.declared.leaf.Leaf.TheVariants.{Name}
 use Rattle.ctl_formula.specs.Picks.{Within}
@@ -9,14 +11,6 @@ use Rattle.hcl_types.specs.Lists.{each, some}
 -- what a read past the end gives
 abbrev pub none : Pick
 none = record { leaf = Name 0; gate = 0 }
-
-or_assoc : (a x r : Bool) → (a || x) || r ≡ a || (x || r)
-or_assoc true x r = refl
-or_assoc false x r = refl
-
-and_assoc : (a x r : Bool) → (a && x) && r ≡ a && (x && r)
-and_assoc true x r = refl
-and_assoc false x r = refl
 
 pub or_more : (g' a x r r' whole : Bool) → g' ≡ a || x → r ≡ x || r' → a || r ≡ whole → g' || r' ≡ whole
 or_more g' a x r r' whole p q h = ap (λ b. b || r') p ∙ (or_assoc a x r' ∙ (ap (λ b. a || b) (sym q) ∙ h))
@@ -30,12 +24,8 @@ within_next n ps i h w = subst (λ (xs : List Pick). Within n xs) (drop_more ps 
 pub some_next : {A : Type 0} (f : A → Bool) (xs : List A) (i : ℕ) (d : A) → i < length xs → some f (drop i xs) ≡ f (get_or xs i d) || some f (drop (i + 1) xs)
 some_next {A} f xs i d h = ap (λ (ys : List A). some f ys) (drop_more xs i d h)
 
-both : (a b : Bool) → IsTrue (a && b) → IsTrue a × IsTrue b
-both true b h = (refl, h)
-both false b h = (h, cc)
-
 pub each_next : {A : Type 0} (f : A → Bool) (xs : List A) (i : ℕ) (d : A) → i < length xs → IsTrue (each f (drop i xs)) → IsTrue (f (get_or xs i d)) × IsTrue (each f (drop (i + 1) xs))
-each_next {A} f xs i d h t = both (f (get_or xs i d)) (each f (drop (i + 1) xs)) (subst (λ (ys : List A). IsTrue (each f ys)) (drop_more xs i d h) t)
+each_next {A} f xs i d h t = and_parts (f (get_or xs i d)) (each f (drop (i + 1) xs)) (subst (λ (ys : List A). IsTrue (each f ys)) (drop_more xs i d h) t)
 
 pub each_map : {A B : Type 0} (f : B → Bool) (g : A → B) (xs : List A) → each f (map g xs) ≡ each (λ x. f (g x)) xs
 each_map f g [] = refl

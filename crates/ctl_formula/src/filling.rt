@@ -25,7 +25,7 @@ use crate::controls::{Controls, Entry, NamePlace};
 use crate::given::given_entry;
 use crate::scope::Scope;
 use ctl_atoms::{Atom, CtlFault, atoms, definitions_before};
-use hcl_types::{Class, Design, NameId, Order, Role, Row, Table, Term};
+use hcl_types::{Class, Design, NameId, Order, Row, Table, Term, is_defined};
 use nets::NetBuilder;
 use std::alloc::Global;
 use y86_base::{Items, Memory};
@@ -95,18 +95,6 @@ fn entry_of(
     };
     let e = scope.defined_entry(alloc, b, class, t)?;
     Ok(e)
-}
-
-/// Whether the file defines a row.
-fn is_defined(role: &Role) -> bool
-    ensures { result ≡ tables.is_defined role.now }
-{
-    match role {
-        Role::Constant(_) => false,
-        Role::State => false,
-        Role::Hardware(_) => false,
-        Role::Defined => true,
-    }
 }
 
 /// Puts what is known of a name behind the others.

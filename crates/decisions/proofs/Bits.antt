@@ -4,15 +4,11 @@ use Rattle.std.proofs.lemmas.Bool.{cases_lt}
 use Rattle.std.proofs.lemmas.Bool.Decides.{nat_tests}
 use Rattle.std.proofs.lemmas.List.{get_or_append_left, get_or_push}
 use Rattle.field_bits.specs.Spelling.{bit, spell, spelt}
-use Rattle.field_bits.proofs.Patterns.{length_spell, spelt_spell}
+use Rattle.field_bits.proofs.Patterns.{length_spell, spelt_spell, bit_lt}
 
 spelt_step : (w : List Bool) (k : ℕ) → spelt w 0 (suc k) ≡ 2 * spelt w 0 k + bit (get_or w k false)
 unfolding spelt
 spelt_step w k = let e : 0 + k ≡ k = omega arith in rw e refl
-
-bit_lt : (b : Bool) → bit b < 2
-bit_lt true = omega arith
-bit_lt false = omega arith
 
 -- a bit of a number, from its half or by itself
 pub bit_before : (k n i : ℕ) → i < k → get_or (spell (suc k) n) i false ≡ get_or (spell k (n / 2)) i false

@@ -5,15 +5,16 @@ use Rattle.nets.specs.Nets.{Gates, truth}
 use Rattle.nets.specs.Forcing.{IsForced, Settle}
 use Rattle.nets.specs.Substitution.{AreCopies, behind}
 use Rattle.nets.specs.declared.copies.Source.{Source}
+use Rattle.nets.proofs.Gates.{read_at}
 use Rattle.decisions.specs.Decisions.{AreGatesOf, IsAlwaysTrue}
 use Rattle.decisions.specs.Splitting.{AreChosen, StandFor}
 use Rattle.decisions.specs.declared.cuts.Part.{Part}
-use Rattle.decisions.proofs.Sources.{behind_at, length_behind, same_list}
+use Rattle.decisions.proofs.Sources.{length_behind, same_list}
 
 pub behind_settled : (to : List Source) (u : List Bool) → length u ≡ length to → Settle to u → behind to u ≡ u
 behind_settled to u size h =
     same_list (behind to u) u (length_behind to u ∙ sym size)
-    (λ i lt. let inside : i < length to = (let l = length_behind to u in omega (arith, lt, l)) in behind_at to u i inside ∙ h i inside)
+    (λ i lt. let inside : i < length to = (let l = length_behind to u in omega (arith, lt, l)) in read_at to u i inside ∙ h i inside)
 
 pub gates_inside : (n : Gates) (gates : List ℕ) (count k p : ℕ) (c : Part) → StandFor n gates count k p c → AreGatesOf c.net c.gates
 gates_inside n gates count k p c h j lt = h.inside j (let z = h.size in omega (arith, lt, z))

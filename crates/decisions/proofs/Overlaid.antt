@@ -9,10 +9,11 @@ use Rattle.nets.specs.Forcing.{IsForced}
 use Rattle.nets.specs.Substitution.{AreSources, behind, source_truth}
 use Rattle.nets.specs.declared.copies.Source.{Source}
 use Rattle.nets.specs.declared.copies.Source.TheVariants.{Const, Var}
+use Rattle.nets.proofs.Gates.{read_at}
 use Rattle.decisions.specs.Decisions.{IsAlwaysTrue, IsLeastOf}
 use Rattle.decisions.specs.Splitting.{AreForcedBits, AreOwn, own}
 use Rattle.decisions.proofs.Forced.{behind_settled}
-use Rattle.decisions.proofs.Sources.{behind_at, length_behind, same_list, same_variable}
+use Rattle.decisions.proofs.Sources.{length_behind, same_list, same_variable}
 
 -- ---- bits, and each other variable in its own place
 
@@ -103,7 +104,7 @@ module _ (n : Gates) (gate : ℕ) (to : List Source) (h : AreForcedBits n gate t
     -- the bits behind u are its own but where a bit stands
     behind_var : (i x : ℕ) → i < n.vars → get_or to i (Const false) ≡ Var x → get_or (behind to u) i false ≡ get_or u i false
     behind_var i x lt is =
-        behind_at to u i (let z = h.size in omega (arith, lt, z)) ∙ (ap (source_truth u) is ∙ ap (λ (j : ℕ). get_or u j false) (h.own i x lt is))
+        read_at to u i (let z = h.size in omega (arith, lt, z)) ∙ (ap (source_truth u) is ∙ ap (λ (j : ℕ). get_or u j false) (h.own i x lt is))
 
     module _ (z : List Bool) (sz : length z ≡ n.vars) (fz : truth n gate z ≡ false) where
       size_z : length z ≡ length to
@@ -121,9 +122,9 @@ module _ (n : Gates) (gate : ℕ) (to : List Source) (h : AreForcedBits n gate t
           (λ i l. at i (let e = length_behind to other in omega (arith, l, e)) (get_or to i (Const false)) refl)
         where
           at : (i : ℕ) → i < length to → (s : Source) → get_or to i (Const false) ≡ s → get_or (behind to other) i false ≡ get_or z i false
-          at i lt (Const b) is = behind_at to other i lt ∙ (ap (source_truth other) is ∙ (sym (ap (source_truth z) is) ∙ h.settle z fz i lt))
+          at i lt (Const b) is = read_at to other i lt ∙ (ap (source_truth other) is ∙ (sym (ap (source_truth z) is) ∙ h.settle z fz i lt))
           at i lt (Var x) is =
-              behind_at to other i lt
+              read_at to other i lt
               ∙ (ap (source_truth other) is
               ∙ (ap (λ (j : ℕ). get_or other j false) (h.own i x (let e = h.size in omega (arith, lt, e)) is) ∙ overlaid_var to u z i x size_u size_z lt is))
 
@@ -145,7 +146,7 @@ module _ (n : Gates) (gate : ℕ) (to : List Source) (h : AreForcedBits n gate t
 
           by : (s : Source) → get_or to y (Const false) ≡ s → get_or (behind to u) y false ≡ false
           by (Const b) is =
-              behind_at to u y (inside y lt) ∙ (ap (source_truth u) is ∙ (sym (ap (source_truth z) is) ∙ (h.settle z fz y (inside y lt) ∙ off)))
+              read_at to u y (inside y lt) ∙ (ap (source_truth u) is ∙ (sym (ap (source_truth z) is) ∙ (h.settle z fz y (inside y lt) ∙ off)))
           by (Var x) is =
               behind_var y x lt is
               ∙ least.least other (length_overlaid to u z ∙ (sz ∙ sym vars)) fails y (subst (λ (v : ℕ). y < v) (sym vars) lt) agrees

@@ -6,6 +6,7 @@ use Rattle.field_bits.specs.Spelling.{spell, spelt}
 use Rattle.nets.specs.Substitution.{AreCopies, AreSources, behind, source_truth}
 use Rattle.nets.specs.declared.copies.Source.{Source}
 use Rattle.nets.specs.declared.copies.Source.TheVariants.{Const, Var}
+use Rattle.nets.proofs.Gates.{read_at}
 use Rattle.decisions.specs.Decisions.{AreGatesOf, IsAlwaysTrue, IsLeastOf}
 use Rattle.decisions.specs.Splitting.{AreChosen, AreSourcesIn, IsLeastIn, IsTrueWhere, StandFor, source_in}
 use Rattle.decisions.proofs.Bits.{bit_of_part, in_part}
@@ -23,11 +24,6 @@ pub length_behind : (to : List Source) (u : List Bool) → length (behind to u) 
 length_behind [] u = refl
 length_behind (s ∷ to) u = ap suc (length_behind to u)
 
-pub behind_at : (to : List Source) (u : List Bool) (i : ℕ) → i < length to → get_or (behind to u) i false ≡ source_truth u (get_or to i (Const false))
-behind_at [] u i lt = absurd (omega (arith, lt))
-behind_at (s ∷ to) u zero lt = refl
-behind_at (s ∷ to) u (suc i) lt = behind_at to u i (omega (arith, lt))
-
 source_low : (u : List Bool) (k p i : ℕ) → i < k → source_truth u (source_in k p i) ≡ get_or (spell k p) i false
 source_low u k p i lt = rw (lt-ltb i k lt) refl
 
@@ -41,12 +37,12 @@ tells_of n copy to gates items gate h e lt u = ap (λ (xs : List ℕ). truth cop
 module _ (k p vars : ℕ) (to : List Source) (h : AreSourcesIn k p vars to) (bits : k ≤ vars) where
   low : (u : List Bool) (i : ℕ) → i < k → get_or (behind to u) i false ≡ get_or (spell k p) i false
   low u i lt =
-      behind_at to u i (let z = h.size in omega (arith, lt, bits, z))
+      read_at to u i (let z = h.size in omega (arith, lt, bits, z))
       ∙ (ap (source_truth u) (h.each i (omega (arith, lt, bits))) ∙ source_low u k p i lt)
 
   high : (u : List Bool) (i : ℕ) → k ≤ i → i < vars → get_or (behind to u) i false ≡ get_or u i false
   high u i le lt =
-      behind_at to u i (let z = h.size in omega (arith, lt, z))
+      read_at to u i (let z = h.size in omega (arith, lt, z))
       ∙ (ap (source_truth u) (h.each i lt) ∙ source_high u k p i le)
 
   -- a valuation of the part is behind itself

@@ -4,7 +4,7 @@ use Rattle.std.specs.Prelude.{nat_le, ◌==◌, ◌&&◌, unwrap_or}
 use Rattle.std.specs.List.{list_all, starts_with}
 use Rattle.std.specs.Str.{bytes_eq}
 use Rattle.std.proofs.lemmas.Bool.Decides.{nat_tests}
-use Rattle.std.proofs.lemmas.Option.{none-some}
+use Rattle.std.proofs.lemmas.Option.{none-some, same_Some}
 use Rattle.y86_base.specs.declared.number.Number.{Number as Written}
 use Rattle.y86_base.specs.Text.{begins, behind, is_letter, is_name_byte}
 use Rattle.y86_base.specs.Keyword.{keyword_at, meaning_of}
@@ -28,16 +28,13 @@ abbrev RowsGood : List (List ℕ × Token) → Type 0
 RowsGood [] = Unit {0}
 RowsGood (row ∷ rows) = Good row.1 × RowsGood rows
 
-some_same : {A : Type 0} (x y : A) → Some x ≡ Some y → x ≡ y
-some_same x y e = cc
-
 good_meaning : (rows : List (List ℕ × Token)) (name : List ℕ) (t : Token) → RowsGood rows → meaning_of rows name ≡ Some t → Good t
 unfolding meaning_of
 good_meaning [] name t good e = absurd (none-some t e)
 good_meaning (row ∷ rows) name t good e = go (bytes_eq name row.0) (λ h. good_meaning rows name t good.1 h) e
   where
     go : (b : Bool) → (meaning_of rows name ≡ Some t → Good t) → cond b (Some row.1) (meaning_of rows name) ≡ Some t → Good t
-    go true later e = subst Good (some_same row.1 t e) good.0
+    go true later e = subst Good (same_Some row.1 t e) good.0
     go false later e = later e
 
 good_keyword : (rows : List (List ℕ × Token)) (text : List ℕ) (x : Token × List ℕ) → RowsGood rows → keyword_at rows text ≡ Some x → Good x.0
@@ -46,7 +43,7 @@ good_keyword [] text x good e = absurd (none-some x e)
 good_keyword (row ∷ rows) text x good e = go (starts_with nat_eq text row.0) (λ h. good_keyword rows text x good.1 h) e
   where
     go : (b : Bool) → (keyword_at rows text ≡ Some x → Good x.0) → cond b (Some (row.1, drop (length row.0) text)) (keyword_at rows text) ≡ Some x → Good x.0
-    go true later e = subst (λ (y : Token × List ℕ). Good y.0) (some_same (row.1, drop (length row.0) text) x e) good.0
+    go true later e = subst (λ (y : Token × List ℕ). Good y.0) (same_Some (row.1, drop (length row.0) text) x e) good.0
     go false later e = later e
 
 good_or : (o : Option (Token × List ℕ)) (other : Token × List ℕ) → ((x : Token × List ℕ) → o ≡ Some x → Good x.0) → Good other.0 → Good (unwrap_or o other).0

@@ -1,19 +1,18 @@
 -- The tokens of a text that begins with the text of a token.
-use Rattle.std.proofs.Common.{◌≡◌, ◌≤◌, ◌<◌, ◌-◌, ◌^◌, ◌%◌, ap, sym, ◌∙◌, ℕ, Bool, true, false, cond, List, [], ◌∷◌, ◌++◌, length, drop, map, refl, arith, nat_lt, Some, None, take_while, nat_eq, codes, not-suc-le-zero, lit≤, ltb-false, lt-ltb, mod-eq_of_lt}
+use Rattle.std.proofs.Common.{◌≡◌, ◌≤◌, ◌<◌, ◌-◌, ◌^◌, ◌%◌, ap, sym, ◌∙◌, ℕ, Bool, true, false, cond, List, [], ◌∷◌, ◌++◌, length, drop, map, refl, arith, nat_lt, Some, None, take_while, nat_eq, codes, not-suc-le-zero, lit≤, ltb-false, mod-eq_of_lt}
 use Rattle.std.specs.Prelude.{nat_le, ◌==◌, ◌&&◌, ◌||◌, unwrap_or}
 use Rattle.std.specs.List.{list_all, starts_with}
-use Rattle.std.specs.Str.Parse.{AllDigits, digits_value}
-use Rattle.std.specs.Char.{digit_value}
+use Rattle.std.specs.Str.Parse.{digits_value}
 use Rattle.std.proofs.lemmas.Bool.Decides.{nat_tests}
+use Rattle.std.proofs.lemmas.Bool.{or_parts, and_parts}
 use Rattle.y86_base.specs.declared.number.Number.{Number as Written}
 use Rattle.y86_base.specs.Text.{begins, behind, below_word, is_blank, is_decimal, is_letter, is_line_feed, is_name_byte}
 use Rattle.y86_base.specs.Keyword.{keyword_at}
 use Rattle.y86_base.specs.Number.{IsDecimal, decimal_at, word_within}
 use Rattle.y86_base.specs.Numeral.{numeral}
-use Rattle.y86_base.proofs.Booleans.{both_true, both_false}
 use Rattle.y86_base.proofs.Runs.{behind-run, take_while-run}
-use Rattle.y86_base.proofs.Decimals.{decimal_read}
-use Rattle.y86_base.proofs.Numerals.{numeral_digits, numeral_value, word_has_room}
+use Rattle.y86_base.proofs.Decimals.{decimal_read, below_word_small}
+use Rattle.y86_base.proofs.Numerals.{numeral_digits, numeral_value, word_has_room, all_decimal}
 use Rattle.hcl_read.specs.declared.tree.CmpOp.{CmpOp}
 use Rattle.hcl_read.specs.declared.tree.CmpOp.TheVariants.{Eq, Ne, Lt, Le, Gt, Ge}
 use Rattle.hcl_read.specs.declared.tokens.Token.{Token}
@@ -172,17 +171,7 @@ digit_shows byte e = (grind (arith, nat_tests), grind (arith, nat_tests), grind 
 
 no_more_digits : (rest : List ℕ) → Ends rest → begins is_decimal rest ≡ false
 no_more_digits [] e = refl
-no_more_digits (byte ∷ bytes) e = (both_false (is_letter byte || byte == 95) (is_decimal byte) e).1
-
-digit_is_decimal : (byte : ℕ) → digit_value byte < 10 → is_decimal byte ≡ true
-digit_is_decimal byte h = grind (arith, nat_tests)
-
-all_decimal : (digits : List ℕ) → AllDigits 10 digits → list_all is_decimal digits ≡ true
-all_decimal [] h = refl
-all_decimal (byte ∷ bytes) h = ap (λ b. b && list_all is_decimal bytes) (digit_is_decimal byte h.0) ∙ all_decimal bytes h.1
-
-below_is : (m : ℕ) → m < 2 ^ 64 → below_word m ≡ Some m
-below_is m h = ap (λ b. cond b (Some m) None) (lt-ltb m (2 ^ 64) h)
+no_more_digits (byte ∷ bytes) e = (or_parts (is_letter byte || byte == 95) (is_decimal byte) e).1
 
 positive : (m : ℕ) → m < 2 ^ 63 → word_within (2 ^ 63) (2 ^ 63 - 1) (record { negative = false; magnitude = Some m }) ≡ Some m
 unfolding word_within
@@ -201,10 +190,10 @@ negative m h = ap (λ b. cond b (Some ((2 ^ 64 - m) % 2 ^ 64)) None) (small m h)
 plain_step : (digits rest : List ℕ) (m : ℕ) → 0 < length digits → list_all is_decimal digits ≡ true → digits_value 10 digits ≡ m → m < 2 ^ 63 → Ends rest → tokens (digits ++ rest) ≡ Number m ∷ tokens rest
 plain_step [] rest m some all value small ends = absurd (not-suc-le-zero some)
 plain_step (byte ∷ bytes) rest m some all value small ends =
-    let shows = digit_shows byte (both_true (is_decimal byte) (list_all is_decimal bytes) all).0 in
+    let shows = digit_shows byte (and_parts (is_decimal byte) (list_all is_decimal bytes) all).0 in
     let written : Written = record { negative = false; magnitude = Some m } in
     let d : IsDecimal (byte ∷ bytes ++ rest) written rest =
-    record { digits = byte ∷ bytes; whole = refl; each = all; some = some; longest = no_more_digits rest ends; value = sym (below_is m (wider m small)) ∙ ap below_word (sym value) } in
+    record { digits = byte ∷ bytes; whole = refl; each = all; some = some; longest = no_more_digits rest ends; value = sym (below_word_small m (wider m small)) ∙ ap below_word (sym value) } in
     number_step byte (bytes ++ rest) written rest m shows.0 shows.1 shows.2 shows.3 (decimal_read (byte ∷ bytes ++ rest) written rest d) (positive m small)
   where
     wider : (m : ℕ) → m < 2 ^ 63 → m < 2 ^ 64
@@ -215,7 +204,7 @@ minus_step : (digits rest : List ℕ) (m n : ℕ) → 0 < length digits → list
 minus_step digits rest m n some all value small same ends =
     let written : Written = record { negative = true; magnitude = Some m } in
     let d : IsDecimal (45 ∷ digits ++ rest) written rest =
-    record { digits = digits; whole = refl; each = all; some = some; longest = no_more_digits rest ends; value = sym (below_is m (wider m small)) ∙ ap below_word (sym value) } in
+    record { digits = digits; whole = refl; each = all; some = some; longest = no_more_digits rest ends; value = sym (below_word_small m (wider m small)) ∙ ap below_word (sym value) } in
     number_step 45 (digits ++ rest) written rest n refl refl refl refl (decimal_read (45 ∷ digits ++ rest) written rest d) (negative m small ∙ ap (λ x. Some x) same)
   where
     wider : (m : ℕ) → m ≤ 2 ^ 63 → m < 2 ^ 64
@@ -255,7 +244,7 @@ signed_begins n h = go (nat_lt n (2 ^ 63))
 
     first : (digits : List ℕ) → 0 < length digits → list_all is_decimal digits ≡ true → (x : ℕ) × (xs : List ℕ) × (digits ≡ x ∷ xs) × ((x == 61) ≡ false)
     first [] some all = absurd (not-suc-le-zero some)
-    first (byte ∷ bytes) some all = (byte, bytes, refl, no_sign byte (both_true (is_decimal byte) (list_all is_decimal bytes) all).0)
+    first (byte ∷ bytes) some all = (byte, bytes, refl, no_sign byte (and_parts (is_decimal byte) (list_all is_decimal bytes) all).0)
 
     go : (b : Bool) → (x : ℕ) × (xs : List ℕ) × (cond b (numeral 10 1 n) (codes "-" ++ numeral 10 1 (2 ^ 64 - n)) ≡ x ∷ xs) × ((x == 61) ≡ false)
     go true =

@@ -8,7 +8,8 @@ pub spelt_zero : (w : List Bool) (first bits : ℕ) → bits ≡ 0 → spelt w f
 unfolding spelt
 spelt_zero w first bits e = rw e refl
 
-spelt_suc : (w : List Bool) (first bits k : ℕ) → bits ≡ suc k → spelt w first bits ≡ 2 * spelt w first k + bit (get_or w (first + k) false)
+-- the number of bits, by the last one of them
+pub spelt_suc : (w : List Bool) (first bits k : ℕ) → bits ≡ suc k → spelt w first bits ≡ 2 * spelt w first k + bit (get_or w (first + k) false)
 unfolding spelt
 spelt_suc w first bits k e = rw e refl
 

@@ -2,3 +2,5 @@ pub mod Fields
 pub mod Patterns
 pub mod Icodes
 pub mod Places
+pub mod Loops
+pub mod Fitting

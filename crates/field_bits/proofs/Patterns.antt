@@ -68,7 +68,7 @@ decoded_pattern (s ∷ ss) (x ∷ xs) before rest first e h =
     rw (here, rw (append_assoc before (spell s.bits x) (pattern ss xs rest)) at there) refl
 
 -- what bits spell is in range
-bit_lt : (b : Bool) → bit b < 2
+pub bit_lt : (b : Bool) → bit b < 2
 bit_lt true = omega arith
 bit_lt false = omega arith
 

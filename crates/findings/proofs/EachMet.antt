@@ -1,6 +1,8 @@
 -- Lists of requirements that are met one by one, and lists of what is false.
 use Rattle.std.proofs.Common.{◌≡◌, ℕ, Bool, true, false, not, ◌&&◌, ◌||◌, ◌==◌, List, [], ◌∷◌, ◌++◌, map, Option, Some, None, if◌then◌else◌, refl, sym, ap, ◌∙◌, subst, arith}
 use Rattle.std.proofs.lemmas.Bool.Decides.{nat_tests}
+use Rattle.std.proofs.lemmas.Bool.{or_parts}
+use Rattle.std.proofs.Math.Bool.{and_assoc}
 use Rattle.hcl_types.specs.Lists.{IsApart, each, some}
 use Rattle.hcl_types.specs.Tables.{IsOrderOf}
 use Rattle.hcl_types.specs.declared.table.Row.{Row}
@@ -38,10 +40,6 @@ pub excused : (f : Requirement → Bool) (b x : Bool) (xs : List Requirement) �
 excused f true x xs p = refl
 excused f false x xs p = p
 
-and_assoc : (a b c : Bool) → (a && b) && c ≡ a && (b && c)
-and_assoc true b c = refl
-and_assoc false b c = refl
-
 each_append : (f : Requirement → Bool) (xs ys : List Requirement) → each f xs && each f ys ≡ each f (xs ++ ys)
 each_append f [] ys = refl
 each_append f (x ∷ xs) ys = and_assoc (f x) (each f xs) (each f ys) ∙ ap (λ b. f x && b) (each_append f xs ys)
@@ -71,19 +69,15 @@ atoms_given rows terms ids atoms first w order are =
 
 -- ---- lists of what is false
 
-either : (a b : Bool) → (a || b) ≡ false → (a ≡ false) × (b ≡ false)
-either true b e = cc
-either false b e = (refl, e)
-
 neither : (a b : Bool) → a ≡ false → b ≡ false → (a || b) ≡ false
 neither true b e f = cc
 neither false b e f = f
 
 -- none of a longer list
 pub none_of : {A : Type 0} (f : A → Bool) (xs : List A) (x : A) → some f (xs ++ x ∷ []) ≡ false → (some f xs ≡ false) × (f x ≡ false)
-none_of f [] x e = (refl, (either (f x) false e).0)
+none_of f [] x e = (refl, (or_parts (f x) false e).0)
 none_of f (y ∷ ys) x e =
-    let here = either (f y) (some f (ys ++ x ∷ [])) e in
+    let here = or_parts (f y) (some f (ys ++ x ∷ [])) e in
     let rest = none_of f ys x here.1 in
     (neither (f y) (some f ys) here.0 rest.0, rest.1)
 

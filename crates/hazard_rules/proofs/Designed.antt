@@ -2,12 +2,10 @@
 use Rattle.std.proofs.Common.{◌≡◌, ℕ, ◌+◌, ◌-◌, ◌≤◌, Bool, true, false, not, List, length, Result, Ok, Err, IfOk, refl, sym, ap, subst, ◌∙◌, arith}
 use Rattle.hcl_types.specs.declared.term.Term.{Term}
 use Rattle.hcl_types.specs.declared.table.Row.{Row}
-use Rattle.hcl_types.specs.Tables.{IsOrderOf}
 use Rattle.dp_signals.specs.Tables.{constant_rows}
 use Rattle.dp_signals.specs.PipeTable.{pipe_rows, pipe_state, pipe_hardware, pipe_defined}
 use Rattle.ctl_atoms.specs.Atoms.{AreAtoms}
 use Rattle.ctl_atoms.specs.declared.leaf.Atom.{Atom}
-use Rattle.ctl_atoms.proofs.Solved.{leaves_exist}
 use Rattle.ctl_formula.specs.Places.{HavePlaces, Spells}
 use Rattle.pipe_fields.specs.Layout.{Fields, bit_count, fields_of, number_of}
 use Rattle.y86_base.specs.declared.parts.Variant.{Variant}
@@ -29,10 +27,6 @@ use Rattle.ctl_formula.specs.Picks.{Covers, IsInside, Tells}
 use Rattle.hazard_rules.specs.Designs.{places, IsTranslated}
 use Rattle.hazard_rules.specs.Belonging.{BelongTo}
 use Rattle.hazard_rules.specs.declared.whole.Parts.{Parts}
-
--- a design has one list of atoms
-pub atoms_one : (rows : List Row) (terms : List Term) (ids : List ℕ) (xs ys : List Atom) → IsOrderOf rows terms ids → AreAtoms rows terms xs → AreAtoms rows terms ys → xs ≡ ys
-atoms_one rows terms ids xs ys o p q = let l = leaves_exist rows terms ids o in p.are (l.0) (l.1) ∙ sym (q.are (l.0) (l.1))
 
 -- each field of a signal is spelt at its place
 pub spelt_at_places : (w : List Bool) → Spells places w (number_of (fields_of w))

@@ -2,6 +2,7 @@
 use Rattle.std.proofs.Common.{◌≡◌, ◌+◌, ◌-◌, ◌<◌, ◌&&◌, ◌||◌, ℕ, zero, suc, Bool, true, false, List, [], ◌∷◌, ◌++◌, length, map, take, drop, slice_index, refl, sym, ap, subst, ◌∙◌, arith}
 use Rattle.std.proofs.lemmas.List.{drop_more, take_more, map-append}
 use Rattle.std.specs.List.{AllByRecursion}
+use Rattle.std.proofs.Math.Bool.{or-false, and-true}
 use Rattle.hcl_read.specs.declared.tree.CmpOp.TheVariants.{Eq}
 use Rattle.hcl_types.specs.Lists.{each, some}
 use Rattle.hcl_types.specs.Terms.{at, compare_words, words}
@@ -12,22 +13,11 @@ use Rattle.hcl_compile.specs.declared.join.Join.TheVariants as join
 use Rattle.hcl_compile.specs.Slots.{IsFormed, slot_value, word, written}
 use Rattle.hcl_compile.specs.Building.{Grows, IsPlaced, ArePlaced, own_names, join_slot, join_empty, joined_truth}
 use Rattle.hcl_compile.proofs.Placing.{kept, grows_none, grows_on, placed_as, placed_more, are_placed_as}
-
-holds_word : (b : Bool) → words.holds (word b) ≡ b
-holds_word true = refl
-holds_word false = refl
-
-and_true : (b : Bool) → (b && true) ≡ b
-and_true true = refl
-and_true false = refl
-
-or_false : (b : Bool) → (b || false) ≡ b
-or_false true = refl
-or_false false = refl
+use Rattle.hcl_compile.proofs.Walking.{holds_word}
 
 joined_one : (j : Join) (b : Bool) → joined_truth j (b ∷ []) ≡ b
-joined_one join.All b = and_true b
-joined_one join.Some b = or_false b
+joined_one join.All b = and-true b
+joined_one join.Some b = or-false b
 
 own_join : (j : Join) (a b : ℕ) → own_names (join_slot j a b) ≡ []
 own_join join.All a b = refl

@@ -1,6 +1,6 @@
 -- What slots write: earlier words stay, and each word is the value of its slot.
 use Rattle.std.proofs.Common.{◌≡◌, ◌+◌, ◌<◌, ℕ, zero, suc, not, List, [], ◌∷◌, ◌++◌, length, get_or, refl, sym, ap, subst, ◌∙◌, arith}
-use Rattle.std.proofs.lemmas.List.{length-append, get_or_append_left, get_or_at}
+use Rattle.std.proofs.lemmas.List.{get_or_append_left, get_or_at, length_push}
 use Rattle.hcl_types.specs.Terms.{at, words}
 use Rattle.hcl_compile.specs.declared.slot.Slot.{Slot}
 use Rattle.hcl_compile.specs.declared.slot.Slot.TheVariants.{Num, Name, Not, And, Or, Cmp, Pick}
@@ -9,9 +9,6 @@ use Rattle.hcl_compile.specs.Slots.{IsFormed, ReadsBefore, slot_value, word, wri
 pub written_more : (env : ℕ → ℕ) (done : List ℕ) (xs ys : List Slot) → written env done (xs ++ ys) ≡ written env (written env done xs) ys
 written_more env done [] ys = refl
 written_more env done (x ∷ xs) ys = written_more env (done ++ slot_value env done x ∷ []) xs ys
-
-length_push : (xs : List ℕ) (x : ℕ) → length (xs ++ x ∷ []) ≡ length xs + 1
-length_push xs x = length-append xs (x ∷ [])
 
 pub length-written : (env : ℕ → ℕ) (done : List ℕ) (slots : List Slot) → length (written env done slots) ≡ length done + length slots
 length-written env done [] = omega arith

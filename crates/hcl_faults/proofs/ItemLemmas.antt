@@ -18,6 +18,7 @@ use Rattle.hcl_types.specs.Faults.{uses}
 use Rattle.hcl_types.proofs.Bound.{accepted}
 use Rattle.hcl_types.proofs.Designs.{filtered_at, faultless, row_at, no_fault}
 use Rattle.hcl_types.proofs.UsesOf.{WhereErr, Lacks, term_lacks}
+use Rattle.hcl_types.proofs.Faulted.{err_at}
 use Rattle.hcl_faults.specs.declared.binding.ItemFault.{ItemFault}
 use Rattle.hcl_faults.specs.BindFaults.{with_fault, item_faults, is_missing, missing_names, first_of, must_define, is_twice, defined_name, own_fault, TellsMissing}
 
@@ -74,22 +75,6 @@ item_other rows before (item.Decl k name text) e h = declared_other (row_named r
 item_other rows before (item.Def k name body) e h = defined_other rows (is_some (definition before name)) (row_named rows name) k name body e h
 
 -- ---- where no item has a fault, a signal is missing
-
-err_at : {A B : Type 0} (f : A → Result B BindFault) (xs : List A) (e : BindFault) → all_ok (map f xs) ≡ Err e → (k : ℕ) × (x : A) × (slice_get xs k ≡ Some x) × (f x ≡ Err e)
-err_at f [] e h = absurd (grind (arith, h))
-err_at {A} {B} f (x ∷ xs) e h = by (λ q. err_at f xs e q) (f x) (all_ok (map f xs)) refl refl h
-  where
-    by : (all_ok (map f xs) ≡ Err e → (k : ℕ) × (y : A) × (slice_get xs k ≡ Some y) × (f y ≡ Err e)) →
-        (r : Result B BindFault) (rs : Result (List B) BindFault) → f x ≡ r → all_ok (map f xs) ≡ rs → and_then r (λ z. and_then rs (λ zs. Ok (z ∷ zs))) ≡ Err e →
-        (k : ℕ) × (y : A) × (slice_get (x ∷ xs) k ≡ Some y) × (f y ≡ Err e)
-    by go (Err z) rs p q g =
-        let same : z ≡ e = grind (arith, g) in
-        (0, x, refl, p ∙ ap (λ (w : BindFault). Err w) same)
-    by go (Ok z) (Ok zs) p q g = absurd (grind (arith, g))
-    by go (Ok z) (Err z') p q g =
-        let same : z' ≡ e = grind (arith, g) in
-        let rest = go (q ∙ ap (λ (w : BindFault). Err w) same) in
-        (suc rest.0, rest.1, rest.2, rest.3)
 
 module _ (rows : List Row) (apart : IsApart (row_names rows)) (items : List Item) (none : first_fault rows [] items ≡ None) where
   row_missing : (n k : ℕ) (row : Row) (e : BindFault) → slice_get rows n ≡ Some row → (d : Option Expr) → definition items row.name ≡ d → row_term rows row d ≡ Err e → e.why ≡ why.Missing

@@ -1,4 +1,3 @@
-pub mod Stacks
 pub mod Listing
 pub mod Runs
 pub mod ItemLemmas

@@ -4,14 +4,13 @@ ghost use Rattle.hcl_read.specs.declared.tree.Item.{Item};
 ghost use Rattle.hcl_types.specs.declared.fault.BindFault.{BindFault};
 ghost use Rattle.hcl_types.specs.declared.table.Row.{Row};
 ghost use Rattle.hcl_types.specs.Binding.{bound, definition, fault, item_fault, row_named};
-ghost use Rattle.hcl_types.specs.Tables as tables;
 ghost use Rattle.hcl_types.specs.Tables.{IsSound};
 ghost use Rattle.hcl_types.specs.declared.fault.BindWhy.TheVariants.{Memory as OutOfMemory, Twice as Again};
 ghost use Rattle.hcl_faults.specs.BindFaults as spec;
 
 use crate::lists::put;
 use hcl_read::{File, Item, Text};
-use hcl_types::{BindFault, BindWhy, Role, Row, Table, bind};
+use hcl_types::{BindFault, BindWhy, Row, Table, bind, is_defined};
 use std::alloc::Global;
 use y86_base::{Items, Memory};
 
@@ -20,18 +19,6 @@ use y86_base::{Items, Memory};
 pub struct ItemFault {
     pub item: usize,
     pub fault: BindFault,
-}
-
-/// Whether a file must define the row.
-fn is_defined(role: &Role) -> bool
-    ensures { result ≡ tables.is_defined role.now }
-{
-    match role {
-        Role::Constant(_) => false,
-        Role::State => false,
-        Role::Hardware(_) => false,
-        Role::Defined => true,
-    }
 }
 
 /// Whether some item defines a name.

@@ -28,7 +28,7 @@ fn closes(kind: TokenKind) -> bool
 }
 
 /// Notes a token that opens or closes a bracket. The innermost bracket is the last.
-#[tactic(auto, unfolding(crate::specs::Brackets::behind_one), using(crate::proofs::Stacks::innermost))]
+#[tactic(auto, unfolding(crate::specs::Brackets::behind_one), using(y86_base::proofs::Lists::reverse_push))]
 fn note(open_ones: &mut Vec<TokenAt>, token: TokenAt) -> Result<(), Memory>
     ensures { OnOk result (reverse open_ones.new.items ≡ spec.behind_one (reverse open_ones.old.items) token) }
 {

@@ -1,6 +1,7 @@
 -- Rows put into an order, one behind the other.
 use Rattle.std.proofs.Common.{◌≡◌, ◌≢◌, ◌+◌, ◌<◌, ◌⊎◌, inl, inr, ℕ, zero, suc, Bool, true, false, List, [], ◌∷◌, ◌++◌, length, set, refl, sym, ap, subst, ◌∙◌, arith, length-set, get_or-set_same, get_or-set_other}
 use Rattle.std.specs.Prelude.{not}
+use Rattle.std.proofs.lemmas.Bool.{not-true}
 use Rattle.hcl_types.specs.Lists.{IsIn, IsApart}
 use Rattle.hcl_types.specs.Equations.{IsOrdered, IsOrder, is_known, needs_of}
 use Rattle.hcl_order.specs.Dependence.{Walks, Depends}
@@ -95,10 +96,6 @@ arranged_more needs known done new ids on n a h u all e o = record {
     still : (x : ℕ) → is_known done x ≡ true → is_known new x ≡ true
     still x d = elim (same_or x n) [ inl s ↦ subst (λ y. is_known new y ≡ true) (sym s) here | inr f ↦ there x f ∙ d ]
 
-not_true : (b : Bool) → not b ≡ true → b ≡ false
-not_true false e = refl
-not_true true e = absurd (cc)
-
 pub arranges_whole : (needs : List (List ℕ)) (known done : List Bool) (ids : List ℕ) → IsArranged needs known done ids
     → ((n : ℕ) → is_known done n ≡ true) → IsOrder needs known ids
 arranges_whole needs known done ids a all = record {
@@ -111,7 +108,7 @@ arranges_whole needs known done ids a all = record {
 pub arranges_stuck : (needs : List (List ℕ)) (done old : List Bool) → IsWithin needs → IsPassed (needs_of needs) (length needs) old done false
     → (n : ℕ) → n < length needs → is_known done n ≡ false → (r : ℕ) × Depends (needs_of needs) r r
 arranges_stuck needs done old within p n h u = loops (needs_of needs) (λ x. not (is_known done x)) (length needs)
-    (λ x b k. let w = p.stuck refl x b (not_true (is_known done x) k) in (w.0, within x w.0 w.1, ap not w.2, ([], w.1)))
+    (λ x b k. let w = p.stuck refl x b (not-true (is_known done x) k) in (w.0, within x w.0 w.1, ap not w.2, ([], w.1)))
     n h (ap not u)
 
 pub arranged_begin : (needs : List (List ℕ)) (done : List Bool) (ids : List ℕ) → length done ≡ length needs → ids ≡ [] → IsArranged needs done done ids

@@ -11,14 +11,15 @@ use Rattle.hcl_read.specs.declared.reading.Stop.{Stop}
 use Rattle.hcl_read.specs.declared.state.State.{State}
 use Rattle.hcl_read.specs.declared.tokens.Token.{Token}
 use Rattle.hcl_read.specs.declared.tree.File.{File}
-use Rattle.hcl_read.specs.Fault.{Accepts, FaultAt, noted}
+use Rattle.hcl_read.specs.Fault.{FaultAt, noted}
 use Rattle.hcl_read.specs.Machine.{Outcome, at_end, ended, outcome, outcome_at, start, step}
-use Rattle.hcl_read.specs.Read.{Gives, IsFault, ReadsAs, Tells, bytes_from, kinds}
+use Rattle.hcl_read.specs.Read.{Gives, ReadsAs, Tells, bytes_from, kinds}
 use Rattle.hcl_read.specs.Steps.{Refuses}
 use Rattle.hcl_read.specs.Stops.{Halts, Refused, Stopped, Takes}
 use Rattle.hcl_read.specs.Tokens.{front, items, skipped, token, tokens}
-use Rattle.hcl_read.proofs.Exact.{Answers, accepts, answers, no_fault}
+use Rattle.hcl_read.proofs.Exact.{Answers, accepts, answers}
 use Rattle.hcl_read.proofs.Items.{Ends, ends_more, ends_shorter, ends_through, items_listed, listed, listed_more, listed_none, skipped_ends, token_ends}
+use Rattle.hcl_read.proofs.OneFault.{file_has_no_fault}
 
 pub too_many : (names : List (List ℕ)) (state next : State) (token : Token) → step true state token ≡ Ok next → false ≡ nat_le (length (noted names token)) 256
     → Refused names state token whys.NamesOver256
@@ -173,14 +174,9 @@ told text stop line col (inr halts) other l c =
       column = c ∙ ap column_behind taken;
     })
 
-no_file : (text : List ℕ) (file : File) (fault : HclFault) → ReadsAs text file → IsFault text fault → ⊥
-no_file text file fault accepted is =
-    let split : tokens text ≡ kinds is.front ++ kinds is.rest = ap kinds is.whole ∙ map-append (λ (item : Token × List ℕ). item.0) is.front is.rest in
-    no_fault (kinds is.front) (kinds is.rest) fault.why file (subst (λ ts. Accepts ts file) split accepted) is.reason
-
 pub gives_fault : (text : List ℕ) (fault : HclFault) → Tells text fault → (wanted : File) → ReadsAs text wanted → Gives (Err fault) wanted
 gives_fault text fault (inl memory) wanted accepted = memory.0
-gives_fault text fault (inr is) wanted accepted = absurd (no_file text wanted fault accepted is)
+gives_fault text fault (inr is) wanted accepted = absurd (file_has_no_fault text wanted fault accepted is)
 
 -- the loop's steps, with what the calls say
 pub follows_start : (text : List ℕ) (names : List (List ℕ)) (state : State) (rest : List ℕ) → names ≡ [] → state ≡ start → rest ≡ skipped false text → Follows text names state rest

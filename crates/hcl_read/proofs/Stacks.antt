@@ -1,11 +1,8 @@
--- The stack of open brackets, a vector with the innermost bracket last.
-use Rattle.std.proofs.Common.{◌≡◌, ℕ, ◌+◌, ◌<◌, length, false, nat_le, arith, List, [], ◌∷◌, ◌++◌, reverse, refl, sym, add-one}
-use Rattle.std.proofs.lemmas.List.{reverse-append}
+-- The stack of open brackets, a vector with the reverse_push bracket last.
+use Rattle.std.proofs.Common.{◌≡◌, ℕ, ◌+◌, ◌<◌, length, false, nat_le, arith, List, [], ◌∷◌, reverse, refl, sym, add-one}
+use Rattle.y86_base.proofs.Lists.{reverse_push}
 use Rattle.hcl_read.specs.declared.frames.Frame.{Frame}
 use Rattle.hcl_read.specs.Depth.{depth_of, level_behind}
-
-pub innermost : {A : Type 0} (below : List A) (last : A) → reverse (below ++ last ∷ []) ≡ last ∷ reverse below
-innermost below last = reverse-append below (last ∷ [])
 
 pub no_depth : depth_of [] ≡ 0
 unfolding depth_of
@@ -15,7 +12,7 @@ pub one_deeper : (frame : Frame) (k : List Frame) → depth_of (frame ∷ k) ≡
 unfolding depth_of
 one_deeper frame k = sym (add-one ((level_behind frame).nots + depth_of k))
 
-pub ruleset stack_rules = (innermost, no_depth, one_deeper)
+pub ruleset stack_rules = (reverse_push, no_depth, one_deeper)
 
 -- room is left behind all brackets
 pub not_full : (nots deep room : ℕ) (rest : List Frame) → length rest ≡ 0 → nots + deep + room ≡ 64 + depth_of (reverse rest) → 0 < room →

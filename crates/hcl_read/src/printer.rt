@@ -4,17 +4,7 @@ ghost use Rattle.hcl_read.specs.Print.{branch_text, branches, further, item_text
 
 use crate::tree::{Branch, CmpOp, Expr, File, Item, Kind};
 use std::alloc::Global;
-use y86_base::{Memory, Numeral};
-
-/// Puts bytes behind a text.
-fn put(out: &mut Vec<u8>, bytes: &[u8]) -> Result<(), Memory>
-    ensures { OnOk result (out.new.items ≡ out.old.items ++ bytes.now) }
-{
-    match out.extend_from_slice(bytes) {
-        Ok(()) => Ok(()),
-        Err(_) => Err(Memory),
-    }
-}
+use y86_base::{Memory, Numeral, put};
 
 /// A word of 64 bits as a signed decimal number.
 #[tactic(auto, unfolding(crate::specs::Print::signed_decimal))]

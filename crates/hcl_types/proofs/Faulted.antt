@@ -25,7 +25,7 @@ in_middle : {A : Type 0} (front : List A) (x : A) (behind : List A) → IsIn x (
 in_middle [] x behind = inl refl
 in_middle (y ∷ front) x behind = inr (in_middle front x behind)
 
-err_at : {A B : Type 0} (f : A → Result B BindFault) (xs : List A) (e : BindFault) → all_ok (map f xs) ≡ Err e → (k : ℕ) × (x : A) × (slice_get xs k ≡ Some x) × (f x ≡ Err e)
+pub err_at : {A B : Type 0} (f : A → Result B BindFault) (xs : List A) (e : BindFault) → all_ok (map f xs) ≡ Err e → (k : ℕ) × (x : A) × (slice_get xs k ≡ Some x) × (f x ≡ Err e)
 err_at f [] e h = absurd (grind (arith, h))
 err_at {A} {B} f (x ∷ xs) e h = by (λ q. err_at f xs e q) (f x) (all_ok (map f xs)) refl refl h
   where

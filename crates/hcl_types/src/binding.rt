@@ -28,7 +28,7 @@ fn fits(kind: Kind, class: Class) -> bool
 }
 
 /// Whether a file must define the row.
-fn is_defined(role: &Role) -> bool
+pub fn is_defined(role: &Role) -> bool
     ensures { result ≡ tables.is_defined role.now }
 {
     match role {

@@ -14,7 +14,7 @@ mod table;
 mod term;
 mod value;
 
-pub use binding::bind;
+pub use binding::{bind, is_defined};
 pub use eval::{Plain, SignalEval};
 pub use fault::{BindFault, BindWhy};
 pub use hcl_read::{CmpOp, Kind, Text};

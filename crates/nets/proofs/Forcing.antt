@@ -1,7 +1,9 @@
 -- What a false gate forces.
-use Rattle.std.proofs.Common.{◌≡◌, ◌⊎◌, inl, inr, ℕ, ◌+◌, ◌<◌, ◌≤◌, Bool, true, false, not, ◌&&◌, List, [], ◌∷◌, ◌++◌, length, replicate, set, get_or, refl, sym, ap, ◌∙◌, arith}
-use Rattle.std.proofs.lemmas.Bool.{cases_lt, cases_eq, false≢true}
-use Rattle.std.proofs.lemmas.List.{get_or-set_other, get_or-set_same, get_or-replicate, get_or_past, length-replicate, length-set, get_or_append_left, get_or_push, length_push}
+use Rattle.std.proofs.Common.{◌≡◌, ◌⊎◌, inl, inr, ℕ, ◌+◌, ◌<◌, ◌≤◌, Bool, true, false, ◌&&◌, List, [], ◌∷◌, ◌++◌, length, replicate, set, get_or, sym, ap, ◌∙◌, arith}
+use Rattle.std.proofs.lemmas.Bool.{cases_lt, cases_eq, false≢true, not-true, not-false}
+use Rattle.std.proofs.lemmas.List.{get_or-set_other, get_or-set_same, get_or_past, length-set, get_or_append_left, get_or_push, length_push}
+use Rattle.y86_base.proofs.Booleans.{and_second, and_first}
+use Rattle.y86_base.proofs.Lists.{none_true}
 use Rattle.nets.specs.Nets.{Gates, gate_value, truth, truths}
 use Rattle.nets.specs.declared.net.Gate.TheVariants as gate
 use Rattle.nets.specs.Substitution.{AreSources, source_truth}
@@ -17,40 +19,19 @@ one_true n old a u h is i marked = by (cases_eq i a)
     by (inl e) = ap (λ (k : ℕ). truth n k u) e ∙ is
     by (inr ne) = h i (sym (get_or-set_other old a i true false ne) ∙ marked)
 
-none_of : (size i : ℕ) → get_or (replicate size false) i false ≡ true → ⊥
-none_of size i e = by (cases_lt i size)
-  where
-    by : (i < size) ⊎ (size ≤ i) → ⊥
-    by (inl lt) = false≢true (sym (get_or-replicate size i false false lt) ∙ e)
-    by (inr le) = false≢true (sym (get_or_past (replicate size false) i false (let l = length-replicate size false in omega (arith, l, le))) ∙ e)
-
 pub none_marked : (n : Gates) (size : ℕ) (marked u : List Bool) → marked ≡ replicate size false → AreTrue n marked u
-none_marked n size marked u e i is = absurd (none_of size i (ap (λ (xs : List Bool). get_or xs i false) (sym e) ∙ is))
-
--- the parts of a true conjunction
-and_left : (a b : Bool) → (a && b) ≡ true → a ≡ true
-and_left true b e = refl
-and_left false b e = absurd (false≢true e)
-
-and_right : (a b : Bool) → (a && b) ≡ true → b ≡ true
-and_right true b e = e
-and_right false b e = absurd (false≢true e)
+none_marked n size marked u e i is = absurd (none_true size i (ap (λ (xs : List Bool). get_or xs i false) (sym e) ∙ is))
 
 pub both_true : (n : Gates) (old : List Bool) (i a b : ℕ) (u : List Bool) → AreTrue n old u → get_or old i false ≡ true → ((w : List Bool) → truth n i w ≡ gate_value w (truths n w) (gate.And a b)) →
     AreTrue n (set (set old a true) b true) u
 unfolding truth
 both_true n old i a b u h marked meaning =
     let both : (truth n a u && truth n b u) ≡ true = sym (meaning u) ∙ h i marked in
-    one_true n (set old a true) b u (one_true n old a u h (and_left (truth n a u) (truth n b u) both)) (and_right (truth n a u) (truth n b u) both)
-
--- the gates that a false gate is the negation of
-from_not : (b : Bool) → not b ≡ false → b ≡ true
-from_not true e = refl
-from_not false e = absurd (false≢true (sym e))
+    one_true n (set old a true) b u (one_true n old a u h (and_first (truth n a u) (truth n b u) both)) (and_second (truth n a u) (truth n b u) both)
 
 pub negated : (n : Gates) (i a : ℕ) (u : List Bool) → ((w : List Bool) → truth n i w ≡ gate_value w (truths n w) (gate.Not a)) → truth n i u ≡ false → truth n a u ≡ true
 unfolding truth
-negated n i a u meaning fails = from_not (truth n a u) (sym (meaning u) ∙ fails)
+negated n i a u meaning fails = not-false (truth n a u) (sym (meaning u) ∙ fails)
 
 pub never_false : (n : Gates) (i : ℕ) (marked u : List Bool) → ((w : List Bool) → truth n i w ≡ gate_value w (truths n w) (gate.Const true)) → truth n i u ≡ false → AreTrue n marked u
 unfolding truth
@@ -163,14 +144,10 @@ sources_more to x vars below h = record { within = λ i y lt is. by i y lt is (c
 pub variable_bit : (n : Gates) (i x : ℕ) (u : List Bool) → ((w : List Bool) → truth n i w ≡ gate_value w (truths n w) (gate.Var x)) → truth n i u ≡ true → get_or u x false ≡ true
 variable_bit n i x u meaning is = sym (meaning u) ∙ is
 
-to_not : (b : Bool) → not b ≡ true → b ≡ false
-to_not true e = absurd (false≢true e)
-to_not false e = refl
-
 pub negated_bit : (n : Gates) (i a x : ℕ) (u : List Bool) → ((w : List Bool) → truth n i w ≡ gate_value w (truths n w) (gate.Not a)) →
     ((w : List Bool) → truth n a w ≡ gate_value w (truths n w) (gate.Var x)) → truth n i u ≡ true → get_or u x false ≡ false
 unfolding truth
-negated_bit n i a x u meaning inner is = sym (inner u) ∙ to_not (truth n a u) (sym (meaning u) ∙ is)
+negated_bit n i a x u meaning inner is = sym (inner u) ∙ not-true (truth n a u) (sym (meaning u) ∙ is)
 
 pub is_forced : (n : Gates) (gates : List ℕ) (to : List Source) → AreSources n.vars to → ((k : ℕ) → k < length gates → (u : List Bool) → truth n (get_or gates k 0) u ≡ false → Settle to u) → IsForced n gates to
 is_forced n gates to sources settle = record { sources = sources; settle = settle }

@@ -2,7 +2,8 @@
 use Rattle.std.proofs.Common.{◌≡◌, ℕ, ◌+◌, ◌<◌, ◌≤◌, List, [], ◌∷◌, ◌++◌, Bool, true, false, not, ◌&&◌, length, take, drop, get_or, slice_get, Some, refl, sym, ap, ◌∙◌, subst, arith}
 use Rattle.std.proofs.lemmas.List.{take-append-drop, get_or_append_left, get_or_push, length_push, take_all, take-take, take_more, length-take}
 use Rattle.std.proofs.lemmas.Option.{get_or_from_slice_get}
-use Rattle.nets.specs.Nets.{Gates, IsNet, ReadsEarlier, values, truths, truth, gate_value, Begins, IsGate}
+use Rattle.std.proofs.Math.Bool.{not-not}
+use Rattle.nets.specs.Nets.{Gates, IsNet, ReadsEarlier, values, truths, truth, gate_value, Begins, IsGate, agree}
 use Rattle.nets.specs.declared.net.Gate.{Gate}
 use Rattle.nets.specs.declared.net.Gate.TheVariants.{Const, Var, Not, And}
 
@@ -11,10 +12,17 @@ unfolding values
 values_append w e [] ys = refl
 values_append w e (x ∷ xs) ys = values_append w (e ++ gate_value w e x ∷ []) xs ys
 
-values_length : (w e : List Bool) (xs : List Gate) → length (values w e xs) ≡ length e + length xs
+-- each gate has one truth
+pub values_length : (w e : List Bool) (xs : List Gate) → length (values w e xs) ≡ length e + length xs
 unfolding values
 values_length w e [] = omega arith
 values_length w e (x ∷ xs) = omega (arith, values_length w (e ++ gate_value w e x ∷ []) xs, length_push e (gate_value w e x))
+
+-- where two truths agree, they are one
+pub agree_true : (a b : Bool) → agree a b ≡ true → b ≡ a
+agree_true true b h = h
+agree_true false true h = cc
+agree_true false false h = refl
 
 values_kept : (w e : List Bool) (xs : List Gate) (i : ℕ) → i < length e → get_or (values w e xs) i false ≡ get_or e i false
 unfolding values
@@ -96,10 +104,6 @@ begins_more {a} {b} {c} p q = record {
   same = λ g w h. q.same g w (let x = p.more in omega (arith, h, x)) ∙ p.same g w h;
 }
 
-not_not : (b : Bool) → not (not b) ≡ b
-not_not true = refl
-not_not false = refl
-
 -- a gate of the net stays one with the same truth as the net grows
 pub gate_kept : {old new : Gates} {g : ℕ} {f : List Bool → Bool} → Begins old new → IsGate old g f → IsGate new g f
 gate_kept {old} {new} {g} {f} b is = record {
@@ -127,4 +131,4 @@ made_and {old} {new} {a} {b} {g} begins h k made = record {
 -- a gate that is the negation of another, which is then its negation
 pub negated : (n : Gates) (a inner : ℕ) → inner < length n.gates → ((w : List Bool) → truth n a w ≡ gate_value w (truths n w) (Not inner)) → IsGate n inner (λ w. not (truth n a w))
 unfolding truth
-negated n a inner h is = record { within = h; is = λ w. sym (not_not (truth n inner w)) ∙ ap not (sym (is w)) }
+negated n a inner h is = record { within = h; is = λ w. sym (not-not (truth n inner w)) ∙ ap not (sym (is w)) }

@@ -1,5 +1,6 @@
 -- What lawful says of a view, of the older of two good instructions.
 use Rattle.std.proofs.Common.{◌≡◌, Bool, true, false, not, ◌&&◌, refl, arith}
+use Rattle.y86_base.proofs.Booleans.{and_second, and_first}
 use Rattle.pipe_motion.specs.Slots.{View, lawful, path, empty_view, no_good_behind_wrong, youngest_stops_alone, wrong_has_reason, missed_jump_is_youngest, ret_is_youngest}
 use Rattle.pipe_obligations.specs.Views.{OlderGoesOn, OlderHasTurned}
 
@@ -21,22 +22,16 @@ parts je rm v h = five _ _ _ _ _ h
 apart : (x b : Bool) → not (x && b) ≡ true → b ≡ true → x ≡ false
 apart x b h k = grind (arith, h, k)
 
-first_of : (x y : Bool) → (x && y) ≡ true → x ≡ true
-first_of x y h = grind (arith, h)
-
-second_of : (x y : Bool) → (x && y) ≡ true → y ≡ true
-second_of x y h = grind (arith, h)
-
 pub older_goes_on : (je rm : Bool) (v : View) → lawful je rm v ≡ true → OlderGoesOn v
 older_goes_on je rm v h =
     let p = (parts je rm v h).second in
-    let q = second_of _ _ p in
-    record { in_e = apart _ _ (first_of _ _ p); in_m = apart _ _ (first_of _ _ q); in_w = apart _ _ (second_of _ _ q) }
+    let q = and_second _ _ p in
+    record { in_e = apart _ _ (and_first _ _ p); in_m = apart _ _ (and_first _ _ q); in_w = apart _ _ (and_second _ _ q) }
 
 pub older_has_turned : (je rm : Bool) (v : View) → lawful je rm v ≡ true → OlderHasTurned v
 older_has_turned je rm v h =
     let p = parts je rm v h in
-    record { no_missed = apart _ _ (first_of _ _ p.fourth); no_ret_in_e = apart _ _ (first_of _ _ p.fifth); no_ret_in_m = apart _ _ (first_of _ _ (second_of _ _ p.fifth)) }
+    record { no_missed = apart _ _ (and_first _ _ p.fourth); no_ret_in_e = apart _ _ (and_first _ _ p.fifth); no_ret_in_m = apart _ _ (and_first _ _ (and_second _ _ p.fifth)) }
 
 pub none_behind_wrong : (je rm : Bool) (v : View) → lawful je rm v ≡ true → v.e.wrong ≡ true → v.d.good ≡ false
 none_behind_wrong je rm v h w = behind _ _ (parts je rm v h).first w

@@ -1,5 +1,6 @@
 -- Bubbles and wrong instructions, as they move.
 use Rattle.std.proofs.Common.{◌≡◌, ℕ, ◌≤◌, inl, inr, Bool, true, false, List, refl, ap, ◌∙◌, arith}
+use Rattle.std.proofs.lemmas.Bool.{and_left}
 use Rattle.y86_base.specs.declared.parts.Variant.TheVariants.{Base, Full}
 use Rattle.y86_base.specs.declared.parts.Variant.{Variant}
 use Rattle.y86_isa.specs.Blocks.{data_error, reading, register_number}
@@ -7,7 +8,7 @@ use Rattle.y86_isa.specs.Run.{IsImage}
 use Rattle.y86_isa.specs.Table.{row}
 use Rattle.y86_isa.proofs.WhatIsRead.{IsFields-fetched, IsReading-reading}
 use Rattle.y86_isa.proofs.Words.{FitsFields-fetched}
-use Rattle.run_laws.proofs.ReadBack.{none_late}
+use Rattle.y86_isa.proofs.Columns.{none_late}
 use Rattle.dp_signals.specs.PipeCycle.{loaded_d, loaded_e, loaded_m, loaded_w}
 use Rattle.dp_signals.specs.PipeNames as name
 use Rattle.dp_signals.specs.PipeRows.{PipeHardware}
@@ -15,12 +16,12 @@ use Rattle.dp_signals.specs.PipeState.{bubble_d, bubble_e, bubble_m, bubble_w}
 use Rattle.y86_base.specs.Words.{set}
 use Rattle.dp_signals.specs.Values.{bit}
 use Rattle.dp_signals.specs.declared.pipe_state.PipeState.{PipeState}
+use Rattle.dp_signals.proofs.Bits.{set_bit}
 use Rattle.pipe_refinement.specs.Facts.{AlwaysFacts, DecodeFacts, ExecuteFacts, FetchFacts, MemoryFacts}
 use Rattle.pipe_refinement.specs.Invariant.{AllowedD, AllowedE, EmptyD, EmptyE, EmptyM, EmptyW, Given}
 use Rattle.pipe_refinement.specs.Kinds.{Config, is_good, is_wrong}
 use Rattle.pipe_motion.specs.declared.settings.Settings.{Settings}
-use Rattle.pipe_refinement.proofs.Fetch.{loads_fetched, reads, set_bit}
-use Rattle.pipe_refinement.proofs.Views.{and_off}
+use Rattle.pipe_refinement.proofs.Fetch.{loads_fetched, reads}
 
 pub record NopRow (v : Variant) : Type 0 where
   pub src_a : (a b : ℕ) → register_number (row v 1).src_a a b ≡ 15
@@ -78,8 +79,8 @@ no_error mem address r w e f = rw (e, f) refl
 
 pub empty_w_loaded : (v : Variant) (p : PipeState) (f : ℕ → ℕ) (c : Config) → PipeHardware v p f → MemoryFacts v p f c → AlwaysFacts v p f c → is_good c.m ≡ false → EmptyM p.m → EmptyW (loaded_w p f)
 empty_w_loaded v p f c b q a n h =
-    let r : set (f name.mem_read) ≡ false = a.access.reads ∙ and_off _ _ n in
-    let w : set (f name.mem_write) ≡ false = a.access.writes ∙ and_off _ _ n in
+    let r : set (f name.mem_read) ≡ false = a.access.reads ∙ and_left _ _ n in
+    let w : set (f name.mem_write) ≡ false = a.access.writes ∙ and_left _ _ n in
     let e : set (f name.dmem_error) ≡ false = ap set b.dmem_error ∙ set_bit _ ∙ no_error p.mem (f name.mem_addr) _ _ r w in
     record {
       stat = q.stat ∙ rw e h.stat;

@@ -1,5 +1,6 @@
 -- What a good fetch is: the next instruction of the run, and all its words.
-use Rattle.std.proofs.Common.{◌≡◌, ℕ, ◌+◌, ◌<◌, ◌≤◌, inl, inr, Bool, true, false, ◌||◌, cond, List, refl, sym, ap, ◌∙◌, subst, arith}
+use Rattle.std.proofs.Common.{◌≡◌, ℕ, ◌+◌, ◌<◌, ◌≤◌, inl, inr, Bool, true, false, cond, List, refl, sym, ap, ◌∙◌, subst, arith}
+use Rattle.std.proofs.lemmas.Bool.{or_right}
 use Rattle.y86_base.specs.Stat.{stat_number}
 use Rattle.y86_base.specs.declared.parts.Stat.TheVariants.{Aok}
 use Rattle.y86_base.specs.declared.parts.Variant.{Variant}
@@ -19,17 +20,13 @@ use Rattle.dp_signals.specs.PipeCycle.{loaded_d}
 use Rattle.dp_signals.specs.PipeNames as name
 use Rattle.dp_signals.specs.PipeRows.{PipeHardware, PipeHolds}
 use Rattle.y86_base.specs.Words.{set}
-use Rattle.dp_signals.specs.Values.{bit}
 use Rattle.dp_signals.specs.declared.pipe_state.PipeState.{PipeState}
+use Rattle.dp_signals.proofs.Bits.{set_bit}
 use Rattle.pipe_refinement.specs.Facts.{FetchFacts, GoodFetch, RightPc, fell_m, jump_e, ret_m, ret_w, taken_m}
 use Rattle.pipe_refinement.specs.Invariant.{Given, InD, Inv, view_of}
 use Rattle.pipe_refinement.specs.Kinds.{Config, count, in_d, in_e, in_f, in_m, in_w, is_good}
 use Rattle.pipe_motion.specs.Slots.{youngest_stops}
 use Rattle.pipe_refinement.proofs.Views.{Seen, at_d, at_e, at_m, at_none, at_w, seen, youngest}
-
-pub set_bit : (b : Bool) → set (bit b) ≡ b
-set_bit true = refl
-set_bit false = refl
 
 -- what is fetched, by the reading and its row
 pub record Reads (v : Variant) (mem : List ℕ) (pc : ℕ) (g : Fetched) : Type 0 where
@@ -98,10 +95,6 @@ jump_next x i h = (follows x.v x.image i).next_pc ∙ branch_pc _ _ _ _ _ _ h
 
 pub ret_next : (x : Given) (i : ℕ) → is_loaded (row_of x.v x.image i).next ≡ true → (doing x.v x.image i).next_pc ≡ (doing x.v x.image i).val_m
 ret_next x i h = (follows x.v x.image i).next_pc ∙ loaded_pc _ _ _ _ _ _ h
-
-pub or_right : (a b : Bool) → b ≡ true → (a || b) ≡ true
-or_right true b h = refl
-or_right false b h = h
 
 before_near : (x : Given) (n i j : ℕ) → IsImage x.image → NearPure x.v x.image n → i < n → j ≤ i → i ≤ j + 3 → (before x.v x.image i).stat ≡ Aok →
     fetched x.v (before x.v x.image j).mem (before x.v x.image i).pc ≡ fetched x.v (before x.v x.image i).mem (before x.v x.image i).pc

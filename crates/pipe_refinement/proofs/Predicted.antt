@@ -1,42 +1,25 @@
 -- What is predicted behind a good fetch that goes on as predicted is the next PC.
-use Rattle.std.proofs.Common.{◌≡◌, ℕ, ◌+◌, ◌<◌, inl, inr, Bool, true, false, not, ◌&&◌, ◌||◌, ◌==◌, cond, length, IfSome, refl, sym, ap, ◌∙◌}
-use Rattle.std.proofs.lemmas.Bool.{false≢true}
+use Rattle.std.proofs.Common.{◌≡◌, ℕ, ◌+◌, ◌<◌, inl, inr, Bool, true, false, ◌&&◌, ◌==◌, cond, length, IfSome, refl, sym, ap, ◌∙◌}
+use Rattle.std.proofs.lemmas.Bool.{false≢true, not-false}
 use Rattle.y86_base.specs.declared.parts.Stat.TheVariants.{Adr, Aok, Hlt, Ins}
 use Rattle.y86_base.specs.declared.parts.Stat.{Stat}
-use Rattle.y86_base.specs.declared.parts.Variant.TheVariants.{Base, Full}
-use Rattle.y86_base.specs.declared.parts.Variant.{Variant}
 use Rattle.y86_isa.specs.Blocks.{fetched, next_address}
 use Rattle.y86_isa.specs.Machine.{is_aok}
 use Rattle.y86_isa.specs.RowTests.{is_branch, is_loaded}
-use Rattle.y86_isa.specs.Table.{row, rows}
+use Rattle.y86_isa.specs.Table.{rows}
 use Rattle.y86_isa.specs.declared.columns.Next.TheVariants.{Branch, Fall, Itself, Loaded, Target}
 use Rattle.y86_isa.specs.declared.columns.Next.{Next}
-use Rattle.y86_isa.specs.declared.columns.Row.{Row}
-use Rattle.y86_isa.proofs.Rows.{row-numbered}
 use Rattle.y86_isa.proofs.WhatIsRead.{IsReading-reading}
+use Rattle.y86_isa.proofs.Columns.{next_at, is_itself}
 use Rattle.run_laws.specs.Instructions.{Live, before, doing, ret_at, row_of, stops_at}
-use Rattle.run_laws.proofs.Walk.{fetches, follows, not_false, pc_next}
+use Rattle.run_laws.proofs.Walk.{fetches, follows, pc_next}
 use Rattle.dp_signals.specs.PipeNames as name
 use Rattle.y86_base.specs.Words.{set}
+use Rattle.y86_base.proofs.Booleans.{not_implied}
 use Rattle.dp_signals.specs.declared.pipe_state.PipeState.{PipeState}
 use Rattle.pipe_refinement.specs.Facts.{FetchFacts, predicted_pc}
 use Rattle.pipe_refinement.specs.Invariant.{Given, differ, missed_at, predicted_at}
 use Rattle.pipe_refinement.proofs.Fetch.{LoadsFetched, reads}
-
-abbrev is_itself : Next → Bool
-is_itself Itself = true
-is_itself Fall = false
-is_itself Branch = false
-is_itself Target = false
-is_itself Loaded = false
-
--- of the icodes that have a row, halt alone has no next PC
-abbrev next_test : ℕ → Row → Bool
-next_test icode r = not (is_itself r.next) || (icode == 0)
-
-next_at : (v : Variant) (icode : ℕ) → icode < length (rows v) → next_test icode (row v icode) ≡ true
-next_at Base icode lt = row-numbered next_test Base refl icode lt
-next_at Full icode lt = row-numbered next_test Full refl icode lt
 
 -- what an instruction that ends with AOK isn't
 stat_parts : (fault error a b : Bool) → is_aok (cond fault Adr (cond error Adr (cond a Ins (cond b Hlt Aok)))) ≡ true → (error ≡ false) × (a ≡ false) × (b ≡ false)
@@ -61,11 +44,6 @@ known x i h =
       | inl lt ↦ rw ((fetches x.v x.image i).icode, r.icode) lt
       | inr e ↦ absurd (false≢true (sym (sound x i h).1 ∙ ap (λ z. z == 15) (r.icode ∙ e.0)))
     ]
-
-not_itself : (a b : Bool) → (not a || b) ≡ true → b ≡ false → a ≡ false
-not_itself true true h e = cc
-not_itself true false h e = cc
-not_itself false b h e = refl
 
 error_of : (x : Given) (i : ℕ) → is_aok (doing x.v x.image i).stat ≡ true →
     ((fetched x.v (before x.v x.image i).mem (before x.v x.image i).pc).error ≡ false) × (((doing x.v x.image i).icode == 0) ≡ false)
@@ -94,7 +72,7 @@ pub predicted_is : (x : Given) (i : ℕ) (p : PipeState) (f : ℕ → ℕ) → L
     stops_at x.v x.image i ≡ false → ret_at x.v x.image i ≡ false → missed_at x i ≡ false → f name.f_predPC ≡ (before x.v x.image (i + 1)).pc
 predicted_is x i p f live q l on no_ret hit =
     let w = fetches x.v x.image i in
-    let ok : is_aok (doing x.v x.image i).stat ≡ true = not_false _ on in
+    let ok : is_aok (doing x.v x.image i).stat ≡ true = not-false _ on in
     let e = error_of x i ok in
     let no_error : set (f name.imem_error) ≡ false = l.error ∙ e.0 in
     let icode : f name.imem_icode ≡ (doing x.v x.image i).icode = l.read_icode ∙ sym w.icode in
@@ -105,7 +83,7 @@ predicted_is x i p f live q l on no_ret hit =
     let pred : IfSome (predicted_pc (row_of x.v x.image i).next (doing x.v x.image i).val_p (doing x.v x.image i).val_c (predicted_at x i)) (λ z. f name.f_predPC ≡ z) =
     rw (icode, ifun, vc, vp) at (q.prediction no_error) in
     by_next (row_of x.v x.image i).next (before x.v x.image i).pc _ _ (doing x.v x.image i).val_m _ (doing x.v x.image i).cnd _
-    (not_itself _ _ (next_at x.v (doing x.v x.image i).icode (known x i ok)) e.1) no_ret
+    (not_implied _ _ (next_at x.v (doing x.v x.image i).icode (known x i ok)) e.1) no_ret
     (λ b. differ_same _ _ (last (is_aok (doing x.v x.image i).fetch_stat) (is_branch (row_of x.v x.image i).next) _ fetch_aok b hit)) pred
     ∙ sym (follows x.v x.image i).next_pc ∙ sym (pc_next x.v x.image i live on)
   where

@@ -1,6 +1,6 @@
 -- The right value of a source is the register before the instruction in D.
-use Rattle.std.proofs.Common.{◌≡◌, ◌≢◌, ℕ, ◌+◌, ◌<◌, Bool, true, false, ◌||◌, ◌==◌, cond, List, refl, sym, ap, ◌∙◌, arith}
-use Rattle.std.proofs.lemmas.Bool.{ne_eqb, eqb-true}
+use Rattle.std.proofs.Common.{◌≡◌, ◌≢◌, ℕ, ◌+◌, ◌<◌, Bool, true, false, ◌==◌, cond, List, refl, sym, ap, ◌∙◌, arith}
+use Rattle.std.proofs.lemmas.Bool.{ne_eqb, eqb-true, or_left}
 use Rattle.y86_base.specs.Registers.{register}
 use Rattle.y86_isa.specs.Run.{IsImage}
 use Rattle.y86_isa.specs.declared.machine.Rec.{Rec}
@@ -19,10 +19,6 @@ pub empty_from : (k : Kind) → is_good k ≡ false → is_wrong k ≡ false →
 empty_from Empty g w = refl
 empty_from Wrong g w = cc
 empty_from Good g w = cc
-
-pub or_first : (a b : Bool) → a ≡ true → a || b ≡ true
-or_first true b h = refl
-or_first false b h = cc
 
 pub none : (k : Kind) (n : ℕ) → is_good k ≡ false → n + count (is_good k) ≡ n
 none k n e = omega (arith, ap count e)
@@ -70,7 +66,7 @@ module _ (x : Given) (t : ℕ) (c : Config) (p : PipeState) (f : ℕ → ℕ) (r
   from_w =
       stage (is_good c.w) s p.w.dst_m p.w.dst_e p.w.val_m p.w.val_e rest (doing x.v x.image (in_w c)).dst_m (doing x.v x.image (in_w c)).dst_e (doing x.v x.image (in_w c)).val_m (doing x.v x.image (in_w c)).val_e
       (at (in_w c)) (at (in_m c)) ne
-      (λ w. ap at (one c.w (in_w c) w) ∙ read_after_step x.v x.image (in_w c) s image (live_w w) (w_goes x c i.legal (or_first _ _ d) w) lt)
+      (λ w. ap at (one c.w (in_w c) w) ∙ read_after_step x.v x.image (in_w c) s image (live_w w) (w_goes x c i.legal (or_left _ _ d) w) lt)
       (λ w. ap at (none c.w (in_w c) w))
       (λ w. (i.good_w w).dst_m) (λ w. (i.good_w w).dst_e) (λ w. (i.good_w w).val_m)
       (λ w e. (i.good_w w).val_e (operand_from_dst x.v x.image (in_w c) s ne e))
@@ -81,7 +77,7 @@ module _ (x : Given) (t : ℕ) (c : Config) (p : PipeState) (f : ℕ → ℕ) (r
   from_m =
       stage (is_good c.m) s p.m.dst_m p.m.dst_e (f name.m_valM) p.m.val_e _ (doing x.v x.image (in_m c)).dst_m (doing x.v x.image (in_m c)).dst_e (doing x.v x.image (in_m c)).val_m (doing x.v x.image (in_m c)).val_e
       (at (in_m c)) (at (in_e c)) ne
-      (λ m. ap at (one c.m (in_m c) m) ∙ read_after_step x.v x.image (in_m c) s image (live_m m) (m_goes x c i.legal (or_first _ _ d) m) lt)
+      (λ m. ap at (one c.m (in_m c) m) ∙ read_after_step x.v x.image (in_m c) s image (live_m m) (m_goes x c i.legal (or_left _ _ d) m) lt)
       (λ m. ap at (none c.m (in_m c) m))
       (λ m. (i.good_m m).dst_m) (λ m. (i.good_m m).dst_e) (λ m. m_valM_is x t c p f rs image i b a.access me.address m)
       (λ m e. (i.good_m m).val_e (operand_from_dst x.v x.image (in_m c) s ne e))

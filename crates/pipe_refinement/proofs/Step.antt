@@ -1,7 +1,7 @@
 -- One cycle that doesn't stop keeps the invariant.
 use Rattle.std.proofs.Common.{◌≡◌, ◌≢◌, ℕ, ◌+◌, ◌<◌, ◌≤◌, inl, inr, Bool, true, false, not, ◌&&◌, ◌||◌, ◌==◌, cond, List, ◌++◌, refl, sym, ap, ◌∙◌, subst, arith}
 use Rattle.std.specs.Option.{option_to_list}
-use Rattle.std.proofs.lemmas.Bool.{false≢true, and_parts, cases_lt, eqb-true, eq-eqb, ne_eqb, cases_eq}
+use Rattle.std.proofs.lemmas.Bool.{false≢true, and_parts, cases_lt, eqb-true, eq-eqb, ne_eqb, cases_eq, not-false}
 use Rattle.y86_isa.specs.Blocks.{fetched}
 use Rattle.y86_isa.specs.RowTests.{stores_a}
 use Rattle.y86_isa.specs.Run.{IsImage}
@@ -10,7 +10,7 @@ use Rattle.y86_isa.specs.Table.{row}
 use Rattle.y86_isa.specs.declared.machine.Rec.{Rec}
 use Rattle.run_laws.specs.Instructions.{Live, before, doing, stops_at}
 use Rattle.run_laws.proofs.Statuses.{one_is}
-use Rattle.run_laws.proofs.Walk.{image_before, live_next, not_false}
+use Rattle.run_laws.proofs.Walk.{image_before, live_next}
 use Rattle.dp_signals.specs.PipeCycle.{ending, loaded_d, loaded_e, loaded_m, loaded_w, next, retires}
 use Rattle.dp_signals.specs.PipeNames as name
 use Rattle.dp_signals.specs.PipeRows.{PipeHardware, PipeHolds}
@@ -107,7 +107,7 @@ module _ (x : Given) (n t : ℕ) (c : Config) (p : PipeState) (f : ℕ → ℕ) 
   stat_one = a.stat ∙ by (is_good c.w) refl
     where
       by : (z : Bool) → is_good c.w ≡ z → cond z p.w.stat 1 ≡ 1
-      by true w = (i.good_w w).stat ∙ eqb-true _ _ (one_is x.v x.image (in_w c) ∙ not_false _ (run_on w))
+      by true w = (i.good_w w).stat ∙ eqb-true _ _ (one_is x.v x.image (in_w c) ∙ not-false _ (run_on w))
       by false w = refl
 
   pub is_going : ending f ≡ Going

@@ -1,7 +1,7 @@
 -- A stopping cycle.
 use Rattle.std.proofs.Common.{◌≡◌, ◌≢◌, ℕ, ◌+◌, Bool, true, false, ◌==◌, ◌++◌, length, Some, refl, sym, ap, ◌∙◌, subst, arith, length-append}
 use Rattle.std.specs.Option.{option_to_list}
-use Rattle.std.proofs.lemmas.Bool.{false≢true}
+use Rattle.std.proofs.lemmas.Bool.{false≢true, not-true}
 use Rattle.y86_base.specs.Stat.{stat_number, stat_of}
 use Rattle.y86_base.specs.declared.parts.Stat.TheVariants.{Adr, Aok, Bad, Bub, Hlt, Ins, Pip}
 use Rattle.y86_base.specs.declared.parts.Stat.{Stat}
@@ -16,7 +16,7 @@ use Rattle.run_laws.specs.Instructions.{Live, before, doing, stops_at}
 use Rattle.run_laws.specs.Laws.{IsEnd, adr, aok, hlt, ins}
 use Rattle.run_laws.proofs.Statuses.{ends, one_is, stat_is}
 use Rattle.run_laws.proofs.Told.{after_flags, records_next, retired_at}
-use Rattle.run_laws.proofs.Walk.{not_true, stopped_is}
+use Rattle.run_laws.proofs.Walk.{stopped_is}
 use Rattle.dp_signals.specs.PipeCycle.{ending, movers_of, next, record_of as record_by, retires}
 use Rattle.dp_signals.specs.PipeNames as name
 use Rattle.dp_signals.specs.PipeRows.{PipeHardware}
@@ -82,7 +82,7 @@ module _ (x : Given) (t : ℕ) (c : Config) (p : Pipe) (f : ℕ → ℕ) (image 
   no_m = (w_alone x c i.legal w s).2
 
   bad : is_aok (doing x.v x.image (in_w c)).stat ≡ false
-  bad = not_true _ s
+  bad = not-true _ s
 
   stat_now : f name.Stat ≡ stat_number (doing x.v x.image (in_w c)).stat
   stat_now = a.stat ∙ rw w (i.good_w w).stat

@@ -1,6 +1,6 @@
 -- The values of a cycle are those of the instructions in E and M.
 use Rattle.std.proofs.Common.{◌≡◌, ◌≢◌, ℕ, ◌<◌, Bool, true, false, ◌&&◌, ◌||◌, ◌==◌, cond, List, None, refl, sym, ap, ◌∙◌, arith}
-use Rattle.std.proofs.lemmas.Bool.{false≢true, eq-eqb}
+use Rattle.std.proofs.lemmas.Bool.{false≢true, eq-eqb, or_left, or_right, and_left}
 use Rattle.y86_base.specs.Stat.{stat_number}
 use Rattle.y86_base.specs.declared.parts.Stat.TheVariants.{Adr}
 use Rattle.y86_base.specs.declared.parts.Stat.{Stat}
@@ -18,6 +18,7 @@ use Rattle.y86_isa.specs.declared.columns.TermB.{TermB}
 use Rattle.y86_isa.specs.declared.machine.Rec.{Rec}
 use Rattle.y86_isa.specs.declared.work.Work.{Work}
 use Rattle.y86_isa.proofs.RowsAgree.{operands_agree, sources_agree}
+use Rattle.y86_isa.proofs.Columns.{error_by, read_by}
 use Rattle.run_laws.specs.Instructions.{doing, row_of}
 use Rattle.run_laws.proofs.Statuses.{stat_one}
 use Rattle.run_laws.proofs.Walk.{aok-from_operand, follows, source_a, source_b}
@@ -26,11 +27,11 @@ use Rattle.dp_signals.specs.PipeNames as name
 use Rattle.dp_signals.specs.PipeRows.{PipeHardware}
 use Rattle.y86_base.specs.Words.{set}
 use Rattle.dp_signals.specs.declared.pipe_state.PipeState.{PipeState}
+use Rattle.dp_signals.proofs.Bits.{set_bit}
 use Rattle.pipe_refinement.specs.Facts.{AccessFacts, AddressIs, ExecuteFacts, FlagsIs, exempt, late_dst_e}
 use Rattle.pipe_refinement.specs.Invariant.{Given, InE, InM, Inv}
 use Rattle.pipe_refinement.specs.Kinds.{Config, in_e, in_m, is_good, is_wrong}
-use Rattle.pipe_refinement.proofs.Fetch.{or_right, set_bit}
-use Rattle.pipe_refinement.proofs.Views.{and_off, and_on}
+use Rattle.pipe_refinement.proofs.Views.{and_on}
 
 operand_a-same : (t : TermA) (a a' val_c : ℕ) → (takes_a t ≡ true → a ≡ a') → operand_a t a val_c ≡ operand_a t a' val_c
 operand_a-same NoA a a' val_c h = refl
@@ -58,22 +59,6 @@ address_by StoreP va va' ve ve' g h = h refl
 address_by LoadE va va' ve ve' g h = h refl
 address_by LoadA va va' ve ve' g h = g refl
 
-error_by : (a : Access) (mem : List ℕ) (x y : ℕ) → (accesses a ≡ true → x ≡ y) → data_error mem x (is_load a) (is_store a) ≡ data_error mem y (is_load a) (is_store a)
-unfolding data_error
-error_by NoMem mem x y h = refl
-error_by StoreA mem x y h = rw (h refl) refl
-error_by StoreP mem x y h = rw (h refl) refl
-error_by LoadE mem x y h = rw (h refl) refl
-error_by LoadA mem x y h = rw (h refl) refl
-
-read_by : (a : Access) (mem : List ℕ) (x y : ℕ) → (accesses a ≡ true → x ≡ y) → data_read mem x (is_load a) ≡ data_read mem y (is_load a)
-unfolding data_read
-read_by NoMem mem x y h = refl
-read_by StoreA mem x y h = refl
-read_by StoreP mem x y h = refl
-read_by LoadE mem x y h = rw (h refl) refl
-read_by LoadA mem x y h = rw (h refl) refl
-
 -- the word that is stored: M's valA
 word_by : (a : Access) (branch : Bool) (va vp m_a x y : ℕ) (fault : Bool) → (accesses a ≡ true → x ≡ y) →
     (stores_a a ≡ true → m_a ≡ va) → (stores_p a ≡ true → m_a ≡ vp) →
@@ -84,10 +69,6 @@ word_by StoreA branch va vp m_a x y fault h s p = rw (h refl, s refl) refl
 word_by StoreP branch va vp m_a x y fault h s p = rw (h refl, p refl) refl
 word_by LoadE branch va vp m_a x y fault h s p = refl
 word_by LoadA branch va vp m_a x y fault h s p = refl
-
-pub or_left : (a b : Bool) → a ≡ true → (a || b) ≡ true
-or_left true b h = refl
-or_left false b h = cc
 
 pub stored_none : (memory : List ℕ) → stored memory None ≡ memory
 unfolding stored
@@ -156,11 +137,11 @@ module _ (x : Given) (t : ℕ) (c : Config) (p : PipeState) (f : ℕ → ℕ) (r
   -- an M that isn't good stores nothing
   pub no_store : is_good c.m ≡ false → store_of p f ≡ None
   unfolding data_store
-  no_store m = ap (λ z. data_store (f name.mem_addr) p.m.val_a z (set (f name.dmem_error))) (a.writes ∙ and_off _ _ m)
+  no_store m = ap (λ z. data_store (f name.mem_addr) p.m.val_a z (set (f name.dmem_error))) (a.writes ∙ and_left _ _ m)
 
   -- an E that isn't good sets no flags
   pub same_flags : FlagsIs x.v p f c → is_good c.e ≡ false → next_flags p f ≡ p.flags
-  same_flags fl e = ap (λ z. cond z (alu_flags (f name.alufun) (f name.aluA) (f name.aluB)) p.flags) (fl ∙ and_off _ _ e)
+  same_flags fl e = ap (λ z. cond z (alu_flags (f name.alufun) (f name.aluA) (f name.aluB)) p.flags) (fl ∙ and_left _ _ e)
 
   -- ---- E
   module _ (fl : FlagsIs x.v p f c) (ex : ExecuteFacts x.v x.s p f c) (e : is_good c.e ≡ true) where

@@ -1,5 +1,6 @@
 -- The view of a configuration, and its youngest good instruction.
 use Rattle.std.proofs.Common.{◌≡◌, ◌+◌, Bool, true, false, ◌&&◌, refl, ap, arith}
+use Rattle.std.proofs.lemmas.Bool.{and_left}
 use Rattle.run_laws.specs.Instructions.{stops_at}
 use Rattle.pipe_refinement.specs.Invariant.{Given, view_of}
 use Rattle.pipe_refinement.specs.Kinds.{Config, count, in_d, in_e, in_f, in_m, in_w, is_good, is_wrong}
@@ -8,10 +9,6 @@ use Rattle.pipe_motion.specs.Slots.{View}
 pub and_on : (a b : Bool) → a ≡ true → a && b ≡ b
 and_on true b h = refl
 and_on false b h = cc
-
-pub and_off : (a b : Bool) → a ≡ false → a && b ≡ false
-and_off true b h = cc
-and_off false b h = refl
 
 -- a view by its slots, so that the tests of a view compute on truths
 pub record Seen (x : Given) (c : Config) (y : View) : Type 0 where
@@ -45,7 +42,7 @@ seen x c =
       stops_e = and_on _ _;
       stops_m = and_on _ _;
       stops_w = and_on _ _;
-      none_w = and_off _ _;
+      none_w = and_left _ _;
     }
 
 -- which stage has the youngest good instruction, and its index

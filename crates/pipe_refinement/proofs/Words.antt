@@ -1,6 +1,6 @@
 -- The words that E, M and W load are those of their instruction.
 use Rattle.std.proofs.Common.{◌≡◌, ◌≢◌, ℕ, ◌+◌, ◌^◌, ◌<◌, Bool, true, false, Option, ◌&&◌, ◌||◌, ◌==◌, cond, List, refl, sym, ap, ◌∙◌, arith}
-use Rattle.std.proofs.lemmas.Bool.{eq-eqb, eqb-true}
+use Rattle.std.proofs.lemmas.Bool.{eq-eqb, eqb-true, or_left, or_right}
 use Rattle.std.proofs.Math.Nat.{mod-eq_of_lt}
 use Rattle.y86_base.specs.Registers.{register}
 use Rattle.y86_base.specs.declared.parts.Flags.{Flags}
@@ -27,9 +27,8 @@ use Rattle.dp_signals.specs.declared.pipe_state.Trail.{Trail}
 use Rattle.pipe_refinement.specs.Facts.{AlwaysFacts, DecodeFacts, ExecuteFacts, MemoryFacts, exempt, keeps_a, leaves_d}
 use Rattle.pipe_refinement.specs.Invariant.{Given, InD, InE, InM, InW, Inv, TrailOf, kept_a}
 use Rattle.pipe_refinement.specs.Kinds.{Config, Empty, Good, Kind, Wrong, count, in_d, in_e, in_m, is_good, is_live, is_wrong}
-use Rattle.pipe_refinement.proofs.Fetch.{or_right}
 use Rattle.pipe_refinement.proofs.Older.{m_goes}
-use Rattle.pipe_refinement.proofs.Right.{one, or_first, right_is}
+use Rattle.pipe_refinement.proofs.Right.{one, right_is}
 use Rattle.pipe_refinement.proofs.Values.{dst_e_is, flags_are, m_stat_is, m_valM_is, store_is, val_e_is}
 
 three : (a b c : Bool) → (a || b || c) ≡ true → c ≡ false → a || b ≡ true
@@ -150,7 +149,7 @@ module _ (x : Given) (t : ℕ) (c : Config) (p : PipeState) (f : ℕ → ℕ) (r
   loaded_now s m q =
       let hm = i.good_m m in
       let live_m : Live x.v x.image (in_m c) = i.live (in_m c) (omega (arith, ap count m)) in
-      let lt : we.src_a < 15 = source_a x.v x.image (in_e c) image ((sources_agree x.v we.icode).carried (or_first _ _ s)) in
+      let lt : we.src_a < 15 = source_a x.v x.image (in_e c) image ((sources_agree x.v we.icode).carried (or_left _ _ s)) in
       let same : (we.src_a == (doing x.v x.image (in_m c)).dst_m) ≡ true = eq-eqb _ _ (sym he.src_a ∙ sym q ∙ hm.dst_m) in
       let after : register (before x.v x.image (in_m c + 1)).regs we.src_a ≡ (doing x.v x.image (in_m c)).val_m =
       read_after_step x.v x.image (in_m c) we.src_a image live_m (m_goes x c i.legal (or_right _ _ e) m) lt ∙ rw same refl in
@@ -174,7 +173,7 @@ module _ (x : Given) (t : ℕ) (c : Config) (p : PipeState) (f : ℕ → ℕ) (r
       by true q =
           let z = free_by _ _ _ _ q in
           let s : stores_a re.memory ≡ true = ap (λ r. stores_a r.memory) (sym row_e) ∙ z.1 in
-          let no_p : carries_p re ≡ false = (sources_agree x.v we.icode).one_carried (or_first _ _ s) in
+          let no_p : carries_p re ≡ false = (sources_agree x.v we.icode).one_carried (or_left _ _ s) in
           ex.val_a e (rw row_e k) ∙ ap (λ u. cond u (f name.m_valM) p.e.val_a) q ∙ loaded_now s z.2 (eqb-true _ _ z.3) ∙ sym (ap (λ u. cond u we.val_p we.val_a) no_p)
       by false q = ex.val_a e (rw row_e k) ∙ ap (λ u. cond u (f name.m_valM) p.e.val_a) q ∙ stay q (carries_p re) refl
 

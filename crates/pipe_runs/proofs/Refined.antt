@@ -1,14 +1,12 @@
 -- A generated program on PIPE under a design that refines the run of instructions on it.
-use Rattle.std.proofs.Common.{◌≡◌, ◌≢◌, inl, inr, ℕ, zero, suc, ◌+◌, ◌-◌, ◌*◌, ◌<◌, ◌≤◌, true, false, List, ◌++◌, length, refl, sym, ap, subst, ◌∙◌, arith}
+use Rattle.std.proofs.Common.{◌≡◌, ◌≢◌, inl, inr, ℕ, zero, suc, ◌+◌, ◌-◌, ◌*◌, ◌<◌, ◌≤◌, true, false, List, length, refl, sym, ap, subst, ◌∙◌, arith}
 use Rattle.std.proofs.lemmas.Bool.{cases_lt, false≢true}
-use Rattle.std.proofs.lemmas.List.{append-nil}
-use Rattle.std.specs.Option.{option_to_list}
 use Rattle.y86_base.specs.declared.parts.Stat.{Stat}
 use Rattle.y86_base.specs.declared.parts.Stat.TheVariants.{Bub, Aok, Hlt, Adr, Ins, Pip, Bad}
 use Rattle.y86_base.specs.declared.parts.Variant.{Variant}
 use Rattle.y86_isa.specs.Machine.{is_aok, start}
 use Rattle.y86_isa.specs.Run.{run, records}
-use Rattle.y86_isa.proofs.Runs.{is_aok-from_not, advance-stopped, retired-stopped, run_from-last, records_from-last, length-records_from}
+use Rattle.y86_isa.proofs.Runs.{is_aok-from_not, length-records_from, run_stays, records_stay}
 use Rattle.hcl_types.specs.declared.term.Term.{Term}
 use Rattle.dp_signals.specs.PipeRun.{Pipe, PipeRun, has_stopped}
 use Rattle.pipe_refinement.specs.Refines.{Refines, StopsAs}
@@ -21,24 +19,6 @@ use Rattle.pipe_runs.specs.RunsTo.{Goes, RunsTo, end_of}
 use Rattle.pipe_runs.specs.declared.both.BothWays.{BothWays}
 
 -- ---- a run of instructions that has stopped
-
-run_stays : (v : Variant) (image : List ℕ) (r d : ℕ) → is_aok (run v image r).stat ≡ false → run v image (r + d) ≡ run v image r
-run_stays v image r zero off = ap (run v image) (omega arith)
-run_stays v image r (suc d) off =
-    let more : r + suc d ≡ (r + d) + 1 = omega arith in
-    let stays : run v image (r + d) ≡ run v image r = run_stays v image r d off in
-    ap (run v image) more
-    ∙ (run_from-last v (start image) (r + d) ∙ (advance-stopped v (run v image (r + d)) (ap (λ m. is_aok m.stat) stays ∙ off) ∙ stays))
-
-records_stay : (v : Variant) (image : List ℕ) (r d : ℕ) → is_aok (run v image r).stat ≡ false → records v image (r + d) ≡ records v image r
-records_stay v image r zero off = ap (records v image) (omega arith)
-records_stay v image r (suc d) off =
-    let more : r + suc d ≡ (r + d) + 1 = omega arith in
-    let stopped : is_aok (run v image (r + d)).stat ≡ false = ap (λ m. is_aok m.stat) (run_stays v image r d off) ∙ off in
-    ap (records v image) more
-    ∙ (records_from-last v (start image) (r + d)
-    ∙ (ap (λ o. records v image (r + d) ++ option_to_list o) (retired-stopped v (run v image (r + d)) stopped)
-    ∙ (append-nil (records v image (r + d)) ∙ records_stay v image r d off)))
 
 -- the run of a program that has stopped behind so many records
 stops_off : (v : Variant) (image : List ℕ) (count : ℕ) → StopsIn v image count → is_aok (run v image count).stat ≡ false

@@ -1,11 +1,12 @@
 -- In a real cycle each control value is worth the value of its name.
-use Rattle.std.proofs.Common.{◌≡◌, ℕ, zero, suc, ◌+◌, ◌-◌, ◌<◌, ◌≤◌, inl, inr, Bool, true, false, not, ◌&&◌, ◌||◌, ◌==◌, nat_le, List, [], ◌∷◌, length, take, get_or, slice_get, Option, Some, None, refl, sym, ap, ◌∙◌, subst, arith}
+use Rattle.std.proofs.Common.{◌≡◌, ℕ, ◌+◌, ◌-◌, ◌<◌, ◌≤◌, inl, inr, Bool, true, false, not, ◌&&◌, ◌||◌, ◌==◌, nat_le, List, [], ◌∷◌, length, take, get_or, slice_get, Option, Some, None, refl, sym, ap, ◌∙◌, subst, arith}
 use Rattle.std.proofs.lemmas.Bool.{and_parts, cases_eq, cases_lt, eqb-true, leb-true, lt-ltb}
 use Rattle.std.proofs.lemmas.List.{get_or_append_left}
 use Rattle.std.proofs.lemmas.Option.{slice_get_past, slice_get-get_or}
 use Rattle.std.specs.List.{AllByRecursion}
 use Rattle.y86_base.specs.declared.parts.Variant.{Variant}
-use Rattle.y86_base.proofs.Booleans.{clash}
+use Rattle.y86_base.proofs.Booleans.{clash, implied}
+use Rattle.y86_base.proofs.Numbers.{number_tests, each_number}
 use Rattle.hcl_types.specs.Tables.{IsBound, IsOrderOf, defined, inputs, is_defined, term_at}
 use Rattle.hcl_types.specs.Terms.{value, words}
 use Rattle.hcl_types.specs.declared.table.Class.TheVariants as class
@@ -22,6 +23,7 @@ use Rattle.dp_signals.specs.Tables.{constant_count, constant_rows}
 use Rattle.dp_signals.specs.declared.pipe_state.PipeState.{PipeState}
 use Rattle.dp_signals.proofs.PipeRules.{length-given, length-pipe_rows}
 use Rattle.dp_signals.proofs.Rules.{definition_rule}
+use Rattle.dp_signals.proofs.Bits.{constants_count}
 use Rattle.ctl_atoms.specs.declared.leaf.Leaf.TheVariants.{Number}
 use Rattle.ctl_atoms.specs.declared.leaf.Leaf.{Leaf}
 use Rattle.ctl_formula.specs.Controls.{AreControls, role_leaf, row_leaf}
@@ -34,21 +36,6 @@ use Rattle.pipe_refinement.specs.Kinds.{Config, in_m}
 use Rattle.pipe_theorem.proofs.RealCycle.{f_line, fault_of, fields_at, hidden}
 
 -- ---- tests of each number below one
-
-each_number : ℕ → (ℕ → Bool) → Bool
-each_number zero q = true
-each_number (suc n) q = each_number n q && q n
-
-number_tests : (n : ℕ) (q : ℕ → Bool) → each_number n q ≡ true → (k : ℕ) → k < n → q k ≡ true
-unfolding each_number
-number_tests zero q h k lt = absurd (omega (arith, lt))
-number_tests (suc n) q h k lt = elim (cases_eq k n) [
-  | inl e ↦ subst (λ i. q i ≡ true) (sym e) (and_parts (each_number n q) (q n) h).1
-  | inr ne ↦ number_tests n q (and_parts (each_number n q) (q n) h).0 k (below ne)
-]
-  where
-    below : (k ≡ n → ⊥) → k < n
-    below ne = grind (arith, ne, lt)
 
 some_none : {A : Type 0} (a : A) → Some a ≡ None → ⊥
 some_none a h = cc
@@ -78,10 +65,6 @@ outside n e = elim (cases_lt n name.count) [
   | inl lt ↦ absurd (some_none _ (sym (slice_get-get_or pipe_rows n (record { name = []; class = class.Number; role = role.State }) (omega (arith, lt, length-pipe_rows))) ∙ e))
   | inr le ↦ le
 ]
-
-pub implied : (a b : Bool) → not a || b ≡ true → a ≡ true → b ≡ true
-implied true b h e = h
-implied false b h e = cc
 
 place_of_defined : (n : ℕ) (r : Row) → slice_get pipe_rows n ≡ Some r → is_defined r.role ≡ true → (name.defined ≤ n) × (length (defined (take n pipe_rows)) + name.defined ≡ n)
 unfolding row_defined
@@ -136,10 +119,6 @@ inputs_at (Some r) = inputs r.role
 constants_there : each_number constant_count (λ n. constant_at (slice_get pipe_rows n) (get_or constants n 0)) ≡ true
 unfolding pipe_rows constant_rows pipe_state pipe_hardware pipe_defined constants each_number constant_at is_constant
 constants_there = refl
-
-constants_count : length constants ≡ constant_count
-unfolding constants
-constants_count = refl
 
 all_defined : each_number (name.count - name.defined) (λ k. row_defined (slice_get pipe_rows (name.f_pc + k))) ≡ true
 unfolding pipe_rows constant_rows pipe_state pipe_hardware pipe_defined each_number row_defined

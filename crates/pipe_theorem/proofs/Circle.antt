@@ -1,6 +1,6 @@
 -- What a good fetch brings, the bits that tell jumps back, and M's error bit, in a real cycle.
 use Rattle.std.proofs.Common.{◌≡◌, ℕ, Bool, true, false, not, ◌&&◌, ◌||◌, ◌==◌, List, refl, sym, ap, ◌∙◌}
-use Rattle.std.proofs.lemmas.Bool.{and_parts, and_from}
+use Rattle.std.proofs.lemmas.Bool.{and_parts, and_from, or_right, and_left}
 use Rattle.y86_base.specs.Stat.{stat_number}
 use Rattle.y86_isa.specs.Blocks.{condition, data_error, fetched}
 use Rattle.y86_isa.specs.RowTests.{accesses, carries_p, is_branch, is_loaded}
@@ -17,6 +17,7 @@ use Rattle.dp_signals.specs.PipeRows.{PipeHardware, PipeHolds}
 use Rattle.y86_base.specs.Words.{set}
 use Rattle.dp_signals.specs.Values.{bit}
 use Rattle.dp_signals.specs.declared.pipe_state.PipeState.{PipeState}
+use Rattle.dp_signals.proofs.Bits.{set_bit}
 use Rattle.ctl_atoms.specs.Leaves.{has_atom}
 use Rattle.ctl_atoms.specs.declared.leaf.Atom.{Atom}
 use Rattle.ctl_formula.specs.Laws.{real}
@@ -26,9 +27,9 @@ use Rattle.pipe_refinement.specs.Facts.{AccessFacts, AddressIs}
 use Rattle.pipe_refinement.specs.Invariant.{Given, Inv, missed_at, slot_of, view_of}
 use Rattle.pipe_refinement.specs.Kinds.{Config, Good, Kind, in_d, in_e, in_f, in_m, is_good}
 use Rattle.pipe_refinement.proofs.Empties.{no_error}
-use Rattle.pipe_refinement.proofs.Fetch.{LoadsFetched, or_right, set_bit}
+use Rattle.pipe_refinement.proofs.Fetch.{LoadsFetched}
 use Rattle.pipe_refinement.proofs.Values.{fault_is}
-use Rattle.pipe_refinement.proofs.Views.{and_off, and_on}
+use Rattle.pipe_refinement.proofs.Views.{and_on}
 use Rattle.pipe_theorem.proofs.Real.{hidden_good, missed_is}
 use Rattle.pipe_theorem.proofs.RealCycle.{back_of, f_line, fault_of, fields_at, hidden}
 
@@ -91,8 +92,8 @@ error_is x t c p f rs image i b a me = by (is_good c.m) refl
         b.dmem_error ∙ ap bit (e ∙ sym (and_on _ _ m))
     by false m =
         let e : data_error p.mem (f name.mem_addr) (set (f name.mem_read)) (set (f name.mem_write)) ≡ false =
-        no_error p.mem (f name.mem_addr) _ _ (a.reads ∙ and_off _ _ m) (a.writes ∙ and_off _ _ m) in
-        b.dmem_error ∙ ap bit (e ∙ sym (and_off _ _ m))
+        no_error p.mem (f name.mem_addr) _ _ (a.reads ∙ and_left _ _ m) (a.writes ∙ and_left _ _ m) in
+        b.dmem_error ∙ ap bit (e ∙ sym (and_left _ _ m))
 
 -- ---- comparisons of a jump's valC and valP tell its back bit
 same_is : (a b : Bool) → a ≡ b → agree a b ≡ true

@@ -1,13 +1,12 @@
 -- The lines of a real cycle's valuation are allowed.
 use Rattle.std.proofs.Common.{◌≡◌, ◌≢◌, ℕ, ◌<◌, ◌≤◌, ◌⊎◌, inl, inr, Bool, true, false, not, ◌&&◌, ◌||◌, ◌==◌, nat_lt, nat_le, cond, List, length, refl, sym, ap, ◌∙◌, arith}
-use Rattle.std.proofs.lemmas.Bool.{false≢true, and_parts, and_from, eq-eqb, eqb-false, ne_eqb, lt-ltb, le-leb, ltb-false}
+use Rattle.std.proofs.lemmas.Bool.{false≢true, and_parts, and_from, eq-eqb, eqb-false, lt-ltb, le-leb, or_left, or_right}
 use Rattle.y86_base.specs.Stat.{stat_number}
-use Rattle.y86_base.specs.declared.parts.Flags.{Flags}
 use Rattle.y86_base.specs.declared.parts.Stat.TheVariants.{Adr, Aok, Hlt, Ins}
 use Rattle.y86_base.specs.declared.parts.Variant.{Variant}
 use Rattle.y86_isa.specs.Blocks.{condition, destination_e, fetch_status, fetched, reading, register_number}
 use Rattle.y86_isa.specs.Machine.{is_aok}
-use Rattle.y86_isa.specs.RowTests.{accesses, is_branch, is_dash, is_field_a, is_field_b, is_used}
+use Rattle.y86_isa.specs.RowTests.{accesses, is_branch, is_dash, is_field_b, is_used}
 use Rattle.y86_isa.specs.Run.{IsImage}
 use Rattle.y86_isa.specs.Table.{row, rows}
 use Rattle.y86_isa.specs.declared.columns.Field.TheVariants.{Dash, FieldA, FieldB, Stack}
@@ -17,6 +16,7 @@ use Rattle.y86_isa.specs.declared.machine.Rec.{Rec}
 use Rattle.y86_isa.proofs.RowsAgree.{fields_agree}
 use Rattle.y86_isa.proofs.WhatIsRead.{IsFields-fetched, IsReading-reading}
 use Rattle.y86_isa.proofs.Words.{FitsFields-fetched}
+use Rattle.y86_isa.proofs.Effects.{number_lt}
 use Rattle.run_laws.specs.Instructions.{before, doing, row_of}
 use Rattle.run_laws.proofs.Statuses.{fetch_one}
 use Rattle.run_laws.proofs.Walk.{access-from_fault_at, aok-from_access, aok-from_branch, fetches, follows, image_before}
@@ -27,13 +27,14 @@ use Rattle.y86_base.specs.Words.{set}
 use Rattle.dp_signals.specs.Values.{bit}
 use Rattle.dp_signals.specs.declared.pipe_state.PipeState.{PipeState}
 use Rattle.dp_signals.specs.declared.pipe_state.StageD.{StageD}
+use Rattle.dp_signals.proofs.Bits.{set_bit}
 use Rattle.field_bits.specs.Fits.{cnd_fits, cnd_where, code_fits, destination_fits, half_fits, icode_fits, only_where, reading_fits, register_fits, stat_fits, tied}
+use Rattle.field_bits.proofs.Fitting.{half_by, cnd_by}
 use Rattle.pipe_fields.specs.Allowed.{allowed, decode_allowed, decode_fits, execute_allowed, execute_fits, fetch_allowed, fetch_fits, is_live, memory_allowed, memory_fits, registers_fit, stage_fits, write_allowed, write_fits}
 use Rattle.pipe_fields.specs.Layout.{ExecuteLine, Fields}
 use Rattle.pipe_refinement.specs.Invariant.{AllowedD, Given, Inv}
 use Rattle.pipe_refinement.specs.Kinds.{Config, Empty, Good, Kind, Wrong, in_d, in_e, in_f, in_m, in_w, is_good, is_wrong}
-use Rattle.pipe_refinement.proofs.Fetch.{or_right, reads, set_bit}
-use Rattle.pipe_refinement.proofs.Values.{or_left}
+use Rattle.pipe_refinement.proofs.Fetch.{reads}
 use Rattle.pipe_theorem.proofs.Real.{good_number}
 use Rattle.pipe_theorem.proofs.RealCycle.{back_of, f_line, fault_of, fields_at, hidden, kind_number, taken_of}
 
@@ -112,34 +113,11 @@ tie_by Dash z a b r_a r_b e g = refl
 tie_by FieldA z a b r_a r_b e g = refl
 tie_by Stack z a b r_a r_b e g = refl
 
-field_by : (has used : Bool) (n : ℕ) → (used ≡ true → n < 15) → (has ≡ false → n ≡ 15) → half_fits has used n ≡ true
-field_by true true n u h = lt-ltb _ _ (u refl)
-field_by true false n u h = refl
-field_by false used n u h = eq-eqb _ _ (h refl)
-
 -- ---- bits and conditions
 bit_by : (may q : Bool) → (q ≡ true → may ≡ true) → only_where may (bit q) ≡ true
 bit_by true q h = refl
 bit_by false true h = absurd (false≢true (h refl))
 bit_by false false h = refl
-
-over_by : (n : ℕ) (flags : Flags) → 6 < n → condition n flags ≡ false
-unfolding condition
-over_by n flags lt =
-    let ne : (k : ℕ) → k ≤ 6 → (n == k) ≡ false = λ k le. ne_eqb n k (λ e. absurd (omega arith)) in
-    rw (ne 0 (omega arith), ne 1 (omega arith), ne 2 (omega arith), ne 3 (omega arith), ne 4 (omega arith), ne 5 (omega arith), ne 6 (omega arith)) refl
-
-zero_by : (n : ℕ) (flags : Flags) → (n == 0) ≡ true → condition n flags ≡ true
-unfolding condition
-zero_by n flags e = rw e refl
-
-pub cnd_by : (n : ℕ) (flags : Flags) → cnd_fits n (bit (condition n flags)) ≡ true
-cnd_by n flags = by (n == 0) (nat_lt n 7) refl refl
-  where
-    by : (a b : Bool) → (n == 0) ≡ a → nat_lt n 7 ≡ b → cnd_fits n (bit (condition n flags)) ≡ true
-    by true b ha hb = rw (ha, zero_by n flags ha) refl
-    by false true ha hb = rw (ha, hb) refl
-    by false false ha hb = let le : 7 ≤ n = ltb-false n 7 hb in rw (ha, hb, over_by n flags (omega arith)) refl
 
 -- the hidden bits of a stage
 module _ (x : Given) (k : Kind) (i stat icode ifun : ℕ) (s : is_good k ≡ true → stat ≡ stat_number (doing x.v x.image i).fetch_stat)
@@ -219,25 +197,16 @@ known_wrong v d h = record {
   none_b = h.none_b;
 }
 
-named_lt : (y : Field) (ua ub : Bool) (r_a r_b : ℕ) → ((not (is_field_a y) || ua) && (not (is_field_b y) || ub)) ≡ true → (ua ≡ true → r_a < 15) → (ub ≡ true → r_b < 15) →
-    is_dash y ≡ false → register_number y r_a r_b < 15
-named_lt Dash ua ub r_a r_b n a b h = cc
-named_lt FieldA true ub r_a r_b n a b h = a refl
-named_lt FieldA false ub r_a r_b n a b h = cc
-named_lt FieldB ua true r_a r_b n a b h = b refl
-named_lt FieldB ua false r_a r_b n a b h = cc
-named_lt Stack ua ub r_a r_b n a b h = omega arith
-
 -- a column's number fits
 column_fits : (v : Variant) (stat icode ifun r_a r_b n : ℕ) (y : Field) → Known v stat icode ifun r_a r_b → is_used (row v icode) y ≡ true → n ≡ register_number y r_a r_b → register_fits y n ≡ true
-column_fits v stat icode ifun r_a r_b n y k m e = fits_by y n r_a r_b e (λ d. named_lt y (row v icode).uses_a (row v icode).uses_b r_a r_b m k.used_a k.used_b d)
+column_fits v stat icode ifun r_a r_b n y k m e = fits_by y n r_a r_b e (λ d. number_lt y (row v icode).uses_a (row v icode).uses_b r_a r_b m k.used_a k.used_b d)
 
 -- ---- D
 half_a : (v : Variant) (stat icode ifun r_a r_b : ℕ) → Known v stat icode ifun r_a r_b → half_fits (row v icode).has_byte (row v icode).uses_a r_a ≡ true
-half_a v stat icode ifun r_a r_b k = field_by (row v icode).has_byte (row v icode).uses_a r_a k.used_a k.none_a
+half_a v stat icode ifun r_a r_b k = half_by (row v icode).has_byte (row v icode).uses_a r_a k.used_a k.none_a
 
 half_b : (v : Variant) (stat icode ifun r_a r_b : ℕ) → Known v stat icode ifun r_a r_b → half_fits (row v icode).has_byte (row v icode).uses_b r_b ≡ true
-half_b v stat icode ifun r_a r_b k = field_by (row v icode).has_byte (row v icode).uses_b r_b k.used_b k.none_b
+half_b v stat icode ifun r_a r_b k = half_by (row v icode).has_byte (row v icode).uses_b r_b k.used_b k.none_b
 
 -- ---- E, from a D line
 registers_are : (v : Variant) (stat icode ifun r_a r_b : ℕ) (l : ExecuteLine) → Known v stat icode ifun r_a r_b → l.dst_e ≡ register_number (row v icode).dst_e r_a r_b →

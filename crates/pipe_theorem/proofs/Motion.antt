@@ -1,11 +1,10 @@
 -- A good fetch, and the obligations on motion, in a real cycle.
 use Rattle.std.proofs.Common.{◌≡◌, ℕ, inl, inr, Bool, true, false, not, ◌&&◌, ◌||◌, ◌==◌, cond, List, refl, sym, ap, ◌∙◌, subst, arith}
-use Rattle.std.proofs.lemmas.Bool.{and_parts, eqb-true, or_cases}
+use Rattle.std.proofs.lemmas.Bool.{and_parts, eqb-true, or_cases, not-true}
 use Rattle.y86_isa.specs.RowTests.{is_branch, is_loaded}
 use Rattle.y86_isa.specs.Table.{row}
 use Rattle.y86_isa.specs.declared.machine.Rec.{Rec}
 use Rattle.run_laws.specs.Instructions.{doing, ret_at}
-use Rattle.run_laws.proofs.Walk.{not_true}
 use Rattle.dp_signals.specs.PipeNames as name
 use Rattle.dp_signals.specs.PipeRows.{PipeHolds}
 use Rattle.y86_base.specs.Words.{set}
@@ -13,6 +12,7 @@ use Rattle.dp_signals.specs.declared.pipe_state.PipeState.{PipeState}
 use Rattle.ctl_atoms.specs.declared.leaf.Leaf.TheVariants.{Name}
 use Rattle.ctl_atoms.specs.declared.leaf.Leaf.{Leaf}
 use Rattle.ctl_formula.specs.Laws.{real, worth}
+use Rattle.ctl_formula.proofs.Worths.{leaf_worth}
 use Rattle.rule_gates.specs.Words.{takes}
 use Rattle.pipe_motion.specs.Slots.{Slot, fetched_slot, moved_view, next_is_right, path, youngest_stops}
 use Rattle.pipe_fields.specs.Layout.{FetchLine}
@@ -22,7 +22,7 @@ use Rattle.pipe_refinement.specs.Facts.{GoodFetch, MotionFacts, RightPc, fell_m,
 use Rattle.pipe_refinement.specs.Invariant.{Given, Inv, slot_of, view_of}
 use Rattle.pipe_refinement.specs.Kinds.{Config, Good, Kind, asked, in_f, in_m, in_w, is_good}
 use Rattle.pipe_theorem.proofs.RealCycle.{fields_at}
-use Rattle.pipe_theorem.proofs.Reflect.{AllAsked, leaf-true, worth_if}
+use Rattle.pipe_theorem.proofs.Reflect.{AllAsked, worth_if}
 
 module _ (x : Given) (t : ℕ) (c : Config) (p : PipeState) (f : ℕ → ℕ) (rs : List Rec) (l : FetchLine) (cv : ℕ → Leaf) (i : Inv x t c p rs)
     (st : PipeHolds p f) (agrees : (n : ℕ) → worth f (cv n) ≡ f n) where
@@ -30,7 +30,7 @@ module _ (x : Given) (t : ℕ) (c : Config) (p : PipeState) (f : ℕ → ℕ) (r
   pc_is a = takes cv name.f_pc a
 
   pick : (a : Leaf) → pc_is a ≡ true → f name.f_pc ≡ worth f a
-  pick a h = sym (agrees name.f_pc) ∙ leaf-true f (cv name.f_pc) a h
+  pick a h = sym (agrees name.f_pc) ∙ leaf_worth f (cv name.f_pc) a h
 
   at_e : is_good c.d ≡ false → is_good c.e ≡ true →
       is_jump x.v p.e.stat p.e.icode && pc_is (cond (set (f name.e_Cnd)) (Name name.E_valC) (Name name.E_valA)) ≡ true → RightPc x.v x.s p f c
@@ -96,7 +96,7 @@ module _ (x : Given) (t : ℕ) (c : Config) (p : PipeState) (f : ℕ → ℕ) (r
   good_fetch h =
       let h1 = and_parts (not (youngest_stops (view_of x c))) ((pc_is (Name name.F_predPC) && path (view_of x c)) || cond (is_good c.d) false (cond (is_good c.e) after_e (cond (is_good c.m) after_m after_w))) h in
       record {
-        goes_on = not_true (youngest_stops (view_of x c)) h1.0;
+        goes_on = not-true (youngest_stops (view_of x c)) h1.0;
         right = elim (or_cases (pc_is (Name name.F_predPC) && path (view_of x c)) (cond (is_good c.d) false (cond (is_good c.e) after_e (cond (is_good c.m) after_m after_w))) h1.1) [
           | inl z ↦
               let z1 = and_parts (pc_is (Name name.F_predPC)) (path (view_of x c)) z in

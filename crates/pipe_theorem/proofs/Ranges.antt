@@ -18,8 +18,8 @@ use Rattle.run_laws.specs.Instructions.{doing}
 use Rattle.run_laws.proofs.Walk.{follows}
 use Rattle.dp_signals.specs.PipeNames as name
 use Rattle.dp_signals.specs.PipeRows.{PipeHardware}
-use Rattle.dp_signals.specs.Values.{bit}
 use Rattle.dp_signals.specs.declared.pipe_state.PipeState.{PipeState}
+use Rattle.dp_signals.proofs.Bits.{bit_lt}
 use Rattle.pipe_fields.specs.Layout.{InRange}
 use Rattle.pipe_refinement.specs.Invariant.{Given, Inv}
 use Rattle.pipe_refinement.specs.Kinds.{Config, Empty, Good, Kind, Wrong, in_d, in_e, in_m, in_w, is_good, is_wrong}
@@ -34,10 +34,6 @@ number_lt Adr = omega arith
 number_lt Ins = omega arith
 number_lt Pip = omega arith
 number_lt Bad = omega arith
-
-bit_lt : (b : Bool) → bit b < 2
-bit_lt true = omega arith
-bit_lt false = omega arith
 
 few_rows : (v : Variant) → length (rows v) ≤ 16
 few_rows Base = omega arith

@@ -12,13 +12,13 @@ use Rattle.hcl_types.specs.Terms.{signed_below}
 use Rattle.dp_signals.specs.PipeNames as name
 use Rattle.y86_base.specs.Words.{set}
 use Rattle.dp_signals.specs.declared.pipe_state.PipeState.{PipeState}
+use Rattle.dp_signals.proofs.Bits.{set_bit}
 use Rattle.pipe_motion.specs.Predictions.{predicts}
 use Rattle.pipe_motion.specs.Slots.{Slot, to_w}
 use Rattle.pipe_fields.specs.Layout.{FetchLine}
 use Rattle.pipe_obligations.specs.Stages.{misses, no_source_waits, slot_by, stops_by, view_of as view_at}
 use Rattle.pipe_refinement.specs.Invariant.{Given, Inv, differ, missed_at, predicted_at, slot_of, view_of}
 use Rattle.pipe_refinement.specs.Kinds.{Config, Empty, Good, Kind, Wrong, in_d, in_e, in_m, in_w, is_good}
-use Rattle.pipe_refinement.proofs.Fetch.{set_bit}
 use Rattle.pipe_refinement.proofs.Moves.{view_by}
 use Rattle.pipe_refinement.proofs.Views.{and_on}
 use Rattle.pipe_theorem.proofs.RealCycle.{back_of, fault_of, fields_at, hidden, kind_number, taken_of}

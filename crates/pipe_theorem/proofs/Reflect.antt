@@ -1,6 +1,6 @@
 -- From the obligations of a real cycle's valuation to equations on its values.
 use Rattle.std.proofs.Common.{◌≡◌, ◌≢◌, ℕ, ◌≤◌, Bool, true, false, not, ◌&&◌, ◌||◌, ◌==◌, cond, IfSome, refl, sym, ap, ◌∙◌, subst, arith}
-use Rattle.std.proofs.lemmas.Bool.{false≢true, and_parts, and_from, eq-eqb, eqb-true, ne_eqb}
+use Rattle.std.proofs.lemmas.Bool.{false≢true, and_from, eq-eqb, eqb-true, ne_eqb}
 use Rattle.y86_isa.specs.Blocks.{alu_function, data_address, is_load, is_store, operand_a, operand_b, register_number}
 use Rattle.y86_isa.specs.RowTests.{accesses, carries_a, carries_p, has_operand_a, has_operand_b, is_branch, stores_a}
 use Rattle.y86_isa.specs.Table.{row}
@@ -13,17 +13,19 @@ use Rattle.y86_isa.specs.declared.columns.TermA.{TermA}
 use Rattle.y86_isa.specs.declared.columns.TermB.TheVariants.{NoB, ValB, Zero}
 use Rattle.y86_isa.specs.declared.columns.TermB.{TermB}
 use Rattle.y86_isa.proofs.RowsAgree.{operands_agree}
-use Rattle.nets.specs.Nets.{agree}
+use Rattle.nets.proofs.Truths.{agree_true}
 use Rattle.hcl_types.specs.Terms.{signed_below}
 use Rattle.dp_signals.specs.PipeNames as name
 use Rattle.dp_signals.specs.PipeRows.{PipeHolds}
 use Rattle.y86_base.specs.Words.{set}
+use Rattle.y86_base.proofs.Booleans.{and_second, and_first, implied, unless}
 use Rattle.dp_signals.specs.declared.pipe_state.PipeState.{PipeState}
 use Rattle.ctl_atoms.specs.Leaves.{leaf_eq, leaf_holds}
 use Rattle.ctl_atoms.specs.declared.leaf.Leaf.TheVariants.{Name, Number}
 use Rattle.ctl_atoms.specs.declared.leaf.Leaf.{Leaf}
 use Rattle.ctl_atoms.proofs.Listed.{apart}
 use Rattle.ctl_formula.specs.Laws.{real, worth}
+use Rattle.ctl_formula.proofs.Worths.{leaf_worth, holds_is}
 use Rattle.rule_gates.specs.Words.{address_leaf, is_number, is_truth, operand_leaf_a, operand_leaf_b, takes, takes_some}
 use Rattle.pipe_motion.specs.Predictions.{predicts}
 use Rattle.pipe_motion.specs.Slots.{Movers}
@@ -35,42 +37,16 @@ use Rattle.pipe_obligations.specs.Stages.{is_jump, is_ret, misses, slot_by, stop
 use Rattle.pipe_refinement.specs.Facts.{AccessFacts, AddressIs, AlwaysFacts, DecodeFacts, ExecuteFacts, FetchFacts, MemoryFacts, WriteFacts, exempt, late_dst_e, leaves_d, predicted_pc, right_value}
 use Rattle.pipe_refinement.specs.Invariant.{Given, view_of}
 use Rattle.pipe_refinement.specs.Kinds.{Config, asked, in_m, is_good, is_wrong}
-use Rattle.pipe_theorem.proofs.Agreeing.{implied}
 use Rattle.pipe_theorem.proofs.Circle.{FTies}
 use Rattle.pipe_theorem.proofs.RealCycle.{fault_of, fields_at, hidden}
 
 -- ---- leaves
 
-pub leaf-true : (f : ℕ → ℕ) (a b : Leaf) → leaf_eq a b ≡ true → worth f a ≡ worth f b
-leaf-true f (Name a) (Name b) h = ap f (eqb-true a b h)
-leaf-true f (Number a) (Number b) h = eqb-true a b h
-leaf-true f (Name a) (Number b) h = cc
-leaf-true f (Number a) (Name b) h = cc
-
 number_leaf : (a : Leaf) (k : ℕ) → leaf_eq a (Number k) ≡ true → a ≡ Number k
 number_leaf (Name a) k h = cc
 number_leaf (Number a) k h = ap Number (eqb-true a k h)
 
-pub holds_is : (f : ℕ → ℕ) (a : Leaf) → leaf_holds (real f) a ≡ set (worth f a)
-holds_is f (Name n) = refl
-holds_is f (Number n) = refl
-
-agree-true : (a b : Bool) → agree a b ≡ true → b ≡ a
-agree-true true b h = h
-agree-true false true h = cc
-agree-true false false h = refl
-
 -- ---- truths
-
-unless : (a b : Bool) → a || b ≡ true → a ≡ false → b ≡ true
-unless false b h e = h
-unless true b h e = cc
-
-first : (a b : Bool) → a && b ≡ true → a ≡ true
-first a b h = (and_parts a b h).0
-
-second : (a b : Bool) → a && b ≡ true → b ≡ true
-second a b h = (and_parts a b h).1
 
 if_true : {A : Type 0} (b : Bool) (y z : A) → b ≡ true → cond b y z ≡ y
 if_true b y z e = rw e refl
@@ -102,23 +78,23 @@ AllAsked x c p f l mv cv = (i : ℕ) → 1 ≤ i → i ≤ rule_count → Asks x
 -- ---- access to memory, with the agreement of one name alone
 module _ (x : Given) (c : Config) (p : PipeState) (f : ℕ → ℕ) (l : FetchLine) (cv : ℕ → Leaf) (st : PipeHolds p f) (mv : Movers) where
   truth_at : (n : ℕ) (want : Bool) → worth f (cv n) ≡ f n → is_truth (real f) cv n want ≡ true → set (f n) ≡ want
-  truth_at n want e h = ap set (sym e) ∙ sym (holds_is f (cv n)) ∙ agree-true want _ h
+  truth_at n want e h = ap set (sym e) ∙ sym (holds_is f (cv n)) ∙ agree_true want _ h
 
   pub access_at : worth f (cv name.mem_read) ≡ f name.mem_read → worth f (cv name.mem_write) ≡ f name.mem_write → Asks x c p f l mv cv 19 → AccessFacts x.v p f c
   unfolding fields_at view_of
   access_at re wr h =
       record {
-        reads = truth_at name.mem_read (is_good c.m && is_load (row x.v p.m.icode).memory) re (first (is_truth (real f) cv name.mem_read (is_good c.m && is_load (row x.v p.m.icode).memory)) (is_truth (real f) cv name.mem_write (is_good c.m && is_store (row x.v p.m.icode).memory)) h);
-        writes = truth_at name.mem_write (is_good c.m && is_store (row x.v p.m.icode).memory) wr (second (is_truth (real f) cv name.mem_read (is_good c.m && is_load (row x.v p.m.icode).memory)) (is_truth (real f) cv name.mem_write (is_good c.m && is_store (row x.v p.m.icode).memory)) h);
+        reads = truth_at name.mem_read (is_good c.m && is_load (row x.v p.m.icode).memory) re (and_first (is_truth (real f) cv name.mem_read (is_good c.m && is_load (row x.v p.m.icode).memory)) (is_truth (real f) cv name.mem_write (is_good c.m && is_store (row x.v p.m.icode).memory)) h);
+        writes = truth_at name.mem_write (is_good c.m && is_store (row x.v p.m.icode).memory) wr (and_second (is_truth (real f) cv name.mem_read (is_good c.m && is_load (row x.v p.m.icode).memory)) (is_truth (real f) cv name.mem_write (is_good c.m && is_store (row x.v p.m.icode).memory)) h);
       }
 
   address_by : (t : Access) → worth f (cv name.mem_addr) ≡ f name.mem_addr → takes_some cv name.mem_addr (address_leaf t name.M_valA name.M_valE) ≡ true → accesses t ≡ true →
       f name.mem_addr ≡ data_address t p.m.val_a p.m.val_e
   address_by NoMem ad h e = cc
-  address_by StoreA ad h e = sym ad ∙ leaf-true f (cv name.mem_addr) (Name name.M_valE) h ∙ st.M_valE
-  address_by StoreP ad h e = sym ad ∙ leaf-true f (cv name.mem_addr) (Name name.M_valE) h ∙ st.M_valE
-  address_by LoadE ad h e = sym ad ∙ leaf-true f (cv name.mem_addr) (Name name.M_valE) h ∙ st.M_valE
-  address_by LoadA ad h e = sym ad ∙ leaf-true f (cv name.mem_addr) (Name name.M_valA) h ∙ st.M_valA
+  address_by StoreA ad h e = sym ad ∙ leaf_worth f (cv name.mem_addr) (Name name.M_valE) h ∙ st.M_valE
+  address_by StoreP ad h e = sym ad ∙ leaf_worth f (cv name.mem_addr) (Name name.M_valE) h ∙ st.M_valE
+  address_by LoadE ad h e = sym ad ∙ leaf_worth f (cv name.mem_addr) (Name name.M_valE) h ∙ st.M_valE
+  address_by LoadA ad h e = sym ad ∙ leaf_worth f (cv name.mem_addr) (Name name.M_valA) h ∙ st.M_valA
 
   pub address_at : worth f (cv name.mem_addr) ≡ f name.mem_addr → Asks x c p f l mv cv 18 → AddressIs x.v p f c
   unfolding fields_at view_of
@@ -129,13 +105,13 @@ module _ (x : Given) (c : Config) (p : PipeState) (f : ℕ → ℕ) (l : FetchLi
 module _ (x : Given) (c : Config) (p : PipeState) (f : ℕ → ℕ) (l : FetchLine) (cv : ℕ → Leaf)
     (st : PipeHolds p f) (agrees : (n : ℕ) → worth f (cv n) ≡ f n) (tie : FTies x f l) where
   number_is : (n k : ℕ) → takes cv n (Number k) ≡ true → f n ≡ k
-  number_is n k h = sym (agrees n) ∙ leaf-true f (cv n) (Number k) h
+  number_is n k h = sym (agrees n) ∙ leaf_worth f (cv n) (Number k) h
 
   pick_is : (n : ℕ) (a : Leaf) → takes cv n a ≡ true → f n ≡ worth f a
-  pick_is n a h = sym (agrees n) ∙ leaf-true f (cv n) a h
+  pick_is n a h = sym (agrees n) ∙ leaf_worth f (cv n) a h
 
   truth_is : (n : ℕ) (want : Bool) → is_truth (real f) cv n want ≡ true → set (f n) ≡ want
-  truth_is n want h = ap set (sym (agrees n)) ∙ sym (holds_is f (cv n)) ∙ agree-true want _ h
+  truth_is n want h = ap set (sym (agrees n)) ∙ sym (holds_is f (cv n)) ∙ agree_true want _ h
 
   holds_at : (n : ℕ) → leaf_holds (real f) (cv n) ≡ set (f n)
   holds_at n = holds_is f (cv n) ∙ ap set (agrees n)
@@ -191,8 +167,8 @@ module _ (x : Given) (c : Config) (p : PipeState) (f : ℕ → ℕ) (l : FetchLi
     unfolding fields_at
     fetch_facts =
         record {
-          icode = number_is name.f_icode l.icode (first (is_number cv name.f_icode l.icode) (is_number cv name.f_ifun l.ifun) a1) ∙ tie.icode;
-          ifun = number_is name.f_ifun l.ifun (second (is_number cv name.f_icode l.icode) (is_number cv name.f_ifun l.ifun) a1) ∙ tie.ifun;
+          icode = number_is name.f_icode l.icode (and_first (is_number cv name.f_icode l.icode) (is_number cv name.f_ifun l.ifun) a1) ∙ tie.icode;
+          ifun = number_is name.f_ifun l.ifun (and_second (is_number cv name.f_icode l.icode) (is_number cv name.f_ifun l.ifun) a1) ∙ tie.ifun;
           stat = number_is name.f_stat _ a2 ∙ rw (tie.error, tie.icode) refl;
           regids = truth_is name.need_regids _ (q 3 (omega arith) (omega arith)) ∙ ap (λ z. (row x.v z).has_byte) tie.icode;
           constant = truth_is name.need_valC _ (q 4 (omega arith) (omega arith)) ∙ ap (λ z. (row x.v z).has_const) tie.icode;
@@ -272,7 +248,7 @@ module _ (x : Given) (c : Config) (p : PipeState) (f : ℕ → ℕ) (l : FetchLi
 
     right_a : leaves_d f (is_good c.d) ≡ true →
         takes_right x.v x.s (fields_at x c p f l) (view_of x c) (asked f) (real f) cv (x.s.lf && stores_a (row x.v p.d.icode).memory) name.d_valA name.d_srcA name.d_rvalA ≡ true
-    right_a lv = second (not (carries_p (row x.v p.d.icode)) || takes cv name.d_valA (Name name.D_valP)) _ (a10 lv)
+    right_a lv = and_second (not (carries_p (row x.v p.d.icode)) || takes cv name.d_valA (Name name.D_valP)) _ (a10 lv)
 
     right_b : leaves_d f (is_good c.d) ≡ true → takes_right x.v x.s (fields_at x c p f l) (view_of x c) (asked f) (real f) cv false name.d_valB name.d_srcB name.d_rvalB ≡ true
     unfolding fields_at view_of
@@ -290,7 +266,7 @@ module _ (x : Given) (c : Config) (p : PipeState) (f : ℕ → ℕ) (l : FetchLi
           dst_m = number_is name.d_dstM _ (q 9 (omega arith) (omega arith));
           val_p = λ lv e.
               pick_is name.d_valA (Name name.D_valP)
-              (implied (carries_p (row x.v p.d.icode)) (takes cv name.d_valA (Name name.D_valP)) (first (not (carries_p (row x.v p.d.icode)) || takes cv name.d_valA (Name name.D_valP)) _ (a10 lv)) e)
+              (implied (carries_p (row x.v p.d.icode)) (takes cv name.d_valA (Name name.D_valP)) (and_first (not (carries_p (row x.v p.d.icode)) || takes cv name.d_valA (Name name.D_valP)) _ (a10 lv)) e)
               ∙ st.D_valP;
           late_a = λ lv ne g e. right_late (x.s.lf && stores_a (row x.v p.d.icode).memory) name.d_valA name.d_srcA (f name.d_srcA) name.d_rvalA sa ne (right_a lv) g e;
           val_a = λ lv ne apart. right_pick (x.s.lf && stores_a (row x.v p.d.icode).memory) name.d_valA name.d_srcA (f name.d_srcA) name.d_rvalA sa ne (right_a lv) apart;
@@ -355,10 +331,10 @@ module _ (x : Given) (c : Config) (p : PipeState) (f : ℕ → ℕ) (l : FetchLi
           dst_e = λ n. number_is name.e_dstE _ (a17 n);
           target = λ tv g s e.
               let h : takes cv name.aluA (Name name.E_valC) && (is_number cv name.aluB 0 && is_number cv name.alufun 0) ≡ true = implied (is_good c.e && is_jump x.v p.e.stat p.e.icode) _ (carries tv) (jumps g s e) in
-              let h1 = second (takes cv name.aluA (Name name.E_valC)) (is_number cv name.aluB 0 && is_number cv name.alufun 0) h in (
-                pick_is name.aluA (Name name.E_valC) (first (takes cv name.aluA (Name name.E_valC)) (is_number cv name.aluB 0 && is_number cv name.alufun 0) h) ∙ st.E_valC,
-                number_is name.aluB 0 (first (is_number cv name.aluB 0) (is_number cv name.alufun 0) h1),
-                number_is name.alufun 0 (second (is_number cv name.aluB 0) (is_number cv name.alufun 0) h1),
+              let h1 = and_second (takes cv name.aluA (Name name.E_valC)) (is_number cv name.aluB 0 && is_number cv name.alufun 0) h in (
+                pick_is name.aluA (Name name.E_valC) (and_first (takes cv name.aluA (Name name.E_valC)) (is_number cv name.aluB 0 && is_number cv name.alufun 0) h) ∙ st.E_valC,
+                number_is name.aluB 0 (and_first (is_number cv name.aluB 0) (is_number cv name.alufun 0) h1),
+                number_is name.alufun 0 (and_second (is_number cv name.aluB 0) (is_number cv name.alufun 0) h1),
               );
         }
 
@@ -406,11 +382,11 @@ module _ (x : Given) (c : Config) (p : PipeState) (f : ℕ → ℕ) (l : FetchLi
 
     pub icode_code : code_of (cv name.f_icode) ≡ f name.f_icode
     unfolding fields_at
-    icode_code = code_at name.f_icode l.icode (first (is_number cv name.f_icode l.icode) (is_number cv name.f_ifun l.ifun) a1)
+    icode_code = code_at name.f_icode l.icode (and_first (is_number cv name.f_icode l.icode) (is_number cv name.f_ifun l.ifun) a1)
 
     pub ifun_code : code_of (cv name.f_ifun) ≡ f name.f_ifun
     unfolding fields_at
-    ifun_code = code_at name.f_ifun l.ifun (second (is_number cv name.f_icode l.icode) (is_number cv name.f_ifun l.ifun) a1)
+    ifun_code = code_at name.f_ifun l.ifun (and_second (is_number cv name.f_icode l.icode) (is_number cv name.f_ifun l.ifun) a1)
 
     pub fetched_codes : fetched_at x.v x.s (fields_at x c p f l) (view_of x c) (asked f) (real f) cv
         ≡ slot_by 1 (stops_by (f name.f_stat) l.stops) (is_ret x.v (f name.f_icode)) (misses x.v x.s (f name.f_stat) (f name.f_icode) (f name.f_ifun) l.taken l.back)

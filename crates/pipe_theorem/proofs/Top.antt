@@ -1,13 +1,13 @@
 -- From "the obligations hold" to the refinement.
 use Rattle.std.proofs.Common.{◌≡◌, ℕ, ◌<◌, ◌≤◌, inl, inr, Bool, true, false, not, ◌&&◌, ◌||◌, ◌==◌, List, refl, sym, ap, ◌∙◌, subst, arith}
-use Rattle.std.proofs.lemmas.Bool.{cases_Bool, false≢true, and_from}
+use Rattle.std.proofs.lemmas.Bool.{cases_Bool, false≢true, and_from, not-false}
 use Rattle.y86_isa.specs.Blocks.{condition, fetched}
 use Rattle.y86_isa.specs.Run.{IsImage}
 use Rattle.pure_runs.specs.Near.{NearPure}
 use Rattle.y86_isa.specs.declared.machine.Rec.{Rec}
 use Rattle.run_laws.specs.Instructions.{before, doing, stops_at}
 use Rattle.run_laws.proofs.Statuses.{one_is}
-use Rattle.run_laws.proofs.Walk.{follows, not_false}
+use Rattle.run_laws.proofs.Walk.{follows}
 use Rattle.hcl_types.specs.Tables.{IsBound, IsOrderOf}
 use Rattle.hcl_types.specs.declared.term.Term.{Term}
 use Rattle.dp_signals.specs.PipeEquations.{Solves}
@@ -15,8 +15,10 @@ use Rattle.dp_signals.specs.PipeNames as name
 use Rattle.dp_signals.specs.PipeRows.{PipeHardware, PipeHolds}
 use Rattle.dp_signals.specs.PipeTable.{pipe_rows}
 use Rattle.y86_base.specs.Words.{set}
+use Rattle.y86_base.proofs.Booleans.{implied}
 use Rattle.dp_signals.specs.declared.pipe_state.PipeState.{PipeState}
 use Rattle.dp_signals.proofs.PipeRows.{pipe_hardware_rows, pipe_holds}
+use Rattle.dp_signals.proofs.Bits.{set_bit}
 use Rattle.ctl_atoms.specs.Leaves.{Assignment}
 use Rattle.ctl_atoms.specs.declared.leaf.Atom.{Atom}
 use Rattle.ctl_atoms.specs.declared.leaf.Leaf.{Leaf}
@@ -34,11 +36,11 @@ use Rattle.pipe_refinement.specs.Invariant.{Given, Inv, slot_of, view_of}
 use Rattle.pipe_refinement.specs.Kinds.{Config, Empty, Good, Kind, Wrong, asked, in_e, in_f, in_m, in_w, is_good}
 use Rattle.pipe_refinement.specs.Refines.{Refines}
 use Rattle.pipe_refinement.specs.Theorems.{HasFacts}
-use Rattle.pipe_refinement.proofs.Fetch.{LoadsFetched, fetch_same, loads_fetched, set_bit}
+use Rattle.pipe_refinement.proofs.Fetch.{LoadsFetched, fetch_same, loads_fetched}
 use Rattle.pipe_refinement.proofs.Older.{w_alone}
 use Rattle.pipe_refinement.proofs.Refine.{refines}
 use Rattle.pipe_refinement.proofs.Values.{m_valM_is}
-use Rattle.pipe_theorem.proofs.Agreeing.{all_agree, implied}
+use Rattle.pipe_theorem.proofs.Agreeing.{all_agree}
 use Rattle.pipe_theorem.proofs.Circle.{back_told, error_is, f_ties, slot_loaded}
 use Rattle.pipe_theorem.proofs.Fits.{all_fit}
 use Rattle.pipe_theorem.proofs.Motion.{good_fetch, motion_facts}
@@ -122,7 +124,7 @@ module _ (x : Given) (terms : List Term) (ids : List ℕ) (atoms : List Atom) (b
     not_stopping : (is_good c.w ≡ true → stops_at x.v x.image (in_w c) ≡ false) → is_stopping (the_fields x c p f) ≡ false
     unfolding fields_at
     not_stopping on =
-        stopping_by c.w p.w.stat (λ g. ap (λ z. z == 1) (i.good_w g).stat ∙ one_is x.v x.image (in_w c) ∙ not_false _ (on g))
+        stopping_by c.w p.w.stat (λ g. ap (λ z. z == 1) (i.good_w g).stat ∙ one_is x.v x.image (in_w c) ∙ not-false _ (on g))
 
     or_going : (a z : Bool) → z ≡ false → a || not z ≡ true
     or_going true false h = refl

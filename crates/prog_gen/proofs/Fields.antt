@@ -1,12 +1,14 @@
 -- The bits of fields one behind the other.
-use Rattle.std.proofs.Common.{◌≡◌, ℕ, zero, suc, ◌+◌, ◌-◌, ◌/◌, ◌%◌, ◌<◌, ◌≤◌, Bool, true, false, ◌==◌, ◌&&◌, nat_le, List, [], ◌∷◌, ◌++◌, length, take, drop, set, get_or, refl, sym, ap, ◌∙◌, arith, add-one, add-zero, append_assoc, append-nil, length-append, None}
+use Rattle.std.proofs.Common.{◌≡◌, ℕ, zero, suc, ◌+◌, ◌-◌, ◌/◌, ◌%◌, ◌<◌, ◌≤◌, Bool, true, ◌==◌, nat_le, List, [], ◌∷◌, ◌++◌, length, take, drop, set, get_or, refl, sym, ap, ◌∙◌, arith, add-one, add-zero, append_assoc, append-nil, length-append, None}
 use Rattle.std.specs.List.{list_all}
 use Rattle.std.proofs.lemmas.List.{take-set-le, drop-set, take-append-drop, take_more_set, take_all, take-append-le, drop-append-le, drop_all, drop-drop, take-set, get_or-set_same, length-set, length-take, length_push}
 use Rattle.std.proofs.lemmas.Bool.{leb-true}
 use Rattle.y86_base.specs.declared.parts.Variant.{Variant}
+use Rattle.y86_base.proofs.Booleans.{and_second, and_first}
 use Rattle.field_bits.specs.Spelling.{spell}
 use Rattle.field_bits.specs.declared.spots.Spot.{Spot}
 use Rattle.field_bits.specs.Spots.{pattern, total}
+use Rattle.field_bits.proofs.Patterns.{length_spell}
 use Rattle.pipe_fields.specs.Layout.{spots, bit_count, field_count}
 use Rattle.prog_gen.specs.Choices.{with_field, width, numbers_drawn, word_behind, truths_drawn, chosen, choices, valuation_from}
 use Rattle.prog_gen.specs.Draws.{advanced, given}
@@ -33,18 +35,10 @@ field_none out first n = ap (λ (m : ℕ). take first out ++ drop m out) (add-ze
 any_spot : Spot
 any_spot = record { bits = 0; name = None }
 
-and_left : (a b : Bool) → (a && b) ≡ true → a ≡ true
-and_left true b h = refl
-and_left false b h = h
-
-and_right : (a b : Bool) → (a && b) ≡ true → b ≡ true
-and_right true b h = h
-and_right false b h = absurd (cc)
-
 narrow : (ss : List Spot) (j : ℕ) → list_all (λ s. nat_le s.bits 4) ss ≡ true → (get_or ss j (record { bits = 0; name = None })).bits ≤ 4
 narrow [] j h = omega arith
-narrow (s ∷ ss) zero h = leb-true s.bits 4 (and_left (nat_le s.bits 4) (list_all (λ t. nat_le t.bits 4) ss) h)
-narrow (s ∷ ss) (suc j) h = narrow ss j (and_right (nat_le s.bits 4) (list_all (λ t. nat_le t.bits 4) ss) h)
+narrow (s ∷ ss) zero h = leb-true s.bits 4 (and_first (nat_le s.bits 4) (list_all (λ t. nat_le t.bits 4) ss) h)
+narrow (s ∷ ss) (suc j) h = narrow ss j (and_second (nat_le s.bits 4) (list_all (λ t. nat_le t.bits 4) ss) h)
 
 pub width_small : (j : ℕ) → width j ≤ 4
 width_small j = narrow spots j refl
@@ -115,11 +109,6 @@ unfolding word_behind
 word_more j word after within e =
     let left : field_count - j ≡ suc (field_count - (j + 1)) = omega arith in
     ap (word_behind (field_count - (j + 1))) e ∙ ap (λ (m : ℕ). word_behind m word) (sym left)
-
-pub length_spell : (k n : ℕ) → length (spell k n) ≡ k
-unfolding spell
-length_spell zero n = refl
-length_spell (suc k) n = omega (arith, length-append (spell k (n / 2)) ((n % 2 == 1) ∷ []), length_spell k (n / 2))
 
 -- the bits of one more field
 pub bits_more : (out : List Bool) (ss : List Spot) (xs : List ℕ) (j first k n : ℕ) → j < length ss → j < length xs → k ≡ (get_or ss j (record { bits = 0; name = None })).bits

@@ -1,13 +1,13 @@
 -- There is just one outcome of a run that is watched.
-use Rattle.std.proofs.Common.{◌≡◌, ◌≢◌, ◌⊎◌, inl, inr, ℕ, zero, suc, ◌+◌, ◌-◌, ◌<◌, ◌≤◌, Bool, true, false, List, length, Option, Some, None, ◌++◌, append-nil, refl, sym, ap, ◌∙◌, subst, arith}
+use Rattle.std.proofs.Common.{◌≡◌, ◌≢◌, ◌⊎◌, inl, inr, ℕ, ◌+◌, ◌-◌, ◌<◌, ◌≤◌, Bool, true, false, List, length, Option, refl, sym, ap, ◌∙◌, subst, arith}
 use Rattle.std.proofs.lemmas.Bool.{cases_lt, false≢true}
 use Rattle.pure_runs.proofs.Near.{apart_near}
 use Rattle.pure_runs.specs.Near.{NearPure}
 use Rattle.y86_base.specs.declared.parts.Stat.TheVariants.{Aok}
 use Rattle.y86_base.specs.declared.parts.Variant.{Variant}
-use Rattle.std.specs.Option.{option_to_list}
-use Rattle.y86_isa.proofs.Runs.{is_aok-from_not, records_from-last, retired-stopped}
-use Rattle.y86_isa.specs.Machine.{is_aok, start}
+use Rattle.std.proofs.lemmas.Option.{same_Some}
+use Rattle.y86_isa.proofs.Runs.{is_aok-from_not, run_stays, records_stay}
+use Rattle.y86_isa.specs.Machine.{is_aok}
 use Rattle.y86_isa.specs.Run.{records, run}
 use Rattle.y86_isa.specs.Step.{retired}
 use Rattle.y86_isa.specs.declared.machine.Machine.{Machine}
@@ -17,7 +17,6 @@ use Rattle.program_check.specs.Near.{IsApart, IsFirstNear, IsWatched, StoredApar
 use Rattle.program_check.specs.declared.recent.NearFetch.{NearFetch}
 use Rattle.program_check.specs.declared.watching.Watched.{Watched}
 use Rattle.program_check.specs.declared.watching.Watched.TheVariants.{Apart, Meets}
-use Rattle.program_check.proofs.Steps.{stays}
 
 -- a program with such a fetch isn't nearly pure for more steps
 pub not_near : (v : Variant) (image : List ℕ) (f : NearFetch) → IsFirstNear v image f → (k : ℕ) → f.steps < k → NearPure v image k → ⊥
@@ -25,19 +24,13 @@ not_near v image f is k lt pure =
     let i = is.into in
     i.meets (apart_near v image k pure f.steps (f.steps - f.distance) i.by i.word lt (omega (arith, is.some, is.inside)) (omega (arith, is.at_most)) is.goes_on i.told_by i.stored)
 
-same_rec : (a b : Rec) → Some a ≡ Some b → a ≡ b
-same_rec a b e = cc (e)
-
-same_store : (a b : Store) → Some a ≡ Some b → a ≡ b
-same_store a b e = cc (e)
-
 not_both : (v : Variant) (m : Machine) (told : Option Rec) (storer store : ℕ) → StoredApart v m told → StoredInto v m told storer store → ⊥
 not_both v m told storer store apart into = into.meets (apart into.by into.word into.told_by into.stored)
 
 same_into : (v : Variant) (m : Machine) (told : Option Rec) (a b c d : ℕ) → StoredInto v m told a b → StoredInto v m told c d → (a ≡ c) × (b ≡ d)
 same_into v m told a b c d x y =
-    let rec : x.by ≡ y.by = same_rec x.by y.by (sym x.told_by ∙ y.told_by) in
-    let word : x.word ≡ y.word = same_store x.word y.word (sym x.stored ∙ (ap (λ (r : Rec). r.store) rec ∙ y.stored)) in
+    let rec : x.by ≡ y.by = same_Some x.by y.by (sym x.told_by ∙ y.told_by) in
+    let word : x.word ≡ y.word = same_Some x.word y.word (sym x.stored ∙ (ap (λ (r : Rec). r.store) rec ∙ y.stored)) in
     (x.storer_is ∙ (ap (λ (r : Rec). r.pc) rec ∙ sym y.storer_is), x.store_is ∙ (ap (λ (s : Store). s.addr) word ∙ sym y.store_is))
 
 same_fields : (f g : NearFetch) → f.steps ≡ g.steps → f.pc ≡ g.pc → f.distance ≡ g.distance → f.storer ≡ g.storer → f.store ≡ g.store → f ≡ g
@@ -87,25 +80,17 @@ off v image limit steps is = is_aok-from_not (run v image steps).stat (is.end.0 
 still_off : (v : Variant) (image : List ℕ) (limit steps more : ℕ) → IsApart v image limit steps true → steps ≤ more → (run v image more).stat ≢ Aok
 still_off v image limit steps more is le e =
     let sum : steps + (more - steps) ≡ more = omega (arith, le) in
-    let same : run v image more ≡ run v image steps = ap (run v image) (sym sum) ∙ stays v image steps (more - steps) (off v image limit steps is) in
+    let same : run v image more ≡ run v image steps = ap (run v image) (sym sum) ∙ run_stays v image steps (more - steps) (off v image limit steps is) in
     is.end.0 refl (sym (ap (λ (m : Machine). m.stat) same) ∙ e)
 
 not_apart : (v : Variant) (image : List ℕ) (limit steps : ℕ) (stopped : Bool) (f : NearFetch) → IsApart v image limit steps stopped → f.steps < limit → IsFirstNear v image f → ⊥
 not_apart v image limit steps true f is lt first = not_near v image f first (f.steps + 1) (omega arith) (is.near_on refl (f.steps + 1))
 not_apart v image limit steps false f is lt first = not_near v image f first steps (omega (arith, lt, is.whole refl)) is.near
 
-adds_none : (v : Variant) (image : List ℕ) (n more : ℕ) → is_aok (run v image n).stat ≡ false → records v image (n + more) ≡ records v image n
-adds_none v image n zero h = ap (records v image) (omega arith)
-adds_none v image n (suc more) h =
-    let e : n + suc more ≡ n + more + 1 = omega arith in
-    let none : retired v (run v image (n + more)) ≡ None = ap (retired v) (stays v image n more h) ∙ retired-stopped v (run v image n) h in
-    ap (records v image) e ∙ records_from-last v (start image) (n + more) ∙ ap (λ r. records v image (n + more) ++ option_to_list r) none
-    ∙ append-nil (records v image (n + more)) ∙ adds_none v image n more h
-
 not_later : (v : Variant) (image : List ℕ) (limit s t : ℕ) (b : Bool) → IsApart v image limit s true → IsApart v image limit t b → s < t → ⊥
 not_later v image limit s t b x y lt =
     let sum : s + (t - s) ≡ t = omega (arith, lt) in
-    let same : length (records v image t) ≡ length (records v image s) = ap (λ k. length (records v image k)) (sym sum) ∙ ap length (adds_none v image s (t - s) (off v image limit s x)) in
+    let same : length (records v image t) ≡ length (records v image s) = ap (λ k. length (records v image k)) (sym sum) ∙ ap length (records_stay v image s (t - s) (off v image limit s x)) in
     omega (arith, same, x.count, y.count, lt)
 
 same_apart : (v : Variant) (image : List ℕ) (limit s t : ℕ) (b c : Bool) → IsApart v image limit s b → IsApart v image limit t c → Apart s b ≡ Apart t c

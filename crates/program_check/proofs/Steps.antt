@@ -1,13 +1,13 @@
 -- A run that is watched: one step more, its end, and the first instruction that fetches too soon.
-use Rattle.std.proofs.Common.{◌≡◌, ◌≢◌, ◌⊎◌, ◌↔◌, inl, inr, ℕ, zero, suc, ◌+◌, ◌-◌, ◌<◌, ◌≤◌, not, Bool, true, false, List, [], ◌∷◌, ◌++◌, length, Option, Some, None, refl, sym, ap, ◌∙◌, subst, arith, length-append}
+use Rattle.std.proofs.Common.{◌≡◌, ◌≢◌, ◌⊎◌, ◌↔◌, inl, inr, ℕ, ◌+◌, ◌-◌, ◌<◌, ◌≤◌, not, true, false, List, [], ◌∷◌, ◌++◌, length, Option, Some, None, refl, sym, ap, ◌∙◌, subst, arith, length-append}
 use Rattle.std.specs.Option.{option_to_list}
-use Rattle.std.proofs.lemmas.Bool.{cases_lt, false≢true}
+use Rattle.std.proofs.lemmas.Bool.{cases_lt, false≢true, not-true}
 use Rattle.pure_runs.proofs.Purity.{pair_pure}
 use Rattle.pure_runs.specs.Near.{NearPure}
 use Rattle.y86_base.specs.declared.parts.Stat.{Stat}
 use Rattle.y86_base.specs.declared.parts.Stat.TheVariants.{Aok}
 use Rattle.y86_base.specs.declared.parts.Variant.{Variant}
-use Rattle.y86_isa.proofs.Runs.{advance-stopped, aok_or_stopped, is_aok-from_not, records_from-last, run_from-last, stopped-from_none}
+use Rattle.y86_isa.proofs.Runs.{aok_or_stopped, is_aok-from_not, records_from-last, run_from-last, stopped-from_none, run_stays}
 use Rattle.y86_isa.specs.Machine.{is_aok, start}
 use Rattle.y86_isa.specs.Run.{records, run}
 use Rattle.y86_isa.specs.Step.{advance, retired}
@@ -95,11 +95,6 @@ module _ (v : Variant) (image : List ℕ) (n : ℕ) (recent : Recent) (are : Are
           ])
 
 -- ---- the end
-pub stays : (v : Variant) (image : List ℕ) (n more : ℕ) → is_aok (run v image n).stat ≡ false → run v image (n + more) ≡ run v image n
-stays v image n zero h = ap (run v image) (omega arith)
-stays v image n (suc more) h =
-    let e : n + suc more ≡ n + more + 1 = omega arith in
-    ap (run v image) e ∙ run_from-last v (start image) (n + more) ∙ ap (advance v) (stays v image n more h) ∙ advance-stopped v (run v image n) h
 
 -- where the run has stopped, nothing is fetched any more
 near_on : (v : Variant) (image : List ℕ) (n : ℕ) → is_aok (run v image n).stat ≡ false → NearPure v image n → (k : ℕ) → NearPure v image k
@@ -109,7 +104,7 @@ near_on v image n stopped pure k i j address within earlier near on fetched stor
     by (inl lt) = pure i j address lt earlier near on fetched stored
     by (inr le) =
         let e : n + (i - n) ≡ i = omega (arith, le) in
-        let same : run v image i ≡ run v image n = ap (run v image) (sym e) ∙ stays v image n (i - n) stopped in
+        let same : run v image i ≡ run v image n = ap (run v image) (sym e) ∙ run_stays v image n (i - n) stopped in
         false≢true (sym stopped ∙ sym (ap (λ (m : Machine). is_aok m.stat) same) ∙ ap is_aok on)
 
 stopped_is : (s : Stat) → (not (is_aok s) ≡ true) ↔ (s ≢ Aok)
@@ -117,10 +112,6 @@ stopped_is s = (λ h e. false≢true (sym (ap (λ z. not (is_aok z)) e) ∙ h), 
 
 pub aok_by : (s : Stat) → not (is_aok s) ≡ false → s ≡ Aok
 aok_by s h = elim (aok_or_stopped s) [ inl e ↦ e | inr e ↦ absurd (false≢true (sym h ∙ ap not e)) ]
-
-pub to_false : (b : Bool) → not b ≡ true → b ≡ false
-to_false true h = cc
-to_false false h = refl
 
 pub ended : (v : Variant) (image : List ℕ) (n limit : ℕ) (m : Machine) → m ≡ run v image n → NearPure v image n → n ≡ length (records v image n) → n ≤ limit →
     (not (is_aok m.stat) ≡ false → n ≡ limit) → IsWatched v image limit (Apart n (not (is_aok m.stat)))
@@ -130,7 +121,7 @@ ended v image n limit m at pure count within whole = record {
   end = rw at (stopped_is (run v image n).stat);
   whole = whole;
   near = pure;
-  near_on = λ h. near_on v image n (to_false (is_aok (run v image n).stat) (sym (ap (λ (z : Machine). not (is_aok z.stat)) at) ∙ h)) pure;
+  near_on = λ h. near_on v image n (not-true (is_aok (run v image n).stat) (sym (ap (λ (z : Machine). not (is_aok z.stat)) at) ∙ h)) pure;
 }
 
 -- one step more

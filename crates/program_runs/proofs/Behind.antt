@@ -1,10 +1,10 @@
 -- The numbers of an allowed valuation may stand behind one another.
 use Rattle.std.proofs.Common.{◌≡◌, ℕ, ◌+◌, Bool, true, false, not, ◌&&◌, ◌||◌, ◌==◌, nat_lt, nat_le, if◌then◌else◌, length, get_or, take, refl, sym, ap, subst, arith}
-use Rattle.std.proofs.lemmas.Bool.{eqb-true}
+use Rattle.std.proofs.lemmas.Bool.{eqb-true, or_left, or_right, and_from}
 use Rattle.std.proofs.lemmas.Bool.Decides.{nat_tests}
 use Rattle.y86_base.specs.declared.parts.Variant.{Variant}
 use Rattle.y86_base.specs.declared.parts.Variant.TheVariants.{Base, Full}
-use Rattle.y86_base.proofs.Booleans.{clash}
+use Rattle.y86_base.proofs.Booleans.{clash, and_second, and_first}
 use Rattle.y86_isa.specs.declared.columns.Row.{Row}
 use Rattle.y86_isa.specs.RowTests.{accesses, is_branch}
 use Rattle.y86_isa.specs.Table.{rows, row, inop, no_register}
@@ -14,15 +14,14 @@ use Rattle.pipe_fields.specs.Layout.{Fields, FetchLine, DecodeLine, ExecuteLine,
 use Rattle.pipe_fields.specs.Allowed.{allowed, fetch_fits, decode_fits, execute_fits, memory_fits, write_fits, registers_fit, fetch_allowed, decode_allowed, execute_allowed, memory_allowed, write_allowed, is_live, decode_bubble, execute_bubble, memory_bubble, write_bubble}
 use Rattle.pipe_fields.proofs.Told.{LinesAllowed, lines_allowed}
 use Rattle.prog_gen.specs.Choices.{AreChosen, may_stand, stat_may, icode_may, ifun_may}
-use Rattle.program_runs.proofs.Lawful.{both, first, second, then_true, else_true, choose_then, choose_else}
-use Rattle.program_runs.proofs.Witness.{or_first, or_second}
+use Rattle.program_runs.proofs.Lawful.{then_true, else_true, choose_then, choose_else}
 use Rattle.program_runs.proofs.Forty.{forty}
 
 -- ---- tests that are known
 
 reading_back : (e a b z t : Bool) → ((if e then a && z else b) && t) ≡ true → ((if e then a else b) ≡ true) × ((t && (not e || z)) ≡ true)
-reading_back true a b z t h = (first a z (first (a && z) t h), both t z (second (a && z) t h) (second a z (first (a && z) t h)))
-reading_back false a b z t h = (first b t h, both t true (second b t h) refl)
+reading_back true a b z t h = (and_first a z (and_first (a && z) t h), and_from t z (and_second (a && z) t h) (and_second a z (and_first (a && z) t h)))
+reading_back false a b z t h = (and_first b t h, and_from t true (and_second b t h) refl)
 
 -- a stage with a bubble isn't live
 live_off : (kind stat : ℕ) (b : Bool) → (kind == bubble) ≡ true → (is_live kind stat && b) ≡ false
@@ -35,7 +34,7 @@ off_where : (kind stat : ℕ) (b : Bool) (ifun n : ℕ) → (kind == bubble) ≡
 off_where kind stat b ifun n e h = choose_else _ _ _ (live_off kind stat b e) (reset n h)
 
 off_only : (b : Bool) (n : ℕ) → (n == 0) ≡ true → only_where b n ≡ true
-off_only b n h = or_second b (not (set n)) (reset n h)
+off_only b n h = or_right b (not (set n)) (reset n h)
 
 kind_small : (kind k : ℕ) → (kind == bubble) ≡ true → nat_lt kind (k + 1) ≡ true
 kind_small kind k e = grind (arith, nat_tests)
@@ -67,21 +66,19 @@ src_a_nop Full n x e h = subst (λ m. register_fits (row Full m).src_a x ≡ tru
 
 src_b_nop : (v : Variant) (n x dst_e : ℕ) → n ≡ inop → (x == no_register) ≡ true → (register_fits (row v n).src_b x && tied (row v n) x dst_e) ≡ true
 unfolding row
-src_b_nop Base n x dst_e e h = subst (λ m. (register_fits (row Base m).src_b x && tied (row Base m) x dst_e) ≡ true) (sym e) (both _ _ h refl)
-src_b_nop Full n x dst_e e h = subst (λ m. (register_fits (row Full m).src_b x && tied (row Full m) x dst_e) ≡ true) (sym e) (both _ _ h refl)
-
--- ---- line by line
+src_b_nop Base n x dst_e e h = subst (λ m. (register_fits (row Base m).src_b x && tied (row Base m) x dst_e) ≡ true) (sym e) (and_from _ _ h refl)
+src_b_nop Full n x dst_e e h = subst (λ m. (register_fits (row Full m).src_b x && tied (row Full m) x dst_e) ≡ true) (sym e) (and_from _ _ h refl)
 
 -- ---- all parts of a conjunction
 
 split3 : (a b c : Bool) → ((a && b) && c) ≡ true → (a ≡ true) × (b ≡ true) × (c ≡ true)
-split3 a b c h = ((first a b (first (a && b) c h)), second a b (first (a && b) c h), second (a && b) c h)
+split3 a b c h = ((and_first a b (and_first (a && b) c h)), and_second a b (and_first (a && b) c h), and_second (a && b) c h)
 
 split5 : (a b c d e : Bool) → ((((a && b) && c) && d) && e) ≡ true → (a ≡ true) × (b ≡ true) × (c ≡ true) × (d ≡ true) × (e ≡ true)
-split5 a b c d e h = ((first a b (first (a && b) c (first ((a && b) && c) d (first (((a && b) && c) && d) e h)))), second a b (first (a && b) c (first ((a && b) && c) d (first (((a && b) && c) && d) e h))), second (a && b) c (first ((a && b) && c) d (first (((a && b) && c) && d) e h)), second ((a && b) && c) d (first (((a && b) && c) && d) e h), second (((a && b) && c) && d) e h)
+split5 a b c d e h = ((and_first a b (and_first (a && b) c (and_first ((a && b) && c) d (and_first (((a && b) && c) && d) e h)))), and_second a b (and_first (a && b) c (and_first ((a && b) && c) d (and_first (((a && b) && c) && d) e h))), and_second (a && b) c (and_first ((a && b) && c) d (and_first (((a && b) && c) && d) e h)), and_second ((a && b) && c) d (and_first (((a && b) && c) && d) e h), and_second (((a && b) && c) && d) e h)
 
 split6 : (a b c d e f : Bool) → (((((a && b) && c) && d) && e) && f) ≡ true → (a ≡ true) × (b ≡ true) × (c ≡ true) × (d ≡ true) × (e ≡ true) × (f ≡ true)
-split6 a b c d e f h = ((first a b (first (a && b) c (first ((a && b) && c) d (first (((a && b) && c) && d) e (first ((((a && b) && c) && d) && e) f h))))), second a b (first (a && b) c (first ((a && b) && c) d (first (((a && b) && c) && d) e (first ((((a && b) && c) && d) && e) f h)))), second (a && b) c (first ((a && b) && c) d (first (((a && b) && c) && d) e (first ((((a && b) && c) && d) && e) f h))), second ((a && b) && c) d (first (((a && b) && c) && d) e (first ((((a && b) && c) && d) && e) f h)), second (((a && b) && c) && d) e (first ((((a && b) && c) && d) && e) f h), second ((((a && b) && c) && d) && e) f h)
+split6 a b c d e f h = ((and_first a b (and_first (a && b) c (and_first ((a && b) && c) d (and_first (((a && b) && c) && d) e (and_first ((((a && b) && c) && d) && e) f h))))), and_second a b (and_first (a && b) c (and_first ((a && b) && c) d (and_first (((a && b) && c) && d) e (and_first ((((a && b) && c) && d) && e) f h)))), and_second (a && b) c (and_first ((a && b) && c) d (and_first (((a && b) && c) && d) e (and_first ((((a && b) && c) && d) && e) f h))), and_second ((a && b) && c) d (and_first (((a && b) && c) && d) e (and_first ((((a && b) && c) && d) && e) f h)), and_second (((a && b) && c) && d) e (and_first ((((a && b) && c) && d) && e) f h), and_second ((((a && b) && c) && d) && e) f h)
 
 -- ---- line by line
 
@@ -95,10 +92,10 @@ pub record FetchMay (v : Variant) (x : FetchLine) : Type 0 where
 fetch_back : (v : Variant) (x : FetchLine) → fetch_allowed v x ≡ true → FetchMay v x
 unfolding fetch_fits
 fetch_back v x h =
-    let h1 = first _ _ h in
-    let h2 = first _ _ h1 in
-    let r = reading_back (set x.error) (x.icode == inop) (icode_fits (length (rows v)) x.icode) (x.ifun == 0) (nat_le x.ifun (row v x.icode).ifun_top) (first _ _ h2) in
-    record { error_icode = r.0; ifun = r.1; taken = second _ _ h2; stops = second _ _ h1; back = second _ _ h }
+    let h1 = and_first _ _ h in
+    let h2 = and_first _ _ h1 in
+    let r = reading_back (set x.error) (x.icode == inop) (icode_fits (length (rows v)) x.icode) (x.ifun == 0) (nat_le x.ifun (row v x.icode).ifun_top) (and_first _ _ h2) in
+    record { error_icode = r.0; ifun = r.1; taken = and_second _ _ h2; stops = and_second _ _ h1; back = and_second _ _ h }
 
 pub record DecodeMay (v : Variant) (x : DecodeLine) : Type 0 where
   pub kind : nat_lt x.kind 3 ≡ true
@@ -113,20 +110,20 @@ pub record DecodeMay (v : Variant) (x : DecodeLine) : Type 0 where
 
 decode_bubble' : (v : Variant) (x : DecodeLine) → (x.kind == bubble) ≡ true → decode_bubble x ≡ true → DecodeMay v x
 decode_bubble' v x e b =
-    let b0 = second _ _ b in
-    let up7 = first _ _ b in
-    let p0 = second _ _ up7 in
-    let up6 = first _ _ up7 in
-    let t0 = second _ _ up6 in
-    let up5 = first _ _ up6 in
-    let rb = second _ _ up5 in
-    let up4 = first _ _ up5 in
-    let ra = second _ _ up4 in
-    let up3 = first _ _ up4 in
-    let f0 = second _ _ up3 in
-    let up2 = first _ _ up3 in
-    let i1 = second _ _ up2 in
-    let s0 = first _ _ up2 in
+    let b0 = and_second _ _ b in
+    let up7 = and_first _ _ b in
+    let p0 = and_second _ _ up7 in
+    let up6 = and_first _ _ up7 in
+    let t0 = and_second _ _ up6 in
+    let up5 = and_first _ _ up6 in
+    let rb = and_second _ _ up5 in
+    let up4 = and_first _ _ up5 in
+    let ra = and_second _ _ up4 in
+    let up3 = and_first _ _ up4 in
+    let f0 = and_second _ _ up3 in
+    let up2 = and_first _ _ up3 in
+    let i1 = and_second _ _ up2 in
+    let s0 = and_first _ _ up2 in
     let nop = eqb-true x.icode inop i1 in
     record {
       kind = kind_small x.kind 2 e;
@@ -143,14 +140,14 @@ decode_bubble' v x e b =
 decode_instr : (v : Variant) (x : DecodeLine) → (x.kind == bubble) ≡ false → (nat_lt x.kind 3 && decode_fits (length (rows v)) x.icode (row v x.icode) x) ≡ true → DecodeMay v x
 unfolding decode_fits
 decode_instr v x e h =
-    let k0 = first (nat_lt x.kind 3) _ h in
-    let p = split6 (code_fits (length (rows v)) (row v x.icode) x.stat x.icode x.ifun) (half_fits (row v x.icode).has_byte (row v x.icode).uses_a x.r_a) (half_fits (row v x.icode).has_byte (row v x.icode).uses_b x.r_b) (cnd_where (is_live x.kind x.stat && is_branch (row v x.icode).next) x.ifun x.taken) (only_where (is_live x.kind x.stat && accesses (row v x.icode).memory) x.stops) (only_where (is_live x.kind x.stat && is_branch (row v x.icode).next) x.back) (second (nat_lt x.kind 3) _ h) in
+    let k0 = and_first (nat_lt x.kind 3) _ h in
+    let p = split6 (code_fits (length (rows v)) (row v x.icode) x.stat x.icode x.ifun) (half_fits (row v x.icode).has_byte (row v x.icode).uses_a x.r_a) (half_fits (row v x.icode).has_byte (row v x.icode).uses_b x.r_b) (cnd_where (is_live x.kind x.stat && is_branch (row v x.icode).next) x.ifun x.taken) (only_where (is_live x.kind x.stat && accesses (row v x.icode).memory) x.stops) (only_where (is_live x.kind x.stat && is_branch (row v x.icode).next) x.back) (and_second (nat_lt x.kind 3) _ h) in
     let q = split3 (stat_fits (length (rows v)) false x.stat x.icode) (nat_le x.ifun (row v x.icode).ifun_top) (not (x.stat == 3) || x.ifun == 0) p.0 in
     record {
       kind = k0;
       stat = choose_else _ _ _ e (stat_range (length (rows v)) false x.stat x.icode q.0);
       icode = choose_else _ _ _ e q.0;
-      ifun = choose_else _ _ _ e (both (nat_le x.ifun (row v x.icode).ifun_top) (not (x.stat == 3) || x.ifun == 0) q.1 q.2);
+      ifun = choose_else _ _ _ e (and_from (nat_le x.ifun (row v x.icode).ifun_top) (not (x.stat == 3) || x.ifun == 0) q.1 q.2);
       r_a = p.1;
       r_b = p.2;
       taken = p.3;
@@ -176,24 +173,24 @@ one_set n h = grind (arith, nat_tests)
 
 execute_bubble' : (v : Variant) (x : ExecuteLine) → (x.kind == bubble) ≡ true → execute_bubble x ≡ true → ExecuteMay v x
 execute_bubble' v x e b =
-    let b0 = second _ _ b in
-    let up9 = first _ _ b in
-    let p0 = second _ _ up9 in
-    let up8 = first _ _ up9 in
-    let c1 = second _ _ up8 in
-    let up7 = first _ _ up8 in
-    let sb = second _ _ up7 in
-    let up6 = first _ _ up7 in
-    let sa = second _ _ up6 in
-    let up5 = first _ _ up6 in
-    let dm = second _ _ up5 in
-    let up4 = first _ _ up5 in
-    let de = second _ _ up4 in
-    let up3 = first _ _ up4 in
-    let f0 = second _ _ up3 in
-    let up2 = first _ _ up3 in
-    let i1 = second _ _ up2 in
-    let s0 = first _ _ up2 in
+    let b0 = and_second _ _ b in
+    let up9 = and_first _ _ b in
+    let p0 = and_second _ _ up9 in
+    let up8 = and_first _ _ up9 in
+    let c1 = and_second _ _ up8 in
+    let up7 = and_first _ _ up8 in
+    let sb = and_second _ _ up7 in
+    let up6 = and_first _ _ up7 in
+    let sa = and_second _ _ up6 in
+    let up5 = and_first _ _ up6 in
+    let dm = and_second _ _ up5 in
+    let up4 = and_first _ _ up5 in
+    let de = and_second _ _ up4 in
+    let up3 = and_first _ _ up4 in
+    let f0 = and_second _ _ up3 in
+    let up2 = and_first _ _ up3 in
+    let i1 = and_second _ _ up2 in
+    let s0 = and_first _ _ up2 in
     let nop = eqb-true x.icode inop i1 in
     record {
       kind = kind_small x.kind 2 e;
@@ -212,19 +209,19 @@ execute_bubble' v x e b =
 execute_instr : (v : Variant) (x : ExecuteLine) → (x.kind == bubble) ≡ false → (nat_lt x.kind 3 && execute_fits (length (rows v)) x.icode (row v x.icode) x) ≡ true → ExecuteMay v x
 unfolding execute_fits
 execute_instr v x e h =
-    let k0 = first (nat_lt x.kind 3) _ h in
-    let p = split5 (code_fits (length (rows v)) (row v x.icode) x.stat x.icode x.ifun) (registers_fit (row v x.icode) x) (cnd_fits x.ifun x.cnd) (only_where (is_live x.kind x.stat && accesses (row v x.icode).memory) x.stops) (only_where (is_live x.kind x.stat && is_branch (row v x.icode).next) x.back) (second (nat_lt x.kind 3) _ h) in
+    let k0 = and_first (nat_lt x.kind 3) _ h in
+    let p = split5 (code_fits (length (rows v)) (row v x.icode) x.stat x.icode x.ifun) (registers_fit (row v x.icode) x) (cnd_fits x.ifun x.cnd) (only_where (is_live x.kind x.stat && accesses (row v x.icode).memory) x.stops) (only_where (is_live x.kind x.stat && is_branch (row v x.icode).next) x.back) (and_second (nat_lt x.kind 3) _ h) in
     let q = split3 (stat_fits (length (rows v)) false x.stat x.icode) (nat_le x.ifun (row v x.icode).ifun_top) (not (x.stat == 3) || x.ifun == 0) p.0 in
     let g = split5 (register_fits (row v x.icode).dst_e x.dst_e) (register_fits (row v x.icode).dst_m x.dst_m) (register_fits (row v x.icode).src_a x.src_a) (register_fits (row v x.icode).src_b x.src_b) (tied (row v x.icode) x.src_b x.dst_e) p.1 in
     record {
       kind = k0;
       stat = choose_else _ _ _ e (stat_range (length (rows v)) false x.stat x.icode q.0);
       icode = choose_else _ _ _ e q.0;
-      ifun = choose_else _ _ _ e (both (nat_le x.ifun (row v x.icode).ifun_top) (not (x.stat == 3) || x.ifun == 0) q.1 q.2);
+      ifun = choose_else _ _ _ e (and_from (nat_le x.ifun (row v x.icode).ifun_top) (not (x.stat == 3) || x.ifun == 0) q.1 q.2);
       dst_e = g.0;
       dst_m = g.1;
       src_a = g.2;
-      src_b = both (register_fits (row v x.icode).src_b x.src_b) (tied (row v x.icode) x.src_b x.dst_e) g.3 g.4;
+      src_b = and_from (register_fits (row v x.icode).src_b x.src_b) (tied (row v x.icode) x.src_b x.dst_e) g.3 g.4;
       cnd = p.2;
       stops = p.3;
       back = p.4;
@@ -243,25 +240,25 @@ pub record MemoryMay (v : Variant) (x : MemoryLine) : Type 0 where
 
 memory_bubble' : (v : Variant) (x : MemoryLine) → (x.kind == bubble) ≡ true → memory_bubble x ≡ true → MemoryMay v x
 memory_bubble' v x e b =
-    let b0 = second _ _ b in
-    let up6 = first _ _ b in
-    let p0 = second _ _ up6 in
-    let up5 = first _ _ up6 in
-    let dm = second _ _ up5 in
-    let up4 = first _ _ up5 in
-    let de = second _ _ up4 in
-    let up3 = first _ _ up4 in
-    let f0 = second _ _ up3 in
-    let up2 = first _ _ up3 in
-    let i1 = second _ _ up2 in
-    let s0 = first _ _ up2 in
+    let b0 = and_second _ _ b in
+    let up6 = and_first _ _ b in
+    let p0 = and_second _ _ up6 in
+    let up5 = and_first _ _ up6 in
+    let dm = and_second _ _ up5 in
+    let up4 = and_first _ _ up5 in
+    let de = and_second _ _ up4 in
+    let up3 = and_first _ _ up4 in
+    let f0 = and_second _ _ up3 in
+    let up2 = and_first _ _ up3 in
+    let i1 = and_second _ _ up2 in
+    let s0 = and_first _ _ up2 in
     let nop = eqb-true x.icode inop i1 in
     record {
       kind = kind_small x.kind 1 e;
       stat = choose_then _ _ _ e s0;
       icode = choose_then _ _ _ e i1;
       ifun = choose_then _ _ _ e f0;
-      dst_e = or_first _ _ (dst_e_nop v x.icode x.dst_e nop de);
+      dst_e = or_left _ _ (dst_e_nop v x.icode x.dst_e nop de);
       dst_m = dst_m_nop v x.icode x.dst_m nop dm;
       cnd = choose_then _ _ _ e refl;
       error = off_only _ x.error p0;
@@ -282,25 +279,25 @@ lost_or_kept r ifun cnd d h c = by (r.conditional && not (set cnd)) refl
 
     by : (b : Bool) → (r.conditional && not (set cnd)) ≡ b → (register_fits r.dst_e d || (r.conditional && (d == no_register && not (ifun == 0)))) ≡ true
     by true e =
-        or_second (register_fits r.dst_e d) (r.conditional && (d == no_register && not (ifun == 0)))
-        (both r.conditional (d == no_register && not (ifun == 0)) (first r.conditional (not (set cnd)) e)
-        (both (d == no_register) (not (ifun == 0)) (then_true _ _ _ e h) (nonzero (ifun == 0) refl (negated (set cnd) (second r.conditional (not (set cnd)) e)))))
-    by false e = or_first (register_fits r.dst_e d) (r.conditional && (d == no_register && not (ifun == 0))) (else_true _ _ _ e h)
+        or_right (register_fits r.dst_e d) (r.conditional && (d == no_register && not (ifun == 0)))
+        (and_from r.conditional (d == no_register && not (ifun == 0)) (and_first r.conditional (not (set cnd)) e)
+        (and_from (d == no_register) (not (ifun == 0)) (then_true _ _ _ e h) (nonzero (ifun == 0) refl (negated (set cnd) (and_second r.conditional (not (set cnd)) e)))))
+    by false e = or_left (register_fits r.dst_e d) (r.conditional && (d == no_register && not (ifun == 0))) (else_true _ _ _ e h)
 
 memory_instr : (v : Variant) (x : MemoryLine) → (x.kind == bubble) ≡ false → (nat_lt x.kind 2 && memory_fits (length (rows v)) x.icode (row v x.icode) x) ≡ true → MemoryMay v x
 unfolding memory_fits
 memory_instr v x e h =
-    let k0 = first (nat_lt x.kind 2) _ h in
-    let p = split6 (code_fits (length (rows v)) (row v x.icode) x.stat x.icode x.ifun) (destination_fits (row v x.icode) x.cnd x.dst_e) (register_fits (row v x.icode).dst_m x.dst_m) (cnd_fits x.ifun x.cnd) (only_where (is_live x.kind x.stat && accesses (row v x.icode).memory) x.error) (only_where (is_live x.kind x.stat && is_branch (row v x.icode).next) x.back) (second (nat_lt x.kind 2) _ h) in
+    let k0 = and_first (nat_lt x.kind 2) _ h in
+    let p = split6 (code_fits (length (rows v)) (row v x.icode) x.stat x.icode x.ifun) (destination_fits (row v x.icode) x.cnd x.dst_e) (register_fits (row v x.icode).dst_m x.dst_m) (cnd_fits x.ifun x.cnd) (only_where (is_live x.kind x.stat && accesses (row v x.icode).memory) x.error) (only_where (is_live x.kind x.stat && is_branch (row v x.icode).next) x.back) (and_second (nat_lt x.kind 2) _ h) in
     let q = split3 (stat_fits (length (rows v)) false x.stat x.icode) (nat_le x.ifun (row v x.icode).ifun_top) (not (x.stat == 3) || x.ifun == 0) p.0 in
     record {
       kind = k0;
       stat = choose_else _ _ _ e (stat_range (length (rows v)) false x.stat x.icode q.0);
       icode = choose_else _ _ _ e q.0;
-      ifun = choose_else _ _ _ e (both (nat_le x.ifun (row v x.icode).ifun_top) (not (x.stat == 3) || x.ifun == 0) q.1 q.2);
+      ifun = choose_else _ _ _ e (and_from (nat_le x.ifun (row v x.icode).ifun_top) (not (x.stat == 3) || x.ifun == 0) q.1 q.2);
       dst_e = lost_or_kept (row v x.icode) x.ifun x.cnd x.dst_e p.1 p.3;
       dst_m = p.2;
-      cnd = choose_else _ _ _ e (both (cnd_fits x.ifun x.cnd) (destination_fits (row v x.icode) x.cnd x.dst_e) p.3 p.1);
+      cnd = choose_else _ _ _ e (and_from (cnd_fits x.ifun x.cnd) (destination_fits (row v x.icode) x.cnd x.dst_e) p.3 p.1);
       error = p.4;
       back = p.5;
     }
@@ -314,26 +311,26 @@ pub record WriteMay (v : Variant) (x : WriteLine) : Type 0 where
 
 write_bubble' : (v : Variant) (x : WriteLine) → (x.kind == bubble) ≡ true → write_bubble x ≡ true → WriteMay v x
 write_bubble' v x e b =
-    let dm = second _ _ b in
-    let up3 = first _ _ b in
-    let de = second _ _ up3 in
-    let up2 = first _ _ up3 in
-    let i1 = second _ _ up2 in
-    let s0 = first _ _ up2 in
+    let dm = and_second _ _ b in
+    let up3 = and_first _ _ b in
+    let de = and_second _ _ up3 in
+    let up2 = and_first _ _ up3 in
+    let i1 = and_second _ _ up2 in
+    let s0 = and_first _ _ up2 in
     let nop = eqb-true x.icode inop i1 in
     record {
       kind = kind_small x.kind 1 e;
       stat = choose_then _ _ _ e s0;
       icode = choose_then _ _ _ e i1;
-      dst_e = or_second _ _ (dst_e_nop v x.icode x.dst_e nop de);
+      dst_e = or_right _ _ (dst_e_nop v x.icode x.dst_e nop de);
       dst_m = dst_m_nop v x.icode x.dst_m nop dm;
     }
 
 write_instr : (v : Variant) (x : WriteLine) → (x.kind == bubble) ≡ false → (nat_lt x.kind 2 && write_fits (length (rows v)) x.icode (row v x.icode) x) ≡ true → WriteMay v x
 unfolding write_fits
 write_instr v x e h =
-    let k0 = first (nat_lt x.kind 2) _ h in
-    let p = split3 (stat_fits (length (rows v)) (accesses (row v x.icode).memory) x.stat x.icode) ((((row v x.icode).conditional && x.dst_e == no_register) || register_fits (row v x.icode).dst_e x.dst_e)) (register_fits (row v x.icode).dst_m x.dst_m) (second (nat_lt x.kind 2) _ h) in
+    let k0 = and_first (nat_lt x.kind 2) _ h in
+    let p = split3 (stat_fits (length (rows v)) (accesses (row v x.icode).memory) x.stat x.icode) ((((row v x.icode).conditional && x.dst_e == no_register) || register_fits (row v x.icode).dst_e x.dst_e)) (register_fits (row v x.icode).dst_m x.dst_m) (and_second (nat_lt x.kind 2) _ h) in
     record {
       kind = k0;
       stat = choose_else _ _ _ e (stat_range (length (rows v)) (accesses (row v x.icode).memory) x.stat x.icode p.0);

@@ -7,6 +7,7 @@ use Rattle.y86_isa.specs.declared.encoding.Instr.{Instr}
 use Rattle.y86_isa.specs.Encoding.{encoded, widest}
 use Rattle.y86_isa.specs.Table.{row}
 use Rattle.y86_isa.proofs.Encodings.{field_most}
+use Rattle.y86_isa.proofs.Memories.{bytes_of_word}
 use Rattle.prog_gen.specs.Draws.{advanced, given}
 use Rattle.prog_gen.specs.Programs.{Drawn, next_drawn}
 use Rattle.program_runs.proofs.Doings.{Fits, irmovq_fits, opq_fits, rrmovq_fits, rmmovq_fits, mrmovq_fits, jxx_fits}
@@ -40,11 +41,6 @@ drawn_fits data_at at word low small =
 
 abbrev IsByte : ℕ → Type 0
 IsByte n = n < 256
-
-bytes_of_word : (word : ℕ) → All IsByte (to_le_bytes w64 word)
-bytes_of_word word =
-    All-from_recursion IsByte (to_le_bytes w64 word)
-    (omega arith, (omega arith, (omega arith, (omega arith, (omega arith, (omega arith, (omega arith, (omega arith, tt))))))))
 
 byte_first : (n : ℕ) (xs : List ℕ) → n < 256 → All IsByte xs → All IsByte (n ∷ xs)
 byte_first n xs h rest = All-append IsByte (n ∷ []) xs (All-from_recursion IsByte (n ∷ []) (h, tt)) rest

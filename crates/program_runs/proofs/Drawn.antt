@@ -2,7 +2,7 @@
 use Rattle.std.proofs.Common.{◌≡◌, ◌⊎◌, inl, inr, ℕ, zero, suc, ◌+◌, ◌-◌, ◌%◌, ◌^◌, ◌<◌, ◌≤◌, Bool, true, false, List, [], ◌∷◌, ◌++◌, length, get_or, take, unwrap_or, None, refl, sym, ap, ◌∙◌, subst, arith}
 use Rattle.std.specs.List.{All, Contains, filter, range_with_len}
 use Rattle.std.proofs.lemmas.Bool.{cases_eq}
-use Rattle.std.proofs.lemmas.List.{ext_get_or, get_or-take, length-take, take-append-le, take_all, length-append}
+use Rattle.std.proofs.lemmas.List.{ext_get_or, get_or-take, length-take, take-append-le, take_all, length-append, length_push}
 use Rattle.std.proofs.lemmas.List.Elements.{All-contains, All-filter, filter_passes, Contains-append_left, Contains-get_or, Contains-push}
 use Rattle.std.proofs.lemmas.List.FromFn.{get_or-range_with_len, length-range_with_len}
 use Rattle.std.proofs.lemmas.Option.{unwrap_or-slice_get}
@@ -114,15 +114,12 @@ pub record IsFilled (v : Variant) (xs ys : List ℕ) : Type 0 where
   pub size : length ys ≡ field_count
   pub begins : take (length xs) ys ≡ xs
 
-longer_by_one : (xs : List ℕ) (n : ℕ) → length (xs ++ n ∷ []) ≡ length xs + 1
-longer_by_one xs n = length-append xs (n ∷ []) ∙ refl
-
 filled_back : (v : Variant) (xs ys : List ℕ) (n : ℕ) → length xs < field_count → IsFilled v (xs ++ n ∷ []) ys → IsFilled v xs ys
 filled_back v xs ys n room f = record {
   front = f.front;
   size = f.size;
   begins = sym (taken_twice ys (length xs) (length xs + 1) (omega arith) (omega (arith, f.size, room)))
-      ∙ (ap (take (length xs)) (sym (ap (λ (m : ℕ). take m ys) (longer_by_one xs n)) ∙ f.begins)
+      ∙ (ap (take (length xs)) (sym (ap (λ (m : ℕ). take m ys) (length_push xs n)) ∙ f.begins)
       ∙ (take-append-le (length xs) xs (n ∷ []) (omega arith) ∙ take_all (length xs) xs (omega arith)));
 }
 
@@ -131,7 +128,7 @@ fill zero v xs size f = (xs, record { front = f; size = omega (arith, size); beg
 fill (suc k) v xs size f =
     let room : length xs < field_count = omega (arith, size) in
     let some = front_next v xs f room in
-    let rest = fill k v (xs ++ some.n ∷ []) (omega (arith, size, longer_by_one xs some.n)) (front_more v xs some.n f room some.small some.may_be) in
+    let rest = fill k v (xs ++ some.n ∷ []) (omega (arith, size, length_push xs some.n)) (front_more v xs some.n f room some.small some.may_be) in
     (rest.0, filled_back v xs rest.0 some.n room rest.1)
 
 -- ---- all forty are those of an allowed valuation
@@ -241,7 +238,7 @@ go_on v before room b =
 
     back : (n : ℕ) → IsBegun v (before ++ n ∷ []) → Contains (choices v before) n
     back n b =
-        let longer = longer_by_one before n in
+        let longer = length_push before n in
         let f = begun_front v (before ++ n ∷ []) (omega (arith, longer, room)) b in
         let here : length before < length (before ++ n ∷ []) = omega (arith, longer) in
         let last : get_or (before ++ n ∷ []) (length before) 0 ≡ n = get_or-append_seam before n [] 0 in
@@ -267,7 +264,7 @@ drawn_front (suc k) v xs word size f =
     let room : length xs < field_count = omega (arith, size) in
     let n : ℕ = chosen (choices v xs) (given (advanced word)) in
     let c = choice_is v xs n (chosen_in (choices v xs) (given (advanced word)) (choices_some v xs f room)) in
-    drawn_front k v (xs ++ n ∷ []) (advanced word) (omega (arith, size, longer_by_one xs n)) (front_more v xs n f room c.small c.may)
+    drawn_front k v (xs ++ n ∷ []) (advanced word) (omega (arith, size, length_push xs n)) (front_more v xs n f room c.small c.may)
 
 none_front : (v : Variant) → IsFront v []
 none_front v = record { most = omega arith; chosen = λ j h. absurd (omega (arith, h)); small = λ j h. absurd (omega (arith, h)) }

@@ -1,6 +1,6 @@
 -- Numbers that may stand behind one another are those of an allowed valuation.
 use Rattle.std.proofs.Common.{◌≡◌, ℕ, ◌<◌, Bool, true, false, not, ◌&&◌, ◌||◌, ◌==◌, nat_lt, nat_le, if◌then◌else◌, length, get_or, take, refl, subst, arith}
-use Rattle.std.proofs.lemmas.Bool.{eqb-true}
+use Rattle.std.proofs.lemmas.Bool.{eqb-true, and_from}
 use Rattle.std.proofs.lemmas.Bool.Decides.{nat_tests}
 use Rattle.y86_base.specs.declared.parts.Variant.{Variant}
 use Rattle.y86_base.specs.declared.parts.Variant.TheVariants.{Base, Full}
@@ -9,25 +9,14 @@ use Rattle.y86_isa.specs.RowTests.{accesses, is_branch}
 use Rattle.y86_isa.specs.Table.{rows, row, inop, no_register}
 use Rattle.field_bits.specs.Fits.{half_fits, register_fits, cnd_where, only_where, cnd_fits, code_fits, icode_fits, tied, destination_fits}
 use Rattle.y86_base.specs.Words.{set}
+use Rattle.y86_base.proofs.Booleans.{and_second, and_first}
 use Rattle.pipe_fields.specs.Layout.{Fields, FetchLine, DecodeLine, ExecuteLine, MemoryLine, WriteLine, fields_by, numbers, bubble, field_count}
 use Rattle.pipe_fields.specs.Allowed.{allowed, fetch_fits, decode_fits, execute_fits, memory_fits, write_fits, registers_fit, fetch_allowed, decode_allowed, execute_allowed, memory_allowed, write_allowed, is_live}
 use Rattle.prog_gen.specs.Choices.{may_stand, AreChosen, stat_may, icode_may, ifun_may}
 
-pub both : (a b : Bool) → a ≡ true → b ≡ true → (a && b) ≡ true
-both true b p q = q
-both false b p q = p
-
-pub first : (a b : Bool) → (a && b) ≡ true → a ≡ true
-first true b h = refl
-first false b h = h
-
-pub second : (a b : Bool) → (a && b) ≡ true → b ≡ true
-second true b h = h
-second false b h = absurd (cc)
-
 reading : (e a b z t : Bool) → (if e then a else b) ≡ true → (t && (not e || z)) ≡ true → ((if e then a && z else b) && t) ≡ true
-reading true a b z t p q = both (a && z) t (both a z p (second t z q)) (first t z q)
-reading false a b z t p q = both b t p (first t true q)
+reading true a b z t p q = and_from (a && z) t (and_from a z p (and_second t z q)) (and_first t z q)
+reading false a b z t p q = and_from b t p (and_first t true q)
 
 -- what is known at a place
 at : (v : Variant) (c : Fields) → AreChosen v (numbers c) → (j : ℕ) → j < field_count → may_stand v j (fields_by (take j (numbers c))) (get_or (numbers c) j 0) ≡ true
@@ -44,7 +33,7 @@ fetch_chosen v c h =
     let f3 : cnd_where (is_branch r.next) x.ifun x.taken ≡ true = h 7 (omega arith) in
     let f4 : only_where (accesses r.memory) x.stops ≡ true = h 8 (omega arith) in
     let f5 : only_where (is_branch r.next) x.back ≡ true = h 9 (omega arith) in
-    both _ _ (both _ _ (both _ _ (reading (set x.error) (x.icode == inop) (icode_fits count x.icode) (x.ifun == 0) (nat_le x.ifun r.ifun_top) f1 f2) f3) f4) f5
+    and_from _ _ (and_from _ _ (and_from _ _ (reading (set x.error) (x.icode == inop) (icode_fits count x.icode) (x.ifun == 0) (nat_le x.ifun r.ifun_top) f1 f2) f3) f4) f5
 
 -- ---- a choice by a test that is known
 
@@ -126,14 +115,14 @@ decode_chosen v c h = by (x.kind == bubble) refl
     by true e =
         let code : (x.icode == inop) ≡ true = then_true _ _ _ e f2 in
         choose_then _ _ _ e
-        (both _ _ (both _ _ (both _ _ (both _ _ (both _ _ (both _ _ (both _ _ (then_true _ _ _ e f1) code) (then_true _ _ _ e f3))
+        (and_from _ _ (and_from _ _ (and_from _ _ (and_from _ _ (and_from _ _ (and_from _ _ (and_from _ _ (then_true _ _ _ e f1) code) (then_true _ _ _ e f3))
         (no_byte v x.icode r.uses_a x.r_a (eqb-true x.icode inop code) f4)) (no_byte v x.icode r.uses_b x.r_b (eqb-true x.icode inop code) f5))
         (untaken x.kind x.stat x.ifun (is_branch r.next) x.taken e f6)) (hidden x.kind x.stat (accesses r.memory) x.stops e f7)) (hidden x.kind x.stat (is_branch r.next) x.back e f8))
     by false e =
         let fun : (nat_le x.ifun r.ifun_top && (not (x.stat == 3) || x.ifun == 0)) ≡ true = else_true _ _ _ e f3 in
-        choose_else _ _ _ e (both _ _ f0
-        (both _ _ (both _ _ (both _ _ (both _ _ (both _ _
-        (both _ _ (both _ _ (else_true _ _ _ e f2) (first _ _ fun)) (second _ _ fun)) f4) f5) f6) f7) f8))
+        choose_else _ _ _ e (and_from _ _ f0
+        (and_from _ _ (and_from _ _ (and_from _ _ (and_from _ _ (and_from _ _
+        (and_from _ _ (and_from _ _ (else_true _ _ _ e f2) (and_first _ _ fun)) (and_second _ _ fun)) f4) f5) f6) f7) f8))
 
 -- ---- E, M and W
 
@@ -214,15 +203,15 @@ execute_chosen v c small h = by (x.kind == bubble) refl
     by true e =
         let code : (x.icode == inop) ≡ true = then_true _ _ _ e f2 in
         let fun : (x.ifun == 0) ≡ true = then_true _ _ _ e f3 in
-        let regs = execute_bubble_registers v x.icode x.dst_e x.dst_m x.src_a x.src_b (eqb-true x.icode inop code) f4 f5 f6 (first _ _ f7) in
+        let regs = execute_bubble_registers v x.icode x.dst_e x.dst_m x.src_a x.src_b (eqb-true x.icode inop code) f4 f5 f6 (and_first _ _ f7) in
         choose_then _ _ _ e
-        (both _ _ (both _ _ (both _ _ (both _ _ (both _ _ (both _ _ (both _ _ (both _ _ (both _ _ (then_true _ _ _ e f1) code) fun) regs.0) regs.1) regs.2) regs.3)
+        (and_from _ _ (and_from _ _ (and_from _ _ (and_from _ _ (and_from _ _ (and_from _ _ (and_from _ _ (and_from _ _ (and_from _ _ (then_true _ _ _ e f1) code) fun) regs.0) regs.1) regs.2) regs.3)
         (sure x.ifun x.cnd fun f8 small)) (hidden x.kind x.stat (accesses r.memory) x.stops e f9)) (hidden x.kind x.stat (is_branch r.next) x.back e f10))
     by false e =
         let fun : (nat_le x.ifun r.ifun_top && (not (x.stat == 3) || x.ifun == 0)) ≡ true = else_true _ _ _ e f3 in
-        let code : code_fits count r x.stat x.icode x.ifun ≡ true = both _ _ (both _ _ (else_true _ _ _ e f2) (first _ _ fun)) (second _ _ fun) in
-        let regs : registers_fit r x ≡ true = both _ _ (both _ _ (both _ _ (both _ _ f4 f5) f6) (first _ _ f7)) (second _ _ f7) in
-        choose_else _ _ _ e (both _ _ f0 (both _ _ (both _ _ (both _ _ (both _ _ code regs) f8) f9) f10))
+        let code : code_fits count r x.stat x.icode x.ifun ≡ true = and_from _ _ (and_from _ _ (else_true _ _ _ e f2) (and_first _ _ fun)) (and_second _ _ fun) in
+        let regs : registers_fit r x ≡ true = and_from _ _ (and_from _ _ (and_from _ _ (and_from _ _ f4 f5) f6) (and_first _ _ f7)) (and_second _ _ f7) in
+        choose_else _ _ _ e (and_from _ _ f0 (and_from _ _ (and_from _ _ (and_from _ _ (and_from _ _ code regs) f8) f9) f10))
 
 or_false : (b : Bool) → (b || false) ≡ true → b ≡ true
 or_false true h = refl
@@ -286,13 +275,13 @@ memory_chosen v c h = by (x.kind == bubble) refl
         let code : (x.icode == inop) ≡ true = then_true _ _ _ e f2 in
         let regs = memory_bubble_registers v x.icode x.ifun x.dst_e x.dst_m (eqb-true x.icode inop code) f4 f5 in
         choose_then _ _ _ e
-        (both _ _ (both _ _ (both _ _ (both _ _ (both _ _ (both _ _ (then_true _ _ _ e f1) code) (then_true _ _ _ e f3)) regs.0) regs.1)
+        (and_from _ _ (and_from _ _ (and_from _ _ (and_from _ _ (and_from _ _ (and_from _ _ (then_true _ _ _ e f1) code) (then_true _ _ _ e f3)) regs.0) regs.1)
         (hidden x.kind x.stat (accesses r.memory) x.error e f7)) (hidden x.kind x.stat (is_branch r.next) x.back e f8))
     by false e =
         let fun : (nat_le x.ifun r.ifun_top && (not (x.stat == 3) || x.ifun == 0)) ≡ true = else_true _ _ _ e f3 in
-        let code : code_fits count r x.stat x.icode x.ifun ≡ true = both _ _ (both _ _ (else_true _ _ _ e f2) (first _ _ fun)) (second _ _ fun) in
+        let code : code_fits count r x.stat x.icode x.ifun ≡ true = and_from _ _ (and_from _ _ (else_true _ _ _ e f2) (and_first _ _ fun)) (and_second _ _ fun) in
         let cnd : (cnd_fits x.ifun x.cnd && destination_fits r x.cnd x.dst_e) ≡ true = else_true _ _ _ e f6 in
-        choose_else _ _ _ e (both _ _ f0 (both _ _ (both _ _ (both _ _ (both _ _ (both _ _ code (second _ _ cnd)) f5) (first _ _ cnd)) f7) f8))
+        choose_else _ _ _ e (and_from _ _ f0 (and_from _ _ (and_from _ _ (and_from _ _ (and_from _ _ (and_from _ _ code (and_second _ _ cnd)) f5) (and_first _ _ cnd)) f7) f8))
 
 write_bubble_registers : (v : Variant) (n dst_e dst_m : ℕ) → n ≡ inop
     → (((row v n).conditional && dst_e == no_register) || register_fits (row v n).dst_e dst_e) ≡ true → register_fits (row v n).dst_m dst_m ≡ true
@@ -339,11 +328,11 @@ write_chosen v c h = by (x.kind == bubble) refl
     by true e =
         let code : (x.icode == inop) ≡ true = then_true _ _ _ e f2 in
         let regs = write_bubble_registers v x.icode x.dst_e x.dst_m (eqb-true x.icode inop code) f3 f4 in
-        choose_then _ _ _ e (both _ _ (both _ _ (both _ _ (then_true _ _ _ e f1) code) regs.0) regs.1)
-    by false e = choose_else _ _ _ e (both _ _ f0 (both _ _ (both _ _ (else_true _ _ _ e f2) f3) f4))
+        choose_then _ _ _ e (and_from _ _ (and_from _ _ (and_from _ _ (then_true _ _ _ e f1) code) regs.0) regs.1)
+    by false e = choose_else _ _ _ e (and_from _ _ f0 (and_from _ _ (and_from _ _ (else_true _ _ _ e f2) f3) f4))
 
 -- numbers that may stand behind one another are those of an allowed valuation
 pub chosen_allowed : (v : Variant) (c : Fields) → c.e.cnd < 2 → AreChosen v (numbers c) → allowed v c ≡ true
 unfolding allowed
 chosen_allowed v c small h =
-    both _ _ (both _ _ (both _ _ (both _ _ (fetch_chosen v c h) (decode_chosen v c h)) (execute_chosen v c small h)) (memory_chosen v c h)) (write_chosen v c h)
+    and_from _ _ (and_from _ _ (and_from _ _ (and_from _ _ (fetch_chosen v c h) (decode_chosen v c h)) (execute_chosen v c small h)) (memory_chosen v c h)) (write_chosen v c h)

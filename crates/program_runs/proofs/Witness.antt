@@ -1,6 +1,8 @@
 -- Behind numbers that may stand behind one another another one may stand, at each place.
-use Rattle.std.proofs.Common.{◌≡◌, ℕ, zero, suc, ◌<◌, ◌^◌, Bool, true, false, not, ◌&&◌, ◌||◌, ◌==◌, nat_lt, nat_le, if◌then◌else◌, List, [], ◌∷◌, length, get_or, take, slice_get, unwrap_or, refl, ap, ◌∙◌, subst, arith}
+use Rattle.std.proofs.Common.{◌≡◌, ℕ, zero, suc, ◌<◌, ◌^◌, Bool, true, false, not, ◌&&◌, ◌||◌, ◌==◌, nat_lt, nat_le, if◌then◌else◌, List, [], ◌∷◌, length, get_or, take, slice_get, unwrap_or, refl, ap, subst, arith}
 use Rattle.std.proofs.lemmas.Bool.Decides.{nat_tests}
+use Rattle.std.proofs.lemmas.Bool.{or_left, or_right, and_from}
+use Rattle.std.proofs.Math.Bool.{and-false, or-true}
 use Rattle.y86_base.specs.declared.parts.Variant.{Variant}
 use Rattle.y86_base.specs.declared.parts.Variant.TheVariants.{Base, Full}
 use Rattle.y86_isa.specs.declared.columns.Row.{Row}
@@ -10,10 +12,11 @@ use Rattle.y86_isa.specs.RowTests.{accesses, is_branch, is_field_b}
 use Rattle.y86_isa.specs.Table.{rows, row, dash_row, inop, no_register}
 use Rattle.field_bits.specs.Fits.{half_fits, register_fits, cnd_where, only_where, cnd_fits, icode_fits, stat_fits, destination_fits}
 use Rattle.y86_base.specs.Words.{set}
+use Rattle.y86_base.proofs.Booleans.{and_second, and_first}
 use Rattle.pipe_fields.specs.Layout.{Fields, fields_by, numbers, bubble, field_count}
 use Rattle.pipe_fields.specs.Allowed.{is_live}
 use Rattle.prog_gen.specs.Choices.{may_stand, stat_may, icode_may, ifun_may, width}
-use Rattle.program_runs.proofs.Lawful.{both, first, second, else_true, choose_then, choose_else}
+use Rattle.program_runs.proofs.Lawful.{else_true, choose_then, choose_else}
 use Rattle.program_runs.proofs.Forty.{forty}
 
 -- a number below a bound that passes a test
@@ -21,14 +24,6 @@ pub record Some_below (bound : ℕ) (may : ℕ → Bool) : Type 0 where
   pub n : ℕ
   pub small : n < bound
   pub may_be : may n ≡ true
-
-pub or_true : (b : Bool) → (b || true) ≡ true
-or_true true = refl
-or_true false = refl
-
-and_false : (b : Bool) → (b && false) ≡ false
-and_false true = refl
-and_false false = refl
 
 least : (n : ℕ) → nat_le 0 n ≡ true
 least n = grind (arith, nat_tests)
@@ -40,10 +35,10 @@ cnd_some ifun = by (ifun == 0) refl
   where
     by : (b : Bool) → (ifun == 0) ≡ b → Some_below 2 (cnd_fits ifun)
     by true e = record { n = 1; small = omega arith; may_be = choose_then _ _ _ e refl }
-    by false e = record { n = 0; small = omega arith; may_be = choose_else _ _ _ e (or_true (nat_lt ifun 7)) }
+    by false e = record { n = 0; small = omega arith; may_be = choose_else _ _ _ e (or-true (nat_lt ifun 7)) }
 
 only_some : (may : Bool) → Some_below 2 (only_where may)
-only_some may = record { n = 0; small = omega arith; may_be = or_true may }
+only_some may = record { n = 0; small = omega arith; may_be = or-true may }
 
 where_some : (may : Bool) (ifun : ℕ) → Some_below 2 (cnd_where may ifun)
 where_some true ifun = (let c = cnd_some ifun in record { n = c.n; small = c.small; may_be = c.may_be })
@@ -56,7 +51,7 @@ register_some FieldB = record { n = 0; small = omega arith; may_be = refl }
 register_some Stack = record { n = 4; small = omega arith; may_be = refl }
 
 half_some : (has_byte used : Bool) → Some_below 16 (half_fits has_byte used)
-half_some true used = record { n = 0; small = omega arith; may_be = or_true (not used) }
+half_some true used = record { n = 0; small = omega arith; may_be = or-true (not used) }
 half_some false used = record { n = 15; small = omega arith; may_be = refl }
 
 stat_some : (kind : ℕ) → Some_below 8 (stat_may kind)
@@ -104,7 +99,7 @@ ifun_some r kind stat = by (kind == bubble) refl
   where
     by : (b : Bool) → (kind == bubble) ≡ b → Some_below 16 (ifun_may r kind stat)
     by true e = record { n = 0; small = omega arith; may_be = choose_then _ _ _ e refl }
-    by false e = record { n = 0; small = omega arith; may_be = choose_else _ _ _ e (both _ _ (least r.ifun_top) (or_true (not (stat == 3)))) }
+    by false e = record { n = 0; small = omega arith; may_be = choose_else _ _ _ e (and_from _ _ (least r.ifun_top) (or-true (not (stat == 3)))) }
 
 fetched_some : (v : Variant) (error : ℕ) → Some_below 16 (λ n. if set error then n == inop else icode_fits (length (rows v)) n)
 fetched_some v error = by (set error) refl v
@@ -115,7 +110,7 @@ fetched_some v error = by (set error) refl v
     by false e Full = record { n = 0; small = omega arith; may_be = choose_else _ _ _ e refl }
 
 fetched_ifun_some : (r : Row) (error : ℕ) → Some_below 16 (λ n. nat_le n r.ifun_top && (not (set error) || n == 0))
-fetched_ifun_some r error = record { n = 0; small = omega arith; may_be = both _ _ (least r.ifun_top) (or_true (not (set error))) }
+fetched_ifun_some r error = record { n = 0; small = omega arith; may_be = and_from _ _ (least r.ifun_top) (or-true (not (set error))) }
 
 -- srcB, where it is tied to the destination that is known
 source_some : (src dst : Field) (dst_e : ℕ) → register_fits dst dst_e ≡ true
@@ -126,7 +121,7 @@ source_some Stack dst dst_e h = record { n = 4; small = omega arith; may_be = re
 source_some FieldB Dash dst_e h = record { n = 0; small = omega arith; may_be = refl }
 source_some FieldB FieldA dst_e h = record { n = 0; small = omega arith; may_be = refl }
 source_some FieldB Stack dst_e h = record { n = 0; small = omega arith; may_be = refl }
-source_some FieldB FieldB dst_e h = record { n = dst_e; small = below dst_e h; may_be = both _ _ h (same dst_e) }
+source_some FieldB FieldB dst_e h = record { n = dst_e; small = below dst_e h; may_be = and_from _ _ h (same dst_e) }
   where
     below : (n : ℕ) → nat_lt n no_register ≡ true → n < 16
     below n h = grind (arith, nat_tests)
@@ -147,8 +142,8 @@ all_small (r ∷ rs) = conditional_small r && all_small rs
 small_at : (rs : List Row) (n : ℕ) → all_small rs ≡ true → conditional_small (unwrap_or (slice_get rs n) dash_row) ≡ true
 unfolding all_small conditional_small
 small_at [] n h = refl
-small_at (r ∷ rs) zero h = first _ _ h
-small_at (r ∷ rs) (suc n) h = small_at rs n (second _ _ h)
+small_at (r ∷ rs) zero h = and_first _ _ h
+small_at (r ∷ rs) (suc n) h = small_at rs n (and_second _ _ h)
 
 row_small : (v : Variant) (n : ℕ) → conditional_small (row v n) ≡ true
 unfolding row all_small conditional_small
@@ -173,7 +168,7 @@ memory_cnd_some r kind ifun dst_e known top fits = by (kind == bubble) refl
         of false e = choose_else _ _ _ e (ap (λ b. b || not (set 1)) h)
 
     no_fits : (ifun == 0) ≡ false → cnd_fits ifun 0 ≡ true
-    no_fits e = choose_else _ _ _ e (or_true (nat_lt ifun 7))
+    no_fits e = choose_else _ _ _ e (or-true (nat_lt ifun 7))
 
     past : nat_lt ifun 7 ≡ false → (ifun == 0) ≡ false
     past h = grind (arith, nat_tests)
@@ -190,23 +185,23 @@ memory_cnd_some r kind ifun dst_e known top fits = by (kind == bubble) refl
 
     with_register : (kind == bubble) ≡ false → register_fits r.dst_e dst_e ≡ true → (b : Bool) → nat_lt ifun 7 ≡ b
         → Some_below 2 (λ n. if kind == bubble then true else cnd_fits ifun n && destination_fits r n dst_e)
-    with_register e f true h = record { n = 1; small = omega arith; may_be = choose_else _ _ _ e (both _ _ (yes_fits h) (choose_else _ _ _ (and_false r.conditional) f)) }
+    with_register e f true h = record { n = 1; small = omega arith; may_be = choose_else _ _ _ e (and_from _ _ (yes_fits h) (choose_else _ _ _ (and-false r.conditional) f)) }
     with_register e f false h = record {
       n = 0;
       small = omega arith;
-      may_be = choose_else _ _ _ e (both _ _ (no_fits (past h)) (choose_else _ _ _ (ap (λ b. b && true) (over h e)) f));
+      may_be = choose_else _ _ _ e (and_from _ _ (no_fits (past h)) (choose_else _ _ _ (ap (λ b. b && true) (over h e)) f));
     }
 
     lost : (kind == bubble) ≡ false → (r.conditional && (dst_e == no_register && not (ifun == 0))) ≡ true
         → Some_below 2 (λ n. if kind == bubble then true else cnd_fits ifun n && destination_fits r n dst_e)
     lost e f =
-        let rest : (dst_e == no_register && not (ifun == 0)) ≡ true = second r.conditional (dst_e == no_register && not (ifun == 0)) f in
+        let rest : (dst_e == no_register && not (ifun == 0)) ≡ true = and_second r.conditional (dst_e == no_register && not (ifun == 0)) f in
         record {
           n = 0;
           small = omega arith;
-          may_be = choose_else _ _ _ e (both _ _ (no_fits (negated (ifun == 0) (second (dst_e == no_register) (not (ifun == 0)) rest)))
-              (choose_then (r.conditional && not (set 0)) (dst_e == no_register) (register_fits r.dst_e dst_e) (lost_then r.conditional (first r.conditional (dst_e == no_register && not (ifun == 0)) f))
-              (first (dst_e == no_register) (not (ifun == 0)) rest)));
+          may_be = choose_else _ _ _ e (and_from _ _ (no_fits (negated (ifun == 0) (and_second (dst_e == no_register) (not (ifun == 0)) rest)))
+              (choose_then (r.conditional && not (set 0)) (dst_e == no_register) (register_fits r.dst_e dst_e) (lost_then r.conditional (and_first r.conditional (dst_e == no_register && not (ifun == 0)) f))
+              (and_first (dst_e == no_register) (not (ifun == 0)) rest)));
         }
       where
         lost_then : (b : Bool) → b ≡ true → (b && not (set 0)) ≡ true
@@ -232,12 +227,6 @@ AreBefore v c j = (k : ℕ) → k < j → may_stand v k (fields_by (take k (numb
 
 abbrev pub IsWitnessed : Variant → Fields → ℕ → Type 0
 IsWitnessed v c j = AreBefore v c j → Some_below (2 ^ width j) (may_stand v j (fields_by (take j (numbers c))))
-
-pub or_first : (a b : Bool) → a ≡ true → (a || b) ≡ true
-or_first a b h = ap (λ x. x || b) h
-
-pub or_second : (a b : Bool) → b ≡ true → (a || b) ≡ true
-or_second a b h = ap (λ x. a || x) h ∙ or_true a
 
 w0 : (v : Variant) (c : Fields) → IsWitnessed v c 0
 unfolding may_stand
@@ -365,7 +354,7 @@ w30 v c h = (let x = ifun_some (row v c.m.icode) c.m.kind c.m.stat in record { n
 
 w31 : (v : Variant) (c : Fields) → IsWitnessed v c 31
 unfolding may_stand
-w31 v c h = (let x = register_some (row v c.m.icode).dst_e in record { n = x.n; small = x.small; may_be = or_first _ _ x.may_be })
+w31 v c h = (let x = register_some (row v c.m.icode).dst_e in record { n = x.n; small = x.small; may_be = or_left _ _ x.may_be })
 
 w32 : (v : Variant) (c : Fields) → IsWitnessed v c 32
 unfolding may_stand
@@ -373,7 +362,7 @@ w32 v c h = (let x = register_some (row v c.m.icode).dst_m in record { n = x.n; 
 
 w33 : (v : Variant) (c : Fields) → IsWitnessed v c 33
 unfolding may_stand
-w33 v c h = (let x = memory_cnd_some (row v c.m.icode) c.m.kind c.m.ifun c.m.dst_e (row_small v c.m.icode) (λ e. first _ _ (else_true _ _ _ e (h 30 (omega arith)))) (h 31 (omega arith)) in record { n = x.n; small = x.small; may_be = x.may_be })
+w33 v c h = (let x = memory_cnd_some (row v c.m.icode) c.m.kind c.m.ifun c.m.dst_e (row_small v c.m.icode) (λ e. and_first _ _ (else_true _ _ _ e (h 30 (omega arith)))) (h 31 (omega arith)) in record { n = x.n; small = x.small; may_be = x.may_be })
 
 w34 : (v : Variant) (c : Fields) → IsWitnessed v c 34
 unfolding may_stand
@@ -393,7 +382,7 @@ w37 v c h = (let x = icode_some v c.w.kind (λ n. accesses (row v n).memory) c.w
 
 w38 : (v : Variant) (c : Fields) → IsWitnessed v c 38
 unfolding may_stand
-w38 v c h = (let x = register_some (row v c.w.icode).dst_e in record { n = x.n; small = x.small; may_be = or_second _ _ x.may_be })
+w38 v c h = (let x = register_some (row v c.w.icode).dst_e in record { n = x.n; small = x.small; may_be = or_right _ _ x.may_be })
 
 w39 : (v : Variant) (c : Fields) → IsWitnessed v c 39
 unfolding may_stand

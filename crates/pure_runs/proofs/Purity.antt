@@ -2,7 +2,7 @@
 use Rattle.std.proofs.Common.{◌≡◌, ◌⊎◌, ℕ, ◌+◌, ◌<◌, ◌≤◌, not, Bool, true, false, cond, nat_le, List, Option, Some, None, get_or, length, refl, sym, ap, ◌∙◌, subst, inl, inr, arith}
 use Rattle.std.specs.Prelude.{is_none}
 use Rattle.std.proofs.lemmas.Bool.{cases_lt, leb-true}
-use Rattle.std.proofs.lemmas.Option.{slice_get-get_or}
+use Rattle.std.proofs.lemmas.Option.{slice_get-get_or, same_Some}
 use Rattle.y86_base.specs.Image.{word_at}
 use Rattle.y86_base.specs.declared.parts.Variant.{Variant}
 use Rattle.y86_isa.specs.declared.columns.Row.{Row}
@@ -81,16 +81,10 @@ apart_unless_both v m s inside neither = before (cases_lt m.pc (s.addr + 8))
 
 -- ---- the store of a record is inside memory
 
-same_store : (s t : Store) → Some s ≡ Some t → s ≡ t
-same_store s t e = cc
-
-same_record : (r t : Rec) → Some r ≡ Some t → r ≡ t
-same_record r t e = cc
-
 -- a store that is done, where b says that it is inside
 done : (b : Bool) (address word x : ℕ) (s : Store) → cond (not (is_none (cond b (Some x) None))) (Some (record { addr = address; word = word })) None ≡ Some s →
     (b ≡ true) × (address ≡ s.addr)
-done true address word x s e = (refl, ap (λ (t : Store). t.addr) (same_store (record { addr = address; word = word }) s e))
+done true address word x s e = (refl, ap (λ (t : Store). t.addr) (same_Some (record { addr = address; word = word }) s e))
 done false address word x s e = absurd (cc e)
 
 inside_by : (memory : List ℕ) (address word : ℕ) (reads writes : Bool) (s : Store) →
@@ -126,7 +120,7 @@ recorded r s e =
 record_inside : (v : Variant) (m : Machine) (r : Rec) (s : Store) → Some (record_of m (work v m)) ≡ Some r → r.store ≡ Some s → s.addr + 8 ≤ length m.mem
 record_inside v m r s is has =
     let told = told_from m.pc (work v m) (machine_after m (work v m)).flags in
-    worked_inside v m s (recorded told s (ap (λ (x : Rec). x.store) (same_record (record_of m (work v m)) r is) ∙ has))
+    worked_inside v m s (recorded told s (ap (λ (x : Rec). x.store) (same_Some (record_of m (work v m)) r is) ∙ has))
 
 stored_inside : (v : Variant) (m after : Machine) (o : Option Rec) (r : Rec) (s : Store) → Advances v m after o → o ≡ Some r → r.store ≡ Some s → s.addr + 8 ≤ length m.mem
 stored_inside v m _ _ r s (stays e) is has = absurd (cc is)

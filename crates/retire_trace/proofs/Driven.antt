@@ -1,6 +1,6 @@
 -- One more cycle of a drive, and its ends.
 use Rattle.std.proofs.Common.{◌≡◌, ℕ, zero, suc, ◌+◌, ◌<◌, ◌≤◌, Bool, true, false, List, [], ◌∷◌, ◌++◌, length, map, take, Option, Some, None, Result, Ok, Err, refl, sym, ◌∙◌, ap, subst, arith, add-one, length-append, append_assoc}
-use Rattle.std.proofs.lemmas.List.{append-nil}
+use Rattle.std.proofs.lemmas.List.{append-nil, map-append}
 use Rattle.std.specs.List.{concat}
 use Rattle.std.specs.Option.{option_to_list}
 use Rattle.wb_io.specs.Sinks.{Took, TookPart}
@@ -19,13 +19,9 @@ concat_append : (xs ys : List (List ℕ)) → concat (xs ++ ys) ≡ concat xs ++
 concat_append [] ys = refl
 concat_append (x ∷ xs) ys = ap (λ z. x ++ z) (concat_append xs ys) ∙ sym (append_assoc x (concat xs) (concat ys))
 
-map_append : {A B : Type 0} (f : A → B) (xs ys : List A) → map f (xs ++ ys) ≡ map f xs ++ map f ys
-map_append f [] ys = refl
-map_append f (x ∷ xs) ys = ap (λ z. f x ∷ z) (map_append f xs ys)
-
 pub traced_append : (trace : Bool) (xs ys : List Rec) → traced trace (xs ++ ys) ≡ traced trace xs ++ traced trace ys
 unfolding traced
-traced_append true xs ys = ap concat (map_append trace_line xs ys) ∙ concat_append (map trace_line xs) (map trace_line ys)
+traced_append true xs ys = ap concat (map-append trace_line xs ys) ∙ concat_append (map trace_line xs) (map trace_line ys)
 traced_append false xs ys = refl
 
 pub traced_none : (trace : Bool) → traced trace [] ≡ []

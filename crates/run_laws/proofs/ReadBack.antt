@@ -3,15 +3,13 @@ use Rattle.std.proofs.Common.{◌≡◌, ◌≢◌, ℕ, ◌+◌, ◌<◌, inl, 
 use Rattle.std.proofs.lemmas.Bool.{cases_Bool}
 use Rattle.y86_base.specs.Registers.{register}
 use Rattle.y86_base.specs.declared.parts.Variant.{Variant}
-use Rattle.y86_isa.specs.declared.columns.Field.{Field}
-use Rattle.y86_isa.specs.declared.columns.Field.TheVariants.{Dash, FieldA, FieldB, Stack}
 use Rattle.y86_isa.specs.Machine.{start}
-use Rattle.y86_isa.specs.Blocks.{register_number, destination_e}
 use Rattle.y86_isa.specs.RowTests.{is_dash, has_operand_a}
 use Rattle.y86_isa.specs.Run.{IsImage, IsMachine}
 use Rattle.y86_isa.proofs.Registers.{register-written_back}
 use Rattle.y86_isa.proofs.RowsAgree.{operands_agree}
 use Rattle.y86_isa.proofs.Words.{IsMachine-run_from, IsMachine-start}
+use Rattle.y86_isa.proofs.Columns.{dash_is, none_late}
 use Rattle.run_laws.specs.Instructions.{before, doing, row_of, Live, stops_at}
 use Rattle.run_laws.proofs.Walk.{follows, regs_next, source_a, source_b}
 
@@ -30,12 +28,6 @@ read_after_step v image i s h live on lt =
 
 -- ---- sources and destinations
 
-dash_is : (y : Field) (a b : ℕ) → is_dash y ≡ true → register_number y a b ≡ 15
-dash_is Dash a b h = refl
-dash_is FieldA a b h = cc
-dash_is FieldB a b h = cc
-dash_is Stack a b h = cc
-
 pub source_a_lt : (v : Variant) (image : List ℕ) (i : ℕ) → IsImage image → (doing v image i).src_a ≢ 15 → (doing v image i).src_a < 15
 source_a_lt v image i h ne =
     elim (cases_Bool (is_dash (row_of v image i).src_a)) [
@@ -49,11 +41,6 @@ source_b_lt v image i h ne =
       | inl d ↦ absurd (ne ((follows v image i).src_b ∙ dash_is _ _ _ d))
       | inr n ↦ source_b v image i h n
     ]
-
-pub none_late : (conditional cnd : Bool) (n : ℕ) → n ≡ 15 → destination_e conditional cnd n ≡ 15
-none_late true true n e = e
-none_late true false n e = refl
-none_late false cnd n e = e
 
 -- a row whose ALU has no operands has no destination of valE
 pub dash-from_no_operand : (v : Variant) (image : List ℕ) (i : ℕ) → has_operand_a (row_of v image i).alu_a ≡ false → is_dash (row_of v image i).dst_e ≡ true

@@ -1,6 +1,6 @@
 -- One step of the run, by the work of its instruction.
 use Rattle.std.proofs.Common.{◌≡◌, ℕ, ◌+◌, ◌<◌, inl, inr, Bool, true, false, not, List, refl, sym, ap, ◌∙◌}
-use Rattle.std.proofs.lemmas.Bool.{cases_Bool, false≢true}
+use Rattle.std.proofs.lemmas.Bool.{cases_Bool, false≢true, not-true, not-false}
 use Rattle.y86_base.specs.declared.parts.Stat.{Stat}
 use Rattle.y86_base.specs.declared.parts.Stat.TheVariants.{Bub, Aok, Hlt, Adr, Ins, Pip, Bad}
 use Rattle.y86_base.specs.declared.parts.Variant.{Variant}
@@ -71,21 +71,13 @@ is_aok-is Bad h = cc
 pub live_aok : (v : Variant) (image : List ℕ) (i : ℕ) → Live v image i → (before v image i).stat ≡ Aok
 live_aok v image i h = is_aok-is _ h
 
-pub not_false : (b : Bool) → not b ≡ false → b ≡ true
-not_false true h = refl
-not_false false h = cc
-
-pub not_true : (b : Bool) → not b ≡ true → b ≡ false
-not_true true h = cc
-not_true false h = refl
-
 pub after_is : (v : Variant) (image : List ℕ) (i : ℕ) → Live v image i → stops_at v image i ≡ false →
     before v image (i + 1) ≡ finished (before v image i) (doing v image i)
 unfolding doing
-after_is v image i live h = before_next v image i ∙ advance-goes v (before v image i) live (not_false _ h)
+after_is v image i live h = before_next v image i ∙ advance-goes v (before v image i) live (not-false _ h)
 
 pub live_next : (v : Variant) (image : List ℕ) (i : ℕ) → Live v image i → stops_at v image i ≡ false → Live v image (i + 1)
-live_next v image i live h = ap (λ m. is_aok m.stat) (after_is v image i live h) ∙ not_false _ h
+live_next v image i live h = ap (λ m. is_aok m.stat) (after_is v image i live h) ∙ not-false _ h
 
 pub pc_next : (v : Variant) (image : List ℕ) (i : ℕ) → Live v image i → stops_at v image i ≡ false →
     (before v image (i + 1)).pc ≡ (doing v image i).next_pc
@@ -99,7 +91,7 @@ regs_next v image i live h = ap (λ m. m.regs) (after_is v image i live h)
 pub stopped_is : (v : Variant) (image : List ℕ) (i : ℕ) → Live v image i → stops_at v image i ≡ true →
     before v image (i + 1) ≡ record (before v image i) { stat = (doing v image i).stat }
 unfolding doing
-stopped_is v image i live h = before_next v image i ∙ advance-stops v (before v image i) live (not_true _ h)
+stopped_is v image i live h = before_next v image i ∙ advance-stops v (before v image i) live (not-true _ h)
 
 -- memory and flags, whether it stops or not
 

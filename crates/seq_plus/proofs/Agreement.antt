@@ -5,7 +5,8 @@ use Rattle.std.proofs.lemmas.List.{get_or_append_left}
 use Rattle.std.proofs.lemmas.Option.{slice_get_past, slice_get-get_or, slice_get_within}
 use Rattle.std.specs.List.{AllByRecursion}
 use Rattle.y86_base.specs.declared.parts.Variant.{Variant}
-use Rattle.y86_base.proofs.Booleans.{clash}
+use Rattle.y86_base.proofs.Booleans.{clash, and_second, and_first}
+use Rattle.y86_base.proofs.Numbers.{number_tests, each_number}
 use Rattle.y86_isa.specs.Blocks.{field_a, field_b, condition}
 use Rattle.y86_isa.specs.Table.{row}
 use Rattle.hcl_types.specs.Tables.{defined, inputs, is_defined, term_at, IsBound, IsOrderOf}
@@ -19,6 +20,7 @@ use Rattle.dp_signals.specs.SeqRows.{SeqHardware}
 use Rattle.dp_signals.specs.Tables.{constant_count, constant_rows}
 use Rattle.dp_signals.specs.Values.{bit}
 use Rattle.dp_signals.proofs.Rules.{definition_rule}
+use Rattle.dp_signals.proofs.Bits.{constants_count}
 use Rattle.ctl_atoms.specs.Leaves.{picks}
 use Rattle.ctl_atoms.specs.declared.leaf.Leaf.{Leaf}
 use Rattle.ctl_atoms.specs.Rows.{row_term}
@@ -27,8 +29,8 @@ use Rattle.ctl_formula.specs.Laws.{IsDefinedBy, IsWorthGiven, real, worth}
 use Rattle.ctl_formula.proofs.Solved.{agreement}
 use Rattle.seq_obligations.specs.Obligations.{shared_demand}
 use Rattle.seq_refinement.specs.Cycle.{Agrees}
-use Rattle.seq_refinement.proofs.Agreement.{each_number, number_tests, inputs_of, defines, constant_role, constant_row, leaf_constant, row_there, by_number, no_error, chosen}
-use Rattle.seq_refinement.proofs.Reflected.{first, number_is, second, truth_is}
+use Rattle.seq_refinement.proofs.Agreement.{inputs_of, defines, constant_role, constant_row, leaf_constant, row_there, by_number, no_error, chosen}
+use Rattle.seq_refinement.proofs.Reflected.{number_is, truth_is}
 use Rattle.seq_plus.specs.Cycle.{as_seq, fields_at}
 use Rattle.seq_plus.specs.Fields.{number_of}
 use Rattle.seq_plus.specs.Obligations.{signals}
@@ -57,10 +59,6 @@ nineteen : length (defined plus_rows) ≡ (name.count - name.defined)
 unfolding plus_rows constant_rows plus_state plus_hardware plus_defined
 nineteen = refl
 
-thirty_three : length constants ≡ constant_count
-unfolding constants
-thirty_three = refl
-
 module _ (v : Variant) (terms : List Term) (t : PlusState) (f : ℕ → ℕ) (cv : ℕ → Leaf) (s : PlusSolves v terms t f) (hw : SeqHardware v (at_pc t (f name.pc)) (as_seq v f))
     (h : AreControls plus_rows terms (number_of (fields_at v t f)) (real f) cv) (bound : IsBound plus_rows terms)
     (asked : (i : ℕ) → 1 ≤ i → i ≤ 15 → shared_demand signals i (row v (f name.imem_icode)) (fields_at v t f).line (real f) cv ≡ true) where
@@ -78,7 +76,7 @@ module _ (v : Variant) (terms : List Term) (t : PlusState) (f : ℕ → ℕ) (cv
   constant_agrees n lt =
       let there = number_tests constant_count (λ i. constant_row (slice_get plus_rows i) (get_or constants i 0)) constants_there n lt in
       ap (worth f) (h n ∙ leaf_constant (number_of (fields_at v t f)) n (slice_get plus_rows n) (get_or constants n 0) (value (picks (real f)) cv (row_term plus_rows terms n)) there)
-      ∙ sym (given_word n (omega (arith, lt)) ∙ get_or_append_left constants (t.previous.icode ∷ t.previous.cnd ∷ t.previous.val_m ∷ t.previous.val_c ∷ t.previous.val_p ∷ []) 0 n (omega (arith, lt, thirty_three)))
+      ∙ sym (given_word n (omega (arith, lt)) ∙ get_or_append_left constants (t.previous.icode ∷ t.previous.cnd ∷ t.previous.val_m ∷ t.previous.val_c ∷ t.previous.val_p ∷ []) 0 n (omega (arith, lt, constants_count)))
 
   at_p_icode : Agrees f cv name.pIcode
   unfolding control_rule plus_rows constant_rows plus_state plus_hardware plus_defined plus_given constants rule_of
@@ -159,7 +157,7 @@ module _ (v : Variant) (terms : List Term) (t : PlusState) (f : ℕ → ℕ) (cv
 
   at_cnd : Step name.Cnd
   unfolding Step inputs_of control_rule plus_rows constant_rows plus_state plus_hardware plus_defined
-  at_cnd a = ap (worth f) (h name.Cnd) ∙ sym (hw.Cnd ∙ ap (λ n. bit (condition n t.flags)) (number_is f cv name.ifun _ (second _ _ (ask 1 (omega arith) (omega arith))) a.0))
+  at_cnd a = ap (worth f) (h name.Cnd) ∙ sym (hw.Cnd ∙ ap (λ n. bit (condition n t.flags)) (number_is f cv name.ifun _ (and_second _ _ (ask 1 (omega arith) (omega arith))) a.0))
 
   at_valM : Step name.valM
   unfolding Step inputs_of control_rule plus_rows constant_rows plus_state plus_hardware plus_defined
@@ -168,8 +166,8 @@ module _ (v : Variant) (terms : List Term) (t : PlusState) (f : ℕ → ℕ) (cv
   at_derror : Step name.dmem_error
   unfolding Step inputs_of control_rule plus_rows constant_rows plus_state plus_hardware plus_defined
   at_derror a =
-      let reads = truth_is f cv name.mem_read _ (first _ _ (ask 13 (omega arith) (omega arith))) a.1.0 in
-      let writes = truth_is f cv name.mem_write _ (second _ _ (ask 13 (omega arith) (omega arith))) a.1.1.0 in
+      let reads = truth_is f cv name.mem_read _ (and_first _ _ (ask 13 (omega arith) (omega arith))) a.1.0 in
+      let writes = truth_is f cv name.mem_write _ (and_second _ _ (ask 13 (omega arith) (omega arith))) a.1.1.0 in
       ap (worth f) (h name.dmem_error)
       ∙ chosen _ (f name.dmem_error) (λ n. hw.dmem_error ∙ (rw (reads, writes) refl) ∙ ap bit (no_error _ t.mem (f name.mem_addr) n))
 

@@ -8,6 +8,7 @@ use Rattle.y86_isa.specs.Table.{row}
 use Rattle.hcl_types.specs.declared.term.Term.{Term}
 use Rattle.dp_signals.specs.Tables.{constant_rows}
 use Rattle.y86_base.specs.Words.{set}
+use Rattle.y86_base.proofs.Booleans.{and_second, and_first, implied}
 use Rattle.ctl_atoms.specs.declared.leaf.Leaf.{Leaf}
 use Rattle.ctl_formula.specs.Controls.{AreControls, control_rule}
 use Rattle.ctl_formula.specs.Laws.{real, worth}
@@ -15,7 +16,7 @@ use Rattle.seq_obligations.specs.Fields.{Fields}
 use Rattle.seq_obligations.specs.Obligations.{shared_demand}
 use Rattle.seq_refinement.specs.Cycle.{Agrees}
 use Rattle.seq_refinement.specs.Facts.{FollowsControl}
-use Rattle.seq_refinement.proofs.Reflected.{a_is, address_is, b_is, first, number_is, one_by, second, status_by, truth_is, where_so, word_is}
+use Rattle.seq_refinement.proofs.Reflected.{a_is, address_is, b_is, number_is, one_by, status_by, truth_is, word_is}
 use Rattle.seq_plus.specs.Cycle.{as_seq, fields_at}
 use Rattle.seq_plus.specs.Fields.{number_of}
 use Rattle.seq_plus.specs.Obligations.{signals}
@@ -59,8 +60,8 @@ module _ (v : Variant) (terms : List Term) (t : PlusState) (f : ℕ → ℕ) (cv
 
   pub follows : FollowsControl (row v (f name.imem_icode)) (at_pc t (f name.pc)) (as_seq v f)
   follows = record {
-    icode = number_is f cv name.icode c.icode (first _ _ (ask 1 (omega arith) (omega arith))) (agrees name.icode);
-    ifun = number_is f cv name.ifun c.ifun (second _ _ (ask 1 (omega arith) (omega arith))) (agrees name.ifun);
+    icode = number_is f cv name.icode c.icode (and_first _ _ (ask 1 (omega arith) (omega arith))) (agrees name.icode);
+    ifun = number_is f cv name.ifun c.ifun (and_second _ _ (ask 1 (omega arith) (omega arith))) (agrees name.ifun);
     need_regids = truth_is f cv name.need_regids _ (ask 2 (omega arith) (omega arith)) (agrees name.need_regids);
     need_valC = truth_is f cv name.need_valC _ (ask 3 (omega arith) (omega arith)) (agrees name.need_valC);
     srcA = number_is f cv name.srcA _ (ask 4 (omega arith) (omega arith)) (agrees name.srcA) ∙ (rw (r_a, r_b) refl);
@@ -69,11 +70,11 @@ module _ (v : Variant) (terms : List Term) (t : PlusState) (f : ℕ → ℕ) (cv
     dstM = number_is f cv name.dstM _ (ask 7 (omega arith) (omega arith)) (agrees name.dstM) ∙ (rw (r_a, r_b) refl);
     aluA = λ e. a_is f cv name.aluA name.valA name.valC _ (ask 8 (omega arith) (omega arith)) (agrees name.aluA) e;
     aluB = λ e. b_is f cv name.aluB name.valB _ (ask 9 (omega arith) (omega arith)) (agrees name.aluB) (b_too e);
-    alufun = λ e. number_is f cv name.alufun _ (where_so _ _ (ask 10 (omega arith) (omega arith)) e) (agrees name.alufun);
+    alufun = λ e. number_is f cv name.alufun _ (implied _ _ (ask 10 (omega arith) (omega arith)) e) (agrees name.alufun);
     set_cc = truth_is f cv name.set_cc _ (ask 11 (omega arith) (omega arith)) (agrees name.set_cc);
     mem_addr = λ e. address_is f cv name.mem_addr name.valA name.valE _ (ask 12 (omega arith) (omega arith)) (agrees name.mem_addr) e;
-    mem_read = truth_is f cv name.mem_read _ (first _ _ (ask 13 (omega arith) (omega arith))) (agrees name.mem_read);
-    mem_write = truth_is f cv name.mem_write _ (second _ _ (ask 13 (omega arith) (omega arith))) (agrees name.mem_write);
+    mem_read = truth_is f cv name.mem_read _ (and_first _ _ (ask 13 (omega arith) (omega arith))) (agrees name.mem_read);
+    mem_write = truth_is f cv name.mem_write _ (and_second _ _ (ask 13 (omega arith) (omega arith))) (agrees name.mem_write);
     mem_data = λ e. word_is f cv name.mem_data name.valA name.valP _ (ask 14 (omega arith) (omega arith)) (agrees name.mem_data) e;
     stat = ap stat_of status ∙ status_by (set c.error) (set c.derror) c.icode ∙ (rw derror refl);
     new_pc = λ e. refl;

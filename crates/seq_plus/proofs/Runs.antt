@@ -1,6 +1,6 @@
 -- Where the obligations hold of a file, its runs are runs of instructions: the solved pc is the PC of the run.
-use Rattle.std.proofs.Common.{◌≡◌, ℕ, zero, suc, ◌<◌, ◌≤◌, inl, inr, Bool, true, false, not, ◌&&◌, ◌||◌, ◌==◌, cond, List, ◌++◌, length, Option, Some, refl, sym, ◌∙◌, ap, subst, add-one, arith}
-use Rattle.std.proofs.lemmas.Bool.{eqb-true, lt-ltb, ne_eqb, eq-eqb}
+use Rattle.std.proofs.Common.{◌≡◌, ℕ, zero, suc, ◌<◌, ◌≤◌, inl, inr, Bool, true, false, not, ◌||◌, ◌==◌, cond, List, ◌++◌, length, Option, Some, refl, sym, ◌∙◌, ap, subst, add-one, arith}
+use Rattle.std.proofs.lemmas.Bool.{eqb-true, lt-ltb, ne_eqb, eq-eqb, and_from}
 use Rattle.std.specs.Option.{option_to_list}
 use Rattle.y86_base.specs.declared.parts.Variant.{Variant}
 use Rattle.y86_base.specs.declared.parts.Variant.TheVariants.{Base, Full}
@@ -14,16 +14,16 @@ use Rattle.y86_isa.specs.Table.{row, rows}
 use Rattle.y86_isa.specs.Work.{work}
 use Rattle.y86_isa.specs.declared.columns.Next.{Next}
 use Rattle.y86_isa.specs.declared.columns.Next.TheVariants.{Itself, Fall, Branch, Target, Loaded}
-use Rattle.y86_isa.specs.declared.columns.Row.{Row}
 use Rattle.y86_isa.specs.Laws.{IsReading}
 use Rattle.y86_isa.specs.declared.fetch.Reading.{Reading}
 use Rattle.y86_isa.specs.declared.machine.Machine.{Machine}
 use Rattle.y86_isa.specs.declared.machine.Rec.{Rec}
-use Rattle.y86_isa.proofs.Rows.{row-numbered}
+use Rattle.y86_isa.proofs.Rows.{rows_few}
 use Rattle.y86_isa.proofs.RowsAgree.{operands_agree}
 use Rattle.y86_isa.proofs.Runs.{run_from-last, records_from-last, run_from-none, records_from-none}
 use Rattle.y86_isa.proofs.Steps.{IsImage-advance}
-use Rattle.y86_isa.proofs.WhatIsRead.{IsReading-reading}
+use Rattle.y86_isa.proofs.WhatIsRead.{IsReading-reading, nop_known}
+use Rattle.y86_isa.proofs.Columns.{next_at, next_test, is_itself}
 use Rattle.hcl_types.specs.Tables.{IsBound, IsOrderOf}
 use Rattle.hcl_types.specs.declared.term.Term.{Term}
 use Rattle.dp_signals.specs.Equations.{rule_of}
@@ -31,7 +31,8 @@ use Rattle.dp_signals.specs.PipeEquations.{constants}
 use Rattle.dp_signals.specs.SeqCycle.{seq_next, seq_record}
 use Rattle.dp_signals.specs.SeqRows.{SeqHardware}
 use Rattle.y86_base.specs.Words.{set}
-use Rattle.dp_signals.specs.Values.{bit}
+use Rattle.y86_base.proofs.Booleans.{implied}
+use Rattle.dp_signals.proofs.Bits.{bit_lt}
 use Rattle.field_bits.specs.Spots.{InRange}
 use Rattle.ctl_atoms.specs.declared.leaf.Leaf.{Leaf}
 use Rattle.ctl_formula.specs.Controls.{AreControls}
@@ -41,7 +42,7 @@ use Rattle.seq_obligations.specs.Obligations.{shared_demand, rule_count}
 use Rattle.seq_refinement.specs.Cycle.{Agrees}
 use Rattle.seq_refinement.specs.Facts.{FollowsControl}
 use Rattle.seq_refinement.proofs.Lines.{fields_allowed, fields_in_range, goes_on}
-use Rattle.seq_refinement.proofs.Reflected.{is_itself, next_is}
+use Rattle.seq_refinement.proofs.Reflected.{next_is}
 use Rattle.seq_refinement.proofs.Signals.{IsWork, signals_are_work}
 use Rattle.seq_refinement.proofs.Steps as steps
 use Rattle.seq_plus.specs.Accepted.{AcceptedPlus, RefinesPlus}
@@ -59,21 +60,7 @@ use Rattle.seq_plus.proofs.Followed.{follows, going}
 use Rattle.seq_plus.proofs.PlusCycles.{record_as_seq, updated}
 use Rattle.seq_plus.proofs.PlusRows.{hardware_rows}
 
-met : (a b : Bool) → (not a || b) ≡ true → a ≡ true → b ≡ true
-met a b h e = grind arith
-
-both : (a b : Bool) → a ≡ true → b ≡ true → (a && b) ≡ true
-both a b h k = grind arith
-
 -- ---- the next PC of the instruction before
-
-next_test : ℕ → Row → Bool
-next_test n r = not (is_itself r.next) || (n == 0)
-
-next_at : (v : Variant) (n : ℕ) → n < length (rows v) → next_test n (row v n) ≡ true
-unfolding next_test
-next_at Base n lt = row-numbered next_test Base refl n lt
-next_at Full n lt = row-numbered next_test Full refl n lt
 
 goes : (v : Variant) (n : ℕ) → 1 ≤ n → n < length (rows v) → is_itself (row v n).next ≡ false
 unfolding next_test
@@ -105,10 +92,6 @@ record Related (v : Variant) (t : PlusState) (q : Machine) : Type 0 where
   within : t.previous.icode < length (rows v)
   small : t.previous.cnd < 2
 
-bit_small : (b : Bool) → bit b < 2
-bit_small true = omega arith
-bit_small false = omega arith
-
 -- what an icode is that is read and goes on
 reads_code : (v : Variant) (n : ℕ) (read : Reading) → IsReading v read → n ≡ read.icode → (n == 15) ≡ false → (n == 0) ≡ false → (1 ≤ n) × (n < length (rows v))
 reads_code v n read h e k l = elim h.known [
@@ -119,10 +102,6 @@ reads_code v n read h e k l = elim h.known [
     positive : (n : ℕ) → (n == 0) ≡ false → 1 ≤ n
     positive zero z = cc
     positive (suc n) z = omega arith
-
-few : (v : Variant) → length (rows v) ≤ 13
-few Base = omega arith
-few Full = omega arith
 
 last : (v : Variant) (m : Machine) (k : ℕ) → run_from v m (suc k) ≡ advance v (run_from v m k)
 last v m k = rw (← add-one k) (run_from-last v m k)
@@ -136,12 +115,8 @@ unfolding row
 begins_pc Base image = refl
 begins_pc Full image = refl
 
-many : (v : Variant) → 1 < length (rows v)
-many Base = omega arith
-many Full = omega arith
-
 begins : (v : Variant) (image : List ℕ) → Related v (plus_start image) (start image)
-begins v image = record { machine = begins_pc v image; from_one = omega arith; within = many v; small = omega arith }
+begins v image = record { machine = begins_pc v image; from_one = omega arith; within = nop_known v; small = omega arith }
 
 module _ (v : Variant) (terms : List Term) (ids : List ℕ) (bound : IsBound plus_rows terms) (o : IsOrderOf plus_rows terms ids) (accepted : AcceptedPlus v terms) where
   -- ---- one cycle
@@ -152,14 +127,14 @@ module _ (v : Variant) (terms : List Term) (ids : List ℕ) (bound : IsBound plu
 
     fits : allowed v (fields_at v t f) ≡ true
     unfolding allowed
-    fits = both _ _ (both _ _ (lt-ltb 0 t.previous.icode (omega (arith, le))) (lt-ltb t.previous.icode (length (rows v)) lt)) (fields_allowed v (at_pc t (f name.pc)) (as_seq v f) g hw)
+    fits = and_from _ _ (and_from _ _ (lt-ltb 0 t.previous.icode (omega (arith, le))) (lt-ltb t.previous.icode (length (rows v)) lt)) (fields_allowed v (at_pc t (f name.pc)) (as_seq v f) g hw)
 
     range : InRange spots (numbers (fields_at v t f))
-    range = (omega (arith, lt, few v), (omega (arith, small), fields_in_range v (at_pc t (f name.pc)) (as_seq v f) g hw))
+    range = (omega (arith, lt, rows_few v), (omega (arith, small), fields_in_range v (at_pc t (f name.pc)) (as_seq v f) g hw))
 
     module _ (cv : ℕ → Leaf) (h : AreControls plus_rows terms (number_of (fields_at v t f)) (real f) cv) where
       demanded : (i : ℕ) → 1 ≤ i → i ≤ rule_count → demand_at v i (fields_at v t f) (real f) cv ≡ true
-      demanded i l k = met _ _ (accepted.holds i (fields_at v t f) (real f) cv l k range h) fits
+      demanded i l k = implied _ _ (accepted.holds i (fields_at v t f) (real f) cv l k range h) fits
 
       asked : (i : ℕ) → 1 ≤ i → i ≤ 15 → shared_demand signals i (row v (f name.imem_icode)) (fields_at v t f).line (real f) cv ≡ true
       unfolding demand_at
@@ -234,7 +209,7 @@ module _ (v : Variant) (terms : List Term) (ids : List ℕ) (bound : IsBound plu
         (λ e.
         let k = stays (eqb-true _ _ e) in
         let c = reads_code v (f name.icode) (reading v t.mem (f name.pc)) (IsReading-reading v t.mem (f name.pc)) (same_code ∙ hw.imem_icode) (rw same_code k.0) (rw same_code k.1) in
-        (c.0, c.1, (rw hw.Cnd (bit_small _))))
+        (c.0, c.1, (rw hw.Cnd (bit_lt _))))
 
   -- ---- the run
 

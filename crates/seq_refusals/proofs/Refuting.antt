@@ -1,7 +1,7 @@
 -- From the decisions on the rules of a sequential datapath to refutations.
 use Rattle.std.proofs.Common.{◌≡◌, ℕ, zero, suc, ◌+◌, ◌-◌, ◌<◌, ◌≤◌, ◌==◌, ◌++◌, inl, inr, ◌⊎◌, Bool, true, false, List, [], ◌∷◌, length, get_or, slice_get, Option, None, Some, refl, sym, ap, ◌∙◌, subst, arith}
 use Rattle.std.proofs.lemmas.Bool.{false≢true, cases_lt}
-use Rattle.std.proofs.lemmas.Option.{slice_get-get_or, slice_get_within}
+use Rattle.std.proofs.lemmas.Option.{slice_get-get_or, slice_get_within, same_Some}
 use Rattle.y86_base.specs.declared.parts.Variant.{Variant}
 use Rattle.nets.specs.Nets.{Gates, truth}
 use Rattle.hcl_types.proofs.Each.{each_both}
@@ -9,13 +9,12 @@ use Rattle.hcl_types.specs.Tables.{IsBound, IsOrderOf}
 use Rattle.hcl_types.specs.declared.term.Term.{Term}
 use Rattle.ctl_atoms.specs.declared.leaf.Atom.{Atom}
 use Rattle.ctl_atoms.specs.Atoms.{AreAtoms}
-use Rattle.ctl_formula.proofs.Rows.{from_some}
+use Rattle.ctl_atoms.proofs.Solved.{atoms_one}
 use Rattle.field_bits.specs.Spots.{total}
 use Rattle.findings.proofs.EachMet.{is_own, none_of}
 use Rattle.control_check.proofs.SeqVerdict as seq_verdict
 use Rattle.decisions.specs.Decisions.{IsAlwaysTrue, IsLeastOf}
 use Rattle.rule_gates.specs.declared.rules.Rule.{Rule}
-use Rattle.seq_obligations.proofs.Designed.{atoms_one}
 use Rattle.seq_obligations.specs.Fields.{fields_of as seq_fields_of}
 use Rattle.seq_obligations.specs.Obligations.{rule_count}
 use Rattle.seq_plus.proofs.PlusVerdict as plus_verdict
@@ -55,7 +54,7 @@ pub failure_first : (net : Gates) (list : List Rule) (failure : Failure) → IsD
 failure_first net list failure d = record { place = d.0; rule = d.1; there = (d.2).there; number = d.3; least = (d.2).least }
 
 pub one_gate : (net : Gates) (x : Rule) → x.gate < length net.gates → AreGatesOf net (x ∷ [])
-one_gate net x lt zero r e = subst (λ (y : Rule). y.gate < length net.gates) (from_some x r e) lt
+one_gate net x lt zero r e = subst (λ (y : Rule). y.gate < length net.gates) (same_Some x r e) lt
 one_gate net x lt (suc k) r e = cc
 
 pub one_true : (net : Gates) (r : Rule) → IsDecision net (r ∷ []) None → IsAlwaysTrue net r.gate
@@ -71,7 +70,7 @@ one_false net list k r failure at d = record {
 }
   where
     only_one : (j : ℕ) (x : Rule) → slice_get (r ∷ []) j ≡ Some x → r ≡ x
-    only_one zero x e = from_some r x e
+    only_one zero x e = same_Some r x e
     only_one (suc j) x e = cc
 
     same : r ≡ d.1
@@ -111,7 +110,7 @@ module _ (which : Datapath) (v : Variant) (terms : List Term) (net : Gates) (lis
   alone k r at = record { atoms = own.atoms; are = own.are; vars = own.vars; count = refl; each = λ j x e. by j x e }
     where
       by : (j : ℕ) (x : Rule) → slice_get (first_of r ∷ []) j ≡ Some x → IsRule (only (questions_of which v) (k + 1)) terms own.atoms net (j + 1) x
-      by zero x e = subst (λ (y : Rule). IsRule (only (questions_of which v) (k + 1)) terms own.atoms net 1 y) (from_some (first_of r) x e)
+      by zero x e = subst (λ (y : Rule). IsRule (only (questions_of which v) (k + 1)) terms own.atoms net 1 y) (same_Some (first_of r) x e)
           (record { number = refl; within = (own.each k r at).within; is = (own.each k r at).is })
       by (suc j) x e = cc
 
@@ -122,7 +121,7 @@ module _ (which : Datapath) (v : Variant) (terms : List Term) (net : Gates) (lis
       λ xs α cv range controls. accepted.holds 1 xs α cv (omega arith) (omega arith) range controls
     where
       by : (j : ℕ) (x : Rule) → slice_get (first_of r ∷ []) j ≡ Some x → IsAlwaysTrue net x.gate
-      by zero x e = subst (λ (y : Rule). IsAlwaysTrue net y.gate) (from_some (first_of r) x e) always
+      by zero x e = subst (λ (y : Rule). IsAlwaysTrue net y.gate) (same_Some (first_of r) x e) always
       by (suc j) x e = cc
 
   holds_at : (i : ℕ) → 1 ≤ i → i ≤ length list → ((r : Rule) → slice_get list (i - 1) ≡ Some r → IsAlwaysTrue net r.gate) → Everywhere which v terms i

@@ -3,8 +3,8 @@ ghost use Rattle.std.specs.Prelude.{◌≡◌, ◌++◌, IfOk, OnOk, codes};
 ghost use Rattle.stage_text.specs.Cycle.{end_line};
 ghost use Rattle.stage_text.specs.Numbers.{number_pair};
 
-use stage_text::{Watched, put, put_end, put_number_pair};
-use y86_base::{Memory, Stat};
+use stage_text::{Watched, put_end, put_number_pair};
+use y86_base::{Memory, Stat, put};
 
 /// Puts the line of a cycle's number.
 pub(crate) fn put_number(out: &mut Vec<u8>, number: u64) -> Result<(), Memory>

@@ -14,6 +14,7 @@ use Rattle.dp_signals.specs.PipeNames as row
 use Rattle.dp_signals.specs.Values.{bit}
 use Rattle.dp_signals.specs.declared.pipe_state.PipeState.{PipeState}
 use Rattle.dp_signals.proofs.PipeRows.{pipe_hardware_rows}
+use Rattle.dp_signals.proofs.Bits.{set_bit}
 use Rattle.stage_text.specs.Changes.{EachCycleTellsChanges, IsOfRegister, after_writes}
 use Rattle.stage_text.specs.Cycle.{told_store, told_writes, written}
 
@@ -59,10 +60,6 @@ some_of n word m other true =
 some_of n word m other false = tt
 
 -- ---- memory
-
-pub set_bit : (b : Bool) → set (bit b) ≡ b
-set_bit true = refl
-set_bit false = refl
 
 is_done : (writes error : Bool) (addr word : ℕ) (store : Store) → ◌≡◌ {A = Option Store} (if writes && not error then Some (record { addr = addr; word = word }) else None) (Some store) →
     (writes ≡ true) × (error ≡ false) × (addr ≡ store.addr)

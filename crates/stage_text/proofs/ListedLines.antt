@@ -4,27 +4,17 @@ use Rattle.std.specs.Prelude.{nat_eq, nat_lt, option_and_then, unwrap_or}
 use Rattle.std.specs.List.{list_all}
 use Rattle.std.specs.Str.Parse.{digits_value}
 use Rattle.std.proofs.lemmas.Bool.Decides.{nat_tests}
-use Rattle.std.proofs.lemmas.Option.{none-some}
+use Rattle.std.proofs.lemmas.Option.{none-some, same_Some}
+use Rattle.std.proofs.lemmas.Bool.{eqb-true, ltb-true}
 use Rattle.y86_base.specs.Text.{after_byte, behind, below_word, is_blank}
 use Rattle.y86_base.proofs.Runs.{after_byte_some, behind-run, run_and_rest, run_passes}
+use Rattle.y86_base.proofs.Numbers.{eqb_self}
 use Rattle.yo_object.specs.Grammar.{digits_in_line}
 use Rattle.yo_object.specs.ObjectText.{Digits}
 use Rattle.assembly_laws.proofs.Grammar.{form_found, form_read}
 use Rattle.stage_text.specs.Listed.{IsBetween, Lists, ListsByForm, address_behind, address_of, comment_of, is_before_bar, some_text, text_at, text_of, without_end}
 use Rattle.stage_text.proofs.Listings.{lists_text}
 use Rattle.stage_text.proofs.Trimmed.{between_is, is_between}
-
-some_is : {A : Type 0} (x y : A) → Some x ≡ Some y → x ≡ y
-some_is x y e = cc
-
-same_number : (n m : ℕ) → nat_eq n m ≡ true → n ≡ m
-same_number n m e = grind (arith, nat_tests)
-
-number_same : (n : ℕ) → nat_eq n n ≡ true
-number_same n = grind (arith, nat_tests)
-
-less : (n m : ℕ) → nat_lt n m ≡ true → n < m
-less n m e = grind (arith, nat_tests)
 
 is_less : (n m : ℕ) → n < m → nat_lt n m ≡ true
 is_less n m h = grind (arith, nat_tests)
@@ -40,14 +30,14 @@ record HasAddress (line : List ℕ) (address : ℕ) : Type 0 where
   bytes : 0 < length pairs
 
 below_is : (n m limit : ℕ) (b : Bool) → nat_lt n limit ≡ b → (if b then Some n else None) ≡ Some m → (n ≡ m) × (n < limit)
-below_is n m limit true is e = (some_is n m e, less n limit is)
+below_is n m limit true is e = (same_Some n m e, ltb-true n limit is)
 below_is n m limit false is e = absurd (none-some m e)
 
 word_is : (n m : ℕ) → below_word n ≡ Some m → (n ≡ m) × (n < 2 ^ 64)
 word_is n m e = below_is n m (2 ^ 64) (nat_lt n (2 ^ 64)) refl e
 
 bytes_are : (count n m : ℕ) (b : Bool) → nat_lt 0 count ≡ b → (if b then below_word n else None) ≡ Some m → (0 < count) × (below_word n ≡ Some m)
-bytes_are count n m true is e = (less 0 count is, e)
+bytes_are count n m true is e = (ltb-true 0 count is, e)
 bytes_are count n m false is e = absurd (none-some m e)
 
 address_from : (line : List ℕ) (address : ℕ) (found : Option Digits) → digits_in_line line ≡ found → option_and_then address_behind found ≡ Some address →
@@ -84,7 +74,7 @@ text_found : (own text : List ℕ) → some_text own ≡ Some text → (own ≡ 
 text_found [] text e = absurd (none-some text e)
 text_found (byte ∷ rest) text e =
     let some : 0 < length (byte ∷ rest) = omega arith in
-    (some_is (byte ∷ rest) text e, subst (λ xs. 0 < length xs) (some_is (byte ∷ rest) text e) some)
+    (same_Some (byte ∷ rest) text e, subst (λ xs. 0 < length xs) (same_Some (byte ∷ rest) text e) some)
 
 text_is : (text : List ℕ) → 0 < length text → some_text text ≡ Some text
 text_is [] some = absurd (omega (arith, some))
@@ -121,7 +111,7 @@ parts_of address None shown text e = absurd (none-some text e)
 parts_of address (Some own) shown text e = by (nat_eq own address) refl e
   where
     by : (b : Bool) → nat_eq own address ≡ b → (if b then shown else None) ≡ Some text → (Some own ≡ Some address) × (shown ≡ Some text)
-    by true is said = (ap (λ n. Some n) (same_number own address is), said)
+    by true is said = (ap (λ n. Some n) (eqb-true own address is), said)
     by false is said = absurd (none-some text said)
 
 text_at_parts : (address : ℕ) (line text : List ℕ) → text_at address line ≡ Some text → (address_of line ≡ Some address) × (some_text (text_of line) ≡ Some text)
@@ -155,5 +145,5 @@ lists_by_form address line text = (
   λ h.
       let own = text_of_is line h.head h.comment text h.bar h.first h.some h.between in
       let found = address_is line h.digits h.pairs address (form_read line h.digits h.pairs h.form) h.number h.word h.bytes in
-      lists_text address address line text found (ap some_text own ∙ text_is text h.some) ∙ ap (λ b. cond b (Some text) None) (number_same address),
+      lists_text address address line text found (ap some_text own ∙ text_is text h.some) ∙ ap (λ b. cond b (Some text) None) (eqb_self address),
 )

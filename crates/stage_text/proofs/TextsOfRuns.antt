@@ -1,23 +1,24 @@
 -- What is fetched is told as the run by instructions ends there.
-use Rattle.std.proofs.Common.{◌≡◌, ◌↔◌, ◌⊎◌, inl, inr, ℕ, ◌<◌, ◌≤◌, Bool, true, false, not, ◌&&◌, ◌==◌, cond, if◌then◌else◌, List, length, nat_le, nat_lt, refl, sym, ap, ◌∙◌, subst, arith}
+use Rattle.std.proofs.Common.{◌≡◌, ◌↔◌, ◌⊎◌, inl, inr, ℕ, ◌<◌, ◌≤◌, Bool, true, false, not, ◌==◌, cond, if◌then◌else◌, List, nat_le, nat_lt, refl, sym, ap, ◌∙◌, subst, arith}
 use Rattle.std.specs.Prelude.{codes}
 use Rattle.std.proofs.lemmas.Bool.Decides.{nat_tests}
+use Rattle.std.proofs.lemmas.Bool.{le-leb, and_from}
 use Rattle.y86_base.specs.Words.{set}
 use Rattle.y86_base.specs.declared.parts.Stat.{Stat}
 use Rattle.y86_base.specs.declared.parts.Stat.TheVariants.{Adr, Aok, Hlt, Ins}
 use Rattle.y86_base.specs.declared.parts.Variant.{Variant}
-use Rattle.y86_base.specs.declared.parts.Variant.TheVariants.{Base, Full}
+use Rattle.y86_base.specs.declared.parts.Variant.TheVariants.{Full}
 use Rattle.y86_isa.specs.Blocks.{fetch_status, fetched as read_at, reading}
 use Rattle.y86_isa.specs.Laws.{IsReading}
 use Rattle.y86_isa.specs.Machine.{is_aok}
 use Rattle.y86_isa.specs.Step.{advance}
-use Rattle.y86_isa.specs.Table.{ihalt, iinvalid, row, rows}
+use Rattle.y86_isa.specs.Table.{ihalt, iinvalid, row}
 use Rattle.y86_isa.specs.Work.{work}
 use Rattle.y86_isa.specs.declared.fetch.Reading.{Reading}
 use Rattle.y86_isa.specs.declared.machine.Machine.{Machine}
 use Rattle.y86_isa.proofs.Effects.{access-from_fault, does_nothing-from_bad}
 use Rattle.y86_isa.proofs.Records.{stat-advance}
-use Rattle.y86_isa.proofs.Rows.{row-widest}
+use Rattle.y86_isa.proofs.Rows.{row-widest, rows_few}
 use Rattle.y86_isa.proofs.WhatIsRead.{IsReading-reading}
 use Rattle.y86_isa.proofs.Works.{FollowsFetch-work, FollowsRow-work}
 use Rattle.hcl_types.specs.declared.term.Term.{Term}
@@ -26,31 +27,21 @@ use Rattle.dp_signals.specs.PipeNames as names
 use Rattle.dp_signals.specs.Values.{bit}
 use Rattle.dp_signals.specs.declared.pipe_state.PipeState.{PipeState}
 use Rattle.dp_signals.proofs.PipeRows.{pipe_hardware_rows}
+use Rattle.dp_signals.proofs.Bits.{set_bit}
 use Rattle.stage_text.specs.Instruction.{instruction, is_valid}
 use Rattle.stage_text.specs.Texts.{FetchesWhatIsRead, IsReadAt, IsTextOfRun, TextsAreOfRuns}
 use Rattle.stage_text.specs.Watch.{fetched}
 use Rattle.stage_text.specs.declared.held.Held.{Held}
 use Rattle.stage_text.specs.declared.watch.Watch.{Watch}
-use Rattle.stage_text.proofs.Changes.{set_bit}
 use Rattle.stage_text.proofs.Texts.{texts_differ}
 
 -- ---- what is read, without an error, is the icode of an invalid instruction or an instruction
 
-count_rows : (v : Variant) → length (rows v) ≤ 13
-count_rows Base = omega arith
-count_rows Full = omega arith
-
 below : (icode n : ℕ) → icode < n → n ≤ 13 → nat_lt icode 13 ≡ true
 below icode n h h' = grind (arith, nat_tests)
 
-at_most : (ifun top : ℕ) → ifun ≤ top → nat_le ifun top ≡ true
-at_most ifun top h = grind (arith, nat_tests)
-
 not_15 : (icode n : ℕ) → icode < n → n ≤ 13 → (icode == 15) ≡ false
 not_15 icode n h h' = grind (arith, nat_tests)
-
-both : (a b : Bool) → a ≡ true → b ≡ true → (a && b) ≡ true
-both a b e e' = rw (e, e') refl
 
 abbrev Kind : ℕ → ℕ → Type 0
 Kind icode ifun = ((is_valid icode ifun ≡ true) × ((icode == 15) ≡ false)) ⊎ ((is_valid icode ifun ≡ false) × ((icode == 15) ≡ true))
@@ -63,9 +54,9 @@ kind v r h =
     elim h.known [
       | inl lt ↦
           inl (
-            both (nat_lt r.icode 13) (nat_le r.ifun (row Full r.icode).ifun_top) (below r.icode _ lt (count_rows v))
-                (at_most r.ifun _ (subst (λ one. r.ifun ≤ one.ifun_top) (row-widest v r.icode lt) h.ifun)),
-            not_15 r.icode _ lt (count_rows v),
+            and_from (nat_lt r.icode 13) (nat_le r.ifun (row Full r.icode).ifun_top) (below r.icode _ lt (rows_few v))
+                (le-leb r.ifun _ (subst (λ one. r.ifun ≤ one.ifun_top) (row-widest v r.icode lt) h.ifun)),
+            not_15 r.icode _ lt (rows_few v),
           )
       | inr none ↦ invalid_kind r.icode r.ifun none.0
     ]

@@ -5,8 +5,8 @@ use Rattle.std.specs.List.{list_all, prefix_len}
 use Rattle.std.proofs.Math.Seq.{drop-append_seam}
 use Rattle.std.proofs.lemmas.List.{length-drop, length-reverse, reverse-append, reverse-reverse, take-append-drop}
 use Rattle.std.proofs.lemmas.List.Sums.{prefix_len-le-length}
+use Rattle.std.proofs.lemmas.Bool.{and_parts}
 use Rattle.y86_base.specs.Text.{begins, behind, is_blank}
-use Rattle.y86_base.proofs.Booleans.{both_true}
 use Rattle.y86_base.proofs.Runs.{behind-run, list_all-append, run_and_rest, run_passes, run_stops}
 use Rattle.stage_text.specs.Listed.{IsBetween, without_end}
 
@@ -33,7 +33,7 @@ one_passes p x e = rw e refl
 all_backward : (p : ℕ → Bool) (xs : List ℕ) → list_all p xs ≡ true → list_all p (reverse xs) ≡ true
 all_backward p [] h = refl
 all_backward p (x ∷ xs) h =
-    let both = both_true (p x) (list_all p xs) h in
+    let both = and_parts (p x) (list_all p xs) h in
     subst (λ ys. list_all p ys ≡ true) (sym (reverse-append (x ∷ []) xs))
     (list_all-append p (reverse xs) (x ∷ []) (all_backward p xs both.1) (one_passes p x both.0))
 

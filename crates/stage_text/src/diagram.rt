@@ -7,10 +7,10 @@ ghost use Rattle.stage_text.specs.Listed.{text_in};
 use crate::held::Held;
 use crate::instruction::put_instruction;
 use crate::listed::{Listing, text_in};
-use crate::numbers::{put, put_address};
+use crate::numbers::put_address;
 use crate::watch::Watch;
 use dp_signals::{Mover, Movers};
-use y86_base::Memory;
+use y86_base::{Memory, put};
 
 /// What the diagram shows of a cycle: what stands in each stage, and of which stages it is thrown away at the end of the cycle.
 #[derive(Clone, Copy, Debug)]

@@ -3,8 +3,8 @@ ghost use Rattle.std.specs.Prelude.{◌≡◌, ◌++◌, [], OnOk, slice_index_o
 ghost use Rattle.stage_text.specs.Instruction as text;
 
 use crate::held::Held;
-use crate::numbers::{put, put_address, put_register, put_signed};
-use y86_base::{Memory, Variant};
+use crate::numbers::{put_address, put_register, put_signed};
+use y86_base::{Memory, Variant, put};
 use y86_isa::{icode_count, row};
 
 /// The operands of an instruction, in the order in which they are written.

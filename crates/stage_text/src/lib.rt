@@ -19,7 +19,7 @@ pub use laws::{
     law_of_changes, law_of_listings, law_of_picks, law_of_rows, law_of_texts, law_of_watching,
 };
 pub use numbers::{
-    put, put_address, put_function_pair, put_number_pair, put_register_pair, put_status_pair,
+    put_address, put_function_pair, put_number_pair, put_register_pair, put_status_pair,
     put_text_pair, put_word_pair,
 };
 pub use picked::source;

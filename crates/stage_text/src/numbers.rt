@@ -3,22 +3,12 @@ ghost use Rattle.std.specs.Prelude.{◌≡◌, ◌++◌, [], OnOk, slice_index_o
 ghost use Rattle.hcl_read.specs.Print.{signed_decimal};
 ghost use Rattle.stage_text.specs.Numbers as text;
 
-use y86_base::{Memory, Numeral, Regs, Stat};
+use y86_base::{Memory, Numeral, Regs, Stat, put};
 
 const NO_REGISTER: u64 = 15;
 
 /// How many functions the ALU has.
 const ALU_FUNCTIONS: u64 = 4;
-
-/// Puts bytes behind a text.
-pub fn put(out: &mut Vec<u8>, bytes: &[u8]) -> Result<(), Memory>
-    ensures { OnOk result (out.new.items ≡ out.old.items ++ bytes.now) }
-{
-    match out.extend_from_slice(bytes) {
-        Ok(()) => Ok(()),
-        Err(_) => Err(Memory),
-    }
-}
 
 /// Puts a word as a signed decimal number.
 #[tactic(auto, unfolding(hcl_read::specs::Print::signed_decimal))]

@@ -6,17 +6,7 @@ ghost use Rattle.verdict_text.specs.Fields.{labelled};
 ghost use Rattle.verdict_text.specs.Views.{IsNear, shown};
 
 use field_bits::FieldPlace;
-use y86_base::{Memory, Numeral};
-
-/// Puts bytes behind a text.
-pub(crate) fn put(out: &mut Vec<u8>, bytes: &[u8]) -> Result<(), Memory>
-    ensures { OnOk result (out.new.items ≡ out.old.items ++ bytes.now) }
-{
-    match out.extend_from_slice(bytes) {
-        Ok(()) => Ok(()),
-        Err(_) => Err(Memory),
-    }
-}
+use y86_base::{Memory, Numeral, put};
 
 /// Puts a word as a signed decimal number.
 #[tactic(auto, unfolding(hcl_read::specs::Print::signed_decimal))]
@@ -42,7 +32,7 @@ fn bit_at(bits: &[bool], i: usize) -> u64
 }
 
 /// The number that some bits of a valuation spell, the most significant one first.
-#[tactic(auto, using(crate::proofs::Loops::number_none, crate::proofs::Loops::number_more, crate::proofs::Loops::number_small))]
+#[tactic(auto, using(field_bits::proofs::Loops::number_none, field_bits::proofs::Loops::number_more, field_bits::proofs::Loops::number_small))]
 fn number(bits: &[bool], first: usize, count: usize) -> u64
     requires few { count ≤ 4 }
     requires near { first ≤ 1000 }

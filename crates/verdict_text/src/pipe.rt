@@ -5,14 +5,14 @@ ghost use Rattle.pipe_fields.specs.Layout.{fields_of};
 ghost use Rattle.verdict_text.specs.PipeLines.{decode_line, digit, digits, execute_line, fetch_line, kind_word, memory_line, pipe_lines, pipe_no, pipe_yes, write_line};
 
 use crate::atoms::put_atoms;
-use crate::numbers::{number_at, put, put_numbers, shown_at};
+use crate::numbers::{number_at, put_numbers, shown_at};
 use ctl_atoms::Atom;
 use hcl_types::Row;
 use nets::Valuation;
 use pipe_fields::{BIT_COUNT, places as place};
 use pipe_motion::Settings;
 use std::alloc::Global;
-use y86_base::{Memory, Numeral};
+use y86_base::{Memory, Numeral, put};
 
 /// The word for what a stage holds.
 fn word_of(kind: u64) -> &'static [u8]

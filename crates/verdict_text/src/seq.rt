@@ -6,13 +6,13 @@ ghost use Rattle.verdict_text.specs.Views.{AreNear};
 ghost use Rattle.verdict_text.specs.SeqLine.{plus_no, previous_line, seq_line, seq_no};
 
 use crate::atoms::put_atoms;
-use crate::numbers::{put, put_numbers, shown_at};
+use crate::numbers::{put_numbers, shown_at};
 use ctl_atoms::Atom;
 use hcl_types::Row;
 use nets::Valuation;
 use seq_obligations::{BIT_COUNT, LINE, Line, P_CND, P_ICODE, PLUS_BIT_COUNT, PLUS_LINE};
 use std::alloc::Global;
-use y86_base::{Memory, Numeral};
+use y86_base::{Memory, Numeral, put};
 
 /// Puts the line S of a valuation, whose fields stand at these places.
 #[tactic(auto, unfolding(crate::specs::SeqLine::seq_line, seq_obligations::specs::Fields::line_at))]

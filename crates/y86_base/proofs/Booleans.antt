@@ -1,13 +1,30 @@
--- What the value of a conjunction or of a disjunction says of its two sides, and that a truth has one value.
-use Rattle.std.proofs.Common.{◌≡◌, Bool, true, false, ◌&&◌, ◌||◌, refl, arith}
+-- Laws of truths that the kit's std doesn't have: the sides of a conjunction, what an implication says, and that a truth has one value.
+use Rattle.std.proofs.Common.{◌≡◌, Bool, true, false, not, ◌&&◌, ◌||◌, refl, arith}
+use Rattle.std.proofs.lemmas.Bool.{and_parts}
 
-pub both_true : (a b : Bool) → (a && b) ≡ true → (a ≡ true) × (b ≡ true)
-both_true true b h = (refl, h)
-both_true false b h = absurd (cc)
+-- a true conjunction has a true left side
+pub and_first : (a b : Bool) → (a && b) ≡ true → a ≡ true
+and_first a b h = (and_parts a b h).0
 
-pub both_false : (a b : Bool) → (a || b) ≡ false → (a ≡ false) × (b ≡ false)
-both_false false b h = (refl, h)
-both_false true b h = absurd (cc)
+-- a true conjunction has a true right side
+pub and_second : (a b : Bool) → (a && b) ≡ true → b ≡ true
+and_second a b h = (and_parts a b h).1
+
+-- a disjunction holds by its right side where its left side doesn't
+pub unless : (a b : Bool) → (a || b) ≡ true → a ≡ false → b ≡ true
+unless false b h e = h
+unless true b h e = cc
+
+-- what an implication says where its premise holds
+pub implied : (a b : Bool) → (not a || b) ≡ true → a ≡ true → b ≡ true
+implied true b h e = h
+implied false b h e = cc
+
+-- what an implication says where its conclusion doesn't hold
+pub not_implied : (a b : Bool) → (not a || b) ≡ true → b ≡ false → a ≡ false
+not_implied true true h e = cc
+not_implied true false h e = cc
+not_implied false b h e = refl
 
 -- a truth that has both values
 pub clash : {P : Type 0} (b : Bool) → b ≡ true → b ≡ false → P

@@ -1,15 +1,18 @@
 -- The definition of a decimal number reads the form in a grammar's words.
-use Rattle.std.proofs.Common.{◌≡◌, ◌↔◌, ℕ, ◌<◌, Bool, true, false, cond, List, [], ◌∷◌, ◌++◌, length, take_while, refl, sym, ap, ◌∙◌, Option, Some, None, arith}
+use Rattle.std.proofs.Common.{◌≡◌, ◌↔◌, ℕ, ◌^◌, ◌<◌, Bool, true, false, cond, List, [], ◌∷◌, ◌++◌, length, take_while, refl, sym, ap, ◌∙◌, Option, Some, None, arith}
 use Rattle.std.specs.Prelude.{unwrap_or, ◌==◌}
 use Rattle.std.specs.List.{list_all}
 use Rattle.std.specs.Str.Parse.{digits_value}
-use Rattle.std.proofs.lemmas.Bool.{eqb-true}
+use Rattle.std.proofs.lemmas.Bool.{eqb-true, lt-ltb, and_parts}
 use Rattle.std.proofs.lemmas.Bool.Decides.{nat_tests}
 use Rattle.y86_base.specs.declared.number.Number.{Number}
 use Rattle.y86_base.specs.Number.{IsDecimal, decimal_at, digits_at, sign_of, unsigned_at}
 use Rattle.y86_base.specs.Text.{begins, behind, below_word, is_decimal}
-use Rattle.y86_base.proofs.Booleans.{both_true}
 use Rattle.y86_base.proofs.Runs.{begins_front, behind-run, run_and_rest, run_passes, run_some, run_stops, take_while-run}
+
+-- a number below 2^64 is its own word
+pub below_word_small : (n : ℕ) → n < 2 ^ 64 → below_word n ≡ Some n
+below_word_small n small = ap (λ b. cond b (Some n) None) (lt-ltb n (2 ^ 64) small)
 
 -- the form behind the sign
 record IsUnsigned (negative : Bool) (text : List ℕ) (number : Number) (rest : List ℕ) : Type 0 where
@@ -88,7 +91,7 @@ digit_no_sign byte h = grind (arith, nat_tests)
 no_sign : (digits rest : List ℕ) → 0 < length digits → list_all is_decimal digits ≡ true → decimal_at (digits ++ rest) ≡ unsigned_at false (digits ++ rest)
 unfolding decimal_at
 no_sign [] rest some each = absurd (omega arith)
-no_sign (x ∷ digits) rest some each = rw (digit_no_sign x (both_true (is_decimal x) (list_all is_decimal digits) each).0) refl
+no_sign (x ∷ digits) rest some each = rw (digit_no_sign x (and_parts (is_decimal x) (list_all is_decimal digits) each).0) refl
 
 signed : (text : List ℕ) → decimal_at (45 ∷ text) ≡ unsigned_at true text
 unfolding decimal_at

@@ -1,4 +1,6 @@
 pub mod Booleans
+pub mod Numbers
+pub mod Lists
 pub mod Lines
 pub mod Places
 pub mod Digits

@@ -1,11 +1,13 @@
 -- What the text of a number says: read back it is the number, and it is as wide as asked.
-use Rattle.std.proofs.Common.{◌≡◌, ⊎_elim, All, [], max, ◌||◌, ℕ, zero, suc, ◌+◌, ◌-◌, ◌*◌, eqb, ◌/◌, ◌%◌, ◌^◌, ◌<◌, ◌≤◌, Bool, true, false, cond, nat_lt, List, ◌∷◌, ◌++◌, length, replicate, slice_get, Some, refl, sym, ap, ◌∙◌, arith, length-append}
+use Rattle.std.proofs.Common.{◌≡◌, ⊎_elim, All, [], max, ◌&&◌, ◌||◌, ℕ, zero, suc, ◌+◌, ◌-◌, ◌*◌, eqb, ◌/◌, ◌%◌, ◌^◌, ◌<◌, ◌≤◌, Bool, true, false, cond, nat_lt, List, ◌∷◌, ◌++◌, length, replicate, slice_get, Some, refl, sym, ap, ◌∙◌, arith, length-append}
 use Rattle.std.proofs.Math.Nat.{div-add-mod, pow-le-pow_left, pow-suc, pow-zero}
 use Rattle.std.proofs.lemmas.Bool.Decides.{eqb_tells, nat_tests}
 use Rattle.std.proofs.lemmas.List.Elements.{All-append, All-cons, All-nil, All-replicate}
 use Rattle.std.proofs.lemmas.Nat.{div_below}
 use Rattle.std.proofs.lemmas.List.{length-replicate}
 use Rattle.std.proofs.lemmas.Fmt.{digits_is_IsNumeral}
+use Rattle.std.specs.Char.{digit_value}
+use Rattle.std.specs.List.{list_all}
 use Rattle.std.specs.Fmt.{digit_glyph, digits, digits_onto}
 use Rattle.std.specs.Str.Parse.{AllDigits, IsNumeral, digits_value, digits_value_after}
 use Rattle.y86_base.specs.Numeral.{numeral}
@@ -129,3 +131,12 @@ numeral_no_wider base least n low small long e =
     length-append (replicate zeros 48) ds ∙ ap (λ k. k + length ds) (length-replicate zeros 48) in
     let none : zeros ≡ 0 = omega arith in
     several base n low small (omega arith) (ap (λ k. slice_get (replicate k 48 ++ ds) 0) (sym none) ∙ e)
+
+-- a byte whose digit's value is below 10 is a decimal digit
+pub digit_is_decimal : (byte : ℕ) → digit_value byte < 10 → is_decimal byte ≡ true
+digit_is_decimal byte h = grind (arith, nat_tests)
+
+-- each digit in the radix 10 is a decimal digit
+pub all_decimal : (digits : List ℕ) → AllDigits 10 digits → list_all is_decimal digits ≡ true
+all_decimal [] h = refl
+all_decimal (byte ∷ bytes) h = ap (λ b. b && list_all is_decimal bytes) (digit_is_decimal byte h.0) ∙ all_decimal bytes h.1

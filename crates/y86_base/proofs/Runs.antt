@@ -3,10 +3,9 @@ use Rattle.std.proofs.Common.{◌≡◌, ◌↔◌, ℕ, suc, ◌+◌, ◌<◌, 
 use Rattle.std.specs.List.{list_all, prefix_len}
 use Rattle.std.proofs.Math.Numerals.{one-add}
 use Rattle.std.proofs.Math.Seq.{drop-append_seam, take-append_seam}
-use Rattle.std.proofs.lemmas.Bool.{eqb-true}
+use Rattle.std.proofs.lemmas.Bool.{eqb-true, and_parts}
 use Rattle.std.proofs.lemmas.List.{take-append-drop}
 use Rattle.y86_base.specs.Text.{IsRun, after_byte, begins, behind}
-use Rattle.y86_base.proofs.Booleans.{both_true}
 
 step_true : (b : Bool) (n : ℕ) → b ≡ true → cond b (1 + n) 0 ≡ suc n
 step_true b n e = rw (e, one-add) refl
@@ -15,7 +14,7 @@ prefix_len-run : (passes : ℕ → Bool) (run text : List ℕ) → list_all pass
 prefix_len-run passes [] [] h stops = refl
 prefix_len-run passes [] (first ∷ rest) h stops = rw stops refl
 prefix_len-run passes (x ∷ run) text h stops =
-    let b = both_true (passes x) (list_all passes run) h in
+    let b = and_parts (passes x) (list_all passes run) h in
     step_true (passes x) _ b.0 ∙ ap suc (prefix_len-run passes run text b.1 stops)
 
 pub behind-run : (passes : ℕ → Bool) (run text : List ℕ) → list_all passes run ≡ true → begins passes text ≡ false → behind passes (run ++ text) ≡ text
@@ -68,7 +67,7 @@ run_some passes (x ∷ text) h = front_some (passes x) passes x text h
 
 pub begins_front : (passes : ℕ → Bool) (front rest : List ℕ) → 0 < length front → list_all passes front ≡ true → begins passes (front ++ rest) ≡ true
 begins_front passes [] rest some each = absurd (omega arith)
-begins_front passes (x ∷ front) rest some each = (both_true (passes x) (list_all passes front) each).0
+begins_front passes (x ∷ front) rest some each = (and_parts (passes x) (list_all passes front) each).0
 
 pub after_byte_some : (byte : ℕ) (text rest : List ℕ) → after_byte byte text ≡ Some rest → text ≡ byte ∷ rest
 after_byte_some byte [] rest h = absurd (cc)
@@ -81,4 +80,4 @@ after_byte_some byte (first ∷ text) rest h = at (eqb first byte) refl h
 pub list_all-append : (passes : ℕ → Bool) (xs ys : List ℕ) → list_all passes xs ≡ true → list_all passes ys ≡ true → list_all passes (xs ++ ys) ≡ true
 list_all-append passes [] ys h k = k
 list_all-append passes (x ∷ xs) ys h k =
-    let b = both_true (passes x) (list_all passes xs) h in rw (b.0, list_all-append passes xs ys b.1 k) refl
+    let b = and_parts (passes x) (list_all passes xs) h in rw (b.0, list_all-append passes xs ys b.1 k) refl

@@ -30,6 +30,6 @@ pub use parts::{Flags, Memory, Stat, Variant};
 pub use registers::{Regs, register_names};
 pub use text::{
     after_blanks, after_byte, first_line, hex_value, is_blank, is_decimal, is_hex, is_letter,
-    is_name_byte, number_in_base, split_decimal, split_hex, split_name,
+    is_name_byte, number_in_base, put, split_decimal, split_hex, split_name,
 };
 pub use words::is_less;

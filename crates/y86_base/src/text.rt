@@ -1,10 +1,22 @@
 //! Bytes and lines of texts.
-ghost use Rattle.std.specs.Prelude.{◌≡◌, ◌<◌, ◌≤◌, ◌+◌, ◌*◌, ℕ, ◌∷◌, [], length, take_while, true, MatchOption, IfSome};
+ghost use Rattle.std.specs.Prelude.{◌≡◌, ◌<◌, ◌≤◌, ◌+◌, ◌*◌, ℕ, ◌∷◌, [], length, take_while, true, MatchOption, IfSome, ◌++◌, OnOk};
 ghost use Rattle.std.specs.Char.{digit_value};
 ghost use Rattle.std.specs.List.{position_or_len, prefix_len};
 ghost use Rattle.std.specs.Option.{option_copied};
 ghost use Rattle.std.specs.Str.Parse.{digits_value};
 ghost use Rattle.y86_base.specs.Text as text;
+
+use crate::parts::Memory;
+
+/// Puts bytes behind a text.
+pub fn put(out: &mut Vec<u8>, bytes: &[u8]) -> Result<(), Memory>
+    ensures { OnOk result (out.new.items ≡ out.old.items ++ bytes.now) }
+{
+    match out.extend_from_slice(bytes) {
+        Ok(()) => Ok(()),
+        Err(_) => Err(Memory),
+    }
+}
 
 /// A space, a tab or a carriage return.
 pub fn is_blank(byte: u8) -> bool
@@ -17,23 +29,21 @@ pub fn is_blank(byte: u8) -> bool
 pub fn is_decimal(byte: u8) -> bool
     ensures { result ≡ text.is_decimal byte }
 {
-    b'0' <= byte && byte <= b'9'
+    byte.is_ascii_digit()
 }
 
 /// A hex digit of either case.
 pub fn is_hex(byte: u8) -> bool
     ensures { result ≡ text.is_hex byte }
 {
-    (b'0' <= byte && byte <= b'9')
-        || (b'a' <= byte && byte <= b'f')
-        || (b'A' <= byte && byte <= b'F')
+    byte.is_ascii_hexdigit()
 }
 
 /// A letter of ASCII.
 pub fn is_letter(byte: u8) -> bool
     ensures { result ≡ text.is_letter byte }
 {
-    (b'a' <= byte && byte <= b'z') || (b'A' <= byte && byte <= b'Z')
+    byte.is_ascii_alphabetic()
 }
 
 /// A byte of a name: a letter, a digit or `_`.

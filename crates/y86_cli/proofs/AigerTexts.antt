@@ -1,8 +1,9 @@
 -- The obligations of a design as an AIGER text, and the counts of the outputs of one, as answers.
-use Rattle.std.proofs.Common.{◌≡◌, inl, inr, ℕ, ◌+◌, ◌<◌, Bool, true, false, not, List, length, get_or, slice_get, Some, refl, sym, ap, ◌∙◌, Result, Err, arith}
+use Rattle.std.proofs.Common.{◌≡◌, inl, inr, ℕ, ◌+◌, ◌<◌, Bool, true, not, List, length, get_or, slice_get, Some, refl, sym, ap, ◌∙◌, Result, Err, arith}
 use Rattle.std.specs.Borrow.{Bor}
 use Rattle.std.proofs.lemmas.List.{length-map}
 use Rattle.std.proofs.lemmas.Option.{slice_get-get_or}
+use Rattle.std.proofs.lemmas.Bool.{not-true}
 use Rattle.pipe_obligations.specs.Rules.{rule_count}
 use Rattle.nets.specs.Nets.{truth}
 use Rattle.aiger_out.specs.declared.fault.AagFault.{AagFault}
@@ -32,10 +33,6 @@ use Rattle.y86_cli.specs.declared.stop.Stop as code
 use Rattle.y86_cli.specs.declared.stop.Stop.TheVariants.{Refused}
 use Rattle.y86_cli.proofs.Does.{refused_says, says_more}
 
-not_true : (b : Bool) → not b ≡ true → b ≡ false
-not_true true e = cc
-not_true false e = refl
-
 module _ (v : Variant) (terms : List Term) (ids : List ℕ) (o : IsOrderOf pipe_rows terms ids) (r : Rules) (h : AreFileRules v terms r) where
   -- a design has one list of atoms
   one_list : h.are_rules.atoms ≡ h.are_settings.atoms
@@ -56,7 +53,7 @@ module _ (v : Variant) (terms : List Term) (ids : List ℕ) (o : IsOrderOf pipe_
   is_false : (i : ℕ) → i < rule_count → (w : List Bool) → not (truth r.net (get_or (gates_of r.list) i 0) w) ≡ true → False (i + 1) w
   is_false i l w e =
       obligation_false v terms ids o r h i (get_or r.list i no_rule) w (rule_there i l)
-      (sym (ap (λ (g : ℕ). truth r.net g w) (gate_is i l)) ∙ not_true (truth r.net (get_or (gates_of r.list) i 0) w) e)
+      (sym (ap (λ (g : ℕ). truth r.net g w) (gate_is i l)) ∙ not-true (truth r.net (get_or (gates_of r.list) i 0) w) e)
 
   is_one : (i : ℕ) → i < rule_count → (w : List Bool) → False (i + 1) w → not (truth r.net (get_or (gates_of r.list) i 0) w) ≡ true
   is_one i l w f = ap not (ap (λ (g : ℕ). truth r.net g w) (gate_is i l) ∙ rule_false v terms ids o r h i (get_or r.list i no_rule) w (rule_there i l) f)

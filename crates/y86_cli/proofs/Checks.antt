@@ -5,7 +5,7 @@ use Rattle.std.specs.Global.{Global}
 use Rattle.ctl_atoms.specs.Atoms.{AreAtoms, IsCtlFault}
 use Rattle.ctl_atoms.specs.declared.fault.CtlFault.TheVariants as fault
 use Rattle.ctl_atoms.specs.declared.leaf.Atom.{Atom}
-use Rattle.ctl_atoms.proofs.Solved.{leaves_exist}
+use Rattle.ctl_atoms.proofs.Solved.{atoms_one}
 use Rattle.control_check.specs.PipeVerdicts as pipe
 use Rattle.dp_signals.specs.PipeTable.{pipe_rows}
 use Rattle.hcl_types.specs.Tables.{IsOrderOf, row_names}
@@ -27,10 +27,6 @@ use Rattle.y86_cli.specs.declared.sequential.Denial.{Denial}
 use Rattle.y86_cli.specs.declared.stop.Refusal.TheVariants.{OfNames}
 use Rattle.y86_cli.specs.declared.stop.Stop as code
 use Rattle.y86_cli.specs.declared.stop.Stop.TheVariants.{Refused}
-
--- a design has one list of atoms
-atoms_one : (rows : List Row) (terms : List Term) (ids : List ℕ) (a b : List Atom) → IsOrderOf rows terms ids → AreAtoms rows terms a → AreAtoms rows terms b → a ≡ b
-atoms_one rows terms ids a b order p q = let leaves = leaves_exist rows terms ids order in p.are leaves.0 leaves.1 ∙ sym (q.are leaves.0 leaves.1)
 
 -- the refusals
 pub mixed : (name why : Bor (List ℕ)) (names : Vec ℕ Global) (rows : List Row) (terms : List Term) (id : ℕ) → IsCtlFault rows terms (fault.Mixed id) → why.now ≡ codes "Mixed" →

@@ -133,7 +133,8 @@ flags-by_work v m live =
 
 -- ---- a column that isn't a dash names a register
 
-number_lt : (field : Field) (ua ub : Bool) (r_a r_b : ℕ) → ((not (is_field_a field) || ua) && (not (is_field_b field) || ub)) ≡ true →
+-- the number that a column with an operand names is a register
+pub number_lt : (field : Field) (ua ub : Bool) (r_a r_b : ℕ) → ((not (is_field_a field) || ua) && (not (is_field_b field) || ub)) ≡ true →
     (ua ≡ true → r_a < 15) → (ub ≡ true → r_b < 15) → is_dash field ≡ false → register_number field r_a r_b < 15
 number_lt Dash ua ub r_a r_b n a b h = cc
 number_lt FieldA true ub r_a r_b n a b h = a refl

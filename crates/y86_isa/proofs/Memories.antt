@@ -11,10 +11,11 @@ use Rattle.y86_isa.specs.declared.machine.Store.{Store}
 use Rattle.y86_isa.specs.Blocks.{stored}
 use Rattle.y86_isa.specs.Run.{IsImage}
 
-abbrev IsByte : ℕ → Type 0
+abbrev pub IsByte : ℕ → Type 0
 IsByte n = n < 256
 
-bytes_of_word : (word : ℕ) → All IsByte (to_le_bytes w64 word)
+-- the bytes of a word are bytes
+pub bytes_of_word : (word : ℕ) → All IsByte (to_le_bytes w64 word)
 bytes_of_word word =
     All-from_recursion IsByte (to_le_bytes w64 word)
     (omega arith, (omega arith, (omega arith, (omega arith, (omega arith, (omega arith, (omega arith, (omega arith, tt))))))))

@@ -58,6 +58,11 @@ row-length v icode = eqb-true _ _ (row-test sized v (all_sized v) refl icode)
 pub ifun_top-le : (v : Variant) (icode : ℕ) → (row v icode).ifun_top ≤ 15
 ifun_top-le v icode = leb-true _ _ (row-test small_ifun v (all_small v) refl icode)
 
+-- at most 13 instructions have a row
+pub rows_few : (v : Variant) → length (rows v) ≤ 13
+rows_few Base = omega arith
+rows_few Full = omega arith
+
 -- ---- tests that know the icode
 
 abbrev pub all_from : (ℕ → Row → Bool) → ℕ → List Row → Bool

@@ -1,14 +1,14 @@
 -- Runs and their records: no step, one step more, a machine that has stopped.
-use Rattle.std.proofs.Common.{◌≡◌, ◌≢◌, ℕ, zero, suc, ◌+◌, ◌<◌, ◌≤◌, ◌⊎◌, inl, inr, Bool, true, false, cond, [], ◌++◌, length, Some, None, refl, sym, ap, ◌∙◌, arith, add-one, append_assoc, append-nil, length-append}
+use Rattle.std.proofs.Common.{◌≡◌, ◌≢◌, ℕ, zero, suc, ◌+◌, ◌<◌, ◌≤◌, ◌⊎◌, inl, inr, Bool, true, false, cond, List, [], ◌++◌, length, Some, None, refl, sym, ap, ◌∙◌, arith, add-one, append_assoc, append-nil, length-append}
 use Rattle.std.specs.Option.{option_to_list}
 use Rattle.y86_base.specs.declared.parts.Stat.{Stat}
 use Rattle.y86_base.specs.declared.parts.Stat.TheVariants.{Bub, Aok, Hlt, Adr, Ins, Pip, Bad}
 use Rattle.y86_base.specs.declared.parts.Variant.{Variant}
 use Rattle.y86_isa.specs.declared.machine.Machine.{Machine}
 use Rattle.y86_isa.specs.declared.machine.Rec.{Rec}
-use Rattle.y86_isa.specs.Machine.{is_aok}
+use Rattle.y86_isa.specs.Machine.{is_aok, start}
 use Rattle.y86_isa.specs.Step.{step, advance, retired}
-use Rattle.y86_isa.specs.Run.{run_from, records_from}
+use Rattle.y86_isa.specs.Run.{run, run_from, records, records_from}
 
 -- ---- whether a machine has stopped
 
@@ -127,3 +127,25 @@ stopped-from_few v m (suc n) h =
           rw (more, run_from-more) (stopped-from_few v (advance v m) n (omega arith))
       | inr e ↦ rw (records_from-stopped v m (suc n) e, run_from-none v m) e
     ]
+
+-- ---- a run of instructions that has stopped
+
+-- the machine stays as it is
+pub run_stays : (v : Variant) (image : List ℕ) (r d : ℕ) → is_aok (run v image r).stat ≡ false → run v image (r + d) ≡ run v image r
+run_stays v image r zero off = ap (run v image) (omega arith)
+run_stays v image r (suc d) off =
+    let more : r + suc d ≡ (r + d) + 1 = omega arith in
+    let stays : run v image (r + d) ≡ run v image r = run_stays v image r d off in
+    ap (run v image) more
+    ∙ (run_from-last v (start image) (r + d) ∙ (advance-stopped v (run v image (r + d)) (ap (λ m. is_aok m.stat) stays ∙ off) ∙ stays))
+
+-- and it leaves no record more
+pub records_stay : (v : Variant) (image : List ℕ) (r d : ℕ) → is_aok (run v image r).stat ≡ false → records v image (r + d) ≡ records v image r
+records_stay v image r zero off = ap (records v image) (omega arith)
+records_stay v image r (suc d) off =
+    let more : r + suc d ≡ (r + d) + 1 = omega arith in
+    let stopped : is_aok (run v image (r + d)).stat ≡ false = ap (λ m. is_aok m.stat) (run_stays v image r d off) ∙ off in
+    ap (records v image) more
+    ∙ (records_from-last v (start image) (r + d)
+    ∙ (ap (λ o. records v image (r + d) ++ option_to_list o) (retired-stopped v (run v image (r + d)) stopped)
+    ∙ (append-nil (records v image (r + d)) ∙ records_stay v image r d off)))

@@ -13,7 +13,8 @@ use Rattle.y86_isa.proofs.Readings.{ReadsAs, reads_as}
 use Rattle.y86_isa.proofs.Readings.ReadsAs.{first_outside, bad_first, later_outside, no_register, good}
 use Rattle.y86_isa.proofs.Words.{field_a-le, field_b-le}
 
-nop_known : (v : Variant) → 1 < length (rows v)
+-- a nop has a row
+pub nop_known : (v : Variant) → 1 < length (rows v)
 nop_known Base = omega arith
 nop_known Full = omega arith
 

@@ -1,9 +1,8 @@
 -- The commands that words are, are legal.
 use Rattle.std.proofs.Common.{◌≡◌, ℕ, ◌%◌, Bool, true, false, cond, ◌&&◌, nat_le, nat_eq, List, [], ◌∷◌, get_or, slice_get, unwrap_or, refl, subst, Option, Some, None, option_and_then, lit≤, arith, ◌≤◌}
-use Rattle.std.proofs.lemmas.Bool.{eqb-true, leb-true}
+use Rattle.std.proofs.lemmas.Bool.{eqb-true, leb-true, and_parts}
 use Rattle.std.specs.List.{AllByRecursion}
 use Rattle.std.specs.Option.{option_map, option_to_list}
-use Rattle.y86_base.proofs.Booleans.{both_true}
 use Rattle.y86_base.specs.Image.{IsSize, is_image_size}
 use Rattle.y86_base.specs.declared.parts.Variant.{Variant}
 use Rattle.y86_words.specs.declared.form.Kind.{Kind}
@@ -43,12 +42,12 @@ IsLegalReading neither = Unit {0}
 size_is : (n : ℕ) → is_image_size n ≡ true → IsSize n
 unfolding is_image_size
 size_is n h =
-    let a = both_true (nat_le 64 n && nat_le n 1048576) (nat_eq (n % 8) 0) h in
-    let b = both_true (nat_le 64 n) (nat_le n 1048576) a.0 in
+    let a = and_parts (nat_le 64 n && nat_le n 1048576) (nat_eq (n % 8) 0) h in
+    let b = and_parts (nat_le 64 n) (nat_le n 1048576) a.0 in
     record { least = leb-true 64 n b.0; most = leb-true n 1048576 b.1; whole_words = eqb-true (n % 8) 0 a.1 }
 
 limit_is : (n : ℕ) → is_run_limit n ≡ true → IsRunLimit n
-limit_is n h = let a = both_true (nat_le 1 n) (nat_le n 100000000) h in (leb-true 1 n a.0, leb-true n 100000000 a.1)
+limit_is n h = let a = and_parts (nat_le 1 n) (nat_le n 100000000) h in (leb-true 1 n a.0, leb-true n 100000000 a.1)
 
 option_legal : (o : Option Switch) → IsLegalReading (option_reading o)
 option_legal None = tt
@@ -250,7 +249,7 @@ within_legal least most (Some m) n e = at (nat_le least m && nat_le m most) refl
   where
     at : (b : Bool) → (nat_le least m && nat_le m most) ≡ b → cond b (Some m) None ≡ Some n → (least ≤ n) × (n ≤ most)
     at true passed e =
-        let a = both_true (nat_le least m) (nat_le m most) passed in
+        let a = and_parts (nat_le least m) (nat_le m most) passed in
         let same : m ≡ n = cc (e) in
         let P : ℕ → Type 0 = λ x. (least ≤ x) × (x ≤ most) in subst P same (leb-true least m a.0, leb-true m most a.1)
     at false failed e = absurd (cc (e))

@@ -4,17 +4,15 @@ use Rattle.std.proofs.lemmas.Bool.{and_from, le-leb, lt-ltb, eq-eqb, eqb-true, e
 use Rattle.std.proofs.lemmas.Fmt.{decimal_is_IsNumeral, length-decimal-le}
 use Rattle.std.proofs.lemmas.List.{length-set, get_or-set_same, get_or-set_other}
 use Rattle.std.proofs.lemmas.Str.Parse.{digit_from_value}
-use Rattle.std.specs.Char.{digit_value}
 use Rattle.std.specs.Fmt.{decimal}
-use Rattle.std.specs.List.{list_all}
 use Rattle.std.specs.Option.{option_to_list}
 use Rattle.std.specs.Prelude.{codes}
 use Rattle.std.specs.Str.Parse.{AllDigits}
 use Rattle.y86_base.specs.Image.{IsSize, is_image_size}
-use Rattle.y86_base.specs.Text.{is_decimal}
 use Rattle.y86_base.specs.declared.parts.Variant.{Variant}
 use Rattle.y86_base.specs.declared.parts.Variant.TheVariants.{Base}
 use Rattle.y86_base.specs.declared.parts.Variant.TheVariants as variant
+use Rattle.y86_base.proofs.Numerals.{all_decimal}
 use Rattle.y86_words.specs.declared.option.Switch.{Switch}
 use Rattle.y86_words.specs.declared.option.Switch.TheVariants.{Full, Mem, Limit, Trace, Checked, Cert}
 use Rattle.y86_words.specs.Arguments.{Argument, place, switch, arguments, in_front, index_of, Filled, nothing_filled, all_added, is_option}
@@ -25,19 +23,12 @@ use Rattle.y86_words.proofs.Arguments.{index_below, place_read, switch_read}
 
 -- ---- the words of a legal command are that command
 
-digit_passes : (c : ℕ) → digit_value c < 10 → is_decimal c ≡ true
-digit_passes c h = let within = digit_from_value c h in and_from _ _ (le-leb 48 c within.0) (le-leb c 57 within.1)
-
-digits_pass : (digits : List ℕ) → AllDigits 10 digits → list_all is_decimal digits ≡ true
-digits_pass [] h = refl
-digits_pass (c ∷ digits) h = and_from (is_decimal c) (list_all is_decimal digits) (digit_passes c h.0) (digits_pass digits h.1)
-
 number_of-decimal : (n : ℕ) → n < 2 ^ 64 → number_of (decimal n) ≡ Some n
 number_of-decimal n small =
     let numeral = decimal_is_IsNumeral n small in
     let most : length (decimal n) ≤ 20 = length-decimal-le 20 n (omega arith) (omega arith) small in
     let number : is_number (decimal n) ≡ true =
-    and_from _ _ (and_from _ _ (le-leb 1 (length (decimal n)) numeral.0.0) (le-leb (length (decimal n)) 20 most)) (digits_pass (decimal n) numeral.0.1) in
+    and_from _ _ (and_from _ _ (le-leb 1 (length (decimal n)) numeral.0.0) (le-leb (length (decimal n)) 20 most)) (all_decimal (decimal n) numeral.0.1) in
     rw (number, numeral.1, lt-ltb n (2 ^ 64) small) refl
 
 size_passes : (n : ℕ) → IsSize n → is_image_size n ≡ true

@@ -3,13 +3,12 @@ use Rattle.std.proofs.Common.{◌≡◌, ◌<◌, ap, sym, subst, ◌∙◌, ℕ
 use Rattle.std.specs.Prelude.{nat_lt, nat_le, nat_eq, not, ◌&&◌, ◌||◌, ◌==◌}
 use Rattle.std.specs.List.{list_all, starts_with}
 use Rattle.std.specs.Str.{bytes_eq}
-use Rattle.std.proofs.lemmas.Option.{none-some}
-use Rattle.std.proofs.lemmas.Bool.{false≢true}
+use Rattle.std.proofs.lemmas.Option.{none-some, same_Some}
+use Rattle.std.proofs.lemmas.Bool.{false≢true, ltb-true, and_parts}
 use Rattle.std.proofs.lemmas.Bool.Decides.{nat_tests}
 use Rattle.y86_base.specs.declared.parts.Variant.{Variant}
 use Rattle.y86_base.specs.declared.parts.Variant.TheVariants.{Base, Full}
 use Rattle.y86_base.specs.Text.{is_blank, behind}
-use Rattle.y86_base.proofs.Booleans.{both_true}
 use Rattle.y86_isa.specs.Table.{rows, row}
 use Rattle.y86_isa.specs.Encoding.{NamesRegister, written_top}
 use Rattle.yas_asm.specs.declared.statement.Width.TheVariants.{Eight}
@@ -31,7 +30,7 @@ use Rattle.yas_asm.specs.declared.fault.AsmWhy.{AsmWhy}
 use Rattle.yas_asm.specs.declared.fault.AsmWhy.TheVariants.{BadByte, NumberTooWide}
 use Rattle.yas_asm.specs.Comments.{bad_outside, ends}
 use Rattle.yas_asm.specs.Grammar.{◌>>=◌, instruction, two_registers, immediate, store, load, target, single, operands_as, operands_of, memory, operand, displacement, natural, is_zero, position_at, align_at, position_operand, align_operand, data_operand, directive_operand, instruction_text, statement_from, statement, last_statement, line, label, checked, is_wide, read_line}
-use Rattle.yas_asm.proofs.Parts.{some_is, at_most, below}
+use Rattle.yas_asm.proofs.Parts.{at_most}
 use Rattle.yas_asm.specs.Sound.{IsSound}
 
 -- where a step of a reading gives something, the step before it did
@@ -42,7 +41,7 @@ then_some (Some x) f y e = (x, refl, e)
 module _ {A : Type 0} (test : A → Bool) where
   from_row : (found : Bool) (row : List ℕ × A) (behind : List ℕ) (rest : Option (A × List ℕ)) (x : A × List ℕ) → test row.1 ≡ true
       → (rest ≡ Some x → test x.0 ≡ true) → cond found (Some (row.1, behind)) rest ≡ Some x → test x.0 ≡ true
-  from_row true row behind rest x here later e = subst (λ (y : A × List ℕ). test y.0 ≡ true) (some_is _ _ e) here
+  from_row true row behind rest x here later e = subst (λ (y : A × List ℕ). test y.0 ≡ true) (same_Some _ _ e) here
   from_row false row behind rest x here later e = later e
 
   -- what holds of each meaning of a table holds of the one that is read
@@ -50,25 +49,25 @@ module _ {A : Type 0} (test : A → Bool) where
   unfolding keyword_at
   keyword_at-test [] text x all e = absurd (none-some x e)
   keyword_at-test (row ∷ rows) text x all e =
-      from_row (starts_with nat_eq text row.0) row _ (keyword_at rows text) x (both_true (test row.1) _ all).0
-      (keyword_at-test rows text x (both_true (test row.1) _ all).1) e
+      from_row (starts_with nat_eq text row.0) row _ (keyword_at rows text) x (and_parts (test row.1) _ all).0
+      (keyword_at-test rows text x (and_parts (test row.1) _ all).1) e
 
   from_meaning : (found : Bool) (row : List ℕ × A) (rest : Option A) (x : A) → test row.1 ≡ true
       → (rest ≡ Some x → test x ≡ true) → cond found (Some row.1) rest ≡ Some x → test x ≡ true
-  from_meaning true row rest x here later e = subst (λ (y : A). test y ≡ true) (some_is _ _ e) here
+  from_meaning true row rest x here later e = subst (λ (y : A). test y ≡ true) (same_Some _ _ e) here
   from_meaning false row rest x here later e = later e
 
   pub meaning_of-test : (rows : List (List ℕ × A)) (text : List ℕ) (x : A) → list_all (λ row. test row.1) rows ≡ true → meaning_of rows text ≡ Some x → test x ≡ true
   unfolding meaning_of
   meaning_of-test [] text x all e = absurd (none-some x e)
   meaning_of-test (row ∷ rows) text x all e =
-      from_meaning (bytes_eq text row.0) row (meaning_of rows text) x (both_true (test row.1) _ all).0
-      (meaning_of-test rows text x (both_true (test row.1) _ all).1) e
+      from_meaning (bytes_eq text row.0) row (meaning_of rows text) x (and_parts (test row.1) _ all).0
+      (meaning_of-test rows text x (and_parts (test row.1) _ all).1) e
 
--- a register that is read has a number below 15
+-- a register that is read has a number ltb-true 15
 pub register-below : (bytes : List ℕ) (x : ℕ × List ℕ) → register bytes ≡ Some x → x.0 < 15
 unfolding register register_names
-register-below bytes x e = below _ _ (keyword_at-test (λ n. nat_lt n 15) register_names (behind is_blank bytes) x refl e)
+register-below bytes x e = ltb-true _ _ (keyword_at-test (λ n. nat_lt n 15) register_names (behind is_blank bytes) x refl e)
 
 -- whether a shape has rA, rB, a constant
 abbrev takes_a : Shape → Bool
@@ -136,16 +135,16 @@ sound_with variant operation a b constant e fa fb fc =
     let t3 = same r.uses_a (takes_a operation.shape) in
     let t4 = same r.uses_b (takes_b operation.shape) in
     let t5 = not (takes_const operation.shape) || r.has_const in
-    let e2 = (both_true t1 (t2 && (t3 && (t4 && t5))) e).1 in
-    let e3 = (both_true t2 (t3 && (t4 && t5)) e2).1 in
-    let e4 = (both_true t3 (t4 && t5) e3).1 in
+    let e2 = (and_parts t1 (t2 && (t3 && (t4 && t5))) e).1 in
+    let e3 = (and_parts t2 (t3 && (t4 && t5)) e2).1 in
+    let e4 = (and_parts t3 (t4 && t5) e3).1 in
     λ value w. record {
-      known = below operation.icode (length (rows variant)) (both_true t1 (t2 && (t3 && (t4 && t5))) e).0;
+      known = ltb-true operation.icode (length (rows variant)) (and_parts t1 (t2 && (t3 && (t4 && t5))) e).0;
       fits = record {
-        ifun = at_most operation.ifun (written_top r) (both_true t2 (t3 && (t4 && t5)) e2).0;
-        field_a = subst (λ (u : Bool). NamesRegister u a) (sym (same_is r.uses_a (takes_a operation.shape) (both_true t3 (t4 && t5) e3).0)) fa;
-        field_b = subst (λ (u : Bool). NamesRegister u b) (sym (same_is r.uses_b (takes_b operation.shape) (both_true t4 t5 e4).0)) fb;
-        constant = λ none. no_constant (takes_const operation.shape) r.has_const (value ≡ 0) (both_true t4 t5 e4).1 none (λ f. w (fc f));
+        ifun = at_most operation.ifun (written_top r) (and_parts t2 (t3 && (t4 && t5)) e2).0;
+        field_a = subst (λ (u : Bool). NamesRegister u a) (sym (same_is r.uses_a (takes_a operation.shape) (and_parts t3 (t4 && t5) e3).0)) fa;
+        field_b = subst (λ (u : Bool). NamesRegister u b) (sym (same_is r.uses_b (takes_b operation.shape) (and_parts t4 t5 e4).0)) fb;
+        constant = λ none. no_constant (takes_const operation.shape) r.has_const (value ≡ 0) (and_parts t4 t5 e4).1 none (λ f. w (fc f));
       };
     }
 
@@ -155,7 +154,7 @@ module _ (variant : Variant) where
   Good x = IsSound variant x.0
 
   is_good : (s : Statement) (behind : List ℕ) (x : Statement × List ℕ) → Some (s, behind) ≡ Some x → IsSound variant s → Good x
-  is_good s behind x e h = subst (λ (y : Statement × List ℕ). IsSound variant y.0) (some_is _ _ e) h
+  is_good s behind x e h = subst (λ (y : Statement × List ℕ). IsSound variant y.0) (same_Some _ _ e) h
 
   module _ (operation : Operation) (suit : suits variant operation ≡ true) where
     alone_sound : (bytes : List ℕ) (x : Statement × List ℕ) → shapes.Alone ≡ operation.shape → Some (instruction operation 15 15 (Word 0), bytes) ≡ Some x → Good x
@@ -194,7 +193,7 @@ module _ (variant : Variant) where
         let opened = then_some (sign 40 d.0.1) _ m d.2 in
         let base = then_some (register opened.0) _ m opened.2 in
         let close = then_some (sign 41 base.0.1) _ m base.2 in
-        subst (λ (y : (Operand × ℕ) × List ℕ). y.0.1 < 15) (some_is _ _ close.2) (register-below opened.0 base.0 base.1)
+        subst (λ (y : (Operand × ℕ) × List ℕ). y.0.1 < 15) (same_Some _ _ close.2) (register-below opened.0 base.0 base.1)
 
     store_sound : (bytes : List ℕ) (x : Statement × List ℕ) → shapes.Store ≡ operation.shape → store operation bytes ≡ Some x → Good x
     unfolding store
@@ -285,11 +284,11 @@ module _ (variant : Variant) where
   last_sound bytes s e = by (ends bytes) e
     where
       kept : (b : Bool) (t : Statement) → IsSound variant t → cond b (Some t) None ≡ Some s → IsSound variant s
-      kept true t h e = subst (IsSound variant) (some_is _ _ e) h
+      kept true t h e = subst (IsSound variant) (same_Some _ _ e) h
       kept false t h e = absurd (none-some s e)
 
       by : (b : Bool) → cond b (Some statements.Nothing) (statement variant bytes >>= (λ t. cond (ends t.1) (Some t.0) None)) ≡ Some s → IsSound variant s
-      by true e = subst (IsSound variant) (some_is _ _ e) tt
+      by true e = subst (IsSound variant) (same_Some _ _ e) tt
       by false e =
           let t = then_some (statement variant bytes) (λ t. cond (ends t.1) (Some t.0) None) s e in
           kept (ends t.0.1) t.0.0 (statement_sound bytes t.0 t.1) t.2
@@ -299,7 +298,7 @@ module _ (variant : Variant) where
   unfolding line
   line_sound bytes parsed e =
       let s = then_some (last_statement variant (label bytes).1) _ parsed e in
-      subst (λ (p : Parsed). IsSound variant p.statement) (some_is _ _ s.2) (last_sound (label bytes).1 s.0 s.1)
+      subst (λ (p : Parsed). IsSound variant p.statement) (same_Some _ _ s.2) (last_sound (label bytes).1 s.0 s.1)
 
 -- a line that is read has a sound statement
 abbrev pub IsSoundRead : Variant → Result Parsed AsmWhy → Type 0

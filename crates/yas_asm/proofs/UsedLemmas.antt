@@ -4,7 +4,7 @@ use Rattle.std.specs.Prelude.{nat_eq, ◌||◌}
 use Rattle.std.specs.List.{list_any, range_with_len}
 use Rattle.std.proofs.lemmas.Bool.Decides.{nat_tests}
 use Rattle.std.proofs.lemmas.List.{append-nil, append_assoc}
-use Rattle.y86_base.proofs.Booleans.{both_false}
+use Rattle.std.proofs.lemmas.Bool.{or_parts}
 use Rattle.yas_asm.specs.Assembly.{overlaps}
 
 pub overlaps_none : (used : List ℕ) (address n : ℕ) → n ≡ 0 → overlaps used address n ≡ false
@@ -18,10 +18,10 @@ overlaps_more used address (suc n) h = let m : suc n - 1 ≡ n = omega arith in 
 
 -- a byte that is emitted is at an address that has none, and the bytes behind it too
 pub free_here : (used : List ℕ) (address n : ℕ) → 0 < n → overlaps used address n ≡ false → list_any (nat_eq address) used ≡ false
-free_here used address n h e = (both_false _ _ (sym (overlaps_more used address n h) ∙ e)).0
+free_here used address n h e = (or_parts _ _ (sym (overlaps_more used address n h) ∙ e)).0
 
 free_behind : (used : List ℕ) (address n : ℕ) → 0 < n → overlaps used address n ≡ false → overlaps used (address + 1) (n - 1) ≡ false
-free_behind used address n h e = (both_false _ _ (sym (overlaps_more used address n h) ∙ e)).1
+free_behind used address n h e = (or_parts _ _ (sym (overlaps_more used address n h) ∙ e)).1
 
 has_other : (used : List ℕ) (a b : ℕ) → a < b → list_any (nat_eq b) (used ++ a ∷ []) ≡ list_any (nat_eq b) used
 has_other [] a b h = grind (arith, nat_tests)

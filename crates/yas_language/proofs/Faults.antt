@@ -1,7 +1,7 @@
 -- A line's own faults come exactly where the language says so.
 use Rattle.std.proofs.Common.{◌≡◌, ap, sym, subst, ◌∙◌, ℕ, Bool, true, false, cond, List, Option, Some, None, Result, Ok, Err, refl}
 use Rattle.std.proofs.lemmas.Bool.{false≢true}
-use Rattle.std.proofs.lemmas.Option.{none-some}
+use Rattle.std.proofs.lemmas.Option.{none-some, same_Some}
 use Rattle.y86_base.specs.declared.parts.Variant.{Variant}
 use Rattle.yas_asm.specs.declared.fault.AsmWhy.{AsmWhy}
 use Rattle.yas_asm.specs.declared.fault.AsmWhy.TheVariants.{BadByte, NumberTooWide, Syntax}
@@ -11,7 +11,6 @@ use Rattle.yas_asm.specs.declared.statement.Statement.TheVariants as statements
 use Rattle.yas_asm.specs.declared.statement.Parsed.{Parsed}
 use Rattle.yas_asm.specs.Comments.{bad_outside}
 use Rattle.yas_asm.specs.Grammar.{checked, is_wide, is_wide_operand, line, read_line}
-use Rattle.yas_asm.proofs.Parts.{some_is}
 use Rattle.yas_language.specs.BadBytes.{HasBadByte, IsTooWide}
 use Rattle.yas_language.specs.Language.{AcceptsTheLanguage, IsOkWhere, IsSyntaxWhere, IsTooWideWhere, Says, TellsBadBytes, TellsSyntax, TellsWideNumbers}
 use Rattle.yas_language.proofs.BadBytes.{bad_found, bad_read}
@@ -100,7 +99,7 @@ found_ok variant text parsed _ (fine other h) e = subst (IsOkWhere variant text)
 
 -- a text says one thing at most
 says_one : (variant : Variant) (text : List ℕ) (one other : Parsed) → Says variant text one → Says variant text other → one ≡ other
-says_one variant text one other p q = some_is _ _ (sym ((reads_the_language variant text one).1 p) ∙ (reads_the_language variant text other).1 q)
+says_one variant text one other p q = same_Some _ _ (sym ((reads_the_language variant text one).1 p) ∙ (reads_the_language variant text other).1 q)
 
 told_bad : (variant : Variant) (text : List ℕ) (r : Result Parsed AsmWhy) → Comes variant text r → HasBadByte text → r ≡ Err BadByte
 told_bad variant text _ (bad h) b = refl

@@ -5,7 +5,7 @@ use Rattle.std.specs.Str.{bytes_eq}
 use Rattle.std.proofs.lemmas.Bool.{false≢true}
 use Rattle.std.proofs.lemmas.Bool.Decides.{nat_tests}
 use Rattle.std.proofs.lemmas.List.{append-nil}
-use Rattle.std.proofs.lemmas.Option.{none-some}
+use Rattle.std.proofs.lemmas.Option.{none-some, same_Some}
 use Rattle.std.proofs.lemmas.Slice.Eq.{bytes_eq-Decides}
 use Rattle.y86_base.specs.declared.number.Number.{Number}
 use Rattle.y86_base.specs.declared.parts.Variant.{Variant}
@@ -27,7 +27,6 @@ use Rattle.yas_asm.specs.Grammar.{◌>>=◌}
 use Rattle.yas_asm.specs.Tables.{base_mnemonics, mnemonics}
 use Rattle.yas_asm.specs.Tables as tables
 use Rattle.yas_asm.specs.Tokens as readers
-use Rattle.yas_asm.proofs.Parts.{some_is}
 use Rattle.yas_asm.proofs.SoundGrammar.{then_some}
 use Rattle.yas_language.specs.Tokens.{Token, word, number, register, directive, dollar, comma, left_paren, right_paren, HasTokens, IsEnd, IsNext}
 use Rattle.yas_language.specs.Statements.{value, value_of_parts, most_above, most_below, instruction, IsValue, a_number, a_label, IsOperand, bare, with_dollar, IsMemory, no_displacement, with_displacement, IsMove, IsOperation, IsJump, IsNatural, positive, minus_zero, IsInstruction, IsDirective, IsStatement, mnemonic_first, directive_first}
@@ -67,12 +66,12 @@ value_found width text v rest e ts h = by (readers.number text) (readers.name te
     by : (n : Option (Number × List ℕ)) (w : Option (List ℕ × List ℕ)) → readers.number text ≡ n → readers.name text ≡ w → grammar.operand_from width n w ≡ Some (v, rest)
         → Front text (λ front. IsValue width front v ts)
     by (Some n) w s t e =
-        let same = some_is _ _ e in
+        let same = same_Some _ _ e in
         let v_is : value width n.0 ≡ v = sym (value_is width n.0) ∙ ap (λ (p : Operand × List ℕ). p.0) same in
         let next = subst (λ r. IsNext text (number n.0) r) (ap (λ (p : Operand × List ℕ). p.1) same) (number_found text n.0 n.1 s) in
         (number n.0 ∷ ts, (rest, next, h), subst (λ o. IsValue width (number n.0 ∷ ts) o ts) v_is (a_number n.0 ts))
     by None (Some w) s t e =
-        let same = some_is _ _ e in
+        let same = same_Some _ _ e in
         let next = subst (λ r. IsNext text (word w.0) r) (ap (λ (p : Operand × List ℕ). p.1) same) (word_found text w.0 w.1 t) in
         (word w.0 ∷ ts, (rest, next, h), subst (λ o. IsValue width (word w.0 ∷ ts) o ts) (ap (λ (p : Operand × List ℕ). p.0) same) (a_label w.0 ts))
     by None None s t e = absurd (none-some _ e)
@@ -97,7 +96,7 @@ memory_found text m rest e ts h =
     let left = then_some (readers.sign 40 d.0.1) _ (m, rest) d.2 in
     let b = then_some (tables.register left.0) _ (m, rest) left.2 in
     let right = then_some (readers.sign 41 b.0.1) _ (m, rest) b.2 in
-    let same : ((d.0.0, b.0.0), right.0) ≡ (m, rest) = some_is _ _ right.2 in
+    let same : ((d.0.0, b.0.0), right.0) ≡ (m, rest) = same_Some _ _ right.2 in
     let last : HasTokens right.0 ts = subst (λ r. HasTokens r ts) (sym (ap (λ (p : (Operand × ℕ) × List ℕ). p.1) same)) h in
     let inside : HasTokens d.0.1 (left_paren ∷ register b.0.0 ∷ right_paren ∷ ts) =
     (left.0, sign_found 40 d.0.1 left.0 refl left.1, (b.0.1, register_found left.0 b.0.0 b.0.1 b.1, (right.0, sign_found 41 b.0.1 right.0 refl right.1, last))) in
@@ -107,7 +106,7 @@ memory_found text m rest e ts h =
     by : (b : Bool) (d : Operand × List ℕ) (base : ℕ) → HasTokens d.1 (left_paren ∷ register base ∷ right_paren ∷ ts) → cond b (Some (Word 0, text)) (grammar.operand Eight text) ≡ Some d
         → Front text (λ front. IsMemory front d.0 base ts)
     by true d base h e =
-        let same = some_is _ _ e in
+        let same = same_Some _ _ e in
         subst (λ (p : Operand × List ℕ). HasTokens p.1 (left_paren ∷ register base ∷ right_paren ∷ ts) → Front text (λ front. IsMemory front p.0 base ts)) same
         (λ h. (left_paren ∷ register base ∷ right_paren ∷ ts, h, no_displacement base ts)) h
     by false d base h e =
@@ -230,7 +229,7 @@ row_takes v (row ∷ table) name op all e = by (bytes_eq name row.0) refl (row_t
         → cond b (Some row.1) (meaning_of table name) ≡ Some op → Takes v name op.shape op.icode op.ifun
     by true s later e =
         let own : row.0 ≡ name = sym ((bytes_eq-Decides name row.0).0 s) in
-        subst (λ (o : Operation). Takes v name o.shape o.icode o.ifun) (some_is _ _ e) (subst (λ n. Takes v n row.1.shape row.1.icode row.1.ifun) own all.0)
+        subst (λ (o : Operation). Takes v name o.shape o.icode o.ifun) (same_Some _ _ e) (subst (λ n. Takes v n row.1.shape row.1.icode row.1.ifun) own all.0)
     by false s later e = later e
 
 mnemonic_takes : (v : Variant) (name : List ℕ) (op : Operation) → tables.mnemonic v name ≡ Some op → Takes v name op.shape op.icode op.ifun
@@ -244,7 +243,7 @@ abbrev Last : List ℕ → Statement × List ℕ → (List Token → Statement �
 Last text x P = IsEnd x.1 → Front text (λ front. P front x.0)
 
 take_last : (text : List ℕ) (x y : Statement × List ℕ) (P : List Token → Statement → Type 0) → Some x ≡ Some y → Last text x P → Last text y P
-take_last text x y P e h = subst (λ (z : Statement × List ℕ). Last text z P) (some_is _ _ e) h
+take_last text x y P e h = subst (λ (z : Statement × List ℕ). Last text z P) (same_Some _ _ e) h
 
 shape_found : (v : Variant) (name : List ℕ) (shape : Shape) (op : Operation) (text : List ℕ) (x : Statement × List ℕ) → Takes v name shape op.icode op.ifun
     → grammar.operands_as shape op text ≡ Some x → Last text x (IsInstruction v name)
@@ -318,7 +317,7 @@ natural_found text m rest e =
         → (n : Number) × IsNext text (number n) rest × IsNatural n m
     by n true p s e = absurd (none-some _ e)
     by n false p s e =
-        let same = some_is _ _ e in (
+        let same = same_Some _ _ e in (
           n.0,
           subst (λ r. IsNext text (number n.0) r) (ap (λ (q : Option ℕ × List ℕ). q.1) same) (number_found text n.0 n.1 s),
           subst (IsNatural n.0) (ap (λ (q : Option ℕ × List ℕ). q.0) same) (natural_is n.0 p),

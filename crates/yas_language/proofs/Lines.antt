@@ -1,6 +1,6 @@
 -- A line is read as something exactly where it is a line of the language that says so.
 use Rattle.std.proofs.Common.{◌≡◌, ap, subst, ◌∙◌, ℕ, Bool, true, false, cond, List, [], ◌∷◌, Option, Some, None, refl}
-use Rattle.std.proofs.lemmas.Option.{none-some}
+use Rattle.std.proofs.lemmas.Option.{none-some, same_Some}
 use Rattle.y86_base.specs.declared.parts.Variant.{Variant}
 use Rattle.yas_asm.specs.declared.statement.Statement.{Statement}
 use Rattle.yas_asm.specs.declared.statement.Statement.TheVariants as statements
@@ -9,7 +9,6 @@ use Rattle.yas_asm.specs.Comments.{ends}
 use Rattle.yas_asm.specs.Grammar as grammar
 use Rattle.yas_asm.specs.Grammar.{◌>>=◌}
 use Rattle.yas_asm.specs.Tokens as readers
-use Rattle.yas_asm.proofs.Parts.{some_is}
 use Rattle.yas_asm.proofs.SoundGrammar.{then_some}
 use Rattle.yas_language.specs.Tokens.{Token, word, colon, HasTokens, IsEnd}
 use Rattle.yas_language.specs.Statements.{IsStatement, IsLine, nothing, alone, label, labelled}
@@ -31,12 +30,12 @@ body_found v text s e = by (ends text) refl e
     kept : (x : Statement × List ℕ) (b : Bool) → ends x.1 ≡ b → grammar.statement v text ≡ Some x → cond b (Some x.0) None ≡ Some s → (ts : List Token) × HasTokens text ts × IsBody v ts s
     kept x true p q e =
         let f = statement_found v text x q (end_found x.1 p) in
-        subst (λ s. (ts : List Token) × HasTokens text ts × IsBody v ts s) (some_is _ _ e) (f.0, f.1, full f.0 x.0 f.2)
+        subst (λ s. (ts : List Token) × HasTokens text ts × IsBody v ts s) (same_Some _ _ e) (f.0, f.1, full f.0 x.0 f.2)
     kept x false p q e = absurd (none-some _ e)
 
     by : (b : Bool) → ends text ≡ b → cond b (Some statements.Nothing) (grammar.statement v text >>= (λ x. cond (ends x.1) (Some x.0) None)) ≡ Some s
         → (ts : List Token) × HasTokens text ts × IsBody v ts s
-    by true p e = subst (λ s. (ts : List Token) × HasTokens text ts × IsBody v ts s) (some_is _ _ e) ([], end_found text p, empty)
+    by true p e = subst (λ s. (ts : List Token) × HasTokens text ts × IsBody v ts s) (same_Some _ _ e) ([], end_found text p, empty)
     by false p e = let x = then_some (grammar.statement v text) (λ x. cond (ends x.1) (Some x.0) None) s e in kept x.0 (ends x.0.1) refl x.1 x.2
 
 plain_line : (v : Variant) (ts : List Token) (s : Statement) → IsBody v ts s → IsLine v ts (record { label = None; statement = s })
@@ -51,7 +50,7 @@ line_found : (v : Variant) (text : List ℕ) (parsed : Parsed) → grammar.line 
 unfolding grammar.line grammar.label
 line_found v text parsed e =
     let s = then_some (grammar.last_statement v (grammar.label_from text (readers.name text)).1) _ parsed e in
-    subst (Says v text) (some_is _ _ s.2) (by (readers.name text) refl s.0 (body_found v (grammar.label_from text (readers.name text)).1 s.0 s.1))
+    subst (Says v text) (same_Some _ _ s.2) (by (readers.name text) refl s.0 (body_found v (grammar.label_from text (readers.name text)).1 s.0 s.1))
   where
     at : (name : List ℕ × List ℕ) (o : Option (List ℕ)) → readers.name text ≡ Some name → readers.sign 58 name.1 ≡ o → (s : Statement)
         → ((ts : List Token) × HasTokens (grammar.label_with text name.0 o).1 ts × IsBody v ts s) → Says v text (record { label = (grammar.label_with text name.0 o).0; statement = s })

@@ -3,16 +3,15 @@ use Rattle.std.proofs.Common.{◌≡◌, ◌⊎◌, inl, inr, ap, sym, subst, �
 use Rattle.std.specs.Prelude.{nat_eq, not, ◌&&◌, ◌||◌, ◌==◌, codes}
 use Rattle.std.specs.List.{list_all, starts_with}
 use Rattle.std.specs.Str.Parse.{digits_value}
-use Rattle.std.proofs.lemmas.Bool.{eqb-true, false≢true}
+use Rattle.std.proofs.lemmas.Bool.{eqb-true, false≢true, and_parts}
 use Rattle.std.proofs.lemmas.Bool.Decides.{nat_tests}
-use Rattle.std.proofs.lemmas.Option.{none-some}
+use Rattle.std.proofs.lemmas.Option.{none-some, same_Some}
 use Rattle.std.proofs.Math.Seq.{drop-append_seam}
 use Rattle.y86_base.specs.declared.number.Number.{Number}
 use Rattle.y86_base.specs.Keyword.{keyword_at}
 use Rattle.y86_base.specs.Number.{IsDecimal, decimal_at, digits_at, sign_of}
 use Rattle.y86_base.specs.Registers.{register_names}
 use Rattle.y86_base.specs.Text.{after_byte, begins, behind, below_word, is_blank, is_decimal, is_hex, is_name_byte}
-use Rattle.y86_base.proofs.Booleans.{both_true}
 use Rattle.y86_base.proofs.Decimals.{decimal_found, decimal_read}
 use Rattle.y86_base.proofs.Runs.{after_byte_some, begins_front, behind-run, run_and_rest, run_is, run_passes, run_some, run_stops, take_while-run}
 use Rattle.yas_asm.specs.declared.statement.Directive.{Directive}
@@ -23,7 +22,6 @@ use Rattle.yas_asm.specs.Tables.{directives}
 use Rattle.yas_asm.specs.Tables as tables
 use Rattle.yas_asm.specs.Tokens.{is_hex_number, is_name_start, name_at, number_at}
 use Rattle.yas_asm.specs.Tokens as readers
-use Rattle.yas_asm.proofs.Parts.{some_is}
 use Rattle.yas_language.specs.Tokens.{Token, word, number, register, directive, sign, directive_text, HasRow, IsHex, NoHex, IsToken, IsNext}
 
 -- ---- the first byte of a token
@@ -40,9 +38,9 @@ row_start : {A : Type 0} (first : ℕ) (rows : List (List ℕ × A)) (name : Lis
     → HasRow rows name meaning → begins (λ b. b == first) name ≡ true
 row_start first [] name meaning all h = absurd h
 row_start first (row ∷ rows) name meaning all (inl e) =
-    ap (λ (p : List ℕ × _). begins (λ b. b == first) p.0) (sym e) ∙ (both_true _ (list_all (λ row. begins (λ b. b == first) row.0) rows) all).0
+    ap (λ (p : List ℕ × _). begins (λ b. b == first) p.0) (sym e) ∙ (and_parts _ (list_all (λ row. begins (λ b. b == first) row.0) rows) all).0
 row_start first (row ∷ rows) name meaning all (inr h) =
-    row_start first rows name meaning (both_true (begins (λ b. b == first) row.0) (list_all (λ row. begins (λ b. b == first) row.0) rows) all).1 h
+    row_start first rows name meaning (and_parts (begins (λ b. b == first) row.0) (list_all (λ row. begins (λ b. b == first) row.0) rows) all).1 h
 
 begins_more : (test : ℕ → Bool) (front rest : List ℕ) → begins test front ≡ true → begins test (front ++ rest) ≡ true
 begins_more test [] rest e = absurd (false≢true e)
@@ -56,7 +54,7 @@ token_start (number n) text rest (inr two) = ap (begins (λ b. is_decimal b || b
   where
     some : (digits : List ℕ) → 0 < length digits → list_all is_decimal digits ≡ true → begins (λ b. is_decimal b || b == 45) (digits ++ rest) ≡ true
     some [] lt all = absurd (omega arith)
-    some (x ∷ digits) lt all = ap (λ b. b || (x == 45)) (both_true (is_decimal x) (list_all is_decimal digits) all).0
+    some (x ∷ digits) lt all = ap (λ b. b || (x == 45)) (and_parts (is_decimal x) (list_all is_decimal digits) all).0
 
     by : (negative : Bool) → begins (λ b. is_decimal b || b == 45) (sign_of negative ++ (two.0.digits ++ rest)) ≡ true
     by true = refl
@@ -127,7 +125,7 @@ word_found text name rest e = by (begins is_name_start (behind is_blank text)) r
         → cond {A = Option (List ℕ × List ℕ)} b (Some (take_while is_name_byte (behind is_blank text), behind is_name_byte (behind is_blank text))) None ≡ Some (name, rest)
         → IsNext text (word name) rest
     by true s e =
-        let same = some_is _ _ e in
+        let same = same_Some _ _ e in
         token_next text (word name) rest
         (s, (run_is is_name_byte (behind is_blank text) name rest).0 (ap (λ (p : List ℕ × List ℕ). p.0) same, ap (λ (p : List ℕ × List ℕ). p.1) same))
     by false s e = absurd (none-some _ e)
@@ -188,8 +186,8 @@ starts_apart (x ∷ other) (y ∷ name) rest e = by (nat_eq x y) (starts_apart o
 apart_row : {A : Type 0} (front : List ℕ) (rows : List (List ℕ × A)) (name : List ℕ) (meaning : A) → list_all (λ other. apart front other.0) rows ≡ true → HasRow rows name meaning → apart front name ≡ true
 apart_row front [] name meaning all h = absurd h
 apart_row front (row ∷ rows) name meaning all (inl e) =
-    ap (λ (p : List ℕ × _). apart front p.0) (sym e) ∙ (both_true (apart front row.0) (list_all (λ other. apart front other.0) rows) all).0
-apart_row front (row ∷ rows) name meaning all (inr h) = apart_row front rows name meaning (both_true (apart front row.0) (list_all (λ other. apart front other.0) rows) all).1 h
+    ap (λ (p : List ℕ × _). apart front p.0) (sym e) ∙ (and_parts (apart front row.0) (list_all (λ other. apart front other.0) rows) all).0
+apart_row front (row ∷ rows) name meaning all (inr h) = apart_row front rows name meaning (and_parts (apart front row.0) (list_all (λ other. apart front other.0) rows) all).1 h
 
 keyword_read : {A : Type 0} (rows : List (List ℕ × A)) (name rest : List ℕ) (meaning : A) → all_apart rows ≡ true → HasRow rows name meaning
     → keyword_at rows (name ++ rest) ≡ Some (meaning, rest)
@@ -201,7 +199,7 @@ keyword_read {A} (row ∷ rows) name rest meaning all (inl e) =
     ∙ ap (λ (p : List ℕ × A). Some (p.1, drop (length p.0) (name ++ rest))) e
     ∙ ap (λ (t : List ℕ). Some (meaning, t)) (drop-append_seam name rest)
 keyword_read {A} (row ∷ rows) name rest meaning all (inr h) =
-    let two = both_true (list_all (λ other. apart row.0 other.0) rows) (all_apart rows) all in
+    let two = and_parts (list_all (λ other. apart row.0 other.0) rows) (all_apart rows) all in
     ap (λ b. cond b (Some (row.1, drop (length row.0) (name ++ rest))) (keyword_at rows (name ++ rest))) (starts_apart row.0 name rest (apart_row row.0 rows name meaning two.0 h))
     ∙ keyword_read rows name rest meaning two.1 h
 
@@ -214,7 +212,7 @@ split_front : (front text : List ℕ) → starts_with nat_eq text front ≡ true
 split_front [] text e = refl
 split_front (c ∷ front) [] e = absurd (false≢true e)
 split_front (c ∷ front) (x ∷ text) e =
-    let two = both_true (nat_eq c x) (starts_with nat_eq text front) e in
+    let two = and_parts (nat_eq c x) (starts_with nat_eq text front) e in
     (λ i. sym (eqb-true c x two.0) i ∷ split_front front text two.1 i)
 
 keyword_found : {A : Type 0} (rows : List (List ℕ × A)) (text rest : List ℕ) (meaning : A) → keyword_at rows text ≡ Some (meaning, rest) → IsFoundAt rows text meaning rest
@@ -225,7 +223,7 @@ keyword_found {A} (row ∷ rows) text rest meaning e = by (starts_with nat_eq te
     by : (b : Bool) → starts_with nat_eq text row.0 ≡ b → (keyword_at rows text ≡ Some (meaning, rest) → IsFoundAt rows text meaning rest)
         → cond b (Some (row.1, drop (length row.0) text)) (keyword_at rows text) ≡ Some (meaning, rest) → IsFoundAt (row ∷ rows) text meaning rest
     by true s later e =
-        let same = some_is _ _ e in
+        let same = same_Some _ _ e in
         record {
           name = row.0;
           has = inl (λ i. (row.0, (same i).0));
@@ -323,7 +321,7 @@ number_read text n rest next = by (next_token text (number n) rest next)
 
 hex_found : (text : List ℕ) (n : Number) (rest : List ℕ) → is_hex_number text ≡ true → digits_at false 16 is_hex (drop 2 text) ≡ (n, rest) → IsHex text n rest
 hex_found text n rest h same =
-    let two = both_true (starts_with nat_eq text (codes "0x")) (begins is_hex (drop 2 text)) h in
+    let two = and_parts (starts_with nat_eq text (codes "0x")) (begins is_hex (drop 2 text)) h in
     let rest_is : behind is_hex (drop 2 text) ≡ rest = ap (λ (p : Number × List ℕ). p.1) same in
     record {
       digits = take_while is_hex (drop 2 text);
@@ -341,7 +339,7 @@ number_found text n rest e = by (is_hex_number (behind is_blank text)) refl e
   where
     by : (b : Bool) → is_hex_number (behind is_blank text) ≡ b
         → cond b (Some (digits_at false 16 is_hex (drop 2 (behind is_blank text)))) (decimal_at (behind is_blank text)) ≡ Some (n, rest) → IsNext text (number n) rest
-    by true h e = token_next text (number n) rest (inl (hex_found (behind is_blank text) n rest h (some_is _ _ e)))
+    by true h e = token_next text (number n) rest (inl (hex_found (behind is_blank text) n rest h (same_Some _ _ e)))
     by false h e =
         token_next text (number n) rest (inr (decimal_found (behind is_blank text) n rest e, λ after whole. sym (ap is_hex_number whole) ∙ h))
 

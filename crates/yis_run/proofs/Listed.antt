@@ -4,7 +4,7 @@ use Rattle.std.specs.Prelude.{◌↔◌}
 use Rattle.std.specs.List.{Contains, concat, filter, range_with_len}
 use Rattle.std.specs.List.Sorted.{IsStrictlyIncreasing}
 use Rattle.std.specs.Set.{is_member}
-use Rattle.std.proofs.lemmas.Bool.{and_parts, and_from, eq-eqb, ne_eqb, false≢true, cases_lt, lt-ltb, le-ltb}
+use Rattle.std.proofs.lemmas.Bool.{and_parts, and_from, eq-eqb, ne_eqb, false≢true, cases_lt, lt-ltb, le-ltb, not-true}
 use Rattle.std.proofs.lemmas.Bool.Decides.{Decides-eqb}
 use Rattle.std.proofs.lemmas.Cmp.{nat_eq_equiv}
 use Rattle.std.proofs.lemmas.List.{get_or-replicate}
@@ -47,12 +47,8 @@ contained-from_below n number lt =
     let e : 0 + number ≡ number = omega arith in
     (number, rw (length-range_with_len 0 n) lt, get_or-range_with_len 0 n number number lt ∙ e)
 
-not_true : (b : Bool) → not b ≡ true → b ≡ false
-not_true true h = cc
-not_true false h = refl
-
 differ : (a b : ℕ) → not (a == b) ≡ true → b ≢ a
-differ a b h = λ e. false≢true (sym (not_true (a == b) h) ∙ eq-eqb a b (sym e))
+differ a b h = λ e. false≢true (sym (not-true (a == b) h) ∙ eq-eqb a b (sym e))
 
 differ_test : (a b : ℕ) → b ≢ a → not (a == b) ≡ true
 differ_test a b h = rw (ne_eqb a b (λ e. h (sym e))) refl

@@ -4,21 +4,11 @@ ghost use Rattle.y86_base.specs.Numeral.{numeral};
 ghost use Rattle.yo_object.specs.Printed as definition;
 
 use std::alloc::Global;
-use y86_base::{Memory, Numeral};
+use y86_base::{Memory, Numeral, put};
 use yas_asm::{Line, Listing};
 
 /// As many blanks as stand in front of a line that has no address.
 const BLANKS: [u8; 27] = [b' '; 27];
-
-/// Puts bytes behind a text.
-fn put(text: &mut Vec<u8>, bytes: &[u8]) -> Result<(), Memory>
-    ensures { OnOk result (text.new.items ≡ text.old.items ++ bytes.now) }
-{
-    match text.extend_from_slice(bytes) {
-        Ok(()) => Ok(()),
-        Err(_) => Err(Memory),
-    }
-}
 
 /// Puts blanks behind a text.
 fn put_blanks(text: &mut Vec<u8>, count: usize) -> Result<(), Memory>

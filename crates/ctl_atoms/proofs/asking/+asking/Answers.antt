@@ -1,5 +1,6 @@
 use Rattle.std.proofs.Common.{◌+◌, ◌<◌, ◌∷◌, List, length, drop, map, ap, sym, ◌∙◌}
 use Rattle.std.proofs.lemmas.List.{at_drop_all}
+use Rattle.y86_base.proofs.Lists.{item_is}
 use Rattle.hcl_read.specs.declared.tree.CmpOp.TheVariants.{Eq}
 use Rattle.hcl_types.specs.declared.term.Term.{Term}
 use Rattle.hcl_types.specs.declared.term.TermBranch.{TermBranch}
@@ -9,7 +10,7 @@ use Rattle.ctl_atoms.specs.Plans.{Plan, all_ask, members_ask, branches_ask, pair
 use Rattle.ctl_atoms.specs.Rows.{leaves_at}
 use Rattle.ctl_atoms.specs.Atoms.{added}
 use Rattle.ctl_atoms.proofs.Added.{added_nil, added_append, added_three, added_pair}
-use Rattle.ctl_atoms.proofs.Plans.{item_is, plan_branch, asks_Num, asks_Name, asks_Cmp, asks_In}
+use Rattle.ctl_atoms.proofs.Plans.{plan_branch, asks_Num, asks_Name, asks_Cmp, asks_In}
 use Rattle.ctl_atoms.proofs.asking.+asking.Goals as goal
 
 pub put_asked-returns-in-Num : goal.put_asked-returns-in-Num

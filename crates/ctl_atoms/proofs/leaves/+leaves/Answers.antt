@@ -1,9 +1,10 @@
 use Rattle.std.proofs.Common.{◌+◌, ◌<◌, List, length, drop, map, ap, sym, ◌∙◌}
+use Rattle.y86_base.proofs.Lists.{item_is}
 use Rattle.hcl_types.specs.declared.term.TermBranch.{TermBranch}
 use Rattle.ctl_atoms.specs.declared.leaf.Leaf.{Leaf}
 use Rattle.ctl_atoms.specs.Plans.{joined, plan, branch_plan, case_leaves}
 use Rattle.ctl_atoms.specs.Rows.{leaves_at}
-use Rattle.ctl_atoms.proofs.Plans.{item_is, plan_branch, leaves_step, leaves_stop}
+use Rattle.ctl_atoms.proofs.Plans.{plan_branch, leaves_step, leaves_stop}
 use Rattle.ctl_atoms.proofs.leaves.+leaves.Goals as goal
 
 pub case_leaves-returns-then-is_one : goal.case_leaves-returns-then-is_one

@@ -4,10 +4,10 @@ use Rattle.seq_obligations.specs.Fields.{plus_bit_count}
 use Rattle.seq_plus.specs.PlusTable.{plus_rows}
 use Rattle.seq_plus.proofs.Sound.{plus_sound}
 use Rattle.ctl_atoms.specs.Atoms.{AreAtoms}
+use Rattle.ctl_atoms.proofs.Solved.{atoms_one}
 use Rattle.ctl_formula.specs.Picks.{Covers}
 use Rattle.ctl_formula.specs.Places.{HavePlaces}
 use Rattle.seq_plus.specs.Rules.{ArePlusRules}
-use Rattle.seq_obligations.proofs.Designed.{atoms_one}
 use Rattle.seq_plus.proofs.Designed.{ready_by, places_stand, told_rules}
 use Rattle.seq_plus.proofs.rules.plus_rules.Goals as goal
 

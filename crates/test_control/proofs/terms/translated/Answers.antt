@@ -3,9 +3,10 @@ use Rattle.hcl_types.specs.Tables.{IsSound}
 use Rattle.dp_signals.specs.SeqTable.{seq_rows}
 use Rattle.dp_signals.proofs.Sound.{seq_sound}
 use Rattle.ctl_atoms.specs.Atoms.{AreAtoms}
+use Rattle.ctl_atoms.proofs.Solved.{atoms_one}
 use Rattle.ctl_formula.specs.Picks.{Covers}
 use Rattle.ctl_formula.specs.Places.{HavePlaces}
-use Rattle.seq_obligations.proofs.Designed.{atoms_one, ready_by, places_stand}
+use Rattle.seq_obligations.proofs.Designed.{ready_by, places_stand}
 use Rattle.test_control.proofs.terms.translated.Goals as goal
 
 pub atoms-requires-clause-sound : goal.atoms-requires-clause-sound

@@ -4,6 +4,8 @@ use Rattle.hcl_types.specs.declared.term.Term.{Term, the_lemmas}
 use Rattle.hcl_types.specs.declared.term.TermBranch.{TermBranch}
 use Rattle.hcl_types.specs.declared.term.TermBranch as bs
 use Rattle.std.proofs.lemmas.List.{at_drop_all}
+use Rattle.std.proofs.lemmas.Bool.{and_parts}
+use Rattle.y86_base.proofs.Lists.{item_is}
 use Rattle.ctl_atoms.specs.declared.leaf.Leaf.{Leaf}
 use Rattle.ctl_formula.specs.declared.controls.Pick.{Pick}
 use Rattle.ctl_formula.specs.declared.controls.Entry.TheVariants.{Truth, Picks}
@@ -21,7 +23,7 @@ use Rattle.ctl_formula.proofs.Opened.{open_kept, shows_kept}
 use Rattle.ctl_formula.proofs.Chosen.{picked_kept, taken_kept}
 use Rattle.ctl_formula.proofs.Steps.{and_more, or_more, and_same, or_same}
 use Rattle.ctl_formula.proofs.Inside.{within_more}
-use Rattle.ctl_formula.proofs.Arms.{ready_Cmp, ready_In, holds_bit, both, item_is, item_has, and_end, or_end, case_end, case_shut, case_step, shut, branch_is, branch_ready_is, leaves_step, leaves_one}
+use Rattle.ctl_formula.proofs.Arms.{ready_Cmp, ready_In, holds_bit, item_has, and_end, or_end, case_end, case_shut, case_step, shut, branch_is, branch_ready_is, leaves_step, leaves_one}
 use Rattle.ctl_formula.proofs.scope.Scope.+translation.Goals as goal
 
 pub truth-returns-in-Name-clause-within : goal.truth-returns-in-Name-clause-within
@@ -80,8 +82,8 @@ truth-word-requires-in-Cmp t c =
     let es = c.args.self.now.entries.now in
     let atoms = c.args.self.now.atoms.now in
     let whole = subst (λ (z : Term). IsTrue (ready es atoms z).truth) c.in-Cmp.is c.requires.planned in
-    let parts = both _ _ (subst (λ b. IsTrue b) (ready_Cmp es atoms c.in-Cmp.op c.in-Cmp.x c.in-Cmp.y) whole) in
-    (search (rules, the_lemmas), (open_kept c.in_ok-ps-in-Cmp.ensures.begins c.requires.open, subst (λ (z : Term). IsTrue (ready es atoms z).word) (sym c.get-in-Cmp-2.ensures) (both _ _ parts.1).0))
+    let parts = and_parts _ _ (subst (λ b. IsTrue b) (ready_Cmp es atoms c.in-Cmp.op c.in-Cmp.x c.in-Cmp.y) whole) in
+    (search (rules, the_lemmas), (open_kept c.in_ok-ps-in-Cmp.ensures.begins c.requires.open, subst (λ (z : Term). IsTrue (ready es atoms z).word) (sym c.get-in-Cmp-2.ensures) (and_parts _ _ parts.1).0))
 
 pub truth-compare-requires-clause-left : goal.truth-compare-requires-clause-left
 truth-compare-requires-clause-left t c =
@@ -95,7 +97,7 @@ truth-member_of-requires t c =
     let first = c.in_ok-ps-in-In.ensures in
     let items = c.as_slice-in-In.ensures.value in
     let whole = subst (λ (z : Term). IsTrue (ready es atoms z).truth) c.in-In.is c.requires.planned in
-    let parts = both _ _ (subst (λ b. IsTrue b) (ready_In es atoms c.in-In.x c.in-In.all) whole) in
+    let parts = and_parts _ _ (subst (λ b. IsTrue b) (ready_In es atoms c.in-In.x c.in-In.all) whole) in
     let leaves = ap leaves_of items ∙ (first.leaves ∙ ap (λ (z : Term). (ready es atoms z).leaves) c.get-in-In.ensures) in (
       search (rules, the_lemmas),
       (
@@ -151,7 +153,7 @@ all_of-loop-t-preserved t c =
       begins = begins_more begins later;
       opened = open_kept later c.loop-t.invariant.opened;
       within = c.in_ok-g-2.ensures.made.within;
-      planned = (both _ _ (item_has (λ (ts : List Term). IsTrue (truths (map (ready c.args.self.now.entries.now c.args.self.now.atoms.now) ts))) all i x inside read c.loop-t.invariant.planned)).1;
+      planned = (and_parts _ _ (item_has (λ (ts : List Term). IsTrue (truths (map (ready c.args.self.now.entries.now c.args.self.now.atoms.now) ts))) all i x inside read c.loop-t.invariant.planned)).1;
       is = λ w α cv s.
           and_more _ (truth c.loop-t.b c.loop-t.g w) (leaf_holds α (value (picks α) cv x)) _ _ _
           (c.in_ok-g-2.ensures.made.is w ∙ and_same _ _ _ _ (c.in_ok-x.ensures.begins.same c.loop-t.g w c.loop-t.invariant.within)
@@ -173,7 +175,7 @@ any_of-loop-t-preserved t c =
       begins = begins_more begins later;
       opened = open_kept later c.loop-t.invariant.opened;
       within = c.in_ok-g-2.ensures.made.within;
-      planned = (both _ _ (item_has (λ (ts : List Term). IsTrue (truths (map (ready c.args.self.now.entries.now c.args.self.now.atoms.now) ts))) all i x inside read c.loop-t.invariant.planned)).1;
+      planned = (and_parts _ _ (item_has (λ (ts : List Term). IsTrue (truths (map (ready c.args.self.now.entries.now c.args.self.now.atoms.now) ts))) all i x inside read c.loop-t.invariant.planned)).1;
       is = λ w α cv s.
           or_more _ (truth c.loop-t.b c.loop-t.g w) (leaf_holds α (value (picks α) cv x)) _ _ _
           (c.in_ok-g-2.ensures.made.is w ∙ or_same _ _ _ _ (c.in_ok-x.ensures.begins.same c.loop-t.g w c.loop-t.invariant.within)
@@ -207,7 +209,7 @@ member_of-loop-t-preserved t c =
       opened = open_kept later c.loop-t.invariant.opened;
       within = c.in_ok-g-2.ensures.made.within;
       left = within_more _ _ c.args.ps.now later.more c.loop-t.invariant.left;
-      planned = (both _ _ (item_has (λ (ts : List Term). IsTrue (members c.args.self.now.atoms.now (leaves_of c.args.ps.now) (map (ready c.args.self.now.entries.now c.args.self.now.atoms.now) ts))) all i x inside read c.loop-t.invariant.planned)).1;
+      planned = (and_parts _ _ (item_has (λ (ts : List Term). IsTrue (members c.args.self.now.atoms.now (leaves_of c.args.ps.now) (map (ready c.args.self.now.entries.now c.args.self.now.atoms.now) ts))) all i x inside read c.loop-t.invariant.planned)).1;
       is = λ w α cv z s p.
           let v = value (picks α) cv in
           or_more _ (truth c.loop-t.b c.loop-t.g w) (leaf_cmp α Eq z (v x)) _ _ _
@@ -299,7 +301,7 @@ case_of-loop-branch-preserved t c =
       opened = open_kept e.begins inv.opened;
       within = e.within;
       left = e.gate;
-      planned = (both _ _ (item_has (λ (bs : List TermBranch). IsTrue (branches (map (branch_ready es atoms) bs))) all i br inside read inv.planned)).1;
+      planned = (and_parts _ _ (item_has (λ (bs : List TermBranch). IsTrue (branches (map (branch_ready es atoms) bs))) all i br inside read inv.planned)).1;
       leaves = ap (λ (ls : List Leaf). case_leaves ls (map (branch_ready es atoms) (drop (i + 1) all))) e.leaves
           ∙ (leaves_step (leaves_of c.loop-branch.out.items) (branch_ready es atoms br) (ready es atoms br.guard) (ready es atoms br.value) (map (branch_ready es atoms) (drop (i + 1) all))
           (branch_ready_is es atoms br) (sym (c.is_one.ensures.one es atoms) ∙ c.if-is_one.false)
