@@ -140,8 +140,8 @@ def test_every_faulty_line(y86_tell):
 
 
 def test_object_text(y86_tell):
-    source = y86_tell("fault", "f.yo", files={"f.yo": "  irmovq $1, %rax\n  halt\n"})
-    assert b"assemble it by `yas` first" in source.out and source.status == 5
+    source = y86_tell("fault", "f.yo", files={"f.yo": "# a source\n  irmovq $1, %rax\n  halt\n"})
+    assert source.out.startswith(b"f.yo:2: This is a source") and b"assemble it by `yas` first" in source.out and source.status == 5
     empty = y86_tell("fault", "f.yo", files={"f.yo": "\n"})
     assert b"No line puts a byte anywhere" in empty.out and empty.status == 5
     two = y86_tell("fault", "f.yo", files={"f.yo": "0x000: 30f |\n0x004: 00 |\n0x008 00\n"})

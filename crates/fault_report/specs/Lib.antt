@@ -1,0 +1,2 @@
+pub mod Datapaths
+pub mod Told

@@ -1,5 +1,10 @@
 //! The faults of assembly text, as sentences.
-use crate::asm_rules::{AsmRule, AsmTest, Form, asm_rules};
+ghost use Rattle.std.specs.Prelude.{◌≡◌, true, IfOk, OnOk};
+ghost use Rattle.yas_asm.specs.Assembly.{assembled};
+ghost use Rattle.fault_report.specs.Told.{IsTold, Reports};
+
+use crate::asm_rules::{AsmRule, asm_rules};
+use crate::asm_tests::{AsmTest, Form};
 use crate::facts::{Fault, Related, Report, other_place, part, put};
 use crate::fill::{Words, filled, no_words};
 use crate::hcl_binding::sort_faults;
@@ -379,7 +384,9 @@ fn line_saying<'a>(
     line: &'a [u8],
     why: AsmWhy,
     label: LabelFact<'a>,
-) -> Result<Fault, Memory> {
+) -> Result<Fault, Memory>
+    ensures { IfOk result (λ fault. fault.line ≡ number) }
+{
     let scene = scene_of(variant, line, why);
     let (code, pattern) = first_rule(&scene);
     let words = words_of(&scene, label);
@@ -563,7 +570,10 @@ fn put_lines(
 }
 
 /// Whether a line is among those that are told of.
-fn has_line(faults: &[Fault], line: u64) -> bool {
+#[tactic(auto, using(crate::proofs::Telling::told_at))]
+fn has_line(faults: &[Fault], line: u64) -> bool
+    ensures { result ≡ true → IsTold line faults.now }
+{
     for fault in faults {
         if fault.line == line {
             return true;
@@ -573,6 +583,7 @@ fn has_line(faults: &[Fault], line: u64) -> bool {
 }
 
 /// Tells of the first fault that the assembler tells, unless its line is told of.
+#[tactic(auto, using(crate::proofs::Telling::told_last))]
 fn put_first(
     alloc: Global,
     variant: Variant,
@@ -580,7 +591,9 @@ fn put_first(
     size: u64,
     first: AsmFault,
     out: &mut Vec<Fault>,
-) -> Result<(), Memory> {
+) -> Result<(), Memory>
+    ensures { OnOk result (IsTold first.line out.new.items) }
+{
     if has_line(out.as_slice(), first.line) {
         return Ok(());
     }
@@ -597,6 +610,46 @@ fn put_first(
     )
 }
 
+/// The faults of a source that the assembler refuses for a first one, in the order of their places.
+#[tactic(auto, using(crate::proofs::Telling::told_again))]
+fn all_faults(
+    alloc: Global,
+    variant: Variant,
+    text: &[u8],
+    size: u64,
+    first: AsmFault,
+) -> Result<Vec<Fault>, Memory>
+    ensures { IfOk result (λ faults. IsTold first.line faults.items) }
+{
+    let mut out = Vec::new(alloc);
+    let faults = faulty_lines(alloc, variant, text)?;
+    put_lines(alloc, variant, text, faults.as_slice(), &mut out)?;
+    put_labels(alloc, variant, text, &mut out)?;
+    put_first(alloc, variant, text, size, first, &mut out)?;
+    sort_faults(&mut out)?;
+    Ok(out)
+}
+
+/// The faults of a source, none where it is accepted.
+fn source_faults(
+    alloc: Global,
+    variant: Variant,
+    text: &[u8],
+    size: u64,
+) -> Result<Vec<Fault>, Memory>
+    ensures { IfOk result (λ faults. Reports (assembled variant text.now size) faults.items) }
+{
+    match assemble(alloc, variant, text, size) {
+        Ok(_) => Ok(Vec::new(alloc)),
+        Err(first) => {
+            if first.why == AsmWhy::Memory {
+                return Err(Memory);
+            }
+            all_faults(alloc, variant, text, size, first)
+        }
+    }
+}
+
 /// The faults of a source for a memory of a size: each line that is faulty by itself, each label that is defined twice
 /// or nowhere, and the first line that goes past the memory or puts a byte over another. None: it is accepted.
 pub fn assembly_report(
@@ -604,20 +657,12 @@ pub fn assembly_report(
     variant: Variant,
     text: &[u8],
     size: u64,
-) -> Result<Report, Memory> {
-    let mut out = Vec::new(alloc);
-    if let Err(first) = assemble(alloc, variant, text, size) {
-        if first.why == AsmWhy::Memory {
-            return Err(Memory);
-        }
-        let faults = faulty_lines(alloc, variant, text)?;
-        put_lines(alloc, variant, text, faults.as_slice(), &mut out)?;
-        put_labels(alloc, variant, text, &mut out)?;
-        put_first(alloc, variant, text, size, first, &mut out)?;
-        sort_faults(out.as_mut_slice());
-    }
+) -> Result<Report, Memory>
+    ensures { IfOk result (λ report. Reports (assembled variant text.now size) report.faults) }
+{
+    let faults = source_faults(alloc, variant, text, size)?;
     Ok(Report {
         datapath: None,
-        faults: Items::of(out),
+        faults: Items::of(faults),
     })
 }

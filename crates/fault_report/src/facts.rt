@@ -1,4 +1,7 @@
 //! What is told of a file: its faults, each with its place, its sentence and the facts that the sentence is made of.
+ghost use Rattle.std.specs.Prelude.{◌≡◌, ◌++◌, ◌∷◌, [], OnOk};
+ghost use Rattle.fault_report.specs.Datapaths as spec;
+
 use hcl_read::Text;
 use hcl_types::Table;
 use std::alloc::Global;
@@ -59,7 +62,9 @@ pub struct Report {
 }
 
 /// The name of a datapath.
-pub fn datapath_name(datapath: Datapath) -> &'static [u8] {
+pub fn datapath_name(datapath: Datapath) -> &'static [u8]
+    ensures { result.now ≡ spec.datapath_name datapath }
+{
     match datapath {
         Datapath::Seq => b"SEQ",
         Datapath::SeqPlus => b"SEQ+",
@@ -68,7 +73,9 @@ pub fn datapath_name(datapath: Datapath) -> &'static [u8] {
 }
 
 /// Adds an element to a list.
-pub fn put<T: Drop>(list: &mut Vec<T>, last: T) -> Result<(), Memory> {
+pub fn put<T: Drop>(list: &mut Vec<T>, last: T) -> Result<(), Memory>
+    ensures { OnOk result (list.new.items ≡ list.old.items ++ last ∷ []) }
+{
     match list.push(last) {
         Ok(()) => Ok(()),
         Err(_) => Err(Memory),

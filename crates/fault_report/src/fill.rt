@@ -1,5 +1,6 @@
 //! Sentences with places for words: `~found~` in a pattern stands for what was found, and so on.
-ghost use Rattle.std.specs.Prelude.{◌≤◌, length};
+ghost use Rattle.std.specs.Prelude.{◌≡◌, ◌≤◌, ◌++◌, length, OnOk};
+ghost use Rattle.y86_base.specs.Numeral.{numeral};
 
 use std::alloc::Global;
 use y86_base::{Memory, Numeral};
@@ -71,7 +72,9 @@ pub fn words_about<'a>(
 }
 
 /// Adds bytes to a text.
-pub fn put_bytes(out: &mut Vec<u8>, bytes: &[u8]) -> Result<(), Memory> {
+pub fn put_bytes(out: &mut Vec<u8>, bytes: &[u8]) -> Result<(), Memory>
+    ensures { OnOk result (out.new.items ≡ out.old.items ++ bytes.now) }
+{
     match out.extend_from_slice(bytes) {
         Ok(()) => Ok(()),
         Err(_) => Err(Memory),
@@ -79,7 +82,9 @@ pub fn put_bytes(out: &mut Vec<u8>, bytes: &[u8]) -> Result<(), Memory> {
 }
 
 /// Adds a decimal number to a text.
-pub fn put_decimal(out: &mut Vec<u8>, number: u64) -> Result<(), Memory> {
+pub fn put_decimal(out: &mut Vec<u8>, number: u64) -> Result<(), Memory>
+    ensures { OnOk result (out.new.items ≡ out.old.items ++ numeral 10 1 number) }
+{
     let digits = Numeral::decimal(number);
     put_bytes(out, digits.as_bytes())
 }

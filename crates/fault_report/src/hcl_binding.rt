@@ -1,4 +1,5 @@
 //! The faults of a file that is HCL and no design, as sentences.
+ghost use Rattle.std.specs.List.Sorted.{IsPermutation};
 ghost use Rattle.hcl_types.specs.Tables.{IsSound};
 
 use crate::blame::{Blame, Blamed, first_blame, kind_of_row};
@@ -473,30 +474,13 @@ fn put_missing(
     Ok(())
 }
 
-/// Whether a fault comes behind another in the text.
-fn is_later(one: &Fault, other: &Fault) -> bool {
-    one.line > other.line || (one.line == other.line && one.column > other.column)
-}
-
-/// Whether the fault at a position comes behind that at another.
-fn is_later_at(faults: &[Fault], position: usize, other: usize) -> bool {
-    match faults.get(position) {
-        None => false,
-        Some(one) => match faults.get(other) {
-            None => false,
-            Some(two) => is_later(one, two),
-        },
-    }
-}
-
-/// Puts faults into the order of their places.
-pub fn sort_faults(faults: &mut [Fault]) {
-    for _round in 0..faults.len() {
-        for index in 1..faults.len() {
-            if is_later_at(faults, index - 1, index) {
-                faults.swap(index - 1, index);
-            }
-        }
+/// Puts faults into the order of their places. Faults at one place keep theirs.
+pub fn sort_faults(faults: &mut Vec<Fault>) -> Result<(), Memory>
+    ensures { IsPermutation faults.old.items faults.new.items }
+{
+    match faults.sort_by_key(|fault: &Fault| (fault.line, fault.column)) {
+        Ok(()) => Ok(()),
+        Err(_) => Err(Memory),
     }
 }
 
@@ -522,7 +506,7 @@ pub fn binding_faults(
         faults.as_slice(),
         &mut out,
     )?;
-    sort_faults(out.as_mut_slice());
+    sort_faults(&mut out)?;
     let missing = missing_names(alloc, rows, items.as_slice())?;
     put_missing(alloc, source, missing.as_slice(), &mut out)?;
     Ok(out)

@@ -3,6 +3,7 @@
 #![tactic(auto)]
 
 mod asm_rules;
+mod asm_tests;
 mod assembly;
 mod blame;
 mod facts;
@@ -18,5 +19,5 @@ pub use assembly::assembly_report;
 pub use facts::{Datapath, Fault, Related, Report, Tables, datapath_name};
 pub use fill::{put_bytes, put_decimal};
 pub use hcl::hcl_report;
-pub use object::object_report;
+pub use object::{is_source, object_report};
 pub use show::sentences_of;

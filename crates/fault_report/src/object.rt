@@ -163,22 +163,30 @@ fn has_bytes(text: &[u8]) -> bool {
     false
 }
 
-/// Whether some line is a statement of assembly.
-fn has_statement(text: &[u8]) -> bool {
+/// The number of the first line that is a statement of assembly; 0 where none is.
+fn statement_line(text: &[u8]) -> u64 {
+    let mut number: u64 = 1;
     let mut rest = text;
     'lines: while let Some((line, behind)) = first_line(rest) {
         if let Ok(parsed) = read_line(Variant::Full, line) {
             match parsed.statement {
                 Statement::Nothing => {}
-                _ => return true,
+                _ => return number,
             }
         }
+        number = number.saturating_add(1);
         rest = behind;
     }
-    false
+    0
 }
 
-/// The faults of an object text for a memory of a size: each line with one, or that no line puts a byte. None: it is
+/// Whether a text is a source in place of an object text: no line puts a byte, and one is a statement of assembly.
+pub fn is_source(text: &[u8]) -> bool {
+    !has_bytes(text) && statement_line(text) > 0
+}
+
+/// The faults of an object text for a memory of a size: each line with one, or that no line puts a byte, at the first
+/// statement of a source. None: it is
 /// accepted, and some byte is put.
 pub fn object_report(alloc: Global, text: &[u8], size: u64) -> Result<Report, Memory>
     requires { IsSize size }
@@ -186,12 +194,9 @@ pub fn object_report(alloc: Global, text: &[u8], size: u64) -> Result<Report, Me
     let mut out = Vec::new(alloc);
     put_faults(alloc, text, size, &mut out)?;
     if out.is_empty() && !has_bytes(text) {
-        let said = if has_statement(text) {
-            Said::Source
-        } else {
-            Said::Empty
-        };
-        let fault = told(alloc, 0, size, said)?;
+        let line = statement_line(text);
+        let said = if line > 0 { Said::Source } else { Said::Empty };
+        let fault = told(alloc, line, size, said)?;
         put(&mut out, fault)?;
     }
     Ok(Report {

@@ -1,5 +1,5 @@
 use Rattle.std.proofs.Common.{length}
-use Rattle.fault_report.proofs.object.has_statement.Given as goal
+use Rattle.fault_report.proofs.object.statement_line.Given as goal
 
 abbrev pub decreases-lines : goal.decreases-lines
 decreases-lines l = length l.rest
