@@ -8,7 +8,7 @@ use Rattle.y86_isa.specs.Run.{IsImage}
 use Rattle.y86_isa.specs.Table.{row}
 use Rattle.y86_isa.proofs.WhatIsRead.{IsFields-fetched, IsReading-reading}
 use Rattle.y86_isa.proofs.Words.{FitsFields-fetched}
-use Rattle.y86_isa.proofs.Columns.{none_late}
+use Rattle.y86_isa.proofs.RowColumns.{none_late}
 use Rattle.dp_signals.specs.PipeCycle.{loaded_d, loaded_e, loaded_m, loaded_w}
 use Rattle.dp_signals.specs.PipeNames as name
 use Rattle.dp_signals.specs.PipeRows.{PipeHardware}

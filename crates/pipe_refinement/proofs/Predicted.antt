@@ -10,7 +10,7 @@ use Rattle.y86_isa.specs.Table.{rows}
 use Rattle.y86_isa.specs.declared.columns.Next.TheVariants.{Branch, Fall, Itself, Loaded, Target}
 use Rattle.y86_isa.specs.declared.columns.Next.{Next}
 use Rattle.y86_isa.proofs.WhatIsRead.{IsReading-reading}
-use Rattle.y86_isa.proofs.Columns.{next_at, is_itself}
+use Rattle.y86_isa.proofs.RowColumns.{next_at, is_itself}
 use Rattle.run_laws.specs.Instructions.{Live, before, doing, ret_at, row_of, stops_at}
 use Rattle.run_laws.proofs.Walk.{fetches, follows, pc_next}
 use Rattle.dp_signals.specs.PipeNames as name

@@ -18,7 +18,7 @@ use Rattle.y86_isa.specs.declared.columns.TermB.{TermB}
 use Rattle.y86_isa.specs.declared.machine.Rec.{Rec}
 use Rattle.y86_isa.specs.declared.work.Work.{Work}
 use Rattle.y86_isa.proofs.RowsAgree.{operands_agree, sources_agree}
-use Rattle.y86_isa.proofs.Columns.{error_by, read_by}
+use Rattle.y86_isa.proofs.RowColumns.{error_by, read_by}
 use Rattle.run_laws.specs.Instructions.{doing, row_of}
 use Rattle.run_laws.proofs.Statuses.{stat_one}
 use Rattle.run_laws.proofs.Walk.{aok-from_operand, follows, source_a, source_b}

@@ -9,7 +9,7 @@ use Rattle.y86_isa.specs.Run.{IsImage, IsMachine}
 use Rattle.y86_isa.proofs.Registers.{register-written_back}
 use Rattle.y86_isa.proofs.RowsAgree.{operands_agree}
 use Rattle.y86_isa.proofs.Words.{IsMachine-run_from, IsMachine-start}
-use Rattle.y86_isa.proofs.Columns.{dash_is, none_late}
+use Rattle.y86_isa.proofs.RowColumns.{dash_is, none_late}
 use Rattle.run_laws.specs.Instructions.{before, doing, row_of, Live, stops_at}
 use Rattle.run_laws.proofs.Walk.{follows, regs_next, source_a, source_b}
 
