@@ -174,6 +174,14 @@ fn program_word(slots: &[Slot], vals: &[u64], words: &mut [u64]) -> u64
 impl SignalEval for Compiled {
     ghost evaluates = { λ compiled terms. Evaluates compiled.progs (length compiled.words) terms };
 
+    ghost assumes = { λ _. [] };
+
+    fn fits(&self, constants: &[u64]) -> bool {
+        let _ = &self.progs;
+        let _ = constants;
+        true
+    }
+
     fn eval(&mut self, def: u32, vals: &[u64]) -> u64 {
         let Compiled { progs, words } = self;
         program_word(

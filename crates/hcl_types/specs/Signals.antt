@@ -1,5 +1,5 @@
--- What an evaluator may be asked.
-use Rattle.std.specs.Prelude.{◌≡◌, ◌<◌, ℕ, List, slice_get, Some}
+-- What an evaluator may be asked, and what it may have computed with before.
+use Rattle.std.specs.Prelude.{◌≡◌, ◌<◌, ◌++◌, ℕ, List, slice_get, Some}
 use Rattle.std.specs.List.{AllByRecursion}
 use Rattle.hcl_types.specs.declared.term.Term.{Term}
 use Rattle.hcl_types.specs.Terms.{names}
@@ -7,3 +7,7 @@ use Rattle.hcl_types.specs.Terms.{names}
 -- def is a position of the design's terms, and each name in that term has an entry among so many
 abbrev pub Asks : List Term → ℕ → ℕ → Type 0
 Asks terms def entries = (t : Term) × (slice_get terms def ≡ Some t) × AllByRecursion (λ id. id < entries) (names t)
+
+-- values begins with these words: entry 0 is the first of them, and so on
+abbrev pub Starts : List ℕ → List ℕ → Type 0
+Starts words values = (rest : List ℕ) × (values ≡ words ++ rest)

@@ -1,7 +1,7 @@
 //! What evaluates the definitions of a design.
-ghost use Rattle.std.specs.Prelude.{◌≡◌, ◌<◌, ℕ, List, length, slice_get, Some};
+ghost use Rattle.std.specs.Prelude.{◌≡◌, ◌<◌, ℕ, IsTrue, List, [], length, slice_get, Some};
 ghost use Rattle.std.specs.List.{AllByRecursion};
-ghost use Rattle.hcl_types.specs.Signals.{Asks};
+ghost use Rattle.hcl_types.specs.Signals.{Asks, Starts};
 ghost use Rattle.hcl_types.specs.Terms.{at, names, value, words};
 ghost use Rattle.hcl_types.specs.declared.term.Term.{Term};
 
@@ -11,20 +11,30 @@ use crate::value::value_of;
 /// An evaluator of designs: it tells the value of each definition under a list of numbers, one for each row of
 /// the table.
 ///
-/// `evaluates` says which designs it evaluates. For each of them an answer is the value of the term.
+/// `evaluates` says which designs it evaluates. For each of them an answer is the value of the term. An evaluator may have computed with
+/// the words of the first rows before it is asked, which are a table's constants: `assumes` says with which. Values that begin
+/// otherwise it isn't asked about, so its owner asks once whether the constants fit.
 pub trait SignalEval {
     ghost evaluates: { Self → List Term → Type 0 };
+
+    ghost assumes: { Self → List ℕ };
+
+    /// Whether these words begin with those that the evaluator assumes.
+    fn fits(&self, constants: &[u64]) -> bool
+        ensures { IsTrue result → Starts (assumes self.now) constants.now };
 
     /// The value of the term at `def`, counted over the defined rows from 0, where every name in it has an
     /// entry of `vals`.
     fn eval(&mut self, def: u32, vals: &[u64]) -> u64
-        requires { (terms : List Term) × evaluates self.old terms × Asks terms def (length vals.now) }
+        requires asks { (terms : List Term) × evaluates self.old terms × Asks terms def (length vals.now) }
+        requires assumed { Starts (assumes self.old) vals.now }
         ensures value { (terms : List Term) (t : Term) → evaluates self.old terms → slice_get terms def ≡ Some t →
             AllByRecursion (λ id. id < length vals.now) (names t) → result ≡ value words (at vals.now) t }
-        ensures kept { (terms : List Term) → evaluates self.old terms → evaluates self.new terms };
+        ensures kept { (terms : List Term) → evaluates self.old terms → evaluates self.new terms }
+        ensures same { assumes self.new ≡ assumes self.old };
 }
 
-/// The evaluator that walks the terms of a design. It takes no memory.
+/// The evaluator that walks the terms of a design. It takes no memory, and assumes nothing.
 #[derive(Drop)]
 pub struct Plain<'a> {
     design: &'a Design,
@@ -41,6 +51,13 @@ impl<'a> Plain<'a> {
 
 impl<'a> SignalEval for Plain<'a> {
     ghost evaluates = { λ plain terms. plain.design.now.terms ≡ terms };
+
+    ghost assumes = { λ _. [] };
+
+    fn fits(&self, constants: &[u64]) -> bool {
+        let _ = constants;
+        true
+    }
 
     fn eval(&mut self, def: u32, vals: &[u64]) -> u64 {
         value_of(&self.design.terms.items()[def as usize], vals)

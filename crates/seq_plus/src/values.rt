@@ -9,7 +9,7 @@ ghost use Rattle.seq_plus.specs.PlusTable.{plus_rows};
 use crate::row;
 use crate::state::PlusState;
 use dp_signals::{
-    Hardware, at, cnd, dmem_error, fetch_ra, fetch_rb, fill, imem_error, imem_icode, imem_ifun,
+    Hardware, at, cnd, constant_words, dmem_error, fetch_ra, fetch_rb, fill, imem_error, imem_icode, imem_ifun,
     reg_val, val_c, val_e, val_m, val_p,
 };
 use hcl_types::{Design, NameId, Order, SignalEval};
@@ -98,13 +98,16 @@ pub fn solve_plus<C: SignalEval>(
     requires ordered { IsOrderOf plus_rows design.now.terms order.now.ids }
     ensures solves { spec.PlusSolves variant design.now.terms s.now (at result) }
     ensures kept { C.evaluates c.new design.now.terms }
+    ensures same { C.assumes c.new ≡ C.assumes c.old }
 {
+    let fits = c.fits(&constant_words());
     let hardware = PlusHardware { variant, state: s };
     let mut values = given(s);
     fill(
         &hardware,
         design,
         c,
+        fits,
         row::PC,
         order.ids.items(),
         &mut values,
