@@ -8,13 +8,13 @@ use Rattle.hcl_compile.proofs.machine.CompiledSignalEval.eval.Goals as goal
 pub bounds-items-def : goal.bounds-items-def
 bounds-items-def c =
     let none : Prog = record { slots = [] } in
-    let a = asked c.requires.0 c.args.self.now.progs (length c.args.self.now.words) (length c.args.vals.now) c.args.def c.requires.2.0 none c.requires.1 c.requires.2.1 c.requires.2.2 in
+    let a = asked c.requires.asks.0 c.args.self.now.progs (length c.args.self.now.words) (length c.args.vals.now) c.args.def c.requires.asks.2.0 none c.requires.asks.1 c.requires.asks.2.1 c.requires.asks.2.2 in
     rw c.items.ensures a.inside
 
 -- what stands at def
-found : (c : goal.After-items_mut) → IsAsked c.args.self.now.progs (length c.args.self.now.words) (length c.args.vals.now) c.args.def c.requires.2.0 c.items-2.result.now
+found : (c : goal.After-items_mut) → IsAsked c.args.self.now.progs (length c.args.self.now.words) (length c.args.vals.now) c.args.def c.requires.asks.2.0 c.items-2.result.now
 found c = rw (c.items-2.ensures, c.items.ensures)
-    (asked c.requires.0 c.args.self.now.progs (length c.args.self.now.words) (length c.args.vals.now) c.args.def c.requires.2.0 c.index-items-def.result c.requires.1 c.requires.2.1 c.requires.2.2)
+    (asked c.requires.asks.0 c.args.self.now.progs (length c.args.self.now.words) (length c.args.vals.now) c.args.def c.requires.asks.2.0 c.index-items-def.result c.requires.asks.1 c.requires.asks.2.1 c.requires.asks.2.2)
 
 pub program_word-requires-clause-formed : goal.program_word-requires-clause-formed
 program_word-requires-clause-formed c = (found c).program.formed
