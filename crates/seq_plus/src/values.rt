@@ -9,8 +9,8 @@ ghost use Rattle.seq_plus.specs.PlusTable.{plus_rows};
 use crate::row;
 use crate::state::PlusState;
 use dp_signals::{
-    Hardware, at, cnd, constant_words, dmem_error, fetch_ra, fetch_rb, fill, imem_error, imem_icode, imem_ifun,
-    reg_val, val_c, val_e, val_m, val_p,
+    Hardware, at, cnd, constant_words, dmem_error, fetch_ra, fetch_rb, fill, imem_error,
+    imem_icode, imem_ifun, reg_val, val_c, val_e, val_m, val_p,
 };
 use hcl_types::{Design, NameId, Order, SignalEval};
 use y86_base::Variant;
