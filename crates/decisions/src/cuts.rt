@@ -160,6 +160,5 @@ pub fn forced_part(
     ensures { IfOk result (StandFor net.now gates.now count bits part) }
 {
     let whole = part_of(alloc, net, gates, count, bits, part)?;
-    let copy = with_forced(alloc, whole)?;
-    Ok(copy)
+    with_forced(alloc, whole)
 }

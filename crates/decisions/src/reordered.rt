@@ -24,6 +24,5 @@ pub fn reordered(alloc: Global, net: &Net, gates: &[u64], order: &[u32]) -> Resu
             });
         }
     }
-    let whole = part_of(alloc, net, gates, gates.len(), 0, 0)?;
-    Ok(whole)
+    part_of(alloc, net, gates, gates.len(), 0, 0)
 }
