@@ -38,7 +38,7 @@ pub fn spells(b: &mut NetBuilder, p: FieldPlace, n: u64) -> Result<u64, Memory>
     if p.bits == 0 {
         return b.constant(n == 0);
     }
-    let _vars = b.vars();
+    let _vars = b.vars(); // brings its bound, so that no sum below wraps
     let bits = p.bits - 1;
     let last = bit_is(b, p.first + bits, n % 2 == 1)?;
     let first = p.first;
@@ -73,7 +73,7 @@ pub fn same(b: &mut NetBuilder, p: FieldPlace, q: FieldPlace) -> Result<u64, Mem
     if q.bits == 0 {
         return spells(b, p, 0);
     }
-    let _vars = b.vars();
+    let _vars = b.vars(); // brings its bound, so that no sum below wraps
     let bits_p = p.bits - 1;
     let bits_q = q.bits - 1;
     let last = bits_same(b, p.first + bits_p, q.first + bits_q)?;
