@@ -24,8 +24,7 @@ fn and_is(b: &mut NetBuilder, all: u64, p: FieldPlace, n: u64) -> Result<u64, Me
     ensures made { IfOk result (λ g. IsGate b.new g (λ w. truth b.old all w && spelt w p.first p.bits == n)) }
 {
     let is = spells(b, p, n)?;
-    let g = b.and(all, is)?;
-    Ok(g)
+    b.and(all, is)
 }
 
 /// The status and the code of a bubble: a nop of status 0.
@@ -44,8 +43,7 @@ fn nop_code(
 {
     let all = spells(b, stat, 0)?;
     let all = and_is(b, all, icode, 1)?;
-    let g = and_is(b, all, ifun, 0)?;
-    Ok(g)
+    and_is(b, all, ifun, 0)
 }
 
 /// The line D of a bubble.
@@ -59,8 +57,7 @@ pub fn decode_bubble(b: &mut NetBuilder) -> Result<u64, Memory>
     let all = and_is(b, all, D_R_B, 15)?;
     let all = and_is(b, all, D_TAKEN, 0)?;
     let all = and_is(b, all, D_STOPS, 0)?;
-    let g = and_is(b, all, D_BACK, 0)?;
-    Ok(g)
+    and_is(b, all, D_BACK, 0)
 }
 
 /// The gate is true, and no register is named in E.
@@ -74,8 +71,7 @@ fn and_no_registers(b: &mut NetBuilder, all: u64) -> Result<u64, Memory>
     let all = and_is(b, all, E_DST_E, 15)?;
     let all = and_is(b, all, E_DST_M, 15)?;
     let all = and_is(b, all, E_SRC_A, 15)?;
-    let g = and_is(b, all, E_SRC_B, 15)?;
-    Ok(g)
+    and_is(b, all, E_SRC_B, 15)
 }
 
 /// The line E of a bubble.
@@ -88,8 +84,7 @@ pub fn execute_bubble(b: &mut NetBuilder) -> Result<u64, Memory>
     let all = and_no_registers(b, code)?;
     let all = and_is(b, all, E_CND, 1)?;
     let all = and_is(b, all, E_STOPS, 0)?;
-    let g = and_is(b, all, E_BACK, 0)?;
-    Ok(g)
+    and_is(b, all, E_BACK, 0)
 }
 
 /// The line M of a bubble.
@@ -102,8 +97,7 @@ pub fn memory_bubble(b: &mut NetBuilder) -> Result<u64, Memory>
     let all = and_is(b, all, M_DST_E, 15)?;
     let all = and_is(b, all, M_DST_M, 15)?;
     let all = and_is(b, all, M_ERROR, 0)?;
-    let g = and_is(b, all, M_BACK, 0)?;
-    Ok(g)
+    and_is(b, all, M_BACK, 0)
 }
 
 /// The line W of a bubble.
@@ -115,6 +109,5 @@ pub fn write_bubble(b: &mut NetBuilder) -> Result<u64, Memory>
     let all = spells(b, W_STAT, 0)?;
     let all = and_is(b, all, W_ICODE, 1)?;
     let all = and_is(b, all, W_DST_E, 15)?;
-    let g = and_is(b, all, W_DST_M, 15)?;
-    Ok(g)
+    and_is(b, all, W_DST_M, 15)
 }

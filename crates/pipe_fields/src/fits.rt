@@ -31,8 +31,7 @@ fn live(b: &mut NetBuilder, kind: FieldPlace, stat: FieldPlace) -> Result<u64, M
 {
     let good = spells(b, kind, 1)?;
     let fine = spells(b, stat, 1)?;
-    let g = b.and(good, fine)?;
-    Ok(g)
+    b.and(good, fine)
 }
 
 /// The gate is true, and a hidden bit is 1 only in an instruction without fault for which a test holds.
@@ -54,8 +53,7 @@ fn and_live_only(
 {
     let live = live(b, kind, stat)?;
     let only = only_where(b, may, live, bit)?;
-    let g = b.and(all, only)?;
-    Ok(g)
+    b.and(all, only)
 }
 
 /// The gate is true, and a hidden bit is 1 only where a test holds.
@@ -67,8 +65,7 @@ fn and_only_if(b: &mut NetBuilder, all: u64, may: bool, bit: FieldPlace) -> Resu
 {
     let always = b.constant(true)?;
     let only = only_where(b, may, always, bit)?;
-    let g = b.and(all, only)?;
-    Ok(g)
+    b.and(all, only)
 }
 
 /// A jump that is fetched is taken where its condition holds, and no other instruction is.
@@ -84,8 +81,7 @@ fn fetch_taken(
     ensures made { IfOk result (λ g. IsGate b.new g (λ w. cnd_where jump (spelt w ifun.first ifun.bits) (spelt w taken.first taken.bits))) }
 {
     let always = b.constant(true)?;
-    let g = cnd_where(b, jump, always, ifun, taken)?;
-    Ok(g)
+    cnd_where(b, jump, always, ifun, taken)
 }
 
 /// A jump without fault in D is taken where its condition holds, and no other instruction is.
@@ -96,8 +92,7 @@ fn decode_taken(b: &mut NetBuilder, jump: bool) -> Result<u64, Memory>
         cnd_where (spec.is_live (fields_of w).d.kind (fields_of w).d.stat && jump) (fields_of w).d.ifun (fields_of w).d.taken)) }
 {
     let live = live(b, D_KIND, D_STAT)?;
-    let g = cnd_where(b, jump, live, D_IFUN, D_TAKEN)?;
-    Ok(g)
+    cnd_where(b, jump, live, D_IFUN, D_TAKEN)
 }
 
 /// The line F of an instruction of this icode.
@@ -111,8 +106,7 @@ pub fn fetch_fits(b: &mut NetBuilder, count: u64, icode: u64, row: &Row) -> Resu
     let taken = fetch_taken(b, is_branch(row.next), F_IFUN, F_TAKEN)?;
     let all = b.and(read, taken)?;
     let all = and_only_if(b, all, accesses(row.memory), F_STOPS)?;
-    let g = and_only_if(b, all, is_branch(row.next), F_BACK)?;
-    Ok(g)
+    and_only_if(b, all, is_branch(row.next), F_BACK)
 }
 
 /// Status, ifun and the halves of the register byte in D.
@@ -129,8 +123,7 @@ fn decode_code(b: &mut NetBuilder, count: u64, icode: u64, row: &Row) -> Result<
     let r_a = half_fits(b, row.has_byte, row.uses_a, D_R_A)?;
     let all = b.and(code, r_a)?;
     let r_b = half_fits(b, row.has_byte, row.uses_b, D_R_B)?;
-    let g = b.and(all, r_b)?;
-    Ok(g)
+    b.and(all, r_b)
 }
 
 /// The line D of an instruction of this icode.
@@ -144,8 +137,7 @@ pub fn decode_fits(b: &mut NetBuilder, count: u64, icode: u64, row: &Row) -> Res
     let taken = decode_taken(b, is_branch(row.next))?;
     let all = b.and(code, taken)?;
     let all = and_live_only(b, all, accesses(row.memory), D_KIND, D_STAT, D_STOPS)?;
-    let g = and_live_only(b, all, is_branch(row.next), D_KIND, D_STAT, D_BACK)?;
-    Ok(g)
+    and_live_only(b, all, is_branch(row.next), D_KIND, D_STAT, D_BACK)
 }
 
 /// The gate is true, and a field has the number of a register, or none, as a column asks.
@@ -161,8 +153,7 @@ fn and_register(
     ensures made { IfOk result (λ g. IsGate b.new g (λ w. truth b.old all w && register_fits column (spelt w field.first field.bits))) }
 {
     let fits = register_fits(b, column, field)?;
-    let g = b.and(all, fits)?;
-    Ok(g)
+    b.and(all, fits)
 }
 
 /// The register numbers in E.
@@ -176,8 +167,7 @@ fn registers_fit(b: &mut NetBuilder, row: &Row) -> Result<u64, Memory>
     let all = and_register(b, all, row.src_a, E_SRC_A)?;
     let all = and_register(b, all, row.src_b, E_SRC_B)?;
     let tied = tied(b, row, E_SRC_B, E_DST_E)?;
-    let g = b.and(all, tied)?;
-    Ok(g)
+    b.and(all, tied)
 }
 
 /// The line E of an instruction of this icode.
@@ -193,8 +183,7 @@ pub fn execute_fits(b: &mut NetBuilder, count: u64, icode: u64, row: &Row) -> Re
     let cnd = cnd_fits(b, E_IFUN, E_CND)?;
     let all = b.and(all, cnd)?;
     let all = and_live_only(b, all, accesses(row.memory), E_KIND, E_STAT, E_STOPS)?;
-    let g = and_live_only(b, all, is_branch(row.next), E_KIND, E_STAT, E_BACK)?;
-    Ok(g)
+    and_live_only(b, all, is_branch(row.next), E_KIND, E_STAT, E_BACK)
 }
 
 /// Status, ifun and the destinations in M.
@@ -210,8 +199,7 @@ fn memory_code(b: &mut NetBuilder, count: u64, icode: u64, row: &Row) -> Result<
     let code = code_fits(b, count, icode, row, M_STAT, M_IFUN)?;
     let dst_e = destination_fits(b, row, M_CND, M_DST_E)?;
     let all = b.and(code, dst_e)?;
-    let g = and_register(b, all, row.dst_m, M_DST_M)?;
-    Ok(g)
+    and_register(b, all, row.dst_m, M_DST_M)
 }
 
 /// The line M of an instruction of this icode.
@@ -225,8 +213,7 @@ pub fn memory_fits(b: &mut NetBuilder, count: u64, icode: u64, row: &Row) -> Res
     let cnd = cnd_fits(b, M_IFUN, M_CND)?;
     let all = b.and(code, cnd)?;
     let all = and_live_only(b, all, accesses(row.memory), M_KIND, M_STAT, M_ERROR)?;
-    let g = and_live_only(b, all, is_branch(row.next), M_KIND, M_STAT, M_BACK)?;
-    Ok(g)
+    and_live_only(b, all, is_branch(row.next), M_KIND, M_STAT, M_BACK)
 }
 
 /// The destination of valE in W, which a move whose condition didn't hold has lost.
@@ -241,8 +228,7 @@ fn write_destination(b: &mut NetBuilder, row: &Row) -> Result<u64, Memory>
         return Ok(register);
     }
     let none = spells(b, W_DST_E, 15)?;
-    let g = b.or(none, register)?;
-    Ok(g)
+    b.or(none, register)
 }
 
 /// The line W of an instruction of this icode.
@@ -254,6 +240,5 @@ pub fn write_fits(b: &mut NetBuilder, count: u64, icode: u64, row: &Row) -> Resu
     let status = stat_fits(b, count, accesses(row.memory), icode, W_STAT)?;
     let dst_e = write_destination(b, row)?;
     let all = b.and(status, dst_e)?;
-    let g = and_register(b, all, row.dst_m, W_DST_M)?;
-    Ok(g)
+    and_register(b, all, row.dst_m, W_DST_M)
 }

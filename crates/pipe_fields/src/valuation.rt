@@ -66,8 +66,7 @@ fn at_icode(b: &mut NetBuilder, v: Variant, line: Line, icode: u64) -> Result<u6
     let row = row(v, icode);
     let fits = row_fits(b, line, icode_count(v), icode, &row)?;
     let place = icode_place(line);
-    let g = here(b, place, icode, fits)?;
-    Ok(g)
+    here(b, place, icode, fits)
 }
 
 /// Where the icode of the line is below a number, the line fits its row.
@@ -78,13 +77,11 @@ fn below_icode(b: &mut NetBuilder, v: Variant, line: Line, n: u64) -> Result<u64
         where_below n (icode_in line (fields_of w)) (λ k. fits_at v line k (fields_of w)))) }
 {
     if n == 0 {
-        let none = b.constant(true)?;
-        return Ok(none);
+        return b.constant(true);
     }
     let earlier = below_icode(b, v, line, n - 1)?;
     let last = at_icode(b, v, line, n - 1)?;
-    let g = b.and(earlier, last)?;
-    Ok(g)
+    b.and(earlier, last)
 }
 
 /// The line of an instruction fits the row of its icode.
@@ -93,8 +90,7 @@ pub fn line_fits(b: &mut NetBuilder, v: Variant, line: Line) -> Result<u64, Memo
     ensures begins { Begins b.old b.new }
     ensures made { IfOk result (λ g. IsGate b.new g (λ w. fits_at v line (icode_in line (fields_of w)) (fields_of w))) }
 {
-    let g = below_icode(b, v, line, 16)?;
-    Ok(g)
+    below_icode(b, v, line, 16)
 }
 
 /// The line of a stage is that of a bubble, or of an instruction of a kind that the stage can hold.
@@ -115,8 +111,7 @@ fn stage_fits(
     let known = below(b, kind, kinds)?;
     let some = b.and(known, fits)?;
     let none = spells(b, kind, 0)?;
-    let g = choose(b, none, bubble, some)?;
-    Ok(g)
+    choose(b, none, bubble, some)
 }
 
 /// The gate is true, and the line D is that of a control valuation.
@@ -129,8 +124,7 @@ fn and_decode(b: &mut NetBuilder, v: Variant, all: u64) -> Result<u64, Memory>
     let fits = line_fits(b, v, Line::D)?;
     let bubble = decode_bubble(b)?;
     let line = stage_fits(b, 3, D_KIND, bubble, fits)?;
-    let g = b.and(all, line)?;
-    Ok(g)
+    b.and(all, line)
 }
 
 /// The gate is true, and the line E is that of a control valuation.
@@ -143,8 +137,7 @@ fn and_execute(b: &mut NetBuilder, v: Variant, all: u64) -> Result<u64, Memory>
     let fits = line_fits(b, v, Line::E)?;
     let bubble = execute_bubble(b)?;
     let line = stage_fits(b, 3, E_KIND, bubble, fits)?;
-    let g = b.and(all, line)?;
-    Ok(g)
+    b.and(all, line)
 }
 
 /// The gate is true, and the line M is that of a control valuation.
@@ -157,8 +150,7 @@ fn and_memory(b: &mut NetBuilder, v: Variant, all: u64) -> Result<u64, Memory>
     let fits = line_fits(b, v, Line::M)?;
     let bubble = memory_bubble(b)?;
     let line = stage_fits(b, 2, M_KIND, bubble, fits)?;
-    let g = b.and(all, line)?;
-    Ok(g)
+    b.and(all, line)
 }
 
 /// The gate is true, and the line W is that of a control valuation.
@@ -171,8 +163,7 @@ fn and_write(b: &mut NetBuilder, v: Variant, all: u64) -> Result<u64, Memory>
     let fits = line_fits(b, v, Line::W)?;
     let bubble = write_bubble(b)?;
     let line = stage_fits(b, 2, W_KIND, bubble, fits)?;
-    let g = b.and(all, line)?;
-    Ok(g)
+    b.and(all, line)
 }
 
 /// The lines are those of a control valuation.
@@ -185,6 +176,5 @@ pub fn allowed(b: &mut NetBuilder, v: Variant) -> Result<u64, Memory>
     let all = and_decode(b, v, f)?;
     let all = and_execute(b, v, all)?;
     let all = and_memory(b, v, all)?;
-    let g = and_write(b, v, all)?;
-    Ok(g)
+    and_write(b, v, all)
 }

@@ -1,5 +1,5 @@
 use Rattle.field_bits.proofs.Fields.{joined}
-use Rattle.pipe_fields.proofs.Extended.{extended}
+use Rattle.pipe_fields.proofs.Extended.{extended, extended_last}
 use Rattle.pipe_fields.specs.Layout.{fields_of}
 use Rattle.pipe_fields.specs.Allowed.{decode_fits}
 use Rattle.pipe_fields.proofs.fits.decode_fits.Goals as goal
@@ -8,4 +8,4 @@ pub returns-clause-made : goal.returns-clause-made
 unfolding decode_fits fields_of
 returns-clause-made c =
     let with_taken = joined c.in_ok-code.ensures.made c.decode_taken.ensures.begins c.in_ok-taken.ensures.made c.in_ok-all.ensures.made in
-    rw (c.is_branch.ensures, c.accesses.ensures, c.is_branch-2.ensures) at (extended _ (extended _ with_taken c.in_ok-all-2.ensures.made) c.in_ok-g.ensures.made)
+    rw (c.is_branch.ensures, c.accesses.ensures, c.is_branch-2.ensures) at (extended_last c.and_live_only-2.result _ _ (extended _ with_taken c.in_ok-all-2.ensures.made) c.and_live_only-2.ensures.made)
