@@ -14,7 +14,9 @@ use Rattle.hcl_types.specs.Equations.{Fixes, IsLocal, IsStore, filled, is_known,
 use Rattle.hcl_types.proofs.Each.{each_more}
 use Rattle.hcl_types.proofs.Orders.{solved, unique}
 use Rattle.hcl_types.proofs.Stores.{changed, function_store}
+use Rattle.ctl_atoms.specs.declared.leaf.Atom.{Atom}
 use Rattle.ctl_atoms.specs.declared.leaf.Leaf.{Leaf}
+use Rattle.ctl_atoms.specs.Atoms.{AreAtoms}
 use Rattle.ctl_atoms.specs.Plans.{Plan, plan}
 use Rattle.ctl_atoms.specs.Rows.{leaf_rule, leaves_at, leaves_by_role, leaves_of_row, row_term}
 use Rattle.ctl_atoms.specs.Mixing.{definition_mixes, mixes}
