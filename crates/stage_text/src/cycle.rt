@@ -8,13 +8,13 @@ ghost use Rattle.stage_text.specs.Picked.{sources_in};
 use crate::held::Held;
 use crate::instruction::put_instruction;
 use crate::numbers::{
-    put, put_address, put_function_pair, put_number_pair, put_register_pair, put_status_pair,
+    put_address, put_function_pair, put_number_pair, put_register_pair, put_status_pair,
     put_text_pair, put_word_pair,
 };
 use crate::picked::Sources;
 use crate::watch::Watch;
 use dp_signals::{PipeState, PipeValues, at, pipe_row as row};
-use y86_base::{Flags, Memory, Stat};
+use y86_base::{Flags, Memory, Stat, put};
 use y86_isa::{Store, data_store};
 
 const AOK: u64 = 1;
