@@ -11,6 +11,7 @@ ghost use Rattle.y86_cli.specs.PipeRuns.{ran_line};
 ghost use Rattle.yis_run.specs.Report as text;
 
 use crate::design::{Ordered, pipe_file};
+use crate::request::PipeRequest;
 use crate::saying::say;
 use crate::stages::{FILE_LIMIT, load_image, read_file, status};
 use crate::stop::Stop;
@@ -20,7 +21,7 @@ use pipe_path::Pipe;
 use retire_trace::{Drove, drive};
 use std::alloc::Global;
 use wb_io::{Failed, Files, Sink, put_all, put_pieces};
-use y86_base::{Image, Numeral, Variant};
+use y86_base::{Image, Numeral};
 use yis_run::{End, report};
 
 /// Writes the line of the counts.
@@ -55,19 +56,18 @@ fn put_end<O: Sink>(drove: Drove, first: &Image, end: &End<'_>, out: &mut O) -> 
 
 /// Writes the text of a verdict, runs an image on PIPE, with a trace where it is asked for, and writes the counts and the
 /// report. All memory is taken before anything is written.
-pub fn run_pipe<'a, O: Sink>(
+fn run_pipe<'a, O: Sink>(
     alloc: Global,
-    variant: Variant,
     ordered: Ordered,
     image: Image,
-    limit: u64,
-    trace: bool,
+    request: PipeRequest<'a>,
     verdict: &[u8],
     out: &mut O,
 ) -> Result<u8, Stop<'a>>
     requires ordered { IsOrdered pipe_rows ordered }
-    requires limit { limit < 2 ^ 63 }
-    ensures { SaysOn O.taken O.faults (PipeAnswers variant ordered.design.terms limit trace verdict.now image) out.old out.new result }
+    requires limit { request.run.limit < 2 ^ 63 }
+    ensures { SaysOn O.taken O.faults (PipeAnswers request.run.variant ordered.design.terms request.run.limit request.trace verdict.now image)
+        out.old out.new result }
 {
     let Ok(first) = image.copy(alloc) else {
         return Err(Stop::Memory);
@@ -76,12 +76,12 @@ pub fn run_pipe<'a, O: Sink>(
     let Ok(compiled) = compile(alloc, &design, &order) else {
         return Err(Stop::Memory);
     };
-    let mut machine = Pipe::new(variant, design, order, compiled, image);
+    let mut machine = Pipe::new(request.run.variant, design, order, compiled, image);
     match put_all(out, verdict) {
         Ok(()) => {}
         Err(_) => return Err(Stop::Write),
     }
-    let drove = match drive(&mut machine, limit, trace, out) {
+    let drove = match drive(&mut machine, request.run.limit, request.trace, out) {
         Ok(drove) => drove,
         Err(_) => return Err(Stop::Write),
     };
@@ -95,31 +95,29 @@ pub fn run_pipe<'a, O: Sink>(
 /// Reads an object file and runs it on PIPE under a design, behind the text of a verdict.
 fn run_object<'a, F: Files, O: Sink>(
     alloc: Global,
-    variant: Variant,
     ordered: Ordered,
-    obj: &'a str,
-    mem: u64,
-    limit: u64,
-    trace: bool,
+    request: PipeRequest<'a>,
     verdict: &[u8],
     files: &mut F,
     out: &mut O,
 ) -> Result<u8, Stop<'a>>
-    requires size { IsSize mem }
-    requires limit { limit ≤ 100000000 }
+    requires size { IsSize request.run.mem }
+    requires limit { request.run.limit ≤ 100000000 }
     requires ordered { IsOrdered pipe_rows ordered }
-    ensures { DoesOver F.told F.faults O.taken O.faults (pipe_plan verdict.now ordered.design.terms obj.now mem limit trace variant)
+    ensures { DoesOver F.told F.faults O.taken O.faults
+        (pipe_plan verdict.now ordered.design.terms request.run.obj.now request.run.mem request.run.limit request.trace request.run.variant)
         files.old files.new out.old out.new result }
 {
-    let bytes = match read_file(alloc, obj, FILE_LIMIT, files) {
+    let run = request.run;
+    let bytes = match read_file(alloc, run.obj, FILE_LIMIT, files) {
         Ok(bytes) => bytes,
         Err(stop) => return Err(stop),
     };
-    let image = match load_image(alloc, obj, bytes.as_slice(), mem) {
+    let image = match load_image(alloc, run.obj, bytes.as_slice(), run.mem) {
         Ok(image) => image,
         Err(stop) => return Err(stop),
     };
-    run_pipe(alloc, variant, ordered, image, limit, trace, verdict, out)
+    run_pipe(alloc, ordered, image, request, verdict, out)
 }
 
 /// Reads an object file and runs it on PIPE under a design. Where a check is asked for, the design is checked first; behind
@@ -127,40 +125,25 @@ fn run_object<'a, F: Files, O: Sink>(
 fn run_checked<'a, F: Files, O: Sink>(
     alloc: Global,
     name: &'a str,
-    variant: Variant,
     ordered: Ordered,
-    obj: &'a str,
-    mem: u64,
-    limit: u64,
-    trace: bool,
-    checked: bool,
+    request: PipeRequest<'a>,
     files: &mut F,
     out: &mut O,
 ) -> Result<u8, Stop<'a>>
-    requires size { IsSize mem }
-    requires limit { limit ≤ 100000000 }
+    requires size { IsSize request.run.mem }
+    requires limit { request.run.limit ≤ 100000000 }
     requires ordered { IsOrdered pipe_rows ordered }
-    ensures { DoesOver F.told F.faults O.taken O.faults (checked_plan name.now ordered.design.terms obj.now mem limit trace checked variant)
+    ensures { DoesOver F.told F.faults O.taken O.faults
+        (checked_plan name.now ordered.design.terms request.run.obj.now request.run.mem request.run.limit request.trace request.checked request.run.variant)
         files.old files.new out.old out.new result }
 {
-    if !checked {
-        return run_object(
-            alloc, variant, ordered, obj, mem, limit, trace, b"", files, out,
-        );
+    if !request.checked {
+        return run_object(alloc, ordered, request, b"", files, out);
     }
-    match pipe_verdict(alloc, name, variant, &ordered) {
-        Ok(PipeText::Yes(text)) => run_object(
-            alloc,
-            variant,
-            ordered,
-            obj,
-            mem,
-            limit,
-            trace,
-            text.as_slice(),
-            files,
-            out,
-        ),
+    match pipe_verdict(alloc, name, request.run.variant, &ordered) {
+        Ok(PipeText::Yes(text)) => {
+            run_object(alloc, ordered, request, text.as_slice(), files, out)
+        }
         Ok(PipeText::No(text)) => say(1, text.as_slice(), out),
         Err(stop) => Err(stop),
     }
@@ -170,25 +153,19 @@ fn run_checked<'a, F: Files, O: Sink>(
 pub fn psim<'a, F: Files, O: Sink>(
     alloc: Global,
     name: &'a str,
-    obj: &'a str,
-    mem: u64,
-    limit: u64,
-    trace: bool,
-    checked: bool,
-    variant: Variant,
+    request: PipeRequest<'a>,
     files: &mut F,
     out: &mut O,
 ) -> Result<u8, Stop<'a>>
-    requires size { IsSize mem }
-    requires limit { limit ≤ 100000000 }
-    ensures { DoesOver F.told F.faults O.taken O.faults (psim_plan name.now obj.now mem limit trace checked variant)
+    requires size { IsSize request.run.mem }
+    requires limit { request.run.limit ≤ 100000000 }
+    ensures { DoesOver F.told F.faults O.taken O.faults
+        (psim_plan name.now request.run.obj.now request.run.mem request.run.limit request.trace request.checked request.run.variant)
         files.old files.new out.old out.new result }
 {
     let ordered = match pipe_file(alloc, name, files) {
         Ok(ordered) => ordered,
         Err(stop) => return Err(stop),
     };
-    run_checked(
-        alloc, name, variant, ordered, obj, mem, limit, trace, checked, files, out,
-    )
+    run_checked(alloc, name, ordered, request, files, out)
 }

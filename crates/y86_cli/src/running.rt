@@ -17,6 +17,7 @@ use crate::datapath::Datapath;
 use crate::hcl::hcl;
 use crate::psim::psim;
 use crate::recheck::recheck;
+use crate::request::{PipeRequest, RunRequest};
 use crate::sample::sample;
 use crate::ssim::ssim;
 use crate::stop::Stop;
@@ -51,7 +52,15 @@ fn execute<'a, F: Files, O: Sink>(
             mem,
             limit,
             variant,
-        } => yis(alloc, obj, mem, limit, variant, files, out),
+        } => {
+            let request = RunRequest {
+                obj,
+                mem,
+                limit,
+                variant,
+            };
+            yis(alloc, request, files, out)
+        }
         Cmd::Hcl { hcl: name } => hcl(alloc, name, files, out),
         Cmd::Ssim {
             hcl: name,
@@ -59,34 +68,30 @@ fn execute<'a, F: Files, O: Sink>(
             mem,
             limit,
             variant,
-        } => ssim(
-            alloc,
-            Datapath::Seq,
-            name,
-            obj,
-            mem,
-            limit,
-            variant,
-            files,
-            out,
-        ),
+        } => {
+            let request = RunRequest {
+                obj,
+                mem,
+                limit,
+                variant,
+            };
+            ssim(alloc, Datapath::Seq, name, request, files, out)
+        }
         Cmd::Ssimp {
             hcl: name,
             obj,
             mem,
             limit,
             variant,
-        } => ssim(
-            alloc,
-            Datapath::Plus,
-            name,
-            obj,
-            mem,
-            limit,
-            variant,
-            files,
-            out,
-        ),
+        } => {
+            let request = RunRequest {
+                obj,
+                mem,
+                limit,
+                variant,
+            };
+            ssim(alloc, Datapath::Plus, name, request, files, out)
+        }
         Cmd::Psim {
             hcl: name,
             obj,
@@ -95,9 +100,20 @@ fn execute<'a, F: Files, O: Sink>(
             trace,
             checked,
             variant,
-        } => psim(
-            alloc, name, obj, mem, limit, trace, checked, variant, files, out,
-        ),
+        } => {
+            let run = RunRequest {
+                obj,
+                mem,
+                limit,
+                variant,
+            };
+            let request = PipeRequest {
+                run,
+                trace,
+                checked,
+            };
+            psim(alloc, name, request, files, out)
+        }
         Cmd::CheckSeq { hcl: name, variant } => {
             check_seq_file(alloc, Datapath::Seq, name, variant, files, out)
         }

@@ -7,13 +7,14 @@ ghost use Rattle.y86_cli.specs.Designs.{IsDesign, IsOrdered, RefusesDesign};
 ghost use Rattle.y86_cli.specs.Does.{DoesOver, ReadsOne, Says, files_seen, sink_seen};
 ghost use Rattle.y86_stages.specs.Shown.{ShownAnswers, Shows, object_plan, rows_of, stages_plan};
 
+use crate::calling::Request;
 use crate::reading::Processor;
 use hcl_compile::compile;
 use seq_text::{watch_plus, watch_seq};
 use stage_text::{Watched, Window, watch_run};
 use std::alloc::Global;
 use wb_io::{Files, Sink};
-use y86_base::{Image, Memory, Variant};
+use y86_base::{Image, Memory};
 use y86_cli::{
     Datapath, FILE_LIMIT, Ordered, Stop, load_image, pipe_file, read_file, say, seq_file, status,
 };
@@ -41,16 +42,15 @@ fn design_file<'a, F: Files>(
 fn watch(
     alloc: Global,
     processor: Processor,
-    variant: Variant,
     ordered: &Ordered,
     object: &[u8],
     image: Image,
-    limit: u64,
+    request: Request<'_>,
     window: &Window,
 ) -> Result<Watched, Memory>
     requires ordered { IsOrdered (rows_of processor) ordered.now }
-    requires limit { limit ≤ 100000000 }
-    ensures { IfOk result (λ w. Shows processor variant ordered.now.design.terms (listed object.now) limit window.now image w.text.items w.end) }
+    requires limit { request.limit ≤ 100000000 }
+    ensures { IfOk result (λ w. Shows processor request.variant ordered.now.design.terms (listed object.now) request.limit window.now image w.text.items w.end) }
 {
     let Ok(mut compiled) = compile(alloc, &ordered.design, &ordered.order) else {
         return Err(Memory);
@@ -59,36 +59,36 @@ fn watch(
     match processor {
         Processor::Pipe => watch_run(
             alloc,
-            variant,
+            request.variant,
             rows,
             &ordered.design,
             &ordered.order,
             &mut compiled,
             object,
             image,
-            limit,
+            request.limit,
             window,
         ),
         Processor::Seq => watch_seq(
             alloc,
-            variant,
+            request.variant,
             rows,
             &ordered.design,
             &ordered.order,
             &mut compiled,
             image,
-            limit,
+            request.limit,
             window,
         ),
         Processor::SeqPlus => watch_plus(
             alloc,
-            variant,
+            request.variant,
             rows,
             &ordered.design,
             &ordered.order,
             &mut compiled,
             image,
-            limit,
+            request.limit,
             window,
         ),
     }
@@ -98,22 +98,19 @@ fn watch(
 fn show_image<'a, O: Sink>(
     alloc: Global,
     processor: Processor,
-    variant: Variant,
     ordered: &Ordered,
     object: &[u8],
     image: Image,
-    limit: u64,
+    request: Request<'a>,
     window: &Window,
     out: &mut O,
 ) -> Result<u8, Stop<'a>>
     requires ordered { IsOrdered (rows_of processor) ordered.now }
-    requires limit { limit ≤ 100000000 }
-    ensures { Says (ShownAnswers processor variant ordered.now.design.terms (listed object.now) limit window.now image)
+    requires limit { request.limit ≤ 100000000 }
+    ensures { Says (ShownAnswers processor request.variant ordered.now.design.terms (listed object.now) request.limit window.now image)
         (sink_seen (O.taken out.old) (O.faults out.old)) (sink_seen (O.taken out.new) (O.faults out.new)) result }
 {
-    match watch(
-        alloc, processor, variant, ordered, object, image, limit, window,
-    ) {
+    match watch(alloc, processor, ordered, object, image, request, window) {
         Ok(watched) => say(status(watched.end), watched.text.as_slice(), out),
         Err(_) => Err(Stop::Memory),
     }
@@ -123,32 +120,30 @@ fn show_image<'a, O: Sink>(
 fn show_object<'a, F: Files, O: Sink>(
     alloc: Global,
     processor: Processor,
-    variant: Variant,
     ordered: &Ordered,
-    obj: &'a str,
-    mem: u64,
-    limit: u64,
+    request: Request<'a>,
     window: &Window,
     files: &mut F,
     out: &mut O,
 ) -> Result<u8, Stop<'a>>
-    requires size { IsSize mem }
-    requires limit { limit ≤ 100000000 }
+    requires size { IsSize request.mem }
+    requires limit { request.limit ≤ 100000000 }
     requires ordered { IsOrdered (rows_of processor) ordered.now }
-    ensures { DoesOver F.told F.faults O.taken O.faults (object_plan processor ordered.now.design.terms obj.now mem limit variant window.now)
+    ensures { DoesOver F.told F.faults O.taken O.faults
+        (object_plan processor ordered.now.design.terms request.obj.now request.mem request.limit request.variant window.now)
         files.old files.new out.old out.new result }
 {
-    let bytes = match read_file(alloc, obj, FILE_LIMIT, files) {
+    let bytes = match read_file(alloc, request.obj, FILE_LIMIT, files) {
         Ok(bytes) => bytes,
         Err(stop) => return Err(stop),
     };
     let object = bytes.as_slice();
-    let image = match load_image(alloc, obj, object, mem) {
+    let image = match load_image(alloc, request.obj, object, request.mem) {
         Ok(image) => image,
         Err(stop) => return Err(stop),
     };
     show_image(
-        alloc, processor, variant, ordered, object, image, limit, window, out,
+        alloc, processor, ordered, object, image, request, window, out,
     )
 }
 
@@ -156,25 +151,20 @@ fn show_object<'a, F: Files, O: Sink>(
 pub fn show<'a, F: Files, O: Sink>(
     alloc: Global,
     processor: Processor,
-    name: &'a str,
-    obj: &'a str,
-    mem: u64,
-    limit: u64,
-    variant: Variant,
+    request: Request<'a>,
     window: &Window,
     files: &mut F,
     out: &mut O,
 ) -> Result<u8, Stop<'a>>
-    requires size { IsSize mem }
-    requires limit { limit ≤ 100000000 }
-    ensures { DoesOver F.told F.faults O.taken O.faults (stages_plan processor name.now obj.now mem limit variant window.now)
+    requires size { IsSize request.mem }
+    requires limit { request.limit ≤ 100000000 }
+    ensures { DoesOver F.told F.faults O.taken O.faults
+        (stages_plan processor request.hcl.now request.obj.now request.mem request.limit request.variant window.now)
         files.old files.new out.old out.new result }
 {
-    let ordered = match design_file(alloc, processor, name, files) {
+    let ordered = match design_file(alloc, processor, request.hcl, files) {
         Ok(ordered) => ordered,
         Err(stop) => return Err(stop),
     };
-    show_object(
-        alloc, processor, variant, &ordered, obj, mem, limit, window, files, out,
-    )
+    show_object(alloc, processor, &ordered, request, window, files, out)
 }
