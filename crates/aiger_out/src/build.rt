@@ -119,6 +119,5 @@ pub(crate) fn put_all(
     ensures outputs { IfOk result (λ outs. AreOutputs t.now.header (row t.now.rows.items) (λ bits. solution t.now.header (row t.now.rows.items) bits (rest_from t.now.header)) t.now.header.outputs b.new outs.items) }
 {
     put_lines(b, gates, none, t)?;
-    let outs = put_outputs(alloc, b, gates, none, t)?;
-    Ok(outs)
+    put_outputs(alloc, b, gates, none, t)
 }
