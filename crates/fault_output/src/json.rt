@@ -1,11 +1,17 @@
 //! A report as JSON (RFC 8259), in one line. Bytes that are no printable ASCII are escaped as the characters of their
 //! numbers.
-use fault_report::{Fault, Related, Report, datapath_name, put_bytes, put_decimal};
+ghost use Rattle.std.specs.Prelude.{◌≡◌, ◌++◌, codes, true, IfOk, OnOk};
+ghost use Rattle.y86_base.specs.Numeral.{numeral};
+ghost use Rattle.fault_output.specs.Json as spec;
+
+use fault_report::{Datapath, Fault, Related, Report, datapath_name, put_bytes, put_decimal};
 use std::alloc::Global;
 use y86_base::{Memory, Numeral};
 
 /// Adds a byte of a string.
-fn put_char(out: &mut Vec<u8>, byte: u8) -> Result<(), Memory> {
+fn put_char(out: &mut Vec<u8>, byte: u8) -> Result<(), Memory>
+    ensures { OnOk result (out.new.items ≡ out.old.items ++ spec.char_text byte) }
+{
     if byte == b'"' || byte == b'\\' {
         put_bytes(out, b"\\")?;
         return put_bytes(out, &[byte]);
@@ -19,7 +25,10 @@ fn put_char(out: &mut Vec<u8>, byte: u8) -> Result<(), Memory> {
 }
 
 /// Adds a string.
-fn put_string(out: &mut Vec<u8>, bytes: &[u8]) -> Result<(), Memory> {
+#[tactic(auto, unfolding(crate::specs::Json::string_text))]
+fn put_string(out: &mut Vec<u8>, bytes: &[u8]) -> Result<(), Memory>
+    ensures { OnOk result (out.new.items ≡ out.old.items ++ spec.string_text bytes.now) }
+{
     put_bytes(out, b"\"")?;
     for byte in bytes {
         match put_char(out, *byte) {
@@ -31,19 +40,25 @@ fn put_string(out: &mut Vec<u8>, bytes: &[u8]) -> Result<(), Memory> {
 }
 
 /// Adds a member of an object whose value is a string. The name has what is in front of it.
-fn put_text(out: &mut Vec<u8>, name: &[u8], bytes: &[u8]) -> Result<(), Memory> {
+fn put_text(out: &mut Vec<u8>, name: &[u8], bytes: &[u8]) -> Result<(), Memory>
+    ensures { OnOk result (out.new.items ≡ out.old.items ++ name.now ++ spec.string_text bytes.now) }
+{
     put_bytes(out, name)?;
     put_string(out, bytes)
 }
 
 /// Adds a member of an object whose value is a number.
-fn put_number(out: &mut Vec<u8>, name: &[u8], number: u64) -> Result<(), Memory> {
+fn put_number(out: &mut Vec<u8>, name: &[u8], number: u64) -> Result<(), Memory>
+    ensures { OnOk result (out.new.items ≡ out.old.items ++ name.now ++ numeral 10 1 number) }
+{
     put_bytes(out, name)?;
     put_decimal(out, number)
 }
 
 /// Adds what parts two elements.
-fn put_comma(out: &mut Vec<u8>, is_first: bool) -> Result<(), Memory> {
+fn put_comma(out: &mut Vec<u8>, is_first: bool) -> Result<(), Memory>
+    ensures { OnOk result (out.new.items ≡ out.old.items ++ spec.comma is_first) }
+{
     if is_first {
         Ok(())
     } else {
@@ -52,7 +67,10 @@ fn put_comma(out: &mut Vec<u8>, is_first: bool) -> Result<(), Memory> {
 }
 
 /// Adds the names of what could be at the place.
-fn put_expected(out: &mut Vec<u8>, expected: &[&'static [u8]]) -> Result<(), Memory> {
+#[tactic(auto, unfolding(crate::specs::Json::expected_text))]
+fn put_expected(out: &mut Vec<u8>, expected: &[&'static [u8]]) -> Result<(), Memory>
+    ensures { OnOk result (out.new.items ≡ out.old.items ++ spec.expected_text expected.now) }
+{
     put_bytes(out, b", \"expected\": [")?;
     let mut is_first = true;
     for name in expected {
@@ -69,7 +87,10 @@ fn put_expected(out: &mut Vec<u8>, expected: &[&'static [u8]]) -> Result<(), Mem
 }
 
 /// Adds another place.
-fn put_place(out: &mut Vec<u8>, place: &Related) -> Result<(), Memory> {
+#[tactic(auto, unfolding(crate::specs::Json::place_text))]
+fn put_place(out: &mut Vec<u8>, place: &Related) -> Result<(), Memory>
+    ensures { OnOk result (out.new.items ≡ out.old.items ++ spec.place_text place.now) }
+{
     put_text(out, b"{\"role\": ", place.role)?;
     put_text(out, b", \"text\": ", place.text.bytes())?;
     put_number(out, b", \"line\": ", place.line)?;
@@ -78,7 +99,10 @@ fn put_place(out: &mut Vec<u8>, place: &Related) -> Result<(), Memory> {
 }
 
 /// Adds the other places.
-fn put_places(out: &mut Vec<u8>, places: &[Related]) -> Result<(), Memory> {
+#[tactic(auto, unfolding(crate::specs::Json::related_text))]
+fn put_places(out: &mut Vec<u8>, places: &[Related]) -> Result<(), Memory>
+    ensures { OnOk result (out.new.items ≡ out.old.items ++ spec.related_text places.now) }
+{
     put_bytes(out, b", \"related\": [")?;
     let mut is_first = true;
     for place in places {
@@ -94,21 +118,50 @@ fn put_places(out: &mut Vec<u8>, places: &[Related]) -> Result<(), Memory> {
     put_bytes(out, b"]")
 }
 
-/// Adds a fault.
-fn put_fault(out: &mut Vec<u8>, fault: &Fault) -> Result<(), Memory> {
+/// Adds where a fault is.
+#[tactic(auto, unfolding(crate::specs::Json::where_text))]
+fn put_where(out: &mut Vec<u8>, fault: &Fault) -> Result<(), Memory>
+    ensures { OnOk result (out.new.items ≡ out.old.items ++ spec.where_text fault.now) }
+{
     put_number(out, b"{\"line\": ", fault.line)?;
-    put_number(out, b", \"column\": ", fault.column)?;
+    put_number(out, b", \"column\": ", fault.column)
+}
+
+/// Adds of which kind a fault is.
+#[tactic(auto, unfolding(crate::specs::Json::kind_text))]
+fn put_kind(out: &mut Vec<u8>, fault: &Fault) -> Result<(), Memory>
+    ensures { OnOk result (out.new.items ≡ out.old.items ++ spec.kind_text fault.now) }
+{
     put_text(out, b", \"code\": ", fault.code)?;
-    put_text(out, b", \"reason\": ", fault.reason)?;
+    put_text(out, b", \"reason\": ", fault.reason)
+}
+
+/// Adds what is said of a fault.
+#[tactic(auto, unfolding(crate::specs::Json::said_text))]
+fn put_said(out: &mut Vec<u8>, fault: &Fault) -> Result<(), Memory>
+    ensures { OnOk result (out.new.items ≡ out.old.items ++ spec.said_text fault.now) }
+{
     put_text(out, b", \"sentence\": ", fault.sentence.bytes())?;
-    put_text(out, b", \"found\": ", fault.found.bytes())?;
+    put_text(out, b", \"found\": ", fault.found.bytes())
+}
+
+/// Adds a fault.
+#[tactic(auto, unfolding(crate::specs::Json::fault_text))]
+fn put_fault(out: &mut Vec<u8>, fault: &Fault) -> Result<(), Memory>
+    ensures { OnOk result (out.new.items ≡ out.old.items ++ spec.fault_text fault.now) }
+{
+    put_where(out, fault)?;
+    put_kind(out, fault)?;
+    put_said(out, fault)?;
     put_expected(out, fault.expected.items())?;
     put_places(out, fault.related.items())?;
     put_bytes(out, b"}")
 }
 
 /// Adds all faults.
-fn put_faults(out: &mut Vec<u8>, faults: &[Fault]) -> Result<(), Memory> {
+fn put_faults(out: &mut Vec<u8>, faults: &[Fault]) -> Result<(), Memory>
+    ensures { OnOk result (out.new.items ≡ out.old.items ++ codes "\"faults\": [" ++ spec.faults_text true faults.now ++ codes "]") }
+{
     put_bytes(out, b"\"faults\": [")?;
     let mut is_first = true;
     for fault in faults {
@@ -124,14 +177,25 @@ fn put_faults(out: &mut Vec<u8>, faults: &[Fault]) -> Result<(), Memory> {
     put_bytes(out, b"]")
 }
 
+/// Adds the datapath, where there is one.
+fn put_datapath(out: &mut Vec<u8>, datapath: Option<Datapath>) -> Result<(), Memory>
+    ensures { OnOk result (out.new.items ≡ out.old.items ++ spec.datapath_text datapath) }
+{
+    match datapath {
+        None => Ok(()),
+        Some(datapath) => put_text(out, b", \"datapath\": ", datapath_name(datapath)),
+    }
+}
+
 /// A report as a JSON object with a line feed behind it: `file`, `datapath` where there is one, and `faults`, each with
 /// `line`, `column`, `code`, `reason`, `sentence`, `found`, `expected` and `related`.
-pub fn report_json(alloc: Global, file: &[u8], report: &Report) -> Result<Vec<u8>, Memory> {
+#[tactic(auto, unfolding(crate::specs::Json::report_json))]
+pub fn report_json(alloc: Global, file: &[u8], report: &Report) -> Result<Vec<u8>, Memory>
+    ensures { IfOk result (λ text. text.items ≡ spec.report_json file.now report.now) }
+{
     let mut out = Vec::new(alloc);
     put_text(&mut out, b"{\"file\": ", file)?;
-    if let Some(datapath) = report.datapath {
-        put_text(&mut out, b", \"datapath\": ", datapath_name(datapath))?;
-    }
+    put_datapath(&mut out, report.datapath)?;
     put_bytes(&mut out, b", ")?;
     put_faults(&mut out, report.faults.items())?;
     put_bytes(&mut out, b"}\n")?;

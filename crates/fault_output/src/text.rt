@@ -1,10 +1,16 @@
 //! A report as lines of text.
+ghost use Rattle.std.specs.Prelude.{◌≡◌, ◌++◌, IfOk, OnOk};
+ghost use Rattle.fault_output.specs.Lines as spec;
+
 use fault_report::{Fault, Report, put_bytes, put_decimal};
 use std::alloc::Global;
 use y86_base::Memory;
 
-/// Adds a place, where there is one.
-fn put_place(out: &mut Vec<u8>, number: u64) -> Result<(), Memory> {
+/// Adds a line or a column, where there is one.
+#[tactic(auto, unfolding(crate::specs::Lines::place_text))]
+fn put_place(out: &mut Vec<u8>, number: u64) -> Result<(), Memory>
+    ensures { OnOk result (out.new.items ≡ out.old.items ++ spec.place_text number) }
+{
     if number == 0 {
         return Ok(());
     }
@@ -12,19 +18,32 @@ fn put_place(out: &mut Vec<u8>, number: u64) -> Result<(), Memory> {
     put_bytes(out, b":")
 }
 
-/// Adds the line of a fault.
-fn put_fault(out: &mut Vec<u8>, file: &[u8], fault: &Fault) -> Result<(), Memory> {
+/// Adds where a fault is.
+#[tactic(auto, unfolding(crate::specs::Lines::front_text))]
+fn put_front(out: &mut Vec<u8>, file: &[u8], fault: &Fault) -> Result<(), Memory>
+    ensures { OnOk result (out.new.items ≡ out.old.items ++ spec.front_text file.now fault.now) }
+{
     put_bytes(out, file)?;
     put_bytes(out, b":")?;
     put_place(out, fault.line)?;
-    put_place(out, fault.column)?;
+    put_place(out, fault.column)
+}
+
+/// Adds the line of a fault.
+#[tactic(auto, unfolding(crate::specs::Lines::fault_line))]
+fn put_fault(out: &mut Vec<u8>, file: &[u8], fault: &Fault) -> Result<(), Memory>
+    ensures { OnOk result (out.new.items ≡ out.old.items ++ spec.fault_line file.now fault.now) }
+{
+    put_front(out, file, fault)?;
     put_bytes(out, b" ")?;
     put_bytes(out, fault.sentence.bytes())?;
     put_bytes(out, b"\n")
 }
 
 /// A line for each fault: `FILE:LINE:COLUMN: SENTENCE`, without the column or the line where there is none.
-pub fn report_text(alloc: Global, file: &[u8], report: &Report) -> Result<Vec<u8>, Memory> {
+pub fn report_text(alloc: Global, file: &[u8], report: &Report) -> Result<Vec<u8>, Memory>
+    ensures { IfOk result (λ text. text.items ≡ spec.report_lines file.now report.now.faults) }
+{
     let mut out = Vec::new(alloc);
     for fault in report.faults.items() {
         match put_fault(&mut out, file, fault) {
