@@ -23,7 +23,7 @@ use Rattle.y86_isa.proofs.RowsAgree.{operands_agree}
 use Rattle.y86_isa.proofs.Runs.{run_from-last, records_from-last, run_from-none, records_from-none}
 use Rattle.y86_isa.proofs.Steps.{IsImage-advance}
 use Rattle.y86_isa.proofs.WhatIsRead.{IsReading-reading, nop_known}
-use Rattle.y86_isa.proofs.RowColumns.{next_at, next_test, is_itself}
+use Rattle.y86_isa.proofs.RowColumns.{next_at, is_itself}
 use Rattle.hcl_types.specs.Tables.{IsBound, IsOrderOf}
 use Rattle.hcl_types.specs.declared.term.Term.{Term}
 use Rattle.dp_signals.specs.Equations.{rule_of}
@@ -63,7 +63,6 @@ use Rattle.seq_plus.proofs.PlusRows.{hardware_rows}
 -- ---- the next PC of the instruction before
 
 goes : (v : Variant) (n : ℕ) → 1 ≤ n → n < length (rows v) → is_itself (row v n).next ≡ false
-unfolding next_test
 goes v n le lt = by _ _ (next_at v n lt) (no_zero n le)
   where
     by : (a b : Bool) → (not a || b) ≡ true → b ≡ false → a ≡ false
