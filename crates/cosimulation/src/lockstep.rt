@@ -9,6 +9,7 @@ ghost use Rattle.y86_isa.specs.Machine.{start};
 
 use crate::records::is_record;
 use crate::states::{Part, difference};
+use dp_signals::constant_words;
 use hcl_compile::compile;
 use hcl_types::{Design, Order, SignalEval};
 use machine_calls::is_going;
@@ -131,7 +132,7 @@ pub fn compare(
     let Ok(other) = image.copy(alloc) else {
         return Err(Memory);
     };
-    let Ok(compiled) = compile(alloc, &design, &order) else {
+    let Ok(compiled) = compile(alloc, &design, &order, &constant_words()) else {
         return Err(Memory);
     };
     let mut machine = Machine::start(other);

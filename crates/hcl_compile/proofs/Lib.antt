@@ -1,7 +1,5 @@
-pub mod Written
-pub mod Placing
-pub mod Joining
-pub mod Running
-pub mod Picking
-pub mod Compiling
-pub mod Walking
+pub mod Walked
+pub mod Made
+pub mod Choosing
+pub mod Valuing
+pub mod Rooted

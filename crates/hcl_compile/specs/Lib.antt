@@ -1,2 +1,2 @@
-pub mod Slots
-pub mod Building
+pub mod Walks
+pub mod Making

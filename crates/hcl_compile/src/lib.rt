@@ -1,13 +1,14 @@
-//! HCL definitions compiled to programs of slots, and the evaluator that runs them.
+//! HCL definitions compiled to decision nodes, and the evaluator that walks them.
 #![tactic(auto)]
 
-mod build;
+mod choices;
 mod compiler;
-mod join;
+mod copies;
+mod decisions;
+mod equality;
 mod machine;
-mod pick;
-mod slot;
-mod terms;
+mod node;
+mod numbers;
 
 pub use compiler::compile;
-pub use slot::{Compiled, Prog, Slot};
+pub use node::{Ask, Compiled, Node, ROWS};

@@ -5,6 +5,7 @@ ghost use Rattle.hcl_types.specs.Tables.{IsBound, IsOrderOf};
 ghost use Rattle.pipe_runs.specs.BothWays.{GoesBothWays};
 
 use crate::reports::same_reports;
+use dp_signals::constant_words;
 use hcl_compile::compile;
 use hcl_types::{Design, Order};
 use pipe_path::Pipe;
@@ -62,7 +63,7 @@ pub fn both_ways(
     let Ok(other_image) = first.copy(alloc) else {
         return Err(Memory);
     };
-    let Ok(compiled) = compile(alloc, &design, &order) else {
+    let Ok(compiled) = compile(alloc, &design, &order, &constant_words()) else {
         return Err(Memory);
     };
     let mut machine = Machine::start(image);

@@ -1,4 +1,4 @@
-//! Tests of HCL inside: the trees of a text, the values of terms on both evaluators, orders and the slots of a definition.
+//! Tests of HCL inside: the trees of a text, the values of terms on both evaluators, orders and the nodes of a definition.
 #![tactic(auto)]
 
 #[cfg(test)]

@@ -1,44 +1,27 @@
-//! Orders of signals, and the programs of definitions.
-use dp_signals::{law_of_tables, pipe_table, seq_table};
-use hcl_compile::{Slot, compile};
+//! Orders of signals, and the nodes of definitions.
+use dp_signals::{constant_words, law_of_tables, pipe_table, seq_table};
+use hcl_compile::{Ask, Node, ROWS, compile};
 use hcl_order::order;
 use hcl_read::read;
-use hcl_types::{CmpOp, bind};
+use hcl_types::{NameId, Term, bind};
 use std::test::Fail;
 use test_designs::Example;
 
-/// A definition of f_pc, and the slots that it takes.
+/// A definition of f_pc. Its names are the rows 46 (M_icode), 64 (M_Cnd), 61 (M_valA) and 54 (F_predPC).
 const F_PC: &[u8] =
     b"word f_pc = [ M_icode == IJXX && !M_Cnd : M_valA; 0 : 3; M_icode in { IRET, 9 } || 0 : -8; 1 : F_predPC; 1 : 5; ];";
 
-static SLOTS: [Slot; 18] = [
-    Slot::Name(46),
-    Slot::Name(7),
-    Slot::Cmp(CmpOp::Eq, 0, 1),
-    Slot::Name(64),
-    Slot::Not(3),
-    Slot::And(2, 4),
-    Slot::Name(61),
-    Slot::Name(9),
-    Slot::Num(9),
-    Slot::Cmp(CmpOp::Eq, 0, 7),
-    Slot::Cmp(CmpOp::Eq, 0, 8),
-    Slot::Or(9, 10),
-    Slot::Num(0),
-    Slot::Or(11, 12),
-    Slot::Num(0xffff_ffff_ffff_fff8),
-    Slot::Name(54),
-    Slot::Pick {
-        guard: 13,
-        yes: 14,
-        rest: 15,
-    },
-    Slot::Pick {
-        guard: 5,
-        yes: 6,
-        rest: 16,
-    },
-];
+/// A node that asks for the code in a row: one code leads to one target, and each other to another.
+fn code(row: NameId, code: usize, target: u32, other: u32) -> Node
+    requires { code < 17 }
+{
+    let mut next = [other; 17];
+    next[code] = target;
+    Node {
+        ask: Ask::Code(row),
+        next,
+    }
+}
 
 /// The standard files have an order of all defined and hardware names.
 #[test]
@@ -66,23 +49,31 @@ fn the_standard_files_have_an_order(rt: HostRuntime) -> Result<(), Fail> {
     Ok(())
 }
 
-/// Equal slots are shared, a branch that is never taken has none, and neither have those behind one that always is.
+/// Tests of one code are one node, a number other than the constants is a term, and a branch that is never taken has no node.
 #[test]
-fn a_definition_has_its_slots(rt: HostRuntime) -> Result<(), Fail> {
+fn a_definition_has_its_nodes(rt: HostRuntime) -> Result<(), Fail> {
     let table = pipe_table(rt.alloc())?;
     law_of_tables();
     let text = Example::Std.zeros(rt.alloc(), F_PC)?;
     let file = read(rt.alloc(), text.as_slice())?;
     let design = bind(rt.alloc(), &file, &table)?;
     let ordered = order(rt.alloc(), &design, &table)?;
-    let compiled = compile(rt.alloc(), &design, &ordered)?;
-    assert_eq!(rt;
-        (compiled.progs.items().len(), compiled.words.items().len()),
-        (39, 18)
-    );
-    match compiled.progs.items().first() {
-        Some(prog) => assert_eq!(rt; prog.slots.items(), SLOTS.as_slice()),
-        None => panic!(rt; "no program"),
-    }
+    let compiled = compile(rt.alloc(), &design, &ordered, &constant_words())?;
+    let mut first = code(46, 9, 0, ROWS + 54);
+    first.next[7] = 3;
+    let nodes = [
+        Node {
+            ask: Ask::Value(0),
+            next: [0; 17],
+        },
+        code(46, 9, 0, ROWS + 54),
+        code(46, 9, 0, ROWS + 54),
+        code(64, 0, ROWS + 61, 2),
+        first,
+    ];
+    assert_eq!(rt; compiled.roots.items().first().copied(), Some(4));
+    assert_eq!(rt; compiled.roots.items().len(), 39);
+    assert_eq!(rt; compiled.nodes.items(), nodes.as_slice());
+    assert_eq!(rt; compiled.terms.items(), [Term::Num(0xffff_ffff_ffff_fff8)].as_slice());
     Ok(())
 }

@@ -2,7 +2,7 @@
 ghost use Rattle.std.specs.Prelude.{◌≡◌};
 ghost use Rattle.dp_signals.specs.PipeTable.{pipe_rows};
 
-use dp_signals::{PipeState, law_of_tables, pipe_table, solve_pipe};
+use dp_signals::{PipeState, constant_words, law_of_tables, pipe_table, solve_pipe};
 use hcl_compile::compile;
 use hcl_order::order;
 use hcl_read::read;
@@ -111,7 +111,7 @@ fn values(
         &state,
         &mut Plain::new(&design),
     );
-    let mut compiled = compile(rt.alloc(), &design, &ids)?;
+    let mut compiled = compile(rt.alloc(), &design, &ids, &constant_words())?;
     let run = solve_pipe(Variant::Base, &design, &ids, &state, &mut compiled);
     Ok((walked[114], run[114]))
 }

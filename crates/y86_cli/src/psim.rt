@@ -16,6 +16,7 @@ use crate::saying::say;
 use crate::stages::{FILE_LIMIT, load_image, read_file, status};
 use crate::stop::Stop;
 use crate::verdict::{PipeText, pipe_verdict};
+use dp_signals::constant_words;
 use hcl_compile::compile;
 use pipe_path::Pipe;
 use retire_trace::{Drove, drive};
@@ -73,7 +74,7 @@ fn run_pipe<'a, O: Sink>(
         return Err(Stop::Memory);
     };
     let Ordered { design, order, .. } = ordered;
-    let Ok(compiled) = compile(alloc, &design, &order) else {
+    let Ok(compiled) = compile(alloc, &design, &order, &constant_words()) else {
         return Err(Stop::Memory);
     };
     let mut machine = Pipe::new(request.run.variant, design, order, compiled, image);

@@ -14,6 +14,7 @@ use crate::design::{Ordered, seq_file};
 use crate::request::RunRequest;
 use crate::stages::{FILE_LIMIT, load_image, read_file, status};
 use crate::stop::Stop;
+use dp_signals::constant_words;
 use hcl_compile::compile;
 use seq_path::Seq;
 use seq_plus::Plus;
@@ -37,7 +38,7 @@ fn run_seq<'a, O: Sink>(
         return Err(Stop::Memory);
     };
     let Ordered { design, order, .. } = ordered;
-    let Ok(compiled) = compile(alloc, &design, &order) else {
+    let Ok(compiled) = compile(alloc, &design, &order, &constant_words()) else {
         return Err(Stop::Memory);
     };
     let mut machine = Seq::new(request.variant, design, order, compiled, image);
@@ -64,7 +65,7 @@ fn run_plus<'a, O: Sink>(
         return Err(Stop::Memory);
     };
     let Ordered { design, order, .. } = ordered;
-    let Ok(compiled) = compile(alloc, &design, &order) else {
+    let Ok(compiled) = compile(alloc, &design, &order, &constant_words()) else {
         return Err(Stop::Memory);
     };
     let mut machine = Plus::new(request.variant, design, order, compiled, image);

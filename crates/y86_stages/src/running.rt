@@ -9,6 +9,7 @@ ghost use Rattle.y86_stages.specs.Shown.{ShownAnswers, Shows, object_plan, rows_
 
 use crate::calling::Request;
 use crate::reading::Processor;
+use dp_signals::constant_words;
 use hcl_compile::compile;
 use seq_text::{watch_plus, watch_seq};
 use stage_text::{Watched, Window, watch_run};
@@ -52,7 +53,7 @@ fn watch(
     requires limit { request.limit ≤ 100000000 }
     ensures { IfOk result (λ w. Shows processor request.variant ordered.now.design.terms (listed object.now) request.limit window.now image w.text.items w.end) }
 {
-    let Ok(mut compiled) = compile(alloc, &ordered.design, &ordered.order) else {
+    let Ok(mut compiled) = compile(alloc, &ordered.design, &ordered.order, &constant_words()) else {
         return Err(Memory);
     };
     let rows = ordered.table.rows.items();

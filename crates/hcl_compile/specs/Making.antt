@@ -1,0 +1,80 @@
+-- Nodes as they are made: what was there keeps its words, and a new target leads where it should.
+use Rattle.std.specs.Prelude.{ℕ, ◌≡◌, ◌<◌, nat_eq, nat_lt, Bool, if◌then◌else◌, List, [], ◌∷◌, ◌++◌, length}
+use Rattle.hcl_types.specs.declared.term.Term.{Term}
+use Rattle.hcl_types.specs.Terms.{names, value, words}
+use Rattle.hcl_compile.specs.declared.node.TheConstants.{ROWS}
+use Rattle.hcl_compile.specs.declared.node.Node.{Node}
+use Rattle.hcl_compile.specs.declared.decisions.Decisions.{Decisions}
+use Rattle.hcl_compile.specs.declared.equality.Equality.{Equality}
+use Rattle.hcl_compile.specs.declared.equality.Equality.TheVariants as equality
+use Rattle.hcl_compile.specs.declared.numbers.Operand.{Operand}
+use Rattle.hcl_compile.specs.declared.numbers.Operand.TheVariants as operand
+use Rattle.hcl_compile.specs.Walks.{Begins, Ends, Within}
+
+-- the walk from a target ends with a word, over nodes as far as they are made
+abbrev pub Comes : (ℕ → ℕ) → ℕ → Decisions → ℕ → ℕ → Type 0
+Comes env rows d target word = Ends env rows d.terms.items d.nodes.items target word
+
+-- each walk that ended ends as before
+abbrev pub Keeps : Decisions → Decisions → Type 0
+Keeps old new = (env : ℕ → ℕ) (rows target word : ℕ) → Comes env rows old target word → Comes env rows new target word
+
+-- a node is appended at a place
+abbrev pub IsAdded : Node → Decisions → Decisions → ℕ → Type 0
+IsAdded node old new place = (place ≡ length old.nodes.items) × (place < ROWS) × (new.nodes.items ≡ old.nodes.items ++ node ∷ []) × (new.terms.items ≡ old.terms.items)
+
+-- the place leads on to hit where a test of the values is true, and else to miss; the test needs the rows of ids
+pub record Decides (constants ids : List ℕ) (test : (ℕ → ℕ) → Bool) (old new : Decisions) (hit miss place : ℕ) : Type 0 where
+  pub keeps : Keeps old new
+  pub leads : (env : ℕ → ℕ) (rows word : ℕ) → Begins constants env rows → Within rows ids → Comes env rows old (if test env then hit else miss) word
+      → Comes env rows new place word
+
+-- the place leads on to hit where the term holds, and else to miss
+abbrev pub IsTest : List ℕ → Term → Decisions → Decisions → ℕ → ℕ → ℕ → Type 0
+IsTest constants t = Decides constants (names t) (λ env. words.holds (value words env t))
+
+-- the walk from the place ends with the value of f, which needs the rows of ids
+pub record IsValued (constants ids : List ℕ) (f : (ℕ → ℕ) → ℕ) (old new : Decisions) (place : ℕ) : Type 0 where
+  pub keeps : Keeps old new
+  pub ends : (env : ℕ → ℕ) (rows : ℕ) → Begins constants env rows → Within rows ids → Comes env rows new place (f env)
+
+-- the walk from the place ends with the value of the term
+abbrev pub IsValue : List ℕ → Term → Decisions → Decisions → ℕ → Type 0
+IsValue constants t = IsValued constants (names t) (λ env. value words env t)
+
+-- the target of a constant that is this number
+abbrev pub IsNumber : List ℕ → ℕ → ℕ → Type 0
+IsNumber constants n target = (terms : List Term) (nodes : List Node) (env : ℕ → ℕ) (rows : ℕ) → Begins constants env rows → Ends env rows terms nodes target n
+
+-- an operand is worth what the term is
+abbrev pub IsOperand : List ℕ → Term → Operand → Type 0
+IsOperand constants t (operand.Number n) = (env : ℕ → ℕ) (rows : ℕ) → Begins constants env rows → value words env t ≡ n
+IsOperand constants t (operand.Row id) = (env : ℕ → ℕ) (rows : ℕ) → Begins constants env rows → Within rows (names t) → (id < rows) × (value words env t ≡ env id)
+IsOperand constants t operand.Other = Unit {0}
+
+-- whether two words are equal, as far as a node can ask for it
+abbrev pub Says : (ℕ → ℕ) → ℕ → Bool → Equality → Type 0
+Says env rows equal (equality.Known truth) = equal ≡ truth
+Says env rows equal (equality.Rows left right) = (left < rows) × (right < rows) × (equal ≡ nat_eq (env left) (env right))
+Says env rows equal (equality.Code name code) = (name < rows) × (equal ≡ nat_eq (env name) code)
+Says env rows equal equality.Other = Unit {0}
+
+-- whether two terms are equal, as far as a node can ask for it
+abbrev pub IsEquality : List ℕ → Term → Term → Equality → Type 0
+IsEquality constants x y e = (env : ℕ → ℕ) (rows : ℕ) → Begins constants env rows → Within rows (names x) → Within rows (names y)
+    → Says env rows (nat_eq (value words env x) (value words env y)) e
+
+-- the equality of a row and a number
+abbrev pub code_equality : ℕ → ℕ → Equality
+code_equality id n = if nat_lt n 16 then equality.Code id n else equality.Other
+
+-- a code that a node can ask for is below 16
+abbrev pub IsSmall : Equality → Type 0
+IsSmall (equality.Known truth) = Unit {0}
+IsSmall (equality.Rows left right) = Unit {0}
+IsSmall (equality.Code name code) = code < 16
+IsSmall equality.Other = Unit {0}
+
+-- a term that is worth 1 or 0
+abbrev pub IsTruth : Term → Type 0
+IsTruth t = (env : ℕ → ℕ) → (b : Bool) × (value words env t ≡ words.bool b)

@@ -1,0 +1,146 @@
+//! Decision nodes as they are made.
+ghost use Rattle.std.specs.Prelude.{◌≡◌, ◌<◌, ◌++◌, nat_eq, if◌then◌else◌, IfOk, List, ℕ, [], ◌∷◌, length};
+ghost use Rattle.hcl_compile.specs.declared.node.TheConstants.{ROWS};
+ghost use Rattle.hcl_compile.specs.Making.{Comes, Decides, IsAdded, IsTest, IsValue};
+ghost use Rattle.hcl_compile.specs.Walks.{code_answer};
+
+use crate::copies::copy_term;
+use crate::node::{Ask, Node, ROWS};
+use hcl_types::{NameId, Term};
+use std::alloc::Global;
+use y86_base::Memory;
+
+/// Nodes, and the terms that they ask as they are.
+#[derive(Debug, Drop)]
+pub struct Decisions {
+    pub nodes: Vec<Node>,
+    pub terms: Vec<Term>,
+}
+
+/// One target where a test is true, and else another.
+pub fn chosen(test: bool, hit: u32, miss: u32) -> u32
+    ensures { result ≡ (if test then hit else miss) }
+{
+    if test { hit } else { miss }
+}
+
+/// Appends a node, and tells its place. So many nodes that a place would be a row want more memory than there is.
+fn put(node: Node, d: &mut Decisions) -> Result<u32, Memory>
+    ensures { IfOk result (IsAdded node d.old d.new) }
+{
+    let place = d.nodes.len();
+    if place >= ROWS as usize || d.nodes.push(node).is_err() {
+        return Err(Memory);
+    }
+    Ok(place as u32)
+}
+
+/// Appends a node that leads to one target where its question is answered by yes, and else to another.
+fn put_question(ask: Ask, hit: u32, miss: u32, d: &mut Decisions) -> Result<u32, Memory>
+    ensures { IfOk result (λ place. (next : List ℕ) × IsAdded (record { ask = ask; next = hit ∷ miss ∷ next }) d.old d.new place) }
+{
+    put(
+        Node {
+            ask,
+            next: [hit, miss, 0, 0, 0, 0, 0, 0, 0, 0, 0, 0, 0, 0, 0, 0, 0],
+        },
+        d,
+    )
+}
+
+/// Where an answer to the code in a row leads from a target: past a node that asks for the same code.
+fn past(target: u32, name: NameId, answer: u64, d: &Decisions) -> u32
+    requires { answer < 17 }
+    ensures { (env : ℕ → ℕ) (rows word : ℕ) → code_answer (env name) ≡ answer → Comes env rows d.now target word → Comes env rows d.now result word }
+{
+    if target >= ROWS {
+        return target;
+    }
+    let Some(node) = d.nodes.as_slice().get(target as usize) else {
+        return target;
+    };
+    match node.ask {
+        Ask::Code(other) => {
+            if other == name {
+                node.next[answer as usize]
+            } else {
+                target
+            }
+        }
+        _ => target,
+    }
+}
+
+/// Whether the code in a row is this one.
+pub fn put_code(
+    name: NameId,
+    code: u64,
+    hit: u32,
+    miss: u32,
+    d: &mut Decisions,
+) -> Result<u32, Memory>
+    requires { code < 16 }
+    ensures { IfOk result (λ place. (constants : List ℕ) → Decides constants (name ∷ []) (λ env. nat_eq (env name) code) d.old d.new hit miss place) }
+{
+    let mut next = [0; 17];
+    for answer in 0..17 {
+        let target = chosen(answer == code, hit, miss);
+        next[answer as usize] = past(target, name, answer, d);
+    }
+    let node = Node {
+        ask: Ask::Code(name),
+        next,
+    };
+    let place = put(node, d)?;
+    Ok(place)
+}
+
+/// Whether two rows have one value.
+pub fn put_same(
+    left: NameId,
+    right: NameId,
+    hit: u32,
+    miss: u32,
+    d: &mut Decisions,
+) -> Result<u32, Memory>
+    ensures { IfOk result (λ place. (constants : List ℕ) → Decides constants (left ∷ right ∷ []) (λ env. nat_eq (env left) (env right)) d.old d.new hit miss place) }
+{
+    let place = put_question(Ask::Same(left, right), hit, miss, d)?;
+    Ok(place)
+}
+
+/// Adds a term that a node asks as it is, and tells its place.
+fn add_term(alloc: Global, t: &Term, d: &mut Decisions) -> Result<u32, Memory>
+    ensures { IfOk result (λ k. (k ≡ length d.old.terms.items) × (d.new.terms.items ≡ d.old.terms.items ++ t.now ∷ []) × (d.new.nodes.items ≡ d.old.nodes.items)) }
+{
+    let copy = copy_term(alloc, t)?;
+    let k = d.terms.len();
+    if k >= ROWS as usize || d.terms.push(copy).is_err() {
+        return Err(Memory);
+    }
+    Ok(k as u32)
+}
+
+/// Whether a term holds, which is walked as it is.
+pub fn put_term(
+    alloc: Global,
+    t: &Term,
+    hit: u32,
+    miss: u32,
+    d: &mut Decisions,
+) -> Result<u32, Memory>
+    ensures { IfOk result (λ place. (constants : List ℕ) → IsTest constants t.now d.old d.new hit miss place) }
+{
+    let k = add_term(alloc, t, d)?;
+    let place = put_question(Ask::Holds(k), hit, miss, d)?;
+    Ok(place)
+}
+
+/// The value of a term, which is walked as it is.
+pub fn put_term_value(alloc: Global, t: &Term, d: &mut Decisions) -> Result<u32, Memory>
+    ensures { IfOk result (λ place. (constants : List ℕ) → IsValue constants t.now d.old d.new place) }
+{
+    let k = add_term(alloc, t, d)?;
+    let place = put_question(Ask::Value(k), 0, 0, d)?;
+    Ok(place)
+}
