@@ -7,12 +7,13 @@ ghost use Rattle.cert_writer.specs.Writing.{AreGateTerms, AreInside, AreTrue, Is
 
 use crate::claims::Claims;
 use crate::drawn::{Drawn, draw};
-use crate::order::{Weave, order_of};
+use crate::order::order_of;
 use crate::terms::Terms;
 use crate::text::{put_gates, put_steps, put_terms};
 use certificates::Demands;
 use nets::Valuation;
 use pipe_motion::Settings;
+use pipe_orders::Weave;
 use std::alloc::Global;
 use verdict_text::pipe_acceptance;
 use y86_base::{Memory, put};

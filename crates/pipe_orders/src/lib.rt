@@ -1,0 +1,9 @@
+//! Orders of the bits of PIPE's control valuations in which the diagrams of its formulas are small.
+//!
+//! They are for time and length alone: what is decided or certified holds in any order.
+#![tactic(auto)]
+
+mod order;
+mod rank;
+
+pub use order::{Layout, Weave, order_for};

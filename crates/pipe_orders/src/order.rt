@@ -1,0 +1,70 @@
+//! An order of a net's variables.
+ghost use Rattle.std.specs.Prelude.{◌<◌, IfOk};
+ghost use Rattle.std.specs.List.{range_with_len};
+ghost use Rattle.std.specs.List.Sorted.{IsPermutation};
+
+use crate::rank::{large_part_rank, registers_last_rank, stages_rank};
+use nets::by_number;
+use pipe_fields::places;
+use std::alloc::Global;
+use y86_base::Memory;
+
+/// How many register fields stand side by side, bit by bit: all first bits, then all second ones, and so on.
+#[derive(Clone, Copy, Debug, PartialEq, Eq)]
+pub enum Weave {
+    /// None: the fields follow one another.
+    Apart,
+    /// Four, in the order of their variables: those of D and the destinations of E, and so on.
+    Fours,
+    /// Eight: those of D, E and M, and then those of W.
+    Eights,
+    /// All.
+    Whole,
+}
+
+impl Weave {
+    /// The number of fields that stand side by side.
+    pub(crate) fn width(self) -> usize
+        ensures { 0 < result }
+    {
+        match self {
+            Weave::Apart => 1,
+            Weave::Fours => 4,
+            Weave::Eights => 8,
+            Weave::Whole => places::REGISTER_COUNT,
+        }
+    }
+}
+
+/// How the variables stand.
+#[derive(Clone, Copy, Debug, PartialEq, Eq)]
+pub enum Layout {
+    /// Stage by stage, the registers of each behind its other fields.
+    Stages,
+    /// The same, behind the icode in E: for a part of the valuations where the diagrams are large, which is parted again by the
+    /// first variables (tried out beside the icodes in D and M, on the changed files whose diagrams are the largest).
+    LargePart,
+    /// The registers of all stages last. Where registers of one stage are compared with each other or with constants, their
+    /// fields are best one after another. Where a file compares registers of several stages, that order doubles the diagrams with
+    /// each bit that lies between, and the bits of the compared registers are best side by side.
+    RegistersLast(Weave),
+}
+
+fn rank(layout: Layout, variable: u32) -> usize {
+    match layout {
+        Layout::Stages => stages_rank(variable),
+        Layout::LargePart => large_part_rank(variable),
+        Layout::RegistersLast(weave) => registers_last_rank(weave.width(), variable),
+    }
+}
+
+/// The variables rank by rank, those of one rank by their numbers: each stands in it once.
+pub fn order_for(alloc: Global, layout: Layout, vars: u32) -> Result<Vec<u32>, Memory>
+    ensures { IfOk result (λ order. IsPermutation (range_with_len 0 vars) order.items) }
+{
+    let mut order = by_number(alloc, vars)?;
+    match order.sort_by_key(|variable| rank(layout, *variable)) {
+        Ok(()) => Ok(order),
+        Err(_) => Err(Memory),
+    }
+}
