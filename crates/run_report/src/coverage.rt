@@ -3,8 +3,8 @@ use crate::outcome::{Judged, is_covered};
 use ctl_atoms::CtlFault;
 use hcl_types::{NameId, Row};
 use program_check::{NearFetch, Watched};
-use stage_text::{put, put_address, put_number_pair};
-use y86_base::{Memory, Variant};
+use stage_text::{put_address, put_number_pair};
+use y86_base::{Memory, Variant, put};
 
 /// Writes the name of a signal.
 fn put_name(out: &mut Vec<u8>, rows: &[Row], id: NameId) -> Result<(), Memory> {

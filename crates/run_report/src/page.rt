@@ -5,9 +5,9 @@ use crate::written::{Line, lines_of, lines_of_part, put_place, same_instruction}
 use cosimulation::{Compared, Part, RecordDiffers};
 use hcl_types::Row;
 use program_check::Watched;
-use stage_text::{put, put_number_pair};
+use stage_text::put_number_pair;
 use std::alloc::Global;
-use y86_base::{Memory, Stat, Variant};
+use y86_base::{Memory, Stat, Variant, put};
 use y86_isa::{Machine, Rec};
 
 /// The columns of the names, and of what the pipeline has.

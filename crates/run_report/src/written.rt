@@ -1,8 +1,8 @@
 //! What an instruction does, in words: its text, the registers and memory that it writes, its flags and its status.
 use cosimulation::Part;
-use stage_text::{Held, put, put_address, put_instruction, put_number_pair, put_word_pair};
+use stage_text::{Held, put_address, put_instruction, put_number_pair, put_word_pair};
 use std::alloc::Global;
-use y86_base::{Flags, Image, Memory, Regs, Stat, Variant};
+use y86_base::{Flags, Image, Memory, Regs, Stat, Variant, put};
 use y86_isa::{Rec, Store, split};
 use yis_run::flag;
 

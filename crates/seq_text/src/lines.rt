@@ -7,10 +7,10 @@ ghost use Rattle.stage_text.specs.Cycle.{register_lines};
 use crate::signals::{Signals, Sources};
 use seq_plus::Previous;
 use stage_text::{
-    Held, put, put_address, put_flags, put_function_pair, put_instruction, put_number_pair,
+    Held, put_address, put_flags, put_function_pair, put_instruction, put_number_pair,
     put_register_pair, put_status_pair, put_stored, put_text_pair, put_word_pair, put_writes,
 };
-use y86_base::{Flags, Memory};
+use y86_base::{Flags, Memory, put};
 use y86_isa::{Store, data_store};
 
 const AOK: u64 = 1;
