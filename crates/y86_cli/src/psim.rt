@@ -11,7 +11,6 @@ ghost use Rattle.y86_cli.specs.PipeRuns.{ran_line};
 ghost use Rattle.yis_run.specs.Report as text;
 
 use crate::design::{Ordered, pipe_file};
-use crate::request::PipeRequest;
 use crate::saying::say;
 use crate::stages::{FILE_LIMIT, load_image, read_file, status};
 use crate::stop::Stop;
@@ -22,7 +21,7 @@ use pipe_path::Pipe;
 use retire_trace::{Drove, drive};
 use std::alloc::Global;
 use wb_io::{Failed, Files, Sink, put_all, put_pieces};
-use y86_base::{Image, Numeral};
+use y86_base::{Image, Numeral, Variant};
 use yis_run::{End, report};
 
 /// Writes the line of the counts.
@@ -57,18 +56,19 @@ fn put_end<O: Sink>(drove: Drove, first: &Image, end: &End<'_>, out: &mut O) -> 
 
 /// Writes the text of a verdict, runs an image on PIPE, with a trace where it is asked for, and writes the counts and the
 /// report. All memory is taken before anything is written.
-fn run_pipe<'a, O: Sink>(
+pub fn run_pipe<'a, O: Sink>(
     alloc: Global,
+    variant: Variant,
     ordered: Ordered,
     image: Image,
-    request: PipeRequest<'a>,
+    limit: u64,
+    trace: bool,
     verdict: &[u8],
     out: &mut O,
 ) -> Result<u8, Stop<'a>>
     requires ordered { IsOrdered pipe_rows ordered }
-    requires limit { request.run.limit < 2 ^ 63 }
-    ensures { SaysOn O.taken O.faults (PipeAnswers request.run.variant ordered.design.terms request.run.limit request.trace verdict.now image)
-        out.old out.new result }
+    requires limit { limit < 2 ^ 63 }
+    ensures { SaysOn O.taken O.faults (PipeAnswers variant ordered.design.terms limit trace verdict.now image) out.old out.new result }
 {
     let Ok(first) = image.copy(alloc) else {
         return Err(Stop::Memory);
@@ -77,12 +77,12 @@ fn run_pipe<'a, O: Sink>(
     let Ok(compiled) = compile(alloc, &design, &order, &constant_words()) else {
         return Err(Stop::Memory);
     };
-    let mut machine = Pipe::new(request.run.variant, design, order, compiled, image);
+    let mut machine = Pipe::new(variant, design, order, compiled, image);
     match put_all(out, verdict) {
         Ok(()) => {}
         Err(_) => return Err(Stop::Write),
     }
-    let drove = match drive(&mut machine, request.run.limit, request.trace, out) {
+    let drove = match drive(&mut machine, limit, trace, out) {
         Ok(drove) => drove,
         Err(_) => return Err(Stop::Write),
     };
@@ -96,29 +96,31 @@ fn run_pipe<'a, O: Sink>(
 /// Reads an object file and runs it on PIPE under a design, behind the text of a verdict.
 fn run_object<'a, F: Files, O: Sink>(
     alloc: Global,
+    variant: Variant,
     ordered: Ordered,
-    request: PipeRequest<'a>,
+    obj: &'a str,
+    mem: u64,
+    limit: u64,
+    trace: bool,
     verdict: &[u8],
     files: &mut F,
     out: &mut O,
 ) -> Result<u8, Stop<'a>>
-    requires size { IsSize request.run.mem }
-    requires limit { request.run.limit ≤ 100000000 }
+    requires size { IsSize mem }
+    requires limit { limit ≤ 100000000 }
     requires ordered { IsOrdered pipe_rows ordered }
-    ensures { DoesOver F.told F.faults O.taken O.faults
-        (pipe_plan verdict.now ordered.design.terms request.run.obj.now request.run.mem request.run.limit request.trace request.run.variant)
+    ensures { DoesOver F.told F.faults O.taken O.faults (pipe_plan verdict.now ordered.design.terms obj.now mem limit trace variant)
         files.old files.new out.old out.new result }
 {
-    let run = request.run;
-    let bytes = match read_file(alloc, run.obj, FILE_LIMIT, files) {
+    let bytes = match read_file(alloc, obj, FILE_LIMIT, files) {
         Ok(bytes) => bytes,
         Err(stop) => return Err(stop),
     };
-    let image = match load_image(alloc, run.obj, bytes.as_slice(), run.mem) {
+    let image = match load_image(alloc, obj, bytes.as_slice(), mem) {
         Ok(image) => image,
         Err(stop) => return Err(stop),
     };
-    run_pipe(alloc, ordered, image, request, verdict, out)
+    run_pipe(alloc, variant, ordered, image, limit, trace, verdict, out)
 }
 
 /// Reads an object file and runs it on PIPE under a design. Where a check is asked for, the design is checked first; behind
@@ -126,25 +128,40 @@ fn run_object<'a, F: Files, O: Sink>(
 fn run_checked<'a, F: Files, O: Sink>(
     alloc: Global,
     name: &'a str,
+    variant: Variant,
     ordered: Ordered,
-    request: PipeRequest<'a>,
+    obj: &'a str,
+    mem: u64,
+    limit: u64,
+    trace: bool,
+    checked: bool,
     files: &mut F,
     out: &mut O,
 ) -> Result<u8, Stop<'a>>
-    requires size { IsSize request.run.mem }
-    requires limit { request.run.limit ≤ 100000000 }
+    requires size { IsSize mem }
+    requires limit { limit ≤ 100000000 }
     requires ordered { IsOrdered pipe_rows ordered }
-    ensures { DoesOver F.told F.faults O.taken O.faults
-        (checked_plan name.now ordered.design.terms request.run.obj.now request.run.mem request.run.limit request.trace request.checked request.run.variant)
+    ensures { DoesOver F.told F.faults O.taken O.faults (checked_plan name.now ordered.design.terms obj.now mem limit trace checked variant)
         files.old files.new out.old out.new result }
 {
-    if !request.checked {
-        return run_object(alloc, ordered, request, b"", files, out);
+    if !checked {
+        return run_object(
+            alloc, variant, ordered, obj, mem, limit, trace, b"", files, out,
+        );
     }
-    match pipe_verdict(alloc, name, request.run.variant, &ordered) {
-        Ok(PipeText::Yes(text)) => {
-            run_object(alloc, ordered, request, text.as_slice(), files, out)
-        }
+    match pipe_verdict(alloc, name, variant, &ordered) {
+        Ok(PipeText::Yes(text)) => run_object(
+            alloc,
+            variant,
+            ordered,
+            obj,
+            mem,
+            limit,
+            trace,
+            text.as_slice(),
+            files,
+            out,
+        ),
         Ok(PipeText::No(text)) => say(1, text.as_slice(), out),
         Err(stop) => Err(stop),
     }
@@ -154,19 +171,25 @@ fn run_checked<'a, F: Files, O: Sink>(
 pub fn psim<'a, F: Files, O: Sink>(
     alloc: Global,
     name: &'a str,
-    request: PipeRequest<'a>,
+    obj: &'a str,
+    mem: u64,
+    limit: u64,
+    trace: bool,
+    checked: bool,
+    variant: Variant,
     files: &mut F,
     out: &mut O,
 ) -> Result<u8, Stop<'a>>
-    requires size { IsSize request.run.mem }
-    requires limit { request.run.limit ≤ 100000000 }
-    ensures { DoesOver F.told F.faults O.taken O.faults
-        (psim_plan name.now request.run.obj.now request.run.mem request.run.limit request.trace request.checked request.run.variant)
+    requires size { IsSize mem }
+    requires limit { limit ≤ 100000000 }
+    ensures { DoesOver F.told F.faults O.taken O.faults (psim_plan name.now obj.now mem limit trace checked variant)
         files.old files.new out.old out.new result }
 {
     let ordered = match pipe_file(alloc, name, files) {
         Ok(ordered) => ordered,
         Err(stop) => return Err(stop),
     };
-    run_checked(alloc, name, ordered, request, files, out)
+    run_checked(
+        alloc, name, variant, ordered, obj, mem, limit, trace, checked, files, out,
+    )
 }

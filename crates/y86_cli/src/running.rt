@@ -17,7 +17,6 @@ use crate::datapath::Datapath;
 use crate::hcl::hcl;
 use crate::psim::psim;
 use crate::recheck::recheck;
-use crate::request::{PipeRequest, RunRequest};
 use crate::sample::sample;
 use crate::ssim::ssim;
 use crate::stop::Stop;
@@ -52,15 +51,7 @@ fn execute<'a, F: Files, O: Sink>(
             mem,
             limit,
             variant,
-        } => {
-            let request = RunRequest {
-                obj,
-                mem,
-                limit,
-                variant,
-            };
-            yis(alloc, request, files, out)
-        }
+        } => yis(alloc, obj, mem, limit, variant, files, out),
         Cmd::Hcl { hcl: name } => hcl(alloc, name, files, out),
         Cmd::Ssim {
             hcl: name,
@@ -68,30 +59,34 @@ fn execute<'a, F: Files, O: Sink>(
             mem,
             limit,
             variant,
-        } => {
-            let request = RunRequest {
-                obj,
-                mem,
-                limit,
-                variant,
-            };
-            ssim(alloc, Datapath::Seq, name, request, files, out)
-        }
+        } => ssim(
+            alloc,
+            Datapath::Seq,
+            name,
+            obj,
+            mem,
+            limit,
+            variant,
+            files,
+            out,
+        ),
         Cmd::Ssimp {
             hcl: name,
             obj,
             mem,
             limit,
             variant,
-        } => {
-            let request = RunRequest {
-                obj,
-                mem,
-                limit,
-                variant,
-            };
-            ssim(alloc, Datapath::Plus, name, request, files, out)
-        }
+        } => ssim(
+            alloc,
+            Datapath::Plus,
+            name,
+            obj,
+            mem,
+            limit,
+            variant,
+            files,
+            out,
+        ),
         Cmd::Psim {
             hcl: name,
             obj,
@@ -100,20 +95,9 @@ fn execute<'a, F: Files, O: Sink>(
             trace,
             checked,
             variant,
-        } => {
-            let run = RunRequest {
-                obj,
-                mem,
-                limit,
-                variant,
-            };
-            let request = PipeRequest {
-                run,
-                trace,
-                checked,
-            };
-            psim(alloc, name, request, files, out)
-        }
+        } => psim(
+            alloc, name, obj, mem, limit, trace, checked, variant, files, out,
+        ),
         Cmd::CheckSeq { hcl: name, variant } => {
             check_seq_file(alloc, Datapath::Seq, name, variant, files, out)
         }

@@ -11,7 +11,6 @@ ghost use Rattle.y86_cli.specs.declared.datapath.Datapath.TheVariants.{Plus as O
 
 use crate::datapath::Datapath;
 use crate::design::{Ordered, seq_file};
-use crate::request::RunRequest;
 use crate::stages::{FILE_LIMIT, load_image, read_file, status};
 use crate::stop::Stop;
 use dp_signals::constant_words;
@@ -20,19 +19,20 @@ use seq_path::Seq;
 use seq_plus::Plus;
 use std::alloc::Global;
 use wb_io::{Files, Sink};
-use y86_base::Image;
+use y86_base::{Image, Variant};
 use yis_run::report;
 
 /// Runs an image on SEQ and writes the report. All memory is taken before the first cycle.
 fn run_seq<'a, O: Sink>(
     alloc: Global,
+    variant: Variant,
     ordered: Ordered,
     image: Image,
-    request: RunRequest<'a>,
+    limit: u64,
     out: &mut O,
 ) -> Result<u8, Stop<'a>>
     requires { IsOrdered seq_rows ordered }
-    ensures { SaysOn O.taken O.faults (SeqAnswers OnSeq request.variant ordered.design.terms request.limit image) out.old out.new result }
+    ensures { SaysOn O.taken O.faults (SeqAnswers OnSeq variant ordered.design.terms limit image) out.old out.new result }
 {
     let Ok(first) = image.copy(alloc) else {
         return Err(Stop::Memory);
@@ -41,8 +41,8 @@ fn run_seq<'a, O: Sink>(
     let Ok(compiled) = compile(alloc, &design, &order, &constant_words()) else {
         return Err(Stop::Memory);
     };
-    let mut machine = Seq::new(request.variant, design, order, compiled, image);
-    let ran = seq_path::run(&mut machine, request.limit);
+    let mut machine = Seq::new(variant, design, order, compiled, image);
+    let ran = seq_path::run(&mut machine, limit);
     let end = machine.end();
     match report(&first, &end, ran.steps, out) {
         Ok(()) => Ok(status(end.stat)),
@@ -53,13 +53,14 @@ fn run_seq<'a, O: Sink>(
 /// Runs an image on SEQ+ and writes the report. All memory is taken before the first cycle.
 fn run_plus<'a, O: Sink>(
     alloc: Global,
+    variant: Variant,
     ordered: Ordered,
     image: Image,
-    request: RunRequest<'a>,
+    limit: u64,
     out: &mut O,
 ) -> Result<u8, Stop<'a>>
     requires { IsOrdered plus_rows ordered }
-    ensures { SaysOn O.taken O.faults (SeqAnswers OnPlus request.variant ordered.design.terms request.limit image) out.old out.new result }
+    ensures { SaysOn O.taken O.faults (SeqAnswers OnPlus variant ordered.design.terms limit image) out.old out.new result }
 {
     let Ok(first) = image.copy(alloc) else {
         return Err(Stop::Memory);
@@ -68,8 +69,8 @@ fn run_plus<'a, O: Sink>(
     let Ok(compiled) = compile(alloc, &design, &order, &constant_words()) else {
         return Err(Stop::Memory);
     };
-    let mut machine = Plus::new(request.variant, design, order, compiled, image);
-    let ran = seq_plus::run(&mut machine, request.limit);
+    let mut machine = Plus::new(variant, design, order, compiled, image);
+    let ran = seq_plus::run(&mut machine, limit);
     let pc = machine.pc();
     let end = machine.end(pc);
     match report(&first, &end, ran.steps, out) {
@@ -82,17 +83,18 @@ fn run_plus<'a, O: Sink>(
 fn run_image<'a, O: Sink>(
     alloc: Global,
     which: Datapath,
+    variant: Variant,
     ordered: Ordered,
     image: Image,
-    request: RunRequest<'a>,
+    limit: u64,
     out: &mut O,
 ) -> Result<u8, Stop<'a>>
     requires { IsOrdered (rows_of which) ordered }
-    ensures { SaysOn O.taken O.faults (SeqAnswers which request.variant ordered.design.terms request.limit image) out.old out.new result }
+    ensures { SaysOn O.taken O.faults (SeqAnswers which variant ordered.design.terms limit image) out.old out.new result }
 {
     match which {
-        Datapath::Seq => run_seq(alloc, ordered, image, request, out),
-        Datapath::Plus => run_plus(alloc, ordered, image, request, out),
+        Datapath::Seq => run_seq(alloc, variant, ordered, image, limit, out),
+        Datapath::Plus => run_plus(alloc, variant, ordered, image, limit, out),
     }
 }
 
@@ -100,26 +102,28 @@ fn run_image<'a, O: Sink>(
 fn run_object<'a, F: Files, O: Sink>(
     alloc: Global,
     which: Datapath,
+    variant: Variant,
     ordered: Ordered,
-    request: RunRequest<'a>,
+    obj: &'a str,
+    mem: u64,
+    limit: u64,
     files: &mut F,
     out: &mut O,
 ) -> Result<u8, Stop<'a>>
-    requires size { IsSize request.mem }
+    requires size { IsSize mem }
     requires ordered { IsOrdered (rows_of which) ordered }
-    ensures { DoesOver F.told F.faults O.taken O.faults
-        (seq_plan which ordered.design.terms request.obj.now request.mem request.limit request.variant)
+    ensures { DoesOver F.told F.faults O.taken O.faults (seq_plan which ordered.design.terms obj.now mem limit variant)
         files.old files.new out.old out.new result }
 {
-    let bytes = match read_file(alloc, request.obj, FILE_LIMIT, files) {
+    let bytes = match read_file(alloc, obj, FILE_LIMIT, files) {
         Ok(bytes) => bytes,
         Err(stop) => return Err(stop),
     };
-    let image = match load_image(alloc, request.obj, bytes.as_slice(), request.mem) {
+    let image = match load_image(alloc, obj, bytes.as_slice(), mem) {
         Ok(image) => image,
         Err(stop) => return Err(stop),
     };
-    run_image(alloc, which, ordered, image, request, out)
+    run_image(alloc, which, variant, ordered, image, limit, out)
 }
 
 /// `ssim` and `ssimp`: runs an object file on SEQ or SEQ+ under an HCL file.
@@ -127,18 +131,20 @@ pub fn ssim<'a, F: Files, O: Sink>(
     alloc: Global,
     which: Datapath,
     name: &'a str,
-    request: RunRequest<'a>,
+    obj: &'a str,
+    mem: u64,
+    limit: u64,
+    variant: Variant,
     files: &mut F,
     out: &mut O,
 ) -> Result<u8, Stop<'a>>
-    requires { IsSize request.mem }
-    ensures { DoesOver F.told F.faults O.taken O.faults
-        (ssim_plan which name.now request.obj.now request.mem request.limit request.variant)
+    requires { IsSize mem }
+    ensures { DoesOver F.told F.faults O.taken O.faults (ssim_plan which name.now obj.now mem limit variant)
         files.old files.new out.old out.new result }
 {
     let ordered = match seq_file(alloc, which, name, files) {
         Ok(ordered) => ordered,
         Err(stop) => return Err(stop),
     };
-    run_object(alloc, which, ordered, request, files, out)
+    run_object(alloc, which, variant, ordered, obj, mem, limit, files, out)
 }

@@ -4,7 +4,6 @@ ghost use Rattle.y86_base.specs.Image.{IsSize};
 ghost use Rattle.y86_cli.specs.Answers.{yis_plan, yis_run};
 ghost use Rattle.y86_cli.specs.Does.{DoesOver, SaysOn};
 
-use crate::request::RunRequest;
 use crate::stages::{FILE_LIMIT, load_image, read_file, status};
 use crate::stop::Stop;
 use std::alloc::Global;
@@ -40,21 +39,24 @@ fn run_image<'a, O: Sink>(
 #[tactic(auto, unfolding(crate::specs::Answers::yis_plan), using(crate::proofs::Does::gives_it, crate::proofs::Does::read_goes_on, crate::proofs::Does::read_stops, crate::proofs::Does::stage_goes_on, crate::proofs::Does::stage_refuses))]
 pub fn yis<'a, F: Files, O: Sink>(
     alloc: Global,
-    request: RunRequest<'a>,
+    obj: &'a str,
+    mem: u64,
+    limit: u64,
+    variant: Variant,
     files: &mut F,
     out: &mut O,
 ) -> Result<u8, Stop<'a>>
-    requires { IsSize request.mem }
-    ensures { DoesOver F.told F.faults O.taken O.faults (yis_plan request.obj.now request.mem request.limit request.variant)
+    requires { IsSize mem }
+    ensures { DoesOver F.told F.faults O.taken O.faults (yis_plan obj.now mem limit variant)
         files.old files.new out.old out.new result }
 {
-    let bytes = match read_file(alloc, request.obj, FILE_LIMIT, files) {
+    let bytes = match read_file(alloc, obj, FILE_LIMIT, files) {
         Ok(bytes) => bytes,
         Err(stop) => return Err(stop),
     };
-    let image = match load_image(alloc, request.obj, bytes.as_slice(), request.mem) {
+    let image = match load_image(alloc, obj, bytes.as_slice(), mem) {
         Ok(image) => image,
         Err(stop) => return Err(stop),
     };
-    run_image(alloc, request.variant, image, request.limit, out)
+    run_image(alloc, variant, image, limit, out)
 }

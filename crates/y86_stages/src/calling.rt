@@ -98,7 +98,9 @@ fn show_words<'a, F: Files, O: Sink>(
     };
     match request_of(command) {
         None => Err(Stop::Usage),
-        Some(request) => show(alloc, processor, request, window, files, out),
+        Some(r) => show(
+            alloc, processor, r.hcl, r.obj, r.mem, r.limit, r.variant, window, files, out,
+        ),
     }
 }
 

@@ -7,7 +7,6 @@ ghost use Rattle.y86_cli.specs.Designs.{IsDesign, IsOrdered, RefusesDesign};
 ghost use Rattle.y86_cli.specs.Does.{DoesOver, ReadsOne, Says, files_seen, sink_seen};
 ghost use Rattle.y86_stages.specs.Shown.{ShownAnswers, Shows, object_plan, rows_of, stages_plan};
 
-use crate::calling::Request;
 use crate::reading::Processor;
 use dp_signals::constant_words;
 use hcl_compile::compile;
@@ -15,7 +14,7 @@ use seq_text::{watch_plus, watch_seq};
 use stage_text::{Watched, Window, watch_run};
 use std::alloc::Global;
 use wb_io::{Files, Sink};
-use y86_base::{Image, Memory};
+use y86_base::{Image, Memory, Variant};
 use y86_cli::{
     Datapath, FILE_LIMIT, Ordered, Stop, load_image, pipe_file, read_file, say, seq_file, status,
 };
@@ -43,15 +42,16 @@ fn design_file<'a, F: Files>(
 fn watch(
     alloc: Global,
     processor: Processor,
+    variant: Variant,
     ordered: &Ordered,
     object: &[u8],
     image: Image,
-    request: Request<'_>,
+    limit: u64,
     window: &Window,
 ) -> Result<Watched, Memory>
     requires ordered { IsOrdered (rows_of processor) ordered.now }
-    requires limit { request.limit ≤ 100000000 }
-    ensures { IfOk result (λ w. Shows processor request.variant ordered.now.design.terms (listed object.now) request.limit window.now image w.text.items w.end) }
+    requires limit { limit ≤ 100000000 }
+    ensures { IfOk result (λ w. Shows processor variant ordered.now.design.terms (listed object.now) limit window.now image w.text.items w.end) }
 {
     let Ok(mut compiled) = compile(alloc, &ordered.design, &ordered.order, &constant_words()) else {
         return Err(Memory);
@@ -60,36 +60,36 @@ fn watch(
     match processor {
         Processor::Pipe => watch_run(
             alloc,
-            request.variant,
+            variant,
             rows,
             &ordered.design,
             &ordered.order,
             &mut compiled,
             object,
             image,
-            request.limit,
+            limit,
             window,
         ),
         Processor::Seq => watch_seq(
             alloc,
-            request.variant,
+            variant,
             rows,
             &ordered.design,
             &ordered.order,
             &mut compiled,
             image,
-            request.limit,
+            limit,
             window,
         ),
         Processor::SeqPlus => watch_plus(
             alloc,
-            request.variant,
+            variant,
             rows,
             &ordered.design,
             &ordered.order,
             &mut compiled,
             image,
-            request.limit,
+            limit,
             window,
         ),
     }
@@ -99,19 +99,22 @@ fn watch(
 fn show_image<'a, O: Sink>(
     alloc: Global,
     processor: Processor,
+    variant: Variant,
     ordered: &Ordered,
     object: &[u8],
     image: Image,
-    request: Request<'a>,
+    limit: u64,
     window: &Window,
     out: &mut O,
 ) -> Result<u8, Stop<'a>>
     requires ordered { IsOrdered (rows_of processor) ordered.now }
-    requires limit { request.limit ≤ 100000000 }
-    ensures { Says (ShownAnswers processor request.variant ordered.now.design.terms (listed object.now) request.limit window.now image)
+    requires limit { limit ≤ 100000000 }
+    ensures { Says (ShownAnswers processor variant ordered.now.design.terms (listed object.now) limit window.now image)
         (sink_seen (O.taken out.old) (O.faults out.old)) (sink_seen (O.taken out.new) (O.faults out.new)) result }
 {
-    match watch(alloc, processor, ordered, object, image, request, window) {
+    match watch(
+        alloc, processor, variant, ordered, object, image, limit, window,
+    ) {
         Ok(watched) => say(status(watched.end), watched.text.as_slice(), out),
         Err(_) => Err(Stop::Memory),
     }
@@ -121,30 +124,32 @@ fn show_image<'a, O: Sink>(
 fn show_object<'a, F: Files, O: Sink>(
     alloc: Global,
     processor: Processor,
+    variant: Variant,
     ordered: &Ordered,
-    request: Request<'a>,
+    obj: &'a str,
+    mem: u64,
+    limit: u64,
     window: &Window,
     files: &mut F,
     out: &mut O,
 ) -> Result<u8, Stop<'a>>
-    requires size { IsSize request.mem }
-    requires limit { request.limit ≤ 100000000 }
+    requires size { IsSize mem }
+    requires limit { limit ≤ 100000000 }
     requires ordered { IsOrdered (rows_of processor) ordered.now }
-    ensures { DoesOver F.told F.faults O.taken O.faults
-        (object_plan processor ordered.now.design.terms request.obj.now request.mem request.limit request.variant window.now)
+    ensures { DoesOver F.told F.faults O.taken O.faults (object_plan processor ordered.now.design.terms obj.now mem limit variant window.now)
         files.old files.new out.old out.new result }
 {
-    let bytes = match read_file(alloc, request.obj, FILE_LIMIT, files) {
+    let bytes = match read_file(alloc, obj, FILE_LIMIT, files) {
         Ok(bytes) => bytes,
         Err(stop) => return Err(stop),
     };
     let object = bytes.as_slice();
-    let image = match load_image(alloc, request.obj, object, request.mem) {
+    let image = match load_image(alloc, obj, object, mem) {
         Ok(image) => image,
         Err(stop) => return Err(stop),
     };
     show_image(
-        alloc, processor, ordered, object, image, request, window, out,
+        alloc, processor, variant, ordered, object, image, limit, window, out,
     )
 }
 
@@ -152,20 +157,25 @@ fn show_object<'a, F: Files, O: Sink>(
 pub fn show<'a, F: Files, O: Sink>(
     alloc: Global,
     processor: Processor,
-    request: Request<'a>,
+    name: &'a str,
+    obj: &'a str,
+    mem: u64,
+    limit: u64,
+    variant: Variant,
     window: &Window,
     files: &mut F,
     out: &mut O,
 ) -> Result<u8, Stop<'a>>
-    requires size { IsSize request.mem }
-    requires limit { request.limit ≤ 100000000 }
-    ensures { DoesOver F.told F.faults O.taken O.faults
-        (stages_plan processor request.hcl.now request.obj.now request.mem request.limit request.variant window.now)
+    requires size { IsSize mem }
+    requires limit { limit ≤ 100000000 }
+    ensures { DoesOver F.told F.faults O.taken O.faults (stages_plan processor name.now obj.now mem limit variant window.now)
         files.old files.new out.old out.new result }
 {
-    let ordered = match design_file(alloc, processor, request.hcl, files) {
+    let ordered = match design_file(alloc, processor, name, files) {
         Ok(ordered) => ordered,
         Err(stop) => return Err(stop),
     };
-    show_object(alloc, processor, &ordered, request, window, files, out)
+    show_object(
+        alloc, processor, variant, &ordered, obj, mem, limit, window, files, out,
+    )
 }
