@@ -251,6 +251,16 @@ def test_faults(row, y86_tell):
     same((came[0], came[1], came[2][: len(begins)]), (status, "", begins))
 
 
+def test_a_source_in_place_of_its_object(y86_tell):
+    """It would be an empty program. Without a statement it is one."""
+    source = "# nothing yet\n\nmain: halt\n"
+    refused = "p.ys:3: This is a source and no object file: assemble it by `yas` first. As an object file it puts no byte anywhere.\n"
+    files = {"d.hcl": example("std"), "p.ys": source}
+    same(y86_tell("run", "d.hcl", "p.ys", files=files).text(), (5, "", refused))
+    same(y86_tell("program", "p.ys", files=files).text(), (5, "", refused))
+    same(y86_tell("program", "p.ys", files={"p.ys": "# nothing yet\n"}).status, 0)
+
+
 def test_out_of_memory(y86_tell, folder):
     """Requests for memory are refused, each in a call of its own, behind those of reading the arguments: the call says so, or had no need of it."""
     library = built(folder, REFUSING)

@@ -1,4 +1,7 @@
 //! The findings of an obligation as JSON, with names that are stable.
+ghost use Rattle.std.specs.Prelude.{◌≡◌, ◌++◌, OnOk};
+ghost use Rattle.finding_text.specs.Facts as spec;
+
 use crate::cases::{CasePlace, place_of};
 use crate::told::names_read;
 use crate::values::Values;
@@ -14,19 +17,25 @@ use std::alloc::{AllocError, Global};
 pub type Out = Writer<Global>;
 
 /// Writes a member that is a text.
-pub fn put_text(out: &mut Out, name: &str, text: &str) -> Result<(), AllocError> {
+pub fn put_text(out: &mut Out, name: &str, text: &str) -> Result<(), AllocError>
+    ensures { OnOk result (out.new.tokens ≡ out.old.tokens ++ spec.text name.now text.now) }
+{
     out.key(name)?;
     out.string(text)
 }
 
 /// Writes a member that is a number.
-pub fn put_number(out: &mut Out, name: &str, n: u64) -> Result<(), AllocError> {
+pub fn put_number(out: &mut Out, name: &str, n: u64) -> Result<(), AllocError>
+    ensures { OnOk result (out.new.tokens ≡ out.old.tokens ++ spec.count name.now n) }
+{
     out.key(name)?;
     out.u64(n)
 }
 
 /// Writes a member that is a truth.
-pub fn put_truth(out: &mut Out, name: &str, truth: bool) -> Result<(), AllocError> {
+pub fn put_truth(out: &mut Out, name: &str, truth: bool) -> Result<(), AllocError>
+    ensures { OnOk result (out.new.tokens ≡ out.old.tokens ++ spec.truth name.now truth) }
+{
     out.key(name)?;
     out.boolean(truth)
 }
@@ -170,16 +179,49 @@ pub fn put_comparison_facts(out: &mut Out, values: &Values<'_>) -> Result<(), Al
     out.end_array()
 }
 
+/// Writes what an obligation demands.
+#[tactic(auto, unfolding(crate::specs::Facts::demand_facts))]
+fn put_demand(out: &mut Out, o: &Obligation) -> Result<(), AllocError>
+    ensures { OnOk result (out.new.tokens ≡ out.old.tokens ++ spec.demand_facts o.now) }
+{
+    put_text(out, "label", o.label)?;
+    put_text(out, "demand", o.demand)
+}
+
+/// Writes why.
+#[tactic(auto, unfolding(crate::specs::Facts::reason_facts))]
+fn put_reason(out: &mut Out, o: &Obligation) -> Result<(), AllocError>
+    ensures { OnOk result (out.new.tokens ≡ out.old.tokens ++ spec.reason_facts o.now) }
+{
+    put_text(out, "reason", o.reason)?;
+    put_text(out, "book", o.book)
+}
+
+/// Writes an obligation as an object.
+#[tactic(auto, unfolding(crate::specs::Facts::obligation))]
+fn put_members(out: &mut Out, o: &Obligation) -> Result<(), AllocError>
+    ensures { OnOk result (out.new.tokens ≡ out.old.tokens ++ spec.obligation o.now) }
+{
+    out.begin_object()?;
+    put_demand(out, o)?;
+    put_reason(out, o)?;
+    out.end_object()
+}
+
 /// Writes an obligation: the member `obligation`, which is null where there is none.
 pub fn put_obligation_facts(out: &mut Out, o: Option<&Obligation>) -> Result<(), AllocError> {
     out.key("obligation")?;
-    let Some(o) = o else {
-        return out.null();
-    };
-    out.begin_object()?;
-    put_text(out, "label", o.label)?;
-    put_text(out, "demand", o.demand)?;
-    put_text(out, "reason", o.reason)?;
-    put_text(out, "book", o.book)?;
-    out.end_object()
+    match o {
+        Some(o) => put_members(out, o),
+        None => out.null(),
+    }
+}
+
+/// Writes the label of the obligation to mend first: the member `mend_first`.
+pub fn put_mend_first(out: &mut Out, o: Option<&Obligation>) -> Result<(), AllocError> {
+    out.key("mend_first")?;
+    match o {
+        Some(o) => out.string(o.label),
+        None => out.null(),
+    }
 }

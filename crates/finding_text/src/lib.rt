@@ -16,13 +16,13 @@ mod words;
 
 pub use cases::{CasePlace, place_of};
 pub use facts::{
-    Out, put_comparison_facts, put_finding_facts, put_number, put_obligation_facts, put_text,
-    put_truth,
+    Out, put_comparison_facts, put_finding_facts, put_mend_first, put_number, put_obligation_facts,
+    put_text, put_truth,
 };
 pub use iaddq::{names_iaddq, put_unasked};
 pub use lines::{put_findings, put_obligation};
-pub use mending::{first_alone, put_once};
+pub use mending::{first_alone, put_once, put_wrong};
 pub use paragraph::{put_lines, put_paragraph};
-pub use told::{put_comparisons, put_finding, put_leaf};
+pub use told::{put_comparisons, put_finding, put_leaf, put_wrong_findings};
 pub use values::{Values, name_of};
 pub use words::{instruction, mnemonic, put_value, register, status, value_name};

@@ -1,12 +1,30 @@
 //! Which of some obligations has wrong signals that depend on no other one's wrong signals.
+ghost use Rattle.std.specs.Prelude.{◌≡◌, OnOk};
+ghost use Rattle.finding_text.specs.Mending as spec;
+
 use crate::values::Values;
+use findings::Finding;
 use hcl_types::{NameId, put_names};
 use std::alloc::{AllocError, Global};
 
 /// Adds a name that isn't listed.
-pub fn put_once(out: &mut Vec<NameId>, id: NameId) -> Result<(), AllocError> {
+pub fn put_once(out: &mut Vec<NameId>, id: NameId) -> Result<(), AllocError>
+    ensures { OnOk result (out.new.items ≡ spec.once out.old.items id) }
+{
     if !out.as_slice().contains(&id) {
         out.push(id)?;
+    }
+    Ok(())
+}
+
+/// Adds the signals that aren't right.
+pub fn put_wrong(out: &mut Vec<NameId>, findings: &[Finding]) -> Result<(), AllocError>
+    ensures { OnOk result (out.new.items ≡ spec.with_wrong out.old.items findings.now) }
+{
+    for finding in findings {
+        if !finding.is_right {
+            put_once(out, finding.requirement.signal)?;
+        }
     }
     Ok(())
 }

@@ -46,6 +46,23 @@ pub fn put_finding(
     }
 }
 
+/// Writes the findings that aren't right, with a blank between two, and says whether there are any.
+pub fn put_wrong_findings(
+    out: &mut String,
+    values: &Values<'_>,
+    findings: &[Finding],
+) -> Result<bool, AllocError> {
+    let mut is_first = true;
+    for finding in findings {
+        if !finding.is_right {
+            out.push_str(if is_first { "" } else { " " })?;
+            is_first = false;
+            put_finding(out, values, finding)?;
+        }
+    }
+    Ok(!is_first)
+}
+
 /// Whether the value of a name is worth telling: constants and words that stand for themselves aren't.
 fn is_told(values: &Values<'_>, id: NameId) -> bool {
     match values.rows.get(id as usize) {

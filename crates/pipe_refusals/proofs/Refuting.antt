@@ -1,13 +1,12 @@
 -- From the decisions on a file's rules to refutations.
-use Rattle.std.proofs.Common.{◌≡◌, ℕ, zero, suc, ◌+◌, ◌-◌, ◌<◌, ◌≤◌, ◌==◌, ◌||◌, ◌++◌, inl, inr, ◌⊎◌, Bool, true, false, List, [], ◌∷◌, length, drop, get_or, slice_get, Option, None, Some, refl, sym, ap, ◌∙◌, subst, arith}
-use Rattle.std.specs.List.{AllByRecursion}
+use Rattle.std.proofs.Common.{◌≡◌, ℕ, ◌+◌, ◌-◌, ◌<◌, ◌≤◌, ◌==◌, ◌++◌, inl, inr, ◌⊎◌, Bool, true, false, List, [], ◌∷◌, length, drop, get_or, slice_get, None, Some, sym, ap, ◌∙◌, subst, arith}
 use Rattle.std.proofs.lemmas.Bool.{false≢true, cases_lt}
-use Rattle.std.proofs.lemmas.Bool.Decides.{nat_tests}
 use Rattle.std.proofs.lemmas.List.{get_or_past}
 use Rattle.std.proofs.lemmas.Option.{slice_get-get_or, slice_get_within}
 use Rattle.y86_base.specs.declared.parts.Variant.{Variant}
 use Rattle.nets.specs.Nets.{Gates}
 use Rattle.findings.proofs.EachMet.{is_own, none_of}
+use Rattle.findings.proofs.Rising.{rise_by, rise_on}
 use Rattle.hcl_types.proofs.Each.{each_both}
 use Rattle.hcl_types.specs.Tables.{IsOrderOf}
 use Rattle.hcl_types.specs.declared.term.Term.{Term}
@@ -20,7 +19,7 @@ use Rattle.hazard_rules.specs.Parts.{AreRules}
 use Rattle.pipe_fields.specs.Layout.{bit_count}
 use Rattle.pipe_motion.specs.declared.settings.Settings.{Settings}
 use Rattle.pipe_obligations.specs.Rules.{obligation, rule_count}
-use Rattle.pipe_obligations.specs.Settled.{Everywhere, IsFalseAt, PipeControls}
+use Rattle.pipe_obligations.specs.Settled.{Everywhere, PipeControls}
 use Rattle.rule_gates.specs.declared.rules.Rule.{Rule}
 use Rattle.decisions.specs.Decisions.{IsAlwaysTrue}
 use Rattle.verdicts.specs.Decisions.{AreGatesOf, IsDecision}
@@ -103,13 +102,14 @@ module _ (v : Variant) (terms : List Term) (s : Settings) (net : Gates) (list : 
         (subst (λ n. Everywhere v rules.atoms (PipeControls terms) (obligation v s rules.atoms n)) number own)
 
     pub none_refuted : AreRefuted v terms s atoms 0 []
-    none_refuted = record { each = tt; others = λ i l h e. absurd (omega (arith, l, h)) }
+    none_refuted = record { each = tt; rising = omega arith; others = λ i l h e. absurd (omega (arith, l, h)) }
 
     -- one more is false somewhere, and those between it and the last are not
     pub one_more : (from : ℕ) (failure : Failure) (all : List Refutation) (x : Refutation) → IsDecision net (drop from list) (Some failure) → x.rule ≡ failure.rule →
         IsRefutation v terms s atoms x → AreRefuted v terms s atoms from all → AreRefuted v terms s atoms failure.rule (all ++ x ∷ [])
     one_more from failure all x h is own told = record {
       each = each_both (IsRefutation v terms s atoms) all (x ∷ []) told.each (own, tt);
+      rising = rise_by (λ (y : Refutation). y.rule) 0 from failure.rule all x is (next_rule from failure h) told.rising;
       others = λ i l le none. by i l le (none_of (λ (y : Refutation). y.rule == i) all x none) (cases_lt from i);
     }
       where
@@ -123,8 +123,8 @@ module _ (v : Variant) (terms : List Term) (s : Settings) (net : Gates) (list : 
         ]
 
     -- all that is left holds
-    pub rest_holds : (from : ℕ) (all : List Refutation) → IsDecision net (drop from list) None → AreRefuted v terms s atoms from all → AreRefuted v terms s atoms (length list) all
-    rest_holds from all h told = record { each = told.each; others = λ i l le none. by i l le none (cases_lt from i) }
+    pub rest_holds : (from : ℕ) (all : List Refutation) → from ≤ length list → IsDecision net (drop from list) None → AreRefuted v terms s atoms from all → AreRefuted v terms s atoms (length list) all
+    rest_holds from all inside h told = record { each = told.each; rising = rise_on (λ (y : Refutation). y.rule) 0 from (length list) all inside told.rising; others = λ i l le none. by i l le none (cases_lt from i) }
       where
         by : (i : ℕ) → 1 ≤ i → i ≤ length list → is_refuted i all ≡ false → (from < i) ⊎ (i ≤ from) → Everywhere v atoms (PipeControls terms) (obligation v s atoms i)
         by i l le none (inr before) = told.others i l before none

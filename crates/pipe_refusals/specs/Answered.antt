@@ -12,6 +12,7 @@ use Rattle.pipe_motion.specs.declared.settings.Settings.{Settings}
 use Rattle.pipe_obligations.specs.Rules.{obligation, rule_count}
 use Rattle.pipe_obligations.specs.Settled.{Everywhere, IsFalseAt, PipeControls}
 use Rattle.control_check.specs.PipeVerdicts.{AcceptsPipe, AreSettings, RejectsPipe}
+use Rattle.findings.specs.Rising.{RiseWithin}
 use Rattle.pipe_diagnosis.specs.Diagnosis.{IsDiagnosis}
 use Rattle.pipe_refusals.specs.declared.answer.Answer.{Answer}
 use Rattle.pipe_refusals.specs.declared.answer.Answer.TheVariants.{Yes, No}
@@ -36,9 +37,10 @@ pub record IsRefutation (v : Variant) (terms : List Term) (s : Settings) (atoms 
 abbrev pub is_refuted : ℕ → List Refutation → Bool
 is_refuted i all = some (λ (x : Refutation). x.rule == i) all
 
--- Of the obligations from 1 to `until` exactly these are false somewhere.
+-- Of the obligations from 1 to `until` exactly these are false somewhere. Each occurs once, and they are in the order of their numbers.
 pub record AreRefuted (v : Variant) (terms : List Term) (s : Settings) (atoms : List Atom) (until : ℕ) (all : List Refutation) : Type 0 where
   pub each : AllByRecursion (IsRefutation v terms s atoms) all
+  pub rising : RiseWithin (λ (x : Refutation). x.rule) 0 until all
   pub others : (i : ℕ) → 1 ≤ i → i ≤ until → is_refuted i all ≡ false → Everywhere v atoms (PipeControls terms) (obligation v s atoms i)
 
 pub record IsRefusal (v : Variant) (terms : List Term) (r : Refusal) : Type 0 where

@@ -6,8 +6,8 @@ use crate::settings::put_settings_json;
 use crate::stages::kind_name;
 use explanations::{Path, obligation_at};
 use finding_text::{
-    CasePlace, Out, put_comparison_facts, put_finding_facts, put_number, put_obligation_facts,
-    put_text, put_truth,
+    CasePlace, Out, put_comparison_facts, put_finding_facts, put_mend_first, put_number,
+    put_obligation_facts, put_text, put_truth,
 };
 use hcl_types::{NameId, Row, Term};
 use pipe_diagnosis::{Refusal, Refutation};
@@ -230,10 +230,6 @@ pub fn put_refusal_json(
     }
     out.end_array()?;
     let first = first_to_mend(alloc, variant, rows, terms, refusal)?;
-    out.key("mend_first")?;
-    match obligation_at(Path::Pipe, first) {
-        Some(o) => out.string(o.label)?,
-        None => out.null()?,
-    }
+    put_mend_first(out, obligation_at(Path::Pipe, first))?;
     out.end_object()
 }

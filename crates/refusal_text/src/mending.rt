@@ -1,6 +1,6 @@
 //! Which false obligation to mend first.
 use crate::scene::scene_of;
-use finding_text::{first_alone, put_once};
+use finding_text::{first_alone, put_once, put_wrong};
 use hcl_types::{NameId, Row, Term};
 use pipe_diagnosis::{Refusal, Refutation};
 use std::alloc::{AllocError, Global};
@@ -15,11 +15,7 @@ pub fn is_motion(rule: u32) -> bool {
 /// invert, and `f_pc` where they invert none.
 pub fn wrong_signals(alloc: Global, refutation: &Refutation) -> Result<Vec<NameId>, AllocError> {
     let mut out: Vec<NameId> = Vec::new(alloc);
-    for finding in refutation.diagnosis.findings.items() {
-        if !finding.is_right {
-            put_once(&mut out, finding.requirement.signal)?;
-        }
-    }
+    put_wrong(&mut out, refutation.diagnosis.findings.items())?;
     if refutation.rule >= 23 {
         let repairs = &refutation.diagnosis.repairs;
         for signal in repairs.invert.items() {

@@ -6,7 +6,8 @@ use crate::stages::put_stages;
 use dp_signals::pipe_row as name;
 use explanations::{Path, obligation_at};
 use finding_text::{
-    CasePlace, put_comparisons, put_finding, put_findings, put_leaf, put_obligation, put_paragraph,
+    CasePlace, put_comparisons, put_findings, put_leaf, put_obligation, put_paragraph,
+    put_wrong_findings,
 };
 use hcl_types::{NameId, Row, Term};
 use motion_repairs::Repairs;
@@ -175,15 +176,7 @@ fn put_other(
     let out = &mut said;
     put_label(out, other.rule)?;
     out.push_str(": ")?;
-    let mut is_first = true;
-    for finding in other.diagnosis.findings.items() {
-        if !finding.is_right {
-            out.push_str(if is_first { "" } else { " " })?;
-            is_first = false;
-            put_finding(out, &scene.values, finding)?;
-        }
-    }
-    if is_first {
+    if !put_wrong_findings(out, &scene.values, other.diagnosis.findings.items())? {
         out.push_str("it is about stalls and bubbles")?;
         put_other_repairs(out, scene, &other.diagnosis.repairs)?;
         out.push_str(".")?;

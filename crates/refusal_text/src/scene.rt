@@ -1,5 +1,5 @@
 //! What a refusal is explained over: the names of the table, the definitions, and one counterexample.
-ghost use Rattle.std.specs.Prelude.{◌≤◌};
+ghost use Rattle.std.specs.Prelude.{◌≡◌, ◌≤◌};
 
 use control_values::Scope;
 use ctl_atoms::Leaf;
@@ -26,7 +26,12 @@ pub fn scene_of<'a>(
     terms: &'a [Term],
     refusal: &'a Refusal,
     refutation: &'a Refutation,
-) -> Scene<'a> {
+) -> Scene<'a>
+    ensures bits { result.values.bits.now ≡ refutation.now.valuation.bits }
+    ensures leaves { result.values.leaves.now ≡ refutation.now.diagnosis.leaves }
+    ensures atoms { result.values.atoms.now ≡ refusal.now.atoms }
+    ensures diagnosis { result.diagnosis.now ≡ refutation.now.diagnosis }
+{
     Scene {
         variant,
         settings: &refusal.settings,

@@ -1,7 +1,11 @@
-//! The settings of an accepted file, in sentences.
-use json::Writer;
+//! The settings of an accepted file, in sentences and as JSON.
+ghost use Rattle.std.specs.Prelude.{◌≡◌, ◌++◌, ◌∷◌, OnOk};
+ghost use Rattle.json.specs.Token.{key};
+ghost use Rattle.refusal_text.specs.Settings as spec;
+
+use finding_text::{Out, put_truth};
 use pipe_motion::Settings;
-use std::alloc::{AllocError, Global};
+use std::alloc::AllocError;
 
 static JUMPS: [&'static str; 7] = ["jmp", "jle", "jl", "je", "jne", "jge", "jg"];
 
@@ -64,7 +68,9 @@ pub fn put_settings(out: &mut String, s: &Settings) -> Result<(), AllocError> {
 }
 
 /// Writes truths as an array.
-fn put_truths(out: &mut Writer<Global>, name: &str, truths: &[bool]) -> Result<(), AllocError> {
+fn put_truths(out: &mut Out, name: &str, truths: &[bool]) -> Result<(), AllocError>
+    ensures { OnOk result (out.new.tokens ≡ out.old.tokens ++ key name.now ∷ spec.truths truths.now) }
+{
     out.key(name)?;
     out.begin_array()?;
     for truth in truths {
@@ -73,18 +79,33 @@ fn put_truths(out: &mut Writer<Global>, name: &str, truths: &[bool]) -> Result<(
     out.end_array()
 }
 
-/// Writes the settings as an object.
-pub fn put_settings_json(out: &mut Writer<Global>, s: &Settings) -> Result<(), AllocError> {
-    out.begin_object()?;
+/// Writes which jumps are predicted as taken, forward and backward.
+#[tactic(auto, unfolding(crate::specs::Settings::jumps_facts))]
+fn put_jump_facts(out: &mut Out, s: &Settings) -> Result<(), AllocError>
+    ensures { OnOk result (out.new.tokens ≡ out.old.tokens ++ spec.jumps_facts s.now) }
+{
     put_truths(out, "pt", &s.pt)?;
-    put_truths(out, "pb", &s.pb)?;
-    out.key("tv")?;
-    out.boolean(s.tv)?;
-    out.key("lf")?;
-    out.boolean(s.lf)?;
-    out.key("je")?;
-    out.boolean(s.je)?;
-    out.key("rm")?;
-    out.boolean(s.rm)?;
+    put_truths(out, "pb", &s.pb)
+}
+
+/// Writes the other settings.
+#[tactic(auto, unfolding(crate::specs::Settings::choices_facts))]
+fn put_choice_facts(out: &mut Out, s: &Settings) -> Result<(), AllocError>
+    ensures { OnOk result (out.new.tokens ≡ out.old.tokens ++ spec.choices_facts s.now) }
+{
+    put_truth(out, "tv", s.tv)?;
+    put_truth(out, "lf", s.lf)?;
+    put_truth(out, "je", s.je)?;
+    put_truth(out, "rm", s.rm)
+}
+
+/// Writes the settings as an object.
+#[tactic(auto, unfolding(crate::specs::Settings::settings_facts))]
+pub fn put_settings_json(out: &mut Out, s: &Settings) -> Result<(), AllocError>
+    ensures { OnOk result (out.new.tokens ≡ out.old.tokens ++ spec.settings_facts s.now) }
+{
+    out.begin_object()?;
+    put_jump_facts(out, s)?;
+    put_choice_facts(out, s)?;
     out.end_object()
 }

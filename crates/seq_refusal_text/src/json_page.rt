@@ -1,7 +1,7 @@
 //! A refusal as JSON: the same facts as its page, with the names that the JSON of PIPE has.
 use crate::scene::{before, first_to_mend, obligation_of, values_of};
 use finding_text::{
-    CasePlace, Out, Values, put_comparison_facts, put_finding_facts, put_number,
+    CasePlace, Out, Values, put_comparison_facts, put_finding_facts, put_mend_first, put_number,
     put_obligation_facts, put_text,
 };
 use hcl_types::{Row, Term};
@@ -82,10 +82,7 @@ pub fn put_seq_refusal_json(
         put_refutation(alloc, out, which, &values, cases, other)?;
     }
     out.end_array()?;
-    out.key("mend_first")?;
-    match obligation_of(which, first_to_mend(alloc, &values, refusal)?) {
-        Some(o) => out.string(o.label)?,
-        None => out.null()?,
-    }
+    let first = first_to_mend(alloc, &values, refusal)?;
+    put_mend_first(out, obligation_of(which, first))?;
     out.end_object()
 }

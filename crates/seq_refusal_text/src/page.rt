@@ -2,7 +2,8 @@
 use crate::instruction::put_instructions;
 use crate::scene::{before, first_to_mend, obligation_of, values_of};
 use finding_text::{
-    CasePlace, Values, put_comparisons, put_finding, put_findings, put_obligation, put_paragraph,
+    CasePlace, Values, put_comparisons, put_findings, put_obligation, put_paragraph,
+    put_wrong_findings,
 };
 use hcl_types::{Row, Term};
 use seq_diagnosis::{Refusal, Refutation};
@@ -19,13 +20,8 @@ fn put_other(
     let rule = other.rule;
     let mut said = String::new(alloc);
     let out = &mut said;
-    write!(out, "S{rule}:")?;
-    for finding in other.diagnosis.findings.items() {
-        if !finding.is_right {
-            out.push_str(" ")?;
-            put_finding(out, values, finding)?;
-        }
-    }
+    write!(out, "S{rule}: ")?;
+    put_wrong_findings(out, values, other.diagnosis.findings.items())?;
     put_paragraph(alloc, page, "    ", "         ", said.as_str())
 }
 

@@ -1,13 +1,20 @@
 //! What a refusal is explained over: the names of the table, the definitions, and one counterexample.
+ghost use Rattle.std.specs.Prelude.{◌≡◌};
+ghost use Rattle.explanations.specs.declared.obligations.Path.TheVariants as path;
+ghost use Rattle.seq_requirements.specs.declared.datapath.Datapath.TheVariants as datapath;
+
 use explanations::{Obligation, Path, obligation_at};
-use finding_text::Values;
+use finding_text::{Values, first_alone, put_wrong};
 use hcl_types::{NameId, Row, Term};
 use seq_diagnosis::{Refusal, Refutation};
 use seq_requirements::{Datapath, PreviousNow, bit_count, first_defined, previous_of};
 use std::alloc::{AllocError, Global};
 
 /// The datapath, as obligations name it.
-pub fn path_of(which: Datapath) -> Path {
+pub fn path_of(which: Datapath) -> Path
+    ensures seq { which ≡ datapath.Seq → result ≡ path.Seq }
+    ensures plus { which ≡ datapath.Plus → result ≡ path.SeqPlus }
+{
     match which {
         Datapath::Seq => Path::Seq,
         Datapath::Plus => Path::SeqPlus,
@@ -26,7 +33,11 @@ pub fn values_of<'a>(
     terms: &'a [Term],
     refusal: &'a Refusal,
     refutation: &'a Refutation,
-) -> Values<'a> {
+) -> Values<'a>
+    ensures bits { result.bits.now ≡ refutation.now.valuation.bits }
+    ensures leaves { result.leaves.now ≡ refutation.now.diagnosis.leaves }
+    ensures atoms { result.atoms.now ≡ refusal.now.atoms }
+{
     Values {
         rows,
         terms,
@@ -49,11 +60,7 @@ pub fn before(which: Datapath, bits: &[bool]) -> Option<PreviousNow> {
 /// The signals that are wrong at a counterexample.
 fn wrong_signals(alloc: Global, refutation: &Refutation) -> Result<Vec<NameId>, AllocError> {
     let mut out: Vec<NameId> = Vec::new(alloc);
-    for finding in refutation.diagnosis.findings.items() {
-        if !finding.is_right {
-            finding_text::put_once(&mut out, finding.requirement.signal)?;
-        }
-    }
+    put_wrong(&mut out, refutation.diagnosis.findings.items())?;
     Ok(out)
 }
 
@@ -68,7 +75,7 @@ pub fn first_to_mend(
     for other in refusal.others.items() {
         all.push(wrong_signals(alloc, other)?)?;
     }
-    let place = finding_text::first_alone(alloc, values, all.as_slice())?;
+    let place = first_alone(alloc, values, all.as_slice())?;
     match refusal.others.items().get(place.wrapping_sub(1)) {
         Some(other) => Ok(other.rule),
         None => Ok(refusal.first.rule),

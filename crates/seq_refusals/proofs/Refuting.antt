@@ -1,5 +1,5 @@
 -- From the decisions on the rules of a sequential datapath to refutations.
-use Rattle.std.proofs.Common.{◌≡◌, ℕ, zero, suc, ◌+◌, ◌-◌, ◌<◌, ◌≤◌, ◌==◌, ◌++◌, inl, inr, ◌⊎◌, Bool, true, false, List, [], ◌∷◌, length, get_or, slice_get, Option, None, Some, refl, sym, ap, ◌∙◌, subst, arith}
+use Rattle.std.proofs.Common.{◌≡◌, ℕ, zero, suc, ◌+◌, ◌-◌, ◌<◌, ◌≤◌, ◌==◌, ◌++◌, inl, inr, ◌⊎◌, Bool, true, false, List, [], ◌∷◌, length, get_or, slice_get, None, Some, refl, sym, ap, ◌∙◌, subst, arith}
 use Rattle.std.proofs.lemmas.Bool.{false≢true, cases_lt}
 use Rattle.std.proofs.lemmas.Option.{slice_get-get_or, slice_get_within, same_Some}
 use Rattle.y86_base.specs.declared.parts.Variant.{Variant}
@@ -12,6 +12,7 @@ use Rattle.ctl_atoms.specs.Atoms.{AreAtoms}
 use Rattle.ctl_atoms.proofs.Solved.{atoms_one}
 use Rattle.field_bits.specs.Spots.{total}
 use Rattle.findings.proofs.EachMet.{is_own, none_of}
+use Rattle.findings.proofs.Rising.{rise_by, rise_on}
 use Rattle.control_check.proofs.SeqVerdict as seq_verdict
 use Rattle.decisions.specs.Decisions.{IsAlwaysTrue, IsLeastOf}
 use Rattle.rule_gates.specs.declared.rules.Rule.{Rule}
@@ -195,7 +196,7 @@ module _ (which : Datapath) (v : Variant) (terms : List Term) (net : Gates) (lis
 
     -- the next rule holds
     pub next_holds : (k : ℕ) (all : List Refutation) (r : Rule) → slice_get list k ≡ Some r → IsAlwaysTrue net r.gate → Refuted k all → Refuted (k + 1) all
-    next_holds k all r at always told = record { each = told.each; others = λ i l le none. by i l le none (cases_lt k i) }
+    next_holds k all r at always told = record { each = told.each; rising = rise_on (λ (y : Refutation). y.rule) 0 k (k + 1) all (omega arith) told.rising; others = λ i l le none. by i l le none (cases_lt k i) }
       where
         by : (i : ℕ) → 1 ≤ i → i ≤ k + 1 → is_refuted i all ≡ false → (k < i) ⊎ (i ≤ k) → Everywhere which v terms i
         by i l le none (inr before) = told.others i l before none
@@ -205,6 +206,7 @@ module _ (which : Datapath) (v : Variant) (terms : List Term) (net : Gates) (lis
     pub next_refuted : (k : ℕ) (all : List Refutation) (x : Refutation) → x.rule ≡ k + 1 → IsRefutation which v terms atoms x → Refuted k all → Refuted (k + 1) (all ++ x ∷ [])
     next_refuted k all x is it told = record {
       each = each_both (IsRefutation which v terms atoms) all (x ∷ []) told.each (it, tt);
+      rising = rise_by (λ (y : Refutation). y.rule) 0 k (k + 1) all x is (omega arith) told.rising;
       others = λ i l le none. by i l le (none_of (λ (y : Refutation). y.rule == i) all x none) (cases_lt k i);
     }
       where
@@ -214,7 +216,7 @@ module _ (which : Datapath) (v : Variant) (terms : List Term) (net : Gates) (lis
 
     -- the first that is false
     pub first_refuted : (failure : Failure) (x : Refutation) → IsDecision net list (Some failure) → x.rule ≡ failure.rule → IsRefutation which v terms atoms x → Refuted x.rule (x ∷ [])
-    first_refuted failure x d is it = record { each = (it, tt); others = λ i l le none. by i l le none (cases_lt i x.rule) }
+    first_refuted failure x d is it = record { each = (it, tt); rising = (omega (arith, number), omega (arith, number)); others = λ i l le none. by i l le none (cases_lt i x.rule) }
       where
         number : x.rule ≡ d.0 + 1
         number = is ∙ (d.3 ∙ (own.each d.0 d.1 (d.2).there).number)

@@ -20,6 +20,7 @@ use Rattle.verdicts.specs.Questions.{Fails}
 use Rattle.seq_requirements.specs.Datapaths.{questions_of, rows_of, spots_of}
 use Rattle.seq_requirements.specs.declared.datapath.Datapath.{Datapath}
 use Rattle.seq_requirements.specs.declared.datapath.Datapath.TheVariants.{Seq, Plus}
+use Rattle.findings.specs.Rising.{RiseWithin}
 use Rattle.seq_diagnosis.specs.Diagnosis.{IsDiagnosis}
 use Rattle.seq_diagnosis.specs.declared.refusal.Refusal.{Refusal}
 use Rattle.seq_diagnosis.specs.declared.refusal.Refutation.{Refutation}
@@ -62,9 +63,10 @@ pub record IsRefutation (which : Datapath) (v : Variant) (terms : List Term) (at
 abbrev pub is_refuted : ℕ → List Refutation → Bool
 is_refuted i all = some (λ (x : Refutation). x.rule == i) all
 
--- Of the obligations from 1 to `until` exactly these are false somewhere.
+-- Of the obligations from 1 to `until` exactly these are false somewhere. Each occurs once, and they are in the order of their numbers.
 pub record AreRefuted (which : Datapath) (v : Variant) (terms : List Term) (atoms : List Atom) (until : ℕ) (all : List Refutation) : Type 0 where
   pub each : AllByRecursion (IsRefutation which v terms atoms) all
+  pub rising : RiseWithin (λ (x : Refutation). x.rule) 0 until all
   pub others : (i : ℕ) → 1 ≤ i → i ≤ until → is_refuted i all ≡ false → Everywhere which v terms i
 
 pub record IsRefusal (which : Datapath) (v : Variant) (terms : List Term) (r : Refusal) : Type 0 where

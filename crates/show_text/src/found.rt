@@ -1,4 +1,7 @@
 //! What has a name: obligations, instructions, signals and kinds of faults.
+ghost use Rattle.std.specs.Prelude.{◌≡◌, [], None, true, IfSome};
+ghost use Rattle.std.specs.Str.{bytes_eq};
+
 use crate::instructions::{Instruction, instructions};
 use explanations::{
     FaultKind, GROUP_COUNT, Obligation, Path, Staged, fault_kinds, obligation_at, obligation_count,
@@ -32,7 +35,12 @@ pub struct Found {
 
 impl Found {
     /// Whether nothing has the name.
-    pub fn is_empty(&self) -> bool {
+    pub fn is_empty(&self) -> bool
+        ensures obligations { result ≡ true → self.now.obligations.items ≡ [] }
+        ensures instructions { result ≡ true → self.now.instructions.items ≡ [] }
+        ensures signals { result ≡ true → self.now.signals.items ≡ [] }
+        ensures faults { result ≡ true → self.now.faults.items ≡ [] }
+    {
         self.obligations.is_empty()
             && self.instructions.is_empty()
             && self.signals.is_empty()
@@ -41,7 +49,10 @@ impl Found {
 }
 
 /// Whether a name is asked for; every name is, where none is given.
-fn is_asked(word: Option<&str>, name: &str) -> bool {
+fn is_asked(word: Option<&str>, name: &str) -> bool
+    ensures all { word.entry ≡ None → result ≡ true }
+    ensures one { IfSome word.entry (λ word. result ≡ bytes_eq word.now name.now) }
+{
     match word {
         Some(word) => word == name,
         None => true,

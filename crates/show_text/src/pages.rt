@@ -206,6 +206,16 @@ fn put_name(out: &mut String, name: &str) -> Result<(), AllocError> {
     out.push_str(name)
 }
 
+/// Writes a row of names behind what they are.
+fn put_row(
+    alloc: Global,
+    out: &mut String,
+    heading: &str,
+    names: &String,
+) -> Result<(), AllocError> {
+    put_paragraph(alloc, out, heading, "                ", names.as_str())
+}
+
 /// Writes the names of all that can be shown.
 pub fn put_names(alloc: Global, out: &mut String, all: &Found) -> Result<(), AllocError> {
     out.push_str("y86-tell show WORD explains\n\n")?;
@@ -215,44 +225,20 @@ pub fn put_names(alloc: Global, out: &mut String, all: &Found) -> Result<(), All
             put_name(&mut names, it.obligation.label)?;
         }
     }
-    put_paragraph(
-        alloc,
-        out,
-        "  obligations   ",
-        "                ",
-        names.as_str(),
-    )?;
+    put_row(alloc, out, "  obligations   ", &names)?;
     let mut names = String::new(alloc);
     for it in all.instructions.as_slice() {
         put_name(&mut names, it.name)?;
     }
-    put_paragraph(
-        alloc,
-        out,
-        "  instructions  ",
-        "                ",
-        names.as_str(),
-    )?;
+    put_row(alloc, out, "  instructions  ", &names)?;
     let mut names = String::new(alloc);
     for it in all.signals.as_slice() {
         put_name(&mut names, it.signal.name)?;
     }
-    put_paragraph(
-        alloc,
-        out,
-        "  signals       ",
-        "                ",
-        names.as_str(),
-    )?;
+    put_row(alloc, out, "  signals       ", &names)?;
     let mut names = String::new(alloc);
     for it in all.faults.as_slice() {
         put_name(&mut names, it.kind.code)?;
     }
-    put_paragraph(
-        alloc,
-        out,
-        "  faults        ",
-        "                ",
-        names.as_str(),
-    )
+    put_row(alloc, out, "  faults        ", &names)
 }

@@ -1,2 +1,4 @@
 pub mod Explained
+pub mod Faults
 pub mod Running
+pub mod Stops

@@ -1,6 +1,8 @@
 -- The run of a program under an HCL text for PIPE.
 use Rattle.std.specs.Prelude.{ℕ, ◌≡◌, List, Ok, true}
 use Rattle.cosimulation.specs.Agreement.{FindsNone}
+use Rattle.dp_signals.specs.PipeTable.{pipe_rows}
+use Rattle.hcl_types.specs.Tables.{IsOrderOf}
 use Rattle.hcl_types.specs.declared.term.Term.{Term}
 use Rattle.run_report.specs.Outcome.{IsOutcome, is_covered}
 use Rattle.run_report.specs.declared.outcome.Outcome.{Outcome}
@@ -14,6 +16,7 @@ pub record IsRun (v : Variant) (source object : List ℕ) (size limit : ℕ) (o 
   pub order : List ℕ
   pub image : List ℕ
   pub design : HasDesign source terms
+  pub ordered : IsOrderOf pipe_rows terms order
   pub loads : object_of object size ≡ Ok image
   pub outcome : IsOutcome v terms order image limit o
   pub covered : is_covered o.judged o.watched ≡ true → FindsNone o.compared

@@ -1,7 +1,8 @@
 //! `fault`: every fault of a file, in sentences or as JSON.
-ghost use Rattle.std.specs.Prelude.{IfOk};
+ghost use Rattle.std.specs.Prelude.{◌≡◌, ◌↔◌, [], IfOk};
 ghost use Rattle.hcl_types.specs.Tables.{IsSound};
 ghost use Rattle.y86_base.specs.Image.{IsSize};
+ghost use Rattle.y86_tell.specs.Faults as spec;
 
 use crate::checking::Said;
 use crate::stop::{Stop, unread};
@@ -94,7 +95,9 @@ fn report_of(
 }
 
 /// What is printed of a report.
-pub fn printed(alloc: Global, file: &str, report: &Report, json: bool) -> Result<Vec<u8>, Memory> {
+pub fn printed(alloc: Global, file: &str, report: &Report, json: bool) -> Result<Vec<u8>, Memory>
+    ensures { IfOk result (λ text. text.items ≡ spec.printed json file.now report.now) }
+{
     if json {
         return report_json(alloc, file.as_bytes(), report);
     }
@@ -105,6 +108,19 @@ pub fn printed(alloc: Global, file: &str, report: &Report, json: bool) -> Result
         };
     }
     report_text(alloc, file.as_bytes(), report)
+}
+
+/// What is said of a report: status 5 where it has a fault.
+fn said_of(alloc: Global, file: &str, report: &Report, json: bool) -> Result<Said, Memory>
+    ensures status { IfOk result (λ said. (said.status ≡ 0) ↔ (report.now.faults ≡ [])) }
+    ensures text { IfOk result (λ said. said.text.items ≡ spec.printed json file.now report.now) }
+{
+    let text = printed(alloc, file, report, json)?;
+    if report.faults.items().is_empty() {
+        Ok(Said { status: 0, text })
+    } else {
+        Ok(Said { status: 5, text })
+    }
 }
 
 /// Says every fault of a file: status 5 where there is one.
@@ -126,13 +142,8 @@ pub fn tell_faults<F: Files>(
     let Ok(report) = report_of(alloc, kind_of(file), asked, text.as_slice(), variant, size) else {
         return Err(Stop::Memory);
     };
-    let Ok(text) = printed(alloc, file, &report, json) else {
-        return Err(Stop::Memory);
-    };
-    let status = if report.faults.items().is_empty() {
-        0
-    } else {
-        5
-    };
-    Ok(Said { status, text })
+    match said_of(alloc, file, &report, json) {
+        Ok(said) => Ok(said),
+        Err(_) => Err(Stop::Memory),
+    }
 }

@@ -1,6 +1,9 @@
 //! The program: explains what `y86` answers in sentences, or as JSON.
 #![tactic(auto)]
 
+ghost use Rattle.std.specs.Prelude.{◌≡◌};
+ghost use Rattle.y86_tell.specs.Stops.{status_of};
+
 mod arguments;
 mod cases;
 mod checking;
@@ -115,7 +118,9 @@ fn answer<F: Files, O: Sink>(
 }
 
 /// Writes a stop on standard error, and gives its status.
-fn tell_stop<E: Sink>(stop: &Stop, err: &mut E) -> u8 {
+fn tell_stop<E: Sink>(stop: &Stop, err: &mut E) -> u8
+    ensures { result ≡ status_of stop.now }
+{
     let text = match stop {
         Stop::Usage(text) => text.as_bytes(),
         Stop::Read => b"the file can't be read\n".as_slice(),

@@ -4,7 +4,7 @@ ghost use Rattle.y86_base.specs.Image.{IsSize};
 
 use crate::faulty::printed;
 use crate::stop::{Stop, unread};
-use fault_report::object_report;
+use fault_report::{is_source, object_report};
 use program_report::{put_watched, watch_object, watched_status};
 use std::alloc::Global;
 use wb_io::{Files, Sink};
@@ -21,13 +21,10 @@ pub fn is_size(size: u64) -> bool
     size >= 64 && size <= 1_048_576 && size % 8 == 0
 }
 
-/// The stop at an object text with a fault.
-pub fn object_stop(alloc: Global, file: &str, text: &[u8], size: u64, fault: &YoFault) -> Stop
+/// The stop at a text that is no object text: every fault of it.
+pub fn text_stop(alloc: Global, file: &str, text: &[u8], size: u64) -> Stop
     requires { IsSize size }
 {
-    if fault.why == YoWhy::Memory {
-        return Stop::Memory;
-    }
     let Ok(report) = object_report(alloc, text, size) else {
         return Stop::Memory;
     };
@@ -35,6 +32,16 @@ pub fn object_stop(alloc: Global, file: &str, text: &[u8], size: u64, fault: &Yo
         Ok(text) => Stop::Fault(text),
         Err(_) => Stop::Memory,
     }
+}
+
+/// The stop at an object text with a fault.
+pub fn object_stop(alloc: Global, file: &str, text: &[u8], size: u64, fault: &YoFault) -> Stop
+    requires { IsSize size }
+{
+    if fault.why == YoWhy::Memory {
+        return Stop::Memory;
+    }
+    text_stop(alloc, file, text, size)
 }
 
 /// Says whether the theorem covers the program of an object file.
@@ -53,6 +60,9 @@ pub fn report_program<F: Files, O: Sink>(
         Ok(text) => text,
         Err(error) => return Err(unread(error)),
     };
+    if is_source(text.as_slice()) {
+        return Err(text_stop(alloc, file, text.as_slice(), size));
+    }
     let watched = match watch_object(alloc, variant, text.as_slice(), size, limit) {
         Ok(watched) => watched,
         Err(fault) => return Err(object_stop(alloc, file, text.as_slice(), size, &fault)),

@@ -7,9 +7,9 @@ ghost use Rattle.y86_tell.specs.Running.{IsRun};
 
 use crate::checking::{HCL_LIMIT, Said, fault_stop, json_text};
 use crate::designs::{NoDesign, Ordered, pipe_design};
-use crate::programs::{OBJECT_LIMIT, object_stop};
+use crate::programs::{OBJECT_LIMIT, object_stop, text_stop};
 use crate::stop::{Stop, unread};
-use fault_report::Datapath;
+use fault_report::{Datapath, is_source};
 use hcl_types::{Row, Table};
 use json::Writer;
 use run_report::{Judged, Outcome, object_outcome, outcome_status, put_outcome, put_outcome_json};
@@ -36,6 +36,8 @@ pub struct Asked {
 enum NoRun {
     Design(NoDesign),
     Object(YoFault),
+    /// A source that wasn't assembled: as an object text it would be an empty program.
+    Source,
 }
 
 /// A run, and the names of its signals.
@@ -63,6 +65,9 @@ fn run_texts(alloc: Global, source: &[u8], object: &[u8], asked: &Asked) -> Resu
         Ok(ordered) => ordered,
         Err(fault) => return Err(NoRun::Design(fault)),
     };
+    if is_source(object) {
+        return Err(NoRun::Source);
+    }
     let Ordered {
         table,
         design,
@@ -147,5 +152,6 @@ pub fn tell_run<F: Files>(
             asked.size,
             &fault,
         )),
+        Err(NoRun::Source) => Err(text_stop(alloc, obj, object.as_slice(), asked.size)),
     }
 }

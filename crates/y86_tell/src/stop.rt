@@ -1,4 +1,7 @@
 //! Why a call ends without an answer: the status of each stop, and what it says on standard error.
+ghost use Rattle.std.specs.Prelude.{◌≡◌};
+ghost use Rattle.y86_tell.specs.Stops as spec;
+
 use std::alloc::AllocError;
 use wb_io::ReadErr;
 
@@ -26,7 +29,9 @@ impl From<AllocError> for Stop {
 }
 
 /// The stop at a read that failed.
-pub fn unread(error: ReadErr) -> Stop {
+pub fn unread(error: ReadErr) -> Stop
+    ensures { result ≡ spec.unread error }
+{
     match error {
         ReadErr::Failed => Stop::Read,
         ReadErr::TooLong => Stop::TooLong,
@@ -36,7 +41,9 @@ pub fn unread(error: ReadErr) -> Stop {
 
 impl Stop {
     /// The status that the program ends with.
-    pub fn status(&self) -> u8 {
+    pub fn status(&self) -> u8
+        ensures { result ≡ spec.status_of self.now }
+    {
         match self {
             Stop::Usage(_) => 2,
             Stop::Read => 3,

@@ -1,6 +1,5 @@
-use Rattle.std.proofs.Common.{◌≡◌, ◌≤◌, ◌∷◌, [], ℕ, List, Bool, length, sym, ap, subst}
+use Rattle.std.proofs.Common.{◌≤◌, ◌∷◌, [], ℕ, List, length, sym, subst}
 use Rattle.nets.specs.declared.evaluation.Valuation.{Valuation}
-use Rattle.pipe_obligations.specs.Rules.{rule_count}
 use Rattle.control_check.proofs.PipeVerdict.{rejects}
 use Rattle.control_check.specs.PipeVerdicts.{RejectsPipe}
 use Rattle.pipe_diagnosis.specs.declared.refusal.Refutation.{Refutation}

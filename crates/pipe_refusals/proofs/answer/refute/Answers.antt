@@ -1,7 +1,6 @@
 use Rattle.std.proofs.Common.{sym, subst, List, Bool}
 use Rattle.ctl_atoms.specs.declared.leaf.Atom.{Atom}
 use Rattle.pipe_diagnosis.specs.Diagnosis.{Fails, IsDiagnosis}
-use Rattle.pipe_diagnosis.specs.declared.diagnosis.Diagnosis.{Diagnosis}
 use Rattle.pipe_refusals.proofs.Refuting.{fails_at, first_rule, last_rule, least_at, size_at}
 use Rattle.pipe_refusals.proofs.answer.refute.Goals as goal
 

@@ -1,4 +1,4 @@
-use Rattle.std.proofs.Common.{◌≡◌, ◌∙◌, ◌∷◌, ◌++◌, [], ap, drop, length, None, Some, Option, List, ℕ, sym, subst}
+use Rattle.std.proofs.Common.{◌∙◌, ◌∷◌, ap, drop, length, Option, List, sym, subst, arith}
 use Rattle.rule_gates.specs.declared.rules.Rule.{Rule}
 use Rattle.verdicts.specs.Decisions.{AreGatesOf, IsDecision}
 use Rattle.verdicts.specs.declared.decision.Failure.{Failure}
@@ -31,7 +31,8 @@ returns-in-None-clause-refuted c =
     let h = subst (λ (o : Option Failure). IsDecision r.net (drop c.args.from r.list) o) c.in-None.is
     (subst (λ (xs : List Rule). IsDecision r.net xs c.in_ok-decide_pipe.field-0) (c.rules_from.ensures ∙ ap (drop c.args.from) c.items-list.ensures) c.in_ok-decide_pipe.ensures) in
     subst (λ (xs : List Rule). AreRefuted v terms s r.atoms (length xs) all) (sym c.items-list.ensures)
-    (rest_holds v terms s r.net r.list c.requires.rules c.args.o.now.ids c.requires.ordered r.atoms c.requires.atoms c.args.from all h c.requires.refuted)
+    (rest_holds v terms s r.net r.list c.requires.rules c.args.o.now.ids c.requires.ordered r.atoms c.requires.atoms c.args.from all
+    (let from = c.requires.from in omega (arith, from)) h c.requires.refuted)
 
 pub returns-in_ok-put-in-Some-clause-refuted : goal.returns-in_ok-put-in-Some-clause-refuted
 returns-in_ok-put-in-Some-clause-refuted c =

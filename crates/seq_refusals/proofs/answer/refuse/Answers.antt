@@ -1,4 +1,4 @@
-use Rattle.std.proofs.Common.{◌≡◌, ◌≤◌, ◌∷◌, [], ℕ, List, length, sym, subst}
+use Rattle.std.proofs.Common.{◌≤◌, ◌∷◌, ℕ, List, length, sym, subst}
 use Rattle.nets.specs.declared.evaluation.Valuation.{Valuation}
 use Rattle.seq_diagnosis.specs.declared.refusal.Refutation.{Refutation}
 use Rattle.seq_refusals.specs.Answered.{AreRefuted, Rejects}

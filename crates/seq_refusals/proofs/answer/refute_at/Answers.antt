@@ -1,4 +1,4 @@
-use Rattle.std.proofs.Common.{◌≡◌, ◌∷◌, ◌++◌, [], ◌+◌, None, Some, Option, List, ap, sym, subst, ◌∙◌, slice_get}
+use Rattle.std.proofs.Common.{◌∷◌, [], ◌+◌, Option, List, ap, sym, subst, ◌∙◌, slice_get}
 use Rattle.rule_gates.specs.declared.rules.Rule.{Rule}
 use Rattle.verdicts.specs.Decisions.{IsDecision}
 use Rattle.verdicts.specs.declared.decision.Failure.{Failure}
