@@ -1,4 +1,6 @@
 //! Orders of signals, and the nodes of definitions.
+ghost use Rattle.std.specs.Prelude.{◌<◌};
+
 use dp_signals::{constant_words, law_of_tables, pipe_table, seq_table};
 use hcl_compile::{Ask, Node, ROWS, compile};
 use hcl_order::order;
@@ -74,6 +76,9 @@ fn a_definition_has_its_nodes(rt: HostRuntime) -> Result<(), Fail> {
     assert_eq!(rt; compiled.roots.items().first().copied(), Some(4));
     assert_eq!(rt; compiled.roots.items().len(), 39);
     assert_eq!(rt; compiled.nodes.items(), nodes.as_slice());
-    assert_eq!(rt; compiled.terms.items(), [Term::Num(0xffff_ffff_ffff_fff8)].as_slice());
+    assert_eq!(rt;
+        compiled.terms.items(),
+        [Term::Num(0xffff_ffff_ffff_fff8)].as_slice()
+    );
     Ok(())
 }
