@@ -72,7 +72,8 @@ async function grade(files) {
   }
   const count = (verdict) => rows.filter((it) => it.verdict === verdict).length;
   const none = count("none") ? `, ${count("none")} without an answer` : "", faults = `${count("fault")} with a fault`;
-  said.textContent = `${rows.length} files: ${count("yes")} yes, ${count("no")} no, ${faults}${none}.`;
+  const all = `${rows.length} file${rows.length === 1 ? "" : "s"}`;
+  said.textContent = `${all}: ${count("yes")} yes, ${count("no")} no, ${faults}${none}.`;
   by("class-csv").disabled = !rows.length;
   by("class-csv").onclick = () => download("class.csv", `${csvOf(rows)}\n`, "text/csv");
 }
