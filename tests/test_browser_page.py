@@ -65,6 +65,15 @@ def test_keys(at):
     same(at.cycle(), 3)
 
 
+# The boxes of the cycle that is shown at which the lines of forwarded words begin and end: the instruction and the stage.
+ENDS_OF_LINES = """(() => {
+  const boxes = every('#grid .box.is').map((it) => [it.getBoundingClientRect(), `${it.parentElement.querySelector('.ins')?.textContent ?? 'bubble'} ${it.textContent}`]);
+  const svg = one('#grid .lines').getBoundingClientRect();
+  const at = (y) => boxes.find(([r]) => Math.abs(r.top + r.height / 2 - svg.top - y) < 4)?.[1];
+  return every('#grid path.forward.is:not(.head)').map((it) => /^M[\\d.]+ ([\\d.]+)C.* ([\\d.]+)$/.exec(it.getAttribute('d'))).map(([, from, to]) => [at(Number(from)), at(Number(to))]);
+})()"""
+
+
 def test_hazards(at):
     at.key("n")
     first = at.cycle()
@@ -74,7 +83,7 @@ def test_hazards(at):
     at.key("ArrowRight")
     said(at, "told", "gets %r10 = 0xd000d000d forwarded as valA from m_valM")
     assert at.do("every('#path .tip text').some((it) => /^m_valM 0x/.test(it.textContent))")
-    assert at.do("every('#grid path.forward.is').length >= 1"), "no line from M to D in the diagram"
+    same(at.do(ENDS_OF_LINES), [["mrmovq (%rdi), %r10 M", "addq %r10, %rax D"]])
     at.key("n")
     second = at.cycle()
     assert second > first
@@ -116,12 +125,6 @@ def test_state(at):
     at.click("#base")
     same(at.do("every('#registers .new').map((it) => it.textContent)"), ["%rsp512"])
     at.click("#base")
-
-
-def test_stages_as_a_table(at):
-    rows = at.do("every('#stages tr').map((it) => [it.children[0].textContent, it.querySelector('.what').textContent])")
-    same([it for it, _ in rows], list("FDEMW"))
-    same(rows[0][1], at.do("workbench.run.cycles[0].stages.F.text"))
 
 
 # ---- a refusal
@@ -331,6 +334,65 @@ def test_stale(at):
     at.settle()
 
 
+# Changes the processor again and again, sooner and later than its check answers, and returns what a card said wrongly meanwhile: each card that isn't grey
+# belongs to the text that is there.
+HURRIED = """(async () => {
+  const area = one('#hcl textarea'), wrong = [], texts = [%s, %s], said = [['no: O10', 'differs'], ['yes', 'same report']], cards = ['verdict', 'outcome'];
+  let now = 1;
+  const look = () => cards.forEach((id, at) => {
+    const card = el(id), badge = card.querySelector('.badge')?.textContent;
+    if (!card.classList.contains('stale') && badge !== said[now][at]) wrong.push([id, now, badge]);
+  });
+  const watch = new MutationObserver(look), wait = (ms) => new Promise((done) => setTimeout(done, ms));
+  for (const id of cards) watch.observe(el(id), { childList: true, subtree: true, attributes: true });
+  for (const ms of [50, 265, 280, 300, 320, 340, 370, 400, 450, 500, 600, 700]) {
+    now = 1 - now;
+    area.value = texts[now] + '#'.repeat(ms / 5);
+    area.dispatchEvent(new Event('input', { bubbles: true }));
+    await wait(ms);
+  }
+  while (one('.stale')) await wait(50);
+  look();
+  watch.disconnect();
+  return wrong;
+})()"""
+
+
+def test_hurried(at):
+    """No answer to an earlier text is shown as one to the text that is there."""
+    at.choose("yss", "swap.ys")
+    same(at.do(HURRIED % (json.dumps(STD.replace(" d_srcA == e_dstE : e_valE;", "")), json.dumps(STD))), [])
+    at.settle()
+
+
+# The most memory of a call, the texts, and what the cards say. (An answer needs from 1.4 MB, a verdict from 9.)
+LITTLE = [
+    ("none runs", 1.3, "std.hcl", "The check ran out of memory.", "The run ran out of memory."),
+    ("a run alone", 4, "std.hcl", "The check ran out of memory.", "This program comes out right"),
+    ("a run alone, refused or not", 6, "mistake: nothing from execute", "The check ran out of memory.", "This program comes out wrong"),
+    ("both", 40, "mistake: memory before execute", "no: O10", "This program comes out wrong"),
+]
+
+
+@cases(LITTLE)
+def test_little_memory(row, at, folder):
+    """A program that lacks memory gives no answer, and none is shown."""
+    _, most, design, verdict, outcome = row
+    with open(at.path, encoding="utf-8") as it:
+        text = it.read()
+    same(text.count("MOST_MEMORY = 1 << 30"), 1)
+    with open(f"{folder}/little.html", "w", encoding="utf-8") as it:
+        it.write(text.replace("MOST_MEMORY = 1 << 30", f"MOST_MEMORY = {int(most * 2**20)}"))
+    at.begin(it.name)
+    at.choose("hcls", design)
+    for id, wanted in (("verdict", verdict), ("outcome", outcome)):
+        said(at, id, wanted)
+        if "memory" in wanted:
+            same(at.do(f"[el('{id}').className, el('{id}').querySelector('.badge').textContent]"), ["answer ", "no answer"])
+    at.do("localStorage.clear()")
+    at.begin(at.path)
+
+
 def test_stop(at):
     """A check without an end is stopped, the run doesn't wait for it, and the next check answers."""
     bits = [f"E_ds{x}" for x in ("tE", "tM")]
@@ -395,7 +457,6 @@ def test_examples(at):
     """No example breaks the page. (One of three is shown, since each takes a second.)"""
     for which in ("yss", "hcls"):
         for name in at.do(f"every('#{which} option').map((it) => it.value).filter(Boolean)")[1::3]:
-            at.do("el('full').checked = false")
             at.choose(which, name)
             shown = at.do("document.body.innerText")
             assert not re.search(r"undefined|NaN|\[object", shown), name
