@@ -24,6 +24,8 @@ STOPS = {
 }
 # What has the focus: its name, whether it can be seen where it is, and whether a line is drawn around it.
 FOCUSED = """(() => {
+  // (a browser's own buttons come in between)
+  if (!document.hasFocus()) return ['', true, true];
   const it = document.activeElement, r = it.getBoundingClientRect(), box = it.closest('.paper') ?? it, style = getComputedStyle(it);
   const name = it.id || it.dataset.save || it.dataset.open || it.getAttribute('aria-label') || '';
   const isSeen = it === document.body || (r.bottom > 0 && r.right > 0 && r.top < innerHeight && r.left < innerWidth);
@@ -38,7 +40,7 @@ def test_tab_order(row, at):
     at.size(*row[1:])
     at.do("document.activeElement.blur(), scrollTo(0, 0)")
     seen = set()
-    for _ in range(80):
+    for _ in range(60):
         at.key("Tab")
         name, is_seen, is_marked = at.do(FOCUSED)
         same((name, is_seen, is_marked), (name, True, True))
@@ -50,6 +52,19 @@ def test_tab_order(row, at):
     at.do("el('tab-run').focus()")
     at.key("ArrowRight")
     same(at.do("[workbench.tab, document.activeElement.id]"), ["steps", "tab-steps"])
+
+
+def test_rows_by_keys(at):
+    """Up and down go through the instructions of the diagram, in view, and left and right still go through the cycles."""
+    at.do("el('grid').focus()")
+    lost = "(() => { const it = document.activeElement, r = it.getBoundingClientRect(), g = el('grid').getBoundingClientRect(); return it.className !== 'name' || r.top < g.top + 19 || r.bottom > g.bottom + 1; })()"
+    for key in ["ArrowDown"] * 16 + ["ArrowUp"] * 15:
+        at.key(key)
+        assert not at.do(lost)
+    same(at.do("document.activeElement.dataset.row"), "0")
+    at.key("ArrowUp")
+    at.key("ArrowRight")
+    same([at.cycle(), at.do("document.activeElement.dataset.row")], [2, "0"])
 
 
 def test_help(at):

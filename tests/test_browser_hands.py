@@ -17,7 +17,7 @@ from helpers.workbench_page import WIDTHS, said
 
 pytestmark = pytest.mark.xdist_group("browser hands")
 STD = example("std")
-MOST_STOPS = 120
+MOST_STOPS = 60
 
 
 def says(id, words):
@@ -125,7 +125,7 @@ def begin(hand, size, at, design="", program=""):
 ACTS, TIPS = "every('#path .act').map((it) => it.textContent).join()", "every('#path .tip text').map((it) => it.textContent).join()"
 TABLE = "every('#stages .act').map((it) => it.textContent).join()"
 CYCLE = "workbench.run.cycles[workbench.cycle - 1]"
-# The fifth row is the `ret` of no call yet; play stops where it is fetched.
+# Play stops where the fifth instruction is fetched.
 ROW = "#grid .row:nth-child(5) .name"
 RUN = [
     ("a verdict", "", (), says("verdict", "Right for every program")),
@@ -151,7 +151,7 @@ RUN = [
     ("words in decimal", "#base", ["@#base", "Enter"], "one('#registers').textContent.includes('%rsp512') || one('#registers').textContent.includes('%rsp504')"),
     ("words in hex", "#base", [" "], "el('base').textContent === '0x'"),
     ("the first once more", "#first", ["Home"], "workbench.cycle === 1"),
-    ("a breakpoint", ROW, [f"@{ROW}", "Enter"], "workbench.breaks.size === 1 && every('#ys .gutter .break').length === 1"),
+    ("a breakpoint", ROW, ["@#grid", *["ArrowDown"] * 6, "ArrowUp", "Enter"], "workbench.breaks.size === 1 && every('#ys .gutter .break').length === 1"),
     ("play to it", "#play", ["@#play", " "], f"!workbench.playing && workbench.breaks.has(parseInt({CYCLE}.stages.F.at, 16))"),
     ("no breakpoint", "#ys .gutter .break", ["@#grid", "b"], "workbench.breaks.size === 0"),
     ("play", "#play", [" "], "workbench.playing"),

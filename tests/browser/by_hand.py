@@ -1,5 +1,5 @@
 #!/usr/bin/env python3
-"""by_hand.py OUT.html [BROWSER..]: a page that makes some 250 calls in the browser that opens it, and says how many gave the answers of the native programs.
+"""by_hand.py OUT.html [BROWSER..]: a page that makes some 300 calls in the browser that opens it, and says how many gave the answers of the native programs.
 
 It opens the page itself in the browsers that are named: chromium, firefox, webkit (Safari's engine). docs/TESTING.md says what they need.
 It needs a Python with pytest: $(tests/interpreter) tests/browser/by_hand.py calls.html firefox webkit.
