@@ -334,34 +334,51 @@ def test_stale(at):
     at.settle()
 
 
-# Changes the processor again and again, sooner and later than its check answers, and returns what a card said wrongly meanwhile: each card that isn't grey
-# belongs to the text that is there.
+# Changes the processor just before a card has its answer, so that the answer comes when another text is there. Returns what the cards said wrongly
+# meanwhile: each card that isn't grey belongs to the text that is there.
 HURRIED = """(async () => {
   const area = one('#hcl textarea'), wrong = [], texts = [%s, %s], said = [['no: O10', 'differs'], ['yes', 'same report']], cards = ['verdict', 'outcome'];
-  let now = 1;
-  const look = () => cards.forEach((id, at) => {
-    const card = el(id), badge = card.querySelector('.badge')?.textContent;
-    if (!card.classList.contains('stale') && badge !== said[now][at]) wrong.push([id, now, badge]);
-  });
-  const watch = new MutationObserver(look), wait = (ms) => new Promise((done) => setTimeout(done, ms));
-  for (const id of cards) watch.observe(el(id), { childList: true, subtree: true, attributes: true });
-  for (const ms of [50, 265, 280, 300, 320, 340, 370, 400, 450, 500, 600, 700]) {
-    now = 1 - now;
-    area.value = texts[now] + '#'.repeat(ms / 5);
+  const isStale = (id) => el(id).classList.contains('stale'), wait = (ms) => new Promise((done) => setTimeout(done, ms));
+  let now = 1, edits = 0;
+  const put = (which) => {
+    now = which;
+    area.value = `${texts[which]}# ${++edits}`;
     area.dispatchEvent(new Event('input', { bubbles: true }));
-    await wait(ms);
+  };
+  const look = () => cards.forEach((id, at) => {
+    const badge = el(id).querySelector('.badge')?.textContent;
+    if (!isStale(id) && badge !== said[now][at]) wrong.push([id, now, badge]);
+  });
+  // How long each card waits for its answer.
+  const answered = async () => {
+    const begun = performance.now(), took = {};
+    for (; cards.some((id) => !(id in took)); await wait(4)) for (const id of cards) if (!isStale(id)) took[id] ??= performance.now() - begun;
+    look();
+    return took;
+  };
+  const watch = new MutationObserver(look);
+  for (const id of cards) watch.observe(el(id), { childList: true, subtree: true, attributes: true });
+  put(FROM);
+  const took = await answered();
+  put(1 - FROM);
+  await answered();
+  for (const [id, before] of [['verdict', 40], ['verdict', 150], ['outcome', 60], ['outcome', 200]]) {
+    put(FROM);
+    await wait(Math.max(265, took[id] - before));
+    put(1 - FROM);
+    await answered();
   }
-  while (one('.stale')) await wait(50);
-  look();
   watch.disconnect();
   return wrong;
 })()"""
 
 
-def test_hurried(at):
+@cases([("from a no to a yes", 0), ("from a yes to a no", 1)])
+def test_hurried(row, at):
     """No answer to an earlier text is shown as one to the text that is there."""
     at.choose("yss", "swap.ys")
-    same(at.do(HURRIED % (json.dumps(STD.replace(" d_srcA == e_dstE : e_valE;", "")), json.dumps(STD))), [])
+    texts = json.dumps(STD.replace(" d_srcA == e_dstE : e_valE;", "")), json.dumps(STD)
+    same(at.do(HURRIED.replace("FROM", str(row[1])) % texts), [])
     at.settle()
 
 
