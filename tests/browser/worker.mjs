@@ -1,5 +1,5 @@
-// worker.mjs: runs the page's worker over calls that standard input has as JSON, { programs, calls }, and prints what it
-// posts as a line of JSON each. `programs` are files of WebAssembly by name, calls are { program, words, files }.
+// worker.mjs: runs the page's worker over calls that standard input has as JSON, { programs, calls }, and prints what
+// it posts as a line of JSON each. `programs` are files of WebAssembly by name, calls are { program, words, files }.
 import { readFileSync } from "node:fs";
 
 const { programs, calls } = JSON.parse(readFileSync(0, "utf8"));

@@ -38,7 +38,8 @@ function boxes(row) {
 
 function nameHTML(row, at) {
   if (row.isBubble)
-    return `<button type="button" tabindex="-1" class="name" data-row="${at}" disabled aria-label="bubble"><span class="dot">`
+    return `<button type="button" tabindex="-1" class="name" data-row="${at}" disabled aria-label="bubble">`
+      + `<span class="dot">`
       + `</span>bubble</button>`;
   const place = address(row.at);
   return `<button type="button" tabindex="-1" class="name" data-row="${at}" aria-pressed="${state.breaks.has(row.at)}" `
