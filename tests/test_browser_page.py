@@ -334,52 +334,83 @@ def test_stale(at):
     at.settle()
 
 
-# Changes the processor just before a card has its answer, so that the answer comes when another text is there. Returns what the cards said wrongly
-# meanwhile: each card that isn't grey belongs to the text that is there.
-HURRIED = """(async () => {
+# Workers whose answers can be held back: of each worker the one of this number since the round began. (A run has seven.)
+HOLDING = """
+window.holds = { round: 0, at: -1, kept: [] };
+window.Worker = class extends Worker {
+  set onmessage(does) {
+    super.onmessage = (event) => {
+      if (this.round !== holds.round) Object.assign(this, { round: holds.round, seen: 0 });
+      if (this.seen++ === holds.at) holds.kept.push([event.data, () => does(event)]);
+      else does(event);
+    };
+  }
+};
+"""
+HELD = """(async () => {
   const area = one('#hcl textarea'), wrong = [], texts = [%s, %s], said = [['no: O10', 'differs'], ['yes', 'same report']], cards = ['verdict', 'outcome'];
-  const isStale = (id) => el(id).classList.contains('stale'), wait = (ms) => new Promise((done) => setTimeout(done, ms));
-  let now = 1, edits = 0;
+  const isStale = (id) => el(id).classList.contains('stale'), wait = (ms) => new Promise((done) => setTimeout(done, ms)), from = FROM;
+  let now = 1;
   const put = (which) => {
     now = which;
-    area.value = `${texts[which]}# ${++edits}`;
+    area.value = `${texts[which]}# HELD`;
     area.dispatchEvent(new Event('input', { bubbles: true }));
   };
   const look = () => cards.forEach((id, at) => {
     const badge = el(id).querySelector('.badge')?.textContent;
     if (!isStale(id) && badge !== said[now][at]) wrong.push([id, now, badge]);
   });
-  // How long each card waits for its answer.
-  const answered = async () => {
-    const begun = performance.now(), took = {};
-    for (; cards.some((id) => !(id in took)); await wait(4)) for (const id of cards) if (!isStale(id)) took[id] ??= performance.now() - begun;
-    look();
-    return took;
-  };
   const watch = new MutationObserver(look);
   for (const id of cards) watch.observe(el(id), { childList: true, subtree: true, attributes: true });
-  put(FROM);
-  const took = await answered();
-  put(1 - FROM);
-  await answered();
-  for (const [id, before] of [['verdict', 40], ['verdict', 150], ['outcome', 60], ['outcome', 200]]) {
-    put(FROM);
-    await wait(Math.max(265, took[id] - before));
-    put(1 - FROM);
-    await answered();
-  }
+  Object.assign(holds, { round: holds.round + 1, at: HELD, kept: [] });
+  put(from);
+  while (holds.kept.length < cards.filter(isStale).length) await wait(5);
+  holds.at = -1;
+  put(1 - from);
+  for (const [, answer] of holds.kept) answer();
+  while (cards.some(isStale)) await wait(5);
+  look();
   watch.disconnect();
   return wrong;
 })()"""
+REFUSED_TEXT = STD.replace(" d_srcA == e_dstE : e_valE;", "")
+
+
+@pytest.fixture
+def held(at):
+    """The page with answers that can be held back."""
+    if not isinstance(at.browser, ENGINES["chromium"]):
+        pytest.skip("only Chromium runs a script before the page's")
+    name = at.browser.call("Page.addScriptToEvaluateOnNewDocument", source=HOLDING)["identifier"]
+    at.begin(at.path)
+    yield at
+    at.browser.call("Page.removeScriptToEvaluateOnNewDocument", identifier=name)
+    at.do("localStorage.clear()")
+    at.begin(at.path)
 
 
 @cases([("from a no to a yes", 0), ("from a yes to a no", 1)])
-def test_hurried(row, at):
-    """No answer to an earlier text is shown as one to the text that is there."""
-    at.choose("yss", "swap.ys")
-    texts = json.dumps(STD.replace(" d_srcA == e_dstE : e_valE;", "")), json.dumps(STD)
-    same(at.do(HURRIED.replace("FROM", str(row[1])) % texts), [])
-    at.settle()
+def test_other_text(row, held):
+    """An answer that comes just after the text was changed isn't shown as one to the text that is there: each card that isn't grey belongs to that."""
+    held.choose("yss", "swap.ys")
+    for number in (0, 1, 6):
+        script = HELD.replace("FROM", str(row[1])).replace("HELD", str(number))
+        same(held.do(script % (json.dumps(REFUSED_TEXT), json.dumps(STD))), [])
+
+
+def test_late_verdict(held):
+    """A program that comes out right is told from its processor's verdict, also where that comes later."""
+    held.choose("yss", "add.ys")
+    held.do("Object.assign(holds, { round: 1, at: 0, kept: [] }), 0")
+    held.do(f"(() => {{ const it = one('#hcl textarea'); it.value = {json.dumps(REFUSED_TEXT)}; it.dispatchEvent(new Event('input', {{ bubbles: true }})); }})()")
+    held.until("holds.kept.length === 2")
+    held.do("holds.at = -1, holds.kept.find(([it]) => !/^(yes|no)/.test(it.out))[1](), 0")
+    held.until("!el('outcome').classList.contains('stale')")
+    assert "Another may not." not in held.text("outcome")
+    held.do("holds.kept.find(([it]) => /^(yes|no)/.test(it.out))[1](), 0")
+    held.settle()
+    said(held, "verdict", "no: O10")
+    said(held, "outcome", "comes out right", "Another may not.")
 
 
 # The most memory of a call, the texts, and what the cards say. (An answer needs from 1.4 MB, a verdict from 9.)
