@@ -5,8 +5,10 @@ import tempfile
 import pytest
 
 from helpers.browser import Browser, command
+from helpers.cases import same
 from helpers.paths import TOP
 from helpers.programs import NoProgram, Program, program_path
+from helpers.workbench_page import WIDE, Workbench, engine
 from programs import PROGRAMS, programs_in
 
 
@@ -85,3 +87,25 @@ def browser(one_browser):
     one_browser.errors.clear()
     yield one_browser
     assert one_browser.errors == []
+
+
+@pytest.fixture(scope="module")
+def one_workbench():
+    from helpers.browser_build import page
+
+    with engine()() as browser:
+        it = Workbench(browser)
+        it.path = page()
+        it.size(*WIDE)
+        it.begin(it.path)
+        yield it
+
+
+@pytest.fixture
+def at(one_workbench):
+    """The workbench in a browser, as it is at first. A test that uses it fails where the console has an error."""
+    one_workbench.renew()
+    yield one_workbench
+    errors = list(one_workbench.errors)
+    one_workbench.browser.errors.clear()
+    same(errors, [])

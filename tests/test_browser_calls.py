@@ -3,7 +3,7 @@ import os
 
 import pytest
 
-from helpers.browser_build import Call, answers, node
+from helpers.browser_build import Call, answers, node, worker_answers
 from helpers.cases import same
 from helpers.paths import DESIGNS, PROGRAMS, ROWS, names
 from helpers.programs import Program
@@ -148,6 +148,27 @@ def test_memory():
         assert refused, "no limit was too low"
         for came in refused:
             same((came.status, came.err), (6, b"out of memory\n"))
+
+
+def test_output():
+    """Output that isn't taken whole ends in status 4, and is no answer."""
+    files = {"asum.ys": sources()["asum.ys"]}
+    (whole, _), *others = answers([Call("y86", ["yas", "asum.ys"], files, 0, room) for room in (0, *range(1, 2000, 400))])
+    same(whole.status, 0)
+    for came, fault in others:
+        same((came.status, fault, came.err, whole.out.startswith(came.out) and came.out != whole.out), (4, "", b"", True))
+
+
+def test_worker(programs, folder):
+    """The page's worker answers each call by its own files, and tells output and faults apart; nothing of the call before is left."""
+    native, std, wrong = Program(programs("y86"), folder), designs()["std.hcl"], b"bool Stat = 1;\n"
+    calls = [(["check", "pipe", "my.hcl"], std), (["check", "pipe", "my.hcl"], None), (["hcl", "my.hcl"], wrong), (["check", "pipe", "my.hcl"], wrong), (["check", "pipe", "my.hcl"], std)]
+    found = worker_answers([Call("y86", words, {} if text is None else {"my.hcl": text.decode()}) for words, text in calls])
+    for number, (said, (words, text)) in enumerate(zip(found, calls, strict=True)):
+        wanted = native(*words, files={} if text is None else {"my.hcl": text})
+        same((said["id"], said["fault"], said["status"], said["out"].encode(), said["err"].encode()), (number, "", *wanted))
+        if text is not None:
+            os.remove(os.path.join(folder, "my.hcl"))
 
 
 def test_node_is_there():

@@ -1,8 +1,11 @@
 """The programs compile for the browser by the toolchain alone, and a module of another shape is refused."""
+import os
+import subprocess
+
 import pytest
 
 from handout import solutions
-from helpers.browser_build import kit, programs
+from helpers.browser_build import kit, node, programs
 from helpers.cases import cases, same
 from helpers.designs import design
 from helpers.paths import TOP
@@ -169,6 +172,53 @@ def test_no_program(row, folder):
     with pytest.raises(compiling.NotCompiled) as refused:
         compiling.compiled(kit().tools, it.name, f"{folder}/made.wasm")
     assert why in str(refused.value)
+
+
+# What calls the shim's sums: the 128 bits of each number are two words, and so are those of the result.
+SUMS = """
+typedef unsigned long long u64;
+typedef unsigned __int128 u128;
+u128 __multi3(u128, u128), __ashlti3(u128, int), __lshrti3(u128, int);
+int main(void) { return 0; }
+static u128 found;
+static u128 whole(u64 low, u64 high) { return (u128)high << 64 | low; }
+#define GIVEN(name) __attribute__((export_name(name)))
+GIVEN("product") void product(u64 a, u64 b, u64 c, u64 d) { found = __multi3(whole(a, b), whole(c, d)); }
+GIVEN("left") void left(u64 a, u64 b, int n) { found = __ashlti3(whole(a, b), n); }
+GIVEN("right") void right(u64 a, u64 b, int n) { found = __lshrti3(whole(a, b), n); }
+GIVEN("low") u64 low(void) { return found; }
+GIVEN("high") u64 high(void) { return found >> 64; }
+"""
+# Runs them on edges and on numbers in between, and prints what isn't right.
+CHECKED_SUMS = """
+const { instance } = await WebAssembly.instantiate(fs.readFileSync(process.argv[2]), { host: { word() {}, open() {}, read() {}, write() {} } });
+const it = instance.exports, all = (1n << 128n) - 1n, word = (1n << 64n) - 1n, half = (n) => [n & word, n >> 64n], now = () => BigInt.asUintN(64, it.low()) | BigInt.asUintN(64, it.high()) << 64n;
+const numbers = [0n, 1n, word, word + 1n, all, 1n << 127n, (1n << 32n) - 1n, 0x123456789abcdef0fedcba9876543210n, 0xffffffff00000000ffffffff00000001n], wrong = [];
+const same = (what, wanted) => { if (now() !== (wanted & all)) wrong.push([what, now().toString(16)]); };
+for (const a of numbers) {
+  for (const b of numbers) same(`${a} * ${b}`, (it.product(...half(a), ...half(b)), a * b));
+  for (let n = 0; n < 128; n++) {
+    same(`${a} << ${n}`, (it.left(...half(a), n), a << BigInt(n)));
+    same(`${a} >> ${n}`, (it.right(...half(a), n), a >> BigInt(n)));
+  }
+}
+console.log(JSON.stringify(wrong));
+"""
+
+
+def test_sums(folder):
+    """The shim's sums on 128-bit numbers, beside those of JavaScript."""
+    tools, found = kit().tools, node()
+    with open(f"{folder}/sums.c", "w", encoding="utf-8") as it:
+        it.write(SUMS)
+    with open(f"{folder}/check.mjs", "w", encoding="utf-8") as it:
+        it.write(f'import fs from "node:fs";\n{CHECKED_SUMS}')
+    for name, path in (("sums", f"{folder}/sums.c"), ("shim", compiling.SHIM)):
+        compiling.run([f"{tools}/bin/clang", *compiling.HOW, *compiling.FREESTANDING, "-o", f"{folder}/{name}.o", path])
+    os.symlink(f"{tools}/bin/ld.lld", f"{folder}/wasm-ld")
+    compiling.run([f"{folder}/wasm-ld", *compiling.LINKED, "-o", f"{folder}/sums.wasm", f"{folder}/sums.o", f"{folder}/shim.o"])
+    ran = subprocess.run([found, f"{folder}/check.mjs", f"{folder}/sums.wasm"], capture_output=True, text=True, check=False)
+    same((ran.returncode, ran.stderr, ran.stdout), (0, "", "[]\n"))
 
 
 def offered(without):

@@ -16,51 +16,10 @@ from helpers.cases import cases, same
 from helpers.designs import example
 from helpers.engines import ENGINES
 from helpers.programs import Program
-from helpers.workbench_page import Workbench
+from helpers.workbench_page import said
 
 pytestmark = pytest.mark.xdist_group("browser page")
-WIDE = (1440, 900)
-# Layouts for a screen, a tablet and a phone.
-WIDTHS = [WIDE, (1024, 768), (390, 844)]
 STD = example("std")
-
-
-@pytest.fixture(scope="module")
-def at():
-    """The page, opened once; each test begins with the book's pipeline and the array sum."""
-    engine = ENGINES[os.environ.get("Y86_BROWSER", "chromium")]
-    if not engine.command():
-        pytest.skip(f"{engine.__name__} isn't here, so the page wasn't opened")
-    with engine() as browser:
-        it = Workbench(browser)
-        it.path = page()
-        it.size(*WIDE)
-        it.begin(it.path)
-        yield it
-
-
-@pytest.fixture(autouse=True)
-def fresh(request):
-    """The texts as they are at first, and no error in the console after each test."""
-    if "at" not in request.fixturenames:
-        yield
-        return
-    it = request.getfixturevalue("at")
-    it.do("(() => { if (el('dialog').open) el('dialog').close(); el('full').checked = false; localStorage.clear(); })()")
-    it.choose("yss", "asum.ys")
-    it.choose("hcls", "std.hcl")
-    it.do("el('tab-run').click(), el('first').click()")
-    it.leave()
-    yield
-    errors = list(it.errors)
-    it.browser.errors.clear()
-    same(errors, [])
-
-
-def said(at, id, *wanted):
-    text = re.sub(r"\s+", " ", at.text(id))
-    for it in wanted:
-        assert it in text, f"{id} says {text!r}, and not {it!r}"
 
 
 # ---- what is there at once
@@ -106,6 +65,15 @@ def test_keys(at):
     same(at.cycle(), 3)
 
 
+# The boxes of the cycle that is shown at which the lines of forwarded words begin and end: the instruction and the stage.
+ENDS_OF_LINES = """(() => {
+  const boxes = every('#grid .box.is').map((it) => [it.getBoundingClientRect(), `${it.parentElement.querySelector('.ins')?.textContent ?? 'bubble'} ${it.textContent}`]);
+  const svg = one('#grid .lines').getBoundingClientRect();
+  const at = (y) => boxes.find(([r]) => Math.abs(r.top + r.height / 2 - svg.top - y) < 4)?.[1];
+  return every('#grid path.forward.is:not(.head)').map((it) => /^M[\\d.]+ ([\\d.]+)C.* ([\\d.]+)$/.exec(it.getAttribute('d'))).map(([, from, to]) => [at(Number(from)), at(Number(to))]);
+})()"""
+
+
 def test_hazards(at):
     at.key("n")
     first = at.cycle()
@@ -115,7 +83,7 @@ def test_hazards(at):
     at.key("ArrowRight")
     said(at, "told", "gets %r10 = 0xd000d000d forwarded as valA from m_valM")
     assert at.do("every('#path .tip text').some((it) => /^m_valM 0x/.test(it.textContent))")
-    assert at.do("every('#grid path.forward.is').length >= 1"), "no line from M to D in the diagram"
+    same(at.do(ENDS_OF_LINES), [["mrmovq (%rdi), %r10 M", "addq %r10, %rax D"]])
     at.key("n")
     second = at.cycle()
     assert second > first
@@ -157,12 +125,6 @@ def test_state(at):
     at.click("#base")
     same(at.do("every('#registers .new').map((it) => it.textContent)"), ["%rsp512"])
     at.click("#base")
-
-
-def test_stages_as_a_table(at):
-    rows = at.do("every('#stages tr').map((it) => [it.children[0].textContent, it.querySelector('.what').textContent])")
-    same([it for it, _ in rows], list("FDEMW"))
-    same(rows[0][1], at.do("workbench.run.cycles[0].stages.F.text"))
 
 
 # ---- a refusal
@@ -372,6 +334,113 @@ def test_stale(at):
     at.settle()
 
 
+# Workers whose answers can be held back: of each worker the one of this number since the round began. (A run has seven.)
+HOLDING = """
+window.holds = { round: 0, at: -1, kept: [] };
+window.Worker = class extends Worker {
+  set onmessage(does) {
+    super.onmessage = (event) => {
+      if (this.round !== holds.round) Object.assign(this, { round: holds.round, seen: 0 });
+      if (this.seen++ === holds.at) holds.kept.push([event.data, () => does(event)]);
+      else does(event);
+    };
+  }
+};
+"""
+HELD = """(async () => {
+  const area = one('#hcl textarea'), wrong = [], texts = [%s, %s], said = [['no: O10', 'differs'], ['yes', 'same report']], cards = ['verdict', 'outcome'];
+  const isStale = (id) => el(id).classList.contains('stale'), wait = (ms) => new Promise((done) => setTimeout(done, ms)), from = FROM;
+  let now = 1;
+  const put = (which) => {
+    now = which;
+    area.value = `${texts[which]}# HELD`;
+    area.dispatchEvent(new Event('input', { bubbles: true }));
+  };
+  const look = () => cards.forEach((id, at) => {
+    const badge = el(id).querySelector('.badge')?.textContent;
+    if (!isStale(id) && badge !== said[now][at]) wrong.push([id, now, badge]);
+  });
+  const watch = new MutationObserver(look);
+  for (const id of cards) watch.observe(el(id), { childList: true, subtree: true, attributes: true });
+  Object.assign(holds, { round: holds.round + 1, at: HELD, kept: [] });
+  put(from);
+  while (holds.kept.length < cards.filter(isStale).length) await wait(5);
+  holds.at = -1;
+  put(1 - from);
+  for (const [, answer] of holds.kept) answer();
+  while (cards.some(isStale)) await wait(5);
+  look();
+  watch.disconnect();
+  return wrong;
+})()"""
+REFUSED_TEXT = STD.replace(" d_srcA == e_dstE : e_valE;", "")
+
+
+@pytest.fixture
+def held(at):
+    """The page with answers that can be held back."""
+    if not isinstance(at.browser, ENGINES["chromium"]):
+        pytest.skip("only Chromium runs a script before the page's")
+    name = at.browser.call("Page.addScriptToEvaluateOnNewDocument", source=HOLDING)["identifier"]
+    at.begin(at.path)
+    yield at
+    at.browser.call("Page.removeScriptToEvaluateOnNewDocument", identifier=name)
+    at.do("localStorage.clear()")
+    at.begin(at.path)
+
+
+@cases([("from a no to a yes", 0), ("from a yes to a no", 1)])
+def test_other_text(row, held):
+    """An answer that comes just after the text was changed isn't shown as one to the text that is there: each card that isn't grey belongs to that."""
+    held.choose("yss", "swap.ys")
+    for number in (0, 1, 6):
+        script = HELD.replace("FROM", str(row[1])).replace("HELD", str(number))
+        same(held.do(script % (json.dumps(REFUSED_TEXT), json.dumps(STD))), [])
+
+
+def test_late_verdict(held):
+    """A program that comes out right is told from its processor's verdict, also where that comes later."""
+    held.choose("yss", "add.ys")
+    held.do("Object.assign(holds, { round: 1, at: 0, kept: [] }), 0")
+    held.do(f"(() => {{ const it = one('#hcl textarea'); it.value = {json.dumps(REFUSED_TEXT)}; it.dispatchEvent(new Event('input', {{ bubbles: true }})); }})()")
+    held.until("holds.kept.length === 2")
+    held.do("holds.at = -1, holds.kept.find(([it]) => !/^(yes|no)/.test(it.out))[1](), 0")
+    held.until("!el('outcome').classList.contains('stale')")
+    assert "Another may not." not in held.text("outcome")
+    held.do("holds.kept.find(([it]) => /^(yes|no)/.test(it.out))[1](), 0")
+    held.settle()
+    said(held, "verdict", "no: O10")
+    said(held, "outcome", "comes out right", "Another may not.")
+
+
+# The most memory of a call, the texts, and what the cards say. (An answer needs from 1.4 MB, a verdict from 9.)
+LITTLE = [
+    ("none runs", 1.3, "std.hcl", "The check ran out of memory.", "The run ran out of memory."),
+    ("a run alone", 4, "std.hcl", "The check ran out of memory.", "This program comes out right"),
+    ("a run alone, refused or not", 6, "mistake: nothing from execute", "The check ran out of memory.", "This program comes out wrong"),
+    ("both", 40, "mistake: memory before execute", "no: O10", "This program comes out wrong"),
+]
+
+
+@cases(LITTLE)
+def test_little_memory(row, at, folder):
+    """A program that lacks memory gives no answer, and none is shown."""
+    _, most, design, verdict, outcome = row
+    with open(at.path, encoding="utf-8") as it:
+        text = it.read()
+    same(text.count("MOST_MEMORY = 1 << 30"), 1)
+    with open(f"{folder}/little.html", "w", encoding="utf-8") as it:
+        it.write(text.replace("MOST_MEMORY = 1 << 30", f"MOST_MEMORY = {int(most * 2**20)}"))
+    at.begin(it.name)
+    at.choose("hcls", design)
+    for id, wanted in (("verdict", verdict), ("outcome", outcome)):
+        said(at, id, wanted)
+        if "memory" in wanted:
+            same(at.do(f"[el('{id}').className, el('{id}').querySelector('.badge').textContent]"), ["answer ", "no answer"])
+    at.do("localStorage.clear()")
+    at.begin(at.path)
+
+
 def test_stop(at):
     """A check without an end is stopped, the run doesn't wait for it, and the next check answers."""
     bits = [f"E_ds{x}" for x in ("tE", "tM")]
@@ -436,7 +505,6 @@ def test_examples(at):
     """No example breaks the page. (One of three is shown, since each takes a second.)"""
     for which in ("yss", "hcls"):
         for name in at.do(f"every('#{which} option').map((it) => it.value).filter(Boolean)")[1::3]:
-            at.do("el('full').checked = false")
             at.choose(which, name)
             shown = at.do("document.body.innerText")
             assert not re.search(r"undefined|NaN|\[object", shown), name
@@ -556,159 +624,6 @@ def test_class(at):
     at.click("#class-rows tr:nth-child(2) button")
     at.settle()
     said(at, "verdict", "no: O10")
-
-
-# ---- for everybody: keys alone, names, contrast, widths
-
-def test_tab_order(at):
-    """Tab reaches everything, and leaves the texts."""
-    at.do("document.activeElement.blur()")
-    seen = set()
-    for _ in range(80):
-        at.key("Tab")
-        seen.add(at.do("document.activeElement.id || document.activeElement.dataset.save || document.activeElement.dataset.open || document.activeElement.getAttribute('aria-label') || ''"))
-    wanted = {"full", "class", "link", "print", "theme", "help", "hcls", "yss", "Processor, in HCL", "Program, in Y86-64 assembly", "on", "play", "slider", "hazard", "speed", "grid", "tab-run", "save-path", "base", "save-cert"}
-    same(wanted - seen, set())
-    at.do("one('#hcl textarea').focus()")
-    at.key("Enter", is_ctrl=True)
-    same(at.do("document.activeElement.id"), "result")
-    at.do("el('tab-run').focus()")
-    at.key("ArrowRight")
-    same(at.do("[workbench.tab, document.activeElement.id]"), ["steps", "tab-steps"])
-
-
-def test_help(at):
-    at.key("?")
-    assert at.do("el('dialog').open")
-    said(at, "dialog", "next hazard")
-    at.key("Escape")
-    assert not at.do("el('dialog').open")
-
-
-NAMELESS = """every('button, select, input, textarea, a, [role]:not([role=status])').filter((it) => it.getClientRects().length)
-    .filter((it) => !(it.textContent.trim() || it.getAttribute('aria-label') || it.labels?.length || it.title)).map((it) => it.outerHTML.slice(0, 90))"""
-POINTS_NOWHERE = """every('[aria-controls], [aria-labelledby], [aria-describedby]').flatMap((it) => ['aria-controls', 'aria-labelledby', 'aria-describedby']
-    .map((name) => it.getAttribute(name)).filter((id) => id && !el(id)))"""
-TWICE = "Object.entries(every('[id]').reduce((all, it) => ({ ...all, [it.id]: (all[it.id] ?? 0) + 1 }), {})).filter(([, n]) => n > 1).map(([id]) => id)"
-
-
-def test_names(at):
-    """Each control has a name, each reference leads somewhere, and no id is there twice."""
-    for name in ("std.hcl", "mistake: memory before execute"):
-        at.choose("hcls", name)
-        same(at.do(NAMELESS), [])
-        same([it for it in at.do(POINTS_NOWHERE) if it != "dialog-title"], [])
-        same(at.do(TWICE), [])
-    same(at.do("every('img:not([alt]), svg[role=img]:not([aria-label])').length"), 0)
-
-
-# The contrast of each text that can be seen with what is behind it, where it is below 4.5.
-CONTRAST = """(() => {
-  const canvas = document.createElement("canvas").getContext("2d", { willReadFrequently: true });
-  const rgb = (it) => { canvas.clearRect(0, 0, 1, 1); canvas.fillStyle = "#000"; canvas.fillStyle = it; canvas.fillRect(0, 0, 1, 1); return [...canvas.getImageData(0, 0, 1, 1).data]; };
-  const part = (it) => ((it /= 255) <= 0.03928 ? it / 12.92 : ((it + 0.055) / 1.055) ** 2.4);
-  const light = ([r, g, b]) => 0.2126 * part(r) + 0.7152 * part(g) + 0.0722 * part(b);
-  const behind = (it) => {
-    const svg = it.closest("svg");
-    for (const shape of [it.closest("g")?.querySelector(":scope > rect, :scope > path"), it.closest(".bar")?.querySelector(".frame")])
-      if (svg && shape && getComputedStyle(shape).fill !== "none") return rgb(getComputedStyle(shape).fill);
-    for (let at = svg ? svg.parentElement : it; at; at = at.parentElement) { const found = rgb(getComputedStyle(at).backgroundColor); if (found[3] > 250) return found; }
-    return [255, 255, 255, 255];
-  };
-  const low = {};
-  for (const it of every("body *")) {
-    if (!it.getClientRects().length || it.closest(".stages") || it.tagName === "TEXTAREA" || it.disabled || ![...it.childNodes].some((node) => node.nodeType === 3 && node.data.trim())) continue;
-    const style = getComputedStyle(it), [dark, bright] = [light(rgb(it.closest("svg") ? style.fill : style.color)), light(behind(it))].sort((a, b) => a - b);
-    if ((bright + 0.05) / (dark + 0.05) < 4.5) low[it.outerHTML.slice(0, 70)] = ((bright + 0.05) / (dark + 0.05)).toFixed(2);
-  }
-  return low;
-})()"""
-
-
-@cases([("light",), ("dark",)])
-def test_contrast(row, at):
-    at.media(prefers_color_scheme=row[0])
-    for design, program in (("std.hcl", "jump.ys"), ("mistake: memory before execute", "call.ys"), ("mistake: a signal is misspelled", "asum.ys")):
-        at.choose("hcls", design)
-        at.choose("yss", program)
-        at.do("document.activeElement.blur()")
-        for _ in range(8 if design == "std.hcl" else 1):
-            same(at.do(CONTRAST), {})
-            at.do("el('on').click()")
-        at.do("el('tab-steps').click()")
-        same(at.do(CONTRAST), {})
-    at.media(prefers_color_scheme="light")
-
-
-def test_theme(at):
-    at.media(prefers_color_scheme="dark", prefers_reduced_motion="reduce")
-    at.until("document.documentElement.dataset.theme === 'dark'")
-    same(at.do("document.getAnimations().length"), 0)
-    at.click("#theme")
-    same(at.do("document.documentElement.dataset.theme"), "light")
-    at.click("#theme")
-    at.click("#theme")
-    at.media(prefers_color_scheme="light")
-
-
-@cases([(f"{width} by {height}", width, height) for width, height in WIDTHS])
-def test_widths(row, at):
-    """At each width nothing is cut off at the side, no name breaks within a word, and the controls can be reached."""
-    _, width, height = row
-    at.size(width, height)
-    for design in ("std.hcl", "mistake: memory before execute", "seq.hcl"):
-        at.choose("hcls", design)
-        same(at.do("document.documentElement.scrollWidth"), width)
-    at.choose("hcls", "std.hcl")
-    at.choose("yss", "sort.ys")
-    at.click("#on")
-    same(at.cycle(), 2)
-    broken = "every('#registers span, #memory span, #grid .name, [role=tab]').filter((it) => getComputedStyle(it).whiteSpace !== 'nowrap').length"
-    same(at.do(broken), 0)
-    if width < 700:
-        same(at.do("every('#stages tr').filter((it) => it.getBoundingClientRect().height > 20).length"), 5)
-    at.size(*WIDE)
-
-
-# What is clicked with a mistake shown, and then with the book's pipeline; and a condition that then holds.
-WITH_A_MISTAKE = [
-    ("#tab-run", "workbench.tab === 'run'"), ("#why", "workbench.tab === 'no'"), ("#panel-no [data-rule=O11]", "workbench.verdict.rule === 'O11'"),
-    ("#panel-no [data-rule=O10]", "workbench.verdict.rule === 'O10'"), ("#goto", "document.activeElement === one('#hcl textarea')"),
-    ("#hcl .note button", "!one('#hcl .note')"), ("#tab-steps", "el('panel-steps').querySelector('.wrong')"), ("#panel-steps [data-record]", "workbench.tab === 'run'"),
-    ("#wrong-at", "one('#grid .row.wrong')"), ("#tab-no", "workbench.tab === 'no'"),
-]
-WITH_A_RUN = [
-    ("#tab-run", "workbench.tab === 'run'"), ("#on", "workbench.cycle === 2"), ("#end", "workbench.cycle === workbench.run.cycles.length"), ("#back", "el('on').disabled === false"),
-    ("#first", "workbench.cycle === 1"), ("#hazard", "workbench.run.cycles[workbench.cycle - 1].hazard"),
-]
-
-
-@cases([(f"{width} by {height}", width, height) for width, height in WIDTHS])
-def test_everything_at_each_width(row, at):
-    """By mouse, where nothing lies over what is clicked."""
-    at.size(*row[1:])
-    at.choose("hcls", "mistake: memory before execute")
-    for selector, then in WITH_A_MISTAKE:
-        at.click(selector)
-        at.until(then, 5)
-    name, drawing = at.saved(lambda: at.click("#save-no"))
-    same((name, drawing[:4]), ("O10.svg", "<svg"))
-    at.choose("hcls", "std.hcl")
-    at.choose("yss", "asum.ys")
-    for selector, then in WITH_A_RUN:
-        at.click(selector)
-        at.until(then, 5)
-        at.settle()
-    at.size(*WIDE)
-
-
-def test_structure(at):
-    """One heading of the first level, a language, a title, landmarks, a type for each button, and one tab that is chosen."""
-    same(at.do("[document.documentElement.lang, document.title, every('h1').length, every('main').length, every('header').length, every('footer').length]"), ["en", "Y86-64 workbench", 1, 1, 1, 1])
-    same(at.do("every('body > :not(dialog) button:not([type])').length"), 0)
-    same(at.do("every('[role=tab][aria-selected=true]').map((it) => it.id)"), ["tab-run"])
-    same(at.do("every('[role=tab]').filter((it) => !it.hidden).map((it) => [it.tabIndex, el(it.getAttribute('aria-controls')).getAttribute('role')])"), [[0, "tabpanel"], [-1, "tabpanel"]])
-    same(at.do("every('th:not([scope])').length"), 0)
 
 
 def test_size():

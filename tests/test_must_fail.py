@@ -7,7 +7,9 @@ from helpers.cases import cases
 from helpers.paths import TOP
 
 SHOWS = re.compile(r"shows: (?:clause `(?P<clause>\w+)`|the clause) of `(?P<function>\w+)`: \S.*")
-EDITS = sorted(glob.glob("crates/*/must-fail/*.edit", root_dir=TOP))
+EDITS = sorted(
+    glob.glob("crates/*/must-fail/*.edit", root_dir=TOP) + glob.glob("tests/edits/*/*.edit", root_dir=TOP)
+)
 
 
 def read(path):
@@ -22,10 +24,14 @@ def contracts(crate, function):
             yield [name or None for name in re.findall(r"^ *ensures (?:(\w+) )?\{", head, flags=re.M)]
 
 
-@cases((os.path.relpath(path, "crates").replace("/must-fail/", "/"), path) for path in EDITS)
+def crate_of(path):
+    return path.split("/")[-2 if path.startswith("tests/") else 1]
+
+
+@cases((f"{crate_of(path)}/{os.path.basename(path)}", path) for path in EDITS)
 def test_edit(row):
     _, path = row
-    crate = path.split("/")[1]
+    crate = crate_of(path)
     shows = SHOWS.fullmatch(read(path).split("\n", 1)[0])
     assert shows, "an edit begins with a line: shows: clause `NAME` of `FUNCTION`: what is right"
     assert any(shows["clause"] in clauses for clauses in contracts(crate, shows["function"]))
@@ -33,3 +39,26 @@ def test_edit(row):
 
 def test_there_are_edits():
     assert len(EDITS) > 100
+
+
+def changes(path):
+    """The changes of an edit: a file, the text there, and the new text."""
+    file = old = None
+    for line in read(path).split("\n"):
+        word, _, text = line.partition(": ")
+        if word == "file":
+            file = f"crates/{crate_of(path)}/{text}"
+        elif word == "old":
+            old = text
+        elif line.startswith("new:"):
+            yield file, old, text
+
+
+@cases((f"{crate_of(path)}/{os.path.basename(path)}", path) for path in EDITS)
+def test_edit_applies(row):
+    _, path = row
+    texts = {}
+    for file, old, new in changes(path):
+        text = texts.setdefault(file, read(file))
+        assert text.count(old) == 1, f"this text stands once in {file}: {old}"
+        texts[file] = text.replace(old, new)

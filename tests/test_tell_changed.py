@@ -111,29 +111,29 @@ def signals_agree(y86, y86_tell, text, said, refuted):
         mended = text
         for it in signals:
             mended = put_there(mended, it["signal"], there, word(it["wanted"]))
-        false_there = outputs(y86, mended, bits)
-        return None if false_there is None or settings(y86_tell, mended) != said["settings"] else label in false_there
+        return mended
 
-    answers = [with_wanted(wrong)] + [with_wanted([other for other in wrong if other is not it]) for it in wrong]
-    if None in answers:
-        return False
-    same((label, answers), (label, [False] + [True] * len(wrong)))
+    mended = [with_wanted(wrong)] + [with_wanted([other for other in wrong if other is not it]) for it in wrong]
+    for file, is_false in zip(mended, [False] + [True] * len(wrong)):
+        false_there = outputs(y86, file, bits)
+        if false_there is None or (label in false_there) != is_false and settings(y86_tell, file) != said["settings"]:
+            return False
+        same((label, label in false_there), (label, is_false))
     return True
 
 
 def repairs_agree(y86, y86_tell, text, said, refuted):
     """Whether the repairs of an obligation on motion could be compared, and then that they are those."""
-    situation, compared, found = refuted["counterexample"], [], []
+    situation, compared = refuted["counterexample"], 0
     bits, there = bits_at(situation), condition(situation)
     for signal in MOVERS:
         other = changed(text, **{signal: f"({there}) && !(@) || !({there}) && (@)"})
-        false_there = outputs(y86, other, bits)
-        if false_there is not None and settings(y86_tell, other) == said["settings"]:
-            compared.append(signal)
-            if not false_there.intersection(MOTION):
-                found.append(signal)
-    same(found, [it for it in refuted["motion"]["invert"] if it in compared])
-    return bool(compared)
+        false_there, is_repair = outputs(y86, other, bits), signal in refuted["motion"]["invert"]
+        if false_there is None or is_repair == bool(false_there.intersection(MOTION)) and settings(y86_tell, other) != said["settings"]:
+            continue
+        same((signal, not false_there.intersection(MOTION)), (signal, is_repair))
+        compared += 1
+    return compared > 0
 
 
 @pytest.mark.slow

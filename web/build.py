@@ -90,7 +90,7 @@ def styles() -> str:
 def said_of(about: dict[str, object]) -> str:
     """Returns the sentences of the footer that say where the page comes from, and what was proved."""
     commit = re.sub(r"\b([0-9a-f]{12})[0-9a-f]{28}\b", r"\1", str(about["commit"]))
-    whence = f"Made from {commit}" + (f" by {about['toolchain']}" if about["toolchain"] else "")
+    whence = f"Made from {commit}" + (f", by {about['toolchain']}" if about["toolchain"] else "")
     if about["proved"]:
         return f"The programs in it were proved ({about['crates']} crates); the page around them is tested. {whence}."
     return f"Nothing in it was proved. {whence}."

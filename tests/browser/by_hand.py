@@ -1,5 +1,5 @@
 #!/usr/bin/env python3
-"""by_hand.py OUT.html [BROWSER..]: a page that makes some 250 calls in the browser that opens it, and says how many gave the answers of the native programs.
+"""by_hand.py OUT.html [BROWSER..]: a page that makes some 300 calls in the browser that opens it, and says how many gave the answers of the native programs.
 
 It opens the page itself in the browsers that are named: chromium, firefox, webkit (Safari's engine). docs/TESTING.md says what they need.
 It needs a Python with pytest: $(tests/interpreter) tests/browser/by_hand.py calls.html firefox webkit.
@@ -20,6 +20,8 @@ from helpers.programs import Program, program_path
 from test_browser_calls import of_designs, of_programs, of_runs
 
 SHARE = 8
+# A browser that takes longer is stopped.
+MOST_SECONDS = 900
 PAGE = """<!DOCTYPE html><html lang="en"><meta charset="utf-8"><title>y86: calls by hand</title>
 <p id="said">…</p><pre id="wrong"></pre>
 <script type="application/json" id="data">{data}</script><script type="text/plain" id="worker">{worker}</script><script type="module">{app}</script></html>"""
@@ -38,13 +40,15 @@ def opened(name, path):
     if not ENGINES[name].command():
         print(f"{name} isn't here")
         return False
+    begun = time.monotonic()
     with ENGINES[name]() as browser:
         browser.open(os.path.abspath(path))
-        while not browser.evaluate("", "window.ready === true"):
+        while not (is_ready := browser.evaluate("", "window.ready === true")) and time.monotonic() < begun + MOST_SECONDS:
             time.sleep(0.3)
         said, wrong = browser.evaluate("", "['said', 'wrong'].map((it) => document.getElementById(it).textContent)")
-    print(f"{name}: {said}", wrong, sep="\n" if wrong else "")
-    return not wrong
+    after = f"after {time.monotonic() - begun:.0f} s{'' if is_ready else ', when it was stopped'}"
+    print(f"{name}: {said}, {after}", wrong, sep="\n" if wrong else "", flush=True)
+    return is_ready and not wrong
 
 
 def main(words):
@@ -64,7 +68,7 @@ def main(words):
     data = build.as_json({"programs": packed, "calls": asked, "examples": {}, "texts": {}, "about": {}})
     with open(words[0], "w", encoding="utf-8") as it:
         it.write(PAGE.format(data=data, worker=build.script("worker"), app=build.script("by_hand")))
-    print(f"{words[0]} makes {len(asked)} calls: open it in each browser")
+    print(f"{words[0]} makes {len(asked)} calls: open it in each browser", flush=True)
     return 0 if all([opened(it, words[0]) for it in words[1:]]) else 1
 
 

@@ -20,7 +20,7 @@ os.execvp(sys.argv[3], sys.argv[3:])
 NAMES = ("chromium", "chromium-browser", "google-chrome", "google-chrome-stable")
 
 
-CODES = {"ArrowLeft": 37, "ArrowRight": 39, "ArrowUp": 38, "ArrowDown": 40, "Home": 36, "End": 35, "Tab": 9, "Enter": 13, "Escape": 27, " ": 32}
+CODES = {"ArrowLeft": 37, "ArrowRight": 39, "ArrowUp": 38, "ArrowDown": 40, "Home": 36, "End": 35, "Tab": 9, "Enter": 13, "Escape": 27, " ": 32, "Backspace": 8, "PageUp": 33}
 CTRL = 2
 
 
@@ -41,6 +41,8 @@ class Browser:
 
     def __init__(self, seconds=120):
         self.seconds, self.last, self.held, self.errors = seconds, 0, b"", []
+        # Inputs for files that the page has opened.
+        self.choosers = []
         self.room = tempfile.TemporaryDirectory(prefix="y86-browser-", ignore_cleanup_errors=True)
         down, self.down = os.pipe()
         self.up, up = os.pipe()
@@ -98,6 +100,8 @@ class Browser:
             self.errors.append(details.get("exception", {}).get("description") or details["text"])
         if got.get("method") == "Log.entryAdded" and got["params"]["entry"]["level"] == "error":
             self.errors.append(got["params"]["entry"]["text"])
+        if got.get("method") == "Page.fileChooserOpened":
+            self.choosers.append(got["params"]["backendNodeId"])
 
     def value(self, script):
         """The value of a script's last expression in the page."""
@@ -135,6 +139,27 @@ class Browser:
         more = {"key": key, "windowsVirtualKeyCode": CODES.get(key, ord(key[0].upper())), "modifiers": CTRL if is_ctrl else 0}
         self.call("Input.dispatchKeyEvent", type="keyDown" if text else "rawKeyDown", **more, **({"text": text} if text else {}))
         self.call("Input.dispatchKeyEvent", type="keyUp", **more)
+
+    def give(self, asks, path):
+        """Does something that asks for a file or a folder, and gives this one."""
+        self.choosers.clear()
+        self.call("Page.setInterceptFileChooserDialog", enabled=True)
+        asks()
+        until = time.monotonic() + self.seconds
+        while not self.choosers:
+            if time.monotonic() > until:
+                raise Broken("no file is asked for")
+            self.value("1")
+        self.call("DOM.setFileInputFiles", files=[path], backendNodeId=self.choosers.pop())
+
+    def save_into(self, folder):
+        """What the page saves goes into this folder."""
+        self.call("Page.setDownloadBehavior", behavior="allow", downloadPath=folder)
+
+    def drop(self, x, y, path):
+        """Drops a file at a place."""
+        for kind in ("dragEnter", "dragOver", "drop"):
+            self.call("Input.dispatchDragEvent", type=kind, x=x, y=y, data={"items": [], "files": [path], "dragOperationsMask": 1})
 
     def insert(self, text):
         self.call("Input.insertText", text=text)

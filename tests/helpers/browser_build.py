@@ -20,12 +20,13 @@ sys.path.insert(0, f"{TOP}/web")
 
 
 class Call(NamedTuple):
-    """A call of a program: its crate, its words, its files (a name and bytes each), and the most memory, 0 for no limit."""
+    """A call of a program: its crate, its words, its files (a name and bytes each), the most memory and the most output, 0 for no limit."""
 
     crate: str
     words: list
     files: dict
     limit: int = 0
+    room: int = 0
 
 
 def kit():
@@ -79,10 +80,19 @@ def node():
     return found
 
 
+def worker_answers(calls):
+    """Makes calls in the page's worker, which Node runs, one after another. Returns what it posts; files are texts."""
+    files = {it.crate.replace("_", "-"): it.file for it in programs()}
+    asked = [{"program": it.crate.replace("_", "-"), "words": it.words, "files": it.files} for it in calls]
+    ran = subprocess.run([node(), f"{TOP}/tests/browser/worker.mjs"], input=json.dumps({"programs": files, "calls": asked}), capture_output=True, text=True, check=False)
+    assert ran.returncode == 0, ran.stderr
+    return [json.loads(line) for line in ran.stdout.splitlines()]
+
+
 def answers(calls):
     """Makes all calls in Node. Returns an answer for each, and the fault where it broke off."""
     files = {it.crate: it.file for it in programs()}
-    asked = [(it.crate, it.words, {name: base64.b64encode(text).decode() for name, text in it.files.items()}, it.limit) for it in calls]
+    asked = [(it.crate, it.words, {name: base64.b64encode(text).decode() for name, text in it.files.items()}, it.limit, it.room) for it in calls]
     with tempfile.TemporaryDirectory() as room:
         with open(f"{room}/calls.json", "w", encoding="utf-8") as it:
             json.dump({"programs": files, "calls": asked}, it)

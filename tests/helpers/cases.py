@@ -5,9 +5,10 @@ import pytest
 
 
 def identifier(name):
-    """A case's name as pytest shows it and as `-k` finds it."""
+    """A case's name as pytest shows it and as `-k` takes it: `O2 isn't asked` is `O2-isnt-asked`."""
     text = name if isinstance(name, str) else repr(name)
-    return re.sub(r"\s+", " ", text.encode("ascii", "backslashreplace").decode())[:120] or "empty"
+    text = re.sub("['`\"]", "", text.encode("ascii", "backslashreplace").decode())
+    return re.sub(r"[^\w.:+/]+", "-", text).strip("-")[:120] or "empty"
 
 
 def cases(rows):

@@ -1,10 +1,17 @@
 """The workbench in a browser: what a reader does, and what the page then shows."""
 import json
+import os
+import re
 import time
 
 import pytest
 
 from helpers.browser import Broken
+from helpers.engines import ENGINES
+
+# A screen, a tablet and a phone.
+WIDE = (1440, 900)
+WIDTHS = [WIDE, (820, 1180), (390, 844)]
 
 # For scripts in the page.
 SHORT = """
@@ -18,6 +25,21 @@ CLICKED = """(() => {
   return [x, y, Boolean(hit) && it.contains(hit)];
 })()"""
 SETTLED = "!one('.stale') && !one('.busy')"
+
+
+def engine():
+    """The browser of these tests; skips where it isn't there."""
+    found = ENGINES[os.environ.get("Y86_BROWSER", "chromium")]
+    if not found.command():
+        pytest.skip(f"{found.__name__} isn't here, so the page wasn't opened")
+    return found
+
+
+def said(at, id, *wanted):
+    """Fails where the element of this id doesn't say each of these."""
+    text = re.sub(r"\s+", " ", at.text(id))
+    for it in wanted:
+        assert it in text, f"{id} says {text!r}, and not {it!r}"
 
 
 class Workbench:
@@ -49,6 +71,15 @@ class Workbench:
         self.browser.open(path, fragment)
         self.until("window.ready === true")
         self.settle()
+
+    def renew(self):
+        """The page as it is at first: the book's pipeline and the array sum, on a screen."""
+        self.size(*WIDE)
+        self.do("(() => { if (el('dialog').open) el('dialog').close(); el('full').checked = false; localStorage.clear(); })()")
+        self.choose("yss", "asum.ys")
+        self.choose("hcls", "std.hcl")
+        self.do("el('tab-run').click(), el('first').click()")
+        self.leave()
 
     def settle(self):
         """Waits until the answers are those of the texts. (An edit is answered after a pause.)"""

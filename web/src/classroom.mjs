@@ -1,4 +1,5 @@
 // All processors of a class: the HCL files of a folder, or of every student's folder in it, each with its verdict.
+import { whyNone } from "./answers.mjs";
 import { by, download, escaped, make } from "./dom.mjs";
 import { Engine, Stopped } from "./engine.mjs";
 import { PATHS, datapath, knowsIaddq } from "./names.mjs";
@@ -26,12 +27,13 @@ async function checked(name, text) {
   }
 }
 
-function verdictOf({ status, out, err }) {
+function verdictOf(said) {
+  const { status, out, err } = said, why = whyNone(said);
+  if (why) return { verdict: "none", note: why };
   const line = out.split("\n")[0];
   if (status === 0) return { verdict: "yes", settings: line.replace(/^yes ?/, "") };
   if (status === 1) return { verdict: "no", obligation: line.split(" ")[1] };
-  if (status === 5 || status === 7) return { verdict: "fault", fault: err.split("\n")[0].replace(/^my\.hcl:\s?/, "") };
-  return { verdict: "none", note: status === 6 ? "out of memory" : `status ${status}` };
+  return { verdict: "fault", fault: err.split("\n")[0].replace(/^my\.hcl:\s?/, "") };
 }
 
 const cell = (text) => (/[",\n]/.test(text) ? `"${text.replace(/"/g, '""')}"` : text);
@@ -72,7 +74,8 @@ async function grade(files) {
   }
   const count = (verdict) => rows.filter((it) => it.verdict === verdict).length;
   const none = count("none") ? `, ${count("none")} without an answer` : "", faults = `${count("fault")} with a fault`;
-  said.textContent = `${rows.length} files: ${count("yes")} yes, ${count("no")} no, ${faults}${none}.`;
+  const all = `${rows.length} file${rows.length === 1 ? "" : "s"}`;
+  said.textContent = `${all}: ${count("yes")} yes, ${count("no")} no, ${faults}${none}.`;
   by("class-csv").disabled = !rows.length;
   by("class-csv").onclick = () => download("class.csv", `${csvOf(rows)}\n`, "text/csv");
 }

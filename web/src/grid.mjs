@@ -38,10 +38,11 @@ function boxes(row) {
 
 function nameHTML(row, at) {
   if (row.isBubble)
-    return `<button type="button" class="name" data-row="${at}" disabled aria-label="bubble"><span class="dot">`
+    return `<button type="button" tabindex="-1" class="name" data-row="${at}" disabled aria-label="bubble">`
+      + `<span class="dot">`
       + `</span>bubble</button>`;
   const place = address(row.at);
-  return `<button type="button" class="name" data-row="${at}" aria-pressed="${state.breaks.has(row.at)}" `
+  return `<button type="button" tabindex="-1" class="name" data-row="${at}" aria-pressed="${state.breaks.has(row.at)}" `
     + `title="Breakpoint at ${place}: play stops where it is fetched">`
     + `<span class="dot"></span><span class="addr">${place}</span> <span class="ins">${escaped(listed(row))}</span>`
     + "</button>";
@@ -100,6 +101,25 @@ function show() {
   follow();
 }
 
+/** Goes to a row's name up or down, from the first row that can be seen; bubbles are left out. */
+function goRow(step) {
+  const grid = by("grid"), { rows } = state.run, now = document.activeElement.dataset.row;
+  let at = now === undefined ? Math.ceil(grid.scrollTop / ROW) - step : Number(now);
+  do at += step; while (rows[at]?.isBubble);
+  if (!rows[at]) return;
+  const top = at * ROW, most = grid.clientHeight - TOP - ROW - MARGIN;
+  grid.scrollTop = Math.max(Math.min(grid.scrollTop, top), top - most);
+  fillGrid();
+  grid.querySelector(`.name[data-row="${at}"]`).focus({ preventScroll: true });
+}
+
+function keyed(event) {
+  const step = { ArrowDown: 1, ArrowUp: -1 }[event.key];
+  if (!step || !state.run) return;
+  event.preventDefault();
+  goRow(step);
+}
+
 export function wireGrid() {
   const grid = by("grid");
   on("grid", makeGrid);
@@ -108,6 +128,7 @@ export function wireGrid() {
   on("breaks", fillGrid);
   on("tab", (name) => name === "run" && show());
   grid.addEventListener("scroll", () => requestAnimationFrame(fillGrid));
+  grid.addEventListener("keydown", keyed);
   grid.addEventListener("click", (event) => {
     const cell = event.target.closest("[data-cycle]"), name = event.target.closest("[data-row]");
     if (cell) go(Number(cell.dataset.cycle));

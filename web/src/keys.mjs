@@ -8,6 +8,7 @@ const ROWS = [
   ["← →", "a cycle back, on"], ["Home End", "first, last cycle"], ["space", "play to the next breakpoint, pause"],
   ["n N", "next hazard, the one before"],
   ["b", "breakpoint at the fetched instruction; or click a row, or a line number of the program"],
+  ["↑ ↓", "in the diagram: an instruction, where Enter sets a breakpoint"],
   ["w", "the next tab: this run, by instructions, why no"],
   ["Ctrl Enter", "from a text to the result"], ["Ctrl space", "in a text: the names that fit"],
 ];

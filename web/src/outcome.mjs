@@ -1,5 +1,6 @@
 // Does this program come out right? Its run under the processor, beside the run by instructions, and the card with the
 // answer.
+import { NoAnswer, ask } from "./answers.mjs";
 import { card, head, isStale, mark } from "./cards.mjs";
 import { differenceHTML, differences, firstDifference, report, trace } from "./compare.mjs";
 import { example } from "./data.mjs";
@@ -8,7 +9,7 @@ import { Stopped, has, runner } from "./engine.mjs";
 import { noFault, showFaults } from "./fault_view.mjs";
 import { excerpt, faultsOf, moreWords, placeWords } from "./faults.mjs";
 import { lockstep } from "./lockstep.mjs";
-import { PATHS, datapath } from "./names.mjs";
+import { datapath } from "./names.mjs";
 import { address, readRun, sourceLines } from "./run.mjs";
 import { readSeqRun, seqRecords } from "./seqrun.mjs";
 import { on, state, tell } from "./state.mjs";
@@ -57,64 +58,65 @@ function compared(path, listing, ran, by_, book, run, told) {
   return { ...found, records, isSame, isCut: false, first };
 }
 
+/** Runs the program on the processor, by instructions and on the book's pipeline, and shows what came out. */
+async function answer(it, path, flags) {
+  const made = await ask(runner, "y86", ["yas", SOURCE, ...flags], { [SOURCE]: it.ys });
+  if (!it.isBoth()) return;
+  if (made.status !== 0) return showSourceFault(it, made.err);
+  editors.ys.show([], []);
+  noFault("ys");
+  const files = { [DESIGN]: it.hcl, [OBJECT]: made.out, [BOOK]: bookDesign() };
+  const ran = await ask(runner, "y86", [...COMMANDS[path], ...flags], files);
+  if (ran.status > 1) return showNoRun(it, ran);
+  const by_ = await ask(runner, "y86", ["yis", OBJECT, ...flags], files);
+  const book = await ask(runner, "y86", ["psim", BOOK, OBJECT, "--trace", ...flags], files);
+  const staged = await STAGED[path](path, files, flags, made.out), told = await toldOf(path, files, flags);
+  if (!it.isBoth()) return;
+  Object.assign(state, { object: made.out, lines: sourceLines(made.out),
+    compared: compared(path, made.out, ran, by_, book, staged, told) });
+  showRun(staged);
+}
+
 async function run() {
-  const it = moment(), path = datapath(it.hcl), flags = full();
+  const it = moment();
   if (runner.isBusy) runner.stop();
   try {
-    const made = await runner.call("y86", ["yas", SOURCE, ...flags], { [SOURCE]: it.ys });
-    if (!it.isBoth()) return;
-    if (made.status !== 0) return await showSourceFault(it, made.err);
-    editors.ys.show([], []);
-    noFault("ys");
-    const files = { [DESIGN]: it.hcl, [OBJECT]: made.out, [BOOK]: bookDesign() };
-    const ran = await runner.call("y86", [...COMMANDS[path], ...flags], files);
-    if (ran.status > 1) return await showNoRun(it, ran);
-    const by_ = await runner.call("y86", ["yis", OBJECT, ...flags], files);
-    const book = await runner.call("y86", ["psim", BOOK, OBJECT, "--trace", ...flags], files);
-    const staged = await STAGED[path](path, files, flags, made.out), told = await toldOf(path, files, flags);
-    if (!it.isBoth()) return;
-    Object.assign(state, { object: made.out, lines: sourceLines(made.out),
-      compared: compared(path, made.out, ran, by_, book, staged, told) });
-    showRun(staged, path, ran);
-  } catch (stopped) {
-    if (!(stopped instanceof Stopped)) throw stopped;
-    if (it.isBoth()) showStopped();
+    await answer(it, datapath(it.hcl), full());
+  } catch (none) {
+    if (none instanceof Stopped) return it.isBoth() && showStopped();
+    if (!(none instanceof NoAnswer)) throw none;
+    if (it.isBoth()) showNone(none.message);
   }
 }
 
 /** Where the pipeline first differs from the instructions, as y86-tell says it. */
 async function toldOf(path, files, flags) {
   if (path !== "pipe" || !has("y86-tell")) return null;
-  const said = await runner.call("y86-tell", ["run", DESIGN, OBJECT, "--json", "--unchecked", ...flags], files);
-  return lockstep(said.out);
+  const words = ["run", DESIGN, OBJECT, "--json", "--unchecked", ...flags];
+  return lockstep((await ask(runner, "y86-tell", words, files)).out);
 }
 
 const stageWords = (flags) => [DESIGN, OBJECT, "--to", String(SHOWN), ...flags];
 
 /** The run on the pipeline by cycles: what y86-stages prints of it, and its diagram. */
 async function pipeRun(_, files, flags, object) {
-  const lines = await runner.call("y86-stages", stageWords(flags), files);
-  const diagram = await runner.call("y86-stages", [...stageWords(flags), "--diagram"], files);
+  const lines = await ask(runner, "y86-stages", stageWords(flags), files);
+  const diagram = await ask(runner, "y86-stages", [...stageWords(flags), "--diagram"], files);
   return readRun(lines.out, diagram.out, object);
 }
 
 /** The run on SEQ or SEQ+ by cycles. */
 async function seqRun(path, files, flags, object) {
-  const lines = await runner.call("y86-stages", [...stageWords(flags), `--${path}`], files);
-  return lines.status > 1 ? null : readSeqRun(path, lines.out, object);
+  const lines = await ask(runner, "y86-stages", [...stageWords(flags), `--${path}`], files);
+  return readSeqRun(path, lines.out, object);
 }
 
 const STAGED = { pipe: pipeRun, seq: seqRun, seqplus: seqRun };
 
-function showRun(run, path, ran) {
+function showRun(run) {
   state.run = run;
-  if (run) by("blank").hidden = true;
-  else {
-    blank(`There is no drawing of ${PATHS[path]} in this page. The report of the run:`, false);
-    by("blank").innerHTML += `<pre class="frame">${escaped(ran.out)}</pre>`;
-  }
-  by("shown").hidden = !run;
-  by("controls").hidden = !run;
+  by("blank").hidden = true;
+  by("shown").hidden = by("controls").hidden = false;
   by("shown").classList.remove("stale");
   by("shown").removeAttribute("aria-busy");
   tell("run");
@@ -124,7 +126,7 @@ function showRun(run, path, ran) {
 function noRun(html, why, which, faults) {
   Object.assign(state, { run: null, compared: null });
   card("outcome", "", html);
-  blank(why, true, which, faults);
+  blank(why, which, faults);
   tell("run");
 }
 
@@ -137,11 +139,12 @@ async function showSourceFault(it, err) {
   noRun(said, "The program has a fault, so there is no run to show.", "ys", faults);
 }
 
+/** The run lacked memory, or broke off. */
+function showNone(why) {
+  noRun(`${head("no answer", "This program")}<p>The run ${escaped(why)}.</p>`, "There is no run to show.");
+}
+
 async function showNoRun(it, ran) {
-  if (ran.status !== 5 && ran.status !== 7) {
-    const said = `${head("no run", "This program")}<p>${escaped(ran.err || ran.fault)}</p>`;
-    return it.isBoth() && noRun(said, "There is no run to show.");
-  }
   const faults = await faultsOf(runner, "hcl", it.hcl, ran.err);
   if (!it.isBoth()) return;
   const said = `${head("no run", "This program")}<p>It assembles; the processor has a fault, so it can’t run.</p>`;
@@ -164,10 +167,10 @@ function faultHTML(which, it) {
 }
 
 /** In place of a run, why there is none. */
-function blank(text, isWarning, which, faults = []) {
+function blank(text, which, faults = []) {
   const it = by("blank"), rest = faults.length > MOST_FAULTS ? `<p>${faults.length - MOST_FAULTS} more.</p>` : "";
   it.hidden = false;
-  it.className = `blank ${isWarning ? "warn" : ""}`;
+  it.className = "blank warn";
   const shown = faults.slice(0, MOST_FAULTS).map((fault) => faultHTML(which, fault)).join("");
   it.innerHTML = `<p>${escaped(text)}</p>${shown}${rest}`;
   by("shown").hidden = true;

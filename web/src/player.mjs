@@ -1,15 +1,15 @@
 // The cycle that is shown: forward and back, play, to the next hazard, to a breakpoint.
 import { by, escaped, toast } from "./dom.mjs";
 import { sceneOfCycle } from "./draw/cycle.mjs";
-import { NAMES, datapath } from "./draw/pipe.mjs";
+import { datapath } from "./draw/pipe.mjs";
 import { SEQ_NAMES, seqPath } from "./draw/seq.mjs";
-import { hue } from "./draw/sheet.mjs";
 import { address } from "./run.mjs";
 import { seqScene, seqStages } from "./seqrun.mjs";
+import { pipeRows, stageRow } from "./stages.mjs";
 import { on, state, tell } from "./state.mjs";
 import { tab } from "./tabs.mjs";
 
-const MOST_TICKS = 150, ACTS = { stall: "stalls", bubble: "bubble next", both: "stall and bubble" };
+const MOST_TICKS = 150;
 
 const count = () => state.run?.cycles.length ?? 0;
 export const cycleNow = () => state.run?.cycles[state.cycle - 1];
@@ -18,26 +18,19 @@ const sceneNow = () => (isPipe() ? sceneOfCycle(state.run, state.cycle) : seqSce
 /** The drawing of the cycle that is shown. `name` tells it from others on the page. */
 export const drawingNow = (name) => (isPipe() ? datapath(sceneNow(), name) : seqPath(sceneNow(), name));
 
-function seqStagesHTML(scene) {
-  const row = ([it, what, more]) => `<tr style="--h:${hue(scene.row)}">`
-    + `<th scope="row" title="${SEQ_NAMES[it]}">${it}</th><td><span class="what">${escaped(what)}</span>`
-    + `<small>${escaped(more)}</small></td><td class="act"></td></tr>`;
-  return `<caption>The stages in cycle ${state.cycle}</caption><tbody>${seqStages(scene).map(row).join("")}</tbody>`;
-}
-
 /** The stages as a table: what the drawing shows, in words. */
 function stagesHTML(scene, cycle) {
-  if (!isPipe()) return seqStagesHTML(scene);
+  const caption = `<caption>The stages in cycle ${state.cycle}</caption>`;
+  if (!isPipe()) {
+    const rows = seqStages(scene).map(([it, what, more]) => stageRow(it, SEQ_NAMES[it], scene.row, what, more));
+    return `${caption}<tbody>${rows.join("")}</tbody>`;
+  }
   const forwards = cycle.forwards.map((it) => `${it.to} = ${it.value} from ${it.from}`).join(", ");
-  const rows = [..."FDEMW"].map((it) => {
-    const { kind, text, at, row } = scene.stages[it], does = ACTS[scene.next[it]] ?? "";
-    const got = it === "D" ? forwards : "";
-    const more = [at, kind === "cancelled" ? "cancelled" : "", got].filter(Boolean).join(" ");
-    return `<tr class="${kind}" style="--h:${hue(row)}"><th scope="row" title="${NAMES[it]}">${it}</th><td>`
-      + `<span class="what">${escaped(text)}</span><small>${escaped(more)}</small></td>`
-      + `<td class="act">${does}</td></tr>`;
-  });
-  return `<caption>The stages in cycle ${state.cycle}</caption><tbody>${rows.join("")}</tbody>`;
+  const more = (it) => {
+    const { at, kind } = scene.stages[it];
+    return [at, kind === "cancelled" ? "cancelled" : "", it === "D" ? forwards : ""].filter(Boolean).join(" ");
+  };
+  return `${caption}<tbody>${pipeRows(scene, more)}</tbody>`;
 }
 
 function showCycle() {

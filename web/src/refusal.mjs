@@ -4,6 +4,7 @@ import { datapath } from "./draw/pipe.mjs";
 import { seqPath } from "./draw/seq.mjs";
 import { standalone } from "./exports.mjs";
 import { ruleText } from "./rule_text.mjs";
+import { pipeRows } from "./stages.mjs";
 import { tell } from "./state.mjs";
 
 const NOT_A_CYCLE = "This is the smallest counterexample to the obligation, not a cycle of your program."
@@ -35,6 +36,13 @@ function motionHTML({ motion, brief, where, signals }) {
 /** The drawing of the situation. */
 const drawingOf = ({ scene }, path) => (path === "pipe" ? datapath(scene, "no") : seqPath(scene, "no"));
 
+/** The stages of a situation of the pipeline as a table. */
+function stagesHTML({ rule, scene }, path) {
+  if (path !== "pipe") return "";
+  return `<table class="stages"><caption>The stages in the counterexample to ${rule}</caption>`
+    + `<tbody>${pipeRows(scene, (it) => scene.stages[it].tag ?? "")}</tbody></table>`;
+}
+
 /** The obligations that are refuted, to look at one after another. */
 function othersHTML({ rule, refusals }) {
   if (refusals.length < 2) return "";
@@ -63,7 +71,8 @@ export function drawRefusal({ rule, told, lines, path, refusals }) {
   const asks = `<h3>${rule} asks</h3><p>${inline(said.asks)}</p><h3>Why</h3><p>${inline(said.why)}</p>`
     + `<p class="hint">${hint}</p>`;
   const head = `<div class="cardhead"><h3>What the file says there</h3><span class="grow"></span>${SAVE}</div>`;
-  panel.innerHTML = `${othersHTML({ rule, refusals })}${motionHTML(told)}${scene}<div class="two">`
+  panel.innerHTML = `${othersHTML({ rule, refusals })}${motionHTML(told)}${stagesHTML(told, path)}`
+    + `${scene}<div class="two">`
     + `<section class="card">${head}${signals}</section><section class="card">${asks}</section></div>`;
   for (const it of panel.querySelectorAll("[data-rule]")) it.onclick = () => tell("refusal", it.dataset.rule);
   by("save-no").onclick = () => download(`${rule}.svg`, standalone(drawingOf(told, path)), "image/svg+xml");

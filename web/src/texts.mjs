@@ -51,12 +51,12 @@ export function load(which, text, name, isOwn = true) {
   changed(which);
 }
 
-/** Shows an example, and the program that goes with it. */
+/** Shows an example, with iaddq if it has that, and the program that goes with it. */
 export function choose(which, name) {
   const it = example(which, name);
   if (!it) return;
   by(CHOICES[which]).value = name;
-  if (which === "hcl" && knowsIaddq(it.text)) by("full").checked = true;
+  if (which === "hcl") by("full").checked = knowsIaddq(it.text);
   load(which, it.text, it.file, false);
   if (it.program && by("yss").value !== it.program) choose("ys", it.program);
 }

@@ -1,4 +1,5 @@
 // Is the processor right for every program? The check, as its text changes, and the card with its answer.
+import { whyNone } from "./answers.mjs";
 import { card, head, mark } from "./cards.mjs";
 import { by, download, escaped, inline, later, small, toast } from "./dom.mjs";
 import { Stopped, has, judge } from "./engine.mjs";
@@ -84,11 +85,9 @@ async function showFault(it, err) {
   card("verdict", "", `${head("no answer", "Every program")}<p>${said}</p>`);
 }
 
-function showNone(it, said) {
+function showNone(it, why) {
   state.verdict = { at: it.at, kind: "none" };
-  const why = said.status === 6 ? "The check ran out of memory." : `The check gave no answer: `
-    + `${said.fault || said.err || `status ${said.status}`}`;
-  card("verdict", "", `${head("no answer", "Every program")}<p>${escaped(why)}</p>`);
+  card("verdict", "", `${head("no answer", "Every program")}<p>The check ${escaped(why)}.</p>`);
 }
 
 function showStopped(it) {
@@ -102,11 +101,11 @@ function showStopped(it) {
 }
 
 async function show(it, path, said) {
-  const lines = said.out.trim().split("\n");
-  if (said.status === 0) showYes(it, path, lines[0]);
-  else if (said.status === 1 && lines[0].startsWith("no ")) await explain(it, path, lines);
-  else if (said.status === 5 || said.status === 7) await showFault(it, said.err);
-  else showNone(it, said);
+  const lines = said.out.trim().split("\n"), why = whyNone(said);
+  if (why) showNone(it, why);
+  else if (said.status === 0) showYes(it, path, lines[0]);
+  else if (said.status === 1) await explain(it, path, lines);
+  else await showFault(it, said.err);
   if (by("save-cert")) by("save-cert").onclick = () => save("cert");
   if (by("save-aig")) by("save-aig").onclick = () => save("aig");
   by("verdict").dataset.ms = Math.round(said.ms);

@@ -39,8 +39,8 @@ class Trial {
   async differs(object) {
     const right = report((await this.call(["yis", "p.yo", "--limit", LIMIT], object)).out);
     if (!right || right.status === "AOK") return false;
-    const mine = await this.call([COMMANDS[this.path], "my.hcl", "p.yo", "--limit", LIMIT], object);
-    return report(mine.out)?.whole !== right.whole;
+    const mine = report((await this.call([COMMANDS[this.path], "my.hcl", "p.yo", "--limit", LIMIT], object)).out);
+    return Boolean(mine) && mine.whole !== right.whole;
   }
 
   /** A program without the lines that it can do without: many at a time first, then one by one. */
