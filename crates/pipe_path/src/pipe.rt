@@ -1,14 +1,25 @@
 //! The pipelined machine.
-ghost use Rattle.std.specs.Prelude.{◌≡◌, ◌<◌, ◌^◌, ◌+◌, ◌≤◌, Option, Some, None, IfSome};
+ghost use Rattle.std.specs.Prelude.{◌≡◌, ◌<◌, ◌^◌, ◌+◌, ◌≤◌, Option, Some, None, IfSome, if◌then◌else◌, length};
+ghost use Rattle.std.specs.Option.{option_to_list};
+ghost use Rattle.y86_base.specs.Stat.{stat_of};
+ghost use Rattle.hcl_types.specs.Signals.{Starts};
+ghost use Rattle.hcl_types.specs.Terms.{at};
+ghost use Rattle.dp_signals.specs.PipeCycle as cycle;
+ghost use Rattle.dp_signals.specs.PipeEquations.{AreGiven, constants};
+ghost use Rattle.dp_signals.specs.PipeNames as row;
 ghost use Rattle.dp_signals.specs.PipeTable.{pipe_rows};
 ghost use Rattle.hcl_types.specs.Tables.{IsBound, IsOrderOf};
 ghost use Rattle.yis_run.specs.Report.{ended};
 ghost use Rattle.dp_signals.specs.PipeRun as run;
 ghost use Rattle.pipe_path.specs.Calls.{record_in};
+ghost use Rattle.pipe_path.specs.declared.pipe.Cycled.{Cycled};
 ghost use Rattle.pipe_path.specs.Destinations.{HasDestinations};
 ghost use Rattle.pipe_path.specs.Pipe as spec;
 
-use dp_signals::{Ending, PipeState, advance, end_of_cycle, ending, retires, solve_pipe};
+use dp_signals::{
+    Ending, PipeState, PipeValues, advance, advance_loading, all_load, constant_words,
+    end_of_cycle, ending, given, put_given, retires, solve_pipe_in,
+};
 use hcl_types::{Design, Order, SignalEval};
 use machine_calls::{count, is_going};
 use std::marker::Model;
@@ -31,7 +42,9 @@ pub enum Cycled {
     Ended,
 }
 
-/// A pipelined machine: a design with an order of its signals, an evaluator of the design, and the state that it is in.
+/// A pipelined machine: a design with an order of its signals, an evaluator of the design, and the state that it is in. The values of
+/// its signals are kept from cycle to cycle: the constants and the words of the state stand there as a cycle begins. `fits` is the
+/// evaluator's answer about the constants.
 #[derive(Drop)]
 pub struct Pipe<C: SignalEval> {
     variant: Variant,
@@ -42,6 +55,8 @@ pub struct Pipe<C: SignalEval> {
     cycles: u64,
     retired: u64,
     end: Stat,
+    fits: bool,
+    values: PipeValues,
 }
 
 impl<C: SignalEval> Model for Pipe<C> {
@@ -49,6 +64,9 @@ impl<C: SignalEval> Model for Pipe<C> {
     ghost use Rattle.hcl_types.specs.contracts.term.Term as term;
     ghost use Rattle.pipe_path.specs.Pipe.{Pipe, seen};
     ghost use Rattle.pipe_path.specs.Invariant.{IsPipe};
+    ghost use Rattle.std.specs.Prelude.{IsTrue};
+    ghost use Rattle.hcl_types.specs.Signals.{Starts};
+    ghost use Rattle.dp_signals.specs.PipeEquations.{AreGiven, constants};
 
     ghost Value = { Pipe };
 
@@ -56,7 +74,8 @@ impl<C: SignalEval> Model for Pipe<C> {
 
     ghost view = { λ p. seen p.variant p.design.terms p.order.ids p.state p.cycles p.retired p.end };
 
-    ghost invariant = { λ p. C.evaluates p.evaluator p.design.terms × IsPipe p.design.terms p.order.ids p.cycles p.retired };
+    ghost invariant = { λ p. C.evaluates p.evaluator p.design.terms × (IsTrue p.fits → Starts (C.assumes p.evaluator) constants)
+        × AreGiven p.state p.values × IsPipe p.design.terms p.order.ids p.cycles p.retired };
 }
 
 fn told(ending: Ending, retired: Option<Rec>) -> Cycled
@@ -70,6 +89,36 @@ fn told(ending: Ending, retired: Option<Rec>) -> Cycled
         Ending::Stopped => Cycled::Stopped(retired),
         Ending::Pip => Cycled::Pip(retired),
     }
+}
+
+/// Ends the cycle of a state with these values: the next state, and its words among the values. It answers how the cycle ended, and the
+/// status that it left.
+#[inline(always)]
+fn finish(state: &mut PipeState, values: &mut PipeValues) -> (Ending, Stat)
+    requires { Starts constants values.old }
+    ensures ending { result.0 ≡ cycle.ending (at values.old) }
+    ensures end { result.1 ≡ run.end_by (cycle.ending (at values.old)) (stat_of (at values.old row.Stat)) }
+    ensures next { state.new ≡ cycle.next state.old (at values.old) }
+    ensures given { AreGiven state.new values.new }
+{
+    if all_load(values) {
+        advance_loading(state, values);
+        return (Ending::Going, Stat::Aok);
+    }
+    let ending = ending(values);
+    let end = end_of_cycle(ending, values);
+    advance(state, values);
+    put_given(state, values);
+    (ending, end)
+}
+
+/// How many records retire where an instruction in W is live or isn't.
+#[inline(always)]
+fn one(live: bool) -> u64
+    ensures count { result ≡ (if live then 1 else 0) }
+    ensures few { result ≤ 1 }
+{
+    if live { 1 } else { 0 }
 }
 
 /// The PC at the end: after a stop the address of a live instruction in W, else `F_predPC`.
@@ -96,15 +145,20 @@ impl<C: SignalEval> Pipe<C> {
         requires ordered { IsOrderOf pipe_rows design.terms order.ids }
         ensures { result ≡ spec.started variant design.terms order.ids mem }
     {
+        let fits = evaluator.fits(&constant_words());
+        let state = PipeState::start(mem);
+        let values = given(&state);
         Pipe {
             variant,
             design,
             order,
             evaluator,
-            state: PipeState::start(mem),
+            state,
             cycles: 0,
             retired: 0,
             end: Stat::Aok,
+            fits,
+            values,
         }
     }
 
@@ -120,20 +174,49 @@ impl<C: SignalEval> Pipe<C> {
         if !is_going(self.end) {
             return Cycled::Ended;
         }
-        let values = solve_pipe(
+        solve_pipe_in(
             self.variant,
             &self.design,
             &self.order,
             &self.state,
             &mut self.evaluator,
+            self.fits,
+            &mut self.values,
         );
-        let ending = ending(&values);
-        let record = retires(&self.state, &values);
-        advance(&mut self.state, &values);
+        let record = retires(&self.state, &self.values);
+        let (ending, end) = finish(&mut self.state, &mut self.values);
         self.cycles += 1;
         self.retired += count(record);
-        self.end = end_of_cycle(ending, &values);
+        self.end = end;
         told(ending, record)
+    }
+
+    /// Does one cycle as `cycle` does, and tells how many records retired, 0 or 1. It makes no record.
+    #[inline(always)]
+    pub fn pass(&mut self) -> u64
+        requires { self.old.cycles < 2 ^ 63 }
+        ensures cycle { (r : Cycled) × spec.Cycle self.old r self.new × (result ≡ length (option_to_list (record_in r))) }
+        ensures few { result ≤ 1 }
+        ensures counted { self.new.cycles ≤ self.old.cycles + 1 }
+    {
+        if !is_going(self.end) {
+            return 0;
+        }
+        solve_pipe_in(
+            self.variant,
+            &self.design,
+            &self.order,
+            &self.state,
+            &mut self.evaluator,
+            self.fits,
+            &mut self.values,
+        );
+        let more = one(self.state.w.live);
+        let (_, end) = finish(&mut self.state, &mut self.values);
+        self.cycles += 1;
+        self.retired += more;
+        self.end = end;
+        more
     }
 
     /// How the machine ended, or stands: its registers, flags and memory, the PC and the status.

@@ -1,5 +1,5 @@
 -- One more cycle of a drive, and its ends.
-use Rattle.std.proofs.Common.{◌≡◌, ℕ, zero, suc, ◌+◌, ◌<◌, ◌≤◌, Bool, true, false, List, [], ◌∷◌, ◌++◌, length, map, take, Option, Some, None, Result, Ok, Err, refl, sym, ◌∙◌, ap, subst, arith, add-one, length-append, append_assoc}
+use Rattle.std.proofs.Common.{◌≡◌, ℕ, suc, ◌+◌, ◌<◌, ◌≤◌, Bool, true, false, List, [], ◌∷◌, ◌++◌, length, map, take, Option, Some, Ok, Err, refl, sym, ◌∙◌, ap, subst, arith, add-one, length-append, append_assoc}
 use Rattle.std.proofs.lemmas.List.{append-nil, map-append}
 use Rattle.std.specs.List.{concat}
 use Rattle.std.specs.Option.{option_to_list}
@@ -58,15 +58,16 @@ one_more p k m q before r retired goes going cycle is =
     (m, before, r, goes, going, cycle, ap (λ x. before ++ option_to_list x) (sym is)) in
     subst (λ n. Goes p n q (before ++ option_to_list retired)) (sym (add-one k)) here
 
-pub driven_more : (p : Pipe) (k : ℕ) (m q : Pipe) (trace : Bool) (old mid new : Option (List ℕ)) (n : ℕ) (retired : Option Rec) →
+pub driven_more : (p : Pipe) (k : ℕ) (m q : Pipe) (trace : Bool) (old mid new : Option (List ℕ)) (n retired : ℕ) →
     Driven p k m trace old mid n → is_aok m.end ≡ true → TracedCycle m q trace mid new (Ok retired) →
-    Driven p (k + 1) q trace old new (n + length (option_to_list retired))
+    Driven p (k + 1) q trace old new (n + retired)
 driven_more p k m q trace old mid new n retired d going t =
+    let more = option_to_list (record_in t.0) in
     record {
-      records = d.records ++ option_to_list retired;
-      goes = one_more p k m q d.records t.0 retired d.goes going t.1 t.2;
-      counted = ap (λ z. z + length (option_to_list retired)) d.counted ∙ sym (length-append d.records (option_to_list retired));
-      taken = rw (traced_append trace d.records (option_to_list retired)) (took_more old mid new (traced trace d.records) (traced trace (option_to_list retired)) d.taken t.3);
+      records = d.records ++ more;
+      goes = one_more p k m q d.records t.0 (record_in t.0) d.goes going t.1 refl;
+      counted = ap (λ z. z + retired) d.counted ∙ ap (λ z. length d.records + z) t.2 ∙ sym (length-append d.records more);
+      taken = rw (traced_append trace d.records more) (took_more old mid new (traced trace d.records) (traced trace more) d.taken t.3);
     }
 
 pub drove : (p : Pipe) (limit k : ℕ) (q : Pipe) (trace : Bool) (old new : Option (List ℕ)) (d : Drove) → k ≤ limit →

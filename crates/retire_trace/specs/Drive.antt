@@ -23,11 +23,11 @@ Goes p (suc k) q records =
 unfoldable pub traced : Bool → List Rec → List ℕ
 traced trace records = if trace then concat (map trace_line records) else []
 
--- one cycle from p to q with what it wrote: the line of the record that retired, where a trace is asked for; a write that failed left a
--- proper prefix of that line
-abbrev pub TracedCycle : Pipe → Pipe → Bool → Option (List ℕ) → Option (List ℕ) → Result (Option Rec) Failed → Type 0
+-- one cycle from p to q with what it wrote: the line of the record that retired, where a trace is asked for, and how many retired; a
+-- write that failed left a proper prefix of that line
+abbrev pub TracedCycle : Pipe → Pipe → Bool → Option (List ℕ) → Option (List ℕ) → Result ℕ Failed → Type 0
 TracedCycle p q trace old new (Ok retired) =
-    (r : Cycled) × Cycle p r q × (record_in r ≡ retired) × Took old new (traced trace (option_to_list retired))
+    (r : Cycled) × Cycle p r q × (retired ≡ length (option_to_list (record_in r))) × Took old new (traced trace (option_to_list (record_in r)))
 TracedCycle p q trace old new (Err failed) =
     (r : Cycled) × (last : Rec) × Cycle p r q × (record_in r ≡ Some last) × (trace ≡ true) × TookPart old new (trace_line last)
 

@@ -7,7 +7,7 @@ ghost use Rattle.retire_trace.specs.Drive as spec;
 
 use crate::trace_line::line;
 use hcl_types::SignalEval;
-use machine_calls::{count, is_going};
+use machine_calls::is_going;
 use pipe_path::{Cycled, Pipe};
 use wb_io::{Failed, Sink};
 use y86_base::Stat;
@@ -34,29 +34,28 @@ fn record_of(cycled: Cycled) -> Option<Rec>
     }
 }
 
-/// Does one cycle, and writes the line of the record that retired where a trace is asked for.
+/// Does one cycle, and writes the line of the record that retired where a trace is asked for. It answers how many records retired.
+#[inline(always)]
 fn traced_cycle<C: SignalEval, S: Sink>(
     p: &mut Pipe<C>,
     trace: bool,
     out: &mut S,
-) -> Result<Option<Rec>, Failed>
+) -> Result<u64, Failed>
     requires { p.old.cycles < 2 ^ 63 }
     ensures traced { spec.TracedCycle p.old p.new trace (S.taken out.old) (S.taken out.new) result }
+    ensures few { IfOk result (λ retired. retired ≤ 1) }
     ensures counted { p.new.cycles ≤ p.old.cycles + 1 }
     ensures counts { CountsFaults (S.faults out.old) (S.faults out.new) result }
 {
-    let retired = record_of(p.cycle());
-    match retired {
-        None => Ok(None),
-        Some(record) => {
-            if !trace {
-                return Ok(Some(record));
-            }
-            match line(&record, out) {
-                Ok(()) => Ok(Some(record)),
-                Err(failed) => Err(failed),
-            }
-        }
+    if !trace {
+        return Ok(p.pass());
+    }
+    match record_of(p.cycle()) {
+        None => Ok(0),
+        Some(record) => match line(&record, out) {
+            Ok(()) => Ok(1),
+            Err(failed) => Err(failed),
+        },
     }
 }
 
@@ -85,11 +84,10 @@ pub fn drive<C: SignalEval, S: Sink>(
                 end: p.status(),
             });
         }
-        let record = match traced_cycle(p, trace, out) {
-            Ok(record) => record,
+        match traced_cycle(p, trace, out) {
+            Ok(more) => retired += more,
             Err(failed) => return Err(failed),
-        };
-        retired += count(record);
+        }
     }
     Ok(Drove {
         cycles: limit,

@@ -6,7 +6,9 @@ ghost use Rattle.y86_base.specs.declared.parts.Stat.TheVariants.{Aok};
 ghost use Rattle.yis_run.specs.Report.{ended};
 ghost use Rattle.seq_path.specs.Seq as spec;
 
-use dp_signals::{SeqState, seq_advance, seq_record, solve_seq};
+use dp_signals::{
+    SeqState, SeqValues, constant_words, seq_advance, seq_constants, seq_record, solve_seq_in,
+};
 use hcl_types::{Design, Order, SignalEval};
 use machine_calls::{Cycles, is_going};
 use std::marker::Model;
@@ -14,7 +16,8 @@ use y86_base::{Image, Stat, Variant};
 use y86_isa::Rec;
 use yis_run::End;
 
-/// A sequential machine: a design with an order of its signals, an evaluator of the design, and the state that it is in.
+/// A sequential machine: a design with an order of its signals, an evaluator of the design, and the state that it is in. The values of its
+/// signals are kept from cycle to cycle, with the constants in their rows. `fits` is the evaluator's answer about the constants.
 #[derive(Drop)]
 pub struct Seq<C: SignalEval> {
     variant: Variant,
@@ -22,6 +25,8 @@ pub struct Seq<C: SignalEval> {
     order: Order,
     evaluator: C,
     state: SeqState,
+    fits: bool,
+    values: SeqValues,
 }
 
 impl<C: SignalEval> Model for Seq<C> {
@@ -29,6 +34,9 @@ impl<C: SignalEval> Model for Seq<C> {
     ghost use Rattle.hcl_types.specs.contracts.term.Term as term;
     ghost use Rattle.seq_path.specs.Seq.{Seq, seen};
     ghost use Rattle.seq_path.specs.Invariant.{IsSeq};
+    ghost use Rattle.std.specs.Prelude.{IsTrue};
+    ghost use Rattle.hcl_types.specs.Signals.{Starts};
+    ghost use Rattle.dp_signals.specs.PipeEquations.{constants};
 
     ghost Value = { Seq };
 
@@ -36,7 +44,8 @@ impl<C: SignalEval> Model for Seq<C> {
 
     ghost view = { λ p. seen p.variant p.design.terms p.order.ids p.state };
 
-    ghost invariant = { λ p. C.evaluates p.evaluator p.design.terms × IsSeq p.design.terms p.order.ids };
+    ghost invariant = { λ p. C.evaluates p.evaluator p.design.terms × (IsTrue p.fits → Starts (C.assumes p.evaluator) constants)
+        × Starts constants p.values × IsSeq p.design.terms p.order.ids };
 }
 
 impl<C: SignalEval> Seq<C> {
@@ -47,17 +56,21 @@ impl<C: SignalEval> Seq<C> {
         requires ordered { IsOrderOf seq_rows design.terms order.ids }
         ensures { result ≡ spec.started variant design.terms order.ids mem }
     {
+        let fits = evaluator.fits(&constant_words());
         Seq {
             variant,
             design,
             order,
             evaluator,
             state: SeqState::start(mem),
+            fits,
+            values: seq_constants(),
         }
     }
 
     /// Does one cycle, and answers its record. After a cycle whose status wasn't AOK the machine has stopped: nothing changes, and there is no
     /// record.
+    #[inline(always)]
     pub fn cycle(&mut self) -> Option<Rec>
         ensures cycle { spec.Cycle self.old result self.new }
         ensures stopped { IsNone result ↔ (self.old.state.stat ≢ Aok) }
@@ -65,16 +78,18 @@ impl<C: SignalEval> Seq<C> {
         if !is_going(self.state.stat) {
             return None;
         }
-        let values = solve_seq(
+        solve_seq_in(
             self.variant,
             &self.design,
             &self.order,
             &self.state,
             &mut self.evaluator,
+            self.fits,
+            &mut self.values,
         );
         let pc = self.state.pc;
-        seq_advance(&mut self.state, &values);
-        Some(seq_record(pc, self.state.flags, &values))
+        seq_advance(&mut self.state, &self.values);
+        Some(seq_record(pc, self.state.flags, &self.values))
     }
 
     /// How the machine ended, or stands: its registers, flags and memory, the PC and the status.
@@ -95,6 +110,7 @@ impl<C: SignalEval> Cycles for Seq<C> {
 
     ghost stays = { stays };
 
+    #[inline(always)]
     fn cycle(&mut self) -> Option<Rec> {
         Seq::cycle(self)
     }

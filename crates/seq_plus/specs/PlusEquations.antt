@@ -1,12 +1,12 @@
 -- The equations that the values of SEQ+'s signals solve in one cycle, one for each row of its table, without order: those of SEQ, but the
 -- hardware reads at the PC that the file defines.
-use Rattle.std.specs.Prelude.{ℕ, ◌==◌, List, [], ◌∷◌, ◌++◌, if◌then◌else◌}
+use Rattle.std.specs.Prelude.{ℕ, ◌==◌, ◌-◌, List, [], ◌∷◌, ◌++◌, if◌then◌else◌}
 use Rattle.y86_base.specs.Registers.{register}
 use Rattle.y86_base.specs.declared.parts.Variant.{Variant}
 use Rattle.y86_isa.specs.Blocks.{reading, field_a, field_b, constant_at, behind, alu_value, condition, data_read, data_error}
 use Rattle.hcl_types.specs.declared.term.Term.{Term}
 use Rattle.hcl_types.specs.Equations.{Fixes}
-use Rattle.dp_signals.specs.Equations.{rule_of}
+use Rattle.dp_signals.specs.Equations.{IsOver, rule_of}
 use Rattle.dp_signals.specs.PipeEquations.{constants}
 use Rattle.y86_base.specs.Words.{set}
 use Rattle.dp_signals.specs.Values.{bit}
@@ -16,6 +16,15 @@ use Rattle.seq_plus.specs.declared.state.PlusState.{PlusState}
 -- what is given as a cycle begins: the constants, and what the instruction before left
 unfoldable pub plus_given : PlusState → List ℕ
 plus_given t = constants ++ (t.previous.icode ∷ t.previous.cnd ∷ t.previous.val_m ∷ t.previous.val_c ∷ t.previous.val_p ∷ [])
+
+-- values over what is given in the state t: the other rows may hold what another cycle left
+abbrev pub ArePlusGiven : PlusState → List ℕ → Type 0
+ArePlusGiven t values = IsOver (plus_given t) (row.count - row.hardware) values
+
+-- the hardware units as a cycle begins: the instruction set, and the state that they read
+pub record PlusUnits : Type 0 where
+  pub variant : Variant
+  pub state : PlusState
 
 -- the value of a hardware row: instruction memory at the PC, the fetched fields and words, the register file, the ALU and the condition,
 -- data memory

@@ -10,8 +10,8 @@ ghost use Rattle.seq_plus.specs.Plus as spec;
 use crate::cycle::{advance, record_of};
 use crate::row;
 use crate::state::PlusState;
-use crate::values::solve_plus;
-use dp_signals::at;
+use crate::values::{PlusValues, plus_constants, solve_plus_in};
+use dp_signals::{at, constant_words};
 use hcl_types::{Design, Order, SignalEval};
 use machine_calls::{Cycles, is_going};
 use std::marker::Model;
@@ -19,7 +19,8 @@ use y86_base::{Image, Stat, Variant};
 use y86_isa::Rec;
 use yis_run::End;
 
-/// A machine of SEQ+: a design with an order of its signals, an evaluator of the design, and the state that it is in.
+/// A machine of SEQ+: a design with an order of its signals, an evaluator of the design, and the state that it is in. The values of its
+/// signals are kept from cycle to cycle, with the constants in their rows. `fits` is the evaluator's answer about the constants.
 #[derive(Drop)]
 pub struct Plus<C: SignalEval> {
     variant: Variant,
@@ -27,12 +28,17 @@ pub struct Plus<C: SignalEval> {
     order: Order,
     evaluator: C,
     state: PlusState,
+    fits: bool,
+    values: PlusValues,
 }
 
 impl<C: SignalEval> Model for Plus<C> {
     ghost use Rattle.std.specs.Coded.{codes};
     ghost use Rattle.hcl_types.specs.contracts.term.Term as term;
     ghost use Rattle.seq_plus.specs.Plus.{Plus, IsPlus, seen};
+    ghost use Rattle.std.specs.Prelude.{IsTrue};
+    ghost use Rattle.hcl_types.specs.Signals.{Starts};
+    ghost use Rattle.dp_signals.specs.PipeEquations.{constants};
 
     ghost Value = { Plus };
 
@@ -40,7 +46,8 @@ impl<C: SignalEval> Model for Plus<C> {
 
     ghost view = { λ p. seen p.variant p.design.terms p.order.ids p.state };
 
-    ghost invariant = { λ p. C.evaluates p.evaluator p.design.terms × IsPlus p.design.terms p.order.ids };
+    ghost invariant = { λ p. C.evaluates p.evaluator p.design.terms × (IsTrue p.fits → Starts (C.assumes p.evaluator) constants)
+        × Starts constants p.values × IsPlus p.design.terms p.order.ids };
 }
 
 impl<C: SignalEval> Plus<C> {
@@ -52,17 +59,21 @@ impl<C: SignalEval> Plus<C> {
         requires ordered { IsOrderOf plus_rows design.terms order.ids }
         ensures { result ≡ spec.started variant design.terms order.ids mem }
     {
+        let fits = evaluator.fits(&constant_words());
         Plus {
             variant,
             design,
             order,
             evaluator,
             state: PlusState::start(mem),
+            fits,
+            values: plus_constants(),
         }
     }
 
     /// Does one cycle, and answers its record. After a cycle whose status wasn't AOK the machine has stopped: nothing changes,
     /// and there is no record.
+    #[inline(always)]
     pub fn cycle(&mut self) -> Option<Rec>
         ensures cycle { spec.Cycle self.old result self.new }
         ensures stopped { IsNone result ↔ (self.old.state.stat ≢ Aok) }
@@ -70,31 +81,35 @@ impl<C: SignalEval> Plus<C> {
         if !is_going(self.state.stat) {
             return None;
         }
-        let values = solve_plus(
+        solve_plus_in(
             self.variant,
             &self.design,
             &self.order,
             &self.state,
             &mut self.evaluator,
+            self.fits,
+            &mut self.values,
         );
-        advance(&mut self.state, &values);
-        Some(record_of(self.state.flags, &values))
+        advance(&mut self.state, &self.values);
+        Some(record_of(self.state.flags, &self.values))
     }
 
     /// The signal pc in the state reached: the signals are evaluated anew. Of a machine that has stopped it is the PC of the
-    /// cycle that stopped it. The machine stays as it is; only its evaluator works.
+    /// cycle that stopped it. The machine stays as it is; only its evaluator works, and its values are written.
     pub fn pc(&mut self) -> u64
         ensures pc { PcIs self.old.variant self.old.terms self.old.state result }
         ensures same { self.new ≡ self.old }
     {
-        let values = solve_plus(
+        solve_plus_in(
             self.variant,
             &self.design,
             &self.order,
             &self.state,
             &mut self.evaluator,
+            self.fits,
+            &mut self.values,
         );
-        at(&values, row::PC)
+        at(&self.values, row::PC)
     }
 
     /// How the machine ended, or stands: its registers, flags and memory, the status, and the PC that `pc` answers.
@@ -116,6 +131,7 @@ impl<C: SignalEval> Cycles for Plus<C> {
 
     ghost stays = { stays };
 
+    #[inline(always)]
     fn cycle(&mut self) -> Option<Rec> {
         Plus::cycle(self)
     }

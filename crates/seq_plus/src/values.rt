@@ -1,19 +1,23 @@
 //! The values of SEQ+'s signals in one cycle.
-ghost use Rattle.std.specs.Prelude.{◌≡◌, ◌-◌, ◌++◌, replicate};
+ghost use Rattle.std.specs.Prelude.{◌≡◌, IsTrue};
+ghost use Rattle.hcl_types.specs.Signals.{Starts};
+ghost use Rattle.dp_signals.specs.PipeEquations.{constants};
+ghost use Rattle.y86_isa.specs.Blocks as isa;
 ghost use Rattle.hcl_types.specs.Tables.{IsBound, IsOrderOf};
 ghost use Rattle.hcl_types.specs.Terms.{at};
 ghost use Rattle.seq_plus.specs.PlusEquations as spec;
-ghost use Rattle.seq_plus.specs.PlusNames as row;
 ghost use Rattle.seq_plus.specs.PlusTable.{plus_rows};
 
 use crate::row;
 use crate::state::PlusState;
 use dp_signals::{
-    Hardware, at, cnd, constant_words, dmem_error, fetch_ra, fetch_rb, fill, imem_error,
-    imem_icode, imem_ifun, reg_val, val_c, val_e, val_m, val_p,
+    Hardware, at, cnd, constant_words, dmem_error, fetch_ra, fetch_rb, fill, put_constant_words,
+    reg_val, val_c, val_e, val_m, val_p,
 };
 use hcl_types::{Design, NameId, Order, SignalEval};
+use std::marker::Model;
 use y86_base::Variant;
+use y86_isa::{Reading, read};
 
 /// How many rows the table has.
 pub const PLUS_ROWS: usize = row::COUNT as usize;
@@ -21,47 +25,97 @@ pub const PLUS_ROWS: usize = row::COUNT as usize;
 /// The value of each row in one cycle, by the row's number.
 pub type PlusValues = [u64; PLUS_ROWS];
 
-/// What is given as a cycle begins. Each other row is 0 until it is computed.
-#[tactic(auto, unfolding(dp_signals::specs::PipeEquations::constants, crate::specs::PlusEquations::plus_given))]
-fn given(s: &PlusState) -> PlusValues
-    ensures { result ≡ spec.plus_given s.now ++ replicate (row.count - row.hardware) 0 }
+/// The constants in their rows. Each other row is 0 until it is computed.
+pub fn plus_constants() -> PlusValues
+    ensures { Starts constants result }
 {
-    let p = s.previous;
-    [
-        // the icodes
-        0, 1, 2, 3, 4, 5, 6, 7, 8, 9, 10, 11, 12,
-        // FNONE and UNCOND, the registers, the functions of the ALU, the statuses
-        0, 0, 0, 1, 2, 3, 4, 5, 6, 7, 15, 0, 1, 2, 3, 0, 1, 2, 3, 4,
-        // the state
-        p.icode, p.cnd, p.val_m, p.val_c, p.val_p,
-        // hardware and defined rows
-        0, 0, 0, 0, 0, 0, 0, 0, 0, 0, 0, 0, 0, 0, 0, 0, 0, 0, 0, 0, 0, 0, 0, 0, 0, 0, 0, 0, 0, 0,
-        0, 0,
-    ]
+    let mut values = [0; PLUS_ROWS];
+    put_constant_words(&mut values);
+    values
 }
 
-/// The hardware of SEQ+ in the state in which a cycle begins.
+/// Puts what the instruction before left into its rows, over values that begin with the constants.
+#[inline(always)]
+fn put_given(s: &PlusState, values: &mut PlusValues)
+    requires { Starts constants values.old }
+    ensures { spec.ArePlusGiven s.now values.new }
+{
+    let p = s.previous;
+    values[row::P_ICODE as usize] = p.icode;
+    values[row::P_CND as usize] = p.cnd;
+    values[row::P_VAL_M as usize] = p.val_m;
+    values[row::P_VAL_C as usize] = p.val_c;
+    values[row::P_VAL_P as usize] = p.val_p;
+}
+
+/// The hardware of SEQ+ in the state in which a cycle begins. It keeps what it read last in the instruction memory: `reading` is what
+/// stands at `pc`.
 #[derive(Drop)]
 struct PlusHardware<'a> {
     variant: Variant,
     state: &'a PlusState,
+    pc: u64,
+    reading: Reading,
+}
+
+impl<'a> Model for PlusHardware<'a> {
+    ghost use Rattle.std.specs.Prelude.{◌≡◌};
+    ghost use Rattle.y86_isa.specs.Blocks as isa;
+    ghost use Rattle.seq_plus.specs.PlusEquations.{PlusUnits};
+
+    ghost Value = { PlusUnits };
+
+    ghost view = { λ h. record { variant = h.variant; state = h.state.now } };
+
+    ghost invariant = { λ h. h.reading ≡ isa.reading h.variant h.state.now.mem h.pc };
+}
+
+impl<'a> PlusHardware<'a> {
+    /// The hardware as a cycle begins. An instruction is fetched behind the one before more often than not.
+    #[inline(always)]
+    fn new(variant: Variant, state: &'a PlusState) -> PlusHardware<'a>
+        ensures { result ≡ record { variant = variant; state = state.now } }
+    {
+        let pc = state.previous.val_p;
+        let reading = read(variant, &state.mem, pc);
+        PlusHardware {
+            variant,
+            state,
+            pc,
+            reading,
+        }
+    }
+
+    /// What the bytes at `pc` read as.
+    #[inline(always)]
+    fn read(&mut self, pc: u64) -> Reading
+        ensures read { result ≡ isa.reading self.old.variant self.old.state.mem pc }
+        ensures same { self.new ≡ self.old }
+    {
+        if pc != self.pc {
+            self.reading = read(self.variant, &self.state.mem, pc);
+            self.pc = pc;
+        }
+        self.reading
+    }
 }
 
 impl<'a> Hardware for PlusHardware<'a> {
-    ghost given = { λ h. spec.plus_given h.state.now };
+    ghost given = { λ h. spec.plus_given h.state };
 
-    ghost block = { λ h. spec.plus_block h.variant h.state.now };
+    ghost block = { λ h. spec.plus_block h.variant h.state };
 
     #[tactic(auto, unfolding(crate::specs::PlusEquations::plus_block))]
-    fn value(&self, row: NameId, values: &[u64]) -> u64 {
+    #[inline(always)]
+    fn value(&mut self, row: NameId, values: &[u64]) -> u64 {
         let s = self.state;
         let pc = at(values, row::PC);
         let need_regids = at(values, row::NEED_REGIDS);
         let need_valc = at(values, row::NEED_VAL_C);
         match row {
-            row::IMEM_ICODE => imem_icode(self.variant, &s.mem, pc),
-            row::IMEM_IFUN => imem_ifun(self.variant, &s.mem, pc),
-            row::IMEM_ERROR => imem_error(self.variant, &s.mem, pc),
+            row::IMEM_ICODE => self.read(pc).icode,
+            row::IMEM_IFUN => self.read(pc).ifun,
+            row::IMEM_ERROR => u64::from(self.read(pc).error),
             row::R_A => fetch_ra(&s.mem, pc, need_regids),
             row::R_B => fetch_rb(&s.mem, pc, need_regids),
             row::VAL_C => val_c(&s.mem, pc, need_regids, need_valc),
@@ -101,16 +155,42 @@ pub fn solve_plus<C: SignalEval>(
     ensures same { C.assumes c.new ≡ C.assumes c.old }
 {
     let fits = c.fits(&constant_words());
-    let hardware = PlusHardware { variant, state: s };
-    let mut values = given(s);
+    let mut values = plus_constants();
+    solve_plus_in(variant, design, order, s, c, fits, &mut values);
+    values
+}
+
+/// The same over the values of another cycle, where the constants stand already. `fits` is the evaluator's answer about them, which is
+/// asked once for a run.
+#[inline(always)]
+pub fn solve_plus_in<C: SignalEval>(
+    variant: Variant,
+    design: &Design,
+    order: &Order,
+    s: &PlusState,
+    c: &mut C,
+    fits: bool,
+    values: &mut PlusValues,
+)
+    requires evaluates { C.evaluates c.old design.now.terms }
+    requires fits { IsTrue fits → Starts (C.assumes c.old) constants }
+    requires bound { IsBound plus_rows design.now.terms }
+    requires ordered { IsOrderOf plus_rows design.now.terms order.now.ids }
+    requires constants { Starts constants values.old }
+    ensures solves { spec.PlusSolves variant design.now.terms s.now (at values.new) }
+    ensures constants { Starts constants values.new }
+    ensures kept { C.evaluates c.new design.now.terms }
+    ensures same { C.assumes c.new ≡ C.assumes c.old }
+{
+    put_given(s, values);
+    let mut hardware = PlusHardware::new(variant, s);
     fill(
-        &hardware,
+        &mut hardware,
         design,
         c,
         fits,
         row::PC,
         order.ids.items(),
-        &mut values,
+        values,
     );
-    values
 }

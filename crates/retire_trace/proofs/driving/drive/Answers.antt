@@ -1,4 +1,4 @@
-use Rattle.std.proofs.Common.{◌≡◌, refl, sym, ap, ◌∙◌, arith}
+use Rattle.std.proofs.Common.{refl, sym, ap, ◌∙◌, arith}
 use Rattle.y86_isa.specs.Machine.{is_aok}
 use Rattle.retire_trace.proofs.Driven.{driven_none, driven_more, failed}
 use Rattle.retire_trace.proofs.driving.drive.Goals as goal
@@ -14,10 +14,9 @@ returns-in-Err-clause-failed g c =
 pub loop-k-preserved : goal.loop-k-preserved
 loop-k-preserved g c =
     record {
-      driven = rw c.count-retired.ensures.count
-          (driven_more _ c.loop-k.k c.loop-k.p _ c.args.trace _ _ _ c.loop-k.retired c.in-Ok.record c.loop-k.invariant.driven
-          (sym (c.is_going.ensures ∙ ap is_aok c.status.ensures) ∙ c.if-not-is_going.false) c.in-Ok.ensures.traced);
+      driven = driven_more _ c.loop-k.k c.loop-k.p _ c.args.trace _ _ _ c.loop-k.retired c.in-Ok.more c.loop-k.invariant.driven
+          (sym (c.is_going.ensures ∙ ap is_aok c.status.ensures) ∙ c.if-not-is_going.false) c.in-Ok.ensures.traced;
       few = omega arith;
-      fewer = omega (arith, c.count-retired.ensures.few);
+      fewer = omega (arith, c.in-Ok.ensures.few);
       no_fault = c.in-Ok.ensures.counts.no_fault_at_ok ∙ c.loop-k.invariant.no_fault;
     }

@@ -1,4 +1,4 @@
-use Rattle.std.proofs.Common.{false, refl, sym, subst, arith, IfSome}
+use Rattle.std.proofs.Common.{refl, sym, subst, arith, IfSome}
 use Rattle.hcl_types.specs.Terms.{at}
 use Rattle.pipe_path.specs.Destinations.{HasDestinations}
 use Rattle.pipe_path.proofs.Destinations.{retired_fits, told_fits}
@@ -10,15 +10,15 @@ returns-clause-cycle g c =
     (record {
       ended = λ over. absurd (grind (arith, over, c.is_going.ensures, c.if-not-is_going.false));
       goes = λ going. (
-        at c.solve_pipe-values.result,
-        c.solve_pipe-values.ensures.solves,
-        rw (c.advance.ensures, c.count.ensures.count, c.end_of_cycle-self-inside.ensures, c.retires-record.ensures, c.ending-ending.ensures) refl,
-        rw (c.told.ensures, c.ending-ending.ensures, c.retires-record.ensures) refl,
+        at c.solve_pipe_in.new.values,
+        c.solve_pipe_in.ensures.solves,
+        rw (c.finish-ending.ensures.next, c.count.ensures.count, c.finish-ending.ensures.end, c.retires-record.ensures) refl,
+        rw (c.told.ensures, c.finish-ending.ensures.ending, c.retires-record.ensures) refl,
       );
     })
 
 pub returns-clause-destinations : goal.returns-clause-destinations
 returns-clause-destinations g c =
-    let fits = retired_fits c.self.inside.state (at c.solve_pipe-values.result) in
-    told_fits c.told.result c.ending-ending.result c.retires-record.result c.told.ensures
+    let fits = retired_fits c.self.inside.state (at c.solve_pipe_in.new.values) in
+    told_fits c.told.result c.finish-ending.result.0 c.retires-record.result c.told.ensures
     (subst (λ r. IfSome r (λ x. HasDestinations x)) (sym c.retires-record.ensures) fits)

@@ -10,7 +10,7 @@ returns-clause-cycle g c =
     (record {
       cycle = record {
         ended = λ over. absurd (grind (arith, over, c.is_going.ensures, c.if-not-is_going.false));
-        goes = λ going. (at c.solve_seq-values.result, c.solve_seq-values.ensures.solves, c.seq_advance.ensures, ap Some (c.seq_record.ensures ∙ rw c.seq_advance.ensures refl));
+        goes = λ going. (at c.solve_seq_in.new.values, c.solve_seq_in.ensures.solves, c.seq_advance.ensures, ap Some (c.seq_record.ensures ∙ rw c.seq_advance.ensures refl));
       };
       rest = refl;
     })

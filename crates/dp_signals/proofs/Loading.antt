@@ -1,0 +1,65 @@
+-- A cycle in which each register loads.
+use Rattle.std.proofs.Common.{◌≡◌, ℕ, ◌==◌, Bool, true, false, not, ◌||◌, refl, arith}
+use Rattle.std.proofs.lemmas.Bool.{and_parts}
+use Rattle.y86_base.specs.Words.{set}
+use Rattle.dp_signals.specs.PipeCycle.{all_load, any_asked, ending, loaded, movers_of, next}
+use Rattle.dp_signals.specs.PipeNames as row
+use Rattle.dp_signals.specs.declared.movers.Ending.TheVariants.{Going}
+use Rattle.dp_signals.specs.declared.pipe_state.PipeState.{PipeState}
+
+is_not : (b : Bool) → not b ≡ true → b ≡ false
+is_not false h = refl
+is_not true h = absurd (grind (arith, h))
+
+neither : (a b : Bool) → (a || b) ≡ false → (a ≡ false) × (b ≡ false)
+neither true b h = absurd (grind (arith, h))
+neither false b h = (refl, h)
+
+-- the machine goes on, and nothing is asked of a register
+record IsQuiet (f : ℕ → ℕ) : Type 0 where
+  pub goes : (f row.Stat == 1) ≡ true
+  pub f_stall : set (f row.F_stall) ≡ false
+  pub f_bubble : set (f row.F_bubble) ≡ false
+  pub d_stall : set (f row.D_stall) ≡ false
+  pub d_bubble : set (f row.D_bubble) ≡ false
+  pub e_stall : set (f row.E_stall) ≡ false
+  pub e_bubble : set (f row.E_bubble) ≡ false
+  pub m_stall : set (f row.M_stall) ≡ false
+  pub m_bubble : set (f row.M_bubble) ≡ false
+  pub w_stall : set (f row.W_stall) ≡ false
+  pub w_bubble : set (f row.W_bubble) ≡ false
+
+quiet : (f : ℕ → ℕ) → all_load f ≡ true → IsQuiet f
+quiet f h =
+    let parts = and_parts (f row.Stat == 1) (not (any_asked f)) h in
+    let w = neither _ _ (is_not (any_asked f) parts.1) in
+    let m = neither _ _ w.0 in
+    let e = neither _ _ m.0 in
+    let d = neither _ _ e.0 in
+    let of_f = neither (set (f row.F_stall)) (set (f row.F_bubble)) d.0 in
+    let of_d = neither (set (f row.D_stall)) (set (f row.D_bubble)) d.1 in
+    let of_e = neither (set (f row.E_stall)) (set (f row.E_bubble)) e.1 in
+    let of_m = neither (set (f row.M_stall)) (set (f row.M_bubble)) m.1 in
+    let of_w = neither (set (f row.W_stall)) (set (f row.W_bubble)) w.1 in
+    record {
+      goes = parts.0;
+      f_stall = of_f.0;
+      f_bubble = of_f.1;
+      d_stall = of_d.0;
+      d_bubble = of_d.1;
+      e_stall = of_e.0;
+      e_bubble = of_e.1;
+      m_stall = of_m.0;
+      m_bubble = of_m.1;
+      w_stall = of_w.0;
+      w_bubble = of_w.1;
+    }
+
+-- what the cycle leaves is what each register loads
+pub next_loading : (p : PipeState) (f : ℕ → ℕ) → all_load f ≡ true → next p f ≡ loaded p f
+unfolding next movers_of
+next_loading p f h = let q = quiet f h in rw (q.goes, q.f_stall, q.f_bubble, q.d_stall, q.d_bubble, q.e_stall, q.e_bubble, q.m_stall, q.m_bubble, q.w_stall, q.w_bubble) refl
+
+-- and the machine goes on
+pub ending_loading : (f : ℕ → ℕ) → all_load f ≡ true → ending f ≡ Going
+ending_loading f h = let q = quiet f h in rw (q.goes, q.f_stall, q.d_stall, q.e_stall, q.m_stall, q.w_stall) refl
