@@ -34,10 +34,10 @@ pub struct Orders<'a> {
 const FIRST: Cut = Cut { bits: 6, parts: 64 };
 
 /// How many steps the diagrams of a whole net may take together.
-const STEPS: u64 = 600_000;
+const STEPS: u64 = 1_400_000;
 
 /// How many nodes they may have.
-pub(crate) const NODES: u64 = 400_000;
+pub(crate) const NODES: u64 = 500_000;
 
 /// The decision part by part.
 #[tactic(auto, using(crate::proofs::Searching::all_true, crate::proofs::Searching::first_found, crate::proofs::Searching::not_none))]
