@@ -15,12 +15,13 @@ use Rattle.decisions.specs.Decisions.{IsLeastOf}
 use Rattle.verdicts.specs.Questions as plain
 use Rattle.verdict_text.specs.PipeLines.{pipe_no, pipe_yes}
 use Rattle.y86_base.specs.declared.parts.Variant.{Variant}
-use Rattle.y86_cli.specs.Checks.{AcceptsPipe, DeniesPipe, DeniesSeq, PipeChecks, RefusesControl, RefusesPipe, SeqChecks}
-use Rattle.y86_cli.specs.Datapaths.{Accepts, Rejects, no_text, questions_of, rows_of}
-use Rattle.y86_cli.specs.Lines.{blank_names, names_at, names_line}
-use Rattle.y86_cli.specs.Plan.{Answered, done, refused}
-use Rattle.y86_cli.specs.declared.datapath.Datapath.{Datapath}
-use Rattle.y86_cli.specs.declared.datapath.Datapath.TheVariants.{Seq, Plus}
+use Rattle.check_commands.specs.Checks.{AcceptsPipe, DeniesPipe, DeniesSeq, PipeChecks, RefusesControl, RefusesPipe, SeqChecks}
+use Rattle.check_commands.specs.Sequential.{Accepts, Rejects, no_text, questions_of}
+use Rattle.command_plans.specs.Datapaths.{rows_of}
+use Rattle.command_plans.specs.Lines.{blank_names, names_at, names_line}
+use Rattle.command_plans.specs.Plan.{Answered, done, refused}
+use Rattle.command_plans.specs.declared.datapath.Datapath.{Datapath}
+use Rattle.command_plans.specs.declared.datapath.Datapath.TheVariants.{Seq, Plus}
 use Rattle.hcl_order.proofs.Members.{le_or}
 use Rattle.ctl_atoms.specs.Atoms.{AreAtoms}
 use Rattle.design_laws.proofs.Atoms.{mixed_has_no_atoms, mixed_is_not_over, one_list, one_mixed, over_has_no_atoms}

@@ -9,20 +9,24 @@ use Rattle.hcl_types.specs.declared.term.Term.{Term}
 use Rattle.seq_plus.proofs.Sound.{plus_sound}
 use Rattle.wb_io.specs.Sinks.{Took}
 use Rattle.y86_base.specs.declared.parts.Variant.{Variant}
-use Rattle.y86_cli.specs.Answers.{PipeAnswers, SeqAnswers, aig_plan, aigrun_plan, big_plan, certify_pipe_plan, check_pipe_plan, check_seq_plan, checked_plan, hcl_plan, pipe_plan, plan_in, psim_plan, sample_plan, seq_plan, ssim_plan, yas_plan, yis_plan}
-use Rattle.y86_cli.specs.AigerTexts.{AigAnswers, AigrunAnswers}
-use Rattle.y86_cli.specs.Certified.{CertifiesPipe, PipeCertifies}
+use Rattle.run_commands.specs.Answers.{PipeAnswers, SeqAnswers, big_plan, checked_plan, hcl_plan, pipe_plan, psim_plan, seq_plan, ssim_plan, yas_plan, yis_plan}
+use Rattle.obligation_commands.specs.Answers.{aig_plan, aigrun_plan, certify_pipe_plan, sample_plan}
+use Rattle.check_commands.specs.Answers.{check_pipe_plan, check_seq_plan}
+use Rattle.y86_cli.specs.Answers.{plan_in}
+use Rattle.obligation_commands.specs.AigerTexts.{AigAnswers, AigrunAnswers}
+use Rattle.obligation_commands.specs.Certified.{CertifiesPipe, PipeCertifies}
 use Rattle.verdict_text.specs.PipeLines.{pipe_yes}
-use Rattle.y86_cli.specs.Big.{BigAnswers}
-use Rattle.y86_cli.specs.Checks.{AcceptsPipe, PipeChecks, RefusesPipe, SeqChecks}
-use Rattle.y86_cli.specs.Datapaths.{rows_of}
-use Rattle.y86_cli.specs.Designs.{IsDesign, RefusesDesign, RefusesHcl}
-use Rattle.y86_cli.specs.Does.{FilesSeen, SinkSeen}
-use Rattle.y86_cli.specs.Plan.{Answered, Plan, Tells, done, gives}
-use Rattle.y86_cli.specs.Ran.{Ran, Told}
-use Rattle.y86_cli.specs.Samples.{SampleAnswers}
-use Rattle.y86_cli.specs.declared.datapath.Datapath.{Datapath}
-use Rattle.y86_cli.specs.declared.datapath.Datapath.TheVariants.{Seq, Plus}
+use Rattle.run_commands.specs.Big.{BigAnswers}
+use Rattle.check_commands.specs.Checks.{AcceptsPipe, PipeChecks, RefusesPipe, SeqChecks}
+use Rattle.command_plans.specs.Datapaths.{rows_of}
+use Rattle.command_plans.specs.Designs.{IsDesign, RefusesDesign, RefusesHcl}
+use Rattle.command_plans.specs.Does.{FilesSeen, SinkSeen}
+use Rattle.command_plans.specs.Plan.{Answered, Plan, Tells, done, gives}
+use Rattle.y86_cli.specs.Ran.{Ran}
+use Rattle.command_plans.specs.Calls.{Told}
+use Rattle.obligation_commands.specs.Samples.{SampleAnswers}
+use Rattle.command_plans.specs.declared.datapath.Datapath.{Datapath}
+use Rattle.command_plans.specs.declared.datapath.Datapath.TheVariants.{Seq, Plus}
 use Rattle.y86_words.specs.Forms.{Command}
 use Rattle.answer_laws.specs.OneAnswer.{AreYes, HasOneAnswer, HasOneRefusal, ToldAlike}
 use Rattle.answer_laws.proofs.Checked.{accepts_pipe_one, control_apart, control_one, pipe_apart, pipe_check_one, refuses_pipe_one, seq_check_one}

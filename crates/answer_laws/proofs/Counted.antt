@@ -8,9 +8,9 @@ use Rattle.aiger_out.proofs.OneAnswer.{not_both, one_fault, one_solution}
 use Rattle.aiger_run.specs.Told.{IsCount, TellsCounts, counts_text}
 use Rattle.aiger_run.specs.Vectors.{vector}
 use Rattle.aiger_run.proofs.Places.{same_count}
-use Rattle.y86_cli.specs.AigerTexts.{AigrunAnswers, aag_reason}
-use Rattle.y86_cli.specs.Lines.{fault_line}
-use Rattle.y86_cli.specs.Plan.{Answered, done, refused}
+use Rattle.obligation_commands.specs.AigerTexts.{AigrunAnswers, aag_reason}
+use Rattle.command_plans.specs.Lines.{fault_line}
+use Rattle.command_plans.specs.Plan.{Answered, done, refused}
 
 module _ (text : List ℕ) (seed : ℕ) where
   one_value : (h : Header) → IsAag 1000000 text h → (i : ℕ) (bits : List Bool) (x y : Bool) → Out h text i bits x → Out h text i bits y → x ≡ y

@@ -13,9 +13,9 @@ use Rattle.hcl_types.proofs.Designs.{design_bound}
 use Rattle.hcl_order.specs.Dependence.{Depends, FirstCycle}
 use Rattle.design_laws.proofs.Cycles.{cycle_is_one, one_first_cycle}
 use Rattle.design_laws.proofs.Orders.{order_there}
-use Rattle.y86_cli.specs.Designs.{IsDesign, RefusesBinding, RefusesDesign, RefusesHcl, RefusesOrder}
-use Rattle.y86_cli.specs.Lines.{bind_fault_line, cycle_line, hcl_fault_line, names_at}
-use Rattle.y86_cli.specs.Plan.{Answered, refused}
+use Rattle.command_plans.specs.Designs.{IsDesign, RefusesBinding, RefusesDesign, RefusesHcl, RefusesOrder}
+use Rattle.command_plans.specs.Lines.{bind_fault_line, cycle_line, hcl_fault_line, names_at}
+use Rattle.command_plans.specs.Plan.{Answered, refused}
 
 -- ---- a text that is read
 

@@ -16,12 +16,15 @@ use Rattle.pipe_motion.specs.declared.settings.Settings.{Settings}
 use Rattle.wb_io.specs.Sinks.{Took}
 use Rattle.y86_base.specs.declared.parts.Variant.{Variant}
 use Rattle.y86_words.specs.Forms.{certify_pipe, form_of, recheck}
-use Rattle.y86_cli.specs.Answers.{certificate_plan, certify_pipe_plan, hcl_limit, plan_in, recheck_plan}
-use Rattle.y86_cli.specs.Certified.{Rechecks, cert_fault_line, cert_limit}
-use Rattle.y86_cli.specs.Designs.{IsDesign}
-use Rattle.y86_cli.specs.Does.{FilesSeen, SinkSeen}
-use Rattle.y86_cli.specs.Plan.{Allows, Answered, Tells, refused}
-use Rattle.y86_cli.specs.Ran.{Ran, Shows, Told}
+use Rattle.obligation_commands.specs.Answers.{certificate_plan, certify_pipe_plan, recheck_plan}
+use Rattle.command_plans.specs.Stages.{hcl_limit}
+use Rattle.y86_cli.specs.Answers.{plan_in}
+use Rattle.obligation_commands.specs.Certified.{Rechecks, cert_fault_line, cert_limit}
+use Rattle.command_plans.specs.Designs.{IsDesign}
+use Rattle.command_plans.specs.Does.{FilesSeen, SinkSeen}
+use Rattle.command_plans.specs.Plan.{Allows, Answered, Tells, refused}
+use Rattle.y86_cli.specs.Ran.{Ran, Shows}
+use Rattle.command_plans.specs.Calls.{Told}
 use Rattle.y86_cli.proofs.Agreement.{control_high, design_high, high}
 use Rattle.answer_laws.specs.OneAnswer.{KeptCertificate}
 use Rattle.answer_laws.proofs.Checked.{control_apart}

@@ -1,6 +1,6 @@
 -- Plans with one answer at most.
 use Rattle.std.proofs.Common.{◌≡◌, ◌⊎◌, ℕ, List, [], ◌∷◌, Option, Some, None, Result, Ok, Err, sym, ◌∙◌, subst, inl, inr, arith}
-use Rattle.y86_cli.specs.Plan.{Allows, Answered, Plan, after, answers, gives, reads, says}
+use Rattle.command_plans.specs.Plan.{Allows, Answered, Plan, after, answers, gives, reads, says}
 use Rattle.answer_laws.specs.OneAnswer.{AreYes, HasOneAnswer, HasOneRefusal}
 
 pub says_one : (P : Answered → Type 0) → ((a b : Answered) → P a → P b → a ≡ b) → HasOneAnswer (says P)

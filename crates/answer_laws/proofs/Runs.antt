@@ -22,13 +22,14 @@ use Rattle.y86_isa.specs.Machine.{is_aok, start}
 use Rattle.y86_isa.specs.Run.{run}
 use Rattle.y86_isa.specs.declared.machine.Machine.{Machine}
 use Rattle.y86_isa.specs.declared.machine.Rec.{Rec}
-use Rattle.y86_cli.specs.Answers.{PipeAnswers, SeqAnswers, run_status}
-use Rattle.y86_cli.specs.Big.{BigAnswers, big_line, big_status}
-use Rattle.y86_cli.specs.Datapaths.{Runs, rows_of}
-use Rattle.y86_cli.specs.PipeRuns.{run_text}
-use Rattle.y86_cli.specs.Plan.{Answered, done}
-use Rattle.y86_cli.specs.declared.datapath.Datapath.{Datapath}
-use Rattle.y86_cli.specs.declared.datapath.Datapath.TheVariants.{Seq, Plus}
+use Rattle.run_commands.specs.Answers.{PipeAnswers, SeqAnswers}
+use Rattle.command_plans.specs.Stages.{run_status}
+use Rattle.run_commands.specs.Big.{BigAnswers, big_line, big_status}
+use Rattle.command_plans.specs.Datapaths.{Runs, rows_of}
+use Rattle.run_commands.specs.PipeRuns.{run_text}
+use Rattle.command_plans.specs.Plan.{Answered, done}
+use Rattle.command_plans.specs.declared.datapath.Datapath.{Datapath}
+use Rattle.command_plans.specs.declared.datapath.Datapath.TheVariants.{Seq, Plus}
 use Rattle.answer_laws.proofs.Least.{same_bools}
 use Rattle.yis_run.specs.Report.{report}
 use Rattle.std.proofs.Common.{◌++◌}

@@ -10,8 +10,8 @@ use Rattle.pipe_obligations.specs.Settled.{PipeControls}
 use Rattle.prog_gen.specs.Choices.{valuation}
 use Rattle.ctl_atoms.specs.declared.leaf.Atom.{Atom}
 use Rattle.y86_base.specs.declared.parts.Variant.{Variant}
-use Rattle.y86_cli.specs.Plan.{Answered, done}
-use Rattle.y86_cli.specs.Samples.{DrawnOf, FindsFirst, FindsNone, IsFalseDrawn, SampleAnswers, SaysFound, found_line}
+use Rattle.command_plans.specs.Plan.{Answered, done}
+use Rattle.obligation_commands.specs.Samples.{DrawnOf, FindsFirst, FindsNone, IsFalseDrawn, SampleAnswers, SaysFound, found_line}
 use Rattle.answer_laws.proofs.Checked.{atoms_one, control_apart, control_one, settings_one}
 
 module _ (name : List ℕ) (v : Variant) (terms : List Term) (ids : List ℕ) (ordered : IsOrderOf pipe_rows terms ids) (seed count : ℕ) where

@@ -9,11 +9,11 @@ use Rattle.hcl_types.specs.declared.term.Term.{Term}
 use Rattle.pipe_motion.specs.declared.settings.Settings.{Settings}
 use Rattle.wb_io.specs.Sinks.{Took}
 use Rattle.y86_base.specs.declared.parts.Variant.{Variant}
-use Rattle.y86_cli.specs.Certified.{cert_fault_line}
-use Rattle.y86_cli.specs.Designs.{IsDesign}
-use Rattle.y86_cli.specs.Does.{SinkSeen}
-use Rattle.y86_cli.specs.Plan.{Allows, Answered, Plan}
-use Rattle.y86_cli.specs.Ran.{Told}
+use Rattle.obligation_commands.specs.Certified.{cert_fault_line}
+use Rattle.command_plans.specs.Designs.{IsDesign}
+use Rattle.command_plans.specs.Does.{SinkSeen}
+use Rattle.command_plans.specs.Plan.{Allows, Answered, Plan}
+use Rattle.command_plans.specs.Calls.{Told}
 
 -- whatever the contents of the files are, there is one answer at most
 pub record HasOneAnswer (plan : Plan) : Type 0 where

@@ -1,11 +1,14 @@
 //! Theorems about the answers of commands. Each is a function that does nothing and whose contract is the theorem.
 ghost use Rattle.std.specs.Prelude.{◌≡◌, ◌≢◌, ◌≤◌, ℕ, Bool, List, [], Option, Some, None, length};
 ghost use Rattle.y86_base.specs.declared.parts.Variant.{Variant};
-ghost use Rattle.y86_cli.specs.Answers.{aig_plan, aigrun_plan, big_plan, certify_pipe_plan, check_pipe_plan, check_seq_plan, hcl_plan, plan_in, psim_plan, sample_plan, ssim_plan, yas_plan, yis_plan};
-ghost use Rattle.y86_cli.specs.Does.{FilesSeen, SinkSeen};
-ghost use Rattle.y86_cli.specs.Plan.{Tells};
+ghost use Rattle.obligation_commands.specs.Answers.{aig_plan, aigrun_plan, certify_pipe_plan, sample_plan};
+ghost use Rattle.run_commands.specs.Answers.{big_plan, hcl_plan, psim_plan, ssim_plan, yas_plan, yis_plan};
+ghost use Rattle.check_commands.specs.Answers.{check_pipe_plan, check_seq_plan};
+ghost use Rattle.y86_cli.specs.Answers.{plan_in};
+ghost use Rattle.command_plans.specs.Does.{FilesSeen, SinkSeen};
+ghost use Rattle.command_plans.specs.Plan.{Tells};
 ghost use Rattle.y86_cli.specs.Ran.{Ran};
-ghost use Rattle.y86_cli.specs.declared.datapath.Datapath.{Datapath};
+ghost use Rattle.command_plans.specs.declared.datapath.Datapath.{Datapath};
 ghost use Rattle.y86_words.specs.Forms.{Command, certify_pipe, form_of, recheck};
 ghost use Rattle.answer_laws.specs.OneAnswer.{HasOneAnswer, HasOneRefusal, KeptCertificate, ToldAlike};
 

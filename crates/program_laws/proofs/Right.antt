@@ -21,11 +21,12 @@ use Rattle.y86_words.proofs.Legal.{form_legal}
 use Rattle.y86_words.specs.Forms.{form_of, psim, yis}
 use Rattle.y86_words.specs.Wording.{IsLegal}
 use Rattle.y86_cli.specs.Agreement.{HasAccepted}
-use Rattle.y86_cli.specs.Answers.{PipeAnswers, checked_plan, image_of_text, pipe_plan, psim_plan, run_status, yis_plan, yis_run}
-use Rattle.y86_cli.specs.Designs.{IsDesign, RefusesDesign}
-use Rattle.y86_cli.specs.Does.{FilesSeen, SinkSeen}
-use Rattle.y86_cli.specs.PipeRuns.{end_of, ran_line, run_text}
-use Rattle.y86_cli.specs.Plan.{Answered, MayAnswer, after}
+use Rattle.run_commands.specs.Answers.{PipeAnswers, checked_plan, pipe_plan, psim_plan, yis_plan, yis_run}
+use Rattle.command_plans.specs.Stages.{image_of_text, run_status}
+use Rattle.command_plans.specs.Designs.{IsDesign, RefusesDesign}
+use Rattle.command_plans.specs.Does.{FilesSeen, SinkSeen}
+use Rattle.run_commands.specs.PipeRuns.{end_of, ran_line, run_text}
+use Rattle.command_plans.specs.Plan.{Answered, MayAnswer, after}
 use Rattle.y86_cli.specs.Ran.{Ran}
 use Rattle.y86_cli.proofs.Agreement.{loads_ok}
 use Rattle.y86_cli.proofs.Bigs.{not_long, not_missing, not_refused, one_design, same_bytes}

@@ -5,9 +5,9 @@ use Rattle.wb_io.specs.Sinks.{Took}
 use Rattle.y86_base.specs.declared.parts.Variant.{Variant}
 use Rattle.y86_isa.specs.Run.{records, run}
 use Rattle.yis_run.specs.Report.{report}
-use Rattle.y86_cli.specs.Answers.{run_status}
-use Rattle.y86_cli.specs.Does.{SinkSeen}
-use Rattle.y86_cli.specs.PipeRuns.{ran_line}
+use Rattle.command_plans.specs.Stages.{run_status}
+use Rattle.command_plans.specs.Does.{SinkSeen}
+use Rattle.run_commands.specs.PipeRuns.{ran_line}
 
 -- The trace, where it is asked for, is that of the records of the run by instructions, which stops in so many steps. The report is that of
 -- the machine that they left, and the status too. The cycles are at most five for each step.

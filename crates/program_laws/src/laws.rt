@@ -9,7 +9,7 @@ ghost use Rattle.y86_base.specs.declared.parts.Variant.{Variant};
 ghost use Rattle.y86_isa.specs.Run.{IsImage, Pure};
 ghost use Rattle.yo_object.specs.ObjectText.{object_of};
 ghost use Rattle.y86_cli.specs.Agreement.{HasAccepted};
-ghost use Rattle.y86_cli.specs.Does.{FilesSeen, SinkSeen};
+ghost use Rattle.command_plans.specs.Does.{FilesSeen, SinkSeen};
 ghost use Rattle.y86_cli.specs.Ran.{Ran};
 ghost use Rattle.y86_words.specs.Forms.{form_of, psim, yis};
 

@@ -17,19 +17,21 @@ use Rattle.yis_run.specs.Report.{register_lines, report}
 use Rattle.yo_object.specs.ObjectText.{object_of}
 use Rattle.yo_object.specs.declared.object.YoFault.{YoFault}
 use Rattle.y86_cli.specs.Agreement.{Agrees, HasAccepted, HasAcceptedSeq, RanAccepted, ToldAccepted, ToldAcceptedSeq, ToldNo}
-use Rattle.y86_cli.specs.Answers.{PipeAnswers, check_pipe_plan, check_seq_plan, checked_plan, image_of_text, pipe_plan, psim_plan}
-use Rattle.y86_cli.specs.Checks.{AcceptsPipe, RefusesControl}
-use Rattle.y86_cli.specs.Datapaths.{rows_of}
-use Rattle.y86_cli.specs.Designs.{IsDesign, RefusesDesign}
-use Rattle.y86_cli.specs.Does.{FilesSeen, SinkSeen}
+use Rattle.run_commands.specs.Answers.{PipeAnswers, checked_plan, pipe_plan, psim_plan}
+use Rattle.check_commands.specs.Answers.{check_pipe_plan, check_seq_plan}
+use Rattle.command_plans.specs.Stages.{image_of_text}
+use Rattle.check_commands.specs.Checks.{AcceptsPipe, RefusesControl}
+use Rattle.command_plans.specs.Datapaths.{rows_of}
+use Rattle.command_plans.specs.Designs.{IsDesign, RefusesDesign}
+use Rattle.command_plans.specs.Does.{FilesSeen, SinkSeen}
 use Rattle.y86_words.specs.Forms.{check_pipe, check_plus, check_seq, form_of, psim}
-use Rattle.y86_cli.specs.Lines.{object_fault_line}
-use Rattle.y86_cli.specs.Plan.{Answered, MayAnswer, after, done, refused}
-use Rattle.y86_cli.specs.PipeRuns.{Goes, end_of, run_text}
+use Rattle.command_plans.specs.Lines.{object_fault_line}
+use Rattle.command_plans.specs.Plan.{Answered, MayAnswer, after, done, refused}
+use Rattle.run_commands.specs.PipeRuns.{Goes, end_of, run_text}
 use Rattle.y86_cli.specs.Ran.{Ran, Shows}
 use Rattle.y86_words.proofs.Legal.{form_legal}
-use Rattle.y86_cli.specs.declared.datapath.Datapath.{Datapath}
-use Rattle.y86_cli.specs.declared.datapath.Datapath.TheVariants.{Seq, Plus}
+use Rattle.command_plans.specs.declared.datapath.Datapath.{Datapath}
+use Rattle.command_plans.specs.declared.datapath.Datapath.TheVariants.{Seq, Plus}
 use Rattle.y86_cli.proofs.Loaded.{loaded_is_image}
 
 -- ---- a run that goes on to its end is a run

@@ -1,8 +1,7 @@
--- What `big` answers, and of an accepted file.
+-- What `big` answers of an accepted file.
 use Rattle.std.proofs.Common.{◌≡◌, ◌≢◌, inl, inr, ℕ, ◌+◌, ◌≤◌, true, List, [], ◌∷◌, length, Option, Some, None, IfSome, refl, sym, ap, subst, ◌∙◌, Result, Ok, arith}
-use Rattle.wb_io.specs.Causes.{counted}
 use Rattle.wb_io.specs.Files.{HasBytes, HasMore}
-use Rattle.wb_io.specs.Sinks.{Took, TookPart}
+use Rattle.wb_io.specs.Sinks.{Took}
 use Rattle.y86_base.specs.declared.parts.Variant.{Variant}
 use Rattle.hcl_read.proofs.LawLemmas.{at_most_one_file}
 use Rattle.hcl_read.proofs.OneFault.{file_has_no_fault}
@@ -20,39 +19,18 @@ use Rattle.program_runs.proofs.Images.{is_image}
 use Rattle.program_runs.proofs.Whole.{pure}
 use Rattle.pure_runs.proofs.Near.{near_from_pure}
 use Rattle.pipe_runs.proofs.Refined.{runs_alike}
-use Rattle.pipe_runs.specs.BothWays.{GoesBothWays, RunsAlike}
+use Rattle.pipe_runs.specs.BothWays.{RunsAlike}
 use Rattle.pipe_runs.specs.declared.both.BothWays.{BothWays}
 use Rattle.y86_words.proofs.Legal.{form_legal}
 use Rattle.y86_words.specs.Forms.{big, form_of}
 use Rattle.y86_words.specs.Wording.{IsLegal}
 use Rattle.y86_cli.specs.Agreement.{HasAccepted}
-use Rattle.y86_cli.specs.Answers.{big_plan}
-use Rattle.y86_cli.specs.Big.{BigAnswers, ToldSame, big_line, big_status}
-use Rattle.y86_cli.specs.Designs.{IsDesign, RefusesDesign}
-use Rattle.y86_cli.specs.Does.{FilesSeen, SinkSeen, SaidPart, SaidWhole}
-use Rattle.y86_cli.specs.Plan.{Answered, MayAnswer, done}
+use Rattle.run_commands.specs.Answers.{big_plan}
+use Rattle.run_commands.specs.Big.{BigAnswers, ToldSame, big_line, big_status}
+use Rattle.command_plans.specs.Designs.{IsDesign, RefusesDesign}
+use Rattle.command_plans.specs.Does.{FilesSeen, SinkSeen}
+use Rattle.command_plans.specs.Plan.{Answered, MayAnswer, done}
 use Rattle.y86_cli.specs.Ran.{Ran}
-
-pub said_whole : (v : Variant) (terms : List Term) (n : ℕ) (both : BothWays) (before after : SinkSeen) (status : ℕ) → GoesBothWays v terms n both →
-    status ≡ big_status both → status ≤ 1 → Took before.taken after.taken (big_line n both) → after.faults ≡ before.faults → SaidWhole (BigAnswers v terms n) before after status
-said_whole v terms n both before after status goes is low told no_fault = record {
-  answer = done (big_status both) (big_line n both);
-  allowed = (both, goes, refl);
-  status_is = is;
-  low = low;
-  quiet = refl;
-  went = told;
-  no_fault = no_fault;
-}
-
-pub said_part : (v : Variant) (terms : List Term) (n : ℕ) (both : BothWays) (before after : SinkSeen) → GoesBothWays v terms n both →
-    TookPart before.taken after.taken (big_line n both) → after.faults ≡ counted before.faults → SaidPart (BigAnswers v terms n) before after
-said_part v terms n both before after goes told one_fault = record {
-  answer = done (big_status both) (big_line n both);
-  allowed = (both, goes, refl);
-  went = told;
-  one_fault = one_fault;
-}
 
 -- ---- the one design of a text
 

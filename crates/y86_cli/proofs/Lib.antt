@@ -1,17 +1,6 @@
 pub mod Agreement
-pub mod AigerTexts
 pub mod Bigs
-pub mod Came
 pub mod Certified
-pub mod Checks
-pub mod Designs
-pub mod Does
 pub mod Loaded
-pub mod PipeRuns
 pub mod Plans
-pub mod PlusRuns
 pub mod Ran
-pub mod Runs
-pub mod SeqRuns
-pub mod Staged
-pub mod Samples

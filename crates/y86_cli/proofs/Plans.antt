@@ -10,24 +10,29 @@ use Rattle.yas_asm.specs.declared.fault.AsmFault.{AsmFault}
 use Rattle.yas_asm.specs.declared.listing.Line.{Line}
 use Rattle.yo_object.specs.ObjectText.{object_of}
 use Rattle.yo_object.specs.declared.object.YoFault.{YoFault}
-use Rattle.y86_cli.specs.AigerTexts.{AigAnswers, AigrunAnswers, aag_reason}
-use Rattle.y86_cli.specs.Answers.{big_plan, aig_plan, aigrun_plan, image_of_text, plan_in, plan_of, run_status, text_of_listing, yas_plan, yis_plan, check_pipe_plan, check_seq_plan, certificate_plan, certify_pipe_plan, recheck_plan, checked_plan, hcl_plan, seq_plan, ssim_plan, SeqAnswers, pipe_plan, psim_plan, PipeAnswers, yis_run, sample_plan}
-use Rattle.y86_cli.specs.Big.{BigAnswers}
-use Rattle.y86_cli.specs.Certified.{PipeCertifies, Rechecks}
-use Rattle.y86_cli.specs.Checks.{PipeChecks, RefusesControl, RefusesPipe, SeqChecks}
-use Rattle.y86_cli.specs.Datapaths.{rows_of}
-use Rattle.y86_cli.specs.Designs.{RefusesDesign}
+use Rattle.obligation_commands.specs.AigerTexts.{AigAnswers, AigrunAnswers, aag_reason}
+use Rattle.run_commands.specs.Answers.{big_plan, text_of_listing, yas_plan, yis_plan, checked_plan, hcl_plan, seq_plan, ssim_plan, SeqAnswers, pipe_plan, psim_plan, PipeAnswers, yis_run}
+use Rattle.obligation_commands.specs.Answers.{aig_plan, aigrun_plan, certificate_plan, certify_pipe_plan, recheck_plan, sample_plan}
+use Rattle.command_plans.specs.Stages.{image_of_text, run_status}
+use Rattle.y86_cli.specs.Answers.{plan_in, plan_of}
+use Rattle.check_commands.specs.Answers.{check_pipe_plan, check_seq_plan}
+use Rattle.run_commands.specs.Big.{BigAnswers}
+use Rattle.obligation_commands.specs.Certified.{PipeCertifies, Rechecks}
+use Rattle.check_commands.specs.Checks.{PipeChecks, RefusesControl, RefusesPipe, SeqChecks}
+use Rattle.command_plans.specs.Datapaths.{rows_of}
+use Rattle.command_plans.specs.Designs.{RefusesDesign}
 use Rattle.hcl_types.specs.declared.table.Row.{Row}
 use Rattle.hcl_types.specs.declared.term.Term.{Term}
 use Rattle.dp_signals.specs.PipeTable.{pipe_rows}
-use Rattle.y86_cli.specs.Does.{FilesSeen, SinkSeen}
+use Rattle.command_plans.specs.Does.{FilesSeen, SinkSeen}
 use Rattle.y86_words.specs.Forms.{Command, yas, yis, hcl, ssim, ssimp, psim, check_seq, check_plus, check_pipe, certify_pipe, recheck, sample, aig, aigrun, big}
-use Rattle.y86_cli.specs.Lines.{fault_line, assembly_fault_line, object_fault_line, read_fault_line, too_long_line}
-use Rattle.y86_cli.specs.Plan.{done, Answered, Plan, says, reads, gives, answers, after, refused, Allows, Tells, IsDetermined}
-use Rattle.y86_cli.specs.Samples.{SampleAnswers}
-use Rattle.y86_cli.specs.Ran.{Ran, Told}
-use Rattle.y86_cli.specs.declared.datapath.Datapath.{Datapath}
-use Rattle.y86_cli.specs.declared.datapath.Datapath.TheVariants.{Seq, Plus}
+use Rattle.command_plans.specs.Lines.{fault_line, assembly_fault_line, object_fault_line, read_fault_line, too_long_line}
+use Rattle.command_plans.specs.Plan.{done, Answered, Plan, says, reads, gives, answers, after, refused, Allows, Tells, IsDetermined}
+use Rattle.obligation_commands.specs.Samples.{SampleAnswers}
+use Rattle.y86_cli.specs.Ran.{Ran}
+use Rattle.command_plans.specs.Calls.{Told}
+use Rattle.command_plans.specs.declared.datapath.Datapath.{Datapath}
+use Rattle.command_plans.specs.declared.datapath.Datapath.TheVariants.{Seq, Plus}
 
 -- ---- determined plans
 

@@ -1,19 +1,20 @@
 -- The clauses of the whole program, from what the code did: once for all commands.
 use Rattle.std.proofs.Common.{◌≡◌, ◌≢◌, ◌⊎◌, ℕ, ◌≤◌, List, [], refl, sym, ap, subst, inl, inr, Option, Some, None, Result, Ok, Err, lit≤, arith, ◌∙◌}
 use Rattle.wb_io.specs.Causes.{counted}
-use Rattle.wb_io.specs.Sinks.{Took, TookPart}
+use Rattle.wb_io.specs.Sinks.{Took}
 use Rattle.wb_io.proofs.Writes.{took_nothing}
-use Rattle.y86_cli.specs.declared.stop.Stop as code
-use Rattle.y86_cli.specs.declared.stop.Stop.TheVariants.{Usage, Read, Write, Refused, Memory, TooLong}
+use Rattle.command_plans.specs.declared.stop.Stop as code
+use Rattle.command_plans.specs.declared.stop.Stop.TheVariants.{Usage, Read, Write, Refused, Memory, TooLong}
 use Rattle.y86_cli.specs.Answers.{plan_of}
-use Rattle.y86_cli.specs.Came.{IsAllowed, Came}
-use Rattle.y86_cli.specs.Does.{FilesSeen, NoReadFailed, SinkSeen, StopsAtRead, StopsReading, Does}
+use Rattle.command_plans.specs.Came.{IsAllowed, Came}
+use Rattle.command_plans.specs.Does.{FilesSeen, NoReadFailed, SinkSeen, StopsAtRead, StopsReading, Does}
 use Rattle.y86_words.specs.Forms.{Command}
-use Rattle.y86_cli.specs.Lines.{memory_line, read_fault_line, usage_line}
-use Rattle.y86_cli.specs.Plan.{Answered, Plan, says, reads, gives, Tells, IsFaultless, refused}
-use Rattle.y86_cli.specs.Ran.{Ended, ReadFailed, Ran, Shows, Told}
-use Rattle.y86_cli.specs.Stops.{line_of, read_name, status_of}
-use Rattle.y86_cli.proofs.Came.{came, faultless_low}
+use Rattle.command_plans.specs.Lines.{memory_line, read_fault_line, usage_line}
+use Rattle.command_plans.specs.Plan.{Answered, Plan, says, reads, gives, Tells, IsFaultless, refused}
+use Rattle.y86_cli.specs.Ran.{Ended, ReadFailed, Ran, Shows}
+use Rattle.command_plans.specs.Calls.{Told}
+use Rattle.command_plans.specs.Stops.{line_of, read_name, status_of}
+use Rattle.command_plans.proofs.Came.{came, faultless_low}
 
 -- ---- stops alone
 
@@ -82,13 +83,6 @@ none_failed (gives P E next) files_before files_after before after result (inl m
 none_failed (gives P E next) files_before files_after before after result (inr s) other = s.1
 
 -- ---- texts
-
--- a text that was put on standard error
-pub told_whole : (before after : SinkSeen) (text : List ℕ) → Took before.taken after.taken text → after.faults ≡ before.faults → Told before after text
-told_whole before after text took same = inl (took, same)
-
-pub told_part : (before after : SinkSeen) (text : List ℕ) → TookPart before.taken after.taken text → after.faults ≡ counted before.faults → Told before after text
-told_part before after text part fault = inr (part, fault)
 
 told_line : (before after : SinkSeen) (text other : List ℕ) → text ≡ other → Told before after text → Told before after other
 told_line before after text other e told = let P : List ℕ → Type 0 = λ t. Told before after t in subst P e told

@@ -15,15 +15,16 @@ use Rattle.y86_isa.specs.Run.{records, run}
 use Rattle.pure_runs.specs.Near.{NearPure}
 use Rattle.yis_run.specs.Report.{register_lines, report}
 use Rattle.yo_object.specs.ObjectText.{object_of}
-use Rattle.y86_cli.specs.Answers.{run_status}
-use Rattle.y86_cli.specs.Certified.{HasCertified}
-use Rattle.y86_cli.specs.Checks.{DeniesPipe}
-use Rattle.y86_cli.specs.Datapaths.{Accepts, Refines, rows_of}
-use Rattle.y86_cli.specs.Designs.{IsDesign}
-use Rattle.y86_cli.specs.Does.{SinkSeen}
-use Rattle.y86_cli.specs.Plan.{Answered}
-use Rattle.y86_cli.specs.PipeRuns.{RunsTo, end_of, run_text}
-use Rattle.y86_cli.specs.declared.datapath.Datapath.{Datapath}
+use Rattle.command_plans.specs.Stages.{run_status}
+use Rattle.obligation_commands.specs.Certified.{HasCertified}
+use Rattle.check_commands.specs.Checks.{DeniesPipe}
+use Rattle.check_commands.specs.Sequential.{Accepts, Refines}
+use Rattle.command_plans.specs.Datapaths.{rows_of}
+use Rattle.command_plans.specs.Designs.{IsDesign}
+use Rattle.command_plans.specs.Does.{SinkSeen}
+use Rattle.command_plans.specs.Plan.{Answered}
+use Rattle.run_commands.specs.PipeRuns.{RunsTo, end_of, run_text}
+use Rattle.command_plans.specs.declared.datapath.Datapath.{Datapath}
 
 -- A file with an accepted design: the bytes that are told of it, if any, are the text; the text is read, bound and ordered; every
 -- obligation holds of the design at its settings. So on every image whose instructions fetch no byte that one of the three before

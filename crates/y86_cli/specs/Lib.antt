@@ -1,16 +1,3 @@
-pub mod Answers
 pub mod Agreement
-pub mod AigerTexts
-pub mod Big
-pub mod Came
-pub mod Certified
-pub mod Checks
-pub mod Datapaths
-pub mod Designs
-pub mod Does
-pub mod Lines
-pub mod PipeRuns
-pub mod Plan
+pub mod Answers
 pub mod Ran
-pub mod Stops
-pub mod Samples

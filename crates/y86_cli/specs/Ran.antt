@@ -1,33 +1,21 @@
 -- What a call of the whole program did, against the plan of its words.
-use Rattle.std.specs.Prelude.{◌≡◌, ◌≢◌, ◌⊎◌, ℕ, ◌≤◌, List, Option, Some, None, Result, Err, drop, map, string_bytes}
-use Rattle.std.specs.Global.{Global}
-use Rattle.std.specs.Vec.Iter.{into_iter_items}
-use Rattle.std.specs.declared.string.String.{String}
-use Rattle.std.specs.declared.vec.IntoIter.{IntoIter}
+use Rattle.std.specs.Prelude.{◌≡◌, ◌≢◌, ◌⊎◌, ℕ, ◌≤◌, List, Option, Some, None, Result, Err}
 use Rattle.wb_io.specs.Causes.{counted}
 use Rattle.wb_io.specs.Sinks.{Took, TookPart}
-use Rattle.y86_cli.specs.declared.stop.Stop as code
-use Rattle.y86_cli.specs.declared.stop.Stop.TheVariants.{Usage}
+use Rattle.command_plans.specs.declared.stop.Stop as code
+use Rattle.command_plans.specs.declared.stop.Stop.TheVariants.{Usage}
 use Rattle.y86_cli.specs.Answers.{plan_in, plan_of}
-use Rattle.y86_cli.specs.Came.{IsAllowed, IsReached}
-use Rattle.y86_cli.specs.Does.{Does, FilesSeen, SinkSeen}
+use Rattle.command_plans.specs.Came.{IsAllowed, IsReached}
+use Rattle.command_plans.specs.Does.{Does, FilesSeen, SinkSeen}
 use Rattle.y86_words.specs.Forms.{Command}
-use Rattle.y86_cli.specs.Lines.{memory_line, read_fault_line}
-use Rattle.y86_cli.specs.Plan.{Answered, IsFaultless, Plan, Tells}
-
--- the words of a call behind the program's own name
-abbrev pub words_behind : IntoIter (String Global) Global → List (List ℕ)
-words_behind args = map string_bytes (drop 1 (into_iter_items args))
+use Rattle.command_plans.specs.Lines.{memory_line, read_fault_line}
+use Rattle.command_plans.specs.Plan.{Answered, IsFaultless, Plan, Tells}
+use Rattle.command_plans.specs.Calls.{Told}
 
 -- the command was done, or there is none and nothing was read or written
 unfoldable pub Ended : Option Command → FilesSeen → FilesSeen → SinkSeen → SinkSeen → Result ℕ code.Stop → Type 0
 Ended None files_before files_after before after result = (result ≡ Err Usage) × (files_after ≡ files_before) × (after ≡ before)
 Ended (Some command) files_before files_after before after result = Does (plan_of command) files_before files_after before after result
-
--- a text was told on standard error: whole, or a proper prefix of it, where a write failed there
-abbrev pub Told : SinkSeen → SinkSeen → List ℕ → Type 0
-Told before after text =
-    (Took before.taken after.taken text × (after.faults ≡ before.faults)) ⊎ (TookPart before.taken after.taken text × (after.faults ≡ counted before.faults))
 
 -- an answer on both streams: whole, or with 4 a proper prefix of its text on standard output
 pub record Shows (a : Answered) (out_before out_after err_before err_after : SinkSeen) (status : ℕ) : Type 0 where

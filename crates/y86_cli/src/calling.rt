@@ -1,46 +1,18 @@
 //! The top call on the words as the system gives them, the program's own name first.
-ghost use Rattle.std.specs.Prelude.{◌≡◌, ◌⊎◌, ◌↔◌, ◌≢◌, ◌≤◌, List, [], ℕ, Option, Some, None, drop, IfErr, IfOk};
+ghost use Rattle.std.specs.Prelude.{◌≡◌, ◌↔◌, None, IfErr, IfOk};
 ghost use Rattle.std.specs.IoError.{error_kind};
-ghost use Rattle.std.specs.Vec.Iter.{into_iter_items};
-ghost use Rattle.y86_cli.specs.Does.{files_seen, sink_seen};
-ghost use Rattle.y86_cli.specs.Ran.{Ran, words_behind};
+ghost use Rattle.command_plans.specs.Calls.{words_behind};
+ghost use Rattle.command_plans.specs.Does.{files_seen, sink_seen};
+ghost use Rattle.y86_cli.specs.Ran.{Ran};
 ghost use Rattle.y86_words.specs.Forms.{form_of};
-ghost use Rattle.y86_cli.specs.declared.stop.Stop.TheVariants.{Memory, Usage};
 
-use crate::running::{Status, run, tell};
-use crate::stop::Stop;
-use std::alloc::{AllocError, Global};
+use crate::running::run;
+use command_plans::{Status, Stop, tell, unread, words_behind};
+use std::alloc::Global;
 use std::env::Args;
 use std::io;
 use std::io::ErrorKind;
 use wb_io::{Files, Sink};
-
-/// The words behind the program's own name, in their order.
-pub fn words_behind(alloc: Global, mut args: Args) -> Result<Vec<String>, AllocError>
-    ensures { IfOk result (λ words. words.items ≡ drop 1 (into_iter_items args)) }
-{
-    let _ = args.next();
-    let mut words = Vec::new(alloc);
-    'words: while let Some(word) = args.next() {
-        if words.push(word).is_err() {
-            return Err(AllocError);
-        }
-    }
-    Ok(words)
-}
-
-/// Why the words of a call can't be had: want of memory, or a word that is no text.
-pub fn unread(error: &io::Error) -> Stop<'static>
-    ensures memory { (result ≡ Memory) ↔ (error_kind error.now ≡ ErrorKind.OutOfMemory) }
-    ensures usage { (result ≡ Usage) ↔ (error_kind error.now ≢ ErrorKind.OutOfMemory) }
-    ensures either { (result ≡ Memory) ⊎ (result ≡ Usage) }
-{
-    if error.kind() == ErrorKind::OutOfMemory {
-        Stop::Memory
-    } else {
-        Stop::Usage
-    }
-}
 
 #[tactic(auto, using(crate::proofs::Ran::memory_ran))]
 /// Does what the words of a call say, the program's own name first among them, over any files and sinks. Gives the

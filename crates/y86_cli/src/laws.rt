@@ -3,13 +3,15 @@ ghost use Rattle.std.specs.Prelude.{◌≡◌, ◌≢◌, ◌⊎◌, ◌↔◌, 
 ghost use Rattle.wb_io.specs.Sinks.{Took, TookPart};
 ghost use Rattle.y86_base.specs.declared.parts.Variant.{Variant};
 ghost use Rattle.y86_cli.specs.Agreement.{HasAccepted, RanAccepted, ToldAccepted, ToldAcceptedSeq, ToldCertified, ToldCertifiedPart, ToldNo, WroteCertificate};
-ghost use Rattle.y86_cli.specs.Answers.{plan_in, yas_plan, yis_plan};
-ghost use Rattle.y86_cli.specs.Big.{ToldSame};
-ghost use Rattle.y86_cli.specs.Does.{FilesSeen, SinkSeen};
+ghost use Rattle.y86_cli.specs.Answers.{plan_in};
+ghost use Rattle.run_commands.specs.Answers.{yas_plan, yis_plan};
+ghost use Rattle.run_commands.specs.Big.{ToldSame};
+ghost use Rattle.command_plans.specs.Does.{FilesSeen, SinkSeen};
 ghost use Rattle.y86_words.specs.Forms.{Command, big, certify_pipe, check_pipe, check_plus, check_seq, form_of, psim, recheck};
-ghost use Rattle.y86_cli.specs.declared.datapath.Datapath.TheVariants.{Plus, Seq};
-ghost use Rattle.y86_cli.specs.Plan.{Answered, Allows, IsDetermined, Tells};
-ghost use Rattle.y86_cli.specs.Ran.{Ran, Told};
+ghost use Rattle.command_plans.specs.declared.datapath.Datapath.TheVariants.{Plus, Seq};
+ghost use Rattle.command_plans.specs.Plan.{Answered, Allows, IsDetermined, Tells};
+ghost use Rattle.y86_cli.specs.Ran.{Ran};
+ghost use Rattle.command_plans.specs.Calls.{Told};
 
 /// What an answer has, whatever the contents of the files. With 0 and 1 nothing is to be told on standard error; with every
 /// other status nothing goes to standard output. 2 comes exactly where the words are no command, and no status is over 7.

@@ -1,37 +1,21 @@
 //! The top call: does the command that the words are, and answers the status.
-ghost use Rattle.std.specs.Prelude.{◌≡◌, ◌≢◌, ◌≤◌, List, ℕ, None, map, string_bytes};
+ghost use Rattle.std.specs.Prelude.{◌≡◌, None, map, string_bytes};
+ghost use Rattle.command_plans.specs.Does.{DoesOver, files_seen, sink_seen};
 ghost use Rattle.y86_cli.specs.Answers.{plan_of};
-ghost use Rattle.y86_cli.specs.Does.{DoesOver, files_seen, sink_seen};
+ghost use Rattle.y86_cli.specs.Ran.{Ended, Ran};
 ghost use Rattle.y86_words.specs.Forms.{form_of};
-ghost use Rattle.y86_cli.specs.Ran.{Ended, Ran, Told};
-ghost use Rattle.y86_cli.specs.Stops.{line_of, status_of};
 ghost use Rattle.y86_words.specs.Views.{command_in};
 ghost use Rattle.y86_words.specs.Wording.{IsLegal};
 
-use crate::aig::aig_file;
-use crate::aigrun::aigrun_file;
-use crate::big::big;
-use crate::certify::certify_pipe_file;
-use crate::check::{check_pipe_file, check_seq_file};
-use crate::datapath::Datapath;
-use crate::hcl::hcl;
-use crate::psim::psim;
-use crate::recheck::recheck;
-use crate::sample::sample;
-use crate::ssim::ssim;
-use crate::stop::Stop;
-use crate::yas::yas;
-use crate::yis::yis;
+use check_commands::{check_pipe_file, check_seq_file};
+use command_plans::{Datapath, Status, Stop, tell};
+use obligation_commands::{
+    aig_file, aigrun_file, certify_pipe_file, recheck_certificate, sample_file,
+};
+use run_commands::{big_file, hcl_file, psim_file, ssim_file, yas_file, yis_file};
 use std::alloc::Global;
 use wb_io::{Files, Sink};
 use y86_words::{Cmd, Usage, words};
-
-/// The status that the program ends with, from 0 to 7.
-///
-/// 0: done, and a run ended at a halt. 1: a run ended otherwise. 2: the words are no command. 3: a read of a file that the
-/// command comes to failed. 4: a write on standard output failed. 5: a file was refused. 6: want of memory. 7: a file has
-/// more bytes than its limit.
-pub type Status = u8;
 
 /// Does a command, up to the first stop.
 fn execute<'a, F: Files, O: Sink>(
@@ -45,21 +29,21 @@ fn execute<'a, F: Files, O: Sink>(
         files.old files.new out.old out.new result }
 {
     match command {
-        Cmd::Yas { asm, mem, variant } => yas(alloc, asm, mem, variant, files, out),
+        Cmd::Yas { asm, mem, variant } => yas_file(alloc, asm, mem, variant, files, out),
         Cmd::Yis {
             obj,
             mem,
             limit,
             variant,
-        } => yis(alloc, obj, mem, limit, variant, files, out),
-        Cmd::Hcl { hcl: name } => hcl(alloc, name, files, out),
+        } => yis_file(alloc, obj, mem, limit, variant, files, out),
+        Cmd::Hcl { hcl: name } => hcl_file(alloc, name, files, out),
         Cmd::Ssim {
             hcl: name,
             obj,
             mem,
             limit,
             variant,
-        } => ssim(
+        } => ssim_file(
             alloc,
             Datapath::Seq,
             name,
@@ -76,7 +60,7 @@ fn execute<'a, F: Files, O: Sink>(
             mem,
             limit,
             variant,
-        } => ssim(
+        } => ssim_file(
             alloc,
             Datapath::Plus,
             name,
@@ -95,7 +79,7 @@ fn execute<'a, F: Files, O: Sink>(
             trace,
             checked,
             variant,
-        } => psim(
+        } => psim_file(
             alloc, name, obj, mem, limit, trace, checked, variant, files, out,
         ),
         Cmd::CheckSeq { hcl: name, variant } => {
@@ -112,20 +96,20 @@ fn execute<'a, F: Files, O: Sink>(
             hcl: name,
             cert,
             variant,
-        } => recheck(alloc, name, cert, variant, files, out),
+        } => recheck_certificate(alloc, name, cert, variant, files, out),
         Cmd::Sample {
             hcl: name,
             seed,
             count,
             variant,
-        } => sample(alloc, name, seed, count, variant, files, out),
+        } => sample_file(alloc, name, seed, count, variant, files, out),
         Cmd::Aig { hcl: name, variant } => aig_file(alloc, name, variant, files, out),
         Cmd::Aigrun { aag, seed } => aigrun_file(alloc, aag, seed, files, out),
         Cmd::Big {
             number,
             hcl: name,
             variant,
-        } => big(alloc, number, name, variant, files, out),
+        } => big_file(alloc, number, name, variant, files, out),
     }
 }
 
@@ -145,21 +129,6 @@ fn outcome<'a, F: Files, O: Sink>(
         Err(Usage) => Err(Stop::Usage),
         Ok(command) => execute(alloc, command, files, out),
     }
-}
-
-/// Tells a stop on standard error, and gives its status. A write that fails there changes no status, and nothing is
-/// told of a write that failed on standard output.
-#[tactic(auto, using(crate::proofs::Ran::told_whole, crate::proofs::Ran::told_part))]
-pub fn tell<E: Sink>(stop: &Stop<'_>, err: &mut E) -> Status
-    ensures status { result ≡ status_of stop.now }
-    ensures line { Told (sink_seen (E.taken err.old) (E.faults err.old)) (sink_seen (E.taken err.new) (E.faults err.new)) (line_of stop.now) }
-    ensures nothing_for_a_write { status_of stop.now ≡ 4 → err.new ≡ err.old }
-{
-    match stop.put(err) {
-        Ok(()) => {}
-        Err(_) => {}
-    }
-    stop.status()
 }
 
 /// The program: does the command that the words behind the program's name are, over any files and sinks, and answers the

@@ -1,8 +1,9 @@
 //! Calls of the program, and what each did.
 use crate::files::{Entry, in_memory};
+use command_plans::Status;
 use std::alloc::{AllocError, Global};
 use wb_io::{DripSink, MemSink};
-use y86_cli::{Status, run};
+use y86_cli::run;
 
 /// The room of standard output, in bytes; no answer of a row is longer.
 const ROOM: u64 = 1 << 17;

@@ -2,10 +2,10 @@
 use crate::calls::{Done, Trouble, call};
 use crate::faults::{drips, lines, read, writes};
 use crate::files::{Entry, design_of};
+use command_plans::pipe_design;
 use control_check::accept_pipe;
 use std::alloc::{AllocError, Global};
 use y86_base::Variant;
-use y86_cli::pipe_design;
 
 /// The most reads that fail in turn.
 const MOST_READS: u64 = 8;

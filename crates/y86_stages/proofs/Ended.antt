@@ -1,10 +1,10 @@
 -- How a call ends.
 use Rattle.std.proofs.Common.{◌≡◌, ℕ, Option, Some, None, Result, Ok, Err, inl, inr, refl, subst}
-use Rattle.y86_cli.specs.Does.{FilesSeen, SinkSeen}
-use Rattle.y86_cli.specs.Ran.{Told}
-use Rattle.y86_cli.specs.Stops.{status_of}
-use Rattle.y86_cli.specs.declared.stop.Stop as code
-use Rattle.y86_cli.specs.declared.stop.Stop.TheVariants.{Memory, Usage}
+use Rattle.command_plans.specs.Does.{FilesSeen, SinkSeen}
+use Rattle.command_plans.specs.Calls.{Told}
+use Rattle.command_plans.specs.Stops.{status_of}
+use Rattle.command_plans.specs.declared.stop.Stop as code
+use Rattle.command_plans.specs.declared.stop.Stop.TheVariants.{Memory, Usage}
 use Rattle.y86_words.specs.Forms.{form_of}
 use Rattle.y86_stages.specs.Ended.{Called, Ends, EndsAs, request_of, stop_line}
 use Rattle.y86_stages.specs.Words.{Read, window_of}

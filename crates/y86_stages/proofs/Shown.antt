@@ -4,11 +4,11 @@ use Rattle.hcl_types.specs.declared.term.Term.{Term}
 use Rattle.stage_text.specs.declared.watching.Window.{Window}
 use Rattle.y86_base.specs.declared.parts.Stat.{Stat}
 use Rattle.y86_base.specs.declared.parts.Variant.{Variant}
-use Rattle.y86_cli.specs.Answers.{run_status}
-use Rattle.y86_cli.specs.Does.{Says, SinkSeen}
-use Rattle.y86_cli.specs.Plan.{done}
-use Rattle.y86_cli.specs.declared.stop.Stop as code
-use Rattle.y86_cli.proofs.Does.{says_more}
+use Rattle.command_plans.specs.Stages.{run_status}
+use Rattle.command_plans.specs.Does.{Says, SinkSeen}
+use Rattle.command_plans.specs.Plan.{done}
+use Rattle.command_plans.specs.declared.stop.Stop as code
+use Rattle.command_plans.proofs.Does.{says_more}
 use Rattle.y86_stages.specs.Shown.{ShownAnswers, Shows}
 use Rattle.y86_stages.specs.declared.reading.Processor.{Processor}
 

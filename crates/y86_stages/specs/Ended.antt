@@ -2,11 +2,11 @@
 use Rattle.std.specs.Prelude.{◌≡◌, ◌⊎◌, ℕ, ◌||◌, if◌then◌else◌, List, Option, Some, None, Result, Ok, Err, codes}
 use Rattle.stage_text.specs.declared.watching.Window.{Window}
 use Rattle.y86_base.specs.declared.parts.Variant.{Variant}
-use Rattle.y86_cli.specs.Does.{Does, FilesSeen, SinkSeen}
-use Rattle.y86_cli.specs.Ran.{Told}
-use Rattle.y86_cli.specs.Stops.{line_of, status_of}
-use Rattle.y86_cli.specs.declared.stop.Stop as code
-use Rattle.y86_cli.specs.declared.stop.Stop.TheVariants.{Memory, Usage}
+use Rattle.command_plans.specs.Does.{Does, FilesSeen, SinkSeen}
+use Rattle.command_plans.specs.Calls.{Told}
+use Rattle.command_plans.specs.Stops.{line_of, status_of}
+use Rattle.command_plans.specs.declared.stop.Stop as code
+use Rattle.command_plans.specs.declared.stop.Stop.TheVariants.{Memory, Usage}
 use Rattle.y86_words.specs.Forms.{Command, form_of, psim}
 use Rattle.y86_stages.specs.declared.calling.Request as code_request
 use Rattle.y86_stages.specs.declared.reading.Processor.{Processor}

@@ -12,9 +12,9 @@ use Rattle.stage_text.specs.Watching.{ShowsRun}
 use Rattle.stage_text.specs.declared.watching.Window.{Window}
 use Rattle.y86_base.specs.declared.parts.Stat.{Stat}
 use Rattle.y86_base.specs.declared.parts.Variant.{Variant}
-use Rattle.y86_cli.specs.Answers.{file_limit, hcl_limit, image_of_text, run_status}
-use Rattle.y86_cli.specs.Designs.{IsDesign, RefusesDesign}
-use Rattle.y86_cli.specs.Plan.{Answered, Plan, after, done, gives, reads, says}
+use Rattle.command_plans.specs.Stages.{file_limit, hcl_limit, image_of_text, run_status}
+use Rattle.command_plans.specs.Designs.{IsDesign, RefusesDesign}
+use Rattle.command_plans.specs.Plan.{Answered, Plan, after, done, gives, reads, says}
 use Rattle.y86_isa.specs.Machine.{start}
 use Rattle.yo_object.specs.ObjectText.{object_of}
 use Rattle.y86_stages.specs.declared.reading.Processor.{Processor}

@@ -3,9 +3,9 @@ ghost use Rattle.std.specs.Prelude.{◌≡◌, ◌≤◌, ◌↔◌, IfErr, IfOk
 ghost use Rattle.std.specs.IoError.{error_kind};
 ghost use Rattle.std.specs.Option.{option_map};
 ghost use Rattle.y86_base.specs.Image.{IsSize};
-ghost use Rattle.y86_cli.specs.Does.{files_seen, sink_seen};
-ghost use Rattle.y86_cli.specs.Ran.{Told, words_behind};
-ghost use Rattle.y86_cli.specs.Stops.{status_of};
+ghost use Rattle.command_plans.specs.Does.{files_seen, sink_seen};
+ghost use Rattle.command_plans.specs.Calls.{Told, words_behind};
+ghost use Rattle.command_plans.specs.Stops.{status_of};
 ghost use Rattle.y86_words.specs.Forms.{form_of};
 ghost use Rattle.y86_words.specs.Views.{command_in};
 ghost use Rattle.y86_words.specs.Wording.{IsLegal};
@@ -16,6 +16,7 @@ ghost use Rattle.y86_stages.specs.Words as reading;
 
 use crate::reading::{Processor, Reading, read_words};
 use crate::running::show;
+use command_plans::{Status, Stop, tell, unread, words_behind};
 use stage_text::Window;
 use std::alloc::Global;
 use std::env::Args;
@@ -23,7 +24,6 @@ use std::io;
 use std::io::ErrorKind;
 use wb_io::{Files, Sink, put_all};
 use y86_base::Variant;
-use y86_cli::{Status, Stop, tell, unread, words_behind};
 use y86_words::{Cmd, Usage, words};
 
 /// A run that is to be shown.
@@ -105,7 +105,7 @@ fn show_words<'a, F: Files, O: Sink>(
 }
 
 /// Tells a stop on standard error, and gives its status.
-#[tactic(auto, using(y86_cli::proofs::Ran::told_whole, y86_cli::proofs::Ran::told_part))]
+#[tactic(auto, using(command_plans::proofs::Told::told_whole, command_plans::proofs::Told::told_part))]
 fn tell_stop<E: Sink>(stop: &Stop<'_>, err: &mut E) -> Status
     ensures status { result ≡ status_of stop.now }
     ensures line { Told (sink_seen (E.taken err.old) (E.faults err.old)) (sink_seen (E.taken err.new) (E.faults err.new)) (spec.stop_line stop.now) }

@@ -2,12 +2,15 @@
 ghost use Rattle.std.specs.Prelude.{◌≡◌, ◌≤◌, IfOk};
 ghost use Rattle.y86_base.specs.Image.{IsSize};
 ghost use Rattle.stage_text.specs.Listed.{listed};
-ghost use Rattle.y86_cli.specs.Answers.{hcl_limit};
-ghost use Rattle.y86_cli.specs.Designs.{IsDesign, IsOrdered, RefusesDesign};
-ghost use Rattle.y86_cli.specs.Does.{DoesOver, ReadsOne, Says, files_seen, sink_seen};
+ghost use Rattle.command_plans.specs.Stages.{hcl_limit};
+ghost use Rattle.command_plans.specs.Designs.{IsDesign, IsOrdered, RefusesDesign};
+ghost use Rattle.command_plans.specs.Does.{DoesOver, ReadsOne, Says, files_seen, sink_seen};
 ghost use Rattle.y86_stages.specs.Shown.{ShownAnswers, Shows, object_plan, rows_of, stages_plan};
 
 use crate::reading::Processor;
+use command_plans::{
+    Datapath, FILE_LIMIT, Ordered, Stop, load_image, pipe_file, read_file, say, seq_file, status,
+};
 use dp_signals::constant_words;
 use hcl_compile::compile;
 use seq_text::{watch_plus, watch_seq};
@@ -15,9 +18,6 @@ use stage_text::{Watched, Window, watch_run};
 use std::alloc::Global;
 use wb_io::{Files, Sink};
 use y86_base::{Image, Memory, Variant};
-use y86_cli::{
-    Datapath, FILE_LIMIT, Ordered, Stop, load_image, pipe_file, read_file, say, seq_file, status,
-};
 
 /// The design of an HCL file for a processor.
 fn design_file<'a, F: Files>(

@@ -1,5 +1,5 @@
 use Rattle.std.proofs.Common.{ap, refl}
-use Rattle.y86_cli.specs.Does.{sink_seen}
+use Rattle.command_plans.specs.Does.{sink_seen}
 use Rattle.y86_stages.specs.Words.{read_in}
 use Rattle.y86_stages.proofs.Ended.{called_done, called_stopped}
 use Rattle.y86_stages.proofs.calling.run.Goals as goal

@@ -1,4 +1,4 @@
-use Rattle.y86_cli.proofs.Does.{read_stage_goes_on, read_stage_stops}
+use Rattle.command_plans.proofs.Does.{read_stage_goes_on, read_stage_stops}
 use Rattle.y86_stages.specs.Shown.{stages_plan}
 use Rattle.y86_stages.proofs.running.show.Goals as goal
 

@@ -1,4 +1,4 @@
-use Rattle.y86_cli.proofs.Does.{read_goes_on, read_stops, said, stage_goes_on, stage_refuses}
+use Rattle.command_plans.proofs.Does.{read_goes_on, read_stops, said, stage_goes_on, stage_refuses}
 use Rattle.y86_stages.specs.Shown.{object_plan}
 use Rattle.y86_stages.proofs.running.show_object.Goals as goal
 

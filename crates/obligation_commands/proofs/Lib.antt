@@ -1,0 +1,3 @@
+pub mod AigerTexts
+pub mod Certified
+pub mod Samples

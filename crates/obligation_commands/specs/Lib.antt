@@ -1,0 +1,4 @@
+pub mod AigerTexts
+pub mod Answers
+pub mod Certified
+pub mod Samples
