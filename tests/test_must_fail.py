@@ -7,7 +7,9 @@ from helpers.cases import cases
 from helpers.paths import TOP
 
 SHOWS = re.compile(r"shows: (?:clause `(?P<clause>\w+)`|the clause) of `(?P<function>\w+)`: \S.*")
-EDITS = sorted(glob.glob("crates/*/must-fail/*.edit", root_dir=TOP))
+EDITS = sorted(
+    glob.glob("crates/*/must-fail/*.edit", root_dir=TOP) + glob.glob("tests/edits/*/*.edit", root_dir=TOP)
+)
 
 
 def read(path):
@@ -22,10 +24,14 @@ def contracts(crate, function):
             yield [name or None for name in re.findall(r"^ *ensures (?:(\w+) )?\{", head, flags=re.M)]
 
 
-@cases((path.replace("/must-fail", "").removeprefix("crates/"), path) for path in EDITS)
+def crate_of(path):
+    return path.split("/")[-2 if path.startswith("tests/") else 1]
+
+
+@cases((f"{crate_of(path)}/{os.path.basename(path)}", path) for path in EDITS)
 def test_edit(row):
     _, path = row
-    crate = path.split("/")[1]
+    crate = crate_of(path)
     shows = SHOWS.fullmatch(read(path).split("\n", 1)[0])
     assert shows, "an edit begins with a line: shows: clause `NAME` of `FUNCTION`: what is right"
     assert any(shows["clause"] in clauses for clauses in contracts(crate, shows["function"]))
@@ -41,14 +47,14 @@ def changes(path):
     for line in read(path).split("\n"):
         word, _, text = line.partition(": ")
         if word == "file":
-            file = f"crates/{path.split('/')[1]}/{text}"
+            file = f"crates/{crate_of(path)}/{text}"
         elif word == "old":
             old = text
         elif line.startswith("new:"):
             yield file, old, text
 
 
-@cases((path.replace("/must-fail", "").removeprefix("crates/"), path) for path in EDITS)
+@cases((f"{crate_of(path)}/{os.path.basename(path)}", path) for path in EDITS)
 def test_edit_applies(row):
     _, path = row
     texts = {}
