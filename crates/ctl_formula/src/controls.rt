@@ -61,7 +61,7 @@ impl Controls {
     {
         match &self.entries.items()[n as usize] {
             Entry::Truth(g) => *g,
-            _ => 0,
+            Entry::Absent | Entry::Picks(_) => 0,
         }
     }
 
@@ -72,7 +72,7 @@ impl Controls {
     {
         match &self.entries.items()[n as usize] {
             Entry::Picks(ps) => ps.items(),
-            _ => &[],
+            Entry::Absent | Entry::Truth(_) => &[],
         }
     }
 }

@@ -93,8 +93,7 @@ fn entry_of(
         atoms,
         first,
     };
-    let e = scope.defined_entry(alloc, b, class, t)?;
-    Ok(e)
+    scope.defined_entry(alloc, b, class, t)
 }
 
 /// Puts what is known of a name behind the others.

@@ -62,8 +62,7 @@ fn spelling(b: &mut NetBuilder, place: NamePlace, n: u64) -> Result<u64, Memory>
 {
     let first = place.first;
     let bits = place.bits;
-    let g = spells(b, field_bits::FieldPlace { first, bits }, n)?;
-    Ok(g)
+    spells(b, field_bits::FieldPlace { first, bits }, n)
 }
 
 /// The gate of: the number at a place isn't 0.
@@ -74,8 +73,7 @@ fn bit_gate(b: &mut NetBuilder, place: NamePlace) -> Result<u64, Memory>
     ensures made { IfOk result (λ g. IsGate b.new g (λ w. not (spelt w place.first place.bits == 0))) }
 {
     let zero = spelling(b, place, 0)?;
-    let g = b.not(zero)?;
-    Ok(g)
+    b.not(zero)
 }
 
 /// The picks of a code: each number of 4 bits, where the bits of its place spell it.

@@ -63,10 +63,7 @@ pub fn add(b: &mut NetBuilder, out: &mut Vec<Pick>, leaf: Leaf, gate: u64) -> Re
             out[k] = Pick { leaf, gate: both };
             Ok(())
         }
-        None => {
-            put_pick(out, Pick { leaf, gate })?;
-            Ok(())
-        }
+        None => put_pick(out, Pick { leaf, gate }),
     }
 }
 

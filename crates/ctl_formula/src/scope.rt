@@ -168,7 +168,6 @@ impl<'a> Scope<'a> {
             Picked (at b.old w) ps.now x → Picked (at b.old w) qs.now y →
             IfOk result (λ g. truth b.new g w ≡ leaf_cmp α op x y) }
     {
-        let g = self.pairs(b, op, ps, qs)?;
-        Ok(g)
+        self.pairs(b, op, ps, qs)
     }
 }

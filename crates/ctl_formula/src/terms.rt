@@ -53,7 +53,7 @@ impl<'a> Scope<'a> {
     {
         match &self.entries[id as usize] {
             Entry::Truth(g) => *g,
-            _ => 0,
+            Entry::Absent | Entry::Picks(_) => 0,
         }
     }
 
@@ -64,7 +64,7 @@ impl<'a> Scope<'a> {
     {
         match &self.entries[id as usize] {
             Entry::Picks(ps) => ps.items(),
-            _ => &[],
+            Entry::Absent | Entry::Truth(_) => &[],
         }
     }
 
@@ -83,27 +83,18 @@ impl<'a> Scope<'a> {
             Term::Name(id) => Ok(self.gate_of(*id)),
             Term::Not(a) => {
                 let x = self.truth(alloc, b, a.get())?;
-                let g = b.not(x)?;
-                Ok(g)
+                b.not(x)
             }
-            Term::And(all) => {
-                let g = self.all_of(alloc, b, all.items())?;
-                Ok(g)
-            }
-            Term::Or(all) => {
-                let g = self.any_of(alloc, b, all.items())?;
-                Ok(g)
-            }
+            Term::And(all) => self.all_of(alloc, b, all.items()),
+            Term::Or(all) => self.any_of(alloc, b, all.items()),
             Term::Cmp(op, x, y) => {
                 let ps = self.word(alloc, b, x.get())?;
                 let qs = self.word(alloc, b, y.get())?;
-                let g = self.compare(b, *op, ps.as_slice(), qs.as_slice())?;
-                Ok(g)
+                self.compare(b, *op, ps.as_slice(), qs.as_slice())
             }
             Term::In(x, all) => {
                 let ps = self.word(alloc, b, x.get())?;
-                let g = self.member_of(alloc, b, ps.as_slice(), all.items())?;
-                Ok(g)
+                self.member_of(alloc, b, ps.as_slice(), all.items())
             }
             Term::Case(_) => b.constant(false),
         }
@@ -128,15 +119,11 @@ impl<'a> Scope<'a> {
                 put_pick(&mut ps, Pick { leaf, gate })?;
                 Ok(ps)
             }
-            Term::Name(id) => {
-                let ps = copy_picks(alloc, self.picks_of(*id))?;
-                Ok(ps)
+            Term::Name(id) => copy_picks(alloc, self.picks_of(*id)),
+            Term::Case(all) => self.case_of(alloc, b, all.items()),
+            Term::Not(_) | Term::And(_) | Term::Or(_) | Term::Cmp(..) | Term::In(..) => {
+                Ok(Vec::new(alloc))
             }
-            Term::Case(all) => {
-                let ps = self.case_of(alloc, b, all.items())?;
-                Ok(ps)
-            }
-            _ => Ok(Vec::new(alloc)),
         }
     }
 
@@ -260,7 +247,6 @@ impl<'a> Scope<'a> {
         let here = b.and(free, guard)?;
         add_all(b, out, here, ps.as_slice())?;
         let past = b.not(guard)?;
-        let g = b.and(free, past)?;
-        Ok(g)
+        b.and(free, past)
     }
 }

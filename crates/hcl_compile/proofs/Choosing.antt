@@ -1,6 +1,7 @@
 -- Decisions of terms from those of their parts.
 use Rattle.std.proofs.Common.{◌≡◌, ◌+◌, ◌<◌, ◌≤◌, ◌&&◌, ◌||◌, nat_eq, not, ℕ, Bool, true, false, if◌then◌else◌, List, [], ◌∷◌, ◌++◌, length, map, drop, get_or, refl, sym, ap, subst, ◌∙◌, arith}
 use Rattle.std.proofs.lemmas.List.{drop_more}
+use Rattle.std.specs.Prelude.{MatchOption, None, Option, Some}
 use Rattle.hcl_read.specs.declared.tree.CmpOp.TheVariants as op
 use Rattle.hcl_types.specs.declared.term.Term.{Term}
 use Rattle.hcl_types.specs.declared.term.Term.TheVariants as terms
@@ -9,69 +10,70 @@ use Rattle.hcl_types.specs.Terms.{compare_words, joined, names, value, words}
 use Rattle.hcl_types.proofs.Each.{each_both, each_left, each_right}
 use Rattle.hcl_types.proofs.Values.{value_Not, value_And, value_Or, value_Cmp, value_In, names_Not, names_And, names_Or, names_Cmp, names_In}
 use Rattle.hcl_compile.specs.declared.decisions.Decisions.{Decisions}
-use Rattle.hcl_compile.specs.Making.{Comes, Decides, IsTest, IsValued, Keeps}
+use Rattle.hcl_compile.specs.declared.targets.Quantifier.{Quantifier}
+use Rattle.hcl_compile.specs.declared.targets.Quantifier.TheVariants.{All, Any}
+use Rattle.hcl_compile.specs.declared.targets.Targets.{Targets}
+use Rattle.hcl_compile.specs.Making.{Comes, Decides, IsTest, IsValued, Keeps, ahead_of, chosen, of_none, quantified, swapped}
 use Rattle.hcl_compile.specs.Walks.{Begins, Within}
 use Rattle.hcl_compile.proofs.Made.{keeps_all, keeps_both}
 
+negated : (to : Targets) (b : Bool) → chosen to (not b) ≡ chosen (swapped to) b
+negated to true = refl
+negated to false = refl
+
+-- two truths of which both are needed, or one
+abbrev joins : Quantifier → Bool → Bool → Bool
+joins All a b = a && b
+joins Any a b = a || b
+
+quantified_more : {A : Type 0} (q : Quantifier) (p : A → Bool) (x : A) (xs : List A) → quantified q p (x ∷ xs) ≡ joins q (p x) (quantified q p xs)
+quantified_more All p x xs = refl
+quantified_more Any p x xs = refl
+
 module _ (constants : List ℕ) where
   -- the same decision of an equal test that needs more rows
-  pub decides_as : (ids jds : List ℕ) (f g : (ℕ → ℕ) → Bool) (old new : Decisions) (hit miss place : ℕ) → Decides constants ids f old new hit miss place
+  pub decides_as : (ids jds : List ℕ) (f g : (ℕ → ℕ) → Bool) (old new : Decisions) (to : Targets) (place : ℕ) → Decides constants ids f old new to place
       → ((rows : ℕ) → Within rows jds → Within rows ids) → ((env : ℕ → ℕ) (rows : ℕ) → Begins constants env rows → Within rows jds → g env ≡ f env)
-      → Decides constants jds g old new hit miss place
-  decides_as ids jds f g old new hit miss place d w s = record {
+      → Decides constants jds g old new to place
+  decides_as ids jds f g old new to place d w s = record {
     keeps = d.keeps;
-    leads = λ env rows word begins within c. d.leads env rows word begins (w rows within) (subst (λ x. Comes env rows old (if x then hit else miss) word) (s env rows begins within) c);
+    leads = λ env rows word begins within c. d.leads env rows word begins (w rows within) (subst (λ x. Comes env rows old (chosen to x) word) (s env rows begins within) c);
   }
 
-  pub decides_known : (ids : List ℕ) (f : (ℕ → ℕ) → Bool) (b : Bool) (d : Decisions) (hit miss place : ℕ) → ((env : ℕ → ℕ) (rows : ℕ) → Begins constants env rows → Within rows ids → f env ≡ b)
-      → place ≡ (if b then hit else miss) → Decides constants ids f d d hit miss place
-  decides_known ids f b d hit miss place s e = record {
+  pub decides_known : (ids : List ℕ) (f : (ℕ → ℕ) → Bool) (b : Bool) (d : Decisions) (to : Targets) (place : ℕ) → ((env : ℕ → ℕ) (rows : ℕ) → Begins constants env rows → Within rows ids → f env ≡ b)
+      → place ≡ chosen to b → Decides constants ids f d d to place
+  decides_known ids f b d to place s e = record {
     keeps = keeps_all d;
     leads = λ env rows word begins within c.
-        subst (λ x. Comes env rows d x word) (sym e) (subst (λ x. Comes env rows d (if x then hit else miss) word) (s env rows begins within) c);
+        subst (λ x. Comes env rows d x word) (sym e) (subst (λ x. Comes env rows d (chosen to x) word) (s env rows begins within) c);
   }
 
-  pub decides_not : (ids : List ℕ) (f : (ℕ → ℕ) → Bool) (old new : Decisions) (hit miss place : ℕ) → Decides constants ids f old new miss hit place
-      → Decides constants ids (λ env. not (f env)) old new hit miss place
-  decides_not ids f old new hit miss place d = record {
+  pub decides_not : (ids : List ℕ) (f : (ℕ → ℕ) → Bool) (old new : Decisions) (to : Targets) (place : ℕ) → Decides constants ids f old new (swapped to) place
+      → Decides constants ids (λ env. not (f env)) old new to place
+  decides_not ids f old new to place d = record {
     keeps = d.keeps;
-    leads = λ env rows word begins within c. d.leads env rows word begins within (swap (f env) env rows word c);
+    leads = λ env rows word begins within c. d.leads env rows word begins within (subst (λ x. Comes env rows old x word) (negated to (f env)) c);
   }
-    where
-      swap : (b : Bool) (env : ℕ → ℕ) (rows word : ℕ) → Comes env rows old (if not b then hit else miss) word → Comes env rows old (if b then miss else hit) word
-      swap true env rows word c = c
-      swap false env rows word c = c
 
   -- one more test in front of others
-  pub decides_and : (ids jds : List ℕ) (f g : (ℕ → ℕ) → Bool) (old mid new : Decisions) (hit miss rest place : ℕ) → Decides constants jds g old mid hit miss rest
-      → Decides constants ids f mid new rest miss place → Decides constants (ids ++ jds) (λ env. f env && g env) old new hit miss place
-  decides_and ids jds f g old mid new hit miss rest place d h = record {
+  pub decides_more : (q : Quantifier) (ids jds : List ℕ) (f g : (ℕ → ℕ) → Bool) (old mid new : Decisions) (to : Targets) (rest place : ℕ) → Decides constants jds g old mid to rest
+      → Decides constants ids f mid new (ahead_of q rest to) place → Decides constants (ids ++ jds) (λ env. joins q (f env) (g env)) old new to place
+  decides_more q ids jds f g old mid new to rest place d h = record {
     keeps = keeps_both old mid new d.keeps h.keeps;
     leads = λ env rows word begins within c. h.leads env rows word begins (each_left (λ id. id < rows) ids jds within)
-        (by (f env) (g env) env rows word (d.leads env rows word begins (each_right (λ id. id < rows) ids jds within)) c);
+        (by q (f env) (g env) env rows word (d.leads env rows word begins (each_right (λ id. id < rows) ids jds within)) c);
   }
     where
-      by : (b e : Bool) (env : ℕ → ℕ) (rows word : ℕ) → (Comes env rows old (if e then hit else miss) word → Comes env rows mid rest word)
-          → Comes env rows old (if b && e then hit else miss) word → Comes env rows mid (if b then rest else miss) word
-      by true e env rows word s c = s c
-      by false e env rows word s c = d.keeps env rows miss word c
-
-  pub decides_or : (ids jds : List ℕ) (f g : (ℕ → ℕ) → Bool) (old mid new : Decisions) (hit miss rest place : ℕ) → Decides constants jds g old mid hit miss rest
-      → Decides constants ids f mid new hit rest place → Decides constants (ids ++ jds) (λ env. f env || g env) old new hit miss place
-  decides_or ids jds f g old mid new hit miss rest place d h = record {
-    keeps = keeps_both old mid new d.keeps h.keeps;
-    leads = λ env rows word begins within c. h.leads env rows word begins (each_left (λ id. id < rows) ids jds within)
-        (by (f env) (g env) env rows word (d.leads env rows word begins (each_right (λ id. id < rows) ids jds within)) c);
-  }
-    where
-      by : (b e : Bool) (env : ℕ → ℕ) (rows word : ℕ) → (Comes env rows old (if e then hit else miss) word → Comes env rows mid rest word)
-          → Comes env rows old (if b || e then hit else miss) word → Comes env rows mid (if b then hit else rest) word
-      by true e env rows word s c = d.keeps env rows hit word c
-      by false e env rows word s c = s c
+      by : (k : Quantifier) (b e : Bool) (env : ℕ → ℕ) (rows word : ℕ) → (Comes env rows old (chosen to e) word → Comes env rows mid rest word)
+          → Comes env rows old (chosen to (joins k b e)) word → Comes env rows mid (chosen (ahead_of k rest to) b) word
+      by All true e env rows word s c = s c
+      by All false e env rows word s c = d.keeps env rows to.miss word c
+      by Any true e env rows word s c = d.keeps env rows to.hit word c
+      by Any false e env rows word s c = s c
 
   -- one more branch in front of others
   pub valued_branch : (ids jds kds : List ℕ) (f : (ℕ → ℕ) → Bool) (g h : (ℕ → ℕ) → ℕ) (old mid later new : Decisions) (rest taken place : ℕ) → IsValued constants kds h old mid rest
-      → IsValued constants jds g mid later taken → Decides constants ids f later new taken rest place
+      → IsValued constants jds g mid later taken → Decides constants ids f later new (record { hit = taken; miss = rest }) place
       → IsValued constants ((ids ++ jds) ++ kds) (λ env. if f env then g env else h env) old new place
   valued_branch ids jds kds f g h old mid later new rest taken place r t d = record {
     keeps = keeps_both old mid new r.keeps (keeps_both mid later new t.keeps d.keeps);
@@ -97,159 +99,117 @@ pub drop_whole : {A : Type 0} (xs : List A) → drop (length xs) xs ≡ []
 drop_whole [] = refl
 drop_whole (x ∷ xs) = drop_whole xs
 
-module _ (constants : List ℕ) (old new : Decisions) (hit miss place : ℕ) where
+module _ (constants : List ℕ) (old new : Decisions) (to : Targets) (place : ℕ) where
   -- a test of a term whose value is that truth
-  pub test_as : (ids : List ℕ) (f : (ℕ → ℕ) → Bool) (t : Term) → Decides constants ids f old new hit miss place → names t ≡ ids → ((env : ℕ → ℕ) → value words env t ≡ words.bool (f env))
-      → IsTest constants t old new hit miss place
-  test_as ids f t d n v = decides_as constants ids (names t) f (λ env. words.holds (value words env t)) old new hit miss place d (λ rows w. subst (Within rows) n w)
+  pub test_as : (ids : List ℕ) (f : (ℕ → ℕ) → Bool) (t : Term) → Decides constants ids f old new to place → names t ≡ ids → ((env : ℕ → ℕ) → value words env t ≡ words.bool (f env))
+      → IsTest constants t old new to place
+  test_as ids f t d n v = decides_as constants ids (names t) f (λ env. words.holds (value words env t)) old new to place d (λ rows w. subst (Within rows) n w)
       (λ env rows b w. ap words.holds (v env) ∙ word_holds (f env))
 
-  pub test_not : (t x : Term) → t ≡ terms.Not x → IsTest constants x old new miss hit place → IsTest constants t old new hit miss place
-  test_not t x e d = subst (λ y. IsTest constants y old new hit miss place) (sym e)
-      (test_as (names x) (λ env. not (words.holds (value words env x))) (terms.Not x) (decides_not constants (names x) (λ env. words.holds (value words env x)) old new hit miss place d)
+  pub test_not : (t x : Term) → t ≡ terms.Not x → IsTest constants x old new (swapped to) place → IsTest constants t old new to place
+  test_not t x e d = subst (λ y. IsTest constants y old new to place) (sym e)
+      (test_as (names x) (λ env. not (words.holds (value words env x))) (terms.Not x) (decides_not constants (names x) (λ env. words.holds (value words env x)) old new to place d)
       (names_Not x) (λ env. value_Not words env x))
 
-  pub test_and : (t : Term) (ts : List Term) → t ≡ terms.And ts → Decides constants (joined (map names ts)) (λ env. each words.holds (map (value words env) ts)) old new hit miss place
-      → IsTest constants t old new hit miss place
-  test_and t ts e d = subst (λ y. IsTest constants y old new hit miss place) (sym e)
+  pub test_and : (t : Term) (ts : List Term) → t ≡ terms.And ts → Decides constants (joined (map names ts)) (λ env. each words.holds (map (value words env) ts)) old new to place
+      → IsTest constants t old new to place
+  test_and t ts e d = subst (λ y. IsTest constants y old new to place) (sym e)
       (test_as (joined (map names ts)) (λ env. each words.holds (map (value words env) ts)) (terms.And ts) d (names_And ts) (λ env. value_And words env ts))
 
-  pub test_or : (t : Term) (ts : List Term) → t ≡ terms.Or ts → Decides constants (joined (map names ts)) (λ env. some words.holds (map (value words env) ts)) old new hit miss place
-      → IsTest constants t old new hit miss place
-  test_or t ts e d = subst (λ y. IsTest constants y old new hit miss place) (sym e)
+  pub test_or : (t : Term) (ts : List Term) → t ≡ terms.Or ts → Decides constants (joined (map names ts)) (λ env. some words.holds (map (value words env) ts)) old new to place
+      → IsTest constants t old new to place
+  test_or t ts e d = subst (λ y. IsTest constants y old new to place) (sym e)
       (test_as (joined (map names ts)) (λ env. some words.holds (map (value words env) ts)) (terms.Or ts) d (names_Or ts) (λ env. value_Or words env ts))
 
-  pub test_equal : (t x y : Term) → t ≡ terms.Cmp op.Eq x y → Decides constants (names x ++ names y) (λ env. nat_eq (value words env x) (value words env y)) old new hit miss place
-      → IsTest constants t old new hit miss place
-  test_equal t x y e d = subst (λ z. IsTest constants z old new hit miss place) (sym e)
-      (test_as (names x ++ names y) (λ env. nat_eq (value words env x) (value words env y)) (terms.Cmp op.Eq x y) d (names_Cmp op.Eq x y) (λ env. value_Cmp words env op.Eq x y))
+  pub test_equal : (x y : Term) → Decides constants (names x ++ names y) (λ env. nat_eq (value words env x) (value words env y)) old new to place → IsTest constants (terms.Cmp op.Eq x y) old new to place
+  test_equal x y d = test_as (names x ++ names y) (λ env. nat_eq (value words env x) (value words env y)) (terms.Cmp op.Eq x y) d (names_Cmp op.Eq x y) (λ env. value_Cmp words env op.Eq x y)
 
-  pub test_unequal : (t x y : Term) → t ≡ terms.Cmp op.Ne x y → Decides constants (names x ++ names y) (λ env. nat_eq (value words env x) (value words env y)) old new miss hit place
-      → IsTest constants t old new hit miss place
-  test_unequal t x y e d = subst (λ z. IsTest constants z old new hit miss place) (sym e)
-      (test_as (names x ++ names y) (λ env. not (nat_eq (value words env x) (value words env y))) (terms.Cmp op.Ne x y)
-      (decides_not constants (names x ++ names y) (λ env. nat_eq (value words env x) (value words env y)) old new hit miss place d) (names_Cmp op.Ne x y) (λ env. value_Cmp words env op.Ne x y))
+  pub test_unequal : (x y : Term) → Decides constants (names x ++ names y) (λ env. nat_eq (value words env x) (value words env y)) old new (swapped to) place → IsTest constants (terms.Cmp op.Ne x y) old new to place
+  test_unequal x y d = test_as (names x ++ names y) (λ env. not (nat_eq (value words env x) (value words env y))) (terms.Cmp op.Ne x y)
+      (decides_not constants (names x ++ names y) (λ env. nat_eq (value words env x) (value words env y)) old new to place d) (names_Cmp op.Ne x y) (λ env. value_Cmp words env op.Ne x y)
 
-  pub test_number : (t : Term) (n : ℕ) (b : Bool) → ((env : ℕ → ℕ) (rows : ℕ) → Begins constants env rows → value words env t ≡ n) → words.holds n ≡ b → place ≡ (if b then hit else miss) → new ≡ old
-      → IsTest constants t old new hit miss place
-  test_number t n b v h p e = subst (λ d. IsTest constants t old d hit miss place) (sym e)
-      (decides_known constants (names t) (λ env. words.holds (value words env t)) b old hit miss place (λ env rows begins within. ap words.holds (v env rows begins) ∙ h) p)
+  pub test_number : (t : Term) (n : ℕ) (b : Bool) → ((env : ℕ → ℕ) (rows : ℕ) → Begins constants env rows → value words env t ≡ n) → words.holds n ≡ b → place ≡ chosen to b → new ≡ old
+      → IsTest constants t old new to place
+  test_number t n b v h p e = subst (λ d. IsTest constants t old d to place) (sym e)
+      (decides_known constants (names t) (λ env. words.holds (value words env t)) b old to place (λ env rows begins within. ap words.holds (v env rows begins) ∙ h) p)
 
   pub test_row : (t : Term) (id : ℕ) → ((env : ℕ → ℕ) (rows : ℕ) → Begins constants env rows → Within rows (names t) → (id < rows) × (value words env t ≡ env id))
-      → Decides constants (id ∷ []) (λ env. nat_eq (env id) 0) old new miss hit place → IsTest constants t old new hit miss place
+      → Decides constants (id ∷ []) (λ env. nat_eq (env id) 0) old new (swapped to) place → IsTest constants t old new to place
   test_row t id v d = record {
     keeps = d.keeps;
     leads = λ env rows word begins within c.
         let is = v env rows begins within in
-        d.leads env rows word begins (is.0, tt) (swap (nat_eq (env id) 0) env rows word (subst (λ x. Comes env rows old (if words.holds x then hit else miss) word) is.1 c));
+        d.leads env rows word begins (is.0, tt) (subst (λ x. Comes env rows old x word) (ap (λ x. chosen to (words.holds x)) is.1 ∙ negated to (nat_eq (env id) 0)) c);
   }
-    where
-      swap : (b : Bool) (env : ℕ → ℕ) (rows word : ℕ) → Comes env rows old (if not b then hit else miss) word → Comes env rows old (if b then miss else hit) word
-      swap true env rows word c = c
-      swap false env rows word c = c
 
 -- a test that is made behind other nodes
-pub test_behind : (constants : List ℕ) (t : Term) (old mid new : Decisions) (hit miss place : ℕ) → Keeps old mid → IsTest constants t mid new hit miss place → IsTest constants t old new hit miss place
-test_behind constants t old mid new hit miss place k d = record {
+pub test_behind : (constants : List ℕ) (t : Term) (old mid new : Decisions) (to : Targets) (place : ℕ) → Keeps old mid → IsTest constants t mid new to place → IsTest constants t old new to place
+test_behind constants t old mid new to place k d = record {
   keeps = keeps_both old mid new k d.keeps;
-  leads = λ env rows word begins within c. d.leads env rows word begins within (k env rows (if words.holds (value words env t) then hit else miss) word c);
+  leads = λ env rows word begins within c. d.leads env rows word begins within (k env rows (chosen to (words.holds (value words env t))) word c);
 }
 
--- ---- lists of terms, from the last
+-- where a decision gives another one, one that may be there gives another that may
+pub may_so : (P : Type 0) (Q R : ℕ → Type 0) (found : Option ℕ) → ((place : ℕ) → Q place → R place) → MatchOption found P Q → MatchOption found P R
+may_so P Q R None so k = k
+may_so P Q R (Some place) so d = so place d
 
-abbrev pub IsAll : List ℕ → List Term → ℕ → Decisions → Decisions → ℕ → ℕ → ℕ → Type 0
-IsAll constants ts left old new hit miss place =
-    (left ≤ length ts) × Decides constants (joined (map names (drop left ts))) (λ env. each words.holds (map (value words env) (drop left ts))) old new hit miss place
+-- ---- terms from the last: whether all or any of their values pass a test, which needs the rows of ids
 
-abbrev pub IsSome : List ℕ → List Term → ℕ → Decisions → Decisions → ℕ → ℕ → ℕ → Type 0
-IsSome constants ts left old new hit miss place =
-    (left ≤ length ts) × Decides constants (joined (map names (drop left ts))) (λ env. some words.holds (map (value words env) (drop left ts))) old new hit miss place
-
-abbrev pub IsMember : List ℕ → Term → List Term → ℕ → Decisions → Decisions → ℕ → ℕ → ℕ → Type 0
-IsMember constants x ts left old new hit miss place =
-    (left ≤ length ts) × Decides constants (names x ++ joined (map names (drop left ts))) (λ env. some (compare_words op.Eq (value words env x)) (map (value words env) (drop left ts))) old new hit miss place
+abbrev pub IsRest : List ℕ → Quantifier → (Term → List ℕ) → ((ℕ → ℕ) → ℕ → Bool) → List Term → ℕ → Decisions → Decisions → Targets → ℕ → Type 0
+IsRest constants q ids p ts left old new to place =
+    (left ≤ length ts) × Decides constants (joined (map ids (drop left ts))) (λ env. quantified q (p env) (map (value words env) (drop left ts))) old new to place
 
 pub split : {A : Type 0} (xs : List A) (x : A) (left next : ℕ) → next + 1 ≡ left → next < length xs → x ≡ get_or xs next x → drop next xs ≡ x ∷ drop left xs
 split xs x left next e h s = subst (λ k. drop next xs ≡ x ∷ drop k xs) e (drop_more xs next x h ∙ ap (λ y. y ∷ drop (next + 1) xs) (sym s))
 
-module _ (constants : List ℕ) (ts : List Term) (old : Decisions) (hit miss : ℕ) where
-  pub all_none : (left : ℕ) → left ≡ length ts → IsAll constants ts left old old hit miss hit
-  all_none left e = (
+module _ (constants : List ℕ) (q : Quantifier) (ids : Term → List ℕ) (p : (ℕ → ℕ) → ℕ → Bool) (ts : List Term) (old : Decisions) (to : Targets) where
+  pub rest_none : (left place : ℕ) → left ≡ length ts → place ≡ of_none q to → IsRest constants q ids p ts left old old to place
+  rest_none left place e is = (
     omega arith,
-    subst (λ xs. Decides constants (joined (map names xs)) (λ env. each words.holds (map (value words env) xs)) old old hit miss hit) (sym none)
-        (decides_known constants [] (λ env. true) true old hit miss hit (λ env rows b w. refl) refl),
+    subst (λ xs. Decides constants (joined (map ids xs)) (λ env. quantified q (p env) (map (value words env) xs)) old old to place) (sym (ap (λ k. drop k ts) e ∙ drop_whole ts)) (none q is),
   )
     where
-      none : drop left ts ≡ []
-      none = ap (λ k. drop k ts) e ∙ drop_whole ts
+      none : (k : Quantifier) → place ≡ of_none k to → Decides constants [] (λ env. quantified k (p env) []) old old to place
+      none All is = decides_known constants [] (λ env. true) true old to place (λ env rows b w. refl) is
+      none Any is = decides_known constants [] (λ env. false) false old to place (λ env rows b w. refl) is
 
-  pub some_none : (left : ℕ) → left ≡ length ts → IsSome constants ts left old old hit miss miss
-  some_none left e = (
-    omega arith,
-    subst (λ xs. Decides constants (joined (map names xs)) (λ env. some words.holds (map (value words env) xs)) old old hit miss miss) (sym none)
-        (decides_known constants [] (λ env. false) false old hit miss miss (λ env rows b w. refl) refl),
+  pub rest_more : (mid new : Decisions) (t : Term) (left next rest place : ℕ) → next + 1 ≡ left → t ≡ get_or ts next t → IsRest constants q ids p ts left old mid to rest
+      → Decides constants (ids t) (λ env. p env (value words env t)) mid new (ahead_of q rest to) place → IsRest constants q ids p ts next old new to place
+  rest_more mid new t left next rest place down here d h = (
+    omega (arith, d.0),
+    subst (λ xs. Decides constants (joined (map ids xs)) (λ env. quantified q (p env) (map (value words env) xs)) old new to place) (sym (split ts t left next down (omega (arith, d.0)) here))
+        (decides_as constants (ids t ++ joined (map ids (drop left ts))) (ids t ++ joined (map ids (drop left ts)))
+        (λ env. joins q (p env (value words env t)) (quantified q (p env) (map (value words env) (drop left ts)))) (λ env. quantified q (p env) (map (value words env) (t ∷ drop left ts))) old new to place
+        (decides_more constants q (ids t) (joined (map ids (drop left ts))) (λ env. p env (value words env t)) (λ env. quantified q (p env) (map (value words env) (drop left ts))) old mid new to rest place d.1 h)
+        (λ rows w. w) (λ env rows b w. quantified_more q (p env) (value words env t) (map (value words env) (drop left ts)))),
   )
-    where
-      none : drop left ts ≡ []
-      none = ap (λ k. drop k ts) e ∙ drop_whole ts
 
-  pub member_none : (x : Term) (left : ℕ) → left ≡ length ts → IsMember constants x ts left old old hit miss miss
-  member_none x left e = (
-    omega arith,
-    subst (λ xs. Decides constants (names x ++ joined (map names xs)) (λ env. some (compare_words op.Eq (value words env x)) (map (value words env) xs)) old old hit miss miss) (sym none)
-        (decides_known constants (names x ++ []) (λ env. false) false old hit miss miss (λ env rows b w. refl) refl),
-  )
-    where
-      none : drop left ts ≡ []
-      none = ap (λ k. drop k ts) e ∙ drop_whole ts
+  pub rest_end : (new : Decisions) (left place : ℕ) → IsRest constants q ids p ts left old new to place → left ≡ 0
+      → Decides constants (joined (map ids ts)) (λ env. quantified q (p env) (map (value words env) ts)) old new to place
+  rest_end new left place d e = subst (λ k. Decides constants (joined (map ids (drop k ts))) (λ env. quantified q (p env) (map (value words env) (drop k ts))) old new to place) e d.1
 
-  module _ (mid new : Decisions) (t : Term) (left next rest place : ℕ) (down : next + 1 ≡ left) (here : t ≡ get_or ts next t) where
-    pub all_more : IsAll constants ts left old mid hit miss rest → IsTest constants t mid new rest miss place → IsAll constants ts next old new hit miss place
-    all_more d h = (
-      omega (arith, d.0),
-      subst (λ xs. Decides constants (joined (map names xs)) (λ env. each words.holds (map (value words env) xs)) old new hit miss place) (sym (split ts t left next down (omega (arith, d.0)) here))
-          (decides_and constants (names t) (joined (map names (drop left ts))) (λ env. words.holds (value words env t)) (λ env. each words.holds (map (value words env) (drop left ts))) old mid new hit miss rest place d.1 h),
-    )
+-- ---- members, each of which is compared with one term
 
-    pub some_more : IsSome constants ts left old mid hit miss rest → IsTest constants t mid new hit rest place → IsSome constants ts next old new hit miss place
-    some_more d h = (
-      omega (arith, d.0),
-      subst (λ xs. Decides constants (joined (map names xs)) (λ env. some words.holds (map (value words env) xs)) old new hit miss place) (sym (split ts t left next down (omega (arith, d.0)) here))
-          (decides_or constants (names t) (joined (map names (drop left ts))) (λ env. words.holds (value words env t)) (λ env. some words.holds (map (value words env) (drop left ts))) old mid new hit miss rest place d.1 h),
-    )
+within_each : (rows : ℕ) (xs : List ℕ) (ts : List Term) → Within rows (xs ++ joined (map names ts)) → Within rows (joined (map (λ t. xs ++ names t) ts))
+within_each rows xs [] w = tt
+within_each rows xs (t ∷ ts) w =
+    let one = each_left (λ id. id < rows) xs (names t ++ joined (map names ts)) w in
+    let more = each_right (λ id. id < rows) xs (names t ++ joined (map names ts)) w in
+    each_both (λ id. id < rows) (xs ++ names t) (joined (map (λ u. xs ++ names u) ts))
+    (each_both (λ id. id < rows) xs (names t) one (each_left (λ id. id < rows) (names t) (joined (map names ts)) more))
+    (within_each rows xs ts (each_both (λ id. id < rows) xs (joined (map names ts)) one (each_right (λ id. id < rows) (names t) (joined (map names ts)) more)))
 
-    pub member_more : (x : Term) → IsMember constants x ts left old mid hit miss rest
-        → Decides constants (names x ++ names t) (λ env. nat_eq (value words env x) (value words env t)) mid new hit rest place → IsMember constants x ts next old new hit miss place
-    member_more x d h = (
-      omega (arith, d.0),
-      subst (λ xs. Decides constants (names x ++ joined (map names xs)) (λ env. some (compare_words op.Eq (value words env x)) (map (value words env) xs)) old new hit miss place)
-          (sym (split ts t left next down (omega (arith, d.0)) here))
-          (decides_as constants ((names x ++ names t) ++ (names x ++ joined (map names (drop left ts)))) (names x ++ (names t ++ joined (map names (drop left ts))))
-          (λ env. nat_eq (value words env x) (value words env t) || some (compare_words op.Eq (value words env x)) (map (value words env) (drop left ts)))
-          (λ env. some (compare_words op.Eq (value words env x)) (map (value words env) (t ∷ drop left ts))) old new hit miss place
-          (decides_or constants (names x ++ names t) (names x ++ joined (map names (drop left ts))) (λ env. nat_eq (value words env x) (value words env t))
-          (λ env. some (compare_words op.Eq (value words env x)) (map (value words env) (drop left ts))) old mid new hit miss rest place d.1 h)
-          (λ rows w. twice rows (names x) (names t) (joined (map names (drop left ts))) w) (λ env rows b w. refl)),
-    )
-      where
-        twice : (rows : ℕ) (xs ys zs : List ℕ) → Within rows (xs ++ (ys ++ zs)) → Within rows ((xs ++ ys) ++ (xs ++ zs))
-        twice rows xs ys zs w =
-            let one = each_left (λ id. id < rows) xs (ys ++ zs) w in
-            let more = each_right (λ id. id < rows) xs (ys ++ zs) w in
-            each_both (λ id. id < rows) (xs ++ ys) (xs ++ zs)
-            (each_both (λ id. id < rows) xs ys one (each_left (λ id. id < rows) ys zs more))
-            (each_both (λ id. id < rows) xs zs one (each_right (λ id. id < rows) ys zs more))
+-- the rows of a comparison with a member, and the test
+abbrev pub pair_names : Term → Term → List ℕ
+pair_names x t = names x ++ names t
 
-  pub all_end : (new : Decisions) (left place : ℕ) → IsAll constants ts left old new hit miss place → left ≡ 0
-      → Decides constants (joined (map names ts)) (λ env. each words.holds (map (value words env) ts)) old new hit miss place
-  all_end new left place d e = subst (λ k. Decides constants (joined (map names (drop k ts))) (λ env. each words.holds (map (value words env) (drop k ts))) old new hit miss place) e d.1
+abbrev pub equals : Term → (ℕ → ℕ) → ℕ → Bool
+equals x env = compare_words op.Eq (value words env x)
 
-  pub some_end : (new : Decisions) (left place : ℕ) → IsSome constants ts left old new hit miss place → left ≡ 0
-      → Decides constants (joined (map names ts)) (λ env. some words.holds (map (value words env) ts)) old new hit miss place
-  some_end new left place d e = subst (λ k. Decides constants (joined (map names (drop k ts))) (λ env. some words.holds (map (value words env) (drop k ts))) old new hit miss place) e d.1
-
-  pub member_end : (new : Decisions) (t x : Term) (left place : ℕ) → t ≡ terms.In x ts → IsMember constants x ts left old new hit miss place → left ≡ 0 → IsTest constants t old new hit miss place
-  member_end new t x left place i d e = subst (λ y. IsTest constants y old new hit miss place) (sym i)
-      (test_as constants old new hit miss place (names x ++ joined (map names ts)) (λ env. some (compare_words op.Eq (value words env x)) (map (value words env) ts)) (terms.In x ts)
-      (subst (λ k. Decides constants (names x ++ joined (map names (drop k ts))) (λ env. some (compare_words op.Eq (value words env x)) (map (value words env) (drop k ts))) old new hit miss place) e d.1)
-      (names_In x ts) (λ env. value_In words env x ts))
+pub test_member : (constants : List ℕ) (x : Term) (ts : List Term) (old new : Decisions) (to : Targets) (place : ℕ)
+    → Decides constants (joined (map (pair_names x) ts)) (λ env. quantified Any (equals x env) (map (value words env) ts)) old new to place → IsTest constants (terms.In x ts) old new to place
+test_member constants x ts old new to place d =
+    test_as constants old new to place (names x ++ joined (map names ts)) (λ env. some (equals x env) (map (value words env) ts)) (terms.In x ts)
+    (decides_as constants (joined (map (pair_names x) ts)) (names x ++ joined (map names ts)) (λ env. some (equals x env) (map (value words env) ts)) (λ env. some (equals x env) (map (value words env) ts)) old new to place d
+    (λ rows w. within_each rows (names x) ts w) (λ env rows b w. refl)) (names_In x ts) (λ env. value_In words env x ts)

@@ -1,5 +1,5 @@
 -- Nodes that are appended: where they lead.
-use Rattle.std.proofs.Common.{◌≡◌, ◌+◌, ◌<◌, ◌≤◌, nat_eq, nat_lt, ℕ, Bool, true, false, if◌then◌else◌, List, [], ◌∷◌, ◌++◌, inl, inr, length, set, refl, sym, ap, subst, ◌∙◌, arith}
+use Rattle.std.proofs.Common.{◌≡◌, ◌+◌, ◌<◌, ◌≤◌, nat_eq, nat_lt, ℕ, Bool, true, false, List, [], ◌∷◌, ◌++◌, inl, inr, length, set, refl, sym, ap, subst, ◌∙◌, arith}
 use Rattle.std.proofs.lemmas.Bool.{cases_lt, cond_both, ltb-true, ltb-false, ne_eqb}
 use Rattle.std.proofs.lemmas.List.{append-nil, get_or_append_left, get_or_at, get_or-set_same, get_or-set_other, length-append, length-set}
 use Rattle.std.proofs.lemmas.Option.{slice_get-get_or}
@@ -12,7 +12,8 @@ use Rattle.hcl_compile.specs.declared.node.TheConstants.{ROWS}
 use Rattle.hcl_compile.specs.declared.node.Ask.TheVariants.{Code, Same, Holds, Value}
 use Rattle.hcl_compile.specs.declared.node.Node.{Node}
 use Rattle.hcl_compile.specs.declared.decisions.Decisions.{Decisions}
-use Rattle.hcl_compile.specs.Making.{Comes, Decides, IsAdded, IsTest, IsValue, Keeps}
+use Rattle.hcl_compile.specs.declared.targets.Targets.{Targets}
+use Rattle.hcl_compile.specs.Making.{Comes, Decides, IsAdded, IsTest, IsValue, Keeps, chosen}
 use Rattle.hcl_compile.specs.Walks.{at_value, at_node, HasAnswer, answer, code_answer, yes_or_no}
 use Rattle.hcl_compile.proofs.Walked.{append_gets, inside, kept, question_end}
 
@@ -63,17 +64,17 @@ module _ (node : Node) (old new : Decisions) (place : ℕ) (added : IsAdded node
   added_value env rows k asks within = at_value place (value words env (term_at new.terms.items k)) k node added.1 added_found asks within refl
 
 -- where a question of yes or no leads
-yes_no_target : (hit miss : ℕ) (next : List ℕ) (b : Bool) → at (hit ∷ miss ∷ next) (yes_or_no b) ≡ (if b then hit else miss)
-yes_no_target hit miss next true = refl
-yes_no_target hit miss next false = refl
+yes_no_target : (to : Targets) (next : List ℕ) (b : Bool) → at (to.hit ∷ to.miss ∷ next) (yes_or_no b) ≡ chosen to b
+yes_no_target to next true = refl
+yes_no_target to next false = refl
 
-pub put_same_decides : (left right hit miss : ℕ) (old new : Decisions) (place : ℕ) (next : List ℕ) → IsAdded (record { ask = Same left right; next = hit ∷ miss ∷ next }) old new place
-    → (constants : List ℕ) → Decides constants (left ∷ right ∷ []) (λ env. nat_eq (env left) (env right)) old new hit miss place
-put_same_decides left right hit miss old new place next added constants = record {
-  keeps = added_keeps (record { ask = Same left right; next = hit ∷ miss ∷ next }) old new place added;
+pub put_same_decides : (left right : ℕ) (to : Targets) (old new : Decisions) (place : ℕ) (next : List ℕ) → IsAdded (record { ask = Same left right; next = to.hit ∷ to.miss ∷ next }) old new place
+    → (constants : List ℕ) → Decides constants (left ∷ right ∷ []) (λ env. nat_eq (env left) (env right)) old new to place
+put_same_decides left right to old new place next added constants = record {
+  keeps = added_keeps (record { ask = Same left right; next = to.hit ∷ to.miss ∷ next }) old new place added;
   leads = λ env rows word begins within c.
-      added_leads (record { ask = Same left right; next = hit ∷ miss ∷ next }) old new place added env rows word (if nat_eq (env left) (env right) then hit else miss) (within.0, within.1.0)
-      (yes_no_target hit miss next (nat_eq (env left) (env right))) c;
+      added_leads (record { ask = Same left right; next = to.hit ∷ to.miss ∷ next }) old new place added env rows word (chosen to (nat_eq (env left) (env right))) (within.0, within.1.0)
+      (yes_no_target to next (nat_eq (env left) (env right))) c;
 }
 
 -- ---- terms that nodes ask as they are
@@ -81,15 +82,15 @@ put_same_decides left right hit miss old new place next added constants = record
 term_added : (old new : List Term) (t : Term) (k : ℕ) → k ≡ length old → new ≡ old ++ t ∷ [] → (k < length new) × (term_at new k ≡ t)
 term_added old new t k e n = (omega (arith, e, ap length n, length-append old (t ∷ [])), ap (λ xs. term_at xs k) n ∙ get_or_at old t [] (Num 0) k (sym e))
 
-pub put_term_decides : (t : Term) (hit miss : ℕ) (old mid new : Decisions) (k place : ℕ) (next : List ℕ)
+pub put_term_decides : (t : Term) (to : Targets) (old mid new : Decisions) (k place : ℕ) (next : List ℕ)
     → (k ≡ length old.terms.items) × (mid.terms.items ≡ old.terms.items ++ t ∷ []) × (mid.nodes.items ≡ old.nodes.items)
-    → IsAdded (record { ask = Holds k; next = hit ∷ miss ∷ next }) mid new place → (constants : List ℕ) → IsTest constants t old new hit miss place
-put_term_decides t hit miss old mid new k place next grown added constants = record {
-  keeps = keeps_both old mid new before (added_keeps (record { ask = Holds k; next = hit ∷ miss ∷ next }) mid new place added);
+    → IsAdded (record { ask = Holds k; next = to.hit ∷ to.miss ∷ next }) mid new place → (constants : List ℕ) → IsTest constants t old new to place
+put_term_decides t to old mid new k place next grown added constants = record {
+  keeps = keeps_both old mid new before (added_keeps (record { ask = Holds k; next = to.hit ∷ to.miss ∷ next }) mid new place added);
   leads = λ env rows word begins within c.
-      added_leads (record { ask = Holds k; next = hit ∷ miss ∷ next }) mid new place added env rows word (if words.holds (value words env t) then hit else miss) here.0
-      (ap (λ x. at (hit ∷ miss ∷ next) (yes_or_no (words.holds (value words env x)))) here.1 ∙ yes_no_target hit miss next (words.holds (value words env t)))
-      (before env rows (if words.holds (value words env t) then hit else miss) word c);
+      added_leads (record { ask = Holds k; next = to.hit ∷ to.miss ∷ next }) mid new place added env rows word (chosen to (words.holds (value words env t))) here.0
+      (ap (λ x. at (to.hit ∷ to.miss ∷ next) (yes_or_no (words.holds (value words env x)))) here.1 ∙ yes_no_target to next (words.holds (value words env t)))
+      (before env rows (chosen to (words.holds (value words env t))) word c);
 }
   where
     before : Keeps old mid
@@ -100,12 +101,12 @@ put_term_decides t hit miss old mid new k place next grown added constants = rec
 
 pub put_term_ends : (t : Term) (old mid new : Decisions) (k place : ℕ) (next : List ℕ)
     → (k ≡ length old.terms.items) × (mid.terms.items ≡ old.terms.items ++ t ∷ []) × (mid.nodes.items ≡ old.nodes.items)
-    → IsAdded (record { ask = Value k; next = 0 ∷ 0 ∷ next }) mid new place → (constants : List ℕ) → IsValue constants t old new place
+    → IsAdded (record { ask = Value k; next = next }) mid new place → (constants : List ℕ) → IsValue constants t old new place
 put_term_ends t old mid new k place next grown added constants = record {
-  keeps = keeps_both old mid new (keeps_same_nodes old mid (t ∷ []) grown.2 grown.1) (added_keeps (record { ask = Value k; next = 0 ∷ 0 ∷ next }) mid new place added);
+  keeps = keeps_both old mid new (keeps_same_nodes old mid (t ∷ []) grown.2 grown.1) (added_keeps (record { ask = Value k; next = next }) mid new place added);
   ends = λ env rows begins within.
       subst (λ x. Comes env rows new place (value words env x)) here.1
-      (added_value (record { ask = Value k; next = 0 ∷ 0 ∷ next }) mid new place added env rows k refl here.0);
+      (added_value (record { ask = Value k; next = next }) mid new place added env rows k refl here.0);
 }
   where
     here : (k < length new.terms.items) × (term_at new.terms.items k ≡ t)
@@ -117,22 +118,22 @@ put_term_ends t old mid new k place next grown added constants = record {
 abbrev pub Passes : Decisions → ℕ → ℕ → ℕ → ℕ → Type 0
 Passes d name answer target place = (env : ℕ → ℕ) (rows word : ℕ) → code_answer (env name) ≡ answer → Comes env rows d target word → Comes env rows d place word
 
-abbrev pub PassesAll : Decisions → ℕ → ℕ → ℕ → ℕ → List ℕ → ℕ → Type 0
-PassesAll d name code hit miss next upto = (length next ≡ 17) × ((k : ℕ) → k < upto → Passes d name k (if nat_eq k code then hit else miss) (at next k))
+abbrev pub PassesAll : Decisions → ℕ → ℕ → Targets → List ℕ → ℕ → Type 0
+PassesAll d name code to next upto = (length next ≡ 17) × ((k : ℕ) → k < upto → Passes d name k (chosen to (nat_eq k code)) (at next k))
 
-pub passes_more : (d : Decisions) (name code hit miss : ℕ) (next more : List ℕ) (k place : ℕ) → k < 17 → PassesAll d name code hit miss next k → Passes d name k (if nat_eq k code then hit else miss) place
-    → more ≡ set next k place → PassesAll d name code hit miss more (k + 1)
-passes_more d name code hit miss next more k place low all here is = subst (λ xs. PassesAll d name code hit miss xs (k + 1)) (sym is) (length-set next k place ∙ all.0, each)
+pub passes_more : (d : Decisions) (name code : ℕ) (to : Targets) (next more : List ℕ) (k place : ℕ) → k < 17 → PassesAll d name code to next k → Passes d name k (chosen to (nat_eq k code)) place
+    → more ≡ set next k place → PassesAll d name code to more (k + 1)
+passes_more d name code to next more k place low all here is = subst (λ xs. PassesAll d name code to xs (k + 1)) (sym is) (length-set next k place ∙ all.0, each)
   where
-    each : (j : ℕ) → j < k + 1 → Passes d name j (if nat_eq j code then hit else miss) (at (set next k place) j)
+    each : (j : ℕ) → j < k + 1 → Passes d name j (chosen to (nat_eq j code)) (at (set next k place) j)
     each j h = elim (cases_lt j k) [
-      | inl lt ↦ subst (Passes d name j (if nat_eq j code then hit else miss)) (sym (get_or-set_other next k j place 0 (λ e. omega arith))) (all.1 j lt)
+      | inl lt ↦ subst (Passes d name j (chosen to (nat_eq j code))) (sym (get_or-set_other next k j place 0 (λ e. omega arith))) (all.1 j lt)
       | inr le ↦ at_last (omega arith)
     ]
       where
-        at_last : k ≡ j → Passes d name j (if nat_eq j code then hit else miss) (at (set next k place) j)
-        at_last e = subst (λ x. Passes d name x (if nat_eq x code then hit else miss) (at (set next k place) x)) e
-            (subst (Passes d name k (if nat_eq k code then hit else miss)) (sym (get_or-set_same next k place 0 (omega (arith, all.0)))) here)
+        at_last : k ≡ j → Passes d name j (chosen to (nat_eq j code)) (at (set next k place) j)
+        at_last e = subst (λ x. Passes d name x (chosen to (nat_eq x code)) (at (set next k place) x)) e
+            (subst (Passes d name k (chosen to (nat_eq k code))) (sym (get_or-set_same next k place 0 (omega (arith, all.0)))) here)
 
 pub code_small : (code : ℕ) → code_answer code < 17
 code_small code = cond_both (nat_lt code 16) code 16 (λ x. x < 17) (λ e. omega (arith, ltb-true code 16 e)) (λ _. omega arith)
@@ -141,14 +142,14 @@ same_code : (x code : ℕ) → code < 16 → nat_eq (code_answer x) code ≡ nat
 same_code x code low = cond_both (nat_lt x 16) x 16 (λ a. nat_eq a code ≡ nat_eq x code) (λ e. refl)
     (λ e. ne_eqb 16 code (λ f. omega arith) ∙ sym (ne_eqb x code (λ f. omega (arith, ltb-false x 16 e))))
 
-pub put_code_decides : (name code hit miss : ℕ) (old new : Decisions) (place : ℕ) (next : List ℕ) (upto : ℕ) → code < 16 → PassesAll old name code hit miss next upto → 17 ≤ upto
-    → IsAdded (record { ask = Code name; next = next }) old new place → (constants : List ℕ) → Decides constants (name ∷ []) (λ env. nat_eq (env name) code) old new hit miss place
-put_code_decides name code hit miss old new place next upto low all whole added constants = record {
+pub put_code_decides : (name code : ℕ) (to : Targets) (old new : Decisions) (place : ℕ) (next : List ℕ) (upto : ℕ) → code < 16 → PassesAll old name code to next upto → 17 ≤ upto
+    → IsAdded (record { ask = Code name; next = next }) old new place → (constants : List ℕ) → Decides constants (name ∷ []) (λ env. nat_eq (env name) code) old new to place
+put_code_decides name code to old new place next upto low all whole added constants = record {
   keeps = added_keeps (record { ask = Code name; next = next }) old new place added;
   leads = λ env rows word begins within c.
       added_leads (record { ask = Code name; next = next }) old new place added env rows word (at next (code_answer (env name))) within.0 refl
       (all.1 (code_answer (env name)) (omega (arith, code_small (env name))) env rows word refl
-      (subst (λ b. Comes env rows old (if b then hit else miss) word) (sym (same_code (env name) code low)) c));
+      (subst (λ b. Comes env rows old (chosen to b) word) (sym (same_code (env name) code low)) c));
 }
 
 -- past a node that asks for the same code

@@ -15,7 +15,8 @@ use Rattle.hcl_compile.specs.declared.node.Node.{Node}
 use Rattle.hcl_compile.specs.declared.decisions.Decisions.{Decisions}
 use Rattle.hcl_compile.specs.declared.equality.Equality.TheVariants.{Known, Rows, Code, Other}
 use Rattle.hcl_compile.specs.declared.numbers.Operand.TheVariants.{Number, Row}
-use Rattle.hcl_compile.specs.Making.{Comes, Decides, IsEquality, IsNumber, IsOperand, IsTest, IsTruth, IsValue, IsValued, Says, code_equality}
+use Rattle.hcl_compile.specs.declared.targets.Targets.{Targets}
+use Rattle.hcl_compile.specs.Making.{Comes, Decides, IsEquality, IsNumber, IsOperand, IsTest, IsTruth, IsValue, IsValued, Says, chosen, code_equality}
 use Rattle.hcl_compile.specs.Walks.{Begins, Ends, at_row, Within}
 use Rattle.hcl_compile.proofs.Choosing.{decides_known, drop_whole, split, valued_branch}
 use Rattle.hcl_compile.proofs.Made.{keeps_all}
@@ -64,14 +65,14 @@ is_truth = induct TruthUnless (λ b. Unit {0})
     (λ b p q. tt)
 
 module _ (constants : List ℕ) where
-  pub truth_value : (t : Term) (old new : Decisions) (hit miss place : ℕ) → IsTruth t → IsNumber constants 1 hit → IsNumber constants 0 miss
-      → IsTest constants t old new hit miss place → IsValue constants t old new place
-  truth_value t old new hit miss place truth one zero' d = record {
+  pub truth_value : (t : Term) (old new : Decisions) (to : Targets) (place : ℕ) → IsTruth t → IsNumber constants 1 to.hit → IsNumber constants 0 to.miss
+      → IsTest constants t old new to place → IsValue constants t old new place
+  truth_value t old new to place truth one zero' d = record {
     keeps = d.keeps;
     ends = λ env rows begins within. d.leads env rows (value words env t) begins within (by (truth env).0 env rows begins (truth env).1);
   }
     where
-      by : (b : Bool) (env : ℕ → ℕ) (rows : ℕ) → Begins constants env rows → value words env t ≡ words.bool b → Comes env rows old (if words.holds (value words env t) then hit else miss) (value words env t)
+      by : (b : Bool) (env : ℕ → ℕ) (rows : ℕ) → Begins constants env rows → value words env t ≡ words.bool b → Comes env rows old (chosen to (words.holds (value words env t))) (value words env t)
       by true env rows begins e = rw e (one old.terms.items old.nodes.items env rows begins)
       by false env rows begins e = rw e (zero' old.terms.items old.nodes.items env rows begins)
 
@@ -104,7 +105,7 @@ module _ (constants : List ℕ) (bs : List TermBranch) (old : Decisions) where
       nothing = ap (λ k. drop k bs) e ∙ drop_whole bs
 
   pub case_more : (mid later new : Decisions) (b : TermBranch) (left next rest taken place : ℕ) → next + 1 ≡ left → b ≡ get_or bs next b → IsCase constants bs left old mid rest
-      → IsValue constants b.value mid later taken → IsTest constants b.guard later new taken rest place → IsCase constants bs next old new place
+      → IsValue constants b.value mid later taken → IsTest constants b.guard later new (record { hit = taken; miss = rest }) place → IsCase constants bs next old new place
   case_more mid later new b left next rest taken place down here r v d = (
     omega (arith, r.0),
     subst (λ xs. IsValued constants (joined (map branch_names xs)) (λ env. picked words.holds 0 (map (branch_value words env) xs)) old new place)
@@ -151,27 +152,27 @@ module _ (constants : List ℕ) (x y : Term) where
       )
       by false = tt
 
-  abbrev pub Equal : Decisions → Decisions → ℕ → ℕ → ℕ → Type 0
-  Equal old new hit miss place = Decides constants (names x ++ names y) (λ env. nat_eq (value words env x) (value words env y)) old new hit miss place
+  abbrev pub Equal : Decisions → Decisions → Targets → ℕ → Type 0
+  Equal old new to place = Decides constants (names x ++ names y) (λ env. nat_eq (value words env x) (value words env y)) old new to place
 
-  pub put_known : (b : Bool) (d : Decisions) (hit miss place : ℕ) → IsEquality constants x y (Known b) → place ≡ (if b then hit else miss) → Equal d d hit miss place
-  put_known b d hit miss place e p = decides_known constants (names x ++ names y) (λ env. nat_eq (value words env x) (value words env y)) b d hit miss place
+  pub put_known : (b : Bool) (d : Decisions) (to : Targets) (place : ℕ) → IsEquality constants x y (Known b) → place ≡ chosen to b → Equal d d to place
+  put_known b d to place e p = decides_known constants (names x ++ names y) (λ env. nat_eq (value words env x) (value words env y)) b d to place
       (λ env rows begins within. e env rows begins (each_left (λ id. id < rows) (names x) (names y) within) (each_right (λ id. id < rows) (names x) (names y) within)) p
 
-  pub put_rows : (a b : ℕ) (old new : Decisions) (hit miss place : ℕ) → IsEquality constants x y (Rows a b) → Decides constants (a ∷ b ∷ []) (λ env. nat_eq (env a) (env b)) old new hit miss place
-      → Equal old new hit miss place
-  put_rows a b old new hit miss place e d = record {
+  pub put_rows : (a b : ℕ) (old new : Decisions) (to : Targets) (place : ℕ) → IsEquality constants x y (Rows a b) → Decides constants (a ∷ b ∷ []) (λ env. nat_eq (env a) (env b)) old new to place
+      → Equal old new to place
+  put_rows a b old new to place e d = record {
     keeps = d.keeps;
     leads = λ env rows word begins within c.
         let s = e env rows begins (each_left (λ id. id < rows) (names x) (names y) within) (each_right (λ id. id < rows) (names x) (names y) within) in
-        d.leads env rows word begins (s.0, (s.1, tt)) (subst (λ t. Comes env rows old (if t then hit else miss) word) s.2 c);
+        d.leads env rows word begins (s.0, (s.1, tt)) (subst (λ t. Comes env rows old (chosen to t) word) s.2 c);
   }
 
-  pub put_row_code : (a n : ℕ) (old new : Decisions) (hit miss place : ℕ) → IsEquality constants x y (Code a n) → Decides constants (a ∷ []) (λ env. nat_eq (env a) n) old new hit miss place
-      → Equal old new hit miss place
-  put_row_code a n old new hit miss place e d = record {
+  pub put_row_code : (a n : ℕ) (old new : Decisions) (to : Targets) (place : ℕ) → IsEquality constants x y (Code a n) → Decides constants (a ∷ []) (λ env. nat_eq (env a) n) old new to place
+      → Equal old new to place
+  put_row_code a n old new to place e d = record {
     keeps = d.keeps;
     leads = λ env rows word begins within c.
         let s = e env rows begins (each_left (λ id. id < rows) (names x) (names y) within) (each_right (λ id. id < rows) (names x) (names y) within) in
-        d.leads env rows word begins (s.0, tt) (subst (λ t. Comes env rows old (if t then hit else miss) word) s.1 c);
+        d.leads env rows word begins (s.0, tt) (subst (λ t. Comes env rows old (chosen to t) word) s.1 c);
   }

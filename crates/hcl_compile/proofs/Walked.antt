@@ -98,7 +98,11 @@ pub record IsUnderWay (env : ℕ → ℕ) (rows : ℕ) (terms : List Term) (node
   pub ends : (word : ℕ) × Ends env rows terms nodes place word
   pub same : (word : ℕ) → Ends env rows terms nodes target word → Ends env rows terms nodes place word
 
-module _ (env : ℕ → ℕ) (rows : ℕ) (terms : List Term) (nodes : List Node) (place : ℕ) (other : Node) (low : place < ROWS) where
+-- what is read past the last node
+abbrev pub other : Node
+other = record { ask = Code 0; next = [] }
+
+module _ (env : ℕ → ℕ) (rows : ℕ) (terms : List Term) (nodes : List Node) (place : ℕ) (low : place < ROWS) where
   pub here : (word : ℕ) × Ends env rows terms nodes place word → place < length nodes
   here ends = omega (arith, inside env rows terms nodes place ends.0 ends.1, steps_node place low)
 

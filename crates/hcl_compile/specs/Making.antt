@@ -1,6 +1,7 @@
 -- Nodes as they are made: what was there keeps its words, and a new target leads where it should.
-use Rattle.std.specs.Prelude.{ℕ, ◌≡◌, ◌<◌, nat_eq, nat_lt, Bool, if◌then◌else◌, List, [], ◌∷◌, ◌++◌, length}
+use Rattle.std.specs.Prelude.{ℕ, ◌≡◌, ◌<◌, nat_eq, nat_lt, Bool, if◌then◌else◌, List, [], ◌∷◌, ◌++◌, length, MatchOption, Option}
 use Rattle.hcl_types.specs.declared.term.Term.{Term}
+use Rattle.hcl_types.specs.Lists.{each, some}
 use Rattle.hcl_types.specs.Terms.{names, value, words}
 use Rattle.hcl_compile.specs.declared.node.TheConstants.{ROWS}
 use Rattle.hcl_compile.specs.declared.node.Node.{Node}
@@ -9,7 +10,33 @@ use Rattle.hcl_compile.specs.declared.equality.Equality.{Equality}
 use Rattle.hcl_compile.specs.declared.equality.Equality.TheVariants as equality
 use Rattle.hcl_compile.specs.declared.numbers.Operand.{Operand}
 use Rattle.hcl_compile.specs.declared.numbers.Operand.TheVariants as operand
+use Rattle.hcl_compile.specs.declared.targets.Quantifier.{Quantifier}
+use Rattle.hcl_compile.specs.declared.targets.Quantifier.TheVariants.{All, Any}
+use Rattle.hcl_compile.specs.declared.targets.Targets.{Targets}
 use Rattle.hcl_compile.specs.Walks.{Begins, Ends, Within}
+
+-- where a test leads whose answer is known
+abbrev pub chosen : Targets → Bool → ℕ
+chosen to test = if test then to.hit else to.miss
+
+-- the targets the other way round, as those of the negated test
+abbrev pub swapped : Targets → Targets
+swapped to = record { hit = to.miss; miss = to.hit }
+
+-- whether all of some elements pass a test, or any of them
+abbrev pub quantified : {A : Type 0} → Quantifier → (A → Bool) → List A → Bool
+quantified All p xs = each p xs
+quantified Any p xs = some p xs
+
+-- where an empty list leads
+abbrev pub of_none : Quantifier → Targets → ℕ
+of_none All to = to.hit
+of_none Any to = to.miss
+
+-- the targets of an element, where the decision of those after it begins at rest
+abbrev pub ahead_of : Quantifier → ℕ → Targets → Targets
+ahead_of All rest to = record { hit = rest; miss = to.miss }
+ahead_of Any rest to = record { hit = to.hit; miss = rest }
 
 -- the walk from a target ends with a word, over nodes as far as they are made
 abbrev pub Comes : (ℕ → ℕ) → ℕ → Decisions → ℕ → ℕ → Type 0
@@ -23,15 +50,22 @@ Keeps old new = (env : ℕ → ℕ) (rows target word : ℕ) → Comes env rows 
 abbrev pub IsAdded : Node → Decisions → Decisions → ℕ → Type 0
 IsAdded node old new place = (place ≡ length old.nodes.items) × (place < ROWS) × (new.nodes.items ≡ old.nodes.items ++ node ∷ []) × (new.terms.items ≡ old.terms.items)
 
--- the place leads on to hit where a test of the values is true, and else to miss; the test needs the rows of ids
-pub record Decides (constants ids : List ℕ) (test : (ℕ → ℕ) → Bool) (old new : Decisions) (hit miss place : ℕ) : Type 0 where
+-- the place leads on to the target that a test of the values chooses; the test needs the rows of ids
+pub record Decides (constants ids : List ℕ) (test : (ℕ → ℕ) → Bool) (old new : Decisions) (to : Targets) (place : ℕ) : Type 0 where
   pub keeps : Keeps old new
-  pub leads : (env : ℕ → ℕ) (rows word : ℕ) → Begins constants env rows → Within rows ids → Comes env rows old (if test env then hit else miss) word
-      → Comes env rows new place word
+  pub leads : (env : ℕ → ℕ) (rows word : ℕ) → Begins constants env rows → Within rows ids → Comes env rows old (chosen to (test env)) word → Comes env rows new place word
+
+-- either there is such a place, or there is none and what was there keeps its words
+abbrev pub MayDecide : List ℕ → List ℕ → ((ℕ → ℕ) → Bool) → Decisions → Decisions → Targets → Option ℕ → Type 0
+MayDecide constants ids test old new to found = MatchOption found (Keeps old new) (Decides constants ids test old new to)
 
 -- the place leads on to hit where the term holds, and else to miss
-abbrev pub IsTest : List ℕ → Term → Decisions → Decisions → ℕ → ℕ → ℕ → Type 0
+abbrev pub IsTest : List ℕ → Term → Decisions → Decisions → Targets → ℕ → Type 0
 IsTest constants t = Decides constants (names t) (λ env. words.holds (value words env t))
+
+-- either there is such a place, or there is none
+abbrev pub MayTest : List ℕ → Term → Decisions → Decisions → Targets → Option ℕ → Type 0
+MayTest constants t = MayDecide constants (names t) (λ env. words.holds (value words env t))
 
 -- the walk from the place ends with the value of f, which needs the rows of ids
 pub record IsValued (constants ids : List ℕ) (f : (ℕ → ℕ) → ℕ) (old new : Decisions) (place : ℕ) : Type 0 where

@@ -1,163 +1,157 @@
 //! Decisions of terms.
-ghost use Rattle.std.specs.Prelude.{◌≡◌, ◌++◌, nat_eq, IfOk, map};
-ghost use Rattle.hcl_types.specs.declared.term.Term.TheVariants.{Case, Cmp, In};
-ghost use Rattle.hcl_types.specs.Lists.{each, some};
+ghost use Rattle.std.specs.Prelude.{◌++◌, IfOk, map};
+ghost use Rattle.hcl_types.specs.declared.term.Term.TheVariants.{Cmp, In};
 ghost use Rattle.hcl_types.specs.Terms.{branch_names, branch_value, joined, names, picked, value, words};
-ghost use Rattle.hcl_compile.specs.Making.{Decides, IsNumber, IsTest, IsTruth, IsValue, IsValued};
+ghost use Rattle.hcl_compile.specs.Making.{Decides, IsNumber, IsTest, IsTruth, IsValue, IsValued, MayTest, quantified};
 
-use crate::decisions::{Decisions, chosen, put_code, put_term, put_term_value};
+use crate::decisions::{Decisions, put_code, put_term, put_term_value};
 use crate::equality::put_equal;
 use crate::numbers::{Operand, number_target, operand_target, read_operand};
+use crate::targets::{Quantifier, Targets};
 use hcl_types::{CmpOp, Term, TermBranch};
 use std::alloc::Global;
 use y86_base::Memory;
 
-/// Makes the decision of whether a term holds, which leads to `hit` or to `miss`, and tells where it begins. Decisions are made from the
-/// last one, so that each knows where it leads.
+/// Makes the decision of whether a term holds, and tells where it begins. Decisions are made from the last one, so that each knows where
+/// it leads.
 #[cycle(testing)]
 fn put_test(
     alloc: Global,
     t: &Term,
     constants: &[u64],
-    hit: u32,
-    miss: u32,
+    to: Targets,
     d: &mut Decisions,
 ) -> Result<u32, Memory>
-    ensures { IfOk result (IsTest constants.now t.now d.old d.new hit miss) }
+    ensures { IfOk result (IsTest constants.now t.now d.old d.new to) }
 {
     match t {
-        Term::Not(x) => Ok(put_test(alloc, x.get(), constants, miss, hit, d)?),
-        Term::And(all) => Ok(put_all(alloc, all.items(), constants, hit, miss, d)?),
-        Term::Or(all) => Ok(put_some(alloc, all.items(), constants, hit, miss, d)?),
-        Term::Cmp(op, x, y) => put_comparison(
+        Term::Not(x) => put_test(alloc, x.get(), constants, to.swapped(), d),
+        Term::And(all) => put_terms(alloc, Quantifier::All, all.items(), constants, to, d),
+        Term::Or(all) => put_terms(alloc, Quantifier::Any, all.items(), constants, to, d),
+        _ => put_undivided(alloc, t, constants, to, d),
+    }
+}
+
+/// Whether all of some terms hold, or any of them.
+#[cycle(testing)]
+fn put_terms(
+    alloc: Global,
+    quantifier: Quantifier,
+    all: &[Term],
+    constants: &[u64],
+    to: Targets,
+    d: &mut Decisions,
+) -> Result<u32, Memory>
+    ensures { IfOk result (Decides constants.now (joined (map names all.now)) (λ env. quantified quantifier words.holds (map (value words env) all.now)) d.old d.new to) }
+{
+    let mut place = quantifier.of_none(to);
+    let mut left = all.len();
+    while left > 0 {
+        left -= 1;
+        place = put_test(
             alloc,
-            t,
-            *op,
-            x.get(),
-            y.get(),
+            &all[left],
             constants,
-            hit,
-            miss,
+            quantifier.ahead_of(place, to),
             d,
-        ),
-        Term::In(x, all) => put_membership(alloc, t, x.get(), all.items(), constants, hit, miss, d),
-        _ => put_plain(alloc, t, constants, hit, miss, d),
-    }
-}
-
-/// Whether each of some terms holds.
-#[cycle(testing)]
-fn put_all(
-    alloc: Global,
-    all: &[Term],
-    constants: &[u64],
-    hit: u32,
-    miss: u32,
-    d: &mut Decisions,
-) -> Result<u32, Memory>
-    ensures { IfOk result (Decides constants.now (joined (map names all.now)) (λ env. each words.holds (map (value words env) all.now)) d.old d.new hit miss) }
-{
-    let mut place = hit;
-    let mut left = all.len();
-    while left > 0 {
-        left -= 1;
-        place = put_test(alloc, &all[left], constants, place, miss, d)?;
+        )?;
     }
     Ok(place)
 }
 
-/// Whether one of some terms holds.
-#[cycle(testing)]
-fn put_some(
-    alloc: Global,
-    all: &[Term],
-    constants: &[u64],
-    hit: u32,
-    miss: u32,
-    d: &mut Decisions,
-) -> Result<u32, Memory>
-    ensures { IfOk result (Decides constants.now (joined (map names all.now)) (λ env. some words.holds (map (value words env) all.now)) d.old d.new hit miss) }
-{
-    let mut place = miss;
-    let mut left = all.len();
-    while left > 0 {
-        left -= 1;
-        place = put_test(alloc, &all[left], constants, hit, place, d)?;
-    }
-    Ok(place)
-}
-
-/// Whether a number or a name holds, or any other term, which is walked as it is.
-fn put_plain(
+/// Whether a term holds that isn't divided into tests: by nodes that ask rows where they can, and else by one that asks the term as it is.
+fn put_undivided(
     alloc: Global,
     t: &Term,
     constants: &[u64],
-    hit: u32,
-    miss: u32,
+    to: Targets,
     d: &mut Decisions,
 ) -> Result<u32, Memory>
-    ensures { IfOk result (IsTest constants.now t.now d.old d.new hit miss) }
+    ensures { IfOk result (IsTest constants.now t.now d.old d.new to) }
+{
+    match put_by_rows(t, constants, to, d)? {
+        Some(place) => Ok(place),
+        None => put_term(alloc, t, to, d),
+    }
+}
+
+/// Whether a term holds, where nodes can ask rows for it.
+fn put_by_rows(
+    t: &Term,
+    constants: &[u64],
+    to: Targets,
+    d: &mut Decisions,
+) -> Result<Option<u32>, Memory>
+    ensures { IfOk result (MayTest constants.now t.now d.old d.new to) }
+{
+    match t {
+        Term::Num(_) | Term::Name(_) => put_operand(t, constants, to, d),
+        Term::Cmp(op, x, y) => put_comparison(*op, x.get(), y.get(), constants, to, d),
+        Term::In(x, all) => put_membership(x.get(), all.items(), constants, to, d),
+        Term::Not(_) | Term::And(_) | Term::Or(_) | Term::Case(_) => Ok(None),
+    }
+}
+
+/// Whether a number or a name holds.
+fn put_operand(
+    t: &Term,
+    constants: &[u64],
+    to: Targets,
+    d: &mut Decisions,
+) -> Result<Option<u32>, Memory>
+    ensures { IfOk result (MayTest constants.now t.now d.old d.new to) }
 {
     match read_operand(t, constants) {
-        Operand::Number(n) => Ok(chosen(n != 0, hit, miss)),
-        Operand::Row(id) => Ok(put_code(id, 0, miss, hit, d)?),
-        Operand::Other => Ok(put_term(alloc, t, hit, miss, d)?),
+        Operand::Number(n) => Ok(Some(to.chosen(n != 0))),
+        Operand::Row(id) => Ok(Some(put_code(id, 0, to.swapped(), d)?)),
+        Operand::Other => Ok(None),
     }
 }
 
-/// Whether `x op y`, the term `t`, holds.
+/// Whether `x op y` holds.
 fn put_comparison(
-    alloc: Global,
-    t: &Term,
     op: CmpOp,
     x: &Term,
     y: &Term,
     constants: &[u64],
-    hit: u32,
-    miss: u32,
+    to: Targets,
     d: &mut Decisions,
-) -> Result<u32, Memory>
-    requires { t.now ≡ Cmp op x.now y.now }
-    ensures { IfOk result (IsTest constants.now t.now d.old d.new hit miss) }
+) -> Result<Option<u32>, Memory>
+    ensures { IfOk result (MayTest constants.now (Cmp op x.now y.now) d.old d.new to) }
 {
     match op {
-        CmpOp::Eq => match put_equal(x, y, constants, hit, miss, d)? {
-            Some(place) => Ok(place),
-            None => Ok(put_term(alloc, t, hit, miss, d)?),
-        },
-        CmpOp::Ne => match put_equal(x, y, constants, miss, hit, d)? {
-            Some(place) => Ok(place),
-            None => Ok(put_term(alloc, t, hit, miss, d)?),
-        },
-        _ => Ok(put_term(alloc, t, hit, miss, d)?),
+        CmpOp::Eq => put_equal(x, y, constants, to, d),
+        CmpOp::Ne => put_equal(x, y, constants, to.swapped(), d),
+        CmpOp::Lt | CmpOp::Le | CmpOp::Gt | CmpOp::Ge => Ok(None),
     }
 }
 
-/// Whether `x in { all }`, the term `t`, holds: `x` is compared with the members from the last on. Where nodes can't ask for one of
-/// them, the term is walked as it is.
+/// Whether `x in { all }` holds: `x` is compared with the members from the last on.
 fn put_membership(
-    alloc: Global,
-    t: &Term,
     x: &Term,
     all: &[Term],
     constants: &[u64],
-    hit: u32,
-    miss: u32,
+    to: Targets,
     d: &mut Decisions,
-) -> Result<u32, Memory>
-    requires { t.now ≡ In x.now all.now }
-    ensures { IfOk result (IsTest constants.now t.now d.old d.new hit miss) }
+) -> Result<Option<u32>, Memory>
+    ensures { IfOk result (MayTest constants.now (In x.now all.now) d.old d.new to) }
 {
-    let mut place = miss;
+    let mut place = to.miss;
     let mut left = all.len();
     while left > 0 {
         left -= 1;
-        match put_equal(x, &all[left], constants, hit, place, d)? {
+        match put_equal(
+            x,
+            &all[left],
+            constants,
+            Quantifier::Any.ahead_of(place, to),
+            d,
+        )? {
             Some(equal) => place = equal,
-            None => return Ok(put_term(alloc, t, hit, miss, d)?),
+            None => return Ok(None),
         }
     }
-    Ok(place)
+    Ok(Some(place))
 }
 
 /// The value of a term that is a truth: 1 where it holds, and else 0.
@@ -166,8 +160,14 @@ fn put_truth(alloc: Global, t: &Term, constants: &[u64], d: &mut Decisions) -> R
     ensures { IfOk result (IsValue constants.now t.now d.old d.new) }
 {
     match (number_target(1, constants), number_target(0, constants)) {
-        (Some(one), Some(zero)) => Ok(put_test(alloc, t, constants, one, zero, d)?),
-        _ => Ok(put_term_value(alloc, t, d)?),
+        (Some(one), Some(zero)) => {
+            let to = Targets {
+                hit: one,
+                miss: zero,
+            };
+            put_test(alloc, t, constants, to, d)
+        }
+        _ => put_term_value(alloc, t, d),
     }
 }
 
@@ -185,11 +185,10 @@ pub fn put_value(
         return Ok(target);
     }
     match t {
-        Term::Num(_) => Ok(put_term_value(alloc, t, d)?),
-        Term::Name(_) => Ok(put_term_value(alloc, t, d)?),
+        Term::Num(_) | Term::Name(_) => put_term_value(alloc, t, d),
         Term::Case(all) => match number_target(0, constants) {
-            Some(none) => Ok(put_case(alloc, all.items(), constants, none, d)?),
-            None => Ok(put_term_value(alloc, t, d)?),
+            Some(none) => put_case(alloc, all.items(), constants, none, d),
+            None => put_term_value(alloc, t, d),
         },
         _ => put_truth(alloc, t, constants, d),
     }
@@ -213,7 +212,11 @@ fn put_case(
         left -= 1;
         let branch = &all[left];
         let value = put_value(alloc, &branch.value, constants, d)?;
-        place = put_test(alloc, &branch.guard, constants, value, place, d)?;
+        let value_or_rest = Targets {
+            hit: value,
+            miss: place,
+        };
+        place = put_test(alloc, &branch.guard, constants, value_or_rest, d)?;
     }
     Ok(place)
 }

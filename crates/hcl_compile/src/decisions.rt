@@ -1,11 +1,12 @@
 //! Decision nodes as they are made.
-ghost use Rattle.std.specs.Prelude.{◌≡◌, ◌<◌, ◌++◌, nat_eq, if◌then◌else◌, IfOk, List, ℕ, [], ◌∷◌, length};
+ghost use Rattle.std.specs.Prelude.{◌≡◌, ◌<◌, ◌++◌, nat_eq, IfOk, List, ℕ, [], ◌∷◌, length};
 ghost use Rattle.hcl_compile.specs.declared.node.TheConstants.{ROWS};
 ghost use Rattle.hcl_compile.specs.Making.{Comes, Decides, IsAdded, IsTest, IsValue};
 ghost use Rattle.hcl_compile.specs.Walks.{code_answer};
 
 use crate::copies::copy_term;
 use crate::node::{Ask, Node, ROWS};
+use crate::targets::Targets;
 use hcl_types::{NameId, Term};
 use std::alloc::Global;
 use y86_base::Memory;
@@ -15,13 +16,6 @@ use y86_base::Memory;
 pub struct Decisions {
     pub nodes: Vec<Node>,
     pub terms: Vec<Term>,
-}
-
-/// One target where a test is true, and else another.
-pub fn chosen(test: bool, hit: u32, miss: u32) -> u32
-    ensures { result ≡ (if test then hit else miss) }
-{
-    if test { hit } else { miss }
 }
 
 /// Appends a node, and tells its place. So many nodes that a place would be a row want more memory than there is.
@@ -36,13 +30,13 @@ fn put(node: Node, d: &mut Decisions) -> Result<u32, Memory>
 }
 
 /// Appends a node that leads to one target where its question is answered by yes, and else to another.
-fn put_question(ask: Ask, hit: u32, miss: u32, d: &mut Decisions) -> Result<u32, Memory>
-    ensures { IfOk result (λ place. (next : List ℕ) × IsAdded (record { ask = ask; next = hit ∷ miss ∷ next }) d.old d.new place) }
+fn put_question(ask: Ask, to: Targets, d: &mut Decisions) -> Result<u32, Memory>
+    ensures { IfOk result (λ place. (next : List ℕ) × IsAdded (record { ask = ask; next = to.hit ∷ to.miss ∷ next }) d.old d.new place) }
 {
     put(
         Node {
             ask,
-            next: [hit, miss, 0, 0, 0, 0, 0, 0, 0, 0, 0, 0, 0, 0, 0, 0, 0],
+            next: [to.hit, to.miss, 0, 0, 0, 0, 0, 0, 0, 0, 0, 0, 0, 0, 0, 0, 0],
         },
         d,
     )
@@ -72,41 +66,27 @@ fn past(target: u32, name: NameId, answer: u64, d: &Decisions) -> u32
 }
 
 /// Whether the code in a row is this one.
-pub fn put_code(
-    name: NameId,
-    code: u64,
-    hit: u32,
-    miss: u32,
-    d: &mut Decisions,
-) -> Result<u32, Memory>
+pub fn put_code(name: NameId, code: u64, to: Targets, d: &mut Decisions) -> Result<u32, Memory>
     requires { code < 16 }
-    ensures { IfOk result (λ place. (constants : List ℕ) → Decides constants (name ∷ []) (λ env. nat_eq (env name) code) d.old d.new hit miss place) }
+    ensures { (constants : List ℕ) → IfOk result (Decides constants (name ∷ []) (λ env. nat_eq (env name) code) d.old d.new to) }
 {
     let mut next = [0; 17];
     for answer in 0..17 {
-        let target = chosen(answer == code, hit, miss);
+        let target = to.chosen(answer == code);
         next[answer as usize] = past(target, name, answer, d);
     }
     let node = Node {
         ask: Ask::Code(name),
         next,
     };
-    let place = put(node, d)?;
-    Ok(place)
+    put(node, d)
 }
 
 /// Whether two rows have one value.
-pub fn put_same(
-    left: NameId,
-    right: NameId,
-    hit: u32,
-    miss: u32,
-    d: &mut Decisions,
-) -> Result<u32, Memory>
-    ensures { IfOk result (λ place. (constants : List ℕ) → Decides constants (left ∷ right ∷ []) (λ env. nat_eq (env left) (env right)) d.old d.new hit miss place) }
+pub fn put_same(left: NameId, right: NameId, to: Targets, d: &mut Decisions) -> Result<u32, Memory>
+    ensures { (constants : List ℕ) → IfOk result (Decides constants (left ∷ right ∷ []) (λ env. nat_eq (env left) (env right)) d.old d.new to) }
 {
-    let place = put_question(Ask::Same(left, right), hit, miss, d)?;
-    Ok(place)
+    put_question(Ask::Same(left, right), to, d)
 }
 
 /// Adds a term that a node asks as it is, and tells its place.
@@ -122,25 +102,21 @@ fn add_term(alloc: Global, t: &Term, d: &mut Decisions) -> Result<u32, Memory>
 }
 
 /// Whether a term holds, which is walked as it is.
-pub fn put_term(
-    alloc: Global,
-    t: &Term,
-    hit: u32,
-    miss: u32,
-    d: &mut Decisions,
-) -> Result<u32, Memory>
-    ensures { IfOk result (λ place. (constants : List ℕ) → IsTest constants t.now d.old d.new hit miss place) }
+pub fn put_term(alloc: Global, t: &Term, to: Targets, d: &mut Decisions) -> Result<u32, Memory>
+    ensures { (constants : List ℕ) → IfOk result (IsTest constants t.now d.old d.new to) }
 {
     let k = add_term(alloc, t, d)?;
-    let place = put_question(Ask::Holds(k), hit, miss, d)?;
-    Ok(place)
+    put_question(Ask::Holds(k), to, d)
 }
 
 /// The value of a term, which is walked as it is.
 pub fn put_term_value(alloc: Global, t: &Term, d: &mut Decisions) -> Result<u32, Memory>
-    ensures { IfOk result (λ place. (constants : List ℕ) → IsValue constants t.now d.old d.new place) }
+    ensures { (constants : List ℕ) → IfOk result (IsValue constants t.now d.old d.new) }
 {
     let k = add_term(alloc, t, d)?;
-    let place = put_question(Ask::Value(k), 0, 0, d)?;
-    Ok(place)
+    let node = Node {
+        ask: Ask::Value(k),
+        next: [0; 17],
+    };
+    put(node, d)
 }

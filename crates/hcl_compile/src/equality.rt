@@ -1,10 +1,11 @@
 //! Equality of two operands.
-ghost use Rattle.std.specs.Prelude.{◌≡◌, ◌++◌, nat_eq, IfOk, IfSome, List, ℕ, MatchOption};
+ghost use Rattle.std.specs.Prelude.{◌≡◌, ◌++◌, nat_eq, IfOk};
 ghost use Rattle.hcl_types.specs.Terms.{names, value, words};
-ghost use Rattle.hcl_compile.specs.Making.{Decides, IsEquality, IsSmall, Keeps, code_equality};
+ghost use Rattle.hcl_compile.specs.Making.{IsEquality, IsSmall, MayDecide, code_equality};
 
-use crate::decisions::{Decisions, chosen, put_code, put_same};
+use crate::decisions::{Decisions, put_code, put_same};
 use crate::numbers::{Operand, read_operand};
+use crate::targets::Targets;
 use hcl_types::{NameId, Term};
 use y86_base::Memory;
 
@@ -49,17 +50,15 @@ pub fn put_equal(
     x: &Term,
     y: &Term,
     constants: &[u64],
-    hit: u32,
-    miss: u32,
+    to: Targets,
     d: &mut Decisions,
 ) -> Result<Option<u32>, Memory>
-    ensures { IfOk result (λ found. MatchOption found (Keeps d.old d.new)
-        (Decides constants.now (names x.now ++ names y.now) (λ env. nat_eq (value words env x.now) (value words env y.now)) d.old d.new hit miss)) }
+    ensures { IfOk result (MayDecide constants.now (names x.now ++ names y.now) (λ env. nat_eq (value words env x.now) (value words env y.now)) d.old d.new to) }
 {
     match compared(x, y, constants) {
-        Equality::Known(equal) => Ok(Some(chosen(equal, hit, miss))),
-        Equality::Rows(left, right) => Ok(Some(put_same(left, right, hit, miss, d)?)),
-        Equality::Code(name, code) => Ok(Some(put_code(name, code, hit, miss, d)?)),
+        Equality::Known(equal) => Ok(Some(to.chosen(equal))),
+        Equality::Rows(left, right) => Ok(Some(put_same(left, right, to, d)?)),
+        Equality::Code(name, code) => Ok(Some(put_code(name, code, to, d)?)),
         Equality::Other => Ok(None),
     }
 }

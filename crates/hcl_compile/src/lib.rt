@@ -9,6 +9,7 @@ mod equality;
 mod machine;
 mod node;
 mod numbers;
+mod targets;
 
 pub use compiler::compile;
 pub use node::{Ask, Compiled, Node, ROWS};

@@ -60,8 +60,7 @@ pub fn takes(b: &mut NetBuilder, ctl: &Controls, name: NameId, want: Wanted) -> 
     ensures begins { Begins b.old b.new }
     ensures made { IfOk result (λ g. IsAsked b.new ctl.now g (λ w α cv. spec.takes cv name (wanted w want))) }
 {
-    let g = one_taken(b, ctl.picks(name), want)?;
-    Ok(g)
+    one_taken(b, ctl.picks(name), want)
 }
 
 /// The signal picks the leaf, if one is asked for.
@@ -77,14 +76,8 @@ pub fn takes_some(
     ensures made { IfOk result (λ g. IsAsked b.new ctl.now g (λ w α cv. spec.takes_some cv name leaf)) }
 {
     match leaf {
-        None => {
-            let g = b.constant(true)?;
-            Ok(g)
-        }
-        Some(leaf) => {
-            let g = takes(b, ctl, name, Wanted::This(leaf))?;
-            Ok(g)
-        }
+        None => b.constant(true),
+        Some(leaf) => takes(b, ctl, name, Wanted::This(leaf)),
     }
 }
 
@@ -107,8 +100,7 @@ pub fn takes_if(
 {
     let first = takes(b, ctl, name, yes)?;
     let second = takes(b, ctl, name, no)?;
-    let g = choose(b, when, first, second)?;
-    Ok(g)
+    choose(b, when, first, second)
 }
 
 /// The signal, a truth, is this one.
@@ -122,6 +114,5 @@ pub fn is_truth(b: &mut NetBuilder, ctl: &Controls, name: NameId, want: bool) ->
     if want {
         return Ok(g);
     }
-    let other = b.not(g)?;
-    Ok(other)
+    b.not(g)
 }

@@ -97,8 +97,7 @@ pub fn register_is(
     ensures begins { Begins b.old b.new }
     ensures made { IfOk result (λ g. IsAsked b.new ctl.now g (λ w α cv. spec.is_number cv name (register_number column (spelt w r_a.first r_a.bits) (spelt w r_b.first r_b.bits)))) }
 {
-    let g = takes(b, ctl, name, register_wanted(column, r_a, r_b))?;
-    Ok(g)
+    takes(b, ctl, name, register_wanted(column, r_a, r_b))
 }
 
 /// The signal is the destination of valE: the register that a column names, or none where it is conditional and the
@@ -124,18 +123,16 @@ pub fn destination_is(
 {
     if conditional {
         let fails = spells(b, cnd, 0)?;
-        let g = takes_if(
+        takes_if(
             b,
             ctl,
             name,
             fails,
             Wanted::This(Leaf::Number(15)),
             register_wanted(column, r_a, r_b),
-        )?;
-        Ok(g)
+        )
     } else {
-        let g = register_is(b, ctl, name, column, r_a, r_b)?;
-        Ok(g)
+        register_is(b, ctl, name, column, r_a, r_b)
     }
 }
 
@@ -154,11 +151,9 @@ pub fn function_is(
     ensures made { IfOk result (λ g. IsAsked b.new ctl.now g (λ w α cv. spec.is_number cv name (alu_function selects (spelt w ifun.first ifun.bits)))) }
 {
     if selects {
-        let g = takes(b, ctl, name, Wanted::Field(ifun))?;
-        Ok(g)
+        takes(b, ctl, name, Wanted::Field(ifun))
     } else {
-        let g = takes(b, ctl, name, Wanted::This(Leaf::Number(0)))?;
-        Ok(g)
+        takes(b, ctl, name, Wanted::This(Leaf::Number(0)))
     }
 }
 
@@ -189,15 +184,14 @@ pub fn status_is(
     ensures begins { Begins b.old b.new }
     ensures made { IfOk result (λ g. IsAsked b.new ctl.now g (λ w α cv. spec.is_number cv name (stat_number (fetch_status (truth b.old error w) icode)))) }
 {
-    let g = takes_if(
+    takes_if(
         b,
         ctl,
         name,
         error,
         Wanted::This(Leaf::Number(3)),
         Wanted::This(Leaf::Number(status_of(icode))),
-    )?;
-    Ok(g)
+    )
 }
 
 /// The signal picks the next PC of a column, if one follows, from the signals valP, valC and valM, where a bit tells whether
@@ -243,13 +237,12 @@ fn jump_is(
     ensures made { IfOk result (λ g. IsAsked b.new ctl.now g (λ w α cv. spec.takes cv name (if set (spelt w cnd.first cnd.bits) then Leaf.Name val_c else Leaf.Name val_p))) }
 {
     let fails = spells(b, cnd, 0)?;
-    let g = takes_if(
+    takes_if(
         b,
         ctl,
         name,
         fails,
         Wanted::This(Leaf::Name(val_p)),
         Wanted::This(Leaf::Name(val_c)),
-    )?;
-    Ok(g)
+    )
 }

@@ -1,5 +1,6 @@
 use Rattle.std.proofs.Common.{◌<◌, ◌||◌, length, List, subst, ap, ◌∙◌, sym, ◌++◌, ◌∷◌, [], if◌then◌else◌}
 use Rattle.std.proofs.lemmas.List.{get_or_read}
+use Rattle.std.proofs.lemmas.Result.{on_ok_weaker}
 use Rattle.ctl_formula.specs.declared.controls.Pick.{Pick}
 use Rattle.nets.specs.Nets.{truth}
 use Rattle.ctl_formula.specs.Chosen.{at, taken}
@@ -38,13 +39,15 @@ returns-in_ok-both-in-Some-clause-is c = λ w y.
     taken_set c.in_ok-both-in-Some.ensures.begins w ps c.in-Some.k c.in_ok-both-in-Some.both c.args.leaf (truth c.args.b.now c.args.gate w) c.requires.within place.within place.same
     (c.in_ok-both-in-Some.ensures.made.is w ∙ ap (λ (q : Pick). truth c.args.b.now q.gate w || truth c.args.b.now c.args.gate w) read) y
 
-pub returns-in_ok-put_pick-in-None-clause-within : goal.returns-in_ok-put_pick-in-None-clause-within
-returns-in_ok-put_pick-in-None-clause-within c =
+pub returns-in-None-clause-within : goal.returns-in-None-clause-within
+returns-in-None-clause-within c =
     let n = length c.args.b.now.gates in
-    subst (λ (xs : List Pick). Within n xs) (sym c.in_ok-put_pick-in-None.ensures)
-    (within_push n c.args.out.now.items (record { leaf = c.args.leaf; gate = c.args.gate }) c.requires.within c.requires.gate)
+    on_ok_weaker c.put_pick.result (λ grown. subst (λ (xs : List Pick). Within n xs) (sym grown)
+    (within_push n c.args.out.now.items (record { leaf = c.args.leaf; gate = c.args.gate }) c.requires.within c.requires.gate))
+    c.put_pick.ensures
 
-pub returns-in_ok-put_pick-in-None-clause-is : goal.returns-in_ok-put_pick-in-None-clause-is
-returns-in_ok-put_pick-in-None-clause-is c = λ w y.
-    ap (λ (xs : List Pick). taken (at c.args.b.now w) xs y) c.in_ok-put_pick-in-None.ensures
-    ∙ taken_push (at c.args.b.now w) c.args.out.now.items (record { leaf = c.args.leaf; gate = c.args.gate }) y
+pub returns-in-None-clause-is : goal.returns-in-None-clause-is
+returns-in-None-clause-is c = λ w y.
+    on_ok_weaker c.put_pick.result (λ grown. ap (λ (xs : List Pick). taken (at c.args.b.now w) xs y) grown
+    ∙ taken_push (at c.args.b.now w) c.args.out.now.items (record { leaf = c.args.leaf; gate = c.args.gate }) y)
+    c.put_pick.ensures

@@ -1,4 +1,5 @@
 use Rattle.std.proofs.Common.{◌-◌, arith}
+use Rattle.std.proofs.lemmas.Result.{IfOk-weaker}
 use Rattle.hcl_compile.proofs.Valuing.{case_end, case_more, is_truth, valued_case}
 use Rattle.hcl_compile.proofs.choices.+valuing.Goals as goal
 
@@ -13,7 +14,6 @@ put_case-returns t c = case_end c.args.constants.now c.args.all.now c.args.d.now
 pub put_value-put_truth-requires : goal.put_value-put_truth-requires
 put_value-put_truth-requires t c = is_truth c.args.t.now c.in_default-t.not-Num c.in_default-t.not-Name c.in_default-t.not-Case
 
-pub put_value-returns-in_ok-put_case-in-Some-number_target : goal.put_value-returns-in_ok-put_case-in-Some-number_target
-put_value-returns-in_ok-put_case-in-Some-number_target t c =
-    valued_case c.args.constants.now c.args.t.now c.in-Case.all c.args.d.now c.put_case.new.d c.in_ok-put_case-in-Some-number_target.field-0 c.in-Case.is
-    (rw c.items.ensures at c.in_ok-put_case-in-Some-number_target.ensures)
+pub put_value-returns-in-Some-number_target : goal.put_value-returns-in-Some-number_target
+put_value-returns-in-Some-number_target t c =
+    IfOk-weaker c.put_case.result _ _ (λ place. valued_case c.args.constants.now c.args.t.now c.in-Case.all c.args.d.now c.put_case.new.d place c.in-Case.is) (rw c.items.ensures at c.put_case.ensures)

@@ -1,12 +1,12 @@
-use Rattle.hcl_compile.proofs.Choosing.{test_behind}
+use Rattle.std.proofs.lemmas.Result.{IfOk-weaker}
+use Rattle.hcl_compile.proofs.Choosing.{may_so, test_equal, test_unequal}
 use Rattle.hcl_compile.proofs.choices.put_comparison.Goals as goal
 
-pub returns-in_ok-put_term-in-None : goal.returns-in_ok-put_term-in-None
-returns-in_ok-put_term-in-None c =
-    test_behind c.args.constants.now c.args.t.now c.args.d.now c.put_equal.new.d c.put_term.new.d c.args.hit c.args.miss c.in_ok-put_term-in-None.field-0
-    (rw c.in-None.is at c.in_ok-place-in-Eq.ensures) (c.in_ok-put_term-in-None.ensures c.args.constants.now)
+pub returns-in-Eq : goal.returns-in-Eq
+returns-in-Eq c =
+    rw c.in-Eq.is (IfOk-weaker c.put_equal.result _ _ (λ found. may_so _ _ _ found (λ place. test_equal c.args.constants.now c.args.d.now c.put_equal.new.d c.args.to place c.args.x.now c.args.y.now)) c.put_equal.ensures)
 
-pub returns-in_ok-put_term-in-None-2 : goal.returns-in_ok-put_term-in-None-2
-returns-in_ok-put_term-in-None-2 c =
-    test_behind c.args.constants.now c.args.t.now c.args.d.now c.put_equal-in-Ne.new.d c.put_term-in-None-2.new.d c.args.hit c.args.miss c.in_ok-put_term-in-None-2.field-0
-    (rw c.in-None-2.is at c.in_ok-place-in-Ne.ensures) (c.in_ok-put_term-in-None-2.ensures c.args.constants.now)
+pub returns-in-Ne : goal.returns-in-Ne
+returns-in-Ne c =
+    rw c.in-Ne.is (IfOk-weaker c.put_equal-in-Ne.result _ _ (λ found. may_so _ _ _ found (λ place. test_unequal c.args.constants.now c.args.d.now c.put_equal-in-Ne.new.d c.args.to place c.args.x.now c.args.y.now))
+    (rw c.swapped.ensures at c.put_equal-in-Ne.ensures))

@@ -1,5 +1,6 @@
+use Rattle.std.proofs.lemmas.Result.{IfOk-weaker}
 use Rattle.hcl_compile.proofs.Made.{put_same_decides}
 use Rattle.hcl_compile.proofs.decisions.put_same.Goals as goal
 
 pub returns : goal.returns
-returns c = put_same_decides c.args.left c.args.right c.args.hit c.args.miss _ _ _ c.in_ok-place.ensures.0 c.in_ok-place.ensures.1
+returns c constants = IfOk-weaker c.put_question.result _ _ (λ place added. put_same_decides c.args.left c.args.right c.args.to _ _ place added.0 added.1 constants) c.put_question.ensures

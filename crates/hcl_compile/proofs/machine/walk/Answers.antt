@@ -1,27 +1,16 @@
-use Rattle.std.proofs.Common.{[], length, arith, sym}
-use Rattle.hcl_types.specs.Terms.{at}
-use Rattle.hcl_compile.specs.declared.node.Node.{Node}
-use Rattle.hcl_compile.specs.declared.node.Ask.TheVariants.{Code}
+use Rattle.std.proofs.Common.{arith, sym}
 use Rattle.hcl_compile.proofs.Walked.{row_end, walk_has, walk_nearer, walk_next}
 use Rattle.hcl_compile.proofs.machine.walk.Goals as goal
 
-abbrev other : Node
-other = record { ask = Code 0; next = [] }
-
 pub loop-place-smaller : goal.loop-place-smaller
-loop-place-smaller c =
-    rw c.answer_to.ensures.value
-    (walk_nearer (at c.args.vals.now) (length c.args.vals.now) c.args.terms.now c.args.nodes.now c.loop-place.place other c.loop-place-test.true c.loop-place.invariant.ends c.in_default.not-Value)
+loop-place-smaller c = rw c.answer_to.ensures.value (walk_nearer _ _ _ _ _ c.loop-place-test.true c.loop-place.invariant.ends c.in_default.not-Value)
 
 pub loop-place-preserved : goal.loop-place-preserved
 loop-place-preserved c =
-    rw c.answer_to.ensures.value
-    (walk_next (at c.args.vals.now) (length c.args.vals.now) c.args.terms.now c.args.nodes.now c.loop-place.place other c.loop-place-test.true c.args.target c.loop-place.invariant.ends c.loop-place.invariant.same
-    c.in_default.not-Value)
+    rw c.answer_to.ensures.value (walk_next _ _ _ _ _ c.loop-place-test.true c.args.target c.loop-place.invariant.ends c.loop-place.invariant.same c.in_default.not-Value)
 
 pub answer_to-requires : goal.answer_to-requires
-answer_to-requires c =
-    walk_has (at c.args.vals.now) (length c.args.vals.now) c.args.terms.now c.args.nodes.now c.loop-place.place other c.loop-place-test.true c.loop-place.invariant.ends c.in_default.not-Value
+answer_to-requires c = walk_has _ _ _ _ _ c.loop-place-test.true c.loop-place.invariant.ends c.in_default.not-Value
 
 pub returns : goal.returns
-returns c word ends = sym (row_end (at c.args.vals.now) (length c.args.vals.now) c.args.terms.now c.args.nodes.now c.loop-place.place word (omega (arith, c.loop-place-test.false)) (c.loop-place.invariant.same word ends)).1
+returns c word ends = sym (row_end _ _ _ _ _ word (omega (arith, c.loop-place-test.false)) (c.loop-place.invariant.same word ends)).1

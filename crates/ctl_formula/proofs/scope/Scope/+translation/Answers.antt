@@ -5,6 +5,7 @@ use Rattle.hcl_types.specs.declared.term.TermBranch.{TermBranch}
 use Rattle.hcl_types.specs.declared.term.TermBranch as bs
 use Rattle.std.proofs.lemmas.List.{at_drop_all}
 use Rattle.std.proofs.lemmas.Bool.{and_parts}
+use Rattle.std.proofs.lemmas.Result.{IfOk-weaker}
 use Rattle.y86_base.proofs.Lists.{item_is}
 use Rattle.ctl_atoms.specs.declared.leaf.Leaf.{Leaf}
 use Rattle.ctl_formula.specs.declared.controls.Pick.{Pick}
@@ -34,48 +35,51 @@ truth-returns-in-Name-clause-is t c = λ w α cv s.
     s.entries c.in-Name.id (Truth c.gate_of.result) c.gate_of.ensures
     ∙ ap (leaf_holds α) (sym (ap (value (picks α) cv) c.in-Name.is ∙ value_Name (picks α) cv c.in-Name.id))
 
-pub truth-returns-in_ok-g-in-Not-clause-is : goal.truth-returns-in_ok-g-in-Not-clause-is
-truth-returns-in_ok-g-in-Not-clause-is t c = λ w α cv s.
+pub truth-returns-in_ok-x-in-Not-clause-is : goal.truth-returns-in_ok-x-in-Not-clause-is
+truth-returns-in_ok-x-in-Not-clause-is t c = λ w α cv s.
     let v = value (picks α) cv in
-    c.in_ok-g-in-Not.ensures.made.is w ∙ (ap not (c.in_ok-x-in-Not.ensures.is w α cv s ∙ ap (λ (x : Term). leaf_holds α (v x)) c.get.ensures)
-    ∙ (sym (holds_bit α (not (leaf_holds α (v c.in-Not.a)))) ∙ ap (leaf_holds α) (sym (ap v c.in-Not.is ∙ value_Not (picks α) cv c.in-Not.a))))
+    IfOk-weaker c.not.result _ _ (λ _ made. made.is w ∙ (ap not (c.in_ok-x-in-Not.ensures.is w α cv s ∙ ap (λ (x : Term). leaf_holds α (v x)) c.get.ensures)
+    ∙ (sym (holds_bit α (not (leaf_holds α (v c.in-Not.a)))) ∙ ap (leaf_holds α) (sym (ap v c.in-Not.is ∙ value_Not (picks α) cv c.in-Not.a)))))
+    c.not.ensures.made
 
-pub truth-returns-in_ok-g-in-And-clause-is : goal.truth-returns-in_ok-g-in-And-clause-is
-truth-returns-in_ok-g-in-And-clause-is t c = λ w α cv s.
+pub truth-returns-in-And-clause-is : goal.truth-returns-in-And-clause-is
+truth-returns-in-And-clause-is t c = λ w α cv s.
     let v = value (picks α) cv in
-    c.in_ok-g-in-And.ensures.is w α cv s ∙ (ap (λ (ts : List Term). each (leaf_holds α) (map v ts)) c.items.ensures
-    ∙ (sym (holds_bit α (each (leaf_holds α) (map v c.in-And.all))) ∙ ap (leaf_holds α) (sym (ap v c.in-And.is ∙ value_And (picks α) cv c.in-And.all))))
+    IfOk-weaker c.all_of.result _ _ (λ _ is. is ∙ (ap (λ (ts : List Term). each (leaf_holds α) (map v ts)) c.items.ensures
+    ∙ (sym (holds_bit α (each (leaf_holds α) (map v c.in-And.all))) ∙ ap (leaf_holds α) (sym (ap v c.in-And.is ∙ value_And (picks α) cv c.in-And.all)))))
+    (c.all_of.ensures.is w α cv s)
 
-pub truth-returns-in_ok-g-in-Or-clause-is : goal.truth-returns-in_ok-g-in-Or-clause-is
-truth-returns-in_ok-g-in-Or-clause-is t c = λ w α cv s.
+pub truth-returns-in-Or-clause-is : goal.truth-returns-in-Or-clause-is
+truth-returns-in-Or-clause-is t c = λ w α cv s.
     let v = value (picks α) cv in
-    c.in_ok-g-in-Or.ensures.is w α cv s ∙ (ap (λ (ts : List Term). some (leaf_holds α) (map v ts)) c.items-in-Or.ensures
-    ∙ (sym (holds_bit α (some (leaf_holds α) (map v c.in-Or.all))) ∙ ap (leaf_holds α) (sym (ap v c.in-Or.is ∙ value_Or (picks α) cv c.in-Or.all))))
+    IfOk-weaker c.any_of.result _ _ (λ _ is. is ∙ (ap (λ (ts : List Term). some (leaf_holds α) (map v ts)) c.items-in-Or.ensures
+    ∙ (sym (holds_bit α (some (leaf_holds α) (map v c.in-Or.all))) ∙ ap (leaf_holds α) (sym (ap v c.in-Or.is ∙ value_Or (picks α) cv c.in-Or.all)))))
+    (c.any_of.ensures.is w α cv s)
 
-pub truth-returns-in_ok-g-in-Cmp-clause-is : goal.truth-returns-in_ok-g-in-Cmp-clause-is
-truth-returns-in_ok-g-in-Cmp-clause-is t c = λ w α cv s.
+pub truth-returns-in_ok-qs-in-Cmp-clause-is : goal.truth-returns-in_ok-qs-in-Cmp-clause-is
+truth-returns-in_ok-qs-in-Cmp-clause-is t c = λ w α cv s.
     let v = value (picks α) cv in
     let first = c.in_ok-ps-in-Cmp.ensures in
     let second = c.in_ok-qs-in-Cmp.ensures in
     let x = subst (λ (z : Term). Picked (at c.word.new.b w) c.in_ok-ps-in-Cmp.ps.items (v z)) c.get-in-Cmp.ensures (first.is w α cv s) in
     let y = subst (λ (z : Term). Picked (at c.word-in-Cmp.new.b w) c.in_ok-qs-in-Cmp.qs.items (v z)) c.get-in-Cmp-2.ensures (second.is w α cv (shows_kept first.begins c.requires.open s)) in
-    c.in_ok-g-in-Cmp.ensures.is w α (v c.in-Cmp.x) (v c.in-Cmp.y) s.atoms
+    IfOk-weaker c.compare.result _ _ (λ _ is. is ∙ (sym (holds_bit α (leaf_cmp α c.in-Cmp.op (v c.in-Cmp.x) (v c.in-Cmp.y)))
+    ∙ ap (leaf_holds α) (sym (ap v c.in-Cmp.is ∙ value_Cmp (picks α) cv c.in-Cmp.op c.in-Cmp.x c.in-Cmp.y))))
+    (c.compare.ensures.is w α (v c.in-Cmp.x) (v c.in-Cmp.y) s.atoms
     (subst (λ (ps : List Pick). Picked (at c.word-in-Cmp.new.b w) ps (v c.in-Cmp.x)) (sym c.as_slice.ensures.value)
     (picked_kept second.begins w c.in_ok-ps-in-Cmp.ps.items first.within (v c.in-Cmp.x) x))
-    (subst (λ (ps : List Pick). Picked (at c.word-in-Cmp.new.b w) ps (v c.in-Cmp.y)) (sym c.as_slice-in-Cmp.ensures.value) y)
-    ∙ (sym (holds_bit α (leaf_cmp α c.in-Cmp.op (v c.in-Cmp.x) (v c.in-Cmp.y)))
-    ∙ ap (leaf_holds α) (sym (ap v c.in-Cmp.is ∙ value_Cmp (picks α) cv c.in-Cmp.op c.in-Cmp.x c.in-Cmp.y)))
+    (subst (λ (ps : List Pick). Picked (at c.word-in-Cmp.new.b w) ps (v c.in-Cmp.y)) (sym c.as_slice-in-Cmp.ensures.value) y))
 
-pub truth-returns-in_ok-g-in-In-clause-is : goal.truth-returns-in_ok-g-in-In-clause-is
-truth-returns-in_ok-g-in-In-clause-is t c = λ w α cv s.
+pub truth-returns-in_ok-ps-in-In-clause-is : goal.truth-returns-in_ok-ps-in-In-clause-is
+truth-returns-in_ok-ps-in-In-clause-is t c = λ w α cv s.
     let v = value (picks α) cv in
     let first = c.in_ok-ps-in-In.ensures in
     let x = subst (λ (z : Term). Picked (at c.word-in-In.new.b w) c.in_ok-ps-in-In.ps.items (v z)) c.get-in-In.ensures (first.is w α cv s) in
-    c.in_ok-g-in-In.ensures.is w α cv (v c.in-In.x) (shows_kept first.begins c.requires.open s)
-    (subst (λ (ps : List Pick). Picked (at c.word-in-In.new.b w) ps (v c.in-In.x)) (sym c.as_slice-in-In.ensures.value) x)
-    ∙ (ap (λ (ts : List Term). some (leaf_cmp α Eq (v c.in-In.x)) (map v ts)) c.items-in-In.ensures
+    IfOk-weaker c.member_of.result _ _ (λ _ is. is ∙ (ap (λ (ts : List Term). some (leaf_cmp α Eq (v c.in-In.x)) (map v ts)) c.items-in-In.ensures
     ∙ (sym (holds_bit α (some (leaf_cmp α Eq (v c.in-In.x)) (map v c.in-In.all)))
-    ∙ ap (leaf_holds α) (sym (ap v c.in-In.is ∙ value_In (picks α) cv c.in-In.x c.in-In.all))))
+    ∙ ap (leaf_holds α) (sym (ap v c.in-In.is ∙ value_In (picks α) cv c.in-In.x c.in-In.all)))))
+    (c.member_of.ensures.is w α cv (v c.in-In.x) (shows_kept first.begins c.requires.open s)
+    (subst (λ (ps : List Pick). Picked (at c.word-in-In.new.b w) ps (v c.in-In.x)) (sym c.as_slice-in-In.ensures.value) x))
 
 pub truth-word-requires-in-Cmp : goal.truth-word-requires-in-Cmp
 truth-word-requires-in-Cmp t c =
@@ -110,23 +114,24 @@ truth-member_of-requires t c =
       ),
     )
 
-pub word-returns-in_ok-ps-in-Name-clause-within : goal.word-returns-in_ok-ps-in-Name-clause-within
-word-returns-in_ok-ps-in-Name-clause-within t c =
-    subst (λ (ps : List Pick). Within (length c.args.b.now.gates) ps) (sym c.in_ok-ps-in-Name.ensures)
-    (c.requires.open.entries c.in-Name.id (Picks c.picks_of.result.now) c.picks_of.ensures)
+pub word-returns-in-Name-clause-within : goal.word-returns-in-Name-clause-within
+word-returns-in-Name-clause-within t c =
+    IfOk-weaker c.copy_picks.result _ _ (λ _ same. subst (λ (ps : List Pick). Within (length c.args.b.now.gates) ps) (sym same)
+    (c.requires.open.entries c.in-Name.id (Picks c.picks_of.result.now) c.picks_of.ensures))
+    c.copy_picks.ensures
 
-pub word-returns-in_ok-ps-in-Name-clause-is : goal.word-returns-in_ok-ps-in-Name-clause-is
-word-returns-in_ok-ps-in-Name-clause-is t c = λ w α cv s.
+pub word-returns-in-Name-clause-is : goal.word-returns-in-Name-clause-is
+word-returns-in-Name-clause-is t c = λ w α cv s.
     let here = s.entries c.in-Name.id (Picks c.picks_of.result.now) c.picks_of.ensures in
-    let named = subst (λ (ps : List Pick). Picked (at c.args.b.now w) ps (cv c.in-Name.id)) (sym c.in_ok-ps-in-Name.ensures) here in
-    subst (λ (x : Leaf). Picked (at c.args.b.now w) c.in_ok-ps-in-Name.ps.items x) (sym (ap (value (picks α) cv) c.in-Name.is ∙ value_Name (picks α) cv c.in-Name.id)) named
+    let named = subst (λ (x : Leaf). Picked (at c.args.b.now w) c.picks_of.result.now x) (sym (ap (value (picks α) cv) c.in-Name.is ∙ value_Name (picks α) cv c.in-Name.id)) here in
+    IfOk-weaker c.copy_picks.result _ _ (λ _ same. subst (λ (ps : List Pick). Picked (at c.args.b.now w) ps (value (picks α) cv c.args.t.now)) (sym same) named) c.copy_picks.ensures
 
-pub word-returns-in_ok-ps-in-Case-clause-is : goal.word-returns-in_ok-ps-in-Case-clause-is
-word-returns-in_ok-ps-in-Case-clause-is t c = λ w α cv s.
+pub word-returns-in-Case-clause-is : goal.word-returns-in-Case-clause-is
+word-returns-in-Case-clause-is t c = λ w α cv s.
     let v = value (picks α) cv in
-    let all = subst (λ (bs : List TermBranch). Picked (at c.case_of.new.b w) c.in_ok-ps-in-Case.ps.items (picked (leaf_holds α) (Number 0) (map (branch_value (picks α) cv) bs))) c.items.ensures
-    (c.in_ok-ps-in-Case.ensures.is w α cv s) in
-    subst (λ (x : Leaf). Picked (at c.case_of.new.b w) c.in_ok-ps-in-Case.ps.items x) (sym (ap v c.in-Case.is ∙ value_Case (picks α) cv c.in-Case.all)) all
+    let leaf = λ (bs : List TermBranch). picked (leaf_holds α) (Number 0) (map (branch_value (picks α) cv) bs) in
+    IfOk-weaker c.case_of.result _ _ (λ ps is. subst (λ (x : Leaf). Picked (at c.case_of.new.b w) ps.items x) (ap leaf c.items.ensures ∙ sym (ap v c.in-Case.is ∙ value_Case (picks α) cv c.in-Case.all)) is)
+    (c.case_of.ensures.is w α cv s)
 
 pub all_of-returns-clause-is : goal.all_of-returns-clause-is
 all_of-returns-clause-is t c = λ w α cv s.
@@ -238,15 +243,17 @@ branch_of-add_all-requires-clause-more t c =
 
 pub branch_of-returns-clause-within : goal.branch_of-returns-clause-within
 branch_of-returns-clause-within t c =
-    within_more _ _ c.add_all.new.out.items (begins_more c.in_ok-past.ensures.begins c.in_ok-g.ensures.begins).more c.in_ok-add_all.ensures.within
+    IfOk-weaker c.and-2.result _ _ (λ _ _. within_more _ _ c.add_all.new.out.items (begins_more c.in_ok-past.ensures.begins c.and-2.ensures.begins).more c.in_ok-add_all.ensures.within)
+    c.and-2.ensures.made
 
 pub branch_of-returns-clause-shut : goal.branch_of-returns-clause-shut
 branch_of-returns-clause-shut t c = λ w α cv s h.
     let first = c.in_ok-guard.ensures in
     let upto = begins_more c.in_ok-ps.ensures.begins (begins_more c.in_ok-here.ensures.begins c.in_ok-add_all.ensures.begins) in
-    c.in_ok-g.ensures.made.is w
+    IfOk-weaker c.and-2.result _ _ (λ _ made. made.is w
     ∙ (and_same _ _ _ _ refl (c.in_ok-past.ensures.made.is w ∙ ap not (upto.same c.in_ok-guard.guard w first.within ∙ first.is w α cv s))
-    ∙ shut (truth c.not.new.self c.args.free w) (leaf_holds α (value (picks α) cv c.args.branch.now.guard)) h)
+    ∙ shut (truth c.not.new.self c.args.free w) (leaf_holds α (value (picks α) cv c.args.branch.now.guard)) h))
+    c.and-2.ensures.made
 
 pub branch_of-returns-clause-is : goal.branch_of-returns-clause-is
 branch_of-returns-clause-is t c = λ w α cv s r y.
@@ -257,25 +264,26 @@ branch_of-returns-clause-is t c = λ w α cv s r y.
     let here = c.in_ok-here.ensures in
     let added = c.in_ok-add_all.ensures in
     let past = c.in_ok-past.ensures in
-    let last = c.in_ok-g.ensures in
+    let last = c.and-2.ensures.begins in
     let two = begins_more first.begins second.begins in
     let three = begins_more two here.begins in
     let four = begins_more second.begins (begins_more here.begins added.begins) in
     let five = begins_more first.begins (begins_more four past.begins) in
     let guarded = first.is w α cv s in
     let worth = (second.is w α cv (shows_kept first.begins c.requires.open s)).only y in
-    or_same _ _ _ _
-    (taken_kept (begins_more past.begins last.begins) w c.add_all.new.out.items added.within y
+    IfOk-weaker c.and-2.result _ _ (λ _ made. or_same _ _ _ _
+    (taken_kept (begins_more past.begins last) w c.add_all.new.out.items added.within y
     ∙ (added.is w y
     ∙ or_same _ _ _ _ (taken_kept three w out c.requires.within y)
     (and_same _ _ _ _
     (here.made.is w ∙ and_same _ _ _ _ (two.same c.args.free w c.requires.gate) (second.begins.same c.in_ok-guard.guard w first.within ∙ guarded))
     (ap (λ (ps : List Pick). taken (at c.and.new.self w) ps y) c.as_slice.ensures.value ∙ (taken_kept here.begins w c.in_ok-ps.ps.items second.within y ∙ worth)))))
     (and_same _ _ _ _
-    (last.made.is w ∙ and_same _ _ _ _ (five.same c.args.free w c.requires.gate)
+    (made.is w ∙ and_same _ _ _ _ (five.same c.args.free w c.requires.gate)
     (past.made.is w ∙ ap not (four.same c.in_ok-guard.guard w first.within ∙ guarded)))
     refl)
-    ∙ case_step (taken (at c.args.b.now w) out y) (truth c.args.b.now c.args.free w) (leaf_holds α (v c.args.branch.now.guard)) (v c.args.branch.now.value) r y
+    ∙ case_step (taken (at c.args.b.now w) out y) (truth c.args.b.now c.args.free w) (leaf_holds α (v c.args.branch.now.guard)) (v c.args.branch.now.value) r y)
+    c.and-2.ensures.made
 
 pub case_of-returns-clause-is : goal.case_of-returns-clause-is
 case_of-returns-clause-is t c = λ w α cv s. record {

@@ -1,7 +1,9 @@
 use Rattle.std.proofs.Common.{◌∙◌}
+use Rattle.std.proofs.lemmas.Result.{IfOk-weaker}
 use Rattle.ctl_formula.specs.Chosen.{at}
 use Rattle.ctl_formula.proofs.Chosen.{chosen_pairs}
 use Rattle.ctl_formula.proofs.scope.Scope.compare.Goals as goal
 
 pub returns-clause-is : goal.returns-clause-is
-returns-clause-is c = λ w α x y h p q. c.in_ok-g.ensures.is w α h ∙ chosen_pairs (at c.args.b.now w) α c.args.op c.args.ps.now c.args.qs.now x y p q
+returns-clause-is c = λ w α x y h p q.
+    IfOk-weaker c.pairs.result _ _ (λ _ is. is ∙ chosen_pairs (at c.args.b.now w) α c.args.op c.args.ps.now c.args.qs.now x y p q) (c.pairs.ensures.is w α h)
