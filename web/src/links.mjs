@@ -79,16 +79,19 @@ function keep() {
   }
 }
 
+/** Copies a text that is still being made. (Safari lets a page copy as the button is pressed, and not later.) */
+async function copy(text) {
+  if (typeof ClipboardItem === "undefined") return navigator.clipboard.writeText(await text);
+  const blob = text.then((it) => new Blob([it], { type: "text/plain" }));
+  return navigator.clipboard.write([new ClipboardItem({ "text/plain": blob })]);
+}
+
 async function copyLink() {
-  const it = await linkOf();
+  const link = linkOf(), isCopied = await copy(link).then(() => true, () => false), it = await link;
   history.replaceState(null, "", it);
-  try {
-    await navigator.clipboard.writeText(it);
-    toast(`The link is copied (${it.length} letters)`);
-  } catch {
-    dialog("The link", `<textarea readonly aria-label="The link">${escaped(it)}</textarea>`).querySelector("textarea")
-      .select();
-  }
+  if (isCopied) return toast(`The link is copied (${it.length} letters)`);
+  dialog("The link", `<textarea readonly aria-label="The link">${escaped(it)}</textarea>`).querySelector("textarea")
+    .select();
 }
 
 export function wireLinks() {

@@ -39,8 +39,8 @@ const drawingOf = ({ scene }, path) => (path === "pipe" ? datapath(scene, "no") 
 /** The stages of a situation of the pipeline as a table. */
 function stagesHTML({ rule, scene }, path) {
   if (path !== "pipe") return "";
-  return `<table class="stages"><caption>The stages in the counterexample to ${rule}</caption>`
-    + `<tbody>${pipeRows(scene, (it) => scene.stages[it].tag ?? "")}</tbody></table>`;
+  return `<div class="stages"><table><caption>The stages in the counterexample to ${rule}</caption>`
+    + `<tbody>${pipeRows(scene, (it) => scene.stages[it].tag ?? "")}</tbody></table></div>`;
 }
 
 /** The obligations that are refuted, to look at one after another. */
