@@ -49,15 +49,6 @@ pub fn stages_rank(variable: u32) -> usize
     }
 }
 
-/// The same, behind the icode in E.
-pub fn large_part_rank(variable: u32) -> usize {
-    if is_in(places::E_ICODE, variable) {
-        0
-    } else {
-        1 + stages_rank(variable)
-    }
-}
-
 /// How many fields are no numbers of registers.
 const OTHER_COUNT: usize = FIELD_COUNT - places::REGISTER_COUNT;
 
@@ -119,5 +110,14 @@ pub fn registers_last_rank(width: usize, variable: u32) -> usize
     match field_of(&others, variable) {
         Some(k) => k.wrapping_add(1),
         None => 0,
+    }
+}
+
+/// The rank where registers stand last, four of their fields side by side, behind the icode in E.
+pub fn large_part_rank(variable: u32) -> usize {
+    if is_in(places::E_ICODE, variable) {
+        0
+    } else {
+        registers_last_rank(4, variable).wrapping_add(1)
     }
 }

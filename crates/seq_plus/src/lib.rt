@@ -25,5 +25,5 @@ pub use machine_calls::run;
 pub use rules::plus_rules;
 pub use state::{PlusState, Previous};
 pub use table::plus_table;
-pub use values::{PLUS_ROWS, PlusValues, solve_plus};
+pub use values::{PLUS_ROWS, PlusValues, plus_constants, solve_plus, solve_plus_in};
 pub use verdict::{Plain16, check_plus};

@@ -109,17 +109,23 @@ impl<'a> Hardware for PlusHardware<'a> {
     #[inline(always)]
     fn value(&mut self, row: NameId, values: &[u64]) -> u64 {
         let s = self.state;
-        let pc = at(values, row::PC);
-        let need_regids = at(values, row::NEED_REGIDS);
-        let need_valc = at(values, row::NEED_VAL_C);
         match row {
-            row::IMEM_ICODE => self.read(pc).icode,
-            row::IMEM_IFUN => self.read(pc).ifun,
-            row::IMEM_ERROR => u64::from(self.read(pc).error),
-            row::R_A => fetch_ra(&s.mem, pc, need_regids),
-            row::R_B => fetch_rb(&s.mem, pc, need_regids),
-            row::VAL_C => val_c(&s.mem, pc, need_regids, need_valc),
-            row::VAL_P => val_p(pc, need_regids, need_valc),
+            row::IMEM_ICODE => self.read(at(values, row::PC)).icode,
+            row::IMEM_IFUN => self.read(at(values, row::PC)).ifun,
+            row::IMEM_ERROR => u64::from(self.read(at(values, row::PC)).error),
+            row::R_A => fetch_ra(&s.mem, at(values, row::PC), at(values, row::NEED_REGIDS)),
+            row::R_B => fetch_rb(&s.mem, at(values, row::PC), at(values, row::NEED_REGIDS)),
+            row::VAL_C => val_c(
+                &s.mem,
+                at(values, row::PC),
+                at(values, row::NEED_REGIDS),
+                at(values, row::NEED_VAL_C),
+            ),
+            row::VAL_P => val_p(
+                at(values, row::PC),
+                at(values, row::NEED_REGIDS),
+                at(values, row::NEED_VAL_C),
+            ),
             row::VAL_A => reg_val(&s.regs, at(values, row::SRC_A)),
             row::VAL_B => reg_val(&s.regs, at(values, row::SRC_B)),
             row::VAL_E => val_e(

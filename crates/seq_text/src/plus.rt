@@ -1,6 +1,8 @@
 //! The run of SEQ+, and what is shown of it.
-ghost use Rattle.std.specs.Prelude.{◌≡◌, ◌≤◌, ◌++◌, IfOk, List, OnOk, ℕ};
+ghost use Rattle.std.specs.Prelude.{◌≡◌, ◌≤◌, ◌++◌, IfOk, IsTrue, List, OnOk, ℕ};
+ghost use Rattle.dp_signals.specs.PipeEquations.{constants};
 ghost use Rattle.seq_plus.specs.PlusTable.{plus_rows};
+ghost use Rattle.hcl_types.specs.Signals.{Starts};
 ghost use Rattle.hcl_types.specs.Tables.{IsBound, IsOrderOf};
 ghost use Rattle.hcl_types.specs.Terms.{at};
 ghost use Rattle.seq_text.specs.Signals.{plus_sources as told_sources};
@@ -12,10 +14,12 @@ ghost use Rattle.seq_text.specs.Signals.{sources_in};
 use crate::lines::{put_choice, put_stages, put_state};
 use crate::shown::{finished, put_number};
 use crate::signals::{Sources, plus_signals, plus_sources};
-use dp_signals::at;
+use dp_signals::{at, constant_words};
 use hcl_types::{Design, Order, Row, SignalEval};
 use machine_calls::is_going;
-use seq_plus::{PlusState, PlusValues, advance, row as plus_row, solve_plus};
+use seq_plus::{
+    PlusState, PlusValues, advance, plus_constants, row as plus_row, solve_plus_in,
+};
 use stage_text::{Watched, Window, is_within};
 use std::alloc::Global;
 use y86_base::{Image, Memory, Variant};
@@ -57,7 +61,7 @@ fn put_shown(
     put_lines(out, s, values, &plus_sources(rows, design, values))
 }
 
-/// Does the cycle of a number, and puts what is shown of it.
+/// Does the cycle of a number, and puts what is shown of it. `fits` is the evaluator's answer about the constants.
 fn cycle<C: SignalEval>(
     s: &mut PlusState,
     out: &mut Vec<u8>,
@@ -66,18 +70,22 @@ fn cycle<C: SignalEval>(
     design: &Design,
     order: &Order,
     evaluator: &mut C,
+    fits: bool,
     window: &Window,
     number: u64,
 ) -> Result<(), Memory>
     requires table { rows.now ≡ plus_rows }
     requires evaluates { C.evaluates evaluator.old design.now.terms }
+    requires fits { IsTrue fits → Starts (C.assumes evaluator.old) constants }
     requires bound { IsBound plus_rows design.now.terms }
     requires ordered { IsOrderOf plus_rows design.now.terms order.now.ids }
     ensures kept { OnOk result (C.evaluates evaluator.new design.now.terms) }
+    ensures same { OnOk result (C.assumes evaluator.new ≡ C.assumes evaluator.old) }
     ensures cycle { OnOk result ((lines : List ℕ) × PlusShows variant design.now.terms s.old lines s.new
         × (out.new.items ≡ out.old.items ++ text.shown window.now number lines)) }
 {
-    let values = solve_plus(variant, design, order, s, evaluator);
+    let mut values = plus_constants();
+    solve_plus_in(variant, design, order, s, evaluator, fits, &mut values);
     put_shown(out, rows, design, window, number, s, &values)?;
     advance(s, &values);
     Ok(())
@@ -102,6 +110,7 @@ pub fn watch_plus<C: SignalEval>(
     requires limit { limit ≤ 100000000 }
     ensures { IfOk result (λ w. ShowsRun (PlusShows variant design.now.terms) plus_stat window.now (plus_start image) limit w.text.items w.end) }
 {
+    let fits = evaluator.fits(&constant_words());
     let mut s = PlusState::start(image);
     let mut lines = Vec::new(alloc);
     for k in 0..limit {
@@ -116,6 +125,7 @@ pub fn watch_plus<C: SignalEval>(
             design,
             order,
             evaluator,
+            fits,
             window,
             k + 1,
         ) {

@@ -1,6 +1,8 @@
 //! The run of SEQ, and what is shown of it.
-ghost use Rattle.std.specs.Prelude.{◌≡◌, ◌≤◌, ◌++◌, IfOk, List, OnOk, ℕ};
+ghost use Rattle.std.specs.Prelude.{◌≡◌, ◌≤◌, ◌++◌, IfOk, IsTrue, List, OnOk, ℕ};
+ghost use Rattle.dp_signals.specs.PipeEquations.{constants};
 ghost use Rattle.dp_signals.specs.SeqTable.{seq_rows};
+ghost use Rattle.hcl_types.specs.Signals.{Starts};
 ghost use Rattle.hcl_types.specs.Tables.{IsBound, IsOrderOf};
 ghost use Rattle.hcl_types.specs.Terms.{at};
 ghost use Rattle.seq_text.specs.Signals.{seq_sources as told_sources};
@@ -12,7 +14,9 @@ ghost use Rattle.y86_isa.specs.Machine.{start};
 use crate::lines::{put_stages, put_state, put_update};
 use crate::shown::{finished, put_number};
 use crate::signals::{Sources, seq_signals, seq_sources};
-use dp_signals::{SeqState, SeqValues, at, seq_advance, seq_row, solve_seq};
+use dp_signals::{
+    SeqState, SeqValues, at, constant_words, seq_advance, seq_constants, seq_row, solve_seq_in,
+};
 use hcl_types::{Design, Order, Row, SignalEval};
 use machine_calls::is_going;
 use stage_text::{Watched, Window, is_within};
@@ -56,7 +60,7 @@ fn put_shown(
     put_lines(out, s, values, &seq_sources(rows, design, values))
 }
 
-/// Does the cycle of a number, and puts what is shown of it.
+/// Does the cycle of a number, and puts what is shown of it. `fits` is the evaluator's answer about the constants.
 fn cycle<C: SignalEval>(
     s: &mut SeqState,
     out: &mut Vec<u8>,
@@ -65,18 +69,22 @@ fn cycle<C: SignalEval>(
     design: &Design,
     order: &Order,
     evaluator: &mut C,
+    fits: bool,
     window: &Window,
     number: u64,
 ) -> Result<(), Memory>
     requires table { rows.now ≡ seq_rows }
     requires evaluates { C.evaluates evaluator.old design.now.terms }
+    requires fits { IsTrue fits → Starts (C.assumes evaluator.old) constants }
     requires bound { IsBound seq_rows design.now.terms }
     requires ordered { IsOrderOf seq_rows design.now.terms order.now.ids }
     ensures kept { OnOk result (C.evaluates evaluator.new design.now.terms) }
+    ensures same { OnOk result (C.assumes evaluator.new ≡ C.assumes evaluator.old) }
     ensures cycle { OnOk result ((lines : List ℕ) × SeqShows variant design.now.terms s.old lines s.new
         × (out.new.items ≡ out.old.items ++ text.shown window.now number lines)) }
 {
-    let values = solve_seq(variant, design, order, s, evaluator);
+    let mut values = seq_constants();
+    solve_seq_in(variant, design, order, s, evaluator, fits, &mut values);
     put_shown(out, rows, design, window, number, s, &values)?;
     seq_advance(s, &values);
     Ok(())
@@ -101,6 +109,7 @@ pub fn watch_seq<C: SignalEval>(
     requires limit { limit ≤ 100000000 }
     ensures { IfOk result (λ w. ShowsRun (SeqShows variant design.now.terms) seq_stat window.now (start image) limit w.text.items w.end) }
 {
+    let fits = evaluator.fits(&constant_words());
     let mut s = SeqState::start(image);
     let mut lines = Vec::new(alloc);
     for k in 0..limit {
@@ -115,6 +124,7 @@ pub fn watch_seq<C: SignalEval>(
             design,
             order,
             evaluator,
+            fits,
             window,
             k + 1,
         ) {

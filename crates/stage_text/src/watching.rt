@@ -1,7 +1,8 @@
 //! The run of a machine, and what is shown of it.
-ghost use Rattle.std.specs.Prelude.{◌≡◌, ◌<◌, ◌≤◌, ◌+◌, ◌*◌, ◌^◌, ◌++◌, ℕ, IfOk, OnOk};
-ghost use Rattle.dp_signals.specs.PipeEquations.{Solves};
+ghost use Rattle.std.specs.Prelude.{◌≡◌, ◌<◌, ◌≤◌, ◌+◌, ◌*◌, ◌^◌, ◌++◌, ℕ, IfOk, IsTrue, OnOk};
+ghost use Rattle.dp_signals.specs.PipeEquations.{Solves, constants};
 ghost use Rattle.dp_signals.specs.PipeTable.{pipe_rows};
+ghost use Rattle.hcl_types.specs.Signals.{Starts};
 ghost use Rattle.hcl_types.specs.Tables.{IsBound, IsOrderOf};
 ghost use Rattle.hcl_types.specs.Terms.{at};
 ghost use Rattle.stage_text.specs.Listed.{listed, text_in};
@@ -17,7 +18,8 @@ use crate::listed::{Listing, listing_for};
 use crate::picked::sources_of;
 use crate::watch::{Watch, asked_movers, fetched, first_watch, moved_watch};
 use dp_signals::{
-    Ending, PipeState, PipeValues, advance, end_of_cycle, ending, retires, solve_pipe,
+    Ending, PipeState, PipeValues, advance, constant_words, end_of_cycle, ending, given, retires,
+    solve_pipe_in,
 };
 use hcl_types::{Design, Order, Row, SignalEval};
 use machine_calls::{count, is_going};
@@ -167,7 +169,7 @@ fn state_of(s: &Watching) -> &PipeState
     &s.state
 }
 
-/// Does the cycle of this number, and keeps what is shown of it.
+/// Does the cycle of this number, and keeps what is shown of it. `fits` is the evaluator's answer about the constants.
 fn cycle<C: SignalEval>(
     s: &mut Watching,
     variant: Variant,
@@ -175,21 +177,33 @@ fn cycle<C: SignalEval>(
     design: &Design,
     order: &Order,
     evaluator: &mut C,
+    fits: bool,
     window: &Window,
     number: u64,
 ) -> Result<(), Memory>
     requires evaluates { C.evaluates evaluator.old design.now.terms }
+    requires fits { IsTrue fits → Starts (C.assumes evaluator.old) constants }
     requires bound { IsBound pipe_rows design.now.terms }
     requires ordered { IsOrderOf pipe_rows design.now.terms order.now.ids }
     requires rows { s.old.watch.rows < 2 ^ 63 }
     requires retired { s.old.retired < 2 ^ 63 }
     ensures kept { OnOk result (C.evaluates evaluator.new design.now.terms) }
+    ensures same { OnOk result (C.assumes evaluator.new ≡ C.assumes evaluator.old) }
     ensures cycle { OnOk result ((f : ℕ → ℕ) × Solves variant design.now.terms s.old.state f
         × (s.new ≡ spec.after (sources rows.now design.now.terms) window.now number s.old f)) }
     ensures few_rows { OnOk result (s.new.watch.rows ≤ s.old.watch.rows + 5) }
     ensures few_retired { OnOk result (s.new.retired ≤ s.old.retired + 1) }
 {
-    let values = solve_pipe(variant, design, order, state_of(s), evaluator);
+    let mut values = given(state_of(s));
+    solve_pipe_in(
+        variant,
+        design,
+        order,
+        state_of(s),
+        evaluator,
+        fits,
+        &mut values,
+    );
     step(s, rows, design, window, number, &values)
 }
 
@@ -235,6 +249,7 @@ fn watch_listed<C: SignalEval>(
     requires limit { limit ≤ 100000000 }
     ensures { IfOk result (λ w. ShowsRun variant design.now.terms (text_in listing.now.entries) window.now image limit w.text.items w.end) }
 {
+    let fits = evaluator.fits(&constant_words());
     let mut s = Watching {
         state: PipeState::start(image),
         watch: first_watch(),
@@ -254,6 +269,7 @@ fn watch_listed<C: SignalEval>(
             design,
             order,
             evaluator,
+            fits,
             window,
             k + 1,
         ) {

@@ -10,6 +10,7 @@ loop-k-preserved g c =
     record {
       watches = watches_more _ _ _ _ c.loop-k.k c.loop-k.s _ _ _ went.0 before.watches (sym c.is_going.ensures ∙ c.if-not-is_going.false) went.1 went.2;
       kept = c.in-Ok.ensures.kept;
+      fits = rw c.in-Ok.ensures.same before.fits;
     }
 
 pub returns-then-not-is_going : goal.returns-then-not-is_going

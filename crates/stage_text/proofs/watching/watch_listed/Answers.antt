@@ -13,4 +13,5 @@ loop-k-preserved g c =
       rows = omega (arith, rows, before.rows);
       retired = omega (arith, retired, before.retired);
       kept = c.in-Ok.ensures.kept;
+      fits = rw c.in-Ok.ensures.same before.fits;
     }

@@ -1,4 +1,6 @@
-use Rattle.std.proofs.Common.{◌*◌, ◌≤◌}
+use Rattle.std.proofs.Common.{◌*◌, ◌≤◌, IsTrue}
+use Rattle.dp_signals.specs.PipeEquations.{constants}
+use Rattle.hcl_types.specs.Signals.{Starts}
 use Rattle.stage_text.specs.Watching.{Watches}
 use Rattle.stage_text.proofs.watching.watch_listed.Given as goal
 
@@ -8,4 +10,5 @@ invariant-loop-k g l = record {
   rows : l.s.watch.rows ≤ 5 * l.k;
   retired : l.s.retired ≤ l.k;
   kept : g.C.SignalEval.evaluates l.evaluator l.design.terms;
+  fits : IsTrue l.fits → Starts (g.C.SignalEval.assumes l.evaluator) constants;
 }
