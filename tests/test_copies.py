@@ -21,7 +21,7 @@ def meat(text):
 
 
 COPIES = re.findall(r'^const (\w+): &\[u8\] =\s*b"(.*?)";$', read("crates/test_designs/src/files.rt"), flags=re.M | re.S)
-PURITY = read("crates/pure_runs/specs/Purity.antt")
+PURITY = read("crates/yis_pure_runs/specs/Purity.antt")
 
 
 @cases((name, text) for name, text in COPIES)

@@ -9,4 +9,4 @@ def test_page():
 
 def test_well_known_definitions():
     found = {(name, file) for name, _, file in definitions()}
-    assert {("Refines", "pipe_refinement/Refines"), ("ReadsAs", "hcl_read/Read"), ("GoesOn", "certificates/Certificates")} <= found
+    assert {("Refines", "pipe_refinement/Refines"), ("ReadsAs", "hcl_read/Read"), ("HasRightLines", "cert_checker/Certificates")} <= found

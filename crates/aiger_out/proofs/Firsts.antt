@@ -5,12 +5,12 @@ use Rattle.std.proofs.lemmas.Bool.Decides.{nat_tests}
 use Rattle.std.proofs.lemmas.List.{get_or-set_same, get_or-set_other, length-replicate, take-append-le, take_all}
 use Rattle.std.proofs.Math.ListN.{length-set}
 use Rattle.aiger_out.specs.declared.form.Header.{Header}
-use Rattle.aiger_out.specs.declared.form.Line.{Line}
-use Rattle.aiger_out.specs.declared.form.Line.TheVariants.{Other}
+use Rattle.aiger_out.specs.declared.form.AagLine.{AagLine}
+use Rattle.aiger_out.specs.declared.form.AagLine.TheVariants.{Other}
 use Rattle.aiger_out.specs.Form.{defines, is_defined}
 use Rattle.aiger_out.specs.Rows.{AreFirsts, first_at, nowhere}
 
-pub defined_next : (h : Header) (at : ℕ → Line) (j v : ℕ) → is_defined h at (j + 1) v ≡ (is_defined h at j v || defines h (at j) v)
+pub defined_next : (h : Header) (at : ℕ → AagLine) (j v : ℕ) → is_defined h at (j + 1) v ≡ (is_defined h at j v || defines h (at j) v)
 unfolding is_defined
 defined_next h at j v = rw add-one refl
 
@@ -45,7 +45,7 @@ place_cases f n h = by (cases_eq f nowhere)
     by (inl e) = inr e
     by (inr ne) = inl (h ne)
 
-pub firsts_more : (h : Header) (at : ℕ → Line) (j : ℕ) (old new : List ℕ) → AreFirsts h at j old → 1 ≤ j → j < nowhere → length new ≡ length old
+pub firsts_more : (h : Header) (at : ℕ → AagLine) (j : ℕ) (old new : List ℕ) → AreFirsts h at j old → 1 ≤ j → j < nowhere → length new ≡ length old
     → ((v : ℕ) → first_at new v ≡ kept (defines h (at j) v) (first_at old v) j) → AreFirsts h at (j + 1) new
 firsts_more h at j old new a some small size is = record {
   size = size ∙ a.size;
@@ -77,14 +77,14 @@ all_nowhere zero v = refl
 all_nowhere (suc n) zero = refl
 all_nowhere (suc n) (suc v) = all_nowhere n v
 
-nothing : (h : Header) (line : Line) (v : ℕ) → line ≡ Other → defines h line v ≡ false
-nothing h line v e = ap (λ (x : Line). defines h x v) e
+nothing : (h : Header) (line : AagLine) (v : ℕ) → line ≡ Other → defines h line v ≡ false
+nothing h line v e = ap (λ (x : AagLine). defines h x v) e
 
-first_defined : (h : Header) (at : ℕ → Line) (v : ℕ) → at 0 ≡ Other → is_defined h at 1 v ≡ ((v == 0) || false)
+first_defined : (h : Header) (at : ℕ → AagLine) (v : ℕ) → at 0 ≡ Other → is_defined h at 1 v ≡ ((v == 0) || false)
 unfolding is_defined
 first_defined h at v e = ap (λ (b : Bool). (v == 0) || b) (nothing h (at 0) v e)
 
-pub firsts_start : (h : Header) (at : ℕ → Line) (n : ℕ) → at 0 ≡ Other → n ≡ h.most + 1 → AreFirsts h at 1 (set (replicate n nowhere) 0 0)
+pub firsts_start : (h : Header) (at : ℕ → AagLine) (n : ℕ) → at 0 ≡ Other → n ≡ h.most + 1 → AreFirsts h at 1 (set (replicate n nowhere) 0 0)
 firsts_start h at n e size = record {
   size = length-set (replicate n nowhere) 0 0 ∙ (length-replicate n nowhere ∙ size);
   places = λ v. place_told (first_at (set (replicate n nowhere) 0 0) v) 1 (by_place v (cases_eq v 0));

@@ -14,15 +14,15 @@ use Rattle.aiger_out.specs.declared.fault.AagWhy.{AagWhy}
 use Rattle.aiger_out.specs.declared.fault.AagWhy.TheVariants.{Syntax}
 use Rattle.aiger_out.specs.declared.form.AndLine.{AndLine}
 use Rattle.aiger_out.specs.declared.form.Header.{Header}
-use Rattle.aiger_out.specs.declared.form.Line.{Line}
-use Rattle.aiger_out.specs.declared.form.Line.TheVariants.{Input, Output, And, Other}
+use Rattle.aiger_out.specs.declared.form.AagLine.{AagLine}
+use Rattle.aiger_out.specs.declared.form.AagLine.TheVariants.{Input, Output, And, Other}
 use Rattle.aiger_out.specs.Lines.{ended, header_of, one_number, three_numbers}
 use Rattle.aiger_out.specs.Form.{IsFault, IsFaultBehind, and_line, ands_from, comment_within, fault_at, has_more, header_fault, is_comment, is_defined, line_at, line_fault, line_read, output_line, outputs_from, rest_from, tail_fault, text_fault, text_header}
 use Rattle.aiger_out.specs.Reading.{AreGoodLines, IsError, IsLineError, IsTailError}
 use Rattle.aiger_out.specs.Rows.{AreRows, IsFine, IsFirstFault, row}
 use Rattle.aiger_out.specs.Solution.{InputsFollow, solution}
 use Rattle.aiger_out.specs.Tail.{tail_fault_at}
-use Rattle.aiger_out.specs.Values.{AreValues, IsRead, literal_value, output_literal}
+use Rattle.aiger_out.specs.Values.{AreValues, IsNetOfText, literal_value, output_literal}
 use Rattle.aiger_out.proofs.Faults.{fine_output}
 use Rattle.aiger_out.proofs.RowSteps.{slice_get_drop}
 use Rattle.aiger_out.proofs.Solutions.{agrees, defined_later, same_literal}
@@ -53,7 +53,7 @@ line_missing : (h : Header) (lines : List (List ℕ)) (j : ℕ) → length lines
 unfolding line_at
 line_missing h lines j past = ap (λ (x : Option (List ℕ)). option_map_or (line_read h j) x Other) (slice_get_past lines j past)
 
-is_input : Line → Bool
+is_input : AagLine → Bool
 is_input (Input x) = true
 is_input (Output x) = false
 is_input (And a) = false
@@ -69,7 +69,7 @@ unfolding is_input
 no_and None = refl
 no_and (Some x) = refl
 
-either : (b : Bool) (x y : Line) → is_input x ≡ false → is_input y ≡ false → is_input (if b then x else y) ≡ false
+either : (b : Bool) (x y : AagLine) → is_input x ≡ false → is_input y ≡ false → is_input (if b then x else y) ≡ false
 either true x y e f = e
 either false x y e f = f
 
@@ -106,16 +106,16 @@ line_input h lines j x e = (low (cases_lt 0 j), high (cases_lt j (outputs_from h
 
 -- ---- the values of outputs
 
-zero_defined : (h : Header) (at : ℕ → Line) (n : ℕ) → is_defined h at n 0 ≡ true
+zero_defined : (h : Header) (at : ℕ → AagLine) (n : ℕ) → is_defined h at n 0 ≡ true
 unfolding is_defined
 zero_defined h at n = let e : n ≡ 0 + n = omega arith in ap (λ (k : ℕ). is_defined h at k 0) e ∙ defined_later h at 0 n 0 refl
 
-module _ (h : Header) (at : ℕ → Line) (bits : List Bool) (fine : IsFine h at (rest_from h)) (header : at 0 ≡ Other) where
+module _ (h : Header) (at : ℕ → AagLine) (bits : List Bool) (fine : IsFine h at (rest_from h)) (header : at 0 ≡ Other) where
   agree_at : (env : ℕ → Bool) → AreValues at bits env → (x : ℕ) → is_defined h at (rest_from h) (x / 2) ≡ true
       → literal_value env x ≡ literal_value (solution h at bits (rest_from h)) x
   agree_at env v x d = same_literal env (solution h at bits (rest_from h)) x (agrees h at bits (rest_from h) fine header env v (rest_from h) (x / 2) (omega arith) d)
 
-  pub out_value : (env : ℕ → Bool) → AreValues at bits env → (j : ℕ) (line : Line) → at j ≡ line → 1 ≤ j → j < rest_from h
+  pub out_value : (env : ℕ → Bool) → AreValues at bits env → (j : ℕ) (line : AagLine) → at j ≡ line → 1 ≤ j → j < rest_from h
       → literal_value env (output_literal line) ≡ literal_value (solution h at bits (rest_from h)) (output_literal line)
   out_value env v j (Output x) e from low = agree_at env v x (fine_output h at j x (sym (ap (line_fault h at j) e) ∙ fine j from low)).defined
   out_value env v j (Input x) e from low = agree_at env v 0 (zero_defined h at (rest_from h))
@@ -124,7 +124,7 @@ module _ (h : Header) (at : ℕ → Line) (bits : List Bool) (fine : IsFine h at
 
 -- ---- the rows are the lines at all places
 
-module _ (h : Header) (text : List ℕ) (rows : List Line) (left : List ℕ) (a : AreRows h text (rest_from h) rows left) where
+module _ (h : Header) (text : List ℕ) (rows : List AagLine) (left : List ℕ) (a : AreRows h text (rest_from h) rows left) where
   each_row : (j : ℕ) → row rows j ≡ line_at h (ended text) j
   each_row j = by (cases_lt j (rest_from h))
     where
@@ -142,7 +142,7 @@ module _ (h : Header) (text : List ℕ) (rows : List Line) (left : List ℕ) (a 
   rows_follow j x e = line_input h (ended text) j x (sym (each_row j) ∙ e)
 
   fine_there : (n : ℕ) → IsFine h (row rows) n → IsFine h (line_at h (ended text)) n
-  fine_there n fine = subst (λ (at : ℕ → Line). IsFine h at n) are_rows fine
+  fine_there n fine = subst (λ (at : ℕ → AagLine). IsFine h at n) are_rows fine
 
   -- ---- faults
 
@@ -212,7 +212,7 @@ module _ (h : Header) (text : List ℕ) (rows : List Line) (left : List ℕ) (a 
     header_there = ap (λ (xs : List (List ℕ)). option_and_then header_of (slice_get xs 0)) whole ∙ is
 
     -- the text has the form, and the outputs their values
-    pub read_ok : (net : Gates) (outs : List ℕ) → AreGoodLines h (row rows) left net outs → IsRead 1000000 text net outs h
+    pub read_ok : (net : Gates) (outs : List ℕ) → AreGoodLines h (row rows) left net outs → IsNetOfText 1000000 text net outs h
     read_ok net outs g = record {
       form = record { header = header_there; fine = good; lines = λ j from. by j from (cases_lt j (rest_from h)) };
       inputs = g.built.vars;
@@ -221,7 +221,7 @@ module _ (h : Header) (text : List ℕ) (rows : List Line) (left : List ℕ) (a 
       truths = λ i l bits. record {
         is = λ env v.
             out_value h (line_at h (ended text)) bits fine (line_first h (ended text)) env v (outputs_from h + i) (line_at h (ended text) (outputs_from h + i)) refl (omega arith) (omega (arith, l))
-            ∙ sym (ap (λ (at : ℕ → Line). literal_value (solution h at bits (rest_from h)) (output_literal (at (outputs_from h + i)))) are_rows)
+            ∙ sym (ap (λ (at : ℕ → AagLine). literal_value (solution h at bits (rest_from h)) (output_literal (at (outputs_from h + i)))) are_rows)
             ∙ sym ((g.built.outputs.gates i l).is bits);
       };
     }
@@ -241,7 +241,7 @@ module _ (h : Header) (text : List ℕ) (rows : List Line) (left : List ℕ) (a 
         (inr (
           good,
           l.from,
-          before_rest (f.line - 1) (omega (arith, l.from, l.to)) ∙ subst (λ (at : ℕ → Line). line_fault h at (f.line - 1) (at (f.line - 1)) ≡ Some f.why) are_rows l.has,
+          before_rest (f.line - 1) (omega (arith, l.from, l.to)) ∙ subst (λ (at : ℕ → AagLine). line_fault h at (f.line - 1) (at (f.line - 1)) ≡ Some f.why) are_rows l.has,
           fine_before (f.line - 1) (omega (arith, l.to)) (fine_there (f.line - 1) l.before),
         ))
 

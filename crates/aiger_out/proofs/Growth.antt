@@ -9,7 +9,7 @@ use Rattle.nets.specs.declared.net.Gate.TheVariants.{Const, Var, Not, And}
 use Rattle.nets.proofs.Truths.{values_more, values_length}
 use Rattle.aiger_out.specs.declared.graph.And as code
 use Rattle.aiger_out.specs.Values.{literal_value}
-use Rattle.aiger_out.specs.Graphs.{and_at, Solves, IsLiteralOf, IsGraphOf}
+use Rattle.aiger_out.specs.Graphs.{and_at, IsGraphSolution, IsLiteralOf, IsGraphOf}
 
 -- the literal of a variable that isn't negated
 even_literal : (env : ℕ → Bool) (n : ℕ) → literal_value env (2 * n) ≡ env n
@@ -18,7 +18,7 @@ even_literal env n =
     ap (λ (b : Bool). if b then not (env (2 * n / 2)) else env (2 * n / 2)) odd ∙ ap env (omega arith)
 
 -- earlier equations still hold
-pub fewer : (vars : ℕ) (bits : List Bool) (ands : List code.And) (last : code.And) (env : ℕ → Bool) → Solves vars bits (ands ++ last ∷ []) env → Solves vars bits ands env
+pub fewer : (vars : ℕ) (bits : List Bool) (ands : List code.And) (last : code.And) (env : ℕ → Bool) → IsGraphSolution vars bits (ands ++ last ∷ []) env → IsGraphSolution vars bits ands env
 fewer vars bits ands last env s = record {
   constant = s.constant;
   inputs = s.inputs;
@@ -57,11 +57,11 @@ module _ (vars : ℕ) (gates : List Gate) (i : ℕ) (gate : Gate) (is : slice_ge
     earlier : length old ≤ length new
     few : length new ≤ length old + 1
     kept : (k : ℕ) → k < length old → and_at new k ≡ and_at old k
-    solves : (bits : List Bool) (env : ℕ → Bool) → Solves vars bits new env → Solves vars bits old env
+    solves : (bits : List Bool) (env : ℕ → Bool) → IsGraphSolution vars bits new env → IsGraphSolution vars bits old env
     within : x / 2 ≤ vars + length new
     first : (k : ℕ) → length old ≤ k → k < length new → (and_at new k).first / 2 ≤ vars + k
     second : (k : ℕ) → length old ≤ k → k < length new → (and_at new k).second / 2 ≤ vars + k
-    value : (bits : List Bool) (env : ℕ → Bool) → Solves vars bits new env → literal_value env x ≡ gate_value bits (values bits [] (take i gates)) gate
+    value : (bits : List Bool) (env : ℕ → Bool) → IsGraphSolution vars bits new env → literal_value env x ≡ gate_value bits (values bits [] (take i gates)) gate
 
   grown : (literals : List ℕ) (old new : List code.And) (x : ℕ) → IsGraphOf vars (take i gates) literals old → Fits literals old new x
       → IsGraphOf vars (take (i + 1) gates) (literals ++ x ∷ []) new
@@ -92,7 +92,7 @@ module _ (vars : ℕ) (gates : List Gate) (i : ℕ) (gate : Gate) (is : slice_ge
       second_by k h (inl low) = omega (arith, ap (λ (a : code.And). a.second / 2) (f.kept k low), g.second k low)
       second_by k h (inr le) = f.second k le h
 
-      value_by : (bits : List Bool) (env : ℕ → Bool) → Solves vars bits new env → (k : ℕ) → k < length (literals ++ x ∷ []) → (k < length literals) ⊎ (length literals ≤ k)
+      value_by : (bits : List Bool) (env : ℕ → Bool) → IsGraphSolution vars bits new env → (k : ℕ) → k < length (literals ++ x ∷ []) → (k < length literals) ⊎ (length literals ≤ k)
           → literal_value env (get_or (literals ++ x ∷ []) k 0) ≡ get_or (values bits [] (take (i + 1) gates)) k false
       value_by bits env s k h (inl low) =
           ap (literal_value env) (get_or_append_left literals (x ∷ []) 0 k low)
@@ -104,7 +104,7 @@ module _ (vars : ℕ) (gates : List Gate) (i : ℕ) (gate : Gate) (is : slice_ge
 
   -- a literal that needs no AND
   plain : (literals : List ℕ) (old new : List code.And) (x : ℕ) → new ≡ old → x / 2 ≤ vars + length old
-      → ((bits : List Bool) (env : ℕ → Bool) → Solves vars bits old env → literal_value env x ≡ gate_value bits (values bits [] (take i gates)) gate)
+      → ((bits : List Bool) (env : ℕ → Bool) → IsGraphSolution vars bits old env → literal_value env x ≡ gate_value bits (values bits [] (take i gates)) gate)
       → Fits literals old new x
   plain literals old new x e small v =
       subst (λ (xs : List code.And). Fits literals old xs x) (sym e)
@@ -132,7 +132,7 @@ joined vars gates i a b is inside literals old g ha hb = record {
   first = λ k le h. omega (arith, ap (λ (x : code.And). x.first / 2) (there k (at k le h)), g.within a ha, le);
   second = λ k le h. omega (arith, ap (λ (x : code.And). x.second / 2) (there k (at k le h)), g.within b hb, le);
   value = λ bits env s.
-      let e : Solves vars bits old env = fewer vars bits old last env s in
+      let e : IsGraphSolution vars bits old env = fewer vars bits old last env s in
       even_literal env (vars + (length old + 1))
       ∙ (s.joins (length old) (omega (arith, more))
       ∙ (ap (λ (x : code.And). literal_value env x.first && literal_value env x.second) (there (length old) refl)

@@ -6,8 +6,8 @@ use Rattle.aiger_out.specs.declared.fault.AagFault.{AagFault}
 use Rattle.aiger_out.specs.declared.fault.AagWhy.TheVariants.{Latches, TooMany}
 use Rattle.aiger_out.specs.declared.form.Header.{Header}
 use Rattle.aiger_out.specs.Form.{IsAag, IsFault, first_of, header_fault, text_header}
-use Rattle.aiger_out.specs.Values.{IsRead, Out, AreValues}
-use Rattle.aiger_out.specs.Written.{IsWritten}
+use Rattle.aiger_out.specs.Values.{IsNetOfText, Out, AreValues}
+use Rattle.aiger_out.specs.Written.{IsAagOf}
 use Rattle.aiger_out.proofs.OneAnswer.{not_both, one_solution}
 
 -- a header without a fault has no latches, and room for its inputs and ANDs
@@ -26,11 +26,11 @@ form_at limit other text h a most outputs =
     let short : nat_lt other h.outputs ≡ false = grind (arith, nat_tests) in
     record { header = a.header; fine = rw (plain.0, few, short, plain.1) refl; lines = a.lines }
 
-pub reads_back : (net : Gates) (gates numbers text : List ℕ) (h : Header) → IsWritten net gates numbers text h → net.vars + length net.gates ≤ 1000000 → length gates ≤ 1000000 → IsAag 1000000 text h
+pub reads_back : (net : Gates) (gates numbers text : List ℕ) (h : Header) → IsAagOf net gates numbers text h → net.vars + length net.gates ≤ 1000000 → length gates ≤ 1000000 → IsAag 1000000 text h
 reads_back net gates numbers text h w small few =
     form_at (max h.most h.outputs) 1000000 text h w.form (omega (arith, w.small, small)) (omega (arith, w.outputs, few))
 
-pub no_error : (net : Gates) (gates numbers text : List ℕ) (h : Header) (f : AagFault) → IsWritten net gates numbers text h → net.vars + length net.gates ≤ 1000000 → length gates ≤ 1000000 →
+pub no_error : (net : Gates) (gates numbers text : List ℕ) (h : Header) (f : AagFault) → IsAagOf net gates numbers text h → net.vars + length net.gates ≤ 1000000 → length gates ≤ 1000000 →
     IsFault 1000000 text f.line f.why → ⊥
 no_error net gates numbers text h f w small few fault = not_both 1000000 text h f.line f.why (reads_back net gates numbers text h w small few) fault
 
@@ -43,7 +43,7 @@ one_value limit text h i bits a b form x y =
 some_header : (text : List ℕ) (h k : Header) → text_header text ≡ Some h → text_header text ≡ Some k → h ≡ k
 some_header text h k e f = let same : Some h ≡ Some k = sym e ∙ f in cc (same)
 
-pub same_truths : (net : Gates) (gates numbers text : List ℕ) (h k : Header) (back : Gates) (outs : List ℕ) (i : ℕ) (bits : List Bool) → IsWritten net gates numbers text h → IsRead 1000000 text back outs k →
+pub same_truths : (net : Gates) (gates numbers text : List ℕ) (h k : Header) (back : Gates) (outs : List ℕ) (i : ℕ) (bits : List Bool) → IsAagOf net gates numbers text h → IsNetOfText 1000000 text back outs k →
     i < length gates → truth back (get_or outs i 0) bits ≡ not (truth net (get_or gates i 0) bits)
 same_truths net gates numbers text h k back outs i bits w r low =
     let one : h ≡ k = some_header text h k w.form.header r.form.header in

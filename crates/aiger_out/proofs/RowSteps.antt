@@ -4,8 +4,8 @@ use Rattle.std.specs.Option.{option_map_or}
 use Rattle.std.proofs.lemmas.Bool.{cases_lt}
 use Rattle.std.proofs.lemmas.List.{drop-drop, get_or_append_left, get_or_push, length_push}
 use Rattle.aiger_out.specs.declared.form.Header.{Header}
-use Rattle.aiger_out.specs.declared.form.Line.{Line}
-use Rattle.aiger_out.specs.declared.form.Line.TheVariants.{Other}
+use Rattle.aiger_out.specs.declared.form.AagLine.{AagLine}
+use Rattle.aiger_out.specs.declared.form.AagLine.TheVariants.{Other}
 use Rattle.aiger_out.specs.Lines.{ended, unended}
 use Rattle.aiger_out.specs.Form.{line_at, line_read}
 use Rattle.aiger_out.specs.Rows.{AreRows, row}
@@ -25,7 +25,7 @@ rows_none h text = record {
   more = refl;
 }
 
-pub rows_more : (h : Header) (text : List ℕ) (j : ℕ) (rows : List Line) (rest behind : List ℕ) (line : Line) → AreRows h text j rows rest
+pub rows_more : (h : Header) (text : List ℕ) (j : ℕ) (rows : List AagLine) (rest behind : List ℕ) (line : AagLine) → AreRows h text j rows rest
     → line ≡ option_map_or (line_read h j) (slice_get (ended rest) 0) Other → ended behind ≡ drop 1 (ended rest) → unended behind ≡ unended rest
     → AreRows h text (j + 1) (rows ++ line ∷ []) behind
 unfolding line_at

@@ -12,15 +12,15 @@ use Rattle.aiger_out.specs.declared.fault.AagWhy.{AagWhy}
 use Rattle.aiger_out.specs.declared.fault.AagWhy.TheVariants.{Syntax}
 use Rattle.aiger_out.specs.declared.form.AndLine.{AndLine}
 use Rattle.aiger_out.specs.declared.form.Header.{Header}
-use Rattle.aiger_out.specs.declared.form.Line.{Line}
-use Rattle.aiger_out.specs.declared.form.Line.TheVariants.{Input, Output, And, Other}
+use Rattle.aiger_out.specs.declared.form.AagLine.{AagLine}
+use Rattle.aiger_out.specs.declared.form.AagLine.TheVariants.{Input, Output, And, Other}
 use Rattle.aiger_out.specs.declared.graph.And as code
-use Rattle.rule_gates.specs.declared.rules.Rule.{Rule}
+use Rattle.ctl_rules.specs.declared.rules.Rule.{Rule}
 use Rattle.aiger_out.specs.Lines.{ended, header_of, number_at, one_number, three_numbers, unended}
 use Rattle.aiger_out.specs.Form.{and_line, ands_from, comment_within, fault_at, has_more, header_fault, input_line, is_comment, is_symbol, line_at, line_fault, line_read, names_below, output_line, outputs_from, rest_from, symbol_behind, tail_fault, text_fault, text_header}
-use Rattle.aiger_out.specs.Graphs.{IsGraphOf, Solves, and_at}
+use Rattle.aiger_out.specs.Graphs.{IsGraphOf, IsGraphSolution, and_at}
 use Rattle.aiger_out.specs.Values.{AreValues, IsMet, literal_value, output_literal}
-use Rattle.aiger_out.specs.Written.{IsWritten, and_text, decimal, each, header_text, input_symbol, output_symbol}
+use Rattle.aiger_out.specs.Written.{IsAagOf, and_text, decimal, each, header_text, input_symbol, output_symbol}
 use Rattle.aiger_out.specs.WrittenLines.{AreNegated, IsHeaderOf, IsNegated, and_line_of, gate_of, gates_of, number_of, numbers_of, output_symbol_of, written_lines}
 use Rattle.aiger_out.proofs.Decimal.{AreWords, and_free, and_read, decimal_free, ended_all, header_free, header_read, input_symbol_free, number_read, one_read, output_symbol_free, unended_none}
 use Rattle.aiger_out.proofs.Sections.{section_a, section_b, section_c, section_d, section_e, sections_free, sections_size}
@@ -29,7 +29,7 @@ use Rattle.aiger_out.proofs.Each.{fed_append}
 use Rattle.aiger_out.proofs.Laid.{Laid, laid_fine}
 use Rattle.aiger_out.proofs.OneAnswer.{no_fault}
 
-of_some : (h : Header) (lines : List (List ℕ)) (j : ℕ) (line : List ℕ) (r : Line) → slice_get lines j ≡ Some line → line_read h j line ≡ r → line_at h lines j ≡ r
+of_some : (h : Header) (lines : List (List ℕ)) (j : ℕ) (line : List ℕ) (r : AagLine) → slice_get lines j ≡ Some line → line_read h j line ≡ r → line_at h lines j ≡ r
 unfolding line_at
 of_some h lines j line r e f = ap (λ (x : Option (List ℕ)). option_map_or (line_read h j) x Other) e ∙ f
 
@@ -223,7 +223,7 @@ module _ (net : Gates) (gates numbers : List ℕ) (h : Header) (literals outs : 
   twice : (n : ℕ) → 2 * n / 2 ≡ n
   twice n = omega arith
 
-  solves : (bits : List Bool) (env : ℕ → Bool) → AreValues (line_at h (ended text)) bits env → Solves net.vars bits ands env
+  solves : (bits : List Bool) (env : ℕ → Bool) → AreValues (line_at h (ended text)) bits env → IsGraphSolution net.vars bits ands env
   solves bits env v = record {
     constant = v.constant;
     inputs = λ k l.
@@ -245,10 +245,10 @@ module _ (net : Gates) (gates numbers : List ℕ) (h : Header) (literals outs : 
   value_by : (bits : List Bool) (env : ℕ → Bool) → AreValues (line_at h (ended text)) bits env → (i : ℕ) → i < length gates
       → literal_value env (output_literal (line_at h (ended text) (outputs_from h + i))) ≡ not (truth net (get_or gates i 0) bits)
   value_by bits env v i l =
-      ap (λ (x : Line). literal_value env (output_literal x)) (laid_out.outputs i (omega (arith, l, hd.outputs)))
+      ap (λ (x : AagLine). literal_value env (output_literal x)) (laid_out.outputs i (omega (arith, l, hd.outputs)))
       ∙ ((neg.all i l).negated env ∙ ap not (gate_by bits env v (get_or gates i 0) (cases_lt (get_or gates i 0) (length literals))))
 
-  pub written_is : IsWritten net gates numbers text h
+  pub written_is : IsAagOf net gates numbers text h
   written_is = record {
     form = record { header = header_line h outs ands numbers words text is; fine = header_fine; lines = λ j from. each_fine j from (cases_lt j (rest_from h)) };
     small = omega (arith, hd.most, graph.few);
@@ -264,7 +264,7 @@ module _ (net : Gates) (gates numbers : List ℕ) (h : Header) (literals outs : 
 -- the same of rules, as the writer has them
 pub written_out : (net : Gates) (rules : List Rule) (h : Header) (literals outs slice : List ℕ) (ands : List code.And) (start text : List ℕ) (vars : ℕ) → IsGraphOf net.vars net.gates literals ands
     → AreNegated (length rules) (gates_of rules) literals outs → slice ≡ outs → vars ≡ net.vars → start ≡ []
-    → IsHeaderOf h vars (length rules) (length ands) × (text ≡ start ++ with_line_feeds (written_lines h slice ands (numbers_of rules))) → IsWritten net (gates_of rules) (numbers_of rules) text h
+    → IsHeaderOf h vars (length rules) (length ands) × (text ≡ start ++ with_line_feeds (written_lines h slice ands (numbers_of rules))) → IsAagOf net (gates_of rules) (numbers_of rules) text h
 written_out net rules h literals outs slice ands start text vars graph neg same_outs same_vars none (hd, is) =
     let size : length rules ≡ length (gates_of rules) = sym (length-map rules gate_of) in
     written_is net (gates_of rules) (numbers_of rules) h literals outs ands text graph

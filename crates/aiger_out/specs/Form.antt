@@ -7,8 +7,8 @@ use Rattle.aiger_out.specs.declared.fault.AagWhy.{AagWhy}
 use Rattle.aiger_out.specs.declared.fault.AagWhy.TheVariants.{Syntax, Latches, TooMany, Literal, Twice, Undefined}
 use Rattle.aiger_out.specs.declared.form.Header.{Header}
 use Rattle.aiger_out.specs.declared.form.AndLine.{AndLine}
-use Rattle.aiger_out.specs.declared.form.Line.{Line}
-use Rattle.aiger_out.specs.declared.form.Line.TheVariants.{Input, Output, And, Other}
+use Rattle.aiger_out.specs.declared.form.AagLine.{AagLine}
+use Rattle.aiger_out.specs.declared.form.AagLine.TheVariants.{Input, Output, And, Other}
 use Rattle.aiger_out.specs.Lines.{ended, unended, number_at, one_number, three_numbers, header_of}
 
 -- ---- the lines by their places, from 0 on: the header, inputs, outputs, ANDs, and the rest
@@ -22,20 +22,20 @@ ands_from h = 1 + h.inputs + h.outputs
 abbrev pub rest_from : Header → ℕ
 rest_from h = 1 + h.inputs + h.outputs + h.ands
 
-abbrev pub input_line : Option ℕ → Line
+abbrev pub input_line : Option ℕ → AagLine
 input_line None = Other
 input_line (Some x) = Input x
 
-abbrev pub output_line : Option ℕ → Line
+abbrev pub output_line : Option ℕ → AagLine
 output_line None = Other
 output_line (Some x) = Output x
 
-abbrev pub and_line : Option AndLine → Line
+abbrev pub and_line : Option AndLine → AagLine
 and_line None = Other
 and_line (Some a) = And a
 
 -- what a line says that stands at a place, if it says what it must
-abbrev pub line_read : Header → ℕ → List ℕ → Line
+abbrev pub line_read : Header → ℕ → List ℕ → AagLine
 line_read h j line =
     if j == 0 then Other
     else (if nat_lt j (outputs_from h) then input_line (one_number line)
@@ -44,27 +44,27 @@ line_read h j line =
     else Other)))
 
 -- what the line at a place says; `Other` too where there is none
-unfoldable pub line_at : Header → List (List ℕ) → ℕ → Line
+unfoldable pub line_at : Header → List (List ℕ) → ℕ → AagLine
 line_at h lines j = option_map_or (line_read h j) (slice_get lines j) Other
 
 -- ---- the variables that lines define
 
-abbrev pub top : Header → ℕ
-top h = 2 * h.most + 1
+abbrev pub greatest_literal : Header → ℕ
+greatest_literal h = 2 * h.most + 1
 
 -- a literal that may define a variable: it is even, from 2 on, and in range
-abbrev pub is_fresh : Header → ℕ → Bool
-is_fresh h x = x % 2 == 0 && nat_le 2 x && nat_le x (top h)
+abbrev pub may_be_defined : Header → ℕ → Bool
+may_be_defined h x = x % 2 == 0 && nat_le 2 x && nat_le x (greatest_literal h)
 
 -- a line defines a variable, whatever else is wrong with it
-abbrev pub defines : Header → Line → ℕ → Bool
-defines h (Input x) v = is_fresh h x && x / 2 == v
-defines h (And a) v = is_fresh h a.lhs && a.lhs / 2 == v
+abbrev pub defines : Header → AagLine → ℕ → Bool
+defines h (Input x) v = may_be_defined h x && x / 2 == v
+defines h (And a) v = may_be_defined h a.lhs && a.lhs / 2 == v
 defines h (Output x) v = false
 defines h Other v = false
 
 -- a line before a place defines a variable, where `at` gives the line at each; variable 0 is the constant
-unfoldable pub is_defined : Header → (ℕ → Line) → ℕ → ℕ → Bool
+unfoldable pub is_defined : Header → (ℕ → AagLine) → ℕ → ℕ → Bool
 is_defined h at zero v = v == 0
 is_defined h at (suc j) v = is_defined h at j v || defines h (at j) v
 
@@ -79,16 +79,16 @@ header_fault limit h =
     (first_of (nat_lt limit h.most || nat_lt limit h.outputs || nat_lt h.most (h.inputs + h.ands)) TooMany None)
 
 -- an operand stands behind what defines it; an output may stand before
-abbrev pub line_fault : Header → (ℕ → Line) → ℕ → Line → Option AagWhy
+abbrev pub line_fault : Header → (ℕ → AagLine) → ℕ → AagLine → Option AagWhy
 line_fault h at j Other = Some Syntax
 line_fault h at j (Input x) =
-    first_of (not (is_fresh h x)) Literal
+    first_of (not (may_be_defined h x)) Literal
     (first_of (is_defined h at j (x / 2)) Twice None)
 line_fault h at j (Output x) =
-    first_of (nat_lt (top h) x) Literal
+    first_of (nat_lt (greatest_literal h) x) Literal
     (first_of (not (is_defined h at (rest_from h) (x / 2))) Undefined None)
 line_fault h at j (And a) =
-    first_of (not (is_fresh h a.lhs) || nat_lt (top h) a.rhs0 || nat_lt (top h) a.rhs1) Literal
+    first_of (not (may_be_defined h a.lhs) || nat_lt (greatest_literal h) a.rhs0 || nat_lt (greatest_literal h) a.rhs1) Literal
     (first_of (is_defined h at j (a.lhs / 2)) Twice
     (first_of (not (is_defined h at j (a.rhs0 / 2)) || not (is_defined h at j (a.rhs1 / 2))) Undefined None))
 

@@ -14,7 +14,7 @@ abbrev pub and_at : List code.And → ℕ → code.And
 and_at ands k = get_or ands k (record { first = 0; second = 0 })
 
 -- values of variables that the equations of a graph hold of, at these bits of the net's variables
-pub record Solves (vars : ℕ) (bits : List Bool) (ands : List code.And) (env : ℕ → Bool) : Type 0 where
+pub record IsGraphSolution (vars : ℕ) (bits : List Bool) (ands : List code.And) (env : ℕ → Bool) : Type 0 where
   pub constant : env 0 ≡ false
   pub inputs : (k : ℕ) → k < vars → env (k + 1) ≡ get_or bits k false
   pub joins : (k : ℕ) → k < length ands → env (vars + (k + 1)) ≡ (literal_value env (and_at ands k).first && literal_value env (and_at ands k).second)
@@ -36,5 +36,5 @@ pub record IsGraphOf (vars : ℕ) (gates : List Gate) (literals : List ℕ) (and
   pub within : (g : ℕ) → g < length literals → get_or literals g 0 / 2 ≤ vars + length ands
   pub first : (k : ℕ) → k < length ands → (and_at ands k).first / 2 ≤ vars + k
   pub second : (k : ℕ) → k < length ands → (and_at ands k).second / 2 ≤ vars + k
-  pub values_are : (bits : List Bool) (env : ℕ → Bool) → Solves vars bits ands env
+  pub values_are : (bits : List Bool) (env : ℕ → Bool) → IsGraphSolution vars bits ands env
       → (g : ℕ) → g < length literals → literal_value env (get_or literals g 0) ≡ get_or (values bits [] gates) g false

@@ -4,7 +4,7 @@ use Rattle.nets.specs.Nets.{Gates, truth}
 use Rattle.y86_base.specs.Numeral.{numeral}
 use Rattle.aiger_out.specs.declared.form.AndLine.{AndLine}
 use Rattle.aiger_out.specs.declared.form.Header.{Header}
-use Rattle.aiger_out.specs.declared.form.Line.TheVariants.{Input}
+use Rattle.aiger_out.specs.declared.form.AagLine.TheVariants.{Input}
 use Rattle.aiger_out.specs.Lines.{ended}
 use Rattle.aiger_out.specs.Form.{IsAag, line_at, rest_from}
 use Rattle.aiger_out.specs.Values.{Out}
@@ -39,7 +39,7 @@ each line (suc n) = each line n ++ line n ∷ []
 -- The text of a net with one output for each of some gates, named by a number. It has the form but for the bound of a million, and no more
 -- variables than the net has variables and gates. Its inputs are the variables in their order, each output is 1 exactly where its gate is
 -- false, and the symbols name all of them.
-pub record IsWritten (net : Gates) (gates numbers : List ℕ) (text : List ℕ) (h : Header) : Type 0 where
+pub record IsAagOf (net : Gates) (gates numbers : List ℕ) (text : List ℕ) (h : Header) : Type 0 where
   pub form : IsAag (max h.most h.outputs) text h
   pub small : h.most ≤ net.vars + length net.gates
   pub inputs : h.inputs ≡ net.vars

@@ -3,7 +3,7 @@ use Rattle.std.specs.Prelude.{◌≡◌, ℕ, ◌+◌, ◌*◌, ◌/◌, ◌^◌
 use Rattle.aiger_out.specs.declared.form.AndLine.{AndLine}
 use Rattle.aiger_out.specs.declared.form.Header.{Header}
 use Rattle.aiger_out.specs.declared.graph.And as code
-use Rattle.rule_gates.specs.declared.rules.Rule.{Rule}
+use Rattle.ctl_rules.specs.declared.rules.Rule.{Rule}
 use Rattle.aiger_out.specs.Values.{literal_value}
 use Rattle.aiger_out.specs.Graphs.{and_at}
 use Rattle.aiger_out.specs.Written.{and_text, decimal, each, header_text, input_symbol, output_symbol}

@@ -1,12 +1,12 @@
 //! The lines of a text as a net.
 ghost use Rattle.std.specs.Prelude.{◌≡◌, ℕ, List, Bool, false, ◌+◌, ◌/◌, ◌<◌, ◌≤◌, IfOk, get_or, length, set};
-ghost use Rattle.nets.specs.Nets.{Begins, IsGate, truth};
+ghost use Rattle.nets.specs.Nets.{ExtendsNet, IsGate, truth};
 ghost use Rattle.aiger_out.specs.Form.{rest_from};
 ghost use Rattle.aiger_out.specs.Rows.{row};
 ghost use Rattle.aiger_out.specs.Values.{literal_value, output_literal};
 ghost use Rattle.aiger_out.specs.Solution.{AreBuilt, AreOutputs, HasGates, IsBuilt, MayBuild, gate_values, solution};
 
-use crate::form::Line;
+use crate::form::AagLine;
 use crate::rows::{rest_from, row_at};
 use crate::table::Table;
 use nets::NetBuilder;
@@ -16,8 +16,8 @@ use y86_base::Memory;
 /// A gate for the value of a literal, by the gates of variables, and the gate of those that have none.
 fn literal_gate(b: &mut NetBuilder, gates: &[u64], none: u64, x: u64) -> Result<u64, Memory>
     requires { (v : ℕ) → get_or gates.now v none < length b.old.gates }
-    ensures begins { Begins b.old b.new }
-    ensures made { IfOk result (λ g. IsGate b.new g (λ w. literal_value (gate_values b.old gates.now none w) x)) }
+    ensures extends { ExtendsNet b.old b.new }
+    ensures has_truth { IfOk result (λ g. IsGate b.new g (λ w. literal_value (gate_values b.old gates.now none w) x)) }
 {
     let g = gates.get((x / 2) as usize).copied().unwrap_or(none);
     if x % 2 == 1 { b.not(g) } else { Ok(g) }
@@ -35,21 +35,21 @@ fn put_line(
     requires inside { j < rest_from t.now.header }
     requires has { HasGates t.now.header b.old gates.old none }
     requires may { MayBuild t.now.header b.old.vars j (row t.now.rows.items j) }
-    ensures begins { Begins b.old b.new }
+    ensures extends { ExtendsNet b.old b.new }
     ensures built { IfOk result (λ u. IsBuilt t.now.header b.old gates.old none j (row t.now.rows.items j) b.new gates.new) }
 {
     match row_at(t.rows.as_slice(), j) {
-        Line::Input(x) => {
+        AagLine::Input(x) => {
             let g = b.variable((j - 1) as u32)?;
             gates[(x / 2) as usize] = g;
         }
-        Line::And(a) => {
+        AagLine::And(a) => {
             let first = literal_gate(b, gates, none, a.rhs0)?;
             let second = literal_gate(b, gates, none, a.rhs1)?;
             let g = b.and(first, second)?;
             gates[(a.lhs / 2) as usize] = g;
         }
-        Line::Output(_) | Line::Other => {}
+        AagLine::Output(_) | AagLine::Other => {}
     }
     Ok(())
 }
@@ -60,7 +60,7 @@ fn put_lines(b: &mut NetBuilder, gates: &mut [u64], none: u64, t: &Table) -> Res
     requires has { HasGates t.now.header b.old gates.old none }
     requires start { (w : List Bool) (v : ℕ) → gate_values b.old gates.old none w v ≡ false }
     requires may { (j : ℕ) → j < rest_from t.now.header → MayBuild t.now.header b.old.vars j (row t.now.rows.items j) }
-    ensures begins { Begins b.old b.new }
+    ensures extends { ExtendsNet b.old b.new }
     ensures built { IfOk result (λ u. AreBuilt t.now.header (row t.now.rows.items) (rest_from t.now.header) b.new gates.new none) }
 {
     for j in 0..rest_from(t.header) {
@@ -70,12 +70,12 @@ fn put_lines(b: &mut NetBuilder, gates: &mut [u64], none: u64, t: &Table) -> Res
 }
 
 /// The literal of an output line, and that of false for another.
-fn output_literal(line: Line) -> u64
+fn output_literal(line: AagLine) -> u64
     ensures { result ≡ output_literal line }
 {
     match line {
-        Line::Output(x) => x,
-        Line::Input(_) | Line::And(_) | Line::Other => 0,
+        AagLine::Output(x) => x,
+        AagLine::Input(_) | AagLine::And(_) | AagLine::Other => 0,
     }
 }
 
@@ -89,7 +89,7 @@ fn put_outputs(
     t: &Table,
 ) -> Result<Vec<u64>, Memory>
     requires { HasGates t.now.header b.old gates.now none }
-    ensures begins { Begins b.old b.new }
+    ensures extends { ExtendsNet b.old b.new }
     ensures outputs { IfOk result (λ outs. AreOutputs t.now.header (row t.now.rows.items) (gate_values b.old gates.now none) t.now.header.outputs b.new outs.items) }
 {
     let mut outs: Vec<u64> = Vec::new(alloc);
@@ -115,7 +115,7 @@ pub(crate) fn put_all(
     requires has { HasGates t.now.header b.old gates.old none }
     requires start { (w : List Bool) (v : ℕ) → gate_values b.old gates.old none w v ≡ false }
     requires may { (j : ℕ) → j < rest_from t.now.header → MayBuild t.now.header b.old.vars j (row t.now.rows.items j) }
-    ensures begins { Begins b.old b.new }
+    ensures extends { ExtendsNet b.old b.new }
     ensures outputs { IfOk result (λ outs. AreOutputs t.now.header (row t.now.rows.items) (λ bits. solution t.now.header (row t.now.rows.items) bits (rest_from t.now.header)) t.now.header.outputs b.new outs.items) }
 {
     put_lines(b, gates, none, t)?;

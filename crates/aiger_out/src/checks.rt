@@ -2,17 +2,17 @@
 ghost use Rattle.std.specs.Prelude.{◌≡◌, ℕ, ◌+◌, ◌-◌, ◌<◌, ◌≤◌, MatchOption, None, Some, nat_lt, length};
 ghost use Rattle.aiger_out.specs.Form as spec;
 ghost use Rattle.aiger_out.specs.Rows.{IsFine, IsFirstFault, row};
-ghost use Rattle.aiger_out.specs.declared.form.Line.TheVariants.{And, Input, Output};
+ghost use Rattle.aiger_out.specs.declared.form.AagLine.TheVariants.{And, Input, Output};
 
 use crate::fault::{AagFault, AagWhy};
-use crate::form::{AndLine, Header, Line};
+use crate::form::{AagLine, AndLine, Header};
 use crate::rows::{rest_from, row_at};
-use crate::table::{Table, is_fresh};
+use crate::table::{Table, may_be_defined};
 
 /// A literal of no variable that there is.
 fn is_over(h: Header, x: u64) -> bool
     requires { spec.IsBounded h }
-    ensures { result ≡ nat_lt (spec.top h) x }
+    ensures { result ≡ nat_lt (spec.greatest_literal h) x }
 {
     2 * h.most + 1 < x
 }
@@ -23,7 +23,7 @@ fn and_fault(t: &Table, j: u64, a: AndLine) -> Option<AagWhy>
     requires to { j < spec.rest_from t.now.header }
     ensures { result ≡ spec.line_fault t.now.header (row t.now.rows.items) j (And a) }
 {
-    if !is_fresh(t.header, a.lhs) || is_over(t.header, a.rhs0) || is_over(t.header, a.rhs1) {
+    if !may_be_defined(t.header, a.lhs) || is_over(t.header, a.rhs0) || is_over(t.header, a.rhs1) {
         return Some(AagWhy::Literal);
     }
     if t.is_defined(j, a.lhs / 2) {
@@ -41,7 +41,7 @@ fn input_fault(t: &Table, j: u64, x: u64) -> Option<AagWhy>
     requires to { j < spec.rest_from t.now.header }
     ensures { result ≡ spec.line_fault t.now.header (row t.now.rows.items) j (Input x) }
 {
-    if !is_fresh(t.header, x) {
+    if !may_be_defined(t.header, x) {
         return Some(AagWhy::Literal);
     }
     if t.is_defined(j, x / 2) {
@@ -72,10 +72,10 @@ fn line_fault(t: &Table, j: u64) -> Option<AagWhy>
     ensures { result ≡ spec.line_fault t.now.header (row t.now.rows.items) j (row t.now.rows.items j) }
 {
     match row_at(t.rows.as_slice(), j) {
-        Line::Input(x) => input_fault(t, j, x),
-        Line::Output(x) => output_fault(t, j, x),
-        Line::And(a) => and_fault(t, j, a),
-        Line::Other => Some(AagWhy::Syntax),
+        AagLine::Input(x) => input_fault(t, j, x),
+        AagLine::Output(x) => output_fault(t, j, x),
+        AagLine::And(a) => and_fault(t, j, a),
+        AagLine::Other => Some(AagWhy::Syntax),
     }
 }
 

@@ -20,7 +20,7 @@ pub struct AndLine {
 
 /// A line of a text. `Other` is one that isn't of the form of its place, and one of no number.
 #[derive(Clone, Copy)]
-pub enum Line {
+pub enum AagLine {
     Input(u64),
     Output(u64),
     And(AndLine),

@@ -6,8 +6,8 @@ ghost use Rattle.aiger_out.specs.declared.fault.AagWhy.{AagWhy};
 ghost use Rattle.aiger_out.specs.declared.form.Header.{Header};
 ghost use Rattle.aiger_out.specs.Form.{IsAag, IsFault, line_at};
 ghost use Rattle.aiger_out.specs.Lines.{ended};
-ghost use Rattle.aiger_out.specs.Values.{HaveOneSolution, IsRead};
-ghost use Rattle.aiger_out.specs.Written.{IsWritten};
+ghost use Rattle.aiger_out.specs.Values.{HaveOneSolution, IsNetOfText};
+ghost use Rattle.aiger_out.specs.Written.{IsAagOf};
 
 /// A text has the form, or it has a fault, and not both; it has one fault at most, since the first line with a fault
 /// is told, and the first of its reasons.
@@ -26,11 +26,11 @@ pub fn law_of_values()
 /// What was written has the form, without a fault, where the net has at most a million variables and gates and as many rules. The net
 /// that is read from it has the written truths: each output is 1 exactly where its gate is false.
 pub fn law_of_reading_back()
-    ensures form { (net : Gates) (gates numbers text : List ℕ) (h : Header) → IsWritten net gates numbers text h →
+    ensures form { (net : Gates) (gates numbers text : List ℕ) (h : Header) → IsAagOf net gates numbers text h →
         net.vars + length net.gates ≤ 1000000 → length gates ≤ 1000000 → IsAag 1000000 text h }
-    ensures no_fault { (net : Gates) (gates numbers text : List ℕ) (h : Header) (f : AagFault) → IsWritten net gates numbers text h →
+    ensures no_fault { (net : Gates) (gates numbers text : List ℕ) (h : Header) (f : AagFault) → IsAagOf net gates numbers text h →
         net.vars + length net.gates ≤ 1000000 → length gates ≤ 1000000 → IsFault 1000000 text f.line f.why → ⊥ }
     ensures truths { (net : Gates) (gates numbers text : List ℕ) (h k : Header) (back : Gates) (outs : List ℕ) (i : ℕ) (bits : List Bool) →
-        IsWritten net gates numbers text h → IsRead 1000000 text back outs k → i < length gates →
+        IsAagOf net gates numbers text h → IsNetOfText 1000000 text back outs k → i < length gates →
         truth back (get_or outs i 0) bits ≡ not (truth net (get_or gates i 0) bits) }
 {}

@@ -7,7 +7,7 @@ ghost use Rattle.aiger_out.specs.WrittenLines.{and_line_of, numbers_of, output_s
 
 use crate::form::Header;
 use crate::graph::And;
-use rule_gates::Rule;
+use ctl_rules::Rule;
 use y86_base::{Memory, Numeral, put};
 
 /// Puts a number.

@@ -1,17 +1,17 @@
 //! An AIGER text as a net.
 ghost use Rattle.std.specs.Prelude.{◌≡◌, ℕ, List, Bool, false, ◌+◌, ◌<◌, ◌≤◌, IfOk, MatchResult, length};
 ghost use Rattle.aiger_out.specs.declared.form.Header.{Header};
-ghost use Rattle.aiger_out.specs.declared.form.Line.TheVariants.{Input, Other};
+ghost use Rattle.aiger_out.specs.declared.form.AagLine.TheVariants.{Input, Other};
 ghost use Rattle.aiger_out.specs.Form.{IsBounded, rest_from};
 ghost use Rattle.aiger_out.specs.Rows.{IsFine, row};
 ghost use Rattle.aiger_out.specs.Solution.{InputsFollow, IsNetOf};
 ghost use Rattle.aiger_out.specs.Reading.{AreGoodLines, IsLineError, IsError};
-ghost use Rattle.aiger_out.specs.Values.{IsRead};
+ghost use Rattle.aiger_out.specs.Values.{IsNetOfText};
 
 use crate::build::put_all;
 use crate::checks::first_fault;
 use crate::fault::{AagError, AagFault, AagWhy};
-use crate::form::{Header, Line};
+use crate::form::{AagLine, Header};
 use crate::numbers::{ended_line, header_of};
 use crate::rows::{header_fault, read_rows, rest_from};
 use crate::table::{Table, filled};
@@ -48,7 +48,7 @@ fn build(alloc: Global, t: &Table) -> Result<Aig, Memory>
 }
 
 /// The net of the lines before the symbols, where neither they nor those behind have a fault.
-fn read_lines(alloc: Global, h: Header, rows: Vec<Line>, rest: &[u8]) -> Result<Aig, AagError>
+fn read_lines(alloc: Global, h: Header, rows: Vec<AagLine>, rest: &[u8]) -> Result<Aig, AagError>
     requires bounded { IsBounded h }
     requires size { length rows.items ≡ rest_from h }
     requires header { row rows.items 0 ≡ Other }
@@ -84,7 +84,7 @@ fn header_error(why: AagWhy) -> AagError
 /// Reads a text of at most a million variables and a million outputs. The text ends with its last line, of which a
 /// line feed stands behind each; behind the line `c` anything may stand.
 pub fn read(alloc: Global, bytes: &[u8]) -> Result<Aig, AagError>
-    ensures { MatchResult result (λ a. (h : Header) × IsRead 1000000 bytes.now a.net a.outs h) (λ e. IsError 1000000 bytes.now e) }
+    ensures { MatchResult result (λ a. (h : Header) × IsNetOfText 1000000 bytes.now a.net a.outs h) (λ e. IsError 1000000 bytes.now e) }
 {
     let Some((first, _)) = ended_line(bytes) else {
         return Err(header_error(AagWhy::Syntax));

@@ -4,10 +4,10 @@ ghost use Rattle.std.specs.Option.{option_map_or};
 ghost use Rattle.aiger_out.specs.Form.{IsBounded, header_fault, line_at, line_read, rest_from};
 ghost use Rattle.aiger_out.specs.Lines.{ended, unended};
 ghost use Rattle.aiger_out.specs.Rows.{AreRows, row};
-ghost use Rattle.aiger_out.specs.declared.form.Line.TheVariants.{Other};
+ghost use Rattle.aiger_out.specs.declared.form.AagLine.TheVariants.{Other};
 
 use crate::fault::AagWhy;
-use crate::form::{Header, Line};
+use crate::form::{AagLine, Header};
 use crate::numbers::{ended_line, one_number, three_numbers};
 use std::alloc::Global;
 use y86_base::Memory;
@@ -39,36 +39,36 @@ pub(crate) fn rest_from(h: Header) -> u64
 }
 
 /// What a line says that stands at a place.
-fn line_read(h: Header, j: u64, line: &[u8]) -> Line
+fn line_read(h: Header, j: u64, line: &[u8]) -> AagLine
     requires { IsBounded h }
     ensures { result ≡ line_read h j line.now }
 {
     if j == 0 {
-        return Line::Other;
+        return AagLine::Other;
     }
     if j < 1 + h.inputs {
         return match one_number(line) {
-            Some(x) => Line::Input(x),
-            None => Line::Other,
+            Some(x) => AagLine::Input(x),
+            None => AagLine::Other,
         };
     }
     if j < 1 + h.inputs + h.outputs {
         return match one_number(line) {
-            Some(x) => Line::Output(x),
-            None => Line::Other,
+            Some(x) => AagLine::Output(x),
+            None => AagLine::Other,
         };
     }
     if j < rest_from(h) {
         return match three_numbers(line) {
-            Some(a) => Line::And(a),
-            None => Line::Other,
+            Some(a) => AagLine::And(a),
+            None => AagLine::Other,
         };
     }
-    Line::Other
+    AagLine::Other
 }
 
 /// What the first line of a text says that stands at a place, and what stands behind it.
-fn next_line(h: Header, j: u64, text: &[u8]) -> (Line, &[u8])
+fn next_line(h: Header, j: u64, text: &[u8]) -> (AagLine, &[u8])
     requires { IsBounded h }
     ensures line { result.0 ≡ option_map_or (line_read h j) (slice_get (ended text.now) 0) Other }
     ensures rest { ended result.1.now ≡ drop 1 (ended text.now) }
@@ -76,17 +76,21 @@ fn next_line(h: Header, j: u64, text: &[u8]) -> (Line, &[u8])
 {
     match ended_line(text) {
         Some((line, behind)) => (line_read(h, j, line), behind),
-        None => (Line::Other, text),
+        None => (AagLine::Other, text),
     }
 }
 
 /// The lines before the symbols, and what stands behind them. Where a text ends early, `Other` stands for the rest.
 #[tactic(auto, using(crate::proofs::RowSteps::rows_none, crate::proofs::RowSteps::rows_more))]
-pub(crate) fn read_rows(alloc: Global, h: Header, text: &[u8]) -> Result<(Vec<Line>, &[u8]), Memory>
+pub(crate) fn read_rows(
+    alloc: Global,
+    h: Header,
+    text: &[u8],
+) -> Result<(Vec<AagLine>, &[u8]), Memory>
     requires { IsBounded h }
     ensures { IfOk result (λ p. AreRows h text.now (rest_from h) p.0.items p.1.now) }
 {
-    let mut rows: Vec<Line> = Vec::new(alloc);
+    let mut rows: Vec<AagLine> = Vec::new(alloc);
     let mut rest = text;
     for j in 0..rest_from(h) {
         let (line, behind) = next_line(h, j, rest);
@@ -99,11 +103,11 @@ pub(crate) fn read_rows(alloc: Global, h: Header, text: &[u8]) -> Result<(Vec<Li
 }
 
 /// The line at a place, and `Other` where there is none.
-pub(crate) fn row_at(rows: &[Line], j: u64) -> Line
+pub(crate) fn row_at(rows: &[AagLine], j: u64) -> AagLine
     ensures { result ≡ row rows.now j }
 {
     match rows.get(j as usize) {
         Some(line) => *line,
-        None => Line::Other,
+        None => AagLine::Other,
     }
 }

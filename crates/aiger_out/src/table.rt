@@ -2,9 +2,9 @@
 ghost use Rattle.std.specs.Prelude.{◌≡◌, ℕ, ◌+◌, ◌/◌, ◌<◌, ◌≤◌, ◌==◌, ◌&&◌, if◌then◌else◌, MatchOption, IfOk, false, length, replicate};
 ghost use Rattle.aiger_out.specs.Form as spec;
 ghost use Rattle.aiger_out.specs.Rows.{AreFirsts, first_at, nowhere, row};
-ghost use Rattle.aiger_out.specs.declared.form.Line.TheVariants.{Other};
+ghost use Rattle.aiger_out.specs.declared.form.AagLine.TheVariants.{Other};
 
-use crate::form::{Header, Line};
+use crate::form::{AagLine, Header};
 use crate::rows::row_at;
 use std::alloc::Global;
 use y86_base::Memory;
@@ -16,7 +16,7 @@ const NOWHERE: u64 = u64::MAX;
 #[derive(Drop)]
 pub(crate) struct Table {
     pub(crate) header: Header,
-    pub(crate) rows: Vec<Line>,
+    pub(crate) rows: Vec<AagLine>,
     firsts: Vec<u64>,
     ghost bounded: { spec.IsBounded header },
     ghost size: { length rows.items ≡ spec.rest_from header },
@@ -34,26 +34,26 @@ pub(crate) fn filled(alloc: Global, count: usize, x: u64) -> Result<Vec<u64>, Me
 }
 
 /// A literal that may define a variable.
-pub(crate) fn is_fresh(h: Header, x: u64) -> bool
+pub(crate) fn may_be_defined(h: Header, x: u64) -> bool
     requires { spec.IsBounded h }
-    ensures { result ≡ spec.is_fresh h x }
+    ensures { result ≡ spec.may_be_defined h x }
 {
     x % 2 == 0 && 2 <= x && x <= 2 * h.most + 1
 }
 
 /// The literal by which a line may define a variable.
-fn new_literal(line: Line) -> Option<u64>
-    ensures { MatchOption result ((h : Header) (v : ℕ) → spec.defines h line v ≡ false) (λ x. (h : Header) (v : ℕ) → spec.defines h line v ≡ (spec.is_fresh h x && x / 2 == v)) }
+fn new_literal(line: AagLine) -> Option<u64>
+    ensures { MatchOption result ((h : Header) (v : ℕ) → spec.defines h line v ≡ false) (λ x. (h : Header) (v : ℕ) → spec.defines h line v ≡ (spec.may_be_defined h x && x / 2 == v)) }
 {
     match line {
-        Line::Input(x) => Some(x),
-        Line::And(a) => Some(a.lhs),
-        Line::Output(_) | Line::Other => None,
+        AagLine::Input(x) => Some(x),
+        AagLine::And(a) => Some(a.lhs),
+        AagLine::Output(_) | AagLine::Other => None,
     }
 }
 
 /// Keeps the place of a line as that of the variable that it defines, where none is kept.
-fn mark(firsts: &mut [u64], h: Header, line: Line, j: u64)
+fn mark(firsts: &mut [u64], h: Header, line: AagLine, j: u64)
     requires bounded { spec.IsBounded h }
     requires size { length firsts.old ≡ h.most + 1 }
     ensures { (v : ℕ) → first_at firsts.new v ≡ (if spec.defines h line v && first_at firsts.old v == nowhere then j else first_at firsts.old v) }
@@ -61,14 +61,14 @@ fn mark(firsts: &mut [u64], h: Header, line: Line, j: u64)
     let Some(x) = new_literal(line) else {
         return;
     };
-    if is_fresh(h, x) && firsts[(x / 2) as usize] == NOWHERE {
+    if may_be_defined(h, x) && firsts[(x / 2) as usize] == NOWHERE {
         firsts[(x / 2) as usize] = j;
     }
 }
 
 /// Keeps the places of all lines behind the header.
 #[tactic(auto, using(crate::proofs::Firsts::firsts_more))]
-fn mark_all(firsts: &mut [u64], h: Header, rows: &[Line])
+fn mark_all(firsts: &mut [u64], h: Header, rows: &[AagLine])
     requires bounded { spec.IsBounded h }
     requires size { length rows.now ≡ spec.rest_from h }
     requires start { AreFirsts h (row rows.now) 1 firsts.old }
@@ -82,7 +82,7 @@ fn mark_all(firsts: &mut [u64], h: Header, rows: &[Line])
 
 /// The place of the first line that defines each variable; of the constant 0.
 #[tactic(auto, using(crate::proofs::Firsts::firsts_start, crate::proofs::Firsts::lent))]
-fn read_firsts(alloc: Global, h: Header, rows: &[Line]) -> Result<Vec<u64>, Memory>
+fn read_firsts(alloc: Global, h: Header, rows: &[AagLine]) -> Result<Vec<u64>, Memory>
     requires bounded { spec.IsBounded h }
     requires size { length rows.now ≡ spec.rest_from h }
     requires header { row rows.now 0 ≡ Other }
@@ -98,7 +98,7 @@ fn read_firsts(alloc: Global, h: Header, rows: &[Line]) -> Result<Vec<u64>, Memo
 
 impl Table {
     /// A table of lines.
-    pub(crate) fn new(alloc: Global, header: Header, rows: Vec<Line>) -> Result<Table, Memory>
+    pub(crate) fn new(alloc: Global, header: Header, rows: Vec<AagLine>) -> Result<Table, Memory>
         requires bounded { spec.IsBounded header }
         requires size { length rows.items ≡ spec.rest_from header }
         requires header { row rows.items 0 ≡ Other }

@@ -3,7 +3,7 @@ ghost use Rattle.std.specs.Prelude.{◌≡◌, ◌++◌, IfOk, get_or, length};
 ghost use Rattle.y86_base.specs.Text.{with_line_feeds};
 ghost use Rattle.aiger_out.specs.declared.form.Header.{Header};
 ghost use Rattle.aiger_out.specs.Graphs.{IsGraphOf};
-ghost use Rattle.aiger_out.specs.Written.{IsWritten};
+ghost use Rattle.aiger_out.specs.Written.{IsAagOf};
 ghost use Rattle.aiger_out.specs.WrittenLines.{AreNegated, IsHeaderOf, IsNegated, gates_of, numbers_of, written_lines};
 
 use crate::form::Header;
@@ -11,8 +11,8 @@ use crate::graph::{And, graph_of, negated};
 use crate::lines_out::{
     put_ands, put_header, put_input_symbols, put_inputs, put_output_symbols, put_outputs,
 };
+use ctl_rules::{Rule, Rules};
 use nets::Net;
-use rule_gates::{Rule, Rules};
 use std::alloc::Global;
 use y86_base::Memory;
 
@@ -99,7 +99,7 @@ fn write_rules(
     ands: &[And],
 ) -> Result<Vec<u8>, Memory>
     requires { IsGraphOf net.now.vars net.now.gates literals.now ands.now }
-    ensures { IfOk result (λ text. (h : Header) × IsWritten net.now (gates_of rules.now) (numbers_of rules.now) text.items h) }
+    ensures { IfOk result (λ text. (h : Header) × IsAagOf net.now (gates_of rules.now) (numbers_of rules.now) text.items h) }
 {
     let outs = output_literals(alloc, rules, literals)?;
     let mut text: Vec<u8> = Vec::new(alloc);
@@ -110,7 +110,7 @@ fn write_rules(
 /// Writes the rules: an input for each variable, and for each rule an output that is 1 where it isn't met. All
 /// conjunctions of the net are written, also those that no rule reads.
 pub fn write(alloc: Global, r: &Rules) -> Result<Vec<u8>, Memory>
-    ensures { IfOk result (λ text. (h : Header) × IsWritten r.now.net (gates_of r.now.list) (numbers_of r.now.list) text.items h) }
+    ensures { IfOk result (λ text. (h : Header) × IsAagOf r.now.net (gates_of r.now.list) (numbers_of r.now.list) text.items h) }
 {
     let graph = graph_of(alloc, &r.net)?;
     write_rules(

@@ -1,7 +1,7 @@
 -- Counts of places.
 use Rattle.std.proofs.Common.{◌≡◌, ℕ, zero, suc, ◌+◌, ◌<◌, ◌≤◌, Bool, true, false, if◌then◌else◌, List, [], length, get_or, refl, sym, ap, ◌∙◌, arith, add-one}
 use Rattle.std.proofs.lemmas.List.{get_or-map}
-use Rattle.lane_eval.specs.Lanes.{across, in_place}
+use Rattle.lane_eval.specs.Lanes.{across, lane_bit}
 use Rattle.nets.specs.Nets.{Gates, truth, truths}
 use Rattle.aiger_run.specs.Counts.{AreCounted, AreCounts, AreCountsAt, count_below}
 use Rattle.aiger_run.specs.Vectors.{vector}
@@ -40,16 +40,16 @@ same_count f g (suc n) e =
 
 -- the place of a gate's vector is its truth at the valuation in that place
 place_is : (net : Gates) (lanes scratch : List (List ℕ)) (g p : ℕ) → g < length scratch → across p scratch ≡ truths net (across p lanes)
-    → in_place p (get_or scratch g []) ≡ truth net g (across p lanes)
+    → lane_bit p (get_or scratch g []) ≡ truth net g (across p lanes)
 unfolding truth
-place_is net lanes scratch g p l e = sym (get_or-map (in_place p) scratch g [] false l) ∙ ap (λ (xs : List Bool). get_or xs g false) e
+place_is net lanes scratch g p l e = sym (get_or-map (lane_bit p) scratch g [] false l) ∙ ap (λ (xs : List Bool). get_or xs g false) e
 
 pub counts_at : (net : Gates) (gates : List ℕ) (lanes scratch : List (List ℕ)) (counts : List ℕ) → length scratch ≡ length net.gates
     → ((i : ℕ) → i < length gates → get_or gates i 0 < length net.gates)
     → ((p : ℕ) → p < 512 → across p scratch ≡ truths net (across p lanes)) → AreCounted scratch gates (length gates) counts → AreCountsAt net gates lanes counts
 counts_at net gates lanes scratch counts made inside run a = record {
   size = a.size;
-  each = λ i l. a.each i l ∙ same_count (λ p. in_place p (get_or scratch (get_or gates i 0) [])) (λ p. truth net (get_or gates i 0) (across p lanes)) 512
+  each = λ i l. a.each i l ∙ same_count (λ p. lane_bit p (get_or scratch (get_or gates i 0) [])) (λ p. truth net (get_or gates i 0) (across p lanes)) 512
       (λ p low. place_is net lanes scratch (get_or gates i 0) p (omega (arith, inside i l, made)) (run p low));
 }
 

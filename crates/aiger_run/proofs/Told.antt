@@ -2,13 +2,13 @@
 use Rattle.std.proofs.Common.{◌≡◌, ℕ, List, get_or, ◌∙◌, subst, arith}
 use Rattle.nets.specs.Nets.{Gates, truth}
 use Rattle.aiger_out.specs.declared.form.Header.{Header}
-use Rattle.aiger_out.specs.Values.{IsRead, Out}
+use Rattle.aiger_out.specs.Values.{IsNetOfText, Out}
 use Rattle.aiger_run.specs.Counts.{AreCounts}
-use Rattle.aiger_run.specs.Told.{TellsCounts, counts_text}
+use Rattle.aiger_run.specs.PrintedCounts.{PrintsCounts, counts_text}
 use Rattle.aiger_run.specs.Vectors.{vector}
 
-pub tells_counts : (text : List ℕ) (net : Gates) (outs : List ℕ) (h : Header) (seed : ℕ) (counts told : List ℕ) → IsRead 1000000 text net outs h → AreCounts net outs seed counts → told ≡ counts_text counts
-    → TellsCounts text seed told
+pub tells_counts : (text : List ℕ) (net : Gates) (outs : List ℕ) (h : Header) (seed : ℕ) (counts told : List ℕ) → IsNetOfText 1000000 text net outs h → AreCounts net outs seed counts → told ≡ counts_text counts
+    → PrintsCounts text seed told
 tells_counts text net outs h seed counts told r a is = record {
   header = h;
   form = r.form;

@@ -1,6 +1,6 @@
 -- How often each output is 1.
 use Rattle.std.specs.Prelude.{◌≡◌, ℕ, zero, suc, ◌+◌, ◌<◌, Bool, if◌then◌else◌, List, [], length, get_or}
-use Rattle.lane_eval.specs.Lanes.{across, in_place}
+use Rattle.lane_eval.specs.Lanes.{across, lane_bit}
 use Rattle.nets.specs.Nets.{Gates, truth}
 use Rattle.aiger_run.specs.Vectors.{vector}
 
@@ -17,7 +17,7 @@ pub record AreCounts (net : Gates) (gates : List ℕ) (seed : ℕ) (counts : Lis
 -- so many gates, by their vectors
 pub record AreCounted (scratch : List (List ℕ)) (gates : List ℕ) (count : ℕ) (counts : List ℕ) : Type 0 where
   pub size : length counts ≡ count
-  pub each : (i : ℕ) → i < count → get_or counts i 0 ≡ count_below (λ p. in_place p (get_or scratch (get_or gates i 0) [])) 512
+  pub each : (i : ℕ) → i < count → get_or counts i 0 ≡ count_below (λ p. lane_bit p (get_or scratch (get_or gates i 0) [])) 512
 
 -- of each gate, in how many of 512 places it is true, where each place has a valuation of the variables
 pub record AreCountsAt (net : Gates) (gates : List ℕ) (lanes : List (List ℕ)) (counts : List ℕ) : Type 0 where

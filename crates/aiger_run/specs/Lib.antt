@@ -1,3 +1,3 @@
 pub mod Vectors
 pub mod Counts
-pub mod Told
+pub mod PrintedCounts

@@ -1,7 +1,7 @@
 //! At how many vectors an output is 1.
 ghost use Rattle.std.specs.Prelude.{◌≡◌, ◌<◌, ◌≤◌, ◌+◌, ℕ, [], IfOk, get_or, length};
 ghost use Rattle.aiger_run.specs.Counts.{AreCounted, AreCounts, AreCountsAt, count_below};
-ghost use Rattle.lane_eval.specs.Lanes.{bit_test, in_place};
+ghost use Rattle.lane_eval.specs.Lanes.{bit_test, lane_bit};
 
 use crate::inputs::vectors;
 use aiger_out::Aig;
@@ -19,10 +19,10 @@ fn is_set(word: u64, k: u64) -> bool
 }
 
 /// Whether a vector is true in a place.
-#[tactic(auto, unfolding(lane_eval::specs::Lanes::in_place))]
+#[tactic(auto, unfolding(lane_eval::specs::Lanes::lane_bit))]
 fn is_true(words: &[u64; 8], p: u64) -> bool
     requires { p < 512 }
-    ensures { result ≡ in_place p words.now }
+    ensures { result ≡ lane_bit p words.now }
 {
     is_set(words[(p / 64) as usize], p % 64)
 }
@@ -30,7 +30,7 @@ fn is_true(words: &[u64; 8], p: u64) -> bool
 /// In how many places a vector is true.
 #[tactic(auto, using(crate::proofs::Places::count_none, crate::proofs::Places::count_yes, crate::proofs::Places::count_no, crate::proofs::Places::count_within))]
 fn count_true(vector: u64x8) -> u64
-    ensures { result ≡ count_below (λ p. in_place p vector) 512 }
+    ensures { result ≡ count_below (λ p. lane_bit p vector) 512 }
 {
     let words = vector.to_array();
     let mut count: u64 = 0;
@@ -59,7 +59,7 @@ fn count_gates(alloc: Global, s: &Scratch, gates: &[u64]) -> Result<Vec<u64>, Me
 
 /// The counts of all outputs at vectors that stand in lanes. All gates are evaluated once, for all outputs.
 fn count_all(alloc: Global, aig: &Aig, lanes: &[u64x8], s: &mut Scratch) -> Result<Vec<u64>, Memory>
-    requires made { length s.old ≡ length aig.now.net.gates }
+    requires has_truth { length s.old ≡ length aig.now.net.gates }
     requires variables { length lanes.now ≡ aig.now.net.vars }
     requires gates { (i : ℕ) → i < length aig.now.outs → get_or aig.now.outs i 0 < length aig.now.net.gates }
     ensures { IfOk result (λ counts. AreCountsAt aig.now.net aig.now.outs lanes.now counts.items) }

@@ -3,7 +3,7 @@
 
 mod counting;
 mod inputs;
-mod telling;
+mod printing;
 
 pub use counting::counts;
-pub use telling::count_outputs;
+pub use printing::count_outputs;

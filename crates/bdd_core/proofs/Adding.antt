@@ -3,15 +3,15 @@ use Rattle.std.proofs.Common.{◌≡◌, ◌⊎◌, inl, inr, ℕ, ◌+◌, ◌-
 use Rattle.std.proofs.lemmas.Bool.{cases_lt}
 use Rattle.std.proofs.lemmas.List.{length_push}
 use Rattle.std.proofs.lemmas.Option.{slice_get-get_or}
-use Rattle.bdd_core.specs.Diagrams.{Diagrams, at, count, IsOrdered, IsWell, IsBranch, Keeps}
+use Rattle.bdd_core.specs.Diagrams.{Diagrams, at, count, IsOrdered, IsReduced, IsBranch, Keeps}
 use Rattle.bdd_core.specs.Tables.{IsNewIn}
 use Rattle.bdd_core.proofs.Truths.{at_list, at_pushed, at_last}
-use Rattle.bdd_core.specs.declared.nodes.Decision.{Decision}
+use Rattle.bdd_core.specs.declared.nodes.ChoiceNode.{ChoiceNode}
 
-module _ {vars n : ℕ} {node other : ℕ → Decision} (o : IsOrdered vars n node) (c : Decision)
+module _ {vars n : ℕ} {node other : ℕ → ChoiceNode} (o : IsOrdered vars n node) (c : ChoiceNode)
     (same : (d : ℕ) → d < n → other d ≡ node d) (last : other n ≡ c) where
   -- what holds of the earlier nodes and of the new one holds of all
-  each : (P : ℕ → Decision → Type 0) → ((d : ℕ) → 2 ≤ d → d < n → P d (node d)) → P n c → (d : ℕ) → 2 ≤ d → d < n + 1 → P d (other d)
+  each : (P : ℕ → ChoiceNode → Type 0) → ((d : ℕ) → 2 ≤ d → d < n → P d (node d)) → P n c → (d : ℕ) → 2 ≤ d → d < n + 1 → P d (other d)
   each P old new d h i =
       elim (cases_lt d n) [
         | inl p ↦ subst (P d) (sym (same d p)) (old d h p)
@@ -21,7 +21,7 @@ module _ {vars n : ℕ} {node other : ℕ → Decision} (o : IsOrdered vars n no
   module _ (var : c.var < vars) (low : c.low < n) (high : c.high < n) (low_later : c.var < (node c.low).var) (high_later : c.var < (node c.high).var)
       (differ : c.low ≡ c.high → ⊥) (new : (d : ℕ) → 2 ≤ d → d < n → node d ≡ c → ⊥) where
     rises : (x d : ℕ) → d < n → x < (node d).var → x < (other d).var
-    rises x d h i = subst (λ (e : Decision). x < e.var) (sym (same d h)) i
+    rises x d h i = subst (λ (e : ChoiceNode). x < e.var) (sym (same d h)) i
 
     alone : (d e : ℕ) → 2 ≤ d → 2 ≤ e → d < n + 1 → e < n + 1 → other d ≡ other e → d ≡ e
     alone d e h i j k q = by (cases_lt d n) (cases_lt e n)
@@ -48,7 +48,7 @@ module _ {vars n : ℕ} {node other : ℕ → Decision} (o : IsOrdered vars n no
       alone = alone;
     }
 
-pub pushed_well : (s : Diagrams) (c : Decision) → IsWell s → IsBranch s c → IsNewIn s.nodes c → IsWell record { vars = s.vars; nodes = s.nodes ++ c ∷ [] }
+pub pushed_well : (s : Diagrams) (c : ChoiceNode) → IsReduced s → IsBranch s c → IsNewIn s.nodes c → IsReduced record { vars = s.vars; nodes = s.nodes ++ c ∷ [] }
 pushed_well s c well b new =
     let t : Diagrams = record { vars = s.vars; nodes = s.nodes ++ c ∷ [] } in
     let absent : (d : ℕ) → 2 ≤ d → d < count s → at s d ≡ c → ⊥ =
@@ -57,11 +57,11 @@ pushed_well s c well b new =
     subst (λ (k : ℕ). IsOrdered s.vars k (at t)) n
     (added_ordered well c (at_pushed s c) (at_last s c) b.var b.low b.high b.low_later b.high_later b.differ absent)
 
-pub pushed_keeps : (s : Diagrams) (c : Decision) → Keeps s record { vars = s.vars; nodes = s.nodes ++ c ∷ [] }
+pub pushed_keeps : (s : Diagrams) (c : ChoiceNode) → Keeps s record { vars = s.vars; nodes = s.nodes ++ c ∷ [] }
 pushed_keeps s c = record { vars = refl; more = omega (arith, length_push s.nodes c); nodes = at_pushed s c }
 
 -- no nodes
-pub none_well : (vars : ℕ) → IsWell record { vars = vars; nodes = [] }
+pub none_well : (vars : ℕ) → IsReduced record { vars = vars; nodes = [] }
 unfolding at
 none_well vars = record {
   two = omega arith;

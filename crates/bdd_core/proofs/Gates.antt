@@ -7,7 +7,7 @@ use Rattle.nets.specs.Nets.{Gates, gate_value, truths}
 use Rattle.nets.specs.Nets.{truth as gate_truth}
 use Rattle.nets.specs.declared.net.Gate.{Gate}
 use Rattle.nets.specs.declared.net.Gate.TheVariants.{Const, Var, Not, And}
-use Rattle.bdd_core.specs.Diagrams.{Diagrams, at, count, dia_truth, reach, IsWell, Keeps}
+use Rattle.bdd_core.specs.Diagrams.{Diagrams, at, count, dia_truth, reach, IsReduced, Keeps}
 use Rattle.bdd_core.specs.Answers.{IsMade, IsAnswer}
 use Rattle.bdd_core.specs.declared.results.Op.TheVariants.{And as Conjunction, Not as Negation}
 use Rattle.bdd_core.specs.Building.{ReadsMarked, IsCone, HasTruth, made_value, IsMadeOf}
@@ -17,7 +17,7 @@ use Rattle.bdd_core.proofs.Applying.{first_truth, second_truth}
 use Rattle.bdd_core.proofs.Truths.{truth_kept}
 
 -- the diagram of a variable
-pub variable_truth : (s : Diagrams) (x d : ℕ) (v : List Bool) → IsWell s → IsMade s x 0 1 d → dia_truth s d v ≡ get_or v x false
+pub variable_truth : (s : Diagrams) (x d : ℕ) (v : List Bool) → IsReduced s → IsMade s x 0 1 d → dia_truth s d v ≡ get_or v x false
 unfolding dia_truth
 variable_truth s x d v well made = by (cases_Bool (get_or v x false))
   where
@@ -26,7 +26,7 @@ variable_truth s x d v well made = by (cases_Bool (get_or v x false))
     by (inr b) = sym (part_truth well x false d v made.within b) ∙ (ap (λ (k : ℕ). reach (at s) k k v) made.is_low ∙ (first_truth s v well ∙ sym b))
 
 -- what has the truth of a gate keeps it
-pub truth_stays : {a b : Diagrams} {n : Gates} {j d : ℕ} → IsWell a → Keeps a b → HasTruth a n j d → HasTruth b n j d
+pub truth_stays : {a b : Diagrams} {n : Gates} {j d : ℕ} → IsReduced a → Keeps a b → HasTruth a n j d → HasTruth b n j d
 truth_stays {a} {b} {n} {j} {d} well keeps has = record {
   within = let m = keeps.more in let w = has.within in omega (arith, m, w);
   is = λ v h. truth_kept well keeps d v has.within ∙ has.is v (h ∙ keeps.vars);
@@ -59,7 +59,7 @@ pub marked_later : (old : List Bool) (a i j : ℕ) → a < i → i ≤ j → get
 marked_later old a i j h k = get_or-set_other old a j true false (λ e. absurd (omega (arith, e, h, k)))
 
 -- earlier diagrams stay
-pub stays : {a b : Diagrams} → IsWell a → Keeps a b → Stay a b
+pub stays : {a b : Diagrams} → IsReduced a → Keeps a b → Stay a b
 stays {a} {b} well keeps = record {
   vars = keeps.vars;
   stay = λ d h. (let m = keeps.more in omega (arith, m, h));
@@ -67,25 +67,25 @@ stays {a} {b} well keeps = record {
 }
 
 -- the diagram of each gate
-pub made_true : (s : Diagrams) (made : List ℕ) (g : Gate) (b : Bool) → IsWell s → g ≡ Const b → b ≡ true → IsMadeOf s s made g 1
+pub made_true : (s : Diagrams) (made : List ℕ) (g : Gate) (b : Bool) → IsReduced s → g ≡ Const b → b ≡ true → IsMadeOf s s made g 1
 made_true s made g b well is e =
     subst (λ (x : Gate). IsMadeOf s s made x 1) (sym is) (record { within = omega arith; is = λ v h. second_truth s v well ∙ sym e })
 
-pub made_false : (s : Diagrams) (made : List ℕ) (g : Gate) (b : Bool) → IsWell s → g ≡ Const b → b ≡ false → IsMadeOf s s made g 0
+pub made_false : (s : Diagrams) (made : List ℕ) (g : Gate) (b : Bool) → IsReduced s → g ≡ Const b → b ≡ false → IsMadeOf s s made g 0
 made_false s made g b well is e =
     subst (λ (x : Gate). IsMadeOf s s made x 0) (sym is) (record { within = omega arith; is = λ v h. first_truth s v well ∙ sym e })
 
-pub made_var : (old new : Diagrams) (made : List ℕ) (x d : ℕ) → IsWell new → IsMade new x 0 1 d → IsMadeOf old new made (Var x) d
+pub made_var : (old new : Diagrams) (made : List ℕ) (x d : ℕ) → IsReduced new → IsMade new x 0 1 d → IsMadeOf old new made (Var x) d
 made_var old new made x d well is = record { within = is.within; is = λ v h. variable_truth new x d v well is }
 
-pub made_not : (old new : Diagrams) (made : List ℕ) (a d : ℕ) → IsWell old → Keeps old new → get_or made a 0 < count old
+pub made_not : (old new : Diagrams) (made : List ℕ) (a d : ℕ) → IsReduced old → Keeps old new → get_or made a 0 < count old
     → IsAnswer new record { op = Negation; left = get_or made a 0; right = get_or made a 0 } d → IsMadeOf old new made (Not a) d
 made_not old new made a d well keeps h answer = record {
   within = answer.within;
   is = λ v k. answer.truth_is v k ∙ ap not (truth_kept well keeps (get_or made a 0) v h);
 }
 
-pub made_and : (old new : Diagrams) (made : List ℕ) (a b d : ℕ) → IsWell old → Keeps old new → get_or made a 0 < count old → get_or made b 0 < count old
+pub made_and : (old new : Diagrams) (made : List ℕ) (a b d : ℕ) → IsReduced old → Keeps old new → get_or made a 0 < count old → get_or made b 0 < count old
     → IsAnswer new record { op = Conjunction; left = get_or made a 0; right = get_or made b 0 } d → IsMadeOf old new made (And a b) d
 made_and old new made a b d well keeps h i answer = record {
   within = answer.within;

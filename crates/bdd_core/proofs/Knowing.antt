@@ -6,7 +6,7 @@ use Rattle.y86_base.proofs.Lists.{none_true}
 use Rattle.nets.specs.Nets.{Gates, ReadsEarlier, gate_value, truths}
 use Rattle.nets.specs.Nets.{truth as gate_truth}
 use Rattle.nets.specs.declared.net.Gate.{Gate}
-use Rattle.bdd_core.specs.Diagrams.{Diagrams, dia_truth, IsWell, Keeps}
+use Rattle.bdd_core.specs.Diagrams.{Diagrams, dia_truth, IsReduced, Keeps}
 use Rattle.bdd_core.specs.Building.{AreKnown, AreMade, HasTruth, IsCone, IsMadeOf, KnowsAll, KnowsBefore, KnownGates, ReadsMarked}
 use Rattle.bdd_core.specs.Meaning.{IsBuilt}
 use Rattle.bdd_core.specs.declared.store.Dia.{Dia}
@@ -15,7 +15,7 @@ use Rattle.bdd_core.proofs.Gates.{truth_stays, value_is}
 pub none_known : (n : Gates) (b : KnownGates) (k : ℕ) → k ≡ length n.gates → b.known ≡ replicate k false → b.made ≡ replicate k 0 → (s : Diagrams) → AreKnown s n b
 none_known n b k e known made s = record { size = ap length known ∙ (length-replicate k false ∙ e); room = ap length made ∙ (length-replicate k 0 ∙ e); each = λ j h. absurd (none_true k j (ap (λ (xs : List Bool). get_or xs j false) (sym known) ∙ h)) }
 
-pub known_stays : {a b : Diagrams} {n : Gates} {k : KnownGates} → IsWell a → Keeps a b → AreKnown a n k → AreKnown b n k
+pub known_stays : {a b : Diagrams} {n : Gates} {k : KnownGates} → IsReduced a → Keeps a b → AreKnown a n k → AreKnown b n k
 known_stays well keeps known = record { size = known.size; room = known.room; each = λ j h. truth_stays well keeps (known.each j h) }
 
 -- the diagrams that a gate reads are there
@@ -38,7 +38,7 @@ gate_is {a} {b} {n} {k} {i} {d} {g} keeps known reads meaning made_of = record {
       ∙ sym (meaning v)));
 }
 
-pub known_more : {a b : Diagrams} {n : Gates} {k : KnownGates} {i d : ℕ} {g : Gate} → IsWell a → Keeps a b → AreKnown a n k → i < length n.gates → ReadsMarked k.known g
+pub known_more : {a b : Diagrams} {n : Gates} {k : KnownGates} {i d : ℕ} {g : Gate} → IsReduced a → Keeps a b → AreKnown a n k → i < length n.gates → ReadsMarked k.known g
     → ((w : List Bool) → gate_truth n i w ≡ gate_value w (truths n w) g) → IsMadeOf a b k.made g d → AreKnown b n (record { known = set k.known i true; made = set k.made i d })
 known_more {a} {b} {n} {k} {i} {d} {g} well keeps known lt reads meaning made_of = record {
   size = length-set k.known i true ∙ known.size;

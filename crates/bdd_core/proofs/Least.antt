@@ -2,11 +2,11 @@
 use Rattle.std.proofs.Common.{◌≡◌, inl, inr, ℕ, ◌<◌, ◌≤◌, Bool, true, false, List, length, replicate, set, get_or, refl, sym, ap, ◌∙◌, subst, arith}
 use Rattle.std.proofs.lemmas.Bool.{cases_lt, cases_order, false≢true}
 use Rattle.std.proofs.lemmas.List.{get_or-set_other, get_or-set_same, length-set, length-replicate, get_or-replicate, get_or_past}
-use Rattle.bdd_core.specs.Diagrams.{Diagrams, at, count, reach, dia_truth, child, IsWell}
-use Rattle.bdd_core.specs.Meaning.{IsDia, truth_of, Agree, IsLeastFalse}
+use Rattle.bdd_core.specs.Diagrams.{Diagrams, at, count, reach, dia_truth, child, IsReduced}
+use Rattle.bdd_core.specs.Meaning.{IsDia, truth_of, Agree, IsLeastFalsifying}
 use Rattle.bdd_core.proofs.Applying.{first_truth, second_truth}
 use Rattle.bdd_core.proofs.Reaching.{reach_step}
-use Rattle.bdd_core.specs.declared.nodes.Decision.{Decision}
+use Rattle.bdd_core.specs.declared.nodes.ChoiceNode.{ChoiceNode}
 use Rattle.bdd_core.specs.declared.store.Dia.{Dia}
 
 -- the walk has come to diagram e, and its bits before the variable of e are chosen
@@ -33,7 +33,7 @@ down_start s d e bits h other is zeros = record {
     none i = ap (λ (xs : List Bool). get_or xs i false) zeros ∙
         elim (cases_lt i s.vars) [ inl p ↦ get_or-replicate s.vars i false false p | inr p ↦ get_or_past (replicate s.vars false) i false (subst (λ (n : ℕ). n ≤ i) (sym (length-replicate s.vars false)) p) ]
 
-module _ {s : Diagrams} {d : Dia} {e : ℕ} {bits : List Bool} (well : IsWell s) (two : 2 ≤ e) (down : IsDown s d e bits) where
+module _ {s : Diagrams} {d : Dia} {e : ℕ} {bits : List Bool} (well : IsReduced s) (two : 2 ≤ e) (down : IsDown s d e bits) where
   -- the truth of a diagram is that of the side that the valuation has
   side : (w : List Bool) (b : Bool) → get_or w (at s e).var false ≡ b → dia_truth s e w ≡ dia_truth s (child (at s e) b) w
   unfolding dia_truth
@@ -101,10 +101,10 @@ module _ {s : Diagrams} {d : Dia} {e : ℕ} {bits : List Bool} (well : IsWell s)
             ]
           ]
 
-pub down_end : (s : Diagrams) (d : Dia) (e : ℕ) (bits : List Bool) → IsWell s → IsDown s d e bits → e < 2 → IsLeastFalse s d bits
+pub down_end : (s : Diagrams) (d : Dia) (e : ℕ) (bits : List Bool) → IsReduced s → IsDown s d e bits → e < 2 → IsLeastFalsifying s d bits
 down_end s d e bits well down h =
     let none : e ≡ 0 = let o = down.open_yet in elim (cases_order e 0) [ inl q ↦ q | inr q ↦ elim q [ inl r ↦ absurd (omega (arith, r)) | inr r ↦ absurd (o (omega (arith, r, h))) ] ] in
-    let behind : (at s e).var ≡ s.vars = ap (λ (k : ℕ). (at s k).var) none ∙ ap (λ (c : Decision). c.var) well.first in
+    let behind : (at s e).var ≡ s.vars = ap (λ (k : ℕ). (at s k).var) none ∙ ap (λ (c : ChoiceNode). c.var) well.first in
     record {
       size = down.size;
       fails = down.reaches bits down.size (λ i m. refl) ∙ (ap (λ (k : ℕ). dia_truth s k bits) none ∙ first_truth s bits well);

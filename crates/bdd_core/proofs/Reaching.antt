@@ -2,18 +2,18 @@
 use Rattle.std.proofs.Common.{◌≡◌, ℕ, zero, suc, ◌<◌, ◌≤◌, Bool, true, false, List, set, get_or, refl, sym, ap, ◌∙◌, arith}
 use Rattle.std.proofs.lemmas.List.{get_or-set_other}
 use Rattle.bdd_core.specs.Diagrams.{end, child, reach, IsOrdered}
-use Rattle.bdd_core.specs.declared.nodes.Decision.{Decision}
+use Rattle.bdd_core.specs.declared.nodes.ChoiceNode.{ChoiceNode}
 
 child_end : (vars d : ℕ) (b : Bool) → child (end vars d) b ≡ d
 child_end vars d true = refl
 child_end vars d false = refl
 
-module _ {vars n : ℕ} {node : ℕ → Decision} (o : IsOrdered vars n node) where
+module _ {vars n : ℕ} {node : ℕ → ChoiceNode} (o : IsOrdered vars n node) where
   child_first : (b : Bool) → child (node 0) b ≡ 0
-  child_first b = ap (λ (c : Decision). child c b) o.first ∙ child_end vars 0 b
+  child_first b = ap (λ (c : ChoiceNode). child c b) o.first ∙ child_end vars 0 b
 
   child_second : (b : Bool) → child (node 1) b ≡ 1
-  child_second b = ap (λ (c : Decision). child c b) o.second ∙ child_end vars 1 b
+  child_second b = ap (λ (c : ChoiceNode). child c b) o.second ∙ child_end vars 1 b
 
   pub reach_first : (m : ℕ) (v : List Bool) → reach node m 0 v ≡ false
   unfolding reach
@@ -62,11 +62,11 @@ module _ {vars n : ℕ} {node : ℕ → Decision} (o : IsOrdered vars n node) wh
       reach_same d (suc d) d v (omega arith) (omega arith) h ∙ reach_same d e e v least (omega arith) (omega (arith, least))
 
   -- later nodes change nothing
-  pub reach_kept : {other : ℕ → Decision} → ((d : ℕ) → d < n → other d ≡ node d) → (m d : ℕ) (v : List Bool) → d < n → reach other m d v ≡ reach node m d v
+  pub reach_kept : {other : ℕ → ChoiceNode} → ((d : ℕ) → d < n → other d ≡ node d) → (m d : ℕ) (v : List Bool) → d < n → reach other m d v ≡ reach node m d v
   unfolding reach
   reach_kept {other} same zero d v h = refl
   reach_kept {other} same (suc m) d v h =
-      ap (λ (c : Decision). reach other m (child c (get_or v c.var false)) v) (same d h)
+      ap (λ (c : ChoiceNode). reach other m (child c (get_or v c.var false)) v) (same d h)
       ∙ reach_kept {other = other} same m (child (node d) (get_or v (node d).var false)) v (child_within d (get_or v (node d).var false) h)
 
   -- no variable before that of a diagram decides its truth

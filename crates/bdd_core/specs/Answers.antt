@@ -1,11 +1,11 @@
 -- What an operation on diagrams answers.
 use Rattle.std.specs.Prelude.{ℕ, ◌+◌, ◌<◌, ◌≤◌, min, Bool, true, false, not, ◌&&◌, List, ◌≡◌, length, slice_get, Some}
-use Rattle.bdd_core.specs.Diagrams.{Diagrams, IsWell, at, count, dia_truth, part}
+use Rattle.bdd_core.specs.Diagrams.{Diagrams, IsReduced, at, count, dia_truth, cofactor_of}
 use Rattle.bdd_core.specs.declared.results.Op.{Op}
 use Rattle.bdd_core.specs.declared.results.Op.TheVariants.{And, Not}
-use Rattle.bdd_core.specs.declared.results.Key.{Key}
-use Rattle.bdd_core.specs.declared.results.Entry.{Entry}
-use Rattle.bdd_core.specs.declared.apply.Split.{Split}
+use Rattle.bdd_core.specs.declared.results.OpKey.{OpKey}
+use Rattle.bdd_core.specs.declared.results.CachedResult.{CachedResult}
+use Rattle.bdd_core.specs.declared.apply.OperandSplit.{OperandSplit}
 
 -- the truth of an operation; a negation has its argument twice
 abbrev pub op_truth : Op → Bool → Bool → Bool
@@ -13,12 +13,12 @@ op_truth And x y = x && y
 op_truth Not x y = not x
 
 -- both arguments of an operation are diagrams
-pub record IsKey (s : Diagrams) (k : Key) : Type 0 where
+pub record IsKey (s : Diagrams) (k : OpKey) : Type 0 where
   pub left : k.left < count s
   pub right : k.right < count s
 
 -- the diagram r is what the operation answers, and no variable before those of its arguments decides it
-pub record IsAnswer (s : Diagrams) (k : Key) (r : ℕ) : Type 0 where
+pub record IsAnswer (s : Diagrams) (k : OpKey) (r : ℕ) : Type 0 where
   pub left : k.left < count s
   pub right : k.right < count s
   pub within : r < count s
@@ -26,17 +26,17 @@ pub record IsAnswer (s : Diagrams) (k : Key) (r : ℕ) : Type 0 where
   pub truth_is : (v : List Bool) → length v ≡ s.vars → dia_truth s r v ≡ op_truth k.op (dia_truth s k.left v) (dia_truth s k.right v)
 
 -- each result that is remembered is right
-pub record AreAnswers (s : Diagrams) (entries : List Entry) : Type 0 where
-  pub each : (i : ℕ) (e : Entry) → slice_get entries i ≡ Some e → IsAnswer s e.key e.answer
+pub record AreAnswers (s : Diagrams) (entries : List CachedResult) : Type 0 where
+  pub each : (i : ℕ) (e : CachedResult) → slice_get entries i ≡ Some e → IsAnswer s e.key e.answer
 
 -- an operation falls into two, on the parts of its arguments under the first variable that decides one of them
-pub record IsSplit (s : Diagrams) (k : Key) (p : Split) : Type 0 where
+pub record IsSplit (s : Diagrams) (k : OpKey) (p : OperandSplit) : Type 0 where
   pub var : p.var ≡ min (at s k.left).var (at s k.right).var
   pub under : p.var < s.vars
-  pub low_left : p.low_left ≡ part (at s) p.var false k.left
-  pub low_right : p.low_right ≡ part (at s) p.var false k.right
-  pub high_left : p.high_left ≡ part (at s) p.var true k.left
-  pub high_right : p.high_right ≡ part (at s) p.var true k.right
+  pub low_left : p.low_left ≡ cofactor_of (at s) p.var false k.left
+  pub low_right : p.low_right ≡ cofactor_of (at s) p.var false k.right
+  pub high_left : p.high_left ≡ cofactor_of (at s) p.var true k.left
+  pub high_right : p.high_right ≡ cofactor_of (at s) p.var true k.right
   pub low_left_in : p.low_left < count s
   pub low_right_in : p.low_right < count s
   pub high_left_in : p.high_left < count s
@@ -48,9 +48,9 @@ pub record IsSplit (s : Diagrams) (k : Key) (p : Split) : Type 0 where
 pub record IsMade (s : Diagrams) (x low high d : ℕ) : Type 0 where
   pub within : d < count s
   pub top : x ≤ (at s d).var
-  pub is_low : part (at s) x false d ≡ low
-  pub is_high : part (at s) x true d ≡ high
+  pub is_low : cofactor_of (at s) x false d ≡ low
+  pub is_high : cofactor_of (at s) x true d ≡ high
 
 -- what an operation answers at every diagrams in which its arguments are
-abbrev pub IsSettled : Key → ℕ → Type 0
-IsSettled k r = (s : Diagrams) → IsWell s → IsKey s k → IsAnswer s k r
+abbrev pub IsSettled : OpKey → ℕ → Type 0
+IsSettled k r = (s : Diagrams) → IsReduced s → IsKey s k → IsAnswer s k r

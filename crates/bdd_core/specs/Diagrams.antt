@@ -2,17 +2,17 @@
 -- manipulation, 1986). Number 0 is the diagram of falsehood, number 1 that of truth; node k of the list has number
 -- k + 2. Both ends stand behind all variables, and lead to themselves.
 use Rattle.std.specs.Prelude.{ℕ, zero, suc, ◌+◌, ◌<◌, ◌≤◌, Bool, false, cond, List, ◌∷◌, ◌≡◌, length, get_or, nat_eq}
-use Rattle.bdd_core.specs.declared.nodes.Decision.{Decision}
+use Rattle.bdd_core.specs.declared.nodes.ChoiceNode.{ChoiceNode}
 
 pub record Diagrams : Type 0 where
   pub vars : ℕ
-  pub nodes : List Decision
+  pub nodes : List ChoiceNode
 
-abbrev pub end : ℕ → ℕ → Decision
+abbrev pub end : ℕ → ℕ → ChoiceNode
 end vars d = record { var = vars; low = d; high = d }
 
 -- the node of diagram d
-unfoldable pub at : Diagrams → ℕ → Decision
+unfoldable pub at : Diagrams → ℕ → ChoiceNode
 at s d = get_or (end s.vars 0 ∷ end s.vars 1 ∷ s.nodes) d (end s.vars 0)
 
 -- how many diagrams there are: their numbers are those below
@@ -20,11 +20,11 @@ abbrev pub count : Diagrams → ℕ
 count s = length s.nodes + 2
 
 -- the part of a node where its variable is b
-abbrev pub child : Decision → Bool → ℕ
+abbrev pub child : ChoiceNode → Bool → ℕ
 child c b = cond b c.high c.low
 
 -- some steps down from diagram d, each to the side that the valuation has; whether they end at the truth
-unfoldable pub reach : (ℕ → Decision) → ℕ → ℕ → List Bool → Bool
+unfoldable pub reach : (ℕ → ChoiceNode) → ℕ → ℕ → List Bool → Bool
 reach node zero d v = nat_eq d 1
 reach node (suc steps) d v = reach node steps (child (node d) (get_or v (node d).var false)) v
 
@@ -33,7 +33,7 @@ unfoldable pub dia_truth : Diagrams → ℕ → List Bool → Bool
 dia_truth s d v = reach (at s) d d v
 
 -- the diagrams are ordered, reduced, and none stands twice
-pub record IsOrdered (vars n : ℕ) (node : ℕ → Decision) : Type 0 where
+pub record IsOrdered (vars n : ℕ) (node : ℕ → ChoiceNode) : Type 0 where
   pub two : 2 ≤ n
   pub first : node 0 ≡ end vars 0
   pub second : node 1 ≡ end vars 1
@@ -45,8 +45,8 @@ pub record IsOrdered (vars n : ℕ) (node : ℕ → Decision) : Type 0 where
   pub reduced : (d : ℕ) → 2 ≤ d → d < n → (node d).low ≡ (node d).high → ⊥
   pub alone : (d e : ℕ) → 2 ≤ d → 2 ≤ e → d < n → e < n → node d ≡ node e → d ≡ e
 
-abbrev pub IsWell : Diagrams → Type 0
-IsWell s = IsOrdered s.vars (count s) (at s)
+abbrev pub IsReduced : Diagrams → Type 0
+IsReduced s = IsOrdered s.vars (count s) (at s)
 
 -- earlier diagrams stay as they are
 pub record Keeps (old new : Diagrams) : Type 0 where
@@ -55,11 +55,11 @@ pub record Keeps (old new : Diagrams) : Type 0 where
   pub nodes : (d : ℕ) → d < count old → at new d ≡ at old d
 
 -- the part of diagram d where variable x is b, if no variable before x decides it
-abbrev pub part : (ℕ → Decision) → ℕ → Bool → ℕ → ℕ
-part node x b d = cond (nat_eq (node d).var x) (child (node d) b) d
+abbrev pub cofactor_of : (ℕ → ChoiceNode) → ℕ → Bool → ℕ → ℕ
+cofactor_of node x b d = cond (nat_eq (node d).var x) (child (node d) b) d
 
 -- a node whose parts are diagrams of later variables, and differ
-pub record IsBranch (s : Diagrams) (c : Decision) : Type 0 where
+pub record IsBranch (s : Diagrams) (c : ChoiceNode) : Type 0 where
   pub var : c.var < s.vars
   pub low : c.low < count s
   pub high : c.high < count s

@@ -48,7 +48,7 @@ abbrev pub Agree : ℕ → List Bool → List Bool → Type 0
 Agree y v w = (i : ℕ) → i < y → get_or v i false ≡ get_or w i false
 
 -- v is the least falsifying valuation in the order of the variables, 0 before 1
-pub record IsLeastFalse (s : Diagrams) (d : Dia) (v : List Bool) : Type 0 where
+pub record IsLeastFalsifying (s : Diagrams) (d : Dia) (v : List Bool) : Type 0 where
   pub size : length v ≡ s.vars
   pub fails : truth_of s d v ≡ false
   pub least : (w : List Bool) → length w ≡ s.vars → truth_of s d w ≡ false

@@ -1,16 +1,16 @@
 //! Operations on diagrams.
 ghost use Rattle.std.specs.Prelude.{◌≡◌, ℕ, ◌+◌, ◌^◌, ◌<◌, ◌≤◌, cond, nat_eq, IfOk, IfSome, IfNone, length};
 ghost use Rattle.bdd_core.specs.Answers.{IsAnswer, IsKey, IsMade, IsSplit, IsSettled};
-ghost use Rattle.bdd_core.specs.Diagrams.{IsWell, Keeps, at, count};
+ghost use Rattle.bdd_core.specs.Diagrams.{IsReduced, Keeps, at, count};
 
-use crate::nodes::Decision;
-use crate::results::{Key, Op};
+use crate::nodes::ChoiceNode;
+use crate::results::{Op, OpKey};
 use crate::store::Store;
 use y86_base::Memory;
 
 /// The parts of both arguments of an operation under the first variable that decides one of them.
 #[derive(Clone, Copy)]
-pub struct Split {
+pub struct OperandSplit {
     pub var: u32,
     pub low_left: u32,
     pub low_right: u32,
@@ -19,7 +19,7 @@ pub struct Split {
 }
 
 /// What an operation answers that needs no look at the nodes.
-fn settled(key: Key) -> Option<u32>
+fn settled(key: OpKey) -> Option<u32>
     ensures settled { IfSome result (IsSettled key) }
     ensures open { IfNone result (2 ≤ key.left) }
 {
@@ -44,14 +44,14 @@ fn settled(key: Key) -> Option<u32>
 }
 
 /// The part of diagram `d` with node `node` where `var` is 0, if no earlier variable decides it.
-fn low_part(node: Decision, var: u32, d: u32) -> u32
+fn low_part(node: ChoiceNode, var: u32, d: u32) -> u32
     ensures { result ≡ cond (nat_eq node.var var) node.low d }
 {
     if node.var == var { node.low } else { d }
 }
 
 /// The part where `var` is 1.
-fn high_part(node: Decision, var: u32, d: u32) -> u32
+fn high_part(node: ChoiceNode, var: u32, d: u32) -> u32
     ensures { result ≡ cond (nat_eq node.var var) node.high d }
 {
     if node.var == var { node.high } else { d }
@@ -60,7 +60,7 @@ fn high_part(node: Decision, var: u32, d: u32) -> u32
 impl Store {
     /// Splits an operation.
     #[tactic(auto, using(crate::proofs::Applying::splits))]
-    fn split(&self, key: Key) -> Split
+    fn split(&self, key: OpKey) -> OperandSplit
         requires key { IsKey self.now key }
         requires open { 2 ≤ key.left }
         ensures { IsSplit self.now key result }
@@ -68,7 +68,7 @@ impl Store {
         let left = self.node_of(key.left);
         let right = self.node_of(key.right);
         let var = left.var.min(right.var);
-        Split {
+        OperandSplit {
             var,
             low_left: low_part(left, var, key.left),
             low_right: low_part(right, var, key.right),
@@ -79,10 +79,10 @@ impl Store {
 
     /// The diagram that an operation answers.
     #[tactic(auto, using(crate::proofs::Applying::key_kept, crate::proofs::Applying::split_kept, crate::proofs::Applying::answer_kept, crate::proofs::Truths::keeps_self, crate::proofs::Truths::keeps_more))]
-    pub fn apply(&mut self, key: Key) -> Result<u32, Memory>
+    pub fn apply(&mut self, key: OpKey) -> Result<u32, Memory>
         requires { IsKey self.old key }
         ensures kept { Keeps self.old self.new }
-        ensures well { IsWell self.new }
+        ensures reduced_after { IsReduced self.new }
         ensures answer { IfOk result (IsAnswer self.new key) }
     {
         let _ = self.vars(); // brings the invariant of the store
@@ -94,12 +94,12 @@ impl Store {
         }
         self.take_step()?;
         let split = self.split(key);
-        let low = self.apply(Key {
+        let low = self.apply(OpKey {
             op: key.op,
             left: split.low_left,
             right: split.low_right,
         })?;
-        let high = self.apply(Key {
+        let high = self.apply(OpKey {
             op: key.op,
             left: split.high_left,
             right: split.high_right,
@@ -109,13 +109,19 @@ impl Store {
 
     /// Joins the answers on both parts, and remembers the answer on the whole.
     #[tactic(auto, using(crate::proofs::Applying::low_later, crate::proofs::Applying::high_later))]
-    fn finish(&mut self, key: Key, split: Split, low: u32, high: u32) -> Result<u32, Memory>
+    fn finish(
+        &mut self,
+        key: OpKey,
+        split: OperandSplit,
+        low: u32,
+        high: u32,
+    ) -> Result<u32, Memory>
         requires key { IsKey self.old key }
         requires split { IsSplit self.old key split }
         requires low { IsAnswer self.old record { op = key.op; left = split.low_left; right = split.low_right } low }
         requires high { IsAnswer self.old record { op = key.op; left = split.high_left; right = split.high_right } high }
         ensures kept { Keeps self.old self.new }
-        ensures well { IsWell self.new }
+        ensures reduced_after { IsReduced self.new }
         ensures answer { IfOk result (IsAnswer self.new key) }
     {
         let _ = self.vars(); // brings the invariant of the store

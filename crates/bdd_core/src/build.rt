@@ -2,9 +2,9 @@
 ghost use Rattle.std.specs.Prelude.{IfOk, length};
 ghost use Rattle.nets.specs.Nets.{ReadsEarlier};
 ghost use Rattle.bdd_core.specs.Building.{AreMade, IsMadeOf};
-ghost use Rattle.bdd_core.specs.Diagrams.{IsWell, Keeps};
+ghost use Rattle.bdd_core.specs.Diagrams.{IsReduced, Keeps};
 
-use crate::results::{Key, Op};
+use crate::results::{Op, OpKey};
 use crate::store::Store;
 use nets::Gate;
 use y86_base::Memory;
@@ -14,10 +14,10 @@ impl Store {
     #[tactic(auto, using(crate::proofs::Gates::made_not, crate::proofs::Truths::keeps_self))]
     pub(crate) fn add_gate(&mut self, made: &[u32], gate: Gate) -> Result<u32, Memory>
         requires reads { ReadsEarlier self.old.vars (length made.now) gate }
-        requires made { AreMade self.old made.now gate }
+        requires has_truth { AreMade self.old made.now gate }
         ensures kept { Keeps self.old self.new }
-        ensures well { IsWell self.new }
-        ensures made { IfOk result (IsMadeOf self.old self.new made.now gate) }
+        ensures reduced_after { IsReduced self.new }
+        ensures has_truth { IfOk result (IsMadeOf self.old self.new made.now gate) }
     {
         let _ = self.vars(); // brings the invariant of the store
         match gate {
@@ -26,14 +26,14 @@ impl Store {
             Gate::Var(x) => self.make(x, 0, 1),
             Gate::Not(a) => {
                 let arg = made[a as usize];
-                self.apply(Key {
+                self.apply(OpKey {
                     op: Op::Not,
                     left: arg,
                     right: arg,
                 })
             }
             Gate::And(a, b) => {
-                self.apply(Key {
+                self.apply(OpKey {
                     op: Op::And,
                     left: made[a as usize],
                     right: made[b as usize],

@@ -3,7 +3,7 @@ ghost use Rattle.std.specs.Prelude.{◌≡◌, ℕ, ◌+◌, ◌<◌, false, get
 ghost use Rattle.nets.specs.Nets.{ReadsEarlier};
 ghost use Rattle.nets.specs.declared.net.Gate.{Gate};
 ghost use Rattle.bdd_core.specs.Building.{AreKnown, IsCone, KnowsAll, KnowsBefore, ReadsMarked};
-ghost use Rattle.bdd_core.specs.Diagrams.{Diagrams, IsWell, Keeps};
+ghost use Rattle.bdd_core.specs.Diagrams.{Diagrams, IsReduced, Keeps};
 ghost use Rattle.bdd_core.specs.Meaning.{IsBuilt, Stay};
 
 use crate::cone::cone;
@@ -15,12 +15,12 @@ use y86_base::Memory;
 
 /// Which gates of a net have diagrams, and these: what one formula over the net leaves for the next.
 #[derive(Drop)]
-pub struct Built {
+pub struct GateDiagrams {
     known: Vec<bool>,
     made: Vec<u32>,
 }
 
-impl Model for Built {
+impl Model for GateDiagrams {
     ghost use Rattle.bdd_core.specs.Building.{KnownGates};
 
     ghost Value = { KnownGates };
@@ -28,10 +28,10 @@ impl Model for Built {
     ghost view = { λ b. record { known = b.known.items; made = b.made.items } };
 }
 
-impl Built {
+impl GateDiagrams {
     /// No diagram yet.
     #[tactic(auto, using(crate::proofs::Knowing::none_known))]
-    pub fn new(alloc: Global, n: &Net) -> Result<Built, Memory>
+    pub fn new(alloc: Global, n: &Net) -> Result<GateDiagrams, Memory>
         ensures { IfOk result (λ b. (s : Diagrams) → AreKnown s n.now b) }
     {
         let len = n.len() as usize;
@@ -40,7 +40,7 @@ impl Built {
             Err(_) => return Err(Memory),
         };
         match vec![in alloc; 0; len] {
-            Ok(made) => Ok(Built { known, made }),
+            Ok(made) => Ok(GateDiagrams { known, made }),
             Err(_) => Err(Memory),
         }
     }
@@ -62,13 +62,13 @@ fn reads_known(known: &[bool], n: &Net, i: u64) -> bool
 impl Store {
     /// The diagram of a gate, where those that it reads have theirs.
     #[tactic(auto, using(crate::proofs::Knowing::known_stays, crate::proofs::Knowing::are_made, crate::proofs::Truths::keeps_self))]
-    fn add_to(&mut self, n: &Net, built: &mut Built, i: u64) -> Result<(), Memory>
+    fn add_to(&mut self, n: &Net, built: &mut GateDiagrams, i: u64) -> Result<(), Memory>
         requires vars { n.now.vars ≡ self.old.vars }
         requires inside { i < length n.now.gates }
         requires known { AreKnown self.old n.now built.old }
         requires reads { (g : Gate) → slice_get n.now.gates i ≡ Some g → ReadsEarlier n.now.vars i g → ReadsMarked built.old.known g }
         ensures kept { Keeps self.old self.new }
-        ensures well { IsWell self.new }
+        ensures reduced_after { IsReduced self.new }
         ensures known { AreKnown self.new n.now built.new }
         ensures all { KnowsAll built.old built.new }
         ensures added { OnOk result (get_or built.new.known i false ≡ true) }
@@ -85,7 +85,7 @@ impl Store {
     fn add_marked(
         &mut self,
         n: &Net,
-        built: &mut Built,
+        built: &mut GateDiagrams,
         needed: &[bool],
         i: u64,
     ) -> Result<(), Memory>
@@ -95,7 +95,7 @@ impl Store {
         requires known { AreKnown self.old n.now built.old }
         requires before { KnowsBefore needed.now built.old i }
         ensures kept { Keeps self.old self.new }
-        ensures well { IsWell self.new }
+        ensures reduced_after { IsReduced self.new }
         ensures known { AreKnown self.new n.now built.new }
         ensures all { KnowsAll built.old built.new }
         ensures before { OnOk result (KnowsBefore needed.now built.new (i + 1)) }
@@ -109,12 +109,12 @@ impl Store {
 
     /// The diagrams of the gates from which the truth of a gate comes.
     #[tactic(auto, using(crate::proofs::Truths::keeps_self, crate::proofs::Truths::keeps_more))]
-    fn add_cone(&mut self, n: &Net, built: &mut Built, gate: u64) -> Result<(), Memory>
+    fn add_cone(&mut self, n: &Net, built: &mut GateDiagrams, gate: u64) -> Result<(), Memory>
         requires vars { n.now.vars ≡ self.old.vars }
         requires gate { gate < length n.now.gates }
         requires known { AreKnown self.old n.now built.old }
         ensures kept { Keeps self.old self.new }
-        ensures well { IsWell self.new }
+        ensures reduced_after { IsReduced self.new }
         ensures known { AreKnown self.new n.now built.new }
         ensures all { KnowsAll built.old built.new }
         ensures added { OnOk result (get_or built.new.known gate false ≡ true) }
@@ -131,12 +131,12 @@ impl Store {
 
     /// The diagram of a gate, if it has none.
     #[tactic(auto, using(crate::proofs::Truths::keeps_self))]
-    fn add_for(&mut self, n: &Net, built: &mut Built, gate: u64) -> Result<(), Memory>
+    fn add_for(&mut self, n: &Net, built: &mut GateDiagrams, gate: u64) -> Result<(), Memory>
         requires vars { n.now.vars ≡ self.old.vars }
         requires gate { gate < length n.now.gates }
         requires known { AreKnown self.old n.now built.old }
         ensures kept { Keeps self.old self.new }
-        ensures well { IsWell self.new }
+        ensures reduced_after { IsReduced self.new }
         ensures known { AreKnown self.new n.now built.new }
         ensures all { KnowsAll built.old built.new }
         ensures added { OnOk result (get_or built.new.known gate false ≡ true) }
@@ -154,7 +154,7 @@ impl Store {
     /// The diagram of a gate of a net: its truth is the gate's at every valuation. The gates that `built` has aren't built
     /// again; also where memory is refused, the earlier diagrams stay.
     #[tactic(auto, using(crate::proofs::Gates::stays, crate::proofs::Knowing::known_stays, crate::proofs::Knowing::built_is))]
-    pub fn build_on(&mut self, n: &Net, built: &mut Built, gate: u64) -> Result<Dia, Memory>
+    pub fn build_on(&mut self, n: &Net, built: &mut GateDiagrams, gate: u64) -> Result<Dia, Memory>
         requires vars { n.now.vars ≡ self.old.vars }
         requires gate { gate < length n.now.gates }
         requires known { AreKnown self.old n.now built.old }
@@ -180,7 +180,7 @@ impl Store {
         ensures stay { Stay self.old self.new }
         ensures built { IfOk result (IsBuilt self.new n.now gate) }
     {
-        let mut built = Built::new(self.allocator(), n)?;
+        let mut built = GateDiagrams::new(self.allocator(), n)?;
         self.build_on(n, &mut built, gate)
     }
 }

@@ -15,5 +15,5 @@ mod results;
 mod store;
 mod table;
 
-pub use growing::Built;
+pub use growing::GateDiagrams;
 pub use store::{Dia, Node, Store};

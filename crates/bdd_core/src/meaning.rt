@@ -1,6 +1,6 @@
 //! What diagrams say of the truths that they stand for.
 ghost use Rattle.std.specs.Prelude.{◌≡◌, ◌↔◌, ℕ, List, Bool, IfOk, IsTrue, MatchOption, length, true};
-ghost use Rattle.bdd_core.specs.Meaning.{Always, IsDia, IsLeastFalse, IsNode, truth_of};
+ghost use Rattle.bdd_core.specs.Meaning.{Always, IsDia, IsLeastFalsifying, IsNode, truth_of};
 
 use crate::store::{Dia, Node, Store};
 use nets::Valuation;
@@ -57,7 +57,7 @@ impl Store {
     #[tactic(auto, using(crate::proofs::Exact::node_true, crate::proofs::Least::down_start))]
     pub fn least_false(&self, d: Dia) -> Result<Option<Valuation>, Memory>
         requires { IsDia self.now d }
-        ensures { IfOk result (λ o. MatchOption o (Always self.now d true) (λ v. IsLeastFalse self.now d v.bits)) }
+        ensures { IfOk result (λ o. MatchOption o (Always self.now d true) (λ v. IsLeastFalsifying self.now d v.bits)) }
     {
         let vars = self.vars();
         if d.id == 1 {

@@ -1,17 +1,17 @@
 //! The nodes of the diagrams of a store, each once.
 ghost use Rattle.std.specs.Prelude.{◌≡◌, ℕ, ◌+◌, ◌^◌, ◌<◌, ◌≤◌, ◌++◌, ◌∷◌, [], length, IfOk, OnErr, Some, slice_get};
 ghost use Rattle.bdd_core.specs.Answers.{IsMade};
-ghost use Rattle.bdd_core.specs.Diagrams.{IsBranch, IsWell, Keeps, at, count};
+ghost use Rattle.bdd_core.specs.Diagrams.{IsBranch, IsReduced, Keeps, at, count};
 ghost use Rattle.bdd_core.specs.Tables.{IsNewIn, find_result};
 
-use crate::table::{Look, put, search, with_room};
+use crate::table::{Lookup, put, search, with_room};
 use std::alloc::Global;
 use std::marker::Model;
 use y86_base::Memory;
 
 /// A node: the variable that it decides, and the diagrams where this variable is 0 and where it is 1.
 #[derive(Clone, Copy, Debug)]
-pub struct Decision {
+pub struct ChoiceNode {
     pub var: u32,
     pub low: u32,
     pub high: u32,
@@ -23,7 +23,7 @@ pub struct Nodes {
     alloc: Global,
     vars: u32,
     most: u64,
-    list: Vec<Decision>,
+    list: Vec<ChoiceNode>,
     places: Vec<u32>,
 }
 
@@ -59,7 +59,7 @@ impl Nodes {
     /// The number of variables.
     pub fn vars(&self) -> u32
         ensures vars { result ≡ self.now.vars }
-        ensures well { IsWell self.now }
+        ensures reduced_after { IsReduced self.now }
         ensures few { count self.now < 2 ^ 32 }
     {
         self.vars
@@ -73,12 +73,12 @@ impl Nodes {
     }
 
     /// The node of a diagram.
-    pub fn node(&self, d: u32) -> Decision
+    pub fn node(&self, d: u32) -> ChoiceNode
         requires { d < count self.now }
         ensures { result ≡ at self.now d }
     {
         match d {
-            0 | 1 => Decision {
+            0 | 1 => ChoiceNode {
                 var: self.vars,
                 low: d,
                 high: d,
@@ -88,18 +88,18 @@ impl Nodes {
     }
 
     /// The number of a node that is there.
-    fn find(&self, c: Decision) -> Option<u32>
+    fn find(&self, c: ChoiceNode) -> Option<u32>
         ensures { find_result self.now.nodes c result }
     {
         match search(self.list.as_slice(), c, self.places.as_slice()) {
-            Look::Found(d) => Some(d),
+            Lookup::Present(d) => Some(d),
             _ => None,
         }
     }
 
     /// Puts a node behind the others.
     #[tactic(auto, using(crate::proofs::Making::unique_pushed, crate::proofs::Making::front, crate::proofs::Making::nodes_table, crate::proofs::Making::nodes_pushed))]
-    fn add(&mut self, c: Decision) -> Result<u32, Memory>
+    fn add(&mut self, c: ChoiceNode) -> Result<u32, Memory>
         requires branch { IsBranch self.old c }
         requires absent { IsNewIn self.old.nodes c }
         ensures nodes { IfOk result (λ d. (d ≡ count self.old) × (self.new.nodes ≡ self.old.nodes ++ c ∷ [])) }
@@ -127,12 +127,12 @@ impl Nodes {
         requires low_later { var < (at self.old low).var }
         requires high_later { var < (at self.old high).var }
         ensures kept { Keeps self.old self.new }
-        ensures made { IfOk result (IsMade self.new var low high) }
+        ensures has_truth { IfOk result (IsMade self.new var low high) }
     {
         if low == high {
             return Ok(low);
         }
-        let c = Decision { var, low, high };
+        let c = ChoiceNode { var, low, high };
         match self.find(c) {
             Some(d) => Ok(d),
             None => self.add(c),

@@ -1,6 +1,6 @@
 //! Results of operations on diagrams that are remembered, in a table that forgets.
 ghost use Rattle.std.specs.Prelude.{◌≡◌, ◌⊎◌, ℕ, IfOk, IfSome, Some, slice_get, true};
-ghost use Rattle.bdd_core.specs.Results.{AreBlank, Holds};
+ghost use Rattle.bdd_core.specs.Results.{AreBlank, IsCached};
 
 use std::alloc::Global;
 use y86_base::Memory;
@@ -14,7 +14,7 @@ pub enum Op {
 
 /// An operation with its arguments. A negation has its argument twice.
 #[derive(Clone, Copy, Debug)]
-pub struct Key {
+pub struct OpKey {
     pub op: Op,
     pub left: u32,
     pub right: u32,
@@ -22,13 +22,13 @@ pub struct Key {
 
 /// An operation and the diagram that it answers.
 #[derive(Clone, Copy, Debug)]
-pub struct Entry {
-    pub key: Key,
+pub struct CachedResult {
+    pub key: OpKey,
     pub answer: u32,
 }
 
 /// Whether two operations are the same.
-fn same(a: Key, b: Key) -> bool
+fn same(a: OpKey, b: OpKey) -> bool
     ensures { result ≡ true → a ≡ b }
 {
     let op = match (a.op, b.op) {
@@ -39,7 +39,7 @@ fn same(a: Key, b: Key) -> bool
 }
 
 /// The place of an operation among so many results.
-fn place(key: Key, size: usize) -> usize {
+fn place(key: OpKey, size: usize) -> usize {
     let op = match key.op {
         Op::And => 0,
         Op::Not => 1,
@@ -51,8 +51,8 @@ fn place(key: Key, size: usize) -> usize {
 }
 
 /// The result that is remembered of an operation.
-pub fn known(entries: &[Entry], key: Key) -> Option<u32>
-    ensures { IfSome result (Holds entries.now key) }
+pub fn known(entries: &[CachedResult], key: OpKey) -> Option<u32>
+    ensures { IfSome result (IsCached entries.now key) }
 {
     match entries.get(place(key, entries.len())) {
         Some(entry) => {
@@ -67,13 +67,13 @@ pub fn known(entries: &[Entry], key: Key) -> Option<u32>
 }
 
 /// Remembers a result, in the place of an older one.
-pub fn remember(entries: &mut [Entry], key: Key, answer: u32)
+pub fn remember(entries: &mut [CachedResult], key: OpKey, answer: u32)
     ensures { (i : ℕ) (e : Entry) → slice_get entries.new i ≡ Some e →
         (slice_get entries.old i ≡ Some e) ⊎ (e ≡ record { key = key; answer = answer }) }
 {
     let at = place(key, entries.len());
     if at < entries.len() {
-        entries[at] = Entry { key, answer };
+        entries[at] = CachedResult { key, answer };
     }
 }
 
@@ -84,15 +84,15 @@ pub const FIRST_RESULTS: usize = 4_096;
 pub const MOST_RESULTS: usize = 65_536;
 
 /// Places for results, in each of which stands that falsehood and falsehood is falsehood.
-pub fn blanks(alloc: Global, size: usize) -> Result<Vec<Entry>, Memory>
+pub fn blanks(alloc: Global, size: usize) -> Result<Vec<CachedResult>, Memory>
     ensures { IfOk result (λ entries. AreBlank entries.items) }
 {
-    let key = Key {
+    let key = OpKey {
         op: Op::And,
         left: 0,
         right: 0,
     };
-    match vec![in alloc; Entry { key, answer: 0 }; size] {
+    match vec![in alloc; CachedResult { key, answer: 0 }; size] {
         Ok(entries) => Ok(entries),
         Err(_) => Err(Memory),
     }

@@ -1,11 +1,11 @@
 //! A store of decision diagrams, and what is asked of one diagram.
 ghost use Rattle.std.specs.Prelude.{◌≡◌, ℕ, ◌+◌, ◌^◌, ◌<◌, ◌≤◌, ◌↔◌, List, Bool, [], true, length, IfOk, IfSome, MatchOption, IsTrue};
 ghost use Rattle.bdd_core.specs.Answers.{IsAnswer, IsKey, IsMade};
-ghost use Rattle.bdd_core.specs.Diagrams.{IsWell, Keeps, at, count};
-ghost use Rattle.bdd_core.specs.Meaning.{Always, IsDia, IsLeastFalse, IsNode, Stay, truth_of};
+ghost use Rattle.bdd_core.specs.Diagrams.{IsReduced, Keeps, at, count};
+ghost use Rattle.bdd_core.specs.Meaning.{Always, IsDia, IsLeastFalsifying, IsNode, Stay, truth_of};
 
-use crate::nodes::{Decision, Nodes};
-use crate::results::{Entry, FIRST_RESULTS, Key, MOST_RESULTS, blanks, known, remember};
+use crate::nodes::{ChoiceNode, Nodes};
+use crate::results::{CachedResult, FIRST_RESULTS, MOST_RESULTS, OpKey, blanks, known, remember};
 use std::alloc::Global;
 use std::marker::Model;
 use y86_base::Memory;
@@ -29,7 +29,7 @@ pub enum Node {
 pub struct Store {
     alloc: Global,
     nodes: Nodes,
-    results: Vec<Entry>,
+    results: Vec<CachedResult>,
     steps: u64,
 }
 
@@ -88,7 +88,7 @@ impl Store {
     #[tactic(auto, using(crate::proofs::Applying::blank_answers, crate::proofs::Truths::keeps_self))]
     pub(crate) fn ready(&mut self) -> Result<(), Memory>
         ensures kept { Keeps self.old self.new }
-        ensures well { IsWell self.new }
+        ensures reduced_after { IsReduced self.new }
     {
         let _ = self.nodes.vars(); // brings the invariant of the nodes
         if self.results.is_empty() {
@@ -115,17 +115,17 @@ impl Store {
     /// The number of variables; and what holds of the diagrams of every store.
     pub(crate) fn vars(&self) -> u32
         ensures vars { result ≡ self.now.vars }
-        ensures well { IsWell self.now }
+        ensures reduced_after { IsReduced self.now }
         ensures few { count self.now < 2 ^ 32 }
     {
         self.nodes.vars()
     }
 
     /// The node of a diagram.
-    pub(crate) fn node_of(&self, d: u32) -> Decision
+    pub(crate) fn node_of(&self, d: u32) -> ChoiceNode
         requires { d < count self.now }
         ensures node { result ≡ at self.now d }
-        ensures well { IsWell self.now }
+        ensures reduced_after { IsReduced self.now }
     {
         let _ = self.nodes.vars(); // brings the invariant of the nodes
         self.nodes.node(d)
@@ -140,8 +140,8 @@ impl Store {
         requires low_later { var < (at self.old low).var }
         requires high_later { var < (at self.old high).var }
         ensures kept { Keeps self.old self.new }
-        ensures well { IsWell self.new }
-        ensures made { IfOk result (IsMade self.new var low high) }
+        ensures reduced_after { IsReduced self.new }
+        ensures has_truth { IfOk result (IsMade self.new var low high) }
     {
         let _ = self.nodes.vars(); // brings the invariant of the nodes
         let d = self.nodes.make(var, low, high);
@@ -151,7 +151,7 @@ impl Store {
 
     /// The result that is remembered of an operation.
     #[tactic(auto, using(crate::proofs::Applying::recalled))]
-    pub(crate) fn recall(&self, key: Key) -> Option<u32>
+    pub(crate) fn recall(&self, key: OpKey) -> Option<u32>
         ensures { IfSome result (IsAnswer self.now key) }
     {
         known(self.results.as_slice(), key)
@@ -159,7 +159,7 @@ impl Store {
 
     /// Remembers a result.
     #[tactic(auto, using(crate::proofs::Applying::remembered))]
-    pub(crate) fn keep(&mut self, key: Key, answer: u32)
+    pub(crate) fn keep(&mut self, key: OpKey, answer: u32)
         requires { IsAnswer self.old key answer }
         ensures { self.new ≡ self.old }
     {

@@ -3,27 +3,27 @@ ghost use Rattle.std.specs.Prelude.{◌≡◌, ℕ, ◌+◌, ◌-◌, ◌^◌, �
 ghost use Rattle.bdd_core.specs.Tables.{Inside, IsTable, IsUnique, home_of, same_node};
 ghost use Rattle.bdd_core.specs.Tables as tables;
 
-use crate::nodes::Decision;
+use crate::nodes::ChoiceNode;
 use std::alloc::Global;
 use y86_base::Memory;
 
 /// What a look for a node comes to: its number, or the place that is free for it, or neither.
 #[derive(Clone, Copy)]
-pub enum Look {
-    Found(u32),
-    Free(usize),
+pub enum Lookup {
+    Present(u32),
+    Vacant(usize),
     Full,
 }
 
 /// Whether two nodes are the same.
-fn same(a: Decision, b: Decision) -> bool
+fn same(a: ChoiceNode, b: ChoiceNode) -> bool
     ensures { result ≡ same_node a b }
 {
     a.var == b.var && a.low == b.low && a.high == b.high
 }
 
 /// Whether a number names a node.
-fn names(list: &[Decision], p: u32, c: Decision) -> bool
+fn names(list: &[ChoiceNode], p: u32, c: ChoiceNode) -> bool
     requires { 2 ≤ p }
     ensures { result ≡ tables.names list.now p c }
 {
@@ -35,26 +35,26 @@ fn names(list: &[Decision], p: u32, c: Decision) -> bool
 
 /// A look through some places in order.
 #[tactic(auto, using(crate::proofs::Looking::look_start, crate::proofs::Looking::look_free, crate::proofs::Looking::look_found, crate::proofs::Looking::look_more, crate::proofs::Looking::look_end))]
-fn look_through(list: &[Decision], c: Decision, places: &[u32]) -> Look
+fn look_through(list: &[ChoiceNode], c: ChoiceNode, places: &[u32]) -> Lookup
     ensures look { result ≡ tables.look_through list.now c places.now }
     ensures within { Inside (length places.now) result }
 {
     for i in 0..places.len() {
         let p = places[i];
         if p < 2 {
-            return Look::Free(i);
+            return Lookup::Vacant(i);
         }
         if names(list, p, c) {
-            return Look::Found(p);
+            return Lookup::Present(p);
         }
     }
-    Look::Full
+    Lookup::Full
 }
 
 /// The place at which the look for a node begins: the upper half of a product, by Knuth's multiplicative hashing, and of it
 /// as many bits as a size has. A size is a power of 2: a division would take longer than the rest of the look.
 #[tactic(auto, unfolding(crate::specs::Tables::home_of, crate::specs::Tables::hash_of), using(std::proofs::lemmas::Nat::and_le_r))]
-fn home(c: Decision, size: usize) -> usize
+fn home(c: ChoiceNode, size: usize) -> usize
     requires { 0 < size }
     ensures home { result ≡ home_of c size }
     ensures within { result < size }
@@ -68,24 +68,24 @@ fn home(c: Decision, size: usize) -> usize
 
 /// The look for a node.
 #[tactic(auto, using(crate::proofs::Tables::search_none), unfolding(crate::specs::Tables::searched))]
-pub fn search(list: &[Decision], c: Decision, places: &[u32]) -> Look
+pub fn search(list: &[ChoiceNode], c: ChoiceNode, places: &[u32]) -> Lookup
     ensures search { result ≡ tables.searched list.now c places.now }
     ensures within { Inside (length places.now) result }
 {
     if places.is_empty() {
-        return Look::Full;
+        return Lookup::Full;
     }
     let home = home(c, places.len());
     match look_through(list, c, &places[home..]) {
-        Look::Full => look_through(list, c, &places[..home]),
-        Look::Free(i) => Look::Free(home + i),
-        Look::Found(p) => Look::Found(p),
+        Lookup::Full => look_through(list, c, &places[..home]),
+        Lookup::Vacant(i) => Lookup::Vacant(home + i),
+        Lookup::Present(p) => Lookup::Present(p),
     }
 }
 
 /// Writes the number of node `at` to the place where the look for it ends.
 #[tactic(auto, using(crate::proofs::Putting::put_free))]
-pub fn put(list: &[Decision], at: usize, places: &mut [u32])
+pub fn put(list: &[ChoiceNode], at: usize, places: &mut [u32])
     requires inside { at < length list.now }
     requires few { length list.now < 2 ^ 32 - 2 }
     requires unique { IsUnique list.now }
@@ -94,14 +94,14 @@ pub fn put(list: &[Decision], at: usize, places: &mut [u32])
     ensures table { IsTable (take (at + 1) list.now) places.new }
 {
     match search(&list[..at], list[at], places) {
-        Look::Free(i) => places[i] = (at + 2) as u32,
+        Lookup::Vacant(i) => places[i] = (at + 2) as u32,
         _ => unreachable!(),
     }
 }
 
 /// A table of `size` places for a list of nodes.
 #[tactic(auto, using(crate::proofs::Putting::table_begun, crate::proofs::Putting::table_ended))]
-fn table_of(alloc: Global, list: &[Decision], size: usize) -> Result<Vec<u32>, Memory>
+fn table_of(alloc: Global, list: &[ChoiceNode], size: usize) -> Result<Vec<u32>, Memory>
     requires room { length list.now ≤ size }
     requires few { length list.now < 2 ^ 32 - 2 }
     requires unique { IsUnique list.now }
@@ -132,7 +132,7 @@ fn larger(size: usize) -> Result<usize, Memory>
 
 /// Makes room for one more node: a table that is three quarters full is doubled.
 #[tactic(auto, using(crate::proofs::Putting::table_size))]
-pub fn with_room(alloc: Global, list: &[Decision], places: &mut Vec<u32>) -> Result<(), Memory>
+pub fn with_room(alloc: Global, list: &[ChoiceNode], places: &mut Vec<u32>) -> Result<(), Memory>
     requires few { length list.now < 2 ^ 32 - 2 }
     requires table { IsTable list.now places.old.items }
     ensures table { IsTable list.now places.new.items }

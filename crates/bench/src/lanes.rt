@@ -49,7 +49,7 @@ fn vectors(alloc: Global, n: u32, word: u64) -> Result<Vec<u64x8>, Memory>
 
 /// Evaluates all gates on blocks, and adds up the first places in which the last one is false.
 fn evaluated(net: &Net, s: &mut Scratch, lanes: &[u64x8], blocks: u64) -> u64
-    requires made { length s.old ≡ length net.now.gates }
+    requires has_truth { length s.old ≡ length net.now.gates }
     requires lanes { length lanes.now ≡ net.now.vars }
 {
     let mut total = 0u64;

@@ -11,27 +11,27 @@ use Rattle.ctl_atoms.proofs.Solved.{leaves_exist}
 use Rattle.pipe_motion.specs.declared.settings.Settings.{Settings}
 use Rattle.verdict_text.specs.PipeLines.{pipe_yes}
 use Rattle.control_check.specs.PipeVerdicts.{RefinesPipe}
-use Rattle.certificates.specs.Certificates.{CertOk}
-use Rattle.certificates.specs.declared.demands.Demands.{Demands}
-use Rattle.cert_writer.specs.Writing.{IsOpen}
-use Rattle.cert_log.specs.Demanded.{DemandsFor}
-use Rattle.cert_log.specs.Files.{CertificatesAreKept, HasAtoms, IsCertificate, IsRefused, Meets}
-use Rattle.certificates.specs.Certificates.{last_line}
-use Rattle.certificates.specs.Faults.{IsOfGates}
-use Rattle.certificates.specs.Lines.{lines_text}
-use Rattle.certificates.specs.declared.fault.CertError.TheVariants as error
-use Rattle.certificates.specs.declared.fault.CertFault.{CertFault}
-use Rattle.certificates.proofs.Unique.{headed, others_refuse_by_gates, same_settings}
+use Rattle.cert_checker.specs.Certificates.{CertOk}
+use Rattle.cert_checker.specs.declared.demands.Demands.{Demands}
+use Rattle.cert_writer.specs.Writing.{HasFalseDemand}
+use Rattle.cert_log.specs.DesignDemands.{DemandsFor}
+use Rattle.cert_log.specs.Files.{CertificatesAreKept, HasControlValues, IsCertificate, IsRefused, MeetsAt}
+use Rattle.cert_checker.specs.Certificates.{last_line}
+use Rattle.cert_checker.specs.Faults.{IsOfGates}
+use Rattle.cert_checker.specs.Lines.{lines_text}
+use Rattle.cert_checker.specs.declared.fault.CertError.TheVariants as error
+use Rattle.cert_checker.specs.declared.fault.CertFault.{CertFault}
+use Rattle.cert_checker.proofs.Unique.{headed, others_refuse_by_gates, same_settings}
 use Rattle.pipe_fields.specs.Layout.{bit_count}
 use Rattle.ctl_atoms.specs.declared.leaf.Atom.{Atom}
 use Rattle.cert_log.proofs.Wanted.{certified_hold, certified_refine, demands_tell}
 
 -- ---- a design with control values has no fault of them
 
-pub not_mixed : (terms : List Term) (n : ℕ) → HasAtoms terms → IsFirstMixed pipe_rows terms n → ⊥
+pub not_mixed : (terms : List Term) (n : ℕ) → HasControlValues terms → IsFirstMixed pipe_rows terms n → ⊥
 not_mixed terms n h mixed = false≢true (sym (h.are.pure n) ∙ mixed.mixed)
 
-pub not_over : (terms : List Term) (ids : List ℕ) → IsOrderOf pipe_rows terms ids → HasAtoms terms → IsOver64 pipe_rows terms → ⊥
+pub not_over : (terms : List Term) (ids : List ℕ) → IsOrderOf pipe_rows terms ids → HasControlValues terms → IsOver64 pipe_rows terms → ⊥
 not_over terms ids o h over =
     let some = leaves_exist pipe_rows terms ids o in
     let many = over.many some.0 some.1 in
@@ -39,20 +39,20 @@ not_over terms ids o h over =
     let same = ap length (h.are.are some.0 some.1) in
     omega (arith, many, few, same)
 
-pub has_atoms : (v : Variant) (terms : List Term) (s : Settings) → Meets v terms s → HasAtoms terms
+pub has_atoms : (v : Variant) (terms : List Term) (s : Settings) → MeetsAt v terms s → HasControlValues terms
 has_atoms v terms s m = record { atoms = m.atoms; are = m.are }
 
 -- ---- what is demanded of a file that meets its obligations is nowhere false
 
-pub never_open : (v : Variant) (terms : List Term) (ids : List ℕ) (s : Settings) (g : Demands) → IsOrderOf pipe_rows terms ids → Meets v terms s → DemandsFor v terms s g → IsOpen g → ⊥
+pub never_open : (v : Variant) (terms : List Term) (ids : List ℕ) (s : Settings) (g : Demands) → IsOrderOf pipe_rows terms ids → MeetsAt v terms s → DemandsFor v terms s g → HasFalseDemand g → ⊥
 never_open v terms ids s g o m d some =
     let all = (demands_tell v terms ids m.atoms s g o m.are d).1 m.meets in
     false≢true (sym some.fails ∙ all.each some.k some.gate some.is some.pattern some.size)
 
 -- ---- what a certificate shows
 
-pub met : (v : Variant) (terms : List Term) (ids : List ℕ) (s : Settings) (g : Demands) (text : List ℕ) → IsOrderOf pipe_rows terms ids → HasAtoms terms → DemandsFor v terms s g → CertOk g text →
-    Meets v terms s
+pub met : (v : Variant) (terms : List Term) (ids : List ℕ) (s : Settings) (g : Demands) (text : List ℕ) → IsOrderOf pipe_rows terms ids → HasControlValues terms → DemandsFor v terms s g → CertOk g text →
+    MeetsAt v terms s
 met v terms ids s g text o h d c = record { atoms = h.atoms; are = h.are; meets = certified_hold v terms ids h.atoms s g text o h.are d c }
 
 pub refined : (v : Variant) (terms : List Term) (ids : List ℕ) (s : Settings) (g : Demands) (text : List ℕ) → IsBound pipe_rows terms → IsOrderOf pipe_rows terms ids → DemandsFor v terms s g →

@@ -4,7 +4,7 @@ use Rattle.std.proofs.lemmas.Bool.{cases_lt, false≢true}
 use Rattle.std.proofs.lemmas.List.{get_or-map, get_or_append_left, get_or_push, length-map, map_more, take_all}
 use Rattle.std.proofs.lemmas.Option.{slice_get-get_or, slice_get_within}
 use Rattle.y86_base.specs.declared.parts.Variant.{Variant}
-use Rattle.nets.specs.Nets.{Begins, Gates, truth}
+use Rattle.nets.specs.Nets.{ExtendsNet, Gates, truth}
 use Rattle.hcl_types.specs.Tables.{IsOrderOf}
 use Rattle.hcl_types.specs.declared.term.Term.{Term}
 use Rattle.dp_signals.specs.PipeTable.{pipe_rows}
@@ -18,22 +18,22 @@ use Rattle.pipe_fields.specs.Layout.{fields_of}
 use Rattle.pipe_fields.proofs.Told.{in_range}
 use Rattle.pipe_motion.specs.declared.settings.Settings.{Settings}
 use Rattle.pipe_obligations.specs.Rules.{obligation, rule_count}
-use Rattle.pipe_obligations.specs.Settled.{Everywhere, Truth, carries, PipeControls}
+use Rattle.pipe_obligations.specs.FileSettings.{Everywhere, ValuationTruth, alu_passes_target, PipeControls}
 use Rattle.pipe_theorem.specs.Theorem.{MeetsObligations}
 use Rattle.pipe_theorem.proofs.Top.{accepted_refines}
-use Rattle.rule_gates.specs.declared.rules.Rule.{Rule}
+use Rattle.ctl_rules.specs.declared.rules.Rule.{Rule}
 use Rattle.hazard_rules.specs.Belonging.{BelongTo}
-use Rattle.hazard_rules.specs.Parts.{AreRules, IsFormula}
-use Rattle.hazard_rules.specs.declared.whole.Parts.{Parts}
-use Rattle.hazard_rules.specs.declared.whole.Parts as whole
-use Rattle.verdicts.proofs.AtomBits.{AreApart, apart_added}
+use Rattle.hazard_rules.specs.Parts.{AreRules, IsDesignGate}
+use Rattle.hazard_rules.specs.declared.parts.Parts.{Parts}
+use Rattle.hazard_rules.specs.declared.parts.Parts as whole
+use Rattle.ctl_verdicts.proofs.AtomBits.{AreApart, apart_added}
 use Rattle.control_check.proofs.OneSettings.{one_list}
 use Rattle.control_check.proofs.PipeVerdict.{everywhere, somewhere}
-use Rattle.certificates.specs.Certificates.{CertOk}
-use Rattle.certificates.specs.declared.demands.Demands.{Demands}
-use Rattle.certificates.proofs.Sound.{certificates_show}
-use Rattle.cert_writer.specs.Writing.{AreInside, AreTrue}
-use Rattle.cert_log.specs.Demanded.{CertifiedFilesHold, CertifiedFilesRefine, DemandsFor, DemandsTell, gate_of}
+use Rattle.cert_checker.specs.Certificates.{CertOk}
+use Rattle.cert_checker.specs.declared.demands.Demands.{Demands}
+use Rattle.cert_checker.proofs.Sound.{certificates_show}
+use Rattle.cert_writer.specs.Writing.{AreInside, AreDemandsTrue}
+use Rattle.cert_log.specs.DesignDemands.{CertifiedFilesHold, CertifiedFilesRefine, DemandsFor, DemandsAreExact, gate_of}
 
 pub gates_none : (list : List Rule) (gates : List ℕ) → gates ≡ [] → gates ≡ map gate_of (take 0 list)
 gates_none list gates e = e
@@ -46,14 +46,14 @@ gates_all list gates k h e = e ∙ ap (map gate_of) (take_all k list h)
 
 -- ---- the demands
 
-formula_kept : (terms : List Term) (atoms : List Atom) (old new : Gates) (g : ℕ) (f : Truth) → Begins old new → IsFormula terms atoms old g f → IsFormula terms atoms new g f
+formula_kept : (terms : List Term) (atoms : List Atom) (old new : Gates) (g : ℕ) (f : ValuationTruth) → ExtendsNet old new → IsDesignGate terms atoms old g f → IsDesignGate terms atoms new g f
 formula_kept terms atoms old new g f b h = record {
   within = (let w = h.within in let m = b.more in omega (arith, w, m));
   is = λ w α cv are controls. b.same g w h.within ∙ h.is w α cv are controls;
 }
 
 pub demanded : (v : Variant) (terms : List Term) (ids : List ℕ) (s : Settings) (p : whole.Parts) (net : Gates) (list : List Rule) (want : List ℕ) → IsOrderOf pipe_rows terms ids → BelongTo terms p → p.variant ≡ v →
-    AreRules p.variant terms s net list → Begins p.net net → want ≡ map gate_of list ++ cond s.tv (p.tv ∷ []) [] → DemandsFor v terms s (record { settings = s; net = net; want = want })
+    AreRules p.variant terms s net list → ExtendsNet p.net net → want ≡ map gate_of list ++ cond s.tv (p.tv ∷ []) [] → DemandsFor v terms s (record { settings = s; net = net; want = want })
 demanded v terms ids s p net list want o belong same rules begins e = record {
   settings = refl;
   atoms = rules.atoms;
@@ -74,24 +74,24 @@ demanded v terms ids s p net list want o belong same rules begins e = record {
     none : Rule
     none = record { number = 0; gate = 0 }
 
-    obliged : (k : ℕ) → k < rule_count → IsFormula terms rules.atoms net (get_or want k 0) (obligation v s rules.atoms (k + 1))
+    obliged : (k : ℕ) → k < rule_count → IsDesignGate terms rules.atoms net (get_or want k 0) (obligation v s rules.atoms (k + 1))
     obliged k h =
         let inside : k < length list = (let c = rules.count in omega (arith, h, c)) in
         let gate : get_or want k 0 ≡ (get_or list k none).gate =
         ap (λ (xs : List ℕ). get_or xs k 0) e ∙ get_or_append_left (map gate_of list) (cond s.tv (p.tv ∷ []) []) 0 k (omega (arith, h, size)) ∙ get_or-map gate_of list k none 0 inside in
         let formula = rules.gates k (get_or list k none) (slice_get-get_or list k none inside) in
-        subst (λ n. IsFormula terms rules.atoms net n (obligation v s rules.atoms (k + 1))) (sym gate)
-        (subst (λ x. IsFormula terms rules.atoms net (get_or list k none).gate (obligation x s rules.atoms (k + 1))) same formula)
+        subst (λ n. IsDesignGate terms rules.atoms net n (obligation v s rules.atoms (k + 1))) (sym gate)
+        (subst (λ x. IsDesignGate terms rules.atoms net (get_or list k none).gate (obligation x s rules.atoms (k + 1))) same formula)
 
-    told : s.tv ≡ true → IsFormula terms rules.atoms net (get_or want rule_count 0) (carries v s)
+    told : s.tv ≡ true → IsDesignGate terms rules.atoms net (get_or want rule_count 0) (alu_passes_target v s)
     told t =
         let last : get_or want rule_count 0 ≡ p.tv =
         ap (λ (xs : List ℕ). get_or xs rule_count 0) (e ∙ ap (λ b. map gate_of list ++ cond b (p.tv ∷ []) []) t) ∙ get_or_push (map gate_of list) p.tv 0 rule_count size in
         let closed = belong.settings in
-        let kept = formula_kept terms closed.atoms p.net net p.tv (carries p.variant s) begins (closed.target s) in
-        subst (λ n. IsFormula terms rules.atoms net n (carries v s)) (sym last)
-        (subst (λ x. IsFormula terms rules.atoms net p.tv (carries x s)) same
-        (subst (λ (a : List Atom). IsFormula terms a net p.tv (carries p.variant s)) (one_list terms ids o closed.atoms rules.atoms closed.are rules.are) kept))
+        let kept = formula_kept terms closed.atoms p.net net p.tv (alu_passes_target p.variant s) begins (closed.target s) in
+        subst (λ n. IsDesignGate terms rules.atoms net n (alu_passes_target v s)) (sym last)
+        (subst (λ x. IsDesignGate terms rules.atoms net p.tv (alu_passes_target x s)) same
+        (subst (λ (a : List Atom). IsDesignGate terms a net p.tv (alu_passes_target p.variant s)) (one_list terms ids o closed.atoms rules.atoms closed.are rules.are) kept))
 
 -- ---- the demanded gates are gates of the net
 
@@ -128,19 +128,19 @@ module _ (v : Variant) (terms : List Term) (ids : List ℕ) (o : IsOrderOf pipe_
 
   module _ (s : Settings) (g : Demands) (d : DemandsFor v terms s g) where
     -- a demanded gate that is true at every pattern of bits: its formula is true everywhere
-    shown : AreTrue g → (k : ℕ) → k < length g.want → (f : Truth) → IsFormula terms d.atoms g.net (get_or g.want k 0) f → Everywhere v d.atoms (PipeControls terms) f
+    shown : AreDemandsTrue g → (k : ℕ) → k < length g.want → (f : ValuationTruth) → IsDesignGate terms d.atoms g.net (get_or g.want k 0) f → Everywhere v d.atoms (PipeControls terms) f
     shown all k h f formula =
         everywhere v terms d.atoms (apart d.atoms d.are) exists g.net d.vars (get_or g.want k 0) f formula
         (λ w size. all.each k (get_or g.want k 0) (slice_get-get_or g.want k 0 h) w size)
 
-    met : AreTrue g → MeetsObligations v terms d.atoms s
+    met : AreDemandsTrue g → MeetsObligations v terms d.atoms s
     met all = record {
       obligations = λ i l h.
           (let back : i - 1 + 1 ≡ i = omega (arith, l) in
           let inside : i - 1 < rule_count = omega (arith, l, h) in
           subst (λ n. Everywhere v d.atoms (PipeControls terms) (obligation v s d.atoms n)) back
           (shown all (i - 1) (let n = d.count in let m = most s.tv in omega (arith, inside, n, m)) (obligation v s d.atoms (i - 1 + 1)) (d.obligations (i - 1) inside)));
-      target = λ t. shown all rule_count (let n = d.count ∙ ap (λ b. cond b (rule_count + 1) rule_count) t in omega (arith, n)) (carries v s) (d.target t);
+      target = λ t. shown all rule_count (let n = d.count ∙ ap (λ b. cond b (rule_count + 1) rule_count) t in omega (arith, n)) (alu_passes_target v s) (d.target t);
     }
       where
         most : (b : Bool) → rule_count ≤ cond b (rule_count + 1) rule_count
@@ -148,7 +148,7 @@ module _ (v : Variant) (terms : List Term) (ids : List ℕ) (o : IsOrderOf pipe_
         most false = omega arith
 
     -- and back
-    true_where : (gate : ℕ) (f : Truth) → IsFormula terms d.atoms g.net gate f → Everywhere v d.atoms (PipeControls terms) f → (w : List Bool) → truth g.net gate w ≡ true
+    true_where : (gate : ℕ) (f : ValuationTruth) → IsDesignGate terms d.atoms g.net gate f → Everywhere v d.atoms (PipeControls terms) f → (w : List Bool) → truth g.net gate w ≡ true
     true_where gate f formula all w = at (truth g.net gate w) refl
       where
         at : (b : Bool) → truth g.net gate w ≡ b → truth g.net gate w ≡ true
@@ -157,19 +157,19 @@ module _ (v : Variant) (terms : List Term) (ids : List ℕ) (o : IsOrderOf pipe_
             let x = somewhere v terms d.atoms (apart d.atoms d.are) exists g.net d.vars gate f formula w e in
             absurd (false≢true (sym x.4 ∙ all (fields_of w) x.0 x.1 (in_range w) x.3))
 
-    all_true : MeetsObligations v terms d.atoms s → AreTrue g
+    all_true : MeetsObligations v terms d.atoms s → AreDemandsTrue g
     all_true meets = record {
       each = λ k i at w size.
           each_demanded v terms s g d (λ n. truth g.net n w ≡ true)
           (λ j lt. true_where (get_or g.want j 0) (obligation v s d.atoms (j + 1)) (d.obligations j lt) (meets.obligations (j + 1) (omega arith) (omega (arith, lt))) w)
-          (λ t. true_where (get_or g.want rule_count 0) (carries v s) (d.target t) (meets.target t) w)
+          (λ t. true_where (get_or g.want rule_count 0) (alu_passes_target v s) (d.target t) (meets.target t) w)
           k i at;
     }
 
     certified : (text : List ℕ) → CertOk g text → MeetsObligations v terms d.atoms s
     certified text c = met (record { each = λ k i at w size. certificates_show g text c k i at w })
 
-pub demands_tell : DemandsTell
+pub demands_tell : DemandsAreExact
 demands_tell v terms ids atoms s g o are d =
     let same = one_list terms ids o d.atoms atoms d.are are in (
       λ all. subst (λ (a : List Atom). MeetsObligations v terms a s) same (met v terms ids o s g d all),

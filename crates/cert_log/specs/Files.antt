@@ -9,21 +9,21 @@ use Rattle.ctl_atoms.specs.declared.leaf.Atom.{Atom}
 use Rattle.pipe_motion.specs.declared.settings.Settings.{Settings}
 use Rattle.pipe_theorem.specs.Theorem.{MeetsObligations}
 use Rattle.verdict_text.specs.PipeLines.{pipe_yes}
-use Rattle.certificates.specs.Certificates.{CertOk, HasNoHead, IsFirstFault, States}
-use Rattle.certificates.specs.Faults.{IsOfGates}
-use Rattle.certificates.specs.declared.demands.Demands.{Demands}
-use Rattle.certificates.specs.declared.fault.CertError.{CertError}
-use Rattle.certificates.specs.declared.fault.CertError.TheVariants as error
-use Rattle.certificates.specs.declared.fault.CertFault.{CertFault}
-use Rattle.cert_log.specs.Demanded.{DemandsFor}
+use Rattle.cert_checker.specs.Certificates.{CertOk, HasNoHead, IsFirstFault, StatesSettings}
+use Rattle.cert_checker.specs.Faults.{IsOfGates}
+use Rattle.cert_checker.specs.declared.demands.Demands.{Demands}
+use Rattle.cert_checker.specs.declared.fault.CertError.{CertError}
+use Rattle.cert_checker.specs.declared.fault.CertError.TheVariants as error
+use Rattle.cert_checker.specs.declared.fault.CertFault.{CertFault}
+use Rattle.cert_log.specs.DesignDemands.{DemandsFor}
 
 -- a design with control values: none of its definitions mixes codes with words, and it has at most 64 atoms
-pub record HasAtoms (terms : List Term) : Type 0 where
+pub record HasControlValues (terms : List Term) : Type 0 where
   pub atoms : List Atom
   pub are : AreAtoms pipe_rows terms atoms
 
 -- the file meets its obligations at settings
-pub record Meets (v : Variant) (terms : List Term) (s : Settings) : Type 0 where
+pub record MeetsAt (v : Variant) (terms : List Term) (s : Settings) : Type 0 where
   pub atoms : List Atom
   pub are : AreAtoms pipe_rows terms atoms
   pub meets : MeetsObligations v terms atoms s
@@ -38,7 +38,7 @@ pub record IsCertificate (v : Variant) (terms : List Term) (s : Settings) (text 
 pub record HasFault (v : Variant) (terms : List Term) (text : List ℕ) (fault : CertFault) : Type 0 where
   pub settings : Settings
   pub rest : List ℕ
-  pub states : States text settings rest
+  pub states : StatesSettings text settings rest
   pub demands : Demands
   pub are : DemandsFor v terms settings demands
   pub first : IsFirstFault demands text fault
@@ -57,5 +57,5 @@ CertificatesAreKept =
     × ((fault : CertFault) → IsRefused v terms text (error.Cert fault) → IsOfGates fault.why × (3 ≤ fault.line))
 
 -- the line of an accepted certificate: that of a yes at its settings, but for the first word
-unfoldable pub holds : Settings → List ℕ
-holds s = codes "holds" ++ drop 3 (pipe_yes s)
+unfoldable pub holds_line : Settings → List ℕ
+holds_line s = codes "holds" ++ drop 3 (pipe_yes s)

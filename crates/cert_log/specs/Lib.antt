@@ -1,2 +1,2 @@
-pub mod Demanded
+pub mod DesignDemands
 pub mod Files

@@ -3,15 +3,15 @@ ghost use Rattle.std.specs.Prelude.{◌≡◌, ◌++◌, ◌∷◌, [], cond, ma
 ghost use Rattle.ctl_atoms.specs.Atoms.{IsCtlFault};
 ghost use Rattle.dp_signals.specs.PipeTable.{pipe_rows};
 ghost use Rattle.hcl_types.specs.Tables.{IsBound, IsOrderOf};
-ghost use Rattle.cert_log.specs.Demanded.{DemandsFor, gate_of};
+ghost use Rattle.cert_log.specs.DesignDemands.{DemandsFor, gate_of};
 ghost use Rattle.cert_writer.specs.Writing.{AreInside};
 
-use certificates::Demands;
+use cert_checker::Demands;
 use ctl_atoms::CtlFault;
+use ctl_rules::Rule;
 use hazard_rules::{pipe_parts, pipe_rules};
 use hcl_types::{Design, Order};
 use pipe_motion::Settings;
-use rule_gates::Rule;
 use std::alloc::Global;
 use y86_base::{Items, Memory, Variant};
 

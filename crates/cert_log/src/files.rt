@@ -3,13 +3,13 @@ ghost use Rattle.std.specs.Prelude.{◌≡◌, IfErr, IfOk, OnOk};
 ghost use Rattle.dp_signals.specs.PipeTable.{pipe_rows};
 ghost use Rattle.hcl_types.specs.Tables.{IsBound, IsOrderOf};
 ghost use Rattle.control_check.specs.PipeVerdicts.{RefinesPipe};
-ghost use Rattle.cert_log.specs.Demanded.{DemandsFor};
+ghost use Rattle.cert_log.specs.DesignDemands.{DemandsFor};
 ghost use Rattle.cert_log.specs.Files as spec;
 ghost use Rattle.cert_writer.specs.Writing.{AreInside};
 
 use crate::demanded::demands;
+use cert_checker::{CertError, Demands, recheck, stated};
 use cert_writer::write;
-use certificates::{CertError, Demands, recheck, stated};
 use ctl_atoms::CtlFault;
 use hcl_types::{Design, Order};
 use pipe_motion::Settings;
@@ -28,7 +28,7 @@ fn demands_of(
 ) -> Result<Demands, Memory>
     requires bound { IsBound pipe_rows design.now.terms }
     requires ordered { IsOrderOf pipe_rows design.now.terms order.now.ids }
-    requires atoms { spec.HasAtoms design.now.terms }
+    requires atoms { spec.HasControlValues design.now.terms }
     ensures demands { IfOk result (DemandsFor variant design.now.terms settings) }
     ensures inside { IfOk result AreInside }
 {
@@ -52,7 +52,7 @@ pub fn certify(
 ) -> Result<Vec<u8>, Memory>
     requires bound { IsBound pipe_rows design.now.terms }
     requires ordered { IsOrderOf pipe_rows design.now.terms order.now.ids }
-    requires meets { spec.Meets variant design.now.terms settings }
+    requires meets { spec.MeetsAt variant design.now.terms settings }
     ensures { IfOk result (λ text. spec.IsCertificate variant design.now.terms settings text.items) }
 {
     let demands = demands_of(alloc, variant, design, order, settings)?;
@@ -76,9 +76,9 @@ pub fn recheck_file(
 ) -> Result<Settings, CertError>
     requires bound { IsBound pipe_rows design.now.terms }
     requires ordered { IsOrderOf pipe_rows design.now.terms order.now.ids }
-    requires atoms { spec.HasAtoms design.now.terms }
+    requires atoms { spec.HasControlValues design.now.terms }
     ensures right { IfOk result (λ s. spec.IsCertificate variant design.now.terms s bytes.now) }
-    ensures meets { IfOk result (spec.Meets variant design.now.terms) }
+    ensures meets { IfOk result (spec.MeetsAt variant design.now.terms) }
     ensures refines { OnOk result (RefinesPipe variant design.now.terms) }
     ensures fault { IfErr result (spec.IsRefused variant design.now.terms bytes.now) }
 {
@@ -97,9 +97,9 @@ pub fn recheck_file(
 }
 
 /// The line that tells an accepted certificate with its settings.
-#[tactic(auto, using(crate::proofs::Shown::yes_long, crate::proofs::Shown::holds_is), unfolding(crate::specs::Files::holds))]
-pub fn holds(alloc: Global, settings: &Settings) -> Result<Vec<u8>, Memory>
-    ensures { IfOk result (λ text. text.items ≡ spec.holds settings.now) }
+#[tactic(auto, using(crate::proofs::Shown::yes_long, crate::proofs::Shown::holds_is), unfolding(crate::specs::Files::holds_line))]
+pub fn holds_line(alloc: Global, settings: &Settings) -> Result<Vec<u8>, Memory>
+    ensures { IfOk result (λ text. text.items ≡ spec.holds_line settings.now) }
 {
     let yes = pipe_acceptance(alloc, settings)?;
     let mut out = Vec::new(alloc);

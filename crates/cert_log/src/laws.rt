@@ -1,11 +1,11 @@
 //! The theorems about certificates of files. Each is a function that does nothing and whose contract is the theorem.
-ghost use Rattle.cert_log.specs.Demanded.{CertifiedFilesHold, CertifiedFilesRefine, DemandsTell};
+ghost use Rattle.cert_log.specs.DesignDemands.{CertifiedFilesHold, CertifiedFilesRefine, DemandsAreExact};
 ghost use Rattle.cert_log.specs.Files.{CertificatesAreKept};
 
 /// What is demanded of a file at settings is true at every pattern of bits exactly where the file meets its obligations at
 /// them. So `write` has a certificate of each file that meets them.
 pub fn law_of_demands()
-    ensures { DemandsTell }
+    ensures { DemandsAreExact }
 {}
 
 /// Where a text is a certificate of what is demanded of a file at settings, the file meets its obligations at these settings.

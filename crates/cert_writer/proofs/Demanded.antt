@@ -4,25 +4,25 @@ use Rattle.std.proofs.lemmas.Bool.{cases_lt}
 use Rattle.std.proofs.lemmas.Option.{get_or_from_slice_get, slice_get-get_or, slice_get_within}
 use Rattle.nets.specs.Nets.{truth}
 use Rattle.bdd_core.specs.Diagrams.{Diagrams}
-use Rattle.bdd_core.specs.Meaning.{Always, IsLeastFalse, truth_of}
+use Rattle.bdd_core.specs.Meaning.{Always, IsLeastFalsifying, truth_of}
 use Rattle.bdd_core.specs.declared.store.Dia.{Dia}
 use Rattle.pipe_motion.specs.declared.settings.Settings.{Settings}
 use Rattle.verdict_text.specs.PipeLines.{pipe_yes}
-use Rattle.certificates.specs.Certificates.{CertOk, first_line, head_text, last_line}
-use Rattle.certificates.specs.Certificates as spec
-use Rattle.certificates.specs.declared.known.Made.{Made}
-use Rattle.certificates.specs.declared.demands.Demands.{Demands}
-use Rattle.cert_writer.specs.Nodes.{IsDrawn, IsOrder, no_dia, places_of}
+use Rattle.cert_checker.specs.Certificates.{CertOk, first_line, head_text, last_line}
+use Rattle.cert_checker.specs.Certificates as spec
+use Rattle.cert_checker.specs.declared.known.TermDef.{TermDef}
+use Rattle.cert_checker.specs.declared.demands.Demands.{Demands}
+use Rattle.cert_writer.specs.Nodes.{IsDrawn, IsVariableOrder, no_dia, places_of}
 use Rattle.cert_writer.specs.Terms.{AreOrdered}
-use Rattle.cert_writer.specs.Writing.{AreGateTerms, AreInside, AreNamed, AreTrue, IsOpen}
+use Rattle.cert_writer.specs.Writing.{AreGateTerms, AreInside, AreNamed, AreDemandsTrue, HasFalseDemand}
 use Rattle.cert_writer.proofs.Ordered.{constant}
 use Rattle.cert_writer.proofs.Nodes.{nets_length, nets_of, places_length, places_onto}
 
 pub want_inside : (g : Demands) (k : ℕ) → AreInside g → k < length g.want → get_or g.want k 0 < length g.net.gates
 want_inside g k inside h = inside k (get_or g.want k 0) (slice_get-get_or g.want k 0 h)
 
-pub open_at : (g : Demands) (order ranks : List ℕ) (s : Diagrams) (dias : List Dia) (k : ℕ) (bits : List Bool) → AreInside g → length order ≡ g.net.vars → IsOrder order ranks → IsDrawn g.net order s dias → k < length g.want →
-    IsLeastFalse s (get_or dias (get_or g.want k 0) no_dia) bits → IsOpen g
+pub open_at : (g : Demands) (order ranks : List ℕ) (s : Diagrams) (dias : List Dia) (k : ℕ) (bits : List Bool) → AreInside g → length order ≡ g.net.vars → IsVariableOrder order ranks → IsDrawn g.net order s dias → k < length g.want →
+    IsLeastFalsifying s (get_or dias (get_or g.want k 0) no_dia) bits → HasFalseDemand g
 open_at g order ranks s dias k bits inside vars o d h f =
     let whole : length bits ≡ length order = f.size ∙ d.vars in
     let size : length (nets_of ranks bits) ≡ length order = nets_length ranks bits ∙ o.size in
@@ -56,7 +56,7 @@ true_more g order s dias k inside vars d h a always = record {
       (cases_lt j k);
 }
 
-pub true_all : (g : Demands) (n : ℕ) → length g.want ≤ n → AreTrueTo g n → AreTrue g
+pub true_all : (g : Demands) (n : ℕ) → length g.want ≤ n → AreTrueTo g n → AreDemandsTrue g
 true_all g n h a = record {
   each = λ k i is w size. (let l = slice_get_within g.want k i is in
       ap (λ x. truth g.net x w) (sym (get_or_from_slice_get g.want k i 0 is)) ∙ a.each k (omega (arith, l, h)) w size);
@@ -67,7 +67,7 @@ unfolding spec.head_text
 head_put s old middle new line e f g = g ∙ (λ i. f i ++ e i) ∙ append_assoc old first_line (pipe_yes s)
 
 -- each demanded gate has the term of truth
-pub want_one : (g : Demands) (ranks : List ℕ) (terms : List Made) (ts : List ℕ) → AreOrdered ranks terms → length ranks ≡ g.net.vars → AreInside g → AreTrue g → AreGateTerms g.net (length ranks) terms ts (length g.net.gates) →
+pub want_one : (g : Demands) (ranks : List ℕ) (terms : List TermDef) (ts : List ℕ) → AreOrdered ranks terms → length ranks ≡ g.net.vars → AreInside g → AreDemandsTrue g → AreGateTerms g.net (length ranks) terms ts (length g.net.gates) →
     (k w : ℕ) → slice_get g.want k ≡ Some w → slice_get ts w ≡ Some 1
 want_one g ranks terms ts o vars inside shut all k w is =
     let h = inside k w is in
@@ -75,7 +75,7 @@ want_one g ranks terms ts o vars inside shut all k w is =
     let one : get_or ts w 0 ≡ 1 = constant ranks terms o (get_or ts w 0) true t.within (λ u size. t.is u size ∙ shut.each k w is u (size ∙ vars)) in
     slice_get-get_or ts w 0 (let s = all.size in omega (arith, h, s)) ∙ ap Some one
 
-pub named : (vars : ℕ) (ranks : List ℕ) (terms : List Made) → AreOrdered ranks terms → length ranks ≡ vars → AreNamed vars terms
+pub named : (vars : ℕ) (ranks : List ℕ) (terms : List TermDef) → AreOrdered ranks terms → length ranks ≡ vars → AreNamed vars terms
 named vars ranks terms o size = record {
   var = λ k m is. (let x = o.within k m is in omega (arith, x, size));
   low = o.low;

@@ -4,28 +4,28 @@ use Rattle.std.proofs.lemmas.Bool.{cases_lt}
 use Rattle.std.proofs.lemmas.List.{get_or-map, get_or_append_left, get_or_push, length-map, length_push, map_more, same_lists, take_all, get_or_default}
 use Rattle.nets.specs.Nets.{Gates, truth}
 use Rattle.nets.specs.Substitution.{AreCopies, AreSources, behind, source_truth}
-use Rattle.nets.specs.declared.copies.Source.{Source}
-use Rattle.nets.specs.declared.copies.Source.TheVariants as source
+use Rattle.nets.specs.declared.copies.Replacement.{Replacement}
+use Rattle.nets.specs.declared.copies.Replacement.TheVariants as source
 use Rattle.bdd_core.specs.Building.{AreKnown, KnownGates}
 use Rattle.bdd_core.specs.Diagrams.{Diagrams}
 use Rattle.bdd_core.specs.Meaning.{IsBuilt, Stay}
 use Rattle.bdd_core.specs.declared.store.Dia.{Dia}
-use Rattle.cert_writer.specs.Nodes.{IsDrawn, IsOrder, no_dia, places_of}
+use Rattle.cert_writer.specs.Nodes.{IsDrawn, IsVariableOrder, no_dia, places_of}
 use Rattle.cert_writer.proofs.Nodes.{places_length}
 
-pub sources_none : (ranks : List ℕ) (to : List Source) → to ≡ [] → to ≡ map source.Var (take 0 ranks)
+pub sources_none : (ranks : List ℕ) (to : List Replacement) → to ≡ [] → to ≡ map source.Var (take 0 ranks)
 sources_none ranks to e = e
 
-pub sources_more : (ranks : List ℕ) (old new : List Source) (i : ℕ) → i < length ranks → old ≡ map source.Var (take i ranks) → new ≡ old ++ source.Var (get_or ranks i 0) ∷ [] → new ≡ map source.Var (take (i + 1) ranks)
-sources_more ranks old new i h e f = f ∙ ap (λ (xs : List Source). xs ++ source.Var (get_or ranks i 0) ∷ []) e ∙ sym (map_more source.Var ranks i 0 h)
+pub sources_more : (ranks : List ℕ) (old new : List Replacement) (i : ℕ) → i < length ranks → old ≡ map source.Var (take i ranks) → new ≡ old ++ source.Var (get_or ranks i 0) ∷ [] → new ≡ map source.Var (take (i + 1) ranks)
+sources_more ranks old new i h e f = f ∙ ap (λ (xs : List Replacement). xs ++ source.Var (get_or ranks i 0) ∷ []) e ∙ sym (map_more source.Var ranks i 0 h)
 
-pub sources_all : (ranks : List ℕ) (to : List Source) (i : ℕ) → length ranks ≤ i → to ≡ map source.Var (take i ranks) → to ≡ map source.Var ranks
+pub sources_all : (ranks : List ℕ) (to : List Replacement) (i : ℕ) → length ranks ≤ i → to ≡ map source.Var (take i ranks) → to ≡ map source.Var ranks
 sources_all ranks to i h e = e ∙ ap (map source.Var) (take_all i ranks h)
 
-pub are_sources : (order ranks : List ℕ) (to : List Source) (vars : ℕ) → IsOrder order ranks → length order ≡ vars → to ≡ map source.Var ranks → AreSources vars to
+pub are_sources : (order ranks : List ℕ) (to : List Replacement) (vars : ℕ) → IsVariableOrder order ranks → length order ≡ vars → to ≡ map source.Var ranks → AreSources vars to
 are_sources order ranks to vars o size e = subst (AreSources vars) (sym e) (record { within = each })
   where
-    var_of : Source → ℕ
+    var_of : Replacement → ℕ
     var_of (source.Const b) = 0
     var_of (source.Var x) = x
 
@@ -36,11 +36,11 @@ are_sources order ranks to vars o size e = subst (AreSources vars) (sym e) (reco
         let below = o.below i (let s = o.size in omega (arith, inside, s)) in
         omega (arith, below, value, size)
 
-pub whole : (order ranks : List ℕ) (to : List Source) (vars : ℕ) → IsOrder order ranks → length order ≡ vars → to ≡ map source.Var ranks → length to ≡ vars
+pub whole : (order ranks : List ℕ) (to : List Replacement) (vars : ℕ) → IsVariableOrder order ranks → length order ≡ vars → to ≡ map source.Var ranks → length to ≡ vars
 whole order ranks to vars o size e = ap length e ∙ length-map ranks source.Var ∙ o.size ∙ size
 
 -- the valuation behind that of the copy is the pattern itself
-behind_places : (order ranks : List ℕ) → IsOrder order ranks → (w : List Bool) → length w ≡ length order → behind (map source.Var ranks) (places_of order w) ≡ w
+behind_places : (order ranks : List ℕ) → IsVariableOrder order ranks → (w : List Bool) → length w ≡ length order → behind (map source.Var ranks) (places_of order w) ≡ w
 behind_places order ranks o w size =
     same_lists (behind (map source.Var ranks) (places_of order w)) w
     (length-map (map source.Var ranks) (source_truth (places_of order w)) ∙ length-map ranks source.Var ∙ o.size ∙ sym size)
@@ -92,10 +92,10 @@ drawn_more copy gates s t built more dias new i d a k f b e = record {
         subst (λ (x : Dia). IsBuilt t copy (get_or gates j 0) x) (sym (get_or_push dias d no_dia j (a.size ∙ sym same)))
         (subst (λ n. IsBuilt t copy (get_or gates n 0) d) (sym same) b)
 
-pub gate_within : (n copy : Gates) (to : List Source) (gates : List ℕ) (i : ℕ) → AreCopies n copy to gates → i < length gates → get_or gates i 0 < length copy.gates
+pub gate_within : (n copy : Gates) (to : List Replacement) (gates : List ℕ) (i : ℕ) → AreCopies n copy to gates → i < length gates → get_or gates i 0 < length copy.gates
 gate_within n copy to gates i c h = (let g = c.each i h in g.within)
 
-pub drawn_all : (n copy : Gates) (order ranks : List ℕ) (to : List Source) (gates : List ℕ) (s : Diagrams) (built : KnownGates) (dias : List Dia) (i : ℕ) → IsOrder order ranks → s.vars ≡ length order → to ≡ map source.Var ranks →
+pub drawn_all : (n copy : Gates) (order ranks : List ℕ) (to : List Replacement) (gates : List ℕ) (s : Diagrams) (built : KnownGates) (dias : List Dia) (i : ℕ) → IsVariableOrder order ranks → s.vars ≡ length order → to ≡ map source.Var ranks →
     length gates ≡ length n.gates → AreCopies n copy to gates → i ≡ length n.gates → AreDrawn copy gates s built dias i → IsDrawn n order s dias
 drawn_all n copy order ranks to gates s built dias i o vars e size c at a = record {
   vars = vars;
@@ -106,5 +106,5 @@ drawn_all n copy order ranks to gates s built dias i o vars e size c at a = reco
       let g = c.each j (omega (arith, h, size)) in
       b.is (places_of order w) (places_length order w ∙ sym vars)
       ∙ g.is (places_of order w)
-      ∙ ap (truth n j) (ap (λ (xs : List Source). behind xs (places_of order w)) e ∙ behind_places order ranks o w whole));
+      ∙ ap (truth n j) (ap (λ (xs : List Replacement). behind xs (places_of order w)) e ∙ behind_places order ranks o w whole));
 }

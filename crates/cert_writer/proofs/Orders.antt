@@ -3,7 +3,7 @@ use Rattle.std.proofs.Common.{◌≡◌, ⊎_elim, ℕ, ◌+◌, ◌<◌, ◌≤
 use Rattle.std.proofs.lemmas.Bool.{cases_lt}
 use Rattle.std.specs.List.{range_with_len}
 use Rattle.std.proofs.lemmas.List.FromFn.{length-range_with_len, get_or-range_with_len}
-use Rattle.cert_writer.specs.Nodes.{IsOrder}
+use Rattle.cert_writer.specs.Nodes.{IsVariableOrder}
 
 -- so far two lists undo each other
 pub record AreInverse (order ranks : List ℕ) (n : ℕ) : Type 0 where
@@ -32,7 +32,7 @@ inverse_more order ranks i a v x e f = record {
   forth = upto (λ k. get_or order (get_or ranks k 0) 0 ≡ k) i a.forth f;
 }
 
-pub inverse_all : (order ranks : List ℕ) (i : ℕ) → length ranks ≡ length order → length order ≤ i → AreInverse order ranks i → IsOrder order ranks
+pub inverse_all : (order ranks : List ℕ) (i : ℕ) → length ranks ≡ length order → length order ≤ i → AreInverse order ranks i → IsVariableOrder order ranks
 inverse_all order ranks i size h a = record {
   size = size;
   there = λ x l. a.there x (omega (arith, h, l));
@@ -49,7 +49,7 @@ numbers_size order n e = ap length e ∙ length-range_with_len 0 n
 number_at : (order : List ℕ) (n : ℕ) → order ≡ range_with_len 0 n → (x : ℕ) → x < n → get_or order x 0 ≡ x
 number_at order n e x h = ap (λ (xs : List ℕ). get_or xs x 0) e ∙ (get_or-range_with_len 0 n x 0 h ∙ zero-add x)
 
-pub numbers_order : (order ranks : List ℕ) (n : ℕ) → order ≡ range_with_len 0 n → ranks ≡ range_with_len 0 n → IsOrder order ranks
+pub numbers_order : (order ranks : List ℕ) (n : ℕ) → order ≡ range_with_len 0 n → ranks ≡ range_with_len 0 n → IsVariableOrder order ranks
 numbers_order order ranks n o r = record {
   size = numbers_size ranks n r ∙ sym (numbers_size order n o);
   there = λ x h. subst (λ (k : ℕ). k < length order) (sym (number_at order n o x (below x h))) h;

@@ -4,7 +4,7 @@ use Rattle.std.proofs.lemmas.List.{append-nil, take_all, take_more}
 use Rattle.std.proofs.lemmas.Fmt.{decimal_nonempty}
 use Rattle.std.specs.Fmt.{decimal}
 use Rattle.y86_base.specs.Numeral.{numeral}
-use Rattle.certificates.specs.Lines.{numbers_text}
+use Rattle.cert_checker.specs.Lines.{numbers_text}
 use Rattle.cert_writer.specs.Writing.{spaced}
 
 numeral_decimal : (n : ℕ) → n < 2 ^ 64 → numeral 10 1 n ≡ decimal n

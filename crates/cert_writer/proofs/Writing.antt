@@ -6,32 +6,32 @@ use Rattle.std.proofs.lemmas.Option.{slice_get-get_or, slice_get_within}
 use Rattle.nets.specs.Nets.{Gates, ReadsEarlier}
 use Rattle.nets.specs.declared.net.Gate.{Gate}
 use Rattle.nets.specs.declared.net.Gate.TheVariants as gate
-use Rattle.certificates.specs.Certificates.{AreSeven, CertOk, GoesOn, head_text, last_line}
-use Rattle.certificates.specs.Facts.{Facts, after, facts_of, nothing}
-use Rattle.certificates.specs.Facts as spec
-use Rattle.certificates.specs.Lines.{IsLine, line_text, lines_text}
-use Rattle.certificates.specs.Rules.{and_claims, fits, fits_by, fits_plainly, flaw, is_justified, names, not_claims}
-use Rattle.certificates.specs.declared.demands.Demands.{Demands}
-use Rattle.certificates.specs.declared.fault.CertWhy.TheVariants as why
-use Rattle.certificates.specs.declared.known.Claim.{Claim}
-use Rattle.certificates.specs.declared.known.Claim.TheVariants as claim
-use Rattle.certificates.specs.declared.known.Made.{Made}
-use Rattle.certificates.specs.declared.line.Line.{Line}
-use Rattle.certificates.specs.declared.line.Line.TheVariants as line
-use Rattle.certificates.proofs.Going.{goes_further}
-use Rattle.certificates.proofs.Sound.{facts_push}
-use Rattle.cert_writer.specs.Proofs.{AreProved, Makes, Proof, claim_of, is_claim_line}
-use Rattle.cert_writer.specs.Writing.{AreGates, AreNamed, Wrote, facts_with, gate_line}
+use Rattle.cert_checker.specs.Certificates.{AreSeven, CertOk, HasRightLines, head_text, last_line}
+use Rattle.cert_checker.specs.CheckerFacts.{CheckerFacts, after, facts_of, nothing}
+use Rattle.cert_checker.specs.CheckerFacts as spec
+use Rattle.cert_checker.specs.Lines.{IsLine, line_text, lines_text}
+use Rattle.cert_checker.specs.Rules.{and_claims, gate_matches, gate_matches_by, gate_matches_plainly, flaw, is_justified, names, not_claims}
+use Rattle.cert_checker.specs.declared.demands.Demands.{Demands}
+use Rattle.cert_checker.specs.declared.fault.CertWhy.TheVariants as why
+use Rattle.cert_checker.specs.declared.known.Claim.{Claim}
+use Rattle.cert_checker.specs.declared.known.Claim.TheVariants as claim
+use Rattle.cert_checker.specs.declared.known.TermDef.{TermDef}
+use Rattle.cert_checker.specs.declared.line.CertLine.{CertLine}
+use Rattle.cert_checker.specs.declared.line.CertLine.TheVariants as line
+use Rattle.cert_checker.proofs.Going.{goes_further}
+use Rattle.cert_checker.proofs.Sound.{facts_push}
+use Rattle.cert_writer.specs.Proofs.{AreProved, HasClaim, Proof, claim_of, is_claim_line}
+use Rattle.cert_writer.specs.Writing.{AreGates, AreNamed, IsCertificatePrefix, facts_with, gate_line}
 use Rattle.cert_writer.proofs.Steps.{claims_from}
 
-no_flaw : (net : Gates) (k : Facts) (l : Line) → names net.vars k l ≡ true → is_justified k l ≡ true → fits net k l ≡ true → flaw net k l ≡ None
+no_flaw : (net : Gates) (k : CheckerFacts) (l : CertLine) → names net.vars k l ≡ true → is_justified k l ≡ true → gate_matches net k l ≡ true → flaw net k l ≡ None
 unfolding flaw
 no_flaw net k l n j f =
-    (λ i. cond (not (n i)) (Some why.Number) (cond (not (is_justified k l)) (Some why.Claim) (cond (not (fits net k l)) (Some why.Gate) None)))
-    ∙ (λ i. cond (not (j i)) (Some why.Claim) (cond (not (fits net k l)) (Some why.Gate) None))
+    (λ i. cond (not (n i)) (Some why.Number) (cond (not (is_justified k l)) (Some why.Claim) (cond (not (gate_matches net k l)) (Some why.Gate) None)))
+    ∙ (λ i. cond (not (j i)) (Some why.Claim) (cond (not (gate_matches net k l)) (Some why.Gate) None))
     ∙ (λ i. cond (not (f i)) (Some why.Gate) None)
 
-pub wrote_start : (g : Demands) (text : List ℕ) → AreSeven g.settings → text ≡ head_text g.settings → Wrote g text nothing
+pub wrote_start : (g : Demands) (text : List ℕ) → AreSeven g.settings → text ≡ head_text g.settings → IsCertificatePrefix g text nothing
 unfolding lines_text spec.after_all
 wrote_start g text seven e = record {
   lines = [];
@@ -44,21 +44,21 @@ wrote_start g text seven e = record {
   facts_are = refl;
 }
   where
-    none : List Line
+    none : List CertLine
     none = []
 
-    none_at : (k : ℕ) (l : Line) → slice_get none k ≡ Some l → ⊥
+    none_at : (k : ℕ) (l : CertLine) → slice_get none k ≡ Some l → ⊥
     none_at k l is = (let h = slice_get_within none k l is in omega (arith, h))
 
-pub wrote_more : (g : Demands) (text new : List ℕ) (facts : Facts) (l : Line) → Wrote g text facts → IsLine l → names g.net.vars facts l ≡ true → is_justified facts l ≡ true → fits g.net facts l ≡ true →
-    new ≡ text ++ line_text l → Wrote g new (after facts l)
+pub wrote_more : (g : Demands) (text new : List ℕ) (facts : CheckerFacts) (l : CertLine) → IsCertificatePrefix g text facts → IsLine l → names g.net.vars facts l ≡ true → is_justified facts l ≡ true → gate_matches g.net facts l ≡ true →
+    new ≡ text ++ line_text l → IsCertificatePrefix g new (after facts l)
 wrote_more g text new facts l w is n j f e = record {
   lines = w.lines ++ l ∷ [];
-  goes_on = goes_further g new w.lines (line_text l ++ []) [] l here is (ap (λ (k : Facts). flaw g.net k l) w.facts_are ∙ no_flaw g.net facts l n j f) refl;
-  facts_are = facts_push w.lines l ∙ ap (λ (k : Facts). after k l) w.facts_are;
+  goes_on = goes_further g new w.lines (line_text l ++ []) [] l here is (ap (λ (k : CheckerFacts). flaw g.net k l) w.facts_are ∙ no_flaw g.net facts l n j f) refl;
+  facts_are = facts_push w.lines l ∙ ap (λ (k : CheckerFacts). after k l) w.facts_are;
 }
   where
-    here : GoesOn g new w.lines (line_text l ++ [])
+    here : HasRightLines g new w.lines (line_text l ++ [])
     here = record {
       seven = w.goes_on.seven;
       each = w.goes_on.each;
@@ -69,7 +69,7 @@ wrote_more g text new facts l w is n j f e = record {
           ∙ ap (λ (xs : List ℕ). head_text g.settings ++ (lines_text w.lines ++ xs)) (sym (append-nil (line_text l)));
     }
 
-pub wrote_end : (g : Demands) (text new : List ℕ) (facts : Facts) → Wrote g text facts → length facts.gates ≡ length g.net.gates →
+pub wrote_end : (g : Demands) (text new : List ℕ) (facts : CheckerFacts) → IsCertificatePrefix g text facts → length facts.gates ≡ length g.net.gates →
     ((k w : ℕ) → slice_get g.want k ≡ Some w → slice_get facts.gates w ≡ Some 1) → new ≡ text ++ last_line → CertOk g new
 wrote_end g text new facts w all demanded e = record {
   lines = w.lines;
@@ -82,23 +82,23 @@ wrote_end g text new facts w all demanded e = record {
         ∙ append_assoc (head_text g.settings) (lines_text w.lines) last_line;
   };
   ends = record {
-    all = ap (λ (k : Facts). length k.gates) w.facts_are ∙ all;
-    demanded = λ k x is. ap (λ (f : Facts). slice_get f.gates x) w.facts_are ∙ demanded k x is;
+    all = ap (λ (k : CheckerFacts). length k.gates) w.facts_are ∙ all;
+    demanded = λ k x is. ap (λ (f : CheckerFacts). slice_get f.gates x) w.facts_are ∙ demanded k x is;
   };
 }
 
 -- ---- terms
 
-pub terms_start : (g : Demands) (text : List ℕ) (terms : List Made) → Wrote g text nothing → Wrote g text (facts_with (take 0 terms) [] [])
+pub terms_start : (g : Demands) (text : List ℕ) (terms : List TermDef) → IsCertificatePrefix g text nothing → IsCertificatePrefix g text (facts_with (take 0 terms) [] [])
 terms_start g text terms w = w
 
-pub terms_end : (g : Demands) (text : List ℕ) (terms : List Made) (i : ℕ) → length terms ≤ i → Wrote g text (facts_with (take i terms) [] []) → Wrote g text (facts_with terms [] [])
-terms_end g text terms i h w = subst (λ (xs : List Made). Wrote g text (facts_with xs [] [])) (take_all i terms h) w
+pub terms_end : (g : Demands) (text : List ℕ) (terms : List TermDef) (i : ℕ) → length terms ≤ i → IsCertificatePrefix g text (facts_with (take i terms) [] []) → IsCertificatePrefix g text (facts_with terms [] [])
+terms_end g text terms i h w = subst (λ (xs : List TermDef). IsCertificatePrefix g text (facts_with xs [] [])) (take_all i terms h) w
 
-pub term_more : (g : Demands) (text new : List ℕ) (terms : List Made) (i : ℕ) (m : Made) → AreNamed g.net.vars terms → i < length terms → m ≡ get_or terms i m → IsLine (line.Term m.var m.low m.high) →
-    Wrote g text (facts_with (take i terms) [] []) → new ≡ text ++ line_text (line.Term m.var m.low m.high) → Wrote g new (facts_with (take (i + 1) terms) [] [])
+pub term_more : (g : Demands) (text new : List ℕ) (terms : List TermDef) (i : ℕ) (m : TermDef) → AreNamed g.net.vars terms → i < length terms → m ≡ get_or terms i m → IsLine (line.Term m.var m.low m.high) →
+    IsCertificatePrefix g text (facts_with (take i terms) [] []) → new ≡ text ++ line_text (line.Term m.var m.low m.high) → IsCertificatePrefix g new (facts_with (take (i + 1) terms) [] [])
 term_more g text new terms i m named h at small w e =
-    subst (λ (xs : List Made). Wrote g new (facts_with xs [] [])) (sym (take_more terms i m h ∙ ap (λ (x : Made). take i terms ++ x ∷ []) (sym at)))
+    subst (λ (xs : List TermDef). IsCertificatePrefix g new (facts_with xs [] [])) (sym (take_more terms i m h ∙ ap (λ (x : TermDef). take i terms ++ x ∷ []) (sym at)))
     (wrote_more g text new (facts_with (take i terms) [] []) (line.Term m.var m.low m.high) w small names_are refl refl e)
   where
     is : slice_get terms i ≡ Some m
@@ -116,14 +116,14 @@ term_more g text new terms i m named h at small w e =
 
 -- ---- claims
 
-pub steps_start : (g : Demands) (text : List ℕ) (terms : List Made) (steps : List Line) → Wrote g text (facts_with terms [] []) → Wrote g text (facts_with terms (take 0 steps) [])
+pub steps_start : (g : Demands) (text : List ℕ) (terms : List TermDef) (steps : List CertLine) → IsCertificatePrefix g text (facts_with terms [] []) → IsCertificatePrefix g text (facts_with terms (take 0 steps) [])
 steps_start g text terms steps w = w
 
-pub steps_end : (g : Demands) (text : List ℕ) (terms : List Made) (steps : List Line) (i : ℕ) → length steps ≤ i → Wrote g text (facts_with terms (take i steps) []) → Wrote g text (facts_with terms steps [])
-steps_end g text terms steps i h w = subst (λ (xs : List Line). Wrote g text (facts_with terms xs [])) (take_all i steps h) w
+pub steps_end : (g : Demands) (text : List ℕ) (terms : List TermDef) (steps : List CertLine) (i : ℕ) → length steps ≤ i → IsCertificatePrefix g text (facts_with terms (take i steps) []) → IsCertificatePrefix g text (facts_with terms steps [])
+steps_end g text terms steps i h w = subst (λ (xs : List CertLine). IsCertificatePrefix g text (facts_with terms xs [])) (take_all i steps h) w
 
 -- a line that makes a claim fits every net, and leaves its claim
-claim_fits : (net : Gates) (k : Facts) (l : Line) → is_claim_line l ≡ true → fits net k l ≡ true
+claim_fits : (net : Gates) (k : CheckerFacts) (l : CertLine) → is_claim_line l ≡ true → gate_matches net k l ≡ true
 claim_fits net k (line.Term v l h) e = absurd (false≢true e)
 claim_fits net k (line.And a b c) e = refl
 claim_fits net k (line.AndCases a b c v p q) e = refl
@@ -132,7 +132,7 @@ claim_fits net k (line.NotCases a c v p q) e = refl
 claim_fits net k (line.Gate t) e = absurd (false≢true e)
 claim_fits net k (line.GateBy t p) e = absurd (false≢true e)
 
-claim_after : (terms : List Made) (steps : List Line) (l : Line) → is_claim_line l ≡ true →
+claim_after : (terms : List TermDef) (steps : List CertLine) (l : CertLine) → is_claim_line l ≡ true →
     after (facts_with terms steps []) l ≡ record { terms = terms; claims = map claim_of steps ++ claim_of l ∷ []; gates = [] }
 claim_after terms steps (line.Term v l h) e = absurd (false≢true e)
 claim_after terms steps (line.And a b c) e = refl
@@ -142,25 +142,25 @@ claim_after terms steps (line.NotCases a c v p q) e = refl
 claim_after terms steps (line.Gate t) e = absurd (false≢true e)
 claim_after terms steps (line.GateBy t p) e = absurd (false≢true e)
 
-pub step_more : (g : Demands) (text new : List ℕ) (vars : ℕ) (terms : List Made) (steps : List Line) (i : ℕ) (l : Line) → vars ≡ g.net.vars → AreProved vars terms steps → i < length steps → l ≡ get_or steps i l → IsLine l →
-    Wrote g text (facts_with terms (take i steps) []) → new ≡ text ++ line_text l → Wrote g new (facts_with terms (take (i + 1) steps) [])
+pub step_more : (g : Demands) (text new : List ℕ) (vars : ℕ) (terms : List TermDef) (steps : List CertLine) (i : ℕ) (l : CertLine) → vars ≡ g.net.vars → AreProved vars terms steps → i < length steps → l ≡ get_or steps i l → IsLine l →
+    IsCertificatePrefix g text (facts_with terms (take i steps) []) → new ≡ text ++ line_text l → IsCertificatePrefix g new (facts_with terms (take (i + 1) steps) [])
 step_more g text new vars terms steps i l same proved h at small w e =
     let is : slice_get steps i ≡ Some l = slice_get-get_or steps i l h ∙ ap Some (sym at) in
     let p = proved.each i l is in
     let behind : after (facts_with terms (take i steps) []) l ≡ facts_with terms (take (i + 1) steps) [] =
     claim_after terms (take i steps) l p.makes
-    ∙ (λ j. record { terms = terms; claims = sym (map_more claim_of steps i l h ∙ ap (λ (x : Line). map claim_of (take i steps) ++ claim_of x ∷ []) (sym at)) j; gates = [] }) in
-    subst (Wrote g new) behind
+    ∙ (λ j. record { terms = terms; claims = sym (map_more claim_of steps i l h ∙ ap (λ (x : CertLine). map claim_of (take i steps) ++ claim_of x ∷ []) (sym at)) j; gates = [] }) in
+    subst (IsCertificatePrefix g new) behind
     (wrote_more g text new (facts_with terms (take i steps) []) l w small (ap (λ n. names n (facts_with terms (take i steps) []) l) (sym same) ∙ p.names) p.justified
     (claim_fits g.net (facts_with terms (take i steps) []) l p.makes) e)
 
 -- ---- gates
 
-pub gates_start : (g : Demands) (text : List ℕ) (terms : List Made) (steps : List Line) (gates : List ℕ) → Wrote g text (facts_with terms steps []) → Wrote g text (facts_with terms steps (take 0 gates))
+pub gates_start : (g : Demands) (text : List ℕ) (terms : List TermDef) (steps : List CertLine) (gates : List ℕ) → IsCertificatePrefix g text (facts_with terms steps []) → IsCertificatePrefix g text (facts_with terms steps (take 0 gates))
 gates_start g text terms steps gates w = w
 
-pub gates_end : (g : Demands) (text : List ℕ) (terms : List Made) (steps : List Line) (gates : List ℕ) (i : ℕ) → length gates ≤ i → Wrote g text (facts_with terms steps (take i gates)) → Wrote g text (facts_with terms steps gates)
-gates_end g text terms steps gates i h w = subst (λ (xs : List ℕ). Wrote g text (facts_with terms steps xs)) (take_all i gates h) w
+pub gates_end : (g : Demands) (text : List ℕ) (terms : List TermDef) (steps : List CertLine) (gates : List ℕ) (i : ℕ) → length gates ≤ i → IsCertificatePrefix g text (facts_with terms steps (take i gates)) → IsCertificatePrefix g text (facts_with terms steps gates)
+gates_end g text terms steps gates i h w = subst (λ (xs : List ℕ). IsCertificatePrefix g text (facts_with terms steps xs)) (take_all i gates h) w
 
 module _ (g : Demands) (s : Proof) (gates by : List ℕ) (a : AreGates g.net s gates by) (i : ℕ) (h : i < length gates) where
   size : length (take i gates) ≡ i
@@ -178,10 +178,10 @@ module _ (g : Demands) (s : Proof) (gates by : List ℕ) (a : AreGates g.net s g
   term_named : ltb (get_or gates i 0) (length s.terms + 2) ≡ true
   term_named = lt-ltb (get_or gates i 0) (length s.terms + 2) within
 
-  claim_named : (c : Claim) → Makes s c (get_or by i 0) → ltb (get_or by i 0) (length (map claim_of s.steps)) ≡ true
+  claim_named : (c : Claim) → HasClaim s c (get_or by i 0) → ltb (get_or by i 0) (length (map claim_of s.steps)) ≡ true
   claim_named c m = lt-ltb (get_or by i 0) (length (map claim_of s.steps)) (slice_get_within (map claim_of s.steps) (get_or by i 0) c m)
 
-  both_named : (c : Claim) → Makes s c (get_or by i 0) → (ltb (get_or gates i 0) (length s.terms + 2) && ltb (get_or by i 0) (length (map claim_of s.steps))) ≡ true
+  both_named : (c : Claim) → HasClaim s c (get_or by i 0) → (ltb (get_or gates i 0) (length s.terms + 2) && ltb (get_or by i 0) (length (map claim_of s.steps))) ≡ true
   both_named c m = and_from (ltb (get_or gates i 0) (length s.terms + 2)) (ltb (get_or by i 0) (length (map claim_of s.steps))) term_named (claim_named c m)
 
   named : (gt : Gate) → slice_get g.net.gates i ≡ Some gt → names g.net.vars (facts_with s.terms s.steps (take i gates)) (gate_line gt (get_or gates i 0) (get_or by i 0)) ≡ true
@@ -196,19 +196,19 @@ module _ (g : Demands) (s : Proof) (gates by : List ℕ) (a : AreGates g.net s g
   justified (gate.Not x) = refl
   justified (gate.And x y) = refl
 
-  fit : (gt : Gate) → slice_get g.net.gates i ≡ Some gt → ReadsEarlier g.net.vars i gt → fits g.net (facts_with s.terms s.steps (take i gates)) (gate_line gt (get_or gates i 0) (get_or by i 0)) ≡ true
+  fit : (gt : Gate) → slice_get g.net.gates i ≡ Some gt → ReadsEarlier g.net.vars i gt → gate_matches g.net (facts_with s.terms s.steps (take i gates)) (gate_line gt (get_or gates i 0) (get_or by i 0)) ≡ true
   fit (gate.Const b) is r =
-      ap (fits_plainly (facts_with s.terms s.steps (take i gates)) (get_or gates i 0)) (next (gate.Const b) is)
+      ap (gate_matches_plainly (facts_with s.terms s.steps (take i gates)) (get_or gates i 0)) (next (gate.Const b) is)
       ∙ eq-eqb (get_or gates i 0) (cond b 1 0) (a.plain i (gate.Const b) is)
   fit (gate.Var v) is r =
-      ap (fits_plainly (facts_with s.terms s.steps (take i gates)) (get_or gates i 0)) (next (gate.Var v) is)
+      ap (gate_matches_plainly (facts_with s.terms s.steps (take i gates)) (get_or gates i 0)) (next (gate.Var v) is)
       ∙ a.plain i (gate.Var v) is
   fit (gate.Not x) is r =
-      ap (fits_by (facts_with s.terms s.steps (take i gates)) (get_or gates i 0) (slice_get (map claim_of s.steps) (get_or by i 0))) (next (gate.Not x) is)
+      ap (gate_matches_by (facts_with s.terms s.steps (take i gates)) (get_or gates i 0) (slice_get (map claim_of s.steps) (get_or by i 0))) (next (gate.Not x) is)
       ∙ ap (λ (o : Option ℕ). not_claims (slice_get (map claim_of s.steps) (get_or by i 0)) o (get_or gates i 0)) (earlier x (r.inverted x refl))
       ∙ claims_from (slice_get (map claim_of s.steps) (get_or by i 0)) (claim.Not (get_or gates x 0) (get_or gates i 0)) (a.by i (gate.Not x) is)
   fit (gate.And x y) is r =
-      ap (fits_by (facts_with s.terms s.steps (take i gates)) (get_or gates i 0) (slice_get (map claim_of s.steps) (get_or by i 0))) (next (gate.And x y) is)
+      ap (gate_matches_by (facts_with s.terms s.steps (take i gates)) (get_or gates i 0) (slice_get (map claim_of s.steps) (get_or by i 0))) (next (gate.And x y) is)
       ∙ (λ j. and_claims (slice_get (map claim_of s.steps) (get_or by i 0)) (earlier x (r.left x y refl) j) (earlier y (r.right x y refl) j) (get_or gates i 0))
       ∙ claims_from (slice_get (map claim_of s.steps) (get_or by i 0)) (claim.And (get_or gates x 0) (get_or gates y 0) (get_or gates i 0)) (a.by i (gate.And x y) is)
 
@@ -219,10 +219,10 @@ module _ (g : Demands) (s : Proof) (gates by : List ℕ) (a : AreGates g.net s g
   behind (gate.And x y) = refl
 
 pub gate_more : (g : Demands) (text new : List ℕ) (s : Proof) (gates by : List ℕ) (i : ℕ) (gt : Gate) → AreGates g.net s gates by → i < length gates → slice_get g.net.gates i ≡ Some gt → ReadsEarlier g.net.vars i gt →
-    IsLine (gate_line gt (get_or gates i 0) (get_or by i 0)) → Wrote g text (facts_with s.terms s.steps (take i gates)) → new ≡ text ++ line_text (gate_line gt (get_or gates i 0) (get_or by i 0)) →
-    Wrote g new (facts_with s.terms s.steps (take (i + 1) gates))
+    IsLine (gate_line gt (get_or gates i 0) (get_or by i 0)) → IsCertificatePrefix g text (facts_with s.terms s.steps (take i gates)) → new ≡ text ++ line_text (gate_line gt (get_or gates i 0) (get_or by i 0)) →
+    IsCertificatePrefix g new (facts_with s.terms s.steps (take (i + 1) gates))
 gate_more g text new s gates by i gt a h is r small w e =
-    subst (λ (k : Facts). Wrote g new k) (behind g s gates by a i h gt ∙ ap (facts_with s.terms s.steps) (sym (take_more gates i 0 h)))
+    subst (λ (k : CheckerFacts). IsCertificatePrefix g new k) (behind g s gates by a i h gt ∙ ap (facts_with s.terms s.steps) (sym (take_more gates i 0 h)))
     (wrote_more g text new (facts_with s.terms s.steps (take i gates)) (gate_line gt (get_or gates i 0) (get_or by i 0)) w small (named g s gates by a i h gt is)
     (justified g s gates by a i h gt) (fit g s gates by a i h gt is r) e)
 

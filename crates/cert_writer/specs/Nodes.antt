@@ -4,12 +4,12 @@ use Rattle.nets.specs.Nets.{Gates, truth}
 use Rattle.bdd_core.specs.Diagrams.{Diagrams}
 use Rattle.bdd_core.specs.Meaning.{IsDia, truth_of}
 use Rattle.bdd_core.specs.declared.store.Dia.{Dia}
-use Rattle.certificates.specs.Meaning.{value}
-use Rattle.certificates.specs.declared.known.Made.{Made}
+use Rattle.cert_checker.specs.Meaning.{cert_value}
+use Rattle.cert_checker.specs.declared.known.TermDef.{TermDef}
 use Rattle.cert_writer.specs.Terms.{AreOrdered}
 
 -- variable order[x] of the net is variable x of the diagrams: its rank
-pub record IsOrder (order ranks : List ℕ) : Type 0 where
+pub record IsVariableOrder (order ranks : List ℕ) : Type 0 where
   pub size : length ranks ≡ length order
   pub there : (x : ℕ) → x < length order → get_or order x 0 < length order
   pub back : (x : ℕ) → x < length order → get_or ranks (get_or order x 0) 0 ≡ x
@@ -21,28 +21,28 @@ abbrev pub places_of : List ℕ → List Bool → List Bool
 places_of order w = map (λ v. get_or w v false) order
 
 -- a term has the truth of a diagram
-pub record IsTermOf (s : Diagrams) (order : List ℕ) (terms : List Made) (d : Dia) (t : ℕ) : Type 0 where
+pub record IsTermOf (s : Diagrams) (order : List ℕ) (terms : List TermDef) (d : Dia) (t : ℕ) : Type 0 where
   pub within : t < length terms + 2
-  pub is : (w : List Bool) → length w ≡ length order → value terms t w ≡ truth_of s d (places_of order w)
+  pub is : (w : List Bool) → length w ≡ length order → cert_value terms t w ≡ truth_of s d (places_of order w)
 
 -- the terms so far, and by their numbers the diagrams that have one
-pub record Written : Type 0 where
+pub record TermTable : Type 0 where
   pub store : Diagrams
   pub order : List ℕ
   pub ranks : List ℕ
-  pub terms : List Made
+  pub terms : List TermDef
   pub found : List ℕ
 
-pub record IsWritten (w : Written) : Type 0 where
+pub record IsTermTable (w : TermTable) : Type 0 where
   pub vars : w.store.vars ≡ length w.order
   pub small : length w.order < 2 ^ 32
-  pub order : IsOrder w.order w.ranks
+  pub order : IsVariableOrder w.order w.ranks
   pub ordered : AreOrdered w.ranks w.terms
   pub few : length w.terms ≤ 4000000000
   pub found : (d : Dia) → IsDia w.store d → 2 ≤ get_or w.found d.id 0 → IsTermOf w.store w.order w.terms d (get_or w.found d.id 0)
 
 -- there may be more terms, and the earlier ones stay
-pub record GoesOn (old new : Written) : Type 0 where
+pub record ExtendsTerms (old new : TermTable) : Type 0 where
   pub store : new.store ≡ old.store
   pub order : new.order ≡ old.order
   pub ranks : new.ranks ≡ old.ranks

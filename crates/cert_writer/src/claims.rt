@@ -1,14 +1,14 @@
 //! Claims about ordered terms, each proved from the claims about their parts.
 ghost use Rattle.std.specs.Prelude.{◌≡◌, ◌⊎◌, ◌+◌, ◌<◌, ◌≤◌, ◌++◌, ◌∷◌, [], length, get_or, slice_get, Some, IfOk, IfSome};
-ghost use Rattle.certificates.specs.declared.known.Claim.TheVariants as claim;
-ghost use Rattle.cert_writer.specs.Proofs.{AreProved, IsProved, Keeps, Makes, claim_of};
+ghost use Rattle.cert_checker.specs.declared.known.Claim.TheVariants as claim;
+ghost use Rattle.cert_writer.specs.Proofs.{AreProved, IsProved, KeepsClaims, HasClaim, claim_of};
 ghost use Rattle.cert_writer.specs.Terms.{AreOrdered, AreRanks, IsAnd, IsFirst, IsNot, rank_of, variable_of};
-ghost use Rattle.cert_writer.specs.Writing.{AreClaims, AreGateTerms, FitsBy};
+ghost use Rattle.cert_writer.specs.Writing.{AreClaims, AreGateTerms, MatchesBy};
 ghost use Rattle.nets.specs.declared.net.Gate.{Gate};
-ghost use Rattle.certificates.specs.Rules as spec;
+ghost use Rattle.cert_checker.specs.Rules as spec;
 
 use crate::terms::push_number;
-use certificates::{Line, Made, is_plain_and, is_plain_not, made_at, part};
+use cert_checker::{CertLine, TermDef, is_plain_and, is_plain_not, made_at, part};
 use nets::{Gate, Net};
 use std::alloc::Global;
 use std::marker::Model;
@@ -16,15 +16,15 @@ use y86_base::Memory;
 
 /// Claims about terms that stand before them all, over ranks of the variables.
 #[derive(Drop)]
-pub struct Claims<'a> {
-    terms: &'a [Made],
+pub struct ClaimWriter<'a> {
+    terms: &'a [TermDef],
     ranks: &'a [u32],
-    steps: Vec<Line>,
+    steps: Vec<CertLine>,
     places: Vec<u32>,
     most: usize,
 }
 
-impl<'a> Model for Claims<'a> {
+impl<'a> Model for ClaimWriter<'a> {
     ghost use Rattle.std.specs.Prelude.{length};
     ghost use Rattle.cert_writer.specs.Proofs.{AreProved, Proof};
 
@@ -49,15 +49,15 @@ fn place(a: u32, b: u32) -> usize {
     (mixed ^ (mixed >> 29) ^ (mixed >> 47)) as usize % PLACES
 }
 
-impl<'a> Claims<'a> {
+impl<'a> ClaimWriter<'a> {
     /// No claims yet. There will be no more than `most`.
     #[tactic(auto, using(crate::proofs::Steps::proved_none))]
     pub fn new(
         alloc: Global,
-        terms: &'a [Made],
+        terms: &'a [TermDef],
         ranks: &'a [u32],
         most: usize,
-    ) -> Result<Claims<'a>, Memory>
+    ) -> Result<ClaimWriter<'a>, Memory>
         ensures terms { IfOk result (λ c. c.terms ≡ terms.now) }
         ensures ranks { IfOk result (λ c. c.ranks ≡ ranks.now) }
         ensures none { IfOk result (λ c. c.steps ≡ []) }
@@ -66,7 +66,7 @@ impl<'a> Claims<'a> {
             Ok(places) => places,
             Err(_) => return Err(Memory),
         };
-        Ok(Claims {
+        Ok(ClaimWriter {
             terms,
             ranks,
             steps: Vec::new(alloc),
@@ -76,7 +76,7 @@ impl<'a> Claims<'a> {
     }
 
     /// The lines of the claims.
-    pub fn steps(&self) -> &[Line]
+    pub fn steps(&self) -> &[CertLine]
         ensures steps { result.now ≡ self.now.steps }
         ensures proved { AreProved (length self.now.ranks) self.now.terms self.now.steps }
     {
@@ -129,13 +129,13 @@ impl<'a> Claims<'a> {
 
     /// The claim at a place, if it is that two terms together are a third.
     fn and_at(&self, at: usize, a: u32, b: u32, c: u32) -> Option<u32>
-        ensures { IfSome result (Makes self.now (claim.And a b c)) }
+        ensures { IfSome result (HasClaim self.now (claim.And a b c)) }
     {
         let p = self.places.get(at).copied().unwrap_or(0);
         match self.steps.as_slice().get(p as usize).copied() {
-            Some(Line::And { left, right, both })
+            Some(CertLine::And { left, right, both })
             | Some(
-                Line::AndCases {
+                CertLine::AndCases {
                     left,
                     right,
                     both,
@@ -154,7 +154,7 @@ impl<'a> Claims<'a> {
 
     /// The claim that two terms together are a third, if it is remembered.
     fn known_and(&self, a: u32, b: u32, c: u32) -> Option<u32>
-        ensures { IfSome result (Makes self.now (claim.And a b c)) }
+        ensures { IfSome result (HasClaim self.now (claim.And a b c)) }
     {
         let at = place(a, b);
         match self.and_at(at, a, b, c) {
@@ -165,11 +165,11 @@ impl<'a> Claims<'a> {
 
     /// The claim at a place, if it is that a term is the negation of another.
     fn not_at(&self, at: usize, a: u32, c: u32) -> Option<u32>
-        ensures { IfSome result (Makes self.now (claim.Not a c)) }
+        ensures { IfSome result (HasClaim self.now (claim.Not a c)) }
     {
         let p = self.places.get(at).copied().unwrap_or(0);
         match self.steps.as_slice().get(p as usize).copied() {
-            Some(Line::Not { of, not }) | Some(Line::NotCases { of, not, .. }) => {
+            Some(CertLine::Not { of, not }) | Some(CertLine::NotCases { of, not, .. }) => {
                 if of == a as u64 && not == c as u64 {
                     Some(p)
                 } else {
@@ -182,7 +182,7 @@ impl<'a> Claims<'a> {
 
     /// The claim that a term is the negation of another, if it is remembered.
     fn known_not(&self, a: u32, c: u32) -> Option<u32>
-        ensures { IfSome result (Makes self.now (claim.Not a c)) }
+        ensures { IfSome result (HasClaim self.now (claim.Not a c)) }
     {
         let at = place(a, u32::MAX);
         match self.not_at(at, a, c) {
@@ -205,10 +205,10 @@ impl<'a> Claims<'a> {
 
     /// Puts a claim behind the others.
     #[tactic(auto, using(crate::proofs::Steps::proved_push, crate::proofs::Steps::keeps_push, crate::proofs::Steps::keeps_self, crate::proofs::Steps::makes_last))]
-    fn push(&mut self, line: Line) -> Result<u32, Memory>
+    fn push(&mut self, line: CertLine) -> Result<u32, Memory>
         requires { IsProved (length self.old.ranks) self.old.terms self.old.steps line }
-        ensures kept { Keeps self.old self.new }
-        ensures last { IfOk result (Makes self.new (claim_of line)) }
+        ensures kept { KeepsClaims self.old self.new }
+        ensures last { IfOk result (HasClaim self.new (claim_of line)) }
     {
         let p = self.steps.len();
         if p >= self.most || p >= MOST {
@@ -226,14 +226,14 @@ impl<'a> Claims<'a> {
         requires ranks { AreRanks self.old.ranks }
         requires ordered { AreOrdered self.old.ranks self.old.terms }
         requires is { IsAnd self.old.ranks self.old.terms a b c }
-        ensures kept { Keeps self.old self.new }
-        ensures claim { IfOk result (Makes self.new (claim.And a b c)) }
+        ensures kept { KeepsClaims self.old self.new }
+        ensures claim { IfOk result (HasClaim self.new (claim.And a b c)) }
     {
         if let Some(p) = self.known_and(a, b, c) {
             return Ok(p);
         }
         let p = if is_plain_and(a as u64, b as u64, c as u64) {
-            self.push(Line::And {
+            self.push(CertLine::And {
                 left: a as u64,
                 right: b as u64,
                 both: c as u64,
@@ -250,7 +250,7 @@ impl<'a> Claims<'a> {
                 self.part_of(var, true, b),
                 self.part_of(var, true, c),
             )?;
-            self.push(Line::AndCases {
+            self.push(CertLine::AndCases {
                 left: a as u64,
                 right: b as u64,
                 both: c as u64,
@@ -269,14 +269,14 @@ impl<'a> Claims<'a> {
         requires ranks { AreRanks self.old.ranks }
         requires ordered { AreOrdered self.old.ranks self.old.terms }
         requires is { IsNot self.old.ranks self.old.terms a c }
-        ensures kept { Keeps self.old self.new }
-        ensures claim { IfOk result (Makes self.new (claim.Not a c)) }
+        ensures kept { KeepsClaims self.old self.new }
+        ensures claim { IfOk result (HasClaim self.new (claim.Not a c)) }
     {
         if let Some(p) = self.known_not(a, c) {
             return Ok(p);
         }
         let p = if is_plain_not(a as u64, c as u64) {
-            self.push(Line::Not {
+            self.push(CertLine::Not {
                 of: a as u64,
                 not: c as u64,
             })?
@@ -284,7 +284,7 @@ impl<'a> Claims<'a> {
             let var = self.variable(a);
             let low = self.not(self.part_of(var, false, a), self.part_of(var, false, c))?;
             let high = self.not(self.part_of(var, true, a), self.part_of(var, true, c))?;
-            self.push(Line::NotCases {
+            self.push(CertLine::NotCases {
                 of: a as u64,
                 not: c as u64,
                 var: var as u64,
@@ -303,8 +303,8 @@ impl<'a> Claims<'a> {
         requires ordered { AreOrdered self.old.ranks self.old.terms }
         requires inside { i < length n.now.gates }
         requires terms { AreGateTerms n.now (length self.old.ranks) self.old.terms ts.now (length n.now.gates) }
-        ensures kept { Keeps self.old self.new }
-        ensures fits { IfOk result (λ p. (g : Gate) → slice_get n.now.gates i ≡ Some g → FitsBy self.new ts.now (get_or ts.now i 0) p g) }
+        ensures kept { KeepsClaims self.old self.new }
+        ensures fits { IfOk result (λ p. (g : Gate) → slice_get n.now.gates i ≡ Some g → MatchesBy self.new ts.now (get_or ts.now i 0) p g) }
     {
         let t = ts[i as usize];
         match n.gate(i) {
@@ -327,7 +327,7 @@ impl<'a> Claims<'a> {
         requires ranks { AreRanks self.old.ranks }
         requires ordered { AreOrdered self.old.ranks self.old.terms }
         requires terms { AreGateTerms n.now (length self.old.ranks) self.old.terms ts.now (length n.now.gates) }
-        ensures kept { Keeps self.old self.new }
+        ensures kept { KeepsClaims self.old self.new }
         ensures claims { IfOk result (λ by. AreClaims n.now self.new ts.now by.items (length n.now.gates)) }
     {
         let mut by: Vec<u32> = Vec::new(alloc);

@@ -1,15 +1,15 @@
 //! An order of a net's variables for its diagrams, and the rank of each variable in it.
 ghost use Rattle.std.specs.Prelude.{◌≡◌, ℕ, ◌<◌, ◌^◌, true, length, get_or, IfOk, IfSome};
-ghost use Rattle.cert_writer.specs.Nodes.{IsOrder};
+ghost use Rattle.cert_writer.specs.Nodes.{IsVariableOrder};
 
-use nets::by_number;
+use nets::all_variables;
 use pipe_orders::{Layout, Weave, order_for};
 use std::alloc::Global;
 use y86_base::Memory;
 
 /// An order of variables, and the rank of each in it.
 #[derive(Drop)]
-pub struct Orders {
+pub struct RankOrders {
     pub order: Vec<u32>,
     pub ranks: Vec<u32>,
 }
@@ -18,7 +18,7 @@ pub struct Orders {
 #[tactic(auto, using(crate::proofs::Orders::inverse_none, crate::proofs::Orders::inverse_more, crate::proofs::Orders::inverse_all))]
 fn are_inverse(order: &[u32], ranks: &[u32]) -> bool
     requires size { length ranks.now ≡ length order.now }
-    ensures { result ≡ true → IsOrder order.now ranks.now }
+    ensures { result ≡ true → IsVariableOrder order.now ranks.now }
 {
     for i in 0..order.len() {
         let v = order[i] as usize;
@@ -36,7 +36,7 @@ fn are_inverse(order: &[u32], ranks: &[u32]) -> bool
 /// The ranks of an order, if it has each variable once.
 fn ranks_of(alloc: Global, order: &[u32]) -> Result<Option<Vec<u32>>, Memory>
     requires few { length order.now < 2 ^ 32 }
-    ensures { IfOk result (λ o. IfSome o (λ r. IsOrder order.now r.items)) }
+    ensures { IfOk result (λ o. IfSome o (λ r. IsVariableOrder order.now r.items)) }
 {
     let n = order.len();
     let mut ranks = match vec![in alloc; 0u32; n] {
@@ -57,20 +57,20 @@ fn ranks_of(alloc: Global, order: &[u32]) -> Result<Option<Vec<u32>>, Memory>
 
 /// An order of some variables, with registers last.
 #[tactic(auto, using(crate::proofs::Orders::numbers_size, crate::proofs::Orders::numbers_order))]
-pub fn order_of(alloc: Global, vars: u32, weave: Weave) -> Result<Orders, Memory>
+pub fn order_of(alloc: Global, vars: u32, weave: Weave) -> Result<RankOrders, Memory>
     ensures size { IfOk result (λ o. length o.order.items ≡ vars) }
-    ensures order { IfOk result (λ o. IsOrder o.order.items o.ranks.items) }
+    ensures order { IfOk result (λ o. IsVariableOrder o.order.items o.ranks.items) }
 {
     let order = order_for(alloc, Layout::RegistersLast(weave), vars)?;
     if order.len() as u64 == vars as u64 {
         let found = ranks_of(alloc, order.as_slice())?;
         match found {
-            Some(ranks) => return Ok(Orders { order, ranks }),
+            Some(ranks) => return Ok(RankOrders { order, ranks }),
             None => {}
         }
     }
     // the order of the numbers undoes itself
-    let order = by_number(alloc, vars)?;
-    let ranks = by_number(alloc, vars)?;
-    Ok(Orders { order, ranks })
+    let order = all_variables(alloc, vars)?;
+    let ranks = all_variables(alloc, vars)?;
+    Ok(RankOrders { order, ranks })
 }

@@ -1,13 +1,13 @@
 //! A term for each node of some diagrams.
 ghost use Rattle.std.specs.Prelude.{◌≡◌, true, cond, OnOk, ◌^◌, ◌+◌, ◌<◌, ◌++◌, ◌∷◌, [], ℕ, length, IfOk, IfSome, get_or};
 ghost use Rattle.bdd_core.specs.Meaning.{Depends, IsDia, IsNode};
-ghost use Rattle.cert_writer.specs.Nodes.{GoesOn, IsDrawn, IsOrder, IsTermOf, IsWritten};
-ghost use Rattle.certificates.specs.Rules as spec;
+ghost use Rattle.cert_writer.specs.Nodes.{ExtendsTerms, IsDrawn, IsVariableOrder, IsTermOf, IsTermTable};
+ghost use Rattle.cert_checker.specs.Rules as spec;
 ghost use Rattle.cert_writer.specs.Terms.{AreOrdered};
 ghost use Rattle.cert_writer.specs.Writing.{AreGateTerms, IsGateTerm};
 
 use bdd_core::{Dia, Node, Store};
-use certificates::{Made, is_made, made_at};
+use cert_checker::{TermDef, is_made, made_at};
 use nets::{Gate, Net};
 use std::alloc::Global;
 use std::marker::Model;
@@ -15,22 +15,22 @@ use y86_base::Memory;
 
 /// The terms of some diagrams, over the variables of a net: variable `order[x]` is that of place x.
 #[derive(Drop)]
-pub struct Terms<'a> {
+pub struct TermWriter<'a> {
     store: &'a Store,
     order: &'a [u32],
     ranks: &'a [u32],
-    terms: Vec<Made>,
+    terms: Vec<TermDef>,
     found: Vec<u32>,
 }
 
-impl<'a> Model for Terms<'a> {
-    ghost use Rattle.cert_writer.specs.Nodes.{IsWritten, Written};
+impl<'a> Model for TermWriter<'a> {
+    ghost use Rattle.cert_writer.specs.Nodes.{IsTermTable, TermTable};
 
-    ghost Value = { Written };
+    ghost Value = { TermTable };
 
     ghost view = { λ t. record { store = t.store.now; order = t.order.now; ranks = t.ranks.now; terms = t.terms.items; found = t.found.items } };
 
-    ghost invariant = { λ t. IsWritten (record { store = t.store.now; order = t.order.now; ranks = t.ranks.now; terms = t.terms.items; found = t.found.items }) };
+    ghost invariant = { λ t. IsTermTable (record { store = t.store.now; order = t.order.now; ranks = t.ranks.now; terms = t.terms.items; found = t.found.items }) };
 }
 
 /// How many terms there may be, so that each number fits in 32 bits.
@@ -65,7 +65,7 @@ fn room(dias: &[Dia]) -> u64 {
     most
 }
 
-impl<'a> Terms<'a> {
+impl<'a> TermWriter<'a> {
     /// No terms yet.
     #[tactic(auto, using(crate::proofs::Nodes::written_none))]
     pub fn new(
@@ -74,10 +74,10 @@ impl<'a> Terms<'a> {
         order: &'a [u32],
         ranks: &'a [u32],
         dias: &[Dia],
-    ) -> Result<Terms<'a>, Memory>
+    ) -> Result<TermWriter<'a>, Memory>
         requires vars { store.now.vars ≡ length order.now }
         requires small { length order.now < 2 ^ 32 }
-        requires order { IsOrder order.now ranks.now }
+        requires order { IsVariableOrder order.now ranks.now }
         ensures store { IfOk result (λ t. t.store ≡ store.now) }
         ensures order { IfOk result (λ t. t.order ≡ order.now) }
         ensures ranks { IfOk result (λ t. t.ranks ≡ ranks.now) }
@@ -86,7 +86,7 @@ impl<'a> Terms<'a> {
             Ok(found) => found,
             Err(_) => return Err(Memory),
         };
-        Ok(Terms {
+        Ok(TermWriter {
             store,
             order,
             ranks,
@@ -96,9 +96,9 @@ impl<'a> Terms<'a> {
     }
 
     /// The terms.
-    pub fn made(&self) -> &[Made]
-        ensures made { result.now ≡ self.now.terms }
-        ensures written { IsWritten self.now }
+    pub fn made(&self) -> &[TermDef]
+        ensures has_truth { result.now ≡ self.now.terms }
+        ensures written { IsTermTable self.now }
     {
         self.terms.as_slice()
     }
@@ -131,7 +131,7 @@ impl<'a> Terms<'a> {
     #[tactic(auto, using(crate::proofs::Nodes::written_found))]
     fn remember(&mut self, d: Dia, t: u32)
         requires { IsTermOf self.old.store self.old.order self.old.terms d t }
-        ensures goes { GoesOn self.old self.new }
+        ensures terms_grow { ExtendsTerms self.old self.new }
         ensures same { self.new.terms ≡ self.old.terms }
     {
         if d.id < self.found.len() as u64 {
@@ -143,7 +143,7 @@ impl<'a> Terms<'a> {
     fn node(&self, d: Dia) -> Node
         requires { IsDia self.now.store d }
         ensures node { IsNode self.now.store d result }
-        ensures written { IsWritten self.now }
+        ensures written { IsTermTable self.now }
     {
         self.store.node(d)
     }
@@ -152,16 +152,16 @@ impl<'a> Terms<'a> {
     fn variable(&self, x: u32) -> u32
         requires { x < length self.now.order }
         ensures variable { result ≡ get_or self.now.order x 0 }
-        ensures written { IsWritten self.now }
+        ensures written { IsTermTable self.now }
     {
         self.order[x as usize]
     }
 
     /// Puts a term behind the others.
     #[tactic(auto, using(crate::proofs::Nodes::written_push, crate::proofs::Nodes::goes_self, crate::proofs::Nodes::made_goes))]
-    fn push(&mut self, made: Made) -> Result<u32, Memory>
+    fn push(&mut self, made: TermDef) -> Result<u32, Memory>
         requires { AreOrdered self.old.ranks (self.old.terms ++ made ∷ []) }
-        ensures goes { GoesOn self.old self.new }
+        ensures terms_grow { ExtendsTerms self.old self.new }
         ensures term { IfOk result (λ t. (t ≡ length self.old.terms + 2) × (self.new.terms ≡ self.old.terms ++ made ∷ [])) }
     {
         let t = self.terms.len();
@@ -179,7 +179,7 @@ impl<'a> Terms<'a> {
     pub fn term(&mut self, d: Dia, least: u32) -> Result<u32, Memory>
         requires dia { IsDia self.old.store d }
         requires least { (y : ℕ) → y < least → Depends self.old.store d y → ⊥ }
-        ensures goes { GoesOn self.old self.new }
+        ensures terms_grow { ExtendsTerms self.old self.new }
         ensures term { IfOk result (IsTermOf self.new.store self.new.order self.new.terms d) }
     {
         match self.node(d) {
@@ -191,7 +191,7 @@ impl<'a> Terms<'a> {
                 }
                 let l = self.term(low, var + 1)?;
                 let h = self.term(high, var + 1)?;
-                let made = Made {
+                let made = TermDef {
                     var: self.variable(var),
                     low: l,
                     high: h,
@@ -205,7 +205,7 @@ impl<'a> Terms<'a> {
 
     /// What holds of the terms.
     fn holds(&self)
-        ensures { IsWritten self.now }
+        ensures { IsTermTable self.now }
     {
         let _ = self.terms.len();
     }
@@ -222,9 +222,9 @@ impl<'a> Terms<'a> {
     fn variable_term(&mut self, v: u32, d: Dia) -> Result<u32, Memory>
         requires var { v < length self.old.order }
         requires dia { IsDia self.old.store d }
-        ensures goes { GoesOn self.old self.new }
+        ensures terms_grow { ExtendsTerms self.old self.new }
         ensures within { IfOk result (λ t. t < length self.new.terms + 2) }
-        ensures made { IfOk result (λ t. spec.is_made (spec.made_at self.new.terms t) v 0 1 ≡ true) }
+        ensures has_truth { IfOk result (λ t. spec.is_made (spec.made_at self.new.terms t) v 0 1 ≡ true) }
     {
         self.holds();
         let t = self.term(d, 0)?;
@@ -232,7 +232,7 @@ impl<'a> Terms<'a> {
             return Ok(t);
         }
         self.holds();
-        let t = self.push(Made {
+        let t = self.push(TermDef {
             var: v,
             low: 0,
             high: 1,
@@ -246,7 +246,7 @@ impl<'a> Terms<'a> {
         requires inside { i < length n.now.gates }
         requires vars { length self.old.order ≡ n.now.vars }
         requires drawn { IsDrawn n.now self.old.order self.old.store dias.now }
-        ensures goes { GoesOn self.old self.new }
+        ensures terms_grow { ExtendsTerms self.old self.new }
         ensures term { IfOk result (IsGateTerm n.now (length self.new.order) self.new.terms i) }
     {
         self.holds();
@@ -274,7 +274,7 @@ impl<'a> Terms<'a> {
     pub fn gate_terms(&mut self, alloc: Global, n: &Net, dias: &[Dia]) -> Result<Vec<u32>, Memory>
         requires vars { length self.old.order ≡ n.now.vars }
         requires drawn { IsDrawn n.now self.old.order self.old.store dias.now }
-        ensures goes { GoesOn self.old self.new }
+        ensures terms_grow { ExtendsTerms self.old self.new }
         ensures terms { IfOk result (λ ts. AreGateTerms n.now (length self.new.order) self.new.terms ts.items (length n.now.gates)) }
     {
         let mut terms: Vec<u32> = Vec::new(alloc);

@@ -1,12 +1,12 @@
 //! The text of a certificate, line by line.
 ghost use Rattle.std.specs.Prelude.{◌≡◌, ◌<◌, ◌++◌, ◌∷◌, [], length, get_or, OnOk};
 ghost use Rattle.std.specs.Fmt.{decimal};
-ghost use Rattle.certificates.specs.Facts.{nothing};
-ghost use Rattle.certificates.specs.Lines.{IsLine, line_text, numbers_text};
-ghost use Rattle.cert_writer.specs.Writing.{AreGates, AreNamed, Wrote, facts_with, gate_line};
+ghost use Rattle.cert_checker.specs.CheckerFacts.{nothing};
+ghost use Rattle.cert_checker.specs.Lines.{IsLine, line_text, numbers_text};
+ghost use Rattle.cert_writer.specs.Writing.{AreGates, AreNamed, IsCertificatePrefix, facts_with, gate_line};
 
-use crate::claims::Claims;
-use certificates::{Demands, Line, Made};
+use crate::claims::ClaimWriter;
+use cert_checker::{CertLine, Demands, TermDef};
 use nets::Gate;
 use y86_base::{Memory, Numeral, put};
 
@@ -33,15 +33,15 @@ fn put_numbers(out: &mut Vec<u8>, letter: u8, numbers: &[u64]) -> Result<(), Mem
 }
 
 /// Puts a line.
-#[tactic(auto, unfolding(certificates::specs::Lines::line_text))]
-fn put_line(out: &mut Vec<u8>, line: Line) -> Result<(), Memory>
+#[tactic(auto, unfolding(cert_checker::specs::Lines::line_text))]
+fn put_line(out: &mut Vec<u8>, line: CertLine) -> Result<(), Memory>
     ensures put { OnOk result (out.new.items ≡ out.old.items ++ line_text line) }
     ensures small { IsLine line }
 {
     match line {
-        Line::Term { var, low, high } => put_numbers(out, b't', &[var, low, high]),
-        Line::And { left, right, both } => put_numbers(out, b'a', &[left, right, both]),
-        Line::AndCases {
+        CertLine::Term { var, low, high } => put_numbers(out, b't', &[var, low, high]),
+        CertLine::And { left, right, both } => put_numbers(out, b'a', &[left, right, both]),
+        CertLine::AndCases {
             left,
             right,
             both,
@@ -49,32 +49,32 @@ fn put_line(out: &mut Vec<u8>, line: Line) -> Result<(), Memory>
             low,
             high,
         } => put_numbers(out, b's', &[left, right, both, var, low, high]),
-        Line::Not { of, not } => put_numbers(out, b'n', &[of, not]),
-        Line::NotCases {
+        CertLine::Not { of, not } => put_numbers(out, b'n', &[of, not]),
+        CertLine::NotCases {
             of,
             not,
             var,
             low,
             high,
         } => put_numbers(out, b'm', &[of, not, var, low, high]),
-        Line::Gate { term } => put_numbers(out, b'g', &[term]),
-        Line::GateBy { term, claim } => put_numbers(out, b'h', &[term, claim]),
+        CertLine::Gate { term } => put_numbers(out, b'g', &[term]),
+        CertLine::GateBy { term, claim } => put_numbers(out, b'h', &[term, claim]),
     }
 }
 
 /// Puts the lines of the terms.
 #[tactic(auto, using(crate::proofs::Writing::term_more, crate::proofs::Writing::terms_start, crate::proofs::Writing::terms_end))]
-pub(crate) fn put_terms(out: &mut Vec<u8>, g: &Demands, terms: &[Made]) -> Result<(), Memory>
+pub(crate) fn put_terms(out: &mut Vec<u8>, g: &Demands, terms: &[TermDef]) -> Result<(), Memory>
     requires named { AreNamed g.now.net.vars terms.now }
-    requires wrote { Wrote g.now out.old.items nothing }
-    ensures { OnOk result (Wrote g.now out.new.items (facts_with terms.now [] [])) }
+    requires wrote { IsCertificatePrefix g.now out.old.items nothing }
+    ensures { OnOk result (IsCertificatePrefix g.now out.new.items (facts_with terms.now [] [])) }
 {
     let _ = g.net.vars();
     for i in 0..terms.len() {
         let made = terms[i];
         put_line(
             out,
-            Line::Term {
+            CertLine::Term {
                 var: made.var as u64,
                 low: made.low as u64,
                 high: made.high as u64,
@@ -86,10 +86,10 @@ pub(crate) fn put_terms(out: &mut Vec<u8>, g: &Demands, terms: &[Made]) -> Resul
 
 /// Puts the lines of the claims.
 #[tactic(auto, using(crate::proofs::Writing::step_more, crate::proofs::Writing::steps_start, crate::proofs::Writing::steps_end))]
-pub(crate) fn put_steps(out: &mut Vec<u8>, g: &Demands, claims: &Claims) -> Result<(), Memory>
+pub(crate) fn put_steps(out: &mut Vec<u8>, g: &Demands, claims: &ClaimWriter) -> Result<(), Memory>
     requires vars { length claims.now.ranks ≡ g.now.net.vars }
-    requires wrote { Wrote g.now out.old.items (facts_with claims.now.terms [] []) }
-    ensures { OnOk result (Wrote g.now out.new.items (facts_with claims.now.terms claims.now.steps [])) }
+    requires wrote { IsCertificatePrefix g.now out.old.items (facts_with claims.now.terms [] []) }
+    ensures { OnOk result (IsCertificatePrefix g.now out.new.items (facts_with claims.now.terms claims.now.steps [])) }
 {
     let _ = g.net.vars();
     let steps = claims.steps();
@@ -100,17 +100,17 @@ pub(crate) fn put_steps(out: &mut Vec<u8>, g: &Demands, claims: &Claims) -> Resu
 }
 
 /// The line of a gate with its term and its claim.
-fn line_of(gate: Gate, term: u32, claim: u32) -> Line
+fn line_of(gate: Gate, term: u32, claim: u32) -> CertLine
     ensures { result ≡ gate_line gate term claim }
 {
     match gate {
-        Gate::Const(_) => Line::Gate { term: term as u64 },
-        Gate::Var(_) => Line::Gate { term: term as u64 },
-        Gate::Not(_) => Line::GateBy {
+        Gate::Const(_) => CertLine::Gate { term: term as u64 },
+        Gate::Var(_) => CertLine::Gate { term: term as u64 },
+        Gate::Not(_) => CertLine::GateBy {
             term: term as u64,
             claim: claim as u64,
         },
-        Gate::And(_, _) => Line::GateBy {
+        Gate::And(_, _) => CertLine::GateBy {
             term: term as u64,
             claim: claim as u64,
         },
@@ -122,13 +122,13 @@ fn line_of(gate: Gate, term: u32, claim: u32) -> Line
 pub(crate) fn put_gates(
     out: &mut Vec<u8>,
     g: &Demands,
-    claims: &Claims,
+    claims: &ClaimWriter,
     terms: &[u32],
     by: &[u32],
 ) -> Result<(), Memory>
     requires gates { AreGates g.now.net claims.now terms.now by.now }
-    requires wrote { Wrote g.now out.old.items (facts_with claims.now.terms claims.now.steps []) }
-    ensures { OnOk result (Wrote g.now out.new.items (facts_with claims.now.terms claims.now.steps terms.now)) }
+    requires wrote { IsCertificatePrefix g.now out.old.items (facts_with claims.now.terms claims.now.steps []) }
+    ensures { OnOk result (IsCertificatePrefix g.now out.new.items (facts_with claims.now.terms claims.now.steps terms.now)) }
 {
     let _ = claims.steps();
     for i in 0..terms.len() {

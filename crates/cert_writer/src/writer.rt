@@ -1,16 +1,16 @@
 //! A certificate of what is demanded.
 ghost use Rattle.std.specs.Prelude.{◌≡◌, ◌++◌, ◌<◌, true, false, length, get_or, MatchOption, IfOk, IfSome, OnOk, None};
-ghost use Rattle.certificates.specs.Certificates.{AreSeven, CertOk, head_text};
-ghost use Rattle.bdd_core.specs.Meaning.{Always, IsDia, IsLeastFalse};
-ghost use Rattle.cert_writer.specs.Nodes.{IsDrawn, IsOrder, no_dia};
-ghost use Rattle.cert_writer.specs.Writing.{AreGateTerms, AreInside, AreTrue, IsOpen};
+ghost use Rattle.cert_checker.specs.Certificates.{AreSeven, CertOk, head_text};
+ghost use Rattle.bdd_core.specs.Meaning.{Always, IsDia, IsLeastFalsifying};
+ghost use Rattle.cert_writer.specs.Nodes.{IsDrawn, IsVariableOrder, no_dia};
+ghost use Rattle.cert_writer.specs.Writing.{AreGateTerms, AreInside, AreDemandsTrue, HasFalseDemand};
 
-use crate::claims::Claims;
-use crate::drawn::{Drawn, draw};
+use crate::claims::ClaimWriter;
+use crate::drawing::{DrawnNet, draw};
 use crate::order::order_of;
-use crate::terms::Terms;
+use crate::terms::TermWriter;
 use crate::text::{put_gates, put_steps, put_terms};
-use certificates::Demands;
+use cert_checker::Demands;
 use nets::Valuation;
 use pipe_motion::Settings;
 use pipe_orders::Weave;
@@ -19,12 +19,12 @@ use verdict_text::pipe_acceptance;
 use y86_base::{Memory, put};
 
 /// A valuation of the diagrams' variables at which a demanded gate is false, if any.
-fn counter(g: &Demands, drawn: &Drawn, k: usize) -> Result<Option<Valuation>, Memory>
+fn counter(g: &Demands, drawn: &DrawnNet, k: usize) -> Result<Option<Valuation>, Memory>
     requires inside { get_or g.now.want k 0 < length drawn.now.dias.items }
     requires want { k < length g.now.want }
     requires dia { IsDia drawn.now.store (get_or drawn.now.dias.items (get_or g.now.want k 0) no_dia) }
     ensures { IfOk result (λ o. MatchOption o (Always drawn.now.store (get_or drawn.now.dias.items (get_or g.now.want k 0) no_dia) true)
-        (λ v. IsLeastFalse drawn.now.store (get_or drawn.now.dias.items (get_or g.now.want k 0) no_dia) v.bits)) }
+        (λ v. IsLeastFalsifying drawn.now.store (get_or drawn.now.dias.items (get_or g.now.want k 0) no_dia) v.bits)) }
 {
     let dias = drawn.dias.as_slice();
     let want = g.want.items();
@@ -33,13 +33,13 @@ fn counter(g: &Demands, drawn: &Drawn, k: usize) -> Result<Option<Valuation>, Me
 
 /// Whether a demanded gate is false at some pattern of bits.
 #[tactic(auto, using(crate::proofs::Demanded::open_at, crate::proofs::Demanded::true_none, crate::proofs::Demanded::true_more, crate::proofs::Demanded::true_all, crate::proofs::Demanded::want_inside))]
-fn is_open(g: &Demands, order: &[u32], ranks: &[u32], drawn: &Drawn) -> Result<bool, Memory>
+fn is_open(g: &Demands, order: &[u32], ranks: &[u32], drawn: &DrawnNet) -> Result<bool, Memory>
     requires inside { AreInside g.now }
     requires vars { length order.now ≡ g.now.net.vars }
-    requires order { IsOrder order.now ranks.now }
+    requires order { IsVariableOrder order.now ranks.now }
     requires drawn { IsDrawn g.now.net order.now drawn.now.store drawn.now.dias.items }
-    ensures open { IfOk result (λ b. b ≡ true → IsOpen g.now) }
-    ensures shut { IfOk result (λ b. b ≡ false → AreTrue g.now) }
+    ensures open { IfOk result (λ b. b ≡ true → HasFalseDemand g.now) }
+    ensures shut { IfOk result (λ b. b ≡ false → AreDemandsTrue g.now) }
 {
     let _ = order.len();
     let _ = ranks.len();
@@ -138,17 +138,17 @@ const ATTEMPTS: [(Weave, Limits); 12] = [
 fn text_of(
     alloc: Global,
     g: &Demands,
-    terms: &Terms,
+    terms: &TermWriter,
     ts: &[u32],
     limits: Limits,
 ) -> Result<Vec<u8>, Memory>
     requires inside { AreInside g.now }
     requires vars { length terms.now.order ≡ g.now.net.vars }
-    requires shut { AreTrue g.now }
+    requires shut { AreDemandsTrue g.now }
     requires terms { AreGateTerms g.now.net (length terms.now.order) terms.now.terms ts.now (length g.now.net.gates) }
     ensures { IfOk result (λ text. CertOk g.now text.items) }
 {
-    let mut claims = Claims::new(alloc, terms.made(), terms.ranks(), limits.claims)?;
+    let mut claims = ClaimWriter::new(alloc, terms.made(), terms.ranks(), limits.claims)?;
     let by = claims.gate_claims(alloc, &g.net, ts)?;
     let mut out = Vec::new(alloc);
     put_head(alloc, &mut out, g.settings)?;
@@ -173,7 +173,7 @@ fn write_in(
 ) -> Result<Option<Vec<u8>>, Memory>
     requires inside { AreInside g.now }
     ensures some { IfOk result (λ o. IfSome o (λ text. CertOk g.now text.items)) }
-    ensures none { IfOk result (λ o. o ≡ None → IsOpen g.now) }
+    ensures none { IfOk result (λ o. o ≡ None → HasFalseDemand g.now) }
 {
     let orders = order_of(alloc, g.net.vars(), weave)?;
     let order = orders.order.as_slice();
@@ -182,7 +182,7 @@ fn write_in(
     if is_open(g, order, ranks, &drawn)? {
         return Ok(None);
     }
-    let mut terms = Terms::new(alloc, &drawn.store, order, ranks, drawn.dias.as_slice())?;
+    let mut terms = TermWriter::new(alloc, &drawn.store, order, ranks, drawn.dias.as_slice())?;
     let ts = terms.gate_terms(alloc, &g.net, drawn.dias.as_slice())?;
     let text = text_of(alloc, g, &terms, ts.as_slice(), limits)?;
     Ok(Some(text))
@@ -194,7 +194,7 @@ fn write_in(
 pub fn write(alloc: Global, g: &Demands) -> Result<Option<Vec<u8>>, Memory>
     requires inside { AreInside g.now }
     ensures some { IfOk result (λ o. IfSome o (λ text. CertOk g.now text.items)) }
-    ensures none { IfOk result (λ o. o ≡ None → IsOpen g.now) }
+    ensures none { IfOk result (λ o. o ≡ None → HasFalseDemand g.now) }
 {
     let attempts = ATTEMPTS;
     for attempt in attempts.as_slice() {

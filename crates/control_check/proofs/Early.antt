@@ -3,8 +3,8 @@ use Rattle.std.proofs.Common.{◌≡◌, ℕ, ◌+◌, ◌-◌, ◌<◌, inl, in
 use Rattle.std.proofs.lemmas.Bool.{cases_lt}
 use Rattle.std.proofs.lemmas.List.{get_or_append_left, get_or-append_right, get_or_push, length-append, length_push}
 use Rattle.nets.specs.Nets.{Gates}
-use Rattle.decisions.specs.Decisions.{AreDecided, AreGatesOf, IsDecided}
-use Rattle.control_check.specs.PipeVerdicts.{HasGates}
+use Rattle.bdd_decide.specs.Decisions.{AreDecided, AreGatesOfNet, IsDecided}
+use Rattle.control_check.specs.PipeVerdicts.{HasSevenGates}
 
 module _ (n : Gates) (pt pb : List ℕ) (tv : ℕ) (early : List ℕ) (is : early ≡ pt ++ (pb ++ tv ∷ [])) (forward : length pt ≡ 7) (backward : length pb ≡ 7) where
   at : (k : ℕ) → get_or early k 0 ≡ get_or (pt ++ (pb ++ tv ∷ [])) k 0
@@ -27,7 +27,7 @@ module _ (n : Gates) (pt pb : List ℕ) (tv : ℕ) (early : List ℕ) (is : earl
   third : get_or early 14 0 ≡ tv
   third = behind 7 ∙ get_or_push pb tv 0 7 backward
 
-  pub early_of : HasGates n pt → HasGates n pb → tv < length n.gates → AreGatesOf n early
+  pub early_of : HasSevenGates n pt → HasSevenGates n pb → tv < length n.gates → AreGatesOfNet n early
   early_of here there target k lt = elim (cases_lt k 7) [
     | inl low ↦ subst (λ (g : ℕ). g < length n.gates) (sym (first k low)) (here k low)
     | inr high ↦ elim (cases_lt k 14) [

@@ -19,22 +19,22 @@ use Rattle.ctl_formula.proofs.Solved.{controls_exist}
 use Rattle.pipe_fields.specs.Layout.{bit_count, fields_of, number_of, pattern_of}
 use Rattle.pipe_fields.proofs.Told.{has_pattern, in_range}
 use Rattle.pipe_motion.specs.declared.settings.Settings.{Settings}
-use Rattle.hazard_rules.specs.Parts.{AreClosed, AreLate, AreRules, IsFormula}
+use Rattle.hazard_rules.specs.Parts.{AreEarlyGates, AreLateGates, AreRules, IsDesignGate}
 use Rattle.pipe_obligations.specs.Rules.{obligation, rule_count}
-use Rattle.pipe_obligations.specs.Settled.{Decides, Everywhere, IsFalseAt, IsLeastFalse, Somewhere, Truth, carries, predicts_taken, shows_je, shows_lf, shows_rm, PipeControls}
-use Rattle.rule_gates.specs.declared.rules.Rule.{Rule}
-use Rattle.rule_gates.specs.declared.rules.Rules.{Rules}
-use Rattle.decisions.specs.Decisions.{AreDecided, IsAlwaysTrue, IsDecided}
-use Rattle.verdicts.specs.Decisions.{AreGatesOf, IsDecision, IsFirstFalse}
-use Rattle.verdicts.specs.declared.decision.Failure.{Failure}
-use Rattle.control_check.specs.PipeVerdicts.{AcceptsPipe, AreFileRules, AreSettings, HasGates, RejectsPipe}
+use Rattle.pipe_obligations.specs.FileSettings.{Decides, Everywhere, IsFalseAt, IsLeastFalse, Somewhere, ValuationTruth, alu_passes_target, picks_target, witnesses_je, witnesses_lf, witnesses_rm, PipeControls}
+use Rattle.ctl_rules.specs.declared.rules.Rule.{Rule}
+use Rattle.ctl_rules.specs.declared.rules.Rules.{Rules}
+use Rattle.bdd_decide.specs.Decisions.{AreDecided, IsAlwaysTrue, IsDecided}
+use Rattle.ctl_verdicts.specs.Decisions.{HaveGatesOfNet, IsRuleDecision, IsFirstFalseRule}
+use Rattle.ctl_verdicts.specs.declared.decision.FailedRule.{FailedRule}
+use Rattle.control_check.specs.PipeVerdicts.{AcceptsPipe, AreFileRules, AreSettings, HasSevenGates, RejectsPipe}
 use Rattle.control_check.proofs.OneSettings.{never_accepted, one_list}
-use Rattle.verdicts.proofs.AtomBits.{AreApart, apart_added, bits_are, length-truth_bits, told_are, told_by, truth_bits}
+use Rattle.ctl_verdicts.proofs.AtomBits.{AreApart, apart_added, bits_are, length-truth_bits, told_are, told_by, truth_bits}
 
 module _ (v : Variant) (terms : List Term) (atoms : List Atom) (apart : AreApart atoms) (exists : (field : ℕ → ℕ) (α : Assignment) → HasControls pipe_rows terms field α)
     (net : Gates) (vars : net.vars ≡ bit_count + length atoms) where
   -- a formula that is true of every pattern of bits is true of every valuation
-  pub everywhere : (g : ℕ) (f : Truth) → IsFormula terms atoms net g f → IsAlwaysTrue net g → Everywhere v atoms (PipeControls terms) f
+  pub everywhere : (g : ℕ) (f : ValuationTruth) → IsDesignGate terms atoms net g f → IsAlwaysTrue net g → Everywhere v atoms (PipeControls terms) f
   everywhere g f h always c α cv range controls =
       let w : List Bool = pattern_of c (truth_bits α atoms) in
       let law = has_pattern c (truth_bits α atoms) range in
@@ -44,7 +44,7 @@ module _ (v : Variant) (terms : List Term) (atoms : List Atom) (apart : AreApart
       subst (λ x. f x α cv ≡ true) law.spells (sym told ∙ always w size)
 
   -- a pattern of which it is false is a valuation of which it is
-  pub somewhere : (g : ℕ) (f : Truth) → IsFormula terms atoms net g f → (w : List Bool) → truth net g w ≡ false →
+  pub somewhere : (g : ℕ) (f : ValuationTruth) → IsDesignGate terms atoms net g f → (w : List Bool) → truth net g w ≡ false →
       (α : Assignment) × (cv : ℕ → Leaf) × AtomsAre atoms bit_count w α × PipeControls terms (fields_of w) α cv × (f (fields_of w) α cv ≡ false)
   somewhere g f h w e =
       let α = told_by atoms bit_count w in
@@ -52,7 +52,7 @@ module _ (v : Variant) (terms : List Term) (atoms : List Atom) (apart : AreApart
       let are = told_are atoms bit_count w apart in
       (α, controls.0, are, controls.1, sym (h.is w α controls.0 are controls.1) ∙ e)
 
-  pub decides : (g : ℕ) (f : Truth) (b : Bool) → IsFormula terms atoms net g f → IsDecided net g b → Decides b (Everywhere v atoms (PipeControls terms) f)
+  pub decides : (g : ℕ) (f : ValuationTruth) (b : Bool) → IsDesignGate terms atoms net g f → IsDecided net g b → Decides b (Everywhere v atoms (PipeControls terms) f)
   decides g f b h d =
       record {
         yes = λ e. everywhere g f h (d.yes e);
@@ -60,7 +60,7 @@ module _ (v : Variant) (terms : List Term) (atoms : List Atom) (apart : AreApart
       }
 
   -- where the formula is the negation of another
-  pub decides_some : (g : ℕ) (f : Truth) (b : Bool) → IsFormula terms atoms net g (λ c α cv. not (f c α cv)) → IsDecided net g b → Decides (not b) (Somewhere v atoms (PipeControls terms) f)
+  pub decides_some : (g : ℕ) (f : ValuationTruth) (b : Bool) → IsDesignGate terms atoms net g (λ c α cv. not (f c α cv)) → IsDecided net g b → Decides (not b) (Somewhere v atoms (PipeControls terms) f)
   decides_some g f b h d =
       record {
         yes = λ e. (let w = d.no (is_false b e) in let s = somewhere g (λ c α cv. not (f c α cv)) h w.0 w.2 in (fields_of w.0, s.0, s.1, in_range w.0, s.3, is_true (f (fields_of w.0) s.0 s.1) s.4));
@@ -85,7 +85,7 @@ module _ (v : Variant) (terms : List Term) (atoms : List Atom) (apart : AreApart
 
   -- ---- the rules
 
-  module _ (s : Settings) (list : List Rule) (count : length list ≡ rule_count) (gates : (k : ℕ) (x : Rule) → slice_get list k ≡ Some x → IsFormula terms atoms net x.gate (obligation v s atoms (k + 1))) where
+  module _ (s : Settings) (list : List Rule) (count : length list ≡ rule_count) (gates : (k : ℕ) (x : Rule) → slice_get list k ≡ Some x → IsDesignGate terms atoms net x.gate (obligation v s atoms (k + 1))) where
     entry : {A : Type 0} (xs : List A) (k : ℕ) → k < length xs → (x : A) × (slice_get xs k ≡ Some x)
     entry [] k lt = absurd (omega (arith, lt))
     entry (x ∷ xs) zero lt = (x, refl)
@@ -106,7 +106,7 @@ module _ (v : Variant) (terms : List Term) (atoms : List Atom) (apart : AreApart
     gate_false : (k : ℕ) (x : Rule) (w : List Bool) → slice_get list k ≡ Some x → IsFalseAt v atoms (PipeControls terms) s (k + 1) w → truth net x.gate w ≡ false
     gate_false k x w at h = (gates k x at).is w h.α h.cv h.atoms_are h.controls ∙ h.false_there
 
-    pub first_false : (k : ℕ) (x : Rule) (w : List Bool) → IsFirstFalse net list k x w → IsLeastFalse v atoms (PipeControls terms) s (k + 1) w
+    pub first_false : (k : ℕ) (x : Rule) (w : List Bool) → IsFirstFalseRule net list k x w → IsLeastFalse v atoms (PipeControls terms) s (k + 1) w
     first_false k x w h =
         record {
           first = omega arith;
@@ -133,7 +133,7 @@ module _ (v : Variant) (terms : List Term) (atoms : List Atom) (apart : AreApart
 
 -- ---- the settings
 
-pub closed_gates : (terms : List Term) (atoms : List Atom) (net : Gates) (gates : List ℕ) (f : ℕ → Truth) → ((i : ℕ) → i < 7 → IsFormula terms atoms net (get_or gates i 0) (f i)) → HasGates net gates
+pub closed_gates : (terms : List Term) (atoms : List Atom) (net : Gates) (gates : List ℕ) (f : ℕ → ValuationTruth) → ((i : ℕ) → i < 7 → IsDesignGate terms atoms net (get_or gates i 0) (f i)) → HasSevenGates net gates
 closed_gates terms atoms net gates f h i lt = (h i lt).within
 
 module _ (v : Variant) (terms : List Term) (ids : List ℕ) (o : IsOrderOf pipe_rows terms ids) where
@@ -146,17 +146,17 @@ module _ (v : Variant) (terms : List Term) (ids : List ℕ) (o : IsOrderOf pipe_
   exists : (field : ℕ → ℕ) (α : Assignment) → HasControls pipe_rows terms field α
   exists field α = controls_exist pipe_rows terms ids field α o
 
-  late_decides : (atoms late_atoms : List Atom) (net : Gates) (g : ℕ) (f : List Atom → Truth) (b : Bool) → AreAtoms pipe_rows terms atoms → AreAtoms pipe_rows terms late_atoms →
-      net.vars ≡ bit_count + length late_atoms → IsFormula terms late_atoms net g (λ c α cv. not (f late_atoms c α cv)) → IsDecided net g (not b) →
+  late_decides : (atoms late_atoms : List Atom) (net : Gates) (g : ℕ) (f : List Atom → ValuationTruth) (b : Bool) → AreAtoms pipe_rows terms atoms → AreAtoms pipe_rows terms late_atoms →
+      net.vars ≡ bit_count + length late_atoms → IsDesignGate terms late_atoms net g (λ c α cv. not (f late_atoms c α cv)) → IsDecided net g (not b) →
       Decides b (Somewhere v atoms (PipeControls terms) (f atoms))
   late_decides atoms late_atoms net g f b h k vars formula decided =
       subst (λ (them : List Atom). Decides b (Somewhere v them (PipeControls terms) (f them))) (same_list late_atoms atoms k h)
       (subst (λ x. Decides x (Somewhere v late_atoms (PipeControls terms) (f late_atoms))) (not-not b)
       (decides_some v terms late_atoms (apart late_atoms k) exists net vars g (f late_atoms) (not b) formula decided))
 
-  pub settings_are : (first : Gates) (pt pb : List ℕ) (tv : ℕ) (closed : AreClosed v terms first pt pb tv) (s : Settings) (pt' pb' : List Bool) (tv' : Bool) →
+  pub settings_are : (first : Gates) (pt pb : List ℕ) (tv : ℕ) (closed : AreEarlyGates v terms first pt pb tv) (s : Settings) (pt' pb' : List Bool) (tv' : Bool) →
       length s.pt ≡ 7 → length s.pb ≡ 7 → s.pt ≡ pt' → s.pb ≡ pb' → s.tv ≡ tv' → AreDecided first pt pt' → AreDecided first pb pb' → IsDecided first tv tv' →
-      (second : Gates) (lf je rm : ℕ) → AreLate v terms pt' pb' tv' second lf je rm → IsDecided second lf (not s.lf) → IsDecided second je (not s.je) → IsDecided second rm (not s.rm) →
+      (second : Gates) (lf je rm : ℕ) → AreLateGates v terms pt' pb' tv' second lf je rm → IsDecided second lf (not s.lf) → IsDecided second je (not s.je) → IsDecided second rm (not s.rm) →
       AreSettings v terms s
   settings_are first pt pb tv closed s pt' pb' tv' forward backward ept epb etv dpt dpb dtv second lf je rm late dlf dje drm =
       record {
@@ -165,26 +165,26 @@ module _ (v : Variant) (terms : List Term) (ids : List ℕ) (o : IsOrderOf pipe_
         forward = forward;
         backward = backward;
         set = record {
-          pt = λ i lt. subst (λ (xs : List Bool). Decides (get_or xs i false) (Everywhere v closed.atoms (PipeControls terms) (predicts_taken v closed.atoms i false))) (sym ept)
-              (by_formula (get_or pt i 0) (predicts_taken v closed.atoms i false) (get_or pt' i false) (closed.forward i lt) (dpt.each i (inside i pt' lt (sym (ap length ept) ∙ forward))));
-          pb = λ i lt. subst (λ (xs : List Bool). Decides (get_or xs i false) (Everywhere v closed.atoms (PipeControls terms) (predicts_taken v closed.atoms i true))) (sym epb)
-              (by_formula (get_or pb i 0) (predicts_taken v closed.atoms i true) (get_or pb' i false) (closed.backward i lt) (dpb.each i (inside i pb' lt (sym (ap length epb) ∙ backward))));
-          tv = subst (λ b. Decides b (Everywhere v closed.atoms (PipeControls terms) (carries v s))) (sym etv) (by_formula tv (carries v s) tv' (closed.target s) dtv);
-          lf = late_decides closed.atoms late.atoms second lf (λ them. shows_lf v s them) s.lf closed.are late.are late.vars (late.late s ept epb etv) dlf;
-          je = late_decides closed.atoms late.atoms second je (λ them. shows_je v s them) s.je closed.are late.are late.vars (late.jump s ept epb etv) dje;
-          rm = late_decides closed.atoms late.atoms second rm (λ them. shows_rm v s them) s.rm closed.are late.are late.vars (late.ret s ept epb etv) drm;
+          pt = λ i lt. subst (λ (xs : List Bool). Decides (get_or xs i false) (Everywhere v closed.atoms (PipeControls terms) (picks_target v closed.atoms i false))) (sym ept)
+              (by_formula (get_or pt i 0) (picks_target v closed.atoms i false) (get_or pt' i false) (closed.forward i lt) (dpt.each i (inside i pt' lt (sym (ap length ept) ∙ forward))));
+          pb = λ i lt. subst (λ (xs : List Bool). Decides (get_or xs i false) (Everywhere v closed.atoms (PipeControls terms) (picks_target v closed.atoms i true))) (sym epb)
+              (by_formula (get_or pb i 0) (picks_target v closed.atoms i true) (get_or pb' i false) (closed.backward i lt) (dpb.each i (inside i pb' lt (sym (ap length epb) ∙ backward))));
+          tv = subst (λ b. Decides b (Everywhere v closed.atoms (PipeControls terms) (alu_passes_target v s))) (sym etv) (by_formula tv (alu_passes_target v s) tv' (closed.target s) dtv);
+          lf = late_decides closed.atoms late.atoms second lf (λ them. witnesses_lf v s them) s.lf closed.are late.are late.vars (late.late s ept epb etv) dlf;
+          je = late_decides closed.atoms late.atoms second je (λ them. witnesses_je v s them) s.je closed.are late.are late.vars (late.jump s ept epb etv) dje;
+          rm = late_decides closed.atoms late.atoms second rm (λ them. witnesses_rm v s them) s.rm closed.are late.are late.vars (late.ret s ept epb etv) drm;
         };
       }
     where
       inside : (i : ℕ) (xs : List Bool) → i < 7 → length xs ≡ 7 → i < length xs
       inside i xs lt seven = omega (arith, lt, seven)
 
-      by_formula : (g : ℕ) (f : Truth) (b : Bool) → IsFormula terms closed.atoms first g f → IsDecided first g b → Decides b (Everywhere v closed.atoms (PipeControls terms) f)
+      by_formula : (g : ℕ) (f : ValuationTruth) (b : Bool) → IsDesignGate terms closed.atoms first g f → IsDecided first g b → Decides b (Everywhere v closed.atoms (PipeControls terms) f)
       by_formula = decides v terms closed.atoms (apart closed.atoms closed.are) exists first closed.vars
 
   -- ---- the verdict
 
-  pub rules_gates : (s : Settings) (net : Gates) (list : List Rule) → AreRules v terms s net list → AreGatesOf net list
+  pub rules_gates : (s : Settings) (net : Gates) (list : List Rule) → AreRules v terms s net list → HaveGatesOfNet net list
   rules_gates s net list rules k r at = (rules.gates k r at).within
 
   -- the gate of a rule is false just where its obligation is
@@ -202,7 +202,7 @@ module _ (v : Variant) (terms : List Term) (ids : List ℕ) (o : IsOrderOf pipe_
       gate_false v terms rules.atoms (apart rules.atoms rules.are) exists r.net rules.vars h.settings r.list rules.count rules.gates k x w at
       (subst (λ (them : List Atom). IsFalseAt v them (PipeControls terms) h.settings (k + 1) w) (sym (same_list rules.atoms h.are_settings.atoms rules.are h.are_settings.are)) f)
 
-  pub accepts : (s : Settings) (net : Gates) (list : List Rule) → AreSettings v terms s → AreRules v terms s net list → IsDecision net list None → AcceptsPipe v terms s
+  pub accepts : (s : Settings) (net : Gates) (list : List Rule) → AreSettings v terms s → AreRules v terms s net list → IsRuleDecision net list None → AcceptsPipe v terms s
   accepts s net list settings rules always =
       record {
         settings = settings;
@@ -213,7 +213,7 @@ module _ (v : Variant) (terms : List Term) (ids : List ℕ) (o : IsOrderOf pipe_
         };
       }
 
-  pub rejects : (s : Settings) (net : Gates) (list : List Rule) (failure : Failure) → AreSettings v terms s → AreRules v terms s net list → IsDecision net list (Some failure) →
+  pub rejects : (s : Settings) (net : Gates) (list : List Rule) (failure : FailedRule) → AreSettings v terms s → AreRules v terms s net list → IsRuleDecision net list (Some failure) →
       RejectsPipe v terms failure.rule failure.valuation.bits
   rejects s net list failure settings rules d =
       let number : d.0 + 1 ≡ failure.rule = sym (d.3 ∙ rules.numbers d.0 d.1 d.2.there) in

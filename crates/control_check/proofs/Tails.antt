@@ -4,10 +4,10 @@ use Rattle.std.proofs.lemmas.Bool.Decides.{nat_tests}
 use Rattle.std.proofs.lemmas.List.{get_or_append_left, get_or-append_right, length-append}
 use Rattle.std.proofs.lemmas.Option.{slice_get_within}
 use Rattle.nets.specs.Nets.{Gates, truth}
-use Rattle.rule_gates.specs.declared.rules.Rule.{Rule}
-use Rattle.decisions.specs.Decisions.{IsAlwaysTrue, IsDecided}
-use Rattle.verdicts.specs.Decisions.{AreGatesOf, IsDecision}
-use Rattle.verdicts.specs.declared.decision.Failure.{Failure}
+use Rattle.ctl_rules.specs.declared.rules.Rule.{Rule}
+use Rattle.bdd_decide.specs.Decisions.{IsAlwaysTrue, IsDecided}
+use Rattle.ctl_verdicts.specs.Decisions.{HaveGatesOfNet, IsRuleDecision}
+use Rattle.ctl_verdicts.specs.declared.decision.FailedRule.{FailedRule}
 use Rattle.control_check.specs.Tails.{AreNumbered, AreTold, IsFilled}
 
 pub from_drop : (xs : List Rule) (n k : ℕ) → slice_get (drop n xs) k ≡ slice_get xs (n + k)
@@ -15,7 +15,7 @@ from_drop xs zero k = ap (slice_get xs) (let e : k ≡ 0 + k = omega arith in e)
 from_drop [] (suc n) k = refl
 from_drop (x ∷ xs) (suc n) k = from_drop xs n k ∙ ap (slice_get (x ∷ xs)) (let e : suc (n + k) ≡ suc n + k = omega arith in e)
 
-pub gates_from : (net : Gates) (list : List Rule) (n : ℕ) → AreGatesOf net list → AreGatesOf net (drop n list)
+pub gates_from : (net : Gates) (list : List Rule) (n : ℕ) → HaveGatesOfNet net list → HaveGatesOfNet net (drop n list)
 gates_from net list n h k r at = h (n + k) r (sym (from_drop list n k) ∙ at)
 
 at_or_behind : (P : ℕ → Type 0) (n k : ℕ) → (k < n → P k) → ((j : ℕ) → k ≡ n + j → P k) → P k
@@ -32,7 +32,7 @@ holds net g b e all = record { yes = λ t. all; no = λ f. absurd (clash b e f) 
     clash c t f = grind (arith, t, f)
 
 -- where all that is left is true
-pub all_left : (net : Gates) (list : List Rule) (old new : List Bool) → AreTold net list old → IsDecision net (drop (length old) list) None → IsFilled old (length list) new → AreTold net list new
+pub all_left : (net : Gates) (list : List Rule) (old new : List Bool) → AreTold net list old → IsRuleDecision net (drop (length old) list) None → IsFilled old (length list) new → AreTold net list new
 all_left net list old new told h filled = record {
   within = let s = filled.size in omega (arith, s);
   each = λ k x lt there. at_or_behind (λ j. (y : Rule) → slice_get list j ≡ Some y → IsDecided net y.gate (get_or new j false)) (length old) k
@@ -43,10 +43,10 @@ all_left net list old new told h filled = record {
 }
 
 -- where the next that is false is found
-pub place_is : (net : Gates) (list : List Rule) (from : ℕ) (failure : Failure) → AreNumbered list → (h : IsDecision net (drop from list) (Some failure)) → failure.rule ≡ from + h.0 + 1
+pub place_is : (net : Gates) (list : List Rule) (from : ℕ) (failure : FailedRule) → AreNumbered list → (h : IsRuleDecision net (drop from list) (Some failure)) → failure.rule ≡ from + h.0 + 1
 place_is net list from failure numbers h = h.3 ∙ numbers (from + h.0) h.1 (sym (from_drop list from h.0) ∙ (h.2).there)
 
-pub next_left : (net : Gates) (list : List Rule) (old mid new : List Bool) (failure : Failure) → AreNumbered list → AreTold net list old → IsDecision net (drop (length old) list) (Some failure) →
+pub next_left : (net : Gates) (list : List Rule) (old mid new : List Bool) (failure : FailedRule) → AreNumbered list → AreTold net list old → IsRuleDecision net (drop (length old) list) (Some failure) →
     IsFilled old (failure.rule - 1) mid → new ≡ mid ++ false ∷ [] → AreTold net list new
 next_left net list old mid new failure numbers told h filled is =
     let from = length old in
@@ -100,7 +100,7 @@ filled_more old mid new n le h is = record {
 pub none_told : (net : Gates) (list : List Rule) → AreTold net list []
 none_told net list = record { within = omega arith; each = λ k x lt at. absurd (omega (arith, lt)) }
 
-pub next_more : (net : Gates) (list : List Rule) (old mid new : List Bool) (failure : Failure) → AreNumbered list → IsDecision net (drop (length old) list) (Some failure) →
+pub next_more : (net : Gates) (list : List Rule) (old mid new : List Bool) (failure : FailedRule) → AreNumbered list → IsRuleDecision net (drop (length old) list) (Some failure) →
     IsFilled old (failure.rule - 1) mid → new ≡ mid ++ false ∷ [] → length old < length new
 next_more net list old mid new failure numbers h filled is =
     let place = place_is net list (length old) failure numbers h in

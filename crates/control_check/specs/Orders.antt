@@ -2,7 +2,7 @@
 use Rattle.std.specs.Prelude.{ℕ}
 use Rattle.std.specs.List.{range_with_len}
 use Rattle.std.specs.List.Sorted.{IsPermutation}
-use Rattle.control_check.specs.declared.orders.OrderList.{OrderList}
+use Rattle.control_check.specs.declared.variable_orders.OrderList.{OrderList}
 
 -- each variable stands in each of the orders once
 pub record AreOrders (vars : ℕ) (l : OrderList) : Type 0 where

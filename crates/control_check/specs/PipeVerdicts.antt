@@ -2,7 +2,7 @@
 use Rattle.std.specs.Prelude.{◌≡◌, ℕ, ◌<◌, Bool, true, List, length, get_or}
 use Rattle.y86_base.specs.declared.parts.Variant.{Variant}
 use Rattle.y86_isa.specs.Run.{IsImage}
-use Rattle.pure_runs.specs.Near.{NearPure}
+use Rattle.yis_pure_runs.specs.Near.{NearPure}
 use Rattle.nets.specs.Nets.{Gates}
 use Rattle.hcl_types.specs.declared.term.Term.{Term}
 use Rattle.dp_signals.specs.PipeTable.{pipe_rows}
@@ -11,16 +11,16 @@ use Rattle.ctl_atoms.specs.declared.leaf.Atom.{Atom}
 use Rattle.pipe_motion.specs.declared.settings.Settings.{Settings}
 use Rattle.pipe_refinement.specs.Refines.{Refines}
 use Rattle.hazard_rules.specs.Parts.{AreRules}
-use Rattle.rule_gates.specs.declared.rules.Rules.{Rules}
-use Rattle.pipe_obligations.specs.Settled.{Holds, IsLeastFalse, IsSet, PipeControls}
-use Rattle.verdicts.specs.Questions.{IsFault}
-use Rattle.verdicts.specs.declared.fault.CheckFault.{CheckFault}
+use Rattle.ctl_rules.specs.declared.rules.Rules.{Rules}
+use Rattle.pipe_obligations.specs.FileSettings.{Holds, IsLeastFalse, AreFileSettings, PipeControls}
+use Rattle.ctl_verdicts.specs.ObligationSet.{IsFault}
+use Rattle.ctl_verdicts.specs.declared.fault.CheckFault.{CheckFault}
 use Rattle.control_check.specs.declared.verdict.Verdict.{Verdict}
 use Rattle.control_check.specs.declared.verdict.Verdict.TheVariants.{Yes, No}
 
 -- seven gates are gates of the net
-abbrev pub HasGates : Gates → List ℕ → Type 0
-HasGates n gates = (i : ℕ) → i < 7 → get_or gates i 0 < length n.gates
+abbrev pub HasSevenGates : Gates → List ℕ → Type 0
+HasSevenGates n gates = (i : ℕ) → i < 7 → get_or gates i 0 < length n.gates
 
 -- the file's settings, with its atoms; a prediction for each of seven ifuns
 pub record AreSettings (v : Variant) (terms : List Term) (s : Settings) : Type 0 where
@@ -28,7 +28,7 @@ pub record AreSettings (v : Variant) (terms : List Term) (s : Settings) : Type 0
   pub are : AreAtoms pipe_rows terms atoms
   pub forward : length s.pt ≡ 7
   pub backward : length s.pb ≡ 7
-  pub set : IsSet v atoms (PipeControls terms) s
+  pub set : AreFileSettings v atoms (PipeControls terms) s
 
 -- the 27 obligations of a file at its settings, as gates
 pub record AreFileRules (v : Variant) (terms : List Term) (r : Rules) : Type 0 where

@@ -9,13 +9,13 @@ use Rattle.pipe_motion.specs.declared.settings.Settings.{Settings}
 use Rattle.seq_obligations.specs.Fields.{fields_by, spots}
 use Rattle.seq_obligations.specs.Obligations.{obligation, rule_count}
 use Rattle.seq_refinement.specs.Accepted.{AcceptedSeq}
-use Rattle.verdicts.specs.Questions.{IsFault, IsLeastFalse, Questions}
-use Rattle.verdicts.specs.declared.fault.CheckFault.{CheckFault}
+use Rattle.ctl_verdicts.specs.ObligationSet.{IsFault, IsLeastFalseOf, ObligationSet}
+use Rattle.ctl_verdicts.specs.declared.fault.CheckFault.{CheckFault}
 use Rattle.control_check.specs.declared.verdict.Verdict.{Verdict}
 use Rattle.control_check.specs.declared.verdict.Verdict.TheVariants.{Yes, No}
 
 -- what SEQ asks of a design
-abbrev pub seq_questions : Variant → Questions
+abbrev pub seq_questions : Variant → ObligationSet
 seq_questions v = record { rows = seq_rows; spots = spots; count = rule_count; asks = λ i xs α cv. obligation v i (fields_by xs) α cv }
 
 -- SEQ has no setting to choose
@@ -34,7 +34,7 @@ pub record RejectsSeq (v : Variant) (terms : List Term) (rule : ℕ) (w : List B
   pub atoms : List Atom
   pub are : AreAtoms seq_rows terms atoms
   pub refused : AcceptedSeq v terms → ⊥
-  pub least : IsLeastFalse (seq_questions v) terms atoms rule w
+  pub least : IsLeastFalseOf (seq_questions v) terms atoms rule w
 
 abbrev pub IsSeqVerdict : Variant → List Term → Verdict → Type 0
 IsSeqVerdict v terms (Yes settings) = AcceptsSeq v terms × (settings ≡ no_settings)

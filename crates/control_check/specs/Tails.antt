@@ -1,8 +1,8 @@
 -- Rules that are told one after another: whether each is true of every valuation.
 use Rattle.std.specs.Prelude.{◌≡◌, ℕ, ◌+◌, ◌<◌, ◌≤◌, Bool, true, false, List, length, get_or, slice_get, Some}
 use Rattle.nets.specs.Nets.{Gates}
-use Rattle.rule_gates.specs.declared.rules.Rule.{Rule}
-use Rattle.decisions.specs.Decisions.{IsDecided}
+use Rattle.ctl_rules.specs.declared.rules.Rule.{Rule}
+use Rattle.bdd_decide.specs.Decisions.{IsDecided}
 
 -- the rules are numbered from 1 on
 abbrev pub AreNumbered : List Rule → Type 0

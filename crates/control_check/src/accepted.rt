@@ -7,11 +7,11 @@ ghost use Rattle.control_check.specs.PipeVerdicts.{IsPipeFault};
 
 use crate::pipe_verdict::check_pipe;
 use crate::verdict::Verdict;
+use ctl_verdicts::CheckFault;
 use hcl_types::{Design, Order};
 use pipe_motion::Settings;
 use std::alloc::Global;
 use std::marker::Model;
-use verdicts::CheckFault;
 use y86_base::Variant;
 
 /// A design for PIPE that is accepted, with its instruction set and its settings. Only `accept_pipe` makes one.

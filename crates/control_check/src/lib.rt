@@ -3,14 +3,14 @@
 
 mod accepted;
 mod laws;
-mod orders;
 mod pipe_verdict;
+mod variable_orders;
 mod verdict;
 
 pub use accepted::{Accepted, accept_pipe};
+pub use ctl_verdicts::{CheckFault, FailedRule, check_fault, decide};
 pub use laws::law_of_settings;
 pub use pipe_verdict::{
-    Ruled, check_pipe, decide_pipe, file_rules, file_settings, rules_at_settings, rules_true,
+    FileRules, check_pipe, decide_pipe, file_rules, file_settings, rules_at_settings, rules_true,
 };
 pub use verdict::{Verdict, check_seq};
-pub use verdicts::{CheckFault, Failure, decide, told};

@@ -3,24 +3,24 @@ ghost use Rattle.std.specs.Prelude.{◌≡◌, ◌<◌, ◌≤◌, ◌+◌, ◌+
 ghost use Rattle.dp_signals.specs.PipeTable.{pipe_rows};
 ghost use Rattle.hcl_types.specs.Tables.{IsBound, IsOrderOf};
 ghost use Rattle.ctl_atoms.specs.Atoms.{AreAtoms};
-ghost use Rattle.verdicts.specs.Decisions.{AreGatesOf, IsDecision};
+ghost use Rattle.ctl_verdicts.specs.Decisions.{HaveGatesOfNet, IsRuleDecision};
 ghost use Rattle.control_check.specs.Tails.{AreNumbered, AreTold, IsFilled};
-ghost use Rattle.decisions.specs.Decisions.{AreDecided, AreGatesOf as AreGates, IsDecided};
-ghost use Rattle.control_check.specs.PipeVerdicts.{AreFileRules, AreSettings, HasGates, IsPipeFault, IsPipeVerdict, RefinesPipe};
+ghost use Rattle.bdd_decide.specs.Decisions.{AreDecided, AreGatesOfNet as AreGates, IsDecided};
+ghost use Rattle.control_check.specs.PipeVerdicts.{AreFileRules, AreSettings, HasSevenGates, IsPipeFault, IsPipeVerdict, RefinesPipe};
 ghost use Rattle.control_check.specs.SeqVerdicts.{is_yes};
 ghost use Rattle.hazard_rules.specs.Belonging.{BelongTo};
 ghost use Rattle.hazard_rules.specs.Parts.{AreRules};
 
-use crate::orders::OrderList;
+use crate::variable_orders::OrderList;
 use crate::verdict::Verdict;
-use decisions::each_true;
+use bdd_decide::each_true;
+use ctl_rules::{Rule, Rules};
+use ctl_verdicts::{CheckFault, FailedRule, check_fault, decide_in_order};
 use hazard_rules::{Late, Parts, pipe_late, pipe_parts, pipe_rules};
 use hcl_types::{Design, Order};
 use nets::Net;
 use pipe_motion::Settings;
-use rule_gates::{Rule, Rules};
 use std::alloc::Global;
-use verdicts::{CheckFault, Failure, decide_in_order, told};
 use y86_base::{Memory, Variant};
 
 /// How many jumps are predicted: by their ifun.
@@ -35,7 +35,7 @@ const TARGET: usize = BACKWARD + JUMPS;
 
 /// The settings that hold where a formula is true of every valuation.
 #[derive(Clone, Copy, Debug, PartialEq, Eq)]
-struct Early {
+struct EarlySettings {
     pt: [bool; JUMPS],
     pb: [bool; JUMPS],
     tv: bool,
@@ -85,9 +85,9 @@ fn settings_true(alloc: Global, net: &Net, gates: &[u64]) -> Result<Vec<bool>, M
 
 /// Decides the formulas of the early settings.
 #[tactic(auto, using(crate::proofs::Early::early_of, crate::proofs::Early::enough, crate::proofs::Early::forward_decided, crate::proofs::Early::backward_decided, crate::proofs::Early::target_decided))]
-fn decide_early(alloc: Global, parts: &Parts) -> Result<Early, Memory>
-    requires forward { HasGates parts.now.net parts.now.pt }
-    requires backward { HasGates parts.now.net parts.now.pb }
+fn decide_early(alloc: Global, parts: &Parts) -> Result<EarlySettings, Memory>
+    requires forward { HasSevenGates parts.now.net parts.now.pt }
+    requires backward { HasSevenGates parts.now.net parts.now.pb }
     requires target { parts.now.tv < length parts.now.net.gates }
     ensures forward { IfOk result (λ e. AreDecided parts.now.net parts.now.pt e.pt) }
     ensures backward { IfOk result (λ e. AreDecided parts.now.net parts.now.pb e.pb) }
@@ -99,11 +99,16 @@ fn decide_early(alloc: Global, parts: &Parts) -> Result<Early, Memory>
     let pt = jumps_from(truths.as_slice(), FORWARD);
     let pb = jumps_from(truths.as_slice(), BACKWARD);
     let tv = truths[TARGET];
-    Ok(Early { pt, pb, tv })
+    Ok(EarlySettings { pt, pb, tv })
 }
 
 /// Decides the formulas of the late settings: each holds where its formula is false of some valuation.
-fn decide_late(alloc: Global, net: &Net, late: Late, early: Early) -> Result<Settings, Memory>
+fn decide_late(
+    alloc: Global,
+    net: &Net,
+    late: Late,
+    early: EarlySettings,
+) -> Result<Settings, Memory>
     requires lf { late.lf < length net.now.gates }
     requires je { late.je < length net.now.gates }
     requires rm { late.rm < length net.now.gates }
@@ -128,7 +133,7 @@ fn decide_late(alloc: Global, net: &Net, late: Late, early: Early) -> Result<Set
 
 /// The parts of a file, and the settings that they decide.
 #[derive(Drop)]
-struct Settled {
+struct DecidedSettings {
     parts: Parts,
     settings: Settings,
 }
@@ -139,7 +144,7 @@ fn settle(
     variant: Variant,
     design: &Design,
     order: &Order,
-) -> Result<Settled, CheckFault>
+) -> Result<DecidedSettings, CheckFault>
     requires bound { IsBound pipe_rows design.now.terms }
     requires ordered { IsOrderOf pipe_rows design.now.terms order.now.ids }
     ensures settings { IfOk result (λ r. AreSettings variant design.now.terms r.settings) }
@@ -149,7 +154,7 @@ fn settle(
 {
     let mut parts = match pipe_parts(alloc, variant, design, order) {
         Ok(parts) => parts,
-        Err(fault) => return Err(told(fault)),
+        Err(fault) => return Err(check_fault(fault)),
     };
     let early = match decide_early(alloc, &parts) {
         Ok(early) => early,
@@ -162,7 +167,7 @@ fn settle(
         Err(Memory) => return Err(CheckFault::Memory),
     };
     match decide_late(alloc, &parts.net, late, early) {
-        Ok(settings) => Ok(Settled { parts, settings }),
+        Ok(settings) => Ok(DecidedSettings { parts, settings }),
         Err(Memory) => Err(CheckFault::Memory),
     }
 }
@@ -184,9 +189,9 @@ pub fn file_settings(
 }
 
 /// The decision on PIPE's rules.
-pub fn decide_pipe(alloc: Global, net: &Net, list: &[Rule]) -> Result<Option<Failure>, Memory>
-    requires gates { AreGatesOf net.now list.now }
-    ensures { IfOk result (IsDecision net.now list.now) }
+pub fn decide_pipe(alloc: Global, net: &Net, list: &[Rule]) -> Result<Option<FailedRule>, Memory>
+    requires gates { HaveGatesOfNet net.now list.now }
+    ensures { IfOk result (IsRuleDecision net.now list.now) }
 {
     let orders = OrderList::for_rules(alloc, net.vars())?;
     decide_in_order(alloc, net, list, orders.as_orders())
@@ -194,7 +199,7 @@ pub fn decide_pipe(alloc: Global, net: &Net, list: &[Rule]) -> Result<Option<Fai
 
 /// The rules of a file, and the settings at which they are asked.
 #[derive(Drop)]
-pub struct Ruled {
+pub struct FileRules {
     pub settings: Settings,
     pub rules: Rules,
 }
@@ -205,7 +210,7 @@ pub fn rules_at_settings(
     variant: Variant,
     design: &Design,
     order: &Order,
-) -> Result<Ruled, CheckFault>
+) -> Result<FileRules, CheckFault>
     requires bound { IsBound pipe_rows design.now.terms }
     requires ordered { IsOrderOf pipe_rows design.now.terms order.now.ids }
     ensures settings { IfOk result (λ r. AreSettings variant design.now.terms r.settings) }
@@ -217,7 +222,7 @@ pub fn rules_at_settings(
     let settled = settle(alloc, variant, design, order)?;
     let settings = settled.settings;
     match pipe_rules(alloc, settled.parts, settings) {
-        Ok(rules) => Ok(Ruled { settings, rules }),
+        Ok(rules) => Ok(FileRules { settings, rules }),
         Err(Memory) => Err(CheckFault::Memory),
     }
 }
@@ -266,7 +271,7 @@ fn behind(list: &[Rule], from: usize) -> &[Rule]
 /// Tells the rules up to the next one that is false of some valuation.
 #[tactic(auto, using(crate::proofs::Tails::gates_from, crate::proofs::Tails::all_left, crate::proofs::Tails::next_left, crate::proofs::Tails::next_more))]
 fn tell_next(alloc: Global, net: &Net, list: &[Rule], truths: &mut Vec<bool>) -> Result<(), Memory>
-    requires gates { AreGatesOf net.now list.now }
+    requires gates { HaveGatesOfNet net.now list.now }
     requires numbers { AreNumbered list.now }
     requires some { length truths.old.items < length list.now }
     requires told { AreTold net.now list.now truths.old.items }
@@ -290,7 +295,7 @@ fn tell_next(alloc: Global, net: &Net, list: &[Rule], truths: &mut Vec<bool>) ->
 /// For each of PIPE's rules whether it is true of every valuation.
 #[tactic(auto, using(crate::proofs::Tails::none_told))]
 pub fn rules_true(alloc: Global, net: &Net, list: &[Rule]) -> Result<Vec<bool>, Memory>
-    requires gates { AreGatesOf net.now list.now }
+    requires gates { HaveGatesOfNet net.now list.now }
     requires numbers { AreNumbered list.now }
     ensures size { IfOk result (λ truths. length truths.items ≡ length list.now) }
     ensures told { IfOk result (λ truths. AreTold net.now list.now truths.items) }

@@ -6,12 +6,12 @@ ghost use Rattle.seq_refinement.specs.Accepted.{RefinesSeq};
 ghost use Rattle.control_check.specs.SeqVerdicts.{IsSeqFault, IsSeqVerdict, is_yes};
 
 use ctl_atoms::Atom;
+use ctl_verdicts::{CheckFault, check_fault, decide};
 use hcl_types::{Design, Order};
 use nets::Valuation;
 use pipe_motion::Settings;
 use seq_obligations::seq_rules;
 use std::alloc::Global;
-use verdicts::{CheckFault, decide, told};
 use y86_base::{Items, Memory, Variant};
 
 /// Whether every obligation holds of a design, and if not, the number of the first that doesn't, with the least
@@ -53,7 +53,7 @@ pub fn check_seq(
 {
     let rules = match seq_rules(alloc, variant, design, order) {
         Ok(rules) => rules,
-        Err(fault) => return Err(told(fault)),
+        Err(fault) => return Err(check_fault(fault)),
     };
     match decide(alloc, &rules.net, rules.list.items()) {
         Ok(None) => Ok(Verdict::Yes(NO_SETTINGS)),

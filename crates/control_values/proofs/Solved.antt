@@ -9,7 +9,7 @@ use Rattle.hcl_types.specs.declared.table.Role.{Role}
 use Rattle.hcl_types.specs.declared.table.Role.TheVariants as role
 use Rattle.hcl_types.specs.declared.table.Row.{Row}
 use Rattle.hcl_types.specs.Tables.{IsOrderOf, is_given, known, needs}
-use Rattle.hcl_types.specs.Equations.{IsStore, filled, is_known}
+use Rattle.hcl_types.specs.Equations.{IsStore, evaluated_along, is_known}
 use Rattle.hcl_types.proofs.Each.{each_more}
 use Rattle.hcl_types.proofs.Orders.{solved}
 use Rattle.ctl_atoms.specs.declared.leaf.Leaf.{Leaf}
@@ -38,7 +38,7 @@ module _ (rows : List Row) (terms : List Term) (field : ℕ → ℕ) (α : Assig
           ∙ (role_given field n row.class row.role _ _ (sym (known_row rows n row e) ∙ k) ∙ sym (rule_row rows terms field α n f row e))
 
   pub leaves_solve : (ids : List ℕ) → IsOrderOf rows terms ids → (leaves : List Leaf) → length leaves ≡ length rows →
-      ((n : ℕ) → at leaves n ≡ given_leaf field rows n) → AreControls rows terms field α (at (filled at slice_set (control_rule rows terms field α) leaves ids))
+      ((n : ℕ) → at leaves n ≡ given_leaf field rows n) → AreControls rows terms field α (at (evaluated_along at slice_set (control_rule rows terms field α) leaves ids))
   leaves_solve ids o leaves whole given =
       solved at slice_set (λ xs n. n < length xs) store (control_rule rows terms field α) (needs rows terms) (known rows) (rule_local rows terms field α) leaves ids o
       (each_more {P = λ n. is_known (known rows) n ≡ false} {Q = λ n. n < length leaves} (λ n h. subst (λ z. n < z) (sym whole) (unknown_inside rows n h)) ids o.unknown)
@@ -54,10 +54,10 @@ module _ (rows : List Row) (terms : List Term) (field : ℕ → ℕ) (α : Assig
   -- one more row of the order
   pub one_filled : (leaves : List Leaf) (ids items : List ℕ) (i : ℕ) (own : Leaf) → items ≡ ids → i < length ids →
       own ≡ control_rule rows terms field α (get_or items i 0) (at leaves) →
-      filled at slice_set (control_rule rows terms field α) (slice_set leaves (get_or items i 0) own) (drop (i + 1) ids) ≡ filled at slice_set (control_rule rows terms field α) leaves (drop i ids)
+      evaluated_along at slice_set (control_rule rows terms field α) (slice_set leaves (get_or items i 0) own) (drop (i + 1) ids) ≡ evaluated_along at slice_set (control_rule rows terms field α) leaves (drop i ids)
   one_filled leaves ids items i own same inside here =
-      ap (λ (x : Leaf). filled at slice_set (control_rule rows terms field α) (slice_set leaves (get_or items i 0) x) (drop (i + 1) ids)) here
-      ∙ ap (λ (ns : List ℕ). filled at slice_set (control_rule rows terms field α) leaves ns) (ap (λ (ns : List ℕ). get_or ns i 0 ∷ drop (i + 1) ids) same ∙ sym (drop_more ids i 0 inside))
+      ap (λ (x : Leaf). evaluated_along at slice_set (control_rule rows terms field α) (slice_set leaves (get_or items i 0) x) (drop (i + 1) ids)) here
+      ∙ ap (λ (ns : List ℕ). evaluated_along at slice_set (control_rule rows terms field α) leaves ns) (ap (λ (ns : List ℕ). get_or ns i 0 ∷ drop (i + 1) ids) same ∙ sym (drop_more ids i 0 inside))
 
 -- a fact about each row, and about what lies past the rows
 pub given_everywhere : (field : ℕ → ℕ) (rows : List Row) (leaves : List Leaf) (end : ℕ) → length rows ≤ end → length leaves ≡ end →

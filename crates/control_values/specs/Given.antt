@@ -9,9 +9,9 @@ use Rattle.hcl_types.specs.Terms.{value}
 use Rattle.ctl_atoms.specs.declared.leaf.Leaf.{Leaf}
 use Rattle.ctl_atoms.specs.declared.leaf.Leaf.TheVariants.{Number}
 use Rattle.ctl_atoms.specs.declared.leaf.Atom.{Atom}
-use Rattle.ctl_atoms.specs.Leaves.{Assignment, atom_eq, leaf_holds, picks}
-use Rattle.field_bits.specs.declared.spots.Spot.{Spot}
-use Rattle.field_bits.specs.Spots.{decoded, number_among, total}
+use Rattle.ctl_atoms.specs.Leaves.{Assignment, atom_eq, leaf_holds, leaf_meaning}
+use Rattle.net_fields.specs.declared.field_specs.FieldSpec.{FieldSpec}
+use Rattle.net_fields.specs.FieldSpecs.{decoded, number_among, total}
 use Rattle.ctl_formula.specs.Controls.{row_leaf}
 
 -- the bit of an atom, the first of which is a bit's number: that of its place in the list, and false of one that isn't listed
@@ -28,13 +28,13 @@ abbrev pub at : List Leaf → ℕ → Leaf
 at leaves n = get_or leaves n (Number 0)
 
 -- the number that the bits give each name that is a field of the table, and 0 to any other
-abbrev pub field_at : List Spot → List Bool → ℕ → ℕ
+abbrev pub field_at : List FieldSpec → List Bool → ℕ → ℕ
 field_at fields w n = number_among fields (decoded fields 0 w) n
 
 -- the first case whose guard is true, from the k-th on
 abbrev pub taken_from : Assignment → (ℕ → Leaf) → ℕ → List TermBranch → Option ℕ
 taken_from α cv k [] = None
-taken_from α cv k (b ∷ bs) = if leaf_holds α (value (picks α) cv b.guard) then Some k else taken_from α cv (k + 1) bs
+taken_from α cv k (b ∷ bs) = if leaf_holds α (value (leaf_meaning α) cv b.guard) then Some k else taken_from α cv (k + 1) bs
 
 -- the case that a definition takes: of a case list the first whose guard is true, counted from 0; no other definition has cases
 abbrev pub taken_in : Assignment → (ℕ → Leaf) → Term-F Term TermBranch → Option ℕ
@@ -55,6 +55,6 @@ abbrev pub given_leaf : (ℕ → ℕ) → List Row → ℕ → Leaf
 given_leaf field rows n = row_leaf field n (slice_get rows n) (Number 0)
 
 -- fields of at most four bits each, and not many
-pub record AreNear (fields : List Spot) : Type 0 where
-  pub few : AllByRecursion (λ (s : Spot). s.bits ≤ 4) fields
+pub record AreNear (fields : List FieldSpec) : Type 0 where
+  pub few : AllByRecursion (λ (s : FieldSpec). s.bits ≤ 4) fields
   pub near : total fields ≤ 1000

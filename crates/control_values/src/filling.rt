@@ -1,11 +1,11 @@
 //! The control values of all names at a valuation, along an order.
 ghost use Rattle.std.specs.Prelude.{◌≡◌, ◌≤◌, ◌<◌, ◌^◌, ◌++◌, ◌∷◌, [], ℕ, IfOk, OnOk, false, get_or, length, slice_get, slice_set};
 ghost use Rattle.std.specs.List.{AllByRecursion};
-ghost use Rattle.field_bits.specs.Spelling.{bit, spelt};
+ghost use Rattle.net_fields.specs.Spelling.{bit, spelt};
 ghost use Rattle.hcl_types.specs.Tables.{IsOrderOf, IsSound};
 ghost use Rattle.hcl_types.specs.Terms.{value};
 ghost use Rattle.ctl_atoms.specs.declared.leaf.Leaf.TheVariants.{Number};
-ghost use Rattle.ctl_atoms.specs.Leaves.{picks};
+ghost use Rattle.ctl_atoms.specs.Leaves.{leaf_meaning};
 ghost use Rattle.ctl_atoms.specs.Rows.{row_term};
 ghost use Rattle.ctl_formula.specs.Controls.{AreControls, control_rule, field_leaf, role_leaf};
 ghost use Rattle.ctl_formula.specs.Controls as spec;
@@ -13,15 +13,15 @@ ghost use Rattle.control_values.specs.Given.{AreNear, assigned, at, field_at, gi
 
 use crate::scope::Scope;
 use ctl_atoms::{Atom, Leaf, definitions_before};
-use field_bits::{Spot, place_in};
 use hcl_types::{Class, Design, NameId, Order, Role, Row, Table, Term};
+use net_fields::{FieldSpec, place_in};
 use std::alloc::Global;
 use y86_base::Memory;
 
 /// A valuation: its bits, the table of its fields, and the atoms, whose truths are the bits from `first` on.
 #[derive(Clone, Copy)]
 pub struct Situation<'a> {
-    pub fields: &'a [Spot],
+    pub fields: &'a [FieldSpec],
     pub atoms: &'a [Atom],
     pub first: usize,
     pub bits: &'a [bool],
@@ -38,7 +38,7 @@ fn bit_number(bits: &[bool], i: usize) -> u64
 }
 
 /// The number that some bits of a valuation spell, the most significant one first.
-#[tactic(auto, using(field_bits::proofs::Loops::number_none, field_bits::proofs::Loops::number_more, field_bits::proofs::Loops::number_small))]
+#[tactic(auto, using(net_fields::proofs::Loops::number_none, net_fields::proofs::Loops::number_more, net_fields::proofs::Loops::number_small))]
 pub fn number_at(bits: &[bool], first: usize, count: usize) -> u64
     requires few { count ≤ 4 }
     requires near { first ≤ 1000 }
@@ -53,7 +53,7 @@ pub fn number_at(bits: &[bool], first: usize, count: usize) -> u64
 
 /// The number of the field that a name is, and 0 of one that is no field.
 #[tactic(auto, using(crate::proofs::Fields::few_bits, crate::proofs::Fields::near_first, crate::proofs::Fields::number_there, crate::proofs::Fields::number_nowhere))]
-fn field_number(fields: &[Spot], bits: &[bool], id: NameId) -> u64
+fn field_number(fields: &[FieldSpec], bits: &[bool], id: NameId) -> u64
     requires { AreNear fields.now }
     ensures { result ≡ field_at fields.now bits.now id }
 {
@@ -93,7 +93,7 @@ fn leaf_by_role(s: &Situation<'_>, row: &Row, id: NameId, told: Leaf) -> Leaf
 fn told_leaf(s: &Situation<'_>, rows: &[Row], terms: &[Term], id: usize, leaves: &[Leaf]) -> Leaf
     requires near { s.now.first ≤ 1000 }
     requires row { id ≤ length rows.now }
-    ensures { result ≡ value (picks (assigned s.now.atoms.now s.now.first s.now.bits.now)) (at leaves.now) (row_term rows.now terms.now id) }
+    ensures { result ≡ value (leaf_meaning (assigned s.now.atoms.now s.now.first s.now.bits.now)) (at leaves.now) (row_term rows.now terms.now id) }
 {
     let scope = Scope {
         atoms: s.atoms,

@@ -4,10 +4,10 @@ ghost use Rattle.hcl_read.specs.declared.tree.CmpOp.TheVariants.{Eq};
 ghost use Rattle.hcl_types.specs.Lists.{each, some};
 ghost use Rattle.hcl_types.specs.Terms.{branch_value, picked, value};
 ghost use Rattle.ctl_atoms.specs.declared.leaf.Leaf.TheVariants.{Number};
-ghost use Rattle.ctl_atoms.specs.Leaves.{asked, asked_lt, asked_eq, decided_lt, leaf_cmp, leaf_holds, leaf_lt, leaf_same, picks};
+ghost use Rattle.ctl_atoms.specs.Leaves.{open_atom, open_lt, open_eq, decided_lt, leaf_cmp, leaf_holds, leaf_lt, leaf_same, leaf_meaning};
 ghost use Rattle.control_values.specs.Given.{assigned, at, taken, taken_from, truth_from};
 
-use ctl_atoms::{Atom, Leaf, ask, same_atom, same_leaf};
+use ctl_atoms::{Atom, Leaf, atom_at, same_atom, same_leaf};
 use hcl_types::{CmpOp, Term, TermBranch, is_below};
 
 /// What a term reads at a valuation: the atoms, whose truths are the bits from `first` on, and the control value of each name.
@@ -69,7 +69,7 @@ impl<'a> Scope<'a> {
         requires { self.now.first ≤ 1000 }
         ensures { result ≡ leaf_lt (assigned self.now.atoms.now self.now.first self.now.bits.now) x y }
     {
-        match ask(CmpOp::Lt, x, y) {
+        match atom_at(CmpOp::Lt, x, y) {
             Some(atom) => truth_of(self.atoms, self.first, self.bits, atom),
             None => is_decided_below(x, y),
         }
@@ -80,7 +80,7 @@ impl<'a> Scope<'a> {
         requires { self.now.first ≤ 1000 }
         ensures { result ≡ leaf_same (assigned self.now.atoms.now self.now.first self.now.bits.now) x y }
     {
-        match ask(CmpOp::Eq, x, y) {
+        match atom_at(CmpOp::Eq, x, y) {
             Some(atom) => truth_of(self.atoms, self.first, self.bits, atom),
             None => same_leaf(x, y),
         }
@@ -113,7 +113,7 @@ impl<'a> Scope<'a> {
     #[cycle(evaluation)]
     pub fn leaf_of(&self, t: &Term) -> Leaf
         requires { self.now.first ≤ 1000 }
-        ensures { result ≡ value (picks (assigned self.now.atoms.now self.now.first self.now.bits.now)) (at self.now.leaves.now) t.now }
+        ensures { result ≡ value (leaf_meaning (assigned self.now.atoms.now self.now.first self.now.bits.now)) (at self.now.leaves.now) t.now }
     {
         match t {
             Term::Num(n) => Leaf::Number(*n),
@@ -141,7 +141,7 @@ impl<'a> Scope<'a> {
     #[cycle(evaluation)]
     fn term_holds(&self, t: &Term) -> bool
         requires { self.now.first ≤ 1000 }
-        ensures { result ≡ leaf_holds (assigned self.now.atoms.now self.now.first self.now.bits.now) (value (picks (assigned self.now.atoms.now self.now.first self.now.bits.now)) (at self.now.leaves.now) t.now) }
+        ensures { result ≡ leaf_holds (assigned self.now.atoms.now self.now.first self.now.bits.now) (value (leaf_meaning (assigned self.now.atoms.now self.now.first self.now.bits.now)) (at self.now.leaves.now) t.now) }
     {
         let x = self.leaf_of(t);
         self.isnt_zero(x)
@@ -151,7 +151,7 @@ impl<'a> Scope<'a> {
     #[cycle(evaluation)]
     fn term_equals(&self, left: Leaf, t: &Term) -> bool
         requires { self.now.first ≤ 1000 }
-        ensures { result ≡ leaf_cmp (assigned self.now.atoms.now self.now.first self.now.bits.now) Eq left (value (picks (assigned self.now.atoms.now self.now.first self.now.bits.now)) (at self.now.leaves.now) t.now) }
+        ensures { result ≡ leaf_cmp (assigned self.now.atoms.now self.now.first self.now.bits.now) Eq left (value (leaf_meaning (assigned self.now.atoms.now self.now.first self.now.bits.now)) (at self.now.leaves.now) t.now) }
     {
         let x = self.leaf_of(t);
         self.same(left, x)
@@ -161,7 +161,7 @@ impl<'a> Scope<'a> {
     fn each_holds(&self, all: &[Term]) -> bool
         requires { self.now.first ≤ 1000 }
         ensures { result ≡ each (leaf_holds (assigned self.now.atoms.now self.now.first self.now.bits.now))
-            (map (value (picks (assigned self.now.atoms.now self.now.first self.now.bits.now)) (at self.now.leaves.now)) all.now) }
+            (map (value (leaf_meaning (assigned self.now.atoms.now self.now.first self.now.bits.now)) (at self.now.leaves.now)) all.now) }
     {
         for t in all {
             if !self.term_holds(t) {
@@ -175,7 +175,7 @@ impl<'a> Scope<'a> {
     fn some_holds(&self, all: &[Term]) -> bool
         requires { self.now.first ≤ 1000 }
         ensures { result ≡ some (leaf_holds (assigned self.now.atoms.now self.now.first self.now.bits.now))
-            (map (value (picks (assigned self.now.atoms.now self.now.first self.now.bits.now)) (at self.now.leaves.now)) all.now) }
+            (map (value (leaf_meaning (assigned self.now.atoms.now self.now.first self.now.bits.now)) (at self.now.leaves.now)) all.now) }
     {
         for t in all {
             if self.term_holds(t) {
@@ -189,7 +189,7 @@ impl<'a> Scope<'a> {
     fn some_equals(&self, left: Leaf, all: &[Term]) -> bool
         requires { self.now.first ≤ 1000 }
         ensures { result ≡ some (leaf_cmp (assigned self.now.atoms.now self.now.first self.now.bits.now) Eq left)
-            (map (value (picks (assigned self.now.atoms.now self.now.first self.now.bits.now)) (at self.now.leaves.now)) all.now) }
+            (map (value (leaf_meaning (assigned self.now.atoms.now self.now.first self.now.bits.now)) (at self.now.leaves.now)) all.now) }
     {
         for t in all {
             if self.term_equals(left, t) {
@@ -203,7 +203,7 @@ impl<'a> Scope<'a> {
     fn first_taken(&self, all: &[TermBranch]) -> Leaf
         requires { self.now.first ≤ 1000 }
         ensures { result ≡ picked (leaf_holds (assigned self.now.atoms.now self.now.first self.now.bits.now)) (Number 0)
-            (map (branch_value (picks (assigned self.now.atoms.now self.now.first self.now.bits.now)) (at self.now.leaves.now)) all.now) }
+            (map (branch_value (leaf_meaning (assigned self.now.atoms.now self.now.first self.now.bits.now)) (at self.now.leaves.now)) all.now) }
     {
         for branch in all {
             if self.term_holds(&branch.guard) {

@@ -4,11 +4,11 @@ use Rattle.std.proofs.lemmas.List.{length_push}
 use Rattle.std.specs.Option.{option_to_list}
 use Rattle.dp_signals.specs.PipeRun as run
 use Rattle.hcl_types.specs.declared.term.Term.{Term}
-use Rattle.pipe_path.specs.Pipe.{Pipe, end_of, started}
+use Rattle.pipe_path.specs.Pipe.{PipeMachine, end_of, started}
 use Rattle.pipe_refinement.specs.Refines.{Refines, StopsAs}
-use Rattle.pipe_runs.proofs.Drives.{driven, machine}
-use Rattle.pipe_runs.proofs.Refined.{off_stopped, pipe_run}
-use Rattle.retire_trace.specs.Drive.{Goes}
+use Rattle.prog_cosim.proofs.Drives.{driven, machine}
+use Rattle.prog_cosim.proofs.Refined.{off_stopped, pipe_run}
+use Rattle.retire_trace.specs.Drive.{CallsFor}
 use Rattle.y86_base.specs.Registers.{register}
 use Rattle.y86_base.specs.declared.parts.Variant.{Variant}
 use Rattle.yis_run.specs.Report.{aligned_word}
@@ -28,7 +28,7 @@ use Rattle.cosimulation.specs.declared.states.Part.{Part}
 use Rattle.cosimulation.specs.declared.states.Part.TheVariants.{Stat, Pc, Flags, Register, Memory}
 
 module _ (v : Variant) (terms : List Term) (order image : List ℕ) (refines : (k : ℕ) → Refines v terms image k) where
-  ran : (k : ℕ) (q : Pipe) (rs : List Rec) → Goes (started v terms order image) k q rs → run.PipeRun v terms image k (machine q rs)
+  ran : (k : ℕ) (q : PipeMachine) (rs : List Rec) → CallsFor (started v terms order image) k q rs → run.PipeRun v terms image k (machine q rs)
   ran k q rs goes = pipe_run v terms image k (machine q rs) (driven v terms order image k q rs goes).goes
 
   one_by : (xs : List Rec) (o : Option Rec) (one : Rec) → xs ++ one ∷ [] ≡ xs ++ option_to_list o → o ≡ Some one
@@ -45,7 +45,7 @@ module _ (v : Variant) (terms : List Term) (order image : List ℕ) (refines : (
       is ∙ (ap (records v image) count ∙ records_from-last v (start image) d.before) in
       f.differs (f.wanted ∙ one_by (records v image d.before) (retired v (run_of v image d.before)) d.retired all)
 
-  same_machine : (steps cycles : ℕ) (q : Pipe) → IsAlike v (started v terms order image) (start image) cycles steps q → is_aok q.end ≡ false → StopsAs (machine q (records v image steps)) (run_of v image steps)
+  same_machine : (steps cycles : ℕ) (q : PipeMachine) → IsAlike v (started v terms order image) (start image) cycles steps q → is_aok q.end ≡ false → StopsAs (machine q (records v image steps)) (run_of v image steps)
   same_machine steps cycles q a off =
       let here : run.PipeRun v terms image cycles (machine q (records v image steps)) = ran cycles q (records v image steps) a.goes in
       subst (λ (k : ℕ). StopsAs (machine q (records v image steps)) (run_of v image k)) a.count

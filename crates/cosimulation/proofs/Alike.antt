@@ -3,9 +3,9 @@ use Rattle.std.proofs.Common.{◌≡◌, ℕ, zero, suc, ◌+◌, ◌<◌, ◌�
 use Rattle.std.proofs.lemmas.List.{append-nil}
 use Rattle.std.specs.Option.{option_to_list}
 use Rattle.pipe_path.specs.Calls.{record_in}
-use Rattle.pipe_path.specs.Pipe.{Cycle, Pipe, end_of}
+use Rattle.pipe_path.specs.Pipe.{IsPipeCall, PipeMachine, end_of}
 use Rattle.pipe_path.specs.declared.pipe.Cycled.{Cycled}
-use Rattle.retire_trace.specs.Drive.{Goes}
+use Rattle.retire_trace.specs.Drive.{CallsFor}
 use Rattle.y86_base.specs.declared.parts.Variant.{Variant}
 use Rattle.y86_isa.specs.Machine.{is_aok}
 use Rattle.y86_isa.specs.Run.{records_from, run_from}
@@ -19,7 +19,7 @@ use Rattle.cosimulation.specs.declared.lockstep.Compared.TheVariants.{Same, Open
 
 -- ---- no step and one step of the run by instructions
 
-pub go_none : (v : Variant) (p : Pipe) (m : Machine) (q : Pipe) (r : Cycled) → Cycle p r q → record_in r ≡ None → GoBoth v p m q m 0
+pub go_none : (v : Variant) (p : PipeMachine) (m : Machine) (q : PipeMachine) (r : Cycled) → IsPipeCall p r q → record_in r ≡ None → GoBoth v p m q m 0
 go_none v p m q r cycle none = record {
   answer = r;
   cycle = cycle;
@@ -35,7 +35,7 @@ one_record v m one is =
     records_from-last v m 0 ∙ (ap (λ xs. xs ++ option_to_list (retired v (run_from v m 0))) (records_from-none v m)
     ∙ (ap (λ x. option_to_list (retired v x)) none ∙ ap option_to_list is))
 
-pub go_one : (v : Variant) (p : Pipe) (m : Machine) (q : Pipe) (n : Machine) (r : Cycled) (one : Rec) (other : Option Rec) → Cycle p r q → record_in r ≡ Some one →
+pub go_one : (v : Variant) (p : PipeMachine) (m : Machine) (q : PipeMachine) (n : Machine) (r : Cycled) (one : Rec) (other : Option Rec) → IsPipeCall p r q → record_in r ≡ Some one →
     other ≡ retired v m → other ≡ Some one → n ≡ advance v m → GoBoth v p m q n 1
 go_one v p m q n r one other cycle some is same after =
     let rec : records_from v m 1 ≡ one ∷ [] = one_record v m one (sym is ∙ same) in
@@ -68,26 +68,26 @@ machine_more v m steps (suc zero) few =
     run_from-last v m steps ∙ sym (run_from-last v (run_from v m steps) 0 ∙ ap (advance v) (run_from-none v (run_from v m steps)))
 machine_more v m steps (suc (suc count)) few = absurd (omega (arith, few))
 
-goes_more : (p : Pipe) (k : ℕ) (q z : Pipe) (r : Cycled) (before all : List Rec) → Goes p k q before → is_aok q.end ≡ true → Cycle q r z → all ≡ before ++ option_to_list (record_in r) →
-    Goes p (k + 1) z all
+goes_more : (p : PipeMachine) (k : ℕ) (q z : PipeMachine) (r : Cycled) (before all : List Rec) → CallsFor p k q before → is_aok q.end ≡ true → IsPipeCall q r z → all ≡ before ++ option_to_list (record_in r) →
+    CallsFor p (k + 1) z all
 goes_more p k q z r before all goes going cycle more =
-    let here : Goes p (suc k) z all = (q, before, r, goes, going, cycle, more) in
-    subst (λ n. Goes p n z all) (sym (add-one k)) here
+    let here : CallsFor p (suc k) z all = (q, before, r, goes, going, cycle, more) in
+    subst (λ n. CallsFor p n z all) (sym (add-one k)) here
 
 -- both machines so far
-pub record SoFar (v : Variant) (p : Pipe) (m : Machine) (k steps : ℕ) (q : Pipe) (n : Machine) : Type 0 where
+pub record SoFar (v : Variant) (p : PipeMachine) (m : Machine) (k steps : ℕ) (q : PipeMachine) (n : Machine) : Type 0 where
   pub alike : IsAlike v p m k steps q
   pub machine : n ≡ run_from v m steps
   pub few : steps ≤ k
 
-pub none_so_far : (v : Variant) (p : Pipe) (m : Machine) → SoFar v p m 0 0 p m
+pub none_so_far : (v : Variant) (p : PipeMachine) (m : Machine) → SoFar v p m 0 0 p m
 none_so_far v p m = record {
   alike = record { goes = (refl, records_from-none v m); count = ap length (records_from-none v m) };
   machine = sym (run_from-none v m);
   few = omega arith;
 }
 
-pub more_so_far : (v : Variant) (p : Pipe) (m : Machine) (k steps : ℕ) (q z : Pipe) (n o : Machine) (count : ℕ) → SoFar v p m k steps q n → is_aok q.end ≡ true → GoBoth v q n z o count →
+pub more_so_far : (v : Variant) (p : PipeMachine) (m : Machine) (k steps : ℕ) (q z : PipeMachine) (n o : Machine) (count : ℕ) → SoFar v p m k steps q n → is_aok q.end ≡ true → GoBoth v q n z o count →
     SoFar v p m (k + 1) (steps + count) z o
 more_so_far v p m k steps q z n o count s going g =
     let more = records_more v m steps count g.few in
@@ -103,7 +103,7 @@ more_so_far v p m k steps q z n o count s going g =
 
 -- ---- the outcomes
 
-pub first_different : (v : Variant) (p : Pipe) (m : Machine) (k steps limit : ℕ) (q z : Pipe) (n : Machine) (one : Rec) (other : Option Rec) → SoFar v p m k steps q n → is_aok q.end ≡ true → k < limit →
+pub first_different : (v : Variant) (p : PipeMachine) (m : Machine) (k steps limit : ℕ) (q z : PipeMachine) (n : Machine) (one : Rec) (other : Option Rec) → SoFar v p m k steps q n → is_aok q.end ≡ true → k < limit →
     GoApart v q n z one other → IsCompared v p m limit (Record (record { before = steps; cycle = k + 1; retired = one; wanted = other }))
 first_different v p m k steps limit q z n one other s going lt g = (
   omega (arith, lt),
@@ -116,7 +116,7 @@ first_different v p m k steps limit q z n one other s going lt g = (
   },
 )
 
-pub ends : (v : Variant) (p : Pipe) (m : Machine) (k steps limit : ℕ) (q : Pipe) (n : Machine) (c : Compared) → SoFar v p m k steps q n → k ≤ limit → is_aok q.end ≡ false →
+pub ends : (v : Variant) (p : PipeMachine) (m : Machine) (k steps limit : ℕ) (q : PipeMachine) (n : Machine) (c : Compared) → SoFar v p m k steps q n → k ≤ limit → is_aok q.end ≡ false →
     EndsAs (end_of q) n steps k c → IsCompared v p m limit c
 ends v p m k steps limit q n (Same a b) s le off (e, f, same) =
     (q, rw (e, f) s.alike, rw f le, off, rw e (rw s.machine at same))

@@ -2,9 +2,9 @@
 use Rattle.std.specs.Prelude.{◌≡◌, ◌≢◌, ℕ, ◌≤◌, true, false, [], ◌∷◌, ◌++◌, length, Option, Some}
 use Rattle.std.specs.Option.{option_to_list}
 use Rattle.pipe_path.specs.Calls.{record_in}
-use Rattle.pipe_path.specs.Pipe.{Cycle, Pipe, end_of}
+use Rattle.pipe_path.specs.Pipe.{IsPipeCall, PipeMachine, end_of}
 use Rattle.pipe_path.specs.declared.pipe.Cycled.{Cycled}
-use Rattle.retire_trace.specs.Drive.{Goes}
+use Rattle.retire_trace.specs.Drive.{CallsFor}
 use Rattle.y86_base.specs.declared.parts.Variant.{Variant}
 use Rattle.y86_isa.specs.Machine.{is_aok}
 use Rattle.y86_isa.specs.Run.{records_from, run_from}
@@ -18,43 +18,43 @@ use Rattle.cosimulation.specs.declared.lockstep.RecordDiffers.{RecordDiffers}
 
 -- q is p after so many cycles, before each of which it had not ended. What retired in them are the first records of the run of m by
 -- instructions, so many, and no other.
-pub record IsAlike (v : Variant) (p : Pipe) (m : Machine) (cycles steps : ℕ) (q : Pipe) : Type 0 where
-  pub goes : Goes p cycles q (records_from v m steps)
+pub record IsAlike (v : Variant) (p : PipeMachine) (m : Machine) (cycles steps : ℕ) (q : PipeMachine) : Type 0 where
+  pub goes : CallsFor p cycles q (records_from v m steps)
   pub count : length (records_from v m steps) ≡ steps
 
 -- The first record that differs: the records before it are alike, it retired in this cycle, and the run by instructions has another in
 -- its place, or none.
-pub record IsFirstDifferent (v : Variant) (p : Pipe) (m : Machine) (d : RecordDiffers) : Type 0 where
-  pub after : Pipe
-  pub goes : Goes p d.cycle after (records_from v m d.before ++ d.retired ∷ [])
+pub record IsFirstDifferent (v : Variant) (p : PipeMachine) (m : Machine) (d : RecordDiffers) : Type 0 where
+  pub after : PipeMachine
+  pub goes : CallsFor p d.cycle after (records_from v m d.before ++ d.retired ∷ [])
   pub count : length (records_from v m d.before) ≡ d.before
   pub wanted : d.wanted ≡ retired v (run_from v m d.before)
   pub differs : d.wanted ≢ Some d.retired
 
 -- what a comparison of at most so many cycles comes to
-abbrev pub IsCompared : Variant → Pipe → Machine → ℕ → Compared → Type 0
+abbrev pub IsCompared : Variant → PipeMachine → Machine → ℕ → Compared → Type 0
 IsCompared v p m limit (Same steps cycles) =
-    (q : Pipe) × IsAlike v p m cycles steps q × (cycles ≤ limit) × (is_aok q.end ≡ false) × SameState (end_of q) (run_from v m steps)
-IsCompared v p m limit (Open steps) = (q : Pipe) × IsAlike v p m limit steps q × (is_aok q.end ≡ true)
+    (q : PipeMachine) × IsAlike v p m cycles steps q × (cycles ≤ limit) × (is_aok q.end ≡ false) × SameState (end_of q) (run_from v m steps)
+IsCompared v p m limit (Open steps) = (q : PipeMachine) × IsAlike v p m limit steps q × (is_aok q.end ≡ true)
 IsCompared v p m limit (Record d) = (d.cycle ≤ limit) × IsFirstDifferent v p m d
 IsCompared v p m limit (State steps cycles part) =
-    (q : Pipe) × IsAlike v p m cycles steps q × (cycles ≤ limit) × (is_aok q.end ≡ false) × DiffersIn (end_of q) (run_from v m steps) part
+    (q : PipeMachine) × IsAlike v p m cycles steps q × (cycles ≤ limit) × (is_aok q.end ≡ false) × DiffersIn (end_of q) (run_from v m steps) part
 
 -- ---- one cycle
 
 -- one cycle from p to q, and with the record that retired, if any, one step from m to n
-pub record GoBoth (v : Variant) (p : Pipe) (m : Machine) (q : Pipe) (n : Machine) (count : ℕ) : Type 0 where
+pub record GoBoth (v : Variant) (p : PipeMachine) (m : Machine) (q : PipeMachine) (n : Machine) (count : ℕ) : Type 0 where
   pub answer : Cycled
-  pub cycle : Cycle p answer q
+  pub cycle : IsPipeCall p answer q
   pub records : option_to_list (record_in answer) ≡ records_from v m count
   pub counted : length (records_from v m count) ≡ count
   pub few : count ≤ 1
   pub machine : n ≡ run_from v m count
 
 -- one cycle from p to q, whose record isn't that of the next instruction
-pub record GoApart (v : Variant) (p : Pipe) (m : Machine) (q : Pipe) (one : Rec) (other : Option Rec) : Type 0 where
+pub record GoApart (v : Variant) (p : PipeMachine) (m : Machine) (q : PipeMachine) (one : Rec) (other : Option Rec) : Type 0 where
   pub answer : Cycled
-  pub cycle : Cycle p answer q
+  pub cycle : IsPipeCall p answer q
   pub retires : record_in answer ≡ Some one
   pub wanted : other ≡ retired v m
   pub differs : other ≢ Some one

@@ -9,10 +9,10 @@ ghost use Rattle.y86_isa.specs.Machine.{start};
 
 use crate::records::is_record;
 use crate::states::{Part, difference};
+use dp_machines::is_aok_stat;
 use dp_signals::constant_words;
 use hcl_compile::compile;
 use hcl_types::{Design, Order, SignalEval};
-use machine_calls::is_going;
 use pipe_path::{Cycled, Pipe};
 use std::alloc::Global;
 use y86_base::{Image, Memory, Variant};
@@ -93,7 +93,7 @@ fn run_both<C: SignalEval>(v: Variant, m: &mut Machine, p: &mut Pipe<C>, limit: 
 {
     let mut steps = 0;
     for k in 0..limit {
-        if !is_going(p.status()) {
+        if !is_aok_stat(p.status()) {
             return ended(m, p, steps, k);
         }
         match go_both(v, m, p) {
@@ -108,7 +108,7 @@ fn run_both<C: SignalEval>(v: Variant, m: &mut Machine, p: &mut Pipe<C>, limit: 
             }
         }
     }
-    if is_going(p.status()) {
+    if is_aok_stat(p.status()) {
         return Compared::Open(steps);
     }
     ended(m, p, steps, limit)

@@ -7,7 +7,7 @@ use Rattle.hcl_types.specs.Lists.{IsApart, IsIn, each}
 use Rattle.ctl_atoms.specs.declared.leaf.Leaf.{Leaf}
 use Rattle.ctl_atoms.specs.declared.leaf.Atom.{Atom}
 use Rattle.ctl_atoms.specs.Leaves.{atom_eq, has_atom, is_listed}
-use Rattle.ctl_atoms.specs.Plans.{all_ask, plan}
+use Rattle.ctl_atoms.specs.TermAtoms.{atoms_of_all, term_atoms}
 use Rattle.ctl_atoms.specs.Atoms.{added, atoms_of, with_atom}
 use Rattle.ctl_atoms.proofs.Added.{added_lists, atom_eq_self}
 
@@ -18,16 +18,16 @@ each_split p (x ∷ xs) ys h =
     let rest = each_split p xs ys here.1 in
     (rw (here.0, rest.0) refl, rest.1)
 
-all_listed : (atoms : List Atom) (leaves : ℕ → List Leaf) (terms : List Term) → each (is_listed atoms) (all_ask (map (plan leaves) terms)) ≡ true →
-    AllByRecursion (λ t. IsTrue (each (is_listed atoms) (plan leaves t).asks)) terms
+all_listed : (atoms : List Atom) (leaves : ℕ → List Leaf) (terms : List Term) → each (is_listed atoms) (atoms_of_all (map (term_atoms leaves) terms)) ≡ true →
+    AllByRecursion (λ t. IsTrue (each (is_listed atoms) (term_atoms leaves t).asks)) terms
 all_listed atoms leaves [] h = tt
 all_listed atoms leaves (t ∷ ts) h =
-    let parts = each_split (is_listed atoms) (plan leaves t).asks (all_ask (map (plan leaves) ts)) h in
+    let parts = each_split (is_listed atoms) (term_atoms leaves t).asks (atoms_of_all (map (term_atoms leaves) ts)) h in
     (parts.0, all_listed atoms leaves ts parts.1)
 
 -- each atom that a definition asks is in the list
-pub listed : (leaves : ℕ → List Leaf) (terms : List Term) → AllByRecursion (λ t. IsTrue (each (is_listed (atoms_of leaves terms)) (plan leaves t).asks)) terms
-listed leaves terms = all_listed (atoms_of leaves terms) leaves terms (added_lists [] (all_ask (map (plan leaves) terms)))
+pub listed : (leaves : ℕ → List Leaf) (terms : List Term) → AllByRecursion (λ t. IsTrue (each (is_listed (atoms_of leaves terms)) (term_atoms leaves t).asks)) terms
+listed leaves terms = all_listed (atoms_of leaves terms) leaves terms (added_lists [] (atoms_of_all (map (term_atoms leaves) terms)))
 
 -- what the test doesn't find isn't there
 not_in : (xs : List Atom) (a : Atom) → has_atom xs a ≡ false → IsIn a xs → ⊥
@@ -63,4 +63,4 @@ added_apart out (x ∷ xs) h = added_apart (with_atom out x) xs (with_apart out 
 
 -- no atom stands in the list twice
 pub apart : (leaves : ℕ → List Leaf) (terms : List Term) → IsApart (atoms_of leaves terms)
-apart leaves terms = added_apart [] (all_ask (map (plan leaves) terms)) tt
+apart leaves terms = added_apart [] (atoms_of_all (map (term_atoms leaves) terms)) tt

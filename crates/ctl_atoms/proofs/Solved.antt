@@ -10,14 +10,14 @@ use Rattle.hcl_types.specs.declared.table.Role.TheVariants as role
 use Rattle.hcl_types.specs.declared.table.Row.{Row}
 use Rattle.hcl_types.specs.Terms.{names}
 use Rattle.hcl_types.specs.Tables.{IsOrderOf, defined, is_defined, is_given, known, needs, needs_from, term_at}
-use Rattle.hcl_types.specs.Equations.{Fixes, IsLocal, IsStore, filled, is_known, needs_of}
+use Rattle.hcl_types.specs.Equations.{IsSolution, IsLocal, IsStore, evaluated_along, is_known, needs_of}
 use Rattle.hcl_types.proofs.Each.{each_more}
 use Rattle.hcl_types.proofs.Orders.{solved, unique}
 use Rattle.hcl_types.proofs.Stores.{changed, function_store}
 use Rattle.ctl_atoms.specs.declared.leaf.Atom.{Atom}
 use Rattle.ctl_atoms.specs.declared.leaf.Leaf.{Leaf}
 use Rattle.ctl_atoms.specs.Atoms.{AreAtoms}
-use Rattle.ctl_atoms.specs.Plans.{Plan, plan}
+use Rattle.ctl_atoms.specs.TermAtoms.{TermAtoms, term_atoms}
 use Rattle.ctl_atoms.specs.Rows.{leaf_rule, leaves_at, leaves_by_role, leaves_of_row, row_term}
 use Rattle.ctl_atoms.specs.Mixing.{definition_mixes, mixes}
 use Rattle.ctl_atoms.proofs.Local.{same_plan}
@@ -62,15 +62,15 @@ module _ (rows : List Row) (terms : List Term) where
   rule_local n f g same = by (slice_get rows n) refl
     where
       by_role : (row : Row) → slice_get rows n ≡ Some row → (r : Role) → row.role ≡ r →
-          leaves_by_role row.class n row.role (plan f (row_term rows terms n)).leaves ≡ leaves_by_role row.class n row.role (plan g (row_term rows terms n)).leaves
+          leaves_by_role row.class n row.role (term_atoms f (row_term rows terms n)).leaves ≡ leaves_by_role row.class n row.role (term_atoms g (row_term rows terms n)).leaves
       by_role row e (role.Constant c) q = rw q refl
       by_role row e role.State q = rw q refl
       by_role row e (role.Hardware ids) q = rw q refl
       by_role row e role.Defined q =
           let own = subst (AllByRecursion (λ m. f m ≡ g m)) (needs_defined rows terms n row e (rw q refl)) same in
-          ap (λ (p : Plan). leaves_by_role row.class n row.role p.leaves) (same_plan f g (row_term rows terms n) own)
+          ap (λ (p : TermAtoms). leaves_by_role row.class n row.role p.leaves) (same_plan f g (row_term rows terms n) own)
 
-      by : (o : Option Row) → slice_get rows n ≡ o → leaves_of_row o n (plan f (row_term rows terms n)).leaves ≡ leaves_of_row o n (plan g (row_term rows terms n)).leaves
+      by : (o : Option Row) → slice_get rows n ≡ o → leaves_of_row o n (term_atoms f (row_term rows terms n)).leaves ≡ leaves_of_row o n (term_atoms g (row_term rows terms n)).leaves
       by None e = refl
       by (Some row) e = by_role row e row.role refl
 
@@ -79,33 +79,33 @@ module _ (rows : List Row) (terms : List Term) where
   rule_known n k f = by (slice_get rows n) refl
     where
       by_role : (row : Row) → (r : Role) → row.role ≡ r → is_given row.role ≡ true →
-          leaves_by_role row.class n row.role [] ≡ leaves_by_role row.class n row.role (plan f (row_term rows terms n)).leaves
+          leaves_by_role row.class n row.role [] ≡ leaves_by_role row.class n row.role (term_atoms f (row_term rows terms n)).leaves
       by_role row (role.Constant c) q h = rw q refl
       by_role row role.State q h = rw q refl
       by_role row (role.Hardware ids) q h = rw q refl
       by_role row role.Defined q h = let no : false ≡ true = subst (λ r. is_given r ≡ true) q h in absurd (grind (arith, no))
 
-      by : (o : Option Row) → slice_get rows n ≡ o → leaves_of_row o n [] ≡ leaves_of_row o n (plan f (row_term rows terms n)).leaves
+      by : (o : Option Row) → slice_get rows n ≡ o → leaves_of_row o n [] ≡ leaves_of_row o n (term_atoms f (row_term rows terms n)).leaves
       by None e = refl
       by (Some row) e = by_role row row.role refl (sym (known_row rows n row e) ∙ k)
 
   -- some leaves solve the equations
-  pub leaves_exist : (ids : List ℕ) → IsOrderOf rows terms ids → (leaves : ℕ → List Leaf) × Fixes (leaf_rule rows terms) leaves
+  pub leaves_exist : (ids : List ℕ) → IsOrderOf rows terms ids → (leaves : ℕ → List Leaf) × IsSolution (leaf_rule rows terms) leaves
   leaves_exist ids o =
       let start : ℕ → List Leaf = λ n. leaves_of_row (slice_get rows n) n [] in (
-        filled (λ f. f) changed (leaf_rule rows terms) start ids,
+        evaluated_along (λ f. f) changed (leaf_rule rows terms) start ids,
         solved (λ f. f) changed (λ f n. Unit {0}) function_store (leaf_rule rows terms) (needs rows terms) (known rows) rule_local start ids o
             (each_more {P = λ n. is_known (known rows) n ≡ false} {Q = λ n. Unit {0}} (λ n h. tt) ids o.unknown) rule_known,
       )
 
   -- and only one does
-  pub leaves_one : (ids : List ℕ) → IsOrderOf rows terms ids → (f g : ℕ → List Leaf) → Fixes (leaf_rule rows terms) f → Fixes (leaf_rule rows terms) g → f ≡ g
+  pub leaves_one : (ids : List ℕ) → IsOrderOf rows terms ids → (f g : ℕ → List Leaf) → IsSolution (leaf_rule rows terms) f → IsSolution (leaf_rule rows terms) g → f ≡ g
   leaves_one ids o f g p q = λ i n. unique (needs rows terms) (known rows) ids o (leaf_rule rows terms) rule_local
       (λ n k x y. sym (rule_known n k x) ∙ rule_known n k y) f g p q n i
 
   -- lists that are filled along the order from those of the given rows solve them
   pub lists_solve : (ids : List ℕ) → IsOrderOf rows terms ids → (lists : List (List Leaf)) → length lists ≡ length rows →
-      ((n : ℕ) → leaves_at lists n ≡ leaves_of_row (slice_get rows n) n []) → Fixes (leaf_rule rows terms) (leaves_at (filled leaves_at slice_set (leaf_rule rows terms) lists ids))
+      ((n : ℕ) → leaves_at lists n ≡ leaves_of_row (slice_get rows n) n []) → IsSolution (leaf_rule rows terms) (leaves_at (evaluated_along leaves_at slice_set (leaf_rule rows terms) lists ids))
   lists_solve ids o lists whole given =
       solved leaves_at slice_set (λ xs n. n < length xs) store (leaf_rule rows terms) (needs rows terms) (known rows) rule_local lists ids o
       (each_more {P = λ n. is_known (known rows) n ≡ false} {Q = λ n. n < length lists} (λ n h. subst (λ z. n < z) (sym whole) (unknown_inside rows n h)) ids o.unknown)
@@ -125,10 +125,10 @@ atoms_one rows terms ids xs ys o p q = let l = leaves_exist rows terms ids o in 
 -- one more row of the order
 pub one_filled : (rows : List Row) (terms : List Term) (lists : List (List Leaf)) (ids items : List ℕ) (i : ℕ) (own : List Leaf) → items ≡ ids → i < length ids →
     own ≡ leaf_rule rows terms (get_or items i 0) (leaves_at lists) →
-    filled leaves_at slice_set (leaf_rule rows terms) (slice_set lists (get_or items i 0) own) (drop (i + 1) ids) ≡ filled leaves_at slice_set (leaf_rule rows terms) lists (drop i ids)
+    evaluated_along leaves_at slice_set (leaf_rule rows terms) (slice_set lists (get_or items i 0) own) (drop (i + 1) ids) ≡ evaluated_along leaves_at slice_set (leaf_rule rows terms) lists (drop i ids)
 one_filled rows terms lists ids items i own same inside here =
-    ap (λ (xs : List Leaf). filled leaves_at slice_set (leaf_rule rows terms) (slice_set lists (get_or items i 0) xs) (drop (i + 1) ids)) here
-    ∙ ap (λ (ns : List ℕ). filled leaves_at slice_set (leaf_rule rows terms) lists ns) (ap (λ (ns : List ℕ). get_or ns i 0 ∷ drop (i + 1) ids) same ∙ sym (drop_more ids i 0 inside))
+    ap (λ (xs : List Leaf). evaluated_along leaves_at slice_set (leaf_rule rows terms) (slice_set lists (get_or items i 0) xs) (drop (i + 1) ids)) here
+    ∙ ap (λ (ns : List ℕ). evaluated_along leaves_at slice_set (leaf_rule rows terms) lists ns) (ap (λ (ns : List ℕ). get_or ns i 0 ∷ drop (i + 1) ids) same ∙ sym (drop_more ids i 0 inside))
 
 -- a fact about each place of a list, and about what lies past it
 everywhere : (P : ℕ → Type 0) (end : ℕ) → ((n : ℕ) → n < end → P n) → ((n : ℕ) → end ≤ n → P n) → (n : ℕ) → P n

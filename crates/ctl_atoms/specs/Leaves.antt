@@ -2,7 +2,7 @@
 use Rattle.std.specs.Prelude.{ℕ, ◌+◌, Bool, true, false, not, ◌&&◌, ◌||◌, if◌then◌else◌, List, [], ◌∷◌, ◌≡◌, nat_eq, nat_lt, Option, Some, None, slice_get, get_or}
 use Rattle.hcl_read.specs.declared.tree.CmpOp.{CmpOp}
 use Rattle.hcl_read.specs.declared.tree.CmpOp.TheVariants as op
-use Rattle.hcl_types.specs.Terms.{Meaning, signed_below}
+use Rattle.hcl_types.specs.Terms.{Interpretation, signed_below}
 use Rattle.ctl_atoms.specs.declared.leaf.Leaf.{Leaf}
 use Rattle.ctl_atoms.specs.declared.leaf.Leaf.TheVariants.{Name, Number}
 use Rattle.ctl_atoms.specs.declared.leaf.AtomKind.{AtomKind}
@@ -29,18 +29,18 @@ abbrev pub Assignment : Type 0
 Assignment = AtomKind → Leaf → Leaf → Bool
 
 -- the atom of `x < y`: none of two constants, and none of a leaf with itself
-abbrev pub asked_lt : Leaf → Leaf → Option Atom
-asked_lt (Number x) (Number y) = None
-asked_lt (Number x) (Name y) = Some (record { kind = kind.Lt; left = Number x; right = Name y })
-asked_lt (Name x) (Number y) = Some (record { kind = kind.Lt; left = Name x; right = Number y })
-asked_lt (Name x) (Name y) = if nat_eq x y then None else Some (record { kind = kind.Lt; left = Name x; right = Name y })
+abbrev pub open_lt : Leaf → Leaf → Option Atom
+open_lt (Number x) (Number y) = None
+open_lt (Number x) (Name y) = Some (record { kind = kind.Lt; left = Number x; right = Name y })
+open_lt (Name x) (Number y) = Some (record { kind = kind.Lt; left = Name x; right = Number y })
+open_lt (Name x) (Name y) = if nat_eq x y then None else Some (record { kind = kind.Lt; left = Name x; right = Name y })
 
 -- the atom of `x == y`, the earlier side first: names in table order before constants
-abbrev pub asked_eq : Leaf → Leaf → Option Atom
-asked_eq (Number x) (Number y) = None
-asked_eq (Number x) (Name y) = Some (record { kind = kind.Eq; left = Name y; right = Number x })
-asked_eq (Name x) (Number y) = Some (record { kind = kind.Eq; left = Name x; right = Number y })
-asked_eq (Name x) (Name y) =
+abbrev pub open_eq : Leaf → Leaf → Option Atom
+open_eq (Number x) (Number y) = None
+open_eq (Number x) (Name y) = Some (record { kind = kind.Eq; left = Name y; right = Number x })
+open_eq (Name x) (Number y) = Some (record { kind = kind.Eq; left = Name x; right = Number y })
+open_eq (Name x) (Name y) =
     if nat_eq x y then None
     else (if nat_lt x y then Some (record { kind = kind.Eq; left = Name x; right = Name y })
     else Some (record { kind = kind.Eq; left = Name y; right = Name x }))
@@ -57,10 +57,10 @@ answered α None b = b
 answered α (Some a) b = α a.kind a.left a.right
 
 abbrev pub leaf_lt : Assignment → Leaf → Leaf → Bool
-leaf_lt α x y = answered α (asked_lt x y) (decided_lt x y)
+leaf_lt α x y = answered α (open_lt x y) (decided_lt x y)
 
 abbrev pub leaf_same : Assignment → Leaf → Leaf → Bool
-leaf_same α x y = answered α (asked_eq x y) (leaf_eq x y)
+leaf_same α x y = answered α (open_eq x y) (leaf_eq x y)
 
 -- each operator by `<` and `==`: `x > y` is `y < x`, `x <= y` is not `y < x`
 abbrev pub by_op : {A B : Type 0} → (A → A → B) → (A → A → B) → (B → B) → CmpOp → A → A → B
@@ -72,8 +72,8 @@ by_op lt eq neg op.Gt x y = lt y x
 by_op lt eq neg op.Ge x y = neg (lt x y)
 
 -- the atom that a comparison asks, and its truth
-abbrev pub asked : CmpOp → Leaf → Leaf → Option Atom
-asked = by_op asked_lt asked_eq (λ a. a)
+abbrev pub open_atom : CmpOp → Leaf → Leaf → Option Atom
+open_atom = by_op open_lt open_eq (λ a. a)
 
 abbrev pub leaf_cmp : Assignment → CmpOp → Leaf → Leaf → Bool
 leaf_cmp α = by_op (leaf_lt α) (leaf_same α) not
@@ -83,8 +83,8 @@ abbrev pub leaf_holds : Assignment → Leaf → Bool
 leaf_holds α x = not (leaf_same α x (Number 0))
 
 -- terms as the leaf or constant that they pick, comparisons by atoms
-abbrev pub picks : Assignment → Meaning Leaf
-picks α = record {
+abbrev pub leaf_meaning : Assignment → Interpretation Leaf
+leaf_meaning α = record {
   num = Number;
   bool = λ b. Number (if b then 1 else 0);
   holds = leaf_holds α;

@@ -1,5 +1,5 @@
 pub mod Leaves
-pub mod Plans
+pub mod TermAtoms
 pub mod Rows
 pub mod Mixing
 pub mod Atoms

@@ -9,7 +9,7 @@ use Rattle.hcl_types.specs.declared.table.Class.TheVariants as class
 use Rattle.hcl_types.specs.declared.table.Row.{Row}
 use Rattle.hcl_types.specs.Tables.{is_defined}
 use Rattle.ctl_atoms.specs.Rows.{row_term}
-use Rattle.ctl_atoms.specs.declared.mixing.Sort.{Sort}
+use Rattle.ctl_atoms.specs.declared.mixing.InferredSort.{InferredSort}
 
 abbrev pub is_code : Class → Bool
 is_code class.Number = false
@@ -24,37 +24,37 @@ is_value class.Value = true
 is_value class.Truth = false
 
 -- a truth is neither
-abbrev pub truth_sort : Bool → Sort
+abbrev pub truth_sort : Bool → InferredSort
 truth_sort mixed = record { code = false; value = false; mixed = mixed }
 
-abbrev pub row_sort : Option Row → Sort
+abbrev pub row_sort : Option Row → InferredSort
 row_sort None = truth_sort false
 row_sort (Some row) = record { code = is_code row.class; value = is_value row.class; mixed = false }
 
 -- of some terms: the value of one of them can be a Code name's, that of one a Value name's, one of them mixes the two
-abbrev pub either : Sort → Sort → Sort
+abbrev pub either : InferredSort → InferredSort → InferredSort
 either s r = record { code = s.code || r.code; value = s.value || r.value; mixed = s.mixed || r.mixed }
 
-abbrev pub any : List Sort → Sort
+abbrev pub any : List InferredSort → InferredSort
 any [] = truth_sort false
 any (s ∷ ss) = either s (any ss)
 
 -- they mix: one of them does, or they join the one with the other
-abbrev pub joins : Sort → Bool
+abbrev pub joins : InferredSort → Bool
 joins s = s.mixed || (s.code && s.value)
 
-abbrev pub guards : List (Sort × Sort) → List Sort
-guards bs = map (λ (b : Sort × Sort). b.0) bs
+abbrev pub guards : List (InferredSort × InferredSort) → List InferredSort
+guards bs = map (λ (b : InferredSort × InferredSort). b.0) bs
 
-abbrev pub values : List (Sort × Sort) → List Sort
-values bs = map (λ (b : Sort × Sort). b.1) bs
+abbrev pub values : List (InferredSort × InferredSort) → List InferredSort
+values bs = map (λ (b : InferredSort × InferredSort). b.1) bs
 
 -- a case list joins the values of all its branches
-abbrev pub chosen_sort : Bool → Sort → Sort
+abbrev pub chosen_sort : Bool → InferredSort → InferredSort
 chosen_sort mixed s = record { code = s.code; value = s.value; mixed = mixed || joins s }
 
 -- a comparison joins its two sides, an `in` its left side and all members
-abbrev pub sort_layer : List Row → Term-F Sort (Sort × Sort) → Sort
+abbrev pub sort_layer : List Row → Term-F InferredSort (InferredSort × InferredSort) → InferredSort
 sort_layer rows (Term-F.Num n) = truth_sort false
 sort_layer rows (Term-F.Name id) = row_sort (slice_get rows id)
 sort_layer rows (Term-F.Not s) = truth_sort s.mixed
@@ -64,17 +64,17 @@ sort_layer rows (Term-F.Cmp o s r) = truth_sort (joins (either s r))
 sort_layer rows (Term-F.In s rs) = truth_sort (joins (either s (any rs)))
 sort_layer rows (Term-F.Case bs) = chosen_sort (any (guards bs)).mixed (any (values bs))
 
-abbrev pub sort_pair : TermBranch-F Sort (Sort × Sort) → Sort × Sort
+abbrev pub sort_pair : TermBranch-F InferredSort (InferredSort × InferredSort) → InferredSort × InferredSort
 sort_pair b = (b.guard, b.value)
 
-abbrev pub sort : List Row → Term → Sort
-sort rows = fold-Term Sort (Sort × Sort) (sort_layer rows) sort_pair
+abbrev pub sort : List Row → Term → InferredSort
+sort rows = fold-Term InferredSort (InferredSort × InferredSort) (sort_layer rows) sort_pair
 
-abbrev pub branch_sort : List Row → TermBranch → Sort × Sort
-branch_sort rows = fold-TermBranch Sort (Sort × Sort) (sort_layer rows) sort_pair
+abbrev pub branch_sort : List Row → TermBranch → InferredSort × InferredSort
+branch_sort rows = fold-TermBranch InferredSort (InferredSort × InferredSort) (sort_layer rows) sort_pair
 
 -- a definition mixes the two: its term does, or its value isn't of its name's class
-abbrev pub mixes_as : Class → Sort → Bool
+abbrev pub mixes_as : Class → InferredSort → Bool
 mixes_as class s = (s.mixed || (is_code class && s.value)) || (is_value class && s.code)
 
 abbrev pub definition_mixes : List Row → List Term → Option Row → ℕ → Bool

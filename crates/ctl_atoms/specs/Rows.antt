@@ -9,7 +9,7 @@ use Rattle.hcl_types.specs.declared.table.Row.{Row}
 use Rattle.hcl_types.specs.Tables.{defined, term_at}
 use Rattle.ctl_atoms.specs.declared.leaf.Leaf.{Leaf}
 use Rattle.ctl_atoms.specs.declared.leaf.Leaf.TheVariants.{Name, Number}
-use Rattle.ctl_atoms.specs.Plans.{plan}
+use Rattle.ctl_atoms.specs.TermAtoms.{term_atoms}
 
 -- the term of a defined row: a design has them in table order
 abbrev pub row_term : List Row → List Term → ℕ → Term
@@ -47,7 +47,7 @@ leaves_of_row (Some row) n xs = leaves_by_role row.class n row.role xs
 
 -- the equations of the leaves that each name can pick (to be solved by `Fixes`)
 abbrev pub leaf_rule : List Row → List Term → ℕ → (ℕ → List Leaf) → List Leaf
-leaf_rule rows terms n leaves = leaves_of_row (slice_get rows n) n (plan leaves (row_term rows terms n)).leaves
+leaf_rule rows terms n leaves = leaves_of_row (slice_get rows n) n (term_atoms leaves (row_term rows terms n)).leaves
 
 -- a list of leaves for each name, none past its end
 abbrev pub leaves_at : List (List Leaf) → ℕ → List Leaf

@@ -1,6 +1,6 @@
 //! Atoms: comparisons of words that are left open.
 ghost use Rattle.std.specs.Prelude.{◌≡◌, false, slice_get, MatchOption, Some};
-ghost use Rattle.ctl_atoms.specs.Leaves.{asked, asked_eq, asked_lt, atom_eq, has_atom, kind_eq, leaf_eq};
+ghost use Rattle.ctl_atoms.specs.Leaves.{open_atom, open_eq, open_lt, atom_eq, has_atom, kind_eq, leaf_eq};
 
 use hcl_types::{CmpOp, NameId};
 
@@ -90,7 +90,7 @@ fn asks(kind: AtomKind, left: Leaf, right: Leaf) -> Option<Atom>
 
 /// The atom that `x < y` asks.
 fn ask_lt(x: Leaf, y: Leaf) -> Option<Atom>
-    ensures { result ≡ asked_lt x y }
+    ensures { result ≡ open_lt x y }
 {
     match x {
         Leaf::Number(_) => match y {
@@ -112,7 +112,7 @@ fn ask_lt(x: Leaf, y: Leaf) -> Option<Atom>
 
 /// The atom that `x == y` asks.
 fn ask_eq(x: Leaf, y: Leaf) -> Option<Atom>
-    ensures { result ≡ asked_eq x y }
+    ensures { result ≡ open_eq x y }
 {
     match x {
         Leaf::Number(_) => match y {
@@ -135,8 +135,8 @@ fn ask_eq(x: Leaf, y: Leaf) -> Option<Atom>
 }
 
 /// The atom that a comparison of two leaves asks, where it isn't decided at once.
-pub fn ask(op: CmpOp, x: Leaf, y: Leaf) -> Option<Atom>
-    ensures { result ≡ asked op x y }
+pub fn atom_at(op: CmpOp, x: Leaf, y: Leaf) -> Option<Atom>
+    ensures { result ≡ open_atom op x y }
 {
     match op {
         CmpOp::Eq => ask_eq(x, y),

@@ -1,7 +1,7 @@
 //! The leaves that a term can pick.
 ghost use Rattle.std.specs.Prelude.{◌≡◌, IfOk, List, OnOk, [], map, ℕ};
-ghost use Rattle.ctl_atoms.specs.Plans.{branch_plan, joined, once, plan};
-ghost use Rattle.ctl_atoms.specs.Plans as plans;
+ghost use Rattle.ctl_atoms.specs.TermAtoms.{branch_plan, joined, once, term_atoms};
+ghost use Rattle.ctl_atoms.specs.TermAtoms as plans;
 ghost use Rattle.ctl_atoms.specs.Rows.{leaves_at};
 ghost use Rattle.ctl_atoms.specs.declared.leaf.Leaf.{Leaf};
 
@@ -59,7 +59,7 @@ fn leaves_of_name(alloc: Global, lists: &[Items<Leaf>], id: NameId) -> Result<Ve
 
 /// Whether a term is the number 1.
 pub fn is_one(t: &Term) -> bool
-    ensures { (leaves : ℕ → List Leaf) → result ≡ (plan leaves t.now).one }
+    ensures { (leaves : ℕ → List Leaf) → result ≡ (term_atoms leaves t.now).one }
 {
     match t {
         Term::Num(n) => *n == 1,
@@ -76,7 +76,7 @@ pub fn is_one(t: &Term) -> bool
 /// The leaves that a term can pick, each once, where it comes first. `lists`: those of each name.
 #[cycle(leaves)]
 pub fn term_leaves(alloc: Global, lists: &[Items<Leaf>], t: &Term) -> Result<Vec<Leaf>, AllocError>
-    ensures { IfOk result (λ leaves. leaves.items ≡ (plan (leaves_at lists.now) t.now).leaves) }
+    ensures { IfOk result (λ leaves. leaves.items ≡ (term_atoms (leaves_at lists.now) t.now).leaves) }
 {
     match t {
         Term::Num(n) => {

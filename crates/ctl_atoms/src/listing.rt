@@ -1,15 +1,15 @@
 //! The atoms of a design.
 ghost use Rattle.std.specs.Prelude.{◌≡◌, IfOk, List, MatchResult, ℕ};
-ghost use Rattle.hcl_types.specs.Equations.{Fixes};
+ghost use Rattle.hcl_types.specs.Equations.{IsSolution};
 ghost use Rattle.hcl_types.specs.Tables.{IsBound, IsOrderOf, IsSound};
 ghost use Rattle.ctl_atoms.specs.Atoms.{AreAtoms, IsCtlFault, atoms_of};
 ghost use Rattle.ctl_atoms.specs.Rows.{leaf_rule};
 ghost use Rattle.ctl_atoms.specs.declared.leaf.Leaf.{Leaf};
 
-use crate::asking::put_all_asked;
 use crate::fault::CtlFault;
 use crate::leaf::Atom;
 use crate::mixing::first_mixed;
+use crate::open_atoms::put_open_atoms;
 use crate::rows::leaves_by_name;
 use hcl_types::{Design, Order, Table};
 use std::alloc::{AllocError, Global};
@@ -18,11 +18,11 @@ use std::alloc::{AllocError, Global};
 fn all_atoms(alloc: Global, d: &Design, t: &Table, o: &Order) -> Result<Vec<Atom>, AllocError>
     requires sound { IsSound t.now.rows }
     requires ordered { IsOrderOf t.now.rows d.now.terms o.now.ids }
-    ensures { IfOk result (λ out. (leaves : ℕ → List Leaf) → Fixes (leaf_rule t.now.rows d.now.terms) leaves → out.items ≡ atoms_of leaves d.now.terms) }
+    ensures { IfOk result (λ out. (leaves : ℕ → List Leaf) → IsSolution (leaf_rule t.now.rows d.now.terms) leaves → out.items ≡ atoms_of leaves d.now.terms) }
 {
     let lists = leaves_by_name(alloc, d, t, o)?;
     let mut out = Vec::new(alloc);
-    put_all_asked(alloc, lists.as_slice(), &mut out, d.terms.items())?;
+    put_open_atoms(alloc, lists.as_slice(), &mut out, d.terms.items())?;
     Ok(out)
 }
 

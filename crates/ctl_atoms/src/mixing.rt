@@ -10,7 +10,7 @@ use hcl_types::{Class, NameId, Row, Term, TermBranch, is_defined};
 
 /// What the value of a term can be, and whether the term mixes the two.
 #[derive(Clone, Copy, Debug)]
-pub struct Sort {
+pub struct InferredSort {
     /// It can be a Code name's.
     pub code: bool,
     /// It can be a Value name's.
@@ -19,27 +19,27 @@ pub struct Sort {
     pub mixed: bool,
 }
 
-fn truth_sort(mixed: bool) -> Sort
+fn truth_sort(mixed: bool) -> InferredSort
     ensures { result ≡ mixing.truth_sort mixed }
 {
-    Sort {
+    InferredSort {
         code: false,
         value: false,
         mixed,
     }
 }
 
-fn either(a: Sort, b: Sort) -> Sort
+fn either(a: InferredSort, b: InferredSort) -> InferredSort
     ensures { result ≡ mixing.either a b }
 {
-    Sort {
+    InferredSort {
         code: a.code || b.code,
         value: a.value || b.value,
         mixed: a.mixed || b.mixed,
     }
 }
 
-fn joins(s: Sort) -> bool
+fn joins(s: InferredSort) -> bool
     ensures { result ≡ mixing.joins s }
 {
     s.mixed || (s.code && s.value)
@@ -67,11 +67,11 @@ fn is_value_class(class: Class) -> bool
     }
 }
 
-fn sort_of_name(rows: &[Row], id: NameId) -> Sort
+fn sort_of_name(rows: &[Row], id: NameId) -> InferredSort
     ensures { result ≡ row_sort (slice_get rows.now id) }
 {
     match rows.get(id as usize) {
-        Some(row) => Sort {
+        Some(row) => InferredSort {
             code: is_code_class(row.class),
             value: is_value_class(row.class),
             mixed: false,
@@ -83,7 +83,7 @@ fn sort_of_name(rows: &[Row], id: NameId) -> Sort
 /// What the value of a term can be, and whether the term mixes Code with Value.
 #[cycle(sorting)]
 #[tactic(auto, using(crate::proofs::Sorts::either_assoc, crate::proofs::Sorts::either_none))]
-fn sort_of(rows: &[Row], t: &Term) -> Sort
+fn sort_of(rows: &[Row], t: &Term) -> InferredSort
     ensures { result ≡ sort rows.now t.now }
 {
     match t {
@@ -114,7 +114,7 @@ fn sort_of(rows: &[Row], t: &Term) -> Sort
         Term::Case(all) => {
             let guards = sort_of_guards(rows, all.items());
             let values = sort_of_values(rows, all.items());
-            Sort {
+            InferredSort {
                 code: values.code,
                 value: values.value,
                 mixed: guards.mixed || joins(values),
@@ -125,7 +125,7 @@ fn sort_of(rows: &[Row], t: &Term) -> Sort
 
 #[cycle(sorting)]
 #[tactic(auto, using(crate::proofs::Sorts::either_assoc, crate::proofs::Sorts::either_none))]
-fn sort_of_all(rows: &[Row], all: &[Term]) -> Sort
+fn sort_of_all(rows: &[Row], all: &[Term]) -> InferredSort
     ensures { result ≡ any (map (sort rows.now) all.now) }
 {
     let mut out = truth_sort(false);
@@ -137,7 +137,7 @@ fn sort_of_all(rows: &[Row], all: &[Term]) -> Sort
 
 #[cycle(sorting)]
 #[tactic(auto, using(crate::proofs::Sorts::either_assoc, crate::proofs::Sorts::either_none))]
-fn sort_of_guards(rows: &[Row], all: &[TermBranch]) -> Sort
+fn sort_of_guards(rows: &[Row], all: &[TermBranch]) -> InferredSort
     ensures { result ≡ any (guards (map (branch_sort rows.now) all.now)) }
 {
     let mut out = truth_sort(false);
@@ -149,7 +149,7 @@ fn sort_of_guards(rows: &[Row], all: &[TermBranch]) -> Sort
 
 #[cycle(sorting)]
 #[tactic(auto, using(crate::proofs::Sorts::either_assoc, crate::proofs::Sorts::either_none))]
-fn sort_of_values(rows: &[Row], all: &[TermBranch]) -> Sort
+fn sort_of_values(rows: &[Row], all: &[TermBranch]) -> InferredSort
     ensures { result ≡ any (values (map (branch_sort rows.now) all.now)) }
 {
     let mut out = truth_sort(false);
@@ -160,7 +160,7 @@ fn sort_of_values(rows: &[Row], all: &[TermBranch]) -> Sort
 }
 
 /// What the value of a defined row can be.
-fn sort_of_definition(rows: &[Row], terms: &[Term], id: usize) -> Sort
+fn sort_of_definition(rows: &[Row], terms: &[Term], id: usize) -> InferredSort
     requires { id < length rows.now }
     ensures { result ≡ sort rows.now (row_term rows.now terms.now id) }
 {
@@ -171,7 +171,7 @@ fn sort_of_definition(rows: &[Row], terms: &[Term], id: usize) -> Sort
 }
 
 /// Whether the value of a term with this sort is of another class than its name, or the term mixes the two.
-fn mixes_class(class: Class, s: Sort) -> bool
+fn mixes_class(class: Class, s: InferredSort) -> bool
     ensures { result ≡ mixes_as class s }
 {
     s.mixed || (is_code_class(class) && s.value) || (is_value_class(class) && s.code)

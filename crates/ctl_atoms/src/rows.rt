@@ -1,8 +1,8 @@
 //! The leaves that each name of a table can pick.
 ghost use Rattle.std.specs.Prelude.{◌≡◌, ◌≤◌, ◌<◌, ◌^◌, ◌∷◌, IfOk, [], length, slice_get, take, ℕ};
-ghost use Rattle.hcl_types.specs.Equations.{Fixes};
+ghost use Rattle.hcl_types.specs.Equations.{IsSolution};
 ghost use Rattle.hcl_types.specs.Tables.{IsOrderOf, IsSound, defined};
-ghost use Rattle.ctl_atoms.specs.Plans.{plan};
+ghost use Rattle.ctl_atoms.specs.TermAtoms.{term_atoms};
 ghost use Rattle.ctl_atoms.specs.Rows.{codes, defined_leaves, field_leaves, leaf_rule, leaves_at, leaves_by_role, row_term};
 ghost use Rattle.ctl_atoms.specs.Rows as specs;
 
@@ -104,7 +104,7 @@ fn leaves_of_term(
     id: usize,
 ) -> Result<Vec<Leaf>, AllocError>
     requires { id ≤ length rows.now }
-    ensures { IfOk result (λ out. out.items ≡ (plan (leaves_at lists.now) (row_term rows.now terms.now id)).leaves) }
+    ensures { IfOk result (λ out. out.items ≡ (term_atoms (leaves_at lists.now) (row_term rows.now terms.now id)).leaves) }
 {
     match terms.get(definitions_before(rows, id)) {
         Some(t) => term_leaves(alloc, lists, t),
@@ -160,7 +160,7 @@ pub fn leaves_by_name(
     requires sound { IsSound t.now.rows }
     requires ordered { IsOrderOf t.now.rows d.now.terms o.now.ids }
     ensures whole { IfOk result (λ lists. length lists.items ≡ length t.now.rows) }
-    ensures solved { IfOk result (λ lists. Fixes (leaf_rule t.now.rows d.now.terms) (leaves_at lists.items)) }
+    ensures solved { IfOk result (λ lists. IsSolution (leaf_rule t.now.rows d.now.terms) (leaves_at lists.items)) }
 {
     let rows = t.rows.items();
     let mut lists = given_lists(alloc, rows)?;

@@ -13,7 +13,7 @@ use Rattle.hcl_types.specs.declared.table.Class.TheVariants as class
 use Rattle.hcl_types.specs.declared.table.Role.{Role}
 use Rattle.hcl_types.specs.declared.table.Role.TheVariants.{Constant, State, Hardware, Defined}
 use Rattle.hcl_types.specs.declared.table.Row.{Row}
-use Rattle.hcl_types.specs.Equations.{Fixes}
+use Rattle.hcl_types.specs.Equations.{IsSolution}
 use Rattle.hcl_types.specs.Tables.{IsOrderOf, is_defined, known, needs}
 use Rattle.hcl_types.specs.Terms.{names}
 use Rattle.hcl_types.proofs.Inductions.{induct}
@@ -23,17 +23,17 @@ use Rattle.ctl_atoms.specs.declared.leaf.Leaf.{Leaf}
 use Rattle.ctl_atoms.specs.declared.leaf.Leaf.TheVariants.{Number}
 use Rattle.ctl_atoms.specs.declared.leaf.Atom.{Atom}
 use Rattle.ctl_atoms.specs.Leaves.{leaf_eq}
-use Rattle.ctl_atoms.specs.Plans.{Plan, plan, branch_plan, case_leaves, has_leaf, joined, once}
+use Rattle.ctl_atoms.specs.TermAtoms.{TermAtoms, term_atoms, branch_plan, case_leaves, has_leaf, joined, once}
 use Rattle.ctl_atoms.specs.Rows.{row_term, codes, leaf_rule, leaves_by_role, leaves_of_row, field_leaves, defined_leaves}
 use Rattle.ctl_atoms.proofs.Plans.{plan_Num, plan_Name, plan_Not, plan_And, plan_Or, plan_Cmp, plan_In, plan_Case}
 use Rattle.ctl_atoms.proofs.Same.{leaf_eq_true, leaf_eq_self}
 use Rattle.ctl_atoms.proofs.Solved.{known_row, needs_defined}
 use Rattle.ctl_formula.specs.declared.controls.Entry.{Entry}
 use Rattle.ctl_formula.specs.declared.controls.Entry.TheVariants.{Absent}
-use Rattle.ctl_formula.specs.declared.controls.NamePlace.{NamePlace}
+use Rattle.ctl_formula.specs.declared.controls.Place.{Place}
 use Rattle.ctl_formula.specs.Picks.{entry_word, entry_picks}
-use Rattle.ctl_formula.specs.Readies.{IsEntryOf, leaves_of}
-use Rattle.ctl_formula.specs.Filled.{IsFilling}
+use Rattle.ctl_formula.specs.Translatable.{IsEntryOf, leaves_of}
+use Rattle.ctl_formula.specs.Encoding.{IsPartialEncoding}
 use Rattle.ctl_formula.specs.Laws.{Apart, AreApart}
 use Rattle.ctl_formula.proofs.Rows.{given_undefined}
 
@@ -70,7 +70,7 @@ joined_apart : (xs ys : List Leaf) → Apart xs → Apart (joined xs ys)
 joined_apart xs [] a = a
 joined_apart xs (y ∷ ys) a = joined_apart (once xs y) ys (once_apart xs y a)
 
-case_apart : (xs : List Leaf) (bs : List (Plan × Plan)) → Apart xs → Apart (case_leaves xs bs)
+case_apart : (xs : List Leaf) (bs : List (TermAtoms × TermAtoms)) → Apart xs → Apart (case_leaves xs bs)
 case_apart xs [] a = once_apart xs (Number 0) a
 case_apart xs (b ∷ bs) a = by (case_apart (joined xs b.1.leaves) bs (joined_apart xs b.1.leaves a)) b.0.one
   where
@@ -79,16 +79,16 @@ case_apart xs (b ∷ bs) a = by (case_apart (joined xs b.1.leaves) bs (joined_ap
     by rest false = rest
 
 module _ (own : ℕ → List Leaf) where
-  plan_apart : (t : Term) → AllByRecursion (λ id. Apart (own id)) (names t) → Apart (plan own t).leaves
-  plan_apart = induct (λ t. AllByRecursion (λ id. Apart (own id)) (names t) → Apart (plan own t).leaves) (λ (b : TermBranch). Unit {0})
-      (λ n h. subst Apart (sym (ap (λ (p : Plan). p.leaves) (plan_Num own n))) (refl, tt))
-      (λ id h. subst Apart (sym (ap (λ (p : Plan). p.leaves) (plan_Name own id))) (subst (AllByRecursion (λ id. Apart (own id))) (names_Name id) h).0)
-      (λ t g h. subst Apart (sym (ap (λ (p : Plan). p.leaves) (plan_Not own t))) tt)
-      (λ ts g h. subst Apart (sym (ap (λ (p : Plan). p.leaves) (plan_And own ts))) tt)
-      (λ ts g h. subst Apart (sym (ap (λ (p : Plan). p.leaves) (plan_Or own ts))) tt)
-      (λ o t u g g' h. subst Apart (sym (ap (λ (p : Plan). p.leaves) (plan_Cmp own o t u))) tt)
-      (λ t us g g' h. subst Apart (sym (ap (λ (p : Plan). p.leaves) (plan_In own t us))) tt)
-      (λ cs g h. subst Apart (sym (ap (λ (p : Plan). p.leaves) (plan_Case own cs))) (case_apart [] (map (branch_plan own) cs) tt))
+  plan_apart : (t : Term) → AllByRecursion (λ id. Apart (own id)) (names t) → Apart (term_atoms own t).leaves
+  plan_apart = induct (λ t. AllByRecursion (λ id. Apart (own id)) (names t) → Apart (term_atoms own t).leaves) (λ (b : TermBranch). Unit {0})
+      (λ n h. subst Apart (sym (ap (λ (p : TermAtoms). p.leaves) (plan_Num own n))) (refl, tt))
+      (λ id h. subst Apart (sym (ap (λ (p : TermAtoms). p.leaves) (plan_Name own id))) (subst (AllByRecursion (λ id. Apart (own id))) (names_Name id) h).0)
+      (λ t g h. subst Apart (sym (ap (λ (p : TermAtoms). p.leaves) (plan_Not own t))) tt)
+      (λ ts g h. subst Apart (sym (ap (λ (p : TermAtoms). p.leaves) (plan_And own ts))) tt)
+      (λ ts g h. subst Apart (sym (ap (λ (p : TermAtoms). p.leaves) (plan_Or own ts))) tt)
+      (λ o t u g g' h. subst Apart (sym (ap (λ (p : TermAtoms). p.leaves) (plan_Cmp own o t u))) tt)
+      (λ t us g g' h. subst Apart (sym (ap (λ (p : TermAtoms). p.leaves) (plan_In own t us))) tt)
+      (λ cs g h. subst Apart (sym (ap (λ (p : TermAtoms). p.leaves) (plan_Case own cs))) (case_apart [] (map (branch_plan own) cs) tt))
       (λ b g g'. tt)
 
 codes_apart : Apart codes
@@ -112,13 +112,13 @@ role_apart class n State xs a = field_apart class n
 role_apart class n (Hardware ids) xs a = field_apart class n
 role_apart class n Defined xs a = class_apart class xs (a refl)
 
-module _ (rows : List Row) (terms : List Term) (places : List NamePlace) (asks : List Atom) (first : ℕ) (ids : List ℕ) (o : IsOrderOf rows terms ids) (own : ℕ → List Leaf) (fixed : Fixes (leaf_rule rows terms) own) where
+module _ (rows : List Row) (terms : List Term) (places : List Place) (asks : List Atom) (first : ℕ) (ids : List ℕ) (o : IsOrderOf rows terms ids) (own : ℕ → List Leaf) (fixed : IsSolution (leaf_rule rows terms) own) where
   row_apart : (n : ℕ) → ((row : Row) → slice_get rows n ≡ Some row → is_defined row.role ≡ true → AllByRecursion (λ m. Apart (own m)) (names (row_term rows terms n))) → Apart (own n)
   row_apart n h = subst Apart (sym (fixed n)) (by (slice_get rows n) refl)
     where
-      by : (x : Option Row) → slice_get rows n ≡ x → Apart (leaves_of_row x n (plan own (row_term rows terms n)).leaves)
+      by : (x : Option Row) → slice_get rows n ≡ x → Apart (leaves_of_row x n (term_atoms own (row_term rows terms n)).leaves)
       by None e = tt
-      by (Some row) e = role_apart row.class n row.role (plan own (row_term rows terms n)).leaves (λ d. plan_apart own (row_term rows terms n) (h row e d))
+      by (Some row) e = role_apart row.class n row.role (term_atoms own (row_term rows terms n)).leaves (λ d. plan_apart own (row_term rows terms n) (h row e d))
 
   leaves_apart : (n : ℕ) → Apart (own n)
   leaves_apart n = along (needs rows terms) (known rows) (λ m. Apart (own m))
@@ -127,7 +127,7 @@ module _ (rows : List Row) (terms : List Term) (places : List NamePlace) (asks :
       ids o n
 
   -- the picks of each name have different leaves
-  pub apart_all : (net : Gates) (es : List Entry) → IsFilling rows terms places asks first net es → AreApart es
+  pub apart_all : (net : Gates) (es : List Entry) → IsPartialEncoding rows terms places asks first net es → AreApart es
   apart_all net es h n has = by (slice_get es n) refl has
     where
       entry_apart : (e : Entry) → slice_get es n ≡ Some e → IsTrue (entry_word (Some e)) → Apart (leaves_of (entry_picks (Some e)))

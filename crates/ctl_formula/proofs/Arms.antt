@@ -13,16 +13,16 @@ use Rattle.ctl_atoms.specs.declared.leaf.Leaf.TheVariants.{Number}
 use Rattle.ctl_atoms.specs.declared.leaf.Atom.{Atom}
 use Rattle.ctl_formula.specs.declared.controls.Entry.{Entry}
 use Rattle.ctl_atoms.specs.Leaves.{Assignment, leaf_holds, leaf_eq}
-use Rattle.ctl_formula.specs.Readies.{Ready, ready, branch_ready, ready_layer, ready_pair, leaves_listed, members, case_leaves}
-use Rattle.ctl_atoms.specs.Plans.{joined}
-use Rattle.hcl_types.specs.Terms.{Meaning, value, branch_value}
+use Rattle.ctl_formula.specs.Translatable.{Translatable, translatable, branch_ready, ready_layer, ready_pair, leaves_listed, members, case_leaves}
+use Rattle.ctl_atoms.specs.TermAtoms.{joined}
+use Rattle.hcl_types.specs.Terms.{Interpretation, value, branch_value}
 
 module _ (es : List Entry) (atoms : List Atom) where
-  pub ready_Cmp : (o : CmpOp) (x y : Term) → (ready es atoms (Cmp o x y)).truth ≡ (ready es atoms x).word && ((ready es atoms y).word && leaves_listed atoms o (ready es atoms x).leaves (ready es atoms y).leaves)
-  ready_Cmp o x y = ap (λ (p : Ready). p.truth) (ap (ready es atoms) (sym (rolls-Cmp o x y)) ∙ fold-roll-Term Ready (Ready × Ready) (ready_layer es atoms) ready_pair (Term-F.Cmp o x y))
+  pub ready_Cmp : (o : CmpOp) (x y : Term) → (translatable es atoms (Cmp o x y)).truth ≡ (translatable es atoms x).word && ((translatable es atoms y).word && leaves_listed atoms o (translatable es atoms x).leaves (translatable es atoms y).leaves)
+  ready_Cmp o x y = ap (λ (p : Translatable). p.truth) (ap (translatable es atoms) (sym (rolls-Cmp o x y)) ∙ fold-roll-Term Translatable (Translatable × Translatable) (ready_layer es atoms) ready_pair (Term-F.Cmp o x y))
 
-  pub ready_In : (x : Term) (all : List Term) → (ready es atoms (In x all)).truth ≡ (ready es atoms x).word && members atoms (ready es atoms x).leaves (map (ready es atoms) all)
-  ready_In x all = ap (λ (p : Ready). p.truth) (ap (ready es atoms) (sym (rolls-In x all)) ∙ fold-roll-Term Ready (Ready × Ready) (ready_layer es atoms) ready_pair (Term-F.In x all))
+  pub ready_In : (x : Term) (all : List Term) → (translatable es atoms (In x all)).truth ≡ (translatable es atoms x).word && members atoms (translatable es atoms x).leaves (map (translatable es atoms) all)
+  ready_In x all = ap (λ (p : Translatable). p.truth) (ap (translatable es atoms) (sym (rolls-In x all)) ∙ fold-roll-Term Translatable (Translatable × Translatable) (ready_layer es atoms) ready_pair (Term-F.In x all))
 
 pub holds_bit : (α : Assignment) (b : Bool) → leaf_holds α (Number (if b then 1 else 0)) ≡ b
 holds_bit α true = refl
@@ -66,18 +66,18 @@ shut o c h = ap (λ b. o && not b) h ∙ last o
     last true = refl
     last false = refl
 
-pub branch_is : {A : Type 0} (m : Meaning A) (env : ℕ → A) (b : TermBranch) → branch_value m env b ≡ (value m env b.guard, value m env b.value)
+pub branch_is : {A : Type 0} (m : Interpretation A) (env : ℕ → A) (b : TermBranch) → branch_value m env b ≡ (value m env b.guard, value m env b.value)
 branch_is {A} m env b = search (rules, bs.the_lemmas, fold_out-TermBranch A (A × A) (layer m env) pair b)
 
-pub branch_ready_is : (es : List Entry) (atoms : List Atom) (b : TermBranch) → branch_ready es atoms b ≡ (ready es atoms b.guard, ready es atoms b.value)
-branch_ready_is es atoms b = search (rules, bs.the_lemmas, fold_out-TermBranch Ready (Ready × Ready) (ready_layer es atoms) ready_pair b)
+pub branch_ready_is : (es : List Entry) (atoms : List Atom) (b : TermBranch) → branch_ready es atoms b ≡ (translatable es atoms b.guard, translatable es atoms b.value)
+branch_ready_is es atoms b = search (rules, bs.the_lemmas, fold_out-TermBranch Translatable (Translatable × Translatable) (ready_layer es atoms) ready_pair b)
 
-pub leaves_step : (ls : List Leaf) (b : Ready × Ready) (g v : Ready) (rest : List (Ready × Ready)) → b ≡ (g, v) → g.one ≡ false
+pub leaves_step : (ls : List Leaf) (b : Translatable × Translatable) (g v : Translatable) (rest : List (Translatable × Translatable)) → b ≡ (g, v) → g.one ≡ false
     → case_leaves (joined ls v.leaves) rest ≡ case_leaves ls (b ∷ rest)
 leaves_step ls b g v rest e h =
-    sym (ap (λ (p : Ready × Ready). case_leaves ls (p ∷ rest)) e ∙ ap (λ o. if o then joined ls v.leaves else case_leaves (joined ls v.leaves) rest) h)
+    sym (ap (λ (p : Translatable × Translatable). case_leaves ls (p ∷ rest)) e ∙ ap (λ o. if o then joined ls v.leaves else case_leaves (joined ls v.leaves) rest) h)
 
-pub leaves_one : (ls : List Leaf) (b : Ready × Ready) (g v : Ready) (rest : List (Ready × Ready)) → b ≡ (g, v) → g.one ≡ true
+pub leaves_one : (ls : List Leaf) (b : Translatable × Translatable) (g v : Translatable) (rest : List (Translatable × Translatable)) → b ≡ (g, v) → g.one ≡ true
     → joined ls v.leaves ≡ case_leaves ls (b ∷ rest)
 leaves_one ls b g v rest e h =
-    sym (ap (λ (p : Ready × Ready). case_leaves ls (p ∷ rest)) e ∙ ap (λ o. if o then joined ls v.leaves else case_leaves (joined ls v.leaves) rest) h)
+    sym (ap (λ (p : Translatable × Translatable). case_leaves ls (p ∷ rest)) e ∙ ap (λ o. if o then joined ls v.leaves else case_leaves (joined ls v.leaves) rest) h)

@@ -5,28 +5,28 @@ use Rattle.ctl_atoms.specs.declared.leaf.Leaf.{Leaf}
 use Rattle.ctl_formula.specs.declared.controls.Pick.{Pick}
 use Rattle.hcl_read.specs.declared.tree.CmpOp.{CmpOp}
 use Rattle.hcl_types.specs.Lists.{some}
-use Rattle.nets.specs.Nets.{Gates, Begins}
+use Rattle.nets.specs.Nets.{Gates, ExtendsNet}
 use Rattle.ctl_atoms.specs.Leaves.{leaf_eq, leaf_cmp, Assignment}
-use Rattle.ctl_formula.specs.Chosen.{at, taken, Picked, row_holds, pairs_hold}
+use Rattle.ctl_formula.specs.TakenPicks.{at, leaf_taken, IsOnlyTaken, row_holds, pairs_hold}
 use Rattle.ctl_formula.specs.Picks.{Within}
 use Rattle.ctl_atoms.proofs.Same.{leaf_eq_true, leaf_eq_self}
 use Rattle.ctl_atoms.specs.declared.leaf.Atom.{Atom}
-use Rattle.ctl_atoms.specs.Leaves.{is_listed, asked}
-use Rattle.ctl_formula.specs.Chosen.{row_listed, pairs_listed}
-use Rattle.ctl_formula.specs.Readies.{leaves_of, leaves_listed}
+use Rattle.ctl_atoms.specs.Leaves.{is_listed, open_atom}
+use Rattle.ctl_formula.specs.TakenPicks.{row_listed, pairs_listed}
+use Rattle.ctl_formula.specs.Translatable.{leaves_of, leaves_listed}
 use Rattle.hcl_types.specs.Lists.{each}
 use Rattle.ctl_formula.proofs.Steps.{and_same, or_same, each_map}
 
-pub row_kept : {a b : Gates} → Begins a b → (w : List Bool) (α : Assignment) (o : CmpOp) (x : Leaf) (qs : List Pick) → Within (length a.gates) qs
+pub row_kept : {a b : Gates} → ExtendsNet a b → (w : List Bool) (α : Assignment) (o : CmpOp) (x : Leaf) (qs : List Pick) → Within (length a.gates) qs
     → row_holds (at b w) α o x qs ≡ row_holds (at a w) α o x qs
 row_kept k w α o x [] h = refl
 row_kept k w α o x (q ∷ qs) h = or_same _ _ _ _ (and_same _ _ _ _ (k.same q.gate w h.0) refl) (row_kept k w α o x qs h.1)
 
-pub taken_kept : {a b : Gates} → Begins a b → (w : List Bool) (qs : List Pick) → Within (length a.gates) qs → (x : Leaf) → taken (at b w) qs x ≡ taken (at a w) qs x
+pub taken_kept : {a b : Gates} → ExtendsNet a b → (w : List Bool) (qs : List Pick) → Within (length a.gates) qs → (x : Leaf) → leaf_taken (at b w) qs x ≡ leaf_taken (at a w) qs x
 taken_kept k w [] h x = refl
 taken_kept k w (q ∷ qs) h x = or_same _ _ _ _ (and_same _ _ _ _ refl (k.same q.gate w h.0)) (taken_kept k w qs h.1 x)
 
-pub picked_kept : {a b : Gates} → Begins a b → (w : List Bool) (qs : List Pick) → Within (length a.gates) qs → (x : Leaf) → Picked (at a w) qs x → Picked (at b w) qs x
+pub picked_kept : {a b : Gates} → ExtendsNet a b → (w : List Bool) (qs : List Pick) → Within (length a.gates) qs → (x : Leaf) → IsOnlyTaken (at a w) qs x → IsOnlyTaken (at b w) qs x
 picked_kept k w qs h x p = record { only = λ y. taken_kept k w qs h y ∙ p.only y }
 
 step : (g k t fp fx rest : Bool) → (g ≡ true → k ≡ true) → (k ≡ true → fp ≡ fx) → rest ≡ t && fx → (g && fp) || rest ≡ ((k && g) || t) && fx
@@ -41,24 +41,24 @@ step true true t fp false rest a b e = ap (λ x. x || rest) (b refl) ∙ (e ∙ 
     no false = refl
 
 -- a test of the leaf whose gate is true, where no leaf but x has a true gate
-tested : (tr : ℕ → Bool) (f : Leaf → Bool) (x : Leaf) (ps : List Pick) → ((y : Leaf) → taken tr ps y ≡ true → x ≡ y)
-    → some (λ (p : Pick). tr p.gate && f p.leaf) ps ≡ taken tr ps x && f x
+tested : (tr : ℕ → Bool) (f : Leaf → Bool) (x : Leaf) (ps : List Pick) → ((y : Leaf) → leaf_taken tr ps y ≡ true → x ≡ y)
+    → some (λ (p : Pick). tr p.gate && f p.leaf) ps ≡ leaf_taken tr ps x && f x
 tested tr f x [] h = refl
 tested tr f x (p ∷ ps) h =
-    step (tr p.gate) (leaf_eq p.leaf x) (taken tr ps x) (f p.leaf) (f x) (some (λ (q : Pick). tr q.gate && f q.leaf) ps)
+    step (tr p.gate) (leaf_eq p.leaf x) (leaf_taken tr ps x) (f p.leaf) (f x) (some (λ (q : Pick). tr q.gate && f q.leaf) ps)
     (λ e. ap (leaf_eq p.leaf) (h p.leaf (or_left _ _ (and_same _ _ _ _ (leaf_eq_self p.leaf) e))) ∙ leaf_eq_self p.leaf)
     (λ e. ap f (leaf_eq_true p.leaf x e))
     (tested tr f x ps (λ y t. h y (or_right _ _ t)))
 
-pub chosen : (tr : ℕ → Bool) (f : Leaf → Bool) (x : Leaf) (ps : List Pick) → Picked tr ps x → some (λ (p : Pick). tr p.gate && f p.leaf) ps ≡ f x
+pub chosen : (tr : ℕ → Bool) (f : Leaf → Bool) (x : Leaf) (ps : List Pick) → IsOnlyTaken tr ps x → some (λ (p : Pick). tr p.gate && f p.leaf) ps ≡ f x
 chosen tr f x ps h = tested tr f x ps (λ y t. leaf_eq_true x y (sym (h.only y) ∙ t)) ∙ ap (λ b. b && f x) (h.only x ∙ leaf_eq_self x)
 
-pub chosen_pairs : (tr : ℕ → Bool) (α : Assignment) (o : CmpOp) (ps qs : List Pick) (x y : Leaf) → Picked tr ps x → Picked tr qs y
+pub chosen_pairs : (tr : ℕ → Bool) (α : Assignment) (o : CmpOp) (ps qs : List Pick) (x y : Leaf) → IsOnlyTaken tr ps x → IsOnlyTaken tr qs y
     → pairs_hold tr α o ps qs ≡ leaf_cmp α o x y
 chosen_pairs tr α o ps qs x y p q = chosen tr (λ z. row_holds tr α o z qs) x ps p ∙ chosen tr (leaf_cmp α o x) y qs q
 
-row_leaves : (atoms : List Atom) (o : CmpOp) (x : Leaf) (qs : List Pick) → each (λ (m : Leaf). is_listed atoms (asked o x m)) (leaves_of qs) ≡ row_listed atoms o x qs
-row_leaves atoms o x qs = each_map (λ (m : Leaf). is_listed atoms (asked o x m)) (λ (q : Pick). q.leaf) qs
+row_leaves : (atoms : List Atom) (o : CmpOp) (x : Leaf) (qs : List Pick) → each (λ (m : Leaf). is_listed atoms (open_atom o x m)) (leaves_of qs) ≡ row_listed atoms o x qs
+row_leaves atoms o x qs = each_map (λ (m : Leaf). is_listed atoms (open_atom o x m)) (λ (q : Pick). q.leaf) qs
 
 pub pairs_from_leaves : (atoms : List Atom) (o : CmpOp) (ps qs : List Pick) → leaves_listed atoms o (leaves_of ps) (leaves_of qs) ≡ pairs_listed atoms o ps qs
 pairs_from_leaves atoms o [] qs = refl

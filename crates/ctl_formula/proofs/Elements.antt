@@ -6,7 +6,7 @@ use Rattle.std.specs.List.{AllByRecursion}
 use Rattle.std.proofs.lemmas.Bool.{and_parts}
 use Rattle.hcl_types.specs.declared.table.Row.{Row}
 use Rattle.hcl_types.specs.Tables.{defined, is_defined}
-use Rattle.ctl_formula.specs.declared.controls.NamePlace.{NamePlace}
+use Rattle.ctl_formula.specs.declared.controls.Place.{Place}
 use Rattle.ctl_formula.specs.Places.{place_of, has_bits, is_field, are_placed}
 
 pub push_case : {A : Type 0} (xs : List A) (y : A) (n : ℕ) (x : A) → slice_get (xs ++ y ∷ []) n ≡ Some x → (slice_get xs n ≡ Some x) ⊎ ((n ≡ length xs) × (x ≡ y))
@@ -60,7 +60,7 @@ defined_at (r ∷ rows) (suc n) row e d = by (is_defined r.role) (defined_at row
 pub defined_below : (rows : List Row) (n : ℕ) (row : Row) → slice_get rows n ≡ Some row → is_defined row.role ≡ true → length (defined (take n rows)) < length (defined rows)
 defined_below rows n row e d = slice_get_within (defined rows) (length (defined (take n rows))) row (defined_at rows n row e d)
 
-pub placed_at : (places : List NamePlace) (k : ℕ) (rows : List Row) (n : ℕ) (row : Row) → slice_get rows n ≡ Some row → IsTrue (are_placed places k rows) → is_field row.role ≡ true → has_bits row.class ≡ true →
+pub placed_at : (places : List Place) (k : ℕ) (rows : List Row) (n : ℕ) (row : Row) → slice_get rows n ≡ Some row → IsTrue (are_placed places k rows) → is_field row.role ≡ true → has_bits row.class ≡ true →
     IsTrue (is_some (place_of places (k + n)))
 placed_at places k [] n row e h f b = absurd (grind (arith, e))
 placed_at places k (r ∷ rows) zero row e h f b =

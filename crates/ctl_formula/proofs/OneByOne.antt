@@ -6,7 +6,7 @@ use Rattle.std.proofs.lemmas.Option.{slice_get_within, slice_get_past, slice_get
 use Rattle.std.proofs.lemmas.Bool.Decides.{nat_tests}
 use Rattle.std.specs.List.{AllByRecursion}
 use Rattle.y86_base.proofs.Lists.{element_at}
-use Rattle.nets.specs.Nets.{Gates, Begins, truth}
+use Rattle.nets.specs.Nets.{Gates, ExtendsNet, truth}
 use Rattle.hcl_types.specs.declared.term.Term.{Term}
 use Rattle.hcl_types.specs.declared.term.Term.TheVariants.{Num}
 use Rattle.hcl_types.specs.declared.table.Class.{Class}
@@ -14,7 +14,7 @@ use Rattle.hcl_types.specs.declared.table.Class.TheVariants as class
 use Rattle.hcl_types.specs.declared.table.Role.{Role}
 use Rattle.hcl_types.specs.declared.table.Role.TheVariants.{Constant, State, Hardware, Defined}
 use Rattle.hcl_types.specs.declared.table.Row.{Row}
-use Rattle.hcl_types.specs.Equations.{Fixes, IsOrdered, is_known, needs_of}
+use Rattle.hcl_types.specs.Equations.{IsSolution, IsOrdered, is_known, needs_of}
 use Rattle.hcl_types.specs.Kinds.{is_truth, kinds, kinds_of_row, has_class}
 use Rattle.hcl_types.specs.Lists.{IsIn, each}
 use Rattle.hcl_types.specs.Tables.{IsBound, IsOrderOf, defined, is_defined, is_given, known, needs, term_at}
@@ -23,20 +23,20 @@ use Rattle.hcl_types.proofs.Each.{each_in}
 use Rattle.ctl_atoms.specs.declared.leaf.Leaf.{Leaf}
 use Rattle.ctl_atoms.specs.declared.leaf.Atom.{Atom}
 use Rattle.ctl_atoms.specs.Atoms.{AreAtoms, atoms_of}
-use Rattle.ctl_atoms.specs.Leaves.{Assignment, AtomsAre, leaf_holds, picks, is_listed}
-use Rattle.ctl_atoms.specs.Plans.{plan}
+use Rattle.ctl_atoms.specs.Leaves.{Assignment, AtomsAre, leaf_holds, leaf_meaning, is_listed}
+use Rattle.ctl_atoms.specs.TermAtoms.{term_atoms}
 use Rattle.ctl_atoms.specs.Rows.{row_term, leaf_rule, leaves_by_role, leaves_of_row, defined_leaves}
 use Rattle.ctl_atoms.proofs.Listed.{listed}
 use Rattle.ctl_atoms.proofs.Solved.{leaves_exist, unknown_inside, known_row, needs_defined}
 use Rattle.ctl_formula.specs.declared.controls.Entry.{Entry}
 use Rattle.ctl_formula.specs.declared.controls.Entry.TheVariants.{Absent, Truth, Picks}
-use Rattle.ctl_formula.specs.declared.controls.NamePlace.{NamePlace}
+use Rattle.ctl_formula.specs.declared.controls.Place.{Place}
 use Rattle.ctl_formula.specs.Controls.{AreControls, role_leaf}
-use Rattle.ctl_formula.specs.Picks.{Covers, IsInside, Tells, Within, entry_truth, entry_word, entry_gate, entry_picks, some_pick}
+use Rattle.ctl_formula.specs.Picks.{Covers, IsInside, EncodesControls, Within, entry_truth, entry_word, entry_gate, entry_picks, some_pick}
 use Rattle.ctl_formula.specs.Places.{Spells}
-use Rattle.ctl_formula.specs.Chosen.{at}
-use Rattle.ctl_formula.specs.Readies.{EntryShows, EntryWithin, IsEntryOf, IsOpen, Shows, entry_leaves, ready}
-use Rattle.ctl_formula.specs.Filled.{IsGiven, IsFilling, IsTold, is_filled}
+use Rattle.ctl_formula.specs.TakenPicks.{at}
+use Rattle.ctl_formula.specs.Translatable.{EntryEncodes, EntryWithin, IsEntryOf, HasScope, EncodesSoFar, entry_leaves, translatable}
+use Rattle.ctl_formula.specs.Encoding.{IsInputEncoding, IsPartialEncoding, IsEncoding, is_filled}
 use Rattle.ctl_formula.proofs.Chosen.{chosen}
 use Rattle.ctl_formula.proofs.Opened.{entry_within, entry_shows}
 use Rattle.ctl_formula.proofs.Readied.{Readied, Stands, readied}
@@ -45,7 +45,7 @@ use Rattle.ctl_formula.proofs.Rows.{given_undefined, rule_row, defined_leaf}
 
 -- ---- given rows, one more
 
-pub given_none : (rows : List Row) (places : List NamePlace) (net : Gates) → IsGiven rows places 0 net []
+pub given_none : (rows : List Row) (places : List Place) (net : Gates) → IsInputEncoding rows places 0 net []
 given_none rows places net = record {
   size = refl;
   within = λ n e i. absurd (grind (arith, i));
@@ -54,10 +54,10 @@ given_none rows places net = record {
   shows = λ w α field told s n row e r i. absurd (grind (arith, i));
 }
 
-pub given_next : {a b : Gates} → Begins a b → (rows : List Row) (places : List NamePlace) (k : ℕ) (es : List Entry) (e : Entry) (row : Row) → slice_get rows k ≡ Some row → IsGiven rows places k a es →
+pub given_next : {a b : Gates} → ExtendsNet a b → (rows : List Row) (places : List Place) (k : ℕ) (es : List Entry) (e : Entry) (row : Row) → slice_get rows k ≡ Some row → IsInputEncoding rows places k a es →
     EntryWithin (length b.gates) e → (is_defined row.role ≡ true → e ≡ Absent) → (is_defined row.role ≡ false → IsEntryOf row.class (leaves_by_role row.class k row.role []) e) →
-    ((w : List Bool) (α : Assignment) (field : ℕ → ℕ) (told : Leaf) → Spells places w field → EntryShows (at b w) α e (role_leaf field k row.class row.role told)) →
-    IsGiven rows places (k + 1) b (es ++ e ∷ [])
+    ((w : List Bool) (α : Assignment) (field : ℕ → ℕ) (told : Leaf) → Spells places w field → EntryEncodes (at b w) α e (role_leaf field k row.class row.role told)) →
+    IsInputEncoding rows places (k + 1) b (es ++ e ∷ [])
 given_next {a} {b} begins rows places k es e row r0 given within absent entry shows = record {
   size = length_push es e ∙ (let s = given.size in omega (arith, s));
   within = λ n x i. at_within n x (push_case es e n x i);
@@ -90,12 +90,12 @@ given_next {a} {b} begins rows places k es e row r0 given within absent entry sh
         subst (λ (z : Row). IsEntryOf z.class (leaves_by_role z.class n z.role []) x) same (subst (IsEntryOf row.class (leaves_by_role row.class n row.role [])) (sym p.1) at_n)
 
     at_shows : (w : List Bool) (α : Assignment) (field : ℕ → ℕ) (told : Leaf) → Spells places w field → (n : ℕ) (row' : Row) (x : Entry) → slice_get rows n ≡ Some row' →
-        (slice_get es n ≡ Some x) ⊎ ((n ≡ length es) × (x ≡ e)) → EntryShows (at b w) α x (role_leaf field n row'.class row'.role told)
+        (slice_get es n ≡ Some x) ⊎ ((n ≡ length es) × (x ≡ e)) → EntryEncodes (at b w) α x (role_leaf field n row'.class row'.role told)
     at_shows w α field told s n row' x r (inl i) = entry_shows begins w α x (role_leaf field n row'.class row'.role told) (given.within n x i) (given.shows w α field told s n row' x r i)
     at_shows w α field told s n row' x r (inr p) =
         let same = row_same n row' p.0 r in
-        let here = subst (λ m. EntryShows (at b w) α e (role_leaf field m row.class row.role told)) (sym (place n p.0)) (shows w α field told s) in
-        subst (λ (z : Row). EntryShows (at b w) α x (role_leaf field n z.class z.role told)) same (subst (λ (z : Entry). EntryShows (at b w) α z (role_leaf field n row.class row.role told)) (sym p.1) here)
+        let here = subst (λ m. EntryEncodes (at b w) α e (role_leaf field m row.class row.role told)) (sym (place n p.0)) (shows w α field told s) in
+        subst (λ (z : Row). EntryEncodes (at b w) α x (role_leaf field n z.class z.role told)) same (subst (λ (z : Entry). EntryEncodes (at b w) α z (role_leaf field n row.class row.role told)) (sym p.1) here)
 
 -- ---- all names
 
@@ -118,15 +118,15 @@ defined_role class n State xs d = absurd (grind (arith, d))
 defined_role class n (Hardware ids) xs d = absurd (grind (arith, d))
 defined_role class n Defined xs d = refl
 
-module _ (rows : List Row) (terms : List Term) (places : List NamePlace) (asks : List Atom) (first : ℕ) where
-  own_leaves : (leaves : ℕ → List Leaf) → Fixes (leaf_rule rows terms) leaves → (n : ℕ) (row : Row) → slice_get rows n ≡ Some row → leaves n ≡ leaves_by_role row.class n row.role (plan leaves (row_term rows terms n)).leaves
-  own_leaves leaves fixed n row r = fixed n ∙ ap (λ (o : Option Row). leaves_of_row o n (plan leaves (row_term rows terms n)).leaves) r
+module _ (rows : List Row) (terms : List Term) (places : List Place) (asks : List Atom) (first : ℕ) where
+  own_leaves : (leaves : ℕ → List Leaf) → IsSolution (leaf_rule rows terms) leaves → (n : ℕ) (row : Row) → slice_get rows n ≡ Some row → leaves n ≡ leaves_by_role row.class n row.role (term_atoms leaves (row_term rows terms n)).leaves
+  own_leaves leaves fixed n row r = fixed n ∙ ap (λ (o : Option Row). leaves_of_row o n (term_atoms leaves (row_term rows terms n)).leaves) r
 
   control_at : (field : ℕ → ℕ) (α : Assignment) (cv : ℕ → Leaf) → AreControls rows terms field α cv → (n : ℕ) (row : Row) → slice_get rows n ≡ Some row →
-      cv n ≡ role_leaf field n row.class row.role (value (picks α) cv (row_term rows terms n))
+      cv n ≡ role_leaf field n row.class row.role (value (leaf_meaning α) cv (row_term rows terms n))
   control_at field α cv controls n row r = controls n ∙ rule_row rows terms field α n cv row r
 
-  pub filling_start : (net : Gates) (es : List Entry) → IsGiven rows places (length rows) net es → IsFilling rows terms places asks first net es
+  pub filling_start : (net : Gates) (es : List Entry) → IsInputEncoding rows places (length rows) net es → IsPartialEncoding rows terms places asks first net es
   filling_start net es given = record {
     size = given.size;
     within = given.within;
@@ -134,27 +134,27 @@ module _ (rows : List Row) (terms : List Term) (places : List NamePlace) (asks :
     shows = λ w α field cv a s controls n e i.
         let lt : n < length rows = (let q = slice_get_within es n e i in let z = given.size in omega (arith, q, z)) in
         let found = element_at rows n lt in
-        subst (EntryShows (at net w) α e) (sym (control_at field α cv controls n found.0 found.1)) (given.shows w α field (value (picks α) cv (row_term rows terms n)) s n found.0 e found.1 i);
+        subst (EntryEncodes (at net w) α e) (sym (control_at field α cv controls n found.0 found.1)) (given.shows w α field (value (leaf_meaning α) cv (row_term rows terms n)) s n found.0 e found.1 i);
   }
     where
-      kind : (leaves : ℕ → List Leaf) → Fixes (leaf_rule rows terms) leaves → (n : ℕ) (row : Row) (e : Entry) → slice_get rows n ≡ Some row → slice_get es n ≡ Some e →
+      kind : (leaves : ℕ → List Leaf) → IsSolution (leaf_rule rows terms) leaves → (n : ℕ) (row : Row) (e : Entry) → slice_get rows n ≡ Some row → slice_get es n ≡ Some e →
           (b : Bool) → is_defined row.role ≡ b → (e ≡ Absent) ⊎ IsEntryOf row.class (leaves n) e
       kind leaves fixed n row e r i true d = inl (given.absent n row e r i d)
       kind leaves fixed n row e r i false d =
-          inr (subst (λ (ls : List Leaf). IsEntryOf row.class ls e) (given_leaves row.class n row.role (plan leaves (row_term rows terms n)).leaves d ∙ sym (own_leaves leaves fixed n row r)) (given.entries n row e r i d))
+          inr (subst (λ (ls : List Leaf). IsEntryOf row.class ls e) (given_leaves row.class n row.role (term_atoms leaves (row_term rows terms n)).leaves d ∙ sym (own_leaves leaves fixed n row r)) (given.entries n row e r i d))
 
-  pub given_filled : (net : Gates) (es : List Entry) → IsGiven rows places (length rows) net es → (n : ℕ) (row : Row) → slice_get rows n ≡ Some row → is_defined row.role ≡ false → IsTrue (is_filled (slice_get es n))
+  pub given_filled : (net : Gates) (es : List Entry) → IsInputEncoding rows places (length rows) net es → (n : ℕ) (row : Row) → slice_get rows n ≡ Some row → is_defined row.role ≡ false → IsTrue (is_filled (slice_get es n))
   given_filled net es given n row r d =
       let lt : n < length es = (let q = slice_get_within rows n row r in let z = given.size in omega (arith, q, z)) in
       let found = element_at es n lt in
       ap is_filled found.1 ∙ filled_entry row.class (leaves_by_role row.class n row.role []) found.0 (given.entries n row found.0 r found.1 d)
 
-  pub filling_open : (net : Gates) (es : List Entry) → first + length asks ≤ net.vars → IsFilling rows terms places asks first net es → IsOpen net es asks first
+  pub filling_open : (net : Gates) (es : List Entry) → first + length asks ≤ net.vars → IsPartialEncoding rows terms places asks first net es → HasScope net es asks first
   filling_open net es vars h = record { vars = vars; entries = h.within }
 
   -- ---- one name more
 
-  module _ (leaves : ℕ → List Leaf) (fixed : Fixes (leaf_rule rows terms) leaves) (net : Gates) (es : List Entry) (h : IsFilling rows terms places asks first net es) where
+  module _ (leaves : ℕ → List Leaf) (fixed : IsSolution (leaf_rule rows terms) leaves) (net : Gates) (es : List Entry) (h : IsPartialEncoding rows terms places asks first net es) where
     stands_at : (n : ℕ) → n < length rows → IsTrue (is_filled (slice_get es n)) → Stands es asks rows leaves n
     stands_at n lt filled =
         let row = element_at rows n lt in
@@ -181,10 +181,10 @@ module _ (rows : List Row) (terms : List Term) (places : List NamePlace) (asks :
         let lt : k < length terms = (let q = defined_below rows n row r d in let z = bound.whole in omega (arith, q, z)) in
         let read : slice_get terms k ≡ Some (term_at terms k) = slice_get-get_or terms k (Num 0) lt in
         let inside : AllByRecursion (λ m. m < length rows) (names (row_term rows terms n)) = each_at (λ (t : Term). AllByRecursion (λ m. m < length rows) (names t)) terms k (term_at terms k) read bound.inside in
-        let asked : IsTrue (each (is_listed (atoms_of leaves terms)) (plan leaves (row_term rows terms n)).asks) =
-        each_at (λ (t : Term). IsTrue (each (is_listed (atoms_of leaves terms)) (plan leaves t).asks)) terms k (term_at terms k) read (listed leaves terms) in
+        let asked : IsTrue (each (is_listed (atoms_of leaves terms)) (term_atoms leaves (row_term rows terms n)).asks) =
+        each_at (λ (t : Term). IsTrue (each (is_listed (atoms_of leaves terms)) (term_atoms leaves t).asks)) terms k (term_at terms k) read (listed leaves terms) in
         readied es asks rows leaves (row_term rows terms n) (all_stand (names (row_term rows terms n)) inside (both (names (row_term rows terms n)) inside filled))
-        (subst (λ (xs : List Atom). IsTrue (each (is_listed xs) (plan leaves (row_term rows terms n)).asks)) (sym same) asked)
+        (subst (λ (xs : List Atom). IsTrue (each (is_listed xs) (term_atoms leaves (row_term rows terms n)).asks)) (sym same) asked)
       where
         both : (ids : List ℕ) → AllByRecursion (λ m. m < length rows) ids → AllByRecursion (λ m. m < length rows → IsTrue (is_filled (slice_get es m))) ids → AllByRecursion (λ m. IsTrue (is_filled (slice_get es m))) ids
         both [] l f = tt
@@ -207,11 +207,11 @@ module _ (rows : List Row) (terms : List Term) (places : List NamePlace) (asks :
   word_class class.Truth t h e = absurd (grind (arith, e))
 
   -- the net has grown by the gates of one name
-  pub filling_next : {a b : Gates} → Begins a b → (es : List Entry) (k : ℕ) (row : Row) (e : Entry) → slice_get rows k ≡ Some row → is_defined row.role ≡ true → IsFilling rows terms places asks first a es →
-      EntryWithin (length b.gates) e → ((leaves : ℕ → List Leaf) → Fixes (leaf_rule rows terms) leaves → (ready es asks (row_term rows terms k)).leaves ≡ (plan leaves (row_term rows terms k)).leaves) →
-      IsEntryOf row.class (defined_leaves row.class (ready es asks (row_term rows terms k)).leaves) e →
-      ((w : List Bool) (α : Assignment) (cv : ℕ → Leaf) → Shows a es asks first w α cv → EntryShows (at b w) α e (value (picks α) cv (row_term rows terms k))) →
-      IsFilling rows terms places asks first b (set es k e)
+  pub filling_next : {a b : Gates} → ExtendsNet a b → (es : List Entry) (k : ℕ) (row : Row) (e : Entry) → slice_get rows k ≡ Some row → is_defined row.role ≡ true → IsPartialEncoding rows terms places asks first a es →
+      EntryWithin (length b.gates) e → ((leaves : ℕ → List Leaf) → IsSolution (leaf_rule rows terms) leaves → (translatable es asks (row_term rows terms k)).leaves ≡ (term_atoms leaves (row_term rows terms k)).leaves) →
+      IsEntryOf row.class (defined_leaves row.class (translatable es asks (row_term rows terms k)).leaves) e →
+      ((w : List Bool) (α : Assignment) (cv : ℕ → Leaf) → EncodesSoFar a es asks first w α cv → EntryEncodes (at b w) α e (value (leaf_meaning α) cv (row_term rows terms k))) →
+      IsPartialEncoding rows terms places asks first b (set es k e)
   filling_next {a} {b} begins es k row e r0 d h within same entry shows = record {
     size = length-set es k e ∙ h.size;
     within = λ n x i. at_within n x (set_case es k e n x i);
@@ -223,29 +223,29 @@ module _ (rows : List Row) (terms : List Term) (places : List NamePlace) (asks :
       at_within n x (inl p) = subst (EntryWithin (length b.gates)) (sym p.1) within
       at_within n x (inr i) = entry_within (length a.gates) (length b.gates) x begins.more (h.within n x i)
 
-      at_kind : (leaves : ℕ → List Leaf) → Fixes (leaf_rule rows terms) leaves → (n : ℕ) (row' : Row) (x : Entry) → slice_get rows n ≡ Some row' → ((n ≡ k) × (x ≡ e)) ⊎ (slice_get es n ≡ Some x) →
+      at_kind : (leaves : ℕ → List Leaf) → IsSolution (leaf_rule rows terms) leaves → (n : ℕ) (row' : Row) (x : Entry) → slice_get rows n ≡ Some row' → ((n ≡ k) × (x ≡ e)) ⊎ (slice_get es n ≡ Some x) →
           (x ≡ Absent) ⊎ IsEntryOf row'.class (leaves n) x
       at_kind leaves fixed n row' x r (inr i) = h.kinds leaves fixed n row' x r i
       at_kind leaves fixed n row' x r (inl p) =
           let q : Some row ≡ Some row' = sym r0 ∙ (ap (slice_get rows) (sym p.0) ∙ r) in
           let rows_same : row ≡ row' = grind (arith, q) in
-          let own : defined_leaves row.class (ready es asks (row_term rows terms k)).leaves ≡ leaves k =
+          let own : defined_leaves row.class (translatable es asks (row_term rows terms k)).leaves ≡ leaves k =
           ap (defined_leaves row.class) (same leaves fixed)
-          ∙ (sym (defined_role row.class k row.role (plan leaves (row_term rows terms k)).leaves d) ∙ sym (own_leaves leaves fixed k row r0)) in
+          ∙ (sym (defined_role row.class k row.role (term_atoms leaves (row_term rows terms k)).leaves d) ∙ sym (own_leaves leaves fixed k row r0)) in
           let here : IsEntryOf row.class (leaves k) e = subst (λ (ls : List Leaf). IsEntryOf row.class ls e) own entry in
           let at_n : IsEntryOf row.class (leaves n) e = subst (λ m. IsEntryOf row.class (leaves m) e) (sym p.0) here in
           inr (subst (λ (z : Row). IsEntryOf z.class (leaves n) x) rows_same (subst (IsEntryOf row.class (leaves n)) (sym p.1) at_n))
 
       at_shows : (w : List Bool) (α : Assignment) (field : ℕ → ℕ) (cv : ℕ → Leaf) → AtomsAre asks first w α → Spells places w field → AreControls rows terms field α cv →
-          (n : ℕ) (x : Entry) → ((n ≡ k) × (x ≡ e)) ⊎ (slice_get es n ≡ Some x) → EntryShows (at b w) α x (cv n)
+          (n : ℕ) (x : Entry) → ((n ≡ k) × (x ≡ e)) ⊎ (slice_get es n ≡ Some x) → EntryEncodes (at b w) α x (cv n)
       at_shows w α field cv atoms s controls n x (inr i) = entry_shows begins w α x (cv n) (h.within n x i) (h.shows w α field cv atoms s controls n x i)
       at_shows w α field cv atoms s controls n x (inl p) =
-          let told : Leaf = value (picks α) cv (row_term rows terms k) in
-          let open_now : Shows a es asks first w α cv = record { atoms = atoms; entries = λ m y i. h.shows w α field cv atoms s controls m y i } in
+          let told : Leaf = value (leaf_meaning α) cv (row_term rows terms k) in
+          let open_now : EncodesSoFar a es asks first w α cv = record { atoms = atoms; entries = λ m y i. h.shows w α field cv atoms s controls m y i } in
           let is : told ≡ cv k = sym (control_at field α cv controls k row r0 ∙ defined_leaf field k row.class row.role told d) in
-          let here : EntryShows (at b w) α e (cv k) = subst (EntryShows (at b w) α e) is (shows w α cv open_now) in
-          let at_n : EntryShows (at b w) α e (cv n) = subst (λ m. EntryShows (at b w) α e (cv m)) (sym p.0) here in
-          subst (λ (z : Entry). EntryShows (at b w) α z (cv n)) (sym p.1) at_n
+          let here : EntryEncodes (at b w) α e (cv k) = subst (EntryEncodes (at b w) α e) is (shows w α cv open_now) in
+          let at_n : EntryEncodes (at b w) α e (cv n) = subst (λ m. EntryEncodes (at b w) α e (cv m)) (sym p.0) here in
+          subst (λ (z : Entry). EntryEncodes (at b w) α z (cv n)) (sym p.1) at_n
 
   -- ---- what is needed has its gates
 
@@ -332,7 +332,7 @@ module _ (rows : List Row) (terms : List Term) (places : List NamePlace) (asks :
 
   -- ---- what all entries tell
 
-  pub covers_all : (leaves : ℕ → List Leaf) → Fixes (leaf_rule rows terms) leaves → (net : Gates) (es : List Entry) → IsTold rows terms places asks first net es → Covers rows es
+  pub covers_all : (leaves : ℕ → List Leaf) → IsSolution (leaf_rule rows terms) leaves → (net : Gates) (es : List Entry) → IsEncoding rows terms places asks first net es → Covers rows es
   covers_all leaves fixed net es told = record {
     gates = λ n. (at_row n (nat_lt n (length rows)) refl).0;
     picks = λ n. (at_row n (nat_lt n (length rows)) refl).1;
@@ -366,7 +366,7 @@ inside_all net es h = record { gates_in = λ n has. gate n (slice_get es n) refl
     all n (Some (Truth g)) q t = absurd (grind (arith, t))
     all n (Some (Picks ps)) q t = h n (Picks ps) q
 
-pub tells_all : (net : Gates) (es : List Entry) (w : List Bool) (α : Assignment) (cv : ℕ → Leaf) → ((n : ℕ) (e : Entry) → slice_get es n ≡ Some e → EntryShows (at net w) α e (cv n)) → Tells net es w α cv
+pub tells_all : (net : Gates) (es : List Entry) (w : List Bool) (α : Assignment) (cv : ℕ → Leaf) → ((n : ℕ) (e : Entry) → slice_get es n ≡ Some e → EntryEncodes (at net w) α e (cv n)) → EncodesControls net es w α cv
 tells_all net es w α cv h = record { truths_are = λ n has. gate n (slice_get es n) refl has; picks_are = λ n has test. pick n test (slice_get es n) refl has }
   where
     gate : (n : ℕ) (o : Option Entry) → slice_get es n ≡ o → IsTrue (entry_truth o) → truth net (entry_gate o) w ≡ leaf_holds α (cv n)

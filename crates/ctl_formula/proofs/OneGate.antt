@@ -8,18 +8,18 @@ use Rattle.nets.specs.Nets.{truth}
 use Rattle.hcl_types.specs.Lists.{some}
 use Rattle.ctl_atoms.specs.declared.leaf.Leaf.{Leaf}
 use Rattle.ctl_atoms.specs.Leaves.{leaf_eq}
-use Rattle.ctl_atoms.specs.Plans.{has_leaf}
+use Rattle.ctl_atoms.specs.TermAtoms.{has_leaf}
 use Rattle.ctl_atoms.proofs.Same.{leaf_eq_true, leaf_eq_self}
 use Rattle.ctl_formula.specs.declared.controls.Pick.{Pick}
 use Rattle.ctl_formula.specs.Picks.{picks_of}
-use Rattle.ctl_formula.specs.Chosen.{taken}
-use Rattle.ctl_formula.specs.Readies.{leaves_of}
+use Rattle.ctl_formula.specs.TakenPicks.{leaf_taken}
+use Rattle.ctl_formula.specs.Translatable.{leaves_of}
 use Rattle.ctl_formula.specs.Laws.{Apart, OneGate}
 use Rattle.ctl_formula.proofs.Steps.{or_same}
 
-none_taken : (tr : ℕ → Bool) (ps : List Pick) (y : Leaf) → has_leaf (leaves_of ps) y ≡ false → taken tr ps y ≡ false
+none_taken : (tr : ℕ → Bool) (ps : List Pick) (y : Leaf) → has_leaf (leaves_of ps) y ≡ false → leaf_taken tr ps y ≡ false
 none_taken tr [] y h = refl
-none_taken tr (p ∷ ps) y h = step (leaf_eq p.leaf y) (has_leaf (leaves_of ps) y) (tr p.gate) (taken tr ps y) h (none_taken tr ps y)
+none_taken tr (p ∷ ps) y h = step (leaf_eq p.leaf y) (has_leaf (leaves_of ps) y) (tr p.gate) (leaf_taken tr ps y) h (none_taken tr ps y)
   where
     step : (k a g t : Bool) → k || a ≡ false → (a ≡ false → t ≡ false) → (k && g) || t ≡ false
     step true a g t e f = cc
@@ -42,16 +42,16 @@ differs a b ls h t = by (leaf_eq a b) refl
     by false q = refl
     by true q = let same = leaf_eq_true a b q in let clash : true ≡ false = sym t ∙ (ap (has_leaf ls) (sym same) ∙ h) in clash
 
-own_gate : (tr : ℕ → Bool) (ps : List Pick) → Apart (leaves_of ps) → (k : ℕ) (p : Pick) → slice_get ps k ≡ Some p → taken tr ps p.leaf ≡ tr p.gate
+own_gate : (tr : ℕ → Bool) (ps : List Pick) → Apart (leaves_of ps) → (k : ℕ) (p : Pick) → slice_get ps k ≡ Some p → leaf_taken tr ps p.leaf ≡ tr p.gate
 own_gate tr [] a k p e = absurd (grind (arith, e))
 own_gate tr (q ∷ ps) a zero p e =
     let same : q ≡ p = same_Some q p e in
-    subst (λ (x : Pick). taken tr (q ∷ ps) x.leaf ≡ tr x.gate) same
+    subst (λ (x : Pick). leaf_taken tr (q ∷ ps) x.leaf ≡ tr x.gate) same
     (or_same _ _ _ _ (ap (λ b. b && tr q.gate) (leaf_eq_self q.leaf)) (none_taken tr ps q.leaf a.0) ∙ or_false (tr q.gate) false refl)
 own_gate tr (q ∷ ps) a (suc k) p e =
-    ap (λ b. (b && tr q.gate) || taken tr ps p.leaf) (differs q.leaf p.leaf (leaves_of ps) a.0 (had_at ps k p e)) ∙ own_gate tr ps a.1 k p e
+    ap (λ b. (b && tr q.gate) || leaf_taken tr ps p.leaf) (differs q.leaf p.leaf (leaves_of ps) a.0 (had_at ps k p e)) ∙ own_gate tr ps a.1 k p e
 
-taken_some : (tr : ℕ → Bool) (ps : List Pick) (y : Leaf) → taken tr ps y ≡ some (λ (p : Pick). tr p.gate && leaf_eq p.leaf y) ps
+taken_some : (tr : ℕ → Bool) (ps : List Pick) (y : Leaf) → leaf_taken tr ps y ≡ some (λ (p : Pick). tr p.gate && leaf_eq p.leaf y) ps
 taken_some tr [] y = refl
 taken_some tr (p ∷ ps) y = or_same _ _ _ _ (and_comm (leaf_eq p.leaf y) (tr p.gate)) (taken_some tr ps y)
 

@@ -14,7 +14,7 @@ use Rattle.hcl_types.specs.Terms.{names, value}
 use Rattle.hcl_types.proofs.Related.{local_value}
 use Rattle.ctl_atoms.specs.declared.leaf.Leaf.{Leaf}
 use Rattle.ctl_atoms.specs.declared.leaf.Leaf.TheVariants.{Number}
-use Rattle.ctl_atoms.specs.Leaves.{Assignment, picks}
+use Rattle.ctl_atoms.specs.Leaves.{Assignment, leaf_meaning}
 use Rattle.ctl_atoms.specs.Rows.{row_term}
 use Rattle.ctl_atoms.proofs.Solved.{known_row, needs_defined}
 use Rattle.ctl_formula.specs.Controls.{role_leaf, row_leaf, control_rule}
@@ -76,13 +76,13 @@ defined_leaf field n class Defined x h = refl
 module _ (rows : List Row) (terms : List Term) (field : ℕ → ℕ) (α : Assignment) where
   pub rule_past : (n : ℕ) (cv : ℕ → Leaf) → slice_get rows n ≡ None → control_rule rows terms field α n cv ≡ Number 0
   unfolding control_rule
-  rule_past n cv e = ap (λ (o : Option Row). row_leaf field n o (value (picks α) cv (row_term rows terms n))) e
+  rule_past n cv e = ap (λ (o : Option Row). row_leaf field n o (value (leaf_meaning α) cv (row_term rows terms n))) e
 
-  pub rule_row : (n : ℕ) (cv : ℕ → Leaf) (row : Row) → slice_get rows n ≡ Some row → control_rule rows terms field α n cv ≡ role_leaf field n row.class row.role (value (picks α) cv (row_term rows terms n))
+  pub rule_row : (n : ℕ) (cv : ℕ → Leaf) (row : Row) → slice_get rows n ≡ Some row → control_rule rows terms field α n cv ≡ role_leaf field n row.class row.role (value (leaf_meaning α) cv (row_term rows terms n))
   unfolding control_rule
-  rule_row n cv row e = ap (λ (o : Option Row). row_leaf field n o (value (picks α) cv (row_term rows terms n))) e
+  rule_row n cv row e = ap (λ (o : Option Row). row_leaf field n o (value (leaf_meaning α) cv (row_term rows terms n))) e
 
-  same_at : (n : ℕ) (f g : ℕ → Leaf) → ((row : Row) → slice_get rows n ≡ Some row → is_defined row.role ≡ true → value (picks α) f (row_term rows terms n) ≡ value (picks α) g (row_term rows terms n)) →
+  same_at : (n : ℕ) (f g : ℕ → Leaf) → ((row : Row) → slice_get rows n ≡ Some row → is_defined row.role ≡ true → value (leaf_meaning α) f (row_term rows terms n) ≡ value (leaf_meaning α) g (row_term rows terms n)) →
       control_rule rows terms field α n f ≡ control_rule rows terms field α n g
   same_at n f g h = by (slice_get rows n) refl
     where
@@ -91,7 +91,7 @@ module _ (rows : List Row) (terms : List Term) (field : ℕ → ℕ) (α : Assig
       by (Some row) e = rule_row n f row e ∙ (role_same field n row.class row.role _ _ (h row e) ∙ sym (rule_row n g row e))
 
   pub rule_local : IsLocal (control_rule rows terms field α) (needs rows terms)
-  rule_local n f g h = same_at n f g (λ row e d. local_value (picks α) f g (row_term rows terms n) (subst (λ ids. AllByRecursion (λ m. f m ≡ g m) ids) (needs_defined rows terms n row e d) h))
+  rule_local n f g h = same_at n f g (λ row e d. local_value (leaf_meaning α) f g (row_term rows terms n) (subst (λ ids. AllByRecursion (λ m. f m ≡ g m) ids) (needs_defined rows terms n row e d) h))
 
   -- the equation of a known row reads nothing
   pub rule_known : (n : ℕ) → is_known (known rows) n ≡ true → (f g : ℕ → Leaf) → control_rule rows terms field α n f ≡ control_rule rows terms field α n g

@@ -3,11 +3,11 @@ use Rattle.std.proofs.Common.{◌≡◌, Bool, true, false, ◌||◌, ◌&&◌, 
 use Rattle.std.proofs.Math.ListN.{set}
 use Rattle.ctl_atoms.specs.declared.leaf.Leaf.{Leaf}
 use Rattle.ctl_formula.specs.declared.controls.Pick.{Pick}
-use Rattle.nets.specs.Nets.{Gates, Begins, truth}
+use Rattle.nets.specs.Nets.{Gates, ExtendsNet, truth}
 use Rattle.ctl_atoms.specs.Leaves.{leaf_eq}
-use Rattle.ctl_formula.specs.Chosen.{at, taken}
+use Rattle.ctl_formula.specs.TakenPicks.{at, leaf_taken}
 use Rattle.ctl_formula.specs.Picks.{Within}
-use Rattle.ctl_formula.specs.Readies.{leaves_of}
+use Rattle.ctl_formula.specs.Translatable.{leaves_of}
 use Rattle.ctl_formula.proofs.Chosen.{taken_kept}
 use Rattle.ctl_formula.proofs.Steps.{none, or_same, and_same}
 
@@ -33,18 +33,18 @@ assoc : (a x r : Bool) → a || (x || r) ≡ (a || x) || r
 assoc true x r = refl
 assoc false x r = refl
 
-module _ {a b : Gates} (keeps : Begins a b) (w : List Bool) where
+module _ {a b : Gates} (keeps : ExtendsNet a b) (w : List Bool) where
   pub taken_set : (ps : List Pick) (k g : ℕ) (leaf : Leaf) (m : Bool) → Within (length a.gates) ps → k < length ps → (get_or ps k none).leaf ≡ leaf
       → truth b g w ≡ truth a (get_or ps k none).gate w || m → (y : Leaf)
-      → taken (at b w) (set ps k (record { leaf = leaf; gate = g })) y ≡ taken (at a w) ps y || (leaf_eq leaf y && m)
+      → leaf_taken (at b w) (set ps k (record { leaf = leaf; gate = g })) y ≡ leaf_taken (at a w) ps y || (leaf_eq leaf y && m)
   taken_set [] k g leaf m i h l e y = absurd (omega arith)
   taken_set (p ∷ ps) zero g leaf m i h l e y =
       or_same _ _ _ _ (and_same _ _ _ _ refl e) (taken_kept keeps w ps i.1 y)
-      ∙ (grown (leaf_eq leaf y) (truth a p.gate w) (taken (at a w) ps y) m
-      ∙ ap (λ (x : Leaf). ((leaf_eq x y && truth a p.gate w) || taken (at a w) ps y) || (leaf_eq leaf y && m)) (sym l))
+      ∙ (grown (leaf_eq leaf y) (truth a p.gate w) (leaf_taken (at a w) ps y) m
+      ∙ ap (λ (x : Leaf). ((leaf_eq x y && truth a p.gate w) || leaf_taken (at a w) ps y) || (leaf_eq leaf y && m)) (sym l))
   taken_set (p ∷ ps) (suc k) g leaf m i h l e y =
       or_same _ _ _ _ (and_same _ _ _ _ refl (keeps.same p.gate w i.0)) (taken_set ps k g leaf m i.1 (omega arith) l e y)
-      ∙ assoc (leaf_eq p.leaf y && truth a p.gate w) (taken (at a w) ps y) (leaf_eq leaf y && m)
+      ∙ assoc (leaf_eq p.leaf y && truth a p.gate w) (leaf_taken (at a w) ps y) (leaf_eq leaf y && m)
 
 pub leaves_set : (ps : List Pick) (k g : ℕ) (leaf : Leaf) → k < length ps → (get_or ps k none).leaf ≡ leaf → leaves_of (set ps k (record { leaf = leaf; gate = g })) ≡ leaves_of ps
 leaves_set [] k g leaf h l = absurd (omega arith)
@@ -60,13 +60,13 @@ pub within_push : (n : ℕ) (ps : List Pick) (q : Pick) → Within n ps → q.ga
 within_push n [] q i h = (h, tt)
 within_push n (p ∷ ps) q i h = (i.0, within_push n ps q i.1 h)
 
-pub taken_push : (tr : ℕ → Bool) (ps : List Pick) (q : Pick) (y : Leaf) → taken tr (ps ++ q ∷ []) y ≡ taken tr ps y || (leaf_eq q.leaf y && tr q.gate)
+pub taken_push : (tr : ℕ → Bool) (ps : List Pick) (q : Pick) (y : Leaf) → leaf_taken tr (ps ++ q ∷ []) y ≡ leaf_taken tr ps y || (leaf_eq q.leaf y && tr q.gate)
 taken_push tr [] q y = last (leaf_eq q.leaf y && tr q.gate)
   where
     last : (t : Bool) → t || false ≡ t
     last true = refl
     last false = refl
-taken_push tr (p ∷ ps) q y = or_same _ _ _ _ refl (taken_push tr ps q y) ∙ assoc (leaf_eq p.leaf y && tr p.gate) (taken tr ps y) (leaf_eq q.leaf y && tr q.gate)
+taken_push tr (p ∷ ps) q y = or_same _ _ _ _ refl (taken_push tr ps q y) ∙ assoc (leaf_eq p.leaf y && tr p.gate) (leaf_taken tr ps y) (leaf_eq q.leaf y && tr q.gate)
 
 pub leaves_push : (ps : List Pick) (q : Pick) → leaves_of (ps ++ q ∷ []) ≡ leaves_of ps ++ q.leaf ∷ []
 leaves_push [] q = refl

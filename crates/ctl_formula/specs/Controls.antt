@@ -6,11 +6,11 @@ use Rattle.hcl_types.specs.declared.table.Class.TheVariants as class
 use Rattle.hcl_types.specs.declared.table.Role.{Role}
 use Rattle.hcl_types.specs.declared.table.Role.TheVariants as role
 use Rattle.hcl_types.specs.declared.table.Row.{Row}
-use Rattle.hcl_types.specs.Equations.{Fixes}
+use Rattle.hcl_types.specs.Equations.{IsSolution}
 use Rattle.hcl_types.specs.Terms.{value}
 use Rattle.ctl_atoms.specs.declared.leaf.Leaf.{Leaf}
 use Rattle.ctl_atoms.specs.declared.leaf.Leaf.TheVariants.{Name, Number}
-use Rattle.ctl_atoms.specs.Leaves.{Assignment, picks}
+use Rattle.ctl_atoms.specs.Leaves.{Assignment, leaf_meaning}
 use Rattle.ctl_atoms.specs.Rows.{row_term}
 
 -- what state or hardware is: a Value name is itself, each other name is the number of its field
@@ -34,8 +34,8 @@ row_leaf field n (Some row) told = role_leaf field n row.class row.role told
 
 -- the equation of row n; field: the number of each Code or Truth name that is state or hardware
 unfoldable pub control_rule : List Row → List Term → (ℕ → ℕ) → Assignment → ℕ → (ℕ → Leaf) → Leaf
-control_rule rows terms field α n cv = row_leaf field n (slice_get rows n) (value (picks α) cv (row_term rows terms n))
+control_rule rows terms field α n cv = row_leaf field n (slice_get rows n) (value (leaf_meaning α) cv (row_term rows terms n))
 
 -- cv gives the control value of each name
 abbrev pub AreControls : List Row → List Term → (ℕ → ℕ) → Assignment → (ℕ → Leaf) → Type 0
-AreControls rows terms field α cv = Fixes (control_rule rows terms field α) cv
+AreControls rows terms field α cv = IsSolution (control_rule rows terms field α) cv

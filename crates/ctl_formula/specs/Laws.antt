@@ -4,50 +4,50 @@ use Rattle.std.specs.List.{AllByRecursion}
 use Rattle.hcl_types.specs.declared.term.Term.{Term}
 use Rattle.hcl_types.specs.declared.table.Row.{Row}
 use Rattle.hcl_types.specs.Tables.{is_defined, inputs, IsOrderOf}
-use Rattle.hcl_types.specs.Terms.{value, words, signed_below}
+use Rattle.hcl_types.specs.Terms.{value, word_meaning, signed_below}
 use Rattle.ctl_atoms.specs.declared.leaf.Leaf.{Leaf}
 use Rattle.ctl_atoms.specs.declared.leaf.Leaf.TheVariants.{Name, Number}
 use Rattle.ctl_atoms.specs.declared.leaf.AtomKind.TheVariants as kind
 use Rattle.ctl_atoms.specs.Leaves.{Assignment}
 use Rattle.ctl_atoms.specs.Rows.{row_term}
 use Rattle.ctl_atoms.specs.Leaves.{leaf_eq}
-use Rattle.ctl_atoms.specs.Plans.{has_leaf}
+use Rattle.ctl_atoms.specs.TermAtoms.{has_leaf}
 use Rattle.nets.specs.Nets.{Gates, truth}
 use Rattle.ctl_formula.specs.declared.controls.Entry.{Entry}
 use Rattle.ctl_formula.specs.declared.controls.Pick.{Pick}
 use Rattle.ctl_formula.specs.Controls.{AreControls}
-use Rattle.ctl_formula.specs.Picks.{Tells, has_picks, picks_of}
-use Rattle.ctl_formula.specs.Readies.{leaves_of}
+use Rattle.ctl_formula.specs.Picks.{EncodesControls, has_picks, picks_of}
+use Rattle.ctl_formula.specs.Translatable.{leaves_of}
 
 -- control values exist
 abbrev pub HasControls : List Row → List Term → (ℕ → ℕ) → Assignment → Type 0
 HasControls rows terms field α = (cv : ℕ → Leaf) × AreControls rows terms field α cv
 
 -- what a leaf is worth where names have values
-abbrev pub worth : (ℕ → ℕ) → Leaf → ℕ
-worth f (Name n) = f n
-worth f (Number n) = n
+abbrev pub leaf_value : (ℕ → ℕ) → Leaf → ℕ
+leaf_value f (Name n) = f n
+leaf_value f (Number n) = n
 
 -- the comparisons of values
-abbrev pub real : (ℕ → ℕ) → Assignment
-real f kind.Lt x y = signed_below (worth f x) (worth f y)
-real f kind.Eq x y = nat_eq (worth f x) (worth f y)
+abbrev pub real_assignment : (ℕ → ℕ) → Assignment
+real_assignment f kind.Lt x y = signed_below (leaf_value f x) (leaf_value f y)
+real_assignment f kind.Eq x y = nat_eq (leaf_value f x) (leaf_value f y)
 
 -- f gives each defined row the value of its term, and 0 to what stands past the rows
 pub record IsDefinedBy (rows : List Row) (terms : List Term) (f : ℕ → ℕ) : Type 0 where
-  pub defined : (n : ℕ) (row : Row) → slice_get rows n ≡ Some row → is_defined row.role ≡ true → f n ≡ value words f (row_term rows terms n)
+  pub defined : (n : ℕ) (row : Row) → slice_get rows n ≡ Some row → is_defined row.role ≡ true → f n ≡ value word_meaning f (row_term rows terms n)
   pub past : (n : ℕ) → slice_get rows n ≡ None → f n ≡ 0
 
 -- The control value of each row that isn't defined is worth its value, of a hardware row once this holds of what it depends on.
 abbrev pub IsWorthGiven : List Row → (ℕ → ℕ) → (ℕ → Leaf) → Type 0
 IsWorthGiven rows f cv =
-    (n : ℕ) (row : Row) → slice_get rows n ≡ Some row → is_defined row.role ≡ false → AllByRecursion (λ m. worth f (cv m) ≡ f m) (inputs row.role) → worth f (cv n) ≡ f n
+    (n : ℕ) (row : Row) → slice_get rows n ≡ Some row → is_defined row.role ≡ false → AllByRecursion (λ m. leaf_value f (cv m) ≡ f m) (inputs row.role) → leaf_value f (cv n) ≡ f n
 
 -- Where comparisons are those of the values, and what is given agrees, each control value is worth its name's value.
-abbrev pub Agreement : Type 0
-Agreement = (rows : List Row) (terms : List Term) (ids : List ℕ) (field : ℕ → ℕ) (f : ℕ → ℕ) (cv : ℕ → Leaf) →
-    IsOrderOf rows terms ids → AreControls rows terms field (real f) cv → IsDefinedBy rows terms f → IsWorthGiven rows f cv →
-    (n : ℕ) → worth f (cv n) ≡ f n
+abbrev pub ControlsAgree : Type 0
+ControlsAgree = (rows : List Row) (terms : List Term) (ids : List ℕ) (field : ℕ → ℕ) (f : ℕ → ℕ) (cv : ℕ → Leaf) →
+    IsOrderOf rows terms ids → AreControls rows terms field (real_assignment f) cv → IsDefinedBy rows terms f → IsWorthGiven rows f cv →
+    (n : ℕ) → leaf_value f (cv n) ≡ f n
 
 -- each leaf stands once
 abbrev pub Apart : List Leaf → Type 0
@@ -59,11 +59,11 @@ abbrev pub AreApart : List Entry → Type 0
 AreApart ctl = (n : ℕ) → IsTrue (has_picks ctl n) → Apart (leaves_of (picks_of ctl n))
 
 -- Of picks the gate of each is true exactly where its leaf is the one that is picked, and one of them has that leaf.
-pub record IsOneTaken (net : Gates) (ps : List Pick) (w : List Bool) (x : Leaf) : Type 0 where
+pub record HasOneTruePick (net : Gates) (ps : List Pick) (w : List Bool) (x : Leaf) : Type 0 where
   pub each : (k : ℕ) (p : Pick) → slice_get ps k ≡ Some p → truth net p.gate w ≡ leaf_eq x p.leaf
   pub one : (k : ℕ) × (p : Pick) × (slice_get ps k ≡ Some p) × (p.leaf ≡ x)
 
 -- where gates tell control values, exactly one gate of a name's picks is true, that of the control value
 abbrev pub OneGate : Type 0
-OneGate = (net : Gates) (ctl : List Entry) (w : List Bool) (α : Assignment) (cv : ℕ → Leaf) → Tells net ctl w α cv → AreApart ctl →
-    (n : ℕ) → IsTrue (has_picks ctl n) → IsOneTaken net (picks_of ctl n) w (cv n)
+OneGate = (net : Gates) (ctl : List Entry) (w : List Bool) (α : Assignment) (cv : ℕ → Leaf) → EncodesControls net ctl w α cv → AreApart ctl →
+    (n : ℕ) → IsTrue (has_picks ctl n) → HasOneTruePick net (picks_of ctl n) w (cv n)

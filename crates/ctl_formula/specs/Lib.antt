@@ -2,6 +2,6 @@ pub mod Picks
 pub mod Controls
 pub mod Laws
 pub mod Places
-pub mod Chosen
-pub mod Readies
-pub mod Filled
+pub mod TakenPicks
+pub mod Translatable
+pub mod Encoding

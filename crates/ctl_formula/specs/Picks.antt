@@ -72,6 +72,6 @@ pub record IsInside (net : Gates) (ctl : List Entry) : Type 0 where
 
 -- At a valuation w of the net the gates tell the control values cv: a gate is true where its name is, and some taken pick
 -- passes a test exactly where the control value of its name passes it.
-pub record Tells (net : Gates) (ctl : List Entry) (w : List Bool) (α : Assignment) (cv : ℕ → Leaf) : Type 0 where
+pub record EncodesControls (net : Gates) (ctl : List Entry) (w : List Bool) (α : Assignment) (cv : ℕ → Leaf) : Type 0 where
   pub truths_are : (n : ℕ) → IsTrue (has_gate ctl n) → truth net (gate_of ctl n) w ≡ leaf_holds α (cv n)
   pub picks_are : (n : ℕ) → IsTrue (has_picks ctl n) → (test : Leaf → Bool) → some_pick net w test (picks_of ctl n) ≡ test (cv n)

@@ -6,11 +6,11 @@ use Rattle.hcl_types.specs.declared.table.Class.TheVariants as class
 use Rattle.hcl_types.specs.declared.table.Role.{Role}
 use Rattle.hcl_types.specs.declared.table.Role.TheVariants as role
 use Rattle.hcl_types.specs.declared.table.Row.{Row}
-use Rattle.field_bits.specs.Spelling.{spelt}
-use Rattle.ctl_formula.specs.declared.controls.NamePlace.{NamePlace}
+use Rattle.net_fields.specs.Spelling.{spelt}
+use Rattle.ctl_formula.specs.declared.controls.Place.{Place}
 
 -- the first place in the list that is of the name
-abbrev pub place_of : List NamePlace → ℕ → Option NamePlace
+abbrev pub place_of : List Place → ℕ → Option Place
 place_of [] n = None
 place_of (p ∷ ps) n = if p.name == n then Some p else place_of ps n
 
@@ -28,19 +28,19 @@ is_field (role.Hardware ids) = true
 is_field role.Defined = false
 
 -- a row whose name is bits has a place; n: the first of the rows
-abbrev pub are_placed : List NamePlace → ℕ → List Row → Bool
+abbrev pub are_placed : List Place → ℕ → List Row → Bool
 are_placed places n [] = true
 are_placed places n (row ∷ rows) = (not (is_field row.role && has_bits row.class) || is_some (place_of places n)) && are_placed places (n + 1) rows
 
 -- at most 4 of the variables
-abbrev pub IsInside : ℕ → NamePlace → Type 0
+abbrev pub IsInside : ℕ → Place → Type 0
 IsInside vars p = (p.bits ≤ 4) × (p.first + p.bits ≤ vars)
 
 -- each Code or Truth name that is state or hardware has a place, and each place is of at most 4 of the variables
-pub record HavePlaces (rows : List Row) (places : List NamePlace) (vars : ℕ) : Type 0 where
+pub record HavePlaces (rows : List Row) (places : List Place) (vars : ℕ) : Type 0 where
   pub placed : IsTrue (are_placed places 0 rows)
   pub inside : AllByRecursion (IsInside vars) places
 
 -- the bits at each place spell the number of its name's field
-abbrev pub Spells : List NamePlace → List Bool → (ℕ → ℕ) → Type 0
-Spells places w field = AllByRecursion (λ (p : NamePlace). field p.name ≡ spelt w p.first p.bits) places
+abbrev pub Spells : List Place → List Bool → (ℕ → ℕ) → Type 0
+Spells places w field = AllByRecursion (λ (p : Place). field p.name ≡ spelt w p.first p.bits) places

@@ -17,7 +17,7 @@ pub struct Pick {
 /// Where the bits of a Code or Truth name that is state or hardware stand among the variables: `bits` of them from `first`
 /// on, the most significant one first.
 #[derive(Clone, Copy, Debug, PartialEq, Eq)]
-pub struct NamePlace {
+pub struct Place {
     pub name: NameId,
     pub first: u32,
     pub bits: u32,

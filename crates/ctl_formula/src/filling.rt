@@ -1,9 +1,9 @@
 //! The gates and picks of all names of a table, along an order.
 ghost use Rattle.std.specs.Prelude.{◌≡◌, ◌≤◌, ◌<◌, ◌-◌, ◌++◌, ◌∷◌, [], true, false, ◌+◌, length, List, Bool, ℕ, IfOk, IfErr, OnOk, IsTrue, slice_get, slice_set, take, Some};
 ghost use Rattle.std.specs.List.{AllByRecursion};
-ghost use Rattle.nets.specs.Nets.{Begins};
+ghost use Rattle.nets.specs.Nets.{ExtendsNet};
 ghost use Rattle.hcl_types.specs.declared.table.Row.{Row};
-ghost use Rattle.hcl_types.specs.Equations.{Fixes};
+ghost use Rattle.hcl_types.specs.Equations.{IsSolution};
 ghost use Rattle.hcl_types.specs.Kinds.{is_truth};
 ghost use Rattle.hcl_types.specs.Tables.{IsBound, IsOrderOf, IsSound};
 ghost use Rattle.hcl_types.specs.Tables as tables;
@@ -11,17 +11,17 @@ ghost use Rattle.hcl_types.specs.Terms.{names, value};
 ghost use Rattle.ctl_atoms.specs.declared.leaf.Leaf.{Leaf};
 ghost use Rattle.ctl_atoms.specs.declared.leaf.Atom.{Atom};
 ghost use Rattle.ctl_atoms.specs.Atoms.{AreAtoms, IsCtlFault};
-ghost use Rattle.ctl_atoms.specs.Leaves.{Assignment, AtomsAre, picks};
+ghost use Rattle.ctl_atoms.specs.Leaves.{Assignment, AtomsAre, leaf_meaning};
 ghost use Rattle.ctl_atoms.specs.Rows.{defined_leaves, leaf_rule, row_term};
 ghost use Rattle.ctl_formula.specs.Controls.{AreControls};
-ghost use Rattle.ctl_formula.specs.Picks.{Covers, IsInside, Tells};
+ghost use Rattle.ctl_formula.specs.Picks.{Covers, IsInside, EncodesControls};
 ghost use Rattle.ctl_formula.specs.Laws.{AreApart};
 ghost use Rattle.ctl_formula.specs.Places.{HavePlaces, Spells};
-ghost use Rattle.ctl_formula.specs.Chosen.{at};
-ghost use Rattle.ctl_formula.specs.Readies.{EntryShows, EntryWithin, IsEntryOf, IsOpen, Shows, ready};
-ghost use Rattle.ctl_formula.specs.Filled.{IsFilling, IsGiven, IsTold, is_filled};
+ghost use Rattle.ctl_formula.specs.TakenPicks.{at};
+ghost use Rattle.ctl_formula.specs.Translatable.{EntryEncodes, EntryWithin, IsEntryOf, HasScope, EncodesSoFar, translatable};
+ghost use Rattle.ctl_formula.specs.Encoding.{IsPartialEncoding, IsInputEncoding, IsEncoding, is_filled};
 
-use crate::controls::{Controls, Entry, NamePlace};
+use crate::controls::{Controls, Entry, Place};
 use crate::given::given_entry;
 use crate::scope::Scope;
 use ctl_atoms::{Atom, CtlFault, atoms, definitions_before};
@@ -39,14 +39,14 @@ impl<'a> Scope<'a> {
         class: Class,
         t: &Term,
     ) -> Result<Entry, Memory>
-        requires open { IsOpen b.old self.now.entries.now self.now.atoms.now self.now.first }
-        requires truth { is_truth class ≡ true → IsTrue (ready self.now.entries.now self.now.atoms.now t.now).truth }
-        requires word { is_truth class ≡ false → IsTrue (ready self.now.entries.now self.now.atoms.now t.now).word }
-        ensures begins { Begins b.old b.new }
+        requires open { HasScope b.old self.now.entries.now self.now.atoms.now self.now.first }
+        requires truth { is_truth class ≡ true → IsTrue (translatable self.now.entries.now self.now.atoms.now t.now).truth }
+        requires word { is_truth class ≡ false → IsTrue (translatable self.now.entries.now self.now.atoms.now t.now).word }
+        ensures extends { ExtendsNet b.old b.new }
         ensures within { IfOk result (EntryWithin (length b.new.gates)) }
-        ensures entry { IfOk result (IsEntryOf class (defined_leaves class (ready self.now.entries.now self.now.atoms.now t.now).leaves)) }
-        ensures is { (w : List Bool) (α : Assignment) (cv : ℕ → Leaf) → Shows b.old self.now.entries.now self.now.atoms.now self.now.first w α cv →
-            IfOk result (λ e. EntryShows (at b.new w) α e (value (picks α) cv t.now)) }
+        ensures entry { IfOk result (IsEntryOf class (defined_leaves class (translatable self.now.entries.now self.now.atoms.now t.now).leaves)) }
+        ensures is { (w : List Bool) (α : Assignment) (cv : ℕ → Leaf) → EncodesSoFar b.old self.now.entries.now self.now.atoms.now self.now.first w α cv →
+            IfOk result (λ e. EntryEncodes (at b.new w) α e (value (leaf_meaning α) cv t.now)) }
     {
         match class {
             Class::Truth => {
@@ -79,14 +79,14 @@ fn entry_of(
     class: Class,
     t: &Term,
 ) -> Result<Entry, Memory>
-    requires open { IsOpen b.old entries.now atoms.now first }
-    requires truth { is_truth class ≡ true → IsTrue (ready entries.now atoms.now t.now).truth }
-    requires word { is_truth class ≡ false → IsTrue (ready entries.now atoms.now t.now).word }
-    ensures begins { Begins b.old b.new }
+    requires open { HasScope b.old entries.now atoms.now first }
+    requires truth { is_truth class ≡ true → IsTrue (translatable entries.now atoms.now t.now).truth }
+    requires word { is_truth class ≡ false → IsTrue (translatable entries.now atoms.now t.now).word }
+    ensures extends { ExtendsNet b.old b.new }
     ensures within { IfOk result (EntryWithin (length b.new.gates)) }
-    ensures entry { IfOk result (IsEntryOf class (defined_leaves class (ready entries.now atoms.now t.now).leaves)) }
-    ensures is { (w : List Bool) (α : Assignment) (cv : ℕ → Leaf) → Shows b.old entries.now atoms.now first w α cv →
-        IfOk result (λ e. EntryShows (at b.new w) α e (value (picks α) cv t.now)) }
+    ensures entry { IfOk result (IsEntryOf class (defined_leaves class (translatable entries.now atoms.now t.now).leaves)) }
+    ensures is { (w : List Bool) (α : Assignment) (cv : ℕ → Leaf) → EncodesSoFar b.old entries.now atoms.now first w α cv →
+        IfOk result (λ e. EntryEncodes (at b.new w) α e (value (leaf_meaning α) cv t.now)) }
 {
     let scope = Scope {
         entries,
@@ -111,12 +111,12 @@ fn given_entries(
     alloc: Global,
     b: &mut NetBuilder,
     rows: &[Row],
-    places: &[NamePlace],
+    places: &[Place],
 ) -> Result<Vec<Entry>, Memory>
     requires sound { IsSound rows.now }
     requires places { HavePlaces rows.now places.now b.old.vars }
-    ensures begins { Begins b.old b.new }
-    ensures given { IfOk result (λ es. IsGiven rows.now places.now (length rows.now) b.new es.items) }
+    ensures extends { ExtendsNet b.old b.new }
+    ensures given { IfOk result (λ es. IsInputEncoding rows.now places.now (length rows.now) b.new es.items) }
 {
     let mut es = Vec::new(alloc);
     for id in 0..rows.len() {
@@ -161,13 +161,13 @@ fn put_row(
     requires bound { IsBound rows.now d.now.terms }
     requires atoms { AreAtoms rows.now d.now.terms listed.now }
     requires vars { first + length listed.now ≤ b.old.vars }
-    requires leaves { (leaves : ℕ → List Leaf) × Fixes (leaf_rule rows.now d.now.terms) leaves }
-    requires filling { (places : List NamePlace) × IsFilling rows.now d.now.terms places listed.now first b.old es.old.items }
+    requires leaves { (leaves : ℕ → List Leaf) × IsSolution (leaf_rule rows.now d.now.terms) leaves }
+    requires filling { (places : List NamePlace) × IsPartialEncoding rows.now d.now.terms places listed.now first b.old es.old.items }
     requires needs { (row : Row) → slice_get rows.now id ≡ Some row → tables.is_defined row.role ≡ true →
         AllByRecursion (λ m. m < length rows.now → IsTrue (is_filled (slice_get es.old.items m))) (names (row_term rows.now d.now.terms id)) }
-    ensures begins { Begins b.old b.new }
-    ensures filling { (places : List NamePlace) → IsFilling rows.now d.now.terms places listed.now first b.old es.old.items →
-        OnOk result (IsFilling rows.now d.now.terms places listed.now first b.new es.new.items) }
+    ensures extends { ExtendsNet b.old b.new }
+    ensures filling { (places : List NamePlace) → IsPartialEncoding rows.now d.now.terms places listed.now first b.old es.old.items →
+        OnOk result (IsPartialEncoding rows.now d.now.terms places listed.now first b.new es.new.items) }
     ensures filled { (row : Row) → slice_get rows.now id ≡ Some row → tables.is_defined row.role ≡ true → OnOk result (IsTrue (is_filled (slice_get es.new.items id))) }
     ensures kept { (n : ℕ) → IsTrue (is_filled (slice_get es.old.items n)) → OnOk result (IsTrue (is_filled (slice_get es.new.items n))) }
 {
@@ -187,7 +187,7 @@ fn told_entries(
     d: &Design,
     t: &Table,
     o: &Order,
-    places: &[NamePlace],
+    places: &[Place],
     listed: &[Atom],
     first: u32,
     b: &mut NetBuilder,
@@ -198,8 +198,8 @@ fn told_entries(
     requires places { HavePlaces t.now.rows places.now b.old.vars }
     requires atoms { AreAtoms t.now.rows d.now.terms listed.now }
     requires vars { first + length listed.now ≤ b.old.vars }
-    ensures begins { Begins b.old b.new }
-    ensures told { IfOk result (λ es. IsTold t.now.rows d.now.terms places.now listed.now first b.new es.items) }
+    ensures extends { ExtendsNet b.old b.new }
+    ensures encodes { IfOk result (λ es. IsEncoding t.now.rows d.now.terms places.now listed.now first b.new es.items) }
 {
     let mut es = given_entries(alloc, b, t.rows.items(), places)?;
     for id in o.ids.items() {
@@ -224,7 +224,7 @@ fn controls(
     d: &Design,
     t: &Table,
     o: &Order,
-    places: &[NamePlace],
+    places: &[Place],
     listed: &[Atom],
     b: &mut NetBuilder,
 ) -> Result<Controls, Memory>
@@ -234,13 +234,13 @@ fn controls(
     requires places { HavePlaces t.now.rows places.now b.old.vars }
     requires atoms { AreAtoms t.now.rows d.now.terms listed.now }
     requires vars { length listed.now ≤ b.old.vars }
-    ensures begins { Begins b.old b.new }
+    ensures extends { ExtendsNet b.old b.new }
     ensures inside { IfOk result (λ ctl. IsInside b.new ctl) }
     ensures covers { IfOk result (λ ctl. Covers t.now.rows ctl) }
     ensures apart { IfOk result (λ ctl. AreApart ctl) }
-    ensures tells { (w : List Bool) (α : Assignment) (field : ℕ → ℕ) (cv : ℕ → Leaf) →
+    ensures encodes { (w : List Bool) (α : Assignment) (field : ℕ → ℕ) (cv : ℕ → Leaf) →
         AtomsAre listed.now (b.old.vars - length listed.now) w α → Spells places.now w field → AreControls t.now.rows d.now.terms field α cv →
-        IfOk result (λ ctl. Tells b.new ctl w α cv) }
+        IfOk result (λ ctl. EncodesControls b.new ctl w α cv) }
 {
     let vars = b.vars();
     let first = vars - listed.len() as u32;
@@ -259,7 +259,7 @@ pub fn translate(
     d: &Design,
     t: &Table,
     o: &Order,
-    places: &[NamePlace],
+    places: &[Place],
     b: &mut NetBuilder,
 ) -> Result<Controls, CtlFault>
     requires sound { IsSound t.now.rows }
@@ -267,13 +267,13 @@ pub fn translate(
     requires ordered { IsOrderOf t.now.rows d.now.terms o.now.ids }
     requires places { HavePlaces t.now.rows places.now b.old.vars }
     requires vars { (listed : List Atom) → AreAtoms t.now.rows d.now.terms listed → length listed ≤ b.old.vars }
-    ensures begins { Begins b.old b.new }
+    ensures extends { ExtendsNet b.old b.new }
     ensures inside { IfOk result (λ ctl. IsInside b.new ctl) }
     ensures covers { IfOk result (λ ctl. Covers t.now.rows ctl) }
     ensures apart { IfOk result (λ ctl. AreApart ctl) }
-    ensures tells { (w : List Bool) (α : Assignment) (field : ℕ → ℕ) (cv : ℕ → Leaf) (listed : List Atom) → AreAtoms t.now.rows d.now.terms listed →
+    ensures encodes { (w : List Bool) (α : Assignment) (field : ℕ → ℕ) (cv : ℕ → Leaf) (listed : List Atom) → AreAtoms t.now.rows d.now.terms listed →
         AtomsAre listed (b.old.vars - length listed) w α → Spells places.now w field → AreControls t.now.rows d.now.terms field α cv →
-        IfOk result (λ ctl. Tells b.new ctl w α cv) }
+        IfOk result (λ ctl. EncodesControls b.new ctl w α cv) }
     // So there is an answer only where nothing is Mixed and there are at most 64 atoms.
     ensures listed { IfOk result (λ ctl. (listed : List Atom) × AreAtoms t.now.rows d.now.terms listed) }
     ensures fault { IfErr result (IsCtlFault t.now.rows d.now.terms) }

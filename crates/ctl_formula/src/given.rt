@@ -1,8 +1,8 @@
 //! The gates and picks of names that no definition gives: constants, state and hardware.
 ghost use Rattle.std.specs.Prelude.{◌≡◌, ◌<◌, ◌≤◌, ◌+◌, ◌==◌, ◌∷◌, [], not, is_some, true, false, length, List, Bool, ℕ, IfOk, IsTrue, Some};
 ghost use Rattle.std.specs.List.{AllByRecursion};
-ghost use Rattle.nets.specs.Nets.{Begins, IsGate};
-ghost use Rattle.field_bits.specs.Spelling.{spelt};
+ghost use Rattle.nets.specs.Nets.{ExtendsNet, IsGate};
+ghost use Rattle.net_fields.specs.Spelling.{spelt};
 ghost use Rattle.hcl_types.specs.Tables.{is_constant, is_defined, is_number};
 ghost use Rattle.ctl_atoms.specs.declared.leaf.Leaf.{Leaf};
 ghost use Rattle.ctl_atoms.specs.declared.leaf.Leaf.TheVariants.{Number};
@@ -12,20 +12,20 @@ ghost use Rattle.ctl_formula.specs.declared.controls.Entry.TheVariants as entry;
 ghost use Rattle.ctl_formula.specs.Picks.{Within};
 ghost use Rattle.ctl_formula.specs.Controls.{field_leaf, role_leaf};
 ghost use Rattle.ctl_formula.specs.Places.{IsInside, Spells, has_bits, is_field, place_of};
-ghost use Rattle.ctl_formula.specs.Chosen.{Picked, at};
-ghost use Rattle.ctl_formula.specs.Readies.{EntryShows, EntryWithin, IsEntryOf, leaves_of};
+ghost use Rattle.ctl_formula.specs.TakenPicks.{IsOnlyTaken, at};
+ghost use Rattle.ctl_formula.specs.Translatable.{EntryEncodes, EntryWithin, IsEntryOf, leaves_of};
 
-use crate::controls::{Entry, NamePlace, Pick};
+use crate::controls::{Entry, Pick, Place};
 use crate::picking::put_pick;
 use ctl_atoms::Leaf;
-use field_bits::spells;
 use hcl_types::{Class, NameId, Role, Row};
+use net_fields::spells;
 use nets::NetBuilder;
 use std::alloc::Global;
 use y86_base::{Items, Memory};
 
 /// The place of a name.
-fn find_place(places: &[NamePlace], name: NameId) -> NamePlace
+fn find_place(places: &[Place], name: NameId) -> Place
     requires { IsTrue (is_some (place_of places.now name)) }
     ensures { place_of places.now name ≡ Some result }
 {
@@ -34,7 +34,7 @@ fn find_place(places: &[NamePlace], name: NameId) -> NamePlace
             return *place;
         }
     }
-    NamePlace {
+    Place {
         name,
         first: 0,
         bits: 0,
@@ -43,10 +43,10 @@ fn find_place(places: &[NamePlace], name: NameId) -> NamePlace
 
 /// The pick of one leaf alone.
 fn one_pick(alloc: Global, b: &mut NetBuilder, leaf: Leaf) -> Result<Vec<Pick>, Memory>
-    ensures begins { Begins b.old b.new }
+    ensures extends { ExtendsNet b.old b.new }
     ensures within { IfOk result (λ ps. Within (length b.new.gates) ps.items) }
     ensures leaves { IfOk result (λ ps. leaves_of ps.items ≡ leaf ∷ []) }
-    ensures is { (w : List Bool) → IfOk result (λ ps. Picked (at b.new w) ps.items leaf) }
+    ensures is { (w : List Bool) → IfOk result (λ ps. IsOnlyTaken (at b.new w) ps.items leaf) }
 {
     let gate = b.constant(true)?;
     let mut ps = Vec::new(alloc);
@@ -55,35 +55,35 @@ fn one_pick(alloc: Global, b: &mut NetBuilder, leaf: Leaf) -> Result<Vec<Pick>, 
 }
 
 /// The gate of: the bits of a place spell a number.
-fn spelling(b: &mut NetBuilder, place: NamePlace, n: u64) -> Result<u64, Memory>
+fn spelling(b: &mut NetBuilder, place: Place, n: u64) -> Result<u64, Memory>
     requires { place.first + place.bits ≤ b.old.vars }
-    ensures begins { Begins b.old b.new }
-    ensures made { IfOk result (λ g. IsGate b.new g (λ w. spelt w place.first place.bits == n)) }
+    ensures extends { ExtendsNet b.old b.new }
+    ensures has_truth { IfOk result (λ g. IsGate b.new g (λ w. spelt w place.first place.bits == n)) }
 {
     let first = place.first;
     let bits = place.bits;
-    spells(b, field_bits::FieldPlace { first, bits }, n)
+    spells(b, net_fields::BitRange { first, bits }, n)
 }
 
 /// The gate of: the number at a place isn't 0.
 #[tactic(auto, using(nets::proofs::Truths::begins_more))]
-fn bit_gate(b: &mut NetBuilder, place: NamePlace) -> Result<u64, Memory>
+fn bit_gate(b: &mut NetBuilder, place: Place) -> Result<u64, Memory>
     requires { place.first + place.bits ≤ b.old.vars }
-    ensures begins { Begins b.old b.new }
-    ensures made { IfOk result (λ g. IsGate b.new g (λ w. not (spelt w place.first place.bits == 0))) }
+    ensures extends { ExtendsNet b.old b.new }
+    ensures has_truth { IfOk result (λ g. IsGate b.new g (λ w. not (spelt w place.first place.bits == 0))) }
 {
     let zero = spelling(b, place, 0)?;
     b.not(zero)
 }
 
 /// The picks of a code: each number of 4 bits, where the bits of its place spell it.
-fn code_picks(alloc: Global, b: &mut NetBuilder, place: NamePlace) -> Result<Vec<Pick>, Memory>
+fn code_picks(alloc: Global, b: &mut NetBuilder, place: Place) -> Result<Vec<Pick>, Memory>
     requires few { place.bits ≤ 4 }
     requires inside { place.first + place.bits ≤ b.old.vars }
-    ensures begins { Begins b.old b.new }
+    ensures extends { ExtendsNet b.old b.new }
     ensures within { IfOk result (λ ps. Within (length b.new.gates) ps.items) }
     ensures leaves { IfOk result (λ ps. leaves_of ps.items ≡ codes) }
-    ensures is { (w : List Bool) → IfOk result (λ ps. Picked (at b.new w) ps.items (Number (spelt w place.first place.bits))) }
+    ensures is { (w : List Bool) → IfOk result (λ ps. IsOnlyTaken (at b.new w) ps.items (Number (spelt w place.first place.bits))) }
 {
     let mut ps = Vec::new(alloc);
     for k in 0..16u64 {
@@ -103,14 +103,14 @@ fn field_entry(
     b: &mut NetBuilder,
     class: Class,
     id: NameId,
-    places: &[NamePlace],
+    places: &[Place],
 ) -> Result<Entry, Memory>
     requires placed { has_bits class ≡ true → IsTrue (is_some (place_of places.now id)) }
     requires inside { AllByRecursion (IsInside b.old.vars) places.now }
-    ensures begins { Begins b.old b.new }
+    ensures extends { ExtendsNet b.old b.new }
     ensures within { IfOk result (EntryWithin (length b.new.gates)) }
     ensures entry { IfOk result (IsEntryOf class (field_leaves class id)) }
-    ensures is { (w : List Bool) (α : Assignment) (field : ℕ → ℕ) → Spells places.now w field → IfOk result (λ e. EntryShows (at b.new w) α e (field_leaf field id class)) }
+    ensures is { (w : List Bool) (α : Assignment) (field : ℕ → ℕ) → Spells places.now w field → IfOk result (λ e. EntryEncodes (at b.new w) α e (field_leaf field id class)) }
 {
     match class {
         Class::Number => {
@@ -138,16 +138,16 @@ pub fn given_entry(
     b: &mut NetBuilder,
     row: &Row,
     id: NameId,
-    places: &[NamePlace],
+    places: &[Place],
 ) -> Result<Entry, Memory>
     requires sound { is_number row.now.class ≡ is_constant row.now.role }
     requires placed { is_field row.now.role ≡ true → has_bits row.now.class ≡ true → IsTrue (is_some (place_of places.now id)) }
     requires inside { AllByRecursion (IsInside b.old.vars) places.now }
-    ensures begins { Begins b.old b.new }
+    ensures extends { ExtendsNet b.old b.new }
     ensures within { IfOk result (EntryWithin (length b.new.gates)) }
     ensures absent { is_defined row.now.role ≡ true → IfOk result (λ e. e ≡ entry.Absent) }
     ensures entry { is_defined row.now.role ≡ false → IfOk result (IsEntryOf row.now.class (leaves_by_role row.now.class id row.now.role [])) }
-    ensures is { (w : List Bool) (α : Assignment) (field : ℕ → ℕ) (told : Leaf) → Spells places.now w field → IfOk result (λ e. EntryShows (at b.new w) α e (role_leaf field id row.now.class row.now.role told)) }
+    ensures is { (w : List Bool) (α : Assignment) (field : ℕ → ℕ) (told : Leaf) → Spells places.now w field → IfOk result (λ e. EntryEncodes (at b.new w) α e (role_leaf field id row.now.class row.now.role told)) }
 {
     match &row.role {
         Role::Constant(n) => {

@@ -6,7 +6,7 @@ ghost use Rattle.hcl_types.specs.Tables.{IsOrderOf};
 ghost use Rattle.ctl_atoms.specs.declared.leaf.Leaf.{Leaf};
 ghost use Rattle.ctl_atoms.specs.Leaves.{Assignment};
 ghost use Rattle.ctl_formula.specs.Controls.{AreControls};
-ghost use Rattle.ctl_formula.specs.Laws.{Agreement, HasControls, OneGate};
+ghost use Rattle.ctl_formula.specs.Laws.{ControlsAgree, HasControls, OneGate};
 
 /// Where the rows of a table and a design have an order, exactly one assignment of control values solves their equations,
 /// whatever the numbers of the fields and the truths of comparisons are.
@@ -19,7 +19,7 @@ pub fn law_of_controls()
 /// Where the comparisons are those of the values of a cycle, and each given row's control value is worth its value, each
 /// control value is worth the value of its name.
 pub fn law_of_agreement()
-    ensures { Agreement }
+    ensures { ControlsAgree }
 {}
 
 /// Where gates tell control values, exactly one gate of a name's picks is true: that of the pick whose leaf is the control value.

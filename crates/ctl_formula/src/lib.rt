@@ -14,7 +14,7 @@ mod picking;
 mod scope;
 mod terms;
 
-pub use controls::{Controls, Entry, NamePlace, Pick};
+pub use controls::{Controls, Entry, Pick, Place};
 pub use ctl_atoms::{CtlFault, Leaf};
 pub use filling::translate;
 pub use laws::{law_of_agreement, law_of_controls, law_of_picks};

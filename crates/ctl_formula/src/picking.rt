@@ -1,12 +1,12 @@
 //! Lists of picks: a leaf is found, a gate is joined to its pick.
 ghost use Rattle.std.specs.Prelude.{◌≡◌, ◌<◌, ◌&&◌, ◌||◌, ◌++◌, ◌∷◌, [], length, List, Bool, IfOk, OnOk, MatchOption, false};
 ghost use Rattle.ctl_atoms.specs.declared.leaf.Leaf.{Leaf};
-ghost use Rattle.nets.specs.Nets.{Begins, truth};
+ghost use Rattle.nets.specs.Nets.{ExtendsNet, truth};
 ghost use Rattle.ctl_atoms.specs.Leaves.{leaf_eq};
-ghost use Rattle.ctl_formula.specs.Chosen.{at, taken};
+ghost use Rattle.ctl_formula.specs.TakenPicks.{at, leaf_taken};
 ghost use Rattle.ctl_formula.specs.Picks.{Within};
-ghost use Rattle.ctl_formula.specs.Readies.{IsPlace, leaves_of};
-ghost use Rattle.ctl_atoms.specs.Plans.{has_leaf, joined, once};
+ghost use Rattle.ctl_formula.specs.Translatable.{IsPlace, leaves_of};
+ghost use Rattle.ctl_atoms.specs.TermAtoms.{has_leaf, joined, once};
 
 use crate::controls::Pick;
 use ctl_atoms::{Leaf, same_leaf};
@@ -51,11 +51,11 @@ pub fn copy_picks(alloc: Global, ps: &[Pick]) -> Result<Vec<Pick>, Memory>
 pub fn add(b: &mut NetBuilder, out: &mut Vec<Pick>, leaf: Leaf, gate: u64) -> Result<(), Memory>
     requires within { Within (length b.old.gates) out.old.items }
     requires gate { gate < length b.old.gates }
-    ensures begins { Begins b.old b.new }
+    ensures extends { ExtendsNet b.old b.new }
     ensures within { OnOk result (Within (length b.new.gates) out.new.items) }
     ensures leaves { OnOk result (leaves_of out.new.items ≡ once (leaves_of out.old.items) leaf) }
     ensures is { (w : List Bool) (y : Leaf) →
-        OnOk result (taken (at b.new w) out.new.items y ≡ taken (at b.old w) out.old.items y || (leaf_eq leaf y && truth b.old gate w)) }
+        OnOk result (leaf_taken (at b.new w) out.new.items y ≡ leaf_taken (at b.old w) out.old.items y || (leaf_eq leaf y && truth b.old gate w)) }
 {
     match place_of(out.as_slice(), leaf) {
         Some(k) => {
@@ -77,11 +77,11 @@ pub fn add_all(
     requires within { Within (length b.old.gates) out.old.items }
     requires gate { here < length b.old.gates }
     requires more { Within (length b.old.gates) ps.now }
-    ensures begins { Begins b.old b.new }
+    ensures extends { ExtendsNet b.old b.new }
     ensures within { OnOk result (Within (length b.new.gates) out.new.items) }
     ensures leaves { OnOk result (leaves_of out.new.items ≡ joined (leaves_of out.old.items) (leaves_of ps.now)) }
     ensures is { (w : List Bool) (y : Leaf) →
-        OnOk result (taken (at b.new w) out.new.items y ≡ taken (at b.old w) out.old.items y || (truth b.old here w && taken (at b.old w) ps.now y)) }
+        OnOk result (leaf_taken (at b.new w) out.new.items y ≡ leaf_taken (at b.old w) out.old.items y || (truth b.old here w && leaf_taken (at b.old w) ps.now y)) }
 {
     for p in ps {
         let g = b.and(here, p.gate)?;

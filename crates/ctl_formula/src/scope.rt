@@ -1,15 +1,15 @@
 //! What a translation reads, and the gates of atoms and comparisons.
 ghost use Rattle.std.specs.Prelude.{◌≡◌, ◌<◌, ◌≤◌, ◌+◌, ◌^◌, length, List, Bool, IfOk, IsTrue};
-ghost use Rattle.nets.specs.Nets.{Begins, truth};
-ghost use Rattle.ctl_atoms.specs.Leaves.{has_atom, AtomsAre, Assignment, asked_lt, asked_eq, asked, is_listed, decided_lt, leaf_lt, leaf_same, leaf_cmp};
+ghost use Rattle.nets.specs.Nets.{ExtendsNet, truth};
+ghost use Rattle.ctl_atoms.specs.Leaves.{has_atom, AtomsAre, Assignment, open_lt, open_eq, open_atom, is_listed, decided_lt, leaf_lt, leaf_same, leaf_cmp};
 ghost use Rattle.ctl_atoms.specs.declared.leaf.Leaf.{Leaf};
-ghost use Rattle.ctl_formula.specs.Chosen.{Picked, at, row_listed, row_holds, pairs_listed, pairs_hold};
+ghost use Rattle.ctl_formula.specs.TakenPicks.{IsOnlyTaken, at, row_listed, row_holds, pairs_listed, pairs_hold};
 ghost use Rattle.ctl_formula.specs.Picks.{Within};
-ghost use Rattle.ctl_formula.specs.Readies.{leaves_listed, leaves_of};
+ghost use Rattle.ctl_formula.specs.Translatable.{leaves_listed, leaves_of};
 ghost use Rattle.hcl_types.specs.Lists.{each};
 
 use crate::controls::{Entry, Pick};
-use ctl_atoms::{Atom, Leaf, ask, position, same_leaf};
+use ctl_atoms::{Atom, Leaf, atom_at, position, same_leaf};
 use hcl_types::{CmpOp, is_below};
 use nets::NetBuilder;
 use y86_base::Memory;
@@ -40,7 +40,7 @@ impl<'a> Scope<'a> {
     fn atom(&self, b: &mut NetBuilder, atom: Atom) -> Result<u64, Memory>
         requires listed { IsTrue (has_atom self.now.atoms.now atom) }
         requires vars { self.now.first + length self.now.atoms.now ≤ b.old.vars }
-        ensures begins { Begins b.old b.new }
+        ensures extends { ExtendsNet b.old b.new }
         ensures within { IfOk result (λ g. g < length b.new.gates) }
         ensures is { (w : List Bool) (α : Assignment) → AtomsAre self.now.atoms.now self.now.first w α →
             IfOk result (λ g. truth b.new g w ≡ α atom.kind atom.left atom.right) }
@@ -54,14 +54,14 @@ impl<'a> Scope<'a> {
 
     /// The gate of `x < y`.
     fn less(&self, b: &mut NetBuilder, x: Leaf, y: Leaf) -> Result<u64, Memory>
-        requires listed { IsTrue (is_listed self.now.atoms.now (asked_lt x y)) }
+        requires listed { IsTrue (is_listed self.now.atoms.now (open_lt x y)) }
         requires vars { self.now.first + length self.now.atoms.now ≤ b.old.vars }
-        ensures begins { Begins b.old b.new }
+        ensures extends { ExtendsNet b.old b.new }
         ensures within { IfOk result (λ g. g < length b.new.gates) }
         ensures is { (w : List Bool) (α : Assignment) → AtomsAre self.now.atoms.now self.now.first w α →
             IfOk result (λ g. truth b.new g w ≡ leaf_lt α x y) }
     {
-        match ask(CmpOp::Lt, x, y) {
+        match atom_at(CmpOp::Lt, x, y) {
             Some(atom) => self.atom(b, atom),
             None => b.constant(is_decided_below(x, y)),
         }
@@ -69,14 +69,14 @@ impl<'a> Scope<'a> {
 
     /// The gate of `x == y`.
     fn same(&self, b: &mut NetBuilder, x: Leaf, y: Leaf) -> Result<u64, Memory>
-        requires listed { IsTrue (is_listed self.now.atoms.now (asked_eq x y)) }
+        requires listed { IsTrue (is_listed self.now.atoms.now (open_eq x y)) }
         requires vars { self.now.first + length self.now.atoms.now ≤ b.old.vars }
-        ensures begins { Begins b.old b.new }
+        ensures extends { ExtendsNet b.old b.new }
         ensures within { IfOk result (λ g. g < length b.new.gates) }
         ensures is { (w : List Bool) (α : Assignment) → AtomsAre self.now.atoms.now self.now.first w α →
             IfOk result (λ g. truth b.new g w ≡ leaf_same α x y) }
     {
-        match ask(CmpOp::Eq, x, y) {
+        match atom_at(CmpOp::Eq, x, y) {
             Some(atom) => self.atom(b, atom),
             None => b.constant(same_leaf(x, y)),
         }
@@ -84,9 +84,9 @@ impl<'a> Scope<'a> {
 
     /// The gate of a comparison of two leaves.
     pub fn leaf_cmp(&self, b: &mut NetBuilder, op: CmpOp, x: Leaf, y: Leaf) -> Result<u64, Memory>
-        requires listed { IsTrue (is_listed self.now.atoms.now (asked op x y)) }
+        requires listed { IsTrue (is_listed self.now.atoms.now (open_atom op x y)) }
         requires vars { self.now.first + length self.now.atoms.now ≤ b.old.vars }
-        ensures begins { Begins b.old b.new }
+        ensures extends { ExtendsNet b.old b.new }
         ensures within { IfOk result (λ g. g < length b.new.gates) }
         ensures is { (w : List Bool) (α : Assignment) → AtomsAre self.now.atoms.now self.now.first w α →
             IfOk result (λ g. truth b.new g w ≡ leaf_cmp α op x y) }
@@ -115,7 +115,7 @@ impl<'a> Scope<'a> {
         requires listed { IsTrue (row_listed self.now.atoms.now op x qs.now) }
         requires vars { self.now.first + length self.now.atoms.now ≤ b.old.vars }
         requires gates { Within (length b.old.gates) qs.now }
-        ensures begins { Begins b.old b.new }
+        ensures extends { ExtendsNet b.old b.new }
         ensures within { IfOk result (λ g. g < length b.new.gates) }
         ensures is { (w : List Bool) (α : Assignment) → AtomsAre self.now.atoms.now self.now.first w α →
             IfOk result (λ g. truth b.new g w ≡ row_holds (at b.old w) α op x qs.now) }
@@ -135,7 +135,7 @@ impl<'a> Scope<'a> {
         requires vars { self.now.first + length self.now.atoms.now ≤ b.old.vars }
         requires left { Within (length b.old.gates) ps.now }
         requires right { Within (length b.old.gates) qs.now }
-        ensures begins { Begins b.old b.new }
+        ensures extends { ExtendsNet b.old b.new }
         ensures within { IfOk result (λ g. g < length b.new.gates) }
         ensures is { (w : List Bool) (α : Assignment) → AtomsAre self.now.atoms.now self.now.first w α →
             IfOk result (λ g. truth b.new g w ≡ pairs_hold (at b.old w) α op ps.now qs.now) }
@@ -162,10 +162,10 @@ impl<'a> Scope<'a> {
         requires vars { self.now.first + length self.now.atoms.now ≤ b.old.vars }
         requires left { Within (length b.old.gates) ps.now }
         requires right { Within (length b.old.gates) qs.now }
-        ensures begins { Begins b.old b.new }
+        ensures extends { ExtendsNet b.old b.new }
         ensures within { IfOk result (λ g. g < length b.new.gates) }
         ensures is { (w : List Bool) (α : Assignment) (x y : Leaf) → AtomsAre self.now.atoms.now self.now.first w α →
-            Picked (at b.old w) ps.now x → Picked (at b.old w) qs.now y →
+            IsOnlyTaken (at b.old w) ps.now x → IsOnlyTaken (at b.old w) qs.now y →
             IfOk result (λ g. truth b.new g w ≡ leaf_cmp α op x y) }
     {
         self.pairs(b, op, ps, qs)

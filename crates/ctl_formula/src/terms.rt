@@ -7,13 +7,13 @@ ghost use Rattle.ctl_formula.specs.declared.controls.Entry.TheVariants.{Truth, P
 ghost use Rattle.ctl_formula.specs.declared.controls.Entry.{Entry};
 ghost use Rattle.ctl_atoms.specs.declared.leaf.Atom.{Atom};
 ghost use Rattle.hcl_types.specs.declared.term.Term.TheVariants.{Num};
-ghost use Rattle.nets.specs.Nets.{Begins, truth};
-ghost use Rattle.ctl_atoms.specs.Leaves.{Assignment, leaf_eq, leaf_holds, leaf_cmp, picks};
-ghost use Rattle.ctl_formula.specs.Chosen.{Picked, at, taken};
+ghost use Rattle.nets.specs.Nets.{ExtendsNet, truth};
+ghost use Rattle.ctl_atoms.specs.Leaves.{Assignment, leaf_eq, leaf_holds, leaf_cmp, leaf_meaning};
+ghost use Rattle.ctl_formula.specs.TakenPicks.{IsOnlyTaken, at, leaf_taken};
 ghost use Rattle.ctl_formula.specs.Picks.{Within};
-ghost use Rattle.ctl_formula.specs.Readies.{IsOpen, Shows, ready, truths, members, branches, branch_ready, case_leaves, leaves_of};
+ghost use Rattle.ctl_formula.specs.Translatable.{HasScope, EncodesSoFar, translatable, truths, members, branches, branch_ready, case_leaves, leaves_of};
 ghost use Rattle.ctl_formula.specs.Picks.{entry_truth, entry_word};
-ghost use Rattle.ctl_atoms.specs.Plans.{once, joined};
+ghost use Rattle.ctl_atoms.specs.TermAtoms.{once, joined};
 ghost use Rattle.hcl_types.specs.Lists.{each, some};
 ghost use Rattle.hcl_types.specs.Terms.{picked, value, branch_value};
 ghost use Rattle.hcl_read.specs.declared.tree.CmpOp.TheVariants.{Eq};
@@ -30,7 +30,7 @@ use y86_base::Memory;
 
 /// Whether a term is the number 1.
 pub fn is_one(t: &Term) -> bool
-    ensures one { (es : List Entry) (atoms : List Atom) → result ≡ (ready es atoms t.now).one }
+    ensures one { (es : List Entry) (atoms : List Atom) → result ≡ (translatable es atoms t.now).one }
     ensures is { IsTrue result → t.now ≡ Num 1 }
 {
     match t {
@@ -71,12 +71,12 @@ impl<'a> Scope<'a> {
     /// The gate of a term that is a truth.
     #[cycle(translation)]
     pub fn truth(&self, alloc: Global, b: &mut NetBuilder, t: &Term) -> Result<u64, Memory>
-        requires open { IsOpen b.old self.now.entries.now self.now.atoms.now self.now.first }
-        requires planned { IsTrue (ready self.now.entries.now self.now.atoms.now t.now).truth }
-        ensures begins { Begins b.old b.new }
+        requires open { HasScope b.old self.now.entries.now self.now.atoms.now self.now.first }
+        requires planned { IsTrue (translatable self.now.entries.now self.now.atoms.now t.now).truth }
+        ensures extends { ExtendsNet b.old b.new }
         ensures within { IfOk result (λ g. g < length b.new.gates) }
-        ensures is { (w : List Bool) (α : Assignment) (cv : ℕ → Leaf) → Shows b.old self.now.entries.now self.now.atoms.now self.now.first w α cv →
-            IfOk result (λ g. truth b.new g w ≡ leaf_holds α (value (picks α) cv t.now)) }
+        ensures is { (w : List Bool) (α : Assignment) (cv : ℕ → Leaf) → EncodesSoFar b.old self.now.entries.now self.now.atoms.now self.now.first w α cv →
+            IfOk result (λ g. truth b.new g w ≡ leaf_holds α (value (leaf_meaning α) cv t.now)) }
     {
         match t {
             Term::Num(n) => b.constant(*n != 0),
@@ -103,13 +103,13 @@ impl<'a> Scope<'a> {
     /// The picks of a term that is a word.
     #[cycle(translation)]
     pub fn word(&self, alloc: Global, b: &mut NetBuilder, t: &Term) -> Result<Vec<Pick>, Memory>
-        requires open { IsOpen b.old self.now.entries.now self.now.atoms.now self.now.first }
-        requires planned { IsTrue (ready self.now.entries.now self.now.atoms.now t.now).word }
-        ensures begins { Begins b.old b.new }
+        requires open { HasScope b.old self.now.entries.now self.now.atoms.now self.now.first }
+        requires planned { IsTrue (translatable self.now.entries.now self.now.atoms.now t.now).word }
+        ensures extends { ExtendsNet b.old b.new }
         ensures within { IfOk result (λ ps. Within (length b.new.gates) ps.items) }
-        ensures leaves { IfOk result (λ ps. leaves_of ps.items ≡ (ready self.now.entries.now self.now.atoms.now t.now).leaves) }
-        ensures is { (w : List Bool) (α : Assignment) (cv : ℕ → Leaf) → Shows b.old self.now.entries.now self.now.atoms.now self.now.first w α cv →
-            IfOk result (λ ps. Picked (at b.new w) ps.items (value (picks α) cv t.now)) }
+        ensures leaves { IfOk result (λ ps. leaves_of ps.items ≡ (translatable self.now.entries.now self.now.atoms.now t.now).leaves) }
+        ensures is { (w : List Bool) (α : Assignment) (cv : ℕ → Leaf) → EncodesSoFar b.old self.now.entries.now self.now.atoms.now self.now.first w α cv →
+            IfOk result (λ ps. IsOnlyTaken (at b.new w) ps.items (value (leaf_meaning α) cv t.now)) }
     {
         match t {
             Term::Num(n) => {
@@ -130,12 +130,12 @@ impl<'a> Scope<'a> {
     /// The gate of: each term is true.
     #[cycle(translation)]
     fn all_of(&self, alloc: Global, b: &mut NetBuilder, all: &[Term]) -> Result<u64, Memory>
-        requires open { IsOpen b.old self.now.entries.now self.now.atoms.now self.now.first }
-        requires planned { IsTrue (truths (map (ready self.now.entries.now self.now.atoms.now) all.now)) }
-        ensures begins { Begins b.old b.new }
+        requires open { HasScope b.old self.now.entries.now self.now.atoms.now self.now.first }
+        requires planned { IsTrue (truths (map (translatable self.now.entries.now self.now.atoms.now) all.now)) }
+        ensures extends { ExtendsNet b.old b.new }
         ensures within { IfOk result (λ g. g < length b.new.gates) }
-        ensures is { (w : List Bool) (α : Assignment) (cv : ℕ → Leaf) → Shows b.old self.now.entries.now self.now.atoms.now self.now.first w α cv →
-            IfOk result (λ g. truth b.new g w ≡ each (leaf_holds α) (map (value (picks α) cv) all.now)) }
+        ensures is { (w : List Bool) (α : Assignment) (cv : ℕ → Leaf) → EncodesSoFar b.old self.now.entries.now self.now.atoms.now self.now.first w α cv →
+            IfOk result (λ g. truth b.new g w ≡ each (leaf_holds α) (map (value (leaf_meaning α) cv) all.now)) }
     {
         let mut g = b.constant(true)?;
         for t in all {
@@ -148,12 +148,12 @@ impl<'a> Scope<'a> {
     /// The gate of: some term is true.
     #[cycle(translation)]
     fn any_of(&self, alloc: Global, b: &mut NetBuilder, all: &[Term]) -> Result<u64, Memory>
-        requires open { IsOpen b.old self.now.entries.now self.now.atoms.now self.now.first }
-        requires planned { IsTrue (truths (map (ready self.now.entries.now self.now.atoms.now) all.now)) }
-        ensures begins { Begins b.old b.new }
+        requires open { HasScope b.old self.now.entries.now self.now.atoms.now self.now.first }
+        requires planned { IsTrue (truths (map (translatable self.now.entries.now self.now.atoms.now) all.now)) }
+        ensures extends { ExtendsNet b.old b.new }
         ensures within { IfOk result (λ g. g < length b.new.gates) }
-        ensures is { (w : List Bool) (α : Assignment) (cv : ℕ → Leaf) → Shows b.old self.now.entries.now self.now.atoms.now self.now.first w α cv →
-            IfOk result (λ g. truth b.new g w ≡ some (leaf_holds α) (map (value (picks α) cv) all.now)) }
+        ensures is { (w : List Bool) (α : Assignment) (cv : ℕ → Leaf) → EncodesSoFar b.old self.now.entries.now self.now.atoms.now self.now.first w α cv →
+            IfOk result (λ g. truth b.new g w ≡ some (leaf_holds α) (map (value (leaf_meaning α) cv) all.now)) }
     {
         let mut g = b.constant(false)?;
         for t in all {
@@ -172,13 +172,13 @@ impl<'a> Scope<'a> {
         ps: &[Pick],
         all: &[Term],
     ) -> Result<u64, Memory>
-        requires open { IsOpen b.old self.now.entries.now self.now.atoms.now self.now.first }
+        requires open { HasScope b.old self.now.entries.now self.now.atoms.now self.now.first }
         requires within { Within (length b.old.gates) ps.now }
-        requires planned { IsTrue (members self.now.atoms.now (leaves_of ps.now) (map (ready self.now.entries.now self.now.atoms.now) all.now)) }
-        ensures begins { Begins b.old b.new }
+        requires planned { IsTrue (members self.now.atoms.now (leaves_of ps.now) (map (translatable self.now.entries.now self.now.atoms.now) all.now)) }
+        ensures extends { ExtendsNet b.old b.new }
         ensures within { IfOk result (λ g. g < length b.new.gates) }
-        ensures is { (w : List Bool) (α : Assignment) (cv : ℕ → Leaf) (x : Leaf) → Shows b.old self.now.entries.now self.now.atoms.now self.now.first w α cv → Picked (at b.old w) ps.now x →
-            IfOk result (λ g. truth b.new g w ≡ some (leaf_cmp α Eq x) (map (value (picks α) cv) all.now)) }
+        ensures is { (w : List Bool) (α : Assignment) (cv : ℕ → Leaf) (x : Leaf) → EncodesSoFar b.old self.now.entries.now self.now.atoms.now self.now.first w α cv → IsOnlyTaken (at b.old w) ps.now x →
+            IfOk result (λ g. truth b.new g w ≡ some (leaf_cmp α Eq x) (map (value (leaf_meaning α) cv) all.now)) }
     {
         let mut g = b.constant(false)?;
         for t in all {
@@ -197,13 +197,13 @@ impl<'a> Scope<'a> {
         b: &mut NetBuilder,
         all: &[TermBranch],
     ) -> Result<Vec<Pick>, Memory>
-        requires open { IsOpen b.old self.now.entries.now self.now.atoms.now self.now.first }
+        requires open { HasScope b.old self.now.entries.now self.now.atoms.now self.now.first }
         requires planned { IsTrue (branches (map (branch_ready self.now.entries.now self.now.atoms.now) all.now)) }
-        ensures begins { Begins b.old b.new }
+        ensures extends { ExtendsNet b.old b.new }
         ensures within { IfOk result (λ ps. Within (length b.new.gates) ps.items) }
         ensures leaves { IfOk result (λ ps. leaves_of ps.items ≡ case_leaves [] (map (branch_ready self.now.entries.now self.now.atoms.now) all.now)) }
-        ensures is { (w : List Bool) (α : Assignment) (cv : ℕ → Leaf) → Shows b.old self.now.entries.now self.now.atoms.now self.now.first w α cv →
-            IfOk result (λ ps. Picked (at b.new w) ps.items (picked (leaf_holds α) (Number 0) (map (branch_value (picks α) cv) all.now))) }
+        ensures is { (w : List Bool) (α : Assignment) (cv : ℕ → Leaf) → EncodesSoFar b.old self.now.entries.now self.now.atoms.now self.now.first w α cv →
+            IfOk result (λ ps. IsOnlyTaken (at b.new w) ps.items (picked (leaf_holds α) (Number 0) (map (branch_value (leaf_meaning α) cv) all.now))) }
     {
         let mut out = Vec::new(alloc);
         let mut open = b.constant(true)?;
@@ -227,20 +227,20 @@ impl<'a> Scope<'a> {
         free: u64,
         branch: &TermBranch,
     ) -> Result<u64, Memory>
-        requires open { IsOpen b.old self.now.entries.now self.now.atoms.now self.now.first }
+        requires open { HasScope b.old self.now.entries.now self.now.atoms.now self.now.first }
         requires within { Within (length b.old.gates) out.old.items }
         requires gate { free < length b.old.gates }
-        requires guard { IsTrue (ready self.now.entries.now self.now.atoms.now branch.now.guard).truth }
-        requires value { IsTrue (ready self.now.entries.now self.now.atoms.now branch.now.value).word }
-        ensures begins { Begins b.old b.new }
+        requires guard { IsTrue (translatable self.now.entries.now self.now.atoms.now branch.now.guard).truth }
+        requires value { IsTrue (translatable self.now.entries.now self.now.atoms.now branch.now.value).word }
+        ensures extends { ExtendsNet b.old b.new }
         ensures within { OnOk result (Within (length b.new.gates) out.new.items) }
         ensures gate { IfOk result (λ g. g < length b.new.gates) }
-        ensures leaves { OnOk result (leaves_of out.new.items ≡ joined (leaves_of out.old.items) (ready self.now.entries.now self.now.atoms.now branch.now.value).leaves) }
-        ensures shut { (w : List Bool) (α : Assignment) (cv : ℕ → Leaf) → Shows b.old self.now.entries.now self.now.atoms.now self.now.first w α cv → leaf_holds α (value (picks α) cv branch.now.guard) ≡ true →
+        ensures leaves { OnOk result (leaves_of out.new.items ≡ joined (leaves_of out.old.items) (translatable self.now.entries.now self.now.atoms.now branch.now.value).leaves) }
+        ensures shut { (w : List Bool) (α : Assignment) (cv : ℕ → Leaf) → EncodesSoFar b.old self.now.entries.now self.now.atoms.now self.now.first w α cv → leaf_holds α (value (leaf_meaning α) cv branch.now.guard) ≡ true →
             IfOk result (λ g. truth b.new g w ≡ false) }
-        ensures is { (w : List Bool) (α : Assignment) (cv : ℕ → Leaf) → Shows b.old self.now.entries.now self.now.atoms.now self.now.first w α cv → (r y : Leaf) →
-            IfOk result (λ g. taken (at b.new w) out.new.items y || (truth b.new g w && leaf_eq r y) ≡
-            taken (at b.old w) out.old.items y || (truth b.old free w && leaf_eq (if leaf_holds α (value (picks α) cv branch.now.guard) then value (picks α) cv branch.now.value else r) y)) }
+        ensures is { (w : List Bool) (α : Assignment) (cv : ℕ → Leaf) → EncodesSoFar b.old self.now.entries.now self.now.atoms.now self.now.first w α cv → (r y : Leaf) →
+            IfOk result (λ g. leaf_taken (at b.new w) out.new.items y || (truth b.new g w && leaf_eq r y) ≡
+            leaf_taken (at b.old w) out.old.items y || (truth b.old free w && leaf_eq (if leaf_holds α (value (leaf_meaning α) cv branch.now.guard) then value (leaf_meaning α) cv branch.now.value else r) y)) }
     {
         let guard = self.truth(alloc, b, &branch.guard)?;
         let ps = self.word(alloc, b, &branch.value)?;

@@ -2,9 +2,9 @@
 use Rattle.std.proofs.Common.{◌≡◌, ℕ, ◌==◌, Bool, true, false, not, ◌||◌, refl, arith}
 use Rattle.std.proofs.lemmas.Bool.{and_parts}
 use Rattle.y86_base.specs.Words.{set}
-use Rattle.dp_signals.specs.PipeCycle.{all_load, any_asked, ending, loaded, movers_of, next}
+use Rattle.dp_signals.specs.PipeCycle.{all_load, any_asked, ending, loaded, updates_of, next}
 use Rattle.dp_signals.specs.PipeNames as row
-use Rattle.dp_signals.specs.declared.movers.Ending.TheVariants.{Going}
+use Rattle.dp_signals.specs.declared.movers.CycleEnd.TheVariants.{Going}
 use Rattle.dp_signals.specs.declared.pipe_state.PipeState.{PipeState}
 
 is_not : (b : Bool) → not b ≡ true → b ≡ false
@@ -57,7 +57,7 @@ quiet f h =
 
 -- what the cycle leaves is what each register loads
 pub next_loading : (p : PipeState) (f : ℕ → ℕ) → all_load f ≡ true → next p f ≡ loaded p f
-unfolding next movers_of
+unfolding next updates_of
 next_loading p f h = let q = quiet f h in rw (q.goes, q.f_stall, q.f_bubble, q.d_stall, q.d_bubble, q.e_stall, q.e_bubble, q.m_stall, q.m_bubble, q.w_stall, q.w_bubble) refl
 
 -- and the machine goes on

@@ -15,7 +15,7 @@ use Rattle.ctl_atoms.proofs.Listed.{apart}
 use Rattle.ctl_atoms.proofs.Solved.{leaves_exist}
 use Rattle.control_values.specs.Given.{assigned}
 use Rattle.control_values.proofs.AtomsGiven.{given_atoms}
-use Rattle.rule_gates.specs.Words.{takes, takes_some}
+use Rattle.ctl_rules.specs.ColumnDemands.{picks_leaf, picks_some_leaf}
 use Rattle.findings.specs.declared.requirement.Requirement.{Requirement}
 use Rattle.findings.specs.Requirements.{is_met, some_word, only_if, unless}
 use Rattle.findings.specs.Findings.{are_right, finding}
@@ -47,9 +47,9 @@ each_append f (x ∷ xs) ys = and_assoc (f x) (each f xs) (each f ys) ∙ ap (λ
 pub both : (f : Requirement → Bool) (x y : Bool) (xs ys : List Requirement) → x ≡ each f xs → y ≡ each f ys → (x && y) ≡ each f (xs ++ ys)
 both f x y xs ys p q = rw (p, q) (each_append f xs ys)
 
-pub some_is : (α : Assignment) (cv : ℕ → Leaf) (name : ℕ) (o : Option Leaf) → takes_some cv name o ≡ each (is_met α cv) (some_word name o)
+pub some_is : (α : Assignment) (cv : ℕ → Leaf) (name : ℕ) (o : Option Leaf) → picks_some_leaf cv name o ≡ each (is_met α cv) (some_word name o)
 some_is α cv name None = refl
-some_is α cv name (Some leaf) = one (takes cv name leaf)
+some_is α cv name (Some leaf) = one (picks_leaf cv name leaf)
 
 -- findings are right exactly where each requirement is met
 pub findings_right : (defined : ℕ) (terms : List Term) (α : Assignment) (cv : ℕ → Leaf) (all : List Requirement) → are_right (map (finding defined terms α cv) all) ≡ each (is_met α cv) all

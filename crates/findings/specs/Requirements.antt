@@ -3,14 +3,14 @@ use Rattle.std.specs.Prelude.{ℕ, Bool, false, List, [], ◌∷◌, Option, Som
 use Rattle.ctl_atoms.specs.declared.leaf.Leaf.{Leaf}
 use Rattle.ctl_atoms.specs.declared.leaf.Leaf.TheVariants.{Number}
 use Rattle.ctl_atoms.specs.Leaves.{Assignment}
-use Rattle.rule_gates.specs.Words.{takes, is_truth}
+use Rattle.ctl_rules.specs.ColumnDemands.{picks_leaf, is_truth}
 use Rattle.findings.specs.declared.requirement.Requirement.{Requirement}
 use Rattle.findings.specs.declared.requirement.Wanted.{Wanted}
 use Rattle.findings.specs.declared.requirement.Wanted.TheVariants as wanted
 
 -- whether a signal meets what is wanted of it
 abbrev pub meets : Assignment → (ℕ → Leaf) → ℕ → Wanted → Bool
-meets α cv name (wanted.Word leaf) = takes cv name leaf
+meets α cv name (wanted.Word leaf) = picks_leaf cv name leaf
 meets α cv name (wanted.Truth b) = is_truth α cv name b
 meets α cv name wanted.Nothing = false
 

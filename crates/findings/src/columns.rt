@@ -4,7 +4,7 @@ ghost use Rattle.y86_base.specs.Stat.{stat_number};
 ghost use Rattle.y86_base.specs.Words as words;
 ghost use Rattle.y86_isa.specs.Blocks as blocks;
 
-use y86_isa::Field;
+use y86_isa::RegisterColumn;
 
 /// Whether a number isn't 0.
 pub fn set(n: u64) -> bool
@@ -14,14 +14,14 @@ pub fn set(n: u64) -> bool
 }
 
 /// The register that a column names.
-pub fn register_number(column: Field, r_a: u64, r_b: u64) -> u64
+pub fn register_number(column: RegisterColumn, r_a: u64, r_b: u64) -> u64
     ensures { result ≡ blocks.register_number column r_a r_b }
 {
     match column {
-        Field::Dash => 15,
-        Field::FieldA => r_a,
-        Field::FieldB => r_b,
-        Field::Stack => 4,
+        RegisterColumn::Dash => 15,
+        RegisterColumn::FieldA => r_a,
+        RegisterColumn::FieldB => r_b,
+        RegisterColumn::Stack => 4,
     }
 }
 

@@ -2,7 +2,7 @@
 ghost use Rattle.std.specs.Prelude.{◌≡◌, ◌≤◌, ◌++◌, ◌∷◌, [], ◌-◌, IfOk, OnOk, map, slice_get};
 ghost use Rattle.control_values.specs.Given.{assigned, at};
 ghost use Rattle.ctl_atoms.specs.Leaves.{leaf_holds};
-ghost use Rattle.rule_gates.specs.Words as words;
+ghost use Rattle.ctl_rules.specs.ColumnDemands as words;
 ghost use Rattle.findings.specs.Findings as spec;
 ghost use Rattle.findings.specs.Requirements.{is_met};
 

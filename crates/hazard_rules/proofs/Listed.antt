@@ -2,35 +2,35 @@
 use Rattle.std.proofs.Common.{◌≡◌, ℕ, ◌+◌, ◌<◌, ◌⊎◌, inl, inr, Bool, true, false, not, ◌||◌, if◌then◌else◌, List, [], ◌∷◌, ◌++◌, length, get_or, slice_set, refl, sym, ap, subst, ◌∙◌, arith}
 use Rattle.std.proofs.lemmas.List.{get_or-set_same, get_or-set_other}
 use Rattle.y86_base.specs.declared.parts.Variant.{Variant}
-use Rattle.nets.specs.Nets.{Gates, Begins}
+use Rattle.nets.specs.Nets.{Gates, ExtendsNet}
 use Rattle.ctl_atoms.specs.declared.leaf.Atom.{Atom}
 use Rattle.ctl_formula.specs.declared.controls.Entry.{Entry}
 use Rattle.ctl_formula.specs.Picks.{IsInside}
 use Rattle.pipe_motion.specs.declared.settings.Settings.{Settings}
-use Rattle.rule_gates.specs.declared.rules.Rule.{Rule}
-use Rattle.rule_gates.proofs.Kept.{tells_less}
-use Rattle.rule_gates.proofs.Lists.{pushed}
-use Rattle.pipe_obligations.specs.Settled.{Truth, predicts_taken}
-use Rattle.hazard_rules.specs.Parts.{IsToldRule, AreToldRules, TellPredictions}
-use Rattle.pipe_gates.specs.Told.{IsTold}
+use Rattle.ctl_rules.specs.declared.rules.Rule.{Rule}
+use Rattle.ctl_rules.proofs.Kept.{tells_less}
+use Rattle.ctl_rules.proofs.Lists.{pushed}
+use Rattle.pipe_obligations.specs.FileSettings.{ValuationTruth, picks_target}
+use Rattle.hazard_rules.specs.Parts.{IsRuleGate, AreRuleGates, ArePredictionGates}
+use Rattle.pipe_gates.specs.GateTruths.{IsTruthGate}
 
-pub told_more : {old new : Gates} {ctl : List Entry} {atoms : List Atom} {g : ℕ} {f : Truth} → Begins old new → IsInside old ctl → IsTold old ctl atoms g f → IsTold new ctl atoms g f
+pub told_more : {old new : Gates} {ctl : List Entry} {atoms : List Atom} {g : ℕ} {f : ValuationTruth} → ExtendsNet old new → IsInside old ctl → IsTruthGate old ctl atoms g f → IsTruthGate new ctl atoms g f
 told_more {old} {new} {ctl} {atoms} {g} {f} k i q = record {
   within = let x = k.more in let y = q.within in omega arith;
   is = λ w α cv h t. k.same g w q.within ∙ q.is w α cv h (tells_less k i t);
 }
 
-pub rules_more : {old new : Gates} {ctl : List Entry} {atoms : List Atom} (v : Variant) (s : Settings) (list : List Rule) → Begins old new → IsInside old ctl → AreToldRules v s old ctl atoms list → AreToldRules v s new ctl atoms list
+pub rules_more : {old new : Gates} {ctl : List Entry} {atoms : List Atom} (v : Variant) (s : Settings) (list : List Rule) → ExtendsNet old new → IsInside old ctl → AreRuleGates v s old ctl atoms list → AreRuleGates v s new ctl atoms list
 rules_more v s list k i h = λ n x e. record { number = (h n x e).number; told = told_more k i (h n x e).told }
 
-pub rules_pushed : {net : Gates} {ctl : List Entry} {atoms : List Atom} (v : Variant) (s : Settings) (xs ys : List Rule) (y : Rule) (n : ℕ) → ys ≡ xs ++ y ∷ [] → length xs ≡ n → AreToldRules v s net ctl atoms xs
-    → IsToldRule v s net ctl atoms n y → AreToldRules v s net ctl atoms ys
+pub rules_pushed : {net : Gates} {ctl : List Entry} {atoms : List Atom} (v : Variant) (s : Settings) (xs ys : List Rule) (y : Rule) (n : ℕ) → ys ≡ xs ++ y ∷ [] → length xs ≡ n → AreRuleGates v s net ctl atoms xs
+    → IsRuleGate v s net ctl atoms n y → AreRuleGates v s net ctl atoms ys
 rules_pushed {net} {ctl} {atoms} v s xs ys y n e size h last =
-    subst (λ zs. AreToldRules v s net ctl atoms zs) (sym e) (pushed (λ k x. IsToldRule v s net ctl atoms k x) xs y h (subst (λ m. IsToldRule v s net ctl atoms m y) (sym size) last))
+    subst (λ zs. AreRuleGates v s net ctl atoms zs) (sym e) (pushed (λ k x. IsRuleGate v s net ctl atoms k x) xs y h (subst (λ m. IsRuleGate v s net ctl atoms m y) (sym size) last))
 
 -- a gate put at its place in a list, whose earlier gates have grown
-pub prediction_put : {old new : Gates} {ctl : List Entry} {atoms : List Atom} (v : Variant) (back : Bool) (gates : List ℕ) (n g : ℕ) → n < length gates → Begins old new → IsInside old ctl
-    → TellPredictions v old ctl atoms back gates n → IsTold new ctl atoms g (predicts_taken v atoms n back) → TellPredictions v new ctl atoms back (slice_set gates n g) (n + 1)
+pub prediction_put : {old new : Gates} {ctl : List Entry} {atoms : List Atom} (v : Variant) (back : Bool) (gates : List ℕ) (n g : ℕ) → n < length gates → ExtendsNet old new → IsInside old ctl
+    → ArePredictionGates v old ctl atoms back gates n → IsTruthGate new ctl atoms g (picks_target v atoms n back) → ArePredictionGates v new ctl atoms back (slice_set gates n g) (n + 1)
 prediction_put {old} {new} {ctl} {atoms} v back gates n g inside k i h last j lt = by_place (below_or j n lt)
   where
     below_or : (k n : ℕ) → k < n + 1 → (k < n) ⊎ (k ≡ n)
@@ -39,10 +39,10 @@ prediction_put {old} {new} {ctl} {atoms} v back gates n g inside k i h last j lt
     apart : j < n → j ≡ n → ⊥
     apart lt e = omega (arith, lt, e)
 
-    by_place : (j < n) ⊎ (j ≡ n) → IsTold new ctl atoms (get_or (slice_set gates n g) j 0) (predicts_taken v atoms j back)
-    by_place (inl lt) = subst (λ x. IsTold new ctl atoms x (predicts_taken v atoms j back)) (sym (get_or-set_other gates n j g 0 (apart lt))) (told_more k i (h j lt))
-    by_place (inr eq) = subst (λ m. IsTold new ctl atoms (get_or (slice_set gates n g) m 0) (predicts_taken v atoms m back)) (sym eq)
-        (subst (λ x. IsTold new ctl atoms x (predicts_taken v atoms n back)) (sym (get_or-set_same gates n g 0 inside)) last)
+    by_place : (j < n) ⊎ (j ≡ n) → IsTruthGate new ctl atoms (get_or (slice_set gates n g) j 0) (picks_target v atoms j back)
+    by_place (inl lt) = subst (λ x. IsTruthGate new ctl atoms x (picks_target v atoms j back)) (sym (get_or-set_other gates n j g 0 (apart lt))) (told_more k i (h j lt))
+    by_place (inr eq) = subst (λ m. IsTruthGate new ctl atoms (get_or (slice_set gates n g) m 0) (picks_target v atoms m back)) (sym eq)
+        (subst (λ x. IsTruthGate new ctl atoms x (picks_target v atoms n back)) (sym (get_or-set_same gates n g 0 inside)) last)
 
 -- the premise of a rule is the first of two gates or the second
 pub premise_by : (T : ℕ → Bool) (asked : Bool → Bool) (always : Bool) (p x y : ℕ) → p ≡ (if always then x else y) → T x ≡ asked true → T y ≡ asked false → T p ≡ asked always

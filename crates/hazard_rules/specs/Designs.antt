@@ -8,24 +8,24 @@ use Rattle.ctl_atoms.specs.declared.leaf.Atom.{Atom}
 use Rattle.ctl_atoms.specs.Leaves.{Assignment, AtomsAre}
 use Rattle.ctl_atoms.specs.Atoms.{AreAtoms}
 use Rattle.ctl_formula.specs.declared.controls.Entry.{Entry}
-use Rattle.ctl_formula.specs.declared.controls.NamePlace.{NamePlace}
-use Rattle.ctl_formula.specs.Picks.{Covers, IsInside, Tells}
-use Rattle.field_bits.specs.declared.spots.Spot.{Spot}
-use Rattle.pipe_fields.specs.Layout.{bit_count, fields_of, spots}
-use Rattle.pipe_obligations.specs.Settled.{PipeControls}
+use Rattle.ctl_formula.specs.declared.controls.Place.{Place}
+use Rattle.ctl_formula.specs.Picks.{Covers, IsInside, EncodesControls}
+use Rattle.net_fields.specs.declared.field_specs.FieldSpec.{FieldSpec}
+use Rattle.pipe_fields.specs.Layout.{bit_count, fields_of, field_specs}
+use Rattle.pipe_obligations.specs.FileSettings.{PipeControls}
 
 -- where each field of a table that is a signal stands, with the first field's first bit at a number
-abbrev placed : Option ℕ → ℕ → ℕ → List NamePlace → List NamePlace
+abbrev placed : Option ℕ → ℕ → ℕ → List Place → List Place
 placed None first bits rest = rest
 placed (Some name) first bits rest = record { name = name; first = first; bits = bits } ∷ rest
 
-abbrev pub places_from : List Spot → ℕ → List NamePlace
+abbrev pub places_from : List FieldSpec → ℕ → List Place
 places_from [] first = []
 places_from (s ∷ ss) first = placed s.name first s.bits (places_from ss (first + s.bits))
 
 -- where each signal that is a field stands among the variables
-abbrev pub places : List NamePlace
-places = places_from spots 0
+abbrev pub places : List Place
+places = places_from field_specs 0
 
 -- the net has a variable for each bit of a field and each atom, and its gates tell the control values of the design's names
 pub record IsTranslated (terms : List Term) (net : Gates) (ctl : List Entry) (atoms : List Atom) : Type 0 where
@@ -33,4 +33,4 @@ pub record IsTranslated (terms : List Term) (net : Gates) (ctl : List Entry) (at
   pub vars : net.vars ≡ bit_count + length atoms
   pub inside : IsInside net ctl
   pub covers : Covers pipe_rows ctl
-  pub tells : (w : List Bool) (α : Assignment) (cv : ℕ → Leaf) → AtomsAre atoms bit_count w α → PipeControls terms (fields_of w) α cv → Tells net ctl w α cv
+  pub tells : (w : List Bool) (α : Assignment) (cv : ℕ → Leaf) → AtomsAre atoms bit_count w α → PipeControls terms (fields_of w) α cv → EncodesControls net ctl w α cv

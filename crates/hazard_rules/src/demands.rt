@@ -1,59 +1,61 @@
 //! What each of the 27 obligations asks, by its number.
 ghost use Rattle.std.specs.Prelude.{◌≤◌, IfOk, length};
-ghost use Rattle.nets.specs.Nets.{Begins};
+ghost use Rattle.nets.specs.Nets.{ExtendsNet};
 ghost use Rattle.ctl_formula.specs.Picks.{Covers, IsInside};
 ghost use Rattle.dp_signals.specs.PipeTable.{pipe_rows};
 ghost use Rattle.pipe_fields.specs.Layout.{bit_count, fields_of};
-ghost use Rattle.pipe_motion.specs.Gates.{HasView, view_at};
-ghost use Rattle.rule_gates.specs.Asked.{IsAsked};
-ghost use Rattle.pipe_obligations.specs.Obligations.{movers_of};
+ghost use Rattle.pipe_motion.specs.Gates.{HasFlow, flow_at};
+ghost use Rattle.ctl_rules.specs.ControlGates.{IsControlGate};
+ghost use Rattle.pipe_obligations.specs.Obligations.{register_controls_of};
 ghost use Rattle.pipe_obligations.specs.Rules.{demand, rule_count};
 
 use ctl_formula::Controls;
-use motion_rules::{obligation_23, obligation_24, obligation_25, obligation_26, obligation_27};
 use nets::NetBuilder;
-use pipe_motion::{Settings, ViewGates};
-use stage_rules::{
-    FrontRule, RowRule, asked_in_e, decode_told, fetch_told, obligation_1, obligation_5,
+use pipe_motion::{FlowGates, Settings};
+use pipe_motion_gates::{
+    obligation_23, obligation_24, obligation_25, obligation_26, obligation_27,
+};
+use pipe_stage_gates::{
+    FrontRule, RowRule, decode_rule_gate, demand_in_e, fetch_rule_gate, obligation_1, obligation_5,
     obligation_10, obligation_11, obligation_14, obligation_15, obligation_16, obligation_17,
     obligation_18, obligation_19, obligation_20, obligation_21, obligation_22,
 };
 use y86_base::{Memory, Variant};
 
 /// What the obligation of a number from 1 to 27 asks.
-#[tactic(auto, using(stage_rules::proofs::Ready::ready_by, stage_rules::proofs::Ready::front_ready_by))]
+#[tactic(auto, using(pipe_stage_gates::proofs::Ready::ready_by, pipe_stage_gates::proofs::Ready::front_ready_by))]
 pub(crate) fn demand_gate(
     b: &mut NetBuilder,
     ctl: &Controls,
     v: Variant,
     s: &Settings,
-    y: &ViewGates,
+    y: &FlowGates,
     number: u32,
 ) -> Result<u64, Memory>
     requires inside { IsInside b.old ctl.now }
     requires vars { bit_count ≤ b.old.vars }
-    requires view { HasView (length b.old.gates) y.now }
+    requires view { HasFlow (length b.old.gates) y.now }
     requires known { Covers pipe_rows ctl.now }
     requires from { 1 ≤ number }
     requires to { number ≤ rule_count }
-    ensures begins { Begins b.old b.new }
-    ensures made { IfOk result (λ g. IsAsked b.new ctl.now g (λ w α cv.
-        demand number v s.now (fields_of w) (view_at b.old w y.now) (movers_of α cv) α cv)) }
+    ensures extends { ExtendsNet b.old b.new }
+    ensures has_truth { IfOk result (λ g. IsControlGate b.new ctl.now g (λ w α cv.
+        demand number v s.now (fields_of w) (flow_at b.old w y.now) (register_controls_of α cv) α cv)) }
 {
     match number {
         1 => obligation_1(b, ctl),
-        2 => fetch_told(b, ctl, v, FrontRule::Status),
-        3 => fetch_told(b, ctl, v, FrontRule::RegisterByte),
-        4 => fetch_told(b, ctl, v, FrontRule::Constant),
+        2 => fetch_rule_gate(b, ctl, v, FrontRule::Status),
+        3 => fetch_rule_gate(b, ctl, v, FrontRule::RegisterByte),
+        4 => fetch_rule_gate(b, ctl, v, FrontRule::Constant),
         5 => obligation_5(b, ctl, v, s),
-        6 => decode_told(b, ctl, v, FrontRule::SourceA),
-        7 => decode_told(b, ctl, v, FrontRule::SourceB),
-        8 => decode_told(b, ctl, v, FrontRule::DestinationE),
-        9 => decode_told(b, ctl, v, FrontRule::DestinationM),
+        6 => decode_rule_gate(b, ctl, v, FrontRule::SourceA),
+        7 => decode_rule_gate(b, ctl, v, FrontRule::SourceB),
+        8 => decode_rule_gate(b, ctl, v, FrontRule::DestinationE),
+        9 => decode_rule_gate(b, ctl, v, FrontRule::DestinationM),
         10 => obligation_10(b, ctl, v, s, y),
         11 => obligation_11(b, ctl, v, s, y),
-        12 => asked_in_e(b, ctl, v, y.e.good, RowRule::OperandA),
-        13 => asked_in_e(b, ctl, v, y.e.good, RowRule::OperandB),
+        12 => demand_in_e(b, ctl, v, y.e.good, RowRule::OperandA),
+        13 => demand_in_e(b, ctl, v, y.e.good, RowRule::OperandB),
         14 => obligation_14(b, ctl, v, y.e.good),
         15 => obligation_15(b, ctl, v, y.e.good),
         16 => obligation_16(b, ctl, s.lf, v, y.e.good, y.m.good),

@@ -6,7 +6,7 @@ ghost use Rattle.dp_signals.specs.PipeTable.{pipe_rows};
 ghost use Rattle.hazard_rules.specs.Designs.{IsTranslated, places as spec_places};
 
 use ctl_atoms::{Atom, CtlFault, atoms};
-use ctl_formula::{Controls, NamePlace, translate};
+use ctl_formula::{Controls, Place, translate};
 use dp_signals::{pipe_row as row, pipe_table};
 use hcl_types::{Design, Order};
 use nets::NetBuilder;
@@ -24,7 +24,7 @@ pub(crate) struct DesignGates {
 /// The place of a signal that is a field.
 macro_rules! place {
     ($name:expr, $field:expr) => {
-        NamePlace {
+        Place {
             name: $name,
             first: $field.first,
             bits: $field.bits,
@@ -33,7 +33,7 @@ macro_rules! place {
 }
 
 /// The places of the signals that are fields.
-static PLACES: [NamePlace; 27] = [
+static PLACES: [Place; 27] = [
     place!(row::IMEM_ERROR, field::F_ERROR),
     place!(row::IMEM_ICODE, field::F_ICODE),
     place!(row::IMEM_IFUN, field::F_IFUN),
@@ -64,7 +64,7 @@ static PLACES: [NamePlace; 27] = [
 ];
 
 /// The places of the signals that are fields, as the translation of a design asks for them.
-fn places() -> &'static [NamePlace]
+fn places() -> &'static [Place]
     ensures { result.now ≡ spec_places }
 {
     &PLACES
@@ -74,7 +74,7 @@ fn places() -> &'static [NamePlace]
 pub(crate) fn translated(alloc: Global, d: &Design, o: &Order) -> Result<DesignGates, CtlFault>
     requires bound { IsBound pipe_rows d.now.terms }
     requires ordered { IsOrderOf pipe_rows d.now.terms o.now.ids }
-    ensures made { IfOk result (λ r. IsTranslated d.now.terms r.b r.ctl r.listed.items) }
+    ensures has_truth { IfOk result (λ r. IsTranslated d.now.terms r.b r.ctl r.listed.items) }
     ensures fault { IfErr result (IsCtlFault pipe_rows d.now.terms) }
 {
     let t = match pipe_table(alloc) {

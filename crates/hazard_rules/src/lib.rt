@@ -4,22 +4,22 @@
 //!
 //! | obligation | crate | module | function |
 //! |---|---|---|---|
-//! | 1, 5 | `stage_rules` | `front_1_to_9` | `obligation_1`, `obligation_5` |
-//! | 2, 3, 4 | `stage_rules` | `front_1_to_9` | `fetch_told` of `Status`, `RegisterByte`, `Constant` |
-//! | 6, 7, 8, 9 | `stage_rules` | `front_1_to_9` | `decode_told` of `SourceA`, `SourceB`, `DestinationE`, `DestinationM` |
-//! | 10, 11 | `stage_rules` | `sources_10_11` | `obligation_10`, `obligation_11` |
-//! | 12, 13 | `stage_rules` | `execute_12_to_17` | `asked_in_e` of `OperandA`, `OperandB` |
-//! | 14, 15, 16, 17 | `stage_rules` | `execute_12_to_17` | `obligation_14` to `obligation_17` |
-//! | 18 to 22 | `stage_rules` | `memory_18_to_22` | `obligation_18` to `obligation_22` |
-//! | 23, 24, 26, 27 | `motion_rules` | `moves_23_to_27` | `obligation_23`, `obligation_24`, `obligation_26`, `obligation_27` |
-//! | 25 | `motion_rules` | `fetch_25` | `obligation_25` |
+//! | 1, 5 | `pipe_stage_gates` | `front` | `obligation_1`, `obligation_5` |
+//! | 2, 3, 4 | `pipe_stage_gates` | `front` | `fetch_rule_gate` of `Status`, `RegisterByte`, `Constant` |
+//! | 6, 7, 8, 9 | `pipe_stage_gates` | `front` | `decode_rule_gate` of `SourceA`, `SourceB`, `DestinationE`, `DestinationM` |
+//! | 10, 11 | `pipe_stage_gates` | `sources` | `obligation_10`, `obligation_11` |
+//! | 12, 13 | `pipe_stage_gates` | `execute` | `demand_in_e` of `OperandA`, `OperandB` |
+//! | 14, 15, 16, 17 | `pipe_stage_gates` | `execute` | `obligation_14` to `obligation_17` |
+//! | 18 to 22 | `pipe_stage_gates` | `memory` | `obligation_18` to `obligation_22` |
+//! | 23, 24, 26, 27 | `pipe_motion_gates` | `motion` | `obligation_23`, `obligation_24`, `obligation_26`, `obligation_27` |
+//! | 25 | `pipe_motion_gates` | `fetch` | `obligation_25` |
 #![tactic(auto, using(nets::proofs::Truths::begins_more, nets::proofs::Truths::begins_self))]
 
-mod closed;
 mod demands;
 mod design;
+mod early_gates;
+mod parts;
 mod rules;
-mod whole;
 
-pub use motion_rules::Late;
-pub use whole::{Parts, pipe_late, pipe_parts, pipe_rules};
+pub use parts::{Parts, pipe_late, pipe_parts, pipe_rules};
+pub use pipe_motion_gates::Late;

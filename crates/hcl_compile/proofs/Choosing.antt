@@ -6,7 +6,7 @@ use Rattle.hcl_read.specs.declared.tree.CmpOp.TheVariants as op
 use Rattle.hcl_types.specs.declared.term.Term.{Term}
 use Rattle.hcl_types.specs.declared.term.Term.TheVariants as terms
 use Rattle.hcl_types.specs.Lists.{each, some}
-use Rattle.hcl_types.specs.Terms.{compare_words, joined, names, value, words}
+use Rattle.hcl_types.specs.Terms.{compare_words, joined, names, value, word_meaning}
 use Rattle.hcl_types.proofs.Each.{each_both, each_left, each_right}
 use Rattle.hcl_types.proofs.Values.{value_Not, value_And, value_Or, value_Cmp, value_In, names_Not, names_And, names_Or, names_Cmp, names_In}
 use Rattle.hcl_compile.specs.declared.decisions.Decisions.{Decisions}
@@ -91,7 +91,7 @@ module _ (constants : List ℕ) where
 
 -- ---- terms
 
-word_holds : (b : Bool) → words.holds (words.bool b) ≡ b
+word_holds : (b : Bool) → word_meaning.holds (word_meaning.bool b) ≡ b
 word_holds true = refl
 word_holds false = refl
 
@@ -101,52 +101,52 @@ drop_whole (x ∷ xs) = drop_whole xs
 
 module _ (constants : List ℕ) (old new : Decisions) (to : Targets) (place : ℕ) where
   -- a test of a term whose value is that truth
-  pub test_as : (ids : List ℕ) (f : (ℕ → ℕ) → Bool) (t : Term) → Decides constants ids f old new to place → names t ≡ ids → ((env : ℕ → ℕ) → value words env t ≡ words.bool (f env))
+  pub test_as : (ids : List ℕ) (f : (ℕ → ℕ) → Bool) (t : Term) → Decides constants ids f old new to place → names t ≡ ids → ((env : ℕ → ℕ) → value word_meaning env t ≡ word_meaning.bool (f env))
       → IsTest constants t old new to place
-  test_as ids f t d n v = decides_as constants ids (names t) f (λ env. words.holds (value words env t)) old new to place d (λ rows w. subst (Within rows) n w)
-      (λ env rows b w. ap words.holds (v env) ∙ word_holds (f env))
+  test_as ids f t d n v = decides_as constants ids (names t) f (λ env. word_meaning.holds (value word_meaning env t)) old new to place d (λ rows w. subst (Within rows) n w)
+      (λ env rows b w. ap word_meaning.holds (v env) ∙ word_holds (f env))
 
   pub test_not : (t x : Term) → t ≡ terms.Not x → IsTest constants x old new (swapped to) place → IsTest constants t old new to place
   test_not t x e d = subst (λ y. IsTest constants y old new to place) (sym e)
-      (test_as (names x) (λ env. not (words.holds (value words env x))) (terms.Not x) (decides_not constants (names x) (λ env. words.holds (value words env x)) old new to place d)
-      (names_Not x) (λ env. value_Not words env x))
+      (test_as (names x) (λ env. not (word_meaning.holds (value word_meaning env x))) (terms.Not x) (decides_not constants (names x) (λ env. word_meaning.holds (value word_meaning env x)) old new to place d)
+      (names_Not x) (λ env. value_Not word_meaning env x))
 
-  pub test_and : (t : Term) (ts : List Term) → t ≡ terms.And ts → Decides constants (joined (map names ts)) (λ env. each words.holds (map (value words env) ts)) old new to place
+  pub test_and : (t : Term) (ts : List Term) → t ≡ terms.And ts → Decides constants (joined (map names ts)) (λ env. each word_meaning.holds (map (value word_meaning env) ts)) old new to place
       → IsTest constants t old new to place
   test_and t ts e d = subst (λ y. IsTest constants y old new to place) (sym e)
-      (test_as (joined (map names ts)) (λ env. each words.holds (map (value words env) ts)) (terms.And ts) d (names_And ts) (λ env. value_And words env ts))
+      (test_as (joined (map names ts)) (λ env. each word_meaning.holds (map (value word_meaning env) ts)) (terms.And ts) d (names_And ts) (λ env. value_And word_meaning env ts))
 
-  pub test_or : (t : Term) (ts : List Term) → t ≡ terms.Or ts → Decides constants (joined (map names ts)) (λ env. some words.holds (map (value words env) ts)) old new to place
+  pub test_or : (t : Term) (ts : List Term) → t ≡ terms.Or ts → Decides constants (joined (map names ts)) (λ env. some word_meaning.holds (map (value word_meaning env) ts)) old new to place
       → IsTest constants t old new to place
   test_or t ts e d = subst (λ y. IsTest constants y old new to place) (sym e)
-      (test_as (joined (map names ts)) (λ env. some words.holds (map (value words env) ts)) (terms.Or ts) d (names_Or ts) (λ env. value_Or words env ts))
+      (test_as (joined (map names ts)) (λ env. some word_meaning.holds (map (value word_meaning env) ts)) (terms.Or ts) d (names_Or ts) (λ env. value_Or word_meaning env ts))
 
-  pub test_equal : (x y : Term) → Decides constants (names x ++ names y) (λ env. nat_eq (value words env x) (value words env y)) old new to place → IsTest constants (terms.Cmp op.Eq x y) old new to place
-  test_equal x y d = test_as (names x ++ names y) (λ env. nat_eq (value words env x) (value words env y)) (terms.Cmp op.Eq x y) d (names_Cmp op.Eq x y) (λ env. value_Cmp words env op.Eq x y)
+  pub test_equal : (x y : Term) → Decides constants (names x ++ names y) (λ env. nat_eq (value word_meaning env x) (value word_meaning env y)) old new to place → IsTest constants (terms.Cmp op.Eq x y) old new to place
+  test_equal x y d = test_as (names x ++ names y) (λ env. nat_eq (value word_meaning env x) (value word_meaning env y)) (terms.Cmp op.Eq x y) d (names_Cmp op.Eq x y) (λ env. value_Cmp word_meaning env op.Eq x y)
 
-  pub test_unequal : (x y : Term) → Decides constants (names x ++ names y) (λ env. nat_eq (value words env x) (value words env y)) old new (swapped to) place → IsTest constants (terms.Cmp op.Ne x y) old new to place
-  test_unequal x y d = test_as (names x ++ names y) (λ env. not (nat_eq (value words env x) (value words env y))) (terms.Cmp op.Ne x y)
-      (decides_not constants (names x ++ names y) (λ env. nat_eq (value words env x) (value words env y)) old new to place d) (names_Cmp op.Ne x y) (λ env. value_Cmp words env op.Ne x y)
+  pub test_unequal : (x y : Term) → Decides constants (names x ++ names y) (λ env. nat_eq (value word_meaning env x) (value word_meaning env y)) old new (swapped to) place → IsTest constants (terms.Cmp op.Ne x y) old new to place
+  test_unequal x y d = test_as (names x ++ names y) (λ env. not (nat_eq (value word_meaning env x) (value word_meaning env y))) (terms.Cmp op.Ne x y)
+      (decides_not constants (names x ++ names y) (λ env. nat_eq (value word_meaning env x) (value word_meaning env y)) old new to place d) (names_Cmp op.Ne x y) (λ env. value_Cmp word_meaning env op.Ne x y)
 
-  pub test_number : (t : Term) (n : ℕ) (b : Bool) → ((env : ℕ → ℕ) (rows : ℕ) → Begins constants env rows → value words env t ≡ n) → words.holds n ≡ b → place ≡ chosen to b → new ≡ old
+  pub test_number : (t : Term) (n : ℕ) (b : Bool) → ((env : ℕ → ℕ) (rows : ℕ) → Begins constants env rows → value word_meaning env t ≡ n) → word_meaning.holds n ≡ b → place ≡ chosen to b → new ≡ old
       → IsTest constants t old new to place
   test_number t n b v h p e = subst (λ d. IsTest constants t old d to place) (sym e)
-      (decides_known constants (names t) (λ env. words.holds (value words env t)) b old to place (λ env rows begins within. ap words.holds (v env rows begins) ∙ h) p)
+      (decides_known constants (names t) (λ env. word_meaning.holds (value word_meaning env t)) b old to place (λ env rows begins within. ap word_meaning.holds (v env rows begins) ∙ h) p)
 
-  pub test_row : (t : Term) (id : ℕ) → ((env : ℕ → ℕ) (rows : ℕ) → Begins constants env rows → Within rows (names t) → (id < rows) × (value words env t ≡ env id))
+  pub test_row : (t : Term) (id : ℕ) → ((env : ℕ → ℕ) (rows : ℕ) → Begins constants env rows → Within rows (names t) → (id < rows) × (value word_meaning env t ≡ env id))
       → Decides constants (id ∷ []) (λ env. nat_eq (env id) 0) old new (swapped to) place → IsTest constants t old new to place
   test_row t id v d = record {
     keeps = d.keeps;
     leads = λ env rows word begins within c.
         let is = v env rows begins within in
-        d.leads env rows word begins (is.0, tt) (subst (λ x. Comes env rows old x word) (ap (λ x. chosen to (words.holds x)) is.1 ∙ negated to (nat_eq (env id) 0)) c);
+        d.leads env rows word begins (is.0, tt) (subst (λ x. Comes env rows old x word) (ap (λ x. chosen to (word_meaning.holds x)) is.1 ∙ negated to (nat_eq (env id) 0)) c);
   }
 
 -- a test that is made behind other nodes
 pub test_behind : (constants : List ℕ) (t : Term) (old mid new : Decisions) (to : Targets) (place : ℕ) → Keeps old mid → IsTest constants t mid new to place → IsTest constants t old new to place
 test_behind constants t old mid new to place k d = record {
   keeps = keeps_both old mid new k d.keeps;
-  leads = λ env rows word begins within c. d.leads env rows word begins within (k env rows (chosen to (words.holds (value words env t))) word c);
+  leads = λ env rows word begins within c. d.leads env rows word begins within (k env rows (chosen to (word_meaning.holds (value word_meaning env t))) word c);
 }
 
 -- where a decision gives another one, one that may be there gives another that may
@@ -158,7 +158,7 @@ may_so P Q R (Some place) so d = so place d
 
 abbrev pub IsRest : List ℕ → Quantifier → (Term → List ℕ) → ((ℕ → ℕ) → ℕ → Bool) → List Term → ℕ → Decisions → Decisions → Targets → ℕ → Type 0
 IsRest constants q ids p ts left old new to place =
-    (left ≤ length ts) × Decides constants (joined (map ids (drop left ts))) (λ env. quantified q (p env) (map (value words env) (drop left ts))) old new to place
+    (left ≤ length ts) × Decides constants (joined (map ids (drop left ts))) (λ env. quantified q (p env) (map (value word_meaning env) (drop left ts))) old new to place
 
 pub split : {A : Type 0} (xs : List A) (x : A) (left next : ℕ) → next + 1 ≡ left → next < length xs → x ≡ get_or xs next x → drop next xs ≡ x ∷ drop left xs
 split xs x left next e h s = subst (λ k. drop next xs ≡ x ∷ drop k xs) e (drop_more xs next x h ∙ ap (λ y. y ∷ drop (next + 1) xs) (sym s))
@@ -167,7 +167,7 @@ module _ (constants : List ℕ) (q : Quantifier) (ids : Term → List ℕ) (p : 
   pub rest_none : (left place : ℕ) → left ≡ length ts → place ≡ of_none q to → IsRest constants q ids p ts left old old to place
   rest_none left place e is = (
     omega arith,
-    subst (λ xs. Decides constants (joined (map ids xs)) (λ env. quantified q (p env) (map (value words env) xs)) old old to place) (sym (ap (λ k. drop k ts) e ∙ drop_whole ts)) (none q is),
+    subst (λ xs. Decides constants (joined (map ids xs)) (λ env. quantified q (p env) (map (value word_meaning env) xs)) old old to place) (sym (ap (λ k. drop k ts) e ∙ drop_whole ts)) (none q is),
   )
     where
       none : (k : Quantifier) → place ≡ of_none k to → Decides constants [] (λ env. quantified k (p env) []) old old to place
@@ -175,19 +175,19 @@ module _ (constants : List ℕ) (q : Quantifier) (ids : Term → List ℕ) (p : 
       none Any is = decides_known constants [] (λ env. false) false old to place (λ env rows b w. refl) is
 
   pub rest_more : (mid new : Decisions) (t : Term) (left next rest place : ℕ) → next + 1 ≡ left → t ≡ get_or ts next t → IsRest constants q ids p ts left old mid to rest
-      → Decides constants (ids t) (λ env. p env (value words env t)) mid new (ahead_of q rest to) place → IsRest constants q ids p ts next old new to place
+      → Decides constants (ids t) (λ env. p env (value word_meaning env t)) mid new (ahead_of q rest to) place → IsRest constants q ids p ts next old new to place
   rest_more mid new t left next rest place down here d h = (
     omega (arith, d.0),
-    subst (λ xs. Decides constants (joined (map ids xs)) (λ env. quantified q (p env) (map (value words env) xs)) old new to place) (sym (split ts t left next down (omega (arith, d.0)) here))
+    subst (λ xs. Decides constants (joined (map ids xs)) (λ env. quantified q (p env) (map (value word_meaning env) xs)) old new to place) (sym (split ts t left next down (omega (arith, d.0)) here))
         (decides_as constants (ids t ++ joined (map ids (drop left ts))) (ids t ++ joined (map ids (drop left ts)))
-        (λ env. joins q (p env (value words env t)) (quantified q (p env) (map (value words env) (drop left ts)))) (λ env. quantified q (p env) (map (value words env) (t ∷ drop left ts))) old new to place
-        (decides_more constants q (ids t) (joined (map ids (drop left ts))) (λ env. p env (value words env t)) (λ env. quantified q (p env) (map (value words env) (drop left ts))) old mid new to rest place d.1 h)
-        (λ rows w. w) (λ env rows b w. quantified_more q (p env) (value words env t) (map (value words env) (drop left ts)))),
+        (λ env. joins q (p env (value word_meaning env t)) (quantified q (p env) (map (value word_meaning env) (drop left ts)))) (λ env. quantified q (p env) (map (value word_meaning env) (t ∷ drop left ts))) old new to place
+        (decides_more constants q (ids t) (joined (map ids (drop left ts))) (λ env. p env (value word_meaning env t)) (λ env. quantified q (p env) (map (value word_meaning env) (drop left ts))) old mid new to rest place d.1 h)
+        (λ rows w. w) (λ env rows b w. quantified_more q (p env) (value word_meaning env t) (map (value word_meaning env) (drop left ts)))),
   )
 
   pub rest_end : (new : Decisions) (left place : ℕ) → IsRest constants q ids p ts left old new to place → left ≡ 0
-      → Decides constants (joined (map ids ts)) (λ env. quantified q (p env) (map (value words env) ts)) old new to place
-  rest_end new left place d e = subst (λ k. Decides constants (joined (map ids (drop k ts))) (λ env. quantified q (p env) (map (value words env) (drop k ts))) old new to place) e d.1
+      → Decides constants (joined (map ids ts)) (λ env. quantified q (p env) (map (value word_meaning env) ts)) old new to place
+  rest_end new left place d e = subst (λ k. Decides constants (joined (map ids (drop k ts))) (λ env. quantified q (p env) (map (value word_meaning env) (drop k ts))) old new to place) e d.1
 
 -- ---- members, each of which is compared with one term
 
@@ -205,11 +205,11 @@ abbrev pub pair_names : Term → Term → List ℕ
 pair_names x t = names x ++ names t
 
 abbrev pub equals : Term → (ℕ → ℕ) → ℕ → Bool
-equals x env = compare_words op.Eq (value words env x)
+equals x env = compare_words op.Eq (value word_meaning env x)
 
 pub test_member : (constants : List ℕ) (x : Term) (ts : List Term) (old new : Decisions) (to : Targets) (place : ℕ)
-    → Decides constants (joined (map (pair_names x) ts)) (λ env. quantified Any (equals x env) (map (value words env) ts)) old new to place → IsTest constants (terms.In x ts) old new to place
+    → Decides constants (joined (map (pair_names x) ts)) (λ env. quantified Any (equals x env) (map (value word_meaning env) ts)) old new to place → IsTest constants (terms.In x ts) old new to place
 test_member constants x ts old new to place d =
-    test_as constants old new to place (names x ++ joined (map names ts)) (λ env. some (equals x env) (map (value words env) ts)) (terms.In x ts)
-    (decides_as constants (joined (map (pair_names x) ts)) (names x ++ joined (map names ts)) (λ env. some (equals x env) (map (value words env) ts)) (λ env. some (equals x env) (map (value words env) ts)) old new to place d
-    (λ rows w. within_each rows (names x) ts w) (λ env rows b w. refl)) (names_In x ts) (λ env. value_In words env x ts)
+    test_as constants old new to place (names x ++ joined (map names ts)) (λ env. some (equals x env) (map (value word_meaning env) ts)) (terms.In x ts)
+    (decides_as constants (joined (map (pair_names x) ts)) (names x ++ joined (map names ts)) (λ env. some (equals x env) (map (value word_meaning env) ts)) (λ env. some (equals x env) (map (value word_meaning env) ts)) old new to place d
+    (λ rows w. within_each rows (names x) ts w) (λ env rows b w. refl)) (names_In x ts) (λ env. value_In word_meaning env x ts)

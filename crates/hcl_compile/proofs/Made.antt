@@ -7,7 +7,7 @@ use Rattle.std.specs.Prelude.{slice_get, Some}
 use Rattle.hcl_types.specs.declared.term.Term.{Term}
 use Rattle.hcl_types.specs.declared.term.Term.TheVariants.{Num}
 use Rattle.hcl_types.specs.Tables.{term_at}
-use Rattle.hcl_types.specs.Terms.{at, value, words}
+use Rattle.hcl_types.specs.Terms.{at, value, word_meaning}
 use Rattle.hcl_compile.specs.declared.node.TheConstants.{ROWS}
 use Rattle.hcl_compile.specs.declared.node.Ask.TheVariants.{Code, Same, Holds, Value}
 use Rattle.hcl_compile.specs.declared.node.Node.{Node}
@@ -60,8 +60,8 @@ module _ (node : Node) (old new : Decisions) (place : ℕ) (added : IsAdded node
       (rw is (omega (arith, added.0, inside env rows old.terms.items old.nodes.items target word c)))
       (rw is (added_keeps env rows target word c))
 
-  pub added_value : (env : ℕ → ℕ) (rows k : ℕ) → node.ask ≡ Value k → k < length new.terms.items → Comes env rows new place (value words env (term_at new.terms.items k))
-  added_value env rows k asks within = at_value place (value words env (term_at new.terms.items k)) k node added.1 added_found asks within refl
+  pub added_value : (env : ℕ → ℕ) (rows k : ℕ) → node.ask ≡ Value k → k < length new.terms.items → Comes env rows new place (value word_meaning env (term_at new.terms.items k))
+  added_value env rows k asks within = at_value place (value word_meaning env (term_at new.terms.items k)) k node added.1 added_found asks within refl
 
 -- where a question of yes or no leads
 yes_no_target : (to : Targets) (next : List ℕ) (b : Bool) → at (to.hit ∷ to.miss ∷ next) (yes_or_no b) ≡ chosen to b
@@ -88,9 +88,9 @@ pub put_term_decides : (t : Term) (to : Targets) (old mid new : Decisions) (k pl
 put_term_decides t to old mid new k place next grown added constants = record {
   keeps = keeps_both old mid new before (added_keeps (record { ask = Holds k; next = to.hit ∷ to.miss ∷ next }) mid new place added);
   leads = λ env rows word begins within c.
-      added_leads (record { ask = Holds k; next = to.hit ∷ to.miss ∷ next }) mid new place added env rows word (chosen to (words.holds (value words env t))) here.0
-      (ap (λ x. at (to.hit ∷ to.miss ∷ next) (yes_or_no (words.holds (value words env x)))) here.1 ∙ yes_no_target to next (words.holds (value words env t)))
-      (before env rows (chosen to (words.holds (value words env t))) word c);
+      added_leads (record { ask = Holds k; next = to.hit ∷ to.miss ∷ next }) mid new place added env rows word (chosen to (word_meaning.holds (value word_meaning env t))) here.0
+      (ap (λ x. at (to.hit ∷ to.miss ∷ next) (yes_or_no (word_meaning.holds (value word_meaning env x)))) here.1 ∙ yes_no_target to next (word_meaning.holds (value word_meaning env t)))
+      (before env rows (chosen to (word_meaning.holds (value word_meaning env t))) word c);
 }
   where
     before : Keeps old mid
@@ -105,7 +105,7 @@ pub put_term_ends : (t : Term) (old mid new : Decisions) (k place : ℕ) (next :
 put_term_ends t old mid new k place next grown added constants = record {
   keeps = keeps_both old mid new (keeps_same_nodes old mid (t ∷ []) grown.2 grown.1) (added_keeps (record { ask = Value k; next = next }) mid new place added);
   ends = λ env rows begins within.
-      subst (λ x. Comes env rows new place (value words env x)) here.1
+      subst (λ x. Comes env rows new place (value word_meaning env x)) here.1
       (added_value (record { ask = Value k; next = next }) mid new place added env rows k refl here.0);
 }
   where

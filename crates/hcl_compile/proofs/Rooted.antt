@@ -4,7 +4,7 @@ use Rattle.std.proofs.lemmas.List.{get_or_append_left, length-append, take_all, 
 use Rattle.std.specs.Prelude.{slice_get, Some}
 use Rattle.hcl_types.specs.declared.term.Term.{Term}
 use Rattle.hcl_types.specs.Signals.{Starts}
-use Rattle.hcl_types.specs.Terms.{at, names, value, words}
+use Rattle.hcl_types.specs.Terms.{at, names, value, word_meaning}
 use Rattle.hcl_compile.specs.declared.decisions.Decisions.{Decisions}
 use Rattle.hcl_compile.specs.declared.node.Node.{Node}
 use Rattle.hcl_compile.specs.Making.{IsValue, Keeps}
@@ -18,7 +18,7 @@ rooted_still constants old new [] [] k r = tt
 rooted_still constants old new [] (root ∷ roots) k r = absurd r
 rooted_still constants old new (t ∷ ts) [] k r = absurd r
 rooted_still constants old new (t ∷ ts) (root ∷ roots) k r =
-    (λ env rows begins within. k env rows root (value words env t) (r.0 env rows begins within), rooted_still constants old new ts roots k r.1)
+    (λ env rows begins within. k env rows root (value word_meaning env t) (r.0 env rows begins within), rooted_still constants old new ts roots k r.1)
 
 rooted_push : (constants : List ℕ) (d : Decisions) (ts : List Term) (roots : List ℕ) (t : Term) (root : ℕ) → Rooted constants d ts roots → IsRoot constants d.terms.items d.nodes.items t root
     → Rooted constants d (ts ++ t ∷ []) (roots ++ root ∷ [])
@@ -55,5 +55,5 @@ begins_with constants vals s = record {
 }
 
 pub root_ends : (constants : List ℕ) (terms : List Term) (nodes : List Node) (ts : List Term) (roots vals : List ℕ) (k : ℕ) (t : Term) → AreRoots constants terms nodes ts roots → Starts constants vals
-    → slice_get ts k ≡ Some t → Within (length vals) (names t) → Ends (at vals) (length vals) terms nodes (get_or roots k 0) (value words (at vals) t)
+    → slice_get ts k ≡ Some t → Within (length vals) (names t) → Ends (at vals) (length vals) terms nodes (get_or roots k 0) (value word_meaning (at vals) t)
 root_ends constants terms nodes ts roots vals k t r s e w = (root_at constants terms nodes ts roots k t r e).1 (at vals) (length vals) (begins_with constants vals s) w

@@ -6,7 +6,7 @@ use Rattle.hcl_types.specs.declared.term.Term.{Term}
 use Rattle.hcl_types.specs.declared.term.TermBranch.{TermBranch}
 use Rattle.hcl_types.specs.declared.term.Term.TheVariants.{Num, Name, Case}
 use Rattle.hcl_types.specs.Lists.{each, some}
-use Rattle.hcl_types.specs.Terms.{at, branch_names, branch_value, compare_words, joined, names, picked, value, words}
+use Rattle.hcl_types.specs.Terms.{at, branch_names, branch_value, compare_words, joined, names, picked, value, word_meaning}
 use Rattle.hcl_types.proofs.Each.{each_left, each_right}
 use Rattle.hcl_types.proofs.Inductions.{induct}
 use Rattle.hcl_types.proofs.Values.{value_Num, value_Name, value_Not, value_And, value_Or, value_Cmp, value_In, value_Case, value_branch, names_Name, names_Case, names_branch}
@@ -34,17 +34,17 @@ number_found constants n id target h e t terms nodes env rows begins =
 
 -- ---- operands
 
-pub name_known : (constants : List ℕ) (t : Term) (id n : ℕ) → t ≡ Name id → id < length constants → at constants id ≡ n → (env : ℕ → ℕ) (rows : ℕ) → Begins constants env rows → value words env t ≡ n
-name_known constants t id n e h a env rows begins = ap (value words env) e ∙ value_Name words env id ∙ begins.constant id h ∙ a
+pub name_known : (constants : List ℕ) (t : Term) (id n : ℕ) → t ≡ Name id → id < length constants → at constants id ≡ n → (env : ℕ → ℕ) (rows : ℕ) → Begins constants env rows → value word_meaning env t ≡ n
+name_known constants t id n e h a env rows begins = ap (value word_meaning env) e ∙ value_Name word_meaning env id ∙ begins.constant id h ∙ a
 
-pub name_row : (t : Term) (id : ℕ) → t ≡ Name id → (env : ℕ → ℕ) (rows : ℕ) → Within rows (names t) → (id < rows) × (value words env t ≡ env id)
-name_row t id e env rows within = (first (subst (Within rows) (ap names e ∙ names_Name id) within), ap (value words env) e ∙ value_Name words env id)
+pub name_row : (t : Term) (id : ℕ) → t ≡ Name id → (env : ℕ → ℕ) (rows : ℕ) → Within rows (names t) → (id < rows) × (value word_meaning env t ≡ env id)
+name_row t id e env rows within = (first (subst (Within rows) (ap names e ∙ names_Name id) within), ap (value word_meaning env) e ∙ value_Name word_meaning env id)
   where
     first : Within rows (id ∷ []) → id < rows
     first w = w.0
 
-pub number_known : (t : Term) (n : ℕ) → t ≡ Num n → (env : ℕ → ℕ) → value words env t ≡ n
-number_known t n e env = ap (value words env) e ∙ value_Num words env n
+pub number_known : (t : Term) (n : ℕ) → t ≡ Num n → (env : ℕ → ℕ) → value word_meaning env t ≡ n
+number_known t n e env = ap (value word_meaning env) e ∙ value_Num word_meaning env n
 
 -- ---- values
 
@@ -56,11 +56,11 @@ pub is_truth : (t : Term) → TruthUnless t
 is_truth = induct TruthUnless (λ b. Unit {0})
     (λ n a b c env. absurd (a n refl))
     (λ id a b c env. absurd (b id refl))
-    (λ t p a b c env. (not (words.holds (value words env t)), value_Not words env t))
-    (λ ts p a b c env. (each words.holds (map (value words env) ts), value_And words env ts))
-    (λ ts p a b c env. (some words.holds (map (value words env) ts), value_Or words env ts))
-    (λ op t u p q a b c env. (compare_words op (value words env t) (value words env u), value_Cmp words env op t u))
-    (λ t us p q a b c env. (some (compare_words Eq (value words env t)) (map (value words env) us), value_In words env t us))
+    (λ t p a b c env. (not (word_meaning.holds (value word_meaning env t)), value_Not word_meaning env t))
+    (λ ts p a b c env. (each word_meaning.holds (map (value word_meaning env) ts), value_And word_meaning env ts))
+    (λ ts p a b c env. (some word_meaning.holds (map (value word_meaning env) ts), value_Or word_meaning env ts))
+    (λ op t u p q a b c env. (compare_words op (value word_meaning env t) (value word_meaning env u), value_Cmp word_meaning env op t u))
+    (λ t us p q a b c env. (some (compare_words Eq (value word_meaning env t)) (map (value word_meaning env) us), value_In word_meaning env t us))
     (λ bs p a b c env. absurd (c bs refl))
     (λ b p q. tt)
 
@@ -69,35 +69,35 @@ module _ (constants : List ℕ) where
       → IsTest constants t old new to place → IsValue constants t old new place
   truth_value t old new to place truth one zero' d = record {
     keeps = d.keeps;
-    ends = λ env rows begins within. d.leads env rows (value words env t) begins within (by (truth env).0 env rows begins (truth env).1);
+    ends = λ env rows begins within. d.leads env rows (value word_meaning env t) begins within (by (truth env).0 env rows begins (truth env).1);
   }
     where
-      by : (b : Bool) (env : ℕ → ℕ) (rows : ℕ) → Begins constants env rows → value words env t ≡ words.bool b → Comes env rows old (chosen to (words.holds (value words env t))) (value words env t)
+      by : (b : Bool) (env : ℕ → ℕ) (rows : ℕ) → Begins constants env rows → value word_meaning env t ≡ word_meaning.bool b → Comes env rows old (chosen to (word_meaning.holds (value word_meaning env t))) (value word_meaning env t)
       by true env rows begins e = rw e (one old.terms.items old.nodes.items env rows begins)
       by false env rows begins e = rw e (zero' old.terms.items old.nodes.items env rows begins)
 
-  pub valued_target : (t : Term) (d : Decisions) (target : ℕ) → ((terms : List Term) (nodes : List Node) (env : ℕ → ℕ) (rows : ℕ) → Begins constants env rows → Within rows (names t) → Ends env rows terms nodes target (value words env t))
+  pub valued_target : (t : Term) (d : Decisions) (target : ℕ) → ((terms : List Term) (nodes : List Node) (env : ℕ → ℕ) (rows : ℕ) → Begins constants env rows → Within rows (names t) → Ends env rows terms nodes target (value word_meaning env t))
       → IsValue constants t d d target
   valued_target t d target h = record { keeps = keeps_all d; ends = λ env rows begins within. h d.terms.items d.nodes.items env rows begins within }
 
   pub valued_case : (t : Term) (bs : List TermBranch) (old new : Decisions) (place : ℕ) → t ≡ Case bs
-      → IsValued constants (joined (map branch_names bs)) (λ env. picked words.holds 0 (map (branch_value words env) bs)) old new place → IsValue constants t old new place
+      → IsValued constants (joined (map branch_names bs)) (λ env. picked word_meaning.holds 0 (map (branch_value word_meaning env) bs)) old new place → IsValue constants t old new place
   valued_case t bs old new place e v = subst (λ x. IsValue constants x old new place) (sym e) (record {
     keeps = v.keeps;
-    ends = λ env rows begins within. subst (λ x. Comes env rows new place x) (sym (value_Case words env bs)) (v.ends env rows begins (subst (Within rows) (names_Case bs) within));
+    ends = λ env rows begins within. subst (λ x. Comes env rows new place x) (sym (value_Case word_meaning env bs)) (v.ends env rows begins (subst (Within rows) (names_Case bs) within));
   })
 
 -- ---- branches, from the last
 
 abbrev pub IsCase : List ℕ → List TermBranch → ℕ → Decisions → Decisions → ℕ → Type 0
 IsCase constants bs left old new place =
-    (left ≤ length bs) × IsValued constants (joined (map branch_names (drop left bs))) (λ env. picked words.holds 0 (map (branch_value words env) (drop left bs))) old new place
+    (left ≤ length bs) × IsValued constants (joined (map branch_names (drop left bs))) (λ env. picked word_meaning.holds 0 (map (branch_value word_meaning env) (drop left bs))) old new place
 
 module _ (constants : List ℕ) (bs : List TermBranch) (old : Decisions) where
   pub case_none : (left none : ℕ) → left ≡ length bs → IsNumber constants 0 none → IsCase constants bs left old old none
   case_none left none e zero' = (
     omega arith,
-    subst (λ xs. IsValued constants (joined (map branch_names xs)) (λ env. picked words.holds 0 (map (branch_value words env) xs)) old old none) (sym nothing)
+    subst (λ xs. IsValued constants (joined (map branch_names xs)) (λ env. picked word_meaning.holds 0 (map (branch_value word_meaning env) xs)) old old none) (sym nothing)
         (record { keeps = keeps_all old; ends = λ env rows begins within. zero' old.terms.items old.nodes.items env rows begins }),
   )
     where
@@ -108,23 +108,23 @@ module _ (constants : List ℕ) (bs : List TermBranch) (old : Decisions) where
       → IsValue constants b.value mid later taken → IsTest constants b.guard later new (record { hit = taken; miss = rest }) place → IsCase constants bs next old new place
   case_more mid later new b left next rest taken place down here r v d = (
     omega (arith, r.0),
-    subst (λ xs. IsValued constants (joined (map branch_names xs)) (λ env. picked words.holds 0 (map (branch_value words env) xs)) old new place)
+    subst (λ xs. IsValued constants (joined (map branch_names xs)) (λ env. picked word_meaning.holds 0 (map (branch_value word_meaning env) xs)) old new place)
         (sym (split bs b left next down (omega (arith, r.0)) here)) (record {
           keeps = whole.keeps;
           ends = λ env rows begins within.
-              subst (λ (x : ℕ × ℕ). Comes env rows new place (if words.holds x.0 then x.1 else picked words.holds 0 (map (branch_value words env) (drop left bs)))) (sym (value_branch words env b))
+              subst (λ (x : ℕ × ℕ). Comes env rows new place (if word_meaning.holds x.0 then x.1 else picked word_meaning.holds 0 (map (branch_value word_meaning env) (drop left bs)))) (sym (value_branch word_meaning env b))
               (whole.ends env rows begins (subst (λ ids. Within rows (ids ++ joined (map branch_names (drop left bs)))) (names_branch b) within));
         }),
   )
     where
       whole : IsValued constants ((names b.guard ++ names b.value) ++ joined (map branch_names (drop left bs)))
-          (λ env. if words.holds (value words env b.guard) then value words env b.value else picked words.holds 0 (map (branch_value words env) (drop left bs))) old new place
-      whole = valued_branch constants (names b.guard) (names b.value) (joined (map branch_names (drop left bs))) (λ env. words.holds (value words env b.guard)) (λ env. value words env b.value)
-          (λ env. picked words.holds 0 (map (branch_value words env) (drop left bs))) old mid later new rest taken place r.1 v d
+          (λ env. if word_meaning.holds (value word_meaning env b.guard) then value word_meaning env b.value else picked word_meaning.holds 0 (map (branch_value word_meaning env) (drop left bs))) old new place
+      whole = valued_branch constants (names b.guard) (names b.value) (joined (map branch_names (drop left bs))) (λ env. word_meaning.holds (value word_meaning env b.guard)) (λ env. value word_meaning env b.value)
+          (λ env. picked word_meaning.holds 0 (map (branch_value word_meaning env) (drop left bs))) old mid later new rest taken place r.1 v d
 
   pub case_end : (new : Decisions) (left place : ℕ) → IsCase constants bs left old new place → left ≡ 0
-      → IsValued constants (joined (map branch_names bs)) (λ env. picked words.holds 0 (map (branch_value words env) bs)) old new place
-  case_end new left place r e = subst (λ k. IsValued constants (joined (map branch_names (drop k bs))) (λ env. picked words.holds 0 (map (branch_value words env) (drop k bs))) old new place) e r.1
+      → IsValued constants (joined (map branch_names bs)) (λ env. picked word_meaning.holds 0 (map (branch_value word_meaning env) bs)) old new place
+  case_end new left place r e = subst (λ k. IsValued constants (joined (map branch_names (drop k bs))) (λ env. picked word_meaning.holds 0 (map (branch_value word_meaning env) (drop k bs))) old new place) e r.1
 
 -- ---- equality
 
@@ -135,14 +135,14 @@ module _ (constants : List ℕ) (x y : Term) where
   pub equal_code : (a n : ℕ) → IsOperand constants x (Row a) → IsOperand constants y (Number n) → IsEquality constants x y (code_equality a n)
   equal_code a n p q env rows begins v w = by (nat_lt n 16)
     where
-      by : (b : Bool) → Says env rows (nat_eq (value words env x) (value words env y)) (if b then Code a n else Other)
+      by : (b : Bool) → Says env rows (nat_eq (value word_meaning env x) (value word_meaning env y)) (if b then Code a n else Other)
       by true = ((p env rows begins v).0, rw ((p env rows begins v).1, q env rows begins) refl)
       by false = tt
 
   pub equal_number : (a n : ℕ) → IsOperand constants x (Number n) → IsOperand constants y (Row a) → IsEquality constants x y (code_equality a n)
   equal_number a n p q env rows begins v w = by (nat_lt n 16)
     where
-      by : (b : Bool) → Says env rows (nat_eq (value words env x) (value words env y)) (if b then Code a n else Other)
+      by : (b : Bool) → Says env rows (nat_eq (value word_meaning env x) (value word_meaning env y)) (if b then Code a n else Other)
       by true = (
         (q env rows begins w).0,
         rw ((q env rows begins w).1, p env rows begins) (elim (cases_eq n (env a)) [
@@ -153,10 +153,10 @@ module _ (constants : List ℕ) (x y : Term) where
       by false = tt
 
   abbrev pub Equal : Decisions → Decisions → Targets → ℕ → Type 0
-  Equal old new to place = Decides constants (names x ++ names y) (λ env. nat_eq (value words env x) (value words env y)) old new to place
+  Equal old new to place = Decides constants (names x ++ names y) (λ env. nat_eq (value word_meaning env x) (value word_meaning env y)) old new to place
 
   pub put_known : (b : Bool) (d : Decisions) (to : Targets) (place : ℕ) → IsEquality constants x y (Known b) → place ≡ chosen to b → Equal d d to place
-  put_known b d to place e p = decides_known constants (names x ++ names y) (λ env. nat_eq (value words env x) (value words env y)) b d to place
+  put_known b d to place e p = decides_known constants (names x ++ names y) (λ env. nat_eq (value word_meaning env x) (value word_meaning env y)) b d to place
       (λ env rows begins within. e env rows begins (each_left (λ id. id < rows) (names x) (names y) within) (each_right (λ id. id < rows) (names x) (names y) within)) p
 
   pub put_rows : (a b : ℕ) (old new : Decisions) (to : Targets) (place : ℕ) → IsEquality constants x y (Rows a b) → Decides constants (a ∷ b ∷ []) (λ env. nat_eq (env a) (env b)) old new to place

@@ -7,7 +7,7 @@ use Rattle.std.proofs.lemmas.List.{get_or_default}
 use Rattle.hcl_types.specs.declared.term.Term.{Term}
 use Rattle.hcl_types.specs.declared.term.Term.TheVariants.{Num}
 use Rattle.hcl_types.specs.Tables.{term_at}
-use Rattle.hcl_types.specs.Terms.{at, value, words}
+use Rattle.hcl_types.specs.Terms.{at, value, word_meaning}
 use Rattle.hcl_compile.specs.declared.node.TheConstants.{ROWS}
 use Rattle.hcl_compile.specs.declared.node.Ask.{Ask}
 use Rattle.hcl_compile.specs.declared.node.Ask.TheVariants.{Code, Same, Holds, Value}
@@ -38,11 +38,11 @@ module _ (env : ℕ → ℕ) (rows : ℕ) (terms : List Term) (nodes : List Node
   row_end target word high (at_node _ _ node low here has near rest) = absurd (omega arith)
 
   pub value_end : (target word k : ℕ) (node : Node) → target < ROWS → slice_get nodes target ≡ Some node → node.ask ≡ Value k → Ends env rows terms nodes target word
-      → (k < length terms) × (word ≡ value words env (term_at terms k))
+      → (k < length terms) × (word ≡ value word_meaning env (term_at terms k))
   value_end target word k node high found asked (at_row _ _ low here is) = absurd (omega arith)
   value_end target word k node high found asked (at_value _ _ j other low here asks within is) =
       let same : j ≡ k = same_value j k (sym asks ∙ ap (λ (n : Node). n.ask) (some_node other node (sym here ∙ found)) ∙ asked) in
-      subst (λ x. (x < length terms) × (word ≡ value words env (term_at terms x))) same (within, is)
+      subst (λ x. (x < length terms) × (word ≡ value word_meaning env (term_at terms x))) same (within, is)
   value_end target word k node high found asked (at_node _ _ other low here has near rest) =
       absurd (subst (HasAnswer rows terms) (ap (λ (n : Node). n.ask) (some_node other node (sym here ∙ found)) ∙ asked) has)
 
@@ -66,7 +66,7 @@ KeepsTerms terms more = (k : ℕ) → k < length terms → (k < length more) × 
 same_answer : (env : ℕ → ℕ) (rows : ℕ) (terms more : List Term) (ask : Ask) → KeepsTerms terms more → HasAnswer rows terms ask → answer env more ask ≡ answer env terms ask
 same_answer env rows terms more (Code name) keeps has = refl
 same_answer env rows terms more (Same left right) keeps has = refl
-same_answer env rows terms more (Holds k) keeps has = ap (λ t. yes_or_no (words.holds (value words env t))) (keeps k has).1
+same_answer env rows terms more (Holds k) keeps has = ap (λ t. yes_or_no (word_meaning.holds (value word_meaning env t))) (keeps k has).1
 same_answer env rows terms more (Value k) keeps has = refl
 
 still_answers : (rows : ℕ) (terms more : List Term) (ask : Ask) → KeepsTerms terms more → HasAnswer rows terms ask → HasAnswer rows more ask
@@ -79,7 +79,7 @@ pub kept : (env : ℕ → ℕ) (rows : ℕ) (terms more : List Term) (nodes long
     → Ends env rows terms nodes target word → Ends env rows more longer target word
 kept env rows terms more nodes longer target word t n (at_row _ _ low here is) = at_row target word low here is
 kept env rows terms more nodes longer target word t n (at_value _ _ k node low here asks within is) =
-    at_value target word k node low (n target node here) asks (t k within).0 (is ∙ ap (value words env) (sym (t k within).1))
+    at_value target word k node low (n target node here) asks (t k within).0 (is ∙ ap (value word_meaning env) (sym (t k within).1))
 kept env rows terms more nodes longer target word t n (at_node _ _ node low here has near rest) =
     let same : answer env more node.ask ≡ answer env terms node.ask = same_answer env rows terms more node.ask t has in
     at_node target word node low (n target node here) (still_answers rows terms more node.ask t has)
@@ -124,7 +124,7 @@ module _ (env : ℕ → ℕ) (rows : ℕ) (terms : List Term) (nodes : List Node
     same = λ word e. (question_end env rows terms nodes place word (get_or nodes place other) low (found ends) asks (same word e)).2;
   }
 
-  pub walk_value : (k word : ℕ) (t : Term) → (get_or nodes place other).ask ≡ Value k → t ≡ get_or terms k t → Ends env rows terms nodes place word → value words env t ≡ word
+  pub walk_value : (k word : ℕ) (t : Term) → (get_or nodes place other).ask ≡ Value k → t ≡ get_or terms k t → Ends env rows terms nodes place word → value word_meaning env t ≡ word
   walk_value k word t asks is ends =
       let last = value_end env rows terms nodes place word k (get_or nodes place other) low (found (word, ends)) asks ends in
-      ap (value words env) (is ∙ get_or_default terms k t (Num 0) last.0) ∙ sym last.1
+      ap (value word_meaning env) (is ∙ get_or_default terms k t (Num 0) last.0) ∙ sym last.1

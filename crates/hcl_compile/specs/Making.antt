@@ -2,7 +2,7 @@
 use Rattle.std.specs.Prelude.{ℕ, ◌≡◌, ◌<◌, nat_eq, nat_lt, Bool, if◌then◌else◌, List, [], ◌∷◌, ◌++◌, length, MatchOption, Option}
 use Rattle.hcl_types.specs.declared.term.Term.{Term}
 use Rattle.hcl_types.specs.Lists.{each, some}
-use Rattle.hcl_types.specs.Terms.{names, value, words}
+use Rattle.hcl_types.specs.Terms.{names, value, word_meaning}
 use Rattle.hcl_compile.specs.declared.node.TheConstants.{ROWS}
 use Rattle.hcl_compile.specs.declared.node.Node.{Node}
 use Rattle.hcl_compile.specs.declared.decisions.Decisions.{Decisions}
@@ -61,11 +61,11 @@ MayDecide constants ids test old new to found = MatchOption found (Keeps old new
 
 -- the place leads on to hit where the term holds, and else to miss
 abbrev pub IsTest : List ℕ → Term → Decisions → Decisions → Targets → ℕ → Type 0
-IsTest constants t = Decides constants (names t) (λ env. words.holds (value words env t))
+IsTest constants t = Decides constants (names t) (λ env. word_meaning.holds (value word_meaning env t))
 
 -- either there is such a place, or there is none
 abbrev pub MayTest : List ℕ → Term → Decisions → Decisions → Targets → Option ℕ → Type 0
-MayTest constants t = MayDecide constants (names t) (λ env. words.holds (value words env t))
+MayTest constants t = MayDecide constants (names t) (λ env. word_meaning.holds (value word_meaning env t))
 
 -- the walk from the place ends with the value of f, which needs the rows of ids
 pub record IsValued (constants ids : List ℕ) (f : (ℕ → ℕ) → ℕ) (old new : Decisions) (place : ℕ) : Type 0 where
@@ -74,7 +74,7 @@ pub record IsValued (constants ids : List ℕ) (f : (ℕ → ℕ) → ℕ) (old 
 
 -- the walk from the place ends with the value of the term
 abbrev pub IsValue : List ℕ → Term → Decisions → Decisions → ℕ → Type 0
-IsValue constants t = IsValued constants (names t) (λ env. value words env t)
+IsValue constants t = IsValued constants (names t) (λ env. value word_meaning env t)
 
 -- the target of a constant that is this number
 abbrev pub IsNumber : List ℕ → ℕ → ℕ → Type 0
@@ -82,8 +82,8 @@ IsNumber constants n target = (terms : List Term) (nodes : List Node) (env : ℕ
 
 -- an operand is worth what the term is
 abbrev pub IsOperand : List ℕ → Term → Operand → Type 0
-IsOperand constants t (operand.Number n) = (env : ℕ → ℕ) (rows : ℕ) → Begins constants env rows → value words env t ≡ n
-IsOperand constants t (operand.Row id) = (env : ℕ → ℕ) (rows : ℕ) → Begins constants env rows → Within rows (names t) → (id < rows) × (value words env t ≡ env id)
+IsOperand constants t (operand.Number n) = (env : ℕ → ℕ) (rows : ℕ) → Begins constants env rows → value word_meaning env t ≡ n
+IsOperand constants t (operand.Row id) = (env : ℕ → ℕ) (rows : ℕ) → Begins constants env rows → Within rows (names t) → (id < rows) × (value word_meaning env t ≡ env id)
 IsOperand constants t operand.Other = Unit {0}
 
 -- whether two words are equal, as far as a node can ask for it
@@ -96,7 +96,7 @@ Says env rows equal equality.Other = Unit {0}
 -- whether two terms are equal, as far as a node can ask for it
 abbrev pub IsEquality : List ℕ → Term → Term → Equality → Type 0
 IsEquality constants x y e = (env : ℕ → ℕ) (rows : ℕ) → Begins constants env rows → Within rows (names x) → Within rows (names y)
-    → Says env rows (nat_eq (value words env x) (value words env y)) e
+    → Says env rows (nat_eq (value word_meaning env x) (value word_meaning env y)) e
 
 -- the equality of a row and a number
 abbrev pub code_equality : ℕ → ℕ → Equality
@@ -111,4 +111,4 @@ IsSmall equality.Other = Unit {0}
 
 -- a term that is worth 1 or 0
 abbrev pub IsTruth : Term → Type 0
-IsTruth t = (env : ℕ → ℕ) → (b : Bool) × (value words env t ≡ words.bool b)
+IsTruth t = (env : ℕ → ℕ) → (b : Bool) × (value word_meaning env t ≡ word_meaning.bool b)

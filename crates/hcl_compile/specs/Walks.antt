@@ -3,7 +3,7 @@ use Rattle.std.specs.Prelude.{ℕ, ◌≡◌, ◌+◌, ◌-◌, ◌<◌, ◌≤�
 use Rattle.std.specs.List.{AllByRecursion}
 use Rattle.hcl_types.specs.declared.term.Term.{Term}
 use Rattle.hcl_types.specs.Tables.{term_at}
-use Rattle.hcl_types.specs.Terms.{at, names, value, words}
+use Rattle.hcl_types.specs.Terms.{at, names, value, word_meaning}
 use Rattle.hcl_compile.specs.declared.node.TheConstants.{ROWS}
 use Rattle.hcl_compile.specs.declared.node.Ask.{Ask}
 use Rattle.hcl_compile.specs.declared.node.Ask.TheVariants.{Code, Same, Holds, Value}
@@ -21,7 +21,7 @@ yes_or_no holds = if holds then 0 else 1
 abbrev pub answer : (ℕ → ℕ) → List Term → Ask → ℕ
 answer env terms (Code name) = code_answer (env name)
 answer env terms (Same left right) = yes_or_no (nat_eq (env left) (env right))
-answer env terms (Holds k) = yes_or_no (words.holds (value words env (term_at terms k)))
+answer env terms (Holds k) = yes_or_no (word_meaning.holds (value word_meaning env (term_at terms k)))
 answer env terms (Value k) = 0
 
 -- a question that has its rows among so many, or its term
@@ -40,7 +40,7 @@ steps target = if nat_le ROWS target then 0 else target + 1
 pub data Ends (env : ℕ → ℕ) (rows : ℕ) (terms : List Term) (nodes : List Node) : ℕ → ℕ → Type 0 where
   at_row : (target word : ℕ) → ROWS ≤ target → target - ROWS < rows → word ≡ env (target - ROWS) → Ends env rows terms nodes target word
   at_value : (target word k : ℕ) (node : Node) → target < ROWS → slice_get nodes target ≡ Some node → node.ask ≡ Value k → k < length terms
-      → word ≡ value words env (term_at terms k) → Ends env rows terms nodes target word
+      → word ≡ value word_meaning env (term_at terms k) → Ends env rows terms nodes target word
   at_node : (target word : ℕ) (node : Node) → target < ROWS → slice_get nodes target ≡ Some node → HasAnswer rows terms node.ask
       → steps (at node.next (answer env terms node.ask)) ≤ target → Ends env rows terms nodes (at node.next (answer env terms node.ask)) word
       → Ends env rows terms nodes target word
@@ -57,7 +57,7 @@ Within rows ids = AllByRecursion (λ id. id < rows) ids
 -- wherever the first rows are the constants, the walk from the root ends with the value of the term
 abbrev pub IsRoot : List ℕ → List Term → List Node → Term → ℕ → Type 0
 IsRoot constants terms nodes t root =
-    (env : ℕ → ℕ) (rows : ℕ) → Begins constants env rows → Within rows (names t) → Ends env rows terms nodes root (value words env t)
+    (env : ℕ → ℕ) (rows : ℕ) → Begins constants env rows → Within rows (names t) → Ends env rows terms nodes root (value word_meaning env t)
 
 -- a root for each definition, in order
 abbrev pub AreRoots : List ℕ → List Term → List Node → List Term → List ℕ → Type 0

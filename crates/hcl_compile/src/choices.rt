@@ -1,7 +1,7 @@
 //! Decisions of terms.
 ghost use Rattle.std.specs.Prelude.{◌++◌, IfOk, map};
 ghost use Rattle.hcl_types.specs.declared.term.Term.TheVariants.{Cmp, In};
-ghost use Rattle.hcl_types.specs.Terms.{branch_names, branch_value, joined, names, picked, value, words};
+ghost use Rattle.hcl_types.specs.Terms.{branch_names, branch_value, joined, names, picked, value, word_meaning};
 ghost use Rattle.hcl_compile.specs.Making.{Decides, IsNumber, IsTest, IsTruth, IsValue, IsValued, MayTest, quantified};
 
 use crate::decisions::{Decisions, put_code, put_term, put_term_value};
@@ -42,7 +42,7 @@ fn put_terms(
     to: Targets,
     d: &mut Decisions,
 ) -> Result<u32, Memory>
-    ensures { IfOk result (Decides constants.now (joined (map names all.now)) (λ env. quantified quantifier words.holds (map (value words env) all.now)) d.old d.new to) }
+    ensures { IfOk result (Decides constants.now (joined (map names all.now)) (λ env. quantified quantifier word_meaning.holds (map (value word_meaning env) all.now)) d.old d.new to) }
 {
     let mut place = quantifier.of_none(to);
     let mut left = all.len();
@@ -204,7 +204,7 @@ fn put_case(
     d: &mut Decisions,
 ) -> Result<u32, Memory>
     requires { IsNumber constants.now 0 none }
-    ensures { IfOk result (IsValued constants.now (joined (map branch_names all.now)) (λ env. picked words.holds 0 (map (branch_value words env) all.now)) d.old d.new) }
+    ensures { IfOk result (IsValued constants.now (joined (map branch_names all.now)) (λ env. picked word_meaning.holds 0 (map (branch_value word_meaning env) all.now)) d.old d.new) }
 {
     let mut place = none;
     let mut left = all.len();

@@ -1,6 +1,6 @@
 //! Equality of two operands.
 ghost use Rattle.std.specs.Prelude.{◌≡◌, ◌++◌, nat_eq, IfOk};
-ghost use Rattle.hcl_types.specs.Terms.{names, value, words};
+ghost use Rattle.hcl_types.specs.Terms.{names, value, word_meaning};
 ghost use Rattle.hcl_compile.specs.Making.{IsEquality, IsSmall, MayDecide, code_equality};
 
 use crate::decisions::{Decisions, put_code, put_same};
@@ -53,7 +53,7 @@ pub fn put_equal(
     to: Targets,
     d: &mut Decisions,
 ) -> Result<Option<u32>, Memory>
-    ensures { IfOk result (MayDecide constants.now (names x.now ++ names y.now) (λ env. nat_eq (value words env x.now) (value words env y.now)) d.old d.new to) }
+    ensures { IfOk result (MayDecide constants.now (names x.now ++ names y.now) (λ env. nat_eq (value word_meaning env x.now) (value word_meaning env y.now)) d.old d.new to) }
 {
     match compared(x, y, constants) {
         Equality::Known(equal) => Ok(Some(to.chosen(equal))),

@@ -4,7 +4,7 @@ ghost use Rattle.hcl_types.specs.declared.term.Term.{Term};
 ghost use Rattle.hcl_compile.specs.declared.node.Node.{Node};
 ghost use Rattle.hcl_compile.specs.Making.{IsNumber, IsOperand};
 ghost use Rattle.hcl_compile.specs.Walks.{Begins, Ends, Within};
-ghost use Rattle.hcl_types.specs.Terms.{names, value, words};
+ghost use Rattle.hcl_types.specs.Terms.{names, value, word_meaning};
 
 use crate::node::ROWS;
 use hcl_types::{NameId, Term};
@@ -50,7 +50,7 @@ pub fn number_target(n: u64, constants: &[u64]) -> Option<u32>
 
 /// The target of a number or of a name, where one is.
 pub fn operand_target(t: &Term, constants: &[u64]) -> Option<u32>
-    ensures { IfSome result (λ target. (terms : List Term) (nodes : List Node) (env : ℕ → ℕ) (rows : ℕ) → Begins constants.now env rows → Within rows (names t.now) → Ends env rows terms nodes target (value words env t.now)) }
+    ensures { IfSome result (λ target. (terms : List Term) (nodes : List Node) (env : ℕ → ℕ) (rows : ℕ) → Begins constants.now env rows → Within rows (names t.now) → Ends env rows terms nodes target (value word_meaning env t.now)) }
 {
     match read_operand(t, constants) {
         Operand::Number(n) => number_target(n, constants),

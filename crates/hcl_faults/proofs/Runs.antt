@@ -5,7 +5,7 @@ use Rattle.std.proofs.lemmas.List.{take_all, take_at}
 use Rattle.hcl_read.specs.declared.fault.HclWhy.{HclWhy}
 use Rattle.hcl_read.specs.declared.fault.HclWhy.TheVariants as whys
 use Rattle.hcl_read.specs.declared.tokens.Token.{Token}
-use Rattle.hcl_read.specs.declared.state.State.{State}
+use Rattle.hcl_read.specs.declared.state.ReaderState.{ReaderState}
 use Rattle.hcl_read.specs.Machine.{on, run, start, step}
 use Rattle.hcl_read.specs.Steps.{Refuses, Steps}
 use Rattle.hcl_read.specs.Tokens.{items, skipped, front, tokens}
@@ -21,7 +21,7 @@ kind_list : List (Token × List ℕ) → List Token
 kind_list some = map (λ item. item.0) some
 
 -- what the loop keeps: the reader has taken the tokens so far
-pub record Reached (text : List ℕ) (count : ℕ) (state : State) (rest : List ℕ) : Type 0 where
+pub record Reached (text : List ℕ) (count : ℕ) (state : ReaderState) (rest : List ℕ) : Type 0 where
   pub taken : List Token
   pub whole : tokens text ≡ taken ++ tokens rest
   pub count_is : length taken ≡ count
@@ -34,7 +34,7 @@ reached_first text = record { taken = []; whole = refl; count_is = refl; ran = r
 tokens_next : (rest here : List ℕ) (t : Token) (behind : List ℕ) → here ≡ skipped false rest → front here ≡ Some (t, behind) → tokens rest ≡ t ∷ tokens behind
 tokens_next rest here t behind gap e = ap (λ some. map (λ (item : Token × List ℕ). item.0) some) (is_token rest here t behind gap e).items_are
 
-pub reached_step : (text rest here : List ℕ) (t : Token) (behind : List ℕ) (count : ℕ) (state next : State) → Reached text count state rest → here ≡ skipped false rest →
+pub reached_step : (text rest here : List ℕ) (t : Token) (behind : List ℕ) (count : ℕ) (state next : ReaderState) → Reached text count state rest → here ≡ skipped false rest →
     front here ≡ Some (t, behind) → step true state t ≡ Ok next → Reached text (count + 1) next behind
 reached_step text rest here t behind count state next r gap e s =
     record {
@@ -45,7 +45,7 @@ reached_step text rest here t behind count state next r gap e s =
     }
 
 -- the first tokens of a text that has no more, or just so many
-pub reached_end : (text rest here : List ℕ) (count most : ℕ) (state : State) → Reached text count state rest → here ≡ skipped false rest → here ≡ [] → count ≤ most →
+pub reached_end : (text rest here : List ℕ) (count most : ℕ) (state : ReaderState) → Reached text count state rest → here ≡ skipped false rest → here ≡ [] → count ≤ most →
     run 0 start (take most (tokens text)) ≡ Ok state
 reached_end text rest here count most state r gap e h =
     let none : tokens rest ≡ [] = ap (λ some. map (λ (item : Token × List ℕ). item.0) some) (items_ended rest (sym gap ∙ e)) in
@@ -53,7 +53,7 @@ reached_end text rest here count most state r gap e h =
     let fits : length r.taken ≤ most = let c = r.count_is in omega arith in
     ap (λ some. run 0 start (take most some)) all ∙ ap (run 0 start) (take_all most r.taken fits) ∙ r.ran
 
-pub reached_whole : (text rest : List ℕ) (count : ℕ) (state : State) → Reached text count state rest → run 0 start (take count (tokens text)) ≡ Ok state
+pub reached_whole : (text rest : List ℕ) (count : ℕ) (state : ReaderState) → Reached text count state rest → run 0 start (take count (tokens text)) ≡ Ok state
 reached_whole text rest count state r =
     ap (λ some. run 0 start (take count some)) r.whole ∙ ap (run 0 start) (take_at r.taken (tokens rest) count r.count_is) ∙ r.ran
 
@@ -63,7 +63,7 @@ more_of [] x ys (suc n) h = (take n ys, refl)
 more_of (z ∷ zs) x ys zero h = absurd (omega (arith, h))
 more_of (z ∷ zs) x ys (suc n) h = let m = more_of zs x ys n (omega (arith, h)) in (m.0, ap (λ some. z ∷ some) m.1)
 
-refused_run : (taken behind : List Token) (t : Token) (state : State) (why : HclWhy) → run 0 start taken ≡ Ok state → step true state t ≡ Err why →
+refused_run : (taken behind : List Token) (t : Token) (state : ReaderState) (why : HclWhy) → run 0 start taken ≡ Ok state → step true state t ≡ Err why →
     run 0 start (taken ++ t ∷ behind) ≡ Err why
 unfolding run
 refused_run taken behind t state why ran s =
@@ -71,7 +71,7 @@ refused_run taken behind t state why ran s =
     ∙ ap (λ strict. on (step strict state t) (λ next. run 0 next behind)) (strict_in_front 0 (length behind) (omega arith))
     ∙ ap (λ r. on r (λ next. run 0 next behind)) s
 
-pub reached_refused : (text rest here : List ℕ) (t : Token) (behind : List ℕ) (count most : ℕ) (state : State) (why : HclWhy) → Reached text count state rest →
+pub reached_refused : (text rest here : List ℕ) (t : Token) (behind : List ℕ) (count most : ℕ) (state : ReaderState) (why : HclWhy) → Reached text count state rest →
     here ≡ skipped false rest → front here ≡ Some (t, behind) → count < most → Refuses why (step true state t) → Refuses why (run 0 start (take most (tokens text)))
 reached_refused text rest here t behind count most state why r gap e h s = go why s
   where
@@ -91,7 +91,7 @@ reached_refused text rest here t behind count most state why r gap e h s = go wh
     go whys.NamesOver256 f = by whys.NamesOver256 f
 
 -- whether a kind follows
-pub follows_on : (taken : List Token) (kind : TokenKind) (state : State) → run 0 start taken ≡ Ok state → follows taken kind ≡ is_ok (step true state (sample kind))
+pub follows_on : (taken : List Token) (kind : TokenKind) (state : ReaderState) → run 0 start taken ≡ Ok state → follows taken kind ≡ is_ok (step true state (sample kind))
 unfolding follows
 follows_on taken kind state ran = ap is_ok (one_more_read taken (sample kind) state ran)
 
@@ -120,7 +120,7 @@ pub refused_run_of : {E : Type 0} (r : Result Bool E) (why : HclWhy) (taken : Li
 refused_run_of (Ok said) why taken kind h f = h.0 ∙ follows_not taken kind why f h.1
 refused_run_of (Err memory) why taken kind h f = tt
 
-pub taken_run : {E : Type 0} (r : Result Bool E) (taken : List Token) (kind : TokenKind) (state : State) → run 0 start taken ≡ Ok state →
+pub taken_run : {E : Type 0} (r : Result Bool E) (taken : List Token) (kind : TokenKind) (state : ReaderState) → run 0 start taken ≡ Ok state →
     IfOk r (λ yes. yes ≡ is_ok (step true state (sample kind))) → IfOk r (λ yes. yes ≡ follows taken kind)
 taken_run (Ok said) taken kind state ran h = h ∙ sym (follows_on taken kind state ran)
 taken_run (Err memory) taken kind state ran h = tt
@@ -130,6 +130,6 @@ pub follows_in_files : (front : List Token) (kind : TokenKind) → (follows fron
 unfolding follows
 follows_in_files front kind = (λ e. by (run 0 start (front ++ sample kind ∷ [])) refl e, λ v. ap is_ok (viable_reads (front ++ sample kind ∷ []) v).1)
   where
-    by : (r : Result State HclWhy) → run 0 start (front ++ sample kind ∷ []) ≡ r → is_ok r ≡ true → Viable (front ++ sample kind ∷ [])
+    by : (r : Result ReaderState HclWhy) → run 0 start (front ++ sample kind ∷ []) ≡ r → is_ok r ≡ true → Viable (front ++ sample kind ∷ [])
     by (Ok s) p e = reads_viable (front ++ sample kind ∷ []) s p
     by (Err why) p e = absurd (grind (arith, e))

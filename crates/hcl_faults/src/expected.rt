@@ -9,7 +9,7 @@ ghost use Rattle.hcl_faults.specs.Kinds as kinds;
 
 use crate::kinds::{TokenKind, sample};
 use crate::lists::put;
-use hcl_read::{HclWhy, State, after_gap, start, step, token};
+use hcl_read::{HclWhy, ReaderState, after_gap, start, step, token};
 use std::alloc::Global;
 use y86_base::Memory;
 
@@ -47,7 +47,7 @@ fn file_kinds() -> &'static [TokenKind]
 }
 
 /// The state of the reader behind the first tokens of a text.
-fn state_behind(alloc: Global, text: &[u8], count: usize) -> Result<State, HclWhy>
+fn state_behind(alloc: Global, text: &[u8], count: usize) -> Result<ReaderState, HclWhy>
     ensures { Steps result (machine.run 0 machine.start (take count (tokens text.now))) }
 {
     let mut rest = text;
@@ -79,7 +79,7 @@ fn refused(why: HclWhy) -> Result<bool, Memory>
 }
 
 /// Lets go of a state that is not needed any more.
-fn let_go(_state: State) -> bool
+fn let_go(_state: ReaderState) -> bool
     ensures { result ≡ true }
 {
     true
@@ -87,7 +87,7 @@ fn let_go(_state: State) -> bool
 
 /// Whether the reader takes a token of a kind.
 #[tactic(auto, using(crate::proofs::Runs::refused_step))]
-fn takes(alloc: Global, state: State, kind: TokenKind) -> Result<bool, Memory>
+fn takes(alloc: Global, state: ReaderState, kind: TokenKind) -> Result<bool, Memory>
     ensures { IfOk result (λ yes. yes ≡ is_ok (machine.step true state (kinds.sample kind))) }
 {
     match step(alloc, state, sample(alloc, kind)) {

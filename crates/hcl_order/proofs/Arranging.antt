@@ -3,8 +3,8 @@ use Rattle.std.proofs.Common.{◌≡◌, ◌≢◌, ◌+◌, ◌<◌, ◌⊎◌,
 use Rattle.std.specs.Prelude.{not}
 use Rattle.std.proofs.lemmas.Bool.{not-true}
 use Rattle.hcl_types.specs.Lists.{IsIn, IsApart}
-use Rattle.hcl_types.specs.Equations.{IsOrdered, IsOrder, is_known, needs_of}
-use Rattle.hcl_order.specs.Dependence.{Walks, Depends}
+use Rattle.hcl_types.specs.Equations.{IsOrdered, IsTopologicalOrder, is_known, needs_of}
+use Rattle.hcl_order.specs.Dependence.{IsDependencePath, Depends}
 use Rattle.hcl_order.specs.Layers.{IsWithin}
 use Rattle.hcl_order.specs.Arranging.{IsArranged, Arranges, IsPassed, undone}
 use Rattle.hcl_order.proofs.Members.{in_front, in_last, in_either, last_or, each_of}
@@ -97,7 +97,7 @@ arranged_more needs known done new ids on n a h u all e o = record {
     still x d = elim (same_or x n) [ inl s ↦ subst (λ y. is_known new y ≡ true) (sym s) here | inr f ↦ there x f ∙ d ]
 
 pub arranges_whole : (needs : List (List ℕ)) (known done : List Bool) (ids : List ℕ) → IsArranged needs known done ids
-    → ((n : ℕ) → is_known done n ≡ true) → IsOrder needs known ids
+    → ((n : ℕ) → is_known done n ≡ true) → IsTopologicalOrder needs known ids
 arranges_whole needs known done ids a all = record {
   unknown = each_of _ ids (λ n i. (a.listed n i).0);
   apart = a.apart;
@@ -122,11 +122,11 @@ arranged_begin needs done ids s e = rw e (record {
 })
 
 -- where there is an order no row depends on itself
-pub order_rests : (needs : List (List ℕ)) (known : List Bool) (ids : List ℕ) → IsOrder needs known ids
+pub order_rests : (needs : List (List ℕ)) (known : List Bool) (ids : List ℕ) → IsTopologicalOrder needs known ids
     → ((a m : ℕ) → is_known known a ≡ true → IsIn m (needs_of needs a) → ⊥) → (n : ℕ) → Depends (needs_of needs) n n → ⊥
 order_rests needs known ids o knows n d = by (is_known known n) refl
   where
-    some_need : (between : List ℕ) → Walks (needs_of needs) n between n → (m : ℕ) × IsIn m (needs_of needs n)
+    some_need : (between : List ℕ) → IsDependencePath (needs_of needs) n between n → (m : ℕ) × IsIn m (needs_of needs n)
     some_need [] w = (n, w)
     some_need (c ∷ between) w = (c, w.0)
 
@@ -135,14 +135,14 @@ order_rests needs known ids o knows n d = by (is_known known n) refl
     by false k = at_rest needs known [] ids o.ordered knows (λ m i. absurd i) n (o.whole n k) d
 
 both_ways : (needs : List (List ℕ)) (known : List Bool) (ids : List ℕ) (whole b : Bool) → whole ≡ b → Arranges needs known ids whole
-    → (whole ≡ true) ⊎ ((n : ℕ) → Depends (needs_of needs) n n → ⊥) → IsOrder needs known ids
+    → (whole ≡ true) ⊎ ((n : ℕ) → Depends (needs_of needs) n n → ⊥) → IsTopologicalOrder needs known ids
 both_ways needs known ids whole true e a h = a.order e
 both_ways needs known ids whole false e a h = elim h [ inl t ↦ a.order t | inr r ↦ (let s = a.stuck e in absurd (r s.0 s.1)) ]
 
 -- an order that was found, or that is there since no row depends on itself
 pub ordered_rows : (needs : List (List ℕ)) (known start : List Bool) (ids found : List ℕ) (whole : Bool) → Arranges needs start found whole → start ≡ known → ids ≡ found
     → (whole ≡ true) ⊎ ((n : ℕ) → Depends (needs_of needs) n n → ⊥) → ((a m : ℕ) → is_known known a ≡ true → IsIn m (needs_of needs a) → ⊥)
-    → IsOrder needs known ids × ((n : ℕ) → Depends (needs_of needs) n n → ⊥)
+    → IsTopologicalOrder needs known ids × ((n : ℕ) → Depends (needs_of needs) n n → ⊥)
 ordered_rows needs known start ids found whole a s i h knows =
-    let o : IsOrder needs known ids = subst (IsOrder needs known) (sym i) (subst (λ k. IsOrder needs k found) s (both_ways needs start found whole whole refl a h)) in
+    let o : IsTopologicalOrder needs known ids = subst (IsTopologicalOrder needs known) (sym i) (subst (λ k. IsTopologicalOrder needs k found) s (both_ways needs start found whole whole refl a h)) in
     (o, order_rests needs known ids o knows)

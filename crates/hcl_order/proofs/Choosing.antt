@@ -2,17 +2,17 @@
 use Rattle.std.proofs.Common.{◌≡◌, ◌-◌, ◌<◌, ◌≤◌, inl, inr, ℕ, zero, suc, List, [], ◌∷◌, ◌++◌, length, slice_index, refl, sym, ap, subst, ◌∙◌, arith}
 use Rattle.std.proofs.lemmas.List.{append_assoc, append-nil}
 use Rattle.hcl_types.specs.Lists.{IsIn}
-use Rattle.hcl_order.specs.Dependence.{Walks, Depends, IsNoLater, FirstCycle}
+use Rattle.hcl_order.specs.Dependence.{IsDependencePath, Depends, IsNoLater, FirstCycle}
 use Rattle.hcl_order.specs.Layers.{Steps, IsMarked, IsCycleLength}
-use Rattle.hcl_order.specs.Ways.{Follows, IsWay}
+use Rattle.hcl_order.specs.Ways.{FollowsMarks, IsCyclePath}
 use Rattle.hcl_order.proofs.Members.{is_suc, last_or, le_or}
 use Rattle.hcl_order.proofs.Walking.{steps_of}
 
-follows_walks : (needs : ℕ → List ℕ) (marks : List ℕ) (target k a : ℕ) (way : List ℕ) → Follows needs marks target k a way → Walks needs a way target
-follows_walks needs marks target zero a way f = subst (λ x. Walks needs a x target) (sym f.0) f.1
-follows_walks needs marks target (suc k) a way f = subst (λ x. Walks needs a x target) (sym f.2) (f.3, follows_walks needs marks target k f.0 f.1 f.6)
+follows_walks : (needs : ℕ → List ℕ) (marks : List ℕ) (target k a : ℕ) (way : List ℕ) → FollowsMarks needs marks target k a way → IsDependencePath needs a way target
+follows_walks needs marks target zero a way f = subst (λ x. IsDependencePath needs a x target) (sym f.0) f.1
+follows_walks needs marks target (suc k) a way f = subst (λ x. IsDependencePath needs a x target) (sym f.2) (f.3, follows_walks needs marks target k f.0 f.1 f.6)
 
-follows_length : (needs : ℕ → List ℕ) (marks : List ℕ) (target k a : ℕ) (way : List ℕ) → Follows needs marks target k a way → length way ≡ k
+follows_length : (needs : ℕ → List ℕ) (marks : List ℕ) (target k a : ℕ) (way : List ℕ) → FollowsMarks needs marks target k a way → length way ≡ k
 follows_length needs marks target zero a way f = ap length f.0
 follows_length needs marks target (suc k) a way f = ap length f.2 ∙ ap suc (follows_length needs marks target k f.0 f.1 f.6)
 
@@ -31,8 +31,8 @@ nearer needs marks target level k c m h e i s = elim (le_or (suc (suc i)) level)
 ]
 
 follows_least : (needs : ℕ → List ℕ) (marks : List ℕ) (target level k a : ℕ) (way : List ℕ) → IsMarked needs target level marks → suc k ≤ level
-    → ((i : ℕ) → Steps needs (suc i) a target → k ≤ i) → Follows needs marks target k a way
-    → (other : List ℕ) → Walks needs a other target → length other ≡ length way → IsNoLater way other
+    → ((i : ℕ) → Steps needs (suc i) a target → k ≤ i) → FollowsMarks needs marks target k a way
+    → (other : List ℕ) → IsDependencePath needs a other target → length other ≡ length way → IsNoLater way other
 follows_least needs marks target level zero a way m h none f other w e = subst (λ x. IsNoLater x other) (sym f.0) tt
 follows_least needs marks target level (suc k) a way m h none f [] w e = absurd (let l = ap length f.2 in omega arith)
 follows_least needs marks target level (suc k) a way m h none f (y ∷ other) w e =
@@ -46,11 +46,11 @@ follows_least needs marks target level (suc k) a way m h none f (y ∷ other) w 
       | inr s ↦ inr (
         s,
         follows_least needs marks target level k f.0 f.1 m (omega arith) (nearer needs marks target level k f.0 m h f.4) f.6 other
-            (subst (λ x. Walks needs x other target) (sym s) w.1) (long ∙ sym size),
+            (subst (λ x. IsDependencePath needs x other target) (sym s) w.1) (long ∙ sym size),
       )
     ])
 
-pub first_way : (needs : ℕ → List ℕ) (marks : List ℕ) (row size : ℕ) (ids : List ℕ) → IsCycleLength needs row size marks → IsWay needs row marks size ids
+pub first_way : (needs : ℕ → List ℕ) (marks : List ℕ) (row size : ℕ) (ids : List ℕ) → IsCycleLength needs row size marks → IsCyclePath needs row marks size ids
     → ((n : ℕ) → n < row → Depends needs n n → ⊥) → FirstCycle needs ids
 first_way needs marks row size ids c w first = subst (FirstCycle needs) (sym w.3) (record {
   walks = follows_walks needs marks row w.0 row w.1 w.4;
@@ -67,7 +67,7 @@ pub record IsOnWay (needs : ℕ → List ℕ) (marks : List ℕ) (row size at le
   pub positive : 0 < left
   pub within : left ≤ size
   pub need : (c : ℕ) × IsIn c (needs at) × (slice_index marks c ≡ left)
-  pub so_far : (k : ℕ) → left ≡ suc k → (rest : List ℕ) → Follows needs marks row k at rest → IsWay needs row marks size (ids ++ rest)
+  pub so_far : (k : ℕ) → left ≡ suc k → (rest : List ℕ) → FollowsMarks needs marks row k at rest → IsCyclePath needs row marks size (ids ++ rest)
 
 pub on_way_begin : (needs : ℕ → List ℕ) (marks : List ℕ) (row size : ℕ) (ids : List ℕ) → 0 < size → IsCycleLength needs row size marks → ids ≡ row ∷ [] → IsOnWay needs marks row size row size ids
 on_way_begin needs marks row size ids p c e = rw e (record {
@@ -99,15 +99,15 @@ on_way_step needs marks row size at left c next ids on cycle w h i e least o n =
     need = let q = is_suc next (omega arith) in
         let d = next_need needs marks row size q.0 c cycle.marked (omega (arith, w.within, q.1)) (omega (arith, e, q.1)) in (d.0, d.1, d.2 ∙ sym q.1)
 
-    so_far : (k : ℕ) → next ≡ suc k → (rest : List ℕ) → Follows needs marks row k c rest → IsWay needs row marks size (on ++ rest)
+    so_far : (k : ℕ) → next ≡ suc k → (rest : List ℕ) → FollowsMarks needs marks row k c rest → IsCyclePath needs row marks size (on ++ rest)
     so_far k s rest f =
         let left_is : left ≡ suc (suc k) = omega arith in
         let longer : ids ++ (c ∷ rest) ≡ on ++ rest = rw o (sym (append_assoc ids (c ∷ []) rest)) in
-        subst (IsWay needs row marks size) longer (w.so_far (suc k) left_is (c ∷ rest) (c, rest, refl, i, e ∙ left_is, (λ n j g. least n j (g ∙ sym left_is)), f))
+        subst (IsCyclePath needs row marks size) longer (w.so_far (suc k) left_is (c ∷ rest) (c, rest, refl, i, e ∙ left_is, (λ n j g. least n j (g ∙ sym left_is)), f))
 
 pub on_way_end : (needs : ℕ → List ℕ) (marks : List ℕ) (row size at left : ℕ) (ids : List ℕ) → IsCycleLength needs row size marks → IsOnWay needs marks row size at left ids
-    → left ≤ 1 → IsWay needs row marks size ids
+    → left ≤ 1 → IsCyclePath needs row marks size ids
 on_way_end needs marks row size at left ids cycle w h =
     let one : left ≡ 1 = omega (arith, w.positive) in
     let here = (cycle.marked.sound w.need.0 0 (w.need.2 ∙ one)).1 in
-    subst (IsWay needs row marks size) (append-nil ids) (w.so_far 0 one [] (refl, subst (λ x. IsIn x (needs at)) here w.need.1))
+    subst (IsCyclePath needs row marks size) (append-nil ids) (w.so_far 0 one [] (refl, subst (λ x. IsIn x (needs at)) here w.need.1))

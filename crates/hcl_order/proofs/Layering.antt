@@ -3,7 +3,7 @@ use Rattle.std.proofs.Common.{◌≡◌, ◌≢◌, ◌+◌, ◌<◌, ◌≤◌,
 use Rattle.std.proofs.lemmas.List.{length-replicate}
 use Rattle.hcl_types.specs.Lists.{IsIn}
 use Rattle.hcl_types.specs.Equations.{needs_of}
-use Rattle.hcl_order.specs.Dependence.{Walks, Depends}
+use Rattle.hcl_order.specs.Dependence.{IsDependencePath, Depends}
 use Rattle.hcl_order.specs.Layers.{Steps, IsMarked, IsLayered, IsNearest, IsWithin, unmarked}
 use Rattle.hcl_order.proofs.Members.{is_suc, last_or}
 
@@ -241,7 +241,7 @@ needs_past (own ∷ needs) (suc a) c h = omega (arith, needs_past needs a c h)
 pub depends_inside : (needs : List (List ℕ)) (a b : ℕ) → Depends (needs_of needs) a b → a < length needs
 depends_inside needs a b d = by d.0 d.1
   where
-    by : (between : List ℕ) → Walks (needs_of needs) a between b → a < length needs
+    by : (between : List ℕ) → IsDependencePath (needs_of needs) a between b → a < length needs
     by [] w = needs_past needs a b w
     by (c ∷ between) w = needs_past needs a c w.0
 

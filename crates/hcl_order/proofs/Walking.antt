@@ -3,22 +3,22 @@ use Rattle.std.proofs.Common.{◌≡◌, ◌<◌, ◌⊎◌, inl, inr, ℕ, zero
 use Rattle.hcl_types.specs.Lists.{IsIn}
 use Rattle.hcl_types.specs.Equations.{IsOrdered, is_known, needs_of}
 use Rattle.hcl_types.proofs.Each.{each_in}
-use Rattle.hcl_order.specs.Dependence.{Walks, Depends}
+use Rattle.hcl_order.specs.Dependence.{IsDependencePath, Depends}
 use Rattle.hcl_order.specs.Layers.{Steps}
 use Rattle.hcl_order.proofs.Members.{last_or}
 
-pub steps_of : (needs : ℕ → List ℕ) (a : ℕ) (between : List ℕ) (b : ℕ) → Walks needs a between b → Steps needs (suc (length between)) a b
+pub steps_of : (needs : ℕ → List ℕ) (a : ℕ) (between : List ℕ) (b : ℕ) → IsDependencePath needs a between b → Steps needs (suc (length between)) a b
 steps_of needs a [] b h = (b, h, refl)
 steps_of needs a (c ∷ between) b h = (c, h.0, steps_of needs c between b h.1)
 
-pub walks_of : (needs : ℕ → List ℕ) (k a b : ℕ) → Steps needs (suc k) a b → (between : List ℕ) × (length between ≡ k) × Walks needs a between b
+pub walks_of : (needs : ℕ → List ℕ) (k a b : ℕ) → Steps needs (suc k) a b → (between : List ℕ) × (length between ≡ k) × IsDependencePath needs a between b
 walks_of needs zero a b h = ([], refl, subst (λ x. IsIn x (needs a)) h.2 h.1)
 walks_of needs (suc k) a b h = let w = walks_of needs k h.0 b h.2 in (h.0 ∷ w.0, ap suc w.1, (h.1, w.2))
 
 pub depends_of : (needs : ℕ → List ℕ) (k a b : ℕ) → Steps needs (suc k) a b → Depends needs a b
 depends_of needs k a b h = let w = walks_of needs k a b h in (w.0, w.2)
 
-joined : (needs : ℕ → List ℕ) (a : ℕ) (xs : List ℕ) (b : ℕ) (ys : List ℕ) (c : ℕ) → Walks needs a xs b → Walks needs b ys c → Walks needs a (xs ++ b ∷ ys) c
+joined : (needs : ℕ → List ℕ) (a : ℕ) (xs : List ℕ) (b : ℕ) (ys : List ℕ) (c : ℕ) → IsDependencePath needs a xs b → IsDependencePath needs b ys c → IsDependencePath needs a (xs ++ b ∷ ys) c
 joined needs a [] b ys c h i = (h, i)
 joined needs a (x ∷ xs) b ys c h i = (h.0, joined needs x xs b ys c h.1 i)
 
@@ -57,7 +57,7 @@ loops needs kind (suc n) leads x h k = elim (fewer needs kind n (kind n) refl le
 
 rest_here : (known : ℕ → Bool) (needs : ℕ → List ℕ) (before : List ℕ) (n : ℕ)
     → ((m : ℕ) → IsIn m (needs n) → (known m ≡ true) ⊎ IsIn m before) → ((a m : ℕ) → known a ≡ true → IsIn m (needs a) → ⊥) → ((m : ℕ) → IsIn m before → Depends needs m m → ⊥)
-    → (between : List ℕ) → Walks needs n between n → ⊥
+    → (between : List ℕ) → IsDependencePath needs n between n → ⊥
 rest_here known needs before n after knows rests [] h = elim (after n h) [ inl k ↦ knows n n k h | inr i ↦ rests n i ([], h) ]
 rest_here known needs before n after knows rests (c ∷ []) h = elim (after c h.0) [ inl k ↦ knows c n k h.1 | inr i ↦ rests c i (both needs c n c ([], h.1) ([], h.0)) ]
 rest_here known needs before n after knows rests (c ∷ d ∷ between) h = elim (after c h.0) [ inl k ↦ knows c d k h.1.0 | inr i ↦ rests c i (both needs c n c (d ∷ between, h.1) ([], h.0)) ]

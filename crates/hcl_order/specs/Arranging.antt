@@ -1,7 +1,7 @@
 -- Rows that are put into an order one by one.
 use Rattle.std.specs.Prelude.{ℕ, ◌≡◌, ◌+◌, ◌<◌, ◌≤◌, ◌⊎◌, Bool, true, false, List, [], ◌∷◌, length}
 use Rattle.hcl_types.specs.Lists.{IsIn, IsApart}
-use Rattle.hcl_types.specs.Equations.{IsOrder, IsOrdered, is_known, needs_of}
+use Rattle.hcl_types.specs.Equations.{IsTopologicalOrder, IsOrdered, is_known, needs_of}
 use Rattle.hcl_order.specs.Dependence.{Depends}
 
 -- a row is done where it is known from the start or in the list
@@ -15,7 +15,7 @@ pub record IsArranged (needs : List (List ℕ)) (known done : List Bool) (ids : 
 
 -- an order, or some row depends on itself
 pub record Arranges (needs : List (List ℕ)) (known : List Bool) (ids : List ℕ) (whole : Bool) : Type 0 where
-  pub order : whole ≡ true → IsOrder needs known ids
+  pub order : whole ≡ true → IsTopologicalOrder needs known ids
   pub stuck : whole ≡ false → (n : ℕ) × Depends (needs_of needs) n n
 
 -- the rows that are not done

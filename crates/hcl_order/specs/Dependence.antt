@@ -4,13 +4,13 @@ use Rattle.std.specs.Prelude.{ℕ, ◌≡◌, ◌<◌, ◌≤◌, ◌⊎◌, Lis
 use Rattle.hcl_types.specs.Lists.{IsIn}
 
 -- a needs the first of the rows between, each of them the next, and the last of them b
-abbrev pub Walks : (ℕ → List ℕ) → ℕ → List ℕ → ℕ → Type 0
-Walks needs a [] b = IsIn b (needs a)
-Walks needs a (c ∷ between) b = IsIn c (needs a) × Walks needs c between b
+abbrev pub IsDependencePath : (ℕ → List ℕ) → ℕ → List ℕ → ℕ → Type 0
+IsDependencePath needs a [] b = IsIn b (needs a)
+IsDependencePath needs a (c ∷ between) b = IsIn c (needs a) × IsDependencePath needs c between b
 
 -- a needs b, itself or through others
 abbrev pub Depends : (ℕ → List ℕ) → ℕ → ℕ → Type 0
-Depends needs a b = (between : List ℕ) × Walks needs a between b
+Depends needs a b = (between : List ℕ) × IsDependencePath needs a between b
 
 -- by table order: at the first place where they differ the one has the earlier row
 abbrev pub IsNoLater : List ℕ → List ℕ → Type 0
@@ -21,10 +21,10 @@ IsNoLater (x ∷ xs) (y ∷ ys) = (x < y) ⊎ ((x ≡ y) × IsNoLater xs ys)
 -- the first row that depends on itself, with the rows between on a way back to it: as few as can be, and of all ways
 -- with as few the first by table order
 pub record IsFirstCycle (needs : ℕ → List ℕ) (row : ℕ) (between : List ℕ) : Type 0 where
-  pub walks : Walks needs row between row
+  pub walks : IsDependencePath needs row between row
   pub first : (n : ℕ) → n < row → Depends needs n n → ⊥
-  pub shortest : (other : List ℕ) → Walks needs row other row → length between ≤ length other
-  pub least : (other : List ℕ) → Walks needs row other row → length other ≡ length between → IsNoLater between other
+  pub shortest : (other : List ℕ) → IsDependencePath needs row other row → length between ≤ length other
+  pub least : (other : List ℕ) → IsDependencePath needs row other row → length other ≡ length between → IsNoLater between other
 
 abbrev pub FirstCycle : (ℕ → List ℕ) → List ℕ → Type 0
 FirstCycle needs [] = ⊥

@@ -3,7 +3,7 @@ ghost use Rattle.std.specs.Prelude.{◌≡◌, ◌<◌, ◌≤◌, ◌^◌, ℕ,
 ghost use Rattle.hcl_order.specs.Dependence.{Depends, FirstCycle, IsFirstCycle};
 ghost use Rattle.hcl_types.specs.Equations.{needs_of};
 ghost use Rattle.hcl_order.specs.Layers.{IsCycleLength, IsWithin};
-ghost use Rattle.hcl_order.specs.Ways.{IsWay};
+ghost use Rattle.hcl_order.specs.Ways.{IsCyclePath};
 
 use crate::layers::{cycle_length, least_marked, needs_at};
 use std::alloc::{AllocError, Global};
@@ -22,7 +22,7 @@ fn way_back(
     requires row { row < length needs.now }
     requires positive { 0 < size }
     requires size { IsCycleLength (needs_of needs.now) row size marks.now }
-    ensures { IfOk result (λ ids. IsWay (needs_of needs.now) row marks.now size ids) }
+    ensures { IfOk result (λ ids. IsCyclePath (needs_of needs.now) row marks.now size ids) }
 {
     let mut ids = Vec::new(alloc);
     ids.push(row as u32)?;

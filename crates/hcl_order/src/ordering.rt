@@ -7,12 +7,12 @@ ghost use Rattle.hcl_order.specs.Outcomes.{IsFault, IsOutcome};
 
 use crate::fault::OrderFault;
 use crate::needs::{given_rows, needs_of_rows};
-use crate::rows::{Outcome, order_rows};
+use crate::rows::{OrderOutcome, order_rows};
 use hcl_types::{Design, Order, Table};
 use std::alloc::{AllocError, Global};
 
 /// An order of all defined and hardware rows, or a cycle of them.
-fn outcome(alloc: Global, d: &Design, t: &Table) -> Result<Outcome, AllocError>
+fn outcome(alloc: Global, d: &Design, t: &Table) -> Result<OrderOutcome, AllocError>
     requires sound { IsSound t.now.rows }
     requires bound { IsBound t.now.rows d.now.terms }
     ensures { IfOk result (IsOutcome (needs t.now.rows d.now.terms) (known t.now.rows)) }
@@ -34,8 +34,8 @@ pub fn order(alloc: Global, d: &Design, t: &Table) -> Result<Order, OrderFault>
         (IsFault (needs_of (needs t.now.rows d.now.terms))) }
 {
     match outcome(alloc, d, t) {
-        Ok(Outcome::Order(ids)) => Ok(Order { ids }),
-        Ok(Outcome::Cycle(ids)) => Err(OrderFault::Cycle(ids)),
+        Ok(OrderOutcome::Order(ids)) => Ok(Order { ids }),
+        Ok(OrderOutcome::Cycle(ids)) => Err(OrderFault::Cycle(ids)),
         Err(_) => Err(OrderFault::Memory),
     }
 }

@@ -12,7 +12,7 @@ use y86_base::Items;
 
 /// What rows and their needs give.
 #[derive(Debug, Drop)]
-pub enum Outcome {
+pub enum OrderOutcome {
     /// An order of the rows that are not known from the start.
     Order(Items<u32>),
     /// A shortest cycle.
@@ -24,7 +24,7 @@ pub fn order_rows(
     alloc: Global,
     needs: &[Items<u32>],
     known: &[bool],
-) -> Result<Outcome, AllocError>
+) -> Result<OrderOutcome, AllocError>
     requires within { IsWithin needs.now }
     requires rows { (length needs.now ≡ length known.now) × (length needs.now < 2 ^ 32) }
     requires known { (a n : ℕ) → is_known known.now a ≡ true → IsIn n (needs_of needs.now a) → ⊥ }
@@ -34,9 +34,9 @@ pub fn order_rows(
     let mut ids = Vec::new(alloc);
     if !arrange_rows(needs, done.as_mut_slice(), &mut ids)? {
         match first_cycle(alloc, needs)? {
-            Some(cycle) => return Ok(Outcome::Cycle(cycle)),
+            Some(cycle) => return Ok(OrderOutcome::Cycle(cycle)),
             None => {}
         }
     }
-    Ok(Outcome::Order(Items::of(ids)))
+    Ok(OrderOutcome::Order(Items::of(ids)))
 }

@@ -15,15 +15,15 @@ use Rattle.hcl_read.specs.declared.fault.HclWhy.TheVariants.{NumberTooWide}
 use Rattle.hcl_read.specs.declared.tokens.Token.{Token}
 use Rattle.hcl_read.specs.declared.tokens.Token.TheVariants.{KeyIn, Ident, Number, Wide, Semicolon, OrOr, AndAnd, Bang, Compare, OpenParen, CloseParen, OpenBrace, CloseBrace, OpenBracket, CloseBracket, Comma, Colon}
 use Rattle.hcl_read.specs.declared.frames.Level.{Level}
-use Rattle.hcl_read.specs.declared.frames.Side.{Side}
-use Rattle.hcl_read.specs.declared.frames.Side.TheVariants.{Left, Right}
+use Rattle.hcl_read.specs.declared.frames.OperandSide.{OperandSide}
+use Rattle.hcl_read.specs.declared.frames.OperandSide.TheVariants.{Left, Right}
 use Rattle.hcl_read.specs.declared.frames.Frame.{Frame}
 use Rattle.hcl_read.specs.declared.frames.Frame.TheVariants.{Paren, Set, Guard, Value}
-use Rattle.hcl_read.specs.declared.frames.Spot.{Spot}
-use Rattle.hcl_read.specs.declared.frames.Spot.TheVariants.{Want, WantRight, AfterPrim, After, WantSet, Cases}
-use Rattle.hcl_read.specs.declared.state.Move.TheVariants.{On}
-use Rattle.hcl_read.specs.declared.state.Place.TheVariants.{Between, Body}
-use Rattle.hcl_read.specs.declared.state.State.{State}
+use Rattle.hcl_read.specs.declared.frames.ExprState.{ExprState}
+use Rattle.hcl_read.specs.declared.frames.ExprState.TheVariants.{Want, WantRight, AfterPrim, After, WantSet, Cases}
+use Rattle.hcl_read.specs.declared.state.BodyMove.TheVariants.{On}
+use Rattle.hcl_read.specs.declared.state.ItemState.TheVariants.{Between, Body}
+use Rattle.hcl_read.specs.declared.state.ReaderState.{ReaderState}
 use Rattle.hcl_read.specs.Grammar.{or_of, and_of, branch, Room, IsExpr, OrTail, IsAnd, AndTail, IsNot, IsRel, SetTail, IsPrim, IsCase, CaseTail, IsItem, IsItems, or_list, no_or, more_or, and_list, no_and, more_and, negated, plain, alone, compared, member, no_member, more_members, a_number, a_wide_number, a_name, group, case_list, guarded, no_case, more_cases, quoted, declared, defined, no_item, more_items, IsFile}
 use Rattle.hcl_read.specs.Depth.{depth, depth_of, level_behind}
 use Rattle.hcl_read.specs.Machine.{level, start_level, once_more_negated, negate, related, put, opened, prim, want, close, after, after_prim, want_set, after_branch, body_step, state, start, moved, place_step, on, run}
@@ -43,7 +43,7 @@ Begins (CloseBracket ∷ ts) = ⊥
 Begins (t ∷ ts) = Unit {0}
 
 -- the operand that a side asks for
-abbrev pub asks : Side → Level → Spot
+abbrev pub asks : OperandSide → Level → ExprState
 asks Left l = Want l
 asks (Right op left) l = WantRight op left l
 
@@ -91,11 +91,11 @@ shifted xs x ys = append_assoc xs (x ∷ []) ys
 
 module _ (free : ℕ) (items : List Item) (kind : Kind) (name : List ℕ) where
   -- from a place in the body on
-  abbrev Runs : Spot → List Frame → List Token → Result State HclWhy
+  abbrev Runs : ExprState → List Frame → List Token → Result ReaderState HclWhy
   Runs spot k ts = run free (state items (Body kind name spot k)) ts
 
   -- an expression is read up to what stands behind it
-  abbrev ReadsExpr : Spot → List Frame → List Token → Expr → List Token → Type 0
+  abbrev ReadsExpr : ExprState → List Frame → List Token → Expr → List Token → Type 0
   ReadsExpr spot k ts e rest = (ands : List Expr) × (ors : List Expr) × (or_of (ors ++ and_of ands ∷ []) ≡ e) × (Runs spot k ts ≡ Runs (After ands ors) k rest)
 
   -- an operand that no comparison follows is a comparison
@@ -107,44 +107,44 @@ module _ (free : ℕ) (items : List Item) (kind : Kind) (name : List ℕ) where
   after_alone e l k (t ∷ ts) calm = refl
 
   -- a further branch begins
-  branch_begins : (side : Side) (bs : List Branch) (l : Level) (k : List Frame) (ts : List Token) → Begins ts → Runs (Cases side bs l) k ts ≡ Runs (Want start_level) (Guard side bs l ∷ k) ts
+  branch_begins : (side : OperandSide) (bs : List Branch) (l : Level) (k : List Frame) (ts : List Token) → Begins ts → Runs (Cases side bs l) k ts ≡ Runs (Want start_level) (Guard side bs l ∷ k) ts
   unfolding run place_step body_step after_branch
   branch_begins side bs l k [] b = absurd b
   branch_begins side bs l k (CloseBracket ∷ ts) b = absurd b
   branch_begins side bs l k (t ∷ ts) b = refl
 
-  opens : {d : ℕ} (spot : Spot) (t : Token) (ts : List Token) (l : Level) (k : List Frame) (spot' : Spot) (k' : List Frame) → depth l k ≡ d → Room free (suc d) (t ∷ ts)
+  opens : {d : ℕ} (spot : ExprState) (t : Token) (ts : List Token) (l : Level) (k : List Frame) (spot' : ExprState) (k' : List Frame) → depth l k ≡ d → Room free (suc d) (t ∷ ts)
       → body_step (nat_lt free (suc (length ts))) spot k t ≡ opened (nat_lt free (suc (length ts))) l k (On spot' k') → Runs spot k (t ∷ ts) ≡ Runs spot' k' ts
   unfolding run place_step moved
   opens spot t ts l k spot' k' e room same =
       ap (λ r. on (moved items kind name r) (λ next. run free next ts)) (same ∙ opened_room free l k t ts (On spot' k') (subst (λ n. Room free (suc n) (t ∷ ts)) (sym e) room))
 
-  takes : (side : Side) (l : Level) (k : List Frame) (t : Token) (ts : List Token) (e : Expr) → body_step (nat_lt free (suc (length ts))) (asks side l) k t ≡ Ok (On (put side l e) k)
+  takes : (side : OperandSide) (l : Level) (k : List Frame) (t : Token) (ts : List Token) (e : Expr) → body_step (nat_lt free (suc (length ts))) (asks side l) k t ≡ Ok (On (put side l e) k)
       → Runs (asks side l) k (t ∷ ts) ≡ Runs (put side l e) k ts
   unfolding run place_step moved
   takes side l k t ts e same = ap (λ r. on (moved items kind name r) (λ next. run free next ts)) same
 
-  asks_number : (strict : Bool) (side : Side) (l : Level) (k : List Frame) (n : ℕ) → body_step strict (asks side l) k (Number n) ≡ Ok (On (put side l (expr.Num n)) k)
+  asks_number : (strict : Bool) (side : OperandSide) (l : Level) (k : List Frame) (n : ℕ) → body_step strict (asks side l) k (Number n) ≡ Ok (On (put side l (expr.Num n)) k)
   unfolding body_step want prim
   asks_number strict Left l k n = refl
   asks_number strict (Right op left) l k n = refl
 
-  asks_name : (strict : Bool) (side : Side) (l : Level) (k : List Frame) (text : List ℕ) → body_step strict (asks side l) k (Ident text) ≡ Ok (On (put side l (expr.Name text)) k)
+  asks_name : (strict : Bool) (side : OperandSide) (l : Level) (k : List Frame) (text : List ℕ) → body_step strict (asks side l) k (Ident text) ≡ Ok (On (put side l (expr.Name text)) k)
   unfolding body_step want prim
   asks_name strict Left l k n = refl
   asks_name strict (Right op left) l k n = refl
 
-  asks_wide : (strict : Bool) (side : Side) (l : Level) (k : List Frame) → strict ≡ false → body_step strict (asks side l) k Wide ≡ Ok (On (put side l (expr.Num 0)) k)
+  asks_wide : (strict : Bool) (side : OperandSide) (l : Level) (k : List Frame) → strict ≡ false → body_step strict (asks side l) k Wide ≡ Ok (On (put side l (expr.Num 0)) k)
   unfolding body_step want prim
   asks_wide strict Left l k e = ap (λ b. cond b (Err NumberTooWide) (Ok (On (put Left l (expr.Num 0)) k))) e
   asks_wide strict (Right op left) l k e = ap (λ b. cond b (Err NumberTooWide) (Ok (On (put (Right op left) l (expr.Num 0)) k))) e
 
-  asks_paren : (strict : Bool) (side : Side) (l : Level) (k : List Frame) → body_step strict (asks side l) k OpenParen ≡ opened strict l k (On (Want start_level) (Paren side l ∷ k))
+  asks_paren : (strict : Bool) (side : OperandSide) (l : Level) (k : List Frame) → body_step strict (asks side l) k OpenParen ≡ opened strict l k (On (Want start_level) (Paren side l ∷ k))
   unfolding body_step want prim
   asks_paren strict Left l k = refl
   asks_paren strict (Right op left) l k = refl
 
-  asks_bracket : (strict : Bool) (side : Side) (l : Level) (k : List Frame) → body_step strict (asks side l) k OpenBracket ≡ opened strict l k (On (Want start_level) (Guard side [] l ∷ k))
+  asks_bracket : (strict : Bool) (side : OperandSide) (l : Level) (k : List Frame) → body_step strict (asks side l) k OpenBracket ≡ opened strict l k (On (Want start_level) (Guard side [] l ∷ k))
   unfolding body_step want prim
   asks_bracket strict Left l k = refl
   asks_bracket strict (Right op left) l k = refl
@@ -160,17 +160,17 @@ module _ (free : ℕ) (items : List Item) (kind : Kind) (name : List ℕ) where
   unfolding run place_step body_step after close moved
   brace_read ands ors left es l k ts = refl
 
-  paren_read : (ands ors : List Expr) (side : Side) (l : Level) (k : List Frame) (ts : List Token)
+  paren_read : (ands ors : List Expr) (side : OperandSide) (l : Level) (k : List Frame) (ts : List Token)
       → Runs (After ands ors) (Paren side l ∷ k) (CloseParen ∷ ts) ≡ Runs (put side l (or_of (ors ++ and_of ands ∷ []))) k ts
   unfolding run place_step body_step after close moved
   paren_read ands ors side l k ts = refl
 
-  colon_read : (ands ors : List Expr) (side : Side) (bs : List Branch) (l : Level) (k : List Frame) (ts : List Token)
+  colon_read : (ands ors : List Expr) (side : OperandSide) (bs : List Branch) (l : Level) (k : List Frame) (ts : List Token)
       → Runs (After ands ors) (Guard side bs l ∷ k) (Colon ∷ ts) ≡ Runs (Want start_level) (Value side bs (or_of (ors ++ and_of ands ∷ [])) l ∷ k) ts
   unfolding run place_step body_step after close moved
   colon_read ands ors side bs l k ts = refl
 
-  branch_read : (ands ors : List Expr) (side : Side) (bs : List Branch) (guard : Expr) (l : Level) (k : List Frame) (ts : List Token)
+  branch_read : (ands ors : List Expr) (side : OperandSide) (bs : List Branch) (guard : Expr) (l : Level) (k : List Frame) (ts : List Token)
       → Runs (After ands ors) (Value side bs guard l ∷ k) (Semicolon ∷ ts) ≡ Runs (Cases side (bs ++ branch guard (or_of (ors ++ and_of ands ∷ [])) ∷ []) l) k ts
   unfolding run place_step body_step after close moved
   branch_read ands ors side bs guard l k ts = refl
@@ -196,7 +196,7 @@ module _ (free : ℕ) (items : List Item) (kind : Kind) (name : List ℕ) where
   unfolding run place_step body_step after_prim moved
   in_read e l k ts = refl
 
-  cases_read : (side : Side) (bs : List Branch) (l : Level) (k : List Frame) (ts : List Token) → Runs (Cases side bs l) k (CloseBracket ∷ ts) ≡ Runs (put side l (expr.Case bs)) k ts
+  cases_read : (side : OperandSide) (bs : List Branch) (l : Level) (k : List Frame) (ts : List Token) → Runs (Cases side bs l) k (CloseBracket ∷ ts) ≡ Runs (put side l (expr.Case bs)) k ts
   unfolding run place_step body_step after_branch moved
   cases_read side bs l k ts = refl
 
@@ -299,7 +299,7 @@ module _ (free : ℕ) (items : List Item) (kind : Kind) (name : List ℕ) where
         let all = set_tail_read t left l k before one.0 one.1 deep calm in
         (all.0, all.1, all.2, all.3 ∙ ap (λ x. (before ++ x ∷ []) ++ es) one.2 ∙ shifted before e es, comma_read ands ors left ms l k ts ∙ one.3 ∙ all.4)
 
-    prim_read : {d : ℕ} {ts rest : List Token} {e : Expr} → IsPrim free d ts e rest → (side : Side) (l : Level) (k : List Frame) → depth l k ≡ d → Runs (asks side l) k ts ≡ Runs (put side l e) k rest
+    prim_read : {d : ℕ} {ts rest : List Token} {e : Expr} → IsPrim free d ts e rest → (side : OperandSide) (l : Level) (k : List Frame) → depth l k ≡ d → Runs (asks side l) k ts ≡ Runs (put side l e) k rest
     prim_read (a_number {n = n} {rest = rest}) side l k deep = takes side l k (Number n) rest (expr.Num n) (asks_number _ side l k n)
     prim_read (a_wide_number {rest = rest} h) side l k deep = takes side l k Wide rest (expr.Num 0) (asks_wide _ side l k (wide_is_free (length rest) h))
     prim_read (a_name {text = text} {rest = rest}) side l k deep = takes side l k (Ident text) rest (expr.Name text) (asks_name _ side l k text)
@@ -311,7 +311,7 @@ module _ (free : ℕ) (items : List Item) (kind : Kind) (name : List ℕ) where
         opens (asks side l) OpenBracket ts l k (Want start_level) (Guard side [] l ∷ k) deep room (asks_bracket _ side l k)
         ∙ case_read h side [] l k (ap suc deep) ∙ case_tail_read t side (b ∷ []) l k (ap suc deep) ∙ cases_read side (b ∷ bs) l k rest
 
-    case_read : {d : ℕ} {ts rest : List Token} {b : Branch} → IsCase free d ts b rest → (side : Side) (bs : List Branch) (l : Level) (k : List Frame) → suc (depth l k) ≡ d
+    case_read : {d : ℕ} {ts rest : List Token} {b : Branch} → IsCase free d ts b rest → (side : OperandSide) (bs : List Branch) (l : Level) (k : List Frame) → suc (depth l k) ≡ d
         → Runs (Want start_level) (Guard side bs l ∷ k) ts ≡ Runs (Cases side (bs ++ b ∷ []) l) k rest
     case_read (guarded {mid = mid} {rest = rest} {guard = guard} {value = value} h v) side bs l k deep =
         let g = expr_read h (Guard side bs l ∷ k) (deeper l k (Guard side bs l) refl refl ∙ deep) tt in
@@ -319,7 +319,7 @@ module _ (free : ℕ) (items : List Item) (kind : Kind) (name : List ℕ) where
         g.3 ∙ colon_read g.0 g.1 side bs l k mid ∙ ap (λ y. Runs (Want start_level) (Value side bs y l ∷ k) mid) g.2
         ∙ x.3 ∙ branch_read x.0 x.1 side bs guard l k rest ∙ ap (λ y. Runs (Cases side (bs ++ branch guard y ∷ []) l) k rest) x.2
 
-    case_tail_read : {d : ℕ} {ts rest : List Token} {bs : List Branch} → CaseTail free d ts bs rest → (side : Side) (before : List Branch) (l : Level) (k : List Frame) → suc (depth l k) ≡ d
+    case_tail_read : {d : ℕ} {ts rest : List Token} {bs : List Branch} → CaseTail free d ts bs rest → (side : OperandSide) (before : List Branch) (l : Level) (k : List Frame) → suc (depth l k) ≡ d
         → Runs (Cases side before l) k ts ≡ Runs (Cases side (before ++ bs) l) k rest
     case_tail_read (no_case {ts = ts}) side before l k deep = ap (λ bs. Runs (Cases side bs l) k ts) (sym (append-nil before))
     case_tail_read (more_cases {ts = ts} {rest = rest} {b = b} {bs = bs} h t) side before l k deep =

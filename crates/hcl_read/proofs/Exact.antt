@@ -8,9 +8,9 @@ use Rattle.hcl_read.specs.declared.fault.HclWhy.{HclWhy}
 use Rattle.hcl_read.specs.declared.fault.HclWhy.TheVariants as whys
 use Rattle.hcl_read.specs.declared.tokens.Token.{Token}
 use Rattle.hcl_read.specs.declared.tokens.Token.TheVariants.{Ident}
-use Rattle.hcl_read.specs.declared.state.Place.{Place}
-use Rattle.hcl_read.specs.declared.state.Place.TheVariants.{Between}
-use Rattle.hcl_read.specs.declared.state.State.{State}
+use Rattle.hcl_read.specs.declared.state.ItemState.{ItemState}
+use Rattle.hcl_read.specs.declared.state.ItemState.TheVariants.{Between}
+use Rattle.hcl_read.specs.declared.state.ReaderState.{ReaderState}
 use Rattle.hcl_read.specs.Grammar.{IsItems, IsFile, no_item}
 use Rattle.hcl_read.specs.Machine.{state, start, step, on, run}
 use Rattle.std.proofs.Common.{le_of_lt, le_refl, le_trans, length-append, zero-le}
@@ -18,7 +18,7 @@ use Rattle.std.specs.Prelude.{nat_eq}
 use Rattle.std.specs.Cmp.Lexicographic.{pointwise}
 use Rattle.std.specs.List.{list_any}
 use Rattle.std.proofs.lemmas.Bool.{false≢true}
-use Rattle.hcl_read.specs.Fault.{noted, noted_all, NamesFit, Accepts, Viable, Stands, Reason, FaultAt}
+use Rattle.hcl_read.specs.Fault.{noted, noted_all, NamesFit, Accepts, Viable, GoesOnWith, Reason, FaultAt}
 use Rattle.hcl_read.specs.Machine.{ended, Outcome, at_end, outcome_at, outcome}
 use Rattle.hcl_read.proofs.Complete.{file_read, shifted}
 use Rattle.hcl_read.proofs.Means.{MeansPlace, Means}
@@ -36,14 +36,14 @@ length_behind : (xs ys : List Token) → length ys ≤ length (xs ++ ys)
 length_behind xs ys = grind (arith, length-append)
 
 -- a text that begins with some tokens is read by reading those under the limits first
-run_front : (front rest : List Token) (s : State) → run (length rest) s (front ++ rest) ≡ on (run 0 s front) (λ next. run (length rest) next rest)
+run_front : (front rest : List Token) (s : ReaderState) → run (length rest) s (front ++ rest) ≡ on (run 0 s front) (λ next. run (length rest) next rest)
 unfolding run
 run_front [] rest s = refl
 run_front (t ∷ ts) rest s =
     ap (λ b. on (step b s t) (λ next. run (length rest) next (ts ++ rest))) (strict_in_front (length rest) (length (ts ++ rest)) (length_behind ts rest) ∙ sym (strict_in_front 0 (length ts) zero-le))
     ∙ go (step (nat_lt 0 (suc (length ts))) s t) (λ next. run_front ts rest next)
   where
-    go : (r : Result State HclWhy) → ((next : State) → run (length rest) next (ts ++ rest) ≡ on (run 0 next ts) (λ last. run (length rest) last rest))
+    go : (r : Result ReaderState HclWhy) → ((next : ReaderState) → run (length rest) next (ts ++ rest) ≡ on (run 0 next ts) (λ last. run (length rest) last rest))
         → on r (λ next. run (length rest) next (ts ++ rest)) ≡ on (on r (λ next. run 0 next ts)) (λ last. run (length rest) last rest)
     go (Ok next) h = h next
     go (Err why) h = refl
@@ -60,15 +60,15 @@ on_ok (Err why) f y e = absurd (no_ok why y e)
 
 -- a file's tokens are read, those in front under the limits
 reads_front : (front rest : List Token) (f : File) → IsFile (length rest) (front ++ rest) f
-    → (s : State) × (run 0 start front ≡ Ok s) × (run (length rest) s rest ≡ Ok (state f.items Between))
+    → (s : ReaderState) × (run 0 start front ≡ Ok s) × (run (length rest) s rest ≡ Ok (state f.items Between))
 reads_front front rest f h = on_ok (run 0 start front) (λ next. run (length rest) next rest) (state f.items Between) (sym (run_front front rest start) ∙ file_read (front ++ rest) f h)
 
 -- what leads on from a state leads there from the start
 module _ (free : ℕ) (file : List Item) where
-  next_means : (s : State) (t : Token) (ts : List Token) (next : State) → step (strict_before free ts) s t ≡ Ok next → Means free file next ts → Means free file s (t ∷ ts)
+  next_means : (s : ReaderState) (t : Token) (ts : List Token) (next : ReaderState) → step (strict_before free ts) s t ≡ Ok next → Means free file next ts → Means free file s (t ∷ ts)
   next_means s t ts next e m = sound_step free file s t ts (subst (λ r. MeansNext free file r ts) (sym e) m)
 
-front_means : (front rest : List Token) (file : List Item) (s last : State) → run 0 s front ≡ Ok last → Means (length rest) file last rest → Means (length rest) file s (front ++ rest)
+front_means : (front rest : List Token) (file : List Item) (s last : ReaderState) → run 0 s front ≡ Ok last → Means (length rest) file last rest → Means (length rest) file s (front ++ rest)
 unfolding run
 front_means [] rest file s last e m = subst (λ x. Means (length rest) file x rest) (sym (same_ok s last e)) m
 front_means (t ∷ ts) rest file s last e m =
@@ -81,27 +81,27 @@ file_of : (free : ℕ) (file : List Item) (ts : List Token) → Means free file 
 unfolding MeansPlace
 file_of free file ts m = subst (λ is. IsItems free ts is) (sym m.2) m.1
 
-front_file : (front rest : List Token) (file : List Item) (s : State) → run 0 start front ≡ Ok s → Means (length rest) file s rest → IsFile (length rest) (front ++ rest) (record { items = file })
+front_file : (front rest : List Token) (file : List Item) (s : ReaderState) → run 0 start front ≡ Ok s → Means (length rest) file s rest → IsFile (length rest) (front ++ rest) (record { items = file })
 front_file front rest file s e m = file_of (length rest) file (front ++ rest) (front_means front rest file start s e m)
 
-pub viable_reads : (front : List Token) → Viable front → (s : State) × (run 0 start front ≡ Ok s)
+pub viable_reads : (front : List Token) → Viable front → (s : ReaderState) × (run 0 start front ≡ Ok s)
 viable_reads front v =
     let r = reads_front front v.0 v.1 v.2 in
     (r.0, r.1)
 
-pub reads_viable : (front : List Token) (s : State) → run 0 start front ≡ Ok s → Viable front
+pub reads_viable : (front : List Token) (s : ReaderState) → run 0 start front ≡ Ok s → Viable front
 reads_viable front s e =
     let l = state_lives s in
     (l.0, record { items = l.1 }, front_file front l.0 l.1 s e (l.2 (length l.0) (le_refl (length l.0))))
 
-pub stands_steps : (front : List Token) (t : Token) (s : State) → Stands front t → run 0 start front ≡ Ok s → (next : State) × (step false s t ≡ Ok next)
+pub stands_steps : (front : List Token) (t : Token) (s : ReaderState) → GoesOnWith front t → run 0 start front ≡ Ok s → (next : ReaderState) × (step false s t ≡ Ok next)
 unfolding run
 stands_steps front t s h e =
     let r = reads_front front (t ∷ h.0) h.1 h.2 in
     let o = on_ok (step (strict_before (suc (length h.0)) h.0) r.0 t) (λ next. run (suc (length h.0)) next h.0) (state h.1.items Between) r.2 in
     (o.0, ap (λ x. step false x t) (same_ok s r.0 (sym e ∙ r.1)) ∙ ap (λ b. step b r.0 t) (sym (free_at_last (length h.0))) ∙ o.1)
 
-pub steps_stands : (front : List Token) (t : Token) (s next : State) → run 0 start front ≡ Ok s → step false s t ≡ Ok next → Stands front t
+pub steps_stands : (front : List Token) (t : Token) (s next : ReaderState) → run 0 start front ≡ Ok s → step false s t ≡ Ok next → GoesOnWith front t
 steps_stands front t s next e h =
     let l = state_lives next in (
       l.0,
@@ -110,23 +110,23 @@ steps_stands front t s next e h =
     )
 
 -- one more token under the limits
-pub run_all : (front rest : List Token) (s : State) → run 0 s (front ++ rest) ≡ on (run 0 s front) (λ next. run 0 next rest)
+pub run_all : (front rest : List Token) (s : ReaderState) → run 0 s (front ++ rest) ≡ on (run 0 s front) (λ next. run 0 next rest)
 unfolding run
 run_all [] rest s = refl
 run_all (t ∷ ts) rest s =
     ap (λ b. on (step b s t) (λ next. run 0 next (ts ++ rest))) (strict_in_front 0 (length (ts ++ rest)) zero-le ∙ sym (strict_in_front 0 (length ts) zero-le))
     ∙ go (step (nat_lt 0 (suc (length ts))) s t) (λ next. run_all ts rest next)
   where
-    go : (r : Result State HclWhy) → ((next : State) → run 0 next (ts ++ rest) ≡ on (run 0 next ts) (λ last. run 0 last rest))
+    go : (r : Result ReaderState HclWhy) → ((next : ReaderState) → run 0 next (ts ++ rest) ≡ on (run 0 next ts) (λ last. run 0 last rest))
         → on r (λ next. run 0 next (ts ++ rest)) ≡ on (on r (λ next. run 0 next ts)) (λ last. run 0 last rest)
     go (Ok next) h = h next
     go (Err why) h = refl
 
-pub one_more_read : (front : List Token) (t : Token) (s : State) → run 0 start front ≡ Ok s → run 0 start (front ++ t ∷ []) ≡ step true s t
+pub one_more_read : (front : List Token) (t : Token) (s : ReaderState) → run 0 start front ≡ Ok s → run 0 start (front ++ t ∷ []) ≡ step true s t
 unfolding run
 one_more_read front t s e = run_all front (t ∷ []) start ∙ ap (λ r. on r (λ next. run 0 next (t ∷ []))) e ∙ go (step true s t)
   where
-    go : (r : Result State HclWhy) → on r (λ next. Ok next) ≡ r
+    go : (r : Result ReaderState HclWhy) → on r (λ next. Ok next) ≡ r
     go (Ok next) = refl
     go (Err why) = refl
 
@@ -162,14 +162,14 @@ fits_front front rest h = le_trans (all_noted_grows (noted_all [] front) rest) (
 
 -- a text is at most one file
 pub one_file : (ts : List Token) (f g : File) → IsFile 0 ts f → IsFile 0 ts g → f ≡ g
-one_file ts f g h i = ap (λ (x : State). let file : File = record { items = x.items } in file) (same_ok (state f.items Between) (state g.items Between) (sym (file_read ts f h) ∙ file_read ts g i))
+one_file ts f g h i = ap (λ (x : ReaderState). let file : File = record { items = x.items } in file) (same_ok (state f.items Between) (state g.items Between) (sym (file_read ts f h) ∙ file_read ts g i))
 
 -- the text is the file, or has the fault
 abbrev pub Answers : List Token → Outcome → Type 0
 Answers ts (Ok f) = Accepts ts f
 Answers ts (Err (rest, why)) = (front : List Token) × (ts ≡ front ++ rest) × FaultAt front rest why
 
-module _ (front : List Token) (s : State) (e : run 0 start front ≡ Ok s) where
+module _ (front : List Token) (s : ReaderState) (e : run 0 start front ≡ Ok s) where
   not_viable : (t : Token) (why : HclWhy) → step true s t ≡ Err why → Viable (front ++ t ∷ []) → ⊥
   not_viable t why h v =
       let r = viable_reads (front ++ t ∷ []) v in
@@ -185,7 +185,7 @@ module _ (front : List Token) (s : State) (e : run 0 start front ≡ Ok s) where
   reason t whys.Memory h told = absurd told
 
   module _ (fit : NamesFit front) (t : Token) (ts : List Token) where
-    names_answer : (next : State) → step true s t ≡ Ok next → (b : Bool) → nat_le (length (noted (noted_all [] front) t)) 256 ≡ b
+    names_answer : (next : ReaderState) → step true s t ≡ Ok next → (b : Bool) → nat_le (length (noted (noted_all [] front) t)) 256 ≡ b
         → (NamesFit (front ++ t ∷ []) → Answers (front ++ t ∷ ts) (outcome (noted (noted_all [] front) t) next ts))
         → Answers (front ++ t ∷ ts) (cond b (outcome (noted (noted_all [] front) t) next ts) (Err (t ∷ ts, whys.NamesOver256)))
     names_answer next h true b on = on (subst (λ n. length n ≤ 256) (sym (names_of_more front t)) (few (length (noted (noted_all [] front) t)) b))
@@ -199,18 +199,18 @@ module _ (front : List Token) (s : State) (e : run 0 start front ≡ Ok s) where
         over : (n : ℕ) → nat_le n 256 ≡ false → n ≤ 256 → ⊥
         over n e h = grind (arith, nat_tests)
 
-    step_answer : (r : Result State HclWhy) → step true s t ≡ r
-        → ((next : State) → step true s t ≡ Ok next → NamesFit (front ++ t ∷ []) → Answers (front ++ t ∷ ts) (outcome (noted (noted_all [] front) t) next ts))
+    step_answer : (r : Result ReaderState HclWhy) → step true s t ≡ r
+        → ((next : ReaderState) → step true s t ≡ Ok next → NamesFit (front ++ t ∷ []) → Answers (front ++ t ∷ ts) (outcome (noted (noted_all [] front) t) next ts))
         → Answers (front ++ t ∷ ts) (outcome_at (noted (noted_all [] front) t) (t ∷ ts) r (λ next. outcome (noted (noted_all [] front) t) next ts))
     step_answer (Ok next) h on = names_answer next h (nat_le (length (noted (noted_all [] front) t)) 256) refl (on next h)
     step_answer (Err why) h on =
         (front, refl, ((reads_viable front s e, fit), (λ v. not_viable t why h v.0), reason t why h (subst (λ r. Told t r (step false s t)) h (told_step s t))))
 
-is_between : Place → Bool
+is_between : ItemState → Bool
 is_between Between = true
 is_between place = false
 
-end_answer : (front : List Token) (items : List Item) (place : Place) → run 0 start front ≡ Ok (state items place) → NamesFit front → Answers (front ++ []) (at_end (ended items place))
+end_answer : (front : List Token) (items : List Item) (place : ItemState) → run 0 start front ≡ Ok (state items place) → NamesFit front → Answers (front ++ []) (at_end (ended items place))
 unfolding ended MeansPlace is_between run
 end_answer front items Between e fit =
     (front_file front [] items (state items Between) e ([], no_item, sym (append-nil items)), subst (λ ts. NamesFit ts) (sym (append-nil front)) fit)
@@ -220,9 +220,9 @@ end_answer front items place e fit =
     no_end : (f : File) → IsFile 0 front f → ⊥
     no_end f h =
         let r = reads_front front [] f (subst (λ ts. IsFile 0 ts f) (sym (append-nil front)) h) in
-        false≢true (ap (λ (x : State). is_between x.place) (same_ok (state items place) (state f.items Between) (sym e ∙ r.1 ∙ r.2)))
+        false≢true (ap (λ (x : ReaderState). is_between x.place) (same_ok (state items place) (state f.items Between) (sym e ∙ r.1 ∙ r.2)))
 
-outcome_answer : (ts front : List Token) (s : State) → run 0 start front ≡ Ok s → NamesFit front → Answers (front ++ ts) (outcome (noted_all [] front) s ts)
+outcome_answer : (ts front : List Token) (s : ReaderState) → run 0 start front ≡ Ok s → NamesFit front → Answers (front ++ ts) (outcome (noted_all [] front) s ts)
 unfolding outcome
 outcome_answer [] front s e fit = end_answer front s.items s.place e fit
 outcome_answer (t ∷ ts) front s e fit =

@@ -7,15 +7,15 @@ use Rattle.hcl_read.specs.declared.tree.Item.TheVariants as item
 use Rattle.hcl_read.specs.declared.tokens.Token.{Token}
 use Rattle.hcl_read.specs.declared.tokens.Token.TheVariants.{Ident, Number, Quoted, Assign, Semicolon, CloseParen, OpenBrace, CloseBrace, CloseBracket, Colon}
 use Rattle.hcl_read.specs.declared.frames.Level.{Level}
-use Rattle.hcl_read.specs.declared.frames.Side.{Side}
-use Rattle.hcl_read.specs.declared.frames.Side.TheVariants.{Left, Right}
+use Rattle.hcl_read.specs.declared.frames.OperandSide.{OperandSide}
+use Rattle.hcl_read.specs.declared.frames.OperandSide.TheVariants.{Left, Right}
 use Rattle.hcl_read.specs.declared.frames.Frame.{Frame}
 use Rattle.hcl_read.specs.declared.frames.Frame.TheVariants.{Paren, Set, Guard, Value}
-use Rattle.hcl_read.specs.declared.frames.Spot.{Spot}
-use Rattle.hcl_read.specs.declared.frames.Spot.TheVariants.{Want, WantRight, AfterPrim, After, WantSet, Cases}
-use Rattle.hcl_read.specs.declared.state.Place.{Place}
-use Rattle.hcl_read.specs.declared.state.Place.TheVariants.{Between, WantQuote, WantSignal, WantSignalText, WantName, WantAssign, Body}
-use Rattle.hcl_read.specs.declared.state.State.{State}
+use Rattle.hcl_read.specs.declared.frames.ExprState.{ExprState}
+use Rattle.hcl_read.specs.declared.frames.ExprState.TheVariants.{Want, WantRight, AfterPrim, After, WantSet, Cases}
+use Rattle.hcl_read.specs.declared.state.ItemState.{ItemState}
+use Rattle.hcl_read.specs.declared.state.ItemState.TheVariants.{Between, WantQuote, WantSignal, WantSignalText, WantName, WantAssign, Body}
+use Rattle.hcl_read.specs.declared.state.ReaderState.{ReaderState}
 use Rattle.hcl_read.specs.Grammar.{or_of, and_of, branch, IsExpr, or_list, no_or, and_list, no_and, plain, alone, no_member, a_number, no_case, no_item}
 use Rattle.hcl_read.specs.Depth.{depth_of}
 use Rattle.hcl_read.specs.Machine.{negate}
@@ -38,7 +38,7 @@ module _ (bottom : List Item → ℕ → Behind) (ends : (e : Expr) → Lives (�
       let b = behind (or_of (l.ors ++ and_of ((l.ands ++ negate l.nots e ∷ []) ++ []) ∷ [])) in
       (b.0, b.1, λ free h. ([], [], b.0, b.0, no_and, no_or, b.2 free h))
 
-  put_lives : (k : List Frame) → ((e : Expr) → ClosedLives k e) → (side : Side) (l : Level) (e : Expr) → Lives (λ file free tail. PutIn free (depth_of k) (Closed free (bottom file free) k) side l e tail)
+  put_lives : (k : List Frame) → ((e : Expr) → ClosedLives k e) → (side : OperandSide) (l : Level) (e : Expr) → Lives (λ file free tail. PutIn free (depth_of k) (Closed free (bottom file free) k) side l e tail)
   put_lives k behind Left l e =
       let b = rel_lives k behind l e in
       (b.0, b.1, λ free h. (e, b.0, no_operator, b.2 free h))
@@ -66,7 +66,7 @@ module _ (bottom : List Item → ℕ → Behind) (ends : (e : Expr) → Lives (�
   closed_lives [] e = ends e
   closed_lives (f ∷ k) e = frame_lives k (λ x. closed_lives k x) f e
 
-  spot_lives : (spot : Spot) (k : List Frame) → Lives (λ file free tail. MeansSpot free (bottom file free) spot k tail)
+  spot_lives : (spot : ExprState) (k : List Frame) → Lives (λ file free tail. MeansSpot free (bottom file free) spot k tail)
   unfolding MeansSpot
   spot_lives (Want l) k =
       let b = rel_lives k (λ x. closed_lives k x) l (expr.Num 0) in
@@ -91,7 +91,7 @@ module _ (bottom : List Item → ℕ → Behind) (ends : (e : Expr) → Lives (�
 rest_lives : (free : ℕ) (items : List Item) → Rest free items items []
 rest_lives free items = ([], no_item, sym (append-nil items))
 
-place_lives : (items : List Item) (place : Place) → Lives (λ file free tail. MeansPlace free file items place tail)
+place_lives : (items : List Item) (place : ItemState) → Lives (λ file free tail. MeansPlace free file items place tail)
 unfolding MeansPlace
 place_lives items Between = ([], items, λ free h. rest_lives free items)
 place_lives items WantQuote = (Quoted [] ∷ [], items ++ item.Quote [] ∷ [], λ free h. ([], [], refl, rest_lives free _))
@@ -104,5 +104,5 @@ place_lives items (WantAssign kind name) =
 place_lives items (Body kind name spot k) =
     spot_lives (λ file free. Bottom free file items kind name) (λ e. (Semicolon ∷ [], items ++ item.Def kind name e ∷ [], λ free h. ([], refl, rest_lives free _))) spot k
 
-pub state_lives : (s : State) → Lives (λ file free tail. Means free file s tail)
+pub state_lives : (s : ReaderState) → Lives (λ file free tail. Means free file s tail)
 state_lives s = place_lives s.items s.place

@@ -10,15 +10,15 @@ use Rattle.hcl_read.specs.declared.tree.Item.TheVariants as item
 use Rattle.hcl_read.specs.declared.tokens.Token.{Token}
 use Rattle.hcl_read.specs.declared.tokens.Token.TheVariants.{KeyIn, Ident, Quoted, Assign, Semicolon, Compare, CloseParen, OpenBrace, CloseBrace, CloseBracket, Colon}
 use Rattle.hcl_read.specs.declared.frames.Level.{Level}
-use Rattle.hcl_read.specs.declared.frames.Side.{Side}
-use Rattle.hcl_read.specs.declared.frames.Side.TheVariants.{Left, Right}
+use Rattle.hcl_read.specs.declared.frames.OperandSide.{OperandSide}
+use Rattle.hcl_read.specs.declared.frames.OperandSide.TheVariants.{Left, Right}
 use Rattle.hcl_read.specs.declared.frames.Frame.{Frame}
 use Rattle.hcl_read.specs.declared.frames.Frame.TheVariants.{Paren, Set, Guard, Value}
-use Rattle.hcl_read.specs.declared.frames.Spot.{Spot}
-use Rattle.hcl_read.specs.declared.frames.Spot.TheVariants.{Want, WantRight, AfterPrim, After, WantSet, Cases}
-use Rattle.hcl_read.specs.declared.state.Place.{Place}
-use Rattle.hcl_read.specs.declared.state.Place.TheVariants.{Between, WantQuote, WantSignal, WantSignalText, WantName, WantAssign, Body}
-use Rattle.hcl_read.specs.declared.state.State.{State}
+use Rattle.hcl_read.specs.declared.frames.ExprState.{ExprState}
+use Rattle.hcl_read.specs.declared.frames.ExprState.TheVariants.{Want, WantRight, AfterPrim, After, WantSet, Cases}
+use Rattle.hcl_read.specs.declared.state.ItemState.{ItemState}
+use Rattle.hcl_read.specs.declared.state.ItemState.TheVariants.{Between, WantQuote, WantSignal, WantSignalText, WantName, WantAssign, Body}
+use Rattle.hcl_read.specs.declared.state.ReaderState.{ReaderState}
 use Rattle.hcl_read.specs.Grammar.{or_of, and_of, branch, Room, IsExpr, OrTail, AndTail, IsNot, IsRel, SetTail, IsPrim, CaseTail, IsItems, alone, compared, member}
 use Rattle.hcl_read.specs.Depth.{depth_of}
 use Rattle.hcl_read.specs.Machine.{negate}
@@ -50,7 +50,7 @@ module _ (free : ℕ) where
   RelIn d behind l e ts = AfterIn d behind (l.ands ++ negate l.nots e ∷ []) l.ors ts
 
   -- behind an operand of a comparison
-  abbrev pub PutIn : ℕ → Behind → Side → Level → Behind
+  abbrev pub PutIn : ℕ → Behind → OperandSide → Level → Behind
   PutIn d behind Left l e ts = (x : Expr) × (rest : List Token) × RelTail free (l.nots + d) e ts x rest × RelIn d behind l x rest
   PutIn d behind (Right op left) l e ts = RelIn d behind l (expr.Cmp op left e) ts
 
@@ -71,7 +71,7 @@ module _ (free : ℕ) where
   Closed bottom (f ∷ k) = Inside f (depth_of k) (Closed bottom k)
 
   -- what a place in a body asks for
-  unfoldable pub MeansSpot : Behind → Spot → List Frame → List Token → Type 0
+  unfoldable pub MeansSpot : Behind → ExprState → List Frame → List Token → Type 0
   MeansSpot bottom (Want l) k ts = (e : Expr) × (rest : List Token) × IsNot free (l.nots + depth_of k) ts e rest × RelIn (depth_of k) (Closed bottom k) l e rest
   MeansSpot bottom (WantRight op left l) k ts = (e : Expr) × (rest : List Token) × IsPrim free (l.nots + depth_of k) ts e rest × RelIn (depth_of k) (Closed bottom k) l (expr.Cmp op left e) rest
   MeansSpot bottom (AfterPrim e l) k ts = PutIn (depth_of k) (Closed bottom k) Left l e ts
@@ -90,7 +90,7 @@ module _ (free : ℕ) where
   abbrev pub Bottom : List Item → List Item → Kind → List ℕ → Behind
   Bottom file items kind name e ts = (rest : List Token) × (ts ≡ Semicolon ∷ rest) × Rest file (items ++ item.Def kind name e ∷ []) rest
 
-  unfoldable pub MeansPlace : List Item → List Item → Place → List Token → Type 0
+  unfoldable pub MeansPlace : List Item → List Item → ItemState → List Token → Type 0
   MeansPlace file items Between ts = Rest file items ts
   MeansPlace file items WantQuote ts = (text : List ℕ) × (rest : List Token) × (ts ≡ Quoted text ∷ rest) × Rest file (items ++ item.Quote text ∷ []) rest
   MeansPlace file items (WantSignal kind) ts = (name : List ℕ) × (text : List ℕ) × (rest : List Token) × (ts ≡ Ident name ∷ Quoted text ∷ rest) × Rest file (items ++ item.Decl kind name text ∷ []) rest
@@ -99,5 +99,5 @@ module _ (free : ℕ) where
   MeansPlace file items (WantAssign kind name) ts = (e : Expr) × (body : List Token) × (rest : List Token) × (ts ≡ Assign ∷ body) × IsExpr free 0 body e rest × Bottom file items kind name e rest
   MeansPlace file items (Body kind name spot k) ts = MeansSpot (Bottom file items kind name) spot k ts
 
-  abbrev pub Means : List Item → State → List Token → Type 0
+  abbrev pub Means : List Item → ReaderState → List Token → Type 0
   Means file s ts = MeansPlace file s.items s.place ts

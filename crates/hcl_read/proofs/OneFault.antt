@@ -13,12 +13,12 @@ use Rattle.hcl_read.specs.declared.tokens.Token.{Token}
 use Rattle.hcl_read.specs.declared.tokens.Token.TheVariants.{Wide, Bad}
 use Rattle.hcl_read.specs.declared.frames.Frame.{Frame}
 use Rattle.hcl_read.specs.declared.frames.Frame.TheVariants.{Paren, Set, Guard, Value}
-use Rattle.hcl_read.specs.declared.frames.Spot.{Spot}
-use Rattle.hcl_read.specs.declared.frames.Spot.TheVariants.{Want, WantRight, AfterPrim, After, WantSet, Cases}
-use Rattle.hcl_read.specs.declared.state.Place.{Place}
-use Rattle.hcl_read.specs.declared.state.Place.TheVariants.{Between, WantQuote, WantSignal, WantSignalText, WantName, WantAssign, Body}
-use Rattle.hcl_read.specs.declared.state.State.{State}
-use Rattle.hcl_read.specs.Fault.{Accepts, noted, noted_all, NamesFit, Viable, Fits, Stands, Reason, FaultAt}
+use Rattle.hcl_read.specs.declared.frames.ExprState.{ExprState}
+use Rattle.hcl_read.specs.declared.frames.ExprState.TheVariants.{Want, WantRight, AfterPrim, After, WantSet, Cases}
+use Rattle.hcl_read.specs.declared.state.ItemState.{ItemState}
+use Rattle.hcl_read.specs.declared.state.ItemState.TheVariants.{Between, WantQuote, WantSignal, WantSignalText, WantName, WantAssign, Body}
+use Rattle.hcl_read.specs.declared.state.ReaderState.{ReaderState}
+use Rattle.hcl_read.specs.Fault.{Accepts, noted, noted_all, NamesFit, Viable, IsViableWithin, GoesOnWith, Reason, FaultAt}
 use Rattle.y86_base.specs.Cursor.{line_behind, column_behind}
 use Rattle.hcl_read.specs.Tokens.{items, tokens}
 use Rattle.hcl_read.specs.Read.{IsFault, ReadsAs, kinds, bytes_from}
@@ -35,7 +35,7 @@ close_bad e (Set left es l ∷ k) = refl
 close_bad e (Guard side bs l ∷ k) = refl
 close_bad e (Value side bs guard l ∷ k) = refl
 
-body_bad : (strict : Bool) (spot : Spot) (k : List Frame) → body_step strict spot k Bad ≡ Err whys.BadByte
+body_bad : (strict : Bool) (spot : ExprState) (k : List Frame) → body_step strict spot k Bad ≡ Err whys.BadByte
 unfolding body_step want prim after_prim after want_set after_branch refusal
 body_bad strict (Want l) k = refl
 body_bad strict (WantRight op left l) k = refl
@@ -44,7 +44,7 @@ body_bad strict (After ands ors) k = close_bad _ k
 body_bad strict (WantSet e l) k = refl
 body_bad strict (Cases side bs l) k = refl
 
-place_bad : (strict : Bool) (items : List Item) (place : Place) → place_step strict items place Bad ≡ Err whys.BadByte
+place_bad : (strict : Bool) (items : List Item) (place : ItemState) → place_step strict items place Bad ≡ Err whys.BadByte
 unfolding place_step refusal moved
 place_bad strict items Between = refl
 place_bad strict items WantQuote = refl
@@ -65,8 +65,8 @@ nameless : (x : Token) → x ≡ Wide → (names : List (List ℕ)) → noted na
 unfolding noted
 nameless x w names = ap (noted names) w
 
-module _ (front : List Token) (s : State) (e : run 0 start front ≡ Ok s) (fit : NamesFit front) (t : Token) where
-  no_step : (loose : Result State HclWhy) (why : HclWhy) → step false s t ≡ Err why → Stands front t → ⊥
+module _ (front : List Token) (s : ReaderState) (e : run 0 start front ≡ Ok s) (fit : NamesFit front) (t : Token) where
+  no_step : (loose : Result ReaderState HclWhy) (why : HclWhy) → step false s t ≡ Err why → GoesOnWith front t → ⊥
   no_step loose why h st = let n = stands_steps front t s st e in no_ok why n.0 (sym h ∙ n.1)
 
   -- the reason of a token that is refused
@@ -92,7 +92,7 @@ module _ (front : List Token) (s : State) (e : run 0 start front ≡ Ok s) (fit 
   refused_so whys.Memory why h told r = absurd told
 
   -- a token that the grammar and the limits on depth and numbers allow is at fault for its name alone
-  taken_so : (next : State) (why : HclWhy) → step true s t ≡ Ok next → Told t (Ok next) (step false s t) → (Fits (front ++ t ∷ []) → ⊥) → Reason front t why
+  taken_so : (next : ReaderState) (why : HclWhy) → step true s t ≡ Ok next → Told t (Ok next) (step false s t) → (IsViableWithin (front ++ t ∷ []) → ⊥) → Reason front t why
       → (whys.NamesOver256 ≡ why) × (NamesFit (front ++ t ∷ []) → ⊥)
   taken_so next why h told bad r = (so why r, λ n. bad (viable, n))
     where
@@ -107,8 +107,8 @@ module _ (front : List Token) (s : State) (e : run 0 start front ≡ Ok s) (fit 
       so whys.NamesOver256 r = refl
       so whys.Memory r = absurd r
 
-  token_told : (ts : List Token) (why : HclWhy) (r : Result State HclWhy) → step true s t ≡ r → (Fits (front ++ t ∷ []) → ⊥) → Reason front t why
-      → (behind : State → Outcome) → outcome_at (noted (noted_all [] front) t) (t ∷ ts) r behind ≡ Err (t ∷ ts, why)
+  token_told : (ts : List Token) (why : HclWhy) (r : Result ReaderState HclWhy) → step true s t ≡ r → (IsViableWithin (front ++ t ∷ []) → ⊥) → Reason front t why
+      → (behind : ReaderState → Outcome) → outcome_at (noted (noted_all [] front) t) (t ∷ ts) r behind ≡ Err (t ∷ ts, why)
   token_told ts why (Err w) h bad r behind = ap (λ x. Err (t ∷ ts, x)) (refused_so w why h (subst (λ x. Told t x (step false s t)) h (told_step s t)) r)
   token_told ts why (Ok next) h bad r behind =
       let names : List (List ℕ) = noted (noted_all [] front) t in
@@ -120,7 +120,7 @@ module _ (front : List Token) (s : State) (e : run 0 start front ≡ Ok s) (fit 
       over n h = grind (arith, nat_tests)
 
 -- the machine goes through tokens that begin a file within the limits
-outcome_front : (front rest : List Token) (names : List (List ℕ)) (s last : State) → run 0 s front ≡ Ok last → length (noted_all names front) ≤ 256
+outcome_front : (front rest : List Token) (names : List (List ℕ)) (s last : ReaderState) → run 0 s front ≡ Ok last → length (noted_all names front) ≤ 256
     → outcome names s (front ++ rest) ≡ outcome (noted_all names front) last rest
 unfolding run outcome noted_all
 outcome_front [] rest names s last e fit = ap (λ x. outcome names x rest) (same_ok s last e)
@@ -134,16 +134,16 @@ outcome_front (t ∷ ts) rest names s last e fit =
     few : (n : ℕ) → n ≤ 256 → nat_le n 256 ≡ true
     few n h = grind (arith, nat_tests)
 
-nothing : (names : List (List ℕ)) (s : State) → outcome names s [] ≡ at_end (ended s.items s.place)
+nothing : (names : List (List ℕ)) (s : ReaderState) → outcome names s [] ≡ at_end (ended s.items s.place)
 unfolding outcome
 nothing names s = refl
 
-only_syntax : (items : List Item) (place : Place) (why : HclWhy) → ended items place ≡ Err why → why ≡ whys.Syntax
+only_syntax : (items : List Item) (place : ItemState) (why : HclWhy) → ended items place ≡ Err why → why ≡ whys.Syntax
 unfolding ended
 only_syntax items Between why e = absurd (no_ok why (record { items = items }) (sym e))
 only_syntax items place why e = sym (same_err whys.Syntax why e)
 
-at_token : (front : List Token) (t : Token) (ts : List Token) (why : HclWhy) → FaultAt front (t ∷ ts) why → (s : State) → run 0 start front ≡ Ok s
+at_token : (front : List Token) (t : Token) (ts : List Token) (why : HclWhy) → FaultAt front (t ∷ ts) why → (s : ReaderState) → run 0 start front ≡ Ok s
     → outcome (noted_all [] front) s (t ∷ ts) ≡ Err (t ∷ ts, why)
 unfolding outcome
 at_token front t ts why fault s e =
@@ -157,7 +157,7 @@ fault_told front [] why fault =
     ∙ last (ended v.0.items v.0.place) (λ f e. no_fault front [] why f (file v.0 v.1 f e) fault) (only_syntax v.0.items v.0.place) ∙ ap (λ w. Err ([], w)) (sym fault.2)
   where
     -- the machine answers a file at the end just where the text is one
-    file : (s : State) → run 0 start front ≡ Ok s → (f : File) → ended s.items s.place ≡ Ok f → Accepts (front ++ []) f
+    file : (s : ReaderState) → run 0 start front ≡ Ok s → (f : File) → ended s.items s.place ≡ Ok f → Accepts (front ++ []) f
     file s e f h =
         subst (Answers (front ++ [])) (outcome_front front [] [] start s e fault.0.1 ∙ nothing (noted_all [] front) s ∙ ap at_end h) (answers (front ++ []))
 

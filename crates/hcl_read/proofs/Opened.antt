@@ -4,7 +4,7 @@ use Rattle.std.specs.Prelude.{◌⊎◌, nat_lt, nat_le, ◌&&◌}
 use Rattle.std.proofs.lemmas.Bool.Decides.{nat_tests}
 use Rattle.hcl_read.specs.declared.frames.Level.{Level}
 use Rattle.hcl_read.specs.declared.frames.Frame.{Frame}
-use Rattle.hcl_read.specs.declared.state.Move.{Move}
+use Rattle.hcl_read.specs.declared.state.BodyMove.{BodyMove}
 use Rattle.hcl_read.specs.declared.fault.HclWhy.TheVariants.{DepthOver64}
 use Rattle.hcl_read.specs.declared.tokens.Token.{Token}
 use Rattle.hcl_read.specs.Grammar.{Room}
@@ -19,6 +19,6 @@ pub test_room : (free d n : ℕ) → (nat_lt free (suc n) && nat_le 64 d) ≡ fa
 test_room free d n e = grind (arith, nat_tests)
 
 module _ (free : ℕ) (l : Level) (k : List Frame) (t : Token) (ts : List Token) where
-  pub opened_room : (move : Move) → Room free (suc (depth l k)) (t ∷ ts) → opened (nat_lt free (suc (length ts))) l k move ≡ Ok move
+  pub opened_room : (move : BodyMove) → Room free (suc (depth l k)) (t ∷ ts) → opened (nat_lt free (suc (length ts))) l k move ≡ Ok move
   unfolding opened
   opened_room move room = ap (λ b. cond b (Err DepthOver64) (Ok move)) (room_test free (depth l k) (length ts) room)

@@ -7,25 +7,25 @@ use Rattle.y86_base.specs.Cursor.{column_behind, line_behind}
 use Rattle.hcl_read.specs.declared.fault.HclFault.{HclFault}
 use Rattle.hcl_read.specs.declared.fault.HclWhy.{HclWhy}
 use Rattle.hcl_read.specs.declared.fault.HclWhy.TheVariants as whys
-use Rattle.hcl_read.specs.declared.reading.Stop.{Stop}
-use Rattle.hcl_read.specs.declared.state.State.{State}
+use Rattle.hcl_read.specs.declared.reading.ReadStop.{ReadStop}
+use Rattle.hcl_read.specs.declared.state.ReaderState.{ReaderState}
 use Rattle.hcl_read.specs.declared.tokens.Token.{Token}
 use Rattle.hcl_read.specs.declared.tree.File.{File}
 use Rattle.hcl_read.specs.Fault.{FaultAt, noted}
 use Rattle.hcl_read.specs.Machine.{Outcome, at_end, ended, outcome, outcome_at, start, step}
-use Rattle.hcl_read.specs.Read.{Gives, ReadsAs, Tells, bytes_from, kinds}
+use Rattle.hcl_read.specs.Read.{IsReadAnswer, ReadsAs, IsReadFault, bytes_from, kinds}
 use Rattle.hcl_read.specs.Steps.{Refuses}
-use Rattle.hcl_read.specs.Stops.{Halts, Refused, Stopped, Takes}
+use Rattle.hcl_read.specs.Stops.{HaltsAt, Refused, Stopped, TakesToken}
 use Rattle.hcl_read.specs.Tokens.{front, items, skipped, token, tokens}
 use Rattle.hcl_read.proofs.Exact.{Answers, accepts, answers}
 use Rattle.hcl_read.proofs.Items.{Ends, ends_more, ends_shorter, ends_through, items_listed, listed, listed_more, listed_none, skipped_ends, token_ends}
 use Rattle.hcl_read.proofs.OneFault.{file_has_no_fault}
 
-pub too_many : (names : List (List ℕ)) (state next : State) (token : Token) → step true state token ≡ Ok next → false ≡ nat_le (length (noted names token)) 256
+pub too_many : (names : List (List ℕ)) (state next : ReaderState) (token : Token) → step true state token ≡ Ok next → false ≡ nat_le (length (noted names token)) 256
     → Refused names state token whys.NamesOver256
 too_many names state next token e many = inr (λ ts behind. rw (e, ← many) refl)
 
-pub refused : (names : List (List ℕ)) (state : State) (token : Token) (why : HclWhy) → Refuses why (step true state token) → Refused names state token why
+pub refused : (names : List (List ℕ)) (state : ReaderState) (token : Token) (why : HclWhy) → Refuses why (step true state token) → Refused names state token why
 refused names state token whys.Memory h = inl refl
 refused names state token whys.Syntax h = inr (λ ts behind. rw h refl)
 refused names state token whys.BadByte h = inr (λ ts behind. rw h refl)
@@ -34,7 +34,7 @@ refused names state token whys.DepthOver64 h = inr (λ ts behind. rw h refl)
 refused names state token whys.NamesOver256 h = inr (λ ts behind. rw h refl)
 
 -- what the loop keeps: the rest is read as the text is
-pub record Follows (text : List ℕ) (names : List (List ℕ)) (state : State) (rest : List ℕ) : Type 0 where
+pub record Follows (text : List ℕ) (names : List (List ℕ)) (state : ReaderState) (rest : List ℕ) : Type 0 where
   pub few : length names ≤ 256
   pub ends : Ends text rest
   pub front : List (Token × List ℕ)
@@ -63,15 +63,15 @@ front_is (byte ∷ bytes) t behind e =
       subst (λ (x : Token × List ℕ). length (skipped false x.1) < length (byte ∷ bytes)) same (omega arith),
     )
 
-outcome_on : (names names_next : List (List ℕ)) (state next : State) (t : Token) (ts : List Token) → Takes names state t names_next next →
+outcome_on : (names names_next : List (List ℕ)) (state next : ReaderState) (t : Token) (ts : List Token) → TakesToken names state t names_next next →
     outcome names state (t ∷ ts) ≡ outcome names_next next ts
 unfolding outcome
 outcome_on names names_next state next t ts takes =
     let fit : nat_le (length (noted names t)) 256 ≡ true = ap (λ some. nat_le (length some) 256) (sym takes.known) ∙ takes.few in
     rw (takes.stepped, fit) (ap (λ some. outcome some next ts) (sym takes.known))
 
-pub follows_next : (text : List ℕ) (names names_next : List (List ℕ)) (state next : State) (rest : List ℕ) (t : Token) (behind : List ℕ) →
-    Follows text names state rest → front rest ≡ Some (t, behind) → Takes names state t names_next next → Follows text names_next next (skipped false behind)
+pub follows_next : (text : List ℕ) (names names_next : List (List ℕ)) (state next : ReaderState) (rest : List ℕ) (t : Token) (behind : List ℕ) →
+    Follows text names state rest → front rest ≡ Some (t, behind) → TakesToken names state t names_next next → Follows text names_next next (skipped false behind)
 follows_next text names names_next state next rest t behind follows e takes =
     let f = front_is rest t behind e in
     record {
@@ -83,23 +83,23 @@ follows_next text names names_next state next rest t behind follows e takes =
     }
 
 -- the end of the text
-at_the_end : (text : List ℕ) (names : List (List ℕ)) (state : State) (rest : List ℕ) → rest ≡ [] → Follows text names state rest →
+at_the_end : (text : List ℕ) (names : List (List ℕ)) (state : ReaderState) (rest : List ℕ) → rest ≡ [] → Follows text names state rest →
     outcome [] start (tokens text) ≡ at_end (ended state.items state.place)
 unfolding outcome
 at_the_end text names state rest e follows = follows.same ∙ ap (λ some. outcome names state (kinds (listed some))) e ∙ ap (λ some. outcome names state (kinds some)) listed_none
 
-pub found_at_end : (text : List ℕ) (names : List (List ℕ)) (state : State) (rest : List ℕ) (file : File) → rest ≡ [] → Follows text names state rest →
+pub found_at_end : (text : List ℕ) (names : List (List ℕ)) (state : ReaderState) (rest : List ℕ) (file : File) → rest ≡ [] → Follows text names state rest →
     ended state.items state.place ≡ Ok file → outcome [] start (tokens text) ≡ Ok file
 found_at_end text names state rest file e follows end = at_the_end text names state rest e follows ∙ ap at_end end
 
 length_before : (text before rest : List ℕ) → text ≡ before ++ rest → length before ≡ length text - length rest
 length_before text before rest e = let n = ap length e ∙ length-append before rest in omega arith
 
-pub stopped_at_end : (text : List ℕ) (names : List (List ℕ)) (state : State) (rest : List ℕ) (at : ℕ) (why : HclWhy) → rest ≡ [] → Follows text names state rest →
+pub stopped_at_end : (text : List ℕ) (names : List (List ℕ)) (state : ReaderState) (rest : List ℕ) (at : ℕ) (why : HclWhy) → rest ≡ [] → Follows text names state rest →
     at ≡ length text - length rest → Refuses why (ended state.items state.place) → Stopped text (record { at = at; why = why })
 stopped_at_end text names state rest at why e follows place h = go why h
   where
-    halts : (reason : HclWhy) → ended state.items state.place ≡ Err reason → Halts text (record { at = at; why = reason })
+    halts : (reason : HclWhy) → ended state.items state.place ≡ Err reason → HaltsAt text (record { at = at; why = reason })
     halts reason end = record {
       front = follows.front;
       rest = [];
@@ -123,13 +123,13 @@ from_listed : (rest : List ℕ) → bytes_from (listed rest) ≡ rest
 from_listed [] = ap bytes_from listed_none
 from_listed (byte ∷ bytes) = ap bytes_from (listed_more byte bytes)
 
-outcome_refused : (names : List (List ℕ)) (state : State) (t : Token) (ts : List Token) (why : HclWhy) →
-    ((some : List Token) (behind : State → Outcome) → outcome_at (noted names t) some (step true state t) behind ≡ Err (some, why)) →
+outcome_refused : (names : List (List ℕ)) (state : ReaderState) (t : Token) (ts : List Token) (why : HclWhy) →
+    ((some : List Token) (behind : ReaderState → Outcome) → outcome_at (noted names t) some (step true state t) behind ≡ Err (some, why)) →
     outcome names state (t ∷ ts) ≡ Err (t ∷ ts, why)
 unfolding outcome
 outcome_refused names state t ts why h = h (t ∷ ts) (λ next. outcome (noted names t) next ts)
 
-pub stopped_here : (text : List ℕ) (names : List (List ℕ)) (state : State) (rest : List ℕ) (at : ℕ) (why : HclWhy) (t : Token) (behind : List ℕ) →
+pub stopped_here : (text : List ℕ) (names : List (List ℕ)) (state : ReaderState) (rest : List ℕ) (at : ℕ) (why : HclWhy) (t : Token) (behind : List ℕ) →
     Follows text names state rest → at ≡ length text - length rest → front rest ≡ Some (t, behind) → Refused names state t why → Stopped text (record { at = at; why = why })
 stopped_here text names state rest at why t behind follows place e (inl memory) = inl memory
 stopped_here text names state rest at why t behind follows place e (inr h) =
@@ -148,18 +148,18 @@ stopped_here text names state rest at why t behind follows place e (inr h) =
 pub found : (text : List ℕ) (file : File) → outcome [] start (tokens text) ≡ Ok file → ReadsAs text file
 found text file e = subst (λ o. Answers (tokens text) o) e (answers (tokens text))
 
-pub gives_found : (text : List ℕ) (file : File) → outcome [] start (tokens text) ≡ Ok file → (wanted : File) → ReadsAs text wanted → Gives (Ok file) wanted
+pub gives_found : (text : List ℕ) (file : File) → outcome [] start (tokens text) ≡ Ok file → (wanted : File) → ReadsAs text wanted → IsReadAnswer (Ok file) wanted
 gives_found text file e wanted accepted = let o = accepts (tokens text) wanted accepted in cc
 
-fault_at : (text : List ℕ) (stop : Stop) (halts : Halts text stop) → FaultAt (kinds halts.front) (kinds halts.rest) stop.why
+fault_at : (text : List ℕ) (stop : ReadStop) (halts : HaltsAt text stop) → FaultAt (kinds halts.front) (kinds halts.rest) stop.why
 fault_at text stop halts =
     let a = subst (λ o. Answers (tokens text) o) halts.refused (answers (tokens text)) in
     let split : tokens text ≡ kinds halts.front ++ kinds halts.rest = ap kinds halts.whole ∙ map-append (λ (item : Token × List ℕ). item.0) halts.front halts.rest in
     let same : a.0 ≡ kinds halts.front = append_cancel_right a.0 (kinds halts.front) (kinds halts.rest) (sym a.1 ∙ split) in
     subst (λ some. FaultAt some (kinds halts.rest) stop.why) same a.2
 
-pub told : (text : List ℕ) (stop : Stop) (line col : ℕ) → Stopped text stop → (stop.why ≡ whys.Memory → ⊥) →
-    line ≡ line_behind (take stop.at text) → col ≡ column_behind (take stop.at text) → Tells text (record { line = line; col = col; why = stop.why })
+pub told : (text : List ℕ) (stop : ReadStop) (line col : ℕ) → Stopped text stop → (stop.why ≡ whys.Memory → ⊥) →
+    line ≡ line_behind (take stop.at text) → col ≡ column_behind (take stop.at text) → IsReadFault text (record { line = line; col = col; why = stop.why })
 told text stop line col (inl memory) other l c = absurd (other memory)
 told text stop line col (inr halts) other l c =
     let taken : take stop.at text ≡ halts.before = ap (take stop.at) halts.place ∙ take_at halts.before (bytes_from halts.rest) stop.at halts.at in
@@ -174,17 +174,17 @@ told text stop line col (inr halts) other l c =
       column = c ∙ ap column_behind taken;
     })
 
-pub gives_fault : (text : List ℕ) (fault : HclFault) → Tells text fault → (wanted : File) → ReadsAs text wanted → Gives (Err fault) wanted
+pub gives_fault : (text : List ℕ) (fault : HclFault) → IsReadFault text fault → (wanted : File) → ReadsAs text wanted → IsReadAnswer (Err fault) wanted
 gives_fault text fault (inl memory) wanted accepted = memory.0
 gives_fault text fault (inr is) wanted accepted = absurd (file_has_no_fault text wanted fault accepted is)
 
 -- the loop's steps, with what the calls say
-pub follows_start : (text : List ℕ) (names : List (List ℕ)) (state : State) (rest : List ℕ) → names ≡ [] → state ≡ start → rest ≡ skipped false text → Follows text names state rest
+pub follows_start : (text : List ℕ) (names : List (List ℕ)) (state : ReaderState) (rest : List ℕ) → names ≡ [] → state ≡ start → rest ≡ skipped false text → Follows text names state rest
 follows_start text names state rest n s r =
     subst (λ x. Follows text x state rest) (sym n) (subst (λ x. Follows text [] x rest) (sym s) (subst (λ x. Follows text [] start x) (sym r) (follows_first text)))
 
-pub follows_step : (text : List ℕ) (names names_next : List (List ℕ)) (state next : State) (rest : List ℕ) (t : Token) (behind rest_next : List ℕ) →
-    Follows text names state rest → front rest ≡ Some (t, behind) → Takes names state t names_next next → rest_next ≡ skipped false behind → Follows text names_next next rest_next
+pub follows_step : (text : List ℕ) (names names_next : List (List ℕ)) (state next : ReaderState) (rest : List ℕ) (t : Token) (behind rest_next : List ℕ) →
+    Follows text names state rest → front rest ≡ Some (t, behind) → TakesToken names state t names_next next → rest_next ≡ skipped false behind → Follows text names_next next rest_next
 follows_step text names names_next state next rest t behind rest_next follows e takes r =
     subst (λ x. Follows text names_next next x) (sym r) (follows_next text names names_next state next rest t behind follows e takes)
 

@@ -15,17 +15,17 @@ use Rattle.hcl_read.specs.declared.fault.HclWhy.TheVariants as whys
 use Rattle.hcl_read.specs.declared.tokens.Token.{Token}
 use Rattle.hcl_read.specs.declared.tokens.Token.TheVariants.{KeyQuote, KeySig, KeyDef, KeyIn, Ident, Number, Wide, Quoted, Assign, Semicolon, OrOr, AndAnd, Bang, Compare, OpenParen, CloseParen, OpenBrace, CloseBrace, OpenBracket, CloseBracket, Comma, Colon}
 use Rattle.hcl_read.specs.declared.frames.Level.{Level}
-use Rattle.hcl_read.specs.declared.frames.Side.{Side}
-use Rattle.hcl_read.specs.declared.frames.Side.TheVariants.{Left, Right}
+use Rattle.hcl_read.specs.declared.frames.OperandSide.{OperandSide}
+use Rattle.hcl_read.specs.declared.frames.OperandSide.TheVariants.{Left, Right}
 use Rattle.hcl_read.specs.declared.frames.Frame.{Frame}
 use Rattle.hcl_read.specs.declared.frames.Frame.TheVariants.{Paren, Set, Guard, Value}
-use Rattle.hcl_read.specs.declared.frames.Spot.{Spot}
-use Rattle.hcl_read.specs.declared.frames.Spot.TheVariants.{Want, WantRight, AfterPrim, After, WantSet, Cases}
-use Rattle.hcl_read.specs.declared.state.Move.{Move}
-use Rattle.hcl_read.specs.declared.state.Move.TheVariants.{On, Ended}
-use Rattle.hcl_read.specs.declared.state.Place.{Place}
-use Rattle.hcl_read.specs.declared.state.Place.TheVariants.{Between, WantQuote, WantSignal, WantSignalText, WantName, WantAssign, Body}
-use Rattle.hcl_read.specs.declared.state.State.{State}
+use Rattle.hcl_read.specs.declared.frames.ExprState.{ExprState}
+use Rattle.hcl_read.specs.declared.frames.ExprState.TheVariants.{Want, WantRight, AfterPrim, After, WantSet, Cases}
+use Rattle.hcl_read.specs.declared.state.BodyMove.{BodyMove}
+use Rattle.hcl_read.specs.declared.state.BodyMove.TheVariants.{On, Ended}
+use Rattle.hcl_read.specs.declared.state.ItemState.{ItemState}
+use Rattle.hcl_read.specs.declared.state.ItemState.TheVariants.{Between, WantQuote, WantSignal, WantSignalText, WantName, WantAssign, Body}
+use Rattle.hcl_read.specs.declared.state.ReaderState.{ReaderState}
 use Rattle.hcl_read.specs.Grammar.{or_of, and_of, branch, Room, IsExpr, IsNot, IsPrim, IsItem, IsItems, or_list, no_or, more_or, and_list, no_and, more_and, negated, plain, no_member, more_members, a_number, a_wide_number, a_name, group, case_list, guarded, no_case, more_cases, quoted, declared, defined, more_items}
 use Rattle.hcl_read.specs.Depth.{depth, depth_of}
 use Rattle.hcl_read.specs.Machine.{level, start_level, once_more_negated, negate, related, put, opened, prim, want, close, after, after_prim, want_set, after_branch, body_step, moved, place_step, step}
@@ -38,12 +38,12 @@ module _ (free : ℕ) where
   strict_before ts = nat_lt free (suc (length ts))
 
   module _ (bottom : Behind) where
-    abbrev pub MeansMove : Result Move HclWhy → List Token → Type 0
+    abbrev pub MeansMove : Result BodyMove HclWhy → List Token → Type 0
     MeansMove (Ok (On spot k)) ts = MeansSpot free bottom spot k ts
     MeansMove (Ok (Ended e)) ts = bottom e (Semicolon ∷ ts)
     MeansMove (Err why) ts = ⊥
 
-    sound_opened : (l : Level) (k : List Frame) (t : Token) (ts : List Token) (move : Move) → MeansMove (opened (strict_before ts) l k move) ts
+    sound_opened : (l : Level) (k : List Frame) (t : Token) (ts : List Token) (move : BodyMove) → MeansMove (opened (strict_before ts) l k move) ts
         → Room free (suc (l.nots + depth_of k)) (t ∷ ts) × MeansMove (Ok move) ts
     unfolding opened depth
     sound_opened l k t ts move m = go (strict_before ts && nat_le 64 (l.nots + depth_of k)) refl m
@@ -59,7 +59,7 @@ module _ (free : ℕ) where
     start_means k ts m =
         (or_of (and_of (m.0 ∷ m.3.0) ∷ m.3.1), m.3.3, or_list (and_list (subst (λ d. IsNot free d ts m.0 m.1) (zero-add (depth_of k)) m.2) m.3.4) m.3.5, m.3.6)
 
-    put_means : (side : Side) (l : Level) (e : Expr) (k : List Frame) (ts : List Token) → MeansSpot free bottom (put side l e) k ts → PutIn free (depth_of k) (Closed free bottom k) side l e ts
+    put_means : (side : OperandSide) (l : Level) (e : Expr) (k : List Frame) (ts : List Token) → MeansSpot free bottom (put side l e) k ts → PutIn free (depth_of k) (Closed free bottom k) side l e ts
     unfolding MeansSpot put related
     put_means Left l e k ts m = m
     put_means (Right op left) l e k ts m = m
@@ -68,13 +68,13 @@ module _ (free : ℕ) where
     unfolding MeansSpot related
     related_means l e k ts m = m
 
-    asks_from : (side : Side) (l : Level) (k : List Frame) {ts mid : List Token} {e : Expr} → IsPrim free (l.nots + depth_of k) ts e mid → PutIn free (depth_of k) (Closed free bottom k) side l e mid
+    asks_from : (side : OperandSide) (l : Level) (k : List Frame) {ts mid : List Token} {e : Expr} → IsPrim free (l.nots + depth_of k) ts e mid → PutIn free (depth_of k) (Closed free bottom k) side l e mid
         → MeansSpot free bottom (asks side l) k ts
     unfolding MeansSpot
     asks_from Left l k h p = (p.0, p.1, plain (rel_of h p.2), p.3)
     asks_from (Right op left) l k {mid = mid} {e = e} h p = (e, mid, h, p)
 
-    wide_means : (side : Side) (l : Level) (k : List Frame) (ts : List Token) (b : Bool) → strict_before ts ≡ b → MeansMove (cond b (Err whys.NumberTooWide) (Ok (On (put side l (expr.Num 0)) k))) ts
+    wide_means : (side : OperandSide) (l : Level) (k : List Frame) (ts : List Token) (b : Bool) → strict_before ts ≡ b → MeansMove (cond b (Err whys.NumberTooWide) (Ok (On (put side l (expr.Num 0)) k))) ts
         → MeansSpot free bottom (asks side l) k (Wide ∷ ts)
     wide_means side l k ts true e m = absurd m
     wide_means side l k ts false e m = asks_from side l k (a_wide_number (is_free (length ts) e)) (put_means side l (expr.Num 0) k ts m)
@@ -82,21 +82,21 @@ module _ (free : ℕ) where
         is_free : (n : ℕ) → nat_lt free (suc n) ≡ false → suc n ≤ free
         is_free n e = grind (arith, nat_tests)
 
-    paren_means : (side : Side) (l : Level) (k : List Frame) (ts : List Token) → Room free (suc (l.nots + depth_of k)) (OpenParen ∷ ts) → MeansSpot free bottom (Want start_level) (Paren side l ∷ k) ts
+    paren_means : (side : OperandSide) (l : Level) (k : List Frame) (ts : List Token) → Room free (suc (l.nots + depth_of k)) (OpenParen ∷ ts) → MeansSpot free bottom (Want start_level) (Paren side l ∷ k) ts
         → MeansSpot free bottom (asks side l) k (OpenParen ∷ ts)
     unfolding Closed depth_of
     paren_means side l k ts room m =
         let s = start_means (Paren side l ∷ k) ts m in
         asks_from side l k (group room (subst (λ r. IsExpr free (suc (l.nots + depth_of k)) ts s.0 r) s.3.1 s.2)) s.3.2
 
-    bracket_means : (side : Side) (l : Level) (k : List Frame) (ts : List Token) → Room free (suc (l.nots + depth_of k)) (OpenBracket ∷ ts) → MeansSpot free bottom (Want start_level) (Guard side [] l ∷ k) ts
+    bracket_means : (side : OperandSide) (l : Level) (k : List Frame) (ts : List Token) → Room free (suc (l.nots + depth_of k)) (OpenBracket ∷ ts) → MeansSpot free bottom (Want start_level) (Guard side [] l ∷ k) ts
         → MeansSpot free bottom (asks side l) k (OpenBracket ∷ ts)
     unfolding Closed depth_of
     bracket_means side l k ts room m =
         let s = start_means (Guard side [] l ∷ k) ts m in
         asks_from side l k (case_list room (guarded (subst (λ r. IsExpr free (suc (l.nots + depth_of k)) ts s.0 r) s.3.5 s.2) s.3.6) s.3.7) s.3.8
 
-    sound_prim : (side : Side) (l : Level) (k : List Frame) (t : Token) (ts : List Token) → MeansMove (prim (strict_before ts) side l k t) ts → MeansSpot free bottom (asks side l) k (t ∷ ts)
+    sound_prim : (side : OperandSide) (l : Level) (k : List Frame) (t : Token) (ts : List Token) → MeansMove (prim (strict_before ts) side l k t) ts → MeansSpot free bottom (asks side l) k (t ∷ ts)
     unfolding prim
     sound_prim side l k (Number n) ts m = asks_from side l k a_number (put_means side l (expr.Num n) k ts m)
     sound_prim side l k Wide ts m = wide_means side l k ts (strict_before ts) refl m
@@ -132,17 +132,17 @@ module _ (free : ℕ) where
     unfolding Closed
     brace_means e left es l k ts m = ([], ts, no_member, subst (λ ms. RelIn free (depth_of k) (Closed free bottom k) l (expr.In left ms) ts) (sym (append-nil (es ++ e ∷ []))) m)
 
-    colon_means : (e : Expr) (side : Side) (bs : List Branch) (l : Level) (k : List Frame) (ts : List Token) → MeansSpot free bottom (Want start_level) (Value side bs e l ∷ k) ts → Closed free bottom (Guard side bs l ∷ k) e (Colon ∷ ts)
+    colon_means : (e : Expr) (side : OperandSide) (bs : List Branch) (l : Level) (k : List Frame) (ts : List Token) → MeansSpot free bottom (Want start_level) (Value side bs e l ∷ k) ts → Closed free bottom (Guard side bs l ∷ k) e (Colon ∷ ts)
     unfolding Closed depth_of
     colon_means e side bs l k ts m =
         let s = start_means (Value side bs e l ∷ k) ts m in
         (ts, s.0, s.3.0, s.3.1, s.3.2, refl, subst (λ r. IsExpr free (suc (l.nots + depth_of k)) ts s.0 r) s.3.3 s.2, s.3.4, s.3.5)
 
-    value_means : (e : Expr) (side : Side) (bs : List Branch) (guard : Expr) (l : Level) (k : List Frame) (ts : List Token) → MeansSpot free bottom (Cases side (bs ++ branch guard e ∷ []) l) k ts → Closed free bottom (Value side bs guard l ∷ k) e (Semicolon ∷ ts)
+    value_means : (e : Expr) (side : OperandSide) (bs : List Branch) (guard : Expr) (l : Level) (k : List Frame) (ts : List Token) → MeansSpot free bottom (Cases side (bs ++ branch guard e ∷ []) l) k ts → Closed free bottom (Value side bs guard l ∷ k) e (Semicolon ∷ ts)
     unfolding Closed MeansSpot
     value_means e side bs guard l k ts m = (ts, m.0, m.1, refl, m.2, m.3)
 
-    close_means : (e : Expr) (side : Side) (l : Level) (k : List Frame) (ts : List Token) → PutIn free (depth_of k) (Closed free bottom k) side l e ts → Closed free bottom (Paren side l ∷ k) e (CloseParen ∷ ts)
+    close_means : (e : Expr) (side : OperandSide) (l : Level) (k : List Frame) (ts : List Token) → PutIn free (depth_of k) (Closed free bottom k) side l e ts → Closed free bottom (Paren side l ∷ k) e (CloseParen ∷ ts)
     unfolding Closed
     close_means e side l k ts m = (ts, refl, m)
 
@@ -231,11 +231,11 @@ module _ (free : ℕ) where
         set_means e l k ts o.0 o.1
     sound_want_set e l k t ts m = absurd m
 
-    bracket_closes : (side : Side) (bs : List Branch) (l : Level) (k : List Frame) (ts : List Token) → PutIn free (depth_of k) (Closed free bottom k) side l (expr.Case bs) ts → MeansSpot free bottom (Cases side bs l) k (CloseBracket ∷ ts)
+    bracket_closes : (side : OperandSide) (bs : List Branch) (l : Level) (k : List Frame) (ts : List Token) → PutIn free (depth_of k) (Closed free bottom k) side l (expr.Case bs) ts → MeansSpot free bottom (Cases side bs l) k (CloseBracket ∷ ts)
     unfolding MeansSpot
     bracket_closes side bs l k ts m = ([], ts, no_case, subst (λ x. PutIn free (depth_of k) (Closed free bottom k) side l (expr.Case x) ts) (sym (append-nil bs)) m)
 
-    branch_means : (side : Side) (bs : List Branch) (l : Level) (k : List Frame) (ts : List Token) → MeansSpot free bottom (Want start_level) (Guard side bs l ∷ k) ts → MeansSpot free bottom (Cases side bs l) k ts
+    branch_means : (side : OperandSide) (bs : List Branch) (l : Level) (k : List Frame) (ts : List Token) → MeansSpot free bottom (Want start_level) (Guard side bs l ∷ k) ts → MeansSpot free bottom (Cases side bs l) k ts
     unfolding MeansSpot Closed depth_of
     branch_means side bs l k ts m =
         let s = start_means (Guard side bs l ∷ k) ts m in (
@@ -245,12 +245,12 @@ module _ (free : ℕ) where
           subst (λ x. PutIn free (depth_of k) (Closed free bottom k) side l (expr.Case x) s.3.4) (shifted bs (branch s.0 s.3.1) s.3.3) s.3.8,
         )
 
-    sound_after_branch : (side : Side) (bs : List Branch) (l : Level) (k : List Frame) (t : Token) (ts : List Token) → MeansMove (after_branch (strict_before ts) side bs l k t) ts → MeansSpot free bottom (Cases side bs l) k (t ∷ ts)
+    sound_after_branch : (side : OperandSide) (bs : List Branch) (l : Level) (k : List Frame) (t : Token) (ts : List Token) → MeansMove (after_branch (strict_before ts) side bs l k t) ts → MeansSpot free bottom (Cases side bs l) k (t ∷ ts)
     unfolding after_branch
     sound_after_branch side bs l k CloseBracket ts m = bracket_closes side bs l k ts (put_means side l (expr.Case bs) k ts m)
     sound_after_branch side bs l k t ts m = branch_means side bs l k (t ∷ ts) (sound_want start_level (Guard side bs l ∷ k) t ts m)
 
-    sound_body : (spot : Spot) (k : List Frame) (t : Token) (ts : List Token) → MeansMove (body_step (strict_before ts) spot k t) ts → MeansSpot free bottom spot k (t ∷ ts)
+    sound_body : (spot : ExprState) (k : List Frame) (t : Token) (ts : List Token) → MeansMove (body_step (strict_before ts) spot k t) ts → MeansSpot free bottom spot k (t ∷ ts)
     unfolding body_step
     sound_body (Want l) k t ts m = sound_want l k t ts m
     sound_body (WantRight op left l) k t ts m = sound_prim (Right op left) l k t ts m
@@ -260,11 +260,11 @@ module _ (free : ℕ) where
     sound_body (Cases side bs l) k t ts m = sound_after_branch side bs l k t ts m
 
   module _ (file : List Item) where
-    abbrev pub MeansNext : Result State HclWhy → List Token → Type 0
+    abbrev pub MeansNext : Result ReaderState HclWhy → List Token → Type 0
     MeansNext (Ok s) ts = Means free file s ts
     MeansNext (Err why) ts = ⊥
 
-    moved_means : (items : List Item) (kind : Kind) (name : List ℕ) (r : Result Move HclWhy) (ts : List Token) → MeansNext (moved items kind name r) ts → MeansMove (Bottom free file items kind name) r ts
+    moved_means : (items : List Item) (kind : Kind) (name : List ℕ) (r : Result BodyMove HclWhy) (ts : List Token) → MeansNext (moved items kind name r) ts → MeansMove (Bottom free file items kind name) r ts
     unfolding moved MeansPlace
     moved_means items kind name (Ok (On spot k)) ts m = m
     moved_means items kind name (Ok (Ended e)) ts m = (ts, refl, m)
@@ -273,7 +273,7 @@ module _ (free : ℕ) where
     one_more : (items : List Item) (i : Item) (head ts rest : List Token) → IsItem free head i rest → ts ≡ head → Rest free file (items ++ i ∷ []) rest → Rest free file items ts
     one_more items i head ts rest h e m = (i ∷ m.0, subst (λ x. IsItems free x (i ∷ m.0)) (sym e) (more_items h m.1), m.2 ∙ shifted items i m.0)
 
-    sound_place : (items : List Item) (place : Place) (t : Token) (ts : List Token) → MeansNext (place_step (strict_before ts) items place t) ts → MeansPlace free file items place (t ∷ ts)
+    sound_place : (items : List Item) (place : ItemState) (t : Token) (ts : List Token) → MeansNext (place_step (strict_before ts) items place t) ts → MeansPlace free file items place (t ∷ ts)
     unfolding place_step MeansPlace Closed depth_of
     sound_place items Between KeyQuote ts m = one_more items (item.Quote m.0) (KeyQuote ∷ Quoted m.0 ∷ m.1) (KeyQuote ∷ ts) m.1 quoted (ap (λ r. KeyQuote ∷ r) m.2) m.3
     sound_place items Between (KeySig kind) ts m = one_more items (item.Decl kind m.0 m.1) (KeySig kind ∷ Ident m.0 ∷ Quoted m.1 ∷ m.2) (KeySig kind ∷ ts) m.2 declared (ap (λ r. KeySig kind ∷ r) m.3) m.4
@@ -289,5 +289,5 @@ module _ (free : ℕ) where
     sound_place items (Body kind name spot k) t ts m = sound_body (Bottom free file items kind name) spot k t ts (moved_means items kind name (body_step (strict_before ts) spot k t) ts m)
     sound_place items place t ts m = absurd m
 
-    pub sound_step : (s : State) (t : Token) (ts : List Token) → MeansNext (step (strict_before ts) s t) ts → Means free file s (t ∷ ts)
+    pub sound_step : (s : ReaderState) (t : Token) (ts : List Token) → MeansNext (step (strict_before ts) s t) ts → Means free file s (t ∷ ts)
     sound_step s t ts m = sound_place s.items s.place t ts m

@@ -14,17 +14,17 @@ use Rattle.hcl_read.specs.declared.fault.HclWhy.TheVariants as whys
 use Rattle.hcl_read.specs.declared.tokens.Token.{Token}
 use Rattle.hcl_read.specs.declared.tokens.Token.TheVariants.{KeyQuote, KeySig, KeyDef, KeyIn, Ident, Number, Wide, Quoted, Assign, Semicolon, OrOr, AndAnd, Bang, Compare, OpenParen, CloseParen, OpenBrace, CloseBrace, OpenBracket, CloseBracket, Comma, Colon, Bad}
 use Rattle.hcl_read.specs.declared.frames.Level.{Level}
-use Rattle.hcl_read.specs.declared.frames.Side.{Side}
-use Rattle.hcl_read.specs.declared.frames.Side.TheVariants.{Left, Right}
+use Rattle.hcl_read.specs.declared.frames.OperandSide.{OperandSide}
+use Rattle.hcl_read.specs.declared.frames.OperandSide.TheVariants.{Left, Right}
 use Rattle.hcl_read.specs.declared.frames.Frame.{Frame}
 use Rattle.hcl_read.specs.declared.frames.Frame.TheVariants.{Paren, Set, Guard, Value}
-use Rattle.hcl_read.specs.declared.frames.Spot.{Spot}
-use Rattle.hcl_read.specs.declared.frames.Spot.TheVariants.{Want, WantRight, AfterPrim, After, WantSet, Cases}
-use Rattle.hcl_read.specs.declared.state.Move.{Move}
-use Rattle.hcl_read.specs.declared.state.Move.TheVariants.{On, Ended}
-use Rattle.hcl_read.specs.declared.state.Place.{Place}
-use Rattle.hcl_read.specs.declared.state.Place.TheVariants.{Between, WantQuote, WantSignal, WantSignalText, WantName, WantAssign, Body}
-use Rattle.hcl_read.specs.declared.state.State.{State}
+use Rattle.hcl_read.specs.declared.frames.ExprState.{ExprState}
+use Rattle.hcl_read.specs.declared.frames.ExprState.TheVariants.{Want, WantRight, AfterPrim, After, WantSet, Cases}
+use Rattle.hcl_read.specs.declared.state.BodyMove.{BodyMove}
+use Rattle.hcl_read.specs.declared.state.BodyMove.TheVariants.{On, Ended}
+use Rattle.hcl_read.specs.declared.state.ItemState.{ItemState}
+use Rattle.hcl_read.specs.declared.state.ItemState.TheVariants.{Between, WantQuote, WantSignal, WantSignalText, WantName, WantAssign, Body}
+use Rattle.hcl_read.specs.declared.state.ReaderState.{ReaderState}
 use Rattle.hcl_read.specs.Grammar.{or_of, and_of}
 use Rattle.hcl_read.specs.Depth.{depth}
 use Rattle.hcl_read.specs.Machine.{start_level, once_more_negated, negate, put, refusal, opened, prim, want, close, after, after_prim, want_set, after_branch, body_step, state, moved, place_step, step}
@@ -60,7 +60,7 @@ unfolding refusal is_bad
 refused A Bad = (refl, refl)
 refused A t = (not_bad t refl, refl)
 
-told_opened : (l : Level) (k : List Frame) (move : Move) (t : Token) → is_wide t ≡ false → Told t (opened true l k move) (opened false l k move)
+told_opened : (l : Level) (k : List Frame) (move : BodyMove) (t : Token) → is_wide t ≡ false → Told t (opened true l k move) (opened false l k move)
 unfolding opened
 told_opened l k move t w = go (nat_le 64 (depth l k))
   where
@@ -68,7 +68,7 @@ told_opened l k move t w = go (nat_le 64 (depth l k))
     go true = (not_wide t w, move, refl)
     go false = refl
 
-told_prim : (side : Side) (l : Level) (k : List Frame) (t : Token) → Told t (prim true side l k t) (prim false side l k t)
+told_prim : (side : OperandSide) (l : Level) (k : List Frame) (t : Token) → Told t (prim true side l k t) (prim false side l k t)
 unfolding prim is_wide
 told_prim side l k (Number n) = refl
 told_prim side l k Wide = (refl, On (put side l (expr.Num 0)) k, refl)
@@ -109,12 +109,12 @@ unfolding want_set is_wide
 told_want_set e l k OpenBrace = told_opened l k (On (Want start_level) (Set e [] l ∷ k)) OpenBrace refl
 told_want_set e l k t = refused _ t
 
-told_after_branch : (side : Side) (bs : List Branch) (l : Level) (k : List Frame) (t : Token) → Told t (after_branch true side bs l k t) (after_branch false side bs l k t)
+told_after_branch : (side : OperandSide) (bs : List Branch) (l : Level) (k : List Frame) (t : Token) → Told t (after_branch true side bs l k t) (after_branch false side bs l k t)
 unfolding after_branch
 told_after_branch side bs l k CloseBracket = refl
 told_after_branch side bs l k t = told_want start_level (Guard side bs l ∷ k) t
 
-told_body : (spot : Spot) (k : List Frame) (t : Token) → Told t (body_step true spot k t) (body_step false spot k t)
+told_body : (spot : ExprState) (k : List Frame) (t : Token) → Told t (body_step true spot k t) (body_step false spot k t)
 unfolding body_step
 told_body (Want l) k t = told_want l k t
 told_body (WantRight op left l) k t = told_prim (Right op left) l k t
@@ -123,12 +123,12 @@ told_body (After ands ors) k t = told_after ands ors k t
 told_body (WantSet e l) k t = told_want_set e l k t
 told_body (Cases side bs l) k t = told_after_branch side bs l k t
 
-moves : (items : List Item) (kind : Kind) (name : List ℕ) (m : Move) → (s : State) × (moved items kind name (Ok m) ≡ Ok s)
+moves : (items : List Item) (kind : Kind) (name : List ℕ) (m : BodyMove) → (s : ReaderState) × (moved items kind name (Ok m) ≡ Ok s)
 unfolding moved
 moves items kind name (On spot k) = (state items (Body kind name spot k), refl)
 moves items kind name (Ended e) = (state (items ++ item.Def kind name e ∷ []) Between, refl)
 
-told_moved : (items : List Item) (kind : Kind) (name : List ℕ) (t : Token) (r loose : Result Move HclWhy) → Told t r loose → Told t (moved items kind name r) (moved items kind name loose)
+told_moved : (items : List Item) (kind : Kind) (name : List ℕ) (t : Token) (r loose : Result BodyMove HclWhy) → Told t r loose → Told t (moved items kind name r) (moved items kind name loose)
 unfolding moved
 told_moved items kind name t (Ok (On spot k)) loose h = ap (moved items kind name) h
 told_moved items kind name t (Ok (Ended e)) loose h = ap (moved items kind name) h
@@ -143,7 +143,7 @@ told_moved items kind name t (Err whys.DepthOver64) loose h =
 told_moved items kind name t (Err whys.NamesOver256) loose h = absurd h
 told_moved items kind name t (Err whys.Memory) loose h = absurd h
 
-told_place : (items : List Item) (place : Place) (t : Token) → Told t (place_step true items place t) (place_step false items place t)
+told_place : (items : List Item) (place : ItemState) (t : Token) → Told t (place_step true items place t) (place_step false items place t)
 unfolding place_step
 told_place items Between KeyQuote = refl
 told_place items Between (KeySig kind) = refl
@@ -156,5 +156,5 @@ told_place items (WantAssign kind name) Assign = refl
 told_place items (Body kind name spot k) t = told_moved items kind name t (body_step true spot k t) (body_step false spot k t) (told_body spot k t)
 told_place items place t = refused _ t
 
-pub told_step : (s : State) (t : Token) → Told t (step true s t) (step false s t)
+pub told_step : (s : ReaderState) (t : Token) → Told t (step true s t) (step false s t)
 told_step s t = told_place s.items s.place t

@@ -32,23 +32,23 @@ abbrev pub Viable : List Token → Type 0
 Viable front = (tail : List Token) × (f : File) × IsFile (length tail) (front ++ tail) f
 
 -- these tokens begin a file and keep every limit
-abbrev pub Fits : List Token → Type 0
-Fits front = Viable front × NamesFit front
+abbrev pub IsViableWithin : List Token → Type 0
+IsViableWithin front = Viable front × NamesFit front
 
 -- some file of the grammar goes on with this token, whether or not the token keeps the limits
-abbrev pub Stands : List Token → Token → Type 0
-Stands front t = (tail : List Token) × (f : File) × IsFile (suc (length tail)) (front ++ t ∷ tail) f
+abbrev pub GoesOnWith : List Token → Token → Type 0
+GoesOnWith front t = (tail : List Token) × (f : File) × IsFile (suc (length tail)) (front ++ t ∷ tail) f
 
 -- why a token that no file can have is refused; the first reason that holds
 abbrev pub Reason : List Token → Token → HclWhy → Type 0
 Reason front t whys.BadByte = t ≡ Bad
-Reason front t whys.Syntax = (t ≢ Bad) × (Stands front t → ⊥)
-Reason front t whys.NumberTooWide = (t ≡ Wide) × Stands front t
-Reason front t whys.DepthOver64 = (t ≢ Wide) × Stands front t × (Viable (front ++ t ∷ []) → ⊥)
+Reason front t whys.Syntax = (t ≢ Bad) × (GoesOnWith front t → ⊥)
+Reason front t whys.NumberTooWide = (t ≡ Wide) × GoesOnWith front t
+Reason front t whys.DepthOver64 = (t ≢ Wide) × GoesOnWith front t × (Viable (front ++ t ∷ []) → ⊥)
 Reason front t whys.NamesOver256 = Viable (front ++ t ∷ []) × (NamesFit (front ++ t ∷ []) → ⊥)
 Reason front t whys.Memory = ⊥
 
 -- what stands in front is fine, and what comes first behind it, a token or the end, is at fault
 abbrev pub FaultAt : List Token → List Token → HclWhy → Type 0
-FaultAt front [] why = Fits front × ((f : File) → IsFile 0 front f → ⊥) × (why ≡ whys.Syntax)
-FaultAt front (t ∷ rest) why = Fits front × (Fits (front ++ t ∷ []) → ⊥) × Reason front t why
+FaultAt front [] why = IsViableWithin front × ((f : File) → IsFile 0 front f → ⊥) × (why ≡ whys.Syntax)
+FaultAt front (t ∷ rest) why = IsViableWithin front × (IsViableWithin (front ++ t ∷ []) → ⊥) × Reason front t why

@@ -12,17 +12,17 @@ use Rattle.hcl_read.specs.declared.fault.HclWhy.TheVariants as whys
 use Rattle.hcl_read.specs.declared.tokens.Token.{Token}
 use Rattle.hcl_read.specs.declared.tokens.Token.TheVariants.{KeyQuote, KeySig, KeyDef, KeyIn, Ident, Number, Wide, Quoted, Assign, Semicolon, OrOr, AndAnd, Bang, Compare, OpenParen, CloseParen, OpenBrace, CloseBrace, OpenBracket, CloseBracket, Comma, Colon, Bad}
 use Rattle.hcl_read.specs.declared.frames.Level.{Level}
-use Rattle.hcl_read.specs.declared.frames.Side.{Side}
-use Rattle.hcl_read.specs.declared.frames.Side.TheVariants.{Left, Right}
+use Rattle.hcl_read.specs.declared.frames.OperandSide.{OperandSide}
+use Rattle.hcl_read.specs.declared.frames.OperandSide.TheVariants.{Left, Right}
 use Rattle.hcl_read.specs.declared.frames.Frame.{Frame}
 use Rattle.hcl_read.specs.declared.frames.Frame.TheVariants.{Paren, Set, Guard, Value}
-use Rattle.hcl_read.specs.declared.frames.Spot.{Spot}
-use Rattle.hcl_read.specs.declared.frames.Spot.TheVariants.{Want, WantRight, AfterPrim, After, WantSet, Cases}
-use Rattle.hcl_read.specs.declared.state.Move.{Move}
-use Rattle.hcl_read.specs.declared.state.Move.TheVariants.{On, Ended}
-use Rattle.hcl_read.specs.declared.state.Place.{Place}
-use Rattle.hcl_read.specs.declared.state.Place.TheVariants.{Between, WantQuote, WantSignal, WantSignalText, WantName, WantAssign, Body}
-use Rattle.hcl_read.specs.declared.state.State.{State}
+use Rattle.hcl_read.specs.declared.frames.ExprState.{ExprState}
+use Rattle.hcl_read.specs.declared.frames.ExprState.TheVariants.{Want, WantRight, AfterPrim, After, WantSet, Cases}
+use Rattle.hcl_read.specs.declared.state.BodyMove.{BodyMove}
+use Rattle.hcl_read.specs.declared.state.BodyMove.TheVariants.{On, Ended}
+use Rattle.hcl_read.specs.declared.state.ItemState.{ItemState}
+use Rattle.hcl_read.specs.declared.state.ItemState.TheVariants.{Between, WantQuote, WantSignal, WantSignalText, WantName, WantAssign, Body}
+use Rattle.hcl_read.specs.declared.state.ReaderState.{ReaderState}
 use Rattle.hcl_read.specs.Grammar.{or_of, and_of, branch}
 use Rattle.hcl_read.specs.Depth.{depth}
 use Rattle.hcl_read.specs.Fault.{noted}
@@ -43,11 +43,11 @@ negate zero e = e
 negate (suc n) e = negate n (expr.Not e)
 
 -- a comparison, or an operand that stands for one, has been read
-unfoldable pub related : Level → Expr → Spot
+unfoldable pub related : Level → Expr → ExprState
 related l e = After (l.ands ++ negate l.nots e ∷ []) l.ors
 
 -- an operand of a comparison has been read
-unfoldable pub put : Side → Level → Expr → Spot
+unfoldable pub put : OperandSide → Level → Expr → ExprState
 put Left l e = AfterPrim e l
 put (Right op left) l e = related l (expr.Cmp op left e)
 
@@ -57,11 +57,11 @@ refusal Bad = whys.BadByte
 refusal _ = whys.Syntax
 
 -- a bracket or `!` opens, unless 64 are open
-unfoldable pub opened : Bool → Level → List Frame → Move → Result Move HclWhy
+unfoldable pub opened : Bool → Level → List Frame → BodyMove → Result BodyMove HclWhy
 opened strict l k move = if strict && nat_le 64 (depth l k) then Err whys.DepthOver64 else Ok move
 
 -- an operand of a comparison begins
-unfoldable pub prim : Bool → Side → Level → List Frame → Token → Result Move HclWhy
+unfoldable pub prim : Bool → OperandSide → Level → List Frame → Token → Result BodyMove HclWhy
 prim strict side l k (Number n) = Ok (On (put side l (expr.Num n)) k)
 prim strict side l k Wide = if strict then Err whys.NumberTooWide else Ok (On (put side l (expr.Num 0)) k)
 prim strict side l k (Ident text) = Ok (On (put side l (expr.Name text)) k)
@@ -70,12 +70,12 @@ prim strict side l k OpenBracket = opened strict l k (On (Want start_level) (Gua
 prim strict side l k t = Err (refusal t)
 
 -- an operand of `&&` begins
-unfoldable pub want : Bool → Level → List Frame → Token → Result Move HclWhy
+unfoldable pub want : Bool → Level → List Frame → Token → Result BodyMove HclWhy
 want strict l k Bang = opened strict l k (On (Want (once_more_negated l)) k)
 want strict l k t = prim strict Left l k t
 
 -- an expression has ended
-unfoldable pub close : Expr → List Frame → Token → Result Move HclWhy
+unfoldable pub close : Expr → List Frame → Token → Result BodyMove HclWhy
 close e [] Semicolon = Ok (Ended e)
 close e (Paren side l ∷ k) CloseParen = Ok (On (put side l e) k)
 close e (Set left es l ∷ k) Comma = Ok (On (Want start_level) (Set left (es ++ e ∷ []) l ∷ k))
@@ -85,29 +85,29 @@ close e (Value side bs guard l ∷ k) Semicolon = Ok (On (Cases side (bs ++ bran
 close e k t = Err (refusal t)
 
 -- an operand of `&&` has ended
-unfoldable pub after : List Expr → List Expr → List Frame → Token → Result Move HclWhy
+unfoldable pub after : List Expr → List Expr → List Frame → Token → Result BodyMove HclWhy
 after ands ors k AndAnd = Ok (On (Want (level 0 ands ors)) k)
 after ands ors k OrOr = Ok (On (Want (level 0 [] (ors ++ and_of ands ∷ []))) k)
 after ands ors k t = close (or_of (ors ++ and_of ands ∷ [])) k t
 
 -- a left operand of a comparison has ended
-unfoldable pub after_prim : Expr → Level → List Frame → Token → Result Move HclWhy
+unfoldable pub after_prim : Expr → Level → List Frame → Token → Result BodyMove HclWhy
 after_prim e l k (Compare op) = Ok (On (WantRight op e l) k)
 after_prim e l k KeyIn = Ok (On (WantSet e l) k)
 after_prim e l k t = after (l.ands ++ negate l.nots e ∷ []) l.ors k t
 
 -- `in` has been read
-unfoldable pub want_set : Bool → Expr → Level → List Frame → Token → Result Move HclWhy
+unfoldable pub want_set : Bool → Expr → Level → List Frame → Token → Result BodyMove HclWhy
 want_set strict e l k OpenBrace = opened strict l k (On (Want start_level) (Set e [] l ∷ k))
 want_set strict e l k t = Err (refusal t)
 
 -- a branch has ended
-unfoldable pub after_branch : Bool → Side → List Branch → Level → List Frame → Token → Result Move HclWhy
+unfoldable pub after_branch : Bool → OperandSide → List Branch → Level → List Frame → Token → Result BodyMove HclWhy
 after_branch strict side bs l k CloseBracket = Ok (On (put side l (expr.Case bs)) k)
 after_branch strict side bs l k t = want strict start_level (Guard side bs l ∷ k) t
 
 -- a token of a definition's body
-unfoldable pub body_step : Bool → Spot → List Frame → Token → Result Move HclWhy
+unfoldable pub body_step : Bool → ExprState → List Frame → Token → Result BodyMove HclWhy
 body_step strict (Want l) k t = want strict l k t
 body_step strict (WantRight op left l) k t = prim strict (Right op left) l k t
 body_step strict (AfterPrim e l) k t = after_prim e l k t
@@ -115,20 +115,20 @@ body_step strict (After ands ors) k t = after ands ors k t
 body_step strict (WantSet e l) k t = want_set strict e l k t
 body_step strict (Cases side bs l) k t = after_branch strict side bs l k t
 
-abbrev pub state : List Item → Place → State
+abbrev pub state : List Item → ItemState → ReaderState
 state items place = record { items = items; place = place }
 
-abbrev pub start : State
+abbrev pub start : ReaderState
 start = state [] Between
 
 -- the state behind a token of a body
-unfoldable pub moved : List Item → Kind → List ℕ → Result Move HclWhy → Result State HclWhy
+unfoldable pub moved : List Item → Kind → List ℕ → Result BodyMove HclWhy → Result ReaderState HclWhy
 moved items kind name (Ok (On spot k)) = Ok (state items (Body kind name spot k))
 moved items kind name (Ok (Ended e)) = Ok (state (items ++ item.Def kind name e ∷ []) Between)
 moved items kind name (Err why) = Err why
 
 -- a token
-unfoldable pub place_step : Bool → List Item → Place → Token → Result State HclWhy
+unfoldable pub place_step : Bool → List Item → ItemState → Token → Result ReaderState HclWhy
 place_step strict items Between KeyQuote = Ok (state items WantQuote)
 place_step strict items Between (KeySig kind) = Ok (state items (WantSignal kind))
 place_step strict items Between (KeyDef kind) = Ok (state items (WantName kind))
@@ -140,7 +140,7 @@ place_step strict items (WantAssign kind name) Assign = Ok (state items (Body ki
 place_step strict items (Body kind name spot k) t = moved items kind name (body_step strict spot k t)
 place_step strict items place t = Err (refusal t)
 
-abbrev pub step : Bool → State → Token → Result State HclWhy
+abbrev pub step : Bool → ReaderState → Token → Result ReaderState HclWhy
 step strict s t = place_step strict s.items s.place t
 
 -- The state behind some tokens; the limits hold at each but the last `free` ones.
@@ -148,12 +148,12 @@ abbrev pub on : {A B : Type 0} → Result A HclWhy → (A → Result B HclWhy) �
 on (Ok x) f = f x
 on (Err why) f = Err why
 
-unfoldable pub run : ℕ → State → List Token → Result State HclWhy
+unfoldable pub run : ℕ → ReaderState → List Token → Result ReaderState HclWhy
 run free s [] = Ok s
 run free s (t ∷ ts) = on (step (nat_lt free (suc (length ts))) s t) (λ next. run free next ts)
 
 -- The file that has been read at the end, or the reason.
-unfoldable pub ended : List Item → Place → Result File HclWhy
+unfoldable pub ended : List Item → ItemState → Result File HclWhy
 ended items Between = Ok (record { items = items })
 ended items place = Err whys.Syntax
 
@@ -166,10 +166,10 @@ abbrev pub at_end : Result File HclWhy → Outcome
 at_end (Ok f) = Ok f
 at_end (Err why) = Err ([], why)
 
-abbrev pub outcome_at : List (List ℕ) → List Token → Result State HclWhy → (State → Outcome) → Outcome
+abbrev pub outcome_at : List (List ℕ) → List Token → Result ReaderState HclWhy → (ReaderState → Outcome) → Outcome
 outcome_at names ts (Err why) behind = Err (ts, why)
 outcome_at names ts (Ok next) behind = if nat_le (length names) 256 then behind next else Err (ts, whys.NamesOver256)
 
-unfoldable pub outcome : List (List ℕ) → State → List Token → Outcome
+unfoldable pub outcome : List (List ℕ) → ReaderState → List Token → Outcome
 outcome names s [] = at_end (ended s.items s.place)
 outcome names s (t ∷ ts) = outcome_at (noted names t) (t ∷ ts) (step true s t) (λ next. outcome (noted names t) next ts)

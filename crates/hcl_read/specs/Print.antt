@@ -14,24 +14,24 @@ use Rattle.hcl_read.specs.declared.tree.Branch.{Branch}
 
 -- The text of an expression, and how tightly it holds together: 0 an `||` list, 1 an `&&` list, 2 a negation, 3 a comparison or
 -- `in`, 4 a number, a name or a case list.
-pub record Shown : Type 0 where
+pub record ShownTerm : Type 0 where
   pub rank : ℕ
   pub text : List ℕ
 
-abbrev pub shown_as : ℕ → List ℕ → Shown
+abbrev pub shown_as : ℕ → List ℕ → ShownTerm
 shown_as rank text = record { rank = rank; text = text }
 
 -- a place asks for the least rank that may stand there without parentheses
-unfoldable pub within : ℕ → Shown → List ℕ
+unfoldable pub within : ℕ → ShownTerm → List ℕ
 within least e = if nat_lt e.rank least then codes "(" ++ e.text ++ codes ")" else e.text
 
 -- further members of a list, each with the separator in front
-unfoldable pub further : List ℕ → ℕ → List Shown → List ℕ
+unfoldable pub further : List ℕ → ℕ → List ShownTerm → List ℕ
 further separator least [] = []
 further separator least (e ∷ es) = separator ++ within least e ++ further separator least es
 
 -- the members of a list with the separator between them
-unfoldable pub joined : List ℕ → ℕ → List Shown → List ℕ
+unfoldable pub joined : List ℕ → ℕ → List ShownTerm → List ℕ
 joined separator least [] = []
 joined separator least (e ∷ es) = within least e ++ further separator least es
 
@@ -53,7 +53,7 @@ branches [] = []
 branches (b ∷ bs) = b ++ branches bs
 
 -- one layer of an expression, with what is shown of each part in its place
-abbrev pub layer : Expr-F Shown (List ℕ) → Shown
+abbrev pub layer : Expr-F ShownTerm (List ℕ) → ShownTerm
 layer (Expr-F.Num n) = shown_as 4 (signed_decimal n)
 layer (Expr-F.Name name) = shown_as 4 name
 layer (Expr-F.Not e) = shown_as 2 (codes "!" ++ within 2 e)
@@ -63,14 +63,14 @@ layer (Expr-F.Cmp op left right) = shown_as 3 (within 4 left ++ operator op ++ w
 layer (Expr-F.In left es) = shown_as 3 (within 4 left ++ codes " in { " ++ joined (codes ", ") 0 es ++ codes " }")
 layer (Expr-F.Case bs) = shown_as 4 (codes "[ " ++ branches bs ++ codes "]")
 
-abbrev pub branch_layer : Branch-F Shown (List ℕ) → List ℕ
+abbrev pub branch_layer : Branch-F ShownTerm (List ℕ) → List ℕ
 branch_layer b = b.guard.text ++ codes " : " ++ b.value.text ++ codes "; "
 
-abbrev pub shown : Expr → Shown
-shown = fold-Expr Shown (List ℕ) layer branch_layer
+abbrev pub shown : Expr → ShownTerm
+shown = fold-Expr ShownTerm (List ℕ) layer branch_layer
 
 abbrev pub branch_text : Branch → List ℕ
-branch_text = fold-Branch Shown (List ℕ) layer branch_layer
+branch_text = fold-Branch ShownTerm (List ℕ) layer branch_layer
 
 abbrev pub signal_word : Kind → List ℕ
 signal_word Word = codes "wordsig "

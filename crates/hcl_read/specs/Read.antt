@@ -34,10 +34,10 @@ pub record IsFault (text : List ℕ) (fault : HclFault) : Type 0 where
   pub column : fault.col ≡ column_behind before
 
 -- a fault is told, or want of memory
-abbrev pub Tells : List ℕ → HclFault → Type 0
-Tells text fault = ((fault.why ≡ whys.Memory) × (fault.line ≡ 0) × (fault.col ≡ 0)) ⊎ IsFault text fault
+abbrev pub IsReadFault : List ℕ → HclFault → Type 0
+IsReadFault text fault = ((fault.why ≡ whys.Memory) × (fault.line ≡ 0) × (fault.col ≡ 0)) ⊎ IsFault text fault
 
 -- an answer is this file, unless memory is wanted
-abbrev pub Gives : Result File HclFault → File → Type 0
-Gives (Ok file) wanted = file ≡ wanted
-Gives (Err fault) wanted = fault.why ≡ whys.Memory
+abbrev pub IsReadAnswer : Result File HclFault → File → Type 0
+IsReadAnswer (Ok file) wanted = file ≡ wanted
+IsReadAnswer (Err fault) wanted = fault.why ≡ whys.Memory

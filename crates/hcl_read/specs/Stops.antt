@@ -3,26 +3,26 @@ use Rattle.std.specs.Prelude.{◌≡◌, ◌⊎◌, ℕ, true, nat_le, List, [],
 use Rattle.hcl_read.specs.declared.fault.HclWhy.{HclWhy}
 use Rattle.hcl_read.specs.declared.fault.HclWhy.TheVariants as whys
 use Rattle.hcl_read.specs.declared.tokens.Token.{Token}
-use Rattle.hcl_read.specs.declared.state.State.{State}
-use Rattle.hcl_read.specs.declared.reading.Stop.{Stop}
+use Rattle.hcl_read.specs.declared.state.ReaderState.{ReaderState}
+use Rattle.hcl_read.specs.declared.reading.ReadStop.{ReadStop}
 use Rattle.hcl_read.specs.Fault.{noted}
 use Rattle.hcl_read.specs.Machine.{Outcome, outcome, outcome_at, start, step}
 use Rattle.hcl_read.specs.Read.{bytes_from, kinds}
 use Rattle.hcl_read.specs.Tokens.{items, tokens}
 
 -- a token is taken: the next state and the next names
-pub record Takes (names : List (List ℕ)) (state : State) (token : Token) (names_next : List (List ℕ)) (next : State) : Type 0 where
+pub record TakesToken (names : List (List ℕ)) (state : ReaderState) (token : Token) (names_next : List (List ℕ)) (next : ReaderState) : Type 0 where
   pub stepped : step true state token ≡ Ok next
   pub known : names_next ≡ noted names token
   pub few : nat_le (length names_next) 256 ≡ true
 
 -- a token is refused, whatever follows
-abbrev pub Refused : List (List ℕ) → State → Token → HclWhy → Type 0
+abbrev pub Refused : List (List ℕ) → ReaderState → Token → HclWhy → Type 0
 Refused names state token why =
-    (why ≡ whys.Memory) ⊎ ((ts : List Token) (behind : State → Outcome) → outcome_at (noted names token) ts (step true state token) behind ≡ Err (ts, why))
+    (why ≡ whys.Memory) ⊎ ((ts : List Token) (behind : ReaderState → Outcome) → outcome_at (noted names token) ts (step true state token) behind ≡ Err (ts, why))
 
 -- the reader stops at a token or at the end, behind so many bytes
-pub record Halts (text : List ℕ) (stop : Stop) : Type 0 where
+pub record HaltsAt (text : List ℕ) (stop : ReadStop) : Type 0 where
   pub front : List (Token × List ℕ)
   pub rest : List (Token × List ℕ)
   pub whole : items text ≡ front ++ rest
@@ -31,5 +31,5 @@ pub record Halts (text : List ℕ) (stop : Stop) : Type 0 where
   pub place : text ≡ before ++ bytes_from rest
   pub at : length before ≡ stop.at
 
-abbrev pub Stopped : List ℕ → Stop → Type 0
-Stopped text stop = (stop.why ≡ whys.Memory) ⊎ Halts text stop
+abbrev pub Stopped : List ℕ → ReadStop → Type 0
+Stopped text stop = (stop.why ≡ whys.Memory) ⊎ HaltsAt text stop

@@ -16,7 +16,7 @@ pub struct Level {
 
 /// Where an operand of a comparison stands: left, or right of an operator and its left operand.
 #[derive(Drop)]
-pub enum Side {
+pub enum OperandSide {
     Left,
     Right(CmpOp, Boxed<Expr>),
 }
@@ -25,13 +25,13 @@ pub enum Side {
 #[derive(Drop)]
 pub enum Frame {
     /// `(`
-    Paren(Side, Level),
+    Paren(OperandSide, Level),
     /// `{` of a set, with the left side of its `in` and the members read.
     Set(Boxed<Expr>, Items<Expr>, Level),
     /// `[`, in a guard, with the branches read.
-    Guard(Side, Items<Branch>, Level),
+    Guard(OperandSide, Items<Branch>, Level),
     /// `[`, in the value behind a guard.
-    Value(Side, Items<Branch>, Boxed<Expr>, Level),
+    Value(OperandSide, Items<Branch>, Boxed<Expr>, Level),
 }
 
 impl Frame {
@@ -50,7 +50,7 @@ impl Frame {
 
 /// What comes next in an expression.
 #[derive(Drop)]
-pub enum Spot {
+pub enum ExprState {
     /// An operand of `&&`.
     Want(Level),
     /// The right operand of a comparison.
@@ -62,5 +62,5 @@ pub enum Spot {
     /// `{`
     WantSet(Boxed<Expr>, Level),
     /// A further branch or `]`.
-    Cases(Side, Items<Branch>, Level),
+    Cases(OperandSide, Items<Branch>, Level),
 }

@@ -17,13 +17,13 @@ mod tokens;
 mod tree;
 
 pub use fault::{HclFault, HclWhy};
-pub use frames::{Frame, Level, Side, Spot};
+pub use frames::{ExprState, Frame, Level, OperandSide};
 pub use laws::{law_of_faults, law_of_files, law_of_tokens};
 pub use printer::print;
 pub use reading::read;
 pub use scan::{after_gap, token};
 pub use stack::Stack;
-pub use state::{Place, State, ended, start, step};
+pub use state::{ItemState, ReaderState, ended, start, step};
 pub use text::Text;
 pub use tokens::Token;
 pub use tree::{Branch, CmpOp, Expr, File, Item, Kind};

@@ -3,14 +3,14 @@ ghost use Rattle.std.specs.Prelude.{◌≡◌, ◌≤◌, ℕ, List, [], length,
 ghost use Rattle.y86_base.specs.Cursor.{column_behind, line_behind};
 ghost use Rattle.hcl_read.specs.declared.tree.File.{File};
 ghost use Rattle.hcl_read.specs.Machine as machine;
-ghost use Rattle.hcl_read.specs.Read.{Gives, ReadsAs, Tells};
+ghost use Rattle.hcl_read.specs.Read.{IsReadAnswer, ReadsAs, IsReadFault};
 ghost use Rattle.hcl_read.specs.Tokens as tokens;
-ghost use Rattle.hcl_read.specs.Stops.{Refused, Stopped, Takes};
+ghost use Rattle.hcl_read.specs.Stops.{Refused, Stopped, TakesToken};
 
 use crate::fault::{HclFault, HclWhy};
 use crate::names::Names;
 use crate::scan::{after_gap, token};
-use crate::state::{State, ended, start, step};
+use crate::state::{ReaderState, ended, start, step};
 use crate::tokens::Token;
 use crate::tree::File;
 use std::alloc::Global;
@@ -18,16 +18,21 @@ use y86_base::Cursor;
 
 /// Where the reader stops: behind so many bytes.
 #[derive(Drop)]
-pub struct Stop {
+pub struct ReadStop {
     pub at: usize,
     pub why: HclWhy,
 }
 
 /// Takes a token, or refuses it.
 #[tactic(auto, using(crate::proofs::Readings::refused))]
-fn take_token(alloc: Global, state: State, names: &mut Names, token: Token) -> Result<State, HclWhy>
+fn take_token(
+    alloc: Global,
+    state: ReaderState,
+    names: &mut Names,
+    token: Token,
+) -> Result<ReaderState, HclWhy>
     requires { length names.old ≤ 256 }
-    ensures taken { IfOk result (λ next. Takes names.old state token names.new next) }
+    ensures taken { IfOk result (λ next. TakesToken names.old state token names.new next) }
     ensures refused { IfErr result (λ why. Refused names.old state token why) }
 {
     let fits = match names.note(alloc, &token) {
@@ -47,7 +52,7 @@ fn take_token(alloc: Global, state: State, names: &mut Names, token: Token) -> R
 }
 
 /// Reads the tokens of a text, one after another, and stops at the first that no file can have.
-fn read_tokens(alloc: Global, bytes: &[u8]) -> Result<File, Stop>
+fn read_tokens(alloc: Global, bytes: &[u8]) -> Result<File, ReadStop>
     ensures file { IfOk result (λ file. machine.outcome [] machine.start (tokens.tokens bytes.now) ≡ Ok file) }
     ensures stop { IfErr result (λ stop. Stopped bytes.now stop) }
     ensures within { IfErr result (λ stop. stop.at ≤ length bytes.now) }
@@ -60,18 +65,18 @@ fn read_tokens(alloc: Global, bytes: &[u8]) -> Result<File, Stop>
         match token(alloc, rest) {
             Err(_) => {
                 let why = HclWhy::Memory;
-                return Err(Stop { at, why });
+                return Err(ReadStop { at, why });
             }
             Ok(None) => match ended(state) {
                 Ok(file) => return Ok(file),
-                Err(why) => return Err(Stop { at, why }),
+                Err(why) => return Err(ReadStop { at, why }),
             },
             Ok(Some((token, behind))) => match take_token(alloc, state, &mut names, token) {
                 Ok(next) => {
                     state = next;
                     rest = after_gap(behind);
                 }
-                Err(why) => return Err(Stop { at, why }),
+                Err(why) => return Err(ReadStop { at, why }),
             },
         }
     }
@@ -89,12 +94,12 @@ fn place(before: &[u8]) -> (u64, u64)
 
 /// The fault at a stop.
 #[tactic(auto, using(crate::proofs::Readings::told))]
-fn fault(bytes: &[u8], stop: Stop) -> HclFault
+fn fault(bytes: &[u8], stop: ReadStop) -> HclFault
     requires stopped { Stopped bytes.now stop }
     requires within { stop.at ≤ length bytes.now }
-    ensures { Tells bytes.now result }
+    ensures { IsReadFault bytes.now result }
 {
-    let Stop { at, why } = stop;
+    let ReadStop { at, why } = stop;
     if why == HclWhy::Memory {
         return HclFault {
             line: 0,
@@ -111,8 +116,8 @@ fn fault(bytes: &[u8], stop: Stop) -> HclFault
 /// names.
 pub fn read(alloc: Global, bytes: &[u8]) -> Result<File, HclFault>
     ensures found { IfOk result (λ file. ReadsAs bytes.now file) }
-    ensures only { (file : File) → ReadsAs bytes.now file → Gives result file }
-    ensures fault { IfErr result (λ fault. Tells bytes.now fault) }
+    ensures only { (file : File) → ReadsAs bytes.now file → IsReadAnswer result file }
+    ensures fault { IfErr result (λ fault. IsReadFault bytes.now fault) }
 {
     match read_tokens(alloc, bytes) {
         Ok(file) => Ok(file),

@@ -2,10 +2,10 @@
 ghost use Rattle.std.specs.Prelude.{◌≡◌, true, Ok, Err};
 ghost use Rattle.hcl_read.specs.Machine as machine;
 ghost use Rattle.hcl_read.specs.Steps.{Steps};
-ghost use Rattle.hcl_read.specs.declared.state.Place.TheVariants.{Between, WantQuote, WantSignal, WantSignalText, WantName, WantAssign, Body};
+ghost use Rattle.hcl_read.specs.declared.state.ItemState.TheVariants.{Between, WantQuote, WantSignal, WantSignalText, WantName, WantAssign, Body};
 
 use crate::fault::HclWhy;
-use crate::frames::Spot;
+use crate::frames::ExprState;
 use crate::stack::Stack;
 use crate::steps::{body_step, refusal, start_level, with_last};
 use crate::text::Text;
@@ -16,14 +16,14 @@ use y86_base::Items;
 
 /// Where a token of a body leads: on in the body, or to its end.
 #[derive(Drop)]
-pub enum Move {
-    On(Spot, Stack),
+pub enum BodyMove {
+    On(ExprState, Stack),
     Ended(Expr),
 }
 
 /// What comes next in a file.
 #[derive(Drop)]
-pub enum Place {
+pub enum ItemState {
     /// An item or the end.
     Between,
     /// The text behind `quote`.
@@ -37,74 +37,79 @@ pub enum Place {
     /// `=`
     WantAssign(Kind, Text),
     /// A part of a definition's body, inside the open brackets of a stack.
-    Body(Kind, Text, Spot, Stack),
+    Body(Kind, Text, ExprState, Stack),
 }
 
 /// The items that have been read, and what comes next.
 #[derive(Drop)]
-pub struct State {
+pub struct ReaderState {
     pub items: Items<Item>,
-    pub place: Place,
+    pub place: ItemState,
 }
 
 /// The state behind a place.
-fn at(items: Items<Item>, place: Place) -> State
+fn at(items: Items<Item>, place: ItemState) -> ReaderState
     ensures { result ≡ machine.state items place }
 {
-    State { items, place }
+    ReaderState { items, place }
 }
 
 /// Before the first token.
-pub fn start(alloc: Global) -> State
+pub fn start(alloc: Global) -> ReaderState
     ensures { result ≡ machine.start }
 {
-    at(Items::of(Vec::new(alloc)), Place::Between)
+    at(Items::of(Vec::new(alloc)), ItemState::Between)
 }
 
 /// A token where an item begins.
 #[tactic(auto, unfolding(crate::specs::Machine::place_step))]
-fn begin_item(items: Items<Item>, token: Token) -> Result<State, HclWhy>
+fn begin_item(items: Items<Item>, token: Token) -> Result<ReaderState, HclWhy>
     ensures { Steps result (machine.place_step true items Between token) }
 {
     match token {
-        Token::KeyQuote => Ok(at(items, Place::WantQuote)),
-        Token::KeySig(kind) => Ok(at(items, Place::WantSignal(kind))),
-        Token::KeyDef(kind) => Ok(at(items, Place::WantName(kind))),
+        Token::KeyQuote => Ok(at(items, ItemState::WantQuote)),
+        Token::KeySig(kind) => Ok(at(items, ItemState::WantSignal(kind))),
+        Token::KeyDef(kind) => Ok(at(items, ItemState::WantName(kind))),
         other => Err(refusal(other)),
     }
 }
 
 /// A token behind `quote`.
 #[tactic(auto, unfolding(crate::specs::Machine::place_step))]
-fn quote_text(items: Items<Item>, token: Token) -> Result<State, HclWhy>
+fn quote_text(items: Items<Item>, token: Token) -> Result<ReaderState, HclWhy>
     ensures { Steps result (machine.place_step true items WantQuote token) }
 {
     match token {
-        Token::Quoted(text) => Ok(at(with_last(items, Item::Quote(text))?, Place::Between)),
+        Token::Quoted(text) => Ok(at(with_last(items, Item::Quote(text))?, ItemState::Between)),
         other => Err(refusal(other)),
     }
 }
 
 /// A token where a declaration has its name.
 #[tactic(auto, unfolding(crate::specs::Machine::place_step))]
-fn signal_name(items: Items<Item>, kind: Kind, token: Token) -> Result<State, HclWhy>
+fn signal_name(items: Items<Item>, kind: Kind, token: Token) -> Result<ReaderState, HclWhy>
     ensures { Steps result (machine.place_step true items (WantSignal kind) token) }
 {
     match token {
-        Token::Ident(name) => Ok(at(items, Place::WantSignalText(kind, name))),
+        Token::Ident(name) => Ok(at(items, ItemState::WantSignalText(kind, name))),
         other => Err(refusal(other)),
     }
 }
 
 /// A token where a declaration has its text.
 #[tactic(auto, unfolding(crate::specs::Machine::place_step))]
-fn signal_text(items: Items<Item>, kind: Kind, name: Text, token: Token) -> Result<State, HclWhy>
+fn signal_text(
+    items: Items<Item>,
+    kind: Kind,
+    name: Text,
+    token: Token,
+) -> Result<ReaderState, HclWhy>
     ensures { Steps result (machine.place_step true items (WantSignalText kind name) token) }
 {
     match token {
         Token::Quoted(text) => {
             let declaration = Item::Decl { kind, name, text };
-            Ok(at(with_last(items, declaration)?, Place::Between))
+            Ok(at(with_last(items, declaration)?, ItemState::Between))
         }
         other => Err(refusal(other)),
     }
@@ -112,11 +117,11 @@ fn signal_text(items: Items<Item>, kind: Kind, name: Text, token: Token) -> Resu
 
 /// A token where a definition has its name.
 #[tactic(auto, unfolding(crate::specs::Machine::place_step))]
-fn defined_name(items: Items<Item>, kind: Kind, token: Token) -> Result<State, HclWhy>
+fn defined_name(items: Items<Item>, kind: Kind, token: Token) -> Result<ReaderState, HclWhy>
     ensures { Steps result (machine.place_step true items (WantName kind) token) }
 {
     match token {
-        Token::Ident(name) => Ok(at(items, Place::WantAssign(kind, name))),
+        Token::Ident(name) => Ok(at(items, ItemState::WantAssign(kind, name))),
         other => Err(refusal(other)),
     }
 }
@@ -129,13 +134,13 @@ fn assign(
     kind: Kind,
     name: Text,
     token: Token,
-) -> Result<State, HclWhy>
+) -> Result<ReaderState, HclWhy>
     ensures { Steps result (machine.place_step true items (WantAssign kind name) token) }
 {
     match token {
         Token::Assign => {
-            let spot = Spot::Want(start_level(alloc));
-            Ok(at(items, Place::Body(kind, name, spot, Stack::new(alloc))))
+            let spot = ExprState::Want(start_level(alloc));
+            Ok(at(items, ItemState::Body(kind, name, spot, Stack::new(alloc))))
         }
         other => Err(refusal(other)),
     }
@@ -143,14 +148,14 @@ fn assign(
 
 /// Behind a token of a body.
 #[tactic(auto, unfolding(crate::specs::Machine::moved))]
-fn moved(items: Items<Item>, kind: Kind, name: Text, to: Move) -> Result<State, HclWhy>
+fn moved(items: Items<Item>, kind: Kind, name: Text, to: BodyMove) -> Result<ReaderState, HclWhy>
     ensures { Steps result (machine.moved items kind name (Ok to)) }
 {
     match to {
-        Move::On(spot, stack) => Ok(at(items, Place::Body(kind, name, spot, stack))),
-        Move::Ended(body) => {
+        BodyMove::On(spot, stack) => Ok(at(items, ItemState::Body(kind, name, spot, stack))),
+        BodyMove::Ended(body) => {
             let definition = Item::Def { kind, name, body };
-            Ok(at(with_last(items, definition)?, Place::Between))
+            Ok(at(with_last(items, definition)?, ItemState::Between))
         }
     }
 }
@@ -162,10 +167,10 @@ fn body(
     items: Items<Item>,
     kind: Kind,
     name: Text,
-    spot: Spot,
+    spot: ExprState,
     stack: Stack,
     token: Token,
-) -> Result<State, HclWhy>
+) -> Result<ReaderState, HclWhy>
     ensures { Steps result (machine.place_step true items (Body kind name spot stack) token) }
 {
     match body_step(alloc, spot, stack, token) {
@@ -175,28 +180,30 @@ fn body(
 }
 
 /// The state behind a token.
-pub fn step(alloc: Global, state: State, token: Token) -> Result<State, HclWhy>
+pub fn step(alloc: Global, state: ReaderState, token: Token) -> Result<ReaderState, HclWhy>
     ensures { Steps result (machine.step true state token) }
 {
-    let State { items, place } = state;
+    let ReaderState { items, place } = state;
     match place {
-        Place::Between => begin_item(items, token),
-        Place::WantQuote => quote_text(items, token),
-        Place::WantSignal(kind) => signal_name(items, kind, token),
-        Place::WantSignalText(kind, name) => signal_text(items, kind, name, token),
-        Place::WantName(kind) => defined_name(items, kind, token),
-        Place::WantAssign(kind, name) => assign(alloc, items, kind, name, token),
-        Place::Body(kind, name, spot, stack) => body(alloc, items, kind, name, spot, stack, token),
+        ItemState::Between => begin_item(items, token),
+        ItemState::WantQuote => quote_text(items, token),
+        ItemState::WantSignal(kind) => signal_name(items, kind, token),
+        ItemState::WantSignalText(kind, name) => signal_text(items, kind, name, token),
+        ItemState::WantName(kind) => defined_name(items, kind, token),
+        ItemState::WantAssign(kind, name) => assign(alloc, items, kind, name, token),
+        ItemState::Body(kind, name, spot, stack) => body(
+            alloc, items, kind, name, spot, stack, token,
+        ),
     }
 }
 
 /// The file that has been read at the end of the text.
 #[tactic(auto, unfolding(crate::specs::Machine::ended))]
-pub fn ended(state: State) -> Result<File, HclWhy>
+pub fn ended(state: ReaderState) -> Result<File, HclWhy>
     ensures { Steps result (machine.ended state.items state.place) }
 {
     match state.place {
-        Place::Between => Ok(File { items: state.items }),
+        ItemState::Between => Ok(File { items: state.items }),
         _ => Err(HclWhy::Syntax),
     }
 }

@@ -5,13 +5,13 @@ ghost use Rattle.hcl_read.specs.Machine as machine;
 ghost use Rattle.hcl_read.specs.Depth.{level_behind};
 ghost use Rattle.hcl_read.specs.Steps.{Steps};
 ghost use Rattle.hcl_read.specs.declared.frames.Frame.TheVariants.{Paren, Set, Guard, Value};
-ghost use Rattle.hcl_read.specs.declared.frames.Spot.TheVariants.{Want};
-ghost use Rattle.hcl_read.specs.declared.state.Move.TheVariants.{On};
+ghost use Rattle.hcl_read.specs.declared.frames.ExprState.TheVariants.{Want};
+ghost use Rattle.hcl_read.specs.declared.state.BodyMove.TheVariants.{On};
 
 use crate::fault::HclWhy;
-use crate::frames::{Frame, Level, Side, Spot};
+use crate::frames::{ExprState, Frame, Level, OperandSide};
 use crate::stack::Stack;
-use crate::state::Move;
+use crate::state::BodyMove;
 use crate::tokens::Token;
 use crate::tree::{Branch, CmpOp, Expr};
 use std::alloc::Global;
@@ -89,22 +89,22 @@ fn and_of(es: Items<Expr>) -> Expr
 
 /// Behind a comparison or an operand that stands for one.
 #[tactic(auto, unfolding(crate::specs::Machine::related))]
-fn related(alloc: Global, level: Level, e: Expr) -> Result<Spot, Memory>
+fn related(alloc: Global, level: Level, e: Expr) -> Result<ExprState, Memory>
     ensures { IfOk result (λ spot. spot ≡ machine.related level e) }
 {
     let Level { nots, ands, ors } = level;
     let operand = negate(alloc, nots, e)?;
-    Ok(Spot::After(with_last(ands, operand)?, ors))
+    Ok(ExprState::After(with_last(ands, operand)?, ors))
 }
 
 /// Behind an operand of a comparison.
 #[tactic(auto, unfolding(crate::specs::Machine::put))]
-fn put(alloc: Global, side: Side, level: Level, e: Expr) -> Result<Spot, Memory>
+fn put(alloc: Global, side: OperandSide, level: Level, e: Expr) -> Result<ExprState, Memory>
     ensures { IfOk result (λ spot. spot ≡ machine.put side level e) }
 {
     match side {
-        Side::Left => Ok(Spot::AfterPrim(Boxed::of(alloc, e)?, level)),
-        Side::Right(op, left) => {
+        OperandSide::Left => Ok(ExprState::AfterPrim(Boxed::of(alloc, e)?, level)),
+        OperandSide::Right(op, left) => {
             related(alloc, level, Expr::Cmp(op, left, Boxed::of(alloc, e)?))
         }
     }
@@ -112,7 +112,7 @@ fn put(alloc: Global, side: Side, level: Level, e: Expr) -> Result<Spot, Memory>
 
 /// Opens a bracket inside which an expression begins.
 #[tactic(auto, unfolding(crate::specs::Machine::opened, crate::specs::Depth::depth))]
-fn open_bracket(alloc: Global, stack: Stack, frame: Frame) -> Result<Move, HclWhy>
+fn open_bracket(alloc: Global, stack: Stack, frame: Frame) -> Result<BodyMove, HclWhy>
     ensures { Steps result (machine.opened true (level_behind frame) stack (On (Want machine.start_level) (frame ∷ stack))) }
 {
     let mut stack = stack;
@@ -120,12 +120,18 @@ fn open_bracket(alloc: Global, stack: Stack, frame: Frame) -> Result<Move, HclWh
         return Err(HclWhy::DepthOver64);
     }
     stack.push(frame)?;
-    Ok(Move::On(Spot::Want(start_level(alloc)), stack))
+    Ok(BodyMove::On(ExprState::Want(start_level(alloc)), stack))
 }
 
 /// A token where an operand of a comparison begins.
 #[tactic(auto, unfolding(crate::specs::Machine::prim))]
-fn prim(alloc: Global, side: Side, level: Level, stack: Stack, token: Token) -> Result<Move, HclWhy>
+fn prim(
+    alloc: Global,
+    side: OperandSide,
+    level: Level,
+    stack: Stack,
+    token: Token,
+) -> Result<BodyMove, HclWhy>
     ensures { Steps result (machine.prim true side level stack token) }
 {
     let operand = match token {
@@ -139,12 +145,12 @@ fn prim(alloc: Global, side: Side, level: Level, stack: Stack, token: Token) -> 
         Token::Wide => return Err(HclWhy::NumberTooWide),
         other => return Err(refusal(other)),
     };
-    Ok(Move::On(put(alloc, side, level, operand)?, stack))
+    Ok(BodyMove::On(put(alloc, side, level, operand)?, stack))
 }
 
 /// A token where an operand of `&&` begins.
 #[tactic(auto, unfolding(crate::specs::Machine::want, crate::specs::Machine::opened, crate::specs::Depth::depth))]
-fn want(alloc: Global, level: Level, stack: Stack, token: Token) -> Result<Move, HclWhy>
+fn want(alloc: Global, level: Level, stack: Stack, token: Token) -> Result<BodyMove, HclWhy>
     ensures { Steps result (machine.want true level stack token) }
 {
     match token {
@@ -158,9 +164,9 @@ fn want(alloc: Global, level: Level, stack: Stack, token: Token) -> Result<Move,
                 ands,
                 ors,
             };
-            Ok(Move::On(Spot::Want(negated), stack))
+            Ok(BodyMove::On(ExprState::Want(negated), stack))
         }
-        other => prim(alloc, Side::Left, level, stack, other),
+        other => prim(alloc, OperandSide::Left, level, stack, other),
     }
 }
 
@@ -169,15 +175,15 @@ fn want(alloc: Global, level: Level, stack: Stack, token: Token) -> Result<Move,
 fn close_group(
     alloc: Global,
     e: Expr,
-    side: Side,
+    side: OperandSide,
     level: Level,
     stack: Stack,
     token: Token,
-) -> Result<Move, HclWhy>
+) -> Result<BodyMove, HclWhy>
     ensures { Steps result (machine.close e (Paren side level ∷ stack) token) }
 {
     match token {
-        Token::CloseParen => Ok(Move::On(put(alloc, side, level, e)?, stack)),
+        Token::CloseParen => Ok(BodyMove::On(put(alloc, side, level, e)?, stack)),
         other => Err(refusal(other)),
     }
 }
@@ -192,18 +198,18 @@ fn close_member(
     level: Level,
     stack: Stack,
     token: Token,
-) -> Result<Move, HclWhy>
+) -> Result<BodyMove, HclWhy>
     ensures { Steps result (machine.close e (Set left members level ∷ stack) token) }
 {
     let mut stack = stack;
     match token {
         Token::Comma => {
             stack.push(Frame::Set(left, with_last(members, e)?, level))?;
-            Ok(Move::On(Spot::Want(start_level(alloc)), stack))
+            Ok(BodyMove::On(ExprState::Want(start_level(alloc)), stack))
         }
         Token::CloseBrace => {
             let set = Expr::In(left, with_last(members, e)?);
-            Ok(Move::On(related(alloc, level, set)?, stack))
+            Ok(BodyMove::On(related(alloc, level, set)?, stack))
         }
         other => Err(refusal(other)),
     }
@@ -214,19 +220,19 @@ fn close_member(
 fn close_guard(
     alloc: Global,
     e: Expr,
-    side: Side,
+    side: OperandSide,
     branches: Items<Branch>,
     level: Level,
     stack: Stack,
     token: Token,
-) -> Result<Move, HclWhy>
+) -> Result<BodyMove, HclWhy>
     ensures { Steps result (machine.close e (Guard side branches level ∷ stack) token) }
 {
     let mut stack = stack;
     match token {
         Token::Colon => {
             stack.push(Frame::Value(side, branches, Boxed::of(alloc, e)?, level))?;
-            Ok(Move::On(Spot::Want(start_level(alloc)), stack))
+            Ok(BodyMove::On(ExprState::Want(start_level(alloc)), stack))
         }
         other => Err(refusal(other)),
     }
@@ -236,13 +242,13 @@ fn close_guard(
 #[tactic(auto, unfolding(crate::specs::Machine::close))]
 fn close_value(
     e: Expr,
-    side: Side,
+    side: OperandSide,
     branches: Items<Branch>,
     guard: Boxed<Expr>,
     level: Level,
     stack: Stack,
     token: Token,
-) -> Result<Move, HclWhy>
+) -> Result<BodyMove, HclWhy>
     ensures { Steps result (machine.close e (Value side branches guard level ∷ stack) token) }
 {
     match token {
@@ -251,8 +257,8 @@ fn close_value(
                 guard: guard.into_inner(),
                 value: e,
             };
-            Ok(Move::On(
-                Spot::Cases(side, with_last(branches, branch)?, level),
+            Ok(BodyMove::On(
+                ExprState::Cases(side, with_last(branches, branch)?, level),
                 stack,
             ))
         }
@@ -262,17 +268,17 @@ fn close_value(
 
 /// A token behind a whole body.
 #[tactic(auto, unfolding(crate::specs::Machine::close))]
-fn close_body(e: Expr, token: Token) -> Result<Move, HclWhy>
+fn close_body(e: Expr, token: Token) -> Result<BodyMove, HclWhy>
     ensures { Steps result (machine.close e [] token) }
 {
     match token {
-        Token::Semicolon => Ok(Move::Ended(e)),
+        Token::Semicolon => Ok(BodyMove::Ended(e)),
         other => Err(refusal(other)),
     }
 }
 
 /// A token behind an expression.
-fn close(alloc: Global, e: Expr, stack: Stack, token: Token) -> Result<Move, HclWhy>
+fn close(alloc: Global, e: Expr, stack: Stack, token: Token) -> Result<BodyMove, HclWhy>
     ensures { Steps result (machine.close e stack token) }
 {
     let mut stack = stack;
@@ -299,13 +305,13 @@ fn after(
     ors: Items<Expr>,
     stack: Stack,
     token: Token,
-) -> Result<Move, HclWhy>
+) -> Result<BodyMove, HclWhy>
     ensures { Steps result (machine.after ands ors stack token) }
 {
     match token {
         Token::AndAnd => {
             let level = Level { nots: 0, ands, ors };
-            Ok(Move::On(Spot::Want(level), stack))
+            Ok(BodyMove::On(ExprState::Want(level), stack))
         }
         Token::OrOr => {
             let ors = with_last(ors, and_of(ands))?;
@@ -314,7 +320,7 @@ fn after(
                 ands: Items::of(Vec::new(alloc)),
                 ors,
             };
-            Ok(Move::On(Spot::Want(level), stack))
+            Ok(BodyMove::On(ExprState::Want(level), stack))
         }
         other => {
             let whole = or_of(with_last(ors, and_of(ands))?);
@@ -331,12 +337,12 @@ fn after_prim(
     level: Level,
     stack: Stack,
     token: Token,
-) -> Result<Move, HclWhy>
+) -> Result<BodyMove, HclWhy>
     ensures { Steps result (machine.after_prim e level stack token) }
 {
     match token {
-        Token::Compare(op) => Ok(Move::On(Spot::WantRight(op, e, level), stack)),
-        Token::KeyIn => Ok(Move::On(Spot::WantSet(e, level), stack)),
+        Token::Compare(op) => Ok(BodyMove::On(ExprState::WantRight(op, e, level), stack)),
+        Token::KeyIn => Ok(BodyMove::On(ExprState::WantSet(e, level), stack)),
         other => {
             let Level { nots, ands, ors } = level;
             let operand = negate(alloc, nots, e.into_inner())?;
@@ -353,7 +359,7 @@ fn want_set(
     level: Level,
     stack: Stack,
     token: Token,
-) -> Result<Move, HclWhy>
+) -> Result<BodyMove, HclWhy>
     ensures { Steps result (machine.want_set true e level stack token) }
 {
     match token {
@@ -369,19 +375,19 @@ fn want_set(
 #[tactic(auto, unfolding(crate::specs::Machine::after_branch))]
 fn after_branch(
     alloc: Global,
-    side: Side,
+    side: OperandSide,
     branches: Items<Branch>,
     level: Level,
     stack: Stack,
     token: Token,
-) -> Result<Move, HclWhy>
+) -> Result<BodyMove, HclWhy>
     ensures { Steps result (machine.after_branch true side branches level stack token) }
 {
     let mut stack = stack;
     match token {
         Token::CloseBracket => {
             let cases = Expr::Case(branches);
-            Ok(Move::On(put(alloc, side, level, cases)?, stack))
+            Ok(BodyMove::On(put(alloc, side, level, cases)?, stack))
         }
         other => {
             stack.push(Frame::Guard(side, branches, level))?;
@@ -392,18 +398,23 @@ fn after_branch(
 
 /// A token of a definition's body.
 #[tactic(auto, unfolding(crate::specs::Machine::body_step))]
-pub fn body_step(alloc: Global, spot: Spot, stack: Stack, token: Token) -> Result<Move, HclWhy>
+pub fn body_step(
+    alloc: Global,
+    spot: ExprState,
+    stack: Stack,
+    token: Token,
+) -> Result<BodyMove, HclWhy>
     ensures { Steps result (machine.body_step true spot stack token) }
 {
     match spot {
-        Spot::Want(level) => want(alloc, level, stack, token),
-        Spot::WantRight(op, left, level) => {
-            prim(alloc, Side::Right(op, left), level, stack, token)
+        ExprState::Want(level) => want(alloc, level, stack, token),
+        ExprState::WantRight(op, left, level) => {
+            prim(alloc, OperandSide::Right(op, left), level, stack, token)
         }
-        Spot::AfterPrim(e, level) => after_prim(alloc, e, level, stack, token),
-        Spot::After(ands, ors) => after(alloc, ands, ors, stack, token),
-        Spot::WantSet(e, level) => want_set(alloc, e, level, stack, token),
-        Spot::Cases(side, branches, level) => {
+        ExprState::AfterPrim(e, level) => after_prim(alloc, e, level, stack, token),
+        ExprState::After(ands, ors) => after(alloc, ands, ors, stack, token),
+        ExprState::WantSet(e, level) => want_set(alloc, e, level, stack, token),
+        ExprState::Cases(side, branches, level) => {
             after_branch(alloc, side, branches, level, stack, token)
         }
     }

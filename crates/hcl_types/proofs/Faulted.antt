@@ -14,7 +14,7 @@ use Rattle.hcl_types.specs.Lists.{IsIn, IsApart}
 use Rattle.hcl_types.specs.Kinds.{has_class}
 use Rattle.hcl_types.specs.Tables.{defined, is_defined, row_names}
 use Rattle.hcl_types.specs.Binding.{fault, and_then, all_ok, place, row_named, declared, defined_as, is_of, of_kind, fault_in, item_fault, first_fault, definition, or_else, row_term, bound_by, bound, term_of}
-use Rattle.hcl_types.specs.Faults.{Tells, uses}
+use Rattle.hcl_types.specs.Faults.{IsBindFault, uses}
 use Rattle.hcl_types.proofs.Bound.{is_in_slice, definition_more, accepted}
 use Rattle.hcl_types.proofs.Designs.{filtered_at, faultless, row_at, no_fault}
 use Rattle.hcl_types.proofs.TermsOf.{found_inside}
@@ -66,35 +66,35 @@ module _ (rows : List Row) where
       by None = refl
       by (Some x) = refl
 
-  as_told : (items : List Item) (f e : BindFault) → Some f ≡ Some e → Tells rows items f.why f.name → Tells rows items e.why e.name
+  as_told : (items : List Item) (f e : BindFault) → Some f ≡ Some e → IsBindFault rows items f.why f.name → IsBindFault rows items e.why e.name
   as_told items f e same t =
       let one : f ≡ e = grind (arith, same) in
-      subst (λ (z : BindFault). Tells rows items z.why z.name) one t
+      subst (λ (z : BindFault). IsBindFault rows items z.why z.name) one t
 
   declared_tells : (front behind : List Item) (k : Kind) (name text : List ℕ) (e : BindFault) (r : Option Row) → row_named rows name ≡ r →
-      fault_in (declared r k name) ≡ Some e → Tells rows (front ++ item.Decl k name text ∷ behind) e.why e.name
+      fault_in (declared r k name) ≡ Some e → IsBindFault rows (front ++ item.Decl k name text ∷ behind) e.why e.name
   declared_tells front behind k name text e None p q =
       as_told (front ++ item.Decl k name text ∷ behind) (fault why.Unknown name) e q (unplaced name p, (item.Decl k name text, in_middle front (item.Decl k name text) behind, inl refl))
   declared_tells front behind k name text e (Some row) p q = by tt (is_of k row.class) refl q
     where
       by : (u : Unit {0}) (b : Bool) → is_of k row.class ≡ b → fault_in (if b then Ok u else Err (fault why.KindMismatch name)) ≡ Some e →
-          Tells rows (front ++ item.Decl k name text ∷ behind) e.why e.name
+          IsBindFault rows (front ++ item.Decl k name text ∷ behind) e.why e.name
       by u true t g = absurd (grind (arith, g))
       by u false t g = as_told (front ++ item.Decl k name text ∷ behind) (fault why.KindMismatch name) e g
           (row, p, (item.Decl k name text, in_middle front (item.Decl k name text) behind, (refl, t)))
 
   body_tells : (front behind : List Item) (k : Kind) (name : List ℕ) (body : Expr) (e : BindFault) (row : Row) → row_named rows name ≡ Some row →
       (r : Result Term BindFault) → term_of (row_names rows) body ≡ r → fault_in (and_then r (of_kind rows row k name)) ≡ Some e →
-      Tells rows (front ++ item.Def k name body ∷ behind) e.why e.name
+      IsBindFault rows (front ++ item.Def k name body ∷ behind) e.why e.name
   body_tells front behind k name body e row p (Err f) q g =
       let lacks = subst (WhereErr (Lacks (row_names rows) (uses body))) q (term_lacks (row_names rows) body) in
       as_told (front ++ item.Def k name body ∷ behind) f e g
-      (subst (λ w. Tells rows (front ++ item.Def k name body ∷ behind) w f.name) (sym lacks.0)
+      (subst (λ w. IsBindFault rows (front ++ item.Def k name body ∷ behind) w f.name) (sym lacks.0)
       (lacks.1, (item.Def k name body, in_middle front (item.Def k name body) behind, inr lacks.2)))
   body_tells front behind k name body e row p (Ok t) q g = by (is_of k row.class) (has_class rows row.class t) refl refl g
     where
       by : (b c : Bool) → is_of k row.class ≡ b → has_class rows row.class t ≡ c → fault_in (if b && c then Ok t else Err (fault why.KindMismatch name)) ≡ Some e →
-          Tells rows (front ++ item.Def k name body ∷ behind) e.why e.name
+          IsBindFault rows (front ++ item.Def k name body ∷ behind) e.why e.name
       by true true u v h = absurd (grind (arith, h))
       by false c u v h = as_told (front ++ item.Def k name body ∷ behind) (fault why.KindMismatch name) e h
           (row, p, (item.Def k name body, in_middle front (item.Def k name body) behind, (refl, inl u)))
@@ -102,36 +102,36 @@ module _ (rows : List Row) where
           (row, p, (item.Def k name body, in_middle front (item.Def k name body) behind, (refl, inr (t, q, v))))
 
   defined_tells : (front behind : List Item) (k : Kind) (name : List ℕ) (body : Expr) (e : BindFault) (r : Option Row) → row_named rows name ≡ r →
-      fault_in (defined_as rows (is_some (definition front name)) r k name body) ≡ Some e → Tells rows (front ++ item.Def k name body ∷ behind) e.why e.name
+      fault_in (defined_as rows (is_some (definition front name)) r k name body) ≡ Some e → IsBindFault rows (front ++ item.Def k name body ∷ behind) e.why e.name
   defined_tells front behind k name body e None p q =
       as_told (front ++ item.Def k name body ∷ behind) (fault why.Unknown name) e q (unplaced name p, (item.Def k name body, in_middle front (item.Def k name body) behind, inl refl))
   defined_tells front behind k name body e (Some row) p q = by (is_defined row.role) (is_some (definition front name)) refl refl q
     where
       by : (d b : Bool) → is_defined row.role ≡ d → is_some (definition front name) ≡ b →
           fault_in (if not d then Err (fault why.Redefines name) else (if b then Err (fault why.Twice name) else and_then (term_of (row_names rows) body) (of_kind rows row k name))) ≡ Some e →
-          Tells rows (front ++ item.Def k name body ∷ behind) e.why e.name
+          IsBindFault rows (front ++ item.Def k name body ∷ behind) e.why e.name
       by false b u v g = as_told (front ++ item.Def k name body ∷ behind) (fault why.Redefines name) e g ((row, p, u), defined_there front behind k name body)
       by true true u v g = as_told (front ++ item.Def k name body ∷ behind) (fault why.Twice name) e g (front, behind, k, body, refl, v)
       by true false u v g = body_tells front behind k name body e row p (term_of (row_names rows) body) refl g
 
-  item_tells : (front behind : List Item) (i : Item) (e : BindFault) → item_fault rows front i ≡ Some e → Tells rows (front ++ i ∷ behind) e.why e.name
+  item_tells : (front behind : List Item) (i : Item) (e : BindFault) → item_fault rows front i ≡ Some e → IsBindFault rows (front ++ i ∷ behind) e.why e.name
   item_tells front behind (item.Quote text) e h = absurd (grind (arith, h))
   item_tells front behind (item.Decl k name text) e h = declared_tells front behind k name text e (row_named rows name) refl h
   item_tells front behind (item.Def k name body) e h = defined_tells front behind k name body e (row_named rows name) refl h
 
   -- the item of the first fault
-  first_at : (before items : List Item) (e : BindFault) → first_fault rows before items ≡ Some e → Tells rows (before ++ items) e.why e.name
+  first_at : (before items : List Item) (e : BindFault) → first_fault rows before items ≡ Some e → IsBindFault rows (before ++ items) e.why e.name
   unfolding first_fault
   first_at before [] e h = absurd (grind (arith, h))
   first_at before (i ∷ items) e h = by (λ q. first_at (before ++ i ∷ []) items e q) (item_fault rows before i) refl h
     where
-      by : (first_fault rows (before ++ i ∷ []) items ≡ Some e → Tells rows ((before ++ i ∷ []) ++ items) e.why e.name) → (f : Option BindFault) → item_fault rows before i ≡ f →
-          or_else f (first_fault rows (before ++ i ∷ []) items) ≡ Some e → Tells rows (before ++ i ∷ items) e.why e.name
-      by go None p q = subst (λ all. Tells rows all e.why e.name) (append_assoc before (i ∷ []) items) (go q)
+      by : (first_fault rows (before ++ i ∷ []) items ≡ Some e → IsBindFault rows ((before ++ i ∷ []) ++ items) e.why e.name) → (f : Option BindFault) → item_fault rows before i ≡ f →
+          or_else f (first_fault rows (before ++ i ∷ []) items) ≡ Some e → IsBindFault rows (before ++ i ∷ items) e.why e.name
+      by go None p q = subst (λ all. IsBindFault rows all e.why e.name) (append_assoc before (i ∷ []) items) (go q)
       by go (Some f) p q = item_tells before items i e (p ∙ q)
 
   missing_tells : IsApart (row_names rows) → (items : List Item) (n k : ℕ) (row : Row) (e : BindFault) → first_fault rows [] items ≡ None →
-      slice_get (defined rows) k ≡ Some row → slice_get rows n ≡ Some row → (d : Option Expr) → definition items row.name ≡ d → row_term rows row d ≡ Err e → Tells rows items e.why e.name
+      slice_get (defined rows) k ≡ Some row → slice_get rows n ≡ Some row → (d : Option Expr) → definition items row.name ≡ d → row_term rows row d ≡ Err e → IsBindFault rows items e.why e.name
   missing_tells apart items n k row e none at_k at_n None q p =
       as_told items (fault why.Missing row.name) e (grind (arith, p)) ((row, is_in_slice (defined rows) k row at_k, refl), q)
   missing_tells apart items n k row e none at_k at_n (Some body) q p =
@@ -143,12 +143,12 @@ module _ (rows : List Row) where
       let a = accepted rows (is_some (definition f.before f.other)) row f.kind f.other body ok.0 ok.1 in
       absurd (grind (arith, a.term, p))
 
-  pub bound_tells : IsApart (row_names rows) → (items : List Item) (e : BindFault) → bound rows items ≡ Err e → Tells rows items e.why e.name
+  pub bound_tells : IsApart (row_names rows) → (items : List Item) (e : BindFault) → bound rows items ≡ Err e → IsBindFault rows items e.why e.name
   unfolding bound
   bound_tells apart items e h = by (first_fault rows [] items) refl h
     where
       by : (f : Option BindFault) → first_fault rows [] items ≡ f →
-          bound_by f (all_ok (map (λ (row : Row). row_term rows row (definition items row.name)) (defined rows))) ≡ Err e → Tells rows items e.why e.name
+          bound_by f (all_ok (map (λ (row : Row). row_term rows row (definition items row.name)) (defined rows))) ≡ Err e → IsBindFault rows items e.why e.name
       by (Some f) p q =
           let one : f ≡ e = grind (arith, q) in
           first_at [] items e (p ∙ ap (λ (z : BindFault). Some z) one)

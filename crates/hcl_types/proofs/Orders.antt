@@ -3,7 +3,7 @@ use Rattle.std.proofs.Common.{◌≡◌, ℕ, Bool, true, false, List, [], ◌�
 use Rattle.std.specs.Prelude.{◌⊎◌}
 use Rattle.std.specs.List.{AllByRecursion}
 use Rattle.hcl_types.specs.Lists.{IsIn, IsApart}
-use Rattle.hcl_types.specs.Equations.{Fixes, IsOrder, IsOrdered, IsStore, IsLocal, filled, is_known, needs_of}
+use Rattle.hcl_types.specs.Equations.{IsSolution, IsTopologicalOrder, IsOrdered, IsStore, IsLocal, evaluated_along, is_known, needs_of}
 use Rattle.hcl_types.proofs.Each.{each_in, each_more}
 
 true_is_not_false : {P : Type 0} (b : Bool) → b ≡ true → b ≡ false → P
@@ -30,7 +30,7 @@ module _ (needs : List (List ℕ)) (known : List Bool) (P : ℕ → Type 0)
       needed m (inr i) = each_in P done m p i
 
   -- what holds of known rows, and of a row where it holds of all that it needs, holds of every row
-  pub along : (ids : List ℕ) → IsOrder needs known ids → (n : ℕ) → P n
+  pub along : (ids : List ℕ) → IsTopologicalOrder needs known ids → (n : ℕ) → P n
   along ids o n = by (is_known known n) refl
     where
       by : (b : Bool) → is_known known n ≡ b → P n
@@ -38,8 +38,8 @@ module _ (needs : List (List ℕ)) (known : List Bool) (P : ℕ → Type 0)
       by false u = each_in P ids n (all_along [] ids tt o.unknown o.ordered) (o.whole n u)
 
 -- two solutions are related at every row where the rules relate them
-pub by_order : {A B : Type 0} (needs : List (List ℕ)) (known : List Bool) (ids : List ℕ) → IsOrder needs known ids →
-    (rule : ℕ → (ℕ → A) → A) (other : ℕ → (ℕ → B) → B) (f : ℕ → A) (g : ℕ → B) → Fixes rule f → Fixes other g → (R : ℕ → A → B → Type 0) →
+pub by_order : {A B : Type 0} (needs : List (List ℕ)) (known : List Bool) (ids : List ℕ) → IsTopologicalOrder needs known ids →
+    (rule : ℕ → (ℕ → A) → A) (other : ℕ → (ℕ → B) → B) (f : ℕ → A) (g : ℕ → B) → IsSolution rule f → IsSolution other g → (R : ℕ → A → B → Type 0) →
     ((n : ℕ) → is_known known n ≡ true → R n (rule n f) (other n g)) →
     ((n : ℕ) → is_known known n ≡ false → AllByRecursion (λ m. R m (f m) (g m)) (needs_of needs n) → R n (rule n f) (other n g)) →
     (n : ℕ) → R n (f n) (g n)
@@ -50,28 +50,28 @@ by_order needs known ids o rule other f g fixed fixed' R given step =
     ids o
 
 -- equations that can be ordered have one solution
-pub unique : {A : Type 0} (needs : List (List ℕ)) (known : List Bool) (ids : List ℕ) → IsOrder needs known ids →
+pub unique : {A : Type 0} (needs : List (List ℕ)) (known : List Bool) (ids : List ℕ) → IsTopologicalOrder needs known ids →
     (rule : ℕ → (ℕ → A) → A) → IsLocal rule needs → ((n : ℕ) → is_known known n ≡ true → (f g : ℕ → A) → rule n f ≡ rule n g) →
-    (f g : ℕ → A) → Fixes rule f → Fixes rule g → (n : ℕ) → f n ≡ g n
+    (f g : ℕ → A) → IsSolution rule f → IsSolution rule g → (n : ℕ) → f n ≡ g n
 unique needs known ids o rule local given f g fixed fixed' =
     by_order needs known ids o rule rule f g fixed fixed' (λ n x y. x ≡ y) (λ n k. given n k f g) (λ n u h. local n f g h)
 
 -- ---- computing along an order
 
 module _ {S A : Type 0} (get : S → ℕ → A) (put : S → ℕ → A → S) (Has : S → ℕ → Type 0) (store : IsStore S A get put Has) (rule : ℕ → (ℕ → A) → A) where
-  untouched : (s : S) (ids : List ℕ) (m : ℕ) → AllByRecursion (λ n. n ≡ m → ⊥) ids → get (filled get put rule s ids) m ≡ get s m
+  untouched : (s : S) (ids : List ℕ) (m : ℕ) → AllByRecursion (λ n. n ≡ m → ⊥) ids → get (evaluated_along get put rule s ids) m ≡ get s m
   untouched s [] m h = refl
   untouched s (n ∷ ids) m h = untouched (put s n (rule n (get s))) ids m h.1 ∙ store.other s n m (rule n (get s)) h.0
 
   module _ (needs : List (List ℕ)) (known : List Bool) (local : IsLocal rule needs) where
     all_solved : (s : S) (done ids : List ℕ) → AllByRecursion (Has s) ids → AllByRecursion (λ n. is_known known n ≡ false) ids → IsApart ids →
         AllByRecursion (λ n. IsIn n done → ⊥) ids → IsOrdered needs known done ids →
-        AllByRecursion (λ n. get (filled get put rule s ids) n ≡ rule n (get (filled get put rule s ids))) ids
+        AllByRecursion (λ n. get (evaluated_along get put rule s ids) n ≡ rule n (get (evaluated_along get put rule s ids))) ids
     all_solved s done [] h u a d o = tt
     all_solved s done (n ∷ ids) h u a d o =
         let put_there = store.same s n (rule n (get s)) h.0 in
         let stays = untouched after ids n (each_more {P = λ m. n ≡ m → ⊥} {Q = λ m. m ≡ n → ⊥} (λ m e p. e (sym p)) ids (apart_from n ids a.0)) in
-        let reads = local n (get s) (get (filled get put rule after ids)) (each_more {P = λ m. (is_known known m ≡ true) ⊎ IsIn m done} {Q = λ m. get s m ≡ get (filled get put rule after ids) m} (λ m k. sym (untouched s (n ∷ ids) m (clear m k))) (needs_of needs n) o.0) in (
+        let reads = local n (get s) (get (evaluated_along get put rule after ids)) (each_more {P = λ m. (is_known known m ≡ true) ⊎ IsIn m done} {Q = λ m. get s m ≡ get (evaluated_along get put rule after ids) m} (λ m k. sym (untouched s (n ∷ ids) m (clear m k))) (needs_of needs n) o.0) in (
           stays ∙ put_there ∙ reads,
           all_solved after (n ∷ done) ids (each_more {P = Has s} {Q = Has after} (λ m has. store.keeps s n m (rule n (get s)) has) ids h.1) u.1 a.1 (not_done ids (apart_from n ids a.0) d.1) o.1,
         )
@@ -92,11 +92,11 @@ module _ {S A : Type 0} (get : S → ℕ → A) (put : S → ℕ → A → S) (H
             neither m p q (inr i) = q i
 
     -- where the known rows have their values from the start, computing along an order solves the equations
-    pub solved : (s : S) (ids : List ℕ) → IsOrder needs known ids → AllByRecursion (Has s) ids →
-        ((n : ℕ) → is_known known n ≡ true → (f : ℕ → A) → get s n ≡ rule n f) → Fixes rule (get (filled get put rule s ids))
+    pub solved : (s : S) (ids : List ℕ) → IsTopologicalOrder needs known ids → AllByRecursion (Has s) ids →
+        ((n : ℕ) → is_known known n ≡ true → (f : ℕ → A) → get s n ≡ rule n f) → IsSolution rule (get (evaluated_along get put rule s ids))
     solved s ids o h given n = by (is_known known n) refl
       where
-        by : (b : Bool) → is_known known n ≡ b → get (filled get put rule s ids) n ≡ rule n (get (filled get put rule s ids))
+        by : (b : Bool) → is_known known n ≡ b → get (evaluated_along get put rule s ids) n ≡ rule n (get (evaluated_along get put rule s ids))
         by true k = untouched s ids n (each_more {P = λ i. is_known known i ≡ false} {Q = λ i. i ≡ n → ⊥} (λ i no e. true_is_not_false (is_known known n) k (subst (λ z. is_known known z ≡ false) e no)) ids o.unknown)
-            ∙ given n k (get (filled get put rule s ids))
-        by false u = each_in (λ m. get (filled get put rule s ids) m ≡ rule m (get (filled get put rule s ids))) ids n (all_solved s [] ids h o.unknown o.apart (each_more {P = λ i. is_known known i ≡ false} {Q = λ i. IsIn i [] → ⊥} (λ i no e. e) ids o.unknown) o.ordered) (o.whole n u)
+            ∙ given n k (get (evaluated_along get put rule s ids))
+        by false u = each_in (λ m. get (evaluated_along get put rule s ids) m ≡ rule m (get (evaluated_along get put rule s ids))) ids n (all_solved s [] ids h o.unknown o.apart (each_more {P = λ i. is_known known i ≡ false} {Q = λ i. IsIn i [] → ⊥} (λ i no e. e) ids o.unknown) o.ordered) (o.whole n u)

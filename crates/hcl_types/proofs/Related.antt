@@ -6,19 +6,19 @@ use Rattle.hcl_read.specs.declared.tree.CmpOp.TheVariants.{Eq}
 use Rattle.hcl_types.specs.declared.term.Term.{Term}
 use Rattle.hcl_types.specs.declared.term.TermBranch.{TermBranch}
 use Rattle.hcl_types.specs.Lists.{each, some}
-use Rattle.hcl_types.specs.Terms.{Meaning, value, branch_value, picked, names, branch_names, joined}
+use Rattle.hcl_types.specs.Terms.{Interpretation, value, branch_value, picked, names, branch_names, joined}
 use Rattle.hcl_types.proofs.Inductions.{induct}
 use Rattle.hcl_types.proofs.Each.{each_left, each_right, each_joined}
 use Rattle.hcl_types.proofs.Values.{value_Num, value_Name, value_Not, value_And, value_Or, value_Cmp, value_In, value_Case, value_branch, names_Name, names_Not, names_And, names_Or, names_Cmp, names_In, names_Case, names_branch}
 
 -- numbers and truths of the two meanings are related, and related values hold and compare alike
-pub record Alike {A B : Type 0} (m : Meaning A) (k : Meaning B) (R : A → B → Type 0) : Type 0 where
+pub record Alike {A B : Type 0} (m : Interpretation A) (k : Interpretation B) (R : A → B → Type 0) : Type 0 where
   pub nums : (n : ℕ) → R (m.num n) (k.num n)
   pub bools : (b : Bool) → R (m.bool b) (k.bool b)
   pub holds : (x : A) (y : B) → R x y → m.holds x ≡ k.holds y
   pub compares : (op : CmpOp) (x x' : A) (y y' : B) → R x y → R x' y' → m.cmp op x x' ≡ k.cmp op y y'
 
-module _ {A B : Type 0} (m : Meaning A) (k : Meaning B) (R : A → B → Type 0) (alike : Alike m k R) (f : ℕ → A) (g : ℕ → B) where
+module _ {A B : Type 0} (m : Interpretation A) (k : Interpretation B) (R : A → B → Type 0) (alike : Alike m k R) (f : ℕ → A) (g : ℕ → B) where
   AtNames : List ℕ → Type 0
   AtNames ids = AllByRecursion (λ id. R (f id) (g id)) ids
 
@@ -93,7 +93,7 @@ module _ {A B : Type 0} (m : Meaning A) (k : Meaning B) (R : A → B → Type 0)
       (p (each_left (λ id. R (f id) (g id)) (names b.guard) (names b.value) both), q (each_right (λ id. R (f id) (g id)) (names b.guard) (names b.value) both)))
 
 -- the value of a term depends on its names alone
-pub local_value : {A : Type 0} (m : Meaning A) (f g : ℕ → A) (t : Term) → AllByRecursion (λ id. f id ≡ g id) (names t) → value m f t ≡ value m g t
+pub local_value : {A : Type 0} (m : Interpretation A) (f g : ℕ → A) (t : Term) → AllByRecursion (λ id. f id ≡ g id) (names t) → value m f t ≡ value m g t
 local_value m f g = related m m (λ x y. x ≡ y)
     (record { nums = λ n. refl; bools = λ b. refl; holds = λ x y e. ap m.holds e; compares = λ op x x' y y' e e'. ap (λ z. m.cmp op z x') e ∙ ap (m.cmp op y) e' })
     f g

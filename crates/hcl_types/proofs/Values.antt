@@ -8,9 +8,9 @@ use Rattle.hcl_types.specs.declared.term.Term.TheOpen.{Term-F}
 use Rattle.hcl_types.specs.declared.term.Term.TheFolds.{fold-roll-Term, fold-roll-TermBranch}
 use Rattle.hcl_types.specs.declared.term.Term.TheVariants.{Num, Name, Not, And, Or, Cmp, In, Case, rolls-Num, rolls-Name, rolls-Not, rolls-And, rolls-Or, rolls-Cmp, rolls-In, rolls-Case}
 use Rattle.hcl_types.specs.Lists.{each, some}
-use Rattle.hcl_types.specs.Terms.{Meaning, value, branch_value, layer, pair, picked, names, branch_names, names_in_layer, names_in_branch, joined}
+use Rattle.hcl_types.specs.Terms.{Interpretation, value, branch_value, layer, pair, picked, names, branch_names, names_in_layer, names_in_branch, joined}
 
-module _ {A : Type 0} (m : Meaning A) (env : ℕ → A) where
+module _ {A : Type 0} (m : Interpretation A) (env : ℕ → A) where
   pub value_Num : (n : ℕ) → value m env (Num n) ≡ m.num n
   value_Num n = ap (value m env) (sym (rolls-Num n)) ∙ fold-roll-Term A (A × A) (layer m env) pair (Term-F.Num n)
 

@@ -60,6 +60,6 @@ unfoldable pub bound_in_steps : List Row → List Item → Result (List Term) Bi
 bound_in_steps rows items = and_then (put_items rows (no_terms rows) items) (put_rows [] rows)
 
 -- an answer about what is written in place
-abbrev pub Leaves : {A S : Type 0} → Result A BindFault → S → Result S BindFault → Type 0
-Leaves (Ok x) now r = r ≡ Ok now
-Leaves (Err e) now r = e.why ≢ why.Memory → r ≡ Err e
+abbrev pub IsStepAnswer : {A S : Type 0} → Result A BindFault → S → Result S BindFault → Type 0
+IsStepAnswer (Ok x) now r = r ≡ Ok now
+IsStepAnswer (Err e) now r = e.why ≢ why.Memory → r ≡ Err e

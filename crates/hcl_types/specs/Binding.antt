@@ -137,6 +137,6 @@ unfoldable pub bound : List Row → List Item → Result (List Term) BindFault
 bound rows items = bound_by (first_fault rows [] items) (all_ok (map (λ (row : Row). row_term rows row (definition items row.name)) (defined rows)))
 
 -- an answer is that of the definition, want of memory apart
-abbrev pub Gives : {A : Type 0} → Result A BindFault → Result A BindFault → Type 0
-Gives (Ok x) r = r ≡ Ok x
-Gives (Err e) r = e.why ≢ why.Memory → r ≡ Err e
+abbrev pub IsBindAnswer : {A : Type 0} → Result A BindFault → Result A BindFault → Type 0
+IsBindAnswer (Ok x) r = r ≡ Ok x
+IsBindAnswer (Err e) r = e.why ≢ why.Memory → r ≡ Err e

@@ -4,8 +4,8 @@ use Rattle.std.specs.List.{AllByRecursion}
 use Rattle.hcl_types.specs.Lists.{IsIn, IsApart}
 
 -- f is a solution of the equations: each entry has the value that its rule gives, where every rule may read any entry
-abbrev pub Fixes : {A : Type 0} → (ℕ → (ℕ → A) → A) → (ℕ → A) → Type 0
-Fixes rule f = (n : ℕ) → f n ≡ rule n f
+abbrev pub IsSolution : {A : Type 0} → (ℕ → (ℕ → A) → A) → (ℕ → A) → Type 0
+IsSolution rule f = (n : ℕ) → f n ≡ rule n f
 
 -- Of rows that need others (entry n: the rows that row n needs) and of which some are known from the start. What stands
 -- past the rows is known, and needs nothing.
@@ -22,7 +22,7 @@ IsOrdered needs known done (n ∷ ids) =
     AllByRecursion (λ m. (is_known known m ≡ true) ⊎ IsIn m done) (needs_of needs n) × IsOrdered needs known (n ∷ done) ids
 
 -- each row that isn't known stands in ids, once, after all that it needs
-pub record IsOrder (needs : List (List ℕ)) (known : List Bool) (ids : List ℕ) : Type 0 where
+pub record IsTopologicalOrder (needs : List (List ℕ)) (known : List Bool) (ids : List ℕ) : Type 0 where
   pub unknown : AllByRecursion (λ n. is_known known n ≡ false) ids
   pub apart : IsApart ids
   pub ordered : IsOrdered needs known [] ids
@@ -35,9 +35,9 @@ pub record IsStore (S : Type 0) (A : Type 0) (get : S → ℕ → A) (put : S �
   pub keeps : (s : S) (n m : ℕ) (a : A) → Has s m → Has (put s n a) m
 
 -- the store once the rows of ids were computed, one after the other
-abbrev pub filled : {S A : Type 0} → (S → ℕ → A) → (S → ℕ → A → S) → (ℕ → (ℕ → A) → A) → S → List ℕ → S
-filled get put rule s [] = s
-filled get put rule s (n ∷ ids) = filled get put rule (put s n (rule n (get s))) ids
+abbrev pub evaluated_along : {S A : Type 0} → (S → ℕ → A) → (S → ℕ → A → S) → (ℕ → (ℕ → A) → A) → S → List ℕ → S
+evaluated_along get put rule s [] = s
+evaluated_along get put rule s (n ∷ ids) = evaluated_along get put rule (put s n (rule n (get s))) ids
 
 -- rule n reads only what row n needs
 abbrev pub IsLocal : {A : Type 0} → (ℕ → (ℕ → A) → A) → List (List ℕ) → Type 0

@@ -54,17 +54,17 @@ Mismatches rows name row (item.Def kind other body) =
     (other ≡ name) × ((is_of kind row.class ≡ false) ⊎ ((t : Term) × (term_of (row_names rows) body ≡ Ok t) × (has_class rows row.class t ≡ false)))
 
 -- a fault of this sort about this name
-abbrev pub Tells : List Row → List Item → BindWhy → List ℕ → Type 0
+abbrev pub IsBindFault : List Row → List Item → BindWhy → List ℕ → Type 0
 -- a name that some item mentions is no row
-Tells rows items why.Unknown name = (place (row_names rows) name ≡ None) × ((i : Item) × IsIn i items × IsIn name (mentions i))
+IsBindFault rows items why.Unknown name = (place (row_names rows) name ≡ None) × ((i : Item) × IsIn i items × IsIn name (mentions i))
 -- the name is defined, and then defined again
-Tells rows items why.Twice name =
+IsBindFault rows items why.Twice name =
     (front : List Item) × (behind : List Item) × (kind : Kind) × (body : Expr) ×
     (items ≡ front ++ item.Def kind name body ∷ behind) × (is_some (definition front name) ≡ true)
 -- a row that is to be defined isn't
-Tells rows items why.Missing name = ((row : Row) × IsIn row (defined rows) × (row.name ≡ name)) × (definition items name ≡ None)
+IsBindFault rows items why.Missing name = ((row : Row) × IsIn row (defined rows) × (row.name ≡ name)) × (definition items name ≡ None)
 -- an item is of the other kind than the row of the name
-Tells rows items why.KindMismatch name = (row : Row) × (row_named rows name ≡ Some row) × ((i : Item) × IsIn i items × Mismatches rows name row i)
+IsBindFault rows items why.KindMismatch name = (row : Row) × (row_named rows name ≡ Some row) × ((i : Item) × IsIn i items × Mismatches rows name row i)
 -- the name is defined, and its row isn't to be
-Tells rows items why.Redefines name = ((row : Row) × (row_named rows name ≡ Some row) × (is_defined row.role ≡ false)) × (is_some (definition items name) ≡ true)
-Tells rows items why.Memory name = ⊥
+IsBindFault rows items why.Redefines name = ((row : Row) × (row_named rows name ≡ Some row) × (is_defined row.role ≡ false)) × (is_some (definition items name) ≡ true)
+IsBindFault rows items why.Memory name = ⊥

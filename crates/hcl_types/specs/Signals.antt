@@ -5,8 +5,8 @@ use Rattle.hcl_types.specs.declared.term.Term.{Term}
 use Rattle.hcl_types.specs.Terms.{names}
 
 -- def is a position of the design's terms, and each name in that term has an entry among so many
-abbrev pub Asks : List Term → ℕ → ℕ → Type 0
-Asks terms def entries = (t : Term) × (slice_get terms def ≡ Some t) × AllByRecursion (λ id. id < entries) (names t)
+abbrev pub HasEntries : List Term → ℕ → ℕ → Type 0
+HasEntries terms def entries = (t : Term) × (slice_get terms def ≡ Some t) × AllByRecursion (λ id. id < entries) (names t)
 
 -- values begins with these words: entry 0 is the first of them, and so on
 abbrev pub Starts : List ℕ → List ℕ → Type 0

@@ -11,7 +11,7 @@ use Rattle.hcl_types.specs.declared.table.Row.{Row}
 use Rattle.hcl_types.specs.Lists.{IsApart}
 use Rattle.hcl_types.specs.Terms.{names}
 use Rattle.hcl_types.specs.Kinds.{has_class}
-use Rattle.hcl_types.specs.Equations.{IsOrder}
+use Rattle.hcl_types.specs.Equations.{IsTopologicalOrder}
 
 abbrev pub is_constant : Role → Bool
 is_constant (Constant n) = true
@@ -84,4 +84,4 @@ known rows = map (λ (row : Row). is_given row.role) rows
 
 -- ids is an order of the design and the table: all defined and hardware rows, each once, each after all that it needs
 abbrev pub IsOrderOf : List Row → List Term → List ℕ → Type 0
-IsOrderOf rows terms ids = IsOrder (needs rows terms) (known rows) ids
+IsOrderOf rows terms ids = IsTopologicalOrder (needs rows terms) (known rows) ids

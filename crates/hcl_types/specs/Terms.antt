@@ -11,7 +11,7 @@ use Rattle.hcl_types.specs.declared.term.Term.TheFolds.{fold-Term, fold-TermBran
 use Rattle.hcl_types.specs.Lists.{each, some}
 
 -- what numbers, truths and comparisons mean where values are of type A
-pub record Meaning (A : Type 0) : Type 0 where
+pub record Interpretation (A : Type 0) : Type 0 where
   pub num : ℕ → A
   pub bool : Bool → A
   pub holds : A → Bool
@@ -23,7 +23,7 @@ picked holds none [] = none
 picked holds none (branch ∷ branches) = if holds branch.0 then branch.1 else picked holds none branches
 
 -- one layer of a term, with the values of its children in their places
-abbrev pub layer : {A : Type 0} → Meaning A → (ℕ → A) → Term-F A (A × A) → A
+abbrev pub layer : {A : Type 0} → Interpretation A → (ℕ → A) → Term-F A (A × A) → A
 layer m env (Term-F.Num n) = m.num n
 layer m env (Term-F.Name id) = env id
 layer m env (Term-F.Not x) = m.bool (not (m.holds x))
@@ -37,10 +37,10 @@ abbrev pub pair : {A : Type 0} → TermBranch-F A (A × A) → A × A
 pair branch = (branch.guard, branch.value)
 
 -- the value of a term whose names have the values of env
-abbrev pub value : {A : Type 0} → Meaning A → (ℕ → A) → Term → A
+abbrev pub value : {A : Type 0} → Interpretation A → (ℕ → A) → Term → A
 value {A} m env = fold-Term A (A × A) (layer m env) pair
 
-abbrev pub branch_value : {A : Type 0} → Meaning A → (ℕ → A) → TermBranch → A × A
+abbrev pub branch_value : {A : Type 0} → Interpretation A → (ℕ → A) → TermBranch → A × A
 branch_value {A} m env = fold-TermBranch A (A × A) (layer m env) pair
 
 -- whether one word is below another, both as signed numbers
@@ -56,8 +56,8 @@ compare_words op.Gt x y = signed_below y x
 compare_words op.Ge x y = not (signed_below x y)
 
 -- words of 64 bits: a truth is 1 or 0, and what isn't 0 holds
-abbrev pub words : Meaning ℕ
-words = record {
+abbrev pub word_meaning : Interpretation ℕ
+word_meaning = record {
   num = λ n. n;
   bool = λ b. if b then 1 else 0;
   holds = λ x. not (nat_eq x 0);

@@ -1,6 +1,6 @@
 //! Binding of a file to a table.
 ghost use Rattle.std.specs.Prelude.{◌≡◌, ◌≢◌, ◌<◌, ◌^◌, [], IfErr, IfOk, length, slice_get};
-ghost use Rattle.hcl_types.specs.Binding.{Gives, bound, declared, defined_as, is_of, of_kind, place, row_named};
+ghost use Rattle.hcl_types.specs.Binding.{IsBindAnswer, bound, declared, defined_as, is_of, of_kind, place, row_named};
 ghost use Rattle.hcl_types.specs.BindSteps as steps;
 ghost use Rattle.hcl_types.specs.Lists.{IsApart};
 ghost use Rattle.hcl_types.specs.Tables.{IsBound, IsSound, row_names};
@@ -10,7 +10,7 @@ ghost use Rattle.hcl_types.specs.declared.fault.BindWhy.TheVariants.{Memory as O
 use crate::expressions::bind_term;
 use crate::fault::{BindFault, BindWhy};
 use crate::kinds::{can_be, is_boolean};
-use crate::places::Places;
+use crate::places::NameIndex;
 use crate::table::{Class, Design, Role, Row, Table};
 use crate::term::{NameId, Term};
 use hcl_read::{Expr, File, Item, Kind, Text};
@@ -54,12 +54,12 @@ fn is_taken(bodies: &[Option<Term>], id: NameId) -> bool
 fn declare(
     alloc: Global,
     rows: &[Row],
-    places: &Places,
+    places: &NameIndex,
     kind: Kind,
     name: &Text,
 ) -> Result<(), BindFault>
     requires { places.now ≡ row_names rows.now }
-    ensures { Gives result (declared (row_named rows.now name.now) kind name.now) }
+    ensures { IsBindAnswer result (declared (row_named rows.now name.now) kind name.now) }
 {
     let Some(id) = places.find(name.bytes()) else {
         return Err(BindFault::of(alloc, BindWhy::Unknown, name));
@@ -80,7 +80,7 @@ fn declare(
 fn define(
     alloc: Global,
     rows: &[Row],
-    places: &Places,
+    places: &NameIndex,
     before: bool,
     row: &Row,
     kind: Kind,
@@ -88,7 +88,7 @@ fn define(
     body: &Expr,
 ) -> Result<Term, BindFault>
     requires { places.now ≡ row_names rows.now }
-    ensures { Gives result (defined_as rows.now before (Some row.now) kind name.now body.now) }
+    ensures { IsBindAnswer result (defined_as rows.now before (Some row.now) kind name.now body.now) }
 {
     if !is_defined(&row.role) {
         return Err(BindFault::of(alloc, BindWhy::Redefines, name));
@@ -108,7 +108,7 @@ fn define(
 fn put_definition(
     alloc: Global,
     rows: &[Row],
-    places: &Places,
+    places: &NameIndex,
     bodies: &mut Vec<Option<Term>>,
     kind: Kind,
     name: &Text,
@@ -116,7 +116,7 @@ fn put_definition(
 ) -> Result<(), BindFault>
     requires places { places.now ≡ row_names rows.now }
     requires whole { length bodies.old.items ≡ length rows.now }
-    ensures { steps.Leaves result bodies.new.items (steps.put_definition rows.now bodies.old.items (place places.now name.now) kind name.now body.now) }
+    ensures { steps.IsStepAnswer result bodies.new.items (steps.put_definition rows.now bodies.old.items (place places.now name.now) kind name.now body.now) }
 {
     let Some(id) = places.find(name.bytes()) else {
         return Err(BindFault::of(alloc, BindWhy::Unknown, name));
@@ -136,13 +136,13 @@ fn put_definition(
 fn put_item(
     alloc: Global,
     rows: &[Row],
-    places: &Places,
+    places: &NameIndex,
     bodies: &mut Vec<Option<Term>>,
     item: &Item,
 ) -> Result<(), BindFault>
     requires places { places.now ≡ row_names rows.now }
     requires whole { length bodies.old.items ≡ length rows.now }
-    ensures { steps.Leaves result bodies.new.items (steps.put_item rows.now bodies.old.items item.now) }
+    ensures { steps.IsStepAnswer result bodies.new.items (steps.put_item rows.now bodies.old.items item.now) }
 {
     match item {
         Item::Quote(_) => Ok(()),
@@ -161,13 +161,13 @@ fn put_item(
 fn put_items(
     alloc: Global,
     rows: &[Row],
-    places: &Places,
+    places: &NameIndex,
     bodies: &mut Vec<Option<Term>>,
     items: &[Item],
 ) -> Result<(), BindFault>
     requires places { places.now ≡ row_names rows.now }
     requires whole { length bodies.old.items ≡ length rows.now }
-    ensures { steps.Leaves result bodies.new.items (steps.put_items rows.now bodies.old.items items.now) }
+    ensures { steps.IsStepAnswer result bodies.new.items (steps.put_items rows.now bodies.old.items items.now) }
 {
     for item in items {
         match put_item(alloc, rows, places, bodies, item) {
@@ -196,7 +196,7 @@ fn put_row(
     row: &Row,
     body: Option<Term>,
 ) -> Result<(), BindFault>
-    ensures { steps.Leaves result terms.new.items (steps.put_row terms.old.items row.now body) }
+    ensures { steps.IsStepAnswer result terms.new.items (steps.put_row terms.old.items row.now body) }
 {
     if !is_defined(&row.role) {
         return Ok(());
@@ -216,7 +216,7 @@ fn put_rows(
     rows: &[Row],
     bodies: Vec<Option<Term>>,
 ) -> Result<Items<Term>, BindFault>
-    ensures { Gives result (steps.put_rows [] rows.now bodies.items) }
+    ensures { IsBindAnswer result (steps.put_rows [] rows.now bodies.items) }
 {
     let mut terms = Vec::new(alloc);
     let mut left = bodies.into_iter();
@@ -234,9 +234,9 @@ fn put_rows(
 fn bind_items(alloc: Global, rows: &[Row], items: &[Item]) -> Result<Items<Term>, BindFault>
     requires few { length rows.now < 2 ^ 32 }
     requires apart { IsApart (row_names rows.now) }
-    ensures { Gives result (steps.bound_in_steps rows.now items.now) }
+    ensures { IsBindAnswer result (steps.bound_in_steps rows.now items.now) }
 {
-    match Places::of(alloc, rows) {
+    match NameIndex::of(alloc, rows) {
         Err(_) => Err(BindFault::memory(alloc)),
         Ok(places) => match no_terms(alloc, rows) {
             Err(_) => Err(BindFault::memory(alloc)),

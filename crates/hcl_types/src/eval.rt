@@ -1,8 +1,8 @@
 //! What evaluates the definitions of a design.
 ghost use Rattle.std.specs.Prelude.{◌≡◌, ◌<◌, ℕ, IsTrue, List, [], length, slice_get, Some};
 ghost use Rattle.std.specs.List.{AllByRecursion};
-ghost use Rattle.hcl_types.specs.Signals.{Asks, Starts};
-ghost use Rattle.hcl_types.specs.Terms.{at, names, value, words};
+ghost use Rattle.hcl_types.specs.Signals.{HasEntries, Starts};
+ghost use Rattle.hcl_types.specs.Terms.{at, names, value, word_meaning};
 ghost use Rattle.hcl_types.specs.declared.term.Term.{Term};
 
 use crate::table::Design;
@@ -26,10 +26,10 @@ pub trait SignalEval {
     /// The value of the term at `def`, counted over the defined rows from 0, where every name in it has an
     /// entry of `vals`.
     fn eval(&mut self, def: u32, vals: &[u64]) -> u64
-        requires asks { (terms : List Term) × evaluates self.old terms × Asks terms def (length vals.now) }
+        requires asks { (terms : List Term) × evaluates self.old terms × HasEntries terms def (length vals.now) }
         requires assumed { Starts (assumes self.old) vals.now }
         ensures value { (terms : List Term) (t : Term) → evaluates self.old terms → slice_get terms def ≡ Some t →
-            AllByRecursion (λ id. id < length vals.now) (names t) → result ≡ value words (at vals.now) t }
+            AllByRecursion (λ id. id < length vals.now) (names t) → result ≡ value word_meaning (at vals.now) t }
         ensures kept { (terms : List Term) → evaluates self.old terms → evaluates self.new terms }
         ensures same { assumes self.new ≡ assumes self.old };
 }

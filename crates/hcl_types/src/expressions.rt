@@ -1,9 +1,9 @@
 //! Binding of an expression to a table.
 ghost use Rattle.std.specs.Prelude.{◌≡◌, ◌≢◌, map};
-ghost use Rattle.hcl_types.specs.Binding.{Gives, all_ok, branch_of, fault, named, place, term_of};
+ghost use Rattle.hcl_types.specs.Binding.{IsBindAnswer, all_ok, branch_of, fault, named, place, term_of};
 
 use crate::fault::{BindFault, BindWhy};
-use crate::places::Places;
+use crate::places::NameIndex;
 use crate::term::{Term, TermBranch};
 use hcl_read::{Branch, Expr, Text};
 use std::alloc::Global;
@@ -11,7 +11,7 @@ use y86_base::{Boxed, Items};
 
 /// A term in memory of its own.
 fn boxed(alloc: Global, t: Term) -> Result<Boxed<Term>, BindFault>
-    ensures { Gives result (Ok t) }
+    ensures { IsBindAnswer result (Ok t) }
 {
     match Boxed::of(alloc, t) {
         Ok(inner) => Ok(inner),
@@ -20,8 +20,8 @@ fn boxed(alloc: Global, t: Term) -> Result<Boxed<Term>, BindFault>
 }
 
 /// A name as the row that has it.
-fn bind_name(alloc: Global, places: &Places, name: &Text) -> Result<Term, BindFault>
-    ensures { Gives result (named name.now (place places.now name.now)) }
+fn bind_name(alloc: Global, places: &NameIndex, name: &Text) -> Result<Term, BindFault>
+    ensures { IsBindAnswer result (named name.now (place places.now name.now)) }
 {
     match places.find(name.bytes()) {
         Some(id) => Ok(Term::Name(id)),
@@ -31,8 +31,8 @@ fn bind_name(alloc: Global, places: &Places, name: &Text) -> Result<Term, BindFa
 
 /// An expression as a term: each name as the row that has it.
 #[cycle(binding)]
-pub fn bind_term(alloc: Global, places: &Places, e: &Expr) -> Result<Term, BindFault>
-    ensures { Gives result (term_of places.now e.now) }
+pub fn bind_term(alloc: Global, places: &NameIndex, e: &Expr) -> Result<Term, BindFault>
+    ensures { IsBindAnswer result (term_of places.now e.now) }
 {
     match e {
         Expr::Num(n) => Ok(Term::Num(*n)),
@@ -71,8 +71,8 @@ pub fn bind_term(alloc: Global, places: &Places, e: &Expr) -> Result<Term, BindF
 }
 
 #[cycle(binding)]
-pub fn bind_terms(alloc: Global, places: &Places, all: &[Expr]) -> Result<Items<Term>, BindFault>
-    ensures { Gives result (all_ok (map (term_of places.now) all.now)) }
+pub fn bind_terms(alloc: Global, places: &NameIndex, all: &[Expr]) -> Result<Items<Term>, BindFault>
+    ensures { IsBindAnswer result (all_ok (map (term_of places.now) all.now)) }
 {
     let mut terms = Vec::new(alloc);
     for e in all {
@@ -87,10 +87,10 @@ pub fn bind_terms(alloc: Global, places: &Places, all: &[Expr]) -> Result<Items<
 #[cycle(binding)]
 fn bind_branches(
     alloc: Global,
-    places: &Places,
+    places: &NameIndex,
     all: &[Branch],
 ) -> Result<Items<TermBranch>, BindFault>
-    ensures { Gives result (all_ok (map (branch_of places.now) all.now)) }
+    ensures { IsBindAnswer result (all_ok (map (branch_of places.now) all.now)) }
 {
     let mut branches = Vec::new(alloc);
     for branch in all {

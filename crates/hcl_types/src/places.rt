@@ -12,11 +12,11 @@ use std::marker::Model;
 
 /// The names of a table, each at the position of its row.
 #[derive(Drop)]
-pub struct Places {
+pub struct NameIndex {
     names: IndexSet<Vec<u8>>,
 }
 
-impl Model for Places {
+impl Model for NameIndex {
     ghost use Rattle.std.specs.Prelude.{◌<◌, ◌^◌, List, ℕ, length, map};
     ghost use Rattle.hcl_types.specs.Places.{bytes_of};
 
@@ -27,9 +27,9 @@ impl Model for Places {
     ghost invariant = { λ places. length places.names.keys < 2 ^ 32 };
 }
 
-impl Places {
+impl NameIndex {
     /// The names of these rows.
-    pub fn of(alloc: Global, rows: &[Row]) -> Result<Places, AllocError>
+    pub fn of(alloc: Global, rows: &[Row]) -> Result<NameIndex, AllocError>
         requires few { length rows.now < 2 ^ 32 }
         requires apart { IsApart (row_names rows.now) }
         ensures { IfOk result (λ places. places ≡ row_names rows.now) }
@@ -39,7 +39,7 @@ impl Places {
             let name = Vec::from_slice(alloc, row.name.bytes())?;
             names.insert(name)?;
         }
-        Ok(Places { names })
+        Ok(NameIndex { names })
     }
 
     /// The position of the row of a name.

@@ -2,7 +2,7 @@
 ghost use Rattle.std.specs.Prelude.{◌≡◌, map, if◌then◌else◌};
 ghost use Rattle.hcl_types.specs.Lists.{each, some};
 ghost use Rattle.hcl_read.specs.declared.tree.CmpOp.TheVariants.{Eq};
-ghost use Rattle.hcl_types.specs.Terms.{Meaning, at, branch_value, compare_words, picked, signed_below, value, words};
+ghost use Rattle.hcl_types.specs.Terms.{Interpretation, at, branch_value, compare_words, picked, signed_below, value, word_meaning};
 
 use crate::term::{Term, TermBranch};
 use hcl_read::CmpOp;
@@ -38,7 +38,7 @@ pub fn compare(op: CmpOp, x: u64, y: u64) -> bool
 /// The value of a term. A name past the end of the list is 0.
 #[cycle(evaluation)]
 pub fn value_of(t: &Term, vals: &[u64]) -> u64
-    ensures { result ≡ value words (at vals.now) t.now }
+    ensures { result ≡ value word_meaning (at vals.now) t.now }
 {
     match t {
         Term::Num(n) => *n,
@@ -64,7 +64,7 @@ pub fn value_of(t: &Term, vals: &[u64]) -> u64
 
 #[cycle(evaluation)]
 fn each_holds(all: &[Term], vals: &[u64]) -> bool
-    ensures { result ≡ each words.holds (map (value words (at vals.now)) all.now) }
+    ensures { result ≡ each word_meaning.holds (map (value word_meaning (at vals.now)) all.now) }
 {
     for t in all {
         if value_of(t, vals) == 0 {
@@ -76,7 +76,7 @@ fn each_holds(all: &[Term], vals: &[u64]) -> bool
 
 #[cycle(evaluation)]
 fn some_holds(all: &[Term], vals: &[u64]) -> bool
-    ensures { result ≡ some words.holds (map (value words (at vals.now)) all.now) }
+    ensures { result ≡ some word_meaning.holds (map (value word_meaning (at vals.now)) all.now) }
 {
     for t in all {
         if value_of(t, vals) != 0 {
@@ -88,7 +88,7 @@ fn some_holds(all: &[Term], vals: &[u64]) -> bool
 
 #[cycle(evaluation)]
 fn some_equals(left: u64, all: &[Term], vals: &[u64]) -> bool
-    ensures { result ≡ some (compare_words Eq left) (map (value words (at vals.now)) all.now) }
+    ensures { result ≡ some (compare_words Eq left) (map (value word_meaning (at vals.now)) all.now) }
 {
     for t in all {
         if value_of(t, vals) == left {
@@ -101,7 +101,7 @@ fn some_equals(left: u64, all: &[Term], vals: &[u64]) -> bool
 /// The value of the first branch whose guard isn't 0, or 0.
 #[cycle(evaluation)]
 fn first_taken(all: &[TermBranch], vals: &[u64]) -> u64
-    ensures { result ≡ picked words.holds 0 (map (branch_value words (at vals.now)) all.now) }
+    ensures { result ≡ picked word_meaning.holds 0 (map (branch_value word_meaning (at vals.now)) all.now) }
 {
     for branch in all {
         if value_of(&branch.guard, vals) != 0 {

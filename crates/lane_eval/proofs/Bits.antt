@@ -5,7 +5,7 @@ use Rattle.std.specs.Simd.Lanes.{zip2, Each1}
 use Rattle.std.proofs.lemmas.Nat.Bits.{bit_at_and, bit_at_not, bit_at_ones, bit_at-zero, bit_at-lt}
 use Rattle.std.proofs.lemmas.List.{get_or-map}
 use Rattle.std.proofs.lemmas.Simd.{get_or-zip2, get_or-replicate, Each1-get_or}
-use Rattle.lane_eval.specs.Lanes.{in_place}
+use Rattle.lane_eval.specs.Lanes.{lane_bit}
 
 -- a bit is 0 or 1
 bit_cases : (P : ℕ → Type 0) → P 0 → P 1 → (x : ℕ) → x < 2 → P x
@@ -29,28 +29,28 @@ word_of p h = omega (arith, h)
 bit_of : (p : ℕ) → p % 64 < 64
 bit_of p = omega arith
 
-pub place_and : (p : ℕ) (a b : List ℕ) → p < 512 → length a ≡ 8 → length b ≡ 8 → in_place p (zip2 bit_and a b) ≡ (in_place p a && in_place p b)
-unfolding in_place
+pub place_and : (p : ℕ) (a b : List ℕ) → p < 512 → length a ≡ 8 → length b ≡ 8 → lane_bit p (zip2 bit_and a b) ≡ (lane_bit p a && lane_bit p b)
+unfolding lane_bit
 place_and p a b h la lb =
     ap (λ n. bit_at n (p % 64) == 1) (get_or-zip2 bit_and a b (p / 64) 0 0 0 (omega (arith, word_of p h, la)) (omega (arith, word_of p h, lb)))
     ∙ test_and (get_or a (p / 64) 0) (get_or b (p / 64) 0) (p % 64)
 
-pub place_not : (p : ℕ) (a : List ℕ) → p < 512 → length a ≡ 8 → Each1 (Fits w64) a → in_place p (map (λ x. 2 ^ 64 - 1 - x) a) ≡ not (in_place p a)
-unfolding in_place
+pub place_not : (p : ℕ) (a : List ℕ) → p < 512 → length a ≡ 8 → Each1 (Fits w64) a → lane_bit p (map (λ x. 2 ^ 64 - 1 - x) a) ≡ not (lane_bit p a)
+unfolding lane_bit
 place_not p a h size words =
     let within : p / 64 < length a = omega (arith, word_of p h, size) in
     let word : Fits w64 (get_or a (p / 64) 0) = Each1-get_or (Fits w64) a (p / 64) 0 within words in
     ap (λ n. bit_at n (p % 64) == 1) (get_or-map (λ x. 2 ^ 64 - 1 - x) a (p / 64) 0 0 within)
     ∙ test_not (get_or a (p / 64) 0) (p % 64) word.fits (bit_of p)
 
-pub place_all : (p : ℕ) → p < 512 → in_place p (replicate 8 (2 ^ 64 - 1)) ≡ true
-unfolding in_place
+pub place_all : (p : ℕ) → p < 512 → lane_bit p (replicate 8 (2 ^ 64 - 1)) ≡ true
+unfolding lane_bit
 place_all p h =
     ap (λ n. bit_at n (p % 64) == 1) (get_or-replicate 8 (p / 64) (2 ^ 64 - 1) 0 (word_of p h))
     ∙ ap (λ n. n == 1) (bit_at_ones 64 (p % 64) (bit_of p))
 
-pub place_none : (p : ℕ) → p < 512 → in_place p (replicate 8 0) ≡ false
-unfolding in_place
+pub place_none : (p : ℕ) → p < 512 → lane_bit p (replicate 8 0) ≡ false
+unfolding lane_bit
 place_none p h =
     ap (λ n. bit_at n (p % 64) == 1) (get_or-replicate 8 (p / 64) 0 0 (word_of p h))
     ∙ ap (λ n. n == 1) (bit_at-zero (p % 64))

@@ -2,9 +2,9 @@
 use Rattle.std.proofs.Common.{◌≡◌, ◌⊎◌, inl, inr, ℕ, ◌+◌, ◌-◌, ◌<◌, ◌≤◌, Bool, true, false, List, length, slice_get, Option, Some, None, refl, sym, ap, ◌∙◌, subst, arith}
 use Rattle.std.proofs.lemmas.Bool.{cases_eq, cases_lt}
 use Rattle.std.proofs.lemmas.Option.{slice_get_within}
-use Rattle.rule_gates.specs.declared.rules.Rule.{Rule}
+use Rattle.ctl_rules.specs.declared.rules.Rule.{Rule}
 use Rattle.lane_eval.specs.Search.{AllHold, HoldBefore, IsFirstAt, IsFirstFalse}
-use Rattle.lane_eval.specs.declared.search.FoundRule.{FoundRule}
+use Rattle.lane_eval.specs.declared.search.Found.{Found}
 
 -- what is known behind the first rules: before the best place they are all true, and there, if it is one, the first that is false has this number
 pub record IsBest (holds : ℕ → Rule → Bool) (list : List Rule) (count k best number : ℕ) : Type 0 where
@@ -70,7 +70,7 @@ module _ (holds other : ℕ → Rule → Bool) (list : List Rule) (count : ℕ) 
   all_same : (i : ℕ) → i < count → AllHold holds list i → AllHold other list i
   all_same i h all j x at = sym (same i j x h at) ∙ all j x at
 
-  pub found_same : (o : Option FoundRule) → IsFirstFalse holds list count o → IsFirstFalse other list count o
+  pub found_same : (o : Option Found) → IsFirstFalse holds list count o → IsFirstFalse other list count o
   found_same None all = λ i h. all_same i h (all i h)
   found_same (Some found) f = (
     f.0,
@@ -103,7 +103,7 @@ module _ (holds block : ℕ → Rule → Bool) (list : List Rule) (at : ℕ) (sa
           subst (AllHold holds list) back (all_block (i - at) (all (i - at) (omega (arith, le, h))))
 
   -- what is found in it, within the count
-  pub block_some : (size count : ℕ) (found : FoundRule) → IsFirstFalse block list size (Some found) → at + found.index < count
+  pub block_some : (size count : ℕ) (found : Found) → IsFirstFalse block list size (Some found) → at + found.index < count
       → IsFirstFalse holds list count (Some (record { index = at + found.index; rule = found.rule }))
   block_some size count found f h = (
     h,
@@ -119,5 +119,5 @@ module _ (holds block : ℕ → Rule → Bool) (list : List Rule) (at : ℕ) (sa
   )
 
   -- what is found in it behind the count
-  pub block_past : (size count : ℕ) (found : FoundRule) → IsFirstFalse block list size (Some found) → count ≤ at + found.index → IsFirstFalse holds list count None
+  pub block_past : (size count : ℕ) (found : Found) → IsFirstFalse block list size (Some found) → count ≤ at + found.index → IsFirstFalse holds list count None
   block_past size count found f past = λ i h. at_index i found.index f.1 (omega (arith, h, past))

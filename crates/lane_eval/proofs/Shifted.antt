@@ -4,7 +4,7 @@ use Rattle.std.specs.Int.{bit_at}
 use Rattle.std.proofs.lemmas.Nat.Bits.{bit_at-suc}
 use Rattle.std.proofs.lemmas.Bool.{cases_eq}
 use Rattle.std.proofs.lemmas.List.{get_or-set_same, get_or-set_other, get_or-map, length-map, ext_get_or}
-use Rattle.lane_eval.specs.Lanes.{bit_test, in_place, across, along}
+use Rattle.lane_eval.specs.Lanes.{bit_test, lane_bit, across, along}
 use Rattle.lane_eval.proofs.Written.{chosen_same, chosen_other}
 
 pub shifted_top : (word result : ℕ) (truth : Bool) → ((j : ℕ) → j < 64 → bit_test result j ≡ (if j == 63 then truth else bit_test (word / 2) j)) → bit_test result 63 ≡ truth
@@ -19,8 +19,8 @@ shifted_rest word result truth is j h =
 
 -- one word of a vector is written
 pub word_set : (v : List ℕ) (l q word : ℕ) → length v ≡ 8 → l < 8 → q < 512
-    → in_place q (set v l word) ≡ (if q / 64 == l then bit_test word (q % 64) else in_place q v)
-unfolding in_place
+    → lane_bit q (set v l word) ≡ (if q / 64 == l then bit_test word (q % 64) else lane_bit q v)
+unfolding lane_bit
 word_set v l q word size hl hq = by (cases_eq (q / 64) l)
   where
     by : ((q / 64) ≡ l) ⊎ ((q / 64) ≡ l → ⊥) → bit_test (get_or (set v l word) (q / 64) 0) (q % 64) ≡ (if q / 64 == l then bit_test word (q % 64) else bit_test (get_or v (q / 64) 0) (q % 64))
@@ -46,9 +46,9 @@ along_others j k words old size each =
 
 -- each vector has the truth of a word's place
 pub across_words : (q j : ℕ) (vs : List (List ℕ)) (words : List ℕ) → length words ≡ length vs
-    → ((u : ℕ) → u < length vs → in_place q (get_or vs u []) ≡ bit_test (get_or words u 0) j) → across q vs ≡ along j words
+    → ((u : ℕ) → u < length vs → lane_bit q (get_or vs u []) ≡ bit_test (get_or words u 0) j) → across q vs ≡ along j words
 across_words q j vs words size each =
-    ext_get_or false (across q vs) (along j words) (length-map vs (in_place q) ∙ (sym size ∙ sym (length-map words (λ word. bit_test word j))))
+    ext_get_or false (across q vs) (along j words) (length-map vs (lane_bit q) ∙ (sym size ∙ sym (length-map words (λ word. bit_test word j))))
     (λ i h.
-    let small : i < length vs = omega (arith, h, length-map vs (in_place q)) in
-    get_or-map (in_place q) vs i [] false small ∙ (each i small ∙ sym (get_or-map (λ word. bit_test word j) words i 0 false (omega (arith, small, size)))))
+    let small : i < length vs = omega (arith, h, length-map vs (lane_bit q)) in
+    get_or-map (lane_bit q) vs i [] false small ∙ (each i small ∙ sym (get_or-map (λ word. bit_test word j) words i 0 false (omega (arith, small, size)))))

@@ -1,7 +1,7 @@
 //! Vectors of 512 bits as the truths of gates: each operation of a gate in all places at once, and a whole net in one pass.
 ghost use Rattle.std.specs.Prelude.{◌≡◌, ◌<◌, ◌≤◌, ◌&&◌, not, ℕ, [], length, take, get_or, IfOk};
 ghost use Rattle.nets.specs.Nets.{ReadsEarlier, gate_value, truth, truths, values};
-ghost use Rattle.lane_eval.specs.Lanes.{across, in_place};
+ghost use Rattle.lane_eval.specs.Lanes.{across, lane_bit};
 
 use nets::{Gate, Net};
 use std::alloc::Global;
@@ -12,7 +12,7 @@ use y86_base::Memory;
 /// One truth in all places.
 #[tactic(auto, using(crate::proofs::Bits::place_all, crate::proofs::Bits::place_none))]
 fn every(truth: bool) -> u64x8
-    ensures { (p : ℕ) → p < 512 → in_place p result ≡ truth }
+    ensures { (p : ℕ) → p < 512 → lane_bit p result ≡ truth }
 {
     if truth {
         u64x8::splat(u64::MAX)
@@ -23,14 +23,14 @@ fn every(truth: bool) -> u64x8
 
 /// The other truth in each place.
 fn inverted(a: u64x8) -> u64x8
-    ensures { (p : ℕ) → p < 512 → in_place p result ≡ not (in_place p a) }
+    ensures { (p : ℕ) → p < 512 → lane_bit p result ≡ not (lane_bit p a) }
 {
     !a
 }
 
 /// Whether both are true, in each place.
 fn both(a: u64x8, b: u64x8) -> u64x8
-    ensures { (p : ℕ) → p < 512 → in_place p result ≡ (in_place p a && in_place p b) }
+    ensures { (p : ℕ) → p < 512 → lane_bit p result ≡ (lane_bit p a && lane_bit p b) }
 {
     a & b
 }
@@ -38,7 +38,7 @@ fn both(a: u64x8, b: u64x8) -> u64x8
 /// The truths of a gate in 512 places, given those of the variables and of the gates before it.
 fn gate_lanes(gate: Gate, lanes: &[u64x8], earlier: &[u64x8]) -> u64x8
     requires { ReadsEarlier (length lanes.now) (length earlier.now) gate }
-    ensures { (p : ℕ) → p < 512 → in_place p result ≡ gate_value (across p lanes.now) (across p earlier.now) gate }
+    ensures { (p : ℕ) → p < 512 → lane_bit p result ≡ gate_value (across p lanes.now) (across p earlier.now) gate }
 {
     match gate {
         Gate::Const(truth) => return every(truth),
@@ -96,9 +96,9 @@ impl Scratch {
 
     /// Evaluates all gates of a net, given the truths of the variables in 512 places.
     pub fn run(&mut self, n: &Net, lanes: &[u64x8])
-        requires made { length self.old ≡ length n.now.gates }
+        requires has_truth { length self.old ≡ length n.now.gates }
         requires variables { length lanes.now ≡ n.now.vars }
-        ensures made { length self.new ≡ length n.now.gates }
+        ensures has_truth { length self.new ≡ length n.now.gates }
         ensures truths { (p : ℕ) → p < 512 → across p self.new ≡ truths n.now (across p lanes.now) }
     {
         fill(n, n.len(), lanes, self.truths.as_mut_slice());
@@ -118,9 +118,9 @@ impl Scratch {
 pub fn eval512(n: &Net, gate: u64, lanes: &[u64x8], s: &mut Scratch) -> u64x8
     requires gate { gate < length n.now.gates }
     requires variables { length lanes.now ≡ n.now.vars }
-    requires made { length s.old ≡ length n.now.gates }
-    ensures made { length s.new ≡ length n.now.gates }
-    ensures truth { (p : ℕ) → p < 512 → in_place p result ≡ truth n.now gate (across p lanes.now) }
+    requires has_truth { length s.old ≡ length n.now.gates }
+    ensures has_truth { length s.new ≡ length n.now.gates }
+    ensures truth { (p : ℕ) → p < 512 → lane_bit p result ≡ truth n.now gate (across p lanes.now) }
 {
     fill(n, gate, lanes, s.truths.as_mut_slice());
     gate_lanes(n.gate(gate), lanes, &s.truths.as_slice()[..gate as usize])

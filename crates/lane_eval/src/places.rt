@@ -1,6 +1,6 @@
 //! One place of vectors: written in each of several, and the first one in which a vector is false.
 ghost use Rattle.std.specs.Prelude.{◌≡◌, ◌≢◌, ◌<◌, ◌≤◌, ◌==◌, ℕ, true, false, length, if◌then◌else◌};
-ghost use Rattle.lane_eval.specs.Lanes.{across, bit_test, in_place};
+ghost use Rattle.lane_eval.specs.Lanes.{across, bit_test, lane_bit};
 
 use std::simd::u64x8;
 
@@ -15,7 +15,7 @@ pub(crate) fn with_bit(word: u64, k: u64, bit: bool) -> u64
 /// A vector with the truth of one of its places put.
 fn with_truth(vector: u64x8, p: u64, truth: bool) -> u64x8
     requires { p < 512 }
-    ensures { (q : ℕ) → q < 512 → in_place q result ≡ (if q == p then truth else in_place q vector) }
+    ensures { (q : ℕ) → q < 512 → lane_bit q result ≡ (if q == p then truth else lane_bit q vector) }
 {
     let mut words = vector.to_array();
     let l = (p / 64) as usize;
@@ -38,8 +38,8 @@ pub fn put_place(lanes: &mut [u64x8], p: u64, truths: &[bool])
 /// The first place of a vector that is false, and 512 where none is.
 pub fn first_false_place(vector: u64x8) -> u64
     ensures within { result ≤ 512 }
-    ensures before { (p : ℕ) → p < result → in_place p vector ≡ true }
-    ensures there { result < 512 → in_place result vector ≡ false }
+    ensures before { (p : ℕ) → p < result → lane_bit p vector ≡ true }
+    ensures there { result < 512 → lane_bit result vector ≡ false }
 {
     let words = vector.to_array();
     for l in 0..8 {

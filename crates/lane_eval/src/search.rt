@@ -1,22 +1,22 @@
 //! The first rule that is false of a drawn valuation: 512 valuations at once, block after block.
 ghost use Rattle.std.specs.Prelude.{◌≡◌, ◌<◌, ◌≤◌, ◌+◌, ◌-◌, ◌==◌, ℕ, length, slice_get, IfOk};
 ghost use Rattle.pipe_fields.specs.Layout.{bit_count};
-ghost use Rattle.lane_eval.specs.Lanes.{across, along, in_place};
-ghost use Rattle.lane_eval.specs.Search.{AreGatesOf, IsFirstFalse, holds_drawn, holds_in};
+ghost use Rattle.lane_eval.specs.Lanes.{across, along, lane_bit};
+ghost use Rattle.lane_eval.specs.Search.{RulesHaveGates, IsFirstFalse, holds_drawn, holds_in};
 ghost use Rattle.prog_gen.specs.Choices.{valuation};
 
 use crate::lanes::Scratch;
 use crate::places::first_false_place;
 use crate::words::{put_words, shift_in};
+use ctl_rules::{Rule, Rules};
 use prog_gen::draw_valuation;
-use rule_gates::{Rule, Rules};
 use std::alloc::Global;
 use std::simd::u64x8;
 use y86_base::{Memory, Variant};
 
 /// A rule that is false of a drawn valuation: the valuation's index, and the rule's number.
 #[derive(Clone, Copy, Debug, PartialEq, Eq)]
-pub struct FoundRule {
+pub struct Found {
     pub index: u64,
     pub rule: u32,
 }
@@ -47,7 +47,7 @@ fn draw_block(v: Variant, seed: u64, bits: &mut [bool], words: &mut [u64], lanes
 }
 
 /// The first place in which some rule of a list is false, and the first such rule.
-fn first_of(list: &[Rule], s: &Scratch) -> Option<FoundRule>
+fn first_of(list: &[Rule], s: &Scratch) -> Option<Found>
     requires { (k : ℕ) (x : Rule) → slice_get list.now k ≡ Some x → x.gate < length s.now }
     ensures { IsFirstFalse (holds_in s.now) list.now 512 result }
 {
@@ -62,7 +62,7 @@ fn first_of(list: &[Rule], s: &Scratch) -> Option<FoundRule>
         }
     }
     if best < 512 {
-        Some(FoundRule {
+        Some(Found {
             index: best,
             rule: number,
         })
@@ -79,14 +79,14 @@ fn search_block(
     words: &mut [u64],
     lanes: &mut [u64x8],
     s: &mut Scratch,
-) -> Option<FoundRule>
+) -> Option<Found>
     requires fields { bit_count ≤ r.now.net.vars }
-    requires gates { AreGatesOf r.now.net r.now.list }
+    requires gates { RulesHaveGates r.now.net r.now.list }
     requires bits { length bits.old ≡ r.now.net.vars }
     requires words { length words.old ≡ r.now.net.vars }
     requires lanes { length lanes.old ≡ r.now.net.vars }
-    requires made { length s.old ≡ length r.now.net.gates }
-    ensures made { length s.new ≡ length r.now.net.gates }
+    requires has_truth { length s.old ≡ length r.now.net.gates }
+    ensures has_truth { length s.new ≡ length r.now.net.gates }
     ensures found { IsFirstFalse (holds_drawn r.now seed) r.now.list 512 result }
 {
     draw_block(r.variant, seed, bits, words, lanes);
@@ -103,13 +103,13 @@ fn search_blocks(
     words: &mut [u64],
     lanes: &mut [u64x8],
     s: &mut Scratch,
-) -> Option<FoundRule>
+) -> Option<Found>
     requires fields { bit_count ≤ r.now.net.vars }
-    requires gates { AreGatesOf r.now.net r.now.list }
+    requires gates { RulesHaveGates r.now.net r.now.list }
     requires bits { length bits.old ≡ r.now.net.vars }
     requires words { length words.old ≡ r.now.net.vars }
     requires lanes { length lanes.old ≡ r.now.net.vars }
-    requires made { length s.old ≡ length r.now.net.gates }
+    requires has_truth { length s.old ≡ length r.now.net.gates }
     ensures { IsFirstFalse (holds_drawn r.now seed) r.now.list count result }
 {
     let mut at = 0;
@@ -118,7 +118,7 @@ fn search_blocks(
         match search_block(r, seed.wrapping_add(at), bits, words, lanes, s) {
             Some(found) => {
                 if found.index < left {
-                    return Some(FoundRule {
+                    return Some(Found {
                         index: at + found.index,
                         rule: found.rule,
                     });
@@ -150,15 +150,10 @@ fn zeros<T: Copy>(alloc: Global, zero: T, n: u32) -> Result<Vec<T>, Memory>
 
 /// The least index below `count` at whose valuation of `seed` some rule is false, and the first such rule; `None` where there
 /// is none. The rules' net has a variable for each bit of a control valuation's fields, and one for each atom.
-pub fn first_false(
-    alloc: Global,
-    r: &Rules,
-    seed: u64,
-    count: u64,
-) -> Result<Option<FoundRule>, Memory>
+pub fn first_false(alloc: Global, r: &Rules, seed: u64, count: u64) -> Result<Option<Found>, Memory>
     requires fields { bit_count ≤ r.now.net.vars }
     requires atoms { r.now.net.vars ≤ bit_count + 64 }
-    requires gates { AreGatesOf r.now.net r.now.list }
+    requires gates { RulesHaveGates r.now.net r.now.list }
     ensures { IfOk result (IsFirstFalse (holds_drawn r.now seed) r.now.list count) }
 {
     let n = r.net.vars();

@@ -1,6 +1,6 @@
 //! Words of 64 places, one for each vector: truths are shifted in place after place, and words are put into vectors.
 ghost use Rattle.std.specs.Prelude.{◌≡◌, ◌≢◌, ◌<◌, ◌+◌, ◌/◌, ◌%◌, ◌==◌, ℕ, length, if◌then◌else◌};
-ghost use Rattle.lane_eval.specs.Lanes.{across, along, bit_test, in_place};
+ghost use Rattle.lane_eval.specs.Lanes.{across, along, bit_test, lane_bit};
 
 use crate::places::with_bit;
 use std::simd::u64x8;
@@ -27,7 +27,7 @@ pub(crate) fn shift_in(words: &mut [u64], truths: &[bool])
 /// A vector with one of its words put.
 fn with_word(vector: u64x8, l: u64, word: u64) -> u64x8
     requires { l < 8 }
-    ensures { (q : ℕ) → q < 512 → in_place q result ≡ (if q / 64 == l then bit_test word (q % 64) else in_place q vector) }
+    ensures { (q : ℕ) → q < 512 → lane_bit q result ≡ (if q / 64 == l then bit_test word (q % 64) else lane_bit q vector) }
 {
     let mut words = vector.to_array();
     words[l as usize] = word;

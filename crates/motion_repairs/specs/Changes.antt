@@ -6,7 +6,7 @@ use Rattle.ctl_atoms.specs.declared.leaf.Leaf.TheVariants.{Name}
 use Rattle.ctl_atoms.specs.Leaves.{Assignment}
 use Rattle.control_values.specs.Given.{at}
 use Rattle.pipe_fields.specs.Layout.{Fields}
-use Rattle.pipe_motion.specs.Slots.{View, Mover, Movers}
+use Rattle.pipe_motion.specs.Flow.{Flow, RegisterControl, RegisterControls}
 use Rattle.pipe_motion.specs.declared.settings.Settings.{Settings}
 use Rattle.pipe_obligations.specs.Obligations.{o10, o11, o23, o24, o25, o26, o27}
 use Rattle.dp_signals.specs.PipeNames as signal
@@ -15,20 +15,20 @@ use Rattle.dp_signals.specs.PipeNames as signal
 abbrev pub inverted : ℕ → ℕ → Bool → Bool
 inverted name own b = if name == own then not b else b
 
-abbrev pub mover_inverted : ℕ → ℕ → ℕ → Mover → Mover
-mover_inverted name stall bubble k = record { stall = inverted name stall k.stall; bubble = inverted name bubble k.bubble }
+abbrev pub control_inverted : ℕ → ℕ → ℕ → RegisterControl → RegisterControl
+control_inverted name stall bubble k = record { stall = inverted name stall k.stall; bubble = inverted name bubble k.bubble }
 
-abbrev pub with_inverted : ℕ → Movers → Movers
+abbrev pub with_inverted : ℕ → RegisterControls → RegisterControls
 with_inverted name k = record {
-  f = mover_inverted name signal.F_stall signal.F_bubble k.f;
-  d = mover_inverted name signal.D_stall signal.D_bubble k.d;
-  e = mover_inverted name signal.E_stall signal.E_bubble k.e;
-  m = mover_inverted name signal.M_stall signal.M_bubble k.m;
-  w = mover_inverted name signal.W_stall signal.W_bubble k.w;
+  f = control_inverted name signal.F_stall signal.F_bubble k.f;
+  d = control_inverted name signal.D_stall signal.D_bubble k.d;
+  e = control_inverted name signal.E_stall signal.E_bubble k.e;
+  m = control_inverted name signal.M_stall signal.M_bubble k.m;
+  w = control_inverted name signal.W_stall signal.W_bubble k.w;
 }
 
 -- the obligations that depend on the stall and bubble signals
-abbrev pub meets_motion : Variant → Settings → Fields → View → Movers → Assignment → (ℕ → Leaf) → Bool
+abbrev pub meets_motion : Variant → Settings → Fields → Flow → RegisterControls → Assignment → (ℕ → Leaf) → Bool
 meets_motion v s c y mv α cv =
     o10 v s c y mv α cv
     && (o11 v s c y mv α cv
@@ -51,13 +51,13 @@ abbrev pub with_pc : ℕ → List Leaf → List Leaf
 with_pc source leaves = slice_set leaves signal.f_pc (Name source)
 
 -- whether they are met where f_pc picks this name
-unfoldable pub is_pc_repair : Variant → Settings → Fields → View → Movers → Assignment → List Leaf → ℕ → Bool
+unfoldable pub is_pc_repair : Variant → Settings → Fields → Flow → RegisterControls → Assignment → List Leaf → ℕ → Bool
 is_pc_repair v s c y mv α leaves source = meets_motion v s c y mv α (at (with_pc source leaves))
 
 -- the names of which each, picked by f_pc, meets them all
-unfoldable pub pc_repairs : Variant → Settings → Fields → View → Movers → Assignment → List Leaf → List ℕ
+unfoldable pub pc_repairs : Variant → Settings → Fields → Flow → RegisterControls → Assignment → List Leaf → List ℕ
 pc_repairs v s c y mv α leaves = filter (is_pc_repair v s c y mv α leaves) pc_sources
 
 -- the signals of which each, inverted alone, meets them all
-unfoldable pub signal_repairs : Variant → Settings → Fields → View → Movers → Assignment → (ℕ → Leaf) → List ℕ
+unfoldable pub signal_repairs : Variant → Settings → Fields → Flow → RegisterControls → Assignment → (ℕ → Leaf) → List ℕ
 signal_repairs v s c y mv α cv = filter (λ name. meets_motion v s c y (with_inverted name mv) α cv) stall_bubble_signals

@@ -5,7 +5,7 @@ use Rattle.ctl_atoms.specs.declared.leaf.Leaf.{Leaf}
 use Rattle.ctl_atoms.specs.Leaves.{Assignment}
 use Rattle.control_values.specs.Given.{at}
 use Rattle.pipe_fields.specs.Layout.{Fields}
-use Rattle.pipe_motion.specs.Slots.{View, Movers}
+use Rattle.pipe_motion.specs.Flow.{Flow, RegisterControls}
 use Rattle.pipe_motion.specs.declared.settings.Settings.{Settings}
 use Rattle.motion_repairs.specs.declared.pairs.Pair.{Pair}
 use Rattle.motion_repairs.specs.declared.pairs.Repairs.{Repairs}
@@ -25,7 +25,7 @@ unfoldable pub combinations : List ℕ → List ℕ → List Pair
 combinations [] seconds = []
 combinations (first ∷ rest) seconds = pairs_with first seconds ++ combinations rest seconds
 
-module _ (v : Variant) (s : Settings) (c : Fields) (y : View) (mv : Movers) (α : Assignment) (leaves : List Leaf) where
+module _ (v : Variant) (s : Settings) (c : Fields) (y : Flow) (mv : RegisterControls) (α : Assignment) (leaves : List Leaf) where
   -- whether they are met with both signals inverted
   unfoldable pub is_met_by_both : Pair → Bool
   is_met_by_both pair = meets_motion v s c y (with_inverted pair.second (with_inverted pair.first mv)) α (at leaves)

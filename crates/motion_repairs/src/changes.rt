@@ -2,19 +2,19 @@
 ghost use Rattle.std.specs.Prelude.{◌≡◌, ◌≤◌, ◌++◌, ◌∷◌, ◌==◌, [], IfOk, OnOk, filter, if◌then◌else◌};
 ghost use Rattle.control_values.specs.Given.{at};
 ghost use Rattle.pipe_requirements.specs.Requirements.{unread};
-ghost use Rattle.pipe_requirements.specs.Views.{fields_in, mover_in, movers_in, view_in};
+ghost use Rattle.pipe_requirements.specs.Flows.{fields_in, as_register_control, as_register_controls, as_flow};
 ghost use Rattle.pipe_obligations.specs.Obligations as rule;
 ghost use Rattle.motion_repairs.specs.Changes as spec;
 
-use crate::fetch::{fetched, is_fetch_good, takes};
+use crate::fetch::{fetched, is_fetch_good, picks_leaf};
 use crate::moves::is_met;
 use ctl_atoms::{Leaf, same_leaf};
 use dp_signals::pipe_row as name;
 use hcl_types::NameId;
-use pipe_requirements::{MoverNow, MoversNow, Now, is_number, leaf_at, leaves};
+use pipe_requirements::{Now, RegisterControlNow, RegisterControlsNow, is_number, leaf_at, leaves};
 use std::alloc::Global;
 use y86_base::Memory;
-use y86_isa::{carries_p, row, stores_a};
+use y86_isa::{row, select_a_is_val_p, stores_val_a};
 
 /// A signal's truth, inverted if it has this name.
 fn inverted(signal: NameId, own: NameId, b: bool) -> bool
@@ -23,31 +23,36 @@ fn inverted(signal: NameId, own: NameId, b: bool) -> bool
     if signal == own { !b } else { b }
 }
 
-fn mover_inverted(signal: NameId, stall: NameId, bubble: NameId, k: MoverNow) -> MoverNow
-    ensures { mover_in result ≡ spec.mover_inverted signal stall bubble (mover_in k) }
+fn control_inverted(
+    signal: NameId,
+    stall: NameId,
+    bubble: NameId,
+    k: RegisterControlNow,
+) -> RegisterControlNow
+    ensures { as_register_control result ≡ spec.control_inverted signal stall bubble (as_register_control k) }
 {
-    MoverNow {
+    RegisterControlNow {
         stall: inverted(signal, stall, k.stall),
         bubble: inverted(signal, bubble, k.bubble),
     }
 }
 
 /// The ten signals with one of them inverted.
-pub fn with_inverted(signal: NameId, k: &MoversNow) -> MoversNow
-    ensures { movers_in result ≡ spec.with_inverted signal (movers_in k.now) }
+pub fn with_inverted(signal: NameId, k: &RegisterControlsNow) -> RegisterControlsNow
+    ensures { as_register_controls result ≡ spec.with_inverted signal (as_register_controls k.now) }
 {
-    MoversNow {
-        f: mover_inverted(signal, name::F_STALL, name::F_BUBBLE, k.f),
-        d: mover_inverted(signal, name::D_STALL, name::D_BUBBLE, k.d),
-        e: mover_inverted(signal, name::E_STALL, name::E_BUBBLE, k.e),
-        m: mover_inverted(signal, name::M_STALL, name::M_BUBBLE, k.m),
-        w: mover_inverted(signal, name::W_STALL, name::W_BUBBLE, k.w),
+    RegisterControlsNow {
+        f: control_inverted(signal, name::F_STALL, name::F_BUBBLE, k.f),
+        d: control_inverted(signal, name::D_STALL, name::D_BUBBLE, k.d),
+        e: control_inverted(signal, name::E_STALL, name::E_BUBBLE, k.e),
+        m: control_inverted(signal, name::M_STALL, name::M_BUBBLE, k.m),
+        w: control_inverted(signal, name::W_STALL, name::W_BUBBLE, k.w),
     }
 }
 
 /// The signal picks the right value of a source.
-fn takes_right(n: &Now<'_>, free: bool, signal: NameId, source: NameId, rest: NameId) -> bool
-    ensures { result ≡ rule.takes_right n.now.v n.now.s.now (fields_in n.now.l.now) (view_in n.now.y.now) (movers_in n.now.mv.now) unread (at n.now.leaves.now) free signal source rest }
+fn picks_right_value(n: &Now<'_>, free: bool, signal: NameId, source: NameId, rest: NameId) -> bool
+    ensures { result ≡ rule.picks_right_value n.now.v n.now.s.now (fields_in n.now.l.now) (as_flow n.now.y.now) (as_register_controls n.now.mv.now) unread (at n.now.leaves.now) free signal source rest }
 {
     is_number(n.leaves, source, 15)
         || (if n.loaded_in_e(source) {
@@ -58,14 +63,14 @@ fn takes_right(n: &Now<'_>, free: bool, signal: NameId, source: NameId, rest: Na
 }
 
 fn met_10(n: &Now<'_>) -> bool
-    ensures { result ≡ rule.o10 n.now.v n.now.s.now (fields_in n.now.l.now) (view_in n.now.y.now) (movers_in n.now.mv.now) unread (at n.now.leaves.now) }
+    ensures { result ≡ rule.o10 n.now.v n.now.s.now (fields_in n.now.l.now) (as_flow n.now.y.now) (as_register_controls n.now.mv.now) unread (at n.now.leaves.now) }
 {
     let here = row(n.v, n.l.d.icode);
     !leaves(n.mv, n.y)
-        || ((!carries_p(&here) || takes(n.leaves, name::D_VAL_A, name::HELD_D_VAL_P))
-            && takes_right(
+        || ((!select_a_is_val_p(&here) || picks_leaf(n.leaves, name::D_VAL_A, name::HELD_D_VAL_P))
+            && picks_right_value(
                 n,
-                n.s.lf && stores_a(here.memory),
+                n.s.lf && stores_val_a(here.memory),
                 name::D_VAL_A,
                 name::D_SRC_A,
                 name::D_RVAL_A,
@@ -73,20 +78,20 @@ fn met_10(n: &Now<'_>) -> bool
 }
 
 fn met_11(n: &Now<'_>) -> bool
-    ensures { result ≡ rule.o11 n.now.v n.now.s.now (fields_in n.now.l.now) (view_in n.now.y.now) (movers_in n.now.mv.now) unread (at n.now.leaves.now) }
+    ensures { result ≡ rule.o11 n.now.v n.now.s.now (fields_in n.now.l.now) (as_flow n.now.y.now) (as_register_controls n.now.mv.now) unread (at n.now.leaves.now) }
 {
-    !leaves(n.mv, n.y) || takes_right(n, false, name::D_VAL_B, name::D_SRC_B, name::D_RVAL_B)
+    !leaves(n.mv, n.y) || picks_right_value(n, false, name::D_VAL_B, name::D_SRC_B, name::D_RVAL_B)
 }
 
 /// An obligation from 23 to 27 is met.
 fn moves_well(n: &Now<'_>, number: u32) -> bool
     requires first { 23 ≤ number }
     requires last { number ≤ 27 }
-    ensures { result ≡ (if number == 23 then rule.o23 n.now.v n.now.s.now (fields_in n.now.l.now) (view_in n.now.y.now) (movers_in n.now.mv.now) unread (at n.now.leaves.now)
-        else (if number == 24 then rule.o24 n.now.v n.now.s.now (fields_in n.now.l.now) (view_in n.now.y.now) (movers_in n.now.mv.now) unread (at n.now.leaves.now)
-        else (if number == 25 then rule.o25 n.now.v n.now.s.now (fields_in n.now.l.now) (view_in n.now.y.now) (movers_in n.now.mv.now) unread (at n.now.leaves.now)
-        else (if number == 26 then rule.o26 n.now.v n.now.s.now (fields_in n.now.l.now) (view_in n.now.y.now) (movers_in n.now.mv.now) unread (at n.now.leaves.now)
-        else rule.o27 n.now.v n.now.s.now (fields_in n.now.l.now) (view_in n.now.y.now) (movers_in n.now.mv.now) unread (at n.now.leaves.now))))) }
+    ensures { result ≡ (if number == 23 then rule.o23 n.now.v n.now.s.now (fields_in n.now.l.now) (as_flow n.now.y.now) (as_register_controls n.now.mv.now) unread (at n.now.leaves.now)
+        else (if number == 24 then rule.o24 n.now.v n.now.s.now (fields_in n.now.l.now) (as_flow n.now.y.now) (as_register_controls n.now.mv.now) unread (at n.now.leaves.now)
+        else (if number == 25 then rule.o25 n.now.v n.now.s.now (fields_in n.now.l.now) (as_flow n.now.y.now) (as_register_controls n.now.mv.now) unread (at n.now.leaves.now)
+        else (if number == 26 then rule.o26 n.now.v n.now.s.now (fields_in n.now.l.now) (as_flow n.now.y.now) (as_register_controls n.now.mv.now) unread (at n.now.leaves.now)
+        else rule.o27 n.now.v n.now.s.now (fields_in n.now.l.now) (as_flow n.now.y.now) (as_register_controls n.now.mv.now) unread (at n.now.leaves.now))))) }
 {
     let facts = fetched(n);
     is_met(number, n.s.je, n.s.rm, n.mv, is_fetch_good(n), &facts, n.y)
@@ -94,7 +99,7 @@ fn moves_well(n: &Now<'_>, number: u32) -> bool
 
 /// Whether all obligations on motion are met.
 pub fn meets_motion(n: &Now<'_>) -> bool
-    ensures { result ≡ spec.meets_motion n.now.v n.now.s.now (fields_in n.now.l.now) (view_in n.now.y.now) (movers_in n.now.mv.now) unread (at n.now.leaves.now) }
+    ensures { result ≡ spec.meets_motion n.now.v n.now.s.now (fields_in n.now.l.now) (as_flow n.now.y.now) (as_register_controls n.now.mv.now) unread (at n.now.leaves.now) }
 {
     met_10(n)
         && (met_11(n)
@@ -105,7 +110,7 @@ pub fn meets_motion(n: &Now<'_>) -> bool
 
 /// Whether they are met with one of the signals inverted.
 pub(crate) fn is_repaired(n: &Now<'_>, signal: NameId) -> bool
-    ensures { result ≡ spec.meets_motion n.now.v n.now.s.now (fields_in n.now.l.now) (view_in n.now.y.now) (spec.with_inverted signal (movers_in n.now.mv.now)) unread (at n.now.leaves.now) }
+    ensures { result ≡ spec.meets_motion n.now.v n.now.s.now (fields_in n.now.l.now) (as_flow n.now.y.now) (spec.with_inverted signal (as_register_controls n.now.mv.now)) unread (at n.now.leaves.now) }
 {
     let mv = with_inverted(signal, n.mv);
     let other = Now {
@@ -151,7 +156,7 @@ fn put(out: &mut Vec<NameId>, signal: NameId) -> Result<(), Memory>
 /// The signals of which each, inverted alone, meets all obligations on motion.
 #[tactic(auto, unfolding(crate::specs::Changes::signal_repairs))]
 pub fn signal_repairs(alloc: Global, n: &Now<'_>) -> Result<Vec<NameId>, Memory>
-    ensures { IfOk result (λ r. r.items ≡ spec.signal_repairs n.now.v n.now.s.now (fields_in n.now.l.now) (view_in n.now.y.now) (movers_in n.now.mv.now) unread (at n.now.leaves.now)) }
+    ensures { IfOk result (λ r. r.items ≡ spec.signal_repairs n.now.v n.now.s.now (fields_in n.now.l.now) (as_flow n.now.y.now) (as_register_controls n.now.mv.now) unread (at n.now.leaves.now)) }
 {
     let mut out = Vec::new(alloc);
     for signal in stall_bubble_signals() {
@@ -182,7 +187,7 @@ fn with_pc(alloc: Global, leaves: &[Leaf], source: NameId) -> Result<Vec<Leaf>, 
 /// Whether the obligations on motion are met where `f_pc` picks this name.
 #[tactic(auto, unfolding(crate::specs::Changes::is_pc_repair))]
 pub(crate) fn is_repaired_by_pc(alloc: Global, n: &Now<'_>, source: NameId) -> Result<bool, Memory>
-    ensures { IfOk result (λ met. met ≡ spec.is_pc_repair n.now.v n.now.s.now (fields_in n.now.l.now) (view_in n.now.y.now) (movers_in n.now.mv.now) unread n.now.leaves.now source) }
+    ensures { IfOk result (λ met. met ≡ spec.is_pc_repair n.now.v n.now.s.now (fields_in n.now.l.now) (as_flow n.now.y.now) (as_register_controls n.now.mv.now) unread n.now.leaves.now source) }
 {
     let leaves = with_pc(alloc, n.leaves, source)?;
     let other = Now {
@@ -216,7 +221,7 @@ pub(crate) fn pc_sources() -> &'static [NameId]
 /// The names of which each, picked by `f_pc`, meets all obligations on motion.
 #[tactic(auto, unfolding(crate::specs::Changes::pc_repairs))]
 pub fn pc_repairs(alloc: Global, n: &Now<'_>) -> Result<Vec<NameId>, Memory>
-    ensures { IfOk result (λ r. r.items ≡ spec.pc_repairs n.now.v n.now.s.now (fields_in n.now.l.now) (view_in n.now.y.now) (movers_in n.now.mv.now) unread n.now.leaves.now) }
+    ensures { IfOk result (λ r. r.items ≡ spec.pc_repairs n.now.v n.now.s.now (fields_in n.now.l.now) (as_flow n.now.y.now) (as_register_controls n.now.mv.now) unread n.now.leaves.now) }
 {
     let mut out = Vec::new(alloc);
     for source in pc_sources() {

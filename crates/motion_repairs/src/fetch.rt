@@ -2,21 +2,21 @@
 ghost use Rattle.std.specs.Prelude.{◌≡◌, ◌≤◌};
 ghost use Rattle.control_values.specs.Given.{at};
 ghost use Rattle.ctl_atoms.specs.declared.leaf.Leaf.TheVariants as leaf;
-ghost use Rattle.rule_gates.specs.Words as words;
+ghost use Rattle.ctl_rules.specs.ColumnDemands as words;
 ghost use Rattle.pipe_requirements.specs.Requirements.{unread};
-ghost use Rattle.pipe_requirements.specs.Views.{fields_in, movers_in, slot_in, view_in};
+ghost use Rattle.pipe_requirements.specs.Flows.{fields_in, as_register_controls, as_stage_flow, as_flow};
 ghost use Rattle.pipe_obligations.specs.Obligations as rule;
 
 use crate::moves::{of_youngest, path, youngest_stops};
 use ctl_atoms::{Leaf, same_leaf};
 use dp_signals::pipe_row as name;
 use hcl_types::NameId;
-use pipe_requirements::{Now, SlotNow, is_jump, leaf_at, misses, set, stops_by};
-use y86_isa::{is_loaded, row};
+use pipe_requirements::{Now, StageFlowNow, is_jump, is_missed, leaf_at, set, stops_by};
+use y86_isa::{next_is_val_m, row};
 
 /// The signal picks a name.
-pub(crate) fn takes(leaves: &[Leaf], n: NameId, other: NameId) -> bool
-    ensures { result ≡ words.takes (at leaves.now) n (leaf.Name other) }
+pub(crate) fn picks_leaf(leaves: &[Leaf], n: NameId, other: NameId) -> bool
+    ensures { result ≡ words.picks_leaf (at leaves.now) n (leaf.Name other) }
 {
     same_leaf(leaf_at(leaves, n), Leaf::Name(other))
 }
@@ -32,10 +32,10 @@ fn code_of(leaf: Leaf) -> u64
 }
 
 fn right_after_e(n: &Now<'_>) -> bool
-    ensures { result ≡ rule.right_after_e n.now.v n.now.s.now (fields_in n.now.l.now) (view_in n.now.y.now) (movers_in n.now.mv.now) unread (at n.now.leaves.now) }
+    ensures { result ≡ rule.right_after_e n.now.v n.now.s.now (fields_in n.now.l.now) (as_flow n.now.y.now) (as_register_controls n.now.mv.now) unread (at n.now.leaves.now) }
 {
     is_jump(n.v, n.l.e.stat, n.l.e.icode)
-        && takes(
+        && picks_leaf(
             n.leaves,
             name::F_PC,
             if set(n.l.e.cnd) {
@@ -47,26 +47,26 @@ fn right_after_e(n: &Now<'_>) -> bool
 }
 
 fn right_after_m(n: &Now<'_>) -> bool
-    ensures { result ≡ rule.right_after_m n.now.v n.now.s.now (fields_in n.now.l.now) (view_in n.now.y.now) (movers_in n.now.mv.now) unread (at n.now.leaves.now) }
+    ensures { result ≡ rule.right_after_m n.now.v n.now.s.now (fields_in n.now.l.now) (as_flow n.now.y.now) (as_register_controls n.now.mv.now) unread (at n.now.leaves.now) }
 {
     (is_jump(n.v, n.l.m.stat, n.l.m.icode)
         && (if set(n.l.m.cnd) {
-            n.s.tv && takes(n.leaves, name::F_PC, name::HELD_M_VAL_E)
+            n.s.tv && picks_leaf(n.leaves, name::F_PC, name::HELD_M_VAL_E)
         } else {
-            takes(n.leaves, name::F_PC, name::HELD_M_VAL_A)
+            picks_leaf(n.leaves, name::F_PC, name::HELD_M_VAL_A)
         }))
-        || (n.y.m.ret && takes(n.leaves, name::F_PC, name::M_VAL_M))
+        || (n.y.m.ret && picks_leaf(n.leaves, name::F_PC, name::M_VAL_M))
 }
 
 fn right_after_w(n: &Now<'_>) -> bool
-    ensures { result ≡ rule.right_after_w n.now.v n.now.s.now (fields_in n.now.l.now) (view_in n.now.y.now) (movers_in n.now.mv.now) unread (at n.now.leaves.now) }
+    ensures { result ≡ rule.right_after_w n.now.v n.now.s.now (fields_in n.now.l.now) (as_flow n.now.y.now) (as_register_controls n.now.mv.now) unread (at n.now.leaves.now) }
 {
-    n.y.w.ret && takes(n.leaves, name::F_PC, name::HELD_W_VAL_M)
+    n.y.w.ret && picks_leaf(n.leaves, name::F_PC, name::HELD_W_VAL_M)
 }
 
 /// The fetch is that of the next instruction.
 pub fn is_fetch_good(n: &Now<'_>) -> bool
-    ensures { result ≡ rule.fetch_good n.now.v n.now.s.now (fields_in n.now.l.now) (view_in n.now.y.now) (movers_in n.now.mv.now) unread (at n.now.leaves.now) }
+    ensures { result ≡ rule.fetch_good n.now.v n.now.s.now (fields_in n.now.l.now) (as_flow n.now.y.now) (as_register_controls n.now.mv.now) unread (at n.now.leaves.now) }
 {
     let right = of_youngest(
         n.y,
@@ -76,21 +76,21 @@ pub fn is_fetch_good(n: &Now<'_>) -> bool
         right_after_w(n),
     );
     !youngest_stops(n.y)
-        && ((takes(n.leaves, name::F_PC, name::HELD_F_PRED_PC) && path(n.y)) || right)
+        && ((picks_leaf(n.leaves, name::F_PC, name::HELD_F_PRED_PC) && path(n.y)) || right)
 }
 
 /// What D loads of a good fetch.
-pub fn fetched(n: &Now<'_>) -> SlotNow
-    ensures { slot_in result ≡ rule.fetched n.now.v n.now.s.now (fields_in n.now.l.now) (view_in n.now.y.now) (movers_in n.now.mv.now) unread (at n.now.leaves.now) }
+pub fn fetched(n: &Now<'_>) -> StageFlowNow
+    ensures { as_stage_flow result ≡ rule.fetched n.now.v n.now.s.now (fields_in n.now.l.now) (as_flow n.now.y.now) (as_register_controls n.now.mv.now) unread (at n.now.leaves.now) }
 {
     let stat = code_of(leaf_at(n.leaves, name::F_STAT));
     let icode = code_of(leaf_at(n.leaves, name::F_ICODE));
     let ifun = code_of(leaf_at(n.leaves, name::F_IFUN));
-    SlotNow {
+    StageFlowNow {
         good: true,
         wrong: false,
         stops: stops_by(stat, n.l.f.stops),
-        ret: is_loaded(row(n.v, icode).next),
-        missed: misses(n.v, n.s, stat, icode, ifun, n.l.f.taken, n.l.f.back),
+        ret: next_is_val_m(row(n.v, icode).next),
+        missed: is_missed(n.v, n.s, stat, icode, ifun, n.l.f.taken, n.l.f.back),
     }
 }

@@ -1,13 +1,15 @@
 //! The next cycle's view, and the obligations 23 to 27, as truths of what stands in the stages.
 ghost use Rattle.std.specs.Prelude.{◌≡◌, ◌≤◌, ◌==◌, if◌then◌else◌, true};
-ghost use Rattle.pipe_requirements.specs.Views.{mover_in, movers_in, slot_in, view_in};
-ghost use Rattle.pipe_motion.specs.Slots as spec;
+ghost use Rattle.pipe_requirements.specs.Flows.{as_register_control, as_register_controls, as_stage_flow, as_flow};
+ghost use Rattle.pipe_motion.specs.Flow as spec;
 
-use pipe_requirements::{MoverNow, MoversNow, SlotNow, ViewNow, leaves, loads};
+use pipe_requirements::{
+    FlowNow, RegisterControlNow, RegisterControlsNow, StageFlowNow, leaves, loads,
+};
 
 /// A truth of a register after the cycle.
-fn moved_truth(k: MoverNow, old: bool, loaded: bool) -> bool
-    ensures { result ≡ spec.moved_truth (mover_in k) old loaded }
+fn moved_truth(k: RegisterControlNow, old: bool, loaded: bool) -> bool
+    ensures { result ≡ spec.moved_truth (as_register_control k) old loaded }
 {
     if k.stall {
         old
@@ -19,10 +21,10 @@ fn moved_truth(k: MoverNow, old: bool, loaded: bool) -> bool
 }
 
 /// What a register holds after the cycle.
-fn moved(k: MoverNow, old: &SlotNow, loaded: &SlotNow) -> SlotNow
-    ensures { slot_in result ≡ spec.moved (mover_in k) (slot_in old.now) (slot_in loaded.now) }
+fn moved_stage(k: RegisterControlNow, old: &StageFlowNow, loaded: &StageFlowNow) -> StageFlowNow
+    ensures { as_stage_flow result ≡ spec.moved_stage (as_register_control k) (as_stage_flow old.now) (as_stage_flow loaded.now) }
 {
-    SlotNow {
+    StageFlowNow {
         good: moved_truth(k, old.good, loaded.good),
         wrong: moved_truth(k, old.wrong, loaded.wrong),
         stops: moved_truth(k, old.stops, loaded.stops),
@@ -32,10 +34,10 @@ fn moved(k: MoverNow, old: &SlotNow, loaded: &SlotNow) -> SlotNow
 }
 
 /// What D loads.
-fn fetched_slot(good: bool, facts: &SlotNow) -> SlotNow
-    ensures { slot_in result ≡ spec.fetched_slot good (slot_in facts.now) }
+fn fetched_flow(good: bool, facts: &StageFlowNow) -> StageFlowNow
+    ensures { as_stage_flow result ≡ spec.fetched_flow good (as_stage_flow facts.now) }
 {
-    SlotNow {
+    StageFlowNow {
         good,
         wrong: !good,
         stops: good && facts.stops,
@@ -45,10 +47,10 @@ fn fetched_slot(good: bool, facts: &SlotNow) -> SlotNow
 }
 
 /// M's slot as W loads it.
-fn to_w(s: &SlotNow) -> SlotNow
-    ensures { slot_in result ≡ spec.to_w (slot_in s.now) }
+fn entering_w(s: &StageFlowNow) -> StageFlowNow
+    ensures { as_stage_flow result ≡ spec.entering_w (as_stage_flow s.now) }
 {
-    SlotNow {
+    StageFlowNow {
         good: s.good,
         wrong: s.wrong,
         stops: s.stops,
@@ -58,23 +60,23 @@ fn to_w(s: &SlotNow) -> SlotNow
 }
 
 /// The next cycle's view, by whether the fetch is good and what it fetches.
-#[tactic(auto, unfolding(pipe_motion::specs::Slots::moved_view))]
-pub fn next_view(k: &MoversNow, good: bool, facts: &SlotNow, y: &ViewNow) -> ViewNow
-    ensures { view_in result ≡ spec.moved_view (movers_in k.now) (spec.fetched_slot good (slot_in facts.now)) (view_in y.now) }
+#[tactic(auto, unfolding(pipe_motion::specs::Flow::moved_flow))]
+pub fn next_flow(k: &RegisterControlsNow, good: bool, facts: &StageFlowNow, y: &FlowNow) -> FlowNow
+    ensures { as_flow result ≡ spec.moved_flow (as_register_controls k.now) (spec.fetched_flow good (as_stage_flow facts.now)) (as_flow y.now) }
 {
-    let entering = fetched_slot(good, facts);
-    let leaving = to_w(&y.m);
-    ViewNow {
-        d: moved(k.d, &y.d, &entering),
-        e: moved(k.e, &y.e, &y.d),
-        m: moved(k.m, &y.m, &y.e),
-        w: moved(k.w, &y.w, &leaving),
+    let entering = fetched_flow(good, facts);
+    let leaving = entering_w(&y.m);
+    FlowNow {
+        d: moved_stage(k.d, &y.d, &entering),
+        e: moved_stage(k.e, &y.e, &y.d),
+        m: moved_stage(k.m, &y.m, &y.e),
+        w: moved_stage(k.w, &y.w, &leaving),
     }
 }
 
 /// No good instruction stops but the youngest.
-fn stops_alone(y: &ViewNow) -> bool
-    ensures { result ≡ spec.youngest_stops_alone (view_in y.now) }
+fn stops_alone(y: &FlowNow) -> bool
+    ensures { result ≡ spec.youngest_stops_alone (as_flow y.now) }
 {
     !(y.e.stops && y.d.good)
         && (!(y.m.stops && (y.d.good || y.e.good))
@@ -82,8 +84,8 @@ fn stops_alone(y: &ViewNow) -> bool
 }
 
 /// Wrong instructions may stand behind the youngest good one.
-fn wrong_may_follow(y: &ViewNow) -> bool
-    ensures { result ≡ spec.wrong_may_follow (view_in y.now) }
+fn wrong_may_follow(y: &FlowNow) -> bool
+    ensures { result ≡ spec.wrong_may_follow (as_flow y.now) }
 {
     if y.d.good {
         y.d.stops && !y.d.ret
@@ -97,22 +99,22 @@ fn wrong_may_follow(y: &ViewNow) -> bool
 }
 
 /// D and E are wrong only behind such an instruction.
-fn wrong_has_reason(y: &ViewNow) -> bool
-    ensures { result ≡ spec.wrong_has_reason (view_in y.now) }
+fn wrong_has_reason(y: &FlowNow) -> bool
+    ensures { result ≡ spec.wrong_has_reason (as_flow y.now) }
 {
     !(y.d.wrong || y.e.wrong) || wrong_may_follow(y)
 }
 
 /// A missed jump is the youngest good instruction.
-fn missed_is_youngest(je: bool, y: &ViewNow) -> bool
-    ensures { result ≡ spec.missed_jump_is_youngest je (view_in y.now) }
+fn missed_is_youngest(je: bool, y: &FlowNow) -> bool
+    ensures { result ≡ spec.missed_jump_is_youngest je (as_flow y.now) }
 {
     !(y.e.missed && y.d.good) && (je || !(y.m.missed && (y.d.good || y.e.good)))
 }
 
 /// A ret is the youngest good instruction.
-fn ret_is_youngest(rm: bool, y: &ViewNow) -> bool
-    ensures { result ≡ spec.ret_is_youngest rm (view_in y.now) }
+fn ret_is_youngest(rm: bool, y: &FlowNow) -> bool
+    ensures { result ≡ spec.ret_is_youngest rm (as_flow y.now) }
 {
     !(y.e.ret && y.d.good)
         && (!(y.m.ret && (y.d.good || y.e.good))
@@ -120,9 +122,9 @@ fn ret_is_youngest(rm: bool, y: &ViewNow) -> bool
 }
 
 /// The view is lawful.
-#[tactic(auto, unfolding(pipe_motion::specs::Slots::lawful))]
-fn lawful(je: bool, rm: bool, y: &ViewNow) -> bool
-    ensures { result ≡ spec.lawful je rm (view_in y.now) }
+#[tactic(auto, unfolding(pipe_motion::specs::Flow::flow_legal))]
+fn flow_legal(je: bool, rm: bool, y: &FlowNow) -> bool
+    ensures { result ≡ spec.flow_legal je rm (as_flow y.now) }
 {
     !(y.e.wrong && y.d.good)
         && (stops_alone(y)
@@ -130,15 +132,15 @@ fn lawful(je: bool, rm: bool, y: &ViewNow) -> bool
 }
 
 /// The instruction goes on where it was predicted to.
-fn follows(s: &SlotNow) -> bool
-    ensures { result ≡ spec.follows_prediction (slot_in s.now) }
+fn follows(s: &StageFlowNow) -> bool
+    ensures { result ≡ spec.follows_prediction (as_stage_flow s.now) }
 {
     !(s.stops || (s.ret || s.missed))
 }
 
 /// A fact of the youngest good instruction.
-pub fn of_youngest(y: &ViewNow, d: bool, e: bool, m: bool, w: bool) -> bool
-    ensures { result ≡ spec.of_youngest (view_in y.now) d e m w }
+pub fn of_youngest(y: &FlowNow, d: bool, e: bool, m: bool, w: bool) -> bool
+    ensures { result ≡ spec.of_youngest (as_flow y.now) d e m w }
 {
     if y.d.good {
         d
@@ -152,9 +154,9 @@ pub fn of_youngest(y: &ViewNow, d: bool, e: bool, m: bool, w: bool) -> bool
 }
 
 /// The predicted PC is that of the next instruction.
-#[tactic(auto, unfolding(pipe_motion::specs::Slots::path))]
-pub fn path(y: &ViewNow) -> bool
-    ensures { result ≡ spec.path (view_in y.now) }
+#[tactic(auto, unfolding(pipe_motion::specs::Flow::path))]
+pub fn path(y: &FlowNow) -> bool
+    ensures { result ≡ spec.path (as_flow y.now) }
 {
     of_youngest(
         y,
@@ -166,50 +168,53 @@ pub fn path(y: &ViewNow) -> bool
 }
 
 /// The youngest good instruction stops.
-#[tactic(auto, unfolding(pipe_motion::specs::Slots::youngest_stops))]
-pub fn youngest_stops(y: &ViewNow) -> bool
-    ensures { result ≡ spec.youngest_stops (view_in y.now) }
+#[tactic(auto, unfolding(pipe_motion::specs::Flow::youngest_stops))]
+pub fn youngest_stops(y: &FlowNow) -> bool
+    ensures { result ≡ spec.youngest_stops (as_flow y.now) }
 {
     of_youngest(y, y.d.stops, y.e.stops, y.m.stops, y.w.stops)
 }
 
 /// Not stalled and bubbled at once.
-fn one_way(k: MoverNow) -> bool
-    ensures { result ≡ spec.one_way (mover_in k) }
+fn stall_excludes_bubble(k: RegisterControlNow) -> bool
+    ensures { result ≡ spec.stall_excludes_bubble (as_register_control k) }
 {
     !(k.stall && k.bubble)
 }
 
-fn met_23(k: &MoversNow) -> bool
-    ensures { result ≡ spec.o23 (movers_in k.now) }
+fn met_23(k: &RegisterControlsNow) -> bool
+    ensures { result ≡ spec.o23 (as_register_controls k.now) }
 {
-    one_way(k.f) && (one_way(k.d) && (one_way(k.e) && (one_way(k.m) && one_way(k.w))))
+    stall_excludes_bubble(k.f)
+        && (stall_excludes_bubble(k.d)
+            && (stall_excludes_bubble(k.e)
+                && (stall_excludes_bubble(k.m) && stall_excludes_bubble(k.w))))
 }
 
 /// A good instruction goes on.
-fn passes_on(next: MoverNow, own: MoverNow, s: &SlotNow) -> bool
-    ensures { result ≡ spec.passes_on (mover_in next) (mover_in own) (slot_in s.now) }
+fn passes_on(next: RegisterControlNow, own: RegisterControlNow, s: &StageFlowNow) -> bool
+    ensures { result ≡ spec.passes_on (as_register_control next) (as_register_control own) (as_stage_flow s.now) }
 {
     !s.good || (loads(next) && !own.stall)
 }
 
 /// A good instruction in D leaves, or stays while E doesn't load.
-fn goes_or_stays(k: &MoversNow, y: &ViewNow) -> bool
-    ensures { result ≡ spec.goes_or_stays (movers_in k.now) (view_in y.now) }
+fn goes_or_stays(k: &RegisterControlsNow, y: &FlowNow) -> bool
+    ensures { result ≡ spec.goes_or_stays (as_register_controls k.now) (as_flow y.now) }
 {
     !y.d.good || (leaves(k, y) || (k.d.stall && !loads(k.e)))
 }
 
-fn met_24(k: &MoversNow, y: &ViewNow) -> bool
-    ensures { result ≡ spec.o24 (movers_in k.now) (view_in y.now) }
+fn met_24(k: &RegisterControlsNow, y: &FlowNow) -> bool
+    ensures { result ≡ spec.o24 (as_register_controls k.now) (as_flow y.now) }
 {
     !(y.w.good && k.w.stall)
         && (passes_on(k.w, k.m, &y.m) && (passes_on(k.m, k.e, &y.e) && goes_or_stays(k, y)))
 }
 
 /// Where the path will hold.
-fn path_is_kept(k: &MoversNow, good: bool, now: bool, next: bool) -> bool
-    ensures { result ≡ spec.path_is_kept (movers_in k.now) good now next }
+fn path_is_kept(k: &RegisterControlsNow, good: bool, now: bool, next: bool) -> bool
+    ensures { result ≡ spec.path_is_kept (as_register_controls k.now) good now next }
 {
     !next
         || (if loads(k.d) && good {
@@ -219,34 +224,41 @@ fn path_is_kept(k: &MoversNow, good: bool, now: bool, next: bool) -> bool
         })
 }
 
-fn met_25(je: bool, rm: bool, k: &MoversNow, good: bool, facts: &SlotNow, y: &ViewNow) -> bool
-    ensures { result ≡ spec.o25 je rm (movers_in k.now) good (slot_in facts.now) (view_in y.now) }
+fn met_25(
+    je: bool,
+    rm: bool,
+    k: &RegisterControlsNow,
+    good: bool,
+    facts: &StageFlowNow,
+    y: &FlowNow,
+) -> bool
+    ensures { result ≡ spec.o25 je rm (as_register_controls k.now) good (as_stage_flow facts.now) (as_flow y.now) }
 {
-    let next = next_view(k, good, facts, y);
-    lawful(je, rm, &next)
+    let next = next_flow(k, good, facts, y);
+    flow_legal(je, rm, &next)
         && (!(next.m.wrong || next.w.wrong) && path_is_kept(k, good, path(y), path(&next)))
 }
 
-fn is_bubble(s: &SlotNow) -> bool
-    ensures { result ≡ spec.is_bubble (slot_in s.now) }
+fn is_bubble(s: &StageFlowNow) -> bool
+    ensures { result ≡ spec.is_bubble (as_stage_flow s.now) }
 {
     !(s.good || s.wrong)
 }
 
-fn is_drained(y: &ViewNow) -> bool
-    ensures { result ≡ spec.is_drained (view_in y.now) }
+fn is_drained(y: &FlowNow) -> bool
+    ensures { result ≡ spec.is_drained (as_flow y.now) }
 {
     is_bubble(&y.e) && (is_bubble(&y.m) && is_bubble(&y.w))
 }
 
-fn met_26(k: &MoversNow, y: &ViewNow) -> bool
-    ensures { result ≡ spec.o26 (movers_in k.now) (view_in y.now) }
+fn met_26(k: &RegisterControlsNow, y: &FlowNow) -> bool
+    ensures { result ≡ spec.o26 (as_register_controls k.now) (as_flow y.now) }
 {
     !(y.d.good && is_drained(y)) || leaves(k, y)
 }
 
-fn met_27(k: &MoversNow, y: &ViewNow) -> bool
-    ensures { result ≡ spec.o27 (movers_in k.now) (view_in y.now) }
+fn met_27(k: &RegisterControlsNow, y: &FlowNow) -> bool
+    ensures { result ≡ spec.o27 (as_register_controls k.now) (as_flow y.now) }
 {
     !(is_bubble(&y.d) && is_drained(y)) || loads(k.d)
 }
@@ -256,18 +268,18 @@ pub fn is_met(
     rule: u32,
     je: bool,
     rm: bool,
-    k: &MoversNow,
+    k: &RegisterControlsNow,
     good: bool,
-    facts: &SlotNow,
-    y: &ViewNow,
+    facts: &StageFlowNow,
+    y: &FlowNow,
 ) -> bool
     requires first { 23 ≤ rule }
     requires last { rule ≤ 27 }
-    ensures { result ≡ (if rule == 23 then spec.o23 (movers_in k.now)
-        else (if rule == 24 then spec.o24 (movers_in k.now) (view_in y.now)
-        else (if rule == 25 then spec.o25 je rm (movers_in k.now) good (slot_in facts.now) (view_in y.now)
-        else (if rule == 26 then spec.o26 (movers_in k.now) (view_in y.now)
-        else spec.o27 (movers_in k.now) (view_in y.now))))) }
+    ensures { result ≡ (if rule == 23 then spec.o23 (as_register_controls k.now)
+        else (if rule == 24 then spec.o24 (as_register_controls k.now) (as_flow y.now)
+        else (if rule == 25 then spec.o25 je rm (as_register_controls k.now) good (as_stage_flow facts.now) (as_flow y.now)
+        else (if rule == 26 then spec.o26 (as_register_controls k.now) (as_flow y.now)
+        else spec.o27 (as_register_controls k.now) (as_flow y.now))))) }
 {
     match rule {
         23 => met_23(k),

@@ -2,7 +2,7 @@
 use Rattle.std.proofs.Common.{◌≡◌, ◌⊎◌, inl, inr, ℕ, ◌<◌, ◌≤◌, List, [], ◌∷◌, ◌++◌, length, take, get_or, slice_get, Some, None, refl, sym, ap, ◌∙◌, subst, arith}
 use Rattle.std.proofs.lemmas.List.{take-append-le, take_all, length_push, get_or_append_left, get_or_push}
 use Rattle.std.proofs.lemmas.Option.{slice_get_cases, slice_get_within, slice_get-get_or, get_or_from_slice_get}
-use Rattle.nets.specs.Nets.{Gates, IsNet, ReadsEarlier, Begins, IsAdded, IsGate, gate_value, truths}
+use Rattle.nets.specs.Nets.{Gates, IsNet, ReadsEarlier, ExtendsNet, IsAdded, IsGate, gate_value, truths}
 use Rattle.nets.proofs.Truths.{begins_by, begins_self, truth_is}
 use Rattle.nets.specs.declared.net.Gate.{Gate}
 
@@ -29,8 +29,8 @@ module _ {vars : ℕ} {old : List Gate} {gate : Gate} (reads : ReadsEarlier vars
   added_net (inl e) = subst (λ (gs : List Gate). IsNet record { vars = vars; gates = gs }) (sym e) net
   added_net (inr e) = subst (λ (gs : List Gate). IsNet record { vars = vars; gates = gs }) (sym e) (record { earlier = pushed_earlier })
 
-pub added_begins : (vars : ℕ) (old new : List Gate) (gate : Gate) → IsAdded old new gate → Begins record { vars = vars; gates = old } record { vars = vars; gates = new }
-added_begins vars old new gate (inl e) = subst (λ (gs : List Gate). Begins record { vars = vars; gates = old } record { vars = vars; gates = gs }) (sym e) (begins_self _)
+pub added_begins : (vars : ℕ) (old new : List Gate) (gate : Gate) → IsAdded old new gate → ExtendsNet record { vars = vars; gates = old } record { vars = vars; gates = new }
+added_begins vars old new gate (inl e) = subst (λ (gs : List Gate). ExtendsNet record { vars = vars; gates = old } record { vars = vars; gates = gs }) (sym e) (begins_self _)
 added_begins vars old new gate (inr e) =
     begins_by record { vars = vars; gates = old } record { vars = vars; gates = new } refl (omega (arith, ap length e, length_push old gate))
     (ap (take (length old)) e ∙ (take-append-le (length old) old (gate ∷ []) (omega arith) ∙ take_all (length old) old (omega arith)))

@@ -7,23 +7,23 @@ use Rattle.y86_base.proofs.Lists.{none_true}
 use Rattle.nets.specs.Nets.{Gates, gate_value, truth, truths}
 use Rattle.nets.specs.declared.net.Gate.TheVariants as gate
 use Rattle.nets.specs.Substitution.{AreSources, source_truth}
-use Rattle.nets.specs.declared.copies.Source.{Source}
-use Rattle.nets.specs.declared.copies.Source.TheVariants.{Const, Var}
-use Rattle.nets.specs.Forcing.{AreCommon, AreImplied, AreTrue, IsForced, Settle}
+use Rattle.nets.specs.declared.copies.Replacement.{Replacement}
+use Rattle.nets.specs.declared.copies.Replacement.TheVariants.{Const, Var}
+use Rattle.nets.specs.Forcing.{AreCommon, AreImplied, AreMarkedTrue, IsForced, SubstituteAgrees}
 
 -- one mark more
-pub one_true : (n : Gates) (old : List Bool) (a : ℕ) (u : List Bool) → AreTrue n old u → truth n a u ≡ true → AreTrue n (set old a true) u
+pub one_true : (n : Gates) (old : List Bool) (a : ℕ) (u : List Bool) → AreMarkedTrue n old u → truth n a u ≡ true → AreMarkedTrue n (set old a true) u
 one_true n old a u h is i marked = by (cases_eq i a)
   where
     by : (i ≡ a) ⊎ (i ≡ a → ⊥) → truth n i u ≡ true
     by (inl e) = ap (λ (k : ℕ). truth n k u) e ∙ is
     by (inr ne) = h i (sym (get_or-set_other old a i true false ne) ∙ marked)
 
-pub none_marked : (n : Gates) (size : ℕ) (marked u : List Bool) → marked ≡ replicate size false → AreTrue n marked u
+pub none_marked : (n : Gates) (size : ℕ) (marked u : List Bool) → marked ≡ replicate size false → AreMarkedTrue n marked u
 none_marked n size marked u e i is = absurd (none_true size i (ap (λ (xs : List Bool). get_or xs i false) (sym e) ∙ is))
 
-pub both_true : (n : Gates) (old : List Bool) (i a b : ℕ) (u : List Bool) → AreTrue n old u → get_or old i false ≡ true → ((w : List Bool) → truth n i w ≡ gate_value w (truths n w) (gate.And a b)) →
-    AreTrue n (set (set old a true) b true) u
+pub both_true : (n : Gates) (old : List Bool) (i a b : ℕ) (u : List Bool) → AreMarkedTrue n old u → get_or old i false ≡ true → ((w : List Bool) → truth n i w ≡ gate_value w (truths n w) (gate.And a b)) →
+    AreMarkedTrue n (set (set old a true) b true) u
 unfolding truth
 both_true n old i a b u h marked meaning =
     let both : (truth n a u && truth n b u) ≡ true = sym (meaning u) ∙ h i marked in
@@ -33,7 +33,7 @@ pub negated : (n : Gates) (i a : ℕ) (u : List Bool) → ((w : List Bool) → t
 unfolding truth
 negated n i a u meaning fails = not-false (truth n a u) (sym (meaning u) ∙ fails)
 
-pub never_false : (n : Gates) (i : ℕ) (marked u : List Bool) → ((w : List Bool) → truth n i w ≡ gate_value w (truths n w) (gate.Const true)) → truth n i u ≡ false → AreTrue n marked u
+pub never_false : (n : Gates) (i : ℕ) (marked u : List Bool) → ((w : List Bool) → truth n i w ≡ gate_value w (truths n w) (gate.Const true)) → truth n i u ≡ false → AreMarkedTrue n marked u
 unfolding truth
 never_false n i marked u meaning fails = absurd (false≢true (sym fails ∙ meaning u))
 
@@ -84,17 +84,17 @@ pub implied_none : (n : Gates) (gates : List ℕ) (marked : List Bool) → lengt
 implied_none n gates marked size = record { size = size; each = λ k lt. absurd (omega (arith, lt)) }
 
 pub implied_more : (n : Gates) (gates : List ℕ) (count gate : ℕ) (old others new : List Bool) → AreImplied n gates count old → gate ≡ get_or gates count 0 →
-    ((u : List Bool) → truth n gate u ≡ false → AreTrue n others u) → AreCommon old others new → AreImplied n gates (count + 1) new
+    ((u : List Bool) → truth n gate u ≡ false → AreMarkedTrue n others u) → AreCommon old others new → AreImplied n gates (count + 1) new
 implied_more n gates count gate old others new h e here common = record { size = common.size ∙ h.size; each = λ k lt. by k lt (cases_eq k count) }
   where
-    by : (k : ℕ) → k < count + 1 → (k ≡ count) ⊎ (k ≡ count → ⊥) → (u : List Bool) → truth n (get_or gates k 0) u ≡ false → AreTrue n new u
+    by : (k : ℕ) → k < count + 1 → (k ≡ count) ⊎ (k ≡ count → ⊥) → (u : List Bool) → truth n (get_or gates k 0) u ≡ false → AreMarkedTrue n new u
     by k lt (inl same) u fails i at =
         here u (ap (λ (g : ℕ). truth n g u) (e ∙ ap (λ (j : ℕ). get_or gates j 0) (sym same)) ∙ fails) i (common.in_right i at)
     by k lt (inr ne) u fails i at = h.each k (grind (arith, ne, lt)) u fails i (common.in_left i at)
 
 -- ---- what stands in the places of the variables
 
-pub settle_one : (to : List Source) (x : ℕ) (b : Bool) (u : List Bool) → get_or u x false ≡ b → Settle to u → Settle (set to x (Const b)) u
+pub settle_one : (to : List Replacement) (x : ℕ) (b : Bool) (u : List Bool) → get_or u x false ≡ b → SubstituteAgrees to u → SubstituteAgrees (set to x (Const b)) u
 settle_one to x b u is h y lt = by (cases_eq y x)
   where
     less : y < length to
@@ -106,7 +106,7 @@ settle_one to x b u is h y lt = by (cases_eq y x)
         ∙ (sym is ∙ ap (λ (k : ℕ). get_or u k false) (sym e))
     by (inr ne) = ap (source_truth u) (get_or-set_other to x y (Const b) (Const false) ne) ∙ h y less
 
-pub settle_more : (to : List Source) (u : List Bool) (i : ℕ) → i ≡ length to → Settle to u → Settle (to ++ Var i ∷ []) u
+pub settle_more : (to : List Replacement) (u : List Bool) (i : ℕ) → i ≡ length to → SubstituteAgrees to u → SubstituteAgrees (to ++ Var i ∷ []) u
 settle_more to u i e h y lt = by (cases_lt y (length to))
   where
     by : (y < length to) ⊎ (length to ≤ y) → source_truth u (get_or (to ++ Var i ∷ []) y (Const false)) ≡ get_or u y false
@@ -115,10 +115,10 @@ settle_more to u i e h y lt = by (cases_lt y (length to))
         let at : length to ≡ y = (let l = length_push to (Var i) in omega (arith, l, lt, past)) in
         ap (source_truth u) (get_or_push to (Var i) (Const false) y at) ∙ ap (λ (k : ℕ). get_or u k false) (e ∙ at)
 
-pub settle_none : (to : List Source) (u : List Bool) → to ≡ [] → Settle to u
+pub settle_none : (to : List Replacement) (u : List Bool) → to ≡ [] → SubstituteAgrees to u
 settle_none to u e x lt = absurd (let l = ap length e in omega (arith, l, lt))
 
-pub sources_one : (to : List Source) (x vars : ℕ) (b : Bool) → AreSources vars to → AreSources vars (set to x (Const b))
+pub sources_one : (to : List Replacement) (x vars : ℕ) (b : Bool) → AreSources vars to → AreSources vars (set to x (Const b))
 sources_one to x vars b h = record { within = λ i y lt is. by i y (let l = length-set to x (Const b) in omega (arith, l, lt)) is (cases_eq i x) }
   where
     by : (i y : ℕ) → i < length to → get_or (set to x (Const b)) i (Const false) ≡ Var y → (i ≡ x) ⊎ (i ≡ x → ⊥) → y < vars
@@ -126,10 +126,10 @@ sources_one to x vars b h = record { within = λ i y lt is. by i y (let l = leng
         absurd (let c : Const b ≡ Var y = sym (ap (λ (k : ℕ). get_or (set to k (Const b)) i (Const false)) (sym e) ∙ get_or-set_same to i (Const b) (Const false) lt) ∙ is in cc)
     by i y lt is (inr ne) = h.within i y lt (sym (get_or-set_other to x i (Const b) (Const false) ne) ∙ is)
 
-pub sources_more : (to : List Source) (x vars : ℕ) → x < vars → AreSources vars to → AreSources vars (to ++ Var x ∷ [])
+pub sources_more : (to : List Replacement) (x vars : ℕ) → x < vars → AreSources vars to → AreSources vars (to ++ Var x ∷ [])
 sources_more to x vars below h = record { within = λ i y lt is. by i y lt is (cases_lt i (length to)) }
   where
-    place : Source → ℕ
+    place : Replacement → ℕ
     place (Const b) = 0
     place (Var z) = z
 
@@ -149,5 +149,5 @@ pub negated_bit : (n : Gates) (i a x : ℕ) (u : List Bool) → ((w : List Bool)
 unfolding truth
 negated_bit n i a x u meaning inner is = sym (inner u) ∙ not-true (truth n a u) (sym (meaning u) ∙ is)
 
-pub is_forced : (n : Gates) (gates : List ℕ) (to : List Source) → AreSources n.vars to → ((k : ℕ) → k < length gates → (u : List Bool) → truth n (get_or gates k 0) u ≡ false → Settle to u) → IsForced n gates to
+pub is_forced : (n : Gates) (gates : List ℕ) (to : List Replacement) → AreSources n.vars to → ((k : ℕ) → k < length gates → (u : List Bool) → truth n (get_or gates k 0) u ≡ false → SubstituteAgrees to u) → IsForced n gates to
 is_forced n gates to sources settle = record { sources = sources; settle = settle }

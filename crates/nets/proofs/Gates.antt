@@ -2,23 +2,23 @@
 use Rattle.std.proofs.Common.{◌≡◌, inl, inr, ℕ, ◌<◌, Bool, false, not, ◌&&◌, List, [], ◌∷◌, ◌++◌, length, get_or, sym, ap, ◌∙◌, subst, arith}
 use Rattle.std.proofs.lemmas.Bool.{cases_lt}
 use Rattle.std.proofs.lemmas.List.{get_or-map, get_or_append_left, get_or_push, length_push}
-use Rattle.nets.specs.Nets.{Gates, Begins, IsGate, gate_value, truth, truths}
+use Rattle.nets.specs.Nets.{Gates, ExtendsNet, IsGate, gate_value, truth, truths}
 use Rattle.nets.specs.declared.net.Gate.{Gate}
 use Rattle.nets.specs.declared.net.Gate.TheVariants.{Var, Not, And}
 use Rattle.nets.proofs.Truths.{gate_kept}
-use Rattle.nets.specs.declared.copies.Source.{Source}
-use Rattle.nets.specs.declared.copies.Source.TheVariants.{Const as Fixed}
+use Rattle.nets.specs.declared.copies.Replacement.{Replacement}
+use Rattle.nets.specs.declared.copies.Replacement.TheVariants.{Const as Fixed}
 use Rattle.nets.specs.Substitution.{source_truth, behind, AreCopies}
 
 -- what stands in the place of variable x is what is read there
-pub read_at : (to : List Source) (u : List Bool) (x : ℕ) → x < length to → get_or (behind to u) x false ≡ source_truth u (get_or to x (Fixed false))
+pub read_at : (to : List Replacement) (u : List Bool) (x : ℕ) → x < length to → get_or (behind to u) x false ≡ source_truth u (get_or to x (Fixed false))
 read_at to u x h = get_or-map (source_truth u) to x (Fixed false) false h
 
-pub copies_none : (n copy : Gates) (to : List Source) (made : List ℕ) → made ≡ [] → AreCopies n copy to made
+pub copies_none : (n copy : Gates) (to : List Replacement) (made : List ℕ) → made ≡ [] → AreCopies n copy to made
 copies_none n copy to made e = record { each = λ i h. (let k : i < length {A = ℕ} [] = subst (λ (xs : List ℕ). i < length xs) e h in absurd (omega (arith, k))) }
 
 -- the copies of the gates so far with that of one more
-pub copies_more : {n old new : Gates} {to : List Source} {made : List ℕ} {g i : ℕ} → (gate : Gate) → Begins old new → AreCopies n old to made → length made ≡ i
+pub copies_more : {n old new : Gates} {to : List Replacement} {made : List ℕ} {g i : ℕ} → (gate : Gate) → ExtendsNet old new → AreCopies n old to made → length made ≡ i
     → ((w : List Bool) → truth n i w ≡ gate_value w (truths n w) gate) → IsGate new g (λ u. gate_value (behind to u) (truths n (behind to u)) gate) → AreCopies n new to (made ++ g ∷ [])
 copies_more {n} {old} {new} {to} {made} {g} {i} gate begins copies size meaning is = record {
   each = λ j h. elim (cases_lt j (length made)) [
@@ -31,16 +31,16 @@ copies_more {n} {old} {new} {to} {made} {g} {i} gate begins copies size meaning 
 }
 
 -- the gate made for a gate that reads a variable, another gate, or two
-pub variable_made : (n : Gates) {new : Gates} (to : List Source) {g x : ℕ} → x < length to → IsGate new g (λ u. source_truth u (get_or to x (Fixed false)))
+pub variable_made : (n : Gates) {new : Gates} (to : List Replacement) {g x : ℕ} → x < length to → IsGate new g (λ u. source_truth u (get_or to x (Fixed false)))
     → IsGate new g (λ u. gate_value (behind to u) (truths n (behind to u)) (Var x))
 variable_made n {new} to {g} {x} h is = record { within = is.within; is = λ u. is.is u ∙ sym (read_at to u x h) }
 
-pub not_made : {n old new : Gates} {to : List Source} {made : List ℕ} {g a : ℕ} → AreCopies n old to made → a < length made → IsGate new g (λ u. not (truth old (get_or made a 0) u))
+pub not_made : {n old new : Gates} {to : List Replacement} {made : List ℕ} {g a : ℕ} → AreCopies n old to made → a < length made → IsGate new g (λ u. not (truth old (get_or made a 0) u))
     → IsGate new g (λ u. gate_value (behind to u) (truths n (behind to u)) (Not a))
 unfolding truth
 not_made {n} {old} {new} {to} {made} {g} {a} copies h is = record { within = is.within; is = λ u. is.is u ∙ ap not ((copies.each a h).is u) }
 
-pub and_made : {n old new : Gates} {to : List Source} {made : List ℕ} {g a b : ℕ} → AreCopies n old to made → a < length made → b < length made
+pub and_made : {n old new : Gates} {to : List Replacement} {made : List ℕ} {g a b : ℕ} → AreCopies n old to made → a < length made → b < length made
     → IsGate new g (λ u. truth old (get_or made a 0) u && truth old (get_or made b 0) u)
     → IsGate new g (λ u. gate_value (behind to u) (truths n (behind to u)) (And a b))
 unfolding truth

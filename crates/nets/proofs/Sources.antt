@@ -3,16 +3,16 @@ use Rattle.std.proofs.Common.{◌≡◌, inl, inr, ℕ, ◌<◌, ◌≤◌, Bool
 use Rattle.std.proofs.lemmas.Bool.{cases_lt}
 use Rattle.std.proofs.lemmas.List.{get_or-map, get_or_append_left, get_or_push, length_push, length-map, ext_get_or}
 use Rattle.nets.specs.Nets.{Gates, truth}
-use Rattle.nets.specs.declared.copies.Source.{Source}
-use Rattle.nets.specs.declared.copies.Source.TheVariants.{Const, Var}
-use Rattle.nets.specs.declared.copies.Substituted.{Substituted}
+use Rattle.nets.specs.declared.copies.Replacement.{Replacement}
+use Rattle.nets.specs.declared.copies.Replacement.TheVariants.{Const, Var}
+use Rattle.nets.specs.declared.copies.SubstitutedNet.{SubstitutedNet}
 use Rattle.nets.specs.Substitution.{source_truth, behind, AreSources, AreCopies}
-use Rattle.nets.specs.Parts.{BeginsWith, IsPart, IsSourceOf, AreSourcesOf}
+use Rattle.nets.specs.Parts.{BeginsWith, IsCofactorNet, IsSourceOf, AreSourcesOf}
 
-pub sources_none : (fixed : List Bool) (order : List ℕ) (to : List Source) → to ≡ [] → AreSourcesOf fixed order to
-sources_none fixed order to e = record { each = λ i h. let k : i < length {A = Source} [] = subst (λ (xs : List Source). i < length xs) e h in absurd (omega (arith, k)) }
+pub sources_none : (fixed : List Bool) (order : List ℕ) (to : List Replacement) → to ≡ [] → AreSourcesOf fixed order to
+sources_none fixed order to e = record { each = λ i h. let k : i < length {A = Replacement} [] = subst (λ (xs : List Replacement). i < length xs) e h in absurd (omega (arith, k)) }
 
-pub sources_more : {fixed : List Bool} {order : List ℕ} {to : List Source} {i : ℕ} (s : Source) → AreSourcesOf fixed order to → length to ≡ i → IsSourceOf fixed order i s
+pub sources_more : {fixed : List Bool} {order : List ℕ} {to : List Replacement} {i : ℕ} (s : Replacement) → AreSourcesOf fixed order to → length to ≡ i → IsSourceOf fixed order i s
     → AreSourcesOf fixed order (to ++ s ∷ [])
 sources_more {fixed} {order} {to} {i} s are size is = record {
   each = λ j h. elim (cases_lt j (length to)) [
@@ -23,7 +23,7 @@ sources_more {fixed} {order} {to} {i} s are size is = record {
 }
 
 -- a place in the order is a variable of the copy
-pub are_sources : {fixed : List Bool} {order : List ℕ} {to : List Source} {vars : ℕ} → AreSourcesOf fixed order to → length order ≡ vars → AreSources vars to
+pub are_sources : {fixed : List Bool} {order : List ℕ} {to : List Replacement} {vars : ℕ} → AreSourcesOf fixed order to → length order ≡ vars → AreSources vars to
 are_sources {fixed} {order} {to} {vars} are whole = record {
   within = λ i x h e. let p : IsSourceOf fixed order i (Var x) = subst (IsSourceOf fixed order i) e (are.each i h) in
       let q : x < length order = p.1 in omega (arith, q, whole);
@@ -33,14 +33,14 @@ are_sources {fixed} {order} {to} {vars} are whole = record {
 abbrev ahead : List ℕ → List Bool → List Bool
 ahead order w = map (λ (v : ℕ). get_or w v false) order
 
-module _ (n : Gates) {fixed : List Bool} {order : List ℕ} {to : List Source} (are : AreSourcesOf fixed order to) (whole : length order ≡ n.vars) (size : length to ≡ length order) where
+module _ (n : Gates) {fixed : List Bool} {order : List ℕ} {to : List Replacement} (are : AreSourcesOf fixed order to) (whole : length order ≡ n.vars) (size : length to ≡ length order) where
   -- what stands behind a valuation of the copy begins with the bits
   begins_behind : (u : List Bool) → length fixed ≤ n.vars → BeginsWith fixed (behind to u)
   begins_behind u few i h =
       let inside : i < length to = omega (arith, h, few, whole, size) in
       get_or-map (source_truth u) to i (Const false) false inside ∙ by (get_or to i (Const false)) (are.each i inside)
     where
-      by : (s : Source) → IsSourceOf fixed order i s → source_truth u s ≡ get_or fixed i false
+      by : (s : Replacement) → IsSourceOf fixed order i s → source_truth u s ≡ get_or fixed i false
       by (Const b) p = p.1
       by (Var x) p = absurd (let q : length fixed ≤ i = p.0 in omega (arith, q, h))
 
@@ -51,11 +51,11 @@ module _ (n : Gates) {fixed : List Bool} {order : List ℕ} {to : List Source} (
       let inside : i < length to = subst (λ (k : ℕ). i < k) (length-map to (source_truth (ahead order w))) h in
       get_or-map (source_truth (ahead order w)) to i (Const false) false inside ∙ by i (get_or to i (Const false)) (are.each i inside))
     where
-      by : (i : ℕ) (s : Source) → IsSourceOf fixed order i s → source_truth (ahead order w) s ≡ get_or w i false
+      by : (i : ℕ) (s : Replacement) → IsSourceOf fixed order i s → source_truth (ahead order w) s ≡ get_or w i false
       by i (Const b) p = p.1 ∙ sym (begins i p.0)
       by i (Var x) p = get_or-map (λ (v : ℕ). get_or w v false) order x 0 false p.1 ∙ ap (λ (v : ℕ). get_or w v false) p.2
 
-  pub is_part : {s : Substituted} → length fixed ≤ n.vars → s.net.vars ≡ n.vars → length s.gates ≡ length n.gates → AreCopies n s.net to s.gates → IsPart n fixed s
+  pub is_part : {s : SubstitutedNet} → length fixed ≤ n.vars → s.net.vars ≡ n.vars → length s.gates ≡ length n.gates → AreCopies n s.net to s.gates → IsCofactorNet n fixed s
   is_part {s} few vars gates copies = record {
     vars = vars;
     size = gates;

@@ -3,7 +3,7 @@ use Rattle.std.proofs.Common.{◌≡◌, ℕ, ◌+◌, ◌<◌, ◌≤◌, List,
 use Rattle.std.proofs.lemmas.List.{take-append-drop, get_or_append_left, get_or_push, length_push, take_all, take-take, take_more, length-take}
 use Rattle.std.proofs.lemmas.Option.{get_or_from_slice_get}
 use Rattle.std.proofs.Math.Bool.{not-not}
-use Rattle.nets.specs.Nets.{Gates, IsNet, ReadsEarlier, values, truths, truth, gate_value, Begins, IsGate, agree}
+use Rattle.nets.specs.Nets.{Gates, IsNet, ReadsEarlier, values, truths, truth, gate_value, ExtendsNet, IsGate, agree}
 use Rattle.nets.specs.declared.net.Gate.{Gate}
 use Rattle.nets.specs.declared.net.Gate.TheVariants.{Const, Var, Not, And}
 
@@ -90,13 +90,13 @@ kept_by old new first g w h =
     ∙ values_kept w (values w [] old.gates) (drop n new.gates) g inside)
 
 -- a net begins with another that has its variables, and whose gates are its first
-pub begins_by : (old new : Gates) → new.vars ≡ old.vars → length old.gates ≤ length new.gates → take (length old.gates) new.gates ≡ old.gates → Begins old new
+pub begins_by : (old new : Gates) → new.vars ≡ old.vars → length old.gates ≤ length new.gates → take (length old.gates) new.gates ≡ old.gates → ExtendsNet old new
 begins_by old new vars more first = record { vars = vars; more = more; gates = first; same = kept_by old new first }
 
-pub begins_self : (n : Gates) → Begins n n
+pub begins_self : (n : Gates) → ExtendsNet n n
 begins_self n = begins_by n n refl (omega arith) (take_all (length n.gates) n.gates (omega arith))
 
-pub begins_more : {a b c : Gates} → Begins a b → Begins b c → Begins a c
+pub begins_more : {a b c : Gates} → ExtendsNet a b → ExtendsNet b c → ExtendsNet a c
 begins_more {a} {b} {c} p q = record {
   vars = q.vars ∙ p.vars;
   more = let x = p.more in let y = q.more in omega arith;
@@ -105,7 +105,7 @@ begins_more {a} {b} {c} p q = record {
 }
 
 -- a gate of the net stays one with the same truth as the net grows
-pub gate_kept : {old new : Gates} {g : ℕ} {f : List Bool → Bool} → Begins old new → IsGate old g f → IsGate new g f
+pub gate_kept : {old new : Gates} {g : ℕ} {f : List Bool → Bool} → ExtendsNet old new → IsGate old g f → IsGate new g f
 gate_kept {old} {new} {g} {f} b is = record {
   within = let x = b.more in let y = is.within in omega arith;
   is = λ w. b.same g w is.within ∙ is.is w;
@@ -116,11 +116,11 @@ pub gate_there : {n : Gates} {g : ℕ} → g < length n.gates → IsGate n g (λ
 gate_there h = record { within = h; is = λ w. refl }
 
 -- the truth of a gate just made, in the truths of the net before
-pub made_not : {old new : Gates} {a g : ℕ} → Begins old new → a < length old.gates → IsGate new g (λ w. gate_value w (truths new w) (Not a)) → IsGate new g (λ w. not (truth old a w))
+pub made_not : {old new : Gates} {a g : ℕ} → ExtendsNet old new → a < length old.gates → IsGate new g (λ w. gate_value w (truths new w) (Not a)) → IsGate new g (λ w. not (truth old a w))
 unfolding truth
 made_not {old} {new} {a} {g} b h made = record { within = made.within; is = λ w. made.is w ∙ ap not (b.same a w h) }
 
-pub made_and : {old new : Gates} {a b g : ℕ} → Begins old new → a < length old.gates → b < length old.gates → IsGate new g (λ w. gate_value w (truths new w) (And a b))
+pub made_and : {old new : Gates} {a b g : ℕ} → ExtendsNet old new → a < length old.gates → b < length old.gates → IsGate new g (λ w. gate_value w (truths new w) (And a b))
     → IsGate new g (λ w. truth old a w && truth old b w)
 unfolding truth
 made_and {old} {new} {a} {b} {g} begins h k made = record {

@@ -45,7 +45,7 @@ unfoldable pub truth : Gates → ℕ → List Bool → Bool
 truth n i w = get_or (truths n w) i false
 
 -- the earlier gates stay, and each keeps its truth
-pub record Begins (old new : Gates) : Type 0 where
+pub record ExtendsNet (old new : Gates) : Type 0 where
   pub vars : new.vars ≡ old.vars
   pub more : length old.gates ≤ length new.gates
   pub gates : take (length old.gates) new.gates ≡ old.gates

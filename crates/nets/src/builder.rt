@@ -1,6 +1,6 @@
 //! The builder of a net.
 ghost use Rattle.std.specs.Prelude.{◌≡◌, ◌<◌, length, not, ◌&&◌, ◌||◌, IfOk, get_or, false};
-ghost use Rattle.nets.specs.Nets.{Begins, IsGate, agree, truth};
+ghost use Rattle.nets.specs.Nets.{ExtendsNet, IsGate, agree, truth};
 
 use crate::connectives::implies;
 use crate::net::{Gate, Net};
@@ -65,8 +65,8 @@ impl NetBuilder {
 
     /// A gate that is always true, or always false.
     pub fn constant(&mut self, value: bool) -> Result<u64, Memory>
-        ensures begins { Begins self.old self.new }
-        ensures made { IfOk result (λ g. IsGate self.new g (λ w. value)) }
+        ensures extends { ExtendsNet self.old self.new }
+        ensures has_truth { IfOk result (λ g. IsGate self.new g (λ w. value)) }
     {
         self.net.add(Gate::Const(value))
     }
@@ -74,8 +74,8 @@ impl NetBuilder {
     /// A gate that is true where variable `v` is 1.
     pub fn variable(&mut self, v: u32) -> Result<u64, Memory>
         requires { v < self.old.vars }
-        ensures begins { Begins self.old self.new }
-        ensures made { IfOk result (λ g. IsGate self.new g (λ w. get_or w v false)) }
+        ensures extends { ExtendsNet self.old self.new }
+        ensures has_truth { IfOk result (λ g. IsGate self.new g (λ w. get_or w v false)) }
     {
         self.net.add(Gate::Var(v))
     }
@@ -84,8 +84,8 @@ impl NetBuilder {
     #[tactic(auto, using(crate::proofs::Truths::made_not))]
     pub fn not(&mut self, a: u64) -> Result<u64, Memory>
         requires { a < length self.old.gates }
-        ensures begins { Begins self.old self.new }
-        ensures made { IfOk result (λ g. IsGate self.new g (λ w. not (truth self.old a w))) }
+        ensures extends { ExtendsNet self.old self.new }
+        ensures has_truth { IfOk result (λ g. IsGate self.new g (λ w. not (truth self.old a w))) }
     {
         match self.net.gate(a) {
             Gate::Const(value) => self.constant(!value),
@@ -98,8 +98,8 @@ impl NetBuilder {
     #[tactic(auto, using(crate::proofs::Truths::made_not))]
     fn add_not(&mut self, a: u64) -> Result<u64, Memory>
         requires { a < length self.old.gates }
-        ensures begins { Begins self.old self.new }
-        ensures made { IfOk result (λ g. IsGate self.new g (λ w. not (truth self.old a w))) }
+        ensures extends { ExtendsNet self.old self.new }
+        ensures has_truth { IfOk result (λ g. IsGate self.new g (λ w. not (truth self.old a w))) }
     {
         self.net.add(Gate::Not(a))
     }
@@ -109,8 +109,8 @@ impl NetBuilder {
     pub fn and(&mut self, a: u64, b: u64) -> Result<u64, Memory>
         requires left { a < length self.old.gates }
         requires right { b < length self.old.gates }
-        ensures begins { Begins self.old self.new }
-        ensures made { IfOk result (λ g. IsGate self.new g (λ w. truth self.old a w && truth self.old b w)) }
+        ensures extends { ExtendsNet self.old self.new }
+        ensures has_truth { IfOk result (λ g. IsGate self.new g (λ w. truth self.old a w && truth self.old b w)) }
     {
         if a == b {
             return Ok(a);
@@ -127,8 +127,8 @@ impl NetBuilder {
     fn add_and(&mut self, a: u64, b: u64) -> Result<u64, Memory>
         requires left { a < length self.old.gates }
         requires right { b < length self.old.gates }
-        ensures begins { Begins self.old self.new }
-        ensures made { IfOk result (λ g. IsGate self.new g (λ w. truth self.old a w && truth self.old b w)) }
+        ensures extends { ExtendsNet self.old self.new }
+        ensures has_truth { IfOk result (λ g. IsGate self.new g (λ w. truth self.old a w && truth self.old b w)) }
     {
         self.net.add(Gate::And(a, b))
     }
@@ -137,8 +137,8 @@ impl NetBuilder {
     pub fn or(&mut self, a: u64, b: u64) -> Result<u64, Memory>
         requires left { a < length self.old.gates }
         requires right { b < length self.old.gates }
-        ensures begins { Begins self.old self.new }
-        ensures made { IfOk result (λ g. IsGate self.new g (λ w. truth self.old a w || truth self.old b w)) }
+        ensures extends { ExtendsNet self.old self.new }
+        ensures has_truth { IfOk result (λ g. IsGate self.new g (λ w. truth self.old a w || truth self.old b w)) }
     {
         let x = self.not(a)?;
         let y = self.not(b)?;
@@ -150,8 +150,8 @@ impl NetBuilder {
     pub fn equal(&mut self, a: u64, b: u64) -> Result<u64, Memory>
         requires left { a < length self.old.gates }
         requires right { b < length self.old.gates }
-        ensures begins { Begins self.old self.new }
-        ensures made { IfOk result (λ g. IsGate self.new g (λ w. agree (truth self.old a w) (truth self.old b w))) }
+        ensures extends { ExtendsNet self.old self.new }
+        ensures has_truth { IfOk result (λ g. IsGate self.new g (λ w. agree (truth self.old a w) (truth self.old b w))) }
     {
         if a == b {
             return self.constant(true);

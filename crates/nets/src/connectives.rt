@@ -1,6 +1,6 @@
 //! Connectives that are made of other gates.
 ghost use Rattle.std.specs.Prelude.{◌<◌, ◌&&◌, ◌||◌, not, if◌then◌else◌, length, IfOk};
-ghost use Rattle.nets.specs.Nets.{Begins, IsGate, truth};
+ghost use Rattle.nets.specs.Nets.{ExtendsNet, IsGate, truth};
 
 use crate::builder::NetBuilder;
 use y86_base::Memory;
@@ -10,8 +10,8 @@ pub fn choose(b: &mut NetBuilder, c: u64, x: u64, y: u64) -> Result<u64, Memory>
     requires condition { c < length b.old.gates }
     requires first { x < length b.old.gates }
     requires second { y < length b.old.gates }
-    ensures begins { Begins b.old b.new }
-    ensures made { IfOk result (λ g. IsGate b.new g (λ w. if truth b.old c w then truth b.old x w else truth b.old y w)) }
+    ensures extends { ExtendsNet b.old b.new }
+    ensures has_truth { IfOk result (λ g. IsGate b.new g (λ w. if truth b.old c w then truth b.old x w else truth b.old y w)) }
 {
     let first = b.and(c, x)?;
     let other = b.not(c)?;
@@ -23,8 +23,8 @@ pub fn choose(b: &mut NetBuilder, c: u64, x: u64, y: u64) -> Result<u64, Memory>
 pub fn without(b: &mut NetBuilder, x: u64, y: u64) -> Result<u64, Memory>
     requires first { x < length b.old.gates }
     requires second { y < length b.old.gates }
-    ensures begins { Begins b.old b.new }
-    ensures made { IfOk result (λ g. IsGate b.new g (λ w. truth b.old x w && not (truth b.old y w))) }
+    ensures extends { ExtendsNet b.old b.new }
+    ensures has_truth { IfOk result (λ g. IsGate b.new g (λ w. truth b.old x w && not (truth b.old y w))) }
 {
     let none = b.not(y)?;
     b.and(x, none)
@@ -34,8 +34,8 @@ pub fn without(b: &mut NetBuilder, x: u64, y: u64) -> Result<u64, Memory>
 pub fn implies(b: &mut NetBuilder, x: u64, y: u64) -> Result<u64, Memory>
     requires first { x < length b.old.gates }
     requires second { y < length b.old.gates }
-    ensures begins { Begins b.old b.new }
-    ensures made { IfOk result (λ g. IsGate b.new g (λ w. not (truth b.old x w) || truth b.old y w)) }
+    ensures extends { ExtendsNet b.old b.new }
+    ensures has_truth { IfOk result (λ g. IsGate b.new g (λ w. not (truth b.old x w) || truth b.old y w)) }
 {
     let none = b.not(x)?;
     b.or(none, y)
@@ -45,8 +45,8 @@ pub fn implies(b: &mut NetBuilder, x: u64, y: u64) -> Result<u64, Memory>
 pub fn excludes(b: &mut NetBuilder, x: u64, y: u64) -> Result<u64, Memory>
     requires first { x < length b.old.gates }
     requires second { y < length b.old.gates }
-    ensures begins { Begins b.old b.new }
-    ensures made { IfOk result (λ g. IsGate b.new g (λ w. not (truth b.old x w && truth b.old y w))) }
+    ensures extends { ExtendsNet b.old b.new }
+    ensures has_truth { IfOk result (λ g. IsGate b.new g (λ w. not (truth b.old x w && truth b.old y w))) }
 {
     let both = b.and(x, y)?;
     b.not(both)
@@ -56,8 +56,8 @@ pub fn excludes(b: &mut NetBuilder, x: u64, y: u64) -> Result<u64, Memory>
 pub fn neither(b: &mut NetBuilder, x: u64, y: u64) -> Result<u64, Memory>
     requires first { x < length b.old.gates }
     requires second { y < length b.old.gates }
-    ensures begins { Begins b.old b.new }
-    ensures made { IfOk result (λ g. IsGate b.new g (λ w. not (truth b.old x w || truth b.old y w))) }
+    ensures extends { ExtendsNet b.old b.new }
+    ensures has_truth { IfOk result (λ g. IsGate b.new g (λ w. not (truth b.old x w || truth b.old y w))) }
 {
     let either = b.or(x, y)?;
     b.not(either)

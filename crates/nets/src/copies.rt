@@ -1,7 +1,7 @@
 //! Copies of nets with something else in the place of each variable.
 ghost use Rattle.std.specs.Prelude.{◌≡◌, ◌<◌, ℕ, length, IfOk};
-ghost use Rattle.nets.specs.Nets.{Begins, IsGate, ReadsEarlier, gate_value, truths};
-ghost use Rattle.nets.specs.declared.copies.Source.TheVariants.{Var};
+ghost use Rattle.nets.specs.Nets.{ExtendsNet, IsGate, ReadsEarlier, gate_value, truths};
+ghost use Rattle.nets.specs.declared.copies.Replacement.TheVariants.{Var};
 ghost use Rattle.nets.specs.Substitution.{AreCopies, AreSources, behind, source_truth};
 
 use crate::builder::NetBuilder;
@@ -11,27 +11,27 @@ use y86_base::{Items, Memory};
 
 /// What stands in the place of a variable: a constant, or a variable of the copy by its number.
 #[derive(Clone, Copy, Debug, PartialEq, Eq)]
-pub enum Source {
+pub enum Replacement {
     Const(bool),
     Var(u32),
 }
 
 /// A copy of a net, and for each gate of the net the number of the gate of the copy with its truth.
 #[derive(Drop)]
-pub struct Substituted {
+pub struct SubstitutedNet {
     pub net: Net,
     pub gates: Items<u64>,
 }
 
 /// The gate of what stands in the place of a variable.
-fn source_gate(b: &mut NetBuilder, source: Source) -> Result<u64, Memory>
+fn source_gate(b: &mut NetBuilder, source: Replacement) -> Result<u64, Memory>
     requires { (x : ℕ) → source ≡ Var x → x < b.old.vars }
-    ensures begins { Begins b.old b.new }
-    ensures made { IfOk result (λ g. IsGate b.new g (λ u. source_truth u source)) }
+    ensures extends { ExtendsNet b.old b.new }
+    ensures has_truth { IfOk result (λ g. IsGate b.new g (λ u. source_truth u source)) }
 {
     match source {
-        Source::Const(value) => b.constant(value),
-        Source::Var(x) => b.variable(x),
+        Replacement::Const(value) => b.constant(value),
+        Replacement::Var(x) => b.variable(x),
     }
 }
 
@@ -40,7 +40,7 @@ fn source_gate(b: &mut NetBuilder, source: Source) -> Result<u64, Memory>
 fn copy_gate(
     b: &mut NetBuilder,
     n: &Net,
-    to: &[Source],
+    to: &[Replacement],
     made: &[u64],
     gate: Gate,
 ) -> Result<u64, Memory>
@@ -48,8 +48,8 @@ fn copy_gate(
     requires whole { length to.now ≡ n.now.vars }
     requires copies { AreCopies n.now b.old to.now made.now }
     requires reads { ReadsEarlier n.now.vars (length made.now) gate }
-    ensures begins { Begins b.old b.new }
-    ensures made { IfOk result (λ g. IsGate b.new g (λ u. gate_value (behind to.now u) (truths n.now (behind to.now u)) gate)) }
+    ensures extends { ExtendsNet b.old b.new }
+    ensures has_truth { IfOk result (λ g. IsGate b.new g (λ u. gate_value (behind to.now u) (truths n.now (behind to.now u)) gate)) }
 {
     match gate {
         Gate::Const(value) => b.constant(value),
@@ -71,7 +71,12 @@ fn copy_gate(
 
 /// A copy of a net with `vars` variables, in which `to[i]` stands in the place of variable i.
 #[tactic(auto, using(crate::proofs::Gates::copies_none, crate::proofs::Gates::copies_more))]
-pub fn substitute(alloc: Global, n: &Net, vars: u32, to: &[Source]) -> Result<Substituted, Memory>
+pub fn substitute(
+    alloc: Global,
+    n: &Net,
+    vars: u32,
+    to: &[Replacement],
+) -> Result<SubstitutedNet, Memory>
     requires sources { AreSources vars to.now }
     requires whole { length to.now ≡ n.now.vars }
     ensures vars { IfOk result (λ s. s.net.vars ≡ vars) }
@@ -88,7 +93,7 @@ pub fn substitute(alloc: Global, n: &Net, vars: u32, to: &[Source]) -> Result<Su
         }
         i += 1;
     }
-    Ok(Substituted {
+    Ok(SubstitutedNet {
         net: b.finish(),
         gates: Items::of(made),
     })

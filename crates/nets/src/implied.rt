@@ -2,9 +2,9 @@
 ghost use Rattle.std.specs.Prelude.{◌≡◌, ℕ, ◌<◌, List, Bool, false, get_or, IfOk, length, replicate, true};
 ghost use Rattle.nets.specs.Nets.{truth};
 ghost use Rattle.nets.specs.Substitution.{AreSources};
-ghost use Rattle.nets.specs.Forcing.{AreCommon, AreImplied, AreTrue, IsForced, Settle};
+ghost use Rattle.nets.specs.Forcing.{AreCommon, AreImplied, AreMarkedTrue, IsForced, SubstituteAgrees};
 
-use crate::copies::Source;
+use crate::copies::Replacement;
 use crate::net::{Gate, Net};
 use std::alloc::Global;
 use y86_base::Memory;
@@ -24,7 +24,7 @@ fn marks(alloc: Global, size: u64, mark: bool) -> Result<Vec<bool>, Memory>
 fn mark_parts(n: &Net, i: u64, marked: &mut [bool])
     requires inside { i < length n.now.gates }
     requires size { length marked.old ≡ length n.now.gates }
-    ensures { (u : List Bool) → AreTrue n.now marked.old u → AreTrue n.now marked.new u }
+    ensures { (u : List Bool) → AreMarkedTrue n.now marked.old u → AreMarkedTrue n.now marked.new u }
 {
     if marked[i as usize] {
         match n.gate(i) {
@@ -42,7 +42,7 @@ fn mark_parts(n: &Net, i: u64, marked: &mut [bool])
 fn conjuncts(alloc: Global, n: &Net, gate: u64) -> Result<Vec<bool>, Memory>
     requires { gate < length n.now.gates }
     ensures size { IfOk result (λ marked. length marked.items ≡ length n.now.gates) }
-    ensures implied { IfOk result (λ marked. (u : List Bool) → truth n.now gate u ≡ true → AreTrue n.now marked.items u) }
+    ensures implied { IfOk result (λ marked. (u : List Bool) → truth n.now gate u ≡ true → AreMarkedTrue n.now marked.items u) }
 {
     let mut marked = marks(alloc, n.len(), false)?;
     marked[gate as usize] = true;
@@ -59,7 +59,7 @@ fn conjuncts(alloc: Global, n: &Net, gate: u64) -> Result<Vec<bool>, Memory>
 fn implied(alloc: Global, n: &Net, gate: u64) -> Result<Vec<bool>, Memory>
     requires { gate < length n.now.gates }
     ensures size { IfOk result (λ marked. length marked.items ≡ length n.now.gates) }
-    ensures implied { IfOk result (λ marked. (u : List Bool) → truth n.now gate u ≡ false → AreTrue n.now marked.items u) }
+    ensures implied { IfOk result (λ marked. (u : List Bool) → truth n.now gate u ≡ false → AreMarkedTrue n.now marked.items u) }
 {
     match n.gate(gate) {
         Gate::Const(true) => marks(alloc, n.len(), true),
@@ -97,16 +97,16 @@ fn implied_by_all(alloc: Global, n: &Net, gates: &[u64]) -> Result<Vec<bool>, Me
 
 /// Where a gate is a variable or the negation of one, puts the bit for it that makes the gate true.
 #[tactic(auto, using(crate::proofs::Forcing::settle_one, crate::proofs::Forcing::sources_one, crate::proofs::Forcing::variable_bit, crate::proofs::Forcing::negated_bit))]
-fn settle(n: &Net, gate: u64, to: &mut [Source])
+fn settle(n: &Net, gate: u64, to: &mut [Replacement])
     requires inside { gate < length n.now.gates }
     requires size { length to.old ≡ n.now.vars }
     ensures sources { (vars : ℕ) → AreSources vars to.old → AreSources vars to.new }
-    ensures settle { (u : List Bool) → truth n.now gate u ≡ true → Settle to.old u → Settle to.new u }
+    ensures settle { (u : List Bool) → truth n.now gate u ≡ true → SubstituteAgrees to.old u → SubstituteAgrees to.new u }
 {
     match n.gate(gate) {
-        Gate::Var(x) => to[x as usize] = Source::Const(true),
+        Gate::Var(x) => to[x as usize] = Replacement::Const(true),
         Gate::Not(a) => match n.gate(a) {
-            Gate::Var(x) => to[x as usize] = Source::Const(false),
+            Gate::Var(x) => to[x as usize] = Replacement::Const(false),
             Gate::Const(_) | Gate::Not(_) | Gate::And(..) => {}
         },
         Gate::Const(_) | Gate::And(..) => {}
@@ -115,14 +115,14 @@ fn settle(n: &Net, gate: u64, to: &mut [Source])
 
 /// Each of so many variables in its own place.
 #[tactic(auto, using(crate::proofs::Forcing::settle_more, crate::proofs::Forcing::settle_none, crate::proofs::Forcing::sources_more))]
-fn themselves(alloc: Global, vars: u32) -> Result<Vec<Source>, Memory>
+fn themselves(alloc: Global, vars: u32) -> Result<Vec<Replacement>, Memory>
     ensures size { IfOk result (λ to. length to.items ≡ vars) }
     ensures sources { IfOk result (λ to. AreSources vars to.items) }
-    ensures settle { IfOk result (λ to. (u : List Bool) → Settle to.items u) }
+    ensures settle { IfOk result (λ to. (u : List Bool) → SubstituteAgrees to.items u) }
 {
-    let mut to: Vec<Source> = Vec::new(alloc);
+    let mut to: Vec<Replacement> = Vec::new(alloc);
     for i in 0..vars {
-        if to.push(Source::Var(i)).is_err() {
+        if to.push(Replacement::Var(i)).is_err() {
             return Err(Memory);
         }
     }
@@ -132,7 +132,7 @@ fn themselves(alloc: Global, vars: u32) -> Result<Vec<Source>, Memory>
 /// What stands in the places of the variables where one of some gates is false: a bit for each variable that is seen to
 /// have one there, and the variable itself for each other one.
 #[tactic(auto, using(crate::proofs::Forcing::is_forced))]
-pub fn forced(alloc: Global, n: &Net, gates: &[u64]) -> Result<Vec<Source>, Memory>
+pub fn forced(alloc: Global, n: &Net, gates: &[u64]) -> Result<Vec<Replacement>, Memory>
     requires { (k : ℕ) → k < length gates.now → get_or gates.now k 0 < length n.now.gates }
     ensures size { IfOk result (λ to. length to.items ≡ n.now.vars) }
     ensures forced { IfOk result (λ to. IsForced n.now gates.now to.items) }

@@ -21,9 +21,9 @@ mod variables;
 
 pub use builder::NetBuilder;
 pub use connectives::{choose, excludes, implies, neither, without};
-pub use copies::{Source, Substituted, substitute};
+pub use copies::{Replacement, SubstitutedNet, substitute};
 pub use evaluation::{Valuation, eval};
 pub use implied::forced;
 pub use net::{Gate, Net};
-pub use parts::part;
-pub use variables::by_number;
+pub use parts::cofactor;
+pub use variables::all_variables;

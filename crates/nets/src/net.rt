@@ -1,6 +1,6 @@
 //! Gates, and nets of them.
 ghost use Rattle.std.specs.Prelude.{◌≡◌, ℕ, ◌<◌, List, Bool, length, slice_get, IfOk};
-ghost use Rattle.nets.specs.Nets.{Begins, IsAdded, IsGate, ReadsEarlier, gate_value, truth, truths};
+ghost use Rattle.nets.specs.Nets.{ExtendsNet, IsAdded, IsGate, ReadsEarlier, gate_value, truth, truths};
 
 use indexmap::IndexSet;
 use std::alloc::Global;
@@ -87,7 +87,7 @@ impl Net {
     #[tactic(auto, using(crate::proofs::Added::added_net, crate::proofs::Added::added_begins))]
     pub(crate) fn add(&mut self, gate: Gate) -> Result<u64, Memory>
         requires { ReadsEarlier self.old.vars (length self.old.gates) gate }
-        ensures begins { Begins self.old self.new }
+        ensures extends { ExtendsNet self.old self.new }
         ensures added { IfOk result (λ i. slice_get self.new.gates i ≡ Some gate) }
         ensures meaning { IfOk result (λ i. IsGate self.new i (λ w. gate_value w (truths self.new w) gate)) }
     {

@@ -7,7 +7,7 @@ use y86_base::Memory;
 
 /// So many variables, by their numbers.
 #[tactic(auto, using(crate::proofs::Numbers::numbers_more))]
-pub fn by_number(alloc: Global, vars: u32) -> Result<Vec<u32>, Memory>
+pub fn all_variables(alloc: Global, vars: u32) -> Result<Vec<u32>, Memory>
     ensures { IfOk result (λ order. order.items ≡ range_with_len 0 vars) }
 {
     let mut order: Vec<u32> = Vec::new(alloc);

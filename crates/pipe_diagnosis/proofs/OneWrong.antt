@@ -14,14 +14,14 @@ use Rattle.ctl_formula.specs.Controls.{AreControls}
 use Rattle.control_values.specs.Given.{assigned, field_at}
 use Rattle.control_values.proofs.AtomsGiven.{given_atoms}
 use Rattle.dp_signals.specs.PipeTable.{pipe_rows}
-use Rattle.field_bits.specs.Spots.{number_among}
-use Rattle.pipe_fields.specs.Layout.{bit_count, fields_of, number_of, spots}
+use Rattle.net_fields.specs.FieldSpecs.{number_among}
+use Rattle.pipe_fields.specs.Layout.{bit_count, fields_of, number_of, field_specs}
 use Rattle.pipe_fields.proofs.Told.{numbers_of}
 use Rattle.pipe_motion.specs.declared.settings.Settings.{Settings}
-use Rattle.pipe_obligations.specs.Obligations.{movers_of}
-use Rattle.pipe_obligations.specs.Rules.{demand, demand_at, is_asked, obligation}
-use Rattle.pipe_obligations.specs.Settled.{PipeControls}
-use Rattle.pipe_obligations.specs.Stages.{view_of}
+use Rattle.pipe_obligations.specs.Obligations.{register_controls_of}
+use Rattle.pipe_obligations.specs.Rules.{demand, demand_at, is_demanded, obligation}
+use Rattle.pipe_obligations.specs.FileSettings.{PipeControls}
+use Rattle.pipe_obligations.specs.StageFlows.{flow_of}
 use Rattle.dp_signals.specs.PipeNames as signal
 use Rattle.findings.proofs.EachMet.{demand_false, findings_right}
 use Rattle.findings.specs.Findings.{are_right, finding}
@@ -29,17 +29,17 @@ use Rattle.pipe_requirements.specs.Requirements.{requirements}
 use Rattle.pipe_requirements.proofs.ByRequirements.{by_requirements}
 
 -- the number of each field is that of the valuation
-pub numbers_are : (w : List Bool) (n : ℕ) → field_at spots w n ≡ number_of (fields_of w) n
+pub numbers_are : (w : List Bool) (n : ℕ) → field_at field_specs w n ≡ number_of (fields_of w) n
 unfolding number_of
-numbers_are w n = ap (λ (xs : List ℕ). number_among spots xs n) (sym (numbers_of w))
+numbers_are w n = ap (λ (xs : List ℕ). number_among field_specs xs n) (sym (numbers_of w))
 
-pub controls_are : (terms : List Term) (w : List Bool) (α : Assignment) (cv : ℕ → Leaf) → AreControls pipe_rows terms (field_at spots w) α cv → PipeControls terms (fields_of w) α cv
+pub controls_are : (terms : List Term) (w : List Bool) (α : Assignment) (cv : ℕ → Leaf) → AreControls pipe_rows terms (field_at field_specs w) α cv → PipeControls terms (fields_of w) α cv
 controls_are terms w α cv h = subst (λ (f : ℕ → ℕ). AreControls pipe_rows terms f α cv) (λ i n. numbers_are w n i) h
 
 pub one_wrong : (v : Variant) (terms : List Term) (s : Settings) (atoms : List Atom) (i : ℕ) (w : List Bool) (α : Assignment) (cv : ℕ → Leaf) → 1 ≤ i → i ≤ 22 → obligation v s atoms i (fields_of w) α cv ≡ false →
-    are_right (map (finding signal.f_pc terms α cv) (requirements v s (fields_of w) (view_of v s (fields_of w)) (movers_of α cv) cv i)) ≡ false
+    are_right (map (finding signal.f_pc terms α cv) (requirements v s (fields_of w) (flow_of v s (fields_of w)) (register_controls_of α cv) cv i)) ≡ false
 unfolding demand_at
 one_wrong v terms s atoms i w α cv ge le e =
     let c = fields_of w in
-    findings_right signal.f_pc terms α cv (requirements v s c (view_of v s c) (movers_of α cv) cv i)
-    ∙ (sym (by_requirements v s c (view_of v s c) (movers_of α cv) α cv i ge le) ∙ demand_false (is_asked v s atoms i c α) (demand i v s c (view_of v s c) (movers_of α cv) α cv) e)
+    findings_right signal.f_pc terms α cv (requirements v s c (flow_of v s c) (register_controls_of α cv) cv i)
+    ∙ (sym (by_requirements v s c (flow_of v s c) (register_controls_of α cv) α cv i ge le) ∙ demand_false (is_demanded v s atoms i c α) (demand i v s c (flow_of v s c) (register_controls_of α cv) α cv) e)

@@ -9,10 +9,10 @@ use Rattle.control_values.specs.Given.{assigned, at}
 use Rattle.dp_signals.specs.PipeNames as signal
 use Rattle.pipe_fields.specs.Layout.{bit_count, fields_of}
 use Rattle.pipe_motion.specs.declared.settings.Settings.{Settings}
-use Rattle.pipe_obligations.specs.Obligations.{movers_of}
+use Rattle.pipe_obligations.specs.Obligations.{register_controls_of}
 use Rattle.pipe_obligations.specs.Rules.{obligation}
-use Rattle.pipe_obligations.specs.Settled.{PipeControls}
-use Rattle.pipe_obligations.specs.Stages.{view_of}
+use Rattle.pipe_obligations.specs.FileSettings.{PipeControls}
+use Rattle.pipe_obligations.specs.StageFlows.{flow_of}
 use Rattle.findings.specs.Findings.{are_right, finding}
 use Rattle.pipe_requirements.specs.Requirements.{requirements, unread}
 use Rattle.motion_repairs.specs.Pairs.{AreRepairs}
@@ -29,8 +29,8 @@ pub record IsDiagnosis (v : Variant) (terms : List Term) (s : Settings) (atoms :
   pub false_there : obligation v s atoms i (fields_of w) (assigned atoms bit_count w) (at diagnosis.leaves) ≡ false
   -- an obligation from 1 to 22: a finding for each requirement
   pub findings : i ≤ 22 → diagnosis.findings
-      ≡ map (finding signal.f_pc terms (assigned atoms bit_count w) (at diagnosis.leaves)) (requirements v s (fields_of w) (view_of v s (fields_of w)) (movers_of (assigned atoms bit_count w) (at diagnosis.leaves)) (at diagnosis.leaves) i)
+      ≡ map (finding signal.f_pc terms (assigned atoms bit_count w) (at diagnosis.leaves)) (requirements v s (fields_of w) (flow_of v s (fields_of w)) (register_controls_of (assigned atoms bit_count w) (at diagnosis.leaves)) (at diagnosis.leaves) i)
   -- at least one isn't met
   pub one_wrong : i ≤ 22 → are_right diagnosis.findings ≡ false
   -- the changes that would meet all obligations on motion
-  pub repairs : AreRepairs v s (fields_of w) (view_of v s (fields_of w)) (movers_of (assigned atoms bit_count w) (at diagnosis.leaves)) unread diagnosis.leaves diagnosis.repairs
+  pub repairs : AreRepairs v s (fields_of w) (flow_of v s (fields_of w)) (register_controls_of (assigned atoms bit_count w) (at diagnosis.leaves)) unread diagnosis.leaves diagnosis.repairs

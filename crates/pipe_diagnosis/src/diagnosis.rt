@@ -6,14 +6,14 @@ ghost use Rattle.ctl_atoms.specs.Atoms.{AreAtoms};
 ghost use Rattle.control_values.specs.Given.{assigned, at};
 ghost use Rattle.ctl_atoms.specs.Leaves.{leaf_holds};
 ghost use Rattle.pipe_requirements.specs.Requirements.{requirements, unread};
-ghost use Rattle.pipe_requirements.specs.Views.{fields_in, movers_in, view_in};
+ghost use Rattle.pipe_requirements.specs.Flows.{fields_in, as_register_controls, as_flow};
 ghost use Rattle.dp_signals.specs.PipeNames as signal;
 ghost use Rattle.findings.specs.Findings.{finding};
 ghost use Rattle.pipe_fields.specs.Layout.{bit_count, fields_of};
 ghost use Rattle.motion_repairs.specs.Pairs as pairs;
 ghost use Rattle.pipe_obligations.specs.Obligations as rule;
-ghost use Rattle.pipe_obligations.specs.Settled.{PipeControls};
-ghost use Rattle.pipe_obligations.specs.Stages as stages;
+ghost use Rattle.pipe_obligations.specs.FileSettings.{PipeControls};
+ghost use Rattle.pipe_obligations.specs.StageFlows as stages;
 ghost use Rattle.pipe_diagnosis.specs.Diagnosis as spec;
 
 use control_values::{Scope, Situation, control_values, holds};
@@ -22,15 +22,17 @@ use dp_signals::{pipe_row as name, pipe_table};
 use findings::{Finding, Requirement, findings_of, leaf_at};
 use hcl_types::{Design, NameId, Order, Term};
 use motion_repairs::{Repairs, repairs_of};
-use pipe_fields::{BIT_COUNT, spots};
+use pipe_fields::{BIT_COUNT, field_specs};
 use pipe_motion::Settings;
-use pipe_requirements::{MoverNow, MoversNow, Now, lines_of, requirements_of, view_of};
+use pipe_requirements::{
+    Now, RegisterControlNow, RegisterControlsNow, flow_of, lines_of, requirements_of,
+};
 use std::alloc::Global;
 use y86_base::{Items, Memory, Variant};
 
 /// Findings, and the repairs.
 #[derive(Drop)]
-struct Found {
+struct FindingsAndRepairs {
     findings: Items<Finding>,
     repairs: Repairs,
 }
@@ -55,28 +57,28 @@ fn is_on(scope: &Scope<'_>, signal: NameId) -> bool
 }
 
 /// The ten stall and bubble signals at a valuation.
-pub fn movers_at(scope: &Scope<'_>) -> MoversNow
+pub fn register_controls_at(scope: &Scope<'_>) -> RegisterControlsNow
     requires { scope.now.first ≤ 1000 }
-    ensures { movers_in result ≡ rule.movers_of (assigned scope.now.atoms.now scope.now.first scope.now.bits.now) (at scope.now.leaves.now) }
+    ensures { as_register_controls result ≡ rule.register_controls_of (assigned scope.now.atoms.now scope.now.first scope.now.bits.now) (at scope.now.leaves.now) }
 {
-    MoversNow {
-        f: MoverNow {
+    RegisterControlsNow {
+        f: RegisterControlNow {
             stall: is_on(scope, name::F_STALL),
             bubble: is_on(scope, name::F_BUBBLE),
         },
-        d: MoverNow {
+        d: RegisterControlNow {
             stall: is_on(scope, name::D_STALL),
             bubble: is_on(scope, name::D_BUBBLE),
         },
-        e: MoverNow {
+        e: RegisterControlNow {
             stall: is_on(scope, name::E_STALL),
             bubble: is_on(scope, name::E_BUBBLE),
         },
-        m: MoverNow {
+        m: RegisterControlNow {
             stall: is_on(scope, name::M_STALL),
             bubble: is_on(scope, name::M_BUBBLE),
         },
-        w: MoverNow {
+        w: RegisterControlNow {
             stall: is_on(scope, name::W_STALL),
             bubble: is_on(scope, name::W_BUBBLE),
         },
@@ -86,7 +88,7 @@ pub fn movers_at(scope: &Scope<'_>) -> MoversNow
 /// What an obligation requires; an obligation on motion requires nothing of a single signal.
 fn requirements_at(alloc: Global, n: &Now<'_>, number: u32) -> Result<Vec<Requirement>, Memory>
     requires { 1 ≤ number }
-    ensures { number ≤ 22 → IfOk result (λ r. r.items ≡ requirements n.now.v n.now.s.now (fields_in n.now.l.now) (view_in n.now.y.now) (movers_in n.now.mv.now) (at n.now.leaves.now) number) }
+    ensures { number ≤ 22 → IfOk result (λ r. r.items ≡ requirements n.now.v n.now.s.now (fields_in n.now.l.now) (as_flow n.now.y.now) (as_register_controls n.now.mv.now) (at n.now.leaves.now) number) }
 {
     if number <= 22 {
         requirements_of(alloc, n, number)
@@ -103,18 +105,18 @@ fn found_at(
     scope: &Scope<'_>,
     terms: &[Term],
     number: u32,
-) -> Result<Found, Memory>
+) -> Result<FindingsAndRepairs, Memory>
     requires near { scope.now.first ≤ 1000 }
     requires first { 1 ≤ number }
     ensures findings { number ≤ 22 → IfOk result (λ r. r.findings ≡ map (finding signal.f_pc terms.now (assigned scope.now.atoms.now scope.now.first scope.now.bits.now) (at scope.now.leaves.now))
-        (requirements v s.now (fields_of scope.now.bits.now) (stages.view_of v s.now (fields_of scope.now.bits.now))
-        (rule.movers_of (assigned scope.now.atoms.now scope.now.first scope.now.bits.now) (at scope.now.leaves.now)) (at scope.now.leaves.now) number)) }
-    ensures repairs { IfOk result (λ r. pairs.AreRepairs v s.now (fields_of scope.now.bits.now) (stages.view_of v s.now (fields_of scope.now.bits.now))
-        (rule.movers_of (assigned scope.now.atoms.now scope.now.first scope.now.bits.now) (at scope.now.leaves.now)) unread scope.now.leaves.now r.repairs) }
+        (requirements v s.now (fields_of scope.now.bits.now) (stages.flow_of v s.now (fields_of scope.now.bits.now))
+        (rule.register_controls_of (assigned scope.now.atoms.now scope.now.first scope.now.bits.now) (at scope.now.leaves.now)) (at scope.now.leaves.now) number)) }
+    ensures repairs { IfOk result (λ r. pairs.AreRepairs v s.now (fields_of scope.now.bits.now) (stages.flow_of v s.now (fields_of scope.now.bits.now))
+        (rule.register_controls_of (assigned scope.now.atoms.now scope.now.first scope.now.bits.now) (at scope.now.leaves.now)) unread scope.now.leaves.now r.repairs) }
 {
     let l = lines_of(scope.bits);
-    let y = view_of(v, s, &l);
-    let mv = movers_at(scope);
+    let y = flow_of(v, s, &l);
+    let mv = register_controls_at(scope);
     let n = Now {
         v,
         s,
@@ -126,7 +128,7 @@ fn found_at(
     let all = requirements_at(alloc, &n, number)?;
     let findings = findings_of(alloc, scope, terms, name::F_PC, all.as_slice())?;
     let repairs = repairs_of(alloc, &n)?;
-    Ok(Found {
+    Ok(FindingsAndRepairs {
         findings: Items::of(findings),
         repairs,
     })
@@ -154,7 +156,7 @@ pub fn diagnose(
         Err(_) => return Err(Memory),
     };
     let situation = Situation {
-        fields: spots(),
+        fields: field_specs(),
         atoms,
         first: BIT_COUNT as usize,
         bits,

@@ -8,6 +8,6 @@
 mod diagnosis;
 mod refusal;
 
-pub use diagnosis::{Diagnosis, diagnose, movers_at};
+pub use diagnosis::{Diagnosis, diagnose, register_controls_at};
 pub use findings::Finding;
 pub use refusal::{Refusal, Refutation};

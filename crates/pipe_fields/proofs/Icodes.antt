@@ -1,14 +1,14 @@
 -- The icode of a line that bits spell is below 16; and what holds below a number.
 use Rattle.std.proofs.Common.{◌≡◌, ℕ, ◌+◌, ◌-◌, ◌<◌, ◌&&◌, Bool, List, ◌∙◌, ap, arith}
-use Rattle.field_bits.proofs.Icodes.{each_next}
-use Rattle.field_bits.specs.Icodes.{each_below}
-use Rattle.field_bits.proofs.Patterns.{spelt_lt}
+use Rattle.net_fields.proofs.Icodes.{each_next}
+use Rattle.net_fields.specs.Icodes.{each_below}
+use Rattle.net_fields.proofs.Patterns.{spelt_lt}
 use Rattle.pipe_fields.specs.Layout.{fields_of}
 use Rattle.pipe_fields.specs.Lines.{icode_in}
-use Rattle.pipe_fields.specs.declared.lines.Line.{Line}
-use Rattle.pipe_fields.specs.declared.lines.Line.TheVariants.{F, D, E, M, W}
+use Rattle.pipe_fields.specs.declared.lines.StageLine.{StageLine}
+use Rattle.pipe_fields.specs.declared.lines.StageLine.TheVariants.{F, D, E, M, W}
 
-pub icode_below : (line : Line) (w : List Bool) → icode_in line (fields_of w) < 16
+pub icode_below : (line : StageLine) (w : List Bool) → icode_in line (fields_of w) < 16
 unfolding fields_of
 icode_below F w = spelt_lt w 7 4
 icode_below D w = spelt_lt w 21 4

@@ -1,39 +1,39 @@
 -- Laws of PIPE's fields.
 use Rattle.std.proofs.Common.{◌≡◌, ℕ, ◌&&◌, Bool, true, List, Some, refl, ◌∙◌, ap, arith}
 use Rattle.std.proofs.lemmas.Bool.Decides.{nat_tests}
-use Rattle.field_bits.proofs.Patterns.{pattern_of, decoded_range}
-use Rattle.field_bits.proofs.Places.{place_of}
-use Rattle.field_bits.specs.Spots.{decoded, number_among}
-use Rattle.field_bits.specs.declared.spots.FieldPlace.{FieldPlace}
-use Rattle.pipe_fields.specs.Allowed.{allowed, stage_fits, fetch_allowed, decode_allowed, execute_allowed, memory_allowed, write_allowed}
+use Rattle.net_fields.proofs.Patterns.{pattern_of, decoded_range}
+use Rattle.net_fields.proofs.Places.{place_of}
+use Rattle.net_fields.specs.FieldSpecs.{decoded, number_among}
+use Rattle.net_fields.specs.declared.field_specs.BitRange.{BitRange}
+use Rattle.pipe_fields.specs.Allowed.{allowed, stage_allowed, fetch_allowed, decode_allowed, execute_allowed, memory_allowed, write_allowed}
 use Rattle.pipe_fields.specs.Laws.{HasNoRegisters, IsPatternOf, IsPlaceOf, of_bubbles}
 use Rattle.pipe_fields.specs.Layout as layout
-use Rattle.pipe_fields.specs.Layout.{FetchLine, DecodeLine, ExecuteLine, MemoryLine, WriteLine, Fields, InRange, spots, numbers, fields_by, fields_of, number_of}
+use Rattle.pipe_fields.specs.Layout.{FetchLine, DecodeLine, ExecuteLine, MemoryLine, WriteLine, Fields, InRange, field_specs, numbers, fields_by, fields_of, number_of}
 use Rattle.y86_base.specs.declared.parts.Variant.{Variant}
 
 pub has_pattern : (c : Fields) (behind : List Bool) → InRange c → IsPatternOf c behind
 unfolding fields_of
 has_pattern c behind h =
-    let p = pattern_of spots (numbers c) behind h in
+    let p = pattern_of field_specs (numbers c) behind h in
     record { spells = ap fields_by p.spells; size = p.size; later = p.behind }
 
 pub in_range : (w : List Bool) → InRange (fields_of w)
 unfolding fields_of
-in_range w = decoded_range spots 0 w
+in_range w = decoded_range field_specs 0 w
 
-pub numbers_of : (w : List Bool) → numbers (fields_of w) ≡ decoded spots 0 w
+pub numbers_of : (w : List Bool) → numbers (fields_of w) ≡ decoded field_specs 0 w
 unfolding fields_of
 numbers_of w = refl
 
-pub has_place : (name : ℕ) (p : FieldPlace) → layout.place_of name ≡ Some p → IsPlaceOf name p
+pub has_place : (name : ℕ) (p : BitRange) → layout.place_of name ≡ Some p → IsPlaceOf name p
 unfolding layout.place_of number_of
 has_place name p e =
-    let h = place_of spots name p e in
-    record { within = h.within; spells = λ w. ap (λ (xs : List ℕ). number_among spots xs name) (numbers_of w) ∙ h.spells w }
+    let h = place_of field_specs name p e in
+    record { within = h.within; spells = λ w. ap (λ (xs : List ℕ). number_among field_specs xs name) (numbers_of w) ∙ h.spells w }
 
 -- ---- bubbles
 
-as_bubble : (kinds kind : ℕ) (b fits : Bool) → stage_fits kinds kind b fits ≡ true → kind ≡ 0 → b ≡ true
+as_bubble : (kinds kind : ℕ) (b fits : Bool) → stage_allowed kinds kind b fits ≡ true → kind ≡ 0 → b ≡ true
 as_bubble kinds kind b fits h e = grind (arith, nat_tests)
 
 decode_none : (v : Variant) (x : DecodeLine) → decode_allowed v x ≡ true → x.kind ≡ 0 → (x.r_a ≡ 15) × (x.r_b ≡ 15)

@@ -2,66 +2,66 @@
 use Rattle.std.specs.Prelude.{ℕ, Bool, ◌&&◌, ◌||◌, ◌==◌, nat_lt, length, if◌then◌else◌}
 use Rattle.y86_base.specs.declared.parts.Variant.{Variant}
 use Rattle.y86_isa.specs.declared.columns.Row.{Row}
-use Rattle.y86_isa.specs.RowTests.{accesses, is_branch}
+use Rattle.y86_isa.specs.RowTests.{accesses, next_is_branch}
 use Rattle.y86_isa.specs.Table.{rows, row, inop, no_register}
-use Rattle.field_bits.specs.Fits.{reading_fits, half_fits, register_fits, tied, destination_fits, cnd_fits, cnd_where, only_where, stat_fits, code_fits}
+use Rattle.net_fields.specs.AllowedNumbers.{reading_allowed, register_field_allowed, register_allowed, shares_register, destination_allowed, cnd_allowed, cnd_allowed_where, zero_unless, stat_allowed, codes_allowed}
 use Rattle.pipe_fields.specs.Layout.{FetchLine, DecodeLine, ExecuteLine, MemoryLine, WriteLine, Fields, bubble, good}
 
 -- ---- the lines of instructions, by the row of their icode, of a table with so many rows
 
 -- an instruction that is good and has no fault so far; the hidden bits of others are 0
-abbrev pub is_live : ℕ → ℕ → Bool
-is_live kind stat = kind == good && stat == 1
+abbrev pub is_good_aok : ℕ → ℕ → Bool
+is_good_aok kind stat = kind == good && stat == 1
 
 -- what is fetched; with an error it is a nop, which is no jump and stops nowhere
-unfoldable pub fetch_fits : ℕ → ℕ → Row → FetchLine → Bool
-fetch_fits count icode r x =
-    reading_fits count r x.error icode x.ifun
-    && cnd_where (is_branch r.next) x.ifun x.taken
-    && only_where (accesses r.memory) x.stops
-    && only_where (is_branch r.next) x.back
+unfoldable pub fetch_row_allowed : ℕ → ℕ → Row → FetchLine → Bool
+fetch_row_allowed count icode r x =
+    reading_allowed count r x.error icode x.ifun
+    && cnd_allowed_where (next_is_branch r.next) x.ifun x.taken
+    && zero_unless (accesses r.memory) x.stops
+    && zero_unless (next_is_branch r.next) x.back
 
-unfoldable pub decode_fits : ℕ → ℕ → Row → DecodeLine → Bool
-decode_fits count icode r x =
-    code_fits count r x.stat icode x.ifun
-    && half_fits r.has_byte r.uses_a x.r_a
-    && half_fits r.has_byte r.uses_b x.r_b
-    && cnd_where (is_live x.kind x.stat && is_branch r.next) x.ifun x.taken
-    && only_where (is_live x.kind x.stat && accesses r.memory) x.stops
-    && only_where (is_live x.kind x.stat && is_branch r.next) x.back
+unfoldable pub decode_row_allowed : ℕ → ℕ → Row → DecodeLine → Bool
+decode_row_allowed count icode r x =
+    codes_allowed count r x.stat icode x.ifun
+    && register_field_allowed r.has_byte r.uses_a x.r_a
+    && register_field_allowed r.has_byte r.uses_b x.r_b
+    && cnd_allowed_where (is_good_aok x.kind x.stat && next_is_branch r.next) x.ifun x.taken
+    && zero_unless (is_good_aok x.kind x.stat && accesses r.memory) x.stops
+    && zero_unless (is_good_aok x.kind x.stat && next_is_branch r.next) x.back
 
 -- the register numbers behind the decode stage, where a move counts as if its condition held
-abbrev pub registers_fit : Row → ExecuteLine → Bool
-registers_fit r x =
-    register_fits r.dst_e x.dst_e
-    && register_fits r.dst_m x.dst_m
-    && register_fits r.src_a x.src_a
-    && register_fits r.src_b x.src_b
-    && tied r x.src_b x.dst_e
+abbrev pub registers_allowed : Row → ExecuteLine → Bool
+registers_allowed r x =
+    register_allowed r.dst_e x.dst_e
+    && register_allowed r.dst_m x.dst_m
+    && register_allowed r.src_a x.src_a
+    && register_allowed r.src_b x.src_b
+    && shares_register r x.src_b x.dst_e
 
-unfoldable pub execute_fits : ℕ → ℕ → Row → ExecuteLine → Bool
-execute_fits count icode r x =
-    code_fits count r x.stat icode x.ifun
-    && registers_fit r x
-    && cnd_fits x.ifun x.cnd
-    && only_where (is_live x.kind x.stat && accesses r.memory) x.stops
-    && only_where (is_live x.kind x.stat && is_branch r.next) x.back
+unfoldable pub execute_row_allowed : ℕ → ℕ → Row → ExecuteLine → Bool
+execute_row_allowed count icode r x =
+    codes_allowed count r x.stat icode x.ifun
+    && registers_allowed r x
+    && cnd_allowed x.ifun x.cnd
+    && zero_unless (is_good_aok x.kind x.stat && accesses r.memory) x.stops
+    && zero_unless (is_good_aok x.kind x.stat && next_is_branch r.next) x.back
 
-unfoldable pub memory_fits : ℕ → ℕ → Row → MemoryLine → Bool
-memory_fits count icode r x =
-    code_fits count r x.stat icode x.ifun
-    && destination_fits r x.cnd x.dst_e
-    && register_fits r.dst_m x.dst_m
-    && cnd_fits x.ifun x.cnd
-    && only_where (is_live x.kind x.stat && accesses r.memory) x.error
-    && only_where (is_live x.kind x.stat && is_branch r.next) x.back
+unfoldable pub memory_row_allowed : ℕ → ℕ → Row → MemoryLine → Bool
+memory_row_allowed count icode r x =
+    codes_allowed count r x.stat icode x.ifun
+    && destination_allowed r x.cnd x.dst_e
+    && register_allowed r.dst_m x.dst_m
+    && cnd_allowed x.ifun x.cnd
+    && zero_unless (is_good_aok x.kind x.stat && accesses r.memory) x.error
+    && zero_unless (is_good_aok x.kind x.stat && next_is_branch r.next) x.back
 
 -- a move's destination may be lost, and an error at memory leaves the icode as it is
-unfoldable pub write_fits : ℕ → ℕ → Row → WriteLine → Bool
-write_fits count icode r x =
-    stat_fits count (accesses r.memory) x.stat icode
-    && (r.conditional && x.dst_e == no_register || register_fits r.dst_e x.dst_e)
-    && register_fits r.dst_m x.dst_m
+unfoldable pub write_row_allowed : ℕ → ℕ → Row → WriteLine → Bool
+write_row_allowed count icode r x =
+    stat_allowed count (accesses r.memory) x.stat icode
+    && (r.conditional && x.dst_e == no_register || register_allowed r.dst_e x.dst_e)
+    && register_allowed r.dst_m x.dst_m
 
 -- ---- the lines of bubbles: a nop of status 0 (BUB) without registers
 
@@ -87,25 +87,25 @@ write_bubble x = x.stat == 0 && x.icode == inop && x.dst_e == no_register && x.d
 -- ---- a valuation
 
 -- what a stage holds: a bubble, or an instruction of one of the kinds that the stage can hold
-abbrev pub stage_fits : ℕ → ℕ → Bool → Bool → Bool
-stage_fits kinds kind as_bubble fits = if kind == bubble then as_bubble else nat_lt kind kinds && fits
+abbrev pub stage_allowed : ℕ → ℕ → Bool → Bool → Bool
+stage_allowed kinds kind as_bubble fits = if kind == bubble then as_bubble else nat_lt kind kinds && fits
 
 -- each line by the row of its icode
 abbrev pub fetch_allowed : Variant → FetchLine → Bool
-fetch_allowed v x = fetch_fits (length (rows v)) x.icode (row v x.icode) x
+fetch_allowed v x = fetch_row_allowed (length (rows v)) x.icode (row v x.icode) x
 
 abbrev pub decode_allowed : Variant → DecodeLine → Bool
-decode_allowed v x = stage_fits 3 x.kind (decode_bubble x) (decode_fits (length (rows v)) x.icode (row v x.icode) x)
+decode_allowed v x = stage_allowed 3 x.kind (decode_bubble x) (decode_row_allowed (length (rows v)) x.icode (row v x.icode) x)
 
 abbrev pub execute_allowed : Variant → ExecuteLine → Bool
-execute_allowed v x = stage_fits 3 x.kind (execute_bubble x) (execute_fits (length (rows v)) x.icode (row v x.icode) x)
+execute_allowed v x = stage_allowed 3 x.kind (execute_bubble x) (execute_row_allowed (length (rows v)) x.icode (row v x.icode) x)
 
 -- M and W hold no wrong instruction
 abbrev pub memory_allowed : Variant → MemoryLine → Bool
-memory_allowed v x = stage_fits 2 x.kind (memory_bubble x) (memory_fits (length (rows v)) x.icode (row v x.icode) x)
+memory_allowed v x = stage_allowed 2 x.kind (memory_bubble x) (memory_row_allowed (length (rows v)) x.icode (row v x.icode) x)
 
 abbrev pub write_allowed : Variant → WriteLine → Bool
-write_allowed v x = stage_fits 2 x.kind (write_bubble x) (write_fits (length (rows v)) x.icode (row v x.icode) x)
+write_allowed v x = stage_allowed 2 x.kind (write_bubble x) (write_row_allowed (length (rows v)) x.icode (row v x.icode) x)
 
 unfoldable pub allowed : Variant → Fields → Bool
 allowed v c = fetch_allowed v c.f && decode_allowed v c.d && execute_allowed v c.e && memory_allowed v c.m && write_allowed v c.w

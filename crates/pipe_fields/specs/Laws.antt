@@ -1,7 +1,7 @@
 -- Laws of PIPE's fields.
 use Rattle.std.specs.Prelude.{ℕ, ◌≡◌, ◌≤◌, ◌+◌, Bool, false, List, length, get_or}
-use Rattle.field_bits.specs.Spelling.{spelt}
-use Rattle.field_bits.specs.declared.spots.FieldPlace.{FieldPlace}
+use Rattle.net_fields.specs.Spelling.{spelt}
+use Rattle.net_fields.specs.declared.field_specs.BitRange.{BitRange}
 use Rattle.y86_isa.specs.Table.{inop, no_register}
 use Rattle.pipe_fields.specs.Layout.{FetchLine, Fields, bubble, bit_count, fields_of, number_of, pattern_of}
 
@@ -12,7 +12,7 @@ pub record IsPatternOf (c : Fields) (behind : List Bool) : Type 0 where
   pub later : (k : ℕ) → get_or (pattern_of c behind) (bit_count + k) false ≡ get_or behind k false
 
 -- the place of a signal is among the fields' bits, and these bits spell its number
-pub record IsPlaceOf (name : ℕ) (p : FieldPlace) : Type 0 where
+pub record IsPlaceOf (name : ℕ) (p : BitRange) : Type 0 where
   pub within : p.first + p.bits ≤ bit_count
   pub spells : (w : List Bool) → number_of (fields_of w) name ≡ spelt w p.first p.bits
 

@@ -1,9 +1,9 @@
 -- The fields of a control valuation of PIPE: five lines of numbers, and the bits that spell them.
 use Rattle.std.specs.Prelude.{ℕ, ◌+◌, List, [], ◌∷◌, Bool, get_or, Option, Some, None}
 use Rattle.dp_signals.specs.PipeNames as signal
-use Rattle.field_bits.specs.declared.spots.FieldPlace.{FieldPlace}
-use Rattle.field_bits.specs.declared.spots.Spot.{Spot}
-use Rattle.field_bits.specs.Spots as table
+use Rattle.net_fields.specs.declared.field_specs.BitRange.{BitRange}
+use Rattle.net_fields.specs.declared.field_specs.FieldSpec.{FieldSpec}
+use Rattle.net_fields.specs.FieldSpecs as table
 
 -- the kind of what a stage holds
 abbrev pub bubble : ℕ
@@ -83,15 +83,15 @@ pub record Fields : Type 0 where
 -- ---- as bits
 
 -- a field that is a signal, and one that no signal reads
-abbrev read_by : ℕ → ℕ → Spot
+abbrev read_by : ℕ → ℕ → FieldSpec
 read_by bits name = record { bits = bits; name = Some name }
 
-abbrev hidden : ℕ → Spot
+abbrev hidden : ℕ → FieldSpec
 hidden bits = record { bits = bits; name = None }
 
 -- the table of the fields, in the order of the variables: the kinds of D, E, M and W, then the lines F, D, E, M and W
-abbrev pub spots : List Spot
-spots =
+abbrev pub field_specs : List FieldSpec
+field_specs =
     hidden 2 ∷ hidden 2 ∷ hidden 1 ∷ hidden 1 ∷  -- the kinds
     read_by 1 signal.imem_error ∷ read_by 4 signal.imem_icode ∷ read_by 4 signal.imem_ifun ∷
     hidden 1 ∷ hidden 1 ∷ hidden 1 ∷  -- F: taken, stops, back
@@ -182,20 +182,20 @@ fields_by xs =
 
 -- each field has a number that its bits can spell
 abbrev pub InRange : Fields → Type 0
-InRange c = table.InRange spots (numbers c)
+InRange c = table.InRange field_specs (numbers c)
 
 -- the fields that bits spell
 unfoldable pub fields_of : List Bool → Fields
-fields_of w = fields_by (table.decoded spots 0 w)
+fields_of w = fields_by (table.decoded field_specs 0 w)
 
 -- bits that spell the fields, and what stands behind them
 abbrev pub pattern_of : Fields → List Bool → List Bool
-pattern_of c behind = table.pattern spots (numbers c) behind
+pattern_of c behind = table.pattern field_specs (numbers c) behind
 
 -- the place of a signal that is a field
-unfoldable pub place_of : ℕ → Option FieldPlace
-place_of name = table.place_from spots 0 name
+unfoldable pub place_of : ℕ → Option BitRange
+place_of name = table.place_from field_specs 0 name
 
 -- the number that the fields give a signal, and 0 to one that is no field
 unfoldable pub number_of : Fields → ℕ → ℕ
-number_of c name = table.number_among spots (numbers c) name
+number_of c name = table.number_among field_specs (numbers c) name

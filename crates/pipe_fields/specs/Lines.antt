@@ -3,12 +3,12 @@ use Rattle.std.specs.Prelude.{ℕ, Bool, length}
 use Rattle.y86_base.specs.declared.parts.Variant.{Variant}
 use Rattle.y86_isa.specs.declared.columns.Row.{Row}
 use Rattle.y86_isa.specs.Table.{rows, row}
-use Rattle.pipe_fields.specs.declared.lines.Line.{Line}
-use Rattle.pipe_fields.specs.declared.lines.Line.TheVariants.{F, D, E, M, W}
-use Rattle.pipe_fields.specs.Allowed.{fetch_fits, decode_fits, execute_fits, memory_fits, write_fits}
+use Rattle.pipe_fields.specs.declared.lines.StageLine.{StageLine}
+use Rattle.pipe_fields.specs.declared.lines.StageLine.TheVariants.{F, D, E, M, W}
+use Rattle.pipe_fields.specs.Allowed.{fetch_row_allowed, decode_row_allowed, execute_row_allowed, memory_row_allowed, write_row_allowed}
 use Rattle.pipe_fields.specs.Layout.{Fields}
 
-abbrev pub icode_in : Line → Fields → ℕ
+abbrev pub icode_in : StageLine → Fields → ℕ
 icode_in F c = c.f.icode
 icode_in D c = c.d.icode
 icode_in E c = c.e.icode
@@ -16,12 +16,12 @@ icode_in M c = c.m.icode
 icode_in W c = c.w.icode
 
 -- the line is one of an instruction of an icode, with its row
-abbrev pub fits_row : Line → ℕ → ℕ → Row → Fields → Bool
-fits_row F count icode r c = fetch_fits count icode r c.f
-fits_row D count icode r c = decode_fits count icode r c.d
-fits_row E count icode r c = execute_fits count icode r c.e
-fits_row M count icode r c = memory_fits count icode r c.m
-fits_row W count icode r c = write_fits count icode r c.w
+abbrev pub line_row_allowed : StageLine → ℕ → ℕ → Row → Fields → Bool
+line_row_allowed F count icode r c = fetch_row_allowed count icode r c.f
+line_row_allowed D count icode r c = decode_row_allowed count icode r c.d
+line_row_allowed E count icode r c = execute_row_allowed count icode r c.e
+line_row_allowed M count icode r c = memory_row_allowed count icode r c.m
+line_row_allowed W count icode r c = write_row_allowed count icode r c.w
 
-unfoldable pub fits_at : Variant → Line → ℕ → Fields → Bool
-fits_at v line icode c = fits_row line (length (rows v)) icode (row v icode) c
+unfoldable pub line_icode_allowed : Variant → StageLine → ℕ → Fields → Bool
+line_icode_allowed v line icode c = line_row_allowed line (length (rows v)) icode (row v icode) c

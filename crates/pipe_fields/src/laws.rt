@@ -1,6 +1,6 @@
 //! Theorems about the fields of PIPE. Each is a function that does nothing and whose contract is the theorem.
 ghost use Rattle.std.specs.Prelude.{◌≡◌, ℕ, Bool, true, List, Some};
-ghost use Rattle.field_bits.specs.declared.spots.FieldPlace.{FieldPlace};
+ghost use Rattle.net_fields.specs.declared.field_specs.BitRange.{BitRange};
 ghost use Rattle.pipe_fields.specs.Allowed.{allowed, fetch_allowed};
 ghost use Rattle.pipe_fields.specs.Laws.{HasNoRegisters, IsPatternOf, IsPlaceOf, of_bubbles};
 ghost use Rattle.pipe_fields.specs.Layout.{FetchLine, Fields, InRange, fields_of, place_of};
@@ -14,7 +14,7 @@ pub fn law_of_patterns()
 
 /// The bits at the place of a signal spell the number of its field.
 pub fn law_of_places()
-    ensures { (name : ℕ) (p : FieldPlace) → place_of name ≡ Some p → IsPlaceOf name p }
+    ensures { (name : ℕ) (p : BitRange) → place_of name ≡ Some p → IsPlaceOf name p }
 {}
 
 /// In an allowed line of a bubble no register is named.

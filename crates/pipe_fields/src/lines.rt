@@ -2,7 +2,7 @@
 
 /// One of the five lines of a control valuation: what is fetched, and what each stage holds.
 #[derive(Clone, Copy, Debug, PartialEq, Eq)]
-pub enum Line {
+pub enum StageLine {
     F,
     D,
     E,

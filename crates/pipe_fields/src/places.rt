@@ -1,10 +1,10 @@
 //! Where each field of PIPE stands among the variables of a control valuation.
-use field_bits::FieldPlace;
+use net_fields::BitRange;
 
 /// So many bits from a variable on.
 macro_rules! place {
     ($first:expr, $bits:expr) => {
-        FieldPlace {
+        BitRange {
             first: $first,
             bits: $bits,
         }
@@ -22,91 +22,91 @@ const M: u32 = E + 30;
 
 const W: u32 = M + 22;
 
-pub const D_KIND: FieldPlace = place!(0, 2);
+pub const D_KIND: BitRange = place!(0, 2);
 
-pub const E_KIND: FieldPlace = place!(2, 2);
+pub const E_KIND: BitRange = place!(2, 2);
 
-pub const M_KIND: FieldPlace = place!(4, 1);
+pub const M_KIND: BitRange = place!(4, 1);
 
-pub const W_KIND: FieldPlace = place!(5, 1);
+pub const W_KIND: BitRange = place!(5, 1);
 
-pub const F_ERROR: FieldPlace = place!(F + 0, 1);
+pub const F_ERROR: BitRange = place!(F + 0, 1);
 
-pub const F_ICODE: FieldPlace = place!(F + 1, 4);
+pub const F_ICODE: BitRange = place!(F + 1, 4);
 
-pub const F_IFUN: FieldPlace = place!(F + 5, 4);
+pub const F_IFUN: BitRange = place!(F + 5, 4);
 
-pub const F_TAKEN: FieldPlace = place!(F + 9, 1);
+pub const F_TAKEN: BitRange = place!(F + 9, 1);
 
-pub const F_STOPS: FieldPlace = place!(F + 10, 1);
+pub const F_STOPS: BitRange = place!(F + 10, 1);
 
-pub const F_BACK: FieldPlace = place!(F + 11, 1);
+pub const F_BACK: BitRange = place!(F + 11, 1);
 
-pub const D_STAT: FieldPlace = place!(D + 0, 3);
+pub const D_STAT: BitRange = place!(D + 0, 3);
 
-pub const D_ICODE: FieldPlace = place!(D + 3, 4);
+pub const D_ICODE: BitRange = place!(D + 3, 4);
 
-pub const D_IFUN: FieldPlace = place!(D + 7, 4);
+pub const D_IFUN: BitRange = place!(D + 7, 4);
 
-pub const D_R_A: FieldPlace = place!(D + 11, 4);
+pub const D_R_A: BitRange = place!(D + 11, 4);
 
-pub const D_R_B: FieldPlace = place!(D + 15, 4);
+pub const D_R_B: BitRange = place!(D + 15, 4);
 
-pub const D_TAKEN: FieldPlace = place!(D + 19, 1);
+pub const D_TAKEN: BitRange = place!(D + 19, 1);
 
-pub const D_STOPS: FieldPlace = place!(D + 20, 1);
+pub const D_STOPS: BitRange = place!(D + 20, 1);
 
-pub const D_BACK: FieldPlace = place!(D + 21, 1);
+pub const D_BACK: BitRange = place!(D + 21, 1);
 
-pub const E_STAT: FieldPlace = place!(E + 0, 3);
+pub const E_STAT: BitRange = place!(E + 0, 3);
 
-pub const E_ICODE: FieldPlace = place!(E + 3, 4);
+pub const E_ICODE: BitRange = place!(E + 3, 4);
 
-pub const E_IFUN: FieldPlace = place!(E + 7, 4);
+pub const E_IFUN: BitRange = place!(E + 7, 4);
 
-pub const E_DST_E: FieldPlace = place!(E + 11, 4);
+pub const E_DST_E: BitRange = place!(E + 11, 4);
 
-pub const E_DST_M: FieldPlace = place!(E + 15, 4);
+pub const E_DST_M: BitRange = place!(E + 15, 4);
 
-pub const E_SRC_A: FieldPlace = place!(E + 19, 4);
+pub const E_SRC_A: BitRange = place!(E + 19, 4);
 
-pub const E_SRC_B: FieldPlace = place!(E + 23, 4);
+pub const E_SRC_B: BitRange = place!(E + 23, 4);
 
-pub const E_CND: FieldPlace = place!(E + 27, 1);
+pub const E_CND: BitRange = place!(E + 27, 1);
 
-pub const E_STOPS: FieldPlace = place!(E + 28, 1);
+pub const E_STOPS: BitRange = place!(E + 28, 1);
 
-pub const E_BACK: FieldPlace = place!(E + 29, 1);
+pub const E_BACK: BitRange = place!(E + 29, 1);
 
-pub const M_STAT: FieldPlace = place!(M + 0, 3);
+pub const M_STAT: BitRange = place!(M + 0, 3);
 
-pub const M_ICODE: FieldPlace = place!(M + 3, 4);
+pub const M_ICODE: BitRange = place!(M + 3, 4);
 
-pub const M_IFUN: FieldPlace = place!(M + 7, 4);
+pub const M_IFUN: BitRange = place!(M + 7, 4);
 
-pub const M_DST_E: FieldPlace = place!(M + 11, 4);
+pub const M_DST_E: BitRange = place!(M + 11, 4);
 
-pub const M_DST_M: FieldPlace = place!(M + 15, 4);
+pub const M_DST_M: BitRange = place!(M + 15, 4);
 
-pub const M_CND: FieldPlace = place!(M + 19, 1);
+pub const M_CND: BitRange = place!(M + 19, 1);
 
-pub const M_ERROR: FieldPlace = place!(M + 20, 1);
+pub const M_ERROR: BitRange = place!(M + 20, 1);
 
-pub const M_BACK: FieldPlace = place!(M + 21, 1);
+pub const M_BACK: BitRange = place!(M + 21, 1);
 
-pub const W_STAT: FieldPlace = place!(W + 0, 3);
+pub const W_STAT: BitRange = place!(W + 0, 3);
 
-pub const W_ICODE: FieldPlace = place!(W + 3, 4);
+pub const W_ICODE: BitRange = place!(W + 3, 4);
 
-pub const W_DST_E: FieldPlace = place!(W + 7, 4);
+pub const W_DST_E: BitRange = place!(W + 7, 4);
 
-pub const W_DST_M: FieldPlace = place!(W + 11, 4);
+pub const W_DST_M: BitRange = place!(W + 11, 4);
 
 /// How many fields are numbers of registers.
 pub const REGISTER_COUNT: usize = 10;
 
 /// The fields that are numbers of registers, in the order of the variables.
-pub const REGISTERS: [FieldPlace; REGISTER_COUNT] = [
+pub const REGISTERS: [BitRange; REGISTER_COUNT] = [
     D_R_A, D_R_B, E_DST_E, E_DST_M, E_SRC_A, E_SRC_B, M_DST_E, M_DST_M, W_DST_E, W_DST_M,
 ];
 

@@ -4,18 +4,18 @@ ghost use Rattle.pipe_fields.specs.Layout as layout;
 
 use crate::places as place;
 use dp_signals::pipe_row as row;
-use field_bits::{FieldPlace, Spot, place_in};
+use net_fields::{BitRange, FieldSpec, place_in};
 
 /// The field at a place: the signal of a row, or one that no signal reads.
 macro_rules! spot {
     ($place:expr, $name:expr) => {
-        Spot {
+        FieldSpec {
             bits: $place.bits,
             name: Some($name),
         }
     };
     ($place:expr) => {
-        Spot {
+        FieldSpec {
             bits: $place.bits,
             name: None,
         }
@@ -37,7 +37,7 @@ pub const W_FIRST: usize = M_FIRST + 8;
 pub const FIELD_COUNT: usize = W_FIRST + 4;
 
 /// The fields in the order of the variables.
-static SPOTS: [Spot; FIELD_COUNT] = [
+static SPOTS: [FieldSpec; FIELD_COUNT] = [
     spot!(place::D_KIND),
     spot!(place::E_KIND),
     spot!(place::M_KIND),
@@ -81,16 +81,16 @@ static SPOTS: [Spot; FIELD_COUNT] = [
 ];
 
 /// The fields in the order of the variables: how many bits each has, and the row of the signal that it is.
-pub fn spots() -> &'static [Spot]
-    ensures { result.now ≡ layout.spots }
+pub fn field_specs() -> &'static [FieldSpec]
+    ensures { result.now ≡ layout.field_specs }
 {
     &SPOTS
 }
 
 /// The place of the field that a signal is, if it is one.
 #[tactic(auto, unfolding(crate::specs::Layout::place_of))]
-pub fn place_of(name: u32) -> Option<FieldPlace>
+pub fn place_of(name: u32) -> Option<BitRange>
     ensures { result ≡ layout.place_of name }
 {
-    place_in(spots(), name)
+    place_in(field_specs(), name)
 }

@@ -1,19 +1,19 @@
 -- What is made of gates that tell control values.
 use Rattle.std.proofs.Common.{◌≡◌, ℕ, Bool, true, false, if◌then◌else◌, List, refl, ap, ◌∙◌, arith}
-use Rattle.nets.specs.Nets.{Gates, Begins, IsGate, truth}
+use Rattle.nets.specs.Nets.{Gates, ExtendsNet, IsGate, truth}
 use Rattle.ctl_atoms.specs.declared.leaf.Leaf.{Leaf}
 use Rattle.ctl_atoms.specs.declared.leaf.Atom.{Atom}
 use Rattle.ctl_atoms.specs.Leaves.{Assignment, leaf_eq}
 use Rattle.ctl_formula.specs.declared.controls.Entry.{Entry}
 use Rattle.ctl_formula.specs.Picks.{IsInside}
-use Rattle.rule_gates.specs.Asked.{IsAsked}
-use Rattle.rule_gates.proofs.Kept.{tells_less}
-use Rattle.pipe_gates.specs.Told.{IsGateOver}
+use Rattle.ctl_rules.specs.ControlGates.{IsControlGate}
+use Rattle.ctl_rules.proofs.Kept.{tells_less}
+use Rattle.pipe_gates.specs.GateTruths.{IsAtomGate}
 
 -- a gate that is made of three
 pub asked_three : {old new : Gates} {ctl : List Entry} {x y z g : ℕ} {f h k : List Bool → Assignment → (ℕ → Leaf) → Bool} (join : Bool → Bool → Bool → Bool)
-    → Begins old new → IsInside old ctl → IsAsked old ctl x f → IsAsked old ctl y h → IsAsked old ctl z k → IsGate new g (λ w. join (truth old x w) (truth old y w) (truth old z w))
-    → IsAsked new ctl g (λ w α cv. join (f w α cv) (h w α cv) (k w α cv))
+    → ExtendsNet old new → IsInside old ctl → IsControlGate old ctl x f → IsControlGate old ctl y h → IsControlGate old ctl z k → IsGate new g (λ w. join (truth old x w) (truth old y w) (truth old z w))
+    → IsControlGate new ctl g (λ w α cv. join (f w α cv) (h w α cv) (k w α cv))
 asked_three {old} {new} {ctl} {x} {y} {z} {g} {f} {h} {k} join b i p q r m = record {
   within = m.within;
   is = λ w α cv t.
@@ -23,7 +23,7 @@ asked_three {old} {new} {ctl} {x} {y} {z} {g} {f} {h} {k} join b i p q r m = rec
 }
 
 -- a gate over atoms is one of a later net
-pub over_more : {old new : Gates} {atoms : List Atom} {g : ℕ} {f : List Bool → Assignment → Bool} → Begins old new → IsGateOver old atoms g f → IsGateOver new atoms g f
+pub over_more : {old new : Gates} {atoms : List Atom} {g : ℕ} {f : List Bool → Assignment → Bool} → ExtendsNet old new → IsAtomGate old atoms g f → IsAtomGate new atoms g f
 over_more {old} {new} {atoms} {g} k h = record {
   within = let x = k.more in let y = h.within in omega arith;
   is = λ w α m. k.same g w h.within ∙ h.is w α m;
@@ -31,8 +31,8 @@ over_more {old} {new} {atoms} {g} k h = record {
 
 -- one that chooses an older gate where its own test fails
 pub asked_older : {old new : Gates} {ctl : List Entry} {x g : ℕ} {h : List Bool → Assignment → (ℕ → Leaf) → Bool} (test value : List Bool → Assignment → (ℕ → Leaf) → Bool)
-    → Begins old new → IsInside old ctl → IsAsked old ctl x h → IsAsked new ctl g (λ w α cv. if test w α cv then value w α cv else truth old x w)
-    → IsAsked new ctl g (λ w α cv. if test w α cv then value w α cv else h w α cv)
+    → ExtendsNet old new → IsInside old ctl → IsControlGate old ctl x h → IsControlGate new ctl g (λ w α cv. if test w α cv then value w α cv else truth old x w)
+    → IsControlGate new ctl g (λ w α cv. if test w α cv then value w α cv else h w α cv)
 asked_older test value b i p q = record {
   within = q.within;
   is = λ w α cv t. q.is w α cv t ∙ ap (λ c. if test w α cv then value w α cv else c) (p.is w α cv (tells_less b i t));

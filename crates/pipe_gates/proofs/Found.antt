@@ -2,8 +2,8 @@
 use Rattle.std.proofs.Common.{◌≡◌, ℕ, ◌+◌, ◌^◌, ◌<◌, inl, inr, Bool, true, false, ◌&&◌, ◌||◌, ◌==◌, nat_lt, List, refl, subst, arith}
 use Rattle.std.proofs.lemmas.Bool.{ne_eqb, cases_eq}
 use Rattle.std.proofs.lemmas.Bool.Decides.{nat_tests}
-use Rattle.field_bits.specs.Spelling.{spelt}
-use Rattle.field_bits.proofs.Patterns.{spelt_lt}
+use Rattle.net_fields.specs.Spelling.{spelt}
+use Rattle.net_fields.proofs.Patterns.{spelt_lt}
 
 here_by : (s : ℕ) (x : Bool) → ((nat_lt s s && x) || ((s == s) && x)) ≡ (nat_lt s (s + 1) && x)
 here_by s true = grind (arith, nat_tests)

@@ -3,7 +3,8 @@ ghost use Rattle.std.specs.Prelude.{◌≡◌};
 ghost use Rattle.pipe_gates.specs.Columns as spec;
 
 use y86_isa::{
-    Row, carries_a, carries_p, has_operand_a, is_branch, is_load, is_loaded, is_store, stores_a,
+    Row, has_operand_a, is_load, is_store, next_is_branch, next_is_val_m, select_a_is_val_a,
+    select_a_is_val_p, stores_val_a,
 };
 
 /// A test on a row of the instruction table: its instruction is a ret, is a conditional jump, stores valA, carries valP in
@@ -24,15 +25,15 @@ pub enum RowTest {
 }
 
 /// The row passes the test.
-pub fn passes(row: &Row, test: RowTest) -> bool
-    ensures { result ≡ spec.passes row.now test }
+pub fn row_passes(row: &Row, test: RowTest) -> bool
+    ensures { result ≡ spec.row_passes row.now test }
 {
     match test {
-        RowTest::Ret => is_loaded(row.next),
-        RowTest::Jump => is_branch(row.next),
-        RowTest::StoresA => stores_a(row.memory),
-        RowTest::CarriesP => carries_p(row),
-        RowTest::CarriesA => carries_a(row),
+        RowTest::Ret => next_is_val_m(row.next),
+        RowTest::Jump => next_is_branch(row.next),
+        RowTest::StoresA => stores_val_a(row.memory),
+        RowTest::CarriesP => select_a_is_val_p(row),
+        RowTest::CarriesA => select_a_is_val_a(row),
         RowTest::Loads => is_load(row.memory),
         RowTest::Stores => is_store(row.memory),
         RowTest::SetsFlags => row.sets_flags,

@@ -1,20 +1,20 @@
 //! Tests of the number of a field: by a list, and by the row of the icode that it is.
 ghost use Rattle.std.specs.Prelude.{◌≡◌, ◌≤◌, ◌+◌, false, get_or, IfOk};
-ghost use Rattle.nets.specs.Nets.{Begins, IsGate};
-ghost use Rattle.field_bits.specs.Spelling.{spelt};
+ghost use Rattle.nets.specs.Nets.{ExtendsNet, IsGate};
+ghost use Rattle.net_fields.specs.Spelling.{spelt};
 ghost use Rattle.pipe_gates.specs.Columns.{has};
 
-use crate::columns::{RowTest, passes};
-use field_bits::{FieldPlace, spells, spells_if};
+use crate::columns::{RowTest, row_passes};
+use net_fields::{BitRange, spells, spells_if};
 use nets::NetBuilder;
 use y86_base::{Memory, Variant};
 use y86_isa::row;
 
 /// The list has the truth `true` at the number of the field.
-pub fn listed(b: &mut NetBuilder, list: &[bool], p: FieldPlace) -> Result<u64, Memory>
+pub fn listed(b: &mut NetBuilder, list: &[bool], p: BitRange) -> Result<u64, Memory>
     requires { p.first + p.bits ≤ b.old.vars }
-    ensures begins { Begins b.old b.new }
-    ensures made { IfOk result (λ g. IsGate b.new g (λ w. get_or list.now (spelt w p.first p.bits) false)) }
+    ensures extends { ExtendsNet b.old b.new }
+    ensures has_truth { IfOk result (λ g. IsGate b.new g (λ w. get_or list.now (spelt w p.first p.bits) false)) }
 {
     let mut any = b.constant(false)?;
     for i in 0..list.len() {
@@ -30,17 +30,17 @@ pub fn listed(b: &mut NetBuilder, list: &[bool], p: FieldPlace) -> Result<u64, M
 pub fn row_has(
     b: &mut NetBuilder,
     v: Variant,
-    icode: FieldPlace,
+    icode: BitRange,
     test: RowTest,
 ) -> Result<u64, Memory>
     requires place { icode.first + icode.bits ≤ b.old.vars }
     requires bits { icode.bits ≡ 4 }
-    ensures begins { Begins b.old b.new }
-    ensures made { IfOk result (λ g. IsGate b.new g (λ w. has v test (spelt w icode.first icode.bits))) }
+    ensures extends { ExtendsNet b.old b.new }
+    ensures has_truth { IfOk result (λ g. IsGate b.new g (λ w. has v test (spelt w icode.first icode.bits))) }
 {
     let mut any = b.constant(false)?;
     for k in 0..16 {
-        let here = spells_if(b, passes(&row(v, k), test), icode, k)?;
+        let here = spells_if(b, row_passes(&row(v, k), test), icode, k)?;
         any = b.or(any, here)?;
     }
     Ok(any)

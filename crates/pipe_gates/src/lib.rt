@@ -7,7 +7,7 @@ mod fields;
 mod movers;
 mod stages;
 
-pub use columns::{RowTest, passes};
+pub use columns::{RowTest, row_passes};
 pub use fields::{listed, row_has};
-pub use movers::{movers_of, none_leaves};
-pub use stages::{jump, view_gates};
+pub use movers::{none_leaves, register_controls_of};
+pub use stages::{flow_gates, jump};

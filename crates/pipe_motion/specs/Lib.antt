@@ -1,3 +1,3 @@
-pub mod Slots
+pub mod Flow
 pub mod Gates
 pub mod Predictions

@@ -1,21 +1,25 @@
 //! Gates of the obligations on motion.
 ghost use Rattle.std.specs.Prelude.{◌<◌, ◌||◌, ◌&&◌, not, length, IfOk};
-ghost use Rattle.nets.specs.Nets.{Begins, IsGate, truth};
-ghost use Rattle.pipe_motion.specs.Gates.{slot_at, view_at, mover_at, movers_at, HasSlot, HasView, HasMover, HasMovers};
-ghost use Rattle.pipe_motion.specs.Slots as spec;
+ghost use Rattle.nets.specs.Nets.{ExtendsNet, IsGate, truth};
+ghost use Rattle.pipe_motion.specs.Gates.{stage_flow_at, flow_at, register_control_at, register_controls_at, HasStageFlow, HasFlow, HasRegisterControl, HasRegisterControls};
+ghost use Rattle.pipe_motion.specs.Flow as spec;
 
-use crate::lawful::{lawful_gate, path_gate};
-use crate::motion::{fetched_slot, load_gate, move_view};
-use crate::slots::{MoverGates, MoversGates, SlotGates, ViewGates};
+use crate::legal_flow::{flow_legal_gate, path_gate};
+use crate::motion::{fetched_flow, load_gate, move_flow};
+use crate::slots::{FlowGates, RegisterControlGates, RegisterControlsGates, StageFlowGates};
 use nets::{NetBuilder, choose, excludes, implies, neither, without};
 use y86_base::Memory;
 
 /// A good instruction leaves D.
-pub fn leaves_gate(b: &mut NetBuilder, k: &MoversGates, v: &ViewGates) -> Result<u64, Memory>
-    requires movers_in { HasMovers (length b.old.gates) k.now }
-    requires view_in { HasView (length b.old.gates) v.now }
-    ensures begins { Begins b.old b.new }
-    ensures made { IfOk result (λ g. IsGate b.new g (λ w. spec.leaves (movers_at b.old w k.now) (view_at b.old w v.now))) }
+pub fn leaves_gate(
+    b: &mut NetBuilder,
+    k: &RegisterControlsGates,
+    v: &FlowGates,
+) -> Result<u64, Memory>
+    requires controls_in { HasRegisterControls (length b.old.gates) k.now }
+    requires flow_in { HasFlow (length b.old.gates) v.now }
+    ensures extends { ExtendsNet b.old b.new }
+    ensures has_truth { IfOk result (λ g. IsGate b.new g (λ w. spec.leaves (register_controls_at b.old w k.now) (flow_at b.old w v.now))) }
 {
     let e_loads = load_gate(b, &k.e)?;
     let goes = without(b, e_loads, k.d.stall)?;
@@ -23,47 +27,52 @@ pub fn leaves_gate(b: &mut NetBuilder, k: &MoversGates, v: &ViewGates) -> Result
 }
 
 /// The register isn't stalled and bubbled.
-fn one_way(b: &mut NetBuilder, k: &MoverGates) -> Result<u64, Memory>
-    requires mover_in { HasMover (length b.old.gates) k.now }
-    ensures begins { Begins b.old b.new }
-    ensures made { IfOk result (λ g. IsGate b.new g (λ w. spec.one_way (mover_at b.old w k.now))) }
+fn stall_excludes_bubble(b: &mut NetBuilder, k: &RegisterControlGates) -> Result<u64, Memory>
+    requires mover_in { HasRegisterControl (length b.old.gates) k.now }
+    ensures extends { ExtendsNet b.old b.new }
+    ensures has_truth { IfOk result (λ g. IsGate b.new g (λ w. spec.stall_excludes_bubble (register_control_at b.old w k.now))) }
 {
     excludes(b, k.stall, k.bubble)
 }
 
 /// Neither E nor M nor W is stalled and bubbled.
-fn last_one_way(b: &mut NetBuilder, k: &MoversGates) -> Result<u64, Memory>
-    requires movers_in { HasMovers (length b.old.gates) k.now }
-    ensures begins { Begins b.old b.new }
-    ensures made { IfOk result (λ g. IsGate b.new g (λ w. spec.one_way (mover_at b.old w k.now.e) && (spec.one_way (mover_at b.old w k.now.m) && spec.one_way (mover_at b.old w k.now.w)))) }
+fn last_one_way(b: &mut NetBuilder, k: &RegisterControlsGates) -> Result<u64, Memory>
+    requires controls_in { HasRegisterControls (length b.old.gates) k.now }
+    ensures extends { ExtendsNet b.old b.new }
+    ensures has_truth { IfOk result (λ g. IsGate b.new g (λ w. spec.stall_excludes_bubble (register_control_at b.old w k.now.e) && (spec.stall_excludes_bubble (register_control_at b.old w k.now.m) && spec.stall_excludes_bubble (register_control_at b.old w k.now.w)))) }
 {
-    let e = one_way(b, &k.e)?;
-    let m = one_way(b, &k.m)?;
-    let w = one_way(b, &k.w)?;
+    let e = stall_excludes_bubble(b, &k.e)?;
+    let m = stall_excludes_bubble(b, &k.m)?;
+    let w = stall_excludes_bubble(b, &k.w)?;
     let last_two = b.and(m, w)?;
     b.and(e, last_two)
 }
 
 /// No register is stalled and bubbled.
-pub fn obligation_23(b: &mut NetBuilder, k: &MoversGates) -> Result<u64, Memory>
-    requires movers_in { HasMovers (length b.old.gates) k.now }
-    ensures begins { Begins b.old b.new }
-    ensures made { IfOk result (λ g. IsGate b.new g (λ w. spec.o23 (movers_at b.old w k.now))) }
+pub fn obligation_23(b: &mut NetBuilder, k: &RegisterControlsGates) -> Result<u64, Memory>
+    requires controls_in { HasRegisterControls (length b.old.gates) k.now }
+    ensures extends { ExtendsNet b.old b.new }
+    ensures has_truth { IfOk result (λ g. IsGate b.new g (λ w. spec.o23 (register_controls_at b.old w k.now))) }
 {
-    let f = one_way(b, &k.f)?;
-    let d = one_way(b, &k.d)?;
+    let f = stall_excludes_bubble(b, &k.f)?;
+    let d = stall_excludes_bubble(b, &k.d)?;
     let rest = last_one_way(b, k)?;
     let last = b.and(d, rest)?;
     b.and(f, last)
 }
 
 /// A good instruction goes on: the next register loads, and its own isn't stalled.
-fn passes(b: &mut NetBuilder, next: &MoverGates, own: &MoverGates, good: u64) -> Result<u64, Memory>
-    requires next_in { HasMover (length b.old.gates) next.now }
-    requires own_in { HasMover (length b.old.gates) own.now }
+fn passes(
+    b: &mut NetBuilder,
+    next: &RegisterControlGates,
+    own: &RegisterControlGates,
+    good: u64,
+) -> Result<u64, Memory>
+    requires next_in { HasRegisterControl (length b.old.gates) next.now }
+    requires own_in { HasRegisterControl (length b.old.gates) own.now }
     requires good_in { good < length b.old.gates }
-    ensures begins { Begins b.old b.new }
-    ensures made { IfOk result (λ g. IsGate b.new g (λ w. not (truth b.old good w) || (spec.loads (mover_at b.old w next.now) && not (truth b.old own.now.stall w)))) }
+    ensures extends { ExtendsNet b.old b.new }
+    ensures has_truth { IfOk result (λ g. IsGate b.new g (λ w. not (truth b.old good w) || (spec.loads (register_control_at b.old w next.now) && not (truth b.old own.now.stall w)))) }
 {
     let loads = load_gate(b, next)?;
     let goes = without(b, loads, own.stall)?;
@@ -71,11 +80,15 @@ fn passes(b: &mut NetBuilder, next: &MoverGates, own: &MoverGates, good: u64) ->
 }
 
 /// A good D leaves, or it stays and E doesn't load.
-fn goes_or_stays(b: &mut NetBuilder, k: &MoversGates, v: &ViewGates) -> Result<u64, Memory>
-    requires movers_in { HasMovers (length b.old.gates) k.now }
-    requires view_in { HasView (length b.old.gates) v.now }
-    ensures begins { Begins b.old b.new }
-    ensures made { IfOk result (λ g. IsGate b.new g (λ w. spec.goes_or_stays (movers_at b.old w k.now) (view_at b.old w v.now))) }
+fn goes_or_stays(
+    b: &mut NetBuilder,
+    k: &RegisterControlsGates,
+    v: &FlowGates,
+) -> Result<u64, Memory>
+    requires controls_in { HasRegisterControls (length b.old.gates) k.now }
+    requires flow_in { HasFlow (length b.old.gates) v.now }
+    ensures extends { ExtendsNet b.old b.new }
+    ensures has_truth { IfOk result (λ g. IsGate b.new g (λ w. spec.goes_or_stays (register_controls_at b.old w k.now) (flow_at b.old w v.now))) }
 {
     let leaves = leaves_gate(b, k, v)?;
     let e_loads = load_gate(b, &k.e)?;
@@ -85,11 +98,15 @@ fn goes_or_stays(b: &mut NetBuilder, k: &MoversGates, v: &ViewGates) -> Result<u
 }
 
 /// A good instruction is neither lost nor doubled.
-pub fn obligation_24(b: &mut NetBuilder, k: &MoversGates, v: &ViewGates) -> Result<u64, Memory>
-    requires movers_in { HasMovers (length b.old.gates) k.now }
-    requires view_in { HasView (length b.old.gates) v.now }
-    ensures begins { Begins b.old b.new }
-    ensures made { IfOk result (λ g. IsGate b.new g (λ w. spec.o24 (movers_at b.old w k.now) (view_at b.old w v.now))) }
+pub fn obligation_24(
+    b: &mut NetBuilder,
+    k: &RegisterControlsGates,
+    v: &FlowGates,
+) -> Result<u64, Memory>
+    requires controls_in { HasRegisterControls (length b.old.gates) k.now }
+    requires flow_in { HasFlow (length b.old.gates) v.now }
+    ensures extends { ExtendsNet b.old b.new }
+    ensures has_truth { IfOk result (λ g. IsGate b.new g (λ w. spec.o24 (register_controls_at b.old w k.now) (flow_at b.old w v.now))) }
 {
     let w = excludes(b, v.w.good, k.w.stall)?;
     let m = passes(b, &k.w, &k.m, v.m.good)?;
@@ -103,17 +120,17 @@ pub fn obligation_24(b: &mut NetBuilder, k: &MoversGates, v: &ViewGates) -> Resu
 /// Where the path will hold: a good fetch that entered D has loaded F, and F stayed on the path where none did.
 fn path_kept(
     b: &mut NetBuilder,
-    k: &MoversGates,
+    k: &RegisterControlsGates,
     good: u64,
     now: u64,
     later: u64,
 ) -> Result<u64, Memory>
-    requires movers_in { HasMovers (length b.old.gates) k.now }
+    requires controls_in { HasRegisterControls (length b.old.gates) k.now }
     requires good_in { good < length b.old.gates }
     requires now_in { now < length b.old.gates }
     requires later_in { later < length b.old.gates }
-    ensures begins { Begins b.old b.new }
-    ensures made { IfOk result (λ g. IsGate b.new g (λ w. spec.path_is_kept (movers_at b.old w k.now) (truth b.old good w) (truth b.old now w) (truth b.old later w))) }
+    ensures extends { ExtendsNet b.old b.new }
+    ensures has_truth { IfOk result (λ g. IsGate b.new g (λ w. spec.path_is_kept (register_controls_at b.old w k.now) (truth b.old good w) (truth b.old now w) (truth b.old later w))) }
 {
     let d_loads = load_gate(b, &k.d)?;
     let entered = b.and(d_loads, good)?;
@@ -127,21 +144,21 @@ fn path_kept(
 #[tactic(auto, using(nets::proofs::Truths::begins_more, nets::proofs::Truths::begins_self, crate::proofs::Kept::view_kept, crate::proofs::Kept::movers_kept))]
 fn next_right(
     b: &mut NetBuilder,
-    k: &MoversGates,
+    k: &RegisterControlsGates,
     good: u64,
-    v: &ViewGates,
-    next: &ViewGates,
+    v: &FlowGates,
+    next: &FlowGates,
     je: bool,
     rm: bool,
 ) -> Result<u64, Memory>
-    requires movers_in { HasMovers (length b.old.gates) k.now }
+    requires controls_in { HasRegisterControls (length b.old.gates) k.now }
     requires good_in { good < length b.old.gates }
-    requires view_in { HasView (length b.old.gates) v.now }
-    requires next_in { HasView (length b.old.gates) next.now }
-    ensures begins { Begins b.old b.new }
-    ensures made { IfOk result (λ g. IsGate b.new g (λ w. spec.next_is_right je rm (movers_at b.old w k.now) (truth b.old good w) (view_at b.old w v.now) (view_at b.old w next.now))) }
+    requires flow_in { HasFlow (length b.old.gates) v.now }
+    requires next_in { HasFlow (length b.old.gates) next.now }
+    ensures extends { ExtendsNet b.old b.new }
+    ensures has_truth { IfOk result (λ g. IsGate b.new g (λ w. spec.next_is_right je rm (register_controls_at b.old w k.now) (truth b.old good w) (flow_at b.old w v.now) (flow_at b.old w next.now))) }
 {
-    let lawful = lawful_gate(b, next, je, rm)?;
+    let lawful = flow_legal_gate(b, next, je, rm)?;
     let wrong = b.or(next.m.wrong, next.w.wrong)?;
     let none_wrong = b.not(wrong)?;
     let now = path_gate(b, v)?;
@@ -155,30 +172,30 @@ fn next_right(
 /// brings these facts.
 pub fn obligation_25(
     b: &mut NetBuilder,
-    k: &MoversGates,
+    k: &RegisterControlsGates,
     good: u64,
-    facts: &SlotGates,
-    v: &ViewGates,
+    facts: &StageFlowGates,
+    v: &FlowGates,
     je: bool,
     rm: bool,
 ) -> Result<u64, Memory>
-    requires movers_in { HasMovers (length b.old.gates) k.now }
+    requires controls_in { HasRegisterControls (length b.old.gates) k.now }
     requires good_in { good < length b.old.gates }
-    requires facts_in { HasSlot (length b.old.gates) facts.now }
-    requires view_in { HasView (length b.old.gates) v.now }
-    ensures begins { Begins b.old b.new }
-    ensures made { IfOk result (λ g. IsGate b.new g (λ w. spec.o25 je rm (movers_at b.old w k.now) (truth b.old good w) (slot_at b.old w facts.now) (view_at b.old w v.now))) }
+    requires facts_in { HasStageFlow (length b.old.gates) facts.now }
+    requires flow_in { HasFlow (length b.old.gates) v.now }
+    ensures extends { ExtendsNet b.old b.new }
+    ensures has_truth { IfOk result (λ g. IsGate b.new g (λ w. spec.o25 je rm (register_controls_at b.old w k.now) (truth b.old good w) (stage_flow_at b.old w facts.now) (flow_at b.old w v.now))) }
 {
-    let fetched = fetched_slot(b, good, facts)?;
-    let next = move_view(b, k, &fetched, v)?;
+    let fetched = fetched_flow(b, good, facts)?;
+    let next = move_flow(b, k, &fetched, v)?;
     next_right(b, k, good, v, &next, je, rm)
 }
 
 /// Bubbles stand in E, M and W.
-fn drained(b: &mut NetBuilder, v: &ViewGates) -> Result<u64, Memory>
-    requires view_in { HasView (length b.old.gates) v.now }
-    ensures begins { Begins b.old b.new }
-    ensures made { IfOk result (λ g. IsGate b.new g (λ w. spec.is_drained (view_at b.old w v.now))) }
+fn drained(b: &mut NetBuilder, v: &FlowGates) -> Result<u64, Memory>
+    requires flow_in { HasFlow (length b.old.gates) v.now }
+    ensures extends { ExtendsNet b.old b.new }
+    ensures has_truth { IfOk result (λ g. IsGate b.new g (λ w. spec.is_drained (flow_at b.old w v.now))) }
 {
     let e = neither(b, v.e.good, v.e.wrong)?;
     let m = neither(b, v.m.good, v.m.wrong)?;
@@ -188,11 +205,15 @@ fn drained(b: &mut NetBuilder, v: &ViewGates) -> Result<u64, Memory>
 }
 
 /// Behind empty stages a good D leaves.
-pub fn obligation_26(b: &mut NetBuilder, k: &MoversGates, v: &ViewGates) -> Result<u64, Memory>
-    requires movers_in { HasMovers (length b.old.gates) k.now }
-    requires view_in { HasView (length b.old.gates) v.now }
-    ensures begins { Begins b.old b.new }
-    ensures made { IfOk result (λ g. IsGate b.new g (λ w. spec.o26 (movers_at b.old w k.now) (view_at b.old w v.now))) }
+pub fn obligation_26(
+    b: &mut NetBuilder,
+    k: &RegisterControlsGates,
+    v: &FlowGates,
+) -> Result<u64, Memory>
+    requires controls_in { HasRegisterControls (length b.old.gates) k.now }
+    requires flow_in { HasFlow (length b.old.gates) v.now }
+    ensures extends { ExtendsNet b.old b.new }
+    ensures has_truth { IfOk result (λ g. IsGate b.new g (λ w. spec.o26 (register_controls_at b.old w k.now) (flow_at b.old w v.now))) }
 {
     let drained = drained(b, v)?;
     let here = b.and(v.d.good, drained)?;
@@ -201,11 +222,15 @@ pub fn obligation_26(b: &mut NetBuilder, k: &MoversGates, v: &ViewGates) -> Resu
 }
 
 /// An empty pipeline loads D.
-pub fn obligation_27(b: &mut NetBuilder, k: &MoversGates, v: &ViewGates) -> Result<u64, Memory>
-    requires movers_in { HasMovers (length b.old.gates) k.now }
-    requires view_in { HasView (length b.old.gates) v.now }
-    ensures begins { Begins b.old b.new }
-    ensures made { IfOk result (λ g. IsGate b.new g (λ w. spec.o27 (movers_at b.old w k.now) (view_at b.old w v.now))) }
+pub fn obligation_27(
+    b: &mut NetBuilder,
+    k: &RegisterControlsGates,
+    v: &FlowGates,
+) -> Result<u64, Memory>
+    requires controls_in { HasRegisterControls (length b.old.gates) k.now }
+    requires flow_in { HasFlow (length b.old.gates) v.now }
+    ensures extends { ExtendsNet b.old b.new }
+    ensures has_truth { IfOk result (λ g. IsGate b.new g (λ w. spec.o27 (register_controls_at b.old w k.now) (flow_at b.old w v.now))) }
 {
     let d = neither(b, v.d.good, v.d.wrong)?;
     let drained = drained(b, v)?;

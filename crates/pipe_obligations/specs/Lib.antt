@@ -1,5 +1,5 @@
-pub mod Stages
+pub mod StageFlows
 pub mod Obligations
 pub mod Rules
-pub mod Settled
-pub mod Views
+pub mod FileSettings
+pub mod FlowLaws

@@ -4,39 +4,39 @@
 use Rattle.std.specs.Prelude.{ℕ, Bool, false, not, ◌&&◌, ◌||◌, ◌==◌, Option, Some, None, if◌then◌else◌}
 use Rattle.y86_base.specs.declared.parts.Variant.{Variant}
 use Rattle.y86_base.specs.Stat.{stat_number}
-use Rattle.y86_isa.specs.declared.columns.Next.{Next}
-use Rattle.y86_isa.specs.declared.columns.Next.TheVariants.{Itself, Fall, Branch, Target, Loaded}
+use Rattle.y86_isa.specs.declared.columns.NextPcColumn.{NextPcColumn}
+use Rattle.y86_isa.specs.declared.columns.NextPcColumn.TheVariants.{Itself, Fall, Branch, Target, Loaded}
 use Rattle.y86_isa.specs.Table.{row, no_register}
-use Rattle.y86_isa.specs.RowTests.{has_operand_a, stores_a, carries_p, carries_a}
+use Rattle.y86_isa.specs.RowTests.{has_operand_a, stores_val_a, select_a_is_val_p, select_a_is_val_a}
 use Rattle.y86_isa.specs.Blocks.{fetch_status, register_number, destination_e, alu_function, is_load, is_store}
 use Rattle.ctl_atoms.specs.declared.leaf.Leaf.{Leaf}
 use Rattle.ctl_atoms.specs.declared.leaf.Leaf.TheVariants.{Name, Number}
 use Rattle.ctl_atoms.specs.Leaves.{Assignment, leaf_holds}
 use Rattle.y86_base.specs.Words.{set}
-use Rattle.rule_gates.specs.Words.{takes, takes_some, is_number, is_truth, operand_leaf_a, operand_leaf_b, address_leaf}
+use Rattle.ctl_rules.specs.ColumnDemands.{picks_leaf, picks_some_leaf, is_number, is_truth, operand_leaf_a, operand_leaf_b, address_leaf}
 use Rattle.pipe_fields.specs.Layout.{Fields}
-use Rattle.pipe_motion.specs.Slots.{Slot, View, path, youngest_stops, of_youngest, Mover, Movers, leaves}
-use Rattle.pipe_motion.specs.Slots as motion
+use Rattle.pipe_motion.specs.Flow.{StageFlow, Flow, path, youngest_stops, of_youngest, RegisterControl, RegisterControls, leaves}
+use Rattle.pipe_motion.specs.Flow as motion
 use Rattle.pipe_motion.specs.Predictions.{predicts}
 use Rattle.pipe_motion.specs.declared.settings.Settings.{Settings}
-use Rattle.pipe_obligations.specs.Stages.{slot_by, stops_by, is_ret, is_jump, misses}
+use Rattle.pipe_obligations.specs.StageFlows.{stage_flow_by, stops_by, is_ret, is_jump, is_missed}
 use Rattle.dp_signals.specs.PipeNames as signal
 
 -- the ten words that stall and bubble, as truths
-abbrev mover_of : Assignment → (ℕ → Leaf) → ℕ → ℕ → Mover
-mover_of α cv stall bubble = record { stall = leaf_holds α (cv stall); bubble = leaf_holds α (cv bubble) }
+abbrev register_control_of : Assignment → (ℕ → Leaf) → ℕ → ℕ → RegisterControl
+register_control_of α cv stall bubble = record { stall = leaf_holds α (cv stall); bubble = leaf_holds α (cv bubble) }
 
-abbrev pub movers_of : Assignment → (ℕ → Leaf) → Movers
-movers_of α cv = record {
-  f = mover_of α cv signal.F_stall signal.F_bubble;
-  d = mover_of α cv signal.D_stall signal.D_bubble;
-  e = mover_of α cv signal.E_stall signal.E_bubble;
-  m = mover_of α cv signal.M_stall signal.M_bubble;
-  w = mover_of α cv signal.W_stall signal.W_bubble;
+abbrev pub register_controls_of : Assignment → (ℕ → Leaf) → RegisterControls
+register_controls_of α cv = record {
+  f = register_control_of α cv signal.F_stall signal.F_bubble;
+  d = register_control_of α cv signal.D_stall signal.D_bubble;
+  e = register_control_of α cv signal.E_stall signal.E_bubble;
+  m = register_control_of α cv signal.M_stall signal.M_bubble;
+  w = register_control_of α cv signal.W_stall signal.W_bubble;
 }
 
 -- what is predicted behind an instruction, where the prediction counts: not for halt, ret and an invalid one
-abbrev pub predicted_leaf : Next → Bool → Option Leaf
+abbrev pub predicted_leaf : NextPcColumn → Bool → Option Leaf
 predicted_leaf Itself taken = None
 predicted_leaf Fall taken = Some (Name signal.f_valP)
 predicted_leaf Branch taken = Some (if taken then Name signal.f_valC else Name signal.f_valP)
@@ -48,7 +48,7 @@ abbrev pub code_of : Leaf → ℕ
 code_of (Number n) = n
 code_of (Name x) = no_register
 
-module _ (v : Variant) (s : Settings) (c : Fields) (y : View) (mv : Movers) (α : Assignment) (cv : ℕ → Leaf) where
+module _ (v : Variant) (s : Settings) (c : Fields) (y : Flow) (mv : RegisterControls) (α : Assignment) (cv : ℕ → Leaf) where
   -- ---- fetch
 
   -- f_icode and f_ifun are what was read
@@ -68,7 +68,7 @@ module _ (v : Variant) (s : Settings) (c : Fields) (y : View) (mv : Movers) (α 
 
   -- f_predPC is the PC that is predicted behind the instruction
   abbrev pub o5 : Bool
-  o5 = set c.f.error || takes_some cv signal.f_predPC (predicted_leaf (row v c.f.icode).next (predicts s c.f.ifun (set c.f.back)))
+  o5 = set c.f.error || picks_some_leaf cv signal.f_predPC (predicted_leaf (row v c.f.icode).next (predicts s c.f.ifun (set c.f.back)))
 
   -- ---- decode: the registers of the row of D's icode, whatever D's kind
 
@@ -105,21 +105,21 @@ module _ (v : Variant) (s : Settings) (c : Fields) (y : View) (mv : Movers) (α 
   loaded_in_e source = y.e.good && is_number cv source c.e.dst_m
 
   -- the word picks the right value of a source, if there is a source; where that isn't there yet, no word is right, or any (free)
-  abbrev pub takes_right : Bool → ℕ → ℕ → ℕ → Bool
-  takes_right free word source rest =
-      is_number cv source no_register || (if loaded_in_e source then free else takes cv word (right_value source rest))
+  abbrev pub picks_right_value : Bool → ℕ → ℕ → ℕ → Bool
+  picks_right_value free word source rest =
+      is_number cv source no_register || (if loaded_in_e source then free else picks_leaf cv word (right_value source rest))
 
   -- Where a good instruction leaves D: valP goes with jXX and call in the place of valA, and else d_valA is the right value of d_srcA.
   -- With lf a store needn't wait for the word that it stores.
   abbrev pub o10 : Bool
   o10 =
       not (leaves mv y)
-      || ((not (carries_p (row v c.d.icode)) || takes cv signal.d_valA (Name signal.D_valP))
-      && takes_right (s.lf && stores_a (row v c.d.icode).memory) signal.d_valA signal.d_srcA signal.d_rvalA)
+      || ((not (select_a_is_val_p (row v c.d.icode)) || picks_leaf cv signal.d_valA (Name signal.D_valP))
+      && picks_right_value (s.lf && stores_val_a (row v c.d.icode).memory) signal.d_valA signal.d_srcA signal.d_rvalA)
 
   -- where a good instruction leaves D, d_valB is the right value of d_srcB
   abbrev pub o11 : Bool
-  o11 = not (leaves mv y) || takes_right false signal.d_valB signal.d_srcB signal.d_rvalB
+  o11 = not (leaves mv y) || picks_right_value false signal.d_valB signal.d_srcB signal.d_rvalB
 
   -- ---- execute
 
@@ -129,10 +129,10 @@ module _ (v : Variant) (s : Settings) (c : Fields) (y : View) (mv : Movers) (α 
 
   -- the operands and the function of the ALU, where it is used
   abbrev pub o12 : Bool
-  o12 = not works_in_e || takes_some cv signal.aluA (operand_leaf_a (row v c.e.icode).alu_a signal.E_valA signal.E_valC)
+  o12 = not works_in_e || picks_some_leaf cv signal.aluA (operand_leaf_a (row v c.e.icode).alu_a signal.E_valA signal.E_valC)
 
   abbrev pub o13 : Bool
-  o13 = not works_in_e || takes_some cv signal.aluB (operand_leaf_b (row v c.e.icode).alu_b signal.E_valB)
+  o13 = not works_in_e || picks_some_leaf cv signal.aluB (operand_leaf_b (row v c.e.icode).alu_b signal.E_valB)
 
   abbrev pub o14 : Bool
   o14 = not (works_in_e && has_operand_a (row v c.e.icode).alu_a) || is_number cv signal.alufun (alu_function (row v c.e.icode).selects c.e.ifun)
@@ -142,14 +142,14 @@ module _ (v : Variant) (s : Settings) (c : Fields) (y : View) (mv : Movers) (α 
   o15 = is_truth α cv signal.set_cc (works_in_e && (row v c.e.icode).sets_flags)
 
   -- with lf, a store takes the word that it stores from the load in M
-  abbrev pub taken_late : Bool
-  taken_late = s.lf && (stores_a (row v c.e.icode).memory && (y.m.good && c.m.dst_m == c.e.src_a))
+  abbrev pub word_comes_late : Bool
+  word_comes_late = s.lf && (stores_val_a (row v c.e.icode).memory && (y.m.good && c.m.dst_m == c.e.src_a))
 
   -- valA goes on to M with the instructions that use it there, and valP in its place with jXX and call
   abbrev pub o16 : Bool
   o16 =
-      not (y.e.good && (carries_a (row v c.e.icode) || carries_p (row v c.e.icode)))
-      || takes cv signal.e_valA (if taken_late then Name signal.m_valM else Name signal.E_valA)
+      not (y.e.good && (select_a_is_val_a (row v c.e.icode) || select_a_is_val_p (row v c.e.icode)))
+      || picks_leaf cv signal.e_valA (if word_comes_late then Name signal.m_valM else Name signal.E_valA)
 
   -- of good instructions and bubbles, e_dstE is E's destination after the condition
   abbrev pub o17 : Bool
@@ -159,7 +159,7 @@ module _ (v : Variant) (s : Settings) (c : Fields) (y : View) (mv : Movers) (α 
 
   -- the address of a good instruction that accesses memory
   abbrev pub o18 : Bool
-  o18 = not y.m.good || takes_some cv signal.mem_addr (address_leaf (row v c.m.icode).memory signal.M_valA signal.M_valE)
+  o18 = not y.m.good || picks_some_leaf cv signal.mem_addr (address_leaf (row v c.m.icode).memory signal.M_valA signal.M_valE)
 
   -- a word is read, is written, exactly by a good instruction that reads, that writes
   abbrev pub o19 : Bool
@@ -179,8 +179,8 @@ module _ (v : Variant) (s : Settings) (c : Fields) (y : View) (mv : Movers) (α 
       not y.w.good
       || (is_number cv signal.w_dstE c.w.dst_e
       && (is_number cv signal.w_dstM c.w.dst_m
-      && (takes cv signal.w_valE (Name signal.W_valE)
-      && takes cv signal.w_valM (Name signal.W_valM))))
+      && (picks_leaf cv signal.w_valE (Name signal.W_valE)
+      && picks_leaf cv signal.w_valM (Name signal.W_valM))))
 
   -- the machine's status is that of the good instruction in W, and 1 without one
   abbrev pub o22 : Bool
@@ -197,15 +197,15 @@ module _ (v : Variant) (s : Settings) (c : Fields) (y : View) (mv : Movers) (α 
 
   -- f_pc is where the jump in E goes, the jump or the ret in M, the ret in W
   abbrev pub right_after_e : Bool
-  right_after_e = is_jump v c.e.stat c.e.icode && takes cv signal.f_pc (if set c.e.cnd then Name signal.E_valC else Name signal.E_valA)
+  right_after_e = is_jump v c.e.stat c.e.icode && picks_leaf cv signal.f_pc (if set c.e.cnd then Name signal.E_valC else Name signal.E_valA)
 
   abbrev pub right_after_m : Bool
   right_after_m =
-      (is_jump v c.m.stat c.m.icode && (if set c.m.cnd then s.tv && takes cv signal.f_pc (Name signal.M_valE) else takes cv signal.f_pc (Name signal.M_valA)))
-      || (y.m.ret && takes cv signal.f_pc (Name signal.m_valM))
+      (is_jump v c.m.stat c.m.icode && (if set c.m.cnd then s.tv && picks_leaf cv signal.f_pc (Name signal.M_valE) else picks_leaf cv signal.f_pc (Name signal.M_valA)))
+      || (y.m.ret && picks_leaf cv signal.f_pc (Name signal.m_valM))
 
   abbrev pub right_after_w : Bool
-  right_after_w = y.w.ret && takes cv signal.f_pc (Name signal.W_valM)
+  right_after_w = y.w.ret && picks_leaf cv signal.f_pc (Name signal.W_valM)
 
   -- f_pc is where the youngest good instruction goes, as far as a stage tells it
   abbrev pub right_pc : Bool
@@ -213,13 +213,13 @@ module _ (v : Variant) (s : Settings) (c : Fields) (y : View) (mv : Movers) (α 
 
   -- the fetch is that of the next instruction: the youngest good one doesn't stop, and f_pc is where it goes, or the predicted PC on the path
   abbrev pub fetch_good : Bool
-  fetch_good = not (youngest_stops y) && ((takes cv signal.f_pc (Name signal.F_predPC) && path y) || right_pc)
+  fetch_good = not (youngest_stops y) && ((picks_leaf cv signal.f_pc (Name signal.F_predPC) && path y) || right_pc)
 
   -- what D loads of a good fetch
-  abbrev pub fetched : Slot
+  abbrev pub fetched : StageFlow
   fetched =
-      slot_by 1 (stops_by (code_of (cv signal.f_stat)) c.f.stops) (is_ret v (code_of (cv signal.f_icode)))
-      (misses v s (code_of (cv signal.f_stat)) (code_of (cv signal.f_icode)) (code_of (cv signal.f_ifun)) c.f.taken c.f.back)
+      stage_flow_by 1 (stops_by (code_of (cv signal.f_stat)) c.f.stops) (is_ret v (code_of (cv signal.f_icode)))
+      (is_missed v s (code_of (cv signal.f_stat)) (code_of (cv signal.f_icode)) (code_of (cv signal.f_ifun)) c.f.taken c.f.back)
 
   -- the next cycle's view is lawful, has nothing wrong in M and W, and keeps the path
   abbrev pub o25 : Bool
@@ -233,7 +233,7 @@ module _ (v : Variant) (s : Settings) (c : Fields) (y : View) (mv : Movers) (α 
   o27 = motion.o27 mv y
 
   -- ---- beside the 27: with tv, a jump carries its target through the ALU
-  abbrev pub carries_target : Bool
-  carries_target =
+  abbrev pub target_in_alu : Bool
+  target_in_alu =
       not (y.e.good && is_jump v c.e.stat c.e.icode)
-      || (takes cv signal.aluA (Name signal.E_valC) && (is_number cv signal.aluB 0 && is_number cv signal.alufun 0))
+      || (picks_leaf cv signal.aluA (Name signal.E_valC) && (is_number cv signal.aluB 0 && is_number cv signal.alufun 0))

@@ -6,16 +6,16 @@ use Rattle.ctl_atoms.specs.declared.leaf.Atom.{Atom}
 use Rattle.ctl_atoms.specs.Leaves.{Assignment}
 use Rattle.pipe_fields.specs.Layout.{Fields}
 use Rattle.pipe_fields.specs.Allowed.{allowed}
-use Rattle.pipe_motion.specs.Slots.{View, Movers}
+use Rattle.pipe_motion.specs.Flow.{Flow, RegisterControls}
 use Rattle.pipe_motion.specs.declared.settings.Settings.{Settings}
-use Rattle.pipe_obligations.specs.Stages.{view_of, legal, is_stopping}
-use Rattle.pipe_obligations.specs.Obligations.{movers_of, o1, o2, o3, o4, o5, o6, o7, o8, o9, o10, o11, o12, o13, o14, o15, o16, o17, o18, o19, o20, o21, o22, o23, o24, o25, o26, o27}
+use Rattle.pipe_obligations.specs.StageFlows.{flow_of, legal, is_stopping}
+use Rattle.pipe_obligations.specs.Obligations.{register_controls_of, o1, o2, o3, o4, o5, o6, o7, o8, o9, o10, o11, o12, o13, o14, o15, o16, o17, o18, o19, o20, o21, o22, o23, o24, o25, o26, o27}
 
 -- how many there are
 abbrev pub rule_count : ℕ
 rule_count = 27
 
-abbrev pub demand : ℕ → Variant → Settings → Fields → View → Movers → Assignment → (ℕ → Leaf) → Bool
+abbrev pub demand : ℕ → Variant → Settings → Fields → Flow → RegisterControls → Assignment → (ℕ → Leaf) → Bool
 demand i v s c y mv α cv =
     if i == 1 then o1 v s c y mv α cv
     else (if i == 2 then o2 v s c y mv α cv
@@ -48,16 +48,16 @@ demand i v s c y mv α cv =
 
 -- what obligation i asks of a valuation
 unfoldable pub demand_at : Variant → Settings → ℕ → Fields → Assignment → (ℕ → Leaf) → Bool
-demand_at v s i c α cv = demand i v s c (view_of v s c) (movers_of α cv) α cv
+demand_at v s i c α cv = demand i v s c (flow_of v s c) (register_controls_of α cv) α cv
 
 -- the flags, memory and the status are asked for in cycles that stop too
-abbrev pub is_always : ℕ → Bool
-is_always i = i == 15 || (i == 19 || i == 22)
+abbrev pub is_always_demanded : ℕ → Bool
+is_always_demanded i = i == 15 || (i == 19 || i == 22)
 
 -- the valuations of which obligation i is asked
-unfoldable pub is_asked : Variant → Settings → List Atom → ℕ → Fields → Assignment → Bool
-is_asked v s atoms i c α = allowed v c && (legal v s atoms c α && (is_always i || not (is_stopping c)))
+unfoldable pub is_demanded : Variant → Settings → List Atom → ℕ → Fields → Assignment → Bool
+is_demanded v s atoms i c α = allowed v c && (legal v s atoms c α && (is_always_demanded i || not (is_stopping c)))
 
 -- the obligation: a valuation of which it isn't asked meets it
 abbrev pub obligation : Variant → Settings → List Atom → ℕ → Fields → Assignment → (ℕ → Leaf) → Bool
-obligation v s atoms i c α cv = not (is_asked v s atoms i c α) || demand_at v s i c α cv
+obligation v s atoms i c α cv = not (is_demanded v s atoms i c α) || demand_at v s i c α cv

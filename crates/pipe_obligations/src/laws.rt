@@ -6,31 +6,31 @@ ghost use Rattle.ctl_atoms.specs.declared.leaf.Atom.{Atom};
 ghost use Rattle.ctl_atoms.specs.Leaves.{Assignment};
 ghost use Rattle.pipe_fields.specs.Laws.{of_bubbles};
 ghost use Rattle.pipe_fields.specs.Layout.{FetchLine, Fields};
-ghost use Rattle.pipe_motion.specs.Slots.{View, empty_view, lawful, path};
+ghost use Rattle.pipe_motion.specs.Flow.{Flow, empty_flow, flow_legal, path};
 ghost use Rattle.pipe_motion.specs.declared.settings.Settings.{Settings};
-ghost use Rattle.pipe_obligations.specs.Rules.{is_asked, obligation};
-ghost use Rattle.pipe_obligations.specs.Views.{OlderGoesOn, OlderHasTurned};
-ghost use Rattle.pipe_obligations.specs.Stages.{back_told_in_f, is_stopping, legal};
+ghost use Rattle.pipe_obligations.specs.Rules.{is_demanded, obligation};
+ghost use Rattle.pipe_obligations.specs.FlowLaws.{OlderGoesOn, OlderIsResolved};
+ghost use Rattle.pipe_obligations.specs.StageFlows.{back_matches_in_f, is_stopping, legal};
 
 /// A valuation of which an obligation isn't asked meets it.
-pub fn law_of_unasked()
-    ensures { (v : Variant) (s : Settings) (atoms : List Atom) (i : ℕ) (c : Fields) (α : Assignment) (cv : ℕ → Leaf) → is_asked v s atoms i c α ≡ false → obligation v s atoms i c α cv ≡ true }
+pub fn law_of_undemanded()
+    ensures { (v : Variant) (s : Settings) (atoms : List Atom) (i : ℕ) (c : Fields) (α : Assignment) (cv : ℕ → Leaf) → is_demanded v s atoms i c α ≡ false → obligation v s atoms i c α cv ≡ true }
 {}
 
 /// In a lawful view only the youngest good instruction can stop or turn, and behind a wrong one stands no good one.
 #[tactic(auto, using(crate::proofs::Older::older_goes_on, crate::proofs::Older::older_has_turned, crate::proofs::Older::none_behind_wrong))]
-pub fn law_of_lawful_views()
-    ensures stops { (je rm : Bool) (v : View) → lawful je rm v ≡ true → OlderGoesOn v }
-    ensures turns { (je rm : Bool) (v : View) → lawful je rm v ≡ true → OlderHasTurned v }
-    ensures wrong { (je rm : Bool) (v : View) → lawful je rm v ≡ true → v.e.wrong ≡ true → v.d.good ≡ false }
+pub fn law_of_legal_flows()
+    ensures stops { (je rm : Bool) (v : Flow) → flow_legal je rm v ≡ true → OlderGoesOn v }
+    ensures turns { (je rm : Bool) (v : Flow) → flow_legal je rm v ≡ true → OlderIsResolved v }
+    ensures wrong { (je rm : Bool) (v : Flow) → flow_legal je rm v ≡ true → v.e.wrong ≡ true → v.d.good ≡ false }
 {}
 
 /// A pipeline of bubbles alone, as at the start, is legal at all settings, where the comparison that tells whether a jump goes
 /// back agrees with the jump that is fetched; and its cycle doesn't stop. The view of such a pipeline is lawful and on its path.
 #[tactic(auto, using(crate::proofs::Start::start_is_legal, crate::proofs::Older::empty_is_lawful, crate::proofs::Older::empty_on_path))]
 pub fn law_of_the_start()
-    ensures legal { (v : Variant) (s : Settings) (atoms : List Atom) (f : FetchLine) (α : Assignment) → back_told_in_f v atoms (of_bubbles f) α ≡ true → legal v s atoms (of_bubbles f) α ≡ true }
-    ensures lawful { (je rm : Bool) → lawful je rm empty_view ≡ true }
-    ensures path { path empty_view ≡ true }
+    ensures legal { (v : Variant) (s : Settings) (atoms : List Atom) (f : FetchLine) (α : Assignment) → back_matches_in_f v atoms (of_bubbles f) α ≡ true → legal v s atoms (of_bubbles f) α ≡ true }
+    ensures lawful { (je rm : Bool) → flow_legal je rm empty_flow ≡ true }
+    ensures path { path empty_flow ≡ true }
     ensures goes_on { (f : FetchLine) → is_stopping (of_bubbles f) ≡ false }
 {}

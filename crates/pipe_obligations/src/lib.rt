@@ -7,4 +7,4 @@ mod laws;
 /// How many obligations there are.
 pub const RULE_COUNT: u32 = 27;
 
-pub use laws::{law_of_lawful_views, law_of_the_start, law_of_unasked};
+pub use laws::{law_of_legal_flows, law_of_the_start, law_of_undemanded};

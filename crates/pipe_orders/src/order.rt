@@ -4,7 +4,7 @@ ghost use Rattle.std.specs.List.{range_with_len};
 ghost use Rattle.std.specs.List.Sorted.{IsPermutation};
 
 use crate::rank::{large_part_rank, registers_last_rank, stages_rank};
-use nets::by_number;
+use nets::all_variables;
 use pipe_fields::places;
 use std::alloc::Global;
 use y86_base::Memory;
@@ -62,7 +62,7 @@ fn rank(layout: Layout, variable: u32) -> usize {
 pub fn order_for(alloc: Global, layout: Layout, vars: u32) -> Result<Vec<u32>, Memory>
     ensures { IfOk result (λ order. IsPermutation (range_with_len 0 vars) order.items) }
 {
-    let mut order = by_number(alloc, vars)?;
+    let mut order = all_variables(alloc, vars)?;
     match order.sort_by_key(|variable| rank(layout, *variable)) {
         Ok(()) => Ok(order),
         Err(_) => Err(Memory),

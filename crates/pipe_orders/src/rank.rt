@@ -1,16 +1,16 @@
 //! Ranks of variables: the one with the smaller rank stands first.
 ghost use Rattle.std.specs.Prelude.{◌<◌, IfSome, length};
 
-use field_bits::FieldPlace;
+use net_fields::BitRange;
 use pipe_fields::{BIT_COUNT, FIELD_COUNT, places};
 
 /// Whether a variable is a bit of a field.
-fn is_in(field: FieldPlace, variable: u32) -> bool {
+fn is_in(field: BitRange, variable: u32) -> bool {
     field.first <= variable && variable - field.first < field.bits
 }
 
 /// The place in a list of the field whose bit a variable is.
-fn field_of(fields: &[FieldPlace], variable: u32) -> Option<usize>
+fn field_of(fields: &[BitRange], variable: u32) -> Option<usize>
     ensures { IfSome result (λ k. k < length fields.now) }
 {
     for k in 0..fields.len() {
@@ -54,7 +54,7 @@ const OTHER_COUNT: usize = FIELD_COUNT - places::REGISTER_COUNT;
 
 /// The fields that are no register numbers, stage by stage. With the fields in the order of their numbers the certificate
 /// of a pipeline without bypassing is twenty times as long.
-const OTHERS: [FieldPlace; OTHER_COUNT] = [
+const OTHERS: [BitRange; OTHER_COUNT] = [
     places::F_ERROR,
     places::F_ICODE,
     places::F_IFUN,

@@ -6,11 +6,11 @@ use Rattle.y86_isa.specs.declared.machine.Rec.{Rec}
 use Rattle.y86_base.specs.Stat.{stat_of}
 use Rattle.dp_signals.specs.PipeCycle.{retires, record_of}
 use Rattle.dp_signals.specs.PipeNames as row
-use Rattle.dp_signals.specs.declared.movers.Ending.{Ending}
+use Rattle.dp_signals.specs.declared.movers.CycleEnd.{CycleEnd}
 use Rattle.dp_signals.specs.declared.pipe_state.PipeState.{PipeState}
 use Rattle.pipe_path.specs.Calls.{record_in}
 use Rattle.pipe_path.specs.Destinations.{HasDestinations}
-use Rattle.pipe_path.specs.Pipe.{told_by}
+use Rattle.pipe_path.specs.Pipe.{call_answer}
 use Rattle.pipe_path.specs.declared.pipe.Cycled.{Cycled}
 use Rattle.pipe_path.proofs.Runs.{record_told}
 
@@ -55,6 +55,6 @@ retired_fits p f =
       stat = stat_of p.w.stat;
     }))
 
-pub told_fits : (answer : Cycled) (e : Ending) (retired : Option Rec) → answer ≡ told_by e retired →
+pub told_fits : (answer : Cycled) (e : CycleEnd) (retired : Option Rec) → answer ≡ call_answer e retired →
     IfSome retired (λ r. HasDestinations r) → IfSome (record_in answer) (λ r. HasDestinations r)
 told_fits answer e retired is h = rw (is, record_told e retired) h

@@ -3,10 +3,10 @@ use Rattle.std.proofs.Common.{◌≡◌, ℕ, Bool, true, false, length, Option,
 use Rattle.std.specs.Option.{option_to_list}
 use Rattle.y86_isa.specs.declared.machine.Rec.{Rec}
 use Rattle.dp_signals.specs.PipeCycle.{record_of, retires}
-use Rattle.dp_signals.specs.declared.movers.Ending.{Ending}
+use Rattle.dp_signals.specs.declared.movers.CycleEnd.{CycleEnd}
 use Rattle.dp_signals.specs.declared.pipe_state.PipeState.{PipeState}
 use Rattle.pipe_path.specs.Calls.{record_in}
-use Rattle.pipe_path.specs.Pipe.{told_by}
+use Rattle.pipe_path.specs.Pipe.{call_answer}
 use Rattle.pipe_path.proofs.Runs.{record_told}
 
 count_there : (live : Bool) (r : Rec) → length (option_to_list (if live then Some r else None)) ≡ (if live then 1 else 0)
@@ -17,5 +17,5 @@ pub live_count : (p : PipeState) (f : ℕ → ℕ) → length (option_to_list (r
 unfolding retires
 live_count p f = count_there p.w.live (record_of p f)
 
-pub live_told : (e : Ending) (p : PipeState) (f : ℕ → ℕ) → (if p.w.live then 1 else 0) ≡ length (option_to_list (record_in (told_by e (retires p f))))
+pub live_told : (e : CycleEnd) (p : PipeState) (f : ℕ → ℕ) → (if p.w.live then 1 else 0) ≡ length (option_to_list (record_in (call_answer e (retires p f))))
 live_told e p f = sym (ap (λ (r : Option Rec). length (option_to_list r)) (record_told e (retires p f)) ∙ live_count p f)

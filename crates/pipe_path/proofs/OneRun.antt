@@ -7,7 +7,7 @@ use Rattle.hcl_types.specs.Terms.{at}
 use Rattle.hcl_types.specs.declared.term.Term.{Term}
 use Rattle.dp_signals.specs.Equations.{values_along}
 use Rattle.dp_signals.specs.PipeEquations.{Solves, given, pipe_rule}
-use Rattle.dp_signals.specs.PipeRun.{Cycle, Pipe, PipeRun, after_cycle, start_pipe}
+use Rattle.dp_signals.specs.PipeRun.{IsPipeCycle, PipeHistory, PipeRun, after_cycle, start_pipe}
 use Rattle.dp_signals.specs.PipeTable.{pipe_rows}
 use Rattle.dp_signals.specs.declared.pipe_state.PipeState.{PipeState}
 use Rattle.dp_signals.proofs.PipeRules.{pipe_solves, pipe_unique}
@@ -21,13 +21,13 @@ module _ (v : Variant) (terms : List Term) (ids : List ℕ) (bound : IsBound pip
 
   -- ---- a cycle
 
-  cycle_there : (p : Pipe) (b : Bool) → is_aok p.end ≡ b → (q : Pipe) × Cycle v terms p q
+  cycle_there : (p : PipeHistory) (b : Bool) → is_aok p.end ≡ b → (q : PipeHistory) × IsPipeCycle v terms p q
   cycle_there p true e =
       let f = solution_there v p.state terms ids bound o in
       (after_cycle p f.0, record { ended = λ over. absurd (grind (arith, over, e)); goes = λ going. (f.0, f.1, refl) })
   cycle_there p false e = (p, record { ended = λ over. refl; goes = λ going. absurd (grind (arith, e, going)) })
 
-  cycle_alone : (p q r : Pipe) → Cycle v terms p q → Cycle v terms p r → (b : Bool) → is_aok p.end ≡ b → q ≡ r
+  cycle_alone : (p q r : PipeHistory) → IsPipeCycle v terms p q → IsPipeCycle v terms p r → (b : Bool) → is_aok p.end ≡ b → q ≡ r
   cycle_alone p q r h k true e =
       let f = h.goes e in
       let g = k.goes e in
@@ -36,16 +36,16 @@ module _ (v : Variant) (terms : List Term) (ids : List ℕ) (bound : IsBound pip
 
   -- ---- the run
 
-  pub run_there : (image : List ℕ) (k : ℕ) → (p : Pipe) × PipeRun v terms image k p
+  pub run_there : (image : List ℕ) (k : ℕ) → (p : PipeHistory) × PipeRun v terms image k p
   run_there image zero = (start_pipe image, refl)
   run_there image (suc k) =
       let before = run_there image k in
       let c = cycle_there before.0 (is_aok before.0.end) refl in
       (c.0, (before.0, before.1, c.1))
 
-  pub run_alone : (image : List ℕ) (k : ℕ) (p q : Pipe) → PipeRun v terms image k p → PipeRun v terms image k q → p ≡ q
+  pub run_alone : (image : List ℕ) (k : ℕ) (p q : PipeHistory) → PipeRun v terms image k p → PipeRun v terms image k q → p ≡ q
   run_alone image zero p q h k = h ∙ sym k
   run_alone image (suc n) p q h k =
       let before = run_alone image n h.0 k.0 h.1 k.1 in
-      let moved : Cycle v terms h.0 q = subst (λ m. Cycle v terms m q) (sym before) k.2 in
+      let moved : IsPipeCycle v terms h.0 q = subst (λ m. IsPipeCycle v terms m q) (sym before) k.2 in
       cycle_alone h.0 p q h.2 moved (is_aok h.0.end) refl

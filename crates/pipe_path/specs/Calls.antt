@@ -7,7 +7,7 @@ use Rattle.hcl_types.specs.declared.term.Term.{Term}
 use Rattle.dp_signals.specs.PipeRun.{PipeRun}
 use Rattle.pipe_path.specs.declared.pipe.Cycled.{Cycled}
 use Rattle.pipe_path.specs.declared.pipe.Cycled.TheVariants as told
-use Rattle.pipe_path.specs.Pipe.{Pipe, Cycle, started}
+use Rattle.pipe_path.specs.Pipe.{PipeMachine, IsPipeCall, started}
 
 -- the record that an answer tells
 abbrev pub record_in : Cycled → Option Rec
@@ -18,14 +18,14 @@ record_in (told.Pip r) = r
 record_in told.Ended = None
 
 -- q is the machine after k calls on p, and these are the records that they told, the first one first
-abbrev pub Calls : Pipe → ℕ → Pipe → List Rec → Type 0
-Calls p zero q records = (q ≡ p) × (records ≡ [])
-Calls p (suc k) q records =
-    (m : Pipe) × (before : List Rec) × (r : Cycled) × Calls p k m before × Cycle m r q × (records ≡ before ++ option_to_list (record_in r))
+abbrev pub PipeCalls : PipeMachine → ℕ → PipeMachine → List Rec → Type 0
+PipeCalls p zero q records = (q ≡ p) × (records ≡ [])
+PipeCalls p (suc k) q records =
+    (m : PipeMachine) × (before : List Rec) × (r : Cycled) × PipeCalls p k m before × IsPipeCall m r q × (records ≡ before ++ option_to_list (record_in r))
 
 -- k calls on a machine that began on an image are the run of k cycles: its state, its records and its end. `retired` counts the
 -- records, and a call after the end does nothing.
-pub record IsRun (v : Variant) (terms : List Term) (image : List ℕ) (k : ℕ) (q : Pipe) (records : List Rec) : Type 0 where
+pub record IsRun (v : Variant) (terms : List Term) (image : List ℕ) (k : ℕ) (q : PipeMachine) (records : List Rec) : Type 0 where
   pub variant_kept : q.variant ≡ v
   pub design_kept : q.terms ≡ terms
   pub run : PipeRun v terms image k (record { state = q.state; records = records; end = q.end })
@@ -33,5 +33,5 @@ pub record IsRun (v : Variant) (terms : List Term) (image : List ℕ) (k : ℕ) 
 
 abbrev pub CallsAreTheRun : Type 0
 CallsAreTheRun =
-    (v : Variant) (terms : List Term) (order image : List ℕ) (k : ℕ) (q : Pipe) (records : List Rec) →
-    Calls (started v terms order image) k q records → IsRun v terms image k q records
+    (v : Variant) (terms : List Term) (order image : List ℕ) (k : ℕ) (q : PipeMachine) (records : List Rec) →
+    PipeCalls (started v terms order image) k q records → IsRun v terms image k q records

@@ -20,9 +20,9 @@ pub fn law_of_solutions()
 /// Where a design has an order, it has exactly one run of each number of cycles on an image.
 pub fn law_of_runs()
     ensures there { (v : Variant) (terms : List Term) (ids image : List ℕ) (k : ℕ) →
-        IsBound pipe_rows terms → IsOrderOf pipe_rows terms ids → (p : run.Pipe) × PipeRun v terms image k p }
+        IsBound pipe_rows terms → IsOrderOf pipe_rows terms ids → (p : run.PipeHistory) × PipeRun v terms image k p }
     ensures alone { (v : Variant) (terms : List Term) (ids image : List ℕ) (k : ℕ) →
-        IsBound pipe_rows terms → IsOrderOf pipe_rows terms ids → (p q : run.Pipe) →
+        IsBound pipe_rows terms → IsOrderOf pipe_rows terms ids → (p q : run.PipeHistory) →
         PipeRun v terms image k p → PipeRun v terms image k q → p ≡ q }
 {}
 

@@ -16,12 +16,12 @@ ghost use Rattle.pipe_path.specs.declared.pipe.Cycled.{Cycled};
 ghost use Rattle.pipe_path.specs.Destinations.{HasDestinations};
 ghost use Rattle.pipe_path.specs.Pipe as spec;
 
+use dp_machines::{is_aok_stat, record_count};
 use dp_signals::{
-    Ending, PipeState, PipeValues, advance, advance_loading, all_load, constant_words,
+    CycleEnd, PipeState, PipeValues, advance, advance_loading, all_load, constant_words,
     end_of_cycle, ending, given, put_given, retires, solve_pipe_in,
 };
 use hcl_types::{Design, Order, SignalEval};
-use machine_calls::{count, is_going};
 use std::marker::Model;
 use y86_base::{Image, Stat, Variant};
 use y86_isa::Rec;
@@ -62,13 +62,13 @@ pub struct Pipe<C: SignalEval> {
 impl<C: SignalEval> Model for Pipe<C> {
     ghost use Rattle.std.specs.Coded.{codes};
     ghost use Rattle.hcl_types.specs.contracts.term.Term as term;
-    ghost use Rattle.pipe_path.specs.Pipe.{Pipe, seen};
+    ghost use Rattle.pipe_path.specs.Pipe.{PipeMachine, seen};
     ghost use Rattle.pipe_path.specs.Invariant.{IsPipe};
     ghost use Rattle.std.specs.Prelude.{IsTrue};
     ghost use Rattle.hcl_types.specs.Signals.{Starts};
     ghost use Rattle.dp_signals.specs.PipeEquations.{AreGiven, constants};
 
-    ghost Value = { Pipe };
+    ghost Value = { PipeMachine };
 
     ghost coded = { Prim.hlevel (codes, term.the_row.coded) };
 
@@ -78,23 +78,23 @@ impl<C: SignalEval> Model for Pipe<C> {
         × AreGiven p.state p.values × IsPipe p.design.terms p.order.ids p.cycles p.retired };
 }
 
-fn told(ending: Ending, retired: Option<Rec>) -> Cycled
-    ensures { result ≡ spec.told_by ending retired }
+fn told(ending: CycleEnd, retired: Option<Rec>) -> Cycled
+    ensures { result ≡ spec.call_answer ending retired }
 {
     match ending {
-        Ending::Going => match retired {
+        CycleEnd::Going => match retired {
             Some(record) => Cycled::Retired(record),
             None => Cycled::Bubble,
         },
-        Ending::Stopped => Cycled::Stopped(retired),
-        Ending::Pip => Cycled::Pip(retired),
+        CycleEnd::Stopped => Cycled::Stopped(retired),
+        CycleEnd::Pip => Cycled::Pip(retired),
     }
 }
 
 /// Ends the cycle of a state with these values: the next state, and its words among the values. It answers how the cycle ended, and the
 /// status that it left.
 #[inline(always)]
-fn finish(state: &mut PipeState, values: &mut PipeValues) -> (Ending, Stat)
+fn finish(state: &mut PipeState, values: &mut PipeValues) -> (CycleEnd, Stat)
     requires { Starts constants values.old }
     ensures ending { result.0 ≡ cycle.ending (at values.old) }
     ensures end { result.1 ≡ run.end_by (cycle.ending (at values.old)) (stat_of (at values.old row.Stat)) }
@@ -103,7 +103,7 @@ fn finish(state: &mut PipeState, values: &mut PipeValues) -> (Ending, Stat)
 {
     if all_load(values) {
         advance_loading(state, values);
-        return (Ending::Going, Stat::Aok);
+        return (CycleEnd::Going, Stat::Aok);
     }
     let ending = ending(values);
     let end = end_of_cycle(ending, values);
@@ -167,11 +167,11 @@ impl<C: SignalEval> Pipe<C> {
     /// live.
     pub fn cycle(&mut self) -> Cycled
         requires { self.old.cycles < 2 ^ 63 }
-        ensures cycle { spec.Cycle self.old result self.new }
+        ensures cycle { spec.IsPipeCall self.old result self.new }
         ensures counted { self.new.cycles ≤ self.old.cycles + 1 }
         ensures destinations { IfSome (record_in result) (λ r. HasDestinations r) }
     {
-        if !is_going(self.end) {
+        if !is_aok_stat(self.end) {
             return Cycled::Ended;
         }
         solve_pipe_in(
@@ -186,7 +186,7 @@ impl<C: SignalEval> Pipe<C> {
         let record = retires(&self.state, &self.values);
         let (ending, end) = finish(&mut self.state, &mut self.values);
         self.cycles += 1;
-        self.retired += count(record);
+        self.retired += record_count(record);
         self.end = end;
         told(ending, record)
     }
@@ -195,11 +195,11 @@ impl<C: SignalEval> Pipe<C> {
     #[inline(always)]
     pub fn pass(&mut self) -> u64
         requires { self.old.cycles < 2 ^ 63 }
-        ensures cycle { (r : Cycled) × spec.Cycle self.old r self.new × (result ≡ length (option_to_list (record_in r))) }
+        ensures cycle { (r : Cycled) × spec.IsPipeCall self.old r self.new × (result ≡ length (option_to_list (record_in r))) }
         ensures few { result ≤ 1 }
         ensures counted { self.new.cycles ≤ self.old.cycles + 1 }
     {
-        if !is_going(self.end) {
+        if !is_aok_stat(self.end) {
             return 0;
         }
         solve_pipe_in(

@@ -1,15 +1,15 @@
 -- Five cycles for each record.
 use Rattle.std.proofs.Common.{◌≡◌, ℕ, ◌+◌, ◌*◌, ◌≤◌, Bool, true, false, not, ◌&&◌, ◌||◌, cond, refl, sym, ap, ◌∙◌, arith}
 use Rattle.dp_signals.specs.declared.pipe_state.PipeState.{PipeState}
-use Rattle.pipe_refinement.specs.Invariant.{Given, view_of}
-use Rattle.pipe_refinement.specs.Kinds.{Config, Empty, Kind, asked, count, fetched_kind, is_good, is_wrong, move_config, moved_by}
-use Rattle.pipe_motion.specs.Slots.{Mover, Movers, lawful, loads}
+use Rattle.pipe_refinement.specs.Invariant.{RunContext, run_flow}
+use Rattle.pipe_refinement.specs.Kinds.{Schedule, Bubbled, StageKind, requested_controls, count, fetched_kind, is_good, is_wrong, next_schedule, moved_by}
+use Rattle.pipe_motion.specs.Flow.{RegisterControl, RegisterControls, flow_legal, loads}
 use Rattle.pipe_refinement.proofs.Motions.{Motion}
 use Rattle.pipe_refinement.proofs.Moves.{good_d, good_e, good_m, good_w, leaves_by, load_is}
 use Rattle.pipe_refinement.proofs.Older.{e_not_wrong, quiet_d, quiet_e}
 
 -- cycles until the next record, at most
-abbrev pub dist : Config → ℕ
+abbrev pub dist : Schedule → ℕ
 dist c = cond (is_good c.w) 1 (cond (is_good c.m) 2 (cond (is_good c.e) 3 (cond (is_good c.d) 4 5)))
 
 top_by : (w m e d : Bool) → cond w 1 (cond m 2 (cond e 3 (cond d 4 5))) ≤ 5
@@ -19,7 +19,7 @@ top_by false false true d = omega arith
 top_by false false false true = omega arith
 top_by false false false false = omega arith
 
-pub dist_top : (c : Config) → dist c ≤ 5
+pub dist_top : (c : Schedule) → dist c ≤ 5
 dist_top c = top_by (is_good c.w) (is_good c.m) (is_good c.e) (is_good c.d)
 
 least_by : (w m e d : Bool) → 1 ≤ cond w 1 (cond m 2 (cond e 3 (cond d 4 5)))
@@ -29,11 +29,11 @@ least_by false false true d = omega arith
 least_by false false false true = omega arith
 least_by false false false false = omega arith
 
-pub dist_least : (c : Config) → 1 ≤ dist c
+pub dist_least : (c : Schedule) → 1 ≤ dist c
 dist_least c = least_by (is_good c.w) (is_good c.m) (is_good c.e) (is_good c.d)
 
-wrong_loaded : (k : Mover) (a b : Kind) → loads k ≡ true → is_wrong (moved_by k a Empty b) ≡ is_wrong b
-wrong_loaded k a b h = ap is_wrong (load_is k a Empty b h)
+wrong_loaded : (k : RegisterControl) (a b : StageKind) → loads k ≡ true → is_wrong (moved_by k a Bubbled b) ≡ is_wrong b
+wrong_loaded k a b h = ap is_wrong (load_is k a Bubbled b h)
 
 only_new : (s a l b : Bool) → a ≡ false → l ≡ true → (s && a) || (l && b) ≡ b
 only_new true false true b e g = refl
@@ -41,16 +41,16 @@ only_new false false true b e g = refl
 only_new s true l b e g = cc
 only_new s false false b e g = cc
 
-module _ (x : Given) (p : PipeState) (f : ℕ → ℕ) (c : Config) (fetch_good : Bool)
-    (h : lawful x.s.je x.s.rm (view_of x c) ≡ true) (q : Motion x p f c fetch_good) where
-  abbrev k : Movers
-  k = asked f
+module _ (x : RunContext) (p : PipeState) (f : ℕ → ℕ) (c : Schedule) (fetch_good : Bool)
+    (h : flow_legal x.s.je x.s.rm (run_flow x c) ≡ true) (q : Motion x p f c fetch_good) where
+  abbrev k : RegisterControls
+  k = requested_controls f
 
-  abbrev g : Kind
+  abbrev g : StageKind
   g = fetched_kind fetch_good
 
-  abbrev c' : Config
-  c' = move_config k g c
+  abbrev c' : Schedule
+  c' = next_schedule k g c
 
   w_is : is_good c'.w ≡ is_good c.m
   w_is = good_w k g c q.kept

@@ -18,8 +18,8 @@ use Rattle.dp_signals.specs.Values.{bit}
 use Rattle.dp_signals.specs.declared.pipe_state.PipeState.{PipeState}
 use Rattle.dp_signals.proofs.Bits.{set_bit}
 use Rattle.pipe_refinement.specs.Facts.{AlwaysFacts, DecodeFacts, ExecuteFacts, FetchFacts, MemoryFacts}
-use Rattle.pipe_refinement.specs.Invariant.{AllowedD, AllowedE, EmptyD, EmptyE, EmptyM, EmptyW, Given}
-use Rattle.pipe_refinement.specs.Kinds.{Config, is_good, is_wrong}
+use Rattle.pipe_refinement.specs.Invariant.{AllowedD, AllowedE, IsBubbleD, IsBubbleE, IsBubbleM, IsBubbleW, RunContext}
+use Rattle.pipe_refinement.specs.Kinds.{Schedule, is_good, is_wrong}
 use Rattle.pipe_motion.specs.declared.settings.Settings.{Settings}
 use Rattle.pipe_refinement.proofs.Fetch.{loads_fetched, reads}
 
@@ -38,19 +38,19 @@ bit_le : (b : Bool) → bit b ≤ 1
 bit_le true = omega arith
 bit_le false = omega arith
 
-pub empty_d_bubble : EmptyD bubble_d
+pub empty_d_bubble : IsBubbleD bubble_d
 empty_d_bubble = record { stat = refl; icode = refl; ifun = refl; r_a = refl; r_b = refl }
 
-pub empty_e_bubble : EmptyE bubble_e
+pub empty_e_bubble : IsBubbleE bubble_e
 empty_e_bubble = record { stat = refl; icode = refl; ifun = refl; dst_e = refl; dst_m = refl; src_a = refl; src_b = refl }
 
-pub empty_m_bubble : EmptyM bubble_m
+pub empty_m_bubble : IsBubbleM bubble_m
 empty_m_bubble = record { stat = refl; icode = refl; ifun = refl; dst_e = refl; dst_m = refl; cnd = omega arith }
 
-pub empty_w_bubble : EmptyW bubble_w
+pub empty_w_bubble : IsBubbleW bubble_w
 empty_w_bubble = record { stat = refl; icode = refl; dst_e = refl; dst_m = refl }
 
-pub empty_e_loaded : (v : Variant) (s : Settings) (p : PipeState) (f : ℕ → ℕ) (c : Config) → DecodeFacts v s p f c → EmptyD p.d → EmptyE (loaded_e p f)
+pub empty_e_loaded : (v : Variant) (s : Settings) (p : PipeState) (f : ℕ → ℕ) (c : Schedule) → DecodeFacts v s p f c → IsBubbleD p.d → IsBubbleE (loaded_e p f)
 empty_e_loaded v s p f c q h =
     record {
       stat = h.stat;
@@ -62,7 +62,7 @@ empty_e_loaded v s p f c q h =
       src_b = q.src_b ∙ rw h.icode ((nop_row v).src_b _ _);
     }
 
-pub empty_m_loaded : (v : Variant) (s : Settings) (p : PipeState) (f : ℕ → ℕ) (c : Config) → PipeHardware v p f → ExecuteFacts v s p f c → is_wrong c.e ≡ false → EmptyE p.e → EmptyM (loaded_m p f)
+pub empty_m_loaded : (v : Variant) (s : Settings) (p : PipeState) (f : ℕ → ℕ) (c : Schedule) → PipeHardware v p f → ExecuteFacts v s p f c → is_wrong c.e ≡ false → IsBubbleE p.e → IsBubbleM (loaded_m p f)
 empty_m_loaded v s p f c b q n h =
     record {
       stat = h.stat;
@@ -77,7 +77,7 @@ pub no_error : (mem : List ℕ) (address : ℕ) (r w : Bool) → r ≡ false →
 unfolding data_error
 no_error mem address r w e f = rw (e, f) refl
 
-pub empty_w_loaded : (v : Variant) (p : PipeState) (f : ℕ → ℕ) (c : Config) → PipeHardware v p f → MemoryFacts v p f c → AlwaysFacts v p f c → is_good c.m ≡ false → EmptyM p.m → EmptyW (loaded_w p f)
+pub empty_w_loaded : (v : Variant) (p : PipeState) (f : ℕ → ℕ) (c : Schedule) → PipeHardware v p f → MemoryFacts v p f c → AlwaysFacts v p f c → is_good c.m ≡ false → IsBubbleM p.m → IsBubbleW (loaded_w p f)
 empty_w_loaded v p f c b q a n h =
     let r : set (f name.mem_read) ≡ false = a.access.reads ∙ and_left _ _ n in
     let w : set (f name.mem_write) ≡ false = a.access.writes ∙ and_left _ _ n in
@@ -90,7 +90,7 @@ empty_w_loaded v p f c b q a n h =
     }
 
 -- whatever is fetched, its fields are those of a reading
-pub allowed_loaded : (x : Given) (p : PipeState) (f : ℕ → ℕ) → IsImage p.mem → PipeHardware x.v p f → FetchFacts x.v x.s f → AllowedD x.v (loaded_d p f)
+pub allowed_loaded : (x : RunContext) (p : PipeState) (f : ℕ → ℕ) → IsImage p.mem → PipeHardware x.v p f → FetchFacts x.v x.s f → AllowedD x.v (loaded_d p f)
 allowed_loaded x p f h b q =
     let l = loads_fetched x p f b q in
     let g = reads x.v p.mem (f name.f_pc) in
@@ -113,6 +113,6 @@ allowed_loaded x p f h b q =
       none_b = λ u. l.r_b ∙ s.none_b (rw (← l.icode) u);
     }
 
-pub allowed_moved : (v : Variant) (s : Settings) (p : PipeState) (f : ℕ → ℕ) (c : Config) → DecodeFacts v s p f c → AllowedD v p.d → AllowedE v (loaded_e p f)
+pub allowed_moved : (v : Variant) (s : Settings) (p : PipeState) (f : ℕ → ℕ) (c : Schedule) → DecodeFacts v s p f c → AllowedD v p.d → AllowedE v (loaded_e p f)
 allowed_moved v s p f c q h =
     record { from = p.d; allowed = h; stat = refl; icode = refl; ifun = refl; src_a = q.src_a; src_b = q.src_b; dst_e = q.dst_e; dst_m = q.dst_m }

@@ -4,9 +4,9 @@ use Rattle.std.proofs.lemmas.Bool.{and_parts}
 use Rattle.dp_signals.specs.PipeCycle.{any_both}
 use Rattle.dp_signals.specs.declared.pipe_state.PipeState.{PipeState}
 use Rattle.pipe_refinement.specs.Facts.{GoodFetch, MotionFacts}
-use Rattle.pipe_refinement.specs.Invariant.{Given, slot_of, view_of}
-use Rattle.pipe_refinement.specs.Kinds.{Config, Good, Kind, asked, fetched_kind, in_f, is_good, is_wrong, move_config}
-use Rattle.pipe_motion.specs.Slots.{Movers, fetched_slot, lawful, loads, moved_view, next_is_right, path, path_is_kept}
+use Rattle.pipe_refinement.specs.Invariant.{RunContext, run_stage_flow, run_flow}
+use Rattle.pipe_refinement.specs.Kinds.{Schedule, Good, StageKind, requested_controls, fetched_kind, in_f, is_good, is_wrong, next_schedule}
+use Rattle.pipe_motion.specs.Flow.{RegisterControls, fetched_flow, flow_legal, loads, moved_flow, next_is_right, path, path_is_kept}
 use Rattle.pipe_refinement.proofs.Moves.{fetched_is, keeps, keeps_good, leaves_by, none_both, view_moved}
 use Rattle.pipe_refinement.proofs.Views.{seen}
 
@@ -45,61 +45,61 @@ leaves_from true false false false false true ww l h a b c d e f g = cc
 leaves_from true false false false false false true l h a b c d e f g = cc
 
 -- the kinds after the cycle, and where the path will hold
-pub record Motion (x : Given) (p : PipeState) (f : ℕ → ℕ) (c : Config) (fetch_good : Bool) : Type 0 where
+pub record Motion (x : RunContext) (p : PipeState) (f : ℕ → ℕ) (c : Schedule) (fetch_good : Bool) : Type 0 where
   pub some : is_good (fetched_kind fetch_good) || is_wrong (fetched_kind fetch_good) ≡ true
-  pub fetch : is_good (fetched_kind fetch_good) ≡ true → GoodFetch x.v x.s p f c (view_of x c)
+  pub fetch : is_good (fetched_kind fetch_good) ≡ true → GoodFetch x.v x.s p f c (run_flow x c)
   pub apart : any_both f ≡ false
-  pub kept : keeps_good (asked f) c ≡ true
-  pub legal : lawful x.s.je x.s.rm (view_of x (move_config (asked f) (fetched_kind fetch_good) c)) ≡ true
-  pub right_m : is_wrong (move_config (asked f) (fetched_kind fetch_good) c).m ≡ false
-  pub right_w : is_wrong (move_config (asked f) (fetched_kind fetch_good) c).w ≡ false
-  pub entered : path (view_of x (move_config (asked f) (fetched_kind fetch_good) c)) ≡ true →
-      loads (asked f).d && is_good (fetched_kind fetch_good) ≡ true → loads (asked f).f ≡ true
-  pub stayed : path (view_of x (move_config (asked f) (fetched_kind fetch_good) c)) ≡ true →
-      loads (asked f).d && is_good (fetched_kind fetch_good) ≡ false → ((asked f).f.stall ≡ true) × (path (view_of x c) ≡ true)
+  pub kept : keeps_good (requested_controls f) c ≡ true
+  pub legal : flow_legal x.s.je x.s.rm (run_flow x (next_schedule (requested_controls f) (fetched_kind fetch_good) c)) ≡ true
+  pub right_m : is_wrong (next_schedule (requested_controls f) (fetched_kind fetch_good) c).m ≡ false
+  pub right_w : is_wrong (next_schedule (requested_controls f) (fetched_kind fetch_good) c).w ≡ false
+  pub entered : path (run_flow x (next_schedule (requested_controls f) (fetched_kind fetch_good) c)) ≡ true →
+      loads (requested_controls f).d && is_good (fetched_kind fetch_good) ≡ true → loads (requested_controls f).f ≡ true
+  pub stayed : path (run_flow x (next_schedule (requested_controls f) (fetched_kind fetch_good) c)) ≡ true →
+      loads (requested_controls f).d && is_good (fetched_kind fetch_good) ≡ false → ((requested_controls f).f.stall ≡ true) × (path (run_flow x c) ≡ true)
   pub from_d : is_good c.d ≡ true → is_good c.e ≡ false → is_good c.m ≡ false → is_good c.w ≡ false → is_wrong c.e ≡ false →
-      leaves_by (asked f) (is_good c.d) ≡ true
+      leaves_by (requested_controls f) (is_good c.d) ≡ true
   pub from_none : is_good c.d ≡ false → is_good c.e ≡ false → is_good c.m ≡ false → is_good c.w ≡ false → is_wrong c.d ≡ false →
-      is_wrong c.e ≡ false → loads (asked f).d ≡ true
+      is_wrong c.e ≡ false → loads (requested_controls f).d ≡ true
 
-module _ (x : Given) (p : PipeState) (f : ℕ → ℕ) (c : Config) (fetch_good : Bool) (rm : is_wrong c.m ≡ false) (rw_ : is_wrong c.w ≡ false)
-    (q : MotionFacts x.v x.s p f c (view_of x c) fetch_good (slot_of x Good (in_f c))) where
-  abbrev k : Movers
-  k = asked f
+module _ (x : RunContext) (p : PipeState) (f : ℕ → ℕ) (c : Schedule) (fetch_good : Bool) (rm : is_wrong c.m ≡ false) (rw_ : is_wrong c.w ≡ false)
+    (q : MotionFacts x.v x.s p f c (run_flow x c) fetch_good (run_stage_flow x Good (in_f c))) where
+  abbrev k : RegisterControls
+  k = requested_controls f
 
-  abbrev g : Kind
+  abbrev g : StageKind
   g = fetched_kind fetch_good
 
-  abbrev c' : Config
-  c' = move_config k g c
+  abbrev c' : Schedule
+  c' = next_schedule k g c
 
   kept_now : keeps_good k c ≡ true
   kept_now = keeps x k c q.kept
 
-  next_view : moved_view k (fetched_slot fetch_good (slot_of x Good (in_f c))) (view_of x c) ≡ view_of x c'
-  next_view = ap (λ z. moved_view k z (view_of x c)) (fetched_is x fetch_good (in_f c)) ∙ view_moved x k g c kept_now
+  next_view : moved_flow k (fetched_flow fetch_good (run_stage_flow x Good (in_f c))) (run_flow x c) ≡ run_flow x c'
+  next_view = ap (λ z. moved_flow k z (run_flow x c)) (fetched_is x fetch_good (in_f c)) ∙ view_moved x k g c kept_now
 
-  right : next_is_right x.s.je x.s.rm k fetch_good (view_of x c) (view_of x c') ≡ true
-  right = subst (λ z. next_is_right x.s.je x.s.rm k fetch_good (view_of x c) z ≡ true) next_view q.next
+  right : next_is_right x.s.je x.s.rm k fetch_good (run_flow x c) (run_flow x c') ≡ true
+  right = subst (λ z. next_is_right x.s.je x.s.rm k fetch_good (run_flow x c) z ≡ true) next_view q.next
 
   abbrev path_kept : Bool
-  path_kept = path_is_kept k fetch_good (path (view_of x c)) (path (view_of x c'))
+  path_kept = path_is_kept k fetch_good (path (run_flow x c)) (path (run_flow x c'))
 
-  behind_lawful : not ((view_of x c').m.wrong || (view_of x c').w.wrong) && path_kept ≡ true
-  behind_lawful = (and_parts (lawful x.s.je x.s.rm (view_of x c')) (not ((view_of x c').m.wrong || (view_of x c').w.wrong) && path_kept) right).1
+  behind_lawful : not ((run_flow x c').m.wrong || (run_flow x c').w.wrong) && path_kept ≡ true
+  behind_lawful = (and_parts (flow_legal x.s.je x.s.rm (run_flow x c')) (not ((run_flow x c').m.wrong || (run_flow x c').w.wrong) && path_kept) right).1
 
-  not_wrong : ((view_of x c').m.wrong ≡ false) × ((view_of x c').w.wrong ≡ false)
+  not_wrong : ((run_flow x c').m.wrong ≡ false) × ((run_flow x c').w.wrong ≡ false)
   not_wrong =
-      neither (view_of x c').m.wrong (view_of x c').w.wrong (and_parts (not ((view_of x c').m.wrong || (view_of x c').w.wrong)) path_kept behind_lawful).0
+      neither (run_flow x c').m.wrong (run_flow x c').w.wrong (and_parts (not ((run_flow x c').m.wrong || (run_flow x c').w.wrong)) path_kept behind_lawful).0
 
   path_now : path_kept ≡ true
-  path_now = (and_parts (not ((view_of x c').m.wrong || (view_of x c').w.wrong)) path_kept behind_lawful).1
+  path_now = (and_parts (not ((run_flow x c').m.wrong || (run_flow x c').w.wrong)) path_kept behind_lawful).1
 
   as_good : (z : Bool) → loads k.d && is_good g ≡ z → loads k.d && fetch_good ≡ z
   as_good z e = sym (ap (λ y. loads k.d && y) (good_kind fetch_good)) ∙ e
 
   drained : is_good c.d ≡ true → is_good c.e ≡ false → is_good c.m ≡ false → is_good c.w ≡ false → is_wrong c.e ≡ false → leaves_by k (is_good c.d) ≡ true
-  unfolding view_of
+  unfolding run_flow
   drained d e m w we =
       leaves_from (is_good c.d) (is_good c.e) (is_wrong c.e) (is_good c.m) (is_wrong c.m) (is_good c.w) (is_wrong c.w) (leaves_by k (is_good c.d))
       q.leaves d e we m rm w rw_
@@ -110,7 +110,7 @@ module _ (x : Given) (p : PipeState) (f : ℕ → ℕ) (c : Config) (fetch_good 
   empty_d_is false true p q = cc
 
   filled : is_good c.d ≡ false → is_good c.e ≡ false → is_good c.m ≡ false → is_good c.w ≡ false → is_wrong c.d ≡ false → is_wrong c.e ≡ false → loads k.d ≡ true
-  unfolding view_of
+  unfolding run_flow
   filled d e m w wd we =
       leaves_from (not (is_good c.d || is_wrong c.d)) (is_good c.e) (is_wrong c.e) (is_good c.m) (is_wrong c.m) (is_good c.w) (is_wrong c.w) (loads k.d)
       q.enters (empty_d_is _ _ d wd) e we m rm w rw_
@@ -121,11 +121,11 @@ module _ (x : Given) (p : PipeState) (f : ℕ → ℕ) (c : Config) (fetch_good 
     fetch = λ e. q.fetch (sym (good_kind fetch_good) ∙ e);
     apart = none_both f q.apart;
     kept = kept_now;
-    legal = (and_parts (lawful x.s.je x.s.rm (view_of x c')) (not ((view_of x c').m.wrong || (view_of x c').w.wrong) && path_kept) right).0;
+    legal = (and_parts (flow_legal x.s.je x.s.rm (run_flow x c')) (not ((run_flow x c').m.wrong || (run_flow x c').w.wrong) && path_kept) right).0;
     right_m = sym (seen x c').wrong_m ∙ not_wrong.0;
     right_w = sym (seen x c').wrong_w ∙ not_wrong.1;
-    entered = λ n e. path_in (path (view_of x c')) (loads k.d && fetch_good) (loads k.f) k.f.stall (path (view_of x c)) path_now n (as_good true e);
-    stayed = λ n e. path_out (path (view_of x c')) (loads k.d && fetch_good) (loads k.f) k.f.stall (path (view_of x c)) path_now n (as_good false e);
+    entered = λ n e. path_in (path (run_flow x c')) (loads k.d && fetch_good) (loads k.f) k.f.stall (path (run_flow x c)) path_now n (as_good true e);
+    stayed = λ n e. path_out (path (run_flow x c')) (loads k.d && fetch_good) (loads k.f) k.f.stall (path (run_flow x c)) path_now n (as_good false e);
     from_d = drained;
     from_none = filled;
   }

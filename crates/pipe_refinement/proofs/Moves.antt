@@ -1,90 +1,90 @@
 -- Motion of kinds, indexes, slots and registers.
 use Rattle.std.proofs.Common.{◌≡◌, ℕ, ◌+◌, Bool, true, false, not, ◌&&◌, ◌||◌, refl, sym, ap, ◌∙◌, arith}
 use Rattle.std.proofs.lemmas.Bool.{and_parts}
-use Rattle.dp_signals.specs.PipeCycle.{any_both, ending, is_both, loaded_d, loaded_e, loaded_m, loaded_w, moved, mover, movers_of, next}
+use Rattle.dp_signals.specs.PipeCycle.{any_both, ending, is_both, loaded_d, loaded_e, loaded_m, loaded_w, moved, update_by, updates_of, next}
 use Rattle.dp_signals.specs.PipeNames as name
 use Rattle.dp_signals.specs.PipeState.{bubble_d, bubble_e, bubble_m, bubble_w}
-use Rattle.dp_signals.specs.declared.movers.Ending.TheVariants.{Going}
+use Rattle.dp_signals.specs.declared.movers.CycleEnd.TheVariants.{Going}
 use Rattle.dp_signals.specs.declared.pipe_state.PipeState.{PipeState}
-use Rattle.pipe_refinement.specs.Invariant.{Given, slot_of, view_of}
-use Rattle.pipe_refinement.specs.Kinds.{Config, Empty, Good, Kind, Wrong, asked, count, fetched_kind, in_d, in_e, in_f, in_m, in_w, is_good, is_wrong, move_config, moved_by}
-use Rattle.pipe_motion.specs.Slots.{Mover, Movers, Slot, View, fetched_slot, loads, moved as moved_slot, moved_view, o23, o24, to_w}
+use Rattle.pipe_refinement.specs.Invariant.{RunContext, run_stage_flow, run_flow}
+use Rattle.pipe_refinement.specs.Kinds.{Schedule, Bubbled, Good, StageKind, Wrong, requested_controls, count, fetched_kind, in_d, in_e, in_f, in_m, in_w, is_good, is_wrong, next_schedule, moved_by}
+use Rattle.pipe_motion.specs.Flow.{RegisterControl, RegisterControls, StageFlow, Flow, fetched_flow, loads, moved_stage as moved_slot, moved_flow, o23, o24, entering_w}
 
 -- ---- one register
 
-moved_good : (s b : Bool) (old new : Kind) → is_good (moved (mover s b) old Empty new) ≡ (s && is_good old) || (not (s || b) && is_good new)
+moved_good : (s b : Bool) (old new : StageKind) → is_good (moved (update_by s b) old Bubbled new) ≡ (s && is_good old) || (not (s || b) && is_good new)
 moved_good true b old new = grind (arith)
 moved_good false true old new = refl
 moved_good false false old new = refl
 
-pub good_moved : (k : Mover) (a b : Kind) → is_good (moved_by k a Empty b) ≡ (k.stall && is_good a) || (loads k && is_good b)
+pub good_moved : (k : RegisterControl) (a b : StageKind) → is_good (moved_by k a Bubbled b) ≡ (k.stall && is_good a) || (loads k && is_good b)
 good_moved k a b = moved_good k.stall k.bubble a b
 
-moved_wrong : (s b : Bool) (old new : Kind) → is_wrong (moved (mover s b) old Empty new) ≡ (s && is_wrong old) || (not (s || b) && is_wrong new)
+moved_wrong : (s b : Bool) (old new : StageKind) → is_wrong (moved (update_by s b) old Bubbled new) ≡ (s && is_wrong old) || (not (s || b) && is_wrong new)
 moved_wrong true b old new = grind (arith)
 moved_wrong false true old new = refl
 moved_wrong false false old new = refl
 
-pub wrong_moved : (k : Mover) (a b : Kind) → is_wrong (moved_by k a Empty b) ≡ (k.stall && is_wrong a) || (loads k && is_wrong b)
+pub wrong_moved : (k : RegisterControl) (a b : StageKind) → is_wrong (moved_by k a Bubbled b) ≡ (k.stall && is_wrong a) || (loads k && is_wrong b)
 wrong_moved k a b = moved_wrong k.stall k.bubble a b
 
-apart : (k : Mover) → k.stall && loads k ≡ false
+apart : (k : RegisterControl) → k.stall && loads k ≡ false
 apart k = by k.stall k.bubble
   where
     by : (s b : Bool) → s && not (s || b) ≡ false
     by true b = refl
     by false b = refl
 
-pub load_is : {A : Type 0} (k : Mover) (a b n : A) → loads k ≡ true → moved_by k a b n ≡ n
+pub load_is : {A : Type 0} (k : RegisterControl) (a b n : A) → loads k ≡ true → moved_by k a b n ≡ n
 load_is k a b n h = by k.stall k.bubble h
   where
-    by : (s t : Bool) → not (s || t) ≡ true → moved (mover s t) a b n ≡ n
+    by : (s t : Bool) → not (s || t) ≡ true → moved (update_by s t) a b n ≡ n
     by true t e = cc
     by false true e = cc
     by false false e = refl
 
-pub stay_is : {A : Type 0} (k : Mover) (a b n : A) → k.stall ≡ true → moved_by k a b n ≡ a
+pub stay_is : {A : Type 0} (k : RegisterControl) (a b n : A) → k.stall ≡ true → moved_by k a b n ≡ a
 stay_is k a b n h = by k.stall k.bubble h
   where
-    by : (s t : Bool) → s ≡ true → moved (mover s t) a b n ≡ a
+    by : (s t : Bool) → s ≡ true → moved (update_by s t) a b n ≡ a
     by true t e = refl
     by false t e = cc
 
 -- what holds of a register and its kind holds of them behind one motion
-pub moved_all : {A B : Type 0} (R : A → B → Type 0) (k : Mover) (a bubble n : A) (a' bubble' n' : B) →
+pub moved_all : {A B : Type 0} (R : A → B → Type 0) (k : RegisterControl) (a bubble n : A) (a' bubble' n' : B) →
     (k.stall ≡ true → R a a') → R bubble bubble' → (loads k ≡ true → R n n') → R (moved_by k a bubble n) (moved_by k a' bubble' n')
 moved_all R k a bubble n a' bubble' n' s b l = by k.stall k.bubble s l
   where
-    by : (t u : Bool) → (t ≡ true → R a a') → (not (t || u) ≡ true → R n n') → R (moved (mover t u) a bubble n) (moved (mover t u) a' bubble' n')
+    by : (t u : Bool) → (t ≡ true → R a a') → (not (t || u) ≡ true → R n n') → R (moved (update_by t u) a bubble n) (moved (update_by t u) a' bubble' n')
     by true u s l = s refl
     by false true s l = b
     by false false s l = l refl
 
 -- ---- good instructions are neither lost nor doubled
 
-abbrev pub leaves_by : Movers → Bool → Bool
+abbrev pub leaves_by : RegisterControls → Bool → Bool
 leaves_by k good_d = good_d && (loads k.e && not k.d.stall)
 
 -- of the kinds, register by register
-abbrev keeps_w : Movers → Config → Bool
+abbrev keeps_w : RegisterControls → Schedule → Bool
 keeps_w k c = not (is_good c.w && k.w.stall)
 
-abbrev keeps_m : Movers → Config → Bool
+abbrev keeps_m : RegisterControls → Schedule → Bool
 keeps_m k c = not (is_good c.m) || (loads k.w && not k.m.stall)
 
-abbrev keeps_e : Movers → Config → Bool
+abbrev keeps_e : RegisterControls → Schedule → Bool
 keeps_e k c = not (is_good c.e) || (loads k.m && not k.e.stall)
 
-abbrev keeps_d : Movers → Config → Bool
+abbrev keeps_d : RegisterControls → Schedule → Bool
 keeps_d k c = not (is_good c.d) || (leaves_by k (is_good c.d) || (k.d.stall && not (loads k.e)))
 
-abbrev pub keeps_good : Movers → Config → Bool
+abbrev pub keeps_good : RegisterControls → Schedule → Bool
 keeps_good k c = keeps_w k c && (keeps_m k c && (keeps_e k c && keeps_d k c))
 
-kept_e : (k : Movers) (c : Config) → keeps_good k c ≡ true → keeps_e k c ≡ true
+kept_e : (k : RegisterControls) (c : Schedule) → keeps_good k c ≡ true → keeps_e k c ≡ true
 kept_e k c h = (and_parts (keeps_e k c) (keeps_d k c) (and_parts (keeps_m k c) (keeps_e k c && keeps_d k c) (and_parts (keeps_w k c) (keeps_m k c && (keeps_e k c && keeps_d k c)) h).1).1).0
 
-kept_d : (k : Movers) (c : Config) → keeps_good k c ≡ true → keeps_d k c ≡ true
+kept_d : (k : RegisterControls) (c : Schedule) → keeps_good k c ≡ true → keeps_d k c ≡ true
 kept_d k c h = (and_parts (keeps_e k c) (keeps_d k c) (and_parts (keeps_m k c) (keeps_e k c && keeps_d k c) (and_parts (keeps_w k c) (keeps_m k c && (keeps_e k c && keeps_d k c)) h).1).1).1
 
 -- E after the cycle is good where a good D leaves
@@ -94,21 +94,21 @@ good_e_by true b stays d e m p q = grind (arith)
 good_e_by false true stays d e m p q = grind (arith)
 good_e_by false false stays d e m p q = grind (arith)
 
-pub keeps : (x : Given) (k : Movers) (c : Config) → o24 k (view_of x c) ≡ true → keeps_good k c ≡ true
-unfolding view_of
+pub keeps : (x : RunContext) (k : RegisterControls) (c : Schedule) → o24 k (run_flow x c) ≡ true → keeps_good k c ≡ true
+unfolding run_flow
 keeps x k c h = h
 
-module _ (k : Movers) (g : Kind) (c : Config) (h : keeps_good k c ≡ true) where
-  pub good_w : is_good (move_config k g c).w ≡ is_good c.m
+module _ (k : RegisterControls) (g : StageKind) (c : Schedule) (h : keeps_good k c ≡ true) where
+  pub good_w : is_good (next_schedule k g c).w ≡ is_good c.m
   good_w = good_moved k.w c.w c.m ∙ grind (arith)
 
-  pub good_m : is_good (move_config k g c).m ≡ is_good c.e
+  pub good_m : is_good (next_schedule k g c).m ≡ is_good c.e
   good_m = good_moved k.m c.m c.e ∙ grind (arith)
 
-  pub good_e : is_good (move_config k g c).e ≡ leaves_by k (is_good c.d)
+  pub good_e : is_good (next_schedule k g c).e ≡ leaves_by k (is_good c.d)
   good_e = good_moved k.e c.e c.d ∙ good_e_by k.e.stall k.e.bubble k.d.stall (is_good c.d) (is_good c.e) (loads k.m) (kept_e k c h) (kept_d k c h)
 
-  pub good_d : is_good (move_config k g c).d ≡ (k.d.stall && is_good c.d) || (loads k.d && is_good g)
+  pub good_d : is_good (next_schedule k g c).d ≡ (k.d.stall && is_good c.d) || (loads k.d && is_good g)
   good_d = good_moved k.d c.d g
 
   pub loads_w : is_good c.m ≡ true → loads k.w ≡ true
@@ -123,19 +123,19 @@ module _ (k : Movers) (g : Kind) (c : Config) (h : keeps_good k c ≡ true) wher
   pub left_good : leaves_by k (is_good c.d) ≡ true → is_good c.d ≡ true
   left_good e = grind (arith)
 
-  pub next_in_m : in_m (move_config k g c) ≡ in_e c
+  pub next_in_m : in_m (next_schedule k g c) ≡ in_e c
   next_in_m = omega (arith, ap count good_w)
 
-  pub next_in_e : in_e (move_config k g c) ≡ in_d c
+  pub next_in_e : in_e (next_schedule k g c) ≡ in_d c
   next_in_e = omega (arith, next_in_m, ap count good_m)
 
-  pub next_in_d : in_d (move_config k g c) ≡ in_d c + count (leaves_by k (is_good c.d))
+  pub next_in_d : in_d (next_schedule k g c) ≡ in_d c + count (leaves_by k (is_good c.d))
   next_in_d = omega (arith, next_in_e, ap count good_e)
 
-  pub stay_in_d : k.d.stall ≡ true → in_d (move_config k g c) ≡ in_d c
+  pub stay_in_d : k.d.stall ≡ true → in_d (next_schedule k g c) ≡ in_d c
   stay_in_d s = let e : leaves_by k (is_good c.d) ≡ false = grind (arith) in omega (arith, next_in_d, ap count e)
 
-  pub load_in_d : loads k.d ≡ true → in_d (move_config k g c) ≡ in_f c
+  pub load_in_d : loads k.d ≡ true → in_d (next_schedule k g c) ≡ in_f c
   load_in_d s = let e : leaves_by k (is_good c.d) ≡ is_good c.d = grind (arith) in omega (arith, next_in_d, ap count e)
 
   split_d : (s b gd gg l : Bool) → (s ≡ true → l ≡ false) → (s ≡ false → l ≡ gd) → count l + count ((s && gd) || (not (s || b) && gg)) ≡ count gd + count (not (s || b) && gg)
@@ -143,59 +143,59 @@ module _ (k : Movers) (g : Kind) (c : Config) (h : keeps_good k c ≡ true) wher
   split_d false true gd gg l p q = grind (arith, q refl)
   split_d false false gd gg l p q = grind (arith, q refl)
 
-  pub next_in_f : in_f (move_config k g c) ≡ in_f c + count (loads k.d && is_good g)
+  pub next_in_f : in_f (next_schedule k g c) ≡ in_f c + count (loads k.d && is_good g)
   next_in_f =
       omega (arith, next_in_d, ap count good_d, split_d k.d.stall k.d.bubble (is_good c.d) (is_good g) (leaves_by k (is_good c.d)) (λ s. grind (arith)) (λ s. grind (arith)))
 
 -- ---- slots
 
-same_slot : (x : Given) (a : Kind) (i j : ℕ) → (is_good a ≡ true → i ≡ j) → slot_of x a i ≡ slot_of x a j
-same_slot x Empty i j h = refl
+same_slot : (x : RunContext) (a : StageKind) (i j : ℕ) → (is_good a ≡ true → i ≡ j) → run_stage_flow x a i ≡ run_stage_flow x a j
+same_slot x Bubbled i j h = refl
 same_slot x Wrong i j h = refl
-same_slot x Good i j h = ap (slot_of x Good) (h refl)
+same_slot x Good i j h = ap (run_stage_flow x Good) (h refl)
 
-slot_moved : (x : Given) (k : Mover) (a b : Kind) (i j l : ℕ) → (k.stall ≡ true → is_good a ≡ true → i ≡ l) → (loads k ≡ true → is_good b ≡ true → j ≡ l) →
-    moved_slot k (slot_of x a i) (slot_of x b j) ≡ slot_of x (moved_by k a Empty b) l
+slot_moved : (x : RunContext) (k : RegisterControl) (a b : StageKind) (i j l : ℕ) → (k.stall ≡ true → is_good a ≡ true → i ≡ l) → (loads k ≡ true → is_good b ≡ true → j ≡ l) →
+    moved_slot k (run_stage_flow x a i) (run_stage_flow x b j) ≡ run_stage_flow x (moved_by k a Bubbled b) l
 slot_moved x k a b i j l h g = by k.stall k.bubble refl refl h g
   where
     by : (s t : Bool) → k.stall ≡ s → k.bubble ≡ t → (s ≡ true → is_good a ≡ true → i ≡ l) → (not (s || t) ≡ true → is_good b ≡ true → j ≡ l) →
-        moved_slot k (slot_of x a i) (slot_of x b j) ≡ slot_of x (moved_by k a Empty b) l
+        moved_slot k (run_stage_flow x a i) (run_stage_flow x b j) ≡ run_stage_flow x (moved_by k a Bubbled b) l
     by true t p q h g = rw p (same_slot x a i l (h refl))
     by false true p q h g = rw (p, q) refl
     by false false p q h g = rw (p, q) (same_slot x b j l (g refl))
 
-moved_to_w : (k : Mover) (a b : Slot) → moved_slot k (to_w a) (to_w b) ≡ to_w (moved_slot k a b)
+moved_to_w : (k : RegisterControl) (a b : StageFlow) → moved_slot k (entering_w a) (entering_w b) ≡ entering_w (moved_slot k a b)
 moved_to_w k a b = by k.stall k.bubble refl refl
   where
-    by : (s t : Bool) → k.stall ≡ s → k.bubble ≡ t → moved_slot k (to_w a) (to_w b) ≡ to_w (moved_slot k a b)
+    by : (s t : Bool) → k.stall ≡ s → k.bubble ≡ t → moved_slot k (entering_w a) (entering_w b) ≡ entering_w (moved_slot k a b)
     by true t p q = rw p refl
     by false true p q = rw (p, q) refl
     by false false p q = rw (p, q) refl
 
 -- what a fetch brings to D
-pub fetched_is : (x : Given) (good : Bool) (i : ℕ) → fetched_slot good (slot_of x Good i) ≡ slot_of x (fetched_kind good) i
+pub fetched_is : (x : RunContext) (good : Bool) (i : ℕ) → fetched_flow good (run_stage_flow x Good i) ≡ run_stage_flow x (fetched_kind good) i
 fetched_is x true i = refl
 fetched_is x false i = refl
 
-abbrev pub view_by : Slot → Slot → Slot → Slot → View
+abbrev pub view_by : StageFlow → StageFlow → StageFlow → StageFlow → Flow
 view_by d e m w = record { d = d; e = e; m = m; w = w }
 
-four : {d e m w d' e' m' w' : Slot} → d ≡ d' → e ≡ e' → m ≡ m' → w ≡ w' → view_by d e m w ≡ view_by d' e' m' w'
+four : {d e m w d' e' m' w' : StageFlow} → d ≡ d' → e ≡ e' → m ≡ m' → w ≡ w' → view_by d e m w ≡ view_by d' e' m' w'
 four p q r s = rw (p, q, r, s) refl
 
 -- the next view is the moved one
-pub view_moved : (x : Given) (k : Movers) (g : Kind) (c : Config) → keeps_good k c ≡ true →
-    moved_view k (slot_of x g (in_f c)) (view_of x c) ≡ view_of x (move_config k g c)
-unfolding view_of moved_view
+pub view_moved : (x : RunContext) (k : RegisterControls) (g : StageKind) (c : Schedule) → keeps_good k c ≡ true →
+    moved_flow k (run_stage_flow x g (in_f c)) (run_flow x c) ≡ run_flow x (next_schedule k g c)
+unfolding run_flow moved_flow
 view_moved x k g c h =
-    let d : moved_slot k.d (slot_of x c.d (in_d c)) (slot_of x g (in_f c)) ≡ slot_of x (moved_by k.d c.d Empty g) (in_d (move_config k g c)) =
+    let d : moved_slot k.d (run_stage_flow x c.d (in_d c)) (run_stage_flow x g (in_f c)) ≡ run_stage_flow x (moved_by k.d c.d Bubbled g) (in_d (next_schedule k g c)) =
     slot_moved x k.d c.d g _ _ _ (λ s a. sym (stay_in_d k g c h s)) (λ s a. sym (load_in_d k g c h s)) in
-    let e : moved_slot k.e (slot_of x c.e (in_e c)) (slot_of x c.d (in_d c)) ≡ slot_of x (moved_by k.e c.e Empty c.d) (in_e (move_config k g c)) =
+    let e : moved_slot k.e (run_stage_flow x c.e (in_e c)) (run_stage_flow x c.d (in_d c)) ≡ run_stage_flow x (moved_by k.e c.e Bubbled c.d) (in_e (next_schedule k g c)) =
     slot_moved x k.e c.e c.d _ _ _ (λ s a. absurd (gone_e s a)) (λ s a. sym (next_in_e k g c h)) in
-    let m : moved_slot k.m (slot_of x c.m (in_m c)) (slot_of x c.e (in_e c)) ≡ slot_of x (moved_by k.m c.m Empty c.e) (in_m (move_config k g c)) =
+    let m : moved_slot k.m (run_stage_flow x c.m (in_m c)) (run_stage_flow x c.e (in_e c)) ≡ run_stage_flow x (moved_by k.m c.m Bubbled c.e) (in_m (next_schedule k g c)) =
     slot_moved x k.m c.m c.e _ _ _ (λ s a. absurd (gone_m s a)) (λ s a. sym (next_in_m k g c h)) in
-    let w : moved_slot k.w (to_w (slot_of x c.w (in_w c))) (to_w (slot_of x c.m (in_m c))) ≡ to_w (slot_of x (moved_by k.w c.w Empty c.m) (in_w (move_config k g c))) =
-    moved_to_w k.w (slot_of x c.w (in_w c)) (slot_of x c.m (in_m c)) ∙ ap to_w (slot_moved x k.w c.w c.m _ _ _ (λ s a. absurd (gone_w s a)) (λ s a. refl)) in
+    let w : moved_slot k.w (entering_w (run_stage_flow x c.w (in_w c))) (entering_w (run_stage_flow x c.m (in_m c))) ≡ entering_w (run_stage_flow x (moved_by k.w c.w Bubbled c.m) (in_w (next_schedule k g c))) =
+    moved_to_w k.w (run_stage_flow x c.w (in_w c)) (run_stage_flow x c.m (in_m c)) ∙ ap entering_w (slot_moved x k.w c.w c.m _ _ _ (λ s a. absurd (gone_w s a)) (λ s a. refl)) in
     four d e m w
   where
     gone_e : k.e.stall ≡ true → is_good c.e ≡ true → ⊥
@@ -212,7 +212,7 @@ view_moved x k g c h =
 none_of : (a b c d e : Bool) → not a && (not b && (not c && (not d && not e))) ≡ true → a || b || c || d || e ≡ false
 none_of a b c d e h = grind (arith)
 
-pub none_both : (f : ℕ → ℕ) → o23 (asked f) ≡ true → any_both f ≡ false
+pub none_both : (f : ℕ → ℕ) → o23 (requested_controls f) ≡ true → any_both f ≡ false
 none_both f h =
     none_of (is_both f name.F_stall name.F_bubble) (is_both f name.D_stall name.D_bubble) (is_both f name.E_stall name.E_bubble)
     (is_both f name.M_stall name.M_bubble) (is_both f name.W_stall name.W_bubble) h
@@ -220,22 +220,22 @@ none_both f h =
 pub going : (f : ℕ → ℕ) → f name.Stat ≡ 1 → any_both f ≡ false → ending f ≡ Going
 going f e h = rw (e, h) refl
 
-pub next_d : (p : PipeState) (f : ℕ → ℕ) → ending f ≡ Going → (next p f).d ≡ moved_by (asked f).d p.d bubble_d (loaded_d p f)
-unfolding next movers_of
+pub next_d : (p : PipeState) (f : ℕ → ℕ) → ending f ≡ Going → (next p f).d ≡ moved_by (requested_controls f).d p.d bubble_d (loaded_d p f)
+unfolding next updates_of
 next_d p f e = rw e refl
 
-pub next_e : (p : PipeState) (f : ℕ → ℕ) → ending f ≡ Going → (next p f).e ≡ moved_by (asked f).e p.e bubble_e (loaded_e p f)
-unfolding next movers_of
+pub next_e : (p : PipeState) (f : ℕ → ℕ) → ending f ≡ Going → (next p f).e ≡ moved_by (requested_controls f).e p.e bubble_e (loaded_e p f)
+unfolding next updates_of
 next_e p f e = rw e refl
 
-pub next_m : (p : PipeState) (f : ℕ → ℕ) → ending f ≡ Going → (next p f).m ≡ moved_by (asked f).m p.m bubble_m (loaded_m p f)
-unfolding next movers_of
+pub next_m : (p : PipeState) (f : ℕ → ℕ) → ending f ≡ Going → (next p f).m ≡ moved_by (requested_controls f).m p.m bubble_m (loaded_m p f)
+unfolding next updates_of
 next_m p f e = rw e refl
 
-pub next_w : (p : PipeState) (f : ℕ → ℕ) → ending f ≡ Going → (next p f).w ≡ moved_by (asked f).w p.w bubble_w (loaded_w p f)
-unfolding next movers_of
+pub next_w : (p : PipeState) (f : ℕ → ℕ) → ending f ≡ Going → (next p f).w ≡ moved_by (requested_controls f).w p.w bubble_w (loaded_w p f)
+unfolding next updates_of
 next_w p f e = rw e refl
 
-pub next_f : (p : PipeState) (f : ℕ → ℕ) → ending f ≡ Going → (next p f).pred_pc ≡ moved_by (asked f).f p.pred_pc 0 (f name.f_predPC)
-unfolding next movers_of
+pub next_f : (p : PipeState) (f : ℕ → ℕ) → ending f ≡ Going → (next p f).pred_pc ≡ moved_by (requested_controls f).f p.pred_pc 0 (f name.f_predPC)
+unfolding next updates_of
 next_f p f e = rw e refl

@@ -5,20 +5,20 @@ use Rattle.y86_base.specs.declared.parts.Stat.TheVariants.{Adr, Aok, Hlt, Ins}
 use Rattle.y86_base.specs.declared.parts.Stat.{Stat}
 use Rattle.y86_isa.specs.Blocks.{fetched, next_address}
 use Rattle.y86_isa.specs.Machine.{is_aok}
-use Rattle.y86_isa.specs.RowTests.{is_branch, is_loaded}
+use Rattle.y86_isa.specs.RowTests.{next_is_branch, next_is_val_m}
 use Rattle.y86_isa.specs.Table.{rows}
-use Rattle.y86_isa.specs.declared.columns.Next.TheVariants.{Branch, Fall, Itself, Loaded, Target}
-use Rattle.y86_isa.specs.declared.columns.Next.{Next}
+use Rattle.y86_isa.specs.declared.columns.NextPcColumn.TheVariants.{Branch, Fall, Itself, Loaded, Target}
+use Rattle.y86_isa.specs.declared.columns.NextPcColumn.{NextPcColumn}
 use Rattle.y86_isa.proofs.WhatIsRead.{IsReading-reading}
 use Rattle.y86_isa.proofs.RowColumns.{next_at, is_itself}
-use Rattle.run_laws.specs.Instructions.{Live, before, doing, ret_at, row_of, stops_at}
-use Rattle.run_laws.proofs.Walk.{fetches, follows, pc_next}
+use Rattle.yis_run_laws.specs.Instructions.{RunReaches, state_before, work_at, ret_at, instruction_row, stops_at}
+use Rattle.yis_run_laws.proofs.Walk.{fetches, follows, pc_next}
 use Rattle.dp_signals.specs.PipeNames as name
 use Rattle.y86_base.specs.Words.{set}
 use Rattle.y86_base.proofs.Booleans.{not_implied}
 use Rattle.dp_signals.specs.declared.pipe_state.PipeState.{PipeState}
 use Rattle.pipe_refinement.specs.Facts.{FetchFacts, predicted_pc}
-use Rattle.pipe_refinement.specs.Invariant.{Given, differ, missed_at, predicted_at}
+use Rattle.pipe_refinement.specs.Invariant.{RunContext, differ, missed_at, predicted_at}
 use Rattle.pipe_refinement.proofs.Fetch.{LoadsFetched, reads}
 
 -- what an instruction that ends with AOK isn't
@@ -29,24 +29,24 @@ stat_parts false false true b h = cc
 stat_parts false false false true h = cc
 stat_parts false false false false h = (refl, refl, refl)
 
-sound : (x : Given) (i : ℕ) → is_aok (doing x.v x.image i).stat ≡ true →
-    ((fetched x.v (before x.v x.image i).mem (before x.v x.image i).pc).error ≡ false)
-    × (((fetched x.v (before x.v x.image i).mem (before x.v x.image i).pc).icode == 15) ≡ false)
-    × (((fetched x.v (before x.v x.image i).mem (before x.v x.image i).pc).icode == 0) ≡ false)
+sound : (x : RunContext) (i : ℕ) → is_aok (work_at x.v x.image i).stat ≡ true →
+    ((fetched x.v (state_before x.v x.image i).mem (state_before x.v x.image i).pc).error ≡ false)
+    × (((fetched x.v (state_before x.v x.image i).mem (state_before x.v x.image i).pc).icode == 15) ≡ false)
+    × (((fetched x.v (state_before x.v x.image i).mem (state_before x.v x.image i).pc).icode == 0) ≡ false)
 sound x i h =
-    let g = fetched x.v (before x.v x.image i).mem (before x.v x.image i).pc in
-    stat_parts (doing x.v x.image i).fault g.error (g.icode == 15) (g.icode == 0) (rw (← (fetches x.v x.image i).fetch_stat, ← (follows x.v x.image i).stat) h)
+    let g = fetched x.v (state_before x.v x.image i).mem (state_before x.v x.image i).pc in
+    stat_parts (work_at x.v x.image i).fault g.error (g.icode == 15) (g.icode == 0) (rw (← (fetches x.v x.image i).fetch_stat, ← (follows x.v x.image i).stat) h)
 
-known : (x : Given) (i : ℕ) → is_aok (doing x.v x.image i).stat ≡ true → (doing x.v x.image i).icode < length (rows x.v)
+known : (x : RunContext) (i : ℕ) → is_aok (work_at x.v x.image i).stat ≡ true → (work_at x.v x.image i).icode < length (rows x.v)
 known x i h =
-    let r = reads x.v (before x.v x.image i).mem (before x.v x.image i).pc in
-    elim (IsReading-reading x.v (before x.v x.image i).mem (before x.v x.image i).pc).known [
+    let r = reads x.v (state_before x.v x.image i).mem (state_before x.v x.image i).pc in
+    elim (IsReading-reading x.v (state_before x.v x.image i).mem (state_before x.v x.image i).pc).known [
       | inl lt ↦ rw ((fetches x.v x.image i).icode, r.icode) lt
       | inr e ↦ absurd (false≢true (sym (sound x i h).1 ∙ ap (λ z. z == 15) (r.icode ∙ e.0)))
     ]
 
-error_of : (x : Given) (i : ℕ) → is_aok (doing x.v x.image i).stat ≡ true →
-    ((fetched x.v (before x.v x.image i).mem (before x.v x.image i).pc).error ≡ false) × (((doing x.v x.image i).icode == 0) ≡ false)
+error_of : (x : RunContext) (i : ℕ) → is_aok (work_at x.v x.image i).stat ≡ true →
+    ((fetched x.v (state_before x.v x.image i).mem (state_before x.v x.image i).pc).error ≡ false) × (((work_at x.v x.image i).icode == 0) ≡ false)
 error_of x i h = ((sound x i h).0, ap (λ z. z == 0) (fetches x.v x.image i).icode ∙ (sound x i h).2)
 
 differ_same : (a b : Bool) → differ a b ≡ false → a ≡ b
@@ -56,7 +56,7 @@ differ_same false true h = cc
 differ_same false false h = refl
 
 -- by the column
-by_next : (n : Next) (pc vp vc vm target : ℕ) (cnd taken : Bool) → is_itself n ≡ false → is_loaded n ≡ false → (is_branch n ≡ true → cnd ≡ taken) →
+by_next : (n : NextPcColumn) (pc vp vc vm target : ℕ) (cnd taken : Bool) → is_itself n ≡ false → next_is_val_m n ≡ false → (next_is_branch n ≡ true → cnd ≡ taken) →
     IfSome (predicted_pc n vp vc taken) (λ z. target ≡ z) → target ≡ next_address n pc vp vc vm cnd
 by_next Itself pc vp vc vm target cnd taken a l b h = cc
 by_next Fall pc vp vc vm target cnd taken a l b h = h
@@ -68,23 +68,23 @@ fetch_ok : (s : Stat) (e a b : Bool) → s ≡ cond e Adr (cond a Ins (cond b Hl
 fetch_ok s e a b q true h = cc
 fetch_ok s e a b q false h = h
 
-pub predicted_is : (x : Given) (i : ℕ) (p : PipeState) (f : ℕ → ℕ) → Live x.v x.image i → FetchFacts x.v x.s f → LoadsFetched p f (fetched x.v (before x.v x.image i).mem (before x.v x.image i).pc) →
-    stops_at x.v x.image i ≡ false → ret_at x.v x.image i ≡ false → missed_at x i ≡ false → f name.f_predPC ≡ (before x.v x.image (i + 1)).pc
+pub predicted_is : (x : RunContext) (i : ℕ) (p : PipeState) (f : ℕ → ℕ) → RunReaches x.v x.image i → FetchFacts x.v x.s f → LoadsFetched p f (fetched x.v (state_before x.v x.image i).mem (state_before x.v x.image i).pc) →
+    stops_at x.v x.image i ≡ false → ret_at x.v x.image i ≡ false → missed_at x i ≡ false → f name.f_predPC ≡ (state_before x.v x.image (i + 1)).pc
 predicted_is x i p f live q l on no_ret hit =
     let w = fetches x.v x.image i in
-    let ok : is_aok (doing x.v x.image i).stat ≡ true = not-false _ on in
+    let ok : is_aok (work_at x.v x.image i).stat ≡ true = not-false _ on in
     let e = error_of x i ok in
     let no_error : set (f name.imem_error) ≡ false = l.error ∙ e.0 in
-    let icode : f name.imem_icode ≡ (doing x.v x.image i).icode = l.read_icode ∙ sym w.icode in
-    let ifun : f name.imem_ifun ≡ (doing x.v x.image i).ifun = l.read_ifun ∙ sym w.ifun in
-    let vc : f name.f_valC ≡ (doing x.v x.image i).val_c = l.val_c ∙ sym w.val_c in
-    let vp : f name.f_valP ≡ (doing x.v x.image i).val_p = l.val_p ∙ sym w.val_p in
-    let fetch_aok : is_aok (doing x.v x.image i).fetch_stat ≡ true = fetch_ok _ _ _ _ w.fetch_stat (doing x.v x.image i).fault (rw (← (follows x.v x.image i).stat) ok) in
-    let pred : IfSome (predicted_pc (row_of x.v x.image i).next (doing x.v x.image i).val_p (doing x.v x.image i).val_c (predicted_at x i)) (λ z. f name.f_predPC ≡ z) =
+    let icode : f name.imem_icode ≡ (work_at x.v x.image i).icode = l.read_icode ∙ sym w.icode in
+    let ifun : f name.imem_ifun ≡ (work_at x.v x.image i).ifun = l.read_ifun ∙ sym w.ifun in
+    let vc : f name.f_valC ≡ (work_at x.v x.image i).val_c = l.val_c ∙ sym w.val_c in
+    let vp : f name.f_valP ≡ (work_at x.v x.image i).val_p = l.val_p ∙ sym w.val_p in
+    let fetch_aok : is_aok (work_at x.v x.image i).fetch_stat ≡ true = fetch_ok _ _ _ _ w.fetch_stat (work_at x.v x.image i).fault (rw (← (follows x.v x.image i).stat) ok) in
+    let pred : IfSome (predicted_pc (instruction_row x.v x.image i).next (work_at x.v x.image i).val_p (work_at x.v x.image i).val_c (predicted_at x i)) (λ z. f name.f_predPC ≡ z) =
     rw (icode, ifun, vc, vp) at (q.prediction no_error) in
-    by_next (row_of x.v x.image i).next (before x.v x.image i).pc _ _ (doing x.v x.image i).val_m _ (doing x.v x.image i).cnd _
-    (not_implied _ _ (next_at x.v (doing x.v x.image i).icode (known x i ok)) e.1) no_ret
-    (λ b. differ_same _ _ (last (is_aok (doing x.v x.image i).fetch_stat) (is_branch (row_of x.v x.image i).next) _ fetch_aok b hit)) pred
+    by_next (instruction_row x.v x.image i).next (state_before x.v x.image i).pc _ _ (work_at x.v x.image i).val_m _ (work_at x.v x.image i).cnd _
+    (not_implied _ _ (next_at x.v (work_at x.v x.image i).icode (known x i ok)) e.1) no_ret
+    (λ b. differ_same _ _ (last (is_aok (work_at x.v x.image i).fetch_stat) (next_is_branch (instruction_row x.v x.image i).next) _ fetch_aok b hit)) pred
     ∙ sym (follows x.v x.image i).next_pc ∙ sym (pc_next x.v x.image i live on)
   where
     last : (a b d : Bool) → a ≡ true → b ≡ true → a && (b && d) ≡ false → d ≡ false

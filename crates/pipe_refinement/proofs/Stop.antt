@@ -8,47 +8,47 @@ use Rattle.y86_base.specs.declared.parts.Stat.{Stat}
 use Rattle.y86_isa.specs.Blocks.{stored}
 use Rattle.y86_isa.specs.Machine.{is_aok}
 use Rattle.y86_isa.specs.Run.{IsImage, records}
-use Rattle.y86_isa.specs.Step.{machine_after, record_of, retired, told_from}
+use Rattle.y86_isa.specs.Step.{machine_after, record_of, retired, raw_record}
 use Rattle.y86_isa.specs.declared.machine.Machine.{Machine}
 use Rattle.y86_isa.specs.declared.machine.Rec.{Rec}
 use Rattle.y86_isa.proofs.Normal.{normal-bad}
-use Rattle.run_laws.specs.Instructions.{Live, before, doing, stops_at}
-use Rattle.run_laws.specs.Laws.{IsEnd, adr, aok, hlt, ins}
-use Rattle.run_laws.proofs.Statuses.{ends, one_is, stat_is}
-use Rattle.run_laws.proofs.Told.{after_flags, records_next, retired_at}
-use Rattle.run_laws.proofs.Walk.{stopped_is}
-use Rattle.dp_signals.specs.PipeCycle.{ending, movers_of, next, record_of as record_by, retires}
+use Rattle.yis_run_laws.specs.Instructions.{RunReaches, state_before, work_at, stops_at}
+use Rattle.yis_run_laws.specs.Laws.{IsStepStatus, adr, aok, hlt, ins}
+use Rattle.yis_run_laws.proofs.Statuses.{ends, one_is, stat_is}
+use Rattle.yis_run_laws.proofs.Told.{after_flags, records_next, retired_at}
+use Rattle.yis_run_laws.proofs.Walk.{stopped_is}
+use Rattle.dp_signals.specs.PipeCycle.{ending, updates_of, next, record_of as record_by, retires}
 use Rattle.dp_signals.specs.PipeNames as name
 use Rattle.dp_signals.specs.PipeRows.{PipeHardware}
-use Rattle.dp_signals.specs.PipeRun.{Pipe, after_cycle, end_pc, has_stopped}
-use Rattle.dp_signals.specs.declared.movers.Ending.TheVariants.{Stopped}
+use Rattle.dp_signals.specs.PipeRun.{PipeHistory, after_cycle, end_pc, ended_by_status}
+use Rattle.dp_signals.specs.declared.movers.CycleEnd.TheVariants.{Stopped}
 use Rattle.pipe_refinement.specs.Facts.{AlwaysFacts}
-use Rattle.pipe_refinement.specs.Invariant.{Given, Inv}
-use Rattle.pipe_refinement.specs.Kinds.{Config, count, in_m, in_w, is_good}
+use Rattle.pipe_refinement.specs.Invariant.{RunContext, CouplingInvariant}
+use Rattle.pipe_refinement.specs.Kinds.{Schedule, count, in_m, in_w, is_good}
 use Rattle.pipe_refinement.proofs.Older.{w_alone}
 use Rattle.pipe_refinement.proofs.Right.{none, one}
 use Rattle.pipe_refinement.proofs.Values.{no_store, same_flags, stored_none}
 use Rattle.pipe_refinement.proofs.Words.{live_good}
 
 -- what is so after a stop
-pub record Ended (x : Given) (p : Pipe) : Type 0 where
+pub record Ended (x : RunContext) (p : PipeHistory) : Type 0 where
   pub stopped : is_aok p.end ≡ false
-  pub halted : has_stopped p.end ≡ true
+  pub halted : ended_by_status p.end ≡ true
   pub records_are : p.records ≡ records x.v x.image (length p.records)
-  pub regs : p.state.regs ≡ (before x.v x.image (length p.records)).regs
-  pub flags : p.state.flags ≡ (before x.v x.image (length p.records)).flags
-  pub mem : p.state.mem ≡ (before x.v x.image (length p.records)).mem
-  pub pc : end_pc p.state p.end ≡ (before x.v x.image (length p.records)).pc
-  pub stat : p.end ≡ (before x.v x.image (length p.records)).stat
+  pub regs : p.state.regs ≡ (state_before x.v x.image (length p.records)).regs
+  pub flags : p.state.flags ≡ (state_before x.v x.image (length p.records)).flags
+  pub mem : p.state.mem ≡ (state_before x.v x.image (length p.records)).mem
+  pub pc : end_pc p.state p.end ≡ (state_before x.v x.image (length p.records)).pc
+  pub stat : p.end ≡ (state_before x.v x.image (length p.records)).stat
   pub not_pip : p.end ≢ Pip
 
-end_stops : (s : Stat) → IsEnd s → is_aok s ≡ false → has_stopped s ≡ true
+end_stops : (s : Stat) → IsStepStatus s → is_aok s ≡ false → ended_by_status s ≡ true
 end_stops _ aok h = cc
 end_stops _ hlt h = refl
 end_stops _ adr h = refl
 end_stops _ ins h = refl
 
-ends_not_pip : (x : Given) (i : ℕ) → (doing x.v x.image i).stat ≢ Pip
+ends_not_pip : (x : RunContext) (i : ℕ) → (work_at x.v x.image i).stat ≢ Pip
 ends_not_pip x i e = absurd (by _ (stat_is x.v x.image i) e)
   where
     by : (s : Stat) → stat_of (stat_number s) ≡ s → s ≡ Pip → ⊥
@@ -66,13 +66,13 @@ ends_not_pip x i e = absurd (by _ (stat_is x.v x.image i) e)
         no_pip : Bad ≡ Pip → ⊥
         no_pip q = false≢true (sym (ap is_bad q))
 
-module _ (x : Given) (t : ℕ) (c : Config) (p : Pipe) (f : ℕ → ℕ) (image : IsImage x.image)
-    (i : Inv x t c p.state p.records) (b : PipeHardware x.v p.state f) (a : AlwaysFacts x.v p.state f c)
+module _ (x : RunContext) (t : ℕ) (c : Schedule) (p : PipeHistory) (f : ℕ → ℕ) (image : IsImage x.image)
+    (i : CouplingInvariant x t c p.state p.records) (b : PipeHardware x.v p.state f) (a : AlwaysFacts x.v p.state f c)
     (w : is_good c.w ≡ true) (s : stops_at x.v x.image (in_w c) ≡ true) where
-  abbrev q : Pipe
+  abbrev q : PipeHistory
   q = after_cycle p f
 
-  live : Live x.v x.image (in_w c)
+  live : RunReaches x.v x.image (in_w c)
   live = i.live (in_w c) (omega (arith, ap count w))
 
   no_e : is_good c.e ≡ false
@@ -81,10 +81,10 @@ module _ (x : Given) (t : ℕ) (c : Config) (p : Pipe) (f : ℕ → ℕ) (image 
   no_m : is_good c.m ≡ false
   no_m = (w_alone x c i.legal w s).2
 
-  bad : is_aok (doing x.v x.image (in_w c)).stat ≡ false
+  bad : is_aok (work_at x.v x.image (in_w c)).stat ≡ false
   bad = not-true _ s
 
-  stat_now : f name.Stat ≡ stat_number (doing x.v x.image (in_w c)).stat
+  stat_now : f name.Stat ≡ stat_number (work_at x.v x.image (in_w c)).stat
   stat_now = a.stat ∙ rw w (i.good_w w).stat
 
   not_one : (f name.Stat == 1) ≡ false
@@ -97,7 +97,7 @@ module _ (x : Given) (t : ℕ) (c : Config) (p : Pipe) (f : ℕ → ℕ) (image 
   stops = rw not_one refl
 
   same_w : (next p.state f).w ≡ p.state.w
-  unfolding next movers_of
+  unfolding next updates_of
   same_w = rw stops refl
 
   index : in_m c ≡ in_w c + 1
@@ -117,10 +117,10 @@ module _ (x : Given) (t : ℕ) (c : Config) (p : Pipe) (f : ℕ → ℕ) (image 
     stat = stat_of p.state.w.stat;
   }
 
-  record_is : record_by p.state f ≡ record_of (before x.v x.image (in_w c)) (doing x.v x.image (in_w c))
+  record_is : record_by p.state f ≡ record_of (state_before x.v x.image (in_w c)) (work_at x.v x.image (in_w c))
   record_is =
       let h = i.good_w w in
-      normal-bad (told_from (before x.v x.image (in_w c)).pc (doing x.v x.image (in_w c)) (machine_after (before x.v x.image (in_w c)) (doing x.v x.image (in_w c))).flags) told bad
+      normal-bad (raw_record (state_before x.v x.image (in_w c)).pc (work_at x.v x.image (in_w c)) (machine_after (state_before x.v x.image (in_w c)) (work_at x.v x.image (in_w c))).flags) told bad
       (record {
         pc = h.trail.pc;
         icode = h.icode;
@@ -132,44 +132,44 @@ module _ (x : Given) (t : ℕ) (c : Config) (p : Pipe) (f : ℕ → ℕ) (image 
   live_now : p.state.w.live ≡ true
   live_now = i.live_w ∙ live_good c.w w
 
-  added : retires p.state f ≡ Some (record_of (before x.v x.image (in_w c)) (doing x.v x.image (in_w c)))
+  added : retires p.state f ≡ Some (record_of (state_before x.v x.image (in_w c)) (work_at x.v x.image (in_w c)))
   unfolding retires
   added = rw live_now (ap Some record_is)
 
   records_now : q.records ≡ records x.v x.image (in_w c + 1)
   records_now =
       ap (λ o. p.records ++ option_to_list o) (added ∙ sym (retired_at x.v x.image (in_w c) live))
-      ∙ ap (λ z. z ++ option_to_list (retired x.v (before x.v x.image (in_w c)))) i.recs ∙ sym (records_next x.v x.image (in_w c))
+      ∙ ap (λ z. z ++ option_to_list (retired x.v (state_before x.v x.image (in_w c)))) i.recs ∙ sym (records_next x.v x.image (in_w c))
 
   length_now : length q.records ≡ in_w c + 1
   length_now = length-append p.records (option_to_list (retires p.state f)) ∙ rw added (omega (arith, i.counted))
 
-  final : before x.v x.image (in_w c + 1) ≡ record (before x.v x.image (in_w c)) { stat = (doing x.v x.image (in_w c)).stat }
+  final : state_before x.v x.image (in_w c + 1) ≡ record (state_before x.v x.image (in_w c)) { stat = (work_at x.v x.image (in_w c)).stat }
   final = stopped_is x.v x.image (in_w c) live s
 
-  at : {A : Type 0} (g : Machine → A) (y : A) → y ≡ g (before x.v x.image (in_w c + 1)) → y ≡ g (before x.v x.image (length q.records))
-  at g y e = e ∙ ap (λ j. g (before x.v x.image j)) (sym length_now)
+  at : {A : Type 0} (g : Machine → A) (y : A) → y ≡ g (state_before x.v x.image (in_w c + 1)) → y ≡ g (state_before x.v x.image (length q.records))
+  at g y e = e ∙ ap (λ j. g (state_before x.v x.image j)) (sym length_now)
 
-  end_is : q.end ≡ (doing x.v x.image (in_w c)).stat
+  end_is : q.end ≡ (work_at x.v x.image (in_w c)).stat
   end_is = rw stops (ap stat_of stat_now ∙ stat_is x.v x.image (in_w c))
 
-  halted_now : has_stopped q.end ≡ true
+  halted_now : ended_by_status q.end ≡ true
   halted_now = rw end_is (end_stops _ (ends x.v x.image (in_w c)) bad)
 
   regs_now : (next p.state f).regs ≡ p.state.regs
   unfolding next
   regs_now = rw w_not_one refl
 
-  flags_now : (next p.state f).flags ≡ (before x.v x.image (in_w c + 1)).flags
+  flags_now : (next p.state f).flags ≡ (state_before x.v x.image (in_w c + 1)).flags
   unfolding next
   flags_now =
       same_flags x t c p.state f p.records image i b a.access a.flags no_e ∙ i.flags
-      ∙ ap (λ j. (before x.v x.image j).flags) (none c.m (in_m c) no_m ∙ index)
+      ∙ ap (λ j. (state_before x.v x.image j).flags) (none c.m (in_m c) no_m ∙ index)
 
-  mem_now : (next p.state f).mem ≡ (before x.v x.image (in_w c + 1)).mem
+  mem_now : (next p.state f).mem ≡ (state_before x.v x.image (in_w c + 1)).mem
   unfolding next
   mem_now =
-      ap (stored p.state.mem) (no_store x t c p.state f p.records image i b a.access no_m) ∙ stored_none p.state.mem ∙ i.mem ∙ ap (λ j. (before x.v x.image j).mem) index
+      ap (stored p.state.mem) (no_store x t c p.state f p.records image i b a.access no_m) ∙ stored_none p.state.mem ∙ i.mem ∙ ap (λ j. (state_before x.v x.image j).mem) index
 
   pub ended_now : Ended x q
   ended_now = record {

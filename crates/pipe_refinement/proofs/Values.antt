@@ -5,42 +5,42 @@ use Rattle.y86_base.specs.Stat.{stat_number}
 use Rattle.y86_base.specs.declared.parts.Stat.TheVariants.{Adr}
 use Rattle.y86_base.specs.declared.parts.Stat.{Stat}
 use Rattle.y86_isa.specs.Blocks.{alu_flags, alu_function, condition, data_address, data_error, data_read, data_store, data_word, is_load, is_store, operand_a, operand_b, stored}
-use Rattle.y86_isa.specs.RowTests.{accesses, carries_p, has_operand_a, is_branch, loads_a, stores_a, stores_p, takes_a, takes_b, uses_e}
+use Rattle.y86_isa.specs.RowTests.{accesses, select_a_is_val_p, has_operand_a, next_is_branch, address_is_val_a, stores_val_a, stores_val_p, operand_is_val_a, operand_is_val_b, address_is_val_e}
 use Rattle.y86_isa.specs.Run.{IsImage}
 use Rattle.y86_isa.specs.Table.{row}
-use Rattle.y86_isa.specs.declared.columns.Access.TheVariants.{LoadA, LoadE, NoMem, StoreA, StoreP}
-use Rattle.y86_isa.specs.declared.columns.Access.{Access}
+use Rattle.y86_isa.specs.declared.columns.MemoryColumn.TheVariants.{LoadA, LoadE, NoMem, StoreA, StoreP}
+use Rattle.y86_isa.specs.declared.columns.MemoryColumn.{MemoryColumn}
 use Rattle.y86_isa.specs.declared.columns.Row.{Row}
-use Rattle.y86_isa.specs.declared.columns.TermA.TheVariants.{Minus8, NoA, Plus8, ValA, ValC}
-use Rattle.y86_isa.specs.declared.columns.TermA.{TermA}
-use Rattle.y86_isa.specs.declared.columns.TermB.TheVariants.{NoB, ValB, Zero}
-use Rattle.y86_isa.specs.declared.columns.TermB.{TermB}
+use Rattle.y86_isa.specs.declared.columns.AluAColumn.TheVariants.{Minus8, NoA, Plus8, ValA, ValC}
+use Rattle.y86_isa.specs.declared.columns.AluAColumn.{AluAColumn}
+use Rattle.y86_isa.specs.declared.columns.AluBColumn.TheVariants.{NoB, ValB, Zero}
+use Rattle.y86_isa.specs.declared.columns.AluBColumn.{AluBColumn}
 use Rattle.y86_isa.specs.declared.machine.Rec.{Rec}
 use Rattle.y86_isa.specs.declared.work.Work.{Work}
 use Rattle.y86_isa.proofs.RowsAgree.{operands_agree, sources_agree}
 use Rattle.y86_isa.proofs.RowColumns.{error_by, read_by}
-use Rattle.run_laws.specs.Instructions.{doing, row_of}
-use Rattle.run_laws.proofs.Statuses.{stat_one}
-use Rattle.run_laws.proofs.Walk.{aok-from_operand, follows, source_a, source_b}
+use Rattle.yis_run_laws.specs.Instructions.{work_at, instruction_row}
+use Rattle.yis_run_laws.proofs.Statuses.{stat_one}
+use Rattle.yis_run_laws.proofs.Walk.{aok-from_operand, follows, source_a, source_b}
 use Rattle.dp_signals.specs.PipeCycle.{next_flags, store_of}
 use Rattle.dp_signals.specs.PipeNames as name
 use Rattle.dp_signals.specs.PipeRows.{PipeHardware}
 use Rattle.y86_base.specs.Words.{set}
 use Rattle.dp_signals.specs.declared.pipe_state.PipeState.{PipeState}
 use Rattle.dp_signals.proofs.Bits.{set_bit}
-use Rattle.pipe_refinement.specs.Facts.{AccessFacts, AddressIs, ExecuteFacts, FlagsIs, exempt, late_dst_e}
-use Rattle.pipe_refinement.specs.Invariant.{Given, InE, InM, Inv}
-use Rattle.pipe_refinement.specs.Kinds.{Config, in_e, in_m, is_good, is_wrong}
+use Rattle.pipe_refinement.specs.Facts.{AccessFacts, AddressIs, ExecuteFacts, FlagsIs, store_word_comes_late, late_dst_e}
+use Rattle.pipe_refinement.specs.Invariant.{RunContext, HoldsInE, HoldsInM, CouplingInvariant}
+use Rattle.pipe_refinement.specs.Kinds.{Schedule, in_e, in_m, is_good, is_wrong}
 use Rattle.pipe_refinement.proofs.Views.{and_on}
 
-operand_a-same : (t : TermA) (a a' val_c : ℕ) → (takes_a t ≡ true → a ≡ a') → operand_a t a val_c ≡ operand_a t a' val_c
+operand_a-same : (t : AluAColumn) (a a' val_c : ℕ) → (operand_is_val_a t ≡ true → a ≡ a') → operand_a t a val_c ≡ operand_a t a' val_c
 operand_a-same NoA a a' val_c h = refl
 operand_a-same ValA a a' val_c h = h refl
 operand_a-same ValC a a' val_c h = refl
 operand_a-same Minus8 a a' val_c h = refl
 operand_a-same Plus8 a a' val_c h = refl
 
-operand_b-same : (t : TermB) (b b' : ℕ) → (takes_b t ≡ true → b ≡ b') → operand_b t b ≡ operand_b t b'
+operand_b-same : (t : AluBColumn) (b b' : ℕ) → (operand_is_val_b t ≡ true → b ≡ b') → operand_b t b ≡ operand_b t b'
 operand_b-same NoB b b' h = refl
 operand_b-same Zero b b' h = refl
 operand_b-same ValB b b' h = h refl
@@ -52,7 +52,7 @@ no_exempt : (lf s g : Bool) → s ≡ false → (lf && (s && g)) ≡ false
 no_exempt true s g e = rw e refl
 no_exempt false s g e = refl
 
-address_by : (a : Access) (va va' ve ve' : ℕ) → (loads_a a ≡ true → va ≡ va') → (uses_e a ≡ true → ve ≡ ve') → data_address a va ve ≡ data_address a va' ve'
+address_by : (a : MemoryColumn) (va va' ve ve' : ℕ) → (address_is_val_a a ≡ true → va ≡ va') → (address_is_val_e a ≡ true → ve ≡ ve') → data_address a va ve ≡ data_address a va' ve'
 address_by NoMem va va' ve ve' g h = refl
 address_by StoreA va va' ve ve' g h = h refl
 address_by StoreP va va' ve ve' g h = h refl
@@ -60,8 +60,8 @@ address_by LoadE va va' ve ve' g h = h refl
 address_by LoadA va va' ve ve' g h = g refl
 
 -- the word that is stored: M's valA
-word_by : (a : Access) (branch : Bool) (va vp m_a x y : ℕ) (fault : Bool) → (accesses a ≡ true → x ≡ y) →
-    (stores_a a ≡ true → m_a ≡ va) → (stores_p a ≡ true → m_a ≡ vp) →
+word_by : (a : MemoryColumn) (branch : Bool) (va vp m_a x y : ℕ) (fault : Bool) → (accesses a ≡ true → x ≡ y) →
+    (stores_val_a a ≡ true → m_a ≡ va) → (stores_val_p a ≡ true → m_a ≡ vp) →
     data_store x m_a (is_store a) fault ≡ data_store y (data_word a va vp) (is_store a) fault
 unfolding data_store
 word_by NoMem branch va vp m_a x y fault h s p = refl
@@ -74,27 +74,27 @@ pub stored_none : (memory : List ℕ) → stored memory None ≡ memory
 unfolding stored
 stored_none memory = refl
 
-module _ (x : Given) (t : ℕ) (c : Config) (p : PipeState) (f : ℕ → ℕ) (rs : List Rec) (image : IsImage x.image)
-    (i : Inv x t c p rs) (b : PipeHardware x.v p f) (a : AccessFacts x.v p f c) where
+module _ (x : RunContext) (t : ℕ) (c : Schedule) (p : PipeState) (f : ℕ → ℕ) (rs : List Rec) (image : IsImage x.image)
+    (i : CouplingInvariant x t c p rs) (b : PipeHardware x.v p f) (a : AccessFacts x.v p f c) where
   -- ---- M
   module _ (me : AddressIs x.v p f c) (m : is_good c.m ≡ true) where
-    h : InM x (in_m c) p.m
+    h : HoldsInM x (in_m c) p.m
     h = i.good_m m
 
     abbrev w : Work
-    w = doing x.v x.image (in_m c)
+    w = work_at x.v x.image (in_m c)
 
     abbrev r : Row
-    r = row_of x.v x.image (in_m c)
+    r = instruction_row x.v x.image (in_m c)
 
     row_m : row x.v p.m.icode ≡ r
     row_m = ap (row x.v) h.icode
 
-    kept : stores_a r.memory || loads_a r.memory ≡ true → p.m.val_a ≡ w.val_a
+    kept : stores_val_a r.memory || address_is_val_a r.memory ≡ true → p.m.val_a ≡ w.val_a
     kept e = h.val_a (or_left _ _ e) ∙ rw ((sources_agree x.v w.icode).one_carried e) refl
 
-    kept_p : stores_p r.memory ≡ true → p.m.val_a ≡ w.val_p
-    kept_p e = let q : carries_p r ≡ true = or_left _ _ e in h.val_a (or_right _ _ q) ∙ rw q refl
+    kept_p : stores_val_p r.memory ≡ true → p.m.val_a ≡ w.val_p
+    kept_p e = let q : select_a_is_val_p r ≡ true = or_left _ _ e in h.val_a (or_right _ _ q) ∙ rw q refl
 
     address : accesses r.memory ≡ true → f name.mem_addr ≡ w.address
     address e =
@@ -123,7 +123,7 @@ module _ (x : Given) (t : ℕ) (c : Config) (p : PipeState) (f : ℕ → ℕ) (r
     store_is =
         ap (λ z. data_store (f name.mem_addr) p.m.val_a z (set (f name.dmem_error))) m_writes
         ∙ ap (data_store (f name.mem_addr) p.m.val_a (is_store r.memory)) fault_is
-        ∙ word_by r.memory (is_branch r.next) w.val_a w.val_p _ _ _ w.fault address (λ s. kept (or_left _ _ s)) kept_p
+        ∙ word_by r.memory (next_is_branch r.next) w.val_a w.val_p _ _ _ w.fault address (λ s. kept (or_left _ _ s)) kept_p
         ∙ sym (follows x.v x.image (in_m c)).store
 
     pub m_stat_is : f name.m_stat ≡ cond (set (f name.dmem_error)) 3 p.m.stat → f name.m_stat ≡ stat_number w.stat
@@ -145,14 +145,14 @@ module _ (x : Given) (t : ℕ) (c : Config) (p : PipeState) (f : ℕ → ℕ) (r
 
   -- ---- E
   module _ (fl : FlagsIs x.v p f c) (ex : ExecuteFacts x.v x.s p f c) (e : is_good c.e ≡ true) where
-    he : InE x (in_e c) (exempt x.s x.v p (is_good c.m)) p.e
+    he : HoldsInE x (in_e c) (store_word_comes_late x.s x.v p (is_good c.m)) p.e
     he = i.good_e e
 
     abbrev we : Work
-    we = doing x.v x.image (in_e c)
+    we = work_at x.v x.image (in_e c)
 
     abbrev re : Row
-    re = row_of x.v x.image (in_e c)
+    re = instruction_row x.v x.image (in_e c)
 
     row_e : row x.v p.e.icode ≡ re
     row_e = ap (row x.v) he.icode
@@ -166,12 +166,12 @@ module _ (x : Given) (t : ℕ) (c : Config) (p : PipeState) (f : ℕ → ℕ) (r
     pub late_is : late_dst_e x.v p f ≡ we.dst_e
     late_is = rw (row_e, cnd_is, he.dst_e) refl ∙ sym (follows x.v x.image (in_e c)).dst_e
 
-    takes : takes_a re.alu_a ≡ true → p.e.val_a ≡ we.val_a
+    takes : operand_is_val_a re.alu_a ≡ true → p.e.val_a ≡ we.val_a
     takes k =
         he.val_a (lt_ne _ (source_a x.v x.image (in_e c) image ((sources_agree x.v we.icode).alu_a k)))
-        (no_exempt x.s.lf _ _ (ap (λ r. stores_a r.memory) row_e ∙ late (stores_a re.memory) refl))
+        (no_exempt x.s.lf _ _ (ap (λ r. stores_val_a r.memory) row_e ∙ late (stores_val_a re.memory) refl))
       where
-        late : (s : Bool) → stores_a re.memory ≡ s → stores_a re.memory ≡ false
+        late : (s : Bool) → stores_val_a re.memory ≡ s → stores_val_a re.memory ≡ false
         late true s = absurd (false≢true (sym ((sources_agree x.v we.icode).stored s) ∙ k))
         late false s = s
 

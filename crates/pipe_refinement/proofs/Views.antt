@@ -1,17 +1,17 @@
 -- The view of a configuration, and its youngest good instruction.
 use Rattle.std.proofs.Common.{◌≡◌, ◌+◌, Bool, true, false, ◌&&◌, refl, ap, arith}
 use Rattle.std.proofs.lemmas.Bool.{and_left}
-use Rattle.run_laws.specs.Instructions.{stops_at}
-use Rattle.pipe_refinement.specs.Invariant.{Given, view_of}
-use Rattle.pipe_refinement.specs.Kinds.{Config, count, in_d, in_e, in_f, in_m, in_w, is_good, is_wrong}
-use Rattle.pipe_motion.specs.Slots.{View}
+use Rattle.yis_run_laws.specs.Instructions.{stops_at}
+use Rattle.pipe_refinement.specs.Invariant.{RunContext, run_flow}
+use Rattle.pipe_refinement.specs.Kinds.{Schedule, count, in_d, in_e, in_f, in_m, in_w, is_good, is_wrong}
+use Rattle.pipe_motion.specs.Flow.{Flow}
 
 pub and_on : (a b : Bool) → a ≡ true → a && b ≡ b
 and_on true b h = refl
 and_on false b h = cc
 
 -- a view by its slots, so that the tests of a view compute on truths
-pub record Seen (x : Given) (c : Config) (y : View) : Type 0 where
+pub record Seen (x : RunContext) (c : Schedule) (y : Flow) : Type 0 where
   pub good_d : y.d.good ≡ is_good c.d
   pub good_e : y.e.good ≡ is_good c.e
   pub good_m : y.m.good ≡ is_good c.m
@@ -26,8 +26,8 @@ pub record Seen (x : Given) (c : Config) (y : View) : Type 0 where
   pub stops_w : is_good c.w ≡ true → y.w.stops ≡ stops_at x.v x.image (in_w c)
   pub none_w : is_good c.w ≡ false → y.w.stops ≡ false
 
-pub seen : (x : Given) (c : Config) → Seen x c (view_of x c)
-unfolding view_of
+pub seen : (x : RunContext) (c : Schedule) → Seen x c (run_flow x c)
+unfolding run_flow
 seen x c =
     record {
       good_d = refl;
@@ -46,14 +46,14 @@ seen x c =
     }
 
 -- which stage has the youngest good instruction, and its index
-pub data Youngest (c : Config) : Type 0 where
+pub data Youngest (c : Schedule) : Type 0 where
   at_d : is_good c.d ≡ true → in_f c ≡ in_d c + 1 → Youngest c
   at_e : is_good c.d ≡ false → is_good c.e ≡ true → in_f c ≡ in_e c + 1 → Youngest c
   at_m : is_good c.d ≡ false → is_good c.e ≡ false → is_good c.m ≡ true → in_f c ≡ in_m c + 1 → Youngest c
   at_w : is_good c.d ≡ false → is_good c.e ≡ false → is_good c.m ≡ false → is_good c.w ≡ true → in_f c ≡ in_w c + 1 → Youngest c
   at_none : is_good c.d ≡ false → is_good c.e ≡ false → is_good c.m ≡ false → is_good c.w ≡ false → in_f c ≡ c.retired → Youngest c
 
-pub youngest : (c : Config) → Youngest c
+pub youngest : (c : Schedule) → Youngest c
 youngest c = by _ _ _ _ refl refl refl refl
   where
     by : (d e m w : Bool) → is_good c.d ≡ d → is_good c.e ≡ e → is_good c.m ≡ m → is_good c.w ≡ w → Youngest c

@@ -5,10 +5,10 @@ use Rattle.y86_base.specs.declared.parts.Variant.{Variant}
 use Rattle.y86_isa.specs.declared.machine.Machine.{Machine}
 use Rattle.y86_isa.specs.Run.{run, records}
 use Rattle.hcl_types.specs.declared.term.Term.{Term}
-use Rattle.dp_signals.specs.PipeRun.{Pipe, PipeRun, has_stopped, end_pc}
+use Rattle.dp_signals.specs.PipeRun.{PipeHistory, PipeRun, ended_by_status, end_pc}
 
 -- a machine that has stopped holds what the machine of the instructions holds, and that one doesn't go on either
-pub record StopsAs (p : Pipe) (m : Machine) : Type 0 where
+pub record StopsAs (p : PipeHistory) (m : Machine) : Type 0 where
   pub registers : p.state.regs ≡ m.regs
   pub flags : p.state.flags ≡ m.flags
   pub memory : p.state.mem ≡ m.mem
@@ -21,9 +21,9 @@ pub record StopsAs (p : Pipe) (m : Machine) : Type 0 where
 -- record that isn't AOK retires stops it. It never ends by a register that is stalled and bubbled. By the end of cycle 5n, n instructions
 -- have retired, or it has stopped.
 pub record Refines (v : Variant) (terms : List Term) (image : List ℕ) (k : ℕ) : Type 0 where
-  pub records : (p : Pipe) → PipeRun v terms image k p → p.records ≡ records v image (length p.records)
-  pub registers : (p : Pipe) → PipeRun v terms image k p → p.state.regs ≡ (run v image (length p.records)).regs
-  pub stop : (p : Pipe) → PipeRun v terms image k p → has_stopped p.end ≡ true → StopsAs p (run v image (length p.records))
-  pub stops_at_once : (p : Pipe) → PipeRun v terms image k p → (run v image (length p.records)).stat ≢ Aok → has_stopped p.end ≡ true
-  pub never_pip : (p : Pipe) → PipeRun v terms image k p → p.end ≢ Pip
-  pub five_cycles : (n : ℕ) (p : Pipe) → 5 * n ≤ k → PipeRun v terms image (5 * n) p → (n ≤ length p.records) ⊎ (has_stopped p.end ≡ true)
+  pub records : (p : PipeHistory) → PipeRun v terms image k p → p.records ≡ records v image (length p.records)
+  pub registers : (p : PipeHistory) → PipeRun v terms image k p → p.state.regs ≡ (run v image (length p.records)).regs
+  pub stop : (p : PipeHistory) → PipeRun v terms image k p → ended_by_status p.end ≡ true → StopsAs p (run v image (length p.records))
+  pub stops_at_once : (p : PipeHistory) → PipeRun v terms image k p → (run v image (length p.records)).stat ≢ Aok → ended_by_status p.end ≡ true
+  pub never_pip : (p : PipeHistory) → PipeRun v terms image k p → p.end ≢ Pip
+  pub five_cycles : (n : ℕ) (p : PipeHistory) → 5 * n ≤ k → PipeRun v terms image (5 * n) p → (n ≤ length p.records) ⊎ (ended_by_status p.end ≡ true)

@@ -19,43 +19,43 @@ use Rattle.hazard_rules.specs.Parts.{AreRules}
 use Rattle.pipe_fields.specs.Layout.{bit_count}
 use Rattle.pipe_motion.specs.declared.settings.Settings.{Settings}
 use Rattle.pipe_obligations.specs.Rules.{obligation, rule_count}
-use Rattle.pipe_obligations.specs.Settled.{Everywhere, PipeControls}
-use Rattle.rule_gates.specs.declared.rules.Rule.{Rule}
-use Rattle.decisions.specs.Decisions.{IsAlwaysTrue}
-use Rattle.verdicts.specs.Decisions.{AreGatesOf, IsDecision}
-use Rattle.verdicts.specs.declared.decision.Failure.{Failure}
-use Rattle.verdicts.proofs.AtomBits.{AreApart, apart_added}
-use Rattle.verdicts.proofs.Decided.{no_rule}
+use Rattle.pipe_obligations.specs.FileSettings.{Everywhere, PipeControls}
+use Rattle.ctl_rules.specs.declared.rules.Rule.{Rule}
+use Rattle.bdd_decide.specs.Decisions.{IsAlwaysTrue}
+use Rattle.ctl_verdicts.specs.Decisions.{HaveGatesOfNet, IsRuleDecision}
+use Rattle.ctl_verdicts.specs.declared.decision.FailedRule.{FailedRule}
+use Rattle.ctl_verdicts.proofs.AtomBits.{AreApart, apart_added}
+use Rattle.ctl_verdicts.proofs.Decided.{no_rule}
 use Rattle.control_check.proofs.PipeVerdict.{everywhere}
 use Rattle.control_check.proofs.Tails.{from_drop}
 use Rattle.pipe_diagnosis.specs.Diagnosis.{Fails}
 use Rattle.pipe_refusals.specs.Answered.{AreRefuted, IsLeast, IsRefutation, is_refuted}
 use Rattle.pipe_diagnosis.specs.declared.refusal.Refutation.{Refutation}
 
-pub gates_from : (net : Gates) (list : List Rule) (n : ℕ) → AreGatesOf net list → AreGatesOf net (drop n list)
+pub gates_from : (net : Gates) (list : List Rule) (n : ℕ) → HaveGatesOfNet net list → HaveGatesOfNet net (drop n list)
 gates_from net list n h k r at = h (n + k) r (sym (from_drop list n k) ∙ at)
 
 module _ (v : Variant) (terms : List Term) (s : Settings) (net : Gates) (list : List Rule) (rules : AreRules v terms s net list) where
-  pub gates_of : AreGatesOf net list
+  pub gates_of : HaveGatesOfNet net list
   gates_of = λ k r at. (rules.gates k r at).within
 
   -- the failure's rule in the whole list
-  there : (from : ℕ) (failure : Failure) (h : IsDecision net (drop from list) (Some failure)) → slice_get list (from + h.0) ≡ Some h.1
+  there : (from : ℕ) (failure : FailedRule) (h : IsRuleDecision net (drop from list) (Some failure)) → slice_get list (from + h.0) ≡ Some h.1
   there from failure h = sym (from_drop list from h.0) ∙ (h.2).there
 
-  place : (from : ℕ) (failure : Failure) (h : IsDecision net (drop from list) (Some failure)) → failure.rule ≡ from + h.0 + 1
+  place : (from : ℕ) (failure : FailedRule) (h : IsRuleDecision net (drop from list) (Some failure)) → failure.rule ≡ from + h.0 + 1
   place from failure h = h.3 ∙ rules.numbers (from + h.0) h.1 (there from failure h)
 
-  pub first_rule : (from : ℕ) (failure : Failure) → IsDecision net (drop from list) (Some failure) → 1 ≤ failure.rule
+  pub first_rule : (from : ℕ) (failure : FailedRule) → IsRuleDecision net (drop from list) (Some failure) → 1 ≤ failure.rule
   first_rule from failure h = let at = place from failure h in omega (arith, at)
 
-  pub next_rule : (from : ℕ) (failure : Failure) → IsDecision net (drop from list) (Some failure) → from < failure.rule
+  pub next_rule : (from : ℕ) (failure : FailedRule) → IsRuleDecision net (drop from list) (Some failure) → from < failure.rule
   next_rule from failure h = let at = place from failure h in omega (arith, at)
 
-  pub within_list : (from : ℕ) (failure : Failure) → IsDecision net (drop from list) (Some failure) → failure.rule ≤ length list
+  pub within_list : (from : ℕ) (failure : FailedRule) → IsRuleDecision net (drop from list) (Some failure) → failure.rule ≤ length list
   within_list from failure h = let at = place from failure h in let inside = slice_get_within list (from + h.0) h.1 (there from failure h) in omega (arith, at, inside)
 
-  pub last_rule : (from : ℕ) (failure : Failure) → IsDecision net (drop from list) (Some failure) → failure.rule ≤ rule_count
+  pub last_rule : (from : ℕ) (failure : FailedRule) → IsRuleDecision net (drop from list) (Some failure) → failure.rule ≤ rule_count
   last_rule from failure h = let inside = within_list from failure h in let count = rules.count in omega (arith, inside, count)
 
   module _ (ids : List ℕ) (order : IsOrderOf pipe_rows terms ids) (atoms : List Atom) (are : AreAtoms pipe_rows terms atoms) where
@@ -65,7 +65,7 @@ module _ (v : Variant) (terms : List Term) (s : Settings) (net : Gates) (list : 
     apart : AreApart rules.atoms
     apart = let found = leaves_exist pipe_rows terms ids order in subst AreApart (sym (rules.are.are found.0 found.1)) (apart_added [] _ tt)
 
-    pub fails_at : (from : ℕ) (failure : Failure) → IsDecision net (drop from list) (Some failure) → Fails v terms s atoms failure.rule failure.valuation.bits
+    pub fails_at : (from : ℕ) (failure : FailedRule) → IsRuleDecision net (drop from list) (Some failure) → Fails v terms s atoms failure.rule failure.valuation.bits
     fails_at from failure h =
         let k = from + h.0 in
         let at = there from failure h in
@@ -74,10 +74,10 @@ module _ (v : Variant) (terms : List Term) (s : Settings) (net : Gates) (list : 
         let own : Fails v terms s rules.atoms (k + 1) w = λ α cv given controls. sym ((rules.gates k h.1 at).is w α cv given controls) ∙ (h.2).least.holds in
         subst (λ (xs : List Atom). Fails v terms s xs failure.rule w) same_atoms (subst (λ n. Fails v terms s rules.atoms n w) number own)
 
-    pub size_at : (from : ℕ) (failure : Failure) → IsDecision net (drop from list) (Some failure) → length failure.valuation.bits ≡ bit_count + length atoms
+    pub size_at : (from : ℕ) (failure : FailedRule) → IsRuleDecision net (drop from list) (Some failure) → length failure.valuation.bits ≡ bit_count + length atoms
     size_at from failure h = (h.2).least.size ∙ (rules.vars ∙ ap (λ (xs : List Atom). bit_count + length xs) same_atoms)
 
-    pub least_at : (from : ℕ) (failure : Failure) → IsDecision net (drop from list) (Some failure) → IsLeast v terms s atoms failure.rule failure.valuation.bits
+    pub least_at : (from : ℕ) (failure : FailedRule) → IsRuleDecision net (drop from list) (Some failure) → IsLeast v terms s atoms failure.rule failure.valuation.bits
     least_at from failure h =
         subst (λ (xs : List Atom). IsLeast v terms s xs failure.rule w) same_atoms (subst (λ n. IsLeast v terms s rules.atoms n w) (sym (place from failure h)) own)
       where
@@ -105,7 +105,7 @@ module _ (v : Variant) (terms : List Term) (s : Settings) (net : Gates) (list : 
     none_refuted = record { each = tt; rising = omega arith; others = λ i l h e. absurd (omega (arith, l, h)) }
 
     -- one more is false somewhere, and those between it and the last are not
-    pub one_more : (from : ℕ) (failure : Failure) (all : List Refutation) (x : Refutation) → IsDecision net (drop from list) (Some failure) → x.rule ≡ failure.rule →
+    pub one_more : (from : ℕ) (failure : FailedRule) (all : List Refutation) (x : Refutation) → IsRuleDecision net (drop from list) (Some failure) → x.rule ≡ failure.rule →
         IsRefutation v terms s atoms x → AreRefuted v terms s atoms from all → AreRefuted v terms s atoms failure.rule (all ++ x ∷ [])
     one_more from failure all x h is own told = record {
       each = each_both (IsRefutation v terms s atoms) all (x ∷ []) told.each (own, tt);
@@ -123,7 +123,7 @@ module _ (v : Variant) (terms : List Term) (s : Settings) (net : Gates) (list : 
         ]
 
     -- all that is left holds
-    pub rest_holds : (from : ℕ) (all : List Refutation) → from ≤ length list → IsDecision net (drop from list) None → AreRefuted v terms s atoms from all → AreRefuted v terms s atoms (length list) all
+    pub rest_holds : (from : ℕ) (all : List Refutation) → from ≤ length list → IsRuleDecision net (drop from list) None → AreRefuted v terms s atoms from all → AreRefuted v terms s atoms (length list) all
     rest_holds from all inside h told = record { each = told.each; rising = rise_on (λ (y : Refutation). y.rule) 0 from (length list) all inside told.rising; others = λ i l le none. by i l le none (cases_lt from i) }
       where
         by : (i : ℕ) → 1 ≤ i → i ≤ length list → is_refuted i all ≡ false → (from < i) ⊎ (i ≤ from) → Everywhere v atoms (PipeControls terms) (obligation v s atoms i)

@@ -10,12 +10,12 @@ use Rattle.ctl_atoms.specs.declared.leaf.Atom.{Atom}
 use Rattle.pipe_fields.specs.Layout.{bit_count}
 use Rattle.pipe_motion.specs.declared.settings.Settings.{Settings}
 use Rattle.pipe_obligations.specs.Rules.{obligation, rule_count}
-use Rattle.pipe_obligations.specs.Settled.{Everywhere, IsFalseAt, PipeControls}
+use Rattle.pipe_obligations.specs.FileSettings.{Everywhere, IsFalseAt, PipeControls}
 use Rattle.control_check.specs.PipeVerdicts.{AcceptsPipe, AreSettings, RejectsPipe}
 use Rattle.findings.specs.Rising.{RiseWithin}
 use Rattle.pipe_diagnosis.specs.Diagnosis.{IsDiagnosis}
-use Rattle.pipe_refusals.specs.declared.answer.Answer.{Answer}
-use Rattle.pipe_refusals.specs.declared.answer.Answer.TheVariants.{Yes, No}
+use Rattle.pipe_refusals.specs.declared.answer.PipeAnswer.{PipeAnswer}
+use Rattle.pipe_refusals.specs.declared.answer.PipeAnswer.TheVariants.{Yes, No}
 use Rattle.pipe_diagnosis.specs.declared.refusal.Refusal.{Refusal}
 use Rattle.pipe_diagnosis.specs.declared.refusal.Refutation.{Refutation}
 
@@ -49,10 +49,10 @@ pub record IsRefusal (v : Variant) (terms : List Term) (r : Refusal) : Type 0 wh
   pub rejects : RejectsPipe v terms r.first.rule r.first.valuation.bits
   pub refuted : AreRefuted v terms r.settings r.atoms rule_count (r.first ∷ r.others)
 
-abbrev pub IsAnswer : Variant → List Term → Answer → Type 0
+abbrev pub IsAnswer : Variant → List Term → PipeAnswer → Type 0
 IsAnswer v terms (Yes s) = AcceptsPipe v terms s
 IsAnswer v terms (No r) = IsRefusal v terms r
 
-abbrev pub is_yes : Answer → Bool
+abbrev pub is_yes : PipeAnswer → Bool
 is_yes (Yes s) = true
 is_yes (No r) = false

@@ -6,20 +6,20 @@ ghost use Rattle.ctl_atoms.specs.Atoms.{AreAtoms};
 ghost use Rattle.control_check.specs.PipeVerdicts.{AreSettings, IsPipeFault, RefinesPipe};
 ghost use Rattle.hazard_rules.specs.Parts.{AreRules};
 ghost use Rattle.pipe_obligations.specs.Rules.{rule_count};
-ghost use Rattle.verdicts.specs.Decisions.{IsDecision};
+ghost use Rattle.ctl_verdicts.specs.Decisions.{IsRuleDecision};
 ghost use Rattle.pipe_refusals.specs.Answered as spec;
 
-use control_check::{CheckFault, Failure, decide_pipe, rules_at_settings};
+use control_check::{CheckFault, FailedRule, decide_pipe, rules_at_settings};
+use ctl_rules::{Rule, Rules};
 use hcl_types::{Design, Order};
 use pipe_diagnosis::{Refusal, Refutation, diagnose};
 use pipe_motion::Settings;
-use rule_gates::{Rule, Rules};
 use std::alloc::Global;
 use y86_base::{Items, Memory, Variant};
 
 /// The answer on a file.
 #[derive(Drop)]
-pub enum Answer {
+pub enum PipeAnswer {
     Yes(Settings),
     No(Refusal),
 }
@@ -41,12 +41,12 @@ fn refute(
     settings: &Settings,
     rules: &Rules,
     from: usize,
-    failure: Failure,
+    failure: FailedRule,
 ) -> Result<Refutation, Memory>
     requires ordered { IsOrderOf pipe_rows d.now.terms o.now.ids }
     requires rules { AreRules v d.now.terms settings.now rules.now.net rules.now.list }
     requires atoms { AreAtoms pipe_rows d.now.terms rules.now.atoms }
-    requires failure { IsDecision rules.now.net (drop from rules.now.list) (Some failure) }
+    requires failure { IsRuleDecision rules.now.net (drop from rules.now.list) (Some failure) }
     ensures refutation { IfOk result (spec.IsRefutation v d.now.terms settings.now rules.now.atoms) }
     ensures rule { IfOk result (λ x. x.rule ≡ failure.rule) }
     ensures valuation { IfOk result (λ x. x.valuation ≡ failure.valuation) }
@@ -151,13 +151,13 @@ fn refuse(
     o: &Order,
     settings: Settings,
     rules: Rules,
-    failure: Failure,
+    failure: FailedRule,
 ) -> Result<Refusal, Memory>
     requires ordered { IsOrderOf pipe_rows d.now.terms o.now.ids }
     requires settings { AreSettings v d.now.terms settings }
     requires rules { AreRules v d.now.terms settings rules.net rules.list }
     requires atoms { AreAtoms pipe_rows d.now.terms rules.atoms }
-    requires failure { IsDecision rules.net rules.list (Some failure) }
+    requires failure { IsRuleDecision rules.net rules.list (Some failure) }
     ensures { IfOk result (spec.IsRefusal v d.now.terms) }
 {
     let first = refute(alloc, v, d, o, &settings, &rules, 0, failure)?;
@@ -172,7 +172,12 @@ fn refuse(
 
 /// The verdict on a file for PIPE, and the diagnosis of a refusal. The verdict is that of `check_pipe`: where it is yes, the file's
 /// machine refines the run of instructions on every image whose instructions fetch no byte that one of the three before them stored.
-pub fn diagnose_pipe(alloc: Global, v: Variant, d: &Design, o: &Order) -> Result<Answer, CheckFault>
+pub fn diagnose_pipe(
+    alloc: Global,
+    v: Variant,
+    d: &Design,
+    o: &Order,
+) -> Result<PipeAnswer, CheckFault>
     requires bound { IsBound pipe_rows d.now.terms }
     requires ordered { IsOrderOf pipe_rows d.now.terms o.now.ids }
     ensures answer { IfOk result (spec.IsAnswer v d.now.terms) }
@@ -183,9 +188,9 @@ pub fn diagnose_pipe(alloc: Global, v: Variant, d: &Design, o: &Order) -> Result
     let settings = made.settings;
     let rules = made.rules;
     match decide_pipe(alloc, &rules.net, rules.list.items()) {
-        Ok(None) => Ok(Answer::Yes(settings)),
+        Ok(None) => Ok(PipeAnswer::Yes(settings)),
         Ok(Some(failure)) => match refuse(alloc, v, d, o, settings, rules, failure) {
-            Ok(refusal) => Ok(Answer::No(refusal)),
+            Ok(refusal) => Ok(PipeAnswer::No(refusal)),
             Err(Memory) => Err(CheckFault::Memory),
         },
         Err(Memory) => Err(CheckFault::Memory),

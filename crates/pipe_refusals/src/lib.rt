@@ -3,4 +3,4 @@
 
 mod answer;
 
-pub use answer::{Answer, diagnose_pipe};
+pub use answer::{PipeAnswer, diagnose_pipe};

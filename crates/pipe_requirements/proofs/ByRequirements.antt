@@ -4,15 +4,15 @@ use Rattle.std.proofs.lemmas.Bool.Decides.{nat_tests}
 use Rattle.y86_base.specs.declared.parts.Variant.{Variant}
 use Rattle.y86_base.specs.Words.{set}
 use Rattle.y86_isa.specs.Table.{row, no_register}
-use Rattle.y86_isa.specs.RowTests.{has_operand_a, stores_a, carries_p, carries_a}
+use Rattle.y86_isa.specs.RowTests.{has_operand_a, stores_val_a, select_a_is_val_p, select_a_is_val_a}
 use Rattle.y86_isa.specs.Blocks.{is_load, is_store}
 use Rattle.hcl_types.specs.Lists.{each}
 use Rattle.ctl_atoms.specs.declared.leaf.Leaf.{Leaf}
 use Rattle.ctl_atoms.specs.declared.leaf.Leaf.TheVariants.{Name}
 use Rattle.ctl_atoms.specs.Leaves.{Assignment}
-use Rattle.rule_gates.specs.Words.{takes, is_number, is_truth, operand_leaf_a, operand_leaf_b, address_leaf}
+use Rattle.ctl_rules.specs.ColumnDemands.{picks_leaf, is_number, is_truth, operand_leaf_a, operand_leaf_b, address_leaf}
 use Rattle.pipe_fields.specs.Layout.{Fields}
-use Rattle.pipe_motion.specs.Slots.{View, Movers, leaves}
+use Rattle.pipe_motion.specs.Flow.{Flow, RegisterControls, leaves}
 use Rattle.pipe_motion.specs.Predictions.{predicts}
 use Rattle.pipe_motion.specs.declared.settings.Settings.{Settings}
 use Rattle.pipe_obligations.specs.Obligations as rule
@@ -27,11 +27,11 @@ four true true c d = two c d
 four true false c d = refl
 four false b c d = refl
 
-module _ (v : Variant) (s : Settings) (c : Fields) (y : View) (mv : Movers) (α : Assignment) (cv : ℕ → Leaf) where
-  right_is : (free : Bool) (name source rest : ℕ) → rule.takes_right v s c y mv α cv free name source rest ≡ each (is_met α cv) (right_word v s c y mv cv free name source rest)
+module _ (v : Variant) (s : Settings) (c : Fields) (y : Flow) (mv : RegisterControls) (α : Assignment) (cv : ℕ → Leaf) where
+  right_is : (free : Bool) (name source rest : ℕ) → rule.picks_right_value v s c y mv α cv free name source rest ≡ each (is_met α cv) (right_word v s c y mv cv free name source rest)
   right_is free name source rest =
       excused (is_met α cv) (is_number cv source no_register) _ _
-      (if_both (is_met α cv) (rule.loaded_in_e v s c y mv α cv source) free _ _ _ (nothing free) (one (takes cv name (rule.right_value v s c y mv α cv source rest))))
+      (if_both (is_met α cv) (rule.loaded_in_e v s c y mv α cv source) free _ _ _ (nothing free) (one (picks_leaf cv name (rule.right_value v s c y mv α cv source rest))))
     where
       nothing : (b : Bool) → b ≡ each (is_met α cv) (unless b (requirement_of name wanted.Nothing ∷ []))
       nothing true = refl
@@ -46,9 +46,9 @@ module _ (v : Variant) (s : Settings) (c : Fields) (y : View) (mv : Movers) (α 
   at10 : rule.o10 v s c y mv α cv ≡ each (is_met α cv) (required10 v s c y mv cv)
   at10 =
       guarded (is_met α cv) (leaves mv y) _ _
-      (both (is_met α cv) _ _ (only_if (carries_p (row v c.d.icode)) (word signal.d_valA (Name signal.D_valP))) _
-      (guarded (is_met α cv) (carries_p (row v c.d.icode)) _ _ (one (takes cv signal.d_valA (Name signal.D_valP))))
-      (right_is (s.lf && stores_a (row v c.d.icode).memory) signal.d_valA signal.d_srcA signal.d_rvalA))
+      (both (is_met α cv) _ _ (only_if (select_a_is_val_p (row v c.d.icode)) (word signal.d_valA (Name signal.D_valP))) _
+      (guarded (is_met α cv) (select_a_is_val_p (row v c.d.icode)) _ _ (one (picks_leaf cv signal.d_valA (Name signal.D_valP))))
+      (right_is (s.lf && stores_val_a (row v c.d.icode).memory) signal.d_valA signal.d_srcA signal.d_rvalA))
 
   at11 : rule.o11 v s c y mv α cv ≡ each (is_met α cv) (required11 v s c y mv cv)
   at11 = guarded (is_met α cv) (leaves mv y) _ _ (right_is false signal.d_valB signal.d_srcB signal.d_rvalB)
@@ -63,7 +63,7 @@ module _ (v : Variant) (s : Settings) (c : Fields) (y : View) (mv : Movers) (α 
   at14 = guarded (is_met α cv) (rule.works_in_e v s c y mv α cv && has_operand_a (row v c.e.icode).alu_a) _ _ (one _)
 
   at16 : rule.o16 v s c y mv α cv ≡ each (is_met α cv) (required16 v s c y mv cv)
-  at16 = guarded (is_met α cv) (y.e.good && (carries_a (row v c.e.icode) || carries_p (row v c.e.icode))) _ _ (one _)
+  at16 = guarded (is_met α cv) (y.e.good && (select_a_is_val_a (row v c.e.icode) || select_a_is_val_p (row v c.e.icode))) _ _ (one _)
 
   at17 : rule.o17 v s c y mv α cv ≡ each (is_met α cv) (required17 v s c y mv cv)
   at17 = excused (is_met α cv) y.e.wrong _ _ (one _)
@@ -75,7 +75,7 @@ module _ (v : Variant) (s : Settings) (c : Fields) (y : View) (mv : Movers) (α 
   at19 = two (is_truth α cv signal.mem_read (y.m.good && is_load (row v c.m.icode).memory)) (is_truth α cv signal.mem_write (y.m.good && is_store (row v c.m.icode).memory))
 
   at21 : rule.o21 v s c y mv α cv ≡ each (is_met α cv) (required21 v s c y mv cv)
-  at21 = guarded (is_met α cv) y.w.good _ _ (four (is_number cv signal.w_dstE c.w.dst_e) (is_number cv signal.w_dstM c.w.dst_m) (takes cv signal.w_valE (Name signal.W_valE)) (takes cv signal.w_valM (Name signal.W_valM)))
+  at21 = guarded (is_met α cv) y.w.good _ _ (four (is_number cv signal.w_dstE c.w.dst_e) (is_number cv signal.w_dstM c.w.dst_m) (picks_leaf cv signal.w_valE (Name signal.W_valE)) (picks_leaf cv signal.w_valM (Name signal.W_valM)))
 
   -- behind the 22
   past : (i : ℕ) → i ≤ 22 →

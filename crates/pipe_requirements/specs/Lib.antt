@@ -1,2 +1,2 @@
 pub mod Requirements
-pub mod Views
+pub mod Flows

@@ -5,15 +5,15 @@ use Rattle.y86_base.specs.declared.parts.Variant.{Variant}
 use Rattle.y86_base.specs.Stat.{stat_number}
 use Rattle.y86_base.specs.Words.{set}
 use Rattle.y86_isa.specs.Table.{row, no_register}
-use Rattle.y86_isa.specs.RowTests.{has_operand_a, stores_a, carries_p, carries_a}
+use Rattle.y86_isa.specs.RowTests.{has_operand_a, stores_val_a, select_a_is_val_p, select_a_is_val_a}
 use Rattle.y86_isa.specs.Blocks.{fetch_status, register_number, alu_function, is_load, is_store}
 use Rattle.hcl_types.specs.Lists.{each}
 use Rattle.ctl_atoms.specs.declared.leaf.Leaf.{Leaf}
 use Rattle.ctl_atoms.specs.declared.leaf.Leaf.TheVariants.{Name, Number}
 use Rattle.ctl_atoms.specs.Leaves.{Assignment}
-use Rattle.rule_gates.specs.Words.{is_number, operand_leaf_a, operand_leaf_b, address_leaf}
+use Rattle.ctl_rules.specs.ColumnDemands.{is_number, operand_leaf_a, operand_leaf_b, address_leaf}
 use Rattle.pipe_fields.specs.Layout.{Fields}
-use Rattle.pipe_motion.specs.Slots.{View, Movers, leaves}
+use Rattle.pipe_motion.specs.Flow.{Flow, RegisterControls, leaves}
 use Rattle.pipe_motion.specs.Predictions.{predicts}
 use Rattle.pipe_motion.specs.declared.settings.Settings.{Settings}
 use Rattle.pipe_obligations.specs.Obligations as rule
@@ -27,7 +27,7 @@ use Rattle.findings.specs.declared.requirement.Wanted.TheVariants as wanted
 abbrev pub unread : Assignment
 unread kind left right = false
 
-module _ (v : Variant) (s : Settings) (c : Fields) (y : View) (mv : Movers) (cv : ℕ → Leaf) where
+module _ (v : Variant) (s : Settings) (c : Fields) (y : Flow) (mv : RegisterControls) (cv : ℕ → Leaf) where
   -- ---- fetch
 
   abbrev pub required1 : List Requirement
@@ -68,8 +68,8 @@ module _ (v : Variant) (s : Settings) (c : Fields) (y : View) (mv : Movers) (cv 
   abbrev pub required10 : List Requirement
   required10 =
       only_if (leaves mv y)
-      (only_if (carries_p (row v c.d.icode)) (word signal.d_valA (Name signal.D_valP))
-      ++ right_word (s.lf && stores_a (row v c.d.icode).memory) signal.d_valA signal.d_srcA signal.d_rvalA)
+      (only_if (select_a_is_val_p (row v c.d.icode)) (word signal.d_valA (Name signal.D_valP))
+      ++ right_word (s.lf && stores_val_a (row v c.d.icode).memory) signal.d_valA signal.d_srcA signal.d_rvalA)
 
   abbrev pub required11 : List Requirement
   required11 = only_if (leaves mv y) (right_word false signal.d_valB signal.d_srcB signal.d_rvalB)
@@ -92,8 +92,8 @@ module _ (v : Variant) (s : Settings) (c : Fields) (y : View) (mv : Movers) (cv 
 
   abbrev pub required16 : List Requirement
   required16 =
-      only_if (y.e.good && (carries_a (row v c.e.icode) || carries_p (row v c.e.icode)))
-      (word signal.e_valA (if rule.taken_late v s c y mv unread cv then Name signal.m_valM else Name signal.E_valA))
+      only_if (y.e.good && (select_a_is_val_a (row v c.e.icode) || select_a_is_val_p (row v c.e.icode)))
+      (word signal.e_valA (if rule.word_comes_late v s c y mv unread cv then Name signal.m_valM else Name signal.E_valA))
 
   abbrev pub required17 : List Requirement
   required17 = unless y.e.wrong (number signal.e_dstE (rule.late_dst_e v s c y mv unread cv))
@@ -150,5 +150,5 @@ module _ (v : Variant) (s : Settings) (c : Fields) (y : View) (mv : Movers) (cv 
       else [])))))))))))))))))))))
 
 -- obligation i is met exactly where each of its requirements is
-abbrev pub IsByRequirements : Variant → Settings → Fields → View → Movers → Assignment → (ℕ → Leaf) → ℕ → Type 0
+abbrev pub IsByRequirements : Variant → Settings → Fields → Flow → RegisterControls → Assignment → (ℕ → Leaf) → ℕ → Type 0
 IsByRequirements v s c y mv α cv i = demand i v s c y mv α cv ≡ each (is_met α cv) (requirements v s c y mv cv i)

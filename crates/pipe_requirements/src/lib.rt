@@ -5,18 +5,18 @@
 //! The obligations 23 to 27 require nothing of a single signal: `motion_repairs` is about these.
 #![tactic(auto)]
 
+mod flow;
 mod laws;
 mod lines;
 mod listing;
 mod now;
-mod view;
 
 pub use findings::{Requirement, Wanted, is_number, leaf_at, set};
+pub use flow::{
+    FlowNow, RegisterControlNow, RegisterControlsNow, StageFlowNow, flow_of, is_jump, is_missed,
+    leaves, loads, predicts, stops_by,
+};
 pub use laws::law_of_requirements;
 pub use lines::{DecodeLine, ExecuteLine, FetchLine, Lines, MemoryLine, WriteLine, lines_of};
 pub use listing::requirements_of;
 pub use now::Now;
-pub use view::{
-    MoverNow, MoversNow, SlotNow, ViewNow, is_jump, leaves, loads, misses, predicts, stops_by,
-    view_of,
-};

@@ -1,11 +1,11 @@
 //! The fields of a valuation as numbers.
 ghost use Rattle.std.specs.Prelude.{◌≡◌, ◌≤◌};
-ghost use Rattle.field_bits.specs.Spelling.{spelt};
+ghost use Rattle.net_fields.specs.Spelling.{spelt};
 ghost use Rattle.pipe_fields.specs.Layout.{fields_of};
-ghost use Rattle.pipe_requirements.specs.Views.{fields_in};
+ghost use Rattle.pipe_requirements.specs.Flows.{fields_in};
 
 use control_values::number_at;
-use field_bits::FieldPlace;
+use net_fields::BitRange;
 use pipe_fields::places as place;
 
 /// What is fetched.
@@ -84,7 +84,7 @@ pub struct Lines {
 }
 
 /// The number of a field.
-fn number(bits: &[bool], place: FieldPlace) -> u64
+fn number(bits: &[bool], place: BitRange) -> u64
     requires few { place.bits ≤ 4 }
     requires near { place.first ≤ 1000 }
     ensures { result ≡ spelt bits.now place.first place.bits }

@@ -2,23 +2,23 @@
 ghost use Rattle.std.specs.Prelude.{◌≡◌, ◌≤◌, if◌then◌else◌};
 ghost use Rattle.ctl_atoms.specs.declared.leaf.Leaf.TheVariants.{Name};
 ghost use Rattle.control_values.specs.Given.{at};
-ghost use Rattle.pipe_motion.specs.Slots as slots;
+ghost use Rattle.pipe_motion.specs.Flow as slots;
 ghost use Rattle.pipe_obligations.specs.Obligations as rule;
 ghost use Rattle.pipe_motion.specs.Predictions as predictions;
 ghost use Rattle.y86_base.specs.Words as numbers;
 ghost use Rattle.y86_isa.specs.Table as table;
 ghost use Rattle.pipe_requirements.specs.Requirements.{unread};
-ghost use Rattle.pipe_requirements.specs.Views.{fields_in, movers_in, view_in};
+ghost use Rattle.pipe_requirements.specs.Flows.{fields_in, as_register_controls, as_flow};
 
+use crate::flow::{FlowNow, RegisterControlsNow, predicts};
 use crate::lines::Lines;
-use crate::view::{MoversNow, ViewNow, predicts};
 use ctl_atoms::Leaf;
 use dp_signals::pipe_row as name;
 use findings::{destination_e, is_number, set};
 use hcl_types::NameId;
 use pipe_motion::Settings;
 use y86_base::Variant;
-use y86_isa::{Next, row, stores_a};
+use y86_isa::{NextPcColumn, row, stores_val_a};
 
 /// What is known at a valuation: the fields, the instructions in the stages, the stall and bubble signals, the control value of each name.
 #[derive(Clone, Copy)]
@@ -26,34 +26,34 @@ pub struct Now<'a> {
     pub v: Variant,
     pub s: &'a Settings,
     pub l: &'a Lines,
-    pub y: &'a ViewNow,
-    pub mv: &'a MoversNow,
+    pub y: &'a FlowNow,
+    pub mv: &'a RegisterControlsNow,
     pub leaves: &'a [Leaf],
 }
 
 /// What is predicted behind an instruction.
-pub fn predicted_leaf(next: Next, taken: bool) -> Option<Leaf>
+pub fn predicted_leaf(next: NextPcColumn, taken: bool) -> Option<Leaf>
     ensures { result ≡ rule.predicted_leaf next taken }
 {
     match next {
-        Next::Itself => None,
-        Next::Fall => Some(Leaf::Name(name::F_VAL_P)),
-        Next::Branch => {
+        NextPcColumn::Itself => None,
+        NextPcColumn::Fall => Some(Leaf::Name(name::F_VAL_P)),
+        NextPcColumn::Branch => {
             if taken {
                 Some(Leaf::Name(name::F_VAL_C))
             } else {
                 Some(Leaf::Name(name::F_VAL_P))
             }
         }
-        Next::Target => Some(Leaf::Name(name::F_VAL_C)),
-        Next::Loaded => None,
+        NextPcColumn::Target => Some(Leaf::Name(name::F_VAL_C)),
+        NextPcColumn::Loaded => None,
     }
 }
 
 impl<'a> Now<'a> {
     /// E's destination after the condition.
     pub fn late_dst_e(&self) -> u64
-        ensures { result ≡ rule.late_dst_e self.now.v self.now.s.now (fields_in self.now.l.now) (view_in self.now.y.now) (movers_in self.now.mv.now) unread (at self.now.leaves.now) }
+        ensures { result ≡ rule.late_dst_e self.now.v self.now.s.now (fields_in self.now.l.now) (as_flow self.now.y.now) (as_register_controls self.now.mv.now) unread (at self.now.leaves.now) }
     {
         destination_e(
             row(self.v, self.l.e.icode).conditional,
@@ -64,14 +64,14 @@ impl<'a> Now<'a> {
 
     /// The source is the register that the good instruction in E loads.
     pub fn loaded_in_e(&self, source: NameId) -> bool
-        ensures { result ≡ rule.loaded_in_e self.now.v self.now.s.now (fields_in self.now.l.now) (view_in self.now.y.now) (movers_in self.now.mv.now) unread (at self.now.leaves.now) source }
+        ensures { result ≡ rule.loaded_in_e self.now.v self.now.s.now (fields_in self.now.l.now) (as_flow self.now.y.now) (as_register_controls self.now.mv.now) unread (at self.now.leaves.now) source }
     {
         self.y.e.good && is_number(self.leaves, source, self.l.e.dst_m)
     }
 
     /// Where the value of a source stands.
     pub fn right_value(&self, source: NameId, rest: NameId) -> Leaf
-        ensures { result ≡ rule.right_value self.now.v self.now.s.now (fields_in self.now.l.now) (view_in self.now.y.now) (movers_in self.now.mv.now) unread (at self.now.leaves.now) source rest }
+        ensures { result ≡ rule.right_value self.now.v self.now.s.now (fields_in self.now.l.now) (as_flow self.now.y.now) (as_register_controls self.now.mv.now) unread (at self.now.leaves.now) source rest }
     {
         let late = self.late_dst_e();
         if self.y.e.good && is_number(self.leaves, source, late) {
@@ -91,17 +91,17 @@ impl<'a> Now<'a> {
 
     /// The good instruction in E goes on.
     pub fn works_in_e(&self) -> bool
-        ensures { result ≡ rule.works_in_e self.now.v self.now.s.now (fields_in self.now.l.now) (view_in self.now.y.now) (movers_in self.now.mv.now) unread (at self.now.leaves.now) }
+        ensures { result ≡ rule.works_in_e self.now.v self.now.s.now (fields_in self.now.l.now) (as_flow self.now.y.now) (as_register_controls self.now.mv.now) unread (at self.now.leaves.now) }
     {
         self.y.e.good && self.l.e.stat == 1
     }
 
     /// A store takes the word that it stores late.
-    pub fn taken_late(&self) -> bool
-        ensures { result ≡ rule.taken_late self.now.v self.now.s.now (fields_in self.now.l.now) (view_in self.now.y.now) (movers_in self.now.mv.now) unread (at self.now.leaves.now) }
+    pub fn word_comes_late(&self) -> bool
+        ensures { result ≡ rule.word_comes_late self.now.v self.now.s.now (fields_in self.now.l.now) (as_flow self.now.y.now) (as_register_controls self.now.mv.now) unread (at self.now.leaves.now) }
     {
         self.s.lf
-            && (stores_a(row(self.v, self.l.e.icode).memory)
+            && (stores_val_a(row(self.v, self.l.e.icode).memory)
                 && (self.y.m.good && self.l.m.dst_m == self.l.e.src_a))
     }
 

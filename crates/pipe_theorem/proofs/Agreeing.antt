@@ -8,7 +8,7 @@ use Rattle.y86_base.specs.declared.parts.Variant.{Variant}
 use Rattle.y86_base.proofs.Booleans.{clash, implied}
 use Rattle.y86_base.proofs.Numbers.{number_tests, each_number}
 use Rattle.hcl_types.specs.Tables.{IsBound, IsOrderOf, defined, inputs, is_defined, term_at}
-use Rattle.hcl_types.specs.Terms.{value, words}
+use Rattle.hcl_types.specs.Terms.{value, word_meaning}
 use Rattle.hcl_types.specs.declared.table.Class.TheVariants as class
 use Rattle.hcl_types.specs.declared.table.Role.TheVariants as role
 use Rattle.hcl_types.specs.declared.table.Role.{Role}
@@ -27,12 +27,12 @@ use Rattle.dp_signals.proofs.Bits.{constants_count}
 use Rattle.ctl_atoms.specs.declared.leaf.Leaf.TheVariants.{Number}
 use Rattle.ctl_atoms.specs.declared.leaf.Leaf.{Leaf}
 use Rattle.ctl_formula.specs.Controls.{AreControls, role_leaf, row_leaf}
-use Rattle.ctl_formula.specs.Laws.{IsDefinedBy, IsWorthGiven, real, worth}
+use Rattle.ctl_formula.specs.Laws.{IsDefinedBy, IsWorthGiven, real_assignment, leaf_value}
 use Rattle.ctl_formula.proofs.Rows.{rule_row}
 use Rattle.ctl_formula.proofs.Solved.{agreement}
 use Rattle.pipe_fields.specs.Layout.{number_of}
-use Rattle.pipe_refinement.specs.Invariant.{Given}
-use Rattle.pipe_refinement.specs.Kinds.{Config, in_m}
+use Rattle.pipe_refinement.specs.Invariant.{RunContext}
+use Rattle.pipe_refinement.specs.Kinds.{Schedule, in_m}
 use Rattle.pipe_theorem.proofs.RealCycle.{f_line, fault_of, fields_at, hidden}
 
 -- ---- tests of each number below one
@@ -78,7 +78,7 @@ module _ (v : Variant) (terms : List Term) (p : PipeState) (f : ℕ → ℕ) (s 
   total : length terms ≡ name.count - name.defined
   total = bound.whole ∙ defined_count
 
-  defined_word : (n k : ℕ) → k + name.defined ≡ n → k < (name.count - name.defined) → f n ≡ value words f (term_at terms k)
+  defined_word : (n k : ℕ) → k + name.defined ≡ n → k < (name.count - name.defined) → f n ≡ value word_meaning f (term_at terms k)
   defined_word n k e lt =
       let index : n - name.defined ≡ k = omega (arith, e) in
       s n
@@ -154,15 +154,15 @@ given_leaf field n r a b d = by r.role d
     by (role.Hardware ids) d = refl
     by role.Defined d = cc
 
-module _ (x : Given) (terms : List Term) (c : Config) (p : PipeState) (f : ℕ → ℕ) (cv : ℕ → Leaf) (s : Solves x.v terms p f)
-    (ring : worth f (cv name.mem_addr) ≡ f name.mem_addr → worth f (cv name.mem_read) ≡ f name.mem_read → worth f (cv name.mem_write) ≡ f name.mem_write →
+module _ (x : RunContext) (terms : List Term) (c : Schedule) (p : PipeState) (f : ℕ → ℕ) (cv : ℕ → Leaf) (s : Solves x.v terms p f)
+    (ring : leaf_value f (cv name.mem_addr) ≡ f name.mem_addr → leaf_value f (cv name.mem_read) ≡ f name.mem_read → leaf_value f (cv name.mem_write) ≡ f name.mem_write →
     f name.dmem_error ≡ hidden c.m (fault_of x (in_m c))) where
   numbers : ℕ → ℕ
   numbers = number_of (fields_at x c p f (f_line x c f))
 
   -- the leaf of a row that the file doesn't define is worth the value of its name, once those of its inputs are
   Step : ℕ → Type 0
-  Step n = AllByRecursion (λ m. worth f (cv m) ≡ f m) (inputs_at (slice_get pipe_rows n)) → worth f (row_leaf numbers n (slice_get pipe_rows n) (Number 0)) ≡ f n
+  Step n = AllByRecursion (λ m. leaf_value f (cv m) ≡ f m) (inputs_at (slice_get pipe_rows n)) → leaf_value f (row_leaf numbers n (slice_get pipe_rows n) (Number 0)) ≡ f n
 
   given_word : (n : ℕ) → n < name.hardware → f n ≡ get_or (given p) n 0
   unfolding given constants state_words rule_of
@@ -172,7 +172,7 @@ module _ (x : Given) (terms : List Term) (c : Config) (p : PipeState) (f : ℕ �
   unfolding Step given
   at_constant n lt = λ a.
       let there = number_tests constant_count (λ i. constant_at (slice_get pipe_rows i) (get_or constants i 0)) constants_there n lt in
-      ap (worth f) (constant_leaf numbers n (get_or constants n 0) (slice_get pipe_rows n) there)
+      ap (leaf_value f) (constant_leaf numbers n (get_or constants n 0) (slice_get pipe_rows n) there)
       ∙ sym (given_word n (omega (arith, lt)) ∙ get_or_append_left constants (state_words p) 0 n (omega (arith, lt, constants_count)))
 
   at_signal : (n : ℕ) → name.D_stat ≤ n → n < name.f_pc → Step n
@@ -239,16 +239,16 @@ module _ (x : Given) (terms : List Term) (c : Config) (p : PipeState) (f : ℕ �
           sym (ap row_defined (ap (slice_get pipe_rows) same ∙ e))
           ∙ number_tests (name.count - name.defined) (λ k. row_defined (slice_get pipe_rows (name.f_pc + k))) all_defined (n - name.f_pc) (omega (arith, above, inside n r e))
 
-  pub worth_given : AreControls pipe_rows terms (number_of (fields_at x c p f (f_line x c f))) (real f) cv → IsWorthGiven pipe_rows f cv
+  pub worth_given : AreControls pipe_rows terms (number_of (fields_at x c p f (f_line x c f))) (real_assignment f) cv → IsWorthGiven pipe_rows f cv
   unfolding Step numbers inputs_at
   worth_given k n r e d a =
-      ap (worth f) (k n
-      ∙ rule_row pipe_rows terms (number_of (fields_at x c p f (f_line x c f))) (real f) n cv r e
+      ap (leaf_value f) (k n
+      ∙ rule_row pipe_rows terms (number_of (fields_at x c p f (f_line x c f))) (real_assignment f) n cv r e
       ∙ given_leaf (number_of (fields_at x c p f (f_line x c f))) n r _ (Number 0) d)
-      ∙ subst (λ o. worth f (row_leaf numbers n o (Number 0)) ≡ f n) e (step n r e d (subst (λ o. AllByRecursion (λ m. worth f (cv m) ≡ f m) (inputs_at o)) (sym e) a))
+      ∙ subst (λ o. leaf_value f (row_leaf numbers n o (Number 0)) ≡ f n) e (step n r e d (subst (λ o. AllByRecursion (λ m. leaf_value f (cv m) ≡ f m) (inputs_at o)) (sym e) a))
 
   -- along the order, with M's error bit once what it depends on agrees
   pub all_agree : (ids : List ℕ) → IsBound pipe_rows terms → IsOrderOf pipe_rows terms ids →
-      AreControls pipe_rows terms (number_of (fields_at x c p f (f_line x c f))) (real f) cv → (n : ℕ) → worth f (cv n) ≡ f n
+      AreControls pipe_rows terms (number_of (fields_at x c p f (f_line x c f))) (real_assignment f) cv → (n : ℕ) → leaf_value f (cv n) ≡ f n
   all_agree ids bound o k =
       agreement pipe_rows terms ids (number_of (fields_at x c p f (f_line x c f))) f cv o k (defined_by x.v terms p f s bound) (worth_given k)

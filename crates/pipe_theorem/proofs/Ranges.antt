@@ -9,20 +9,20 @@ use Rattle.y86_base.specs.declared.parts.Variant.{Variant}
 use Rattle.y86_isa.specs.Blocks.{destination_e, reading, register_number}
 use Rattle.y86_isa.specs.Run.{IsImage}
 use Rattle.y86_isa.specs.Table.{rows}
-use Rattle.y86_isa.specs.declared.columns.Field.TheVariants.{Dash, FieldA, FieldB, Stack}
-use Rattle.y86_isa.specs.declared.columns.Field.{Field}
+use Rattle.y86_isa.specs.declared.columns.RegisterColumn.TheVariants.{Dash, FieldA, FieldB, Stack}
+use Rattle.y86_isa.specs.declared.columns.RegisterColumn.{RegisterColumn}
 use Rattle.y86_isa.specs.declared.machine.Rec.{Rec}
 use Rattle.y86_isa.proofs.Rows.{ifun_top-le}
 use Rattle.y86_isa.proofs.WhatIsRead.{IsReading-reading}
-use Rattle.run_laws.specs.Instructions.{doing}
-use Rattle.run_laws.proofs.Walk.{follows}
+use Rattle.yis_run_laws.specs.Instructions.{work_at}
+use Rattle.yis_run_laws.proofs.Walk.{follows}
 use Rattle.dp_signals.specs.PipeNames as name
 use Rattle.dp_signals.specs.PipeRows.{PipeHardware}
 use Rattle.dp_signals.specs.declared.pipe_state.PipeState.{PipeState}
 use Rattle.dp_signals.proofs.Bits.{bit_lt}
 use Rattle.pipe_fields.specs.Layout.{InRange}
-use Rattle.pipe_refinement.specs.Invariant.{Given, Inv}
-use Rattle.pipe_refinement.specs.Kinds.{Config, Empty, Good, Kind, Wrong, in_d, in_e, in_m, in_w, is_good, is_wrong}
+use Rattle.pipe_refinement.specs.Invariant.{RunContext, CouplingInvariant}
+use Rattle.pipe_refinement.specs.Kinds.{Schedule, Bubbled, Good, StageKind, Wrong, in_d, in_e, in_m, in_w, is_good, is_wrong}
 use Rattle.pipe_theorem.proofs.Fits.{Known, known_of, known_wrong}
 use Rattle.pipe_theorem.proofs.RealCycle.{f_line, fields_at, kind_number}
 
@@ -43,7 +43,7 @@ icode_lt : (v : Variant) (icode : ℕ) → (icode < length (rows v)) ⊎ (icode 
 icode_lt v icode (inl h) = omega (arith, few_rows v)
 icode_lt v icode (inr h) = omega arith
 
-register_lt : (y : Field) (r_a r_b : ℕ) → r_a ≤ 15 → r_b ≤ 15 → register_number y r_a r_b < 16
+register_lt : (y : RegisterColumn) (r_a r_b : ℕ) → r_a ≤ 15 → r_b ≤ 15 → register_number y r_a r_b < 16
 register_lt Dash r_a r_b a b = omega arith
 register_lt FieldA r_a r_b a b = omega arith
 register_lt FieldB r_a r_b a b = omega arith
@@ -54,13 +54,13 @@ late_lt true true n h = h
 late_lt true false n h = omega arith
 late_lt false cnd n h = h
 
-kind_lt : (k : Kind) → kind_number k < 4
-kind_lt Empty = omega arith
+kind_lt : (k : StageKind) → kind_number k < 4
+kind_lt Bubbled = omega arith
 kind_lt Wrong = omega arith
 kind_lt Good = omega arith
 
-sound_lt : (k : Kind) → is_wrong k ≡ false → kind_number k < 2
-sound_lt Empty h = omega arith
+sound_lt : (k : StageKind) → is_wrong k ≡ false → kind_number k < 2
+sound_lt Bubbled h = omega arith
 sound_lt Wrong h = cc
 sound_lt Good h = omega arith
 
@@ -78,12 +78,12 @@ codes_of v stat icode ifun r_a r_b k =
 bubble_codes : (stat icode ifun : ℕ) → stat ≡ 0 → icode ≡ 1 → ifun ≡ 0 → Codes stat icode ifun
 bubble_codes stat icode ifun a b c = record { stat_lt = omega arith; code_lt = omega arith; fun_lt = omega arith }
 
-module _ (x : Given) (t : ℕ) (c : Config) (p : PipeState) (f : ℕ → ℕ) (rs : List Rec) (image : IsImage x.image) (i : Inv x t c p rs) (b : PipeHardware x.v p f) where
+module _ (x : RunContext) (t : ℕ) (c : Schedule) (p : PipeState) (f : ℕ → ℕ) (rs : List Rec) (image : IsImage x.image) (i : CouplingInvariant x t c p rs) (b : PipeHardware x.v p f) where
   le_of : (n : ℕ) → n ≡ 15 → n ≤ 15
   le_of n e = omega arith
 
-  d_codes : (k : Kind) → c.d ≡ k → Codes p.d.stat p.d.icode p.d.ifun × (p.d.r_a ≤ 15) × (p.d.r_b ≤ 15)
-  d_codes Empty e = let h = i.empty_d e in (bubble_codes _ _ _ h.stat h.icode h.ifun, le_of _ h.r_a, le_of _ h.r_b)
+  d_codes : (k : StageKind) → c.d ≡ k → Codes p.d.stat p.d.icode p.d.ifun × (p.d.r_a ≤ 15) × (p.d.r_b ≤ 15)
+  d_codes Bubbled e = let h = i.empty_d e in (bubble_codes _ _ _ h.stat h.icode h.ifun, le_of _ h.r_a, le_of _ h.r_b)
   d_codes Wrong e = let k = known_wrong x.v p.d (i.wrong_d (ap is_wrong e)) in (codes_of x.v _ _ _ _ _ k, k.le_a, k.le_b)
   d_codes Good e =
       let h = i.good_d (ap is_good e) in
@@ -96,11 +96,11 @@ module _ (x : Given) (t : ℕ) (c : Config) (p : PipeState) (f : ℕ → ℕ) (r
   lt_of : (n : ℕ) → n ≡ 15 → n < 16
   lt_of n e = omega arith
 
-  named_lt : (n r_a r_b : ℕ) (y : Field) → n ≡ register_number y r_a r_b → r_a ≤ 15 → r_b ≤ 15 → n < 16
+  named_lt : (n r_a r_b : ℕ) (y : RegisterColumn) → n ≡ register_number y r_a r_b → r_a ≤ 15 → r_b ≤ 15 → n < 16
   named_lt n r_a r_b y e u w = rw e (register_lt y r_a r_b u w)
 
-  e_codes : (k : Kind) → c.e ≡ k → Codes p.e.stat p.e.icode p.e.ifun × (p.e.dst_e < 16) × (p.e.dst_m < 16) × (p.e.src_a < 16) × (p.e.src_b < 16)
-  e_codes Empty e = let h = i.empty_e e in (bubble_codes _ _ _ h.stat h.icode h.ifun, lt_of _ h.dst_e, lt_of _ h.dst_m, lt_of _ h.src_a, lt_of _ h.src_b)
+  e_codes : (k : StageKind) → c.e ≡ k → Codes p.e.stat p.e.icode p.e.ifun × (p.e.dst_e < 16) × (p.e.dst_m < 16) × (p.e.src_a < 16) × (p.e.src_b < 16)
+  e_codes Bubbled e = let h = i.empty_e e in (bubble_codes _ _ _ h.stat h.icode h.ifun, lt_of _ h.dst_e, lt_of _ h.dst_m, lt_of _ h.src_a, lt_of _ h.src_b)
   e_codes Wrong e =
       let h = i.wrong_e (ap is_wrong e) in
       let k = known_wrong x.v h.from h.allowed in
@@ -118,14 +118,14 @@ module _ (x : Given) (t : ℕ) (c : Config) (p : PipeState) (f : ℕ → ℕ) (r
         named_lt _ _ _ _ (h.src_b ∙ w.src_b) k.le_a k.le_b,
       )
 
-  late_at : (j n : ℕ) → n ≡ (doing x.v x.image j).dst_e → n < 16
+  late_at : (j n : ℕ) → n ≡ (work_at x.v x.image j).dst_e → n < 16
   late_at j n e =
       let w = follows x.v x.image j in
       let k = known_of x j image in
       rw (e ∙ w.dst_e) (late_lt _ _ _ (named_lt _ _ _ _ w.raw_dst_e k.le_a k.le_b))
 
-  m_codes : (k : Kind) → c.m ≡ k → Codes p.m.stat p.m.icode p.m.ifun × (p.m.dst_e < 16) × (p.m.dst_m < 16) × (p.m.cnd < 2)
-  m_codes Empty e = let h = i.empty_m e in let q = h.cnd in (bubble_codes _ _ _ h.stat h.icode h.ifun, lt_of _ h.dst_e, lt_of _ h.dst_m, omega arith)
+  m_codes : (k : StageKind) → c.m ≡ k → Codes p.m.stat p.m.icode p.m.ifun × (p.m.dst_e < 16) × (p.m.dst_m < 16) × (p.m.cnd < 2)
+  m_codes Bubbled e = let h = i.empty_m e in let q = h.cnd in (bubble_codes _ _ _ h.stat h.icode h.ifun, lt_of _ h.dst_e, lt_of _ h.dst_m, omega arith)
   m_codes Wrong e = absurd (false≢true (sym i.right_m ∙ ap is_wrong e))
   m_codes Good e =
       let h = i.good_m (ap is_good e) in
@@ -135,8 +135,8 @@ module _ (x : Given) (t : ℕ) (c : Config) (p : PipeState) (f : ℕ → ℕ) (r
       let met : p.m.cnd < 2 = rw h.cnd (bit_lt _) in
       (q, late_at (in_m c) _ h.dst_e, named_lt _ _ _ _ (h.dst_m ∙ w.dst_m) k.le_a k.le_b, met)
 
-  w_codes : (k : Kind) → c.w ≡ k → (p.w.stat < 8) × (p.w.icode < 16) × (p.w.dst_e < 16) × (p.w.dst_m < 16)
-  w_codes Empty e =
+  w_codes : (k : StageKind) → c.w ≡ k → (p.w.stat < 8) × (p.w.icode < 16) × (p.w.dst_e < 16) × (p.w.dst_m < 16)
+  w_codes Bubbled e =
       let h = i.empty_w e in
       let q = bubble_codes p.w.stat p.w.icode 0 h.stat h.icode refl in
       (q.stat_lt, q.code_lt, lt_of _ h.dst_e, lt_of _ h.dst_m)

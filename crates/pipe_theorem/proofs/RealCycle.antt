@@ -1,47 +1,47 @@
 -- The fields of a real cycle's valuation: as the registers have them, and the hidden bits as the run of instructions has them.
 use Rattle.std.proofs.Common.{ℕ, Bool, ◌&&◌}
 use Rattle.y86_isa.specs.Blocks.{condition}
-use Rattle.y86_isa.specs.RowTests.{accesses, is_branch}
+use Rattle.y86_isa.specs.RowTests.{accesses, next_is_branch}
 use Rattle.y86_isa.specs.Table.{row}
-use Rattle.run_laws.specs.Instructions.{before, doing, row_of}
+use Rattle.yis_run_laws.specs.Instructions.{state_before, work_at, instruction_row}
 use Rattle.hcl_types.specs.Terms.{signed_below}
 use Rattle.dp_signals.specs.PipeNames as name
 use Rattle.dp_signals.specs.Values.{bit}
 use Rattle.dp_signals.specs.declared.pipe_state.PipeState.{PipeState}
 use Rattle.pipe_fields.specs.Layout.{FetchLine, Fields}
-use Rattle.pipe_refinement.specs.Invariant.{Given}
-use Rattle.pipe_refinement.specs.Kinds.{Config, Empty, Good, Kind, Wrong, in_d, in_e, in_f, in_m, is_good}
+use Rattle.pipe_refinement.specs.Invariant.{RunContext}
+use Rattle.pipe_refinement.specs.Kinds.{Schedule, Bubbled, Good, StageKind, Wrong, in_d, in_e, in_f, in_m, is_good}
 
-abbrev pub kind_number : Kind → ℕ
-kind_number Empty = 0
+abbrev pub kind_number : StageKind → ℕ
+kind_number Bubbled = 0
 kind_number Good = 1
 kind_number Wrong = 2
 
 -- ---- the hidden bits of instruction i, which count where it is good
-abbrev pub back_of : Given → ℕ → Bool
-back_of x i = is_branch (row_of x.v x.image i).next && signed_below (doing x.v x.image i).val_c (doing x.v x.image i).val_p
+abbrev pub back_of : RunContext → ℕ → Bool
+back_of x i = next_is_branch (instruction_row x.v x.image i).next && signed_below (work_at x.v x.image i).val_c (work_at x.v x.image i).val_p
 
-abbrev pub taken_of : Given → ℕ → Bool
-taken_of x i = is_branch (row_of x.v x.image i).next && (doing x.v x.image i).cnd
+abbrev pub taken_of : RunContext → ℕ → Bool
+taken_of x i = next_is_branch (instruction_row x.v x.image i).next && (work_at x.v x.image i).cnd
 
-abbrev pub fault_of : Given → ℕ → Bool
-fault_of x i = (doing x.v x.image i).fault
+abbrev pub fault_of : RunContext → ℕ → Bool
+fault_of x i = (work_at x.v x.image i).fault
 
-abbrev pub hidden : Kind → Bool → ℕ
+abbrev pub hidden : StageKind → Bool → ℕ
 hidden k b = bit (is_good k && b)
 
 -- ---- what is fetched is real; its hidden bits are those of the next instruction, as far as the icode that was fetched allows
-unfoldable pub f_line : Given → Config → (ℕ → ℕ) → FetchLine
+unfoldable pub f_line : RunContext → Schedule → (ℕ → ℕ) → FetchLine
 f_line x c f = record {
   error = f name.imem_error;
   icode = f name.imem_icode;
   ifun = f name.imem_ifun;
-  taken = bit (is_branch (row x.v (f name.imem_icode)).next && condition (f name.imem_ifun) (before x.v x.image (in_f c)).flags);
-  stops = bit (accesses (row x.v (f name.imem_icode)).memory && (doing x.v x.image (in_f c)).fault);
-  back = bit (is_branch (row x.v (f name.imem_icode)).next && signed_below (f name.f_valC) (f name.f_valP));
+  taken = bit (next_is_branch (row x.v (f name.imem_icode)).next && condition (f name.imem_ifun) (state_before x.v x.image (in_f c)).flags);
+  stops = bit (accesses (row x.v (f name.imem_icode)).memory && (work_at x.v x.image (in_f c)).fault);
+  back = bit (next_is_branch (row x.v (f name.imem_icode)).next && signed_below (f name.f_valC) (f name.f_valP));
 }
 
-unfoldable pub fields_at : Given → Config → PipeState → (ℕ → ℕ) → FetchLine → Fields
+unfoldable pub fields_at : RunContext → Schedule → PipeState → (ℕ → ℕ) → FetchLine → Fields
 fields_at x c p f l = record {
   f = l;
   d = record {

@@ -2,13 +2,13 @@
 use Rattle.std.specs.Prelude.{ℕ, List}
 use Rattle.y86_base.specs.declared.parts.Variant.{Variant}
 use Rattle.y86_isa.specs.Run.{IsImage}
-use Rattle.pure_runs.specs.Near.{NearPure}
+use Rattle.yis_pure_runs.specs.Near.{NearPure}
 use Rattle.hcl_types.specs.declared.term.Term.{Term}
 use Rattle.hcl_types.specs.Tables.{IsBound, IsOrderOf}
 use Rattle.dp_signals.specs.PipeTable.{pipe_rows}
 use Rattle.ctl_atoms.specs.declared.leaf.Atom.{Atom}
 use Rattle.pipe_motion.specs.declared.settings.Settings.{Settings}
-use Rattle.pipe_obligations.specs.Settled.{Holds, PipeControls}
+use Rattle.pipe_obligations.specs.FileSettings.{Holds, PipeControls}
 use Rattle.pipe_refinement.specs.Refines.{Refines}
 
 -- every obligation holds of the design at the settings, in every valuation in which its control values solve their equations; and

@@ -5,13 +5,13 @@ use Rattle.std.proofs.lemmas.List.{take-set-le, drop-set, take-append-drop, take
 use Rattle.std.proofs.lemmas.Bool.{leb-true}
 use Rattle.y86_base.specs.declared.parts.Variant.{Variant}
 use Rattle.y86_base.proofs.Booleans.{and_second, and_first}
-use Rattle.field_bits.specs.Spelling.{spell}
-use Rattle.field_bits.specs.declared.spots.Spot.{Spot}
-use Rattle.field_bits.specs.Spots.{pattern, total}
-use Rattle.field_bits.proofs.Patterns.{length_spell}
-use Rattle.pipe_fields.specs.Layout.{spots, bit_count, field_count}
+use Rattle.net_fields.specs.Spelling.{spell}
+use Rattle.net_fields.specs.declared.field_specs.FieldSpec.{FieldSpec}
+use Rattle.net_fields.specs.FieldSpecs.{pattern, total}
+use Rattle.net_fields.proofs.Patterns.{length_spell}
+use Rattle.pipe_fields.specs.Layout.{field_specs, bit_count, field_count}
 use Rattle.prog_gen.specs.Choices.{with_field, width, numbers_drawn, word_behind, truths_drawn, chosen, choices, valuation_from}
-use Rattle.prog_gen.specs.Draws.{advanced, given}
+use Rattle.prog_gen.specs.Draws.{lcg_next, lcg_output}
 
 -- one more bit of a field is written, from its end on
 pub field_step : (out : List Bool) (first k n : ℕ) → first + k < length out
@@ -32,18 +32,18 @@ unfolding spell
 field_none out first n = ap (λ (m : ℕ). take first out ++ drop m out) (add-zero first) ∙ take-append-drop first out
 
 -- what a table of fields has
-any_spot : Spot
+any_spot : FieldSpec
 any_spot = record { bits = 0; name = None }
 
-narrow : (ss : List Spot) (j : ℕ) → list_all (λ s. nat_le s.bits 4) ss ≡ true → (get_or ss j (record { bits = 0; name = None })).bits ≤ 4
+narrow : (ss : List FieldSpec) (j : ℕ) → list_all (λ s. nat_le s.bits 4) ss ≡ true → (get_or ss j (record { bits = 0; name = None })).bits ≤ 4
 narrow [] j h = omega arith
 narrow (s ∷ ss) zero h = leb-true s.bits 4 (and_first (nat_le s.bits 4) (list_all (λ t. nat_le t.bits 4) ss) h)
 narrow (s ∷ ss) (suc j) h = narrow ss j (and_second (nat_le s.bits 4) (list_all (λ t. nat_le t.bits 4) ss) h)
 
 pub width_small : (j : ℕ) → width j ≤ 4
-width_small j = narrow spots j refl
+width_small j = narrow field_specs j refl
 
-pub pattern_more : (ss : List Spot) (xs : List ℕ) (j : ℕ) (d : Spot) → j < length ss → j < length xs
+pub pattern_more : (ss : List FieldSpec) (xs : List ℕ) (j : ℕ) (d : FieldSpec) → j < length ss → j < length xs
     → pattern (take (j + 1) ss) (take (j + 1) xs) [] ≡ pattern (take j ss) (take j xs) [] ++ spell (get_or ss j d).bits (get_or xs j 0)
 pattern_more [] xs j d h k = absurd (omega (arith, h))
 pattern_more (s ∷ ss) [] j d h k = absurd (omega (arith, k))
@@ -54,20 +54,20 @@ pattern_more (s ∷ ss) (x ∷ xs) (suc j) d h k =
     ∙ (ap (λ (bits : List Bool). spell s.bits x ++ bits) (pattern_more ss xs j d (omega (arith, h)) (omega (arith, k)))
     ∙ sym (append_assoc (spell s.bits x) (pattern (take j ss) (take j xs) []) (spell (get_or ss j d).bits (get_or xs j 0))))
 
-pub total_more : (ss : List Spot) (j : ℕ) (d : Spot) → j < length ss → total (take (j + 1) ss) ≡ total (take j ss) + (get_or ss j d).bits
+pub total_more : (ss : List FieldSpec) (j : ℕ) (d : FieldSpec) → j < length ss → total (take (j + 1) ss) ≡ total (take j ss) + (get_or ss j d).bits
 total_more [] j d h = absurd (omega (arith, h))
 total_more (s ∷ ss) zero d h = omega arith
 total_more (s ∷ ss) (suc j) d h =
     let e : suc j + 1 ≡ suc (j + 1) = omega arith in
     ap (λ (m : ℕ). total (take m (s ∷ ss))) e ∙ omega (arith, total_more ss j d (omega (arith, h)))
 
-pub total_within : (ss : List Spot) (j : ℕ) → total (take j ss) ≤ total ss
+pub total_within : (ss : List FieldSpec) (j : ℕ) → total (take j ss) ≤ total ss
 total_within [] zero = omega arith
 total_within [] (suc j) = omega arith
 total_within (s ∷ ss) zero = omega arith
 total_within (s ∷ ss) (suc j) = omega (arith, total_within ss j)
 
-pub pattern_behind : (ss : List Spot) (xs : List ℕ) (rest : List Bool) → length ss ≡ length xs → pattern ss xs rest ≡ pattern ss xs [] ++ rest
+pub pattern_behind : (ss : List FieldSpec) (xs : List ℕ) (rest : List Bool) → length ss ≡ length xs → pattern ss xs rest ≡ pattern ss xs [] ++ rest
 pattern_behind [] xs rest h = refl
 pattern_behind (s ∷ ss) [] rest h = absurd (omega (arith, h))
 pattern_behind (s ∷ ss) (x ∷ xs) rest h =
@@ -75,7 +75,7 @@ pattern_behind (s ∷ ss) (x ∷ xs) rest h =
 
 -- ---- draws
 
-pub truth_more : (out : List Bool) (k n word after : ℕ) (b : Bool) → k < length out → k < n → after ≡ advanced word → b ≡ (given after % 2 == 1)
+pub truth_more : (out : List Bool) (k n word after : ℕ) (b : Bool) → k < length out → k < n → after ≡ lcg_next word → b ≡ (lcg_output after % 2 == 1)
     → take (k + 1) (set out k b) ++ truths_drawn (n - (k + 1)) after ≡ take k out ++ truths_drawn (n - k) word
 unfolding truths_drawn
 truth_more out k n word after b h within e is =
@@ -83,7 +83,7 @@ truth_more out k n word after b h within e is =
     ap (λ (xs : List Bool). xs ++ truths_drawn (n - (k + 1)) after) (take_more_set out k b h)
     ∙ (append_assoc (take k out) (b ∷ []) (truths_drawn (n - (k + 1)) after)
     ∙ (ap (λ (x : Bool). take k out ++ (x ∷ truths_drawn (n - (k + 1)) after)) is
-    ∙ (ap (λ (w : ℕ). take k out ++ ((given w % 2 == 1) ∷ truths_drawn (n - (k + 1)) w)) e
+    ∙ (ap (λ (w : ℕ). take k out ++ ((lcg_output w % 2 == 1) ∷ truths_drawn (n - (k + 1)) w)) e
     ∙ ap (λ (m : ℕ). take k out ++ truths_drawn m word) (sym left))))
 
 pub truths_end : (out : List Bool) (k n word : ℕ) → length out ≤ k → n ≤ k → take k out ++ truths_drawn (n - k) word ≡ out
@@ -93,25 +93,25 @@ truths_end out k n word h none =
     ap (λ (m : ℕ). take k out ++ truths_drawn m word) zero_left ∙ (append-nil (take k out) ∙ take_all k out h)
 
 -- one more field is drawn
-pub number_more : (v : Variant) (numbers : List ℕ) (j word after n : ℕ) → j < field_count → j < length numbers → after ≡ advanced word
-    → n ≡ chosen (choices v (take j numbers)) (given after)
+pub number_more : (v : Variant) (numbers : List ℕ) (j word after n : ℕ) → j < field_count → j < length numbers → after ≡ lcg_next word
+    → n ≡ chosen (choices v (take j numbers)) (lcg_output after)
     → numbers_drawn v (field_count - (j + 1)) (take (j + 1) (set numbers j n)) after ≡ numbers_drawn v (field_count - j) (take j numbers) word
 unfolding numbers_drawn
 number_more v numbers j word after n within h e is =
     let left : field_count - j ≡ suc (field_count - (j + 1)) = omega arith in
     ap (λ (xs : List ℕ). numbers_drawn v (field_count - (j + 1)) xs after) (take_more_set numbers j n h)
     ∙ (ap (λ (x : ℕ). numbers_drawn v (field_count - (j + 1)) (take j numbers ++ x ∷ []) after) is
-    ∙ (ap (λ (w : ℕ). numbers_drawn v (field_count - (j + 1)) (take j numbers ++ chosen (choices v (take j numbers)) (given w) ∷ []) w) e
+    ∙ (ap (λ (w : ℕ). numbers_drawn v (field_count - (j + 1)) (take j numbers ++ chosen (choices v (take j numbers)) (lcg_output w) ∷ []) w) e
     ∙ ap (λ (m : ℕ). numbers_drawn v m (take j numbers) word) (sym left)))
 
-pub word_more : (j word after : ℕ) → j < field_count → after ≡ advanced word → word_behind (field_count - (j + 1)) after ≡ word_behind (field_count - j) word
+pub word_more : (j word after : ℕ) → j < field_count → after ≡ lcg_next word → word_behind (field_count - (j + 1)) after ≡ word_behind (field_count - j) word
 unfolding word_behind
 word_more j word after within e =
     let left : field_count - j ≡ suc (field_count - (j + 1)) = omega arith in
     ap (word_behind (field_count - (j + 1))) e ∙ ap (λ (m : ℕ). word_behind m word) (sym left)
 
 -- the bits of one more field
-pub bits_more : (out : List Bool) (ss : List Spot) (xs : List ℕ) (j first k n : ℕ) → j < length ss → j < length xs → k ≡ (get_or ss j (record { bits = 0; name = None })).bits
+pub bits_more : (out : List Bool) (ss : List FieldSpec) (xs : List ℕ) (j first k n : ℕ) → j < length ss → j < length xs → k ≡ (get_or ss j (record { bits = 0; name = None })).bits
     → first + k ≤ length out → take first out ≡ pattern (take j ss) (take j xs) []
     → take (first + k) (with_field out first k n) ≡ pattern (take (j + 1) ss) (take (j + 1) (set xs j n)) []
 bits_more out ss xs j first k n hs hx is room told =
@@ -150,7 +150,7 @@ all_numbers v j word numbers last h e =
     let none_left : field_count - j ≡ 0 = omega arith in
     sym (ap (λ (m : ℕ). numbers_drawn v m numbers word) none_left) ∙ e
 
-length_pattern : (ss : List Spot) (xs : List ℕ) → length ss ≡ length xs → length (pattern ss xs []) ≡ total ss
+length_pattern : (ss : List FieldSpec) (xs : List ℕ) → length ss ≡ length xs → length (pattern ss xs []) ≡ total ss
 length_pattern [] xs h = refl
 length_pattern (s ∷ ss) [] h = absurd (omega (arith, h))
 length_pattern (s ∷ ss) (x ∷ xs) h =
@@ -160,17 +160,17 @@ length_drawn : (v : Variant) (k : ℕ) (before : List ℕ) (word : ℕ) → leng
 unfolding numbers_drawn
 length_drawn v zero before word = omega arith
 length_drawn v (suc k) before word =
-    let n : ℕ = chosen (choices v before) (given (advanced word)) in
-    omega (arith, length_drawn v k (before ++ n ∷ []) (advanced word), length_push before n)
+    let n : ℕ = chosen (choices v before) (lcg_output (lcg_next word)) in
+    omega (arith, length_drawn v k (before ++ n ∷ []) (lcg_next word), length_push before n)
 
 -- the fields are drawn, and truths behind them
-pub drawn_whole : (v : Variant) (word after atoms : ℕ) (fields old out : List Bool) → fields ≡ pattern spots (numbers_drawn v field_count [] word) [] ++ drop bit_count old
+pub drawn_whole : (v : Variant) (word after atoms : ℕ) (fields old out : List Bool) → fields ≡ pattern field_specs (numbers_drawn v field_count [] word) [] ++ drop bit_count old
     → after ≡ word_behind field_count word → out ≡ take bit_count fields ++ truths_drawn atoms after → out ≡ valuation_from v atoms word
 unfolding valuation_from
 drawn_whole v word after atoms fields old out front e whole =
     let numbers : List ℕ = numbers_drawn v field_count [] word in
-    let bits : List Bool = pattern spots numbers [] in
-    let count : length spots ≡ length numbers = omega (arith, length_drawn v field_count [] word) in
-    let size : length bits ≡ bit_count = length_pattern spots numbers count in
+    let bits : List Bool = pattern field_specs numbers [] in
+    let count : length field_specs ≡ length numbers = omega (arith, length_drawn v field_count [] word) in
+    let size : length bits ≡ bit_count = length_pattern field_specs numbers count in
     let kept : take bit_count fields ≡ bits = ap (take bit_count) front ∙ (take-append-le bit_count bits (drop bit_count old) (omega (arith, size)) ∙ take_all bit_count bits (omega (arith, size))) in
-    whole ∙ (ap (λ (xs : List Bool). xs ++ truths_drawn atoms after) kept ∙ (ap (λ (w : ℕ). bits ++ truths_drawn atoms w) e ∙ sym (pattern_behind spots numbers (truths_drawn atoms (word_behind field_count word)) count)))
+    whole ∙ (ap (λ (xs : List Bool). xs ++ truths_drawn atoms after) kept ∙ (ap (λ (w : ℕ). bits ++ truths_drawn atoms w) e ∙ sym (pattern_behind field_specs numbers (truths_drawn atoms (word_behind field_count word)) count)))

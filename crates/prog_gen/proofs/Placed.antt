@@ -6,7 +6,7 @@ use Rattle.y86_base.specs.declared.parts.Variant.{Variant}
 use Rattle.y86_isa.specs.RowTests.{accesses}
 use Rattle.y86_isa.specs.Table.{rows, row}
 use Rattle.pipe_fields.specs.Layout.{Fields}
-use Rattle.prog_gen.specs.Choices.{may_stand, write_may}
+use Rattle.prog_gen.specs.Choices.{choice_allowed, write_choice_allowed}
 use Rattle.prog_gen.specs.Spans.{IsSpanOf}
 use Rattle.prog_gen.specs.declared.spans.Span.{Span}
 
@@ -18,8 +18,8 @@ past : (j k : ℕ) → k ≤ j → nat_lt j k ≡ false
 past j k h = grind (arith, nat_tests)
 
 pub may_write : (v : Variant) (j : ℕ) (c : Fields) (n : ℕ) → 36 ≤ j
-    → may_stand v j c n ≡ write_may (length (rows v)) (row v c.w.icode) (accesses (row v n).memory) c.w (j - 36) n
-unfolding may_stand
+    → choice_allowed v j c n ≡ write_choice_allowed (length (rows v)) (row v c.w.icode) (accesses (row v n).memory) c.w (j - 36) n
+unfolding choice_allowed
 may_write v j c n h =
     skip (nat_lt j 2) _ _ (past j 2 (omega (arith, h)))
     ∙ (skip (nat_lt j 4) _ _ (past j 4 (omega (arith, h)))
@@ -29,6 +29,6 @@ may_write v j c n h =
     ∙ skip (nat_lt j 36) _ _ (past j 36 (omega (arith, h)))))))
 
 pub span_write : (v : Variant) (j : ℕ) (c : Fields) (o : Option Span) → 36 ≤ j
-    → IfSome o (λ s. IsSpanOf s (λ n. write_may (length (rows v)) (row v c.w.icode) (accesses (row v n).memory) c.w (j - 36) n)) → IfSome o (λ s. IsSpanOf s (may_stand v j c))
+    → IfSome o (λ s. IsSpanOf s (λ n. write_choice_allowed (length (rows v)) (row v c.w.icode) (accesses (row v n).memory) c.w (j - 36) n)) → IfSome o (λ s. IsSpanOf s (choice_allowed v j c))
 span_write v j c None h f = f
 span_write v j c (Some s) h f = λ n small. f n small ∙ sym (may_write v j c n h)

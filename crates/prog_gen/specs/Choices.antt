@@ -3,98 +3,98 @@ use Rattle.std.specs.Prelude.{ℕ, zero, suc, ◌+◌, ◌-◌, ◌%◌, ◌^◌
 use Rattle.std.specs.List.{range_with_len}
 use Rattle.y86_base.specs.declared.parts.Variant.{Variant}
 use Rattle.y86_isa.specs.declared.columns.Row.{Row}
-use Rattle.y86_isa.specs.RowTests.{accesses, is_branch}
+use Rattle.y86_isa.specs.RowTests.{accesses, next_is_branch}
 use Rattle.y86_isa.specs.Table.{rows, row, inop, no_register}
-use Rattle.field_bits.specs.Fits.{icode_fits, half_fits, register_fits, tied, destination_fits, cnd_fits, cnd_where, only_where, stat_fits}
+use Rattle.net_fields.specs.AllowedNumbers.{icode_allowed, register_field_allowed, register_allowed, shares_register, destination_allowed, cnd_allowed, cnd_allowed_where, zero_unless, stat_allowed}
 use Rattle.y86_base.specs.Words.{set}
-use Rattle.field_bits.specs.Spelling.{spell}
-use Rattle.pipe_fields.specs.Layout.{FetchLine, DecodeLine, ExecuteLine, MemoryLine, WriteLine, Fields, bubble, fields_by, spots, field_count, f_first, d_first, e_first, m_first, w_first}
-use Rattle.pipe_fields.specs.Allowed.{is_live}
-use Rattle.field_bits.specs.Spots as table
-use Rattle.prog_gen.specs.Draws.{advanced, given}
+use Rattle.net_fields.specs.Spelling.{spell}
+use Rattle.pipe_fields.specs.Layout.{FetchLine, DecodeLine, ExecuteLine, MemoryLine, WriteLine, Fields, bubble, fields_by, field_specs, field_count, f_first, d_first, e_first, m_first, w_first}
+use Rattle.pipe_fields.specs.Allowed.{is_good_aok}
+use Rattle.net_fields.specs.FieldSpecs as table
+use Rattle.prog_gen.specs.Draws.{lcg_next, lcg_output}
 
 -- ---- what may stand in a field of a line, by its place in the line and the row of the line's icode; the fields behind it don't count
 
-abbrev pub fetch_may : ℕ → Row → FetchLine → ℕ → ℕ → Bool
-fetch_may count r x i n =
+abbrev pub fetch_choice_allowed : ℕ → Row → FetchLine → ℕ → ℕ → Bool
+fetch_choice_allowed count r x i n =
     if i == 0 then true
-    else (if i == 1 then (if set x.error then n == inop else icode_fits count n)
+    else (if i == 1 then (if set x.error then n == inop else icode_allowed count n)
     else (if i == 2 then nat_le n r.ifun_top && (not (set x.error) || n == 0)
-    else (if i == 3 then cnd_where (is_branch r.next) x.ifun n
-    else (if i == 4 then only_where (accesses r.memory) n
-    else only_where (is_branch r.next) n))))
+    else (if i == 3 then cnd_allowed_where (next_is_branch r.next) x.ifun n
+    else (if i == 4 then zero_unless (accesses r.memory) n
+    else zero_unless (next_is_branch r.next) n))))
 
 -- status, icode and ifun of what a stage holds; the icode may be one that has an error at memory where a row that accesses it is asked for
-abbrev pub stat_may : ℕ → ℕ → Bool
-stat_may kind n = if kind == bubble then n == 0 else nat_le 1 n && nat_le n 4
+abbrev pub stat_choice_allowed : ℕ → ℕ → Bool
+stat_choice_allowed kind n = if kind == bubble then n == 0 else nat_le 1 n && nat_le n 4
 
-abbrev pub icode_may : ℕ → ℕ → Bool → ℕ → ℕ → Bool
-icode_may count kind faulted stat n = if kind == bubble then n == inop else stat_fits count faulted stat n
+abbrev pub icode_choice_allowed : ℕ → ℕ → Bool → ℕ → ℕ → Bool
+icode_choice_allowed count kind faulted stat n = if kind == bubble then n == inop else stat_allowed count faulted stat n
 
-abbrev pub ifun_may : Row → ℕ → ℕ → ℕ → Bool
-ifun_may r kind stat n = if kind == bubble then n == 0 else nat_le n r.ifun_top && (not (stat == 3) || n == 0)
+abbrev pub ifun_choice_allowed : Row → ℕ → ℕ → ℕ → Bool
+ifun_choice_allowed r kind stat n = if kind == bubble then n == 0 else nat_le n r.ifun_top && (not (stat == 3) || n == 0)
 
-abbrev pub decode_may : ℕ → Row → DecodeLine → ℕ → ℕ → Bool
-decode_may count r x i n =
-    if i == 0 then stat_may x.kind n
-    else (if i == 1 then icode_may count x.kind false x.stat n
-    else (if i == 2 then ifun_may r x.kind x.stat n
-    else (if i == 3 then half_fits r.has_byte r.uses_a n
-    else (if i == 4 then half_fits r.has_byte r.uses_b n
-    else (if i == 5 then cnd_where (is_live x.kind x.stat && is_branch r.next) x.ifun n
-    else (if i == 6 then only_where (is_live x.kind x.stat && accesses r.memory) n
-    else only_where (is_live x.kind x.stat && is_branch r.next) n))))))
+abbrev pub decode_choice_allowed : ℕ → Row → DecodeLine → ℕ → ℕ → Bool
+decode_choice_allowed count r x i n =
+    if i == 0 then stat_choice_allowed x.kind n
+    else (if i == 1 then icode_choice_allowed count x.kind false x.stat n
+    else (if i == 2 then ifun_choice_allowed r x.kind x.stat n
+    else (if i == 3 then register_field_allowed r.has_byte r.uses_a n
+    else (if i == 4 then register_field_allowed r.has_byte r.uses_b n
+    else (if i == 5 then cnd_allowed_where (is_good_aok x.kind x.stat && next_is_branch r.next) x.ifun n
+    else (if i == 6 then zero_unless (is_good_aok x.kind x.stat && accesses r.memory) n
+    else zero_unless (is_good_aok x.kind x.stat && next_is_branch r.next) n))))))
 
-abbrev pub execute_may : ℕ → Row → ExecuteLine → ℕ → ℕ → Bool
-execute_may count r x i n =
-    if i == 0 then stat_may x.kind n
-    else (if i == 1 then icode_may count x.kind false x.stat n
-    else (if i == 2 then ifun_may r x.kind x.stat n
-    else (if i == 3 then register_fits r.dst_e n
-    else (if i == 4 then register_fits r.dst_m n
-    else (if i == 5 then register_fits r.src_a n
-    else (if i == 6 then register_fits r.src_b n && tied r n x.dst_e
-    else (if i == 7 then cnd_fits x.ifun n
-    else (if i == 8 then only_where (is_live x.kind x.stat && accesses r.memory) n
-    else only_where (is_live x.kind x.stat && is_branch r.next) n))))))))
+abbrev pub execute_choice_allowed : ℕ → Row → ExecuteLine → ℕ → ℕ → Bool
+execute_choice_allowed count r x i n =
+    if i == 0 then stat_choice_allowed x.kind n
+    else (if i == 1 then icode_choice_allowed count x.kind false x.stat n
+    else (if i == 2 then ifun_choice_allowed r x.kind x.stat n
+    else (if i == 3 then register_allowed r.dst_e n
+    else (if i == 4 then register_allowed r.dst_m n
+    else (if i == 5 then register_allowed r.src_a n
+    else (if i == 6 then register_allowed r.src_b n && shares_register r n x.dst_e
+    else (if i == 7 then cnd_allowed x.ifun n
+    else (if i == 8 then zero_unless (is_good_aok x.kind x.stat && accesses r.memory) n
+    else zero_unless (is_good_aok x.kind x.stat && next_is_branch r.next) n))))))))
 
 -- in M a move's destination may be lost where its condition can fail, and then the condition has failed
-abbrev pub memory_may : ℕ → Row → MemoryLine → ℕ → ℕ → Bool
-memory_may count r x i n =
-    if i == 0 then stat_may x.kind n
-    else (if i == 1 then icode_may count x.kind false x.stat n
-    else (if i == 2 then ifun_may r x.kind x.stat n
-    else (if i == 3 then register_fits r.dst_e n || (r.conditional && (n == no_register && not (x.ifun == 0)))
-    else (if i == 4 then register_fits r.dst_m n
-    else (if i == 5 then (if x.kind == bubble then true else cnd_fits x.ifun n && destination_fits r n x.dst_e)
-    else (if i == 6 then only_where (is_live x.kind x.stat && accesses r.memory) n
-    else only_where (is_live x.kind x.stat && is_branch r.next) n))))))
+abbrev pub memory_choice_allowed : ℕ → Row → MemoryLine → ℕ → ℕ → Bool
+memory_choice_allowed count r x i n =
+    if i == 0 then stat_choice_allowed x.kind n
+    else (if i == 1 then icode_choice_allowed count x.kind false x.stat n
+    else (if i == 2 then ifun_choice_allowed r x.kind x.stat n
+    else (if i == 3 then register_allowed r.dst_e n || (r.conditional && (n == no_register && not (x.ifun == 0)))
+    else (if i == 4 then register_allowed r.dst_m n
+    else (if i == 5 then (if x.kind == bubble then true else cnd_allowed x.ifun n && destination_allowed r n x.dst_e)
+    else (if i == 6 then zero_unless (is_good_aok x.kind x.stat && accesses r.memory) n
+    else zero_unless (is_good_aok x.kind x.stat && next_is_branch r.next) n))))))
 
-abbrev pub write_may : ℕ → Row → Bool → WriteLine → ℕ → ℕ → Bool
-write_may count r faulted x i n =
-    if i == 0 then stat_may x.kind n
-    else (if i == 1 then icode_may count x.kind faulted x.stat n
-    else (if i == 2 then (r.conditional && n == no_register) || register_fits r.dst_e n
-    else register_fits r.dst_m n))
+abbrev pub write_choice_allowed : ℕ → Row → Bool → WriteLine → ℕ → ℕ → Bool
+write_choice_allowed count r faulted x i n =
+    if i == 0 then stat_choice_allowed x.kind n
+    else (if i == 1 then icode_choice_allowed count x.kind faulted x.stat n
+    else (if i == 2 then (r.conditional && n == no_register) || register_allowed r.dst_e n
+    else register_allowed r.dst_m n))
 
 -- ---- by the place in the order of the variables: the kinds, then the lines F, D, E, M and W
-unfoldable pub may_stand : Variant → ℕ → Fields → ℕ → Bool
-may_stand v j c n =
+unfoldable pub choice_allowed : Variant → ℕ → Fields → ℕ → Bool
+choice_allowed v j c n =
     if nat_lt j 2 then nat_lt n 3
     else (if nat_lt j f_first then nat_lt n 2
-    else (if nat_lt j d_first then fetch_may (length (rows v)) (row v c.f.icode) c.f (j - f_first) n
-    else (if nat_lt j e_first then decode_may (length (rows v)) (row v c.d.icode) c.d (j - d_first) n
-    else (if nat_lt j m_first then execute_may (length (rows v)) (row v c.e.icode) c.e (j - e_first) n
-    else (if nat_lt j w_first then memory_may (length (rows v)) (row v c.m.icode) c.m (j - m_first) n
-    else write_may (length (rows v)) (row v c.w.icode) (accesses (row v n).memory) c.w (j - w_first) n)))))
+    else (if nat_lt j d_first then fetch_choice_allowed (length (rows v)) (row v c.f.icode) c.f (j - f_first) n
+    else (if nat_lt j e_first then decode_choice_allowed (length (rows v)) (row v c.d.icode) c.d (j - d_first) n
+    else (if nat_lt j m_first then execute_choice_allowed (length (rows v)) (row v c.e.icode) c.e (j - e_first) n
+    else (if nat_lt j w_first then memory_choice_allowed (length (rows v)) (row v c.m.icode) c.m (j - m_first) n
+    else write_choice_allowed (length (rows v)) (row v c.w.icode) (accesses (row v n).memory) c.w (j - w_first) n)))))
 
 -- how many bits the field at a place has
 abbrev pub width : ℕ → ℕ
-width j = (get_or spots j (record { bits = 0; name = None })).bits
+width j = (get_or field_specs j (record { bits = 0; name = None })).bits
 
 -- the numbers that may stand behind others, in rising order
 abbrev pub choices : Variant → List ℕ → List ℕ
-choices v before = filter (may_stand v (length before) (fields_by before)) (range_with_len 0 (2 ^ width (length before)))
+choices v before = filter (choice_allowed v (length before) (fields_by before)) (range_with_len 0 (2 ^ width (length before)))
 
 -- the one at a position modulo how many there are; 0 where there is none (`law_of_draws`: there is one)
 abbrev pub chosen : List ℕ → ℕ → ℕ
@@ -109,21 +109,21 @@ with_field out first bits n = take first out ++ (spell bits n ++ drop (first + b
 -- so many more fields are drawn behind these numbers
 unfoldable pub numbers_drawn : Variant → ℕ → List ℕ → ℕ → List ℕ
 numbers_drawn v zero before word = before
-numbers_drawn v (suc k) before word = numbers_drawn v k (before ++ chosen (choices v before) (given (advanced word)) ∷ []) (advanced word)
+numbers_drawn v (suc k) before word = numbers_drawn v k (before ++ chosen (choices v before) (lcg_output (lcg_next word)) ∷ []) (lcg_next word)
 
 -- the word behind so many draws
 unfoldable pub word_behind : ℕ → ℕ → ℕ
 word_behind zero word = word
-word_behind (suc k) word = word_behind k (advanced word)
+word_behind (suc k) word = word_behind k (lcg_next word)
 
 -- so many truths are drawn
 unfoldable pub truths_drawn : ℕ → ℕ → List Bool
 truths_drawn zero word = []
-truths_drawn (suc k) word = (given (advanced word) % 2 == 1) ∷ truths_drawn k (advanced word)
+truths_drawn (suc k) word = (lcg_output (lcg_next word) % 2 == 1) ∷ truths_drawn k (lcg_next word)
 
 -- the bits of the valuation that a generator at a word draws, with so many atoms
 unfoldable pub valuation_from : Variant → ℕ → ℕ → List Bool
-valuation_from v atoms word = table.pattern spots (numbers_drawn v field_count [] word) (truths_drawn atoms (word_behind field_count word))
+valuation_from v atoms word = table.pattern field_specs (numbers_drawn v field_count [] word) (truths_drawn atoms (word_behind field_count word))
 
 -- valuation i of a seed
 abbrev pub valuation : Variant → ℕ → ℕ → ℕ → List Bool
@@ -131,4 +131,4 @@ valuation v atoms seed i = valuation_from v atoms ((seed + i) % 2 ^ 64)
 
 -- each number is one that may stand behind those before it
 abbrev pub AreChosen : Variant → List ℕ → Type 0
-AreChosen v xs = (j : ℕ) → j < length xs → may_stand v j (fields_by (take j xs)) (get_or xs j 0) ≡ true
+AreChosen v xs = (j : ℕ) → j < length xs → choice_allowed v j (fields_by (take j xs)) (get_or xs j 0) ≡ true

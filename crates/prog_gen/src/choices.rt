@@ -1,9 +1,9 @@
 //! Which numbers may stand in a field of a control valuation of PIPE behind those before it.
 ghost use Rattle.std.specs.Prelude.{◌≡◌, ◌<◌, ◌≤◌, ◌^◌, ◌+◌, length, get_or};
 ghost use Rattle.prog_gen.specs.Choices as spec;
-ghost use Rattle.field_bits.specs.Fits as fit;
+ghost use Rattle.net_fields.specs.AllowedNumbers as fit;
 ghost use Rattle.y86_base.specs.Words as words;
-ghost use Rattle.pipe_fields.specs.Allowed.{is_live as live};
+ghost use Rattle.pipe_fields.specs.Allowed.{is_good_aok as live};
 ghost use Rattle.pipe_fields.specs.Layout.{fields_by, field_count};
 ghost use Rattle.y86_isa.specs.RowTests as tests;
 ghost use Rattle.y86_isa.specs.Table.{rows};
@@ -13,7 +13,7 @@ use crate::spans::span_behind;
 use arrayvec::ArrayVec;
 use pipe_fields::{D_FIRST, E_FIRST, F_FIRST, M_FIRST, W_FIRST};
 use y86_base::Variant;
-use y86_isa::{Field, Row, accesses, icode_count, is_branch, is_field_b, row};
+use y86_isa::{RegisterColumn, Row, accesses, icode_count, is_field_b, next_is_branch, row};
 
 const NO_REGISTER: u64 = 15;
 
@@ -25,14 +25,14 @@ fn is_set(n: u64) -> bool
     n != 0
 }
 
-fn icode_fits(count: u64, n: u64) -> bool
-    ensures { result ≡ fit.icode_fits count n }
+fn icode_allowed(count: u64, n: u64) -> bool
+    ensures { result ≡ fit.icode_allowed count n }
 {
     n < count || n == 15
 }
 
-fn half_fits(has_byte: bool, used: bool, n: u64) -> bool
-    ensures { result ≡ fit.half_fits has_byte used n }
+fn register_field_allowed(has_byte: bool, used: bool, n: u64) -> bool
+    ensures { result ≡ fit.register_field_allowed has_byte used n }
 {
     if has_byte {
         !used || n < NO_REGISTER
@@ -41,25 +41,25 @@ fn half_fits(has_byte: bool, used: bool, n: u64) -> bool
     }
 }
 
-fn register_fits(field: Field, n: u64) -> bool
-    ensures { result ≡ fit.register_fits field n }
+fn register_allowed(field: RegisterColumn, n: u64) -> bool
+    ensures { result ≡ fit.register_allowed field n }
 {
     match field {
-        Field::Dash => n == NO_REGISTER,
-        Field::FieldA => n < NO_REGISTER,
-        Field::FieldB => n < NO_REGISTER,
-        Field::Stack => n == 4,
+        RegisterColumn::Dash => n == NO_REGISTER,
+        RegisterColumn::FieldA => n < NO_REGISTER,
+        RegisterColumn::FieldB => n < NO_REGISTER,
+        RegisterColumn::Stack => n == 4,
     }
 }
 
-fn tied(r: &Row, src_b: u64, dst_e: u64) -> bool
-    ensures { result ≡ fit.tied r.now src_b dst_e }
+fn shares_register(r: &Row, src_b: u64, dst_e: u64) -> bool
+    ensures { result ≡ fit.shares_register r.now src_b dst_e }
 {
     !(is_field_b(r.src_b) && is_field_b(r.dst_e)) || src_b == dst_e
 }
 
-fn cnd_fits(ifun: u64, n: u64) -> bool
-    ensures { result ≡ fit.cnd_fits ifun n }
+fn cnd_allowed(ifun: u64, n: u64) -> bool
+    ensures { result ≡ fit.cnd_allowed ifun n }
 {
     if ifun == 0 {
         is_set(n)
@@ -68,30 +68,34 @@ fn cnd_fits(ifun: u64, n: u64) -> bool
     }
 }
 
-fn destination_fits(r: &Row, cnd: u64, n: u64) -> bool
-    ensures { result ≡ fit.destination_fits r.now cnd n }
+fn destination_allowed(r: &Row, cnd: u64, n: u64) -> bool
+    ensures { result ≡ fit.destination_allowed r.now cnd n }
 {
     if r.conditional && !is_set(cnd) {
         n == NO_REGISTER
     } else {
-        register_fits(r.dst_e, n)
+        register_allowed(r.dst_e, n)
     }
 }
 
-fn only_where(may: bool, n: u64) -> bool
-    ensures { result ≡ fit.only_where may n }
+fn zero_unless(may: bool, n: u64) -> bool
+    ensures { result ≡ fit.zero_unless may n }
 {
     may || !is_set(n)
 }
 
-fn cnd_where(may: bool, ifun: u64, n: u64) -> bool
-    ensures { result ≡ fit.cnd_where may ifun n }
+fn cnd_allowed_where(may: bool, ifun: u64, n: u64) -> bool
+    ensures { result ≡ fit.cnd_allowed_where may ifun n }
 {
-    if may { cnd_fits(ifun, n) } else { !is_set(n) }
+    if may {
+        cnd_allowed(ifun, n)
+    } else {
+        !is_set(n)
+    }
 }
 
-fn stat_fits(count: u64, faulted: bool, stat: u64, icode: u64) -> bool
-    ensures { result ≡ fit.stat_fits count faulted stat icode }
+fn stat_allowed(count: u64, faulted: bool, stat: u64, icode: u64) -> bool
+    ensures { result ≡ fit.stat_allowed count faulted stat icode }
 {
     (stat == 1 && (0 < icode && icode < count))
         || (stat == 2 && icode == 0)
@@ -99,24 +103,24 @@ fn stat_fits(count: u64, faulted: bool, stat: u64, icode: u64) -> bool
         || (stat == 4 && icode == 15)
 }
 
-fn stat_may(kind: u64, n: u64) -> bool
-    ensures { result ≡ spec.stat_may kind n }
+fn stat_choice_allowed(kind: u64, n: u64) -> bool
+    ensures { result ≡ spec.stat_choice_allowed kind n }
 {
     if kind == 0 { n == 0 } else { 1 <= n && n <= 4 }
 }
 
-fn icode_may(count: u64, kind: u64, faulted: bool, stat: u64, n: u64) -> bool
-    ensures { result ≡ spec.icode_may count kind faulted stat n }
+fn icode_choice_allowed(count: u64, kind: u64, faulted: bool, stat: u64, n: u64) -> bool
+    ensures { result ≡ spec.icode_choice_allowed count kind faulted stat n }
 {
     if kind == 0 {
         n == NOP
     } else {
-        stat_fits(count, faulted, stat, n)
+        stat_allowed(count, faulted, stat, n)
     }
 }
 
-fn ifun_may(r: &Row, kind: u64, stat: u64, n: u64) -> bool
-    ensures { result ≡ spec.ifun_may r.now kind stat n }
+fn ifun_choice_allowed(r: &Row, kind: u64, stat: u64, n: u64) -> bool
+    ensures { result ≡ spec.ifun_choice_allowed r.now kind stat n }
 {
     if kind == 0 {
         n == 0
@@ -125,7 +129,7 @@ fn ifun_may(r: &Row, kind: u64, stat: u64, n: u64) -> bool
     }
 }
 
-pub(crate) fn is_live(kind: u64, stat: u64) -> bool
+pub(crate) fn is_good_aok(kind: u64, stat: u64) -> bool
     ensures { result ≡ live kind stat }
 {
     kind == 1 && stat == 1
@@ -139,8 +143,8 @@ pub(crate) fn at(before: &[u64], k: usize) -> u64
 }
 
 /// In the line F.
-fn fetch_may(v: Variant, before: &[u64], i: usize, n: u64) -> bool
-    ensures { result ≡ spec.fetch_may (length (rows v)) (table.row v (fields_by before.now).f.icode) (fields_by before.now).f i n }
+fn fetch_choice_allowed(v: Variant, before: &[u64], i: usize, n: u64) -> bool
+    ensures { result ≡ spec.fetch_choice_allowed (length (rows v)) (table.row v (fields_by before.now).f.icode) (fields_by before.now).f i n }
 {
     let error = at(before, F_FIRST);
     let icode = at(before, F_FIRST + 1);
@@ -152,41 +156,41 @@ fn fetch_may(v: Variant, before: &[u64], i: usize, n: u64) -> bool
             if is_set(error) {
                 n == NOP
             } else {
-                icode_fits(icode_count(v), n)
+                icode_allowed(icode_count(v), n)
             }
         }
         2 => n <= r.ifun_top && (!is_set(error) || n == 0),
-        3 => cnd_where(is_branch(r.next), ifun, n),
-        4 => only_where(accesses(r.memory), n),
-        _ => only_where(is_branch(r.next), n),
+        3 => cnd_allowed_where(next_is_branch(r.next), ifun, n),
+        4 => zero_unless(accesses(r.memory), n),
+        _ => zero_unless(next_is_branch(r.next), n),
     }
 }
 
 /// In the line D.
-fn decode_may(v: Variant, before: &[u64], i: usize, n: u64) -> bool
-    ensures { result ≡ spec.decode_may (length (rows v)) (table.row v (fields_by before.now).d.icode) (fields_by before.now).d i n }
+fn decode_choice_allowed(v: Variant, before: &[u64], i: usize, n: u64) -> bool
+    ensures { result ≡ spec.decode_choice_allowed (length (rows v)) (table.row v (fields_by before.now).d.icode) (fields_by before.now).d i n }
 {
     let kind = at(before, 0);
     let stat = at(before, D_FIRST);
     let icode = at(before, D_FIRST + 1);
     let ifun = at(before, D_FIRST + 2);
     let r = row(v, icode);
-    let live = is_live(kind, stat);
+    let live = is_good_aok(kind, stat);
     match i {
-        0 => stat_may(kind, n),
-        1 => icode_may(icode_count(v), kind, false, stat, n),
-        2 => ifun_may(&r, kind, stat, n),
-        3 => half_fits(r.has_byte, r.uses_a, n),
-        4 => half_fits(r.has_byte, r.uses_b, n),
-        5 => cnd_where(live && is_branch(r.next), ifun, n),
-        6 => only_where(live && accesses(r.memory), n),
-        _ => only_where(live && is_branch(r.next), n),
+        0 => stat_choice_allowed(kind, n),
+        1 => icode_choice_allowed(icode_count(v), kind, false, stat, n),
+        2 => ifun_choice_allowed(&r, kind, stat, n),
+        3 => register_field_allowed(r.has_byte, r.uses_a, n),
+        4 => register_field_allowed(r.has_byte, r.uses_b, n),
+        5 => cnd_allowed_where(live && next_is_branch(r.next), ifun, n),
+        6 => zero_unless(live && accesses(r.memory), n),
+        _ => zero_unless(live && next_is_branch(r.next), n),
     }
 }
 
 /// In the line E.
-fn execute_may(v: Variant, before: &[u64], i: usize, n: u64) -> bool
-    ensures { result ≡ spec.execute_may (length (rows v)) (table.row v (fields_by before.now).e.icode) (fields_by before.now).e i n }
+fn execute_choice_allowed(v: Variant, before: &[u64], i: usize, n: u64) -> bool
+    ensures { result ≡ spec.execute_choice_allowed (length (rows v)) (table.row v (fields_by before.now).e.icode) (fields_by before.now).e i n }
 {
     let kind = at(before, 1);
     let stat = at(before, E_FIRST);
@@ -194,24 +198,24 @@ fn execute_may(v: Variant, before: &[u64], i: usize, n: u64) -> bool
     let ifun = at(before, E_FIRST + 2);
     let dst_e = at(before, E_FIRST + 3);
     let r = row(v, icode);
-    let live = is_live(kind, stat);
+    let live = is_good_aok(kind, stat);
     match i {
-        0 => stat_may(kind, n),
-        1 => icode_may(icode_count(v), kind, false, stat, n),
-        2 => ifun_may(&r, kind, stat, n),
-        3 => register_fits(r.dst_e, n),
-        4 => register_fits(r.dst_m, n),
-        5 => register_fits(r.src_a, n),
-        6 => register_fits(r.src_b, n) && tied(&r, n, dst_e),
-        7 => cnd_fits(ifun, n),
-        8 => only_where(live && accesses(r.memory), n),
-        _ => only_where(live && is_branch(r.next), n),
+        0 => stat_choice_allowed(kind, n),
+        1 => icode_choice_allowed(icode_count(v), kind, false, stat, n),
+        2 => ifun_choice_allowed(&r, kind, stat, n),
+        3 => register_allowed(r.dst_e, n),
+        4 => register_allowed(r.dst_m, n),
+        5 => register_allowed(r.src_a, n),
+        6 => register_allowed(r.src_b, n) && shares_register(&r, n, dst_e),
+        7 => cnd_allowed(ifun, n),
+        8 => zero_unless(live && accesses(r.memory), n),
+        _ => zero_unless(live && next_is_branch(r.next), n),
     }
 }
 
 /// In the line M.
-fn memory_may(v: Variant, before: &[u64], i: usize, n: u64) -> bool
-    ensures { result ≡ spec.memory_may (length (rows v)) (table.row v (fields_by before.now).m.icode) (fields_by before.now).m i n }
+fn memory_choice_allowed(v: Variant, before: &[u64], i: usize, n: u64) -> bool
+    ensures { result ≡ spec.memory_choice_allowed (length (rows v)) (table.row v (fields_by before.now).m.icode) (fields_by before.now).m i n }
 {
     let kind = at(before, 2);
     let stat = at(before, M_FIRST);
@@ -219,46 +223,46 @@ fn memory_may(v: Variant, before: &[u64], i: usize, n: u64) -> bool
     let ifun = at(before, M_FIRST + 2);
     let dst_e = at(before, M_FIRST + 3);
     let r = row(v, icode);
-    let live = is_live(kind, stat);
+    let live = is_good_aok(kind, stat);
     match i {
-        0 => stat_may(kind, n),
-        1 => icode_may(icode_count(v), kind, false, stat, n),
-        2 => ifun_may(&r, kind, stat, n),
-        3 => register_fits(r.dst_e, n) || (r.conditional && (n == NO_REGISTER && ifun != 0)),
-        4 => register_fits(r.dst_m, n),
+        0 => stat_choice_allowed(kind, n),
+        1 => icode_choice_allowed(icode_count(v), kind, false, stat, n),
+        2 => ifun_choice_allowed(&r, kind, stat, n),
+        3 => register_allowed(r.dst_e, n) || (r.conditional && (n == NO_REGISTER && ifun != 0)),
+        4 => register_allowed(r.dst_m, n),
         5 => {
             if kind == 0 {
                 true
             } else {
-                cnd_fits(ifun, n) && destination_fits(&r, n, dst_e)
+                cnd_allowed(ifun, n) && destination_allowed(&r, n, dst_e)
             }
         }
-        6 => only_where(live && accesses(r.memory), n),
-        _ => only_where(live && is_branch(r.next), n),
+        6 => zero_unless(live && accesses(r.memory), n),
+        _ => zero_unless(live && next_is_branch(r.next), n),
     }
 }
 
 /// In the line W.
-fn write_may(v: Variant, before: &[u64], i: usize, n: u64) -> bool
-    ensures { result ≡ spec.write_may (length (rows v)) (table.row v (fields_by before.now).w.icode) (tests.accesses (table.row v n).memory) (fields_by before.now).w i n }
+fn write_choice_allowed(v: Variant, before: &[u64], i: usize, n: u64) -> bool
+    ensures { result ≡ spec.write_choice_allowed (length (rows v)) (table.row v (fields_by before.now).w.icode) (tests.accesses (table.row v n).memory) (fields_by before.now).w i n }
 {
     let kind = at(before, 3);
     let stat = at(before, W_FIRST);
     let icode = at(before, W_FIRST + 1);
     let r = row(v, icode);
     match i {
-        0 => stat_may(kind, n),
-        1 => icode_may(icode_count(v), kind, accesses(row(v, n).memory), stat, n),
-        2 => (r.conditional && n == NO_REGISTER) || register_fits(r.dst_e, n),
-        _ => register_fits(r.dst_m, n),
+        0 => stat_choice_allowed(kind, n),
+        1 => icode_choice_allowed(icode_count(v), kind, accesses(row(v, n).memory), stat, n),
+        2 => (r.conditional && n == NO_REGISTER) || register_allowed(r.dst_e, n),
+        _ => register_allowed(r.dst_m, n),
     }
 }
 
 /// Whether a number may stand at a place in the order of the variables.
-#[tactic(auto, unfolding(crate::specs::Choices::may_stand))]
-fn may_stand(v: Variant, before: &[u64], n: u64) -> bool
+#[tactic(auto, unfolding(crate::specs::Choices::choice_allowed))]
+fn choice_allowed(v: Variant, before: &[u64], n: u64) -> bool
     requires { length before.now < field_count }
-    ensures { result ≡ spec.may_stand v (length before.now) (fields_by before.now) n }
+    ensures { result ≡ spec.choice_allowed v (length before.now) (fields_by before.now) n }
 {
     let j = before.len();
     if j < 2 {
@@ -266,15 +270,15 @@ fn may_stand(v: Variant, before: &[u64], n: u64) -> bool
     } else if j < F_FIRST {
         n < 2
     } else if j < D_FIRST {
-        fetch_may(v, before, j - F_FIRST, n)
+        fetch_choice_allowed(v, before, j - F_FIRST, n)
     } else if j < E_FIRST {
-        decode_may(v, before, j - D_FIRST, n)
+        decode_choice_allowed(v, before, j - D_FIRST, n)
     } else if j < M_FIRST {
-        execute_may(v, before, j - E_FIRST, n)
+        execute_choice_allowed(v, before, j - E_FIRST, n)
     } else if j < W_FIRST {
-        memory_may(v, before, j - M_FIRST, n)
+        memory_choice_allowed(v, before, j - M_FIRST, n)
     } else {
-        write_may(v, before, j - W_FIRST, n)
+        write_choice_allowed(v, before, j - W_FIRST, n)
     }
 }
 
@@ -288,7 +292,7 @@ fn choices(v: Variant, before: &[u64], bits: u32) -> ArrayVec<u64, 16>
     let mut some = ArrayVec::new();
     let end = 1u64 << bits;
     for n in 0..end {
-        if may_stand(v, before, n) {
+        if choice_allowed(v, before, n) {
             some.push(n);
         }
     }

@@ -1,6 +1,6 @@
 //! The generator of programs and valuations.
 ghost use Rattle.std.specs.Prelude.{◌≡◌, ◌<◌, ◌^◌};
-ghost use Rattle.prog_gen.specs.Draws.{advanced, given};
+ghost use Rattle.prog_gen.specs.Draws.{lcg_next, lcg_output};
 
 use std::marker::Model;
 
@@ -27,10 +27,10 @@ impl Draws {
     }
 
     /// The next number.
-    #[tactic(auto, unfolding(crate::specs::Draws::advanced, crate::specs::Draws::given))]
+    #[tactic(auto, unfolding(crate::specs::Draws::lcg_next, crate::specs::Draws::lcg_output))]
     pub fn draw(&mut self) -> u64
-        ensures after { self.new ≡ advanced self.old }
-        ensures number { result ≡ given self.new }
+        ensures after { self.new ≡ lcg_next self.old }
+        ensures number { result ≡ lcg_output self.new }
         ensures small { result < 2 ^ 31 }
     {
         let next = self

@@ -2,7 +2,7 @@
 ghost use Rattle.std.specs.Prelude.{◌≡◌, ◌<◌, ◌≤◌, ◌+◌, ◌*◌, IfOk, length};
 ghost use Rattle.y86_base.specs.Image.{with_bytes};
 ghost use Rattle.y86_isa.specs.Encoding.{IsValid, widest};
-ghost use Rattle.prog_gen.specs.Draws.{advanced};
+ghost use Rattle.prog_gen.specs.Draws.{lcg_next};
 ghost use Rattle.prog_gen.specs.Programs as spec;
 
 use crate::draws::Draws;
@@ -30,7 +30,7 @@ fn instruction(icode: u8, ifun: u8, r_a: u8, r_b: u8, val_c: u64) -> Instr
 
 /// A register, one of the first fourteen.
 fn draw_register(draws: &mut Draws) -> u8
-    ensures after { draws.new ≡ advanced draws.old }
+    ensures after { draws.new ≡ lcg_next draws.old }
     ensures number { result ≡ spec.register draws.new }
     ensures small { result < 14 }
 {
@@ -40,7 +40,7 @@ fn draw_register(draws: &mut Draws) -> u8
 /// The address of one of 256 words of the data area.
 fn draw_address(draws: &mut Draws, data_at: u64) -> u64
     requires { data_at < 2000000 }
-    ensures after { draws.new ≡ advanced draws.old }
+    ensures after { draws.new ≡ lcg_next draws.old }
     ensures number { result ≡ spec.address data_at draws.new }
 {
     data_at + 8 * (draws.draw() % 256)

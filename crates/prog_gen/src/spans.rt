@@ -1,7 +1,7 @@
 //! Spans of numbers: at most places of a valuation, those that may stand there are the numbers from one on to another.
 ghost use Rattle.std.specs.Prelude.{◌≡◌, ◌<◌, ◌≤◌, ◌^◌, ◌&&◌, ◌||◌, ◌==◌, not, nat_le, nat_lt, ℕ, Bool, true, false, length, IfSome};
 ghost use Rattle.std.specs.List.{filter, range_with_len};
-ghost use Rattle.field_bits.specs.Fits as fit;
+ghost use Rattle.net_fields.specs.AllowedNumbers as fit;
 ghost use Rattle.y86_base.specs.Words as words;
 ghost use Rattle.pipe_fields.specs.Layout.{fields_by, field_count};
 ghost use Rattle.prog_gen.specs.Choices as spec;
@@ -10,10 +10,10 @@ ghost use Rattle.y86_isa.specs.RowTests as tests;
 ghost use Rattle.y86_isa.specs.Table.{rows};
 ghost use Rattle.y86_isa.specs.Table as table;
 
-use crate::choices::{at, is_live};
+use crate::choices::{at, is_good_aok};
 use pipe_fields::{D_FIRST, E_FIRST, F_FIRST, M_FIRST, W_FIRST};
 use y86_base::Variant;
-use y86_isa::{Field, Row, accesses, icode_count, is_branch, row};
+use y86_isa::{RegisterColumn, Row, accesses, icode_count, next_is_branch, row};
 
 /// The numbers from a first one on, below an end.
 #[derive(Clone, Copy, Debug)]
@@ -76,19 +76,19 @@ fn set() -> Span
     Span { first: 1, end: 16 }
 }
 
-fn register(field: Field) -> Span
-    ensures { IsSpanOf result (fit.register_fits field) }
+fn register(field: RegisterColumn) -> Span
+    ensures { IsSpanOf result (fit.register_allowed field) }
 {
     match field {
-        Field::Dash => just(15),
-        Field::FieldA => below(15),
-        Field::FieldB => below(15),
-        Field::Stack => just(4),
+        RegisterColumn::Dash => just(15),
+        RegisterColumn::FieldA => below(15),
+        RegisterColumn::FieldB => below(15),
+        RegisterColumn::Stack => just(4),
     }
 }
 
 fn half(has_byte: bool, used: bool) -> Span
-    ensures { IsSpanOf result (fit.half_fits has_byte used) }
+    ensures { IsSpanOf result (fit.register_field_allowed has_byte used) }
 {
     if !has_byte {
         just(15)
@@ -99,14 +99,14 @@ fn half(has_byte: bool, used: bool) -> Span
     }
 }
 
-fn only_where(may: bool) -> Span
-    ensures { IsSpanOf result (fit.only_where may) }
+fn zero_unless(may: bool) -> Span
+    ensures { IsSpanOf result (fit.zero_unless may) }
 {
     if may { any() } else { just(0) }
 }
 
 fn cnd(ifun: u64) -> Span
-    ensures { IsSpanOf result (fit.cnd_fits ifun) }
+    ensures { IsSpanOf result (fit.cnd_allowed ifun) }
 {
     if ifun == 0 {
         set()
@@ -117,14 +117,14 @@ fn cnd(ifun: u64) -> Span
     }
 }
 
-fn cnd_where(may: bool, ifun: u64) -> Span
-    ensures { IsSpanOf result (fit.cnd_where may ifun) }
+fn cnd_allowed_where(may: bool, ifun: u64) -> Span
+    ensures { IsSpanOf result (fit.cnd_allowed_where may ifun) }
 {
     if may { cnd(ifun) } else { just(0) }
 }
 
 fn stat(kind: u64) -> Span
-    ensures { IsSpanOf result (spec.stat_may kind) }
+    ensures { IsSpanOf result (spec.stat_choice_allowed kind) }
 {
     if kind == 0 {
         just(0)
@@ -135,7 +135,7 @@ fn stat(kind: u64) -> Span
 
 /// The icodes of a status, where an error at memory leaves none.
 fn icode_of(count: u64, stat: u64) -> Span
-    ensures { IsSpanOf result (fit.stat_fits count false stat) }
+    ensures { IsSpanOf result (fit.stat_allowed count false stat) }
 {
     if stat == 1 {
         Span {
@@ -154,7 +154,7 @@ fn icode_of(count: u64, stat: u64) -> Span
 }
 
 fn icode(count: u64, kind: u64, stat: u64) -> Span
-    ensures { IsSpanOf result (spec.icode_may count kind false stat) }
+    ensures { IsSpanOf result (spec.icode_choice_allowed count kind false stat) }
 {
     if kind == 0 {
         just(1)
@@ -164,7 +164,7 @@ fn icode(count: u64, kind: u64, stat: u64) -> Span
 }
 
 fn ifun(r: &Row, kind: u64, stat: u64) -> Span
-    ensures { IsSpanOf result (spec.ifun_may r.now kind stat) }
+    ensures { IsSpanOf result (spec.ifun_choice_allowed r.now kind stat) }
 {
     if kind == 0 || stat == 3 {
         just(0)
@@ -175,7 +175,7 @@ fn ifun(r: &Row, kind: u64, stat: u64) -> Span
 
 /// In the line F.
 fn fetch(v: Variant, before: &[u64], i: usize) -> Option<Span>
-    ensures { IfSome result (λ s. IsSpanOf s (spec.fetch_may (length (rows v)) (table.row v (fields_by before.now).f.icode) (fields_by before.now).f i)) }
+    ensures { IfSome result (λ s. IsSpanOf s (spec.fetch_choice_allowed (length (rows v)) (table.row v (fields_by before.now).f.icode) (fields_by before.now).f i)) }
 {
     let ifun = at(before, F_FIRST + 2);
     let r = row(v, at(before, F_FIRST + 1));
@@ -183,42 +183,42 @@ fn fetch(v: Variant, before: &[u64], i: usize) -> Option<Span>
         0 => Some(any()),
         1 => None,
         2 => None,
-        3 => Some(cnd_where(is_branch(r.next), ifun)),
-        4 => Some(only_where(accesses(r.memory))),
-        _ => Some(only_where(is_branch(r.next))),
+        3 => Some(cnd_allowed_where(next_is_branch(r.next), ifun)),
+        4 => Some(zero_unless(accesses(r.memory))),
+        _ => Some(zero_unless(next_is_branch(r.next))),
     }
 }
 
 /// In the line D.
 fn decode(v: Variant, before: &[u64], i: usize) -> Option<Span>
-    ensures { IfSome result (λ s. IsSpanOf s (spec.decode_may (length (rows v)) (table.row v (fields_by before.now).d.icode) (fields_by before.now).d i)) }
+    ensures { IfSome result (λ s. IsSpanOf s (spec.decode_choice_allowed (length (rows v)) (table.row v (fields_by before.now).d.icode) (fields_by before.now).d i)) }
 {
     let kind = at(before, 0);
     let status = at(before, D_FIRST);
     let function = at(before, D_FIRST + 2);
     let r = row(v, at(before, D_FIRST + 1));
-    let live = is_live(kind, status);
+    let live = is_good_aok(kind, status);
     match i {
         0 => Some(stat(kind)),
         1 => Some(icode(icode_count(v), kind, status)),
         2 => Some(ifun(&r, kind, status)),
         3 => Some(half(r.has_byte, r.uses_a)),
         4 => Some(half(r.has_byte, r.uses_b)),
-        5 => Some(cnd_where(live && is_branch(r.next), function)),
-        6 => Some(only_where(live && accesses(r.memory))),
-        _ => Some(only_where(live && is_branch(r.next))),
+        5 => Some(cnd_allowed_where(live && next_is_branch(r.next), function)),
+        6 => Some(zero_unless(live && accesses(r.memory))),
+        _ => Some(zero_unless(live && next_is_branch(r.next))),
     }
 }
 
 /// In the line E.
 fn execute(v: Variant, before: &[u64], i: usize) -> Option<Span>
-    ensures { IfSome result (λ s. IsSpanOf s (spec.execute_may (length (rows v)) (table.row v (fields_by before.now).e.icode) (fields_by before.now).e i)) }
+    ensures { IfSome result (λ s. IsSpanOf s (spec.execute_choice_allowed (length (rows v)) (table.row v (fields_by before.now).e.icode) (fields_by before.now).e i)) }
 {
     let kind = at(before, 1);
     let status = at(before, E_FIRST);
     let function = at(before, E_FIRST + 2);
     let r = row(v, at(before, E_FIRST + 1));
-    let live = is_live(kind, status);
+    let live = is_good_aok(kind, status);
     match i {
         0 => Some(stat(kind)),
         1 => Some(icode(icode_count(v), kind, status)),
@@ -228,19 +228,19 @@ fn execute(v: Variant, before: &[u64], i: usize) -> Option<Span>
         5 => Some(register(r.src_a)),
         6 => None,
         7 => Some(cnd(function)),
-        8 => Some(only_where(live && accesses(r.memory))),
-        _ => Some(only_where(live && is_branch(r.next))),
+        8 => Some(zero_unless(live && accesses(r.memory))),
+        _ => Some(zero_unless(live && next_is_branch(r.next))),
     }
 }
 
 /// In the line M.
 fn memory(v: Variant, before: &[u64], i: usize) -> Option<Span>
-    ensures { IfSome result (λ s. IsSpanOf s (spec.memory_may (length (rows v)) (table.row v (fields_by before.now).m.icode) (fields_by before.now).m i)) }
+    ensures { IfSome result (λ s. IsSpanOf s (spec.memory_choice_allowed (length (rows v)) (table.row v (fields_by before.now).m.icode) (fields_by before.now).m i)) }
 {
     let kind = at(before, 2);
     let status = at(before, M_FIRST);
     let r = row(v, at(before, M_FIRST + 1));
-    let live = is_live(kind, status);
+    let live = is_good_aok(kind, status);
     match i {
         0 => Some(stat(kind)),
         1 => Some(icode(icode_count(v), kind, status)),
@@ -248,14 +248,14 @@ fn memory(v: Variant, before: &[u64], i: usize) -> Option<Span>
         3 => None,
         4 => Some(register(r.dst_m)),
         5 => None,
-        6 => Some(only_where(live && accesses(r.memory))),
-        _ => Some(only_where(live && is_branch(r.next))),
+        6 => Some(zero_unless(live && accesses(r.memory))),
+        _ => Some(zero_unless(live && next_is_branch(r.next))),
     }
 }
 
 /// In the line W.
 fn write(v: Variant, before: &[u64], i: usize) -> Option<Span>
-    ensures { IfSome result (λ s. IsSpanOf s (λ n. spec.write_may (length (rows v)) (table.row v (fields_by before.now).w.icode) (tests.accesses (table.row v n).memory) (fields_by before.now).w i n)) }
+    ensures { IfSome result (λ s. IsSpanOf s (λ n. spec.write_choice_allowed (length (rows v)) (table.row v (fields_by before.now).w.icode) (tests.accesses (table.row v n).memory) (fields_by before.now).w i n)) }
 {
     let r = row(v, at(before, W_FIRST + 1));
     match i {
@@ -267,10 +267,10 @@ fn write(v: Variant, before: &[u64], i: usize) -> Option<Span>
 }
 
 /// The numbers that may stand at the place behind others, where they are a span; `None` where they may be none.
-#[tactic(auto, unfolding(crate::specs::Choices::may_stand))]
+#[tactic(auto, unfolding(crate::specs::Choices::choice_allowed))]
 pub(crate) fn span_behind(v: Variant, before: &[u64]) -> Option<Span>
     requires { length before.now < field_count }
-    ensures { IfSome result (λ s. IsSpanOf s (spec.may_stand v (length before.now) (fields_by before.now))) }
+    ensures { IfSome result (λ s. IsSpanOf s (spec.choice_allowed v (length before.now) (fields_by before.now))) }
 {
     let j = before.len();
     if j < 2 {

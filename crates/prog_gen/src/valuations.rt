@@ -1,15 +1,15 @@
 //! Control valuations of PIPE, drawn field by field.
 ghost use Rattle.std.specs.Prelude.{◌≡◌, ◌<◌, ◌≤◌, ◌+◌, ◌++◌, [], ◌-◌, ◌^◌, drop, take, length};
-ghost use Rattle.field_bits.specs.Spots.{pattern};
-ghost use Rattle.pipe_fields.specs.Layout.{spots, bit_count, field_count};
+ghost use Rattle.net_fields.specs.FieldSpecs.{pattern};
+ghost use Rattle.pipe_fields.specs.Layout.{field_specs, bit_count, field_count};
 ghost use Rattle.prog_gen.specs.Choices as spec;
-ghost use Rattle.field_bits.specs.Spelling.{spell};
+ghost use Rattle.net_fields.specs.Spelling.{spell};
 
 use crate::choices::choice;
 use crate::draws::Draws;
+use ctl_rules::Rules;
 use nets::Valuation;
-use pipe_fields::{BIT_COUNT, FIELD_COUNT, spots};
-use rule_gates::Rules;
+use pipe_fields::{BIT_COUNT, FIELD_COUNT, field_specs};
 use y86_base::Variant;
 
 /// Writes the bits of a number, the most significant one first.
@@ -31,10 +31,10 @@ fn put_bits(out: &mut [bool], first: u32, bits: u32, n: u64)
 fn draw_fields(v: Variant, draws: &mut Draws, out: &mut [bool])
     requires { bit_count ≤ length out.old }
     ensures after { draws.new ≡ spec.word_behind field_count draws.old }
-    ensures bits { out.new ≡ pattern spots (spec.numbers_drawn v field_count [] draws.old) [] ++ drop bit_count out.old }
+    ensures bits { out.new ≡ pattern field_specs (spec.numbers_drawn v field_count [] draws.old) [] ++ drop bit_count out.old }
 {
     let mut numbers = [0u64; FIELD_COUNT];
-    let fields = spots();
+    let fields = field_specs();
     let mut first = 0;
     for j in 0..FIELD_COUNT {
         let bits = fields[j].bits;

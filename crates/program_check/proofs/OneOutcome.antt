@@ -1,8 +1,8 @@
 -- There is just one outcome of a run that is watched.
 use Rattle.std.proofs.Common.{◌≡◌, ◌≢◌, ◌⊎◌, inl, inr, ℕ, ◌+◌, ◌-◌, ◌<◌, ◌≤◌, Bool, true, false, List, length, Option, refl, sym, ap, ◌∙◌, subst, arith}
 use Rattle.std.proofs.lemmas.Bool.{cases_lt, false≢true}
-use Rattle.pure_runs.proofs.Near.{apart_near}
-use Rattle.pure_runs.specs.Near.{NearPure}
+use Rattle.yis_pure_runs.proofs.Near.{apart_near}
+use Rattle.yis_pure_runs.specs.Near.{NearPure}
 use Rattle.y86_base.specs.declared.parts.Stat.TheVariants.{Aok}
 use Rattle.y86_base.specs.declared.parts.Variant.{Variant}
 use Rattle.std.proofs.lemmas.Option.{same_Some}

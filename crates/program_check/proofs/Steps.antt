@@ -2,8 +2,8 @@
 use Rattle.std.proofs.Common.{◌≡◌, ◌≢◌, ◌⊎◌, ◌↔◌, inl, inr, ℕ, ◌+◌, ◌-◌, ◌<◌, ◌≤◌, not, true, false, List, [], ◌∷◌, ◌++◌, length, Option, Some, None, refl, sym, ap, ◌∙◌, subst, arith, length-append}
 use Rattle.std.specs.Option.{option_to_list}
 use Rattle.std.proofs.lemmas.Bool.{cases_lt, false≢true, not-true}
-use Rattle.pure_runs.proofs.Purity.{pair_pure}
-use Rattle.pure_runs.specs.Near.{NearPure}
+use Rattle.yis_pure_runs.proofs.Purity.{pair_pure}
+use Rattle.yis_pure_runs.specs.Near.{NearPure}
 use Rattle.y86_base.specs.declared.parts.Stat.{Stat}
 use Rattle.y86_base.specs.declared.parts.Stat.TheVariants.{Aok}
 use Rattle.y86_base.specs.declared.parts.Variant.{Variant}

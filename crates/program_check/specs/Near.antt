@@ -1,7 +1,7 @@
 -- Fetches that come too soon behind a store.
 use Rattle.std.specs.Prelude.{◌≡◌, ◌≢◌, ◌⊎◌, ◌↔◌, ℕ, ◌+◌, ◌-◌, ◌<◌, ◌≤◌, Bool, true, false, List, length, Option, Some}
-use Rattle.pure_runs.specs.Near.{NearPure}
-use Rattle.pure_runs.specs.Purity.{LiesApart}
+use Rattle.yis_pure_runs.specs.Near.{NearPure}
+use Rattle.yis_pure_runs.specs.Purity.{AvoidsStore}
 use Rattle.y86_base.specs.declared.parts.Stat.TheVariants.{Aok}
 use Rattle.y86_base.specs.declared.parts.Variant.{Variant}
 use Rattle.y86_isa.specs.Run.{records, run}
@@ -16,7 +16,7 @@ use Rattle.program_check.specs.declared.watching.Watched.TheVariants.{Apart, Mee
 
 -- what retired, if it stored, stored apart from the instruction at a machine's PC
 abbrev pub StoredApart : Variant → Machine → Option Rec → Type 0
-StoredApart v m told = (r : Rec) (store : Store) → told ≡ Some r → r.store ≡ Some store → LiesApart v m store
+StoredApart v m told = (r : Rec) (store : Store) → told ≡ Some r → r.store ≡ Some store → AvoidsStore v m store
 
 -- what retired, at the address storer, stored at the address store, and that isn't apart from the instruction at a machine's PC
 pub record StoredInto (v : Variant) (m : Machine) (told : Option Rec) (storer store : ℕ) : Type 0 where
@@ -26,7 +26,7 @@ pub record StoredInto (v : Variant) (m : Machine) (told : Option Rec) (storer st
   pub stored : by.store ≡ Some word
   pub storer_is : storer ≡ by.pc
   pub store_is : store ≡ word.addr
-  pub meets : LiesApart v m word → ⊥
+  pub meets : AvoidsStore v m word → ⊥
 
 -- the store is that of the last step, or of the one before it where that of the last one lies apart, or of the one before these
 abbrev pub IsNearest : Variant → Machine → Recent → NearFetch → Type 0

@@ -1,6 +1,6 @@
 //! Whether a store lies apart from the instruction that a machine fetches.
 ghost use Rattle.std.specs.Prelude.{◌≡◌, ◌↔◌, ◌≤◌, IsTrue};
-ghost use Rattle.pure_runs.specs.Purity.{LiesApart};
+ghost use Rattle.yis_pure_runs.specs.Purity.{AvoidsStore};
 ghost use Rattle.y86_isa.specs.Run.{fetched_count};
 
 use y86_base::{Image, Variant};
@@ -25,7 +25,7 @@ fn count_fetched(v: Variant, memory: &Image, pc: u64) -> u64
 
 /// Whether the 8 bytes of a store lie wholly before those that the instruction at a machine's PC fetches, or wholly behind them.
 pub fn lies_apart(v: Variant, m: &Machine, store: Store) -> bool
-    ensures { IsTrue result ↔ LiesApart v m.now store }
+    ensures { IsTrue result ↔ AvoidsStore v m.now store }
 {
     let count = count_fetched(v, &m.mem, m.pc);
     let is_before = 8 <= m.pc && store.addr <= m.pc - 8;

@@ -3,7 +3,7 @@ ghost use Rattle.std.specs.Prelude.{◌≡◌, ◌<◌, List, ℕ};
 ghost use Rattle.program_check.specs.Near.{IsFirstNear, IsWatched};
 ghost use Rattle.program_check.specs.declared.recent.NearFetch.{NearFetch};
 ghost use Rattle.program_check.specs.declared.watching.Watched.{Watched};
-ghost use Rattle.pure_runs.specs.Near.{NearPure};
+ghost use Rattle.yis_pure_runs.specs.Near.{NearPure};
 ghost use Rattle.y86_base.specs.declared.parts.Variant.{Variant};
 
 /// There is just one outcome of a run that is watched. Where an instruction is found that fetches a byte which one of the three before it stored,

@@ -1,16 +1,16 @@
 //! Theorems about an accepted file and a program. Each is a function that does nothing and whose contract is the theorem.
 ghost use Rattle.std.specs.Prelude.{◌≡◌, ◌≢◌, ◌*◌, ◌≤◌, Bool, List, ℕ, length, Option, Ok, Some, false, true};
 ghost use Rattle.pipe_refinement.specs.Refines.{Refines};
-ghost use Rattle.pipe_runs.specs.Ends.{StopsIn};
+ghost use Rattle.prog_cosim.specs.Ends.{StopsIn};
 ghost use Rattle.program_check.specs.Near.{IsWatched};
 ghost use Rattle.program_check.specs.declared.watching.Watched.TheVariants.{Apart};
 ghost use Rattle.program_laws.specs.Prints.{PrintsReport, PrintsRun};
 ghost use Rattle.y86_base.specs.declared.parts.Variant.{Variant};
 ghost use Rattle.y86_isa.specs.Run.{IsImage, Pure};
 ghost use Rattle.yo_object.specs.ObjectText.{object_of};
-ghost use Rattle.y86_cli.specs.Agreement.{HasAccepted};
-ghost use Rattle.command_plans.specs.Does.{FilesSeen, SinkSeen};
-ghost use Rattle.y86_cli.specs.Ran.{Ran};
+ghost use Rattle.y86_cli.specs.CheckedRuns.{HasAccepted};
+ghost use Rattle.cli_plans.specs.PlanFollowing.{FilesState, SinkState};
+ghost use Rattle.y86_cli.specs.CallContract.{CallContract};
 ghost use Rattle.y86_words.specs.Forms.{form_of, psim, yis};
 
 /// The theorem for your pipeline and your program. `check pipe` accepted the HCL file, the object file loads, and `watch` of that image
@@ -19,19 +19,19 @@ ghost use Rattle.y86_words.specs.Forms.{form_of, psim, yis};
 /// `yis` prints the same report with the same status. Excepted are calls with a failed read, a failed write or too little memory.
 pub fn law_of_checked_programs()
     ensures psim { (words : List (List ℕ)) (name object text bytes image : List ℕ) (size limit most steps : ℕ) (trace : Bool) (v : Variant)
-        (files_before files_after : FilesSeen) (out_before out_after err_before err_after : SinkSeen) (status : ℕ) →
+        (files_before files_after : FilesState) (out_before out_after err_before err_after : SinkState) (status : ℕ) →
         form_of words ≡ Some (psim name object size limit trace false v) →
         files_before.told name ≡ Some (Some text) → length text ≤ 65536 → HasAccepted v (Some (Some text)) →
         files_before.told object ≡ Some (Some bytes) → length bytes ≤ 1048576 → object_of bytes size ≡ Ok image →
         IsWatched v image most (Apart steps true) → 5 * steps ≤ limit →
-        Ran (form_of words) files_before files_after out_before out_after err_before err_after status → status ≢ 3 → status ≢ 4 → status ≢ 6 →
+        CallContract (form_of words) files_before files_after out_before out_after err_before err_after status → status ≢ 3 → status ≢ 4 → status ≢ 6 →
         PrintsRun v image steps trace out_before out_after status }
     ensures yis { (words : List (List ℕ)) (object bytes image : List ℕ) (size limit most steps : ℕ) (v : Variant)
-        (files_before files_after : FilesSeen) (out_before out_after err_before err_after : SinkSeen) (status : ℕ) →
+        (files_before files_after : FilesState) (out_before out_after err_before err_after : SinkState) (status : ℕ) →
         form_of words ≡ Some (yis object size limit v) →
         files_before.told object ≡ Some (Some bytes) → length bytes ≤ 1048576 → object_of bytes size ≡ Ok image →
         IsWatched v image most (Apart steps true) → steps ≤ limit →
-        Ran (form_of words) files_before files_after out_before out_after err_before err_after status → status ≢ 3 → status ≢ 4 → status ≢ 6 →
+        CallContract (form_of words) files_before files_after out_before out_after err_before err_after status → status ≢ 3 → status ≢ 4 → status ≢ 6 →
         PrintsReport v image steps out_before out_after status }
 {}
 
@@ -42,11 +42,11 @@ pub fn law_of_pure_programs()
     ensures refines { (v : Variant) (told : Option (Option (List ℕ))) (h : HasAccepted v told) (image : List ℕ) (k : ℕ) →
         IsImage image → Pure v image k → Refines v h.terms image k }
     ensures psim { (words : List (List ℕ)) (name object text bytes image : List ℕ) (size limit steps : ℕ) (trace : Bool) (v : Variant)
-        (files_before files_after : FilesSeen) (out_before out_after err_before err_after : SinkSeen) (status : ℕ) →
+        (files_before files_after : FilesState) (out_before out_after err_before err_after : SinkState) (status : ℕ) →
         form_of words ≡ Some (psim name object size limit trace false v) →
         files_before.told name ≡ Some (Some text) → length text ≤ 65536 → HasAccepted v (Some (Some text)) →
         files_before.told object ≡ Some (Some bytes) → length bytes ≤ 1048576 → object_of bytes size ≡ Ok image →
         StopsIn v image steps → ((k : ℕ) → Pure v image k) → 5 * steps ≤ limit →
-        Ran (form_of words) files_before files_after out_before out_after err_before err_after status → status ≢ 3 → status ≢ 4 → status ≢ 6 →
+        CallContract (form_of words) files_before files_after out_before out_after err_before err_after status → status ≢ 3 → status ≢ 4 → status ≢ 6 →
         PrintsRun v image steps trace out_before out_after status }
 {}

@@ -4,7 +4,7 @@ ghost use Rattle.program_check.specs.declared.watching.Watched.TheVariants.{Apar
 ghost use Rattle.program_report.specs.Sentences as spec;
 ghost use Rattle.program_report.specs.Sentences.{open_text, meets_text, stops_text, watched_text};
 ghost use Rattle.wb_io.specs.Causes.{CountsFaults};
-ghost use Rattle.wb_io.specs.Sinks.{Puts};
+ghost use Rattle.wb_io.specs.Sinks.{AppendsText};
 
 use program_check::{NearFetch, Watched};
 use wb_io::{Failed, Sink, put_pieces};
@@ -12,7 +12,7 @@ use y86_base::Numeral;
 
 #[tactic(auto, unfolding(crate::specs::Sentences::stops_text))]
 fn put_stops<O: Sink>(steps: u64, out: &mut O) -> Result<(), Failed>
-    ensures puts { Puts (O.taken out.old) (O.taken out.new) result (stops_text steps) }
+    ensures puts { AppendsText (O.taken out.old) (O.taken out.new) result (stops_text steps) }
     ensures counts { CountsFaults (O.faults out.old) (O.faults out.new) result }
 {
     let steps = Numeral::decimal(steps);
@@ -28,7 +28,7 @@ fn put_stops<O: Sink>(steps: u64, out: &mut O) -> Result<(), Failed>
 
 #[tactic(auto, unfolding(crate::specs::Sentences::open_text))]
 fn put_open<O: Sink>(steps: u64, out: &mut O) -> Result<(), Failed>
-    ensures puts { Puts (O.taken out.old) (O.taken out.new) result (open_text steps) }
+    ensures puts { AppendsText (O.taken out.old) (O.taken out.new) result (open_text steps) }
     ensures counts { CountsFaults (O.faults out.old) (O.faults out.new) result }
 {
     let steps = Numeral::decimal(steps);
@@ -57,7 +57,7 @@ fn distance_word(distance: u64) -> &'static [u8]
 
 #[tactic(auto, unfolding(crate::specs::Sentences::meets_text))]
 fn put_meets<O: Sink>(found: NearFetch, out: &mut O) -> Result<(), Failed>
-    ensures puts { Puts (O.taken out.old) (O.taken out.new) result (meets_text found) }
+    ensures puts { AppendsText (O.taken out.old) (O.taken out.new) result (meets_text found) }
     ensures counts { CountsFaults (O.faults out.old) (O.faults out.new) result }
 {
     let steps = Numeral::decimal(found.steps);
@@ -85,7 +85,7 @@ fn put_meets<O: Sink>(found: NearFetch, out: &mut O) -> Result<(), Failed>
 /// Writes what was found out. It takes no memory.
 #[tactic(auto, unfolding(crate::specs::Sentences::watched_text))]
 pub fn put_watched<O: Sink>(watched: Watched, out: &mut O) -> Result<(), Failed>
-    ensures puts { Puts (O.taken out.old) (O.taken out.new) result (watched_text watched) }
+    ensures puts { AppendsText (O.taken out.old) (O.taken out.new) result (watched_text watched) }
     ensures counts { CountsFaults (O.faults out.old) (O.faults out.new) result }
 {
     match watched {

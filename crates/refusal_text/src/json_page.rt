@@ -11,7 +11,7 @@ use finding_text::{
 };
 use hcl_types::{NameId, Row, Term};
 use pipe_diagnosis::{Refusal, Refutation};
-use pipe_requirements::{Lines, MoverNow, SlotNow};
+use pipe_requirements::{Lines, RegisterControlNow, StageFlowNow};
 use std::alloc::{AllocError, Global};
 use y86_base::Variant;
 
@@ -103,11 +103,11 @@ fn put_names(
     out.end_array()
 }
 
-fn put_mover(
+fn put_register_control(
     out: &mut Out,
     name: &str,
-    mover: MoverNow,
-    next: Option<&SlotNow>,
+    mover: RegisterControlNow,
+    next: Option<&StageFlowNow>,
 ) -> Result<(), AllocError> {
     out.key(name)?;
     out.begin_object()?;
@@ -167,11 +167,11 @@ fn put_motion(
     }
     out.begin_object()?;
     put_truth(out, "fetch_is_right", m.is_good)?;
-    put_mover(out, "F", m.movers.f, None)?;
-    put_mover(out, "D", m.movers.d, Some(&m.next.d))?;
-    put_mover(out, "E", m.movers.e, Some(&m.next.e))?;
-    put_mover(out, "M", m.movers.m, Some(&m.next.m))?;
-    put_mover(out, "W", m.movers.w, Some(&m.next.w))?;
+    put_register_control(out, "F", m.movers.f, None)?;
+    put_register_control(out, "D", m.movers.d, Some(&m.next.d))?;
+    put_register_control(out, "E", m.movers.e, Some(&m.next.e))?;
+    put_register_control(out, "M", m.movers.m, Some(&m.next.m))?;
+    put_register_control(out, "W", m.movers.w, Some(&m.next.w))?;
     out.key("faults")?;
     out.begin_array()?;
     let faults = motion_faults(alloc, scene, rule, m)?;

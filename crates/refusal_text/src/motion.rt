@@ -1,9 +1,10 @@
 //! What goes wrong in the motion of the pipeline registers, in sentences.
 use crate::scene::Scene;
-use motion_repairs::{fetched, is_fetch_good, next_view, path, youngest_stops};
-use pipe_diagnosis::movers_at;
+use motion_repairs::{fetched, is_fetch_good, next_flow, path, youngest_stops};
+use pipe_diagnosis::register_controls_at;
 use pipe_requirements::{
-    Lines, MoverNow, MoversNow, Now, SlotNow, ViewNow, leaves, lines_of, loads, view_of,
+    FlowNow, Lines, Now, RegisterControlNow, RegisterControlsNow, StageFlowNow, flow_of, leaves,
+    lines_of, loads,
 };
 use std::alloc::{AllocError, Global};
 
@@ -11,22 +12,22 @@ use std::alloc::{AllocError, Global};
 #[derive(Clone, Copy)]
 pub struct Motion {
     pub lines: Lines,
-    pub view: ViewNow,
-    pub movers: MoversNow,
+    pub view: FlowNow,
+    pub movers: RegisterControlsNow,
     /// Whether the fetched instruction is the one that the program does next.
     pub is_good: bool,
     /// Whether the program goes on at the predicted PC.
     pub is_on_path: bool,
     /// Whether the youngest instruction of the program stops the machine.
     pub stops: bool,
-    pub next: ViewNow,
+    pub next: FlowNow,
 }
 
 /// The motion in a scene.
 pub fn motion_of(scene: &Scene<'_>) -> Motion {
     let lines = lines_of(scene.values.bits);
-    let view = view_of(scene.variant, scene.settings, &lines);
-    let movers = movers_at(&scene.scope());
+    let view = flow_of(scene.variant, scene.settings, &lines);
+    let movers = register_controls_at(&scene.scope());
     let now = Now {
         v: scene.variant,
         s: scene.settings,
@@ -37,7 +38,7 @@ pub fn motion_of(scene: &Scene<'_>) -> Motion {
     };
     let is_good = is_fetch_good(&now);
     let facts = fetched(&now);
-    let next = next_view(&movers, is_good, &facts, &view);
+    let next = next_flow(&movers, is_good, &facts, &view);
     let is_on_path = path(&view);
     let stops = youngest_stops(&view);
     Motion {
@@ -52,7 +53,7 @@ pub fn motion_of(scene: &Scene<'_>) -> Motion {
 }
 
 /// What a register does in a cycle.
-pub fn move_name(mover: MoverNow) -> &'static str {
+pub fn move_name(mover: RegisterControlNow) -> &'static str {
     if mover.stall && mover.bubble {
         "is stalled and bubbled"
     } else if mover.stall {
@@ -65,7 +66,7 @@ pub fn move_name(mover: MoverNow) -> &'static str {
 }
 
 /// What a register holds.
-pub fn slot_name(slot: &SlotNow) -> &'static str {
+pub fn stage_flow_name(slot: &StageFlowNow) -> &'static str {
     if slot.good {
         "an instruction of the program"
     } else if slot.wrong {
@@ -92,7 +93,7 @@ impl Sentences {
 }
 
 /// What is stalled and bubbled at once.
-fn add_clashes(said: &mut Sentences, k: &MoversNow) -> Result<(), AllocError> {
+fn add_clashes(said: &mut Sentences, k: &RegisterControlsNow) -> Result<(), AllocError> {
     said.add_if(k.f.stall && k.f.bubble, "F is stalled and bubbled at once.")?;
     said.add_if(k.d.stall && k.d.bubble, "D is stalled and bubbled at once.")?;
     said.add_if(k.e.stall && k.e.bubble, "E is stalled and bubbled at once.")?;
@@ -101,7 +102,11 @@ fn add_clashes(said: &mut Sentences, k: &MoversNow) -> Result<(), AllocError> {
 }
 
 /// Which instruction of the program is lost or done twice.
-fn add_losses(said: &mut Sentences, k: &MoversNow, y: &ViewNow) -> Result<(), AllocError> {
+fn add_losses(
+    said: &mut Sentences,
+    k: &RegisterControlsNow,
+    y: &FlowNow,
+) -> Result<(), AllocError> {
     said.add_if(
         y.w.good && k.w.stall,
         "The instruction in W retires, and W keeps it: it retires again.",
@@ -134,7 +139,7 @@ fn add_losses(said: &mut Sentences, k: &MoversNow, y: &ViewNow) -> Result<(), Al
 }
 
 /// Whether the youngest instruction of the next cycle may have others on the wrong path after it.
-fn may_be_followed(y: &ViewNow) -> bool {
+fn may_be_followed(y: &FlowNow) -> bool {
     if y.d.good {
         y.d.stops && !y.d.ret
     } else if y.e.good {
@@ -147,7 +152,7 @@ fn may_be_followed(y: &ViewNow) -> bool {
 }
 
 /// What is wrong with the instructions on the wrong path in the next cycle.
-fn add_wrong_path(said: &mut Sentences, y: &ViewNow) -> Result<(), AllocError> {
+fn add_wrong_path(said: &mut Sentences, y: &FlowNow) -> Result<(), AllocError> {
     said.add_if(
         y.m.wrong,
         "An instruction on the wrong path reaches M, where it changes something.",
@@ -172,7 +177,7 @@ fn add_wrong_path(said: &mut Sentences, y: &ViewNow) -> Result<(), AllocError> {
 }
 
 /// What follows an instruction that nothing may follow, in the next cycle.
-fn add_followers(said: &mut Sentences, y: &ViewNow, je: bool, rm: bool) -> Result<(), AllocError> {
+fn add_followers(said: &mut Sentences, y: &FlowNow, je: bool, rm: bool) -> Result<(), AllocError> {
     let after_e = y.d.good;
     let after_m = after_e || y.e.good;
     let after_w = after_m || y.m.good;

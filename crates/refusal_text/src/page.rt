@@ -1,6 +1,6 @@
 //! The page of a refusal: everything that is known of it, in sentences.
 use crate::mending::first_to_mend;
-use crate::motion::{Motion, fetch_sentence, motion_faults, motion_of, move_name, slot_name};
+use crate::motion::{Motion, fetch_sentence, motion_faults, motion_of, move_name, stage_flow_name};
 use crate::scene::{Scene, scene_of};
 use crate::stages::put_stages;
 use dp_signals::pipe_row as name;
@@ -47,10 +47,10 @@ fn put_motion(
     out.push_str("\nThe next cycle:\n\n    F ")?;
     out.push_str(move_name(m.movers.f))?;
     out.push_str(".\n")?;
-    put_move(out, "D", move_name(m.movers.d), slot_name(&m.next.d))?;
-    put_move(out, "E", move_name(m.movers.e), slot_name(&m.next.e))?;
-    put_move(out, "M", move_name(m.movers.m), slot_name(&m.next.m))?;
-    put_move(out, "W", move_name(m.movers.w), slot_name(&m.next.w))?;
+    put_move(out, "D", move_name(m.movers.d), stage_flow_name(&m.next.d))?;
+    put_move(out, "E", move_name(m.movers.e), stage_flow_name(&m.next.e))?;
+    put_move(out, "M", move_name(m.movers.m), stage_flow_name(&m.next.m))?;
+    put_move(out, "W", move_name(m.movers.w), stage_flow_name(&m.next.w))?;
     let faults = motion_faults(alloc, scene, rule, m)?;
     if !faults.as_slice().is_empty() {
         out.push_str("\n")?;

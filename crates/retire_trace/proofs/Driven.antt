@@ -3,16 +3,16 @@ use Rattle.std.proofs.Common.{◌≡◌, ℕ, suc, ◌+◌, ◌<◌, ◌≤◌, 
 use Rattle.std.proofs.lemmas.List.{append-nil, map-append}
 use Rattle.std.specs.List.{concat}
 use Rattle.std.specs.Option.{option_to_list}
-use Rattle.wb_io.specs.Sinks.{Took, TookPart}
+use Rattle.wb_io.specs.Sinks.{Appended, AppendedPrefix}
 use Rattle.wb_io.specs.declared.sinks.Failed.{Failed}
 use Rattle.wb_io.proofs.Writes.{took_nothing, took_more}
 use Rattle.y86_isa.specs.Machine.{is_aok}
 use Rattle.y86_isa.specs.declared.machine.Rec.{Rec}
 use Rattle.pipe_path.specs.Calls.{record_in}
-use Rattle.pipe_path.specs.Pipe.{Pipe, Cycle}
+use Rattle.pipe_path.specs.Pipe.{PipeMachine, IsPipeCall}
 use Rattle.pipe_path.specs.declared.pipe.Cycled.{Cycled}
 use Rattle.retire_trace.specs.TraceLine.{trace_line}
-use Rattle.retire_trace.specs.Drive.{Goes, TracedCycle, Drives, Fails, traced}
+use Rattle.retire_trace.specs.Drive.{CallsFor, TracedCycle, IsDrive, IsFailedDrive, traced}
 use Rattle.retire_trace.specs.declared.driving.Drove.{Drove}
 
 concat_append : (xs ys : List (List ℕ)) → concat (xs ++ ys) ≡ concat xs ++ concat ys
@@ -41,24 +41,24 @@ pub traced_on : (trace : Bool) (r : Rec) → trace ≡ true → traced trace (r 
 traced_on trace r e = ap (λ b. traced b (r ∷ [])) e ∙ traced_one r
 
 -- what a drive has done: k cycles, before each of which the machine went on, and the lines of what retired
-pub record Driven (p : Pipe) (k : ℕ) (q : Pipe) (trace : Bool) (old new : Option (List ℕ)) (retired : ℕ) : Type 0 where
+pub record Driven (p : PipeMachine) (k : ℕ) (q : PipeMachine) (trace : Bool) (old new : Option (List ℕ)) (retired : ℕ) : Type 0 where
   pub records : List Rec
-  pub goes : Goes p k q records
+  pub goes : CallsFor p k q records
   pub counted : retired ≡ length records
-  pub taken : Took old new (traced trace records)
+  pub taken : Appended old new (traced trace records)
 
-pub driven_none : (p : Pipe) (trace : Bool) (t : Option (List ℕ)) → Driven p 0 p trace t t 0
+pub driven_none : (p : PipeMachine) (trace : Bool) (t : Option (List ℕ)) → Driven p 0 p trace t t 0
 driven_none p trace t =
     record { records = []; goes = (refl, refl); counted = refl; taken = rw (traced_none trace) (took_nothing t) }
 
-one_more : (p : Pipe) (k : ℕ) (m q : Pipe) (before : List Rec) (r : Cycled) (retired : Option Rec) → Goes p k m before →
-    is_aok m.end ≡ true → Cycle m r q → record_in r ≡ retired → Goes p (k + 1) q (before ++ option_to_list retired)
+one_more : (p : PipeMachine) (k : ℕ) (m q : PipeMachine) (before : List Rec) (r : Cycled) (retired : Option Rec) → CallsFor p k m before →
+    is_aok m.end ≡ true → IsPipeCall m r q → record_in r ≡ retired → CallsFor p (k + 1) q (before ++ option_to_list retired)
 one_more p k m q before r retired goes going cycle is =
-    let here : Goes p (suc k) q (before ++ option_to_list retired) =
+    let here : CallsFor p (suc k) q (before ++ option_to_list retired) =
     (m, before, r, goes, going, cycle, ap (λ x. before ++ option_to_list x) (sym is)) in
-    subst (λ n. Goes p n q (before ++ option_to_list retired)) (sym (add-one k)) here
+    subst (λ n. CallsFor p n q (before ++ option_to_list retired)) (sym (add-one k)) here
 
-pub driven_more : (p : Pipe) (k : ℕ) (m q : Pipe) (trace : Bool) (old mid new : Option (List ℕ)) (n retired : ℕ) →
+pub driven_more : (p : PipeMachine) (k : ℕ) (m q : PipeMachine) (trace : Bool) (old mid new : Option (List ℕ)) (n retired : ℕ) →
     Driven p k m trace old mid n → is_aok m.end ≡ true → TracedCycle m q trace mid new (Ok retired) →
     Driven p (k + 1) q trace old new (n + retired)
 driven_more p k m q trace old mid new n retired d going t =
@@ -70,14 +70,14 @@ driven_more p k m q trace old mid new n retired d going t =
       taken = rw (traced_append trace d.records more) (took_more old mid new (traced trace d.records) (traced trace more) d.taken t.3);
     }
 
-pub drove : (p : Pipe) (limit k : ℕ) (q : Pipe) (trace : Bool) (old new : Option (List ℕ)) (d : Drove) → k ≤ limit →
+pub drove : (p : PipeMachine) (limit k : ℕ) (q : PipeMachine) (trace : Bool) (old new : Option (List ℕ)) (d : Drove) → k ≤ limit →
     Driven p k q trace old new d.retired → d.cycles ≡ k → (k < limit → is_aok q.end ≡ false) → d.end ≡ q.end →
-    (records : List Rec) × Drives p limit q d records × Took old new (traced trace records)
+    (records : List Rec) × IsDrive p limit q d records × Appended old new (traced trace records)
 drove p limit k q trace old new d within h cycles whole end = (
   h.records,
   record {
     within = subst (λ n. n ≤ limit) (sym cycles) within;
-    goes = subst (λ n. Goes p n q h.records) (sym cycles) h.goes;
+    goes = subst (λ n. CallsFor p n q h.records) (sym cycles) h.goes;
     whole = λ lt. whole (subst (λ n. n < limit) cycles lt);
     retired = h.counted;
     end = end;
@@ -85,13 +85,13 @@ drove p limit k q trace old new d within h cycles whole end = (
   h.taken,
 )
 
-took_part : (old mid new : Option (List ℕ)) (xs ys : List ℕ) → Took old mid xs → TookPart mid new ys →
-    (n : ℕ) × (n < length ys) × Took old new (xs ++ take n ys)
+took_part : (old mid new : Option (List ℕ)) (xs ys : List ℕ) → Appended old mid xs → AppendedPrefix mid new ys →
+    (n : ℕ) × (n < length ys) × Appended old new (xs ++ take n ys)
 took_part old mid new xs ys a b = (b.0, b.1, took_more old mid new xs (take b.0 ys) a b.2)
 
-pub failed : (p : Pipe) (limit k : ℕ) (m q : Pipe) (trace : Bool) (old mid new : Option (List ℕ)) (n : ℕ) (e : Failed) → k < limit →
+pub failed : (p : PipeMachine) (limit k : ℕ) (m q : PipeMachine) (trace : Bool) (old mid new : Option (List ℕ)) (n : ℕ) (e : Failed) → k < limit →
     Driven p k m trace old mid n → is_aok m.end ≡ true → TracedCycle m q trace mid new (Err e) →
-    (j : ℕ) × (records : List Rec) × (last : Rec) × (i : ℕ) × Fails p limit trace q old new j records last i
+    (j : ℕ) × (records : List Rec) × (last : Rec) × (i : ℕ) × IsFailedDrive p limit trace q old new j records last i
 failed p limit k m q trace old mid new n e lt d going t =
     let part = took_part old mid new (traced trace d.records) (trace_line t.1) d.taken t.5 in (
       k + 1,
@@ -103,6 +103,6 @@ failed p limit k m q trace old mid new n e lt d going t =
         goes = one_more p k m q d.records t.0 (Some t.1) d.goes going t.2 t.3;
         asked = t.4;
         proper = part.1;
-        taken = subst (λ b. Took old new (traced b d.records ++ take part.0 (trace_line t.1))) t.4 part.2;
+        taken = subst (λ b. Appended old new (traced b d.records ++ take part.0 (trace_line t.1))) t.4 part.2;
       },
     )

@@ -2,21 +2,21 @@
 use Rattle.std.specs.Prelude.{◌≡◌, ℕ, zero, suc, ◌<◌, ◌≤◌, Bool, true, false, List, [], ◌∷◌, ◌++◌, length, map, take, Option, Some, Result, Ok, Err, if◌then◌else◌}
 use Rattle.std.specs.List.{concat}
 use Rattle.std.specs.Option.{option_to_list}
-use Rattle.wb_io.specs.Sinks.{Took, TookPart}
+use Rattle.wb_io.specs.Sinks.{Appended, AppendedPrefix}
 use Rattle.wb_io.specs.declared.sinks.Failed.{Failed}
 use Rattle.y86_isa.specs.Machine.{is_aok}
 use Rattle.y86_isa.specs.declared.machine.Rec.{Rec}
 use Rattle.pipe_path.specs.Calls.{record_in}
-use Rattle.pipe_path.specs.Pipe.{Pipe, Cycle}
+use Rattle.pipe_path.specs.Pipe.{PipeMachine, IsPipeCall}
 use Rattle.pipe_path.specs.declared.pipe.Cycled.{Cycled}
 use Rattle.retire_trace.specs.TraceLine.{trace_line}
 use Rattle.retire_trace.specs.declared.driving.Drove.{Drove}
 
 -- q is p after k cycles, before each of which the machine had not ended, and these records retired in them, the first one first
-abbrev pub Goes : Pipe → ℕ → Pipe → List Rec → Type 0
-Goes p zero q records = (q ≡ p) × (records ≡ [])
-Goes p (suc k) q records =
-    (m : Pipe) × (before : List Rec) × (r : Cycled) × Goes p k m before × (is_aok m.end ≡ true) × Cycle m r q
+abbrev pub CallsFor : PipeMachine → ℕ → PipeMachine → List Rec → Type 0
+CallsFor p zero q records = (q ≡ p) × (records ≡ [])
+CallsFor p (suc k) q records =
+    (m : PipeMachine) × (before : List Rec) × (r : Cycled) × CallsFor p k m before × (is_aok m.end ≡ true) × IsPipeCall m r q
     × (records ≡ before ++ option_to_list (record_in r))
 
 -- the lines of some records, where a trace is asked for
@@ -25,24 +25,24 @@ traced trace records = if trace then concat (map trace_line records) else []
 
 -- one cycle from p to q with what it wrote: the line of the record that retired, where a trace is asked for, and how many retired; a
 -- write that failed left a proper prefix of that line
-abbrev pub TracedCycle : Pipe → Pipe → Bool → Option (List ℕ) → Option (List ℕ) → Result ℕ Failed → Type 0
+abbrev pub TracedCycle : PipeMachine → PipeMachine → Bool → Option (List ℕ) → Option (List ℕ) → Result ℕ Failed → Type 0
 TracedCycle p q trace old new (Ok retired) =
-    (r : Cycled) × Cycle p r q × (retired ≡ length (option_to_list (record_in r))) × Took old new (traced trace (option_to_list (record_in r)))
+    (r : Cycled) × IsPipeCall p r q × (retired ≡ length (option_to_list (record_in r))) × Appended old new (traced trace (option_to_list (record_in r)))
 TracedCycle p q trace old new (Err failed) =
-    (r : Cycled) × (last : Rec) × Cycle p r q × (record_in r ≡ Some last) × (trace ≡ true) × TookPart old new (trace_line last)
+    (r : Cycled) × (last : Rec) × IsPipeCall p r q × (record_in r ≡ Some last) × (trace ≡ true) × AppendedPrefix old new (trace_line last)
 
 -- a drive to the limit, or to the machine's end before it
-pub record Drives (p : Pipe) (limit : ℕ) (q : Pipe) (d : Drove) (records : List Rec) : Type 0 where
+pub record IsDrive (p : PipeMachine) (limit : ℕ) (q : PipeMachine) (d : Drove) (records : List Rec) : Type 0 where
   pub within : d.cycles ≤ limit
-  pub goes : Goes p d.cycles q records
+  pub goes : CallsFor p d.cycles q records
   pub whole : d.cycles < limit → is_aok q.end ≡ false
   pub retired : d.retired ≡ length records
   pub end : d.end ≡ q.end
 
 -- a drive whose trace was asked for and failed at the line of the last record: the machine is after the cycle that retired it
-pub record Fails (p : Pipe) (limit : ℕ) (trace : Bool) (q : Pipe) (old new : Option (List ℕ)) (k : ℕ) (records : List Rec) (last : Rec) (n : ℕ) : Type 0 where
+pub record IsFailedDrive (p : PipeMachine) (limit : ℕ) (trace : Bool) (q : PipeMachine) (old new : Option (List ℕ)) (k : ℕ) (records : List Rec) (last : Rec) (n : ℕ) : Type 0 where
   pub within : k ≤ limit
-  pub goes : Goes p k q (records ++ last ∷ [])
+  pub goes : CallsFor p k q (records ++ last ∷ [])
   pub asked : trace ≡ true
   pub proper : n < length (trace_line last)
-  pub taken : Took old new (traced true records ++ take n (trace_line last))
+  pub taken : Appended old new (traced true records ++ take n (trace_line last))

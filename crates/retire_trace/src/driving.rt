@@ -1,13 +1,13 @@
 //! Drives: cycles until a machine stops, with a trace.
 ghost use Rattle.std.specs.Prelude.{◌≡◌, ◌<◌, ◌≤◌, ◌+◌, ◌^◌, ℕ, List, OnErr, IfOk};
 ghost use Rattle.wb_io.specs.Causes.{CountsFaults};
-ghost use Rattle.wb_io.specs.Sinks.{Took};
+ghost use Rattle.wb_io.specs.Sinks.{Appended};
 ghost use Rattle.pipe_path.specs.Calls.{record_in};
 ghost use Rattle.retire_trace.specs.Drive as spec;
 
 use crate::trace_line::line;
+use dp_machines::is_aok_stat;
 use hcl_types::SignalEval;
-use machine_calls::is_going;
 use pipe_path::{Cycled, Pipe};
 use wb_io::{Failed, Sink};
 use y86_base::Stat;
@@ -69,15 +69,15 @@ pub fn drive<C: SignalEval, S: Sink>(
     out: &mut S,
 ) -> Result<Drove, Failed>
     requires { p.old.cycles + limit < 2 ^ 63 }
-    ensures drove { IfOk result (λ d. (records : List Rec) × spec.Drives p.old limit p.new d records
-        × Took (S.taken out.old) (S.taken out.new) (spec.traced trace records)) }
+    ensures drove { IfOk result (λ d. (records : List Rec) × spec.IsDrive p.old limit p.new d records
+        × Appended (S.taken out.old) (S.taken out.new) (spec.traced trace records)) }
     ensures failed { OnErr result ((k : ℕ) × (records : List Rec) × (last : Rec) × (n : ℕ)
-        × spec.Fails p.old limit trace p.new (S.taken out.old) (S.taken out.new) k records last n) }
+        × spec.IsFailedDrive p.old limit trace p.new (S.taken out.old) (S.taken out.new) k records last n) }
     ensures counts { CountsFaults (S.faults out.old) (S.faults out.new) result }
 {
     let mut retired = 0;
     for k in 0..limit {
-        if !is_going(p.status()) {
+        if !is_aok_stat(p.status()) {
             return Ok(Drove {
                 cycles: k,
                 retired,

@@ -1,7 +1,7 @@
 //! The trace line of a record.
 ghost use Rattle.std.specs.Prelude.{◌≤◌};
 ghost use Rattle.wb_io.specs.Causes.{CountsFaults};
-ghost use Rattle.wb_io.specs.Sinks.{Puts};
+ghost use Rattle.wb_io.specs.Sinks.{AppendsText};
 ghost use Rattle.retire_trace.specs.TraceLine as text;
 
 use wb_io::{Failed, Sink, put_pieces};
@@ -13,7 +13,7 @@ const NO_REGISTER: u64 = 15;
 
 #[tactic(auto, unfolding(crate::specs::TraceLine::head, crate::specs::TraceLine::digit))]
 fn put_head<S: Sink>(pc: u64, icode: u64, ifun: u64, out: &mut S) -> Result<(), Failed>
-    ensures puts { Puts (S.taken out.old) (S.taken out.new) result (text.head pc icode ifun) }
+    ensures puts { AppendsText (S.taken out.old) (S.taken out.new) result (text.head pc icode ifun) }
     ensures counts { CountsFaults (S.faults out.old) (S.faults out.new) result }
 {
     let pc = Numeral::hex(3, pc);
@@ -34,7 +34,7 @@ fn put_head<S: Sink>(pc: u64, icode: u64, ifun: u64, out: &mut S) -> Result<(), 
 
 #[tactic(auto, unfolding(crate::specs::TraceLine::written))]
 fn put_written<S: Sink>(number: u64, word: u64, out: &mut S) -> Result<(), Failed>
-    ensures puts { Puts (S.taken out.old) (S.taken out.new) result (text.written number word) }
+    ensures puts { AppendsText (S.taken out.old) (S.taken out.new) result (text.written number word) }
     ensures counts { CountsFaults (S.faults out.old) (S.faults out.new) result }
 {
     if number == NO_REGISTER {
@@ -46,7 +46,7 @@ fn put_written<S: Sink>(number: u64, word: u64, out: &mut S) -> Result<(), Faile
 
 #[tactic(auto, unfolding(crate::specs::TraceLine::stored))]
 fn put_stored<S: Sink>(store: Option<Store>, out: &mut S) -> Result<(), Failed>
-    ensures puts { Puts (S.taken out.old) (S.taken out.new) result (text.stored store) }
+    ensures puts { AppendsText (S.taken out.old) (S.taken out.new) result (text.stored store) }
     ensures counts { CountsFaults (S.faults out.old) (S.faults out.new) result }
 {
     match store {
@@ -61,7 +61,7 @@ fn put_stored<S: Sink>(store: Option<Store>, out: &mut S) -> Result<(), Failed>
 
 #[tactic(auto, unfolding(crate::specs::TraceLine::tail))]
 fn put_tail<S: Sink>(flags: Flags, stat: Stat, out: &mut S) -> Result<(), Failed>
-    ensures puts { Puts (S.taken out.old) (S.taken out.new) result (text.tail flags stat) }
+    ensures puts { AppendsText (S.taken out.old) (S.taken out.new) result (text.tail flags stat) }
     ensures counts { CountsFaults (S.faults out.old) (S.faults out.new) result }
 {
     let zero = flag(flags.zf);
@@ -74,7 +74,7 @@ fn put_tail<S: Sink>(flags: Flags, stat: Stat, out: &mut S) -> Result<(), Failed
 pub fn line<S: Sink>(r: &Rec, out: &mut S) -> Result<(), Failed>
     requires e { r.now.dst_e ≤ 15 }
     requires m { r.now.dst_m ≤ 15 }
-    ensures puts { Puts (S.taken out.old) (S.taken out.new) result (text.trace_line r.now) }
+    ensures puts { AppendsText (S.taken out.old) (S.taken out.new) result (text.trace_line r.now) }
     ensures counts { CountsFaults (S.faults out.old) (S.faults out.new) result }
 {
     put_head(r.pc, r.icode, r.ifun, out)?;

@@ -10,7 +10,7 @@ use Rattle.pipe_path.specs.Pipe.{started}
 use Rattle.program_check.specs.Near.{IsWatched}
 use Rattle.program_check.specs.declared.watching.Watched.{Watched}
 use Rattle.program_check.specs.declared.watching.Watched.TheVariants.{Apart, Meets}
-use Rattle.verdicts.specs.declared.fault.CheckFault.TheVariants.{Ctl}
+use Rattle.ctl_verdicts.specs.declared.fault.CheckFault.TheVariants.{Ctl}
 use Rattle.y86_base.specs.declared.parts.Variant.{Variant}
 use Rattle.y86_isa.specs.Machine.{start}
 use Rattle.y86_isa.specs.Run.{run}

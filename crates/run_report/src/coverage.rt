@@ -2,8 +2,8 @@
 use crate::outcome::{Judged, is_covered};
 use ctl_atoms::CtlFault;
 use hcl_types::{NameId, Row};
+use pipe_stage_text::{put_address, put_number_pair};
 use program_check::{NearFetch, Watched};
-use stage_text::{put_address, put_number_pair};
 use y86_base::{Memory, Variant, put};
 
 /// Writes the name of a signal.

@@ -1,6 +1,6 @@
 //! What an instruction does, in words: its text, the registers and memory that it writes, its flags and its status.
 use cosimulation::Part;
-use stage_text::{Held, put_address, put_instruction, put_number_pair, put_word_pair};
+use pipe_stage_text::{StageContent, put_address, put_instruction, put_number_pair, put_word_pair};
 use std::alloc::Global;
 use y86_base::{Flags, Image, Memory, Regs, Stat, Variant, put};
 use y86_isa::{Rec, Store, split};
@@ -28,7 +28,7 @@ pub fn put_text(out: &mut Vec<u8>, memory: &Image, r: &Rec) -> Result<(), Memory
     }
     put_instruction(
         out,
-        &Held {
+        &StageContent {
             row: 0,
             live: true,
             failed: false,

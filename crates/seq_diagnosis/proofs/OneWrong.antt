@@ -7,7 +7,7 @@ use Rattle.ctl_atoms.specs.declared.leaf.Leaf.{Leaf}
 use Rattle.ctl_atoms.specs.Leaves.{Assignment}
 use Rattle.control_values.specs.Given.{AreNear}
 use Rattle.dp_signals.proofs.Sound.{seq_sound}
-use Rattle.field_bits.specs.Spots.{total}
+use Rattle.net_fields.specs.FieldSpecs.{total}
 use Rattle.findings.specs.Findings.{are_right, finding}
 use Rattle.findings.proofs.EachMet.{demand_false, findings_right}
 use Rattle.seq_plus.proofs.Sound.{plus_sound}

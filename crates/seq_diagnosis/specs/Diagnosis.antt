@@ -7,7 +7,7 @@ use Rattle.ctl_atoms.specs.declared.leaf.Atom.{Atom}
 use Rattle.ctl_atoms.specs.Leaves.{Assignment, AtomsAre}
 use Rattle.ctl_formula.specs.Controls.{AreControls}
 use Rattle.control_values.specs.Given.{assigned, at, field_at}
-use Rattle.field_bits.specs.Spots.{decoded, total}
+use Rattle.net_fields.specs.FieldSpecs.{decoded, total}
 use Rattle.findings.specs.Findings.{are_right, finding}
 use Rattle.seq_requirements.specs.Datapaths.{defined_of, questions_of, rows_of, spots_of}
 use Rattle.seq_requirements.specs.Requirements.{requirements}

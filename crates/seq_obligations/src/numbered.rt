@@ -1,17 +1,17 @@
 //! The rules of a sequential datapath in their order, from what each asks.
 ghost use Rattle.std.specs.Prelude.{◌≡◌, ◌||◌, not, ℕ, List, Bool, length, IfOk};
-ghost use Rattle.nets.specs.Nets.{Begins};
+ghost use Rattle.nets.specs.Nets.{ExtendsNet};
 ghost use Rattle.ctl_atoms.specs.declared.leaf.Leaf.{Leaf};
 ghost use Rattle.ctl_atoms.specs.Leaves.{Assignment};
 ghost use Rattle.ctl_formula.specs.declared.controls.Entry.{Entry};
 ghost use Rattle.ctl_formula.specs.Picks.{IsInside};
-ghost use Rattle.rule_gates.specs.Asked.{IsAsked};
+ghost use Rattle.ctl_rules.specs.ControlGates.{IsControlGate};
 ghost use Rattle.seq_obligations.specs.Obligations.{rule_count};
 ghost use Rattle.seq_obligations.specs.Rules.{AreNumbered};
 
 use ctl_formula::Controls;
+use ctl_rules::Rule;
 use nets::NetBuilder;
-use rule_gates::Rule;
 use std::alloc::Global;
 use y86_base::Memory;
 
@@ -19,7 +19,7 @@ use y86_base::Memory;
 pub const RULE_COUNT: u32 = 16;
 
 /// What the rules of a datapath ask by their numbers, and of which valuations.
-pub trait Numbered {
+pub trait RuleFamily {
     /// The valuations of which they ask something.
     ghost may: { Self → List Bool → Assignment → (ℕ → Leaf) → Bool };
 
@@ -33,19 +33,19 @@ pub trait Numbered {
     fn fits(&self, b: &mut NetBuilder, ctl: &Controls) -> Result<u64, Memory>
         requires inside { IsInside b.old ctl.now }
         requires known { knows self.now b.old.vars ctl.now }
-        ensures begins { Begins b.old b.new }
-        ensures made { IfOk result (λ g. IsAsked b.new ctl.now g (may self.now)) };
+        ensures extends { ExtendsNet b.old b.new }
+        ensures has_truth { IfOk result (λ g. IsControlGate b.new ctl.now g (may self.now)) };
 
     /// A gate of what the rule of a number asks.
     fn demand(&self, b: &mut NetBuilder, ctl: &Controls, number: u32) -> Result<u64, Memory>
         requires inside { IsInside b.old ctl.now }
         requires known { knows self.now b.old.vars ctl.now }
-        ensures begins { Begins b.old b.new }
-        ensures made { IfOk result (λ g. IsAsked b.new ctl.now g (asks self.now number)) };
+        ensures extends { ExtendsNet b.old b.new }
+        ensures has_truth { IfOk result (λ g. IsControlGate b.new ctl.now g (asks self.now number)) };
 }
 
 /// The rule of a number: it asks nothing of another valuation than these.
-fn rule_told<N: Numbered>(
+fn rule_told<N: RuleFamily>(
     b: &mut NetBuilder,
     ctl: &Controls,
     rules: &N,
@@ -54,9 +54,9 @@ fn rule_told<N: Numbered>(
 ) -> Result<u64, Memory>
     requires inside { IsInside b.old ctl.now }
     requires known { N.knows rules.now b.old.vars ctl.now }
-    requires fits { IsAsked b.old ctl.now fits (N.may rules.now) }
-    ensures begins { Begins b.old b.new }
-    ensures made { IfOk result (λ g. IsAsked b.new ctl.now g (λ w α cv. not (N.may rules.now w α cv) || N.asks rules.now number w α cv)) }
+    requires fits { IsControlGate b.old ctl.now fits (N.may rules.now) }
+    ensures extends { ExtendsNet b.old b.new }
+    ensures has_truth { IfOk result (λ g. IsControlGate b.new ctl.now g (λ w α cv. not (N.may rules.now w α cv) || N.asks rules.now number w α cv)) }
 {
     let asked = rules.demand(b, ctl, number)?;
     let outside = b.not(fits)?;
@@ -64,7 +64,7 @@ fn rule_told<N: Numbered>(
 }
 
 /// The rules in their order.
-pub fn numbered_rules<N: Numbered>(
+pub fn numbered_rules<N: RuleFamily>(
     alloc: Global,
     b: &mut NetBuilder,
     ctl: &Controls,
@@ -72,7 +72,7 @@ pub fn numbered_rules<N: Numbered>(
 ) -> Result<Vec<Rule>, Memory>
     requires inside { IsInside b.old ctl.now }
     requires known { N.knows rules.now b.old.vars ctl.now }
-    ensures begins { Begins b.old b.new }
+    ensures extends { ExtendsNet b.old b.new }
     ensures count { IfOk result (λ list. length list.items ≡ rule_count) }
     ensures rules { IfOk result (λ list. AreNumbered b.new ctl.now (λ i w α cv. not (N.may rules.now w α cv) || N.asks rules.now i w α cv) list.items) }
 {

@@ -11,7 +11,7 @@ use Rattle.hcl_types.specs.declared.term.Term.{Term}
 use Rattle.dp_signals.specs.Equations.{values_along}
 use Rattle.dp_signals.specs.SeqCycle.{seq_next, seq_record}
 use Rattle.dp_signals.specs.SeqEquations.{SeqSolves, seq_given, seq_rule}
-use Rattle.dp_signals.specs.SeqRun.{SeqCycle, SeqRunFrom}
+use Rattle.dp_signals.specs.SeqRun.{IsSeqCycle, SeqRunFrom}
 use Rattle.dp_signals.specs.SeqTable.{seq_rows}
 use Rattle.dp_signals.proofs.SeqRules.{seq_solves, seq_unique}
 
@@ -24,13 +24,13 @@ module _ (v : Variant) (terms : List Term) (ids : List ℕ) (bound : IsBound seq
 
   -- ---- a cycle
 
-  cycle_there : (s : Machine) (b : Bool) → is_aok s.stat ≡ b → (r : Option Rec) × (t : Machine) × SeqCycle v terms s r t
+  cycle_there : (s : Machine) (b : Bool) → is_aok s.stat ≡ b → (r : Option Rec) × (t : Machine) × IsSeqCycle v terms s r t
   cycle_there s true e =
       let f = solution_there v s terms ids bound o in
       (Some (seq_record s f.0), seq_next s f.0, record { ended = λ over. absurd (grind (arith, over, e)); goes = λ going. (f.0, f.1, refl, refl) })
   cycle_there s false e = (None, s, record { ended = λ over. (refl, refl); goes = λ going. absurd (grind (arith, e, going)) })
 
-  cycle_alone : (s : Machine) (r x : Option Rec) (t u : Machine) → SeqCycle v terms s r t → SeqCycle v terms s x u → (b : Bool) → is_aok s.stat ≡ b → (t ≡ u) × (r ≡ x)
+  cycle_alone : (s : Machine) (r x : Option Rec) (t u : Machine) → IsSeqCycle v terms s r t → IsSeqCycle v terms s x u → (b : Bool) → is_aok s.stat ≡ b → (t ≡ u) × (r ≡ x)
   cycle_alone s r x t u h k true e =
       let f = h.goes e in
       let g = k.goes e in
@@ -54,6 +54,6 @@ module _ (v : Variant) (terms : List Term) (ids : List ℕ) (bound : IsBound seq
   run_alone m zero t u rs xs h k = (h.0 ∙ sym k.0, h.1 ∙ sym k.1)
   run_alone m (suc n) t u rs xs h k =
       let before = run_alone m n h.0 k.0 h.1 k.1 h.3 k.3 in
-      let moved : SeqCycle v terms h.0 k.2 u = subst (λ s. SeqCycle v terms s k.2 u) (sym before.0) k.4 in
+      let moved : IsSeqCycle v terms h.0 k.2 u = subst (λ s. IsSeqCycle v terms s k.2 u) (sym before.0) k.4 in
       let c = cycle_alone h.0 h.2 k.2 t u h.4 moved (is_aok h.0.stat) refl in
       (c.0, h.5 ∙ ap (λ ys. ys ++ option_to_list h.2) before.1 ∙ ap (λ y. k.1 ++ option_to_list y) c.1 ∙ sym k.5)

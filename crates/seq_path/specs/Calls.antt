@@ -5,25 +5,25 @@ use Rattle.y86_base.specs.declared.parts.Variant.{Variant}
 use Rattle.y86_isa.specs.Machine.{is_aok}
 use Rattle.y86_isa.specs.declared.machine.Rec.{Rec}
 use Rattle.hcl_types.specs.declared.term.Term.{Term}
-use Rattle.dp_signals.specs.After.{After}
+use Rattle.dp_signals.specs.After.{IsAfter}
 use Rattle.dp_signals.specs.SeqRun.{SeqRun}
-use Rattle.seq_path.specs.Seq.{Seq, Cycle, started}
+use Rattle.seq_path.specs.Seq.{SeqMachine, IsSeqCall, started}
 
 -- q is the machine after k calls on p, and these are the records that they answered, the first one first
-abbrev pub Calls : Seq → ℕ → Seq → List Rec → Type 0
-Calls = After Cycle
+abbrev pub SeqCalls : SeqMachine → ℕ → SeqMachine → List Rec → Type 0
+SeqCalls = IsAfter IsSeqCall
 
 -- k calls on a machine that began on an image are the run of k cycles: its state and its records. A call after the end does nothing.
-pub record IsRun (v : Variant) (terms : List Term) (image : List ℕ) (k : ℕ) (q : Seq) (records : List Rec) : Type 0 where
+pub record IsRun (v : Variant) (terms : List Term) (image : List ℕ) (k : ℕ) (q : SeqMachine) (records : List Rec) : Type 0 where
   pub same_variant : q.variant ≡ v
   pub same_terms : q.terms ≡ terms
   pub run : SeqRun v terms image k q.state records
 
 abbrev pub CallsAreTheRun : Type 0
 CallsAreTheRun =
-    (v : Variant) (terms : List Term) (order image : List ℕ) (k : ℕ) (q : Seq) (records : List Rec) →
-    Calls (started v terms order image) k q records → IsRun v terms image k q records
+    (v : Variant) (terms : List Term) (order image : List ℕ) (k : ℕ) (q : SeqMachine) (records : List Rec) →
+    SeqCalls (started v terms order image) k q records → IsRun v terms image k q records
 
 -- a call on a machine that has stopped leaves it as it was
-pub stays : (p q : Seq) → is_aok p.state.stat ≡ false → Cycle p None q → q ≡ p
+pub stays : (p q : SeqMachine) → is_aok p.state.stat ≡ false → IsSeqCall p None q → q ≡ p
 stays p q over c = c.rest ∙ ap (λ s. record p { state = s }) (c.cycle.ended over).0

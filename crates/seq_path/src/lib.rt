@@ -4,6 +4,6 @@
 mod laws;
 mod seq;
 
+pub use dp_machines::run;
 pub use laws::{law_of_calls, law_of_runs, law_of_solutions};
-pub use machine_calls::run;
 pub use seq::Seq;

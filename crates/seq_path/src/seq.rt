@@ -6,11 +6,11 @@ ghost use Rattle.y86_base.specs.declared.parts.Stat.TheVariants.{Aok};
 ghost use Rattle.yis_run.specs.Report.{ended};
 ghost use Rattle.seq_path.specs.Seq as spec;
 
+use dp_machines::{ClockedMachine, is_aok_stat};
 use dp_signals::{
     SeqState, SeqValues, constant_words, seq_advance, seq_constants, seq_record, solve_seq_in,
 };
 use hcl_types::{Design, Order, SignalEval};
-use machine_calls::{Cycles, is_going};
 use std::marker::Model;
 use y86_base::{Image, Stat, Variant};
 use y86_isa::Rec;
@@ -32,13 +32,13 @@ pub struct Seq<C: SignalEval> {
 impl<C: SignalEval> Model for Seq<C> {
     ghost use Rattle.std.specs.Coded.{codes};
     ghost use Rattle.hcl_types.specs.contracts.term.Term as term;
-    ghost use Rattle.seq_path.specs.Seq.{Seq, seen};
+    ghost use Rattle.seq_path.specs.Seq.{SeqMachine, seen};
     ghost use Rattle.seq_path.specs.Invariant.{IsSeq};
     ghost use Rattle.std.specs.Prelude.{IsTrue};
     ghost use Rattle.hcl_types.specs.Signals.{Starts};
     ghost use Rattle.dp_signals.specs.PipeEquations.{constants};
 
-    ghost Value = { Seq };
+    ghost Value = { SeqMachine };
 
     ghost coded = { Prim.hlevel (codes, term.the_row.coded) };
 
@@ -72,10 +72,10 @@ impl<C: SignalEval> Seq<C> {
     /// record.
     #[inline(always)]
     pub fn cycle(&mut self) -> Option<Rec>
-        ensures cycle { spec.Cycle self.old result self.new }
+        ensures cycle { spec.IsSeqCall self.old result self.new }
         ensures stopped { IsNone result ↔ (self.old.state.stat ≢ Aok) }
     {
-        if !is_going(self.state.stat) {
+        if !is_aok_stat(self.state.stat) {
             return None;
         }
         solve_seq_in(
@@ -100,11 +100,11 @@ impl<C: SignalEval> Seq<C> {
     }
 }
 
-impl<C: SignalEval> Cycles for Seq<C> {
-    ghost use Rattle.seq_path.specs.Seq.{Seq, Cycle};
+impl<C: SignalEval> ClockedMachine for Seq<C> {
+    ghost use Rattle.seq_path.specs.Seq.{SeqMachine, IsSeqCall};
     ghost use Rattle.seq_path.specs.Calls.{stays};
 
-    ghost step = { Cycle };
+    ghost step = { IsSeqCall };
 
     ghost stat = { λ p. p.state.stat };
 

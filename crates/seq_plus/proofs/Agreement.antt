@@ -10,7 +10,7 @@ use Rattle.y86_base.proofs.Numbers.{number_tests, each_number}
 use Rattle.y86_isa.specs.Blocks.{field_a, field_b, condition}
 use Rattle.y86_isa.specs.Table.{row}
 use Rattle.hcl_types.specs.Tables.{defined, inputs, is_defined, term_at, IsBound, IsOrderOf}
-use Rattle.hcl_types.specs.Terms.{value, words}
+use Rattle.hcl_types.specs.Terms.{value, word_meaning}
 use Rattle.hcl_types.specs.declared.table.Row.{Row}
 use Rattle.hcl_types.specs.declared.term.Term.{Term}
 use Rattle.hcl_types.specs.declared.term.Term.TheVariants.{Num}
@@ -21,11 +21,11 @@ use Rattle.dp_signals.specs.Tables.{constant_count, constant_rows}
 use Rattle.dp_signals.specs.Values.{bit}
 use Rattle.dp_signals.proofs.Rules.{definition_rule}
 use Rattle.dp_signals.proofs.Bits.{constants_count}
-use Rattle.ctl_atoms.specs.Leaves.{picks}
+use Rattle.ctl_atoms.specs.Leaves.{leaf_meaning}
 use Rattle.ctl_atoms.specs.declared.leaf.Leaf.{Leaf}
 use Rattle.ctl_atoms.specs.Rows.{row_term}
 use Rattle.ctl_formula.specs.Controls.{AreControls, control_rule}
-use Rattle.ctl_formula.specs.Laws.{IsDefinedBy, IsWorthGiven, real, worth}
+use Rattle.ctl_formula.specs.Laws.{IsDefinedBy, IsWorthGiven, real_assignment, leaf_value}
 use Rattle.ctl_formula.proofs.Solved.{agreement}
 use Rattle.seq_obligations.specs.Obligations.{shared_demand}
 use Rattle.seq_refinement.specs.Cycle.{Agrees}
@@ -60,9 +60,9 @@ unfolding plus_rows constant_rows plus_state plus_hardware plus_defined
 nineteen = refl
 
 module _ (v : Variant) (terms : List Term) (t : PlusState) (f : ℕ → ℕ) (cv : ℕ → Leaf) (s : PlusSolves v terms t f) (hw : SeqHardware v (at_pc t (f name.pc)) (as_seq v f))
-    (h : AreControls plus_rows terms (number_of (fields_at v t f)) (real f) cv) (bound : IsBound plus_rows terms)
-    (asked : (i : ℕ) → 1 ≤ i → i ≤ 15 → shared_demand signals i (row v (f name.imem_icode)) (fields_at v t f).line (real f) cv ≡ true) where
-  ask : (i : ℕ) → 1 ≤ i → i ≤ 15 → shared_demand signals i (row v (f name.imem_icode)) (fields_at v t f).line (real f) cv ≡ true
+    (h : AreControls plus_rows terms (number_of (fields_at v t f)) (real_assignment f) cv) (bound : IsBound plus_rows terms)
+    (asked : (i : ℕ) → 1 ≤ i → i ≤ 15 → shared_demand signals i (row v (f name.imem_icode)) (fields_at v t f).line (real_assignment f) cv ≡ true) where
+  ask : (i : ℕ) → 1 ≤ i → i ≤ 15 → shared_demand signals i (row v (f name.imem_icode)) (fields_at v t f).line (real_assignment f) cv ≡ true
   ask = asked
 
   -- ---- the constants and the state
@@ -75,28 +75,28 @@ module _ (v : Variant) (terms : List Term) (t : PlusState) (f : ℕ → ℕ) (cv
   unfolding control_rule plus_given
   constant_agrees n lt =
       let there = number_tests constant_count (λ i. constant_row (slice_get plus_rows i) (get_or constants i 0)) constants_there n lt in
-      ap (worth f) (h n ∙ leaf_constant (number_of (fields_at v t f)) n (slice_get plus_rows n) (get_or constants n 0) (value (picks (real f)) cv (row_term plus_rows terms n)) there)
+      ap (leaf_value f) (h n ∙ leaf_constant (number_of (fields_at v t f)) n (slice_get plus_rows n) (get_or constants n 0) (value (leaf_meaning (real_assignment f)) cv (row_term plus_rows terms n)) there)
       ∙ sym (given_word n (omega (arith, lt)) ∙ get_or_append_left constants (t.previous.icode ∷ t.previous.cnd ∷ t.previous.val_m ∷ t.previous.val_c ∷ t.previous.val_p ∷ []) 0 n (omega (arith, lt, constants_count)))
 
   at_p_icode : Agrees f cv name.pIcode
   unfolding control_rule plus_rows constant_rows plus_state plus_hardware plus_defined plus_given constants rule_of
-  at_p_icode = ap (worth f) (h name.pIcode) ∙ sym (s name.pIcode)
+  at_p_icode = ap (leaf_value f) (h name.pIcode) ∙ sym (s name.pIcode)
 
   at_p_cnd : Agrees f cv name.pCnd
   unfolding control_rule plus_rows constant_rows plus_state plus_hardware plus_defined plus_given constants rule_of
-  at_p_cnd = ap (worth f) (h name.pCnd) ∙ sym (s name.pCnd)
+  at_p_cnd = ap (leaf_value f) (h name.pCnd) ∙ sym (s name.pCnd)
 
   at_p_valM : Agrees f cv name.pValM
   unfolding control_rule plus_rows constant_rows plus_state plus_hardware plus_defined
-  at_p_valM = ap (worth f) (h name.pValM)
+  at_p_valM = ap (leaf_value f) (h name.pValM)
 
   at_p_valC : Agrees f cv name.pValC
   unfolding control_rule plus_rows constant_rows plus_state plus_hardware plus_defined
-  at_p_valC = ap (worth f) (h name.pValC)
+  at_p_valC = ap (leaf_value f) (h name.pValC)
 
   at_p_valP : Agrees f cv name.pValP
   unfolding control_rule plus_rows constant_rows plus_state plus_hardware plus_defined
-  at_p_valP = ap (worth f) (h name.pValP)
+  at_p_valP = ap (leaf_value f) (h name.pValP)
 
   given_agrees : (n : ℕ) → n < name.hardware → Agrees f cv n
   given_agrees n lt = elim (cases_lt n constant_count) [
@@ -117,58 +117,58 @@ module _ (v : Variant) (terms : List Term) (t : PlusState) (f : ℕ → ℕ) (cv
 
   at_icode : Step name.imem_icode
   unfolding Step inputs_of control_rule plus_rows constant_rows plus_state plus_hardware plus_defined
-  at_icode _ = ap (worth f) (h name.imem_icode)
+  at_icode _ = ap (leaf_value f) (h name.imem_icode)
 
   at_ifun : Step name.imem_ifun
   unfolding Step inputs_of control_rule plus_rows constant_rows plus_state plus_hardware plus_defined
-  at_ifun _ = ap (worth f) (h name.imem_ifun)
+  at_ifun _ = ap (leaf_value f) (h name.imem_ifun)
 
   at_error : Step name.imem_error
   unfolding Step inputs_of control_rule plus_rows constant_rows plus_state plus_hardware plus_defined
-  at_error _ = ap (worth f) (h name.imem_error)
+  at_error _ = ap (leaf_value f) (h name.imem_error)
 
   at_ra : Step name.rA
   unfolding Step inputs_of control_rule plus_rows constant_rows plus_state plus_hardware plus_defined
-  at_ra a = ap (worth f) (h name.rA) ∙ sym (hw.rA ∙ ap (λ b. field_a t.mem (f name.pc) b) (truth_is f cv name.need_regids _ (ask 2 (omega arith) (omega arith)) a.1.0))
+  at_ra a = ap (leaf_value f) (h name.rA) ∙ sym (hw.rA ∙ ap (λ b. field_a t.mem (f name.pc) b) (truth_is f cv name.need_regids _ (ask 2 (omega arith) (omega arith)) a.1.0))
 
   at_rb : Step name.rB
   unfolding Step inputs_of control_rule plus_rows constant_rows plus_state plus_hardware plus_defined
-  at_rb a = ap (worth f) (h name.rB) ∙ sym (hw.rB ∙ ap (λ b. field_b t.mem (f name.pc) b) (truth_is f cv name.need_regids _ (ask 2 (omega arith) (omega arith)) a.1.0))
+  at_rb a = ap (leaf_value f) (h name.rB) ∙ sym (hw.rB ∙ ap (λ b. field_b t.mem (f name.pc) b) (truth_is f cv name.need_regids _ (ask 2 (omega arith) (omega arith)) a.1.0))
 
   at_valC : Step name.valC
   unfolding Step inputs_of control_rule plus_rows constant_rows plus_state plus_hardware plus_defined
-  at_valC _ = ap (worth f) (h name.valC)
+  at_valC _ = ap (leaf_value f) (h name.valC)
 
   at_valP : Step name.valP
   unfolding Step inputs_of control_rule plus_rows constant_rows plus_state plus_hardware plus_defined
-  at_valP _ = ap (worth f) (h name.valP)
+  at_valP _ = ap (leaf_value f) (h name.valP)
 
   at_valA : Step name.valA
   unfolding Step inputs_of control_rule plus_rows constant_rows plus_state plus_hardware plus_defined
-  at_valA _ = ap (worth f) (h name.valA)
+  at_valA _ = ap (leaf_value f) (h name.valA)
 
   at_valB : Step name.valB
   unfolding Step inputs_of control_rule plus_rows constant_rows plus_state plus_hardware plus_defined
-  at_valB _ = ap (worth f) (h name.valB)
+  at_valB _ = ap (leaf_value f) (h name.valB)
 
   at_valE : Step name.valE
   unfolding Step inputs_of control_rule plus_rows constant_rows plus_state plus_hardware plus_defined
-  at_valE _ = ap (worth f) (h name.valE)
+  at_valE _ = ap (leaf_value f) (h name.valE)
 
   at_cnd : Step name.Cnd
   unfolding Step inputs_of control_rule plus_rows constant_rows plus_state plus_hardware plus_defined
-  at_cnd a = ap (worth f) (h name.Cnd) ∙ sym (hw.Cnd ∙ ap (λ n. bit (condition n t.flags)) (number_is f cv name.ifun _ (and_second _ _ (ask 1 (omega arith) (omega arith))) a.0))
+  at_cnd a = ap (leaf_value f) (h name.Cnd) ∙ sym (hw.Cnd ∙ ap (λ n. bit (condition n t.flags)) (number_is f cv name.ifun _ (and_second _ _ (ask 1 (omega arith) (omega arith))) a.0))
 
   at_valM : Step name.valM
   unfolding Step inputs_of control_rule plus_rows constant_rows plus_state plus_hardware plus_defined
-  at_valM _ = ap (worth f) (h name.valM)
+  at_valM _ = ap (leaf_value f) (h name.valM)
 
   at_derror : Step name.dmem_error
   unfolding Step inputs_of control_rule plus_rows constant_rows plus_state plus_hardware plus_defined
   at_derror a =
       let reads = truth_is f cv name.mem_read _ (and_first _ _ (ask 13 (omega arith) (omega arith))) a.1.0 in
       let writes = truth_is f cv name.mem_write _ (and_second _ _ (ask 13 (omega arith) (omega arith))) a.1.1.0 in
-      ap (worth f) (h name.dmem_error)
+      ap (leaf_value f) (h name.dmem_error)
       ∙ chosen _ (f name.dmem_error) (λ n. hw.dmem_error ∙ (rw (reads, writes) refl) ∙ ap bit (no_error _ t.mem (f name.mem_addr) n))
 
   hardware_agrees : (n : ℕ) → name.hardware ≤ n → n < name.defined → Step n
@@ -193,7 +193,7 @@ module _ (v : Variant) (terms : List Term) (t : PlusState) (f : ℕ → ℕ) (cv
   total : length terms ≡ (name.count - name.defined)
   total = bound.whole ∙ nineteen
 
-  defined_word : (k : ℕ) → k < (name.count - name.defined) → f (name.defined + k) ≡ value words f (term_at terms k)
+  defined_word : (k : ℕ) → k < (name.count - name.defined) → f (name.defined + k) ≡ value word_meaning f (term_at terms k)
   defined_word k lt =
       let index : name.defined + k - name.defined ≡ k = omega arith in
       s (name.defined + k)
@@ -227,12 +227,12 @@ module _ (v : Variant) (terms : List Term) (t : PlusState) (f : ℕ → ℕ) (cv
         past = λ n e. (elim (cases_lt n name.count) [ inl lt ↦ absurd (row_there plus_rows n (omega (arith, lt, length-plus_rows)) e) | inr le ↦ past_word n le ]);
       }
     where
-      value_at : (n : ℕ) → name.defined ≤ n → n < name.count → f n ≡ value words f (row_term plus_rows terms n)
+      value_at : (n : ℕ) → name.defined ≤ n → n < name.count → f n ≡ value word_meaning f (row_term plus_rows terms n)
       value_at n le lt =
           let e : name.defined + (n - name.defined) ≡ n = omega (arith, le) in
           let small : n - name.defined < (name.count - name.defined) = omega (arith, le, lt) in
-          subst (λ i. f i ≡ value words f (row_term plus_rows terms i)) e
-          (defined_word (n - name.defined) small ∙ ap (λ i. value words f (term_at terms i)) (sym (the_test (n - name.defined) small).1))
+          subst (λ i. f i ≡ value word_meaning f (row_term plus_rows terms i)) e
+          (defined_word (n - name.defined) small ∙ ap (λ i. value word_meaning f (term_at terms i)) (sym (the_test (n - name.defined) small).1))
 
       past_word : (n : ℕ) → name.count ≤ n → f n ≡ 0
       past_word n le =

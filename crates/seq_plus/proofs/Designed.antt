@@ -1,7 +1,7 @@
 -- From what the gates of names tell to the rules of a design.
 use Rattle.std.proofs.Common.{◌≡◌, ℕ, ◌+◌, ◌-◌, ◌≤◌, IsTrue, Bool, true, List, length, refl, sym, subst, ◌∙◌, arith}
 use Rattle.y86_base.specs.declared.parts.Variant.{Variant}
-use Rattle.nets.specs.Nets.{Gates, Begins}
+use Rattle.nets.specs.Nets.{Gates, ExtendsNet}
 use Rattle.hcl_types.specs.declared.term.Term.{Term}
 use Rattle.hcl_types.specs.declared.table.Row.{Row}
 use Rattle.dp_signals.specs.Tables.{constant_rows}
@@ -14,10 +14,10 @@ use Rattle.ctl_atoms.specs.declared.leaf.Atom.{Atom}
 use Rattle.ctl_atoms.specs.declared.leaf.Leaf.{Leaf}
 use Rattle.ctl_formula.specs.Controls.{AreControls}
 use Rattle.ctl_formula.specs.declared.controls.Entry.{Entry}
-use Rattle.ctl_formula.specs.declared.controls.NamePlace.{NamePlace}
-use Rattle.ctl_formula.specs.Picks.{Covers, IsInside, Tells}
+use Rattle.ctl_formula.specs.declared.controls.Place.{Place}
+use Rattle.ctl_formula.specs.Picks.{Covers, IsInside, EncodesControls}
 use Rattle.ctl_formula.proofs.Inside.{tells_more}
-use Rattle.rule_gates.specs.declared.rules.Rule.{Rule}
+use Rattle.ctl_rules.specs.declared.rules.Rule.{Rule}
 use Rattle.seq_plus.specs.Fields.{fields_of, number_of}
 use Rattle.ctl_formula.specs.Places.{HavePlaces, Spells}
 use Rattle.seq_plus.specs.Obligations.{signals}
@@ -70,7 +70,7 @@ places_stand vars le = record {
 -- rules that hold where the gates of names tell control values are the rules of the design
 pub rules_are : (v : Variant) (terms : List Term) (net : Gates) (ctl : List Entry) (atoms : List Atom) (list : List Rule) → AreAtoms plus_rows terms atoms
     → net.vars ≡ plus_bit_count + length atoms → length list ≡ rule_count → AreAskedRules v net ctl list
-    → ((w : List Bool) (α : Assignment) (cv : ℕ → Leaf) → AtomsAre atoms plus_bit_count w α → AreControls plus_rows terms (number_of (fields_of w)) α cv → Tells net ctl w α cv)
+    → ((w : List Bool) (α : Assignment) (cv : ℕ → Leaf) → AtomsAre atoms plus_bit_count w α → AreControls plus_rows terms (number_of (fields_of w)) α cv → EncodesControls net ctl w α cv)
     → ArePlusRules v terms net list
 rules_are v terms net ctl atoms list are vars count asked tells = record {
   atoms = atoms;
@@ -84,11 +84,11 @@ rules_are v terms net ctl atoms list are vars count asked tells = record {
   };
 }
 
-pub told_rules : {translated last : Gates} (v : Variant) (terms : List Term) (rows : List Row) (ps : List NamePlace) (ctl : List Entry) (atoms : List Atom) (list : List Rule) (vars : ℕ)
+pub told_rules : {translated last : Gates} (v : Variant) (terms : List Term) (rows : List Row) (ps : List Place) (ctl : List Entry) (atoms : List Atom) (list : List Rule) (vars : ℕ)
     → rows ≡ plus_rows → ps ≡ places → AreAtoms rows terms atoms → vars ≡ plus_bit_count + length atoms → translated.vars ≡ vars → IsInside translated ctl
     → ((w : List Bool) (α : Assignment) (field : ℕ → ℕ) (cv : ℕ → Leaf) (listed : List Atom) → AreAtoms rows terms listed → AtomsAre listed (vars - length listed) w α
-    → Spells ps w field → AreControls rows terms field α cv → Tells translated ctl w α cv)
-    → Begins translated last → length list ≡ rule_count → AreAskedRules v last ctl list → ArePlusRules v terms last list
+    → Spells ps w field → AreControls rows terms field α cv → EncodesControls translated ctl w α cv)
+    → ExtendsNet translated last → length list ≡ rule_count → AreAskedRules v last ctl list → ArePlusRules v terms last list
 told_rules {translated} {last} v terms rows ps ctl atoms list vars e f are size same inside tells k count asked =
     rules_are v terms last ctl atoms list (subst (λ r. AreAtoms r terms atoms) e are) (k.vars ∙ (same ∙ size)) count asked
     (λ w α cv l c. tells_more k inside

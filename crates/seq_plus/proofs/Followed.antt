@@ -11,7 +11,7 @@ use Rattle.y86_base.specs.Words.{set}
 use Rattle.y86_base.proofs.Booleans.{and_second, and_first, implied}
 use Rattle.ctl_atoms.specs.declared.leaf.Leaf.{Leaf}
 use Rattle.ctl_formula.specs.Controls.{AreControls, control_rule}
-use Rattle.ctl_formula.specs.Laws.{real, worth}
+use Rattle.ctl_formula.specs.Laws.{real_assignment, leaf_value}
 use Rattle.seq_obligations.specs.Fields.{Fields}
 use Rattle.seq_obligations.specs.Obligations.{shared_demand}
 use Rattle.seq_refinement.specs.Cycle.{Agrees}
@@ -26,30 +26,30 @@ use Rattle.seq_plus.specs.PlusTable.{plus_defined, plus_hardware, plus_rows, plu
 use Rattle.seq_plus.specs.declared.state.PlusState.{PlusState}
 
 module _ (v : Variant) (terms : List Term) (t : PlusState) (f : ℕ → ℕ) (cv : ℕ → Leaf)
-    (h : AreControls plus_rows terms (number_of (fields_at v t f)) (real f) cv) (agrees : (n : ℕ) → Agrees f cv n)
-    (asked : (i : ℕ) → 1 ≤ i → i ≤ 15 → shared_demand signals i (row v (f name.imem_icode)) (fields_at v t f).line (real f) cv ≡ true)
+    (h : AreControls plus_rows terms (number_of (fields_at v t f)) (real_assignment f) cv) (agrees : (n : ℕ) → Agrees f cv n)
+    (asked : (i : ℕ) → 1 ≤ i → i ≤ 15 → shared_demand signals i (row v (f name.imem_icode)) (fields_at v t f).line (real_assignment f) cv ≡ true)
     (b_too : has_operand_a (row v (f name.imem_icode)).alu_a ≡ true → has_operand_b (row v (f name.imem_icode)).alu_b ≡ true) where
   abbrev c : Fields
   c = (fields_at v t f).line
 
-  ask : (i : ℕ) → 1 ≤ i → i ≤ 15 → shared_demand signals i (row v (f name.imem_icode)) c (real f) cv ≡ true
+  ask : (i : ℕ) → 1 ≤ i → i ≤ 15 → shared_demand signals i (row v (f name.imem_icode)) c (real_assignment f) cv ≡ true
   ask = asked
 
   r_a : c.r_a ≡ f name.rA
   unfolding control_rule plus_rows constant_rows plus_state plus_hardware plus_defined
-  r_a = sym (ap (worth f) (h name.rA)) ∙ agrees name.rA
+  r_a = sym (ap (leaf_value f) (h name.rA)) ∙ agrees name.rA
 
   r_b : c.r_b ≡ f name.rB
   unfolding control_rule plus_rows constant_rows plus_state plus_hardware plus_defined
-  r_b = sym (ap (worth f) (h name.rB)) ∙ agrees name.rB
+  r_b = sym (ap (leaf_value f) (h name.rB)) ∙ agrees name.rB
 
   cond_is : set c.cnd ≡ set (f name.Cnd)
   unfolding control_rule plus_rows constant_rows plus_state plus_hardware plus_defined
-  cond_is = ap set (sym (ap (worth f) (h name.Cnd)) ∙ agrees name.Cnd)
+  cond_is = ap set (sym (ap (leaf_value f) (h name.Cnd)) ∙ agrees name.Cnd)
 
   derror : set c.derror ≡ set (f name.dmem_error)
   unfolding control_rule plus_rows constant_rows plus_state plus_hardware plus_defined
-  derror = ap set (sym (ap (worth f) (h name.dmem_error)) ∙ agrees name.dmem_error)
+  derror = ap set (sym (ap (leaf_value f) (h name.dmem_error)) ∙ agrees name.dmem_error)
 
   pub status : f name.Stat ≡ stat_number (fetch_status (set c.error || set c.derror) c.icode)
   status = number_is f cv name.Stat _ (ask 15 (omega arith) (omega arith)) (agrees name.Stat)

@@ -10,7 +10,7 @@ use Rattle.hcl_types.specs.declared.term.Term.{Term}
 use Rattle.dp_signals.specs.Equations.{values_along}
 use Rattle.seq_plus.specs.PlusCycle.{plus_next, plus_record}
 use Rattle.seq_plus.specs.PlusEquations.{PlusSolves, plus_given, plus_rule}
-use Rattle.seq_plus.specs.PlusRun.{PlusCycle, PlusRunFrom}
+use Rattle.seq_plus.specs.PlusRun.{IsPlusCycle, PlusRunFrom}
 use Rattle.seq_plus.specs.PlusTable.{plus_rows}
 use Rattle.seq_plus.specs.declared.state.PlusState.{PlusState}
 use Rattle.seq_plus.proofs.PlusRules.{plus_solves, plus_unique}
@@ -24,13 +24,13 @@ module _ (v : Variant) (terms : List Term) (ids : List ℕ) (bound : IsBound plu
 
   -- ---- a cycle
 
-  cycle_there : (s : PlusState) (b : Bool) → is_aok s.stat ≡ b → (r : Option Rec) × (t : PlusState) × PlusCycle v terms s r t
+  cycle_there : (s : PlusState) (b : Bool) → is_aok s.stat ≡ b → (r : Option Rec) × (t : PlusState) × IsPlusCycle v terms s r t
   cycle_there s true e =
       let f = solution_there v s terms ids bound o in
       (Some (plus_record s f.0), plus_next s f.0, record { ended = λ over. absurd (grind (arith, over, e)); goes = λ going. (f.0, f.1, refl, refl) })
   cycle_there s false e = (None, s, record { ended = λ over. (refl, refl); goes = λ going. absurd (grind (arith, e, going)) })
 
-  cycle_alone : (s : PlusState) (r x : Option Rec) (t u : PlusState) → PlusCycle v terms s r t → PlusCycle v terms s x u → (b : Bool) → is_aok s.stat ≡ b → (t ≡ u) × (r ≡ x)
+  cycle_alone : (s : PlusState) (r x : Option Rec) (t u : PlusState) → IsPlusCycle v terms s r t → IsPlusCycle v terms s x u → (b : Bool) → is_aok s.stat ≡ b → (t ≡ u) × (r ≡ x)
   cycle_alone s r x t u h k true e =
       let f = h.goes e in
       let g = k.goes e in
@@ -54,6 +54,6 @@ module _ (v : Variant) (terms : List Term) (ids : List ℕ) (bound : IsBound plu
   run_alone m zero t u rs xs h k = (h.0 ∙ sym k.0, h.1 ∙ sym k.1)
   run_alone m (suc n) t u rs xs h k =
       let before = run_alone m n h.0 k.0 h.1 k.1 h.3 k.3 in
-      let moved : PlusCycle v terms h.0 k.2 u = subst (λ s. PlusCycle v terms s k.2 u) (sym before.0) k.4 in
+      let moved : IsPlusCycle v terms h.0 k.2 u = subst (λ s. IsPlusCycle v terms s k.2 u) (sym before.0) k.4 in
       let c = cycle_alone h.0 h.2 k.2 t u h.4 moved (is_aok h.0.stat) refl in
       (c.0, h.5 ∙ ap (λ ys. ys ++ option_to_list h.2) before.1 ∙ ap (λ y. k.1 ++ option_to_list y) c.1 ∙ sym k.5)

@@ -4,7 +4,7 @@ use Rattle.y86_base.specs.Stat.{stat_of}
 use Rattle.y86_base.specs.declared.parts.Stat.{Stat}
 use Rattle.y86_base.specs.declared.parts.Variant.{Variant}
 use Rattle.y86_isa.specs.Blocks.{stored, written_back}
-use Rattle.y86_isa.specs.Laws.{TellsStep}
+use Rattle.y86_isa.specs.Laws.{IsRecordOfStep}
 use Rattle.y86_isa.specs.Machine.{is_aok, normal}
 use Rattle.y86_isa.specs.declared.machine.Machine.{Machine}
 use Rattle.y86_isa.specs.declared.machine.Rec.{Rec}
@@ -15,7 +15,7 @@ use Rattle.seq_plus.specs.Cycle.{as_seq, pc_behind}
 use Rattle.seq_plus.specs.PlusCycle.{previous_of, plus_flags, plus_next, plus_record, plus_record_from, plus_store}
 use Rattle.seq_plus.specs.PlusEquations.{PlusSolves}
 use Rattle.seq_plus.specs.PlusNames as name
-use Rattle.seq_plus.specs.PlusRun.{PlusCycle, at_pc}
+use Rattle.seq_plus.specs.PlusRun.{IsPlusCycle, at_pc}
 use Rattle.seq_plus.specs.Told.{TellsCycle}
 use Rattle.seq_plus.specs.declared.state.PlusState.{PlusState}
 
@@ -47,7 +47,7 @@ module _ (v : Variant) (t : PlusState) (f : ℕ → ℕ) where
 
 -- ---- what the record says
 
-elsewhere : (m after : Machine) (r : Rec) (pc : ℕ) → TellsStep m after r → TellsStep m (record after { pc = pc }) r
+elsewhere : (m after : Machine) (r : Rec) (pc : ℕ) → IsRecordOfStep m after r → IsRecordOfStep m (record after { pc = pc }) r
 elsewhere m after r pc h = record { pc = h.pc; stat = h.stat; flags = h.flags; mem = h.mem; regs = h.regs }
 
 normal_icode : (b : Bool) (r : Rec) → is_aok r.stat ≡ b → (normal r).icode ≡ r.icode
@@ -83,21 +83,21 @@ plus_tells v t f =
       ifun = normal_ifun (is_aok (stat_of (f name.Stat))) (raw t f) refl;
     }
   where
-    step : TellsStep (at_pc t (f name.pc)) (at_pc (plus_next t f) (f name.pc)) (plus_record t f)
+    step : IsRecordOfStep (at_pc t (f name.pc)) (at_pc (plus_next t f) (f name.pc)) (plus_record t f)
     step =
-        subst (TellsStep (at_pc t (f name.pc)) (at_pc (plus_next t f) (f name.pc))) (sym (record_as_seq v t f))
-        (subst (λ (m : Machine). TellsStep (at_pc t (f name.pc)) m (seq_record (at_pc t (f name.pc)) (as_seq v f))) (sym (next_as_seq v t f (f name.pc)))
+        subst (IsRecordOfStep (at_pc t (f name.pc)) (at_pc (plus_next t f) (f name.pc))) (sym (record_as_seq v t f))
+        (subst (λ (m : Machine). IsRecordOfStep (at_pc t (f name.pc)) m (seq_record (at_pc t (f name.pc)) (as_seq v f))) (sym (next_as_seq v t f (f name.pc)))
         (elsewhere (at_pc t (f name.pc)) (seq_next (at_pc t (f name.pc)) (as_seq v f)) (seq_record (at_pc t (f name.pc)) (as_seq v f)) (f name.pc) (seq_tells (at_pc t (f name.pc)) (as_seq v f))))
 
 abbrev Says : Variant → List Term → PlusState → PlusState → Option Rec → Type 0
 Says v terms s t r = IfSome r (λ x. (f : ℕ → ℕ) × PlusSolves v terms s f × TellsCycle s t f x)
 
-cycle_by : (v : Variant) (terms : List Term) (s : PlusState) (r : Option Rec) (t : PlusState) → PlusCycle v terms s r t → (b : Bool) → is_aok s.stat ≡ b → Says v terms s t r
+cycle_by : (v : Variant) (terms : List Term) (s : PlusState) (r : Option Rec) (t : PlusState) → IsPlusCycle v terms s r t → (b : Bool) → is_aok s.stat ≡ b → Says v terms s t r
 cycle_by v terms s r t h true e =
     let goes = h.goes e in
     subst (Says v terms s t) (sym goes.3) (goes.0, goes.1, subst (λ (u : PlusState). TellsCycle s u goes.0 (plus_record s goes.0)) (sym goes.2) (plus_tells v s goes.0))
 cycle_by v terms s r t h false e = subst (Says v terms s t) (sym (h.ended e).1) tt
 
-pub plus_cycle_tells : (v : Variant) (terms : List Term) (s : PlusState) (r : Option Rec) (t : PlusState) → PlusCycle v terms s r t →
+pub plus_cycle_tells : (v : Variant) (terms : List Term) (s : PlusState) (r : Option Rec) (t : PlusState) → IsPlusCycle v terms s r t →
     IfSome r (λ x. (f : ℕ → ℕ) × PlusSolves v terms s f × TellsCycle s t f x)
 plus_cycle_tells v terms s r t h = cycle_by v terms s r t h (is_aok s.stat) refl

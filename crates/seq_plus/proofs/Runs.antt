@@ -12,8 +12,8 @@ use Rattle.y86_isa.specs.Run.{IsImage, run_from, records_from}
 use Rattle.y86_isa.specs.Step.{advance, retired}
 use Rattle.y86_isa.specs.Table.{row, rows}
 use Rattle.y86_isa.specs.Work.{work}
-use Rattle.y86_isa.specs.declared.columns.Next.{Next}
-use Rattle.y86_isa.specs.declared.columns.Next.TheVariants.{Itself, Fall, Branch, Target, Loaded}
+use Rattle.y86_isa.specs.declared.columns.NextPcColumn.{NextPcColumn}
+use Rattle.y86_isa.specs.declared.columns.NextPcColumn.TheVariants.{Itself, Fall, Branch, Target, Loaded}
 use Rattle.y86_isa.specs.Laws.{IsReading}
 use Rattle.y86_isa.specs.declared.fetch.Reading.{Reading}
 use Rattle.y86_isa.specs.declared.machine.Machine.{Machine}
@@ -33,10 +33,10 @@ use Rattle.dp_signals.specs.SeqRows.{SeqHardware}
 use Rattle.y86_base.specs.Words.{set}
 use Rattle.y86_base.proofs.Booleans.{implied}
 use Rattle.dp_signals.proofs.Bits.{bit_lt}
-use Rattle.field_bits.specs.Spots.{InRange}
+use Rattle.net_fields.specs.FieldSpecs.{InRange}
 use Rattle.ctl_atoms.specs.declared.leaf.Leaf.{Leaf}
 use Rattle.ctl_formula.specs.Controls.{AreControls}
-use Rattle.ctl_formula.specs.Laws.{HasControls, real}
+use Rattle.ctl_formula.specs.Laws.{HasControls, real_assignment}
 use Rattle.ctl_formula.proofs.Solved.{controls_exist}
 use Rattle.seq_obligations.specs.Obligations.{shared_demand, rule_count}
 use Rattle.seq_refinement.specs.Cycle.{Agrees}
@@ -52,7 +52,7 @@ use Rattle.seq_plus.specs.Obligations.{demand_at, signals}
 use Rattle.seq_plus.specs.PlusCycle.{plus_next}
 use Rattle.seq_plus.specs.PlusEquations.{PlusSolves, plus_given}
 use Rattle.seq_plus.specs.PlusNames as name
-use Rattle.seq_plus.specs.PlusRun.{at_pc, plus_start, PlusCycle, PlusRunFrom}
+use Rattle.seq_plus.specs.PlusRun.{at_pc, plus_start, IsPlusCycle, PlusRunFrom}
 use Rattle.seq_plus.specs.PlusTable.{plus_rows}
 use Rattle.seq_plus.specs.declared.state.PlusState.{PlusState}
 use Rattle.seq_plus.proofs.Agreement.{all_agree}
@@ -74,7 +74,7 @@ goes v n le lt = by _ _ (next_at v n lt) (no_zero n le)
     no_zero n le = ne_eqb n 0 (λ e. absurd (omega (arith, e, le)))
 
 -- an instruction that goes on leaves its own PC out of account
-any_pc : (t : Next) (a b vp vc vm : ℕ) (c : Bool) → is_itself t ≡ false → next_address t a vp vc vm c ≡ next_address t b vp vc vm c
+any_pc : (t : NextPcColumn) (a b vp vc vm : ℕ) (c : Bool) → is_itself t ≡ false → next_address t a vp vc vm c ≡ next_address t b vp vc vm c
 any_pc Itself a b vp vc vm c e = cc
 any_pc Fall a b vp vc vm c e = refl
 any_pc Branch a b vp vc vm c e = refl
@@ -131,11 +131,11 @@ module _ (v : Variant) (terms : List Term) (ids : List ℕ) (bound : IsBound plu
     range : InRange spots (numbers (fields_at v t f))
     range = (omega (arith, lt, rows_few v), (omega (arith, small), fields_in_range v (at_pc t (f name.pc)) (as_seq v f) g hw))
 
-    module _ (cv : ℕ → Leaf) (h : AreControls plus_rows terms (number_of (fields_at v t f)) (real f) cv) where
-      demanded : (i : ℕ) → 1 ≤ i → i ≤ rule_count → demand_at v i (fields_at v t f) (real f) cv ≡ true
-      demanded i l k = implied _ _ (accepted.holds i (fields_at v t f) (real f) cv l k range h) fits
+    module _ (cv : ℕ → Leaf) (h : AreControls plus_rows terms (number_of (fields_at v t f)) (real_assignment f) cv) where
+      demanded : (i : ℕ) → 1 ≤ i → i ≤ rule_count → demand_at v i (fields_at v t f) (real_assignment f) cv ≡ true
+      demanded i l k = implied _ _ (accepted.holds i (fields_at v t f) (real_assignment f) cv l k range h) fits
 
-      asked : (i : ℕ) → 1 ≤ i → i ≤ 15 → shared_demand signals i (row v (f name.imem_icode)) (fields_at v t f).line (real f) cv ≡ true
+      asked : (i : ℕ) → 1 ≤ i → i ≤ 15 → shared_demand signals i (row v (f name.imem_icode)) (fields_at v t f).line (real_assignment f) cv ≡ true
       unfolding demand_at
       asked i l k =
           let other : (i == 16) ≡ false = ne_eqb i 16 (λ e. absurd (omega (arith, e, k))) in
@@ -160,8 +160,8 @@ module _ (v : Variant) (terms : List Term) (ids : List ℕ) (bound : IsBound plu
           (goes v t.previous.icode le lt)
           ∙ (rw (s name.pValP, s name.pValC, s name.pValM) refl)
 
-    controls : HasControls plus_rows terms (number_of (fields_at v t f)) (real f)
-    controls = controls_exist plus_rows terms ids (number_of (fields_at v t f)) (real f) o
+    controls : HasControls plus_rows terms (number_of (fields_at v t f)) (real_assignment f)
+    controls = controls_exist plus_rows terms ids (number_of (fields_at v t f)) (real_assignment f) o
 
     pc_next : f name.pc ≡ next_of v t
     pc_next = pc_is controls.0 controls.1
@@ -215,7 +215,7 @@ module _ (v : Variant) (terms : List Term) (ids : List ℕ) (bound : IsBound plu
   at_q : (t : PlusState) (q : Machine) (f : ℕ → ℕ) → Related v t q → IsImage q.mem → PlusSolves v terms t f → at_pc t (f name.pc) ≡ q
   at_q t q f r g s = ap (at_pc t) (pc_next t f s (subst (λ (x : Machine). IsImage x.mem) r.machine g) r.from_one r.within r.small) ∙ sym r.machine
 
-  cycle_case : (t u : PlusState) (q : Machine) (x : Option Rec) → Related v t q → IsImage q.mem → PlusCycle v terms t x u → (b : Bool) → is_aok q.stat ≡ b →
+  cycle_case : (t u : PlusState) (q : Machine) (x : Option Rec) → Related v t q → IsImage q.mem → IsPlusCycle v terms t x u → (b : Bool) → is_aok q.stat ≡ b →
       Related v u (advance v q) × (x ≡ retired v q)
   unfolding advance retired
   cycle_case t u q x r g h true e =

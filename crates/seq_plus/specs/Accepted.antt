@@ -9,10 +9,10 @@ use Rattle.ctl_atoms.specs.Leaves.{Assignment}
 use Rattle.ctl_atoms.specs.declared.leaf.Leaf.{Leaf}
 use Rattle.ctl_formula.specs.Controls.{AreControls}
 use Rattle.seq_obligations.specs.Obligations.{rule_count}
-use Rattle.field_bits.specs.Spots.{InRange}
+use Rattle.net_fields.specs.FieldSpecs.{InRange}
 use Rattle.seq_plus.specs.Fields.{Fields, number_of, numbers, spots}
 use Rattle.seq_plus.specs.Obligations.{obligation}
-use Rattle.seq_plus.specs.PlusRun.{PlusRun, PlusEnds}
+use Rattle.seq_plus.specs.PlusRun.{PlusRun, PlusEndIs}
 use Rattle.seq_plus.specs.PlusTable.{plus_rows}
 use Rattle.seq_plus.specs.declared.state.PlusState.{PlusState}
 
@@ -25,5 +25,5 @@ pub record AcceptedPlus (v : Variant) (terms : List Term) : Type 0 where
 -- on every image and for every number of cycles, the machine that the design's end tells is that of the instruction-level run, in all
 -- registers, flags, memory, PC and status, and its records are that run's
 pub record RefinesPlus (v : Variant) (terms : List Term) : Type 0 where
-  pub machine : (image : List ℕ) (k : ℕ) (t : PlusState) (rs : List Rec) (end : Machine) → IsImage image → PlusRun v terms image k t rs → PlusEnds v terms t end → end ≡ run v image k
+  pub machine : (image : List ℕ) (k : ℕ) (t : PlusState) (rs : List Rec) (end : Machine) → IsImage image → PlusRun v terms image k t rs → PlusEndIs v terms t end → end ≡ run v image k
   pub told : (image : List ℕ) (k : ℕ) (t : PlusState) (rs : List Rec) → IsImage image → PlusRun v terms image k t rs → rs ≡ records v image k

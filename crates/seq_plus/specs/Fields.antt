@@ -3,9 +3,9 @@
 use Rattle.std.specs.Prelude.{ℕ, Bool, ◌&&◌, List, [], ◌∷◌, length, get_or, nat_lt, drop, Some}
 use Rattle.y86_base.specs.declared.parts.Variant.{Variant}
 use Rattle.y86_isa.specs.Table.{rows}
-use Rattle.field_bits.specs.declared.spots.Spot.{Spot}
-use Rattle.field_bits.specs.declared.spots.FieldPlace.{FieldPlace}
-use Rattle.field_bits.specs.Spots.{decoded, number_among}
+use Rattle.net_fields.specs.declared.field_specs.FieldSpec.{FieldSpec}
+use Rattle.net_fields.specs.declared.field_specs.BitRange.{BitRange}
+use Rattle.net_fields.specs.FieldSpecs.{decoded, number_among}
 use Rattle.seq_obligations.specs.Fields as seq
 use Rattle.seq_plus.specs.PlusNames as signal
 
@@ -15,11 +15,11 @@ pub record Fields : Type 0 where
   pub cnd : ℕ
   pub line : seq.Fields
 
-abbrev spot : FieldPlace → ℕ → Spot
+abbrev spot : BitRange → ℕ → FieldSpec
 spot p name = record { bits = p.bits; name = Some name }
 
 -- the table of the fields, in the order of the variables
-abbrev pub spots : List Spot
+abbrev pub spots : List FieldSpec
 spots =
     spot seq.p_icode signal.pIcode ∷
     spot seq.p_cnd signal.pCnd ∷

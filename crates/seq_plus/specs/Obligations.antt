@@ -6,14 +6,14 @@ use Rattle.y86_isa.specs.Table.{row}
 use Rattle.ctl_atoms.specs.declared.leaf.Leaf.{Leaf}
 use Rattle.ctl_atoms.specs.Leaves.{Assignment}
 use Rattle.y86_base.specs.Words.{set}
-use Rattle.rule_gates.specs.Words.{takes_some, next_leaf}
+use Rattle.ctl_rules.specs.ColumnDemands.{picks_some_leaf, next_leaf}
 use Rattle.seq_obligations.specs.Obligations.{shared_demand}
-use Rattle.seq_obligations.specs.declared.signals.Signals.{Signals}
+use Rattle.seq_obligations.specs.declared.signals.SeqSignals.{SeqSignals}
 use Rattle.seq_plus.specs.Fields.{Fields, allowed}
 use Rattle.seq_plus.specs.PlusNames as signal
 
 -- the rows of SEQ+'s signals
-abbrev pub signals : Signals
+abbrev pub signals : SeqSignals
 signals =
     record {
       val_c = signal.valC;
@@ -44,7 +44,7 @@ signals =
 -- S16: the PC picks where the instruction before, of this icode, leads: its constant for a call, and for a jump where its condition held;
 -- the word that a ret loaded; else the address behind it
 abbrev pub next_demand : Variant → Fields → (ℕ → Leaf) → Bool
-next_demand v c cv = takes_some cv signal.pc (next_leaf (row v c.icode).next signal.pValP signal.pValC signal.pValM (set c.cnd))
+next_demand v c cv = picks_some_leaf cv signal.pc (next_leaf (row v c.icode).next signal.pValP signal.pValC signal.pValM (set c.cnd))
 
 -- what rule i asks
 unfoldable pub demand_at : Variant → ℕ → Fields → Assignment → (ℕ → Leaf) → Bool

@@ -9,7 +9,7 @@ use Rattle.y86_isa.specs.declared.machine.Store.{Store}
 use Rattle.y86_base.specs.Words.{set}
 use Rattle.seq_plus.specs.PlusNames as row
 use Rattle.seq_plus.specs.declared.state.PlusState.{PlusState}
-use Rattle.seq_plus.specs.declared.state.Previous.{Previous}
+use Rattle.seq_plus.specs.declared.state.PreviousInstruction.{PreviousInstruction}
 
 -- the store of the cycle: mem_data at mem_addr, where mem_write asks for it and no error is told
 abbrev pub plus_store : (ℕ → ℕ) → Option Store
@@ -20,7 +20,7 @@ abbrev pub plus_flags : Flags → (ℕ → ℕ) → Flags
 plus_flags before f = flags_after (set (f row.set_cc)) (f row.alufun) (f row.aluA) (f row.aluB) before
 
 -- what the instruction leaves for the PC of the next one
-abbrev pub previous_of : (ℕ → ℕ) → Previous
+abbrev pub previous_of : (ℕ → ℕ) → PreviousInstruction
 previous_of f = record { icode = f row.icode; cnd = f row.Cnd; val_m = f row.valM; val_c = f row.valC; val_p = f row.valP }
 
 -- the state after a cycle whose Stat is AOK: all is read as the cycle begins, dstE is written before dstM, and all changes at once. With

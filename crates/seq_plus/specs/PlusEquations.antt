@@ -5,7 +5,7 @@ use Rattle.y86_base.specs.Registers.{register}
 use Rattle.y86_base.specs.declared.parts.Variant.{Variant}
 use Rattle.y86_isa.specs.Blocks.{reading, field_a, field_b, constant_at, behind, alu_value, condition, data_read, data_error}
 use Rattle.hcl_types.specs.declared.term.Term.{Term}
-use Rattle.hcl_types.specs.Equations.{Fixes}
+use Rattle.hcl_types.specs.Equations.{IsSolution}
 use Rattle.dp_signals.specs.Equations.{IsOver, rule_of}
 use Rattle.dp_signals.specs.PipeEquations.{constants}
 use Rattle.y86_base.specs.Words.{set}
@@ -50,4 +50,4 @@ plus_rule v terms t = rule_of (plus_given t) row.pc (plus_block v t) terms
 
 -- f gives the values of a cycle that begins in the state t
 abbrev pub PlusSolves : Variant → List Term → PlusState → (ℕ → ℕ) → Type 0
-PlusSolves v terms t f = Fixes (plus_rule v terms t) f
+PlusSolves v terms t f = IsSolution (plus_rule v terms t) f

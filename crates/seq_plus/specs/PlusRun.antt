@@ -5,7 +5,7 @@ use Rattle.y86_isa.specs.Machine.{is_aok, start}
 use Rattle.y86_isa.specs.declared.machine.Machine.{Machine}
 use Rattle.y86_isa.specs.declared.machine.Rec.{Rec}
 use Rattle.hcl_types.specs.declared.term.Term.{Term}
-use Rattle.dp_signals.specs.After.{After}
+use Rattle.dp_signals.specs.After.{IsAfter}
 use Rattle.seq_plus.specs.PlusCycle.{plus_next, plus_record}
 use Rattle.seq_plus.specs.PlusEquations.{PlusSolves}
 use Rattle.seq_plus.specs.PlusNames as row
@@ -24,13 +24,13 @@ plus_start image =
 
 -- one cycle from s to t with the record r, if there is one: a machine whose status isn't AOK stays and leaves no record; any other goes to
 -- the next state by values that solve the equations, and leaves a record
-pub record PlusCycle (v : Variant) (terms : List Term) (s : PlusState) (r : Option Rec) (t : PlusState) : Type 0 where
+pub record IsPlusCycle (v : Variant) (terms : List Term) (s : PlusState) (r : Option Rec) (t : PlusState) : Type 0 where
   pub ended : is_aok s.stat ≡ false → (t ≡ s) × (r ≡ None)
   pub goes : is_aok s.stat ≡ true → (f : ℕ → ℕ) × PlusSolves v terms s f × (t ≡ plus_next s f) × (r ≡ Some (plus_record s f))
 
 -- s is the state of the design k cycles after m, and these are the records of the cycles
 abbrev pub PlusRunFrom : Variant → List Term → PlusState → ℕ → PlusState → List Rec → Type 0
-PlusRunFrom v terms = After (PlusCycle v terms)
+PlusRunFrom v terms = IsAfter (IsPlusCycle v terms)
 
 -- the machine that a state is at a PC
 abbrev pub at_pc : PlusState → ℕ → Machine
@@ -42,8 +42,8 @@ PcIs v terms t pc = (f : ℕ → ℕ) × PlusSolves v terms t f × (f row.pc ≡
 
 -- The machine that the end tells: its PC is the signal pc in the state reached. Where a cycle stopped, it is the one of that cycle, since
 -- nothing that a signal reads has changed.
-abbrev pub PlusEnds : Variant → List Term → PlusState → Machine → Type 0
-PlusEnds v terms t end = (pc : ℕ) × PcIs v terms t pc × (end ≡ at_pc t pc)
+abbrev pub PlusEndIs : Variant → List Term → PlusState → Machine → Type 0
+PlusEndIs v terms t end = (pc : ℕ) × PcIs v terms t pc × (end ≡ at_pc t pc)
 
 -- the run of the design on an image
 abbrev pub PlusRun : Variant → List Term → List ℕ → ℕ → PlusState → List Rec → Type 0

@@ -10,12 +10,12 @@ use Rattle.ctl_atoms.specs.declared.leaf.Leaf.{Leaf}
 use Rattle.ctl_formula.specs.Controls.{AreControls}
 use Rattle.ctl_formula.specs.Picks.{has_picks}
 use Rattle.ctl_formula.specs.declared.controls.Entry.{Entry}
-use Rattle.ctl_formula.specs.declared.controls.NamePlace.{NamePlace}
+use Rattle.ctl_formula.specs.declared.controls.Place.{Place}
 use Rattle.seq_obligations.specs.Fields.{p_cnd, p_icode, plus_line}
 use Rattle.seq_obligations.specs.Obligations.{rule_count}
-use Rattle.field_bits.specs.Spots.{total}
-use Rattle.field_bits.specs.declared.spots.FieldPlace as field
-use Rattle.rule_gates.specs.declared.rules.Rule.{Rule}
+use Rattle.net_fields.specs.FieldSpecs.{total}
+use Rattle.net_fields.specs.declared.field_specs.BitRange as field
+use Rattle.ctl_rules.specs.declared.rules.Rule.{Rule}
 use Rattle.seq_obligations.specs.Rules.{AreNumbered}
 use Rattle.seq_obligations.specs.Signals.{IsReady}
 use Rattle.seq_plus.specs.Fields.{fields_of, number_of, spots}
@@ -29,11 +29,11 @@ pub record IsPlusReady (vars : ℕ) (ctl : List Entry) : Type 0 where
   pub code : p_cnd.first + p_cnd.bits ≤ vars
   pub pc : IsTrue (has_picks ctl signal.pc)
 
-abbrev place : field.FieldPlace → ℕ → NamePlace
+abbrev place : field.BitRange → ℕ → Place
 place p name = record { name = name; first = p.first; bits = p.bits }
 
 -- the places of the signals that are fields
-abbrev pub places : List NamePlace
+abbrev pub places : List Place
 places =
     place p_icode signal.pIcode ∷
     place p_cnd signal.pCnd ∷

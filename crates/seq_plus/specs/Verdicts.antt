@@ -5,7 +5,7 @@ use Rattle.hcl_types.specs.declared.term.Term.{Term}
 use Rattle.ctl_atoms.specs.Atoms.{AreAtoms}
 use Rattle.ctl_atoms.specs.declared.leaf.Atom.{Atom}
 use Rattle.seq_obligations.specs.Obligations.{rule_count}
-use Rattle.verdicts.specs.Questions.{IsLeastFalse, Questions}
+use Rattle.ctl_verdicts.specs.ObligationSet.{IsLeastFalseOf, ObligationSet}
 use Rattle.seq_plus.specs.Accepted.{AcceptedPlus}
 use Rattle.seq_plus.specs.Fields.{fields_by, spots}
 use Rattle.seq_plus.specs.Obligations.{obligation}
@@ -14,7 +14,7 @@ use Rattle.seq_plus.specs.declared.verdict.Plain16.{Plain16}
 use Rattle.seq_plus.specs.declared.verdict.Plain16.TheVariants.{Yes, No}
 
 -- what SEQ+ asks of a design
-abbrev pub plus_questions : Variant → Questions
+abbrev pub plus_questions : Variant → ObligationSet
 plus_questions v = record { rows = plus_rows; spots = spots; count = rule_count; asks = λ i xs α cv. obligation v i (fields_by xs) α cv }
 
 -- no definition of the design mixes codes with words, it has at most 64 atoms, and every obligation holds of every valuation
@@ -29,7 +29,7 @@ pub record RejectsPlus (v : Variant) (terms : List Term) (rule : ℕ) (w : List 
   pub atoms : List Atom
   pub are : AreAtoms plus_rows terms atoms
   pub refused : AcceptedPlus v terms → ⊥
-  pub least : IsLeastFalse (plus_questions v) terms atoms rule w
+  pub least : IsLeastFalseOf (plus_questions v) terms atoms rule w
 
 abbrev pub IsPlusVerdict : Variant → List Term → Plain16 → Type 0
 IsPlusVerdict v terms Yes = AcceptsPlus v terms

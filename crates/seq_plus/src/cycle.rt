@@ -4,7 +4,7 @@ ghost use Rattle.seq_plus.specs.PlusCycle as spec;
 ghost use Rattle.hcl_types.specs.Terms.{at};
 
 use crate::row;
-use crate::state::{PlusState, Previous};
+use crate::state::{PlusState, PreviousInstruction};
 use crate::values::PlusValues;
 use dp_signals::at;
 use y86_base::{Flags, Stat};
@@ -53,7 +53,7 @@ pub fn advance(s: &mut PlusState, values: &PlusValues)
         at(values, row::VAL_M),
     );
     update_flags(&mut s.flags, values);
-    s.previous = Previous {
+    s.previous = PreviousInstruction {
         icode: at(values, row::ICODE),
         cnd: at(values, row::CND),
         val_m: at(values, row::VAL_M),

@@ -6,13 +6,13 @@ ghost use Rattle.seq_plus.specs.Obligations.{signals as spec_signals};
 ghost use Rattle.seq_plus.specs.Rules.{places};
 
 use crate::row;
-use field_bits::Spot;
-use seq_obligations::{Line, P_CND, P_ICODE, PLUS_LINE, Signals};
+use net_fields::FieldSpec;
+use seq_obligations::{LineRanges, P_CND, P_ICODE, PLUS_LINE, SeqSignals};
 
 /// The field at a place, which is the signal of a row.
 macro_rules! spot {
     ($place:expr, $name:expr) => {
-        Spot {
+        FieldSpec {
             bits: $place.bits,
             name: Some($name),
         }
@@ -22,7 +22,7 @@ macro_rules! spot {
 /// The place of the signal of a row, which is a field.
 macro_rules! place {
     ($place:expr, $name:expr) => {
-        ctl_formula::NamePlace {
+        ctl_formula::Place {
             name: $name,
             first: $place.first,
             bits: $place.bits,
@@ -30,7 +30,7 @@ macro_rules! place {
     };
 }
 
-static SPOTS: [Spot; 9] = [
+static SPOTS: [FieldSpec; 9] = [
     spot!(P_ICODE, row::P_ICODE),
     spot!(P_CND, row::P_CND),
     spot!(PLUS_LINE.error, row::IMEM_ERROR),
@@ -44,22 +44,22 @@ static SPOTS: [Spot; 9] = [
 
 /// The fields of a valuation in the order of its variables, those of the line P first: their bits, and the rows of SEQ+'s
 /// table that they are.
-pub fn spots() -> &'static [Spot]
+pub fn spots() -> &'static [FieldSpec]
     ensures { result.now ≡ spec.spots }
 {
     &SPOTS
 }
 
-static THE_LINE: Line = PLUS_LINE;
+static THE_LINE: LineRanges = PLUS_LINE;
 
 /// Where the fields of the line S stand.
-pub(crate) fn line() -> &'static Line
+pub(crate) fn line() -> &'static LineRanges
     ensures { result.now ≡ plus_line }
 {
     &THE_LINE
 }
 
-static SIGNALS: Signals = Signals {
+static SIGNALS: SeqSignals = SeqSignals {
     val_c: row::VAL_C,
     val_p: row::VAL_P,
     val_a: row::VAL_A,
@@ -86,13 +86,13 @@ static SIGNALS: Signals = Signals {
 };
 
 /// The rows of SEQ+'s signals.
-pub(crate) fn signals() -> &'static Signals
+pub(crate) fn signals() -> &'static SeqSignals
     ensures { result.now ≡ spec_signals }
 {
     &SIGNALS
 }
 
-static PLACES: [ctl_formula::NamePlace; 9] = [
+static PLACES: [ctl_formula::Place; 9] = [
     place!(P_ICODE, row::P_ICODE),
     place!(P_CND, row::P_CND),
     place!(PLUS_LINE.error, row::IMEM_ERROR),
@@ -105,7 +105,7 @@ static PLACES: [ctl_formula::NamePlace; 9] = [
 ];
 
 /// The places of the signals that are fields, as the translation of a design asks for them.
-pub(crate) fn places() -> &'static [ctl_formula::NamePlace]
+pub(crate) fn places() -> &'static [ctl_formula::Place]
     ensures { result.now ≡ places }
 {
     &PLACES

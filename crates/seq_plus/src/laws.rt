@@ -7,7 +7,7 @@ ghost use Rattle.hcl_types.specs.declared.term.Term.{Term};
 ghost use Rattle.seq_plus.specs.Accepted.{AcceptedPlus, RefinesPlus};
 ghost use Rattle.seq_plus.specs.Calls.{CallsAreTheRun};
 ghost use Rattle.seq_plus.specs.PlusEquations.{PlusSolves};
-ghost use Rattle.seq_plus.specs.PlusRun.{PlusCycle, PlusRun};
+ghost use Rattle.seq_plus.specs.PlusRun.{IsPlusCycle, PlusRun};
 ghost use Rattle.seq_plus.specs.PlusTable.{plus_rows};
 ghost use Rattle.seq_plus.specs.Told.{TellsCycle};
 ghost use Rattle.seq_plus.specs.declared.state.PlusState.{PlusState};
@@ -39,7 +39,7 @@ pub fn law_of_runs()
 /// Under any HCL file the record of a cycle says all that the cycle changed: memory by its store alone, registers by its two destinations,
 /// that of valM last. Its address, icode and ifun are the values of the signals `pc`, `icode` and `ifun`.
 pub fn law_of_plus_cycles()
-    ensures { (v : Variant) (terms : List Term) (s : PlusState) (r : Option Rec) (t : PlusState) → PlusCycle v terms s r t →
+    ensures { (v : Variant) (terms : List Term) (s : PlusState) (r : Option Rec) (t : PlusState) → IsPlusCycle v terms s r t →
         IfSome r (λ x. (f : ℕ → ℕ) × PlusSolves v terms s f × TellsCycle s t f x) }
 {}
 

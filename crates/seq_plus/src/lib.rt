@@ -15,15 +15,15 @@ mod values;
 mod verdict;
 
 pub use cycle::advance;
+pub use dp_machines::run;
 pub use fields::spots;
 pub use laws::{
     law_of_calls, law_of_plus_cycles, law_of_refinement, law_of_runs, law_of_solutions,
     law_of_table,
 };
 pub use machine::Plus;
-pub use machine_calls::run;
 pub use rules::plus_rules;
-pub use state::{PlusState, Previous};
+pub use state::{PlusState, PreviousInstruction};
 pub use table::plus_table;
 pub use values::{PLUS_ROWS, PlusValues, plus_constants, solve_plus, solve_plus_in};
 pub use verdict::{Plain16, check_plus};

@@ -4,16 +4,16 @@ ghost use Rattle.hcl_types.specs.Tables.{IsBound, IsOrderOf};
 ghost use Rattle.y86_base.specs.declared.parts.Stat.TheVariants.{Aok};
 ghost use Rattle.yis_run.specs.Report.{ended};
 ghost use Rattle.seq_plus.specs.PlusTable.{plus_rows};
-ghost use Rattle.seq_plus.specs.PlusRun.{PcIs, PlusEnds, at_pc};
+ghost use Rattle.seq_plus.specs.PlusRun.{PcIs, PlusEndIs, at_pc};
 ghost use Rattle.seq_plus.specs.Plus as spec;
 
 use crate::cycle::{advance, record_of};
 use crate::row;
 use crate::state::PlusState;
 use crate::values::{PlusValues, plus_constants, solve_plus_in};
+use dp_machines::{ClockedMachine, is_aok_stat};
 use dp_signals::{at, constant_words};
 use hcl_types::{Design, Order, SignalEval};
-use machine_calls::{Cycles, is_going};
 use std::marker::Model;
 use y86_base::{Image, Stat, Variant};
 use y86_isa::Rec;
@@ -35,12 +35,12 @@ pub struct Plus<C: SignalEval> {
 impl<C: SignalEval> Model for Plus<C> {
     ghost use Rattle.std.specs.Coded.{codes};
     ghost use Rattle.hcl_types.specs.contracts.term.Term as term;
-    ghost use Rattle.seq_plus.specs.Plus.{Plus, IsPlus, seen};
+    ghost use Rattle.seq_plus.specs.Plus.{PlusMachine, IsPlus, seen};
     ghost use Rattle.std.specs.Prelude.{IsTrue};
     ghost use Rattle.hcl_types.specs.Signals.{Starts};
     ghost use Rattle.dp_signals.specs.PipeEquations.{constants};
 
-    ghost Value = { Plus };
+    ghost Value = { PlusMachine };
 
     ghost coded = { Prim.hlevel (codes, term.the_row.coded) };
 
@@ -75,10 +75,10 @@ impl<C: SignalEval> Plus<C> {
     /// and there is no record.
     #[inline(always)]
     pub fn cycle(&mut self) -> Option<Rec>
-        ensures cycle { spec.Cycle self.old result self.new }
+        ensures cycle { spec.IsPlusCall self.old result self.new }
         ensures stopped { IsNone result ↔ (self.old.state.stat ≢ Aok) }
     {
-        if !is_going(self.state.stat) {
+        if !is_aok_stat(self.state.stat) {
             return None;
         }
         solve_plus_in(
@@ -115,17 +115,17 @@ impl<C: SignalEval> Plus<C> {
     /// How the machine ended, or stands: its registers, flags and memory, the status, and the PC that `pc` answers.
     pub fn end(&self, pc: u64) -> End<'_>
         requires { PcIs self.now.variant self.now.terms self.now.state pc }
-        ensures { PlusEnds self.now.variant self.now.terms self.now.state (ended result) }
+        ensures { PlusEndIs self.now.variant self.now.terms self.now.state (ended result) }
     {
         end_of(&self.state, pc)
     }
 }
 
-impl<C: SignalEval> Cycles for Plus<C> {
-    ghost use Rattle.seq_plus.specs.Plus.{Plus, Cycle};
+impl<C: SignalEval> ClockedMachine for Plus<C> {
+    ghost use Rattle.seq_plus.specs.Plus.{PlusMachine, IsPlusCall};
     ghost use Rattle.seq_plus.specs.Calls.{stays};
 
-    ghost step = { Cycle };
+    ghost step = { IsPlusCall };
 
     ghost stat = { λ p. p.state.stat };
 

@@ -1,14 +1,14 @@
 //! The 16 rules of SEQ+ as gates.
 ghost use Rattle.std.specs.Prelude.{◌≡◌, ◌<◌, ◌≤◌, ◌+◌, ◌||◌, ◌&&◌, not, ℕ, List, Bool, length, slice_get, Some, IfErr, IfOk, IsTrue};
-ghost use Rattle.nets.specs.Nets.{Begins, IsGate};
+ghost use Rattle.nets.specs.Nets.{ExtendsNet, IsGate};
 ghost use Rattle.y86_isa.specs.Table.{row, rows};
 ghost use Rattle.ctl_atoms.specs.Atoms.{AreAtoms, IsCtlFault};
 ghost use Rattle.ctl_formula.specs.Picks.{IsInside, has_picks};
 ghost use Rattle.y86_base.specs.Words.{set};
-ghost use Rattle.field_bits.specs.Spelling.{spelt};
+ghost use Rattle.net_fields.specs.Spelling.{spelt};
 ghost use Rattle.hcl_types.specs.Tables.{IsBound, IsOrderOf};
-ghost use Rattle.rule_gates.specs.Asked.{IsAsked};
-ghost use Rattle.rule_gates.specs.Words.{next_leaf, takes_some};
+ghost use Rattle.ctl_rules.specs.ControlGates.{IsControlGate};
+ghost use Rattle.ctl_rules.specs.ColumnDemands.{next_leaf, picks_some_leaf};
 ghost use Rattle.seq_obligations.specs.Fields.{p_cnd, p_icode};
 ghost use Rattle.seq_plus.specs.Fields.{allowed, fields_of, goes_on};
 ghost use Rattle.seq_plus.specs.Obligations.{demand_at};
@@ -21,12 +21,12 @@ use crate::row;
 use crate::table::plus_table;
 use ctl_atoms::{CtlFault, atoms};
 use ctl_formula::{Controls, translate};
-use field_bits::{below, spells};
+use ctl_rules::{RowGates, Rules, by_icode, next_is};
 use hcl_types::{Design, Order};
+use net_fields::{below, spells};
 use nets::NetBuilder;
-use rule_gates::{ByRow, Rules, by_icode, next_is};
 use seq_obligations::{
-    Numbered, P_CND, P_ICODE, PLUS_BIT_COUNT, line_allowed, numbered_rules, shared_demand_told,
+    P_CND, P_ICODE, PLUS_BIT_COUNT, RuleFamily, line_allowed, numbered_rules, shared_demand_gate,
 };
 use std::alloc::Global;
 use y86_base::{Items, Memory, Variant};
@@ -36,8 +36,8 @@ use y86_isa::{Row, icode_count};
 #[derive(Clone, Copy, Debug)]
 struct NextPc;
 
-impl ByRow for NextPc {
-    ghost asks = { λ rule code r w α cv. takes_some cv signal.pc (next_leaf r.next signal.pValP signal.pValC signal.pValM (set (spelt w p_cnd.first p_cnd.bits))) };
+impl RowGates for NextPc {
+    ghost asks = { λ rule code r w α cv. picks_some_leaf cv signal.pc (next_leaf r.next signal.pValP signal.pValC signal.pValM (set (spelt w p_cnd.first p_cnd.bits))) };
 
     ghost knows = { λ rule vars ctl. (p_cnd.first + p_cnd.bits ≤ vars) × IsTrue (has_picks ctl signal.pc) };
 
@@ -67,8 +67,8 @@ impl ByRow for NextPc {
 #[tactic(auto, using(nets::proofs::Truths::begins_more))]
 fn code_allowed(b: &mut NetBuilder, v: Variant) -> Result<u64, Memory>
     requires { p_cnd.first + p_cnd.bits ≤ b.old.vars }
-    ensures begins { Begins b.old b.new }
-    ensures made { IfOk result (λ g. IsGate b.new g (λ w. goes_on (length (rows v)) (spelt w p_icode.first p_icode.bits))) }
+    ensures extends { ExtendsNet b.old b.new }
+    ensures has_truth { IfOk result (λ g. IsGate b.new g (λ w. goes_on (length (rows v)) (spelt w p_icode.first p_icode.bits))) }
 {
     let none = below(b, P_ICODE, 1)?;
     let some = b.not(none)?;
@@ -82,8 +82,8 @@ fn code_allowed(b: &mut NetBuilder, v: Variant) -> Result<u64, Memory>
 fn lines_allowed(b: &mut NetBuilder, ctl: &Controls, v: Variant) -> Result<u64, Memory>
     requires inside { IsInside b.old ctl.now }
     requires ready { IsPlusReady b.old.vars ctl.now }
-    ensures begins { Begins b.old b.new }
-    ensures made { IfOk result (λ g. IsAsked b.new ctl.now g (λ w α cv. allowed v (fields_of w))) }
+    ensures extends { ExtendsNet b.old b.new }
+    ensures has_truth { IfOk result (λ g. IsControlGate b.new ctl.now g (λ w α cv. allowed v (fields_of w))) }
 {
     let code = code_allowed(b, v)?;
     let rest = line_allowed(b, ctl, line(), v)?;
@@ -96,14 +96,14 @@ fn lines_allowed(b: &mut NetBuilder, ctl: &Controls, v: Variant) -> Result<u64, 
 fn demand_told(b: &mut NetBuilder, ctl: &Controls, v: Variant, number: u32) -> Result<u64, Memory>
     requires inside { IsInside b.old ctl.now }
     requires ready { IsPlusReady b.old.vars ctl.now }
-    ensures begins { Begins b.old b.new }
-    ensures made { IfOk result (λ g. IsAsked b.new ctl.now g (λ w α cv. demand_at v number (fields_of w) α cv)) }
+    ensures extends { ExtendsNet b.old b.new }
+    ensures has_truth { IfOk result (λ g. IsControlGate b.new ctl.now g (λ w α cv. demand_at v number (fields_of w) α cv)) }
 {
     if number == 16 {
         let next = by_icode(b, ctl, v, P_ICODE, &NextPc)?;
         return Ok(next);
     }
-    let g = shared_demand_told(b, ctl, signals(), line(), v, number)?;
+    let g = shared_demand_gate(b, ctl, signals(), line(), v, number)?;
     Ok(g)
 }
 
@@ -113,7 +113,7 @@ struct PlusRules {
     variant: Variant,
 }
 
-impl Numbered for PlusRules {
+impl RuleFamily for PlusRules {
     ghost may = { λ it w α cv. allowed it.variant (fields_of w) };
 
     ghost asks = { λ it i w α cv. demand_at it.variant i (fields_of w) α cv };

@@ -8,7 +8,7 @@ use y86_isa::Machine;
 /// What an instruction leaves for the PC of the next one: its icode, its condition (0 or 1), the word that it loaded, its
 /// constant, and the address behind it.
 #[derive(Clone, Copy, Debug, PartialEq, Eq)]
-pub struct Previous {
+pub struct PreviousInstruction {
     pub icode: u64,
     pub cnd: u64,
     pub val_m: u64,
@@ -19,7 +19,7 @@ pub struct Previous {
 /// The state of SEQ+ as a cycle begins. No PC is in it: the signal `pc` is computed from the previous instruction's values.
 #[derive(Drop)]
 pub struct PlusState {
-    pub previous: Previous,
+    pub previous: PreviousInstruction,
     pub regs: Regs,
     pub flags: Flags,
     pub stat: Stat,
@@ -38,7 +38,7 @@ impl PlusState {
             mem,
             ..
         } = Machine::start(mem);
-        let previous = Previous {
+        let previous = PreviousInstruction {
             icode: 1,
             cnd: 0,
             val_m: 0,

@@ -3,17 +3,17 @@ ghost use Rattle.std.specs.Prelude.{◌≡◌, ◌++◌, IfOk, OnOk};
 ghost use Rattle.seq_plus.specs.PlusTable as spec;
 
 use crate::row;
-use dp_signals::{Line, Source, put_constants, put_lines};
+use dp_signals::{RowSource, TableRow, put_constants, put_lines};
 use hcl_types::{Class, NameId, Row, Table};
 use std::alloc::Global;
 use y86_base::{Items, Memory};
 
-static STATE: &[Line] = &[
-    Line(b"pIcode", Class::Code, Source::State),
-    Line(b"pCnd", Class::Truth, Source::State),
-    Line(b"pValM", Class::Value, Source::State),
-    Line(b"pValC", Class::Value, Source::State),
-    Line(b"pValP", Class::Value, Source::State),
+static STATE: &[TableRow] = &[
+    TableRow(b"pIcode", Class::Code, RowSource::State),
+    TableRow(b"pCnd", Class::Truth, RowSource::State),
+    TableRow(b"pValM", Class::Value, RowSource::State),
+    TableRow(b"pValC", Class::Value, RowSource::State),
+    TableRow(b"pValP", Class::Value, RowSource::State),
 ];
 
 // what the blocks for the fetched words, the ALU, and a read and an access of data memory depend on
@@ -25,50 +25,50 @@ const READING: &[NameId] = &[row::MEM_ADDR, row::MEM_READ];
 
 const ACCESS: &[NameId] = &[row::MEM_ADDR, row::MEM_READ, row::MEM_WRITE];
 
-static HARDWARE: &[Line] = &[
-    Line(b"imem_icode", Class::Code, Source::Hardware(&[row::PC])),
-    Line(b"imem_ifun", Class::Code, Source::Hardware(&[row::PC])),
-    Line(b"imem_error", Class::Truth, Source::Hardware(&[row::PC])),
-    Line(
+static HARDWARE: &[TableRow] = &[
+    TableRow(b"imem_icode", Class::Code, RowSource::Hardware(&[row::PC])),
+    TableRow(b"imem_ifun", Class::Code, RowSource::Hardware(&[row::PC])),
+    TableRow(b"imem_error", Class::Truth, RowSource::Hardware(&[row::PC])),
+    TableRow(
         b"rA",
         Class::Code,
-        Source::Hardware(&[row::PC, row::NEED_REGIDS]),
+        RowSource::Hardware(&[row::PC, row::NEED_REGIDS]),
     ),
-    Line(
+    TableRow(
         b"rB",
         Class::Code,
-        Source::Hardware(&[row::PC, row::NEED_REGIDS]),
+        RowSource::Hardware(&[row::PC, row::NEED_REGIDS]),
     ),
-    Line(b"valC", Class::Value, Source::Hardware(FETCHED)),
-    Line(b"valP", Class::Value, Source::Hardware(FETCHED)),
-    Line(b"valA", Class::Value, Source::Hardware(&[row::SRC_A])),
-    Line(b"valB", Class::Value, Source::Hardware(&[row::SRC_B])),
-    Line(b"valE", Class::Value, Source::Hardware(OPERATION)),
-    Line(b"Cnd", Class::Truth, Source::Hardware(&[row::IFUN])),
-    Line(b"valM", Class::Value, Source::Hardware(READING)),
-    Line(b"dmem_error", Class::Truth, Source::Hardware(ACCESS)),
+    TableRow(b"valC", Class::Value, RowSource::Hardware(FETCHED)),
+    TableRow(b"valP", Class::Value, RowSource::Hardware(FETCHED)),
+    TableRow(b"valA", Class::Value, RowSource::Hardware(&[row::SRC_A])),
+    TableRow(b"valB", Class::Value, RowSource::Hardware(&[row::SRC_B])),
+    TableRow(b"valE", Class::Value, RowSource::Hardware(OPERATION)),
+    TableRow(b"Cnd", Class::Truth, RowSource::Hardware(&[row::IFUN])),
+    TableRow(b"valM", Class::Value, RowSource::Hardware(READING)),
+    TableRow(b"dmem_error", Class::Truth, RowSource::Hardware(ACCESS)),
 ];
 
-static DEFINED: &[Line] = &[
-    Line(b"pc", Class::Value, Source::Defined),
-    Line(b"icode", Class::Code, Source::Defined),
-    Line(b"ifun", Class::Code, Source::Defined),
-    Line(b"instr_valid", Class::Truth, Source::Defined),
-    Line(b"need_regids", Class::Truth, Source::Defined),
-    Line(b"need_valC", Class::Truth, Source::Defined),
-    Line(b"srcA", Class::Code, Source::Defined),
-    Line(b"srcB", Class::Code, Source::Defined),
-    Line(b"dstE", Class::Code, Source::Defined),
-    Line(b"dstM", Class::Code, Source::Defined),
-    Line(b"aluA", Class::Value, Source::Defined),
-    Line(b"aluB", Class::Value, Source::Defined),
-    Line(b"alufun", Class::Code, Source::Defined),
-    Line(b"set_cc", Class::Truth, Source::Defined),
-    Line(b"mem_addr", Class::Value, Source::Defined),
-    Line(b"mem_read", Class::Truth, Source::Defined),
-    Line(b"mem_write", Class::Truth, Source::Defined),
-    Line(b"mem_data", Class::Value, Source::Defined),
-    Line(b"Stat", Class::Code, Source::Defined),
+static DEFINED: &[TableRow] = &[
+    TableRow(b"pc", Class::Value, RowSource::Defined),
+    TableRow(b"icode", Class::Code, RowSource::Defined),
+    TableRow(b"ifun", Class::Code, RowSource::Defined),
+    TableRow(b"instr_valid", Class::Truth, RowSource::Defined),
+    TableRow(b"need_regids", Class::Truth, RowSource::Defined),
+    TableRow(b"need_valC", Class::Truth, RowSource::Defined),
+    TableRow(b"srcA", Class::Code, RowSource::Defined),
+    TableRow(b"srcB", Class::Code, RowSource::Defined),
+    TableRow(b"dstE", Class::Code, RowSource::Defined),
+    TableRow(b"dstM", Class::Code, RowSource::Defined),
+    TableRow(b"aluA", Class::Value, RowSource::Defined),
+    TableRow(b"aluB", Class::Value, RowSource::Defined),
+    TableRow(b"alufun", Class::Code, RowSource::Defined),
+    TableRow(b"set_cc", Class::Truth, RowSource::Defined),
+    TableRow(b"mem_addr", Class::Value, RowSource::Defined),
+    TableRow(b"mem_read", Class::Truth, RowSource::Defined),
+    TableRow(b"mem_write", Class::Truth, RowSource::Defined),
+    TableRow(b"mem_data", Class::Value, RowSource::Defined),
+    TableRow(b"Stat", Class::Code, RowSource::Defined),
 ];
 
 #[tactic(auto, unfolding(crate::specs::PlusTable::plus_state))]

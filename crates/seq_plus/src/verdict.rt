@@ -4,14 +4,14 @@ ghost use Rattle.hcl_types.specs.Tables.{IsBound, IsOrderOf};
 ghost use Rattle.seq_plus.specs.Accepted.{RefinesPlus};
 ghost use Rattle.seq_plus.specs.PlusTable.{plus_rows};
 ghost use Rattle.seq_plus.specs.Verdicts.{IsPlusVerdict, is_yes};
-ghost use Rattle.verdicts.specs.Questions.{IsFault};
+ghost use Rattle.ctl_verdicts.specs.ObligationSet.{IsFault};
 
 use crate::rules::plus_rules;
 use ctl_atoms::Atom;
+use ctl_verdicts::{CheckFault, check_fault, decide};
 use hcl_types::{Design, Order};
 use nets::Valuation;
 use std::alloc::Global;
-use verdicts::{CheckFault, decide, told};
 use y86_base::{Items, Memory, Variant};
 
 /// Whether every rule holds of a design, and if not, the number of the first that doesn't, with the least valuation of
@@ -42,7 +42,7 @@ pub fn check_plus(
 {
     let rules = match plus_rules(alloc, variant, design, order) {
         Ok(rules) => rules,
-        Err(fault) => return Err(told(fault)),
+        Err(fault) => return Err(check_fault(fault)),
     };
     match decide(alloc, &rules.net, rules.list.items()) {
         Ok(None) => Ok(Plain16::Yes),

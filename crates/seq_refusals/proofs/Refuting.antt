@@ -10,23 +10,23 @@ use Rattle.hcl_types.specs.declared.term.Term.{Term}
 use Rattle.ctl_atoms.specs.declared.leaf.Atom.{Atom}
 use Rattle.ctl_atoms.specs.Atoms.{AreAtoms}
 use Rattle.ctl_atoms.proofs.Solved.{atoms_one}
-use Rattle.field_bits.specs.Spots.{total}
+use Rattle.net_fields.specs.FieldSpecs.{total}
 use Rattle.findings.proofs.EachMet.{is_own, none_of}
 use Rattle.findings.proofs.Rising.{rise_by, rise_on}
 use Rattle.control_check.proofs.SeqVerdict as seq_verdict
-use Rattle.decisions.specs.Decisions.{IsAlwaysTrue, IsLeastOf}
-use Rattle.rule_gates.specs.declared.rules.Rule.{Rule}
+use Rattle.bdd_decide.specs.Decisions.{IsAlwaysTrue, IsLeastOf}
+use Rattle.ctl_rules.specs.declared.rules.Rule.{Rule}
 use Rattle.seq_obligations.specs.Fields.{fields_of as seq_fields_of}
 use Rattle.seq_obligations.specs.Obligations.{rule_count}
 use Rattle.seq_plus.proofs.PlusVerdict as plus_verdict
 use Rattle.seq_plus.proofs.Runs.{refines as plus_refines}
 use Rattle.seq_refinement.proofs.Refining.{refines as seq_refines}
 use Rattle.seq_plus.specs.Fields.{fields_of as plus_fields_of}
-use Rattle.verdicts.specs.Decisions.{AreGatesOf, IsDecision}
-use Rattle.verdicts.specs.Questions.{AreRules, Fails, IsAccepted, IsRule, Questions}
-use Rattle.verdicts.specs.declared.decision.Failure.{Failure}
-use Rattle.verdicts.proofs.Answered.{verdict_by}
-use Rattle.verdicts.proofs.Decided.{no_rule}
+use Rattle.ctl_verdicts.specs.Decisions.{HaveGatesOfNet, IsRuleDecision}
+use Rattle.ctl_verdicts.specs.ObligationSet.{AreRulesOfSet, IsFalseAtBits, MeetsObligationSet, IsRuleOfSet, ObligationSet}
+use Rattle.ctl_verdicts.specs.declared.decision.FailedRule.{FailedRule}
+use Rattle.ctl_verdicts.proofs.Answered.{verdict_by}
+use Rattle.ctl_verdicts.proofs.Decided.{no_rule}
 use Rattle.seq_requirements.specs.Datapaths.{questions_of, rows_of, spots_of}
 use Rattle.seq_requirements.specs.declared.datapath.Datapath.{Datapath}
 use Rattle.seq_requirements.specs.declared.datapath.Datapath.TheVariants.{Seq, Plus}
@@ -36,7 +36,7 @@ use Rattle.seq_refusals.specs.Answered.{Accepts, AreRefuted, Everywhere, IsRefut
 use Rattle.seq_refusals.specs.Failures.{AreRulesOf, IsFailure}
 
 -- the rules as those of the datapath's questions
-own_rules : (which : Datapath) (v : Variant) (terms : List Term) (net : Gates) (list : List Rule) → AreRulesOf which v terms net list → AreRules (questions_of which v) terms net list
+own_rules : (which : Datapath) (v : Variant) (terms : List Term) (net : Gates) (list : List Rule) → AreRulesOf which v terms net list → AreRulesOfSet (questions_of which v) terms net list
 unfolding seq_fields_of plus_fields_of
 own_rules Seq v terms net list r =
     record { atoms = r.atoms; are = r.are; vars = r.vars; count = r.count; each = λ k x e. record { number = (r.each k x e).number; within = (r.each k x e).within; is = (r.each k x e).is } }
@@ -44,24 +44,24 @@ own_rules Plus v terms net list r =
     record { atoms = r.atoms; are = r.are; vars = r.vars; count = r.count; each = λ k x e. record { number = (r.each k x e).number; within = (r.each k x e).within; is = (r.each k x e).is } }
 
 -- the questions of obligation i alone
-abbrev only : Questions → ℕ → Questions
+abbrev only : ObligationSet → ℕ → ObligationSet
 only q i = record { rows = q.rows; spots = q.spots; count = 1; asks = λ n xs α cv. q.asks i xs α cv }
 
 abbrev first_of : Rule → Rule
 first_of r = record { number = 1; gate = r.gate }
 
 -- a first failure, and that of one rule, are failures
-pub failure_first : (net : Gates) (list : List Rule) (failure : Failure) → IsDecision net list (Some failure) → IsFailure net list failure
+pub failure_first : (net : Gates) (list : List Rule) (failure : FailedRule) → IsRuleDecision net list (Some failure) → IsFailure net list failure
 failure_first net list failure d = record { place = d.0; rule = d.1; there = (d.2).there; number = d.3; least = (d.2).least }
 
-pub one_gate : (net : Gates) (x : Rule) → x.gate < length net.gates → AreGatesOf net (x ∷ [])
+pub one_gate : (net : Gates) (x : Rule) → x.gate < length net.gates → HaveGatesOfNet net (x ∷ [])
 one_gate net x lt zero r e = subst (λ (y : Rule). y.gate < length net.gates) (same_Some x r e) lt
 one_gate net x lt (suc k) r e = cc
 
-pub one_true : (net : Gates) (r : Rule) → IsDecision net (r ∷ []) None → IsAlwaysTrue net r.gate
+pub one_true : (net : Gates) (r : Rule) → IsRuleDecision net (r ∷ []) None → IsAlwaysTrue net r.gate
 one_true net r d = d 0 r refl
 
-pub one_false : (net : Gates) (list : List Rule) (k : ℕ) (r : Rule) (failure : Failure) → slice_get list k ≡ Some r → IsDecision net (r ∷ []) (Some failure) → IsFailure net list failure
+pub one_false : (net : Gates) (list : List Rule) (k : ℕ) (r : Rule) (failure : FailedRule) → slice_get list k ≡ Some r → IsRuleDecision net (r ∷ []) (Some failure) → IsFailure net list failure
 one_false net list k r failure at d = record {
   place = k;
   rule = r;
@@ -83,42 +83,42 @@ refines Seq v terms ids bound ordered a = seq_refines v terms ids bound ordered 
 refines Plus v terms ids bound ordered a = plus_refines v terms ids bound ordered a.holds
 
 module _ (which : Datapath) (v : Variant) (terms : List Term) (net : Gates) (list : List Rule) (ids : List ℕ) (ordered : IsOrderOf (rows_of which) terms ids) (rules : AreRulesOf which v terms net list) where
-  pub accepts : IsDecision net list None → Accepts which v terms
+  pub accepts : IsRuleDecision net list None → Accepts which v terms
   accepts d = by which ordered rules
     where
       by : (p : Datapath) → IsOrderOf (rows_of p) terms ids → AreRulesOf p v terms net list → Accepts p v terms
       by Seq o r = seq_verdict.accepts v terms net list ids o r d
       by Plus o r = plus_verdict.accepts v terms net list ids o r d
 
-  pub rejects : (failure : Failure) → IsDecision net list (Some failure) → Rejects which v terms failure.rule failure.valuation.bits
+  pub rejects : (failure : FailedRule) → IsRuleDecision net list (Some failure) → Rejects which v terms failure.rule failure.valuation.bits
   rejects failure d = by which ordered rules
     where
       by : (p : Datapath) → IsOrderOf (rows_of p) terms ids → AreRulesOf p v terms net list → Rejects p v terms failure.rule failure.valuation.bits
       by Seq o r = seq_verdict.rejects v terms net list ids o r failure d
       by Plus o r = plus_verdict.rejects v terms net list ids o r failure d
 
-  abbrev own : AreRules (questions_of which v) terms net list
+  abbrev own : AreRulesOfSet (questions_of which v) terms net list
   own = own_rules which v terms net list rules
 
-  pub gates_of : AreGatesOf net list
+  pub gates_of : HaveGatesOfNet net list
   gates_of = λ k r at. (own.each k r at).within
 
   pub count_is : length list ≡ rule_count
   count_is = own.count
 
   -- obligation k + 1 alone, as one rule
-  alone : (k : ℕ) (r : Rule) → slice_get list k ≡ Some r → AreRules (only (questions_of which v) (k + 1)) terms net (first_of r ∷ [])
+  alone : (k : ℕ) (r : Rule) → slice_get list k ≡ Some r → AreRulesOfSet (only (questions_of which v) (k + 1)) terms net (first_of r ∷ [])
   alone k r at = record { atoms = own.atoms; are = own.are; vars = own.vars; count = refl; each = λ j x e. by j x e }
     where
-      by : (j : ℕ) (x : Rule) → slice_get (first_of r ∷ []) j ≡ Some x → IsRule (only (questions_of which v) (k + 1)) terms own.atoms net (j + 1) x
-      by zero x e = subst (λ (y : Rule). IsRule (only (questions_of which v) (k + 1)) terms own.atoms net 1 y) (same_Some (first_of r) x e)
+      by : (j : ℕ) (x : Rule) → slice_get (first_of r ∷ []) j ≡ Some x → IsRuleOfSet (only (questions_of which v) (k + 1)) terms own.atoms net (j + 1) x
+      by zero x e = subst (λ (y : Rule). IsRuleOfSet (only (questions_of which v) (k + 1)) terms own.atoms net 1 y) (same_Some (first_of r) x e)
           (record { number = refl; within = (own.each k r at).within; is = (own.each k r at).is })
       by (suc j) x e = cc
 
   -- a rule that is always true
   always_at : (k : ℕ) (r : Rule) → slice_get list k ≡ Some r → IsAlwaysTrue net r.gate → Everywhere which v terms (k + 1)
   always_at k r at always =
-      let accepted : IsAccepted (only (questions_of which v) (k + 1)) terms = verdict_by (only (questions_of which v) (k + 1)) terms net (first_of r ∷ []) ids ordered (alone k r at) None (λ j x e. by j x e) in
+      let accepted : MeetsObligationSet (only (questions_of which v) (k + 1)) terms = verdict_by (only (questions_of which v) (k + 1)) terms net (first_of r ∷ []) ids ordered (alone k r at) None (λ j x e. by j x e) in
       λ xs α cv range controls. accepted.holds 1 xs α cv (omega arith) (omega arith) range controls
     where
       by : (j : ℕ) (x : Rule) → slice_get (first_of r ∷ []) j ≡ Some x → IsAlwaysTrue net x.gate
@@ -134,58 +134,58 @@ module _ (which : Datapath) (v : Variant) (terms : List Term) (net : Gates) (lis
       subst (λ (n : ℕ). Everywhere which v terms n) number (always_at k x at (always x at))
 
   -- the failure's rule
-  place : (failure : Failure) (f : IsFailure net list failure) → failure.rule ≡ f.place + 1
+  place : (failure : FailedRule) (f : IsFailure net list failure) → failure.rule ≡ f.place + 1
   place failure f = f.number ∙ (own.each f.place f.rule f.there).number
 
   -- a failure of the rule at a place
-  pub place_one : (k : ℕ) (r : Rule) (failure : Failure) → slice_get list k ≡ Some r → IsDecision net (r ∷ []) (Some failure) → failure.rule ≡ k + 1
+  pub place_one : (k : ℕ) (r : Rule) (failure : FailedRule) → slice_get list k ≡ Some r → IsRuleDecision net (r ∷ []) (Some failure) → failure.rule ≡ k + 1
   unfolding one_false
   place_one k r failure at d = place failure (one_false net list k r failure at d)
 
-  pub first_rule : (failure : Failure) → IsFailure net list failure → 1 ≤ failure.rule
+  pub first_rule : (failure : FailedRule) → IsFailure net list failure → 1 ≤ failure.rule
   first_rule failure f = let at = place failure f in omega (arith, at)
 
-  pub within_list : (failure : Failure) → IsFailure net list failure → failure.rule ≤ length list
+  pub within_list : (failure : FailedRule) → IsFailure net list failure → failure.rule ≤ length list
   within_list failure f = let at = place failure f in let inside = slice_get_within list f.place f.rule f.there in omega (arith, at, inside)
 
-  pub last_rule : (failure : Failure) → IsFailure net list failure → failure.rule ≤ rule_count
+  pub last_rule : (failure : FailedRule) → IsFailure net list failure → failure.rule ≤ rule_count
   last_rule failure f = let inside = within_list failure f in let count = own.count in omega (arith, inside, count)
 
   module _ (atoms : List Atom) (are : AreAtoms (rows_of which) terms atoms) where
     same_atoms : own.atoms ≡ atoms
     same_atoms = atoms_one (rows_of which) terms ids own.atoms atoms ordered own.are are
 
-    pub fails_at : (failure : Failure) → IsFailure net list failure → diagnosis.Fails which v terms atoms failure.rule failure.valuation.bits
+    pub fails_at : (failure : FailedRule) → IsFailure net list failure → diagnosis.Fails which v terms atoms failure.rule failure.valuation.bits
     fails_at failure f =
         let w = failure.valuation.bits in
         let there : diagnosis.Fails which v terms own.atoms (f.place + 1) w = λ α cv given controls. sym ((own.each f.place f.rule f.there).is w α cv given controls) ∙ f.least.holds in
         subst (λ (xs : List Atom). diagnosis.Fails which v terms xs failure.rule w) same_atoms
         (subst (λ (n : ℕ). diagnosis.Fails which v terms own.atoms n w) (sym (place failure f)) there)
 
-    pub least_at : (failure : Failure) → IsFailure net list failure → IsLeastOf (total (spots_of which) + length atoms) (Fails (questions_of which v) terms atoms failure.rule) failure.valuation.bits
+    pub least_at : (failure : FailedRule) → IsFailure net list failure → IsLeastOf (total (spots_of which) + length atoms) (IsFalseAtBits (questions_of which v) terms atoms failure.rule) failure.valuation.bits
     least_at failure f =
-        subst (λ (xs : List Atom). IsLeastOf (total (spots_of which) + length xs) (Fails (questions_of which v) terms xs failure.rule) w) same_atoms
-        (subst (λ (n : ℕ). IsLeastOf (total (spots_of which) + length own.atoms) (Fails (questions_of which v) terms own.atoms n) w) (sym (place failure f)) there)
+        subst (λ (xs : List Atom). IsLeastOf (total (spots_of which) + length xs) (IsFalseAtBits (questions_of which v) terms xs failure.rule) w) same_atoms
+        (subst (λ (n : ℕ). IsLeastOf (total (spots_of which) + length own.atoms) (IsFalseAtBits (questions_of which v) terms own.atoms n) w) (sym (place failure f)) there)
       where
         w : List Bool
         w = failure.valuation.bits
 
-        q : Questions
+        q : ObligationSet
         q = questions_of which v
 
-        to : (u : List Bool) → Fails (only q (f.place + 1)) terms own.atoms 1 u → Fails q terms own.atoms (f.place + 1) u
+        to : (u : List Bool) → IsFalseAtBits (only q (f.place + 1)) terms own.atoms 1 u → IsFalseAtBits q terms own.atoms (f.place + 1) u
         to u h = record { truths = h.truths; values = h.values; atoms_are = h.atoms_are; controls = h.controls; fails = h.fails }
 
-        from : (u : List Bool) → Fails q terms own.atoms (f.place + 1) u → Fails (only q (f.place + 1)) terms own.atoms 1 u
+        from : (u : List Bool) → IsFalseAtBits q terms own.atoms (f.place + 1) u → IsFalseAtBits (only q (f.place + 1)) terms own.atoms 1 u
         from u h = record { truths = h.truths; values = h.values; atoms_are = h.atoms_are; controls = h.controls; fails = h.fails }
 
-        decided : IsDecision net (first_of f.rule ∷ []) (Some (record { rule = 1; valuation = failure.valuation }))
+        decided : IsRuleDecision net (first_of f.rule ∷ []) (Some (record { rule = 1; valuation = failure.valuation }))
         decided = (0, first_of f.rule, record { there = refl; earlier = λ j r lt at. absurd (omega (arith, lt)); least = f.least }, refl)
 
-        there : IsLeastOf (total (spots_of which) + length own.atoms) (Fails q terms own.atoms (f.place + 1)) w
+        there : IsLeastOf (total (spots_of which) + length own.atoms) (IsFalseAtBits q terms own.atoms (f.place + 1)) w
         there =
             let no = verdict_by (only q (f.place + 1)) terms net (first_of f.rule ∷ []) ids ordered (alone f.place f.rule f.there) (Some (record { rule = 1; valuation = failure.valuation })) decided in
-            let least = subst (λ (xs : List Atom). IsLeastOf (total (spots_of which) + length xs) (Fails (only q (f.place + 1)) terms xs 1) w)
+            let least = subst (λ (xs : List Atom). IsLeastOf (total (spots_of which) + length xs) (IsFalseAtBits (only q (f.place + 1)) terms xs 1) w)
             (atoms_one (rows_of which) terms ids no.1 own.atoms ordered no.2 own.are) no.3.least in
             record { size = least.size; holds = to w least.holds; least = λ u s h y lt same off. least.least u s (from u h) y lt same off }
 
@@ -215,7 +215,7 @@ module _ (which : Datapath) (v : Variant) (terms : List Term) (net : Gates) (lis
         by i l le none (inl behind) = absurd (false≢true (sym none.1 ∙ is_own x.rule (k + 1) i is (omega (arith, le, behind))))
 
     -- the first that is false
-    pub first_refuted : (failure : Failure) (x : Refutation) → IsDecision net list (Some failure) → x.rule ≡ failure.rule → IsRefutation which v terms atoms x → Refuted x.rule (x ∷ [])
+    pub first_refuted : (failure : FailedRule) (x : Refutation) → IsRuleDecision net list (Some failure) → x.rule ≡ failure.rule → IsRefutation which v terms atoms x → Refuted x.rule (x ∷ [])
     first_refuted failure x d is it = record { each = (it, tt); rising = (omega (arith, number), omega (arith, number)); others = λ i l le none. by i l le none (cases_lt i x.rule) }
       where
         number : x.rule ≡ d.0 + 1

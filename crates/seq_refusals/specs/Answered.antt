@@ -9,14 +9,14 @@ use Rattle.ctl_atoms.specs.Leaves.{Assignment}
 use Rattle.ctl_atoms.specs.declared.leaf.Atom.{Atom}
 use Rattle.ctl_atoms.specs.declared.leaf.Leaf.{Leaf}
 use Rattle.ctl_formula.specs.Controls.{AreControls}
-use Rattle.field_bits.specs.Spots.{InRange, number_among, total}
-use Rattle.decisions.specs.Decisions.{IsLeastOf}
+use Rattle.net_fields.specs.FieldSpecs.{InRange, number_among, total}
+use Rattle.bdd_decide.specs.Decisions.{IsLeastOf}
 use Rattle.seq_obligations.specs.Obligations.{rule_count}
 use Rattle.seq_refinement.specs.Accepted.{RefinesSeq}
 use Rattle.seq_plus.specs.Accepted.{RefinesPlus}
 use Rattle.seq_plus.specs.Verdicts.{AcceptsPlus, RejectsPlus}
 use Rattle.control_check.specs.SeqVerdicts.{AcceptsSeq, RejectsSeq}
-use Rattle.verdicts.specs.Questions.{Fails}
+use Rattle.ctl_verdicts.specs.ObligationSet.{IsFalseAtBits}
 use Rattle.seq_requirements.specs.Datapaths.{questions_of, rows_of, spots_of}
 use Rattle.seq_requirements.specs.declared.datapath.Datapath.{Datapath}
 use Rattle.seq_requirements.specs.declared.datapath.Datapath.TheVariants.{Seq, Plus}
@@ -24,8 +24,8 @@ use Rattle.findings.specs.Rising.{RiseWithin}
 use Rattle.seq_diagnosis.specs.Diagnosis.{IsDiagnosis}
 use Rattle.seq_diagnosis.specs.declared.refusal.Refusal.{Refusal}
 use Rattle.seq_diagnosis.specs.declared.refusal.Refutation.{Refutation}
-use Rattle.seq_refusals.specs.declared.answer.Answer.{Answer}
-use Rattle.seq_refusals.specs.declared.answer.Answer.TheVariants.{Yes, No}
+use Rattle.seq_refusals.specs.declared.answer.SeqAnswer.{SeqAnswer}
+use Rattle.seq_refusals.specs.declared.answer.SeqAnswer.TheVariants.{Yes, No}
 
 -- ---- what `check seq` and `check seqplus` say
 
@@ -56,7 +56,7 @@ Everywhere which v terms i =
 pub record IsRefutation (which : Datapath) (v : Variant) (terms : List Term) (atoms : List Atom) (x : Refutation) : Type 0 where
   pub first : 1 ≤ x.rule
   pub last : x.rule ≤ rule_count
-  pub least : IsLeastOf (total (spots_of which) + length atoms) (Fails (questions_of which v) terms atoms x.rule) x.valuation.bits
+  pub least : IsLeastOf (total (spots_of which) + length atoms) (IsFalseAtBits (questions_of which v) terms atoms x.rule) x.valuation.bits
   pub diagnosis : IsDiagnosis which v terms atoms x.rule x.valuation.bits x.diagnosis
 
 -- whether obligation i is among those that are refuted
@@ -74,10 +74,10 @@ pub record IsRefusal (which : Datapath) (v : Variant) (terms : List Term) (r : R
   pub rejects : Rejects which v terms r.first.rule r.first.valuation.bits
   pub refuted : AreRefuted which v terms r.atoms rule_count (r.first ∷ r.others)
 
-abbrev pub IsAnswer : Datapath → Variant → List Term → Answer → Type 0
+abbrev pub IsAnswer : Datapath → Variant → List Term → SeqAnswer → Type 0
 IsAnswer which v terms Yes = Accepts which v terms
 IsAnswer which v terms (No r) = IsRefusal which v terms r
 
-abbrev pub is_yes : Answer → Bool
+abbrev pub is_yes : SeqAnswer → Bool
 is_yes Yes = true
 is_yes (No r) = false

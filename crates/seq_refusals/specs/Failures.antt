@@ -3,13 +3,13 @@ use Rattle.std.specs.Prelude.{◌≡◌, ℕ, false, List, slice_get, Some}
 use Rattle.y86_base.specs.declared.parts.Variant.{Variant}
 use Rattle.nets.specs.Nets.{Gates, truth}
 use Rattle.hcl_types.specs.declared.term.Term.{Term}
-use Rattle.decisions.specs.Decisions.{IsLeastOf}
-use Rattle.rule_gates.specs.declared.rules.Rule.{Rule}
+use Rattle.bdd_decide.specs.Decisions.{IsLeastOf}
+use Rattle.ctl_rules.specs.declared.rules.Rule.{Rule}
 use Rattle.seq_obligations.specs.Rules.{AreSeqRules}
 use Rattle.seq_plus.specs.Rules.{ArePlusRules}
 use Rattle.seq_requirements.specs.declared.datapath.Datapath.{Datapath}
 use Rattle.seq_requirements.specs.declared.datapath.Datapath.TheVariants.{Seq, Plus}
-use Rattle.verdicts.specs.declared.decision.Failure.{Failure}
+use Rattle.ctl_verdicts.specs.declared.decision.FailedRule.{FailedRule}
 
 -- the 16 rules of a design in their order
 abbrev pub AreRulesOf : Datapath → Variant → List Term → Gates → List Rule → Type 0
@@ -17,7 +17,7 @@ AreRulesOf Seq v terms net list = AreSeqRules v terms net list
 AreRulesOf Plus v terms net list = ArePlusRules v terms net list
 
 -- a rule of the list is false of this valuation, and of none that is less
-pub record IsFailure (net : Gates) (list : List Rule) (failure : Failure) : Type 0 where
+pub record IsFailure (net : Gates) (list : List Rule) (failure : FailedRule) : Type 0 where
   pub place : ℕ
   pub rule : Rule
   pub there : slice_get list place ≡ Some rule

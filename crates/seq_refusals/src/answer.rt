@@ -3,16 +3,16 @@ ghost use Rattle.std.specs.Prelude.{◌≡◌, ◌≤◌, ◌<◌, ◌+◌, ◌�
 ghost use Rattle.hcl_types.specs.Tables.{IsBound, IsOrderOf};
 ghost use Rattle.ctl_atoms.specs.Atoms.{AreAtoms, IsCtlFault};
 ghost use Rattle.seq_requirements.specs.Datapaths.{rows_of};
-ghost use Rattle.verdicts.specs.Decisions.{IsDecision};
-ghost use Rattle.verdicts.specs.Questions.{IsFault};
+ghost use Rattle.ctl_verdicts.specs.Decisions.{IsRuleDecision};
+ghost use Rattle.ctl_verdicts.specs.ObligationSet.{IsFault};
 ghost use Rattle.seq_refusals.specs.Answered as spec;
 ghost use Rattle.seq_refusals.specs.Failures.{AreRulesOf, IsFailure};
 
-use control_check::{CheckFault, Failure, decide, told};
+use control_check::{CheckFault, FailedRule, check_fault, decide};
 use ctl_atoms::CtlFault;
+use ctl_rules::{Rule, Rules};
 use hcl_types::{Design, Order};
 use nets::Net;
-use rule_gates::{Rule, Rules};
 use seq_diagnosis::{Refusal, Refutation, diagnose};
 use seq_obligations::seq_rules;
 use seq_plus::plus_rules;
@@ -22,7 +22,7 @@ use y86_base::{Items, Memory, Variant};
 
 /// The answer on a file.
 #[derive(Drop)]
-pub enum Answer {
+pub enum SeqAnswer {
     Yes,
     No(Refusal),
 }
@@ -49,9 +49,9 @@ fn rules_of(
 
 /// Whether a rule is true of every valuation, and else the least of which it is false.
 #[tactic(auto, using(crate::proofs::Refuting::one_gate))]
-fn decide_one(alloc: Global, net: &Net, rule: Rule) -> Result<Option<Failure>, Memory>
+fn decide_one(alloc: Global, net: &Net, rule: Rule) -> Result<Option<FailedRule>, Memory>
     requires { rule.gate < length net.now.gates }
-    ensures { IfOk result (IsDecision net.now (rule ∷ [])) }
+    ensures { IfOk result (IsRuleDecision net.now (rule ∷ [])) }
 {
     let one = [rule];
     decide(alloc, net, &one)
@@ -73,7 +73,7 @@ fn refute(
     d: &Design,
     o: &Order,
     rules: &Rules,
-    failure: Failure,
+    failure: FailedRule,
 ) -> Result<Refutation, Memory>
     requires ordered { IsOrderOf (rows_of which) d.now.terms o.now.ids }
     requires rules { AreRulesOf which v d.now.terms rules.now.net rules.now.list }
@@ -177,12 +177,12 @@ fn refuse(
     d: &Design,
     o: &Order,
     rules: Rules,
-    failure: Failure,
+    failure: FailedRule,
 ) -> Result<Refusal, Memory>
     requires ordered { IsOrderOf (rows_of which) d.now.terms o.now.ids }
     requires rules { AreRulesOf which v d.now.terms rules.net rules.list }
     requires atoms { AreAtoms (rows_of which) d.now.terms rules.atoms }
-    requires failure { IsDecision rules.net rules.list (Some failure) }
+    requires failure { IsRuleDecision rules.net rules.list (Some failure) }
     ensures { IfOk result (spec.IsRefusal which v d.now.terms) }
 {
     let first = refute(alloc, which, v, d, o, &rules, failure)?;
@@ -202,7 +202,7 @@ pub fn diagnose_seq(
     v: Variant,
     d: &Design,
     o: &Order,
-) -> Result<Answer, CheckFault>
+) -> Result<SeqAnswer, CheckFault>
     requires bound { IsBound (rows_of which) d.now.terms }
     requires ordered { IsOrderOf (rows_of which) d.now.terms o.now.ids }
     ensures answer { IfOk result (spec.IsAnswer which v d.now.terms) }
@@ -211,12 +211,12 @@ pub fn diagnose_seq(
 {
     let rules = match rules_of(alloc, which, v, d, o) {
         Ok(rules) => rules,
-        Err(fault) => return Err(told(fault)),
+        Err(fault) => return Err(check_fault(fault)),
     };
     match decide(alloc, &rules.net, rules.list.items()) {
-        Ok(None) => Ok(Answer::Yes),
+        Ok(None) => Ok(SeqAnswer::Yes),
         Ok(Some(failure)) => match refuse(alloc, which, v, d, o, rules, failure) {
-            Ok(refusal) => Ok(Answer::No(refusal)),
+            Ok(refusal) => Ok(SeqAnswer::No(refusal)),
             Err(Memory) => Err(CheckFault::Memory),
         },
         Err(Memory) => Err(CheckFault::Memory),

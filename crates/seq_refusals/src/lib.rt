@@ -3,4 +3,4 @@
 
 mod answer;
 
-pub use answer::{Answer, diagnose_seq};
+pub use answer::{SeqAnswer, diagnose_seq};

@@ -9,13 +9,13 @@ use Rattle.y86_isa.specs.Blocks.{is_load, is_store}
 use Rattle.hcl_types.specs.Lists.{each}
 use Rattle.ctl_atoms.specs.declared.leaf.Leaf.{Leaf}
 use Rattle.ctl_atoms.specs.Leaves.{Assignment}
-use Rattle.rule_gates.specs.Words.{is_number, is_truth, operand_leaf_a, operand_leaf_b, address_leaf, word_leaf, next_leaf}
+use Rattle.ctl_rules.specs.ColumnDemands.{is_number, is_truth, operand_leaf_a, operand_leaf_b, address_leaf, word_leaf, next_leaf}
 use Rattle.dp_signals.specs.SeqNames as seq_row
 use Rattle.findings.specs.Requirements.{is_met}
 use Rattle.findings.proofs.EachMet.{one, two, if_both, guarded, excused, some_is}
 use Rattle.seq_obligations.specs.Fields as seq
 use Rattle.seq_obligations.specs.Obligations.{demand_at as seq_demand_at, faulted, shared_demand}
-use Rattle.seq_obligations.specs.declared.signals.Signals.{Signals}
+use Rattle.seq_obligations.specs.declared.signals.SeqSignals.{SeqSignals}
 use Rattle.seq_plus.specs.Fields as plus
 use Rattle.seq_plus.specs.Obligations.{demand_at as plus_demand_at}
 use Rattle.seq_plus.specs.PlusNames as plus_row
@@ -25,7 +25,7 @@ use Rattle.seq_requirements.specs.declared.datapath.Datapath.{Datapath}
 use Rattle.seq_requirements.specs.declared.datapath.Datapath.TheVariants.{Seq, Plus}
 
 module _ (α : Assignment) (cv : ℕ → Leaf) where
-  shared_is : (s : Signals) (i : ℕ) (r : Row) (c : seq.Fields) → shared_demand s i r c α cv ≡ each (is_met α cv) (shared_requirements s i r c)
+  shared_is : (s : SeqSignals) (i : ℕ) (r : Row) (c : seq.Fields) → shared_demand s i r c α cv ≡ each (is_met α cv) (shared_requirements s i r c)
   shared_is s i r c =
       if_both (is_met α cv) (i == 1) _ _ _ _ (two (is_number cv s.icode c.icode) (is_number cv s.ifun c.ifun))
       (if_both (is_met α cv) (i == 2) _ _ _ _ (one _)

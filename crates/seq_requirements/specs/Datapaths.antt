@@ -4,17 +4,17 @@ use Rattle.y86_base.specs.declared.parts.Variant.{Variant}
 use Rattle.hcl_types.specs.declared.table.Row.{Row}
 use Rattle.ctl_atoms.specs.declared.leaf.Leaf.{Leaf}
 use Rattle.ctl_atoms.specs.Leaves.{Assignment}
-use Rattle.field_bits.specs.declared.spots.Spot.{Spot}
+use Rattle.net_fields.specs.declared.field_specs.FieldSpec.{FieldSpec}
 use Rattle.dp_signals.specs.SeqNames as seq_row
 use Rattle.dp_signals.specs.SeqTable.{seq_rows}
 use Rattle.seq_obligations.specs.Fields as seq
 use Rattle.seq_obligations.specs.Obligations as seq_rule
-use Rattle.seq_obligations.specs.declared.signals.Signals.{Signals}
+use Rattle.seq_obligations.specs.declared.signals.SeqSignals.{SeqSignals}
 use Rattle.seq_plus.specs.Fields as plus
 use Rattle.seq_plus.specs.Obligations as plus_rule
 use Rattle.seq_plus.specs.PlusNames as plus_row
 use Rattle.seq_plus.specs.PlusTable.{plus_rows}
-use Rattle.verdicts.specs.Questions.{Questions}
+use Rattle.ctl_verdicts.specs.ObligationSet.{ObligationSet}
 use Rattle.seq_requirements.specs.declared.datapath.Datapath.{Datapath}
 use Rattle.seq_requirements.specs.declared.datapath.Datapath.TheVariants.{Seq, Plus}
 
@@ -23,7 +23,7 @@ rows_of Seq = seq_rows
 rows_of Plus = plus_rows
 
 -- the fields of a valuation, in the order of its variables
-abbrev pub spots_of : Datapath → List Spot
+abbrev pub spots_of : Datapath → List FieldSpec
 spots_of Seq = seq.spots
 spots_of Plus = plus.spots
 
@@ -33,7 +33,7 @@ defined_of Seq = seq_row.defined
 defined_of Plus = plus_row.defined
 
 -- the rows of the signals that the obligations are about
-abbrev pub signals_of : Datapath → Signals
+abbrev pub signals_of : Datapath → SeqSignals
 signals_of Seq = seq_rule.seq_signals
 signals_of Plus = plus_rule.signals
 
@@ -53,7 +53,7 @@ demand_of Seq v i xs α cv = seq_rule.demand_at v i (seq.fields_by xs) α cv
 demand_of Plus v i xs α cv = plus_rule.demand_at v i (plus.fields_by xs) α cv
 
 -- what the datapath asks of a design
-abbrev pub questions_of : Datapath → Variant → Questions
+abbrev pub questions_of : Datapath → Variant → ObligationSet
 questions_of which v = record {
   rows = rows_of which;
   spots = spots_of which;

@@ -1,12 +1,12 @@
 //! The sequential datapaths: their tables, the fields of their valuations, and the rows of their signals.
 ghost use Rattle.std.specs.Prelude.{◌≡◌, IfOk};
-ghost use Rattle.field_bits.specs.Spots.{total};
+ghost use Rattle.net_fields.specs.FieldSpecs.{total};
 ghost use Rattle.seq_requirements.specs.Datapaths as spec;
 
 use dp_signals::{seq_row, seq_table};
-use field_bits::Spot;
 use hcl_types::{NameId, Table};
-use seq_obligations::{BIT_COUNT, PLUS_BIT_COUNT, Signals};
+use net_fields::FieldSpec;
+use seq_obligations::{BIT_COUNT, PLUS_BIT_COUNT, SeqSignals};
 use seq_plus::{plus_table, row as plus_row};
 use std::alloc::Global;
 use y86_base::Memory;
@@ -23,7 +23,7 @@ pub enum Datapath {
 /// The rows of the signals in one table.
 macro_rules! signals {
     ($row:ident) => {
-        Signals {
+        SeqSignals {
             val_c: $row::VAL_C,
             val_p: $row::VAL_P,
             val_a: $row::VAL_A,
@@ -51,12 +51,12 @@ macro_rules! signals {
     };
 }
 
-static SEQ_SIGNALS: Signals = signals!(seq_row);
+static SEQ_SIGNALS: SeqSignals = signals!(seq_row);
 
-static PLUS_SIGNALS: Signals = signals!(plus_row);
+static PLUS_SIGNALS: SeqSignals = signals!(plus_row);
 
 /// The rows of the signals that the obligations are about.
-pub fn signals_of(which: Datapath) -> &'static Signals
+pub fn signals_of(which: Datapath) -> &'static SeqSignals
     ensures { result.now ≡ spec.signals_of which }
 {
     match which {
@@ -76,7 +76,7 @@ pub fn first_defined(which: Datapath) -> NameId
 }
 
 /// The fields of a valuation in the order of its variables.
-pub fn spots_of(which: Datapath) -> &'static [Spot]
+pub fn spots_of(which: Datapath) -> &'static [FieldSpec]
     ensures { result.now ≡ spec.spots_of which }
 {
     match which {

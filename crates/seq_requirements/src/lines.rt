@@ -1,6 +1,6 @@
 //! The fields of a valuation as numbers.
 ghost use Rattle.std.specs.Prelude.{◌≡◌, ◌≤◌};
-ghost use Rattle.field_bits.specs.Spots.{decoded};
+ghost use Rattle.net_fields.specs.FieldSpecs.{decoded};
 ghost use Rattle.seq_obligations.specs.Fields.{line_at as spec_line_at, line_from};
 ghost use Rattle.seq_plus.specs.Fields as plus;
 ghost use Rattle.seq_requirements.specs.Datapaths as spec;

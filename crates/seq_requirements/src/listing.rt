@@ -1,7 +1,7 @@
 //! What each obligation requires at a valuation.
 ghost use Rattle.std.specs.Prelude.{◌≡◌, ◌++◌, ◌∷◌, [], IfOk, OnOk, if◌then◌else◌};
-ghost use Rattle.field_bits.specs.Spots.{decoded};
-ghost use Rattle.rule_gates.specs.Words.{next_leaf as spec_next_leaf};
+ghost use Rattle.net_fields.specs.FieldSpecs.{decoded};
+ghost use Rattle.ctl_rules.specs.ColumnDemands.{next_leaf as spec_next_leaf};
 ghost use Rattle.seq_requirements.specs.Datapaths.{spots_of};
 ghost use Rattle.seq_requirements.specs.Lines.{fields_in};
 ghost use Rattle.seq_requirements.specs.Requirements as spec;
@@ -9,29 +9,35 @@ ghost use Rattle.seq_requirements.specs.Requirements as spec;
 use crate::datapath::{Datapath, signals_of};
 use crate::lines::{LineNow, line_of, previous_of};
 use ctl_atoms::Leaf;
+use ctl_rules::{address_leaf, operand_leaf_a, operand_leaf_b, word_leaf};
 use dp_signals::seq_row;
 use findings::{
     Requirement, alu_function, destination_e, fetched_status, put_number, put_some, put_truth,
     register_number, set,
 };
 use hcl_types::NameId;
-use rule_gates::{address_leaf, operand_leaf_a, operand_leaf_b, word_leaf};
-use seq_obligations::Signals;
+use seq_obligations::SeqSignals;
 use seq_plus::row as plus_row;
 use std::alloc::Global;
 use y86_base::{Memory, Variant};
-use y86_isa::{Next, Row, has_operand_a, is_load, is_store, row};
+use y86_isa::{NextPcColumn, Row, has_operand_a, is_load, is_store, row};
 
 /// The word that the next PC is, by the column of the instruction.
-fn next_leaf(next: Next, val_p: NameId, val_c: NameId, val_m: NameId, cnd: bool) -> Option<Leaf>
+fn next_leaf(
+    next: NextPcColumn,
+    val_p: NameId,
+    val_c: NameId,
+    val_m: NameId,
+    cnd: bool,
+) -> Option<Leaf>
     ensures { result ≡ spec_next_leaf next val_p val_c val_m cnd }
 {
     match next {
-        Next::Itself => None,
-        Next::Fall => Some(Leaf::Name(val_p)),
-        Next::Branch => Some(Leaf::Name(if cnd { val_c } else { val_p })),
-        Next::Target => Some(Leaf::Name(val_c)),
-        Next::Loaded => Some(Leaf::Name(val_m)),
+        NextPcColumn::Itself => None,
+        NextPcColumn::Fall => Some(Leaf::Name(val_p)),
+        NextPcColumn::Branch => Some(Leaf::Name(if cnd { val_c } else { val_p })),
+        NextPcColumn::Target => Some(Leaf::Name(val_c)),
+        NextPcColumn::Loaded => Some(Leaf::Name(val_m)),
     }
 }
 
@@ -43,7 +49,7 @@ fn faulted(l: &LineNow) -> bool
 }
 
 /// What obligation 1 requires.
-fn put_reading(out: &mut Vec<Requirement>, s: &Signals, l: &LineNow) -> Result<(), Memory>
+fn put_reading(out: &mut Vec<Requirement>, s: &SeqSignals, l: &LineNow) -> Result<(), Memory>
     ensures { OnOk result (out.new.items ≡ out.old.items ++ spec.required1 s.now (fields_in l.now)) }
 {
     put_number(out, s.icode, l.icode)?;
@@ -53,7 +59,7 @@ fn put_reading(out: &mut Vec<Requirement>, s: &Signals, l: &LineNow) -> Result<(
 /// What obligation 6 requires.
 fn put_destination(
     out: &mut Vec<Requirement>,
-    s: &Signals,
+    s: &SeqSignals,
     r: &Row,
     l: &LineNow,
 ) -> Result<(), Memory>
@@ -64,7 +70,12 @@ fn put_destination(
 }
 
 /// What obligation 10 requires.
-fn put_function(out: &mut Vec<Requirement>, s: &Signals, r: &Row, l: &LineNow) -> Result<(), Memory>
+fn put_function(
+    out: &mut Vec<Requirement>,
+    s: &SeqSignals,
+    r: &Row,
+    l: &LineNow,
+) -> Result<(), Memory>
     ensures { OnOk result (out.new.items ≡ out.old.items ++ spec.required10 s.now r.now (fields_in l.now)) }
 {
     if !has_operand_a(r.alu_a) {
@@ -74,7 +85,7 @@ fn put_function(out: &mut Vec<Requirement>, s: &Signals, r: &Row, l: &LineNow) -
 }
 
 /// What obligation 13 requires.
-fn put_access(out: &mut Vec<Requirement>, s: &Signals, r: &Row) -> Result<(), Memory>
+fn put_access(out: &mut Vec<Requirement>, s: &SeqSignals, r: &Row) -> Result<(), Memory>
     ensures { OnOk result (out.new.items ≡ out.old.items ++ spec.required13 s.now r.now) }
 {
     put_truth(out, s.mem_read, is_load(r.memory))?;
@@ -84,7 +95,7 @@ fn put_access(out: &mut Vec<Requirement>, s: &Signals, r: &Row) -> Result<(), Me
 /// What an obligation from 1 to 15 requires, which both datapaths share.
 fn put_shared(
     out: &mut Vec<Requirement>,
-    s: &Signals,
+    s: &SeqSignals,
     rule: u32,
     r: &Row,
     l: &LineNow,

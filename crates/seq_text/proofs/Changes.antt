@@ -20,8 +20,8 @@ use Rattle.seq_plus.specs.PlusCycle.{plus_next}
 use Rattle.seq_plus.specs.PlusEquations.{PlusSolves, plus_block, plus_given}
 use Rattle.seq_plus.specs.PlusNames as plus
 use Rattle.seq_plus.specs.declared.state.PlusState.{PlusState}
-use Rattle.stage_text.specs.Changes.{IsOfRegister, after_writes}
-use Rattle.stage_text.proofs.Changes.{after_some, some_of, store_inside}
+use Rattle.pipe_stage_text.specs.Changes.{IsOfRegister, after_writes}
+use Rattle.pipe_stage_text.proofs.Changes.{after_some, some_of, store_inside}
 use Rattle.seq_text.specs.Laws.{PlusTellsChanges, SeqTellsChanges}
 use Rattle.seq_text.specs.Lines.{told_store, told_writes}
 use Rattle.seq_text.specs.Signals.{plus_signals, seq_signals}

@@ -6,40 +6,40 @@ use Rattle.y86_isa.specs.Machine.{is_aok, start}
 use Rattle.y86_isa.specs.declared.machine.Machine.{Machine}
 use Rattle.y86_isa.specs.declared.machine.Rec.{Rec}
 use Rattle.hcl_types.specs.declared.term.Term.{Term}
-use Rattle.dp_signals.specs.After.{After}
+use Rattle.dp_signals.specs.After.{IsAfter}
 use Rattle.dp_signals.specs.SeqCycle.{seq_record}
-use Rattle.dp_signals.specs.SeqRun.{SeqCycle}
+use Rattle.dp_signals.specs.SeqRun.{IsSeqCycle}
 use Rattle.seq_plus.specs.PlusCycle.{plus_record}
-use Rattle.seq_plus.specs.PlusRun.{PlusCycle, plus_start}
+use Rattle.seq_plus.specs.PlusRun.{IsPlusCycle, plus_start}
 use Rattle.seq_plus.specs.declared.state.PlusState.{PlusState}
-use Rattle.stage_text.specs.declared.watching.Window.{Window}
+use Rattle.pipe_stage_text.specs.declared.observer.CycleRange.{CycleRange}
 use Rattle.seq_text.specs.Laws.{PlusWatchesTheRun, SeqWatchesTheRun}
-use Rattle.stage_text.specs.Cycle.{end_line}
-use Rattle.seq_text.specs.Watching.{PlusShows, SeqShows, ShowsRun, Watches, WatchesTo, plus_stat, seq_stat, shown}
+use Rattle.pipe_stage_text.specs.Cycle.{end_line}
+use Rattle.seq_text.specs.Observer.{PlusShows, SeqShows, ShowsRun, Observes, ObservesTo, plus_stat, seq_stat, shown}
 
 -- one more cycle of a machine that is watched
-pub watches_more : {S : Type 0} (Shows : S → List ℕ → S → Type 0) (stat : S → Stat) (window : Window) (first : S) (k : ℕ) (u s : S) (before text lines : List ℕ) →
-    Watches Shows stat window first k u before → is_aok (stat u) ≡ true → Shows u lines s → text ≡ before ++ shown window (k + 1) lines →
-    Watches Shows stat window first (k + 1) s text
+pub watches_more : {S : Type 0} (Shows : S → List ℕ → S → Type 0) (stat : S → Stat) (window : CycleRange) (first : S) (k : ℕ) (u s : S) (before text lines : List ℕ) →
+    Observes Shows stat window first k u before → is_aok (stat u) ≡ true → Shows u lines s → text ≡ before ++ shown window (k + 1) lines →
+    Observes Shows stat window first (k + 1) s text
 watches_more Shows stat window first k u s before text lines watches going shows e =
-    subst (λ n. Watches Shows stat window first n s text) (sym (add-one k))
+    subst (λ n. Observes Shows stat window first n s text) (sym (add-one k))
     (u, before, lines, watches, going, shows, e ∙ ap (λ n. before ++ shown window n lines) (add-one k))
 
 -- what is shown of a run, where it went well
-pub shows_run : {S W E : Type 0} (Shows : S → List ℕ → S → Type 0) (stat : S → Stat) (window : Window) (first : S) (limit k : ℕ) (s : S) (lines : List ℕ)
+pub shows_run : {S W E : Type 0} (Shows : S → List ℕ → S → Type 0) (stat : S → Stat) (window : CycleRange) (first : S) (limit k : ℕ) (s : S) (lines : List ℕ)
     (text : W → List ℕ) (end : W → Stat) (result : Result W E) → IfOk result (λ w. text w ≡ lines ++ end_line (stat s) k k) → IfOk result (λ w. end w ≡ stat s) →
-    WatchesTo Shows stat window first limit k s lines → IfOk result (λ w. ShowsRun Shows stat window first limit (text w) (end w))
+    ObservesTo Shows stat window first limit k s lines → IfOk result (λ w. ShowsRun Shows stat window first limit (text w) (end w))
 shows_run Shows stat window first limit k s lines text end (Ok w) h h' to = (k, s, lines, to, h, h')
 shows_run Shows stat window first limit k s lines text end (Err e) h h' to = tt
 
 -- at the end of the loop, and where it is left before
-pub at_limit : {S : Type 0} (Shows : S → List ℕ → S → Type 0) (stat : S → Stat) (window : Window) (first : S) (limit k : ℕ) (s : S) (lines : List ℕ) →
-    k ≡ limit → Watches Shows stat window first k s lines → WatchesTo Shows stat window first limit limit s lines
+pub at_limit : {S : Type 0} (Shows : S → List ℕ → S → Type 0) (stat : S → Stat) (window : CycleRange) (first : S) (limit k : ℕ) (s : S) (lines : List ℕ) →
+    k ≡ limit → Observes Shows stat window first k s lines → ObservesTo Shows stat window first limit limit s lines
 at_limit Shows stat window first limit k s lines e h =
-    record { within = omega arith; watches = subst (λ n. Watches Shows stat window first n s lines) e h; whole = λ lt. absurd (omega arith) }
+    record { within = omega arith; watches = subst (λ n. Observes Shows stat window first n s lines) e h; whole = λ lt. absurd (omega arith) }
 
-pub before_limit : {S : Type 0} (Shows : S → List ℕ → S → Type 0) (stat : S → Stat) (window : Window) (first : S) (limit k : ℕ) (s : S) (lines : List ℕ) →
-    k < limit → Watches Shows stat window first k s lines → is_aok (stat s) ≡ false → WatchesTo Shows stat window first limit k s lines
+pub before_limit : {S : Type 0} (Shows : S → List ℕ → S → Type 0) (stat : S → Stat) (window : CycleRange) (first : S) (limit k : ℕ) (s : S) (lines : List ℕ) →
+    k < limit → Observes Shows stat window first k s lines → is_aok (stat s) ≡ false → ObservesTo Shows stat window first limit k s lines
 before_limit Shows stat window first limit k s lines lt h over = record { within = omega arith; watches = h; whole = λ _. over }
 
 longer : (records : List Rec) (r : Rec) (k : ℕ) → length records ≡ k → length (records ++ (r ∷ [])) ≡ suc k
@@ -48,8 +48,8 @@ longer records r k e = length-append records (r ∷ []) ∙ ap (λ n. n + 1) e �
 -- where each cycle that is shown is one of the machine, which leaves a record
 module _ {S : Type 0} (Shows : S → List ℕ → S → Type 0) (Cycle : S → Option Rec → S → Type 0) (stat : S → Stat)
     (one : (s : S) (lines : List ℕ) (t : S) → is_aok (stat s) ≡ true → Shows s lines t → (r : Rec) × Cycle s (Some r) t) where
-  the_run : (window : Window) (first : S) (k : ℕ) (s : S) (text : List ℕ) → Watches Shows stat window first k s text →
-      (records : List Rec) × After Cycle first k s records × (length records ≡ k)
+  the_run : (window : CycleRange) (first : S) (k : ℕ) (s : S) (text : List ℕ) → Observes Shows stat window first k s text →
+      (records : List Rec) × IsAfter Cycle first k s records × (length records ≡ k)
   the_run window first zero s text h = ([], (h.0, refl), refl)
   the_run window first (suc k) s text h =
       let before = the_run window first k h.0 h.1 h.3 in
@@ -57,19 +57,19 @@ module _ {S : Type 0} (Shows : S → List ℕ → S → Type 0) (Cycle : S → O
       (before.0 ++ (cycle.0 ∷ []), (h.0, before.0, Some cycle.0, before.1, cycle.1, refl), longer before.0 cycle.0 k before.2)
 
 seq_one : (v : Variant) (terms : List Term) (s : Machine) (lines : List ℕ) (t : Machine) → is_aok s.stat ≡ true → SeqShows v terms s lines t →
-    (r : Rec) × SeqCycle v terms s (Some r) t
+    (r : Rec) × IsSeqCycle v terms s (Some r) t
 seq_one v terms s lines t going h =
     (seq_record s h.0, record { ended = λ over. absurd (grind (arith, over, going)); goes = λ _. (h.0, h.1, h.3, refl) })
 
 plus_one : (v : Variant) (terms : List Term) (s : PlusState) (lines : List ℕ) (t : PlusState) → is_aok s.stat ≡ true → PlusShows v terms s lines t →
-    (r : Rec) × PlusCycle v terms s (Some r) t
+    (r : Rec) × IsPlusCycle v terms s (Some r) t
 plus_one v terms s lines t going h =
     (plus_record s h.0, record { ended = λ over. absurd (grind (arith, over, going)); goes = λ _. (h.0, h.1, h.3, refl) })
 
 pub seq_watches_the_run : SeqWatchesTheRun
 seq_watches_the_run v terms window image k s text h =
-    the_run (SeqShows v terms) (SeqCycle v terms) seq_stat (seq_one v terms) window (start image) k s text h
+    the_run (SeqShows v terms) (IsSeqCycle v terms) seq_stat (seq_one v terms) window (start image) k s text h
 
 pub plus_watches_the_run : PlusWatchesTheRun
 plus_watches_the_run v terms window image k s text h =
-    the_run (PlusShows v terms) (PlusCycle v terms) plus_stat (plus_one v terms) window (plus_start image) k s text h
+    the_run (PlusShows v terms) (IsPlusCycle v terms) plus_stat (plus_one v terms) window (plus_start image) k s text h

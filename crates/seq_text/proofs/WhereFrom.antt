@@ -6,7 +6,7 @@ use Rattle.dp_signals.specs.SeqEquations.{seq_given}
 use Rattle.dp_signals.specs.SeqNames as seq
 use Rattle.seq_plus.specs.PlusEquations.{plus_given}
 use Rattle.seq_plus.specs.PlusNames as plus
-use Rattle.stage_text.proofs.Picks.{value_of_source}
+use Rattle.pipe_stage_text.proofs.Picks.{value_of_source}
 use Rattle.seq_text.specs.Laws.{PlusSources, SeqSources}
 
 pub seq_sources_told : SeqSources

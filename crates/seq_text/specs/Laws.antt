@@ -18,25 +18,25 @@ use Rattle.seq_plus.specs.PlusEquations.{PlusSolves}
 use Rattle.seq_plus.specs.PlusNames as plus
 use Rattle.seq_plus.specs.PlusRun.{PlusRun, plus_start}
 use Rattle.seq_plus.specs.declared.state.PlusState.{PlusState}
-use Rattle.stage_text.specs.Changes.{IsOfRegister, after_writes}
-use Rattle.stage_text.specs.Picked.{name_picked}
-use Rattle.stage_text.specs.declared.watching.Window.{Window}
+use Rattle.pipe_stage_text.specs.Changes.{IsOfRegister, after_writes}
+use Rattle.pipe_stage_text.specs.Sources.{name_picked}
+use Rattle.pipe_stage_text.specs.declared.observer.CycleRange.{CycleRange}
 use Rattle.seq_text.specs.Lines.{told_store, told_writes}
 use Rattle.seq_text.specs.Signals.{plus_signals, seq_signals}
-use Rattle.seq_text.specs.Watching.{PlusShows, SeqShows, Watches, plus_stat, seq_stat}
+use Rattle.seq_text.specs.Observer.{PlusShows, SeqShows, Observes, plus_stat, seq_stat}
 use Rattle.seq_text.specs.declared.signals.Signals.{Signals}
 
 -- ---- the run
 
 abbrev pub SeqWatchesTheRun : Type 0
 SeqWatchesTheRun =
-    (v : Variant) (terms : List Term) (window : Window) (image : List ℕ) (k : ℕ) (s : Machine) (text : List ℕ) →
-    Watches (SeqShows v terms) seq_stat window (start image) k s text → (records : List Rec) × SeqRun v terms image k s records × (length records ≡ k)
+    (v : Variant) (terms : List Term) (window : CycleRange) (image : List ℕ) (k : ℕ) (s : Machine) (text : List ℕ) →
+    Observes (SeqShows v terms) seq_stat window (start image) k s text → (records : List Rec) × SeqRun v terms image k s records × (length records ≡ k)
 
 abbrev pub PlusWatchesTheRun : Type 0
 PlusWatchesTheRun =
-    (v : Variant) (terms : List Term) (window : Window) (image : List ℕ) (k : ℕ) (s : PlusState) (text : List ℕ) →
-    Watches (PlusShows v terms) plus_stat window (plus_start image) k s text → (records : List Rec) × PlusRun v terms image k s records × (length records ≡ k)
+    (v : Variant) (terms : List Term) (window : CycleRange) (image : List ℕ) (k : ℕ) (s : PlusState) (text : List ℕ) →
+    Observes (PlusShows v terms) plus_stat window (plus_start image) k s text → (records : List Rec) × PlusRun v terms image k s records × (length records ≡ k)
 
 -- ---- registers and memory
 

@@ -1,4 +1,4 @@
 pub mod Signals
 pub mod Lines
-pub mod Watching
+pub mod Observer
 pub mod Laws

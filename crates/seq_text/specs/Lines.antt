@@ -4,18 +4,18 @@ use Rattle.y86_base.specs.Words.{set}
 use Rattle.y86_base.specs.declared.parts.Flags.{Flags}
 use Rattle.y86_isa.specs.Blocks.{data_store}
 use Rattle.y86_isa.specs.declared.machine.Store.{Store}
-use Rattle.seq_plus.specs.declared.state.Previous.{Previous}
-use Rattle.stage_text.specs.Cycle.{flags_line, register_lines, store_line, writes}
-use Rattle.stage_text.specs.Instruction.{instruction}
-use Rattle.stage_text.specs.Numbers.{address, function_pair, number_pair, register_pair, status_pair, text_pair, word_pair}
-use Rattle.stage_text.specs.declared.held.Held.{Held}
+use Rattle.seq_plus.specs.declared.state.PreviousInstruction.{PreviousInstruction}
+use Rattle.pipe_stage_text.specs.Cycle.{flags_line, register_lines, store_line, writes}
+use Rattle.pipe_stage_text.specs.Instruction.{instruction}
+use Rattle.pipe_stage_text.specs.Numbers.{address, function_pair, number_pair, register_pair, status_pair, text_pair, word_pair}
+use Rattle.pipe_stage_text.specs.declared.stage_content.StageContent.{StageContent}
 use Rattle.seq_text.specs.Signals.{Sources}
 use Rattle.seq_text.specs.declared.signals.Signals.{Signals}
 
 -- ---- the stages
 
 -- the instruction of a cycle; it has no row in a diagram
-abbrev pub held : Signals → Held
+abbrev pub held : Signals → StageContent
 held s =
     record { row = 0; live = true; failed = set s.imem_error; addr = s.pc; icode = s.icode; ifun = s.ifun; r_a = s.r_a; r_b = s.r_b; val_c = s.val_c }
 
@@ -97,13 +97,13 @@ unfoldable pub update_line : ℕ → Sources → List ℕ
 update_line new_pc from = word_pair (codes "P new_pc ") new_pc ++ (pc_source (codes " new_pc_from ") from ++ codes "\n")
 
 -- SEQ+'s PC, from what the instruction before left
-unfoldable pub previous_words : Previous → List ℕ
+unfoldable pub previous_words : PreviousInstruction → List ℕ
 previous_words p =
     number_pair (codes "P pIcode ") p.icode
     ++ (number_pair (codes " pCnd ") p.cnd
     ++ (word_pair (codes " pValM ") p.val_m ++ (word_pair (codes " pValC ") p.val_c ++ word_pair (codes " pValP ") p.val_p)))
 
-unfoldable pub choice_line : Previous → ℕ → Sources → List ℕ
+unfoldable pub choice_line : PreviousInstruction → ℕ → Sources → List ℕ
 choice_line p pc from = previous_words p ++ (word_pair (codes " pc ") pc ++ (pc_source (codes " pc_from ") from ++ codes "\n"))
 
 -- ---- what is written, where Stat is AOK: dstE and then dstM, and the store

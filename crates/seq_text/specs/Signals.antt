@@ -4,7 +4,7 @@ use Rattle.dp_signals.specs.SeqNames as seq
 use Rattle.hcl_types.specs.declared.table.Row.{Row}
 use Rattle.hcl_types.specs.declared.term.Term.{Term}
 use Rattle.seq_plus.specs.PlusNames as plus
-use Rattle.stage_text.specs.Picked.{source}
+use Rattle.pipe_stage_text.specs.Sources.{source}
 use Rattle.seq_text.specs.declared.signals.Signals.{Signals}
 use Rattle.seq_text.specs.declared.signals.Sources as code
 

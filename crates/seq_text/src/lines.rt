@@ -2,24 +2,24 @@
 ghost use Rattle.std.specs.Prelude.{◌≡◌, ◌++◌, OnOk};
 ghost use Rattle.seq_text.specs.Lines as text;
 ghost use Rattle.seq_text.specs.Signals.{sources_in};
-ghost use Rattle.stage_text.specs.Cycle.{register_lines};
+ghost use Rattle.pipe_stage_text.specs.Cycle.{register_lines};
 
 use crate::signals::{Signals, Sources};
-use seq_plus::Previous;
-use stage_text::{
-    Held, put_address, put_flags, put_function_pair, put_instruction, put_number_pair,
+use pipe_stage_text::{
+    StageContent, put_address, put_flags, put_function_pair, put_instruction, put_number_pair,
     put_register_pair, put_status_pair, put_stored, put_text_pair, put_word_pair, put_writes,
 };
+use seq_plus::PreviousInstruction;
 use y86_base::{Flags, Memory, put};
 use y86_isa::{Store, data_store};
 
 const AOK: u64 = 1;
 
 /// The instruction of a cycle.
-fn held(s: &Signals) -> Held
+fn held(s: &Signals) -> StageContent
     ensures { result ≡ text.held s.now }
 {
-    Held {
+    StageContent {
         row: 0,
         live: true,
         failed: s.imem_error != 0,
@@ -219,7 +219,7 @@ pub(crate) fn put_update(
 }
 
 #[tactic(auto, unfolding(crate::specs::Lines::previous_words))]
-fn put_previous(out: &mut Vec<u8>, p: Previous) -> Result<(), Memory>
+fn put_previous(out: &mut Vec<u8>, p: PreviousInstruction) -> Result<(), Memory>
     ensures { OnOk result (out.new.items ≡ out.old.items ++ text.previous_words p) }
 {
     put_number_pair(out, b"P pIcode ", p.icode)?;
@@ -233,7 +233,7 @@ fn put_previous(out: &mut Vec<u8>, p: Previous) -> Result<(), Memory>
 #[tactic(auto, unfolding(crate::specs::Lines::choice_line))]
 pub(crate) fn put_choice(
     out: &mut Vec<u8>,
-    p: Previous,
+    p: PreviousInstruction,
     pc: u64,
     sources: &Sources<'_>,
 ) -> Result<(), Memory>

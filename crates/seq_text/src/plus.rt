@@ -6,26 +6,24 @@ ghost use Rattle.hcl_types.specs.Signals.{Starts};
 ghost use Rattle.hcl_types.specs.Tables.{IsBound, IsOrderOf};
 ghost use Rattle.hcl_types.specs.Terms.{at};
 ghost use Rattle.seq_text.specs.Signals.{plus_sources as told_sources};
-ghost use Rattle.seq_text.specs.Watching.{ShowsRun, PlusShows, plus_stat};
-ghost use Rattle.seq_text.specs.Watching as text;
+ghost use Rattle.seq_text.specs.Observer.{ShowsRun, PlusShows, plus_stat};
+ghost use Rattle.seq_text.specs.Observer as text;
 ghost use Rattle.seq_plus.specs.PlusRun.{plus_start};
 ghost use Rattle.seq_text.specs.Signals.{sources_in};
 
 use crate::lines::{put_choice, put_stages, put_state};
 use crate::shown::{finished, put_number};
 use crate::signals::{Sources, plus_signals, plus_sources};
+use dp_machines::is_aok_stat;
 use dp_signals::{at, constant_words};
 use hcl_types::{Design, Order, Row, SignalEval};
-use machine_calls::is_going;
-use seq_plus::{
-    PlusState, PlusValues, advance, plus_constants, row as plus_row, solve_plus_in,
-};
-use stage_text::{Watched, Window, is_within};
+use pipe_stage_text::{CycleRange, ObservedRun, is_within};
+use seq_plus::{PlusState, PlusValues, advance, plus_constants, row as plus_row, solve_plus_in};
 use std::alloc::Global;
 use y86_base::{Image, Memory, Variant};
 
 /// Puts the lines of a cycle.
-#[tactic(auto, unfolding(crate::specs::Watching::plus_lines))]
+#[tactic(auto, unfolding(crate::specs::Observer::plus_lines))]
 fn put_lines(
     out: &mut Vec<u8>,
     s: &PlusState,
@@ -41,12 +39,12 @@ fn put_lines(
 }
 
 /// Puts what is shown of the cycle of a number.
-#[tactic(auto, unfolding(crate::specs::Watching::shown))]
+#[tactic(auto, unfolding(crate::specs::Observer::shown))]
 fn put_shown(
     out: &mut Vec<u8>,
     rows: &[Row],
     design: &Design,
-    window: &Window,
+    window: &CycleRange,
     number: u64,
     s: &PlusState,
     values: &PlusValues,
@@ -71,7 +69,7 @@ fn cycle<C: SignalEval>(
     order: &Order,
     evaluator: &mut C,
     fits: bool,
-    window: &Window,
+    window: &CycleRange,
     number: u64,
 ) -> Result<(), Memory>
     requires table { rows.now ≡ plus_rows }
@@ -101,8 +99,8 @@ pub fn watch_plus<C: SignalEval>(
     evaluator: &mut C,
     image: Image,
     limit: u64,
-    window: &Window,
-) -> Result<Watched, Memory>
+    window: &CycleRange,
+) -> Result<ObservedRun, Memory>
     requires table { rows.now ≡ plus_rows }
     requires evaluates { C.evaluates evaluator.old design.now.terms }
     requires bound { IsBound plus_rows design.now.terms }
@@ -114,7 +112,7 @@ pub fn watch_plus<C: SignalEval>(
     let mut s = PlusState::start(image);
     let mut lines = Vec::new(alloc);
     for k in 0..limit {
-        if !is_going(s.stat) {
+        if !is_aok_stat(s.stat) {
             return finished(lines, s.stat, k);
         }
         match cycle(

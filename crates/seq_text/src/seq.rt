@@ -6,25 +6,25 @@ ghost use Rattle.hcl_types.specs.Signals.{Starts};
 ghost use Rattle.hcl_types.specs.Tables.{IsBound, IsOrderOf};
 ghost use Rattle.hcl_types.specs.Terms.{at};
 ghost use Rattle.seq_text.specs.Signals.{seq_sources as told_sources};
-ghost use Rattle.seq_text.specs.Watching.{ShowsRun, SeqShows, seq_stat};
-ghost use Rattle.seq_text.specs.Watching as text;
+ghost use Rattle.seq_text.specs.Observer.{ShowsRun, SeqShows, seq_stat};
+ghost use Rattle.seq_text.specs.Observer as text;
 ghost use Rattle.seq_text.specs.Signals.{sources_in};
 ghost use Rattle.y86_isa.specs.Machine.{start};
 
 use crate::lines::{put_stages, put_state, put_update};
 use crate::shown::{finished, put_number};
 use crate::signals::{Sources, seq_signals, seq_sources};
+use dp_machines::is_aok_stat;
 use dp_signals::{
     SeqState, SeqValues, at, constant_words, seq_advance, seq_constants, seq_row, solve_seq_in,
 };
 use hcl_types::{Design, Order, Row, SignalEval};
-use machine_calls::is_going;
-use stage_text::{Watched, Window, is_within};
+use pipe_stage_text::{CycleRange, ObservedRun, is_within};
 use std::alloc::Global;
 use y86_base::{Image, Memory, Variant};
 
 /// Puts the lines of a cycle.
-#[tactic(auto, unfolding(crate::specs::Watching::seq_lines))]
+#[tactic(auto, unfolding(crate::specs::Observer::seq_lines))]
 fn put_lines(
     out: &mut Vec<u8>,
     s: &SeqState,
@@ -40,12 +40,12 @@ fn put_lines(
 }
 
 /// Puts what is shown of the cycle of a number.
-#[tactic(auto, unfolding(crate::specs::Watching::shown))]
+#[tactic(auto, unfolding(crate::specs::Observer::shown))]
 fn put_shown(
     out: &mut Vec<u8>,
     rows: &[Row],
     design: &Design,
-    window: &Window,
+    window: &CycleRange,
     number: u64,
     s: &SeqState,
     values: &SeqValues,
@@ -70,7 +70,7 @@ fn cycle<C: SignalEval>(
     order: &Order,
     evaluator: &mut C,
     fits: bool,
-    window: &Window,
+    window: &CycleRange,
     number: u64,
 ) -> Result<(), Memory>
     requires table { rows.now ≡ seq_rows }
@@ -100,8 +100,8 @@ pub fn watch_seq<C: SignalEval>(
     evaluator: &mut C,
     image: Image,
     limit: u64,
-    window: &Window,
-) -> Result<Watched, Memory>
+    window: &CycleRange,
+) -> Result<ObservedRun, Memory>
     requires table { rows.now ≡ seq_rows }
     requires evaluates { C.evaluates evaluator.old design.now.terms }
     requires bound { IsBound seq_rows design.now.terms }
@@ -113,7 +113,7 @@ pub fn watch_seq<C: SignalEval>(
     let mut s = SeqState::start(image);
     let mut lines = Vec::new(alloc);
     for k in 0..limit {
-        if !is_going(s.stat) {
+        if !is_aok_stat(s.stat) {
             return finished(lines, s.stat, k);
         }
         match cycle(

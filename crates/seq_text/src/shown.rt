@@ -1,9 +1,9 @@
 //! What the runs of both machines share: the head of a cycle's lines, and the end.
 ghost use Rattle.std.specs.Prelude.{◌≡◌, ◌++◌, IfOk, OnOk, codes};
-ghost use Rattle.stage_text.specs.Cycle.{end_line};
-ghost use Rattle.stage_text.specs.Numbers.{number_pair};
+ghost use Rattle.pipe_stage_text.specs.Cycle.{end_line};
+ghost use Rattle.pipe_stage_text.specs.Numbers.{number_pair};
 
-use stage_text::{Watched, put_end, put_number_pair};
+use pipe_stage_text::{ObservedRun, put_end, put_number_pair};
 use y86_base::{Memory, Stat, put};
 
 /// Puts the line of a cycle's number.
@@ -15,11 +15,11 @@ pub(crate) fn put_number(out: &mut Vec<u8>, number: u64) -> Result<(), Memory>
 }
 
 /// What was shown of a run of so many cycles, with the line of its end.
-pub(crate) fn finished(lines: Vec<u8>, end: Stat, cycles: u64) -> Result<Watched, Memory>
+pub(crate) fn finished(lines: Vec<u8>, end: Stat, cycles: u64) -> Result<ObservedRun, Memory>
     ensures text { IfOk result (λ w. w.text.items ≡ lines.items ++ end_line end cycles cycles) }
     ensures end { IfOk result (λ w. w.end ≡ end) }
 {
     let mut text = lines;
     put_end(&mut text, end, cycles, cycles)?;
-    Ok(Watched { text, end })
+    Ok(ObservedRun { text, end })
 }

@@ -5,8 +5,8 @@ ghost use Rattle.seq_text.specs.Signals as text;
 
 use dp_signals::{SeqValues, at, seq_row};
 use hcl_types::{Design, Row};
+use pipe_stage_text::source;
 use seq_plus::{PlusValues, row as plus_row};
-use stage_text::source;
 
 /// The values of the signals in a cycle, in the order of the stages (CS:APP 3e, figures 4.27 to 4.31). `r_a` is the signal rA, and so on.
 #[derive(Clone, Copy, Debug)]

@@ -26,14 +26,14 @@ pub struct Kind {
 
 /// All that has a name.
 #[derive(Drop)]
-pub struct Found {
+pub struct ShowMatches {
     pub obligations: Vec<Demanded>,
     pub instructions: Vec<Instruction>,
     pub signals: Vec<Staged>,
     pub faults: Vec<Kind>,
 }
 
-impl Found {
+impl ShowMatches {
     /// Whether nothing has the name.
     pub fn is_empty(&self) -> bool
         ensures obligations { result ≡ true → self.now.obligations.items ≡ [] }
@@ -102,7 +102,7 @@ fn put_faults(out: &mut Vec<Kind>, word: Option<&str>) -> Result<(), AllocError>
 }
 
 /// What has this name; everything, where no name is given. An instruction has its own name and that of its group: `jle`, `jXX`.
-pub fn found_of(alloc: Global, word: Option<&str>) -> Result<Found, AllocError> {
+pub fn found_of(alloc: Global, word: Option<&str>) -> Result<ShowMatches, AllocError> {
     let mut obligations: Vec<Demanded> = Vec::new(alloc);
     put_obligations(&mut obligations, word, Path::Seq, 0)?;
     put_obligations(&mut obligations, word, Path::SeqPlus, 15)?;
@@ -118,7 +118,7 @@ pub fn found_of(alloc: Global, word: Option<&str>) -> Result<Found, AllocError> 
     put_signals(&mut signals, word)?;
     let mut faults: Vec<Kind> = Vec::new(alloc);
     put_faults(&mut faults, word)?;
-    Ok(Found {
+    Ok(ShowMatches {
         obligations,
         instructions: own,
         signals,

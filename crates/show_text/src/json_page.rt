@@ -1,5 +1,5 @@
 //! What has a name as JSON, with names that are stable.
-use crate::found::{Demanded, Found, Kind, group_of};
+use crate::found::{Demanded, Kind, ShowMatches, group_of};
 use crate::instructions::Instruction;
 use crate::pages::{LANGUAGES, sentences};
 use crate::stages::{STAGES, field_name, put_layout, steps_of};
@@ -8,7 +8,7 @@ use fault_report::Tables;
 use finding_text::{Out, put_number, put_text, put_truth, value_name};
 use hcl_types::Table;
 use std::alloc::{AllocError, Global};
-use y86_isa::{Access, Field, Next, TermA, TermB};
+use y86_isa::{AluAColumn, AluBColumn, MemoryColumn, NextPcColumn, RegisterColumn};
 
 /// Writes an array of the words of a text.
 fn put_words(out: &mut Out, name: &str, words: &str) -> Result<(), AllocError> {
@@ -59,7 +59,11 @@ fn put_obligation(out: &mut Out, it: &Demanded) -> Result<(), AllocError> {
 
 /// Writes the registers that an instruction reads and writes.
 fn put_registers(out: &mut Out, it: &Instruction) -> Result<(), AllocError> {
-    let put = |out: &mut Out, name: &str, field: Field| put_some(out, name, field_name(field));
+    let put = |out: &mut Out, name: &str, field: RegisterColumn| put_some(
+        out,
+        name,
+        field_name(field),
+    );
     put(out, "srcA", it.row.src_a)?;
     put(out, "srcB", it.row.src_b)?;
     put(out, "dstE", it.row.dst_e)?;
@@ -71,20 +75,20 @@ fn put_registers(out: &mut Out, it: &Instruction) -> Result<(), AllocError> {
 fn put_alu(out: &mut Out, it: &Instruction) -> Result<(), AllocError> {
     out.key("aluA")?;
     match it.row.alu_a {
-        TermA::NoA => out.null()?,
-        TermA::ValA => out.string("valA")?,
-        TermA::ValC => out.string("valC")?,
-        TermA::Minus8 => out.i64(-8)?,
-        TermA::Plus8 => out.i64(8)?,
+        AluAColumn::NoA => out.null()?,
+        AluAColumn::ValA => out.string("valA")?,
+        AluAColumn::ValC => out.string("valC")?,
+        AluAColumn::Minus8 => out.i64(-8)?,
+        AluAColumn::Plus8 => out.i64(8)?,
     }
     out.key("aluB")?;
     match it.row.alu_b {
-        TermB::NoB => out.null()?,
-        TermB::Zero => out.u64(0)?,
-        TermB::ValB => out.string("valB")?,
+        AluBColumn::NoB => out.null()?,
+        AluBColumn::Zero => out.u64(0)?,
+        AluBColumn::ValB => out.string("valB")?,
     }
     out.key("alufun")?;
-    if it.row.alu_a == TermA::NoA {
+    if it.row.alu_a == AluAColumn::NoA {
         out.null()?;
     } else {
         out.string(if it.row.selects { "ifun" } else { "ALUADD" })?;
@@ -95,11 +99,11 @@ fn put_alu(out: &mut Out, it: &Instruction) -> Result<(), AllocError> {
 /// Writes what an instruction does at memory, and where the next one is.
 fn put_memory(out: &mut Out, it: &Instruction) -> Result<(), AllocError> {
     let (reads, writes, address, data) = match it.row.memory {
-        Access::NoMem => (false, false, None, None),
-        Access::StoreA => (false, true, Some("valE"), Some("valA")),
-        Access::StoreP => (false, true, Some("valE"), Some("valP")),
-        Access::LoadE => (true, false, Some("valE"), None),
-        Access::LoadA => (true, false, Some("valA"), None),
+        MemoryColumn::NoMem => (false, false, None, None),
+        MemoryColumn::StoreA => (false, true, Some("valE"), Some("valA")),
+        MemoryColumn::StoreP => (false, true, Some("valE"), Some("valP")),
+        MemoryColumn::LoadE => (true, false, Some("valE"), None),
+        MemoryColumn::LoadA => (true, false, Some("valA"), None),
     };
     put_truth(out, "mem_read", reads)?;
     put_truth(out, "mem_write", writes)?;
@@ -109,11 +113,11 @@ fn put_memory(out: &mut Out, it: &Instruction) -> Result<(), AllocError> {
         out,
         "next",
         match it.row.next {
-            Next::Itself => None,
-            Next::Fall => Some("valP"),
-            Next::Branch => Some("branch"),
-            Next::Target => Some("valC"),
-            Next::Loaded => Some("valM"),
+            NextPcColumn::Itself => None,
+            NextPcColumn::Fall => Some("valP"),
+            NextPcColumn::Branch => Some("branch"),
+            NextPcColumn::Target => Some("valC"),
+            NextPcColumn::Loaded => Some("valM"),
         },
     )
 }
@@ -229,7 +233,7 @@ pub fn put_found_json(
     alloc: Global,
     out: &mut Out,
     tables: &Tables,
-    found: &Found,
+    found: &ShowMatches,
 ) -> Result<(), AllocError> {
     out.begin_object()?;
     out.key("obligations")?;

@@ -10,6 +10,6 @@ mod json_page;
 mod pages;
 mod stages;
 
-pub use found::{Found, found_of};
+pub use found::{ShowMatches, found_of};
 pub use json_page::put_found_json;
 pub use pages::{put_found, put_names};

@@ -1,5 +1,5 @@
 //! What has a name, in sentences.
-use crate::found::{Demanded, Found, Kind};
+use crate::found::{Demanded, Kind, ShowMatches};
 use crate::instructions::Instruction;
 use crate::stages::{STAGES, put_layout, steps_of};
 use explanations::{Path, Staged};
@@ -173,7 +173,7 @@ fn put_gap(out: &mut String, is_first: bool) -> Result<(), AllocError> {
 }
 
 /// Writes all that was found.
-pub fn put_found(alloc: Global, out: &mut String, found: &Found) -> Result<(), AllocError> {
+pub fn put_found(alloc: Global, out: &mut String, found: &ShowMatches) -> Result<(), AllocError> {
     let mut is_first = true;
     for it in found.obligations.as_slice() {
         put_gap(out, is_first)?;
@@ -217,7 +217,7 @@ fn put_row(
 }
 
 /// Writes the names of all that can be shown.
-pub fn put_names(alloc: Global, out: &mut String, all: &Found) -> Result<(), AllocError> {
+pub fn put_names(alloc: Global, out: &mut String, all: &ShowMatches) -> Result<(), AllocError> {
     out.push_str("y86-tell show WORD explains\n\n")?;
     let mut names = String::new(alloc);
     for it in all.obligations.as_slice() {

@@ -1,7 +1,7 @@
 //! What each stage does for an instruction, as in CS:APP 3e, figures 4.18 to 4.21: from its row of the instruction table.
 use crate::instructions::Instruction;
 use std::alloc::{AllocError, Global};
-use y86_isa::{Access, Field, Next, Row, TermA, TermB};
+use y86_isa::{AluAColumn, AluBColumn, MemoryColumn, NextPcColumn, RegisterColumn, Row};
 
 /// The stages.
 pub static STAGES: [&str; 6] = [
@@ -14,12 +14,12 @@ pub static STAGES: [&str; 6] = [
 ];
 
 /// The register that a column names.
-pub fn field_name(field: Field) -> Option<&'static str> {
+pub fn field_name(field: RegisterColumn) -> Option<&'static str> {
     match field {
-        Field::Dash => None,
-        Field::FieldA => Some("rA"),
-        Field::FieldB => Some("rB"),
-        Field::Stack => Some("%rsp"),
+        RegisterColumn::Dash => None,
+        RegisterColumn::FieldA => Some("rA"),
+        RegisterColumn::FieldB => Some("rB"),
+        RegisterColumn::Stack => Some("%rsp"),
     }
 }
 
@@ -61,7 +61,7 @@ fn put_read(
     alloc: Global,
     out: &mut Vec<String>,
     word: &str,
-    field: Field,
+    field: RegisterColumn,
 ) -> Result<(), AllocError> {
     match field_name(field) {
         Some(name) => {
@@ -78,7 +78,7 @@ fn put_write(
     alloc: Global,
     out: &mut Vec<String>,
     before: &str,
-    field: Field,
+    field: RegisterColumn,
     word: &str,
 ) -> Result<(), AllocError> {
     match field_name(field) {
@@ -92,22 +92,22 @@ fn put_write(
 }
 
 /// The ALU's first operand in a sum.
-fn first_operand(term: TermA) -> Option<&'static str> {
+fn first_operand(term: AluAColumn) -> Option<&'static str> {
     match term {
-        TermA::NoA => None,
-        TermA::ValA => Some("valA"),
-        TermA::ValC => Some("valC"),
-        TermA::Minus8 => Some("(-8)"),
-        TermA::Plus8 => Some("8"),
+        AluAColumn::NoA => None,
+        AluAColumn::ValA => Some("valA"),
+        AluAColumn::ValC => Some("valC"),
+        AluAColumn::Minus8 => Some("(-8)"),
+        AluAColumn::Plus8 => Some("8"),
     }
 }
 
 /// The ALU's second operand.
-fn second_operand(term: TermB) -> &'static str {
+fn second_operand(term: AluBColumn) -> &'static str {
     match term {
-        TermB::NoB => "",
-        TermB::Zero => "0",
-        TermB::ValB => "valB",
+        AluBColumn::NoB => "",
+        AluBColumn::Zero => "0",
+        AluBColumn::ValB => "valB",
     }
 }
 
@@ -122,7 +122,7 @@ fn execute(alloc: Global, out: &mut Vec<String>, row: &Row) -> Result<(), AllocE
     if row.sets_flags {
         put_fixed(alloc, out, "Set CC")?;
     }
-    if row.conditional || row.next == Next::Branch {
+    if row.conditional || row.next == NextPcColumn::Branch {
         put_fixed(alloc, out, "Cnd <- Cond(CC, ifun)")?;
     }
     Ok(())
@@ -130,11 +130,11 @@ fn execute(alloc: Global, out: &mut Vec<String>, row: &Row) -> Result<(), AllocE
 
 fn memory(alloc: Global, out: &mut Vec<String>, row: &Row) -> Result<(), AllocError> {
     match row.memory {
-        Access::NoMem => Ok(()),
-        Access::StoreA => put_fixed(alloc, out, "M8[valE] <- valA"),
-        Access::StoreP => put_fixed(alloc, out, "M8[valE] <- valP"),
-        Access::LoadE => put_fixed(alloc, out, "valM <- M8[valE]"),
-        Access::LoadA => put_fixed(alloc, out, "valM <- M8[valA]"),
+        MemoryColumn::NoMem => Ok(()),
+        MemoryColumn::StoreA => put_fixed(alloc, out, "M8[valE] <- valA"),
+        MemoryColumn::StoreP => put_fixed(alloc, out, "M8[valE] <- valP"),
+        MemoryColumn::LoadE => put_fixed(alloc, out, "valM <- M8[valE]"),
+        MemoryColumn::LoadA => put_fixed(alloc, out, "valM <- M8[valA]"),
     }
 }
 
@@ -143,11 +143,11 @@ fn update_pc(alloc: Global, out: &mut Vec<String>, row: &Row) -> Result<(), Allo
         alloc,
         out,
         match row.next {
-            Next::Itself => "the machine stops with status HLT",
-            Next::Fall => "PC <- valP",
-            Next::Branch => "PC <- Cnd ? valC : valP",
-            Next::Target => "PC <- valC",
-            Next::Loaded => "PC <- valM",
+            NextPcColumn::Itself => "the machine stops with status HLT",
+            NextPcColumn::Fall => "PC <- valP",
+            NextPcColumn::Branch => "PC <- Cnd ? valC : valP",
+            NextPcColumn::Target => "PC <- valC",
+            NextPcColumn::Loaded => "PC <- valM",
         },
     )
 }
@@ -189,7 +189,7 @@ pub fn put_layout(out: &mut String, instruction: &Instruction) -> Result<(), All
         out.push_str(if row.uses_b { ":rB" } else { ":F" })?;
     }
     if row.has_const {
-        let is_address = row.memory == Access::StoreA || row.memory == Access::LoadE;
+        let is_address = row.memory == MemoryColumn::StoreA || row.memory == MemoryColumn::LoadE;
         out.push_str(if is_address { " D" } else { " V" })?;
     }
     Ok(())

@@ -7,10 +7,10 @@ ghost use Rattle.dp_signals.specs.SeqTable.{seq_rows};
 use ctl_atoms::atoms;
 use ctl_formula::translate;
 use dp_signals::{law_of_tables, seq_row as row, seq_table};
-use field_bits::FieldPlace;
 use hcl_order::order;
 use hcl_read::read;
 use hcl_types::{Design, Order, bind};
+use net_fields::BitRange;
 use nets::{Net, NetBuilder, Valuation, eval};
 use seq_obligations::{BIT_COUNT, LINE, places};
 use std::alloc::Global;
@@ -118,7 +118,7 @@ fn translated(alloc: Global, d: &Design, o: &Order) -> Result<Told, Memory>
 }
 
 /// The bit of a number of four bits at a variable, where it stands at a place; false beside it.
-fn bit_of(number: u32, place: FieldPlace, at: u32) -> bool {
+fn bit_of(number: u32, place: BitRange, at: u32) -> bool {
     if at < place.first {
         return false;
     }

@@ -3,7 +3,7 @@ ghost use Rattle.std.specs.Prelude.{◌≡◌, IfOk, length};
 ghost use Rattle.pipe_fields.specs.Layout.{bit_count};
 
 use nets::{NetBuilder, Valuation, eval};
-use pipe_fields::{BIT_COUNT, Line, line_fits, places};
+use pipe_fields::{BIT_COUNT, StageLine, places, stage_line_allowed};
 use std::alloc::Global;
 use std::test::Fail;
 use y86_base::{Items, Memory, Variant};
@@ -43,7 +43,7 @@ fn pattern(
 /// A line of which the bits from a variable on are counted, so many, with others behind them that are all `rest`.
 struct Counted {
     variant: Variant,
-    line: Line,
+    line: StageLine,
     first: u32,
     size: u32,
     patterns: u32,
@@ -63,7 +63,7 @@ struct Counted {
 static COUNTED: [Counted; 3] = [
     Counted {
         variant: Variant::Base,
-        line: Line::F,
+        line: StageLine::F,
         first: places::F_ERROR.first,
         size: 12,
         patterns: 4096,
@@ -72,7 +72,7 @@ static COUNTED: [Counted; 3] = [
     },
     Counted {
         variant: Variant::Full,
-        line: Line::F,
+        line: StageLine::F,
         first: places::F_ERROR.first,
         size: 9,
         patterns: 512,
@@ -81,7 +81,7 @@ static COUNTED: [Counted; 3] = [
     },
     Counted {
         variant: Variant::Base,
-        line: Line::W,
+        line: StageLine::W,
         first: places::W_STAT.first,
         size: 11,
         patterns: 2048,
@@ -93,7 +93,7 @@ static COUNTED: [Counted; 3] = [
 /// How many of the patterns are allowed.
 fn count(alloc: Global, c: &Counted) -> Result<u32, Memory> {
     let mut b = NetBuilder::new(alloc, BIT_COUNT);
-    let gate = line_fits(&mut b, c.variant, c.line)?;
+    let gate = stage_line_allowed(&mut b, c.variant, c.line)?;
     let net = b.finish();
     let mut count = 0u32;
     for number in 0..c.patterns {

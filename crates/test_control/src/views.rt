@@ -1,9 +1,9 @@
 //! What may stand in D, E, M and W, and when the predicted PC is that of the next instruction, worked out by hand.
 ghost use Rattle.std.specs.Prelude.{◌<◌, ℕ};
-ghost use Rattle.pipe_motion.specs.Gates.{HasSlot};
+ghost use Rattle.pipe_motion.specs.Gates.{HasStageFlow};
 
 use nets::{NetBuilder, Valuation, eval};
-use pipe_motion::{SlotGates, ViewGates, lawful_gate, path_gate};
+use pipe_motion::{FlowGates, StageFlowGates, flow_legal_gate, path_gate};
 use std::alloc::Global;
 use std::test::Fail;
 use y86_base::{Items, Memory};
@@ -88,7 +88,7 @@ static SEEN: [Seen; 24] = [
 
 macro_rules! slot {
     ($good:expr, $wrong:expr, $stops:expr, $ret:expr, $missed:expr) => {
-        SlotGates {
+        StageFlowGates {
             good: $good,
             wrong: $wrong,
             stops: $stops,
@@ -99,8 +99,8 @@ macro_rules! slot {
 }
 
 /// The gates of what stands in a register, each one of two.
-fn slot(held: Held, yes: u64, no: u64) -> SlotGates
-    ensures { (n : ℕ) → yes < n → no < n → HasSlot n result }
+fn slot(held: Held, yes: u64, no: u64) -> StageFlowGates
+    ensures { (n : ℕ) → yes < n → no < n → HasStageFlow n result }
 {
     match held {
         Held::Bubble => slot!(no, no, no, no, no),
@@ -118,13 +118,13 @@ fn judged(alloc: Global, s: &Seen) -> Result<(bool, bool), Memory> {
     let mut b = NetBuilder::new(alloc, 1);
     let yes = b.constant(true)?;
     let no = b.constant(false)?;
-    let view = ViewGates {
+    let view = FlowGates {
         d: slot(s.d, yes, no),
         e: slot(s.e, yes, no),
         m: slot(s.m, yes, no),
         w: slot(s.w, yes, no),
     };
-    let lawful = lawful_gate(&mut b, &view, s.je, s.rm)?;
+    let lawful = flow_legal_gate(&mut b, &view, s.je, s.rm)?;
     let path = path_gate(&mut b, &view)?;
     let net = b.finish();
     let bits = match vec![in alloc; false; 1] {

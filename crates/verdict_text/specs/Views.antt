@@ -1,19 +1,19 @@
 -- The code's labels as those of the definitions, and places whose numbers the code can tell.
 use Rattle.std.specs.Prelude.{◌≤◌, List, map}
-use Rattle.field_bits.specs.declared.spots.FieldPlace.{FieldPlace}
-use Rattle.seq_obligations.specs.declared.signals.Line.{Line}
+use Rattle.net_fields.specs.declared.field_specs.BitRange.{BitRange}
+use Rattle.seq_obligations.specs.declared.signals.LineRanges.{LineRanges}
 use Rattle.verdict_text.specs.Fields.{Labelled}
-use Rattle.verdict_text.specs.declared.numbers.Shown as code
+use Rattle.verdict_text.specs.declared.numbers.ShownNumber as code
 
-abbrev pub shown : List code.Shown → List Labelled
-shown xs = map (λ (x : code.Shown). record { label = x.label.now; number = x.number }) xs
+abbrev pub shown : List code.ShownNumber → List Labelled
+shown xs = map (λ (x : code.ShownNumber). record { label = x.label.now; number = x.number }) xs
 
 -- few bits, not far behind the first variable
-pub record IsNear (p : FieldPlace) : Type 0 where
+pub record IsNear (p : BitRange) : Type 0 where
   pub few : p.bits ≤ 4
   pub near : p.first ≤ 1000
 
-pub record AreNear (l : Line) : Type 0 where
+pub record AreNear (l : LineRanges) : Type 0 where
   pub error : IsNear l.error
   pub icode : IsNear l.icode
   pub ifun : IsNear l.ifun

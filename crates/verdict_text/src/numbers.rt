@@ -1,11 +1,11 @@
 //! Texts of labels and numbers.
 ghost use Rattle.std.specs.Prelude.{◌≡◌, ◌≤◌, ◌++◌, false, get_or, OnOk};
-ghost use Rattle.field_bits.specs.Spelling.{bit, spelt};
+ghost use Rattle.net_fields.specs.Spelling.{bit, spelt};
 ghost use Rattle.hcl_read.specs.Print.{signed_decimal};
 ghost use Rattle.verdict_text.specs.Fields.{labelled};
 ghost use Rattle.verdict_text.specs.Views.{IsNear, shown};
 
-use field_bits::FieldPlace;
+use net_fields::BitRange;
 use y86_base::{Memory, Numeral, put};
 
 /// Puts a word as a signed decimal number.
@@ -32,7 +32,7 @@ fn bit_at(bits: &[bool], i: usize) -> u64
 }
 
 /// The number that some bits of a valuation spell, the most significant one first.
-#[tactic(auto, using(field_bits::proofs::Loops::number_none, field_bits::proofs::Loops::number_more, field_bits::proofs::Loops::number_small))]
+#[tactic(auto, using(net_fields::proofs::Loops::number_none, net_fields::proofs::Loops::number_more, net_fields::proofs::Loops::number_small))]
 fn number(bits: &[bool], first: usize, count: usize) -> u64
     requires few { count ≤ 4 }
     requires near { first ≤ 1000 }
@@ -47,13 +47,13 @@ fn number(bits: &[bool], first: usize, count: usize) -> u64
 
 /// A label, and the number behind it.
 #[derive(Clone, Copy)]
-pub(crate) struct Shown {
+pub(crate) struct ShownNumber {
     pub label: &'static [u8],
     pub number: u64,
 }
 
 /// The number of a field.
-pub(crate) fn number_at(bits: &[bool], place: FieldPlace) -> u64
+pub(crate) fn number_at(bits: &[bool], place: BitRange) -> u64
     requires near { IsNear place }
     ensures { result ≡ spelt bits.now place.first place.bits }
 {
@@ -61,19 +61,19 @@ pub(crate) fn number_at(bits: &[bool], place: FieldPlace) -> u64
 }
 
 /// A label with the number of a field.
-pub(crate) fn shown_at(label: &'static [u8], bits: &[bool], place: FieldPlace) -> Shown
+pub(crate) fn shown_at(label: &'static [u8], bits: &[bool], place: BitRange) -> ShownNumber
     requires near { IsNear place }
     ensures label { result.label.now ≡ label.now }
     ensures number { result.number ≡ spelt bits.now place.first place.bits }
 {
-    Shown {
+    ShownNumber {
         label,
         number: number_at(bits, place),
     }
 }
 
 /// Puts labels, each with its number.
-pub(crate) fn put_numbers(out: &mut Vec<u8>, numbers: &[Shown]) -> Result<(), Memory>
+pub(crate) fn put_numbers(out: &mut Vec<u8>, numbers: &[ShownNumber]) -> Result<(), Memory>
     ensures { OnOk result (out.new.items ≡ out.old.items ++ labelled (shown numbers.now)) }
 {
     for it in numbers {

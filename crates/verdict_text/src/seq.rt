@@ -10,13 +10,13 @@ use crate::numbers::{put_numbers, shown_at};
 use ctl_atoms::Atom;
 use hcl_types::Row;
 use nets::Valuation;
-use seq_obligations::{BIT_COUNT, LINE, Line, P_CND, P_ICODE, PLUS_BIT_COUNT, PLUS_LINE};
+use seq_obligations::{BIT_COUNT, LINE, LineRanges, P_CND, P_ICODE, PLUS_BIT_COUNT, PLUS_LINE};
 use std::alloc::Global;
 use y86_base::{Memory, Numeral, put};
 
 /// Puts the line S of a valuation, whose fields stand at these places.
 #[tactic(auto, unfolding(crate::specs::SeqLine::seq_line, seq_obligations::specs::Fields::line_at))]
-fn put_seq_line(out: &mut Vec<u8>, bits: &[bool], line: Line) -> Result<(), Memory>
+fn put_seq_line(out: &mut Vec<u8>, bits: &[bool], line: LineRanges) -> Result<(), Memory>
     requires near { AreNear line }
     ensures { OnOk result (out.new.items ≡ out.old.items ++ seq_line (line_at line bits.now)) }
 {

@@ -4,7 +4,7 @@ use Rattle.std.specs.List.{position_or_len}
 use Rattle.y86_base.specs.Text.{is_line_feed}
 
 -- a text in two parts: what was read, and what is left to read
-pub record Reading : Type 0 where
+pub record CursorState : Type 0 where
   pub done : List ℕ
   pub left : List ℕ
 

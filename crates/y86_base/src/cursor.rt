@@ -16,9 +16,9 @@ pub struct Cursor<'a> {
 
 impl<'a> Model for Cursor<'a> {
     ghost use Rattle.std.specs.Prelude.{take, drop};
-    ghost use Rattle.y86_base.specs.Cursor.{IsAtPlace, Reading};
+    ghost use Rattle.y86_base.specs.Cursor.{IsAtPlace, CursorState};
 
-    ghost Value = { Reading };
+    ghost Value = { CursorState };
 
     ghost view = { λ cursor. record { done = take cursor.at cursor.bytes.now; left = drop cursor.at cursor.bytes.now } };
 

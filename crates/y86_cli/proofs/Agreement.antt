@@ -1,6 +1,6 @@
 -- What the answers of `check`, and of `psim` behind a check, say of the run of instructions.
 use Rattle.std.proofs.Common.{◌≡◌, ◌⊎◌, codes, ℕ, zero, suc, ◌≤◌, Bool, true, List, ◌++◌, length, refl, sym, ap, subst, ◌∙◌, inl, inr, Option, Some, Result, Ok, Err, lit≤, arith}
-use Rattle.dp_signals.specs.PipeRun.{Pipe, PipeRun}
+use Rattle.dp_signals.specs.PipeRun.{PipeHistory, PipeRun}
 use Rattle.dp_signals.specs.PipeTable.{pipe_rows}
 use Rattle.hcl_types.specs.declared.table.Row.{Row}
 use Rattle.hcl_types.specs.declared.term.Term.{Term}
@@ -8,7 +8,7 @@ use Rattle.pipe_refinement.specs.Refines.{Refines, StopsAs}
 use Rattle.retire_trace.specs.Drive.{traced}
 use Rattle.verdict_text.specs.PipeLines.{pipe_yes}
 use Rattle.wb_io.specs.Files.{HasBytes}
-use Rattle.wb_io.specs.Sinks.{Took}
+use Rattle.wb_io.specs.Sinks.{Appended}
 use Rattle.y86_base.specs.Image.{IsSize}
 use Rattle.y86_base.specs.declared.parts.Variant.{Variant}
 use Rattle.y86_isa.specs.Run.{run}
@@ -16,35 +16,35 @@ use Rattle.y86_isa.specs.declared.machine.Machine.{Machine}
 use Rattle.yis_run.specs.Report.{register_lines, report}
 use Rattle.yo_object.specs.ObjectText.{object_of}
 use Rattle.yo_object.specs.declared.object.YoFault.{YoFault}
-use Rattle.y86_cli.specs.Agreement.{Agrees, HasAccepted, HasAcceptedSeq, RanAccepted, ToldAccepted, ToldAcceptedSeq, ToldNo}
-use Rattle.run_commands.specs.Answers.{PipeAnswers, checked_plan, pipe_plan, psim_plan}
-use Rattle.check_commands.specs.Answers.{check_pipe_plan, check_seq_plan}
-use Rattle.command_plans.specs.Stages.{image_of_text}
-use Rattle.check_commands.specs.Checks.{AcceptsPipe, RefusesControl}
-use Rattle.command_plans.specs.Datapaths.{rows_of}
-use Rattle.command_plans.specs.Designs.{IsDesign, RefusesDesign}
-use Rattle.command_plans.specs.Does.{FilesSeen, SinkSeen}
+use Rattle.y86_cli.specs.CheckedRuns.{PrintsTheRun, HasAccepted, HasAcceptedSeq, CheckedRunIsRight, ToldAccepted, ToldAcceptedSeq, AnsweredNo}
+use Rattle.cli_runs.specs.Answers.{PipeAnswers, checked_plan, pipe_plan, psim_plan}
+use Rattle.cli_checks.specs.Answers.{check_pipe_plan, check_seq_plan}
+use Rattle.cli_plans.specs.Stages.{image_of_text}
+use Rattle.cli_checks.specs.Checks.{AnswersYesPipe, RefusesControl}
+use Rattle.cli_plans.specs.Datapaths.{rows_of}
+use Rattle.cli_plans.specs.Designs.{IsDesign, RefusesDesign}
+use Rattle.cli_plans.specs.PlanFollowing.{FilesState, SinkState}
 use Rattle.y86_words.specs.Forms.{check_pipe, check_plus, check_seq, form_of, psim}
-use Rattle.command_plans.specs.Lines.{object_fault_line}
-use Rattle.command_plans.specs.Plan.{Answered, MayAnswer, after, done, refused}
-use Rattle.run_commands.specs.PipeRuns.{Goes, end_of, run_text}
-use Rattle.y86_cli.specs.Ran.{Ran, Shows}
+use Rattle.cli_plans.specs.Lines.{object_fault_line}
+use Rattle.cli_plans.specs.Plan.{Answer, MayBeAnswer, value_from, done, refused}
+use Rattle.cli_runs.specs.PipeRuns.{RunsFor, end_of, run_text}
+use Rattle.y86_cli.specs.CallContract.{CallContract, DeliversOnBoth}
 use Rattle.y86_words.proofs.Legal.{form_legal}
-use Rattle.command_plans.specs.declared.datapath.Datapath.{Datapath}
-use Rattle.command_plans.specs.declared.datapath.Datapath.TheVariants.{Seq, Plus}
+use Rattle.cli_plans.specs.declared.datapath.Datapath.{Datapath}
+use Rattle.cli_plans.specs.declared.datapath.Datapath.TheVariants.{Seq, Plus}
 use Rattle.y86_cli.proofs.Loaded.{loaded_is_image}
 
 -- ---- a run that goes on to its end is a run
 
-pipe_run : (v : Variant) (terms : List Term) (image : List ℕ) (k : ℕ) (p : Pipe) → Goes v terms image k p → PipeRun v terms image k p
+pipe_run : (v : Variant) (terms : List Term) (image : List ℕ) (k : ℕ) (p : PipeHistory) → RunsFor v terms image k p → PipeRun v terms image k p
 pipe_run v terms image zero p goes = goes
 pipe_run v terms image (suc k) p goes = (goes.0, pipe_run v terms image k goes.0 goes.1, goes.3)
 
-end_is : (p : Pipe) (m : Machine) → StopsAs p m → end_of p ≡ m
+end_is : (p : PipeHistory) (m : Machine) → StopsAs p m → end_of p ≡ m
 end_is p m stops = rw (stops.registers, stops.flags, stops.pc, stops.stat, stops.memory) refl
 
-agree : (v : Variant) (terms : List Term) (image : List ℕ) (trace : Bool) (k : ℕ) (p : Pipe) → Refines v terms image k → Goes v terms image k p →
-    Agrees v image trace p
+agree : (v : Variant) (terms : List Term) (image : List ℕ) (trace : Bool) (k : ℕ) (p : PipeHistory) → Refines v terms image k → RunsFor v terms image k p →
+    PrintsTheRun v image trace p
 agree v terms image trace k p refines goes =
     let ran = pipe_run v terms image k p goes in
     record {
@@ -55,15 +55,15 @@ agree v terms image trace k p refines goes =
 
 -- ---- answers with status 0 or 1
 
-pub high : (a : Answered) (n : ℕ) (line : List ℕ) → a ≡ refused n line → 2 ≤ n → a.status ≤ 1 → ⊥
+pub high : (a : Answer) (n : ℕ) (line : List ℕ) → a ≡ refused n line → 2 ≤ n → a.status ≤ 1 → ⊥
 high a n line same big low = let is : a.status ≡ n = ap (λ x. x.status) same in omega (arith, is, big, low)
 
-pub design_high : (name : List ℕ) (rows : List Row) (text : List ℕ) (a : Answered) → RefusesDesign name rows text a → a.status ≤ 1 → ⊥
+pub design_high : (name : List ℕ) (rows : List Row) (text : List ℕ) (a : Answer) → RefusesDesign name rows text a → a.status ≤ 1 → ⊥
 design_high name rows text a (inl unread) low = high a 5 _ unread.2 (lit≤ tt) low
 design_high name rows text a (inr (inl unbound)) low = high a 5 _ unbound.told (lit≤ tt) low
 design_high name rows text a (inr (inr unordered)) low = high a 5 _ unordered.told (lit≤ tt) low
 
-pub control_high : (name : List ℕ) (rows : List Row) (terms : List Term) (a : Answered) → RefusesControl name rows terms a → a.status ≤ 1 → ⊥
+pub control_high : (name : List ℕ) (rows : List Row) (terms : List Term) (a : Answer) → RefusesControl name rows terms a → a.status ≤ 1 → ⊥
 control_high name rows terms a (inl mixed) low = high a 5 _ mixed.told (lit≤ tt) low
 control_high name rows terms a (inr over) low = high a 5 _ over.told (lit≤ tt) low
 
@@ -71,80 +71,80 @@ pub loads_ok : (name : List ℕ) (loaded : Result (List ℕ) YoFault) (image : L
 loads_ok name (Ok one) image e = let same : one ≡ image = cc (e) in ap Ok same
 loads_ok name (Err fault) image e = absurd (cc (e))
 
-load_high : (name : List ℕ) (loaded : Result (List ℕ) YoFault) (a : Answered) → image_of_text name loaded ≡ Err a → a.status ≤ 1 → ⊥
+load_high : (name : List ℕ) (loaded : Result (List ℕ) YoFault) (a : Answer) → image_of_text name loaded ≡ Err a → a.status ≤ 1 → ⊥
 load_high name (Ok image) a e low = absurd (cc (e))
 load_high name (Err fault) a e low = let same : refused 5 (object_fault_line name fault) ≡ a = cc (e) in high a 5 _ (sym same) (lit≤ tt) low
 
 -- ---- `check pipe`
 
-has_accepted : (v : Variant) (told : Option (Option (List ℕ))) (text : List ℕ) (terms : List Term) (a : Answered) → HasBytes told text → IsDesign pipe_rows text terms →
-    AcceptsPipe v terms a → HasAccepted v told
+has_accepted : (v : Variant) (told : Option (Option (List ℕ))) (text : List ℕ) (terms : List Term) (a : Answer) → HasBytes told text → IsDesign pipe_rows text terms →
+    AnswersYesPipe v terms a → HasAccepted v told
 has_accepted v told text terms a has design accepts =
     record { text = text; has = has; terms = terms; design = design; settings = accepts.settings; accepted = accepts.accepted; refines = accepts.refines }
 
-check_told : (told : List ℕ → Option (Option (List ℕ))) (name : List ℕ) (v : Variant) (a : Answered) → MayAnswer told (check_pipe_plan name v) a → a.status ≡ 0 →
+check_told : (told : List ℕ → Option (Option (List ℕ))) (name : List ℕ) (v : Variant) (a : Answer) → MayBeAnswer told (check_pipe_plan name v) a → a.status ≡ 0 →
     (file : HasAccepted v (told name)) × (a.out ≡ pipe_yes file.settings)
 unfolding check_pipe_plan has_accepted
 check_told told name v a (inl failed) none = absurd (high a 3 _ failed.1 (lit≤ tt) (omega (arith, none)))
 check_told told name v a (inr (inl long)) none = absurd (high a 7 _ long.1 (lit≤ tt) (omega (arith, none)))
 check_told told name v a (inr (inr (text, has, short, inr refuses))) none = absurd (design_high name pipe_rows text a refuses (omega (arith, none)))
 check_told told name v a (inr (inr (text, has, short, inl (terms, design, inl accepts)))) none =
-    (has_accepted v (told name) text terms a has design accepts, ap (λ (x : Answered). x.out) accepts.told)
+    (has_accepted v (told name) text terms a has design accepts, ap (λ (x : Answer). x.out) accepts.told)
 check_told told name v a (inr (inr (text, has, short, inl (terms, design, inr (inl denies))))) none =
     let one : a.status ≡ 1 = ap (λ x. x.status) denies.told in absurd (omega (arith, one, none))
 check_told told name v a (inr (inr (text, has, short, inl (terms, design, inr (inr refuses))))) none =
     absurd (control_high name pipe_rows terms a refuses (omega (arith, none)))
 
-check_accepts : (name : List ℕ) (v : Variant) (files_before files_after : FilesSeen) (out_before out_after err_before err_after : SinkSeen) →
-    Ran (Some (check_pipe name v)) files_before files_after out_before out_after err_before err_after 0 → ToldAccepted v (files_before.told name) out_before out_after
+check_accepts : (name : List ℕ) (v : Variant) (files_before files_after : FilesState) (out_before out_after err_before err_after : SinkState) →
+    CallContract (Some (check_pipe name v)) files_before files_after out_before out_after err_before err_after 0 → ToldAccepted v (files_before.told name) out_before out_after
 check_accepts name v files_before files_after out_before out_after err_before err_after ran =
     let given = ran.answer (λ three. omega (arith, three)) (λ six. omega (arith, six)) in
     let said = check_told files_before.told name v given.0 given.1.by_some (sym (given.2.status_is (λ four. omega (arith, four)))) in
-    record { file = said.0; line = subst (Took out_before.taken out_after.taken) said.1 (given.2.out (λ four. omega (arith, four))) }
+    record { file = said.0; line = subst (Appended out_before.taken out_after.taken) said.1 (given.2.out (λ four. omega (arith, four))) }
 
 -- ---- `check seq` and `check seqplus`
 
-check_seq_told : (which : Datapath) (told : List ℕ → Option (Option (List ℕ))) (name : List ℕ) (v : Variant) (a : Answered) → MayAnswer told (check_seq_plan which name v) a →
+check_seq_told : (which : Datapath) (told : List ℕ → Option (Option (List ℕ))) (name : List ℕ) (v : Variant) (a : Answer) → MayBeAnswer told (check_seq_plan which name v) a →
     a.status ≡ 0 → HasAcceptedSeq which v (told name) × (a.out ≡ codes "yes\n")
 unfolding check_seq_plan
 check_seq_told which told name v a (inl failed) none = absurd (high a 3 _ failed.1 (lit≤ tt) (omega (arith, none)))
 check_seq_told which told name v a (inr (inl long)) none = absurd (high a 7 _ long.1 (lit≤ tt) (omega (arith, none)))
 check_seq_told which told name v a (inr (inr (text, has, short, inr refuses))) none = absurd (design_high name (rows_of which) text a refuses (omega (arith, none)))
 check_seq_told which told name v a (inr (inr (text, has, short, inl (terms, design, inl accepts)))) none =
-    (record { text = text; has = has; terms = terms; design = design; accepted = accepts.accepted; refines = accepts.refines }, ap (λ (x : Answered). x.out) accepts.told)
+    (record { text = text; has = has; terms = terms; design = design; accepted = accepts.accepted; refines = accepts.refines }, ap (λ (x : Answer). x.out) accepts.told)
 check_seq_told which told name v a (inr (inr (text, has, short, inl (terms, design, inr (inl denies))))) none =
     let one : a.status ≡ 1 = ap (λ x. x.status) denies.told in absurd (omega (arith, one, none))
 check_seq_told which told name v a (inr (inr (text, has, short, inl (terms, design, inr (inr refuses))))) none =
     absurd (control_high name (rows_of which) terms a refuses (omega (arith, none)))
 
-check_seq_says : (which : Datapath) (name : List ℕ) (v : Variant) (a : Answered) (files_before : FilesSeen) (out_before out_after err_before err_after : SinkSeen) →
-    MayAnswer files_before.told (check_seq_plan which name v) a → Shows a out_before out_after err_before err_after 0 → ToldAcceptedSeq which v (files_before.told name) out_before out_after
+check_seq_says : (which : Datapath) (name : List ℕ) (v : Variant) (a : Answer) (files_before : FilesState) (out_before out_after err_before err_after : SinkState) →
+    MayBeAnswer files_before.told (check_seq_plan which name v) a → DeliversOnBoth a out_before out_after err_before err_after 0 → ToldAcceptedSeq which v (files_before.told name) out_before out_after
 check_seq_says which name v a files_before out_before out_after err_before err_after may shows =
     let said = check_seq_told which files_before.told name v a may (sym (shows.status_is (λ four. omega (arith, four)))) in
-    record { file = said.0; line = subst (Took out_before.taken out_after.taken) said.1 (shows.out (λ four. omega (arith, four))) }
+    record { file = said.0; line = subst (Appended out_before.taken out_after.taken) said.1 (shows.out (λ four. omega (arith, four))) }
 
-check_seq_accepts : (name : List ℕ) (v : Variant) (files_before files_after : FilesSeen) (out_before out_after err_before err_after : SinkSeen) →
-    Ran (Some (check_seq name v)) files_before files_after out_before out_after err_before err_after 0 → ToldAcceptedSeq Seq v (files_before.told name) out_before out_after
+check_seq_accepts : (name : List ℕ) (v : Variant) (files_before files_after : FilesState) (out_before out_after err_before err_after : SinkState) →
+    CallContract (Some (check_seq name v)) files_before files_after out_before out_after err_before err_after 0 → ToldAcceptedSeq Seq v (files_before.told name) out_before out_after
 check_seq_accepts name v files_before files_after out_before out_after err_before err_after ran =
     let given = ran.answer (λ three. omega (arith, three)) (λ six. omega (arith, six)) in
     check_seq_says Seq name v given.0 files_before out_before out_after err_before err_after given.1.by_some given.2
 
-check_plus_accepts : (name : List ℕ) (v : Variant) (files_before files_after : FilesSeen) (out_before out_after err_before err_after : SinkSeen) →
-    Ran (Some (check_plus name v)) files_before files_after out_before out_after err_before err_after 0 → ToldAcceptedSeq Plus v (files_before.told name) out_before out_after
+check_plus_accepts : (name : List ℕ) (v : Variant) (files_before files_after : FilesState) (out_before out_after err_before err_after : SinkState) →
+    CallContract (Some (check_plus name v)) files_before files_after out_before out_after err_before err_after 0 → ToldAcceptedSeq Plus v (files_before.told name) out_before out_after
 check_plus_accepts name v files_before files_after out_before out_after err_before err_after ran =
     let given = ran.answer (λ three. omega (arith, three)) (λ six. omega (arith, six)) in
     check_seq_says Plus name v given.0 files_before out_before out_after err_before err_after given.1.by_some given.2
 
 -- ---- `psim` behind a check
 
-abbrev Told : (v : Variant) (size limit : ℕ) (trace : Bool) (hcl object : Option (Option (List ℕ))) (early late : SinkSeen) (status : ℕ) → Type 0
+abbrev Told : (v : Variant) (size limit : ℕ) (trace : Bool) (hcl object : Option (Option (List ℕ))) (early late : SinkState) (status : ℕ) → Type 0
 Told v size limit trace hcl object early late status =
-    RanAccepted v size limit trace hcl object early late status ⊎ ToldNo v hcl early late status
+    CheckedRunIsRight v size limit trace hcl object early late status ⊎ AnsweredNo v hcl early late status
 
-ran_accepted : (v : Variant) (size limit : ℕ) (trace : Bool) (hcl object : Option (Option (List ℕ))) (early late : SinkSeen) (status : ℕ) (a : Answered) →
-    IsSize size → status ≡ a.status → Took early.taken late.taken a.out → (text : List ℕ) → HasBytes hcl text → (terms : List Term) → IsDesign pipe_rows text terms →
-    (verdict : List ℕ) → AcceptsPipe v terms (done 0 verdict) → (bytes : List ℕ) → HasBytes object bytes → (image : List ℕ) → object_of bytes size ≡ Ok image →
-    PipeAnswers v terms limit trace verdict image a → RanAccepted v size limit trace hcl object early late status
+ran_accepted : (v : Variant) (size limit : ℕ) (trace : Bool) (hcl object : Option (Option (List ℕ))) (early late : SinkState) (status : ℕ) (a : Answer) →
+    IsSize size → status ≡ a.status → Appended early.taken late.taken a.out → (text : List ℕ) → HasBytes hcl text → (terms : List Term) → IsDesign pipe_rows text terms →
+    (verdict : List ℕ) → AnswersYesPipe v terms (done 0 verdict) → (bytes : List ℕ) → HasBytes object bytes → (image : List ℕ) → object_of bytes size ≡ Ok image →
+    PipeAnswers v terms limit trace verdict image a → CheckedRunIsRight v size limit trace hcl object early late status
 unfolding has_accepted
 ran_accepted v size limit trace hcl object early late status a sized is took text has terms design verdict accepts bytes has_object image loads (cycles, end, runs, said) =
     let told : a.out ≡ pipe_yes accepts.settings ++ run_text trace image cycles end =
@@ -159,14 +159,14 @@ ran_accepted v size limit trace hcl object early late status a sized is took tex
       end = end;
       runs = runs;
       status_is = is ∙ ap (λ x. x.status) said;
-      told = subst (λ out. Took early.taken late.taken out) told took;
+      told = subst (λ out. Appended early.taken late.taken out) told took;
       agrees = λ pure. agree v terms image trace cycles end (accepts.refines image cycles (loaded_is_image bytes size image sized loads) pure) runs.goes;
     }
 
-psim_told : (told : List ℕ → Option (Option (List ℕ))) (name object : List ℕ) (size limit : ℕ) (trace : Bool) (v : Variant) (early late : SinkSeen) (status : ℕ)
-    (a : Answered) → IsSize size → status ≡ a.status → a.status ≤ 1 → Took early.taken late.taken a.out → MayAnswer told (psim_plan name object size limit trace true v) a →
+psim_told : (told : List ℕ → Option (Option (List ℕ))) (name object : List ℕ) (size limit : ℕ) (trace : Bool) (v : Variant) (early late : SinkState) (status : ℕ)
+    (a : Answer) → IsSize size → status ≡ a.status → a.status ≤ 1 → Appended early.taken late.taken a.out → MayBeAnswer told (psim_plan name object size limit trace true v) a →
     Told v size limit trace (told name) (told object) early late status
-unfolding psim_plan checked_plan pipe_plan after
+unfolding psim_plan checked_plan pipe_plan value_from
 psim_told told name object size limit trace v early late status a sized is low took (inl failed) = absurd (high a 3 _ failed.1 (lit≤ tt) low)
 psim_told told name object size limit trace v early late status a sized is low took (inr (inl long)) = absurd (high a 7 _ long.1 (lit≤ tt) low)
 psim_told told name object size limit trace v early late status a sized is low took (inr (inr (text, has, short, inr refuses))) =
@@ -197,11 +197,11 @@ psim_told told name object size limit trace v early late status a sized is low t
     inl (ran_accepted v size limit trace (told name) (told object) early late status a sized is took text has terms design verdict accepts bytes has_object image
     (loads_ok object (object_of bytes size) image loads) answers)
 
-psim_agrees : (name object : List ℕ) (size limit : ℕ) (trace : Bool) (v : Variant) (files_before files_after : FilesSeen)
-    (out_before out_after err_before err_after : SinkSeen) (status : ℕ) → IsSize size → status ≤ 1 →
-    Ran (Some (psim name object size limit trace true v)) files_before files_after out_before out_after err_before err_after status →
-    RanAccepted v size limit trace (files_before.told name) (files_before.told object) out_before out_after status
-    ⊎ ToldNo v (files_before.told name) out_before out_after status
+psim_agrees : (name object : List ℕ) (size limit : ℕ) (trace : Bool) (v : Variant) (files_before files_after : FilesState)
+    (out_before out_after err_before err_after : SinkState) (status : ℕ) → IsSize size → status ≤ 1 →
+    CallContract (Some (psim name object size limit trace true v)) files_before files_after out_before out_after err_before err_after status →
+    CheckedRunIsRight v size limit trace (files_before.told name) (files_before.told object) out_before out_after status
+    ⊎ AnsweredNo v (files_before.told name) out_before out_after status
 psim_agrees name object size limit trace v files_before files_after out_before out_after err_before err_after status sized low ran =
     let given = ran.answer (λ three. omega (arith, three, low)) (λ six. omega (arith, six, low)) in
     let is : status ≡ given.0.status = given.2.status_is (λ four. omega (arith, four, low)) in
@@ -210,30 +210,30 @@ psim_agrees name object size limit trace v files_before files_after out_before o
 
 -- ---- the same of the words of a call
 
-pub accepting_seq_words : (words : List (List ℕ)) (name : List ℕ) (v : Variant) (files_before files_after : FilesSeen) (out_before out_after err_before err_after : SinkSeen) →
-    form_of words ≡ Some (check_seq name v) → Ran (form_of words) files_before files_after out_before out_after err_before err_after 0 →
+pub accepting_seq_words : (words : List (List ℕ)) (name : List ℕ) (v : Variant) (files_before files_after : FilesState) (out_before out_after err_before err_after : SinkState) →
+    form_of words ≡ Some (check_seq name v) → CallContract (form_of words) files_before files_after out_before out_after err_before err_after 0 →
     ToldAcceptedSeq Seq v (files_before.told name) out_before out_after
 accepting_seq_words words name v files_before files_after out_before out_after err_before err_after is ran =
     check_seq_accepts name v files_before files_after out_before out_after err_before err_after (rw is at ran)
 
-pub accepting_plus_words : (words : List (List ℕ)) (name : List ℕ) (v : Variant) (files_before files_after : FilesSeen) (out_before out_after err_before err_after : SinkSeen) →
-    form_of words ≡ Some (check_plus name v) → Ran (form_of words) files_before files_after out_before out_after err_before err_after 0 →
+pub accepting_plus_words : (words : List (List ℕ)) (name : List ℕ) (v : Variant) (files_before files_after : FilesState) (out_before out_after err_before err_after : SinkState) →
+    form_of words ≡ Some (check_plus name v) → CallContract (form_of words) files_before files_after out_before out_after err_before err_after 0 →
     ToldAcceptedSeq Plus v (files_before.told name) out_before out_after
 accepting_plus_words words name v files_before files_after out_before out_after err_before err_after is ran =
     check_plus_accepts name v files_before files_after out_before out_after err_before err_after (rw is at ran)
 
-pub accepting_words : (words : List (List ℕ)) (name : List ℕ) (v : Variant) (files_before files_after : FilesSeen) (out_before out_after err_before err_after : SinkSeen) →
-    form_of words ≡ Some (check_pipe name v) → Ran (form_of words) files_before files_after out_before out_after err_before err_after 0 →
+pub accepting_words : (words : List (List ℕ)) (name : List ℕ) (v : Variant) (files_before files_after : FilesState) (out_before out_after err_before err_after : SinkState) →
+    form_of words ≡ Some (check_pipe name v) → CallContract (form_of words) files_before files_after out_before out_after err_before err_after 0 →
     ToldAccepted v (files_before.told name) out_before out_after
 accepting_words words name v files_before files_after out_before out_after err_before err_after is ran =
     check_accepts name v files_before files_after out_before out_after err_before err_after (rw is at ran)
 
 -- words that are a command say a size of memory
-pub agreeing_words : (words : List (List ℕ)) (name object : List ℕ) (size limit : ℕ) (trace : Bool) (v : Variant) (files_before files_after : FilesSeen)
-    (out_before out_after err_before err_after : SinkSeen) (status : ℕ) → form_of words ≡ Some (psim name object size limit trace true v) → status ≤ 1 →
-    Ran (form_of words) files_before files_after out_before out_after err_before err_after status →
-    RanAccepted v size limit trace (files_before.told name) (files_before.told object) out_before out_after status
-    ⊎ ToldNo v (files_before.told name) out_before out_after status
+pub agreeing_words : (words : List (List ℕ)) (name object : List ℕ) (size limit : ℕ) (trace : Bool) (v : Variant) (files_before files_after : FilesState)
+    (out_before out_after err_before err_after : SinkState) (status : ℕ) → form_of words ≡ Some (psim name object size limit trace true v) → status ≤ 1 →
+    CallContract (form_of words) files_before files_after out_before out_after err_before err_after status →
+    CheckedRunIsRight v size limit trace (files_before.told name) (files_before.told object) out_before out_after status
+    ⊎ AnsweredNo v (files_before.told name) out_before out_after status
 agreeing_words words name object size limit trace v files_before files_after out_before out_after err_before err_after status is low ran =
     psim_agrees name object size limit trace v files_before files_after out_before out_after err_before err_after status
     (form_legal words (psim name object size limit trace true v) is).2 low (rw is at ran)

@@ -1,7 +1,7 @@
 -- What `big` answers of an accepted file.
 use Rattle.std.proofs.Common.{◌≡◌, ◌≢◌, inl, inr, ℕ, ◌+◌, ◌≤◌, true, List, [], ◌∷◌, length, Option, Some, None, IfSome, refl, sym, ap, subst, ◌∙◌, Result, Ok, arith}
 use Rattle.wb_io.specs.Files.{HasBytes, HasMore}
-use Rattle.wb_io.specs.Sinks.{Took}
+use Rattle.wb_io.specs.Sinks.{Appended}
 use Rattle.y86_base.specs.declared.parts.Variant.{Variant}
 use Rattle.hcl_read.proofs.LawLemmas.{at_most_one_file}
 use Rattle.hcl_read.proofs.OneFault.{file_has_no_fault}
@@ -15,22 +15,22 @@ use Rattle.hcl_order.specs.Dependence.{Depends, FirstCycle}
 use Rattle.control_check.specs.PipeVerdicts.{RefinesPipe}
 use Rattle.dp_signals.specs.PipeTable.{pipe_rows}
 use Rattle.prog_gen.specs.Programs.{program}
-use Rattle.program_runs.proofs.Images.{is_image}
-use Rattle.program_runs.proofs.Whole.{pure}
-use Rattle.pure_runs.proofs.Near.{near_from_pure}
-use Rattle.pipe_runs.proofs.Refined.{runs_alike}
-use Rattle.pipe_runs.specs.BothWays.{RunsAlike}
-use Rattle.pipe_runs.specs.declared.both.BothWays.{BothWays}
+use Rattle.prog_laws.proofs.Images.{is_image}
+use Rattle.prog_laws.proofs.Whole.{pure}
+use Rattle.yis_pure_runs.proofs.Near.{near_from_pure}
+use Rattle.prog_cosim.proofs.Refined.{runs_alike}
+use Rattle.prog_cosim.specs.Cosimulation.{CosimulationAgrees}
+use Rattle.prog_cosim.specs.declared.both.CosimResult.{CosimResult}
 use Rattle.y86_words.proofs.Legal.{form_legal}
 use Rattle.y86_words.specs.Forms.{big, form_of}
-use Rattle.y86_words.specs.Wording.{IsLegal}
-use Rattle.y86_cli.specs.Agreement.{HasAccepted}
-use Rattle.run_commands.specs.Answers.{big_plan}
-use Rattle.run_commands.specs.Big.{BigAnswers, ToldSame, big_line, big_status}
-use Rattle.command_plans.specs.Designs.{IsDesign, RefusesDesign}
-use Rattle.command_plans.specs.Does.{FilesSeen, SinkSeen}
-use Rattle.command_plans.specs.Plan.{Answered, MayAnswer, done}
-use Rattle.y86_cli.specs.Ran.{Ran}
+use Rattle.y86_words.specs.Wording.{IsInRange}
+use Rattle.y86_cli.specs.CheckedRuns.{HasAccepted}
+use Rattle.cli_runs.specs.Answers.{big_plan}
+use Rattle.cli_runs.specs.Big.{BigAnswers, AnsweredSame, big_line, big_status}
+use Rattle.cli_plans.specs.Designs.{IsDesign, RefusesDesign}
+use Rattle.cli_plans.specs.PlanFollowing.{FilesState, SinkState}
+use Rattle.cli_plans.specs.Plan.{Answer, MayBeAnswer, done}
+use Rattle.y86_cli.specs.CallContract.{CallContract}
 
 -- ---- the one design of a text
 
@@ -44,7 +44,7 @@ a_cycle : (needed : ℕ → List ℕ) (cycle : List ℕ) → FirstCycle needed c
 a_cycle needed [] first acyclic = first
 a_cycle needed (row ∷ between) first acyclic = acyclic row (between, first.walks)
 
-pub not_refused : (name : List ℕ) (rows : List Row) (text : List ℕ) (terms : List Term) (a : Answered) → IsDesign rows text terms → RefusesDesign name rows text a → ⊥
+pub not_refused : (name : List ℕ) (rows : List Row) (text : List ℕ) (terms : List Term) (a : Answer) → IsDesign rows text terms → RefusesDesign name rows text a → ⊥
 not_refused name rows text terms a d (inl (fault, is, told)) = file_has_no_fault text d.file fault d.reads is
 not_refused name rows text terms a d (inr (inl unbound)) =
     let one : bound rows d.file.items ≡ bound rows unbound.file.items = ap (λ (f : File). bound rows f.items) (at_most_one_file text d.file unbound.file d.reads unbound.reads) in
@@ -56,12 +56,12 @@ not_refused name rows text terms a d (inr (inr unordered)) =
 
 -- ---- `big` of an accepted file
 
-pub record Alike (n : ℕ) (a : Answered) : Type 0 where
-  pub both : BothWays
-  pub alike : RunsAlike n both
+pub record Alike (n : ℕ) (a : Answer) : Type 0 where
+  pub both : CosimResult
+  pub alike : CosimulationAgrees n both
   pub is : a ≡ done (big_status both) (big_line n both)
 
-big_alike : (v : Variant) (terms : List Term) (n : ℕ) (a : Answered) → 1 ≤ n → n ≤ 100000 → RefinesPipe v terms → BigAnswers v terms n a → Alike n a
+big_alike : (v : Variant) (terms : List Term) (n : ℕ) (a : Answer) → 1 ≤ n → n ≤ 100000 → RefinesPipe v terms → BigAnswers v terms n a → Alike n a
 big_alike v terms n a least most refines (both, goes, is) =
     record { both = both; alike = runs_alike v terms n both least most (λ k. refines (program n) k (is_image n least most) (near_from_pure v (program n) k (pure v n k least most))) goes; is = is }
 
@@ -79,8 +79,8 @@ not_long (Some known) text limit is short more =
     let same : known ≡ Some text = cc (is) in
     omega (arith, rw same at more, short)
 
-big_told : (told : List ℕ → Option (Option (List ℕ))) (n : ℕ) (name : List ℕ) (v : Variant) (a : Answered) (text : List ℕ) (terms : List Term) → 1 ≤ n → n ≤ 100000 →
-    told name ≡ Some (Some text) → length text ≤ 65536 → IsDesign pipe_rows text terms → RefinesPipe v terms → MayAnswer told (big_plan n name v) a → Alike n a
+big_told : (told : List ℕ → Option (Option (List ℕ))) (n : ℕ) (name : List ℕ) (v : Variant) (a : Answer) (text : List ℕ) (terms : List Term) → 1 ≤ n → n ≤ 100000 →
+    told name ≡ Some (Some text) → length text ≤ 65536 → IsDesign pipe_rows text terms → RefinesPipe v terms → MayBeAnswer told (big_plan n name v) a → Alike n a
 unfolding big_plan
 big_told told n name v a text terms least most is short design refines (inl failed) = absurd (not_missing (told name) text is failed.0)
 big_told told n name v a text terms least most is short design refines (inr (inl long)) = absurd (not_long (told name) text 65536 is short long.0)
@@ -92,19 +92,19 @@ big_told told n name v a text terms least most is short design refines (inr (inr
     let one : others ≡ terms = one_design pipe_rows text others terms (subst (λ (x : List ℕ). IsDesign pipe_rows x others) (sym same) other_design) design in
     big_alike v terms n a least most refines (subst (λ (x : List Term). BigAnswers v x n a) one answers)
 
-line_is : (n : ℕ) (both : BothWays) → RunsAlike n both → big_line n both ≡ big_line n (record { steps = n + 1; cycles = both.cycles; same = true; halted = true })
+line_is : (n : ℕ) (both : CosimResult) → CosimulationAgrees n both → big_line n both ≡ big_line n (record { steps = n + 1; cycles = both.cycles; same = true; halted = true })
 unfolding big_line
 line_is n both alike = rw (alike.steps, alike.same) refl
 
-status_of_alike : (n : ℕ) (both : BothWays) → RunsAlike n both → big_status both ≡ 0
+status_of_alike : (n : ℕ) (both : CosimResult) → CosimulationAgrees n both → big_status both ≡ 0
 status_of_alike n both alike = rw (alike.same, alike.halted) refl
 
-pub told_same : (words : List (List ℕ)) (n : ℕ) (name : List ℕ) (v : Variant) (files_before files_after : FilesSeen) (out_before out_after err_before err_after : SinkSeen) (status : ℕ)
+pub told_same : (words : List (List ℕ)) (n : ℕ) (name : List ℕ) (v : Variant) (files_before files_after : FilesState) (out_before out_after err_before err_after : SinkState) (status : ℕ)
     (text : List ℕ) → form_of words ≡ Some (big n name v) → files_before.told name ≡ Some (Some text) → length text ≤ 65536 → HasAccepted v (Some (Some text)) →
-    Ran (form_of words) files_before files_after out_before out_after err_before err_after status → status ≢ 3 → status ≢ 4 → status ≢ 6 → ToldSame n out_before out_after status
+    CallContract (form_of words) files_before files_after out_before out_after err_before err_after status → status ≢ 3 → status ≢ 4 → status ≢ 6 → AnsweredSame n out_before out_after status
 told_same words n name v files_before files_after out_before out_after err_before err_after status text is told short accepted ran three four six =
-    let legal : IsLegal (big n name v) = form_legal words (big n name v) is in
-    let ran_big : Ran (Some (big n name v)) files_before files_after out_before out_after err_before err_after status = rw is at ran in
+    let legal : IsInRange (big n name v) = form_legal words (big n name v) is in
+    let ran_big : CallContract (Some (big n name v)) files_before files_after out_before out_after err_before err_after status = rw is at ran in
     let given = ran_big.answer three six in
     let same : text ≡ accepted.text = same_bytes (Some (Some text)) text accepted.text refl accepted.has in
     let design : IsDesign pipe_rows text accepted.terms = subst (λ (x : List ℕ). IsDesign pipe_rows x accepted.terms) (sym same) accepted.design in
@@ -114,5 +114,5 @@ told_same words n name v files_before files_after out_before out_after err_befor
       cycles = found.both.cycles;
       in_time = found.alike.cycles;
       status_is = given.2.status_is four ∙ (ap (λ x. x.status) found.is ∙ status_of_alike n found.both found.alike);
-      told = subst (λ (line : List ℕ). Took out_before.taken out_after.taken line) (ap (λ x. x.out) found.is ∙ line_is n found.both found.alike) (given.2.out four);
+      told = subst (λ (line : List ℕ). Appended out_before.taken out_after.taken line) (ap (λ x. x.out) found.is ∙ line_is n found.both found.alike) (given.2.out four);
     }

@@ -1,24 +1,24 @@
 -- What an answer to `check pipe` with `--cert`, or to `recheck`, says of the run of instructions.
 use Rattle.std.proofs.Common.{◌≡◌, ◌⊎◌, ℕ, ◌≤◌, List, length, refl, sym, ap, subst, inl, inr, Option, Some, lit≤, arith}
-use Rattle.cert_log.specs.Files.{IsCertificate, holds}
+use Rattle.cert_log.specs.Files.{IsCertificate, holds_line}
 use Rattle.dp_signals.specs.PipeTable.{pipe_rows}
 use Rattle.hcl_types.specs.declared.term.Term.{Term}
-use Rattle.wb_io.specs.Sinks.{Took, TookPart}
-use Rattle.command_plans.specs.Designs.{RefusesDesign}
+use Rattle.wb_io.specs.Sinks.{Appended, AppendedPrefix}
+use Rattle.cli_plans.specs.Designs.{RefusesDesign}
 use Rattle.y86_base.specs.declared.parts.Variant.{Variant}
 use Rattle.y86_words.specs.Forms.{certify_pipe, form_of, recheck}
-use Rattle.y86_cli.specs.Agreement.{HasAccepted, ToldCertified, ToldCertifiedPart, WroteCertificate}
-use Rattle.obligation_commands.specs.Answers.{certificate_plan, certify_pipe_plan, recheck_plan}
-use Rattle.obligation_commands.specs.Certified.{HasCertified}
-use Rattle.check_commands.specs.Checks.{RefusesControl}
-use Rattle.command_plans.specs.Does.{FilesSeen, SinkSeen}
-use Rattle.command_plans.specs.Plan.{Answered, MayAnswer, done, refused}
-use Rattle.y86_cli.specs.Ran.{Ran}
+use Rattle.y86_cli.specs.CheckedRuns.{HasAccepted, ToldCertified, ToldCertifiedPart, WroteCertificate}
+use Rattle.cli_obligations.specs.Answers.{certificate_plan, certify_pipe_plan, recheck_plan}
+use Rattle.cli_obligations.specs.Certified.{HasCertified}
+use Rattle.cli_checks.specs.Checks.{RefusesControl}
+use Rattle.cli_plans.specs.PlanFollowing.{FilesState, SinkState}
+use Rattle.cli_plans.specs.Plan.{Answer, MayBeAnswer, done, refused}
+use Rattle.y86_cli.specs.CallContract.{CallContract}
 use Rattle.y86_cli.proofs.Agreement.{control_high, design_high, high}
 
 -- ---- what an answer with status 0 says
 
-certify_told : (told : List ℕ → Option (Option (List ℕ))) (name : List ℕ) (v : Variant) (a : Answered) → MayAnswer told (certify_pipe_plan name v) a → a.status ≡ 0 →
+certify_told : (told : List ℕ → Option (Option (List ℕ))) (name : List ℕ) (v : Variant) (a : Answer) → MayBeAnswer told (certify_pipe_plan name v) a → a.status ≡ 0 →
     (file : HasAccepted v (told name)) × (text : List ℕ) × IsCertificate v file.terms file.settings text × (a.out ≡ text)
 unfolding certify_pipe_plan
 certify_told told name v a (inl failed) none = absurd (high a 3 _ failed.1 (lit≤ tt) (omega (arith, none)))
@@ -28,46 +28,46 @@ certify_told told name v a (inr (inr (text, has, short, inl (terms, design, inl 
   record { text = text; has = has; terms = terms; design = design; settings = certifies.settings; accepted = certifies.accepted; refines = certifies.refines },
   certifies.text,
   certifies.certificate,
-  ap (λ (x : Answered). x.out) certifies.told,
+  ap (λ (x : Answer). x.out) certifies.told,
 )
 certify_told told name v a (inr (inr (text, has, short, inl (terms, design, inr (inl denies))))) none =
     let one : a.status ≡ 1 = ap (λ x. x.status) denies.told in absurd (omega (arith, one, none))
 certify_told told name v a (inr (inr (text, has, short, inl (terms, design, inr (inr refuses))))) none =
     absurd (control_high name pipe_rows terms a refuses (omega (arith, none)))
 
-certify_accepts : (name : List ℕ) (v : Variant) (files_before files_after : FilesSeen) (out_before out_after err_before err_after : SinkSeen) →
-    Ran (Some (certify_pipe name v)) files_before files_after out_before out_after err_before err_after 0 → WroteCertificate v (files_before.told name) out_before out_after
+certify_accepts : (name : List ℕ) (v : Variant) (files_before files_after : FilesState) (out_before out_after err_before err_after : SinkState) →
+    CallContract (Some (certify_pipe name v)) files_before files_after out_before out_after err_before err_after 0 → WroteCertificate v (files_before.told name) out_before out_after
 certify_accepts name v files_before files_after out_before out_after err_before err_after ran =
     let given = ran.answer (λ three. omega (arith, three)) (λ six. omega (arith, six)) in
     let said = certify_told files_before.told name v given.0 given.1.by_some (sym (given.2.status_is (λ four. omega (arith, four)))) in
-    record { file = said.0; text = said.1; certificate = said.2; went = subst (Took out_before.taken out_after.taken) said.3 (given.2.out (λ four. omega (arith, four))) }
+    record { file = said.0; text = said.1; certificate = said.2; went = subst (Appended out_before.taken out_after.taken) said.3 (given.2.out (λ four. omega (arith, four))) }
 
 -- ---- the answers of `recheck`
 
 -- a refusal, with a status from 2 on
-pub record IsRefusal (a : Answered) : Type 0 where
+pub record IsRefusal (a : Answer) : Type 0 where
   pub status : ℕ
   pub line : List ℕ
   pub large : 2 ≤ status
   pub is : a ≡ refused status line
 
-refusal : (a : Answered) (n : ℕ) (line : List ℕ) → 2 ≤ n → a ≡ refused n line → IsRefusal a
+refusal : (a : Answer) (n : ℕ) (line : List ℕ) → 2 ≤ n → a ≡ refused n line → IsRefusal a
 refusal a n line large is = record { status = n; line = line; large = large; is = is }
 
-design_refusal : (name text : List ℕ) (a : Answered) → RefusesDesign name pipe_rows text a → IsRefusal a
+design_refusal : (name text : List ℕ) (a : Answer) → RefusesDesign name pipe_rows text a → IsRefusal a
 design_refusal name text a (inl unread) = refusal a 5 _ (lit≤ tt) unread.2
 design_refusal name text a (inr (inl unbound)) = refusal a 5 _ (lit≤ tt) unbound.told
 design_refusal name text a (inr (inr unordered)) = refusal a 5 _ (lit≤ tt) unordered.told
 
-control_refusal : (name : List ℕ) (terms : List Term) (a : Answered) → RefusesControl name pipe_rows terms a → IsRefusal a
+control_refusal : (name : List ℕ) (terms : List Term) (a : Answer) → RefusesControl name pipe_rows terms a → IsRefusal a
 control_refusal name terms a (inl mixed) = refusal a 5 _ (lit≤ tt) mixed.told
 control_refusal name terms a (inr over) = refusal a 5 _ (lit≤ tt) over.told
 
 -- `recheck` tells an accepted certificate, or refuses
-abbrev pub Rechecked : Variant → Option (Option (List ℕ)) → Option (Option (List ℕ)) → Answered → Type 0
-Rechecked v told told_cert a = ((file : HasCertified v told told_cert) × (a ≡ done 0 (holds file.settings))) ⊎ IsRefusal a
+abbrev pub Rechecked : Variant → Option (Option (List ℕ)) → Option (Option (List ℕ)) → Answer → Type 0
+Rechecked v told told_cert a = ((file : HasCertified v told told_cert) × (a ≡ done 0 (holds_line file.settings))) ⊎ IsRefusal a
 
-recheck_told : (told : List ℕ → Option (Option (List ℕ))) (name cert : List ℕ) (v : Variant) (a : Answered) → MayAnswer told (recheck_plan name cert v) a →
+recheck_told : (told : List ℕ → Option (Option (List ℕ))) (name cert : List ℕ) (v : Variant) (a : Answer) → MayBeAnswer told (recheck_plan name cert v) a →
     Rechecked v (told name) (told cert) a
 unfolding recheck_plan certificate_plan
 recheck_told told name cert v a (inl failed) = inr (refusal a 3 _ (lit≤ tt) failed.1)
@@ -96,64 +96,64 @@ recheck_told told name cert v a (inr (inr (text, has, short, inl (terms, design,
 recheck_told told name cert v a (inr (inr (text, has, short, inl (terms, design, inl (atoms, are, inr (inr (bytes, has_cert, short_cert, inr (inr refuses)))))))) =
     inr (refusal a 5 _ (lit≤ tt) refuses.told)
 
-recheck_whole : (v : Variant) (told told_cert : Option (Option (List ℕ))) (a : Answered) (before after : SinkSeen) → Rechecked v told told_cert a → a.status ≡ 0 →
-    Took before.taken after.taken a.out → ToldCertified v told told_cert before after
+recheck_whole : (v : Variant) (told told_cert : Option (Option (List ℕ))) (a : Answer) (before after : SinkState) → Rechecked v told told_cert a → a.status ≡ 0 →
+    Appended before.taken after.taken a.out → ToldCertified v told told_cert before after
 recheck_whole v told told_cert a before after (inl said) none took =
-    record { file = said.0; line = subst (Took before.taken after.taken) (ap (λ (x : Answered). x.out) said.1) took }
+    record { file = said.0; line = subst (Appended before.taken after.taken) (ap (λ (x : Answer). x.out) said.1) took }
 recheck_whole v told told_cert a before after (inr r) none took =
-    let same : a.status ≡ r.status = ap (λ (x : Answered). x.status) r.is in absurd (omega (arith, same, none, r.large))
+    let same : a.status ≡ r.status = ap (λ (x : Answer). x.status) r.is in absurd (omega (arith, same, none, r.large))
 
-recheck_part : (v : Variant) (told told_cert : Option (Option (List ℕ))) (a : Answered) (before after : SinkSeen) → Rechecked v told told_cert a →
-    TookPart before.taken after.taken a.out → ToldCertifiedPart v told told_cert before after
+recheck_part : (v : Variant) (told told_cert : Option (Option (List ℕ))) (a : Answer) (before after : SinkState) → Rechecked v told told_cert a →
+    AppendedPrefix before.taken after.taken a.out → ToldCertifiedPart v told told_cert before after
 recheck_part v told told_cert a before after (inl said) took =
-    record { file = said.0; part = subst (TookPart before.taken after.taken) (ap (λ (x : Answered). x.out) said.1) took }
+    record { file = said.0; part = subst (AppendedPrefix before.taken after.taken) (ap (λ (x : Answer). x.out) said.1) took }
 recheck_part v told told_cert a before after (inr r) took =
-    let none : length a.out ≡ 0 = ap (λ (x : Answered). length x.out) r.is in absurd (omega (arith, took.1, none))
+    let none : length a.out ≡ 0 = ap (λ (x : Answer). length x.out) r.is in absurd (omega (arith, took.1, none))
 
-recheck_not_one : (v : Variant) (told told_cert : Option (Option (List ℕ))) (a : Answered) → Rechecked v told told_cert a → a.status ≡ 1 → ⊥
-recheck_not_one v told told_cert a (inl said) one = let same : a.status ≡ 0 = ap (λ (x : Answered). x.status) said.1 in omega (arith, same, one)
+recheck_not_one : (v : Variant) (told told_cert : Option (Option (List ℕ))) (a : Answer) → Rechecked v told told_cert a → a.status ≡ 1 → ⊥
+recheck_not_one v told told_cert a (inl said) one = let same : a.status ≡ 0 = ap (λ (x : Answer). x.status) said.1 in omega (arith, same, one)
 recheck_not_one v told told_cert a (inr r) one =
-    let same : a.status ≡ r.status = ap (λ (x : Answered). x.status) r.is in omega (arith, same, one, r.large)
+    let same : a.status ≡ r.status = ap (λ (x : Answer). x.status) r.is in omega (arith, same, one, r.large)
 
-module _ (name cert : List ℕ) (v : Variant) (files_before files_after : FilesSeen) (out_before out_after err_before err_after : SinkSeen) where
-  recheck_accepts : Ran (Some (recheck name cert v)) files_before files_after out_before out_after err_before err_after 0 →
+module _ (name cert : List ℕ) (v : Variant) (files_before files_after : FilesState) (out_before out_after err_before err_after : SinkState) where
+  recheck_accepts : CallContract (Some (recheck name cert v)) files_before files_after out_before out_after err_before err_after 0 →
       ToldCertified v (files_before.told name) (files_before.told cert) out_before out_after
   recheck_accepts ran =
       let given = ran.answer (λ three. omega (arith, three)) (λ six. omega (arith, six)) in
       recheck_whole v (files_before.told name) (files_before.told cert) given.0 out_before out_after (recheck_told files_before.told name cert v given.0 given.1.by_some)
       (sym (given.2.status_is (λ four. omega (arith, four)))) (given.2.out (λ four. omega (arith, four)))
 
-  recheck_breaks : Ran (Some (recheck name cert v)) files_before files_after out_before out_after err_before err_after 4 →
+  recheck_breaks : CallContract (Some (recheck name cert v)) files_before files_after out_before out_after err_before err_after 4 →
       ToldCertifiedPart v (files_before.told name) (files_before.told cert) out_before out_after
   recheck_breaks ran =
       let given = ran.answer (λ three. omega (arith, three)) (λ six. omega (arith, six)) in
       recheck_part v (files_before.told name) (files_before.told cert) given.0 out_before out_after (recheck_told files_before.told name cert v given.0 given.1.by_some) (given.2.part refl)
 
-  recheck_one : Ran (Some (recheck name cert v)) files_before files_after out_before out_after err_before err_after 1 → ⊥
+  recheck_one : CallContract (Some (recheck name cert v)) files_before files_after out_before out_after err_before err_after 1 → ⊥
   recheck_one ran =
       let given = ran.answer (λ three. omega (arith, three)) (λ six. omega (arith, six)) in
       recheck_not_one v (files_before.told name) (files_before.told cert) given.0 (recheck_told files_before.told name cert v given.0 given.1.by_some)
       (sym (given.2.status_is (λ four. omega (arith, four))))
 
-pub certifying_words : (words : List (List ℕ)) (name : List ℕ) (v : Variant) (files_before files_after : FilesSeen) (out_before out_after err_before err_after : SinkSeen) →
-    form_of words ≡ Some (certify_pipe name v) → Ran (form_of words) files_before files_after out_before out_after err_before err_after 0 →
+pub certifying_words : (words : List (List ℕ)) (name : List ℕ) (v : Variant) (files_before files_after : FilesState) (out_before out_after err_before err_after : SinkState) →
+    form_of words ≡ Some (certify_pipe name v) → CallContract (form_of words) files_before files_after out_before out_after err_before err_after 0 →
     WroteCertificate v (files_before.told name) out_before out_after
 certifying_words words name v files_before files_after out_before out_after err_before err_after is ran =
     certify_accepts name v files_before files_after out_before out_after err_before err_after (rw is at ran)
 
-pub rechecking_words : (words : List (List ℕ)) (name cert : List ℕ) (v : Variant) (files_before files_after : FilesSeen) (out_before out_after err_before err_after : SinkSeen) →
-    form_of words ≡ Some (recheck name cert v) → Ran (form_of words) files_before files_after out_before out_after err_before err_after 0 →
+pub rechecking_words : (words : List (List ℕ)) (name cert : List ℕ) (v : Variant) (files_before files_after : FilesState) (out_before out_after err_before err_after : SinkState) →
+    form_of words ≡ Some (recheck name cert v) → CallContract (form_of words) files_before files_after out_before out_after err_before err_after 0 →
     ToldCertified v (files_before.told name) (files_before.told cert) out_before out_after
 rechecking_words words name cert v files_before files_after out_before out_after err_before err_after is ran =
     recheck_accepts name cert v files_before files_after out_before out_after err_before err_after (rw is at ran)
 
-pub breaking_words : (words : List (List ℕ)) (name cert : List ℕ) (v : Variant) (files_before files_after : FilesSeen) (out_before out_after err_before err_after : SinkSeen) →
-    form_of words ≡ Some (recheck name cert v) → Ran (form_of words) files_before files_after out_before out_after err_before err_after 4 →
+pub breaking_words : (words : List (List ℕ)) (name cert : List ℕ) (v : Variant) (files_before files_after : FilesState) (out_before out_after err_before err_after : SinkState) →
+    form_of words ≡ Some (recheck name cert v) → CallContract (form_of words) files_before files_after out_before out_after err_before err_after 4 →
     ToldCertifiedPart v (files_before.told name) (files_before.told cert) out_before out_after
 breaking_words words name cert v files_before files_after out_before out_after err_before err_after is ran =
     recheck_breaks name cert v files_before files_after out_before out_after err_before err_after (rw is at ran)
 
-pub never_one_words : (words : List (List ℕ)) (name cert : List ℕ) (v : Variant) (files_before files_after : FilesSeen) (out_before out_after err_before err_after : SinkSeen) →
-    form_of words ≡ Some (recheck name cert v) → Ran (form_of words) files_before files_after out_before out_after err_before err_after 1 → ⊥
+pub never_one_words : (words : List (List ℕ)) (name cert : List ℕ) (v : Variant) (files_before files_after : FilesState) (out_before out_after err_before err_after : SinkState) →
+    form_of words ≡ Some (recheck name cert v) → CallContract (form_of words) files_before files_after out_before out_after err_before err_after 1 → ⊥
 never_one_words words name cert v files_before files_after out_before out_after err_before err_after is ran =
     recheck_one name cert v files_before files_after out_before out_after err_before err_after (rw is at ran)

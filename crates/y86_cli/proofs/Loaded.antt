@@ -4,8 +4,8 @@ use Rattle.std.proofs.lemmas.Bool.Decides.{nat_tests}
 use Rattle.std.proofs.lemmas.List.Elements.{All-append, All-cons, All-drop, All-nil, All-replicate, All-take}
 use Rattle.y86_base.specs.Image.{AreBytes, IsImage, IsSize}
 use Rattle.y86_base.specs.Text.{hex_value, lines}
-use Rattle.assembly_laws.proofs.LoadedLines.{IsPut, is_put}
-use Rattle.assembly_laws.proofs.LoadedText.{has_its_size}
+use Rattle.yas_laws.proofs.LoadedLines.{IsPut, is_put}
+use Rattle.yas_laws.proofs.LoadedText.{has_its_size}
 use Rattle.yo_object.specs.ObjectText.{after_line, bytes_of_pairs, object_of, put_line, put_lines}
 use Rattle.yo_object.specs.declared.object.YoWhy.{YoWhy}
 

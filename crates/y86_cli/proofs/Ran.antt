@@ -1,24 +1,24 @@
 -- The clauses of the whole program, from what the code did: once for all commands.
 use Rattle.std.proofs.Common.{◌≡◌, ◌≢◌, ◌⊎◌, ℕ, ◌≤◌, List, [], refl, sym, ap, subst, inl, inr, Option, Some, None, Result, Ok, Err, lit≤, arith, ◌∙◌}
 use Rattle.wb_io.specs.Causes.{counted}
-use Rattle.wb_io.specs.Sinks.{Took}
+use Rattle.wb_io.specs.Sinks.{Appended}
 use Rattle.wb_io.proofs.Writes.{took_nothing}
-use Rattle.command_plans.specs.declared.stop.Stop as code
-use Rattle.command_plans.specs.declared.stop.Stop.TheVariants.{Usage, Read, Write, Refused, Memory, TooLong}
+use Rattle.cli_plans.specs.declared.stop_reason.StopReason as code
+use Rattle.cli_plans.specs.declared.stop_reason.StopReason.TheVariants.{Usage, Read, Write, Refused, Memory, TooLong}
 use Rattle.y86_cli.specs.Answers.{plan_of}
-use Rattle.command_plans.specs.Came.{IsAllowed, Came}
-use Rattle.command_plans.specs.Does.{FilesSeen, NoReadFailed, SinkSeen, StopsAtRead, StopsReading, Does}
+use Rattle.cli_plans.specs.CallOutcome.{IsPermitted, CallOutcome}
+use Rattle.cli_plans.specs.PlanFollowing.{FilesState, NoReadFailed, SinkState, StopsAtRead, StopsReading, FollowsPlan}
 use Rattle.y86_words.specs.Forms.{Command}
-use Rattle.command_plans.specs.Lines.{memory_line, read_fault_line, usage_line}
-use Rattle.command_plans.specs.Plan.{Answered, Plan, says, reads, gives, Tells, IsFaultless, refused}
-use Rattle.y86_cli.specs.Ran.{Ended, ReadFailed, Ran, Shows}
-use Rattle.command_plans.specs.Calls.{Told}
-use Rattle.command_plans.specs.Stops.{line_of, read_name, status_of}
-use Rattle.command_plans.proofs.Came.{came, faultless_low}
+use Rattle.cli_plans.specs.Lines.{memory_line, read_fault_line, usage_line}
+use Rattle.cli_plans.specs.Plan.{Answer, Plan, answer_in, reads, value_in, HasContents, IsFaultless, refused}
+use Rattle.y86_cli.specs.CallContract.{CommandOutcome, ReadFailed, CallContract, DeliversOnBoth}
+use Rattle.cli_plans.specs.Calls.{WroteError}
+use Rattle.cli_plans.specs.Stops.{line_of, read_name, status_of}
+use Rattle.cli_plans.proofs.Came.{came, faultless_low}
 
 -- ---- stops alone
 
-stop_high : (stop : code.Stop) → 2 ≤ status_of stop
+stop_high : (stop : code.StopReason) → 2 ≤ status_of stop
 stop_high Usage = lit≤ tt
 stop_high (Read name) = lit≤ tt
 stop_high Write = lit≤ tt
@@ -26,7 +26,7 @@ stop_high (Refused name why) = lit≤ tt
 stop_high Memory = lit≤ tt
 stop_high (TooLong name limit) = lit≤ tt
 
-stop_low : (stop : code.Stop) → status_of stop ≤ 7
+stop_low : (stop : code.StopReason) → status_of stop ≤ 7
 stop_low Usage = lit≤ tt
 stop_low (Read name) = lit≤ tt
 stop_low Write = lit≤ tt
@@ -34,7 +34,7 @@ stop_low (Refused name why) = lit≤ tt
 stop_low Memory = lit≤ tt
 stop_low (TooLong name limit) = lit≤ tt
 
-named_read : (stop : code.Stop) (name : List ℕ) → read_name stop ≡ Some name → (status_of stop ≡ 3) × (line_of stop ≡ read_fault_line name)
+named_read : (stop : code.StopReason) (name : List ℕ) → read_name stop ≡ Some name → (status_of stop ≡ 3) × (line_of stop ≡ read_fault_line name)
 named_read Usage name e = absurd (cc)
 named_read (Read other) name e = let same : other.now ≡ name = cc in (refl, ap read_fault_line same)
 named_read Write name e = absurd (cc)
@@ -42,7 +42,7 @@ named_read (Refused other why) name e = absurd (cc)
 named_read Memory name e = absurd (cc)
 named_read (TooLong other limit) name e = absurd (cc)
 
-line_of_memory : (stop : code.Stop) → status_of stop ≡ 6 → line_of stop ≡ memory_line
+line_of_memory : (stop : code.StopReason) → status_of stop ≡ 6 → line_of stop ≡ memory_line
 line_of_memory Usage e = absurd (cc)
 line_of_memory (Read name) e = absurd (cc)
 line_of_memory Write e = absurd (cc)
@@ -52,11 +52,11 @@ line_of_memory (TooLong name limit) e = absurd (cc)
 
 -- ---- a call that doesn't end with a failed read comes without one
 
-abbrev EndsElse : Result ℕ code.Stop → Type 0
+abbrev EndsElse : Result ℕ code.StopReason → Type 0
 EndsElse (Ok status) = Unit {0}
 EndsElse (Err stop) = status_of stop ≢ 3
 
-stop_none : (name : List ℕ) (limit : ℕ) (files_before files_after : FilesSeen) (stop : code.Stop) → StopsAtRead name limit files_before files_after stop →
+stop_none : (name : List ℕ) (limit : ℕ) (files_before files_after : FilesState) (stop : code.StopReason) → StopsAtRead name limit files_before files_after stop →
     status_of stop ≢ 3 → NoReadFailed files_before files_after
 stop_none name limit files_before files_after Usage s other = absurd s
 stop_none name limit files_before files_after (Read file) s other = absurd (other refl)
@@ -65,43 +65,43 @@ stop_none name limit files_before files_after (Refused file why) s other = absur
 stop_none name limit files_before files_after Memory s other = s
 stop_none name limit files_before files_after (TooLong file n) s other = s.3
 
-reading_none : (name : List ℕ) (limit : ℕ) (files_before files_after : FilesSeen) (before after : SinkSeen) (result : Result ℕ code.Stop) →
+reading_none : (name : List ℕ) (limit : ℕ) (files_before files_after : FilesState) (before after : SinkState) (result : Result ℕ code.StopReason) →
     StopsReading name limit files_before files_after before after result → EndsElse result → NoReadFailed files_before files_after
 reading_none name limit files_before files_after before after (Ok status) s other = absurd s
 reading_none name limit files_before files_after before after (Err stop) s other = stop_none name limit files_before files_after stop s.0 other
 
-none_failed : (plan : Plan) (files_before files_after : FilesSeen) (before after : SinkSeen) (result : Result ℕ code.Stop) →
-    Does plan files_before files_after before after result → EndsElse result → NoReadFailed files_before files_after
-unfolding Does
-none_failed (says P) files_before files_after before after result d other = d.1
+none_failed : (plan : Plan) (files_before files_after : FilesState) (before after : SinkState) (result : Result ℕ code.StopReason) →
+    FollowsPlan plan files_before files_after before after result → EndsElse result → NoReadFailed files_before files_after
+unfolding FollowsPlan
+none_failed (answer_in P) files_before files_after before after result d other = d.1
 none_failed (reads name limit next) files_before files_after before after result (inl s) other =
     reading_none name limit files_before files_after before after result s other
 none_failed (reads name limit next) files_before files_after before after result (inr more) other =
     none_failed (next more.0) files_before files_after before after result more.3 other
-none_failed (gives P E next) files_before files_after before after result (inl more) other =
+none_failed (value_in P E next) files_before files_after before after result (inl more) other =
     none_failed (next more.0) files_before files_after before after result more.2 other
-none_failed (gives P E next) files_before files_after before after result (inr s) other = s.1
+none_failed (value_in P E next) files_before files_after before after result (inr s) other = s.1
 
 -- ---- texts
 
-told_line : (before after : SinkSeen) (text other : List ℕ) → text ≡ other → Told before after text → Told before after other
-told_line before after text other e told = let P : List ℕ → Type 0 = λ t. Told before after t in subst P e told
+told_line : (before after : SinkState) (text other : List ℕ) → text ≡ other → WroteError before after text → WroteError before after other
+told_line before after text other e told = let P : List ℕ → Type 0 = λ t. WroteError before after t in subst P e told
 
 -- standard error that nothing was written to
-told_quiet : (err : SinkSeen) (text : List ℕ) → text ≡ [] → Told err err text
+told_quiet : (err : SinkState) (text : List ℕ) → text ≡ [] → WroteError err err text
 told_quiet err text e =
-    let P : List ℕ → Type 0 = λ t. Told err err t in
+    let P : List ℕ → Type 0 = λ t. WroteError err err t in
     subst P (sym e) (inl (took_nothing err.taken, refl))
 
 -- nothing was written
-took_same : (before after : SinkSeen) → after ≡ before → Took before.taken after.taken []
-took_same before after same = let P : SinkSeen → Type 0 = λ x. Took before.taken x.taken [] in subst P (sym same) (took_nothing before.taken)
+took_same : (before after : SinkState) → after ≡ before → Appended before.taken after.taken []
+took_same before after same = let P : SinkState → Type 0 = λ x. Appended before.taken x.taken [] in subst P (sym same) (took_nothing before.taken)
 
 -- ---- a command that ended with a stop, by what came of its plan
 
-stop_answer : (plan : Plan) (files_before files_after : FilesSeen) (before after err_before err_after : SinkSeen) (stop : code.Stop) →
-    Came plan files_before files_after before after (Err stop) → Told err_before err_after (line_of stop) → status_of stop ≢ 3 → status_of stop ≢ 6 →
-    (a : Answered) × IsAllowed plan files_before.told a × Shows a before after err_before err_after (status_of stop)
+stop_answer : (plan : Plan) (files_before files_after : FilesState) (before after err_before err_after : SinkState) (stop : code.StopReason) →
+    CallOutcome plan files_before files_after before after (Err stop) → WroteError err_before err_after (line_of stop) → status_of stop ≢ 3 → status_of stop ≢ 6 →
+    (a : Answer) × IsPermitted plan files_before.told a × DeliversOnBoth a before after err_before err_after (status_of stop)
 stop_answer plan files_before files_after before after err_before err_after stop (inl (inl memory, same)) told three six = absurd (six memory)
 stop_answer plan files_before files_after before after err_before err_after stop (inl (inr read, same)) told three six = absurd (three (named_read stop read.0 read.1).0)
 stop_answer plan files_before files_after before after err_before err_after stop (inr (a, allowed, inl part)) told three six =
@@ -111,21 +111,21 @@ stop_answer plan files_before files_after before after err_before err_after stop
   allowed,
   record {
     status_is = λ other. ap (λ x. x.status) (sym whole.1);
-    out = λ other. let P : List ℕ → Type 0 = λ t. Took before.taken after.taken t in subst P (ap (λ x. x.out) (sym whole.1)) (took_same before after whole.2);
+    out = λ other. let P : List ℕ → Type 0 = λ t. Appended before.taken after.taken t in subst P (ap (λ x. x.out) (sym whole.1)) (took_same before after whole.2);
     part = λ four. absurd (omega (arith, whole.0, four));
     err = λ other. told_line err_before err_after (line_of stop) a.err (ap (λ x. x.err) (sym whole.1)) told;
   },
 )
 
-stop_not_usage : (plan : Plan) (files_before files_after : FilesSeen) (before after : SinkSeen) (stop : code.Stop) →
-    Came plan files_before files_after before after (Err stop) → status_of stop ≡ 2 → ⊥
+stop_not_usage : (plan : Plan) (files_before files_after : FilesState) (before after : SinkState) (stop : code.StopReason) →
+    CallOutcome plan files_before files_after before after (Err stop) → status_of stop ≡ 2 → ⊥
 stop_not_usage plan files_before files_after before after stop (inl (inl memory, same)) two = omega (arith, memory, two)
 stop_not_usage plan files_before files_after before after stop (inl (inr read, same)) two = omega (arith, (named_read stop read.0 read.1).0, two)
 stop_not_usage plan files_before files_after before after stop (inr (a, allowed, inl part)) two = omega (arith, part.0, two)
 stop_not_usage plan files_before files_after before after stop (inr (a, allowed, inr whole)) two = omega (arith, whole.0, two)
 
-stop_read_failed : (plan : Plan) (files_before files_after : FilesSeen) (before after err_before err_after : SinkSeen) (stop : code.Stop) →
-    Came plan files_before files_after before after (Err stop) → Told err_before err_after (line_of stop) → status_of stop ≡ 3 →
+stop_read_failed : (plan : Plan) (files_before files_after : FilesState) (before after err_before err_after : SinkState) (stop : code.StopReason) →
+    CallOutcome plan files_before files_after before after (Err stop) → WroteError err_before err_after (line_of stop) → status_of stop ≡ 3 →
     ReadFailed plan files_before files_after err_before err_after
 stop_read_failed plan files_before files_after before after err_before err_after stop (inl (inl memory, same)) told three = absurd (omega (arith, memory, three))
 stop_read_failed plan files_before files_after before after err_before err_after stop (inl (inr (name, read, fault, reached), same)) told three =
@@ -133,21 +133,21 @@ stop_read_failed plan files_before files_after before after err_before err_after
 stop_read_failed plan files_before files_after before after err_before err_after stop (inr (a, allowed, inl part)) told three = absurd (omega (arith, part.0, three))
 stop_read_failed plan files_before files_after before after err_before err_after stop (inr (a, allowed, inr whole)) told three = absurd (omega (arith, whole.0, three))
 
-stop_write_failed : (plan : Plan) (files_before files_after : FilesSeen) (before after : SinkSeen) (stop : code.Stop) →
-    Came plan files_before files_after before after (Err stop) → status_of stop ≡ 4 → after.faults ≡ counted before.faults
+stop_write_failed : (plan : Plan) (files_before files_after : FilesState) (before after : SinkState) (stop : code.StopReason) →
+    CallOutcome plan files_before files_after before after (Err stop) → status_of stop ≡ 4 → after.faults ≡ counted before.faults
 stop_write_failed plan files_before files_after before after stop (inl (inl memory, same)) four = absurd (omega (arith, memory, four))
 stop_write_failed plan files_before files_after before after stop (inl (inr read, same)) four = absurd (omega (arith, (named_read stop read.0 read.1).0, four))
 stop_write_failed plan files_before files_after before after stop (inr (a, allowed, inl part)) four = part.2
 stop_write_failed plan files_before files_after before after stop (inr (a, allowed, inr whole)) four = absurd (omega (arith, whole.0, four))
 
-stop_nothing : (plan : Plan) (files_before files_after : FilesSeen) (before after : SinkSeen) (stop : code.Stop) →
-    Came plan files_before files_after before after (Err stop) → status_of stop ≢ 4 → after ≡ before
+stop_nothing : (plan : Plan) (files_before files_after : FilesState) (before after : SinkState) (stop : code.StopReason) →
+    CallOutcome plan files_before files_after before after (Err stop) → status_of stop ≢ 4 → after ≡ before
 stop_nothing plan files_before files_after before after stop (inl lost) other = lost.1
 stop_nothing plan files_before files_after before after stop (inr (a, allowed, inl part)) other = absurd (other part.0)
 stop_nothing plan files_before files_after before after stop (inr (a, allowed, inr whole)) other = whole.2
 
-stop_complete : (plan : Plan) (files_before files_after : FilesSeen) (before after : SinkSeen) (stop : code.Stop) →
-    Came plan files_before files_after before after (Err stop) → (contents : List (Option (List ℕ))) → Tells files_before.told plan contents → IsFaultless plan contents →
+stop_complete : (plan : Plan) (files_before files_after : FilesState) (before after : SinkState) (stop : code.StopReason) →
+    CallOutcome plan files_before files_after before after (Err stop) → (contents : List (Option (List ℕ))) → HasContents files_before.told plan contents → IsFaultless plan contents →
     status_of stop ≢ 3 → status_of stop ≢ 4 → status_of stop ≡ 6
 stop_complete plan files_before files_after before after stop (inl (inl memory, same)) contents tells faultless three four = memory
 stop_complete plan files_before files_after before after stop (inl (inr (name, read, fault, reached), same)) contents tells faultless three four =
@@ -162,11 +162,11 @@ low_or_four : {status : ℕ} {P : Type 0} → 2 ≤ status → (status ≡ 4 →
 low_or_four high p (inl low) = absurd (omega (arith, high, low))
 low_or_four high p (inr four) = p four
 
-command_stopped : (command : Command) (files_before files_after : FilesSeen) (before after err_before err_after : SinkSeen) (stop : code.Stop) →
-    Does (plan_of command) files_before files_after before after (Err stop) → Told err_before err_after (line_of stop) → (status_of stop ≡ 4 → err_after ≡ err_before) →
-    Ran (Some command) files_before files_after before after err_before err_after (status_of stop)
+command_stopped : (command : Command) (files_before files_after : FilesState) (before after err_before err_after : SinkState) (stop : code.StopReason) →
+    FollowsPlan (plan_of command) files_before files_after before after (Err stop) → WroteError err_before err_after (line_of stop) → (status_of stop ≡ 4 → err_after ≡ err_before) →
+    CallContract (Some command) files_before files_after before after err_before err_after (status_of stop)
 command_stopped command files_before files_after before after err_before err_after stop d told silent =
-    let c : Came (plan_of command) files_before files_after before after (Err stop) = came (plan_of command) files_before files_after before after (Err stop) d in
+    let c : CallOutcome (plan_of command) files_before files_after before after (Err stop) = came (plan_of command) files_before files_after before after (Err stop) d in
     record {
       at_most_seven = stop_low stop;
       usage = λ two. absurd (stop_not_usage (plan_of command) files_before files_after before after stop c two);
@@ -181,8 +181,8 @@ command_stopped command files_before files_after before after err_before err_aft
       complete = λ contents tells faultless three four. inl (stop_complete (plan_of command) files_before files_after before after stop c contents tells faultless three four);
     }
 
-usage_ran : (files_before files_after : FilesSeen) (before after err_before err_after : SinkSeen) →
-    files_after ≡ files_before → after ≡ before → Told err_before err_after usage_line → Ran None files_before files_after before after err_before err_after 2
+usage_ran : (files_before files_after : FilesState) (before after err_before err_after : SinkState) →
+    files_after ≡ files_before → after ≡ before → WroteError err_before err_after usage_line → CallContract None files_before files_after before after err_before err_after 2
 usage_ran files_before files_after before after err_before err_after files same told = record {
   at_most_seven = lit≤ tt;
   usage = λ _. refl;
@@ -192,7 +192,7 @@ usage_ran files_before files_after before after err_before err_after files same 
     record { status_is = λ _. refl; out = λ _. took_same before after same; part = λ four. absurd (omega (arith, four)); err = λ _. told },
   );
   read_failed = λ three. absurd (omega (arith, three));
-  no_read_failed = λ _ name. ap (λ (x : FilesSeen). x.faults name) files;
+  no_read_failed = λ _ name. ap (λ (x : FilesState). x.faults name) files;
   write_failed = λ four. absurd (omega (arith, four));
   no_write_failed = λ _. ap (λ x. x.faults) same;
   nothing_out = λ _ _ _. same;
@@ -203,15 +203,15 @@ usage_ran files_before files_after before after err_before err_after files same 
 
 -- ---- a command that was done
 
-done_shows : (plan : Plan) (files_before files_after : FilesSeen) (before after err : SinkSeen) (status : ℕ) →
-    Came plan files_before files_after before after (Ok status) →
-    (status ≤ 1) × (after.faults ≡ before.faults) × (a : Answered) × IsAllowed plan files_before.told a × Shows a before after err err status
+done_shows : (plan : Plan) (files_before files_after : FilesState) (before after err : SinkState) (status : ℕ) →
+    CallOutcome plan files_before files_after before after (Ok status) →
+    (status ≤ 1) × (after.faults ≡ before.faults) × (a : Answer) × IsPermitted plan files_before.told a × DeliversOnBoth a before after err err status
 done_shows plan files_before files_after before after err status (inl lost) = absurd lost
 done_shows plan files_before files_after before after err status (inr (a, allowed, fits)) =
     (fits.1, fits.4, a, allowed, record { status_is = λ _. fits.0; out = λ _. fits.3; part = λ four. absurd (omega (arith, four, fits.1)); err = λ _. told_quiet err a.err fits.2 })
 
-command_done : (command : Command) (files_before files_after : FilesSeen) (before after err : SinkSeen) (status : ℕ) →
-    Does (plan_of command) files_before files_after before after (Ok status) → Ran (Some command) files_before files_after before after err err status
+command_done : (command : Command) (files_before files_after : FilesState) (before after err : SinkState) (status : ℕ) →
+    FollowsPlan (plan_of command) files_before files_after before after (Ok status) → CallContract (Some command) files_before files_after before after err err status
 command_done command files_before files_after before after err status d =
     let shows = done_shows (plan_of command) files_before files_after before after err status (came (plan_of command) files_before files_after before after (Ok status) d) in
     let low : status ≤ 1 = shows.0 in
@@ -234,54 +234,54 @@ command_done command files_before files_after before after err status d =
 
 -- ---- both
 
-pub ran_done : (form : Option Command) (files_before files_after : FilesSeen) (before after err : SinkSeen) (status : ℕ) →
-    Ended form files_before files_after before after (Ok status) → Ran form files_before files_after before after err err status
-unfolding Ended
+pub ran_done : (form : Option Command) (files_before files_after : FilesState) (before after err : SinkState) (status : ℕ) →
+    CommandOutcome form files_before files_after before after (Ok status) → CallContract form files_before files_after before after err err status
+unfolding CommandOutcome
 ran_done None files_before files_after before after err status e = absurd (cc (e.0))
 ran_done (Some command) files_before files_after before after err status e = command_done command files_before files_after before after err status e
 
-stopped : (form : Option Command) (files_before files_after : FilesSeen) (before after err_before err_after : SinkSeen) (stop : code.Stop) →
-    Ended form files_before files_after before after (Err stop) → Told err_before err_after (line_of stop) → (status_of stop ≡ 4 → err_after ≡ err_before) →
-    Ran form files_before files_after before after err_before err_after (status_of stop)
-unfolding Ended
+stopped : (form : Option Command) (files_before files_after : FilesState) (before after err_before err_after : SinkState) (stop : code.StopReason) →
+    CommandOutcome form files_before files_after before after (Err stop) → WroteError err_before err_after (line_of stop) → (status_of stop ≡ 4 → err_after ≡ err_before) →
+    CallContract form files_before files_after before after err_before err_after (status_of stop)
+unfolding CommandOutcome
 stopped None files_before files_after before after err_before err_after stop e told silent =
     let usage : stop ≡ Usage = cc (e.0) in
-    let P : code.Stop → Type 0 = λ s. Told err_before err_after (line_of s) → Ran None files_before files_after before after err_before err_after (status_of s) in
+    let P : code.StopReason → Type 0 = λ s. WroteError err_before err_after (line_of s) → CallContract None files_before files_after before after err_before err_after (status_of s) in
     subst P (sym usage) (usage_ran files_before files_after before after err_before err_after e.1 e.2) told
 stopped (Some command) files_before files_after before after err_before err_after stop e told silent =
     command_stopped command files_before files_after before after err_before err_after stop e told silent
 
-pub ran_stopped : (form : Option Command) (files_before files_after : FilesSeen) (before after err_before err_after : SinkSeen) (stop : code.Stop) (status : ℕ) →
-    Ended form files_before files_after before after (Err stop) → status ≡ status_of stop → Told err_before err_after (line_of stop) →
-    (status_of stop ≡ 4 → err_after ≡ err_before) → Ran form files_before files_after before after err_before err_after status
+pub ran_stopped : (form : Option Command) (files_before files_after : FilesState) (before after err_before err_after : SinkState) (stop : code.StopReason) (status : ℕ) →
+    CommandOutcome form files_before files_after before after (Err stop) → status ≡ status_of stop → WroteError err_before err_after (line_of stop) →
+    (status_of stop ≡ 4 → err_after ≡ err_before) → CallContract form files_before files_after before after err_before err_after status
 ran_stopped form files_before files_after before after err_before err_after stop status e s told silent =
     rw s (stopped form files_before files_after before after err_before err_after stop e told silent)
 
 -- the words are no command
-pub no_command : (form : Option Command) (files : FilesSeen) (seen : SinkSeen) → form ≡ None → Ended form files files seen seen (Err Usage)
-unfolding Ended
+pub no_command : (form : Option Command) (files : FilesState) (seen : SinkState) → form ≡ None → CommandOutcome form files files seen seen (Err Usage)
+unfolding CommandOutcome
 no_command form files seen none = rw none (refl, refl, refl)
 
-pub command_ended : (form : Option Command) (command : Command) (files_before files_after : FilesSeen) (before after : SinkSeen) (result : Result ℕ code.Stop) →
-    form ≡ Some command → Does (plan_of command) files_before files_after before after result → Ended form files_before files_after before after result
-unfolding Ended
+pub command_ended : (form : Option Command) (command : Command) (files_before files_after : FilesState) (before after : SinkState) (result : Result ℕ code.StopReason) →
+    form ≡ Some command → FollowsPlan (plan_of command) files_before files_after before after result → CommandOutcome form files_before files_after before after result
+unfolding CommandOutcome
 command_ended form command files_before files_after before after result is d = rw is d
 
-pub usage_where : (form : Option Command) (files_before files_after : FilesSeen) (before after : SinkSeen) (stop : code.Stop) (status : ℕ) →
-    Ended form files_before files_after before after (Err stop) → status ≡ status_of stop → form ≡ None → status ≡ 2
-unfolding Ended
+pub usage_where : (form : Option Command) (files_before files_after : FilesState) (before after : SinkState) (stop : code.StopReason) (status : ℕ) →
+    CommandOutcome form files_before files_after before after (Err stop) → status ≡ status_of stop → form ≡ None → status ≡ 2
+unfolding CommandOutcome
 usage_where None files_before files_after before after stop status e s none = let usage : stop ≡ Usage = cc (e.0) in s ∙ ap status_of usage
 usage_where (Some command) files_before files_after before after stop status e s none = absurd (cc)
 
-pub usage_done : (form : Option Command) (files_before files_after : FilesSeen) (before after : SinkSeen) (status : ℕ) →
-    Ended form files_before files_after before after (Ok status) → form ≡ None → status ≡ 2
-unfolding Ended
+pub usage_done : (form : Option Command) (files_before files_after : FilesState) (before after : SinkState) (status : ℕ) →
+    CommandOutcome form files_before files_after before after (Ok status) → form ≡ None → status ≡ 2
+unfolding CommandOutcome
 usage_done None files_before files_after before after status e none = absurd (cc (e.0))
 usage_done (Some command) files_before files_after before after status e none = absurd (cc)
 
 -- want of memory before the words are known
-pub memory_ran : (form : Option Command) (files : FilesSeen) (seen err_before err_after : SinkSeen) (status : ℕ) → status ≡ 6 → Told err_before err_after memory_line →
-    Ran form files files seen seen err_before err_after status
+pub memory_ran : (form : Option Command) (files : FilesState) (seen err_before err_after : SinkState) (status : ℕ) → status ≡ 6 → WroteError err_before err_after memory_line →
+    CallContract form files files seen seen err_before err_after status
 memory_ran form files seen err_before err_after status six told = record {
   at_most_seven = omega (arith, six);
   usage = λ two. absurd (omega (arith, two, six));
@@ -296,13 +296,13 @@ memory_ran form files seen err_before err_after status six told = record {
   complete = λ contents tells faultless three four. inl six;
 }
 
-unread_ran : (files : FilesSeen) (seen err_before err_after : SinkSeen) (status : ℕ) → status ≡ 2 → Told err_before err_after usage_line →
-    Ran None files files seen seen err_before err_after status
+unread_ran : (files : FilesState) (seen err_before err_after : SinkState) (status : ℕ) → status ≡ 2 → WroteError err_before err_after usage_line →
+    CallContract None files files seen seen err_before err_after status
 unread_ran files seen err_before err_after status two told = rw two (usage_ran files files seen seen err_before err_after refl refl told)
 
 -- words that can't be read
-pub unread_stopped : (files : FilesSeen) (seen err_before err_after : SinkSeen) (stop : code.Stop) (status : ℕ) → (stop ≡ Memory) ⊎ (stop ≡ Usage) →
-    status ≡ status_of stop → Told err_before err_after (line_of stop) → Ran None files files seen seen err_before err_after status
+pub unread_stopped : (files : FilesState) (seen err_before err_after : SinkState) (stop : code.StopReason) (status : ℕ) → (stop ≡ Memory) ⊎ (stop ≡ Usage) →
+    status ≡ status_of stop → WroteError err_before err_after (line_of stop) → CallContract None files files seen seen err_before err_after status
 unread_stopped files seen err_before err_after stop status (inl memory) s told =
     memory_ran None files seen err_before err_after status (s ∙ ap status_of memory) (told_line err_before err_after _ _ (ap line_of memory) told)
 unread_stopped files seen err_before err_after stop status (inr usage) s told =

@@ -1,12 +1,12 @@
 -- What each command answers, as a plan.
 use Rattle.std.specs.Prelude.{Option, Some, None}
 use Rattle.y86_words.specs.Forms.{Command, yas, yis, hcl, ssim, ssimp, psim, check_seq, check_plus, check_pipe, certify_pipe, recheck, sample, aig, aigrun, big}
-use Rattle.command_plans.specs.Lines.{usage_line}
-use Rattle.command_plans.specs.Plan.{Plan, answers, refused}
-use Rattle.command_plans.specs.declared.datapath.Datapath.TheVariants.{Seq, Plus}
-use Rattle.check_commands.specs.Answers.{check_pipe_plan, check_seq_plan}
-use Rattle.obligation_commands.specs.Answers.{aig_plan, aigrun_plan, certify_pipe_plan, recheck_plan, sample_plan}
-use Rattle.run_commands.specs.Answers.{big_plan, hcl_plan, psim_plan, ssim_plan, yas_plan, yis_plan}
+use Rattle.cli_plans.specs.Lines.{usage_line}
+use Rattle.cli_plans.specs.Plan.{Plan, answers, refused}
+use Rattle.cli_plans.specs.declared.datapath.Datapath.TheVariants.{Seq, Plus}
+use Rattle.cli_checks.specs.Answers.{check_pipe_plan, check_seq_plan}
+use Rattle.cli_obligations.specs.Answers.{aig_plan, aigrun_plan, certify_pipe_plan, recheck_plan, sample_plan}
+use Rattle.cli_runs.specs.Answers.{big_plan, hcl_plan, psim_plan, ssim_plan, yas_plan, yis_plan}
 
 abbrev pub plan_of : Command → Plan
 plan_of (yas source size v) = yas_plan source size v

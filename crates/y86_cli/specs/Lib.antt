@@ -1,3 +1,3 @@
-pub mod Agreement
+pub mod CheckedRuns
 pub mod Answers
-pub mod Ran
+pub mod CallContract

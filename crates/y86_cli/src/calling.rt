@@ -1,13 +1,13 @@
 //! The top call on the words as the system gives them, the program's own name first.
 ghost use Rattle.std.specs.Prelude.{◌≡◌, ◌↔◌, None, IfErr, IfOk};
 ghost use Rattle.std.specs.IoError.{error_kind};
-ghost use Rattle.command_plans.specs.Calls.{words_behind};
-ghost use Rattle.command_plans.specs.Does.{files_seen, sink_seen};
-ghost use Rattle.y86_cli.specs.Ran.{Ran};
+ghost use Rattle.cli_plans.specs.Calls.{words_behind};
+ghost use Rattle.cli_plans.specs.PlanFollowing.{files_state, sink_state};
+ghost use Rattle.y86_cli.specs.CallContract.{CallContract};
 ghost use Rattle.y86_words.specs.Forms.{form_of};
 
 use crate::running::run;
-use command_plans::{Status, Stop, tell, unread, words_behind};
+use cli_plans::{Status, StopReason, report_stop, unreadable, words_behind};
 use std::alloc::Global;
 use std::env::Args;
 use std::io;
@@ -24,21 +24,21 @@ pub fn call<F: Files, O: Sink, E: Sink>(
     out: &mut O,
     err: &mut E,
 ) -> Status
-    ensures ran { IfOk args (λ read. Ran (form_of (words_behind read)) (files_seen (F.told files.old) (F.faults files.old)) (files_seen (F.told files.new) (F.faults files.new))
-        (sink_seen (O.taken out.old) (O.faults out.old)) (sink_seen (O.taken out.new) (O.faults out.new))
-        (sink_seen (E.taken err.old) (E.faults err.old)) (sink_seen (E.taken err.new) (E.faults err.new)) result) }
+    ensures ran { IfOk args (λ read. CallContract (form_of (words_behind read)) (files_state (F.told files.old) (F.faults files.old)) (files_state (F.told files.new) (F.faults files.new))
+        (sink_state (O.taken out.old) (O.faults out.old)) (sink_state (O.taken out.new) (O.faults out.new))
+        (sink_state (E.taken err.old) (E.faults err.old)) (sink_state (E.taken err.new) (E.faults err.new)) result) }
     // Words that can't be read are no command.
-    ensures unread { IfErr args (λ error. Ran None (files_seen (F.told files.old) (F.faults files.old)) (files_seen (F.told files.new) (F.faults files.new))
-        (sink_seen (O.taken out.old) (O.faults out.old)) (sink_seen (O.taken out.new) (O.faults out.new))
-        (sink_seen (E.taken err.old) (E.faults err.old)) (sink_seen (E.taken err.new) (E.faults err.new)) result) }
+    ensures unread { IfErr args (λ error. CallContract None (files_state (F.told files.old) (F.faults files.old)) (files_state (F.told files.new) (F.faults files.new))
+        (sink_state (O.taken out.old) (O.faults out.old)) (sink_state (O.taken out.new) (O.faults out.new))
+        (sink_state (E.taken err.old) (E.faults err.old)) (sink_state (E.taken err.new) (E.faults err.new)) result) }
     ensures unread_memory { IfErr args (λ error. (result ≡ 6) ↔ (error_kind error ≡ ErrorKind.OutOfMemory)) }
 {
     let args = match args {
         Ok(args) => args,
-        Err(error) => return tell(&unread(&error), err),
+        Err(error) => return report_stop(&unreadable(&error), err),
     };
     match words_behind(alloc, args) {
         Ok(words) => run(alloc, words.as_slice(), files, out, err),
-        Err(_) => tell(&Stop::Memory, err),
+        Err(_) => report_stop(&StopReason::Memory, err),
     }
 }

@@ -1,25 +1,25 @@
 //! Theorems about the answer of a call. Each is a function that does nothing and whose contract is the theorem.
 ghost use Rattle.std.specs.Prelude.{◌≡◌, ◌≢◌, ◌⊎◌, ◌↔◌, ◌≤◌, Bool, List, [], ℕ, length, Option, Some, None, true};
-ghost use Rattle.wb_io.specs.Sinks.{Took, TookPart};
+ghost use Rattle.wb_io.specs.Sinks.{Appended, AppendedPrefix};
 ghost use Rattle.y86_base.specs.declared.parts.Variant.{Variant};
-ghost use Rattle.y86_cli.specs.Agreement.{HasAccepted, RanAccepted, ToldAccepted, ToldAcceptedSeq, ToldCertified, ToldCertifiedPart, ToldNo, WroteCertificate};
+ghost use Rattle.y86_cli.specs.CheckedRuns.{HasAccepted, CheckedRunIsRight, ToldAccepted, ToldAcceptedSeq, ToldCertified, ToldCertifiedPart, AnsweredNo, WroteCertificate};
 ghost use Rattle.y86_cli.specs.Answers.{plan_in};
-ghost use Rattle.run_commands.specs.Answers.{yas_plan, yis_plan};
-ghost use Rattle.run_commands.specs.Big.{ToldSame};
-ghost use Rattle.command_plans.specs.Does.{FilesSeen, SinkSeen};
+ghost use Rattle.cli_runs.specs.Answers.{yas_plan, yis_plan};
+ghost use Rattle.cli_runs.specs.Big.{AnsweredSame};
+ghost use Rattle.cli_plans.specs.PlanFollowing.{FilesState, SinkState};
 ghost use Rattle.y86_words.specs.Forms.{Command, big, certify_pipe, check_pipe, check_plus, check_seq, form_of, psim, recheck};
-ghost use Rattle.command_plans.specs.declared.datapath.Datapath.TheVariants.{Plus, Seq};
-ghost use Rattle.command_plans.specs.Plan.{Answered, Allows, IsDetermined, Tells};
-ghost use Rattle.y86_cli.specs.Ran.{Ran};
-ghost use Rattle.command_plans.specs.Calls.{Told};
+ghost use Rattle.cli_plans.specs.declared.datapath.Datapath.TheVariants.{Plus, Seq};
+ghost use Rattle.cli_plans.specs.Plan.{Answer, IsAnswerOf, IsDetermined, HasContents};
+ghost use Rattle.y86_cli.specs.CallContract.{CallContract};
+ghost use Rattle.cli_plans.specs.Calls.{WroteError};
 
 /// What an answer has, whatever the contents of the files. With 0 and 1 nothing is to be told on standard error; with every
 /// other status nothing goes to standard output. 2 comes exactly where the words are no command, and no status is over 7.
 pub fn law_of_answers()
-    ensures done { (form : Option Command) (contents : List (Option (List ℕ))) (a : Answered) → Allows (plan_in form) contents a → a.status ≤ 1 → a.err ≡ [] }
-    ensures refused { (form : Option Command) (contents : List (Option (List ℕ))) (a : Answered) → Allows (plan_in form) contents a → 2 ≤ a.status → a.out ≡ [] }
-    ensures usage { (form : Option Command) (contents : List (Option (List ℕ))) (a : Answered) → Allows (plan_in form) contents a → (a.status ≡ 2) ↔ (form ≡ None) }
-    ensures at_most_seven { (form : Option Command) (contents : List (Option (List ℕ))) (a : Answered) → Allows (plan_in form) contents a → a.status ≤ 7 }
+    ensures done { (form : Option Command) (contents : List (Option (List ℕ))) (a : Answer) → IsAnswerOf (plan_in form) contents a → a.status ≤ 1 → a.err ≡ [] }
+    ensures refused { (form : Option Command) (contents : List (Option (List ℕ))) (a : Answer) → IsAnswerOf (plan_in form) contents a → 2 ≤ a.status → a.out ≡ [] }
+    ensures usage { (form : Option Command) (contents : List (Option (List ℕ))) (a : Answer) → IsAnswerOf (plan_in form) contents a → (a.status ≡ 2) ↔ (form ≡ None) }
+    ensures at_most_seven { (form : Option Command) (contents : List (Option (List ℕ))) (a : Answer) → IsAnswerOf (plan_in form) contents a → a.status ≤ 7 }
 {}
 
 /// Where a plan has just one answer, as those of `yas` and `yis` have, it is a function of the contents of the files: where the
@@ -27,18 +27,18 @@ pub fn law_of_answers()
 pub fn law_of_plans()
     ensures yas { (source : List ℕ) (size : ℕ) (v : Variant) → IsDetermined (yas_plan source size v) }
     ensures yis { (object : List ℕ) (size limit : ℕ) (v : Variant) → IsDetermined (yis_plan object size limit v) }
-    ensures told { (form : Option Command) (one : IsDetermined (plan_in form)) (files_before files_after : FilesSeen)
-        (out_before out_after err_before err_after : SinkSeen) (status : ℕ) →
-        Ran form files_before files_after out_before out_after err_before err_after status →
-        (contents : List (Option (List ℕ))) → Tells files_before.told (plan_in form) contents → status ≢ 3 → status ≢ 4 → status ≢ 6 →
+    ensures told { (form : Option Command) (one : IsDetermined (plan_in form)) (files_before files_after : FilesState)
+        (out_before out_after err_before err_after : SinkState) (status : ℕ) →
+        CallContract form files_before files_after out_before out_after err_before err_after status →
+        (contents : List (Option (List ℕ))) → HasContents files_before.told (plan_in form) contents → status ≢ 3 → status ≢ 4 → status ≢ 6 →
         (status ≡ (one.just_one contents).0.status)
-        × Took out_before.taken out_after.taken (one.just_one contents).0.out
-        × Told err_before err_after (one.just_one contents).0.err }
-    ensures part { (form : Option Command) (one : IsDetermined (plan_in form)) (files_before files_after : FilesSeen)
-        (out_before out_after err_before err_after : SinkSeen) (status : ℕ) →
-        Ran form files_before files_after out_before out_after err_before err_after status →
-        (contents : List (Option (List ℕ))) → Tells files_before.told (plan_in form) contents → status ≡ 4 →
-        TookPart out_before.taken out_after.taken (one.just_one contents).0.out }
+        × Appended out_before.taken out_after.taken (one.just_one contents).0.out
+        × WroteError err_before err_after (one.just_one contents).0.err }
+    ensures part { (form : Option Command) (one : IsDetermined (plan_in form)) (files_before files_after : FilesState)
+        (out_before out_after err_before err_after : SinkState) (status : ℕ) →
+        CallContract form files_before files_after out_before out_after err_before err_after status →
+        (contents : List (Option (List ℕ))) → HasContents files_before.told (plan_in form) contents → status ≡ 4 →
+        AppendedPrefix out_before.taken out_after.taken (one.just_one contents).0.out }
 {}
 
 /// What an accepted file means for a user of the program, from the words of a call and what `run` says of it. Where a call
@@ -52,39 +52,39 @@ pub fn law_of_plans()
 /// text on standard output is a No; or it is a Yes of such a file, and what stands behind it agrees with the run of
 /// instructions: the trace, the registers, and where the pipeline stopped the whole report.
 pub fn law_of_accepted_files()
-    ensures check_seq { (words : List (List ℕ)) (name : List ℕ) (v : Variant) (files_before files_after : FilesSeen) (out_before out_after err_before err_after : SinkSeen) →
-        form_of words ≡ Some (check_seq name v) → Ran (form_of words) files_before files_after out_before out_after err_before err_after 0 →
+    ensures check_seq { (words : List (List ℕ)) (name : List ℕ) (v : Variant) (files_before files_after : FilesState) (out_before out_after err_before err_after : SinkState) →
+        form_of words ≡ Some (check_seq name v) → CallContract (form_of words) files_before files_after out_before out_after err_before err_after 0 →
         ToldAcceptedSeq Seq v (files_before.told name) out_before out_after }
-    ensures check_plus { (words : List (List ℕ)) (name : List ℕ) (v : Variant) (files_before files_after : FilesSeen) (out_before out_after err_before err_after : SinkSeen) →
-        form_of words ≡ Some (check_plus name v) → Ran (form_of words) files_before files_after out_before out_after err_before err_after 0 →
+    ensures check_plus { (words : List (List ℕ)) (name : List ℕ) (v : Variant) (files_before files_after : FilesState) (out_before out_after err_before err_after : SinkState) →
+        form_of words ≡ Some (check_plus name v) → CallContract (form_of words) files_before files_after out_before out_after err_before err_after 0 →
         ToldAcceptedSeq Plus v (files_before.told name) out_before out_after }
-    ensures check_pipe { (words : List (List ℕ)) (name : List ℕ) (v : Variant) (files_before files_after : FilesSeen) (out_before out_after err_before err_after : SinkSeen) →
-        form_of words ≡ Some (check_pipe name v) → Ran (form_of words) files_before files_after out_before out_after err_before err_after 0 →
+    ensures check_pipe { (words : List (List ℕ)) (name : List ℕ) (v : Variant) (files_before files_after : FilesState) (out_before out_after err_before err_after : SinkState) →
+        form_of words ≡ Some (check_pipe name v) → CallContract (form_of words) files_before files_after out_before out_after err_before err_after 0 →
         ToldAccepted v (files_before.told name) out_before out_after }
-    ensures certify_pipe { (words : List (List ℕ)) (name : List ℕ) (v : Variant) (files_before files_after : FilesSeen) (out_before out_after err_before err_after : SinkSeen) →
-        form_of words ≡ Some (certify_pipe name v) → Ran (form_of words) files_before files_after out_before out_after err_before err_after 0 →
+    ensures certify_pipe { (words : List (List ℕ)) (name : List ℕ) (v : Variant) (files_before files_after : FilesState) (out_before out_after err_before err_after : SinkState) →
+        form_of words ≡ Some (certify_pipe name v) → CallContract (form_of words) files_before files_after out_before out_after err_before err_after 0 →
         WroteCertificate v (files_before.told name) out_before out_after }
-    ensures recheck { (words : List (List ℕ)) (name cert : List ℕ) (v : Variant) (files_before files_after : FilesSeen) (out_before out_after err_before err_after : SinkSeen) →
-        form_of words ≡ Some (recheck name cert v) → Ran (form_of words) files_before files_after out_before out_after err_before err_after 0 →
+    ensures recheck { (words : List (List ℕ)) (name cert : List ℕ) (v : Variant) (files_before files_after : FilesState) (out_before out_after err_before err_after : SinkState) →
+        form_of words ≡ Some (recheck name cert v) → CallContract (form_of words) files_before files_after out_before out_after err_before err_after 0 →
         ToldCertified v (files_before.told name) (files_before.told cert) out_before out_after }
-    ensures recheck_part { (words : List (List ℕ)) (name cert : List ℕ) (v : Variant) (files_before files_after : FilesSeen) (out_before out_after err_before err_after : SinkSeen) →
-        form_of words ≡ Some (recheck name cert v) → Ran (form_of words) files_before files_after out_before out_after err_before err_after 4 →
+    ensures recheck_part { (words : List (List ℕ)) (name cert : List ℕ) (v : Variant) (files_before files_after : FilesState) (out_before out_after err_before err_after : SinkState) →
+        form_of words ≡ Some (recheck name cert v) → CallContract (form_of words) files_before files_after out_before out_after err_before err_after 4 →
         ToldCertifiedPart v (files_before.told name) (files_before.told cert) out_before out_after }
-    ensures recheck_never_one { (words : List (List ℕ)) (name cert : List ℕ) (v : Variant) (files_before files_after : FilesSeen) (out_before out_after err_before err_after : SinkSeen) →
-        form_of words ≡ Some (recheck name cert v) → Ran (form_of words) files_before files_after out_before out_after err_before err_after 1 → ⊥ }
-    ensures psim { (words : List (List ℕ)) (name object : List ℕ) (size limit : ℕ) (trace : Bool) (v : Variant) (files_before files_after : FilesSeen)
-        (out_before out_after err_before err_after : SinkSeen) (status : ℕ) → form_of words ≡ Some (psim name object size limit trace true v) → status ≤ 1 →
-        Ran (form_of words) files_before files_after out_before out_after err_before err_after status →
-        RanAccepted v size limit trace (files_before.told name) (files_before.told object) out_before out_after status
-        ⊎ ToldNo v (files_before.told name) out_before out_after status }
+    ensures recheck_never_one { (words : List (List ℕ)) (name cert : List ℕ) (v : Variant) (files_before files_after : FilesState) (out_before out_after err_before err_after : SinkState) →
+        form_of words ≡ Some (recheck name cert v) → CallContract (form_of words) files_before files_after out_before out_after err_before err_after 1 → ⊥ }
+    ensures psim { (words : List (List ℕ)) (name object : List ℕ) (size limit : ℕ) (trace : Bool) (v : Variant) (files_before files_after : FilesState)
+        (out_before out_after err_before err_after : SinkState) (status : ℕ) → form_of words ≡ Some (psim name object size limit trace true v) → status ≤ 1 →
+        CallContract (form_of words) files_before files_after out_before out_after err_before err_after status →
+        CheckedRunIsRight v size limit trace (files_before.told name) (files_before.told object) out_before out_after status
+        ⊎ AnsweredNo v (files_before.told name) out_before out_after status }
 {}
 
 /// Of an accepted file, of the length that is read, `big` answers that both runs came to the same report, n + 1 steps and at most
 /// 5(n + 1) cycles, with status 0; but for a failed read, a failed write and want of memory.
 pub fn law_of_big()
-    ensures { (words : List (List ℕ)) (n : ℕ) (name : List ℕ) (v : Variant) (files_before files_after : FilesSeen)
-        (out_before out_after err_before err_after : SinkSeen) (status : ℕ) (text : List ℕ) → form_of words ≡ Some (big n name v) →
+    ensures { (words : List (List ℕ)) (n : ℕ) (name : List ℕ) (v : Variant) (files_before files_after : FilesState)
+        (out_before out_after err_before err_after : SinkState) (status : ℕ) (text : List ℕ) → form_of words ≡ Some (big n name v) →
         files_before.told name ≡ Some (Some text) → length text ≤ 65536 → HasAccepted v (Some (Some text)) →
-        Ran (form_of words) files_before files_after out_before out_after err_before err_after status → status ≢ 3 → status ≢ 4 → status ≢ 6 →
-        ToldSame n out_before out_after status }
+        CallContract (form_of words) files_before files_after out_before out_after err_before err_after status → status ≢ 3 → status ≢ 4 → status ≢ 6 →
+        AnsweredSame n out_before out_after status }
 {}

@@ -1,18 +1,16 @@
 //! The top call: does the command that the words are, and answers the status.
 ghost use Rattle.std.specs.Prelude.{◌≡◌, None, map, string_bytes};
-ghost use Rattle.command_plans.specs.Does.{DoesOver, files_seen, sink_seen};
+ghost use Rattle.cli_plans.specs.PlanFollowing.{FollowsPlanOver, files_state, sink_state};
 ghost use Rattle.y86_cli.specs.Answers.{plan_of};
-ghost use Rattle.y86_cli.specs.Ran.{Ended, Ran};
+ghost use Rattle.y86_cli.specs.CallContract.{CommandOutcome, CallContract};
 ghost use Rattle.y86_words.specs.Forms.{form_of};
 ghost use Rattle.y86_words.specs.Views.{command_in};
-ghost use Rattle.y86_words.specs.Wording.{IsLegal};
+ghost use Rattle.y86_words.specs.Wording.{IsInRange};
 
-use check_commands::{check_pipe_file, check_seq_file};
-use command_plans::{Datapath, Status, Stop, tell};
-use obligation_commands::{
-    aig_file, aigrun_file, certify_pipe_file, recheck_certificate, sample_file,
-};
-use run_commands::{big_file, hcl_file, psim_file, ssim_file, yas_file, yis_file};
+use cli_checks::{check_pipe_file, check_seq_file};
+use cli_obligations::{aig_file, aigrun_file, certify_pipe_file, recheck_certificate, sample_file};
+use cli_plans::{Datapath, Status, StopReason, report_stop};
+use cli_runs::{big_file, hcl_file, psim_file, ssim_file, yas_file, yis_file};
 use std::alloc::Global;
 use wb_io::{Files, Sink};
 use y86_words::{Cmd, Usage, words};
@@ -23,9 +21,9 @@ fn execute<'a, F: Files, O: Sink>(
     command: Cmd<'a>,
     files: &mut F,
     out: &mut O,
-) -> Result<Status, Stop<'a>>
-    requires { IsLegal (command_in command) }
-    ensures { DoesOver F.told F.faults O.taken O.faults (plan_of (command_in command.entry))
+) -> Result<Status, StopReason<'a>>
+    requires { IsInRange (command_in command) }
+    ensures { FollowsPlanOver F.told F.faults O.taken O.faults (plan_of (command_in command.entry))
         files.old files.new out.old out.new result }
 {
     match command {
@@ -120,13 +118,13 @@ fn outcome<'a, F: Files, O: Sink>(
     command_words: &'a [String],
     files: &mut F,
     out: &mut O,
-) -> Result<Status, Stop<'a>>
-    ensures { Ended (form_of (map string_bytes command_words.now))
-        (files_seen (F.told files.old) (F.faults files.old)) (files_seen (F.told files.new) (F.faults files.new))
-        (sink_seen (O.taken out.old) (O.faults out.old)) (sink_seen (O.taken out.new) (O.faults out.new)) result }
+) -> Result<Status, StopReason<'a>>
+    ensures { CommandOutcome (form_of (map string_bytes command_words.now))
+        (files_state (F.told files.old) (F.faults files.old)) (files_state (F.told files.new) (F.faults files.new))
+        (sink_state (O.taken out.old) (O.faults out.old)) (sink_state (O.taken out.new) (O.faults out.new)) result }
 {
     match words(command_words) {
-        Err(Usage) => Err(Stop::Usage),
+        Err(Usage) => Err(StopReason::Usage),
         Ok(command) => execute(alloc, command, files, out),
     }
 }
@@ -141,15 +139,15 @@ pub fn run<F: Files, O: Sink, E: Sink>(
     out: &mut O,
     err: &mut E,
 ) -> Status
-    ensures ran { Ran (form_of (map string_bytes words.now))
-        (files_seen (F.told files.old) (F.faults files.old)) (files_seen (F.told files.new) (F.faults files.new))
-        (sink_seen (O.taken out.old) (O.faults out.old)) (sink_seen (O.taken out.new) (O.faults out.new))
-        (sink_seen (E.taken err.old) (E.faults err.old)) (sink_seen (E.taken err.new) (E.faults err.new)) result }
+    ensures ran { CallContract (form_of (map string_bytes words.now))
+        (files_state (F.told files.old) (F.faults files.old)) (files_state (F.told files.new) (F.faults files.new))
+        (sink_state (O.taken out.old) (O.faults out.old)) (sink_state (O.taken out.new) (O.faults out.new))
+        (sink_state (E.taken err.old) (E.faults err.old)) (sink_state (E.taken err.new) (E.faults err.new)) result }
     // 2 comes wherever the words are no command.
     ensures usage { form_of (map string_bytes words.now) ≡ None → result ≡ 2 }
 {
     match outcome(alloc, words, files, out) {
         Ok(status) => status,
-        Err(stop) => tell(&stop, err),
+        Err(stop) => report_stop(&stop, err),
     }
 }

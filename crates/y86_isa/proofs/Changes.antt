@@ -5,9 +5,9 @@ use Rattle.y86_base.specs.Registers.{register, with_register}
 use Rattle.y86_base.proofs.Memories.{register-with_register_other, no_register}
 use Rattle.y86_base.specs.declared.parts.Stat.TheVariants.{Aok}
 use Rattle.y86_base.specs.declared.parts.Variant.{Variant}
-use Rattle.y86_isa.specs.declared.columns.Field.{Field}
-use Rattle.y86_isa.specs.declared.columns.Field.TheVariants.{Dash, FieldA, FieldB, Stack}
-use Rattle.y86_isa.specs.declared.columns.Next.TheVariants.{Fall}
+use Rattle.y86_isa.specs.declared.columns.RegisterColumn.{RegisterColumn}
+use Rattle.y86_isa.specs.declared.columns.RegisterColumn.TheVariants.{Dash, FieldA, FieldB, Stack}
+use Rattle.y86_isa.specs.declared.columns.NextPcColumn.TheVariants.{Fall}
 use Rattle.y86_isa.specs.declared.machine.Machine.{Machine}
 use Rattle.y86_isa.specs.declared.machine.Rec.{Rec}
 use Rattle.y86_isa.specs.RowTests.{is_dash, is_stack}
@@ -15,7 +15,7 @@ use Rattle.y86_isa.specs.Table.{row}
 use Rattle.y86_isa.specs.Machine.{is_aok}
 use Rattle.y86_isa.specs.Blocks.{register_number, destination_e, behind, fetched, reading}
 use Rattle.y86_isa.specs.Work.{work}
-use Rattle.y86_isa.specs.Step.{finished, machine_after, told_from, record_of, advance, retired}
+use Rattle.y86_isa.specs.Step.{finished, machine_after, raw_record, record_of, advance, retired}
 use Rattle.y86_isa.specs.Laws.{ChangesOneRegister, KeepsFlags, FallsThrough}
 use Rattle.y86_isa.proofs.Rows.{one_destination, row-length}
 use Rattle.y86_isa.proofs.Normal.{kept_by_normal}
@@ -49,7 +49,7 @@ stack_or_none true false n h = inr refl
 stack_or_none false cnd n h = inl h
 
 -- what the columns say of the two destinations
-destinations : (dst_e dst_m : Field) (r_a r_b : ℕ) (conditional cnd : Bool) → (is_dash dst_m || is_dash dst_e || is_stack dst_e) ≡ true → (n : ℕ) →
+destinations : (dst_e dst_m : RegisterColumn) (r_a r_b : ℕ) (conditional cnd : Bool) → (is_dash dst_m || is_dash dst_e || is_stack dst_e) ≡ true → (n : ℕ) →
     n ≢ 4 → n ≢ the_other (is_dash dst_m) (destination_e conditional cnd (register_number dst_e r_a r_b)) (register_number dst_m r_a r_b) →
     ((n ≢ destination_e conditional cnd (register_number dst_e r_a r_b)) ⊎ (destination_e conditional cnd (register_number dst_e r_a r_b) ≡ 15))
     × ((n ≢ register_number dst_m r_a r_b) ⊎ (register_number dst_m r_a r_b ≡ 15))
@@ -89,10 +89,10 @@ ChangesOneRegister-advance v m = registers_case v m (advance v m) (retired v m) 
 -- ---- flags
 
 pub record_icode : (v : Variant) (m : Machine) → (record_of m (work v m)).icode ≡ (work v m).icode
-record_icode v m = (kept_by_normal (told_from m.pc (work v m) (machine_after m (work v m)).flags)).icode
+record_icode v m = (kept_by_normal (raw_record m.pc (work v m) (machine_after m (work v m)).flags)).icode
 
 pub record_stat : (v : Variant) (m : Machine) → (record_of m (work v m)).stat ≡ (work v m).stat
-record_stat v m = (kept_by_normal (told_from m.pc (work v m) (machine_after m (work v m)).flags)).stat
+record_stat v m = (kept_by_normal (raw_record m.pc (work v m) (machine_after m (work v m)).flags)).stat
 
 flags_kept : (v : Variant) (m : Machine) → (row v (work v m).icode).sets_flags ≡ false → (work v m).flags ≡ m.flags
 unfolding work

@@ -6,10 +6,10 @@ use Rattle.y86_base.specs.declared.parts.Stat.{Stat}
 use Rattle.y86_base.specs.declared.parts.Stat.TheVariants.{Aok, Hlt, Adr, Ins}
 use Rattle.y86_base.specs.declared.parts.Variant.{Variant}
 use Rattle.y86_base.specs.declared.parts.Variant.TheVariants.{Base, Full}
-use Rattle.y86_isa.specs.declared.columns.Field.{Field}
-use Rattle.y86_isa.specs.declared.columns.Field.TheVariants.{Dash, FieldA, FieldB, Stack}
-use Rattle.y86_isa.specs.declared.columns.Access.{Access}
-use Rattle.y86_isa.specs.declared.columns.Access.TheVariants.{NoMem, StoreA, StoreP, LoadE, LoadA}
+use Rattle.y86_isa.specs.declared.columns.RegisterColumn.{RegisterColumn}
+use Rattle.y86_isa.specs.declared.columns.RegisterColumn.TheVariants.{Dash, FieldA, FieldB, Stack}
+use Rattle.y86_isa.specs.declared.columns.MemoryColumn.{MemoryColumn}
+use Rattle.y86_isa.specs.declared.columns.MemoryColumn.TheVariants.{NoMem, StoreA, StoreP, LoadE, LoadA}
 use Rattle.y86_isa.specs.declared.fetch.Reading.{Reading}
 use Rattle.y86_isa.specs.declared.machine.Machine.{Machine}
 use Rattle.y86_isa.specs.Table.{ihalt, inop, iinvalid, row}
@@ -71,7 +71,7 @@ why false s t e h = inl (rw (← e) h)
 pub why_stops : (v : Variant) (m : Machine) → is_aok (work v m).stat ≡ false → (is_aok (work v m).fetch_stat ≡ false) ⊎ ((work v m).fault ≡ true)
 why_stops v m h = why (work v m).fault (work v m).fetch_stat (work v m).stat (FollowsRow-work v m).stat h
 
-no_store : (a : Access) (address word : ℕ) (fault : Bool) → accesses a ≡ false → data_store address word (is_store a) fault ≡ None
+no_store : (a : MemoryColumn) (address word : ℕ) (fault : Bool) → accesses a ≡ false → data_store address word (is_store a) fault ≡ None
 unfolding data_store
 no_store NoMem address word fault h = refl
 no_store StoreA address word fault h = cc
@@ -92,7 +92,7 @@ store-stops v m h =
       | inr fault ↦ (FollowsRow-work v m).store ∙ fault_store _ _ _ _ fault
     ]
 
-error_access : (a : Access) (memory : List ℕ) (address : ℕ) → data_error memory address (is_load a) (is_store a) ≡ true → accesses a ≡ true
+error_access : (a : MemoryColumn) (memory : List ℕ) (address : ℕ) → data_error memory address (is_load a) (is_store a) ≡ true → accesses a ≡ true
 unfolding data_error
 error_access NoMem memory address h = cc
 error_access StoreA memory address h = refl
@@ -134,7 +134,7 @@ flags-by_work v m live =
 -- ---- a column that isn't a dash names a register
 
 -- the number that a column with an operand names is a register
-pub number_lt : (field : Field) (ua ub : Bool) (r_a r_b : ℕ) → ((not (is_field_a field) || ua) && (not (is_field_b field) || ub)) ≡ true →
+pub number_lt : (field : RegisterColumn) (ua ub : Bool) (r_a r_b : ℕ) → ((not (is_field_a field) || ua) && (not (is_field_b field) || ub)) ≡ true →
     (ua ≡ true → r_a < 15) → (ub ≡ true → r_b < 15) → is_dash field ≡ false → register_number field r_a r_b < 15
 number_lt Dash ua ub r_a r_b n a b h = cc
 number_lt FieldA true ub r_a r_b n a b h = a refl
@@ -143,7 +143,7 @@ number_lt FieldB ua true r_a r_b n a b h = b refl
 number_lt FieldB ua false r_a r_b n a b h = cc
 number_lt Stack ua ub r_a r_b n a b h = omega arith
 
-pub register_number-lt : (v : Variant) (m : Machine) (field : Field) → IsImage m.mem → is_used (row v (work v m).icode) field ≡ true → is_dash field ≡ false →
+pub register_number-lt : (v : Variant) (m : Machine) (field : RegisterColumn) → IsImage m.mem → is_used (row v (work v m).icode) field ≡ true → is_dash field ≡ false →
     register_number field (work v m).r_a (work v m).r_b < 15
 unfolding work
 register_number-lt v m field h used some =

@@ -6,7 +6,7 @@ use Rattle.y86_base.specs.declared.parts.Variant.{Variant}
 use Rattle.y86_isa.specs.declared.machine.Machine.{Machine}
 use Rattle.y86_isa.specs.declared.machine.Rec.{Rec}
 use Rattle.y86_isa.specs.Machine.{is_aok, written_number, written_word}
-use Rattle.y86_isa.specs.Laws.{TellsStep}
+use Rattle.y86_isa.specs.Laws.{IsRecordOfStep}
 use Rattle.y86_isa.specs.Blocks.{stored}
 use Rattle.y86_isa.specs.Work.{work}
 use Rattle.y86_isa.specs.Step.{finished, machine_after, record_of, advance, retired}
@@ -23,7 +23,7 @@ written_by false registers n word e = rw e refl
 pub written_same : (registers : List ℕ) (n word : ℕ) → with_register registers n word ≡ with_register registers (written_number n) (written_word n word)
 written_same registers n word = written_by (nat_lt n 15) registers n word refl
 
-tells_case : (v : Variant) (m after : Machine) (r : Option Rec) → Advances v m after r → IfSome r (λ x. TellsStep m after x)
+tells_case : (v : Variant) (m after : Machine) (r : Option Rec) → Advances v m after r → IfSome r (λ x. IsRecordOfStep m after x)
 unfolding stored with_register
 tells_case v m _ _ (stays e) = tt
 tells_case v m _ _ (stops e w) = record { pc = rw w refl; stat = rw w refl; flags = rw w refl; mem = rw w refl; regs = rw w refl }
@@ -38,7 +38,7 @@ tells_case v m _ _ (goes e w) =
           ∙ ap (λ rs. with_register rs (written_number q.dst_m) (written_word q.dst_m q.val_m)) (written_same m.regs q.dst_e q.val_e));
     }
 
-pub record_tells : (v : Variant) (m : Machine) → IfSome (retired v m) (λ r. TellsStep m (advance v m) r)
+pub record_tells : (v : Variant) (m : Machine) → IfSome (retired v m) (λ r. IsRecordOfStep m (advance v m) r)
 record_tells v m = tells_case v m (advance v m) (retired v m) (advances v m)
 
 -- the machine after, where the instruction ends with AOK, and where not

@@ -2,12 +2,12 @@
 use Rattle.std.proofs.Common.{◌≡◌, ℕ, ◌<◌, Bool, true, false, not, ◌||◌, ◌==◌, List, length, refl}
 use Rattle.y86_base.specs.declared.parts.Variant.{Variant}
 use Rattle.y86_base.specs.declared.parts.Variant.TheVariants.{Base, Full}
-use Rattle.y86_isa.specs.declared.columns.Access.{Access}
-use Rattle.y86_isa.specs.declared.columns.Access.TheVariants.{NoMem, StoreA, StoreP, LoadE, LoadA}
-use Rattle.y86_isa.specs.declared.columns.Field.{Field}
-use Rattle.y86_isa.specs.declared.columns.Field.TheVariants.{Dash, FieldA, FieldB, Stack}
-use Rattle.y86_isa.specs.declared.columns.Next.{Next}
-use Rattle.y86_isa.specs.declared.columns.Next.TheVariants.{Branch, Fall, Itself, Loaded, Target}
+use Rattle.y86_isa.specs.declared.columns.MemoryColumn.{MemoryColumn}
+use Rattle.y86_isa.specs.declared.columns.MemoryColumn.TheVariants.{NoMem, StoreA, StoreP, LoadE, LoadA}
+use Rattle.y86_isa.specs.declared.columns.RegisterColumn.{RegisterColumn}
+use Rattle.y86_isa.specs.declared.columns.RegisterColumn.TheVariants.{Dash, FieldA, FieldB, Stack}
+use Rattle.y86_isa.specs.declared.columns.NextPcColumn.{NextPcColumn}
+use Rattle.y86_isa.specs.declared.columns.NextPcColumn.TheVariants.{Branch, Fall, Itself, Loaded, Target}
 use Rattle.y86_isa.specs.declared.columns.Row.{Row}
 use Rattle.y86_isa.specs.Table.{row, rows}
 use Rattle.y86_isa.proofs.Rows.{row-numbered}
@@ -17,7 +17,7 @@ use Rattle.y86_isa.specs.Blocks.{data_error, data_read, destination_e, is_load, 
 -- ---- registers
 
 -- a column of a dash names no register
-pub dash_is : (y : Field) (a b : ℕ) → is_dash y ≡ true → register_number y a b ≡ 15
+pub dash_is : (y : RegisterColumn) (a b : ℕ) → is_dash y ≡ true → register_number y a b ≡ 15
 dash_is Dash a b h = refl
 dash_is FieldA a b h = cc
 dash_is FieldB a b h = cc
@@ -32,7 +32,7 @@ none_late false cnd n e = e
 -- ---- memory
 
 -- an access at equal addresses, where there is one, has one error
-pub error_by : (a : Access) (mem : List ℕ) (x y : ℕ) → (accesses a ≡ true → x ≡ y) → data_error mem x (is_load a) (is_store a) ≡ data_error mem y (is_load a) (is_store a)
+pub error_by : (a : MemoryColumn) (mem : List ℕ) (x y : ℕ) → (accesses a ≡ true → x ≡ y) → data_error mem x (is_load a) (is_store a) ≡ data_error mem y (is_load a) (is_store a)
 unfolding data_error
 error_by NoMem mem x y h = refl
 error_by StoreA mem x y h = rw (h refl) refl
@@ -41,7 +41,7 @@ error_by LoadE mem x y h = rw (h refl) refl
 error_by LoadA mem x y h = rw (h refl) refl
 
 -- and reads one word
-pub read_by : (a : Access) (mem : List ℕ) (x y : ℕ) → (accesses a ≡ true → x ≡ y) → data_read mem x (is_load a) ≡ data_read mem y (is_load a)
+pub read_by : (a : MemoryColumn) (mem : List ℕ) (x y : ℕ) → (accesses a ≡ true → x ≡ y) → data_read mem x (is_load a) ≡ data_read mem y (is_load a)
 unfolding data_read
 read_by NoMem mem x y h = refl
 read_by StoreA mem x y h = refl
@@ -52,7 +52,7 @@ read_by LoadA mem x y h = rw (h refl) refl
 -- ---- the next PC
 
 -- whether an instruction is followed by itself
-abbrev pub is_itself : Next → Bool
+abbrev pub is_itself : NextPcColumn → Bool
 is_itself Itself = true
 is_itself Fall = false
 is_itself Branch = false

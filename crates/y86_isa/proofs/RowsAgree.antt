@@ -7,7 +7,7 @@ use Rattle.y86_base.specs.declared.parts.Variant.TheVariants.{Base, Full}
 use Rattle.y86_isa.specs.declared.columns.Row.{Row}
 use Rattle.y86_isa.specs.Table.{rows, row}
 use Rattle.y86_isa.specs.Blocks.{is_load}
-use Rattle.y86_isa.specs.RowTests.{is_dash, is_used, has_operand_a, has_operand_b, takes_a, takes_b, accesses, stores_a, loads_a, uses_e, is_branch, is_loaded, carries_p, carries_a, OperandsAgree, SourcesAgree, AccessesAgree, FieldsAgree}
+use Rattle.y86_isa.specs.RowTests.{is_dash, is_used, has_operand_a, has_operand_b, operand_is_val_a, operand_is_val_b, accesses, stores_val_a, address_is_val_a, address_is_val_e, next_is_branch, next_is_val_m, select_a_is_val_p, select_a_is_val_a, OperandsAgree, SourcesAgree, AccessesAgree, FieldsAgree}
 use Rattle.y86_isa.proofs.Rows.{row-test}
 
 abbrev implies : Bool → Bool → Bool
@@ -17,23 +17,23 @@ abbrev operands_test : Row → Bool
 operands_test r =
     implies (not (is_dash r.dst_e)) (has_operand_a r.alu_a)
     && (implies r.sets_flags (has_operand_a r.alu_a)
-    && (implies (uses_e r.memory) (has_operand_a r.alu_a)
+    && (implies (address_is_val_e r.memory) (has_operand_a r.alu_a)
     && implies (has_operand_a r.alu_a) (has_operand_b r.alu_b)))
 
 abbrev sources_test : Row → Bool
 sources_test r =
-    implies (takes_a r.alu_a) (not (is_dash r.src_a))
-    && (implies (takes_b r.alu_b) (not (is_dash r.src_b))
-    && (implies (carries_a r) (not (is_dash r.src_a))
-    && (implies (carries_a r) (not (carries_p r))
-    && (implies (carries_p r) (is_dash r.src_a)
-    && implies (stores_a r.memory) (not (takes_a r.alu_a))))))
+    implies (operand_is_val_a r.alu_a) (not (is_dash r.src_a))
+    && (implies (operand_is_val_b r.alu_b) (not (is_dash r.src_b))
+    && (implies (select_a_is_val_a r) (not (is_dash r.src_a))
+    && (implies (select_a_is_val_a r) (not (select_a_is_val_p r))
+    && (implies (select_a_is_val_p r) (is_dash r.src_a)
+    && implies (stores_val_a r.memory) (not (operand_is_val_a r.alu_a))))))
 
 abbrev accesses_test : Row → Bool
 accesses_test r =
-    implies (is_branch r.next) (not (has_operand_a r.alu_a))
-    && (implies (is_branch r.next) (not (accesses r.memory))
-    && (implies (is_loaded r.next) (loads_a r.memory)
+    implies (next_is_branch r.next) (not (has_operand_a r.alu_a))
+    && (implies (next_is_branch r.next) (not (accesses r.memory))
+    && (implies (next_is_val_m r.next) (address_is_val_a r.memory)
     && (implies (accesses r.memory) (not r.sets_flags)
     && implies (not (is_dash r.dst_m)) (is_load r.memory))))
 

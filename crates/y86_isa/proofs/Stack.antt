@@ -9,8 +9,8 @@ use Rattle.y86_base.specs.declared.parts.Stat.TheVariants.{Aok, Adr}
 use Rattle.y86_base.specs.declared.parts.Variant.{Variant}
 use Rattle.y86_base.specs.declared.parts.Variant.TheVariants.{Base, Full}
 use Rattle.y86_isa.specs.declared.columns.Row.{Row}
-use Rattle.y86_isa.specs.declared.columns.Field.TheVariants.{FieldA, Stack}
-use Rattle.y86_isa.specs.declared.columns.Access.TheVariants.{StoreA, LoadA}
+use Rattle.y86_isa.specs.declared.columns.RegisterColumn.TheVariants.{FieldA, Stack}
+use Rattle.y86_isa.specs.declared.columns.MemoryColumn.TheVariants.{StoreA, LoadA}
 use Rattle.y86_isa.specs.declared.machine.Machine.{Machine}
 use Rattle.y86_isa.specs.declared.machine.Rec.{Rec}
 use Rattle.y86_isa.specs.Table.{row}

@@ -11,12 +11,12 @@ use Rattle.std.proofs.lemmas.List.Elements.{All-set, All-take, All-drop, All-rep
 use Rattle.y86_base.specs.Image.{word_at}
 use Rattle.y86_base.specs.Registers.{register, with_register}
 use Rattle.y86_base.specs.declared.parts.Variant.{Variant}
-use Rattle.y86_isa.specs.declared.columns.Next.{Next}
-use Rattle.y86_isa.specs.declared.columns.Next.TheVariants.{Itself, Fall, Branch, Target, Loaded}
-use Rattle.y86_isa.specs.declared.columns.TermA.{TermA}
-use Rattle.y86_isa.specs.declared.columns.TermA.TheVariants.{NoA, ValA, ValC, Minus8, Plus8}
-use Rattle.y86_isa.specs.declared.columns.TermB.{TermB}
-use Rattle.y86_isa.specs.declared.columns.TermB.TheVariants.{NoB, Zero, ValB}
+use Rattle.y86_isa.specs.declared.columns.NextPcColumn.{NextPcColumn}
+use Rattle.y86_isa.specs.declared.columns.NextPcColumn.TheVariants.{Itself, Fall, Branch, Target, Loaded}
+use Rattle.y86_isa.specs.declared.columns.AluAColumn.{AluAColumn}
+use Rattle.y86_isa.specs.declared.columns.AluAColumn.TheVariants.{NoA, ValA, ValC, Minus8, Plus8}
+use Rattle.y86_isa.specs.declared.columns.AluBColumn.{AluBColumn}
+use Rattle.y86_isa.specs.declared.columns.AluBColumn.TheVariants.{NoB, Zero, ValB}
 use Rattle.y86_isa.specs.declared.machine.Machine.{Machine}
 use Rattle.y86_isa.specs.declared.machine.Rec.{Rec}
 use Rattle.y86_isa.specs.Table.{row}
@@ -95,14 +95,14 @@ unfolding register
 register-lt registers n size h =
     cond_both (nat_lt n 15) (get_or registers n 0) 0 IsWord (λ e. h n 0 (omega (arith, ltb-true n 15 e))) (λ _. omega arith)
 
-operand_a-lt : (term : TermA) (val_a val_c : ℕ) → val_a < 2 ^ 64 → val_c < 2 ^ 64 → operand_a term val_a val_c < 2 ^ 64
+operand_a-lt : (term : AluAColumn) (val_a val_c : ℕ) → val_a < 2 ^ 64 → val_c < 2 ^ 64 → operand_a term val_a val_c < 2 ^ 64
 operand_a-lt NoA val_a val_c a c = omega arith
 operand_a-lt ValA val_a val_c a c = a
 operand_a-lt ValC val_a val_c a c = c
 operand_a-lt Minus8 val_a val_c a c = omega arith
 operand_a-lt Plus8 val_a val_c a c = omega arith
 
-operand_b-lt : (term : TermB) (val_b : ℕ) → val_b < 2 ^ 64 → operand_b term val_b < 2 ^ 64
+operand_b-lt : (term : AluBColumn) (val_b : ℕ) → val_b < 2 ^ 64 → operand_b term val_b < 2 ^ 64
 operand_b-lt NoB val_b b = omega arith
 operand_b-lt Zero val_b b = omega arith
 operand_b-lt ValB val_b b = b
@@ -115,7 +115,7 @@ alu_value-lt f a b ha hb =
     (λ _. cond_both (f == 2) _ _ IsWord (λ _. and_lt 64 b a hb ha)
     (λ _. cond_both (f == 3) _ _ IsWord (λ _. xor_lt 64 b a hb ha) (λ _. omega arith))))
 
-next_address-lt : (next : Next) (pc val_p val_c val_m : ℕ) (cnd : Bool) → pc < 2 ^ 64 → val_p < 2 ^ 64 → val_c < 2 ^ 64 → val_m < 2 ^ 64 →
+next_address-lt : (next : NextPcColumn) (pc val_p val_c val_m : ℕ) (cnd : Bool) → pc < 2 ^ 64 → val_p < 2 ^ 64 → val_c < 2 ^ 64 → val_m < 2 ^ 64 →
     next_address next pc val_p val_c val_m cnd < 2 ^ 64
 next_address-lt Itself pc val_p val_c val_m cnd a b c d = a
 next_address-lt Fall pc val_p val_c val_m cnd a b c d = b

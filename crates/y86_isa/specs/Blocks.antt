@@ -9,16 +9,16 @@ use Rattle.y86_base.specs.declared.parts.Stat.{Stat}
 use Rattle.y86_base.specs.declared.parts.Stat.TheVariants.{Aok, Hlt, Adr, Ins}
 use Rattle.y86_base.specs.declared.parts.Variant.{Variant}
 use Rattle.y86_isa.specs.declared.columns.Row.{Row}
-use Rattle.y86_isa.specs.declared.columns.Field.{Field}
-use Rattle.y86_isa.specs.declared.columns.Field.TheVariants.{Dash, FieldA, FieldB, Stack}
-use Rattle.y86_isa.specs.declared.columns.TermA.{TermA}
-use Rattle.y86_isa.specs.declared.columns.TermA.TheVariants.{NoA, ValA, ValC, Minus8, Plus8}
-use Rattle.y86_isa.specs.declared.columns.TermB.{TermB}
-use Rattle.y86_isa.specs.declared.columns.TermB.TheVariants.{NoB, Zero, ValB}
-use Rattle.y86_isa.specs.declared.columns.Access.{Access}
-use Rattle.y86_isa.specs.declared.columns.Access.TheVariants.{NoMem, StoreA, StoreP, LoadE, LoadA}
-use Rattle.y86_isa.specs.declared.columns.Next.{Next}
-use Rattle.y86_isa.specs.declared.columns.Next.TheVariants.{Itself, Fall, Branch, Target, Loaded}
+use Rattle.y86_isa.specs.declared.columns.RegisterColumn.{RegisterColumn}
+use Rattle.y86_isa.specs.declared.columns.RegisterColumn.TheVariants.{Dash, FieldA, FieldB, Stack}
+use Rattle.y86_isa.specs.declared.columns.AluAColumn.{AluAColumn}
+use Rattle.y86_isa.specs.declared.columns.AluAColumn.TheVariants.{NoA, ValA, ValC, Minus8, Plus8}
+use Rattle.y86_isa.specs.declared.columns.AluBColumn.{AluBColumn}
+use Rattle.y86_isa.specs.declared.columns.AluBColumn.TheVariants.{NoB, Zero, ValB}
+use Rattle.y86_isa.specs.declared.columns.MemoryColumn.{MemoryColumn}
+use Rattle.y86_isa.specs.declared.columns.MemoryColumn.TheVariants.{NoMem, StoreA, StoreP, LoadE, LoadA}
+use Rattle.y86_isa.specs.declared.columns.NextPcColumn.{NextPcColumn}
+use Rattle.y86_isa.specs.declared.columns.NextPcColumn.TheVariants.{Itself, Fall, Branch, Target, Loaded}
 use Rattle.y86_isa.specs.declared.fetch.Fetched.{Fetched}
 use Rattle.y86_isa.specs.declared.fetch.Reading.{Reading}
 use Rattle.y86_isa.specs.declared.machine.Store.{Store}
@@ -118,7 +118,7 @@ fetch_status error icode =
 -- ---- decode (figure 4.28)
 
 -- the register number that a column names
-abbrev pub register_number : Field → ℕ → ℕ → ℕ
+abbrev pub register_number : RegisterColumn → ℕ → ℕ → ℕ
 register_number Dash r_a r_b = no_register
 register_number FieldA r_a r_b = r_a
 register_number FieldB r_a r_b = r_b
@@ -127,14 +127,14 @@ register_number Stack r_a r_b = stack_pointer
 -- ---- execute (figure 4.29)
 
 -- aluA and aluB; where the table has a dash, 0
-abbrev pub operand_a : TermA → ℕ → ℕ → ℕ
+abbrev pub operand_a : AluAColumn → ℕ → ℕ → ℕ
 operand_a NoA val_a val_c = 0
 operand_a ValA val_a val_c = val_a
 operand_a ValC val_a val_c = val_c
 operand_a Minus8 val_a val_c = 2 ^ 64 - 8
 operand_a Plus8 val_a val_c = 8
 
-abbrev pub operand_b : TermB → ℕ → ℕ
+abbrev pub operand_b : AluBColumn → ℕ → ℕ
 operand_b NoB val_b = 0
 operand_b Zero val_b = 0
 operand_b ValB val_b = val_b
@@ -203,14 +203,14 @@ destination_e conditional cnd raw = if conditional && not cnd then no_register e
 
 -- ---- memory (figure 4.30)
 
-abbrev pub is_store : Access → Bool
+abbrev pub is_store : MemoryColumn → Bool
 is_store NoMem = false
 is_store StoreA = true
 is_store StoreP = true
 is_store LoadE = false
 is_store LoadA = false
 
-abbrev pub is_load : Access → Bool
+abbrev pub is_load : MemoryColumn → Bool
 is_load NoMem = false
 is_load StoreA = false
 is_load StoreP = false
@@ -218,7 +218,7 @@ is_load LoadE = true
 is_load LoadA = true
 
 -- the address of the data, and 0 where there is no access
-abbrev pub data_address : Access → ℕ → ℕ → ℕ
+abbrev pub data_address : MemoryColumn → ℕ → ℕ → ℕ
 data_address NoMem val_a val_e = 0
 data_address StoreA val_a val_e = val_e
 data_address StoreP val_a val_e = val_e
@@ -226,7 +226,7 @@ data_address LoadE val_a val_e = val_e
 data_address LoadA val_a val_e = val_a
 
 -- the word that is stored, and 0 where none is
-abbrev pub data_word : Access → ℕ → ℕ → ℕ
+abbrev pub data_word : MemoryColumn → ℕ → ℕ → ℕ
 data_word NoMem val_a val_p = 0
 data_word StoreA val_a val_p = val_a
 data_word StoreP val_a val_p = val_p
@@ -258,7 +258,7 @@ written_back registers dst_e val_e dst_m val_m = with_register (with_register re
 
 -- ---- PC update (figure 4.31)
 
-abbrev pub next_address : Next → ℕ → ℕ → ℕ → ℕ → Bool → ℕ
+abbrev pub next_address : NextPcColumn → ℕ → ℕ → ℕ → ℕ → Bool → ℕ
 next_address Itself pc val_p val_c val_m cnd = pc
 next_address Fall pc val_p val_c val_m cnd = val_p
 next_address Branch pc val_p val_c val_m cnd = if cnd then val_c else val_p

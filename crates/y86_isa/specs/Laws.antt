@@ -5,7 +5,7 @@ use Rattle.y86_base.specs.Registers.{register}
 use Rattle.y86_base.specs.declared.parts.Stat.TheVariants.{Aok, Adr}
 use Rattle.y86_base.specs.declared.parts.Variant.{Variant}
 use Rattle.y86_isa.specs.declared.columns.Row.{Row}
-use Rattle.y86_isa.specs.declared.columns.Next.TheVariants.{Fall}
+use Rattle.y86_isa.specs.declared.columns.NextPcColumn.TheVariants.{Fall}
 use Rattle.y86_isa.specs.declared.fetch.Fetched.{Fetched}
 use Rattle.y86_isa.specs.declared.fetch.Reading.{Reading}
 use Rattle.y86_isa.specs.declared.machine.Machine.{Machine}
@@ -13,7 +13,7 @@ use Rattle.y86_isa.specs.declared.machine.Rec.{Rec}
 use Rattle.y86_isa.specs.declared.work.Work.{Work}
 use Rattle.y86_isa.specs.Blocks.{fetched, written_back, stored, fetch_status, register_number, operand_a, operand_b, alu_value, alu_function, flags_after, condition, destination_e, is_load, is_store, data_address, data_word, data_error, data_read, data_store, next_address}
 use Rattle.y86_isa.specs.Table.{inop, iinvalid, no_register, stack_pointer, rows, row}
-use Rattle.y86_isa.specs.RowTests.{has_operand_a, accesses, is_branch, is_loaded}
+use Rattle.y86_isa.specs.RowTests.{has_operand_a, accesses, next_is_branch, next_is_val_m}
 use Rattle.y86_isa.specs.Step.{advance, retired}
 
 -- the work of an instruction, by one equation for each value that its row and the machine give
@@ -62,7 +62,7 @@ FallsThrough v m =
     (λ r. r.stat ≡ Aok → (row v r.icode).next ≡ Fall → (advance v m).pc ≡ (m.pc + (row v r.icode).length) % 2 ^ 64)
 
 -- a record tells the whole step from one machine to the next
-pub record TellsStep (m after : Machine) (r : Rec) : Type 0 where
+pub record IsRecordOfStep (m after : Machine) (r : Rec) : Type 0 where
   pub pc : r.pc ≡ m.pc
   pub stat : after.stat ≡ r.stat
   pub flags : after.flags ≡ r.flags
@@ -108,6 +108,6 @@ PopLeavesLoaded v m =
 pub record DoesNothing (r : Row) : Type 0 where
   pub operand : has_operand_a r.alu_a ≡ false
   pub access : accesses r.memory ≡ false
-  pub branch : is_branch r.next ≡ false
-  pub loaded : is_loaded r.next ≡ false
+  pub branch : next_is_branch r.next ≡ false
+  pub loaded : next_is_val_m r.next ≡ false
   pub flags : r.sets_flags ≡ false

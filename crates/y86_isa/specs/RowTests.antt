@@ -1,79 +1,79 @@
 -- What the columns of a row say, as tests, and how the columns of one row agree.
 use Rattle.std.specs.Prelude.{◌≡◌, Bool, true, false, not, ◌&&◌, ◌||◌}
 use Rattle.y86_isa.specs.declared.columns.Row.{Row}
-use Rattle.y86_isa.specs.declared.columns.Field.{Field}
-use Rattle.y86_isa.specs.declared.columns.Field.TheVariants.{Dash, FieldA, FieldB, Stack}
-use Rattle.y86_isa.specs.declared.columns.TermA.{TermA}
-use Rattle.y86_isa.specs.declared.columns.TermA.TheVariants.{NoA, ValA, ValC, Minus8, Plus8}
-use Rattle.y86_isa.specs.declared.columns.TermB.{TermB}
-use Rattle.y86_isa.specs.declared.columns.TermB.TheVariants.{NoB, Zero, ValB}
-use Rattle.y86_isa.specs.declared.columns.Access.{Access}
-use Rattle.y86_isa.specs.declared.columns.Access.TheVariants.{NoMem, StoreA, StoreP, LoadE, LoadA}
-use Rattle.y86_isa.specs.declared.columns.Next.{Next}
-use Rattle.y86_isa.specs.declared.columns.Next.TheVariants.{Itself, Fall, Branch, Target, Loaded}
+use Rattle.y86_isa.specs.declared.columns.RegisterColumn.{RegisterColumn}
+use Rattle.y86_isa.specs.declared.columns.RegisterColumn.TheVariants.{Dash, FieldA, FieldB, Stack}
+use Rattle.y86_isa.specs.declared.columns.AluAColumn.{AluAColumn}
+use Rattle.y86_isa.specs.declared.columns.AluAColumn.TheVariants.{NoA, ValA, ValC, Minus8, Plus8}
+use Rattle.y86_isa.specs.declared.columns.AluBColumn.{AluBColumn}
+use Rattle.y86_isa.specs.declared.columns.AluBColumn.TheVariants.{NoB, Zero, ValB}
+use Rattle.y86_isa.specs.declared.columns.MemoryColumn.{MemoryColumn}
+use Rattle.y86_isa.specs.declared.columns.MemoryColumn.TheVariants.{NoMem, StoreA, StoreP, LoadE, LoadA}
+use Rattle.y86_isa.specs.declared.columns.NextPcColumn.{NextPcColumn}
+use Rattle.y86_isa.specs.declared.columns.NextPcColumn.TheVariants.{Itself, Fall, Branch, Target, Loaded}
 use Rattle.y86_isa.specs.Blocks.{is_load}
 
 -- ---- registers
 
-abbrev pub is_dash : Field → Bool
+abbrev pub is_dash : RegisterColumn → Bool
 is_dash Dash = true
 is_dash FieldA = false
 is_dash FieldB = false
 is_dash Stack = false
 
-abbrev pub is_field_a : Field → Bool
+abbrev pub is_field_a : RegisterColumn → Bool
 is_field_a Dash = false
 is_field_a FieldA = true
 is_field_a FieldB = false
 is_field_a Stack = false
 
-abbrev pub is_field_b : Field → Bool
+abbrev pub is_field_b : RegisterColumn → Bool
 is_field_b Dash = false
 is_field_b FieldA = false
 is_field_b FieldB = true
 is_field_b Stack = false
 
-abbrev pub is_stack : Field → Bool
+abbrev pub is_stack : RegisterColumn → Bool
 is_stack Dash = false
 is_stack FieldA = false
 is_stack FieldB = false
 is_stack Stack = true
 
 -- a register field that the column names is one that the instruction uses
-abbrev pub is_used : Row → Field → Bool
+abbrev pub is_used : Row → RegisterColumn → Bool
 is_used r field = (not (is_field_a field) || r.uses_a) && (not (is_field_b field) || r.uses_b)
 
 -- ---- the ALU
 
 -- there is a first operand, a second one; it is valA, valB
-abbrev pub has_operand_a : TermA → Bool
+abbrev pub has_operand_a : AluAColumn → Bool
 has_operand_a NoA = false
 has_operand_a ValA = true
 has_operand_a ValC = true
 has_operand_a Minus8 = true
 has_operand_a Plus8 = true
 
-abbrev pub has_operand_b : TermB → Bool
+abbrev pub has_operand_b : AluBColumn → Bool
 has_operand_b NoB = false
 has_operand_b Zero = true
 has_operand_b ValB = true
 
-abbrev pub takes_a : TermA → Bool
-takes_a NoA = false
-takes_a ValA = true
-takes_a ValC = false
-takes_a Minus8 = false
-takes_a Plus8 = false
+abbrev pub operand_is_val_a : AluAColumn → Bool
+operand_is_val_a NoA = false
+operand_is_val_a ValA = true
+operand_is_val_a ValC = false
+operand_is_val_a Minus8 = false
+operand_is_val_a Plus8 = false
 
-abbrev pub takes_b : TermB → Bool
-takes_b NoB = false
-takes_b Zero = false
-takes_b ValB = true
+abbrev pub operand_is_val_b : AluBColumn → Bool
+operand_is_val_b NoB = false
+operand_is_val_b Zero = false
+operand_is_val_b ValB = true
 
 -- ---- memory
 
 -- a word is read or written
-abbrev pub accesses : Access → Bool
+abbrev pub accesses : MemoryColumn → Bool
 accesses NoMem = false
 accesses StoreA = true
 accesses StoreP = true
@@ -81,56 +81,56 @@ accesses LoadE = true
 accesses LoadA = true
 
 -- valA is stored, valP is stored, the address is valA, the address is valE
-abbrev pub stores_a : Access → Bool
-stores_a NoMem = false
-stores_a StoreA = true
-stores_a StoreP = false
-stores_a LoadE = false
-stores_a LoadA = false
+abbrev pub stores_val_a : MemoryColumn → Bool
+stores_val_a NoMem = false
+stores_val_a StoreA = true
+stores_val_a StoreP = false
+stores_val_a LoadE = false
+stores_val_a LoadA = false
 
-abbrev pub stores_p : Access → Bool
-stores_p NoMem = false
-stores_p StoreA = false
-stores_p StoreP = true
-stores_p LoadE = false
-stores_p LoadA = false
+abbrev pub stores_val_p : MemoryColumn → Bool
+stores_val_p NoMem = false
+stores_val_p StoreA = false
+stores_val_p StoreP = true
+stores_val_p LoadE = false
+stores_val_p LoadA = false
 
-abbrev pub loads_a : Access → Bool
-loads_a NoMem = false
-loads_a StoreA = false
-loads_a StoreP = false
-loads_a LoadE = false
-loads_a LoadA = true
+abbrev pub address_is_val_a : MemoryColumn → Bool
+address_is_val_a NoMem = false
+address_is_val_a StoreA = false
+address_is_val_a StoreP = false
+address_is_val_a LoadE = false
+address_is_val_a LoadA = true
 
-abbrev pub uses_e : Access → Bool
-uses_e NoMem = false
-uses_e StoreA = true
-uses_e StoreP = true
-uses_e LoadE = true
-uses_e LoadA = false
+abbrev pub address_is_val_e : MemoryColumn → Bool
+address_is_val_e NoMem = false
+address_is_val_e StoreA = true
+address_is_val_e StoreP = true
+address_is_val_e LoadE = true
+address_is_val_e LoadA = false
 
 -- ---- the next PC
 
-abbrev pub is_branch : Next → Bool
-is_branch Itself = false
-is_branch Fall = false
-is_branch Branch = true
-is_branch Target = false
-is_branch Loaded = false
+abbrev pub next_is_branch : NextPcColumn → Bool
+next_is_branch Itself = false
+next_is_branch Fall = false
+next_is_branch Branch = true
+next_is_branch Target = false
+next_is_branch Loaded = false
 
-abbrev pub is_loaded : Next → Bool
-is_loaded Itself = false
-is_loaded Fall = false
-is_loaded Branch = false
-is_loaded Target = false
-is_loaded Loaded = true
+abbrev pub next_is_val_m : NextPcColumn → Bool
+next_is_val_m Itself = false
+next_is_val_m Fall = false
+next_is_val_m Branch = false
+next_is_val_m Target = false
+next_is_val_m Loaded = true
 
 -- a pipeline carries valP in the place of valA (jXX and call), or valA itself, on to the memory stage
-abbrev pub carries_p : Row → Bool
-carries_p r = stores_p r.memory || is_branch r.next
+abbrev pub select_a_is_val_p : Row → Bool
+select_a_is_val_p r = stores_val_p r.memory || next_is_branch r.next
 
-abbrev pub carries_a : Row → Bool
-carries_a r = stores_a r.memory || loads_a r.memory
+abbrev pub select_a_is_val_a : Row → Bool
+select_a_is_val_a r = stores_val_a r.memory || address_is_val_a r.memory
 
 -- ---- the columns of one row
 
@@ -138,25 +138,25 @@ carries_a r = stores_a r.memory || loads_a r.memory
 pub record OperandsAgree (r : Row) : Type 0 where
   pub destination : is_dash r.dst_e ≡ false → has_operand_a r.alu_a ≡ true
   pub flags : r.sets_flags ≡ true → has_operand_a r.alu_a ≡ true
-  pub address : uses_e r.memory ≡ true → has_operand_a r.alu_a ≡ true
+  pub address : address_is_val_e r.memory ≡ true → has_operand_a r.alu_a ≡ true
   pub both : has_operand_a r.alu_a ≡ true → has_operand_b r.alu_b ≡ true
 
 -- valA and valB are taken only from a source; what stores valA doesn't compute with it; where valP is carried in the place of valA,
 -- there is no source A
 pub record SourcesAgree (r : Row) : Type 0 where
-  pub alu_a : takes_a r.alu_a ≡ true → is_dash r.src_a ≡ false
-  pub alu_b : takes_b r.alu_b ≡ true → is_dash r.src_b ≡ false
-  pub carried : carries_a r ≡ true → is_dash r.src_a ≡ false
-  pub one_carried : carries_a r ≡ true → carries_p r ≡ false
-  pub no_source : carries_p r ≡ true → is_dash r.src_a ≡ true
-  pub stored : stores_a r.memory ≡ true → takes_a r.alu_a ≡ false
+  pub alu_a : operand_is_val_a r.alu_a ≡ true → is_dash r.src_a ≡ false
+  pub alu_b : operand_is_val_b r.alu_b ≡ true → is_dash r.src_b ≡ false
+  pub carried : select_a_is_val_a r ≡ true → is_dash r.src_a ≡ false
+  pub one_carried : select_a_is_val_a r ≡ true → select_a_is_val_p r ≡ false
+  pub no_source : select_a_is_val_p r ≡ true → is_dash r.src_a ≡ true
+  pub stored : stores_val_a r.memory ≡ true → operand_is_val_a r.alu_a ≡ false
 
 -- a conditional jump computes nothing and accesses no memory, and the PC is loaded only where a word is loaded; an access sets no
 -- flags; valM has a destination only where a word is loaded
 pub record AccessesAgree (r : Row) : Type 0 where
-  pub branch_operand : is_branch r.next ≡ true → has_operand_a r.alu_a ≡ false
-  pub branch_access : is_branch r.next ≡ true → accesses r.memory ≡ false
-  pub loaded : is_loaded r.next ≡ true → loads_a r.memory ≡ true
+  pub branch_operand : next_is_branch r.next ≡ true → has_operand_a r.alu_a ≡ false
+  pub branch_access : next_is_branch r.next ≡ true → accesses r.memory ≡ false
+  pub loaded : next_is_val_m r.next ≡ true → address_is_val_a r.memory ≡ true
   pub flags : accesses r.memory ≡ true → r.sets_flags ≡ false
   pub destination : is_dash r.dst_m ≡ false → is_load r.memory ≡ true
 

@@ -25,8 +25,8 @@ abbrev pub machine_after : Machine → Work → Machine
 machine_after m w = if is_aok w.stat then finished m w else record m { stat = w.stat }
 
 -- what an instruction at a PC did, with the flags after it, and its record
-abbrev pub told_from : ℕ → Work → Flags → Rec
-told_from pc w flags =
+abbrev pub raw_record : ℕ → Work → Flags → Rec
+raw_record pc w flags =
     record {
       pc = pc;
       icode = w.icode;
@@ -41,7 +41,7 @@ told_from pc w flags =
     }
 
 abbrev pub record_from : ℕ → Work → Flags → Rec
-record_from pc w flags = normal (told_from pc w flags)
+record_from pc w flags = normal (raw_record pc w flags)
 
 abbrev pub record_of : Machine → Work → Rec
 record_of m w = record_from m.pc w (machine_after m w).flags

@@ -3,16 +3,16 @@ use Rattle.std.specs.Prelude.{ℕ, Bool, true, false, ◌&&◌, nat_lt, nat_le, 
 use Rattle.y86_base.specs.declared.parts.Variant.{Variant}
 use Rattle.y86_base.specs.declared.parts.Variant.TheVariants.{Base, Full}
 use Rattle.y86_isa.specs.declared.columns.Row.{Row}
-use Rattle.y86_isa.specs.declared.columns.Field.{Field}
-use Rattle.y86_isa.specs.declared.columns.Field.TheVariants.{Dash, FieldA, FieldB, Stack}
-use Rattle.y86_isa.specs.declared.columns.TermA.{TermA}
-use Rattle.y86_isa.specs.declared.columns.TermA.TheVariants.{NoA, ValA, ValC, Minus8, Plus8}
-use Rattle.y86_isa.specs.declared.columns.TermB.{TermB}
-use Rattle.y86_isa.specs.declared.columns.TermB.TheVariants.{NoB, Zero, ValB}
-use Rattle.y86_isa.specs.declared.columns.Access.{Access}
-use Rattle.y86_isa.specs.declared.columns.Access.TheVariants.{NoMem, StoreA, StoreP, LoadE, LoadA}
-use Rattle.y86_isa.specs.declared.columns.Next.{Next}
-use Rattle.y86_isa.specs.declared.columns.Next.TheVariants.{Itself, Fall, Branch, Target, Loaded}
+use Rattle.y86_isa.specs.declared.columns.RegisterColumn.{RegisterColumn}
+use Rattle.y86_isa.specs.declared.columns.RegisterColumn.TheVariants.{Dash, FieldA, FieldB, Stack}
+use Rattle.y86_isa.specs.declared.columns.AluAColumn.{AluAColumn}
+use Rattle.y86_isa.specs.declared.columns.AluAColumn.TheVariants.{NoA, ValA, ValC, Minus8, Plus8}
+use Rattle.y86_isa.specs.declared.columns.AluBColumn.{AluBColumn}
+use Rattle.y86_isa.specs.declared.columns.AluBColumn.TheVariants.{NoB, Zero, ValB}
+use Rattle.y86_isa.specs.declared.columns.MemoryColumn.{MemoryColumn}
+use Rattle.y86_isa.specs.declared.columns.MemoryColumn.TheVariants.{NoMem, StoreA, StoreP, LoadE, LoadA}
+use Rattle.y86_isa.specs.declared.columns.NextPcColumn.{NextPcColumn}
+use Rattle.y86_isa.specs.declared.columns.NextPcColumn.TheVariants.{Itself, Fall, Branch, Target, Loaded}
 
 -- the icodes that other definitions name, as in figure 4.26; the others stand in the table alone
 abbrev pub ihalt : ℕ
@@ -78,13 +78,13 @@ upto n = n
 
 -- the destination of valE: always, or where the condition holds
 record Destination : Type 0 where
-  field : Field
+  field : RegisterColumn
   conditional : Bool
 
-abbrev to : Field → Destination
+abbrev to : RegisterColumn → Destination
 to field = record { field = field; conditional = false }
 
-abbrev if_cond : Field → Destination
+abbrev if_cond : RegisterColumn → Destination
 if_cond field = record { field = field; conditional = true }
 
 -- the ALU adds, or its function is the ifun; the flags are kept, or set by the ALU
@@ -101,7 +101,7 @@ abbrev sets : Bool
 sets = true
 
 -- the row with these columns
-abbrev columns : Layout → Used → ℕ → Field → Field → Destination → Field → TermA → TermB → Bool → Bool → Access → Next → Row
+abbrev columns : Layout → Used → ℕ → RegisterColumn → RegisterColumn → Destination → RegisterColumn → AluAColumn → AluBColumn → Bool → Bool → MemoryColumn → NextPcColumn → Row
 columns layout used ifun_top src_a src_b dst_e dst_m alu_a alu_b selects sets_flags memory next =
     record {
       length = layout.bytes;

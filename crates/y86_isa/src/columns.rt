@@ -2,7 +2,7 @@
 
 /// Which register a column of the instruction table names.
 #[derive(Clone, Copy, Debug, PartialEq, Eq)]
-pub enum Field {
+pub enum RegisterColumn {
     /// No register, number 15.
     Dash,
     /// The field `rA` of the register byte.
@@ -15,7 +15,7 @@ pub enum Field {
 
 /// The first operand of the ALU.
 #[derive(Clone, Copy, Debug, PartialEq, Eq)]
-pub enum TermA {
+pub enum AluAColumn {
     NoA,
     ValA,
     ValC,
@@ -25,7 +25,7 @@ pub enum TermA {
 
 /// The second operand of the ALU, to which the first is added or from which it is subtracted.
 #[derive(Clone, Copy, Debug, PartialEq, Eq)]
-pub enum TermB {
+pub enum AluBColumn {
     NoB,
     Zero,
     ValB,
@@ -33,7 +33,7 @@ pub enum TermB {
 
 /// What an instruction does at memory, besides being fetched.
 #[derive(Clone, Copy, Debug, PartialEq, Eq)]
-pub enum Access {
+pub enum MemoryColumn {
     NoMem,
     /// Writes valA at valE.
     StoreA,
@@ -47,7 +47,7 @@ pub enum Access {
 
 /// Where the next instruction is.
 #[derive(Clone, Copy, Debug, PartialEq, Eq)]
-pub enum Next {
+pub enum NextPcColumn {
     /// At the PC itself: nothing follows.
     Itself,
     /// At valP, behind the instruction.
@@ -73,17 +73,17 @@ pub struct Row {
     pub has_const: bool,
     /// The largest ifun that the icode takes; 15 where it ignores its ifun.
     pub ifun_top: u64,
-    pub src_a: Field,
-    pub src_b: Field,
-    pub dst_e: Field,
-    pub dst_m: Field,
+    pub src_a: RegisterColumn,
+    pub src_b: RegisterColumn,
+    pub dst_e: RegisterColumn,
+    pub dst_m: RegisterColumn,
     /// Whether the destination of valE is written only where the condition holds.
     pub conditional: bool,
-    pub alu_a: TermA,
-    pub alu_b: TermB,
+    pub alu_a: AluAColumn,
+    pub alu_b: AluBColumn,
     /// Whether the function of the ALU is the ifun; else it adds.
     pub selects: bool,
     pub sets_flags: bool,
-    pub memory: Access,
-    pub next: Next,
+    pub memory: MemoryColumn,
+    pub next: NextPcColumn,
 }

@@ -7,7 +7,7 @@ ghost use Rattle.y86_base.specs.declared.parts.Stat.TheVariants.{Aok};
 ghost use Rattle.y86_base.specs.declared.parts.Variant.{Variant};
 ghost use Rattle.y86_isa.specs.Blocks.{fetched, reading};
 ghost use Rattle.y86_isa.specs.Encoding.{Holds, IsValid, encoded, fields_of, widest};
-ghost use Rattle.y86_isa.specs.Laws.{ChangesOneRegister, DoesNothing, FallsThrough, FollowsFetch, FollowsRow, IsFields, IsReading, KeepsFlags, PopLeavesLoaded, PushStoresOld, SameButDone, TellsStep};
+ghost use Rattle.y86_isa.specs.Laws.{ChangesOneRegister, DoesNothing, FallsThrough, FollowsFetch, FollowsRow, IsFields, IsReading, KeepsFlags, PopLeavesLoaded, PushStoresOld, SameButDone, IsRecordOfStep};
 ghost use Rattle.y86_isa.specs.Machine.{normal, start};
 ghost use Rattle.y86_isa.specs.RowTests.{AccessesAgree, FieldsAgree, OperandsAgree, SourcesAgree};
 ghost use Rattle.y86_isa.specs.Run.{FitsFields, IsImage, IsMachine, IsStoredBy, Pure, SameFetch, records_from, run, run_from};
@@ -59,7 +59,7 @@ pub fn law_of_steps()
     ensures flags { (v : Variant) (m : Machine) → KeepsFlags v m }
     ensures pc { (v : Variant) (m : Machine) → FallsThrough v m }
     ensures stopped { (v : Variant) (m : Machine) → m.stat ≢ Aok → (advance v m ≡ m) × (retired v m ≡ None) }
-    ensures record { (v : Variant) (m : Machine) → IfSome (retired v m) (λ r. TellsStep m (advance v m) r) }
+    ensures record { (v : Variant) (m : Machine) → IfSome (retired v m) (λ r. IsRecordOfStep m (advance v m) r) }
 {}
 
 /// What `pushq %rsp` and `popq %rsp` do (CS:APP 3e, practice problems 4.7 and 4.8).

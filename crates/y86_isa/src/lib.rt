@@ -15,7 +15,7 @@ mod unit;
 mod work;
 
 pub use advance::{do_step, step};
-pub use columns::{Access, Field, Next, Row, TermA, TermB};
+pub use columns::{AluAColumn, AluBColumn, MemoryColumn, NextPcColumn, RegisterColumn, Row};
 pub use encoding::{Instr, encode, valid};
 pub use fetch::{Fetched, Reading, behind, constant_at, read, register_fields, split};
 pub use laws::{
@@ -25,8 +25,8 @@ pub use laws::{
 };
 pub use machine::{Machine, Rec, Store};
 pub use row_tests::{
-    accesses, carries_a, carries_p, has_operand_a, is_branch, is_field_b, is_load, is_loaded,
-    is_store, loads_a, stores_a, stores_p,
+    accesses, address_is_val_a, has_operand_a, is_field_b, is_load, is_store, next_is_branch,
+    next_is_val_m, select_a_is_val_a, select_a_is_val_p, stores_val_a, stores_val_p,
 };
 pub use stages::{data_error, data_read, data_store, put_store, write_back};
 pub use table::{icode_count, row};

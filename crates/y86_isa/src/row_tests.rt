@@ -3,88 +3,88 @@ ghost use Rattle.std.specs.Prelude.{◌≡◌};
 ghost use Rattle.y86_isa.specs.Blocks as blocks;
 ghost use Rattle.y86_isa.specs.RowTests as tests;
 
-use crate::columns::{Access, Field, Next, Row, TermA};
+use crate::columns::{AluAColumn, MemoryColumn, NextPcColumn, RegisterColumn, Row};
 
 /// An instruction of this column reads or writes a word of memory.
-pub fn accesses(memory: Access) -> bool
+pub fn accesses(memory: MemoryColumn) -> bool
     ensures { result ≡ tests.accesses memory }
 {
-    !matches!(memory, Access::NoMem)
+    !matches!(memory, MemoryColumn::NoMem)
 }
 
 /// An instruction of this column reads a word of memory.
-pub fn is_load(memory: Access) -> bool
+pub fn is_load(memory: MemoryColumn) -> bool
     ensures { result ≡ blocks.is_load memory }
 {
-    matches!(memory, Access::LoadE | Access::LoadA)
+    matches!(memory, MemoryColumn::LoadE | MemoryColumn::LoadA)
 }
 
 /// An instruction of this column writes a word of memory.
-pub fn is_store(memory: Access) -> bool
+pub fn is_store(memory: MemoryColumn) -> bool
     ensures { result ≡ blocks.is_store memory }
 {
-    matches!(memory, Access::StoreA | Access::StoreP)
+    matches!(memory, MemoryColumn::StoreA | MemoryColumn::StoreP)
 }
 
 /// The word that is written is valA.
-pub fn stores_a(memory: Access) -> bool
-    ensures { result ≡ tests.stores_a memory }
+pub fn stores_val_a(memory: MemoryColumn) -> bool
+    ensures { result ≡ tests.stores_val_a memory }
 {
-    matches!(memory, Access::StoreA)
+    matches!(memory, MemoryColumn::StoreA)
 }
 
 /// The word that is written is valP: a `call`.
-pub fn stores_p(memory: Access) -> bool
-    ensures { result ≡ tests.stores_p memory }
+pub fn stores_val_p(memory: MemoryColumn) -> bool
+    ensures { result ≡ tests.stores_val_p memory }
 {
-    matches!(memory, Access::StoreP)
+    matches!(memory, MemoryColumn::StoreP)
 }
 
 /// The word that is read stands at valA: a `ret` or a `popq`.
-pub fn loads_a(memory: Access) -> bool
-    ensures { result ≡ tests.loads_a memory }
+pub fn address_is_val_a(memory: MemoryColumn) -> bool
+    ensures { result ≡ tests.address_is_val_a memory }
 {
-    matches!(memory, Access::LoadA)
+    matches!(memory, MemoryColumn::LoadA)
 }
 
 /// An instruction of this column is a jump.
-pub fn is_branch(next: Next) -> bool
-    ensures { result ≡ tests.is_branch next }
+pub fn next_is_branch(next: NextPcColumn) -> bool
+    ensures { result ≡ tests.next_is_branch next }
 {
-    matches!(next, Next::Branch)
+    matches!(next, NextPcColumn::Branch)
 }
 
 /// An instruction of this column takes its next PC from memory: a `ret`.
-pub fn is_loaded(next: Next) -> bool
-    ensures { result ≡ tests.is_loaded next }
+pub fn next_is_val_m(next: NextPcColumn) -> bool
+    ensures { result ≡ tests.next_is_val_m next }
 {
-    matches!(next, Next::Loaded)
+    matches!(next, NextPcColumn::Loaded)
 }
 
 /// The column names the register field `rB`.
-pub fn is_field_b(field: Field) -> bool
+pub fn is_field_b(field: RegisterColumn) -> bool
     ensures { result ≡ tests.is_field_b field }
 {
-    matches!(field, Field::FieldB)
+    matches!(field, RegisterColumn::FieldB)
 }
 
 /// The ALU has a first operand: it is used.
-pub fn has_operand_a(column: TermA) -> bool
+pub fn has_operand_a(column: AluAColumn) -> bool
     ensures { result ≡ tests.has_operand_a column }
 {
-    !matches!(column, TermA::NoA)
+    !matches!(column, AluAColumn::NoA)
 }
 
 /// A pipeline carries valP in the place of valA on to the memory stage: a `call` or a jump.
-pub fn carries_p(row: &Row) -> bool
-    ensures { result ≡ tests.carries_p row.now }
+pub fn select_a_is_val_p(row: &Row) -> bool
+    ensures { result ≡ tests.select_a_is_val_p row.now }
 {
-    stores_p(row.memory) || is_branch(row.next)
+    stores_val_p(row.memory) || next_is_branch(row.next)
 }
 
 /// A pipeline carries valA itself on to the memory stage.
-pub fn carries_a(row: &Row) -> bool
-    ensures { result ≡ tests.carries_a row.now }
+pub fn select_a_is_val_a(row: &Row) -> bool
+    ensures { result ≡ tests.select_a_is_val_a row.now }
 {
-    stores_a(row.memory) || loads_a(row.memory)
+    stores_val_a(row.memory) || address_is_val_a(row.memory)
 }

@@ -3,7 +3,7 @@ ghost use Rattle.std.specs.Prelude.{◌≡◌};
 ghost use Rattle.y86_isa.specs.Blocks as blocks;
 ghost use Rattle.y86_isa.specs.Work as spec;
 
-use crate::columns::{Access, Field, Row, TermA, TermB};
+use crate::columns::{AluAColumn, AluBColumn, MemoryColumn, RegisterColumn, Row};
 use crate::fetch::Fetched;
 use crate::machine::Store;
 use crate::row_tests::{is_load, is_store};
@@ -41,55 +41,55 @@ pub struct Accessed {
     pub store: Option<Store>,
 }
 
-fn register_number(field: Field, fetched: &Fetched) -> u64
+fn register_number(field: RegisterColumn, fetched: &Fetched) -> u64
     ensures { result ≡ blocks.register_number field fetched.now.r_a fetched.now.r_b }
 {
     match field {
-        Field::Dash => NO_REGISTER,
-        Field::FieldA => fetched.r_a,
-        Field::FieldB => fetched.r_b,
-        Field::Stack => STACK_POINTER,
+        RegisterColumn::Dash => NO_REGISTER,
+        RegisterColumn::FieldA => fetched.r_a,
+        RegisterColumn::FieldB => fetched.r_b,
+        RegisterColumn::Stack => STACK_POINTER,
     }
 }
 
-fn operand_a(term: TermA, val_a: u64, val_c: u64) -> u64
+fn operand_a(term: AluAColumn, val_a: u64, val_c: u64) -> u64
     ensures { result ≡ blocks.operand_a term val_a val_c }
 {
     match term {
-        TermA::NoA => 0,
-        TermA::ValA => val_a,
-        TermA::ValC => val_c,
-        TermA::Minus8 => u64::MAX - 7,
-        TermA::Plus8 => 8,
+        AluAColumn::NoA => 0,
+        AluAColumn::ValA => val_a,
+        AluAColumn::ValC => val_c,
+        AluAColumn::Minus8 => u64::MAX - 7,
+        AluAColumn::Plus8 => 8,
     }
 }
 
-fn operand_b(term: TermB, val_b: u64) -> u64
+fn operand_b(term: AluBColumn, val_b: u64) -> u64
     ensures { result ≡ blocks.operand_b term val_b }
 {
     match term {
-        TermB::NoB | TermB::Zero => 0,
-        TermB::ValB => val_b,
+        AluBColumn::NoB | AluBColumn::Zero => 0,
+        AluBColumn::ValB => val_b,
     }
 }
 
-fn data_address(access: Access, val_a: u64, val_e: u64) -> u64
+fn data_address(access: MemoryColumn, val_a: u64, val_e: u64) -> u64
     ensures { result ≡ blocks.data_address access val_a val_e }
 {
     match access {
-        Access::NoMem => 0,
-        Access::LoadA => val_a,
-        Access::StoreA | Access::StoreP | Access::LoadE => val_e,
+        MemoryColumn::NoMem => 0,
+        MemoryColumn::LoadA => val_a,
+        MemoryColumn::StoreA | MemoryColumn::StoreP | MemoryColumn::LoadE => val_e,
     }
 }
 
-fn data_word(access: Access, val_a: u64, val_p: u64) -> u64
+fn data_word(access: MemoryColumn, val_a: u64, val_p: u64) -> u64
     ensures { result ≡ blocks.data_word access val_a val_p }
 {
     match access {
-        Access::StoreA => val_a,
-        Access::StoreP => val_p,
-        Access::NoMem | Access::LoadE | Access::LoadA => 0,
+        MemoryColumn::StoreA => val_a,
+        MemoryColumn::StoreP => val_p,
+        MemoryColumn::NoMem | MemoryColumn::LoadE | MemoryColumn::LoadA => 0,
     }
 }
 

@@ -2,7 +2,7 @@
 ghost use Rattle.std.specs.Prelude.{◌≡◌, ◌≤◌, length};
 ghost use Rattle.y86_isa.specs.Table as table;
 
-use crate::columns::{Access, Field, Next, Row, TermA, TermB};
+use crate::columns::{AluAColumn, AluBColumn, MemoryColumn, NextPcColumn, RegisterColumn, Row};
 use y86_base::Variant;
 
 /// The icode of halt (CS:APP 3e, figure 4.26).
@@ -25,17 +25,17 @@ pub const DASH: Row = Row {
     has_byte: false,
     has_const: false,
     ifun_top: 0,
-    src_a: Field::Dash,
-    src_b: Field::Dash,
-    dst_e: Field::Dash,
-    dst_m: Field::Dash,
+    src_a: RegisterColumn::Dash,
+    src_b: RegisterColumn::Dash,
+    dst_e: RegisterColumn::Dash,
+    dst_m: RegisterColumn::Dash,
     conditional: false,
-    alu_a: TermA::NoA,
-    alu_b: TermB::NoB,
+    alu_a: AluAColumn::NoA,
+    alu_b: AluBColumn::NoB,
     selects: false,
     sets_flags: false,
-    memory: Access::NoMem,
-    next: Next::Itself,
+    memory: MemoryColumn::NoMem,
+    next: NextPcColumn::Itself,
 };
 
 pub const HALT: Row = Row {
@@ -45,7 +45,7 @@ pub const HALT: Row = Row {
 
 pub const NOP: Row = Row {
     ifun_top: 15,
-    next: Next::Fall,
+    next: NextPcColumn::Fall,
     ..DASH
 };
 
@@ -55,12 +55,12 @@ pub const RRMOVQ: Row = Row {
     uses_b: true,
     has_byte: true,
     ifun_top: 6,
-    src_a: Field::FieldA,
-    dst_e: Field::FieldB,
+    src_a: RegisterColumn::FieldA,
+    dst_e: RegisterColumn::FieldB,
     conditional: true,
-    alu_a: TermA::ValA,
-    alu_b: TermB::Zero,
-    next: Next::Fall,
+    alu_a: AluAColumn::ValA,
+    alu_b: AluBColumn::Zero,
+    next: NextPcColumn::Fall,
     ..DASH
 };
 
@@ -70,10 +70,10 @@ pub const IRMOVQ: Row = Row {
     has_byte: true,
     has_const: true,
     ifun_top: 15,
-    dst_e: Field::FieldB,
-    alu_a: TermA::ValC,
-    alu_b: TermB::Zero,
-    next: Next::Fall,
+    dst_e: RegisterColumn::FieldB,
+    alu_a: AluAColumn::ValC,
+    alu_b: AluBColumn::Zero,
+    next: NextPcColumn::Fall,
     ..DASH
 };
 
@@ -84,12 +84,12 @@ pub const RMMOVQ: Row = Row {
     has_byte: true,
     has_const: true,
     ifun_top: 15,
-    src_a: Field::FieldA,
-    src_b: Field::FieldB,
-    alu_a: TermA::ValC,
-    alu_b: TermB::ValB,
-    memory: Access::StoreA,
-    next: Next::Fall,
+    src_a: RegisterColumn::FieldA,
+    src_b: RegisterColumn::FieldB,
+    alu_a: AluAColumn::ValC,
+    alu_b: AluBColumn::ValB,
+    memory: MemoryColumn::StoreA,
+    next: NextPcColumn::Fall,
     ..DASH
 };
 
@@ -100,12 +100,12 @@ pub const MRMOVQ: Row = Row {
     has_byte: true,
     has_const: true,
     ifun_top: 15,
-    src_b: Field::FieldB,
-    dst_m: Field::FieldA,
-    alu_a: TermA::ValC,
-    alu_b: TermB::ValB,
-    memory: Access::LoadE,
-    next: Next::Fall,
+    src_b: RegisterColumn::FieldB,
+    dst_m: RegisterColumn::FieldA,
+    alu_a: AluAColumn::ValC,
+    alu_b: AluBColumn::ValB,
+    memory: MemoryColumn::LoadE,
+    next: NextPcColumn::Fall,
     ..DASH
 };
 
@@ -115,14 +115,14 @@ pub const OPQ: Row = Row {
     uses_b: true,
     has_byte: true,
     ifun_top: 3,
-    src_a: Field::FieldA,
-    src_b: Field::FieldB,
-    dst_e: Field::FieldB,
-    alu_a: TermA::ValA,
-    alu_b: TermB::ValB,
+    src_a: RegisterColumn::FieldA,
+    src_b: RegisterColumn::FieldB,
+    dst_e: RegisterColumn::FieldB,
+    alu_a: AluAColumn::ValA,
+    alu_b: AluBColumn::ValB,
     selects: true,
     sets_flags: true,
-    next: Next::Fall,
+    next: NextPcColumn::Fall,
     ..DASH
 };
 
@@ -130,7 +130,7 @@ pub const JXX: Row = Row {
     length: 9,
     has_const: true,
     ifun_top: 6,
-    next: Next::Branch,
+    next: NextPcColumn::Branch,
     ..DASH
 };
 
@@ -138,24 +138,24 @@ pub const CALL: Row = Row {
     length: 9,
     has_const: true,
     ifun_top: 15,
-    src_b: Field::Stack,
-    dst_e: Field::Stack,
-    alu_a: TermA::Minus8,
-    alu_b: TermB::ValB,
-    memory: Access::StoreP,
-    next: Next::Target,
+    src_b: RegisterColumn::Stack,
+    dst_e: RegisterColumn::Stack,
+    alu_a: AluAColumn::Minus8,
+    alu_b: AluBColumn::ValB,
+    memory: MemoryColumn::StoreP,
+    next: NextPcColumn::Target,
     ..DASH
 };
 
 pub const RET: Row = Row {
     ifun_top: 15,
-    src_a: Field::Stack,
-    src_b: Field::Stack,
-    dst_e: Field::Stack,
-    alu_a: TermA::Plus8,
-    alu_b: TermB::ValB,
-    memory: Access::LoadA,
-    next: Next::Loaded,
+    src_a: RegisterColumn::Stack,
+    src_b: RegisterColumn::Stack,
+    dst_e: RegisterColumn::Stack,
+    alu_a: AluAColumn::Plus8,
+    alu_b: AluBColumn::ValB,
+    memory: MemoryColumn::LoadA,
+    next: NextPcColumn::Loaded,
     ..DASH
 };
 
@@ -164,13 +164,13 @@ pub const PUSHQ: Row = Row {
     uses_a: true,
     has_byte: true,
     ifun_top: 15,
-    src_a: Field::FieldA,
-    src_b: Field::Stack,
-    dst_e: Field::Stack,
-    alu_a: TermA::Minus8,
-    alu_b: TermB::ValB,
-    memory: Access::StoreA,
-    next: Next::Fall,
+    src_a: RegisterColumn::FieldA,
+    src_b: RegisterColumn::Stack,
+    dst_e: RegisterColumn::Stack,
+    alu_a: AluAColumn::Minus8,
+    alu_b: AluBColumn::ValB,
+    memory: MemoryColumn::StoreA,
+    next: NextPcColumn::Fall,
     ..DASH
 };
 
@@ -179,14 +179,14 @@ pub const POPQ: Row = Row {
     uses_a: true,
     has_byte: true,
     ifun_top: 15,
-    src_a: Field::Stack,
-    src_b: Field::Stack,
-    dst_e: Field::Stack,
-    dst_m: Field::FieldA,
-    alu_a: TermA::Plus8,
-    alu_b: TermB::ValB,
-    memory: Access::LoadA,
-    next: Next::Fall,
+    src_a: RegisterColumn::Stack,
+    src_b: RegisterColumn::Stack,
+    dst_e: RegisterColumn::Stack,
+    dst_m: RegisterColumn::FieldA,
+    alu_a: AluAColumn::Plus8,
+    alu_b: AluBColumn::ValB,
+    memory: MemoryColumn::LoadA,
+    next: NextPcColumn::Fall,
     ..DASH
 };
 
@@ -197,12 +197,12 @@ pub const IADDQ: Row = Row {
     has_byte: true,
     has_const: true,
     ifun_top: 15,
-    src_b: Field::FieldB,
-    dst_e: Field::FieldB,
-    alu_a: TermA::ValC,
-    alu_b: TermB::ValB,
+    src_b: RegisterColumn::FieldB,
+    dst_e: RegisterColumn::FieldB,
+    alu_a: AluAColumn::ValC,
+    alu_b: AluBColumn::ValB,
     sets_flags: true,
-    next: Next::Fall,
+    next: NextPcColumn::Fall,
     ..DASH
 };
 

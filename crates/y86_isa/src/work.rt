@@ -3,7 +3,7 @@ ghost use Rattle.std.specs.Prelude.{◌≡◌};
 ghost use Rattle.y86_isa.specs.Blocks as blocks;
 ghost use Rattle.y86_isa.specs.Work as spec;
 
-use crate::columns::{Next, Row};
+use crate::columns::{NextPcColumn, Row};
 use crate::fetch::{Fetched, split};
 use crate::machine::{Machine, Store};
 use crate::stages::{access, decode, execute};
@@ -61,15 +61,15 @@ fn fetch_status(fetched: &Fetched) -> Stat
     }
 }
 
-fn next_address(next: Next, pc: u64, fetched: &Fetched, val_m: u64, cnd: bool) -> u64
+fn next_address(next: NextPcColumn, pc: u64, fetched: &Fetched, val_m: u64, cnd: bool) -> u64
     ensures { result ≡ blocks.next_address next pc fetched.now.val_p fetched.now.val_c val_m cnd }
 {
     match next {
-        Next::Itself => pc,
-        Next::Fall => fetched.val_p,
-        Next::Branch => { if cnd { fetched.val_c } else { fetched.val_p } }
-        Next::Target => fetched.val_c,
-        Next::Loaded => val_m,
+        NextPcColumn::Itself => pc,
+        NextPcColumn::Fall => fetched.val_p,
+        NextPcColumn::Branch => { if cnd { fetched.val_c } else { fetched.val_p } }
+        NextPcColumn::Target => fetched.val_c,
+        NextPcColumn::Loaded => val_m,
     }
 }
 

@@ -1,3 +1,3 @@
-pub mod Words
-pub mod Shown
-pub mod Ended
+pub mod ScannedWords
+pub mod ShowAnswers
+pub mod ShowContract

@@ -3,21 +3,21 @@ ghost use Rattle.std.specs.Prelude.{◌≡◌, ◌≤◌, ◌↔◌, IfErr, IfOk
 ghost use Rattle.std.specs.IoError.{error_kind};
 ghost use Rattle.std.specs.Option.{option_map};
 ghost use Rattle.y86_base.specs.Image.{IsSize};
-ghost use Rattle.command_plans.specs.Does.{files_seen, sink_seen};
-ghost use Rattle.command_plans.specs.Calls.{Told, words_behind};
-ghost use Rattle.command_plans.specs.Stops.{status_of};
+ghost use Rattle.cli_plans.specs.PlanFollowing.{files_state, sink_state};
+ghost use Rattle.cli_plans.specs.Calls.{WroteError, words_behind};
+ghost use Rattle.cli_plans.specs.Stops.{status_of};
 ghost use Rattle.y86_words.specs.Forms.{form_of};
 ghost use Rattle.y86_words.specs.Views.{command_in};
-ghost use Rattle.y86_words.specs.Wording.{IsLegal};
-ghost use Rattle.y86_stages.specs.Ended.{Called, Ends, request_in};
-ghost use Rattle.y86_stages.specs.Ended as spec;
-ghost use Rattle.y86_stages.specs.Words.{read_in, read_of};
-ghost use Rattle.y86_stages.specs.Words as reading;
+ghost use Rattle.y86_words.specs.Wording.{IsInRange};
+ghost use Rattle.y86_stages.specs.ShowContract.{ShowContract, ShowOutcome, request_in};
+ghost use Rattle.y86_stages.specs.ShowContract as spec;
+ghost use Rattle.y86_stages.specs.ScannedWords.{read_in, read_of};
+ghost use Rattle.y86_stages.specs.ScannedWords as reading;
 
-use crate::reading::{Processor, Reading, read_words};
+use crate::reading::{Processor, ScannedArguments, read_words};
 use crate::running::show;
-use command_plans::{Status, Stop, tell, unread, words_behind};
-use stage_text::Window;
+use cli_plans::{Status, StopReason, report_stop, unreadable, words_behind};
+use pipe_stage_text::CycleRange;
 use std::alloc::Global;
 use std::env::Args;
 use std::io;
@@ -37,10 +37,10 @@ pub struct Request<'a> {
 }
 
 /// What the options say is shown: all cycles where they don't say it.
-fn window_of(r: &Reading) -> Window
+fn window_of(r: &ScannedArguments) -> CycleRange
     ensures { result ≡ reading.window_of (read_in r.now) }
 {
-    Window {
+    CycleRange {
         from: r.from.unwrap_or(1),
         to: r.to.unwrap_or(u64::MAX),
         diagram: r.diagram,
@@ -49,7 +49,7 @@ fn window_of(r: &Reading) -> Window
 
 /// The run that a command of `psim` is, where it asks for no trace and no check.
 fn request_of<'a>(command: Cmd<'a>) -> Option<Request<'a>>
-    requires { IsLegal (command_in command) }
+    requires { IsInRange (command_in command) }
     ensures request { option_map request_in result ≡ spec.request_of (Some (command_in command.entry)) }
     ensures legal { IfSome result (λ r. IsSize r.mem × (r.limit ≤ 100000000)) }
 {
@@ -79,25 +79,25 @@ fn request_of<'a>(command: Cmd<'a>) -> Option<Request<'a>>
 }
 
 /// Shows what the words of `psim` say.
-#[tactic(auto, unfolding(crate::specs::Ended::Ends))]
+#[tactic(auto, unfolding(crate::specs::ShowContract::ShowOutcome))]
 fn show_words<'a, F: Files, O: Sink>(
     alloc: Global,
     processor: Processor,
     psim_words: &'a [String],
-    window: &Window,
+    window: &CycleRange,
     files: &mut F,
     out: &mut O,
-) -> Result<Status, Stop<'a>>
-    ensures { Ends processor (spec.request_of (form_of (map string_bytes psim_words.now))) window.now
-        (files_seen (F.told files.old) (F.faults files.old)) (files_seen (F.told files.new) (F.faults files.new))
-        (sink_seen (O.taken out.old) (O.faults out.old)) (sink_seen (O.taken out.new) (O.faults out.new)) result }
+) -> Result<Status, StopReason<'a>>
+    ensures { ShowOutcome processor (spec.request_of (form_of (map string_bytes psim_words.now))) window.now
+        (files_state (F.told files.old) (F.faults files.old)) (files_state (F.told files.new) (F.faults files.new))
+        (sink_state (O.taken out.old) (O.faults out.old)) (sink_state (O.taken out.new) (O.faults out.new)) result }
 {
     let command = match words(psim_words) {
         Ok(command) => command,
-        Err(Usage) => return Err(Stop::Usage),
+        Err(Usage) => return Err(StopReason::Usage),
     };
     match request_of(command) {
-        None => Err(Stop::Usage),
+        None => Err(StopReason::Usage),
         Some(r) => show(
             alloc, processor, r.hcl, r.obj, r.mem, r.limit, r.variant, window, files, out,
         ),
@@ -105,14 +105,14 @@ fn show_words<'a, F: Files, O: Sink>(
 }
 
 /// Tells a stop on standard error, and gives its status.
-#[tactic(auto, using(command_plans::proofs::Told::told_whole, command_plans::proofs::Told::told_part))]
-fn tell_stop<E: Sink>(stop: &Stop<'_>, err: &mut E) -> Status
+#[tactic(auto, using(cli_plans::proofs::Told::told_whole, cli_plans::proofs::Told::told_part))]
+fn tell_stop<E: Sink>(stop: &StopReason<'_>, err: &mut E) -> Status
     ensures status { result ≡ status_of stop.now }
-    ensures line { Told (sink_seen (E.taken err.old) (E.faults err.old)) (sink_seen (E.taken err.new) (E.faults err.new)) (spec.stop_line stop.now) }
+    ensures line { WroteError (sink_state (E.taken err.old) (E.faults err.old)) (sink_state (E.taken err.new) (E.faults err.new)) (spec.stop_line stop.now) }
     ensures nothing_for_a_write { status_of stop.now ≡ 4 → err.new ≡ err.old }
 {
     match stop {
-        Stop::Usage => {
+        StopReason::Usage => {
             match put_all(
                 err,
                 b"usage: y86-stages HCL OBJ [--seq|--seqplus] [--full] [--mem N] [--limit N] [--from N] [--to N] [--diagram]\n",
@@ -122,7 +122,7 @@ fn tell_stop<E: Sink>(stop: &Stop<'_>, err: &mut E) -> Status
             }
             2
         }
-        _ => tell(stop, err),
+        _ => report_stop(stop, err),
     }
 }
 
@@ -135,14 +135,14 @@ pub fn run<F: Files, O: Sink, E: Sink>(
     out: &mut O,
     err: &mut E,
 ) -> Status
-    ensures { Called (read_of (map string_bytes own_words.now)) (files_seen (F.told files.old) (F.faults files.old)) (files_seen (F.told files.new) (F.faults files.new))
-        (sink_seen (O.taken out.old) (O.faults out.old)) (sink_seen (O.taken out.new) (O.faults out.new))
-        (sink_seen (E.taken err.old) (E.faults err.old)) (sink_seen (E.taken err.new) (E.faults err.new)) result }
+    ensures { ShowContract (read_of (map string_bytes own_words.now)) (files_state (F.told files.old) (F.faults files.old)) (files_state (F.told files.new) (F.faults files.new))
+        (sink_state (O.taken out.old) (O.faults out.old)) (sink_state (O.taken out.new) (O.faults out.new))
+        (sink_state (E.taken err.old) (E.faults err.old)) (sink_state (E.taken err.new) (E.faults err.new)) result }
 {
     let reading = match read_words(alloc, own_words) {
         Ok(Some(reading)) => reading,
-        Ok(None) => return tell_stop(&Stop::Usage, err),
-        Err(_) => return tell_stop(&Stop::Memory, err),
+        Ok(None) => return tell_stop(&StopReason::Usage, err),
+        Err(_) => return tell_stop(&StopReason::Memory, err),
     };
     let window = window_of(&reading);
     match show_words(
@@ -167,20 +167,20 @@ pub fn call<F: Files, O: Sink, E: Sink>(
     out: &mut O,
     err: &mut E,
 ) -> Status
-    ensures called { IfOk args (λ given. Called (read_of (words_behind given)) (files_seen (F.told files.old) (F.faults files.old)) (files_seen (F.told files.new) (F.faults files.new))
-        (sink_seen (O.taken out.old) (O.faults out.old)) (sink_seen (O.taken out.new) (O.faults out.new))
-        (sink_seen (E.taken err.old) (E.faults err.old)) (sink_seen (E.taken err.new) (E.faults err.new)) result) }
-    ensures unread { IfErr args (λ error. Called None (files_seen (F.told files.old) (F.faults files.old)) (files_seen (F.told files.new) (F.faults files.new))
-        (sink_seen (O.taken out.old) (O.faults out.old)) (sink_seen (O.taken out.new) (O.faults out.new))
-        (sink_seen (E.taken err.old) (E.faults err.old)) (sink_seen (E.taken err.new) (E.faults err.new)) result) }
+    ensures called { IfOk args (λ given. ShowContract (read_of (words_behind given)) (files_state (F.told files.old) (F.faults files.old)) (files_state (F.told files.new) (F.faults files.new))
+        (sink_state (O.taken out.old) (O.faults out.old)) (sink_state (O.taken out.new) (O.faults out.new))
+        (sink_state (E.taken err.old) (E.faults err.old)) (sink_state (E.taken err.new) (E.faults err.new)) result) }
+    ensures unread { IfErr args (λ error. ShowContract None (files_state (F.told files.old) (F.faults files.old)) (files_state (F.told files.new) (F.faults files.new))
+        (sink_state (O.taken out.old) (O.faults out.old)) (sink_state (O.taken out.new) (O.faults out.new))
+        (sink_state (E.taken err.old) (E.faults err.old)) (sink_state (E.taken err.new) (E.faults err.new)) result) }
     ensures unread_memory { IfErr args (λ error. (result ≡ 6) ↔ (error_kind error ≡ ErrorKind.OutOfMemory)) }
 {
     let args = match args {
         Ok(args) => args,
-        Err(error) => return tell_stop(&unread(&error), err),
+        Err(error) => return tell_stop(&unreadable(&error), err),
     };
     match words_behind(alloc, args) {
         Ok(words) => run(alloc, words.as_slice(), files, out, err),
-        Err(_) => tell_stop(&Stop::Memory, err),
+        Err(_) => tell_stop(&StopReason::Memory, err),
     }
 }

@@ -1,7 +1,7 @@
 //! The words of a call: those of `psim`, and among them the options that say what is shown.
 ghost use Rattle.std.specs.Prelude.{◌≡◌, IfOk, OnOk, map, string_bytes};
 ghost use Rattle.std.specs.Option.{option_map};
-ghost use Rattle.y86_stages.specs.Words as spec;
+ghost use Rattle.y86_stages.specs.ScannedWords as spec;
 
 use std::alloc::Global;
 use y86_base::Memory;
@@ -17,7 +17,7 @@ pub enum Processor {
 
 /// An option that says what is shown.
 #[derive(Clone, Copy, Debug, PartialEq, Eq)]
-pub enum Own {
+pub enum ShowOption {
     /// `--diagram`
     Diagram,
     /// `--from N`
@@ -32,33 +32,33 @@ pub enum Own {
 
 /// What was read of the words: those that are `psim`'s, behind its name, and what the options say. `wants` is an option whose number is the next word.
 #[derive(Drop)]
-pub struct Reading {
+pub struct ScannedArguments {
     pub words: Vec<String>,
     pub processor: Processor,
     pub diagram: bool,
     pub from: Option<u64>,
     pub to: Option<u64>,
-    pub wants: Option<Own>,
+    pub wants: Option<ShowOption>,
 }
 
 /// The option that a word is.
-fn own_of(word: &str) -> Option<Own>
+fn own_of(word: &str) -> Option<ShowOption>
     ensures { result ≡ spec.own_of word.now }
 {
     if word == "--diagram" {
-        return Some(Own::Diagram);
+        return Some(ShowOption::Diagram);
     }
     if word == "--from" {
-        return Some(Own::From);
+        return Some(ShowOption::From);
     }
     if word == "--to" {
-        return Some(Own::To);
+        return Some(ShowOption::To);
     }
     if word == "--seq" {
-        return Some(Own::OnSeq);
+        return Some(ShowOption::OnSeq);
     }
     if word == "--seqplus" {
-        return Some(Own::OnSeqPlus);
+        return Some(ShowOption::OnSeqPlus);
     }
     None
 }
@@ -71,17 +71,17 @@ fn cycle_number(word: &str) -> Option<u64>
 }
 
 /// Reads the number of an option, and says whether the word is one.
-fn read_number(r: &mut Reading, own: Own, word: &str) -> bool
-    ensures { spec.ReadsNumber (spec.read_in r.old) own word.now result (spec.read_in r.new) }
+fn read_number(r: &mut ScannedArguments, own: ShowOption, word: &str) -> bool
+    ensures { spec.ScansNumber (spec.read_in r.old) own word.now result (spec.read_in r.new) }
 {
     let Some(number) = cycle_number(word) else {
         return false;
     };
     r.wants = None;
     match own {
-        Own::From => r.from = Some(number),
-        Own::To => r.to = Some(number),
-        Own::Diagram | Own::OnSeq | Own::OnSeqPlus => {}
+        ShowOption::From => r.from = Some(number),
+        ShowOption::To => r.to = Some(number),
+        ShowOption::Diagram | ShowOption::OnSeq | ShowOption::OnSeqPlus => {}
     }
     true
 }
@@ -94,35 +94,35 @@ fn is_pipe(processor: Processor) -> bool
 }
 
 /// Reads an option, and says whether it stands there for the first time.
-fn read_option(r: &mut Reading, own: Own) -> bool
-    ensures { spec.ReadsOption (spec.read_in r.old) own result (spec.read_in r.new) }
+fn read_option(r: &mut ScannedArguments, own: ShowOption) -> bool
+    ensures { spec.ScansOption (spec.read_in r.old) own result (spec.read_in r.new) }
 {
     match own {
-        Own::Diagram => {
+        ShowOption::Diagram => {
             if r.diagram {
                 return false;
             }
             r.diagram = true;
         }
-        Own::From => {
+        ShowOption::From => {
             if r.from.is_some() {
                 return false;
             }
-            r.wants = Some(Own::From);
+            r.wants = Some(ShowOption::From);
         }
-        Own::To => {
+        ShowOption::To => {
             if r.to.is_some() {
                 return false;
             }
-            r.wants = Some(Own::To);
+            r.wants = Some(ShowOption::To);
         }
-        Own::OnSeq => {
+        ShowOption::OnSeq => {
             if !is_pipe(r.processor) {
                 return false;
             }
             r.processor = Processor::Seq;
         }
-        Own::OnSeqPlus => {
+        ShowOption::OnSeqPlus => {
             if !is_pipe(r.processor) {
                 return false;
             }
@@ -133,7 +133,7 @@ fn read_option(r: &mut Reading, own: Own) -> bool
 }
 
 /// Keeps a word of `psim`.
-fn keep_word(r: &mut Reading, word: &String) -> Result<(), Memory>
+fn keep_word(r: &mut ScannedArguments, word: &String) -> Result<(), Memory>
     ensures { OnOk result (spec.read_in r.new ≡ spec.with_kept (spec.read_in r.old) (string_bytes word.now)) }
 {
     let Ok(copy) = word.clone() else {
@@ -146,9 +146,9 @@ fn keep_word(r: &mut Reading, word: &String) -> Result<(), Memory>
 }
 
 /// Reads a word, and says whether it may stand there.
-#[tactic(auto, unfolding(crate::specs::Words::read_word))]
-fn read_word(r: &mut Reading, word: &String) -> Result<bool, Memory>
-    ensures { IfOk result (λ may_stand. spec.Reads (spec.read_in r.old) (string_bytes word.now) may_stand (spec.read_in r.new)) }
+#[tactic(auto, unfolding(crate::specs::ScannedWords::read_word))]
+fn read_word(r: &mut ScannedArguments, word: &String) -> Result<bool, Memory>
+    ensures { IfOk result (λ may_stand. spec.Scans (spec.read_in r.old) (string_bytes word.now) may_stand (spec.read_in r.new)) }
 {
     if let Some(own) = r.wants {
         return Ok(read_number(r, own, word.as_str()));
@@ -163,7 +163,7 @@ fn read_word(r: &mut Reading, word: &String) -> Result<bool, Memory>
 }
 
 /// Nothing but the name of `psim`.
-fn first_reading(alloc: Global) -> Result<Reading, Memory>
+fn first_reading(alloc: Global) -> Result<ScannedArguments, Memory>
     ensures { IfOk result (λ r. spec.read_in r ≡ spec.first_read) }
 {
     let Ok(name) = String::from_str(alloc, "psim") else {
@@ -174,7 +174,7 @@ fn first_reading(alloc: Global) -> Result<Reading, Memory>
         Ok(()) => {}
         Err(_) => return Err(Memory),
     }
-    Ok(Reading {
+    Ok(ScannedArguments {
         words,
         processor: Processor::Pipe,
         diagram: false,
@@ -185,8 +185,8 @@ fn first_reading(alloc: Global) -> Result<Reading, Memory>
 }
 
 /// Reads the words behind the program's own name; `None` where they have no form.
-#[tactic(auto, unfolding(crate::specs::Words::all_read))]
-pub fn read_words(alloc: Global, words: &[String]) -> Result<Option<Reading>, Memory>
+#[tactic(auto, unfolding(crate::specs::ScannedWords::all_read))]
+pub fn read_words(alloc: Global, words: &[String]) -> Result<Option<ScannedArguments>, Memory>
     ensures { IfOk result (λ read. option_map spec.read_in read ≡ spec.read_of (map string_bytes words.now)) }
 {
     let mut r = match first_reading(alloc) {

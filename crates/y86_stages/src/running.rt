@@ -1,20 +1,21 @@
 //! Runs an object file on a processor under an HCL file, and shows its cycles.
 ghost use Rattle.std.specs.Prelude.{◌≡◌, ◌≤◌, IfOk};
 ghost use Rattle.y86_base.specs.Image.{IsSize};
-ghost use Rattle.stage_text.specs.Listed.{listed};
-ghost use Rattle.command_plans.specs.Stages.{hcl_limit};
-ghost use Rattle.command_plans.specs.Designs.{IsDesign, IsOrdered, RefusesDesign};
-ghost use Rattle.command_plans.specs.Does.{DoesOver, ReadsOne, Says, files_seen, sink_seen};
-ghost use Rattle.y86_stages.specs.Shown.{ShownAnswers, Shows, object_plan, rows_of, stages_plan};
+ghost use Rattle.pipe_stage_text.specs.Listed.{listed};
+ghost use Rattle.cli_plans.specs.Stages.{hcl_limit};
+ghost use Rattle.cli_plans.specs.Designs.{IsDesign, IsOrdered, RefusesDesign};
+ghost use Rattle.cli_plans.specs.PlanFollowing.{FollowsPlanOver, IsReadResultIn, WritesAnswer, files_state, sink_state};
+ghost use Rattle.y86_stages.specs.ShowAnswers.{ShownAnswers, Shows, object_plan, rows_of, stages_plan};
 
 use crate::reading::Processor;
-use command_plans::{
-    Datapath, FILE_LIMIT, Ordered, Stop, load_image, pipe_file, read_file, say, seq_file, status,
+use cli_plans::{
+    Datapath, FILE_LIMIT, OrderedDesign, StopReason, load_image, pipe_file, read_file, seq_file,
+    status, write_answer,
 };
 use dp_signals::constant_words;
 use hcl_compile::compile;
+use pipe_stage_text::{CycleRange, ObservedRun, watch_run};
 use seq_text::{watch_plus, watch_seq};
-use stage_text::{Watched, Window, watch_run};
 use std::alloc::Global;
 use wb_io::{Files, Sink};
 use y86_base::{Image, Memory, Variant};
@@ -25,9 +26,9 @@ fn design_file<'a, F: Files>(
     processor: Processor,
     name: &'a str,
     files: &mut F,
-) -> Result<Ordered, Stop<'a>>
-    ensures design { ReadsOne name.now hcl_limit (IsDesign (rows_of processor)) (RefusesDesign name.now (rows_of processor)) (λ ordered. ordered.design.terms)
-        (files_seen (F.told files.old) (F.faults files.old)) (files_seen (F.told files.new) (F.faults files.new)) result }
+) -> Result<OrderedDesign, StopReason<'a>>
+    ensures design { IsReadResultIn name.now hcl_limit (IsDesign (rows_of processor)) (RefusesDesign name.now (rows_of processor)) (λ ordered. ordered.design.terms)
+        (files_state (F.told files.old) (F.faults files.old)) (files_state (F.told files.new) (F.faults files.new)) result }
     ensures ordered { IfOk result (IsOrdered (rows_of processor)) }
 {
     match processor {
@@ -38,17 +39,17 @@ fn design_file<'a, F: Files>(
 }
 
 /// Runs the image of an object text, and gives what is shown of it.
-#[tactic(auto, unfolding(crate::specs::Shown::Shows))]
+#[tactic(auto, unfolding(crate::specs::ShowAnswers::Shows))]
 fn watch(
     alloc: Global,
     processor: Processor,
     variant: Variant,
-    ordered: &Ordered,
+    ordered: &OrderedDesign,
     object: &[u8],
     image: Image,
     limit: u64,
-    window: &Window,
-) -> Result<Watched, Memory>
+    window: &CycleRange,
+) -> Result<ObservedRun, Memory>
     requires ordered { IsOrdered (rows_of processor) ordered.now }
     requires limit { limit ≤ 100000000 }
     ensures { IfOk result (λ w. Shows processor variant ordered.now.design.terms (listed object.now) limit window.now image w.text.items w.end) }
@@ -100,23 +101,23 @@ fn show_image<'a, O: Sink>(
     alloc: Global,
     processor: Processor,
     variant: Variant,
-    ordered: &Ordered,
+    ordered: &OrderedDesign,
     object: &[u8],
     image: Image,
     limit: u64,
-    window: &Window,
+    window: &CycleRange,
     out: &mut O,
-) -> Result<u8, Stop<'a>>
+) -> Result<u8, StopReason<'a>>
     requires ordered { IsOrdered (rows_of processor) ordered.now }
     requires limit { limit ≤ 100000000 }
-    ensures { Says (ShownAnswers processor variant ordered.now.design.terms (listed object.now) limit window.now image)
-        (sink_seen (O.taken out.old) (O.faults out.old)) (sink_seen (O.taken out.new) (O.faults out.new)) result }
+    ensures { WritesAnswer (ShownAnswers processor variant ordered.now.design.terms (listed object.now) limit window.now image)
+        (sink_state (O.taken out.old) (O.faults out.old)) (sink_state (O.taken out.new) (O.faults out.new)) result }
 {
     match watch(
         alloc, processor, variant, ordered, object, image, limit, window,
     ) {
-        Ok(watched) => say(status(watched.end), watched.text.as_slice(), out),
-        Err(_) => Err(Stop::Memory),
+        Ok(watched) => write_answer(status(watched.end), watched.text.as_slice(), out),
+        Err(_) => Err(StopReason::Memory),
     }
 }
 
@@ -125,18 +126,18 @@ fn show_object<'a, F: Files, O: Sink>(
     alloc: Global,
     processor: Processor,
     variant: Variant,
-    ordered: &Ordered,
+    ordered: &OrderedDesign,
     obj: &'a str,
     mem: u64,
     limit: u64,
-    window: &Window,
+    window: &CycleRange,
     files: &mut F,
     out: &mut O,
-) -> Result<u8, Stop<'a>>
+) -> Result<u8, StopReason<'a>>
     requires size { IsSize mem }
     requires limit { limit ≤ 100000000 }
     requires ordered { IsOrdered (rows_of processor) ordered.now }
-    ensures { DoesOver F.told F.faults O.taken O.faults (object_plan processor ordered.now.design.terms obj.now mem limit variant window.now)
+    ensures { FollowsPlanOver F.told F.faults O.taken O.faults (object_plan processor ordered.now.design.terms obj.now mem limit variant window.now)
         files.old files.new out.old out.new result }
 {
     let bytes = match read_file(alloc, obj, FILE_LIMIT, files) {
@@ -162,13 +163,13 @@ pub fn show<'a, F: Files, O: Sink>(
     mem: u64,
     limit: u64,
     variant: Variant,
-    window: &Window,
+    window: &CycleRange,
     files: &mut F,
     out: &mut O,
-) -> Result<u8, Stop<'a>>
+) -> Result<u8, StopReason<'a>>
     requires size { IsSize mem }
     requires limit { limit ≤ 100000000 }
-    ensures { DoesOver F.told F.faults O.taken O.faults (stages_plan processor name.now obj.now mem limit variant window.now)
+    ensures { FollowsPlanOver F.told F.faults O.taken O.faults (stages_plan processor name.now obj.now mem limit variant window.now)
         files.old files.new out.old out.new result }
 {
     let ordered = match design_file(alloc, processor, name, files) {

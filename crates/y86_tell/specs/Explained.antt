@@ -10,10 +10,10 @@ use Rattle.hcl_types.specs.declared.term.Term.{Term}
 use Rattle.dp_signals.specs.PipeTable.{pipe_rows}
 use Rattle.control_check.specs.PipeVerdicts.{RefinesPipe}
 use Rattle.pipe_refusals.specs.Answered.{IsAnswer, is_yes}
-use Rattle.pipe_refusals.specs.declared.answer.Answer.{Answer}
+use Rattle.pipe_refusals.specs.declared.answer.PipeAnswer.{PipeAnswer}
 use Rattle.seq_requirements.specs.declared.datapath.Datapath.{Datapath}
 use Rattle.seq_refusals.specs.Answered as seq
-use Rattle.seq_refusals.specs.declared.answer.Answer as seq_answer
+use Rattle.seq_refusals.specs.declared.answer.SeqAnswer as seq_answer
 use Rattle.y86_tell.specs.declared.designs.Ordered.{Ordered}
 
 -- the text is a file with this design over a table
@@ -36,11 +36,11 @@ abbrev pub IsOrdered : Ordered → Type 0
 IsOrdered ordered = IsOrderedOver pipe_rows ordered
 
 -- the answer on a design for PIPE: the verdict is right, its diagnosis too, and a file with a yes refines the run of instructions
-pub record Answers (v : Variant) (terms : List Term) (answer : Answer) : Type 0 where
+pub record Answers (v : Variant) (terms : List Term) (answer : PipeAnswer) : Type 0 where
   pub is : IsAnswer v terms answer
   pub refines : is_yes answer ≡ true → RefinesPipe v terms
 
 -- the same of a design for SEQ or SEQ+
-pub record SeqAnswers (which : Datapath) (v : Variant) (terms : List Term) (answer : seq_answer.Answer) : Type 0 where
+pub record SeqAnswers (which : Datapath) (v : Variant) (terms : List Term) (answer : seq_answer.SeqAnswer) : Type 0 where
   pub is : seq.IsAnswer which v terms answer
   pub refines : seq.is_yes answer ≡ true → seq.Refines which v terms

@@ -14,7 +14,7 @@ use finding_text::{CasePlace, name_of, names_iaddq, put_unasked};
 use json::Writer;
 use pipe_diagnosis::Refusal;
 use pipe_motion::Settings;
-use pipe_refusals::{Answer, diagnose_pipe};
+use pipe_refusals::{PipeAnswer, diagnose_pipe};
 use refusal_text::{put_refusal, put_refusal_json, put_settings, put_settings_json};
 use std::alloc::{AllocError, Global};
 use wb_io::Files;
@@ -35,7 +35,7 @@ pub fn answer_design(
     alloc: Global,
     variant: Variant,
     ordered: &Ordered,
-) -> Result<Answer, CheckFault>
+) -> Result<PipeAnswer, CheckFault>
     requires { IsOrdered ordered.now }
     ensures { IfOk result (Answers variant ordered.now.design.terms) }
 {
@@ -142,17 +142,17 @@ fn answer_text(
     cases: &[CasePlace<'_>],
     variant: Variant,
     ordered: &Ordered,
-    answer: &Answer,
+    answer: &PipeAnswer,
     json: bool,
 ) -> Result<Said, AllocError>
     ensures { IfOk result (λ said. (said.status ≡ 0) ↔ (is_yes answer.now ≡ true)) }
 {
     match answer {
-        Answer::Yes(settings) => Ok(Said {
+        PipeAnswer::Yes(settings) => Ok(Said {
             status: 0,
             text: yes_text(alloc, variant, ordered, settings, json)?,
         }),
-        Answer::No(refusal) => Ok(Said {
+        PipeAnswer::No(refusal) => Ok(Said {
             status: 1,
             text: no_text(alloc, cases, variant, ordered, refusal, json)?,
         }),

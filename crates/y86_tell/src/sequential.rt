@@ -14,7 +14,7 @@ use finding_text::{CasePlace, names_iaddq, put_unasked};
 use json::Writer;
 use seq_diagnosis::Refusal;
 use seq_refusal_text::{put_seq_refusal, put_seq_refusal_json, put_seq_yes};
-use seq_refusals::{Answer, diagnose_seq};
+use seq_refusals::{SeqAnswer, diagnose_seq};
 use seq_requirements::Datapath;
 use std::alloc::{AllocError, Global};
 use wb_io::Files;
@@ -34,7 +34,7 @@ pub fn answer_sequential(
     which: Datapath,
     variant: Variant,
     ordered: &Ordered,
-) -> Result<Answer, CheckFault>
+) -> Result<SeqAnswer, CheckFault>
     requires { IsOrderedOver (rows_of which) ordered.now }
     ensures { IfOk result (SeqAnswers which variant ordered.now.design.terms) }
 {
@@ -87,16 +87,16 @@ fn answer_text(
     asked: Question,
     cases: &[CasePlace<'_>],
     ordered: &Ordered,
-    answer: &Answer,
+    answer: &SeqAnswer,
 ) -> Result<Said, AllocError>
     ensures { IfOk result (λ said. (said.status ≡ 0) ↔ (is_yes answer.now ≡ true)) }
 {
     match answer {
-        Answer::Yes => Ok(Said {
+        SeqAnswer::Yes => Ok(Said {
             status: 0,
             text: yes_text(alloc, asked, ordered)?,
         }),
-        Answer::No(refusal) => Ok(Said {
+        SeqAnswer::No(refusal) => Ok(Said {
             status: 1,
             text: no_text(alloc, asked, cases, ordered, refusal)?,
         }),

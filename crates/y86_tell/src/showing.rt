@@ -3,12 +3,12 @@ use crate::checking::{Said, json_text};
 use crate::faulty::tables;
 use crate::stop::Stop;
 use json::Writer;
-use show_text::{Found, found_of, put_found, put_found_json, put_names};
+use show_text::{ShowMatches, found_of, put_found, put_found_json, put_names};
 use std::alloc::{AllocError, Global};
 use y86_base::Memory;
 
 /// What is found as JSON.
-fn found_json(alloc: Global, found: &Found) -> Result<Vec<u8>, AllocError> {
+fn found_json(alloc: Global, found: &ShowMatches) -> Result<Vec<u8>, AllocError> {
     let tables = match tables(alloc) {
         Ok(tables) => tables,
         Err(Memory) => return Err(AllocError),
@@ -19,7 +19,11 @@ fn found_json(alloc: Global, found: &Found) -> Result<Vec<u8>, AllocError> {
 }
 
 /// What is found in sentences; the names of everything, where no word is given.
-fn found_text(alloc: Global, word: Option<&str>, found: &Found) -> Result<Vec<u8>, AllocError> {
+fn found_text(
+    alloc: Global,
+    word: Option<&str>,
+    found: &ShowMatches,
+) -> Result<Vec<u8>, AllocError> {
     let mut text = String::new(alloc);
     match word {
         None => put_names(alloc, &mut text, found)?,

@@ -2,13 +2,13 @@
 use Rattle.std.proofs.Common.{◌≡◌, ℕ, ◌<◌, Bool, true, false, List, [], ◌∷◌, length, map, refl, Option, Some, None, option_and_then, is_some, ◌≢◌, ◌&&◌, arith}
 use Rattle.std.specs.Prelude.{string_bytes, String}
 use Rattle.std.specs.Global.{Global}
-use Rattle.y86_words.specs.declared.option.Switch.{Switch}
-use Rattle.y86_words.specs.declared.option.Switch.TheVariants.{Full, Mem, Limit, Trace, Checked, Cert}
+use Rattle.y86_words.specs.declared.option.OptionName.{OptionName}
+use Rattle.y86_words.specs.declared.option.OptionName.TheVariants.{Full, Mem, Limit, Trace, Checked, Cert}
 use Rattle.std.specs.Borrow.{Bor}
-use Rattle.y86_words.specs.declared.form.FormPlace as code_place
+use Rattle.y86_words.specs.declared.form.PlaceForm as code_place
 use Rattle.y86_words.specs.Views.{place_in, words_in}
 use Rattle.y86_words.specs.Numbers.{number_that}
-use Rattle.y86_words.specs.Arguments.{Filled, added, all_added, Argument, place, switch, switch_of, index_of, takes, is_option, arguments, in_front}
+use Rattle.y86_words.specs.Arguments.{FoundSoFar, added, all_added, Argument, place, switch, switch_of, index_of, takes, is_option, arguments, in_front}
 use Rattle.y86_words.specs.Forms.{fits_places, fits_place}
 
 pub no_option : (word : List ℕ) (rest : List (List ℕ)) → is_option word ≡ true → switch_of word ≡ None → arguments (word ∷ rest) ≡ None
@@ -37,19 +37,19 @@ a_number : (t : Option (ℕ → Bool)) → is_some t ≡ true → (passes : ℕ 
 a_number None e = absurd (cc)
 a_number (Some passes) e = (passes, refl)
 
-pub flag_read : (word : List ℕ) (rest : List (List ℕ)) (s : Switch) → is_option word ≡ true → switch_of word ≡ Some s → is_some (takes s) ≡ false →
+pub flag_read : (word : List ℕ) (rest : List (List ℕ)) (s : OptionName) → is_option word ≡ true → switch_of word ≡ Some s → is_some (takes s) ≡ false →
     arguments (word ∷ rest) ≡ in_front (Some (switch s 0)) (arguments rest)
 unfolding arguments
 flag_read word [] s option some flag = rw (option, some, no_number (takes s) flag) refl
 flag_read word (next ∷ rest) s option some flag = rw (option, some, no_number (takes s) flag) refl
 
-pub switch_alone : (word : List ℕ) (behind : List (String Global)) (s : Switch) → is_option word ≡ true → switch_of word ≡ Some s → is_some (takes s) ≡ true → length behind ≡ 0 →
+pub switch_alone : (word : List ℕ) (behind : List (String Global)) (s : OptionName) → is_option word ≡ true → switch_of word ≡ Some s → is_some (takes s) ≡ true → length behind ≡ 0 →
     arguments (word ∷ map string_bytes behind) ≡ None
 unfolding arguments
 switch_alone word [] s option some takes_one none = let t = a_number (takes s) takes_one in rw (option, some, t.1) refl
 switch_alone word (next ∷ rest) s option some takes_one none = absurd (omega arith)
 
-pub switch_refused : (word value : List ℕ) (rest : List (List ℕ)) (s : Switch) → is_option word ≡ true → switch_of word ≡ Some s → is_some (takes s) ≡ true →
+pub switch_refused : (word value : List ℕ) (rest : List (List ℕ)) (s : OptionName) → is_option word ≡ true → switch_of word ≡ Some s → is_some (takes s) ≡ true →
     option_and_then (λ passes. number_that passes value) (takes s) ≡ None → arguments (word ∷ value ∷ rest) ≡ None
 unfolding arguments
 switch_refused word value rest s option some takes_one none =
@@ -57,7 +57,7 @@ switch_refused word value rest s option some takes_one none =
     let no : number_that t.0 value ≡ None = rw t.1 at none in
     rw (option, some, t.1, no) refl
 
-pub switch_read : (word value : List ℕ) (rest : List (List ℕ)) (s : Switch) (n : ℕ) → is_option word ≡ true → switch_of word ≡ Some s → is_some (takes s) ≡ true →
+pub switch_read : (word value : List ℕ) (rest : List (List ℕ)) (s : OptionName) (n : ℕ) → is_option word ≡ true → switch_of word ≡ Some s → is_some (takes s) ≡ true →
     option_and_then (λ passes. number_that passes value) (takes s) ≡ Some n → arguments (word ∷ value ∷ rest) ≡ in_front (Some (switch s n)) (arguments rest)
 unfolding arguments
 switch_read word value rest s n option some takes_one is =
@@ -66,7 +66,7 @@ switch_read word value rest s n option some takes_one is =
     rw (option, some, t.1, yes) refl
 
 -- each option has a slot
-pub index_below : (s : Switch) → index_of s < 6
+pub index_below : (s : OptionName) → index_of s < 6
 index_below Full = omega arith
 index_below Mem = omega arith
 index_below Limit = omega arith
@@ -76,7 +76,7 @@ index_below Cert = omega arith
 
 -- ---- places
 
-pub other_lengths : (ps : List code_place.FormPlace) (ws : List (Bor (List ℕ))) → length ps ≢ length ws → fits_places (map place_in ps) (words_in ws) ≡ false
+pub other_lengths : (ps : List code_place.PlaceForm) (ws : List (Bor (List ℕ))) → length ps ≢ length ws → fits_places (map place_in ps) (words_in ws) ≡ false
 other_lengths [] [] h = absurd (h refl)
 other_lengths [] (w ∷ ws) h = refl
 other_lengths (p ∷ ps) [] h = refl
@@ -92,7 +92,7 @@ all_none : (arguments : List Argument) → all_added None arguments ≡ None
 all_none [] = refl
 all_none (argument ∷ rest) = all_none rest
 
-pub refused : (f : Filled) (argument : Argument) (rest : Option (List Argument)) → added f argument ≡ None →
+pub refused : (f : FoundSoFar) (argument : Argument) (rest : Option (List Argument)) → added f argument ≡ None →
     option_and_then (all_added (Some f)) (in_front (Some argument) rest) ≡ None
 refused f argument None none = refl
 refused f argument (Some others) none = rw none (all_none others)

@@ -5,20 +5,20 @@ use Rattle.std.specs.List.{AllByRecursion}
 use Rattle.std.specs.Option.{option_map, option_to_list}
 use Rattle.y86_base.specs.Image.{IsSize, is_image_size}
 use Rattle.y86_base.specs.declared.parts.Variant.{Variant}
-use Rattle.y86_words.specs.declared.form.Kind.{Kind}
-use Rattle.y86_words.specs.declared.form.Kind.TheVariants.{Yas, Yis, Hcl, Ssim, Ssimp, Psim, CheckSeq, CheckPlus, CheckPipe, CertifyPipe, Recheck, Sample, Aig, Aigrun, Big}
-use Rattle.y86_words.specs.declared.option.Switch.{Switch}
-use Rattle.y86_words.specs.declared.option.Switch.TheVariants.{Full, Mem, Limit, Trace, Checked, Cert}
-use Rattle.y86_words.specs.Arguments.{Argument, place, switch, Reading, whole, needs, neither, reading_of, option_reading, place_reading, in_front, last, before, arguments, index_of, is_option, switch_of, Filled}
-use Rattle.y86_words.specs.Forms.{Command, yas, yis, hcl, ssim, ssimp, psim, check_seq, check_plus, check_pipe, certify_pipe, recheck, form_of, made, size_of, limit_of, trace_of, checked_of, variant_of, sample, most_drawn, most_seed, number_at, aig, aigrun, big, most_instructions}
+use Rattle.y86_words.specs.declared.form.CommandKind.{CommandKind}
+use Rattle.y86_words.specs.declared.form.CommandKind.TheVariants.{Yas, Yis, Hcl, Ssim, Ssimp, Psim, CheckSeq, CheckPlus, CheckPipe, CertifyPipe, Recheck, Sample, Aig, Aigrun, Big}
+use Rattle.y86_words.specs.declared.option.OptionName.{OptionName}
+use Rattle.y86_words.specs.declared.option.OptionName.TheVariants.{Full, Mem, Limit, Trace, Checked, Cert}
+use Rattle.y86_words.specs.Arguments.{Argument, place, switch, WordReading, whole, needs, neither, reading_of, option_reading, place_reading, in_front, last, before, arguments, index_of, is_option, switch_of, FoundSoFar}
+use Rattle.y86_words.specs.Forms.{Command, yas, yis, hcl, ssim, ssimp, psim, check_seq, check_plus, check_pipe, certify_pipe, recheck, form_of, built_command, size_of, limit_of, trace_of, checked_of, variant_of, sample, most_drawn, most_seed, number_at, aig, aigrun, big, most_instructions}
 use Rattle.y86_words.specs.Numbers.{number_of, is_run_limit, number_within}
-use Rattle.y86_words.specs.Wording.{IsFileName, IsRunLimit, IsLegal, places_of, numbers_of, IsFound}
+use Rattle.y86_words.specs.Wording.{IsFileName, IsRunLimit, IsInRange, places_of, numbers_of, IsFound}
 use Rattle.y86_words.proofs.Wording.{has_form}
 
 -- ---- the arguments of words are legal
 
 -- the numbers of an option that takes them
-abbrev IsNumberOf : Switch → ℕ → Type 0
+abbrev IsNumberOf : OptionName → ℕ → Type 0
 IsNumberOf Full n = Unit {0}
 IsNumberOf Mem n = IsSize n
 IsNumberOf Limit n = IsRunLimit n
@@ -34,7 +34,7 @@ abbrev AllLegal : List Argument → Type 0
 AllLegal read = AllByRecursion IsLegalArgument read
 
 -- what a word is, is legal
-abbrev IsLegalReading : Reading → Type 0
+abbrev IsLegalReading : WordReading → Type 0
 IsLegalReading (whole argument) = IsLegalArgument argument
 IsLegalReading (needs s passes) = (n : ℕ) → passes n ≡ true → IsNumberOf s n
 IsLegalReading neither = Unit {0}
@@ -49,7 +49,7 @@ size_is n h =
 limit_is : (n : ℕ) → is_run_limit n ≡ true → IsRunLimit n
 limit_is n h = let a = and_parts (nat_le 1 n) (nat_le n 100000000) h in (leb-true 1 n a.0, leb-true n 100000000 a.1)
 
-option_legal : (o : Option Switch) → IsLegalReading (option_reading o)
+option_legal : (o : Option OptionName) → IsLegalReading (option_reading o)
 option_legal None = tt
 option_legal (Some Full) = tt
 option_legal (Some Mem) = size_is
@@ -76,7 +76,7 @@ in_front_legal argument (Some rest) read e p q =
     let same : argument ∷ rest ≡ read = cc (e) in subst AllLegal same (p, q rest refl)
 
 -- the number of an option that passes
-number_legal : (s : Switch) (passes : ℕ → Bool) (number : Option ℕ) (others : Option (List Argument)) (read : List Argument) →
+number_legal : (s : OptionName) (passes : ℕ → Bool) (number : Option ℕ) (others : Option (List Argument)) (read : List Argument) →
     in_front (option_map (switch s) (option_and_then (λ n. cond (passes n) (Some n) None) number)) others ≡ Some read →
     ((n : ℕ) → passes n ≡ true → IsNumberOf s n) → ((rest : List Argument) → others ≡ Some rest → AllLegal rest) → AllLegal read
 number_legal s passes None others read e p q = absurd (cc (e))
@@ -86,12 +86,12 @@ number_legal s passes (Some n) others read e p q = at (passes n) refl e
     at true passed e = in_front_legal (switch s n) others read e (p n passed) q
     at false failed e = absurd (cc (e))
 
-last_legal : (reading : Reading) (read : List Argument) → IsLegalReading reading → last reading ≡ Some read → AllLegal read
+last_legal : (reading : WordReading) (read : List Argument) → IsLegalReading reading → last reading ≡ Some read → AllLegal read
 last_legal (whole argument) read p e = let same : argument ∷ [] ≡ read = cc (e) in subst AllLegal same (p, tt)
 last_legal (needs s passes) read p e = absurd (cc (e))
 last_legal neither read p e = absurd (cc (e))
 
-before_legal : (reading : Reading) (next : List ℕ) (behind from : Option (List Argument)) (read : List Argument) → IsLegalReading reading →
+before_legal : (reading : WordReading) (next : List ℕ) (behind from : Option (List Argument)) (read : List Argument) → IsLegalReading reading →
     before reading next behind from ≡ Some read → ((rest : List Argument) → behind ≡ Some rest → AllLegal rest) → ((rest : List Argument) → from ≡ Some rest → AllLegal rest) →
     AllLegal read
 before_legal (whole argument) next behind from read p e q r = in_front_legal argument from read e p r
@@ -112,7 +112,7 @@ places_legal [] h = tt
 places_legal (place word ∷ rest) h = (h.0, places_legal rest h.1)
 places_legal (switch s n ∷ rest) h = places_legal rest h.1
 
-same_switch : (s t : Switch) → nat_eq (index_of s) (index_of t) ≡ true → t ≡ s
+same_switch : (s t : OptionName) → nat_eq (index_of s) (index_of t) ≡ true → t ≡ s
 same_switch Full Full e = refl
 same_switch Full Mem e = absurd (cc (e))
 same_switch Full Limit e = absurd (cc (e))
@@ -150,13 +150,13 @@ same_switch Checked Cert e = absurd (cc (e))
 same_switch Cert Checked e = absurd (cc (e))
 same_switch Cert Cert e = refl
 
-numbers_legal : (s : Switch) (read : List Argument) → AllLegal read → AllByRecursion (IsNumberOf s) (numbers_of s read)
+numbers_legal : (s : OptionName) (read : List Argument) → AllLegal read → AllByRecursion (IsNumberOf s) (numbers_of s read)
 numbers_legal s [] h = tt
 numbers_legal s (place word ∷ rest) h = numbers_legal s rest h.1
 numbers_legal s (switch t n ∷ rest) h = at (nat_eq (index_of s) (index_of t)) refl (numbers_legal s rest h.1)
   where
     at : (b : Bool) → nat_eq (index_of s) (index_of t) ≡ b → AllByRecursion (IsNumberOf s) (numbers_of s rest) → AllByRecursion (IsNumberOf s) (cond b (n ∷ numbers_of s rest) (numbers_of s rest))
-    at true e more = let P : Switch → Type 0 = λ x. IsNumberOf x n in (subst P (same_switch s t e) h.0, more)
+    at true e more = let P : OptionName → Type 0 = λ x. IsNumberOf x n in (subst P (same_switch s t e) h.0, more)
     at false e more = more
 
 -- the number or the default
@@ -172,14 +172,14 @@ default_size : IsSize 8192
 default_size = record { least = lit≤ tt; most = lit≤ tt; whole_words = refl }
 
 -- what was found is legal
-record IsLegalFound (f : Filled) : Type 0 where
+record IsLegalFound (f : FoundSoFar) : Type 0 where
   words : AllByRecursion IsFileName f.words
   size : IsSize (size_of f)
   limit : IsRunLimit (limit_of f)
 
-found_legal : (read : List Argument) (f : Filled) → IsFound read f → AllLegal read → IsLegalFound f
+found_legal : (read : List Argument) (f : FoundSoFar) → IsFound read f → AllLegal read → IsLegalFound f
 found_legal read f found legal =
-    let of_switch = λ (s : Switch). subst (AllByRecursion (IsNumberOf s)) (found.numbers s) (numbers_legal s read legal) in
+    let of_switch = λ (s : OptionName). subst (AllByRecursion (IsNumberOf s)) (found.numbers s) (numbers_legal s read legal) in
     record {
       words = subst (AllByRecursion IsFileName) found.words (places_legal read legal);
       size = one_legal IsSize 8192 (get_or f.values 1 None) default_size (of_switch Mem);
@@ -188,59 +188,59 @@ found_legal read f found legal =
 
 -- ---- and so are the commands
 
-yas_legal : (v : Variant) (f : Filled) (word : Option (List ℕ)) (command : Command) → slice_get f.words 0 ≡ word → option_map (λ source. yas source (size_of f) v) word ≡ Some command →
-    IsLegalFound f → IsLegal command
+yas_legal : (v : Variant) (f : FoundSoFar) (word : Option (List ℕ)) (command : Command) → slice_get f.words 0 ≡ word → option_map (λ source. yas source (size_of f) v) word ≡ Some command →
+    IsLegalFound f → IsInRange command
 yas_legal v f None command e made_is legal = absurd (cc (made_is))
 yas_legal v f (Some word) command e made_is legal =
-    let same : yas word (size_of f) v ≡ command = cc (made_is) in subst IsLegal same (first_legal f.words word legal.words e, legal.size)
+    let same : yas word (size_of f) v ≡ command = cc (made_is) in subst IsInRange same (first_legal f.words word legal.words e, legal.size)
 
-yis_legal : (v : Variant) (f : Filled) (word : Option (List ℕ)) (command : Command) → slice_get f.words 0 ≡ word → option_map (λ object. yis object (size_of f) (limit_of f) v) word ≡ Some command →
-    IsLegalFound f → IsLegal command
+yis_legal : (v : Variant) (f : FoundSoFar) (word : Option (List ℕ)) (command : Command) → slice_get f.words 0 ≡ word → option_map (λ object. yis object (size_of f) (limit_of f) v) word ≡ Some command →
+    IsLegalFound f → IsInRange command
 yis_legal v f None command e made_is legal = absurd (cc (made_is))
 yis_legal v f (Some word) command e made_is legal =
-    let same : yis word (size_of f) (limit_of f) v ≡ command = cc (made_is) in subst IsLegal same (first_legal f.words word legal.words e, legal.size, legal.limit)
+    let same : yis word (size_of f) (limit_of f) v ≡ command = cc (made_is) in subst IsInRange same (first_legal f.words word legal.words e, legal.size, legal.limit)
 
-hcl_legal : (f : Filled) (word : Option (List ℕ)) (command : Command) → slice_get f.words 0 ≡ word → option_map hcl word ≡ Some command →
-    IsLegalFound f → IsLegal command
+hcl_legal : (f : FoundSoFar) (word : Option (List ℕ)) (command : Command) → slice_get f.words 0 ≡ word → option_map hcl word ≡ Some command →
+    IsLegalFound f → IsInRange command
 hcl_legal f None command e made_is legal = absurd (cc (made_is))
 hcl_legal f (Some word) command e made_is legal =
-    let same : hcl word ≡ command = cc (made_is) in subst IsLegal same (first_legal f.words word legal.words e)
+    let same : hcl word ≡ command = cc (made_is) in subst IsInRange same (first_legal f.words word legal.words e)
 
 second_legal : (words : List (List ℕ)) (word : List ℕ) → AllByRecursion IsFileName words → slice_get words 1 ≡ Some word → IsFileName word
 second_legal [] word h e = absurd (cc (e))
 second_legal (first ∷ rest) word h e = first_legal rest word h.1 e
 
 sequential_legal : (make : List ℕ → List ℕ → ℕ → ℕ → Variant → Command) →
-    ((name object : List ℕ) (size limit : ℕ) (v : Variant) → IsFileName name × IsFileName object × IsSize size × IsRunLimit limit → IsLegal (make name object size limit v)) →
-    (v : Variant) (f : Filled) (name object : Option (List ℕ)) (command : Command) → slice_get f.words 0 ≡ name → slice_get f.words 1 ≡ object →
-    option_and_then (λ file. option_map (λ o. make file o (size_of f) (limit_of f) v) object) name ≡ Some command → IsLegalFound f → IsLegal command
+    ((name object : List ℕ) (size limit : ℕ) (v : Variant) → IsFileName name × IsFileName object × IsSize size × IsRunLimit limit → IsInRange (make name object size limit v)) →
+    (v : Variant) (f : FoundSoFar) (name object : Option (List ℕ)) (command : Command) → slice_get f.words 0 ≡ name → slice_get f.words 1 ≡ object →
+    option_and_then (λ file. option_map (λ o. make file o (size_of f) (limit_of f) v) object) name ≡ Some command → IsLegalFound f → IsInRange command
 sequential_legal make legal_as v f None object command e d made_is legal = absurd (cc (made_is))
 sequential_legal make legal_as v f (Some name) None command e d made_is legal = absurd (cc (made_is))
 sequential_legal make legal_as v f (Some name) (Some object) command e d made_is legal =
     let same : make name object (size_of f) (limit_of f) v ≡ command = cc (made_is) in
-    subst IsLegal same (legal_as name object (size_of f) (limit_of f) v (first_legal f.words name legal.words e, second_legal f.words object legal.words d, legal.size, legal.limit))
+    subst IsInRange same (legal_as name object (size_of f) (limit_of f) v (first_legal f.words name legal.words e, second_legal f.words object legal.words d, legal.size, legal.limit))
 
-psim_legal : (v : Variant) (trace checked : Bool) (f : Filled) (name object : Option (List ℕ)) (command : Command) → slice_get f.words 0 ≡ name → slice_get f.words 1 ≡ object →
-    option_and_then (λ file. option_map (λ o. psim file o (size_of f) (limit_of f) trace checked v) object) name ≡ Some command → IsLegalFound f → IsLegal command
+psim_legal : (v : Variant) (trace checked : Bool) (f : FoundSoFar) (name object : Option (List ℕ)) (command : Command) → slice_get f.words 0 ≡ name → slice_get f.words 1 ≡ object →
+    option_and_then (λ file. option_map (λ o. psim file o (size_of f) (limit_of f) trace checked v) object) name ≡ Some command → IsLegalFound f → IsInRange command
 psim_legal v trace checked f None object command e d made_is legal = absurd (cc (made_is))
 psim_legal v trace checked f (Some name) None command e d made_is legal = absurd (cc (made_is))
 psim_legal v trace checked f (Some name) (Some object) command e d made_is legal =
     let same : psim name object (size_of f) (limit_of f) trace checked v ≡ command = cc (made_is) in
-    subst IsLegal same (first_legal f.words name legal.words e, second_legal f.words object legal.words d, legal.size, legal.limit)
+    subst IsInRange same (first_legal f.words name legal.words e, second_legal f.words object legal.words d, legal.size, legal.limit)
 
-recheck_legal : (v : Variant) (f : Filled) (name cert : Option (List ℕ)) (command : Command) → slice_get f.words 0 ≡ name → slice_get f.words 1 ≡ cert →
-    option_and_then (λ file. option_map (λ c. recheck file c v) cert) name ≡ Some command → IsLegalFound f → IsLegal command
+recheck_legal : (v : Variant) (f : FoundSoFar) (name cert : Option (List ℕ)) (command : Command) → slice_get f.words 0 ≡ name → slice_get f.words 1 ≡ cert →
+    option_and_then (λ file. option_map (λ c. recheck file c v) cert) name ≡ Some command → IsLegalFound f → IsInRange command
 recheck_legal v f None cert command e d made_is legal = absurd (cc (made_is))
 recheck_legal v f (Some name) None command e d made_is legal = absurd (cc (made_is))
 recheck_legal v f (Some name) (Some cert) command e d made_is legal =
     let same : recheck name cert v ≡ command = cc (made_is) in
-    subst IsLegal same (first_legal f.words name legal.words e, second_legal f.words cert legal.words d)
+    subst IsInRange same (first_legal f.words name legal.words e, second_legal f.words cert legal.words d)
 
-check_legal : (make : List ℕ → Command) → ((word : List ℕ) → IsFileName word → IsLegal (make word)) → (f : Filled) (word : Option (List ℕ)) (command : Command) →
-    slice_get f.words 1 ≡ word → option_map make word ≡ Some command → IsLegalFound f → IsLegal command
+check_legal : (make : List ℕ → Command) → ((word : List ℕ) → IsFileName word → IsInRange (make word)) → (f : FoundSoFar) (word : Option (List ℕ)) (command : Command) →
+    slice_get f.words 1 ≡ word → option_map make word ≡ Some command → IsLegalFound f → IsInRange command
 check_legal make legal_as f None command e made_is legal = absurd (cc (made_is))
 check_legal make legal_as f (Some word) command e made_is legal =
-    let same : make word ≡ command = cc (made_is) in subst IsLegal same (legal_as word (second_legal f.words word legal.words e))
+    let same : make word ≡ command = cc (made_is) in subst IsInRange same (legal_as word (second_legal f.words word legal.words e))
 
 -- a number within a range
 within_legal : (least most : ℕ) (number : Option ℕ) (n : ℕ) → option_and_then (λ n. cond (nat_le least n && nat_le n most) (Some n) None) number ≡ Some n → (least ≤ n) × (n ≤ most)
@@ -254,47 +254,47 @@ within_legal least most (Some m) n e = at (nat_le least m && nat_le m most) refl
         let P : ℕ → Type 0 = λ x. (least ≤ x) × (x ≤ most) in subst P same (leb-true least m a.0, leb-true m most a.1)
     at false failed e = absurd (cc (e))
 
-number_in_place : (least most at : ℕ) (f : Filled) (n : ℕ) → number_at least most at f ≡ Some n → (least ≤ n) × (n ≤ most)
+number_in_place : (least most at : ℕ) (f : FoundSoFar) (n : ℕ) → number_at least most at f ≡ Some n → (least ≤ n) × (n ≤ most)
 number_in_place least most at f n e = of_word (slice_get f.words at) e
   where
     of_word : (word : Option (List ℕ)) → option_and_then (number_within least most) word ≡ Some n → (least ≤ n) × (n ≤ most)
     of_word None e = absurd (cc (e))
     of_word (Some word) e = within_legal least most (number_of word) n e
 
-sample_legal : (v : Variant) (f : Filled) (name : Option (List ℕ)) (seed count : Option ℕ) (command : Command) → slice_get f.words 0 ≡ name →
+sample_legal : (v : Variant) (f : FoundSoFar) (name : Option (List ℕ)) (seed count : Option ℕ) (command : Command) → slice_get f.words 0 ≡ name →
     number_at 0 most_seed 1 f ≡ seed → number_at 0 most_drawn 2 f ≡ count →
-    option_and_then (λ file. option_and_then (λ s. option_map (λ c. sample file s c v) count) seed) name ≡ Some command → IsLegalFound f → IsLegal command
+    option_and_then (λ file. option_and_then (λ s. option_map (λ c. sample file s c v) count) seed) name ≡ Some command → IsLegalFound f → IsInRange command
 sample_legal v f None seed count command e d c made_is legal = absurd (cc (made_is))
 sample_legal v f (Some name) None count command e d c made_is legal = absurd (cc (made_is))
 sample_legal v f (Some name) (Some seed) None command e d c made_is legal = absurd (cc (made_is))
 sample_legal v f (Some name) (Some seed) (Some count) command e d c made_is legal =
     let same : sample name seed count v ≡ command = cc (made_is) in
-    subst IsLegal same (first_legal f.words name legal.words e, (number_in_place 0 most_seed 1 f seed d).1, (number_in_place 0 most_drawn 2 f count c).1)
+    subst IsInRange same (first_legal f.words name legal.words e, (number_in_place 0 most_seed 1 f seed d).1, (number_in_place 0 most_drawn 2 f count c).1)
 
-aig_legal : (v : Variant) (f : Filled) (word : Option (List ℕ)) (command : Command) → slice_get f.words 0 ≡ word → option_map (λ file. aig file v) word ≡ Some command →
-    IsLegalFound f → IsLegal command
+aig_legal : (v : Variant) (f : FoundSoFar) (word : Option (List ℕ)) (command : Command) → slice_get f.words 0 ≡ word → option_map (λ file. aig file v) word ≡ Some command →
+    IsLegalFound f → IsInRange command
 aig_legal v f None command e made_is legal = absurd (cc (made_is))
 aig_legal v f (Some word) command e made_is legal =
-    let same : aig word v ≡ command = cc (made_is) in subst IsLegal same (first_legal f.words word legal.words e)
+    let same : aig word v ≡ command = cc (made_is) in subst IsInRange same (first_legal f.words word legal.words e)
 
-aigrun_legal : (f : Filled) (name : Option (List ℕ)) (seed : Option ℕ) (command : Command) → slice_get f.words 0 ≡ name → number_at 0 most_seed 1 f ≡ seed →
-    option_and_then (λ file. option_map (aigrun file) seed) name ≡ Some command → IsLegalFound f → IsLegal command
+aigrun_legal : (f : FoundSoFar) (name : Option (List ℕ)) (seed : Option ℕ) (command : Command) → slice_get f.words 0 ≡ name → number_at 0 most_seed 1 f ≡ seed →
+    option_and_then (λ file. option_map (aigrun file) seed) name ≡ Some command → IsLegalFound f → IsInRange command
 aigrun_legal f None seed command e d made_is legal = absurd (cc (made_is))
 aigrun_legal f (Some name) None command e d made_is legal = absurd (cc (made_is))
 aigrun_legal f (Some name) (Some seed) command e d made_is legal =
     let same : aigrun name seed ≡ command = cc (made_is) in
-    subst IsLegal same (first_legal f.words name legal.words e, (number_in_place 0 most_seed 1 f seed d).1)
+    subst IsInRange same (first_legal f.words name legal.words e, (number_in_place 0 most_seed 1 f seed d).1)
 
-big_legal : (v : Variant) (f : Filled) (number : Option ℕ) (name : Option (List ℕ)) (command : Command) → number_at 1 most_instructions 0 f ≡ number → slice_get f.words 1 ≡ name →
-    option_and_then (λ n. option_map (λ file. big n file v) name) number ≡ Some command → IsLegalFound f → IsLegal command
+big_legal : (v : Variant) (f : FoundSoFar) (number : Option ℕ) (name : Option (List ℕ)) (command : Command) → number_at 1 most_instructions 0 f ≡ number → slice_get f.words 1 ≡ name →
+    option_and_then (λ n. option_map (λ file. big n file v) name) number ≡ Some command → IsLegalFound f → IsInRange command
 big_legal v f None name command e d made_is legal = absurd (cc (made_is))
 big_legal v f (Some n) None command e d made_is legal = absurd (cc (made_is))
 big_legal v f (Some n) (Some name) command e d made_is legal =
     let same : big n name v ≡ command = cc (made_is) in
     let range = number_in_place 1 most_instructions 0 f n e in
-    subst IsLegal same (range.0, range.1, second_legal f.words name legal.words d)
+    subst IsInRange same (range.0, range.1, second_legal f.words name legal.words d)
 
-made_legal : (kind : Kind) (f : Filled) (command : Command) → made kind f ≡ Some command → IsLegalFound f → IsLegal command
+made_legal : (kind : CommandKind) (f : FoundSoFar) (command : Command) → built_command kind f ≡ Some command → IsLegalFound f → IsInRange command
 made_legal Yas f command e legal = yas_legal (variant_of f) f (slice_get f.words 0) command refl e legal
 made_legal Yis f command e legal = yis_legal (variant_of f) f (slice_get f.words 0) command refl e legal
 made_legal Hcl f command e legal = hcl_legal f (slice_get f.words 0) command refl e legal
@@ -315,7 +315,7 @@ no_words : (command : Command) → form_of [] ≡ Some command → ⊥
 unfolding form_of
 no_words command e = absurd (cc (e))
 
-pub form_legal : (words : List (List ℕ)) (command : Command) → form_of words ≡ Some command → IsLegal command
+pub form_legal : (words : List (List ℕ)) (command : Command) → form_of words ≡ Some command → IsInRange command
 form_legal [] command e = absurd (no_words command e)
 form_legal (name ∷ rest) command e =
     let form = has_form name rest command e in

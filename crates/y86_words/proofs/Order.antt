@@ -3,8 +3,8 @@ use Rattle.std.proofs.Common.{◌≡◌, ◌≢◌, ℕ, ◌<◌, Bool, true, fa
 use Rattle.std.proofs.lemmas.Bool.{eqb-true, eqb-false}
 use Rattle.std.proofs.lemmas.List.{get_or-set_same, get_or-set_other, length-set, set_comm}
 use Rattle.std.specs.Option.{option_map}
-use Rattle.y86_words.specs.declared.option.Switch.{Switch}
-use Rattle.y86_words.specs.Arguments.{Argument, place, switch, Reading, whole, needs, neither, reading_of, in_front, arguments, index_of, Filled, nothing_filled, added, all_added}
+use Rattle.y86_words.specs.declared.option.OptionName.{OptionName}
+use Rattle.y86_words.specs.Arguments.{Argument, place, switch, WordReading, whole, needs, neither, reading_of, in_front, arguments, index_of, FoundSoFar, nothing_filled, added, all_added}
 use Rattle.y86_words.specs.Forms.{forms, first_fit, form_of}
 use Rattle.y86_words.specs.Numbers.{number_that}
 use Rattle.y86_words.specs.Wording.{AreArguments, AreOptions, places_of}
@@ -39,12 +39,12 @@ unfolding arguments
 whole_first word [] argument is = rw is refl
 whole_first word (next ∷ rest) argument is = rw is refl
 
-needs_first : (word value : List ℕ) (rest : List (List ℕ)) (s : Switch) (passes : ℕ → Bool) → reading_of word ≡ needs s passes →
+needs_first : (word value : List ℕ) (rest : List (List ℕ)) (s : OptionName) (passes : ℕ → Bool) → reading_of word ≡ needs s passes →
     arguments (word ∷ value ∷ rest) ≡ in_front (option_map (switch s) (number_that passes value)) (arguments rest)
 unfolding arguments
 needs_first word value rest s passes is = rw is refl
 
-not_last : (word : List ℕ) (s : Switch) (passes : ℕ → Bool) → reading_of word ≡ needs s passes → arguments (word ∷ []) ≡ None
+not_last : (word : List ℕ) (s : OptionName) (passes : ℕ → Bool) → reading_of word ≡ needs s passes → arguments (word ∷ []) ≡ None
 unfolding arguments
 not_last word s passes is = rw is refl
 
@@ -72,14 +72,14 @@ all_in_front : (front back : List (List ℕ)) (done : List Argument) → argumen
 all_in_front [] back done e = sym (none_in_front (arguments back)) ∙ ap (λ d. in_front_all d (arguments back)) (nothing done e)
 all_in_front (word ∷ []) back done e = at (reading_of word) refl (all_in_front [] back)
   where
-    at : (r : Reading) → reading_of word ≡ r → ((others : List Argument) → arguments [] ≡ Some others → arguments back ≡ in_front_all others (arguments back)) →
+    at : (r : WordReading) → reading_of word ≡ r → ((others : List Argument) → arguments [] ≡ Some others → arguments back ≡ in_front_all others (arguments back)) →
         arguments (word ∷ back) ≡ in_front_all done (arguments back)
     at (whole argument) is more = behind (Some argument) [] back (word ∷ back) done (sym (whole_first word [] argument is) ∙ e) (whole_first word back argument is) more
     at (needs s passes) is more = absurd (cc (e, not_last word s passes is))
     at neither is more = absurd (cc (e, no_argument word [] is))
 all_in_front (word ∷ next ∷ rest) back done e = at (reading_of word) refl (all_in_front rest back) (all_in_front (next ∷ rest) back)
   where
-    at : (r : Reading) → reading_of word ≡ r → ((others : List Argument) → arguments rest ≡ Some others → arguments (rest ++ back) ≡ in_front_all others (arguments back)) →
+    at : (r : WordReading) → reading_of word ≡ r → ((others : List Argument) → arguments rest ≡ Some others → arguments (rest ++ back) ≡ in_front_all others (arguments back)) →
         ((others : List Argument) → arguments (next ∷ rest) ≡ Some others → arguments (next ∷ (rest ++ back)) ≡ in_front_all others (arguments back)) →
         arguments (word ∷ next ∷ (rest ++ back)) ≡ in_front_all done (arguments back)
     at (whole argument) is short long =
@@ -92,10 +92,10 @@ all_in_front (word ∷ next ∷ rest) back done e = at (reading_of word) refl (a
 
 -- ---- an option and another argument, in either order
 
-and_added : Argument → Option Filled → Option Filled
+and_added : Argument → Option FoundSoFar → Option FoundSoFar
 and_added argument = option_and_then (λ f. added f argument)
 
-with_place : (f : Filled) (s : Switch) (n : ℕ) (word : List ℕ) (b c : Bool) → is_none (get_or f.values (index_of s) None) ≡ b → ltb (length f.words) 3 ≡ c →
+with_place : (f : FoundSoFar) (s : OptionName) (n : ℕ) (word : List ℕ) (b c : Bool) → is_none (get_or f.values (index_of s) None) ≡ b → ltb (length f.words) 3 ≡ c →
     and_added (place word) (added f (switch s n)) ≡ and_added (switch s n) (added f (place word))
 unfolding and_added
 with_place f s n word true true e1 e2 = rw (e1, e2) (rw e1 refl)
@@ -104,7 +104,7 @@ with_place f s n word false true e1 e2 = rw (e1, e2) (rw e1 refl)
 with_place f s n word false false e1 e2 = rw (e1, e2) refl
 
 -- an option twice
-twice : (f : Filled) (s t : Switch) (n m : ℕ) (b : Bool) → index_of t ≡ index_of s → length f.values ≡ 6 → is_none (get_or f.values (index_of s) None) ≡ b →
+twice : (f : FoundSoFar) (s t : OptionName) (n m : ℕ) (b : Bool) → index_of t ≡ index_of s → length f.values ≡ 6 → is_none (get_or f.values (index_of s) None) ≡ b →
     and_added (switch t m) (added f (switch s n)) ≡ None
 unfolding and_added
 twice f s t n m true same all_slots e =
@@ -113,7 +113,7 @@ twice f s t n m true same all_slots e =
 twice f s t n m false same all_slots e = rw e refl
 
 -- two options
-apart : (f : Filled) (s t : Switch) (n m : ℕ) (b c : Bool) → index_of t ≢ index_of s → is_none (get_or f.values (index_of s) None) ≡ b →
+apart : (f : FoundSoFar) (s t : OptionName) (n m : ℕ) (b c : Bool) → index_of t ≢ index_of s → is_none (get_or f.values (index_of s) None) ≡ b →
     is_none (get_or f.values (index_of t) None) ≡ c → and_added (switch t m) (added f (switch s n)) ≡ and_added (switch s n) (added f (switch t m))
 unfolding and_added
 apart f s t n m true true other e1 e2 =
@@ -126,7 +126,7 @@ apart f s t n m false true other e1 e2 =
     rw (e1, e2) (rw (get_or-set_other f.values (index_of t) (index_of s) (Some m) None (λ e. other (sym e))) (rw e1 refl))
 apart f s t n m false false other e1 e2 = rw (e1, e2) refl
 
-exchanged : (f : Filled) (s : Switch) (n : ℕ) (argument : Argument) → length f.values ≡ 6 →
+exchanged : (f : FoundSoFar) (s : OptionName) (n : ℕ) (argument : Argument) → length f.values ≡ 6 →
     and_added argument (added f (switch s n)) ≡ and_added (switch s n) (added f argument)
 exchanged f s n (place word) all_slots = with_place f s n word _ _ refl refl
 exchanged f s n (switch t m) all_slots = at (eqb (index_of t) (index_of s)) refl
@@ -139,11 +139,11 @@ exchanged f s n (switch t m) all_slots = at (eqb (index_of t) (index_of s)) refl
 
 -- ---- options in front of other arguments, or behind them
 
-abbrev HasAll : Option Filled → Type 0
+abbrev HasAll : Option FoundSoFar → Type 0
 HasAll None = Unit {0}
 HasAll (Some f) = length f.values ≡ 6
 
-added_all : (f : Filled) (argument : Argument) → length f.values ≡ 6 → HasAll (added f argument)
+added_all : (f : FoundSoFar) (argument : Argument) → length f.values ≡ 6 → HasAll (added f argument)
 added_all f (place word) all_slots = at (ltb (length f.words) 3)
   where
     at : (b : Bool) → HasAll (cond b (Some (record f { words = f.words ++ word ∷ [] })) None)
@@ -155,30 +155,30 @@ added_all f (switch s n) all_slots = at (is_none (get_or f.values (index_of s) N
     at true = length-set f.values (index_of s) (Some n) ∙ all_slots
     at false = tt
 
-still_all : (f : Option Filled) (argument : Argument) → HasAll f → HasAll (and_added argument f)
+still_all : (f : Option FoundSoFar) (argument : Argument) → HasAll f → HasAll (and_added argument f)
 unfolding and_added
 still_all None argument all_slots = tt
 still_all (Some f) argument all_slots = added_all f argument all_slots
 
-one_exchanged : (f : Option Filled) (s : Switch) (n : ℕ) (argument : Argument) → HasAll f →
+one_exchanged : (f : Option FoundSoFar) (s : OptionName) (n : ℕ) (argument : Argument) → HasAll f →
     and_added argument (and_added (switch s n) f) ≡ and_added (switch s n) (and_added argument f)
 unfolding and_added
 one_exchanged None s n argument all_slots = refl
 one_exchanged (Some f) s n argument all_slots = exchanged f s n argument all_slots
 
-next_added : (f : Option Filled) (argument : Argument) (rest : List Argument) → all_added f (argument ∷ rest) ≡ all_added (and_added argument f) rest
+next_added : (f : Option FoundSoFar) (argument : Argument) (rest : List Argument) → all_added f (argument ∷ rest) ≡ all_added (and_added argument f) rest
 unfolding and_added
 next_added f argument rest = refl
 
 -- one option, in front of others or behind them
-moved : (others : List Argument) (f : Option Filled) (s : Switch) (n : ℕ) → HasAll f →
+moved : (others : List Argument) (f : Option FoundSoFar) (s : OptionName) (n : ℕ) → HasAll f →
     all_added (and_added (switch s n) f) others ≡ and_added (switch s n) (all_added f others)
 moved [] f s n all_slots = refl
 moved (argument ∷ others) f s n all_slots =
     next_added (and_added (switch s n) f) argument others ∙ ap (λ g. all_added g others) (one_exchanged f s n argument all_slots)
     ∙ moved others (and_added argument f) s n (still_all f argument all_slots) ∙ ap (and_added (switch s n)) (sym (next_added f argument others))
 
-all_moved : (options others : List Argument) (f : Option Filled) → places_of options ≡ [] → HasAll f →
+all_moved : (options others : List Argument) (f : Option FoundSoFar) → places_of options ≡ [] → HasAll f →
     all_added (all_added f options) others ≡ all_added (all_added f others) options
 all_moved [] others f none all_slots = refl
 all_moved (place word ∷ options) others f none all_slots = absurd (cc (none))
@@ -187,11 +187,11 @@ all_moved (switch s n ∷ options) others f none all_slots =
     ∙ all_moved options others (and_added (switch s n) f) none (still_all f (switch s n) all_slots)
     ∙ ap (λ g. all_added g options) (moved others f s n all_slots) ∙ sym (next_added (all_added f others) (switch s n) options)
 
-all_added-append : (front back : List Argument) (f : Option Filled) → all_added f (front ++ back) ≡ all_added (all_added f front) back
+all_added-append : (front back : List Argument) (f : Option FoundSoFar) → all_added f (front ++ back) ≡ all_added (all_added f front) back
 all_added-append [] back f = refl
 all_added-append (argument ∷ front) back f = all_added-append front back (option_and_then (λ g. added g argument) f)
 
-any_place : (xs ys zs : List Argument) (f : Option Filled) → places_of xs ≡ [] → HasAll f → all_added f (xs ++ (ys ++ zs)) ≡ all_added f (ys ++ (xs ++ zs))
+any_place : (xs ys zs : List Argument) (f : Option FoundSoFar) → places_of xs ≡ [] → HasAll f → all_added f (xs ++ (ys ++ zs)) ≡ all_added f (ys ++ (xs ++ zs))
 any_place xs ys zs f none all_slots =
     all_added-append xs (ys ++ zs) f ∙ all_added-append ys zs (all_added f xs) ∙ ap (λ g. all_added g zs) (all_moved xs ys f none all_slots)
     ∙ sym (all_added-append ys (xs ++ zs) f ∙ all_added-append xs zs (all_added f ys))

@@ -13,12 +13,12 @@ use Rattle.y86_base.specs.declared.parts.Variant.{Variant}
 use Rattle.y86_base.specs.declared.parts.Variant.TheVariants.{Base}
 use Rattle.y86_base.specs.declared.parts.Variant.TheVariants as variant
 use Rattle.y86_base.proofs.Numerals.{all_decimal}
-use Rattle.y86_words.specs.declared.option.Switch.{Switch}
-use Rattle.y86_words.specs.declared.option.Switch.TheVariants.{Full, Mem, Limit, Trace, Checked, Cert}
-use Rattle.y86_words.specs.Arguments.{Argument, place, switch, arguments, in_front, index_of, Filled, nothing_filled, all_added, is_option}
-use Rattle.y86_words.specs.Forms.{Command, yas, yis, hcl, ssim, ssimp, psim, check_seq, check_plus, check_pipe, certify_pipe, recheck, Form, forms, fits, made, first_fit, form_of, sample, most_drawn, most_seed, aig, aigrun, big, most_instructions}
+use Rattle.y86_words.specs.declared.option.OptionName.{OptionName}
+use Rattle.y86_words.specs.declared.option.OptionName.TheVariants.{Full, Mem, Limit, Trace, Checked, Cert}
+use Rattle.y86_words.specs.Arguments.{Argument, place, switch, arguments, in_front, index_of, FoundSoFar, nothing_filled, all_added, is_option}
+use Rattle.y86_words.specs.Forms.{Command, yas, yis, hcl, ssim, ssimp, psim, check_seq, check_plus, check_pipe, certify_pipe, recheck, Form, forms, fits, built_command, first_fit, form_of, sample, most_drawn, most_seed, aig, aigrun, big, most_instructions}
 use Rattle.y86_words.specs.Numbers.{is_number, number_of, number_that, is_run_limit, number_within}
-use Rattle.y86_words.specs.Wording.{IsFileName, IsRunLimit, IsLegal, trace_words, checked_words, variant_words, words_of, places_of, numbers_of, IsFound, HasForm}
+use Rattle.y86_words.specs.Wording.{IsFileName, IsRunLimit, IsInRange, trace_words, checked_words, variant_words, words_of, places_of, numbers_of, IsFound, HasForm}
 use Rattle.y86_words.proofs.Arguments.{index_below, place_read, switch_read}
 
 -- ---- the words of a legal command are that command
@@ -117,7 +117,7 @@ unfolding arguments variant_arguments
 cert_read variant.Base = refl
 cert_read variant.Full = refl
 
-pub legal_written : (command : Command) → IsLegal command → form_of (words_of command) ≡ Some command
+pub legal_written : (command : Command) → IsInRange command → form_of (words_of command) ≡ Some command
 unfolding form_of first_fit variant_arguments trace_arguments checked_arguments run_arguments
 legal_written (yas source size variant.Base) legal = rw (file_arguments source _ legal.0, size_arguments size _ legal.1, variant_read variant.Base) refl
 legal_written (yas source size variant.Full) legal = rw (file_arguments source _ legal.0, size_arguments size _ legal.1, variant_read variant.Full) refl
@@ -190,15 +190,15 @@ defaults_hold file name = (rw (file_arguments file [] name, no_arguments) refl, 
 -- ---- words that are a command
 
 -- what is found after more arguments
-pub record Grows (f g : Filled) (more : List Argument) : Type 0 where
+pub record Grows (f g : FoundSoFar) (more : List Argument) : Type 0 where
   pub words : f.words ++ places_of more ≡ g.words
-  pub numbers : (s : Switch) → option_to_list (get_or f.values (index_of s) None) ++ numbers_of s more ≡ option_to_list (get_or g.values (index_of s) None)
+  pub numbers : (s : OptionName) → option_to_list (get_or f.values (index_of s) None) ++ numbers_of s more ≡ option_to_list (get_or g.values (index_of s) None)
 
-none_added : (rest : List Argument) (g : Filled) → all_added None rest ≡ Some g → ⊥
+none_added : (rest : List Argument) (g : FoundSoFar) → all_added None rest ≡ Some g → ⊥
 none_added [] g e = absurd (cc (e))
 none_added (argument ∷ rest) g e = none_added rest g e
 
-slot_after : (values : List (Option ℕ)) (s t : Switch) (n : ℕ) (more : List ℕ) (b : Bool) → length values ≡ 6 → is_none (get_or values (index_of t) None) ≡ true →
+slot_after : (values : List (Option ℕ)) (s t : OptionName) (n : ℕ) (more : List ℕ) (b : Bool) → length values ≡ 6 → is_none (get_or values (index_of t) None) ≡ true →
     eqb (index_of s) (index_of t) ≡ b →
     option_to_list (get_or values (index_of s) None) ++ cond b (n ∷ more) more ≡ option_to_list (get_or (set values (index_of t) (Some n)) (index_of s) None) ++ more
 slot_after values s t n more true all_slots empty e =
@@ -212,20 +212,20 @@ slot_after values s t n more true all_slots empty e =
 slot_after values s t n more false all_slots empty e =
     rw (get_or-set_other values (index_of t) (index_of s) (Some n) None (eqb-false (index_of s) (index_of t) e)) refl
 
-grows_first : (f g : Filled) (w : List ℕ) (rest : List Argument) → Grows (record f { words = f.words ++ (w ∷ []) }) g rest → Grows f g (place w ∷ rest)
+grows_first : (f g : FoundSoFar) (w : List ℕ) (rest : List Argument) → Grows (record f { words = f.words ++ (w ∷ []) }) g rest → Grows f g (place w ∷ rest)
 grows_first f g w rest h = record { words = sym (append_assoc f.words (w ∷ []) (places_of rest)) ∙ h.words; numbers = h.numbers }
 
-grows_switch : (f g : Filled) (t : Switch) (n : ℕ) (rest : List Argument) → length f.values ≡ 6 → is_none (get_or f.values (index_of t) None) ≡ true →
+grows_switch : (f g : FoundSoFar) (t : OptionName) (n : ℕ) (rest : List Argument) → length f.values ≡ 6 → is_none (get_or f.values (index_of t) None) ≡ true →
     Grows (record f { values = set f.values (index_of t) (Some n) }) g rest → Grows f g (switch t n ∷ rest)
 grows_switch f g t n rest all_slots empty h = record {
   words = h.words;
   numbers = λ s. slot_after f.values s t n (numbers_of s rest) (eqb (index_of s) (index_of t)) all_slots empty refl ∙ h.numbers s;
 }
 
-grows : (more : List Argument) (f g : Filled) → length f.values ≡ 6 → all_added (Some f) more ≡ Some g → Grows f g more
+grows : (more : List Argument) (f g : FoundSoFar) → length f.values ≡ 6 → all_added (Some f) more ≡ Some g → Grows f g more
 grows [] f g all_slots e =
     let same : f ≡ g = cc (e) in
-    let P : Filled → Type 0 = λ x. Grows f x [] in
+    let P : FoundSoFar → Type 0 = λ x. Grows f x [] in
     subst P same (record { words = append-nil f.words; numbers = λ s. append-nil _ })
 grows (place w ∷ rest) f g all_slots e = at (ltb (length f.words) 3) (grows rest (record f { words = f.words ++ (w ∷ []) }) g all_slots) e
   where
@@ -243,7 +243,7 @@ grows (switch t n ∷ rest) f g all_slots e =
     at true empty more e = grows_switch f g t n rest all_slots empty (more e)
     at false empty more e = absurd (none_added rest g e)
 
-nothing_at : (s : Switch) → option_to_list (get_or nothing_filled.values (index_of s) None) ≡ []
+nothing_at : (s : OptionName) → option_to_list (get_or nothing_filled.values (index_of s) None) ≡ []
 nothing_at Full = refl
 nothing_at Mem = refl
 nothing_at Limit = refl
@@ -251,7 +251,7 @@ nothing_at Trace = refl
 nothing_at Checked = refl
 nothing_at Cert = refl
 
-all_found : (found : List Argument) (f : Filled) → all_added (Some nothing_filled) found ≡ Some f → IsFound found f
+all_found : (found : List Argument) (f : FoundSoFar) → all_added (Some nothing_filled) found ≡ Some f → IsFound found f
 all_found found f e =
     let g = grows found nothing_filled f refl e in
     record { words = g.words; numbers = λ s. ap (λ xs. xs ++ numbers_of s found) (sym (nothing_at s)) ∙ g.numbers s }
@@ -260,16 +260,16 @@ one_more : (first form : Form) (rows : List Form) → Contains rows form → Con
 one_more first form rows (k, inside, same) = (suc k, omega (arith, inside), same)
 
 -- a row that the name and what was found behind it fit
-Fit : List Form → List ℕ → Filled → Command → Type 0
-Fit rows name f command = (form : Form) × Contains rows form × IsTrue (fits form name f) × (made form.kind f ≡ Some command)
+Fit : List Form → List ℕ → FoundSoFar → Command → Type 0
+Fit rows name f command = (form : Form) × Contains rows form × IsTrue (fits form name f) × (built_command form.kind f ≡ Some command)
 
-fit_of : (rows : List Form) (name : List ℕ) (f : Filled) (command : Command) → first_fit rows name f ≡ Some command → Fit rows name f command
+fit_of : (rows : List Form) (name : List ℕ) (f : FoundSoFar) (command : Command) → first_fit rows name f ≡ Some command → Fit rows name f command
 unfolding first_fit Fit
 fit_of [] name f command e = absurd (cc (e))
 fit_of (form ∷ rest) name f command e = at (fits form name f) refl (fit_of rest name f command) e
   where
     at : (b : Bool) → fits form name f ≡ b → (first_fit rest name f ≡ Some command → Fit rest name f command) →
-        cond b (made form.kind f) (first_fit rest name f) ≡ Some command → Fit (form ∷ rest) name f command
+        cond b (built_command form.kind f) (first_fit rest name f) ≡ Some command → Fit (form ∷ rest) name f command
     at true fit more e = (form, (0, omega arith, refl), fit, e)
     at false fit more e = let behind = more e in (behind.0, one_more form behind.0 rest behind.1, behind.2, behind.3)
 
@@ -279,7 +279,7 @@ unfolding Fit
 form_at name rest None command are e = absurd (cc (e))
 form_at name rest (Some read) command are e = at (all_added (Some nothing_filled) read) refl e
   where
-    at : (f : Option Filled) → all_added (Some nothing_filled) read ≡ f → option_and_then (first_fit forms name) f ≡ Some command → HasForm name rest command
+    at : (f : Option FoundSoFar) → all_added (Some nothing_filled) read ≡ f → option_and_then (first_fit forms name) f ≡ Some command → HasForm name rest command
     at None all e = absurd (cc (e))
     at (Some f) all e =
         let fit = fit_of forms name f command e in

@@ -5,12 +5,12 @@ use Rattle.std.specs.Option.{option_map}
 use Rattle.std.specs.Str.{bytes_eq}
 use Rattle.y86_base.specs.Image.{is_image_size}
 use Rattle.y86_words.specs.Numbers.{number_that, is_run_limit}
-use Rattle.y86_words.specs.declared.option.Switch.{Switch}
-use Rattle.y86_words.specs.declared.option.Switch.TheVariants.{Full, Mem, Limit, Trace, Checked, Cert}
+use Rattle.y86_words.specs.declared.option.OptionName.{OptionName}
+use Rattle.y86_words.specs.declared.option.OptionName.TheVariants.{Full, Mem, Limit, Trace, Checked, Cert}
 
 -- ---- the options
 
-abbrev pub index_of : Switch → ℕ
+abbrev pub index_of : OptionName → ℕ
 index_of Full = 0
 index_of Mem = 1
 index_of Limit = 2
@@ -19,7 +19,7 @@ index_of Checked = 4
 index_of Cert = 5
 
 -- the numbers that an option takes, or none where it takes no number
-abbrev pub takes : Switch → Option (ℕ → Bool)
+abbrev pub takes : OptionName → Option (ℕ → Bool)
 takes Full = None
 takes Mem = Some is_image_size
 takes Limit = Some is_run_limit
@@ -28,7 +28,7 @@ takes Checked = None
 takes Cert = None
 
 -- the option that a word is
-abbrev pub switch_of : List ℕ → Option Switch
+abbrev pub switch_of : List ℕ → Option OptionName
 switch_of word =
     if bytes_eq word (codes "--full") then Some Full
     else (if bytes_eq word (codes "--mem") then Some Mem
@@ -43,32 +43,32 @@ switch_of word =
 -- a word that fills a place, or an option with its number, which is 0 where it takes none
 pub data Argument : Type 0 where
   place : List ℕ → Argument
-  switch : Switch → ℕ → Argument
+  switch : OptionName → ℕ → Argument
 
 -- what a word is: an argument, or an option whose number is the next word, or neither
-pub data Reading : Type 0 where
-  whole : Argument → Reading
-  needs : Switch → (ℕ → Bool) → Reading
-  neither : Reading
+pub data WordReading : Type 0 where
+  whole : Argument → WordReading
+  needs : OptionName → (ℕ → Bool) → WordReading
+  neither : WordReading
 
 -- a word that begins with `--` is an option
 abbrev pub is_option : List ℕ → Bool
 is_option word = starts_with nat_eq word (codes "--")
 
-abbrev pub switch_reading : Switch → Option (ℕ → Bool) → Reading
+abbrev pub switch_reading : OptionName → Option (ℕ → Bool) → WordReading
 switch_reading s None = whole (switch s 0)
 switch_reading s (Some passes) = needs s passes
 
-abbrev pub option_reading : Option Switch → Reading
+abbrev pub option_reading : Option OptionName → WordReading
 option_reading None = neither
 option_reading (Some s) = switch_reading s (takes s)
 
 -- any other word that isn't empty fills a place
-abbrev pub place_reading : List ℕ → Reading
+abbrev pub place_reading : List ℕ → WordReading
 place_reading [] = neither
 place_reading (first ∷ rest) = whole (place (first ∷ rest))
 
-abbrev pub reading_of : List ℕ → Reading
+abbrev pub reading_of : List ℕ → WordReading
 reading_of word = if is_option word then option_reading (switch_of word) else place_reading word
 
 -- an argument in front of others, where there are all of them
@@ -78,13 +78,13 @@ in_front (Some argument) None = None
 in_front (Some argument) (Some others) = Some (argument ∷ others)
 
 -- the arguments of a last word
-abbrev pub last : Reading → Option (List Argument)
+abbrev pub last : WordReading → Option (List Argument)
 last (whole argument) = Some (argument ∷ [])
 last (needs s passes) = None
 last neither = None
 
 -- the arguments of a word in front of others: the next word, the arguments behind that one, and those from it on
-abbrev pub before : Reading → List ℕ → Option (List Argument) → Option (List Argument) → Option (List Argument)
+abbrev pub before : WordReading → List ℕ → Option (List Argument) → Option (List Argument) → Option (List Argument)
 before (whole argument) next behind from = in_front (Some argument) from
 before (needs s passes) next behind from = in_front (option_map (switch s) (number_that passes next)) behind
 before neither next behind from = None
@@ -98,19 +98,19 @@ arguments (word ∷ next ∷ rest) = before (reading_of word) next (arguments re
 -- ---- what is found in arguments
 
 -- the words of the places, in order, and the number of each option that is there, by its index
-pub record Filled : Type 0 where
+pub record FoundSoFar : Type 0 where
   pub words : List (List ℕ)
   pub values : List (Option ℕ)
 
-abbrev pub nothing_filled : Filled
+abbrev pub nothing_filled : FoundSoFar
 nothing_filled = record { words = []; values = None ∷ None ∷ None ∷ None ∷ None ∷ None ∷ [] }
 
 -- one more argument: no form has more than three places, and no option stands twice
-abbrev pub added : Filled → Argument → Option Filled
+abbrev pub added : FoundSoFar → Argument → Option FoundSoFar
 added f (place word) = if nat_lt (length f.words) 3 then Some (record f { words = f.words ++ word ∷ [] }) else None
 added f (switch s n) =
     if is_none (get_or f.values (index_of s) None) then Some (record f { values = set f.values (index_of s) (Some n) }) else None
 
-abbrev pub all_added : Option Filled → List Argument → Option Filled
+abbrev pub all_added : Option FoundSoFar → List Argument → Option FoundSoFar
 all_added f [] = f
 all_added f (argument ∷ rest) = all_added (option_and_then (λ g. added g argument) f) rest

@@ -6,26 +6,26 @@ use Rattle.std.specs.Option.{option_map}
 use Rattle.std.specs.Str.{bytes_eq}
 use Rattle.y86_base.specs.declared.parts.Variant.{Variant}
 use Rattle.y86_base.specs.declared.parts.Variant.TheVariants as variant
-use Rattle.y86_words.specs.Arguments.{Filled, nothing_filled, index_of, all_added, arguments}
+use Rattle.y86_words.specs.Arguments.{FoundSoFar, nothing_filled, index_of, all_added, arguments}
 use Rattle.y86_words.specs.Numbers.{number_within}
-use Rattle.y86_words.specs.declared.option.Switch.{Switch}
-use Rattle.y86_words.specs.declared.option.Switch.TheVariants.{Full, Mem, Limit, Trace, Checked, Cert}
-use Rattle.y86_words.specs.declared.form.Kind.{Kind}
-use Rattle.y86_words.specs.declared.form.Kind.TheVariants.{Yas, Yis, Hcl, Ssim, Ssimp, Psim, CheckSeq, CheckPlus, CheckPipe, CertifyPipe, Recheck, Sample, Aig, Aigrun, Big}
+use Rattle.y86_words.specs.declared.option.OptionName.{OptionName}
+use Rattle.y86_words.specs.declared.option.OptionName.TheVariants.{Full, Mem, Limit, Trace, Checked, Cert}
+use Rattle.y86_words.specs.declared.form.CommandKind.{CommandKind}
+use Rattle.y86_words.specs.declared.form.CommandKind.TheVariants.{Yas, Yis, Hcl, Ssim, Ssimp, Psim, CheckSeq, CheckPlus, CheckPipe, CertifyPipe, Recheck, Sample, Aig, Aigrun, Big}
 
 -- what a place takes: this word, the name of a file, or a number from a least one to a most one
-pub data FormPlace : Type 0 where
-  keyword : List ℕ → FormPlace
-  file : FormPlace
-  number : ℕ → ℕ → FormPlace
+pub data PlaceForm : Type 0 where
+  keyword : List ℕ → PlaceForm
+  file : PlaceForm
+  number : ℕ → ℕ → PlaceForm
 
 pub record Form : Type 0 where
-  pub kind : Kind
+  pub kind : CommandKind
   pub name : List ℕ
-  pub places : List FormPlace
-  pub options : List Switch
+  pub places : List PlaceForm
+  pub options : List OptionName
 
-abbrev pub row : Kind → List ℕ → List FormPlace → List Switch → Form
+abbrev pub row : CommandKind → List ℕ → List PlaceForm → List OptionName → Form
 row kind name places options = record { kind = kind; name = name; places = places; options = options }
 
 -- the most valuations that are drawn
@@ -63,22 +63,22 @@ forms =
 
 -- ---- the form that words have
 
-abbrev pub fits_place : FormPlace → List ℕ → Bool
+abbrev pub fits_place : PlaceForm → List ℕ → Bool
 fits_place (keyword text) given = bytes_eq given text
 fits_place file given = true
 fits_place (number least most) given = is_some (number_within least most given)
 
-abbrev pub fits_places : List FormPlace → List (List ℕ) → Bool
+abbrev pub fits_places : List PlaceForm → List (List ℕ) → Bool
 fits_places [] [] = true
 fits_places [] (word ∷ words) = false
 fits_places (place ∷ places) [] = false
 fits_places (place ∷ places) (word ∷ words) = fits_place place word && fits_places places words
 
 -- an option that is there is one of the form's
-abbrev pub fits_switch : List Switch → List (Option ℕ) → Switch → Bool
+abbrev pub fits_switch : List OptionName → List (Option ℕ) → OptionName → Bool
 fits_switch options values s = is_none (get_or values (index_of s) None) || list_any (λ o. index_of o == index_of s) options
 
-abbrev pub fits : Form → List ℕ → Filled → Bool
+abbrev pub fits : Form → List ℕ → FoundSoFar → Bool
 fits form name f =
     bytes_eq name form.name && fits_places form.places f.words
     && (fits_switch form.options f.values Full && fits_switch form.options f.values Mem && fits_switch form.options f.values Limit && fits_switch form.options f.values Trace
@@ -129,7 +129,7 @@ abbrev pub variant_with : Option ℕ → Variant
 variant_with None = variant.Base
 variant_with (Some n) = variant.Full
 
-abbrev pub variant_of : Filled → Variant
+abbrev pub variant_of : FoundSoFar → Variant
 variant_of f = variant_with (get_or f.values (index_of Full) None)
 
 -- where `--mem` is absent, the size of the memory, and where `--limit` is, the most steps or cycles
@@ -140,51 +140,51 @@ abbrev pub default_limit : ℕ
 default_limit = 10000
 
 -- the size of the memory, and the most steps or cycles
-abbrev pub size_of : Filled → ℕ
+abbrev pub size_of : FoundSoFar → ℕ
 size_of f = unwrap_or (get_or f.values (index_of Mem) None) default_size
 
-abbrev pub limit_of : Filled → ℕ
+abbrev pub limit_of : FoundSoFar → ℕ
 limit_of f = unwrap_or (get_or f.values (index_of Limit) None) default_limit
 
 -- whether a trace is asked for
-abbrev pub trace_of : Filled → Bool
+abbrev pub trace_of : FoundSoFar → Bool
 trace_of f = is_some (get_or f.values (index_of Trace) None)
 
 -- whether a check is asked for
-abbrev pub checked_of : Filled → Bool
+abbrev pub checked_of : FoundSoFar → Bool
 checked_of f = is_some (get_or f.values (index_of Checked) None)
 
 -- the number in a place
-abbrev pub number_at : ℕ → ℕ → ℕ → Filled → Option ℕ
+abbrev pub number_at : ℕ → ℕ → ℕ → FoundSoFar → Option ℕ
 number_at least most at f = option_and_then (number_within least most) (slice_get f.words at)
 
 -- the command of a row with what was found
-abbrev pub made : Kind → Filled → Option Command
-made Yas f = option_map (λ source. yas source (size_of f) (variant_of f)) (slice_get f.words 0)
-made Yis f = option_map (λ object. yis object (size_of f) (limit_of f) (variant_of f)) (slice_get f.words 0)
-made Hcl f = option_map hcl (slice_get f.words 0)
-made Ssim f =
+abbrev pub built_command : CommandKind → FoundSoFar → Option Command
+built_command Yas f = option_map (λ source. yas source (size_of f) (variant_of f)) (slice_get f.words 0)
+built_command Yis f = option_map (λ object. yis object (size_of f) (limit_of f) (variant_of f)) (slice_get f.words 0)
+built_command Hcl f = option_map hcl (slice_get f.words 0)
+built_command Ssim f =
     option_and_then (λ file. option_map (λ object. ssim file object (size_of f) (limit_of f) (variant_of f)) (slice_get f.words 1)) (slice_get f.words 0)
-made Ssimp f =
+built_command Ssimp f =
     option_and_then (λ file. option_map (λ object. ssimp file object (size_of f) (limit_of f) (variant_of f)) (slice_get f.words 1)) (slice_get f.words 0)
-made Psim f =
+built_command Psim f =
     option_and_then (λ file. option_map (λ object. psim file object (size_of f) (limit_of f) (trace_of f) (checked_of f) (variant_of f)) (slice_get f.words 1)) (slice_get f.words 0)
-made CheckSeq f = option_map (λ file. check_seq file (variant_of f)) (slice_get f.words 1)
-made CheckPlus f = option_map (λ file. check_plus file (variant_of f)) (slice_get f.words 1)
-made CheckPipe f = option_map (λ file. check_pipe file (variant_of f)) (slice_get f.words 1)
-made CertifyPipe f = option_map (λ file. certify_pipe file (variant_of f)) (slice_get f.words 1)
-made Recheck f = option_and_then (λ file. option_map (λ cert. recheck file cert (variant_of f)) (slice_get f.words 1)) (slice_get f.words 0)
-made Sample f =
+built_command CheckSeq f = option_map (λ file. check_seq file (variant_of f)) (slice_get f.words 1)
+built_command CheckPlus f = option_map (λ file. check_plus file (variant_of f)) (slice_get f.words 1)
+built_command CheckPipe f = option_map (λ file. check_pipe file (variant_of f)) (slice_get f.words 1)
+built_command CertifyPipe f = option_map (λ file. certify_pipe file (variant_of f)) (slice_get f.words 1)
+built_command Recheck f = option_and_then (λ file. option_map (λ cert. recheck file cert (variant_of f)) (slice_get f.words 1)) (slice_get f.words 0)
+built_command Sample f =
     option_and_then (λ file. option_and_then (λ seed. option_map (λ count. sample file seed count (variant_of f)) (number_at 0 most_drawn 2 f)) (number_at 0 most_seed 1 f))
     (slice_get f.words 0)
-made Aig f = option_map (λ file. aig file (variant_of f)) (slice_get f.words 0)
-made Aigrun f = option_and_then (λ file. option_map (aigrun file) (number_at 0 most_seed 1 f)) (slice_get f.words 0)
-made Big f = option_and_then (λ n. option_map (λ file. big n file (variant_of f)) (slice_get f.words 1)) (number_at 1 most_instructions 0 f)
+built_command Aig f = option_map (λ file. aig file (variant_of f)) (slice_get f.words 0)
+built_command Aigrun f = option_and_then (λ file. option_map (aigrun file) (number_at 0 most_seed 1 f)) (slice_get f.words 0)
+built_command Big f = option_and_then (λ n. option_map (λ file. big n file (variant_of f)) (slice_get f.words 1)) (number_at 1 most_instructions 0 f)
 
 -- the command of the first row that fits
-unfoldable pub first_fit : List Form → List ℕ → Filled → Option Command
+unfoldable pub first_fit : List Form → List ℕ → FoundSoFar → Option Command
 first_fit [] name f = None
-first_fit (form ∷ rest) name f = if fits form name f then made form.kind f else first_fit rest name f
+first_fit (form ∷ rest) name f = if fits form name f then built_command form.kind f else first_fit rest name f
 
 -- the command that words are, if any
 unfoldable pub form_of : List (List ℕ) → Option Command

@@ -5,39 +5,39 @@ use Rattle.std.specs.declared.alloc.Global.{Global}
 use Rattle.std.specs.declared.string.String.{String}
 use Rattle.y86_words.specs.declared.argument.Argument as code
 use Rattle.y86_words.specs.declared.argument.Argument.TheVariants as code_variants
-use Rattle.y86_words.specs.declared.argument.FoundWords as code_found
+use Rattle.y86_words.specs.declared.argument.FoundArguments as code_found
 use Rattle.y86_words.specs.declared.cmd.Cmd as code_command
 use Rattle.y86_words.specs.declared.cmd.Cmd.TheVariants as code_commands
 use Rattle.y86_words.specs.declared.form.Form as code_form
-use Rattle.y86_words.specs.declared.form.FormPlace as code_place
-use Rattle.y86_words.specs.declared.form.FormPlace.TheVariants as code_places
-use Rattle.y86_words.specs.Arguments.{Argument, place, switch, arguments, in_front, Filled}
-use Rattle.y86_words.specs.Forms.{Command, yas, yis, hcl, ssim, ssimp, psim, check_seq, check_plus, check_pipe, certify_pipe, recheck, Form, FormPlace, keyword, file, number, sample, aig, aigrun, big}
+use Rattle.y86_words.specs.declared.form.PlaceForm as code_place
+use Rattle.y86_words.specs.declared.form.PlaceForm.TheVariants as code_places
+use Rattle.y86_words.specs.Arguments.{Argument, place, switch, arguments, in_front, FoundSoFar}
+use Rattle.y86_words.specs.Forms.{Command, yas, yis, hcl, ssim, ssimp, psim, check_seq, check_plus, check_pipe, certify_pipe, recheck, Form, PlaceForm, keyword, file, number, sample, aig, aigrun, big}
 
 abbrev pub argument_in : code.Argument → Argument
-argument_in (code_variants.Place word) = place word.now
+argument_in (code_variants.Positional word) = place word.now
 argument_in (code_variants.Switch s n) = switch s n
 
 -- an argument and the words behind it
-pub record Split : Type 0 where
+pub record FirstSplit : Type 0 where
   pub argument : Argument
   pub rest : List (List ℕ)
 
-abbrev pub split_in : code.Argument × Bor (List (String Global)) → Split
+abbrev pub split_in : code.Argument × Bor (List (String Global)) → FirstSplit
 split_in pair = record { argument = argument_in pair.0; rest = map string_bytes pair.1.now }
 
 -- the arguments of some words are a first one and those of the rest, or there are none
-abbrev pub FirstArgument : List (List ℕ) → Option Split → Type 0
+abbrev pub FirstArgument : List (List ℕ) → Option FirstSplit → Type 0
 FirstArgument words None = arguments words ≡ None
 FirstArgument words (Some split) = arguments words ≡ in_front (Some split.argument) (arguments split.rest)
 
 abbrev pub words_in : List (Bor (List ℕ)) → List (List ℕ)
 words_in words = map (λ word. word.now) words
 
-abbrev pub filled_in : code_found.FoundWords → Filled
+abbrev pub filled_in : code_found.FoundArguments → FoundSoFar
 filled_in found = record { words = words_in found.words.items; values = found.values }
 
-abbrev pub place_in : code_place.FormPlace → FormPlace
+abbrev pub place_in : code_place.PlaceForm → PlaceForm
 place_in (code_places.Keyword text) = keyword text.now
 place_in code_places.File = file
 place_in (code_places.Number least most) = number least most

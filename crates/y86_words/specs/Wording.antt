@@ -5,9 +5,9 @@ use Rattle.std.specs.Option.{option_to_list}
 use Rattle.y86_base.specs.Image.{IsSize}
 use Rattle.y86_base.specs.declared.parts.Variant.{Variant}
 use Rattle.y86_base.specs.declared.parts.Variant.TheVariants as variant
-use Rattle.y86_words.specs.Arguments.{Argument, place, switch, Filled, arguments, index_of, is_option}
-use Rattle.y86_words.specs.Forms.{Command, yas, yis, hcl, ssim, ssimp, psim, check_seq, check_plus, check_pipe, certify_pipe, recheck, Form, forms, fits, made, sample, most_drawn, most_seed, aig, aigrun, big, most_instructions}
-use Rattle.y86_words.specs.declared.option.Switch.{Switch}
+use Rattle.y86_words.specs.Arguments.{Argument, place, switch, FoundSoFar, arguments, index_of, is_option}
+use Rattle.y86_words.specs.Forms.{Command, yas, yis, hcl, ssim, ssimp, psim, check_seq, check_plus, check_pipe, certify_pipe, recheck, Form, forms, fits, built_command, sample, most_drawn, most_seed, aig, aigrun, big, most_instructions}
+use Rattle.y86_words.specs.declared.option.OptionName.{OptionName}
 
 -- what may name a file: a word that isn't empty and is no option
 abbrev pub IsFileName : List ℕ → Type 0
@@ -18,22 +18,22 @@ abbrev pub IsRunLimit : ℕ → Type 0
 IsRunLimit n = (1 ≤ n) × (n ≤ 100000000)
 
 -- the commands that words can be
-abbrev pub IsLegal : Command → Type 0
-IsLegal (yas source size v) = IsFileName source × IsSize size
-IsLegal (yis object size limit v) = IsFileName object × IsSize size × IsRunLimit limit
-IsLegal (hcl file) = IsFileName file
-IsLegal (ssim file object size limit v) = IsFileName file × IsFileName object × IsSize size × IsRunLimit limit
-IsLegal (ssimp file object size limit v) = IsFileName file × IsFileName object × IsSize size × IsRunLimit limit
-IsLegal (psim file object size limit trace checked v) = IsFileName file × IsFileName object × IsSize size × IsRunLimit limit
-IsLegal (check_seq file v) = IsFileName file
-IsLegal (check_plus file v) = IsFileName file
-IsLegal (check_pipe file v) = IsFileName file
-IsLegal (certify_pipe file v) = IsFileName file
-IsLegal (recheck file cert v) = IsFileName file × IsFileName cert
-IsLegal (sample file seed count v) = IsFileName file × (seed ≤ most_seed) × (count ≤ most_drawn)
-IsLegal (aig file v) = IsFileName file
-IsLegal (aigrun file seed) = IsFileName file × (seed ≤ most_seed)
-IsLegal (big n file v) = (1 ≤ n) × (n ≤ most_instructions) × IsFileName file
+abbrev pub IsInRange : Command → Type 0
+IsInRange (yas source size v) = IsFileName source × IsSize size
+IsInRange (yis object size limit v) = IsFileName object × IsSize size × IsRunLimit limit
+IsInRange (hcl file) = IsFileName file
+IsInRange (ssim file object size limit v) = IsFileName file × IsFileName object × IsSize size × IsRunLimit limit
+IsInRange (ssimp file object size limit v) = IsFileName file × IsFileName object × IsSize size × IsRunLimit limit
+IsInRange (psim file object size limit trace checked v) = IsFileName file × IsFileName object × IsSize size × IsRunLimit limit
+IsInRange (check_seq file v) = IsFileName file
+IsInRange (check_plus file v) = IsFileName file
+IsInRange (check_pipe file v) = IsFileName file
+IsInRange (certify_pipe file v) = IsFileName file
+IsInRange (recheck file cert v) = IsFileName file × IsFileName cert
+IsInRange (sample file seed count v) = IsFileName file × (seed ≤ most_seed) × (count ≤ most_drawn)
+IsInRange (aig file v) = IsFileName file
+IsInRange (aigrun file seed) = IsFileName file × (seed ≤ most_seed)
+IsInRange (big n file v) = (1 ≤ n) × (n ≤ most_instructions) × IsFileName file
 
 abbrev pub variant_words : Variant → List (List ℕ)
 variant_words variant.Base = []
@@ -79,7 +79,7 @@ places_of [] = []
 places_of (place word ∷ rest) = word ∷ places_of rest
 places_of (switch s n ∷ rest) = places_of rest
 
-abbrev pub numbers_of : Switch → List Argument → List ℕ
+abbrev pub numbers_of : OptionName → List Argument → List ℕ
 numbers_of s [] = []
 numbers_of s (place word ∷ rest) = numbers_of s rest
 numbers_of s (switch t n ∷ rest) = if nat_eq (index_of s) (index_of t) then n ∷ numbers_of s rest else numbers_of s rest
@@ -91,17 +91,17 @@ pub record AreOptions (words : List (List ℕ)) : Type 0 where
   pub no_place : places_of read ≡ []
 
 -- what is found in arguments: the words of the places in order, and of each option its one number, or none
-pub record IsFound (read : List Argument) (found : Filled) : Type 0 where
+pub record IsFound (read : List Argument) (found : FoundSoFar) : Type 0 where
   pub words : places_of read ≡ found.words
-  pub numbers : (s : Switch) → numbers_of s read ≡ option_to_list (get_or found.values (index_of s) None)
+  pub numbers : (s : OptionName) → numbers_of s read ≡ option_to_list (get_or found.values (index_of s) None)
 
 -- a name and arguments that have the form of a row, each option at most once, and are its command
 pub record HasForm (name : List ℕ) (rest : List (List ℕ)) (command : Command) : Type 0 where
   pub read : List Argument
   pub are : arguments rest ≡ Some read
-  pub found : Filled
+  pub found : FoundSoFar
   pub is_found : IsFound read found
   pub form : Form
   pub is_row : Contains forms form
   pub fits : IsTrue (fits form name found)
-  pub is_command : made form.kind found ≡ Some command
+  pub is_command : built_command form.kind found ≡ Some command

@@ -4,14 +4,14 @@ ghost use Rattle.std.specs.Option.{option_map};
 ghost use Rattle.y86_words.specs.Arguments as spec;
 ghost use Rattle.y86_words.specs.Views.{argument_in, filled_in, split_in, FirstArgument};
 
-use crate::option::{Switch, index_of, number_for, switch_of, takes_number};
+use crate::option::{OptionName, index_of, number_for, switch_of, takes_number};
 use arrayvec::ArrayVec;
 
 /// A word that fills a place, or an option with its number.
 #[derive(Clone, Copy)]
 enum Argument<'a> {
-    Place(&'a str),
-    Switch(Switch, u64),
+    Positional(&'a str),
+    Switch(OptionName, u64),
 }
 
 /// The first argument of a word and those behind it, and the words behind the argument.
@@ -24,7 +24,7 @@ fn first_argument<'a>(word: &'a str, behind: &'a [String]) -> Option<(Argument<'
         if word.is_empty() {
             return None;
         }
-        return Some((Argument::Place(word), behind));
+        return Some((Argument::Positional(word), behind));
     }
     let Some(switch) = switch_of(word) else {
         return None;
@@ -44,18 +44,18 @@ fn first_argument<'a>(word: &'a str, behind: &'a [String]) -> Option<(Argument<'
 /// What was found in the words behind a name: the words of the places, in order, and the number of each option that is
 /// there.
 #[derive(Drop)]
-pub struct FoundWords<'a> {
+pub struct FoundArguments<'a> {
     pub words: ArrayVec<&'a str, 3>,
     pub values: [Option<u64>; 6],
 }
 
 /// What was found and one more argument, where its place or option isn't taken yet.
-fn added<'a>(found: FoundWords<'a>, argument: Argument<'a>) -> Option<FoundWords<'a>>
+fn added<'a>(found: FoundArguments<'a>, argument: Argument<'a>) -> Option<FoundArguments<'a>>
     ensures { option_map filled_in result ≡ spec.added (filled_in found.entry) (argument_in argument.entry) }
 {
     let mut found = found;
     match argument {
-        Argument::Place(word) => match found.words.try_push(word) {
+        Argument::Positional(word) => match found.words.try_push(word) {
             Ok(()) => Some(found),
             Err(_) => None,
         },
@@ -73,11 +73,11 @@ fn added<'a>(found: FoundWords<'a>, argument: Argument<'a>) -> Option<FoundWords
 }
 
 /// What is found in some words, where all of them are arguments and none stands twice.
-pub fn found_in<'a>(words: &'a [String]) -> Option<FoundWords<'a>>
+pub fn found_in<'a>(words: &'a [String]) -> Option<FoundArguments<'a>>
     ensures { option_map filled_in result
         ≡ option_and_then (spec.all_added (Some spec.nothing_filled)) (spec.arguments (map string_bytes words.now)) }
 {
-    let mut found = FoundWords {
+    let mut found = FoundArguments {
         words: ArrayVec::new(),
         values: [None, None, None, None, None, None],
     };

@@ -3,7 +3,7 @@ ghost use Rattle.std.specs.Prelude.{◌≡◌, IfOk, None, OnErr, Some, map, str
 ghost use Rattle.std.specs.Option.{option_map};
 ghost use Rattle.y86_words.specs.Forms.{form_of};
 ghost use Rattle.y86_words.specs.Views.{command_in};
-ghost use Rattle.y86_words.specs.Wording.{IsLegal};
+ghost use Rattle.y86_words.specs.Wording.{IsInRange};
 
 use crate::argument::found_in;
 use crate::form::command_of;
@@ -132,7 +132,7 @@ fn command_in_words<'a>(words: &'a [String]) -> Option<Cmd<'a>>
 #[tactic(auto, using(crate::proofs::Legal::form_legal))]
 pub fn words<'a>(words: &'a [String]) -> Result<Cmd<'a>, Usage>
     ensures command { IfOk result (λ command. form_of (map string_bytes words.now) ≡ Some (command_in command)) }
-    ensures legal { IfOk result (λ command. IsLegal (command_in command)) }
+    ensures legal { IfOk result (λ command. IsInRange (command_in command)) }
     ensures usage { OnErr result (form_of (map string_bytes words.now) ≡ None) }
 {
     match command_in_words(words) {

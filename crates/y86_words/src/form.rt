@@ -6,10 +6,10 @@ ghost use Rattle.y86_words.specs.Arguments as arguments;
 ghost use Rattle.y86_words.specs.Forms as spec;
 ghost use Rattle.y86_words.specs.Views.{command_in, filled_in, form_in, place_in, words_in};
 
-use crate::argument::FoundWords;
+use crate::argument::FoundArguments;
 use crate::cmd::Cmd;
 use crate::number::number_within;
-use crate::option::{Switch, index_of};
+use crate::option::{OptionName, index_of};
 use y86_base::Variant;
 
 /// The size of the memory in bytes where `--mem` is absent.
@@ -22,14 +22,14 @@ const DEFAULT_LIMIT: u64 = 10_000;
 const MOST_DRAWN: u64 = 1_000_000;
 
 /// A number that draws begin with.
-const SEED: FormPlace = FormPlace::Number(0, u64::MAX);
+const SEED: PlaceForm = PlaceForm::Number(0, u64::MAX);
 
 /// The most instructions of a generated program, but for the last, which halts.
 const MOST_INSTRUCTIONS: u64 = 100_000;
 
 /// What a place of a form takes.
 #[derive(Clone, Copy, Debug)]
-pub enum FormPlace {
+pub enum PlaceForm {
     /// This word.
     Keyword(&'static str),
     /// The name of a file.
@@ -40,7 +40,7 @@ pub enum FormPlace {
 
 /// The rows of the table of forms, by name.
 #[derive(Clone, Copy, Debug, PartialEq, Eq)]
-pub enum Kind {
+pub enum CommandKind {
     Yas,
     Yis,
     Hcl,
@@ -62,127 +62,127 @@ pub enum Kind {
 /// name.
 #[derive(Clone, Copy, Debug)]
 struct Form {
-    kind: Kind,
+    kind: CommandKind,
     name: &'static str,
-    places: &'static [FormPlace],
-    options: &'static [Switch],
+    places: &'static [PlaceForm],
+    options: &'static [OptionName],
 }
 
 /// The table of the commands.
 static FORMS: [Form; 15] = [
     Form {
-        kind: Kind::Yas,
+        kind: CommandKind::Yas,
         name: "yas",
-        places: &[FormPlace::File],
-        options: &[Switch::Full, Switch::Mem],
+        places: &[PlaceForm::File],
+        options: &[OptionName::Full, OptionName::Mem],
     },
     Form {
-        kind: Kind::Yis,
+        kind: CommandKind::Yis,
         name: "yis",
-        places: &[FormPlace::File],
-        options: &[Switch::Full, Switch::Mem, Switch::Limit],
+        places: &[PlaceForm::File],
+        options: &[OptionName::Full, OptionName::Mem, OptionName::Limit],
     },
     Form {
-        kind: Kind::Hcl,
+        kind: CommandKind::Hcl,
         name: "hcl",
-        places: &[FormPlace::File],
+        places: &[PlaceForm::File],
         options: &[],
     },
     Form {
-        kind: Kind::Ssim,
+        kind: CommandKind::Ssim,
         name: "ssim",
-        places: &[FormPlace::File, FormPlace::File],
-        options: &[Switch::Full, Switch::Mem, Switch::Limit],
+        places: &[PlaceForm::File, PlaceForm::File],
+        options: &[OptionName::Full, OptionName::Mem, OptionName::Limit],
     },
     Form {
-        kind: Kind::Ssimp,
+        kind: CommandKind::Ssimp,
         name: "ssimp",
-        places: &[FormPlace::File, FormPlace::File],
-        options: &[Switch::Full, Switch::Mem, Switch::Limit],
+        places: &[PlaceForm::File, PlaceForm::File],
+        options: &[OptionName::Full, OptionName::Mem, OptionName::Limit],
     },
     Form {
-        kind: Kind::Psim,
+        kind: CommandKind::Psim,
         name: "psim",
-        places: &[FormPlace::File, FormPlace::File],
+        places: &[PlaceForm::File, PlaceForm::File],
         options: &[
-            Switch::Full,
-            Switch::Mem,
-            Switch::Limit,
-            Switch::Trace,
-            Switch::Checked,
+            OptionName::Full,
+            OptionName::Mem,
+            OptionName::Limit,
+            OptionName::Trace,
+            OptionName::Checked,
         ],
     },
     Form {
-        kind: Kind::CheckSeq,
+        kind: CommandKind::CheckSeq,
         name: "check",
-        places: &[FormPlace::Keyword("seq"), FormPlace::File],
-        options: &[Switch::Full],
+        places: &[PlaceForm::Keyword("seq"), PlaceForm::File],
+        options: &[OptionName::Full],
     },
     Form {
-        kind: Kind::CheckPlus,
+        kind: CommandKind::CheckPlus,
         name: "check",
-        places: &[FormPlace::Keyword("seqplus"), FormPlace::File],
-        options: &[Switch::Full],
+        places: &[PlaceForm::Keyword("seqplus"), PlaceForm::File],
+        options: &[OptionName::Full],
     },
     Form {
-        kind: Kind::CheckPipe,
+        kind: CommandKind::CheckPipe,
         name: "check",
-        places: &[FormPlace::Keyword("pipe"), FormPlace::File],
-        options: &[Switch::Full],
+        places: &[PlaceForm::Keyword("pipe"), PlaceForm::File],
+        options: &[OptionName::Full],
     },
     // Only with `--cert`: without it the words have the form above.
     Form {
-        kind: Kind::CertifyPipe,
+        kind: CommandKind::CertifyPipe,
         name: "check",
-        places: &[FormPlace::Keyword("pipe"), FormPlace::File],
-        options: &[Switch::Full, Switch::Cert],
+        places: &[PlaceForm::Keyword("pipe"), PlaceForm::File],
+        options: &[OptionName::Full, OptionName::Cert],
     },
     Form {
-        kind: Kind::Recheck,
+        kind: CommandKind::Recheck,
         name: "recheck",
-        places: &[FormPlace::File, FormPlace::File],
-        options: &[Switch::Full],
+        places: &[PlaceForm::File, PlaceForm::File],
+        options: &[OptionName::Full],
     },
     Form {
-        kind: Kind::Sample,
+        kind: CommandKind::Sample,
         name: "sample",
-        places: &[FormPlace::File, SEED, FormPlace::Number(0, MOST_DRAWN)],
-        options: &[Switch::Full],
+        places: &[PlaceForm::File, SEED, PlaceForm::Number(0, MOST_DRAWN)],
+        options: &[OptionName::Full],
     },
     Form {
-        kind: Kind::Aig,
+        kind: CommandKind::Aig,
         name: "aig",
-        places: &[FormPlace::File],
-        options: &[Switch::Full],
+        places: &[PlaceForm::File],
+        options: &[OptionName::Full],
     },
     Form {
-        kind: Kind::Aigrun,
+        kind: CommandKind::Aigrun,
         name: "aigrun",
-        places: &[FormPlace::File, SEED],
+        places: &[PlaceForm::File, SEED],
         options: &[],
     },
     Form {
-        kind: Kind::Big,
+        kind: CommandKind::Big,
         name: "big",
-        places: &[FormPlace::Number(1, MOST_INSTRUCTIONS), FormPlace::File],
-        options: &[Switch::Full],
+        places: &[PlaceForm::Number(1, MOST_INSTRUCTIONS), PlaceForm::File],
+        options: &[OptionName::Full],
     },
 ];
 
 /// Whether a place takes a word.
-fn fits_place(place: FormPlace, word: &str) -> bool
+fn fits_place(place: PlaceForm, word: &str) -> bool
     ensures { result ≡ spec.fits_place (place_in place) word.now }
 {
     match place {
-        FormPlace::Keyword(text) => word == text,
-        FormPlace::File => true,
-        FormPlace::Number(least, most) => number_within(word.as_bytes(), least, most).is_some(),
+        PlaceForm::Keyword(text) => word == text,
+        PlaceForm::File => true,
+        PlaceForm::Number(least, most) => number_within(word.as_bytes(), least, most).is_some(),
     }
 }
 
 /// Whether there are as many words as places, and each place takes its word.
 #[tactic(auto, using(crate::proofs::Arguments::other_lengths))]
-fn fits_places(places: &[FormPlace], words: &[&str]) -> bool
+fn fits_places(places: &[PlaceForm], words: &[&str]) -> bool
     ensures { result ≡ spec.fits_places (map place_in places.now) (words_in words.now) }
 {
     if places.len() != words.len() {
@@ -199,14 +199,14 @@ fn fits_places(places: &[FormPlace], words: &[&str]) -> bool
 }
 
 /// Whether an option is one of some.
-fn has(options: &[Switch], index: usize) -> bool
+fn has(options: &[OptionName], index: usize) -> bool
     ensures { result ≡ list_any (λ o. arguments.index_of o == index) options.now }
 {
     options.iter().any(|option| index_of(*option) == index)
 }
 
 /// The number of an option, where it is there.
-fn value_of(found: &FoundWords<'_>, switch: Switch) -> Option<u64>
+fn value_of(found: &FoundArguments<'_>, switch: OptionName) -> Option<u64>
     ensures { result ≡ get_or found.now.values (arguments.index_of switch) None }
 {
     let values = found.values;
@@ -214,24 +214,24 @@ fn value_of(found: &FoundWords<'_>, switch: Switch) -> Option<u64>
 }
 
 /// Whether an option isn't there, or is one of the form's.
-fn fits_switch(options: &[Switch], found: &FoundWords<'_>, switch: Switch) -> bool
+fn fits_switch(options: &[OptionName], found: &FoundArguments<'_>, switch: OptionName) -> bool
     ensures { result ≡ spec.fits_switch options.now found.now.values switch }
 {
     value_of(found, switch).is_none() || has(options, index_of(switch))
 }
 
 /// Whether a name and what was found behind it have a form.
-fn fits(form: &Form, name: &str, found: &FoundWords<'_>) -> bool
+fn fits(form: &Form, name: &str, found: &FoundArguments<'_>) -> bool
     ensures { result ≡ spec.fits (form_in form.now) name.now (filled_in found.now) }
 {
     name == form.name
         && fits_places(form.places, found.words.as_slice())
-        && (fits_switch(form.options, found, Switch::Full)
-            && fits_switch(form.options, found, Switch::Mem)
-            && fits_switch(form.options, found, Switch::Limit)
-            && fits_switch(form.options, found, Switch::Trace)
-            && fits_switch(form.options, found, Switch::Checked)
-            && fits_switch(form.options, found, Switch::Cert))
+        && (fits_switch(form.options, found, OptionName::Full)
+            && fits_switch(form.options, found, OptionName::Mem)
+            && fits_switch(form.options, found, OptionName::Limit)
+            && fits_switch(form.options, found, OptionName::Trace)
+            && fits_switch(form.options, found, OptionName::Checked)
+            && fits_switch(form.options, found, OptionName::Cert))
 }
 
 /// The instruction set of a command: with `iaddq` where `--full` is there.
@@ -245,7 +245,7 @@ fn variant_with(full: Option<u64>) -> Variant
 }
 
 /// The number in a place, where it is within a range.
-fn number_at(found: &FoundWords<'_>, at: usize, least: u64, most: u64) -> Option<u64>
+fn number_at(found: &FoundArguments<'_>, at: usize, least: u64, most: u64) -> Option<u64>
     ensures { result ≡ spec.number_at least most at (filled_in found.now) }
 {
     let word = *found.words.as_slice().get(at)?;
@@ -253,45 +253,45 @@ fn number_at(found: &FoundWords<'_>, at: usize, least: u64, most: u64) -> Option
 }
 
 /// The command of a row with what was found. An option that isn't there has its default.
-fn made<'a>(kind: Kind, found: &FoundWords<'a>) -> Option<Cmd<'a>>
-    ensures { option_map command_in result ≡ spec.made kind (filled_in found.now) }
+fn built_command<'a>(kind: CommandKind, found: &FoundArguments<'a>) -> Option<Cmd<'a>>
+    ensures { option_map command_in result ≡ spec.built_command kind (filled_in found.now) }
 {
-    let variant = variant_with(value_of(found, Switch::Full));
-    let mem = value_of(found, Switch::Mem).unwrap_or(DEFAULT_SIZE);
-    let limit = value_of(found, Switch::Limit).unwrap_or(DEFAULT_LIMIT);
-    let trace = value_of(found, Switch::Trace).is_some();
-    let checked = value_of(found, Switch::Checked).is_some();
+    let variant = variant_with(value_of(found, OptionName::Full));
+    let mem = value_of(found, OptionName::Mem).unwrap_or(DEFAULT_SIZE);
+    let limit = value_of(found, OptionName::Limit).unwrap_or(DEFAULT_LIMIT);
+    let trace = value_of(found, OptionName::Trace).is_some();
+    let checked = value_of(found, OptionName::Checked).is_some();
     let words = found.words.as_slice();
     match kind {
-        Kind::Yas => Some(Cmd::Yas {
+        CommandKind::Yas => Some(Cmd::Yas {
             asm: *words.get(0)?,
             mem,
             variant,
         }),
-        Kind::Yis => Some(Cmd::Yis {
+        CommandKind::Yis => Some(Cmd::Yis {
             obj: *words.get(0)?,
             mem,
             limit,
             variant,
         }),
-        Kind::Hcl => Some(Cmd::Hcl {
+        CommandKind::Hcl => Some(Cmd::Hcl {
             hcl: *words.get(0)?,
         }),
-        Kind::Ssim => Some(Cmd::Ssim {
-            hcl: *words.get(0)?,
-            obj: *words.get(1)?,
-            mem,
-            limit,
-            variant,
-        }),
-        Kind::Ssimp => Some(Cmd::Ssimp {
+        CommandKind::Ssim => Some(Cmd::Ssim {
             hcl: *words.get(0)?,
             obj: *words.get(1)?,
             mem,
             limit,
             variant,
         }),
-        Kind::Psim => Some(Cmd::Psim {
+        CommandKind::Ssimp => Some(Cmd::Ssimp {
+            hcl: *words.get(0)?,
+            obj: *words.get(1)?,
+            mem,
+            limit,
+            variant,
+        }),
+        CommandKind::Psim => Some(Cmd::Psim {
             hcl: *words.get(0)?,
             obj: *words.get(1)?,
             mem,
@@ -300,42 +300,42 @@ fn made<'a>(kind: Kind, found: &FoundWords<'a>) -> Option<Cmd<'a>>
             checked,
             variant,
         }),
-        Kind::CheckSeq => Some(Cmd::CheckSeq {
+        CommandKind::CheckSeq => Some(Cmd::CheckSeq {
             hcl: *words.get(1)?,
             variant,
         }),
-        Kind::CheckPlus => Some(Cmd::CheckPlus {
+        CommandKind::CheckPlus => Some(Cmd::CheckPlus {
             hcl: *words.get(1)?,
             variant,
         }),
-        Kind::CheckPipe => Some(Cmd::CheckPipe {
+        CommandKind::CheckPipe => Some(Cmd::CheckPipe {
             hcl: *words.get(1)?,
             variant,
         }),
-        Kind::CertifyPipe => Some(Cmd::CertifyPipe {
+        CommandKind::CertifyPipe => Some(Cmd::CertifyPipe {
             hcl: *words.get(1)?,
             variant,
         }),
-        Kind::Recheck => Some(Cmd::Recheck {
+        CommandKind::Recheck => Some(Cmd::Recheck {
             hcl: *words.get(0)?,
             cert: *words.get(1)?,
             variant,
         }),
-        Kind::Sample => Some(Cmd::Sample {
+        CommandKind::Sample => Some(Cmd::Sample {
             hcl: *words.get(0)?,
             seed: number_at(found, 1, 0, u64::MAX)?,
             count: number_at(found, 2, 0, MOST_DRAWN)?,
             variant,
         }),
-        Kind::Aig => Some(Cmd::Aig {
+        CommandKind::Aig => Some(Cmd::Aig {
             hcl: *words.get(0)?,
             variant,
         }),
-        Kind::Aigrun => Some(Cmd::Aigrun {
+        CommandKind::Aigrun => Some(Cmd::Aigrun {
             aag: *words.get(0)?,
             seed: number_at(found, 1, 0, u64::MAX)?,
         }),
-        Kind::Big => Some(Cmd::Big {
+        CommandKind::Big => Some(Cmd::Big {
             number: number_at(found, 0, 1, MOST_INSTRUCTIONS)?,
             hcl: *words.get(1)?,
             variant,
@@ -345,19 +345,19 @@ fn made<'a>(kind: Kind, found: &FoundWords<'a>) -> Option<Cmd<'a>>
 
 /// The command of the first of some forms that a name and what was found behind it have.
 #[tactic(auto, unfolding(crate::specs::Forms::first_fit))]
-fn first_fit<'a>(forms: &[Form], name: &str, found: &FoundWords<'a>) -> Option<Cmd<'a>>
+fn first_fit<'a>(forms: &[Form], name: &str, found: &FoundArguments<'a>) -> Option<Cmd<'a>>
     ensures { option_map command_in result ≡ spec.first_fit (map form_in forms.now) name.now (filled_in found.now) }
 {
     for form in forms {
         if fits(form, name, found) {
-            return made(form.kind, found);
+            return built_command(form.kind, found);
         }
     }
     None
 }
 
 /// The command of a name and what was found behind it.
-pub fn command_of<'a>(name: &str, found: &FoundWords<'a>) -> Option<Cmd<'a>>
+pub fn command_of<'a>(name: &str, found: &FoundArguments<'a>) -> Option<Cmd<'a>>
     ensures { option_map command_in result ≡ spec.first_fit spec.forms name.now (filled_in found.now) }
 {
     first_fit(&FORMS, name, found)

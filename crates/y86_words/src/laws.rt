@@ -2,14 +2,14 @@
 ghost use Rattle.std.specs.Prelude.{◌≡◌, ◌∷◌, ◌++◌, List, [], ℕ, Some, codes};
 ghost use Rattle.y86_base.specs.declared.parts.Variant.TheVariants.{Base};
 ghost use Rattle.y86_words.specs.Forms.{Command, form_of, yas, yis};
-ghost use Rattle.y86_words.specs.Wording.{AreArguments, AreOptions, HasForm, IsFileName, IsLegal, words_of};
+ghost use Rattle.y86_words.specs.Wording.{AreArguments, AreOptions, HasForm, IsFileName, IsInRange, words_of};
 
 /// Which words are a command. Words are only legal commands, each legal command has words, and words that are a command have
 /// the name, the places and the options of its row, each option at most once. Options may stand anywhere behind the name.
 /// Without options their defaults hold.
 pub fn law_of_words()
-    ensures legal { (words : List (List ℕ)) (command : Command) → form_of words ≡ Some command → IsLegal command }
-    ensures written { (command : Command) → IsLegal command → form_of (words_of command) ≡ Some command }
+    ensures legal { (words : List (List ℕ)) (command : Command) → form_of words ≡ Some command → IsInRange command }
+    ensures written { (command : Command) → IsInRange command → form_of (words_of command) ≡ Some command }
     ensures of_a_row { (name : List ℕ) (rest : List (List ℕ)) (command : Command) → form_of (name ∷ rest) ≡ Some command → HasForm name rest command }
     ensures order { (name : List ℕ) (options other back : List (List ℕ)) → AreOptions options → AreArguments other →
         form_of (name ∷ (options ++ (other ++ back))) ≡ form_of (name ∷ (other ++ (options ++ back))) }

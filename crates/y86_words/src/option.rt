@@ -7,7 +7,7 @@ use crate::number::{image_size, number_within};
 
 /// The options of the commands.
 #[derive(Clone, Copy, Debug, PartialEq, Eq)]
-pub enum Switch {
+pub enum OptionName {
     /// `--full`: the instruction set with `iaddq`.
     Full,
     /// `--mem N`: the size of the memory in bytes.
@@ -23,62 +23,62 @@ pub enum Switch {
 }
 
 /// Where the number of an option is kept.
-pub fn index_of(switch: Switch) -> usize
+pub fn index_of(switch: OptionName) -> usize
     ensures index { result ≡ spec.index_of switch }
     ensures below { result ≤ 5 }
 {
     match switch {
-        Switch::Full => 0,
-        Switch::Mem => 1,
-        Switch::Limit => 2,
-        Switch::Trace => 3,
-        Switch::Checked => 4,
-        Switch::Cert => 5,
+        OptionName::Full => 0,
+        OptionName::Mem => 1,
+        OptionName::Limit => 2,
+        OptionName::Trace => 3,
+        OptionName::Checked => 4,
+        OptionName::Cert => 5,
     }
 }
 
 /// The option that a word is.
-pub fn switch_of(word: &str) -> Option<Switch>
+pub fn switch_of(word: &str) -> Option<OptionName>
     ensures { result ≡ spec.switch_of word.now }
 {
     if word == "--full" {
-        return Some(Switch::Full);
+        return Some(OptionName::Full);
     }
     if word == "--mem" {
-        return Some(Switch::Mem);
+        return Some(OptionName::Mem);
     }
     if word == "--limit" {
-        return Some(Switch::Limit);
+        return Some(OptionName::Limit);
     }
     if word == "--trace" {
-        return Some(Switch::Trace);
+        return Some(OptionName::Trace);
     }
     if word == "--checked" {
-        return Some(Switch::Checked);
+        return Some(OptionName::Checked);
     }
     if word == "--cert" {
-        return Some(Switch::Cert);
+        return Some(OptionName::Cert);
     }
     None
 }
 
 /// Whether an option takes a number.
-pub fn takes_number(switch: Switch) -> bool
+pub fn takes_number(switch: OptionName) -> bool
     ensures { result ≡ is_some (spec.takes switch) }
 {
     match switch {
-        Switch::Full | Switch::Trace | Switch::Checked | Switch::Cert => false,
-        Switch::Mem | Switch::Limit => true,
+        OptionName::Full | OptionName::Trace | OptionName::Checked | OptionName::Cert => false,
+        OptionName::Mem | OptionName::Limit => true,
     }
 }
 
 /// The number for an option that a word writes, where the option takes it.
-pub fn number_for(switch: Switch, word: &[u8]) -> Option<u64>
+pub fn number_for(switch: OptionName, word: &[u8]) -> Option<u64>
     ensures { result ≡ option_and_then (λ passes. number_that passes word.now) (spec.takes switch) }
 {
     match switch {
-        Switch::Full | Switch::Trace | Switch::Checked | Switch::Cert => None,
-        Switch::Mem => image_size(word),
-        Switch::Limit => number_within(word, 1, 100_000_000),
+        OptionName::Full | OptionName::Trace | OptionName::Checked | OptionName::Cert => None,
+        OptionName::Mem => image_size(word),
+        OptionName::Limit => number_within(word, 1, 100_000_000),
     }
 }

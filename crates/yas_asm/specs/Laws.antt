@@ -72,8 +72,8 @@ pub record IsFirstFault (variant : Variant) (size : ℕ) (source : List ℕ) (fa
   pub reason : fault_of variant size source before line ≡ Some fault.why
   pub none_before : (first rest : List Placed) (other : Placed) → before ≡ first ++ other ∷ rest → fault_of variant size source first other ≡ None
 
-abbrev pub FirstFaultIsTold : Type 0
-FirstFaultIsTold =
+abbrev pub FirstFaultIsReported : Type 0
+FirstFaultIsReported =
     (variant : Variant) (source : List ℕ) (size : ℕ) (fault : AsmFault) → assembled variant source size ≡ Err fault → IsFirstFault variant size source fault
 
 -- the reasons in the order in which they are told
@@ -112,8 +112,8 @@ IsLeast test None = (why : AsmWhy) → test why ≡ false
 IsLeast test (Some why) = (test why ≡ true) × ((other : AsmWhy) → test other ≡ true → rank why ≤ rank other)
 
 -- of the reasons that hold of a line the least is its fault
-abbrev pub LeastReasonIsTold : Type 0
-LeastReasonIsTold =
+abbrev pub LeastReasonIsReported : Type 0
+LeastReasonIsReported =
     (variant : Variant) (source : List ℕ) (size : ℕ) (before after : List Placed) (here : Placed) → source_lines variant size source ≡ before ++ here ∷ after
     → IsLeast (holds variant size (labels (source_lines variant size source)) before here.address (bad_outside 0 here.text) (line variant here.text))
     (fault_of variant size source before here)
@@ -144,14 +144,14 @@ LabelsAreOfLines =
 
 -- what a line that says this shows at an address: where `.pos` and `.align` lead, and else the address, where it has a label or a statement;
 -- a number outside its bounds is in no listing
-abbrev pub Shows : Option (List ℕ) → ℕ → Statement → Option ℕ → Type 0
-Shows label address (statements.Position n) shown = shown ≡ Some n
-Shows label address (statements.Align n) shown = shown ≡ Some (next_multiple n address)
-Shows label address (statements.Instruction icode ifun a b constant) shown = shown ≡ Some address
-Shows label address (statements.Data width value) shown = shown ≡ Some address
-Shows None address statements.Nothing shown = shown ≡ None
-Shows (Some name) address statements.Nothing shown = shown ≡ Some address
-Shows label address statements.Wide shown = ⊥
+abbrev pub ShowsAddress : Option (List ℕ) → ℕ → Statement → Option ℕ → Type 0
+ShowsAddress label address (statements.Position n) shown = shown ≡ Some n
+ShowsAddress label address (statements.Align n) shown = shown ≡ Some (next_multiple n address)
+ShowsAddress label address (statements.Instruction icode ifun a b constant) shown = shown ≡ Some address
+ShowsAddress label address (statements.Data width value) shown = shown ≡ Some address
+ShowsAddress None address statements.Nothing shown = shown ≡ None
+ShowsAddress (Some name) address statements.Nothing shown = shown ≡ Some address
+ShowsAddress label address statements.Wide shown = ⊥
 
 -- a line of a listing is that of the line of this number in its source: it shows what that line says, and has its bytes
 pub record IsShown (variant : Variant) (size : ℕ) (source : List ℕ) (number : ℕ) (line : Line) : Type 0 where
@@ -162,7 +162,7 @@ pub record IsShown (variant : Variant) (size : ℕ) (source : List ℕ) (number 
   pub parts : source_lines variant size source ≡ before ++ placed ∷ after
   pub number_is : length before ≡ number
   pub read : placed.read ≡ Ok parsed
-  pub shows : Shows parsed.label placed.address parsed.statement line.addr
+  pub shows : ShowsAddress parsed.label placed.address parsed.statement line.addr
   pub bytes : line.bytes.items ≡ bytes_at (labels (source_lines variant size source)) parsed.statement
 
 -- each line of an accepted source's listing is that of the line in its place

@@ -1,7 +1,7 @@
 //! Assembles a source: the call.
 ghost use Rattle.std.specs.Prelude.{◌≡◌, IfOk};
 ghost use Rattle.yas_asm.specs.Assembly.{assembled};
-ghost use Rattle.yas_asm.specs.Outcome.{Gives};
+ghost use Rattle.yas_asm.specs.Outcome.{GivesOrFaults};
 ghost use Rattle.yas_asm.specs.Listing.{lines_of};
 
 use crate::fault::{AsmFault, AsmWhy};
@@ -20,7 +20,7 @@ const NO_MEMORY: AsmFault = AsmFault {
 /// reason there. The language is that of CS:APP 3e, section 4.1.5 and figure 4.7, with data directives of one, two,
 /// four and eight bytes. Any size is taken; after a refusal nothing is kept.
 pub fn assemble(alloc: Global, v: Variant, src: &[u8], size: u64) -> Result<Listing, AsmFault>
-    ensures lines { Gives lines_of result (assembled v src.now size) }
+    ensures lines { GivesOrFaults lines_of result (assembled v src.now size) }
     ensures source { IfOk result (λ listing. listing.source ≡ src.now) }
 {
     let Ok(labels) = collect_labels(alloc, v, src, size) else {

@@ -9,7 +9,7 @@ use crate::grammar::greatest;
 use crate::labels::{LABEL_LIMIT, Labels};
 use crate::name::Name;
 use crate::statement::{Operand, Parsed, Statement, Width};
-use crate::used::{Used, overlaps};
+use crate::used::{UsedRanges, overlaps};
 use y86_base::Variant;
 
 /// Whether an operand is a label whose value does not fit a width.
@@ -83,7 +83,7 @@ pub fn statement_fault(
     size: u64,
     labels: &Labels,
     known: &Labels,
-    used: &Used,
+    used: &UsedRanges,
     address: u64,
     parsed: &Parsed,
 ) -> Option<AsmWhy>

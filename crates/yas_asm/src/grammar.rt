@@ -3,7 +3,7 @@ ghost use Rattle.yas_asm.specs.Sound.{IsSound};
 ghost use Rattle.std.specs.Prelude.{IfOk, ◌≡◌, ◌*◌, ◌-◌, ◌^◌};
 ghost use Rattle.yas_asm.specs.Grammar as grammar;
 ghost use Rattle.yas_asm.specs.Tables as tables;
-ghost use Rattle.yas_asm.specs.Reads.{Reads};
+ghost use Rattle.yas_asm.specs.Reads.{LeavesRest};
 
 use crate::comment::has_bad_byte;
 use crate::fault::AsmWhy;
@@ -50,7 +50,7 @@ fn word_of<'a>(width: Width, number: Number) -> Operand<'a>
 /// A number or a label, with an optional `$` in front.
 #[tactic(auto, unfolding(crate::specs::Grammar::operand))]
 fn operand<'a>(reader: &mut Reader<'a>, width: Width) -> Option<Operand<'a>>
-    ensures { Reads result (grammar.operand width reader.old) reader.new }
+    ensures { LeavesRest result (grammar.operand width reader.old) reader.new }
 {
     reader.skip_sign(b'$');
     if let Some(number) = reader.number() {
@@ -62,7 +62,7 @@ fn operand<'a>(reader: &mut Reader<'a>, width: Width) -> Option<Operand<'a>>
 /// The operand in front of a `(`, and 0 where none stands there.
 #[tactic(auto, unfolding(crate::specs::Grammar::displacement))]
 fn displacement<'a>(reader: &mut Reader<'a>) -> Option<Operand<'a>>
-    ensures { Reads result (grammar.displacement reader.old) reader.new }
+    ensures { LeavesRest result (grammar.displacement reader.old) reader.new }
 {
     if reader.next_is(b'(') {
         return Some(Operand::Word(0));
@@ -73,7 +73,7 @@ fn displacement<'a>(reader: &mut Reader<'a>) -> Option<Operand<'a>>
 /// A memory operand: its displacement and its base register.
 #[tactic(auto, unfolding(crate::specs::Grammar::memory))]
 fn memory<'a>(reader: &mut Reader<'a>) -> Option<(Operand<'a>, u8)>
-    ensures { Reads result (grammar.memory reader.old) reader.new }
+    ensures { LeavesRest result (grammar.memory reader.old) reader.new }
 {
     let displacement = displacement(reader)?;
     reader.sign(b'(')?;
@@ -85,7 +85,7 @@ fn memory<'a>(reader: &mut Reader<'a>) -> Option<(Operand<'a>, u8)>
 /// A number that is not negative; None inside for one of 2^64 or more.
 #[tactic(auto, unfolding(crate::specs::Grammar::natural))]
 fn natural(reader: &mut Reader) -> Option<Option<u64>>
-    ensures { Reads result (grammar.natural reader.old) reader.new }
+    ensures { LeavesRest result (grammar.natural reader.old) reader.new }
 {
     let number = reader.number()?;
     match number.magnitude {
@@ -97,7 +97,7 @@ fn natural(reader: &mut Reader) -> Option<Option<u64>>
 
 #[tactic(auto, unfolding(crate::specs::Grammar::position_operand))]
 fn position_operand<'a>(reader: &mut Reader) -> Option<Statement<'a>>
-    ensures { Reads result (grammar.position_operand reader.old) reader.new }
+    ensures { LeavesRest result (grammar.position_operand reader.old) reader.new }
 {
     match natural(reader)? {
         None => Some(Statement::Wide),
@@ -107,7 +107,7 @@ fn position_operand<'a>(reader: &mut Reader) -> Option<Statement<'a>>
 
 #[tactic(auto, unfolding(crate::specs::Grammar::align_operand))]
 fn align_operand<'a>(reader: &mut Reader) -> Option<Statement<'a>>
-    ensures { Reads result (grammar.align_operand reader.old) reader.new }
+    ensures { LeavesRest result (grammar.align_operand reader.old) reader.new }
 {
     match natural(reader)? {
         None => Some(Statement::Wide),
@@ -118,7 +118,7 @@ fn align_operand<'a>(reader: &mut Reader) -> Option<Statement<'a>>
 
 #[tactic(auto, unfolding(crate::specs::Grammar::data_operand))]
 fn data_operand<'a>(reader: &mut Reader<'a>, width: Width) -> Option<Statement<'a>>
-    ensures { Reads result (grammar.data_operand width reader.old) reader.new }
+    ensures { LeavesRest result (grammar.data_operand width reader.old) reader.new }
 {
     let value = operand(reader, width)?;
     Some(Statement::Data { width, value })
@@ -126,7 +126,7 @@ fn data_operand<'a>(reader: &mut Reader<'a>, width: Width) -> Option<Statement<'
 
 #[tactic(auto, unfolding(crate::specs::Grammar::directive_operand))]
 fn directive_operand<'a>(reader: &mut Reader<'a>, directive: Directive) -> Option<Statement<'a>>
-    ensures { Reads result (grammar.directive_operand directive reader.old) reader.new }
+    ensures { LeavesRest result (grammar.directive_operand directive reader.old) reader.new }
 {
     match directive {
         Directive::Position => position_operand(reader),
@@ -152,7 +152,7 @@ fn instruction<'a>(operation: Operation, r_a: u8, r_b: u8, constant: Operand<'a>
 
 #[tactic(auto, unfolding(crate::specs::Grammar::two_registers))]
 fn two_registers<'a>(reader: &mut Reader, operation: Operation) -> Option<Statement<'a>>
-    ensures { Reads result (grammar.two_registers operation reader.old) reader.new }
+    ensures { LeavesRest result (grammar.two_registers operation reader.old) reader.new }
 {
     let a = reader.register()?;
     reader.sign(b',')?;
@@ -162,7 +162,7 @@ fn two_registers<'a>(reader: &mut Reader, operation: Operation) -> Option<Statem
 
 #[tactic(auto, unfolding(crate::specs::Grammar::immediate))]
 fn immediate<'a>(reader: &mut Reader<'a>, operation: Operation) -> Option<Statement<'a>>
-    ensures { Reads result (grammar.immediate operation reader.old) reader.new }
+    ensures { LeavesRest result (grammar.immediate operation reader.old) reader.new }
 {
     let value = operand(reader, Width::Eight)?;
     reader.sign(b',')?;
@@ -172,7 +172,7 @@ fn immediate<'a>(reader: &mut Reader<'a>, operation: Operation) -> Option<Statem
 
 #[tactic(auto, unfolding(crate::specs::Grammar::store))]
 fn store<'a>(reader: &mut Reader<'a>, operation: Operation) -> Option<Statement<'a>>
-    ensures { Reads result (grammar.store operation reader.old) reader.new }
+    ensures { LeavesRest result (grammar.store operation reader.old) reader.new }
 {
     let a = reader.register()?;
     reader.sign(b',')?;
@@ -182,7 +182,7 @@ fn store<'a>(reader: &mut Reader<'a>, operation: Operation) -> Option<Statement<
 
 #[tactic(auto, unfolding(crate::specs::Grammar::load))]
 fn load<'a>(reader: &mut Reader<'a>, operation: Operation) -> Option<Statement<'a>>
-    ensures { Reads result (grammar.load operation reader.old) reader.new }
+    ensures { LeavesRest result (grammar.load operation reader.old) reader.new }
 {
     let (displacement, base) = memory(reader)?;
     reader.sign(b',')?;
@@ -192,7 +192,7 @@ fn load<'a>(reader: &mut Reader<'a>, operation: Operation) -> Option<Statement<'
 
 #[tactic(auto, unfolding(crate::specs::Grammar::target))]
 fn target<'a>(reader: &mut Reader<'a>, operation: Operation) -> Option<Statement<'a>>
-    ensures { Reads result (grammar.target operation reader.old) reader.new }
+    ensures { LeavesRest result (grammar.target operation reader.old) reader.new }
 {
     let value = operand(reader, Width::Eight)?;
     Some(instruction(operation, 15, 15, value))
@@ -200,7 +200,7 @@ fn target<'a>(reader: &mut Reader<'a>, operation: Operation) -> Option<Statement
 
 #[tactic(auto, unfolding(crate::specs::Grammar::single))]
 fn single<'a>(reader: &mut Reader, operation: Operation) -> Option<Statement<'a>>
-    ensures { Reads result (grammar.single operation reader.old) reader.new }
+    ensures { LeavesRest result (grammar.single operation reader.old) reader.new }
 {
     let a = reader.register()?;
     Some(instruction(operation, a, 15, Operand::Word(0)))
@@ -209,7 +209,7 @@ fn single<'a>(reader: &mut Reader, operation: Operation) -> Option<Statement<'a>
 /// The operands of a mnemonic.
 #[tactic(auto, unfolding(crate::specs::Grammar::operands_of))]
 fn operands_of<'a>(reader: &mut Reader<'a>, operation: Operation) -> Option<Statement<'a>>
-    ensures { Reads result (grammar.operands_of operation reader.old) reader.new }
+    ensures { LeavesRest result (grammar.operands_of operation reader.old) reader.new }
 {
     match operation.shape {
         Shape::Alone => Some(instruction(operation, 15, 15, Operand::Word(0))),
@@ -232,7 +232,7 @@ fn mnemonic(variant: Variant, name: &[u8]) -> Option<Operation>
 /// A mnemonic with its operands.
 #[tactic(auto, unfolding(crate::specs::Grammar::instruction_text))]
 fn instruction_text<'a>(reader: &mut Reader<'a>, variant: Variant) -> Option<Statement<'a>>
-    ensures { Reads result (grammar.instruction_text variant reader.old) reader.new }
+    ensures { LeavesRest result (grammar.instruction_text variant reader.old) reader.new }
 {
     let name = reader.name()?;
     let operation = mnemonic(variant, name.bytes())?;
@@ -242,7 +242,7 @@ fn instruction_text<'a>(reader: &mut Reader<'a>, variant: Variant) -> Option<Sta
 /// A directive or a mnemonic with its operands.
 #[tactic(auto, unfolding(crate::specs::Grammar::statement))]
 fn statement<'a>(reader: &mut Reader<'a>, variant: Variant) -> Option<Statement<'a>>
-    ensures { Reads result (grammar.statement variant reader.old) reader.new }
+    ensures { LeavesRest result (grammar.statement variant reader.old) reader.new }
 {
     match reader.directive() {
         Some(directive) => directive_operand(reader, directive),

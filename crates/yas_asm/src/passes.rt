@@ -1,7 +1,7 @@
 //! The two passes: labels are collected, and bytes emitted.
 ghost use Rattle.std.specs.Prelude.{◌≡◌, ◌+◌, ◌++◌, ◌<◌, ◌^◌, IfOk, OnOk};
 ghost use Rattle.yas_asm.specs.Assembly as assembly;
-ghost use Rattle.yas_asm.specs.Outcome.{Stops, Gives, line_for};
+ghost use Rattle.yas_asm.specs.Outcome.{StopsWith, GivesOrFaults, line_for};
 ghost use Rattle.yas_asm.specs.LabelMap.{items_of};
 ghost use Rattle.yas_asm.specs.Sound.{IsSound};
 
@@ -14,13 +14,13 @@ use crate::labels::Labels;
 use crate::listing::Line;
 use crate::name::Name;
 use crate::statement::{Parsed, Statement};
-use crate::used::{Used, add_range};
+use crate::used::{UsedRanges, add_range};
 use arrayvec::ArrayVec;
 use std::alloc::{AllocError, Global};
 use y86_base::{Variant, first_line};
 
 /// What a line of the form or a line with a fault of its own is read as.
-type Read<'a> = Result<Parsed<'a>, AsmWhy>;
+type ParseResult<'a> = Result<Parsed<'a>, AsmWhy>;
 
 /// Defines the label of a line, if it has one.
 fn define(
@@ -42,7 +42,7 @@ fn define_read(
     alloc: Global,
     labels: &mut Labels,
     address: u64,
-    read: &Read,
+    read: &ParseResult,
 ) -> Result<(), AllocError>
     ensures { OnOk result (labels.new ≡ assembly.with_label labels.old address (assembly.label_of read.now)) }
 {
@@ -81,12 +81,12 @@ fn enter(
     size: u64,
     table: &Labels,
     known: &mut Labels,
-    used: &mut Used,
+    used: &mut UsedRanges,
     address: u64,
     parsed: &Parsed,
 ) -> Result<(), AsmWhy>
     requires { IsSound variant parsed.now.statement }
-    ensures fault { Stops result (assembly.statement_fault variant size table.now known.old used.old address parsed.now) }
+    ensures fault { StopsWith result (assembly.statement_fault variant size table.now known.old used.old address parsed.now) }
     ensures known { OnOk result (known.new ≡ assembly.with_label known.old address parsed.now.label) }
     ensures used { OnOk result (used.new ≡ used.old ++ assembly.emitted variant size address parsed.now.statement) }
 {
@@ -111,12 +111,12 @@ fn enter_read(
     size: u64,
     table: &Labels,
     known: &mut Labels,
-    used: &mut Used,
+    used: &mut UsedRanges,
     address: u64,
-    read: &Read,
+    read: &ParseResult,
 ) -> Result<(), AsmWhy>
     requires { IfOk read.now (λ parsed. IsSound variant parsed.statement) }
-    ensures fault { Stops result (assembly.line_fault variant size table.now known.old used.old address read.now) }
+    ensures fault { StopsWith result (assembly.line_fault variant size table.now known.old used.old address read.now) }
     ensures known { OnOk result (known.new ≡ assembly.with_label known.old address (assembly.label_of read.now)) }
     ensures used { OnOk result (used.new ≡ used.old ++ assembly.addresses variant size address read.now) }
 {
@@ -150,7 +150,7 @@ fn listed(
     from: u64,
     to: u64,
     address: u64,
-    read: &Read,
+    read: &ParseResult,
 ) -> Line
     requires { IfOk read.now (λ parsed. IsSound variant parsed.statement) }
     ensures { result ≡ assembly.listed variant size table.now from to address read.now }
@@ -192,11 +192,11 @@ pub fn emit(
     size: u64,
     table: &Labels,
 ) -> Result<Vec<Line>, AsmFault>
-    ensures { Gives items_of result
+    ensures { GivesOrFaults items_of result
         (assembly.assembled_with variant size table.now (assembly.source_lines variant size source.now)) }
 {
     let mut known = Labels::new(alloc);
-    let mut used = Used::new(alloc);
+    let mut used = UsedRanges::new(alloc);
     let mut listing = Vec::new(alloc);
     let mut address = 0;
     let mut from = 0;

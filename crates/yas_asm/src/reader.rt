@@ -4,7 +4,7 @@ ghost use Rattle.yas_asm.specs.Comments as comments;
 ghost use Rattle.yas_asm.specs.Tokens as tokens;
 ghost use Rattle.yas_asm.specs.Tables as tables;
 ghost use Rattle.yas_asm.specs.Grammar as grammar;
-ghost use Rattle.yas_asm.specs.Reads.{Reads, Passes};
+ghost use Rattle.yas_asm.specs.Reads.{LeavesRest, LeavesRestOfSign};
 
 use crate::comment::comment_length;
 use crate::name::Name;
@@ -47,7 +47,7 @@ impl<'a> Reader<'a> {
     /// Reads a sign.
     #[tactic(auto, unfolding(crate::specs::Tokens::sign))]
     pub fn sign(&mut self, wanted: u8) -> Option<()>
-        ensures { Passes result (tokens.sign wanted self.old) self.new }
+        ensures { LeavesRestOfSign result (tokens.sign wanted self.old) self.new }
     {
         self.rest = after_byte(after_blanks(self.rest), wanted)?;
         Some(())
@@ -56,7 +56,7 @@ impl<'a> Reader<'a> {
     /// Reads a name.
     #[tactic(auto, unfolding(crate::specs::Tokens::name))]
     pub fn name(&mut self) -> Option<Name<'a>>
-        ensures { Reads result (tokens.name self.old) self.new }
+        ensures { LeavesRest result (tokens.name self.old) self.new }
     {
         let text = after_blanks(self.rest);
         if !is_name_start(*text.first()?) {
@@ -91,7 +91,7 @@ impl<'a> Reader<'a> {
     /// Reads a number.
     #[tactic(auto, unfolding(crate::specs::Tokens::number))]
     pub fn number(&mut self) -> Option<Number>
-        ensures read { Reads result (tokens.number self.old) self.new }
+        ensures read { LeavesRest result (tokens.number self.old) self.new }
         ensures stays { IfNone result (self.new ≡ self.old) }
     {
         let (number, behind) = number_at(after_blanks(self.rest))?;
@@ -102,7 +102,7 @@ impl<'a> Reader<'a> {
     /// Reads a register.
     #[tactic(auto, unfolding(crate::specs::Tables::register))]
     pub fn register(&mut self) -> Option<u8>
-        ensures { Reads result (tables.register self.old) self.new }
+        ensures { LeavesRest result (tables.register self.old) self.new }
     {
         let (number, behind) = keyword_at(register_names(), after_blanks(self.rest))?;
         self.rest = behind;
@@ -112,7 +112,7 @@ impl<'a> Reader<'a> {
     /// Reads a directive.
     #[tactic(auto, unfolding(crate::specs::Tables::directive))]
     pub fn directive(&mut self) -> Option<Directive>
-        ensures read { Reads result (tables.directive self.old) self.new }
+        ensures read { LeavesRest result (tables.directive self.old) self.new }
         ensures stays { IfNone result (self.new ≡ self.old) }
     {
         let (directive, behind) = keyword_at(directives(), after_blanks(self.rest))?;

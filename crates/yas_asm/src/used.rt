@@ -10,11 +10,11 @@ use std::marker::Model;
 
 /// The addresses that have a byte, in the order in which the bytes were emitted.
 #[derive(Drop)]
-pub struct Used {
+pub struct UsedRanges {
     set: IndexSet<u64>,
 }
 
-impl Model for Used {
+impl Model for UsedRanges {
     ghost use Rattle.std.specs.Prelude.{List, ℕ};
 
     ghost Value = { List ℕ };
@@ -22,12 +22,12 @@ impl Model for Used {
     ghost view = { λ used. used.set.keys };
 }
 
-impl Used {
+impl UsedRanges {
     /// No addresses.
-    pub fn new(alloc: Global) -> Used
+    pub fn new(alloc: Global) -> UsedRanges
         ensures { result ≡ [] }
     {
-        Used {
+        UsedRanges {
             set: IndexSet::new(alloc),
         }
     }
@@ -51,7 +51,7 @@ impl Used {
 
 /// Whether one of some bytes from an address on is at an address that has a byte.
 #[tactic(auto, using(crate::proofs::UsedLemmas::overlapping))]
-pub fn overlaps(used: &Used, address: u64, count: u64) -> bool
+pub fn overlaps(used: &UsedRanges, address: u64, count: u64) -> bool
     requires { address + count < 2 ^ 64 }
     ensures { result ≡ assembly.overlaps used.now address count }
 {
@@ -69,7 +69,7 @@ pub fn overlaps(used: &Used, address: u64, count: u64) -> bool
 
 /// Adds the addresses of some bytes from an address on, none of which has a byte yet.
 #[tactic(auto, using(crate::proofs::UsedLemmas::adding))]
-pub fn add_range(used: &mut Used, address: u64, count: u64) -> Result<(), AllocError>
+pub fn add_range(used: &mut UsedRanges, address: u64, count: u64) -> Result<(), AllocError>
     requires fits { address + count < 2 ^ 64 }
     requires free { assembly.overlaps used.old address count ≡ false }
     ensures { OnOk result (used.new ≡ used.old ++ range_with_len address count) }

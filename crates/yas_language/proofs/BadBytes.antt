@@ -4,12 +4,12 @@ use Rattle.std.specs.Prelude.{not, ◌||◌}
 use Rattle.std.proofs.lemmas.Bool.{false≢true}
 use Rattle.std.proofs.lemmas.Bool.Decides.{nat_tests}
 use Rattle.yas_asm.specs.Comments.{bad_outside, comment_length, is_good}
-use Rattle.assembly_laws.proofs.SweepLaw.{sweep_passes_comments}
+use Rattle.yas_laws.proofs.SweepLaw.{sweep_passes_comments}
 use Rattle.yas_language.specs.Tokens.{IsComment, hash, slashes, closed}
-use Rattle.yas_language.specs.BadBytes.{HasBadByte, here, behind_byte, behind_comment, IsAllowed}
+use Rattle.yas_language.specs.BadBytes.{HasBadByte, here, behind_byte, behind_comment, IsGoodByte}
 use Rattle.yas_language.proofs.Comments.{comment_found, comment_measured}
 
-good_allowed : (byte : ℕ) → is_good byte ≡ false → IsAllowed byte → ⊥
+good_allowed : (byte : ℕ) → is_good byte ≡ false → IsGoodByte byte → ⊥
 good_allowed byte e (inl t) = by byte t e
   where
     by : (byte : ℕ) → byte ≡ 9 → is_good byte ≡ false → ⊥
@@ -20,10 +20,10 @@ good_allowed byte e (inr (inr two)) = by two.0 two.1 e
     by : 32 ≤ byte → byte ≤ 126 → is_good byte ≡ false → ⊥
     by l m e = grind (arith, nat_tests)
 
-not_good : (byte : ℕ) → (IsAllowed byte → ⊥) → is_good byte ≡ false
+not_good : (byte : ℕ) → (IsGoodByte byte → ⊥) → is_good byte ≡ false
 not_good byte none = by (is_good byte) refl
   where
-    allowed : is_good byte ≡ true → IsAllowed byte
+    allowed : is_good byte ≡ true → IsGoodByte byte
     allowed e = grind (arith, nat_tests)
 
     by : (b : Bool) → is_good byte ≡ b → b ≡ false

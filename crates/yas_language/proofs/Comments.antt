@@ -10,7 +10,7 @@ use Rattle.std.proofs.lemmas.Grind.{common_steps}
 use Rattle.y86_base.specs.Text.{begins, behind, is_blank}
 use Rattle.y86_base.proofs.Runs.{behind-run, list_all-append, run_and_rest, run_passes}
 use Rattle.yas_asm.specs.Comments.{close_length, comment_length, ends, ends_at}
-use Rattle.assembly_laws.proofs.SweepLaw.{close_is_first}
+use Rattle.yas_laws.proofs.SweepLaw.{close_is_first}
 use Rattle.yas_language.specs.Tokens.{IsComment, hash, slashes, closed, IsEnd, plain, commented, NoClose}
 
 -- a `*/` that stands at the front of a text with a star behind it

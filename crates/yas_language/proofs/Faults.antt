@@ -12,7 +12,7 @@ use Rattle.yas_asm.specs.declared.statement.Parsed.{Parsed}
 use Rattle.yas_asm.specs.Comments.{bad_outside}
 use Rattle.yas_asm.specs.Grammar.{checked, is_wide, is_wide_operand, line, read_line}
 use Rattle.yas_language.specs.BadBytes.{HasBadByte, IsTooWide}
-use Rattle.yas_language.specs.Language.{AcceptsTheLanguage, IsOkWhere, IsSyntaxWhere, IsTooWideWhere, Says, TellsBadBytes, TellsSyntax, TellsWideNumbers}
+use Rattle.yas_language.specs.Language.{AcceptsTheLanguage, IsOkWhere, IsSyntaxWhere, IsTooWideWhere, IsLineOfLanguage, ReportsBadBytes, ReportsSyntax, ReportsWideNumbers}
 use Rattle.yas_language.proofs.BadBytes.{bad_found, bad_read}
 use Rattle.yas_language.proofs.Lines.{reads_the_language}
 
@@ -98,7 +98,7 @@ found_ok variant text parsed _ (fine other h) e = subst (IsOkWhere variant text)
 -- ---- and the result from what it came to
 
 -- a text says one thing at most
-says_one : (variant : Variant) (text : List ℕ) (one other : Parsed) → Says variant text one → Says variant text other → one ≡ other
+says_one : (variant : Variant) (text : List ℕ) (one other : Parsed) → IsLineOfLanguage variant text one → IsLineOfLanguage variant text other → one ≡ other
 says_one variant text one other p q = same_Some _ _ (sym ((reads_the_language variant text one).1 p) ∙ (reads_the_language variant text other).1 q)
 
 told_bad : (variant : Variant) (text : List ℕ) (r : Result Parsed AsmWhy) → Comes variant text r → HasBadByte text → r ≡ Err BadByte
@@ -131,11 +131,11 @@ pub accepts_the_language : AcceptsTheLanguage
 accepts_the_language variant text parsed =
     (found_ok variant text parsed (read_line variant text) (comes variant text), told_ok variant text parsed (read_line variant text) (comes variant text))
 
-pub tells_bad_bytes : TellsBadBytes
+pub tells_bad_bytes : ReportsBadBytes
 tells_bad_bytes variant text = (found_bad variant text (read_line variant text) (comes variant text), told_bad variant text (read_line variant text) (comes variant text))
 
-pub tells_syntax : TellsSyntax
+pub tells_syntax : ReportsSyntax
 tells_syntax variant text = (found_syntax variant text (read_line variant text) (comes variant text), told_syntax variant text (read_line variant text) (comes variant text))
 
-pub tells_wide_numbers : TellsWideNumbers
+pub tells_wide_numbers : ReportsWideNumbers
 tells_wide_numbers variant text = (found_wide variant text (read_line variant text) (comes variant text), told_wide variant text (read_line variant text) (comes variant text))

@@ -12,7 +12,7 @@ use Rattle.yas_asm.specs.Tokens as readers
 use Rattle.yas_asm.proofs.SoundGrammar.{then_some}
 use Rattle.yas_language.specs.Tokens.{Token, word, colon, HasTokens, IsEnd}
 use Rattle.yas_language.specs.Statements.{IsStatement, IsLine, nothing, alone, label, labelled}
-use Rattle.yas_language.specs.Language.{Says, ReadsTheLanguage}
+use Rattle.yas_language.specs.Language.{IsLineOfLanguage, ReadsTheLanguage}
 use Rattle.yas_language.proofs.Comments.{end_found, end_read}
 use Rattle.yas_language.proofs.Found.{statement_found}
 use Rattle.yas_language.proofs.Read.{end_no_label, label_read, no_label, statement_not_end, statement_read}
@@ -46,14 +46,14 @@ labelled_line : (v : Variant) (name : List ℕ) (ts : List Token) (s : Statement
 labelled_line v name _ _ empty = label name
 labelled_line v name _ _ (full ts s h) = labelled name ts s h
 
-line_found : (v : Variant) (text : List ℕ) (parsed : Parsed) → grammar.line v text ≡ Some parsed → Says v text parsed
+line_found : (v : Variant) (text : List ℕ) (parsed : Parsed) → grammar.line v text ≡ Some parsed → IsLineOfLanguage v text parsed
 unfolding grammar.line grammar.label
 line_found v text parsed e =
     let s = then_some (grammar.last_statement v (grammar.label_from text (readers.name text)).1) _ parsed e in
-    subst (Says v text) (same_Some _ _ s.2) (by (readers.name text) refl s.0 (body_found v (grammar.label_from text (readers.name text)).1 s.0 s.1))
+    subst (IsLineOfLanguage v text) (same_Some _ _ s.2) (by (readers.name text) refl s.0 (body_found v (grammar.label_from text (readers.name text)).1 s.0 s.1))
   where
     at : (name : List ℕ × List ℕ) (o : Option (List ℕ)) → readers.name text ≡ Some name → readers.sign 58 name.1 ≡ o → (s : Statement)
-        → ((ts : List Token) × HasTokens (grammar.label_with text name.0 o).1 ts × IsBody v ts s) → Says v text (record { label = (grammar.label_with text name.0 o).0; statement = s })
+        → ((ts : List Token) × HasTokens (grammar.label_with text name.0 o).1 ts × IsBody v ts s) → IsLineOfLanguage v text (record { label = (grammar.label_with text name.0 o).0; statement = s })
     at name None p q s b = record { tokens = b.0; has = b.1; line_is = plain_line v b.0 s b.2 }
     at name (Some rest) p q s b = record {
       tokens = word name.0 ∷ colon ∷ b.0;
@@ -62,7 +62,7 @@ line_found v text parsed e =
     }
 
     by : (n : Option (List ℕ × List ℕ)) → readers.name text ≡ n → (s : Statement)
-        → ((ts : List Token) × HasTokens (grammar.label_from text n).1 ts × IsBody v ts s) → Says v text (record { label = (grammar.label_from text n).0; statement = s })
+        → ((ts : List Token) × HasTokens (grammar.label_from text n).1 ts × IsBody v ts s) → IsLineOfLanguage v text (record { label = (grammar.label_from text n).0; statement = s })
     by None p s b = record { tokens = b.0; has = b.1; line_is = plain_line v b.0 s b.2 }
     by (Some name) p s b = at name (readers.sign 58 name.1) p refl s b
 

@@ -6,12 +6,12 @@ use Rattle.yas_asm.specs.declared.statement.Statement.TheVariants as statements
 use Rattle.yas_language.specs.Tokens.{IsComment}
 
 -- a tab, a carriage return, or a byte from the space to `~`
-abbrev pub IsAllowed : ℕ → Type 0
-IsAllowed byte = (byte ≡ 9) ⊎ ((byte ≡ 13) ⊎ ((32 ≤ byte) × (byte ≤ 126)))
+abbrev pub IsGoodByte : ℕ → Type 0
+IsGoodByte byte = (byte ≡ 9) ⊎ ((byte ≡ 13) ⊎ ((32 ≤ byte) × (byte ≤ 126)))
 
 -- from the left, where a comment is passed as a whole and any other byte by itself, there comes a byte that is not allowed
 pub data HasBadByte : List ℕ → Type 0 where
-  here : (byte : ℕ) (bytes : List ℕ) → (IsAllowed byte → ⊥) → HasBadByte (byte ∷ bytes)
+  here : (byte : ℕ) (bytes : List ℕ) → (IsGoodByte byte → ⊥) → HasBadByte (byte ∷ bytes)
   behind_byte : (byte : ℕ) (bytes : List ℕ) → ((rest : List ℕ) → IsComment (byte ∷ bytes) rest → ⊥) → HasBadByte bytes → HasBadByte (byte ∷ bytes)
   behind_comment : (text rest : List ℕ) → IsComment text rest → HasBadByte rest → HasBadByte text
 

@@ -9,39 +9,39 @@ use Rattle.yas_language.specs.Tokens.{Token, HasTokens}
 use Rattle.yas_language.specs.Statements.{IsLine}
 
 -- a text is a line of the language that says this
-pub record Says (variant : Variant) (text : List ℕ) (parsed : Parsed) : Type 0 where
+pub record IsLineOfLanguage (variant : Variant) (text : List ℕ) (parsed : Parsed) : Type 0 where
   pub tokens : List Token
   pub has : HasTokens text tokens
   pub line_is : IsLine variant tokens parsed
 
 -- a text is read as something exactly where it is a line of the language that says this
 abbrev pub ReadsTheLanguage : Type 0
-ReadsTheLanguage = (variant : Variant) (text : List ℕ) (parsed : Parsed) → (line variant text ≡ Some parsed) ↔ Says variant text parsed
+ReadsTheLanguage = (variant : Variant) (text : List ℕ) (parsed : Parsed) → (line variant text ≡ Some parsed) ↔ IsLineOfLanguage variant text parsed
 
 -- a line without a fault of its own, and each fault, come exactly where the language says so
 pub record IsOkWhere (variant : Variant) (text : List ℕ) (parsed : Parsed) : Type 0 where
   pub good : HasBadByte text → ⊥
-  pub says : Says variant text parsed
+  pub says : IsLineOfLanguage variant text parsed
   pub narrow : IsTooWide parsed.statement → ⊥
 
 pub record IsSyntaxWhere (variant : Variant) (text : List ℕ) : Type 0 where
   pub good : HasBadByte text → ⊥
-  pub no_line : (parsed : Parsed) → Says variant text parsed → ⊥
+  pub no_line : (parsed : Parsed) → IsLineOfLanguage variant text parsed → ⊥
 
 pub record IsTooWideWhere (variant : Variant) (text : List ℕ) : Type 0 where
   pub good : HasBadByte text → ⊥
   pub parsed : Parsed
-  pub says : Says variant text parsed
+  pub says : IsLineOfLanguage variant text parsed
   pub wide : IsTooWide parsed.statement
 
 abbrev pub AcceptsTheLanguage : Type 0
 AcceptsTheLanguage = (variant : Variant) (text : List ℕ) (parsed : Parsed) → (read_line variant text ≡ Ok parsed) ↔ IsOkWhere variant text parsed
 
-abbrev pub TellsBadBytes : Type 0
-TellsBadBytes = (variant : Variant) (text : List ℕ) → (read_line variant text ≡ Err BadByte) ↔ HasBadByte text
+abbrev pub ReportsBadBytes : Type 0
+ReportsBadBytes = (variant : Variant) (text : List ℕ) → (read_line variant text ≡ Err BadByte) ↔ HasBadByte text
 
-abbrev pub TellsSyntax : Type 0
-TellsSyntax = (variant : Variant) (text : List ℕ) → (read_line variant text ≡ Err Syntax) ↔ IsSyntaxWhere variant text
+abbrev pub ReportsSyntax : Type 0
+ReportsSyntax = (variant : Variant) (text : List ℕ) → (read_line variant text ≡ Err Syntax) ↔ IsSyntaxWhere variant text
 
-abbrev pub TellsWideNumbers : Type 0
-TellsWideNumbers = (variant : Variant) (text : List ℕ) → (read_line variant text ≡ Err NumberTooWide) ↔ IsTooWideWhere variant text
+abbrev pub ReportsWideNumbers : Type 0
+ReportsWideNumbers = (variant : Variant) (text : List ℕ) → (read_line variant text ≡ Err NumberTooWide) ↔ IsTooWideWhere variant text

@@ -1,5 +1,5 @@
 //! The theorems about the reader's definition of a line. Each is a function that does nothing and whose contract is the theorem.
-ghost use Rattle.yas_language.specs.Language.{AcceptsTheLanguage, ReadsTheLanguage, TellsBadBytes, TellsSyntax, TellsWideNumbers};
+ghost use Rattle.yas_language.specs.Language.{AcceptsTheLanguage, ReadsTheLanguage, ReportsBadBytes, ReportsSyntax, ReportsWideNumbers};
 
 /// A line is read as something exactly where its tokens say so, for every text.
 pub fn law_of_language()
@@ -10,7 +10,7 @@ pub fn law_of_language()
 /// comments comes first, then a text that is no line, then a number outside its bounds.
 pub fn law_of_line_faults()
     ensures accepted { AcceptsTheLanguage }
-    ensures bad_byte { TellsBadBytes }
-    ensures syntax { TellsSyntax }
-    ensures too_wide { TellsWideNumbers }
+    ensures bad_byte { ReportsBadBytes }
+    ensures syntax { ReportsSyntax }
+    ensures too_wide { ReportsWideNumbers }
 {}

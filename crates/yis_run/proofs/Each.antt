@@ -4,7 +4,7 @@ use Rattle.std.specs.List.{concat, range_with_len}
 use Rattle.std.proofs.lemmas.Bool.{cases_lt}
 use Rattle.std.proofs.lemmas.List.Folds.{concat-append}
 use Rattle.std.proofs.lemmas.List.FromFn.{map-range_with_len_more}
-use Rattle.wb_io.specs.Sinks.{Took, TookPart}
+use Rattle.wb_io.specs.Sinks.{Appended, AppendedPrefix}
 use Rattle.wb_io.proofs.Writes.{took_nothing, took_more, part_more, part_after}
 use Rattle.yis_run.specs.Report.{each_below}
 
@@ -23,12 +23,12 @@ pub each_below-suc : (n : ℕ) (text : ℕ → List ℕ) → each_below (suc n) 
 each_below-suc n text = rw (← add-one n) (each_below-more n text)
 
 -- no text is written yet
-pub took_none : (sink : Option (List ℕ)) (text : ℕ → List ℕ) → Took sink sink (each_below 0 text)
+pub took_none : (sink : Option (List ℕ)) (text : ℕ → List ℕ) → Appended sink sink (each_below 0 text)
 took_none sink text = rw each_below-zero (took_nothing sink)
 
 -- the first texts, and then one more
 pub took_each : (first second third : Option (List ℕ)) (n : ℕ) (text : ℕ → List ℕ) →
-    Took first second (each_below n text) → Took second third (text n) → Took first third (each_below (n + 1) text)
+    Appended first second (each_below n text) → Appended second third (text n) → Appended first third (each_below (n + 1) text)
 took_each first second third n text p q = rw each_below-more (took_more first second third (each_below n text) (text n) p q)
 
 -- the first texts are a front of all
@@ -47,9 +47,9 @@ front_each n (suc all) text h =
 
 -- the first texts, and then a front of the next
 pub part_each : (first second third : Option (List ℕ)) (n all : ℕ) (text : ℕ → List ℕ) → n < all →
-    Took first second (each_below n text) → TookPart second third (text n) → TookPart first third (each_below all text)
+    Appended first second (each_below n text) → AppendedPrefix second third (text n) → AppendedPrefix first third (each_below all text)
 part_each first second third n all text h p q =
     let front = front_each (n + 1) all text (omega arith) in
-    let P : List ℕ → Type 0 = λ xs. TookPart first third xs in
+    let P : List ℕ → Type 0 = λ xs. AppendedPrefix first third xs in
     subst P (sym (front.1 ∙ ap (λ xs. xs ++ front.0) (each_below-more n text)))
     (part_more first third (each_below n text ++ text n) front.0 (part_after first second third (each_below n text) (text n) p q))

@@ -1,7 +1,7 @@
 //! The lines of a report.
 ghost use Rattle.std.specs.Prelude.{◌≡◌, ◌*◌, ◌/◌, ◌<◌, ◌++◌, length};
 ghost use Rattle.wb_io.specs.Causes.{CountsFaults};
-ghost use Rattle.wb_io.specs.Sinks.{Puts};
+ghost use Rattle.wb_io.specs.Sinks.{AppendsText};
 ghost use Rattle.yis_run.specs.Report as text;
 
 use wb_io::{Failed, Sink, put_all, put_pieces};
@@ -23,7 +23,7 @@ pub fn put_stopped<S: Sink>(
     flags: Flags,
     out: &mut S,
 ) -> Result<(), Failed>
-    ensures puts { Puts (S.taken out.old) (S.taken out.new) result (text.stopped steps pc stat flags) }
+    ensures puts { AppendsText (S.taken out.old) (S.taken out.new) result (text.stopped steps pc stat flags) }
     ensures counts { CountsFaults (S.faults out.old) (S.faults out.new) result }
 {
     let steps = Numeral::decimal(steps);
@@ -60,7 +60,7 @@ fn put_change<S: Sink>(
     new: u64,
     out: &mut S,
 ) -> Result<(), Failed>
-    ensures puts { Puts (S.taken out.old) (S.taken out.new) result (text.change (mark.now ++ name.now) old new) }
+    ensures puts { AppendsText (S.taken out.old) (S.taken out.new) result (text.change (mark.now ++ name.now) old new) }
     ensures counts { CountsFaults (S.faults out.old) (S.faults out.new) result }
 {
     let old = Numeral::hex(16, old);
@@ -82,7 +82,7 @@ fn put_change<S: Sink>(
 /// Writes the line of a register, if it has one.
 #[tactic(auto, unfolding(crate::specs::Report::register_line))]
 fn put_register<S: Sink>(regs: &Regs, n: u64, out: &mut S) -> Result<(), Failed>
-    ensures puts { Puts (S.taken out.old) (S.taken out.new) result (text.register_line regs.now n) }
+    ensures puts { AppendsText (S.taken out.old) (S.taken out.new) result (text.register_line regs.now n) }
     ensures counts { CountsFaults (S.faults out.old) (S.faults out.new) result }
 {
     let word = regs.get(n);
@@ -94,7 +94,7 @@ fn put_register<S: Sink>(regs: &Regs, n: u64, out: &mut S) -> Result<(), Failed>
 
 /// Writes the lines of the registers.
 pub fn put_registers<S: Sink>(regs: &Regs, out: &mut S) -> Result<(), Failed>
-    ensures puts { Puts (S.taken out.old) (S.taken out.new) result (text.each_below 15 (text.register_line regs.now)) }
+    ensures puts { AppendsText (S.taken out.old) (S.taken out.new) result (text.each_below 15 (text.register_line regs.now)) }
     ensures counts { CountsFaults (S.faults out.old) (S.faults out.new) result }
 {
     for n in 0..15 {
@@ -110,7 +110,7 @@ pub fn put_registers<S: Sink>(regs: &Regs, out: &mut S) -> Result<(), Failed>
 #[tactic(auto, unfolding(crate::specs::Report::memory_line))]
 fn put_word<S: Sink>(first: &Image, memory: &Image, n: u64, out: &mut S) -> Result<(), Failed>
     requires { 8 * n < length first.now }
-    ensures puts { Puts (S.taken out.old) (S.taken out.new) result (text.memory_line first.now memory.now n) }
+    ensures puts { AppendsText (S.taken out.old) (S.taken out.new) result (text.memory_line first.now memory.now n) }
     ensures counts { CountsFaults (S.faults out.old) (S.faults out.new) result }
 {
     let _size = first.size();
@@ -126,7 +126,7 @@ fn put_word<S: Sink>(first: &Image, memory: &Image, n: u64, out: &mut S) -> Resu
 
 /// Writes the lines of the words of memory.
 pub fn put_memory<S: Sink>(first: &Image, memory: &Image, out: &mut S) -> Result<(), Failed>
-    ensures puts { Puts (S.taken out.old) (S.taken out.new) result
+    ensures puts { AppendsText (S.taken out.old) (S.taken out.new) result
         (text.each_below (length first.now / 8) (text.memory_line first.now memory.now)) }
     ensures counts { CountsFaults (S.faults out.old) (S.faults out.new) result }
 {

@@ -1,7 +1,7 @@
 //! The report of a run.
 ghost use Rattle.std.specs.Prelude.{◌≡◌, length};
 ghost use Rattle.wb_io.specs.Causes.{CountsFaults};
-ghost use Rattle.wb_io.specs.Sinks.{Puts};
+ghost use Rattle.wb_io.specs.Sinks.{AppendsText};
 ghost use Rattle.yis_run.specs.Report as text;
 
 use crate::lines::{put_memory, put_registers, put_stopped};
@@ -15,7 +15,7 @@ use y86_base::Image;
 /// prefix of the report in the sink.
 pub fn report<S: Sink>(first: &Image, end: &End<'_>, steps: u64, out: &mut S) -> Result<(), Failed>
     requires one_size { length first.now ≡ length end.now.mem.now }
-    ensures puts { Puts (S.taken out.old) (S.taken out.new) result (text.report first.now (text.ended end.now) steps) }
+    ensures puts { AppendsText (S.taken out.old) (S.taken out.new) result (text.report first.now (text.ended end.now) steps) }
     ensures counts { CountsFaults (S.faults out.old) (S.faults out.new) result }
 {
     put_stopped(steps, end.pc, end.stat, end.flags, out)?;

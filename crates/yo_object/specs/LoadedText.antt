@@ -13,7 +13,7 @@ abbrev pub IsSkipped : List ℕ → Type 0
 IsSkipped line = (rest : List ℕ) → BeginsObjectLine line rest → ⊥
 
 -- a line of the form whose digits write an address and bytes, each byte inside a memory of a size
-pub record Puts (size : ℕ) (line : List ℕ) : Type 0 where
+pub record PutsBytes (size : ℕ) (line : List ℕ) : Type 0 where
   pub address : ℕ
   pub bytes : List ℕ
   pub digits : List ℕ
@@ -27,11 +27,11 @@ pub record Puts (size : ℕ) (line : List ℕ) : Type 0 where
 
 -- a line is skipped or puts its bytes
 abbrev pub IsGood : ℕ → List ℕ → Type 0
-IsGood size line = IsSkipped line ⊎ Puts size line
+IsGood size line = IsSkipped line ⊎ PutsBytes size line
 
 -- a line has no byte at an address
 abbrev pub PutsNoneAt : ℕ → ℕ → List ℕ → Type 0
-PutsNoneAt size address line = (p : Puts size line) → (address < p.address) ⊎ (p.address + length p.bytes ≤ address)
+PutsNoneAt size address line = (p : PutsBytes size line) → (address < p.address) ⊎ (p.address + length p.bytes ≤ address)
 
 -- the fault of a line of the form, by its digits: the first in this order
 abbrev pub HaveFault : ℕ → List ℕ → List ℕ → YoWhy → Type 0
@@ -80,7 +80,7 @@ abbrev pub LastLineWins : Type 0
 LastLineWins =
     (text : List ℕ) (size : ℕ) (image : List ℕ) → object_of text size ≡ Ok image
     → (before after : List (List ℕ)) (line : List ℕ) → lines text ≡ before ++ line ∷ after
-    → (p : Puts size line) (k : ℕ) → k < length p.bytes → All (PutsNoneAt size (p.address + k)) after
+    → (p : PutsBytes size line) (k : ℕ) → k < length p.bytes → All (PutsNoneAt size (p.address + k)) after
     → slice_index image (p.address + k) ≡ slice_index p.bytes k
 
 -- and 0 where no line puts one

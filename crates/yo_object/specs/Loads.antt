@@ -5,9 +5,9 @@ use Rattle.yo_object.specs.declared.object.YoWhy.TheVariants.{Memory}
 use Rattle.yo_object.specs.declared.object.YoFault.{YoFault}
 
 -- a step that is done left the memory that was defined, and one that is refused has the defined reason
-abbrev pub Leaves : {A : Type 0} → Result A YoWhy → List ℕ → Result (List ℕ) YoWhy → Type 0
-Leaves (Ok done) after defined = defined ≡ Ok after
-Leaves (Err why) after defined = defined ≡ Err why
+abbrev pub LeavesMemory : {A : Type 0} → Result A YoWhy → List ℕ → Result (List ℕ) YoWhy → Type 0
+LeavesMemory (Ok done) after defined = defined ≡ Ok after
+LeavesMemory (Err why) after defined = defined ≡ Err why
 
 -- the answer to want of memory
 abbrev pub out_of_memory : YoFault

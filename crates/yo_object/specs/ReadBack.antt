@@ -40,10 +40,10 @@ HasItsBytes =
     → slice_index (image size (before ++ (line ∷ after))) (first + k) ≡ slice_index line.bytes.items k
 
 -- a line has no byte at an address
-abbrev pub Misses : ℕ → Line → Type 0
-Misses address line = IfSome line.addr (λ first. (address < first) ⊎ (first + length line.bytes.items ≤ address))
+abbrev pub HasNoByteAt : ℕ → Line → Type 0
+HasNoByteAt address line = IfSome line.addr (λ first. (address < first) ⊎ (first + length line.bytes.items ≤ address))
 
 -- and 0 stands at each address at which no line has a byte
 abbrev pub IsZeroElsewhere : Type 0
 IsZeroElsewhere =
-    (lines : List Line) (size address : ℕ) → All (IsInside size) lines → All (Misses address) lines → slice_index (image size lines) address ≡ 0
+    (lines : List Line) (size address : ℕ) → All (IsInside size) lines → All (HasNoByteAt address) lines → slice_index (image size lines) address ≡ 0

@@ -3,7 +3,7 @@ ghost use Rattle.std.specs.Prelude.{◌≡◌, ◌<◌, ◌≤◌, ◌+◌, ◌�
 ghost use Rattle.std.specs.Option.{option_copied, option_map};
 ghost use Rattle.y86_base.specs.Image.{with_bytes};
 ghost use Rattle.yo_object.specs.Grammar.{digits_in_line};
-ghost use Rattle.yo_object.specs.Loads.{Leaves};
+ghost use Rattle.yo_object.specs.Loads.{LeavesMemory};
 ghost use Rattle.yo_object.specs.Lines.{digits_in};
 ghost use Rattle.yo_object.specs.ObjectText as definition;
 
@@ -93,7 +93,7 @@ fn put_bytes(image: &mut Image, address: u64, digits: &[u8])
 /// Puts the bytes of a line of the form, or tells the first of its faults.
 #[tactic(auto, using(crate::proofs::Bytes::put_nothing, crate::proofs::Bytes::pairs_length, crate::proofs::Bytes::not_a_word), unfolding(crate::specs::ObjectText::put_digits))]
 fn put_digits(image: &mut Image, digits: &LineDigits<'_>) -> Result<(), YoWhy>
-    ensures { Leaves result image.new (definition.put_digits image.old (digits_in digits.now)) }
+    ensures { LeavesMemory result image.new (definition.put_digits image.old (digits_in digits.now)) }
 {
     if digits.address.len() > 16 {
         return Err(YoWhy::AddressTooWide);
@@ -118,7 +118,7 @@ fn put_digits(image: &mut Image, digits: &LineDigits<'_>) -> Result<(), YoWhy>
 /// Puts the bytes of a line, or tells its fault.
 #[tactic(auto, unfolding(crate::specs::ObjectText::put_line))]
 pub fn put_line(image: &mut Image, line: &[u8]) -> Result<(), YoWhy>
-    ensures { Leaves result image.new (definition.put_line image.old line.now) }
+    ensures { LeavesMemory result image.new (definition.put_line image.old line.now) }
 {
     let Some(text) = after_prefix(after_blanks(line)) else {
         return Ok(());

@@ -11,7 +11,7 @@ loop-j-init c = record {
 
 pub loop-j-preserved : goal.loop-j-preserved
 loop-j-preserved c = record {
-  begins = begins_more c.loop-j.invariant.begins c.in_ok-put_line.ensures.begins;
+  begins = begins_more c.loop-j.invariant.begins c.in_ok-put_line.ensures.extends;
   built = built_more c.args.t.now.header (row c.args.t.now.rows.items) c.loop-j.j c.loop-j.b c.put_line.new.b c.loop-j.gates c.put_line.new.gates c.args.none
       c.loop-j.invariant.built c.in_ok-put_line.ensures.built;
 }

@@ -5,7 +5,7 @@ use Rattle.aiger_out.specs.declared.reader.Aig.{Aig}
 use Rattle.aiger_out.specs.Lines.{ended}
 use Rattle.aiger_out.specs.Rows.{row}
 use Rattle.aiger_out.specs.Reading.{AreGoodLines, IsError, IsLineError}
-use Rattle.aiger_out.specs.Values.{IsRead}
+use Rattle.aiger_out.specs.Values.{IsNetOfText}
 use Rattle.aiger_out.proofs.FromRows.{read_err, read_ok, rows_follow, rows_header}
 use Rattle.aiger_out.proofs.reader.read.Goals as goal
 
@@ -27,7 +27,7 @@ returns-in-Ok c =
     let left = c.in-Ok.rest.now in
     let is = sym c.header_of.ensures ∙ c.in-Some-header_of.is in
     let good = sym c.header_fault.ensures.fault ∙ c.in_default-header_fault.is in
-    each_case c.read_lines.result (λ a. AreGoodLines h (row rows) left a.net a.outs) (λ a. (x : Header) × IsRead 1000000 text a.net a.outs x)
+    each_case c.read_lines.result (λ a. AreGoodLines h (row rows) left a.net a.outs) (λ a. (x : Header) × IsNetOfText 1000000 text a.net a.outs x)
     (IsLineError h (row rows) left) (IsError 1000000 text)
     (λ a g. (h, read_ok h text rows left c.in-Ok.ensures c.in-Some.first.now (ended c.in-Some.field-0-1.now) c.in-Some.ensures.lines is good a.net a.outs g))
     (λ e l. read_err h text rows left c.in-Ok.ensures c.in-Some.first.now (ended c.in-Some.field-0-1.now) c.in-Some.ensures.lines is good e l)

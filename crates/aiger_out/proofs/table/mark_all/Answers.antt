@@ -1,5 +1,5 @@
 use Rattle.std.proofs.Common.{ap, ◌∙◌, arith}
-use Rattle.aiger_out.specs.declared.form.Line.{Line}
+use Rattle.aiger_out.specs.declared.form.AagLine.{AagLine}
 use Rattle.aiger_out.specs.Form.{defines}
 use Rattle.aiger_out.specs.Rows.{first_at, row}
 use Rattle.aiger_out.proofs.Firsts.{firsts_more, kept}
@@ -12,4 +12,4 @@ loop-j-preserved c =
     let j = c.loop-j.j in
     firsts_more h (row c.args.rows.now) j old c.mark.new.firsts c.loop-j.invariant (omega (arith, c.loop-j.auto.j))
     (omega (arith, c.loop-j-test.true, c.requires.size, c.requires.bounded.most, c.requires.bounded.outputs, c.requires.bounded.defined)) (c.mark.auto.firsts)
-    (λ v. c.mark.ensures v ∙ ap (λ (line : Line). kept (defines h line v) (first_at old v) j) c.row_at-line.ensures)
+    (λ v. c.mark.ensures v ∙ ap (λ (line : AagLine). kept (defines h line v) (first_at old v) j) c.row_at-line.ensures)

@@ -5,5 +5,5 @@ use Rattle.aiger_run.proofs.counting.count_all.Goals as goal
 
 pub returns : goal.returns
 returns c =
-    counts_at c.args.aig.now.net c.args.aig.now.outs c.args.lanes.now c.run.new.self c.in_ok-counts.counts.items c.run.ensures.made c.requires.gates c.run.ensures.truths
+    counts_at c.args.aig.now.net c.args.aig.now.outs c.args.lanes.now c.run.new.self c.in_ok-counts.counts.items c.run.ensures.has_truth c.requires.gates c.run.ensures.truths
     (subst (λ (gates : List ℕ). AreCounted c.run.new.self gates (length gates) c.in_ok-counts.counts.items) c.items.ensures c.in_ok-counts.ensures)

@@ -1,6 +1,6 @@
 use Rattle.std.proofs.Common.{◌≡◌, ◌++◌, List, ℕ, length, ap, subst, sym, ◌∙◌}
-use Rattle.certificates.specs.Certificates.{head_text}
-use Rattle.certificates.specs.declared.known.Made.{Made}
+use Rattle.cert_checker.specs.Certificates.{head_text}
+use Rattle.cert_checker.specs.declared.known.TermDef.{TermDef}
 use Rattle.cert_writer.specs.Writing.{AreGateTerms, AreClaims}
 use Rattle.cert_writer.proofs.Writing.{wrote_start, wrote_end}
 use Rattle.cert_writer.proofs.Claimed.{are_gates}
@@ -13,9 +13,9 @@ put_terms-requires-clause-wrote c =
 
 pub put_gates-requires-clause-gates : goal.put_gates-requires-clause-gates
 put_gates-requires-clause-gates c =
-    let terms : c.gate_claims.new.self.terms ≡ c.args.terms.now.terms = (c.gate_claims.ensures.kept).terms ∙ c.in_ok-claims.ensures.terms ∙ c.made.ensures.made in
+    let terms : c.gate_claims.new.self.terms ≡ c.args.terms.now.terms = (c.gate_claims.ensures.kept).terms ∙ c.in_ok-claims.ensures.terms ∙ c.made.ensures.has_truth in
     are_gates c.args.g.now.net c.gate_claims.new.self (length c.args.terms.now.order) c.args.ts.now c.as_slice.result.now
-    (subst (λ (xs : List Made). AreGateTerms c.args.g.now.net (length c.args.terms.now.order) xs c.args.ts.now (length c.args.g.now.net.gates)) (sym terms) c.requires.terms)
+    (subst (λ (xs : List TermDef). AreGateTerms c.args.g.now.net (length c.args.terms.now.order) xs c.args.ts.now (length c.args.g.now.net.gates)) (sym terms) c.requires.terms)
     (subst (λ (xs : List ℕ). AreClaims c.args.g.now.net c.gate_claims.new.self c.args.ts.now xs (length c.args.g.now.net.gates)) (sym c.as_slice.ensures.value) c.in_ok-by.ensures.claims)
 
 pub returns : goal.returns

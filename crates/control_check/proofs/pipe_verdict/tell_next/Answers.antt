@@ -1,7 +1,7 @@
 use Rattle.std.proofs.Common.{drop, subst, length, None, Some, Option, List, ℕ}
-use Rattle.rule_gates.specs.declared.rules.Rule.{Rule}
-use Rattle.verdicts.specs.Decisions.{IsDecision}
-use Rattle.verdicts.specs.declared.decision.Failure.{Failure}
+use Rattle.ctl_rules.specs.declared.rules.Rule.{Rule}
+use Rattle.ctl_verdicts.specs.Decisions.{IsRuleDecision}
+use Rattle.ctl_verdicts.specs.declared.decision.FailedRule.{FailedRule}
 use Rattle.control_check.specs.Tails.{IsFilled}
 use Rattle.control_check.proofs.Tails.{all_left, next_left, next_more}
 use Rattle.control_check.proofs.pipe_verdict.tell_next.Goals as goal
@@ -11,8 +11,8 @@ returns-in_ok-fill-in-None-clause-told c =
     let net = c.args.net.now in
     let list = c.args.list.now in
     let old = c.args.truths.now.items in
-    let here = subst (λ (o : Option Failure). IsDecision net (drop c.how_many-from.result list) o) c.in-None.is (subst (λ (xs : List Rule). IsDecision net xs c.in_ok-decide_pipe.field-0) c.behind.ensures c.in_ok-decide_pipe.ensures) in
-    let h = subst (λ (n : ℕ). IsDecision net (drop n list) None) c.how_many-from.ensures here in
+    let here = subst (λ (o : Option FailedRule). IsRuleDecision net (drop c.how_many-from.result list) o) c.in-None.is (subst (λ (xs : List Rule). IsRuleDecision net xs c.in_ok-decide_pipe.field-0) c.behind.ensures c.in_ok-decide_pipe.ensures) in
+    let h = subst (λ (n : ℕ). IsRuleDecision net (drop n list) None) c.how_many-from.ensures here in
     all_left net list old c.fill.new.truths.items c.requires.told h c.in_ok-fill-in-None.ensures
 
 pub returns-in_ok-put_truth-in-Some-clause-told : goal.returns-in_ok-put_truth-in-Some-clause-told
@@ -20,8 +20,8 @@ returns-in_ok-put_truth-in-Some-clause-told c =
     let net = c.args.net.now in
     let list = c.args.list.now in
     let old = c.args.truths.now.items in
-    let here = subst (λ (o : Option Failure). IsDecision net (drop c.how_many-from.result list) o) c.in-Some.is (subst (λ (xs : List Rule). IsDecision net xs c.in_ok-decide_pipe.field-0) c.behind.ensures c.in_ok-decide_pipe.ensures) in
-    let h = subst (λ (n : ℕ). IsDecision net (drop n list) (Some c.in-Some.failure)) c.how_many-from.ensures here in
+    let here = subst (λ (o : Option FailedRule). IsRuleDecision net (drop c.how_many-from.result list) o) c.in-Some.is (subst (λ (xs : List Rule). IsRuleDecision net xs c.in_ok-decide_pipe.field-0) c.behind.ensures c.in_ok-decide_pipe.ensures) in
+    let h = subst (λ (n : ℕ). IsRuleDecision net (drop n list) (Some c.in-Some.failure)) c.how_many-from.ensures here in
     next_left net list old c.fill-in-Some.new.truths.items c.put_truth.new.truths.items c.in-Some.failure c.requires.numbers c.requires.told h (subst (λ (n : ℕ). IsFilled old n c.fill-in-Some.new.truths.items) c.saturating_sub.ensures c.in_ok-fill-in-Some.ensures)
     c.in_ok-put_truth-in-Some.ensures
 
@@ -30,7 +30,7 @@ returns-in_ok-put_truth-in-Some-clause-more c =
     let net = c.args.net.now in
     let list = c.args.list.now in
     let old = c.args.truths.now.items in
-    let here = subst (λ (o : Option Failure). IsDecision net (drop c.how_many-from.result list) o) c.in-Some.is (subst (λ (xs : List Rule). IsDecision net xs c.in_ok-decide_pipe.field-0) c.behind.ensures c.in_ok-decide_pipe.ensures) in
-    let h = subst (λ (n : ℕ). IsDecision net (drop n list) (Some c.in-Some.failure)) c.how_many-from.ensures here in
+    let here = subst (λ (o : Option FailedRule). IsRuleDecision net (drop c.how_many-from.result list) o) c.in-Some.is (subst (λ (xs : List Rule). IsRuleDecision net xs c.in_ok-decide_pipe.field-0) c.behind.ensures c.in_ok-decide_pipe.ensures) in
+    let h = subst (λ (n : ℕ). IsRuleDecision net (drop n list) (Some c.in-Some.failure)) c.how_many-from.ensures here in
     next_more net list old c.fill-in-Some.new.truths.items c.put_truth.new.truths.items c.in-Some.failure c.requires.numbers h (subst (λ (n : ℕ). IsFilled old n c.fill-in-Some.new.truths.items) c.saturating_sub.ensures c.in_ok-fill-in-Some.ensures)
     c.in_ok-put_truth-in-Some.ensures

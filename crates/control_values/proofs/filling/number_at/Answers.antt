@@ -1,5 +1,5 @@
 use Rattle.std.proofs.Common.{◌+◌, false, get_or}
-use Rattle.field_bits.proofs.Loops.{number_more, number_small}
+use Rattle.net_fields.proofs.Loops.{number_more, number_small}
 use Rattle.control_values.proofs.filling.number_at.Goals as goal
 
 pub loop-k-preserved : goal.loop-k-preserved

@@ -1,5 +1,5 @@
 use Rattle.std.proofs.Common.{◌≡◌, ◌<◌, ◌^◌}
-use Rattle.field_bits.specs.Spelling.{spelt}
+use Rattle.net_fields.specs.Spelling.{spelt}
 use Rattle.control_values.proofs.filling.number_at.Given as goal
 
 abbrev pub invariant-loop-k : goal.invariant-loop-k

@@ -1,5 +1,5 @@
 use Rattle.std.proofs.Common.{◌≡◌, drop, map, []}
-use Rattle.ctl_atoms.specs.Plans.{case_leaves, branch_plan}
+use Rattle.ctl_atoms.specs.TermAtoms.{case_leaves, branch_plan}
 use Rattle.ctl_atoms.specs.Rows.{leaves_at}
 use Rattle.ctl_atoms.proofs.leaves.+leaves.Given as goal
 

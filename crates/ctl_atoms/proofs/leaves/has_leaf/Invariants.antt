@@ -1,5 +1,5 @@
 use Rattle.std.proofs.Common.{◌≡◌, drop}
-use Rattle.ctl_atoms.specs.Plans.{has_leaf}
+use Rattle.ctl_atoms.specs.TermAtoms.{has_leaf}
 use Rattle.ctl_atoms.proofs.leaves.has_leaf.Given as goal
 
 abbrev pub invariant-loop-other : goal.invariant-loop-other

@@ -1,5 +1,5 @@
 use Rattle.std.proofs.Common.{◌≡◌, drop}
-use Rattle.ctl_atoms.specs.Plans.{joined}
+use Rattle.ctl_atoms.specs.TermAtoms.{joined}
 use Rattle.ctl_atoms.proofs.leaves.put_leaves.Given as goal
 
 abbrev pub invariant-loop-leaf : goal.invariant-loop-leaf

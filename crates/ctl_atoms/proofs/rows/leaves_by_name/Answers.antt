@@ -2,7 +2,7 @@ use Rattle.std.proofs.Common.{◌∙◌, ◌<◌, ◌≤◌, List, ap, get_or, l
 use Rattle.std.proofs.lemmas.List.{at_drop_all, length-set}
 use Rattle.hcl_types.specs.declared.term.Term.{Term}
 use Rattle.hcl_types.specs.declared.table.Row.{Row}
-use Rattle.hcl_types.specs.Equations.{Fixes, filled}
+use Rattle.hcl_types.specs.Equations.{IsSolution, evaluated_along}
 use Rattle.hcl_types.specs.Tables.{IsOrderOf}
 use Rattle.ctl_atoms.specs.declared.leaf.Leaf.{Leaf}
 use Rattle.ctl_atoms.specs.Rows.{leaf_rule, leaves_at}
@@ -32,7 +32,7 @@ returns-clause-solved c =
     let lists = c.loop-id.lists.items in
     let order = subst (λ (rs : List Row). IsOrderOf rs terms ids) (sym c.items-rows.ensures) c.requires.ordered in
     let past : length ids ≤ c.loop-id.id-index = subst (λ (ns : List ℕ). length ns ≤ c.loop-id.id-index) c.items-id-items.ensures c.loop-id-test.false in
-    let end = sym c.loop-id.invariant.1 ∙ at_drop_all (λ (ns : List ℕ). filled leaves_at slice_set (leaf_rule rows terms) lists ns) ids c.loop-id.id-index past in
-    subst (λ (rs : List Row). Fixes (leaf_rule rs terms) (leaves_at lists)) c.items-rows.ensures
-    (subst (λ (ls : List (List Leaf)). Fixes (leaf_rule rows terms) (leaves_at ls)) end
+    let end = sym c.loop-id.invariant.1 ∙ at_drop_all (λ (ns : List ℕ). evaluated_along leaves_at slice_set (leaf_rule rows terms) lists ns) ids c.loop-id.id-index past in
+    subst (λ (rs : List Row). IsSolution (leaf_rule rs terms) (leaves_at lists)) c.items-rows.ensures
+    (subst (λ (ls : List (List Leaf)). IsSolution (leaf_rule rows terms) (leaves_at ls)) end
     (lists_solve rows terms ids order start c.in_ok-lists.ensures.whole c.in_ok-lists.ensures.given))

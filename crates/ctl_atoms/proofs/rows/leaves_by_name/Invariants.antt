@@ -1,8 +1,8 @@
 use Rattle.std.proofs.Common.{◌≡◌, drop, length, slice_set}
-use Rattle.hcl_types.specs.Equations.{filled}
+use Rattle.hcl_types.specs.Equations.{evaluated_along}
 use Rattle.ctl_atoms.specs.Rows.{leaf_rule, leaves_at}
 use Rattle.ctl_atoms.proofs.rows.leaves_by_name.Given as goal
 
 abbrev pub invariant-loop-id : goal.invariant-loop-id
 invariant-loop-id l = (length l.lists.items ≡ length l.initial.lists.items)
-    × (filled leaves_at slice_set (leaf_rule l.rows l.d.terms) l.lists.items (drop l.id-index l.o.ids) ≡ filled leaves_at slice_set (leaf_rule l.rows l.d.terms) l.initial.lists.items l.o.ids)
+    × (evaluated_along leaves_at slice_set (leaf_rule l.rows l.d.terms) l.lists.items (drop l.id-index l.o.ids) ≡ evaluated_along leaves_at slice_set (leaf_rule l.rows l.d.terms) l.initial.lists.items l.o.ids)

@@ -2,7 +2,7 @@ use Rattle.std.proofs.Common.{◌≡◌, ◌+◌, length, Some, slice_get, sym, 
 use Rattle.std.proofs.lemmas.Option.{slice_get_read}
 use Rattle.nets.proofs.Truths.{begins_more}
 use Rattle.hcl_types.specs.declared.table.Row.{Row}
-use Rattle.ctl_formula.specs.Filled.{IsGiven}
+use Rattle.ctl_formula.specs.Encoding.{IsInputEncoding}
 use Rattle.ctl_formula.specs.Places.{place_of}
 use Rattle.ctl_formula.proofs.Elements.{placed_at}
 use Rattle.ctl_formula.proofs.OneByOne.{given_next}
@@ -15,10 +15,10 @@ loop-id-preserved c =
     let row : Row = c.index-rows-id.result in
     let read : slice_get rows id ≡ Some row = slice_get_read rows (length rows) id row refl c.loop-id-test.true c.index-rows-id.is in
     let e = c.in_ok-e.ensures in
-    let made = given_next e.begins rows c.args.places.now id c.loop-id.es.items c.in_ok-e.e row read c.loop-id.invariant.given e.within e.absent e.entry e.is in
+    let made = given_next e.extends rows c.args.places.now id c.loop-id.es.items c.in_ok-e.e row read c.loop-id.invariant.given e.within e.absent e.entry e.is in
     record {
-      begins = begins_more c.loop-id.invariant.begins e.begins;
-      given = subst (IsGiven rows c.args.places.now (id + 1) c.given_entry.new.b) (sym c.in-Ok.ensures) made;
+      begins = begins_more c.loop-id.invariant.begins e.extends;
+      given = subst (IsInputEncoding rows c.args.places.now (id + 1) c.given_entry.new.b) (sym c.in-Ok.ensures) made;
     }
 
 pub given_entry-requires-clause-placed : goal.given_entry-requires-clause-placed

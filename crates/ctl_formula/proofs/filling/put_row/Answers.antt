@@ -4,12 +4,12 @@ use Rattle.hcl_types.specs.declared.term.Term.{Term}
 use Rattle.hcl_types.specs.declared.table.Row.{Row}
 use Rattle.hcl_types.specs.Tables.{is_defined}
 use Rattle.hcl_types.specs.Terms.{value}
-use Rattle.ctl_atoms.specs.Leaves.{picks}
+use Rattle.ctl_atoms.specs.Leaves.{leaf_meaning}
 use Rattle.ctl_atoms.specs.Rows.{row_term, defined_leaves}
 use Rattle.ctl_formula.specs.declared.controls.Entry.{Entry}
-use Rattle.ctl_formula.specs.Chosen.{at}
-use Rattle.ctl_formula.specs.Readies.{EntryShows, IsEntryOf, Shows, ready}
-use Rattle.ctl_formula.specs.Filled.{IsFilling, is_filled}
+use Rattle.ctl_formula.specs.TakenPicks.{at}
+use Rattle.ctl_formula.specs.Translatable.{EntryEncodes, IsEntryOf, EncodesSoFar, translatable}
+use Rattle.ctl_formula.specs.Encoding.{IsPartialEncoding, is_filled}
 use Rattle.ctl_formula.proofs.Elements.{defined_below, set_here, set_passes}
 use Rattle.ctl_formula.proofs.OneByOne.{readied_at, truth_class, word_class, bound_class, filling_next, filled_entry}
 use Rattle.ctl_formula.proofs.filling.put_row.Goals as goal
@@ -40,8 +40,8 @@ entry_of-requires-clause-truth c = λ h.
     let all = readied_at rows terms places asks c.args.first leaves c.requires.leaves.1 c.args.b.now es c.requires.filling.1 c.requires.bound (c.requires.atoms.are leaves c.requires.leaves.1) id row read d (c.requires.needs row read d) in
     let term : Term = row_term rows terms id in
     let kind = truth_class rows terms places asks c.args.first row.class term (bound_class rows terms places asks c.args.first c.requires.bound id row read d) h in
-    subst (λ (xs : List Entry). IsTrue (ready xs asks c.term_of-term.result.now).truth) (sym c.as_slice.ensures.value)
-    (subst (λ (t : Term). IsTrue (ready es asks t).truth) (sym c.term_of-term.ensures) (all.truth kind))
+    subst (λ (xs : List Entry). IsTrue (translatable xs asks c.term_of-term.result.now).truth) (sym c.as_slice.ensures.value)
+    (subst (λ (t : Term). IsTrue (translatable es asks t).truth) (sym c.term_of-term.ensures) (all.truth kind))
 
 pub entry_of-requires-clause-word : goal.entry_of-requires-clause-word
 entry_of-requires-clause-word c = λ h.
@@ -58,8 +58,8 @@ entry_of-requires-clause-word c = λ h.
     let all = readied_at rows terms places asks c.args.first leaves c.requires.leaves.1 c.args.b.now es c.requires.filling.1 c.requires.bound (c.requires.atoms.are leaves c.requires.leaves.1) id row read d (c.requires.needs row read d) in
     let term : Term = row_term rows terms id in
     let kind = word_class rows terms places asks c.args.first row.class term (bound_class rows terms places asks c.args.first c.requires.bound id row read d) h in
-    subst (λ (xs : List Entry). IsTrue (ready xs asks c.term_of-term.result.now).word) (sym c.as_slice.ensures.value)
-    (subst (λ (t : Term). IsTrue (ready es asks t).word) (sym c.term_of-term.ensures) (all.word kind))
+    subst (λ (xs : List Entry). IsTrue (translatable xs asks c.term_of-term.result.now).word) (sym c.as_slice.ensures.value)
+    (subst (λ (t : Term). IsTrue (translatable es asks t).word) (sym c.term_of-term.ensures) (all.word kind))
 
 pub returns-clause-filling : goal.returns-clause-filling
 returns-clause-filling c = λ places h.
@@ -75,16 +75,16 @@ returns-clause-filling c = λ places h.
     let made = c.in_ok-e.ensures in
     let term : Term = row_term rows terms id in
     let net = c.entry_of.new.b in
-    let entry : IsEntryOf row.class (defined_leaves row.class (ready es asks term).leaves) e =
-    subst (λ (xs : List Entry). IsEntryOf row.class (defined_leaves row.class (ready xs asks term).leaves) e) c.as_slice.ensures.value
-    (subst (λ (t : Term). IsEntryOf row.class (defined_leaves row.class (ready c.as_slice.result.now asks t).leaves) e) c.term_of-term.ensures made.entry) in
-    subst (λ (xs : List Entry). IsFilling rows terms places asks c.args.first net xs) (sym c.put_entry.ensures)
-    (filling_next rows terms places asks c.args.first made.begins es id row e read d h made.within
+    let entry : IsEntryOf row.class (defined_leaves row.class (translatable es asks term).leaves) e =
+    subst (λ (xs : List Entry). IsEntryOf row.class (defined_leaves row.class (translatable xs asks term).leaves) e) c.as_slice.ensures.value
+    (subst (λ (t : Term). IsEntryOf row.class (defined_leaves row.class (translatable c.as_slice.result.now asks t).leaves) e) c.term_of-term.ensures made.entry) in
+    subst (λ (xs : List Entry). IsPartialEncoding rows terms places asks c.args.first net xs) (sym c.put_entry.ensures)
+    (filling_next rows terms places asks c.args.first made.extends es id row e read d h made.within
     (λ leaves fixed. (readied_at rows terms places asks c.args.first leaves fixed c.args.b.now es h c.requires.bound (c.requires.atoms.are leaves fixed) id row read d (c.requires.needs row read d)).leaves)
     entry
     (λ w α cv s.
-    subst (λ (t : Term). EntryShows (at net w) α e (value (picks α) cv t)) c.term_of-term.ensures
-    (made.is w α cv (subst (λ (xs : List Entry). Shows c.args.b.now xs asks c.args.first w α cv) (sym c.as_slice.ensures.value) s))))
+    subst (λ (t : Term). EntryEncodes (at net w) α e (value (leaf_meaning α) cv t)) c.term_of-term.ensures
+    (made.is w α cv (subst (λ (xs : List Entry). EncodesSoFar c.args.b.now xs asks c.args.first w α cv) (sym c.as_slice.ensures.value) s))))
 
 pub returns-clause-filled : goal.returns-clause-filled
 returns-clause-filled c = λ r read d.
@@ -96,7 +96,7 @@ returns-clause-filled c = λ r read d.
     let inside = c.requires.row in
     let lt : id < length es = omega (arith, size, inside) in
     ap is_filled (ap (λ (xs : List Entry). slice_get xs id) c.put_entry.ensures ∙ set_here es id e lt)
-    ∙ filled_entry row.class (defined_leaves row.class (ready c.as_slice.result.now c.args.listed.now c.term_of-term.result.now).leaves) e c.in_ok-e.ensures.entry
+    ∙ filled_entry row.class (defined_leaves row.class (translatable c.as_slice.result.now c.args.listed.now c.term_of-term.result.now).leaves) e c.in_ok-e.ensures.entry
 
 pub returns-clause-kept : goal.returns-clause-kept
 returns-clause-kept c = λ n h.
@@ -104,4 +104,4 @@ returns-clause-kept c = λ n h.
     let row : Row = c.index-rows-id.result in
     let e : Entry = c.in_ok-e.e in
     subst (λ (xs : List Entry). IsTrue (is_filled (slice_get xs n))) (sym c.put_entry.ensures)
-    (set_passes is_filled es c.args.id e n (filled_entry row.class (defined_leaves row.class (ready c.as_slice.result.now c.args.listed.now c.term_of-term.result.now).leaves) e c.in_ok-e.ensures.entry) h)
+    (set_passes is_filled es c.args.id e n (filled_entry row.class (defined_leaves row.class (translatable c.as_slice.result.now c.args.listed.now c.term_of-term.result.now).leaves) e c.in_ok-e.ensures.entry) h)

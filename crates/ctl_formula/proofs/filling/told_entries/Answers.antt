@@ -3,13 +3,13 @@ use Rattle.std.proofs.lemmas.List.{drop_more, at_drop_all}
 use Rattle.std.specs.List.{AllByRecursion}
 use Rattle.nets.proofs.Truths.{begins_more}
 use Rattle.hcl_types.specs.declared.table.Row.{Row}
-use Rattle.hcl_types.specs.Equations.{Fixes}
+use Rattle.hcl_types.specs.Equations.{IsSolution}
 use Rattle.hcl_types.specs.Tables.{is_defined}
 use Rattle.hcl_types.specs.Terms.{names}
 use Rattle.ctl_atoms.specs.declared.leaf.Leaf.{Leaf}
 use Rattle.ctl_atoms.specs.Rows.{leaf_rule, row_term}
 use Rattle.ctl_atoms.proofs.Solved.{leaves_exist}
-use Rattle.ctl_formula.specs.Filled.{IsFilling, IsGiven, is_filled}
+use Rattle.ctl_formula.specs.Encoding.{IsPartialEncoding, IsInputEncoding, is_filled}
 use Rattle.ctl_formula.proofs.OneByOne.{IsAlong, filling_start, given_filled, along_start, along_next, along_needs, along_end, along_inside, put_filled}
 use Rattle.ctl_formula.proofs.filling.told_entries.Goals as goal
 
@@ -21,9 +21,9 @@ loop-id-init c =
     let asks = c.args.listed.now in
     let net = c.given_entries.new.b in
     let es = c.in_ok-es.es.items in
-    let given = subst (λ (rs : List Row). IsGiven rs places (length rs) net es) c.items.ensures c.in_ok-es.ensures.given in
+    let given = subst (λ (rs : List Row). IsInputEncoding rs places (length rs) net es) c.items.ensures c.in_ok-es.ensures.given in
     record {
-      begins = c.in_ok-es.ensures.begins;
+      begins = c.in_ok-es.ensures.extends;
       filling = filling_start rows terms places asks c.args.first net es given;
       given = given_filled rows terms places asks c.args.first net es given;
       along = along_start rows terms places asks c.args.first c.args.o.now.ids es c.requires.ordered;
@@ -31,7 +31,7 @@ loop-id-init c =
 
 pub put_row-requires-clause-leaves : goal.put_row-requires-clause-leaves
 put_row-requires-clause-leaves c =
-    subst (λ (rs : List Row). (leaves : ℕ → List Leaf) × Fixes (leaf_rule rs c.args.d.now.terms) leaves) (sym c.items-in-loop-id.ensures)
+    subst (λ (rs : List Row). (leaves : ℕ → List Leaf) × IsSolution (leaf_rule rs c.args.d.now.terms) leaves) (sym c.items-in-loop-id.ensures)
     (leaves_exist c.args.t.now.rows c.args.d.now.terms c.args.o.now.ids c.requires.ordered)
 
 pub put_row-requires-clause-needs : goal.put_row-requires-clause-needs
@@ -72,15 +72,15 @@ loop-id-preserved c =
     let lt : k < length rows = along_inside rows terms places asks c.args.first ids i inside c.requires.ordered in
     let filled = put_filled rows terms places asks c.args.first es es' k lt inv.given told step.kept in
     record {
-      begins = begins_more inv.begins step.begins;
-      filling = subst (λ (rs : List Row). IsFilling rs terms places asks c.args.first c.put_row.new.b es') c.items-in-loop-id.ensures
-          (step.filling places (subst (λ (rs : List Row). IsFilling rs terms places asks c.args.first c.loop-id.b es) (sym c.items-in-loop-id.ensures) inv.filling));
+      begins = begins_more inv.begins step.extends;
+      filling = subst (λ (rs : List Row). IsPartialEncoding rs terms places asks c.args.first c.put_row.new.b es') c.items-in-loop-id.ensures
+          (step.filling places (subst (λ (rs : List Row). IsPartialEncoding rs terms places asks c.args.first c.loop-id.b es) (sym c.items-in-loop-id.ensures) inv.filling));
       given = λ n row r d. step.kept n (inv.given n row r d);
       along = along_next rows terms places asks c.args.first ids k (drop (i + 1) ids) es es' along filled step.kept;
     }
 
-pub returns-clause-told : goal.returns-clause-told
-returns-clause-told c =
+pub returns-clause-encodes : goal.returns-clause-encodes
+returns-clause-encodes c =
     let rows = c.args.t.now.rows in
     let terms = c.args.d.now.terms in
     let places = c.args.places.now in

@@ -1,15 +1,15 @@
 use Rattle.std.proofs.Common.{◌≡◌, ℕ, false, IsTrue, drop, Some, slice_get}
-use Rattle.nets.specs.Nets.{Begins}
+use Rattle.nets.specs.Nets.{ExtendsNet}
 use Rattle.hcl_types.specs.declared.table.Row.{Row}
 use Rattle.hcl_types.specs.Tables.{is_defined}
-use Rattle.ctl_formula.specs.Filled.{IsFilling, is_filled}
+use Rattle.ctl_formula.specs.Encoding.{IsPartialEncoding, is_filled}
 use Rattle.ctl_formula.proofs.OneByOne.{IsAlong}
 use Rattle.ctl_formula.proofs.filling.told_entries.Given as goal
 
 abbrev pub invariant-loop-id : goal.invariant-loop-id
 invariant-loop-id l = record {
-  begins : Begins l.fn.b l.b;
-  filling : IsFilling l.t.rows l.d.terms l.places l.listed l.first l.b l.es.items;
+  begins : ExtendsNet l.fn.b l.b;
+  filling : IsPartialEncoding l.t.rows l.d.terms l.places l.listed l.first l.b l.es.items;
   given : (n : ℕ) (row : Row) → slice_get l.t.rows n ≡ Some row → is_defined row.role ≡ false → IsTrue (is_filled (slice_get l.es.items n));
   along : IsAlong l.t.rows l.d.terms l.places l.listed l.first l.o.ids (drop l.id-index l.o.ids) l.es.items;
 }

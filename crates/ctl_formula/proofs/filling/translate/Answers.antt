@@ -5,11 +5,11 @@ use Rattle.ctl_atoms.specs.Leaves.{AtomsAre}
 use Rattle.ctl_formula.proofs.OneByOne.{one_list}
 use Rattle.ctl_formula.proofs.filling.translate.Goals as goal
 
-pub returns-in-Ok-controls-clause-tells : goal.returns-in-Ok-controls-clause-tells
-returns-in-Ok-controls-clause-tells c = λ w α field cv asks are atoms s controls.
+pub returns-in-Ok-controls-clause-encodes : goal.returns-in-Ok-controls-clause-encodes
+returns-in-Ok-controls-clause-encodes c = λ w α field cv asks are atoms s controls.
     let rows = c.args.t.now.rows in
     let terms = c.args.d.now.terms in
     let found = c.as_slice.result.now in
     let found_are = subst (λ (xs : List Atom). AreAtoms rows terms xs) (sym c.as_slice.ensures.value) c.in-Ok.ensures in
     let same : asks ≡ found = one_list rows terms c.args.o.now.ids c.requires.ordered asks found are found_are in
-    c.in-Ok-controls.ensures.tells w α field cv (subst (λ (xs : List Atom). AtomsAre xs (c.args.b.now.vars - length xs) w α) same atoms) s controls
+    c.in-Ok-controls.ensures.encodes w α field cv (subst (λ (xs : List Atom). AtomsAre xs (c.args.b.now.vars - length xs) w α) same atoms) s controls

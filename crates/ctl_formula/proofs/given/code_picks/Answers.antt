@@ -1,12 +1,12 @@
 use Rattle.std.proofs.Common.{◌≡◌, ◌+◌, ◌-◌, ◌&&◌, ◌++◌, ◌∷◌, [], List, length, sym, ap, ◌∙◌, refl, subst, arith}
 use Rattle.nets.proofs.Truths.{begins_more}
-use Rattle.field_bits.specs.Spelling.{spelt}
+use Rattle.net_fields.specs.Spelling.{spelt}
 use Rattle.ctl_atoms.specs.declared.leaf.Leaf.TheVariants.{Number}
 use Rattle.ctl_atoms.specs.Leaves.{leaf_eq}
 use Rattle.ctl_formula.specs.declared.controls.Pick.{Pick}
 use Rattle.ctl_formula.specs.Picks.{Within}
-use Rattle.ctl_formula.specs.Chosen.{at, taken}
-use Rattle.ctl_formula.specs.Readies.{leaves_of}
+use Rattle.ctl_formula.specs.TakenPicks.{at, leaf_taken}
+use Rattle.ctl_formula.specs.Translatable.{leaves_of}
 use Rattle.ctl_formula.proofs.Inside.{within_more}
 use Rattle.ctl_formula.proofs.Chosen.{taken_kept}
 use Rattle.ctl_formula.proofs.Steps.{or_same}
@@ -24,12 +24,12 @@ loop-k-preserved c =
     let made = c.in_ok-gate.ensures in
     let inv = c.loop-k.invariant in
     record {
-      begins = begins_more inv.begins made.begins;
-      within = subst (λ (xs : List Pick). Within (length n.gates) xs) (sym items) (within_push (length n.gates) ps q (within_more _ _ ps made.begins.more inv.within) made.made.within);
+      begins = begins_more inv.begins made.extends;
+      within = subst (λ (xs : List Pick). Within (length n.gates) xs) (sym items) (within_push (length n.gates) ps q (within_more _ _ ps made.extends.more inv.within) made.has_truth.within);
       leaves = ap (λ (xs : List Pick). leaves_of xs ++ numbers (k + 1) (16 - (k + 1))) items ∙ (leaves_next ps q k 16 refl c.loop-k-test.true ∙ inv.leaves);
       is = λ w y.
-          ap (λ (xs : List Pick). taken (at n w) xs y) items ∙ (taken_push (at n w) ps q y
-          ∙ (or_same _ _ _ _ (taken_kept made.begins w ps inv.within y ∙ inv.is w y) (ap (λ b. leaf_eq (Number k) y && b) (made.made.is w))
+          ap (λ (xs : List Pick). leaf_taken (at n w) xs y) items ∙ (taken_push (at n w) ps q y
+          ∙ (or_same _ _ _ _ (taken_kept made.extends w ps inv.within y ∙ inv.is w y) (ap (λ b. leaf_eq (Number k) y && b) (made.has_truth.is w))
           ∙ below_next k (spelt w c.args.place.first c.args.place.bits) y));
     }
 

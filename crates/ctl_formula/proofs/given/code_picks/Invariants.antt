@@ -1,19 +1,19 @@
 use Rattle.std.proofs.Common.{◌≡◌, ◌++◌, ◌-◌, ◌&&◌, List, Bool, length}
-use Rattle.nets.specs.Nets.{Begins}
-use Rattle.field_bits.specs.Spelling.{spelt}
+use Rattle.nets.specs.Nets.{ExtendsNet}
+use Rattle.net_fields.specs.Spelling.{spelt}
 use Rattle.ctl_atoms.specs.declared.leaf.Leaf.{Leaf}
 use Rattle.ctl_atoms.specs.declared.leaf.Leaf.TheVariants.{Number}
 use Rattle.ctl_atoms.specs.Leaves.{leaf_eq}
 use Rattle.ctl_formula.specs.Picks.{Within}
-use Rattle.ctl_formula.specs.Chosen.{at, taken}
-use Rattle.ctl_formula.specs.Readies.{leaves_of}
+use Rattle.ctl_formula.specs.TakenPicks.{at, leaf_taken}
+use Rattle.ctl_formula.specs.Translatable.{leaves_of}
 use Rattle.ctl_formula.proofs.Codes.{numbers, below}
 use Rattle.ctl_formula.proofs.given.code_picks.Given as goal
 
 abbrev pub invariant-loop-k : goal.invariant-loop-k
 invariant-loop-k l = record {
-  begins : Begins l.fn.b l.b;
+  begins : ExtendsNet l.fn.b l.b;
   within : Within (length l.b.gates) l.ps.items;
   leaves : leaves_of l.ps.items ++ numbers l.k (16 - l.k) ≡ numbers 0 16;
-  is : (w : List Bool) (y : Leaf) → taken (at l.b w) l.ps.items y ≡ below l.k y && leaf_eq (Number (spelt w l.place.first l.place.bits)) y;
+  is : (w : List Bool) (y : Leaf) → leaf_taken (at l.b w) l.ps.items y ≡ below l.k y && leaf_eq (Number (spelt w l.place.first l.place.bits)) y;
 }

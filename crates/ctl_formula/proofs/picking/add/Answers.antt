@@ -3,9 +3,9 @@ use Rattle.std.proofs.lemmas.List.{get_or_read}
 use Rattle.std.proofs.lemmas.Result.{on_ok_weaker}
 use Rattle.ctl_formula.specs.declared.controls.Pick.{Pick}
 use Rattle.nets.specs.Nets.{truth}
-use Rattle.ctl_formula.specs.Chosen.{at, taken}
+use Rattle.ctl_formula.specs.TakenPicks.{at, leaf_taken}
 use Rattle.ctl_formula.specs.Picks.{Within}
-use Rattle.ctl_formula.specs.Readies.{IsPlace, leaves_of}
+use Rattle.ctl_formula.specs.Translatable.{IsPlace, leaves_of}
 use Rattle.ctl_formula.proofs.Steps.{none, within_at}
 use Rattle.ctl_formula.proofs.Inside.{within_more}
 use Rattle.ctl_formula.proofs.Taken.{taken_set, leaves_set, within_set, within_push, taken_push}
@@ -22,7 +22,7 @@ pub returns-in_ok-both-in-Some-clause-within : goal.returns-in_ok-both-in-Some-c
 returns-in_ok-both-in-Some-clause-within c =
     let n = length c.or.new.self.gates in
     within_set n c.args.out.now.items c.in-Some.k (record { leaf = c.args.leaf; gate = c.in_ok-both-in-Some.both })
-    (within_more (length c.args.b.now.gates) n c.args.out.now.items c.in_ok-both-in-Some.ensures.begins.more c.requires.within) c.in_ok-both-in-Some.ensures.made.within
+    (within_more (length c.args.b.now.gates) n c.args.out.now.items c.in_ok-both-in-Some.ensures.extends.more c.requires.within) c.in_ok-both-in-Some.ensures.has_truth.within
 
 pub returns-in_ok-both-in-Some-clause-leaves : goal.returns-in_ok-both-in-Some-clause-leaves
 returns-in_ok-both-in-Some-clause-leaves c =
@@ -36,8 +36,8 @@ returns-in_ok-both-in-Some-clause-is c = λ w y.
     let ps = c.args.out.now.items in
     let place = subst (λ (xs : List Pick). IsPlace xs c.in-Some.k c.args.leaf) c.as_slice.ensures.value c.in-Some.ensures in
     let read = get_or_read ps c.in-Some.k c.index.result.now place.within c.index.ensures none in
-    taken_set c.in_ok-both-in-Some.ensures.begins w ps c.in-Some.k c.in_ok-both-in-Some.both c.args.leaf (truth c.args.b.now c.args.gate w) c.requires.within place.within place.same
-    (c.in_ok-both-in-Some.ensures.made.is w ∙ ap (λ (q : Pick). truth c.args.b.now q.gate w || truth c.args.b.now c.args.gate w) read) y
+    taken_set c.in_ok-both-in-Some.ensures.extends w ps c.in-Some.k c.in_ok-both-in-Some.both c.args.leaf (truth c.args.b.now c.args.gate w) c.requires.within place.within place.same
+    (c.in_ok-both-in-Some.ensures.has_truth.is w ∙ ap (λ (q : Pick). truth c.args.b.now q.gate w || truth c.args.b.now c.args.gate w) read) y
 
 pub returns-in-None-clause-within : goal.returns-in-None-clause-within
 returns-in-None-clause-within c =
@@ -48,6 +48,6 @@ returns-in-None-clause-within c =
 
 pub returns-in-None-clause-is : goal.returns-in-None-clause-is
 returns-in-None-clause-is c = λ w y.
-    on_ok_weaker c.put_pick.result (λ grown. ap (λ (xs : List Pick). taken (at c.args.b.now w) xs y) grown
+    on_ok_weaker c.put_pick.result (λ grown. ap (λ (xs : List Pick). leaf_taken (at c.args.b.now w) xs y) grown
     ∙ taken_push (at c.args.b.now w) c.args.out.now.items (record { leaf = c.args.leaf; gate = c.args.gate }) y)
     c.put_pick.ensures

@@ -4,9 +4,9 @@ use Rattle.ctl_atoms.specs.declared.leaf.Leaf.{Leaf}
 use Rattle.ctl_formula.specs.declared.controls.Pick.{Pick}
 use Rattle.nets.specs.Nets.{truth}
 use Rattle.ctl_atoms.specs.Leaves.{leaf_eq}
-use Rattle.ctl_formula.specs.Chosen.{at, taken}
-use Rattle.ctl_formula.specs.Readies.{leaves_of}
-use Rattle.ctl_atoms.specs.Plans.{joined}
+use Rattle.ctl_formula.specs.TakenPicks.{at, leaf_taken}
+use Rattle.ctl_formula.specs.Translatable.{leaves_of}
+use Rattle.ctl_atoms.specs.TermAtoms.{joined}
 use Rattle.nets.proofs.Truths.{begins_more}
 use Rattle.ctl_formula.proofs.Chosen.{taken_kept}
 use Rattle.ctl_formula.proofs.Steps.{none, within_next, or_same, and_same}
@@ -15,7 +15,7 @@ use Rattle.ctl_formula.proofs.Taken.{one_more}
 use Rattle.ctl_formula.proofs.picking.add_all.Goals as goal
 
 pub add-requires-clause-within : goal.add-requires-clause-within
-add-requires-clause-within c = within_more (length c.loop-p.b.gates) (length c.and.new.self.gates) c.loop-p.out.items c.in_ok-g.ensures.begins.more c.loop-p.invariant.within
+add-requires-clause-within c = within_more (length c.loop-p.b.gates) (length c.and.new.self.gates) c.loop-p.out.items c.in_ok-g.ensures.extends.more c.loop-p.invariant.within
 
 pub loop-p-preserved : goal.loop-p-preserved
 loop-p-preserved c =
@@ -26,17 +26,17 @@ loop-p-preserved c =
     let p : Pick = get_or ps i none in
     let begins = c.loop-p.invariant.begins in
     record {
-      begins = begins_more begins (begins_more c.in_ok-g.ensures.begins c.in-Ok.ensures.begins);
+      begins = begins_more begins (begins_more c.in_ok-g.ensures.extends c.in-Ok.ensures.extends);
       within = c.in-Ok.ensures.within;
       more = more.1;
       leaves = ap (λ (ls : List Leaf). joined ls (leaves_of (drop (i + 1) ps))) c.in-Ok.ensures.leaves
           ∙ (ap (λ (xs : List Pick). joined (leaves_of c.loop-p.out.items) (leaves_of xs)) (sym (drop_more ps i none inside)) ∙ c.loop-p.invariant.leaves);
       is = λ w y.
           or_same _ _ _ _ (c.in-Ok.ensures.is w y) refl
-          ∙ (one_more (taken (at c.loop-p.b w) c.loop-p.out.items y) (truth c.args.b.now c.args.here w) (leaf_eq p.leaf y) (truth c.args.b.now p.gate w) (taken (at c.args.b.now w) (drop (i + 1) ps) y)
-          (taken (at c.and.new.self w) c.loop-p.out.items y) (truth c.and.new.self c.in_ok-g.g w)
-          (taken_kept c.in_ok-g.ensures.begins w c.loop-p.out.items c.loop-p.invariant.within y)
-          (c.in_ok-g.ensures.made.is w ∙ and_same _ _ _ _ (begins.same c.args.here w c.requires.gate) (begins.same p.gate w more.0))
-          ∙ (ap (λ (xs : List Pick). taken (at c.loop-p.b w) c.loop-p.out.items y || (truth c.args.b.now c.args.here w && taken (at c.args.b.now w) xs y)) (sym (drop_more ps i none inside))
+          ∙ (one_more (leaf_taken (at c.loop-p.b w) c.loop-p.out.items y) (truth c.args.b.now c.args.here w) (leaf_eq p.leaf y) (truth c.args.b.now p.gate w) (leaf_taken (at c.args.b.now w) (drop (i + 1) ps) y)
+          (leaf_taken (at c.and.new.self w) c.loop-p.out.items y) (truth c.and.new.self c.in_ok-g.g w)
+          (taken_kept c.in_ok-g.ensures.extends w c.loop-p.out.items c.loop-p.invariant.within y)
+          (c.in_ok-g.ensures.has_truth.is w ∙ and_same _ _ _ _ (begins.same c.args.here w c.requires.gate) (begins.same p.gate w more.0))
+          ∙ (ap (λ (xs : List Pick). leaf_taken (at c.loop-p.b w) c.loop-p.out.items y || (truth c.args.b.now c.args.here w && leaf_taken (at c.args.b.now w) xs y)) (sym (drop_more ps i none inside))
           ∙ c.loop-p.invariant.is w y));
     }

@@ -1,6 +1,6 @@
 use Rattle.std.proofs.Common.{◌≡◌, drop}
-use Rattle.ctl_formula.specs.Readies.{leaves_of}
-use Rattle.ctl_atoms.specs.Plans.{has_leaf}
+use Rattle.ctl_formula.specs.Translatable.{leaves_of}
+use Rattle.ctl_atoms.specs.TermAtoms.{has_leaf}
 use Rattle.ctl_formula.proofs.picking.place_of.Given as goal
 
 abbrev pub invariant-loop-i : goal.invariant-loop-i

@@ -1,8 +1,8 @@
 use Rattle.std.proofs.Common.{◌≡◌, ◌+◌, ◌-◌, ◌%◌, ◌^◌, ℕ, ap, arith, refl}
 use Rattle.pipe_fields.specs.Layout.{bit_count}
 use Rattle.nets.specs.Nets.{truth}
-use Rattle.rule_gates.specs.declared.rules.Rule.{Rule}
-use Rattle.rule_gates.specs.declared.rules.Rules.{Rules}
+use Rattle.ctl_rules.specs.declared.rules.Rule.{Rule}
+use Rattle.ctl_rules.specs.declared.rules.Rules.{Rules}
 use Rattle.lane_eval.specs.Search.{holds_drawn}
 use Rattle.lane_eval.proofs.Earliest.{at_index, block_some, block_past}
 use Rattle.lane_eval.proofs.Seeds.{shifted_seed}
@@ -39,7 +39,7 @@ loop-at-preserved c =
     let at : ℕ = c.loop-at.at in
     record {
       within = omega arith;
-      made = c.search_block.ensures.made;
+      made = c.search_block.ensures.has_truth;
       earlier = λ i h.
           at_index (holds_drawn r c.args.seed) (holds_drawn r ((c.args.seed + at) % 2 ^ 64)) r.list at (same r c.args.seed at) c.loop-at.invariant.earlier
           i 512 c.in-None.ensures.found h;

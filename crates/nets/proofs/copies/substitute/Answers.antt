@@ -11,5 +11,5 @@ loop-i-preserved c =
       vars = search rules;
       size = search rules;
       copies = subst (AreCopies c.args.n.now c.copy_gate.new.b c.args.to.now) (sym items)
-          (copies_more c.gate.result c.copy_gate.ensures.begins c.loop-i.invariant.copies c.loop-i.invariant.size c.gate.ensures.meaning c.in_ok-g.ensures.made);
+          (copies_more c.gate.result c.copy_gate.ensures.extends c.loop-i.invariant.copies c.loop-i.invariant.size c.gate.ensures.meaning c.in_ok-g.ensures.has_truth);
     }

@@ -7,12 +7,12 @@ use Rattle.dp_signals.proofs.Sound.{pipe_sound}
 use Rattle.ctl_atoms.specs.declared.leaf.Leaf.{Leaf}
 use Rattle.ctl_formula.specs.Controls.{AreControls}
 use Rattle.control_values.specs.Given.{assigned, at, field_at}
-use Rattle.field_bits.specs.declared.spots.Spot.{Spot}
-use Rattle.pipe_fields.specs.Layout.{bit_count, fields_of, spots}
+use Rattle.net_fields.specs.declared.field_specs.FieldSpec.{FieldSpec}
+use Rattle.pipe_fields.specs.Layout.{bit_count, fields_of, field_specs}
 use Rattle.pipe_requirements.specs.Requirements.{requirements, unread}
 use Rattle.motion_repairs.specs.Pairs.{AreRepairs}
-use Rattle.pipe_obligations.specs.Obligations.{movers_of}
-use Rattle.pipe_obligations.specs.Stages.{view_of}
+use Rattle.pipe_obligations.specs.Obligations.{register_controls_of}
+use Rattle.pipe_obligations.specs.StageFlows.{flow_of}
 use Rattle.findings.proofs.EachMet.{atoms_given}
 use Rattle.pipe_diagnosis.proofs.OneWrong.{controls_are, one_wrong}
 use Rattle.dp_signals.specs.PipeNames as signal
@@ -29,10 +29,10 @@ returns c =
     let w = c.args.bits.now in
     let α = assigned atoms bit_count w in
     let ls = c.in_ok-leaves.leaves.items in
-    let solved = subst (λ (rows : List Row). AreControls rows terms (field_at c.spots.result.now w) α (at ls)) c.in-Ok.ensures c.in_ok-leaves.ensures.solved in
-    let own = subst (λ (ss : List Spot). AreControls pipe_rows terms (field_at ss w) α (at ls)) c.spots.ensures solved in
+    let solved = subst (λ (rows : List Row). AreControls rows terms (field_at c.field_specs.result.now w) α (at ls)) c.in-Ok.ensures c.in_ok-leaves.ensures.solved in
+    let own = subst (λ (ss : List FieldSpec). AreControls pipe_rows terms (field_at ss w) α (at ls)) c.field_specs.ensures solved in
     let cv : ℕ → Leaf = at c.of.result in
-    let controls = controls_are terms w α cv (subst (λ (xs : List Leaf). AreControls pipe_rows terms (field_at spots w) α (at xs)) (sym c.of.ensures) own) in
+    let controls = controls_are terms w α cv (subst (λ (xs : List Leaf). AreControls pipe_rows terms (field_at field_specs w) α (at xs)) (sym c.of.ensures) own) in
     let given = atoms_given pipe_rows terms c.args.o.now.ids atoms bit_count w c.requires.ordered c.requires.atoms in
     let v = c.args.v in
     let s = c.args.s.now in
@@ -40,8 +40,8 @@ returns c =
     let same = c.as_slice.ensures.value ∙ sym c.of.ensures in
     let here = c.as_slice.result.now in
     let findings = λ (le : i ≤ 22). c.in_ok-found.ensures.findings le
-    ∙ ap (λ (ts : List Term). map (finding signal.f_pc ts α (at here)) (requirements v s (fields_of w) (view_of v s (fields_of w)) (movers_of α (at here)) (at here) i)) c.items.ensures
-    ∙ ap (λ (xs : List Leaf). map (finding signal.f_pc terms α (at xs)) (requirements v s (fields_of w) (view_of v s (fields_of w)) (movers_of α (at xs)) (at xs) i)) same in
+    ∙ ap (λ (ts : List Term). map (finding signal.f_pc ts α (at here)) (requirements v s (fields_of w) (flow_of v s (fields_of w)) (register_controls_of α (at here)) (at here) i)) c.items.ensures
+    ∙ ap (λ (xs : List Leaf). map (finding signal.f_pc terms α (at xs)) (requirements v s (fields_of w) (flow_of v s (fields_of w)) (register_controls_of α (at xs)) (at xs) i)) same in
     let false_there = c.requires.fails α cv given controls in
     record {
       diagnosis = record {
@@ -50,6 +50,6 @@ returns c =
         false_there = false_there;
         findings = findings;
         one_wrong = λ le. ap are_right (findings le) ∙ one_wrong v terms s atoms i w α cv c.requires.first le false_there;
-        repairs = subst (λ (xs : List Leaf). AreRepairs v s (fields_of w) (view_of v s (fields_of w)) (movers_of α (at xs)) unread xs c.in_ok-found.found.repairs) same c.in_ok-found.ensures.repairs;
+        repairs = subst (λ (xs : List Leaf). AreRepairs v s (fields_of w) (flow_of v s (fields_of w)) (register_controls_of α (at xs)) unread xs c.in_ok-found.found.repairs) same c.in_ok-found.ensures.repairs;
       };
     }

@@ -4,14 +4,14 @@ use Rattle.nets.proofs.Truths.{begins_more}
 use Rattle.pipe_motion.proofs.Kept.{view_kept, movers_kept, next_by, moved_view_by}
 use Rattle.pipe_motion.proofs.obligations.obligation_25.Goals as goal
 
-pub returns-clause-made : goal.returns-clause-made
-returns-clause-made c =
-    let to_1 = c.fetched_slot.ensures.begins in
-    let to_2 = begins_more to_1 c.move_view.ensures.begins in
+pub returns-clause-has_truth : goal.returns-clause-has_truth
+returns-clause-has_truth c =
+    let to_1 = c.fetched_flow.ensures.extends in
+    let to_2 = begins_more to_1 c.move_flow.ensures.extends in
     IfOk-weaker c.next_right.result _ _ (λ g made. record {
       within = made.within;
       is = λ w.
-          let next = c.in_ok-next.ensures.made.is w ∙ moved_view_by _ _ _ _ _ _ (movers_kept to_1 c.args.k.now w c.requires.movers_in) (c.in_ok-fetched.ensures.made.is w) (view_kept to_1 c.args.v.now w c.requires.view_in) in
-          made.is w ∙ next_by c.args.je c.args.rm _ _ _ _ _ _ _ _ (movers_kept to_2 c.args.k.now w c.requires.movers_in) (to_2.same _ w c.requires.good_in)
-          (view_kept to_2 c.args.v.now w c.requires.view_in) next;
-    }) c.next_right.ensures.made
+          let next = c.in_ok-next.ensures.has_truth.is w ∙ moved_view_by _ _ _ _ _ _ (movers_kept to_1 c.args.k.now w c.requires.controls_in) (c.in_ok-fetched.ensures.has_truth.is w) (view_kept to_1 c.args.v.now w c.requires.flow_in) in
+          made.is w ∙ next_by c.args.je c.args.rm _ _ _ _ _ _ _ _ (movers_kept to_2 c.args.k.now w c.requires.controls_in) (to_2.same _ w c.requires.good_in)
+          (view_kept to_2 c.args.v.now w c.requires.flow_in) next;
+    }) c.next_right.ensures.has_truth

@@ -1,7 +1,7 @@
 use Rattle.std.proofs.Common.{List, None, Some, sym, subst}
-use Rattle.rule_gates.specs.declared.rules.Rule.{Rule}
+use Rattle.ctl_rules.specs.declared.rules.Rule.{Rule}
 use Rattle.pipe_theorem.proofs.Top.{accepted_refines}
-use Rattle.verdicts.specs.Decisions.{AreGatesOf, IsDecision}
+use Rattle.ctl_verdicts.specs.Decisions.{HaveGatesOfNet, IsRuleDecision}
 use Rattle.control_check.proofs.PipeVerdict.{accepts, rules_gates}
 use Rattle.pipe_refusals.proofs.answer.diagnose_pipe.Goals as goal
 
@@ -11,20 +11,20 @@ decide_pipe-requires c =
     let made = c.in_ok-made.made.rules in
     let rules = c.in_ok-made.ensures.rules in
     record {
-      gates = subst (AreGatesOf made.net) (sym c.items.ensures) (rules_gates c.args.v c.args.d.now.terms c.args.o.now.ids c.requires.ordered s made.net made.list rules);
+      gates = subst (HaveGatesOfNet made.net) (sym c.items.ensures) (rules_gates c.args.v c.args.d.now.terms c.args.o.now.ids c.requires.ordered s made.net made.list rules);
     }
 
 pub refuse-requires-clause-failure : goal.refuse-requires-clause-failure
 refuse-requires-clause-failure c =
     let made = c.in_ok-made.made.rules in
-    subst (λ (list : List Rule). IsDecision made.net list (Some c.in-Ok-Some.failure)) c.items.ensures (rw c.in-Ok-Some.field-0-is at c.in-Ok-Some.ensures)
+    subst (λ (list : List Rule). IsRuleDecision made.net list (Some c.in-Ok-Some.failure)) c.items.ensures (rw c.in-Ok-Some.field-0-is at c.in-Ok-Some.ensures)
 
 pub returns-in-Ok-None-clause-answer : goal.returns-in-Ok-None-clause-answer
 returns-in-Ok-None-clause-answer c =
     let s = c.in_ok-made.made.settings in
     let made = c.in_ok-made.made.rules in
     let rules = c.in_ok-made.ensures.rules in
-    let decided = subst (λ (list : List Rule). IsDecision made.net list None) c.items.ensures (rw c.in-Ok-None.field-0-is at c.in-Ok-None.ensures) in
+    let decided = subst (λ (list : List Rule). IsRuleDecision made.net list None) c.items.ensures (rw c.in-Ok-None.field-0-is at c.in-Ok-None.ensures) in
     accepts c.args.v c.args.d.now.terms c.args.o.now.ids c.requires.ordered s made.net made.list c.in_ok-made.ensures.settings rules decided
 
 pub returns-in-Ok-None-clause-refines : goal.returns-in-Ok-None-clause-refines
@@ -32,7 +32,7 @@ returns-in-Ok-None-clause-refines c =
     let s = c.in_ok-made.made.settings in
     let made = c.in_ok-made.made.rules in
     let rules = c.in_ok-made.ensures.rules in
-    let decided = subst (λ (list : List Rule). IsDecision made.net list None) c.items.ensures (rw c.in-Ok-None.field-0-is at c.in-Ok-None.ensures) in
+    let decided = subst (λ (list : List Rule). IsRuleDecision made.net list None) c.items.ensures (rw c.in-Ok-None.field-0-is at c.in-Ok-None.ensures) in
     let accepted = accepts c.args.v c.args.d.now.terms c.args.o.now.ids c.requires.ordered s made.net made.list c.in_ok-made.ensures.settings rules decided in
     λ yes image k is_image pure. accepted_refines (record { v = c.args.v; s = s; image = image }) c.args.d.now.terms c.args.o.now.ids
     accepted.settings.atoms c.requires.bound c.requires.ordered accepted.holds k is_image pure

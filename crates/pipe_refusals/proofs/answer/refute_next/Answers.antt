@@ -1,7 +1,7 @@
 use Rattle.std.proofs.Common.{◌∙◌, ◌∷◌, ap, drop, length, Option, List, sym, subst, arith}
-use Rattle.rule_gates.specs.declared.rules.Rule.{Rule}
-use Rattle.verdicts.specs.Decisions.{AreGatesOf, IsDecision}
-use Rattle.verdicts.specs.declared.decision.Failure.{Failure}
+use Rattle.ctl_rules.specs.declared.rules.Rule.{Rule}
+use Rattle.ctl_verdicts.specs.Decisions.{HaveGatesOfNet, IsRuleDecision}
+use Rattle.ctl_verdicts.specs.declared.decision.FailedRule.{FailedRule}
 use Rattle.pipe_diagnosis.specs.declared.refusal.Refutation.{Refutation}
 use Rattle.pipe_refusals.specs.Answered.{AreRefuted}
 use Rattle.pipe_refusals.proofs.Refuting.{gates_from, gates_of, next_rule, one_more, rest_holds, within_list}
@@ -12,14 +12,14 @@ decide_pipe-requires c =
     let r = c.args.rules.now in
     let whole = gates_of c.args.v c.args.d.now.terms c.args.settings.now r.net r.list c.requires.rules in
     record {
-      gates = subst (AreGatesOf r.net) (sym (c.rules_from.ensures ∙ ap (drop c.args.from) c.items-list.ensures)) (gates_from r.net r.list c.args.from whole);
+      gates = subst (HaveGatesOfNet r.net) (sym (c.rules_from.ensures ∙ ap (drop c.args.from) c.items-list.ensures)) (gates_from r.net r.list c.args.from whole);
     }
 
 pub refute-requires-clause-failure : goal.refute-requires-clause-failure
 refute-requires-clause-failure c =
     let r = c.args.rules.now in
-    subst (λ (o : Option Failure). IsDecision r.net (drop c.args.from r.list) o) c.in-Some.is
-    (subst (λ (xs : List Rule). IsDecision r.net xs c.in_ok-decide_pipe.field-0) (c.rules_from.ensures ∙ ap (drop c.args.from) c.items-list.ensures) c.in_ok-decide_pipe.ensures)
+    subst (λ (o : Option FailedRule). IsRuleDecision r.net (drop c.args.from r.list) o) c.in-Some.is
+    (subst (λ (xs : List Rule). IsRuleDecision r.net xs c.in_ok-decide_pipe.field-0) (c.rules_from.ensures ∙ ap (drop c.args.from) c.items-list.ensures) c.in_ok-decide_pipe.ensures)
 
 pub returns-in-None-clause-refuted : goal.returns-in-None-clause-refuted
 returns-in-None-clause-refuted c =
@@ -28,8 +28,8 @@ returns-in-None-clause-refuted c =
     let terms = c.args.d.now.terms in
     let s = c.args.settings.now in
     let all = c.args.first.now ∷ c.args.others.now.items in
-    let h = subst (λ (o : Option Failure). IsDecision r.net (drop c.args.from r.list) o) c.in-None.is
-    (subst (λ (xs : List Rule). IsDecision r.net xs c.in_ok-decide_pipe.field-0) (c.rules_from.ensures ∙ ap (drop c.args.from) c.items-list.ensures) c.in_ok-decide_pipe.ensures) in
+    let h = subst (λ (o : Option FailedRule). IsRuleDecision r.net (drop c.args.from r.list) o) c.in-None.is
+    (subst (λ (xs : List Rule). IsRuleDecision r.net xs c.in_ok-decide_pipe.field-0) (c.rules_from.ensures ∙ ap (drop c.args.from) c.items-list.ensures) c.in_ok-decide_pipe.ensures) in
     subst (λ (xs : List Rule). AreRefuted v terms s r.atoms (length xs) all) (sym c.items-list.ensures)
     (rest_holds v terms s r.net r.list c.requires.rules c.args.o.now.ids c.requires.ordered r.atoms c.requires.atoms c.args.from all
     (let from = c.requires.from in omega (arith, from)) h c.requires.refuted)
@@ -42,8 +42,8 @@ returns-in_ok-put-in-Some-clause-refuted c =
     let s = c.args.settings.now in
     let old = c.args.others.now.items in
     let x = c.in_ok-refutation-in-Some.refutation in
-    let h = subst (λ (o : Option Failure). IsDecision r.net (drop c.args.from r.list) o) c.in-Some.is
-    (subst (λ (xs : List Rule). IsDecision r.net xs c.in_ok-decide_pipe.field-0) (c.rules_from.ensures ∙ ap (drop c.args.from) c.items-list.ensures) c.in_ok-decide_pipe.ensures) in
+    let h = subst (λ (o : Option FailedRule). IsRuleDecision r.net (drop c.args.from r.list) o) c.in-Some.is
+    (subst (λ (xs : List Rule). IsRuleDecision r.net xs c.in_ok-decide_pipe.field-0) (c.rules_from.ensures ∙ ap (drop c.args.from) c.items-list.ensures) c.in_ok-decide_pipe.ensures) in
     subst (λ (xs : List Refutation). AreRefuted v terms s r.atoms c.in-Some.failure.rule (c.args.first.now ∷ xs)) (sym c.in_ok-put-in-Some.ensures)
     (one_more v terms s r.net r.list c.requires.rules c.args.o.now.ids c.requires.ordered r.atoms c.requires.atoms c.args.from c.in-Some.failure (c.args.first.now ∷ old) x h
     c.in_ok-refutation-in-Some.ensures.rule c.in_ok-refutation-in-Some.ensures.refutation c.requires.refuted)
@@ -51,13 +51,13 @@ returns-in_ok-put-in-Some-clause-refuted c =
 pub returns-in_ok-put-in-Some-clause-more : goal.returns-in_ok-put-in-Some-clause-more
 returns-in_ok-put-in-Some-clause-more c =
     let r = c.args.rules.now in
-    let h = subst (λ (o : Option Failure). IsDecision r.net (drop c.args.from r.list) o) c.in-Some.is
-    (subst (λ (xs : List Rule). IsDecision r.net xs c.in_ok-decide_pipe.field-0) (c.rules_from.ensures ∙ ap (drop c.args.from) c.items-list.ensures) c.in_ok-decide_pipe.ensures) in
+    let h = subst (λ (o : Option FailedRule). IsRuleDecision r.net (drop c.args.from r.list) o) c.in-Some.is
+    (subst (λ (xs : List Rule). IsRuleDecision r.net xs c.in_ok-decide_pipe.field-0) (c.rules_from.ensures ∙ ap (drop c.args.from) c.items-list.ensures) c.in_ok-decide_pipe.ensures) in
     next_rule c.args.v c.args.d.now.terms c.args.settings.now r.net r.list c.requires.rules c.args.from c.in-Some.failure h
 
 pub returns-in_ok-put-in-Some-clause-within : goal.returns-in_ok-put-in-Some-clause-within
 returns-in_ok-put-in-Some-clause-within c =
     let r = c.args.rules.now in
-    let h = subst (λ (o : Option Failure). IsDecision r.net (drop c.args.from r.list) o) c.in-Some.is
-    (subst (λ (xs : List Rule). IsDecision r.net xs c.in_ok-decide_pipe.field-0) (c.rules_from.ensures ∙ ap (drop c.args.from) c.items-list.ensures) c.in_ok-decide_pipe.ensures) in
+    let h = subst (λ (o : Option FailedRule). IsRuleDecision r.net (drop c.args.from r.list) o) c.in-Some.is
+    (subst (λ (xs : List Rule). IsRuleDecision r.net xs c.in_ok-decide_pipe.field-0) (c.rules_from.ensures ∙ ap (drop c.args.from) c.items-list.ensures) c.in_ok-decide_pipe.ensures) in
     within_list c.args.v c.args.d.now.terms c.args.settings.now r.net r.list c.requires.rules c.args.from c.in-Some.failure h

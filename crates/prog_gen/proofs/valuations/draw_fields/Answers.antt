@@ -1,44 +1,44 @@
 use Rattle.std.proofs.Common.{◌≡◌, ◌∙◌, ◌<◌, ◌≤◌, ◌+◌, ◌-◌, ◌++◌, [], ℕ, List, Bool, sym, ap, arith, length, get_or, take, drop, None}
 use Rattle.std.proofs.lemmas.List.{take-append-drop}
-use Rattle.field_bits.specs.Spots.{total, pattern}
-use Rattle.field_bits.specs.declared.spots.Spot.{Spot}
-use Rattle.pipe_fields.specs.Layout.{spots, bit_count, field_count}
+use Rattle.net_fields.specs.FieldSpecs.{total, pattern}
+use Rattle.net_fields.specs.declared.field_specs.FieldSpec.{FieldSpec}
+use Rattle.pipe_fields.specs.Layout.{field_specs, bit_count, field_count}
 use Rattle.prog_gen.specs.Choices.{width, numbers_drawn, chosen, choices}
 use Rattle.prog_gen.proofs.Fields.{width_small, total_more, total_within, number_more, word_more, bits_more, field_behind, all_numbers, all_words}
 use Rattle.prog_gen.proofs.valuations.draw_fields.Goals as goal
 
 -- how many bits the field at a place has, and that it ends within the fields' bits
-abbrev none : Spot
+abbrev none : FieldSpec
 none = record { bits = 0; name = None }
 
-read : (ss : List Spot) (j : ℕ) → ss ≡ spots → (get_or ss j (record { bits = 0; name = None })).bits ≡ width j
-read ss j e = ap (λ (xs : List Spot). (get_or xs j (record { bits = 0; name = None })).bits) e
+read : (ss : List FieldSpec) (j : ℕ) → ss ≡ field_specs → (get_or ss j (record { bits = 0; name = None })).bits ≡ width j
+read ss j e = ap (λ (xs : List FieldSpec). (get_or xs j (record { bits = 0; name = None })).bits) e
 
-ends : (first j : ℕ) → first ≡ total (take j spots) → j < field_count → first + width j ≤ bit_count
-ends first j e h = omega (arith, e, total_more spots j (record { bits = 0; name = None }) h, total_within spots (j + 1))
+ends : (first j : ℕ) → first ≡ total (take j field_specs) → j < field_count → first + width j ≤ bit_count
+ends first j e h = omega (arith, e, total_more field_specs j (record { bits = 0; name = None }) h, total_within field_specs (j + 1))
 
 pub choice-n-requires-clause-few : goal.choice-n-requires-clause-few
-choice-n-requires-clause-few c = omega (arith, read c.spots-fields.result.now c.loop-j.j c.spots-fields.ensures, width_small c.loop-j.j)
+choice-n-requires-clause-few c = omega (arith, read c.field_specs-fields.result.now c.loop-j.j c.field_specs-fields.ensures, width_small c.loop-j.j)
 
 pub put_bits-requires-clause-room : goal.put_bits-requires-clause-room
 put_bits-requires-clause-room c =
-    omega (arith, read c.spots-fields.result.now c.loop-j.j c.spots-fields.ensures, ends c.loop-j.first c.loop-j.j c.loop-j.invariant.place c.loop-j-test.true, c.requires)
+    omega (arith, read c.field_specs-fields.result.now c.loop-j.j c.field_specs-fields.ensures, ends c.loop-j.first c.loop-j.j c.loop-j.invariant.place c.loop-j-test.true, c.requires)
 
 pub put_bits-requires-clause-small : goal.put_bits-requires-clause-small
 put_bits-requires-clause-small c =
-    omega (arith, read c.spots-fields.result.now c.loop-j.j c.spots-fields.ensures, ends c.loop-j.first c.loop-j.j c.loop-j.invariant.place c.loop-j-test.true)
+    omega (arith, read c.field_specs-fields.result.now c.loop-j.j c.field_specs-fields.ensures, ends c.loop-j.first c.loop-j.j c.loop-j.invariant.place c.loop-j-test.true)
 
 pub overflow_add-first : goal.overflow_add-first
 overflow_add-first c =
-    record { fits = omega (arith, read c.spots-fields.result.now c.loop-j.j c.spots-fields.ensures, ends c.loop-j.first c.loop-j.j c.loop-j.invariant.place c.loop-j-test.true) }
+    record { fits = omega (arith, read c.field_specs-fields.result.now c.loop-j.j c.field_specs-fields.ensures, ends c.loop-j.first c.loop-j.j c.loop-j.invariant.place c.loop-j-test.true) }
 
 pub loop-j-preserved : goal.loop-j-preserved
 loop-j-preserved c =
     let j : ℕ = c.loop-j.j in
     let first : ℕ = c.loop-j.first in
     let out : List Bool = c.loop-j.out in
-    let k : ℕ = (get_or c.spots-fields.result.now j (record { bits = 0; name = None })).bits in
-    let is : k ≡ width j = read c.spots-fields.result.now j c.spots-fields.ensures in
+    let k : ℕ = (get_or c.field_specs-fields.result.now j (record { bits = 0; name = None })).bits in
+    let is : k ≡ width j = read c.field_specs-fields.result.now j c.field_specs-fields.ensures in
     let room : first + k ≤ bit_count = omega (arith, is, ends first j c.loop-j.invariant.place c.loop-j-test.true) in
     let small : first + k ≤ length out = omega (arith, room, c.requires) in
     record {
@@ -47,8 +47,8 @@ loop-j-preserved c =
           ∙ (ap (λ (m : ℕ). chosen (choices c.args.v (take m c.loop-j.numbers)) c.draw.result) (omega arith) ∙ ap (chosen (choices c.args.v (take j c.loop-j.numbers))) c.draw.ensures.number))
           ∙ c.loop-j.invariant.numbers;
       word = word_more j c.loop-j.draws c.draw.new.self c.loop-j-test.true c.draw.ensures.after ∙ c.loop-j.invariant.word;
-      place = omega (arith, is, c.loop-j.invariant.place, total_more spots j (record { bits = 0; name = None }) c.loop-j-test.true);
-      bits = ap (take (first + k)) c.put_bits.ensures ∙ bits_more out spots c.loop-j.numbers j first k c.choice-n.result c.loop-j-test.true (omega arith) is small c.loop-j.invariant.bits;
+      place = omega (arith, is, c.loop-j.invariant.place, total_more field_specs j (record { bits = 0; name = None }) c.loop-j-test.true);
+      bits = ap (take (first + k)) c.put_bits.ensures ∙ bits_more out field_specs c.loop-j.numbers j first k c.choice-n.result c.loop-j-test.true (omega arith) is small c.loop-j.invariant.bits;
       behind = ap (drop bit_count) c.put_bits.ensures ∙ (field_behind out first k c.choice-n.result bit_count room small ∙ c.loop-j.invariant.behind);
     }
 
@@ -59,7 +59,7 @@ pub returns-clause-bits : goal.returns-clause-bits
 returns-clause-bits c =
     let out : List Bool = c.loop-j.out in
     let e : c.loop-j.j ≡ field_count = omega arith in
-    let all : c.loop-j.first ≡ bit_count = c.loop-j.invariant.place ∙ ap (λ (m : ℕ). total (take m spots)) e in
+    let all : c.loop-j.first ≡ bit_count = c.loop-j.invariant.place ∙ ap (λ (m : ℕ). total (take m field_specs)) e in
     let numbers : take c.loop-j.j c.loop-j.numbers ≡ numbers_drawn c.args.v field_count [] c.args.draws.now =
     all_numbers c.args.v c.loop-j.j c.loop-j.draws (take c.loop-j.j c.loop-j.numbers) _ c.loop-j-test.false c.loop-j.invariant.numbers in
     sym (take-append-drop bit_count out)
@@ -67,4 +67,4 @@ returns-clause-bits c =
     ∙ ap (λ (xs : List Bool). xs ++ drop bit_count c.args.out.now)
     (ap (λ (m : ℕ). take m out) (sym all)
     ∙ (c.loop-j.invariant.bits
-    ∙ (ap (λ (m : ℕ). pattern (take m spots) (take c.loop-j.j c.loop-j.numbers) []) e ∙ ap (λ (xs : List ℕ). pattern spots xs []) numbers))))
+    ∙ (ap (λ (m : ℕ). pattern (take m field_specs) (take c.loop-j.j c.loop-j.numbers) []) e ∙ ap (λ (xs : List ℕ). pattern field_specs xs []) numbers))))

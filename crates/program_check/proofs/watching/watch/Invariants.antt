@@ -1,5 +1,5 @@
 use Rattle.std.proofs.Common.{◌≡◌, ◌-◌, ◌≤◌, length}
-use Rattle.pure_runs.specs.Near.{NearPure}
+use Rattle.yis_pure_runs.specs.Near.{NearPure}
 use Rattle.y86_isa.specs.Run.{records, run}
 use Rattle.program_check.proofs.Told.{AreRecent}
 use Rattle.program_check.proofs.watching.watch.Given as goal

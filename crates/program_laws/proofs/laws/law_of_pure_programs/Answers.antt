@@ -1,4 +1,4 @@
-use Rattle.pure_runs.proofs.Near.{near_from_pure}
+use Rattle.yis_pure_runs.proofs.Near.{near_from_pure}
 use Rattle.program_laws.proofs.Right.{prints_run}
 use Rattle.program_laws.proofs.laws.law_of_pure_programs.Goals as goal
 

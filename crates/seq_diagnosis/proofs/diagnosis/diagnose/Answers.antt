@@ -3,7 +3,7 @@ use Rattle.hcl_types.specs.declared.term.Term.{Term}
 use Rattle.ctl_atoms.specs.declared.leaf.Leaf.{Leaf}
 use Rattle.ctl_formula.specs.Controls.{AreControls}
 use Rattle.control_values.specs.Given.{assigned, at, field_at}
-use Rattle.field_bits.specs.Spots.{total}
+use Rattle.net_fields.specs.FieldSpecs.{total}
 use Rattle.findings.specs.Findings.{are_right, finding}
 use Rattle.findings.specs.declared.requirement.Requirement.{Requirement}
 use Rattle.findings.proofs.EachMet.{atoms_given}

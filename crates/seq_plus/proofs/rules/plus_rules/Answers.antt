@@ -32,7 +32,7 @@ translate-requires-clause-vars c = λ listed are.
 
 pub numbered_rules-requires-clause-known : goal.numbered_rules-requires-clause-known
 numbered_rules-requires-clause-known c =
-    let le : plus_bit_count ≤ c.translate.new.b.vars = omega (arith, c.new-b.ensures.vars, c.translate.ensures.begins.vars) in
+    let le : plus_bit_count ≤ c.translate.new.b.vars = omega (arith, c.new-b.ensures.vars, c.translate.ensures.extends.vars) in
     ready_by c.translate.new.b.vars c.in_ok-ctl.ctl le (subst (λ rows. Covers rows c.in_ok-ctl.ctl) c.in-Ok.ensures c.in_ok-ctl.ensures.covers)
 
 pub returns-clause-rules : goal.returns-clause-rules
@@ -41,8 +41,8 @@ returns-clause-rules c =
     subst (λ net. ArePlusRules c.args.variant c.args.design.now.terms net c.of.result) (sym c.finish.ensures)
     (subst (λ list. ArePlusRules c.args.variant c.args.design.now.terms c.numbered_rules.new.b list) (sym c.of.ensures)
     (told_rules c.args.variant c.args.design.now.terms c.in-Ok.table.rows c.places.result.now c.in_ok-ctl.ctl c.in_ok-listed.listed.items c.in-Ok-numbered_rules.list.items c.new-b.result.vars
-    c.in-Ok.ensures c.places.ensures c.in_ok-listed.ensures size c.translate.ensures.begins.vars c.in_ok-ctl.ensures.inside c.in_ok-ctl.ensures.tells
-    c.numbered_rules.ensures.begins c.in-Ok-numbered_rules.ensures.count c.in-Ok-numbered_rules.ensures.rules))
+    c.in-Ok.ensures c.places.ensures c.in_ok-listed.ensures size c.translate.ensures.extends.vars c.in_ok-ctl.ensures.inside c.in_ok-ctl.ensures.encodes
+    c.numbered_rules.ensures.extends c.in-Ok-numbered_rules.ensures.count c.in-Ok-numbered_rules.ensures.rules))
 
 pub returns-clause-atoms : goal.returns-clause-atoms
 returns-clause-atoms c =

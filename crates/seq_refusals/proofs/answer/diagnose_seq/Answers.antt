@@ -1,32 +1,32 @@
 use Rattle.std.proofs.Common.{List, None, Some, sym, subst}
-use Rattle.rule_gates.specs.declared.rules.Rule.{Rule}
+use Rattle.ctl_rules.specs.declared.rules.Rule.{Rule}
 use Rattle.seq_requirements.specs.Datapaths.{rows_of}
-use Rattle.verdicts.specs.Decisions.{AreGatesOf, IsDecision}
+use Rattle.ctl_verdicts.specs.Decisions.{HaveGatesOfNet, IsRuleDecision}
 use Rattle.seq_refusals.proofs.Refuting.{accepts, gates_of, refines}
 use Rattle.seq_refusals.proofs.answer.diagnose_seq.Goals as goal
 
 pub decide-requires : goal.decide-requires
 decide-requires c =
     let made = c.in-Ok.rules in
-    subst (AreGatesOf made.net) (sym c.items.ensures) (gates_of c.args.which c.args.v c.args.d.now.terms made.net made.list c.args.o.now.ids c.requires.ordered c.in-Ok.ensures.rules)
+    subst (HaveGatesOfNet made.net) (sym c.items.ensures) (gates_of c.args.which c.args.v c.args.d.now.terms made.net made.list c.args.o.now.ids c.requires.ordered c.in-Ok.ensures.rules)
 
 pub refuse-requires-clause-failure : goal.refuse-requires-clause-failure
 refuse-requires-clause-failure c =
     let made = c.in-Ok.rules in
-    subst (λ (list : List Rule). IsDecision made.net list (Some c.in-Ok-Some.failure)) c.items.ensures (rw c.in-Ok-Some.field-0-is at c.in-Ok-Some.ensures)
+    subst (λ (list : List Rule). IsRuleDecision made.net list (Some c.in-Ok-Some.failure)) c.items.ensures (rw c.in-Ok-Some.field-0-is at c.in-Ok-Some.ensures)
 
 pub returns-in-Err-clause-fault : goal.returns-in-Err-clause-fault
-returns-in-Err-clause-fault c = c.told.ensures (rows_of c.args.which) c.args.d.now.terms c.in-Err.ensures.fault
+returns-in-Err-clause-fault c = c.check_fault.ensures (rows_of c.args.which) c.args.d.now.terms c.in-Err.ensures.fault
 
 pub returns-in-Ok-None-clause-answer : goal.returns-in-Ok-None-clause-answer
 returns-in-Ok-None-clause-answer c =
     let made = c.in-Ok.rules in
-    let decided = subst (λ (list : List Rule). IsDecision made.net list None) c.items.ensures (rw c.in-Ok-None.field-0-is at c.in-Ok-None.ensures) in
+    let decided = subst (λ (list : List Rule). IsRuleDecision made.net list None) c.items.ensures (rw c.in-Ok-None.field-0-is at c.in-Ok-None.ensures) in
     accepts c.args.which c.args.v c.args.d.now.terms made.net made.list c.args.o.now.ids c.requires.ordered c.in-Ok.ensures.rules decided
 
 pub returns-in-Ok-None-clause-refines : goal.returns-in-Ok-None-clause-refines
 returns-in-Ok-None-clause-refines c =
     let made = c.in-Ok.rules in
-    let decided = subst (λ (list : List Rule). IsDecision made.net list None) c.items.ensures (rw c.in-Ok-None.field-0-is at c.in-Ok-None.ensures) in
+    let decided = subst (λ (list : List Rule). IsRuleDecision made.net list None) c.items.ensures (rw c.in-Ok-None.field-0-is at c.in-Ok-None.ensures) in
     let accepted = accepts c.args.which c.args.v c.args.d.now.terms made.net made.list c.args.o.now.ids c.requires.ordered c.in-Ok.ensures.rules decided in
     λ yes. refines c.args.which c.args.v c.args.d.now.terms c.args.o.now.ids c.requires.bound c.requires.ordered accepted

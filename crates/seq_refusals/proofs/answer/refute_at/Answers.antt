@@ -1,7 +1,7 @@
 use Rattle.std.proofs.Common.{◌∷◌, [], ◌+◌, Option, List, ap, sym, subst, ◌∙◌, slice_get}
-use Rattle.rule_gates.specs.declared.rules.Rule.{Rule}
-use Rattle.verdicts.specs.Decisions.{IsDecision}
-use Rattle.verdicts.specs.declared.decision.Failure.{Failure}
+use Rattle.ctl_rules.specs.declared.rules.Rule.{Rule}
+use Rattle.ctl_verdicts.specs.Decisions.{IsRuleDecision}
+use Rattle.ctl_verdicts.specs.declared.decision.FailedRule.{FailedRule}
 use Rattle.seq_diagnosis.specs.declared.refusal.Refutation.{Refutation}
 use Rattle.seq_refusals.specs.Answered.{AreRefuted}
 use Rattle.seq_refusals.proofs.Refuting.{gates_of, next_holds, next_refuted, one_false, one_true, place_one}
@@ -17,14 +17,14 @@ pub refute-requires-clause-failure : goal.refute-requires-clause-failure
 refute-requires-clause-failure c =
     let r = c.args.rules.now in
     let at = ap (λ (xs : List Rule). slice_get xs c.args.k) (sym c.items.ensures) ∙ c.rule_at-rule.ensures in
-    let d = subst (λ (o : Option Failure). IsDecision r.net (c.rule_at-rule.result ∷ []) o) c.in-Some.is c.in_ok-decide_one.ensures in
+    let d = subst (λ (o : Option FailedRule). IsRuleDecision r.net (c.rule_at-rule.result ∷ []) o) c.in-Some.is c.in_ok-decide_one.ensures in
     one_false r.net r.list c.args.k c.rule_at-rule.result c.in-Some.failure at d
 
 pub returns-in-None : goal.returns-in-None
 returns-in-None c =
     let r = c.args.rules.now in
     let at = ap (λ (xs : List Rule). slice_get xs c.args.k) (sym c.items.ensures) ∙ c.rule_at-rule.ensures in
-    let d = subst (λ (o : Option Failure). IsDecision r.net (c.rule_at-rule.result ∷ []) o) c.in-None.is c.in_ok-decide_one.ensures in
+    let d = subst (λ (o : Option FailedRule). IsRuleDecision r.net (c.rule_at-rule.result ∷ []) o) c.in-None.is c.in_ok-decide_one.ensures in
     next_holds c.args.which c.args.v c.args.d.now.terms r.net r.list c.args.o.now.ids c.requires.ordered c.requires.rules r.atoms c.requires.atoms c.args.k
     (c.args.first.now ∷ c.args.others.now.items) c.rule_at-rule.result at (one_true r.net c.rule_at-rule.result d) c.requires.refuted
 
@@ -32,7 +32,7 @@ pub returns-in_ok-put-in-Some : goal.returns-in_ok-put-in-Some
 returns-in_ok-put-in-Some c =
     let r = c.args.rules.now in
     let at = ap (λ (xs : List Rule). slice_get xs c.args.k) (sym c.items.ensures) ∙ c.rule_at-rule.ensures in
-    let d = subst (λ (o : Option Failure). IsDecision r.net (c.rule_at-rule.result ∷ []) o) c.in-Some.is c.in_ok-decide_one.ensures in
+    let d = subst (λ (o : Option FailedRule). IsRuleDecision r.net (c.rule_at-rule.result ∷ []) o) c.in-Some.is c.in_ok-decide_one.ensures in
     let x = c.in_ok-refutation-in-Some.refutation in
     let number = c.in_ok-refutation-in-Some.ensures.rule ∙ place_one c.args.which c.args.v c.args.d.now.terms r.net r.list c.args.o.now.ids c.requires.ordered c.requires.rules c.args.k c.rule_at-rule.result c.in-Some.failure at d in
     subst (λ (xs : List Refutation). AreRefuted c.args.which c.args.v c.args.d.now.terms r.atoms (c.args.k + 1) (c.args.first.now ∷ xs)) (sym c.in_ok-put-in-Some.ensures)

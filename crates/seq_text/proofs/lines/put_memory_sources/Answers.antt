@@ -1,5 +1,5 @@
 use Rattle.std.proofs.lemmas.Result.{on_ok_weaker}
-use Rattle.stage_text.proofs.Rows.{two_parts}
+use Rattle.pipe_stage_text.proofs.Rows.{two_parts}
 use Rattle.seq_text.specs.Lines.{memory_sources}
 use Rattle.seq_text.proofs.lines.put_memory_sources.Goals as goal
 

@@ -1,8 +1,8 @@
 use Rattle.std.proofs.Common.{◌++◌}
 use Rattle.std.specs.Prelude.{codes}
 use Rattle.std.proofs.lemmas.Result.{on_ok_weaker}
-use Rattle.stage_text.specs.Numbers.{word_pair}
-use Rattle.stage_text.proofs.Rows.{two_parts}
+use Rattle.pipe_stage_text.specs.Numbers.{word_pair}
+use Rattle.pipe_stage_text.proofs.Rows.{two_parts}
 use Rattle.seq_text.specs.Lines.{pc_source, update_line}
 use Rattle.seq_text.specs.Signals.{sources_in}
 use Rattle.seq_text.proofs.lines.put_update.Goals as goal

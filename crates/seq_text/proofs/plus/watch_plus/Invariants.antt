@@ -2,12 +2,12 @@ use Rattle.std.proofs.Common.{IsTrue}
 use Rattle.dp_signals.specs.PipeEquations.{constants}
 use Rattle.hcl_types.specs.Signals.{Starts}
 use Rattle.seq_plus.specs.PlusRun.{plus_start}
-use Rattle.seq_text.specs.Watching.{PlusShows, Watches, plus_stat}
+use Rattle.seq_text.specs.Observer.{PlusShows, Observes, plus_stat}
 use Rattle.seq_text.proofs.plus.watch_plus.Given as goal
 
 abbrev pub invariant-loop-k : goal.invariant-loop-k
 invariant-loop-k g l = record {
-  watches : Watches (PlusShows l.variant l.design.terms) plus_stat l.window (plus_start l.fn.image) l.k l.s l.lines.items;
+  watches : Observes (PlusShows l.variant l.design.terms) plus_stat l.window (plus_start l.fn.image) l.k l.s l.lines.items;
   kept : g.C.SignalEval.evaluates l.evaluator l.design.terms;
   fits : IsTrue l.fits → Starts (g.C.SignalEval.assumes l.evaluator) constants;
 }

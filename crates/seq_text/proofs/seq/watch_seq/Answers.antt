@@ -1,5 +1,5 @@
 use Rattle.std.proofs.Common.{sym, ◌∙◌, arith}
-use Rattle.stage_text.specs.declared.watching.Watched.{Watched}
+use Rattle.pipe_stage_text.specs.declared.observer.ObservedRun.{ObservedRun}
 use Rattle.seq_text.proofs.Runs.{at_limit, before_limit, shows_run, watches_more}
 use Rattle.seq_text.proofs.seq.watch_seq.Goals as goal
 
@@ -8,17 +8,17 @@ loop-k-preserved g c =
     let before = c.loop-k.invariant in
     let went = c.in-Ok.ensures.cycle in
     record {
-      watches = watches_more _ _ _ _ c.loop-k.k c.loop-k.s _ _ _ went.0 before.watches (sym c.is_going.ensures ∙ c.if-not-is_going.false) went.1 went.2;
+      watches = watches_more _ _ _ _ c.loop-k.k c.loop-k.s _ _ _ went.0 before.watches (sym c.is_aok_stat.ensures ∙ c.if-not-is_aok_stat.false) went.1 went.2;
       kept = c.in-Ok.ensures.kept;
       fits = rw c.in-Ok.ensures.same before.fits;
     }
 
-pub returns-then-not-is_going : goal.returns-then-not-is_going
-returns-then-not-is_going g c =
-    shows_run _ _ _ _ _ _ _ _ (λ (w : Watched). w.text.items) (λ (w : Watched). w.end) c.finished.result c.finished.ensures.text c.finished.ensures.end
-    (before_limit _ _ _ _ _ _ _ _ c.loop-k-test.true c.loop-k.invariant.watches (sym c.is_going.ensures ∙ c.if-not-is_going.true))
+pub returns-then-not-is_aok_stat : goal.returns-then-not-is_aok_stat
+returns-then-not-is_aok_stat g c =
+    shows_run _ _ _ _ _ _ _ _ (λ (w : ObservedRun). w.text.items) (λ (w : ObservedRun). w.end) c.finished.result c.finished.ensures.text c.finished.ensures.end
+    (before_limit _ _ _ _ _ _ _ _ c.loop-k-test.true c.loop-k.invariant.watches (sym c.is_aok_stat.ensures ∙ c.if-not-is_aok_stat.true))
 
 pub returns : goal.returns
 returns g c =
-    shows_run _ _ _ _ _ _ _ _ (λ (w : Watched). w.text.items) (λ (w : Watched). w.end) c.finished-2.result c.finished-2.ensures.text c.finished-2.ensures.end
+    shows_run _ _ _ _ _ _ _ _ (λ (w : ObservedRun). w.text.items) (λ (w : ObservedRun). w.end) c.finished-2.result c.finished-2.ensures.text c.finished-2.ensures.end
     (at_limit _ _ _ _ _ _ _ _ (omega (arith, c.loop-k-test.false, c.loop-k.auto.k-end)) c.loop-k.invariant.watches)

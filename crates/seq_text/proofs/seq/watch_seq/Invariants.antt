@@ -2,12 +2,12 @@ use Rattle.std.proofs.Common.{IsTrue}
 use Rattle.dp_signals.specs.PipeEquations.{constants}
 use Rattle.hcl_types.specs.Signals.{Starts}
 use Rattle.y86_isa.specs.Machine.{start}
-use Rattle.seq_text.specs.Watching.{SeqShows, Watches, seq_stat}
+use Rattle.seq_text.specs.Observer.{SeqShows, Observes, seq_stat}
 use Rattle.seq_text.proofs.seq.watch_seq.Given as goal
 
 abbrev pub invariant-loop-k : goal.invariant-loop-k
 invariant-loop-k g l = record {
-  watches : Watches (SeqShows l.variant l.design.terms) seq_stat l.window (start l.fn.image) l.k l.s l.lines.items;
+  watches : Observes (SeqShows l.variant l.design.terms) seq_stat l.window (start l.fn.image) l.k l.s l.lines.items;
   kept : g.C.SignalEval.evaluates l.evaluator l.design.terms;
   fits : IsTrue l.fits → Starts (g.C.SignalEval.assumes l.evaluator) constants;
 }

@@ -30,12 +30,12 @@ translate-requires-clause-vars c = λ listed are.
 
 pub truth-gate-requires : goal.truth-gate-requires
 truth-gate-requires c =
-    let le : 19 ≤ c.translate.new.b.vars = omega (arith, c.new-b.ensures.vars, c.translate.ensures.begins.vars) in
+    let le : 19 ≤ c.translate.new.b.vars = omega (arith, c.new-b.ensures.vars, c.translate.ensures.extends.vars) in
     (ready_by c.translate.new.b.vars c.in-Ok-translate.ctl le (subst (λ rows. Covers rows c.in-Ok-translate.ctl) c.in-Ok.ensures c.in-Ok-translate.ensures.covers)).shared.set_cc
 
 pub returns-in-Ok-translate : goal.returns-in-Ok-translate
 returns-in-Ok-translate c =
-    let le : 19 ≤ c.translate.new.b.vars = omega (arith, c.new-b.ensures.vars, c.translate.ensures.begins.vars) in
+    let le : 19 ≤ c.translate.new.b.vars = omega (arith, c.new-b.ensures.vars, c.translate.ensures.extends.vars) in
     let has = (ready_by c.translate.new.b.vars c.in-Ok-translate.ctl le (subst (λ rows. Covers rows c.in-Ok-translate.ctl) c.in-Ok.ensures c.in-Ok-translate.ensures.covers)).shared.set_cc in
     subst (λ net. c.truth-gate.result < length net.gates) (sym c.finish-net.ensures)
     (subst (λ g. g < length c.translate.new.b.gates) (sym c.truth-gate.ensures) (c.in-Ok-translate.ensures.inside.gates_in 59 has))

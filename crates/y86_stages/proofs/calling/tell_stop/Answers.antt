@@ -1,4 +1,4 @@
-use Rattle.command_plans.proofs.Told.{told_part}
+use Rattle.cli_plans.proofs.Told.{told_part}
 use Rattle.y86_stages.proofs.calling.tell_stop.Goals as goal
 
 pub returns-in-Err-clause-line : goal.returns-in-Err-clause-line

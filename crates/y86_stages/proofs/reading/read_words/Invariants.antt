@@ -1,5 +1,5 @@
 use Rattle.std.proofs.Common.{◌≡◌, drop, map, string_bytes}
-use Rattle.y86_stages.specs.Words.{all_read, first_read, read_in}
+use Rattle.y86_stages.specs.ScannedWords.{all_read, first_read, read_in}
 use Rattle.y86_stages.proofs.reading.read_words.Given as goal
 
 abbrev pub invariant-loop-word : goal.invariant-loop-word

@@ -1,5 +1,5 @@
-use Rattle.command_plans.proofs.Does.{read_stage_goes_on, read_stage_stops}
-use Rattle.y86_stages.specs.Shown.{stages_plan}
+use Rattle.cli_plans.proofs.Does.{read_stage_goes_on, read_stage_stops}
+use Rattle.y86_stages.specs.ShowAnswers.{stages_plan}
 use Rattle.y86_stages.proofs.running.show.Goals as goal
 
 pub returns-in-Err : goal.returns-in-Err

@@ -1,5 +1,5 @@
-use Rattle.command_plans.proofs.Does.{read_goes_on, read_stops, said, stage_goes_on, stage_refuses}
-use Rattle.y86_stages.specs.Shown.{object_plan}
+use Rattle.cli_plans.proofs.Does.{read_goes_on, read_stops, said, stage_goes_on, stage_refuses}
+use Rattle.y86_stages.specs.ShowAnswers.{object_plan}
 use Rattle.y86_stages.proofs.running.show_object.Goals as goal
 
 pub returns-in-Err : goal.returns-in-Err

@@ -1,5 +1,5 @@
 use Rattle.std.proofs.Common.{◌≤◌, ◌-◌, ◌+◌}
-use Rattle.bdd_core.specs.Diagrams.{Keeps, IsWell}
+use Rattle.bdd_core.specs.Diagrams.{Keeps, IsReduced}
 use Rattle.bdd_core.specs.Building.{AreKnown, KnowsAll, KnowsBefore}
 use Rattle.bdd_core.proofs.store.Store.add_cone.Given as goal
 
@@ -7,7 +7,7 @@ abbrev pub invariant-loop-i : goal.invariant-loop-i
 invariant-loop-i l = record {
   within : l.i ≤ l.gate + 1;
   kept : Keeps l.fn.self l.self;
-  well : IsWell l.self;
+  well : IsReduced l.self;
   known : AreKnown l.self l.n l.built;
   all : KnowsAll l.fn.built l.built;
   before : KnowsBefore l.needed.items l.built l.i;

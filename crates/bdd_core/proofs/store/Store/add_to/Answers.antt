@@ -10,5 +10,5 @@ returns-clause-known c =
     let known : AreKnown c.args.self.now c.args.n.now k = subst (AreKnown c.args.self.now c.args.n.now) same c.requires.known in
     let reads : ReadsMarked k.known c.gate.result = subst (λ (x : KnownGates). ReadsMarked x.known c.gate.result) same (c.requires.reads c.gate.result c.gate.ensures.is c.gate.ensures.earlier) in
     let made : IsMadeOf c.args.self.now c.add_gate.new.self k.made c.gate.result c.in_ok-d.d =
-    subst (λ (xs : List ℕ). IsMadeOf c.args.self.now c.add_gate.new.self xs c.gate.result c.in_ok-d.d) c.as_slice.ensures.value c.in_ok-d.ensures.made in
-    known_more {k = k} c.vars.ensures.well c.add_gate.ensures.kept known c.requires.inside reads c.gate.ensures.meaning made
+    subst (λ (xs : List ℕ). IsMadeOf c.args.self.now c.add_gate.new.self xs c.gate.result c.in_ok-d.d) c.as_slice.ensures.value c.in_ok-d.ensures.has_truth in
+    known_more {k = k} c.vars.ensures.reduced_after c.add_gate.ensures.kept known c.requires.inside reads c.gate.ensures.meaning made

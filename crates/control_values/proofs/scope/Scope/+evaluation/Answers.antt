@@ -6,7 +6,7 @@ use Rattle.hcl_types.specs.Terms.{value}
 use Rattle.hcl_types.proofs.Values.{value_In}
 use Rattle.ctl_atoms.specs.declared.leaf.Leaf.{Leaf}
 use Rattle.ctl_atoms.specs.declared.leaf.Leaf.TheVariants.{Number}
-use Rattle.ctl_atoms.specs.Leaves.{leaf_cmp, picks}
+use Rattle.ctl_atoms.specs.Leaves.{leaf_cmp, leaf_meaning}
 use Rattle.control_values.specs.Given.{assigned, at}
 use Rattle.control_values.proofs.scope.Scope.+evaluation.Goals as goal
 
@@ -14,7 +14,7 @@ pub leaf_of-returns-in-In : goal.leaf_of-returns-in-In
 leaf_of-returns-in-In t c =
     let s = c.args.self.now in
     let α = assigned s.atoms.now s.first s.bits.now in
-    let v : Term → Leaf = value (picks α) (at s.leaves.now) in
+    let v : Term → Leaf = value (leaf_meaning α) (at s.leaves.now) in
     c.truth_leaf-in-In.ensures ∙ (ap (λ b. Number (if b then 1 else 0))
     (c.some_equals.ensures ∙ (ap (λ l. some (leaf_cmp α Eq l) (map v c.items-in-In.result.now)) (c.leaf_of-left-in-In.ensures ∙ ap v c.get-in-In.ensures)
-    ∙ ap (λ (ts : List Term). some (leaf_cmp α Eq (v c.in-In.x)) (map v ts)) c.items-in-In.ensures)) ∙ (sym (value_In (picks α) (at s.leaves.now) c.in-In.x c.in-In.all) ∙ ap v (sym c.in-In.is)))
+    ∙ ap (λ (ts : List Term). some (leaf_cmp α Eq (v c.in-In.x)) (map v ts)) c.items-in-In.ensures)) ∙ (sym (value_In (leaf_meaning α) (at s.leaves.now) c.in-In.x c.in-In.all) ∙ ap v (sym c.in-In.is)))

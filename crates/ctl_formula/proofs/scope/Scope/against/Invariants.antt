@@ -1,13 +1,13 @@
 use Rattle.std.proofs.Common.{◌≡◌, ◌<◌, ◌||◌, Bool, List, drop, length, IsTrue}
-use Rattle.nets.specs.Nets.{Begins, truth}
+use Rattle.nets.specs.Nets.{ExtendsNet, truth}
 use Rattle.ctl_atoms.specs.Leaves.{AtomsAre, Assignment}
-use Rattle.ctl_formula.specs.Chosen.{at, row_listed, row_holds}
+use Rattle.ctl_formula.specs.TakenPicks.{at, row_listed, row_holds}
 use Rattle.ctl_formula.specs.Picks.{Within}
 use Rattle.ctl_formula.proofs.scope.Scope.against.Given as goal
 
 abbrev pub invariant-loop-q : goal.invariant-loop-q
 invariant-loop-q l = record {
-  begins : Begins l.fn.b l.b;
+  begins : ExtendsNet l.fn.b l.b;
   within : l.g < length l.b.gates;
   gates : Within (length l.fn.b.gates) (drop l.q-index l.qs);
   listed : IsTrue (row_listed l.self.atoms.now l.op l.x (drop l.q-index l.qs));

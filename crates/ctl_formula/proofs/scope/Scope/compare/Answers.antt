@@ -1,6 +1,6 @@
 use Rattle.std.proofs.Common.{◌∙◌}
 use Rattle.std.proofs.lemmas.Result.{IfOk-weaker}
-use Rattle.ctl_formula.specs.Chosen.{at}
+use Rattle.ctl_formula.specs.TakenPicks.{at}
 use Rattle.ctl_formula.proofs.Chosen.{chosen_pairs}
 use Rattle.ctl_formula.proofs.scope.Scope.compare.Goals as goal
 

@@ -1,13 +1,13 @@
 use Rattle.std.proofs.Common.{◌≡◌, ◌<◌, ◌||◌, Bool, List, drop, length, IsTrue}
-use Rattle.nets.specs.Nets.{Begins, truth}
+use Rattle.nets.specs.Nets.{ExtendsNet, truth}
 use Rattle.ctl_atoms.specs.Leaves.{AtomsAre, Assignment}
-use Rattle.ctl_formula.specs.Chosen.{at, pairs_listed, pairs_hold}
+use Rattle.ctl_formula.specs.TakenPicks.{at, pairs_listed, pairs_hold}
 use Rattle.ctl_formula.specs.Picks.{Within}
 use Rattle.ctl_formula.proofs.scope.Scope.pairs.Given as goal
 
 abbrev pub invariant-loop-p : goal.invariant-loop-p
 invariant-loop-p l = record {
-  begins : Begins l.fn.b l.b;
+  begins : ExtendsNet l.fn.b l.b;
   within : l.g < length l.b.gates;
   left : Within (length l.fn.b.gates) (drop l.p-index l.ps);
   listed : IsTrue (pairs_listed l.self.atoms.now l.op (drop l.p-index l.ps) l.qs);

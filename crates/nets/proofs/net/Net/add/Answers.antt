@@ -1,13 +1,13 @@
 use Rattle.std.proofs.Common.{rules, ◌≡◌, slice_get, Some, List, subst}
 use Rattle.std.proofs.lemmas.Result.{IfOk-weaker}
-use Rattle.nets.specs.Nets.{Gates, Begins, IsNet}
+use Rattle.nets.specs.Nets.{Gates, ExtendsNet, IsNet}
 use Rattle.nets.specs.declared.net.Gate.{Gate}
 use Rattle.nets.proofs.Added.{added_gate, added_begins, added_net}
 use Rattle.nets.proofs.net.Net.add.Goals as goal
 
-pub returns-clause-begins : goal.returns-clause-begins
-returns-clause-begins c =
-    subst (λ (n : Gates). Begins n record { vars = c.self.inside.vars; gates = c.place.new.gates.keys }) c.self.view_is
+pub returns-clause-extends : goal.returns-clause-extends
+returns-clause-extends c =
+    subst (λ (n : Gates). ExtendsNet n record { vars = c.self.inside.vars; gates = c.place.new.gates.keys }) c.self.view_is
     (added_begins c.self.inside.vars c.self.inside.gates.keys c.place.new.gates.keys c.args.gate c.place.ensures.grows)
 
 pub returns-clause-meaning : goal.returns-clause-meaning

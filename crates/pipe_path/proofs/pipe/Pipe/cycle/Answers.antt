@@ -8,11 +8,11 @@ pub returns-clause-cycle : goal.returns-clause-cycle
 returns-clause-cycle g c =
     rw (← c.self.view_is)
     (record {
-      ended = λ over. absurd (grind (arith, over, c.is_going.ensures, c.if-not-is_going.false));
+      ended = λ over. absurd (grind (arith, over, c.is_aok_stat.ensures, c.if-not-is_aok_stat.false));
       goes = λ going. (
         at c.solve_pipe_in.new.values,
         c.solve_pipe_in.ensures.solves,
-        rw (c.finish-ending.ensures.next, c.count.ensures.count, c.finish-ending.ensures.end, c.retires-record.ensures) refl,
+        rw (c.finish-ending.ensures.next, c.record_count.ensures.count, c.finish-ending.ensures.end, c.retires-record.ensures) refl,
         rw (c.told.ensures, c.finish-ending.ensures.ending, c.retires-record.ensures) refl,
       );
     })

@@ -9,7 +9,7 @@ returns-clause-cycle g c =
     rw (← c.self.view_is)
     (record {
       cycle = record {
-        ended = λ over. absurd (grind (arith, over, c.is_going.ensures, c.if-not-is_going.false));
+        ended = λ over. absurd (grind (arith, over, c.is_aok_stat.ensures, c.if-not-is_aok_stat.false));
         goes = λ going. (at c.solve_seq_in.new.values, c.solve_seq_in.ensures.solves, c.seq_advance.ensures, ap Some (c.seq_record.ensures ∙ rw c.seq_advance.ensures refl));
       };
       rest = refl;

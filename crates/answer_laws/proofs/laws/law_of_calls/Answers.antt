@@ -1,5 +1,0 @@
-use Rattle.answer_laws.proofs.Commands.{told_alike}
-use Rattle.answer_laws.proofs.laws.law_of_calls.Goals as goal
-
-pub returns : goal.returns
-returns c = told_alike

@@ -1,5 +1,0 @@
-use Rattle.assembly_laws.proofs.TextLemmas.{align_is_least}
-use Rattle.assembly_laws.proofs.sources.law_of_align.Goals as goal
-
-pub returns : goal.returns
-returns c = align_is_least

@@ -1,5 +1,0 @@
-use Rattle.assembly_laws.proofs.FaultLemmas.{lines_follow}
-use Rattle.assembly_laws.proofs.sources.law_of_source_lines.Goals as goal
-
-pub returns : goal.returns
-returns c = lines_follow

@@ -1,5 +1,0 @@
-use Rattle.assembly_laws.proofs.TextLemmas.{texts_stand_there}
-use Rattle.assembly_laws.proofs.sources.law_of_source_texts.Goals as goal
-
-pub returns : goal.returns
-returns c = texts_stand_there

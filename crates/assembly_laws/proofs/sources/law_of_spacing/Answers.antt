@@ -1,5 +1,0 @@
-use Rattle.assembly_laws.proofs.SpacingLaw.{spacing_is_free}
-use Rattle.assembly_laws.proofs.sources.law_of_spacing.Goals as goal
-
-pub returns : goal.returns
-returns c = spacing_is_free

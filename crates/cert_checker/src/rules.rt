@@ -1,0 +1,427 @@
+//! The checker's rule: what a line has to be after the lines before it.
+ghost use Rattle.std.specs.Prelude.{◌≡◌, ◌+◌, ◌^◌, ◌<◌, ◌≤◌, length, slice_get, IfOk, IfNone, IfSome, None, Some, OnErr};
+ghost use Rattle.cert_checker.specs.CheckerFacts.{after, with_claim, with_gate, with_term};
+ghost use Rattle.cert_checker.specs.Rules as spec;
+ghost use Rattle.cert_checker.specs.declared.known.Claim.TheVariants as claim;
+
+use crate::fault::CertWhy;
+use crate::known::{Claim, TermDef};
+use crate::line::CertLine;
+use nets::{Gate, Net};
+use std::alloc::Global;
+use std::marker::Model;
+use y86_base::Memory;
+
+/// What made a term. No line made terms 0 and 1.
+pub fn made_at(terms: &[TermDef], t: u64) -> Option<TermDef>
+    ensures { result ≡ spec.made_at terms.now t }
+{
+    if t < 2 {
+        return None;
+    }
+    terms.get((t - 2) as usize).copied()
+}
+
+/// The part of a term where a variable is 0, or is 1.
+pub fn part(terms: &[TermDef], var: u64, high: bool, t: u64) -> u64
+    ensures part { result ≡ spec.part terms.now var high t }
+    ensures small { t < 2 ^ 32 → result < 2 ^ 32 }
+{
+    match made_at(terms, t) {
+        None => t,
+        Some(made) => {
+            if made.var as u64 == var {
+                if high {
+                    made.high as u64
+                } else {
+                    made.low as u64
+                }
+            } else {
+                t
+            }
+        }
+    }
+}
+
+/// Whether a term was made of two others by a variable.
+pub fn is_made(made: Option<TermDef>, var: u32, low: u32, high: u32) -> bool
+    ensures { result ≡ spec.is_made made var low high }
+{
+    match made {
+        None => false,
+        Some(made) => made.var == var && (made.low == low && made.high == high),
+    }
+}
+
+/// Whether a claim says that two terms together are a third.
+fn claims_and(found: Option<Claim>, left: u64, right: u64, both: u64) -> bool
+    ensures { result ≡ spec.claims found (claim.And left right both) }
+{
+    match found {
+        Some(
+            Claim::And {
+                left: a,
+                right: b,
+                both: c,
+            },
+        ) => a as u64 == left && (b as u64 == right && c as u64 == both),
+        _ => false,
+    }
+}
+
+/// Whether a claim says that a term is the negation of another.
+fn claims_not(found: Option<Claim>, of: u64, not: u64) -> bool
+    ensures { result ≡ spec.claims found (claim.Not of not) }
+{
+    match found {
+        Some(Claim::Not { of: a, not: c }) => a as u64 == of && c as u64 == not,
+        _ => false,
+    }
+}
+
+/// Whether two terms together are a third, at once.
+pub fn is_plain_and(a: u64, b: u64, c: u64) -> bool
+    ensures { result ≡ spec.is_plain_and a b c }
+{
+    (a == 0 && c == 0)
+        || ((b == 0 && c == 0)
+            || ((a == 1 && c == b) || ((b == 1 && c == a) || (a == b && b == c))))
+}
+
+/// Whether a term is the negation of another, at once.
+pub fn is_plain_not(a: u64, c: u64) -> bool
+    ensures { result ≡ spec.is_plain_not a c }
+{
+    (a == 0 && c == 1) || (a == 1 && c == 0)
+}
+
+/// Whether claims say of the parts of three terms what is claimed of the terms.
+fn and_by_cases(
+    terms: &[TermDef],
+    found: &[Claim],
+    left: u64,
+    right: u64,
+    both: u64,
+    var: u64,
+    low: u64,
+    high: u64,
+) -> bool
+    ensures { result ≡ spec.and_by_cases terms.now found.now left right both var low high }
+{
+    claims_and(
+        found.get(low as usize).copied(),
+        part(terms, var, false, left),
+        part(terms, var, false, right),
+        part(terms, var, false, both),
+    ) && claims_and(
+        found.get(high as usize).copied(),
+        part(terms, var, true, left),
+        part(terms, var, true, right),
+        part(terms, var, true, both),
+    )
+}
+
+/// The same of two terms, of which one is the negation of the other.
+fn not_by_cases(
+    terms: &[TermDef],
+    found: &[Claim],
+    of: u64,
+    not: u64,
+    var: u64,
+    low: u64,
+    high: u64,
+) -> bool
+    ensures { result ≡ spec.not_by_cases terms.now found.now of not var low high }
+{
+    claims_not(
+        found.get(low as usize).copied(),
+        part(terms, var, false, of),
+        part(terms, var, false, not),
+    ) && claims_not(
+        found.get(high as usize).copied(),
+        part(terms, var, true, of),
+        part(terms, var, true, not),
+    )
+}
+
+/// What the lines so far have made.
+#[derive(Drop)]
+pub struct CheckerState {
+    terms: Vec<TermDef>,
+    claims: Vec<Claim>,
+    gates: Vec<u32>,
+}
+
+impl Model for CheckerState {
+    ghost use Rattle.std.specs.Prelude.{◌≤◌, length};
+    ghost use Rattle.cert_checker.specs.CheckerFacts.{CheckerFacts};
+
+    ghost Value = { CheckerFacts };
+
+    ghost view = { λ k. record { terms = k.terms.items; claims = k.claims.items; gates = k.gates.items } };
+
+    ghost invariant = { λ k. length k.terms.items ≤ 4000000000 };
+}
+
+/// How many terms there may be, so that each number fits in 32 bits.
+const MOST: usize = 4_000_000_000;
+
+impl CheckerState {
+    ghost use Rattle.std.specs.Prelude.{◌≡◌, ◌<◌, ◌^◌, ℕ, OnOk, true, None};
+    ghost use Rattle.cert_checker.specs.CheckerFacts.{after, nothing};
+    ghost use Rattle.cert_checker.specs.Rules as spec;
+
+    /// Nothing yet.
+    pub fn new(alloc: Global) -> CheckerState
+        ensures { result ≡ nothing }
+    {
+        CheckerState {
+            terms: Vec::new(alloc),
+            claims: Vec::new(alloc),
+            gates: Vec::new(alloc),
+        }
+    }
+
+    /// How many gates have their terms.
+    pub fn gates(&self) -> u64
+        ensures { result ≡ length self.now.gates }
+    {
+        self.gates.len() as u64
+    }
+
+    /// The term of a gate.
+    pub fn gate(&self, i: u64) -> Option<u32>
+        ensures { result ≡ slice_get self.now.gates i }
+    {
+        self.gates.as_slice().get(i as usize).copied()
+    }
+
+    /// Whether a number names a term.
+    fn is_term(&self, t: u64) -> bool
+        ensures { result ≡ spec.is_term self.now t }
+    {
+        t < self.terms.len() as u64 + 2
+    }
+
+    /// Whether a number names a claim.
+    fn is_claim(&self, p: u64) -> bool
+        ensures { result ≡ spec.is_claim self.now p }
+    {
+        p < self.claims.len() as u64
+    }
+
+    /// Whether each number of a line names what it has to.
+    fn names(&self, vars: u32, line: CertLine) -> bool
+        ensures { result ≡ spec.names vars self.now line }
+    {
+        match line {
+            CertLine::Term { var, low, high } => {
+                var < vars as u64 && (self.is_term(low) && self.is_term(high))
+            }
+            CertLine::And { left, right, both } => {
+                self.is_term(left) && (self.is_term(right) && self.is_term(both))
+            }
+            CertLine::AndCases {
+                left,
+                right,
+                both,
+                var,
+                low,
+                high,
+            } => {
+                (self.is_term(left) && (self.is_term(right) && self.is_term(both)))
+                    && (var < vars as u64 && (self.is_claim(low) && self.is_claim(high)))
+            }
+            CertLine::Not { of, not } => self.is_term(of) && self.is_term(not),
+            CertLine::NotCases {
+                of,
+                not,
+                var,
+                low,
+                high,
+            } => {
+                (self.is_term(of) && self.is_term(not))
+                    && (var < vars as u64 && (self.is_claim(low) && self.is_claim(high)))
+            }
+            CertLine::Gate { term } => self.is_term(term),
+            CertLine::GateBy { term, claim } => self.is_term(term) && self.is_claim(claim),
+        }
+    }
+
+    /// Whether the claim that a line makes is justified.
+    fn is_justified(&self, line: CertLine) -> bool
+        ensures { result ≡ spec.is_justified self.now line }
+    {
+        let terms = self.terms.as_slice();
+        let found = self.claims.as_slice();
+        match line {
+            CertLine::And { left, right, both } => is_plain_and(left, right, both),
+            CertLine::AndCases {
+                left,
+                right,
+                both,
+                var,
+                low,
+                high,
+            } => and_by_cases(terms, found, left, right, both, var, low, high),
+            CertLine::Not { of, not } => is_plain_not(of, not),
+            CertLine::NotCases {
+                of,
+                not,
+                var,
+                low,
+                high,
+            } => not_by_cases(terms, found, of, not, var, low, high),
+            _ => true,
+        }
+    }
+
+    /// The next gate of a net that has no term yet.
+    fn next_gate(&self, net: &Net) -> Option<Gate>
+        ensures { result ≡ slice_get net.now.gates (length self.now.gates) }
+    {
+        let i = self.gates.len() as u64;
+        if i < net.len() {
+            Some(net.gate(i))
+        } else {
+            None
+        }
+    }
+
+    /// Whether a term is that of the next gate, a constant or a variable.
+    fn gate_matches_plainly(&self, net: &Net, term: u64) -> bool
+        ensures { result ≡ spec.gate_matches_plainly self.now term (slice_get net.now.gates (length self.now.gates)) }
+    {
+        match self.next_gate(net) {
+            Some(Gate::Const(false)) => term == 0,
+            Some(Gate::Const(true)) => term == 1,
+            Some(Gate::Var(v)) => is_made(made_at(self.terms.as_slice(), term), v, 0, 1),
+            _ => false,
+        }
+    }
+
+    /// Whether a claim says that a term is that of the next gate, a negation or a conjunction.
+    fn gate_matches_by(&self, net: &Net, term: u64, found: Option<Claim>) -> bool
+        ensures { result ≡ spec.gate_matches_by self.now term found (slice_get net.now.gates (length self.now.gates)) }
+    {
+        match self.next_gate(net) {
+            Some(Gate::Not(a)) => match self.gate(a) {
+                Some(of) => claims_not(found, of as u64, term),
+                None => false,
+            },
+            Some(Gate::And(a, b)) => match (self.gate(a), self.gate(b)) {
+                (Some(left), Some(right)) => claims_and(found, left as u64, right as u64, term),
+                _ => false,
+            },
+            _ => false,
+        }
+    }
+
+    /// Whether a line fits the next gate, if it speaks of one.
+    fn gate_matches(&self, net: &Net, line: CertLine) -> bool
+        ensures { result ≡ spec.gate_matches net.now self.now line }
+    {
+        match line {
+            CertLine::Gate { term } => self.gate_matches_plainly(net, term),
+            CertLine::GateBy { term, claim } => {
+                let found = self.claims.as_slice().get(claim as usize).copied();
+                self.gate_matches_by(net, term, found)
+            }
+            _ => true,
+        }
+    }
+
+    /// What is wrong with a line behind those so far, if anything.
+    #[tactic(auto, unfolding(crate::specs::Rules::flaw))]
+    pub fn flaw(&self, net: &Net, line: CertLine) -> Option<CertWhy>
+        ensures { result ≡ spec.flaw net.now self.now line }
+    {
+        if !self.names(net.vars(), line) {
+            return Some(CertWhy::Number);
+        }
+        if !self.is_justified(line) {
+            return Some(CertWhy::Claim);
+        }
+        if !self.gate_matches(net, line) {
+            return Some(CertWhy::Gate);
+        }
+        None
+    }
+
+    /// A term's number in 32 bits.
+    fn narrow(&self, t: u64) -> u32
+        requires { spec.is_term self.now t ≡ true }
+        ensures { result ≡ t }
+    {
+        let _ = self.terms.len();
+        t as u32
+    }
+
+    /// Puts a term behind the others.
+    fn add_term(&mut self, var: u32, low: u32, high: u32) -> Result<(), Memory>
+        ensures { OnOk result (self.new ≡ with_term self.old (record { var = var; low = low; high = high })) }
+    {
+        if self.terms.len() >= MOST {
+            return Err(Memory);
+        }
+        match self.terms.push(TermDef { var, low, high }) {
+            Ok(()) => Ok(()),
+            Err(_) => Err(Memory),
+        }
+    }
+
+    /// Puts a claim behind the others.
+    fn add_claim(&mut self, claim: Claim) -> Result<(), Memory>
+        ensures { OnOk result (self.new ≡ with_claim self.old claim) }
+    {
+        match self.claims.push(claim) {
+            Ok(()) => Ok(()),
+            Err(_) => Err(Memory),
+        }
+    }
+
+    /// Puts the term of a gate behind the others.
+    fn add_gate(&mut self, term: u32) -> Result<(), Memory>
+        ensures { OnOk result (self.new ≡ with_gate self.old term) }
+    {
+        match self.gates.push(term) {
+            Ok(()) => Ok(()),
+            Err(_) => Err(Memory),
+        }
+    }
+
+    /// Takes what a line makes that isn't wrong.
+    pub fn add(&mut self, vars: u32, line: CertLine) -> Result<(), Memory>
+        requires { spec.names vars self.old line ≡ true }
+        ensures { OnOk result (self.new ≡ after self.old line) }
+    {
+        match line {
+            CertLine::Term { var, low, high } => {
+                let low = self.narrow(low);
+                let high = self.narrow(high);
+                self.add_term(var as u32, low, high)
+            }
+            CertLine::And { left, right, both }
+            | CertLine::AndCases {
+                left,
+                right,
+                both,
+                ..
+            } => {
+                let left = self.narrow(left);
+                let right = self.narrow(right);
+                let both = self.narrow(both);
+                self.add_claim(Claim::And { left, right, both })
+            }
+            CertLine::Not { of, not } | CertLine::NotCases { of, not, .. } => {
+                let of = self.narrow(of);
+                let not = self.narrow(not);
+                self.add_claim(Claim::Not { of, not })
+            }
+            CertLine::Gate { term } | CertLine::GateBy { term, .. } => {
+                let term = self.narrow(term);
+                self.add_gate(term)
+            }
+        }
+    }
+}

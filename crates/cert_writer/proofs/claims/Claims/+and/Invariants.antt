@@ -1,5 +1,0 @@
-use Rattle.std.proofs.Common.{◌+◌}
-use Rattle.cert_writer.proofs.claims.Claims.+and.Given as goal
-
-abbrev pub decreases-and : goal.decreases-and
-decreases-and l = l.a + l.b

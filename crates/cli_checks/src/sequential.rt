@@ -1,0 +1,144 @@
+//! Verdicts on designs for the sequential datapaths, and the text of a No.
+ghost use Rattle.std.specs.Prelude.{◌≡◌, ◌≤◌, Err, IfErr, IfOk, OnErr, length};
+ghost use Rattle.dp_signals.specs.SeqTable.{seq_rows};
+ghost use Rattle.seq_plus.specs.PlusTable.{plus_rows};
+ghost use Rattle.ctl_verdicts.specs.ObligationSet.{IsFault};
+ghost use Rattle.cli_checks.specs.Sequential.{IsDecided, no_text};
+ghost use Rattle.cli_plans.specs.Datapaths.{rows_of};
+ghost use Rattle.cli_plans.specs.Designs.{IsOrdered};
+ghost use Rattle.cli_plans.specs.declared.datapath.Datapath.TheVariants.{Plus as OnPlus, Seq as OnSeq};
+ghost use Rattle.cli_plans.specs.declared.stop_reason.StopReason.TheVariants.{Memory as WantOfMemory};
+
+use cli_plans::{Datapath, OrderedDesign, StopReason};
+use control_check::{CheckFault, Verdict, check_seq};
+use ctl_atoms::Atom;
+use hcl_types::Row;
+use nets::Valuation;
+use seq_plus::{Plain16, check_plus};
+use std::alloc::Global;
+use verdict_text::{plus_refusal, seq_refusal};
+use y86_base::{Items, Memory, Variant};
+
+/// A No: the first obligation that is false of some valuation, the least such valuation, and the design's atoms.
+#[derive(Debug, Drop)]
+pub struct SeqRejection {
+    pub rule: u32,
+    pub valuation: Valuation,
+    pub atoms: Items<Atom>,
+}
+
+/// The verdict on a design for SEQ, as `decided` gives it.
+fn decide_seq(
+    alloc: Global,
+    variant: Variant,
+    ordered: &OrderedDesign,
+) -> Result<Option<SeqRejection>, CheckFault>
+    requires { IsOrdered seq_rows ordered.now }
+    ensures decided { IfOk result (IsDecided OnSeq variant ordered.now.design.terms) }
+    ensures fault { IfErr result (IsFault seq_rows ordered.now.design.terms) }
+{
+    match check_seq(alloc, variant, &ordered.design, &ordered.order) {
+        Ok(Verdict::Yes(_)) => Ok(None),
+        Ok(
+            Verdict::No {
+                rule,
+                valuation,
+                atoms,
+            },
+        ) => Ok(Some(SeqRejection {
+            rule,
+            valuation,
+            atoms,
+        })),
+        Err(fault) => Err(fault),
+    }
+}
+
+/// The verdict on a design for SEQ+, as `decided` gives it.
+fn decide_plus(
+    alloc: Global,
+    variant: Variant,
+    ordered: &OrderedDesign,
+) -> Result<Option<SeqRejection>, CheckFault>
+    requires { IsOrdered plus_rows ordered.now }
+    ensures decided { IfOk result (IsDecided OnPlus variant ordered.now.design.terms) }
+    ensures fault { IfErr result (IsFault plus_rows ordered.now.design.terms) }
+{
+    match check_plus(alloc, variant, &ordered.design, &ordered.order) {
+        Ok(Plain16::Yes) => Ok(None),
+        Ok(
+            Plain16::No {
+                rule,
+                valuation,
+                atoms,
+            },
+        ) => Ok(Some(SeqRejection {
+            rule,
+            valuation,
+            atoms,
+        })),
+        Err(fault) => Err(fault),
+    }
+}
+
+/// The verdict on a design: `None` where it is accepted.
+pub fn decided(
+    alloc: Global,
+    which: Datapath,
+    variant: Variant,
+    ordered: &OrderedDesign,
+) -> Result<Option<SeqRejection>, CheckFault>
+    requires { IsOrdered (rows_of which) ordered.now }
+    ensures decided { IfOk result (IsDecided which variant ordered.now.design.terms) }
+    ensures fault { IfErr result (IsFault (rows_of which) ordered.now.design.terms) }
+{
+    match which {
+        Datapath::Seq => decide_seq(alloc, variant, ordered),
+        Datapath::Plus => decide_plus(alloc, variant, ordered),
+    }
+}
+
+/// The text of a No, by the rows of the datapath's table and the design's atoms.
+#[tactic(auto, unfolding(seq_plus::specs::Fields::fields_of, seq_obligations::specs::Fields::line_at))]
+fn refusal(
+    alloc: Global,
+    which: Datapath,
+    rows: &[Row],
+    rule: u32,
+    valuation: &Valuation,
+    list: &[Atom],
+) -> Result<Vec<u8>, Memory>
+    requires rows { rows.now ≡ rows_of which }
+    requires few { length list.now ≤ 64 }
+    ensures { IfOk result (λ text. text.items ≡ no_text which rule valuation.now.bits list.now) }
+{
+    match which {
+        Datapath::Seq => seq_refusal(alloc, rows, rule, valuation, list),
+        Datapath::Plus => plus_refusal(alloc, rows, rule, valuation, list),
+    }
+}
+
+/// The text of a No of a design.
+pub fn seq_text<'a>(
+    alloc: Global,
+    which: Datapath,
+    ordered: &OrderedDesign,
+    denial: &SeqRejection,
+) -> Result<Vec<u8>, StopReason<'a>>
+    requires ordered { IsOrdered (rows_of which) ordered.now }
+    requires few { length denial.now.atoms ≤ 64 }
+    ensures text { IfOk result (λ text. text.items ≡ no_text which denial.now.rule denial.now.valuation.bits denial.now.atoms) }
+    ensures memory { OnErr result (result ≡ Err WantOfMemory) }
+{
+    match refusal(
+        alloc,
+        which,
+        ordered.table.rows.items(),
+        denial.rule,
+        &denial.valuation,
+        denial.atoms.items(),
+    ) {
+        Ok(text) => Ok(text),
+        Err(_) => Err(StopReason::Memory),
+    }
+}

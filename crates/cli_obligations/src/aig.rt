@@ -1,0 +1,75 @@
+//! `aig`: the obligations of an HCL file for PIPE as an AIGER text.
+ghost use Rattle.std.specs.Prelude.{◌≡◌, IfErr, IfOk, List, ℕ};
+ghost use Rattle.dp_signals.specs.PipeTable.{pipe_rows};
+ghost use Rattle.cli_obligations.specs.AigerTexts.{AigAnswers, IsAigOfDesign};
+ghost use Rattle.cli_obligations.specs.Answers.{aig_plan};
+ghost use Rattle.cli_checks.specs.Checks.{RefusesControl};
+ghost use Rattle.cli_plans.specs.Designs.{IsOrdered};
+ghost use Rattle.cli_plans.specs.PlanFollowing.{FollowsPlanOver, RefusesWith, WritesAnswerOn};
+
+use aiger_out::write;
+use cli_checks::control_stop;
+use cli_plans::{OrderedDesign, StopReason, pipe_file, write_answer};
+use control_check::file_rules;
+use ctl_verdicts::CheckFault;
+use std::alloc::Global;
+use wb_io::{Files, Sink};
+use y86_base::{Memory, Variant};
+
+/// The obligations of a design as a text.
+#[tactic(auto, using(crate::proofs::AigerTexts::tells))]
+fn obligation_text<'a>(
+    alloc: Global,
+    name: &'a str,
+    variant: Variant,
+    ordered: &OrderedDesign,
+) -> Result<Vec<u8>, StopReason<'a>>
+    requires { IsOrdered pipe_rows ordered.now }
+    ensures text { IfOk result (λ text. IsAigOfDesign variant ordered.now.design.terms text.items) }
+    ensures refused { IfErr result (RefusesWith (RefusesControl name.now pipe_rows ordered.now.design.terms)) }
+{
+    match file_rules(alloc, variant, &ordered.design, &ordered.order) {
+        Ok(rules) => match write(alloc, &rules) {
+            Ok(text) => Ok(text),
+            Err(Memory) => Err(StopReason::Memory),
+        },
+        Err(CheckFault::Ctl(fault)) => Err(control_stop(alloc, name, ordered, fault)),
+        Err(CheckFault::Memory) => Err(StopReason::Memory),
+    }
+}
+
+/// Writes the obligations of a design.
+#[tactic(auto, using(crate::proofs::AigerTexts::said_obligations, crate::proofs::AigerTexts::said_refusal))]
+fn say_obligations<'a, O: Sink>(
+    alloc: Global,
+    name: &'a str,
+    variant: Variant,
+    ordered: &OrderedDesign,
+    out: &mut O,
+) -> Result<u8, StopReason<'a>>
+    requires { IsOrdered pipe_rows ordered.now }
+    ensures { WritesAnswerOn O.taken O.faults (AigAnswers name.now variant ordered.now.design.terms) out.old out.new result }
+{
+    match obligation_text(alloc, name, variant, ordered) {
+        Ok(text) => write_answer(0, text.as_slice(), out),
+        Err(stop) => Err(stop),
+    }
+}
+
+/// `aig`: writes the obligations of an HCL file for PIPE at its settings, each as an output that is 1 where it is false.
+pub fn aig_file<'a, F: Files, O: Sink>(
+    alloc: Global,
+    name: &'a str,
+    variant: Variant,
+    files: &mut F,
+    out: &mut O,
+) -> Result<u8, StopReason<'a>>
+    ensures { FollowsPlanOver F.told F.faults O.taken O.faults (aig_plan name.now variant)
+        files.old files.new out.old out.new result }
+{
+    let ordered = match pipe_file(alloc, name, files) {
+        Ok(ordered) => ordered,
+        Err(stop) => return Err(stop),
+    };
+    say_obligations(alloc, name, variant, &ordered, out)
+}

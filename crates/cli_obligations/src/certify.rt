@@ -1,0 +1,77 @@
+//! `check pipe` with `--cert`: the verdict on the design of an HCL file, with a certificate of a Yes.
+ghost use Rattle.std.specs.Prelude.{◌≡◌, IfErr, IfOk, List, ℕ};
+ghost use Rattle.dp_signals.specs.PipeTable.{pipe_rows};
+ghost use Rattle.cli_obligations.specs.Answers.{certify_pipe_plan};
+ghost use Rattle.cli_obligations.specs.Certified.{IsCertificateOrNo, PipeCertifies};
+ghost use Rattle.cli_checks.specs.Checks.{RefusesControl};
+ghost use Rattle.cli_plans.specs.Designs.{IsOrdered};
+ghost use Rattle.cli_plans.specs.PlanFollowing.{FollowsPlanOver, RefusesWith, WritesAnswerOn};
+
+use cert_log::certify;
+use cli_checks::{PipeDecision, PipeVerdictText, pipe_decision};
+use cli_plans::{OrderedDesign, StopReason, pipe_file, write_answer};
+use std::alloc::Global;
+use wb_io::{Files, Sink};
+use y86_base::Variant;
+
+/// Decides a design for PIPE, and gives a certificate of a Yes, or the text of a No.
+#[tactic(auto, using(crate::proofs::Certified::meets, crate::proofs::Certified::certified))]
+fn certificate<'a>(
+    alloc: Global,
+    name: &'a str,
+    variant: Variant,
+    ordered: &OrderedDesign,
+) -> Result<PipeVerdictText, StopReason<'a>>
+    requires { IsOrdered pipe_rows ordered.now }
+    ensures text { IfOk result (IsCertificateOrNo variant ordered.now.design.terms) }
+    ensures refused { IfErr result (RefusesWith (RefusesControl name.now pipe_rows ordered.now.design.terms)) }
+{
+    match pipe_decision(alloc, name, variant, ordered) {
+        Ok(PipeDecision::Yes(settings)) => {
+            match certify(alloc, variant, &ordered.design, &ordered.order, settings) {
+                Ok(text) => Ok(PipeVerdictText::Yes(text)),
+                Err(_) => Err(StopReason::Memory),
+            }
+        }
+        Ok(PipeDecision::No(text)) => Ok(PipeVerdictText::No(text)),
+        Err(stop) => Err(stop),
+    }
+}
+
+/// Decides a design for PIPE, and writes a certificate of a Yes, or a No.
+#[tactic(auto, using(crate::proofs::Certified::said_certificate, crate::proofs::Certified::said_no, crate::proofs::Certified::said_refusal))]
+fn say_certificate<'a, O: Sink>(
+    alloc: Global,
+    name: &'a str,
+    variant: Variant,
+    ordered: &OrderedDesign,
+    out: &mut O,
+) -> Result<u8, StopReason<'a>>
+    requires { IsOrdered pipe_rows ordered.now }
+    ensures { WritesAnswerOn O.taken O.faults (PipeCertifies name.now variant ordered.now.design.terms) out.old out.new result }
+{
+    match certificate(alloc, name, variant, ordered) {
+        Ok(PipeVerdictText::Yes(text)) => write_answer(0, text.as_slice(), out),
+        Ok(PipeVerdictText::No(text)) => write_answer(1, text.as_slice(), out),
+        Err(stop) => Err(stop),
+    }
+}
+
+/// `check pipe` with `--cert`: decides whether PIPE under an HCL file does what its instructions mean, for every program
+/// that doesn't store over one of the next three instructions, and writes a certificate of a Yes.
+pub fn certify_pipe_file<'a, F: Files, O: Sink>(
+    alloc: Global,
+    name: &'a str,
+    variant: Variant,
+    files: &mut F,
+    out: &mut O,
+) -> Result<u8, StopReason<'a>>
+    ensures { FollowsPlanOver F.told F.faults O.taken O.faults (certify_pipe_plan name.now variant)
+        files.old files.new out.old out.new result }
+{
+    let ordered = match pipe_file(alloc, name, files) {
+        Ok(ordered) => ordered,
+        Err(stop) => return Err(stop),
+    };
+    say_certificate(alloc, name, variant, &ordered, out)
+}

@@ -1,0 +1,109 @@
+//! `sample`: drawn control valuations against the obligations of an HCL file for PIPE.
+ghost use Rattle.std.specs.Prelude.{◌≡◌, ◌≤◌, IfErr, IfOk, List, ℕ};
+ghost use Rattle.dp_signals.specs.PipeTable.{pipe_rows};
+ghost use Rattle.cli_obligations.specs.Answers.{sample_plan};
+ghost use Rattle.cli_checks.specs.Checks.{RefusesControl};
+ghost use Rattle.cli_plans.specs.Designs.{IsOrdered};
+ghost use Rattle.cli_plans.specs.PlanFollowing.{FollowsPlanOver, RefusesWith, WritesAnswerOn};
+ghost use Rattle.cli_plans.specs.Plan.{done};
+ghost use Rattle.cli_obligations.specs.Samples.{IsSampled, SampleAnswers, found_line, none_line};
+
+use cli_checks::control_stop;
+use cli_plans::{OrderedDesign, StopReason, pipe_file};
+use control_check::{CheckFault, file_rules};
+use lane_eval::{Found, first_false};
+use std::alloc::Global;
+use wb_io::{Files, Sink, put_pieces};
+use y86_base::{Memory, Numeral, Variant};
+
+/// The first drawn valuation at which an obligation of a design is false.
+fn sampled<'a>(
+    alloc: Global,
+    name: &'a str,
+    variant: Variant,
+    ordered: &OrderedDesign,
+    seed: u64,
+    count: u64,
+) -> Result<Option<Found>, StopReason<'a>>
+    requires { IsOrdered pipe_rows ordered.now }
+    ensures found { IfOk result (IsSampled variant ordered.now.design.terms seed count) }
+    ensures refused { IfErr result (RefusesWith (RefusesControl name.now pipe_rows ordered.now.design.terms)) }
+{
+    match file_rules(alloc, variant, &ordered.design, &ordered.order) {
+        Ok(rules) => match first_false(alloc, &rules, seed, count) {
+            Ok(found) => Ok(found),
+            Err(Memory) => Err(StopReason::Memory),
+        },
+        Err(CheckFault::Ctl(fault)) => Err(control_stop(alloc, name, ordered, fault)),
+        Err(CheckFault::Memory) => Err(StopReason::Memory),
+    }
+}
+
+/// Writes that no obligation is false at so many valuations.
+#[tactic(auto, unfolding(crate::specs::Samples::none_line))]
+fn say_none<'a, O: Sink>(count: u64, out: &mut O) -> Result<u8, StopReason<'a>>
+    ensures { WritesAnswerOn O.taken O.faults (λ a. a ≡ done 0 (none_line count)) out.old out.new result }
+{
+    let number = Numeral::decimal(count);
+    match put_pieces(out, &[b"none in ", number.as_bytes(), b"\n"]) {
+        Ok(()) => Ok(0),
+        Err(_) => Err(StopReason::Write),
+    }
+}
+
+/// Writes which obligation is false at which valuation.
+#[tactic(auto, unfolding(crate::specs::Samples::found_line))]
+fn say_found<'a, O: Sink>(found: Found, out: &mut O) -> Result<u8, StopReason<'a>>
+    ensures { WritesAnswerOn O.taken O.faults (λ a. a ≡ done 1 (found_line found.index found.rule)) out.old out.new result }
+{
+    let index = Numeral::decimal(found.index);
+    let rule = Numeral::decimal(u64::from(found.rule));
+    match put_pieces(
+        out,
+        &[b"found ", index.as_bytes(), b" O", rule.as_bytes(), b"\n"],
+    ) {
+        Ok(()) => Ok(1),
+        Err(_) => Err(StopReason::Write),
+    }
+}
+
+/// Samples a design, and writes what is found.
+#[tactic(auto, using(crate::proofs::Samples::said_none, crate::proofs::Samples::said_found, crate::proofs::Samples::said_sample_refusal))]
+fn say_sample<'a, O: Sink>(
+    alloc: Global,
+    name: &'a str,
+    variant: Variant,
+    ordered: &OrderedDesign,
+    seed: u64,
+    count: u64,
+    out: &mut O,
+) -> Result<u8, StopReason<'a>>
+    requires { IsOrdered pipe_rows ordered.now }
+    ensures { WritesAnswerOn O.taken O.faults (SampleAnswers name.now variant ordered.now.design.terms seed count) out.old out.new result }
+{
+    match sampled(alloc, name, variant, ordered, seed, count) {
+        Ok(None) => say_none(count, out),
+        Ok(Some(found)) => say_found(found, out),
+        Err(stop) => Err(stop),
+    }
+}
+
+/// `sample`: tries `count` drawn valuations of `seed` against the obligations of an HCL file for PIPE, at its settings.
+pub fn sample_file<'a, F: Files, O: Sink>(
+    alloc: Global,
+    name: &'a str,
+    seed: u64,
+    count: u64,
+    variant: Variant,
+    files: &mut F,
+    out: &mut O,
+) -> Result<u8, StopReason<'a>>
+    ensures { FollowsPlanOver F.told F.faults O.taken O.faults (sample_plan name.now seed count variant)
+        files.old files.new out.old out.new result }
+{
+    let ordered = match pipe_file(alloc, name, files) {
+        Ok(ordered) => ordered,
+        Err(stop) => return Err(stop),
+    };
+    say_sample(alloc, name, variant, &ordered, seed, count, out)
+}

@@ -1,0 +1,9 @@
+pub mod Calls
+pub mod CallOutcome
+pub mod Datapaths
+pub mod Designs
+pub mod PlanFollowing
+pub mod Lines
+pub mod Plan
+pub mod Stages
+pub mod Stops

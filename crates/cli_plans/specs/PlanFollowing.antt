@@ -1,0 +1,119 @@
+-- What a call did to the outside, against a plan.
+use Rattle.std.specs.Prelude.{◌≡◌, ◌⊎◌, ℕ, ◌≤◌, List, [], length, Option, Some, IfSome, Result, Ok, Err}
+use Rattle.wb_io.specs.Causes.{counted}
+use Rattle.wb_io.specs.Files.{HasBytes, HasMore}
+use Rattle.wb_io.specs.Sinks.{Appended, AppendedPrefix}
+use Rattle.cli_plans.specs.declared.stop_reason.StopReason as code
+use Rattle.cli_plans.specs.declared.stop_reason.StopReason.TheVariants.{Write, Refused, Memory, Read, TooLong}
+use Rattle.cli_plans.specs.Plan.{Answer, Plan, value_in, answer_in, reads}
+use Rattle.cli_plans.specs.Stops.{answer_at, status_of}
+
+-- the files: what they tell, and for each name a count of the reads that failed
+pub record FilesState : Type 0 where
+  pub told : List ℕ → Option (Option (List ℕ))
+  pub faults : List ℕ → ℕ
+
+-- standard output or standard error: what it has taken, and a count of the writes that failed
+pub record SinkState : Type 0 where
+  pub taken : Option (List ℕ)
+  pub faults : ℕ
+
+abbrev pub files_state : (List ℕ → Option (Option (List ℕ))) → (List ℕ → ℕ) → FilesState
+files_state told faults = record { told = told; faults = faults }
+
+abbrev pub sink_state : Option (List ℕ) → ℕ → SinkState
+sink_state taken faults = record { taken = taken; faults = faults }
+
+-- no read of any file failed
+abbrev pub NoReadFailed : FilesState → FilesState → Type 0
+NoReadFailed before after = (name : List ℕ) → after.faults name ≡ before.faults name
+
+-- the files at a later time, when no further read has failed
+pub record IsLater (before after : FilesState) : Type 0 where
+  pub stays : (name : List ℕ) → IfSome (before.told name) (λ known. after.told name ≡ Some known)
+  pub counts : NoReadFailed before after
+
+-- why a read of a file stopped: it failed; or none did, and the file has more bytes than the limit, or memory was wanted
+abbrev pub StopsAtRead : List ℕ → ℕ → FilesState → FilesState → code.StopReason → Type 0
+StopsAtRead name limit before after Memory = NoReadFailed before after
+StopsAtRead name limit before after (Read other) = (other.now ≡ name) × (after.faults name ≡ counted (before.faults name))
+StopsAtRead name limit before after (TooLong other n) = (other.now ≡ name) × (n ≡ limit) × HasMore (before.told name) limit × NoReadFailed before after
+StopsAtRead name limit before after _ = ⊥
+
+-- a stop is a refusal that is one of the answers, or want of memory
+abbrev pub RefusesWith : (Answer → Type 0) → code.StopReason → Type 0
+RefusesWith E stop = (stop ≡ Memory) ⊎ ((status_of stop ≡ 5) × E (answer_at stop))
+
+-- a stage gives one of the values, or a refusal that is one of the answers, or want of memory
+abbrev pub IsStageResultIn : {A B : Type 0} → (A → Type 0) → (Answer → Type 0) → (B → A) → Result B code.StopReason → Type 0
+IsStageResultIn P E view (Ok x) = P (view x)
+IsStageResultIn P E view (Err stop) = RefusesWith E stop
+
+-- a stage gives what is defined, or the refusal that is defined, or want of memory
+abbrev pub IsStageResult : {A B : Type 0} → (B → A) → Result A Answer → Result B code.StopReason → Type 0
+IsStageResult view defined (Ok x) = defined ≡ Ok (view x)
+IsStageResult view defined (Err stop) = RefusesWith (λ a. defined ≡ Err a) stop
+
+-- these bytes of a file were read, within a limit; they agree with what the files tell, and no read failed
+pub record IsRead (name : List ℕ) (limit : ℕ) (before after : FilesState) (bytes : List ℕ) : Type 0 where
+  pub short : length bytes ≤ limit
+  pub has : HasBytes (before.told name) bytes
+  pub later : IsLater before after
+
+-- a stage that reads a file gives one of the values by its bytes, or a refusal by them; or it stops at the read
+abbrev pub IsReadResultIn : {A B : Type 0} → List ℕ → ℕ → (List ℕ → A → Type 0) → (List ℕ → Answer → Type 0) → (B → A) → FilesState → FilesState → Result B code.StopReason → Type 0
+IsReadResultIn name limit P E view before after (Ok x) = (bytes : List ℕ) × IsRead name limit before after bytes × P bytes (view x)
+IsReadResultIn name limit P E view before after (Err stop) =
+    StopsAtRead name limit before after stop ⊎ ((bytes : List ℕ) × IsRead name limit before after bytes × RefusesWith (E bytes) stop)
+
+-- one of the answers went out whole, and nothing is to be told on standard error
+pub record WroteWhole (P : Answer → Type 0) (before after : SinkState) (status : ℕ) : Type 0 where
+  pub answer : Answer
+  pub allowed : P answer
+  pub status_is : status ≡ answer.status
+  pub low : status ≤ 1
+  pub quiet : answer.err ≡ []
+  pub went : Appended before.taken after.taken answer.out
+  pub no_fault : after.faults ≡ before.faults
+
+-- a write failed, and a proper prefix of one of the answers went out
+pub record WrotePart (P : Answer → Type 0) (before after : SinkState) : Type 0 where
+  pub answer : Answer
+  pub allowed : P answer
+  pub went : AppendedPrefix before.taken after.taken answer.out
+  pub one_fault : after.faults ≡ counted before.faults
+
+-- one of the answers was said: written on standard output, or given as a refusal; at a refusal and for want of memory
+-- nothing was written
+abbrev pub WritesAnswer : (Answer → Type 0) → SinkState → SinkState → Result ℕ code.StopReason → Type 0
+WritesAnswer P before after (Ok status) = WroteWhole P before after status
+WritesAnswer P before after (Err Write) = WrotePart P before after
+WritesAnswer P before after (Err Memory) = after ≡ before
+WritesAnswer P before after (Err (Refused name why)) = P (answer_at (Refused name why)) × (after ≡ before)
+WritesAnswer P before after (Err stop) = ⊥
+
+-- a read stopped, and nothing was written
+abbrev pub StopsReading : List ℕ → ℕ → FilesState → FilesState → SinkState → SinkState → Result ℕ code.StopReason → Type 0
+StopsReading name limit files_before files_after before after (Ok status) = ⊥
+StopsReading name limit files_before files_after before after (Err stop) =
+    StopsAtRead name limit files_before files_after stop × (after ≡ before)
+
+-- a call did what a plan says, by some contents that agree with what the files tell; no read failed but one that it ended with
+unfoldable pub FollowsPlan : Plan → FilesState → FilesState → SinkState → SinkState → Result ℕ code.StopReason → Type 0
+FollowsPlan (answer_in P) files_before files_after before after result = WritesAnswer P before after result × NoReadFailed files_before files_after
+FollowsPlan (reads name limit next) files_before files_after before after result =
+    StopsReading name limit files_before files_after before after result
+    ⊎ ((bytes : List ℕ) × (length bytes ≤ limit) × HasBytes (files_before.told name) bytes × FollowsPlan (next bytes) files_before files_after before after result)
+FollowsPlan (value_in {A} P E next) files_before files_after before after result =
+    ((x : A) × P x × FollowsPlan (next x) files_before files_after before after result) ⊎ (WritesAnswer E before after result × NoReadFailed files_before files_after)
+
+-- ---- over any files and any sink, by what they tell, take and count
+
+abbrev pub WritesAnswerOn : {O : Type 0} → (O → Option (List ℕ)) → (O → ℕ) → (Answer → Type 0) → O → O → Result ℕ code.StopReason → Type 0
+WritesAnswerOn taken faults P before after result = WritesAnswer P (sink_state (taken before) (faults before)) (sink_state (taken after) (faults after)) result
+
+abbrev pub FollowsPlanOver : {F O : Type 0} → (F → List ℕ → Option (Option (List ℕ))) → (F → List ℕ → ℕ) → (O → Option (List ℕ)) → (O → ℕ) →
+    Plan → F → F → O → O → Result ℕ code.StopReason → Type 0
+FollowsPlanOver told reads_failed taken faults plan files_before files_after before after result =
+    FollowsPlan plan (files_state (told files_before) (reads_failed files_before)) (files_state (told files_after) (reads_failed files_after))
+    (sink_state (taken before) (faults before)) (sink_state (taken after) (faults after)) result

@@ -1,0 +1,149 @@
+//! `ssim`: runs an object file on SEQ under an HCL file.
+ghost use Rattle.std.specs.Prelude.{◌≡◌, List, ℕ};
+ghost use Rattle.dp_signals.specs.SeqTable.{seq_rows};
+ghost use Rattle.seq_plus.specs.PlusTable.{plus_rows};
+ghost use Rattle.y86_base.specs.Image.{IsSize};
+ghost use Rattle.cli_runs.specs.Answers.{SeqAnswers, seq_plan, ssim_plan};
+ghost use Rattle.cli_plans.specs.Datapaths.{rows_of};
+ghost use Rattle.cli_plans.specs.Designs.{IsOrdered};
+ghost use Rattle.cli_plans.specs.PlanFollowing.{FollowsPlanOver, WritesAnswerOn};
+ghost use Rattle.cli_plans.specs.declared.datapath.Datapath.TheVariants.{Plus as OnPlus, Seq as OnSeq};
+
+use cli_plans::{
+    Datapath, FILE_LIMIT, OrderedDesign, StopReason, load_image, read_file, seq_file, status,
+};
+use dp_signals::constant_words;
+use hcl_compile::compile;
+use seq_path::Seq;
+use seq_plus::Plus;
+use std::alloc::Global;
+use wb_io::{Files, Sink};
+use y86_base::{Image, Variant};
+use yis_run::report;
+
+/// Runs an image on SEQ and writes the report. All memory is taken before the first cycle.
+fn run_seq<'a, O: Sink>(
+    alloc: Global,
+    variant: Variant,
+    ordered: OrderedDesign,
+    image: Image,
+    limit: u64,
+    out: &mut O,
+) -> Result<u8, StopReason<'a>>
+    requires { IsOrdered seq_rows ordered }
+    ensures { WritesAnswerOn O.taken O.faults (SeqAnswers OnSeq variant ordered.design.terms limit image) out.old out.new result }
+{
+    let Ok(first) = image.copy(alloc) else {
+        return Err(StopReason::Memory);
+    };
+    let OrderedDesign { design, order, .. } = ordered;
+    let Ok(compiled) = compile(alloc, &design, &order, &constant_words()) else {
+        return Err(StopReason::Memory);
+    };
+    let mut machine = Seq::new(variant, design, order, compiled, image);
+    let ran = seq_path::run(&mut machine, limit);
+    let end = machine.end();
+    match report(&first, &end, ran.steps, out) {
+        Ok(()) => Ok(status(end.stat)),
+        Err(_) => Err(StopReason::Write),
+    }
+}
+
+/// Runs an image on SEQ+ and writes the report. All memory is taken before the first cycle.
+fn run_plus<'a, O: Sink>(
+    alloc: Global,
+    variant: Variant,
+    ordered: OrderedDesign,
+    image: Image,
+    limit: u64,
+    out: &mut O,
+) -> Result<u8, StopReason<'a>>
+    requires { IsOrdered plus_rows ordered }
+    ensures { WritesAnswerOn O.taken O.faults (SeqAnswers OnPlus variant ordered.design.terms limit image) out.old out.new result }
+{
+    let Ok(first) = image.copy(alloc) else {
+        return Err(StopReason::Memory);
+    };
+    let OrderedDesign { design, order, .. } = ordered;
+    let Ok(compiled) = compile(alloc, &design, &order, &constant_words()) else {
+        return Err(StopReason::Memory);
+    };
+    let mut machine = Plus::new(variant, design, order, compiled, image);
+    let ran = seq_plus::run(&mut machine, limit);
+    let pc = machine.pc();
+    let end = machine.end(pc);
+    match report(&first, &end, ran.steps, out) {
+        Ok(()) => Ok(status(end.stat)),
+        Err(_) => Err(StopReason::Write),
+    }
+}
+
+/// Runs an image on a sequential datapath and writes the report.
+fn run_image<'a, O: Sink>(
+    alloc: Global,
+    which: Datapath,
+    variant: Variant,
+    ordered: OrderedDesign,
+    image: Image,
+    limit: u64,
+    out: &mut O,
+) -> Result<u8, StopReason<'a>>
+    requires { IsOrdered (rows_of which) ordered }
+    ensures { WritesAnswerOn O.taken O.faults (SeqAnswers which variant ordered.design.terms limit image) out.old out.new result }
+{
+    match which {
+        Datapath::Seq => run_seq(alloc, variant, ordered, image, limit, out),
+        Datapath::Plus => run_plus(alloc, variant, ordered, image, limit, out),
+    }
+}
+
+/// Reads an object file and runs it on a sequential datapath under a design.
+fn run_object<'a, F: Files, O: Sink>(
+    alloc: Global,
+    which: Datapath,
+    variant: Variant,
+    ordered: OrderedDesign,
+    obj: &'a str,
+    mem: u64,
+    limit: u64,
+    files: &mut F,
+    out: &mut O,
+) -> Result<u8, StopReason<'a>>
+    requires size { IsSize mem }
+    requires ordered { IsOrdered (rows_of which) ordered }
+    ensures { FollowsPlanOver F.told F.faults O.taken O.faults (seq_plan which ordered.design.terms obj.now mem limit variant)
+        files.old files.new out.old out.new result }
+{
+    let bytes = match read_file(alloc, obj, FILE_LIMIT, files) {
+        Ok(bytes) => bytes,
+        Err(stop) => return Err(stop),
+    };
+    let image = match load_image(alloc, obj, bytes.as_slice(), mem) {
+        Ok(image) => image,
+        Err(stop) => return Err(stop),
+    };
+    run_image(alloc, which, variant, ordered, image, limit, out)
+}
+
+/// `ssim` and `ssimp`: runs an object file on SEQ or SEQ+ under an HCL file.
+pub fn ssim_file<'a, F: Files, O: Sink>(
+    alloc: Global,
+    which: Datapath,
+    name: &'a str,
+    obj: &'a str,
+    mem: u64,
+    limit: u64,
+    variant: Variant,
+    files: &mut F,
+    out: &mut O,
+) -> Result<u8, StopReason<'a>>
+    requires { IsSize mem }
+    ensures { FollowsPlanOver F.told F.faults O.taken O.faults (ssim_plan which name.now obj.now mem limit variant)
+        files.old files.new out.old out.new result }
+{
+    let ordered = match seq_file(alloc, which, name, files) {
+        Ok(ordered) => ordered,
+        Err(stop) => return Err(stop),
+    };
+    run_object(alloc, which, variant, ordered, obj, mem, limit, files, out)
+}

@@ -1,6 +1,0 @@
-use Rattle.command_plans.specs.Lines.{fault_line}
-use Rattle.command_plans.proofs.stop.put_fault.Goals as goal
-
-pub returns-clause-puts : goal.returns-clause-puts
-unfolding fault_line
-returns-clause-puts g c = rw (c.as_bytes.ensures, c.decimal-line.ensures.text) at c.put_pieces.ensures.puts

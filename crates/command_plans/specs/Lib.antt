@@ -1,9 +1,0 @@
-pub mod Calls
-pub mod Came
-pub mod Datapaths
-pub mod Designs
-pub mod Does
-pub mod Lines
-pub mod Plan
-pub mod Stages
-pub mod Stops

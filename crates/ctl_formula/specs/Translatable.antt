@@ -1,0 +1,106 @@
+-- What a term needs so that it can be translated, the leaves that it can pick, and what the entries of names show.
+use Rattle.std.specs.Prelude.{ℕ, ◌+◌, ◌<◌, ◌≤◌, Bool, true, false, not, ◌&&◌, if◌then◌else◌, List, [], ◌∷◌, ◌≡◌, length, map, nat_eq, Option, Some, slice_get, get_or}
+use Rattle.hcl_read.specs.declared.tree.CmpOp.{CmpOp}
+use Rattle.hcl_read.specs.declared.tree.CmpOp.TheVariants as op
+use Rattle.hcl_types.specs.declared.term.Term.{Term}
+use Rattle.hcl_types.specs.declared.term.TermBranch.{TermBranch}
+use Rattle.hcl_types.specs.declared.term.Term.TheOpen.{Term-F, TermBranch-F}
+use Rattle.hcl_types.specs.declared.term.Term.TheFolds.{fold-Term, fold-TermBranch}
+use Rattle.hcl_types.specs.declared.table.Class.{Class}
+use Rattle.hcl_types.specs.Kinds.{is_truth}
+use Rattle.hcl_types.specs.Lists.{each}
+use Rattle.ctl_atoms.specs.declared.leaf.Leaf.{Leaf}
+use Rattle.ctl_atoms.specs.declared.leaf.Leaf.TheVariants.{Name, Number}
+use Rattle.ctl_atoms.specs.declared.leaf.Atom.{Atom}
+use Rattle.ctl_formula.specs.declared.controls.Pick.{Pick}
+use Rattle.ctl_formula.specs.declared.controls.Entry.{Entry}
+use Rattle.ctl_formula.specs.declared.controls.Entry.TheVariants.{Absent, Truth, Picks}
+use Rattle.nets.specs.Nets.{Gates}
+use Rattle.ctl_atoms.specs.Leaves.{Assignment, AtomsAre, leaf_holds, is_listed, open_atom}
+use Rattle.ctl_atoms.specs.TermAtoms.{has_leaf, joined, once}
+use Rattle.ctl_formula.specs.Picks.{Within, entry_truth, entry_word, entry_picks}
+use Rattle.ctl_formula.specs.TakenPicks.{IsOnlyTaken, at}
+
+abbrev pub leaves_of : List Pick → List Leaf
+leaves_of ps = map (λ (p : Pick). p.leaf) ps
+
+-- each pair of a left and a right leaf is decided at once or listed
+abbrev pub leaves_listed : List Atom → CmpOp → List Leaf → List Leaf → Bool
+leaves_listed atoms o ls ms = each (λ (l : Leaf). each (λ (m : Leaf). is_listed atoms (open_atom o l m)) ms) ls
+
+-- of a term: it is the number 1; it can be translated as a truth, as a word; the leaves that it can pick
+pub record Translatable : Type 0 where
+  pub one : Bool
+  pub truth : Bool
+  pub word : Bool
+  pub leaves : List Leaf
+
+-- the leaves of a name's picks
+abbrev pub entry_leaves : Option Entry → List Leaf
+entry_leaves entry = leaves_of (entry_picks entry)
+
+abbrev pub truths : List Translatable → Bool
+truths ps = each (λ (p : Translatable). p.truth) ps
+
+abbrev pub members : List Atom → List Leaf → List Translatable → Bool
+members atoms ls ps = each (λ (p : Translatable). p.word && leaves_listed atoms op.Eq ls p.leaves) ps
+
+abbrev pub branches : List (Translatable × Translatable) → Bool
+branches bs = each (λ (b : Translatable × Translatable). b.0.truth && b.1.word) bs
+
+-- the leaves of a case list, up to a guard that is the number 1
+abbrev pub case_leaves : List Leaf → List (Translatable × Translatable) → List Leaf
+case_leaves ls [] = once ls (Number 0)
+case_leaves ls (b ∷ bs) = if b.0.one then joined ls b.1.leaves else case_leaves (joined ls b.1.leaves) bs
+
+abbrev pub ready_layer : List Entry → List Atom → Term-F Translatable (Translatable × Translatable) → Translatable
+ready_layer es atoms (Term-F.Num n) = record { one = nat_eq n 1; truth = true; word = true; leaves = Number n ∷ [] }
+ready_layer es atoms (Term-F.Name id) = record { one = false; truth = entry_truth (slice_get es id); word = entry_word (slice_get es id); leaves = entry_leaves (slice_get es id) }
+ready_layer es atoms (Term-F.Not t) = record { one = false; truth = t.truth; word = false; leaves = [] }
+ready_layer es atoms (Term-F.And ts) = record { one = false; truth = truths ts; word = false; leaves = [] }
+ready_layer es atoms (Term-F.Or ts) = record { one = false; truth = truths ts; word = false; leaves = [] }
+ready_layer es atoms (Term-F.Cmp o t u) = record { one = false; truth = t.word && (u.word && leaves_listed atoms o t.leaves u.leaves); word = false; leaves = [] }
+ready_layer es atoms (Term-F.In t ts) = record { one = false; truth = t.word && members atoms t.leaves ts; word = false; leaves = [] }
+ready_layer es atoms (Term-F.Case bs) = record { one = false; truth = false; word = branches bs; leaves = case_leaves [] bs }
+
+abbrev pub ready_pair : TermBranch-F Translatable (Translatable × Translatable) → Translatable × Translatable
+ready_pair b = (b.guard, b.value)
+
+abbrev pub translatable : List Entry → List Atom → Term → Translatable
+translatable es atoms = fold-Term Translatable (Translatable × Translatable) (ready_layer es atoms) ready_pair
+
+abbrev pub branch_ready : List Entry → List Atom → TermBranch → Translatable × Translatable
+branch_ready es atoms = fold-TermBranch Translatable (Translatable × Translatable) (ready_layer es atoms) ready_pair
+
+-- an entry is of a class, and its picks have these leaves
+pub record IsEntryOf (class : Class) (leaves : List Leaf) (e : Entry) : Type 0 where
+  pub truth : entry_truth (Some e) ≡ is_truth class
+  pub word : entry_word (Some e) ≡ not (is_truth class)
+  pub own : entry_leaves (Some e) ≡ leaves
+
+-- the gates of an entry are gates of the net
+abbrev pub EntryWithin : ℕ → Entry → Type 0
+EntryWithin n Absent = Unit {0}
+EntryWithin n (Truth g) = g < n
+EntryWithin n (Picks ps) = Within n ps
+
+abbrev pub EntryEncodes : (ℕ → Bool) → Assignment → Entry → Leaf → Type 0
+EntryEncodes tr α Absent x = Unit {0}
+EntryEncodes tr α (Truth g) x = tr g ≡ leaf_holds α x
+EntryEncodes tr α (Picks ps) x = IsOnlyTaken tr ps x
+
+-- the gates of all names stand in the net, and the atoms among its variables, from `first` on
+pub record HasScope (n : Gates) (es : List Entry) (listed : List Atom) (first : ℕ) : Type 0 where
+  pub vars : first + length listed ≤ n.vars
+  pub entries : (id : ℕ) (e : Entry) → slice_get es id ≡ Some e → EntryWithin (length n.gates) e
+
+-- under a valuation the atoms have the truths of α, and each name that has a gate or picks the control value of cv
+pub record EncodesSoFar (n : Gates) (es : List Entry) (listed : List Atom) (first : ℕ) (w : List Bool) (α : Assignment) (cv : ℕ → Leaf) : Type 0 where
+  pub atoms : AtomsAre listed first w α
+  pub entries : (id : ℕ) (e : Entry) → slice_get es id ≡ Some e → EntryEncodes (at n w) α e (cv id)
+
+-- pick k is one of the leaf
+pub record IsPlace (ps : List Pick) (k : ℕ) (leaf : Leaf) : Type 0 where
+  pub within : k < length ps
+  pub same : (get_or ps k (record { leaf = Name 0; gate = 0 })).leaf ≡ leaf
+  pub has : has_leaf (leaves_of ps) leaf ≡ true

@@ -1,0 +1,12 @@
+use Rattle.std.proofs.Common.{◌≡◌, sym, ◌∙◌, subst, List, Bool, length}
+use Rattle.std.proofs.lemmas.Result.{IfOk-weaker}
+use Rattle.nets.specs.Nets.{truth, Gates, IsGate, ExtendsNet}
+use Rattle.ctl_formula.specs.Picks.{some_pick, Within, IsInside, picks_of}
+use Rattle.ctl_formula.specs.declared.controls.Pick.{Pick}
+use Rattle.ctl_atoms.specs.Leaves.{leaf_eq}
+use Rattle.ctl_rules.specs.ControlGates.{leaf_expected}
+use Rattle.ctl_rules.proofs.Kept.{asked_picks}
+use Rattle.ctl_rules.proofs.expected_leaf.picks_leaf.Goals as goal
+
+pub returns-clause-has_truth : goal.returns-clause-has_truth
+returns-clause-has_truth c = IfOk-weaker c.one_taken.result _ _ (λ _ made. asked_picks c.args.want c.one_taken.ensures.extends c.requires.inside c.requires.known c.picks.ensures made) c.one_taken.ensures.has_truth

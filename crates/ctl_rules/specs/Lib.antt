@@ -1,0 +1,2 @@
+pub mod ColumnDemands
+pub mod ControlGates

@@ -1,0 +1,8 @@
+//! The verdict on a design: the first of its rules that is false of some valuation, with the least such valuation.
+#![tactic(auto)]
+
+mod decision;
+mod fault;
+
+pub use decision::{FailedRule, decide, decide_in_order};
+pub use fault::{CheckFault, check_fault};

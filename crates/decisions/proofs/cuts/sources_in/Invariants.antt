@@ -1,5 +1,0 @@
-use Rattle.decisions.specs.Splitting.{AreSourcesIn}
-use Rattle.decisions.proofs.cuts.sources_in.Given as goal
-
-abbrev pub invariant-loop-i : goal.invariant-loop-i
-invariant-loop-i l = record { sources : AreSourcesIn l.bits l.part l.i l.to.items }

@@ -1,7 +1,0 @@
-use Rattle.std.proofs.Common.{◌∙◌}
-use Rattle.decisions.proofs.Deciding.{valid_decided}
-use Rattle.decisions.proofs.pass.always_true.Goals as goal
-
-pub returns-in-Ok-clause-decided : goal.returns-in-Ok-clause-decided
-returns-in-Ok-clause-decided c =
-    valid_decided _ c.args.net.now c.args.gate c.in-Ok.diagram c.valid.result (c.in-Ok.ensures.stay.vars ∙ c.requires.vars) c.in-Ok.ensures.built c.valid.ensures

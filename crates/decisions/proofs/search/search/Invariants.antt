@@ -1,5 +1,0 @@
-use Rattle.decisions.specs.Splitting.{IsSearched}
-use Rattle.decisions.proofs.search.search.Given as goal
-
-abbrev pub invariant-loop-p : goal.invariant-loop-p
-invariant-loop-p g l = record { searched : IsSearched l.net l.gates l.cut.bits l.p l.so_far.place l.so_far.part }

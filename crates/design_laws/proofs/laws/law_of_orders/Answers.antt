@@ -1,5 +1,0 @@
-use Rattle.design_laws.proofs.Orders.{order_there}
-use Rattle.design_laws.proofs.laws.law_of_orders.Goals as goal
-
-pub returns : goal.returns
-returns c = order_there

@@ -1,4 +1,0 @@
-use Rattle.field_bits.proofs.gates.+below.Given as goal
-
-abbrev pub decreases-below : goal.decreases-below
-decreases-below l = l.n

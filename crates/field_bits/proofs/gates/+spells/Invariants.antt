@@ -1,4 +1,0 @@
-use Rattle.field_bits.proofs.gates.+spells.Given as goal
-
-abbrev pub decreases-spells : goal.decreases-spells
-decreases-spells l = l.p.bits

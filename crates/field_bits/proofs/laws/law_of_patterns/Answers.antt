@@ -1,8 +1,0 @@
-use Rattle.field_bits.proofs.Patterns.{pattern_of, decoded_range}
-use Rattle.field_bits.proofs.laws.law_of_patterns.Goals as goal
-
-pub returns-clause-pattern : goal.returns-clause-pattern
-returns-clause-pattern c = pattern_of
-
-pub returns-clause-range : goal.returns-clause-range
-returns-clause-range c = decoded_range

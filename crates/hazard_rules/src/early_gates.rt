@@ -1,0 +1,127 @@
+//! What decides the settings pt, pb and tv of a file.
+ghost use Rattle.std.specs.Prelude.{◌<◌, ◌≤◌, ◌+◌, length, true, false, IfOk};
+ghost use Rattle.nets.specs.Nets.{ExtendsNet, IsGate};
+ghost use Rattle.ctl_formula.specs.Picks.{Covers, IsInside};
+ghost use Rattle.dp_signals.specs.PipeTable.{pipe_rows};
+ghost use Rattle.hazard_rules.specs.Parts.{ArePredictionGates};
+ghost use Rattle.pipe_gates.specs.GateTruths.{IsTruthGate};
+ghost use Rattle.pipe_fields.specs.Allowed as spec;
+ghost use Rattle.pipe_fields.specs.Layout.{bit_count, fields_of};
+ghost use Rattle.pipe_motion.specs.declared.settings.Settings.{Settings};
+ghost use Rattle.ctl_rules.specs.ControlGates.{IsControlGate};
+ghost use Rattle.pipe_obligations.specs.FileSettings.{alu_passes_target, picks_target};
+ghost use Rattle.pipe_stage_gates.specs.Signals.{IsReady};
+
+use ctl_atoms::{Atom, Leaf};
+use ctl_formula::Controls;
+use ctl_rules::{ExpectedLeaf, picks_leaf};
+use dp_signals::pipe_row as signal;
+use net_fields::spells;
+use nets::{NetBuilder, implies};
+use pipe_fields::allowed;
+use pipe_fields::places::E_KIND;
+use pipe_motion_gates::prediction_premise;
+use pipe_stage_gates::target_gate;
+use y86_base::{Memory, Variant};
+
+/// Jumps of this ifun that go back or not are predicted as taken: where one is fetched, f_predPC is f_valC. `fits` is the gate of
+/// the valuations that are allowed.
+#[tactic(auto, using(nets::proofs::Truths::begins_more, ctl_formula::proofs::Inside::inside_more, pipe_gates::proofs::Known::known_f_predPC))]
+fn predicts(
+    b: &mut NetBuilder,
+    ctl: &Controls,
+    v: Variant,
+    atoms: &[Atom],
+    fits: u64,
+    ifun: u64,
+    back: bool,
+) -> Result<u64, Memory>
+    requires inside { IsInside b.old ctl.now }
+    requires covers { Covers pipe_rows ctl.now }
+    requires fits { IsGate b.old fits (λ w. spec.allowed v (fields_of w)) }
+    requires vars { bit_count + length atoms.now ≤ b.old.vars }
+    requires few { length atoms.now ≤ 64 }
+    ensures extends { ExtendsNet b.old b.new }
+    ensures has_truth { IfOk result (λ g. IsTruthGate b.new ctl.now atoms.now g (picks_target v atoms.now ifun back)) }
+{
+    let taken = picks_leaf(
+        b,
+        ctl,
+        signal::F_PRED_PC,
+        ExpectedLeaf::This(Leaf::Name(signal::F_VAL_C)),
+    )?;
+    let asked = prediction_premise(b, v, atoms, fits, ifun, back)?;
+    let g = implies(b, asked, taken)?;
+    Ok(g)
+}
+
+/// The gates of the seven ifuns.
+pub(crate) fn predictions(
+    b: &mut NetBuilder,
+    ctl: &Controls,
+    v: Variant,
+    atoms: &[Atom],
+    fits: u64,
+    back: bool,
+) -> Result<[u64; 7], Memory>
+    requires inside { IsInside b.old ctl.now }
+    requires covers { Covers pipe_rows ctl.now }
+    requires fits { IsGate b.old fits (λ w. spec.allowed v (fields_of w)) }
+    requires vars { bit_count + length atoms.now ≤ b.old.vars }
+    requires few { length atoms.now ≤ 64 }
+    ensures extends { ExtendsNet b.old b.new }
+    ensures has_truth { IfOk result (λ gates. ArePredictionGates v b.new ctl.now atoms.now back gates 7) }
+{
+    let mut gates = [0; 7];
+    for i in 0..7 {
+        let gate = predicts(b, ctl, v, atoms, fits, i as u64, back)?;
+        gates[i] = gate;
+    }
+    Ok(gates)
+}
+
+/// A jump carries its target through the ALU, in every allowed valuation.
+fn carries_gate(b: &mut NetBuilder, ctl: &Controls, v: Variant, fits: u64) -> Result<u64, Memory>
+    requires inside { IsInside b.old ctl.now }
+    requires ready { IsReady b.old.vars ctl.now }
+    requires fits { IsGate b.old fits (λ w. spec.allowed v (fields_of w)) }
+    ensures extends { ExtendsNet b.old b.new }
+    ensures has_truth { (s : Settings) → IfOk result (λ g. IsControlGate b.new ctl.now g (λ w α cv. alu_passes_target v s (fields_of w) α cv)) }
+{
+    let good = spells(b, E_KIND, 1)?;
+    let target = target_gate(b, ctl, v, good)?;
+    let g = implies(b, fits, target)?;
+    Ok(g)
+}
+
+/// The gates that decide pt, pb and tv.
+#[derive(Clone, Copy, Debug)]
+pub(crate) struct EarlyGates {
+    pub pt: [u64; 7],
+    pub pb: [u64; 7],
+    pub tv: u64,
+}
+
+/// The gates that decide pt, pb and tv.
+#[tactic(auto, using(pipe_stage_gates::proofs::Ready::ready_by, ctl_formula::proofs::Inside::inside_more))]
+pub(crate) fn early_formulas(
+    b: &mut NetBuilder,
+    ctl: &Controls,
+    v: Variant,
+    atoms: &[Atom],
+) -> Result<EarlyGates, Memory>
+    requires inside { IsInside b.old ctl.now }
+    requires covers { Covers pipe_rows ctl.now }
+    requires vars { bit_count + length atoms.now ≤ b.old.vars }
+    requires few { length atoms.now ≤ 64 }
+    ensures extends { ExtendsNet b.old b.new }
+    ensures forward { IfOk result (λ r. ArePredictionGates v b.new ctl.now atoms.now false r.pt 7) }
+    ensures backward { IfOk result (λ r. ArePredictionGates v b.new ctl.now atoms.now true r.pb 7) }
+    ensures target { (s : Settings) → IfOk result (λ r. IsTruthGate b.new ctl.now atoms.now r.tv (alu_passes_target v s)) }
+{
+    let fits = allowed(b, v)?;
+    let pt = predictions(b, ctl, v, atoms, fits, false)?;
+    let pb = predictions(b, ctl, v, atoms, fits, true)?;
+    let tv = carries_gate(b, ctl, v, fits)?;
+    Ok(EarlyGates { pt, pb, tv })
+}

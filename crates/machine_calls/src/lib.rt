@@ -1,8 +1,0 @@
-//! Sequential machines that do one clock cycle a call, of whatever datapath, and their runs up to a limit.
-#![tactic(auto)]
-
-mod records;
-mod running;
-
-pub use records::{count, is_going};
-pub use running::{Cycles, run};

@@ -1,0 +1,10 @@
+use Rattle.std.proofs.Common.{◌&&◌}
+use Rattle.ctl_formula.proofs.Inside.{inside_more}
+use Rattle.ctl_rules.proofs.Kept.{asked_two, asked_more, asked_gate}
+use Rattle.pipe_motion_gates.proofs.fetch.code_if.Goals as goal
+
+pub returns-clause-has_truth : goal.returns-clause-has_truth
+returns-clause-has_truth c =
+    let i1 = inside_more c.picks_leaf.ensures.extends c.requires.inside in
+    let k2 = c.constant.ensures.extends in
+    asked_two (λ w x y. x && y) c.and.ensures.extends (inside_more k2 i1) (asked_more k2 i1 c.in_ok-here.ensures.has_truth) (asked_gate c.in_ok-count.ensures.has_truth) c.in_ok-g.ensures.has_truth

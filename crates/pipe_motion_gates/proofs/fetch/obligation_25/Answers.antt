@@ -1,0 +1,24 @@
+use Rattle.std.proofs.Common.{◌∙◌}
+use Rattle.nets.proofs.Truths.{begins_more}
+use Rattle.ctl_formula.proofs.Inside.{inside_more}
+use Rattle.pipe_motion.proofs.Kept.{view_kept}
+use Rattle.ctl_rules.proofs.Kept.{asked_more, tells_less}
+use Rattle.pipe_motion_gates.proofs.Codes.{next_by}
+use Rattle.pipe_motion_gates.proofs.fetch.obligation_25.Goals as goal
+
+pub returns-clause-has_truth : goal.returns-clause-has_truth
+returns-clause-has_truth c =
+    let i0 = c.requires.inside in
+    let k1 = c.fetch_good.ensures.extends in
+    let i1 = inside_more k1 i0 in
+    let k2 = c.fetched_facts.ensures.extends in
+    let i2 = inside_more k2 i1 in
+    let k3 = c.obligation_25.ensures.extends in
+    let good = asked_more k2 i1 c.in_ok-good.ensures.has_truth in
+    record {
+      within = c.in_ok-g.ensures.has_truth.within;
+      is = λ w α cv t.
+          let u = tells_less k3 i2 t in
+          c.in_ok-g.ensures.has_truth.is w ∙ next_by c.args.s.now.je c.args.s.now.rm _ _ _ _ _ _ _ _ (c.register_controls_of-movers.ensures.encodes c.fetched_facts.new.b w α cv u) (good.is w α cv u) (c.in_ok-facts.ensures.has_truth.is w α cv u)
+          (view_kept (begins_more k1 k2) c.args.y.now w c.requires.view);
+    }

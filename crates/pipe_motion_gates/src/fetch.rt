@@ -1,0 +1,368 @@
+//! Obligation 25: what is fetched, whether that is the next instruction, and the next cycle's view.
+#![tactic(auto, using(nets::proofs::Truths::begins_more, ctl_formula::proofs::Inside::inside_more, pipe_motion::proofs::Kept::view_in, pipe_gates::proofs::Known::known_f_pc, pipe_gates::proofs::Known::known_f_stat, pipe_gates::proofs::Known::known_f_icode, pipe_gates::proofs::Known::known_f_ifun))]
+
+ghost use Rattle.std.specs.Prelude.{◌<◌, ◌≤◌, ◌&&◌, ◌||◌, false, get_or, if◌then◌else◌, IfOk, IsTrue, length};
+ghost use Rattle.nets.specs.Nets.{ExtendsNet, truth};
+ghost use Rattle.ctl_atoms.specs.declared.leaf.Leaf.TheVariants.{Name};
+ghost use Rattle.ctl_formula.specs.Picks.{Covers, IsInside, has_picks};
+ghost use Rattle.y86_base.specs.Words.{set};
+ghost use Rattle.dp_signals.specs.PipeNames as names;
+ghost use Rattle.dp_signals.specs.PipeTable.{pipe_rows};
+ghost use Rattle.ctl_rules.specs.ControlGates.{IsControlGate};
+ghost use Rattle.ctl_rules.specs.ColumnDemands as words;
+ghost use Rattle.pipe_fields.specs.Layout.{bit_count, fields_of};
+ghost use Rattle.pipe_motion.specs.Gates.{HasFlow, flow_at};
+ghost use Rattle.pipe_motion.specs.Predictions.{predicts};
+ghost use Rattle.pipe_motion.specs.Flow.{path};
+ghost use Rattle.pipe_gates.specs.Columns.{has};
+ghost use Rattle.pipe_gates.specs.GateTruths.{AreStageFlowGates};
+ghost use Rattle.pipe_obligations.specs.Obligations as spec;
+ghost use Rattle.pipe_obligations.specs.StageFlows as stages;
+
+use ctl_atoms::Leaf;
+use ctl_formula::Controls;
+use ctl_rules::{ExpectedLeaf, picks_leaf, picks_leaf_if};
+use dp_signals::pipe_row as signal;
+use hcl_types::NameId;
+use net_fields::spells;
+use nets::{NetBuilder, choose};
+use pipe_fields::places::{
+    E_CND, E_ICODE, E_STAT, F_BACK, F_STOPS, F_TAKEN, M_CND, M_ICODE, M_STAT,
+};
+use pipe_gates::{RowTest, jump, register_controls_of, row_passes};
+use pipe_motion::{FlowGates, Settings, StageFlowGates, of_youngest, path_gate, stops_gate};
+use y86_base::{Memory, Variant};
+use y86_isa::row;
+
+/// The signal is the code, and that counts.
+fn code_if(
+    b: &mut NetBuilder,
+    ctl: &Controls,
+    name: NameId,
+    code: u64,
+    counts: bool,
+) -> Result<u64, Memory>
+    requires inside { IsInside b.old ctl.now }
+    requires known { IsTrue (has_picks ctl.now name) }
+    ensures extends { ExtendsNet b.old b.new }
+    ensures has_truth { IfOk result (λ g. IsControlGate b.new ctl.now g (λ w α cv. words.is_number cv name code && counts)) }
+{
+    let here = picks_leaf(b, ctl, name, ExpectedLeaf::This(Leaf::Number(code)))?;
+    let count = b.constant(counts)?;
+    let g = b.and(here, count)?;
+    Ok(g)
+}
+
+/// The list has the truth `true` at the code of a signal.
+fn code_listed(
+    b: &mut NetBuilder,
+    ctl: &Controls,
+    name: NameId,
+    list: &[bool],
+) -> Result<u64, Memory>
+    requires inside { IsInside b.old ctl.now }
+    requires known { IsTrue (has_picks ctl.now name) }
+    requires few { length list.now ≤ 15 }
+    ensures extends { ExtendsNet b.old b.new }
+    ensures has_truth { IfOk result (λ g. IsControlGate b.new ctl.now g (λ w α cv. get_or list.now (spec.code_of (cv name)) false)) }
+{
+    let mut any = b.constant(false)?;
+    for k in 0..list.len() {
+        let here = code_if(b, ctl, name, k as u64, list[k])?;
+        any = b.or(any, here)?;
+    }
+    Ok(any)
+}
+
+/// The row of the icode that a signal is passes the test.
+fn code_has(
+    b: &mut NetBuilder,
+    ctl: &Controls,
+    v: Variant,
+    name: NameId,
+    test: RowTest,
+) -> Result<u64, Memory>
+    requires inside { IsInside b.old ctl.now }
+    requires known { IsTrue (has_picks ctl.now name) }
+    ensures extends { ExtendsNet b.old b.new }
+    ensures has_truth { IfOk result (λ g. IsControlGate b.new ctl.now g (λ w α cv. has v test (spec.code_of (cv name)))) }
+{
+    let mut any = b.constant(false)?;
+    for k in 0..15 {
+        let here = code_if(b, ctl, name, k, row_passes(&row(v, k), test))?;
+        any = b.or(any, here)?;
+    }
+    Ok(any)
+}
+
+/// What is fetched stops the machine.
+fn fetched_stops(b: &mut NetBuilder, ctl: &Controls) -> Result<u64, Memory>
+    requires inside { IsInside b.old ctl.now }
+    requires known { IsTrue (has_picks ctl.now names.f_stat) }
+    requires vars { bit_count ≤ b.old.vars }
+    ensures extends { ExtendsNet b.old b.new }
+    ensures has_truth { IfOk result (λ g. IsControlGate b.new ctl.now g (λ w α cv. stages.stops_by (spec.code_of (cv names.f_stat)) (fields_of w).f.stops)) }
+{
+    let running = picks_leaf(b, ctl, signal::F_STAT, ExpectedLeaf::This(Leaf::Number(1)))?;
+    let clear = spells(b, F_STOPS, 0)?;
+    let goes_on = b.and(running, clear)?;
+    let g = b.not(goes_on)?;
+    Ok(g)
+}
+
+/// What is fetched is a conditional jump that goes on.
+fn fetched_jumps(b: &mut NetBuilder, ctl: &Controls, v: Variant) -> Result<u64, Memory>
+    requires inside { IsInside b.old ctl.now }
+    requires stat_known { IsTrue (has_picks ctl.now names.f_stat) }
+    requires icode_known { IsTrue (has_picks ctl.now names.f_icode) }
+    ensures extends { ExtendsNet b.old b.new }
+    ensures has_truth { IfOk result (λ g. IsControlGate b.new ctl.now g (λ w α cv. stages.is_jump v (spec.code_of (cv names.f_stat)) (spec.code_of (cv names.f_icode)))) }
+{
+    let running = picks_leaf(b, ctl, signal::F_STAT, ExpectedLeaf::This(Leaf::Number(1)))?;
+    let branch = code_has(b, ctl, v, signal::F_ICODE, RowTest::Jump)?;
+    let g = b.and(running, branch)?;
+    Ok(g)
+}
+
+/// The way that is predicted of what is fetched, were it a jump.
+fn fetched_way(b: &mut NetBuilder, ctl: &Controls, s: &Settings) -> Result<u64, Memory>
+    requires inside { IsInside b.old ctl.now }
+    requires known { IsTrue (has_picks ctl.now names.f_ifun) }
+    requires vars { bit_count ≤ b.old.vars }
+    ensures extends { ExtendsNet b.old b.new }
+    ensures has_truth { IfOk result (λ g. IsControlGate b.new ctl.now g (λ w α cv. predicts s.now (spec.code_of (cv names.f_ifun)) (set (fields_of w).f.back))) }
+{
+    let forward = code_listed(b, ctl, signal::F_IFUN, &s.pt)?;
+    let backward = code_listed(b, ctl, signal::F_IFUN, &s.pb)?;
+    let ahead = spells(b, F_BACK, 0)?;
+    let g = choose(b, ahead, forward, backward)?;
+    Ok(g)
+}
+
+/// What is fetched is a jump that takes another way than predicted.
+fn fetched_misses(
+    b: &mut NetBuilder,
+    ctl: &Controls,
+    v: Variant,
+    s: &Settings,
+) -> Result<u64, Memory>
+    requires inside { IsInside b.old ctl.now }
+    requires stat_known { IsTrue (has_picks ctl.now names.f_stat) }
+    requires icode_known { IsTrue (has_picks ctl.now names.f_icode) }
+    requires ifun_known { IsTrue (has_picks ctl.now names.f_ifun) }
+    requires vars { bit_count ≤ b.old.vars }
+    ensures extends { ExtendsNet b.old b.new }
+    ensures has_truth { IfOk result (λ g. IsControlGate b.new ctl.now g (λ w α cv.
+        stages.is_missed v s.now (spec.code_of (cv names.f_stat)) (spec.code_of (cv names.f_icode)) (spec.code_of (cv names.f_ifun)) (fields_of w).f.taken (fields_of w).f.back)) }
+{
+    let here = fetched_jumps(b, ctl, v)?;
+    let way = fetched_way(b, ctl, s)?;
+    let passed = spells(b, F_TAKEN, 0)?;
+    let other = b.equal(passed, way)?;
+    let g = b.and(here, other)?;
+    Ok(g)
+}
+
+/// What D loads of a good fetch.
+fn fetched_facts(
+    b: &mut NetBuilder,
+    ctl: &Controls,
+    v: Variant,
+    s: &Settings,
+) -> Result<StageFlowGates, Memory>
+    requires inside { IsInside b.old ctl.now }
+    requires stat_known { IsTrue (has_picks ctl.now names.f_stat) }
+    requires icode_known { IsTrue (has_picks ctl.now names.f_icode) }
+    requires ifun_known { IsTrue (has_picks ctl.now names.f_ifun) }
+    requires vars { bit_count ≤ b.old.vars }
+    ensures extends { ExtendsNet b.old b.new }
+    ensures has_truth { IfOk result (λ r. AreStageFlowGates b.new ctl.now r (λ w α cv.
+        stages.stage_flow_by 1 (stages.stops_by (spec.code_of (cv names.f_stat)) (fields_of w).f.stops) (stages.is_ret v (spec.code_of (cv names.f_icode)))
+        (stages.is_missed v s.now (spec.code_of (cv names.f_stat)) (spec.code_of (cv names.f_icode)) (spec.code_of (cv names.f_ifun)) (fields_of w).f.taken (fields_of w).f.back))) }
+{
+    let good = b.constant(true)?;
+    let wrong = b.constant(false)?;
+    let stops = fetched_stops(b, ctl)?;
+    let ret = code_has(b, ctl, v, signal::F_ICODE, RowTest::Ret)?;
+    let missed = fetched_misses(b, ctl, v, s)?;
+    Ok(StageFlowGates {
+        good,
+        wrong,
+        stops,
+        ret,
+        missed,
+    })
+}
+
+/// A gate holds, and f_pc picks a leaf.
+fn goes_to(b: &mut NetBuilder, ctl: &Controls, here: u64, leaf: NameId) -> Result<u64, Memory>
+    requires inside { IsInside b.old ctl.now }
+    requires known { IsTrue (has_picks ctl.now names.f_pc) }
+    requires here_in { here < length b.old.gates }
+    ensures extends { ExtendsNet b.old b.new }
+    ensures has_truth { IfOk result (λ g. IsControlGate b.new ctl.now g (λ w α cv. truth b.old here w && words.picks_leaf cv names.f_pc (Name leaf))) }
+{
+    let taken = picks_leaf(b, ctl, signal::F_PC, ExpectedLeaf::This(Leaf::Name(leaf)))?;
+    let g = b.and(here, taken)?;
+    Ok(g)
+}
+
+/// f_pc is where the jump in E goes.
+pub fn right_after_e(b: &mut NetBuilder, ctl: &Controls, v: Variant) -> Result<u64, Memory>
+    requires inside { IsInside b.old ctl.now }
+    requires known { IsTrue (has_picks ctl.now names.f_pc) }
+    requires vars { bit_count ≤ b.old.vars }
+    ensures extends { ExtendsNet b.old b.new }
+    ensures has_truth { IfOk result (λ g. IsControlGate b.new ctl.now g (λ w α cv.
+        stages.is_jump v (fields_of w).e.stat (fields_of w).e.icode && words.picks_leaf cv names.f_pc (if set (fields_of w).e.cnd then Name names.E_valC else Name names.E_valA))) }
+{
+    let here = jump(b, v, E_STAT, E_ICODE)?;
+    let falls = spells(b, E_CND, 0)?;
+    let taken = picks_leaf_if(
+        b,
+        ctl,
+        signal::F_PC,
+        falls,
+        ExpectedLeaf::This(Leaf::Name(signal::HELD_E_VAL_A)),
+        ExpectedLeaf::This(Leaf::Name(signal::HELD_E_VAL_C)),
+    )?;
+    let g = b.and(here, taken)?;
+    Ok(g)
+}
+
+/// f_pc is where the jump in M goes: to its target only where the file carries that through the ALU.
+fn jump_after_m(b: &mut NetBuilder, ctl: &Controls, v: Variant, tv: bool) -> Result<u64, Memory>
+    requires inside { IsInside b.old ctl.now }
+    requires known { IsTrue (has_picks ctl.now names.f_pc) }
+    requires vars { bit_count ≤ b.old.vars }
+    ensures extends { ExtendsNet b.old b.new }
+    ensures has_truth { IfOk result (λ g. IsControlGate b.new ctl.now g (λ w α cv.
+        stages.is_jump v (fields_of w).m.stat (fields_of w).m.icode
+        && (if set (fields_of w).m.cnd then tv && words.picks_leaf cv names.f_pc (Name names.M_valE) else words.picks_leaf cv names.f_pc (Name names.M_valA)))) }
+{
+    let carried = b.constant(tv)?;
+    let target = goes_to(b, ctl, carried, signal::HELD_M_VAL_E)?;
+    let next = picks_leaf(
+        b,
+        ctl,
+        signal::F_PC,
+        ExpectedLeaf::This(Leaf::Name(signal::HELD_M_VAL_A)),
+    )?;
+    let falls = spells(b, M_CND, 0)?;
+    let way = choose(b, falls, next, target)?;
+    let here = jump(b, v, M_STAT, M_ICODE)?;
+    let g = b.and(here, way)?;
+    Ok(g)
+}
+
+/// f_pc is where the jump or the ret in M goes.
+fn right_after_m(
+    b: &mut NetBuilder,
+    ctl: &Controls,
+    v: Variant,
+    tv: bool,
+    ret: u64,
+) -> Result<u64, Memory>
+    requires inside { IsInside b.old ctl.now }
+    requires known { IsTrue (has_picks ctl.now names.f_pc) }
+    requires vars { bit_count ≤ b.old.vars }
+    requires ret_in { ret < length b.old.gates }
+    ensures extends { ExtendsNet b.old b.new }
+    ensures has_truth { IfOk result (λ g. IsControlGate b.new ctl.now g (λ w α cv.
+        (stages.is_jump v (fields_of w).m.stat (fields_of w).m.icode
+        && (if set (fields_of w).m.cnd then tv && words.picks_leaf cv names.f_pc (Name names.M_valE) else words.picks_leaf cv names.f_pc (Name names.M_valA)))
+        || (truth b.old ret w && words.picks_leaf cv names.f_pc (Name names.m_valM)))) }
+{
+    let jumped = jump_after_m(b, ctl, v, tv)?;
+    let returned = goes_to(b, ctl, ret, signal::M_VAL_M)?;
+    let g = b.or(jumped, returned)?;
+    Ok(g)
+}
+
+/// f_pc is where the youngest good instruction goes, as far as a stage tells it.
+fn right_pc(
+    b: &mut NetBuilder,
+    ctl: &Controls,
+    v: Variant,
+    s: &Settings,
+    y: &FlowGates,
+) -> Result<u64, Memory>
+    requires inside { IsInside b.old ctl.now }
+    requires known { IsTrue (has_picks ctl.now names.f_pc) }
+    requires vars { bit_count ≤ b.old.vars }
+    requires view { HasFlow (length b.old.gates) y.now }
+    ensures extends { ExtendsNet b.old b.new }
+    ensures has_truth { IfOk result (λ g. IsControlGate b.new ctl.now g (λ w α cv. spec.right_pc v s.now (fields_of w) (flow_at b.old w y.now) (spec.register_controls_of α cv) α cv)) }
+{
+    let never = b.constant(false)?;
+    let e = right_after_e(b, ctl, v)?;
+    let m = right_after_m(b, ctl, v, s.tv, y.m.ret)?;
+    let w = goes_to(b, ctl, y.w.ret, signal::HELD_W_VAL_M)?;
+    let g = of_youngest(b, y, never, e, m, w)?;
+    Ok(g)
+}
+
+/// f_pc is the predicted PC, on the path.
+fn on_path(b: &mut NetBuilder, ctl: &Controls, y: &FlowGates) -> Result<u64, Memory>
+    requires inside { IsInside b.old ctl.now }
+    requires known { IsTrue (has_picks ctl.now names.f_pc) }
+    requires view { HasFlow (length b.old.gates) y.now }
+    ensures extends { ExtendsNet b.old b.new }
+    ensures has_truth { IfOk result (λ g. IsControlGate b.new ctl.now g (λ w α cv. words.picks_leaf cv names.f_pc (Name names.F_predPC) && path (flow_at b.old w y.now))) }
+{
+    let path = path_gate(b, y)?;
+    let ahead = picks_leaf(
+        b,
+        ctl,
+        signal::F_PC,
+        ExpectedLeaf::This(Leaf::Name(signal::HELD_F_PRED_PC)),
+    )?;
+    let g = b.and(ahead, path)?;
+    Ok(g)
+}
+
+/// The fetch is that of the next instruction.
+fn fetch_good(
+    b: &mut NetBuilder,
+    ctl: &Controls,
+    v: Variant,
+    s: &Settings,
+    y: &FlowGates,
+) -> Result<u64, Memory>
+    requires inside { IsInside b.old ctl.now }
+    requires known { IsTrue (has_picks ctl.now names.f_pc) }
+    requires vars { bit_count ≤ b.old.vars }
+    requires view { HasFlow (length b.old.gates) y.now }
+    ensures extends { ExtendsNet b.old b.new }
+    ensures has_truth { IfOk result (λ g. IsControlGate b.new ctl.now g (λ w α cv. spec.fetch_good v s.now (fields_of w) (flow_at b.old w y.now) (spec.register_controls_of α cv) α cv)) }
+{
+    let ahead = on_path(b, ctl, y)?;
+    let right = right_pc(b, ctl, v, s, y)?;
+    let next = b.or(ahead, right)?;
+    let stops = stops_gate(b, y)?;
+    let goes_on = b.not(stops)?;
+    let g = b.and(goes_on, next)?;
+    Ok(g)
+}
+
+/// Obligation 25: the next cycle's view is lawful, has nothing wrong in M and W, and keeps the path.
+pub fn obligation_25(
+    b: &mut NetBuilder,
+    ctl: &Controls,
+    v: Variant,
+    s: &Settings,
+    y: &FlowGates,
+) -> Result<u64, Memory>
+    requires inside { IsInside b.old ctl.now }
+    requires vars { bit_count ≤ b.old.vars }
+    requires view { HasFlow (length b.old.gates) y.now }
+    requires known { Covers pipe_rows ctl.now }
+    ensures extends { ExtendsNet b.old b.new }
+    ensures has_truth { IfOk result (λ g. IsControlGate b.new ctl.now g (λ w α cv. spec.o25 v s.now (fields_of w) (flow_at b.old w y.now) (spec.register_controls_of α cv) α cv)) }
+{
+    let movers = register_controls_of(ctl);
+    let good = fetch_good(b, ctl, v, s, y)?;
+    let facts = fetched_facts(b, ctl, v, s)?;
+    let g = pipe_motion::obligation_25(b, &movers, good, &facts, y, s.je, s.rm)?;
+    Ok(g)
+}

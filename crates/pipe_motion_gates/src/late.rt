@@ -1,0 +1,99 @@
+//! What decides the settings lf, je and rm of a file: each holds where its gate is false at some valuation.
+ghost use Rattle.std.specs.Prelude.{◌<◌, ◌≤◌, ◌==◌, ◌&&◌, not, length, IfOk};
+ghost use Rattle.nets.specs.Nets.{ExtendsNet, IsGate, truth};
+ghost use Rattle.y86_isa.specs.Table.{row};
+ghost use Rattle.y86_isa.specs.RowTests.{stores_val_a};
+ghost use Rattle.pipe_fields.specs.Layout.{bit_count, fields_of};
+ghost use Rattle.pipe_motion.specs.Gates.{flow_at, register_controls_at, HasRegisterControls, HasFlow};
+ghost use Rattle.pipe_motion.specs.Flow.{leaves};
+
+use net_fields::spells;
+use nets::{NetBuilder, without};
+use pipe_fields::places::{D_ICODE, E_DST_M};
+use pipe_gates::{RowTest, row_has};
+use pipe_motion::{FlowGates, RegisterControlsGates, leaves_gate};
+use y86_base::{Memory, Variant};
+
+/// A store stands in D, and a good instruction in E that loads a register.
+#[tactic(auto, unfolding(pipe_fields::specs::Layout::fields_of), using(nets::proofs::Truths::begins_more, nets::proofs::Truths::begins_self))]
+fn store_behind_load(b: &mut NetBuilder, v: Variant, y: &FlowGates) -> Result<u64, Memory>
+    requires vars { bit_count ≤ b.old.vars }
+    requires view { HasFlow (length b.old.gates) y.now }
+    ensures extends { ExtendsNet b.old b.new }
+    ensures has_truth { IfOk result (λ g. IsGate b.new g (λ w.
+        stores_val_a (row v (fields_of w).d.icode).memory && ((flow_at b.old w y.now).e.good && not ((fields_of w).e.dst_m == 15)))) }
+{
+    let stores = row_has(b, v, D_ICODE, RowTest::StoresA)?;
+    let none = spells(b, E_DST_M, 15)?;
+    let loads = without(b, y.e.good, none)?;
+    let g = b.and(stores, loads)?;
+    Ok(g)
+}
+
+/// Not: a good store leaves D past a load in E of its source (`equal`), where all that is early or late is allowed (`plain`).
+pub fn no_late_load(
+    b: &mut NetBuilder,
+    v: Variant,
+    equal: u64,
+    k: &RegisterControlsGates,
+    y: &FlowGates,
+    plain: u64,
+) -> Result<u64, Memory>
+    requires vars { bit_count ≤ b.old.vars }
+    requires view { HasFlow (length b.old.gates) y.now }
+    requires movers { HasRegisterControls (length b.old.gates) k.now }
+    requires equal_in { equal < length b.old.gates }
+    requires plain_in { plain < length b.old.gates }
+    ensures extends { ExtendsNet b.old b.new }
+    ensures has_truth { IfOk result (λ g. IsGate b.new g (λ w.
+        not ((stores_val_a (row v (fields_of w).d.icode).memory && ((flow_at b.old w y.now).e.good && (not ((fields_of w).e.dst_m == 15)
+        && (truth b.old equal w && leaves (register_controls_at b.old w k.now) (flow_at b.old w y.now))))) && truth b.old plain w))) }
+{
+    let pair = store_behind_load(b, v, y)?;
+    let goes = leaves_gate(b, k, y)?;
+    let past = b.and(equal, goes)?;
+    let small = b.and(pair, past)?;
+    let shown = b.and(small, plain)?;
+    let g = b.not(shown)?;
+    Ok(g)
+}
+
+/// Not: E holds a missed jump, and f_pc is where it goes (`right`).
+pub fn no_early_jump(
+    b: &mut NetBuilder,
+    y: &FlowGates,
+    right: u64,
+    plain: u64,
+) -> Result<u64, Memory>
+    requires view { HasFlow (length b.old.gates) y.now }
+    requires right_in { right < length b.old.gates }
+    requires plain_in { plain < length b.old.gates }
+    ensures extends { ExtendsNet b.old b.new }
+    ensures has_truth { IfOk result (λ g. IsGate b.new g (λ w. not (((flow_at b.old w y.now).e.missed && truth b.old right w) && truth b.old plain w))) }
+{
+    let small = b.and(y.e.missed, right)?;
+    let shown = b.and(small, plain)?;
+    let g = b.not(shown)?;
+    Ok(g)
+}
+
+/// Not: M holds a ret that doesn't stop, and f_pc is where it goes (`right`).
+pub fn no_early_ret(
+    b: &mut NetBuilder,
+    y: &FlowGates,
+    right: u64,
+    plain: u64,
+) -> Result<u64, Memory>
+    requires view { HasFlow (length b.old.gates) y.now }
+    requires right_in { right < length b.old.gates }
+    requires plain_in { plain < length b.old.gates }
+    ensures extends { ExtendsNet b.old b.new }
+    ensures has_truth { IfOk result (λ g. IsGate b.new g (λ w.
+        not ((((flow_at b.old w y.now).m.ret && not (flow_at b.old w y.now).m.stops) && truth b.old right w) && truth b.old plain w))) }
+{
+    let runs = without(b, y.m.ret, y.m.stops)?;
+    let small = b.and(runs, right)?;
+    let shown = b.and(small, plain)?;
+    let g = b.not(shown)?;
+    Ok(g)
+}

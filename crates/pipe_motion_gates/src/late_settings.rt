@@ -1,0 +1,164 @@
+//! What shows that a file is early or late: the gates that decide lf, je and rm.
+ghost use Rattle.std.specs.Prelude.{◌≡◌, ◌<◌, ◌≤◌, ◌+◌, ◌&&◌, if◌then◌else◌, IfOk, length, not};
+ghost use Rattle.nets.specs.Nets.{ExtendsNet, truth};
+ghost use Rattle.ctl_atoms.specs.declared.leaf.Leaf.TheVariants.{Name};
+ghost use Rattle.ctl_formula.specs.Picks.{Covers, IsInside};
+ghost use Rattle.y86_base.specs.Words.{set};
+ghost use Rattle.dp_signals.specs.PipeNames as names;
+ghost use Rattle.dp_signals.specs.PipeTable.{pipe_rows};
+ghost use Rattle.ctl_rules.specs.ControlGates.{IsControlGate};
+ghost use Rattle.ctl_rules.specs.ColumnDemands as words;
+ghost use Rattle.pipe_fields.specs.Layout.{bit_count, fields_of};
+ghost use Rattle.pipe_motion.specs.Gates.{HasFlow, IsFlow, flow_at};
+ghost use Rattle.pipe_obligations.specs.Obligations.{register_controls_of};
+ghost use Rattle.pipe_gates.specs.GateTruths.{IsAtomGate, IsTruthGate};
+ghost use Rattle.pipe_obligations.specs.FileSettings.{leaves_past_load, may_witness, permissive, witnesses_je, witnesses_lf, witnesses_rm};
+ghost use Rattle.pipe_obligations.specs.StageFlows.{is_jump, flow_of};
+
+use crate::fetch::right_after_e;
+use crate::late::{no_early_jump, no_early_ret, no_late_load};
+use crate::premises::premise_gate;
+use ctl_atoms::{Atom, Leaf};
+use ctl_formula::Controls;
+use ctl_rules::{ExpectedLeaf, picks_leaf};
+use dp_signals::pipe_row as signal;
+use nets::NetBuilder;
+use pipe_fields::places::E_DST_M;
+use pipe_gates::{flow_gates, register_controls_of};
+use pipe_motion::{FlowGates, Settings};
+use y86_base::{Memory, Variant};
+
+/// Not: a good store leaves D while E loads its source, where a gate holds.
+#[tactic(auto, using(pipe_gates::proofs::Known::known_d_srcA, pipe_motion::proofs::Kept::view_in, ctl_formula::proofs::Inside::inside_more))]
+fn no_load_passed(
+    b: &mut NetBuilder,
+    ctl: &Controls,
+    v: Variant,
+    y: &FlowGates,
+    plain: u64,
+) -> Result<u64, Memory>
+    requires inside { IsInside b.old ctl.now }
+    requires known { Covers pipe_rows ctl.now }
+    requires vars { bit_count ≤ b.old.vars }
+    requires view { HasFlow (length b.old.gates) y.now }
+    requires plain_in { plain < length b.old.gates }
+    ensures extends { ExtendsNet b.old b.new }
+    ensures has_truth { IfOk result (λ g. IsControlGate b.new ctl.now g (λ w α cv.
+        not (leaves_past_load v (fields_of w) (flow_at b.old w y.now) (register_controls_of α cv) cv && truth b.old plain w))) }
+{
+    let movers = register_controls_of(ctl);
+    let equal = picks_leaf(b, ctl, signal::D_SRC_A, ExpectedLeaf::Field(E_DST_M))?;
+    let g = no_late_load(b, v, equal, &movers, y, plain)?;
+    Ok(g)
+}
+
+/// Not: E holds a missed jump, and f_pc is where it goes, where a gate holds.
+#[tactic(auto, using(pipe_gates::proofs::Known::known_f_pc, pipe_motion::proofs::Kept::view_in, ctl_formula::proofs::Inside::inside_more))]
+fn no_jump_early(
+    b: &mut NetBuilder,
+    ctl: &Controls,
+    v: Variant,
+    y: &FlowGates,
+    plain: u64,
+) -> Result<u64, Memory>
+    requires inside { IsInside b.old ctl.now }
+    requires known { Covers pipe_rows ctl.now }
+    requires vars { bit_count ≤ b.old.vars }
+    requires view { HasFlow (length b.old.gates) y.now }
+    requires plain_in { plain < length b.old.gates }
+    ensures extends { ExtendsNet b.old b.new }
+    ensures has_truth { IfOk result (λ g. IsControlGate b.new ctl.now g (λ w α cv.
+        not (((flow_at b.old w y.now).e.missed && (is_jump v (fields_of w).e.stat (fields_of w).e.icode
+        && words.picks_leaf cv names.f_pc (if set (fields_of w).e.cnd then Name names.E_valC else Name names.E_valA))) && truth b.old plain w))) }
+{
+    let right = right_after_e(b, ctl, v)?;
+    let g = no_early_jump(b, y, right, plain)?;
+    Ok(g)
+}
+
+/// Not: M holds a ret that doesn't stop, and f_pc is where it goes, where a gate holds.
+#[tactic(auto, using(pipe_gates::proofs::Known::known_f_pc, pipe_motion::proofs::Kept::view_in, ctl_formula::proofs::Inside::inside_more))]
+fn no_ret_early(
+    b: &mut NetBuilder,
+    ctl: &Controls,
+    y: &FlowGates,
+    plain: u64,
+) -> Result<u64, Memory>
+    requires inside { IsInside b.old ctl.now }
+    requires known { Covers pipe_rows ctl.now }
+    requires view { HasFlow (length b.old.gates) y.now }
+    requires plain_in { plain < length b.old.gates }
+    ensures extends { ExtendsNet b.old b.new }
+    ensures has_truth { IfOk result (λ g. IsControlGate b.new ctl.now g (λ w α cv.
+        not ((((flow_at b.old w y.now).m.ret && not (flow_at b.old w y.now).m.stops) && words.picks_leaf cv names.f_pc (Name names.m_valM)) && truth b.old plain w))) }
+{
+    let right = picks_leaf(
+        b,
+        ctl,
+        signal::F_PC,
+        ExpectedLeaf::This(Leaf::Name(signal::M_VAL_M)),
+    )?;
+    let g = no_early_ret(b, y, right, plain)?;
+    Ok(g)
+}
+
+/// What stands in the stages, and the valuations that may show a setting.
+#[derive(Clone, Copy, Debug)]
+struct PermissiveFlow {
+    view: FlowGates,
+    plain: u64,
+}
+
+/// The valuations that may show a setting: legal ones of cycles that go on, where all that is early or late is allowed.
+fn permissive_legal(
+    b: &mut NetBuilder,
+    v: Variant,
+    s: &Settings,
+    atoms: &[Atom],
+) -> Result<PermissiveFlow, Memory>
+    requires vars { bit_count + length atoms.now ≤ b.old.vars }
+    requires few { length atoms.now ≤ 64 }
+    requires free { permissive s.now ≡ s.now }
+    ensures extends { ExtendsNet b.old b.new }
+    ensures view { IfOk result (λ r. IsFlow b.new r.view (λ w. flow_of v s.now (fields_of w))) }
+    ensures plain { IfOk result (λ r. IsAtomGate b.new atoms.now r.plain (λ w α. may_witness v s.now atoms.now (fields_of w) α)) }
+{
+    let view = flow_gates(b, v, s)?;
+    let plain = premise_gate(b, v, s, atoms, &view, false)?;
+    Ok(PermissiveFlow { view, plain })
+}
+
+/// The gates that decide lf, je and rm: each setting holds where its gate is false at some valuation.
+#[derive(Clone, Copy, Debug, PartialEq, Eq)]
+pub struct Late {
+    pub lf: u64,
+    pub je: u64,
+    pub rm: u64,
+}
+
+/// The gates that decide lf, je and rm, each false of the valuations that show it. The settings are those with all that is
+/// early or late allowed.
+#[tactic(auto, using(pipe_motion::proofs::Kept::view_in, ctl_formula::proofs::Inside::inside_more, nets::proofs::Truths::begins_more))]
+pub fn late_gates(
+    b: &mut NetBuilder,
+    ctl: &Controls,
+    v: Variant,
+    s: &Settings,
+    atoms: &[Atom],
+) -> Result<Late, Memory>
+    requires inside { IsInside b.old ctl.now }
+    requires known { Covers pipe_rows ctl.now }
+    requires vars { bit_count + length atoms.now ≤ b.old.vars }
+    requires few { length atoms.now ≤ 64 }
+    requires free { permissive s.now ≡ s.now }
+    ensures extends { ExtendsNet b.old b.new }
+    ensures late { IfOk result (λ r. IsTruthGate b.new ctl.now atoms.now r.lf (λ c α cv. not (witnesses_lf v s.now atoms.now c α cv))) }
+    ensures jump { IfOk result (λ r. IsTruthGate b.new ctl.now atoms.now r.je (λ c α cv. not (witnesses_je v s.now atoms.now c α cv))) }
+    ensures ret { IfOk result (λ r. IsTruthGate b.new ctl.now atoms.now r.rm (λ c α cv. not (witnesses_rm v s.now atoms.now c α cv))) }
+{
+    let p = permissive_legal(b, v, s, atoms)?;
+    let lf = no_load_passed(b, ctl, v, &p.view, p.plain)?;
+    let je = no_jump_early(b, ctl, v, &p.view, p.plain)?;
+    let rm = no_ret_early(b, ctl, &p.view, p.plain)?;
+    Ok(Late { lf, je, rm })
+}

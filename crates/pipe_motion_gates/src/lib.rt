@@ -1,0 +1,15 @@
+//! Gates of what PIPE's valuations are asked of and how its instructions move: which valuations are legal, obligations 23 to
+//! 27, and what shows that a file is early or late.
+#![tactic(auto, using(nets::proofs::Truths::begins_more, nets::proofs::Truths::begins_self))]
+
+mod fetch;
+mod late;
+mod late_settings;
+mod legality;
+mod motion;
+mod premises;
+
+pub use fetch::obligation_25;
+pub use late_settings::{Late, late_gates};
+pub use motion::{obligation_23, obligation_24, obligation_26, obligation_27};
+pub use premises::{is_always_demanded, prediction_premise, premise_gate};

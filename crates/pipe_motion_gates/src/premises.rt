@@ -1,0 +1,119 @@
+//! Gates of the premises: which valuations each obligation is asked of.
+ghost use Rattle.std.specs.Prelude.{◌≡◌, ◌≤◌, ◌+◌, ◌==◌, ◌||◌, ◌&&◌, not, length, IfOk};
+ghost use Rattle.nets.specs.Nets.{ExtendsNet, IsGate, agree};
+ghost use Rattle.y86_base.specs.Words.{set};
+ghost use Rattle.pipe_fields.specs.Layout.{bit_count, fields_of};
+ghost use Rattle.pipe_fields.specs.Allowed.{allowed};
+ghost use Rattle.pipe_motion.specs.Gates.{flow_at, HasFlow, IsFlow};
+ghost use Rattle.pipe_gates.specs.GateTruths.{IsAtomGate};
+ghost use Rattle.pipe_motion_gates.specs.Legality as built;
+ghost use Rattle.pipe_obligations.specs.StageFlows as spec;
+ghost use Rattle.pipe_obligations.specs.Rules as rules;
+
+use crate::legality::{back_matches_in_f, fetched_jump, legal_gate, stopping_gate};
+use ctl_atoms::Atom;
+use net_fields::spells;
+use nets::{NetBuilder, without};
+use pipe_fields::places::{F_BACK, F_IFUN};
+use pipe_motion::{FlowGates, Settings};
+use y86_base::{Memory, Variant};
+
+/// The valuation is allowed and legal, in a cycle that doesn't stop, or (`always`) in any.
+pub fn demanded_gate(
+    b: &mut NetBuilder,
+    v: Variant,
+    tv: bool,
+    lf: bool,
+    je: bool,
+    rm: bool,
+    atoms: &[Atom],
+    y: &FlowGates,
+    always: bool,
+) -> Result<u64, Memory>
+    requires vars { bit_count + length atoms.now ≤ b.old.vars }
+    requires few { length atoms.now ≤ 64 }
+    requires view { HasFlow (length b.old.gates) y.now }
+    ensures extends { ExtendsNet b.old b.new }
+    ensures has_truth { IfOk result (λ g. IsAtomGate b.new atoms.now g (λ w α. allowed v (fields_of w)
+        && (built.legal_with v tv lf je rm atoms.now (fields_of w) (flow_at b.old w y.now) α && (always || not (spec.is_stopping (fields_of w)))))) }
+{
+    let legal = legal_gate(b, v, tv, lf, je, rm, atoms, y)?;
+    let fits = pipe_fields::allowed(b, v)?;
+    let both = b.and(fits, legal)?;
+    if always {
+        return Ok(both);
+    }
+    let stopping = stopping_gate(b)?;
+    let g = without(b, both, stopping)?;
+    Ok(g)
+}
+
+/// An allowed and legal valuation at settings, in a cycle that goes on, or (`always`) in any.
+pub fn premise_gate(
+    b: &mut NetBuilder,
+    v: Variant,
+    s: &Settings,
+    atoms: &[Atom],
+    y: &FlowGates,
+    always: bool,
+) -> Result<u64, Memory>
+    requires vars { bit_count + length atoms.now ≤ b.old.vars }
+    requires few { length atoms.now ≤ 64 }
+    requires view { IsFlow b.old y.now (λ w. spec.flow_of v s.now (fields_of w)) }
+    ensures extends { ExtendsNet b.old b.new }
+    ensures has_truth { IfOk result (λ g. IsAtomGate b.new atoms.now g (λ w α. built.premise_when v s.now atoms.now always (fields_of w) α)) }
+{
+    let g = demanded_gate(b, v, s.tv, s.lf, s.je, s.rm, atoms, y, always)?;
+    Ok(g)
+}
+
+/// A jump of this ifun that goes back or not is fetched.
+#[tactic(auto, unfolding(pipe_fields::specs::Layout::fields_of), using(nets::proofs::Truths::begins_more, nets::proofs::Truths::begins_self))]
+fn jump_of(b: &mut NetBuilder, v: Variant, ifun: u64, back: bool) -> Result<u64, Memory>
+    requires { bit_count ≤ b.old.vars }
+    ensures extends { ExtendsNet b.old b.new }
+    ensures has_truth { IfOk result (λ g. IsGate b.new g (λ w. spec.fetched_jump v (fields_of w) && ((fields_of w).f.ifun == ifun && agree back (set (fields_of w).f.back)))) }
+{
+    let jump = fetched_jump(b, v)?;
+    let named = spells(b, F_IFUN, ifun)?;
+    let here = b.and(jump, named)?;
+    let clear = spells(b, F_BACK, 0)?;
+    if back {
+        let g = without(b, here, clear)?;
+        Ok(g)
+    } else {
+        let g = b.and(here, clear)?;
+        Ok(g)
+    }
+}
+
+/// The valuations of which a prediction is asked: allowed ones (`fits` is their gate), where such a jump is fetched and its atom
+/// is its back bit.
+pub fn prediction_premise(
+    b: &mut NetBuilder,
+    v: Variant,
+    atoms: &[Atom],
+    fits: u64,
+    ifun: u64,
+    back: bool,
+) -> Result<u64, Memory>
+    requires vars { bit_count + length atoms.now ≤ b.old.vars }
+    requires few { length atoms.now ≤ 64 }
+    requires fits { IsGate b.old fits (λ w. allowed v (fields_of w)) }
+    ensures extends { ExtendsNet b.old b.new }
+    ensures has_truth { IfOk result (λ g. IsAtomGate b.new atoms.now g (λ w α. allowed v (fields_of w) && (spec.fetched_jump v (fields_of w)
+        && ((fields_of w).f.ifun == ifun && (agree back (set (fields_of w).f.back) && spec.back_matches_in_f v atoms.now (fields_of w) α))))) }
+{
+    let jump = jump_of(b, v, ifun, back)?;
+    let told = back_matches_in_f(b, v, atoms)?;
+    let here = b.and(jump, told)?;
+    let g = b.and(fits, here)?;
+    Ok(g)
+}
+
+/// The flags, memory and the status are asked of in cycles that stop too.
+pub fn is_always_demanded(number: u64) -> bool
+    ensures { result ≡ rules.is_always_demanded number }
+{
+    number == 15 || number == 19 || number == 22
+}

@@ -1,3 +1,0 @@
-pub mod RunsTo
-pub mod Ends
-pub mod BothWays

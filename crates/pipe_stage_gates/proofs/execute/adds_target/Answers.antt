@@ -1,0 +1,18 @@
+use Rattle.std.proofs.Common.{◌&&◌, refl}
+use Rattle.ctl_rules.proofs.Kept.{asked_as, asked_more, asked_two}
+use Rattle.nets.proofs.Truths.{begins_more}
+use Rattle.ctl_formula.proofs.Inside.{inside_more}
+use Rattle.pipe_fields.specs.Layout.{fields_of}
+use Rattle.pipe_stage_gates.proofs.execute.adds_target.Goals as goal
+
+pub returns-clause-has_truth : goal.returns-clause-has_truth
+unfolding fields_of
+returns-clause-has_truth c =
+    let i1 = inside_more c.picks_leaf.ensures.extends c.requires.inside in
+    let i2 = inside_more c.picks_leaf-2.ensures.extends i1 in
+    let i3 = inside_more c.picks_leaf-3.ensures.extends i2 in
+    let rest = asked_two (λ w x y. x && y) c.and.ensures.extends i3 (asked_more c.picks_leaf-3.ensures.extends i2 c.in_ok-zero.ensures.has_truth) c.in_ok-adds.ensures.has_truth c.in_ok-rest.ensures.has_truth in
+    let up = begins_more c.picks_leaf-2.ensures.extends (begins_more c.picks_leaf-3.ensures.extends c.and.ensures.extends) in
+    asked_as
+    (asked_two (λ w x y. x && y) c.and-2.ensures.extends (inside_more c.and.ensures.extends i3) (asked_more up i1 c.in_ok-target.ensures.has_truth) rest c.in_ok-g.ensures.has_truth)
+    (λ w α cv. refl)

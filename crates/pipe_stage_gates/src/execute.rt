@@ -1,0 +1,319 @@
+//! What is asked of the execute stage: obligations 12 to 17, and the jump's target. `good` is the gate that E holds a good
+//! instruction.
+#![tactic(auto, using(nets::proofs::Truths::begins_more, ctl_formula::proofs::Inside::inside_more, crate::proofs::Joined::ready_more), unfolding(pipe_fields::specs::Layout::fields_of))]
+
+ghost use Rattle.std.specs.Prelude.{◌≡◌, ◌<◌, ◌≤◌, ◌+◌, ◌==◌, ◌&&◌, ◌||◌, not, if◌then◌else◌, length, IfOk, IsTrue};
+ghost use Rattle.nets.specs.Nets.{ExtendsNet, IsGate, truth};
+ghost use Rattle.ctl_atoms.specs.declared.leaf.Leaf.TheVariants.{Name};
+ghost use Rattle.ctl_formula.specs.Picks.{IsInside, has_gate, has_picks};
+ghost use Rattle.dp_signals.specs.PipeNames as names;
+ghost use Rattle.y86_base.specs.Words.{set};
+ghost use Rattle.net_fields.specs.Spelling.{spelt};
+ghost use Rattle.pipe_gates.specs.Columns.{has};
+ghost use Rattle.pipe_stage_gates.specs.Signals.{IsReady, demand_of_row};
+ghost use Rattle.pipe_obligations.specs.StageFlows.{is_jump};
+ghost use Rattle.pipe_fields.specs.Layout.{bit_count, fields_of};
+ghost use Rattle.ctl_rules.specs.ControlGates.{IsControlGate};
+ghost use Rattle.ctl_rules.specs.ColumnDemands as words;
+ghost use Rattle.y86_isa.specs.Blocks.{alu_function, destination_e};
+ghost use Rattle.y86_isa.specs.RowTests.{select_a_is_val_a, select_a_is_val_p, has_operand_a, stores_val_a};
+ghost use Rattle.y86_isa.specs.Table.{row};
+
+use crate::row_rules::RowRule;
+use ctl_formula::{Controls, Leaf};
+use ctl_rules::{ExpectedLeaf, by_icode, picks_leaf, picks_leaf_if};
+use dp_signals::pipe_row as signal;
+use hcl_types::NameId;
+use net_fields::{BitRange, same, spells};
+use nets::{NetBuilder, implies};
+use pipe_fields::places::{E_CND, E_DST_E, E_ICODE, E_SRC_A, E_STAT, M_DST_M};
+use pipe_gates::{RowTest, row_has};
+use y86_base::{Memory, Variant};
+
+/// The good instruction in E goes on.
+fn works(b: &mut NetBuilder, good: u64) -> Result<u64, Memory>
+    requires vars { bit_count ≤ b.old.vars }
+    requires good { good < length b.old.gates }
+    ensures extends { ExtendsNet b.old b.new }
+    ensures has_truth { IfOk result (λ g. IsGate b.new g (λ w. truth b.old good w && (fields_of w).e.stat == 1)) }
+{
+    let fine = spells(b, E_STAT, 1)?;
+    let g = b.and(good, fine)?;
+    Ok(g)
+}
+
+/// What a row asks of E, of a good instruction that goes on.
+pub fn demand_in_e(
+    b: &mut NetBuilder,
+    ctl: &Controls,
+    v: Variant,
+    good: u64,
+    rule: RowRule,
+) -> Result<u64, Memory>
+    requires inside { IsInside b.old ctl.now }
+    requires ready { IsReady b.old.vars ctl.now }
+    requires good { good < length b.old.gates }
+    ensures extends { ExtendsNet b.old b.new }
+    ensures has_truth { IfOk result (λ g. IsControlGate b.new ctl.now g (λ w α cv.
+        not (truth b.old good w && (fields_of w).e.stat == 1) || demand_of_row rule (row v (fields_of w).e.icode) (fields_of w) cv)) }
+{
+    let works = works(b, good)?;
+    let asked = by_icode(b, ctl, v, E_ICODE, &rule)?;
+    let g = implies(b, works, asked)?;
+    Ok(g)
+}
+
+/// Obligation 14: the function of the ALU, where it is used.
+pub fn obligation_14(
+    b: &mut NetBuilder,
+    ctl: &Controls,
+    v: Variant,
+    good: u64,
+) -> Result<u64, Memory>
+    requires inside { IsInside b.old ctl.now }
+    requires ready { IsReady b.old.vars ctl.now }
+    requires good { good < length b.old.gates }
+    ensures extends { ExtendsNet b.old b.new }
+    ensures has_truth { IfOk result (λ g. IsControlGate b.new ctl.now g (λ w α cv.
+        not ((truth b.old good w && (fields_of w).e.stat == 1) && has_operand_a (row v (fields_of w).e.icode).alu_a) || words.is_number cv names.alufun (alu_function (row v (fields_of w).e.icode).selects (fields_of w).e.ifun))) }
+{
+    let g = demand_in_e(b, ctl, v, good, RowRule::Function)?;
+    Ok(g)
+}
+
+/// The signal is true exactly where the gate is, and the row of the icode passes the test.
+pub fn truth_where(
+    b: &mut NetBuilder,
+    ctl: &Controls,
+    v: Variant,
+    good: u64,
+    icode: BitRange,
+    test: RowTest,
+    name: NameId,
+) -> Result<u64, Memory>
+    requires inside { IsInside b.old ctl.now }
+    requires known { IsTrue (has_gate ctl.now name) }
+    requires good { good < length b.old.gates }
+    requires place { icode.first + icode.bits ≤ b.old.vars }
+    requires bits { icode.bits ≡ 4 }
+    ensures extends { ExtendsNet b.old b.new }
+    ensures has_truth { IfOk result (λ g. IsControlGate b.new ctl.now g (λ w α cv.
+        words.is_truth α cv name (truth b.old good w && has v test (spelt w icode.first icode.bits)))) }
+{
+    let passed = row_has(b, v, icode, test)?;
+    let want = b.and(good, passed)?;
+    let told = ctl.truth(name);
+    let g = b.equal(want, told)?;
+    Ok(g)
+}
+
+/// Obligation 15: the flags are set by a good instruction that goes on and sets them.
+pub fn obligation_15(
+    b: &mut NetBuilder,
+    ctl: &Controls,
+    v: Variant,
+    good: u64,
+) -> Result<u64, Memory>
+    requires inside { IsInside b.old ctl.now }
+    requires ready { IsReady b.old.vars ctl.now }
+    requires good { good < length b.old.gates }
+    ensures extends { ExtendsNet b.old b.new }
+    ensures has_truth { IfOk result (λ g. IsControlGate b.new ctl.now g (λ w α cv.
+        words.is_truth α cv names.set_cc ((truth b.old good w && (fields_of w).e.stat == 1) && (row v (fields_of w).e.icode).sets_flags))) }
+{
+    let works = works(b, good)?;
+    let g = truth_where(
+        b,
+        ctl,
+        v,
+        works,
+        E_ICODE,
+        RowTest::SetsFlags,
+        signal::SET_CC,
+    )?;
+    Ok(g)
+}
+
+/// A good instruction carries valA, or valP in its place, on to M.
+fn alu_passes_target(b: &mut NetBuilder, v: Variant, good: u64) -> Result<u64, Memory>
+    requires vars { bit_count ≤ b.old.vars }
+    requires good { good < length b.old.gates }
+    ensures extends { ExtendsNet b.old b.new }
+    ensures has_truth { IfOk result (λ g. IsGate b.new g (λ w. truth b.old good w && (select_a_is_val_a (row v (fields_of w).e.icode) || select_a_is_val_p (row v (fields_of w).e.icode)))) }
+{
+    let own = row_has(b, v, E_ICODE, RowTest::CarriesA)?;
+    let next = row_has(b, v, E_ICODE, RowTest::CarriesP)?;
+    let any = b.or(own, next)?;
+    let g = b.and(good, any)?;
+    Ok(g)
+}
+
+/// What E stores is what M loads, where M holds a good instruction.
+fn stores_loaded(b: &mut NetBuilder, v: Variant, loads: u64) -> Result<u64, Memory>
+    requires vars { bit_count ≤ b.old.vars }
+    requires loads { loads < length b.old.gates }
+    ensures extends { ExtendsNet b.old b.new }
+    ensures has_truth { IfOk result (λ g. IsGate b.new g (λ w. stores_val_a (row v (fields_of w).e.icode).memory && (truth b.old loads w && (fields_of w).m.dst_m == (fields_of w).e.src_a))) }
+{
+    let stores = row_has(b, v, E_ICODE, RowTest::StoresA)?;
+    let one = same(b, M_DST_M, E_SRC_A)?;
+    let both = b.and(loads, one)?;
+    let g = b.and(stores, both)?;
+    Ok(g)
+}
+
+/// With load forwarding, a store takes the word that it stores from the load in M.
+fn word_comes_late(b: &mut NetBuilder, lf: bool, v: Variant, loads: u64) -> Result<u64, Memory>
+    requires vars { bit_count ≤ b.old.vars }
+    requires loads { loads < length b.old.gates }
+    ensures extends { ExtendsNet b.old b.new }
+    ensures has_truth { IfOk result (λ g. IsGate b.new g (λ w. lf && (stores_val_a (row v (fields_of w).e.icode).memory && (truth b.old loads w && (fields_of w).m.dst_m == (fields_of w).e.src_a)))) }
+{
+    if lf {
+        let g = stores_loaded(b, v, loads)?;
+        Ok(g)
+    } else {
+        let never = b.constant(false)?;
+        Ok(never)
+    }
+}
+
+/// Obligation 16: e_valA is the value that the instruction carries on to M.
+pub fn obligation_16(
+    b: &mut NetBuilder,
+    ctl: &Controls,
+    lf: bool,
+    v: Variant,
+    good: u64,
+    loads: u64,
+) -> Result<u64, Memory>
+    requires inside { IsInside b.old ctl.now }
+    requires ready { IsReady b.old.vars ctl.now }
+    requires good { good < length b.old.gates }
+    requires loads { loads < length b.old.gates }
+    ensures extends { ExtendsNet b.old b.new }
+    ensures has_truth { IfOk result (λ g. IsControlGate b.new ctl.now g (λ w α cv.
+        not (truth b.old good w && (select_a_is_val_a (row v (fields_of w).e.icode) || select_a_is_val_p (row v (fields_of w).e.icode)))
+        || words.picks_leaf cv names.e_valA (if lf && (stores_val_a (row v (fields_of w).e.icode).memory && (truth b.old loads w && (fields_of w).m.dst_m == (fields_of w).e.src_a)) then Name names.m_valM else Name names.E_valA))) }
+{
+    let late = word_comes_late(b, lf, v, loads)?;
+    let taken = picks_leaf_if(
+        b,
+        ctl,
+        signal::E_VAL_A,
+        late,
+        ExpectedLeaf::This(Leaf::Name(signal::M_VAL_M)),
+        ExpectedLeaf::This(Leaf::Name(signal::HELD_E_VAL_A)),
+    )?;
+    let carried = alu_passes_target(b, v, good)?;
+    let g = implies(b, carried, taken)?;
+    Ok(g)
+}
+
+/// The condition of the move in E does not hold.
+fn loses(b: &mut NetBuilder, v: Variant) -> Result<u64, Memory>
+    requires vars { bit_count ≤ b.old.vars }
+    ensures extends { ExtendsNet b.old b.new }
+    ensures has_truth { IfOk result (λ g. IsGate b.new g (λ w. (row v (fields_of w).e.icode).conditional && (fields_of w).e.cnd == 0)) }
+{
+    let conditional = row_has(b, v, E_ICODE, RowTest::Conditional)?;
+    let fails = spells(b, E_CND, 0)?;
+    let g = b.and(conditional, fails)?;
+    Ok(g)
+}
+
+/// The signal is E's destination after the condition.
+pub fn late_destination_is(
+    b: &mut NetBuilder,
+    ctl: &Controls,
+    v: Variant,
+    name: NameId,
+) -> Result<u64, Memory>
+    requires inside { IsInside b.old ctl.now }
+    requires vars { bit_count ≤ b.old.vars }
+    requires known { IsTrue (has_picks ctl.now name) }
+    ensures extends { ExtendsNet b.old b.new }
+    ensures has_truth { IfOk result (λ g. IsControlGate b.new ctl.now g (λ w α cv.
+        words.is_number cv name (destination_e (row v (fields_of w).e.icode).conditional (set (fields_of w).e.cnd) (fields_of w).e.dst_e))) }
+{
+    let lost = loses(b, v)?;
+    let g = picks_leaf_if(
+        b,
+        ctl,
+        name,
+        lost,
+        ExpectedLeaf::This(Leaf::Number(15)),
+        ExpectedLeaf::Field(E_DST_E),
+    )?;
+    Ok(g)
+}
+
+/// Obligation 17: unless E holds a wrong instruction, e_dstE is E's destination after the condition.
+pub fn obligation_17(
+    b: &mut NetBuilder,
+    ctl: &Controls,
+    v: Variant,
+    wrong: u64,
+) -> Result<u64, Memory>
+    requires inside { IsInside b.old ctl.now }
+    requires ready { IsReady b.old.vars ctl.now }
+    requires wrong { wrong < length b.old.gates }
+    ensures extends { ExtendsNet b.old b.new }
+    ensures has_truth { IfOk result (λ g. IsControlGate b.new ctl.now g (λ w α cv.
+        truth b.old wrong w || words.is_number cv names.e_dstE (destination_e (row v (fields_of w).e.icode).conditional (set (fields_of w).e.cnd) (fields_of w).e.dst_e))) }
+{
+    let told = late_destination_is(b, ctl, v, signal::E_DST_E)?;
+    let g = b.or(wrong, told)?;
+    Ok(g)
+}
+
+/// E holds a good jump that goes on.
+fn jumps(b: &mut NetBuilder, v: Variant, good: u64) -> Result<u64, Memory>
+    requires vars { bit_count ≤ b.old.vars }
+    requires good { good < length b.old.gates }
+    ensures extends { ExtendsNet b.old b.new }
+    ensures has_truth { IfOk result (λ g. IsGate b.new g (λ w. truth b.old good w && is_jump v (fields_of w).e.stat (fields_of w).e.icode)) }
+{
+    let fine = spells(b, E_STAT, 1)?;
+    let branch = row_has(b, v, E_ICODE, RowTest::Jump)?;
+    let jump = b.and(fine, branch)?;
+    let g = b.and(good, jump)?;
+    Ok(g)
+}
+
+/// The ALU adds 0 to E_valC.
+fn adds_target(b: &mut NetBuilder, ctl: &Controls) -> Result<u64, Memory>
+    requires inside { IsInside b.old ctl.now }
+    requires ready { IsReady b.old.vars ctl.now }
+    ensures extends { ExtendsNet b.old b.new }
+    ensures has_truth { IfOk result (λ g. IsControlGate b.new ctl.now g (λ w α cv.
+        words.picks_leaf cv names.aluA (Name names.E_valC) && (words.is_number cv names.aluB 0 && words.is_number cv names.alufun 0))) }
+{
+    let target = picks_leaf(
+        b,
+        ctl,
+        signal::ALU_A,
+        ExpectedLeaf::This(Leaf::Name(signal::HELD_E_VAL_C)),
+    )?;
+    let zero = picks_leaf(b, ctl, signal::ALU_B, ExpectedLeaf::This(Leaf::Number(0)))?;
+    let adds = picks_leaf(b, ctl, signal::ALUFUN, ExpectedLeaf::This(Leaf::Number(0)))?;
+    let rest = b.and(zero, adds)?;
+    let g = b.and(target, rest)?;
+    Ok(g)
+}
+
+/// A jump in E carries its target through the ALU.
+pub fn target_gate(b: &mut NetBuilder, ctl: &Controls, v: Variant, good: u64) -> Result<u64, Memory>
+    requires inside { IsInside b.old ctl.now }
+    requires ready { IsReady b.old.vars ctl.now }
+    requires good { good < length b.old.gates }
+    ensures extends { ExtendsNet b.old b.new }
+    ensures has_truth { IfOk result (λ g. IsControlGate b.new ctl.now g (λ w α cv.
+        not (truth b.old good w && is_jump v (fields_of w).e.stat (fields_of w).e.icode)
+        || (words.picks_leaf cv names.aluA (Name names.E_valC) && (words.is_number cv names.aluB 0 && words.is_number cv names.alufun 0)))) }
+{
+    let jump = jumps(b, v, good)?;
+    let told = adds_target(b, ctl)?;
+    let g = implies(b, jump, told)?;
+    Ok(g)
+}

@@ -1,0 +1,239 @@
+//! What is asked of fetch and decode, whatever stands in the stages: obligations 1 to 9.
+#![tactic(auto, using(nets::proofs::Truths::begins_more, ctl_formula::proofs::Inside::inside_more), unfolding(pipe_fields::specs::Layout::fields_of))]
+
+ghost use Rattle.std.specs.Prelude.{◌<◌, ◌≤◌, ◌&&◌, ◌||◌, not, IfOk};
+ghost use Rattle.nets.specs.Nets.{ExtendsNet, IsGate};
+ghost use Rattle.ctl_formula.specs.Picks.{IsInside};
+ghost use Rattle.dp_signals.specs.PipeNames as names;
+ghost use Rattle.y86_base.specs.Words.{set};
+ghost use Rattle.pipe_stage_gates.specs.Fronts.{IsFrontReady, demand_in_front};
+ghost use Rattle.pipe_obligations.specs.Obligations.{predicted_leaf};
+ghost use Rattle.pipe_fields.specs.Layout.{bit_count, fields_of};
+ghost use Rattle.pipe_motion.specs.Predictions.{predicts};
+ghost use Rattle.ctl_rules.specs.ControlGates.{IsControlGate};
+ghost use Rattle.ctl_rules.specs.ColumnDemands as words;
+ghost use Rattle.y86_isa.specs.Table.{dash_row, row};
+ghost use Rattle.y86_isa.specs.declared.columns.NextPcColumn.TheVariants as way;
+ghost use Rattle.pipe_stage_gates.specs.declared.front.FrontRule.TheVariants as kind;
+
+use ctl_formula::{Controls, Leaf};
+use ctl_rules::{
+    ExpectedLeaf, RowGates, by_icode, is_truth, picks_leaf, picks_leaf_if, picks_some_leaf,
+    register_is, status_is,
+};
+use dp_signals::pipe_row as signal;
+use net_fields::spells;
+use nets::{NetBuilder, choose};
+use pipe_fields::places::{D_ICODE, D_R_A, D_R_B, F_BACK, F_ERROR, F_ICODE, F_IFUN};
+use pipe_gates::listed;
+use pipe_motion::Settings;
+use y86_base::{Memory, Variant};
+use y86_isa::{NextPcColumn, Row};
+
+/// What is asked by an icode and its row: of f_stat, need_regids, need_valC and f_predPC for what is fetched, and of d_srcA,
+/// d_srcB, d_dstE and d_dstM for what stands in D.
+#[derive(Clone, Copy, Debug, PartialEq, Eq)]
+pub enum FrontRule {
+    Status,
+    RegisterByte,
+    Constant,
+    Predicted(Settings),
+    SourceA,
+    SourceB,
+    DestinationE,
+    DestinationM,
+}
+
+/// A jump of this ifun and back bit is predicted as taken.
+fn predicted(b: &mut NetBuilder, s: &Settings) -> Result<u64, Memory>
+    requires { bit_count ≤ b.old.vars }
+    ensures extends { ExtendsNet b.old b.new }
+    ensures has_truth { IfOk result (λ g. IsGate b.new g (λ w. predicts s.now (fields_of w).f.ifun (set (fields_of w).f.back))) }
+{
+    let forward = listed(b, &s.pt, F_IFUN)?;
+    let backward = listed(b, &s.pb, F_IFUN)?;
+    let ahead = spells(b, F_BACK, 0)?;
+    let g = choose(b, ahead, forward, backward)?;
+    Ok(g)
+}
+
+/// f_predPC is the target of a jump that is predicted as taken, and what stands behind any other.
+fn jump_predicted(b: &mut NetBuilder, ctl: &Controls, s: &Settings) -> Result<u64, Memory>
+    requires inside { IsInside b.old ctl.now }
+    requires ready { IsFrontReady b.old.vars ctl.now }
+    ensures extends { ExtendsNet b.old b.new }
+    ensures has_truth { IfOk result (λ g. IsControlGate b.new ctl.now g (λ w α cv.
+        words.picks_some_leaf cv names.f_predPC (predicted_leaf way.Branch (predicts s.now (fields_of w).f.ifun (set (fields_of w).f.back))))) }
+{
+    let taken = predicted(b, s)?;
+    let g = picks_leaf_if(
+        b,
+        ctl,
+        signal::F_PRED_PC,
+        taken,
+        ExpectedLeaf::This(Leaf::Name(signal::F_VAL_C)),
+        ExpectedLeaf::This(Leaf::Name(signal::F_VAL_P)),
+    )?;
+    Ok(g)
+}
+
+/// f_predPC is the PC that the row predicts, if it predicts one.
+fn next_predicted(
+    b: &mut NetBuilder,
+    ctl: &Controls,
+    s: &Settings,
+    next: NextPcColumn,
+) -> Result<u64, Memory>
+    requires inside { IsInside b.old ctl.now }
+    requires ready { IsFrontReady b.old.vars ctl.now }
+    ensures extends { ExtendsNet b.old b.new }
+    ensures has_truth { IfOk result (λ g. IsControlGate b.new ctl.now g (λ w α cv.
+        words.picks_some_leaf cv names.f_predPC (predicted_leaf next (predicts s.now (fields_of w).f.ifun (set (fields_of w).f.back))))) }
+{
+    match next {
+        NextPcColumn::Itself => picks_some_leaf(b, ctl, signal::F_PRED_PC, None),
+        NextPcColumn::Fall => picks_some_leaf(
+            b,
+            ctl,
+            signal::F_PRED_PC,
+            Some(Leaf::Name(signal::F_VAL_P)),
+        ),
+        NextPcColumn::Branch => jump_predicted(b, ctl, s),
+        NextPcColumn::Target => picks_some_leaf(
+            b,
+            ctl,
+            signal::F_PRED_PC,
+            Some(Leaf::Name(signal::F_VAL_C)),
+        ),
+        NextPcColumn::Loaded => picks_some_leaf(b, ctl, signal::F_PRED_PC, None),
+    }
+}
+
+/// The reading has an error.
+fn reading_fails(b: &mut NetBuilder) -> Result<u64, Memory>
+    requires { bit_count ≤ b.old.vars }
+    ensures extends { ExtendsNet b.old b.new }
+    ensures has_truth { IfOk result (λ g. IsGate b.new g (λ w. set (fields_of w).f.error)) }
+{
+    let fine = spells(b, F_ERROR, 0)?;
+    let g = b.not(fine)?;
+    Ok(g)
+}
+
+/// f_stat is the status of the icode that is read, or of the error.
+fn fetch_status_is(b: &mut NetBuilder, ctl: &Controls, icode: u64) -> Result<u64, Memory>
+    requires inside { IsInside b.old ctl.now }
+    requires ready { IsFrontReady b.old.vars ctl.now }
+    ensures extends { ExtendsNet b.old b.new }
+    ensures has_truth { IfOk result (λ g. IsControlGate b.new ctl.now g (λ w α cv. demand_in_front kind.Status icode dash_row (fields_of w) α cv)) }
+{
+    let error = reading_fails(b)?;
+    let g = status_is(b, ctl, signal::F_STAT, error, icode)?;
+    Ok(g)
+}
+
+/// What is asked by an icode and its row.
+fn front_asks(
+    b: &mut NetBuilder,
+    ctl: &Controls,
+    rule: FrontRule,
+    icode: u64,
+    row: &Row,
+) -> Result<u64, Memory>
+    requires inside { IsInside b.old ctl.now }
+    requires ready { IsFrontReady b.old.vars ctl.now }
+    ensures extends { ExtendsNet b.old b.new }
+    ensures has_truth { IfOk result (λ g. IsControlGate b.new ctl.now g (λ w α cv. demand_in_front rule icode row.now (fields_of w) α cv)) }
+{
+    match rule {
+        FrontRule::Status => fetch_status_is(b, ctl, icode),
+        FrontRule::RegisterByte => is_truth(b, ctl, signal::NEED_REGIDS, row.has_byte),
+        FrontRule::Constant => is_truth(b, ctl, signal::NEED_VAL_C, row.has_const),
+        FrontRule::Predicted(s) => next_predicted(b, ctl, &s, row.next),
+        FrontRule::SourceA => register_is(b, ctl, signal::D_SRC_A, row.src_a, D_R_A, D_R_B),
+        FrontRule::SourceB => register_is(b, ctl, signal::D_SRC_B, row.src_b, D_R_A, D_R_B),
+        FrontRule::DestinationE => register_is(b, ctl, signal::D_DST_E, row.dst_e, D_R_A, D_R_B),
+        FrontRule::DestinationM => register_is(b, ctl, signal::D_DST_M, row.dst_m, D_R_A, D_R_B),
+    }
+}
+
+impl RowGates for FrontRule {
+    ghost asks = { λ rule code r w α cv. demand_in_front rule code r (fields_of w) α cv };
+
+    ghost knows = { λ rule vars ctl. IsFrontReady vars ctl };
+
+    fn at_row(
+        &self,
+        b: &mut NetBuilder,
+        ctl: &Controls,
+        icode: u64,
+        row: Row,
+    ) -> Result<u64, Memory> {
+        front_asks(b, ctl, *self, icode, &row)
+    }
+}
+
+/// Obligation 1: f_icode and f_ifun are what was read.
+pub fn obligation_1(b: &mut NetBuilder, ctl: &Controls) -> Result<u64, Memory>
+    requires inside { IsInside b.old ctl.now }
+    requires ready { IsFrontReady b.old.vars ctl.now }
+    ensures extends { ExtendsNet b.old b.new }
+    ensures has_truth { IfOk result (λ g. IsControlGate b.new ctl.now g (λ w α cv.
+        words.is_number cv names.f_icode (fields_of w).f.icode && words.is_number cv names.f_ifun (fields_of w).f.ifun)) }
+{
+    let code = picks_leaf(b, ctl, signal::F_ICODE, ExpectedLeaf::Field(F_ICODE))?;
+    let fun = picks_leaf(b, ctl, signal::F_IFUN, ExpectedLeaf::Field(F_IFUN))?;
+    let g = b.and(code, fun)?;
+    Ok(g)
+}
+
+/// What is asked by the icode that is fetched.
+pub fn fetch_rule_gate(
+    b: &mut NetBuilder,
+    ctl: &Controls,
+    v: Variant,
+    rule: FrontRule,
+) -> Result<u64, Memory>
+    requires inside { IsInside b.old ctl.now }
+    requires ready { IsFrontReady b.old.vars ctl.now }
+    ensures extends { ExtendsNet b.old b.new }
+    ensures has_truth { IfOk result (λ g. IsControlGate b.new ctl.now g (λ w α cv. demand_in_front rule (fields_of w).f.icode (row v (fields_of w).f.icode) (fields_of w) α cv)) }
+{
+    let g = by_icode(b, ctl, v, F_ICODE, &rule)?;
+    Ok(g)
+}
+
+/// What is asked by the icode in D.
+pub fn decode_rule_gate(
+    b: &mut NetBuilder,
+    ctl: &Controls,
+    v: Variant,
+    rule: FrontRule,
+) -> Result<u64, Memory>
+    requires inside { IsInside b.old ctl.now }
+    requires ready { IsFrontReady b.old.vars ctl.now }
+    ensures extends { ExtendsNet b.old b.new }
+    ensures has_truth { IfOk result (λ g. IsControlGate b.new ctl.now g (λ w α cv. demand_in_front rule (fields_of w).d.icode (row v (fields_of w).d.icode) (fields_of w) α cv)) }
+{
+    let g = by_icode(b, ctl, v, D_ICODE, &rule)?;
+    Ok(g)
+}
+
+/// Obligation 5: f_predPC is the PC that is predicted behind what is fetched without an error.
+pub fn obligation_5(
+    b: &mut NetBuilder,
+    ctl: &Controls,
+    v: Variant,
+    s: &Settings,
+) -> Result<u64, Memory>
+    requires inside { IsInside b.old ctl.now }
+    requires ready { IsFrontReady b.old.vars ctl.now }
+    ensures extends { ExtendsNet b.old b.new }
+    ensures has_truth { IfOk result (λ g. IsControlGate b.new ctl.now g (λ w α cv.
+        set (fields_of w).f.error || words.picks_some_leaf cv names.f_predPC (predicted_leaf (row v (fields_of w).f.icode).next (predicts s.now (fields_of w).f.ifun (set (fields_of w).f.back))))) }
+{
+    let error = reading_fails(b)?;
+    let asked = fetch_rule_gate(b, ctl, v, FrontRule::Predicted(*s))?;
+    let g = b.or(error, asked)?;
+    Ok(g)
+}

@@ -1,0 +1,162 @@
+//! What is asked of the memory and write-back stages: obligations 18 to 22. `good` is the gate that the stage holds a good
+//! instruction.
+#![tactic(auto, using(nets::proofs::Truths::begins_more, ctl_formula::proofs::Inside::inside_more, crate::proofs::Joined::ready_more), unfolding(pipe_fields::specs::Layout::fields_of))]
+
+ghost use Rattle.std.specs.Prelude.{◌<◌, ◌&&◌, ◌||◌, not, if◌then◌else◌, length, IfOk};
+ghost use Rattle.nets.specs.Nets.{ExtendsNet, truth};
+ghost use Rattle.ctl_atoms.specs.declared.leaf.Leaf.TheVariants.{Name};
+ghost use Rattle.ctl_formula.specs.Picks.{IsInside};
+ghost use Rattle.dp_signals.specs.PipeNames as names;
+ghost use Rattle.y86_base.specs.Words.{set};
+ghost use Rattle.pipe_stage_gates.specs.Signals.{IsReady};
+ghost use Rattle.pipe_fields.specs.Layout.{fields_of};
+ghost use Rattle.ctl_rules.specs.ControlGates.{IsControlGate};
+ghost use Rattle.ctl_rules.specs.ColumnDemands as words;
+ghost use Rattle.y86_isa.specs.Blocks.{is_load, is_store};
+ghost use Rattle.y86_isa.specs.Table.{row};
+
+use crate::execute::truth_where;
+use crate::row_rules::RowRule;
+use ctl_formula::{Controls, Leaf};
+use ctl_rules::{ExpectedLeaf, by_icode, picks_leaf, picks_leaf_if};
+use dp_signals::pipe_row as signal;
+use net_fields::spells;
+use nets::{NetBuilder, implies};
+use pipe_fields::places::{M_ERROR, M_ICODE, M_STAT, W_DST_E, W_DST_M, W_STAT};
+use pipe_gates::RowTest;
+use y86_base::{Memory, Variant};
+
+/// Obligation 18: mem_addr is the address of a good instruction that accesses memory.
+pub fn obligation_18(
+    b: &mut NetBuilder,
+    ctl: &Controls,
+    v: Variant,
+    good: u64,
+) -> Result<u64, Memory>
+    requires inside { IsInside b.old ctl.now }
+    requires ready { IsReady b.old.vars ctl.now }
+    requires good { good < length b.old.gates }
+    ensures extends { ExtendsNet b.old b.new }
+    ensures has_truth { IfOk result (λ g. IsControlGate b.new ctl.now g (λ w α cv.
+        not (truth b.old good w) || words.picks_some_leaf cv names.mem_addr (words.address_leaf (row v (fields_of w).m.icode).memory names.M_valA names.M_valE))) }
+{
+    let told = by_icode(b, ctl, v, M_ICODE, &RowRule::Address)?;
+    let g = implies(b, good, told)?;
+    Ok(g)
+}
+
+/// Obligation 19: a word is read, is written, by a good instruction that reads, that writes.
+pub fn obligation_19(
+    b: &mut NetBuilder,
+    ctl: &Controls,
+    v: Variant,
+    good: u64,
+) -> Result<u64, Memory>
+    requires inside { IsInside b.old ctl.now }
+    requires ready { IsReady b.old.vars ctl.now }
+    requires good { good < length b.old.gates }
+    ensures extends { ExtendsNet b.old b.new }
+    ensures has_truth { IfOk result (λ g. IsControlGate b.new ctl.now g (λ w α cv.
+        words.is_truth α cv names.mem_read (truth b.old good w && is_load (row v (fields_of w).m.icode).memory)
+        && words.is_truth α cv names.mem_write (truth b.old good w && is_store (row v (fields_of w).m.icode).memory))) }
+{
+    let reads = truth_where(b, ctl, v, good, M_ICODE, RowTest::Loads, signal::MEM_READ)?;
+    let writes = truth_where(b, ctl, v, good, M_ICODE, RowTest::Stores, signal::MEM_WRITE)?;
+    let g = b.and(reads, writes)?;
+    Ok(g)
+}
+
+/// Obligation 20: m_stat tells the fault.
+pub fn obligation_20(b: &mut NetBuilder, ctl: &Controls) -> Result<u64, Memory>
+    requires inside { IsInside b.old ctl.now }
+    requires ready { IsReady b.old.vars ctl.now }
+    ensures extends { ExtendsNet b.old b.new }
+    ensures has_truth { IfOk result (λ g. IsControlGate b.new ctl.now g (λ w α cv.
+        words.is_number cv names.m_stat (if set (fields_of w).m.error then 3 else (fields_of w).m.stat))) }
+{
+    let fine = spells(b, M_ERROR, 0)?;
+    let fault = b.not(fine)?;
+    let g = picks_leaf_if(
+        b,
+        ctl,
+        signal::M_STAT,
+        fault,
+        ExpectedLeaf::This(Leaf::Number(3)),
+        ExpectedLeaf::Field(M_STAT),
+    )?;
+    Ok(g)
+}
+
+/// The values that are written are those of W.
+fn values_written(b: &mut NetBuilder, ctl: &Controls) -> Result<u64, Memory>
+    requires inside { IsInside b.old ctl.now }
+    requires ready { IsReady b.old.vars ctl.now }
+    ensures extends { ExtendsNet b.old b.new }
+    ensures has_truth { IfOk result (λ g. IsControlGate b.new ctl.now g (λ w α cv.
+        words.picks_leaf cv names.w_valE (Name names.W_valE) && words.picks_leaf cv names.w_valM (Name names.W_valM))) }
+{
+    let val_e = picks_leaf(
+        b,
+        ctl,
+        signal::W_VAL_E,
+        ExpectedLeaf::This(Leaf::Name(signal::HELD_W_VAL_E)),
+    )?;
+    let val_m = picks_leaf(
+        b,
+        ctl,
+        signal::W_VAL_M,
+        ExpectedLeaf::This(Leaf::Name(signal::HELD_W_VAL_M)),
+    )?;
+    let g = b.and(val_e, val_m)?;
+    Ok(g)
+}
+
+/// What is written is what W holds.
+fn registers_written(b: &mut NetBuilder, ctl: &Controls) -> Result<u64, Memory>
+    requires inside { IsInside b.old ctl.now }
+    requires ready { IsReady b.old.vars ctl.now }
+    ensures extends { ExtendsNet b.old b.new }
+    ensures has_truth { IfOk result (λ g. IsControlGate b.new ctl.now g (λ w α cv.
+        words.is_number cv names.w_dstE (fields_of w).w.dst_e && (words.is_number cv names.w_dstM (fields_of w).w.dst_m && (words.picks_leaf cv names.w_valE (Name names.W_valE) && words.picks_leaf cv names.w_valM (Name names.W_valM))))) }
+{
+    let dst_e = picks_leaf(b, ctl, signal::W_DST_E, ExpectedLeaf::Field(W_DST_E))?;
+    let dst_m = picks_leaf(b, ctl, signal::W_DST_M, ExpectedLeaf::Field(W_DST_M))?;
+    let values = values_written(b, ctl)?;
+    let rest = b.and(dst_m, values)?;
+    let g = b.and(dst_e, rest)?;
+    Ok(g)
+}
+
+/// Obligation 21: a good instruction writes what W holds.
+pub fn obligation_21(b: &mut NetBuilder, ctl: &Controls, good: u64) -> Result<u64, Memory>
+    requires inside { IsInside b.old ctl.now }
+    requires ready { IsReady b.old.vars ctl.now }
+    requires good { good < length b.old.gates }
+    ensures extends { ExtendsNet b.old b.new }
+    ensures has_truth { IfOk result (λ g. IsControlGate b.new ctl.now g (λ w α cv.
+        not (truth b.old good w) || (words.is_number cv names.w_dstE (fields_of w).w.dst_e && (words.is_number cv names.w_dstM (fields_of w).w.dst_m && (words.picks_leaf cv names.w_valE (Name names.W_valE) && words.picks_leaf cv names.w_valM (Name names.W_valM)))))) }
+{
+    let told = registers_written(b, ctl)?;
+    let g = implies(b, good, told)?;
+    Ok(g)
+}
+
+/// Obligation 22: Stat is the status of the good instruction in W, and 1 without one.
+pub fn obligation_22(b: &mut NetBuilder, ctl: &Controls, good: u64) -> Result<u64, Memory>
+    requires inside { IsInside b.old ctl.now }
+    requires ready { IsReady b.old.vars ctl.now }
+    requires good { good < length b.old.gates }
+    ensures extends { ExtendsNet b.old b.new }
+    ensures has_truth { IfOk result (λ g. IsControlGate b.new ctl.now g (λ w α cv.
+        words.is_number cv names.Stat (if truth b.old good w then (fields_of w).w.stat else 1))) }
+{
+    let g = picks_leaf_if(
+        b,
+        ctl,
+        signal::STAT,
+        good,
+        ExpectedLeaf::Field(W_STAT),
+        ExpectedLeaf::This(Leaf::Number(1)),
+    )?;
+    Ok(g)
+}

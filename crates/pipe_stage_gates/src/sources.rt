@@ -1,0 +1,277 @@
+//! The right value of a source: that of the youngest older instruction that writes its register (CS:APP 3e, section 4.5.5,
+//! avoiding data hazards by forwarding). Obligations 10 and 11.
+#![tactic(auto, using(nets::proofs::Truths::begins_more, ctl_formula::proofs::Inside::inside_more, pipe_motion::proofs::Kept::view_in, pipe_gates::proofs::Known::known_d_valA, pipe_gates::proofs::Known::known_d_srcA, pipe_gates::proofs::Known::known_d_valB, pipe_gates::proofs::Known::known_d_srcB), unfolding(pipe_fields::specs::Layout::fields_of))]
+
+ghost use Rattle.std.specs.Prelude.{◌<◌, ◌≤◌, ◌+◌, ◌&&◌, ◌||◌, if◌then◌else◌, IfOk, IsTrue, length, not};
+ghost use Rattle.nets.specs.Nets.{ExtendsNet, IsGate, truth};
+ghost use Rattle.ctl_atoms.specs.declared.leaf.Leaf.TheVariants.{Name};
+ghost use Rattle.ctl_formula.specs.Picks.{Covers, IsInside, has_picks};
+ghost use Rattle.net_fields.specs.Spelling.{spelt};
+ghost use Rattle.dp_signals.specs.PipeNames as names;
+ghost use Rattle.dp_signals.specs.PipeTable.{pipe_rows};
+ghost use Rattle.y86_isa.specs.RowTests.{select_a_is_val_p, stores_val_a};
+ghost use Rattle.y86_isa.specs.Table.{row};
+ghost use Rattle.ctl_rules.specs.ControlGates.{IsControlGate};
+ghost use Rattle.ctl_rules.specs.ColumnDemands as words;
+ghost use Rattle.pipe_fields.specs.Layout.{bit_count, fields_of};
+ghost use Rattle.pipe_motion.specs.Gates.{HasFlow, flow_at};
+ghost use Rattle.pipe_obligations.specs.Obligations as spec;
+
+use crate::execute::late_destination_is;
+use ctl_atoms::Leaf;
+use ctl_formula::Controls;
+use ctl_rules::{ExpectedLeaf, picks_leaf};
+use dp_signals::pipe_row as signal;
+use hcl_types::NameId;
+use net_fields::BitRange;
+use nets::{NetBuilder, choose, implies};
+use pipe_fields::places::{D_ICODE, E_DST_M, M_DST_E, M_DST_M, W_DST_E, W_DST_M};
+use pipe_gates::{RowTest, none_leaves, row_has};
+use pipe_motion::{FlowGates, Settings};
+use y86_base::{Memory, Variant};
+
+/// The word takes the leaf where the source is the number of a field; elsewhere an older gate counts.
+fn from_stage(
+    b: &mut NetBuilder,
+    ctl: &Controls,
+    word: NameId,
+    source: NameId,
+    at: BitRange,
+    leaf: NameId,
+    older: u64,
+) -> Result<u64, Memory>
+    requires inside { IsInside b.old ctl.now }
+    requires word_known { IsTrue (has_picks ctl.now word) }
+    requires source_known { IsTrue (has_picks ctl.now source) }
+    requires place { at.first + at.bits ≤ b.old.vars }
+    requires older_in { older < length b.old.gates }
+    ensures extends { ExtendsNet b.old b.new }
+    ensures has_truth { IfOk result (λ g. IsControlGate b.new ctl.now g (λ w α cv.
+        if words.is_number cv source (spelt w at.first at.bits) then words.picks_leaf cv word (Name leaf) else truth b.old older w)) }
+{
+    let here = picks_leaf(b, ctl, source, ExpectedLeaf::Field(at))?;
+    let taken = picks_leaf(b, ctl, word, ExpectedLeaf::This(Leaf::Name(leaf)))?;
+    let g = choose(b, here, taken, older)?;
+    Ok(g)
+}
+
+/// The word takes the value of a source that no instruction in E writes: from M, from W, or from the register file.
+fn from_m_on(
+    b: &mut NetBuilder,
+    ctl: &Controls,
+    word: NameId,
+    source: NameId,
+    rest: NameId,
+) -> Result<u64, Memory>
+    requires inside { IsInside b.old ctl.now }
+    requires word_known { IsTrue (has_picks ctl.now word) }
+    requires source_known { IsTrue (has_picks ctl.now source) }
+    requires vars { bit_count ≤ b.old.vars }
+    ensures extends { ExtendsNet b.old b.new }
+    ensures has_truth { IfOk result (λ g. IsControlGate b.new ctl.now g (λ w α cv.
+        if words.is_number cv source (fields_of w).m.dst_m then words.picks_leaf cv word (Name names.m_valM)
+        else (if words.is_number cv source (fields_of w).m.dst_e then words.picks_leaf cv word (Name names.M_valE)
+        else (if words.is_number cv source (fields_of w).w.dst_m then words.picks_leaf cv word (Name names.W_valM)
+        else (if words.is_number cv source (fields_of w).w.dst_e then words.picks_leaf cv word (Name names.W_valE)
+        else words.picks_leaf cv word (Name rest)))))) }
+{
+    let file = picks_leaf(b, ctl, word, ExpectedLeaf::This(Leaf::Name(rest)))?;
+    let w_e = from_stage(b, ctl, word, source, W_DST_E, signal::HELD_W_VAL_E, file)?;
+    let w_m = from_stage(b, ctl, word, source, W_DST_M, signal::HELD_W_VAL_M, w_e)?;
+    let m_e = from_stage(b, ctl, word, source, M_DST_E, signal::HELD_M_VAL_E, w_m)?;
+    let m_m = from_stage(b, ctl, word, source, M_DST_M, signal::M_VAL_M, m_e)?;
+    Ok(m_m)
+}
+
+/// The word takes the right value of a source.
+fn takes_value(
+    b: &mut NetBuilder,
+    ctl: &Controls,
+    v: Variant,
+    s: &Settings,
+    y: &FlowGates,
+    word: NameId,
+    source: NameId,
+    rest: NameId,
+) -> Result<u64, Memory>
+    requires inside { IsInside b.old ctl.now }
+    requires word_known { IsTrue (has_picks ctl.now word) }
+    requires source_known { IsTrue (has_picks ctl.now source) }
+    requires vars { bit_count ≤ b.old.vars }
+    requires view { HasFlow (length b.old.gates) y.now }
+    ensures extends { ExtendsNet b.old b.new }
+    ensures has_truth { IfOk result (λ g. IsControlGate b.new ctl.now g (λ w α cv.
+        words.picks_leaf cv word (spec.right_value v s.now (fields_of w) (flow_at b.old w y.now) (spec.register_controls_of α cv) α cv source rest))) }
+{
+    let older = from_m_on(b, ctl, word, source, rest)?;
+    let writes = late_destination_is(b, ctl, v, source)?;
+    let in_e = b.and(y.e.good, writes)?;
+    let taken = picks_leaf(
+        b,
+        ctl,
+        word,
+        ExpectedLeaf::This(Leaf::Name(signal::E_VAL_E)),
+    )?;
+    let g = choose(b, in_e, taken, older)?;
+    Ok(g)
+}
+
+/// The word takes the right value of a source; where the good instruction in E loads it, the gate `free` counts.
+fn takes_ready(
+    b: &mut NetBuilder,
+    ctl: &Controls,
+    v: Variant,
+    s: &Settings,
+    y: &FlowGates,
+    free: u64,
+    word: NameId,
+    source: NameId,
+    rest: NameId,
+) -> Result<u64, Memory>
+    requires inside { IsInside b.old ctl.now }
+    requires word_known { IsTrue (has_picks ctl.now word) }
+    requires source_known { IsTrue (has_picks ctl.now source) }
+    requires vars { bit_count ≤ b.old.vars }
+    requires view { HasFlow (length b.old.gates) y.now }
+    requires free_in { free < length b.old.gates }
+    ensures extends { ExtendsNet b.old b.new }
+    ensures has_truth { IfOk result (λ g. IsControlGate b.new ctl.now g (λ w α cv.
+        if spec.loaded_in_e v s.now (fields_of w) (flow_at b.old w y.now) (spec.register_controls_of α cv) α cv source then truth b.old free w
+        else words.picks_leaf cv word (spec.right_value v s.now (fields_of w) (flow_at b.old w y.now) (spec.register_controls_of α cv) α cv source rest))) }
+{
+    let right = takes_value(b, ctl, v, s, y, word, source, rest)?;
+    let loads = picks_leaf(b, ctl, source, ExpectedLeaf::Field(E_DST_M))?;
+    let loaded = b.and(y.e.good, loads)?;
+    let g = choose(b, loaded, free, right)?;
+    Ok(g)
+}
+
+/// There is no source, or the word takes its right value, as far as it is there; where it isn't, the gate `free` counts.
+fn picks_right_value(
+    b: &mut NetBuilder,
+    ctl: &Controls,
+    v: Variant,
+    s: &Settings,
+    y: &FlowGates,
+    free: u64,
+    word: NameId,
+    source: NameId,
+    rest: NameId,
+) -> Result<u64, Memory>
+    requires inside { IsInside b.old ctl.now }
+    requires word_known { IsTrue (has_picks ctl.now word) }
+    requires source_known { IsTrue (has_picks ctl.now source) }
+    requires vars { bit_count ≤ b.old.vars }
+    requires view { HasFlow (length b.old.gates) y.now }
+    requires free_in { free < length b.old.gates }
+    ensures extends { ExtendsNet b.old b.new }
+    ensures has_truth { IfOk result (λ g. IsControlGate b.new ctl.now g (λ w α cv.
+        spec.picks_right_value v s.now (fields_of w) (flow_at b.old w y.now) (spec.register_controls_of α cv) α cv (truth b.old free w) word source rest)) }
+{
+    let ready = takes_ready(b, ctl, v, s, y, free, word, source, rest)?;
+    let none = picks_leaf(b, ctl, source, ExpectedLeaf::This(Leaf::Number(15)))?;
+    let g = b.or(none, ready)?;
+    Ok(g)
+}
+
+/// Where the instruction in D carries valP in the place of valA, d_valA is D_valP.
+fn takes_next_pc(b: &mut NetBuilder, ctl: &Controls, v: Variant) -> Result<u64, Memory>
+    requires inside { IsInside b.old ctl.now }
+    requires known { IsTrue (has_picks ctl.now names.d_valA) }
+    requires vars { bit_count ≤ b.old.vars }
+    ensures extends { ExtendsNet b.old b.new }
+    ensures has_truth { IfOk result (λ g. IsControlGate b.new ctl.now g (λ w α cv.
+        not (select_a_is_val_p (row v (fields_of w).d.icode)) || words.picks_leaf cv names.d_valA (Name names.D_valP))) }
+{
+    let carries = row_has(b, v, D_ICODE, RowTest::CarriesP)?;
+    let taken = picks_leaf(
+        b,
+        ctl,
+        signal::D_VAL_A,
+        ExpectedLeaf::This(Leaf::Name(signal::HELD_D_VAL_P)),
+    )?;
+    let g = implies(b, carries, taken)?;
+    Ok(g)
+}
+
+/// The instruction in D needn't wait for the word that it stores.
+fn stores_late(b: &mut NetBuilder, v: Variant, late: bool) -> Result<u64, Memory>
+    requires vars { bit_count ≤ b.old.vars }
+    ensures extends { ExtendsNet b.old b.new }
+    ensures has_truth { IfOk result (λ g. IsGate b.new g (λ w. late && stores_val_a (row v (fields_of w).d.icode).memory)) }
+{
+    if late {
+        let g = row_has(b, v, D_ICODE, RowTest::StoresA)?;
+        Ok(g)
+    } else {
+        let g = b.constant(false)?;
+        Ok(g)
+    }
+}
+
+/// Obligation 10: where a good instruction leaves D, d_valA is valP of a call and a jump, and else the right value of its
+/// source.
+pub fn obligation_10(
+    b: &mut NetBuilder,
+    ctl: &Controls,
+    v: Variant,
+    s: &Settings,
+    y: &FlowGates,
+) -> Result<u64, Memory>
+    requires inside { IsInside b.old ctl.now }
+    requires vars { bit_count ≤ b.old.vars }
+    requires view { HasFlow (length b.old.gates) y.now }
+    requires known { Covers pipe_rows ctl.now }
+    ensures extends { ExtendsNet b.old b.new }
+    ensures has_truth { IfOk result (λ g. IsControlGate b.new ctl.now g (λ w α cv. spec.o10 v s.now (fields_of w) (flow_at b.old w y.now) (spec.register_controls_of α cv) α cv)) }
+{
+    let stays = none_leaves(b, ctl, y)?;
+    let next_pc = takes_next_pc(b, ctl, v)?;
+    let late = stores_late(b, v, s.lf)?;
+    let right = picks_right_value(
+        b,
+        ctl,
+        v,
+        s,
+        y,
+        late,
+        signal::D_VAL_A,
+        signal::D_SRC_A,
+        signal::D_RVAL_A,
+    )?;
+    let both = b.and(next_pc, right)?;
+    let g = b.or(stays, both)?;
+    Ok(g)
+}
+
+/// Obligation 11: where a good instruction leaves D, d_valB is the right value of its source.
+pub fn obligation_11(
+    b: &mut NetBuilder,
+    ctl: &Controls,
+    v: Variant,
+    s: &Settings,
+    y: &FlowGates,
+) -> Result<u64, Memory>
+    requires inside { IsInside b.old ctl.now }
+    requires vars { bit_count ≤ b.old.vars }
+    requires view { HasFlow (length b.old.gates) y.now }
+    requires known { Covers pipe_rows ctl.now }
+    ensures extends { ExtendsNet b.old b.new }
+    ensures has_truth { IfOk result (λ g. IsControlGate b.new ctl.now g (λ w α cv. spec.o11 v s.now (fields_of w) (flow_at b.old w y.now) (spec.register_controls_of α cv) α cv)) }
+{
+    let stays = none_leaves(b, ctl, y)?;
+    let never = b.constant(false)?;
+    let right = picks_right_value(
+        b,
+        ctl,
+        v,
+        s,
+        y,
+        never,
+        signal::D_VAL_B,
+        signal::D_SRC_B,
+        signal::D_RVAL_B,
+    )?;
+    let g = b.or(stays, right)?;
+    Ok(g)
+}

@@ -1,0 +1,11 @@
+pub mod Numbers
+pub mod Instruction
+pub mod StageContents
+pub mod Listed
+pub mod Sources
+pub mod Cycle
+pub mod Diagram
+pub mod Observer
+pub mod Texts
+pub mod Changes
+pub mod Rows

@@ -1,0 +1,314 @@
+//! The run of a machine, and what is shown of it.
+ghost use Rattle.std.specs.Prelude.{◌≡◌, ◌<◌, ◌≤◌, ◌+◌, ◌*◌, ◌^◌, ◌++◌, ℕ, IfOk, IsTrue, OnOk};
+ghost use Rattle.dp_signals.specs.PipeEquations.{Solves, constants};
+ghost use Rattle.dp_signals.specs.PipeTable.{pipe_rows};
+ghost use Rattle.hcl_types.specs.Signals.{Starts};
+ghost use Rattle.hcl_types.specs.Tables.{IsBound, IsOrderOf};
+ghost use Rattle.hcl_types.specs.Terms.{at};
+ghost use Rattle.pipe_stage_text.specs.Listed.{listed, text_in};
+ghost use Rattle.pipe_stage_text.specs.Sources.{sources};
+ghost use Rattle.y86_isa.specs.Machine.{is_aok};
+ghost use Rattle.pipe_stage_text.specs.Observer.{ShowsRun};
+ghost use Rattle.pipe_stage_text.specs.Observer as spec;
+
+use crate::cycle::{put_cycle, put_end};
+use crate::diagram::{DiagramCycle, put_diagram, shown_cycle};
+use crate::listed::{Listing, listing_for};
+use crate::picked::sources_of;
+use crate::stage_content::StageContent;
+use crate::stage_contents::{StageContents, fetched, first_watch, moved_watch, requested_updates};
+use dp_machines::{is_aok_stat, record_count};
+use dp_signals::{
+    CycleEnd, PipeState, PipeValues, advance, constant_words, end_of_cycle, ending, given, retires,
+    solve_pipe_in,
+};
+use hcl_types::{Design, Order, Row, SignalEval};
+use std::alloc::Global;
+use std::marker::Model;
+use y86_base::{Image, Memory, Stat, Variant};
+use y86_isa::Rec;
+
+/// Which cycles of a run are shown, and whether as a diagram.
+#[derive(Clone, Copy, Debug, PartialEq, Eq)]
+pub struct CycleRange {
+    /// The number of the first cycle.
+    pub from: u64,
+    /// The number of the last one.
+    pub to: u64,
+    pub diagram: bool,
+}
+
+/// A machine that is watched: its state, what stands in its stages, the text of the cycles so far, or what the diagram shows of them.
+#[derive(Drop)]
+struct Observer {
+    state: PipeState,
+    watch: StageContents,
+    retired: u64,
+    end: Stat,
+    text: Vec<u8>,
+    cycles: Vec<DiagramCycle>,
+}
+
+impl Model for Observer {
+    ghost use Rattle.pipe_stage_text.specs.Observer.{Observer, seen};
+
+    ghost Value = { Observer };
+
+    ghost view = { λ s. seen s.state s.watch s.retired s.end s.text.items s.cycles.items };
+}
+
+/// What was shown of a run, and how it ended: AOK where it came to the limit.
+#[derive(Drop)]
+pub struct ObservedRun {
+    pub text: Vec<u8>,
+    pub end: Stat,
+}
+
+fn is_running(s: &Observer) -> bool
+    ensures { result ≡ is_aok s.now.end }
+{
+    is_aok_stat(s.end)
+}
+
+fn goes_on(ending: CycleEnd) -> bool
+    ensures { result ≡ spec.goes_on ending }
+{
+    matches!(ending, CycleEnd::Going)
+}
+
+/// Whether a cycle is one of those that are shown.
+pub fn is_within(window: &CycleRange, number: u64) -> bool
+    ensures { result ≡ spec.is_within window.now number }
+{
+    window.from <= number && number <= window.to
+}
+
+/// Puts what is shown of a cycle in lines.
+fn put_lines(
+    out: &mut Vec<u8>,
+    rows: &[Row],
+    design: &Design,
+    window: &CycleRange,
+    number: u64,
+    watch: &StageContents,
+    fetch: &StageContent,
+    p: &PipeState,
+    values: &PipeValues,
+) -> Result<(), Memory>
+    ensures { OnOk result (out.new.items ≡ out.old.items ++ spec.lines_shown (sources rows.now design.now.terms) window.now number watch.now fetch.now p.now (at values.now)) }
+{
+    if !window.diagram && is_within(window, number) {
+        let sources = sources_of(rows, design, values);
+        put_cycle(out, number, watch, fetch, p, values, &sources)
+    } else {
+        Ok(())
+    }
+}
+
+/// Puts what the diagram shows of a cycle.
+fn put_shown(
+    cycles: &mut Vec<DiagramCycle>,
+    window: &CycleRange,
+    number: u64,
+    watch: &StageContents,
+    fetch: StageContent,
+    values: &PipeValues,
+) -> Result<(), Memory>
+    ensures { OnOk result (cycles.new.items ≡ cycles.old.items ++ spec.cycles_shown window.now number watch.now fetch (at values.now)) }
+{
+    if !window.diagram || !is_within(window, number) {
+        return Ok(());
+    }
+    let movers = requested_updates(values);
+    let one = shown_cycle(number, watch, fetch, &movers, goes_on(ending(values)));
+    match cycles.push(one) {
+        Ok(()) => Ok(()),
+        Err(_) => Err(Memory),
+    }
+}
+
+/// Keeps what is shown of the cycle of this number, with these values, and does it.
+fn step(
+    s: &mut Observer,
+    rows: &[Row],
+    design: &Design,
+    window: &CycleRange,
+    number: u64,
+    values: &PipeValues,
+) -> Result<(), Memory>
+    requires rows { s.old.watch.rows < 2 ^ 63 }
+    requires retired { s.old.retired < 2 ^ 63 }
+    ensures after { OnOk result (s.new ≡ spec.after (sources rows.now design.now.terms) window.now number s.old (at values.now)) }
+    ensures few_rows { OnOk result (s.new.watch.rows ≤ s.old.watch.rows + 5) }
+    ensures few_retired { OnOk result (s.new.retired ≤ s.old.retired + 1) }
+{
+    let fetch = fetched(&s.watch, &s.state, values);
+    put_lines(
+        &mut s.text,
+        rows,
+        design,
+        window,
+        number,
+        &s.watch,
+        &fetch,
+        &s.state,
+        values,
+    )?;
+    put_shown(&mut s.cycles, window, number, &s.watch, fetch, values)?;
+    s.watch = moved_watch(&s.watch, fetch, &requested_updates(values));
+    s.retired += record_count(retires(&s.state, values));
+    s.end = end_of_cycle(ending(values), values);
+    advance(&mut s.state, values);
+    Ok(())
+}
+
+/// The state of a machine that is watched.
+fn state_of(s: &Observer) -> &PipeState
+    ensures { result.now ≡ s.now.state }
+{
+    &s.state
+}
+
+/// Does the cycle of this number, and keeps what is shown of it. `fits` is the evaluator's answer about the constants.
+fn cycle<C: SignalEval>(
+    s: &mut Observer,
+    variant: Variant,
+    rows: &[Row],
+    design: &Design,
+    order: &Order,
+    evaluator: &mut C,
+    fits: bool,
+    window: &CycleRange,
+    number: u64,
+) -> Result<(), Memory>
+    requires evaluates { C.evaluates evaluator.old design.now.terms }
+    requires fits { IsTrue fits → Starts (C.assumes evaluator.old) constants }
+    requires bound { IsBound pipe_rows design.now.terms }
+    requires ordered { IsOrderOf pipe_rows design.now.terms order.now.ids }
+    requires rows { s.old.watch.rows < 2 ^ 63 }
+    requires retired { s.old.retired < 2 ^ 63 }
+    ensures kept { OnOk result (C.evaluates evaluator.new design.now.terms) }
+    ensures same { OnOk result (C.assumes evaluator.new ≡ C.assumes evaluator.old) }
+    ensures cycle { OnOk result ((f : ℕ → ℕ) × Solves variant design.now.terms s.old.state f
+        × (s.new ≡ spec.after (sources rows.now design.now.terms) window.now number s.old f)) }
+    ensures few_rows { OnOk result (s.new.watch.rows ≤ s.old.watch.rows + 5) }
+    ensures few_retired { OnOk result (s.new.retired ≤ s.old.retired + 1) }
+{
+    let mut values = given(state_of(s));
+    solve_pipe_in(
+        variant,
+        design,
+        order,
+        state_of(s),
+        evaluator,
+        fits,
+        &mut values,
+    );
+    step(s, rows, design, window, number, &values)
+}
+
+/// Puts the diagram, where it is asked for, and the line of the end.
+#[tactic(auto, unfolding(crate::specs::Observer::whole_text))]
+fn finished(
+    s: Observer,
+    listing: &Listing,
+    diagram: bool,
+    cycles: u64,
+) -> Result<ObservedRun, Memory>
+    requires { s.watch.rows < 2 ^ 63 }
+    ensures text { IfOk result (λ w. w.text.items ≡ spec.whole_text (text_in listing.now.entries) diagram cycles s) }
+    ensures end { IfOk result (λ w. w.end ≡ s.end) }
+{
+    let Observer {
+        watch,
+        retired,
+        end,
+        mut text,
+        cycles: shown,
+        ..
+    } = s;
+    if diagram {
+        put_diagram(&mut text, listing, watch.rows, shown.as_slice())?;
+    }
+    put_end(&mut text, end, cycles, retired)?;
+    Ok(ObservedRun { text, end })
+}
+
+/// Runs an image to its end or to the limit of cycles.
+fn watch_listed<C: SignalEval>(
+    alloc: Global,
+    variant: Variant,
+    rows: &[Row],
+    design: &Design,
+    order: &Order,
+    evaluator: &mut C,
+    listing: &Listing,
+    image: Image,
+    limit: u64,
+    window: &CycleRange,
+) -> Result<ObservedRun, Memory>
+    requires table { rows.now ≡ pipe_rows }
+    requires evaluates { C.evaluates evaluator.old design.now.terms }
+    requires bound { IsBound pipe_rows design.now.terms }
+    requires ordered { IsOrderOf pipe_rows design.now.terms order.now.ids }
+    requires limit { limit ≤ 100000000 }
+    ensures { IfOk result (λ w. ShowsRun variant design.now.terms (text_in listing.now.entries) window.now image limit w.text.items w.end) }
+{
+    let fits = evaluator.fits(&constant_words());
+    let mut s = Observer {
+        state: PipeState::start(image),
+        watch: first_watch(),
+        retired: 0,
+        end: Stat::Aok,
+        text: Vec::new(alloc),
+        cycles: Vec::new(alloc),
+    };
+    for k in 0..limit {
+        if !is_running(&s) {
+            return finished(s, listing, window.diagram, k);
+        }
+        match cycle(
+            &mut s,
+            variant,
+            rows,
+            design,
+            order,
+            evaluator,
+            fits,
+            window,
+            k + 1,
+        ) {
+            Ok(()) => {}
+            Err(_) => return Err(Memory),
+        }
+    }
+    finished(s, listing, window.diagram, limit)
+}
+
+/// Runs the image of an object text on PIPE under a design to its end or to the limit of cycles, and gives what is shown of it.
+pub fn watch_run<C: SignalEval>(
+    alloc: Global,
+    variant: Variant,
+    rows: &[Row],
+    design: &Design,
+    order: &Order,
+    evaluator: &mut C,
+    object: &[u8],
+    image: Image,
+    limit: u64,
+    window: &CycleRange,
+) -> Result<ObservedRun, Memory>
+    requires table { rows.now ≡ pipe_rows }
+    requires evaluates { C.evaluates evaluator.old design.now.terms }
+    requires bound { IsBound pipe_rows design.now.terms }
+    requires ordered { IsOrderOf pipe_rows design.now.terms order.now.ids }
+    requires limit { limit ≤ 100000000 }
+    ensures { IfOk result (λ w. ShowsRun variant design.now.terms (listed object.now) window.now image limit w.text.items w.end) }
+{
+    let Ok(listing) = listing_for(alloc, object, window.diagram) else {
+        return Err(Memory);
+    };
+    watch_listed(
+        alloc, variant, rows, design, order, evaluator, &listing, image, limit, window,
+    )
+}

@@ -1,0 +1,3 @@
+pub mod RunsTo
+pub mod Ends
+pub mod Cosimulation

@@ -1,0 +1,87 @@
+//! A generated program, run by the instructions and on PIPE under a design.
+ghost use Rattle.std.specs.Prelude.{◌≡◌, ◌↔◌, ◌≤◌, true, IfOk};
+ghost use Rattle.dp_signals.specs.PipeTable.{pipe_rows};
+ghost use Rattle.hcl_types.specs.Tables.{IsBound, IsOrderOf};
+ghost use Rattle.prog_cosim.specs.Cosimulation.{IsCosimulation};
+
+use crate::reports::same_reports;
+use dp_signals::constant_words;
+use hcl_compile::compile;
+use hcl_types::{Design, Order};
+use pipe_path::Pipe;
+use prog_gen::program;
+use retire_trace::drive;
+use std::alloc::Global;
+use wb_io::MemSink;
+use y86_base::{Memory, Stat, Variant};
+use y86_isa::Machine;
+use yis_run::{End, run};
+
+/// What the two runs of a generated program came to.
+#[derive(Clone, Copy, Debug, PartialEq, Eq)]
+pub struct CosimResult {
+    /// How many instructions the run of instructions did.
+    pub steps: u64,
+    /// How many cycles the pipeline did.
+    pub cycles: u64,
+    /// Whether both reports are the same bytes.
+    pub same: bool,
+    /// Whether both runs ended with HLT.
+    pub halted: bool,
+}
+
+/// Whether two runs both ended at a halt.
+fn are_halts(one: Stat, other: Stat) -> bool
+    ensures { (result ≡ true) ↔ ((one ≡ Stat.Hlt) × (other ≡ Stat.Hlt)) }
+{
+    matches!(one, Stat::Hlt) && matches!(other, Stat::Hlt)
+}
+
+/// Runs program `n` by the instructions and on PIPE under a design, each for at most 10n + 100 steps or cycles, and compares the
+/// reports, with the instructions and the retired records as their steps. All memory of the runs is taken before the first step;
+/// that of the reports behind the last.
+pub fn cosimulate(
+    alloc: Global,
+    variant: Variant,
+    design: Design,
+    order: Order,
+    n: u64,
+) -> Result<CosimResult, Memory>
+    requires least { 1 ≤ n }
+    requires most { n ≤ 100000 }
+    requires bound { IsBound pipe_rows design.terms }
+    requires order { IsOrderOf pipe_rows design.terms order.ids }
+    ensures { IfOk result (λ b. IsCosimulation variant design.terms n b) }
+{
+    let limit = 10 * n + 100;
+    let Ok(first) = program(alloc, n) else {
+        return Err(Memory);
+    };
+    let Ok(image) = first.copy(alloc) else {
+        return Err(Memory);
+    };
+    let Ok(other_image) = first.copy(alloc) else {
+        return Err(Memory);
+    };
+    let Ok(compiled) = compile(alloc, &design, &order, &constant_words()) else {
+        return Err(Memory);
+    };
+    let mut machine = Machine::start(image);
+    let ran = run(variant, &mut machine, limit);
+    let mut pipe = Pipe::new(variant, design, order, compiled, other_image);
+    let mut no_trace = MemSink::new(alloc, Vec::new(alloc));
+    let Ok(drove) = drive(&mut pipe, limit, false, &mut no_trace) else {
+        return Err(Memory);
+    };
+    let one = End::of(&machine);
+    let other = pipe.end();
+    match same_reports(alloc, &first, &one, ran.steps, &other, drove.retired) {
+        Ok(same) => Ok(CosimResult {
+            steps: ran.steps,
+            cycles: drove.cycles,
+            same,
+            halted: are_halts(one.stat, drove.end),
+        }),
+        Err(Memory) => Err(Memory),
+    }
+}

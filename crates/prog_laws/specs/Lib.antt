@@ -1,0 +1,3 @@
+pub mod Laws
+pub mod AllowedPrefix
+pub mod FirstBytes

@@ -1,0 +1,71 @@
+-- The run of a sequential machine, and what is shown of it, cycle by cycle.
+use Rattle.std.specs.Prelude.{◌≡◌, ℕ, zero, suc, ◌≤◌, ◌<◌, true, false, List, [], ◌++◌, codes, if◌then◌else◌}
+use Rattle.y86_base.specs.declared.parts.Stat.{Stat}
+use Rattle.y86_base.specs.declared.parts.Variant.{Variant}
+use Rattle.y86_isa.specs.Machine.{is_aok}
+use Rattle.y86_isa.specs.declared.machine.Machine.{Machine}
+use Rattle.hcl_types.specs.declared.term.Term.{Term}
+use Rattle.dp_signals.specs.SeqCycle.{seq_next}
+use Rattle.dp_signals.specs.SeqEquations.{SeqSolves}
+use Rattle.dp_signals.specs.SeqNames as seq
+use Rattle.dp_signals.specs.SeqTable.{seq_rows}
+use Rattle.seq_plus.specs.PlusCycle.{plus_next}
+use Rattle.seq_plus.specs.PlusEquations.{PlusSolves}
+use Rattle.seq_plus.specs.PlusNames as plus
+use Rattle.seq_plus.specs.PlusTable.{plus_rows}
+use Rattle.seq_plus.specs.declared.state.PlusState.{PlusState}
+use Rattle.pipe_stage_text.specs.Cycle.{end_line}
+use Rattle.pipe_stage_text.specs.Numbers.{number_pair}
+use Rattle.pipe_stage_text.specs.Observer.{is_within}
+use Rattle.pipe_stage_text.specs.declared.observer.CycleRange.{CycleRange}
+use Rattle.seq_text.specs.Lines.{choice_line, stage_lines, state_lines, update_line}
+use Rattle.seq_text.specs.Signals.{Sources, plus_signals, plus_sources, seq_signals, seq_sources}
+
+-- ---- a cycle, of a state with f for the value of each signal, and what the picks of the file tell of it
+
+unfoldable pub seq_lines : Machine → (ℕ → ℕ) → Sources → List ℕ
+seq_lines s f from =
+    stage_lines (seq_signals f) from ++ (update_line (f seq.new_pc) from ++ state_lines s.flags (seq_signals f))
+
+unfoldable pub plus_lines : PlusState → (ℕ → ℕ) → Sources → List ℕ
+plus_lines t f from =
+    choice_line t.previous (f plus.pc) from ++ (stage_lines (plus_signals f) from ++ state_lines t.flags (plus_signals f))
+
+-- the state before a cycle, its lines, and the state after it
+abbrev pub SeqShows : Variant → List Term → Machine → List ℕ → Machine → Type 0
+SeqShows v terms s lines t =
+    (f : ℕ → ℕ) × SeqSolves v terms s f × (lines ≡ seq_lines s f (seq_sources seq_rows terms f)) × (t ≡ seq_next s f)
+
+abbrev pub PlusShows : Variant → List Term → PlusState → List ℕ → PlusState → Type 0
+PlusShows v terms s lines t =
+    (f : ℕ → ℕ) × PlusSolves v terms s f × (lines ≡ plus_lines s f (plus_sources plus_rows terms f)) × (t ≡ plus_next s f)
+
+abbrev pub seq_stat : Machine → Stat
+seq_stat s = s.stat
+
+abbrev pub plus_stat : PlusState → Stat
+plus_stat s = s.stat
+
+-- ---- a run of either, where Shows says what a cycle does and shows, and stat is the status of a state
+
+-- what is shown of the cycle of this number
+unfoldable pub shown : CycleRange → ℕ → List ℕ → List ℕ
+shown window number lines = if is_within window number then number_pair (codes "cycle ") number ++ (codes "\n" ++ lines) else []
+
+-- s is the state k cycles after first, before each of which the machine had not ended, and text is what is shown of them
+abbrev pub Observes : {S : Type 0} → (S → List ℕ → S → Type 0) → (S → Stat) → CycleRange → S → ℕ → S → List ℕ → Type 0
+Observes Shows stat window first zero s text = (s ≡ first) × (text ≡ [])
+Observes {S} Shows stat window first (suc k) s text =
+    (u : S) × (before : List ℕ) × (lines : List ℕ) × Observes Shows stat window first k u before × (is_aok (stat u) ≡ true) × Shows u lines s
+    × (text ≡ before ++ shown window (suc k) lines)
+
+-- the same at its end, or at the limit of cycles where it has none before
+pub record ObservesTo {S : Type 0} (Shows : S → List ℕ → S → Type 0) (stat : S → Stat) (window : CycleRange) (first : S) (limit k : ℕ) (s : S) (text : List ℕ) : Type 0 where
+  pub within : k ≤ limit
+  pub watches : Observes Shows stat window first k s text
+  pub whole : k < limit → is_aok (stat s) ≡ false
+
+-- the text and the end of a run: what is shown of its cycles, and the line of the end; each cycle is an instruction
+abbrev pub ShowsRun : {S : Type 0} → (S → List ℕ → S → Type 0) → (S → Stat) → CycleRange → S → ℕ → List ℕ → Stat → Type 0
+ShowsRun {S} Shows stat window first limit text end =
+    (k : ℕ) × (s : S) × (lines : List ℕ) × ObservesTo Shows stat window first limit k s lines × (text ≡ lines ++ end_line (stat s) k k) × (end ≡ stat s)

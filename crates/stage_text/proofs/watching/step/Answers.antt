@@ -1,7 +1,0 @@
-use Rattle.std.proofs.Common.{rules}
-use Rattle.stage_text.proofs.Runs.{seen_after}
-use Rattle.stage_text.proofs.watching.step.Goals as goal
-
-pub returns-clause-after : goal.returns-clause-after
-returns-clause-after c =
-    seen_after _ _ _ _ _ _ (search rules) (search rules) (search rules) (search rules) (search rules) (search rules)

@@ -1,0 +1,108 @@
+-- What an answer to `check`, or to `psim` behind a check, says of the run of instructions.
+use Rattle.std.specs.Prelude.{◌≡◌, ℕ, codes, Bool, true, List, ◌++◌, length, Option, Ok}
+use Rattle.cert_log.specs.Files.{IsCertificate, holds_line}
+use Rattle.control_check.specs.PipeVerdicts.{AcceptsPipe, RefinesPipe}
+use Rattle.dp_signals.specs.PipeRun.{PipeHistory, ended_by_status}
+use Rattle.dp_signals.specs.PipeTable.{pipe_rows}
+use Rattle.hcl_types.specs.declared.term.Term.{Term}
+use Rattle.pipe_motion.specs.declared.settings.Settings.{Settings}
+use Rattle.retire_trace.specs.Drive.{traced}
+use Rattle.verdict_text.specs.PipeLines.{pipe_yes}
+use Rattle.wb_io.specs.Files.{HasBytes}
+use Rattle.wb_io.specs.Sinks.{Appended, AppendedPrefix}
+use Rattle.y86_base.specs.declared.parts.Variant.{Variant}
+use Rattle.y86_isa.specs.Run.{records, run}
+use Rattle.yis_pure_runs.specs.Near.{NearPure}
+use Rattle.yis_run.specs.Report.{register_lines, report}
+use Rattle.yo_object.specs.ObjectText.{object_of}
+use Rattle.cli_plans.specs.Stages.{run_status}
+use Rattle.cli_obligations.specs.Certified.{HasCertified}
+use Rattle.cli_checks.specs.Checks.{AnswersNoPipe}
+use Rattle.cli_checks.specs.Sequential.{Accepts, RefinesRun}
+use Rattle.cli_plans.specs.Datapaths.{rows_of}
+use Rattle.cli_plans.specs.Designs.{IsDesign}
+use Rattle.cli_plans.specs.PlanFollowing.{SinkState}
+use Rattle.cli_plans.specs.Plan.{Answer}
+use Rattle.cli_runs.specs.PipeRuns.{RunsTo, end_of, run_text}
+use Rattle.cli_plans.specs.declared.datapath.Datapath.{Datapath}
+
+-- A file with an accepted design: the bytes that are told of it, if any, are the text; the text is read, bound and ordered; every
+-- obligation holds of the design at its settings. So on every image whose instructions fetch no byte that one of the three before
+-- them stored, its pipeline is after each number of cycles where the instructions are.
+pub record HasAccepted (v : Variant) (told : Option (Option (List ℕ))) : Type 0 where
+  pub text : List ℕ
+  pub has : HasBytes told text
+  pub terms : List Term
+  pub design : IsDesign pipe_rows text terms
+  pub settings : Settings
+  pub accepted : AcceptsPipe v terms settings
+  pub refines : RefinesPipe v terms
+
+-- The same for a sequential datapath: on every image its machine is after each number of cycles that of the run of instructions.
+pub record HasAcceptedSeq (which : Datapath) (v : Variant) (told : Option (Option (List ℕ))) : Type 0 where
+  pub text : List ℕ
+  pub has : HasBytes told text
+  pub terms : List Term
+  pub design : IsDesign (rows_of which) text terms
+  pub accepted : Accepts which v terms
+  pub refines : RefinesRun which v terms
+
+-- Such a file was accepted, and its settings were told: the text on standard output is the line of a Yes.
+pub record ToldAccepted (v : Variant) (told : Option (Option (List ℕ))) (before after : SinkState) : Type 0 where
+  pub file : HasAccepted v told
+  pub line : Appended before.taken after.taken (pipe_yes file.settings)
+
+pub record ToldAcceptedSeq (which : Datapath) (v : Variant) (told : Option (Option (List ℕ))) (before after : SinkState) : Type 0 where
+  pub file : HasAcceptedSeq which v told
+  pub line : Appended before.taken after.taken (codes "yes\n")
+
+-- Such a file was accepted, and a certificate of its design at its settings went to standard output.
+pub record WroteCertificate (v : Variant) (told : Option (Option (List ℕ))) (before after : SinkState) : Type 0 where
+  pub file : HasAccepted v told
+  pub text : List ℕ
+  pub certificate : IsCertificate v file.terms file.settings text
+  pub went : Appended before.taken after.taken text
+
+-- A certificate of a file was accepted, and its settings were told: the text on standard output is the line that tells them.
+pub record ToldCertified (v : Variant) (told told_cert : Option (Option (List ℕ))) (before after : SinkState) : Type 0 where
+  pub file : HasCertified v told told_cert
+  pub line : Appended before.taken after.taken (holds_line file.settings)
+
+-- The same where a write on standard output failed: a proper prefix of the line went out.
+pub record ToldCertifiedPart (v : Variant) (told told_cert : Option (Option (List ℕ))) (before after : SinkState) : Type 0 where
+  pub file : HasCertified v told told_cert
+  pub part : AppendedPrefix before.taken after.taken (holds_line file.settings)
+
+-- What is printed of a pipeline that has retired r instructions is of the run of these: the lines of the trace are of its records,
+-- those of the registers of its registers; and where the pipeline has stopped, the whole report is of its machine.
+pub record PrintsTheRun (v : Variant) (image : List ℕ) (trace : Bool) (p : PipeHistory) : Type 0 where
+  pub trace_lines : traced trace p.records ≡ traced trace (records v image (length p.records))
+  pub lines_of_registers : register_lines p.state.regs ≡ register_lines (run v image (length p.records)).regs
+  pub whole_report : ended_by_status p.end ≡ true →
+      report image (end_of p) (length p.records) ≡ report image (run v image (length p.records)) (length p.records)
+
+-- A file was accepted, and an image ran on it: behind the Yes stand the trace, the counts and the report. They agree with the run of
+-- instructions where none of the first ones, as many as there were cycles, fetches a byte that one of the three before it stored.
+pub record CheckedRunIsRight (v : Variant) (size limit : ℕ) (trace : Bool) (hcl object : Option (Option (List ℕ))) (before after : SinkState) (status : ℕ) : Type 0 where
+  pub file : HasAccepted v hcl
+  pub bytes : List ℕ
+  pub has : HasBytes object bytes
+  pub image : List ℕ
+  pub loads : object_of bytes size ≡ Ok image
+  pub cycles : ℕ
+  pub end : PipeHistory
+  pub runs : RunsTo v file.terms image limit cycles end
+  pub status_is : status ≡ run_status end.end
+  pub told : Appended before.taken after.taken (pipe_yes file.settings ++ run_text trace image cycles end)
+  pub agrees : NearPure v image cycles → PrintsTheRun v image trace end
+
+-- A file was refused, and nothing ran: the No was told.
+pub record AnsweredNo (v : Variant) (hcl : Option (Option (List ℕ))) (before after : SinkState) (status : ℕ) : Type 0 where
+  pub text : List ℕ
+  pub has : HasBytes hcl text
+  pub terms : List Term
+  pub design : IsDesign pipe_rows text terms
+  pub answer : Answer
+  pub denied : AnswersNoPipe v terms answer
+  pub status_is : status ≡ 1
+  pub told : Appended before.taken after.taken answer.out
