@@ -13,7 +13,7 @@ use Rattle.aiger_out.specs.Rows.{IsFine, IsFirstFault}
 use Rattle.aiger_out.specs.Tail.{IsTail, IsTailFault}
 use Rattle.aiger_out.specs.Solution.{IsNetOf}
 
--- the first fault of a text; want of memory says nothing of it
+-- the first fault of a text; out of memory says nothing of it
 abbrev pub IsError : ℕ → List ℕ → AagError → Type 0
 IsError limit text (Fault f) = IsFault limit text f.line f.why
 IsError limit text Memory = Unit {0}

@@ -30,7 +30,7 @@ pub(crate) fn negated(x: u64) -> u64
     if x % 2 == 1 { x - 1 } else { x + 1 }
 }
 
-/// The literal of a variable, counted from 0; want of memory where there is none of 64 bits.
+/// The literal of a variable, counted from 0; the answer is out of memory where there is none of 64 bits.
 pub(crate) fn literal_of(variable: u64) -> Result<u64, Memory>
     ensures { IfOk result (λ x. x ≡ doubled variable) }
 {

@@ -49,7 +49,7 @@ fn output_literals(alloc: Global, rules: &[Rule], literals: &[u64]) -> Result<Ve
     Ok(outs)
 }
 
-/// The header; want of memory where a literal would not be a word, since such a text can't be held.
+/// The header; the answer is out of memory where a literal would not be a word, since such a text can't be held.
 fn header_for(inputs: u32, outputs: usize, ands: usize) -> Result<Header, Memory>
     ensures { IfOk result (λ h. IsHeaderOf h inputs outputs ands) }
 {

@@ -134,7 +134,7 @@ fault_at line w = error.Cert (record { line = line; why = w })
 abbrev pub syntax_at : ℕ → CertError
 syntax_at line = fault_at line why.Syntax
 
--- why a text isn't accepted: its first fault, or want of memory
+-- why a text isn't accepted: its first fault, or out of memory
 abbrev pub IsRefusal : Demands → List ℕ → CertError → Type 0
 IsRefusal g text (error.Cert fault) = IsFirstFault g text fault
 IsRefusal g text error.Memory = Unit {0}

@@ -43,7 +43,7 @@ pub record HasFault (v : Variant) (terms : List Term) (text : List ℕ) (fault :
   pub are : DemandsFor v terms settings demands
   pub first : IsFirstFault demands text fault
 
--- a text is no certificate of the file: it states no settings, or has a first fault; or want of memory
+-- a text is no certificate of the file: it states no settings, or has a first fault; or out of memory
 abbrev pub IsRefused : Variant → List Term → List ℕ → CertError → Type 0
 IsRefused v terms text (error.Cert fault) = HasNoHead text fault ⊎ HasFault v terms text fault
 IsRefused v terms text error.Memory = Unit {0}

@@ -24,7 +24,7 @@ DeliversAnswer a before after (Err stop) =
     ((status_of stop ≡ 4) × AppendedPrefix before.taken after.taken a.out × (after.faults ≡ counted before.faults))
     ⊎ ((5 ≤ status_of stop) × (a ≡ answer_at stop) × (after ≡ before))
 
--- want of memory, or a read of a file that the answer comes to failed
+-- out of memory, or a read of a file that the answer comes to failed
 abbrev pub IsLostCall : Plan → FilesState → FilesState → code.StopReason → Type 0
 IsLostCall plan before after stop =
     (status_of stop ≡ 6) ⊎ ((name : List ℕ) × (read_name stop ≡ Some name) × (after.faults name ≡ counted (before.faults name)) × IsReached plan before.told name)

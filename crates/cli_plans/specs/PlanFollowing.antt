@@ -40,16 +40,16 @@ StopsAtRead name limit before after (Read other) = (other.now ≡ name) × (afte
 StopsAtRead name limit before after (TooLong other n) = (other.now ≡ name) × (n ≡ limit) × HasMore (before.told name) limit × NoReadFailed before after
 StopsAtRead name limit before after _ = ⊥
 
--- a stop is a refusal that is one of the answers, or want of memory
+-- a stop is a refusal that is one of the answers, or out of memory
 abbrev pub RefusesWith : (Answer → Type 0) → code.StopReason → Type 0
 RefusesWith E stop = (stop ≡ Memory) ⊎ ((status_of stop ≡ 5) × E (answer_at stop))
 
--- a stage gives one of the values, or a refusal that is one of the answers, or want of memory
+-- a stage gives one of the values, or a refusal that is one of the answers, or out of memory
 abbrev pub IsStageResultIn : {A B : Type 0} → (A → Type 0) → (Answer → Type 0) → (B → A) → Result B code.StopReason → Type 0
 IsStageResultIn P E view (Ok x) = P (view x)
 IsStageResultIn P E view (Err stop) = RefusesWith E stop
 
--- a stage gives what is defined, or the refusal that is defined, or want of memory
+-- a stage gives what is defined, or the refusal that is defined, or out of memory
 abbrev pub IsStageResult : {A B : Type 0} → (B → A) → Result A Answer → Result B code.StopReason → Type 0
 IsStageResult view defined (Ok x) = defined ≡ Ok (view x)
 IsStageResult view defined (Err stop) = RefusesWith (λ a. defined ≡ Err a) stop
@@ -83,7 +83,7 @@ pub record WrotePart (P : Answer → Type 0) (before after : SinkState) : Type 0
   pub went : AppendedPrefix before.taken after.taken answer.out
   pub one_fault : after.faults ≡ counted before.faults
 
--- one of the answers was said: written on standard output, or given as a refusal; at a refusal and for want of memory
+-- one of the answers was said: written on standard output, or given as a refusal; at a refusal and when memory runs out
 -- nothing was written
 abbrev pub WritesAnswer : (Answer → Type 0) → SinkState → SinkState → Result ℕ code.StopReason → Type 0
 WritesAnswer P before after (Ok status) = WroteWhole P before after status

@@ -17,7 +17,7 @@ use wb_io::Sink;
 /// The status that the program ends with, from 0 to 7.
 ///
 /// 0: done, and a run ended at a halt. 1: a run ended otherwise. 2: the words are no command. 3: a read of a file that the
-/// command comes to failed. 4: a write on standard output failed. 5: a file was refused. 6: want of memory. 7: a file has
+/// command comes to failed. 4: a write on standard output failed. 5: a file was refused. 6: out of memory. 7: a file has
 /// more bytes than its limit.
 pub type Status = u8;
 
@@ -35,7 +35,7 @@ pub fn words_behind(alloc: Global, mut args: Args) -> Result<Vec<String>, AllocE
     Ok(words)
 }
 
-/// Why the words of a call can't be had: want of memory, or a word that is no text.
+/// Why the words of a call can't be had: out of memory, or a word that is no text.
 pub fn unreadable(error: &io::Error) -> StopReason<'static>
     ensures memory { (result ≡ Memory) ↔ (error_kind error.now ≡ ErrorKind.OutOfMemory) }
     ensures usage { (result ≡ Usage) ↔ (error_kind error.now ≢ ErrorKind.OutOfMemory) }

@@ -33,7 +33,7 @@ pub record IsFault (text : List ℕ) (fault : HclFault) : Type 0 where
   pub line : fault.line ≡ line_behind before
   pub column : fault.col ≡ column_behind before
 
--- a fault is told, or want of memory
+-- a fault is told, or out of memory
 abbrev pub IsReadFault : List ℕ → HclFault → Type 0
 IsReadFault text fault = ((fault.why ≡ whys.Memory) × (fault.line ≡ 0) × (fault.col ≡ 0)) ⊎ IsFault text fault
 

@@ -39,7 +39,7 @@ impl From<Memory> for HclWhy {
 
 /// The first place where the text is no longer the beginning of a file, as line and column from 1, a column
 /// counting bytes, and the reason. The place is the first byte of the token or the bad byte, or the end of the
-/// text. For want of memory line and column are 0.
+/// text. When memory runs out line and column are 0.
 #[derive(Clone, Copy, Debug, PartialEq, Eq, Error)]
 #[error("{line}:{col}: {why}")]
 pub struct HclFault {

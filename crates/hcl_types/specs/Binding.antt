@@ -136,7 +136,7 @@ bound_by (Some e) terms = Err e
 unfoldable pub bound : List Row → List Item → Result (List Term) BindFault
 bound rows items = bound_by (first_fault rows [] items) (all_ok (map (λ (row : Row). row_term rows row (definition items row.name)) (defined rows)))
 
--- an answer is that of the definition, want of memory apart
+-- an answer is that of the definition, out of memory apart
 abbrev pub IsBindAnswer : {A : Type 0} → Result A BindFault → Result A BindFault → Type 0
 IsBindAnswer (Ok x) r = r ≡ Ok x
 IsBindAnswer (Err e) r = e.why ≢ why.Memory → r ≡ Err e

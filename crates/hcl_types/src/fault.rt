@@ -31,7 +31,7 @@ pub enum BindWhy {
 }
 
 /// The first fault of a file over a table, and the name that it is about. For `KindMismatch` it is the name that
-/// is declared or defined. For want of memory it is empty.
+/// is declared or defined. When memory runs out it is empty.
 #[derive(Debug, PartialEq, Drop)]
 pub struct BindFault {
     pub why: BindWhy,
@@ -49,7 +49,7 @@ impl BindFault {
         }
     }
 
-    /// A fault about a name, or want of memory for the copy of the name.
+    /// A fault about a name, or out of memory for the copy of the name.
     pub fn of(alloc: Global, why: BindWhy, name: &Text) -> BindFault
         ensures { result.why ≢ OutOfMemory → result ≡ fault why name.now }
     {

@@ -1,4 +1,4 @@
-//! The next cycle's view, and the obligations 23 to 27, as truths of what stands in the stages.
+//! The next cycle's flow, and the obligations 23 to 27, as truths of what stands in the stages.
 ghost use Rattle.std.specs.Prelude.{◌≡◌, ◌≤◌, ◌==◌, if◌then◌else◌, true};
 ghost use Rattle.pipe_requirements.specs.Flows.{as_register_control, as_register_controls, as_stage_flow, as_flow};
 ghost use Rattle.pipe_motion.specs.Flow as spec;
@@ -46,7 +46,7 @@ fn fetched_flow(good: bool, facts: &StageFlowNow) -> StageFlowNow
     }
 }
 
-/// M's slot as W loads it.
+/// M's stage flow as W loads it.
 fn entering_w(s: &StageFlowNow) -> StageFlowNow
     ensures { as_stage_flow result ≡ spec.entering_w (as_stage_flow s.now) }
 {
@@ -59,7 +59,7 @@ fn entering_w(s: &StageFlowNow) -> StageFlowNow
     }
 }
 
-/// The next cycle's view, by whether the fetch is good and what it fetches.
+/// The next cycle's flow, by whether the fetch is good and what it fetches.
 #[tactic(auto, unfolding(pipe_motion::specs::Flow::moved_flow))]
 pub fn next_flow(k: &RegisterControlsNow, good: bool, facts: &StageFlowNow, y: &FlowNow) -> FlowNow
     ensures { as_flow result ≡ spec.moved_flow (as_register_controls k.now) (spec.fetched_flow good (as_stage_flow facts.now)) (as_flow y.now) }
@@ -121,7 +121,7 @@ fn ret_is_youngest(rm: bool, y: &FlowNow) -> bool
             && (rm || !(y.w.ret && ((y.d.good || y.e.good) || y.m.good))))
 }
 
-/// The view is lawful.
+/// The flow is legal.
 #[tactic(auto, unfolding(pipe_motion::specs::Flow::flow_legal))]
 fn flow_legal(je: bool, rm: bool, y: &FlowNow) -> bool
     ensures { result ≡ spec.flow_legal je rm (as_flow y.now) }

@@ -23,7 +23,7 @@ pub record IsAtomGate (net : Gates) (atoms : List Atom) (g : ℕ) (f : List Bool
   pub within : g < length net.gates
   pub is : (w : List Bool) (α : Assignment) → AtomsAre atoms bit_count w α → truth net g w ≡ f w α
 
--- the gates of a slot have the truths f wherever the gates of names tell the control values
+-- the gates of a stage flow have the truths f wherever the gates of names tell the control values
 pub record AreStageFlowGates (net : Gates) (ctl : List Entry) (s : StageFlowGates) (f : List Bool → Assignment → (ℕ → Leaf) → StageFlow) : Type 0 where
   pub within : HasStageFlow (length net.gates) s
   pub is : (w : List Bool) (α : Assignment) (cv : ℕ → Leaf) → EncodesControls net ctl w α cv → stage_flow_at net w s ≡ f w α cv

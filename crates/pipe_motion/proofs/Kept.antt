@@ -1,4 +1,4 @@
--- Slots, views and movers are the same in a later net.
+-- Stage flows, flows and register controls are the same in a later net.
 use Rattle.std.proofs.Common.{◌≡◌, ℕ, ◌≤◌, Bool, List, length, refl, ◌∙◌, arith}
 use Rattle.nets.specs.Nets.{Gates, ExtendsNet}
 use Rattle.pipe_motion.specs.declared.slots.StageFlowGates.{StageFlowGates}

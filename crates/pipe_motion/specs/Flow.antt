@@ -1,7 +1,7 @@
--- What stands in the pipeline registers D, E, M and W, when that is lawful, and how it moves in a cycle.
+-- What stands in the pipeline registers D, E, M and W, when that is legal, and how it moves in a cycle.
 use Rattle.std.specs.Prelude.{Bool, false, not, ◌&&◌, ◌||◌, if◌then◌else◌}
 
--- what stands in a register: an instruction of the run (good), one that was fetched in vain (wrong), or neither, a
+-- what stands in a register: an instruction of the run (good), one that was fetched on the wrong path (wrong), or neither, a
 -- bubble. Of a good one: it stops the machine; it is a ret; it is a jump that went another way than predicted.
 pub record StageFlow : Type 0 where
   pub good : Bool
@@ -24,7 +24,7 @@ pub record Flow : Type 0 where
 abbrev pub empty_flow : Flow
 empty_flow = record { d = bubble_flow; e = bubble_flow; m = bubble_flow; w = bubble_flow }
 
--- ---- which views are lawful
+-- ---- which flows are legal
 -- a good instruction is younger than what stands in E, in M, in W
 abbrev pub is_followed_e : Flow → Bool
 is_followed_e v = v.d.good
@@ -129,11 +129,11 @@ fetched_flow good facts = record {
   missed = good && facts.missed;
 }
 
--- M's slot as W loads it: a missed jump stands in D, E or M alone
+-- M's stage flow as W loads it: a missed jump stands in D, E or M alone
 abbrev pub entering_w : StageFlow → StageFlow
 entering_w s = record { good = s.good; wrong = s.wrong; stops = s.stops; ret = s.ret; missed = false }
 
--- the next cycle's view, with what D loads
+-- the next cycle's flow, with what D loads
 unfoldable pub moved_flow : RegisterControls → StageFlow → Flow → Flow
 moved_flow k fetched v = record {
   d = moved_stage k.d v.d fetched;
@@ -170,11 +170,11 @@ o24 k v = not (v.w.good && k.w.stall) && (passes_on k.w k.m v.m && (passes_on k.
 abbrev pub path_is_kept : RegisterControls → Bool → Bool → Bool → Bool
 path_is_kept k good now next = not next || (if loads k.d && good then loads k.f else k.f.stall && now)
 
--- of the next view: it is lawful, nothing wrong stands in M and W, and the path is kept
+-- of the next flow: it is legal, nothing wrong stands in M and W, and the path is kept
 abbrev pub next_is_right : Bool → Bool → RegisterControls → Bool → Flow → Flow → Bool
 next_is_right je rm k good v next = flow_legal je rm next && (not (next.m.wrong || next.w.wrong) && path_is_kept k good (path v) (path next))
 
--- the next view is right, where the fetch is good or not and these are its facts
+-- the next flow is right, where the fetch is good or not and these are its facts
 abbrev pub o25 : Bool → Bool → RegisterControls → Bool → StageFlow → Flow → Bool
 o25 je rm k good facts v = next_is_right je rm k good v (moved_flow k (fetched_flow good facts) v)
 

@@ -1,4 +1,4 @@
--- Slots, views and movers as gates of a net: their truths under a valuation.
+-- Stage flows, flows and register controls as gates of a net: their truths under a valuation.
 use Rattle.std.specs.Prelude.{ℕ, ◌<◌, ◌≡◌, Bool, List, length}
 use Rattle.nets.specs.Nets.{Gates, truth}
 use Rattle.pipe_motion.specs.declared.slots.StageFlowGates.{StageFlowGates}

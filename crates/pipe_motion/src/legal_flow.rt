@@ -1,4 +1,4 @@
-//! Gates of: a view of the pipeline is lawful, and the path of its youngest good instruction.
+//! Gates of: a flow of the pipeline is legal, and the path of its youngest good instruction.
 #![tactic(auto, unfolding(crate::specs::Flow::flow_legal, crate::specs::Flow::path, crate::specs::Flow::youngest_stops), using(nets::proofs::Truths::begins_more, nets::proofs::Truths::begins_self))]
 
 ghost use Rattle.std.specs.Prelude.{◌<◌, ◌&&◌, not, length, IfOk};
@@ -123,7 +123,7 @@ fn reasons_and_turns(b: &mut NetBuilder, v: &FlowGates, je: bool, rm: bool) -> R
     b.and(reasons, last_two)
 }
 
-/// The view is lawful, in a file that fetches early from E (`je`) or M (`rm`) or not.
+/// The flow is legal, in a file that fetches early from E (`je`) or M (`rm`) or not.
 pub fn flow_legal_gate(b: &mut NetBuilder, v: &FlowGates, je: bool, rm: bool) -> Result<u64, Memory>
     requires { HasFlow (length b.old.gates) v.now }
     ensures extends { ExtendsNet b.old b.new }

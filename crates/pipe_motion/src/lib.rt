@@ -1,4 +1,4 @@
-//! What stands in the pipeline registers, in formulas: which views of them are lawful, how a view moves in a cycle,
+//! What stands in the pipeline registers, in formulas: which flows of them are legal, how a flow moves in a cycle,
 //! and what is demanded of the words that stall and bubble (CS:APP 3e, section 4.5.8, pipeline control).
 //!
 //! An example: E holds a good load, and D a good `addq` that needs the loaded word. D is stalled and E bubbled, so in

@@ -61,7 +61,7 @@ fn moved_stage(
     })
 }
 
-/// M's slot as W takes it: a missed jump stands in D, E or M alone.
+/// M's stage flow as W takes it: a missed jump stands in D, E or M alone.
 fn for_w(b: &mut NetBuilder, s: &StageFlowGates) -> Result<StageFlowGates, Memory>
     requires { HasStageFlow (length b.old.gates) s.now }
     ensures extends { ExtendsNet b.old b.new }
@@ -101,7 +101,7 @@ pub fn fetched_flow(
     })
 }
 
-/// The view of the next cycle.
+/// The flow of the next cycle.
 #[tactic(auto, unfolding(crate::specs::Flow::moved_flow), using(nets::proofs::Truths::begins_more, nets::proofs::Truths::begins_self, crate::proofs::Kept::slot_kept, crate::proofs::Kept::mover_kept))]
 pub fn move_flow(
     b: &mut NetBuilder,

@@ -140,7 +140,7 @@ fn path_kept(
     implies(b, later, either)
 }
 
-/// The next view is lawful, nothing wrong comes to M or W, and the path is kept.
+/// The next flow is legal, nothing wrong comes to M or W, and the path is kept.
 #[tactic(auto, using(nets::proofs::Truths::begins_more, nets::proofs::Truths::begins_self, crate::proofs::Kept::view_kept, crate::proofs::Kept::movers_kept))]
 fn next_right(
     b: &mut NetBuilder,
@@ -168,7 +168,7 @@ fn next_right(
     b.and(lawful, last_two)
 }
 
-/// The next view is lawful, nothing wrong comes to M or W, and the path is kept: where the fetch is good or not, and
+/// The next flow is legal, nothing wrong comes to M or W, and the path is kept: where the fetch is good or not, and
 /// brings these facts.
 pub fn obligation_25(
     b: &mut NetBuilder,

@@ -1,4 +1,4 @@
-//! Obligation 25: what is fetched, whether that is the next instruction, and the next cycle's view.
+//! Obligation 25: what is fetched, whether that is the next instruction, and the next cycle's flow.
 #![tactic(auto, using(nets::proofs::Truths::begins_more, ctl_formula::proofs::Inside::inside_more, pipe_motion::proofs::Kept::view_in, pipe_gates::proofs::Known::known_f_pc, pipe_gates::proofs::Known::known_f_stat, pipe_gates::proofs::Known::known_f_icode, pipe_gates::proofs::Known::known_f_ifun))]
 
 ghost use Rattle.std.specs.Prelude.{◌<◌, ◌≤◌, ◌&&◌, ◌||◌, false, get_or, if◌then◌else◌, IfOk, IsTrue, length};
@@ -345,7 +345,7 @@ fn fetch_good(
     Ok(g)
 }
 
-/// Obligation 25: the next cycle's view is lawful, has nothing wrong in M and W, and keeps the path.
+/// Obligation 25: the next cycle's flow is legal, has nothing wrong in M and W, and keeps the path.
 pub fn obligation_25(
     b: &mut NetBuilder,
     ctl: &Controls,

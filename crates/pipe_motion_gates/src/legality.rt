@@ -229,7 +229,7 @@ pub fn stopping_gate(b: &mut NetBuilder) -> Result<u64, Memory>
     Ok(g)
 }
 
-/// The valuation is legal in a view, at settings of which `tv`, `lf`, `je` and `rm` count.
+/// The valuation is legal in a flow, at settings of which `tv`, `lf`, `je` and `rm` count.
 #[tactic(auto, unfolding(crate::specs::Legality::legal_with), using(nets::proofs::Truths::begins_more, nets::proofs::Truths::begins_self))]
 pub fn legal_gate(
     b: &mut NetBuilder,

@@ -1,4 +1,4 @@
--- What lawful says of a view, of the older of two good instructions.
+-- What legal says of a flow, of the older of two good instructions.
 use Rattle.std.proofs.Common.{◌≡◌, Bool, true, false, not, ◌&&◌, refl, arith}
 use Rattle.y86_base.proofs.Booleans.{and_second, and_first}
 use Rattle.pipe_motion.specs.Flow.{Flow, flow_legal, path, empty_flow, no_good_behind_wrong, youngest_stops_alone, wrong_has_reason, missed_jump_is_youngest, ret_is_youngest}

@@ -1,4 +1,4 @@
--- What follows of a lawful view.
+-- What follows of a legal flow.
 use Rattle.std.specs.Prelude.{◌≡◌, true, false}
 use Rattle.pipe_motion.specs.Flow.{Flow, is_followed_e, is_followed_m, is_followed_w}
 

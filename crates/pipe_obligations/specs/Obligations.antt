@@ -221,7 +221,7 @@ module _ (v : Variant) (s : Settings) (c : Fields) (y : Flow) (mv : RegisterCont
       stage_flow_by 1 (stops_by (code_of (cv signal.f_stat)) c.f.stops) (is_ret v (code_of (cv signal.f_icode)))
       (is_missed v s (code_of (cv signal.f_stat)) (code_of (cv signal.f_icode)) (code_of (cv signal.f_ifun)) c.f.taken c.f.back)
 
-  -- the next cycle's view is lawful, has nothing wrong in M and W, and keeps the path
+  -- the next cycle's flow is legal, has nothing wrong in M and W, and keeps the path
   abbrev pub o25 : Bool
   o25 = motion.o25 s.je s.rm mv fetch_good fetched y
 

@@ -1,4 +1,4 @@
-//! Theorems about lawful views and the obligations. Each is a function that does nothing and whose contract is the theorem.
+//! Theorems about legal flows and the obligations. Each is a function that does nothing and whose contract is the theorem.
 ghost use Rattle.std.specs.Prelude.{◌≡◌, ℕ, Bool, List, false, true};
 ghost use Rattle.y86_base.specs.declared.parts.Variant.{Variant};
 ghost use Rattle.ctl_atoms.specs.declared.leaf.Leaf.{Leaf};
@@ -17,7 +17,7 @@ pub fn law_of_undemanded()
     ensures { (v : Variant) (s : Settings) (atoms : List Atom) (i : ℕ) (c : Fields) (α : Assignment) (cv : ℕ → Leaf) → is_demanded v s atoms i c α ≡ false → obligation v s atoms i c α cv ≡ true }
 {}
 
-/// In a lawful view only the youngest good instruction can stop or turn, and behind a wrong one stands no good one.
+/// In a legal flow only the youngest good instruction can stop or turn, and behind a wrong one stands no good one.
 #[tactic(auto, using(crate::proofs::Older::older_goes_on, crate::proofs::Older::older_has_turned, crate::proofs::Older::none_behind_wrong))]
 pub fn law_of_legal_flows()
     ensures stops { (je rm : Bool) (v : Flow) → flow_legal je rm v ≡ true → OlderGoesOn v }
@@ -26,7 +26,7 @@ pub fn law_of_legal_flows()
 {}
 
 /// A pipeline of bubbles alone, as at the start, is legal at all settings, where the comparison that tells whether a jump goes
-/// back agrees with the jump that is fetched; and its cycle doesn't stop. The view of such a pipeline is lawful and on its path.
+/// back agrees with the jump that is fetched; and its cycle doesn't stop. The flow of such a pipeline is legal and on its path.
 #[tactic(auto, using(crate::proofs::Start::start_is_legal, crate::proofs::Older::empty_is_lawful, crate::proofs::Older::empty_on_path))]
 pub fn law_of_the_start()
     ensures legal { (v : Variant) (s : Settings) (atoms : List Atom) (f : FetchLine) (α : Assignment) → back_matches_in_f v atoms (of_bubbles f) α ≡ true → legal v s atoms (of_bubbles f) α ≡ true }

@@ -1,4 +1,4 @@
--- Motion of kinds, indexes, slots and registers.
+-- Motion of kinds, indexes, stage flows and registers.
 use Rattle.std.proofs.Common.{◌≡◌, ℕ, ◌+◌, Bool, true, false, not, ◌&&◌, ◌||◌, refl, sym, ap, ◌∙◌, arith}
 use Rattle.std.proofs.lemmas.Bool.{and_parts}
 use Rattle.dp_signals.specs.PipeCycle.{any_both, ending, is_both, loaded_d, loaded_e, loaded_m, loaded_w, moved, update_by, updates_of, next}
@@ -147,7 +147,7 @@ module _ (k : RegisterControls) (g : StageKind) (c : Schedule) (h : keeps_good k
   next_in_f =
       omega (arith, next_in_d, ap count good_d, split_d k.d.stall k.d.bubble (is_good c.d) (is_good g) (leaves_by k (is_good c.d)) (λ s. grind (arith)) (λ s. grind (arith)))
 
--- ---- slots
+-- ---- stage flows
 
 same_slot : (x : RunContext) (a : StageKind) (i j : ℕ) → (is_good a ≡ true → i ≡ j) → run_stage_flow x a i ≡ run_stage_flow x a j
 same_slot x Bubbled i j h = refl
@@ -183,7 +183,7 @@ view_by d e m w = record { d = d; e = e; m = m; w = w }
 four : {d e m w d' e' m' w' : StageFlow} → d ≡ d' → e ≡ e' → m ≡ m' → w ≡ w' → view_by d e m w ≡ view_by d' e' m' w'
 four p q r s = rw (p, q, r, s) refl
 
--- the next view is the moved one
+-- the next flow is the moved one
 pub view_moved : (x : RunContext) (k : RegisterControls) (g : StageKind) (c : Schedule) → keeps_good k c ≡ true →
     moved_flow k (run_stage_flow x g (in_f c)) (run_flow x c) ≡ run_flow x (next_schedule k g c)
 unfolding run_flow moved_flow

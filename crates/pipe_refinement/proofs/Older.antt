@@ -1,4 +1,4 @@
--- What a lawful view gives: an instruction with a younger good one behind it doesn't stop.
+-- What a legal flow gives: an instruction with a younger good one behind it doesn't stop.
 use Rattle.std.proofs.Common.{◌≡◌, Bool, true, false, ◌||◌, sym, ◌∙◌, arith}
 use Rattle.yis_run_laws.specs.Instructions.{stops_at}
 use Rattle.pipe_refinement.specs.Invariant.{RunContext, run_flow}

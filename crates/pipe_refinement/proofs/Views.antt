@@ -1,4 +1,4 @@
--- The view of a configuration, and its youngest good instruction.
+-- The flow of a configuration, and its youngest good instruction.
 use Rattle.std.proofs.Common.{◌≡◌, ◌+◌, Bool, true, false, ◌&&◌, refl, ap, arith}
 use Rattle.std.proofs.lemmas.Bool.{and_left}
 use Rattle.yis_run_laws.specs.Instructions.{stops_at}
@@ -10,7 +10,7 @@ pub and_on : (a b : Bool) → a ≡ true → a && b ≡ b
 and_on true b h = refl
 and_on false b h = cc
 
--- a view by its slots, so that the tests of a view compute on truths
+-- a flow by its stage flows, so that the tests of a flow compute on truths
 pub record Seen (x : RunContext) (c : Schedule) (y : Flow) : Type 0 where
   pub good_d : y.d.good ≡ is_good c.d
   pub good_e : y.e.good ≡ is_good c.e

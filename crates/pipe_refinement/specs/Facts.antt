@@ -143,7 +143,7 @@ pub record GoodFetch (v : Variant) (s : Settings) (p : PipeState) (f : ℕ → �
   pub goes_on : youngest_stops y ≡ false
   pub right : ((f name.f_pc ≡ p.pred_pc) × (path y ≡ true)) ⊎ RightPc v s p f c
 
--- O23 to O27 of this view, where the fetch is good or not, with the facts of what a good one brings
+-- O23 to O27 of this flow, where the fetch is good or not, with the facts of what a good one brings
 pub record MotionFacts (v : Variant) (s : Settings) (p : PipeState) (f : ℕ → ℕ) (c : Schedule) (y : Flow) (good : Bool) (facts : StageFlow) : Type 0 where
   pub fetch : good ≡ true → GoodFetch v s p f c y
   pub apart : o23 (requested_controls f) ≡ true

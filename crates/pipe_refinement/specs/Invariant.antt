@@ -31,7 +31,7 @@ pub record RunContext : Type 0 where
   pub s : Settings
   pub image : List ℕ
 
--- ---- the instructions of the run as slots
+-- ---- the instructions of the run as stage flows
 -- instruction i is predicted as a taken jump; it is a jump that goes another way
 abbrev pub predicted_at : RunContext → ℕ → Bool
 predicted_at x i =

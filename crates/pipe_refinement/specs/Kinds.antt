@@ -5,7 +5,7 @@ use Rattle.dp_signals.specs.PipeNames as name
 use Rattle.y86_base.specs.Words.{set}
 use Rattle.pipe_motion.specs.Flow.{RegisterControl, RegisterControls}
 
--- a bubble, an instruction that was fetched in vain, or one of the run
+-- a bubble, an instruction that was fetched on the wrong path, or one of the run
 pub data StageKind : Type 0 where
   Bubbled : StageKind
   Wrong : StageKind

@@ -1,4 +1,4 @@
--- The code's lines, slots and movers as those of the definitions.
+-- The code's lines, stage flows and register controls as those of the definitions.
 use Rattle.pipe_fields.specs.Layout.{Fields}
 use Rattle.pipe_motion.specs.Flow.{StageFlow, Flow, RegisterControl, RegisterControls}
 use Rattle.pipe_requirements.specs.declared.lines.Lines as code

@@ -12,7 +12,7 @@ use Rattle.pipe_stage_text.specs.declared.diagram.DiagramCycle.{DiagramCycle}
 use Rattle.pipe_stage_text.specs.declared.stage_content.StageContent.{StageContent}
 use Rattle.pipe_stage_text.specs.declared.stage_contents.StageContents.{StageContents}
 
--- what stands in a stage is thrown away: the stage doesn't keep it, and the next one doesn't load it
+-- what stands in a stage is cancelled: the stage doesn't keep it, and the next one doesn't load it
 abbrev pub lost : RegisterUpdate → RegisterUpdate → Bool
 lost Stay next = false
 lost Bubble Load = false
@@ -22,7 +22,7 @@ lost Load Load = false
 lost Load Stay = true
 lost Load Bubble = true
 
--- what is fetched is thrown away: D takes a bubble in its place, or stays while F goes on
+-- what is fetched is cancelled: D takes a bubble in its place, or stays while F goes on
 abbrev pub fetch_lost : RegisterUpdate → RegisterUpdate → Bool
 fetch_lost f Load = false
 fetch_lost f Bubble = true
@@ -30,7 +30,7 @@ fetch_lost Stay Stay = false
 fetch_lost Bubble Stay = true
 fetch_lost Load Stay = true
 
--- a cycle as the diagram shows it; where the machine ends with it, nothing is thrown away
+-- a cycle as the diagram shows it; where the machine ends with it, nothing is cancelled
 unfoldable pub shown_cycle : ℕ → StageContents → StageContent → RegisterUpdates → Bool → DiagramCycle
 shown_cycle number watch fetch k going =
     record {
@@ -46,7 +46,7 @@ shown_cycle number watch fetch k going =
       m_lost = going && lost k.m k.w;
     }
 
--- the letter of a stage: small where what stands there is thrown away
+-- the letter of a stage: small where what stands there is cancelled
 abbrev pub letter : Bool → ℕ → ℕ → ℕ
 letter lost small capital = if lost then small else capital
 

@@ -12,7 +12,7 @@ use crate::stage_contents::StageContents;
 use dp_signals::{RegisterUpdate, RegisterUpdates};
 use y86_base::{Memory, put};
 
-/// What the diagram shows of a cycle: what stands in each stage, and of which stages it is thrown away at the end of the cycle.
+/// What the diagram shows of a cycle: what stands in each stage, and of which stages it is cancelled at the end of the cycle.
 #[derive(Clone, Copy, Debug)]
 pub struct DiagramCycle {
     pub number: u64,
@@ -27,14 +27,14 @@ pub struct DiagramCycle {
     pub m_lost: bool,
 }
 
-/// Whether what stands in a stage is thrown away: the stage doesn't keep it, and the next one doesn't load it.
+/// Whether what stands in a stage is cancelled: the stage doesn't keep it, and the next one doesn't load it.
 fn lost(mover: RegisterUpdate, next: RegisterUpdate) -> bool
     ensures { result ≡ text.lost mover next }
 {
     !matches!(mover, RegisterUpdate::Stay) && !matches!(next, RegisterUpdate::Load)
 }
 
-/// Whether what is fetched is thrown away: D takes a bubble in its place, or stays while F goes on.
+/// Whether what is fetched is cancelled: D takes a bubble in its place, or stays while F goes on.
 fn fetch_lost(f: RegisterUpdate, d: RegisterUpdate) -> bool
     ensures { result ≡ text.fetch_lost f d }
 {
@@ -45,7 +45,7 @@ fn fetch_lost(f: RegisterUpdate, d: RegisterUpdate) -> bool
     }
 }
 
-/// What the diagram shows of a cycle. Where the machine ends with it, nothing is thrown away.
+/// What the diagram shows of a cycle. Where the machine ends with it, nothing is cancelled.
 #[tactic(auto, unfolding(crate::specs::Diagram::shown_cycle))]
 pub(crate) fn shown_cycle(
     number: u64,
@@ -70,7 +70,7 @@ pub(crate) fn shown_cycle(
     }
 }
 
-/// The letter of a stage: small where it is the last one of what is thrown away.
+/// The letter of a stage: small where it is the last one of what is cancelled.
 fn letter(lost: bool, small: u8, capital: u8) -> u8
     ensures { result ≡ text.letter lost small capital }
 {

@@ -21,7 +21,7 @@ enum Held {
     Missed,
 }
 
-/// A view, from D to W, under a file that fetches early from E (`je`) or M (`rm`) or not.
+/// A flow, from D to W, under a file that fetches early from E (`je`) or M (`rm`) or not.
 struct Seen {
     d: Held,
     e: Held,
@@ -113,7 +113,7 @@ fn slot(held: Held, yes: u64, no: u64) -> StageFlowGates
     }
 }
 
-/// Whether the view is lawful, and on the path.
+/// Whether the flow is legal, and on the path.
 fn judged(alloc: Global, s: &Seen) -> Result<(bool, bool), Memory> {
     let mut b = NetBuilder::new(alloc, 1);
     let yes = b.constant(true)?;

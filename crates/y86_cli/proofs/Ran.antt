@@ -279,7 +279,7 @@ unfolding CommandOutcome
 usage_done None files_before files_after before after status e none = absurd (cc (e.0))
 usage_done (Some command) files_before files_after before after status e none = absurd (cc)
 
--- want of memory before the words are known
+-- out of memory before the words are known
 pub memory_ran : (form : Option Command) (files : FilesState) (seen err_before err_after : SinkState) (status : ℕ) → status ≡ 6 → WroteError err_before err_after memory_line →
     CallContract form files files seen seen err_before err_after status
 memory_ran form files seen err_before err_after status six told = record {

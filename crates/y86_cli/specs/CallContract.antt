@@ -35,7 +35,7 @@ pub record CallContract (form : Option Command) (files_before files_after : File
   pub at_most_seven : status ≤ 7
   -- 2 comes only where the words are no command
   pub usage : status ≡ 2 → form ≡ None
-  -- but for a failed read and want of memory, an answer that is allowed
+  -- but for a failed read and out of memory, an answer that is allowed
   pub answer : status ≢ 3 → status ≢ 6 →
       (a : Answer) × IsPermitted (plan_in form) files_before.told a × DeliversOnBoth a out_before out_after err_before err_after status
   -- with 3 exactly one read of the file failed, and with every other status no read of any
@@ -50,6 +50,6 @@ pub record CallContract (form : Option Command) (files_before files_after : File
   -- with 0, 1 and 4 nothing is written on standard error
   pub nothing_err : (status ≤ 1) ⊎ (status ≡ 4) → err_after ≡ err_before
   -- where no file that the answer comes to has a fault, and no read and no write on standard output failed, an answer with 0 or 1
-  -- comes, or want of memory
+  -- comes, or out of memory
   pub complete : (contents : List (Option (List ℕ))) → HasContents files_before.told (plan_in form) contents → IsFaultless (plan_in form) contents →
       status ≢ 3 → status ≢ 4 → (status ≡ 6) ⊎ (status ≤ 1)

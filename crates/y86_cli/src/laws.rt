@@ -80,7 +80,7 @@ pub fn law_of_accepted_files()
 {}
 
 /// Of an accepted file, of the length that is read, `big` answers that both runs came to the same report, n + 1 steps and at most
-/// 5(n + 1) cycles, with status 0; but for a failed read, a failed write and want of memory.
+/// 5(n + 1) cycles, with status 0; but for a failed read, a failed write and out of memory.
 pub fn law_of_big()
     ensures { (words : List (List ℕ)) (n : ℕ) (name : List ℕ) (v : Variant) (files_before files_after : FilesState)
         (out_before out_after err_before err_after : SinkState) (status : ℕ) (text : List ℕ) → form_of words ≡ Some (big n name v) →

@@ -26,7 +26,7 @@ module _ (said : Option Scanned) (files_before files_after : FilesState) (out_be
       let P : Option Scanned → Type 0 = λ r. CallEndsAs r files_before files_after out_before out_after (Err Usage) in
       record { result = Err Usage; ends = inl (subst P e (none_ends files out)); tells = (two, told, λ four. absurd (cc (four))) }
 
-  -- want of memory before anything is read
+  -- out of memory before anything is read
   pub called_memory : files_after ≡ files_before → out_after ≡ out_before → status ≡ 6 → WroteError err_before err_after (stop_line Memory) →
       ShowContract said files_before files_after out_before out_after err_before err_after status
   called_memory files out six told =

@@ -57,7 +57,7 @@ CallEndsAs None files_before files_after before after result = ShowOutcome Pipe 
 CallEndsAs (Some r) files_before files_after before after result =
     ShowOutcome r.processor (request_of (form_of r.words)) (window_of r) files_before files_after before after result
 
--- a call did what its words say and told how that ended, or there was want of memory and nothing was read or shown
+-- a call did what its words say and told how that ended, or memory ran out and nothing was read or shown
 pub record ShowContract (said : Option Scanned) (files_before files_after : FilesState) (out_before out_after err_before err_after : SinkState) (status : ℕ) : Type 0 where
   pub result : Result ℕ code.StopReason
   pub ends : CallEndsAs said files_before files_after out_before out_after result ⊎ ((result ≡ Err Memory) × (files_after ≡ files_before) × (out_after ≡ out_before))

@@ -9,6 +9,6 @@ abbrev pub LeavesMemory : {A : Type 0} → Result A YoWhy → List ℕ → Resul
 LeavesMemory (Ok done) after defined = defined ≡ Ok after
 LeavesMemory (Err why) after defined = defined ≡ Err why
 
--- the answer to want of memory
+-- the answer when memory runs out
 abbrev pub out_of_memory : YoFault
 out_of_memory = record { line = 0; why = Memory }
