@@ -65,8 +65,7 @@ fn count_all(alloc: Global, aig: &Aig, lanes: &[u64x8], s: &mut Scratch) -> Resu
     ensures { IfOk result (λ counts. AreCountsAt aig.now.net aig.now.outs lanes.now counts.items) }
 {
     s.run(&aig.net, lanes);
-    let counts = count_gates(alloc, s, aig.outs.items())?;
-    Ok(counts)
+    count_gates(alloc, s, aig.outs.items())
 }
 
 /// At how many of the vectors 0 to 511 of a seed each output is 1.
@@ -77,6 +76,5 @@ pub fn counts(alloc: Global, aig: &Aig, seed: u64) -> Result<Vec<u64>, Memory>
 {
     let lanes = vectors(alloc, seed, aig.net.vars())?;
     let mut scratch = Scratch::new(alloc, &aig.net)?;
-    let counts = count_all(alloc, aig, lanes.as_slice(), &mut scratch)?;
-    Ok(counts)
+    count_all(alloc, aig, lanes.as_slice(), &mut scratch)
 }

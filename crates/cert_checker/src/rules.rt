@@ -65,7 +65,7 @@ fn claims_and(found: Option<Claim>, left: u64, right: u64, both: u64) -> bool
                 both: c,
             },
         ) => a as u64 == left && (b as u64 == right && c as u64 == both),
-        _ => false,
+        Some(Claim::Not { .. }) | None => false,
     }
 }
 
@@ -75,7 +75,7 @@ fn claims_not(found: Option<Claim>, of: u64, not: u64) -> bool
 {
     match found {
         Some(Claim::Not { of: a, not: c }) => a as u64 == of && c as u64 == not,
-        _ => false,
+        Some(Claim::And { .. }) | None => false,
     }
 }
 
@@ -95,53 +95,12 @@ pub fn is_plain_not(a: u64, c: u64) -> bool
     (a == 0 && c == 1) || (a == 1 && c == 0)
 }
 
-/// Whether claims say of the parts of three terms what is claimed of the terms.
-fn and_by_cases(
-    terms: &[TermDef],
-    found: &[Claim],
-    left: u64,
-    right: u64,
-    both: u64,
+/// The cases of a variable: the claim named where it is 0, and that where it is 1.
+#[derive(Clone, Copy)]
+struct Cases {
     var: u64,
     low: u64,
     high: u64,
-) -> bool
-    ensures { result ≡ spec.and_by_cases terms.now found.now left right both var low high }
-{
-    claims_and(
-        found.get(low as usize).copied(),
-        part(terms, var, false, left),
-        part(terms, var, false, right),
-        part(terms, var, false, both),
-    ) && claims_and(
-        found.get(high as usize).copied(),
-        part(terms, var, true, left),
-        part(terms, var, true, right),
-        part(terms, var, true, both),
-    )
-}
-
-/// The same of two terms, of which one is the negation of the other.
-fn not_by_cases(
-    terms: &[TermDef],
-    found: &[Claim],
-    of: u64,
-    not: u64,
-    var: u64,
-    low: u64,
-    high: u64,
-) -> bool
-    ensures { result ≡ spec.not_by_cases terms.now found.now of not var low high }
-{
-    claims_not(
-        found.get(low as usize).copied(),
-        part(terms, var, false, of),
-        part(terms, var, false, not),
-    ) && claims_not(
-        found.get(high as usize).copied(),
-        part(terms, var, true, of),
-        part(terms, var, true, not),
-    )
 }
 
 /// What the lines so far have made.
@@ -248,12 +207,46 @@ impl CheckerState {
         }
     }
 
+    /// Whether claims say of the parts of three terms what is claimed of the terms.
+    fn and_by_cases(&self, left: u64, right: u64, both: u64, by: Cases) -> bool
+        ensures { result ≡ spec.and_by_cases self.now.terms self.now.claims left right both by.var by.low by.high }
+    {
+        let terms = self.terms.as_slice();
+        let found = self.claims.as_slice();
+        claims_and(
+            found.get(by.low as usize).copied(),
+            part(terms, by.var, false, left),
+            part(terms, by.var, false, right),
+            part(terms, by.var, false, both),
+        ) && claims_and(
+            found.get(by.high as usize).copied(),
+            part(terms, by.var, true, left),
+            part(terms, by.var, true, right),
+            part(terms, by.var, true, both),
+        )
+    }
+
+    /// The same of two terms, of which one is the negation of the other.
+    fn not_by_cases(&self, of: u64, not: u64, by: Cases) -> bool
+        ensures { result ≡ spec.not_by_cases self.now.terms self.now.claims of not by.var by.low by.high }
+    {
+        let terms = self.terms.as_slice();
+        let found = self.claims.as_slice();
+        claims_not(
+            found.get(by.low as usize).copied(),
+            part(terms, by.var, false, of),
+            part(terms, by.var, false, not),
+        ) && claims_not(
+            found.get(by.high as usize).copied(),
+            part(terms, by.var, true, of),
+            part(terms, by.var, true, not),
+        )
+    }
+
     /// Whether the claim that a line makes is justified.
     fn is_justified(&self, line: CertLine) -> bool
         ensures { result ≡ spec.is_justified self.now line }
     {
-        let terms = self.terms.as_slice();
-        let found = self.claims.as_slice();
         match line {
             CertLine::And { left, right, both } => is_plain_and(left, right, both),
             CertLine::AndCases {
@@ -263,7 +256,7 @@ impl CheckerState {
                 var,
                 low,
                 high,
-            } => and_by_cases(terms, found, left, right, both, var, low, high),
+            } => self.and_by_cases(left, right, both, Cases { var, low, high }),
             CertLine::Not { of, not } => is_plain_not(of, not),
             CertLine::NotCases {
                 of,
@@ -271,8 +264,8 @@ impl CheckerState {
                 var,
                 low,
                 high,
-            } => not_by_cases(terms, found, of, not, var, low, high),
-            _ => true,
+            } => self.not_by_cases(of, not, Cases { var, low, high }),
+            CertLine::Term { .. } | CertLine::Gate { .. } | CertLine::GateBy { .. } => true,
         }
     }
 
@@ -296,7 +289,7 @@ impl CheckerState {
             Some(Gate::Const(false)) => term == 0,
             Some(Gate::Const(true)) => term == 1,
             Some(Gate::Var(v)) => is_made(made_at(self.terms.as_slice(), term), v, 0, 1),
-            _ => false,
+            Some(Gate::Not(_)) | Some(Gate::And(..)) | None => false,
         }
     }
 
@@ -313,7 +306,7 @@ impl CheckerState {
                 (Some(left), Some(right)) => claims_and(found, left as u64, right as u64, term),
                 _ => false,
             },
-            _ => false,
+            Some(Gate::Const(_)) | Some(Gate::Var(_)) | None => false,
         }
     }
 
@@ -327,7 +320,11 @@ impl CheckerState {
                 let found = self.claims.as_slice().get(claim as usize).copied();
                 self.gate_matches_by(net, term, found)
             }
-            _ => true,
+            CertLine::Term { .. }
+            | CertLine::And { .. }
+            | CertLine::AndCases { .. }
+            | CertLine::Not { .. }
+            | CertLine::NotCases { .. } => true,
         }
     }
 

@@ -148,7 +148,12 @@ impl<'a> ClaimWriter<'a> {
                     None
                 }
             }
-            _ => None,
+            Some(CertLine::Term { .. })
+            | Some(CertLine::Not { .. })
+            | Some(CertLine::NotCases { .. })
+            | Some(CertLine::Gate { .. })
+            | Some(CertLine::GateBy { .. })
+            | None => None,
         }
     }
 
@@ -176,7 +181,12 @@ impl<'a> ClaimWriter<'a> {
                     None
                 }
             }
-            _ => None,
+            Some(CertLine::Term { .. })
+            | Some(CertLine::And { .. })
+            | Some(CertLine::AndCases { .. })
+            | Some(CertLine::Gate { .. })
+            | Some(CertLine::GateBy { .. })
+            | None => None,
         }
     }
 
@@ -308,16 +318,9 @@ impl<'a> ClaimWriter<'a> {
     {
         let t = ts[i as usize];
         match n.gate(i) {
-            Gate::Const(_) => Ok(0),
-            Gate::Var(_) => Ok(0),
-            Gate::Not(a) => {
-                let p = self.not(ts[a as usize], t)?;
-                Ok(p)
-            }
-            Gate::And(a, b) => {
-                let p = self.and(ts[a as usize], ts[b as usize], t)?;
-                Ok(p)
-            }
+            Gate::Const(_) | Gate::Var(_) => Ok(0),
+            Gate::Not(a) => self.not(ts[a as usize], t),
+            Gate::And(a, b) => self.and(ts[a as usize], ts[b as usize], t),
         }
     }
 

@@ -232,12 +232,11 @@ impl<'a> TermWriter<'a> {
             return Ok(t);
         }
         self.holds();
-        let t = self.push(TermDef {
+        self.push(TermDef {
             var: v,
             low: 0,
             high: 1,
-        })?;
-        Ok(t)
+        })
     }
 
     /// The term of a gate.
@@ -258,14 +257,7 @@ impl<'a> TermWriter<'a> {
                 self.holds();
                 Ok(t)
             }
-            Gate::Not(_) => {
-                let t = self.term(d, 0)?;
-                Ok(t)
-            }
-            Gate::And(_, _) => {
-                let t = self.term(d, 0)?;
-                Ok(t)
-            }
+            Gate::Not(_) | Gate::And(..) => self.term(d, 0),
         }
     }
 

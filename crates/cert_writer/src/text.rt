@@ -28,8 +28,7 @@ fn put_numbers(out: &mut Vec<u8>, letter: u8, numbers: &[u64]) -> Result<(), Mem
     for i in 0..numbers.len() {
         put_number(out, numbers[i])?;
     }
-    put(out, b"\n")?;
-    Ok(())
+    put(out, b"\n")
 }
 
 /// Puts a line.
@@ -104,13 +103,8 @@ fn line_of(gate: Gate, term: u32, claim: u32) -> CertLine
     ensures { result ≡ gate_line gate term claim }
 {
     match gate {
-        Gate::Const(_) => CertLine::Gate { term: term as u64 },
-        Gate::Var(_) => CertLine::Gate { term: term as u64 },
-        Gate::Not(_) => CertLine::GateBy {
-            term: term as u64,
-            claim: claim as u64,
-        },
-        Gate::And(_, _) => CertLine::GateBy {
+        Gate::Const(_) | Gate::Var(_) => CertLine::Gate { term: term as u64 },
+        Gate::Not(_) | Gate::And(..) => CertLine::GateBy {
             term: term as u64,
             claim: claim as u64,
         },

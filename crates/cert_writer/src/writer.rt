@@ -60,8 +60,7 @@ fn put_head(alloc: Global, out: &mut Vec<u8>, settings: Settings) -> Result<(), 
 {
     let yes = pipe_acceptance(alloc, &settings)?;
     put(out, b"y86cert 1\n")?;
-    put(out, yes.as_slice())?;
-    Ok(())
+    put(out, yes.as_slice())
 }
 
 /// How large a certificate may become in one order of variables.
