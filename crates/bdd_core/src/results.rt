@@ -68,7 +68,7 @@ pub fn known(entries: &[CachedResult], key: OpKey) -> Option<u32>
 
 /// Remembers a result, in the place of an older one.
 pub fn remember(entries: &mut [CachedResult], key: OpKey, answer: u32)
-    ensures { (i : ℕ) (e : Entry) → slice_get entries.new i ≡ Some e →
+    ensures { (i : ℕ) (e : CachedResult) → slice_get entries.new i ≡ Some e →
         (slice_get entries.old i ≡ Some e) ⊎ (e ≡ record { key = key; answer = answer }) }
 {
     let at = place(key, entries.len());

@@ -162,11 +162,11 @@ fn put_row(
     requires atoms { AreAtoms rows.now d.now.terms listed.now }
     requires vars { first + length listed.now ≤ b.old.vars }
     requires leaves { (leaves : ℕ → List Leaf) × IsSolution (leaf_rule rows.now d.now.terms) leaves }
-    requires filling { (places : List NamePlace) × IsPartialEncoding rows.now d.now.terms places listed.now first b.old es.old.items }
+    requires filling { (places : List Place) × IsPartialEncoding rows.now d.now.terms places listed.now first b.old es.old.items }
     requires needs { (row : Row) → slice_get rows.now id ≡ Some row → tables.is_defined row.role ≡ true →
         AllByRecursion (λ m. m < length rows.now → IsTrue (is_filled (slice_get es.old.items m))) (names (row_term rows.now d.now.terms id)) }
     ensures extends { ExtendsNet b.old b.new }
-    ensures filling { (places : List NamePlace) → IsPartialEncoding rows.now d.now.terms places listed.now first b.old es.old.items →
+    ensures filling { (places : List Place) → IsPartialEncoding rows.now d.now.terms places listed.now first b.old es.old.items →
         OnOk result (IsPartialEncoding rows.now d.now.terms places listed.now first b.new es.new.items) }
     ensures filled { (row : Row) → slice_get rows.now id ≡ Some row → tables.is_defined row.role ≡ true → OnOk result (IsTrue (is_filled (slice_get es.new.items id))) }
     ensures kept { (n : ℕ) → IsTrue (is_filled (slice_get es.old.items n)) → OnOk result (IsTrue (is_filled (slice_get es.new.items n))) }

@@ -9,5 +9,5 @@ use Rattle.ctl_rules.proofs.by_row.by_icode.Given as goal
 abbrev pub invariant-loop-code : goal.invariant-loop-code
 invariant-loop-code g l = record {
   begins : ExtendsNet l.fn.b l.b;
-  are : IsControlGate l.b l.ctl l.all (λ w α cv. where_below l.code (spelt w l.icode.first l.icode.bits) (λ k. g.R.ByRow.asks l.rule k (row l.v k) w α cv));
+  are : IsControlGate l.b l.ctl l.all (λ w α cv. where_below l.code (spelt w l.icode.first l.icode.bits) (λ k. g.R.RowGates.asks l.rule k (row l.v k) w α cv));
 }

@@ -13,7 +13,7 @@ rule_told-requires-clause-inside g c = inside_more c.loop-i.invariant.begins c.r
 
 pub loop-i-preserved : goal.loop-i-preserved
 loop-i-preserved g c =
-    let f : ℕ → List Bool → Assignment → (ℕ → Leaf) → Bool = λ i w α cv. not (g.N.Numbered.may c.args.rules.now w α cv) || g.N.Numbered.asks c.args.rules.now i w α cv in
+    let f : ℕ → List Bool → Assignment → (ℕ → Leaf) → Bool = λ i w α cv. not (g.N.RuleFamily.may c.args.rules.now w α cv) || g.N.RuleFamily.asks c.args.rules.now i w α cv in
     let i = inside_more c.loop-i.invariant.begins c.requires.inside in
     let grown = c.rule_told.ensures.extends in
     record {
