@@ -45,7 +45,7 @@ abbrev pub leaves_of_row : Option Row → ℕ → List Leaf → List Leaf
 leaves_of_row None n xs = []
 leaves_of_row (Some row) n xs = leaves_by_role row.class n row.role xs
 
--- the equations of the leaves that each name can pick (to be solved by `Fixes`)
+-- the equations of the leaves that each name can pick (to be solved by IsSolution)
 abbrev pub leaf_rule : List Row → List Term → ℕ → (ℕ → List Leaf) → List Leaf
 leaf_rule rows terms n leaves = leaves_of_row (slice_get rows n) n (term_atoms leaves (row_term rows terms n)).leaves
 
