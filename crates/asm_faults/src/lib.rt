@@ -1,4 +1,4 @@
-//! The faults of assembly and of object text as facts: every faulty line, and of each what the grammar wants where.
+//! The faults of assembly as facts: every faulty line, and what the grammar wants at which place of it.
 #![tactic(auto)]
 
 mod lines;

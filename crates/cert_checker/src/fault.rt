@@ -1,7 +1,7 @@
 //! Why a text is no certificate.
 use thiserror::Error;
 
-/// What is wrong with a line of a certificate. Of several reasons at one line the first of this order is told.
+/// What is wrong with a line of a certificate. Of several reasons at one line the first of this order is reported.
 #[derive(Clone, Copy, Debug, PartialEq, Eq, Error)]
 pub enum CertWhy {
     /// It is no line of a certificate, or not the one that has to stand there.

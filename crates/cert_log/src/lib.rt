@@ -1,4 +1,4 @@
-//! Certificates of files for PIPE: what one has to show, and what it shows; and the calls that write one and check one.
+//! Certificates of HCL files for PIPE: what one has to show, what follows from it, and the calls to write and check one.
 #![tactic(auto)]
 
 mod demanded;

@@ -19,7 +19,7 @@ use Rattle.cli_checks.specs.declared.verdict.PipeDecision.TheVariants as decided
 use Rattle.cli_checks.specs.declared.verdict.PipeVerdictText.{PipeVerdictText}
 use Rattle.cli_checks.specs.declared.verdict.PipeVerdictText.TheVariants as pipe_text
 
--- the refusal of a design in which a definition mixes codes with words: the first is told
+-- the refusal of a design in which a definition mixes codes with words: the first is reported
 pub record RefusesMixed (name : List ℕ) (rows : List Row) (terms : List Term) (a : Answer) : Type 0 where
   pub row : ℕ
   pub first : IsFirstMixed rows terms row

@@ -1,4 +1,4 @@
-//! The commands `check seq`, `check seqplus` and `check pipe`, and the verdicts on designs for PIPE as others use them.
+//! The commands `check seq`, `check seqplus` and `check pipe`, and PIPE's verdict for `psim --checked` and `--cert`.
 #![tactic(auto)]
 
 mod check;

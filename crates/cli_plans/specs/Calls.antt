@@ -12,7 +12,7 @@ use Rattle.cli_plans.specs.PlanFollowing.{SinkState}
 abbrev pub words_behind : IntoIter (String Global) Global → List (List ℕ)
 words_behind args = map string_bytes (drop 1 (into_iter_items args))
 
--- a text was told on standard error: whole, or a proper prefix of it, where a write failed there
+-- a text was written on standard error: whole, or a proper prefix of it, where a write failed there
 abbrev pub WroteError : SinkState → SinkState → List ℕ → Type 0
 WroteError before after text =
     (Appended before.taken after.taken text × (after.faults ≡ before.faults)) ⊎ (AppendedPrefix before.taken after.taken text × (after.faults ≡ counted before.faults))

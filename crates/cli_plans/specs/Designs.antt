@@ -40,7 +40,7 @@ pub record RefusesBinding (name : List ℕ) (rows : List Row) (text : List ℕ) 
   pub binds : bound rows file.items ≡ Err fault
   pub told : a ≡ refused 5 (bind_fault_line name fault)
 
--- the refusal of a text in which names depend on themselves: the first cycle is told
+-- the refusal of a text in which names depend on themselves: the first cycle is reported
 pub record RefusesOrder (name : List ℕ) (rows : List Row) (text : List ℕ) (a : Answer) : Type 0 where
   pub file : File
   pub reads : ReadsAs text file

@@ -23,7 +23,7 @@ big_status both = if both.same && both.halted then 0 else 1
 abbrev pub BigAnswers : Variant → List Term → ℕ → Answer → Type 0
 BigAnswers v terms n a = (both : CosimResult) × IsCosimulation v terms n both × (a ≡ done (big_status both) (big_line n both))
 
--- both runs did all of program n, to the same report, the pipeline in at most 5 (n + 1) cycles, and the line that says so was told
+-- both runs did all of program n, to the same report, the pipeline in at most 5 (n + 1) cycles, and the line that says so was printed
 pub record AnsweredSame (n : ℕ) (before after : SinkState) (status : ℕ) : Type 0 where
   pub cycles : ℕ
   pub in_time : cycles ≤ 5 * (n + 1)

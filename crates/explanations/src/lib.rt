@@ -1,4 +1,4 @@
-//! What the program says of obligations, signals, instructions and faults, as data: one place for all sentences.
+//! What `y86-tell` says of obligations, signals, instructions and kinds of faults, as data.
 #![tactic(auto)]
 
 mod faults;

@@ -1,4 +1,4 @@
-//! What is told of a file: its faults, each with its place, its sentence and the facts that the sentence is made of.
+//! What is reported of a file: its faults, each with its place, its sentence and the facts behind it.
 ghost use Rattle.std.specs.Prelude.{◌≡◌, ◌++◌, ◌∷◌, [], OnOk};
 ghost use Rattle.fault_report.specs.Datapaths as spec;
 

@@ -1,5 +1,5 @@
-//! Designs as functions of their texts: a text that was printed is read again, an order of a design is there where no name depends on itself, and what a text, its binding, its
-//! cycle and its atoms can be is one.
+//! Theorems on designs: a printed file is read back; a design has an order if no name depends on itself; it has one first
+//! cycle and one list of atoms at most.
 #![tactic(auto)]
 
 mod laws;

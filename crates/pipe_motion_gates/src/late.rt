@@ -1,4 +1,4 @@
-//! What decides the settings lf, je and rm of a file: each holds where its gate is false at some valuation.
+//! Parts of the gates for lf, je and rm, from what stands in the stages.
 ghost use Rattle.std.specs.Prelude.{◌<◌, ◌≤◌, ◌==◌, ◌&&◌, not, length, IfOk};
 ghost use Rattle.nets.specs.Nets.{ExtendsNet, IsGate, truth};
 ghost use Rattle.y86_isa.specs.Table.{row};

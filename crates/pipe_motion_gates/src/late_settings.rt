@@ -1,4 +1,4 @@
-//! What shows that a file is early or late: the gates that decide lf, je and rm.
+//! The gates that decide lf, je and rm: a setting is 1 where its gate is false at some valuation.
 ghost use Rattle.std.specs.Prelude.{◌≡◌, ◌<◌, ◌≤◌, ◌+◌, ◌&&◌, if◌then◌else◌, IfOk, length, not};
 ghost use Rattle.nets.specs.Nets.{ExtendsNet, truth};
 ghost use Rattle.ctl_atoms.specs.declared.leaf.Leaf.TheVariants.{Name};

@@ -1,5 +1,5 @@
-//! Gates of what PIPE's valuations are asked of and how its instructions move: which valuations are legal, obligations 23 to
-//! 27, and what shows that a file is early or late.
+//! Gates on legal valuations, on which of them obligations are asked of, on obligations 23 to 27, and on the settings lf, je
+//! and rm.
 #![tactic(auto, using(nets::proofs::Truths::begins_more, nets::proofs::Truths::begins_self))]
 
 mod fetch;

@@ -1,4 +1,4 @@
-//! A file for PIPE whose obligations hold computes what the instructions compute.
+//! PIPE's theorem: joins `pipe_obligations` (numbers and names) and `pipe_refinement` (real words).
 #![tactic(auto)]
 
 mod laws;

@@ -1,4 +1,4 @@
-//! What is generated: how a program runs, and that each valuation that is drawn is allowed. Theorems that no test needs to look for.
+//! Theorems on what is generated: how a program runs, and that each drawn valuation is allowed.
 #![tactic(auto)]
 
 mod laws;

@@ -1,4 +1,5 @@
-//! What the calls of the program print of a program that `watch` found good, or that doesn't write its own code, under an accepted file.
+//! What `psim` and `yis` print under an accepted file: of a program that `watch` found apart, or that doesn't write its own
+//! code.
 #![tactic(auto)]
 
 mod laws;

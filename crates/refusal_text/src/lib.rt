@@ -1,4 +1,4 @@
-//! A refusal in sentences, and as JSON.
+//! What is said of a file for PIPE: a refusal in sentences and as JSON, and the settings of an accepted file.
 //!
 //! The facts are those of `pipe_refusals`: the counterexample, the findings, the repairs, the false obligations. This crate writes them
 //! down. That it writes the right ones is tested, and not proved.

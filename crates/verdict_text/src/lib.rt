@@ -1,5 +1,4 @@
-//! The texts of a checker's verdicts: of a No the obligation that is false, and the lines of the valuation at which it
-//! is; of a Yes the settings.
+//! The texts of verdicts. A no has the false obligation and the lines of its valuation; a yes has the settings.
 #![tactic(auto)]
 
 mod atoms;

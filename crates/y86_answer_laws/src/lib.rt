@@ -1,4 +1,4 @@
-//! The answer of a command is a function of what its files hold.
+//! What the files of a command hold allows one answer at most. Excepted are `recheck`, and the texts of `aig` and `--cert`.
 #![tactic(auto)]
 
 mod laws;

@@ -47,7 +47,7 @@ pub record HasAcceptedSeq (which : Datapath) (v : Variant) (told : Option (Optio
   pub accepted : Accepts which v terms
   pub refines : RefinesRun which v terms
 
--- Such a file was accepted, and its settings were told: the text on standard output is the line of a Yes.
+-- Such a file was accepted, and its settings were printed: the text on standard output is the line of a Yes.
 pub record ToldAccepted (v : Variant) (told : Option (Option (List ℕ))) (before after : SinkState) : Type 0 where
   pub file : HasAccepted v told
   pub line : Appended before.taken after.taken (pipe_yes file.settings)
@@ -63,7 +63,7 @@ pub record WroteCertificate (v : Variant) (told : Option (Option (List ℕ))) (b
   pub certificate : IsCertificate v file.terms file.settings text
   pub went : Appended before.taken after.taken text
 
--- A certificate of a file was accepted, and its settings were told: the text on standard output is the line that tells them.
+-- A certificate of a file was accepted, and its settings were printed: the text on standard output is the line that has them.
 pub record ToldCertified (v : Variant) (told told_cert : Option (Option (List ℕ))) (before after : SinkState) : Type 0 where
   pub file : HasCertified v told told_cert
   pub line : Appended before.taken after.taken (holds_line file.settings)
@@ -96,7 +96,7 @@ pub record CheckedRunIsRight (v : Variant) (size limit : ℕ) (trace : Bool) (hc
   pub told : Appended before.taken after.taken (pipe_yes file.settings ++ run_text trace image cycles end)
   pub agrees : NearPure v image cycles → PrintsTheRun v image trace end
 
--- A file was refused, and nothing ran: the No was told.
+-- A file was refused, and nothing ran: the No was printed.
 pub record AnsweredNo (v : Variant) (hcl : Option (Option (List ℕ))) (before after : SinkState) (status : ℕ) : Type 0 where
   pub text : List ℕ
   pub has : HasBytes hcl text

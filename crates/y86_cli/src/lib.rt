@@ -1,4 +1,4 @@
-//! The program over any files and sinks: the command that the words of a call are, and what a whole call does.
+//! `y86` over any files and sinks: does the command that the arguments name. Contracts say what a whole call does.
 #![tactic(auto)]
 
 mod calling;

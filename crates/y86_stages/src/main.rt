@@ -1,4 +1,4 @@
-//! The program: a machine's stages, cycle by cycle, over the files that its words name, standard output and standard error.
+//! The program `y86-stages`: a machine's stages, cycle by cycle, over the files that its words name, standard output and standard error.
 #![tactic(auto)]
 
 mod calling;

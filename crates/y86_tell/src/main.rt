@@ -1,4 +1,4 @@
-//! The program: explains what `y86` answers in sentences, or as JSON.
+//! The program `y86-tell`: explains, in sentences or as JSON, what `y86` answers.
 #![tactic(auto)]
 
 ghost use Rattle.std.specs.Prelude.{◌≡◌};
