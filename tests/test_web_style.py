@@ -1,4 +1,4 @@
-"""The workbench's sources: no long line, no module that Node can't read, and nothing that is imported or exported in vain."""
+"""The workbench's sources: no long line, no module that Node can't read, and nothing that is imported or exported without use."""
 import os
 import re
 import shutil

@@ -11,7 +11,7 @@ from helpers.paths import TOP
 PAGE = f"{TOP}/docs/INDEX.md"
 HEAD = """# Where is it defined?
 
-Each crate and each definition with its own first sentence.
+This page lists each crate, and each definition that has a comment, with the first sentence of that comment.
 `python3 tests/helpers/definitions.py` writes this page from the sources, and a test compares it.
 The words that need more than a sentence are in [GLOSSARY.md](GLOSSARY.md).
 
@@ -19,7 +19,7 @@ The words that need more than a sentence are in [GLOSSARY.md](GLOSSARY.md).
 CRATES = """## Crates
 
 A crate is a folder `crates/NAME`.
-The last column has the crates that it needs directly; it needs theirs too.
+The last column has the crates that a crate needs, without those that another of these needs.
 
 | crate | what it is for | needs |
 |---|---|---|
