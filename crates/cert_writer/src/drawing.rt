@@ -16,7 +16,7 @@ pub struct DrawnNet {
 }
 
 /// The variables that stand in the places of a net's in the copy that is drawn.
-#[tactic(auto, using(crate::proofs::Drawing::sources_none, crate::proofs::Drawing::sources_more, crate::proofs::Drawing::sources_all))]
+#[tactic(auto, using(crate::proofs::DrawnGates::sources_none, crate::proofs::DrawnGates::sources_more, crate::proofs::DrawnGates::sources_all))]
 fn sources(alloc: Global, ranks: &[u32]) -> Result<Vec<Replacement>, Memory>
     ensures { IfOk result (λ to. to.items ≡ map source.Var ranks.now) }
 {
@@ -42,7 +42,7 @@ fn push_dia(dias: &mut Vec<Dia>, d: Dia) -> Result<(), Memory>
 /// The diagrams of the gates of a net, with variable `order[x]` of the net as variable x.
 ///
 /// Errors: `Memory`, also where it takes more operations or nodes than a limit.
-#[tactic(auto, using(crate::proofs::Drawing::are_sources, crate::proofs::Drawing::whole, crate::proofs::Drawing::drawn_none, crate::proofs::Drawing::drawn_more, crate::proofs::Drawing::drawn_all, crate::proofs::Drawing::gate_within))]
+#[tactic(auto, using(crate::proofs::DrawnGates::are_sources, crate::proofs::DrawnGates::whole, crate::proofs::DrawnGates::drawn_none, crate::proofs::DrawnGates::drawn_more, crate::proofs::DrawnGates::drawn_all, crate::proofs::DrawnGates::gate_within))]
 pub fn draw(
     alloc: Global,
     n: &Net,

@@ -1,7 +1,7 @@
 use Rattle.std.proofs.Common.{◌≡◌, List, ℕ, length, map, get_or, arith, subst, ◌∙◌}
 use Rattle.nets.specs.declared.copies.Replacement.TheVariants as source
 use Rattle.bdd_core.specs.Meaning.{IsBuilt}
-use Rattle.cert_writer.proofs.Drawing.{drawn_all, drawn_more, drawn_none}
+use Rattle.cert_writer.proofs.DrawnGates.{drawn_all, drawn_more, drawn_none}
 use Rattle.cert_writer.proofs.drawing.draw.Goals as goal
 
 pub loop-i-init : goal.loop-i-init

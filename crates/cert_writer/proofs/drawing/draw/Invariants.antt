@@ -1,4 +1,4 @@
-use Rattle.cert_writer.proofs.Drawing.{AreDrawn}
+use Rattle.cert_writer.proofs.DrawnGates.{AreDrawn}
 use Rattle.cert_writer.proofs.drawing.draw.Given as goal
 
 abbrev pub invariant-loop-i : goal.invariant-loop-i
