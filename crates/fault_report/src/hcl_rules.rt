@@ -183,12 +183,12 @@ static EQUALS: [HclRule; 5] = [
             Test::Behind(&[Kind::Comparison, Kind::Assign, Kind::Not]),
         ],
         code: b"hcl.equals",
-        sentence: b"A `=` is too many here: `=` defines a signal, and `==` and `!=` compare.",
+        sentence: b"There is one `=` too many here: `=` defines a signal, and `==` and `!=` compare.",
     },
     HclRule {
         when: &[Test::Found(&[Kind::Comparison]), Test::Takes(Kind::Assign)],
         code: b"hcl.equals",
-        sentence: b"A definition has one `=`: write it in the place of `~found~`.",
+        sentence: b"A definition has a single `=`: write it in place of `~found~`.",
     },
 ];
 

@@ -21,9 +21,7 @@ pub fn names_iaddq(alloc: Global, rows: &[Row], terms: &[Term]) -> Result<bool, 
 /// Writes that iaddq isn't covered, if the file names it and the check didn't ask it.
 pub fn put_unasked(out: &mut String, variant: Variant, is_named: bool) -> Result<(), AllocError> {
     if is_named && variant == Variant::Base {
-        out.push_str(
-            "\nThe file names IIADDQ, and iaddq wasn't asked. With --full it is asked too.\n",
-        )?;
+        out.push_str("\nThe file names IIADDQ, but iaddq wasn't checked. --full checks it too.\n")?;
     }
     Ok(())
 }

@@ -41,7 +41,7 @@ pub fn put_finding(
         Wanted::Truth(true) => out.push_str(". It has to be 1."),
         Wanted::Truth(false) => out.push_str(". It has to be 0."),
         Wanted::Nothing => out.push_str(
-            ". Nothing is right here: E is still loading that register, so the instruction has to wait in D.",
+            ". No value is right here: E is still loading that register, so the instruction has to wait in D.",
         ),
     }
 }

@@ -70,7 +70,7 @@ pub fn stage_flow_name(slot: &StageFlowNow) -> &'static str {
     if slot.good {
         "an instruction of the program"
     } else if slot.wrong {
-        "one on the wrong path"
+        "an instruction on the wrong path"
     } else {
         "a bubble"
     }

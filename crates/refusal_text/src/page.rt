@@ -91,7 +91,9 @@ fn put_single_repairs(
     scene: &Scene<'_>,
     repairs: &Repairs,
 ) -> Result<(), AllocError> {
-    out.push_str("\nA repair: one of these changes alone meets O10, O11 and O23 to O27 here.\n")?;
+    out.push_str(
+        "\nA repair: each of these changes alone makes O10, O11 and O23 to O27 hold in this situation.\n",
+    )?;
     if !repairs.invert.items().is_empty() {
         out.push_str("    Invert ")?;
         put_choices(out, scene, repairs.invert.items())?;
@@ -112,7 +114,7 @@ fn put_double_repairs(
     repairs: &Repairs,
 ) -> Result<(), AllocError> {
     out.push_str(
-        "\nA repair: no change alone meets O10, O11 and O23 to O27 here, but each of these pairs does.\n",
+        "\nA repair takes two changes: each of these pairs makes O10, O11 and O23 to O27 hold in this situation.\n",
     )?;
     for pair in repairs.invert_both.items() {
         put_change(out, scene, "    Invert ", pair.first)?;
@@ -138,7 +140,7 @@ fn put_repairs(out: &mut String, scene: &Scene<'_>) -> Result<(), AllocError> {
         put_double_repairs(out, scene, repairs)
     } else {
         out.push_str(
-            "\nNo change alone meets O10, O11 and O23 to O27 here, and no two changes together do.\n",
+            "\nNo single change of a stall, a bubble or f_pc makes O10, O11 and O23 to O27 hold in this\nsituation, and no pair of such changes does.\n",
         )
     }
 }
@@ -202,9 +204,11 @@ fn put_others(
         put_other(alloc, out, &scene, other)?;
     }
     let first = first_to_mend(alloc, variant, rows, terms, refusal)?;
-    out.push_str("\nAll other obligations hold. Mend ")?;
+    out.push_str("\nAll other obligations hold.\nMend ")?;
     put_label(out, first)?;
-    out.push_str(" first: its wrong signals don't depend on those of another one.\n")
+    out.push_str(
+        " first: its wrong signals don't depend on the wrong signals of another obligation.\n",
+    )
 }
 
 /// Whether stalls and bubbles are to blame: of an obligation on motion, and where no value is right.
@@ -250,6 +254,6 @@ pub fn put_refusal<'a>(
     }
     put_others(alloc, out, variant, rows, terms, refusal)?;
     out.push_str(
-        "\nA file may work and be refused: the counterexample needn't be reached by a program.\n",
+        "\nA file that works may be refused, too: perhaps no program reaches this situation.\n",
     )
 }

@@ -51,7 +51,7 @@ pub fn put_settings(out: &mut String, s: &Settings) -> Result<(), AllocError> {
         out,
         s.lf,
         "A word that is just loaded is forwarded to a store or push after it, without a stall.",
-        "A store or push waits for a word that is just loaded, as any other instruction.",
+        "A store or push waits for a word that is still being loaded, like any other instruction.",
     )?;
     put_choice(
         out,

@@ -98,7 +98,11 @@ fn put_conclusion(out: &mut Vec<u8>, judged: Judged, watched: Watched) -> Result
             out,
             b"So the theorem covers this run as far as the program has been followed.\n",
         ),
-        _ => put(out, b"So the theorem doesn't cover this run.\n"),
+        (_, Watched::Meets(_)) => put(out, b"So the theorem doesn't cover this run.\n"),
+        _ => put(
+            out,
+            b"The theorem doesn't cover this run: it needs a yes from the check.\n",
+        ),
     }
 }
 

@@ -46,7 +46,7 @@ fn put_others(
     let first = first_to_mend(alloc, &values, refusal)?;
     write!(
         out,
-        "\nAll other obligations hold. Mend S{first} first: its wrong signals don't depend on those of another one.\n"
+        "\nAll other obligations hold.\nMend S{first} first: its wrong signals don't depend on the wrong signals of another obligation.\n"
     )
 }
 
@@ -82,6 +82,6 @@ pub fn put_seq_refusal(
     )?;
     put_others(alloc, out, which, rows, terms, refusal)?;
     out.push_str(
-        "\nA file may work and be refused: the counterexample needn't be reached by a program.\n",
+        "\nA file that works may be refused, too: perhaps no program reaches this situation.\n",
     )
 }

@@ -156,7 +156,7 @@ fn put_fault(alloc: Global, out: &mut String, it: &Kind) -> Result<(), AllocErro
         put_block(out, kind.example)?;
     }
     if !kind.mend.is_empty() {
-        out.push_str("\nIts mend:\n")?;
+        out.push_str("\nThe correction:\n")?;
         put_block(out, kind.mend)?;
     }
     out.push_str("\nWhat y86-tell says of it:\n\n")?;
