@@ -35,7 +35,7 @@ HCL = [
     ("the wrong bracket", "word aluA = [ set_cc : (1]; ];\n", "1:26: This `]` does not close the `(` in line 1, whose `)` has to come first."),
     ("a text that ends in a list", "word aluA = [\n  1 : 2;\n", "3:1: The `[` in line 1 is not closed: the file ends without its `]`."),
     ("a text that ends in a definition", "word aluA = 1", "1:14: The last definition ends without `;`. Put one after `1` in line 1."),
-    ("== to define", "word aluA == 1;\n", "1:11: A definition has one `=`: write it in the place of `==`."),
+    ("== to define", "word aluA == 1;\n", "1:11: A definition has a single `=`: write it in place of `==`."),
     ("a keyword for a name", "word in = 1;\n", "1:6: `in` is a keyword of HCL, so it can name no signal."),
     ("a chain of comparisons", "bool set_cc = 1 <= E_icode <= 3;\n", "1:28: Comparisons do not chain: join two of them by `&&`."),
     ("a call", "bool set_cc = is_op(E_icode);\n", "1:20: HCL has no functions: an operator is missing between `is_op` and `(`."),

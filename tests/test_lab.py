@@ -15,8 +15,8 @@ from helpers.paths import EXAMPLES, TOP
 from helpers.programs import Program, put
 
 HINT = "`./y86-lab witness mine.hcl` looks for a program that shows it."
-IADDQ = "`iaddq` wasn't asked: `--full` asks it too."
-NAMES_IADDQ = "The file names IIADDQ, and iaddq wasn't asked. With --full it is asked too."
+IADDQ = "`iaddq` wasn't checked: `--full` checks it too."
+NAMES_IADDQ = "The file names IIADDQ, but iaddq wasn't checked. --full checks it too."
 DEEP = b"bool set_cc = " + b"(" * 30000 + b"1" + b")" * 30000 + b";\n"
 UNPAIRED = b"bool F_bubble = 0\n\n# F waits\nbool F_stall = 1;\n"
 
@@ -78,12 +78,12 @@ def test_iaddq_in_a_comment(explain):
 
 
 REACHES_M = ["WRONG: An instruction on the wrong path reaches M, where it changes something.", "",
-    "A repair: one of these changes alone meets O10, O11 and O23 to O27 here.", "    Invert M_bubble."]
+    "A repair: each of these changes alone makes O10, O11 and O23 to O27 hold in this situation.", "    Invert M_bubble."]
 HALT_ALONE = "m_stat in { SHLT } || W_stat in { SHLT }"
 SKIPPED = "The fetched instruction doesn't enter D, and F goes on: an instruction is skipped."
 LOST = "The instruction in D doesn't go on to E, and D doesn't keep it: it is lost."
 SET_CC = ["    WRONG  set_cc is 1. It has to be 0.", "           It reads E_icode = 6 (IOPQ), m_stat = 1 (SAOK), W_stat = 0 (SBUB)."]
-MEND_FIRST = "All other obligations hold. Mend {} first: its wrong signals don't depend on those of another one."
+MEND_FIRST = "Mend {} first: its wrong signals don't depend on the wrong signals of another obligation."
 D_VALA = ["    WRONG  d_valA is e_valE. It has to be d_rvalA.", "           It takes case 2 of its definition, at line 49, column 54:",
     "               d_srcA == e_dstE : e_valE;"]
 WITHOUT_RET = "f_icode in { INOP, IHALT, IRRMOVQ, IIRMOVQ, IRMMOVQ, IMRMOVQ,\n IOPQ, IJXX, ICALL, IPUSHQ, IPOPQ }"
@@ -271,7 +271,7 @@ USAGE_WITNESS = b"usage: y86-lab witness [-h] [--full] [-o FILE] [--tries N] [--
 # The words, the status and both streams.
 WITNESS = [
     (("witness", "flags.hcl"), 0, b"flags.hcl: " + YES + b"So no program without `iaddq` shows a mistake: this file is right for every one.\n"
-        b"`iaddq` wasn't asked: `--full` asks it too.\n", b""),
+        b"`iaddq` wasn't checked: `--full` checks it too.\n", b""),
     (("witness", "unseen.hcl", "--tries", "1"), 1, b"unseen.hcl: no O25\nTrying up to 1 programs until one shows it, for at most 60 s.\n"
         b"None of 1 programs shows the mistake. The rule is broken all the same: a program that shows it may be rare,\n"
         b"or there is none, for a No promises that the rule fails in the situation that it shows, and no more.\n", b""),
@@ -406,7 +406,7 @@ CLASS_ROWS = {
     b"seq_plus.hcl": b"seqplus,fault,,1:10: Syntax,,", b"std.hcl": b"pipe,fault,,1:10: Syntax,,",
 }
 PASSED_OVER = b"PIPE.HCL: passed over, for its name doesn't end with `.hcl`\npipe.txt: passed over, for its name doesn't end with `.hcl`\n"
-PASSED_OVER += b"flags.hcl: `iaddq` wasn't asked: `--full` asks it too.\n"
+PASSED_OVER += b"flags.hcl: `iaddq` wasn't checked: `--full` checks it too.\n"
 
 
 @pytest.fixture

@@ -360,15 +360,15 @@ def test_try(lab, programs):
     wrong = re.sub(r"bool ([DF])_stall =[^;]*;", r"bool \1_stall = 0;", re.sub(r"bool E_bubble =[^;]*;", "bool E_bubble = 0;", design("std")))
     files = {"p.ys": program, "std.hcl": example("std"), "wrong.hcl": wrong}
     tell = programs("y86_tell")
-    same(lab("try", "p.ys", "std.hcl", files=files, tell=tell), (0, "p.ys ends under std.hcl as by its instructions with each of 20 inputs.\n", ""))
+    same(lab("try", "p.ys", "std.hcl", files=files, tell=tell), (0, "p.ys comes out right on std.hcl with each of 20 inputs.\n", ""))
     status, out, err = lab("try", "p.ys", "wrong.hcl", tell=tell)
     same((status, err), (1, ""))
     lines = out.splitlines()
     assert re.fullmatch(r"The \.quad lines were: -?\d+", lines[0]), out
     # irmovq is fetched in cycle 1, mrmovq in cycle 2, and addq in cycle 3: it retires in cycle 7
     same(lines[2:5], ["In cycle 7 the pipeline retires instruction 3 of the program, and does it wrong:", "", "    0x014: addq %rax, %rax"])
-    same(lines[-1], "So the theorem doesn't cover this run.")
-    same(lab("try", "p.ys", "wrong.hcl", "--inputs", "1", tell=tell)[:2], (0, "p.ys ends under wrong.hcl as by its instructions.\n"))
+    same(lines[-1], "The theorem doesn't cover this run: it needs a yes from the check.")
+    same(lab("try", "p.ys", "wrong.hcl", "--inputs", "1", tell=tell)[:2], (0, "p.ys comes out right on wrong.hcl.\n"))
 
 
 def test_try_on_seq(lab):
@@ -390,6 +390,6 @@ on the processor:
 
 def test_try_of_an_object_file(lab):
     files = {"std.hcl": example("std"), "seq.hcl": example("seq"), "p.yo": "0x000: 00 |\n", "q.ys": "movq\n"}
-    same(lab("try", "p.yo", "seq.hcl", files=files), (0, "p.yo ends under seq.hcl as by its instructions.\n", ""))
+    same(lab("try", "p.yo", "seq.hcl", files=files), (0, "p.yo comes out right on seq.hcl.\n", ""))
     same(lab("try", "q.ys", "std.hcl"), (5, "", "q.ys:1: Syntax\n"))
     same(lab("try", "none.ys", "std.hcl")[0], 3)

@@ -212,7 +212,7 @@ def test_datapaths(table):
 
 
 def test_iaddq_that_isnt_asked():
-    note = "`iaddq` wasn't asked: `--full` asks it too."
+    note = "`iaddq` wasn't checked: `--full` checks it too."
     same([unasked(text, full) for text, full in (("IIADDQ", False), ("IIADDQ", True), ("# IIADDQ", False), ("IIADDQS", False))], [note, "", "", ""])
 
 

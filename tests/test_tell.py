@@ -137,7 +137,7 @@ def test_two_changes(row, y86_tell):
 def test_two_changes_in_words(y86_tell):
     _, bodies, _, _, _ = TWO[1]
     out = y86_tell("check", "pipe", "d.hcl", files={"d.hcl": changed(design("std"), **bodies)}).text()[1]
-    assert "A repair: no change alone meets O10, O11 and O23 to O27 here, but each of these pairs does.\n    Invert D_bubble, and let f_pc be W_valM.\n" in out
+    assert "A repair: no single change does it, but each of these pairs makes O10, O11 and O23 to O27 hold\nin this situation.\n    Invert D_bubble, and let f_pc be W_valM.\n" in out
 
 
 def test_yes(y86_tell):

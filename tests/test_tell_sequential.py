@@ -64,7 +64,7 @@ def test_signals(row, y86_tell):
     assert out.startswith(f"no: {section.split()[0]} is false somewhere.\n")
     assert f"\n    The instruction: {instruction}\n" in out
     assert wrong_lines(out) == [wanted]
-    assert out.endswith("\nAll other obligations hold.\n\nA file may work and be refused: the counterexample needn't be reached by a program.\n")
+    assert out.endswith("\nAll other obligations hold.\n\nA file that works may be refused, too: perhaps no program reaches this situation.\n")
 
 
 @pytest.mark.parametrize("section", SHOWN)
@@ -128,7 +128,7 @@ def test_others(row, y86_tell):
     assert said["mend_first"] == first
     out = y86_tell("check", "seq", "d.hcl", files=files).text()[1]
     assert re.findall(r"^    (S\d+):", out, flags=re.M) == labels[1:]
-    assert f" Mend {first} first: " in out
+    assert f"\nMend {first} first: " in out
 
 
 # An example, its datapath, and what the processor is called.
@@ -151,7 +151,7 @@ def test_iaddq(y86_tell):
     half = {"d.hcl": replaced(design("seq"), "bool need_regids = icode in { IRRMOVQ, IOPQ, IPUSHQ, IPOPQ, IIRMOVQ, IRMMOVQ, IMRMOVQ, IIADDQ };")}
     status, out, _ = y86_tell("check", "seq", "d.hcl", files=half).text()
     assert status == 0
-    assert out.endswith("\n\nThe file names IIADDQ, and iaddq wasn't asked. With --full it is asked too.\n")
+    assert out.endswith("\n\nThe file names IIADDQ, but iaddq wasn't checked. --full checks it too.\n")
     assert json.loads(y86_tell("check", "seq", "d.hcl", "--json", files=half).out)["names_iaddq"]
     status, out, _ = y86_tell("check", "seq", "d.hcl", "--full", files=half).text()
     assert (status, wrong_lines(out)) == (1, ["need_valC is 0. It has to be 1."])
@@ -160,7 +160,7 @@ def test_iaddq(y86_tell):
 def test_iaddq_of_pipe(y86_tell):
     files = {"d.hcl": example("with_iaddq")}
     out = y86_tell("check", "pipe", "d.hcl", files=files).text()[1]
-    assert out.endswith("\n\nThe file names IIADDQ, and iaddq wasn't asked. With --full it is asked too.\n")
+    assert out.endswith("\n\nThe file names IIADDQ, but iaddq wasn't checked. --full checks it too.\n")
     assert "IIADDQ" not in y86_tell("check", "pipe", "d.hcl", "--full", files=files).text()[1]
 
 

@@ -1,4 +1,4 @@
-# So nobody has to wait any more but for a ret.
+# Now an instruction waits only for a ret.
 bool F_stall = IRET in { D_icode, E_icode, M_icode };
 bool D_stall = 0;
 bool D_bubble = E_icode == IJXX && !e_Cnd || IRET in { D_icode, E_icode, M_icode };

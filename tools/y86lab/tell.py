@@ -121,4 +121,4 @@ class Table:
 def unasked(text: str, full: bool) -> str:
     """The note on a file that names `IIADDQ` and is checked without `--full`; empty for others."""
     is_named = re.search(r"\bIIADDQ\b", without_comments(text))
-    return "`iaddq` wasn't asked: `--full` asks it too." if is_named and not full else ""
+    return "`iaddq` wasn't checked: `--full` checks it too." if is_named and not full else ""

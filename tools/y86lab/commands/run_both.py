@@ -44,7 +44,7 @@ def run(arguments: argparse.Namespace, programs: Programs) -> int:
                 print(told, end="")
                 return REFUSED
     inputs = "" if tried == 1 else f" with each of {tried} inputs"
-    print(f"{arguments.program} ends under {arguments.file} as by its instructions{inputs}.")
+    print(f"{arguments.program} comes out right on {arguments.file}{inputs}.")
     return DONE
 
 

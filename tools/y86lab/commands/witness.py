@@ -17,8 +17,8 @@ from ..trial_programs import Lines
 from ..unseen import is_icode_unseen
 
 UNSEEN = """\
-No program shows it: `icode` isn't what was read, but each other signal of the file is right all the same, so the
-machine does what the instructions say; and with `word icode = imem_icode;` the file is right."""
+No program shows it. `icode` isn't what was read, but every other signal is right, so the machine does what the
+instructions say. With `word icode = imem_icode;` the file is right."""
 NONE_SHOWS = """\
 None of {which} shows the mistake. The rule is broken all the same: a program that shows it may be rare,
 or there is none, for a No promises that the rule fails in the situation that it shows, and no more."""

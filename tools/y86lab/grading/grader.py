@@ -217,7 +217,7 @@ class Grader:
             raise NoPoints(answer.err.strip() or "the processor gave no report in time")
         if report != wanted:
             raise NoPoints(f"it ends otherwise than by its instructions: {first_difference(wanted, report)}")
-        return 1.0, "it ends as by its instructions"
+        return 1.0, "it ends as its instructions say"
 
     def copy_loop(self, name: str) -> CopyLoop:
         if name not in self.loops:
