@@ -52,7 +52,7 @@ It runs on Linux on x86-64 and needs the C library alone{libc}.{python}
     ./y86 yis examples/programs/asum.yo
     ./y86 check pipe examples/designs/std.hcl{calls}
 
-The first runs a program. The second decides whether the book's pipeline is right for every program.{browser} Then read the pages, in this order:
+The first runs a program. The second decides whether the book's pipeline meets all obligations.{browser} Then read the pages, in this order:
 
 {pages}
 
