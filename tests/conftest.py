@@ -1,4 +1,4 @@
-"""The fixtures of all tests: the programs, a folder for each test, and the command `lab`."""
+"""The fixtures of all tests: the programs, a folder for each test, and the browsers."""
 import os
 import tempfile
 

@@ -19,7 +19,7 @@ The words that need more than a sentence are in [GLOSSARY.md](GLOSSARY.md).
 CRATES = """## Crates
 
 A crate is a folder `crates/NAME`.
-The last column has the crates that a crate needs, without those that another of these needs.
+The last column has what the crate needs directly; what one of these needs in turn is left out.
 
 | crate | what it is for | needs |
 |---|---|---|
