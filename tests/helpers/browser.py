@@ -36,7 +36,7 @@ def command():
 class Browser:
     """A browser with one page. What the page's scripts throw, and the console's errors, are in `errors`."""
 
-    has_media = True
+    has_media = has_folders = has_drops = True
     command = staticmethod(command)
 
     def __init__(self, seconds=120):
@@ -140,6 +140,9 @@ class Browser:
         self.call("Input.dispatchKeyEvent", type="keyDown" if text else "rawKeyDown", **more, **({"text": text} if text else {}))
         self.call("Input.dispatchKeyEvent", type="keyUp", **more)
 
+    def close_list(self):
+        """Keys reach the rows of a list, open or not."""
+
     def give(self, asks, path):
         """Does something that asks for a file or a folder, and gives this one."""
         self.choosers.clear()
@@ -167,6 +170,10 @@ class Browser:
     def picture(self):
         """The page as it can be seen, a PNG."""
         return base64.b64decode(self.call("Page.captureScreenshot")["data"])
+
+    def paper(self):
+        """The page on paper, a PDF."""
+        return base64.b64decode(self.call("Page.printToPDF", landscape=True, printBackground=True)["data"])
 
     def media(self, **features):
         """What a system asks for: prefers_color_scheme, prefers_reduced_motion."""
