@@ -9,7 +9,7 @@ import time
 
 import pytest
 
-from helpers.browser import Broken
+from helpers.browser import MOST_SECONDS, Broken
 from helpers.cases import same
 from helpers.designs import example
 from helpers.workbench_page import WIDTHS, said
@@ -352,9 +352,9 @@ def write(path, text):
 
 
 def saved_in(folder, name):
-    """The text of a file that the browser saves."""
-    end = time.monotonic() + 20
-    while not os.path.isfile(f"{folder}/{name}"):
+    """The text of a file that the browser saves. (Firefox makes an empty one first.)"""
+    end = time.monotonic() + MOST_SECONDS
+    while not (os.path.isfile(f"{folder}/{name}") and os.path.getsize(f"{folder}/{name}")):
         if time.monotonic() > end:
             raise Broken(f"{name} isn't saved")
         time.sleep(0.05)

@@ -191,7 +191,7 @@ def test_witness(at, programs, folder):
     at.choose("hcls", "mistake: E_dstE in place of e_dstE")
     at.choose("yss", "add.ys")
     at.click("#find")
-    at.until("/comes out wrong/.test(el('outcome').textContent)", 200)
+    at.until("/comes out wrong/.test(el('outcome').textContent)")
     at.settle()
     said(at, "outcome", "First wrong")
     assert len(at.source("ys").split("\n")) < 20, "the program wasn't shortened"
@@ -465,7 +465,7 @@ def test_stop(at):
     guards = " && ".join(f"(f_valC < {a} || {b} < E_val{c})" for a in ("E_valA", "E_valB", "D_valP", "M_valA", "W_valE") for b in ("W_valM", "d_rvalA", "M_valE", "d_rvalB") for c in "ABC")
     assert bits
     at.do(f"(() => {{ const it = one('#hcl textarea'); it.value = {json.dumps(STD.replace('bool M_bubble = ', f'bool M_bubble = {guards} && '))}; it.dispatchEvent(new Event('input', {{ bubbles: true }})); }})()")
-    at.do("new Promise((done) => setTimeout(done, 2200))")
+    at.until("one('#verdict .busy button') || !one('#verdict.stale')")
     if at.do("Boolean(one('#verdict .busy button'))"):
         at.until("!one('#outcome.stale')")
         at.click("#verdict .busy button")

@@ -22,6 +22,8 @@ NAMES = ("chromium", "chromium-browser", "google-chrome", "google-chrome-stable"
 
 CODES = {"ArrowLeft": 37, "ArrowRight": 39, "ArrowUp": 38, "ArrowDown": 40, "Home": 36, "End": 35, "Tab": 9, "Enter": 13, "Escape": 27, " ": 32, "Backspace": 8, "PageUp": 33}
 CTRL = 2
+# What a browser may take to begin or to answer, since other work may have the processors.
+MOST_SECONDS = 300
 
 
 class Broken(Exception):
@@ -39,7 +41,7 @@ class Browser:
     has_media = has_folders = has_drops = True
     command = staticmethod(command)
 
-    def __init__(self, seconds=120):
+    def __init__(self, seconds=MOST_SECONDS):
         self.seconds, self.last, self.held, self.errors = seconds, 0, b"", []
         # Inputs for files that the page has opened.
         self.choosers = []

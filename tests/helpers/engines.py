@@ -15,7 +15,7 @@ import tempfile
 import time
 import urllib.request
 
-from helpers.browser import Broken, Browser
+from helpers.browser import MOST_SECONDS, Broken, Browser
 
 # What WebDriver calls keys that aren't letters.
 KEYS = {
@@ -23,8 +23,6 @@ KEYS = {
     "Enter": "\ue007", "\n": "\ue007", "Escape": "\ue00c", "Backspace": "\ue003", "PageUp": "\ue00e",
 }
 CTRL = "\ue009"
-# What a browser may take to begin, since other work may have the processors.
-MOST_SECONDS = 300
 # The screen of a browser that needs one.
 SCREEN = 1600, 1200
 # The value of an expression in the page, awaited.
@@ -227,7 +225,7 @@ class Firefox(Driven):
         self.chrome(self.PICKER % json.dumps(path))
         asks()
         # (Firefox then asks whether it may read all files of a folder)
-        end = time.monotonic() + 60
+        end = time.monotonic() + MOST_SECONDS
         while os.path.isdir(path):
             try:
                 self.ask("AcceptAlert")
@@ -337,7 +335,7 @@ class WebKit(Driven):
         """Gives a file. The input that asks doesn't open the system's window, which no driver reaches."""
         self.evaluate("", "(HTMLInputElement.prototype.click = function () { window.asked = this; }, 0)")
         asks()
-        end = time.monotonic() + 60
+        end = time.monotonic() + MOST_SECONDS
         while not self.evaluate("", "Boolean(window.asked)"):
             if time.monotonic() > end:
                 raise Broken("no file is asked for")

@@ -6,7 +6,7 @@ import time
 
 import pytest
 
-from helpers.browser import Broken
+from helpers.browser import MOST_SECONDS, Broken
 from helpers.engines import ENGINES
 
 # A screen, a tablet and a phone.
@@ -25,8 +25,6 @@ CLICKED = """(() => {
   return [x, y, Boolean(hit) && it.contains(hit)];
 })()"""
 SETTLED = "!one('.stale') && !one('.busy')"
-# What an answer may take at most, since other work may have the processors.
-MOST_SECONDS = 300
 
 
 def engine():
