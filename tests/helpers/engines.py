@@ -144,6 +144,9 @@ class Firefox(Driven):
             open(it) { registrar.registerFactory(old, "", name, null); Services.tm.dispatchToMainThread(() => it.done(Ci.nsIFilePicker.returnOK)); } };
         registrar.registerFactory(id, "", name, { createInstance: (it) => picker.QueryInterface(it) });"""
 
+    # A page may read a folder that is given. (Firefox would ask first; the answer can't be pressed for a second, and Marionette then waits without an end.)
+    MAY_READ = """ChromeUtils.importESModule("resource:///modules/PromptCollection.sys.mjs").PromptCollection.prototype.confirmFolderUpload = () => true;"""
+
     def __init__(self):
         super().__init__()
         port, self.number = free_port(), 0
@@ -223,17 +226,8 @@ class Firefox(Driven):
 
     def give(self, asks, path):
         self.chrome(self.PICKER % json.dumps(path))
+        self.ask("ExecuteScript", script=self.MAY_READ, args=[], sandbox="system")
         asks()
-        # (Firefox then asks whether it may read all files of a folder)
-        end = time.monotonic() + MOST_SECONDS
-        while os.path.isdir(path):
-            try:
-                self.ask("AcceptAlert")
-                break
-            except Broken:
-                if time.monotonic() > end:
-                    raise
-                time.sleep(0.1)
 
     def press_key(self, key, is_ctrl):
         super().press_key(key, is_ctrl)
@@ -262,6 +256,8 @@ class WebKit(Driven):
 
     # (so it has no toolbar, and can be as narrow as a phone)
     WORDS = ["--automation", "--full-screen"]
+    # (without a graphics card, drawing by OpenGL takes more time than all the rest)
+    DRAWING = {"WEBKIT_DISABLE_COMPOSITING_MODE": "1", "WEBKIT_SKIA_ENABLE_CPU_RENDERING": "1"}
     # What an element is called in WebDriver's answers.
     ELEMENT = "element-6066-11e4-a52e-4f735466cecf"
     PATHS = {
@@ -279,7 +275,8 @@ class WebKit(Driven):
         if not os.environ.get("DISPLAY"):
             words = ["xvfb-run", "-a", "-s", f"-screen 0 {SCREEN[0]}x{SCREEN[1]}x24", *words]
         folders = {f"XDG_{it}_HOME": room for it in ("CACHE", "DATA", "CONFIG")}
-        self.begin_process(words, env={**os.environ, **folders, "HOME": room, "GTK_THEME": "Adwaita:dark" if is_dark else "Adwaita"})
+        more = {**self.DRAWING, "HOME": room, "GTK_THEME": "Adwaita:dark" if is_dark else "Adwaita"}
+        self.begin_process(words, env={**os.environ, **folders, **more})
         options = {"binary": self.command(), "args": self.WORDS}
         end = time.monotonic() + MOST_SECONDS
         while True:

@@ -212,7 +212,7 @@ function band(sheet, stage, { text, at, tag, kind, row }) {
 /** The words on their way, above all else, and their labels side by side. */
 function ways(sheet, { forward, pc }) {
   const labels = [], tapped = (it) => TAPS[it.from]?.at(-1)[0] ?? 0;
-  let right = 404;
+  let right = 390;
   for (const it of [...forward].sort((one, other) => tapped(one) - tapped(other))) {
     const way = forwardWay(it.side, it.from), track = TRACKS[it.from];
     if (!way) continue;
