@@ -169,8 +169,8 @@ function cell(sheet, stage, [slot, name], value) {
   sheet.add(`<g class="cell${isNone ? " none" : ""}${sheet.mark(`${stage}_${name}`)}">`
     + `<title>${stage}_${name} = ${escaped(isNone ? "none" : value)}</title>`);
   sheet.add(`<rect x="${x + 1.5}" y="${y + 1.5}" width="${wide - 3}" height="${TALL - 3}" rx="4"/>`);
-  sheet.text(x + 6, isF ? y - 3 : y + 16, name, "name");
-  sheet.text(x + wide - 6, y + 16.5, isNone ? "–" : shortWord(value, isF ? 7 : 8), "val end");
+  sheet.text(x + 4, isF ? y - 3 : y + 16, name, "name");
+  sheet.text(x + wide - 4, y + 16.5, isNone ? "–" : shortWord(value, isF ? 7 : 8), "val end");
   sheet.add("</g>");
 }
 
