@@ -1,8 +1,9 @@
 """The workbench for everybody: keys alone, names, contrast, places to click, on a screen, a tablet and a phone. Needs a browser, as test_browser_page.py."""
 import pytest
 
+from helpers.browser_build import page
 from helpers.cases import cases, same
-from helpers.workbench_page import WIDTHS, said
+from helpers.workbench_page import WIDTHS, Workbench, engine, said
 
 pytestmark = pytest.mark.xdist_group("browser access")
 SIZES = [(f"{width} by {height}", width, height) for width, height in WIDTHS]
@@ -113,6 +114,7 @@ def test_stages_as_a_table(at):
     rows = at.do("every('#stages tr').map((it) => [it.children[0].textContent, it.querySelector('.what').textContent])")
     same([it for it, _ in rows], list("FDEMW"))
     same(rows[0][1], at.do("workbench.run.cycles[0].stages.F.text"))
+    same(at.do("(() => { const r = el('told').getBoundingClientRect(); return el('told').contains(document.elementFromPoint(r.x + 20, r.y + 12)); })()"), True)
 
 
 # ---- contrast, motion, colours
@@ -145,7 +147,7 @@ CONTRAST = """(() => {
 def test_contrast(row, at):
     _, scheme, *size = row
     at.size(*size)
-    at.media(prefers_color_scheme=scheme)
+    at.scheme(scheme)
     for shown in (RIGHT, REFUSED, FAULTY, SEQUENTIAL):
         show(at, *shown)
         for _ in range(8 if shown is RIGHT else 2):
@@ -154,13 +156,34 @@ def test_contrast(row, at):
         at.do("el('tab-steps').click()")
         same(at.do(CONTRAST), {})
         at.do("el('tab-run').click()")
-    at.media(prefers_color_scheme="light")
+    at.scheme("light")
+
+
+# Whether something moves, and whether something would as the page plays.
+MOTION = "[document.getAnimations().length, every('.wire.lit, .toast, .answer.stale > *').filter((it) => getComputedStyle(it).animationName !== 'none').length]"
+
+
+def test_dark_system():
+    """A system that asks for dark colours and no motion has both from the first moment. (Other browsers are told later, in test_theme.)"""
+    found = engine()
+    if found.has_media:
+        pytest.skip("this browser is told while it runs")
+    with found(is_dark=True) as browser:
+        at = Workbench(browser)
+        at.begin(page())
+        same(at.do("[document.documentElement.dataset.theme, matchMedia('(prefers-reduced-motion: reduce)').matches]"), ["dark", True])
+        at.do("el('play').click()")
+        at.until("workbench.cycle > 1")
+        same(at.do(MOTION), [0, 0])
 
 
 def test_theme(at):
     at.media(prefers_color_scheme="dark", prefers_reduced_motion="reduce")
     at.until("document.documentElement.dataset.theme === 'dark'")
-    same(at.do("document.getAnimations().length"), 0)
+    at.do("el('play').click()")
+    at.until("workbench.cycle > 1")
+    same(at.do(MOTION), [0, 0])
+    at.do("el('play').click()")
     at.click("#theme")
     same(at.do("document.documentElement.dataset.theme"), "light")
     at.click("#theme")
@@ -174,6 +197,8 @@ def test_theme(at):
 SMALL = """every('button, select, input, [role=tab]').filter((it) => it.getClientRects().length && !it.closest('.grid') && !it.closest('.saves, .strip, .note'))
     .map((it) => [it.closest('label') ?? it, it]).map(([box, it]) => [it.id || it.outerHTML.slice(0, 70), box.getBoundingClientRect()])
     .filter(([, r]) => r.width < 24 || r.height < 24).map(([name]) => name)"""
+# What lies between the texts and the answers where these are below.
+BETWEEN = "el('verdict').getBoundingClientRect().top - el('ys-file').getBoundingClientRect().bottom"
 BROKEN = "every('#registers span, #memory span, #grid .name, [role=tab]').filter((it) => getComputedStyle(it).whiteSpace !== 'nowrap').length"
 
 
@@ -181,11 +206,14 @@ BROKEN = "every('#registers span, #memory span, #grid .name, [role=tab]').filter
 def test_widths(row, at):
     """At each width nothing is cut off at the side, no name breaks within a word, and the controls can be reached."""
     _, width, height = row
-    at.size(width, height)
+    width = at.size(width, height)
     for shown in (RIGHT, REFUSED, FAULTY, SEQUENTIAL):
         show(at, *shown)
-        same(at.do("document.documentElement.scrollWidth"), width)
+        # (a bar to scroll by may take some of it)
+        same(at.do("[innerWidth, document.documentElement.scrollWidth - document.documentElement.clientWidth]"), [width, 0])
         same(at.do(SMALL), [])
+        if width < 1180:
+            assert at.do(BETWEEN) < 16, shown
     show(at, "std.hcl", "sort.ys")
     at.click("#on")
     same(at.cycle(), 2)

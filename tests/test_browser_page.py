@@ -3,6 +3,7 @@
 With Y86_BROWSER=firefox or Y86_BROWSER=webkit in the environment these tests run in that browser (docs/TESTING.md).
 """
 import base64
+import hashlib
 import json
 import os
 import re
@@ -14,7 +15,6 @@ from helpers.both_ways import comes_out_wrong
 from helpers.browser_build import is_proved, page
 from helpers.cases import cases, same
 from helpers.designs import example
-from helpers.engines import ENGINES
 from helpers.programs import Program
 from helpers.workbench_page import said
 
@@ -191,7 +191,7 @@ def test_witness(at, programs, folder):
     at.choose("hcls", "mistake: E_dstE in place of e_dstE")
     at.choose("yss", "add.ys")
     at.click("#find")
-    at.until("/comes out wrong/.test(el('outcome').textContent)", 200)
+    at.until("/comes out wrong/.test(el('outcome').textContent)")
     at.settle()
     said(at, "outcome", "First wrong")
     assert len(at.source("ys").split("\n")) < 20, "the program wasn't shortened"
@@ -315,6 +315,20 @@ def test_names_are_completed(at):
     assert at.do("el('hcl-names').hidden"), "a name was offered for what no name begins with"
 
 
+def test_undo(at):
+    """The browser's undo takes back what is typed, what is completed, and the blanks that a new line begins with."""
+    before = at.source("ys")
+    at.do("(() => { const it = one('#ys textarea'), end = it.value.indexOf('call main') + 9; it.focus(); it.setSelectionRange(end, end); })()")
+    at.key("Enter")
+    at.type("irm")
+    at.key("Tab")
+    assert "call main\n    irmovq\n    halt" in at.source("ys")
+    for _ in range(9):
+        if at.source("ys") != before:
+            at.do("document.execCommand('undo')")
+    same(at.source("ys"), before)
+
+
 def test_iaddq(at):
     at.choose("hcls", "with_iaddq.hcl")
     assert at.do("el('full').checked")
@@ -376,15 +390,24 @@ HELD = """(async () => {
 REFUSED_TEXT = STD.replace(" d_srcA == e_dstE : e_valE;", "")
 
 
+def changed(at, folder, *changes):
+    """A copy of the page in which each of these texts, which is there once, is another one."""
+    with open(at.path, encoding="utf-8") as it:
+        text = it.read()
+    for old, new in changes:
+        same((old, text.count(old)), (old, 1))
+        text = text.replace(old, new)
+    with open(f"{folder}/changed.html", "w", encoding="utf-8") as it:
+        it.write(text)
+    return it.name
+
+
 @pytest.fixture
-def held(at):
-    """The page with answers that can be held back."""
-    if not isinstance(at.browser, ENGINES["chromium"]):
-        pytest.skip("only Chromium runs a script before the page's")
-    name = at.browser.call("Page.addScriptToEvaluateOnNewDocument", source=HOLDING)["identifier"]
-    at.begin(at.path)
+def held(at, folder):
+    """The page with answers that can be held back, by a script before its own."""
+    digest, module = base64.b64encode(hashlib.sha256(HOLDING.encode()).digest()).decode(), '<script type="module">'
+    at.begin(changed(at, folder, ("script-src '", f"script-src 'sha256-{digest}' '"), (module, f"<script>{HOLDING}</script>{module}")))
     yield at
-    at.browser.call("Page.removeScriptToEvaluateOnNewDocument", identifier=name)
     at.do("localStorage.clear()")
     at.begin(at.path)
 
@@ -426,12 +449,7 @@ LITTLE = [
 def test_little_memory(row, at, folder):
     """A program that lacks memory gives no answer, and none is shown."""
     _, most, design, verdict, outcome = row
-    with open(at.path, encoding="utf-8") as it:
-        text = it.read()
-    same(text.count("MOST_MEMORY = 1 << 30"), 1)
-    with open(f"{folder}/little.html", "w", encoding="utf-8") as it:
-        it.write(text.replace("MOST_MEMORY = 1 << 30", f"MOST_MEMORY = {int(most * 2**20)}"))
-    at.begin(it.name)
+    at.begin(changed(at, folder, ("MOST_MEMORY = 1 << 30", f"MOST_MEMORY = {int(most * 2**20)}")))
     at.choose("hcls", design)
     for id, wanted in (("verdict", verdict), ("outcome", outcome)):
         said(at, id, wanted)
@@ -447,7 +465,7 @@ def test_stop(at):
     guards = " && ".join(f"(f_valC < {a} || {b} < E_val{c})" for a in ("E_valA", "E_valB", "D_valP", "M_valA", "W_valE") for b in ("W_valM", "d_rvalA", "M_valE", "d_rvalB") for c in "ABC")
     assert bits
     at.do(f"(() => {{ const it = one('#hcl textarea'); it.value = {json.dumps(STD.replace('bool M_bubble = ', f'bool M_bubble = {guards} && '))}; it.dispatchEvent(new Event('input', {{ bubbles: true }})); }})()")
-    at.do("new Promise((done) => setTimeout(done, 2200))")
+    at.until("one('#verdict .busy button') || !one('#verdict.stale')")
     if at.do("Boolean(one('#verdict .busy button'))"):
         at.until("!one('#outcome.stale')")
         at.click("#verdict .busy button")
@@ -519,6 +537,21 @@ def test_own_text(at):
     assert at.source("hcl").endswith("# mine\n")
 
 
+def test_kept(at):
+    """The browser keeps both texts, the examples' names, and the theme."""
+    at.write("hcl", f"{STD}\n# mine\n")
+    at.choose("yss", "swap.ys")
+    at.click("#theme")
+    kept = "JSON.parse(localStorage.getItem('y86-workbench') ?? '{}')"
+    at.until(f"({kept}.h ?? '').endsWith('# mine\\n') && {kept}.e[1] === 'swap.ys'")
+    shown = "[one('#hcl textarea').value, one('#ys textarea').value, el('hcls').value, el('yss').value, workbench.theme]"
+    before = at.do(shown)
+    at.begin(at.path)
+    same(at.do(shown), before)
+    at.do("(() => { while (workbench.theme !== 'auto') el('theme').click(); localStorage.clear(); })()")
+    at.begin(at.path)
+
+
 def link(texts):
     """A link that carries texts, made as the page makes it."""
     packed = zlib.compressobj(9, zlib.DEFLATED, -15)
@@ -531,6 +564,7 @@ def test_link(at):
     at.leave()
     at.click("#link")
     at.until("location.hash.startsWith('#w=')")
+    said(at, "toast", "The link is copied")
     fragment = at.do("location.hash")
     at.do("localStorage.clear()")
     at.begin(at.path, fragment)
@@ -583,6 +617,19 @@ def test_drop(at):
     said(at, "toast", "too long")
 
 
+# How wide a picture is where it is shown by itself, and whether it has many colours.
+SHOWN = """(async () => {
+  const it = new Image();
+  it.src = URL.createObjectURL(new Blob([%s], { type: "image/svg+xml" }));
+  await it.decode();
+  const canvas = document.createElement("canvas"), board = canvas.getContext("2d");
+  [canvas.width, canvas.height] = [it.naturalWidth, it.naturalHeight];
+  board.drawImage(it, 0, 0);
+  const { data } = board.getImageData(0, 0, canvas.width, canvas.height), colours = new Set(new Uint32Array(data.buffer));
+  return [it.naturalWidth > 300, colours.size > 20];
+})()"""
+
+
 def test_pictures(at):
     at.key("n")
     for selector, ending in (("#save-path", r"asum-cycle\d+\.svg"), ("#save-diagram", r"asum-diagram\.svg")):
@@ -590,6 +637,7 @@ def test_pictures(at):
         assert re.fullmatch(ending, name)
         same(at.do(f"new DOMParser().parseFromString({json.dumps(text)}, 'image/svg+xml').querySelector('parsererror')"), None)
         assert "var(--" in text and re.search(r"--ink:#\w+", text), "the picture has no colours of its own"
+        same(at.do(SHOWN % json.dumps(text)), [True, True])
 
 
 def test_certificate(at, programs, folder):
@@ -601,10 +649,23 @@ def test_certificate(at, programs, folder):
 
 
 def test_print(at):
-    if not isinstance(at.browser, ENGINES["chromium"]):
-        pytest.skip("only Chromium prints into a file")
-    pdf = base64.b64decode(at.browser.call("Page.printToPDF", landscape=True, printBackground=True)["data"])
+    """On paper are the cycle that is shown and the whole diagram, in parts that fit, in light colours; afterwards the page is as it was."""
+    at.scheme("dark")
+    at.do("dispatchEvent(new Event('beforeprint'))")
+    same(at.do("[document.documentElement.dataset.theme, every('#paper svg').length, every('#paper h3').map((it) => it.textContent)]"),
+         ["light", 3, ["Cycle 1", "Instructions by cycles"]])
+    said(at, "paper", "asum.ys under std.hcl", "This program comes out right. Right for every program", "50 cycles, 34 retired, HLT.")
+    at.do("dispatchEvent(new Event('afterprint'))")
+    same(at.do("[document.documentElement.dataset.theme, el('paper').childNodes.length]"), ["dark", 0])
+    at.scheme("light")
+
+
+def test_pdf(at):
+    pdf = at.browser.paper()
+    if pdf is None:
+        pytest.skip("this browser doesn't print into a file")
     assert len(pdf) > 8000 and pdf.startswith(b"%PDF")
+    same(at.do("el('paper').childNodes.length"), 0)
 
 
 def test_class(at):

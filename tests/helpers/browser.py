@@ -22,6 +22,8 @@ NAMES = ("chromium", "chromium-browser", "google-chrome", "google-chrome-stable"
 
 CODES = {"ArrowLeft": 37, "ArrowRight": 39, "ArrowUp": 38, "ArrowDown": 40, "Home": 36, "End": 35, "Tab": 9, "Enter": 13, "Escape": 27, " ": 32, "Backspace": 8, "PageUp": 33}
 CTRL = 2
+# What a browser may take to begin or to answer, since other work may have the processors.
+MOST_SECONDS = 300
 
 
 class Broken(Exception):
@@ -36,10 +38,10 @@ def command():
 class Browser:
     """A browser with one page. What the page's scripts throw, and the console's errors, are in `errors`."""
 
-    has_media = True
+    has_media = has_folders = has_drops = True
     command = staticmethod(command)
 
-    def __init__(self, seconds=120):
+    def __init__(self, seconds=MOST_SECONDS):
         self.seconds, self.last, self.held, self.errors = seconds, 0, b"", []
         # Inputs for files that the page has opened.
         self.choosers = []
@@ -140,6 +142,9 @@ class Browser:
         self.call("Input.dispatchKeyEvent", type="keyDown" if text else "rawKeyDown", **more, **({"text": text} if text else {}))
         self.call("Input.dispatchKeyEvent", type="keyUp", **more)
 
+    def close_list(self):
+        """Keys reach the rows of a list, open or not."""
+
     def give(self, asks, path):
         """Does something that asks for a file or a folder, and gives this one."""
         self.choosers.clear()
@@ -167,6 +172,10 @@ class Browser:
     def picture(self):
         """The page as it can be seen, a PNG."""
         return base64.b64decode(self.call("Page.captureScreenshot")["data"])
+
+    def paper(self):
+        """The page on paper, a PDF."""
+        return base64.b64decode(self.call("Page.printToPDF", landscape=True, printBackground=True)["data"])
 
     def media(self, **features):
         """What a system asks for: prefers_color_scheme, prefers_reduced_motion."""

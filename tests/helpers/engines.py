@@ -3,6 +3,7 @@
 They do what helpers/browser.py does with Chromium, so the tests of the workbench run in them too (docs/TESTING.md). Python's standard library alone.
 """
 import base64
+import contextlib
 import glob
 import json
 import os
@@ -14,7 +15,7 @@ import tempfile
 import time
 import urllib.request
 
-from helpers.browser import Broken, Browser
+from helpers.browser import MOST_SECONDS, Broken, Browser
 
 # What WebDriver calls keys that aren't letters.
 KEYS = {
@@ -22,9 +23,11 @@ KEYS = {
     "Enter": "\ue007", "\n": "\ue007", "Escape": "\ue00c", "Backspace": "\ue003", "PageUp": "\ue00e",
 }
 CTRL = "\ue009"
+# The screen of a browser that needs one.
+SCREEN = 1600, 1200
 # The value of an expression in the page, awaited.
 ASYNC = """const done = arguments[arguments.length - 1];
-(async () => { %s })().then((value) => done({ value: value ?? null }), (fault) => done({ fault: String(fault.stack || fault) }));"""
+(async () => { %s })().then((value) => done({ value: value ?? null }), (fault) => done({ fault: `${fault}\n${fault.stack ?? ""}` }));"""
 
 
 def free_port():
@@ -36,8 +39,8 @@ def free_port():
 class Driven:
     """A browser that takes WebDriver's commands, by `ask`. It has no errors to tell unless `gather` finds some."""
 
-    # Whether colours and motion can be asked for as a system would.
-    has_media = False
+    # Whether colours and motion can be asked for as a system would; whether a folder can be given, and a file dropped.
+    has_media = has_folders = has_drops = False
 
     def __init__(self):
         self.errors = []
@@ -91,19 +94,28 @@ class Driven:
         for it in text:
             self.press_key(it, False)
 
+    def paper(self):
+        """The page on paper, a PDF; None where the driver can't print."""
+        return None
+
     def picture(self):
         """The page as it can be seen, a PNG."""
         return base64.b64decode(self.ask("TakeScreenshot", full=False))
 
     def size(self, width, height, is_dark=False):
-        """Makes the page so large; the window has a frame besides."""
-        for _ in range(3):
-            inner = self.evaluate("", "[innerWidth, innerHeight]")
-            if inner == [width, height]:
-                break
-            now = self.ask("GetWindowRect")
-            self.ask("SetWindowRect", width=now["width"] + width - inner[0], height=now["height"] + height - inner[1])
-            time.sleep(0.3)
+        """Makes the page so large."""
+        raise NotImplementedError
+
+    def close_list(self):
+        """Closes the rows of a list that has the focus, where the driver's keys don't reach them: they then go to the list."""
+
+    def give(self, asks, path):
+        """Does something that asks for a file or a folder, and gives this one."""
+        raise NotImplementedError
+
+    def save_into(self, folder):
+        """What the page saves goes into this folder."""
+        raise NotImplementedError
 
     def gather(self):
         """Adds what the console says to `errors`."""
@@ -112,7 +124,7 @@ class Driven:
 class Firefox(Driven):
     """A headless Firefox, which Marionette drives over a socket."""
 
-    has_media = True
+    has_media = has_folders = True
     # What a system asks for, as Firefox's preferences have it.
     MEDIA = {
         ("prefers_color_scheme", "dark"): ("layout.css.prefers-color-scheme.content-override", 0),
@@ -123,13 +135,25 @@ class Firefox(Driven):
     ERRORS = """return Services.console.getMessageArray().filter((it) => it instanceof Ci.nsIScriptError && !(it.flags & 1)
         && it.sourceName.startsWith("file:")).map((it) => it.errorMessage);"""
 
+    # In place of the system's window that asks for a file or a folder: it gives one at once.
+    PICKER = """const path = %s, name = "@mozilla.org/filepicker;1", registrar = Components.manager.QueryInterface(Ci.nsIComponentRegistrar);
+        const old = registrar.contractIDToCID(name), id = Services.uuid.generateUUID(), file = Cc["@mozilla.org/file/local;1"].createInstance(Ci.nsIFile);
+        file.initWithPath(path);
+        const picker = { QueryInterface: ChromeUtils.generateQI(["nsIFilePicker"]), init() {}, appendFilter() {}, appendFilters() {}, appendRawFilter() {}, file,
+            get files() { return [file][Symbol.iterator](); },
+            open(it) { registrar.registerFactory(old, "", name, null); Services.tm.dispatchToMainThread(() => it.done(Ci.nsIFilePicker.returnOK)); } };
+        registrar.registerFactory(id, "", name, { createInstance: (it) => picker.QueryInterface(it) });"""
+
+    # A page may read a folder that is given. (Firefox would ask first; the answer can't be pressed for a second, and Marionette then waits without an end.)
+    MAY_READ = """ChromeUtils.importESModule("resource:///modules/PromptCollection.sys.mjs").PromptCollection.prototype.confirmFolderUpload = () => true;"""
+
     def __init__(self):
         super().__init__()
         port, self.number = free_port(), 0
         with open(f"{self.room.name}/user.js", "w", encoding="utf-8") as it:
             it.write(f'user_pref("marionette.port", {port});\nuser_pref("datareporting.policy.dataSubmissionEnabled", false);\n')
         self.begin_process([self.command(), "--headless", "--marionette", "--remote-allow-system-access", "--no-remote", "--profile", self.room.name])
-        end = time.monotonic() + 60
+        end = time.monotonic() + MOST_SECONDS
         while True:
             try:
                 self.socket = socket.create_connection(("127.0.0.1", port))
@@ -141,7 +165,7 @@ class Firefox(Driven):
         self.lines = self.socket.makefile("rb")
         self.answer()
         self.ask("NewSession", capabilities={})
-        self.ask("SetTimeouts", script=600000, pageLoad=120000)
+        self.ask("SetTimeouts", script=600000, pageLoad=600000)
 
     @staticmethod
     def command():
@@ -197,29 +221,64 @@ class Firefox(Driven):
             self.chrome('Services.prefs.clearUserPref("ui.prefersReducedMotion");')
         time.sleep(0.3)
 
+    def close_list(self):
+        self.chrome("for (const it of document.querySelectorAll('menupopup')) if (it.state !== 'closed') it.hidePopup();")
+
+    def give(self, asks, path):
+        self.chrome(self.PICKER % json.dumps(path))
+        self.ask("ExecuteScript", script=self.MAY_READ, args=[], sandbox="system")
+        asks()
+
+    def press_key(self, key, is_ctrl):
+        super().press_key(key, is_ctrl)
+        if key == "Tab" and not self.evaluate("", "document.hasFocus()"):
+            # (the focus is in the browser's own buttons, which come between the page's last stop and its first)
+            self.chrome("gBrowser.selectedBrowser.focus();")
+
+    def paper(self):
+        return base64.b64decode(self.ask("Print", orientation="landscape", background=True))
+
+    def save_into(self, folder):
+        os.makedirs(folder, exist_ok=True)
+        self.chrome(f"""Services.prefs.setStringPref("browser.download.dir", {json.dumps(folder)});
+            Services.prefs.setIntPref("browser.download.folderList", 2);""")
+
     def gather(self):
         self.errors += self.chrome(self.ERRORS)
         self.chrome("Services.console.reset();")
 
 
 class WebKit(Driven):
-    """WebKitGTK's small browser, which WebKitWebDriver drives; it needs a display, so it begins under xvfb-run where there is none."""
+    """WebKitGTK's small browser, which WebKitWebDriver drives; it needs a display, so it begins under xvfb-run where there is none.
 
+    It knows what a system asks for only as it begins: `is_dark` asks for dark colours and no motion.
+    """
+
+    # (so it has no toolbar, and can be as narrow as a phone)
+    WORDS = ["--automation", "--full-screen"]
+    # (without a graphics card, drawing by OpenGL takes more time than all the rest)
+    DRAWING = {"WEBKIT_DISABLE_COMPOSITING_MODE": "1", "WEBKIT_SKIA_ENABLE_CPU_RENDERING": "1"}
+    # What an element is called in WebDriver's answers.
+    ELEMENT = "element-6066-11e4-a52e-4f735466cecf"
     PATHS = {
         "Navigate": ("POST", "url"), "ExecuteAsyncScript": ("POST", "execute/async"), "PerformActions": ("POST", "actions"),
         "TakeScreenshot": ("GET", "screenshot"), "GetWindowRect": ("GET", "window/rect"), "SetWindowRect": ("POST", "window/rect"), "SetTimeouts": ("POST", "timeouts"),
+        "ExecuteScript": ("POST", "execute/sync"),
     }
 
-    def __init__(self):
+    def __init__(self, is_dark=False):
         super().__init__()
-        port = free_port()
+        port, room = free_port(), self.room.name
         self.top = f"http://127.0.0.1:{port}/session"
+        self.settings(is_dark)
         words = ["WebKitWebDriver", f"--port={port}"]
         if not os.environ.get("DISPLAY"):
-            words = ["xvfb-run", "-a", "-s", "-screen 0 1600x1200x24", *words]
-        self.begin_process(words, env={**os.environ, "HOME": self.room.name, "XDG_CACHE_HOME": self.room.name, "XDG_DATA_HOME": self.room.name})
-        options = {"binary": self.command(), "args": ["--automation"]}
-        end = time.monotonic() + 60
+            words = ["xvfb-run", "-a", "-s", f"-screen 0 {SCREEN[0]}x{SCREEN[1]}x24", *words]
+        folders = {f"XDG_{it}_HOME": room for it in ("CACHE", "DATA", "CONFIG")}
+        more = {**self.DRAWING, "HOME": room, "GTK_THEME": "Adwaita:dark" if is_dark else "Adwaita"}
+        self.begin_process(words, env={**os.environ, **folders, **more})
+        options = {"binary": self.command(), "args": self.WORDS}
+        end = time.monotonic() + MOST_SECONDS
         while True:
             try:
                 began = self.http("POST", "", {"capabilities": {"alwaysMatch": {"webkitgtk:browserOptions": options}}})
@@ -229,7 +288,15 @@ class WebKit(Driven):
                     raise Broken("WebKit doesn't begin") from None
                 time.sleep(0.3)
         self.top += f"/{began['sessionId']}"
-        self.ask("SetTimeouts", script=600000, pageLoad=120000)
+        self.ask("SetTimeouts", script=600000, pageLoad=600000)
+
+    def settings(self, is_dark):
+        """Writes what the browser reads as it begins."""
+        os.makedirs(f"{self.room.name}/gtk-3.0")
+        with open(f"{self.room.name}/gtk-3.0/settings.ini", "w", encoding="utf-8") as it:
+            it.write(f"[Settings]\ngtk-enable-animations={0 if is_dark else 1}\n")
+        with open(f"{self.room.name}/user-dirs.dirs", "w", encoding="utf-8") as it:
+            it.write('XDG_DOWNLOAD_DIR="$HOME/saved"\n')
 
     @staticmethod
     def command():
@@ -248,6 +315,36 @@ class WebKit(Driven):
     def ask(self, what, **more):
         method, path = self.PATHS[what]
         return self.http(method, path, more if method == "POST" else None)
+
+    def size(self, width, height, is_dark=False):
+        """Makes the page so large, where the pointer is: without a manager of windows, the window under it has the focus."""
+        for _ in range(3):
+            inner = self.evaluate("", "[innerWidth, innerHeight]")
+            if inner == [width, height]:
+                break
+            now = self.ask("GetWindowRect")
+            wide, high = now["width"] + width - inner[0], now["height"] + height - inner[1]
+            x, y = (max(0, (most - part) // 2) for most, part in zip(SCREEN, (width, height)))
+            self.ask("SetWindowRect", width=wide, height=high, x=x, y=y)
+            time.sleep(0.3)
+
+    def give(self, asks, path):
+        """Gives a file. The input that asks doesn't open the system's window, which no driver reaches."""
+        self.evaluate("", "(HTMLInputElement.prototype.click = function () { window.asked = this; }, 0)")
+        asks()
+        end = time.monotonic() + MOST_SECONDS
+        while not self.evaluate("", "Boolean(window.asked)"):
+            if time.monotonic() > end:
+                raise Broken("no file is asked for")
+            time.sleep(0.05)
+        element = self.ask("ExecuteScript", script="const it = asked; delete window.asked; delete HTMLInputElement.prototype.click; return it;", args=[])
+        self.http("POST", f"element/{element[self.ELEMENT]}/value", {"text": path})
+
+    def save_into(self, folder):
+        os.makedirs(folder, exist_ok=True)
+        with contextlib.suppress(FileNotFoundError):
+            os.remove(f"{self.room.name}/saved")
+        os.symlink(folder, f"{self.room.name}/saved")
 
 
 ENGINES = {"chromium": Browser, "firefox": Firefox, "webkit": WebKit}

@@ -6,7 +6,7 @@ import time
 
 import pytest
 
-from helpers.browser import Broken
+from helpers.browser import MOST_SECONDS, Broken
 from helpers.engines import ENGINES
 
 # A screen, a tablet and a phone.
@@ -58,7 +58,7 @@ class Workbench:
         """The value of an expression in the page, awaited."""
         return self.browser.evaluate(SHORT, script)
 
-    def until(self, condition, seconds=60):
+    def until(self, condition, seconds=MOST_SECONDS):
         """Waits until a condition holds in the page."""
         end = time.monotonic() + seconds
         while not self.do(f"Boolean({condition})"):
@@ -120,11 +120,21 @@ class Workbench:
         return self.do("workbench.cycle")
 
     def leave(self):
-        """Leaves the text, for the keys of the result."""
-        self.do("document.activeElement.blur(), el('result').focus()")
+        """Leaves the text, for the keys of the result. (WebKit would bring the result into view some time later, as a click is under way.)"""
+        self.do("document.activeElement.blur(), el('result').focus({ preventScroll: true })")
 
     def size(self, width, height):
+        """Makes the page so large, and returns how wide it is: WebKitGTK's window can't be narrower than a phone."""
         self.browser.size(width, height)
+        return self.do("innerWidth") if isinstance(self.browser, ENGINES["webkit"]) else width
+
+    def scheme(self, name):
+        """Makes the page light or dark: as a system asks for it, or by the button where the browser can't be told."""
+        if self.browser.has_media:
+            self.browser.media(prefers_color_scheme=name)
+        elif self.do("workbench.theme") != name:
+            self.do(f"(() => {{ while (workbench.theme !== '{name}') el('theme').click(); }})()")
+        self.until(f"document.documentElement.dataset.theme === '{name}'")
 
     def media(self, **features):
         """What a system asks for; skips where the browser can't be told."""

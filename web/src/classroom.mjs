@@ -82,13 +82,12 @@ async function grade(files) {
 
 const pathOf = (file) => file.webkitRelativePath || file.name;
 
-/** The files of a folder that was dropped. */
+const placed = (file, path) => Object.defineProperty(file, "webkitRelativePath", { value: path });
+
+/** The files of an entry, which is a file or a folder. */
 async function filesOf(entry, folder = "") {
-  if (entry.isFile) {
-    const file = await new Promise((done, fail) => entry.file(done, fail));
-    Object.defineProperty(file, "webkitRelativePath", { value: `${folder}${entry.name}` });
-    return [file];
-  }
+  if (entry.isFile)
+    return [placed(await new Promise((done, fail) => entry.file(done, fail)), `${folder}${entry.name}`)];
   const reader = entry.createReader(), found = [];
   for (;;) {
     const part = await new Promise((done, fail) => reader.readEntries(done, fail));
@@ -96,6 +95,32 @@ async function filesOf(entry, folder = "") {
     for (const it of part) found.push(...(await filesOf(it, `${folder}${entry.name}/`)));
   }
   return found;
+}
+
+/** The files of a handle, which is one of a file or of a folder. */
+async function filesBy(handle, folder = "") {
+  if (handle.kind === "file") return [placed(await handle.getFile(), `${folder}${handle.name}`)];
+  const found = [];
+  for await (const it of handle.values()) found.push(...(await filesBy(it, `${folder}${handle.name}/`)));
+  return found;
+}
+
+/** The files of what was dropped. (In a page that is a file, Chrome reads no entries; others have no handles.) */
+function dropped(item) {
+  if (item.getAsFileSystemHandle) return item.getAsFileSystemHandle().then((it) => filesBy(it));
+  return filesOf(item.webkitGetAsEntry());
+}
+
+/** Checks what was dropped. */
+async function gradeDropped(items) {
+  let files = [...items].filter((it) => it.kind === "file").map(dropped);
+  try {
+    files = await Promise.all(files);
+  } catch (fault) {
+    by("class-said").textContent = `What was dropped can’t be read (${fault.name}): choose the folder by the button.`;
+    return;
+  }
+  await grade(files.flat());
 }
 
 function show() {
@@ -121,11 +146,10 @@ export function wireClassroom() {
     pick.value = "";
   };
   it.addEventListener("close", () => it.classList.remove("wide"));
-  it.addEventListener("drop", async (event) => {
+  it.addEventListener("drop", (event) => {
     if (!by("class-rows")) return;
     event.preventDefault();
     event.stopPropagation();
-    const entries = [...event.dataTransfer.items].map((item) => item.webkitGetAsEntry()).filter(Boolean);
-    grade((await Promise.all(entries.map((entry) => filesOf(entry)))).flat());
+    gradeDropped(event.dataTransfer.items);
   });
 }

@@ -4,7 +4,7 @@ import { REGISTERS } from "./names.mjs";
 import { cycleNow } from "./player.mjs";
 import { on, state, tell } from "./state.mjs";
 
-const MOST_WORDS = 400, LONG = 13, FLAGS = ["ZF", "SF", "OF"];
+const MOST_WORDS = 400, LONG = 12, FLAGS = ["ZF", "SF", "OF"];
 
 /** A word as it is shown: in hex or as a signed decimal, without its middle where it is long. */
 function shown(word) {

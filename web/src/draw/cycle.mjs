@@ -55,7 +55,7 @@ function memory({ M }, texts, on) {
     texts.address = `[${shortWord(mem_addr, 8)}]`;
     texts.word = `${isWrite ? "←" : "→"} ${shortWord(isWrite ? valA : m_valM, 8)}`;
     texts.mem_addr = shortWord(mem_addr, 8);
-    if (!isWrite) texts.m_valM = shortWord(m_valM, 8);
+    if (!isWrite) texts.m_valM = shortWord(m_valM, 7);
     if (BigInt(mem_addr) !== BigInt(valE) && BigInt(mem_addr) === BigInt(valA)) on.add("addr_valA");
   }
   if (dstE !== "-") on.add("valE");

@@ -169,8 +169,8 @@ function cell(sheet, stage, [slot, name], value) {
   sheet.add(`<g class="cell${isNone ? " none" : ""}${sheet.mark(`${stage}_${name}`)}">`
     + `<title>${stage}_${name} = ${escaped(isNone ? "none" : value)}</title>`);
   sheet.add(`<rect x="${x + 1.5}" y="${y + 1.5}" width="${wide - 3}" height="${TALL - 3}" rx="4"/>`);
-  sheet.text(x + 6, isF ? y - 3 : y + 16, name, "name");
-  sheet.text(x + wide - 6, y + 16.5, isNone ? "–" : shortWord(value, isF ? 7 : 8), "val end");
+  sheet.text(x + 4, isF ? y - 3 : y + 16, name, "name");
+  sheet.text(x + wide - 4, y + 16.5, isNone ? "–" : shortWord(value, isF ? 7 : 8), "val end");
   sheet.add("</g>");
 }
 
@@ -212,7 +212,7 @@ function band(sheet, stage, { text, at, tag, kind, row }) {
 /** The words on their way, above all else, and their labels side by side. */
 function ways(sheet, { forward, pc }) {
   const labels = [], tapped = (it) => TAPS[it.from]?.at(-1)[0] ?? 0;
-  let right = 404;
+  let right = 390;
   for (const it of [...forward].sort((one, other) => tapped(one) - tapped(other))) {
     const way = forwardWay(it.side, it.from), track = TRACKS[it.from];
     if (!way) continue;
