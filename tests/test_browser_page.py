@@ -595,13 +595,17 @@ def test_hostile_texts(at):
 
 def test_policy(at):
     """The page runs its own script alone, and loads nothing."""
+    at.do("(window.refused = [], addEventListener('securitypolicyviolation', (it) => refused.push(it.effectiveDirective.split('-')[0])), 0)")
     at.do("(() => { const it = document.createElement('script'); it.textContent = 'window.hit = 1'; document.body.append(it); it.remove(); })()")
     at.do("(() => { const it = document.createElement('b'); it.setAttribute('onclick', 'window.hit = 1'); document.body.append(it); it.click(); it.remove(); })()")
     assert at.do("fetch('data:text/plain,1').then(() => 'loaded', () => 'refused')") == "refused"
     same(at.do("window.hit ?? 0"), 0)
+    at.until("refused.length === 3")
+    same(at.do("refused"), ["script", "script", "connect"])
+    # (a console of WebKit's can't be read)
     errors = list(at.errors)
     at.browser.errors.clear()
-    assert errors and all("Content Security Policy" in it or "Content-Security-Policy" in it for it in errors), errors
+    assert all("Content Security Policy" in it or "Content-Security-Policy" in it for it in errors), errors
     with open(at.path, encoding="utf-8") as it:
         text = it.read()
     shell = re.sub(r'<script type="(?:application/json|text/plain)".*?</script>', "", text, flags=re.S)

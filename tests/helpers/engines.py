@@ -91,8 +91,7 @@ class Driven:
         self.actions("key", [*down, *[{"type": "keyUp", "value": it} for it in reversed(keys)]])
 
     def insert(self, text):
-        for it in text:
-            self.press_key(it, False)
+        self.actions("key", [{"type": kind, "value": KEYS.get(it, it)} for it in text for kind in ("keyDown", "keyUp")])
 
     def paper(self):
         """The page on paper, a PDF; None where the driver can't print."""
