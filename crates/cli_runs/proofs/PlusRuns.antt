@@ -6,11 +6,9 @@ use Rattle.y86_base.specs.declared.parts.Variant.{Variant}
 use Rattle.y86_isa.specs.declared.machine.Machine.{Machine}
 use Rattle.y86_isa.specs.declared.machine.Rec.{Rec}
 use Rattle.hcl_types.specs.declared.term.Term.{Term}
-use Rattle.seq_plus.specs.Calls.{PlusCalls}
-use Rattle.seq_plus.specs.Plus.{PlusMachine, started}
+use Rattle.seq_plus.specs.Plus.{PlusCalls, PlusMachine, started}
 use Rattle.seq_plus.specs.PlusRun.{PlusEndIs}
-use Rattle.seq_plus.proofs.Calls.{calls_are_the_run}
-use Rattle.seq_plus.proofs.Sizes.{plus_size}
+use Rattle.seq_plus.proofs.OneRun.{calls_are_the_run, plus_size}
 use Rattle.yis_run.specs.Report.{report}
 use Rattle.cli_runs.specs.Answers.{SeqAnswers}
 use Rattle.cli_plans.specs.Stages.{run_status}

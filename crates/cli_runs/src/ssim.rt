@@ -19,7 +19,7 @@ use seq_plus::Plus;
 use std::alloc::Global;
 use wb_io::{Files, Sink};
 use y86_base::{Image, Variant};
-use yis_run::report;
+use yis_run::{End, report};
 
 /// Runs an image on SEQ and writes the report. All memory is taken before the first cycle. The loops of SEQ and SEQ+ are functions
 /// of their own, so that each has all registers of the processor.
@@ -44,7 +44,7 @@ fn run_seq<'a, O: Sink>(
     };
     let mut machine = Seq::new(variant, design, order, compiled, image);
     let ran = seq_path::run(&mut machine, limit);
-    let end = machine.end();
+    let end = End::of(machine.state());
     match report(&first, &end, ran.steps, out) {
         Ok(()) => Ok(status(end.stat)),
         Err(_) => Err(StopReason::Write),

@@ -10,7 +10,7 @@ use Rattle.dp_signals.proofs.Sound.{seq_sound}
 use Rattle.net_fields.specs.FieldSpecs.{total}
 use Rattle.findings.specs.Findings.{are_right, finding}
 use Rattle.findings.proofs.EachMet.{demand_false, findings_right}
-use Rattle.seq_plus.proofs.Sound.{plus_sound}
+use Rattle.seq_plus.specs.Sound.{plus_sound}
 use Rattle.seq_requirements.specs.Datapaths.{allowed_of, defined_of, demand_of, rows_of, spots_of}
 use Rattle.seq_requirements.specs.Requirements.{requirements}
 use Rattle.seq_requirements.specs.declared.datapath.Datapath.{Datapath}

@@ -1,25 +1,55 @@
-//! The rules of a design for SEQ.
-ghost use Rattle.std.specs.Prelude.{◌≡◌, IfErr, IfOk};
+//! The rules of a design for a sequential datapath.
+ghost use Rattle.std.specs.Prelude.{◌≡◌, ◌||◌, not, IfErr, IfOk};
 ghost use Rattle.hcl_types.specs.Tables.{IsBound, IsOrderOf};
 ghost use Rattle.ctl_atoms.specs.Atoms.{AreAtoms, IsCtlFault};
 ghost use Rattle.dp_signals.specs.SeqTable.{seq_rows};
-ghost use Rattle.seq_obligations.specs.Rules.{AreSeqRules};
+ghost use Rattle.seq_obligations.specs.Rules.{AreDesignedRules, AreSeqRules};
 
-use crate::fields::places;
-use crate::numbered::numbered_rules;
+use crate::numbered::{RuleFamily, numbered_rules};
 use crate::rules::SeqRules;
-use crate::signals::BIT_COUNT;
 use ctl_atoms::{CtlFault, atoms};
 use ctl_formula::translate;
 use ctl_rules::Rules;
-use dp_signals::seq_table;
 use hcl_types::{Design, Order};
 use nets::NetBuilder;
 use std::alloc::Global;
 use y86_base::{Items, Variant};
 
-/// The 16 rules of a design for SEQ, in their order: each gate is its obligation at every pattern of bits of a control valuation.
-/// The fields stand first, then the atoms. A design that mixes classes or asks more than 64 atoms has none.
+/// The 16 rules of a design for a sequential datapath, in their order: each gate is its obligation at every pattern of bits of a control
+/// valuation. The fields stand first, then the atoms. A design that mixes classes or asks more than 64 atoms has none.
+pub fn designed_rules<N: RuleFamily>(
+    alloc: Global,
+    variant: Variant,
+    design: &Design,
+    order: &Order,
+    rules: &N,
+) -> Result<Rules, CtlFault>
+    requires bound { IsBound N.rows design.now.terms }
+    requires ordered { IsOrderOf N.rows design.now.terms order.now.ids }
+    ensures rules { IfOk result (λ r. AreDesignedRules N.rows N.field N.bits (λ i w α cv. not (N.may rules.now w α cv) || N.asks rules.now i w α cv) design.now.terms r.net r.list) }
+    ensures variant { IfOk result (λ r. r.variant ≡ variant) }
+    ensures atoms { IfOk result (λ r. AreAtoms N.rows design.now.terms r.atoms) }
+    ensures fault { IfErr result (IsCtlFault N.rows design.now.terms) }
+{
+    let table = match rules.table(alloc) {
+        Ok(table) => table,
+        Err(_) => return Err(CtlFault::Memory),
+    };
+    let listed = atoms(alloc, design, &table, order)?;
+    let mut b = NetBuilder::new(alloc, rules.bit_count() + listed.len() as u32);
+    let ctl = translate(alloc, design, &table, order, rules.field_places(), &mut b)?;
+    match numbered_rules(alloc, &mut b, &ctl, rules) {
+        Err(_) => Err(CtlFault::Memory),
+        Ok(list) => Ok(Rules {
+            variant,
+            net: b.finish(),
+            list: Items::of(list),
+            atoms: Items::of(listed),
+        }),
+    }
+}
+
+/// The 16 rules of a design for SEQ.
 pub fn seq_rules(alloc: Global, v: Variant, d: &Design, o: &Order) -> Result<Rules, CtlFault>
     requires bound { IsBound seq_rows d.now.terms }
     requires ordered { IsOrderOf seq_rows d.now.terms o.now.ids }
@@ -28,20 +58,5 @@ pub fn seq_rules(alloc: Global, v: Variant, d: &Design, o: &Order) -> Result<Rul
     ensures atoms { IfOk result (λ r. AreAtoms seq_rows d.now.terms r.atoms) }
     ensures fault { IfErr result (IsCtlFault seq_rows d.now.terms) }
 {
-    let t = match seq_table(alloc) {
-        Ok(t) => t,
-        Err(_) => return Err(CtlFault::Memory),
-    };
-    let listed = atoms(alloc, d, &t, o)?;
-    let mut b = NetBuilder::new(alloc, BIT_COUNT + listed.len() as u32);
-    let ctl = translate(alloc, d, &t, o, places(), &mut b)?;
-    match numbered_rules(alloc, &mut b, &ctl, &SeqRules { variant: v }) {
-        Err(_) => Err(CtlFault::Memory),
-        Ok(list) => Ok(Rules {
-            variant: v,
-            net: b.finish(),
-            list: Items::of(list),
-            atoms: Items::of(listed),
-        }),
-    }
+    designed_rules(alloc, v, d, o, &SeqRules { variant: v })
 }

@@ -1,16 +1,21 @@
 //! The rules of a sequential datapath in their order, from what each asks.
-ghost use Rattle.std.specs.Prelude.{◌≡◌, ◌||◌, not, ℕ, List, Bool, length, IfOk};
+ghost use Rattle.std.specs.Prelude.{◌≡◌, ◌≤◌, ◌||◌, not, ℕ, List, Bool, length, IfOk};
 ghost use Rattle.nets.specs.Nets.{ExtendsNet};
 ghost use Rattle.ctl_atoms.specs.declared.leaf.Leaf.{Leaf};
 ghost use Rattle.ctl_atoms.specs.Leaves.{Assignment};
 ghost use Rattle.ctl_formula.specs.declared.controls.Entry.{Entry};
-ghost use Rattle.ctl_formula.specs.Picks.{IsInside};
+ghost use Rattle.ctl_formula.specs.Picks.{Covers, IsInside};
+ghost use Rattle.ctl_formula.specs.Places.{HavePlaces, Spells};
+ghost use Rattle.ctl_formula.specs.declared.controls.Place.{Place as FieldPlace};
+ghost use Rattle.hcl_types.specs.Tables.{IsSound};
+ghost use Rattle.hcl_types.specs.declared.table.Row.{Row};
 ghost use Rattle.ctl_rules.specs.ControlGates.{IsControlGate};
 ghost use Rattle.seq_obligations.specs.Obligations.{rule_count};
 ghost use Rattle.seq_obligations.specs.Rules.{AreNumbered};
 
-use ctl_formula::Controls;
+use ctl_formula::{Controls, Place};
 use ctl_rules::Rule;
+use hcl_types::Table;
 use nets::NetBuilder;
 use std::alloc::Global;
 use y86_base::Memory;
@@ -18,7 +23,7 @@ use y86_base::Memory;
 /// How many rules a sequential datapath has.
 pub const RULE_COUNT: u32 = 16;
 
-/// What the rules of a datapath ask by their numbers, and of which valuations.
+/// What the rules of a datapath ask by their numbers, and of which valuations, over its table and the fields of a valuation.
 pub trait RuleFamily {
     /// The valuations of which they ask something.
     ghost may: { Self → List Bool → Assignment → (ℕ → Leaf) → Bool };
@@ -28,6 +33,29 @@ pub trait RuleFamily {
 
     /// The fields are among so many variables, and the signals have control values.
     ghost knows: { Self → ℕ → List Entry → Type 0 };
+
+    /// The table of signals, the places of the signals that are fields, and how many bits the fields have together.
+    ghost rows: { List Row };
+
+    ghost places: { List FieldPlace };
+
+    ghost bits: { ℕ };
+
+    /// The number that bits give a signal which is a field.
+    ghost field: { List Bool → ℕ → ℕ };
+
+    /// The table of signals.
+    fn table(&self, alloc: Global) -> Result<Table, Memory>
+        ensures { IfOk result (λ table. table.rows ≡ rows) };
+
+    /// The places of the signals that are fields.
+    fn field_places(&self) -> &'static [Place]
+        ensures { result.now ≡ places };
+
+    /// How many bits the fields have together.
+    fn bit_count(&self) -> u32
+        ensures size { result ≡ bits }
+        ensures few { result ≤ 64 };
 
     /// A gate of the valuations of which they ask something.
     fn fits(&self, b: &mut NetBuilder, ctl: &Controls) -> Result<u64, Memory>
@@ -42,6 +70,14 @@ pub trait RuleFamily {
         requires known { knows self.now b.old.vars ctl.now }
         ensures extends { ExtendsNet b.old b.new }
         ensures has_truth { IfOk result (λ g. IsControlGate b.new ctl.now g (asks self.now number)) };
+
+    ghost sound: { IsSound rows };
+
+    ghost ready: { (it : Self) (vars : ℕ) (ctl : List Entry) → bits ≤ vars → Covers rows ctl → knows it vars ctl };
+
+    ghost placed: { (vars : ℕ) → bits ≤ vars → HavePlaces rows places vars };
+
+    ghost spelt: { (w : List Bool) → Spells places w (field w) };
 }
 
 /// The rule of a number: it asks nothing of another valuation than these.
@@ -64,7 +100,7 @@ fn rule_told<N: RuleFamily>(
 }
 
 /// The rules in their order.
-pub fn numbered_rules<N: RuleFamily>(
+pub(crate) fn numbered_rules<N: RuleFamily>(
     alloc: Global,
     b: &mut NetBuilder,
     ctl: &Controls,

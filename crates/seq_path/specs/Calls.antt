@@ -1,17 +1,16 @@
 -- Calls of `cycle`, one after another, and the run that they are.
-use Rattle.std.specs.Prelude.{◌≡◌, ℕ, false, List, None}
-use Rattle.std.proofs.Common.{◌∙◌, ap}
+use Rattle.std.specs.Prelude.{◌≡◌, ℕ, List}
 use Rattle.y86_base.specs.declared.parts.Variant.{Variant}
-use Rattle.y86_isa.specs.Machine.{is_aok}
 use Rattle.y86_isa.specs.declared.machine.Rec.{Rec}
 use Rattle.hcl_types.specs.declared.term.Term.{Term}
-use Rattle.dp_signals.specs.After.{IsAfter}
 use Rattle.dp_signals.specs.SeqRun.{SeqRun}
-use Rattle.seq_path.specs.Seq.{SeqMachine, IsSeqCall, started}
+use Rattle.dp_sequential.specs.Machine.{CallsOn}
+use Rattle.dp_sequential.specs.Seq.{seq_path}
+use Rattle.seq_path.specs.Seq.{SeqMachine, started}
 
 -- q is the machine after k calls on p, and these are the records that they answered, the first one first
 abbrev pub SeqCalls : SeqMachine → ℕ → SeqMachine → List Rec → Type 0
-SeqCalls = IsAfter IsSeqCall
+SeqCalls = CallsOn seq_path
 
 -- k calls on a machine that began on an image are the run of k cycles: its state and its records. A call after the end does nothing.
 pub record IsRun (v : Variant) (terms : List Term) (image : List ℕ) (k : ℕ) (q : SeqMachine) (records : List Rec) : Type 0 where
@@ -23,7 +22,3 @@ abbrev pub CallsAreTheRun : Type 0
 CallsAreTheRun =
     (v : Variant) (terms : List Term) (order image : List ℕ) (k : ℕ) (q : SeqMachine) (records : List Rec) →
     SeqCalls (started v terms order image) k q records → IsRun v terms image k q records
-
--- a call on a machine that has stopped leaves it as it was
-pub stays : (p q : SeqMachine) → is_aok p.state.stat ≡ false → IsSeqCall p None q → q ≡ p
-stays p q over c = c.rest ∙ ap (λ s. record p { state = s }) (c.cycle.ended over).0

@@ -1,3 +1,2 @@
 pub mod Seq
-pub mod Invariant
 pub mod Calls

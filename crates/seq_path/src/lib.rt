@@ -2,8 +2,11 @@
 #![tactic(auto)]
 
 mod laws;
-mod seq;
 
 pub use dp_machines::run;
+use dp_sequential::SequentialMachine;
+use dp_signals::{SEQ_ROWS, SeqState};
 pub use laws::{law_of_calls, law_of_runs, law_of_solutions};
-pub use seq::Seq;
+
+/// A machine of SEQ.
+pub type Seq<C> = SequentialMachine<SeqState, C, SEQ_ROWS>;

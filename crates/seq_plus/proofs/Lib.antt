@@ -1,12 +1,5 @@
-pub mod Sound
-pub mod PlusRules
 pub mod PlusRows
-pub mod Agreement
-pub mod Followed
 pub mod PlusCycles
 pub mod Runs
-pub mod Calls
 pub mod OneRun
-pub mod Sizes
-pub mod Designed
 pub mod PlusVerdict

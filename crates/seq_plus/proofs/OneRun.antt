@@ -1,59 +1,41 @@
--- A design with an order has exactly one run: each cycle has one solution of its equations.
-use Rattle.std.proofs.Common.{◌≡◌, ℕ, zero, suc, Bool, true, false, List, [], ◌++◌, Option, Some, None, refl, sym, ap, ◌∙◌, subst, replicate, arith}
-use Rattle.std.specs.Option.{option_to_list}
+-- SEQ+'s runs are those of a sequential datapath.
+use Rattle.std.proofs.Common.{◌≡◌, ℕ, List, length}
 use Rattle.y86_base.specs.declared.parts.Variant.{Variant}
-use Rattle.y86_isa.specs.Machine.{is_aok}
 use Rattle.y86_isa.specs.declared.machine.Rec.{Rec}
 use Rattle.hcl_types.specs.Tables.{IsBound, IsOrderOf}
-use Rattle.hcl_types.specs.Terms.{at}
 use Rattle.hcl_types.specs.declared.term.Term.{Term}
-use Rattle.dp_signals.specs.Equations.{values_along}
-use Rattle.seq_plus.specs.PlusCycle.{plus_next, plus_record}
-use Rattle.seq_plus.specs.PlusEquations.{PlusSolves, plus_given, plus_rule}
-use Rattle.seq_plus.specs.PlusRun.{IsPlusCycle, PlusRunFrom}
+use Rattle.dp_sequential.proofs.Calls as calls
+use Rattle.dp_sequential.proofs.OneRun as one
+use Rattle.dp_sequential.proofs.Rules as rules
+use Rattle.dp_sequential.proofs.Sizes.{calls_keep}
+use Rattle.seq_plus.specs.Plus.{CallsAreTheRun, PlusCalls, PlusMachine, started}
+use Rattle.seq_plus.specs.PlusEquations.{PlusSolves}
+use Rattle.seq_plus.specs.PlusNames.{plus}
+use Rattle.seq_plus.specs.PlusRun.{PlusRunFrom, plus_path}
 use Rattle.seq_plus.specs.PlusTable.{plus_rows}
 use Rattle.seq_plus.specs.declared.state.PlusState.{PlusState}
-use Rattle.seq_plus.proofs.PlusRules.{plus_solves, plus_unique}
+use Rattle.seq_plus.specs.PlusLaws.{plus_lawful}
+
+pub calls_are_the_run : CallsAreTheRun
+calls_are_the_run v terms order image k q records h =
+    let done = calls.calls_are_the_run plus_path v terms order image k q records h in
+    record { same_variant = done.0; same_terms = done.1; run = done.2 }
+
+-- calls on a new machine keep the size of its memory
+pub plus_size : (v : Variant) (terms : List Term) (order image : List ℕ) (k : ℕ) (q : PlusMachine) (records : List Rec) → PlusCalls (started v terms order image) k q records →
+    length q.state.mem ≡ length image
+plus_size v terms order image k q records h = calls_keep plus plus_path plus_lawful v terms order image k q records h
 
 pub solution_there : (v : Variant) (s : PlusState) (terms : List Term) (ids : List ℕ) → IsBound plus_rows terms → IsOrderOf plus_rows terms ids → (f : ℕ → ℕ) × PlusSolves v terms s f
-solution_there v s terms ids bound o = (at (values_along (plus_rule v terms s) (plus_given s ++ replicate 32 0) ids), plus_solves v s terms ids bound o)
+solution_there v s terms ids bound o = rules.solution_there plus plus_path plus_lawful v s terms ids bound o
+
+pub plus_unique : (v : Variant) (s : PlusState) (terms : List Term) (ids : List ℕ) → IsBound plus_rows terms → IsOrderOf plus_rows terms ids →
+    (f h : ℕ → ℕ) → PlusSolves v terms s f → PlusSolves v terms s h → (n : ℕ) → f n ≡ h n
+plus_unique v s terms ids bound o = rules.solution_alone plus plus_path plus_lawful v s terms ids bound o
 
 module _ (v : Variant) (terms : List Term) (ids : List ℕ) (bound : IsBound plus_rows terms) (o : IsOrderOf plus_rows terms ids) where
-  one_solution : (s : PlusState) (f h : ℕ → ℕ) → PlusSolves v terms s f → PlusSolves v terms s h → f ≡ h
-  one_solution s f h a b = λ i n. plus_unique v s terms ids bound o f h a b n i
-
-  -- ---- a cycle
-
-  cycle_there : (s : PlusState) (b : Bool) → is_aok s.stat ≡ b → (r : Option Rec) × (t : PlusState) × IsPlusCycle v terms s r t
-  cycle_there s true e =
-      let f = solution_there v s terms ids bound o in
-      (Some (plus_record s f.0), plus_next s f.0, record { ended = λ over. absurd (grind (arith, over, e)); goes = λ going. (f.0, f.1, refl, refl) })
-  cycle_there s false e = (None, s, record { ended = λ over. (refl, refl); goes = λ going. absurd (grind (arith, e, going)) })
-
-  cycle_alone : (s : PlusState) (r x : Option Rec) (t u : PlusState) → IsPlusCycle v terms s r t → IsPlusCycle v terms s x u → (b : Bool) → is_aok s.stat ≡ b → (t ≡ u) × (r ≡ x)
-  cycle_alone s r x t u h k true e =
-      let f = h.goes e in
-      let g = k.goes e in
-      let same : f.0 ≡ g.0 = one_solution s f.0 g.0 f.1 g.1 in
-      (f.2 ∙ ap (plus_next s) same ∙ sym g.2, f.3 ∙ ap (λ y. Some (plus_record s y)) same ∙ sym g.3)
-  cycle_alone s r x t u h k false e =
-      let f = h.ended e in
-      let g = k.ended e in
-      (f.0 ∙ sym g.0, f.1 ∙ sym g.1)
-
-  -- ---- the run
-
   pub run_there : (m : PlusState) (k : ℕ) → (t : PlusState) × (records : List Rec) × PlusRunFrom v terms m k t records
-  run_there m zero = (m, [], (refl, refl))
-  run_there m (suc k) =
-      let q = run_there m k in
-      let c = cycle_there q.0 (is_aok q.0.stat) refl in
-      (c.1, q.1 ++ option_to_list c.0, (q.0, q.1, c.0, q.2, c.2, refl))
+  run_there m k = one.run_there plus plus_path plus_lawful v terms ids bound o m k
 
   pub run_alone : (m : PlusState) (k : ℕ) (t u : PlusState) (rs xs : List Rec) → PlusRunFrom v terms m k t rs → PlusRunFrom v terms m k u xs → (t ≡ u) × (rs ≡ xs)
-  run_alone m zero t u rs xs h k = (h.0 ∙ sym k.0, h.1 ∙ sym k.1)
-  run_alone m (suc n) t u rs xs h k =
-      let before = run_alone m n h.0 k.0 h.1 k.1 h.3 k.3 in
-      let moved : IsPlusCycle v terms h.0 k.2 u = subst (λ s. IsPlusCycle v terms s k.2 u) (sym before.0) k.4 in
-      let c = cycle_alone h.0 h.2 k.2 t u h.4 moved (is_aok h.0.stat) refl in
-      (c.0, h.5 ∙ ap (λ ys. ys ++ option_to_list h.2) before.1 ∙ ap (λ y. k.1 ++ option_to_list y) c.1 ∙ sym k.5)
+  run_alone m k t u rs xs h j = one.run_alone plus plus_path plus_lawful v terms ids bound o m k t u rs xs h j

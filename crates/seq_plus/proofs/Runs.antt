@@ -1,15 +1,18 @@
 -- Where the obligations hold of a file, its runs are runs of instructions: the solved pc is the PC of the run.
-use Rattle.std.proofs.Common.{◌≡◌, ℕ, zero, suc, ◌<◌, ◌≤◌, inl, inr, Bool, true, false, not, ◌||◌, ◌==◌, cond, List, ◌++◌, length, Option, Some, refl, sym, ◌∙◌, ap, subst, add-one, arith}
+use Rattle.std.proofs.Common.{◌≡◌, ℕ, zero, suc, ◌<◌, ◌≤◌, inl, inr, Bool, true, false, not, ◌||◌, ◌==◌, cond, List, length, Option, Some, slice_get, refl, sym, ◌∙◌, ap, subst, arith}
 use Rattle.std.proofs.lemmas.Bool.{eqb-true, lt-ltb, ne_eqb, eq-eqb, and_from}
-use Rattle.std.specs.Option.{option_to_list}
+use Rattle.std.specs.List.{AllByRecursion}
 use Rattle.y86_base.specs.declared.parts.Variant.{Variant}
 use Rattle.y86_base.specs.declared.parts.Variant.TheVariants.{Base, Full}
 use Rattle.y86_base.specs.Stat.{stat_of}
 use Rattle.y86_base.specs.declared.parts.Stat.{Stat}
+use Rattle.y86_base.specs.Words.{set}
+use Rattle.y86_base.proofs.Booleans.{implied}
+use Rattle.y86_base.proofs.Numbers.{each_number}
 use Rattle.y86_isa.specs.Blocks.{next_address, reading}
 use Rattle.y86_isa.specs.Machine.{is_aok, start}
 use Rattle.y86_isa.specs.Run.{IsImage, run_from, records_from}
-use Rattle.y86_isa.specs.Step.{advance, retired}
+use Rattle.y86_isa.specs.Step.{advance, machine_after, record_of, retired}
 use Rattle.y86_isa.specs.Table.{row, rows}
 use Rattle.y86_isa.specs.Work.{work}
 use Rattle.y86_isa.specs.declared.columns.NextPcColumn.{NextPcColumn}
@@ -20,45 +23,50 @@ use Rattle.y86_isa.specs.declared.machine.Machine.{Machine}
 use Rattle.y86_isa.specs.declared.machine.Rec.{Rec}
 use Rattle.y86_isa.proofs.Rows.{rows_few}
 use Rattle.y86_isa.proofs.RowsAgree.{operands_agree}
-use Rattle.y86_isa.proofs.Runs.{run_from-last, records_from-last, run_from-none, records_from-none}
-use Rattle.y86_isa.proofs.Steps.{IsImage-advance}
 use Rattle.y86_isa.proofs.WhatIsRead.{IsReading-reading, nop_known}
 use Rattle.y86_isa.proofs.RowColumns.{next_at, is_itself}
 use Rattle.hcl_types.specs.Tables.{IsBound, IsOrderOf}
 use Rattle.hcl_types.specs.declared.term.Term.{Term}
 use Rattle.dp_signals.specs.Equations.{rule_of}
 use Rattle.dp_signals.specs.PipeEquations.{constants}
-use Rattle.dp_signals.specs.SeqCycle.{seq_next, seq_record}
-use Rattle.dp_signals.specs.SeqRows.{SeqHardware}
-use Rattle.y86_base.specs.Words.{set}
-use Rattle.y86_base.proofs.Booleans.{implied}
+use Rattle.dp_signals.specs.Tables.{constant_rows}
 use Rattle.dp_signals.proofs.Bits.{bit_lt}
+use Rattle.dp_sequential.specs.Cycle.{record_by, stepped}
+use Rattle.dp_sequential.specs.Table.{control_rows}
 use Rattle.net_fields.specs.FieldSpecs.{InRange}
 use Rattle.ctl_atoms.specs.declared.leaf.Leaf.{Leaf}
 use Rattle.ctl_formula.specs.Controls.{AreControls}
 use Rattle.ctl_formula.specs.Laws.{HasControls, real_assignment}
+use Rattle.ctl_formula.specs.declared.controls.Place.{Place}
 use Rattle.ctl_formula.proofs.Solved.{controls_exist}
+use Rattle.seq_obligations.specs.Fields.{plus_bit_count}
 use Rattle.seq_obligations.specs.Obligations.{shared_demand, rule_count}
 use Rattle.seq_refinement.specs.Cycle.{Agrees}
 use Rattle.seq_refinement.specs.Facts.{FollowsControl}
+use Rattle.seq_refinement.specs.Hardware.{HasHardware}
+use Rattle.seq_refinement.proofs.Agreement.{IsTested, all_agree, constant_role, constant_row, defines, holds_field, inputs_of}
+use Rattle.seq_refinement.proofs.LineOfCycle.{cnd_is, derror_is, ra_is, rb_is, ties}
 use Rattle.seq_refinement.proofs.Lines.{fields_allowed, fields_in_range, goes_on}
-use Rattle.seq_refinement.proofs.Reflected.{next_is}
-use Rattle.seq_refinement.proofs.Signals.{IsWork, signals_are_work}
+use Rattle.seq_refinement.proofs.Reflected.{follows, going, next_is}
+use Rattle.seq_refinement.proofs.Runs.{image_kept, runs_from}
+use Rattle.seq_refinement.proofs.Signals.{IsWork, next_pc_is, signals_are_work}
 use Rattle.seq_refinement.proofs.Steps as steps
 use Rattle.seq_plus.specs.Accepted.{AcceptedPlus, RefinesPlus}
-use Rattle.seq_plus.specs.Cycle.{as_seq, fields_at, pc_behind}
+use Rattle.seq_plus.specs.Cycle.{fields_at, pc_behind}
 use Rattle.seq_plus.specs.Fields.{allowed, numbers, number_of, spots}
-use Rattle.seq_plus.specs.Obligations.{demand_at, signals}
-use Rattle.seq_plus.specs.PlusCycle.{plus_next}
-use Rattle.seq_plus.specs.PlusEquations.{PlusSolves, plus_given}
+use Rattle.seq_plus.specs.Obligations.{demand_at}
+use Rattle.seq_plus.specs.PlusCycle.{plus_next, plus_record}
+use Rattle.seq_plus.specs.PlusEquations.{PlusSolves, at_pc, plus_given}
 use Rattle.seq_plus.specs.PlusNames as name
-use Rattle.seq_plus.specs.PlusRun.{at_pc, plus_start, IsPlusCycle, PlusRunFrom}
-use Rattle.seq_plus.specs.PlusTable.{plus_rows}
+use Rattle.seq_plus.specs.PlusNames.{plus}
+use Rattle.seq_plus.specs.PlusRun.{plus_path, plus_start, IsPlusCycle, PlusRunFrom}
+use Rattle.seq_plus.specs.PlusTable.{plus_defined, plus_hardware, plus_rows, plus_state}
+use Rattle.seq_plus.specs.Rules.{places}
 use Rattle.seq_plus.specs.declared.state.PlusState.{PlusState}
-use Rattle.seq_plus.proofs.Agreement.{all_agree}
-use Rattle.seq_plus.proofs.Followed.{follows, going}
-use Rattle.seq_plus.proofs.PlusCycles.{record_as_seq, updated}
+use Rattle.seq_plus.specs.Designed.{places_stand}
+use Rattle.seq_plus.proofs.PlusCycles.{updated}
 use Rattle.seq_plus.proofs.PlusRows.{hardware_rows}
+use Rattle.seq_plus.specs.PlusLaws.{plus_lawful}
 
 -- ---- the next PC of the instruction before
 
@@ -102,13 +110,6 @@ reads_code v n read h e k l = elim h.known [
     positive zero z = cc
     positive (suc n) z = omega arith
 
-last : (v : Variant) (m : Machine) (k : ℕ) → run_from v m (suc k) ≡ advance v (run_from v m k)
-last v m k = rw (← add-one k) (run_from-last v m k)
-
-image_kept : (v : Variant) (m : Machine) (k : ℕ) → IsImage m.mem → IsImage (run_from v m k).mem
-image_kept v m zero g = subst (λ (x : Machine). IsImage x.mem) (sym (run_from-none v m)) g
-image_kept v m (suc k) g = subst (λ (x : Machine). IsImage x.mem) (sym (last v m k)) (IsImage-advance v (run_from v m k) (image_kept v m k g))
-
 begins_pc : (v : Variant) (image : List ℕ) → start image ≡ at_pc (plus_start image) (next_of v (plus_start image))
 unfolding row
 begins_pc Base image = refl
@@ -117,41 +118,69 @@ begins_pc Full image = refl
 begins : (v : Variant) (image : List ℕ) → Related v (plus_start image) (start image)
 begins v image = record { machine = begins_pc v image; from_one = omega arith; within = nop_known v; small = omega arith }
 
+tests : IsTested plus_path
+unfolding plus_rows constant_rows plus_state plus_hardware plus_defined control_rows constants each_number constant_row constant_role defines holds_field
+tests = record { constants_there = refl; fields_there = refl; none_before = refl; definitions_there = refl; as_many = refl }
+
 module _ (v : Variant) (terms : List Term) (ids : List ℕ) (bound : IsBound plus_rows terms) (o : IsOrderOf plus_rows terms ids) (accepted : AcceptedPlus v terms) where
   -- ---- one cycle
 
   module _ (t : PlusState) (f : ℕ → ℕ) (s : PlusSolves v terms t f) (g : IsImage t.mem) (le : 1 ≤ t.previous.icode) (lt : t.previous.icode < length (rows v)) (small : t.previous.cnd < 2) where
-    hw : SeqHardware v (at_pc t (f name.pc)) (as_seq v f)
+    abbrev m : Machine
+    m = at_pc t (f name.pc)
+
+    hw : HasHardware plus v m f
     hw = hardware_rows v terms t f s
 
     fits : allowed v (fields_at v t f) ≡ true
     unfolding allowed
-    fits = and_from _ _ (and_from _ _ (lt-ltb 0 t.previous.icode (omega (arith, le))) (lt-ltb t.previous.icode (length (rows v)) lt)) (fields_allowed v (at_pc t (f name.pc)) (as_seq v f) g hw)
+    fits = and_from _ _ (and_from _ _ (lt-ltb 0 t.previous.icode (omega (arith, le))) (lt-ltb t.previous.icode (length (rows v)) lt)) (fields_allowed plus v m f g hw)
 
     range : InRange spots (numbers (fields_at v t f))
-    range = (omega (arith, lt, rows_few v), (omega (arith, small), fields_in_range v (at_pc t (f name.pc)) (as_seq v f) g hw))
+    range = (omega (arith, lt, rows_few v), (omega (arith, small), fields_in_range plus v m f g hw))
 
     module _ (cv : ℕ → Leaf) (h : AreControls plus_rows terms (number_of (fields_at v t f)) (real_assignment f) cv) where
       demanded : (i : ℕ) → 1 ≤ i → i ≤ rule_count → demand_at v i (fields_at v t f) (real_assignment f) cv ≡ true
       demanded i l k = implied _ _ (accepted.holds i (fields_at v t f) (real_assignment f) cv l k range h) fits
 
-      asked : (i : ℕ) → 1 ≤ i → i ≤ 15 → shared_demand signals i (row v (f name.imem_icode)) (fields_at v t f).line (real_assignment f) cv ≡ true
+      asked : (i : ℕ) → 1 ≤ i → i ≤ 15 → shared_demand plus i (row v (f plus.imem_icode)) (fields_at v t f).line (real_assignment f) cv ≡ true
       unfolding demand_at
       asked i l k =
           let other : (i == 16) ≡ false = ne_eqb i 16 (λ e. absurd (omega (arith, e, k))) in
           sym (rw other refl) ∙ demanded i l (omega (arith, k))
 
+      fields_are : AllByRecursion (λ (p : Place). AllByRecursion (Agrees f cv) (inputs_of (slice_get plus_rows p.name)) → number_of (fields_at v t f) p.name ≡ f p.name) places
+      unfolding inputs_of plus_rows constant_rows plus_state plus_hardware plus_defined control_rows plus_given constants rule_of
+      fields_are = (
+        (λ _. sym (s name.pIcode)),
+        (
+          (λ _. sym (s name.pCnd)),
+          (
+            (λ _. refl),
+            (
+              (λ _. refl),
+              (
+                (λ _. refl),
+                (
+                  (λ a. ra_is plus v m f cv hw asked a.1.0),
+                  ((λ a. rb_is plus v m f cv hw asked a.1.0), ((λ a. cnd_is plus v m f cv hw asked a.0), ((λ a. derror_is plus v m f cv hw asked a.1.0 a.1.1.0), tt))),
+                ),
+              ),
+            ),
+          ),
+        ),
+      )
+
       agrees : (n : ℕ) → Agrees f cv n
-      agrees = all_agree v terms t f cv s hw h bound asked ids o
+      agrees = all_agree plus plus_path plus_lawful tests places (places_stand plus_bit_count (omega arith)).placed v terms t f cv (number_of (fields_at v t f)) s h bound fields_are ids o
 
-      pub is_work : IsWork (at_pc t (f name.pc)) (as_seq v f) (work v (at_pc t (f name.pc)))
-      is_work = signals_are_work v (at_pc t (f name.pc)) (as_seq v f) hw (follows v terms t f cv h agrees asked (operands_agree v (f name.imem_icode)).both)
-
-      follows_row : FollowsControl (row v (f name.imem_icode)) (at_pc t (f name.pc)) (as_seq v f)
-      follows_row = follows v terms t f cv h agrees asked (operands_agree v (f name.imem_icode)).both
+      follows_row : FollowsControl plus (row v (f plus.imem_icode)) f
+      follows_row = follows plus v (fields_at v t f).line f cv asked agrees (ties plus v m f cv hw asked agrees) (operands_agree v (f plus.imem_icode)).both
 
       pub icode_going : f name.Stat ≡ 1 → ((f name.imem_icode == 15) ≡ false) × ((f name.imem_icode == 0) ≡ false)
-      icode_going e = going v terms t f cv h agrees asked (operands_agree v (f name.imem_icode)).both e
+      icode_going e =
+          let k = going plus v (fields_at v t f).line f cv asked agrees (ties plus v m f cv hw asked agrees) (operands_agree v (f plus.imem_icode)).both e in
+          (k.1, k.2)
 
       pub pc_is : f name.pc ≡ next_of v t
       unfolding demand_at rule_of plus_given constants
@@ -166,14 +195,17 @@ module _ (v : Variant) (terms : List Term) (ids : List ℕ) (bound : IsBound plu
     pc_next : f name.pc ≡ next_of v t
     pc_next = pc_is controls.0 controls.1
 
-    works : IsWork (at_pc t (f name.pc)) (as_seq v f) (work v (at_pc t (f name.pc)))
-    works = is_work controls.0 controls.1
+    control : FollowsControl plus (row v (f plus.imem_icode)) f
+    control = follows_row controls.0 controls.1
+
+    same_code : f name.icode ≡ f name.imem_icode
+    same_code = control.icode
+
+    works : IsWork plus m f (work v m)
+    works = signals_are_work plus v m f hw control
 
     stays : f name.Stat ≡ 1 → ((f name.imem_icode == 15) ≡ false) × ((f name.imem_icode == 0) ≡ false)
     stays e = icode_going controls.0 controls.1 e
-
-    same_code : f name.icode ≡ f name.imem_icode
-    same_code = (follows_row controls.0 controls.1).icode
 
     -- ---- the state behind it
 
@@ -182,17 +214,26 @@ module _ (v : Variant) (terms : List Term) (ids : List ℕ) (bound : IsBound plu
     pc_behind_is e =
         let k = stays e in
         rw same_code
-        (any_pc (row v (f name.imem_icode)).next 0 (f name.pc) _ _ _ _ (goes_on v (at_pc t (f name.pc)) (f name.imem_icode) hw.imem_icode k.0 k.1))
+        (any_pc (row v (f name.imem_icode)).next 0 (f name.pc) _ _ _ _ (goes_on v m (f name.imem_icode) hw.imem_icode k.0 k.1))
 
     after_by : (b : Bool) (stat : Stat) → (b ≡ true → next_of v (updated t f stat) ≡ pc_behind v f) →
         at_pc (cond b (updated t f stat) (record t { stat = stat })) (next_of v (cond b (updated t f stat) (record t { stat = stat })))
-        ≡ cond b (record (at_pc (updated t f stat) (pc_behind v f)) { stat = stat }) (record (at_pc t (f name.pc)) { stat = stat })
+        ≡ cond b (record (at_pc (updated t f stat) (pc_behind v f)) { stat = stat }) (record m { stat = stat })
     after_by true stat h = ap (at_pc (updated t f stat)) (h refl)
     after_by false stat h = ap (λ pc. record (at_pc t pc) { stat = stat }) (sym pc_next)
 
-    pub after : at_pc (plus_next t f) (next_of v (plus_next t f)) ≡ seq_next (at_pc t (f name.pc)) (as_seq v f)
-    unfolding plus_next seq_next
+    after : at_pc (plus_next t f) (next_of v (plus_next t f)) ≡ stepped plus m f (pc_behind v f)
+    unfolding plus_next
     after = after_by (f name.Stat == 1) (stat_of (f name.Stat)) (λ e. pc_behind_is (eqb-true _ _ e))
+
+    pub steps_to : machine_after m (work v m) ≡ at_pc (plus_next t f) (next_of v (plus_next t f))
+    steps_to = sym (after ∙ steps.next_is plus m f (work v m) works (pc_behind v f) (λ _. next_pc_is plus v m f hw control))
+
+    pub told : plus_record t f ≡ record_of m (work v m)
+    unfolding plus_record
+    told =
+        ap (λ (x : Machine). record_by plus (f name.pc) x.flags f) after
+        ∙ steps.record_is plus m f (work v m) works (pc_behind v f) (λ _. next_pc_is plus v m f hw control)
 
     abbrev HasCode : PlusState → Type 0
     HasCode u = (1 ≤ u.previous.icode) × (u.previous.icode < length (rows v)) × (u.previous.cnd < 2)
@@ -224,31 +265,27 @@ module _ (v : Variant) (terms : List Term) (ids : List ℕ) (bound : IsBound plu
       let f = goes.0 in
       let image : IsImage t.mem = subst (λ (y : Machine). IsImage y.mem) r.machine g in
       let here = at_q t q f r g goes.1 in
-      let w : IsWork q (as_seq v f) (work v q) = subst (λ (y : Machine). IsWork y (as_seq v f) (work v y)) here (works t f goes.1 image r.from_one r.within r.small) in
       let k = codes t f goes.1 image r.from_one r.within r.small in
       let next : advance v q ≡ at_pc (plus_next t f) (next_of v (plus_next t f)) =
-      (rw e refl) ∙ sym (steps.next_is q (as_seq v f) (work v q) w) ∙ ap (λ y. seq_next y (as_seq v f)) (sym here) ∙ sym (after t f goes.1 image r.from_one r.within r.small) in (
+      (rw e refl) ∙ ap (λ (y : Machine). machine_after y (work v y)) (sym here) ∙ steps_to t f goes.1 image r.from_one r.within r.small in (
         subst (λ y. Related v y (advance v q)) (sym goes.2) (record { machine = next; from_one = k.0; within = k.1; small = k.2 }),
-        goes.3 ∙ ap Some (record_as_seq v t f ∙ ap (λ y. seq_record y (as_seq v f)) here ∙ steps.record_is q (as_seq v f) (work v q) w) ∙ (rw e refl),
+        goes.3 ∙ ap Some (told t f goes.1 image r.from_one r.within r.small ∙ ap (λ (y : Machine). record_of y (work v y)) here) ∙ (rw e refl),
       )
   cycle_case t u q x r g h false e =
       let same : q.stat ≡ t.stat = ap (λ (y : Machine). y.stat) r.machine in
       let ended = h.ended (ap is_aok (sym same) ∙ e) in
       (rw (ended.0, e) r, ended.1 ∙ (rw e refl))
 
-  runs_from : (m : Machine) (p t : PlusState) (k : ℕ) (rs : List Rec) → Related v p m → IsImage m.mem → PlusRunFrom v terms p k t rs →
-      Related v t (run_from v m k) × (rs ≡ records_from v m k)
-  runs_from m p t zero rs r g h = (rw h.0 (subst (Related v p) (sym (run_from-none v m)) r), h.1 ∙ sym (records_from-none v m))
-  runs_from m p t (suc k) rs r g h =
-      let i = runs_from m p (h.0) k (h.1) r g (h.3) in
-      let c = cycle_case (h.0) t (run_from v m k) (h.2) i.0 (image_kept v m k g) (h.4) (is_aok (run_from v m k).stat) refl in
-      let told : records_from v m (suc k) ≡ records_from v m k ++ option_to_list (retired v (run_from v m k)) = rw (← add-one k) (records_from-last v m k) in
-      (subst (Related v t) (sym (last v m k)) c.0, h.5 ∙ (rw (i.1, c.1) refl) ∙ sym told)
+  step : (t u : PlusState) (q : Machine) (x : Option Rec) → Related v t q → IsImage q.mem → IsPlusCycle v terms t x u → Related v u (advance v q) × (x ≡ retired v q)
+  step t u q x r g h = cycle_case t u q x r g h (is_aok q.stat) refl
+
+  runs : (image : List ℕ) (k : ℕ) (t : PlusState) (rs : List Rec) → IsImage image → PlusRunFrom v terms (plus_start image) k t rs → Related v t (run_from v (start image) k) × (rs ≡ records_from v (start image) k)
+  runs image k t rs g h = runs_from v (IsPlusCycle v terms) (Related v) step (start image) (plus_start image) t k rs (begins v image) g h
 
   pub refines : RefinesPlus v terms
   refines = record {
     machine = λ image k t rs end g h e.
-        let i = runs_from (start image) (plus_start image) t k rs (begins v image) g h in
-        e.2 ∙ ap (at_pc t) (sym (e.1.2)) ∙ at_q t (run_from v (start image) k) (e.1.0) i.0 (image_kept v (start image) k g) (e.1.1);
-    told = λ image k t rs g h. (runs_from (start image) (plus_start image) t k rs (begins v image) g h).1;
+        e.2 ∙ ap (at_pc t) (sym (e.1.2))
+        ∙ at_q t (run_from v (start image) k) (e.1.0) (runs image k t rs g h).0 (image_kept v (IsPlusCycle v terms) (Related v) step (start image) k g) (e.1.1);
+    told = λ image k t rs g h. (runs image k t rs g h).1;
   }

@@ -1,10 +1,9 @@
 -- The lines P and S of a control valuation of SEQ+: what the instruction before left, and what one cycle reads, as numbers; and which of
 -- them an instruction can have.
-use Rattle.std.specs.Prelude.{ℕ, Bool, ◌&&◌, List, [], ◌∷◌, length, get_or, nat_lt, drop, Some}
+use Rattle.std.specs.Prelude.{ℕ, Bool, ◌&&◌, List, ◌∷◌, length, get_or, nat_lt, drop}
 use Rattle.y86_base.specs.declared.parts.Variant.{Variant}
 use Rattle.y86_isa.specs.Table.{rows}
 use Rattle.net_fields.specs.declared.field_specs.FieldSpec.{FieldSpec}
-use Rattle.net_fields.specs.declared.field_specs.BitRange.{BitRange}
 use Rattle.net_fields.specs.FieldSpecs.{decoded, number_among}
 use Rattle.seq_obligations.specs.Fields as seq
 use Rattle.seq_plus.specs.PlusNames as signal
@@ -15,21 +14,9 @@ pub record Fields : Type 0 where
   pub cnd : ℕ
   pub line : seq.Fields
 
-abbrev spot : BitRange → ℕ → FieldSpec
-spot p name = record { bits = p.bits; name = Some name }
-
 -- the table of the fields, in the order of the variables
 abbrev pub spots : List FieldSpec
-spots =
-    spot seq.p_icode signal.pIcode ∷
-    spot seq.p_cnd signal.pCnd ∷
-    spot seq.plus_line.error signal.imem_error ∷
-    spot seq.plus_line.icode signal.imem_icode ∷
-    spot seq.plus_line.ifun signal.imem_ifun ∷
-    spot seq.plus_line.r_a signal.rA ∷
-    spot seq.plus_line.r_b signal.rB ∷
-    spot seq.plus_line.cnd signal.Cnd ∷
-    spot seq.plus_line.derror signal.dmem_error ∷ []
+spots = seq.spot seq.p_icode signal.pIcode ∷ seq.spot seq.p_cnd signal.pCnd ∷ seq.line_spots seq.plus_line signal.plus
 
 -- the fields as numbers in the order of the table, and back
 abbrev pub numbers : Fields → List ℕ

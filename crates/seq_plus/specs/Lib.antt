@@ -5,10 +5,12 @@ pub mod PlusCycle
 pub mod PlusRun
 pub mod Told
 pub mod Plus
-pub mod Calls
 pub mod Fields
 pub mod Obligations
 pub mod Accepted
 pub mod Cycle
 pub mod Rules
+pub mod Sound
+pub mod PlusLaws
+pub mod Designed
 pub mod Verdicts

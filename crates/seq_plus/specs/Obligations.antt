@@ -8,38 +8,13 @@ use Rattle.ctl_atoms.specs.Leaves.{Assignment}
 use Rattle.y86_base.specs.Words.{set}
 use Rattle.ctl_rules.specs.ColumnDemands.{picks_some_leaf, next_leaf}
 use Rattle.seq_obligations.specs.Obligations.{shared_demand}
-use Rattle.seq_obligations.specs.declared.signals.SeqSignals.{SeqSignals}
+use Rattle.dp_sequential.specs.declared.rows.SignalRows.{SignalRows}
 use Rattle.seq_plus.specs.Fields.{Fields, allowed}
 use Rattle.seq_plus.specs.PlusNames as signal
 
 -- the rows of SEQ+'s signals
-abbrev pub signals : SeqSignals
-signals =
-    record {
-      val_c = signal.valC;
-      val_p = signal.valP;
-      val_a = signal.valA;
-      val_b = signal.valB;
-      val_e = signal.valE;
-      val_m = signal.valM;
-      icode = signal.icode;
-      ifun = signal.ifun;
-      need_regids = signal.need_regids;
-      need_val_c = signal.need_valC;
-      src_a = signal.srcA;
-      src_b = signal.srcB;
-      dst_e = signal.dstE;
-      dst_m = signal.dstM;
-      alu_a = signal.aluA;
-      alu_b = signal.aluB;
-      alufun = signal.alufun;
-      set_cc = signal.set_cc;
-      mem_addr = signal.mem_addr;
-      mem_read = signal.mem_read;
-      mem_write = signal.mem_write;
-      mem_data = signal.mem_data;
-      stat = signal.Stat;
-    }
+abbrev pub signals : SignalRows
+signals = signal.plus
 
 -- S16: the PC picks where the instruction before, of this icode, leads: its constant for a call, and for a jump where its condition held;
 -- the word that a ret loaded; else the address behind it

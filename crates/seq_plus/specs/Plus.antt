@@ -1,34 +1,31 @@
--- A machine of SEQ+ as its callers see it, and what one call of `cycle` does.
-use Rattle.std.specs.Prelude.{◌≡◌, ℕ, List, Option}
+-- A machine of SEQ+ as its callers see it, and the run that calls of `cycle` are.
+use Rattle.std.specs.Prelude.{◌≡◌, ℕ, List}
 use Rattle.y86_base.specs.declared.parts.Variant.{Variant}
 use Rattle.y86_isa.specs.declared.machine.Rec.{Rec}
 use Rattle.hcl_types.specs.declared.term.Term.{Term}
-use Rattle.hcl_types.specs.Tables.{IsBound, IsOrderOf}
-use Rattle.seq_plus.specs.PlusRun.{IsPlusCycle, plus_start}
-use Rattle.seq_plus.specs.PlusTable.{plus_rows}
+use Rattle.dp_sequential.specs.Machine.{CallsOn, MachineView, started_on}
+use Rattle.seq_plus.specs.PlusRun.{PlusRun, plus_path}
 use Rattle.seq_plus.specs.declared.state.PlusState.{PlusState}
 
 -- the instruction set, the design with its order, and the state
-pub record PlusMachine : Type 0 where
-  pub variant : Variant
-  pub terms : List Term
-  pub order : List ℕ
-  pub state : PlusState
-
--- a machine with these parts
-abbrev pub seen : Variant → List Term → List ℕ → PlusState → PlusMachine
-seen v terms order state = record { variant = v; terms = terms; order = order; state = state }
+abbrev pub PlusMachine : Type 0
+PlusMachine = MachineView PlusState
 
 -- the machine before its first cycle
 abbrev pub started : Variant → List Term → List ℕ → List ℕ → PlusMachine
-started v terms order image = seen v terms order (plus_start image)
+started = started_on plus_path
 
--- a call on the machine p that answers r and leaves the machine q: its state goes through one cycle of SEQ+, and the rest stays
-pub record IsPlusCall (p : PlusMachine) (r : Option Rec) (q : PlusMachine) : Type 0 where
-  pub cycle : IsPlusCycle p.variant p.terms p.state r q.state
-  pub rest : q ≡ record p { state = q.state }
+-- q is the machine after k calls on p, and these are the records that they answered, the first one first
+abbrev pub PlusCalls : PlusMachine → ℕ → PlusMachine → List Rec → Type 0
+PlusCalls = CallsOn plus_path
 
--- what is true of every machine: the design is bound to SEQ+'s table, and the order is one of both
-pub record IsPlus (terms : List Term) (order : List ℕ) : Type 0 where
-  pub bound : IsBound plus_rows terms
-  pub ordered : IsOrderOf plus_rows terms order
+-- k calls on a machine that began on an image are the run of k cycles: its state and its records. A call after the end does nothing.
+pub record IsRun (v : Variant) (terms : List Term) (image : List ℕ) (k : ℕ) (q : PlusMachine) (records : List Rec) : Type 0 where
+  pub same_variant : q.variant ≡ v
+  pub same_terms : q.terms ≡ terms
+  pub run : PlusRun v terms image k q.state records
+
+abbrev pub CallsAreTheRun : Type 0
+CallsAreTheRun =
+    (v : Variant) (terms : List Term) (order image : List ℕ) (k : ℕ) (q : PlusMachine) (records : List Rec) →
+    PlusCalls (started v terms order image) k q records → IsRun v terms image k q records

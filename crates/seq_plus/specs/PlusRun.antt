@@ -1,14 +1,16 @@
 -- The run of SEQ+, as a relation on the number of cycles, and its end.
-use Rattle.std.specs.Prelude.{◌≡◌, ℕ, true, false, List, Option, Some, None}
+use Rattle.std.specs.Prelude.{◌≡◌, ℕ, List, Option}
 use Rattle.y86_base.specs.declared.parts.Variant.{Variant}
-use Rattle.y86_isa.specs.Machine.{is_aok, start}
+use Rattle.y86_isa.specs.Machine.{start}
 use Rattle.y86_isa.specs.declared.machine.Machine.{Machine}
 use Rattle.y86_isa.specs.declared.machine.Rec.{Rec}
 use Rattle.hcl_types.specs.declared.term.Term.{Term}
 use Rattle.dp_signals.specs.After.{IsAfter}
+use Rattle.dp_sequential.specs.Path.{IsCycle, SequentialPath}
 use Rattle.seq_plus.specs.PlusCycle.{plus_next, plus_record}
-use Rattle.seq_plus.specs.PlusEquations.{PlusSolves}
+use Rattle.seq_plus.specs.PlusEquations.{PlusSolves, at_pc, plus_block, plus_given, plus_words}
 use Rattle.seq_plus.specs.PlusNames as row
+use Rattle.seq_plus.specs.PlusTable.{plus_rows}
 use Rattle.seq_plus.specs.declared.state.PlusState.{PlusState}
 
 -- the state as the first cycle begins: as behind a nop whose successor stands at 0; the rest is as at the level of instructions
@@ -22,19 +24,34 @@ plus_start image =
       mem = image;
     }
 
--- one cycle from s to t with the record r, if there is one: a machine whose status isn't AOK stays and leaves no record; any other goes to
--- the next state by values that solve the equations, and leaves a record
-pub record IsPlusCycle (v : Variant) (terms : List Term) (s : PlusState) (r : Option Rec) (t : PlusState) : Type 0 where
-  pub ended : is_aok s.stat ≡ false → (t ≡ s) × (r ≡ None)
-  pub goes : is_aok s.stat ≡ true → (f : ℕ → ℕ) × PlusSolves v terms s f × (t ≡ plus_next s f) × (r ≡ Some (plus_record s f))
+-- SEQ+ as a sequential datapath: it works at the PC that the file computes
+abbrev pub plus_path : SequentialPath PlusState
+plus_path =
+    record {
+      table = plus_rows;
+      hardware = row.hardware;
+      first = row.defined;
+      count = row.count;
+      given = plus_given;
+      words = plus_words;
+      block = plus_block;
+      regs = λ t. t.regs;
+      flags = λ t. t.flags;
+      stat = λ t. t.stat;
+      mem = λ t. t.mem;
+      pc = λ t f. f row.pc;
+      start = plus_start;
+      next = plus_next;
+      told = plus_record;
+    }
+
+-- one cycle from s to t with the record r, if there is one
+abbrev pub IsPlusCycle : Variant → List Term → PlusState → Option Rec → PlusState → Type 0
+IsPlusCycle = IsCycle plus_path
 
 -- s is the state of the design k cycles after m, and these are the records of the cycles
 abbrev pub PlusRunFrom : Variant → List Term → PlusState → ℕ → PlusState → List Rec → Type 0
 PlusRunFrom v terms = IsAfter (IsPlusCycle v terms)
-
--- the machine that a state is at a PC
-abbrev pub at_pc : PlusState → ℕ → Machine
-at_pc t pc = record { regs = t.regs; flags = t.flags; pc = pc; stat = t.stat; mem = t.mem }
 
 -- the signal pc in a state: that of values which solve the equations of a cycle that begins in it
 abbrev pub PcIs : Variant → List Term → PlusState → ℕ → Type 0

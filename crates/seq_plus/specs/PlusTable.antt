@@ -2,10 +2,11 @@
 -- state holds what the instruction before left.
 use Rattle.std.specs.Prelude.{List, [], ◌∷◌, ◌++◌, codes}
 use Rattle.hcl_types.specs.declared.table.Class.TheVariants.{Code, Value, Truth}
-use Rattle.hcl_types.specs.declared.table.Role.TheVariants.{State, Hardware, Defined}
+use Rattle.hcl_types.specs.declared.table.Role.TheVariants.{State, Defined}
 use Rattle.hcl_types.specs.declared.table.Row.{Row}
-use Rattle.dp_signals.specs.Tables.{constant_rows, signal, signals}
-use Rattle.seq_plus.specs.PlusNames as row
+use Rattle.dp_signals.specs.Tables.{constant_rows, signal}
+use Rattle.dp_sequential.specs.Table.{control_rows, hardware_rows}
+use Rattle.seq_plus.specs.PlusNames.{plus}
 
 -- what the state holds as a cycle begins
 unfoldable pub plus_state : List Row
@@ -16,37 +17,13 @@ plus_state =
     signal Value State (codes "pValC") ∷
     signal Value State (codes "pValP") ∷ []
 
--- what hardware computes, with the rows that it depends on
+-- what hardware computes, with the rows that it depends on: pc is one of them for all that is read
 unfoldable pub plus_hardware : List Row
-plus_hardware =
-    signal Code (Hardware (row.pc ∷ [])) (codes "imem_icode") ∷
-    signal Code (Hardware (row.pc ∷ [])) (codes "imem_ifun") ∷
-    signal Truth (Hardware (row.pc ∷ [])) (codes "imem_error") ∷
-    signal Code (Hardware (row.pc ∷ row.need_regids ∷ [])) (codes "rA") ∷
-    signal Code (Hardware (row.pc ∷ row.need_regids ∷ [])) (codes "rB") ∷
-    signal Value (Hardware (row.pc ∷ row.need_regids ∷ row.need_valC ∷ [])) (codes "valC") ∷
-    signal Value (Hardware (row.pc ∷ row.need_regids ∷ row.need_valC ∷ [])) (codes "valP") ∷
-    signal Value (Hardware (row.srcA ∷ [])) (codes "valA") ∷
-    signal Value (Hardware (row.srcB ∷ [])) (codes "valB") ∷
-    signal Value (Hardware (row.aluA ∷ row.aluB ∷ row.alufun ∷ [])) (codes "valE") ∷
-    signal Truth (Hardware (row.ifun ∷ [])) (codes "Cnd") ∷
-    signal Value (Hardware (row.mem_addr ∷ row.mem_read ∷ [])) (codes "valM") ∷
-    signal Truth (Hardware (row.mem_addr ∷ row.mem_read ∷ row.mem_write ∷ [])) (codes "dmem_error") ∷ []
+plus_hardware = hardware_rows plus (plus.pc ∷ [])
 
 -- what the HCL file defines
 unfoldable pub plus_defined : List Row
-plus_defined =
-    signals Value Defined (codes "pc" ∷ []) ++
-    signals Code Defined (codes "icode" ∷ codes "ifun" ∷ []) ++
-    signals Truth Defined (codes "instr_valid" ∷ codes "need_regids" ∷ codes "need_valC" ∷ []) ++
-    signals Code Defined (codes "srcA" ∷ codes "srcB" ∷ codes "dstE" ∷ codes "dstM" ∷ []) ++
-    signals Value Defined (codes "aluA" ∷ codes "aluB" ∷ []) ++
-    signals Code Defined (codes "alufun" ∷ []) ++
-    signals Truth Defined (codes "set_cc" ∷ []) ++
-    signals Value Defined (codes "mem_addr" ∷ []) ++
-    signals Truth Defined (codes "mem_read" ∷ codes "mem_write" ∷ []) ++
-    signals Value Defined (codes "mem_data" ∷ []) ++
-    signals Code Defined (codes "Stat" ∷ [])
+plus_defined = signal Value Defined (codes "pc") ∷ control_rows
 
 unfoldable pub plus_rows : List Row
 plus_rows = constant_rows ++ (plus_state ++ (plus_hardware ++ plus_defined))

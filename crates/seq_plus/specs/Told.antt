@@ -3,7 +3,7 @@ use Rattle.std.specs.Prelude.{◌≡◌, ℕ}
 use Rattle.y86_isa.specs.Laws.{IsRecordOfStep}
 use Rattle.y86_isa.specs.declared.machine.Rec.{Rec}
 use Rattle.seq_plus.specs.PlusNames as row
-use Rattle.seq_plus.specs.PlusRun.{at_pc}
+use Rattle.seq_plus.specs.PlusEquations.{at_pc}
 use Rattle.seq_plus.specs.declared.state.PlusState.{PlusState}
 
 -- The record of a cycle from s to t, whose signals have the values f, says all that the cycle changed, as a step at the PC that the file

@@ -5,7 +5,7 @@ ghost use Rattle.y86_isa.specs.declared.machine.Rec.{Rec};
 ghost use Rattle.hcl_types.specs.Tables.{IsBound, IsOrderOf, IsSound};
 ghost use Rattle.hcl_types.specs.declared.term.Term.{Term};
 ghost use Rattle.seq_plus.specs.Accepted.{AcceptedPlus, RefinesPlus};
-ghost use Rattle.seq_plus.specs.Calls.{CallsAreTheRun};
+ghost use Rattle.seq_plus.specs.Plus.{CallsAreTheRun};
 ghost use Rattle.seq_plus.specs.PlusEquations.{PlusSolves};
 ghost use Rattle.seq_plus.specs.PlusRun.{IsPlusCycle, PlusRun};
 ghost use Rattle.seq_plus.specs.PlusTable.{plus_rows};
@@ -13,7 +13,7 @@ ghost use Rattle.seq_plus.specs.Told.{TellsCycle};
 ghost use Rattle.seq_plus.specs.declared.state.PlusState.{PlusState};
 
 /// The table is sound: its names differ, hardware depends on its rows, and its constants are its rows of class `Number`.
-#[tactic(auto, using(crate::proofs::Sound::plus_sound))]
+#[tactic(auto, using(crate::specs::Sound::plus_sound))]
 pub fn law_of_table()
     ensures { IsSound plus_rows }
 {}
@@ -44,7 +44,7 @@ pub fn law_of_plus_cycles()
 {}
 
 /// Calls of `cycle` on a new machine are its run: the state and the records after k calls are those after k cycles.
-#[tactic(auto, using(crate::proofs::Calls::calls_are_the_run))]
+#[tactic(auto, using(crate::proofs::OneRun::calls_are_the_run))]
 pub fn law_of_calls()
     ensures { CallsAreTheRun }
 {}

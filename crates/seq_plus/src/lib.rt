@@ -3,27 +3,23 @@
 //! the machine.
 #![tactic(auto)]
 
-mod cycle;
+mod datapath;
 mod fields;
 mod laws;
-mod machine;
 pub mod row;
 mod rules;
 mod state;
 mod table;
-mod values;
 mod verdict;
 
-pub use cycle::advance;
+pub use datapath::{PLUS_ROWS, Plus};
 pub use dp_machines::run;
 pub use fields::spots;
 pub use laws::{
     law_of_calls, law_of_plus_cycles, law_of_refinement, law_of_runs, law_of_solutions,
     law_of_table,
 };
-pub use machine::Plus;
 pub use rules::plus_rules;
 pub use state::{PlusState, PreviousInstruction};
 pub use table::plus_table;
-pub use values::{PLUS_ROWS, PlusValues, plus_constants, solve_plus, solve_plus_in};
 pub use verdict::{Plain16, check_plus};

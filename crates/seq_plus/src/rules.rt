@@ -1,35 +1,37 @@
 //! The 16 rules of SEQ+ as gates.
-ghost use Rattle.std.specs.Prelude.{◌≡◌, ◌<◌, ◌≤◌, ◌+◌, ◌||◌, ◌&&◌, not, ℕ, List, Bool, length, slice_get, Some, IfErr, IfOk, IsTrue};
+ghost use Rattle.std.specs.Prelude.{◌≡◌, ◌≤◌, ◌+◌, length, IfErr, IfOk, IsTrue};
 ghost use Rattle.nets.specs.Nets.{ExtendsNet, IsGate};
 ghost use Rattle.y86_isa.specs.Table.{row, rows};
 ghost use Rattle.ctl_atoms.specs.Atoms.{AreAtoms, IsCtlFault};
-ghost use Rattle.ctl_formula.specs.Picks.{IsInside, has_picks};
+ghost use Rattle.ctl_formula.specs.Picks.{has_picks};
 ghost use Rattle.y86_base.specs.Words.{set};
 ghost use Rattle.net_fields.specs.Spelling.{spelt};
 ghost use Rattle.hcl_types.specs.Tables.{IsBound, IsOrderOf};
-ghost use Rattle.ctl_rules.specs.ControlGates.{IsControlGate};
 ghost use Rattle.ctl_rules.specs.ColumnDemands.{next_leaf, picks_some_leaf};
-ghost use Rattle.seq_obligations.specs.Fields.{p_cnd, p_icode};
-ghost use Rattle.seq_plus.specs.Fields.{allowed, fields_of, goes_on};
+ghost use Rattle.seq_obligations.specs.Fields.{p_cnd, p_icode, plus_bit_count};
+ghost use Rattle.seq_plus.specs.Designed.{places_stand, ready_by, spelt_at_places};
+ghost use Rattle.seq_plus.specs.Fields.{allowed, fields_of, goes_on, number_of};
 ghost use Rattle.seq_plus.specs.Obligations.{demand_at};
 ghost use Rattle.seq_plus.specs.PlusNames as signal;
 ghost use Rattle.seq_plus.specs.PlusTable.{plus_rows};
-ghost use Rattle.seq_plus.specs.Rules.{ArePlusRules, IsPlusReady};
+ghost use Rattle.seq_plus.specs.Rules.{ArePlusRules, IsPlusReady, places};
+ghost use Rattle.seq_plus.specs.Sound.{plus_sound};
 
-use crate::fields::{line, places, signals};
-use crate::row;
+use crate::fields::places;
+use crate::row::{P_VAL_C, P_VAL_M, P_VAL_P, PLUS};
 use crate::table::plus_table;
-use ctl_atoms::{CtlFault, atoms};
-use ctl_formula::{Controls, translate};
+use ctl_atoms::CtlFault;
+use ctl_formula::{Controls, Place};
 use ctl_rules::{RowGates, Rules, by_icode, next_is};
-use hcl_types::{Design, Order};
-use net_fields::{below, spells};
+use hcl_types::{Design, Order, Table};
+use net_fields::below;
 use nets::NetBuilder;
 use seq_obligations::{
-    P_CND, P_ICODE, PLUS_BIT_COUNT, RuleFamily, line_allowed, numbered_rules, shared_demand_gate,
+    P_CND, P_ICODE, PLUS_BIT_COUNT, PLUS_LINE, RuleFamily, designed_rules, line_allowed,
+    shared_demand_gate,
 };
 use std::alloc::Global;
-use y86_base::{Items, Memory, Variant};
+use y86_base::{Memory, Variant};
 use y86_isa::{Row, icode_count};
 
 /// The PC is the one behind the instruction before, by the row of its icode.
@@ -45,21 +47,10 @@ impl RowGates for NextPc {
         &self,
         b: &mut NetBuilder,
         ctl: &Controls,
-        icode: u64,
+        _icode: u64,
         row: Row,
     ) -> Result<u64, Memory> {
-        let _ = icode;
-        let g = next_is(
-            b,
-            ctl,
-            row::PC,
-            row.next,
-            row::P_VAL_P,
-            row::P_VAL_C,
-            row::P_VAL_M,
-            P_CND,
-        )?;
-        Ok(g)
+        next_is(b, ctl, PLUS.pc, row.next, P_VAL_P, P_VAL_C, P_VAL_M, P_CND)
     }
 }
 
@@ -77,36 +68,6 @@ fn code_allowed(b: &mut NetBuilder, v: Variant) -> Result<u64, Memory>
     Ok(g)
 }
 
-/// The lines are ones that a valuation of the variant can have.
-#[tactic(auto, unfolding(crate::specs::Fields::fields_of, crate::specs::Fields::allowed, seq_obligations::specs::Fields::line_at))]
-fn lines_allowed(b: &mut NetBuilder, ctl: &Controls, v: Variant) -> Result<u64, Memory>
-    requires inside { IsInside b.old ctl.now }
-    requires ready { IsPlusReady b.old.vars ctl.now }
-    ensures extends { ExtendsNet b.old b.new }
-    ensures has_truth { IfOk result (λ g. IsControlGate b.new ctl.now g (λ w α cv. allowed v (fields_of w))) }
-{
-    let code = code_allowed(b, v)?;
-    let rest = line_allowed(b, ctl, line(), v)?;
-    let g = b.and(code, rest)?;
-    Ok(g)
-}
-
-/// What the rule of a number asks.
-#[tactic(auto, unfolding(crate::specs::Fields::fields_of, crate::specs::Obligations::demand_at, seq_obligations::specs::Fields::line_at))]
-fn demand_told(b: &mut NetBuilder, ctl: &Controls, v: Variant, number: u32) -> Result<u64, Memory>
-    requires inside { IsInside b.old ctl.now }
-    requires ready { IsPlusReady b.old.vars ctl.now }
-    ensures extends { ExtendsNet b.old b.new }
-    ensures has_truth { IfOk result (λ g. IsControlGate b.new ctl.now g (λ w α cv. demand_at v number (fields_of w) α cv)) }
-{
-    if number == 16 {
-        let next = by_icode(b, ctl, v, P_ICODE, &NextPc)?;
-        return Ok(next);
-    }
-    let g = shared_demand_gate(b, ctl, signals(), line(), v, number)?;
-    Ok(g)
-}
-
 /// The rules of SEQ+.
 #[derive(Clone, Copy, Debug)]
 struct PlusRules {
@@ -120,12 +81,51 @@ impl RuleFamily for PlusRules {
 
     ghost knows = { λ it vars ctl. IsPlusReady vars ctl };
 
-    fn fits(&self, b: &mut NetBuilder, ctl: &Controls) -> Result<u64, Memory> {
-        lines_allowed(b, ctl, self.variant)
+    ghost rows = { plus_rows };
+
+    ghost places = { places };
+
+    ghost bits = { plus_bit_count };
+
+    ghost field = { λ w. number_of (fields_of w) };
+
+    ghost sound = { plus_sound };
+
+    ghost ready = { λ it. ready_by };
+
+    ghost placed = { places_stand };
+
+    ghost spelt = { spelt_at_places };
+
+    fn table(&self, alloc: Global) -> Result<Table, Memory> {
+        plus_table(alloc)
     }
 
+    fn field_places(&self) -> &'static [Place] {
+        places()
+    }
+
+    fn bit_count(&self) -> u32 {
+        PLUS_BIT_COUNT
+    }
+
+    /// The lines are ones that a valuation of the variant can have.
+    #[tactic(auto, unfolding(crate::specs::Fields::fields_of, crate::specs::Fields::allowed, seq_obligations::specs::Fields::line_at))]
+    fn fits(&self, b: &mut NetBuilder, ctl: &Controls) -> Result<u64, Memory> {
+        let code = code_allowed(b, self.variant)?;
+        let rest = line_allowed(b, ctl, &PLUS_LINE, self.variant)?;
+        let g = b.and(code, rest)?;
+        Ok(g)
+    }
+
+    #[tactic(auto, unfolding(crate::specs::Fields::fields_of, crate::specs::Obligations::demand_at, seq_obligations::specs::Fields::line_at))]
     fn demand(&self, b: &mut NetBuilder, ctl: &Controls, number: u32) -> Result<u64, Memory> {
-        demand_told(b, ctl, self.variant, number)
+        if number == 16 {
+            let next = by_icode(b, ctl, self.variant, P_ICODE, &NextPc)?;
+            return Ok(next);
+        }
+        let g = shared_demand_gate(b, ctl, &PLUS, &PLUS_LINE, self.variant, number)?;
+        Ok(g)
     }
 }
 
@@ -144,20 +144,5 @@ pub fn plus_rules(
     ensures atoms { IfOk result (λ r. AreAtoms plus_rows design.now.terms r.atoms) }
     ensures fault { IfErr result (IsCtlFault plus_rows design.now.terms) }
 {
-    let table = match plus_table(alloc) {
-        Ok(table) => table,
-        Err(_) => return Err(CtlFault::Memory),
-    };
-    let listed = atoms(alloc, design, &table, order)?;
-    let mut b = NetBuilder::new(alloc, PLUS_BIT_COUNT + listed.len() as u32);
-    let ctl = translate(alloc, design, &table, order, places(), &mut b)?;
-    match numbered_rules(alloc, &mut b, &ctl, &PlusRules { variant }) {
-        Err(_) => Err(CtlFault::Memory),
-        Ok(list) => Ok(Rules {
-            variant,
-            net: b.finish(),
-            list: Items::of(list),
-            atoms: Items::of(listed),
-        }),
-    }
+    designed_rules(alloc, variant, design, order, &PlusRules { variant })
 }

@@ -1,9 +1,5 @@
 //! The state of SEQ+.
-ghost use Rattle.std.specs.Prelude.{◌≡◌};
-ghost use Rattle.seq_plus.specs.PlusRun.{plus_start};
-
 use y86_base::{Flags, Image, Regs, Stat};
-use y86_isa::Machine;
 
 /// What an instruction leaves for the PC of the next one: its icode, its condition (0 or 1), the word that it loaded, its
 /// constant, and the address behind it.
@@ -24,33 +20,4 @@ pub struct PlusState {
     pub flags: Flags,
     pub stat: Stat,
     pub mem: Image,
-}
-
-impl PlusState {
-    /// The state as the first cycle begins, with a memory image: as after a nop whose successor is at 0.
-    pub fn start(mem: Image) -> PlusState
-        ensures { result ≡ plus_start mem }
-    {
-        let Machine {
-            regs,
-            flags,
-            stat,
-            mem,
-            ..
-        } = Machine::start(mem);
-        let previous = PreviousInstruction {
-            icode: 1,
-            cnd: 0,
-            val_m: 0,
-            val_c: 0,
-            val_p: 0,
-        };
-        PlusState {
-            previous,
-            regs,
-            flags,
-            stat,
-            mem,
-        }
-    }
 }

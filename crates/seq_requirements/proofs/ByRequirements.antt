@@ -15,7 +15,7 @@ use Rattle.findings.specs.Requirements.{is_met}
 use Rattle.findings.proofs.EachMet.{one, two, if_both, guarded, excused, some_is}
 use Rattle.seq_obligations.specs.Fields as seq
 use Rattle.seq_obligations.specs.Obligations.{demand_at as seq_demand_at, faulted, shared_demand}
-use Rattle.seq_obligations.specs.declared.signals.SeqSignals.{SeqSignals}
+use Rattle.dp_sequential.specs.declared.rows.SignalRows.{SignalRows}
 use Rattle.seq_plus.specs.Fields as plus
 use Rattle.seq_plus.specs.Obligations.{demand_at as plus_demand_at}
 use Rattle.seq_plus.specs.PlusNames as plus_row
@@ -25,7 +25,7 @@ use Rattle.seq_requirements.specs.declared.datapath.Datapath.{Datapath}
 use Rattle.seq_requirements.specs.declared.datapath.Datapath.TheVariants.{Seq, Plus}
 
 module _ (α : Assignment) (cv : ℕ → Leaf) where
-  shared_is : (s : SeqSignals) (i : ℕ) (r : Row) (c : seq.Fields) → shared_demand s i r c α cv ≡ each (is_met α cv) (shared_requirements s i r c)
+  shared_is : (s : SignalRows) (i : ℕ) (r : Row) (c : seq.Fields) → shared_demand s i r c α cv ≡ each (is_met α cv) (shared_requirements s i r c)
   shared_is s i r c =
       if_both (is_met α cv) (i == 1) _ _ _ _ (two (is_number cv s.icode c.icode) (is_number cv s.ifun c.ifun))
       (if_both (is_met α cv) (i == 2) _ _ _ _ (one _)

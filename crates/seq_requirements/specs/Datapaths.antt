@@ -9,7 +9,7 @@ use Rattle.dp_signals.specs.SeqNames as seq_row
 use Rattle.dp_signals.specs.SeqTable.{seq_rows}
 use Rattle.seq_obligations.specs.Fields as seq
 use Rattle.seq_obligations.specs.Obligations as seq_rule
-use Rattle.seq_obligations.specs.declared.signals.SeqSignals.{SeqSignals}
+use Rattle.dp_sequential.specs.declared.rows.SignalRows.{SignalRows}
 use Rattle.seq_plus.specs.Fields as plus
 use Rattle.seq_plus.specs.Obligations as plus_rule
 use Rattle.seq_plus.specs.PlusNames as plus_row
@@ -33,7 +33,7 @@ defined_of Seq = seq_row.defined
 defined_of Plus = plus_row.defined
 
 -- the rows of the signals that the obligations are about
-abbrev pub signals_of : Datapath → SeqSignals
+abbrev pub signals_of : Datapath → SignalRows
 signals_of Seq = seq_rule.seq_signals
 signals_of Plus = plus_rule.signals
 

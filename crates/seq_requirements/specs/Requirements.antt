@@ -19,7 +19,7 @@ use Rattle.findings.specs.declared.requirement.Requirement.{Requirement}
 use Rattle.findings.specs.declared.requirement.Wanted.TheVariants as wanted
 use Rattle.seq_obligations.specs.Fields.{Fields}
 use Rattle.seq_obligations.specs.Obligations as seq_rule
-use Rattle.seq_obligations.specs.declared.signals.SeqSignals.{SeqSignals}
+use Rattle.dp_sequential.specs.declared.rows.SignalRows.{SignalRows}
 use Rattle.seq_plus.specs.Fields as plus
 use Rattle.seq_plus.specs.PlusNames as plus_row
 use Rattle.seq_requirements.specs.Datapaths.{demand_of, line_of, signals_of}
@@ -32,20 +32,20 @@ use Rattle.seq_requirements.specs.declared.datapath.Datapath.TheVariants.{Seq, P
 abbrev pub faulted : Fields → Bool
 faulted c = seq_rule.faulted c
 
-abbrev pub required1 : SeqSignals → Fields → List Requirement
+abbrev pub required1 : SignalRows → Fields → List Requirement
 required1 s c = requirement_of s.icode (wanted.Word (Number c.icode)) ∷ number s.ifun c.ifun
 
-abbrev pub required6 : SeqSignals → Row → Fields → List Requirement
+abbrev pub required6 : SignalRows → Row → Fields → List Requirement
 required6 s r c = number s.dst_e (destination_e r.conditional (set c.cnd) (register_number r.dst_e c.r_a c.r_b))
 
-abbrev pub required10 : SeqSignals → Row → Fields → List Requirement
+abbrev pub required10 : SignalRows → Row → Fields → List Requirement
 required10 s r c = only_if (has_operand_a r.alu_a) (number s.alufun (alu_function r.selects c.ifun))
 
-abbrev pub required13 : SeqSignals → Row → List Requirement
+abbrev pub required13 : SignalRows → Row → List Requirement
 required13 s r = requirement_of s.mem_read (wanted.Truth (is_load r.memory)) ∷ truth s.mem_write (is_store r.memory)
 
 -- what obligation i requires, from 1 to 15
-abbrev pub shared_requirements : SeqSignals → ℕ → Row → Fields → List Requirement
+abbrev pub shared_requirements : SignalRows → ℕ → Row → Fields → List Requirement
 shared_requirements s i r c =
     if i == 1 then required1 s c
     else (if i == 2 then truth s.need_regids r.has_byte

@@ -3,11 +3,13 @@ ghost use Rattle.std.specs.Prelude.{◌≡◌, IfOk};
 ghost use Rattle.net_fields.specs.FieldSpecs.{total};
 ghost use Rattle.seq_requirements.specs.Datapaths as spec;
 
+use dp_sequential::{SEQ, SignalRows};
 use dp_signals::{seq_row, seq_table};
 use hcl_types::{NameId, Table};
 use net_fields::FieldSpec;
-use seq_obligations::{BIT_COUNT, PLUS_BIT_COUNT, SeqSignals};
-use seq_plus::{plus_table, row as plus_row};
+use seq_obligations::{BIT_COUNT, PLUS_BIT_COUNT};
+use seq_plus::plus_table;
+use seq_plus::row::{self as plus_row, PLUS};
 use std::alloc::Global;
 use y86_base::Memory;
 
@@ -20,43 +22,12 @@ pub enum Datapath {
     Plus,
 }
 
-/// The rows of the signals in one table.
-macro_rules! signals {
-    ($row:ident) => {
-        SeqSignals {
-            val_c: $row::VAL_C,
-            val_p: $row::VAL_P,
-            val_a: $row::VAL_A,
-            val_b: $row::VAL_B,
-            val_e: $row::VAL_E,
-            val_m: $row::VAL_M,
-            icode: $row::ICODE,
-            ifun: $row::IFUN,
-            need_regids: $row::NEED_REGIDS,
-            need_val_c: $row::NEED_VAL_C,
-            src_a: $row::SRC_A,
-            src_b: $row::SRC_B,
-            dst_e: $row::DST_E,
-            dst_m: $row::DST_M,
-            alu_a: $row::ALU_A,
-            alu_b: $row::ALU_B,
-            alufun: $row::ALUFUN,
-            set_cc: $row::SET_CC,
-            mem_addr: $row::MEM_ADDR,
-            mem_read: $row::MEM_READ,
-            mem_write: $row::MEM_WRITE,
-            mem_data: $row::MEM_DATA,
-            stat: $row::STAT,
-        }
-    };
-}
+static SEQ_SIGNALS: SignalRows = SEQ;
 
-static SEQ_SIGNALS: SeqSignals = signals!(seq_row);
-
-static PLUS_SIGNALS: SeqSignals = signals!(plus_row);
+static PLUS_SIGNALS: SignalRows = PLUS;
 
 /// The rows of the signals that the obligations are about.
-pub fn signals_of(which: Datapath) -> &'static SeqSignals
+pub fn signals_of(which: Datapath) -> &'static SignalRows
     ensures { result.now ≡ spec.signals_of which }
 {
     match which {

@@ -10,14 +10,14 @@ use crate::datapath::{Datapath, signals_of};
 use crate::lines::{LineNow, line_of, previous_of};
 use ctl_atoms::Leaf;
 use ctl_rules::{address_leaf, operand_leaf_a, operand_leaf_b, word_leaf};
+use dp_sequential::SignalRows;
 use dp_signals::seq_row;
 use findings::{
     Requirement, alu_function, destination_e, fetched_status, put_number, put_some, put_truth,
     register_number, set,
 };
 use hcl_types::NameId;
-use seq_obligations::SeqSignals;
-use seq_plus::row as plus_row;
+use seq_plus::row::{self as plus_row, PLUS};
 use std::alloc::Global;
 use y86_base::{Memory, Variant};
 use y86_isa::{NextPcColumn, Row, has_operand_a, is_load, is_store, row};
@@ -49,7 +49,7 @@ fn faulted(l: &LineNow) -> bool
 }
 
 /// What obligation 1 requires.
-fn put_reading(out: &mut Vec<Requirement>, s: &SeqSignals, l: &LineNow) -> Result<(), Memory>
+fn put_reading(out: &mut Vec<Requirement>, s: &SignalRows, l: &LineNow) -> Result<(), Memory>
     ensures { OnOk result (out.new.items ≡ out.old.items ++ spec.required1 s.now (fields_in l.now)) }
 {
     put_number(out, s.icode, l.icode)?;
@@ -59,7 +59,7 @@ fn put_reading(out: &mut Vec<Requirement>, s: &SeqSignals, l: &LineNow) -> Resul
 /// What obligation 6 requires.
 fn put_destination(
     out: &mut Vec<Requirement>,
-    s: &SeqSignals,
+    s: &SignalRows,
     r: &Row,
     l: &LineNow,
 ) -> Result<(), Memory>
@@ -72,7 +72,7 @@ fn put_destination(
 /// What obligation 10 requires.
 fn put_function(
     out: &mut Vec<Requirement>,
-    s: &SeqSignals,
+    s: &SignalRows,
     r: &Row,
     l: &LineNow,
 ) -> Result<(), Memory>
@@ -85,7 +85,7 @@ fn put_function(
 }
 
 /// What obligation 13 requires.
-fn put_access(out: &mut Vec<Requirement>, s: &SeqSignals, r: &Row) -> Result<(), Memory>
+fn put_access(out: &mut Vec<Requirement>, s: &SignalRows, r: &Row) -> Result<(), Memory>
     ensures { OnOk result (out.new.items ≡ out.old.items ++ spec.required13 s.now r.now) }
 {
     put_truth(out, s.mem_read, is_load(r.memory))?;
@@ -95,7 +95,7 @@ fn put_access(out: &mut Vec<Requirement>, s: &SeqSignals, r: &Row) -> Result<(),
 /// What an obligation from 1 to 15 requires, which both datapaths share.
 fn put_shared(
     out: &mut Vec<Requirement>,
-    s: &SeqSignals,
+    s: &SignalRows,
     rule: u32,
     r: &Row,
     l: &LineNow,
@@ -150,7 +150,7 @@ fn put_plus_next(out: &mut Vec<Requirement>, v: Variant, icode: u64, cnd: u64) -
         plus_row::P_VAL_M,
         set(cnd),
     );
-    put_some(out, plus_row::PC, leaf)
+    put_some(out, PLUS.pc, leaf)
 }
 
 /// What obligation 16 requires.

@@ -17,6 +17,7 @@ use Rattle.dp_signals.specs.SeqNames as seq
 use Rattle.dp_signals.specs.Values.{bit}
 use Rattle.dp_signals.proofs.SeqRows.{seq_hardware_rows}
 use Rattle.seq_plus.specs.PlusCycle.{plus_next}
+use Rattle.dp_sequential.specs.Cycle.{block_by, fetched_by, worked_by}
 use Rattle.seq_plus.specs.PlusEquations.{PlusSolves, plus_block, plus_given}
 use Rattle.seq_plus.specs.PlusNames as plus
 use Rattle.seq_plus.specs.declared.state.PlusState.{PlusState}
@@ -106,7 +107,7 @@ plus_inside s f store e told =
 
 plus_error : (v : Variant) (terms : List Term) (s : PlusState) (f : ℕ → ℕ) → PlusSolves v terms s f →
     f plus.dmem_error ≡ bit (data_error s.mem (f plus.mem_addr) (set (f plus.mem_read)) (set (f plus.mem_write)))
-unfolding rule_of plus_block plus_given constants
+unfolding rule_of plus_block block_by fetched_by worked_by plus_given constants
 plus_error v terms s f solves = solves plus.dmem_error
 
 pub plus_tells_changes : PlusTellsChanges

@@ -1,6 +1,8 @@
 -- The signals of a cycle that SEQ and SEQ+ share, by their names, and where the words of some of them come from.
 use Rattle.std.specs.Prelude.{ℕ, List}
 use Rattle.dp_signals.specs.SeqNames as seq
+use Rattle.dp_sequential.specs.Rows.{seq as seq_at}
+use Rattle.dp_sequential.specs.declared.rows.SignalRows.{SignalRows}
 use Rattle.hcl_types.specs.declared.table.Row.{Row}
 use Rattle.hcl_types.specs.declared.term.Term.{Term}
 use Rattle.seq_plus.specs.PlusNames as plus
@@ -8,79 +10,49 @@ use Rattle.pipe_stage_text.specs.Sources.{source}
 use Rattle.seq_text.specs.declared.signals.Signals.{Signals}
 use Rattle.seq_text.specs.declared.signals.Sources as code
 
-unfoldable pub seq_signals : (ℕ → ℕ) → Signals
-seq_signals f =
+-- the signals that stand at these rows
+abbrev pub signals_by : SignalRows → (ℕ → ℕ) → Signals
+signals_by r f =
     record {
-      pc = f seq.pc;
-      icode = f seq.icode;
-      ifun = f seq.ifun;
-      imem_icode = f seq.imem_icode;
-      imem_ifun = f seq.imem_ifun;
-      imem_error = f seq.imem_error;
-      instr_valid = f seq.instr_valid;
-      need_regids = f seq.need_regids;
-      need_val_c = f seq.need_valC;
-      r_a = f seq.rA;
-      r_b = f seq.rB;
-      val_c = f seq.valC;
-      val_p = f seq.valP;
-      src_a = f seq.srcA;
-      src_b = f seq.srcB;
-      val_a = f seq.valA;
-      val_b = f seq.valB;
-      alu_a = f seq.aluA;
-      alu_b = f seq.aluB;
-      alufun = f seq.alufun;
-      set_cc = f seq.set_cc;
-      val_e = f seq.valE;
-      cnd = f seq.Cnd;
-      mem_addr = f seq.mem_addr;
-      mem_read = f seq.mem_read;
-      mem_write = f seq.mem_write;
-      mem_data = f seq.mem_data;
-      val_m = f seq.valM;
-      dmem_error = f seq.dmem_error;
-      stat = f seq.Stat;
-      dst_e = f seq.dstE;
-      dst_m = f seq.dstM;
+      pc = f r.pc;
+      icode = f r.icode;
+      ifun = f r.ifun;
+      imem_icode = f r.imem_icode;
+      imem_ifun = f r.imem_ifun;
+      imem_error = f r.imem_error;
+      instr_valid = f r.instr_valid;
+      need_regids = f r.need_regids;
+      need_val_c = f r.need_val_c;
+      r_a = f r.r_a;
+      r_b = f r.r_b;
+      val_c = f r.val_c;
+      val_p = f r.val_p;
+      src_a = f r.src_a;
+      src_b = f r.src_b;
+      val_a = f r.val_a;
+      val_b = f r.val_b;
+      alu_a = f r.alu_a;
+      alu_b = f r.alu_b;
+      alufun = f r.alufun;
+      set_cc = f r.set_cc;
+      val_e = f r.val_e;
+      cnd = f r.cnd;
+      mem_addr = f r.mem_addr;
+      mem_read = f r.mem_read;
+      mem_write = f r.mem_write;
+      mem_data = f r.mem_data;
+      val_m = f r.val_m;
+      dmem_error = f r.dmem_error;
+      stat = f r.stat;
+      dst_e = f r.dst_e;
+      dst_m = f r.dst_m;
     }
 
+unfoldable pub seq_signals : (ℕ → ℕ) → Signals
+seq_signals f = signals_by seq_at f
+
 unfoldable pub plus_signals : (ℕ → ℕ) → Signals
-plus_signals f =
-    record {
-      pc = f plus.pc;
-      icode = f plus.icode;
-      ifun = f plus.ifun;
-      imem_icode = f plus.imem_icode;
-      imem_ifun = f plus.imem_ifun;
-      imem_error = f plus.imem_error;
-      instr_valid = f plus.instr_valid;
-      need_regids = f plus.need_regids;
-      need_val_c = f plus.need_valC;
-      r_a = f plus.rA;
-      r_b = f plus.rB;
-      val_c = f plus.valC;
-      val_p = f plus.valP;
-      src_a = f plus.srcA;
-      src_b = f plus.srcB;
-      val_a = f plus.valA;
-      val_b = f plus.valB;
-      alu_a = f plus.aluA;
-      alu_b = f plus.aluB;
-      alufun = f plus.alufun;
-      set_cc = f plus.set_cc;
-      val_e = f plus.valE;
-      cnd = f plus.Cnd;
-      mem_addr = f plus.mem_addr;
-      mem_read = f plus.mem_read;
-      mem_write = f plus.mem_write;
-      mem_data = f plus.mem_data;
-      val_m = f plus.valM;
-      dmem_error = f plus.dmem_error;
-      stat = f plus.Stat;
-      dst_e = f plus.dstE;
-      dst_m = f plus.dstM;
-    }
+plus_signals f = signals_by plus.plus f
 
 -- the names that the definitions of aluA, aluB, mem_addr, mem_data, and of new_pc or pc pick, as they are told
 pub record Sources : Type 0 where

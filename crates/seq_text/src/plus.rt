@@ -13,27 +13,29 @@ ghost use Rattle.seq_text.specs.Signals.{sources_in};
 
 use crate::lines::{put_choice, put_stages, put_state};
 use crate::shown::{finished, put_number};
-use crate::signals::{Sources, plus_signals, plus_sources};
+use crate::signals::{Sources, plus_sources, signals_at};
 use dp_machines::is_aok_stat;
+use dp_sequential::{Sequential, constants_in, solve_in};
 use dp_signals::{at, constant_words};
 use hcl_types::{Design, Order, Row, SignalEval};
 use pipe_stage_text::{CycleRange, ObservedRun, is_within};
-use seq_plus::{PlusState, PlusValues, advance, plus_constants, row as plus_row, solve_plus_in};
+use seq_plus::row::PLUS;
+use seq_plus::{PLUS_ROWS, PlusState};
 use std::alloc::Global;
 use y86_base::{Image, Memory, Variant};
 
 /// Puts the lines of a cycle.
-#[tactic(auto, unfolding(crate::specs::Observer::plus_lines))]
+#[tactic(auto, unfolding(crate::specs::Observer::plus_lines, crate::specs::Signals::plus_signals))]
 fn put_lines(
     out: &mut Vec<u8>,
     s: &PlusState,
-    values: &PlusValues,
+    values: &[u64],
     sources: &Sources<'_>,
 ) -> Result<(), Memory>
     ensures { OnOk result (out.new.items ≡ out.old.items ++ text.plus_lines s.now (at values.now) (sources_in sources.now)) }
 {
-    let signals = plus_signals(values);
-    put_choice(out, s.previous, at(values, plus_row::PC), sources)?;
+    let signals = signals_at(&PLUS, values);
+    put_choice(out, s.previous, at(values, PLUS.pc), sources)?;
     put_stages(out, &signals, sources)?;
     put_state(out, s.flags, &signals)
 }
@@ -47,7 +49,7 @@ fn put_shown(
     window: &CycleRange,
     number: u64,
     s: &PlusState,
-    values: &PlusValues,
+    values: &[u64],
 ) -> Result<(), Memory>
     ensures { OnOk result (out.new.items
         ≡ out.old.items ++ text.shown window.now number (text.plus_lines s.now (at values.now) (told_sources rows.now design.now.terms (at values.now)))) }
@@ -82,10 +84,10 @@ fn cycle<C: SignalEval>(
     ensures cycle { OnOk result ((lines : List ℕ) × PlusShows variant design.now.terms s.old lines s.new
         × (out.new.items ≡ out.old.items ++ text.shown window.now number lines)) }
 {
-    let mut values = plus_constants();
-    solve_plus_in(variant, design, order, s, evaluator, fits, &mut values);
+    let mut values: [u64; PLUS_ROWS] = constants_in();
+    solve_in(variant, design, order, s, evaluator, fits, &mut values);
     put_shown(out, rows, design, window, number, s, &values)?;
-    advance(s, &values);
+    s.advance(&values);
     Ok(())
 }
 

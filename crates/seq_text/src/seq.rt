@@ -13,27 +13,26 @@ ghost use Rattle.y86_isa.specs.Machine.{start};
 
 use crate::lines::{put_stages, put_state, put_update};
 use crate::shown::{finished, put_number};
-use crate::signals::{Sources, seq_signals, seq_sources};
+use crate::signals::{Sources, seq_sources, signals_at};
 use dp_machines::is_aok_stat;
-use dp_signals::{
-    SeqState, SeqValues, at, constant_words, seq_advance, seq_constants, seq_row, solve_seq_in,
-};
+use dp_sequential::{SEQ, Sequential, constants_in, solve_in};
+use dp_signals::{SEQ_ROWS, SeqState, at, constant_words, seq_row};
 use hcl_types::{Design, Order, Row, SignalEval};
 use pipe_stage_text::{CycleRange, ObservedRun, is_within};
 use std::alloc::Global;
 use y86_base::{Image, Memory, Variant};
 
 /// Puts the lines of a cycle.
-#[tactic(auto, unfolding(crate::specs::Observer::seq_lines))]
+#[tactic(auto, unfolding(crate::specs::Observer::seq_lines, crate::specs::Signals::seq_signals))]
 fn put_lines(
     out: &mut Vec<u8>,
     s: &SeqState,
-    values: &SeqValues,
+    values: &[u64],
     sources: &Sources<'_>,
 ) -> Result<(), Memory>
     ensures { OnOk result (out.new.items ≡ out.old.items ++ text.seq_lines s.now (at values.now) (sources_in sources.now)) }
 {
-    let signals = seq_signals(values);
+    let signals = signals_at(&SEQ, values);
     put_stages(out, &signals, sources)?;
     put_update(out, at(values, seq_row::NEW_PC), sources)?;
     put_state(out, s.flags, &signals)
@@ -48,7 +47,7 @@ fn put_shown(
     window: &CycleRange,
     number: u64,
     s: &SeqState,
-    values: &SeqValues,
+    values: &[u64],
 ) -> Result<(), Memory>
     ensures { OnOk result (out.new.items
         ≡ out.old.items ++ text.shown window.now number (text.seq_lines s.now (at values.now) (told_sources rows.now design.now.terms (at values.now)))) }
@@ -83,10 +82,10 @@ fn cycle<C: SignalEval>(
     ensures cycle { OnOk result ((lines : List ℕ) × SeqShows variant design.now.terms s.old lines s.new
         × (out.new.items ≡ out.old.items ++ text.shown window.now number lines)) }
 {
-    let mut values = seq_constants();
-    solve_seq_in(variant, design, order, s, evaluator, fits, &mut values);
+    let mut values: [u64; SEQ_ROWS] = constants_in();
+    solve_in(variant, design, order, s, evaluator, fits, &mut values);
     put_shown(out, rows, design, window, number, s, &values)?;
-    seq_advance(s, &values);
+    s.advance(&values);
     Ok(())
 }
 

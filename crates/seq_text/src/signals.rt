@@ -3,10 +3,11 @@ ghost use Rattle.std.specs.Prelude.{◌≡◌};
 ghost use Rattle.hcl_types.specs.Terms.{at};
 ghost use Rattle.seq_text.specs.Signals as text;
 
-use dp_signals::{SeqValues, at, seq_row};
+use dp_sequential::{SEQ, SignalRows};
+use dp_signals::{at, seq_row};
 use hcl_types::{Design, Row};
 use pipe_stage_text::source;
-use seq_plus::{PlusValues, row as plus_row};
+use seq_plus::row::PLUS;
 
 /// The values of the signals in a cycle, in the order of the stages (CS:APP 3e, figures 4.27 to 4.31). `r_a` is the signal rA, and so on.
 #[derive(Clone, Copy, Debug)]
@@ -55,114 +56,72 @@ pub struct Sources<'a> {
     pub pc: &'a [u8],
 }
 
-/// The signals of a cycle of SEQ.
-#[tactic(auto, unfolding(crate::specs::Signals::seq_signals))]
-pub(crate) fn seq_signals(values: &SeqValues) -> Signals
-    ensures { result ≡ text.seq_signals (at values.now) }
+/// The signals of a cycle, where they stand at these rows.
+pub(crate) fn signals_at(rows: &SignalRows, values: &[u64]) -> Signals
+    ensures { result ≡ text.signals_by rows.now (at values.now) }
 {
     Signals {
-        pc: at(values, seq_row::PC),
-        icode: at(values, seq_row::ICODE),
-        ifun: at(values, seq_row::IFUN),
-        imem_icode: at(values, seq_row::IMEM_ICODE),
-        imem_ifun: at(values, seq_row::IMEM_IFUN),
-        imem_error: at(values, seq_row::IMEM_ERROR),
-        instr_valid: at(values, seq_row::INSTR_VALID),
-        need_regids: at(values, seq_row::NEED_REGIDS),
-        need_val_c: at(values, seq_row::NEED_VAL_C),
-        r_a: at(values, seq_row::R_A),
-        r_b: at(values, seq_row::R_B),
-        val_c: at(values, seq_row::VAL_C),
-        val_p: at(values, seq_row::VAL_P),
-        src_a: at(values, seq_row::SRC_A),
-        src_b: at(values, seq_row::SRC_B),
-        val_a: at(values, seq_row::VAL_A),
-        val_b: at(values, seq_row::VAL_B),
-        alu_a: at(values, seq_row::ALU_A),
-        alu_b: at(values, seq_row::ALU_B),
-        alufun: at(values, seq_row::ALUFUN),
-        set_cc: at(values, seq_row::SET_CC),
-        val_e: at(values, seq_row::VAL_E),
-        cnd: at(values, seq_row::CND),
-        mem_addr: at(values, seq_row::MEM_ADDR),
-        mem_read: at(values, seq_row::MEM_READ),
-        mem_write: at(values, seq_row::MEM_WRITE),
-        mem_data: at(values, seq_row::MEM_DATA),
-        val_m: at(values, seq_row::VAL_M),
-        dmem_error: at(values, seq_row::DMEM_ERROR),
-        stat: at(values, seq_row::STAT),
-        dst_e: at(values, seq_row::DST_E),
-        dst_m: at(values, seq_row::DST_M),
-    }
-}
-
-/// The signals of a cycle of SEQ+.
-#[tactic(auto, unfolding(crate::specs::Signals::plus_signals))]
-pub(crate) fn plus_signals(values: &PlusValues) -> Signals
-    ensures { result ≡ text.plus_signals (at values.now) }
-{
-    Signals {
-        pc: at(values, plus_row::PC),
-        icode: at(values, plus_row::ICODE),
-        ifun: at(values, plus_row::IFUN),
-        imem_icode: at(values, plus_row::IMEM_ICODE),
-        imem_ifun: at(values, plus_row::IMEM_IFUN),
-        imem_error: at(values, plus_row::IMEM_ERROR),
-        instr_valid: at(values, plus_row::INSTR_VALID),
-        need_regids: at(values, plus_row::NEED_REGIDS),
-        need_val_c: at(values, plus_row::NEED_VAL_C),
-        r_a: at(values, plus_row::R_A),
-        r_b: at(values, plus_row::R_B),
-        val_c: at(values, plus_row::VAL_C),
-        val_p: at(values, plus_row::VAL_P),
-        src_a: at(values, plus_row::SRC_A),
-        src_b: at(values, plus_row::SRC_B),
-        val_a: at(values, plus_row::VAL_A),
-        val_b: at(values, plus_row::VAL_B),
-        alu_a: at(values, plus_row::ALU_A),
-        alu_b: at(values, plus_row::ALU_B),
-        alufun: at(values, plus_row::ALUFUN),
-        set_cc: at(values, plus_row::SET_CC),
-        val_e: at(values, plus_row::VAL_E),
-        cnd: at(values, plus_row::CND),
-        mem_addr: at(values, plus_row::MEM_ADDR),
-        mem_read: at(values, plus_row::MEM_READ),
-        mem_write: at(values, plus_row::MEM_WRITE),
-        mem_data: at(values, plus_row::MEM_DATA),
-        val_m: at(values, plus_row::VAL_M),
-        dmem_error: at(values, plus_row::DMEM_ERROR),
-        stat: at(values, plus_row::STAT),
-        dst_e: at(values, plus_row::DST_E),
-        dst_m: at(values, plus_row::DST_M),
+        pc: at(values, rows.pc),
+        icode: at(values, rows.icode),
+        ifun: at(values, rows.ifun),
+        imem_icode: at(values, rows.imem_icode),
+        imem_ifun: at(values, rows.imem_ifun),
+        imem_error: at(values, rows.imem_error),
+        instr_valid: at(values, rows.instr_valid),
+        need_regids: at(values, rows.need_regids),
+        need_val_c: at(values, rows.need_val_c),
+        r_a: at(values, rows.r_a),
+        r_b: at(values, rows.r_b),
+        val_c: at(values, rows.val_c),
+        val_p: at(values, rows.val_p),
+        src_a: at(values, rows.src_a),
+        src_b: at(values, rows.src_b),
+        val_a: at(values, rows.val_a),
+        val_b: at(values, rows.val_b),
+        alu_a: at(values, rows.alu_a),
+        alu_b: at(values, rows.alu_b),
+        alufun: at(values, rows.alufun),
+        set_cc: at(values, rows.set_cc),
+        val_e: at(values, rows.val_e),
+        cnd: at(values, rows.cnd),
+        mem_addr: at(values, rows.mem_addr),
+        mem_read: at(values, rows.mem_read),
+        mem_write: at(values, rows.mem_write),
+        mem_data: at(values, rows.mem_data),
+        val_m: at(values, rows.val_m),
+        dmem_error: at(values, rows.dmem_error),
+        stat: at(values, rows.stat),
+        dst_e: at(values, rows.dst_e),
+        dst_m: at(values, rows.dst_m),
     }
 }
 
 /// Where words come from in a cycle of SEQ.
 #[tactic(auto, unfolding(crate::specs::Signals::seq_sources))]
-pub(crate) fn seq_sources<'a>(rows: &'a [Row], design: &Design, values: &SeqValues) -> Sources<'a>
+pub(crate) fn seq_sources<'a>(rows: &'a [Row], design: &Design, values: &[u64]) -> Sources<'a>
     ensures { text.sources_in result ≡ text.seq_sources rows.now design.now.terms (at values.now) }
 {
-    let first = seq_row::ICODE;
+    let first = SEQ.icode;
     Sources {
-        alu_a: source(rows, design, values, first, seq_row::ALU_A),
-        alu_b: source(rows, design, values, first, seq_row::ALU_B),
-        mem_addr: source(rows, design, values, first, seq_row::MEM_ADDR),
-        mem_data: source(rows, design, values, first, seq_row::MEM_DATA),
+        alu_a: source(rows, design, values, first, SEQ.alu_a),
+        alu_b: source(rows, design, values, first, SEQ.alu_b),
+        mem_addr: source(rows, design, values, first, SEQ.mem_addr),
+        mem_data: source(rows, design, values, first, SEQ.mem_data),
         pc: source(rows, design, values, first, seq_row::NEW_PC),
     }
 }
 
 /// Where words come from in a cycle of SEQ+.
 #[tactic(auto, unfolding(crate::specs::Signals::plus_sources))]
-pub(crate) fn plus_sources<'a>(rows: &'a [Row], design: &Design, values: &PlusValues) -> Sources<'a>
+pub(crate) fn plus_sources<'a>(rows: &'a [Row], design: &Design, values: &[u64]) -> Sources<'a>
     ensures { text.sources_in result ≡ text.plus_sources rows.now design.now.terms (at values.now) }
 {
-    let first = plus_row::PC;
+    let first = PLUS.pc;
     Sources {
-        alu_a: source(rows, design, values, first, plus_row::ALU_A),
-        alu_b: source(rows, design, values, first, plus_row::ALU_B),
-        mem_addr: source(rows, design, values, first, plus_row::MEM_ADDR),
-        mem_data: source(rows, design, values, first, plus_row::MEM_DATA),
-        pc: source(rows, design, values, first, plus_row::PC),
+        alu_a: source(rows, design, values, first, PLUS.alu_a),
+        alu_b: source(rows, design, values, first, PLUS.alu_b),
+        mem_addr: source(rows, design, values, first, PLUS.mem_addr),
+        mem_data: source(rows, design, values, first, PLUS.mem_data),
+        pc: source(rows, design, values, first, PLUS.pc),
     }
 }

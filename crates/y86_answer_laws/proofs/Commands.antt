@@ -6,7 +6,7 @@ use Rattle.hcl_read.specs.Read.{ReadsAs}
 use Rattle.hcl_read.proofs.LawLemmas.{at_most_one_file}
 use Rattle.hcl_types.specs.Tables.{IsBound, IsOrderOf, IsSound}
 use Rattle.hcl_types.specs.declared.term.Term.{Term}
-use Rattle.seq_plus.proofs.Sound.{plus_sound}
+use Rattle.seq_plus.specs.Sound.{plus_sound}
 use Rattle.wb_io.specs.Sinks.{Appended}
 use Rattle.y86_base.specs.declared.parts.Variant.{Variant}
 use Rattle.cli_runs.specs.Answers.{PipeAnswers, SeqAnswers, big_plan, checked_plan, hcl_plan, pipe_plan, psim_plan, seq_plan, ssim_plan, yas_plan, yis_plan}

@@ -10,12 +10,13 @@ use Rattle.prog_cosim.specs.Cosimulation.{IsCosimulation, run_limit}
 use Rattle.prog_cosim.specs.RunsTo.{RunsFor, RunsTo, end_of}
 use Rattle.prog_cosim.specs.declared.both.CosimResult.{CosimResult}
 use Rattle.prog_gen.specs.Programs.{program}
-use Rattle.seq_path.proofs.OneRun as seq
+use Rattle.seq_path.proofs.Runs as seq
 use Rattle.seq_plus.specs.PlusNames as row
-use Rattle.seq_plus.specs.PlusRun.{PlusEndIs, at_pc, plus_start}
+use Rattle.seq_plus.specs.PlusEquations.{at_pc}
+use Rattle.seq_plus.specs.PlusRun.{PlusEndIs, plus_start}
 use Rattle.seq_plus.specs.declared.state.PlusState.{PlusState}
 use Rattle.seq_plus.proofs.OneRun as plus
-use Rattle.seq_plus.proofs.PlusRules.{plus_unique}
+use Rattle.seq_plus.proofs.OneRun.{plus_unique}
 use Rattle.y86_base.specs.declared.parts.Variant.{Variant}
 use Rattle.y86_base.specs.declared.parts.Stat.TheVariants.{Hlt}
 use Rattle.y86_isa.specs.Machine.{is_aok, start}

@@ -1,5 +1,5 @@
 use Rattle.y86_isa.specs.Machine.{start}
-use Rattle.seq_path.proofs.OneRun.{run_alone, run_there}
+use Rattle.seq_path.proofs.Runs.{run_alone, run_there}
 use Rattle.seq_path.proofs.laws.law_of_runs.Goals as goal
 
 pub returns-clause-there : goal.returns-clause-there

@@ -1,4 +1,4 @@
-use Rattle.seq_path.proofs.OneRun.{solution_there}
+use Rattle.seq_path.proofs.Runs.{solution_there}
 use Rattle.seq_path.proofs.laws.law_of_solutions.Goals as goal
 
 pub returns : goal.returns

@@ -1,5 +1,5 @@
 use Rattle.seq_plus.proofs.OneRun.{solution_there}
-use Rattle.seq_plus.proofs.PlusRules.{plus_unique}
+use Rattle.seq_plus.proofs.OneRun.{plus_unique}
 use Rattle.seq_plus.proofs.laws.law_of_solutions.Goals as goal
 
 pub returns-clause-there : goal.returns-clause-there

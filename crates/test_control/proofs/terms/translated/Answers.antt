@@ -6,7 +6,7 @@ use Rattle.ctl_atoms.specs.Atoms.{AreAtoms}
 use Rattle.ctl_atoms.proofs.Solved.{atoms_one}
 use Rattle.ctl_formula.specs.Picks.{Covers}
 use Rattle.ctl_formula.specs.Places.{HavePlaces}
-use Rattle.seq_obligations.proofs.Designed.{ready_by, places_stand}
+use Rattle.seq_obligations.specs.Designed.{ready_by, places_stand}
 use Rattle.test_control.proofs.terms.translated.Goals as goal
 
 pub atoms-requires-clause-sound : goal.atoms-requires-clause-sound

@@ -1,0 +1,5 @@
+pub mod Rules
+pub mod OneRun
+pub mod Calls
+pub mod Sizes
+pub mod Tells

@@ -1,0 +1,54 @@
+-- The record of a cycle tells all that it changed.
+use Rattle.std.proofs.Common.{◌≡◌, ℕ, ◌==◌, Bool, true, false, cond, refl, ap, ◌∙◌}
+use Rattle.y86_base.specs.Registers.{with_register}
+use Rattle.y86_base.specs.Stat.{stat_of}
+use Rattle.y86_base.specs.declared.parts.Flags.{Flags}
+use Rattle.y86_base.specs.declared.parts.Stat.{Stat}
+use Rattle.y86_isa.specs.declared.machine.Machine.{Machine}
+use Rattle.y86_isa.specs.declared.machine.Rec.{Rec}
+use Rattle.y86_isa.specs.Blocks.{stored}
+use Rattle.y86_isa.specs.Laws.{IsRecordOfStep}
+use Rattle.y86_isa.specs.Machine.{is_aok, normal, written_number, written_word}
+use Rattle.y86_isa.proofs.Records.{written_same}
+use Rattle.dp_signals.proofs.SeqCycles.{aok_is_one}
+use Rattle.dp_sequential.specs.Cycle.{flags_by, memory_by, record_by, registers_by, stepped, store_by}
+use Rattle.dp_sequential.specs.declared.rows.SignalRows.{SignalRows}
+
+module _ (r : SignalRows) (m : Machine) (f : ℕ → ℕ) (pc : ℕ) where
+  -- the machine after a cycle that tells this status, and the record with these flags
+  abbrev next_by : Bool → Stat → Machine
+  next_by goes stat =
+      cond goes
+      (record { regs = registers_by r m.regs f; flags = flags_by r m.flags f; pc = pc; stat = stat; mem = memory_by r m.mem f })
+      (record m { stat = stat })
+
+  abbrev record_with : Flags → Stat → Rec
+  record_with flags stat =
+      normal (record {
+        pc = m.pc;
+        icode = f r.icode;
+        ifun = f r.ifun;
+        dst_e = f r.dst_e;
+        val_e = f r.val_e;
+        dst_m = f r.dst_m;
+        val_m = f r.val_m;
+        store = store_by r f;
+        flags = flags;
+        stat = stat;
+      })
+
+  tells_by : (goes : Bool) (stat : Stat) → is_aok stat ≡ goes → IsRecordOfStep m (next_by goes stat) (record_with (next_by goes stat).flags stat)
+  unfolding stored with_register
+  tells_by true stat w =
+      record {
+        pc = rw w refl;
+        stat = rw w refl;
+        flags = rw w refl;
+        mem = rw w refl;
+        regs = rw w (written_same (with_register m.regs (f r.dst_e) (f r.val_e)) (f r.dst_m) (f r.val_m)
+            ∙ ap (λ rs. with_register rs (written_number (f r.dst_m)) (written_word (f r.dst_m) (f r.val_m))) (written_same m.regs (f r.dst_e) (f r.val_e)));
+      }
+  tells_by false stat w = record { pc = rw w refl; stat = rw w refl; flags = rw w refl; mem = rw w refl; regs = rw w refl }
+
+  pub tells : IsRecordOfStep m (stepped r m f pc) (record_by r m.pc (stepped r m f pc).flags f)
+  tells = tells_by (f r.stat == 1) (stat_of (f r.stat)) (aok_is_one (f r.stat))

@@ -1,0 +1,8 @@
+pub mod Rows
+pub mod Table
+pub mod Cycle
+pub mod Path
+pub mod Laws
+pub mod Machine
+pub mod Seq
+pub mod SeqLaws

@@ -1,0 +1,67 @@
+-- A sequential datapath, by the type S of its state as a cycle begins, and its runs.
+use Rattle.std.specs.Prelude.{◌≡◌, ℕ, ◌-◌, true, false, List, Option, Some, None}
+use Rattle.y86_base.specs.declared.parts.Flags.{Flags}
+use Rattle.y86_base.specs.declared.parts.Stat.{Stat}
+use Rattle.y86_base.specs.declared.parts.Variant.{Variant}
+use Rattle.y86_isa.specs.Machine.{is_aok}
+use Rattle.y86_isa.specs.declared.machine.Machine.{Machine}
+use Rattle.y86_isa.specs.declared.machine.Rec.{Rec}
+use Rattle.hcl_types.specs.declared.table.Row.{Row}
+use Rattle.hcl_types.specs.declared.term.Term.{Term}
+use Rattle.hcl_types.specs.Equations.{IsSolution}
+use Rattle.dp_signals.specs.After.{IsAfter}
+use Rattle.dp_signals.specs.Equations.{IsOver, rule_of}
+
+-- its table, whose first rows hold what is given, and whose rows from the one numbered first on a file defines; what is given as a cycle
+-- begins, of which the words are those of the state, and what hardware then computes; what the state has of a machine, and the PC at which a cycle works; the state at the start of
+-- a run and after a cycle, and the record of a cycle
+pub record SequentialPath (S : Type 0) : Type 0 where
+  pub table : List Row
+  pub hardware : ℕ
+  pub first : ℕ
+  pub count : ℕ
+  pub given : S → List ℕ
+  pub words : S → List ℕ
+  pub block : Variant → S → ℕ → (ℕ → ℕ) → ℕ
+  pub regs : S → List ℕ
+  pub flags : S → Flags
+  pub stat : S → Stat
+  pub mem : S → List ℕ
+  pub pc : S → (ℕ → ℕ) → ℕ
+  pub start : List ℕ → S
+  pub next : S → (ℕ → ℕ) → S
+  pub told : S → (ℕ → ℕ) → Rec
+
+-- the machine that a state is at a PC
+abbrev pub machine_at : {S : Type 0} → SequentialPath S → S → ℕ → Machine
+machine_at path s pc = record { regs = path.regs s; flags = path.flags s; pc = pc; stat = path.stat s; mem = path.mem s }
+
+-- what the equation of row n says
+abbrev pub rule_in : {S : Type 0} → SequentialPath S → Variant → List Term → S → ℕ → (ℕ → ℕ) → ℕ
+rule_in path v terms s = rule_of (path.given s) path.first (path.block v s) terms
+
+-- f gives the values of a cycle that begins in the state s
+abbrev pub Solves : {S : Type 0} → SequentialPath S → Variant → List Term → S → (ℕ → ℕ) → Type 0
+Solves path v terms s f = IsSolution (rule_in path v terms s) f
+
+-- values over what is given in the state s: the other rows may hold what another cycle left
+abbrev pub AreGivenIn : {S : Type 0} → SequentialPath S → S → List ℕ → Type 0
+AreGivenIn path s values = IsOver (path.given s) (path.count - path.hardware) values
+
+-- one cycle from s to t with the record r, if there is one: a machine whose status isn't AOK stays and leaves no record; any other goes to
+-- the next state by values that solve the equations, and leaves a record
+pub record IsCycle {S : Type 0} (path : SequentialPath S) (v : Variant) (terms : List Term) (s : S) (r : Option Rec) (t : S) : Type 0 where
+  pub ended : is_aok (path.stat s) ≡ false → (t ≡ s) × (r ≡ None)
+  pub goes : is_aok (path.stat s) ≡ true → (f : ℕ → ℕ) × Solves path v terms s f × (t ≡ path.next s f) × (r ≡ Some (path.told s f))
+
+-- s is the state of the design k cycles after m, and these are the records of the cycles
+abbrev pub RunFrom : {S : Type 0} → SequentialPath S → Variant → List Term → S → ℕ → S → List Rec → Type 0
+RunFrom path v terms = IsAfter (IsCycle path v terms)
+
+-- the signal pc in a state: that of values which solve the equations of a cycle that begins in it
+abbrev pub PcIs : {S : Type 0} → SequentialPath S → Variant → List Term → S → ℕ → Type 0
+PcIs path v terms s pc = (f : ℕ → ℕ) × Solves path v terms s f × (path.pc s f ≡ pc)
+
+-- a machine that tells a state at its signal pc
+abbrev pub EndIs : {S : Type 0} → SequentialPath S → Variant → List Term → S → Machine → Type 0
+EndIs path v terms s end = (pc : ℕ) × PcIs path v terms s pc × (end ≡ machine_at path s pc)

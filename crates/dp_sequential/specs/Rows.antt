@@ -1,0 +1,47 @@
+-- Where the signals of a sequential datapath stand in its table.
+use Rattle.std.specs.Prelude.{ℕ, ◌+◌}
+use Rattle.dp_signals.specs.SeqNames as signal
+use Rattle.dp_sequential.specs.declared.rows.SignalRows.{SignalRows}
+
+-- the rows of a table where pc stands in a row of its own, and what hardware computes and what a file defines of the instruction stand
+-- one behind the other, from these rows on
+abbrev pub rows_from : ℕ → ℕ → ℕ → SignalRows
+rows_from pc hardware control =
+    record {
+      pc = pc;
+      imem_icode = hardware + 0;
+      imem_ifun = hardware + 1;
+      imem_error = hardware + 2;
+      r_a = hardware + 3;
+      r_b = hardware + 4;
+      val_c = hardware + 5;
+      val_p = hardware + 6;
+      val_a = hardware + 7;
+      val_b = hardware + 8;
+      val_e = hardware + 9;
+      cnd = hardware + 10;
+      val_m = hardware + 11;
+      dmem_error = hardware + 12;
+      icode = control + 0;
+      ifun = control + 1;
+      instr_valid = control + 2;
+      need_regids = control + 3;
+      need_val_c = control + 4;
+      src_a = control + 5;
+      src_b = control + 6;
+      dst_e = control + 7;
+      dst_m = control + 8;
+      alu_a = control + 9;
+      alu_b = control + 10;
+      alufun = control + 11;
+      set_cc = control + 12;
+      mem_addr = control + 13;
+      mem_read = control + 14;
+      mem_write = control + 15;
+      mem_data = control + 16;
+      stat = control + 17;
+    }
+
+-- those of SEQ
+abbrev pub seq : SignalRows
+seq = rows_from signal.pc signal.hardware signal.defined

@@ -1,0 +1,85 @@
+//! The tables of signals of sequential datapaths.
+ghost use Rattle.std.specs.Prelude.{◌≡◌, ◌++◌, IfOk, OnOk, map};
+ghost use Rattle.dp_signals.specs.Lines.{row_of};
+ghost use Rattle.dp_sequential.specs.Table as spec;
+
+use dp_signals::{RowSource, TableRow, put_constants, put_lines};
+use hcl_types::{Class, Row, Table};
+use std::alloc::Global;
+use y86_base::{Items, Memory};
+
+/// The lines of what hardware computes, by the rows of a table. What is read behind the first byte of an instruction depends on the rows
+/// in brackets too.
+#[macro_export]
+macro_rules! hardware_lines {
+    ($rows:expr, [$($pc:expr),*]) => {
+        [
+            TableRow(b"imem_icode", Class::Code, RowSource::Hardware(&[$rows.pc])),
+            TableRow(b"imem_ifun", Class::Code, RowSource::Hardware(&[$rows.pc])),
+            TableRow(b"imem_error", Class::Truth, RowSource::Hardware(&[$rows.pc])),
+            TableRow(b"rA", Class::Code, RowSource::Hardware(&[$($pc,)* $rows.need_regids])),
+            TableRow(b"rB", Class::Code, RowSource::Hardware(&[$($pc,)* $rows.need_regids])),
+            TableRow(b"valC", Class::Value, RowSource::Hardware(&[$($pc,)* $rows.need_regids, $rows.need_val_c])),
+            TableRow(b"valP", Class::Value, RowSource::Hardware(&[$($pc,)* $rows.need_regids, $rows.need_val_c])),
+            TableRow(b"valA", Class::Value, RowSource::Hardware(&[$rows.src_a])),
+            TableRow(b"valB", Class::Value, RowSource::Hardware(&[$rows.src_b])),
+            TableRow(b"valE", Class::Value, RowSource::Hardware(&[$rows.alu_a, $rows.alu_b, $rows.alufun])),
+            TableRow(b"Cnd", Class::Truth, RowSource::Hardware(&[$rows.ifun])),
+            TableRow(b"valM", Class::Value, RowSource::Hardware(&[$rows.mem_addr, $rows.mem_read])),
+            TableRow(b"dmem_error", Class::Truth, RowSource::Hardware(&[$rows.mem_addr, $rows.mem_read, $rows.mem_write])),
+        ]
+    };
+}
+
+static CONTROL: &[TableRow] = &[
+    TableRow(b"icode", Class::Code, RowSource::Defined),
+    TableRow(b"ifun", Class::Code, RowSource::Defined),
+    TableRow(b"instr_valid", Class::Truth, RowSource::Defined),
+    TableRow(b"need_regids", Class::Truth, RowSource::Defined),
+    TableRow(b"need_valC", Class::Truth, RowSource::Defined),
+    TableRow(b"srcA", Class::Code, RowSource::Defined),
+    TableRow(b"srcB", Class::Code, RowSource::Defined),
+    TableRow(b"dstE", Class::Code, RowSource::Defined),
+    TableRow(b"dstM", Class::Code, RowSource::Defined),
+    TableRow(b"aluA", Class::Value, RowSource::Defined),
+    TableRow(b"aluB", Class::Value, RowSource::Defined),
+    TableRow(b"alufun", Class::Code, RowSource::Defined),
+    TableRow(b"set_cc", Class::Truth, RowSource::Defined),
+    TableRow(b"mem_addr", Class::Value, RowSource::Defined),
+    TableRow(b"mem_read", Class::Truth, RowSource::Defined),
+    TableRow(b"mem_write", Class::Truth, RowSource::Defined),
+    TableRow(b"mem_data", Class::Value, RowSource::Defined),
+    TableRow(b"Stat", Class::Code, RowSource::Defined),
+];
+
+/// Adds the rows of what a file defines of the instruction.
+#[tactic(auto, unfolding(crate::specs::Table::control_rows))]
+fn put_control(alloc: Global, rows: &mut Vec<Row>) -> Result<(), Memory>
+    ensures { OnOk result (rows.new.items ≡ rows.old.items ++ spec.control_rows) }
+{
+    put_lines(alloc, rows, CONTROL)
+}
+
+/// The table of a sequential datapath: the constants, what the state holds, what hardware computes, and what a file defines before the
+/// control of the instruction, of it, and behind it.
+pub fn sequential_table(
+    alloc: Global,
+    held: &[TableRow],
+    hardware: &[TableRow],
+    before: &[TableRow],
+    behind: &[TableRow],
+) -> Result<Table, Memory>
+    ensures { IfOk result (λ table. table.rows
+        ≡ spec.table_of (map row_of held.now) (map row_of hardware.now) (map row_of before.now) (map row_of behind.now)) }
+{
+    let mut rows = Vec::new(alloc);
+    put_constants(alloc, &mut rows)?;
+    put_lines(alloc, &mut rows, held)?;
+    put_lines(alloc, &mut rows, hardware)?;
+    put_lines(alloc, &mut rows, before)?;
+    put_control(alloc, &mut rows)?;
+    put_lines(alloc, &mut rows, behind)?;
+    Ok(Table {
+        rows: Items::of(rows),
+    })
+}

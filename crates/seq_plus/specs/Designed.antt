@@ -1,0 +1,56 @@
+-- What SEQ+'s rules stand on.
+use Rattle.std.proofs.Common.{◌≡◌, ℕ, ◌+◌, ◌≤◌, IsTrue, Bool, true, List, refl, arith}
+use Rattle.dp_signals.specs.Tables.{constant_rows}
+use Rattle.dp_sequential.specs.Table.{control_rows}
+use Rattle.ctl_formula.specs.declared.controls.Entry.{Entry}
+use Rattle.ctl_formula.specs.Picks.{Covers}
+use Rattle.ctl_formula.specs.Places.{HavePlaces, Spells}
+use Rattle.seq_obligations.specs.Fields.{plus_bit_count}
+use Rattle.seq_plus.specs.Fields.{fields_of, number_of}
+use Rattle.seq_plus.specs.Obligations.{signals}
+use Rattle.seq_plus.specs.PlusNames as signal
+use Rattle.seq_plus.specs.PlusTable.{plus_rows, plus_state, plus_hardware, plus_defined}
+use Rattle.seq_plus.specs.Rules.{IsPlusReady, places}
+
+-- the signals of SEQ+'s table have control values
+pub ready_by : (vars : ℕ) (ctl : List Entry) → plus_bit_count ≤ vars → Covers plus_rows ctl → IsPlusReady vars ctl
+unfolding plus_rows constant_rows plus_state plus_hardware plus_defined control_rows
+ready_by vars ctl le c = record {
+  shared = record {
+    line = record { error = omega arith; icode = omega arith; four = refl; ifun = omega arith; r_a = omega arith; r_b = omega arith; cnd = omega arith; derror = omega arith };
+    icode = yes (c.picks signals.icode);
+    ifun = yes (c.picks signals.ifun);
+    need_regids = yes (c.gates signals.need_regids);
+    need_val_c = yes (c.gates signals.need_val_c);
+    src_a = yes (c.picks signals.src_a);
+    src_b = yes (c.picks signals.src_b);
+    dst_e = yes (c.picks signals.dst_e);
+    dst_m = yes (c.picks signals.dst_m);
+    alu_a = yes (c.picks signals.alu_a);
+    alu_b = yes (c.picks signals.alu_b);
+    alufun = yes (c.picks signals.alufun);
+    set_cc = yes (c.gates signals.set_cc);
+    mem_addr = yes (c.picks signals.mem_addr);
+    mem_read = yes (c.gates signals.mem_read);
+    mem_write = yes (c.gates signals.mem_write);
+    mem_data = yes (c.picks signals.mem_data);
+    stat = yes (c.picks signals.stat);
+  };
+  code = omega arith;
+  pc = yes (c.picks signal.pc);
+}
+  where
+    yes : {b : Bool} → b ≡ true → IsTrue b
+    yes e = e
+
+-- each field of a signal is spelt at its place
+pub spelt_at_places : (w : List Bool) → Spells places w (number_of (fields_of w))
+unfolding fields_of
+spelt_at_places w = (refl, (refl, (refl, (refl, (refl, (refl, (refl, (refl, (refl, tt)))))))))
+
+pub places_stand : (vars : ℕ) → plus_bit_count ≤ vars → HavePlaces plus_rows places vars
+unfolding plus_rows constant_rows plus_state plus_hardware plus_defined control_rows
+places_stand vars le = record {
+  placed = refl;
+  inside = ((omega arith, omega arith), ((omega arith, omega arith), ((omega arith, omega arith), ((omega arith, omega arith), ((omega arith, omega arith), ((omega arith, omega arith), ((omega arith, omega arith), ((omega arith, omega arith), ((omega arith, omega arith), tt)))))))));
+}

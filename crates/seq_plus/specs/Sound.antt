@@ -1,0 +1,11 @@
+-- SEQ+'s table is sound, by tests that compute over the whole table.
+use Rattle.std.proofs.Common.{refl, arith}
+use Rattle.hcl_types.specs.Tables.{IsSound}
+use Rattle.dp_signals.specs.Tables.{constant_rows}
+use Rattle.dp_sequential.specs.Table.{control_rows}
+use Rattle.dp_signals.proofs.Sound.{sound, is_among, are_apart, inside_test, numbers_test, same_test}
+use Rattle.seq_plus.specs.PlusTable.{plus_rows, plus_state, plus_hardware, plus_defined}
+
+pub plus_sound : IsSound plus_rows
+unfolding plus_rows plus_state plus_hardware plus_defined control_rows constant_rows is_among are_apart inside_test numbers_test same_test
+plus_sound = sound plus_rows (omega arith) refl refl refl
