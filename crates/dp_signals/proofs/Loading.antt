@@ -4,7 +4,7 @@ use Rattle.std.proofs.lemmas.Bool.{and_parts}
 use Rattle.y86_base.specs.Words.{set}
 use Rattle.dp_signals.specs.PipeCycle.{all_load, any_asked, ending, loaded, updates_of, next}
 use Rattle.dp_signals.specs.PipeNames as row
-use Rattle.dp_signals.specs.declared.movers.CycleEnd.TheVariants.{Going}
+use Rattle.dp_signals.specs.declared.register_updates.CycleEnd.TheVariants.{Going}
 use Rattle.dp_signals.specs.declared.pipe_state.PipeState.{PipeState}
 
 is_not : (b : Bool) → not b ≡ true → b ≡ false

@@ -34,7 +34,7 @@ pub(crate) fn demand_gate(
 ) -> Result<u64, Memory>
     requires inside { IsInside b.old ctl.now }
     requires vars { bit_count ≤ b.old.vars }
-    requires view { HasFlow (length b.old.gates) y.now }
+    requires flow { HasFlow (length b.old.gates) y.now }
     requires known { Covers pipe_rows ctl.now }
     requires from { 1 ≤ number }
     requires to { number ≤ rule_count }

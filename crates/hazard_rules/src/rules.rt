@@ -27,7 +27,7 @@ use y86_base::{Memory, Variant};
 /// What stands in the stages, and the valuations of which obligations are asked: in any cycle, and in one that goes on.
 #[derive(Clone, Copy, Debug)]
 pub(crate) struct Premises {
-    pub view: FlowGates,
+    pub flow: FlowGates,
     pub always: u64,
     pub going: u64,
 }
@@ -42,15 +42,15 @@ fn premises_of(
     requires vars { bit_count + length atoms.now ≤ b.old.vars }
     requires few { length atoms.now ≤ 64 }
     ensures extends { ExtendsNet b.old b.new }
-    ensures view { IfOk result (λ p. IsFlow b.new p.view (λ w. flow_of v s.now (fields_of w))) }
+    ensures flow { IfOk result (λ p. IsFlow b.new p.flow (λ w. flow_of v s.now (fields_of w))) }
     ensures always { IfOk result (λ p. IsAtomGate b.new atoms.now p.always (λ w α. built.premise_when v s.now atoms.now true (fields_of w) α)) }
     ensures going { IfOk result (λ p. IsAtomGate b.new atoms.now p.going (λ w α. built.premise_when v s.now atoms.now false (fields_of w) α)) }
 {
-    let view = flow_gates(b, v, s)?;
-    let always = premise_gate(b, v, s, atoms, &view, true)?;
-    let going = premise_gate(b, v, s, atoms, &view, false)?;
+    let flow = flow_gates(b, v, s)?;
+    let always = premise_gate(b, v, s, atoms, &flow, true)?;
+    let going = premise_gate(b, v, s, atoms, &flow, false)?;
     Ok(Premises {
-        view,
+        flow,
         always,
         going,
     })
@@ -78,7 +78,7 @@ fn rule_gate(
     requires inside { IsInside b.old ctl.now }
     requires covers { Covers pipe_rows ctl.now }
     requires vars { bit_count + length atoms.now ≤ b.old.vars }
-    requires view { IsFlow b.old y.now (λ w. flow_of v s.now (fields_of w)) }
+    requires flow { IsFlow b.old y.now (λ w. flow_of v s.now (fields_of w)) }
     requires always_asked { IsAtomGate b.old atoms.now always (λ w α. built.premise_when v s.now atoms.now true (fields_of w) α) }
     requires going_asked { IsAtomGate b.old atoms.now going (λ w α. built.premise_when v s.now atoms.now false (fields_of w) α) }
     requires from { 1 ≤ number }
@@ -113,7 +113,7 @@ pub(crate) fn rules_told(
     let mut list = Vec::new(alloc);
     for i in 0..RULE_COUNT {
         let number = i + 1;
-        let gate = rule_gate(b, ctl, v, s, atoms, &p.view, p.always, p.going, number)?;
+        let gate = rule_gate(b, ctl, v, s, atoms, &p.flow, p.always, p.going, number)?;
         match list.push(Rule { number, gate }) {
             Ok(()) => {}
             Err(_) => return Err(Memory),

@@ -7,7 +7,7 @@ use Rattle.ctl_atoms.specs.Leaves.{Assignment, AtomsAre}
 use Rattle.ctl_formula.specs.declared.controls.Entry.{Entry}
 use Rattle.ctl_formula.specs.Picks.{EncodesControls}
 use Rattle.pipe_fields.specs.Layout.{bit_count, fields_of}
-use Rattle.pipe_motion.specs.declared.slots.StageFlowGates.{StageFlowGates}
+use Rattle.pipe_motion.specs.declared.flow_gates.StageFlowGates.{StageFlowGates}
 use Rattle.pipe_motion.specs.Flow.{StageFlow}
 use Rattle.pipe_motion.specs.Gates.{HasStageFlow, stage_flow_at}
 use Rattle.pipe_obligations.specs.FileSettings.{ValuationTruth}

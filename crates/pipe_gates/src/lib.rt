@@ -4,10 +4,10 @@
 
 mod columns;
 mod fields;
-mod movers;
+mod register_controls;
 mod stages;
 
 pub use columns::{RowTest, row_passes};
 pub use fields::{listed, row_has};
-pub use movers::{none_leaves, register_controls_of};
+pub use register_controls::{none_leaves, register_controls_of};
 pub use stages::{flow_gates, jump};

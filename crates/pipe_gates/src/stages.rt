@@ -201,7 +201,7 @@ fn write_flow(b: &mut NetBuilder, v: Variant) -> Result<StageFlowGates, Memory>
 }
 
 /// What stands in the stages of a valuation.
-#[tactic(auto, unfolding(pipe_obligations::specs::StageFlows::flow_of), using(nets::proofs::Truths::begins_more, nets::proofs::Truths::begins_self, pipe_motion::proofs::Kept::slot_kept))]
+#[tactic(auto, unfolding(pipe_obligations::specs::StageFlows::flow_of), using(nets::proofs::Truths::begins_more, nets::proofs::Truths::begins_self, pipe_motion::proofs::Kept::stage_flow_kept))]
 pub fn flow_gates(b: &mut NetBuilder, v: Variant, s: &Settings) -> Result<FlowGates, Memory>
     requires { bit_count ≤ b.old.vars }
     ensures extends { ExtendsNet b.old b.new }

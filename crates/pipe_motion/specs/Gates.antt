@@ -1,10 +1,10 @@
 -- Stage flows, flows and register controls as gates of a net: their truths under a valuation.
 use Rattle.std.specs.Prelude.{ℕ, ◌<◌, ◌≡◌, Bool, List, length}
 use Rattle.nets.specs.Nets.{Gates, truth}
-use Rattle.pipe_motion.specs.declared.slots.StageFlowGates.{StageFlowGates}
-use Rattle.pipe_motion.specs.declared.slots.FlowGates.{FlowGates}
-use Rattle.pipe_motion.specs.declared.slots.RegisterControlGates.{RegisterControlGates}
-use Rattle.pipe_motion.specs.declared.slots.RegisterControlsGates.{RegisterControlsGates}
+use Rattle.pipe_motion.specs.declared.flow_gates.StageFlowGates.{StageFlowGates}
+use Rattle.pipe_motion.specs.declared.flow_gates.FlowGates.{FlowGates}
+use Rattle.pipe_motion.specs.declared.flow_gates.RegisterControlGates.{RegisterControlGates}
+use Rattle.pipe_motion.specs.declared.flow_gates.RegisterControlsGates.{RegisterControlsGates}
 use Rattle.pipe_motion.specs.Flow.{StageFlow, Flow, RegisterControl, RegisterControls}
 
 -- ---- under a valuation

@@ -6,7 +6,7 @@ ghost use Rattle.nets.specs.Nets.{ExtendsNet, IsGate, truth};
 ghost use Rattle.pipe_motion.specs.Gates.{stage_flow_at, flow_at, HasStageFlow, HasFlow};
 ghost use Rattle.pipe_motion.specs.Flow as spec;
 
-use crate::slots::{FlowGates, StageFlowGates};
+use crate::flow_gates::{FlowGates, StageFlowGates};
 use nets::{NetBuilder, choose, excludes, implies, without};
 use y86_base::Memory;
 

@@ -5,16 +5,16 @@
 //! the next cycle D holds the `addq` still, E a bubble, and M the load.
 #![tactic(auto, using(nets::proofs::Truths::begins_more, nets::proofs::Truths::begins_self))]
 
+mod flow_gates;
 mod legal_flow;
 mod motion;
 mod obligations;
 mod settings;
-mod slots;
 
+pub use flow_gates::{FlowGates, RegisterControlGates, RegisterControlsGates, StageFlowGates};
 pub use legal_flow::{flow_legal_gate, of_youngest, path_gate, stops_gate};
 pub use motion::{fetched_flow, load_gate, move_flow};
 pub use obligations::{
     leaves_gate, obligation_23, obligation_24, obligation_25, obligation_26, obligation_27,
 };
 pub use settings::Settings;
-pub use slots::{FlowGates, RegisterControlGates, RegisterControlsGates, StageFlowGates};

@@ -4,7 +4,7 @@ ghost use Rattle.nets.specs.Nets.{ExtendsNet, IsGate, truth};
 ghost use Rattle.pipe_motion.specs.Gates.{stage_flow_at, flow_at, register_control_at, register_controls_at, HasStageFlow, HasFlow, HasRegisterControl, HasRegisterControls, IsStageFlow, IsFlow};
 ghost use Rattle.pipe_motion.specs.Flow as spec;
 
-use crate::slots::{FlowGates, RegisterControlGates, RegisterControlsGates, StageFlowGates};
+use crate::flow_gates::{FlowGates, RegisterControlGates, RegisterControlsGates, StageFlowGates};
 use nets::{NetBuilder, choose, neither, without};
 use y86_base::Memory;
 
@@ -24,7 +24,7 @@ fn moved_bit(
     old: u64,
     loaded: u64,
 ) -> Result<u64, Memory>
-    requires mover_in { HasRegisterControl (length b.old.gates) k.now }
+    requires control_stays { HasRegisterControl (length b.old.gates) k.now }
     requires old_in { old < length b.old.gates }
     requires loaded_in { loaded < length b.old.gates }
     ensures extends { ExtendsNet b.old b.new }
@@ -41,7 +41,7 @@ fn moved_stage(
     old: &StageFlowGates,
     loaded: &StageFlowGates,
 ) -> Result<StageFlowGates, Memory>
-    requires mover_in { HasRegisterControl (length b.old.gates) k.now }
+    requires control_stays { HasRegisterControl (length b.old.gates) k.now }
     requires old_in { HasStageFlow (length b.old.gates) old.now }
     requires loaded_in { HasStageFlow (length b.old.gates) loaded.now }
     ensures extends { ExtendsNet b.old b.new }
@@ -84,7 +84,7 @@ pub fn fetched_flow(
     s: &StageFlowGates,
 ) -> Result<StageFlowGates, Memory>
     requires good_in { good < length b.old.gates }
-    requires slot_in { HasStageFlow (length b.old.gates) s.now }
+    requires stage_flow_stays { HasStageFlow (length b.old.gates) s.now }
     ensures extends { ExtendsNet b.old b.new }
     ensures has_truth { IfOk result (λ r. IsStageFlow b.new r (λ w. spec.fetched_flow (truth b.old good w) (stage_flow_at b.old w s.now))) }
 {
@@ -102,7 +102,7 @@ pub fn fetched_flow(
 }
 
 /// The flow of the next cycle.
-#[tactic(auto, unfolding(crate::specs::Flow::moved_flow), using(nets::proofs::Truths::begins_more, nets::proofs::Truths::begins_self, crate::proofs::Kept::slot_kept, crate::proofs::Kept::mover_kept))]
+#[tactic(auto, unfolding(crate::specs::Flow::moved_flow), using(nets::proofs::Truths::begins_more, nets::proofs::Truths::begins_self, crate::proofs::Kept::stage_flow_kept, crate::proofs::Kept::control_kept))]
 pub fn move_flow(
     b: &mut NetBuilder,
     k: &RegisterControlsGates,

@@ -4,9 +4,9 @@ ghost use Rattle.nets.specs.Nets.{ExtendsNet, IsGate, truth};
 ghost use Rattle.pipe_motion.specs.Gates.{stage_flow_at, flow_at, register_control_at, register_controls_at, HasStageFlow, HasFlow, HasRegisterControl, HasRegisterControls};
 ghost use Rattle.pipe_motion.specs.Flow as spec;
 
+use crate::flow_gates::{FlowGates, RegisterControlGates, RegisterControlsGates, StageFlowGates};
 use crate::legal_flow::{flow_legal_gate, path_gate};
 use crate::motion::{fetched_flow, load_gate, move_flow};
-use crate::slots::{FlowGates, RegisterControlGates, RegisterControlsGates, StageFlowGates};
 use nets::{NetBuilder, choose, excludes, implies, neither, without};
 use y86_base::Memory;
 
@@ -28,7 +28,7 @@ pub fn leaves_gate(
 
 /// The register isn't stalled and bubbled.
 fn stall_excludes_bubble(b: &mut NetBuilder, k: &RegisterControlGates) -> Result<u64, Memory>
-    requires mover_in { HasRegisterControl (length b.old.gates) k.now }
+    requires control_stays { HasRegisterControl (length b.old.gates) k.now }
     ensures extends { ExtendsNet b.old b.new }
     ensures has_truth { IfOk result (λ g. IsGate b.new g (λ w. spec.stall_excludes_bubble (register_control_at b.old w k.now))) }
 {
@@ -141,7 +141,7 @@ fn path_kept(
 }
 
 /// The next flow is legal, nothing wrong comes to M or W, and the path is kept.
-#[tactic(auto, using(nets::proofs::Truths::begins_more, nets::proofs::Truths::begins_self, crate::proofs::Kept::view_kept, crate::proofs::Kept::movers_kept))]
+#[tactic(auto, using(nets::proofs::Truths::begins_more, nets::proofs::Truths::begins_self, crate::proofs::Kept::flow_kept, crate::proofs::Kept::controls_kept))]
 fn next_right(
     b: &mut NetBuilder,
     k: &RegisterControlsGates,

@@ -1,5 +1,5 @@
 //! Obligation 25: what is fetched, whether that is the next instruction, and the next cycle's flow.
-#![tactic(auto, using(nets::proofs::Truths::begins_more, ctl_formula::proofs::Inside::inside_more, pipe_motion::proofs::Kept::view_in, pipe_gates::proofs::Known::known_f_pc, pipe_gates::proofs::Known::known_f_stat, pipe_gates::proofs::Known::known_f_icode, pipe_gates::proofs::Known::known_f_ifun))]
+#![tactic(auto, using(nets::proofs::Truths::begins_more, ctl_formula::proofs::Inside::inside_more, pipe_motion::proofs::Kept::flow_stays, pipe_gates::proofs::Known::known_f_pc, pipe_gates::proofs::Known::known_f_stat, pipe_gates::proofs::Known::known_f_icode, pipe_gates::proofs::Known::known_f_ifun))]
 
 ghost use Rattle.std.specs.Prelude.{◌<◌, ◌≤◌, ◌&&◌, ◌||◌, false, get_or, if◌then◌else◌, IfOk, IsTrue, length};
 ghost use Rattle.nets.specs.Nets.{ExtendsNet, truth};
@@ -290,7 +290,7 @@ fn right_pc(
     requires inside { IsInside b.old ctl.now }
     requires known { IsTrue (has_picks ctl.now names.f_pc) }
     requires vars { bit_count ≤ b.old.vars }
-    requires view { HasFlow (length b.old.gates) y.now }
+    requires flow { HasFlow (length b.old.gates) y.now }
     ensures extends { ExtendsNet b.old b.new }
     ensures has_truth { IfOk result (λ g. IsControlGate b.new ctl.now g (λ w α cv. spec.right_pc v s.now (fields_of w) (flow_at b.old w y.now) (spec.register_controls_of α cv) α cv)) }
 {
@@ -306,7 +306,7 @@ fn right_pc(
 fn on_path(b: &mut NetBuilder, ctl: &Controls, y: &FlowGates) -> Result<u64, Memory>
     requires inside { IsInside b.old ctl.now }
     requires known { IsTrue (has_picks ctl.now names.f_pc) }
-    requires view { HasFlow (length b.old.gates) y.now }
+    requires flow { HasFlow (length b.old.gates) y.now }
     ensures extends { ExtendsNet b.old b.new }
     ensures has_truth { IfOk result (λ g. IsControlGate b.new ctl.now g (λ w α cv. words.picks_leaf cv names.f_pc (Name names.F_predPC) && path (flow_at b.old w y.now))) }
 {
@@ -332,7 +332,7 @@ fn fetch_good(
     requires inside { IsInside b.old ctl.now }
     requires known { IsTrue (has_picks ctl.now names.f_pc) }
     requires vars { bit_count ≤ b.old.vars }
-    requires view { HasFlow (length b.old.gates) y.now }
+    requires flow { HasFlow (length b.old.gates) y.now }
     ensures extends { ExtendsNet b.old b.new }
     ensures has_truth { IfOk result (λ g. IsControlGate b.new ctl.now g (λ w α cv. spec.fetch_good v s.now (fields_of w) (flow_at b.old w y.now) (spec.register_controls_of α cv) α cv)) }
 {
@@ -355,14 +355,14 @@ pub fn obligation_25(
 ) -> Result<u64, Memory>
     requires inside { IsInside b.old ctl.now }
     requires vars { bit_count ≤ b.old.vars }
-    requires view { HasFlow (length b.old.gates) y.now }
+    requires flow { HasFlow (length b.old.gates) y.now }
     requires known { Covers pipe_rows ctl.now }
     ensures extends { ExtendsNet b.old b.new }
     ensures has_truth { IfOk result (λ g. IsControlGate b.new ctl.now g (λ w α cv. spec.o25 v s.now (fields_of w) (flow_at b.old w y.now) (spec.register_controls_of α cv) α cv)) }
 {
-    let movers = register_controls_of(ctl);
+    let controls = register_controls_of(ctl);
     let good = fetch_good(b, ctl, v, s, y)?;
     let facts = fetched_facts(b, ctl, v, s)?;
-    let g = pipe_motion::obligation_25(b, &movers, good, &facts, y, s.je, s.rm)?;
+    let g = pipe_motion::obligation_25(b, &controls, good, &facts, y, s.je, s.rm)?;
     Ok(g)
 }

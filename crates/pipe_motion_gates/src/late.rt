@@ -18,7 +18,7 @@ use y86_base::{Memory, Variant};
 #[tactic(auto, unfolding(pipe_fields::specs::Layout::fields_of), using(nets::proofs::Truths::begins_more, nets::proofs::Truths::begins_self))]
 fn store_behind_load(b: &mut NetBuilder, v: Variant, y: &FlowGates) -> Result<u64, Memory>
     requires vars { bit_count ≤ b.old.vars }
-    requires view { HasFlow (length b.old.gates) y.now }
+    requires flow { HasFlow (length b.old.gates) y.now }
     ensures extends { ExtendsNet b.old b.new }
     ensures has_truth { IfOk result (λ g. IsGate b.new g (λ w.
         stores_val_a (row v (fields_of w).d.icode).memory && ((flow_at b.old w y.now).e.good && not ((fields_of w).e.dst_m == 15)))) }
@@ -40,8 +40,8 @@ pub fn no_late_load(
     plain: u64,
 ) -> Result<u64, Memory>
     requires vars { bit_count ≤ b.old.vars }
-    requires view { HasFlow (length b.old.gates) y.now }
-    requires movers { HasRegisterControls (length b.old.gates) k.now }
+    requires flow { HasFlow (length b.old.gates) y.now }
+    requires controls { HasRegisterControls (length b.old.gates) k.now }
     requires equal_in { equal < length b.old.gates }
     requires plain_in { plain < length b.old.gates }
     ensures extends { ExtendsNet b.old b.new }
@@ -65,7 +65,7 @@ pub fn no_early_jump(
     right: u64,
     plain: u64,
 ) -> Result<u64, Memory>
-    requires view { HasFlow (length b.old.gates) y.now }
+    requires flow { HasFlow (length b.old.gates) y.now }
     requires right_in { right < length b.old.gates }
     requires plain_in { plain < length b.old.gates }
     ensures extends { ExtendsNet b.old b.new }
@@ -84,7 +84,7 @@ pub fn no_early_ret(
     right: u64,
     plain: u64,
 ) -> Result<u64, Memory>
-    requires view { HasFlow (length b.old.gates) y.now }
+    requires flow { HasFlow (length b.old.gates) y.now }
     requires right_in { right < length b.old.gates }
     requires plain_in { plain < length b.old.gates }
     ensures extends { ExtendsNet b.old b.new }

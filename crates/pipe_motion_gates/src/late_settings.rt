@@ -29,7 +29,7 @@ use pipe_motion::{FlowGates, Settings};
 use y86_base::{Memory, Variant};
 
 /// Not: a good store leaves D while E loads its source, where a gate holds.
-#[tactic(auto, using(pipe_gates::proofs::Known::known_d_srcA, pipe_motion::proofs::Kept::view_in, ctl_formula::proofs::Inside::inside_more))]
+#[tactic(auto, using(pipe_gates::proofs::Known::known_d_srcA, pipe_motion::proofs::Kept::flow_stays, ctl_formula::proofs::Inside::inside_more))]
 fn no_load_passed(
     b: &mut NetBuilder,
     ctl: &Controls,
@@ -40,20 +40,20 @@ fn no_load_passed(
     requires inside { IsInside b.old ctl.now }
     requires known { Covers pipe_rows ctl.now }
     requires vars { bit_count ≤ b.old.vars }
-    requires view { HasFlow (length b.old.gates) y.now }
+    requires flow { HasFlow (length b.old.gates) y.now }
     requires plain_in { plain < length b.old.gates }
     ensures extends { ExtendsNet b.old b.new }
     ensures has_truth { IfOk result (λ g. IsControlGate b.new ctl.now g (λ w α cv.
         not (leaves_past_load v (fields_of w) (flow_at b.old w y.now) (register_controls_of α cv) cv && truth b.old plain w))) }
 {
-    let movers = register_controls_of(ctl);
+    let controls = register_controls_of(ctl);
     let equal = picks_leaf(b, ctl, signal::D_SRC_A, ExpectedLeaf::Field(E_DST_M))?;
-    let g = no_late_load(b, v, equal, &movers, y, plain)?;
+    let g = no_late_load(b, v, equal, &controls, y, plain)?;
     Ok(g)
 }
 
 /// Not: E holds a missed jump, and f_pc is where it goes, where a gate holds.
-#[tactic(auto, using(pipe_gates::proofs::Known::known_f_pc, pipe_motion::proofs::Kept::view_in, ctl_formula::proofs::Inside::inside_more))]
+#[tactic(auto, using(pipe_gates::proofs::Known::known_f_pc, pipe_motion::proofs::Kept::flow_stays, ctl_formula::proofs::Inside::inside_more))]
 fn no_jump_early(
     b: &mut NetBuilder,
     ctl: &Controls,
@@ -64,7 +64,7 @@ fn no_jump_early(
     requires inside { IsInside b.old ctl.now }
     requires known { Covers pipe_rows ctl.now }
     requires vars { bit_count ≤ b.old.vars }
-    requires view { HasFlow (length b.old.gates) y.now }
+    requires flow { HasFlow (length b.old.gates) y.now }
     requires plain_in { plain < length b.old.gates }
     ensures extends { ExtendsNet b.old b.new }
     ensures has_truth { IfOk result (λ g. IsControlGate b.new ctl.now g (λ w α cv.
@@ -77,7 +77,7 @@ fn no_jump_early(
 }
 
 /// Not: M holds a ret that doesn't stop, and f_pc is where it goes, where a gate holds.
-#[tactic(auto, using(pipe_gates::proofs::Known::known_f_pc, pipe_motion::proofs::Kept::view_in, ctl_formula::proofs::Inside::inside_more))]
+#[tactic(auto, using(pipe_gates::proofs::Known::known_f_pc, pipe_motion::proofs::Kept::flow_stays, ctl_formula::proofs::Inside::inside_more))]
 fn no_ret_early(
     b: &mut NetBuilder,
     ctl: &Controls,
@@ -86,7 +86,7 @@ fn no_ret_early(
 ) -> Result<u64, Memory>
     requires inside { IsInside b.old ctl.now }
     requires known { Covers pipe_rows ctl.now }
-    requires view { HasFlow (length b.old.gates) y.now }
+    requires flow { HasFlow (length b.old.gates) y.now }
     requires plain_in { plain < length b.old.gates }
     ensures extends { ExtendsNet b.old b.new }
     ensures has_truth { IfOk result (λ g. IsControlGate b.new ctl.now g (λ w α cv.
@@ -105,7 +105,7 @@ fn no_ret_early(
 /// What stands in the stages, and the valuations that may show a setting.
 #[derive(Clone, Copy, Debug)]
 struct PermissiveFlow {
-    view: FlowGates,
+    flow: FlowGates,
     plain: u64,
 }
 
@@ -120,12 +120,12 @@ fn permissive_legal(
     requires few { length atoms.now ≤ 64 }
     requires free { permissive s.now ≡ s.now }
     ensures extends { ExtendsNet b.old b.new }
-    ensures view { IfOk result (λ r. IsFlow b.new r.view (λ w. flow_of v s.now (fields_of w))) }
+    ensures flow { IfOk result (λ r. IsFlow b.new r.flow (λ w. flow_of v s.now (fields_of w))) }
     ensures plain { IfOk result (λ r. IsAtomGate b.new atoms.now r.plain (λ w α. may_witness v s.now atoms.now (fields_of w) α)) }
 {
-    let view = flow_gates(b, v, s)?;
-    let plain = premise_gate(b, v, s, atoms, &view, false)?;
-    Ok(PermissiveFlow { view, plain })
+    let flow = flow_gates(b, v, s)?;
+    let plain = premise_gate(b, v, s, atoms, &flow, false)?;
+    Ok(PermissiveFlow { flow, plain })
 }
 
 /// The gates that decide lf, je and rm: each setting holds where its gate is false at some valuation.
@@ -138,7 +138,7 @@ pub struct Late {
 
 /// The gates that decide lf, je and rm, each false of the valuations that show it. The settings are those with all that is
 /// early or late allowed.
-#[tactic(auto, using(pipe_motion::proofs::Kept::view_in, ctl_formula::proofs::Inside::inside_more, nets::proofs::Truths::begins_more))]
+#[tactic(auto, using(pipe_motion::proofs::Kept::flow_stays, ctl_formula::proofs::Inside::inside_more, nets::proofs::Truths::begins_more))]
 pub fn late_gates(
     b: &mut NetBuilder,
     ctl: &Controls,
@@ -157,8 +157,8 @@ pub fn late_gates(
     ensures ret { IfOk result (λ r. IsTruthGate b.new ctl.now atoms.now r.rm (λ c α cv. not (witnesses_rm v s.now atoms.now c α cv))) }
 {
     let p = permissive_legal(b, v, s, atoms)?;
-    let lf = no_load_passed(b, ctl, v, &p.view, p.plain)?;
-    let je = no_jump_early(b, ctl, v, &p.view, p.plain)?;
-    let rm = no_ret_early(b, ctl, &p.view, p.plain)?;
+    let lf = no_load_passed(b, ctl, v, &p.flow, p.plain)?;
+    let je = no_jump_early(b, ctl, v, &p.flow, p.plain)?;
+    let rm = no_ret_early(b, ctl, &p.flow, p.plain)?;
     Ok(Late { lf, je, rm })
 }

@@ -45,7 +45,7 @@ fn awaits_load(b: &mut NetBuilder, v: Variant, lf: bool) -> Result<u64, Memory>
 /// A good instruction in E waits for the good one in M to load a register.
 fn source_waits(b: &mut NetBuilder, v: Variant, lf: bool, y: &FlowGates) -> Result<u64, Memory>
     requires vars { bit_count ≤ b.old.vars }
-    requires view { HasFlow (length b.old.gates) y.now }
+    requires flow { HasFlow (length b.old.gates) y.now }
     ensures extends { ExtendsNet b.old b.new }
     ensures has_truth { IfOk result (λ g. IsGate b.new g (λ w.
         ((flow_at b.old w y.now).e.good && ((flow_at b.old w y.now).m.good && not ((fields_of w).m.dst_m == 15))) && built.awaits_load v lf (fields_of w))) }
@@ -61,7 +61,7 @@ fn source_waits(b: &mut NetBuilder, v: Variant, lf: bool, y: &FlowGates) -> Resu
 /// No good instruction in E waits for a load in M.
 fn no_load_use_in_e(b: &mut NetBuilder, v: Variant, lf: bool, y: &FlowGates) -> Result<u64, Memory>
     requires vars { bit_count ≤ b.old.vars }
-    requires view { HasFlow (length b.old.gates) y.now }
+    requires flow { HasFlow (length b.old.gates) y.now }
     ensures extends { ExtendsNet b.old b.new }
     ensures has_truth { IfOk result (λ g. IsGate b.new g (λ w. spec.no_load_use_in_e v lf (fields_of w) (flow_at b.old w y.now))) }
 {
@@ -171,7 +171,7 @@ fn stages_tell_back(
 ) -> Result<u64, Memory>
     requires vars { bit_count + length atoms.now ≤ b.old.vars }
     requires few { length atoms.now ≤ 64 }
-    requires view { HasFlow (length b.old.gates) y.now }
+    requires flow { HasFlow (length b.old.gates) y.now }
     ensures extends { ExtendsNet b.old b.new }
     ensures has_truth { IfOk result (λ g. IsAtomGate b.new atoms.now g (λ w α. built.back_matches_in_stages v tv atoms.now (fields_of w) (flow_at b.old w y.now) α)) }
 {
@@ -243,7 +243,7 @@ pub fn legal_gate(
 ) -> Result<u64, Memory>
     requires vars { bit_count + length atoms.now ≤ b.old.vars }
     requires few { length atoms.now ≤ 64 }
-    requires view { HasFlow (length b.old.gates) y.now }
+    requires flow { HasFlow (length b.old.gates) y.now }
     ensures extends { ExtendsNet b.old b.new }
     ensures has_truth { IfOk result (λ g. IsAtomGate b.new atoms.now g (λ w α. built.legal_with v tv lf je rm atoms.now (fields_of w) (flow_at b.old w y.now) α)) }
 {

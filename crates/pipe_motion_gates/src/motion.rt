@@ -21,46 +21,46 @@ pub fn obligation_23(b: &mut NetBuilder, ctl: &Controls) -> Result<u64, Memory>
     ensures extends { ExtendsNet b.old b.new }
     ensures has_truth { IfOk result (λ g. IsControlGate b.new ctl.now g (λ w α cv. motion.o23 (register_controls_of α cv))) }
 {
-    let movers = register_controls_of(ctl);
-    let g = pipe_motion::obligation_23(b, &movers)?;
+    let controls = register_controls_of(ctl);
+    let g = pipe_motion::obligation_23(b, &controls)?;
     Ok(g)
 }
 
 /// Obligation 24: no good instruction is lost or doubled.
 pub fn obligation_24(b: &mut NetBuilder, ctl: &Controls, y: &FlowGates) -> Result<u64, Memory>
     requires inside { IsInside b.old ctl.now }
-    requires view { HasFlow (length b.old.gates) y.now }
+    requires flow { HasFlow (length b.old.gates) y.now }
     requires known { Covers pipe_rows ctl.now }
     ensures extends { ExtendsNet b.old b.new }
     ensures has_truth { IfOk result (λ g. IsControlGate b.new ctl.now g (λ w α cv. motion.o24 (register_controls_of α cv) (flow_at b.old w y.now))) }
 {
-    let movers = register_controls_of(ctl);
-    let g = pipe_motion::obligation_24(b, &movers, y)?;
+    let controls = register_controls_of(ctl);
+    let g = pipe_motion::obligation_24(b, &controls, y)?;
     Ok(g)
 }
 
 /// Obligation 26: behind bubbles the good instruction in D leaves.
 pub fn obligation_26(b: &mut NetBuilder, ctl: &Controls, y: &FlowGates) -> Result<u64, Memory>
     requires inside { IsInside b.old ctl.now }
-    requires view { HasFlow (length b.old.gates) y.now }
+    requires flow { HasFlow (length b.old.gates) y.now }
     requires known { Covers pipe_rows ctl.now }
     ensures extends { ExtendsNet b.old b.new }
     ensures has_truth { IfOk result (λ g. IsControlGate b.new ctl.now g (λ w α cv. motion.o26 (register_controls_of α cv) (flow_at b.old w y.now))) }
 {
-    let movers = register_controls_of(ctl);
-    let g = pipe_motion::obligation_26(b, &movers, y)?;
+    let controls = register_controls_of(ctl);
+    let g = pipe_motion::obligation_26(b, &controls, y)?;
     Ok(g)
 }
 
 /// Obligation 27: into an empty pipeline D loads.
 pub fn obligation_27(b: &mut NetBuilder, ctl: &Controls, y: &FlowGates) -> Result<u64, Memory>
     requires inside { IsInside b.old ctl.now }
-    requires view { HasFlow (length b.old.gates) y.now }
+    requires flow { HasFlow (length b.old.gates) y.now }
     requires known { Covers pipe_rows ctl.now }
     ensures extends { ExtendsNet b.old b.new }
     ensures has_truth { IfOk result (λ g. IsControlGate b.new ctl.now g (λ w α cv. motion.o27 (register_controls_of α cv) (flow_at b.old w y.now))) }
 {
-    let movers = register_controls_of(ctl);
-    let g = pipe_motion::obligation_27(b, &movers, y)?;
+    let controls = register_controls_of(ctl);
+    let g = pipe_motion::obligation_27(b, &controls, y)?;
     Ok(g)
 }

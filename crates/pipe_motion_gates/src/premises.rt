@@ -32,7 +32,7 @@ pub fn demanded_gate(
 ) -> Result<u64, Memory>
     requires vars { bit_count + length atoms.now ≤ b.old.vars }
     requires few { length atoms.now ≤ 64 }
-    requires view { HasFlow (length b.old.gates) y.now }
+    requires flow { HasFlow (length b.old.gates) y.now }
     ensures extends { ExtendsNet b.old b.new }
     ensures has_truth { IfOk result (λ g. IsAtomGate b.new atoms.now g (λ w α. allowed v (fields_of w)
         && (built.legal_with v tv lf je rm atoms.now (fields_of w) (flow_at b.old w y.now) α && (always || not (spec.is_stopping (fields_of w)))))) }
@@ -59,7 +59,7 @@ pub fn premise_gate(
 ) -> Result<u64, Memory>
     requires vars { bit_count + length atoms.now ≤ b.old.vars }
     requires few { length atoms.now ≤ 64 }
-    requires view { IsFlow b.old y.now (λ w. spec.flow_of v s.now (fields_of w)) }
+    requires flow { IsFlow b.old y.now (λ w. spec.flow_of v s.now (fields_of w)) }
     ensures extends { ExtendsNet b.old b.new }
     ensures has_truth { IfOk result (λ g. IsAtomGate b.new atoms.now g (λ w α. built.premise_when v s.now atoms.now always (fields_of w) α)) }
 {

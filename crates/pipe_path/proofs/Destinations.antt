@@ -6,7 +6,7 @@ use Rattle.y86_isa.specs.declared.machine.Rec.{Rec}
 use Rattle.y86_base.specs.Stat.{stat_of}
 use Rattle.dp_signals.specs.PipeCycle.{retires, record_of}
 use Rattle.dp_signals.specs.PipeNames as row
-use Rattle.dp_signals.specs.declared.movers.CycleEnd.{CycleEnd}
+use Rattle.dp_signals.specs.declared.register_updates.CycleEnd.{CycleEnd}
 use Rattle.dp_signals.specs.declared.pipe_state.PipeState.{PipeState}
 use Rattle.pipe_path.specs.Calls.{record_in}
 use Rattle.pipe_path.specs.Destinations.{HasDestinations}

@@ -3,7 +3,7 @@ use Rattle.std.proofs.Common.{◌≡◌, ℕ, Bool, true, false, length, Option,
 use Rattle.std.specs.Option.{option_to_list}
 use Rattle.y86_isa.specs.declared.machine.Rec.{Rec}
 use Rattle.dp_signals.specs.PipeCycle.{record_of, retires}
-use Rattle.dp_signals.specs.declared.movers.CycleEnd.{CycleEnd}
+use Rattle.dp_signals.specs.declared.register_updates.CycleEnd.{CycleEnd}
 use Rattle.dp_signals.specs.declared.pipe_state.PipeState.{PipeState}
 use Rattle.pipe_path.specs.Calls.{record_in}
 use Rattle.pipe_path.specs.Pipe.{call_answer}

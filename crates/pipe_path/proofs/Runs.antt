@@ -9,8 +9,8 @@ use Rattle.hcl_types.specs.declared.term.Term.{Term}
 use Rattle.dp_signals.specs.PipeCycle.{ending, retires}
 use Rattle.dp_signals.specs.PipeEquations.{Solves}
 use Rattle.dp_signals.specs.PipeRun as run
-use Rattle.dp_signals.specs.declared.movers.CycleEnd.{CycleEnd}
-use Rattle.dp_signals.specs.declared.movers.CycleEnd.TheVariants.{Going, Stopped, Pip}
+use Rattle.dp_signals.specs.declared.register_updates.CycleEnd.{CycleEnd}
+use Rattle.dp_signals.specs.declared.register_updates.CycleEnd.TheVariants.{Going, Stopped, Pip}
 use Rattle.pipe_path.specs.declared.pipe.Cycled.{Cycled}
 use Rattle.pipe_path.specs.declared.pipe.Cycled.TheVariants as told
 use Rattle.pipe_path.specs.Calls.{IsRun, record_in, CallsAreTheRun}

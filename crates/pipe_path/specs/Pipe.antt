@@ -14,8 +14,8 @@ use Rattle.dp_signals.specs.PipeEquations.{Solves}
 use Rattle.dp_signals.specs.PipeNames as row
 use Rattle.dp_signals.specs.PipeRun.{end_by, end_pc}
 use Rattle.dp_signals.specs.PipeState.{start_state}
-use Rattle.dp_signals.specs.declared.movers.CycleEnd.{CycleEnd}
-use Rattle.dp_signals.specs.declared.movers.CycleEnd.TheVariants.{Going, Stopped, Pip}
+use Rattle.dp_signals.specs.declared.register_updates.CycleEnd.{CycleEnd}
+use Rattle.dp_signals.specs.declared.register_updates.CycleEnd.TheVariants.{Going, Stopped, Pip}
 use Rattle.dp_signals.specs.declared.pipe_state.PipeState.{PipeState}
 use Rattle.pipe_path.specs.declared.pipe.Cycled.{Cycled}
 use Rattle.pipe_path.specs.declared.pipe.Cycled.TheVariants as told

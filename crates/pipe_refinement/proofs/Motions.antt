@@ -7,7 +7,7 @@ use Rattle.pipe_refinement.specs.Facts.{GoodFetch, MotionFacts}
 use Rattle.pipe_refinement.specs.Invariant.{RunContext, run_stage_flow, run_flow}
 use Rattle.pipe_refinement.specs.Kinds.{Schedule, Good, StageKind, requested_controls, fetched_kind, in_f, is_good, is_wrong, next_schedule}
 use Rattle.pipe_motion.specs.Flow.{RegisterControls, fetched_flow, flow_legal, loads, moved_flow, next_is_right, path, path_is_kept}
-use Rattle.pipe_refinement.proofs.Moves.{fetched_is, keeps, keeps_good, leaves_by, none_both, view_moved}
+use Rattle.pipe_refinement.proofs.Moves.{fetched_is, keeps, keeps_good, leaves_by, none_both, flow_moved}
 use Rattle.pipe_refinement.proofs.Views.{seen}
 
 pub good_kind : (b : Bool) → is_good (fetched_kind b) ≡ b
@@ -76,11 +76,11 @@ module _ (x : RunContext) (p : PipeState) (f : ℕ → ℕ) (c : Schedule) (fetc
   kept_now : keeps_good k c ≡ true
   kept_now = keeps x k c q.kept
 
-  next_view : moved_flow k (fetched_flow fetch_good (run_stage_flow x Good (in_f c))) (run_flow x c) ≡ run_flow x c'
-  next_view = ap (λ z. moved_flow k z (run_flow x c)) (fetched_is x fetch_good (in_f c)) ∙ view_moved x k g c kept_now
+  next_flow : moved_flow k (fetched_flow fetch_good (run_stage_flow x Good (in_f c))) (run_flow x c) ≡ run_flow x c'
+  next_flow = ap (λ z. moved_flow k z (run_flow x c)) (fetched_is x fetch_good (in_f c)) ∙ flow_moved x k g c kept_now
 
   right : next_is_right x.s.je x.s.rm k fetch_good (run_flow x c) (run_flow x c') ≡ true
-  right = subst (λ z. next_is_right x.s.je x.s.rm k fetch_good (run_flow x c) z ≡ true) next_view q.next
+  right = subst (λ z. next_is_right x.s.je x.s.rm k fetch_good (run_flow x c) z ≡ true) next_flow q.next
 
   abbrev path_kept : Bool
   path_kept = path_is_kept k fetch_good (path (run_flow x c)) (path (run_flow x c'))

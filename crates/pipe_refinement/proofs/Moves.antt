@@ -4,11 +4,11 @@ use Rattle.std.proofs.lemmas.Bool.{and_parts}
 use Rattle.dp_signals.specs.PipeCycle.{any_both, ending, is_both, loaded_d, loaded_e, loaded_m, loaded_w, moved, update_by, updates_of, next}
 use Rattle.dp_signals.specs.PipeNames as name
 use Rattle.dp_signals.specs.PipeState.{bubble_d, bubble_e, bubble_m, bubble_w}
-use Rattle.dp_signals.specs.declared.movers.CycleEnd.TheVariants.{Going}
+use Rattle.dp_signals.specs.declared.register_updates.CycleEnd.TheVariants.{Going}
 use Rattle.dp_signals.specs.declared.pipe_state.PipeState.{PipeState}
 use Rattle.pipe_refinement.specs.Invariant.{RunContext, run_stage_flow, run_flow}
 use Rattle.pipe_refinement.specs.Kinds.{Schedule, Bubbled, Good, StageKind, Wrong, requested_controls, count, fetched_kind, in_d, in_e, in_f, in_m, in_w, is_good, is_wrong, next_schedule, moved_by}
-use Rattle.pipe_motion.specs.Flow.{RegisterControl, RegisterControls, StageFlow, Flow, fetched_flow, loads, moved_stage as moved_slot, moved_flow, o23, o24, entering_w}
+use Rattle.pipe_motion.specs.Flow.{RegisterControl, RegisterControls, StageFlow, Flow, fetched_flow, loads, moved_stage as moved_stage_flow, moved_flow, o23, o24, entering_w}
 
 -- ---- one register
 
@@ -149,25 +149,25 @@ module _ (k : RegisterControls) (g : StageKind) (c : Schedule) (h : keeps_good k
 
 -- ---- stage flows
 
-same_slot : (x : RunContext) (a : StageKind) (i j : ℕ) → (is_good a ≡ true → i ≡ j) → run_stage_flow x a i ≡ run_stage_flow x a j
-same_slot x Bubbled i j h = refl
-same_slot x Wrong i j h = refl
-same_slot x Good i j h = ap (run_stage_flow x Good) (h refl)
+same_stage_flow : (x : RunContext) (a : StageKind) (i j : ℕ) → (is_good a ≡ true → i ≡ j) → run_stage_flow x a i ≡ run_stage_flow x a j
+same_stage_flow x Bubbled i j h = refl
+same_stage_flow x Wrong i j h = refl
+same_stage_flow x Good i j h = ap (run_stage_flow x Good) (h refl)
 
-slot_moved : (x : RunContext) (k : RegisterControl) (a b : StageKind) (i j l : ℕ) → (k.stall ≡ true → is_good a ≡ true → i ≡ l) → (loads k ≡ true → is_good b ≡ true → j ≡ l) →
-    moved_slot k (run_stage_flow x a i) (run_stage_flow x b j) ≡ run_stage_flow x (moved_by k a Bubbled b) l
-slot_moved x k a b i j l h g = by k.stall k.bubble refl refl h g
+stage_flow_moved : (x : RunContext) (k : RegisterControl) (a b : StageKind) (i j l : ℕ) → (k.stall ≡ true → is_good a ≡ true → i ≡ l) → (loads k ≡ true → is_good b ≡ true → j ≡ l) →
+    moved_stage_flow k (run_stage_flow x a i) (run_stage_flow x b j) ≡ run_stage_flow x (moved_by k a Bubbled b) l
+stage_flow_moved x k a b i j l h g = by k.stall k.bubble refl refl h g
   where
     by : (s t : Bool) → k.stall ≡ s → k.bubble ≡ t → (s ≡ true → is_good a ≡ true → i ≡ l) → (not (s || t) ≡ true → is_good b ≡ true → j ≡ l) →
-        moved_slot k (run_stage_flow x a i) (run_stage_flow x b j) ≡ run_stage_flow x (moved_by k a Bubbled b) l
-    by true t p q h g = rw p (same_slot x a i l (h refl))
+        moved_stage_flow k (run_stage_flow x a i) (run_stage_flow x b j) ≡ run_stage_flow x (moved_by k a Bubbled b) l
+    by true t p q h g = rw p (same_stage_flow x a i l (h refl))
     by false true p q h g = rw (p, q) refl
-    by false false p q h g = rw (p, q) (same_slot x b j l (g refl))
+    by false false p q h g = rw (p, q) (same_stage_flow x b j l (g refl))
 
-moved_to_w : (k : RegisterControl) (a b : StageFlow) → moved_slot k (entering_w a) (entering_w b) ≡ entering_w (moved_slot k a b)
+moved_to_w : (k : RegisterControl) (a b : StageFlow) → moved_stage_flow k (entering_w a) (entering_w b) ≡ entering_w (moved_stage_flow k a b)
 moved_to_w k a b = by k.stall k.bubble refl refl
   where
-    by : (s t : Bool) → k.stall ≡ s → k.bubble ≡ t → moved_slot k (entering_w a) (entering_w b) ≡ entering_w (moved_slot k a b)
+    by : (s t : Bool) → k.stall ≡ s → k.bubble ≡ t → moved_stage_flow k (entering_w a) (entering_w b) ≡ entering_w (moved_stage_flow k a b)
     by true t p q = rw p refl
     by false true p q = rw (p, q) refl
     by false false p q = rw (p, q) refl
@@ -177,25 +177,25 @@ pub fetched_is : (x : RunContext) (good : Bool) (i : ℕ) → fetched_flow good 
 fetched_is x true i = refl
 fetched_is x false i = refl
 
-abbrev pub view_by : StageFlow → StageFlow → StageFlow → StageFlow → Flow
-view_by d e m w = record { d = d; e = e; m = m; w = w }
+abbrev pub flow_by : StageFlow → StageFlow → StageFlow → StageFlow → Flow
+flow_by d e m w = record { d = d; e = e; m = m; w = w }
 
-four : {d e m w d' e' m' w' : StageFlow} → d ≡ d' → e ≡ e' → m ≡ m' → w ≡ w' → view_by d e m w ≡ view_by d' e' m' w'
+four : {d e m w d' e' m' w' : StageFlow} → d ≡ d' → e ≡ e' → m ≡ m' → w ≡ w' → flow_by d e m w ≡ flow_by d' e' m' w'
 four p q r s = rw (p, q, r, s) refl
 
 -- the next flow is the moved one
-pub view_moved : (x : RunContext) (k : RegisterControls) (g : StageKind) (c : Schedule) → keeps_good k c ≡ true →
+pub flow_moved : (x : RunContext) (k : RegisterControls) (g : StageKind) (c : Schedule) → keeps_good k c ≡ true →
     moved_flow k (run_stage_flow x g (in_f c)) (run_flow x c) ≡ run_flow x (next_schedule k g c)
 unfolding run_flow moved_flow
-view_moved x k g c h =
-    let d : moved_slot k.d (run_stage_flow x c.d (in_d c)) (run_stage_flow x g (in_f c)) ≡ run_stage_flow x (moved_by k.d c.d Bubbled g) (in_d (next_schedule k g c)) =
-    slot_moved x k.d c.d g _ _ _ (λ s a. sym (stay_in_d k g c h s)) (λ s a. sym (load_in_d k g c h s)) in
-    let e : moved_slot k.e (run_stage_flow x c.e (in_e c)) (run_stage_flow x c.d (in_d c)) ≡ run_stage_flow x (moved_by k.e c.e Bubbled c.d) (in_e (next_schedule k g c)) =
-    slot_moved x k.e c.e c.d _ _ _ (λ s a. absurd (gone_e s a)) (λ s a. sym (next_in_e k g c h)) in
-    let m : moved_slot k.m (run_stage_flow x c.m (in_m c)) (run_stage_flow x c.e (in_e c)) ≡ run_stage_flow x (moved_by k.m c.m Bubbled c.e) (in_m (next_schedule k g c)) =
-    slot_moved x k.m c.m c.e _ _ _ (λ s a. absurd (gone_m s a)) (λ s a. sym (next_in_m k g c h)) in
-    let w : moved_slot k.w (entering_w (run_stage_flow x c.w (in_w c))) (entering_w (run_stage_flow x c.m (in_m c))) ≡ entering_w (run_stage_flow x (moved_by k.w c.w Bubbled c.m) (in_w (next_schedule k g c))) =
-    moved_to_w k.w (run_stage_flow x c.w (in_w c)) (run_stage_flow x c.m (in_m c)) ∙ ap entering_w (slot_moved x k.w c.w c.m _ _ _ (λ s a. absurd (gone_w s a)) (λ s a. refl)) in
+flow_moved x k g c h =
+    let d : moved_stage_flow k.d (run_stage_flow x c.d (in_d c)) (run_stage_flow x g (in_f c)) ≡ run_stage_flow x (moved_by k.d c.d Bubbled g) (in_d (next_schedule k g c)) =
+    stage_flow_moved x k.d c.d g _ _ _ (λ s a. sym (stay_in_d k g c h s)) (λ s a. sym (load_in_d k g c h s)) in
+    let e : moved_stage_flow k.e (run_stage_flow x c.e (in_e c)) (run_stage_flow x c.d (in_d c)) ≡ run_stage_flow x (moved_by k.e c.e Bubbled c.d) (in_e (next_schedule k g c)) =
+    stage_flow_moved x k.e c.e c.d _ _ _ (λ s a. absurd (gone_e s a)) (λ s a. sym (next_in_e k g c h)) in
+    let m : moved_stage_flow k.m (run_stage_flow x c.m (in_m c)) (run_stage_flow x c.e (in_e c)) ≡ run_stage_flow x (moved_by k.m c.m Bubbled c.e) (in_m (next_schedule k g c)) =
+    stage_flow_moved x k.m c.m c.e _ _ _ (λ s a. absurd (gone_m s a)) (λ s a. sym (next_in_m k g c h)) in
+    let w : moved_stage_flow k.w (entering_w (run_stage_flow x c.w (in_w c))) (entering_w (run_stage_flow x c.m (in_m c))) ≡ entering_w (run_stage_flow x (moved_by k.w c.w Bubbled c.m) (in_w (next_schedule k g c))) =
+    moved_to_w k.w (run_stage_flow x c.w (in_w c)) (run_stage_flow x c.m (in_m c)) ∙ ap entering_w (stage_flow_moved x k.w c.w c.m _ _ _ (λ s a. absurd (gone_w s a)) (λ s a. refl)) in
     four d e m w
   where
     gone_e : k.e.stall ≡ true → is_good c.e ≡ true → ⊥

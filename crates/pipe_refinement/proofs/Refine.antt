@@ -13,7 +13,7 @@ use Rattle.dp_signals.specs.PipeCycle.{ending}
 use Rattle.dp_signals.specs.PipeEquations.{Solves}
 use Rattle.dp_signals.specs.PipeRun.{PipeHistory, PipeRun, after_cycle, end_by, ended_by_status}
 use Rattle.dp_signals.specs.PipeState.{start_state}
-use Rattle.dp_signals.specs.declared.movers.CycleEnd.TheVariants.{Going}
+use Rattle.dp_signals.specs.declared.register_updates.CycleEnd.TheVariants.{Going}
 use Rattle.dp_signals.proofs.PipeRows.{pipe_hardware_rows, pipe_holds}
 use Rattle.pipe_refinement.specs.Invariant.{RunContext, CouplingInvariant, run_flow}
 use Rattle.pipe_refinement.specs.Kinds.{Schedule, requested_controls, fetched_kind, in_w, is_good, next_schedule, start_schedule}

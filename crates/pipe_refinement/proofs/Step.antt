@@ -15,7 +15,7 @@ use Rattle.dp_signals.specs.PipeCycle.{ending, loaded_d, loaded_e, loaded_m, loa
 use Rattle.dp_signals.specs.PipeNames as name
 use Rattle.dp_signals.specs.PipeRows.{PipeHardware, PipeHolds}
 use Rattle.dp_signals.specs.PipeState.{bubble_d, bubble_e, bubble_m, bubble_w}
-use Rattle.dp_signals.specs.declared.movers.CycleEnd.TheVariants.{Going}
+use Rattle.dp_signals.specs.declared.register_updates.CycleEnd.TheVariants.{Going}
 use Rattle.dp_signals.specs.declared.pipe_state.PipeState.{PipeState}
 use Rattle.dp_signals.specs.declared.pipe_state.StageD.{StageD}
 use Rattle.dp_signals.specs.declared.pipe_state.StageE.{StageE}

@@ -21,7 +21,7 @@ use Rattle.dp_signals.specs.PipeCycle.{ending, updates_of, next, record_of as re
 use Rattle.dp_signals.specs.PipeNames as name
 use Rattle.dp_signals.specs.PipeRows.{PipeHardware}
 use Rattle.dp_signals.specs.PipeRun.{PipeHistory, after_cycle, end_pc, ended_by_status}
-use Rattle.dp_signals.specs.declared.movers.CycleEnd.TheVariants.{Stopped}
+use Rattle.dp_signals.specs.declared.register_updates.CycleEnd.TheVariants.{Stopped}
 use Rattle.pipe_refinement.specs.Facts.{AlwaysFacts}
 use Rattle.pipe_refinement.specs.Invariant.{RunContext, CouplingInvariant}
 use Rattle.pipe_refinement.specs.Kinds.{Schedule, count, in_m, in_w, is_good}

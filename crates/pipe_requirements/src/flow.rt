@@ -1,7 +1,7 @@
 //! The instructions in D, E, M and W, and the stall and bubble signals, as truths.
 ghost use Rattle.std.specs.Prelude.{◌≡◌, ◌≤◌};
 ghost use Rattle.pipe_motion.specs.Predictions as spec_predictions;
-ghost use Rattle.pipe_motion.specs.Flow as slots;
+ghost use Rattle.pipe_motion.specs.Flow as flows;
 ghost use Rattle.pipe_obligations.specs.StageFlows as spec;
 ghost use Rattle.nets.specs.Nets.{agree};
 ghost use Rattle.pipe_requirements.specs.Flows.{fields_in, as_register_controls, as_stage_flow, as_flow};
@@ -134,14 +134,14 @@ pub fn flow_of(v: Variant, s: &Settings, l: &Lines) -> FlowNow
 
 /// A register that is neither stalled nor bubbled.
 pub fn loads(k: RegisterControlNow) -> bool
-    ensures { result ≡ slots.loads (record { stall = k.stall; bubble = k.bubble }) }
+    ensures { result ≡ flows.loads (record { stall = k.stall; bubble = k.bubble }) }
 {
     !(k.stall || k.bubble)
 }
 
 /// The good instruction in D goes on to E.
 pub fn leaves(k: &RegisterControlsNow, y: &FlowNow) -> bool
-    ensures { result ≡ slots.leaves (as_register_controls k.now) (as_flow y.now) }
+    ensures { result ≡ flows.leaves (as_register_controls k.now) (as_flow y.now) }
 {
     y.d.good && (loads(k.e) && !k.d.stall)
 }

@@ -2,7 +2,7 @@
 ghost use Rattle.std.specs.Prelude.{◌≡◌, ◌≤◌, if◌then◌else◌};
 ghost use Rattle.ctl_atoms.specs.declared.leaf.Leaf.TheVariants.{Name};
 ghost use Rattle.control_values.specs.Given.{at};
-ghost use Rattle.pipe_motion.specs.Flow as slots;
+ghost use Rattle.pipe_motion.specs.Flow as flows;
 ghost use Rattle.pipe_obligations.specs.Obligations as rule;
 ghost use Rattle.pipe_motion.specs.Predictions as predictions;
 ghost use Rattle.y86_base.specs.Words as numbers;

@@ -1,6 +1,6 @@
 //! The right value of a source: that of the youngest older instruction that writes its register (CS:APP 3e, section 4.5.5,
 //! avoiding data hazards by forwarding). Obligations 10 and 11.
-#![tactic(auto, using(nets::proofs::Truths::begins_more, ctl_formula::proofs::Inside::inside_more, pipe_motion::proofs::Kept::view_in, pipe_gates::proofs::Known::known_d_valA, pipe_gates::proofs::Known::known_d_srcA, pipe_gates::proofs::Known::known_d_valB, pipe_gates::proofs::Known::known_d_srcB), unfolding(pipe_fields::specs::Layout::fields_of))]
+#![tactic(auto, using(nets::proofs::Truths::begins_more, ctl_formula::proofs::Inside::inside_more, pipe_motion::proofs::Kept::flow_stays, pipe_gates::proofs::Known::known_d_valA, pipe_gates::proofs::Known::known_d_srcA, pipe_gates::proofs::Known::known_d_valB, pipe_gates::proofs::Known::known_d_srcB), unfolding(pipe_fields::specs::Layout::fields_of))]
 
 ghost use Rattle.std.specs.Prelude.{◌<◌, ◌≤◌, ◌+◌, ◌&&◌, ◌||◌, if◌then◌else◌, IfOk, IsTrue, length, not};
 ghost use Rattle.nets.specs.Nets.{ExtendsNet, IsGate, truth};
@@ -98,7 +98,7 @@ fn takes_value(
     requires word_known { IsTrue (has_picks ctl.now word) }
     requires source_known { IsTrue (has_picks ctl.now source) }
     requires vars { bit_count ≤ b.old.vars }
-    requires view { HasFlow (length b.old.gates) y.now }
+    requires flow { HasFlow (length b.old.gates) y.now }
     ensures extends { ExtendsNet b.old b.new }
     ensures has_truth { IfOk result (λ g. IsControlGate b.new ctl.now g (λ w α cv.
         words.picks_leaf cv word (spec.right_value v s.now (fields_of w) (flow_at b.old w y.now) (spec.register_controls_of α cv) α cv source rest))) }
@@ -132,7 +132,7 @@ fn takes_ready(
     requires word_known { IsTrue (has_picks ctl.now word) }
     requires source_known { IsTrue (has_picks ctl.now source) }
     requires vars { bit_count ≤ b.old.vars }
-    requires view { HasFlow (length b.old.gates) y.now }
+    requires flow { HasFlow (length b.old.gates) y.now }
     requires free_in { free < length b.old.gates }
     ensures extends { ExtendsNet b.old b.new }
     ensures has_truth { IfOk result (λ g. IsControlGate b.new ctl.now g (λ w α cv.
@@ -162,7 +162,7 @@ fn picks_right_value(
     requires word_known { IsTrue (has_picks ctl.now word) }
     requires source_known { IsTrue (has_picks ctl.now source) }
     requires vars { bit_count ≤ b.old.vars }
-    requires view { HasFlow (length b.old.gates) y.now }
+    requires flow { HasFlow (length b.old.gates) y.now }
     requires free_in { free < length b.old.gates }
     ensures extends { ExtendsNet b.old b.new }
     ensures has_truth { IfOk result (λ g. IsControlGate b.new ctl.now g (λ w α cv.
@@ -220,7 +220,7 @@ pub fn obligation_10(
 ) -> Result<u64, Memory>
     requires inside { IsInside b.old ctl.now }
     requires vars { bit_count ≤ b.old.vars }
-    requires view { HasFlow (length b.old.gates) y.now }
+    requires flow { HasFlow (length b.old.gates) y.now }
     requires known { Covers pipe_rows ctl.now }
     ensures extends { ExtendsNet b.old b.new }
     ensures has_truth { IfOk result (λ g. IsControlGate b.new ctl.now g (λ w α cv. spec.o10 v s.now (fields_of w) (flow_at b.old w y.now) (spec.register_controls_of α cv) α cv)) }
@@ -254,7 +254,7 @@ pub fn obligation_11(
 ) -> Result<u64, Memory>
     requires inside { IsInside b.old ctl.now }
     requires vars { bit_count ≤ b.old.vars }
-    requires view { HasFlow (length b.old.gates) y.now }
+    requires flow { HasFlow (length b.old.gates) y.now }
     requires known { Covers pipe_rows ctl.now }
     ensures extends { ExtendsNet b.old b.new }
     ensures has_truth { IfOk result (λ g. IsControlGate b.new ctl.now g (λ w α cv. spec.o11 v s.now (fields_of w) (flow_at b.old w y.now) (spec.register_controls_of α cv) α cv)) }

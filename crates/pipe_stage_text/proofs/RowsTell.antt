@@ -13,11 +13,11 @@ use Rattle.dp_signals.specs.PipeNames as row
 use Rattle.dp_signals.specs.PipeRun.{end_by}
 use Rattle.dp_signals.specs.PipeState.{bubble_d, bubble_e, bubble_m, bubble_w, start_state}
 use Rattle.dp_signals.specs.PipeTable.{pipe_rows}
-use Rattle.dp_signals.specs.declared.movers.CycleEnd.{CycleEnd}
-use Rattle.dp_signals.specs.declared.movers.CycleEnd.TheVariants.{Going, Stopped, Pip}
-use Rattle.dp_signals.specs.declared.movers.RegisterUpdate.{RegisterUpdate}
-use Rattle.dp_signals.specs.declared.movers.RegisterUpdate.TheVariants.{Stay, Bubble, Load}
-use Rattle.dp_signals.specs.declared.movers.RegisterUpdates.{RegisterUpdates}
+use Rattle.dp_signals.specs.declared.register_updates.CycleEnd.{CycleEnd}
+use Rattle.dp_signals.specs.declared.register_updates.CycleEnd.TheVariants.{Going, Stopped, Pip}
+use Rattle.dp_signals.specs.declared.register_updates.RegisterUpdate.{RegisterUpdate}
+use Rattle.dp_signals.specs.declared.register_updates.RegisterUpdate.TheVariants.{Stay, Bubble, Load}
+use Rattle.dp_signals.specs.declared.register_updates.RegisterUpdates.{RegisterUpdates}
 use Rattle.dp_signals.specs.declared.pipe_state.PipeState.{PipeState}
 use Rattle.dp_signals.specs.declared.pipe_state.StageD.{StageD}
 use Rattle.dp_signals.specs.declared.pipe_state.StageE.{StageE}

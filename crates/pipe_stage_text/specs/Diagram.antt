@@ -2,9 +2,9 @@
 -- text lists at each address.
 use Rattle.std.specs.Prelude.{ℕ, ◌+◌, ◌/◌, ◌%◌, Bool, true, false, ◌&&◌, ◌==◌, List, [], ◌∷◌, ◌++◌, map, codes, Option, Some, None, is_some, if◌then◌else◌}
 use Rattle.std.specs.List.{concat}
-use Rattle.dp_signals.specs.declared.movers.RegisterUpdate.{RegisterUpdate}
-use Rattle.dp_signals.specs.declared.movers.RegisterUpdate.TheVariants.{Stay, Bubble, Load}
-use Rattle.dp_signals.specs.declared.movers.RegisterUpdates.{RegisterUpdates}
+use Rattle.dp_signals.specs.declared.register_updates.RegisterUpdate.{RegisterUpdate}
+use Rattle.dp_signals.specs.declared.register_updates.RegisterUpdate.TheVariants.{Stay, Bubble, Load}
+use Rattle.dp_signals.specs.declared.register_updates.RegisterUpdates.{RegisterUpdates}
 use Rattle.yis_run.specs.Report.{each_below}
 use Rattle.pipe_stage_text.specs.Instruction.{instruction}
 use Rattle.pipe_stage_text.specs.Numbers.{address}

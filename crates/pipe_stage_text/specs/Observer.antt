@@ -14,8 +14,8 @@ use Rattle.dp_signals.specs.PipeNames as row
 use Rattle.dp_signals.specs.PipeRun.{PipeHistory, PipeRun, end_by}
 use Rattle.dp_signals.specs.PipeState.{start_state}
 use Rattle.dp_signals.specs.PipeTable.{pipe_rows}
-use Rattle.dp_signals.specs.declared.movers.CycleEnd.{CycleEnd}
-use Rattle.dp_signals.specs.declared.movers.CycleEnd.TheVariants.{Going, Stopped, Pip}
+use Rattle.dp_signals.specs.declared.register_updates.CycleEnd.{CycleEnd}
+use Rattle.dp_signals.specs.declared.register_updates.CycleEnd.TheVariants.{Going, Stopped, Pip}
 use Rattle.dp_signals.specs.declared.pipe_state.PipeState.{PipeState}
 use Rattle.pipe_stage_text.specs.Cycle.{cycle_text, end_line}
 use Rattle.pipe_stage_text.specs.Diagram.{diagram, shown_cycle}

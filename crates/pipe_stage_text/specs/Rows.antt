@@ -6,10 +6,10 @@ use Rattle.y86_isa.specs.Machine.{is_aok}
 use Rattle.hcl_types.specs.declared.term.Term.{Term}
 use Rattle.dp_signals.specs.PipeCycle.{requested_updates, ending}
 use Rattle.dp_signals.specs.PipeNames as row
-use Rattle.dp_signals.specs.declared.movers.CycleEnd.TheVariants.{Going}
-use Rattle.dp_signals.specs.declared.movers.RegisterUpdate.{RegisterUpdate}
-use Rattle.dp_signals.specs.declared.movers.RegisterUpdate.TheVariants.{Stay, Bubble, Load}
-use Rattle.dp_signals.specs.declared.movers.RegisterUpdates.{RegisterUpdates}
+use Rattle.dp_signals.specs.declared.register_updates.CycleEnd.TheVariants.{Going}
+use Rattle.dp_signals.specs.declared.register_updates.RegisterUpdate.{RegisterUpdate}
+use Rattle.dp_signals.specs.declared.register_updates.RegisterUpdate.TheVariants.{Stay, Bubble, Load}
+use Rattle.dp_signals.specs.declared.register_updates.RegisterUpdates.{RegisterUpdates}
 use Rattle.dp_signals.specs.declared.pipe_state.PipeState.{PipeState}
 use Rattle.pipe_stage_text.specs.Diagram.{letter, letter_of}
 use Rattle.pipe_stage_text.specs.StageContents.{fetched, moved_watch}

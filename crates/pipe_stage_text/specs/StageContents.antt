@@ -4,9 +4,9 @@ use Rattle.y86_isa.specs.Blocks.{field_a, field_b}
 use Rattle.dp_signals.specs.PipeCycle.{moved}
 use Rattle.dp_signals.specs.PipeNames as row
 use Rattle.y86_base.specs.Words.{set}
-use Rattle.dp_signals.specs.declared.movers.RegisterUpdate.{RegisterUpdate}
-use Rattle.dp_signals.specs.declared.movers.RegisterUpdate.TheVariants.{Stay, Bubble, Load}
-use Rattle.dp_signals.specs.declared.movers.RegisterUpdates.{RegisterUpdates}
+use Rattle.dp_signals.specs.declared.register_updates.RegisterUpdate.{RegisterUpdate}
+use Rattle.dp_signals.specs.declared.register_updates.RegisterUpdate.TheVariants.{Stay, Bubble, Load}
+use Rattle.dp_signals.specs.declared.register_updates.RegisterUpdates.{RegisterUpdates}
 use Rattle.dp_signals.specs.declared.pipe_state.PipeState.{PipeState}
 use Rattle.pipe_stage_text.specs.declared.stage_content.StageContent.{StageContent}
 use Rattle.pipe_stage_text.specs.declared.stage_contents.StageContents.{StageContents}

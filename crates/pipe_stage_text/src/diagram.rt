@@ -28,10 +28,10 @@ pub struct DiagramCycle {
 }
 
 /// Whether what stands in a stage is cancelled: the stage doesn't keep it, and the next one doesn't load it.
-fn lost(mover: RegisterUpdate, next: RegisterUpdate) -> bool
-    ensures { result ≡ text.lost mover next }
+fn lost(update: RegisterUpdate, next: RegisterUpdate) -> bool
+    ensures { result ≡ text.lost update next }
 {
-    !matches!(mover, RegisterUpdate::Stay) && !matches!(next, RegisterUpdate::Load)
+    !matches!(update, RegisterUpdate::Stay) && !matches!(next, RegisterUpdate::Load)
 }
 
 /// Whether what is fetched is cancelled: D takes a bubble in its place, or stays while F goes on.

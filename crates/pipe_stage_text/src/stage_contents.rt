@@ -107,12 +107,12 @@ fn rows_fetched(watch: &StageContents, pc: u64) -> u64
 }
 
 /// One more row where a register is bubbled.
-fn counted(mover: RegisterUpdate, rows: u64) -> u64
+fn counted(update: RegisterUpdate, rows: u64) -> u64
     requires { rows < 2 ^ 63 + 10 }
-    ensures rows { result ≡ rows + spec.bubbles mover }
+    ensures rows { result ≡ rows + spec.bubbles update }
     ensures few { result ≤ rows + 1 }
 {
-    match mover {
+    match update {
         RegisterUpdate::Bubble => rows + 1,
         RegisterUpdate::Stay | RegisterUpdate::Load => rows,
     }
@@ -120,14 +120,14 @@ fn counted(mover: RegisterUpdate, rows: u64) -> u64
 
 /// What stands in a register next.
 fn moved_stage(
-    mover: RegisterUpdate,
+    update: RegisterUpdate,
     held: StageContent,
     row: u64,
     loaded: StageContent,
 ) -> StageContent
-    ensures { result ≡ pipe.moved mover held (spec.bubble row) loaded }
+    ensures { result ≡ pipe.moved update held (spec.bubble row) loaded }
 {
-    match mover {
+    match update {
         RegisterUpdate::Stay => held,
         RegisterUpdate::Bubble => StageContent::bubble(row),
         RegisterUpdate::Load => loaded,

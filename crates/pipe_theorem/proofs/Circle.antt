@@ -49,17 +49,17 @@ pub f_ties : (x : RunContext) (c : Schedule) (f : ℕ → ℕ) → FTies x f (f_
 unfolding f_line
 f_ties x c f = record { icode = refl; ifun = refl; error = refl; back = λ br. set_bit _ ∙ and_on _ _ br }
 
-one_slot : (s s' r r' m m' : Bool) → s ≡ s' → r ≡ r' → m ≡ m' → stage_flow_by 1 s r m ≡ stage_flow_by 1 s' r' m'
-one_slot s s' r r' m m' p q o = rw (p, q, o) refl
+one_stage_flow : (s s' r r' m m' : Bool) → s ≡ s' → r ≡ r' → m ≡ m' → stage_flow_by 1 s r m ≡ stage_flow_by 1 s' r' m'
+one_stage_flow s s' r r' m m' p q o = rw (p, q, o) refl
 
 -- a good fetch brings the next instruction
-pub slot_loaded : (x : RunContext) (c : Schedule) (p : PipeState) (f : ℕ → ℕ) →
+pub stage_flow_loaded : (x : RunContext) (c : Schedule) (p : PipeState) (f : ℕ → ℕ) →
     LoadsFetched p f (fetched x.v (state_before x.v x.image (in_f c)).mem (state_before x.v x.image (in_f c)).pc) →
     stage_flow_by 1 (stops_by (f name.f_stat) (f_line x c f).stops) (is_ret x.v (f name.f_icode))
     (is_missed x.v x.s (f name.f_stat) (f name.f_icode) (f name.f_ifun) (f_line x c f).taken (f_line x c f).back)
     ≡ run_stage_flow x Good (in_f c)
 unfolding f_line
-slot_loaded x c p f l =
+stage_flow_loaded x c p f l =
     let i = in_f c in
     let w = fetches x.v x.image i in
     let read : f name.imem_icode ≡ (work_at x.v x.image i).icode = l.read_icode ∙ sym w.icode in
@@ -78,7 +78,7 @@ slot_loaded x c p f l =
     missed_is x i _ _ _ _ _ stat icode ifun
     (λ br. set_bit _ ∙ and_on _ _ (ap (λ z. next_is_branch (row x.v z).next) read ∙ br) ∙ ap (λ z. condition z (state_before x.v x.image i).flags) read_ifun ∙ sym (follows x.v x.image i).cnd)
     (λ br. set_bit _ ∙ and_on _ _ (ap (λ z. next_is_branch (row x.v z).next) read ∙ br) ∙ rw (vc, vp) refl) in
-    one_slot _ _ _ _ _ _ stops ret missed
+    one_stage_flow _ _ _ _ _ _ stops ret missed
 
 -- M's error bit is the real one
 pub error_is : (x : RunContext) (t : ℕ) (c : Schedule) (p : PipeState) (f : ℕ → ℕ) (rs : List Rec) (image : IsImage x.image) (i : CouplingInvariant x t c p rs)

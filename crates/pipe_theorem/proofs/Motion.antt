@@ -105,9 +105,9 @@ module _ (x : RunContext) (t : ℕ) (c : Schedule) (p : PipeState) (f : ℕ → 
         ];
       }
 
-  same_slot : (good : Bool) (a b : StageFlow) → (good ≡ true → a ≡ b) → fetched_flow good a ≡ fetched_flow good b
-  same_slot true a b h = ap (fetched_flow true) (h refl)
-  same_slot false a b h = refl
+  same_stage_flow : (good : Bool) (a b : StageFlow) → (good ≡ true → a ≡ b) → fetched_flow good a ≡ fetched_flow good b
+  same_stage_flow true a b h = ap (fetched_flow true) (h refl)
+  same_stage_flow false a b h = refl
 
   pub motion_facts : (q : AllAsked x c p f l (requested_controls f) cv) →
       (fetch_good x.v x.s (fields_at x c p f l) (run_flow x c) (requested_controls f) (real_assignment f) cv ≡ true →
@@ -119,7 +119,7 @@ module _ (x : RunContext) (t : ℕ) (c : Schedule) (p : PipeState) (f : ℕ → 
     kept = q 24 (omega arith) (omega arith);
     next =
         subst (λ z. next_is_right x.s.je x.s.rm (requested_controls f) (fetch_good x.v x.s (fields_at x c p f l) (run_flow x c) (requested_controls f) (real_assignment f) cv) (run_flow x c) (moved_flow (requested_controls f) z (run_flow x c)) ≡ true)
-        (same_slot (fetch_good x.v x.s (fields_at x c p f l) (run_flow x c) (requested_controls f) (real_assignment f) cv) _ _ same) (q 25 (omega arith) (omega arith));
+        (same_stage_flow (fetch_good x.v x.s (fields_at x c p f l) (run_flow x c) (requested_controls f) (real_assignment f) cv) _ _ same) (q 25 (omega arith) (omega arith));
     leaves = q 26 (omega arith) (omega arith);
     enters = q 27 (omega arith) (omega arith);
   }

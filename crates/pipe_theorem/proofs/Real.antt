@@ -16,10 +16,10 @@ use Rattle.dp_signals.proofs.Bits.{set_bit}
 use Rattle.pipe_motion.specs.Predictions.{predicts}
 use Rattle.pipe_motion.specs.Flow.{StageFlow, entering_w}
 use Rattle.pipe_fields.specs.Layout.{FetchLine}
-use Rattle.pipe_obligations.specs.StageFlows.{is_missed, no_load_use_in_e, stage_flow_by, stops_by, flow_of as view_at}
+use Rattle.pipe_obligations.specs.StageFlows.{is_missed, no_load_use_in_e, stage_flow_by, stops_by, flow_of as flow_was}
 use Rattle.pipe_refinement.specs.Invariant.{RunContext, CouplingInvariant, differ, missed_at, predicted_at, run_stage_flow, run_flow}
 use Rattle.pipe_refinement.specs.Kinds.{Schedule, Bubbled, Good, StageKind, Wrong, in_d, in_e, in_m, in_w, is_good}
-use Rattle.pipe_refinement.proofs.Moves.{view_by}
+use Rattle.pipe_refinement.proofs.Moves.{flow_by}
 use Rattle.pipe_refinement.proofs.Views.{and_on}
 use Rattle.pipe_theorem.proofs.RealCycle.{back_of, fault_of, fields_at, hidden, kind_number, taken_of}
 
@@ -49,24 +49,24 @@ hidden_good Bubbled b h = cc
 hidden_good Wrong b h = cc
 hidden_good Good b h = set_bit b
 
-slot_is : (x : RunContext) (k : StageKind) (i : ℕ) (s r m : Bool) → (is_good k ≡ true → s ≡ stops_at x.v x.image i) → (is_good k ≡ true → r ≡ ret_at x.v x.image i) →
+stage_flow_is : (x : RunContext) (k : StageKind) (i : ℕ) (s r m : Bool) → (is_good k ≡ true → s ≡ stops_at x.v x.image i) → (is_good k ≡ true → r ≡ ret_at x.v x.image i) →
     (is_good k ≡ true → m ≡ missed_at x i) → stage_flow_by (kind_number k) s r m ≡ run_stage_flow x k i
-slot_is x Bubbled i s r m a b c = refl
-slot_is x Wrong i s r m a b c = refl
-slot_is x Good i s r m a b c = rw (a refl, b refl, c refl) refl
+stage_flow_is x Bubbled i s r m a b c = refl
+stage_flow_is x Wrong i s r m a b c = refl
+stage_flow_is x Good i s r m a b c = rw (a refl, b refl, c refl) refl
 
-slot_w_is : (x : RunContext) (k : StageKind) (i : ℕ) (s r : Bool) → (is_good k ≡ true → s ≡ stops_at x.v x.image i) → (is_good k ≡ true → r ≡ ret_at x.v x.image i) →
+stage_flow_w_is : (x : RunContext) (k : StageKind) (i : ℕ) (s r : Bool) → (is_good k ≡ true → s ≡ stops_at x.v x.image i) → (is_good k ≡ true → r ≡ ret_at x.v x.image i) →
     stage_flow_by (kind_number k) s r false ≡ entering_w (run_stage_flow x k i)
-slot_w_is x Bubbled i s r a b = refl
-slot_w_is x Wrong i s r a b = refl
-slot_w_is x Good i s r a b = rw (a refl, b refl) refl
+stage_flow_w_is x Bubbled i s r a b = refl
+stage_flow_w_is x Wrong i s r a b = refl
+stage_flow_w_is x Good i s r a b = rw (a refl, b refl) refl
 
 pub good_number : (k : StageKind) → (kind_number k == 1) ≡ is_good k
 good_number Bubbled = refl
 good_number Wrong = refl
 good_number Good = refl
 
-four : {d e m w d' e' m' w' : StageFlow} → d ≡ d' → e ≡ e' → m ≡ m' → w ≡ w' → view_by d e m w ≡ view_by d' e' m' w'
+four : {d e m w d' e' m' w' : StageFlow} → d ≡ d' → e ≡ e' → m ≡ m' → w ≡ w' → flow_by d e m w ≡ flow_by d' e' m' w'
 four p q r s = rw (p, q, r, s) refl
 
 module _ (x : RunContext) (t : ℕ) (c : Schedule) (p : PipeState) (f : ℕ → ℕ) (rs : List Rec) (l : FetchLine)
@@ -90,16 +90,16 @@ module _ (x : RunContext) (t : ℕ) (c : Schedule) (p : PipeState) (f : ℕ → 
   taken_is : (k : StageKind) (j : ℕ) → is_good k ≡ true → next_is_branch (instruction_row x.v x.image j).next ≡ true → set (hidden k (taken_of x j)) ≡ (work_at x.v x.image j).cnd
   taken_is k j h e = hidden_good k (taken_of x j) h ∙ and_on _ _ e
 
-  pub view_is : view_at x.v x.s (fields_at x c p f l) ≡ run_flow x c
-  unfolding view_at fields_at run_flow
-  view_is =
-      let d = slot_is x c.d (in_d c) _ _ _ stops_d (λ h. ap (λ k. next_is_val_m (row x.v k).next) (i.good_d h).icode)
+  pub flow_is : flow_was x.v x.s (fields_at x c p f l) ≡ run_flow x c
+  unfolding flow_was fields_at run_flow
+  flow_is =
+      let d = stage_flow_is x c.d (in_d c) _ _ _ stops_d (λ h. ap (λ k. next_is_val_m (row x.v k).next) (i.good_d h).icode)
       (λ h. missed_is x (in_d c) _ _ _ _ _ (i.good_d h).stat (i.good_d h).icode (i.good_d h).ifun (taken_is c.d (in_d c) h) (back_is c.d (in_d c) h)) in
-      let e = slot_is x c.e (in_e c) _ _ _ stops_e (λ h. ap (λ k. next_is_val_m (row x.v k).next) (i.good_e h).icode)
+      let e = stage_flow_is x c.e (in_e c) _ _ _ stops_e (λ h. ap (λ k. next_is_val_m (row x.v k).next) (i.good_e h).icode)
       (λ h. missed_is x (in_e c) _ _ _ _ _ (i.good_e h).stat (i.good_e h).icode (i.good_e h).ifun (λ _. cnd_e h) (back_is c.e (in_e c) h)) in
-      let m = slot_is x c.m (in_m c) _ _ _ stops_m (λ h. ap (λ k. next_is_val_m (row x.v k).next) (i.good_m h).icode)
+      let m = stage_flow_is x c.m (in_m c) _ _ _ stops_m (λ h. ap (λ k. next_is_val_m (row x.v k).next) (i.good_m h).icode)
       (λ h. missed_is x (in_m c) _ _ _ _ _ (i.good_m h).stat (i.good_m h).icode (i.good_m h).ifun (λ _. ap set (i.good_m h).cnd ∙ set_bit _) (back_is c.m (in_m c) h)) in
-      let w = slot_w_is x c.w (in_w c) _ _ stops_w (λ h. ap (λ k. next_is_val_m (row x.v k).next) (i.good_w h).icode) in
+      let w = stage_flow_w_is x c.w (in_w c) _ _ stops_w (λ h. ap (λ k. next_is_val_m (row x.v k).next) (i.good_w h).icode) in
       four d e m w
 
   pub waits_is : no_load_use_in_e x.v x.s.lf (fields_at x c p f l) (run_flow x c) ≡ true

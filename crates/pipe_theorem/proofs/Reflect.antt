@@ -116,8 +116,8 @@ module _ (x : RunContext) (c : Schedule) (p : PipeState) (f : ℕ → ℕ) (l : 
   holds_at : (n : ℕ) → leaf_holds (real_assignment f) (cv n) ≡ set (f n)
   holds_at n = holds_is f (cv n) ∙ ap set (agrees n)
 
-  pub movers_are : register_controls_of (real_assignment f) cv ≡ requested_controls f
-  movers_are =
+  pub controls_are : register_controls_of (real_assignment f) cv ≡ requested_controls f
+  controls_are =
       rw (
         holds_at name.F_stall,
         holds_at name.F_bubble,

@@ -30,7 +30,7 @@ use Rattle.pipe_fields.specs.Layout.{Fields, InRange, number_of}
 use Rattle.pipe_obligations.specs.Obligations.{target_in_alu, fetch_good, fetched as fetched_at, register_controls_of}
 use Rattle.pipe_obligations.specs.Rules.{demand, demand_at, is_always_demanded, is_demanded, rule_count}
 use Rattle.pipe_obligations.specs.FileSettings.{Holds, PipeControls, alu_passes_target}
-use Rattle.pipe_obligations.specs.StageFlows.{back_matches_all, is_stopping, legal, no_load_use_in_e, flow_of as view_at}
+use Rattle.pipe_obligations.specs.StageFlows.{back_matches_all, is_stopping, legal, no_load_use_in_e, flow_of as flow_was}
 use Rattle.pipe_refinement.specs.Facts.{AccessFacts, AddressIs, AlwaysFacts, CycleFacts, FetchFacts, MemoryFacts}
 use Rattle.pipe_refinement.specs.Invariant.{RunContext, CouplingInvariant, run_stage_flow, run_flow}
 use Rattle.pipe_refinement.specs.Kinds.{Schedule, Bubbled, Good, StageKind, Wrong, requested_controls, in_e, in_f, in_m, in_w, is_good}
@@ -41,13 +41,13 @@ use Rattle.pipe_refinement.proofs.Older.{w_alone}
 use Rattle.pipe_refinement.proofs.Refine.{refines}
 use Rattle.pipe_refinement.proofs.Values.{m_valM_is}
 use Rattle.pipe_theorem.proofs.Agreeing.{all_agree}
-use Rattle.pipe_theorem.proofs.Circle.{back_told, error_is, f_ties, slot_loaded}
+use Rattle.pipe_theorem.proofs.Circle.{back_told, error_is, f_ties, stage_flow_loaded}
 use Rattle.pipe_theorem.proofs.Fits.{all_fit}
 use Rattle.pipe_theorem.proofs.Motion.{good_fetch, motion_facts}
 use Rattle.pipe_theorem.proofs.Ranges.{in_range}
-use Rattle.pipe_theorem.proofs.Real.{view_is, waits_is}
+use Rattle.pipe_theorem.proofs.Real.{flow_is, waits_is}
 use Rattle.pipe_theorem.proofs.RealCycle.{f_line, fault_of, fields_at, hidden, kind_number}
-use Rattle.pipe_theorem.proofs.Reflect.{AllAsked, Asks, access_at, address_at, address_fact, always, decode_facts, execute_facts, fetch_facts, fetched_codes, memory_facts, movers_are, write_facts}
+use Rattle.pipe_theorem.proofs.Reflect.{AllAsked, Asks, access_at, address_at, address_fact, always, decode_facts, execute_facts, fetch_facts, fetched_codes, memory_facts, controls_are, write_facts}
 
 stopping_by : (k : StageKind) (stat : ℕ) → (is_good k ≡ true → (stat == 1) ≡ true) → (kind_number k == 1) && not (stat == 1) ≡ false
 stopping_by Bubbled stat h = refl
@@ -69,26 +69,26 @@ module _ (x : RunContext) (terms : List Term) (ids : List ℕ) (atoms : List Ato
     cnd_e : is_good c.e ≡ true → set (f name.e_Cnd) ≡ (work_at x.v x.image (in_e c)).cnd
     cnd_e g = ap set b.e_Cnd ∙ set_bit _ ∙ rw (ap (λ k. condition k p.flags) (i.good_e g).ifun, i.flags) refl ∙ sym (follows x.v x.image (in_e c)).cnd
 
-    view : view_at x.v x.s (the_fields x c p f) ≡ run_flow x c
-    view = view_is x t c p f rs (f_line x c f) i cnd_e
+    view : flow_was x.v x.s (the_fields x c p f) ≡ run_flow x c
+    view = flow_is x t c p f rs (f_line x c f) i cnd_e
 
-    is_lawful : flow_legal x.s.je x.s.rm (view_at x.v x.s (the_fields x c p f)) ≡ true
+    is_lawful : flow_legal x.s.je x.s.rm (flow_was x.v x.s (the_fields x c p f)) ≡ true
     is_lawful = ap (flow_legal x.s.je x.s.rm) view ∙ i.legal
 
-    waits : no_load_use_in_e x.v x.s.lf (the_fields x c p f) (view_at x.v x.s (the_fields x c p f)) ≡ true
+    waits : no_load_use_in_e x.v x.s.lf (the_fields x c p f) (flow_was x.v x.s (the_fields x c p f)) ≡ true
     waits = ap (no_load_use_in_e x.v x.s.lf (the_fields x c p f)) view ∙ waits_is x t c p f rs (f_line x c f) i cnd_e
 
-    told : back_matches_all x.v x.s.tv atoms (the_fields x c p f) (view_at x.v x.s (the_fields x c p f)) (real_assignment f) ≡ true
+    told : back_matches_all x.v x.s.tv atoms (the_fields x c p f) (flow_was x.v x.s (the_fields x c p f)) (real_assignment f) ≡ true
     told = ap (λ y. back_matches_all x.v x.s.tv atoms (the_fields x c p f) y (real_assignment f)) view ∙ back_told x atoms t c p f rs i st
 
     is_legal : legal x.v x.s atoms (the_fields x c p f) (real_assignment f) ≡ true
     unfolding legal
     is_legal =
-        and_from (flow_legal x.s.je x.s.rm (view_at x.v x.s (the_fields x c p f)))
-        (no_load_use_in_e x.v x.s.lf (the_fields x c p f) (view_at x.v x.s (the_fields x c p f)) && back_matches_all x.v x.s.tv atoms (the_fields x c p f) (view_at x.v x.s (the_fields x c p f)) (real_assignment f))
+        and_from (flow_legal x.s.je x.s.rm (flow_was x.v x.s (the_fields x c p f)))
+        (no_load_use_in_e x.v x.s.lf (the_fields x c p f) (flow_was x.v x.s (the_fields x c p f)) && back_matches_all x.v x.s.tv atoms (the_fields x c p f) (flow_was x.v x.s (the_fields x c p f)) (real_assignment f))
         is_lawful
-        (and_from (no_load_use_in_e x.v x.s.lf (the_fields x c p f) (view_at x.v x.s (the_fields x c p f)))
-        (back_matches_all x.v x.s.tv atoms (the_fields x c p f) (view_at x.v x.s (the_fields x c p f)) (real_assignment f)) waits told)
+        (and_from (no_load_use_in_e x.v x.s.lf (the_fields x c p f) (flow_was x.v x.s (the_fields x c p f)))
+        (back_matches_all x.v x.s.tv atoms (the_fields x c p f) (flow_was x.v x.s (the_fields x c p f)) (real_assignment f)) waits told)
 
     has : HasControls pipe_rows terms (number_of (the_fields x c p f)) (real_assignment f)
     has = controls_exist pipe_rows terms ids (number_of (the_fields x c p f)) (real_assignment f) order
@@ -156,7 +156,7 @@ module _ (x : RunContext) (terms : List Term) (ids : List ℕ) (atoms : List Ato
     agrees = all_agree x terms c p f cv s ring ids bound order controls
 
     movers : register_controls_of (real_assignment f) cv ≡ requested_controls f
-    movers = movers_are x c p f (f_line x c f) cv st agrees (f_ties x c f)
+    movers = controls_are x c p f (f_line x c f) cv st agrees (f_ties x c f)
 
     as_moved : (j : ℕ) → Asks x c p f (f_line x c f) (register_controls_of (real_assignment f) cv) cv j → Asks x c p f (f_line x c f) (requested_controls f) cv j
     as_moved j h = subst (λ k. Asks x c p f (f_line x c f) k cv j) movers h
@@ -171,7 +171,7 @@ module _ (x : RunContext) (terms : List Term) (ids : List ℕ) (atoms : List Ato
     unfolding alu_passes_target
     target_is tv =
         sym (ap (λ y. target_in_alu x.v x.s (the_fields x c p f) y (requested_controls f) (real_assignment f) cv) view)
-        ∙ subst (λ k. target_in_alu x.v x.s (the_fields x c p f) (view_at x.v x.s (the_fields x c p f)) k (real_assignment f) cv ≡ true) movers
+        ∙ subst (λ k. target_in_alu x.v x.s (the_fields x c p f) (flow_was x.v x.s (the_fields x c p f)) k (real_assignment f) cv ≡ true) movers
         (implied (allowed x.v (the_fields x c p f)) _ (holds.target tv (the_fields x c p f) (real_assignment f) cv ranges controls) (all_fit x t c p f rs image i b))
 
     module _ (on : is_good c.w ≡ true → stops_at x.v x.image (in_w c) ≡ false) where
@@ -194,7 +194,7 @@ module _ (x : RunContext) (terms : List Term) (ids : List ℕ) (atoms : List Ato
           let gf = good_fetch x t c p f rs (f_line x c f) cv i st agrees z in
           let same = fetch_same x n t c p f rs image pure lt i st b (λ m. m_valM_is x t c p f rs image i b always_is.access me.address m) ff gf in
           let l : LoadsFetched p f (fetched x.v (state_before x.v x.image (in_f c)).mem (state_before x.v x.image (in_f c)).pc) = subst (LoadsFetched p f) same (loads_fetched x p f b ff) in
-          fetched_codes x c p f (f_line x c f) cv st agrees (f_ties x c f) q ∙ slot_loaded x c p f l
+          fetched_codes x c p f (f_line x c f) cv st agrees (f_ties x c f) q ∙ stage_flow_loaded x c p f l
 
       facts : CycleFacts x.v x.s p f c (run_flow x c) (fetch_good x.v x.s (the_fields x c p f) (run_flow x c) (requested_controls f) (real_assignment f) cv) (run_stage_flow x Good (in_f c))
       facts = record {

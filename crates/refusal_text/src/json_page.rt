@@ -106,20 +106,20 @@ fn put_names(
 fn put_register_control(
     out: &mut Out,
     name: &str,
-    mover: RegisterControlNow,
+    control: RegisterControlNow,
     next: Option<&StageFlowNow>,
 ) -> Result<(), AllocError> {
     out.key(name)?;
     out.begin_object()?;
-    put_truth(out, "stall", mover.stall)?;
-    put_truth(out, "bubble", mover.bubble)?;
-    if let Some(slot) = next {
+    put_truth(out, "stall", control.stall)?;
+    put_truth(out, "bubble", control.bubble)?;
+    if let Some(stage) = next {
         put_text(
             out,
             "next",
-            if slot.good {
+            if stage.good {
                 "program"
-            } else if slot.wrong {
+            } else if stage.wrong {
                 "wrong path"
             } else {
                 "bubble"
@@ -167,11 +167,11 @@ fn put_motion(
     }
     out.begin_object()?;
     put_truth(out, "fetch_is_right", m.is_good)?;
-    put_register_control(out, "F", m.movers.f, None)?;
-    put_register_control(out, "D", m.movers.d, Some(&m.next.d))?;
-    put_register_control(out, "E", m.movers.e, Some(&m.next.e))?;
-    put_register_control(out, "M", m.movers.m, Some(&m.next.m))?;
-    put_register_control(out, "W", m.movers.w, Some(&m.next.w))?;
+    put_register_control(out, "F", m.controls.f, None)?;
+    put_register_control(out, "D", m.controls.d, Some(&m.next.d))?;
+    put_register_control(out, "E", m.controls.e, Some(&m.next.e))?;
+    put_register_control(out, "M", m.controls.m, Some(&m.next.m))?;
+    put_register_control(out, "W", m.controls.w, Some(&m.next.w))?;
     out.key("faults")?;
     out.begin_array()?;
     let faults = motion_faults(alloc, scene, rule, m)?;

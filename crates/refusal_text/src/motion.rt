@@ -13,7 +13,7 @@ use std::alloc::{AllocError, Global};
 pub struct Motion {
     pub lines: Lines,
     pub view: FlowNow,
-    pub movers: RegisterControlsNow,
+    pub controls: RegisterControlsNow,
     /// Whether the fetched instruction is the one that the program does next.
     pub is_good: bool,
     /// Whether the program goes on at the predicted PC.
@@ -27,24 +27,24 @@ pub struct Motion {
 pub fn motion_of(scene: &Scene<'_>) -> Motion {
     let lines = lines_of(scene.values.bits);
     let view = flow_of(scene.variant, scene.settings, &lines);
-    let movers = register_controls_at(&scene.scope());
+    let controls = register_controls_at(&scene.scope());
     let now = Now {
         v: scene.variant,
         s: scene.settings,
         l: &lines,
         y: &view,
-        mv: &movers,
+        mv: &controls,
         leaves: scene.diagnosis.leaves.items(),
     };
     let is_good = is_fetch_good(&now);
     let facts = fetched(&now);
-    let next = next_flow(&movers, is_good, &facts, &view);
+    let next = next_flow(&controls, is_good, &facts, &view);
     let is_on_path = path(&view);
     let stops = youngest_stops(&view);
     Motion {
         lines,
         view,
-        movers,
+        controls,
         is_good,
         is_on_path,
         stops,
@@ -53,12 +53,12 @@ pub fn motion_of(scene: &Scene<'_>) -> Motion {
 }
 
 /// What a register does in a cycle.
-pub fn move_name(mover: RegisterControlNow) -> &'static str {
-    if mover.stall && mover.bubble {
+pub fn move_name(control: RegisterControlNow) -> &'static str {
+    if control.stall && control.bubble {
         "is stalled and bubbled"
-    } else if mover.stall {
+    } else if control.stall {
         "is stalled"
-    } else if mover.bubble {
+    } else if control.bubble {
         "is bubbled"
     } else {
         "loads"
@@ -66,10 +66,10 @@ pub fn move_name(mover: RegisterControlNow) -> &'static str {
 }
 
 /// What a register holds.
-pub fn stage_flow_name(slot: &StageFlowNow) -> &'static str {
-    if slot.good {
+pub fn stage_flow_name(stage: &StageFlowNow) -> &'static str {
+    if stage.good {
         "an instruction of the program"
-    } else if slot.wrong {
+    } else if stage.wrong {
         "an instruction on the wrong path"
     } else {
         "a bubble"
@@ -200,7 +200,7 @@ fn add_fetch(said: &mut Sentences, m: &Motion) -> Result<(), AllocError> {
     if !path(&m.next) {
         return Ok(());
     }
-    let k = &m.movers;
+    let k = &m.controls;
     let enters = m.is_good && loads(k.d);
     said.add_if(
         enters && !loads(k.f),
@@ -221,11 +221,11 @@ fn add_waits(said: &mut Sentences, m: &Motion) -> Result<(), AllocError> {
     let y = &m.view;
     let drained = !(y.e.good || y.e.wrong || y.m.good || y.m.wrong || y.w.good || y.w.wrong);
     said.add_if(
-        y.d.good && drained && !leaves(&m.movers, y),
+        y.d.good && drained && !leaves(&m.controls, y),
         "Nothing is ahead of the instruction in D, and it doesn't go on to E.",
     )?;
     said.add_if(
-        !(y.d.good || y.d.wrong) && drained && !loads(m.movers.d),
+        !(y.d.good || y.d.wrong) && drained && !loads(m.controls.d),
         "The pipeline is empty, and D doesn't load.",
     )
 }
@@ -241,8 +241,8 @@ pub fn motion_faults(
         all: Vec::new(alloc),
     };
     match rule {
-        23 => add_clashes(&mut said, &m.movers)?,
-        24 => add_losses(&mut said, &m.movers, &m.view)?,
+        23 => add_clashes(&mut said, &m.controls)?,
+        24 => add_losses(&mut said, &m.controls, &m.view)?,
         25 => {
             add_wrong_path(&mut said, &m.next)?;
             add_followers(&mut said, &m.next, scene.settings.je, scene.settings.rm)?;

@@ -45,12 +45,32 @@ fn put_motion(
     out.push_str(". ")?;
     out.push_str(fetch_sentence(m))?;
     out.push_str("\nThe next cycle:\n\n    F ")?;
-    out.push_str(move_name(m.movers.f))?;
+    out.push_str(move_name(m.controls.f))?;
     out.push_str(".\n")?;
-    put_move(out, "D", move_name(m.movers.d), stage_flow_name(&m.next.d))?;
-    put_move(out, "E", move_name(m.movers.e), stage_flow_name(&m.next.e))?;
-    put_move(out, "M", move_name(m.movers.m), stage_flow_name(&m.next.m))?;
-    put_move(out, "W", move_name(m.movers.w), stage_flow_name(&m.next.w))?;
+    put_move(
+        out,
+        "D",
+        move_name(m.controls.d),
+        stage_flow_name(&m.next.d),
+    )?;
+    put_move(
+        out,
+        "E",
+        move_name(m.controls.e),
+        stage_flow_name(&m.next.e),
+    )?;
+    put_move(
+        out,
+        "M",
+        move_name(m.controls.m),
+        stage_flow_name(&m.next.m),
+    )?;
+    put_move(
+        out,
+        "W",
+        move_name(m.controls.w),
+        stage_flow_name(&m.next.w),
+    )?;
     let faults = motion_faults(alloc, scene, rule, m)?;
     if !faults.as_slice().is_empty() {
         out.push_str("\n")?;

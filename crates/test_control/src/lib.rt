@@ -5,8 +5,8 @@
 #[cfg(test)]
 mod atoms;
 #[cfg(test)]
+mod flows;
+#[cfg(test)]
 mod terms;
 #[cfg(test)]
 mod valuations;
-#[cfg(test)]
-mod views;

@@ -21,7 +21,7 @@ returns-clause-has_truth c =
       within = c.in_ok-g.ensures.has_truth.within;
       is = λ w α cv h t.
           let told = c.in_ok-demand.ensures.has_truth.is w α cv (tells_less c.implies.ensures.extends (inside_more up c.requires.inside) t)
-          ∙ ap (λ (y : Flow). demand c.args.number c.args.v c.args.s.now (fields_of w) y (register_controls_of α cv) α cv) (c.requires.view.is w) in
+          ∙ ap (λ (y : Flow). demand c.args.number c.args.v c.args.s.now (fields_of w) y (register_controls_of α cv) α cv) (c.requires.flow.is w) in
           rule_by _ _ _ _ _ (c.in_ok-g.ensures.has_truth.is w)
           (premise_by (λ g. truth c.demand_gate.new.b g w) (λ always. premise_when c.args.v c.args.s.now c.args.atoms.now always (fields_of w) α) (is_always_demanded c.args.number) _ _ _
           (c.one_of-premise.ensures ∙ ap (λ x. if x then c.args.always else c.args.going) c.is_always_demanded.ensures) (always.is w α h) (going.is w α h))

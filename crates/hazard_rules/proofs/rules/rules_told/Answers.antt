@@ -1,7 +1,7 @@
 use Rattle.std.proofs.Common.{refl}
 use Rattle.nets.proofs.Truths.{begins_more}
 use Rattle.ctl_formula.proofs.Inside.{inside_more}
-use Rattle.pipe_motion.proofs.Kept.{is_view_kept}
+use Rattle.pipe_motion.proofs.Kept.{is_flow_kept}
 use Rattle.pipe_gates.proofs.Choices.{over_more}
 use Rattle.ctl_rules.proofs.Lists.{counted}
 use Rattle.hazard_rules.proofs.Listed.{rules_more, rules_pushed}
@@ -17,7 +17,7 @@ loop-i-preserved c =
     let up = c.rule_gate.ensures.extends in
     record {
       begins = begins_more old.begins up;
-      view = is_view_kept up old.view;
+      flow = is_flow_kept up old.flow;
       always = over_more up old.always;
       going = over_more up old.going;
       count = counted _ _ _ _ c.in-Ok.ensures.items old.count;

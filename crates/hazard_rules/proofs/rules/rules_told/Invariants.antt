@@ -11,7 +11,7 @@ use Rattle.hazard_rules.proofs.rules.rules_told.Given as goal
 abbrev pub invariant-loop-i : goal.invariant-loop-i
 invariant-loop-i l = record {
   begins : ExtendsNet l.fn.b l.b;
-  view : IsFlow l.b l.p.view (λ w. flow_of l.v l.s (fields_of w));
+  flow : IsFlow l.b l.p.flow (λ w. flow_of l.v l.s (fields_of w));
   always : IsAtomGate l.b l.atoms l.p.always (λ w α. premise_when l.v l.s l.atoms true (fields_of w) α);
   going : IsAtomGate l.b l.atoms l.p.going (λ w α. premise_when l.v l.s l.atoms false (fields_of w) α);
   count : length l.list.items ≡ l.i;

@@ -1,7 +1,7 @@
 use Rattle.std.proofs.Common.{◌∙◌}
 use Rattle.std.proofs.lemmas.Result.{IfOk-weaker}
 use Rattle.nets.proofs.Truths.{begins_more}
-use Rattle.pipe_motion.proofs.Kept.{view_kept, movers_kept, next_by, moved_view_by}
+use Rattle.pipe_motion.proofs.Kept.{flow_kept, controls_kept, next_by, moved_flow_by}
 use Rattle.pipe_motion.proofs.obligations.obligation_25.Goals as goal
 
 pub returns-clause-has_truth : goal.returns-clause-has_truth
@@ -11,7 +11,7 @@ returns-clause-has_truth c =
     IfOk-weaker c.next_right.result _ _ (λ g made. record {
       within = made.within;
       is = λ w.
-          let next = c.in_ok-next.ensures.has_truth.is w ∙ moved_view_by _ _ _ _ _ _ (movers_kept to_1 c.args.k.now w c.requires.controls_in) (c.in_ok-fetched.ensures.has_truth.is w) (view_kept to_1 c.args.v.now w c.requires.flow_in) in
-          made.is w ∙ next_by c.args.je c.args.rm _ _ _ _ _ _ _ _ (movers_kept to_2 c.args.k.now w c.requires.controls_in) (to_2.same _ w c.requires.good_in)
-          (view_kept to_2 c.args.v.now w c.requires.flow_in) next;
+          let next = c.in_ok-next.ensures.has_truth.is w ∙ moved_flow_by _ _ _ _ _ _ (controls_kept to_1 c.args.k.now w c.requires.controls_in) (c.in_ok-fetched.ensures.has_truth.is w) (flow_kept to_1 c.args.v.now w c.requires.flow_in) in
+          made.is w ∙ next_by c.args.je c.args.rm _ _ _ _ _ _ _ _ (controls_kept to_2 c.args.k.now w c.requires.controls_in) (to_2.same _ w c.requires.good_in)
+          (flow_kept to_2 c.args.v.now w c.requires.flow_in) next;
     }) c.next_right.ensures.has_truth

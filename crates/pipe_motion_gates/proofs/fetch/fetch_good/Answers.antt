@@ -5,7 +5,7 @@ use Rattle.net_fields.proofs.Fields.{gate_as}
 use Rattle.pipe_fields.specs.Layout.{fields_of}
 use Rattle.pipe_motion.specs.Gates.{flow_at}
 use Rattle.pipe_motion.specs.Flow.{Flow, youngest_stops}
-use Rattle.pipe_motion.proofs.Kept.{view_kept}
+use Rattle.pipe_motion.proofs.Kept.{flow_kept}
 use Rattle.ctl_rules.proofs.Kept.{asked_one, asked_two, asked_more, asked_as, asked_gate}
 use Rattle.pipe_obligations.specs.Obligations as spec
 use Rattle.pipe_motion_gates.proofs.fetch.fetch_good.Goals as goal
@@ -24,8 +24,8 @@ returns-clause-has_truth c =
     let k5 = c.not.ensures.extends in
     let i5 = inside_more k5 i4 in
     let y = c.args.y.now in
-    let kept1 : (w : List Bool) → flow_at c.on_path.new.b w y ≡ flow_at c.args.b.now w y = λ w. view_kept k1 y w c.requires.view in
-    let kept3 : (w : List Bool) → flow_at c.or.new.self w y ≡ flow_at c.args.b.now w y = λ w. view_kept (begins_more k1 (begins_more k2 k3)) y w c.requires.view in
+    let kept1 : (w : List Bool) → flow_at c.on_path.new.b w y ≡ flow_at c.args.b.now w y = λ w. flow_kept k1 y w c.requires.flow in
+    let kept3 : (w : List Bool) → flow_at c.or.new.self w y ≡ flow_at c.args.b.now w y = λ w. flow_kept (begins_more k1 (begins_more k2 k3)) y w c.requires.flow in
     let right = asked_as c.in_ok-right.ensures.has_truth (λ w α cv. ap (λ (z : Flow). spec.right_pc c.args.v c.args.s.now (fields_of w) z (spec.register_controls_of α cv) α cv) (kept1 w)) in
     let next = asked_two (λ w x z. x || z) k3 i2 (asked_more k2 i1 c.in_ok-ahead.ensures.has_truth) right c.in_ok-next.ensures.has_truth in
     let stops = asked_gate (gate_as c.in_ok-stops.ensures.has_truth (λ w. ap youngest_stops (kept3 w))) in

@@ -1,7 +1,7 @@
 use Rattle.std.proofs.Common.{◌∙◌}
 use Rattle.nets.proofs.Truths.{begins_more}
 use Rattle.ctl_formula.proofs.Inside.{inside_more}
-use Rattle.pipe_motion.proofs.Kept.{view_kept}
+use Rattle.pipe_motion.proofs.Kept.{flow_kept}
 use Rattle.ctl_rules.proofs.Kept.{asked_more, tells_less}
 use Rattle.pipe_motion_gates.proofs.Codes.{next_by}
 use Rattle.pipe_motion_gates.proofs.fetch.obligation_25.Goals as goal
@@ -19,6 +19,6 @@ returns-clause-has_truth c =
       within = c.in_ok-g.ensures.has_truth.within;
       is = λ w α cv t.
           let u = tells_less k3 i2 t in
-          c.in_ok-g.ensures.has_truth.is w ∙ next_by c.args.s.now.je c.args.s.now.rm _ _ _ _ _ _ _ _ (c.register_controls_of-movers.ensures.encodes c.fetched_facts.new.b w α cv u) (good.is w α cv u) (c.in_ok-facts.ensures.has_truth.is w α cv u)
-          (view_kept (begins_more k1 k2) c.args.y.now w c.requires.view);
+          c.in_ok-g.ensures.has_truth.is w ∙ next_by c.args.s.now.je c.args.s.now.rm _ _ _ _ _ _ _ _ (c.register_controls_of-controls.ensures.encodes c.fetched_facts.new.b w α cv u) (good.is w α cv u) (c.in_ok-facts.ensures.has_truth.is w α cv u)
+          (flow_kept (begins_more k1 k2) c.args.y.now w c.requires.flow);
     }

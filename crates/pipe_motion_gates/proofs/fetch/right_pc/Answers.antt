@@ -5,7 +5,7 @@ use Rattle.dp_signals.specs.PipeNames as names
 use Rattle.ctl_formula.proofs.Inside.{inside_more}
 use Rattle.y86_base.specs.Words.{set}
 use Rattle.pipe_fields.specs.Layout.{fields_of}
-use Rattle.pipe_motion.proofs.Kept.{view_kept}
+use Rattle.pipe_motion.proofs.Kept.{flow_kept}
 use Rattle.ctl_rules.specs.ColumnDemands as words
 use Rattle.ctl_rules.proofs.Kept.{asked_more, asked_as, tells_less}
 use Rattle.pipe_obligations.specs.StageFlows.{is_jump}
@@ -31,11 +31,11 @@ returns-clause-has_truth c =
     let m = asked_more k4 i3 (asked_as c.in_ok-m.ensures.has_truth (λ w α cv.
     ap (λ z. (is_jump c.args.v (fields_of w).m.stat (fields_of w).m.icode
     && (if set (fields_of w).m.cnd then c.args.s.now.tv && words.picks_leaf cv names.f_pc (Name names.M_valE) else words.picks_leaf cv names.f_pc (Name names.M_valA)))
-    || (z && words.picks_leaf cv names.f_pc (Name names.m_valM))) (to2.same c.args.y.now.m.ret w c.requires.view.m.ret))) in
-    let last = asked_as c.in_ok-w.ensures.has_truth (λ w α cv. ap (λ z. z && words.picks_leaf cv names.f_pc (Name names.W_valM)) (to3.same c.args.y.now.w.ret w c.requires.view.w.ret)) in
+    || (z && words.picks_leaf cv names.f_pc (Name names.m_valM))) (to2.same c.args.y.now.m.ret w c.requires.flow.m.ret))) in
+    let last = asked_as c.in_ok-w.ensures.has_truth (λ w α cv. ap (λ z. z && words.picks_leaf cv names.f_pc (Name names.W_valM)) (to3.same c.args.y.now.w.ret w c.requires.flow.w.ret)) in
     record {
       within = c.in_ok-g.ensures.has_truth.within;
       is = λ w α cv t.
           let u = tells_less k5 i4 t in
-          c.in_ok-g.ensures.has_truth.is w ∙ youngest_by _ _ _ _ _ _ _ _ _ _ (view_kept (begins_more to3 k4) c.args.y.now w c.requires.view) (never.is w) (e.is w α cv u) (m.is w α cv u) (last.is w α cv u);
+          c.in_ok-g.ensures.has_truth.is w ∙ youngest_by _ _ _ _ _ _ _ _ _ _ (flow_kept (begins_more to3 k4) c.args.y.now w c.requires.flow) (never.is w) (e.is w α cv u) (m.is w α cv u) (last.is w α cv u);
     }

@@ -2,7 +2,7 @@ use Rattle.std.proofs.Common.{◌∙◌, refl}
 use Rattle.nets.proofs.Truths.{begins_more}
 use Rattle.ctl_formula.proofs.Inside.{inside_more}
 use Rattle.pipe_fields.specs.Layout.{fields_of}
-use Rattle.pipe_motion.proofs.Kept.{is_view_kept}
+use Rattle.pipe_motion.proofs.Kept.{is_flow_kept}
 use Rattle.ctl_rules.proofs.Kept.{asked_more}
 use Rattle.pipe_gates.proofs.Choices.{over_more}
 use Rattle.pipe_obligations.specs.Obligations.{register_controls_of}
@@ -10,14 +10,14 @@ use Rattle.pipe_obligations.specs.FileSettings.{witnesses_je, witnesses_lf, witn
 use Rattle.pipe_motion_gates.proofs.Shows.{jump_by, past_by, ret_by}
 use Rattle.pipe_motion_gates.proofs.late_settings.late_gates.Goals as goal
 
-pub no_jump_early-requires-clause-view : goal.no_jump_early-requires-clause-view
-no_jump_early-requires-clause-view c = (is_view_kept c.no_load_passed.ensures.extends c.in_ok-p.ensures.view).within
+pub no_jump_early-requires-clause-flow : goal.no_jump_early-requires-clause-flow
+no_jump_early-requires-clause-flow c = (is_flow_kept c.no_load_passed.ensures.extends c.in_ok-p.ensures.flow).within
 
 pub no_jump_early-requires-clause-plain_in : goal.no_jump_early-requires-clause-plain_in
 no_jump_early-requires-clause-plain_in c = (over_more c.no_load_passed.ensures.extends c.in_ok-p.ensures.plain).within
 
-pub no_ret_early-requires-clause-view : goal.no_ret_early-requires-clause-view
-no_ret_early-requires-clause-view c = (is_view_kept (begins_more c.no_load_passed.ensures.extends c.no_jump_early.ensures.extends) c.in_ok-p.ensures.view).within
+pub no_ret_early-requires-clause-flow : goal.no_ret_early-requires-clause-flow
+no_ret_early-requires-clause-flow c = (is_flow_kept (begins_more c.no_load_passed.ensures.extends c.no_jump_early.ensures.extends) c.in_ok-p.ensures.flow).within
 
 pub no_ret_early-requires-clause-plain_in : goal.no_ret_early-requires-clause-plain_in
 no_ret_early-requires-clause-plain_in c = (over_more (begins_more c.no_load_passed.ensures.extends c.no_jump_early.ensures.extends) c.in_ok-p.ensures.plain).within
@@ -30,7 +30,7 @@ returns-clause-late c =
     let told = asked_more (begins_more c.no_jump_early.ensures.extends c.no_ret_early.ensures.extends) (inside_more k2 i1) c.in_ok-lf.ensures.has_truth in
     record {
       within = told.within;
-      is = λ w α cv h t. told.is w α cv t ∙ past_by c.args.v (fields_of w) (register_controls_of α cv) cv _ _ _ _ (c.in_ok-p.ensures.view.is w) (c.in_ok-p.ensures.plain.is w α h);
+      is = λ w α cv h t. told.is w α cv t ∙ past_by c.args.v (fields_of w) (register_controls_of α cv) cv _ _ _ _ (c.in_ok-p.ensures.flow.is w) (c.in_ok-p.ensures.plain.is w α h);
     }
 
 pub returns-clause-jump : goal.returns-clause-jump
@@ -42,7 +42,7 @@ returns-clause-jump c =
     let told = asked_more c.no_ret_early.ensures.extends (inside_more c.no_jump_early.ensures.extends i2) c.in_ok-je.ensures.has_truth in
     record {
       within = told.within;
-      is = λ w α cv h t. told.is w α cv t ∙ jump_by _ _ _ _ _ _ ((is_view_kept k2 c.in_ok-p.ensures.view).is w) refl ((over_more k2 c.in_ok-p.ensures.plain).is w α h);
+      is = λ w α cv h t. told.is w α cv t ∙ jump_by _ _ _ _ _ _ ((is_flow_kept k2 c.in_ok-p.ensures.flow).is w) refl ((over_more k2 c.in_ok-p.ensures.plain).is w α h);
     }
 
 pub returns-clause-ret : goal.returns-clause-ret
@@ -51,5 +51,5 @@ returns-clause-ret c =
     let k23 = begins_more c.no_load_passed.ensures.extends c.no_jump_early.ensures.extends in
     record {
       within = c.in_ok-rm.ensures.has_truth.within;
-      is = λ w α cv h t. c.in_ok-rm.ensures.has_truth.is w α cv t ∙ ret_by _ _ _ _ _ _ ((is_view_kept k23 c.in_ok-p.ensures.view).is w) refl ((over_more k23 c.in_ok-p.ensures.plain).is w α h);
+      is = λ w α cv h t. c.in_ok-rm.ensures.has_truth.is w α cv t ∙ ret_by _ _ _ _ _ _ ((is_flow_kept k23 c.in_ok-p.ensures.flow).is w) refl ((over_more k23 c.in_ok-p.ensures.plain).is w α h);
     }

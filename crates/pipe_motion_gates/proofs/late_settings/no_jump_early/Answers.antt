@@ -1,6 +1,6 @@
 use Rattle.std.proofs.Common.{◌∙◌}
 use Rattle.ctl_formula.proofs.Inside.{inside_more}
-use Rattle.pipe_motion.proofs.Kept.{view_kept}
+use Rattle.pipe_motion.proofs.Kept.{flow_kept}
 use Rattle.ctl_rules.proofs.Kept.{tells_less}
 use Rattle.pipe_motion_gates.proofs.Shows.{jump_by}
 use Rattle.pipe_motion_gates.proofs.late_settings.no_jump_early.Goals as goal
@@ -11,6 +11,6 @@ returns-clause-has_truth c =
     let i1 = inside_more k1 c.requires.inside in
     record {
       within = c.in_ok-g.ensures.has_truth.within;
-      is = λ w α cv t. c.in_ok-g.ensures.has_truth.is w ∙ jump_by _ _ _ _ _ _ (view_kept k1 c.args.y.now w c.requires.view)
+      is = λ w α cv t. c.in_ok-g.ensures.has_truth.is w ∙ jump_by _ _ _ _ _ _ (flow_kept k1 c.args.y.now w c.requires.flow)
           (c.in_ok-right.ensures.has_truth.is w α cv (tells_less c.no_early_jump.ensures.extends i1 t)) (k1.same c.args.plain w c.requires.plain_in);
     }

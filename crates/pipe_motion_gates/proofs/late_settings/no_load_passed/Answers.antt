@@ -3,7 +3,7 @@ use Rattle.y86_isa.specs.Table.{row}
 use Rattle.y86_isa.specs.RowTests.{stores_val_a}
 use Rattle.ctl_formula.proofs.Inside.{inside_more}
 use Rattle.pipe_fields.specs.Layout.{fields_of}
-use Rattle.pipe_motion.proofs.Kept.{view_kept}
+use Rattle.pipe_motion.proofs.Kept.{flow_kept}
 use Rattle.ctl_rules.proofs.Kept.{tells_less}
 use Rattle.pipe_motion_gates.proofs.Shows.{load_by}
 use Rattle.pipe_motion_gates.proofs.late_settings.no_load_passed.Goals as goal
@@ -19,9 +19,9 @@ returns-clause-has_truth c =
       within = c.in_ok-g.ensures.has_truth.within;
       is = λ w α cv t.
           let u = tells_less k2 i1 t in
-          c.in_ok-g.ensures.has_truth.is w ∙ load_by (stores_val_a (row c.args.v (fields_of w).d.icode).memory) (not ((fields_of w).e.dst_m == 15)) _ _ _ _ _ _ _ _ (view_kept k1 c.args.y.now w c.requires.view)
-          (c.in_ok-equal.ensures.has_truth.is w α cv u) (c.register_controls_of-movers.ensures.encodes c.picks_leaf.new.b w α cv u) (k1.same c.args.plain w c.requires.plain_in);
+          c.in_ok-g.ensures.has_truth.is w ∙ load_by (stores_val_a (row c.args.v (fields_of w).d.icode).memory) (not ((fields_of w).e.dst_m == 15)) _ _ _ _ _ _ _ _ (flow_kept k1 c.args.y.now w c.requires.flow)
+          (c.in_ok-equal.ensures.has_truth.is w α cv u) (c.register_controls_of-controls.ensures.encodes c.picks_leaf.new.b w α cv u) (k1.same c.args.plain w c.requires.plain_in);
     }
 
-pub no_late_load-requires-clause-movers : goal.no_late_load-requires-clause-movers
-no_late_load-requires-clause-movers c = c.register_controls_of-movers.ensures.inside c.picks_leaf.new.b (inside_more c.picks_leaf.ensures.extends c.requires.inside)
+pub no_late_load-requires-clause-controls : goal.no_late_load-requires-clause-controls
+no_late_load-requires-clause-controls c = c.register_controls_of-controls.ensures.inside c.picks_leaf.new.b (inside_more c.picks_leaf.ensures.extends c.requires.inside)

@@ -7,5 +7,5 @@ use Rattle.pipe_motion_gates.proofs.motion.obligation_26.Goals as goal
 pub returns-clause-has_truth : goal.returns-clause-has_truth
 returns-clause-has_truth c = record {
   within = c.in_ok-g.ensures.has_truth.within;
-  is = λ w α cv t. c.in_ok-g.ensures.has_truth.is w ∙ ap (λ k. motion.o26 k (flow_at c.args.b.now w c.args.y.now)) (c.register_controls_of-movers.ensures.encodes c.args.b.now w α cv (tells_less c.obligation_26.ensures.extends c.requires.inside t));
+  is = λ w α cv t. c.in_ok-g.ensures.has_truth.is w ∙ ap (λ k. motion.o26 k (flow_at c.args.b.now w c.args.y.now)) (c.register_controls_of-controls.ensures.encodes c.args.b.now w α cv (tells_less c.obligation_26.ensures.extends c.requires.inside t));
 }

@@ -12,5 +12,5 @@ returns-clause-has_truth c = record {
   within = c.in_ok-g.ensures.has_truth.within;
   is = λ w α h. c.in_ok-g.ensures.has_truth.is w α h
       ∙ ap (λ (y : Flow). allowed c.args.v (fields_of w) && (legal_with c.args.v c.args.s.now.tv c.args.s.now.lf c.args.s.now.je c.args.s.now.rm c.args.atoms.now (fields_of w) y α && (c.args.always || not (is_stopping (fields_of w)))))
-      (c.requires.view.is w);
+      (c.requires.flow.is w);
 }

@@ -3,7 +3,7 @@ use Rattle.nets.proofs.Truths.{begins_more}
 use Rattle.ctl_formula.proofs.Inside.{inside_more}
 use Rattle.dp_signals.specs.PipeNames as signal
 use Rattle.pipe_fields.specs.Layout.{fields_of}
-use Rattle.pipe_motion.proofs.Kept.{view_kept}
+use Rattle.pipe_motion.proofs.Kept.{flow_kept}
 use Rattle.pipe_obligations.specs.Obligations as spec
 use Rattle.ctl_rules.proofs.Kept.{asked_two, asked_more, asked_as}
 use Rattle.pipe_stage_gates.proofs.Joined.{right_by}
@@ -24,6 +24,6 @@ returns-clause-has_truth c =
     let i5 = inside_more k5 i4 in
     let up = begins_more k1 (begins_more k2 k3) in
     let right = asked_as c.in_ok-right.ensures.has_truth (λ w α cv. right_by c.args.v c.args.s.now (fields_of w) (spec.register_controls_of α cv) α cv signal.d_valA signal.d_srcA signal.d_rvalA _ _ _ _
-    (view_kept up c.args.y.now w c.requires.view) (c.in_ok-late.ensures.has_truth.is w)) in
+    (flow_kept up c.args.y.now w c.requires.flow) (c.in_ok-late.ensures.has_truth.is w)) in
     let both = asked_two (λ w x y. x && y) k5 i4 (asked_more (begins_more k3 k4) i2 c.in_ok-next_pc.ensures.has_truth) right c.in_ok-both.ensures.has_truth in
     asked_two (λ w x y. x || y) c.or.ensures.extends i5 (asked_more (begins_more k2 (begins_more k3 (begins_more k4 k5))) i1 c.in_ok-stays.ensures.has_truth) both c.in_ok-g.ensures.has_truth

@@ -24,7 +24,7 @@ returns-clause-has_truth c =
     let i3 = inside_more k3 i2 in
     let k4 = c.picks_leaf.ensures.extends in
     let i4 = inside_more k4 i3 in
-    let good = asked_more (begins_more k1 k2) i0 (asked_gate (gate_there c.requires.view.e.good)) in
+    let good = asked_more (begins_more k1 k2) i0 (asked_gate (gate_there c.requires.flow.e.good)) in
     let in_e = asked_two (λ w x y. x && y) k3 i2 good c.in_ok-writes.ensures.has_truth c.in_ok-in_e.ensures.has_truth in
     let older = asked_more (begins_more k2 (begins_more k3 k4)) i1 c.in_ok-older.ensures.has_truth in
     asked_as (asked_three (λ x y z. if x then y else z) c.choose.ensures.extends i4 (asked_more k4 i3 in_e) c.in_ok-taken.ensures.has_truth older c.in_ok-g.ensures.has_truth)

@@ -1,5 +1,5 @@
 use Rattle.pipe_gates.proofs.Known.{known_F_stall, known_F_bubble, known_D_stall, known_D_bubble, known_E_stall, known_E_bubble, known_M_stall, known_M_bubble, known_W_stall, known_W_bubble}
-use Rattle.pipe_gates.proofs.movers.register_controls_of.Goals as goal
+use Rattle.pipe_gates.proofs.register_controls.register_controls_of.Goals as goal
 
 pub register_control_of-requires-clause-stall_known : goal.register_control_of-requires-clause-stall_known
 register_control_of-requires-clause-stall_known c = known_F_stall c.requires

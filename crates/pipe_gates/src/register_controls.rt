@@ -49,12 +49,12 @@ pub fn register_controls_of(ctl: &Controls) -> RegisterControlsGates
 /// No good instruction leaves D.
 pub fn none_leaves(b: &mut NetBuilder, ctl: &Controls, y: &FlowGates) -> Result<u64, Memory>
     requires inside { IsInside b.old ctl.now }
-    requires view { HasFlow (length b.old.gates) y.now }
+    requires flow { HasFlow (length b.old.gates) y.now }
     requires known { Covers pipe_rows ctl.now }
     ensures extends { ExtendsNet b.old b.new }
     ensures has_truth { IfOk result (λ g. IsControlGate b.new ctl.now g (λ w α cv. not (leaves (spec.register_controls_of α cv) (flow_at b.old w y.now)))) }
 {
-    let movers = register_controls_of(ctl);
-    let goes = leaves_gate(b, &movers, y)?;
+    let controls = register_controls_of(ctl);
+    let goes = leaves_gate(b, &controls, y)?;
     b.not(goes)
 }

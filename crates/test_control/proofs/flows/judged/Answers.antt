@@ -1,7 +1,7 @@
 use Rattle.std.proofs.Common.{◌<◌, ℕ, arith, length}
 use Rattle.pipe_motion.specs.Gates.{HasFlow}
-use Rattle.pipe_motion.proofs.Kept.{view_in}
-use Rattle.test_control.proofs.views.judged.Goals as goal
+use Rattle.pipe_motion.proofs.Kept.{flow_stays}
+use Rattle.test_control.proofs.flows.judged.Goals as goal
 
 pub flow_legal_gate-requires : goal.flow_legal_gate-requires
 flow_legal_gate-requires c =
@@ -15,4 +15,4 @@ path_gate-requires c =
     let yes = c.in_ok-yes.ensures.has_truth.within in
     let more = c.constant-2.ensures.extends.more in
     let no = c.in_ok-no.ensures.has_truth.within in
-    view_in c.flow_legal_gate.ensures.extends.more _ (record { d = c.slot.ensures _ (omega (arith, yes, more)) no; e = c.slot-2.ensures _ (omega (arith, yes, more)) no; m = c.slot-3.ensures _ (omega (arith, yes, more)) no; w = c.slot-4.ensures _ (omega (arith, yes, more)) no })
+    flow_stays c.flow_legal_gate.ensures.extends.more _ (record { d = c.slot.ensures _ (omega (arith, yes, more)) no; e = c.slot-2.ensures _ (omega (arith, yes, more)) no; m = c.slot-3.ensures _ (omega (arith, yes, more)) no; w = c.slot-4.ensures _ (omega (arith, yes, more)) no })

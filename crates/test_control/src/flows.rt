@@ -86,7 +86,7 @@ static SEEN: [Seen; 24] = [
     seen!(Bubble, Bubble, Stops, Stops, true, true, false, false),
 ];
 
-macro_rules! slot {
+macro_rules! stage_flow {
     ($good:expr, $wrong:expr, $stops:expr, $ret:expr, $missed:expr) => {
         StageFlowGates {
             good: $good,
@@ -99,17 +99,17 @@ macro_rules! slot {
 }
 
 /// The gates of what stands in a register, each one of two.
-fn slot(held: Held, yes: u64, no: u64) -> StageFlowGates
+fn stage_flow(held: Held, yes: u64, no: u64) -> StageFlowGates
     ensures { (n : ℕ) → yes < n → no < n → HasStageFlow n result }
 {
     match held {
-        Held::Bubble => slot!(no, no, no, no, no),
-        Held::Wrong => slot!(no, yes, no, no, no),
-        Held::Good => slot!(yes, no, no, no, no),
-        Held::Stops => slot!(yes, no, yes, no, no),
-        Held::Ret => slot!(yes, no, no, yes, no),
-        Held::RetThatStops => slot!(yes, no, yes, yes, no),
-        Held::Missed => slot!(yes, no, no, no, yes),
+        Held::Bubble => stage_flow!(no, no, no, no, no),
+        Held::Wrong => stage_flow!(no, yes, no, no, no),
+        Held::Good => stage_flow!(yes, no, no, no, no),
+        Held::Stops => stage_flow!(yes, no, yes, no, no),
+        Held::Ret => stage_flow!(yes, no, no, yes, no),
+        Held::RetThatStops => stage_flow!(yes, no, yes, yes, no),
+        Held::Missed => stage_flow!(yes, no, no, no, yes),
     }
 }
 
@@ -119,10 +119,10 @@ fn judged(alloc: Global, s: &Seen) -> Result<(bool, bool), Memory> {
     let yes = b.constant(true)?;
     let no = b.constant(false)?;
     let view = FlowGates {
-        d: slot(s.d, yes, no),
-        e: slot(s.e, yes, no),
-        m: slot(s.m, yes, no),
-        w: slot(s.w, yes, no),
+        d: stage_flow(s.d, yes, no),
+        e: stage_flow(s.e, yes, no),
+        m: stage_flow(s.m, yes, no),
+        w: stage_flow(s.w, yes, no),
     };
     let lawful = flow_legal_gate(&mut b, &view, s.je, s.rm)?;
     let path = path_gate(&mut b, &view)?;
@@ -138,7 +138,7 @@ fn judged(alloc: Global, s: &Seen) -> Result<(bool, bool), Memory> {
 }
 
 #[test]
-fn views_by_hand(rt: HostRuntime) -> Result<(), Fail> {
+fn flows_by_hand(rt: HostRuntime) -> Result<(), Fail> {
     for s in &SEEN {
         let (is_lawful, is_on_path) = judged(rt.alloc(), s)?;
         assert_eq!(rt; is_lawful, s.is_lawful);
