@@ -1,4 +1,4 @@
-//! The faults of assembly as facts: every faulty line, and what the grammar wants at which place of it.
+//! The faults of assembly as facts: every faulty line, the place of its fault, and what the grammar wants there.
 #![tactic(auto)]
 
 mod lines;

@@ -1,5 +1,5 @@
 //! Reduced ordered decision diagrams (Bryant, Graph-based algorithms for Boolean function manipulation, 1986): the
-//! formulas of a net as diagrams, of which two are the same exactly where their truths are.
+//! formulas of a net as diagrams. Two diagrams are the same exactly if their formulas have the same truths.
 //!
 //! An example: the diagram of `a && b`, where `a` is decided first, is a node of `a`. Its low diagram, where `a` is 0,
 //! is false; its high one is a node of `b`, with false below it where `b` is 0, and true where `b` is 1.

@@ -1,7 +1,7 @@
-//! Decisions on formulas: which of several gates of a net is the first that is false of some valuation, and of which
-//! least one. A pass over the whole net, with diagrams that are bounded, answers for nearly every list of which all
-//! gates are true. Where it doesn't, the valuations are searched part by part, by their first bits: the diagrams of
-//! the parts together are far smaller than those of the whole. A part in which they are large still is parted again.
+//! Decisions on formulas: which of several gates of a net is the first that is false of some valuation, with the least
+//! such valuation. First, a pass over the whole net with bounded diagrams decides nearly every list whose gates are
+//! all true. Where it doesn't, the valuations are searched part by part, by their first bits: the diagrams of the
+//! parts together are far smaller than those of the whole. A part whose diagrams are still large is split again.
 #![tactic(auto)]
 
 mod decision;

@@ -1,4 +1,5 @@
-//! Certificates of HCL files for PIPE: what one has to show, what follows from it, and the calls to write and check one.
+//! Certificates of HCL files for PIPE: what a certificate has to show, what follows from it, and the calls to write
+//! and check it.
 #![tactic(auto)]
 
 mod demanded;

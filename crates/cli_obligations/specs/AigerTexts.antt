@@ -41,7 +41,7 @@ pub record AnswersAig (v : Variant) (terms : List Term) (a : Answer) : Type 0 wh
   pub tells : IsAigOfDesign v terms text
   pub told : a ≡ done 0 text
 
--- the answers to the obligations of a design
+-- what `aig` may answer for a design
 abbrev pub AigAnswers : List ℕ → Variant → List Term → Answer → Type 0
 AigAnswers name v terms a = AnswersAig v terms a ⊎ RefusesControl name pipe_rows terms a
 

@@ -1,4 +1,4 @@
-//! Plans: what a call reads and may say, and whether its command did so; and the stages that commands share.
+//! Plans: what a call reads and may answer, whether its command kept to that, and the stages that commands share.
 #![tactic(auto)]
 
 mod calls;

@@ -1,4 +1,4 @@
-//! Sequential machines that do one clock cycle a call, of whatever datapath, and their runs up to a limit.
+//! Clocked machines of any datapath, which do one clock cycle in each call, and their runs up to a limit.
 #![tactic(auto)]
 
 mod records;

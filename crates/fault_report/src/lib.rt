@@ -1,5 +1,6 @@
-//! The faults of HCL, assembly and object text in sentences: text in, sentences and facts out. The sentences are data, in
-//! the tables of `hcl_rules` and `asm_rules`, and in `hcl_binding` and `object` those on what has one sentence a reason.
+//! The faults of HCL, assembly and object text in sentences: text in, sentences and facts out. The sentences are data,
+//! in the tables of `hcl_rules` and `asm_rules`. `hcl_binding` and `object` have those on faults with one sentence for
+//! each reason.
 #![tactic(auto)]
 
 mod asm_rules;

@@ -1,7 +1,7 @@
 //! What obligations require of signals, as data, and what is found of the signals at one valuation.
 //!
-//! A requirement names a signal and what it has to be. A finding says of a requirement what the file picks, whether that is right,
-//! and by which case of the signal's definition.
+//! A requirement names a signal and what it has to be. A finding says what the file picks for the signal, by which
+//! case of its definition, and whether that is right.
 //!
 //! An example: D holds `addq %rax, %rbx`, so `d_dstE` has to be the number of `%rbx`. A finding says that the file
 //! picks `D_rA`, that this is wrong, and that the second case of the definition was taken.

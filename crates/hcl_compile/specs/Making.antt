@@ -33,7 +33,7 @@ abbrev pub of_none : Quantifier → Targets → ℕ
 of_none All to = to.hit
 of_none Any to = to.miss
 
--- the targets of an element, where the decision of those after it begins at rest
+-- where an element leads, if the decision of the elements after it begins at the target `rest`
 abbrev pub ahead_of : Quantifier → ℕ → Targets → Targets
 ahead_of All rest to = record { hit = rest; miss = to.miss }
 ahead_of Any rest to = record { hit = to.hit; miss = rest }

@@ -1,5 +1,5 @@
-//! Theorems on designs: a printed file is read back; a design has an order if no name depends on itself; it has one first
-//! cycle and one list of atoms at most.
+//! Theorems on designs: a printed file is read back; a design has an order if no name depends on itself; it has at
+//! most one first cycle of names, and at most one list of atoms.
 #![tactic(auto)]
 
 mod laws;

@@ -1,5 +1,5 @@
-//! Gates on legal valuations, on which of them obligations are asked of, on obligations 23 to 27, and on the settings lf, je
-//! and rm.
+//! Gates that say which valuations are legal, at which of these an obligation is demanded, what obligations 23 to 27
+//! demand, and what the settings lf, je and rm are.
 #![tactic(auto, using(nets::proofs::Truths::begins_more, nets::proofs::Truths::begins_self))]
 
 mod fetch;

@@ -1,4 +1,4 @@
-//! PIPE's legal valuations, the 27 obligations and the settings of a file: what an HCL file for the pipeline has to ask
+//! PIPE's legal valuations, the 27 obligations and the settings of a file: what an HCL file for the pipeline has to do
 //! (CS:APP 3e, sections 4.5.5 to 4.5.8).
 #![tactic(auto)]
 

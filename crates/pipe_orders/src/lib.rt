@@ -1,6 +1,7 @@
 //! Orders of the bits of PIPE's control valuations in which the diagrams of its formulas are small.
 //!
-//! They are for time and length alone: what is decided or certified holds in any order.
+//! They matter only for the time of a check and the length of a certificate: what is decided or certified holds in any
+//! order.
 #![tactic(auto)]
 
 mod order;

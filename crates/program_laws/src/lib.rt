@@ -1,5 +1,5 @@
-//! What `psim` and `yis` print under an accepted file: of a program that `watch` found apart, or that doesn't write its own
-//! code.
+//! What `psim` and `yis` print under an accepted file, for a program that meets the premise by `watch` (`Apart`), or
+//! that doesn't write its own code.
 #![tactic(auto)]
 
 mod laws;

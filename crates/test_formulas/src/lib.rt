@@ -1,4 +1,5 @@
-//! Formulas on which diagrams are measured and tested, with wires that check their numbers when they are used; and the tests.
+//! Formulas on which diagrams are measured and tested, and the tests. `Wires` builds their nets, and checks the number
+//! of each gate that it is given.
 #![tactic(auto)]
 
 #[cfg(test)]

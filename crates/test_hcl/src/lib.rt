@@ -1,4 +1,5 @@
-//! Tests of HCL inside: the trees of a text, the values of terms on both evaluators, orders and the nodes of a definition.
+//! Tests of internal functions of the HCL crates: the trees of a text, the values of terms on both evaluators, orders,
+//! and the nodes of a definition.
 #![tactic(auto)]
 
 #[cfg(test)]

@@ -1,4 +1,5 @@
-//! What the files of a command hold allows one answer at most. Excepted are `recheck`, and the texts of `aig` and `--cert`.
+//! For given contents of its files, a command has at most one answer. Excepted are `recheck`, and the texts of `aig`
+//! and `--cert`.
 #![tactic(auto)]
 
 mod laws;

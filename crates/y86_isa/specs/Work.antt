@@ -42,7 +42,7 @@ executed before r f d =
       dst_e = destination_e r.conditional cnd d.raw_dst_e;
     }
 
--- memory (figure 4.30): the word that is read, or the store that is done, unless it isn't inside
+-- the access to memory (figure 4.30): the word that is read, or the store, which is done only inside memory
 abbrev pub accessed : List ℕ → Row → Fetched → ℕ → ℕ → Accessed
 accessed memory r f val_a val_e =
     let address = data_address r.memory val_a val_e in

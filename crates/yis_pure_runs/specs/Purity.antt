@@ -18,7 +18,8 @@ StoresAvoidCode v image n =
     (i j : ℕ) (r : Rec) (store : Store) → i < n → j < i → (run v image i).stat ≡ Aok →
     retired v (run v image j) ≡ Some r → r.store ≡ Some store → AvoidsStore v (run v image i) store
 
--- the bytes of examples/call.yo (irmovq $0x100, %rsp; call function; halt; function: ret), and its image of 512 bytes
+-- the bytes of examples/programs/call.yo (irmovq $0x100, %rsp; call function; halt; function: ret), and its image of
+-- 512 bytes
 abbrev pub call_bytes : List ℕ
 call_bytes = 48 ∷ 244 ∷ 0 ∷ 1 ∷ 0 ∷ 0 ∷ 0 ∷ 0 ∷ 0 ∷ 0 ∷ 128 ∷ 20 ∷ 0 ∷ 0 ∷ 0 ∷ 0 ∷ 0 ∷ 0 ∷ 0 ∷ 0 ∷ 144 ∷ []
 

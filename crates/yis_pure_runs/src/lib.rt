@@ -1,4 +1,5 @@
-//! Programs that fetch nothing that they stored, or nothing that they have just stored: when an image is one, and an example.
+//! Programs that fetch nothing that they stored, or nothing that they have just stored: which images are such
+//! programs, and an example.
 #![tactic(auto)]
 
 mod laws;

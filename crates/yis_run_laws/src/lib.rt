@@ -1,4 +1,5 @@
-//! The run of an image at the level of instructions, one instruction after the other: laws that the refinement theorems walk by.
+//! The run of an image at the level of instructions, one instruction after the other: laws by which the proofs of the
+//! refinement theorems follow a run.
 #![tactic(auto)]
 
 mod laws;

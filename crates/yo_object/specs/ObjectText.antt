@@ -52,7 +52,7 @@ unfoldable pub put_line : List ℕ → List ℕ → Result (List ℕ) YoWhy
 put_line memory line =
     option_map_or (λ text. option_map_or (put_digits memory) (digits_of text) (Err Syntax)) (after_prefix (behind is_blank line)) (Ok memory)
 
--- what a line's memory goes on to, or the line's fault
+-- what the later lines make of the memory after this line, or this line's fault
 abbrev pub after_line : ℕ → (List ℕ → Result (List ℕ) YoFault) → Result (List ℕ) YoWhy → Result (List ℕ) YoFault
 after_line number rest (Ok memory) = rest memory
 after_line number rest (Err why) = Err (record { line = number; why = why })
