@@ -220,8 +220,8 @@ def test_settings_in_words(y86_tell):
     """The sentences of a yes: of the jumps the predicted ones, and a sentence for each other setting."""
     said = y86_tell("check", "pipe", "a.hcl", files={"a.hcl": design("all_shortcuts")}).out.decode()
     lines = [line.strip() for line in said[said.index("Its settings:") :].splitlines()[2:8]]
-    same(lines[0], "Of forward jumps it predicts as taken: jmp.")
-    same(lines[1], "Of backward jumps it predicts as taken: jmp, jle, jl, je, jne, jge, jg.")
+    same(lines[0], "Forward jumps that it predicts as taken: jmp.")
+    same(lines[1], "Backward jumps that it predicts as taken: jmp, jle, jl, je, jne, jge, jg.")
     same(len(lines), 6)
     same(lines[4].rpartition(": ")[2], "it costs one bubble.")
 

@@ -144,7 +144,7 @@ def test_yes(y86_tell):
     status, out, err = y86_tell("check", "pipe", "d.hcl", files={"d.hcl": example("std")}).text()
     assert (status, err) == (0, "")
     assert out.startswith("yes: all 27 obligations hold.\n")
-    assert "Of forward jumps it predicts as taken: jmp, jle, jl, je, jne, jge, jg." in out
+    assert "Forward jumps that it predicts as taken: jmp, jle, jl, je, jne, jge, jg." in out
 
 
 def test_verdicts_agree(y86, y86_tell):

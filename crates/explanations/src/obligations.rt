@@ -263,7 +263,7 @@ static MOTION: [Obligation; 5] = [
         group: "hazards",
         brief: "instructions on the wrong path are cancelled, and the fetch follows the program",
         signals: "f_pc F_stall F_bubble D_stall D_bubble E_stall E_bubble M_stall M_bubble W_stall W_bubble",
-        demand: "The next cycle is again one of the situations that are considered (conditions 1 to 5 under \"Which situations are considered\" in docs/OBLIGATIONS.md). No instruction on the wrong path reaches M or W. If the next cycle needs a right predicted PC, it has one: if D loads the program's next instruction, F loads; if not, F is stalled, and the predicted PC that it holds is right.",
+        demand: "The next cycle is again one of the situations that are considered (conditions 1 to 5 under \"Which situations are considered\" in docs/OBLIGATIONS.md). No instruction on the wrong path reaches M or W. If the next cycle has to fetch at the predicted PC, that PC is right: F loads if D loads the program's next instruction. Otherwise F is stalled, and the PC that it holds is right.",
         reason: "This is how a pipeline stays right: it cancels instructions on the wrong path before they change anything, it skips none and fetches none twice, and the fetch follows the program.",
         book: "sections 4.5.5 (control hazards) and 4.5.8",
     },
@@ -445,8 +445,8 @@ static SEQ_PLUS_LAST: [Obligation; 1] = [Obligation {
     group: "next address",
     brief: "the PC, by the instruction before",
     signals: "pc",
-    demand: "`pc` is where the instruction before goes on: pValC for a `call` and for a jump with `pCnd` 1, pValM for a `ret`, and pValP for all others.",
-    reason: "Otherwise another instruction than the program's would come next. SEQ+ stops at an instruction that faults: nothing follows it, so faults need no exception here.",
+    demand: "`pc` is where the program goes on after the previous instruction: pValC for a `call` and for a jump with `pCnd` 1, pValM for a `ret`, and pValP for all others.",
+    reason: "Otherwise the next instruction wouldn't be the program's. SEQ+ stops at an instruction that faults: nothing follows it, so faults need no exception here.",
     book: "section 4.5.1",
 }];
 

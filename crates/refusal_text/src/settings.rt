@@ -35,10 +35,10 @@ fn put_choice(out: &mut String, is_on: bool, on: &str, off: &str) -> Result<(), 
 /// Writes a yes: the settings of the file, a line each.
 pub fn put_settings(out: &mut String, s: &Settings) -> Result<(), AllocError> {
     out.push_str(
-        "yes: all 27 obligations hold.\n\nThis pipeline does what the instructions mean, for every program that fetches no byte that one of the\nthree instructions before had stored. Its settings:\n\n    Of forward jumps it predicts as taken: ",
+        "yes: all 27 obligations hold.\n\nThis pipeline does what the instructions mean, for every program in which no instruction overwrites\none of the next three. Its settings:\n\n    Forward jumps that it predicts as taken: ",
     )?;
     put_jumps(out, &s.pt)?;
-    out.push_str(".\n    Of backward jumps it predicts as taken: ")?;
+    out.push_str(".\n    Backward jumps that it predicts as taken: ")?;
     put_jumps(out, &s.pb)?;
     out.push_str(".\n")?;
     put_choice(

@@ -1,1 +1,1 @@
-"""AIGER files of `y86 aig`, for solvers of other makers."""
+"""AIGER files of `y86 aig`, for outside solvers."""

@@ -88,5 +88,5 @@ def made_files(programs: Programs, page: str, folder: str) -> Iterator[tuple[str
         yield f"{broken.obligation}: {broken.base}, changed", path
 
 
-SUMMARY = "makes the obligations readable for solvers of other makers, and asks them"
+SUMMARY = "translates the obligations for outside solvers, and asks the solvers"
 COMMAND = Command("aig", SUMMARY, add_arguments, run)

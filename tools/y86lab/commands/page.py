@@ -116,4 +116,4 @@ def refusal_data(programs: Programs, path: str, full: bool) -> tuple[str, Data, 
     return f"{names['hcl']}: {said}", data, said
 
 
-COMMAND = Command("page", "draws a run by cycles, or a no, into an HTML file", add_arguments, run)
+COMMAND = Command("page", "draws a run cycle by cycle, or the situation of a no, into an HTML file", add_arguments, run)
