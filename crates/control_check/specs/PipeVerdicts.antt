@@ -37,8 +37,8 @@ pub record AreFileRules (v : Variant) (terms : List Term) (r : Rules) : Type 0 w
   pub are_rules : AreRules v terms settings r.net r.list
   pub variant : r.variant ≡ v
 
--- Yes: every obligation holds of every valuation, at the file's settings. No: one doesn't, and the first such is told with its least
--- valuation and the design's atoms; so the design is accepted at no settings.
+-- Yes: every obligation holds of every valuation, at the file's own settings. No: one doesn't. The first such obligation is told with
+-- its least valuation and the design's atoms. The design is then accepted at no settings: a file has only its own.
 pub record AcceptsPipe (v : Variant) (terms : List Term) (s : Settings) : Type 0 where
   pub settings : AreSettings v terms s
   pub holds : Holds v settings.atoms (PipeControls terms) s
