@@ -41,8 +41,9 @@ impl Weave {
 pub enum Layout {
     /// Stage by stage, the registers of each behind its other fields.
     Stages,
-    /// The same, behind the icode in E: for a part of the valuations where the diagrams are large, which is parted again by the
-    /// first variables (tried out beside the icodes in D and M, on the changed files whose diagrams are the largest).
+    /// The icode in E first, and the registers of all stages last, four of their fields side by side. It is for a part of the
+    /// valuations whose diagrams are large, which is split again by the first variables. On the changed files with the largest
+    /// diagrams, the icode in E was the best of the three in D, E and M.
     LargePart,
     /// The registers of all stages last. Where registers of one stage are compared with each other or with constants, their
     /// fields are best one after another. Where a file compares registers of several stages, that order doubles the diagrams with
