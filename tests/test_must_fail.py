@@ -18,10 +18,13 @@ def read(path):
 
 
 def contracts(crate, function):
-    """The clauses of each function of this name in a crate, by their names: that of a clause without a name is None."""
-    for path in sorted(glob.glob(f"crates/{crate}/src/**/*.rt", recursive=True, root_dir=TOP)):
-        for head in re.findall(rf"^[^\n/]*\bfn {function}\b(.*?)(?:^ *\{{|\{{\n|;\n)", read(path), flags=re.M | re.S):
-            yield [name or None for name in re.findall(r"^ *ensures (?:(\w+) )?\{", head, flags=re.M)]
+    """The clauses of each function of this name in a crate and in those that it needs (a method's contract stands in the trait), by their
+    names: that of a clause without a name is None."""
+    needed = next(line.split() for line in read("crates.txt").split("\n") if line.startswith(f"{crate}:"))
+    for name in (crate, *needed[1:]):
+        for path in sorted(glob.glob(f"crates/{name}/src/**/*.rt", recursive=True, root_dir=TOP)):
+            for head in re.findall(rf"^[^\n/]*\bfn {function}\b(.*?)(?:^ *\{{|\{{\n|;\n)", read(path), flags=re.M | re.S):
+                yield [name or None for name in re.findall(r"^ *ensures (?:(\w+) )?\{", head, flags=re.M)]
 
 
 def crate_of(path):
