@@ -1,5 +1,5 @@
 -- The line of a cycle and its signals, where the design asks what the obligations ask.
-use Rattle.std.proofs.Common.{◌≡◌, ℕ, ◌≤◌, Bool, true, false, cond, refl, sym, ap, ◌∙◌, arith}
+use Rattle.std.proofs.Common.{◌≡◌, ℕ, ◌≤◌, Bool, true, false, cond, List, refl, sym, ap, ◌∙◌, arith}
 use Rattle.y86_base.specs.Words.{set}
 use Rattle.y86_base.specs.declared.parts.Variant.{Variant}
 use Rattle.y86_base.proofs.Booleans.{and_first, and_second}
