@@ -80,7 +80,7 @@ def test_iaddq_in_a_comment(explain):
 REACHES_M = ["WRONG: An instruction on the wrong path reaches M, where it changes something.", "",
     "A repair: each of these changes alone makes O10, O11 and O23 to O27 hold in this situation.", "    Invert M_bubble."]
 HALT_ALONE = "m_stat in { SHLT } || W_stat in { SHLT }"
-SKIPPED = "The fetched instruction doesn't enter D, and F goes on: an instruction is skipped."
+SKIPPED = "D doesn't load the program's next instruction, and F goes on: that instruction is skipped."
 LOST = "The instruction in D doesn't go on to E, and D doesn't keep it: it is lost."
 SET_CC = ["    WRONG  set_cc is 1. It has to be 0.", "           It reads E_icode = 6 (IOPQ), m_stat = 1 (SAOK), W_stat = 0 (SBUB)."]
 MEND_FIRST = "Mend {} first: its wrong signals don't depend on the wrong signals of another obligation."
@@ -270,7 +270,7 @@ YES = b"yes pt=1111111 pb=1111111 tv=0 lf=0 je=0 rm=0\n"
 USAGE_WITNESS = b"usage: y86-lab witness [-h] [--full] [-o FILE] [--tries N] [--seconds N] [--seed N] HCL\ny86-lab witness: error: "
 # The words, the status and both streams.
 WITNESS = [
-    (("witness", "flags.hcl"), 0, b"flags.hcl: " + YES + b"So no program without `iaddq` shows a mistake: this file is right for every one.\n"
+    (("witness", "flags.hcl"), 0, b"flags.hcl: " + YES + b"So no program without `iaddq` in which no instruction overwrites one of the next three shows a mistake.\n"
         b"`iaddq` wasn't checked: `--full` checks it too.\n", b""),
     (("witness", "unseen.hcl", "--tries", "1"), 1, b"unseen.hcl: no O25\nTrying up to 1 programs until one shows it, for at most 60 s.\n"
         b"None of 1 programs shows the mistake. The rule is broken all the same: a program that shows it may be rare,\n"

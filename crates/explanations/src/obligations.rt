@@ -263,7 +263,7 @@ static MOTION: [Obligation; 5] = [
         group: "hazards",
         brief: "instructions on the wrong path are cancelled, and the fetch follows the program",
         signals: "f_pc F_stall F_bubble D_stall D_bubble E_stall E_bubble M_stall M_bubble W_stall W_bubble",
-        demand: "The next cycle is again one of the situations that are considered (conditions 1 to 5 under \"Which situations are considered\" in docs/OBLIGATIONS.md). No instruction on the wrong path reaches M or W. If the next cycle has to fetch at the predicted PC, that PC is right: F loads if D loads the program's next instruction. Otherwise F is stalled, and the PC that it holds is right.",
+        demand: "The next cycle is again one of the situations that are considered (conditions 1 to 5 under \"Which situations are considered\" in docs/OBLIGATIONS.md). No instruction on the wrong path reaches M or W. If the next cycle has to fetch at the predicted PC, that PC is right: if D loads the program's next instruction, F loads too; if D doesn't, F is stalled, and already holds the right PC.",
         reason: "This is how a pipeline stays right: it cancels instructions on the wrong path before they change anything, it skips none and fetches none twice, and the fetch follows the program.",
         book: "sections 4.5.5 (control hazards) and 4.5.8",
     },

@@ -208,7 +208,7 @@ fn add_fetch(said: &mut Sentences, m: &Motion) -> Result<(), AllocError> {
     )?;
     said.add_if(
         !enters && !k.f.stall,
-        "The fetched instruction doesn't enter D, and F goes on: an instruction is skipped.",
+        "D doesn't load the program's next instruction, and F goes on: that instruction is skipped.",
     )?;
     said.add_if(
         !enters && k.f.stall && !m.is_on_path,

@@ -52,7 +52,8 @@ def run(arguments: argparse.Namespace, programs: Programs) -> int:
     note = tell.unasked(text, full)
     if answer.status == DONE:
         which = " without `iaddq`" if note else ""
-        print(f"So no program{which} shows a mistake: this file is right for every one.")
+        which += " in which no instruction overwrites one of the next three" if datapath == "pipe" else ""
+        print(f"So no program{which} shows a mistake.")
     if note:
         print(note)
     return DONE if answer.status == DONE or not design else search(arguments, programs, datapath, design)
