@@ -1,5 +1,5 @@
-//! Sequential datapaths (CS:APP 3e, sections 4.3 and 4.5.1), which do one instruction in each cycle, with what their state holds as a
-//! cycle begins as a parameter: where their signals stand, their tables, the values and the end of a cycle, and their machines.
+//! Sequential datapaths (CS:APP 3e, sections 4.3 and 4.5.1): one instruction in each cycle, for any kind of state between cycles. The
+//! rows of their signals, their tables, the values and the end of a cycle, and their machines.
 #![tactic(auto)]
 
 mod cycle;

@@ -105,7 +105,7 @@ pub record FoundSoFar : Type 0 where
 abbrev pub nothing_filled : FoundSoFar
 nothing_filled = record { words = []; values = None ∷ None ∷ None ∷ None ∷ None ∷ None ∷ [] }
 
--- what is found with one more argument: nothing if it is a fourth place, or an option for the second time
+-- what is found with one more argument: nothing if it is a fourth one without an option, or an option given twice
 abbrev pub added : FoundSoFar → Argument → Option FoundSoFar
 added f (place word) = if nat_lt (length f.words) 3 then Some (record f { words = f.words ++ word ∷ [] }) else None
 added f (switch s n) =
