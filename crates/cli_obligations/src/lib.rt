@@ -11,4 +11,4 @@ pub use crate::aig::aig_file;
 pub use crate::aigrun::aigrun_file;
 pub use crate::certify::certify_pipe_file;
 pub use crate::recheck::recheck_certificate;
-pub use crate::sample::sample_file;
+pub use crate::sample::{SampleRequest, sample_file};

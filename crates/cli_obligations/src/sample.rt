@@ -16,25 +16,35 @@ use std::alloc::Global;
 use wb_io::{Files, Sink, put_pieces};
 use y86_base::{Memory, Numeral, Variant};
 
+/// What a call of `sample` asks for.
+#[derive(Clone, Copy, Debug)]
+pub struct SampleRequest<'a> {
+    /// The name of the HCL file.
+    pub hcl: &'a str,
+    /// What the valuations are drawn from.
+    pub seed: u64,
+    /// How many valuations are drawn at most.
+    pub count: u64,
+    /// The instruction set.
+    pub variant: Variant,
+}
+
 /// The first drawn valuation at which an obligation of a design is false.
 fn sampled<'a>(
     alloc: Global,
-    name: &'a str,
-    variant: Variant,
+    request: SampleRequest<'a>,
     ordered: &OrderedDesign,
-    seed: u64,
-    count: u64,
 ) -> Result<Option<Found>, StopReason<'a>>
     requires { IsOrdered pipe_rows ordered.now }
-    ensures found { IfOk result (IsSampled variant ordered.now.design.terms seed count) }
-    ensures refused { IfErr result (RefusesWith (RefusesControl name.now pipe_rows ordered.now.design.terms)) }
+    ensures found { IfOk result (IsSampled request.entry.variant ordered.now.design.terms request.entry.seed request.entry.count) }
+    ensures refused { IfErr result (RefusesWith (RefusesControl request.entry.hcl.now pipe_rows ordered.now.design.terms)) }
 {
-    match file_rules(alloc, variant, &ordered.design, &ordered.order) {
-        Ok(rules) => match first_false(alloc, &rules, seed, count) {
+    match file_rules(alloc, request.variant, &ordered.design, &ordered.order) {
+        Ok(rules) => match first_false(alloc, &rules, request.seed, request.count) {
             Ok(found) => Ok(found),
             Err(Memory) => Err(StopReason::Memory),
         },
-        Err(CheckFault::Ctl(fault)) => Err(control_stop(alloc, name, ordered, fault)),
+        Err(CheckFault::Ctl(fault)) => Err(control_stop(alloc, request.hcl, ordered, fault)),
         Err(CheckFault::Memory) => Err(StopReason::Memory),
     }
 }
@@ -71,39 +81,34 @@ fn say_found<'a, O: Sink>(found: Found, out: &mut O) -> Result<u8, StopReason<'a
 #[tactic(auto, using(crate::proofs::Samples::said_none, crate::proofs::Samples::said_found, crate::proofs::Samples::said_sample_refusal))]
 fn say_sample<'a, O: Sink>(
     alloc: Global,
-    name: &'a str,
-    variant: Variant,
+    request: SampleRequest<'a>,
     ordered: &OrderedDesign,
-    seed: u64,
-    count: u64,
     out: &mut O,
 ) -> Result<u8, StopReason<'a>>
     requires { IsOrdered pipe_rows ordered.now }
-    ensures { WritesAnswerOn O.taken O.faults (SampleAnswers name.now variant ordered.now.design.terms seed count) out.old out.new result }
+    ensures { WritesAnswerOn O.taken O.faults (SampleAnswers request.entry.hcl.now request.entry.variant ordered.now.design.terms request.entry.seed request.entry.count)
+        out.old out.new result }
 {
-    match sampled(alloc, name, variant, ordered, seed, count) {
-        Ok(None) => say_none(count, out),
+    match sampled(alloc, request, ordered) {
+        Ok(None) => say_none(request.count, out),
         Ok(Some(found)) => say_found(found, out),
         Err(stop) => Err(stop),
     }
 }
 
-/// `sample`: tries `count` drawn valuations of `seed` against the obligations of an HCL file for PIPE, at its settings.
+/// `sample`: tries drawn valuations against the obligations of an HCL file for PIPE, at its settings.
 pub fn sample_file<'a, F: Files, O: Sink>(
     alloc: Global,
-    name: &'a str,
-    seed: u64,
-    count: u64,
-    variant: Variant,
+    request: SampleRequest<'a>,
     files: &mut F,
     out: &mut O,
 ) -> Result<u8, StopReason<'a>>
-    ensures { FollowsPlanOver F.told F.faults O.taken O.faults (sample_plan name.now seed count variant)
+    ensures { FollowsPlanOver F.told F.faults O.taken O.faults (sample_plan request.entry.hcl.now request.entry.seed request.entry.count request.entry.variant)
         files.old files.new out.old out.new result }
 {
-    let ordered = match pipe_file(alloc, name, files) {
+    let ordered = match pipe_file(alloc, request.hcl, files) {
         Ok(ordered) => ordered,
         Err(stop) => return Err(stop),
     };
-    say_sample(alloc, name, variant, &ordered, seed, count, out)
+    say_sample(alloc, request, &ordered, out)
 }

@@ -10,6 +10,7 @@ ghost use Rattle.cli_plans.specs.PlanFollowing.{FollowsPlanOver, WritesAnswerOn}
 ghost use Rattle.cli_runs.specs.PipeRuns.{ran_line};
 ghost use Rattle.yis_run.specs.Report as text;
 
+use crate::request::PipeRequest;
 use cli_checks::{PipeVerdictText, pipe_verdict};
 use cli_plans::{
     FILE_LIMIT, OrderedDesign, StopReason, load_image, pipe_file, read_file, status, write_answer,
@@ -20,7 +21,7 @@ use pipe_path::Pipe;
 use retire_trace::{Drove, drive};
 use std::alloc::Global;
 use wb_io::{Failed, Files, Sink, put_all, put_pieces};
-use y86_base::{Image, Numeral, Variant};
+use y86_base::{Image, Numeral};
 use yis_run::{End, report};
 
 /// Writes the line of the counts.
@@ -57,17 +58,16 @@ fn put_end<O: Sink>(drove: Drove, first: &Image, end: &End<'_>, out: &mut O) -> 
 /// report. All memory is taken before anything is written.
 pub fn run_pipe<'a, O: Sink>(
     alloc: Global,
-    variant: Variant,
+    request: PipeRequest<'_>,
     ordered: OrderedDesign,
     image: Image,
-    limit: u64,
-    trace: bool,
     verdict: &[u8],
     out: &mut O,
 ) -> Result<u8, StopReason<'a>>
     requires ordered { IsOrdered pipe_rows ordered }
-    requires limit { limit < 2 ^ 63 }
-    ensures { WritesAnswerOn O.taken O.faults (PipeAnswers variant ordered.design.terms limit trace verdict.now image) out.old out.new result }
+    requires limit { request.run.limit < 2 ^ 63 }
+    ensures { WritesAnswerOn O.taken O.faults (PipeAnswers request.entry.run.variant ordered.design.terms request.entry.run.limit request.entry.trace verdict.now image)
+        out.old out.new result }
 {
     let Ok(first) = image.copy(alloc) else {
         return Err(StopReason::Memory);
@@ -76,12 +76,12 @@ pub fn run_pipe<'a, O: Sink>(
     let Ok(compiled) = compile(alloc, &design, &order, &constant_words()) else {
         return Err(StopReason::Memory);
     };
-    let mut machine = Pipe::new(variant, design, order, compiled, image);
+    let mut machine = Pipe::new(request.run.variant, design, order, compiled, image);
     match put_all(out, verdict) {
         Ok(()) => {}
         Err(_) => return Err(StopReason::Write),
     }
-    let drove = match drive(&mut machine, limit, trace, out) {
+    let drove = match drive(&mut machine, request.run.limit, request.trace, out) {
         Ok(drove) => drove,
         Err(_) => return Err(StopReason::Write),
     };
@@ -95,72 +95,54 @@ pub fn run_pipe<'a, O: Sink>(
 /// Reads an object file and runs it on PIPE under a design, behind the text of a verdict.
 fn run_object<'a, F: Files, O: Sink>(
     alloc: Global,
-    variant: Variant,
+    request: PipeRequest<'a>,
     ordered: OrderedDesign,
-    obj: &'a str,
-    mem: u64,
-    limit: u64,
-    trace: bool,
     verdict: &[u8],
     files: &mut F,
     out: &mut O,
 ) -> Result<u8, StopReason<'a>>
-    requires size { IsSize mem }
-    requires limit { limit ≤ 100000000 }
+    requires size { IsSize request.run.memory }
+    requires limit { request.run.limit ≤ 100000000 }
     requires ordered { IsOrdered pipe_rows ordered }
-    ensures { FollowsPlanOver F.told F.faults O.taken O.faults (pipe_plan verdict.now ordered.design.terms obj.now mem limit trace variant)
+    ensures { FollowsPlanOver F.told F.faults O.taken O.faults (pipe_plan verdict.now ordered.design.terms
+        request.entry.run.object.now request.entry.run.memory request.entry.run.limit request.entry.trace request.entry.run.variant)
         files.old files.new out.old out.new result }
 {
-    let bytes = match read_file(alloc, obj, FILE_LIMIT, files) {
+    let run = request.run;
+    let bytes = match read_file(alloc, run.object, FILE_LIMIT, files) {
         Ok(bytes) => bytes,
         Err(stop) => return Err(stop),
     };
-    let image = match load_image(alloc, obj, bytes.as_slice(), mem) {
+    let image = match load_image(alloc, run.object, bytes.as_slice(), run.memory) {
         Ok(image) => image,
         Err(stop) => return Err(stop),
     };
-    run_pipe(alloc, variant, ordered, image, limit, trace, verdict, out)
+    run_pipe(alloc, request, ordered, image, verdict, out)
 }
 
 /// Reads an object file and runs it on PIPE under a design. Where a check is asked for, the design is checked first; behind
 /// a No nothing is read or run.
 fn run_checked<'a, F: Files, O: Sink>(
     alloc: Global,
-    name: &'a str,
-    variant: Variant,
+    request: PipeRequest<'a>,
     ordered: OrderedDesign,
-    obj: &'a str,
-    mem: u64,
-    limit: u64,
-    trace: bool,
-    checked: bool,
     files: &mut F,
     out: &mut O,
 ) -> Result<u8, StopReason<'a>>
-    requires size { IsSize mem }
-    requires limit { limit ≤ 100000000 }
+    requires size { IsSize request.run.memory }
+    requires limit { request.run.limit ≤ 100000000 }
     requires ordered { IsOrdered pipe_rows ordered }
-    ensures { FollowsPlanOver F.told F.faults O.taken O.faults (checked_plan name.now ordered.design.terms obj.now mem limit trace checked variant)
+    ensures { FollowsPlanOver F.told F.faults O.taken O.faults (checked_plan request.entry.hcl.now ordered.design.terms
+        request.entry.run.object.now request.entry.run.memory request.entry.run.limit request.entry.trace request.entry.checked request.entry.run.variant)
         files.old files.new out.old out.new result }
 {
-    if !checked {
-        return run_object(
-            alloc, variant, ordered, obj, mem, limit, trace, b"", files, out,
-        );
+    if !request.checked {
+        return run_object(alloc, request, ordered, b"", files, out);
     }
-    match pipe_verdict(alloc, name, variant, &ordered) {
-        Ok(PipeVerdictText::Yes(text)) => run_object(
-            alloc,
-            variant,
-            ordered,
-            obj,
-            mem,
-            limit,
-            trace,
-            text.as_slice(),
-            files,
-            out,
-        ),
+    match pipe_verdict(alloc, request.hcl, request.run.variant, &ordered) {
+        Ok(PipeVerdictText::Yes(text)) => {
+            run_object(alloc, request, ordered, text.as_slice(), files, out)
+        }
         Ok(PipeVerdictText::No(text)) => write_answer(1, text.as_slice(), out),
         Err(stop) => Err(stop),
     }
@@ -169,26 +151,19 @@ fn run_checked<'a, F: Files, O: Sink>(
 /// `psim`: runs an object file on PIPE under an HCL file, which is checked first where that is asked for.
 pub fn psim_file<'a, F: Files, O: Sink>(
     alloc: Global,
-    name: &'a str,
-    obj: &'a str,
-    mem: u64,
-    limit: u64,
-    trace: bool,
-    checked: bool,
-    variant: Variant,
+    request: PipeRequest<'a>,
     files: &mut F,
     out: &mut O,
 ) -> Result<u8, StopReason<'a>>
-    requires size { IsSize mem }
-    requires limit { limit ≤ 100000000 }
-    ensures { FollowsPlanOver F.told F.faults O.taken O.faults (psim_plan name.now obj.now mem limit trace checked variant)
+    requires size { IsSize request.run.memory }
+    requires limit { request.run.limit ≤ 100000000 }
+    ensures { FollowsPlanOver F.told F.faults O.taken O.faults (psim_plan request.entry.hcl.now
+        request.entry.run.object.now request.entry.run.memory request.entry.run.limit request.entry.trace request.entry.checked request.entry.run.variant)
         files.old files.new out.old out.new result }
 {
-    let ordered = match pipe_file(alloc, name, files) {
+    let ordered = match pipe_file(alloc, request.hcl, files) {
         Ok(ordered) => ordered,
         Err(stop) => return Err(stop),
     };
-    run_checked(
-        alloc, name, variant, ordered, obj, mem, limit, trace, checked, files, out,
-    )
+    run_checked(alloc, request, ordered, files, out)
 }

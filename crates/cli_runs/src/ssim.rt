@@ -9,6 +9,7 @@ ghost use Rattle.cli_plans.specs.Designs.{IsOrdered};
 ghost use Rattle.cli_plans.specs.PlanFollowing.{FollowsPlanOver, WritesAnswerOn};
 ghost use Rattle.cli_plans.specs.declared.datapath.Datapath.TheVariants.{Plus as OnPlus, Seq as OnSeq};
 
+use crate::request::RunRequest;
 use cli_plans::{
     Datapath, FILE_LIMIT, OrderedDesign, StopReason, load_image, read_file, seq_file, status,
 };
@@ -85,18 +86,17 @@ fn run_plus<'a, O: Sink>(
 fn run_image<'a, O: Sink>(
     alloc: Global,
     which: Datapath,
-    variant: Variant,
+    request: RunRequest<'_>,
     ordered: OrderedDesign,
     image: Image,
-    limit: u64,
     out: &mut O,
 ) -> Result<u8, StopReason<'a>>
     requires { IsOrdered (rows_of which) ordered }
-    ensures { WritesAnswerOn O.taken O.faults (SeqAnswers which variant ordered.design.terms limit image) out.old out.new result }
+    ensures { WritesAnswerOn O.taken O.faults (SeqAnswers which request.entry.variant ordered.design.terms request.entry.limit image) out.old out.new result }
 {
     match which {
-        Datapath::Seq => run_seq(alloc, variant, ordered, image, limit, out),
-        Datapath::Plus => run_plus(alloc, variant, ordered, image, limit, out),
+        Datapath::Seq => run_seq(alloc, request.variant, ordered, image, request.limit, out),
+        Datapath::Plus => run_plus(alloc, request.variant, ordered, image, request.limit, out),
     }
 }
 
@@ -104,49 +104,43 @@ fn run_image<'a, O: Sink>(
 fn run_object<'a, F: Files, O: Sink>(
     alloc: Global,
     which: Datapath,
-    variant: Variant,
+    request: RunRequest<'a>,
     ordered: OrderedDesign,
-    obj: &'a str,
-    mem: u64,
-    limit: u64,
     files: &mut F,
     out: &mut O,
 ) -> Result<u8, StopReason<'a>>
-    requires size { IsSize mem }
+    requires size { IsSize request.memory }
     requires ordered { IsOrdered (rows_of which) ordered }
-    ensures { FollowsPlanOver F.told F.faults O.taken O.faults (seq_plan which ordered.design.terms obj.now mem limit variant)
+    ensures { FollowsPlanOver F.told F.faults O.taken O.faults (seq_plan which ordered.design.terms request.entry.object.now request.entry.memory request.entry.limit request.entry.variant)
         files.old files.new out.old out.new result }
 {
-    let bytes = match read_file(alloc, obj, FILE_LIMIT, files) {
+    let bytes = match read_file(alloc, request.object, FILE_LIMIT, files) {
         Ok(bytes) => bytes,
         Err(stop) => return Err(stop),
     };
-    let image = match load_image(alloc, obj, bytes.as_slice(), mem) {
+    let image = match load_image(alloc, request.object, bytes.as_slice(), request.memory) {
         Ok(image) => image,
         Err(stop) => return Err(stop),
     };
-    run_image(alloc, which, variant, ordered, image, limit, out)
+    run_image(alloc, which, request, ordered, image, out)
 }
 
 /// `ssim` and `ssimp`: runs an object file on SEQ or SEQ+ under an HCL file.
 pub fn ssim_file<'a, F: Files, O: Sink>(
     alloc: Global,
     which: Datapath,
-    name: &'a str,
-    obj: &'a str,
-    mem: u64,
-    limit: u64,
-    variant: Variant,
+    hcl: &'a str,
+    request: RunRequest<'a>,
     files: &mut F,
     out: &mut O,
 ) -> Result<u8, StopReason<'a>>
-    requires { IsSize mem }
-    ensures { FollowsPlanOver F.told F.faults O.taken O.faults (ssim_plan which name.now obj.now mem limit variant)
+    requires { IsSize request.memory }
+    ensures { FollowsPlanOver F.told F.faults O.taken O.faults (ssim_plan which hcl.now request.entry.object.now request.entry.memory request.entry.limit request.entry.variant)
         files.old files.new out.old out.new result }
 {
-    let ordered = match seq_file(alloc, which, name, files) {
+    let ordered = match seq_file(alloc, which, hcl, files) {
         Ok(ordered) => ordered,
         Err(stop) => return Err(stop),
     };
-    run_object(alloc, which, variant, ordered, obj, mem, limit, files, out)
+    run_object(alloc, which, request, ordered, files, out)
 }

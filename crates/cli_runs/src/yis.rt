@@ -4,6 +4,7 @@ ghost use Rattle.y86_base.specs.Image.{IsSize};
 ghost use Rattle.cli_runs.specs.Answers.{yis_plan, yis_run};
 ghost use Rattle.cli_plans.specs.PlanFollowing.{FollowsPlanOver, WritesAnswerOn};
 
+use crate::request::RunRequest;
 use cli_plans::{FILE_LIMIT, StopReason, load_image, read_file, status};
 use std::alloc::Global;
 use wb_io::{Files, Sink};
@@ -38,24 +39,21 @@ fn run_image<'a, O: Sink>(
 #[tactic(auto, unfolding(crate::specs::Answers::yis_plan), using(cli_plans::proofs::Does::gives_it, cli_plans::proofs::Does::read_goes_on, cli_plans::proofs::Does::read_stops, cli_plans::proofs::Does::stage_goes_on, cli_plans::proofs::Does::stage_refuses))]
 pub fn yis_file<'a, F: Files, O: Sink>(
     alloc: Global,
-    obj: &'a str,
-    mem: u64,
-    limit: u64,
-    variant: Variant,
+    request: RunRequest<'a>,
     files: &mut F,
     out: &mut O,
 ) -> Result<u8, StopReason<'a>>
-    requires { IsSize mem }
-    ensures { FollowsPlanOver F.told F.faults O.taken O.faults (yis_plan obj.now mem limit variant)
+    requires { IsSize request.memory }
+    ensures { FollowsPlanOver F.told F.faults O.taken O.faults (yis_plan request.entry.object.now request.entry.memory request.entry.limit request.entry.variant)
         files.old files.new out.old out.new result }
 {
-    let bytes = match read_file(alloc, obj, FILE_LIMIT, files) {
+    let bytes = match read_file(alloc, request.object, FILE_LIMIT, files) {
         Ok(bytes) => bytes,
         Err(stop) => return Err(stop),
     };
-    let image = match load_image(alloc, obj, bytes.as_slice(), mem) {
+    let image = match load_image(alloc, request.object, bytes.as_slice(), request.memory) {
         Ok(image) => image,
         Err(stop) => return Err(stop),
     };
-    run_image(alloc, variant, image, limit, out)
+    run_image(alloc, request.variant, image, request.limit, out)
 }

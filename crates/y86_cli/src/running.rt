@@ -8,9 +8,13 @@ ghost use Rattle.y86_words.specs.Views.{command_in};
 ghost use Rattle.y86_words.specs.Wording.{IsInRange};
 
 use cli_checks::{check_pipe_file, check_seq_file};
-use cli_obligations::{aig_file, aigrun_file, certify_pipe_file, recheck_certificate, sample_file};
+use cli_obligations::{
+    SampleRequest, aig_file, aigrun_file, certify_pipe_file, recheck_certificate, sample_file,
+};
 use cli_plans::{Datapath, Status, StopReason, report_stop};
-use cli_runs::{big_file, hcl_file, psim_file, ssim_file, yas_file, yis_file};
+use cli_runs::{
+    PipeRequest, RunRequest, big_file, hcl_file, psim_file, ssim_file, yas_file, yis_file,
+};
 use std::alloc::Global;
 use wb_io::{Files, Sink};
 use y86_words::{Cmd, Usage, words};
@@ -29,85 +33,105 @@ fn execute<'a, F: Files, O: Sink>(
     match command {
         Cmd::Yas { asm, mem, variant } => yas_file(alloc, asm, mem, variant, files, out),
         Cmd::Yis {
-            obj,
-            mem,
+            obj: object,
+            mem: memory,
             limit,
             variant,
-        } => yis_file(alloc, obj, mem, limit, variant, files, out),
-        Cmd::Hcl { hcl: name } => hcl_file(alloc, name, files, out),
+        } => {
+            let request = RunRequest {
+                object,
+                memory,
+                limit,
+                variant,
+            };
+            yis_file(alloc, request, files, out)
+        }
+        Cmd::Hcl { hcl } => hcl_file(alloc, hcl, files, out),
         Cmd::Ssim {
-            hcl: name,
-            obj,
-            mem,
+            hcl,
+            obj: object,
+            mem: memory,
             limit,
             variant,
-        } => ssim_file(
-            alloc,
-            Datapath::Seq,
-            name,
-            obj,
-            mem,
-            limit,
-            variant,
-            files,
-            out,
-        ),
+        } => {
+            let request = RunRequest {
+                object,
+                memory,
+                limit,
+                variant,
+            };
+            ssim_file(alloc, Datapath::Seq, hcl, request, files, out)
+        }
         Cmd::Ssimp {
-            hcl: name,
-            obj,
-            mem,
+            hcl,
+            obj: object,
+            mem: memory,
             limit,
             variant,
-        } => ssim_file(
-            alloc,
-            Datapath::Plus,
-            name,
-            obj,
-            mem,
-            limit,
-            variant,
-            files,
-            out,
-        ),
+        } => {
+            let request = RunRequest {
+                object,
+                memory,
+                limit,
+                variant,
+            };
+            ssim_file(alloc, Datapath::Plus, hcl, request, files, out)
+        }
         Cmd::Psim {
-            hcl: name,
-            obj,
-            mem,
+            hcl,
+            obj: object,
+            mem: memory,
             limit,
             trace,
             checked,
             variant,
-        } => psim_file(
-            alloc, name, obj, mem, limit, trace, checked, variant, files, out,
+        } => {
+            let run = RunRequest {
+                object,
+                memory,
+                limit,
+                variant,
+            };
+            let request = PipeRequest {
+                hcl,
+                run,
+                trace,
+                checked,
+            };
+            psim_file(alloc, request, files, out)
+        }
+        Cmd::CheckSeq { hcl, variant } => {
+            check_seq_file(alloc, Datapath::Seq, hcl, variant, files, out)
+        }
+        Cmd::CheckPlus { hcl, variant } => {
+            check_seq_file(alloc, Datapath::Plus, hcl, variant, files, out)
+        }
+        Cmd::CheckPipe { hcl, variant } => check_pipe_file(alloc, hcl, variant, files, out),
+        Cmd::CertifyPipe { hcl, variant } => certify_pipe_file(alloc, hcl, variant, files, out),
+        Cmd::Recheck { hcl, cert, variant } => recheck_certificate(
+            alloc, hcl, cert, variant, files, out,
         ),
-        Cmd::CheckSeq { hcl: name, variant } => {
-            check_seq_file(alloc, Datapath::Seq, name, variant, files, out)
-        }
-        Cmd::CheckPlus { hcl: name, variant } => {
-            check_seq_file(alloc, Datapath::Plus, name, variant, files, out)
-        }
-        Cmd::CheckPipe { hcl: name, variant } => check_pipe_file(alloc, name, variant, files, out),
-        Cmd::CertifyPipe { hcl: name, variant } => {
-            certify_pipe_file(alloc, name, variant, files, out)
-        }
-        Cmd::Recheck {
-            hcl: name,
-            cert,
-            variant,
-        } => recheck_certificate(alloc, name, cert, variant, files, out),
         Cmd::Sample {
-            hcl: name,
+            hcl,
             seed,
             count,
             variant,
-        } => sample_file(alloc, name, seed, count, variant, files, out),
-        Cmd::Aig { hcl: name, variant } => aig_file(alloc, name, variant, files, out),
+        } => {
+            let request = SampleRequest {
+                hcl,
+                seed,
+                count,
+                variant,
+            };
+            sample_file(alloc, request, files, out)
+        }
+        Cmd::Aig { hcl, variant } => aig_file(alloc, hcl, variant, files, out),
         Cmd::Aigrun { aag, seed } => aigrun_file(alloc, aag, seed, files, out),
         Cmd::Big {
             number,
-            hcl: name,
+            hcl,
             variant,
-        } => big_file(alloc, number, name, variant, files, out),
+        } => big_file(alloc, number, hcl, variant, files, out),
     }
 }
 
