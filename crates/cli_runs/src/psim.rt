@@ -55,7 +55,9 @@ fn put_end<O: Sink>(drove: Drove, first: &Image, end: &End<'_>, out: &mut O) -> 
 }
 
 /// Writes the text of a verdict, runs an image on PIPE, with a trace where it is asked for, and writes the counts and the
-/// report. All memory is taken before anything is written.
+/// report. All memory is taken before anything is written. The loop has a function of its own, and so all registers of the
+/// processor.
+#[inline(never)]
 pub fn run_pipe<'a, O: Sink>(
     alloc: Global,
     request: PipeRequest<'_>,
