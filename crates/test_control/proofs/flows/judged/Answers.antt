@@ -8,11 +8,11 @@ flow_legal_gate-requires c =
     let yes = c.in_ok-yes.ensures.has_truth.within in
     let more = c.constant-2.ensures.extends.more in
     let no = c.in_ok-no.ensures.has_truth.within in
-    record { d = c.slot.ensures _ (omega (arith, yes, more)) no; e = c.slot-2.ensures _ (omega (arith, yes, more)) no; m = c.slot-3.ensures _ (omega (arith, yes, more)) no; w = c.slot-4.ensures _ (omega (arith, yes, more)) no }
+    record { d = c.stage_flow.ensures _ (omega (arith, yes, more)) no; e = c.stage_flow-2.ensures _ (omega (arith, yes, more)) no; m = c.stage_flow-3.ensures _ (omega (arith, yes, more)) no; w = c.stage_flow-4.ensures _ (omega (arith, yes, more)) no }
 
 pub path_gate-requires : goal.path_gate-requires
 path_gate-requires c =
     let yes = c.in_ok-yes.ensures.has_truth.within in
     let more = c.constant-2.ensures.extends.more in
     let no = c.in_ok-no.ensures.has_truth.within in
-    flow_stays c.flow_legal_gate.ensures.extends.more _ (record { d = c.slot.ensures _ (omega (arith, yes, more)) no; e = c.slot-2.ensures _ (omega (arith, yes, more)) no; m = c.slot-3.ensures _ (omega (arith, yes, more)) no; w = c.slot-4.ensures _ (omega (arith, yes, more)) no })
+    flow_stays c.flow_legal_gate.ensures.extends.more _ (record { d = c.stage_flow.ensures _ (omega (arith, yes, more)) no; e = c.stage_flow-2.ensures _ (omega (arith, yes, more)) no; m = c.stage_flow-3.ensures _ (omega (arith, yes, more)) no; w = c.stage_flow-4.ensures _ (omega (arith, yes, more)) no })
