@@ -751,5 +751,29 @@ def test_class_in_little_memory(at, folder):
     at.begin(at.path)
 
 
+# The limits of time of a class's checks that are still under way: none is over by itself.
+LIMITS = """(() => {
+  const { setTimeout: begin, clearTimeout: end } = window;
+  window.limits = new Map();
+  window.setTimeout = (does, ms, ...more) => (ms === 60000 ? (limits.set(-1 - limits.size, does), -limits.size) : begin(does, ms, ...more));
+  window.clearTimeout = (number) => limits.delete(number) || end(number);
+})()"""
+
+
+def test_class_in_little_time(held):
+    """A check of a class that takes too long gives no answer, and the ones before and after it have theirs."""
+    held.do(LIMITS)
+    held.do("Object.assign(holds, { round: 1, at: 1, kept: [] }), 0")
+    give_class(held, {"a.hcl": STD, "b.hcl": STD, "c.hcl": REFUSED_TEXT})
+    held.until("holds.kept.length === 1")
+    same(held.do("limits.size"), 1)
+    held.do("[...limits.values()][0](), 0")
+    held.until("!el('class-csv').disabled")
+    rows = held.do(CLASS_ROWS)
+    same(([it[2] for it in rows], rows[1][3]), (["yes", "none", "no"], "no answer in 60 s"))
+    said(held, "class-said", "3 files: 1 yes, 1 no, 0 with a fault, 1 without an answer.")
+    same(held.do("limits.size"), 0)
+
+
 def test_size():
     assert os.path.getsize(page()) < 2_000_000
