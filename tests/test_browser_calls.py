@@ -76,9 +76,9 @@ def of_rows():
 
 def faults():
     """Calls that are refused."""
-    files = {"README.md": b"# The workbench\n", "std.hcl": designs()["std.hcl"]}
+    files = {"README.md": b"# The workbench\n", "std.hcl": designs()["std.hcl"], "empty": b""}
     lines = ["", "yas", "nothing", "yas no-such-file", "hcl README.md", "yas README.md", "yis README.md", "psim std.hcl README.md", "sample std.hcl 0 1000001", "recheck std.hcl README.md"]
-    lines += ["aigrun README.md 1", "yas ä\U0001f600", "psim std.hcl README.md --limit 0"]
+    lines += ["aigrun README.md 1", "yas ä\U0001f600", "psim std.hcl README.md --limit 0", "yas empty", "yis empty", "hcl empty"]
     for it in lines:
         yield Call("y86", it.split(), files)
     yield Call("y86", ["yas", ""], files)
@@ -163,6 +163,8 @@ def test_worker(programs, folder):
     """The page's worker answers each call by its own files, and tells output and faults apart; nothing of the call before is left."""
     native, std, wrong = Program(programs("y86"), folder), designs()["std.hcl"], b"bool Stat = 1;\n"
     calls = [(["check", "pipe", "my.hcl"], std), (["check", "pipe", "my.hcl"], None), (["hcl", "my.hcl"], wrong), (["check", "pipe", "my.hcl"], wrong), (["check", "pipe", "my.hcl"], std)]
+    # (an empty text; letters of two, three and four bytes)
+    calls += [(["yas", "my.hcl"], b""), (["yas", "my.hcl"], "    nop # \u00e9\u20ac\U0001f600\n".encode())]
     found = worker_answers([Call("y86", words, {} if text is None else {"my.hcl": text.decode()}) for words, text in calls])
     for number, (said, (words, text)) in enumerate(zip(found, calls, strict=True)):
         wanted = native(*words, files={} if text is None else {"my.hcl": text})

@@ -45,6 +45,11 @@ CHANGED = [
         "  %w.0a = load i8, ptr %r0, align 1\n  %w.0g = getelementptr i8, ptr %r0, i64 8\n  %w.0b = load ptr, ptr %w.0g, align 8\n"
         "  %w.0s = insertvalue { i8, ptr } poison, i8 %w.0a, 0\n  %r1 = insertvalue { i8, ptr } %w.0s, ptr %w.0b, 1",
     ),
+    (
+        "  %r1 = load { ptr, i8 }, ptr %r0, align 8",
+        "  %w.0a = load ptr, ptr %r0, align 8\n  %w.0g = getelementptr i8, ptr %r0, i64 8\n  %w.0b = load i8, ptr %w.0g, align 1\n"
+        "  %w.0s = insertvalue { ptr, i8 } poison, ptr %w.0a, 0\n  %r1 = insertvalue { ptr, i8 } %w.0s, i8 %w.0b, 1",
+    ),
 ]
 # Lines whose places in memory would move, or that no module has had.
 REFUSED = [
@@ -206,18 +211,88 @@ console.log(JSON.stringify(wrong));
 """
 
 
-def test_sums(folder):
-    """The shim's sums on 128-bit numbers, beside those of JavaScript."""
+# What calls the shim's heap. The stack is used up by frames of 64 KB; `kept` lies where nothing but a stack that is too long would write.
+HEAP = """
+typedef unsigned long long u64;
+typedef struct { u64 is_there, at; } Tried;
+Tried rattle_alloc(u64, u64), rattle_realloc(void *, u64, u64, u64);
+void rattle_dealloc(void *);
+int main(void) { return 0; }
+#define GIVEN(name) __attribute__((export_name(name)))
+static int place(Tried it) { return it.is_there ? (int)it.at : 0; }
+GIVEN("take") int take(int n, int align) { return place(rattle_alloc(n, align)); }
+GIVEN("change") int change(void *p, int was, int n, int align) { return place(rattle_realloc(p, was, n, align)); }
+GIVEN("give") void give(void *p) { rattle_dealloc(p); }
+static volatile unsigned char kept[1 << 20];
+static int used(int frames) {
+    volatile unsigned char frame[65000];
+    for (int at = 0; at < 65000; at++) frame[at] = 1;
+    return frames > 1 ? used(frames - 1) + frame[frames] : frame[0];
+}
+GIVEN("deep") int deep(int frames) { return used(frames); }
+GIVEN("written") int written(void) { int sum = 0; for (int at = 0; at < 1 << 20; at++) sum += kept[at]; return sum; }
+"""
+# Takes, changes and gives back blocks, each filled with a byte of its own, and prints what isn't right.
+CHECKED_HEAP = """
+const { instance } = await WebAssembly.instantiate(fs.readFileSync(process.argv[2]), { host: { word() {}, open() {}, read() {}, write() {} } });
+const it = instance.exports, MOST = 40 << 20, blocks = [], wrong = new Set();
+let seed = 7, refused = 0, moved = 0;
+const below = (most) => Math.floor(((seed = (Math.imul(seed, 1664525) + 1013904223) >>> 0) / 2 ** 32) * most);
+const size = () => [() => below(80), () => 2 ** below(17) + below(3) - 1, () => below(200000)][below(40) ? below(2) : 2]();
+const bytes = (at, length) => new Uint8Array(it.memory.buffer, at, length);
+const fill = (block) => bytes(block.at, block.size).fill(block.byte);
+const check = (what, { at, size, byte }, length = size) => bytes(at, Math.min(size, length)).every((one) => one === byte) || wrong.add(what);
+it.run(BigInt(MOST));
+for (let number = 0; number < 30000; number++) {
+  const which = below(blocks.length || 1), block = blocks[which], does = below(blocks.length > 300 ? 2 : 4);
+  if (does === 1 && block) {
+    const now = size(), was = block.size, at = it.change(block.at, was, now, 8);
+    if (!at) { refused++; continue; }
+    moved += at !== block.at;
+    Object.assign(block, { at, size: now });
+    check("a block's bytes are lost as its size changes", block, was);
+    fill(block);
+  } else if (does === 0 && block) {
+    check("a block was written by another", block);
+    it.give(block.at);
+    blocks.splice(which, 1);
+  } else if (does > 1) {
+    const made = { size: size(), byte: 1 + (number % 255) };
+    made.at = it.take(made.size, 16);
+    if (!made.at) { refused++; continue; }
+    if (made.at % 16) wrong.add("a block isn't aligned");
+    fill(made);
+    blocks.push(made);
+  }
+  if (it.memory.buffer.byteLength > MOST) wrong.add("more memory than the limit");
+}
+for (const block of blocks) check("a block was written by another", block);
+if (moved < 1000) wrong.add(`${moved} blocks moved`);
+if (it.take(MOST, 8)) wrong.add("a block of all memory");
+if (it.deep(14) !== 14) wrong.add("the stack is too small");
+try {
+  wrong.add(`no end of the stack: ${it.deep(40)}`);
+} catch (fault) {
+  if (!(fault instanceof WebAssembly.RuntimeError)) wrong.add(String(fault));
+}
+if (it.written()) wrong.add("the stack writes over data");
+console.log(JSON.stringify([...wrong]));
+"""
+
+
+@cases([("sums on 128-bit numbers, beside those of JavaScript", SUMS, CHECKED_SUMS), ("the heap, and the end of the stack", HEAP, CHECKED_HEAP)])
+def test_shim(row, folder):
+    _, calls, check = row
     tools, found = kit().tools, node()
-    with open(f"{folder}/sums.c", "w", encoding="utf-8") as it:
-        it.write(SUMS)
+    with open(f"{folder}/calls.c", "w", encoding="utf-8") as it:
+        it.write(calls)
     with open(f"{folder}/check.mjs", "w", encoding="utf-8") as it:
-        it.write(f'import fs from "node:fs";\n{CHECKED_SUMS}')
-    for name, path in (("sums", f"{folder}/sums.c"), ("shim", compiling.SHIM)):
+        it.write(f'import fs from "node:fs";\n{check}')
+    for name, path in (("calls", f"{folder}/calls.c"), ("shim", compiling.SHIM)):
         compiling.run([f"{tools}/bin/clang", *compiling.HOW, *compiling.FREESTANDING, "-o", f"{folder}/{name}.o", path])
     os.symlink(f"{tools}/bin/ld.lld", f"{folder}/wasm-ld")
-    compiling.run([f"{folder}/wasm-ld", *compiling.LINKED, "-o", f"{folder}/sums.wasm", f"{folder}/sums.o", f"{folder}/shim.o"])
-    ran = subprocess.run([found, f"{folder}/check.mjs", f"{folder}/sums.wasm"], capture_output=True, text=True, check=False)
+    compiling.run([f"{folder}/wasm-ld", *compiling.LINKED, "-o", f"{folder}/calls.wasm", f"{folder}/calls.o", f"{folder}/shim.o"])
+    ran = subprocess.run([found, f"{folder}/check.mjs", f"{folder}/calls.wasm"], capture_output=True, text=True, check=False)
     same((ran.returncode, ran.stderr, ran.stdout), (0, "", "[]\n"))
 
 

@@ -139,7 +139,7 @@ REFUSED = [
 
 
 @cases(REFUSED)
-def test_refused(row, at):
+def test_refused(row, at, programs, folder):
     title, rule, brief, program = row
     at.choose("hcls", f"mistake: {title}")
     said(at, "verdict", f"no: {rule}", "Not right for every program", brief)
@@ -148,6 +148,10 @@ def test_refused(row, at):
     same(at.do("workbench.tab"), "no")
     assert at.do("every('#hcl .gutter .no, #hcl .gutter .case').length > 0")
     assert at.do("Boolean(one('#hcl .note'))")
+    # (what y86-tell says of the obligation, to its last word)
+    answer = Program(programs("y86_tell"), folder)("check", "pipe", "a.hcl", "--json", files={"a.hcl": at.source("hcl")})
+    told = next(it["obligation"] for it in json.loads(answer.out)["refuted"] if it["obligation"]["label"] == rule)
+    said(at, "panel-no", *[told[it].replace("`", "") for it in ("demand", "reason", "book")])
 
 
 def test_why_no(at):
@@ -157,6 +161,8 @@ def test_why_no(at):
     same(at.do("every('#panel-no [data-rule]').map((it) => [it.textContent, it.ariaPressed])"), [["O10", "true"], ["O11", "false"]])
     at.click("#panel-no [data-rule=O11]")
     said(at, "verdict", "no: O11", "d_valB picks M_valE; e_valE is wanted", "Refuted too: O10")
+    name, drawing = at.saved(lambda: at.click("#save-no"))
+    same((name, re.findall(r"counterexample to (O\d+)", drawing)), ("O11.svg", ["O11"]))
     at.click("#panel-no [data-rule=O10]")
     same(at.do("every('#hcl .gutter .case').map((it) => it.textContent)"), ["50"])
     at.click("#goto")
@@ -203,6 +209,8 @@ def test_by_instructions(at):
     rows = at.do("every('#panel-steps tbody tr').length")
     same(rows, at.do("workbench.compared.right.steps"))
     said(at, "panel-steps", "The processor’s run is the same.", "irmovq $512, %rsp")
+    at.write("ys", "    irmovq $7, %rax\n    halt\n")
+    same(at.do("every('#panel-steps tbody tr').map((it) => it.children[2].textContent)"), ["irmovq $7, %rax", "halt"])
     at.choose("hcls", "mistake: memory before execute")
     at.click("#tab-steps")
     said(at, "panel-steps", "differs first at instruction 3", "%rsp")
@@ -436,6 +444,23 @@ def test_late_verdict(held):
     said(held, "outcome", "comes out right", "Another may not.")
 
 
+def test_stopped(held):
+    """A check and a run that give no answer are stopped by their buttons, and asked again by others."""
+    held.do("Object.assign(holds, { round: 1, at: 0, kept: [] }), 0")
+    held.do("(() => { const it = one('#hcl textarea'); it.value += '#'; it.dispatchEvent(new Event('input', { bubbles: true })); })()")
+    held.until("holds.kept.length === 2")
+    held.do("holds.at = -1, 0")
+    for id, again in (("verdict", "again"), ("outcome", "rerun")):
+        held.until(f"one('#{id} .busy button')")
+        held.click(f"#{id} .busy button")
+        held.until(f"!one('#{id}.stale')")
+        said(held, id, "stopped")
+        held.click(f"#{again}")
+    held.settle()
+    said(held, "verdict", "Right for every program")
+    said(held, "outcome", "comes out right")
+
+
 # The most memory of a call, the texts, and what the cards say. (An answer needs from 1.4 MB, a verdict from 9.)
 LITTLE = [
     ("none runs", 1.3, "std.hcl", "The check ran out of memory.", "The run ran out of memory."),
@@ -538,13 +563,15 @@ def test_own_text(at):
 
 
 def test_kept(at):
-    """The browser keeps both texts, the examples' names, and the theme."""
+    """The browser keeps both texts, the examples' names, the box, and the theme."""
     at.write("hcl", f"{STD}\n# mine\n")
     at.choose("yss", "swap.ys")
+    at.click("#full")
     at.click("#theme")
     kept = "JSON.parse(localStorage.getItem('y86-workbench') ?? '{}')"
     at.until(f"({kept}.h ?? '').endsWith('# mine\\n') && {kept}.e[1] === 'swap.ys'")
-    shown = "[one('#hcl textarea').value, one('#ys textarea').value, el('hcls').value, el('yss').value, workbench.theme]"
+    at.settle()
+    shown = "[one('#hcl textarea').value, one('#ys textarea').value, el('hcls').value, el('yss').value, el('full').checked, el('verdict').textContent, workbench.theme]"
     before = at.do(shown)
     at.begin(at.path)
     same(at.do(shown), before)
@@ -562,6 +589,7 @@ def link(texts):
 def test_link(at):
     at.write("ys", "    irmovq $7, %rax\n    halt\n")
     at.leave()
+    at.click("#full")
     at.click("#link")
     at.until("location.hash.startsWith('#w=')")
     said(at, "toast", "The link is copied")
@@ -570,6 +598,7 @@ def test_link(at):
     at.begin(at.path, fragment)
     same(at.source("ys"), "    irmovq $7, %rax\n    halt\n")
     same(at.source("hcl"), STD)
+    said(at, "verdict", "no: O2")
     at.begin(at.path, "#w=AAAA")
     said(at, "toast", "The link is damaged")
 
@@ -672,15 +701,23 @@ def test_pdf(at):
     same(at.do("el('paper').childNodes.length"), 0)
 
 
-def test_class(at):
-    """A folder of a class: each file's verdict, a CSV, and a file to open."""
-    files = {"ann/pipe.hcl": STD, "bob, jr/pipe.hcl": STD.replace(" d_srcA == e_dstE : e_valE;", ""), "cy/=x.hcl": "word f_pc = ;", "dee/seq.hcl": example("seq"), "dee/notes.txt": "no"}
+# The rows of a class's table: the file, its datapath, its verdict, what is said of it.
+CLASS_ROWS = "every('#class-rows tr').map((it) => [...it.children].slice(0, 4).map((cell) => cell.textContent))"
+
+
+def give_class(at, files):
+    """Gives the folder of a class."""
     at.click("#class")
     given = json.dumps([[name, text] for name, text in files.items()])
     at.do(f"(() => {{ const files = {given}.map(([name, text]) => {{ const it = new File([text], name.split('/').pop()); Object.defineProperty(it, 'webkitRelativePath', {{ value: name }}); return it; }});"
           " const pick = el('pick-folder'); Object.defineProperty(pick, 'files', { value: files, configurable: true }); pick.onchange(); })()")
+
+
+def test_class(at):
+    """A folder of a class: each file's verdict, a CSV, and a file to open."""
+    give_class(at, {"ann/pipe.hcl": STD, "bob, jr/pipe.hcl": REFUSED_TEXT, "cy/=x.hcl": "word f_pc = ;", "dee/seq.hcl": example("seq"), "dee/notes.txt": "no"})
     at.until("!el('class-csv').disabled")
-    rows = at.do("every('#class-rows tr').map((it) => [...it.children].slice(0, 3).map((cell) => cell.textContent))")
+    rows = [it[:3] for it in at.do(CLASS_ROWS)]
     same(rows, [["ann/pipe.hcl", "PIPE", "yes"], ["bob, jr/pipe.hcl", "PIPE", "no"], ["cy/=x.hcl", "PIPE", "fault"], ["dee/seq.hcl", "SEQ", "yes"]])
     said(at, "class-said", "4 files: 2 yes, 1 no, 1 with a fault.")
     name, text = at.saved(lambda: at.click("#class-csv"))
@@ -689,6 +726,53 @@ def test_class(at):
     at.click("#class-rows tr:nth-child(2) button")
     at.settle()
     said(at, "verdict", "no: O10")
+
+
+def test_class_with_iaddq(at):
+    """The box at the top counts for a class, too."""
+    at.click("#full")
+    at.settle()
+    give_class(at, {"a.hcl": STD, "b.hcl": example("with_iaddq")})
+    at.until("!el('class-csv').disabled")
+    refused, accepted = [it[2:] for it in at.do(CLASS_ROWS)]
+    same((refused[0], refused[1].split(":")[0]), ("no", "O2"))
+    same(accepted, ["yes", "pt=1111111 pb=1111111 tv=0 lf=0 je=0 rm=0"])
+    at.do("el('dialog').close()")
+
+
+def test_class_in_little_memory(at, folder):
+    """A check of a class that lacks memory gives no answer."""
+    at.begin(changed(at, folder, ("MOST_MEMORY = 1 << 30", "MOST_MEMORY = 4 << 20")))
+    give_class(at, {"a.hcl": STD, "b.hcl": "word f_pc = ;"})
+    at.until("!el('class-csv').disabled")
+    same(at.do(CLASS_ROWS)[0][2:], ["none", "ran out of memory"])
+    said(at, "class-said", "2 files: 0 yes, 0 no, 1 with a fault, 1 without an answer.")
+    at.do("localStorage.clear()")
+    at.begin(at.path)
+
+
+# The limits of time of a class's checks that are still under way: none is over by itself.
+LIMITS = """(() => {
+  const { setTimeout: begin, clearTimeout: end } = window;
+  window.limits = new Map();
+  window.setTimeout = (does, ms, ...more) => (ms === 60000 ? (limits.set(-1 - limits.size, does), -limits.size) : begin(does, ms, ...more));
+  window.clearTimeout = (number) => limits.delete(number) || end(number);
+})()"""
+
+
+def test_class_in_little_time(held):
+    """A check of a class that takes too long gives no answer, and the ones before and after it have theirs."""
+    held.do(LIMITS)
+    held.do("Object.assign(holds, { round: 1, at: 1, kept: [] }), 0")
+    give_class(held, {"a.hcl": STD, "b.hcl": STD, "c.hcl": REFUSED_TEXT})
+    held.until("holds.kept.length === 1")
+    same(held.do("limits.size"), 1)
+    held.do("[...limits.values()][0](), 0")
+    held.until("!el('class-csv').disabled")
+    rows = held.do(CLASS_ROWS)
+    same(([it[2] for it in rows], rows[1][3]), (["yes", "none", "no"], "no answer in 60 s"))
+    said(held, "class-said", "3 files: 1 yes, 1 no, 0 with a fault, 1 without an answer.")
+    same(held.do("limits.size"), 0)
 
 
 def test_size():
