@@ -81,6 +81,7 @@ REACHES_M = ["WRONG: An instruction on the wrong path reaches M, where it change
     "A repair: each of these changes alone makes O10, O11 and O23 to O27 hold in this situation.", "    Invert M_bubble."]
 HALT_ALONE = "m_stat in { SHLT } || W_stat in { SHLT }"
 SKIPPED = "D doesn't load the program's next instruction, and F goes on: that instruction is skipped."
+SKIPPED_LINES = ["WRONG: D doesn't load the program's next instruction, and F goes on: that instruction is", "       skipped."]
 LOST = "The instruction in D doesn't go on to E, and D doesn't keep it: it is lost."
 SET_CC = ["    WRONG  set_cc is 1. It has to be 0.", "           It reads E_icode = 6 (IOPQ), m_stat = 1 (SAOK), W_stat = 0 (SBUB)."]
 MEND_FIRST = "Mend {} first: its wrong signals don't depend on the wrong signals of another obligation."
@@ -93,7 +94,7 @@ F_STAT = ["    WRONG  f_stat is 4 (SINS). It has to be 1 (SAOK).", "           I
 SHOWN_LINES = [
     ("M isn't bubbled", {"M_bubble": "0"}, REACHES_M, ["139:1: O25: An instruction on the wrong path reaches M"]),
     ("M is bubbled for a halt alone", {"M_bubble": HALT_ALONE}, REACHES_M, ["139:1: O25: An instruction on the wrong path reaches M"]),
-    ("F isn't stalled", {"F_stall": "0"}, [f"WRONG: {SKIPPED}"], [f"117:1: O25: {SKIPPED} Inverting F_stall repairs it."]),
+    ("F isn't stalled", {"F_stall": "0"}, SKIPPED_LINES, [f"117:1: O25: {SKIPPED} Inverting F_stall repairs it."]),
     # (in a cycle without a right predicted PC, D takes what was fetched on the wrong path)
     ("D isn't stalled", {"D_stall": "0"}, [f"WRONG: {LOST}"], [f"121:1: O24: {LOST} Inverting D_stall repairs it.", "121:1: O25: "]),
     # (the rule's own signal is right by a wrong one that it reads)

@@ -152,7 +152,7 @@ def test_page_of_instructions(everything):
             said[name] = found[2]
     for it in everything["instructions"]:
         sign = dict(addq="+", subq="-", andq="&", xorq="^").get(it["name"], "op")
-        assert said[it["name"]].replace(" op ", f" {sign} ").removesuffix("; with `--full` alone") == it["meaning"]
+        assert said[it["name"]].replace(" op ", f" {sign} ").removesuffix("; only with `--full`") == it["meaning"]
 
 
 def test_examples_of_faults(everything, y86_tell):
