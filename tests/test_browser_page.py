@@ -163,6 +163,11 @@ def test_why_no(at):
     said(at, "verdict", "no: O11", "d_valB picks M_valE; e_valE is wanted", "Refuted too: O10")
     name, drawing = at.saved(lambda: at.click("#save-no"))
     same((name, re.findall(r"counterexample to (O\d+)", drawing)), ("O11.svg", ["O11"]))
+    assert at.saved(lambda: at.click("#save-aig"))[0].endswith(".aag"), "the card of another obligation saves nothing"
+    # (of a text that has changed no obligation is looked at)
+    stale = "one('#hcl textarea').value += ' ', one('#hcl textarea').dispatchEvent(new Event('input')), one('#panel-no [data-rule=O10]').click()"
+    same(at.do(f"({stale}, workbench.verdict.rule)"), "O11")
+    at.choose("hcls", "mistake: memory before execute")
     at.click("#panel-no [data-rule=O10]")
     same(at.do("every('#hcl .gutter .case').map((it) => it.textContent)"), ["50"])
     at.click("#goto")

@@ -24,6 +24,11 @@ function saves(path, isYes) {
     + `${isYes ? `${link("save-cert", "certificate")}, ` : ""}${link("save-aig", "AIGER")}</span>`;
 }
 
+/** The buttons that save. They are new whenever the card is. */
+function wireSaves() {
+  for (const kind of Object.keys(SAVED)) if (by(`save-${kind}`)) by(`save-${kind}`).onclick = () => save(kind);
+}
+
 function showYes(it, path, line) {
   state.verdict = { at: it.at, kind: "yes" };
   const title = path === "pipe" ? "Right for every program" : `${PATHS[path]}: right for every program`;
@@ -31,6 +36,7 @@ function showYes(it, path, line) {
   const said = path === "pipe" ? settings(line).join(" ")
     : "In every cycle this processor does the program’s next instruction.";
   card("verdict", "yes", `${head("yes", title, more)}<p>${escaped(said)}${notAsked(it.hcl)}${saves(path, true)}</p>`);
+  wireSaves();
 }
 
 /** The signal to look at first, and its line. */
@@ -44,7 +50,7 @@ function mainOf(told) {
 function showNo(it, path, lines, refusals, shown) {
   const told = refusals.find((one) => one.rule === shown) ?? refusals[0], rule = told?.rule ?? lines[0].split(" ")[1];
   const line = mainOf(told);
-  state.verdict = { at: it.at, kind: "no", rule, told, refusals, lines, path };
+  state.verdict = { at: it.at, kind: "no", rule, told, refusals, lines, path, of: it };
   const brief = told?.brief ? `<p><b class="got">${inline(told.brief)}</b>`
     + `${line ? ` ${small("goto", `line ${line}`)}` : ""}</p>` : "";
   const others = refusals.map((one) => one.rule).filter((one) => one !== rule);
@@ -55,6 +61,7 @@ function showNo(it, path, lines, refusals, shown) {
     + `${inline(shortOf(rule, path, told))}${more}${notAsked(it.hcl)}${saves(path, false)}</p>`);
   by("why").onclick = () => tell("why");
   if (line) by("goto").onclick = () => editors.hcl.reveal(line, 1);
+  wireSaves();
 }
 
 /** An obligation in a line. */
@@ -106,8 +113,6 @@ async function show(it, path, said) {
   else if (said.status === 0) showYes(it, path, lines[0]);
   else if (said.status === 1) await explain(it, path, lines);
   else await showFault(it, said.err);
-  if (by("save-cert")) by("save-cert").onclick = () => save("cert");
-  if (by("save-aig")) by("save-aig").onclick = () => save("aig");
   by("verdict").dataset.ms = Math.round(said.ms);
 }
 
@@ -135,12 +140,13 @@ const SAVED = {
 /** Makes a certificate, or the obligations in AIGER, and saves it. */
 async function save(kind) {
   const { words, ending, what } = SAVED[kind], it = moment(), button = by(`save-${kind}`);
+  const name = state.names.hcl.replace(/\.\w+$/, "");
   button.disabled = true;
   try {
     const said = await judge.call("y86", [...words(datapath(it.hcl)), ...full()], { [FILE]: it.hcl });
     if (said.status !== 0) toast(`No ${what}: ${said.err.trim() || `status ${said.status}`}`);
     else {
-      download(`${state.names.hcl.replace(/\.\w+$/, "")}${ending}`, said.out);
+      download(`${name}${ending}`, said.out);
       toast(`The ${what}: ${(said.out.length / 1e6).toFixed(1)} MB`);
     }
   } catch (stopped) {
@@ -149,10 +155,11 @@ async function save(kind) {
   button.disabled = false;
 }
 
-/** Looks at another obligation that is refuted. */
+/** Looks at another obligation that is refuted, unless the text has changed since. */
 function showOther(rule) {
-  const { lines, refusals, path } = state.verdict;
-  showNo(moment(), path, lines, refusals, rule);
+  const { of: it, lines, refusals, path } = state.verdict;
+  if (!it.isHcl()) return;
+  showNo(it, path, lines, refusals, rule);
   tell("verdict");
 }
 
