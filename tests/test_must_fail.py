@@ -17,14 +17,18 @@ def read(path):
         return it.read()
 
 
+def sources(crate):
+    return (read(path) for path in sorted(glob.glob(f"crates/{crate}/src/**/*.rt", recursive=True, root_dir=TOP)))
+
+
 def contracts(crate, function):
-    """The clauses of each function of this name in a crate and in those that it needs (a method's contract stands in the trait), by their
-    names: that of a clause without a name is None."""
-    needed = next(line.split() for line in read("crates.txt").split("\n") if line.startswith(f"{crate}:"))
-    for name in (crate, *needed[1:]):
-        for path in sorted(glob.glob(f"crates/{name}/src/**/*.rt", recursive=True, root_dir=TOP)):
-            for head in re.findall(rf"^[^\n/]*\bfn {function}\b(.*?)(?:^ *\{{|\{{\n|;\n)", read(path), flags=re.M | re.S):
-                yield [name or None for name in re.findall(r"^ *ensures (?:(\w+) )?\{", head, flags=re.M)]
+    """The clauses of each function of this name in a crate, by their names: that of a clause without a name is None. A method's contract stands
+    in the trait, perhaps in a crate that this one needs."""
+    needed = next(line.split()[1:] for line in read("crates.txt").split("\n") if line.startswith(f"{crate}:"))
+    traits = (it for name in needed for text in sources(name) for it in re.findall(r"^pub trait .*?^\}", text, flags=re.M | re.S))
+    for text in (*sources(crate), *traits):
+        for head in re.findall(rf"^[^\n/]*\bfn {function}\b(.*?)(?:^ *\{{|\{{\n|;\n)", text, flags=re.M | re.S):
+            yield [name or None for name in re.findall(r"^ *ensures (?:(\w+) )?\{", head, flags=re.M)]
 
 
 def crate_of(path):
