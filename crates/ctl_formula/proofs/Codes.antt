@@ -1,18 +1,13 @@
 -- The sixteen picks of a code, one by one.
-use Rattle.std.proofs.Common.{◌≡◌, ℕ, zero, suc, ◌+◌, ◌-◌, ◌<◌, ◌≤◌, ◌^◌, ◌==◌, Bool, true, false, ◌&&◌, ◌||◌, List, [], ◌∷◌, ◌++◌, nat_lt, refl, sym, ap, ◌∙◌, arith, Some, subst, if◌then◌else◌}
+use Rattle.std.proofs.Common.{◌≡◌, ℕ, zero, suc, ◌+◌, ◌-◌, ◌<◌, ◌≤◌, ◌^◌, ◌==◌, Bool, false, ◌&&◌, ◌||◌, List, [], ◌∷◌, ◌++◌, nat_lt, refl, sym, ap, ◌∙◌, arith}
 use Rattle.std.proofs.lemmas.Bool.Decides.{nat_tests}
 use Rattle.std.proofs.lemmas.List.{append_assoc}
-use Rattle.std.specs.List.{AllByRecursion}
-use Rattle.std.proofs.lemmas.Bool.{eqb-true}
-use Rattle.std.proofs.lemmas.Option.{same_Some}
 use Rattle.net_fields.specs.Spelling.{spelt}
 use Rattle.net_fields.proofs.Patterns.{spelt_lt}
 use Rattle.ctl_atoms.specs.declared.leaf.Leaf.{Leaf}
 use Rattle.ctl_atoms.specs.declared.leaf.Leaf.TheVariants.{Name, Number}
 use Rattle.ctl_atoms.specs.Leaves.{leaf_eq}
 use Rattle.ctl_formula.specs.declared.controls.Pick.{Pick}
-use Rattle.ctl_formula.specs.declared.controls.Place.{Place}
-use Rattle.ctl_formula.specs.Places.{place_of}
 use Rattle.ctl_formula.specs.Translatable.{leaves_of}
 use Rattle.ctl_formula.proofs.Taken.{leaves_push}
 
@@ -58,14 +53,3 @@ spelt_below w first bits h = by bits h (spelt_lt w first bits)
     by (suc (suc (suc zero))) h l = omega (arith, l)
     by (suc (suc (suc (suc zero)))) h l = omega (arith, l)
     by (suc (suc (suc (suc (suc n))))) h l = absurd (omega (arith, h))
-
--- a place that is found is one of the list, and of the name
-pub place_at : (P : Place → Type 0) (ps : List Place) (n : ℕ) (p : Place) → place_of ps n ≡ Some p → AllByRecursion P ps → P p × (p.name ≡ n)
-place_at P [] n p e h = absurd (grind (arith, e))
-place_at P (q ∷ ps) n p e h = by (λ f. place_at P ps n p f h.1) (q.name == n) refl
-  where
-    by : (place_of ps n ≡ Some p → P p × (p.name ≡ n)) → (b : Bool) → (q.name == n) ≡ b → P p × (p.name ≡ n)
-    by go true t =
-        let same : q ≡ p = same_Some q p (sym (ap (λ b. if b then Some q else place_of ps n) t) ∙ e) in
-        (subst P same h.0, sym (ap (λ (x : Place). x.name) same) ∙ eqb-true q.name n t)
-    by go false t = go (sym (ap (λ b. if b then Some q else place_of ps n) t) ∙ e)

@@ -1,13 +1,10 @@
 -- Elements of lists behind a push and a write, and rows by their places.
-use Rattle.std.proofs.Common.{◌≡◌, ◌⊎◌, ℕ, zero, suc, ◌+◌, ◌<◌, Bool, true, false, cond, not, ◌&&◌, ◌||◌, is_some, List, [], ◌∷◌, ◌++◌, length, take, Option, Some, slice_get, IsTrue, refl, sym, ap, ◌∙◌, subst, arith, inl, inr}
+use Rattle.std.proofs.Common.{◌≡◌, ◌⊎◌, ℕ, zero, suc, ◌+◌, ◌<◌, Bool, true, false, cond, List, [], ◌∷◌, ◌++◌, length, take, Option, Some, slice_get, IsTrue, refl, sym, ap, ◌∙◌, subst, arith, inl, inr}
 use Rattle.std.proofs.Math.ListN.{set}
 use Rattle.std.proofs.lemmas.Option.{slice_get_within, same_Some}
 use Rattle.std.specs.List.{AllByRecursion}
-use Rattle.std.proofs.lemmas.Bool.{and_parts}
 use Rattle.hcl_types.specs.declared.table.Row.{Row}
 use Rattle.hcl_types.specs.Tables.{defined, is_defined}
-use Rattle.ctl_formula.specs.declared.controls.Place.{Place}
-use Rattle.ctl_formula.specs.Places.{place_of, has_bits, is_field, are_placed}
 
 pub push_case : {A : Type 0} (xs : List A) (y : A) (n : ℕ) (x : A) → slice_get (xs ++ y ∷ []) n ≡ Some x → (slice_get xs n ≡ Some x) ⊎ ((n ≡ length xs) × (x ≡ y))
 push_case [] y zero x h = inr (refl, sym (same_Some y x h))
@@ -59,19 +56,6 @@ defined_at (r ∷ rows) (suc n) row e d = by (is_defined r.role) (defined_at row
 
 pub defined_below : (rows : List Row) (n : ℕ) (row : Row) → slice_get rows n ≡ Some row → is_defined row.role ≡ true → length (defined (take n rows)) < length (defined rows)
 defined_below rows n row e d = slice_get_within (defined rows) (length (defined (take n rows))) row (defined_at rows n row e d)
-
-pub placed_at : (places : List Place) (k : ℕ) (rows : List Row) (n : ℕ) (row : Row) → slice_get rows n ≡ Some row → IsTrue (are_placed places k rows) → is_field row.role ≡ true → has_bits row.class ≡ true →
-    IsTrue (is_some (place_of places (k + n)))
-placed_at places k [] n row e h f b = absurd (grind (arith, e))
-placed_at places k (r ∷ rows) zero row e h f b =
-    let same = same_Some r row e in
-    let here = (and_parts (not (is_field r.role && has_bits r.class) || is_some (place_of places k)) (are_placed places (k + 1) rows) h).0 in
-    let at_row : IsTrue (not (is_field row.role && has_bits row.class) || is_some (place_of places k)) = subst (λ (x : Row). IsTrue (not (is_field x.role && has_bits x.class) || is_some (place_of places k))) same here in
-    subst (λ i. IsTrue (is_some (place_of places i))) (let q : k ≡ k + 0 = omega arith in q)
-    (sym (ap (λ x. not (x && has_bits row.class) || is_some (place_of places k)) f ∙ ap (λ x. not x || is_some (place_of places k)) b) ∙ at_row)
-placed_at places k (r ∷ rows) (suc n) row e h f b =
-    subst (λ i. IsTrue (is_some (place_of places i))) (let q : (k + 1) + n ≡ k + suc n = omega arith in q)
-    (placed_at places (k + 1) rows n row e (and_parts (not (is_field r.role && has_bits r.class) || is_some (place_of places k)) (are_placed places (k + 1) rows) h).1 f b)
 
 pub each_at : {A : Type 0} (P : A → Type 0) (xs : List A) (n : ℕ) (x : A) → slice_get xs n ≡ Some x → AllByRecursion P xs → P x
 each_at P [] n x e h = absurd (grind (arith, e))

@@ -1,5 +1,4 @@
-//! The parts that every other crate stands on: the memory image, the register file, the flags and the
-//! status, the words of text that all formats share.
+//! The memory image, the register file, the flags and the status, and the words of text that all formats share.
 #![tactic(auto)]
 
 mod boxed;

@@ -8,7 +8,7 @@ use Rattle.ctl_formula.specs.declared.controls.Place.{Place}
 use Rattle.ctl_formula.specs.Controls.{field_leaf}
 use Rattle.ctl_formula.specs.Places.{IsInside}
 use Rattle.ctl_formula.specs.TakenPicks.{IsOnlyTaken, at}
-use Rattle.ctl_formula.proofs.Codes.{place_at}
+use Rattle.ctl_formula.proofs.Places.{place_at}
 use Rattle.ctl_formula.proofs.given.field_entry.Goals as goal
 
 pub code_picks-requires-clause-few : goal.code_picks-requires-clause-few
