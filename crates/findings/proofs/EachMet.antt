@@ -1,5 +1,5 @@
 -- Lists of requirements that are met one by one, and lists of what is false.
-use Rattle.std.proofs.Common.{◌≡◌, ℕ, Bool, true, false, not, ◌&&◌, ◌||◌, ◌==◌, List, [], ◌∷◌, ◌++◌, map, Option, Some, None, if◌then◌else◌, refl, sym, ap, ◌∙◌, subst, arith}
+use Rattle.std.proofs.Common.{◌≡◌, ℕ, zero, suc, ◌<◌, Bool, true, false, not, ◌&&◌, ◌||◌, ◌==◌, List, [], ◌∷◌, ◌++◌, map, length, get_or, Option, Some, None, if◌then◌else◌, refl, sym, ap, ◌∙◌, subst, arith}
 use Rattle.std.proofs.lemmas.Bool.Decides.{nat_tests}
 use Rattle.std.proofs.lemmas.Bool.{or_parts}
 use Rattle.std.proofs.Math.Bool.{and_assoc}
@@ -31,6 +31,26 @@ two false b = refl
 pub if_both : (f : Requirement → Bool) (b x y : Bool) (xs ys : List Requirement) → x ≡ each f xs → y ≡ each f ys → (if b then x else y) ≡ each f (if b then xs else ys)
 if_both f true x y xs ys p q = p
 if_both f false x y xs ys p q = q
+
+-- answers and, beside each, the requirements that are met exactly where it is true; more answers may follow
+pub SaysEach : (Requirement → Bool) → List Bool → List (List Requirement) → Type 0
+SaysEach f bs [] = Unit {0}
+SaysEach f [] (xs ∷ xss) = ⊥
+SaysEach f (b ∷ bs) (xs ∷ xss) = (b ≡ each f xs) × SaysEach f bs xss
+
+pub says_within : (f : Requirement → Bool) (bs : List Bool) (xss : List (List Requirement)) → SaysEach f bs xss → (n : ℕ) → n < length xss → get_or bs n true ≡ each f (get_or xss n [])
+says_within f bs [] h n lt = absurd (omega (arith, lt))
+says_within f [] (xs ∷ xss) h n lt = absurd h
+says_within f (b ∷ bs) (xs ∷ xss) h zero lt = h.0
+says_within f (b ∷ bs) (xs ∷ xss) h (suc n) lt = says_within f bs xss h.1 n (omega (arith, lt))
+
+-- where as many follow on both sides, behind them too: there is no answer, and nothing is required
+pub says_at : (f : Requirement → Bool) (bs : List Bool) (xss : List (List Requirement)) → SaysEach f bs xss → length bs ≡ length xss → (n : ℕ) → get_or bs n true ≡ each f (get_or xss n [])
+says_at f [] [] h e n = refl
+says_at f (b ∷ bs) [] h e n = absurd (omega (arith, e))
+says_at f [] (xs ∷ xss) h e n = absurd h
+says_at f (b ∷ bs) (xs ∷ xss) h e zero = h.0
+says_at f (b ∷ bs) (xs ∷ xss) h e (suc n) = says_at f bs xss h.1 (omega (arith, e)) n
 
 pub guarded : (f : Requirement → Bool) (b x : Bool) (xs : List Requirement) → x ≡ each f xs → (not b || x) ≡ each f (only_if b xs)
 guarded f true x xs p = p

@@ -1,5 +1,5 @@
 -- The obligations by their numbers, with their premises.
-use Rattle.std.specs.Prelude.{ℕ, Bool, true, not, ◌&&◌, ◌||◌, ◌==◌, List, if◌then◌else◌}
+use Rattle.std.specs.Prelude.{ℕ, ◌-◌, Bool, true, not, ◌&&◌, ◌||◌, ◌==◌, List, [], ◌∷◌, get_or}
 use Rattle.y86_base.specs.declared.parts.Variant.{Variant}
 use Rattle.ctl_atoms.specs.declared.leaf.Leaf.{Leaf}
 use Rattle.ctl_atoms.specs.declared.leaf.Atom.{Atom}
@@ -15,38 +15,22 @@ use Rattle.pipe_obligations.specs.Obligations.{register_controls_of, o1, o2, o3,
 abbrev pub rule_count : ℕ
 rule_count = 27
 
-abbrev pub demand : ℕ → Variant → Settings → Fields → Flow → RegisterControls → Assignment → (ℕ → Leaf) → Bool
-demand i v s c y mv α cv =
-    if i == 1 then o1 v s c y mv α cv
-    else (if i == 2 then o2 v s c y mv α cv
-    else (if i == 3 then o3 v s c y mv α cv
-    else (if i == 4 then o4 v s c y mv α cv
-    else (if i == 5 then o5 v s c y mv α cv
-    else (if i == 6 then o6 v s c y mv α cv
-    else (if i == 7 then o7 v s c y mv α cv
-    else (if i == 8 then o8 v s c y mv α cv
-    else (if i == 9 then o9 v s c y mv α cv
-    else (if i == 10 then o10 v s c y mv α cv
-    else (if i == 11 then o11 v s c y mv α cv
-    else (if i == 12 then o12 v s c y mv α cv
-    else (if i == 13 then o13 v s c y mv α cv
-    else (if i == 14 then o14 v s c y mv α cv
-    else (if i == 15 then o15 v s c y mv α cv
-    else (if i == 16 then o16 v s c y mv α cv
-    else (if i == 17 then o17 v s c y mv α cv
-    else (if i == 18 then o18 v s c y mv α cv
-    else (if i == 19 then o19 v s c y mv α cv
-    else (if i == 20 then o20 v s c y mv α cv
-    else (if i == 21 then o21 v s c y mv α cv
-    else (if i == 22 then o22 v s c y mv α cv
-    else (if i == 23 then o23 v s c y mv α cv
-    else (if i == 24 then o24 v s c y mv α cv
-    else (if i == 25 then o25 v s c y mv α cv
-    else (if i == 26 then o26 v s c y mv α cv
-    else (if i == 27 then o27 v s c y mv α cv
-    else true))))))))))))))))))))))))))
+-- what they ask of a line of fields, in the order of their numbers, from 1 on
+abbrev pub demands : Variant → Settings → Fields → Flow → RegisterControls → Assignment → (ℕ → Leaf) → List Bool
+demands v s c y mv α cv =
+    o1 v s c y mv α cv ∷ o2 v s c y mv α cv ∷ o3 v s c y mv α cv ∷
+    o4 v s c y mv α cv ∷ o5 v s c y mv α cv ∷ o6 v s c y mv α cv ∷
+    o7 v s c y mv α cv ∷ o8 v s c y mv α cv ∷ o9 v s c y mv α cv ∷
+    o10 v s c y mv α cv ∷ o11 v s c y mv α cv ∷ o12 v s c y mv α cv ∷
+    o13 v s c y mv α cv ∷ o14 v s c y mv α cv ∷ o15 v s c y mv α cv ∷
+    o16 v s c y mv α cv ∷ o17 v s c y mv α cv ∷ o18 v s c y mv α cv ∷
+    o19 v s c y mv α cv ∷ o20 v s c y mv α cv ∷ o21 v s c y mv α cv ∷
+    o22 v s c y mv α cv ∷ o23 v s c y mv α cv ∷ o24 v s c y mv α cv ∷
+    o25 v s c y mv α cv ∷ o26 v s c y mv α cv ∷ o27 v s c y mv α cv ∷ []
 
--- what obligation i asks of a valuation
+abbrev pub demand : ℕ → Variant → Settings → Fields → Flow → RegisterControls → Assignment → (ℕ → Leaf) → Bool
+demand i v s c y mv α cv = get_or (demands v s c y mv α cv) (i - 1) true
+
 unfoldable pub demand_at : Variant → Settings → ℕ → Fields → Assignment → (ℕ → Leaf) → Bool
 demand_at v s i c α cv = demand i v s c (flow_of v s c) (register_controls_of α cv) α cv
 

@@ -1,6 +1,5 @@
 -- An obligation is met exactly where each of its requirements is.
-use Rattle.std.proofs.Common.{◌≡◌, ℕ, ◌≤◌, Bool, true, false, ◌&&◌, ◌||◌, ◌==◌, [], ◌∷◌, if◌then◌else◌, refl, ap, arith}
-use Rattle.std.proofs.lemmas.Bool.Decides.{nat_tests}
+use Rattle.std.proofs.Common.{◌≡◌, ℕ, ◌≤◌, ◌-◌, Bool, true, false, ◌&&◌, ◌||◌, [], ◌∷◌, if◌then◌else◌, refl, ap, arith}
 use Rattle.y86_base.specs.declared.parts.Variant.{Variant}
 use Rattle.y86_base.specs.Words.{set}
 use Rattle.y86_isa.specs.Table.{row, no_register}
@@ -16,11 +15,12 @@ use Rattle.pipe_motion.specs.Flow.{Flow, RegisterControls, leaves}
 use Rattle.pipe_motion.specs.Predictions.{predicts}
 use Rattle.pipe_motion.specs.declared.settings.Settings.{Settings}
 use Rattle.pipe_obligations.specs.Obligations as rule
+use Rattle.pipe_obligations.specs.Rules.{demands}
 use Rattle.dp_signals.specs.PipeNames as signal
 use Rattle.findings.specs.Requirements.{is_met, requirement_of, word, only_if, unless}
 use Rattle.findings.specs.declared.requirement.Wanted.TheVariants as wanted
-use Rattle.findings.proofs.EachMet.{one, two, if_both, guarded, excused, both, some_is}
-use Rattle.pipe_requirements.specs.Requirements.{right_word, required1, required5, required10, required11, required12, required13, required14, required16, required17, required18, required19, required21, requirements, IsByRequirements}
+use Rattle.findings.proofs.EachMet.{SaysEach, says_within, one, two, if_both, guarded, excused, both, some_is}
+use Rattle.pipe_requirements.specs.Requirements.{right_word, required1, required5, required10, required11, required12, required13, required14, required16, required17, required18, required19, required21, required, requirements, IsByRequirements}
 
 four : (a b c d : Bool) → (a && (b && (c && d))) ≡ (a && (b && (c && (d && true))))
 four true true c d = two c d
@@ -77,43 +77,33 @@ module _ (v : Variant) (s : Settings) (c : Fields) (y : Flow) (mv : RegisterCont
   at21 : rule.o21 v s c y mv α cv ≡ each (is_met α cv) (required21 v s c y mv cv)
   at21 = guarded (is_met α cv) y.w.good _ _ (four (is_number cv signal.w_dstE c.w.dst_e) (is_number cv signal.w_dstM c.w.dst_m) (picks_leaf cv signal.w_valE (Name signal.W_valE)) (picks_leaf cv signal.w_valM (Name signal.W_valM)))
 
-  -- behind the 22
-  past : (i : ℕ) → i ≤ 22 →
-      (if i == 23 then rule.o23 v s c y mv α cv
-      else (if i == 24 then rule.o24 v s c y mv α cv
-      else (if i == 25 then rule.o25 v s c y mv α cv
-      else (if i == 26 then rule.o26 v s c y mv α cv
-      else (if i == 27 then rule.o27 v s c y mv α cv
-      else true))))) ≡ true
-  past i le =
-      rw (is_other 23 (omega (arith, le)), is_other 24 (omega (arith, le)), is_other 25 (omega (arith, le)), is_other 26 (omega (arith, le)), is_other 27 (omega (arith, le))) refl
-    where
-      is_other : (k : ℕ) → (i ≡ k → ⊥) → (i == k) ≡ false
-      is_other k apart = grind (arith, nat_tests, apart)
+  each_said : SaysEach (is_met α cv) (demands v s c y mv α cv) (required v s c y mv cv)
+  each_said = (
+      at1,
+      (one _),
+      (one _),
+      (one _),
+      at5,
+      (one _),
+      (one _),
+      (one _),
+      (one _),
+      at10,
+      at11,
+      at12,
+      at13,
+      at14,
+      (one _),
+      at16,
+      at17,
+      at18,
+      at19,
+      (one _),
+      at21,
+      (one _),
+      tt,
+  )
 
   pub by_requirements : (i : ℕ) → 1 ≤ i → i ≤ 22 → IsByRequirements v s c y mv α cv i
   unfolding requirements
-  by_requirements i ge le =
-      if_both (is_met α cv) (i == 1) _ _ _ _ at1
-      (if_both (is_met α cv) (i == 2) _ _ _ _ (one _)
-      (if_both (is_met α cv) (i == 3) _ _ _ _ (one _)
-      (if_both (is_met α cv) (i == 4) _ _ _ _ (one _)
-      (if_both (is_met α cv) (i == 5) _ _ _ _ at5
-      (if_both (is_met α cv) (i == 6) _ _ _ _ (one _)
-      (if_both (is_met α cv) (i == 7) _ _ _ _ (one _)
-      (if_both (is_met α cv) (i == 8) _ _ _ _ (one _)
-      (if_both (is_met α cv) (i == 9) _ _ _ _ (one _)
-      (if_both (is_met α cv) (i == 10) _ _ _ _ at10
-      (if_both (is_met α cv) (i == 11) _ _ _ _ at11
-      (if_both (is_met α cv) (i == 12) _ _ _ _ at12
-      (if_both (is_met α cv) (i == 13) _ _ _ _ at13
-      (if_both (is_met α cv) (i == 14) _ _ _ _ at14
-      (if_both (is_met α cv) (i == 15) _ _ _ _ (one _)
-      (if_both (is_met α cv) (i == 16) _ _ _ _ at16
-      (if_both (is_met α cv) (i == 17) _ _ _ _ at17
-      (if_both (is_met α cv) (i == 18) _ _ _ _ at18
-      (if_both (is_met α cv) (i == 19) _ _ _ _ at19
-      (if_both (is_met α cv) (i == 20) _ _ _ _ (one _)
-      (if_both (is_met α cv) (i == 21) _ _ _ _ at21
-      (if_both (is_met α cv) (i == 22) _ _ _ _ (one _)
-      (past i le))))))))))))))))))))))
+  by_requirements i ge le = says_within (is_met α cv) (demands v s c y mv α cv) (required v s c y mv cv) each_said (i - 1) (omega (arith, ge, le))

@@ -1,6 +1,6 @@
 -- What the obligations 1 to 22 require at a valuation, signal by signal.
 -- An obligation is met exactly where each requirement is (`IsByRequirements`).
-use Rattle.std.specs.Prelude.{ℕ, ◌≡◌, Bool, false, ◌&&◌, ◌||◌, ◌==◌, List, [], ◌∷◌, ◌++◌, if◌then◌else◌}
+use Rattle.std.specs.Prelude.{ℕ, ◌≡◌, ◌-◌, Bool, false, ◌&&◌, ◌||◌, List, [], ◌∷◌, ◌++◌, get_or, if◌then◌else◌}
 use Rattle.y86_base.specs.declared.parts.Variant.{Variant}
 use Rattle.y86_base.specs.Stat.{stat_number}
 use Rattle.y86_base.specs.Words.{set}
@@ -122,32 +122,15 @@ module _ (v : Variant) (s : Settings) (c : Fields) (y : Flow) (mv : RegisterCont
   abbrev pub required22 : List Requirement
   required22 = number signal.Stat (if y.w.good then c.w.stat else 1)
 
-  -- what obligation i requires, from 1 to 22
+  -- what the obligations 1 to 22 require, in their order
+  abbrev pub required : List (List Requirement)
+  required =
+      required1 ∷ required2 ∷ required3 ∷ required4 ∷ required5 ∷ required6 ∷ required7 ∷ required8 ∷
+      required9 ∷ required10 ∷ required11 ∷ required12 ∷ required13 ∷ required14 ∷ required15 ∷ required16 ∷
+      required17 ∷ required18 ∷ required19 ∷ required20 ∷ required21 ∷ required22 ∷ []
+
   unfoldable pub requirements : ℕ → List Requirement
-  requirements i =
-      if i == 1 then required1
-      else (if i == 2 then required2
-      else (if i == 3 then required3
-      else (if i == 4 then required4
-      else (if i == 5 then required5
-      else (if i == 6 then required6
-      else (if i == 7 then required7
-      else (if i == 8 then required8
-      else (if i == 9 then required9
-      else (if i == 10 then required10
-      else (if i == 11 then required11
-      else (if i == 12 then required12
-      else (if i == 13 then required13
-      else (if i == 14 then required14
-      else (if i == 15 then required15
-      else (if i == 16 then required16
-      else (if i == 17 then required17
-      else (if i == 18 then required18
-      else (if i == 19 then required19
-      else (if i == 20 then required20
-      else (if i == 21 then required21
-      else (if i == 22 then required22
-      else [])))))))))))))))))))))
+  requirements i = get_or required (i - 1) []
 
 -- obligation i is met exactly where each of its requirements is
 abbrev pub IsByRequirements : Variant → Settings → Fields → Flow → RegisterControls → Assignment → (ℕ → Leaf) → ℕ → Type 0

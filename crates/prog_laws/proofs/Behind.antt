@@ -10,12 +10,12 @@ use Rattle.y86_isa.specs.RowTests.{accesses, next_is_branch}
 use Rattle.y86_isa.specs.Table.{rows, row, inop, no_register}
 use Rattle.net_fields.specs.AllowedNumbers.{register_field_allowed, register_allowed, cnd_allowed_where, zero_unless, cnd_allowed, codes_allowed, icode_allowed, stat_allowed, shares_register, destination_allowed}
 use Rattle.y86_base.specs.Words.{set}
-use Rattle.pipe_fields.specs.Layout.{Fields, FetchLine, DecodeLine, ExecuteLine, MemoryLine, WriteLine, fields_by, numbers, bubble}
+use Rattle.pipe_fields.specs.Layout.{Fields, FetchLine, DecodeLine, ExecuteLine, MemoryLine, WriteLine, fields_by, numbers, bubble, field_count, f_first, d_first, e_first, m_first, w_first}
 use Rattle.pipe_fields.specs.Allowed.{allowed, fetch_row_allowed, decode_row_allowed, execute_row_allowed, memory_row_allowed, write_row_allowed, registers_allowed, fetch_allowed, decode_allowed, execute_allowed, memory_allowed, write_allowed, is_good_aok, decode_bubble, execute_bubble, memory_bubble, write_bubble}
 use Rattle.pipe_fields.proofs.Told.{LinesAllowed, lines_allowed}
 use Rattle.prog_gen.specs.Choices.{AreChosen, choice_allowed, stat_choice_allowed, icode_choice_allowed, ifun_choice_allowed}
 use Rattle.prog_laws.proofs.Lawful.{then_true, else_true, choose_then, choose_else}
-use Rattle.prog_laws.proofs.Forty.{forty}
+use Rattle.prog_laws.proofs.EachBelow.{each_below}
 
 -- ---- tests that are known
 
@@ -372,166 +372,209 @@ write_back v x h = by (x.kind == bubble) refl
 abbrev IsTested : Variant → Fields → ℕ → Type 0
 IsTested v c j = LinesAllowed v c → choice_allowed v j (fields_by (take j (numbers c))) (get_or (numbers c) j 0) ≡ true
 
-t0 : (v : Variant) (c : Fields) → IsTested v c 0
+tested_d_kind : (v : Variant) (c : Fields) → IsTested v c 0
 unfolding choice_allowed
-t0 v c h = (decode_back v c.d h.d).kind
+tested_d_kind v c h = (decode_back v c.d h.d).kind
 
-t1 : (v : Variant) (c : Fields) → IsTested v c 1
+tested_e_kind : (v : Variant) (c : Fields) → IsTested v c 1
 unfolding choice_allowed
-t1 v c h = (execute_back v c.e h.e).kind
+tested_e_kind v c h = (execute_back v c.e h.e).kind
 
-t2 : (v : Variant) (c : Fields) → IsTested v c 2
+tested_m_kind : (v : Variant) (c : Fields) → IsTested v c 2
 unfolding choice_allowed
-t2 v c h = (memory_back v c.m h.m).kind
+tested_m_kind v c h = (memory_back v c.m h.m).kind
 
-t3 : (v : Variant) (c : Fields) → IsTested v c 3
+tested_w_kind : (v : Variant) (c : Fields) → IsTested v c 3
 unfolding choice_allowed
-t3 v c h = (write_back v c.w h.w).kind
+tested_w_kind v c h = (write_back v c.w h.w).kind
 
-t4 : (v : Variant) (c : Fields) → IsTested v c 4
+tested_f_error : (v : Variant) (c : Fields) → IsTested v c f_first
 unfolding choice_allowed
-t4 v c h = refl
+tested_f_error v c h = refl
 
-t5 : (v : Variant) (c : Fields) → IsTested v c 5
+tested_f_icode : (v : Variant) (c : Fields) → IsTested v c (f_first + 1)
 unfolding choice_allowed
-t5 v c h = (fetch_back v c.f h.f).error_icode
+tested_f_icode v c h = (fetch_back v c.f h.f).error_icode
 
-t6 : (v : Variant) (c : Fields) → IsTested v c 6
+tested_f_ifun : (v : Variant) (c : Fields) → IsTested v c (f_first + 2)
 unfolding choice_allowed
-t6 v c h = (fetch_back v c.f h.f).ifun
+tested_f_ifun v c h = (fetch_back v c.f h.f).ifun
 
-t7 : (v : Variant) (c : Fields) → IsTested v c 7
+tested_f_taken : (v : Variant) (c : Fields) → IsTested v c (f_first + 3)
 unfolding choice_allowed
-t7 v c h = (fetch_back v c.f h.f).taken
+tested_f_taken v c h = (fetch_back v c.f h.f).taken
 
-t8 : (v : Variant) (c : Fields) → IsTested v c 8
+tested_f_stops : (v : Variant) (c : Fields) → IsTested v c (f_first + 4)
 unfolding choice_allowed
-t8 v c h = (fetch_back v c.f h.f).stops
+tested_f_stops v c h = (fetch_back v c.f h.f).stops
 
-t9 : (v : Variant) (c : Fields) → IsTested v c 9
+tested_f_back : (v : Variant) (c : Fields) → IsTested v c (f_first + 5)
 unfolding choice_allowed
-t9 v c h = (fetch_back v c.f h.f).back
+tested_f_back v c h = (fetch_back v c.f h.f).back
 
-t10 : (v : Variant) (c : Fields) → IsTested v c 10
+tested_d_stat : (v : Variant) (c : Fields) → IsTested v c d_first
 unfolding choice_allowed
-t10 v c h = (decode_back v c.d h.d).stat
+tested_d_stat v c h = (decode_back v c.d h.d).stat
 
-t11 : (v : Variant) (c : Fields) → IsTested v c 11
+tested_d_icode : (v : Variant) (c : Fields) → IsTested v c (d_first + 1)
 unfolding choice_allowed
-t11 v c h = (decode_back v c.d h.d).icode
+tested_d_icode v c h = (decode_back v c.d h.d).icode
 
-t12 : (v : Variant) (c : Fields) → IsTested v c 12
+tested_d_ifun : (v : Variant) (c : Fields) → IsTested v c (d_first + 2)
 unfolding choice_allowed
-t12 v c h = (decode_back v c.d h.d).ifun
+tested_d_ifun v c h = (decode_back v c.d h.d).ifun
 
-t13 : (v : Variant) (c : Fields) → IsTested v c 13
+tested_d_rA : (v : Variant) (c : Fields) → IsTested v c (d_first + 3)
 unfolding choice_allowed
-t13 v c h = (decode_back v c.d h.d).r_a
+tested_d_rA v c h = (decode_back v c.d h.d).r_a
 
-t14 : (v : Variant) (c : Fields) → IsTested v c 14
+tested_d_rB : (v : Variant) (c : Fields) → IsTested v c (d_first + 4)
 unfolding choice_allowed
-t14 v c h = (decode_back v c.d h.d).r_b
+tested_d_rB v c h = (decode_back v c.d h.d).r_b
 
-t15 : (v : Variant) (c : Fields) → IsTested v c 15
+tested_d_taken : (v : Variant) (c : Fields) → IsTested v c (d_first + 5)
 unfolding choice_allowed
-t15 v c h = (decode_back v c.d h.d).taken
+tested_d_taken v c h = (decode_back v c.d h.d).taken
 
-t16 : (v : Variant) (c : Fields) → IsTested v c 16
+tested_d_stops : (v : Variant) (c : Fields) → IsTested v c (d_first + 6)
 unfolding choice_allowed
-t16 v c h = (decode_back v c.d h.d).stops
+tested_d_stops v c h = (decode_back v c.d h.d).stops
 
-t17 : (v : Variant) (c : Fields) → IsTested v c 17
+tested_d_back : (v : Variant) (c : Fields) → IsTested v c (d_first + 7)
 unfolding choice_allowed
-t17 v c h = (decode_back v c.d h.d).back
+tested_d_back v c h = (decode_back v c.d h.d).back
 
-t18 : (v : Variant) (c : Fields) → IsTested v c 18
+tested_e_stat : (v : Variant) (c : Fields) → IsTested v c e_first
 unfolding choice_allowed
-t18 v c h = (execute_back v c.e h.e).stat
+tested_e_stat v c h = (execute_back v c.e h.e).stat
 
-t19 : (v : Variant) (c : Fields) → IsTested v c 19
+tested_e_icode : (v : Variant) (c : Fields) → IsTested v c (e_first + 1)
 unfolding choice_allowed
-t19 v c h = (execute_back v c.e h.e).icode
+tested_e_icode v c h = (execute_back v c.e h.e).icode
 
-t20 : (v : Variant) (c : Fields) → IsTested v c 20
+tested_e_ifun : (v : Variant) (c : Fields) → IsTested v c (e_first + 2)
 unfolding choice_allowed
-t20 v c h = (execute_back v c.e h.e).ifun
+tested_e_ifun v c h = (execute_back v c.e h.e).ifun
 
-t21 : (v : Variant) (c : Fields) → IsTested v c 21
+tested_e_dstE : (v : Variant) (c : Fields) → IsTested v c (e_first + 3)
 unfolding choice_allowed
-t21 v c h = (execute_back v c.e h.e).dst_e
+tested_e_dstE v c h = (execute_back v c.e h.e).dst_e
 
-t22 : (v : Variant) (c : Fields) → IsTested v c 22
+tested_e_dstM : (v : Variant) (c : Fields) → IsTested v c (e_first + 4)
 unfolding choice_allowed
-t22 v c h = (execute_back v c.e h.e).dst_m
+tested_e_dstM v c h = (execute_back v c.e h.e).dst_m
 
-t23 : (v : Variant) (c : Fields) → IsTested v c 23
+tested_e_srcA : (v : Variant) (c : Fields) → IsTested v c (e_first + 5)
 unfolding choice_allowed
-t23 v c h = (execute_back v c.e h.e).src_a
+tested_e_srcA v c h = (execute_back v c.e h.e).src_a
 
-t24 : (v : Variant) (c : Fields) → IsTested v c 24
+tested_e_srcB : (v : Variant) (c : Fields) → IsTested v c (e_first + 6)
 unfolding choice_allowed
-t24 v c h = (execute_back v c.e h.e).src_b
+tested_e_srcB v c h = (execute_back v c.e h.e).src_b
 
-t25 : (v : Variant) (c : Fields) → IsTested v c 25
+tested_e_cnd : (v : Variant) (c : Fields) → IsTested v c (e_first + 7)
 unfolding choice_allowed
-t25 v c h = (execute_back v c.e h.e).cnd
+tested_e_cnd v c h = (execute_back v c.e h.e).cnd
 
-t26 : (v : Variant) (c : Fields) → IsTested v c 26
+tested_e_stops : (v : Variant) (c : Fields) → IsTested v c (e_first + 8)
 unfolding choice_allowed
-t26 v c h = (execute_back v c.e h.e).stops
+tested_e_stops v c h = (execute_back v c.e h.e).stops
 
-t27 : (v : Variant) (c : Fields) → IsTested v c 27
+tested_e_back : (v : Variant) (c : Fields) → IsTested v c (e_first + 9)
 unfolding choice_allowed
-t27 v c h = (execute_back v c.e h.e).back
+tested_e_back v c h = (execute_back v c.e h.e).back
 
-t28 : (v : Variant) (c : Fields) → IsTested v c 28
+tested_m_stat : (v : Variant) (c : Fields) → IsTested v c m_first
 unfolding choice_allowed
-t28 v c h = (memory_back v c.m h.m).stat
+tested_m_stat v c h = (memory_back v c.m h.m).stat
 
-t29 : (v : Variant) (c : Fields) → IsTested v c 29
+tested_m_icode : (v : Variant) (c : Fields) → IsTested v c (m_first + 1)
 unfolding choice_allowed
-t29 v c h = (memory_back v c.m h.m).icode
+tested_m_icode v c h = (memory_back v c.m h.m).icode
 
-t30 : (v : Variant) (c : Fields) → IsTested v c 30
+tested_m_ifun : (v : Variant) (c : Fields) → IsTested v c (m_first + 2)
 unfolding choice_allowed
-t30 v c h = (memory_back v c.m h.m).ifun
+tested_m_ifun v c h = (memory_back v c.m h.m).ifun
 
-t31 : (v : Variant) (c : Fields) → IsTested v c 31
+tested_m_dstE : (v : Variant) (c : Fields) → IsTested v c (m_first + 3)
 unfolding choice_allowed
-t31 v c h = (memory_back v c.m h.m).dst_e
+tested_m_dstE v c h = (memory_back v c.m h.m).dst_e
 
-t32 : (v : Variant) (c : Fields) → IsTested v c 32
+tested_m_dstM : (v : Variant) (c : Fields) → IsTested v c (m_first + 4)
 unfolding choice_allowed
-t32 v c h = (memory_back v c.m h.m).dst_m
+tested_m_dstM v c h = (memory_back v c.m h.m).dst_m
 
-t33 : (v : Variant) (c : Fields) → IsTested v c 33
+tested_m_cnd : (v : Variant) (c : Fields) → IsTested v c (m_first + 5)
 unfolding choice_allowed
-t33 v c h = (memory_back v c.m h.m).cnd
+tested_m_cnd v c h = (memory_back v c.m h.m).cnd
 
-t34 : (v : Variant) (c : Fields) → IsTested v c 34
+tested_m_error : (v : Variant) (c : Fields) → IsTested v c (m_first + 6)
 unfolding choice_allowed
-t34 v c h = (memory_back v c.m h.m).error
+tested_m_error v c h = (memory_back v c.m h.m).error
 
-t35 : (v : Variant) (c : Fields) → IsTested v c 35
+tested_m_back : (v : Variant) (c : Fields) → IsTested v c (m_first + 7)
 unfolding choice_allowed
-t35 v c h = (memory_back v c.m h.m).back
+tested_m_back v c h = (memory_back v c.m h.m).back
 
-t36 : (v : Variant) (c : Fields) → IsTested v c 36
+tested_w_stat : (v : Variant) (c : Fields) → IsTested v c w_first
 unfolding choice_allowed
-t36 v c h = (write_back v c.w h.w).stat
+tested_w_stat v c h = (write_back v c.w h.w).stat
 
-t37 : (v : Variant) (c : Fields) → IsTested v c 37
+tested_w_icode : (v : Variant) (c : Fields) → IsTested v c (w_first + 1)
 unfolding choice_allowed
-t37 v c h = (write_back v c.w h.w).icode
+tested_w_icode v c h = (write_back v c.w h.w).icode
 
-t38 : (v : Variant) (c : Fields) → IsTested v c 38
+tested_w_dstE : (v : Variant) (c : Fields) → IsTested v c (w_first + 2)
 unfolding choice_allowed
-t38 v c h = (write_back v c.w h.w).dst_e
+tested_w_dstE v c h = (write_back v c.w h.w).dst_e
 
-t39 : (v : Variant) (c : Fields) → IsTested v c 39
+tested_w_dstM : (v : Variant) (c : Fields) → IsTested v c (w_first + 3)
 unfolding choice_allowed
-t39 v c h = (write_back v c.w h.w).dst_m
+tested_w_dstM v c h = (write_back v c.w h.w).dst_m
 
 -- the numbers of an allowed valuation may stand behind one another
 pub allowed_chosen : (v : Variant) (c : Fields) → allowed v c ≡ true → AreChosen v (numbers c)
-allowed_chosen v c h j lt = forty (IsTested v c) (t0 v c) (t1 v c) (t2 v c) (t3 v c) (t4 v c) (t5 v c) (t6 v c) (t7 v c) (t8 v c) (t9 v c) (t10 v c) (t11 v c) (t12 v c) (t13 v c) (t14 v c) (t15 v c) (t16 v c) (t17 v c) (t18 v c) (t19 v c) (t20 v c) (t21 v c) (t22 v c) (t23 v c) (t24 v c) (t25 v c) (t26 v c) (t27 v c) (t28 v c) (t29 v c) (t30 v c) (t31 v c) (t32 v c) (t33 v c) (t34 v c) (t35 v c) (t36 v c) (t37 v c) (t38 v c) (t39 v c) j lt (lines_allowed v c h)
+allowed_chosen v c h j lt =
+    each_below (IsTested v c) field_count (
+        tested_d_kind v c,
+        tested_e_kind v c,
+        tested_m_kind v c,
+        tested_w_kind v c,
+        tested_f_error v c,
+        tested_f_icode v c,
+        tested_f_ifun v c,
+        tested_f_taken v c,
+        tested_f_stops v c,
+        tested_f_back v c,
+        tested_d_stat v c,
+        tested_d_icode v c,
+        tested_d_ifun v c,
+        tested_d_rA v c,
+        tested_d_rB v c,
+        tested_d_taken v c,
+        tested_d_stops v c,
+        tested_d_back v c,
+        tested_e_stat v c,
+        tested_e_icode v c,
+        tested_e_ifun v c,
+        tested_e_dstE v c,
+        tested_e_dstM v c,
+        tested_e_srcA v c,
+        tested_e_srcB v c,
+        tested_e_cnd v c,
+        tested_e_stops v c,
+        tested_e_back v c,
+        tested_m_stat v c,
+        tested_m_icode v c,
+        tested_m_ifun v c,
+        tested_m_dstE v c,
+        tested_m_dstM v c,
+        tested_m_cnd v c,
+        tested_m_error v c,
+        tested_m_back v c,
+        tested_w_stat v c,
+        tested_w_icode v c,
+        tested_w_dstE v c,
+        tested_w_dstM v c,
+        tt,
+    ) j lt (lines_allowed v c h)

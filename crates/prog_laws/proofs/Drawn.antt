@@ -19,7 +19,7 @@ use Rattle.prog_gen.specs.Draws.{lcg_next, lcg_output}
 use Rattle.prog_laws.specs.AllowedPrefix.{PrefixGoesOn, IsAllowedPrefix}
 use Rattle.prog_laws.proofs.Behind.{allowed_chosen}
 use Rattle.prog_gen.proofs.Chosen.{passes_more, passes_same}
-use Rattle.prog_laws.proofs.Forty.{forty}
+use Rattle.prog_laws.proofs.EachBelow.{each_below}
 use Rattle.prog_laws.proofs.Lawful.{chosen_allowed}
 use Rattle.prog_laws.proofs.Witness.{Some_below, witness}
 
@@ -32,7 +32,14 @@ pub record IsFront (v : Variant) (xs : List ℕ) : Type 0 where
 -- ---- numbers as fields and back
 
 entries : (xs : List ℕ) (j : ℕ) → j < field_count → get_or (numbers (fields_by xs)) j 0 ≡ get_or xs j 0
-entries xs = forty (λ j. get_or (numbers (fields_by xs)) j 0 ≡ get_or xs j 0) refl refl refl refl refl refl refl refl refl refl refl refl refl refl refl refl refl refl refl refl refl refl refl refl refl refl refl refl refl refl refl refl refl refl refl refl refl refl refl refl
+entries xs =
+    each_below (λ j. get_or (numbers (fields_by xs)) j 0 ≡ get_or xs j 0) field_count (
+        refl, refl, refl, refl, refl, refl, refl, refl, refl, refl,
+        refl, refl, refl, refl, refl, refl, refl, refl, refl, refl,
+        refl, refl, refl, refl, refl, refl, refl, refl, refl, refl,
+        refl, refl, refl, refl, refl, refl, refl, refl, refl, refl,
+        tt,
+    )
 
 count : (c : Fields) → length (numbers c) ≡ field_count
 count c = refl
@@ -108,7 +115,7 @@ front_next v xs f room =
         subst (λ (m : ℕ). choice_allowed v k (fields_by (take k (numbers (fields_by xs)))) m ≡ true) (sym (entries xs k (omega (arith, h, f.most))))
         (subst (λ (ys : List ℕ). choice_allowed v k (fields_by ys) (get_or xs k 0) ≡ true) (sym (front_taken xs k (omega (arith, h)) f.most)) (f.chosen k h))
 
--- so many more numbers make all forty
+-- so many more numbers make one for each field
 pub record IsFilled (v : Variant) (xs ys : List ℕ) : Type 0 where
   pub front : IsFront v ys
   pub size : length ys ≡ field_count
@@ -131,7 +138,7 @@ fill (suc k) v xs size f =
     let rest = fill k v (xs ++ some.n ∷ []) (omega (arith, size, length_push xs some.n)) (front_more v xs some.n f room some.small some.may_be) in
     (rest.0, filled_back v xs rest.0 some.n room rest.1)
 
--- ---- all forty are those of an allowed valuation
+-- ---- all of them are those of an allowed valuation
 
 ranges : (ss : List FieldSpec) (xs : List ℕ) (d : FieldSpec) → length ss ≡ length xs → ((j : ℕ) → j < length ss → get_or xs j 0 < 2 ^ (get_or ss j d).bits) → table.InRange ss xs
 ranges [] [] d size h = tt

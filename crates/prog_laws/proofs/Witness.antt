@@ -1,5 +1,5 @@
 -- Behind numbers that may stand behind one another another one may stand, at each place.
-use Rattle.std.proofs.Common.{◌≡◌, ℕ, zero, suc, ◌<◌, ◌^◌, Bool, true, false, not, ◌&&◌, ◌||◌, ◌==◌, nat_lt, nat_le, if◌then◌else◌, List, [], ◌∷◌, length, get_or, take, slice_get, unwrap_or, refl, ap, subst, arith}
+use Rattle.std.proofs.Common.{◌≡◌, ℕ, zero, suc, ◌+◌, ◌<◌, ◌^◌, Bool, true, false, not, ◌&&◌, ◌||◌, ◌==◌, nat_lt, nat_le, if◌then◌else◌, List, [], ◌∷◌, length, get_or, take, slice_get, unwrap_or, refl, ap, subst, arith}
 use Rattle.std.proofs.lemmas.Bool.Decides.{nat_tests}
 use Rattle.std.proofs.lemmas.Bool.{or_left, or_right, and_from}
 use Rattle.std.proofs.Math.Bool.{and-false, or-true}
@@ -13,11 +13,11 @@ use Rattle.y86_isa.specs.Table.{rows, row, dash_row, inop, no_register}
 use Rattle.net_fields.specs.AllowedNumbers.{register_field_allowed, register_allowed, cnd_allowed_where, zero_unless, cnd_allowed, icode_allowed, stat_allowed, destination_allowed}
 use Rattle.y86_base.specs.Words.{set}
 use Rattle.y86_base.proofs.Booleans.{and_second, and_first}
-use Rattle.pipe_fields.specs.Layout.{Fields, fields_by, numbers, bubble, field_count}
+use Rattle.pipe_fields.specs.Layout.{Fields, fields_by, numbers, bubble, field_count, f_first, d_first, e_first, m_first, w_first}
 use Rattle.pipe_fields.specs.Allowed.{is_good_aok}
 use Rattle.prog_gen.specs.Choices.{choice_allowed, stat_choice_allowed, icode_choice_allowed, ifun_choice_allowed, width}
 use Rattle.prog_laws.proofs.Lawful.{else_true, choose_then, choose_else}
-use Rattle.prog_laws.proofs.Forty.{forty}
+use Rattle.prog_laws.proofs.EachBelow.{each_below}
 
 -- a number below a bound that passes a test
 pub record Some_below (bound : ℕ) (may : ℕ → Bool) : Type 0 where
@@ -228,166 +228,209 @@ AreBefore v c j = (k : ℕ) → k < j → choice_allowed v k (fields_by (take k 
 abbrev pub IsWitnessed : Variant → Fields → ℕ → Type 0
 IsWitnessed v c j = AreBefore v c j → Some_below (2 ^ width j) (choice_allowed v j (fields_by (take j (numbers c))))
 
-w0 : (v : Variant) (c : Fields) → IsWitnessed v c 0
+witnessed_d_kind : (v : Variant) (c : Fields) → IsWitnessed v c 0
 unfolding choice_allowed
-w0 v c h = record { n = 0; small = omega arith; may_be = refl }
+witnessed_d_kind v c h = record { n = 0; small = omega arith; may_be = refl }
 
-w1 : (v : Variant) (c : Fields) → IsWitnessed v c 1
+witnessed_e_kind : (v : Variant) (c : Fields) → IsWitnessed v c 1
 unfolding choice_allowed
-w1 v c h = record { n = 0; small = omega arith; may_be = refl }
+witnessed_e_kind v c h = record { n = 0; small = omega arith; may_be = refl }
 
-w2 : (v : Variant) (c : Fields) → IsWitnessed v c 2
+witnessed_m_kind : (v : Variant) (c : Fields) → IsWitnessed v c 2
 unfolding choice_allowed
-w2 v c h = record { n = 0; small = omega arith; may_be = refl }
+witnessed_m_kind v c h = record { n = 0; small = omega arith; may_be = refl }
 
-w3 : (v : Variant) (c : Fields) → IsWitnessed v c 3
+witnessed_w_kind : (v : Variant) (c : Fields) → IsWitnessed v c 3
 unfolding choice_allowed
-w3 v c h = record { n = 0; small = omega arith; may_be = refl }
+witnessed_w_kind v c h = record { n = 0; small = omega arith; may_be = refl }
 
-w4 : (v : Variant) (c : Fields) → IsWitnessed v c 4
+witnessed_f_error : (v : Variant) (c : Fields) → IsWitnessed v c f_first
 unfolding choice_allowed
-w4 v c h = record { n = 0; small = omega arith; may_be = refl }
+witnessed_f_error v c h = record { n = 0; small = omega arith; may_be = refl }
 
-w5 : (v : Variant) (c : Fields) → IsWitnessed v c 5
+witnessed_f_icode : (v : Variant) (c : Fields) → IsWitnessed v c (f_first + 1)
 unfolding choice_allowed
-w5 v c h = (let x = fetched_some v c.f.error in record { n = x.n; small = x.small; may_be = x.may_be })
+witnessed_f_icode v c h = (let x = fetched_some v c.f.error in record { n = x.n; small = x.small; may_be = x.may_be })
 
-w6 : (v : Variant) (c : Fields) → IsWitnessed v c 6
+witnessed_f_ifun : (v : Variant) (c : Fields) → IsWitnessed v c (f_first + 2)
 unfolding choice_allowed
-w6 v c h = (let x = fetched_ifun_some (row v c.f.icode) c.f.error in record { n = x.n; small = x.small; may_be = x.may_be })
+witnessed_f_ifun v c h = (let x = fetched_ifun_some (row v c.f.icode) c.f.error in record { n = x.n; small = x.small; may_be = x.may_be })
 
-w7 : (v : Variant) (c : Fields) → IsWitnessed v c 7
+witnessed_f_taken : (v : Variant) (c : Fields) → IsWitnessed v c (f_first + 3)
 unfolding choice_allowed
-w7 v c h = (let x = where_some (next_is_branch (row v c.f.icode).next) c.f.ifun in record { n = x.n; small = x.small; may_be = x.may_be })
+witnessed_f_taken v c h = (let x = where_some (next_is_branch (row v c.f.icode).next) c.f.ifun in record { n = x.n; small = x.small; may_be = x.may_be })
 
-w8 : (v : Variant) (c : Fields) → IsWitnessed v c 8
+witnessed_f_stops : (v : Variant) (c : Fields) → IsWitnessed v c (f_first + 4)
 unfolding choice_allowed
-w8 v c h = (let x = only_some (accesses (row v c.f.icode).memory) in record { n = x.n; small = x.small; may_be = x.may_be })
+witnessed_f_stops v c h = (let x = only_some (accesses (row v c.f.icode).memory) in record { n = x.n; small = x.small; may_be = x.may_be })
 
-w9 : (v : Variant) (c : Fields) → IsWitnessed v c 9
+witnessed_f_back : (v : Variant) (c : Fields) → IsWitnessed v c (f_first + 5)
 unfolding choice_allowed
-w9 v c h = (let x = only_some (next_is_branch (row v c.f.icode).next) in record { n = x.n; small = x.small; may_be = x.may_be })
+witnessed_f_back v c h = (let x = only_some (next_is_branch (row v c.f.icode).next) in record { n = x.n; small = x.small; may_be = x.may_be })
 
-w10 : (v : Variant) (c : Fields) → IsWitnessed v c 10
+witnessed_d_stat : (v : Variant) (c : Fields) → IsWitnessed v c d_first
 unfolding choice_allowed
-w10 v c h = (let x = stat_some c.d.kind in record { n = x.n; small = x.small; may_be = x.may_be })
+witnessed_d_stat v c h = (let x = stat_some c.d.kind in record { n = x.n; small = x.small; may_be = x.may_be })
 
-w11 : (v : Variant) (c : Fields) → IsWitnessed v c 11
+witnessed_d_icode : (v : Variant) (c : Fields) → IsWitnessed v c (d_first + 1)
 unfolding choice_allowed
-w11 v c h = (let x = icode_some v c.d.kind (λ n. false) c.d.stat (h 10 (omega arith)) in record { n = x.n; small = x.small; may_be = x.may_be })
+witnessed_d_icode v c h = (let x = icode_some v c.d.kind (λ n. false) c.d.stat (h 10 (omega arith)) in record { n = x.n; small = x.small; may_be = x.may_be })
 
-w12 : (v : Variant) (c : Fields) → IsWitnessed v c 12
+witnessed_d_ifun : (v : Variant) (c : Fields) → IsWitnessed v c (d_first + 2)
 unfolding choice_allowed
-w12 v c h = (let x = ifun_some (row v c.d.icode) c.d.kind c.d.stat in record { n = x.n; small = x.small; may_be = x.may_be })
+witnessed_d_ifun v c h = (let x = ifun_some (row v c.d.icode) c.d.kind c.d.stat in record { n = x.n; small = x.small; may_be = x.may_be })
 
-w13 : (v : Variant) (c : Fields) → IsWitnessed v c 13
+witnessed_d_rA : (v : Variant) (c : Fields) → IsWitnessed v c (d_first + 3)
 unfolding choice_allowed
-w13 v c h = (let x = half_some (row v c.d.icode).has_byte (row v c.d.icode).uses_a in record { n = x.n; small = x.small; may_be = x.may_be })
+witnessed_d_rA v c h = (let x = half_some (row v c.d.icode).has_byte (row v c.d.icode).uses_a in record { n = x.n; small = x.small; may_be = x.may_be })
 
-w14 : (v : Variant) (c : Fields) → IsWitnessed v c 14
+witnessed_d_rB : (v : Variant) (c : Fields) → IsWitnessed v c (d_first + 4)
 unfolding choice_allowed
-w14 v c h = (let x = half_some (row v c.d.icode).has_byte (row v c.d.icode).uses_b in record { n = x.n; small = x.small; may_be = x.may_be })
+witnessed_d_rB v c h = (let x = half_some (row v c.d.icode).has_byte (row v c.d.icode).uses_b in record { n = x.n; small = x.small; may_be = x.may_be })
 
-w15 : (v : Variant) (c : Fields) → IsWitnessed v c 15
+witnessed_d_taken : (v : Variant) (c : Fields) → IsWitnessed v c (d_first + 5)
 unfolding choice_allowed
-w15 v c h = (let x = where_some (is_good_aok c.d.kind c.d.stat && next_is_branch (row v c.d.icode).next) c.d.ifun in record { n = x.n; small = x.small; may_be = x.may_be })
+witnessed_d_taken v c h = (let x = where_some (is_good_aok c.d.kind c.d.stat && next_is_branch (row v c.d.icode).next) c.d.ifun in record { n = x.n; small = x.small; may_be = x.may_be })
 
-w16 : (v : Variant) (c : Fields) → IsWitnessed v c 16
+witnessed_d_stops : (v : Variant) (c : Fields) → IsWitnessed v c (d_first + 6)
 unfolding choice_allowed
-w16 v c h = (let x = only_some (is_good_aok c.d.kind c.d.stat && accesses (row v c.d.icode).memory) in record { n = x.n; small = x.small; may_be = x.may_be })
+witnessed_d_stops v c h = (let x = only_some (is_good_aok c.d.kind c.d.stat && accesses (row v c.d.icode).memory) in record { n = x.n; small = x.small; may_be = x.may_be })
 
-w17 : (v : Variant) (c : Fields) → IsWitnessed v c 17
+witnessed_d_back : (v : Variant) (c : Fields) → IsWitnessed v c (d_first + 7)
 unfolding choice_allowed
-w17 v c h = (let x = only_some (is_good_aok c.d.kind c.d.stat && next_is_branch (row v c.d.icode).next) in record { n = x.n; small = x.small; may_be = x.may_be })
+witnessed_d_back v c h = (let x = only_some (is_good_aok c.d.kind c.d.stat && next_is_branch (row v c.d.icode).next) in record { n = x.n; small = x.small; may_be = x.may_be })
 
-w18 : (v : Variant) (c : Fields) → IsWitnessed v c 18
+witnessed_e_stat : (v : Variant) (c : Fields) → IsWitnessed v c e_first
 unfolding choice_allowed
-w18 v c h = (let x = stat_some c.e.kind in record { n = x.n; small = x.small; may_be = x.may_be })
+witnessed_e_stat v c h = (let x = stat_some c.e.kind in record { n = x.n; small = x.small; may_be = x.may_be })
 
-w19 : (v : Variant) (c : Fields) → IsWitnessed v c 19
+witnessed_e_icode : (v : Variant) (c : Fields) → IsWitnessed v c (e_first + 1)
 unfolding choice_allowed
-w19 v c h = (let x = icode_some v c.e.kind (λ n. false) c.e.stat (h 18 (omega arith)) in record { n = x.n; small = x.small; may_be = x.may_be })
+witnessed_e_icode v c h = (let x = icode_some v c.e.kind (λ n. false) c.e.stat (h 18 (omega arith)) in record { n = x.n; small = x.small; may_be = x.may_be })
 
-w20 : (v : Variant) (c : Fields) → IsWitnessed v c 20
+witnessed_e_ifun : (v : Variant) (c : Fields) → IsWitnessed v c (e_first + 2)
 unfolding choice_allowed
-w20 v c h = (let x = ifun_some (row v c.e.icode) c.e.kind c.e.stat in record { n = x.n; small = x.small; may_be = x.may_be })
+witnessed_e_ifun v c h = (let x = ifun_some (row v c.e.icode) c.e.kind c.e.stat in record { n = x.n; small = x.small; may_be = x.may_be })
 
-w21 : (v : Variant) (c : Fields) → IsWitnessed v c 21
+witnessed_e_dstE : (v : Variant) (c : Fields) → IsWitnessed v c (e_first + 3)
 unfolding choice_allowed
-w21 v c h = (let x = register_some (row v c.e.icode).dst_e in record { n = x.n; small = x.small; may_be = x.may_be })
+witnessed_e_dstE v c h = (let x = register_some (row v c.e.icode).dst_e in record { n = x.n; small = x.small; may_be = x.may_be })
 
-w22 : (v : Variant) (c : Fields) → IsWitnessed v c 22
+witnessed_e_dstM : (v : Variant) (c : Fields) → IsWitnessed v c (e_first + 4)
 unfolding choice_allowed
-w22 v c h = (let x = register_some (row v c.e.icode).dst_m in record { n = x.n; small = x.small; may_be = x.may_be })
+witnessed_e_dstM v c h = (let x = register_some (row v c.e.icode).dst_m in record { n = x.n; small = x.small; may_be = x.may_be })
 
-w23 : (v : Variant) (c : Fields) → IsWitnessed v c 23
+witnessed_e_srcA : (v : Variant) (c : Fields) → IsWitnessed v c (e_first + 5)
 unfolding choice_allowed
-w23 v c h = (let x = register_some (row v c.e.icode).src_a in record { n = x.n; small = x.small; may_be = x.may_be })
+witnessed_e_srcA v c h = (let x = register_some (row v c.e.icode).src_a in record { n = x.n; small = x.small; may_be = x.may_be })
 
-w24 : (v : Variant) (c : Fields) → IsWitnessed v c 24
+witnessed_e_srcB : (v : Variant) (c : Fields) → IsWitnessed v c (e_first + 6)
 unfolding choice_allowed
-w24 v c h = (let x = source_some (row v c.e.icode).src_b (row v c.e.icode).dst_e c.e.dst_e (h 21 (omega arith)) in record { n = x.n; small = x.small; may_be = x.may_be })
+witnessed_e_srcB v c h = (let x = source_some (row v c.e.icode).src_b (row v c.e.icode).dst_e c.e.dst_e (h 21 (omega arith)) in record { n = x.n; small = x.small; may_be = x.may_be })
 
-w25 : (v : Variant) (c : Fields) → IsWitnessed v c 25
+witnessed_e_cnd : (v : Variant) (c : Fields) → IsWitnessed v c (e_first + 7)
 unfolding choice_allowed
-w25 v c h = (let x = cnd_some c.e.ifun in record { n = x.n; small = x.small; may_be = x.may_be })
+witnessed_e_cnd v c h = (let x = cnd_some c.e.ifun in record { n = x.n; small = x.small; may_be = x.may_be })
 
-w26 : (v : Variant) (c : Fields) → IsWitnessed v c 26
+witnessed_e_stops : (v : Variant) (c : Fields) → IsWitnessed v c (e_first + 8)
 unfolding choice_allowed
-w26 v c h = (let x = only_some (is_good_aok c.e.kind c.e.stat && accesses (row v c.e.icode).memory) in record { n = x.n; small = x.small; may_be = x.may_be })
+witnessed_e_stops v c h = (let x = only_some (is_good_aok c.e.kind c.e.stat && accesses (row v c.e.icode).memory) in record { n = x.n; small = x.small; may_be = x.may_be })
 
-w27 : (v : Variant) (c : Fields) → IsWitnessed v c 27
+witnessed_e_back : (v : Variant) (c : Fields) → IsWitnessed v c (e_first + 9)
 unfolding choice_allowed
-w27 v c h = (let x = only_some (is_good_aok c.e.kind c.e.stat && next_is_branch (row v c.e.icode).next) in record { n = x.n; small = x.small; may_be = x.may_be })
+witnessed_e_back v c h = (let x = only_some (is_good_aok c.e.kind c.e.stat && next_is_branch (row v c.e.icode).next) in record { n = x.n; small = x.small; may_be = x.may_be })
 
-w28 : (v : Variant) (c : Fields) → IsWitnessed v c 28
+witnessed_m_stat : (v : Variant) (c : Fields) → IsWitnessed v c m_first
 unfolding choice_allowed
-w28 v c h = (let x = stat_some c.m.kind in record { n = x.n; small = x.small; may_be = x.may_be })
+witnessed_m_stat v c h = (let x = stat_some c.m.kind in record { n = x.n; small = x.small; may_be = x.may_be })
 
-w29 : (v : Variant) (c : Fields) → IsWitnessed v c 29
+witnessed_m_icode : (v : Variant) (c : Fields) → IsWitnessed v c (m_first + 1)
 unfolding choice_allowed
-w29 v c h = (let x = icode_some v c.m.kind (λ n. false) c.m.stat (h 28 (omega arith)) in record { n = x.n; small = x.small; may_be = x.may_be })
+witnessed_m_icode v c h = (let x = icode_some v c.m.kind (λ n. false) c.m.stat (h 28 (omega arith)) in record { n = x.n; small = x.small; may_be = x.may_be })
 
-w30 : (v : Variant) (c : Fields) → IsWitnessed v c 30
+witnessed_m_ifun : (v : Variant) (c : Fields) → IsWitnessed v c (m_first + 2)
 unfolding choice_allowed
-w30 v c h = (let x = ifun_some (row v c.m.icode) c.m.kind c.m.stat in record { n = x.n; small = x.small; may_be = x.may_be })
+witnessed_m_ifun v c h = (let x = ifun_some (row v c.m.icode) c.m.kind c.m.stat in record { n = x.n; small = x.small; may_be = x.may_be })
 
-w31 : (v : Variant) (c : Fields) → IsWitnessed v c 31
+witnessed_m_dstE : (v : Variant) (c : Fields) → IsWitnessed v c (m_first + 3)
 unfolding choice_allowed
-w31 v c h = (let x = register_some (row v c.m.icode).dst_e in record { n = x.n; small = x.small; may_be = or_left _ _ x.may_be })
+witnessed_m_dstE v c h = (let x = register_some (row v c.m.icode).dst_e in record { n = x.n; small = x.small; may_be = or_left _ _ x.may_be })
 
-w32 : (v : Variant) (c : Fields) → IsWitnessed v c 32
+witnessed_m_dstM : (v : Variant) (c : Fields) → IsWitnessed v c (m_first + 4)
 unfolding choice_allowed
-w32 v c h = (let x = register_some (row v c.m.icode).dst_m in record { n = x.n; small = x.small; may_be = x.may_be })
+witnessed_m_dstM v c h = (let x = register_some (row v c.m.icode).dst_m in record { n = x.n; small = x.small; may_be = x.may_be })
 
-w33 : (v : Variant) (c : Fields) → IsWitnessed v c 33
+witnessed_m_cnd : (v : Variant) (c : Fields) → IsWitnessed v c (m_first + 5)
 unfolding choice_allowed
-w33 v c h = (let x = memory_cnd_some (row v c.m.icode) c.m.kind c.m.ifun c.m.dst_e (row_small v c.m.icode) (λ e. and_first _ _ (else_true _ _ _ e (h 30 (omega arith)))) (h 31 (omega arith)) in record { n = x.n; small = x.small; may_be = x.may_be })
+witnessed_m_cnd v c h = (let x = memory_cnd_some (row v c.m.icode) c.m.kind c.m.ifun c.m.dst_e (row_small v c.m.icode) (λ e. and_first _ _ (else_true _ _ _ e (h 30 (omega arith)))) (h 31 (omega arith)) in record { n = x.n; small = x.small; may_be = x.may_be })
 
-w34 : (v : Variant) (c : Fields) → IsWitnessed v c 34
+witnessed_m_error : (v : Variant) (c : Fields) → IsWitnessed v c (m_first + 6)
 unfolding choice_allowed
-w34 v c h = (let x = only_some (is_good_aok c.m.kind c.m.stat && accesses (row v c.m.icode).memory) in record { n = x.n; small = x.small; may_be = x.may_be })
+witnessed_m_error v c h = (let x = only_some (is_good_aok c.m.kind c.m.stat && accesses (row v c.m.icode).memory) in record { n = x.n; small = x.small; may_be = x.may_be })
 
-w35 : (v : Variant) (c : Fields) → IsWitnessed v c 35
+witnessed_m_back : (v : Variant) (c : Fields) → IsWitnessed v c (m_first + 7)
 unfolding choice_allowed
-w35 v c h = (let x = only_some (is_good_aok c.m.kind c.m.stat && next_is_branch (row v c.m.icode).next) in record { n = x.n; small = x.small; may_be = x.may_be })
+witnessed_m_back v c h = (let x = only_some (is_good_aok c.m.kind c.m.stat && next_is_branch (row v c.m.icode).next) in record { n = x.n; small = x.small; may_be = x.may_be })
 
-w36 : (v : Variant) (c : Fields) → IsWitnessed v c 36
+witnessed_w_stat : (v : Variant) (c : Fields) → IsWitnessed v c w_first
 unfolding choice_allowed
-w36 v c h = (let x = stat_some c.w.kind in record { n = x.n; small = x.small; may_be = x.may_be })
+witnessed_w_stat v c h = (let x = stat_some c.w.kind in record { n = x.n; small = x.small; may_be = x.may_be })
 
-w37 : (v : Variant) (c : Fields) → IsWitnessed v c 37
+witnessed_w_icode : (v : Variant) (c : Fields) → IsWitnessed v c (w_first + 1)
 unfolding choice_allowed
-w37 v c h = (let x = icode_some v c.w.kind (λ n. accesses (row v n).memory) c.w.stat (h 36 (omega arith)) in record { n = x.n; small = x.small; may_be = x.may_be })
+witnessed_w_icode v c h = (let x = icode_some v c.w.kind (λ n. accesses (row v n).memory) c.w.stat (h 36 (omega arith)) in record { n = x.n; small = x.small; may_be = x.may_be })
 
-w38 : (v : Variant) (c : Fields) → IsWitnessed v c 38
+witnessed_w_dstE : (v : Variant) (c : Fields) → IsWitnessed v c (w_first + 2)
 unfolding choice_allowed
-w38 v c h = (let x = register_some (row v c.w.icode).dst_e in record { n = x.n; small = x.small; may_be = or_right _ _ x.may_be })
+witnessed_w_dstE v c h = (let x = register_some (row v c.w.icode).dst_e in record { n = x.n; small = x.small; may_be = or_right _ _ x.may_be })
 
-w39 : (v : Variant) (c : Fields) → IsWitnessed v c 39
+witnessed_w_dstM : (v : Variant) (c : Fields) → IsWitnessed v c (w_first + 3)
 unfolding choice_allowed
-w39 v c h = (let x = register_some (row v c.w.icode).dst_m in record { n = x.n; small = x.small; may_be = x.may_be })
+witnessed_w_dstM v c h = (let x = register_some (row v c.w.icode).dst_m in record { n = x.n; small = x.small; may_be = x.may_be })
 
 -- another one may stand
 pub witness : (v : Variant) (c : Fields) (j : ℕ) → j < field_count → AreBefore v c j → Some_below (2 ^ width j) (choice_allowed v j (fields_by (take j (numbers c))))
-witness v c j lt h = forty (IsWitnessed v c) (w0 v c) (w1 v c) (w2 v c) (w3 v c) (w4 v c) (w5 v c) (w6 v c) (w7 v c) (w8 v c) (w9 v c) (w10 v c) (w11 v c) (w12 v c) (w13 v c) (w14 v c) (w15 v c) (w16 v c) (w17 v c) (w18 v c) (w19 v c) (w20 v c) (w21 v c) (w22 v c) (w23 v c) (w24 v c) (w25 v c) (w26 v c) (w27 v c) (w28 v c) (w29 v c) (w30 v c) (w31 v c) (w32 v c) (w33 v c) (w34 v c) (w35 v c) (w36 v c) (w37 v c) (w38 v c) (w39 v c) j lt h
+witness v c j lt h =
+    each_below (IsWitnessed v c) field_count (
+        witnessed_d_kind v c,
+        witnessed_e_kind v c,
+        witnessed_m_kind v c,
+        witnessed_w_kind v c,
+        witnessed_f_error v c,
+        witnessed_f_icode v c,
+        witnessed_f_ifun v c,
+        witnessed_f_taken v c,
+        witnessed_f_stops v c,
+        witnessed_f_back v c,
+        witnessed_d_stat v c,
+        witnessed_d_icode v c,
+        witnessed_d_ifun v c,
+        witnessed_d_rA v c,
+        witnessed_d_rB v c,
+        witnessed_d_taken v c,
+        witnessed_d_stops v c,
+        witnessed_d_back v c,
+        witnessed_e_stat v c,
+        witnessed_e_icode v c,
+        witnessed_e_ifun v c,
+        witnessed_e_dstE v c,
+        witnessed_e_dstM v c,
+        witnessed_e_srcA v c,
+        witnessed_e_srcB v c,
+        witnessed_e_cnd v c,
+        witnessed_e_stops v c,
+        witnessed_e_back v c,
+        witnessed_m_stat v c,
+        witnessed_m_icode v c,
+        witnessed_m_ifun v c,
+        witnessed_m_dstE v c,
+        witnessed_m_dstM v c,
+        witnessed_m_cnd v c,
+        witnessed_m_error v c,
+        witnessed_m_back v c,
+        witnessed_w_stat v c,
+        witnessed_w_icode v c,
+        witnessed_w_dstE v c,
+        witnessed_w_dstM v c,
+        tt,
+    ) j lt h

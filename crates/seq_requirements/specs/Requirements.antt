@@ -1,6 +1,6 @@
 -- What the obligations of SEQ and SEQ+ require at a valuation, signal by signal.
 -- An obligation is met exactly where each requirement is (`IsByRequirements`).
-use Rattle.std.specs.Prelude.{ℕ, ◌≡◌, Bool, ◌==◌, List, [], ◌∷◌, if◌then◌else◌}
+use Rattle.std.specs.Prelude.{ℕ, ◌≡◌, ◌-◌, Bool, ◌==◌, List, [], ◌∷◌, get_or, if◌then◌else◌}
 use Rattle.y86_base.specs.declared.parts.Variant.{Variant}
 use Rattle.y86_base.specs.Stat.{stat_number}
 use Rattle.y86_base.specs.Words.{set}
@@ -44,25 +44,27 @@ required10 s r c = only_if (has_operand_a r.alu_a) (number s.alufun (alu_functio
 abbrev pub required13 : SignalRows → Row → List Requirement
 required13 s r = requirement_of s.mem_read (wanted.Truth (is_load r.memory)) ∷ truth s.mem_write (is_store r.memory)
 
--- what obligation i requires, from 1 to 15
+-- what the obligations 1 to 15 require, in their order
+abbrev pub shared_required : SignalRows → Row → Fields → List (List Requirement)
+shared_required s r c =
+    required1 s c ∷
+    truth s.need_regids r.has_byte ∷
+    truth s.need_val_c r.has_const ∷
+    number s.src_a (register_number r.src_a c.r_a c.r_b) ∷
+    number s.src_b (register_number r.src_b c.r_a c.r_b) ∷
+    required6 s r c ∷
+    number s.dst_m (register_number r.dst_m c.r_a c.r_b) ∷
+    some_word s.alu_a (operand_leaf_a r.alu_a s.val_a s.val_c) ∷
+    some_word s.alu_b (operand_leaf_b r.alu_b s.val_b) ∷
+    required10 s r c ∷
+    truth s.set_cc r.sets_flags ∷
+    some_word s.mem_addr (address_leaf r.memory s.val_a s.val_e) ∷
+    required13 s r ∷
+    some_word s.mem_data (word_leaf r.memory s.val_a s.val_p) ∷
+    number s.stat (stat_number (fetch_status (faulted c) c.icode)) ∷ []
+
 abbrev pub shared_requirements : SignalRows → ℕ → Row → Fields → List Requirement
-shared_requirements s i r c =
-    if i == 1 then required1 s c
-    else (if i == 2 then truth s.need_regids r.has_byte
-    else (if i == 3 then truth s.need_val_c r.has_const
-    else (if i == 4 then number s.src_a (register_number r.src_a c.r_a c.r_b)
-    else (if i == 5 then number s.src_b (register_number r.src_b c.r_a c.r_b)
-    else (if i == 6 then required6 s r c
-    else (if i == 7 then number s.dst_m (register_number r.dst_m c.r_a c.r_b)
-    else (if i == 8 then some_word s.alu_a (operand_leaf_a r.alu_a s.val_a s.val_c)
-    else (if i == 9 then some_word s.alu_b (operand_leaf_b r.alu_b s.val_b)
-    else (if i == 10 then required10 s r c
-    else (if i == 11 then truth s.set_cc r.sets_flags
-    else (if i == 12 then some_word s.mem_addr (address_leaf r.memory s.val_a s.val_e)
-    else (if i == 13 then required13 s r
-    else (if i == 14 then some_word s.mem_data (word_leaf r.memory s.val_a s.val_p)
-    else (if i == 15 then number s.stat (stat_number (fetch_status (faulted c) c.icode))
-    else []))))))))))))))
+shared_requirements s i r c = get_or (shared_required s r c) (i - 1) []
 
 -- ---- the PC, obligation 16 of each
 
