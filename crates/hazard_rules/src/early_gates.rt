@@ -51,8 +51,7 @@ fn predicts(
         ExpectedLeaf::This(Leaf::Name(signal::F_VAL_C)),
     )?;
     let asked = prediction_premise(b, v, atoms, fits, ifun, back)?;
-    let g = implies(b, asked, taken)?;
-    Ok(g)
+    implies(b, asked, taken)
 }
 
 /// The gates of the seven ifuns.
@@ -90,8 +89,7 @@ fn carries_gate(b: &mut NetBuilder, ctl: &Controls, v: Variant, fits: u64) -> Re
 {
     let good = spells(b, E_KIND, 1)?;
     let target = target_gate(b, ctl, v, good)?;
-    let g = implies(b, fits, target)?;
-    Ok(g)
+    implies(b, fits, target)
 }
 
 /// The gates that decide pt, pb and tv.

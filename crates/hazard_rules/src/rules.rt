@@ -70,26 +70,23 @@ fn rule_gate(
     v: Variant,
     s: &Settings,
     atoms: &[Atom],
-    y: &FlowGates,
-    always: u64,
-    going: u64,
+    p: &Premises,
     number: u32,
 ) -> Result<u64, Memory>
     requires inside { IsInside b.old ctl.now }
     requires covers { Covers pipe_rows ctl.now }
     requires vars { bit_count + length atoms.now ≤ b.old.vars }
-    requires flow { IsFlow b.old y.now (λ w. flow_of v s.now (fields_of w)) }
-    requires always_asked { IsAtomGate b.old atoms.now always (λ w α. built.premise_when v s.now atoms.now true (fields_of w) α) }
-    requires going_asked { IsAtomGate b.old atoms.now going (λ w α. built.premise_when v s.now atoms.now false (fields_of w) α) }
+    requires flow { IsFlow b.old p.now.flow (λ w. flow_of v s.now (fields_of w)) }
+    requires always_asked { IsAtomGate b.old atoms.now p.now.always (λ w α. built.premise_when v s.now atoms.now true (fields_of w) α) }
+    requires going_asked { IsAtomGate b.old atoms.now p.now.going (λ w α. built.premise_when v s.now atoms.now false (fields_of w) α) }
     requires from { 1 ≤ number }
     requires to { number ≤ spec.rule_count }
     ensures extends { ExtendsNet b.old b.new }
     ensures has_truth { IfOk result (λ g. IsTruthGate b.new ctl.now atoms.now g (spec.obligation v s.now atoms.now number)) }
 {
-    let demand = demand_gate(b, ctl, v, s, y, number)?;
-    let premise = one_of(is_always_demanded(number as u64), always, going);
-    let g = implies(b, premise, demand)?;
-    Ok(g)
+    let demand = demand_gate(b, ctl, v, s, &p.flow, number)?;
+    let premise = one_of(is_always_demanded(number as u64), p.always, p.going);
+    implies(b, premise, demand)
 }
 
 /// The 27 obligations in their order.
@@ -113,7 +110,7 @@ pub(crate) fn rules_told(
     let mut list = Vec::new(alloc);
     for i in 0..RULE_COUNT {
         let number = i + 1;
-        let gate = rule_gate(b, ctl, v, s, atoms, &p.flow, p.always, p.going, number)?;
+        let gate = rule_gate(b, ctl, v, s, atoms, &p, number)?;
         match list.push(Rule { number, gate }) {
             Ok(()) => {}
             Err(_) => return Err(Memory),

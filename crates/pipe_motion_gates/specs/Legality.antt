@@ -23,9 +23,9 @@ back_matches_in_stages v tv atoms c y α =
     && (back_matches atoms α signal.E_valC signal.E_valA (y.e.good && is_jump v c.e.stat c.e.icode) c.e.back
     && (not tv || back_matches atoms α signal.M_valE signal.M_valA (y.m.good && is_jump v c.m.stat c.m.icode) c.m.back))
 
--- legal, by the settings that count and what stands in the stages
-unfoldable pub legal_with : Variant → Bool → Bool → Bool → Bool → List Atom → Fields → Flow → Assignment → Bool
-legal_with v tv lf je rm atoms c y α = flow_legal je rm y && (no_load_use_in_e v lf c y && back_matches_all v tv atoms c y α)
+-- legal, by the settings and what stands in the stages
+unfoldable pub legal_with : Variant → Settings → List Atom → Fields → Flow → Assignment → Bool
+legal_with v s atoms c y α = flow_legal s.je s.rm y && (no_load_use_in_e v s.lf c y && back_matches_all v s.tv atoms c y α)
 
 -- an allowed and legal valuation, in a cycle that goes on, or in any
 unfoldable pub premise_when : Variant → Settings → List Atom → Bool → Fields → Assignment → Bool

@@ -49,8 +49,7 @@ fn code_if(
 {
     let here = picks_leaf(b, ctl, name, ExpectedLeaf::This(Leaf::Number(code)))?;
     let count = b.constant(counts)?;
-    let g = b.and(here, count)?;
-    Ok(g)
+    b.and(here, count)
 }
 
 /// The list has the truth `true` at the code of a signal.
@@ -106,8 +105,7 @@ fn fetched_stops(b: &mut NetBuilder, ctl: &Controls) -> Result<u64, Memory>
     let running = picks_leaf(b, ctl, signal::F_STAT, ExpectedLeaf::This(Leaf::Number(1)))?;
     let clear = spells(b, F_STOPS, 0)?;
     let goes_on = b.and(running, clear)?;
-    let g = b.not(goes_on)?;
-    Ok(g)
+    b.not(goes_on)
 }
 
 /// What is fetched is a conditional jump that goes on.
@@ -120,8 +118,7 @@ fn fetched_jumps(b: &mut NetBuilder, ctl: &Controls, v: Variant) -> Result<u64, 
 {
     let running = picks_leaf(b, ctl, signal::F_STAT, ExpectedLeaf::This(Leaf::Number(1)))?;
     let branch = code_has(b, ctl, v, signal::F_ICODE, RowTest::Jump)?;
-    let g = b.and(running, branch)?;
-    Ok(g)
+    b.and(running, branch)
 }
 
 /// The way that is predicted of what is fetched, were it a jump.
@@ -135,8 +132,7 @@ fn fetched_way(b: &mut NetBuilder, ctl: &Controls, s: &Settings) -> Result<u64, 
     let forward = code_listed(b, ctl, signal::F_IFUN, &s.pt)?;
     let backward = code_listed(b, ctl, signal::F_IFUN, &s.pb)?;
     let ahead = spells(b, F_BACK, 0)?;
-    let g = choose(b, ahead, forward, backward)?;
-    Ok(g)
+    choose(b, ahead, forward, backward)
 }
 
 /// What is fetched is a jump that takes another way than predicted.
@@ -159,8 +155,7 @@ fn fetched_misses(
     let way = fetched_way(b, ctl, s)?;
     let passed = spells(b, F_TAKEN, 0)?;
     let other = b.equal(passed, way)?;
-    let g = b.and(here, other)?;
-    Ok(g)
+    b.and(here, other)
 }
 
 /// What D loads of a good fetch.
@@ -203,8 +198,7 @@ fn goes_to(b: &mut NetBuilder, ctl: &Controls, here: u64, leaf: NameId) -> Resul
     ensures has_truth { IfOk result (λ g. IsControlGate b.new ctl.now g (λ w α cv. truth b.old here w && words.picks_leaf cv names.f_pc (Name leaf))) }
 {
     let taken = picks_leaf(b, ctl, signal::F_PC, ExpectedLeaf::This(Leaf::Name(leaf)))?;
-    let g = b.and(here, taken)?;
-    Ok(g)
+    b.and(here, taken)
 }
 
 /// f_pc is where the jump in E goes.
@@ -226,8 +220,7 @@ pub fn right_after_e(b: &mut NetBuilder, ctl: &Controls, v: Variant) -> Result<u
         ExpectedLeaf::This(Leaf::Name(signal::HELD_E_VAL_A)),
         ExpectedLeaf::This(Leaf::Name(signal::HELD_E_VAL_C)),
     )?;
-    let g = b.and(here, taken)?;
-    Ok(g)
+    b.and(here, taken)
 }
 
 /// f_pc is where the jump in M goes: to its target only where the file carries that through the ALU.
@@ -251,8 +244,7 @@ fn jump_after_m(b: &mut NetBuilder, ctl: &Controls, v: Variant, tv: bool) -> Res
     let falls = spells(b, M_CND, 0)?;
     let way = choose(b, falls, next, target)?;
     let here = jump(b, v, M_STAT, M_ICODE)?;
-    let g = b.and(here, way)?;
-    Ok(g)
+    b.and(here, way)
 }
 
 /// f_pc is where the jump or the ret in M goes.
@@ -275,8 +267,7 @@ fn right_after_m(
 {
     let jumped = jump_after_m(b, ctl, v, tv)?;
     let returned = goes_to(b, ctl, ret, signal::M_VAL_M)?;
-    let g = b.or(jumped, returned)?;
-    Ok(g)
+    b.or(jumped, returned)
 }
 
 /// f_pc is where the youngest good instruction goes, as far as a stage tells it.
@@ -298,8 +289,7 @@ fn right_pc(
     let e = right_after_e(b, ctl, v)?;
     let m = right_after_m(b, ctl, v, s.tv, y.m.ret)?;
     let w = goes_to(b, ctl, y.w.ret, signal::HELD_W_VAL_M)?;
-    let g = of_youngest(b, y, never, e, m, w)?;
-    Ok(g)
+    of_youngest(b, y, never, e, m, w)
 }
 
 /// f_pc is the predicted PC, on the path.
@@ -317,8 +307,7 @@ fn on_path(b: &mut NetBuilder, ctl: &Controls, y: &FlowGates) -> Result<u64, Mem
         signal::F_PC,
         ExpectedLeaf::This(Leaf::Name(signal::HELD_F_PRED_PC)),
     )?;
-    let g = b.and(ahead, path)?;
-    Ok(g)
+    b.and(ahead, path)
 }
 
 /// The fetch is that of the next instruction.
@@ -341,8 +330,7 @@ fn fetch_good(
     let next = b.or(ahead, right)?;
     let stops = stops_gate(b, y)?;
     let goes_on = b.not(stops)?;
-    let g = b.and(goes_on, next)?;
-    Ok(g)
+    b.and(goes_on, next)
 }
 
 /// Obligation 25: the next cycle's flow is legal, has nothing wrong in M and W, and keeps the path.
@@ -363,6 +351,5 @@ pub fn obligation_25(
     let controls = register_controls_of(ctl);
     let good = fetch_good(b, ctl, v, s, y)?;
     let facts = fetched_facts(b, ctl, v, s)?;
-    let g = pipe_motion::obligation_25(b, &controls, good, &facts, y, s.je, s.rm)?;
-    Ok(g)
+    pipe_motion::obligation_25(b, &controls, good, &facts, y, s.je, s.rm)
 }

@@ -26,8 +26,7 @@ fn store_behind_load(b: &mut NetBuilder, v: Variant, y: &FlowGates) -> Result<u6
     let stores = row_has(b, v, D_ICODE, RowTest::StoresA)?;
     let none = spells(b, E_DST_M, 15)?;
     let loads = without(b, y.e.good, none)?;
-    let g = b.and(stores, loads)?;
-    Ok(g)
+    b.and(stores, loads)
 }
 
 /// Not: a good store leaves D past a load in E of its source (`equal`), where all that is early or late is allowed (`plain`).
@@ -54,8 +53,7 @@ pub fn no_late_load(
     let past = b.and(equal, goes)?;
     let small = b.and(pair, past)?;
     let shown = b.and(small, plain)?;
-    let g = b.not(shown)?;
-    Ok(g)
+    b.not(shown)
 }
 
 /// Not: E holds a missed jump, and f_pc is where it goes (`right`).
@@ -73,8 +71,7 @@ pub fn no_early_jump(
 {
     let small = b.and(y.e.missed, right)?;
     let shown = b.and(small, plain)?;
-    let g = b.not(shown)?;
-    Ok(g)
+    b.not(shown)
 }
 
 /// Not: M holds a ret that doesn't stop, and f_pc is where it goes (`right`).
@@ -94,6 +91,5 @@ pub fn no_early_ret(
     let runs = without(b, y.m.ret, y.m.stops)?;
     let small = b.and(runs, right)?;
     let shown = b.and(small, plain)?;
-    let g = b.not(shown)?;
-    Ok(g)
+    b.not(shown)
 }

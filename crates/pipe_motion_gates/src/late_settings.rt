@@ -48,8 +48,7 @@ fn no_load_passed(
 {
     let controls = register_controls_of(ctl);
     let equal = picks_leaf(b, ctl, signal::D_SRC_A, ExpectedLeaf::Field(E_DST_M))?;
-    let g = no_late_load(b, v, equal, &controls, y, plain)?;
-    Ok(g)
+    no_late_load(b, v, equal, &controls, y, plain)
 }
 
 /// Not: E holds a missed jump, and f_pc is where it goes, where a gate holds.
@@ -72,8 +71,7 @@ fn no_jump_early(
         && words.picks_leaf cv names.f_pc (if set (fields_of w).e.cnd then Name names.E_valC else Name names.E_valA))) && truth b.old plain w))) }
 {
     let right = right_after_e(b, ctl, v)?;
-    let g = no_early_jump(b, y, right, plain)?;
-    Ok(g)
+    no_early_jump(b, y, right, plain)
 }
 
 /// Not: M holds a ret that doesn't stop, and f_pc is where it goes, where a gate holds.
@@ -98,8 +96,7 @@ fn no_ret_early(
         signal::F_PC,
         ExpectedLeaf::This(Leaf::Name(signal::M_VAL_M)),
     )?;
-    let g = no_early_ret(b, y, right, plain)?;
-    Ok(g)
+    no_early_ret(b, y, right, plain)
 }
 
 /// What stands in the stages, and the valuations that may show a setting.

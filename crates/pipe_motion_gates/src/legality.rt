@@ -13,6 +13,7 @@ ghost use Rattle.pipe_obligations.specs.StageFlows as spec;
 
 use ctl_atoms::{Atom, AtomKind, Leaf, position};
 use dp_signals::pipe_row as signal;
+use hcl_types::NameId;
 use net_fields::{BitRange, same, spells};
 use nets::{NetBuilder, implies, without};
 use pipe_fields::BIT_COUNT;
@@ -21,7 +22,7 @@ use pipe_fields::places::{
     M_BACK, M_DST_M, M_ICODE, M_STAT, W_KIND, W_STAT,
 };
 use pipe_gates::{RowTest, jump, row_has};
-use pipe_motion::{FlowGates, flow_legal_gate};
+use pipe_motion::{FlowGates, Settings, flow_legal_gate};
 use y86_base::{Memory, Variant};
 
 /// The register that M loads is a source of E that has to be there.
@@ -35,11 +36,9 @@ fn awaits_load(b: &mut NetBuilder, v: Variant, lf: bool) -> Result<u64, Memory>
     if lf {
         let stores = row_has(b, v, E_ICODE, RowTest::StoresA)?;
         let early = without(b, first, stores)?;
-        let g = b.or(second, early)?;
-        return Ok(g);
+        return b.or(second, early);
     }
-    let g = b.or(second, first)?;
-    Ok(g)
+    b.or(second, first)
 }
 
 /// A good instruction in E waits for the good one in M to load a register.
@@ -54,8 +53,7 @@ fn source_waits(b: &mut NetBuilder, v: Variant, lf: bool, y: &FlowGates) -> Resu
     let none = spells(b, M_DST_M, 15)?;
     let loads = without(b, y.m.good, none)?;
     let both = b.and(y.e.good, loads)?;
-    let g = b.and(both, waits)?;
-    Ok(g)
+    b.and(both, waits)
 }
 
 /// No good instruction in E waits for a load in M.
@@ -66,8 +64,7 @@ fn no_load_use_in_e(b: &mut NetBuilder, v: Variant, lf: bool, y: &FlowGates) -> 
     ensures has_truth { IfOk result (λ g. IsGate b.new g (λ w. spec.no_load_use_in_e v lf (fields_of w) (flow_at b.old w y.now))) }
 {
     let bad = source_waits(b, v, lf, y)?;
-    let g = b.not(bad)?;
-    Ok(g)
+    b.not(bad)
 }
 
 /// Where a jump is here, the atom that compares its two words is its back bit, if the file has the atom.
@@ -75,8 +72,8 @@ fn no_load_use_in_e(b: &mut NetBuilder, v: Variant, lf: bool, y: &FlowGates) -> 
 fn back_matches(
     b: &mut NetBuilder,
     atoms: &[Atom],
-    x: u32,
-    y: u32,
+    x: NameId,
+    y: NameId,
     here: u64,
     back: BitRange,
 ) -> Result<u64, Memory>
@@ -93,17 +90,13 @@ fn back_matches(
         right: Leaf::Name(y),
     };
     match position(atoms, below) {
-        None => {
-            let always = b.constant(true)?;
-            Ok(always)
-        }
+        None => b.constant(true),
         Some(k) => {
             let atom = b.variable(BIT_COUNT + k as u32)?;
             let clear = spells(b, back, 0)?;
             let set = b.not(clear)?;
             let agrees = b.equal(atom, set)?;
-            let g = implies(b, here, agrees)?;
-            Ok(g)
+            implies(b, here, agrees)
         }
     }
 }
@@ -116,8 +109,7 @@ pub fn fetched_jump(b: &mut NetBuilder, v: Variant) -> Result<u64, Memory>
 {
     let clear = spells(b, F_ERROR, 0)?;
     let branch = row_has(b, v, F_ICODE, RowTest::Jump)?;
-    let g = b.and(clear, branch)?;
-    Ok(g)
+    b.and(clear, branch)
 }
 
 /// Of the jump that is fetched, the atom is its back bit.
@@ -128,37 +120,65 @@ pub fn back_matches_in_f(b: &mut NetBuilder, v: Variant, atoms: &[Atom]) -> Resu
     ensures has_truth { IfOk result (λ g. IsAtomGate b.new atoms.now g (λ w α. spec.back_matches_in_f v atoms.now (fields_of w) α)) }
 {
     let here = fetched_jump(b, v)?;
-    let g = back_matches(b, atoms, signal::F_VAL_C, signal::F_VAL_P, here, F_BACK)?;
-    Ok(g)
+    back_matches(b, atoms, signal::F_VAL_C, signal::F_VAL_P, here, F_BACK)
 }
+
+/// A stage's words of the target of a jump and of the PC behind it, and the fields that say whether a jump is there and goes back.
+#[derive(Clone, Copy, Debug)]
+struct StageJump {
+    target: NameId,
+    next: NameId,
+    stat: BitRange,
+    icode: BitRange,
+    back: BitRange,
+}
+
+const JUMP_IN_D: StageJump = StageJump {
+    target: signal::HELD_D_VAL_C,
+    next: signal::HELD_D_VAL_P,
+    stat: D_STAT,
+    icode: D_ICODE,
+    back: D_BACK,
+};
+
+const JUMP_IN_E: StageJump = StageJump {
+    target: signal::HELD_E_VAL_C,
+    next: signal::HELD_E_VAL_A,
+    stat: E_STAT,
+    icode: E_ICODE,
+    back: E_BACK,
+};
+
+const JUMP_IN_M: StageJump = StageJump {
+    target: signal::HELD_M_VAL_E,
+    next: signal::HELD_M_VAL_A,
+    stat: M_STAT,
+    icode: M_ICODE,
+    back: M_BACK,
+};
 
 /// Of the jump in a stage, the atom is its back bit.
 fn stage_tells_back(
     b: &mut NetBuilder,
     v: Variant,
     atoms: &[Atom],
-    x: u32,
-    y: u32,
     good: u64,
-    stat: BitRange,
-    icode: BitRange,
-    back: BitRange,
+    at: StageJump,
 ) -> Result<u64, Memory>
     requires vars { bit_count + length atoms.now ≤ b.old.vars }
     requires few { length atoms.now ≤ 64 }
     requires good { good < length b.old.gates }
-    requires stat_place { stat.first + stat.bits ≤ b.old.vars }
-    requires icode_place { icode.first + icode.bits ≤ b.old.vars }
-    requires bits { icode.bits ≡ 4 }
-    requires place { back.first + back.bits ≤ b.old.vars }
+    requires stat_place { at.stat.first + at.stat.bits ≤ b.old.vars }
+    requires icode_place { at.icode.first + at.icode.bits ≤ b.old.vars }
+    requires bits { at.icode.bits ≡ 4 }
+    requires place { at.back.first + at.back.bits ≤ b.old.vars }
     ensures extends { ExtendsNet b.old b.new }
-    ensures has_truth { IfOk result (λ g. IsAtomGate b.new atoms.now g (λ w α. spec.back_matches atoms.now α x y
-        (truth b.old good w && spec.is_jump v (spelt w stat.first stat.bits) (spelt w icode.first icode.bits)) (spelt w back.first back.bits))) }
+    ensures has_truth { IfOk result (λ g. IsAtomGate b.new atoms.now g (λ w α. spec.back_matches atoms.now α at.target at.next
+        (truth b.old good w && spec.is_jump v (spelt w at.stat.first at.stat.bits) (spelt w at.icode.first at.icode.bits)) (spelt w at.back.first at.back.bits))) }
 {
-    let jump = jump(b, v, stat, icode)?;
+    let jump = jump(b, v, at.stat, at.icode)?;
     let here = b.and(good, jump)?;
-    let g = back_matches(b, atoms, x, y, here, back)?;
-    Ok(g)
+    back_matches(b, atoms, at.target, at.next, here, at.back)
 }
 
 /// The atoms that compare a jump's valC and valP are its back bit, in D and E, and with `tv` in M.
@@ -175,46 +195,14 @@ fn stages_tell_back(
     ensures extends { ExtendsNet b.old b.new }
     ensures has_truth { IfOk result (λ g. IsAtomGate b.new atoms.now g (λ w α. built.back_matches_in_stages v tv atoms.now (fields_of w) (flow_at b.old w y.now) α)) }
 {
-    let d = stage_tells_back(
-        b,
-        v,
-        atoms,
-        signal::HELD_D_VAL_C,
-        signal::HELD_D_VAL_P,
-        y.d.good,
-        D_STAT,
-        D_ICODE,
-        D_BACK,
-    )?;
-    let e = stage_tells_back(
-        b,
-        v,
-        atoms,
-        signal::HELD_E_VAL_C,
-        signal::HELD_E_VAL_A,
-        y.e.good,
-        E_STAT,
-        E_ICODE,
-        E_BACK,
-    )?;
+    let d = stage_tells_back(b, v, atoms, y.d.good, JUMP_IN_D)?;
+    let e = stage_tells_back(b, v, atoms, y.e.good, JUMP_IN_E)?;
     if !tv {
-        let both = b.and(d, e)?;
-        return Ok(both);
+        return b.and(d, e);
     }
-    let m = stage_tells_back(
-        b,
-        v,
-        atoms,
-        signal::HELD_M_VAL_E,
-        signal::HELD_M_VAL_A,
-        y.m.good,
-        M_STAT,
-        M_ICODE,
-        M_BACK,
-    )?;
+    let m = stage_tells_back(b, v, atoms, y.m.good, JUMP_IN_M)?;
     let last_two = b.and(e, m)?;
-    let g = b.and(d, last_two)?;
-    Ok(g)
+    b.and(d, last_two)
 }
 
 /// The cycle stops: the instruction in W is good, and its status isn't 1.
@@ -225,19 +213,15 @@ pub fn stopping_gate(b: &mut NetBuilder) -> Result<u64, Memory>
 {
     let good = spells(b, W_KIND, 1)?;
     let running = spells(b, W_STAT, 1)?;
-    let g = without(b, good, running)?;
-    Ok(g)
+    without(b, good, running)
 }
 
-/// The valuation is legal in a flow, at settings of which `tv`, `lf`, `je` and `rm` count.
+/// The valuation is legal in a flow, at settings.
 #[tactic(auto, unfolding(crate::specs::Legality::legal_with), using(nets::proofs::Truths::begins_more, nets::proofs::Truths::begins_self))]
 pub fn legal_gate(
     b: &mut NetBuilder,
     v: Variant,
-    tv: bool,
-    lf: bool,
-    je: bool,
-    rm: bool,
+    s: &Settings,
     atoms: &[Atom],
     y: &FlowGates,
 ) -> Result<u64, Memory>
@@ -245,14 +229,13 @@ pub fn legal_gate(
     requires few { length atoms.now ≤ 64 }
     requires flow { HasFlow (length b.old.gates) y.now }
     ensures extends { ExtendsNet b.old b.new }
-    ensures has_truth { IfOk result (λ g. IsAtomGate b.new atoms.now g (λ w α. built.legal_with v tv lf je rm atoms.now (fields_of w) (flow_at b.old w y.now) α)) }
+    ensures has_truth { IfOk result (λ g. IsAtomGate b.new atoms.now g (λ w α. built.legal_with v s.now atoms.now (fields_of w) (flow_at b.old w y.now) α)) }
 {
-    let lawful = flow_legal_gate(b, y, je, rm)?;
-    let waits = no_load_use_in_e(b, v, lf, y)?;
+    let lawful = flow_legal_gate(b, y, s.je, s.rm)?;
+    let waits = no_load_use_in_e(b, v, s.lf, y)?;
     let in_f = back_matches_in_f(b, v, atoms)?;
-    let in_stages = stages_tell_back(b, v, tv, atoms, y)?;
+    let in_stages = stages_tell_back(b, v, s.tv, atoms, y)?;
     let told = b.and(in_f, in_stages)?;
     let last_two = b.and(waits, told)?;
-    let g = b.and(lawful, last_two)?;
-    Ok(g)
+    b.and(lawful, last_two)
 }

@@ -22,8 +22,7 @@ pub fn obligation_23(b: &mut NetBuilder, ctl: &Controls) -> Result<u64, Memory>
     ensures has_truth { IfOk result (λ g. IsControlGate b.new ctl.now g (λ w α cv. motion.o23 (register_controls_of α cv))) }
 {
     let controls = register_controls_of(ctl);
-    let g = pipe_motion::obligation_23(b, &controls)?;
-    Ok(g)
+    pipe_motion::obligation_23(b, &controls)
 }
 
 /// Obligation 24: no good instruction is lost or doubled.
@@ -35,8 +34,7 @@ pub fn obligation_24(b: &mut NetBuilder, ctl: &Controls, y: &FlowGates) -> Resul
     ensures has_truth { IfOk result (λ g. IsControlGate b.new ctl.now g (λ w α cv. motion.o24 (register_controls_of α cv) (flow_at b.old w y.now))) }
 {
     let controls = register_controls_of(ctl);
-    let g = pipe_motion::obligation_24(b, &controls, y)?;
-    Ok(g)
+    pipe_motion::obligation_24(b, &controls, y)
 }
 
 /// Obligation 26: behind bubbles the good instruction in D leaves.
@@ -48,8 +46,7 @@ pub fn obligation_26(b: &mut NetBuilder, ctl: &Controls, y: &FlowGates) -> Resul
     ensures has_truth { IfOk result (λ g. IsControlGate b.new ctl.now g (λ w α cv. motion.o26 (register_controls_of α cv) (flow_at b.old w y.now))) }
 {
     let controls = register_controls_of(ctl);
-    let g = pipe_motion::obligation_26(b, &controls, y)?;
-    Ok(g)
+    pipe_motion::obligation_26(b, &controls, y)
 }
 
 /// Obligation 27: into an empty pipeline D loads.
@@ -61,6 +58,5 @@ pub fn obligation_27(b: &mut NetBuilder, ctl: &Controls, y: &FlowGates) -> Resul
     ensures has_truth { IfOk result (λ g. IsControlGate b.new ctl.now g (λ w α cv. motion.o27 (register_controls_of α cv) (flow_at b.old w y.now))) }
 {
     let controls = register_controls_of(ctl);
-    let g = pipe_motion::obligation_27(b, &controls, y)?;
-    Ok(g)
+    pipe_motion::obligation_27(b, &controls, y)
 }

@@ -22,10 +22,7 @@ use y86_base::{Memory, Variant};
 pub fn demanded_gate(
     b: &mut NetBuilder,
     v: Variant,
-    tv: bool,
-    lf: bool,
-    je: bool,
-    rm: bool,
+    s: &Settings,
     atoms: &[Atom],
     y: &FlowGates,
     always: bool,
@@ -35,17 +32,16 @@ pub fn demanded_gate(
     requires flow { HasFlow (length b.old.gates) y.now }
     ensures extends { ExtendsNet b.old b.new }
     ensures has_truth { IfOk result (λ g. IsAtomGate b.new atoms.now g (λ w α. allowed v (fields_of w)
-        && (built.legal_with v tv lf je rm atoms.now (fields_of w) (flow_at b.old w y.now) α && (always || not (spec.is_stopping (fields_of w)))))) }
+        && (built.legal_with v s.now atoms.now (fields_of w) (flow_at b.old w y.now) α && (always || not (spec.is_stopping (fields_of w)))))) }
 {
-    let legal = legal_gate(b, v, tv, lf, je, rm, atoms, y)?;
+    let legal = legal_gate(b, v, s, atoms, y)?;
     let fits = pipe_fields::allowed(b, v)?;
     let both = b.and(fits, legal)?;
     if always {
         return Ok(both);
     }
     let stopping = stopping_gate(b)?;
-    let g = without(b, both, stopping)?;
-    Ok(g)
+    without(b, both, stopping)
 }
 
 /// An allowed and legal valuation at settings, in a cycle that goes on, or (`always`) in any.
@@ -63,8 +59,7 @@ pub fn premise_gate(
     ensures extends { ExtendsNet b.old b.new }
     ensures has_truth { IfOk result (λ g. IsAtomGate b.new atoms.now g (λ w α. built.premise_when v s.now atoms.now always (fields_of w) α)) }
 {
-    let g = demanded_gate(b, v, s.tv, s.lf, s.je, s.rm, atoms, y, always)?;
-    Ok(g)
+    demanded_gate(b, v, s, atoms, y, always)
 }
 
 /// A jump of this ifun that goes back or not is fetched.
@@ -79,11 +74,9 @@ fn jump_of(b: &mut NetBuilder, v: Variant, ifun: u64, back: bool) -> Result<u64,
     let here = b.and(jump, named)?;
     let clear = spells(b, F_BACK, 0)?;
     if back {
-        let g = without(b, here, clear)?;
-        Ok(g)
+        without(b, here, clear)
     } else {
-        let g = b.and(here, clear)?;
-        Ok(g)
+        b.and(here, clear)
     }
 }
 
@@ -107,8 +100,7 @@ pub fn prediction_premise(
     let jump = jump_of(b, v, ifun, back)?;
     let told = back_matches_in_f(b, v, atoms)?;
     let here = b.and(jump, told)?;
-    let g = b.and(fits, here)?;
-    Ok(g)
+    b.and(fits, here)
 }
 
 /// The flags, memory and the status are asked of in cycles that stop too.

@@ -38,8 +38,7 @@ fn works(b: &mut NetBuilder, good: u64) -> Result<u64, Memory>
     ensures has_truth { IfOk result (λ g. IsGate b.new g (λ w. truth b.old good w && (fields_of w).e.stat == 1)) }
 {
     let fine = spells(b, E_STAT, 1)?;
-    let g = b.and(good, fine)?;
-    Ok(g)
+    b.and(good, fine)
 }
 
 /// What a row asks of E, of a good instruction that goes on.
@@ -59,8 +58,7 @@ pub fn demand_in_e(
 {
     let works = works(b, good)?;
     let asked = by_icode(b, ctl, v, E_ICODE, &rule)?;
-    let g = implies(b, works, asked)?;
-    Ok(g)
+    implies(b, works, asked)
 }
 
 /// Obligation 14: the function of the ALU, where it is used.
@@ -77,8 +75,7 @@ pub fn obligation_14(
     ensures has_truth { IfOk result (λ g. IsControlGate b.new ctl.now g (λ w α cv.
         not ((truth b.old good w && (fields_of w).e.stat == 1) && has_operand_a (row v (fields_of w).e.icode).alu_a) || words.is_number cv names.alufun (alu_function (row v (fields_of w).e.icode).selects (fields_of w).e.ifun))) }
 {
-    let g = demand_in_e(b, ctl, v, good, RowRule::Function)?;
-    Ok(g)
+    demand_in_e(b, ctl, v, good, RowRule::Function)
 }
 
 /// The signal is true exactly where the gate is, and the row of the icode passes the test.
@@ -103,8 +100,7 @@ pub fn truth_where(
     let passed = row_has(b, v, icode, test)?;
     let want = b.and(good, passed)?;
     let told = ctl.truth(name);
-    let g = b.equal(want, told)?;
-    Ok(g)
+    b.equal(want, told)
 }
 
 /// Obligation 15: the flags are set by a good instruction that goes on and sets them.
@@ -122,7 +118,7 @@ pub fn obligation_15(
         words.is_truth α cv names.set_cc ((truth b.old good w && (fields_of w).e.stat == 1) && (row v (fields_of w).e.icode).sets_flags))) }
 {
     let works = works(b, good)?;
-    let g = truth_where(
+    truth_where(
         b,
         ctl,
         v,
@@ -130,8 +126,7 @@ pub fn obligation_15(
         E_ICODE,
         RowTest::SetsFlags,
         signal::SET_CC,
-    )?;
-    Ok(g)
+    )
 }
 
 /// A good instruction carries valA, or valP in its place, on to M.
@@ -144,8 +139,7 @@ fn alu_passes_target(b: &mut NetBuilder, v: Variant, good: u64) -> Result<u64, M
     let own = row_has(b, v, E_ICODE, RowTest::CarriesA)?;
     let next = row_has(b, v, E_ICODE, RowTest::CarriesP)?;
     let any = b.or(own, next)?;
-    let g = b.and(good, any)?;
-    Ok(g)
+    b.and(good, any)
 }
 
 /// What E stores is what M loads, where M holds a good instruction.
@@ -158,8 +152,7 @@ fn stores_loaded(b: &mut NetBuilder, v: Variant, loads: u64) -> Result<u64, Memo
     let stores = row_has(b, v, E_ICODE, RowTest::StoresA)?;
     let one = same(b, M_DST_M, E_SRC_A)?;
     let both = b.and(loads, one)?;
-    let g = b.and(stores, both)?;
-    Ok(g)
+    b.and(stores, both)
 }
 
 /// With load forwarding, a store takes the word that it stores from the load in M.
@@ -170,11 +163,9 @@ fn word_comes_late(b: &mut NetBuilder, lf: bool, v: Variant, loads: u64) -> Resu
     ensures has_truth { IfOk result (λ g. IsGate b.new g (λ w. lf && (stores_val_a (row v (fields_of w).e.icode).memory && (truth b.old loads w && (fields_of w).m.dst_m == (fields_of w).e.src_a)))) }
 {
     if lf {
-        let g = stores_loaded(b, v, loads)?;
-        Ok(g)
+        stores_loaded(b, v, loads)
     } else {
-        let never = b.constant(false)?;
-        Ok(never)
+        b.constant(false)
     }
 }
 
@@ -206,8 +197,7 @@ pub fn obligation_16(
         ExpectedLeaf::This(Leaf::Name(signal::HELD_E_VAL_A)),
     )?;
     let carried = alu_passes_target(b, v, good)?;
-    let g = implies(b, carried, taken)?;
-    Ok(g)
+    implies(b, carried, taken)
 }
 
 /// The condition of the move in E does not hold.
@@ -218,8 +208,7 @@ fn loses(b: &mut NetBuilder, v: Variant) -> Result<u64, Memory>
 {
     let conditional = row_has(b, v, E_ICODE, RowTest::Conditional)?;
     let fails = spells(b, E_CND, 0)?;
-    let g = b.and(conditional, fails)?;
-    Ok(g)
+    b.and(conditional, fails)
 }
 
 /// The signal is E's destination after the condition.
@@ -237,15 +226,14 @@ pub fn late_destination_is(
         words.is_number cv name (destination_e (row v (fields_of w).e.icode).conditional (set (fields_of w).e.cnd) (fields_of w).e.dst_e))) }
 {
     let lost = loses(b, v)?;
-    let g = picks_leaf_if(
+    picks_leaf_if(
         b,
         ctl,
         name,
         lost,
         ExpectedLeaf::This(Leaf::Number(15)),
         ExpectedLeaf::Field(E_DST_E),
-    )?;
-    Ok(g)
+    )
 }
 
 /// Obligation 17: unless E holds a wrong instruction, e_dstE is E's destination after the condition.
@@ -263,8 +251,7 @@ pub fn obligation_17(
         truth b.old wrong w || words.is_number cv names.e_dstE (destination_e (row v (fields_of w).e.icode).conditional (set (fields_of w).e.cnd) (fields_of w).e.dst_e))) }
 {
     let told = late_destination_is(b, ctl, v, signal::E_DST_E)?;
-    let g = b.or(wrong, told)?;
-    Ok(g)
+    b.or(wrong, told)
 }
 
 /// E holds a good jump that goes on.
@@ -277,8 +264,7 @@ fn jumps(b: &mut NetBuilder, v: Variant, good: u64) -> Result<u64, Memory>
     let fine = spells(b, E_STAT, 1)?;
     let branch = row_has(b, v, E_ICODE, RowTest::Jump)?;
     let jump = b.and(fine, branch)?;
-    let g = b.and(good, jump)?;
-    Ok(g)
+    b.and(good, jump)
 }
 
 /// The ALU adds 0 to E_valC.
@@ -298,8 +284,7 @@ fn adds_target(b: &mut NetBuilder, ctl: &Controls) -> Result<u64, Memory>
     let zero = picks_leaf(b, ctl, signal::ALU_B, ExpectedLeaf::This(Leaf::Number(0)))?;
     let adds = picks_leaf(b, ctl, signal::ALUFUN, ExpectedLeaf::This(Leaf::Number(0)))?;
     let rest = b.and(zero, adds)?;
-    let g = b.and(target, rest)?;
-    Ok(g)
+    b.and(target, rest)
 }
 
 /// A jump in E carries its target through the ALU.
@@ -314,6 +299,5 @@ pub fn target_gate(b: &mut NetBuilder, ctl: &Controls, v: Variant, good: u64) ->
 {
     let jump = jumps(b, v, good)?;
     let told = adds_target(b, ctl)?;
-    let g = implies(b, jump, told)?;
-    Ok(g)
+    implies(b, jump, told)
 }

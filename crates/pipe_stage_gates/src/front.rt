@@ -53,8 +53,7 @@ fn predicted(b: &mut NetBuilder, s: &Settings) -> Result<u64, Memory>
     let forward = listed(b, &s.pt, F_IFUN)?;
     let backward = listed(b, &s.pb, F_IFUN)?;
     let ahead = spells(b, F_BACK, 0)?;
-    let g = choose(b, ahead, forward, backward)?;
-    Ok(g)
+    choose(b, ahead, forward, backward)
 }
 
 /// f_predPC is the target of a jump that is predicted as taken, and what stands behind any other.
@@ -66,15 +65,14 @@ fn jump_predicted(b: &mut NetBuilder, ctl: &Controls, s: &Settings) -> Result<u6
         words.picks_some_leaf cv names.f_predPC (predicted_leaf way.Branch (predicts s.now (fields_of w).f.ifun (set (fields_of w).f.back))))) }
 {
     let taken = predicted(b, s)?;
-    let g = picks_leaf_if(
+    picks_leaf_if(
         b,
         ctl,
         signal::F_PRED_PC,
         taken,
         ExpectedLeaf::This(Leaf::Name(signal::F_VAL_C)),
         ExpectedLeaf::This(Leaf::Name(signal::F_VAL_P)),
-    )?;
-    Ok(g)
+    )
 }
 
 /// f_predPC is the PC that the row predicts, if it predicts one.
@@ -116,8 +114,7 @@ fn reading_fails(b: &mut NetBuilder) -> Result<u64, Memory>
     ensures has_truth { IfOk result (λ g. IsGate b.new g (λ w. set (fields_of w).f.error)) }
 {
     let fine = spells(b, F_ERROR, 0)?;
-    let g = b.not(fine)?;
-    Ok(g)
+    b.not(fine)
 }
 
 /// f_stat is the status of the icode that is read, or of the error.
@@ -128,8 +125,7 @@ fn fetch_status_is(b: &mut NetBuilder, ctl: &Controls, icode: u64) -> Result<u64
     ensures has_truth { IfOk result (λ g. IsControlGate b.new ctl.now g (λ w α cv. demand_in_front kind.Status icode dash_row (fields_of w) α cv)) }
 {
     let error = reading_fails(b)?;
-    let g = status_is(b, ctl, signal::F_STAT, error, icode)?;
-    Ok(g)
+    status_is(b, ctl, signal::F_STAT, error, icode)
 }
 
 /// What is asked by an icode and its row.
@@ -183,8 +179,7 @@ pub fn obligation_1(b: &mut NetBuilder, ctl: &Controls) -> Result<u64, Memory>
 {
     let code = picks_leaf(b, ctl, signal::F_ICODE, ExpectedLeaf::Field(F_ICODE))?;
     let fun = picks_leaf(b, ctl, signal::F_IFUN, ExpectedLeaf::Field(F_IFUN))?;
-    let g = b.and(code, fun)?;
-    Ok(g)
+    b.and(code, fun)
 }
 
 /// What is asked by the icode that is fetched.
@@ -199,8 +194,7 @@ pub fn fetch_rule_gate(
     ensures extends { ExtendsNet b.old b.new }
     ensures has_truth { IfOk result (λ g. IsControlGate b.new ctl.now g (λ w α cv. demand_in_front rule (fields_of w).f.icode (row v (fields_of w).f.icode) (fields_of w) α cv)) }
 {
-    let g = by_icode(b, ctl, v, F_ICODE, &rule)?;
-    Ok(g)
+    by_icode(b, ctl, v, F_ICODE, &rule)
 }
 
 /// What is asked by the icode in D.
@@ -215,8 +209,7 @@ pub fn decode_rule_gate(
     ensures extends { ExtendsNet b.old b.new }
     ensures has_truth { IfOk result (λ g. IsControlGate b.new ctl.now g (λ w α cv. demand_in_front rule (fields_of w).d.icode (row v (fields_of w).d.icode) (fields_of w) α cv)) }
 {
-    let g = by_icode(b, ctl, v, D_ICODE, &rule)?;
-    Ok(g)
+    by_icode(b, ctl, v, D_ICODE, &rule)
 }
 
 /// Obligation 5: f_predPC is the PC that is predicted behind what is fetched without an error.
@@ -234,6 +227,5 @@ pub fn obligation_5(
 {
     let error = reading_fails(b)?;
     let asked = fetch_rule_gate(b, ctl, v, FrontRule::Predicted(*s))?;
-    let g = b.or(error, asked)?;
-    Ok(g)
+    b.or(error, asked)
 }

@@ -41,8 +41,7 @@ pub fn obligation_18(
         not (truth b.old good w) || words.picks_some_leaf cv names.mem_addr (words.address_leaf (row v (fields_of w).m.icode).memory names.M_valA names.M_valE))) }
 {
     let told = by_icode(b, ctl, v, M_ICODE, &RowRule::Address)?;
-    let g = implies(b, good, told)?;
-    Ok(g)
+    implies(b, good, told)
 }
 
 /// Obligation 19: a word is read, is written, by a good instruction that reads, that writes.
@@ -62,8 +61,7 @@ pub fn obligation_19(
 {
     let reads = truth_where(b, ctl, v, good, M_ICODE, RowTest::Loads, signal::MEM_READ)?;
     let writes = truth_where(b, ctl, v, good, M_ICODE, RowTest::Stores, signal::MEM_WRITE)?;
-    let g = b.and(reads, writes)?;
-    Ok(g)
+    b.and(reads, writes)
 }
 
 /// Obligation 20: m_stat tells the fault.
@@ -76,15 +74,14 @@ pub fn obligation_20(b: &mut NetBuilder, ctl: &Controls) -> Result<u64, Memory>
 {
     let fine = spells(b, M_ERROR, 0)?;
     let fault = b.not(fine)?;
-    let g = picks_leaf_if(
+    picks_leaf_if(
         b,
         ctl,
         signal::M_STAT,
         fault,
         ExpectedLeaf::This(Leaf::Number(3)),
         ExpectedLeaf::Field(M_STAT),
-    )?;
-    Ok(g)
+    )
 }
 
 /// The values that are written are those of W.
@@ -107,8 +104,7 @@ fn values_written(b: &mut NetBuilder, ctl: &Controls) -> Result<u64, Memory>
         signal::W_VAL_M,
         ExpectedLeaf::This(Leaf::Name(signal::HELD_W_VAL_M)),
     )?;
-    let g = b.and(val_e, val_m)?;
-    Ok(g)
+    b.and(val_e, val_m)
 }
 
 /// What is written is what W holds.
@@ -123,8 +119,7 @@ fn registers_written(b: &mut NetBuilder, ctl: &Controls) -> Result<u64, Memory>
     let dst_m = picks_leaf(b, ctl, signal::W_DST_M, ExpectedLeaf::Field(W_DST_M))?;
     let values = values_written(b, ctl)?;
     let rest = b.and(dst_m, values)?;
-    let g = b.and(dst_e, rest)?;
-    Ok(g)
+    b.and(dst_e, rest)
 }
 
 /// Obligation 21: a good instruction writes what W holds.
@@ -137,8 +132,7 @@ pub fn obligation_21(b: &mut NetBuilder, ctl: &Controls, good: u64) -> Result<u6
         not (truth b.old good w) || (words.is_number cv names.w_dstE (fields_of w).w.dst_e && (words.is_number cv names.w_dstM (fields_of w).w.dst_m && (words.picks_leaf cv names.w_valE (Name names.W_valE) && words.picks_leaf cv names.w_valM (Name names.W_valM)))))) }
 {
     let told = registers_written(b, ctl)?;
-    let g = implies(b, good, told)?;
-    Ok(g)
+    implies(b, good, told)
 }
 
 /// Obligation 22: Stat is the status of the good instruction in W, and 1 without one.
@@ -150,13 +144,12 @@ pub fn obligation_22(b: &mut NetBuilder, ctl: &Controls, good: u64) -> Result<u6
     ensures has_truth { IfOk result (λ g. IsControlGate b.new ctl.now g (λ w α cv.
         words.is_number cv names.Stat (if truth b.old good w then (fields_of w).w.stat else 1))) }
 {
-    let g = picks_leaf_if(
+    picks_leaf_if(
         b,
         ctl,
         signal::STAT,
         good,
         ExpectedLeaf::Field(W_STAT),
         ExpectedLeaf::This(Leaf::Number(1)),
-    )?;
-    Ok(g)
+    )
 }

@@ -40,11 +40,9 @@ fn alu_function_is(b: &mut NetBuilder, ctl: &Controls, row: &Row) -> Result<u64,
         not (has_operand_a row.now.alu_a) || words.is_number cv names.alufun (alu_function row.now.selects (fields_of w).e.ifun))) }
 {
     if row_passes(row, RowTest::Computes) {
-        let g = function_is(b, ctl, signal::ALUFUN, row.selects, E_IFUN)?;
-        Ok(g)
+        function_is(b, ctl, signal::ALUFUN, row.selects, E_IFUN)
     } else {
-        let g = picks_some_leaf(b, ctl, signal::ALUFUN, None)?;
-        Ok(g)
+        picks_some_leaf(b, ctl, signal::ALUFUN, None)
     }
 }
 

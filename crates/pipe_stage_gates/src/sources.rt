@@ -30,57 +30,73 @@ use pipe_gates::{RowTest, none_leaves, row_has};
 use pipe_motion::{FlowGates, Settings};
 use y86_base::{Memory, Variant};
 
+/// A word that takes the value of a source, and the leaf that it takes where no instruction in E, M or W writes the source.
+#[derive(Clone, Copy, Debug)]
+struct Operand {
+    word: NameId,
+    source: NameId,
+    rest: NameId,
+}
+
+const OPERAND_A: Operand = Operand {
+    word: signal::D_VAL_A,
+    source: signal::D_SRC_A,
+    rest: signal::D_RVAL_A,
+};
+
+const OPERAND_B: Operand = Operand {
+    word: signal::D_VAL_B,
+    source: signal::D_SRC_B,
+    rest: signal::D_RVAL_B,
+};
+
 /// The word takes the leaf where the source is the number of a field; elsewhere an older gate counts.
 fn from_stage(
     b: &mut NetBuilder,
     ctl: &Controls,
-    word: NameId,
-    source: NameId,
+    operand: Operand,
     at: BitRange,
     leaf: NameId,
     older: u64,
 ) -> Result<u64, Memory>
     requires inside { IsInside b.old ctl.now }
-    requires word_known { IsTrue (has_picks ctl.now word) }
-    requires source_known { IsTrue (has_picks ctl.now source) }
+    requires word_known { IsTrue (has_picks ctl.now operand.word) }
+    requires source_known { IsTrue (has_picks ctl.now operand.source) }
     requires place { at.first + at.bits ≤ b.old.vars }
     requires older_in { older < length b.old.gates }
     ensures extends { ExtendsNet b.old b.new }
     ensures has_truth { IfOk result (λ g. IsControlGate b.new ctl.now g (λ w α cv.
-        if words.is_number cv source (spelt w at.first at.bits) then words.picks_leaf cv word (Name leaf) else truth b.old older w)) }
+        if words.is_number cv operand.source (spelt w at.first at.bits) then words.picks_leaf cv operand.word (Name leaf) else truth b.old older w)) }
 {
-    let here = picks_leaf(b, ctl, source, ExpectedLeaf::Field(at))?;
-    let taken = picks_leaf(b, ctl, word, ExpectedLeaf::This(Leaf::Name(leaf)))?;
-    let g = choose(b, here, taken, older)?;
-    Ok(g)
+    let here = picks_leaf(b, ctl, operand.source, ExpectedLeaf::Field(at))?;
+    let taken = picks_leaf(b, ctl, operand.word, ExpectedLeaf::This(Leaf::Name(leaf)))?;
+    choose(b, here, taken, older)
 }
 
 /// The word takes the value of a source that no instruction in E writes: from M, from W, or from the register file.
-fn from_m_on(
-    b: &mut NetBuilder,
-    ctl: &Controls,
-    word: NameId,
-    source: NameId,
-    rest: NameId,
-) -> Result<u64, Memory>
+fn from_m_on(b: &mut NetBuilder, ctl: &Controls, operand: Operand) -> Result<u64, Memory>
     requires inside { IsInside b.old ctl.now }
-    requires word_known { IsTrue (has_picks ctl.now word) }
-    requires source_known { IsTrue (has_picks ctl.now source) }
+    requires word_known { IsTrue (has_picks ctl.now operand.word) }
+    requires source_known { IsTrue (has_picks ctl.now operand.source) }
     requires vars { bit_count ≤ b.old.vars }
     ensures extends { ExtendsNet b.old b.new }
     ensures has_truth { IfOk result (λ g. IsControlGate b.new ctl.now g (λ w α cv.
-        if words.is_number cv source (fields_of w).m.dst_m then words.picks_leaf cv word (Name names.m_valM)
-        else (if words.is_number cv source (fields_of w).m.dst_e then words.picks_leaf cv word (Name names.M_valE)
-        else (if words.is_number cv source (fields_of w).w.dst_m then words.picks_leaf cv word (Name names.W_valM)
-        else (if words.is_number cv source (fields_of w).w.dst_e then words.picks_leaf cv word (Name names.W_valE)
-        else words.picks_leaf cv word (Name rest)))))) }
+        if words.is_number cv operand.source (fields_of w).m.dst_m then words.picks_leaf cv operand.word (Name names.m_valM)
+        else (if words.is_number cv operand.source (fields_of w).m.dst_e then words.picks_leaf cv operand.word (Name names.M_valE)
+        else (if words.is_number cv operand.source (fields_of w).w.dst_m then words.picks_leaf cv operand.word (Name names.W_valM)
+        else (if words.is_number cv operand.source (fields_of w).w.dst_e then words.picks_leaf cv operand.word (Name names.W_valE)
+        else words.picks_leaf cv operand.word (Name operand.rest)))))) }
 {
-    let file = picks_leaf(b, ctl, word, ExpectedLeaf::This(Leaf::Name(rest)))?;
-    let w_e = from_stage(b, ctl, word, source, W_DST_E, signal::HELD_W_VAL_E, file)?;
-    let w_m = from_stage(b, ctl, word, source, W_DST_M, signal::HELD_W_VAL_M, w_e)?;
-    let m_e = from_stage(b, ctl, word, source, M_DST_E, signal::HELD_M_VAL_E, w_m)?;
-    let m_m = from_stage(b, ctl, word, source, M_DST_M, signal::M_VAL_M, m_e)?;
-    Ok(m_m)
+    let file = picks_leaf(
+        b,
+        ctl,
+        operand.word,
+        ExpectedLeaf::This(Leaf::Name(operand.rest)),
+    )?;
+    let w_e = from_stage(b, ctl, operand, W_DST_E, signal::HELD_W_VAL_E, file)?;
+    let w_m = from_stage(b, ctl, operand, W_DST_M, signal::HELD_W_VAL_M, w_e)?;
+    let m_e = from_stage(b, ctl, operand, M_DST_E, signal::HELD_M_VAL_E, w_m)?;
+    from_stage(b, ctl, operand, M_DST_M, signal::M_VAL_M, m_e)
 }
 
 /// The word takes the right value of a source.
@@ -90,30 +106,27 @@ fn takes_value(
     v: Variant,
     s: &Settings,
     y: &FlowGates,
-    word: NameId,
-    source: NameId,
-    rest: NameId,
+    operand: Operand,
 ) -> Result<u64, Memory>
     requires inside { IsInside b.old ctl.now }
-    requires word_known { IsTrue (has_picks ctl.now word) }
-    requires source_known { IsTrue (has_picks ctl.now source) }
+    requires word_known { IsTrue (has_picks ctl.now operand.word) }
+    requires source_known { IsTrue (has_picks ctl.now operand.source) }
     requires vars { bit_count ≤ b.old.vars }
     requires flow { HasFlow (length b.old.gates) y.now }
     ensures extends { ExtendsNet b.old b.new }
     ensures has_truth { IfOk result (λ g. IsControlGate b.new ctl.now g (λ w α cv.
-        words.picks_leaf cv word (spec.right_value v s.now (fields_of w) (flow_at b.old w y.now) (spec.register_controls_of α cv) α cv source rest))) }
+        words.picks_leaf cv operand.word (spec.right_value v s.now (fields_of w) (flow_at b.old w y.now) (spec.register_controls_of α cv) α cv operand.source operand.rest))) }
 {
-    let older = from_m_on(b, ctl, word, source, rest)?;
-    let writes = late_destination_is(b, ctl, v, source)?;
+    let older = from_m_on(b, ctl, operand)?;
+    let writes = late_destination_is(b, ctl, v, operand.source)?;
     let in_e = b.and(y.e.good, writes)?;
     let taken = picks_leaf(
         b,
         ctl,
-        word,
+        operand.word,
         ExpectedLeaf::This(Leaf::Name(signal::E_VAL_E)),
     )?;
-    let g = choose(b, in_e, taken, older)?;
-    Ok(g)
+    choose(b, in_e, taken, older)
 }
 
 /// The word takes the right value of a source; where the good instruction in E loads it, the gate `free` counts.
@@ -124,26 +137,23 @@ fn takes_ready(
     s: &Settings,
     y: &FlowGates,
     free: u64,
-    word: NameId,
-    source: NameId,
-    rest: NameId,
+    operand: Operand,
 ) -> Result<u64, Memory>
     requires inside { IsInside b.old ctl.now }
-    requires word_known { IsTrue (has_picks ctl.now word) }
-    requires source_known { IsTrue (has_picks ctl.now source) }
+    requires word_known { IsTrue (has_picks ctl.now operand.word) }
+    requires source_known { IsTrue (has_picks ctl.now operand.source) }
     requires vars { bit_count ≤ b.old.vars }
     requires flow { HasFlow (length b.old.gates) y.now }
     requires free_in { free < length b.old.gates }
     ensures extends { ExtendsNet b.old b.new }
     ensures has_truth { IfOk result (λ g. IsControlGate b.new ctl.now g (λ w α cv.
-        if spec.loaded_in_e v s.now (fields_of w) (flow_at b.old w y.now) (spec.register_controls_of α cv) α cv source then truth b.old free w
-        else words.picks_leaf cv word (spec.right_value v s.now (fields_of w) (flow_at b.old w y.now) (spec.register_controls_of α cv) α cv source rest))) }
+        if spec.loaded_in_e v s.now (fields_of w) (flow_at b.old w y.now) (spec.register_controls_of α cv) α cv operand.source then truth b.old free w
+        else words.picks_leaf cv operand.word (spec.right_value v s.now (fields_of w) (flow_at b.old w y.now) (spec.register_controls_of α cv) α cv operand.source operand.rest))) }
 {
-    let right = takes_value(b, ctl, v, s, y, word, source, rest)?;
-    let loads = picks_leaf(b, ctl, source, ExpectedLeaf::Field(E_DST_M))?;
+    let right = takes_value(b, ctl, v, s, y, operand)?;
+    let loads = picks_leaf(b, ctl, operand.source, ExpectedLeaf::Field(E_DST_M))?;
     let loaded = b.and(y.e.good, loads)?;
-    let g = choose(b, loaded, free, right)?;
-    Ok(g)
+    choose(b, loaded, free, right)
 }
 
 /// There is no source, or the word takes its right value, as far as it is there; where it isn't, the gate `free` counts.
@@ -154,24 +164,21 @@ fn picks_right_value(
     s: &Settings,
     y: &FlowGates,
     free: u64,
-    word: NameId,
-    source: NameId,
-    rest: NameId,
+    operand: Operand,
 ) -> Result<u64, Memory>
     requires inside { IsInside b.old ctl.now }
-    requires word_known { IsTrue (has_picks ctl.now word) }
-    requires source_known { IsTrue (has_picks ctl.now source) }
+    requires word_known { IsTrue (has_picks ctl.now operand.word) }
+    requires source_known { IsTrue (has_picks ctl.now operand.source) }
     requires vars { bit_count ≤ b.old.vars }
     requires flow { HasFlow (length b.old.gates) y.now }
     requires free_in { free < length b.old.gates }
     ensures extends { ExtendsNet b.old b.new }
     ensures has_truth { IfOk result (λ g. IsControlGate b.new ctl.now g (λ w α cv.
-        spec.picks_right_value v s.now (fields_of w) (flow_at b.old w y.now) (spec.register_controls_of α cv) α cv (truth b.old free w) word source rest)) }
+        spec.picks_right_value v s.now (fields_of w) (flow_at b.old w y.now) (spec.register_controls_of α cv) α cv (truth b.old free w) operand.word operand.source operand.rest)) }
 {
-    let ready = takes_ready(b, ctl, v, s, y, free, word, source, rest)?;
-    let none = picks_leaf(b, ctl, source, ExpectedLeaf::This(Leaf::Number(15)))?;
-    let g = b.or(none, ready)?;
-    Ok(g)
+    let ready = takes_ready(b, ctl, v, s, y, free, operand)?;
+    let none = picks_leaf(b, ctl, operand.source, ExpectedLeaf::This(Leaf::Number(15)))?;
+    b.or(none, ready)
 }
 
 /// Where the instruction in D carries valP in the place of valA, d_valA is D_valP.
@@ -190,8 +197,7 @@ fn takes_next_pc(b: &mut NetBuilder, ctl: &Controls, v: Variant) -> Result<u64, 
         signal::D_VAL_A,
         ExpectedLeaf::This(Leaf::Name(signal::HELD_D_VAL_P)),
     )?;
-    let g = implies(b, carries, taken)?;
-    Ok(g)
+    implies(b, carries, taken)
 }
 
 /// The instruction in D needn't wait for the word that it stores.
@@ -201,11 +207,9 @@ fn stores_late(b: &mut NetBuilder, v: Variant, late: bool) -> Result<u64, Memory
     ensures has_truth { IfOk result (λ g. IsGate b.new g (λ w. late && stores_val_a (row v (fields_of w).d.icode).memory)) }
 {
     if late {
-        let g = row_has(b, v, D_ICODE, RowTest::StoresA)?;
-        Ok(g)
+        row_has(b, v, D_ICODE, RowTest::StoresA)
     } else {
-        let g = b.constant(false)?;
-        Ok(g)
+        b.constant(false)
     }
 }
 
@@ -228,20 +232,9 @@ pub fn obligation_10(
     let stays = none_leaves(b, ctl, y)?;
     let next_pc = takes_next_pc(b, ctl, v)?;
     let late = stores_late(b, v, s.lf)?;
-    let right = picks_right_value(
-        b,
-        ctl,
-        v,
-        s,
-        y,
-        late,
-        signal::D_VAL_A,
-        signal::D_SRC_A,
-        signal::D_RVAL_A,
-    )?;
+    let right = picks_right_value(b, ctl, v, s, y, late, OPERAND_A)?;
     let both = b.and(next_pc, right)?;
-    let g = b.or(stays, both)?;
-    Ok(g)
+    b.or(stays, both)
 }
 
 /// Obligation 11: where a good instruction leaves D, d_valB is the right value of its source.
@@ -261,17 +254,6 @@ pub fn obligation_11(
 {
     let stays = none_leaves(b, ctl, y)?;
     let never = b.constant(false)?;
-    let right = picks_right_value(
-        b,
-        ctl,
-        v,
-        s,
-        y,
-        never,
-        signal::D_VAL_B,
-        signal::D_SRC_B,
-        signal::D_RVAL_B,
-    )?;
-    let g = b.or(stays, right)?;
-    Ok(g)
+    let right = picks_right_value(b, ctl, v, s, y, never, OPERAND_B)?;
+    b.or(stays, right)
 }

@@ -1,4 +1,5 @@
 use Rattle.std.proofs.Common.{◌||◌, ◌&&◌, not, ap}
+use Rattle.std.proofs.lemmas.Result.{IfOk-weaker}
 use Rattle.nets.proofs.Truths.{begins_more}
 use Rattle.dp_signals.specs.PipeNames as names
 use Rattle.ctl_atoms.specs.declared.leaf.Leaf.TheVariants.{Name}
@@ -20,4 +21,5 @@ returns-clause-has_truth c = λ s.
     let target = asked_as c.in_ok-target.ensures.has_truth (λ w α cv.
     ap (λ z. not (z && is_jump c.args.v (fields_of w).e.stat (fields_of w).e.icode)
     || (words.picks_leaf cv names.aluA (Name names.E_valC) && (words.is_number cv names.aluB 0 && words.is_number cv names.alufun 0))) (c.in_ok-good.ensures.has_truth.is w)) in
-    asked_two (λ w x y. not x || y) c.implies.ensures.extends (inside_more k3 i2) (asked_more (begins_more k2 k3) i1 (asked_gate c.requires.fits)) target c.in_ok-g.ensures.has_truth
+    IfOk-weaker c.implies.result _ _ (λ _ made. asked_two (λ w x y. not x || y) c.implies.ensures.extends (inside_more k3 i2) (asked_more (begins_more k2 k3) i1 (asked_gate c.requires.fits)) target made)
+    c.implies.ensures.has_truth

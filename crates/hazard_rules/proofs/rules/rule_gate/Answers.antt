@@ -1,4 +1,5 @@
 use Rattle.std.proofs.Common.{◌∙◌, ap, if◌then◌else◌}
+use Rattle.std.proofs.lemmas.Result.{IfOk-weaker}
 use Rattle.nets.specs.Nets.{truth}
 use Rattle.ctl_formula.proofs.Inside.{inside_more}
 use Rattle.pipe_fields.specs.Layout.{fields_of}
@@ -17,13 +18,14 @@ returns-clause-has_truth c =
     let up = c.demand_gate.ensures.extends in
     let always = over_more up c.requires.always_asked in
     let going = over_more up c.requires.going_asked in
-    record {
-      within = c.in_ok-g.ensures.has_truth.within;
+    IfOk-weaker c.implies.result _ _ (λ _ made. record {
+      within = made.within;
       is = λ w α cv h t.
           let told = c.in_ok-demand.ensures.has_truth.is w α cv (tells_less c.implies.ensures.extends (inside_more up c.requires.inside) t)
           ∙ ap (λ (y : Flow). demand c.args.number c.args.v c.args.s.now (fields_of w) y (register_controls_of α cv) α cv) (c.requires.flow.is w) in
-          rule_by _ _ _ _ _ (c.in_ok-g.ensures.has_truth.is w)
+          rule_by _ _ _ _ _ (made.is w)
           (premise_by (λ g. truth c.demand_gate.new.b g w) (λ always. premise_when c.args.v c.args.s.now c.args.atoms.now always (fields_of w) α) (is_always_demanded c.args.number) _ _ _
-          (c.one_of-premise.ensures ∙ ap (λ x. if x then c.args.always else c.args.going) c.is_always_demanded.ensures) (always.is w α h) (going.is w α h))
+          (c.one_of-premise.ensures ∙ ap (λ x. if x then c.args.p.now.always else c.args.p.now.going) c.is_always_demanded.ensures) (always.is w α h) (going.is w α h))
           told;
-    }
+    })
+    c.implies.ensures.has_truth

@@ -1,4 +1,5 @@
 use Rattle.std.proofs.Common.{◌≡◌, ◌&&◌, ◌||◌, not, ap, List, Bool}
+use Rattle.std.proofs.lemmas.Result.{IfOk-weaker}
 use Rattle.nets.proofs.Truths.{begins_more}
 use Rattle.ctl_formula.proofs.Inside.{inside_more}
 use Rattle.net_fields.proofs.Fields.{gate_as}
@@ -30,4 +31,5 @@ returns-clause-has_truth c =
     let next = asked_two (λ w x z. x || z) k3 i2 (asked_more k2 i1 c.in_ok-ahead.ensures.has_truth) right c.in_ok-next.ensures.has_truth in
     let stops = asked_gate (gate_as c.in_ok-stops.ensures.has_truth (λ w. ap youngest_stops (kept3 w))) in
     let goes_on = asked_one (λ w x. not x) k5 i4 stops c.in_ok-goes_on.ensures.has_truth in
-    asked_two (λ w x z. x && z) c.and.ensures.extends i5 goes_on (asked_more (begins_more k4 k5) i3 next) c.in_ok-g.ensures.has_truth
+    IfOk-weaker c.and.result _ _ (λ _ made. asked_two (λ w x z. x && z) c.and.ensures.extends i5 goes_on (asked_more (begins_more k4 k5) i3 next) made)
+    c.and.ensures.has_truth

@@ -1,4 +1,5 @@
 use Rattle.std.proofs.Common.{◌&&◌, ap, arith}
+use Rattle.std.proofs.lemmas.Result.{IfOk-weaker}
 use Rattle.dp_signals.specs.PipeNames as names
 use Rattle.ctl_formula.proofs.Inside.{inside_more}
 use Rattle.ctl_rules.proofs.Kept.{asked_two, asked_more, asked_as}
@@ -12,5 +13,6 @@ pub returns-clause-has_truth : goal.returns-clause-has_truth
 returns-clause-has_truth c =
     let i1 = inside_more c.picks_leaf.ensures.extends c.requires.inside in
     let k2 = c.code_has.ensures.extends in
-    asked_as (asked_two (λ w x y. x && y) c.and.ensures.extends (inside_more k2 i1) (asked_more k2 i1 c.in_ok-running.ensures.has_truth) c.in_ok-branch.ensures.has_truth c.in_ok-g.ensures.has_truth)
-    (λ w α cv. ap (λ z. z && has c.args.v Jump (code_of (cv names.f_icode))) (code_is (cv names.f_stat) 1 (omega arith)))
+    IfOk-weaker c.and.result _ _ (λ _ made. asked_as (asked_two (λ w x y. x && y) c.and.ensures.extends (inside_more k2 i1) (asked_more k2 i1 c.in_ok-running.ensures.has_truth) c.in_ok-branch.ensures.has_truth made)
+    (λ w α cv. ap (λ z. z && has c.args.v Jump (code_of (cv names.f_icode))) (code_is (cv names.f_stat) 1 (omega arith))))
+    c.and.ensures.has_truth

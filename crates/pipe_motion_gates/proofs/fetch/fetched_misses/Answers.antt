@@ -1,4 +1,5 @@
 use Rattle.std.proofs.Common.{◌&&◌, ◌==◌, ap}
+use Rattle.std.proofs.lemmas.Result.{IfOk-weaker}
 use Rattle.nets.specs.Nets.{agree}
 use Rattle.nets.proofs.Truths.{begins_more}
 use Rattle.dp_signals.specs.PipeNames as names
@@ -22,6 +23,7 @@ returns-clause-has_truth c =
     let i3 = inside_more k3 i2 in
     let k4 = c.equal.ensures.extends in
     let other = asked_two (λ w x y. agree x y) k4 i3 (asked_gate c.in_ok-passed.ensures.has_truth) (asked_more k3 i2 c.in_ok-way.ensures.has_truth) c.in_ok-other.ensures.has_truth in
-    asked_as (asked_two (λ w x y. x && y) c.and.ensures.extends (inside_more k4 i3) (asked_more (begins_more k2 (begins_more k3 k4)) i1 c.in_ok-here.ensures.has_truth) other c.in_ok-g.ensures.has_truth)
+    IfOk-weaker c.and.result _ _ (λ _ made. asked_as (asked_two (λ w x y. x && y) c.and.ensures.extends (inside_more k4 i3) (asked_more (begins_more k2 (begins_more k3 k4)) i1 c.in_ok-here.ensures.has_truth) other made)
     (λ w α cv. ap (λ z. is_jump c.args.v (code_of (cv names.f_stat)) (code_of (cv names.f_icode)) && z)
-    (other_way ((fields_of w).f.taken == 0) (predicts c.args.s.now (code_of (cv names.f_ifun)) (set (fields_of w).f.back))))
+    (other_way ((fields_of w).f.taken == 0) (predicts c.args.s.now (code_of (cv names.f_ifun)) (set (fields_of w).f.back)))))
+    c.and.ensures.has_truth

@@ -1,4 +1,5 @@
 use Rattle.std.proofs.Common.{◌&&◌, ◌==◌, ◌∙◌, not, ap, arith}
+use Rattle.std.proofs.lemmas.Result.{IfOk-weaker}
 use Rattle.dp_signals.specs.PipeNames as names
 use Rattle.ctl_formula.proofs.Inside.{inside_more}
 use Rattle.pipe_fields.specs.Layout.{fields_of}
@@ -14,5 +15,6 @@ returns-clause-has_truth c =
     let k2 = c.spells.ensures.extends in
     let i2 = inside_more k2 i1 in
     let both = asked_two (λ w x y. x && y) c.and.ensures.extends i2 (asked_more k2 i1 c.in_ok-running.ensures.has_truth) (asked_gate c.in_ok-clear.ensures.has_truth) c.in_ok-goes_on.ensures.has_truth in
-    asked_as (asked_one (λ w x. not x) c.not.ensures.extends (inside_more c.and.ensures.extends i2) both c.in_ok-g.ensures.has_truth)
-    (λ w α cv. ap (λ z. not (z && (fields_of w).f.stops == 0)) (code_is (cv names.f_stat) 1 (omega arith)) ∙ not_both (code_of (cv names.f_stat) == 1) ((fields_of w).f.stops == 0))
+    IfOk-weaker c.not.result _ _ (λ _ made. asked_as (asked_one (λ w x. not x) c.not.ensures.extends (inside_more c.and.ensures.extends i2) both made)
+    (λ w α cv. ap (λ z. not (z && (fields_of w).f.stops == 0)) (code_is (cv names.f_stat) 1 (omega arith)) ∙ not_both (code_of (cv names.f_stat) == 1) ((fields_of w).f.stops == 0)))
+    c.not.ensures.has_truth

@@ -1,4 +1,5 @@
 use Rattle.std.proofs.Common.{◌==◌, if◌then◌else◌, get_or, false}
+use Rattle.std.proofs.lemmas.Result.{IfOk-weaker}
 use Rattle.nets.proofs.Truths.{begins_more}
 use Rattle.dp_signals.specs.PipeNames as names
 use Rattle.ctl_formula.proofs.Inside.{inside_more}
@@ -16,6 +17,7 @@ returns-clause-has_truth c =
     let k2 = c.code_listed-2.ensures.extends in
     let i2 = inside_more k2 i1 in
     let k3 = c.spells.ensures.extends in
-    asked_as (asked_three (λ x y z. if x then y else z) c.choose.ensures.extends (inside_more k3 i2) (asked_gate c.in_ok-ahead.ensures.has_truth)
-    (asked_more (begins_more k2 k3) i1 c.in_ok-forward.ensures.has_truth) (asked_more k3 i2 c.in_ok-backward.ensures.has_truth) c.in_ok-g.ensures.has_truth)
-    (λ w α cv. choose_other ((fields_of w).f.back == 0) (get_or c.args.s.now.pt (code_of (cv names.f_ifun)) false) (get_or c.args.s.now.pb (code_of (cv names.f_ifun)) false))
+    IfOk-weaker c.choose.result _ _ (λ _ made. asked_as (asked_three (λ x y z. if x then y else z) c.choose.ensures.extends (inside_more k3 i2) (asked_gate c.in_ok-ahead.ensures.has_truth)
+    (asked_more (begins_more k2 k3) i1 c.in_ok-forward.ensures.has_truth) (asked_more k3 i2 c.in_ok-backward.ensures.has_truth) made)
+    (λ w α cv. choose_other ((fields_of w).f.back == 0) (get_or c.args.s.now.pt (code_of (cv names.f_ifun)) false) (get_or c.args.s.now.pb (code_of (cv names.f_ifun)) false)))
+    c.choose.ensures.has_truth

@@ -1,4 +1,5 @@
 use Rattle.std.proofs.Common.{◌&&◌, ◌==◌, if◌then◌else◌, ap}
+use Rattle.std.proofs.lemmas.Result.{IfOk-weaker}
 use Rattle.nets.proofs.Truths.{begins_more}
 use Rattle.ctl_atoms.specs.declared.leaf.Leaf.TheVariants.{Name}
 use Rattle.dp_signals.specs.PipeNames as names
@@ -28,4 +29,5 @@ returns-clause-has_truth c =
     let way = asked_as (asked_three (λ x y z. if x then y else z) k5 i4 (asked_gate c.in_ok-falls.ensures.has_truth) (asked_more k4 i3 c.in_ok-next.ensures.has_truth)
     (asked_more (begins_more k3 k4) i2 target) c.in_ok-way.ensures.has_truth)
     (λ w α cv. choose_other ((fields_of w).m.cnd == 0) (words.picks_leaf cv names.f_pc (Name names.M_valA)) (c.args.tv && words.picks_leaf cv names.f_pc (Name names.M_valE))) in
-    asked_two (λ w x y. x && y) c.and.ensures.extends (inside_more k6 i5) (asked_gate c.in_ok-here.ensures.has_truth) (asked_more k6 i5 way) c.in_ok-g.ensures.has_truth
+    IfOk-weaker c.and.result _ _ (λ _ made. asked_two (λ w x y. x && y) c.and.ensures.extends (inside_more k6 i5) (asked_gate c.in_ok-here.ensures.has_truth) (asked_more k6 i5 way) made)
+    c.and.ensures.has_truth

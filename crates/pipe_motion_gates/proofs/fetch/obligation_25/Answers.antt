@@ -1,4 +1,5 @@
 use Rattle.std.proofs.Common.{◌∙◌}
+use Rattle.std.proofs.lemmas.Result.{IfOk-weaker}
 use Rattle.nets.proofs.Truths.{begins_more}
 use Rattle.ctl_formula.proofs.Inside.{inside_more}
 use Rattle.pipe_motion.proofs.Kept.{flow_kept}
@@ -15,10 +16,11 @@ returns-clause-has_truth c =
     let i2 = inside_more k2 i1 in
     let k3 = c.obligation_25.ensures.extends in
     let good = asked_more k2 i1 c.in_ok-good.ensures.has_truth in
-    record {
-      within = c.in_ok-g.ensures.has_truth.within;
+    IfOk-weaker c.obligation_25.result _ _ (λ _ made. record {
+      within = made.within;
       is = λ w α cv t.
           let u = tells_less k3 i2 t in
-          c.in_ok-g.ensures.has_truth.is w ∙ next_by c.args.s.now.je c.args.s.now.rm _ _ _ _ _ _ _ _ (c.register_controls_of-controls.ensures.encodes c.fetched_facts.new.b w α cv u) (good.is w α cv u) (c.in_ok-facts.ensures.has_truth.is w α cv u)
+          made.is w ∙ next_by c.args.s.now.je c.args.s.now.rm _ _ _ _ _ _ _ _ (c.register_controls_of-controls.ensures.encodes c.fetched_facts.new.b w α cv u) (good.is w α cv u) (c.in_ok-facts.ensures.has_truth.is w α cv u)
           (flow_kept (begins_more k1 k2) c.args.y.now w c.requires.flow);
-    }
+    })
+    c.obligation_25.ensures.has_truth

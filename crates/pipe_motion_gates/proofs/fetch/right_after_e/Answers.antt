@@ -1,4 +1,5 @@
 use Rattle.std.proofs.Common.{◌&&◌, ◌==◌, ◌∙◌, if◌then◌else◌, ap}
+use Rattle.std.proofs.lemmas.Result.{IfOk-weaker}
 use Rattle.nets.proofs.Truths.{begins_more}
 use Rattle.ctl_atoms.specs.declared.leaf.Leaf.TheVariants.{Name}
 use Rattle.dp_signals.specs.PipeNames as names
@@ -20,4 +21,5 @@ returns-clause-has_truth c =
     let here = asked_more (begins_more k2 k3) i1 (asked_gate c.in_ok-here.ensures.has_truth) in
     let taken = asked_as c.in_ok-taken.ensures.has_truth (λ w α cv. ap (words.picks_leaf cv names.f_pc)
     (ap (λ z. if z then Name names.E_valA else Name names.E_valC) (c.in_ok-falls.ensures.has_truth.is w) ∙ choose_other ((fields_of w).e.cnd == 0) (Name names.E_valA) (Name names.E_valC))) in
-    asked_two (λ w x y. x && y) c.and.ensures.extends (inside_more k3 i2) here taken c.in_ok-g.ensures.has_truth
+    IfOk-weaker c.and.result _ _ (λ _ made. asked_two (λ w x y. x && y) c.and.ensures.extends (inside_more k3 i2) here taken made)
+    c.and.ensures.has_truth

@@ -1,4 +1,5 @@
 use Rattle.std.proofs.Common.{◌&&◌, ◌||◌, ap}
+use Rattle.std.proofs.lemmas.Result.{IfOk-weaker}
 use Rattle.ctl_atoms.specs.declared.leaf.Leaf.TheVariants.{Name}
 use Rattle.dp_signals.specs.PipeNames as names
 use Rattle.ctl_formula.proofs.Inside.{inside_more}
@@ -12,4 +13,5 @@ returns-clause-has_truth c =
     let i1 = inside_more k1 c.requires.inside in
     let k2 = c.goes_to.ensures.extends in
     let returned = asked_as c.in_ok-returned.ensures.has_truth (λ w α cv. ap (λ z. z && words.picks_leaf cv names.f_pc (Name names.m_valM)) (k1.same c.args.ret w c.requires.ret_in)) in
-    asked_two (λ w x y. x || y) c.or.ensures.extends (inside_more k2 i1) (asked_more k2 i1 c.in_ok-jumped.ensures.has_truth) returned c.in_ok-g.ensures.has_truth
+    IfOk-weaker c.or.result _ _ (λ _ made. asked_two (λ w x y. x || y) c.or.ensures.extends (inside_more k2 i1) (asked_more k2 i1 c.in_ok-jumped.ensures.has_truth) returned made)
+    c.or.ensures.has_truth

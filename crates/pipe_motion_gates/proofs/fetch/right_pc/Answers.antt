@@ -1,4 +1,5 @@
 use Rattle.std.proofs.Common.{◌&&◌, ◌||◌, ◌∙◌, if◌then◌else◌, ap}
+use Rattle.std.proofs.lemmas.Result.{IfOk-weaker}
 use Rattle.nets.proofs.Truths.{begins_more, gate_kept}
 use Rattle.ctl_atoms.specs.declared.leaf.Leaf.TheVariants.{Name}
 use Rattle.dp_signals.specs.PipeNames as names
@@ -33,9 +34,10 @@ returns-clause-has_truth c =
     && (if set (fields_of w).m.cnd then c.args.s.now.tv && words.picks_leaf cv names.f_pc (Name names.M_valE) else words.picks_leaf cv names.f_pc (Name names.M_valA)))
     || (z && words.picks_leaf cv names.f_pc (Name names.m_valM))) (to2.same c.args.y.now.m.ret w c.requires.flow.m.ret))) in
     let last = asked_as c.in_ok-w.ensures.has_truth (λ w α cv. ap (λ z. z && words.picks_leaf cv names.f_pc (Name names.W_valM)) (to3.same c.args.y.now.w.ret w c.requires.flow.w.ret)) in
-    record {
-      within = c.in_ok-g.ensures.has_truth.within;
+    IfOk-weaker c.of_youngest.result _ _ (λ _ made. record {
+      within = made.within;
       is = λ w α cv t.
           let u = tells_less k5 i4 t in
-          c.in_ok-g.ensures.has_truth.is w ∙ youngest_by _ _ _ _ _ _ _ _ _ _ (flow_kept (begins_more to3 k4) c.args.y.now w c.requires.flow) (never.is w) (e.is w α cv u) (m.is w α cv u) (last.is w α cv u);
-    }
+          made.is w ∙ youngest_by _ _ _ _ _ _ _ _ _ _ (flow_kept (begins_more to3 k4) c.args.y.now w c.requires.flow) (never.is w) (e.is w α cv u) (m.is w α cv u) (last.is w α cv u);
+    })
+    c.of_youngest.ensures.has_truth

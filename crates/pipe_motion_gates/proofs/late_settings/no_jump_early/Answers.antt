@@ -1,4 +1,5 @@
 use Rattle.std.proofs.Common.{◌∙◌}
+use Rattle.std.proofs.lemmas.Result.{IfOk-weaker}
 use Rattle.ctl_formula.proofs.Inside.{inside_more}
 use Rattle.pipe_motion.proofs.Kept.{flow_kept}
 use Rattle.ctl_rules.proofs.Kept.{tells_less}
@@ -9,8 +10,9 @@ pub returns-clause-has_truth : goal.returns-clause-has_truth
 returns-clause-has_truth c =
     let k1 = c.right_after_e.ensures.extends in
     let i1 = inside_more k1 c.requires.inside in
-    record {
-      within = c.in_ok-g.ensures.has_truth.within;
-      is = λ w α cv t. c.in_ok-g.ensures.has_truth.is w ∙ jump_by _ _ _ _ _ _ (flow_kept k1 c.args.y.now w c.requires.flow)
+    IfOk-weaker c.no_early_jump.result _ _ (λ _ made. record {
+      within = made.within;
+      is = λ w α cv t. made.is w ∙ jump_by _ _ _ _ _ _ (flow_kept k1 c.args.y.now w c.requires.flow)
           (c.in_ok-right.ensures.has_truth.is w α cv (tells_less c.no_early_jump.ensures.extends i1 t)) (k1.same c.args.plain w c.requires.plain_in);
-    }
+    })
+    c.no_early_jump.ensures.has_truth

@@ -1,4 +1,5 @@
 use Rattle.std.proofs.Common.{◌∙◌, ◌==◌, not}
+use Rattle.std.proofs.lemmas.Result.{IfOk-weaker}
 use Rattle.y86_isa.specs.Table.{row}
 use Rattle.y86_isa.specs.RowTests.{stores_val_a}
 use Rattle.ctl_formula.proofs.Inside.{inside_more}
@@ -15,13 +16,14 @@ returns-clause-has_truth c =
     let k1 = c.picks_leaf.ensures.extends in
     let i1 = inside_more k1 i0 in
     let k2 = c.no_late_load.ensures.extends in
-    record {
-      within = c.in_ok-g.ensures.has_truth.within;
+    IfOk-weaker c.no_late_load.result _ _ (λ _ made. record {
+      within = made.within;
       is = λ w α cv t.
           let u = tells_less k2 i1 t in
-          c.in_ok-g.ensures.has_truth.is w ∙ load_by (stores_val_a (row c.args.v (fields_of w).d.icode).memory) (not ((fields_of w).e.dst_m == 15)) _ _ _ _ _ _ _ _ (flow_kept k1 c.args.y.now w c.requires.flow)
+          made.is w ∙ load_by (stores_val_a (row c.args.v (fields_of w).d.icode).memory) (not ((fields_of w).e.dst_m == 15)) _ _ _ _ _ _ _ _ (flow_kept k1 c.args.y.now w c.requires.flow)
           (c.in_ok-equal.ensures.has_truth.is w α cv u) (c.register_controls_of-controls.ensures.encodes c.picks_leaf.new.b w α cv u) (k1.same c.args.plain w c.requires.plain_in);
-    }
+    })
+    c.no_late_load.ensures.has_truth
 
 pub no_late_load-requires-clause-controls : goal.no_late_load-requires-clause-controls
 no_late_load-requires-clause-controls c = c.register_controls_of-controls.ensures.inside c.picks_leaf.new.b (inside_more c.picks_leaf.ensures.extends c.requires.inside)

@@ -1,4 +1,5 @@
 use Rattle.std.proofs.Common.{◌≡◌, ◌∙◌, ◌==◌, ap, refl, Bool, true, false, not, ◌&&◌, ◌||◌}
+use Rattle.std.proofs.lemmas.Result.{IfOk-weaker}
 use Rattle.y86_isa.specs.Table.{row}
 use Rattle.y86_isa.specs.RowTests.{stores_val_a}
 use Rattle.pipe_fields.specs.Layout.{fields_of}
@@ -13,9 +14,9 @@ by_parts true false true true = refl
 by_parts true false true false = refl
 
 pub returns-clause-has_truth : goal.returns-clause-has_truth
-returns-clause-has_truth c = record {
-  within = c.in_ok-g.ensures.has_truth.within;
-  is = λ w. c.in_ok-g.ensures.has_truth.is w ∙ (ap not (c.in_ok-bad.ensures.has_truth.is w)
+returns-clause-has_truth c = IfOk-weaker c.not.result _ _ (λ _ made. record {
+  within = made.within;
+  is = λ w. made.is w ∙ (ap not (c.in_ok-bad.ensures.has_truth.is w)
       ∙ by_parts ((flow_at c.args.b.now w c.args.y.now).e.good && ((flow_at c.args.b.now w c.args.y.now).m.good && not ((fields_of w).m.dst_m == 15)))
       ((fields_of w).m.dst_m == (fields_of w).e.src_b) ((fields_of w).m.dst_m == (fields_of w).e.src_a) (c.args.lf && stores_val_a (row c.args.v (fields_of w).e.icode).memory));
-}
+}) c.not.ensures.has_truth

@@ -1,4 +1,5 @@
 use Rattle.std.proofs.Common.{if◌then◌else◌, ap, ◌∙◌}
+use Rattle.std.proofs.lemmas.Result.{IfOk-weaker}
 use Rattle.ctl_rules.proofs.Kept.{asked_as}
 use Rattle.pipe_stage_gates.proofs.Joined.{lost_if}
 use Rattle.pipe_fields.specs.Layout.{fields_of}
@@ -10,8 +11,9 @@ use Rattle.pipe_stage_gates.proofs.execute.late_destination_is.Goals as goal
 pub returns-clause-has_truth : goal.returns-clause-has_truth
 unfolding fields_of
 returns-clause-has_truth c =
-    asked_as c.in_ok-g.ensures.has_truth
+    IfOk-weaker c.picks_leaf_if.result _ _ (λ _ made. asked_as made
     (λ w α cv.
     let n = (fields_of w).e in
     ap (λ l. picks_leaf cv c.args.name l)
-    (ap (λ x. if x then Number no_register else Number n.dst_e) (c.in_ok-lost.ensures.has_truth.is w) ∙ lost_if (row c.args.v n.icode).conditional n.cnd n.dst_e))
+    (ap (λ x. if x then Number no_register else Number n.dst_e) (c.in_ok-lost.ensures.has_truth.is w) ∙ lost_if (row c.args.v n.icode).conditional n.cnd n.dst_e)))
+    c.picks_leaf_if.ensures.has_truth

@@ -1,4 +1,5 @@
 use Rattle.std.proofs.Common.{◌==◌, ◌&&◌}
+use Rattle.std.proofs.lemmas.Result.{IfOk-weaker}
 use Rattle.ctl_rules.proofs.Kept.{asked_as}
 use Rattle.pipe_stage_gates.proofs.Joined.{regroup}
 use Rattle.pipe_fields.specs.Layout.{fields_of}
@@ -12,6 +13,7 @@ use Rattle.pipe_stage_gates.proofs.execute.obligation_14.Goals as goal
 
 pub returns-clause-has_truth : goal.returns-clause-has_truth
 returns-clause-has_truth c =
-    asked_as c.in_ok-g.ensures.has_truth
+    IfOk-weaker c.demand_in_e.result _ _ (λ _ made. asked_as made
     (λ w α cv. regroup (truth c.args.b.now c.args.good w && (fields_of w).e.stat == 1) (has_operand_a (row c.args.v (fields_of w).e.icode).alu_a)
-    (is_number cv alufun (alu_function (row c.args.v (fields_of w).e.icode).selects (fields_of w).e.ifun)))
+    (is_number cv alufun (alu_function (row c.args.v (fields_of w).e.icode).selects (fields_of w).e.ifun))))
+    c.demand_in_e.ensures.has_truth

@@ -1,4 +1,5 @@
 use Rattle.std.proofs.Common.{◌||◌, refl}
+use Rattle.std.proofs.lemmas.Result.{IfOk-weaker}
 use Rattle.ctl_rules.proofs.Kept.{asked_as}
 use Rattle.pipe_stage_gates.proofs.Joined.{gate_then_asked}
 use Rattle.nets.proofs.Truths.{begins_self, gate_there}
@@ -6,6 +7,7 @@ use Rattle.pipe_stage_gates.proofs.execute.obligation_17.Goals as goal
 
 pub returns-clause-has_truth : goal.returns-clause-has_truth
 returns-clause-has_truth c =
-    asked_as
-    (gate_then_asked (λ a b. a || b) c.requires.inside (begins_self _) (gate_there c.requires.wrong) c.late_destination_is.ensures.extends c.in_ok-told.ensures.has_truth c.or.ensures.extends c.in_ok-g.ensures.has_truth)
-    (λ w α cv. refl)
+    IfOk-weaker c.or.result _ _ (λ _ made. asked_as
+    (gate_then_asked (λ a b. a || b) c.requires.inside (begins_self _) (gate_there c.requires.wrong) c.late_destination_is.ensures.extends c.in_ok-told.ensures.has_truth c.or.ensures.extends made)
+    (λ w α cv. refl))
+    c.or.ensures.has_truth

@@ -1,4 +1,5 @@
 use Rattle.std.proofs.Common.{◌||◌, not, refl}
+use Rattle.std.proofs.lemmas.Result.{IfOk-weaker}
 use Rattle.ctl_rules.proofs.Kept.{asked_as}
 use Rattle.pipe_stage_gates.proofs.Joined.{gate_then_asked}
 use Rattle.nets.proofs.Truths.{begins_self, gate_there}
@@ -8,6 +9,7 @@ use Rattle.pipe_stage_gates.proofs.memory.obligation_18.Goals as goal
 pub returns-clause-has_truth : goal.returns-clause-has_truth
 unfolding fields_of
 returns-clause-has_truth c =
-    asked_as
-    (gate_then_asked (λ a b. not a || b) c.requires.inside (begins_self _) (gate_there c.requires.good) c.by_icode.ensures.extends c.in_ok-told.ensures.has_truth c.implies.ensures.extends c.in_ok-g.ensures.has_truth)
-    (λ w α cv. refl)
+    IfOk-weaker c.implies.result _ _ (λ _ made. asked_as
+    (gate_then_asked (λ a b. not a || b) c.requires.inside (begins_self _) (gate_there c.requires.good) c.by_icode.ensures.extends c.in_ok-told.ensures.has_truth c.implies.ensures.extends made)
+    (λ w α cv. refl))
+    c.implies.ensures.has_truth

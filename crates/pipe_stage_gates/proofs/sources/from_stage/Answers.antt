@@ -1,4 +1,5 @@
 use Rattle.std.proofs.Common.{ap, if◌then◌else◌}
+use Rattle.std.proofs.lemmas.Result.{IfOk-weaker}
 use Rattle.nets.specs.Nets.{truth}
 use Rattle.nets.proofs.Truths.{begins_more}
 use Rattle.ctl_formula.proofs.Inside.{inside_more}
@@ -12,7 +13,8 @@ pub returns-clause-has_truth : goal.returns-clause-has_truth
 returns-clause-has_truth c =
     let i = inside_more c.picks_leaf.ensures.extends c.requires.inside in
     let up = begins_more c.picks_leaf.ensures.extends c.picks_leaf-2.ensures.extends in
-    asked_as
+    IfOk-weaker c.choose.result _ _ (λ _ made. asked_as
     (asked_two (λ w x y. if x then y else truth c.picks_leaf-2.new.b c.args.older w) c.choose.ensures.extends (inside_more c.picks_leaf-2.ensures.extends i)
-    (asked_more c.picks_leaf-2.ensures.extends i c.in_ok-here.ensures.has_truth) c.in_ok-taken.ensures.has_truth c.in_ok-g.ensures.has_truth)
-    (λ w α cv. ap (λ z. if words.is_number cv c.args.source (spelt w c.args.at.first c.args.at.bits) then words.picks_leaf cv c.args.word (Name c.args.leaf) else z) (up.same _ w c.requires.older_in))
+    (asked_more c.picks_leaf-2.ensures.extends i c.in_ok-here.ensures.has_truth) c.in_ok-taken.ensures.has_truth made)
+    (λ w α cv. ap (λ z. if words.is_number cv c.args.operand.source (spelt w c.args.at.first c.args.at.bits) then words.picks_leaf cv c.args.operand.word (Name c.args.leaf) else z) (up.same _ w c.requires.older_in)))
+    c.choose.ensures.has_truth

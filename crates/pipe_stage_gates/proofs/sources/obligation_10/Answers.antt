@@ -1,4 +1,5 @@
 use Rattle.std.proofs.Common.{◌&&◌, ◌||◌}
+use Rattle.std.proofs.lemmas.Result.{IfOk-weaker}
 use Rattle.nets.proofs.Truths.{begins_more}
 use Rattle.ctl_formula.proofs.Inside.{inside_more}
 use Rattle.dp_signals.specs.PipeNames as signal
@@ -26,4 +27,5 @@ returns-clause-has_truth c =
     let right = asked_as c.in_ok-right.ensures.has_truth (λ w α cv. right_by c.args.v c.args.s.now (fields_of w) (spec.register_controls_of α cv) α cv signal.d_valA signal.d_srcA signal.d_rvalA _ _ _ _
     (flow_kept up c.args.y.now w c.requires.flow) (c.in_ok-late.ensures.has_truth.is w)) in
     let both = asked_two (λ w x y. x && y) k5 i4 (asked_more (begins_more k3 k4) i2 c.in_ok-next_pc.ensures.has_truth) right c.in_ok-both.ensures.has_truth in
-    asked_two (λ w x y. x || y) c.or.ensures.extends i5 (asked_more (begins_more k2 (begins_more k3 (begins_more k4 k5))) i1 c.in_ok-stays.ensures.has_truth) both c.in_ok-g.ensures.has_truth
+    IfOk-weaker c.or.result _ _ (λ _ made. asked_two (λ w x y. x || y) c.or.ensures.extends i5 (asked_more (begins_more k2 (begins_more k3 (begins_more k4 k5))) i1 c.in_ok-stays.ensures.has_truth) both made)
+    c.or.ensures.has_truth

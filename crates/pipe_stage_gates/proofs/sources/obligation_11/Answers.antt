@@ -1,4 +1,5 @@
 use Rattle.std.proofs.Common.{◌||◌}
+use Rattle.std.proofs.lemmas.Result.{IfOk-weaker}
 use Rattle.nets.proofs.Truths.{begins_more}
 use Rattle.ctl_formula.proofs.Inside.{inside_more}
 use Rattle.dp_signals.specs.PipeNames as signal
@@ -20,4 +21,5 @@ returns-clause-has_truth c =
     let i3 = inside_more k3 i2 in
     let right = asked_as c.in_ok-right.ensures.has_truth (λ w α cv. right_by c.args.v c.args.s.now (fields_of w) (spec.register_controls_of α cv) α cv signal.d_valB signal.d_srcB signal.d_rvalB _ _ _ _
     (flow_kept (begins_more k1 k2) c.args.y.now w c.requires.flow) (c.in_ok-never.ensures.has_truth.is w)) in
-    asked_two (λ w x y. x || y) c.or.ensures.extends i3 (asked_more (begins_more k2 k3) i1 c.in_ok-stays.ensures.has_truth) right c.in_ok-g.ensures.has_truth
+    IfOk-weaker c.or.result _ _ (λ _ made. asked_two (λ w x y. x || y) c.or.ensures.extends i3 (asked_more (begins_more k2 k3) i1 c.in_ok-stays.ensures.has_truth) right made)
+    c.or.ensures.has_truth

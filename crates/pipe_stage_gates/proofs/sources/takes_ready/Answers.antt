@@ -1,4 +1,5 @@
 use Rattle.std.proofs.Common.{◌&&◌, if◌then◌else◌}
+use Rattle.std.proofs.lemmas.Result.{IfOk-weaker}
 use Rattle.nets.proofs.Truths.{begins_more, gate_there}
 use Rattle.ctl_formula.proofs.Inside.{inside_more}
 use Rattle.pipe_fields.specs.Layout.{fields_of}
@@ -21,4 +22,5 @@ returns-clause-has_truth c =
     let loaded = asked_two (λ w x y. x && y) k3 i2 good c.in_ok-loads.ensures.has_truth c.in_ok-loaded.ensures.has_truth in
     let free = asked_more (begins_more up k3) i0 (asked_gate (gate_there c.requires.free_in)) in
     let right = asked_more (begins_more k2 k3) i1 c.in_ok-right.ensures.has_truth in
-    asked_three (λ x y z. if x then y else z) c.choose.ensures.extends i3 loaded free right c.in_ok-g.ensures.has_truth
+    IfOk-weaker c.choose.result _ _ (λ _ made. asked_three (λ x y z. if x then y else z) c.choose.ensures.extends i3 loaded free right made)
+    c.choose.ensures.has_truth

@@ -1,4 +1,5 @@
 use Rattle.std.proofs.Common.{◌&&◌, if◌then◌else◌}
+use Rattle.std.proofs.lemmas.Result.{IfOk-weaker}
 use Rattle.nets.proofs.Truths.{begins_more, gate_there}
 use Rattle.ctl_formula.proofs.Inside.{inside_more}
 use Rattle.ctl_atoms.specs.declared.leaf.Leaf.TheVariants.{Name}
@@ -27,9 +28,10 @@ returns-clause-has_truth c =
     let good = asked_more (begins_more k1 k2) i0 (asked_gate (gate_there c.requires.flow.e.good)) in
     let in_e = asked_two (λ w x y. x && y) k3 i2 good c.in_ok-writes.ensures.has_truth c.in_ok-in_e.ensures.has_truth in
     let older = asked_more (begins_more k2 (begins_more k3 k4)) i1 c.in_ok-older.ensures.has_truth in
-    asked_as (asked_three (λ x y z. if x then y else z) c.choose.ensures.extends i4 (asked_more k4 i3 in_e) c.in_ok-taken.ensures.has_truth older c.in_ok-g.ensures.has_truth)
+    IfOk-weaker c.choose.result _ _ (λ _ made. asked_as (asked_three (λ x y z. if x then y else z) c.choose.ensures.extends i4 (asked_more k4 i3 in_e) c.in_ok-taken.ensures.has_truth older made)
     (λ w α cv. first_leaf
-    ((flow_at c.args.b.now w c.args.y.now).e.good && words.is_number cv c.args.source (destination_e (row c.args.v (fields_of w).e.icode).conditional (set (fields_of w).e.cnd) (fields_of w).e.dst_e))
-    (words.is_number cv c.args.source (fields_of w).m.dst_m) (words.is_number cv c.args.source (fields_of w).m.dst_e)
-    (words.is_number cv c.args.source (fields_of w).w.dst_m) (words.is_number cv c.args.source (fields_of w).w.dst_e)
-    (cv c.args.word) (Name signal.e_valE) (Name signal.m_valM) (Name signal.M_valE) (Name signal.W_valM) (Name signal.W_valE) (Name c.args.rest))
+    ((flow_at c.args.b.now w c.args.y.now).e.good && words.is_number cv c.args.operand.source (destination_e (row c.args.v (fields_of w).e.icode).conditional (set (fields_of w).e.cnd) (fields_of w).e.dst_e))
+    (words.is_number cv c.args.operand.source (fields_of w).m.dst_m) (words.is_number cv c.args.operand.source (fields_of w).m.dst_e)
+    (words.is_number cv c.args.operand.source (fields_of w).w.dst_m) (words.is_number cv c.args.operand.source (fields_of w).w.dst_e)
+    (cv c.args.operand.word) (Name signal.e_valE) (Name signal.m_valM) (Name signal.M_valE) (Name signal.W_valM) (Name signal.W_valE) (Name c.args.operand.rest)))
+    c.choose.ensures.has_truth
