@@ -5,7 +5,7 @@ use Rattle.nets.specs.Nets.{Gates}
 use Rattle.hcl_types.specs.declared.term.Term.{Term}
 use Rattle.dp_signals.specs.SeqNames as signal
 use Rattle.dp_signals.specs.SeqTable.{seq_rows, seq_state, seq_hardware, seq_defined}
-use Rattle.dp_signals.specs.SequentialTable.{control_rows}
+use Rattle.dp_signals.specs.SequentialTables.{control_rows}
 use Rattle.dp_signals.specs.Tables.{constant_rows}
 use Rattle.ctl_formula.specs.declared.controls.Entry.{Entry}
 use Rattle.ctl_formula.specs.Picks.{Covers}

@@ -22,7 +22,7 @@ static PC: &[TableRow] = &[TableRow(b"pc", Class::Value, RowSource::Defined)];
 
 /// The table of SEQ+'s signals: the constants, the signals that the state holds, those that hardware computes, and those that an HCL file
 /// defines.
-#[tactic(auto, unfolding(crate::specs::PlusTable::plus_rows, crate::specs::PlusTable::plus_state, crate::specs::PlusTable::plus_hardware, crate::specs::PlusTable::plus_defined, dp_signals::specs::SequentialTable::control_rows))]
+#[tactic(auto, unfolding(crate::specs::PlusTable::plus_rows, crate::specs::PlusTable::plus_state, crate::specs::PlusTable::plus_hardware, crate::specs::PlusTable::plus_defined, dp_signals::specs::SequentialTables::control_rows))]
 pub fn plus_table(alloc: Global) -> Result<Table, Memory>
     ensures { IfOk result (λ table. table.rows ≡ spec.plus_rows) }
 {
