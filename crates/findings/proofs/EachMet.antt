@@ -33,7 +33,7 @@ if_both f true x y xs ys p q = p
 if_both f false x y xs ys p q = q
 
 -- answers and, beside each, the requirements that are met exactly where it is true; more answers may follow
-pub SaysEach : (Requirement → Bool) → List Bool → List (List Requirement) → Type 0
+abbrev pub SaysEach : (Requirement → Bool) → List Bool → List (List Requirement) → Type 0
 SaysEach f bs [] = Unit {0}
 SaysEach f [] (xs ∷ xss) = ⊥
 SaysEach f (b ∷ bs) (xs ∷ xss) = (b ≡ each f xs) × SaysEach f bs xss

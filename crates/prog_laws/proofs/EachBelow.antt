@@ -3,7 +3,7 @@ use Rattle.std.proofs.Common.{◌≡◌, ◌⊎◌, inl, inr, ℕ, zero, suc, �
 use Rattle.std.proofs.lemmas.Bool.{cases_eq}
 
 -- a proof for each of count numbers, from first on
-pub EachFrom : (ℕ → Type 0) → ℕ → ℕ → Type 0
+abbrev pub EachFrom : (ℕ → Type 0) → ℕ → ℕ → Type 0
 EachFrom P first zero = Unit {0}
 EachFrom P first (suc count) = P first × EachFrom P (suc first) count
 

@@ -1,5 +1,5 @@
 -- An obligation is met exactly where each of its requirements is.
-use Rattle.std.proofs.Common.{◌≡◌, ℕ, ◌-◌, ◌==◌, List, refl}
+use Rattle.std.proofs.Common.{◌≡◌, ℕ, true, ◌==◌, List, [], ◌∷◌, refl}
 use Rattle.y86_base.specs.declared.parts.Variant.{Variant}
 use Rattle.y86_base.specs.Words.{set}
 use Rattle.y86_isa.specs.declared.columns.Row.{Row}
@@ -26,7 +26,7 @@ use Rattle.seq_requirements.specs.declared.datapath.Datapath.TheVariants.{Seq, P
 
 module _ (α : Assignment) (cv : ℕ → Leaf) where
   shared_is : (s : SignalRows) (i : ℕ) (r : Row) (c : seq.Fields) → shared_demand s i r c α cv ≡ each (is_met α cv) (shared_requirements s i r c)
-  shared_is s i r c = says_at (is_met α cv) (shared_demands s r c α cv) (shared_required s r c) each_said refl (i - 1)
+  shared_is s i r c = says_at (is_met α cv) (true ∷ shared_demands s r c α cv) ([] ∷ shared_required s r c) (refl, each_said) refl i
     where
       each_said : SaysEach (is_met α cv) (shared_demands s r c α cv) (shared_required s r c)
       each_said = (

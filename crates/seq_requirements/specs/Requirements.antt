@@ -1,6 +1,6 @@
 -- What the obligations of SEQ and SEQ+ require at a valuation, signal by signal.
 -- An obligation is met exactly where each requirement is (`IsByRequirements`).
-use Rattle.std.specs.Prelude.{ℕ, ◌≡◌, ◌-◌, Bool, ◌==◌, List, [], ◌∷◌, get_or, if◌then◌else◌}
+use Rattle.std.specs.Prelude.{ℕ, ◌≡◌, Bool, ◌==◌, List, [], ◌∷◌, get_or, if◌then◌else◌}
 use Rattle.y86_base.specs.declared.parts.Variant.{Variant}
 use Rattle.y86_base.specs.Stat.{stat_number}
 use Rattle.y86_base.specs.Words.{set}
@@ -64,7 +64,7 @@ shared_required s r c =
     number s.stat (stat_number (fetch_status (faulted c) c.icode)) ∷ []
 
 abbrev pub shared_requirements : SignalRows → ℕ → Row → Fields → List Requirement
-shared_requirements s i r c = get_or (shared_required s r c) (i - 1) []
+shared_requirements s i r c = get_or ([] ∷ shared_required s r c) i []
 
 -- ---- the PC, obligation 16 of each
 
