@@ -1,5 +1,5 @@
 -- An obligation is met exactly where each of its requirements is.
-use Rattle.std.proofs.Common.{◌≡◌, ℕ, ◌≤◌, ◌-◌, Bool, true, false, ◌&&◌, ◌||◌, [], ◌∷◌, if◌then◌else◌, refl, ap, arith}
+use Rattle.std.proofs.Common.{◌≡◌, ℕ, ◌≤◌, ◌-◌, Bool, true, false, ◌&&◌, ◌||◌, [], ◌∷◌, refl, ap, arith}
 use Rattle.y86_base.specs.declared.parts.Variant.{Variant}
 use Rattle.y86_base.specs.Words.{set}
 use Rattle.y86_isa.specs.Table.{row, no_register}
@@ -19,7 +19,7 @@ use Rattle.pipe_obligations.specs.Rules.{demands}
 use Rattle.dp_signals.specs.PipeNames as signal
 use Rattle.findings.specs.Requirements.{is_met, requirement_of, word, only_if, unless}
 use Rattle.findings.specs.declared.requirement.Wanted.TheVariants as wanted
-use Rattle.findings.proofs.EachMet.{SaysEach, says_within, one, two, if_both, guarded, excused, both, some_is}
+use Rattle.findings.proofs.EachMet.{SaysEach, ◌▹◌, all_said, says_within, one, two, if_both, guarded, excused, both, some_is}
 use Rattle.pipe_requirements.specs.Requirements.{right_word, required1, required5, required10, required11, required12, required13, required14, required16, required17, required18, required19, required21, required, requirements, IsByRequirements}
 
 four : (a b c d : Bool) → (a && (b && (c && d))) ≡ (a && (b && (c && (d && true))))
@@ -78,32 +78,31 @@ module _ (v : Variant) (s : Settings) (c : Fields) (y : Flow) (mv : RegisterCont
   at21 = guarded (is_met α cv) y.w.good _ _ (four (is_number cv signal.w_dstE c.w.dst_e) (is_number cv signal.w_dstM c.w.dst_m) (picks_leaf cv signal.w_valE (Name signal.W_valE)) (picks_leaf cv signal.w_valM (Name signal.W_valM)))
 
   each_said : SaysEach (is_met α cv) (demands v s c y mv α cv) (required v s c y mv cv)
-  each_said = (
-      at1,
-      (one _),
-      (one _),
-      (one _),
-      at5,
-      (one _),
-      (one _),
-      (one _),
-      (one _),
-      at10,
-      at11,
-      at12,
-      at13,
-      at14,
-      (one _),
-      at16,
-      at17,
-      at18,
-      at19,
-      (one _),
-      at21,
-      (one _),
-      tt,
-  )
+  each_said =
+      at1 ▹
+      (one _) ▹
+      (one _) ▹
+      (one _) ▹
+      at5 ▹
+      (one _) ▹
+      (one _) ▹
+      (one _) ▹
+      (one _) ▹
+      at10 ▹
+      at11 ▹
+      at12 ▹
+      at13 ▹
+      at14 ▹
+      (one _) ▹
+      at16 ▹
+      at17 ▹
+      at18 ▹
+      at19 ▹
+      (one _) ▹
+      at21 ▹
+      (one _) ▹
+      all_said
 
   pub by_requirements : (i : ℕ) → 1 ≤ i → i ≤ 22 → IsByRequirements v s c y mv α cv i
   unfolding requirements
-  by_requirements i ge le = says_within (is_met α cv) (demands v s c y mv α cv) (required v s c y mv cv) each_said (i - 1) (omega (arith, ge, le))
+  by_requirements i ge le = says_within each_said (i - 1) (omega (arith, ge, le))

@@ -15,7 +15,7 @@ use Rattle.pipe_fields.specs.Allowed.{allowed, fetch_row_allowed, decode_row_all
 use Rattle.pipe_fields.proofs.Told.{LinesAllowed, lines_allowed}
 use Rattle.prog_gen.specs.Choices.{AreChosen, choice_allowed, stat_choice_allowed, icode_choice_allowed, ifun_choice_allowed}
 use Rattle.prog_laws.proofs.Lawful.{then_true, else_true, choose_then, choose_else}
-use Rattle.prog_laws.proofs.EachBelow.{each_below}
+use Rattle.prog_laws.proofs.EachBelow.{EachFrom, ◌▹◌, no_more, each_below}
 
 -- ---- tests that are known
 
@@ -535,46 +535,48 @@ tested_w_dstM v c h = (write_back v c.w h.w).dst_m
 -- the numbers of an allowed valuation may stand behind one another
 pub allowed_chosen : (v : Variant) (c : Fields) → allowed v c ≡ true → AreChosen v (numbers c)
 allowed_chosen v c h j lt =
-    each_below (IsTested v c) field_count (
-      tested_d_kind v c,
-      tested_e_kind v c,
-      tested_m_kind v c,
-      tested_w_kind v c,
-      tested_f_error v c,
-      tested_f_icode v c,
-      tested_f_ifun v c,
-      tested_f_taken v c,
-      tested_f_stops v c,
-      tested_f_back v c,
-      tested_d_stat v c,
-      tested_d_icode v c,
-      tested_d_ifun v c,
-      tested_d_rA v c,
-      tested_d_rB v c,
-      tested_d_taken v c,
-      tested_d_stops v c,
-      tested_d_back v c,
-      tested_e_stat v c,
-      tested_e_icode v c,
-      tested_e_ifun v c,
-      tested_e_dstE v c,
-      tested_e_dstM v c,
-      tested_e_srcA v c,
-      tested_e_srcB v c,
-      tested_e_cnd v c,
-      tested_e_stops v c,
-      tested_e_back v c,
-      tested_m_stat v c,
-      tested_m_icode v c,
-      tested_m_ifun v c,
-      tested_m_dstE v c,
-      tested_m_dstM v c,
-      tested_m_cnd v c,
-      tested_m_error v c,
-      tested_m_back v c,
-      tested_w_stat v c,
-      tested_w_icode v c,
-      tested_w_dstE v c,
-      tested_w_dstM v c,
-      tt,
-    ) j lt (lines_allowed v c h)
+    each_below (IsTested v c) field_count each j lt (lines_allowed v c h)
+  where
+    each : EachFrom (IsTested v c) 0 field_count
+    each =
+        tested_d_kind v c ▹
+        tested_e_kind v c ▹
+        tested_m_kind v c ▹
+        tested_w_kind v c ▹
+        tested_f_error v c ▹
+        tested_f_icode v c ▹
+        tested_f_ifun v c ▹
+        tested_f_taken v c ▹
+        tested_f_stops v c ▹
+        tested_f_back v c ▹
+        tested_d_stat v c ▹
+        tested_d_icode v c ▹
+        tested_d_ifun v c ▹
+        tested_d_rA v c ▹
+        tested_d_rB v c ▹
+        tested_d_taken v c ▹
+        tested_d_stops v c ▹
+        tested_d_back v c ▹
+        tested_e_stat v c ▹
+        tested_e_icode v c ▹
+        tested_e_ifun v c ▹
+        tested_e_dstE v c ▹
+        tested_e_dstM v c ▹
+        tested_e_srcA v c ▹
+        tested_e_srcB v c ▹
+        tested_e_cnd v c ▹
+        tested_e_stops v c ▹
+        tested_e_back v c ▹
+        tested_m_stat v c ▹
+        tested_m_icode v c ▹
+        tested_m_ifun v c ▹
+        tested_m_dstE v c ▹
+        tested_m_dstM v c ▹
+        tested_m_cnd v c ▹
+        tested_m_error v c ▹
+        tested_m_back v c ▹
+        tested_w_stat v c ▹
+        tested_w_icode v c ▹
+        tested_w_dstE v c ▹
+        tested_w_dstM v c ▹
+        no_more

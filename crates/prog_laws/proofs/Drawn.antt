@@ -1,5 +1,5 @@
 -- Numbers that may stand behind one another are those with which an allowed valuation begins.
-use Rattle.std.proofs.Common.{◌≡◌, ◌⊎◌, inl, inr, ℕ, zero, suc, ◌+◌, ◌-◌, ◌%◌, ◌^◌, ◌<◌, ◌≤◌, Bool, true, false, List, [], ◌∷◌, ◌++◌, length, get_or, take, unwrap_or, None, refl, sym, ap, ◌∙◌, subst, arith}
+use Rattle.std.proofs.Common.{◌≡◌, ◌⊎◌, inl, inr, ℕ, zero, suc, ◌+◌, ◌-◌, ◌%◌, ◌^◌, ◌<◌, ◌≤◌, Bool, true, false, List, [], ◌∷◌, ◌++◌, length, get_or, take, None, refl, sym, ap, ◌∙◌, subst, arith}
 use Rattle.std.specs.List.{All, Contains, filter, range_with_len}
 use Rattle.std.proofs.lemmas.Bool.{cases_eq}
 use Rattle.std.proofs.lemmas.List.{ext_get_or, get_or-take, length-take, take-append-le, take_all, length-append, length_push}
@@ -19,7 +19,7 @@ use Rattle.prog_gen.specs.Draws.{lcg_next, lcg_output}
 use Rattle.prog_laws.specs.AllowedPrefix.{PrefixGoesOn, IsAllowedPrefix}
 use Rattle.prog_laws.proofs.Behind.{allowed_chosen}
 use Rattle.prog_gen.proofs.Chosen.{passes_more, passes_same}
-use Rattle.prog_laws.proofs.EachBelow.{each_below}
+use Rattle.prog_laws.proofs.EachBelow.{EachFrom, ◌▹◌, no_more, each_below}
 use Rattle.prog_laws.proofs.Lawful.{chosen_allowed}
 use Rattle.prog_laws.proofs.Witness.{Some_below, witness}
 
@@ -32,50 +32,18 @@ pub record IsFront (v : Variant) (xs : List ℕ) : Type 0 where
 -- ---- numbers as fields and back
 
 entries : (xs : List ℕ) (j : ℕ) → j < field_count → get_or (numbers (fields_by xs)) j 0 ≡ get_or xs j 0
-entries xs =
-    each_below (λ j. get_or (numbers (fields_by xs)) j 0 ≡ get_or xs j 0) field_count (
-      refl,
-      refl,
-      refl,
-      refl,
-      refl,
-      refl,
-      refl,
-      refl,
-      refl,
-      refl,
-      refl,
-      refl,
-      refl,
-      refl,
-      refl,
-      refl,
-      refl,
-      refl,
-      refl,
-      refl,
-      refl,
-      refl,
-      refl,
-      refl,
-      refl,
-      refl,
-      refl,
-      refl,
-      refl,
-      refl,
-      refl,
-      refl,
-      refl,
-      refl,
-      refl,
-      refl,
-      refl,
-      refl,
-      refl,
-      refl,
-      tt,
-    )
+entries xs = each_below Same field_count each
+  where
+    Same : ℕ → Type 0
+    Same j = get_or (numbers (fields_by xs)) j 0 ≡ get_or xs j 0
+
+    each : EachFrom Same 0 field_count
+    each =
+        refl ▹ refl ▹ refl ▹ refl ▹ refl ▹ refl ▹ refl ▹ refl ▹ refl ▹ refl ▹
+        refl ▹ refl ▹ refl ▹ refl ▹ refl ▹ refl ▹ refl ▹ refl ▹ refl ▹ refl ▹
+        refl ▹ refl ▹ refl ▹ refl ▹ refl ▹ refl ▹ refl ▹ refl ▹ refl ▹ refl ▹
+        refl ▹ refl ▹ refl ▹ refl ▹ refl ▹ refl ▹ refl ▹ refl ▹ refl ▹ refl ▹
+        no_more
 
 count : (c : Fields) → length (numbers c) ≡ field_count
 count c = refl

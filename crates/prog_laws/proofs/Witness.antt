@@ -17,7 +17,7 @@ use Rattle.pipe_fields.specs.Layout.{Fields, fields_by, numbers, bubble, field_c
 use Rattle.pipe_fields.specs.Allowed.{is_good_aok}
 use Rattle.prog_gen.specs.Choices.{choice_allowed, stat_choice_allowed, icode_choice_allowed, ifun_choice_allowed, width}
 use Rattle.prog_laws.proofs.Lawful.{else_true, choose_then, choose_else}
-use Rattle.prog_laws.proofs.EachBelow.{each_below}
+use Rattle.prog_laws.proofs.EachBelow.{EachFrom, ◌▹◌, no_more, each_below}
 
 -- a number below a bound that passes a test
 pub record Some_below (bound : ℕ) (may : ℕ → Bool) : Type 0 where
@@ -391,46 +391,48 @@ witnessed_w_dstM v c h = (let x = register_some (row v c.w.icode).dst_m in recor
 -- another one may stand
 pub witness : (v : Variant) (c : Fields) (j : ℕ) → j < field_count → AreBefore v c j → Some_below (2 ^ width j) (choice_allowed v j (fields_by (take j (numbers c))))
 witness v c j lt h =
-    each_below (IsWitnessed v c) field_count (
-      witnessed_d_kind v c,
-      witnessed_e_kind v c,
-      witnessed_m_kind v c,
-      witnessed_w_kind v c,
-      witnessed_f_error v c,
-      witnessed_f_icode v c,
-      witnessed_f_ifun v c,
-      witnessed_f_taken v c,
-      witnessed_f_stops v c,
-      witnessed_f_back v c,
-      witnessed_d_stat v c,
-      witnessed_d_icode v c,
-      witnessed_d_ifun v c,
-      witnessed_d_rA v c,
-      witnessed_d_rB v c,
-      witnessed_d_taken v c,
-      witnessed_d_stops v c,
-      witnessed_d_back v c,
-      witnessed_e_stat v c,
-      witnessed_e_icode v c,
-      witnessed_e_ifun v c,
-      witnessed_e_dstE v c,
-      witnessed_e_dstM v c,
-      witnessed_e_srcA v c,
-      witnessed_e_srcB v c,
-      witnessed_e_cnd v c,
-      witnessed_e_stops v c,
-      witnessed_e_back v c,
-      witnessed_m_stat v c,
-      witnessed_m_icode v c,
-      witnessed_m_ifun v c,
-      witnessed_m_dstE v c,
-      witnessed_m_dstM v c,
-      witnessed_m_cnd v c,
-      witnessed_m_error v c,
-      witnessed_m_back v c,
-      witnessed_w_stat v c,
-      witnessed_w_icode v c,
-      witnessed_w_dstE v c,
-      witnessed_w_dstM v c,
-      tt,
-    ) j lt h
+    each_below (IsWitnessed v c) field_count each j lt h
+  where
+    each : EachFrom (IsWitnessed v c) 0 field_count
+    each =
+        witnessed_d_kind v c ▹
+        witnessed_e_kind v c ▹
+        witnessed_m_kind v c ▹
+        witnessed_w_kind v c ▹
+        witnessed_f_error v c ▹
+        witnessed_f_icode v c ▹
+        witnessed_f_ifun v c ▹
+        witnessed_f_taken v c ▹
+        witnessed_f_stops v c ▹
+        witnessed_f_back v c ▹
+        witnessed_d_stat v c ▹
+        witnessed_d_icode v c ▹
+        witnessed_d_ifun v c ▹
+        witnessed_d_rA v c ▹
+        witnessed_d_rB v c ▹
+        witnessed_d_taken v c ▹
+        witnessed_d_stops v c ▹
+        witnessed_d_back v c ▹
+        witnessed_e_stat v c ▹
+        witnessed_e_icode v c ▹
+        witnessed_e_ifun v c ▹
+        witnessed_e_dstE v c ▹
+        witnessed_e_dstM v c ▹
+        witnessed_e_srcA v c ▹
+        witnessed_e_srcB v c ▹
+        witnessed_e_cnd v c ▹
+        witnessed_e_stops v c ▹
+        witnessed_e_back v c ▹
+        witnessed_m_stat v c ▹
+        witnessed_m_icode v c ▹
+        witnessed_m_ifun v c ▹
+        witnessed_m_dstE v c ▹
+        witnessed_m_dstM v c ▹
+        witnessed_m_cnd v c ▹
+        witnessed_m_error v c ▹
+        witnessed_m_back v c ▹
+        witnessed_w_stat v c ▹
+        witnessed_w_icode v c ▹
+        witnessed_w_dstE v c ▹
+        witnessed_w_dstM v c ▹
+        no_more

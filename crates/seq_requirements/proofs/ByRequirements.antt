@@ -1,5 +1,5 @@
 -- An obligation is met exactly where each of its requirements is.
-use Rattle.std.proofs.Common.{◌≡◌, ℕ, true, ◌==◌, List, [], ◌∷◌, refl}
+use Rattle.std.proofs.Common.{◌≡◌, ℕ, true, ◌==◌, List, [], refl}
 use Rattle.y86_base.specs.declared.parts.Variant.{Variant}
 use Rattle.y86_base.specs.Words.{set}
 use Rattle.y86_isa.specs.declared.columns.Row.{Row}
@@ -12,7 +12,7 @@ use Rattle.ctl_atoms.specs.Leaves.{Assignment}
 use Rattle.ctl_rules.specs.ColumnDemands.{is_number, is_truth, operand_leaf_a, operand_leaf_b, address_leaf, word_leaf, next_leaf}
 use Rattle.dp_signals.specs.SeqNames as seq_row
 use Rattle.findings.specs.Requirements.{is_met}
-use Rattle.findings.proofs.EachMet.{SaysEach, says_at, one, two, if_both, guarded, excused, some_is}
+use Rattle.findings.proofs.EachMet.{SaysEach, ◌▹◌, all_said, says_at, one, two, if_both, guarded, excused, some_is}
 use Rattle.seq_obligations.specs.Fields as seq
 use Rattle.seq_obligations.specs.Obligations.{demand_at as seq_demand_at, faulted, shared_demand, shared_demands}
 use Rattle.dp_signals.specs.declared.sequential_rows.SignalRows.{SignalRows}
@@ -26,27 +26,30 @@ use Rattle.seq_requirements.specs.declared.datapath.Datapath.TheVariants.{Seq, P
 
 module _ (α : Assignment) (cv : ℕ → Leaf) where
   shared_is : (s : SignalRows) (i : ℕ) (r : Row) (c : seq.Fields) → shared_demand s i r c α cv ≡ each (is_met α cv) (shared_requirements s i r c)
-  shared_is s i r c = says_at (is_met α cv) (true ∷ shared_demands s r c α cv) ([] ∷ shared_required s r c) (refl, each_said) refl i
+  shared_is s i r c = says_at (nothing ▹ each_said) refl i
     where
+      -- no rule has number 0
+      nothing : true ≡ each (is_met α cv) []
+      nothing = refl
+
       each_said : SaysEach (is_met α cv) (shared_demands s r c α cv) (shared_required s r c)
-      each_said = (
-          two (is_number cv s.icode c.icode) (is_number cv s.ifun c.ifun),
-          one _,
-          one _,
-          one _,
-          one _,
-          one _,
-          one _,
-          some_is α cv s.alu_a (operand_leaf_a r.alu_a s.val_a s.val_c),
-          some_is α cv s.alu_b (operand_leaf_b r.alu_b s.val_b),
-          guarded (is_met α cv) (has_operand_a r.alu_a) _ _ (one _),
-          one _,
-          some_is α cv s.mem_addr (address_leaf r.memory s.val_a s.val_e),
-          two (is_truth α cv s.mem_read (is_load r.memory)) (is_truth α cv s.mem_write (is_store r.memory)),
-          some_is α cv s.mem_data (word_leaf r.memory s.val_a s.val_p),
-          one _,
-          tt,
-      )
+      each_said =
+          two (is_number cv s.icode c.icode) (is_number cv s.ifun c.ifun) ▹
+          one _ ▹
+          one _ ▹
+          one _ ▹
+          one _ ▹
+          one _ ▹
+          one _ ▹
+          some_is α cv s.alu_a (operand_leaf_a r.alu_a s.val_a s.val_c) ▹
+          some_is α cv s.alu_b (operand_leaf_b r.alu_b s.val_b) ▹
+          guarded (is_met α cv) (has_operand_a r.alu_a) _ _ (one _) ▹
+          one _ ▹
+          some_is α cv s.mem_addr (address_leaf r.memory s.val_a s.val_e) ▹
+          two (is_truth α cv s.mem_read (is_load r.memory)) (is_truth α cv s.mem_write (is_store r.memory)) ▹
+          some_is α cv s.mem_data (word_leaf r.memory s.val_a s.val_p) ▹
+          one _ ▹
+          all_said
 
   pub by_requirements : (which : Datapath) (v : Variant) (xs : List ℕ) (i : ℕ) → IsByRequirements which v xs α cv i
   unfolding seq_demand_at plus_demand_at
