@@ -8,7 +8,7 @@ use Rattle.hcl_types.specs.Tables.{IsBound, IsOrderOf}
 use Rattle.hcl_types.specs.declared.term.Term.{Term}
 use Rattle.dp_sequential.specs.Laws.{IsSequential}
 use Rattle.dp_sequential.specs.Path.{IsCycle, RunFrom, SequentialPath, Solves}
-use Rattle.dp_sequential.specs.declared.rows.SignalRows.{SignalRows}
+use Rattle.dp_signals.specs.declared.sequential_rows.SignalRows.{SignalRows}
 use Rattle.dp_sequential.proofs.Rules.{solution_alone, solution_there}
 
 module _ {S : Type 0} (rows : SignalRows) (path : SequentialPath S) (laws : IsSequential rows path) (v : Variant) (terms : List Term) (ids : List ℕ)

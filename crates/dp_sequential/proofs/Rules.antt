@@ -15,7 +15,7 @@ use Rattle.dp_signals.proofs.Bits.{constants_count}
 use Rattle.dp_signals.proofs.Rules.{along_solves, one_solution, order_computes}
 use Rattle.dp_sequential.specs.Laws.{IsSequential}
 use Rattle.dp_sequential.specs.Path.{AreGivenIn, SequentialPath, Solves, rule_in}
-use Rattle.dp_sequential.specs.declared.rows.SignalRows.{SignalRows}
+use Rattle.dp_signals.specs.declared.sequential_rows.SignalRows.{SignalRows}
 
 module _ {S : Type 0} (rows : SignalRows) (path : SequentialPath S) (laws : IsSequential rows path) where
   -- ---- what is given, in its rows

@@ -7,7 +7,7 @@ use Rattle.hcl_types.specs.declared.term.Term.{Term}
 use Rattle.dp_sequential.specs.Laws.{IsSequential}
 use Rattle.dp_sequential.specs.Machine.{CallsOn, MachineView, started_on}
 use Rattle.dp_sequential.specs.Path.{IsCycle, RunFrom, SequentialPath}
-use Rattle.dp_sequential.specs.declared.rows.SignalRows.{SignalRows}
+use Rattle.dp_signals.specs.declared.sequential_rows.SignalRows.{SignalRows}
 use Rattle.dp_sequential.proofs.Calls.{calls_are_the_run}
 
 module _ {S : Type 0} (rows : SignalRows) (path : SequentialPath S) (laws : IsSequential rows path) (v : Variant) (terms : List Term) where

@@ -12,7 +12,7 @@ use Rattle.y86_isa.specs.Machine.{is_aok, normal, written_number, written_word}
 use Rattle.y86_isa.proofs.Records.{written_same}
 use Rattle.dp_signals.proofs.SeqCycles.{aok_is_one}
 use Rattle.dp_sequential.specs.Cycle.{flags_by, memory_by, record_by, registers_by, stepped, store_by}
-use Rattle.dp_sequential.specs.declared.rows.SignalRows.{SignalRows}
+use Rattle.dp_signals.specs.declared.sequential_rows.SignalRows.{SignalRows}
 
 module _ (r : SignalRows) (m : Machine) (f : ℕ → ℕ) (pc : ℕ) where
   -- the machine after a cycle that tells this status, and the record with these flags

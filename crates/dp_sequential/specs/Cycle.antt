@@ -12,7 +12,7 @@ use Rattle.y86_isa.specs.declared.machine.Machine.{Machine}
 use Rattle.y86_isa.specs.declared.machine.Rec.{Rec}
 use Rattle.y86_isa.specs.declared.machine.Store.{Store}
 use Rattle.dp_signals.specs.Values.{bit}
-use Rattle.dp_sequential.specs.declared.rows.SignalRows.{SignalRows}
+use Rattle.dp_signals.specs.declared.sequential_rows.SignalRows.{SignalRows}
 
 -- the value of a hardware row where a cycle works on the machine m: the register file, the ALU and the condition, data memory
 unfoldable pub worked_by : SignalRows → Machine → ℕ → (ℕ → ℕ) → ℕ

@@ -6,7 +6,7 @@ use Rattle.dp_signals.specs.Layout.{IsLaidOut, ReadsInputs}
 use Rattle.dp_signals.specs.PipeEquations.{constants}
 use Rattle.dp_sequential.specs.Cycle.{block_by, record_by}
 use Rattle.dp_sequential.specs.Path.{SequentialPath, machine_at}
-use Rattle.dp_sequential.specs.declared.rows.SignalRows.{SignalRows}
+use Rattle.dp_signals.specs.declared.sequential_rows.SignalRows.{SignalRows}
 
 pub record IsSequential {S : Type 0} (rows : SignalRows) (path : SequentialPath S) : Type 0 where
   -- the table is laid out, and its hardware reads only the rows that it lists

@@ -1,5 +1,3 @@
-pub mod Rows
-pub mod Table
 pub mod Cycle
 pub mod Path
 pub mod Laws

@@ -12,24 +12,30 @@ use Rattle.hcl_types.specs.Equations.{IsSolution}
 use Rattle.dp_signals.specs.After.{IsAfter}
 use Rattle.dp_signals.specs.Equations.{IsOver, rule_of}
 
--- its table, whose first rows hold what is given, and whose rows from the one numbered first on a file defines; what is given as a cycle
--- begins, of which the words are those of the state, and what hardware then computes; what the state has of a machine, and the PC at which a cycle works; the state at the start of
--- a run and after a cycle, and the record of a cycle
+-- a sequential datapath; the functions ℕ → ℕ are the values of a cycle, by row
 pub record SequentialPath (S : Type 0) : Type 0 where
+  -- the rows of its signals: what is given comes first
   pub table : List Row
+  -- the first row of hardware, the first that a file defines, and how many rows there are
   pub hardware : ℕ
   pub first : ℕ
   pub count : ℕ
+  -- the values of the given rows as a cycle begins: constants, and the words of the state
   pub given : S → List ℕ
   pub words : S → List ℕ
+  -- what hardware computes in a row
   pub block : Variant → S → ℕ → (ℕ → ℕ) → ℕ
+  -- what the state has of a machine
   pub regs : S → List ℕ
   pub flags : S → Flags
   pub stat : S → Stat
   pub mem : S → List ℕ
+  -- the PC at which a cycle works
   pub pc : S → (ℕ → ℕ) → ℕ
+  -- the state at the start of a run on a memory image, and after a cycle
   pub start : List ℕ → S
   pub next : S → (ℕ → ℕ) → S
+  -- the record of a cycle
   pub told : S → (ℕ → ℕ) → Rec
 
 -- the machine that a state is at a PC

@@ -14,7 +14,7 @@ use Rattle.dp_signals.specs.Tables.{constant_rows}
 use Rattle.dp_signals.proofs.SeqRules.{length-seq_given, length-seq_rows, seq_layout, seq_reads}
 use Rattle.dp_sequential.specs.Cycle.{block_by, fetched_by, worked_by}
 use Rattle.dp_sequential.specs.Laws.{IsSequential}
-use Rattle.dp_sequential.specs.Rows.{seq}
+use Rattle.dp_signals.specs.SequentialRows.{seq}
 use Rattle.dp_sequential.specs.Seq.{seq_path}
 
 keeps_by : (s : Machine) (f : ℕ → ℕ) (goes : Bool) → length (cond goes (seq_updated s f) (record s { stat = stat_of (f row.Stat) })).mem ≡ length s.mem

@@ -3,8 +3,7 @@ ghost use Rattle.std.specs.Prelude.{◌≡◌};
 ghost use Rattle.hcl_types.specs.Terms.{at};
 ghost use Rattle.dp_sequential.specs.Cycle as spec;
 
-use crate::rows::SignalRows;
-use dp_signals::at;
+use dp_signals::{SignalRows, at};
 use y86_base::{Flags, Image, Regs, Stat};
 use y86_isa::{Rec, Store, alu, data_store, put_store, write_back};
 

@@ -6,9 +6,9 @@ ghost use Rattle.dp_signals.specs.PipeEquations.{constants};
 ghost use Rattle.yis_run.specs.Report.{ended};
 ghost use Rattle.dp_sequential.specs.Laws.{IsSequential};
 ghost use Rattle.dp_sequential.specs.Path.{AreGivenIn, SequentialPath, machine_at};
-ghost use Rattle.dp_sequential.specs.declared.rows.SignalRows.{SignalRows as Rows};
+ghost use Rattle.dp_signals.specs.declared.sequential_rows.SignalRows.{SignalRows as Rows};
 
-use crate::rows::SignalRows;
+use dp_signals::SignalRows;
 use hcl_types::NameId;
 use y86_base::Image;
 use yis_run::End;

@@ -3,15 +3,14 @@ ghost use Rattle.std.specs.Prelude.{◌≡◌, refl};
 
 use crate::cycle::{AOK, update};
 use crate::path::Sequential;
-use crate::rows::{SEQ, SignalRows};
-use dp_signals::{SeqState, at, seq_row};
+use dp_signals::{SEQ, SeqState, SignalRows, at, seq_row};
 use hcl_types::NameId;
 use y86_base::{Image, Stat};
 use yis_run::End;
 
 impl Sequential for SeqState {
     ghost use Rattle.dp_signals.specs.SeqNames.{defined};
-    ghost use Rattle.dp_sequential.specs.Rows.{seq};
+    ghost use Rattle.dp_signals.specs.SequentialRows.{seq};
     ghost use Rattle.dp_sequential.specs.Seq.{seq_path};
     ghost use Rattle.dp_sequential.specs.SeqLaws.{seq_lawful};
 

@@ -11,10 +11,9 @@ ghost use Rattle.dp_sequential.specs.Cycle.{block_by, fetched_by, worked_by};
 ghost use Rattle.dp_sequential.specs.Path.{Solves, machine_at};
 
 use crate::path::Sequential;
-use crate::rows::SignalRows;
 use dp_signals::{
-    Hardware, at, cnd, dmem_error, fetch_ra, fetch_rb, fill, put_constant_words, reg_val, val_c,
-    val_e, val_m, val_p,
+    Hardware, SignalRows, at, cnd, dmem_error, fetch_ra, fetch_rb, fill, put_constant_words,
+    reg_val, val_c, val_e, val_m, val_p,
 };
 use hcl_types::{Design, NameId, Order, SignalEval};
 use std::marker::Model;

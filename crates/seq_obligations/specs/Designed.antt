@@ -5,6 +5,7 @@ use Rattle.nets.specs.Nets.{Gates}
 use Rattle.hcl_types.specs.declared.term.Term.{Term}
 use Rattle.dp_signals.specs.SeqNames as signal
 use Rattle.dp_signals.specs.SeqTable.{seq_rows, seq_state, seq_hardware, seq_defined}
+use Rattle.dp_signals.specs.SequentialTables.{control_rows}
 use Rattle.dp_signals.specs.Tables.{constant_rows}
 use Rattle.ctl_formula.specs.declared.controls.Entry.{Entry}
 use Rattle.ctl_formula.specs.Picks.{Covers}
@@ -17,7 +18,7 @@ use Rattle.seq_obligations.specs.Signals.{IsSeqReady, places}
 
 -- the signals of SEQ's table have control values
 pub ready_by : (vars : ℕ) (ctl : List Entry) → bit_count ≤ vars → Covers seq_rows ctl → IsSeqReady vars ctl
-unfolding seq_rows constant_rows seq_state seq_hardware seq_defined
+unfolding seq_rows constant_rows seq_state seq_hardware seq_defined control_rows
 ready_by vars ctl le c = record {
   shared = record {
     line = record { error = omega arith; icode = omega arith; four = refl; ifun = omega arith; r_a = omega arith; r_b = omega arith; cnd = omega arith; derror = omega arith };
@@ -51,7 +52,7 @@ unfolding fields_of
 spelt_at_places w = (refl, (refl, (refl, (refl, (refl, (refl, (refl, tt)))))))
 
 pub places_stand : (vars : ℕ) → bit_count ≤ vars → HavePlaces seq_rows places vars
-unfolding seq_rows constant_rows seq_state seq_hardware seq_defined
+unfolding seq_rows constant_rows seq_state seq_hardware seq_defined control_rows
 places_stand vars le = record {
   placed = refl;
   inside = ((omega arith, omega arith), ((omega arith, omega arith), ((omega arith, omega arith), ((omega arith, omega arith), ((omega arith, omega arith), ((omega arith, omega arith), ((omega arith, omega arith), tt)))))));

@@ -9,7 +9,7 @@ use Rattle.dp_signals.specs.SeqEquations.{SeqSolves}
 use Rattle.dp_signals.specs.SeqRun.{IsSeqCycle, SeqRunFrom}
 use Rattle.dp_signals.specs.SeqTable.{seq_rows}
 use Rattle.dp_sequential.specs.Path.{IsCycle, RunFrom}
-use Rattle.dp_sequential.specs.Rows.{seq}
+use Rattle.dp_signals.specs.SequentialRows.{seq}
 use Rattle.dp_sequential.specs.Seq.{seq_path}
 use Rattle.dp_sequential.proofs.Calls as calls
 use Rattle.dp_sequential.proofs.OneRun as one

@@ -32,7 +32,7 @@ use Rattle.dp_signals.specs.PipeEquations.{constants}
 use Rattle.dp_signals.specs.Tables.{constant_rows}
 use Rattle.dp_signals.proofs.Bits.{bit_lt}
 use Rattle.dp_sequential.specs.Cycle.{record_by, stepped}
-use Rattle.dp_sequential.specs.Table.{control_rows}
+use Rattle.dp_signals.specs.SequentialTables.{control_rows}
 use Rattle.net_fields.specs.FieldSpecs.{InRange}
 use Rattle.ctl_atoms.specs.declared.leaf.Leaf.{Leaf}
 use Rattle.ctl_formula.specs.Controls.{AreControls}

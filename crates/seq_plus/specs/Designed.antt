@@ -1,7 +1,7 @@
 -- What SEQ+'s rules stand on.
 use Rattle.std.proofs.Common.{◌≡◌, ℕ, ◌+◌, ◌≤◌, IsTrue, Bool, true, List, refl, arith}
 use Rattle.dp_signals.specs.Tables.{constant_rows}
-use Rattle.dp_sequential.specs.Table.{control_rows}
+use Rattle.dp_signals.specs.SequentialTables.{control_rows}
 use Rattle.ctl_formula.specs.declared.controls.Entry.{Entry}
 use Rattle.ctl_formula.specs.Picks.{Covers}
 use Rattle.ctl_formula.specs.Places.{HavePlaces, Spells}

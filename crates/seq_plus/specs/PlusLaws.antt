@@ -17,7 +17,7 @@ use Rattle.dp_signals.specs.Values.{bit}
 use Rattle.dp_signals.proofs.RowByRow.{by_row, Same, at_row, two, three}
 use Rattle.dp_sequential.specs.Cycle.{block_by, fetched_by, flags_by, memory_by, registers_by, worked_by}
 use Rattle.dp_sequential.specs.Laws.{IsSequential}
-use Rattle.dp_sequential.specs.Table.{control_rows}
+use Rattle.dp_signals.specs.SequentialTables.{control_rows}
 use Rattle.seq_plus.specs.PlusCycle.{plus_next, plus_record, previous_of}
 use Rattle.seq_plus.specs.PlusEquations.{plus_block, plus_given}
 use Rattle.seq_plus.specs.PlusNames as row

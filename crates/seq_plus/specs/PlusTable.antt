@@ -5,7 +5,7 @@ use Rattle.hcl_types.specs.declared.table.Class.TheVariants.{Code, Value, Truth}
 use Rattle.hcl_types.specs.declared.table.Role.TheVariants.{State, Defined}
 use Rattle.hcl_types.specs.declared.table.Row.{Row}
 use Rattle.dp_signals.specs.Tables.{constant_rows, signal}
-use Rattle.dp_sequential.specs.Table.{control_rows, hardware_rows}
+use Rattle.dp_signals.specs.SequentialTables.{control_rows, hardware_rows}
 use Rattle.seq_plus.specs.PlusNames.{plus}
 
 -- what the state holds as a cycle begins

@@ -2,7 +2,7 @@
 use Rattle.std.proofs.Common.{refl, arith}
 use Rattle.hcl_types.specs.Tables.{IsSound}
 use Rattle.dp_signals.specs.Tables.{constant_rows}
-use Rattle.dp_sequential.specs.Table.{control_rows}
+use Rattle.dp_signals.specs.SequentialTables.{control_rows}
 use Rattle.dp_signals.proofs.Sound.{sound, is_among, are_apart, inside_test, numbers_test, same_test}
 use Rattle.seq_plus.specs.PlusTable.{plus_rows, plus_state, plus_hardware, plus_defined}
 

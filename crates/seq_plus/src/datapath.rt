@@ -3,8 +3,8 @@ ghost use Rattle.std.specs.Prelude.{refl};
 
 use crate::row::{self, PLUS};
 use crate::state::{PlusState, PreviousInstruction};
-use dp_sequential::{AOK, Sequential, SequentialMachine, SignalRows, update};
-use dp_signals::at;
+use dp_sequential::{AOK, Sequential, SequentialMachine, update};
+use dp_signals::{SignalRows, at};
 use hcl_types::NameId;
 use y86_base::{Image, Stat};
 use y86_isa::Machine;

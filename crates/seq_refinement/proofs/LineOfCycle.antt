@@ -10,7 +10,7 @@ use Rattle.y86_isa.specs.declared.columns.MemoryColumn.{MemoryColumn}
 use Rattle.y86_isa.specs.declared.columns.MemoryColumn.TheVariants.{NoMem, StoreA, StoreP, LoadE, LoadA}
 use Rattle.y86_isa.specs.declared.machine.Machine.{Machine}
 use Rattle.dp_signals.specs.Values.{bit}
-use Rattle.dp_sequential.specs.declared.rows.SignalRows.{SignalRows}
+use Rattle.dp_signals.specs.declared.sequential_rows.SignalRows.{SignalRows}
 use Rattle.ctl_atoms.specs.declared.leaf.Leaf.{Leaf}
 use Rattle.ctl_formula.specs.Laws.{real_assignment}
 use Rattle.seq_obligations.specs.Obligations.{shared_demand}

@@ -6,7 +6,7 @@ use Rattle.y86_base.specs.declared.parts.Variant.{Variant}
 use Rattle.y86_isa.specs.Blocks.{reading, field_a, field_b, constant_at, behind, alu_value, condition, data_read, data_error}
 use Rattle.y86_isa.specs.declared.machine.Machine.{Machine}
 use Rattle.dp_signals.specs.Values.{bit}
-use Rattle.dp_sequential.specs.declared.rows.SignalRows.{SignalRows}
+use Rattle.dp_signals.specs.declared.sequential_rows.SignalRows.{SignalRows}
 
 pub record HasHardware (r : SignalRows) (v : Variant) (m : Machine) (f : ℕ → ℕ) : Type 0 where
   pub imem_icode : f r.imem_icode ≡ (reading v m.mem m.pc).icode

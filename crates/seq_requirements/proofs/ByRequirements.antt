@@ -15,7 +15,7 @@ use Rattle.findings.specs.Requirements.{is_met}
 use Rattle.findings.proofs.EachMet.{one, two, if_both, guarded, excused, some_is}
 use Rattle.seq_obligations.specs.Fields as seq
 use Rattle.seq_obligations.specs.Obligations.{demand_at as seq_demand_at, faulted, shared_demand}
-use Rattle.dp_sequential.specs.declared.rows.SignalRows.{SignalRows}
+use Rattle.dp_signals.specs.declared.sequential_rows.SignalRows.{SignalRows}
 use Rattle.seq_plus.specs.Fields as plus
 use Rattle.seq_plus.specs.Obligations.{demand_at as plus_demand_at}
 use Rattle.seq_plus.specs.PlusNames as plus_row

@@ -9,7 +9,7 @@ use Rattle.dp_signals.specs.SeqNames as seq_row
 use Rattle.dp_signals.specs.SeqTable.{seq_rows}
 use Rattle.seq_obligations.specs.Fields as seq
 use Rattle.seq_obligations.specs.Obligations as seq_rule
-use Rattle.dp_sequential.specs.declared.rows.SignalRows.{SignalRows}
+use Rattle.dp_signals.specs.declared.sequential_rows.SignalRows.{SignalRows}
 use Rattle.seq_plus.specs.Fields as plus
 use Rattle.seq_plus.specs.Obligations as plus_rule
 use Rattle.seq_plus.specs.PlusNames as plus_row

@@ -3,8 +3,7 @@ ghost use Rattle.std.specs.Prelude.{◌≡◌, IfOk};
 ghost use Rattle.net_fields.specs.FieldSpecs.{total};
 ghost use Rattle.seq_requirements.specs.Datapaths as spec;
 
-use dp_sequential::{SEQ, SignalRows};
-use dp_signals::{seq_row, seq_table};
+use dp_signals::{SEQ, SignalRows, seq_row, seq_table};
 use hcl_types::{NameId, Table};
 use net_fields::FieldSpec;
 use seq_obligations::{BIT_COUNT, PLUS_BIT_COUNT};

@@ -10,8 +10,7 @@ use crate::datapath::{Datapath, signals_of};
 use crate::lines::{LineNow, line_of, previous_of};
 use ctl_atoms::Leaf;
 use ctl_rules::{address_leaf, operand_leaf_a, operand_leaf_b, word_leaf};
-use dp_sequential::SignalRows;
-use dp_signals::seq_row;
+use dp_signals::{SignalRows, seq_row};
 use findings::{
     Requirement, alu_function, destination_e, fetched_status, put_number, put_some, put_truth,
     register_number, set,

@@ -1,8 +1,8 @@
 -- The signals of a cycle that SEQ and SEQ+ share, by their names, and where the words of some of them come from.
 use Rattle.std.specs.Prelude.{ℕ, List}
 use Rattle.dp_signals.specs.SeqNames as seq
-use Rattle.dp_sequential.specs.Rows.{seq as seq_at}
-use Rattle.dp_sequential.specs.declared.rows.SignalRows.{SignalRows}
+use Rattle.dp_signals.specs.SequentialRows.{seq as seq_at}
+use Rattle.dp_signals.specs.declared.sequential_rows.SignalRows.{SignalRows}
 use Rattle.hcl_types.specs.declared.table.Row.{Row}
 use Rattle.hcl_types.specs.declared.term.Term.{Term}
 use Rattle.seq_plus.specs.PlusNames as plus

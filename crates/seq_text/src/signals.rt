@@ -3,8 +3,7 @@ ghost use Rattle.std.specs.Prelude.{◌≡◌};
 ghost use Rattle.hcl_types.specs.Terms.{at};
 ghost use Rattle.seq_text.specs.Signals as text;
 
-use dp_sequential::{SEQ, SignalRows};
-use dp_signals::{at, seq_row};
+use dp_signals::{SEQ, SignalRows, at, seq_row};
 use hcl_types::{Design, Row};
 use pipe_stage_text::source;
 use seq_plus::row::PLUS;

@@ -1,4 +1,4 @@
-use Rattle.dp_sequential.specs.Rows.{seq}
+use Rattle.dp_signals.specs.SequentialRows.{seq}
 use Rattle.dp_sequential.specs.Seq.{seq_path}
 use Rattle.dp_sequential.specs.SeqLaws.{seq_lawful}
 use Rattle.dp_sequential.proofs.Rules.{state_put}

@@ -4,7 +4,7 @@ use Rattle.hcl_types.specs.declared.table.Class.TheVariants.{Code, Value, Truth}
 use Rattle.hcl_types.specs.declared.table.Role.TheVariants.{Hardware, Defined}
 use Rattle.hcl_types.specs.declared.table.Row.{Row}
 use Rattle.dp_signals.specs.Tables.{constant_rows, signal, signals}
-use Rattle.dp_sequential.specs.declared.rows.SignalRows.{SignalRows}
+use Rattle.dp_signals.specs.declared.sequential_rows.SignalRows.{SignalRows}
 
 -- what hardware computes, with the rows that it depends on: what is read behind the first byte depends on these rows too
 abbrev pub hardware_rows : SignalRows → List ℕ → List Row

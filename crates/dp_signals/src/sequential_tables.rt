@@ -1,9 +1,9 @@
 //! The tables of signals of sequential datapaths.
 ghost use Rattle.std.specs.Prelude.{◌≡◌, ◌++◌, IfOk, OnOk, map};
 ghost use Rattle.dp_signals.specs.Lines.{row_of};
-ghost use Rattle.dp_sequential.specs.Table as spec;
+ghost use Rattle.dp_signals.specs.SequentialTables as spec;
 
-use dp_signals::{RowSource, TableRow, put_constants, put_lines};
+use crate::tables::{RowSource, TableRow, put_constants, put_lines};
 use hcl_types::{Class, Row, Table};
 use std::alloc::Global;
 use y86_base::{Items, Memory};
@@ -53,7 +53,7 @@ static CONTROL: &[TableRow] = &[
 ];
 
 /// Adds the rows of what a file defines of the instruction.
-#[tactic(auto, unfolding(crate::specs::Table::control_rows))]
+#[tactic(auto, unfolding(crate::specs::SequentialTables::control_rows))]
 fn put_control(alloc: Global, rows: &mut Vec<Row>) -> Result<(), Memory>
     ensures { OnOk result (rows.new.items ≡ rows.old.items ++ spec.control_rows) }
 {

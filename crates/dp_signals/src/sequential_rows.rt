@@ -1,5 +1,5 @@
 //! Where the signals of a sequential datapath stand in its table.
-use dp_signals::seq_row;
+use crate::seq_row;
 use hcl_types::NameId;
 
 /// The rows of the signals that all sequential datapaths have.

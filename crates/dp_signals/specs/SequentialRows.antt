@@ -1,7 +1,7 @@
 -- Where the signals of a sequential datapath stand in its table.
 use Rattle.std.specs.Prelude.{ℕ, ◌+◌}
 use Rattle.dp_signals.specs.SeqNames as signal
-use Rattle.dp_sequential.specs.declared.rows.SignalRows.{SignalRows}
+use Rattle.dp_signals.specs.declared.sequential_rows.SignalRows.{SignalRows}
 
 -- the rows of a table where pc stands in a row of its own, and what hardware computes and what a file defines of the instruction stand
 -- one behind the other, from these rows on
