@@ -357,8 +357,17 @@ def test_iaddq(at):
 
 def test_stale(at):
     at.do("(() => { const it = one('#hcl textarea'); it.value += '#'; it.dispatchEvent(new Event('input', { bubbles: true })); })()")
-    assert at.do("['verdict', 'outcome', 'shown'].every((id) => el(id).classList.contains('stale'))")
+    assert at.do("['verdict', 'outcome', 'shown', 'panel-no', 'panel-steps'].every((id) => el(id).classList.contains('stale'))")
     at.settle()
+    assert not at.do("Boolean(one('.stale'))")
+
+
+def test_stale_after_a_change_of_the_program(at):
+    """A refusal doesn't depend on the program; the list of steps does."""
+    at.do("(() => { const it = one('#ys textarea'); it.value += '#'; it.dispatchEvent(new Event('input', { bubbles: true })); })()")
+    same(at.do("['panel-no', 'panel-steps'].map((id) => el(id).classList.contains('stale'))"), [False, True])
+    at.settle()
+    assert not at.do("Boolean(one('.stale'))")
 
 
 # Workers whose answers can be held back: of each worker the one of this number since the round began. (A run has seven.)

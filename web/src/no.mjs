@@ -1,5 +1,5 @@
 // Why not every program: the refusal in its panel, and the marks in the file.
-import { escaped, lineAt } from "./dom.mjs";
+import { by, escaped, lineAt } from "./dom.mjs";
 import { noFault, showFaults } from "./fault_view.mjs";
 import { drawRefusal } from "./refusal.mjs";
 import { on, state } from "./state.mjs";
@@ -47,7 +47,9 @@ function showNo(verdict) {
 
 export function wireNo() {
   on("why", () => tab("no"));
+  on("stale", (which) => which === "hcl" && by("panel-no").classList.add("stale"));
   on("verdict", () => {
+    by("panel-no").classList.remove("stale");
     const it = state.verdict;
     editors.hcl.show([], []);
     if (it.kind === "fault") showFaults("hcl", it.faults);

@@ -52,7 +52,11 @@ function show() {
 }
 
 export function wireSteps() {
-  on("run", () => state.tab === "steps" && show());
+  on("stale", () => by("panel-steps").classList.add("stale"));
+  on("run", () => {
+    by("panel-steps").classList.remove("stale");
+    if (state.tab === "steps") show();
+  });
   on("tab", (name) => name === "steps" && show());
   by("panel-steps").addEventListener("click", (event) => {
     const button = event.target.closest("[data-record]");

@@ -13,78 +13,45 @@ use hcl_types::{NameId, Row, Term};
 use pipe_diagnosis::{Refusal, Refutation};
 use pipe_requirements::{Lines, RegisterControlNow, StageFlowNow};
 use std::alloc::{AllocError, Global};
+use verdict_text::{
+    ShownNumber, decode_numbers, execute_numbers, fetch_numbers, memory_numbers, write_numbers,
+};
 use y86_base::Variant;
 
-fn put_fetch_and_decode(out: &mut Out, l: &Lines) -> Result<(), AllocError> {
-    out.key("F")?;
-    out.begin_object()?;
-    put_number(out, "error", l.f.error)?;
-    put_number(out, "icode", l.f.icode)?;
-    put_number(out, "ifun", l.f.ifun)?;
-    put_number(out, "taken", l.f.taken)?;
-    put_number(out, "stops", l.f.stops)?;
-    put_number(out, "back", l.f.back)?;
-    out.end_object()?;
-    out.key("D")?;
-    out.begin_object()?;
-    put_text(out, "kind", kind_name(l.d.kind))?;
-    put_number(out, "stat", l.d.stat)?;
-    put_number(out, "icode", l.d.icode)?;
-    put_number(out, "ifun", l.d.ifun)?;
-    put_number(out, "rA", l.d.r_a)?;
-    put_number(out, "rB", l.d.r_b)?;
-    put_number(out, "taken", l.d.taken)?;
-    put_number(out, "stops", l.d.stops)?;
-    put_number(out, "back", l.d.back)?;
-    out.end_object()
+/// Writes the numbers of a line.
+fn put_numbers(out: &mut Out, numbers: &[ShownNumber]) -> Result<(), AllocError> {
+    for it in numbers {
+        put_number(out, it.label, it.number)?;
+    }
+    Ok(())
 }
 
-fn put_execute(out: &mut Out, l: &Lines) -> Result<(), AllocError> {
-    out.key("E")?;
+/// Writes the line of a stage that holds something of this kind.
+fn put_stage(
+    out: &mut Out,
+    letter: &str,
+    kind: u64,
+    numbers: &[ShownNumber],
+) -> Result<(), AllocError> {
+    out.key(letter)?;
     out.begin_object()?;
-    put_text(out, "kind", kind_name(l.e.kind))?;
-    put_number(out, "stat", l.e.stat)?;
-    put_number(out, "icode", l.e.icode)?;
-    put_number(out, "ifun", l.e.ifun)?;
-    put_number(out, "dstE", l.e.dst_e)?;
-    put_number(out, "dstM", l.e.dst_m)?;
-    put_number(out, "srcA", l.e.src_a)?;
-    put_number(out, "srcB", l.e.src_b)?;
-    put_number(out, "cnd", l.e.cnd)?;
-    put_number(out, "stops", l.e.stops)?;
-    put_number(out, "back", l.e.back)?;
-    out.end_object()
-}
-
-fn put_memory_and_write(out: &mut Out, l: &Lines) -> Result<(), AllocError> {
-    out.key("M")?;
-    out.begin_object()?;
-    put_text(out, "kind", kind_name(l.m.kind))?;
-    put_number(out, "stat", l.m.stat)?;
-    put_number(out, "icode", l.m.icode)?;
-    put_number(out, "ifun", l.m.ifun)?;
-    put_number(out, "dstE", l.m.dst_e)?;
-    put_number(out, "dstM", l.m.dst_m)?;
-    put_number(out, "cnd", l.m.cnd)?;
-    put_number(out, "error", l.m.error)?;
-    put_number(out, "back", l.m.back)?;
-    out.end_object()?;
-    out.key("W")?;
-    out.begin_object()?;
-    put_text(out, "kind", kind_name(l.w.kind))?;
-    put_number(out, "stat", l.w.stat)?;
-    put_number(out, "icode", l.w.icode)?;
-    put_number(out, "dstE", l.w.dst_e)?;
-    put_number(out, "dstM", l.w.dst_m)?;
+    put_text(out, "kind", kind_name(kind))?;
+    put_numbers(out, numbers)?;
     out.end_object()
 }
 
 fn put_situation(out: &mut Out, scene: &Scene<'_>, l: &Lines) -> Result<(), AllocError> {
+    let bits = scene.values.bits;
     out.key("counterexample")?;
     out.begin_object()?;
-    put_fetch_and_decode(out, l)?;
-    put_execute(out, l)?;
-    put_memory_and_write(out, l)?;
+    out.key("F")?;
+    out.begin_object()?;
+    put_numbers(out, &fetch_numbers(bits))?;
+    out.end_object()?;
+    put_stage(out, "D", l.d.kind, &decode_numbers(bits))?;
+    put_stage(out, "E", l.e.kind, &execute_numbers(bits))?;
+    put_stage(out, "M", l.m.kind, &memory_numbers(bits))?;
+    put_stage(out, "W", l.w.kind, &write_numbers(bits))?;
     put_comparison_facts(out, &scene.values)?;
     out.end_object()
 }

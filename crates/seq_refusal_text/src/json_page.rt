@@ -1,38 +1,34 @@
 //! A refusal as JSON: the same facts as its page, with the names that the JSON of PIPE has.
-use crate::scene::{before, first_to_mend, obligation_of, values_of};
+use crate::scene::{first_to_mend, obligation_of, values_of};
 use finding_text::{
     CasePlace, Out, Values, put_comparison_facts, put_finding_facts, put_mend_first, put_number,
     put_obligation_facts, put_text,
 };
 use hcl_types::{Row, Term};
 use seq_diagnosis::{Refusal, Refutation};
-use seq_requirements::{Datapath, LineNow, line_of};
+use seq_requirements::Datapath;
 use std::alloc::{AllocError, Global};
+use verdict_text::{ShownNumber, plus_numbers, previous_numbers, seq_numbers};
 
-fn put_line(out: &mut Out, line: &LineNow) -> Result<(), AllocError> {
-    out.key("S")?;
+fn put_line(out: &mut Out, letter: &str, numbers: &[ShownNumber]) -> Result<(), AllocError> {
+    out.key(letter)?;
     out.begin_object()?;
-    put_number(out, "error", line.error)?;
-    put_number(out, "icode", line.icode)?;
-    put_number(out, "ifun", line.ifun)?;
-    put_number(out, "rA", line.r_a)?;
-    put_number(out, "rB", line.r_b)?;
-    put_number(out, "cnd", line.cnd)?;
-    put_number(out, "derror", line.derror)?;
+    for it in numbers {
+        put_number(out, it.label, it.number)?;
+    }
     out.end_object()
 }
 
 fn put_situation(out: &mut Out, which: Datapath, values: &Values<'_>) -> Result<(), AllocError> {
     out.key("counterexample")?;
     out.begin_object()?;
-    if let Some(previous) = before(which, values.bits) {
-        out.key("P")?;
-        out.begin_object()?;
-        put_number(out, "icode", previous.icode)?;
-        put_number(out, "cnd", previous.cnd)?;
-        out.end_object()?;
+    match which {
+        Datapath::Seq => put_line(out, "S", &seq_numbers(values.bits))?,
+        Datapath::Plus => {
+            put_line(out, "P", &previous_numbers(values.bits))?;
+            put_line(out, "S", &plus_numbers(values.bits))?;
+        }
     }
-    put_line(out, &line_of(which, values.bits))?;
     put_comparison_facts(out, values)?;
     out.end_object()
 }

@@ -1,8 +1,8 @@
--- Labels with numbers behind them.
-use Rattle.std.specs.Prelude.{ℕ, List, [], ◌∷◌, ◌++◌}
+-- Numbers behind their labels.
+use Rattle.std.specs.Prelude.{ℕ, codes, List, [], ◌∷◌, ◌++◌}
 use Rattle.y86_base.specs.Numeral.{numeral}
 
--- a text, and the number that stands behind it
+-- a label, and the number that stands behind it
 pub record Labelled : Type 0 where
   pub label : List ℕ
   pub number : ℕ
@@ -10,7 +10,11 @@ pub record Labelled : Type 0 where
 abbrev pub field : List ℕ → ℕ → Labelled
 field label n = record { label = label; number = n }
 
--- each label with its number in decimal
+-- each label with its number in decimal, as " icode=6"
 abbrev pub labelled : List Labelled → List ℕ
 labelled [] = []
-labelled (x ∷ xs) = (x.label ++ numeral 10 1 x.number) ++ labelled xs
+labelled (x ∷ xs) = (codes " " ++ x.label ++ codes "=" ++ numeral 10 1 x.number) ++ labelled xs
+
+-- a line: how it begins, and its numbers
+unfoldable pub labelled_line : List ℕ → List Labelled → List ℕ
+labelled_line beginning numbers = beginning ++ labelled numbers ++ codes "\n"

@@ -4,30 +4,30 @@ use Rattle.y86_base.specs.Numeral.{numeral}
 use Rattle.ctl_atoms.specs.declared.leaf.Atom.{Atom}
 use Rattle.seq_obligations.specs.Fields.{Fields, bit_count, fields_of, plus_bit_count}
 use Rattle.verdict_text.specs.Atoms.{atoms_line}
-use Rattle.verdict_text.specs.Fields.{field, labelled}
+use Rattle.verdict_text.specs.Fields.{Labelled, field, labelled_line}
 
-unfoldable pub seq_line : Fields → List ℕ
-seq_line c =
-    labelled
-    (field (codes "S error=") c.error
-    ∷ field (codes " icode=") c.icode
-    ∷ field (codes " ifun=") c.ifun
-    ∷ field (codes " rA=") c.r_a
-    ∷ field (codes " rB=") c.r_b
-    ∷ field (codes " cnd=") c.cnd
-    ∷ field (codes " derror=") c.derror
-    ∷ [])
-    ++ codes "\n"
+-- the numbers of the line S
+unfoldable pub seq_numbers : Fields → List Labelled
+seq_numbers c =
+    field (codes "error") c.error
+    ∷ field (codes "icode") c.icode
+    ∷ field (codes "ifun") c.ifun
+    ∷ field (codes "rA") c.r_a
+    ∷ field (codes "rB") c.r_b
+    ∷ field (codes "cnd") c.cnd
+    ∷ field (codes "derror") c.derror
+    ∷ []
 
--- the line P of SEQ+: the icode of the instruction before, and whether its condition held
-unfoldable pub previous_line : ℕ → ℕ → List ℕ
-previous_line icode cnd = labelled (field (codes "P icode=") icode ∷ field (codes " cnd=") cnd ∷ []) ++ codes "\n"
+-- those of the line P of SEQ+: the icode of the instruction before, and whether its condition held
+unfoldable pub previous_numbers : ℕ → ℕ → List Labelled
+previous_numbers icode cnd = field (codes "icode") icode ∷ field (codes "cnd") cnd ∷ []
 
 -- names are those of the rows of SEQ's table, w is the falsifying valuation
 unfoldable pub seq_no : List (List ℕ) → ℕ → List Bool → List Atom → List ℕ
-seq_no names rule w atoms = codes "no S" ++ numeral 10 1 rule ++ codes "\n" ++ seq_line (fields_of w) ++ atoms_line names w bit_count atoms
+seq_no names rule w atoms = codes "no S" ++ numeral 10 1 rule ++ codes "\n" ++ labelled_line (codes "S") (seq_numbers (fields_of w)) ++ atoms_line names w bit_count atoms
 
 -- the same of SEQ+, with the numbers of its line P and the fields of its line S
 unfoldable pub plus_no : List (List ℕ) → ℕ → ℕ → ℕ → Fields → List Bool → List Atom → List ℕ
 plus_no names rule icode cnd c w atoms =
-    codes "no S" ++ numeral 10 1 rule ++ codes "\n" ++ previous_line icode cnd ++ seq_line c ++ atoms_line names w plus_bit_count atoms
+    codes "no S" ++ numeral 10 1 rule ++ codes "\n" ++ labelled_line (codes "P") (previous_numbers icode cnd) ++ labelled_line (codes "S") (seq_numbers c)
+    ++ atoms_line names w plus_bit_count atoms

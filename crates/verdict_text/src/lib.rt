@@ -6,5 +6,9 @@ mod numbers;
 mod pipe;
 mod seq;
 
-pub use pipe::{pipe_acceptance, pipe_refusal};
-pub use seq::{plus_refusal, seq_refusal};
+pub use numbers::ShownNumber;
+pub use pipe::{
+    decode_numbers, execute_numbers, fetch_numbers, memory_numbers, pipe_acceptance, pipe_refusal,
+    write_numbers,
+};
+pub use seq::{plus_numbers, plus_refusal, previous_numbers, seq_numbers, seq_refusal};

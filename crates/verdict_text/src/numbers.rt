@@ -1,8 +1,9 @@
 //! Texts of labels and numbers.
-ghost use Rattle.std.specs.Prelude.{◌≡◌, ◌≤◌, ◌++◌, false, get_or, OnOk};
+ghost use Rattle.std.specs.Prelude.{◌≡◌, ◌≤◌, ◌++◌, codes, false, get_or, OnOk};
+ghost use Rattle.y86_base.specs.Numeral.{numeral};
 ghost use Rattle.net_fields.specs.Spelling.{bit, spelt};
 ghost use Rattle.hcl_read.specs.Print.{signed_decimal};
-ghost use Rattle.verdict_text.specs.Fields.{labelled};
+ghost use Rattle.verdict_text.specs.Fields.{labelled, labelled_line};
 ghost use Rattle.verdict_text.specs.Views.{IsNear, shown};
 
 use net_fields::BitRange;
@@ -45,10 +46,10 @@ fn number(bits: &[bool], first: usize, count: usize) -> u64
     n
 }
 
-/// A label, and the number behind it.
+/// The label of a field, and its number.
 #[derive(Clone, Copy)]
-pub(crate) struct ShownNumber {
-    pub label: &'static [u8],
+pub struct ShownNumber {
+    pub label: &'static str,
     pub number: u64,
 }
 
@@ -61,7 +62,7 @@ pub(crate) fn number_at(bits: &[bool], place: BitRange) -> u64
 }
 
 /// A label with the number of a field.
-pub(crate) fn shown_at(label: &'static [u8], bits: &[bool], place: BitRange) -> ShownNumber
+pub(crate) fn shown_at(label: &'static str, bits: &[bool], place: BitRange) -> ShownNumber
     requires near { IsNear place }
     ensures label { result.label.now ≡ label.now }
     ensures number { result.number ≡ spelt bits.now place.first place.bits }
@@ -72,19 +73,39 @@ pub(crate) fn shown_at(label: &'static [u8], bits: &[bool], place: BitRange) -> 
     }
 }
 
+/// Puts a label and its number.
+fn put_number(out: &mut Vec<u8>, it: ShownNumber) -> Result<(), Memory>
+    ensures { OnOk result (out.new.items ≡ out.old.items ++ codes " " ++ it.label.now ++ codes "=" ++ numeral 10 1 it.number) }
+{
+    put(out, b" ")?;
+    put(out, it.label.as_bytes())?;
+    put(out, b"=")?;
+    put(out, Numeral::decimal(it.number).as_bytes())
+}
+
 /// Puts labels, each with its number.
-pub(crate) fn put_numbers(out: &mut Vec<u8>, numbers: &[ShownNumber]) -> Result<(), Memory>
+fn put_numbers(out: &mut Vec<u8>, numbers: &[ShownNumber]) -> Result<(), Memory>
     ensures { OnOk result (out.new.items ≡ out.old.items ++ labelled (shown numbers.now)) }
 {
     for it in numbers {
-        match put(out, it.label) {
-            Ok(()) => {}
-            Err(_) => return Err(Memory),
-        }
-        match put(out, Numeral::decimal(it.number).as_bytes()) {
+        match put_number(out, *it) {
             Ok(()) => {}
             Err(_) => return Err(Memory),
         }
     }
     Ok(())
+}
+
+/// Puts a line: how it begins, and its numbers.
+#[tactic(auto, unfolding(crate::specs::Fields::labelled_line))]
+pub(crate) fn put_line(
+    out: &mut Vec<u8>,
+    beginning: &[u8],
+    numbers: &[ShownNumber],
+) -> Result<(), Memory>
+    ensures { OnOk result (out.new.items ≡ out.old.items ++ labelled_line beginning.now (shown numbers.now)) }
+{
+    put(out, beginning)?;
+    put_numbers(out, numbers)?;
+    put(out, b"\n")
 }

@@ -2,10 +2,13 @@
 ghost use Rattle.std.specs.Prelude.{◌≡◌, ◌≤◌, ◌++◌, IfOk, OnOk, length};
 ghost use Rattle.hcl_types.specs.Tables.{row_names};
 ghost use Rattle.pipe_fields.specs.Layout.{fields_of};
-ghost use Rattle.verdict_text.specs.PipeLines.{decode_line, digit, digits, execute_line, fetch_line, kind_word, memory_line, pipe_lines, pipe_no, pipe_yes, write_line};
+ghost use Rattle.verdict_text.specs.Fields.{labelled_line};
+ghost use Rattle.verdict_text.specs.PipeLines as spec;
+ghost use Rattle.verdict_text.specs.PipeLines.{digit, digits, kind_word, pipe_lines, pipe_no, pipe_yes};
+ghost use Rattle.verdict_text.specs.Views.{shown};
 
 use crate::atoms::put_atoms;
-use crate::numbers::{number_at, put_numbers, shown_at};
+use crate::numbers::{ShownNumber, number_at, put_line, shown_at};
 use ctl_atoms::Atom;
 use hcl_types::Row;
 use nets::Valuation;
@@ -27,115 +30,115 @@ fn word_of(kind: u64) -> &'static [u8]
     }
 }
 
-/// Puts the line F of a valuation.
-#[tactic(auto, unfolding(crate::specs::PipeLines::fetch_line, pipe_fields::specs::Layout::fields_of))]
-fn put_fetch(out: &mut Vec<u8>, bits: &[bool]) -> Result<(), Memory>
-    ensures { OnOk result (out.new.items ≡ out.old.items ++ fetch_line (fields_of bits.now).f) }
+/// The numbers of the line F of a valuation.
+#[tactic(auto, unfolding(crate::specs::PipeLines::fetch_numbers, pipe_fields::specs::Layout::fields_of))]
+pub fn fetch_numbers(bits: &[bool]) -> [ShownNumber; 6]
+    ensures { shown result ≡ spec.fetch_numbers (fields_of bits.now).f }
 {
-    let numbers = [
-        shown_at(b"F error=", bits, place::F_ERROR),
-        shown_at(b" icode=", bits, place::F_ICODE),
-        shown_at(b" ifun=", bits, place::F_IFUN),
-        shown_at(b" taken=", bits, place::F_TAKEN),
-        shown_at(b" stops=", bits, place::F_STOPS),
-        shown_at(b" back=", bits, place::F_BACK),
-    ];
-    put_numbers(out, &numbers)?;
-    put(out, b"\n")
+    [
+        shown_at("error", bits, place::F_ERROR),
+        shown_at("icode", bits, place::F_ICODE),
+        shown_at("ifun", bits, place::F_IFUN),
+        shown_at("taken", bits, place::F_TAKEN),
+        shown_at("stops", bits, place::F_STOPS),
+        shown_at("back", bits, place::F_BACK),
+    ]
 }
 
-/// Puts the line D of a valuation.
-#[tactic(auto, unfolding(crate::specs::PipeLines::decode_line, pipe_fields::specs::Layout::fields_of))]
-fn put_decode(out: &mut Vec<u8>, bits: &[bool]) -> Result<(), Memory>
-    ensures { OnOk result (out.new.items ≡ out.old.items ++ decode_line (fields_of bits.now).d) }
+/// The numbers of the line D of a valuation.
+#[tactic(auto, unfolding(crate::specs::PipeLines::decode_numbers, pipe_fields::specs::Layout::fields_of))]
+pub fn decode_numbers(bits: &[bool]) -> [ShownNumber; 8]
+    ensures { shown result ≡ spec.decode_numbers (fields_of bits.now).d }
 {
-    put(out, b"D")?;
-    put(out, word_of(number_at(bits, place::D_KIND)))?;
-    let numbers = [
-        shown_at(b" stat=", bits, place::D_STAT),
-        shown_at(b" icode=", bits, place::D_ICODE),
-        shown_at(b" ifun=", bits, place::D_IFUN),
-        shown_at(b" rA=", bits, place::D_R_A),
-        shown_at(b" rB=", bits, place::D_R_B),
-        shown_at(b" taken=", bits, place::D_TAKEN),
-        shown_at(b" stops=", bits, place::D_STOPS),
-        shown_at(b" back=", bits, place::D_BACK),
-    ];
-    put_numbers(out, &numbers)?;
-    put(out, b"\n")
+    [
+        shown_at("stat", bits, place::D_STAT),
+        shown_at("icode", bits, place::D_ICODE),
+        shown_at("ifun", bits, place::D_IFUN),
+        shown_at("rA", bits, place::D_R_A),
+        shown_at("rB", bits, place::D_R_B),
+        shown_at("taken", bits, place::D_TAKEN),
+        shown_at("stops", bits, place::D_STOPS),
+        shown_at("back", bits, place::D_BACK),
+    ]
 }
 
-/// Puts the line E of a valuation.
-#[tactic(auto, unfolding(crate::specs::PipeLines::execute_line, pipe_fields::specs::Layout::fields_of))]
-fn put_execute(out: &mut Vec<u8>, bits: &[bool]) -> Result<(), Memory>
-    ensures { OnOk result (out.new.items ≡ out.old.items ++ execute_line (fields_of bits.now).e) }
+/// The numbers of the line E of a valuation.
+#[tactic(auto, unfolding(crate::specs::PipeLines::execute_numbers, pipe_fields::specs::Layout::fields_of))]
+pub fn execute_numbers(bits: &[bool]) -> [ShownNumber; 10]
+    ensures { shown result ≡ spec.execute_numbers (fields_of bits.now).e }
 {
-    put(out, b"E")?;
-    put(out, word_of(number_at(bits, place::E_KIND)))?;
-    let numbers = [
-        shown_at(b" stat=", bits, place::E_STAT),
-        shown_at(b" icode=", bits, place::E_ICODE),
-        shown_at(b" ifun=", bits, place::E_IFUN),
-        shown_at(b" dstE=", bits, place::E_DST_E),
-        shown_at(b" dstM=", bits, place::E_DST_M),
-        shown_at(b" srcA=", bits, place::E_SRC_A),
-        shown_at(b" srcB=", bits, place::E_SRC_B),
-        shown_at(b" cnd=", bits, place::E_CND),
-        shown_at(b" stops=", bits, place::E_STOPS),
-        shown_at(b" back=", bits, place::E_BACK),
-    ];
-    put_numbers(out, &numbers)?;
-    put(out, b"\n")
+    [
+        shown_at("stat", bits, place::E_STAT),
+        shown_at("icode", bits, place::E_ICODE),
+        shown_at("ifun", bits, place::E_IFUN),
+        shown_at("dstE", bits, place::E_DST_E),
+        shown_at("dstM", bits, place::E_DST_M),
+        shown_at("srcA", bits, place::E_SRC_A),
+        shown_at("srcB", bits, place::E_SRC_B),
+        shown_at("cnd", bits, place::E_CND),
+        shown_at("stops", bits, place::E_STOPS),
+        shown_at("back", bits, place::E_BACK),
+    ]
 }
 
-/// Puts the line M of a valuation.
-#[tactic(auto, unfolding(crate::specs::PipeLines::memory_line, pipe_fields::specs::Layout::fields_of))]
-fn put_memory(out: &mut Vec<u8>, bits: &[bool]) -> Result<(), Memory>
-    ensures { OnOk result (out.new.items ≡ out.old.items ++ memory_line (fields_of bits.now).m) }
+/// The numbers of the line M of a valuation.
+#[tactic(auto, unfolding(crate::specs::PipeLines::memory_numbers, pipe_fields::specs::Layout::fields_of))]
+pub fn memory_numbers(bits: &[bool]) -> [ShownNumber; 8]
+    ensures { shown result ≡ spec.memory_numbers (fields_of bits.now).m }
 {
-    put(out, b"M")?;
-    put(out, word_of(number_at(bits, place::M_KIND)))?;
-    let numbers = [
-        shown_at(b" stat=", bits, place::M_STAT),
-        shown_at(b" icode=", bits, place::M_ICODE),
-        shown_at(b" ifun=", bits, place::M_IFUN),
-        shown_at(b" dstE=", bits, place::M_DST_E),
-        shown_at(b" dstM=", bits, place::M_DST_M),
-        shown_at(b" cnd=", bits, place::M_CND),
-        shown_at(b" error=", bits, place::M_ERROR),
-        shown_at(b" back=", bits, place::M_BACK),
-    ];
-    put_numbers(out, &numbers)?;
-    put(out, b"\n")
+    [
+        shown_at("stat", bits, place::M_STAT),
+        shown_at("icode", bits, place::M_ICODE),
+        shown_at("ifun", bits, place::M_IFUN),
+        shown_at("dstE", bits, place::M_DST_E),
+        shown_at("dstM", bits, place::M_DST_M),
+        shown_at("cnd", bits, place::M_CND),
+        shown_at("error", bits, place::M_ERROR),
+        shown_at("back", bits, place::M_BACK),
+    ]
 }
 
-/// Puts the line W of a valuation.
-#[tactic(auto, unfolding(crate::specs::PipeLines::write_line, pipe_fields::specs::Layout::fields_of))]
-fn put_write(out: &mut Vec<u8>, bits: &[bool]) -> Result<(), Memory>
-    ensures { OnOk result (out.new.items ≡ out.old.items ++ write_line (fields_of bits.now).w) }
+/// The numbers of the line W of a valuation.
+#[tactic(auto, unfolding(crate::specs::PipeLines::write_numbers, pipe_fields::specs::Layout::fields_of))]
+pub fn write_numbers(bits: &[bool]) -> [ShownNumber; 4]
+    ensures { shown result ≡ spec.write_numbers (fields_of bits.now).w }
 {
-    put(out, b"W")?;
-    put(out, word_of(number_at(bits, place::W_KIND)))?;
-    let numbers = [
-        shown_at(b" stat=", bits, place::W_STAT),
-        shown_at(b" icode=", bits, place::W_ICODE),
-        shown_at(b" dstE=", bits, place::W_DST_E),
-        shown_at(b" dstM=", bits, place::W_DST_M),
-    ];
-    put_numbers(out, &numbers)?;
-    put(out, b"\n")
+    [
+        shown_at("stat", bits, place::W_STAT),
+        shown_at("icode", bits, place::W_ICODE),
+        shown_at("dstE", bits, place::W_DST_E),
+        shown_at("dstM", bits, place::W_DST_M),
+    ]
+}
+
+/// Puts the line of a stage that holds something of this kind.
+#[tactic(auto, unfolding(crate::specs::Fields::labelled_line))]
+fn put_stage(
+    out: &mut Vec<u8>,
+    letter: &[u8],
+    kind: u64,
+    numbers: &[ShownNumber],
+) -> Result<(), Memory>
+    ensures { OnOk result (out.new.items ≡ out.old.items ++ labelled_line (letter.now ++ kind_word kind) (shown numbers.now)) }
+{
+    put(out, letter)?;
+    put_line(out, word_of(kind), numbers)
 }
 
 /// Puts the five lines of a valuation.
-#[tactic(auto, unfolding(crate::specs::PipeLines::pipe_lines))]
+#[tactic(auto, unfolding(crate::specs::PipeLines::pipe_lines, pipe_fields::specs::Layout::fields_of))]
 fn put_lines(out: &mut Vec<u8>, bits: &[bool]) -> Result<(), Memory>
     ensures { OnOk result (out.new.items ≡ out.old.items ++ pipe_lines (fields_of bits.now)) }
 {
-    put_fetch(out, bits)?;
-    put_decode(out, bits)?;
-    put_execute(out, bits)?;
-    put_memory(out, bits)?;
-    put_write(out, bits)
+    put_line(out, b"F", &fetch_numbers(bits))?;
+    let kind = number_at(bits, place::D_KIND);
+    put_stage(out, b"D", kind, &decode_numbers(bits))?;
+    let kind = number_at(bits, place::E_KIND);
+    put_stage(out, b"E", kind, &execute_numbers(bits))?;
+    let kind = number_at(bits, place::M_KIND);
+    put_stage(out, b"M", kind, &memory_numbers(bits))?;
+    let kind = number_at(bits, place::W_KIND);
+    put_stage(out, b"W", kind, &write_numbers(bits))
 }
 
 /// The text of a No of PIPE: the obligation that is false, the valuation at which it is, by the names of the rows of
