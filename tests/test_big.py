@@ -1,5 +1,5 @@
 """Runs `big N HCL` and compares what it prints with what is known otherwise. A model of this file's own draws
-program N by the rules of docs/DECISIONS.md and runs it; it tells how many cycles the book's pipeline takes: one for each instruction,
+program N by the rules of crates/prog_gen/specs/Programs.antt and runs it; it tells how many cycles the book's pipeline takes: one for each instruction,
 four to fill it, two more for each jump that isn't taken and one more for each word that is used right behind its load. Under the other
 accepted designs of examples/ the answer has to be `same 1` within 5 (N + 1) cycles; under a design that forwards too little it has to be
 `same 0`.

@@ -1,5 +1,5 @@
 """docs/TRUST.md lists the files of definitions that the claim of a `yes` stands on, each once, with right numbers of lines."""
-from helpers.claim import PAGE, claim, counted, definitions, files, listed
+from helpers.claim import PAGE, claim, counted, definitions, files, listed, types
 
 
 def page():
@@ -9,6 +9,10 @@ def page():
 
 def test_files():
     assert sorted(listed(page())) == sorted(files())
+
+
+def test_types():
+    assert sorted(types(page())) == sorted(path for path in claim() if path.endswith(".rt"))
 
 
 def test_numbers():

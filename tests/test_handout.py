@@ -166,7 +166,7 @@ TOOL_CALLS = [
     ("y86-lab archlab", ["./y86-lab", "archlab", "examples/copy/ncopy.ys", "examples/designs/std.hcl"], 0),
     ("y86-lab swap", ["./y86-lab", "swap", "examples/designs/std.hcl", "examples/designs/std.hcl"], 0),
     ("y86-lab class", ["./y86-lab", "class", "examples/designs/std.hcl"], 0),
-    ("y86-lab aig confirm --broken", ["./y86-lab", "aig", "confirm", "--broken", "docs/OBLIGATIONS.md"], 0),
+    ("y86-lab aig confirm", ["./y86-lab", "aig", "confirm", "examples/designs/std.hcl"], 0),
     ("y86-recheck", ["python3", "tools/y86-recheck", "examples/certificates/tiny.crt"], 0),
     ("y86-recheck --help", ["python3", "tools/y86-recheck", "--help"], 0),
 ]

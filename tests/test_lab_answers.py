@@ -1,4 +1,4 @@
-"""`y86-lab explain` and `y86-lab witness` on the files of docs/OBLIGATIONS.md that break an obligation each.
+"""`y86-lab explain` and `y86-lab witness` on the files of rows/obligations.txt, which break an obligation each.
 
 `explain` names what is wrong in the situation of the answer, and `witness` finds a program that shows it. For the file of S1 no program differs, and
 `witness` has to say so.
@@ -10,9 +10,9 @@ import pytest
 
 from helpers.cases import cases
 from helpers.designs import example, replaced
-from helpers.pages import broken
 from helpers.paths import TOP
 from helpers.programs import Program
+from helpers.rows import broken
 
 UNSEEN = {"S1"}
 

@@ -448,32 +448,34 @@ def test_bits_of_a_number():
     same(bits_of(10, 4), [1, 0, 1, 0])
 
 
-PAGE = """\
-## O
+ROWS = """\
+## Files that break an obligation each.
 
-### O3
+# O3: what is wrong: a
+design d.hcl std
+|word a = 1;
+|  bool b = 0;
+$ check pipe d.hcl
+no O3
+= 1
 
-Asks. *A file that breaks it*: `std.hcl` with
+# S16 of SEQ+: the next PC
+design d.hcl seq_plus
+|word pc = 1;
+file p.yo
+|0x000: 00 | halt
+$ check seqplus d.hcl
+no S16
+= 1
 
-    word a = 1;
-    bool b = 0;
-
-The check answers
-
-    no O3
-
-### S16 of SEQ+
-
-*A file that breaks it*: `designs/seq_plus.hcl` with
-
-    word pc = 1;
-
-### Other
-
-    word x = 1;
+# other rows
+design d.hcl std
+|word x = 1;
+$ check pipe d.hcl
+= 0
 """
 
 
-def test_broken_files_of_a_page():
-    same([(each.obligation, each.base, each.definitions) for each in broken_files(PAGE)],
-        [("O3", "std.hcl", "word a = 1;\nbool b = 0;"), ("S16 of SEQ+", "designs/seq_plus.hcl", "word pc = 1;")])
+def test_broken_files_of_rows():
+    same([(each.obligation, each.base, each.definitions) for each in broken_files(ROWS)],
+        [("O3", "std.hcl", "word a = 1;\n  bool b = 0;"), ("S16 of SEQ+", "seq_plus.hcl", "word pc = 1;")])

@@ -1,13 +1,13 @@
-"""The commands of each page print what the page says, and the check answers what docs/OBLIGATIONS.md says of each file that breaks an obligation."""
+"""The commands of each page print what the page says, and the wrong files of docs/OBLIGATIONS.md are those of tests/rows/."""
 import os
 import shutil
 
 import pytest
 
 from helpers.cases import identifier, same
-from helpers.designs import example, replaced
-from helpers.pages import Session, broken, datapath, pages, transcripts
-from helpers.paths import TOP
+from helpers.pages import Session, almost_right, pages, transcripts, wrong_definitions
+from helpers.paths import ROWS, TOP
+from helpers.rows import rows_of
 from programs import launcher, programs_in
 
 
@@ -46,8 +46,21 @@ def test_command(page, number, sessions):
     same(sessions(page).answer(number), transcripts(page)[number][2])
 
 
-@pytest.mark.parametrize("row", [pytest.param(row, id=f"{row[0]} {row[1]}") for row in broken()])
-def test_file_that_breaks(row, y86):
-    name, base, definitions, wanted = row
-    _, out, err = y86("check", datapath(name, base), "broken.hcl", files={"broken.hcl": replaced(example(base), definitions)}).text()
-    same((out + err).rstrip("\n"), wanted)
+def test_wrong_definitions():
+    """docs/OBLIGATIONS.md shows definitions of rows/obligations.txt, with what is wrong about them."""
+    rows = {row.shows.partition(": ")[0]: row for row in rows_of(f"{ROWS}/obligations.txt")}
+    same(list(rows), [*(f"S{it}" for it in range(1, 17)), "S16 of SEQ+", *(f"O{it}" for it in range(1, 28))])
+    shown = list(wrong_definitions())
+    assert shown
+    for obligation, words, definitions in shown:
+        row = rows[obligation]
+        wrong, base = row.shows.partition(": ")[2], row.designs["d.hcl"]
+        same((obligation, definitions), (obligation, row.files["d.hcl"].decode().rstrip("\n")))
+        same((obligation, words[: len(wrong)]), (obligation, wrong[0].upper() + wrong[1:]))
+        assert base == ("std" if obligation[0] == "O" else "seq") or f"`{base}.hcl`" in words, words
+
+
+def test_almost_right():
+    """The table of docs/OBLIGATIONS.md has the rows of rows/almost_right.txt that have a program."""
+    rows = [row for row in rows_of(f"{ROWS}/almost_right.txt") if "p.yo" in row.files]
+    same([f"{obligation}: {wrong}" for obligation, wrong in almost_right()], [row.shows for row in rows])

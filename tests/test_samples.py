@@ -1,5 +1,5 @@
 """Runs `sample HCL SEED COUNT` on designs that break an obligation in few situations, and compares what it finds with a model of this
-file's own. The model draws the situations by the rules of docs/DECISIONS.md: for each of the 40 fields and each atom one draw of a generator that starts at
+file's own. The model draws the situations by the rules of crates/prog_gen/specs/Choices.antt: for each of the 40 fields and each atom one draw of a generator that starts at
 SEED plus the situation's number; a field gets one of the numbers that may stand there behind those in front. Which obligations are false in a situation is
 told by the text that `aig` writes. No theorem says which draw is which number: a mistake of this kind would stand in the definition and in the code alike.
 """

@@ -1,6 +1,6 @@
-"""What `y86-tell` says: of each broken file of docs/OBLIGATIONS.md the obligation, the wrong signals with what is wanted, and the repairs.
+"""What `y86-tell` says: of each file of rows/obligations.txt the obligation, the wrong signals with what is wanted, and the repairs.
 
-The expected values are worked out by hand, from the situations on the page and from CS:APP 3e, figures 4.18 to 4.21 and sections 4.5.5 and 4.5.8.
+The expected values are worked out by hand, from the situations in the rows and from CS:APP 3e, figures 4.18 to 4.21 and sections 4.5.5 and 4.5.8.
 """
 import json
 import re
@@ -9,7 +9,7 @@ import pytest
 
 from helpers.cases import cases
 from helpers.designs import changed, design, example, replaced
-from helpers.pages import broken
+from helpers.rows import broken
 
 # The obligation, then its wrong signals as the page of a refusal says them.
 SIGNALS = [
@@ -53,7 +53,7 @@ MOTION = [
 
 
 def broken_file(label):
-    """The file that docs/OBLIGATIONS.md shows as one that breaks the obligation."""
+    """The file of rows/obligations.txt that breaks the obligation."""
     _, base, definitions, _ = next(row for row in broken() if row[0] == label)
     return replaced(design(base), definitions)
 

@@ -1,6 +1,6 @@
-"""What `y86-tell check seq` and `check seqplus` say: of each broken file of docs/OBLIGATIONS.md the obligation, the wrong signals with what is wanted.
+"""What `y86-tell check seq` and `check seqplus` say: of each file of rows/obligations.txt the obligation, the wrong signals with what is wanted.
 
-The expected values are worked out by hand, from the situations on the page and from CS:APP 3e, figures 4.18 to 4.21.
+The expected values are worked out by hand, from the situations in the rows and from CS:APP 3e, figures 4.18 to 4.21.
 """
 import json
 import re
@@ -9,9 +9,9 @@ import pytest
 
 from helpers.cases import cases
 from helpers.designs import design, example, replaced
-from helpers.pages import broken, datapath
+from helpers.rows import broken, datapath
 
-# The section of the page, the instruction of the counterexample, and the wrong signal as the page of a refusal says it.
+# The row, the instruction of the counterexample, and the wrong signal as the page of a refusal says it.
 SIGNALS = [
     # a failed fetch counts as a nop, whose code is 1
     ("S1", "the fetch fails, so it counts as a nop", "icode is 0 (IHALT). It has to be 1 (INOP)."),
@@ -69,7 +69,7 @@ def test_signals(row, y86_tell):
 
 @pytest.mark.parametrize("section", SHOWN)
 def test_situations_agree(section, y86_tell):
-    """The counterexample of the JSON is that of `check`, which the page shows."""
+    """The counterexample of the JSON is that of `check`, which the row has."""
     _, base, _, answer = SHOWN[section]
     first = json.loads(refusal(y86_tell, section, "--json").out)["refuted"][0]
     lines = answer.split("\n")

@@ -45,13 +45,10 @@ def one_line(text: str) -> str:
 
 
 def rules(text: str) -> dict[str, Rule]:
-    """Returns what each obligation asks, why, and its row of the list."""
+    """Returns what each obligation asks, why, and the first sentence of what it asks."""
     found: dict[str, Rule] = {}
     for name, asks, why in re.findall(r"^### ([OS]\d+(?: of SEQ\+)?)\n\n(.*?)\n\n\*Why\.\*(.*?)\n\n", text, re.S | re.M):
-        found[name] = {"asks": one_line(asks), "why": one_line(why), "short": ""}
-    for name, short in re.findall(r"^\| \[([OS]\d+)\]\(#\w+\) \| (.*?) \|", text, re.M):
-        if name in found:
-            found[name]["short"] = short
+        found[name] = {"asks": one_line(asks), "why": one_line(why), "short": one_line(asks).partition(". ")[0].rstrip(".")}
     if len(found) < RULES:
         raise Changed(f"docs/OBLIGATIONS.md: {len(found)} obligations")
     return found

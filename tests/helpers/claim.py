@@ -29,6 +29,8 @@ PAGE = f"{TOP}/docs/TRUST.md"
 # A row of the page's table: files, two numbers, the rest. A file is a link.
 ROW = re.compile(r"(\| (?:\[|all ).*? \| )\d+ \| \d+( \|.*)$")
 LINK = re.compile(r"\]\(\.\./(crates/\w+/specs/[\w/]+\.antt)\)")
+# A row of the page's list of files with Rust types.
+TYPES = re.compile(r"- `(\w+/src)`: (.*)$")
 
 
 def spec(crate, module):
@@ -138,6 +140,11 @@ def files():
 def listed(page):
     """The files that the page's table lists."""
     return [path for line in page.split("\n") if ROW.match(line) for path in LINK.findall(line)]
+
+
+def types(page):
+    """The files of Rust types that the page lists."""
+    return [f"crates/{found[1]}/{name}" for line in page.split("\n") if (found := TYPES.match(line)) for name in re.findall(r"`(\w+\.rt)`", found[2])]
 
 
 def counted(page):

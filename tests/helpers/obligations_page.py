@@ -1,9 +1,10 @@
-"""What docs/OBLIGATIONS.md says as `y86-tell show` does: of each obligation its row in the table at the head, what it demands, and why.
+"""What docs/OBLIGATIONS.md says as `y86-tell show` does: of each obligation its signals in the table at the head, what it demands, and why.
 
 The sentences stand once, in crates/explanations. `python3 tests/helpers/obligations_page.py` writes them into the page, and test_tell_show.py compares.
 """
 import json
 import os
+import re
 import subprocess
 import sys
 import textwrap
@@ -23,16 +24,22 @@ def filled(text):
     return textwrap.fill(text, WIDTH, break_long_words=False, break_on_hyphens=False)
 
 
+def sentences(text):
+    """A paragraph, each sentence on a line of its own."""
+    return "\n".join(filled(it) for it in re.split(r"(?<=\.) ", text))
+
+
 def paragraphs(obligation):
     """What an obligation demands, and why."""
-    why = f"*Why.* {obligation['reason']} CS:APP 3e, {obligation['book']}."
-    return f"{filled(obligation['demand'])}\n\n{filled(why)}\n"
+    why = f"*Why.* {obligation['reason']}"
+    return f"{sentences(obligation['demand'])}\n\n{sentences(why)}\n"
 
 
-def row(obligation):
-    """The row of an obligation in the table at the head."""
-    label, signals = obligation["label"], " ".join(f"`{signal}`" for signal in obligation["signals"])
-    return f"| [{label}](#{label.lower()}) | {obligation['brief']} | {signals} |"
+def entry(obligation):
+    """An obligation in the table at the head: its link and its signals. Stalls and bubbles have a row of their own."""
+    label = obligation["label"]
+    signals = [f" `{it}`" for it in obligation["signals"] if not it.endswith(("_stall", "_bubble"))]
+    return f"[{label}](#{label.lower()}){''.join(signals)}"
 
 
 def with_obligations(text, obligations):
@@ -43,8 +50,9 @@ def with_obligations(text, obligations):
         _, _, rest = after.partition("\n\n*Why.*")
         text = before + found + paragraphs(it) + "\n" + rest.partition("\n\n")[2]
         if it["datapaths"] != ["seqplus"]:
-            lines = [row(it) if line.startswith(f"| [{it['label']}](") else line for line in text.split("\n")]
-            text = "\n".join(lines)
+            label = it["label"]
+            text, count = re.subn(rf"\[{label}\]\(#{label.lower()}\)(?: `\w+`)*", entry(it), text, count=1)
+            assert count, f"docs/OBLIGATIONS.md has no link to {label}"
     return text
 
 

@@ -1,4 +1,4 @@
-"""Pages: their transcripts, and the files of docs/OBLIGATIONS.md that break an obligation each.
+"""Pages: their transcripts, and what docs/OBLIGATIONS.md shows of wrong files.
 
 A transcript is an indented block: a line `    $ COMMAND`, and below it what it prints on both streams. The commands of one page run in one folder, so that a
 later one finds what an earlier one wrote.
@@ -37,38 +37,21 @@ def transcripts(page):
     return [(number, command, "\n".join(text).rstrip("\n")) for number, command, text in found]
 
 
-def blocks(lines):
-    """The indented blocks of some lines, each with the text before it."""
-    found, text, block = [], [], []
-    for line in [*lines, "end"]:
-        if line.startswith("    "):
-            block.append(line[4:])
-        elif block and line:
-            found.append((" ".join(text), block))
-            text, block = [line], []
-        elif not block:
-            text.append(line)
-    return found
+def wrong_definitions(page="docs/OBLIGATIONS.md"):
+    """What a page shows as wrong: the section, the words below *Wrong.*, and the definitions in the block below them."""
+    for section in re.split(r"^##+ ", "\n".join(lines_of(page)), flags=re.M)[1:]:
+        found = re.search(r"^\*Wrong\.\* ([^\n]*(?:\n[^\n]+)*):\n\n((?:    .*\n)+)", section, flags=re.M)
+        if found:
+            yield section.partition("\n")[0], found[1].replace("\n", " "), re.sub(r"^    ", "", found[2], flags=re.M).rstrip("\n")
 
 
-def broken(page="docs/OBLIGATIONS.md"):
-    """The files of a page that break an obligation: the obligation, the design that is changed, the definitions, and the answer.
-
-    In a section such as `### O5`, the block behind "A file that breaks it: `std.hcl`" has definitions that stand in the place of that file's own, and the
-    block behind "The check answers" is what the check prints of the file so made.
-    """
-    for section in re.split(r"^### ", "\n".join(lines_of(page)), flags=re.M)[1:]:
-        name, _, rest = section.partition("\n")
-        base = re.search(r"\*A file that breaks it\*: `(\w+)\.hcl`", rest)
-        if re.fullmatch(r"[OS]\d+( of SEQ\+)?", name) and base:
-            parts = blocks(rest[base.start() :].split("\n"))
-            answer = next(block for before, block in parts if before.strip().startswith("The check answers"))
-            yield name, base[1], "\n".join(parts[0][1]), "\n".join(answer)
-
-
-def datapath(name, base):
-    """The datapath of an obligation, as `check` names it."""
-    return "pipe" if name[0] == "O" else "seqplus" if base == "seq_plus" else "seq"
+def almost_right(page="docs/OBLIGATIONS.md"):
+    """The table of files that are almost right: of each the obligation, and what is wrong."""
+    _, _, section = "\n".join(lines_of(page)).partition("\n## Files that are almost right\n")
+    for line in section.partition("\n## ")[0].split("\n"):
+        if line.startswith("| ["):
+            obligation, wrong = line.split(" | ")[:2]
+            yield re.search(r"\[(\w+)\]", obligation)[1], wrong
 
 
 class Session:

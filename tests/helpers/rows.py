@@ -14,6 +14,7 @@ A row is files and calls, line by line, up to an empty line:
 import re
 
 from helpers.designs import changed, design, example, replaced
+from helpers.paths import ROWS
 
 
 def bytes_of(text):
@@ -67,6 +68,18 @@ def rows_of(path):
             (row.designs if kind == "design" else row.changes)[last] = base
         else:
             raise ValueError(f"{path}: no line of a row: {line}")
+
+
+def broken():
+    """The files of obligations.txt that break an obligation: the obligation, the design that is changed, the definitions, and the answer of the check."""
+    for row in rows_of(f"{ROWS}/obligations.txt"):
+        (_, answer), = row.calls
+        yield row.shows.partition(": ")[0], row.designs["d.hcl"], row.files["d.hcl"].decode().rstrip("\n"), "\n".join(answer[:-1])
+
+
+def datapath(name, base):
+    """The datapath of an obligation, as `check` names it."""
+    return "pipe" if name[0] == "O" else "seqplus" if base == "seq_plus" else "seq"
 
 
 def transcript(answer):

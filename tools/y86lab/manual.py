@@ -201,7 +201,7 @@ def usage(form: Form) -> str:
 # Completions.
 
 SUFFIXES = {"HCL": "hcl", "OBJ": "yo", "ASM": "ys", "NCOPY.ys": "ys", "CERT": "crt", "AAG": "aag", "DEFINITIONS": "hcl"}
-ANY_FILE = {"FILE", "FOLDER", "PAGE", "PROGRAM"}
+ANY_FILE = {"FILE", "FOLDER", "PROGRAM"}
 # Words that are their own choice.
 FIXED = {"pipe"}
 

@@ -32,7 +32,7 @@ static FETCH: [Obligation; 5] = [
         brief: "the instruction and its function are those that were fetched",
         signals: "f_icode f_ifun",
         demand: "`f_icode` is `imem_icode`, and `f_ifun` is `imem_ifun`.",
-        reason: "Everything after the fetch depends on these two numbers: with another icode, another instruction is executed.",
+        reason: "Everything after the fetch depends on these two numbers.",
         book: "section 4.5.7 (PC selection and fetch)",
     },
     Obligation {
@@ -41,7 +41,7 @@ static FETCH: [Obligation; 5] = [
         brief: "the status that the instruction takes along",
         signals: "f_stat",
         demand: "`f_stat` is 3 (ADR) if the fetch failed. Otherwise it is 4 (INS) for an invalid instruction, 2 (HLT) for `halt`, and 1 (AOK) for all others.",
-        reason: "The status travels with the instruction. It decides where the machine stops, and with what status.",
+        reason: "This status travels with the instruction, and decides whether the machine stops.",
         book: "sections 4.5.6 and 4.5.7",
     },
     Obligation {
@@ -206,7 +206,7 @@ static MEMORY: [Obligation; 5] = [
         brief: "memory is read, is written, or neither",
         signals: "mem_read mem_write",
         demand: "`mem_read` is 1 exactly if M has an instruction of the program that loads, and `mem_write` exactly if it has one that stores. This applies to cycles that stop the machine too.",
-        reason: "Otherwise a load would get no word, a store would be lost, or the machine would read or write memory where the program doesn't.",
+        reason: "Otherwise a load or a store would be lost, or the machine would access memory where the program doesn't.",
         book: "sections 4.3.4 (memory stage), 4.5.6 and 4.5.7",
     },
     Obligation {
@@ -263,8 +263,8 @@ static MOTION: [Obligation; 5] = [
         group: "hazards",
         brief: "instructions on the wrong path are cancelled, and the fetch follows the program",
         signals: "f_pc F_stall F_bubble D_stall D_bubble E_stall E_bubble M_stall M_bubble W_stall W_bubble",
-        demand: "The next cycle is again one of the situations that are considered (conditions 1 to 5 under \"Which situations are considered\" in docs/OBLIGATIONS.md). No instruction on the wrong path reaches M or W. If the next cycle has to fetch at the predicted PC, that PC is right: if D loads the program's next instruction, F loads too; if D doesn't, F is stalled, and already holds the right PC.",
-        reason: "This is how a pipeline stays right: it cancels instructions on the wrong path before they change anything, it skips none and fetches none twice, and the fetch follows the program.",
+        demand: "No instruction on the wrong path reaches M or W. If the predicted PC counts as right in the next cycle, F really holds the right one: if D loads the program's next instruction, F loads too; if D doesn't, F is stalled, and its predicted PC counts as right now. The next cycle meets conditions 1 to 5 under \"Which situations are considered\" in docs/OBLIGATIONS.md.",
+        reason: "Instructions on the wrong path must be cancelled before they change anything, and those of the program must be fetched in order: none skipped, none twice.",
         book: "sections 4.5.5 (control hazards) and 4.5.8",
     },
     Obligation {
@@ -389,7 +389,7 @@ static SEQ_LAST: [Obligation; 9] = [
         brief: "whether the flags are set",
         signals: "set_cc",
         demand: "`set_cc` is 1 exactly for an instruction that sets the flags: OPq, and `iaddq` with `--full`.",
-        reason: "Otherwise the flags would change where the program leaves them alone, or stay the same where the program sets them.",
+        reason: "Otherwise the program would find other flags.",
         book: "section 4.3.4 (execute stage)",
     },
     Obligation {
@@ -407,7 +407,7 @@ static SEQ_LAST: [Obligation; 9] = [
         brief: "memory is read, is written, or neither",
         signals: "mem_read mem_write",
         demand: "`mem_read` is 1 exactly for an instruction that loads, and `mem_write` exactly for one that stores.",
-        reason: "Otherwise a load would get no word, a store would be lost, or the machine would read or write memory where the program doesn't.",
+        reason: "Otherwise a load or a store would be lost, or the machine would access memory where the program doesn't.",
         book: "section 4.3.4 (memory stage)",
     },
     Obligation {

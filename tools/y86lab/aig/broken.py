@@ -1,10 +1,10 @@
-"""The files of a page such as docs/OBLIGATIONS.md that break an obligation each."""
+"""The files of rows such as tests/rows/obligations.txt, which break an obligation each."""
 from __future__ import annotations
 
 import re
 from dataclasses import dataclass
 
-SECTION = re.compile(r"[OS]\d+( of SEQ\+)?")
+ROW = re.compile(r"^# ([OS]\d+(?: of SEQ\+)?): .*\ndesign \S+ (\S+)\n((?:\|.*\n)*)", re.M)
 
 
 @dataclass(frozen=True)
@@ -17,14 +17,8 @@ class BrokenFile:
 
 
 def broken_files(text: str) -> list[BrokenFile]:
-    """The files of a page."""
-    files = []
-    for section in re.split(r"^### ", text, flags=re.M)[1:]:
-        name, _, body = section.partition("\n")
-        base = re.search(r"\*A file that breaks it\*: `([\w/]+\.hcl)`", body)
-        if not SECTION.fullmatch(name) or not base:
-            continue
-        block = re.search(r"(?:^    .*\n)+", body[base.end() :], re.M)
-        definitions = "\n".join(line[4:] for line in block[0].splitlines()) if block else ""
-        files.append(BrokenFile(name, base[1], definitions))
-    return files
+    """The files of the rows: of each its name, its design, and the lines with definitions below."""
+    return [
+        BrokenFile(obligation, f"{base}.hcl", "\n".join(line[1:] for line in lines.splitlines()))
+        for obligation, base, lines in ROW.findall(text)
+    ]

@@ -27,8 +27,8 @@ def add_arguments(parser: argparse.ArgumentParser) -> None:
     asks = kinds.add_parser("confirm", help="asks solvers whether they agree with check pipe")
     asks.add_argument("files", metavar="HCL", nargs="*", help="a file for PIPE")
     asks.add_argument(
-        "--broken", metavar="PAGE", action="append", default=[],
-        help="the files of a page such as docs/OBLIGATIONS.md that break an obligation each",
+        "--broken", metavar="ROWS", action="append", default=[],
+        help="the files of rows such as tests/rows/obligations.txt, which break an obligation each",
     )
     asks.add_argument(
         "--solver", metavar="NAME", action="append", default=[], choices=solvers.SOLVERS,
@@ -63,7 +63,7 @@ def confirm_all(arguments: argparse.Namespace, programs: Programs) -> int:
     confirmed = failed = 0
     with tempfile.TemporaryDirectory() as folder:
         files = [(os.path.basename(path), path) for path in arguments.files]
-        files += [file for page in arguments.broken for file in made_files(programs, page, folder)]
+        files += [file for rows in arguments.broken for file in made_files(programs, rows, folder)]
         for name, path in files:
             try:
                 confirmation = confirm(programs, name, path, arguments.full, asked)
@@ -76,9 +76,9 @@ def confirm_all(arguments: argparse.Namespace, programs: Programs) -> int:
     return REFUSED if failed else DONE
 
 
-def made_files(programs: Programs, page: str, folder: str) -> Iterator[tuple[str, str]]:
-    """The files of a page that break an obligation of PIPE, made in a folder."""
-    for broken in broken_files(read_text(page)):
+def made_files(programs: Programs, rows: str, folder: str) -> Iterator[tuple[str, str]]:
+    """The files of rows that break an obligation of PIPE, made in a folder."""
+    for broken in broken_files(read_text(rows)):
         if not broken.obligation.startswith("O"):
             continue
         base = hcl.Design(read_text(os.path.join(programs.examples, "designs", broken.base)))
