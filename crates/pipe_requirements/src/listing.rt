@@ -298,37 +298,46 @@ fn put_22(out: &mut Vec<Requirement>, n: &Now<'_>) -> Result<(), Memory>
     put_number(out, name::STAT, if n.y.w.good { n.l.w.stat } else { 1 })
 }
 
-/// What an obligation from 1 to 22 requires, signal by signal.
+/// What an obligation from 1 to 22 requires.
 #[tactic(auto, unfolding(crate::specs::Requirements::requirements))]
+fn put_required(out: &mut Vec<Requirement>, n: &Now<'_>, rule: u32) -> Result<(), Memory>
+    requires first { 1 ≤ rule }
+    requires last { rule ≤ 22 }
+    ensures { OnOk result (out.new.items ≡ out.old.items ++ spec.requirements n.now.v n.now.s.now (fields_in n.now.l.now) (as_flow n.now.y.now) (as_register_controls n.now.mv.now) (at n.now.leaves.now) rule) }
+{
+    match rule {
+        1 => put_1(out, n),
+        2 => put_2(out, n),
+        3 => put_3(out, n),
+        4 => put_4(out, n),
+        5 => put_5(out, n),
+        6 => put_6(out, n),
+        7 => put_7(out, n),
+        8 => put_8(out, n),
+        9 => put_9(out, n),
+        10 => put_10(out, n),
+        11 => put_11(out, n),
+        12 => put_12(out, n),
+        13 => put_13(out, n),
+        14 => put_14(out, n),
+        15 => put_15(out, n),
+        16 => put_16(out, n),
+        17 => put_17(out, n),
+        18 => put_18(out, n),
+        19 => put_19(out, n),
+        20 => put_20(out, n),
+        21 => put_21(out, n),
+        _ => put_22(out, n),
+    }
+}
+
+/// What an obligation from 1 to 22 requires, signal by signal.
 pub fn requirements_of(alloc: Global, n: &Now<'_>, rule: u32) -> Result<Vec<Requirement>, Memory>
     requires first { 1 ≤ rule }
     requires last { rule ≤ 22 }
     ensures { IfOk result (λ r. r.items ≡ spec.requirements n.now.v n.now.s.now (fields_in n.now.l.now) (as_flow n.now.y.now) (as_register_controls n.now.mv.now) (at n.now.leaves.now) rule) }
 {
     let mut out = Vec::new(alloc);
-    match rule {
-        1 => put_1(&mut out, n)?,
-        2 => put_2(&mut out, n)?,
-        3 => put_3(&mut out, n)?,
-        4 => put_4(&mut out, n)?,
-        5 => put_5(&mut out, n)?,
-        6 => put_6(&mut out, n)?,
-        7 => put_7(&mut out, n)?,
-        8 => put_8(&mut out, n)?,
-        9 => put_9(&mut out, n)?,
-        10 => put_10(&mut out, n)?,
-        11 => put_11(&mut out, n)?,
-        12 => put_12(&mut out, n)?,
-        13 => put_13(&mut out, n)?,
-        14 => put_14(&mut out, n)?,
-        15 => put_15(&mut out, n)?,
-        16 => put_16(&mut out, n)?,
-        17 => put_17(&mut out, n)?,
-        18 => put_18(&mut out, n)?,
-        19 => put_19(&mut out, n)?,
-        20 => put_20(&mut out, n)?,
-        21 => put_21(&mut out, n)?,
-        _ => put_22(&mut out, n)?,
-    }
+    put_required(&mut out, n, rule)?;
     Ok(out)
 }
