@@ -26,6 +26,7 @@ use Rattle.seq_requirements.specs.declared.datapath.Datapath.TheVariants.{Seq, P
 
 module _ (α : Assignment) (cv : ℕ → Leaf) where
   shared_is : (s : SignalRows) (i : ℕ) (r : Row) (c : seq.Fields) → shared_demand s i r c α cv ≡ each (is_met α cv) (shared_requirements s i r c)
+  unfolding shared_requirements
   shared_is s i r c = says_at (nothing ▹ each_said) refl i
     where
       -- no rule has number 0

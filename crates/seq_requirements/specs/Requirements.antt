@@ -63,7 +63,7 @@ shared_required s r c =
     some_word s.mem_data (word_leaf r.memory s.val_a s.val_p) ∷
     number s.stat (stat_number (fetch_status (faulted c) c.icode)) ∷ []
 
-abbrev pub shared_requirements : SignalRows → ℕ → Row → Fields → List Requirement
+unfoldable pub shared_requirements : SignalRows → ℕ → Row → Fields → List Requirement
 shared_requirements s i r c = get_or ([] ∷ shared_required s r c) i []
 
 -- ---- the PC, obligation 16 of each

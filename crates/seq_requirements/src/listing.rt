@@ -92,6 +92,7 @@ fn put_access(out: &mut Vec<Requirement>, s: &SignalRows, r: &Row) -> Result<(),
 }
 
 /// What an obligation from 1 to 15 requires, which both datapaths share.
+#[tactic(auto, unfolding(crate::specs::Requirements::shared_requirements))]
 fn put_shared(
     out: &mut Vec<Requirement>,
     s: &SignalRows,
