@@ -66,4 +66,4 @@ def test_almost_right():
     shown = [f"{obligation}: {wrong}" for obligation, wrong in almost_right()]
     assert shown
     same(shown, [it for it in rows if it in shown])
-    same(len(rows) - len(shown), 8)
+    same(len(rows) - len(shown), 10)
