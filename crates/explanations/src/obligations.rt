@@ -263,7 +263,7 @@ static MOTION: [Obligation; 5] = [
         group: "hazards",
         brief: "instructions on the wrong path are cancelled, and the fetch follows the program",
         signals: "f_pc F_stall F_bubble D_stall D_bubble E_stall E_bubble M_stall M_bubble W_stall W_bubble",
-        demand: "No instruction on the wrong path reaches M or W. If the predicted PC counts as right in the next cycle, F really holds the right one. For that, F loads if D loads the program's next instruction. Otherwise F is stalled, and the predicted PC counts as right in this cycle already. The next cycle meets conditions 1 to 5 under \"Which situations are considered\" in docs/OBLIGATIONS.md.",
+        demand: "No instruction on the wrong path reaches M or W. Suppose that the predicted PC counts as right in the next cycle. If D loads the program's next instruction, F loads too. If D doesn't load it, F is stalled, and the predicted PC counts as right in this cycle already. The next cycle meets conditions 1 to 5 under \"Which situations are considered\" in docs/OBLIGATIONS.md.",
         reason: "Instructions on the wrong path must be cancelled before they change anything, and those of the program must be fetched in order: none skipped, none twice.",
         book: "sections 4.5.5 (control hazards) and 4.5.8",
     },
