@@ -21,6 +21,21 @@ const AOK: u64 = 1;
 
 const NO_REGISTER: u64 = 15;
 
+/// A cycle of a machine that is watched.
+#[derive(Clone, Copy)]
+pub(crate) struct WatchedCycle<'a> {
+    /// Its number; the first cycle of a run is number 1.
+    pub number: u64,
+    /// The state of the machine as it begins.
+    pub state: &'a PipeState,
+    /// The values of its signals.
+    pub values: &'a PipeValues,
+    /// What stands in the pipeline registers as it begins.
+    pub watch: &'a StageContents,
+    /// What it fetches.
+    pub fetch: &'a StageContent,
+}
+
 /// What the file asks of a pipeline register.
 fn next_word(stall: u64, bubble: u64) -> &'static [u8]
     ensures { result.now ≡ text.next_word (set stall) (set bubble) }
@@ -402,15 +417,16 @@ pub fn put_stored(out: &mut Vec<u8>, store: Option<Store>) -> Result<(), Memory>
 #[tactic(auto, unfolding(crate::specs::Cycle::stage_lines))]
 fn put_stages(
     out: &mut Vec<u8>,
-    watch: &StageContents,
-    fetch: &StageContent,
-    p: &PipeState,
-    values: &PipeValues,
+    cycle: &WatchedCycle<'_>,
     sources: &SourceNames<'_>,
 ) -> Result<(), Memory>
-    ensures { OnOk result (out.new.items ≡ out.old.items ++ text.stage_lines watch.now fetch.now p.now (at values.now) (sources_in sources.now)) }
+    ensures { OnOk result (out.new.items ≡ out.old.items
+        ++ text.stage_lines cycle.now.watch.now cycle.now.fetch.now cycle.now.state.now (at cycle.now.values.now) (sources_in sources.now)) }
 {
-    put_fetch(out, fetch, p, values, sources)?;
+    let watch = cycle.watch;
+    let p = cycle.state;
+    let values = cycle.values;
+    put_fetch(out, cycle.fetch, p, values, sources)?;
     put_decode(out, &watch.d, p, values, sources)?;
     put_execute(out, &watch.e, p, values)?;
     put_memory(out, &watch.m, p, values)?;
@@ -421,21 +437,18 @@ fn put_stages(
 #[tactic(auto, unfolding(crate::specs::Cycle::cycle_text))]
 pub(crate) fn put_cycle(
     out: &mut Vec<u8>,
-    number: u64,
-    watch: &StageContents,
-    fetch: &StageContent,
-    p: &PipeState,
-    values: &PipeValues,
+    cycle: &WatchedCycle<'_>,
     sources: &SourceNames<'_>,
 ) -> Result<(), Memory>
-    ensures { OnOk result (out.new.items ≡ out.old.items ++ text.cycle_text number watch.now fetch.now p.now (at values.now) (sources_in sources.now)) }
+    ensures { OnOk result (out.new.items ≡ out.old.items
+        ++ text.cycle_text cycle.now.number cycle.now.watch.now cycle.now.fetch.now cycle.now.state.now (at cycle.now.values.now) (sources_in sources.now)) }
 {
-    put_number_pair(out, b"cycle ", number)?;
+    put_number_pair(out, b"cycle ", cycle.number)?;
     put(out, b"\n")?;
-    put_stages(out, watch, fetch, p, values, sources)?;
-    put_flags(out, p.flags)?;
-    put_registers(out, p, values)?;
-    put_stored(out, store_of(p, values))
+    put_stages(out, cycle, sources)?;
+    put_flags(out, cycle.state.flags)?;
+    put_registers(out, cycle.state, cycle.values)?;
+    put_stored(out, store_of(cycle.state, cycle.values))
 }
 
 /// Puts the line of the end of a run.

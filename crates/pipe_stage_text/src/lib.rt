@@ -9,6 +9,7 @@ mod listed;
 mod numbers;
 mod observer;
 mod picked;
+mod processor;
 mod stage_content;
 mod stage_contents;
 
@@ -21,6 +22,7 @@ pub use numbers::{
     put_address, put_function_pair, put_number_pair, put_register_pair, put_status_pair,
     put_text_pair, put_word_pair,
 };
-pub use observer::{CycleRange, ObservedRun, is_within, watch_run};
+pub use observer::{CycleRange, ObservedRun, WatchRequest, is_within, watch_run};
 pub use picked::source;
+pub use processor::ProcessorDesign;
 pub use stage_content::StageContent;

@@ -11,21 +11,21 @@ ghost use Rattle.y86_isa.specs.Machine.{is_aok};
 ghost use Rattle.pipe_stage_text.specs.Observer.{ShowsRun};
 ghost use Rattle.pipe_stage_text.specs.Observer as spec;
 
-use crate::cycle::{put_cycle, put_end};
+use crate::cycle::{WatchedCycle, put_cycle, put_end};
 use crate::diagram::{DiagramCycle, put_diagram, shown_cycle};
 use crate::listed::{Listing, listing_for};
 use crate::picked::sources_of;
-use crate::stage_content::StageContent;
+use crate::processor::ProcessorDesign;
 use crate::stage_contents::{StageContents, fetched, first_watch, moved_watch, requested_updates};
 use dp_machines::{is_aok_stat, record_count};
 use dp_signals::{
     CycleEnd, PipeState, PipeValues, advance, constant_words, end_of_cycle, ending, given, retires,
     solve_pipe_in,
 };
-use hcl_types::{Design, Order, Row, SignalEval};
+use hcl_types::SignalEval;
 use std::alloc::Global;
 use std::marker::Model;
-use y86_base::{Image, Memory, Stat, Variant};
+use y86_base::{Image, Memory, Stat};
 use y86_isa::Rec;
 
 /// Which cycles of a run are shown, and whether as a diagram.
@@ -35,7 +35,19 @@ pub struct CycleRange {
     pub from: u64,
     /// The number of the last one.
     pub to: u64,
+    /// Whether they are shown as a diagram, and not in lines.
     pub diagram: bool,
+}
+
+/// A run that is to be shown.
+#[derive(Drop)]
+pub struct WatchRequest {
+    /// The memory as the run begins.
+    pub image: Image,
+    /// The most cycles that are done.
+    pub limit: u64,
+    /// Which of them are shown.
+    pub window: CycleRange,
 }
 
 /// A machine that is watched: its state, what stands in its stages, the text of the cycles so far, or what the diagram shows of them.
@@ -86,20 +98,17 @@ pub fn is_within(window: &CycleRange, number: u64) -> bool
 /// Puts what is shown of a cycle in lines.
 fn put_lines(
     out: &mut Vec<u8>,
-    rows: &[Row],
-    design: &Design,
+    processor: &ProcessorDesign<'_>,
     window: &CycleRange,
-    number: u64,
-    watch: &StageContents,
-    fetch: &StageContent,
-    p: &PipeState,
-    values: &PipeValues,
+    cycle: &WatchedCycle<'_>,
 ) -> Result<(), Memory>
-    ensures { OnOk result (out.new.items ≡ out.old.items ++ spec.lines_shown (sources rows.now design.now.terms) window.now number watch.now fetch.now p.now (at values.now)) }
+    ensures { OnOk result (out.new.items ≡ out.old.items ++ spec.lines_shown (sources processor.now.rows.now processor.now.design.now.terms)
+        window.now cycle.now.number cycle.now.watch.now cycle.now.fetch.now cycle.now.state.now (at cycle.now.values.now)) }
 {
-    if !window.diagram && is_within(window, number) {
-        let sources = sources_of(rows, design, values);
-        put_cycle(out, number, watch, fetch, p, values, &sources)
+    if !window.diagram && is_within(window, cycle.number) {
+        let values = cycle.values;
+        let sources = sources_of(processor.rows, processor.design, values);
+        put_cycle(out, cycle, &sources)
     } else {
         Ok(())
     }
@@ -109,18 +118,22 @@ fn put_lines(
 fn put_shown(
     cycles: &mut Vec<DiagramCycle>,
     window: &CycleRange,
-    number: u64,
-    watch: &StageContents,
-    fetch: StageContent,
-    values: &PipeValues,
+    cycle: &WatchedCycle<'_>,
 ) -> Result<(), Memory>
-    ensures { OnOk result (cycles.new.items ≡ cycles.old.items ++ spec.cycles_shown window.now number watch.now fetch (at values.now)) }
+    ensures { OnOk result (cycles.new.items ≡ cycles.old.items
+        ++ spec.cycles_shown window.now cycle.now.number cycle.now.watch.now cycle.now.fetch.now (at cycle.now.values.now)) }
 {
-    if !window.diagram || !is_within(window, number) {
+    if !window.diagram || !is_within(window, cycle.number) {
         return Ok(());
     }
-    let movers = requested_updates(values);
-    let one = shown_cycle(number, watch, fetch, &movers, goes_on(ending(values)));
+    let movers = requested_updates(cycle.values);
+    let one = shown_cycle(
+        cycle.number,
+        cycle.watch,
+        *cycle.fetch,
+        &movers,
+        goes_on(ending(cycle.values)),
+    );
     match cycles.push(one) {
         Ok(()) => Ok(()),
         Err(_) => Err(Memory),
@@ -130,31 +143,27 @@ fn put_shown(
 /// Keeps what is shown of the cycle of this number, with these values, and does it.
 fn step(
     s: &mut Observer,
-    rows: &[Row],
-    design: &Design,
+    processor: &ProcessorDesign<'_>,
     window: &CycleRange,
     number: u64,
     values: &PipeValues,
 ) -> Result<(), Memory>
     requires rows { s.old.watch.rows < 2 ^ 63 }
     requires retired { s.old.retired < 2 ^ 63 }
-    ensures after { OnOk result (s.new ≡ spec.after (sources rows.now design.now.terms) window.now number s.old (at values.now)) }
+    ensures after { OnOk result (s.new ≡ spec.after (sources processor.now.rows.now processor.now.design.now.terms) window.now number s.old (at values.now)) }
     ensures few_rows { OnOk result (s.new.watch.rows ≤ s.old.watch.rows + 5) }
     ensures few_retired { OnOk result (s.new.retired ≤ s.old.retired + 1) }
 {
     let fetch = fetched(&s.watch, &s.state, values);
-    put_lines(
-        &mut s.text,
-        rows,
-        design,
-        window,
+    let cycle = WatchedCycle {
         number,
-        &s.watch,
-        &fetch,
-        &s.state,
+        state: &s.state,
         values,
-    )?;
-    put_shown(&mut s.cycles, window, number, &s.watch, fetch, values)?;
+        watch: &s.watch,
+        fetch: &fetch,
+    };
+    put_lines(&mut s.text, processor, window, &cycle)?;
+    put_shown(&mut s.cycles, window, &cycle)?;
     s.watch = moved_watch(&s.watch, fetch, &requested_updates(values));
     s.retired += record_count(retires(&s.state, values));
     s.end = end_of_cycle(ending(values), values);
@@ -172,39 +181,36 @@ fn state_of(s: &Observer) -> &PipeState
 /// Does the cycle of this number, and keeps what is shown of it. `fits` is the evaluator's answer about the constants.
 fn cycle<C: SignalEval>(
     s: &mut Observer,
-    variant: Variant,
-    rows: &[Row],
-    design: &Design,
-    order: &Order,
+    processor: &ProcessorDesign<'_>,
     evaluator: &mut C,
     fits: bool,
     window: &CycleRange,
     number: u64,
 ) -> Result<(), Memory>
-    requires evaluates { C.evaluates evaluator.old design.now.terms }
+    requires evaluates { C.evaluates evaluator.old processor.now.design.now.terms }
     requires fits { IsTrue fits → Starts (C.assumes evaluator.old) constants }
-    requires bound { IsBound pipe_rows design.now.terms }
-    requires ordered { IsOrderOf pipe_rows design.now.terms order.now.ids }
+    requires bound { IsBound pipe_rows processor.now.design.now.terms }
+    requires ordered { IsOrderOf pipe_rows processor.now.design.now.terms processor.now.order.now.ids }
     requires rows { s.old.watch.rows < 2 ^ 63 }
     requires retired { s.old.retired < 2 ^ 63 }
-    ensures kept { OnOk result (C.evaluates evaluator.new design.now.terms) }
+    ensures kept { OnOk result (C.evaluates evaluator.new processor.now.design.now.terms) }
     ensures same { OnOk result (C.assumes evaluator.new ≡ C.assumes evaluator.old) }
-    ensures cycle { OnOk result ((f : ℕ → ℕ) × Solves variant design.now.terms s.old.state f
-        × (s.new ≡ spec.after (sources rows.now design.now.terms) window.now number s.old f)) }
+    ensures cycle { OnOk result ((f : ℕ → ℕ) × Solves processor.now.variant processor.now.design.now.terms s.old.state f
+        × (s.new ≡ spec.after (sources processor.now.rows.now processor.now.design.now.terms) window.now number s.old f)) }
     ensures few_rows { OnOk result (s.new.watch.rows ≤ s.old.watch.rows + 5) }
     ensures few_retired { OnOk result (s.new.retired ≤ s.old.retired + 1) }
 {
     let mut values = given(state_of(s));
     solve_pipe_in(
-        variant,
-        design,
-        order,
+        processor.variant,
+        processor.design,
+        processor.order,
         state_of(s),
         evaluator,
         fits,
         &mut values,
     );
-    step(s, rows, design, window, number, &values)
+    step(s, processor, window, number, &values)
 }
 
 /// Puts the diagram, where it is asked for, and the line of the end.
@@ -237,23 +243,24 @@ fn finished(
 /// Runs an image to its end or to the limit of cycles.
 fn watch_listed<C: SignalEval>(
     alloc: Global,
-    variant: Variant,
-    rows: &[Row],
-    design: &Design,
-    order: &Order,
+    processor: &ProcessorDesign<'_>,
     evaluator: &mut C,
     listing: &Listing,
-    image: Image,
-    limit: u64,
-    window: &CycleRange,
+    request: WatchRequest,
 ) -> Result<ObservedRun, Memory>
-    requires table { rows.now ≡ pipe_rows }
-    requires evaluates { C.evaluates evaluator.old design.now.terms }
-    requires bound { IsBound pipe_rows design.now.terms }
-    requires ordered { IsOrderOf pipe_rows design.now.terms order.now.ids }
-    requires limit { limit ≤ 100000000 }
-    ensures { IfOk result (λ w. ShowsRun variant design.now.terms (text_in listing.now.entries) window.now image limit w.text.items w.end) }
+    requires table { processor.now.rows.now ≡ pipe_rows }
+    requires evaluates { C.evaluates evaluator.old processor.now.design.now.terms }
+    requires bound { IsBound pipe_rows processor.now.design.now.terms }
+    requires ordered { IsOrderOf pipe_rows processor.now.design.now.terms processor.now.order.now.ids }
+    requires limit { request.limit ≤ 100000000 }
+    ensures { IfOk result (λ w. ShowsRun processor.now.variant processor.now.design.now.terms (text_in listing.now.entries)
+        request.window request.image request.limit w.text.items w.end) }
 {
+    let WatchRequest {
+        image,
+        limit,
+        window,
+    } = request;
     let fits = evaluator.fits(&constant_words());
     let mut s = Observer {
         state: PipeState::start(image),
@@ -267,17 +274,7 @@ fn watch_listed<C: SignalEval>(
         if !is_running(&s) {
             return finished(s, listing, window.diagram, k);
         }
-        match cycle(
-            &mut s,
-            variant,
-            rows,
-            design,
-            order,
-            evaluator,
-            fits,
-            window,
-            k + 1,
-        ) {
+        match cycle(&mut s, processor, evaluator, fits, &window, k + 1) {
             Ok(()) => {}
             Err(_) => return Err(Memory),
         }
@@ -288,27 +285,21 @@ fn watch_listed<C: SignalEval>(
 /// Runs the image of an object text on PIPE under a design to its end or to the limit of cycles, and gives what is shown of it.
 pub fn watch_run<C: SignalEval>(
     alloc: Global,
-    variant: Variant,
-    rows: &[Row],
-    design: &Design,
-    order: &Order,
+    processor: &ProcessorDesign<'_>,
     evaluator: &mut C,
     object: &[u8],
-    image: Image,
-    limit: u64,
-    window: &CycleRange,
+    request: WatchRequest,
 ) -> Result<ObservedRun, Memory>
-    requires table { rows.now ≡ pipe_rows }
-    requires evaluates { C.evaluates evaluator.old design.now.terms }
-    requires bound { IsBound pipe_rows design.now.terms }
-    requires ordered { IsOrderOf pipe_rows design.now.terms order.now.ids }
-    requires limit { limit ≤ 100000000 }
-    ensures { IfOk result (λ w. ShowsRun variant design.now.terms (listed object.now) window.now image limit w.text.items w.end) }
+    requires table { processor.now.rows.now ≡ pipe_rows }
+    requires evaluates { C.evaluates evaluator.old processor.now.design.now.terms }
+    requires bound { IsBound pipe_rows processor.now.design.now.terms }
+    requires ordered { IsOrderOf pipe_rows processor.now.design.now.terms processor.now.order.now.ids }
+    requires limit { request.limit ≤ 100000000 }
+    ensures { IfOk result (λ w. ShowsRun processor.now.variant processor.now.design.now.terms (listed object.now)
+        request.window request.image request.limit w.text.items w.end) }
 {
-    let Ok(listing) = listing_for(alloc, object, window.diagram) else {
+    let Ok(listing) = listing_for(alloc, object, request.window.diagram) else {
         return Err(Memory);
     };
-    watch_listed(
-        alloc, variant, rows, design, order, evaluator, &listing, image, limit, window,
-    )
+    watch_listed(alloc, processor, evaluator, &listing, request)
 }

@@ -12,17 +12,17 @@ ghost use Rattle.seq_plus.specs.PlusRun.{plus_start};
 ghost use Rattle.seq_text.specs.Signals.{sources_in};
 
 use crate::lines::{put_choice, put_stages, put_state};
-use crate::shown::{finished, put_number};
+use crate::shown::{Observer, finished, put_number};
 use crate::signals::{Sources, plus_sources, signals_at};
 use dp_machines::is_aok_stat;
 use dp_sequential::{Sequential, constants_in, solve_in};
 use dp_signals::{at, constant_words};
-use hcl_types::{Design, Order, Row, SignalEval};
-use pipe_stage_text::{CycleRange, ObservedRun, is_within};
+use hcl_types::SignalEval;
+use pipe_stage_text::{CycleRange, ObservedRun, ProcessorDesign, WatchRequest, is_within};
 use seq_plus::row::PLUS;
 use seq_plus::{PLUS_ROWS, PlusState};
 use std::alloc::Global;
-use y86_base::{Image, Memory, Variant};
+use y86_base::Memory;
 
 /// Puts the lines of a cycle.
 #[tactic(auto, unfolding(crate::specs::Observer::plus_lines, crate::specs::Signals::plus_signals))]
@@ -44,94 +44,90 @@ fn put_lines(
 #[tactic(auto, unfolding(crate::specs::Observer::shown))]
 fn put_shown(
     out: &mut Vec<u8>,
-    rows: &[Row],
-    design: &Design,
+    processor: &ProcessorDesign<'_>,
     window: &CycleRange,
     number: u64,
     s: &PlusState,
     values: &[u64],
 ) -> Result<(), Memory>
-    ensures { OnOk result (out.new.items
-        ≡ out.old.items ++ text.shown window.now number (text.plus_lines s.now (at values.now) (told_sources rows.now design.now.terms (at values.now)))) }
+    ensures { OnOk result (out.new.items ≡ out.old.items
+        ++ text.shown window.now number (text.plus_lines s.now (at values.now) (told_sources processor.now.rows.now processor.now.design.now.terms (at values.now)))) }
 {
     if !is_within(window, number) {
         return Ok(());
     }
     put_number(out, number)?;
-    put_lines(out, s, values, &plus_sources(rows, design, values))
+    let sources = plus_sources(processor.rows, processor.design, values);
+    put_lines(out, s, values, &sources)
 }
 
 /// Does the cycle of a number, and puts what is shown of it. `fits` is the evaluator's answer about the constants.
 fn cycle<C: SignalEval>(
-    s: &mut PlusState,
-    out: &mut Vec<u8>,
-    variant: Variant,
-    rows: &[Row],
-    design: &Design,
-    order: &Order,
+    s: &mut Observer<PlusState>,
+    processor: &ProcessorDesign<'_>,
     evaluator: &mut C,
     fits: bool,
     window: &CycleRange,
     number: u64,
 ) -> Result<(), Memory>
-    requires table { rows.now ≡ plus_rows }
-    requires evaluates { C.evaluates evaluator.old design.now.terms }
+    requires table { processor.now.rows.now ≡ plus_rows }
+    requires evaluates { C.evaluates evaluator.old processor.now.design.now.terms }
     requires fits { IsTrue fits → Starts (C.assumes evaluator.old) constants }
-    requires bound { IsBound plus_rows design.now.terms }
-    requires ordered { IsOrderOf plus_rows design.now.terms order.now.ids }
-    ensures kept { OnOk result (C.evaluates evaluator.new design.now.terms) }
+    requires bound { IsBound plus_rows processor.now.design.now.terms }
+    requires ordered { IsOrderOf plus_rows processor.now.design.now.terms processor.now.order.now.ids }
+    ensures kept { OnOk result (C.evaluates evaluator.new processor.now.design.now.terms) }
     ensures same { OnOk result (C.assumes evaluator.new ≡ C.assumes evaluator.old) }
-    ensures cycle { OnOk result ((lines : List ℕ) × PlusShows variant design.now.terms s.old lines s.new
-        × (out.new.items ≡ out.old.items ++ text.shown window.now number lines)) }
+    ensures cycle { OnOk result ((lines : List ℕ) × PlusShows processor.now.variant processor.now.design.now.terms s.old.state lines s.new.state
+        × (s.new.text.items ≡ s.old.text.items ++ text.shown window.now number lines)) }
 {
     let mut values: [u64; PLUS_ROWS] = constants_in();
-    solve_in(variant, design, order, s, evaluator, fits, &mut values);
-    put_shown(out, rows, design, window, number, s, &values)?;
-    s.advance(&values);
+    solve_in(
+        processor.variant,
+        processor.design,
+        processor.order,
+        &s.state,
+        evaluator,
+        fits,
+        &mut values,
+    );
+    put_shown(&mut s.text, processor, window, number, &s.state, &values)?;
+    s.state.advance(&values);
     Ok(())
 }
 
 /// Runs an image on SEQ+ under a design to its end or to the limit of cycles, and gives what is shown of it.
 pub fn watch_plus<C: SignalEval>(
     alloc: Global,
-    variant: Variant,
-    rows: &[Row],
-    design: &Design,
-    order: &Order,
+    processor: &ProcessorDesign<'_>,
     evaluator: &mut C,
-    image: Image,
-    limit: u64,
-    window: &CycleRange,
+    request: WatchRequest,
 ) -> Result<ObservedRun, Memory>
-    requires table { rows.now ≡ plus_rows }
-    requires evaluates { C.evaluates evaluator.old design.now.terms }
-    requires bound { IsBound plus_rows design.now.terms }
-    requires ordered { IsOrderOf plus_rows design.now.terms order.now.ids }
-    requires limit { limit ≤ 100000000 }
-    ensures { IfOk result (λ w. ShowsRun (PlusShows variant design.now.terms) plus_stat window.now (plus_start image) limit w.text.items w.end) }
+    requires table { processor.now.rows.now ≡ plus_rows }
+    requires evaluates { C.evaluates evaluator.old processor.now.design.now.terms }
+    requires bound { IsBound plus_rows processor.now.design.now.terms }
+    requires ordered { IsOrderOf plus_rows processor.now.design.now.terms processor.now.order.now.ids }
+    requires limit { request.limit ≤ 100000000 }
+    ensures { IfOk result (λ w. ShowsRun (PlusShows processor.now.variant processor.now.design.now.terms) plus_stat
+        request.window (plus_start request.image) request.limit w.text.items w.end) }
 {
+    let WatchRequest {
+        image,
+        limit,
+        window,
+    } = request;
     let fits = evaluator.fits(&constant_words());
-    let mut s = PlusState::start(image);
-    let mut lines = Vec::new(alloc);
+    let mut s = Observer {
+        state: PlusState::start(image),
+        text: Vec::new(alloc),
+    };
     for k in 0..limit {
-        if !is_aok_stat(s.stat) {
-            return finished(lines, s.stat, k);
+        if !is_aok_stat(s.state.stat) {
+            return finished(s.text, s.state.stat, k);
         }
-        match cycle(
-            &mut s,
-            &mut lines,
-            variant,
-            rows,
-            design,
-            order,
-            evaluator,
-            fits,
-            window,
-            k + 1,
-        ) {
+        match cycle(&mut s, processor, evaluator, fits, &window, k + 1) {
             Ok(()) => {}
             Err(_) => return Err(Memory),
         }
     }
-    finished(lines, s.stat, limit)
+    finished(s.text, s.state.stat, limit)
 }

@@ -12,15 +12,15 @@ ghost use Rattle.seq_text.specs.Signals.{sources_in};
 ghost use Rattle.y86_isa.specs.Machine.{start};
 
 use crate::lines::{put_stages, put_state, put_update};
-use crate::shown::{finished, put_number};
+use crate::shown::{Observer, finished, put_number};
 use crate::signals::{Sources, seq_sources, signals_at};
 use dp_machines::is_aok_stat;
 use dp_sequential::{Sequential, constants_in, solve_in};
 use dp_signals::{SEQ, SEQ_ROWS, SeqState, at, constant_words, seq_row};
-use hcl_types::{Design, Order, Row, SignalEval};
-use pipe_stage_text::{CycleRange, ObservedRun, is_within};
+use hcl_types::SignalEval;
+use pipe_stage_text::{CycleRange, ObservedRun, ProcessorDesign, WatchRequest, is_within};
 use std::alloc::Global;
-use y86_base::{Image, Memory, Variant};
+use y86_base::Memory;
 
 /// Puts the lines of a cycle.
 #[tactic(auto, unfolding(crate::specs::Observer::seq_lines, crate::specs::Signals::seq_signals))]
@@ -42,94 +42,90 @@ fn put_lines(
 #[tactic(auto, unfolding(crate::specs::Observer::shown))]
 fn put_shown(
     out: &mut Vec<u8>,
-    rows: &[Row],
-    design: &Design,
+    processor: &ProcessorDesign<'_>,
     window: &CycleRange,
     number: u64,
     s: &SeqState,
     values: &[u64],
 ) -> Result<(), Memory>
-    ensures { OnOk result (out.new.items
-        ≡ out.old.items ++ text.shown window.now number (text.seq_lines s.now (at values.now) (told_sources rows.now design.now.terms (at values.now)))) }
+    ensures { OnOk result (out.new.items ≡ out.old.items
+        ++ text.shown window.now number (text.seq_lines s.now (at values.now) (told_sources processor.now.rows.now processor.now.design.now.terms (at values.now)))) }
 {
     if !is_within(window, number) {
         return Ok(());
     }
     put_number(out, number)?;
-    put_lines(out, s, values, &seq_sources(rows, design, values))
+    let sources = seq_sources(processor.rows, processor.design, values);
+    put_lines(out, s, values, &sources)
 }
 
 /// Does the cycle of a number, and puts what is shown of it. `fits` is the evaluator's answer about the constants.
 fn cycle<C: SignalEval>(
-    s: &mut SeqState,
-    out: &mut Vec<u8>,
-    variant: Variant,
-    rows: &[Row],
-    design: &Design,
-    order: &Order,
+    s: &mut Observer<SeqState>,
+    processor: &ProcessorDesign<'_>,
     evaluator: &mut C,
     fits: bool,
     window: &CycleRange,
     number: u64,
 ) -> Result<(), Memory>
-    requires table { rows.now ≡ seq_rows }
-    requires evaluates { C.evaluates evaluator.old design.now.terms }
+    requires table { processor.now.rows.now ≡ seq_rows }
+    requires evaluates { C.evaluates evaluator.old processor.now.design.now.terms }
     requires fits { IsTrue fits → Starts (C.assumes evaluator.old) constants }
-    requires bound { IsBound seq_rows design.now.terms }
-    requires ordered { IsOrderOf seq_rows design.now.terms order.now.ids }
-    ensures kept { OnOk result (C.evaluates evaluator.new design.now.terms) }
+    requires bound { IsBound seq_rows processor.now.design.now.terms }
+    requires ordered { IsOrderOf seq_rows processor.now.design.now.terms processor.now.order.now.ids }
+    ensures kept { OnOk result (C.evaluates evaluator.new processor.now.design.now.terms) }
     ensures same { OnOk result (C.assumes evaluator.new ≡ C.assumes evaluator.old) }
-    ensures cycle { OnOk result ((lines : List ℕ) × SeqShows variant design.now.terms s.old lines s.new
-        × (out.new.items ≡ out.old.items ++ text.shown window.now number lines)) }
+    ensures cycle { OnOk result ((lines : List ℕ) × SeqShows processor.now.variant processor.now.design.now.terms s.old.state lines s.new.state
+        × (s.new.text.items ≡ s.old.text.items ++ text.shown window.now number lines)) }
 {
     let mut values: [u64; SEQ_ROWS] = constants_in();
-    solve_in(variant, design, order, s, evaluator, fits, &mut values);
-    put_shown(out, rows, design, window, number, s, &values)?;
-    s.advance(&values);
+    solve_in(
+        processor.variant,
+        processor.design,
+        processor.order,
+        &s.state,
+        evaluator,
+        fits,
+        &mut values,
+    );
+    put_shown(&mut s.text, processor, window, number, &s.state, &values)?;
+    s.state.advance(&values);
     Ok(())
 }
 
 /// Runs an image on SEQ under a design to its end or to the limit of cycles, and gives what is shown of it.
 pub fn watch_seq<C: SignalEval>(
     alloc: Global,
-    variant: Variant,
-    rows: &[Row],
-    design: &Design,
-    order: &Order,
+    processor: &ProcessorDesign<'_>,
     evaluator: &mut C,
-    image: Image,
-    limit: u64,
-    window: &CycleRange,
+    request: WatchRequest,
 ) -> Result<ObservedRun, Memory>
-    requires table { rows.now ≡ seq_rows }
-    requires evaluates { C.evaluates evaluator.old design.now.terms }
-    requires bound { IsBound seq_rows design.now.terms }
-    requires ordered { IsOrderOf seq_rows design.now.terms order.now.ids }
-    requires limit { limit ≤ 100000000 }
-    ensures { IfOk result (λ w. ShowsRun (SeqShows variant design.now.terms) seq_stat window.now (start image) limit w.text.items w.end) }
+    requires table { processor.now.rows.now ≡ seq_rows }
+    requires evaluates { C.evaluates evaluator.old processor.now.design.now.terms }
+    requires bound { IsBound seq_rows processor.now.design.now.terms }
+    requires ordered { IsOrderOf seq_rows processor.now.design.now.terms processor.now.order.now.ids }
+    requires limit { request.limit ≤ 100000000 }
+    ensures { IfOk result (λ w. ShowsRun (SeqShows processor.now.variant processor.now.design.now.terms) seq_stat
+        request.window (start request.image) request.limit w.text.items w.end) }
 {
+    let WatchRequest {
+        image,
+        limit,
+        window,
+    } = request;
     let fits = evaluator.fits(&constant_words());
-    let mut s = SeqState::start(image);
-    let mut lines = Vec::new(alloc);
+    let mut s = Observer {
+        state: SeqState::start(image),
+        text: Vec::new(alloc),
+    };
     for k in 0..limit {
-        if !is_aok_stat(s.stat) {
-            return finished(lines, s.stat, k);
+        if !is_aok_stat(s.state.stat) {
+            return finished(s.text, s.state.stat, k);
         }
-        match cycle(
-            &mut s,
-            &mut lines,
-            variant,
-            rows,
-            design,
-            order,
-            evaluator,
-            fits,
-            window,
-            k + 1,
-        ) {
+        match cycle(&mut s, processor, evaluator, fits, &window, k + 1) {
             Ok(()) => {}
             Err(_) => return Err(Memory),
         }
     }
-    finished(lines, s.stat, limit)
+    finished(s.text, s.state.stat, limit)
 }

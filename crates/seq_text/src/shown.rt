@@ -1,10 +1,19 @@
-//! What the runs of both machines share: the head of a cycle's lines, and the end.
+//! What the runs of both machines share: the machine that is watched, the head of a cycle's lines, and the end.
 ghost use Rattle.std.specs.Prelude.{◌≡◌, ◌++◌, IfOk, OnOk, codes};
 ghost use Rattle.pipe_stage_text.specs.Cycle.{end_line};
 ghost use Rattle.pipe_stage_text.specs.Numbers.{number_pair};
 
 use pipe_stage_text::{ObservedRun, put_end, put_number_pair};
 use y86_base::{Memory, Stat, put};
+
+/// A machine that is watched.
+#[derive(Drop)]
+pub(crate) struct Observer<S: Drop> {
+    /// The state that it is in.
+    pub state: S,
+    /// The text of its cycles so far.
+    pub text: Vec<u8>,
+}
 
 /// Puts the line of a cycle's number.
 pub(crate) fn put_number(out: &mut Vec<u8>, number: u64) -> Result<(), Memory>

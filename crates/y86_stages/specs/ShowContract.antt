@@ -8,7 +8,7 @@ use Rattle.cli_plans.specs.Stops.{line_of, status_of}
 use Rattle.cli_plans.specs.declared.stop_reason.StopReason as code
 use Rattle.cli_plans.specs.declared.stop_reason.StopReason.TheVariants.{Memory, Usage}
 use Rattle.y86_words.specs.Forms.{Command, form_of, psim}
-use Rattle.y86_stages.specs.declared.calling.Request as code_request
+use Rattle.y86_stages.specs.declared.request.RunRequest as code_request
 use Rattle.y86_stages.specs.declared.reading.Processor.{Processor}
 use Rattle.y86_stages.specs.declared.reading.Processor.TheVariants.{Pipe}
 use Rattle.y86_stages.specs.ShowAnswers.{stages_plan}
@@ -36,8 +36,8 @@ request_of (Some (psim name object size limit trace checked v)) =
     if trace || checked then None else Some (record { name = name; object = object; size = size; limit = limit; variant = v })
 request_of _ = None
 
-abbrev pub request_in : code_request.Request → Request
-request_in r = record { name = r.hcl.now; object = r.obj.now; size = r.mem; limit = r.limit; variant = r.variant }
+abbrev pub request_in : code_request.RunRequest → Request
+request_in r = record { name = r.hcl.now; object = r.object.now; size = r.memory; limit = r.limit; variant = r.variant }
 
 -- the run is shown; or there is none, and nothing is read or written
 unfoldable pub ShowOutcome : Processor → Option Request → CycleRange → FilesState → FilesState → SinkState → SinkState → Result ℕ code.StopReason → Type 0

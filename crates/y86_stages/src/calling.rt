@@ -15,6 +15,7 @@ ghost use Rattle.y86_stages.specs.ScannedWords.{read_in, read_of};
 ghost use Rattle.y86_stages.specs.ScannedWords as reading;
 
 use crate::reading::{Processor, ScannedArguments, read_words};
+use crate::request::{RunRequest, ShowRequest};
 use crate::running::show;
 use cli_plans::{Status, StopReason, report_stop, unreadable, words_behind};
 use pipe_stage_text::CycleRange;
@@ -23,18 +24,7 @@ use std::env::Args;
 use std::io;
 use std::io::ErrorKind;
 use wb_io::{Files, Sink, put_all};
-use y86_base::Variant;
 use y86_words::{Cmd, Usage, words};
-
-/// A run that is to be shown.
-#[derive(Clone, Copy, Debug)]
-pub struct Request<'a> {
-    pub hcl: &'a str,
-    pub obj: &'a str,
-    pub mem: u64,
-    pub limit: u64,
-    pub variant: Variant,
-}
 
 /// What the options say is shown: all cycles where they don't say it.
 fn window_of(r: &ScannedArguments) -> CycleRange
@@ -48,10 +38,10 @@ fn window_of(r: &ScannedArguments) -> CycleRange
 }
 
 /// The run that a command of `psim` is, where it asks for no trace and no check.
-fn request_of<'a>(command: Cmd<'a>) -> Option<Request<'a>>
+fn request_of<'a>(command: Cmd<'a>) -> Option<RunRequest<'a>>
     requires { IsInRange (command_in command) }
     ensures request { option_map request_in result ≡ spec.request_of (Some (command_in command.entry)) }
-    ensures legal { IfSome result (λ r. IsSize r.mem × (r.limit ≤ 100000000)) }
+    ensures legal { IfSome result (λ r. IsSize r.memory × (r.limit ≤ 100000000)) }
 {
     match command {
         Cmd::Psim {
@@ -66,10 +56,10 @@ fn request_of<'a>(command: Cmd<'a>) -> Option<Request<'a>>
             if trace || checked {
                 return None;
             }
-            Some(Request {
+            Some(RunRequest {
                 hcl,
-                obj,
-                mem,
+                object: obj,
+                memory: mem,
                 limit,
                 variant,
             })
@@ -98,9 +88,14 @@ fn show_words<'a, F: Files, O: Sink>(
     };
     match request_of(command) {
         None => Err(StopReason::Usage),
-        Some(r) => show(
-            alloc, processor, r.hcl, r.obj, r.mem, r.limit, r.variant, window, files, out,
-        ),
+        Some(run) => {
+            let request = ShowRequest {
+                processor,
+                run,
+                window: *window,
+            };
+            show(alloc, request, files, out)
+        }
     }
 }
 

@@ -3,6 +3,7 @@
 
 mod calling;
 mod reading;
+mod request;
 mod running;
 
 use crate::calling::call;

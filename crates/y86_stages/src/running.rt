@@ -8,17 +8,18 @@ ghost use Rattle.cli_plans.specs.PlanFollowing.{FollowsPlanOver, IsReadResultIn,
 ghost use Rattle.y86_stages.specs.ShowAnswers.{ShownAnswers, Shows, object_plan, rows_of, stages_plan};
 
 use crate::reading::Processor;
+use crate::request::ShowRequest;
 use cli_plans::{
     Datapath, FILE_LIMIT, OrderedDesign, StopReason, load_image, pipe_file, read_file, seq_file,
     status, write_answer,
 };
 use dp_signals::constant_words;
 use hcl_compile::compile;
-use pipe_stage_text::{CycleRange, ObservedRun, watch_run};
+use pipe_stage_text::{ObservedRun, ProcessorDesign, WatchRequest, watch_run};
 use seq_text::{watch_plus, watch_seq};
 use std::alloc::Global;
 use wb_io::{Files, Sink};
-use y86_base::{Image, Memory, Variant};
+use y86_base::{Image, Memory};
 
 /// The design of an HCL file for a processor.
 fn design_file<'a, F: Files>(
@@ -42,80 +43,53 @@ fn design_file<'a, F: Files>(
 #[tactic(auto, unfolding(crate::specs::ShowAnswers::Shows))]
 fn watch(
     alloc: Global,
-    processor: Processor,
-    variant: Variant,
+    request: ShowRequest<'_>,
     ordered: &OrderedDesign,
     object: &[u8],
     image: Image,
-    limit: u64,
-    window: &CycleRange,
 ) -> Result<ObservedRun, Memory>
-    requires ordered { IsOrdered (rows_of processor) ordered.now }
-    requires limit { limit ≤ 100000000 }
-    ensures { IfOk result (λ w. Shows processor variant ordered.now.design.terms (listed object.now) limit window.now image w.text.items w.end) }
+    requires ordered { IsOrdered (rows_of request.processor) ordered.now }
+    requires limit { request.run.limit ≤ 100000000 }
+    ensures { IfOk result (λ w. Shows request.entry.processor request.entry.run.variant ordered.now.design.terms (listed object.now)
+        request.entry.run.limit request.entry.window image w.text.items w.end) }
 {
     let Ok(mut compiled) = compile(alloc, &ordered.design, &ordered.order, &constant_words()) else {
         return Err(Memory);
     };
-    let rows = ordered.table.rows.items();
-    match processor {
-        Processor::Pipe => watch_run(
-            alloc,
-            variant,
-            rows,
-            &ordered.design,
-            &ordered.order,
-            &mut compiled,
-            object,
-            image,
-            limit,
-            window,
-        ),
-        Processor::Seq => watch_seq(
-            alloc,
-            variant,
-            rows,
-            &ordered.design,
-            &ordered.order,
-            &mut compiled,
-            image,
-            limit,
-            window,
-        ),
-        Processor::SeqPlus => watch_plus(
-            alloc,
-            variant,
-            rows,
-            &ordered.design,
-            &ordered.order,
-            &mut compiled,
-            image,
-            limit,
-            window,
-        ),
+    let processor = ProcessorDesign {
+        variant: request.run.variant,
+        rows: ordered.table.rows.items(),
+        design: &ordered.design,
+        order: &ordered.order,
+    };
+    let watched = WatchRequest {
+        image,
+        limit: request.run.limit,
+        window: request.window,
+    };
+    match request.processor {
+        Processor::Pipe => watch_run(alloc, &processor, &mut compiled, object, watched),
+        Processor::Seq => watch_seq(alloc, &processor, &mut compiled, watched),
+        Processor::SeqPlus => watch_plus(alloc, &processor, &mut compiled, watched),
     }
 }
 
 /// Runs the image of an object text, and says what is shown of it.
 fn show_image<'a, O: Sink>(
     alloc: Global,
-    processor: Processor,
-    variant: Variant,
+    request: ShowRequest<'_>,
     ordered: &OrderedDesign,
     object: &[u8],
     image: Image,
-    limit: u64,
-    window: &CycleRange,
     out: &mut O,
 ) -> Result<u8, StopReason<'a>>
-    requires ordered { IsOrdered (rows_of processor) ordered.now }
-    requires limit { limit ≤ 100000000 }
-    ensures { WritesAnswer (ShownAnswers processor variant ordered.now.design.terms (listed object.now) limit window.now image)
+    requires ordered { IsOrdered (rows_of request.processor) ordered.now }
+    requires limit { request.run.limit ≤ 100000000 }
+    ensures { WritesAnswer (ShownAnswers request.entry.processor request.entry.run.variant ordered.now.design.terms (listed object.now)
+        request.entry.run.limit request.entry.window image)
         (sink_state (O.taken out.old) (O.faults out.old)) (sink_state (O.taken out.new) (O.faults out.new)) result }
 {
-    match watch(
-        alloc, processor, variant, ordered, object, image, limit, window,
-    ) {
+    match watch(alloc, request, ordered, object, image) {
         Ok(watched) => write_answer(status(watched.end), watched.text.as_slice(), out),
         Err(_) => Err(StopReason::Memory),
     }
@@ -124,59 +98,47 @@ fn show_image<'a, O: Sink>(
 /// Reads an object file, and shows its run under a design.
 fn show_object<'a, F: Files, O: Sink>(
     alloc: Global,
-    processor: Processor,
-    variant: Variant,
+    request: ShowRequest<'a>,
     ordered: &OrderedDesign,
-    obj: &'a str,
-    mem: u64,
-    limit: u64,
-    window: &CycleRange,
     files: &mut F,
     out: &mut O,
 ) -> Result<u8, StopReason<'a>>
-    requires size { IsSize mem }
-    requires limit { limit ≤ 100000000 }
-    requires ordered { IsOrdered (rows_of processor) ordered.now }
-    ensures { FollowsPlanOver F.told F.faults O.taken O.faults (object_plan processor ordered.now.design.terms obj.now mem limit variant window.now)
+    requires size { IsSize request.run.memory }
+    requires limit { request.run.limit ≤ 100000000 }
+    requires ordered { IsOrdered (rows_of request.processor) ordered.now }
+    ensures { FollowsPlanOver F.told F.faults O.taken O.faults (object_plan request.entry.processor ordered.now.design.terms
+        request.entry.run.object.now request.entry.run.memory request.entry.run.limit request.entry.run.variant request.entry.window)
         files.old files.new out.old out.new result }
 {
-    let bytes = match read_file(alloc, obj, FILE_LIMIT, files) {
+    let run = request.run;
+    let bytes = match read_file(alloc, run.object, FILE_LIMIT, files) {
         Ok(bytes) => bytes,
         Err(stop) => return Err(stop),
     };
     let object = bytes.as_slice();
-    let image = match load_image(alloc, obj, object, mem) {
+    let image = match load_image(alloc, run.object, object, run.memory) {
         Ok(image) => image,
         Err(stop) => return Err(stop),
     };
-    show_image(
-        alloc, processor, variant, ordered, object, image, limit, window, out,
-    )
+    show_image(alloc, request, ordered, object, image, out)
 }
 
 /// Reads an HCL file and an object file, and shows the run.
 pub fn show<'a, F: Files, O: Sink>(
     alloc: Global,
-    processor: Processor,
-    name: &'a str,
-    obj: &'a str,
-    mem: u64,
-    limit: u64,
-    variant: Variant,
-    window: &CycleRange,
+    request: ShowRequest<'a>,
     files: &mut F,
     out: &mut O,
 ) -> Result<u8, StopReason<'a>>
-    requires size { IsSize mem }
-    requires limit { limit ≤ 100000000 }
-    ensures { FollowsPlanOver F.told F.faults O.taken O.faults (stages_plan processor name.now obj.now mem limit variant window.now)
+    requires size { IsSize request.run.memory }
+    requires limit { request.run.limit ≤ 100000000 }
+    ensures { FollowsPlanOver F.told F.faults O.taken O.faults (stages_plan request.entry.processor request.entry.run.hcl.now
+        request.entry.run.object.now request.entry.run.memory request.entry.run.limit request.entry.run.variant request.entry.window)
         files.old files.new out.old out.new result }
 {
-    let ordered = match design_file(alloc, processor, name, files) {
+    let ordered = match design_file(alloc, request.processor, request.run.hcl, files) {
         Ok(ordered) => ordered,
         Err(stop) => return Err(stop),
     };
-    show_object(
-        alloc, processor, variant, &ordered, obj, mem, limit, window, files, out,
-    )
+    show_object(alloc, request, &ordered, files, out)
 }

@@ -8,7 +8,7 @@ loop-k-preserved g c =
     let before = c.loop-k.invariant in
     let went = c.in-Ok.ensures.cycle in
     record {
-      watches = watches_more _ _ _ _ c.loop-k.k c.loop-k.s _ _ _ went.0 before.watches (sym c.is_aok_stat.ensures ∙ c.if-not-is_aok_stat.false) went.1 went.2;
+      watches = watches_more _ _ _ _ c.loop-k.k c.loop-k.s.state _ _ _ went.0 before.watches (sym c.is_aok_stat.ensures ∙ c.if-not-is_aok_stat.false) went.1 went.2;
       kept = c.in-Ok.ensures.kept;
       fits = rw c.in-Ok.ensures.same before.fits;
     }

@@ -7,7 +7,7 @@ use Rattle.seq_text.proofs.plus.watch_plus.Given as goal
 
 abbrev pub invariant-loop-k : goal.invariant-loop-k
 invariant-loop-k g l = record {
-  watches : Observes (PlusShows l.variant l.design.terms) plus_stat l.window (plus_start l.fn.image) l.k l.s l.lines.items;
-  kept : g.C.SignalEval.evaluates l.evaluator l.design.terms;
+  watches : Observes (PlusShows l.processor.variant l.processor.design.now.terms) plus_stat l.window (plus_start l.fn.request.image) l.k l.s.state l.s.text.items;
+  kept : g.C.SignalEval.evaluates l.evaluator l.processor.design.now.terms;
   fits : IsTrue l.fits → Starts (g.C.SignalEval.assumes l.evaluator) constants;
 }
