@@ -69,6 +69,7 @@ pub(crate) fn demand_gate(
         24 => obligation_24(b, ctl, y),
         25 => obligation_25(b, ctl, v, s, y),
         26 => obligation_26(b, ctl, y),
-        _ => obligation_27(b, ctl, y),
+        27 => obligation_27(b, ctl, y),
+        _ => unreachable!(),
     }
 }

@@ -286,6 +286,7 @@ pub fn is_met(
         24 => met_24(k, y),
         25 => met_25(je, rm, k, good, facts, y),
         26 => met_26(k, y),
-        _ => met_27(k, y),
+        27 => met_27(k, y),
+        _ => unreachable!(),
     }
 }

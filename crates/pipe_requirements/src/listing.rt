@@ -327,7 +327,8 @@ fn put_required(out: &mut Vec<Requirement>, n: &Now<'_>, rule: u32) -> Result<()
         19 => put_19(out, n),
         20 => put_20(out, n),
         21 => put_21(out, n),
-        _ => put_22(out, n),
+        22 => put_22(out, n),
+        _ => unreachable!(),
     }
 }
 

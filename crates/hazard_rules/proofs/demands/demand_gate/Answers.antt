@@ -1,9 +1,3 @@
-use Rattle.std.proofs.Common.{◌≡◌, IfOk, sym, subst, arith}
-use Rattle.pipe_fields.specs.Layout.{fields_of}
-use Rattle.pipe_motion.specs.Gates.{flow_at}
-use Rattle.ctl_rules.specs.ControlGates.{IsControlGate}
-use Rattle.pipe_obligations.specs.Obligations.{register_controls_of}
-use Rattle.pipe_obligations.specs.Rules.{demand}
 use Rattle.pipe_stage_gates.proofs.Ready.{ready_by, front_ready_by}
 use Rattle.hazard_rules.proofs.demands.demand_gate.Goals as goal
 
@@ -66,9 +60,3 @@ obligation_21-requires-clause-ready c = ready_by c.requires.vars c.requires.know
 
 pub obligation_22-requires-clause-ready : goal.obligation_22-requires-clause-ready
 obligation_22-requires-clause-ready c = ready_by c.requires.vars c.requires.known
-
-pub returns-in_default-clause-has_truth : goal.returns-in_default-clause-has_truth
-returns-in_default-clause-has_truth c =
-    let last : c.args.number ≡ 27 = omega (arith, c.in_default, c.requires.from, c.requires.to) in
-    subst (λ n. IfOk c.obligation_27.result (λ g. IsControlGate c.obligation_27.new.b c.args.ctl.now g (λ w α cv.
-    demand n c.args.v c.args.s.now (fields_of w) (flow_at c.args.b.now w c.args.y.now) (register_controls_of α cv) α cv))) (sym last) c.obligation_27.ensures.has_truth
