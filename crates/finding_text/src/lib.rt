@@ -5,6 +5,7 @@
 #![tactic(auto)]
 
 mod cases;
+mod explained;
 mod facts;
 mod iaddq;
 mod lines;
@@ -15,6 +16,7 @@ mod values;
 mod words;
 
 pub use cases::{CasePlace, place_of};
+pub use explained::ExplainedFile;
 pub use facts::{
     Out, put_comparison_facts, put_finding_facts, put_mend_first, put_number, put_obligation_facts,
     put_text, put_truth,

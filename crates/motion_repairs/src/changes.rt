@@ -94,7 +94,7 @@ fn moves_well(n: &Now<'_>, number: u32) -> bool
         else rule.o27 n.now.v n.now.s.now (fields_in n.now.l.now) (as_flow n.now.y.now) (as_register_controls n.now.mv.now) unread (at n.now.leaves.now))))) }
 {
     let facts = fetched(n);
-    is_met(number, n.s.je, n.s.rm, n.mv, is_fetch_good(n), &facts, n.y)
+    is_met(n, is_fetch_good(n), &facts, number)
 }
 
 /// Whether all obligations on motion are met.

@@ -4,7 +4,7 @@ ghost use Rattle.pipe_requirements.specs.Flows.{as_register_control, as_register
 ghost use Rattle.pipe_motion.specs.Flow as spec;
 
 use pipe_requirements::{
-    FlowNow, RegisterControlNow, RegisterControlsNow, StageFlowNow, leaves, loads,
+    FlowNow, Now, RegisterControlNow, RegisterControlsNow, StageFlowNow, leaves, loads,
 };
 
 /// A truth of a register after the cycle.
@@ -264,29 +264,21 @@ fn met_27(k: &RegisterControlsNow, y: &FlowNow) -> bool
 }
 
 /// Whether an obligation from 23 to 27 is met.
-pub fn is_met(
-    rule: u32,
-    je: bool,
-    rm: bool,
-    k: &RegisterControlsNow,
-    good: bool,
-    facts: &StageFlowNow,
-    y: &FlowNow,
-) -> bool
+pub fn is_met(n: &Now<'_>, good: bool, facts: &StageFlowNow, rule: u32) -> bool
     requires first { 23 ≤ rule }
     requires last { rule ≤ 27 }
-    ensures { result ≡ (if rule == 23 then spec.o23 (as_register_controls k.now)
-        else (if rule == 24 then spec.o24 (as_register_controls k.now) (as_flow y.now)
-        else (if rule == 25 then spec.o25 je rm (as_register_controls k.now) good (as_stage_flow facts.now) (as_flow y.now)
-        else (if rule == 26 then spec.o26 (as_register_controls k.now) (as_flow y.now)
-        else spec.o27 (as_register_controls k.now) (as_flow y.now))))) }
+    ensures { result ≡ (if rule == 23 then spec.o23 (as_register_controls n.now.mv.now)
+        else (if rule == 24 then spec.o24 (as_register_controls n.now.mv.now) (as_flow n.now.y.now)
+        else (if rule == 25 then spec.o25 n.now.s.now.je n.now.s.now.rm (as_register_controls n.now.mv.now) good (as_stage_flow facts.now) (as_flow n.now.y.now)
+        else (if rule == 26 then spec.o26 (as_register_controls n.now.mv.now) (as_flow n.now.y.now)
+        else spec.o27 (as_register_controls n.now.mv.now) (as_flow n.now.y.now))))) }
 {
     match rule {
-        23 => met_23(k),
-        24 => met_24(k, y),
-        25 => met_25(je, rm, k, good, facts, y),
-        26 => met_26(k, y),
-        27 => met_27(k, y),
+        23 => met_23(n.mv),
+        24 => met_24(n.mv, n.y),
+        25 => met_25(n.s.je, n.s.rm, n.mv, good, facts, n.y),
+        26 => met_26(n.mv, n.y),
+        27 => met_27(n.mv, n.y),
         _ => unreachable!(),
     }
 }

@@ -16,19 +16,19 @@ ghost use Rattle.pipe_obligations.specs.FileSettings.{PipeControls};
 ghost use Rattle.pipe_obligations.specs.StageFlows as stages;
 ghost use Rattle.pipe_diagnosis.specs.Diagnosis as spec;
 
+use crate::file::PipeFile;
 use control_values::{Scope, Situation, control_values, holds};
 use ctl_atoms::{Atom, Leaf};
 use dp_signals::{pipe_row as name, pipe_table};
 use findings::{Finding, Requirement, findings_of, leaf_at};
-use hcl_types::{Design, NameId, Order, Term};
+use hcl_types::NameId;
 use motion_repairs::{Repairs, repairs_of};
 use pipe_fields::{BIT_COUNT, field_specs};
-use pipe_motion::Settings;
 use pipe_requirements::{
     Now, RegisterControlNow, RegisterControlsNow, flow_of, lines_of, requirements_of,
 };
 use std::alloc::Global;
-use y86_base::{Items, Memory, Variant};
+use y86_base::{Items, Memory};
 
 /// Findings, and the repairs.
 #[derive(Drop)]
@@ -100,32 +100,34 @@ fn requirements_at(alloc: Global, n: &Now<'_>, number: u32) -> Result<Vec<Requir
 /// The findings and repairs at a valuation.
 fn found_at(
     alloc: Global,
-    v: Variant,
-    s: &Settings,
+    file: &PipeFile<'_>,
     scope: &Scope<'_>,
-    terms: &[Term],
     number: u32,
 ) -> Result<FindingsAndRepairs, Memory>
     requires near { scope.now.first ≤ 1000 }
     requires first { 1 ≤ number }
-    ensures findings { number ≤ 22 → IfOk result (λ r. r.findings ≡ map (finding signal.f_pc terms.now (assigned scope.now.atoms.now scope.now.first scope.now.bits.now) (at scope.now.leaves.now))
-        (requirements v s.now (fields_of scope.now.bits.now) (stages.flow_of v s.now (fields_of scope.now.bits.now))
+    ensures findings { number ≤ 22 → IfOk result (λ r. r.findings
+        ≡ map (finding signal.f_pc file.now.design.now.terms (assigned scope.now.atoms.now scope.now.first scope.now.bits.now) (at scope.now.leaves.now))
+        (requirements file.now.variant file.now.settings.now (fields_of scope.now.bits.now)
+        (stages.flow_of file.now.variant file.now.settings.now (fields_of scope.now.bits.now))
         (rule.register_controls_of (assigned scope.now.atoms.now scope.now.first scope.now.bits.now) (at scope.now.leaves.now)) (at scope.now.leaves.now) number)) }
-    ensures repairs { IfOk result (λ r. pairs.AreRepairs v s.now (fields_of scope.now.bits.now) (stages.flow_of v s.now (fields_of scope.now.bits.now))
+    ensures repairs { IfOk result (λ r. pairs.AreRepairs file.now.variant file.now.settings.now (fields_of scope.now.bits.now)
+        (stages.flow_of file.now.variant file.now.settings.now (fields_of scope.now.bits.now))
         (rule.register_controls_of (assigned scope.now.atoms.now scope.now.first scope.now.bits.now) (at scope.now.leaves.now)) unread scope.now.leaves.now r.repairs) }
 {
     let l = lines_of(scope.bits);
-    let y = flow_of(v, s, &l);
+    let y = flow_of(file.variant, file.settings, &l);
     let mv = register_controls_at(scope);
     let n = Now {
-        v,
-        s,
+        v: file.variant,
+        s: file.settings,
         l: &l,
         y: &y,
         mv: &mv,
         leaves: scope.leaves,
     };
     let all = requirements_at(alloc, &n, number)?;
+    let terms = file.design.terms.items();
     let findings = findings_of(alloc, scope, terms, name::F_PC, all.as_slice())?;
     let repairs = repairs_of(alloc, &n)?;
     Ok(FindingsAndRepairs {
@@ -137,19 +139,16 @@ fn found_at(
 /// Diagnoses a valuation at which an obligation is false.
 pub fn diagnose(
     alloc: Global,
-    v: Variant,
-    d: &Design,
-    o: &Order,
-    s: &Settings,
+    file: &PipeFile<'_>,
     atoms: &[Atom],
     number: u32,
     bits: &[bool],
 ) -> Result<Diagnosis, Memory>
-    requires ordered { IsOrderOf pipe_rows d.now.terms o.now.ids }
-    requires atoms { AreAtoms pipe_rows d.now.terms atoms.now }
+    requires ordered { IsOrderOf pipe_rows file.now.design.now.terms file.now.order.now.ids }
+    requires atoms { AreAtoms pipe_rows file.now.design.now.terms atoms.now }
     requires first { 1 ≤ number }
-    requires fails { spec.Fails v d.now.terms s.now atoms.now number bits.now }
-    ensures diagnosis { IfOk result (spec.IsDiagnosis v d.now.terms s.now atoms.now number bits.now) }
+    requires fails { spec.Fails file.now.variant file.now.design.now.terms file.now.settings.now atoms.now number bits.now }
+    ensures diagnosis { IfOk result (spec.IsDiagnosis file.now.variant file.now.design.now.terms file.now.settings.now atoms.now number bits.now) }
 {
     let t = match pipe_table(alloc) {
         Ok(t) => t,
@@ -161,14 +160,14 @@ pub fn diagnose(
         first: BIT_COUNT as usize,
         bits,
     };
-    let leaves = control_values(alloc, d, &t, o, &situation)?;
+    let leaves = control_values(alloc, file.design, &t, file.order, &situation)?;
     let scope = Scope {
         atoms,
         first: BIT_COUNT as usize,
         bits,
         leaves: leaves.as_slice(),
     };
-    let found = found_at(alloc, v, s, &scope, d.terms.items(), number)?;
+    let found = found_at(alloc, file, &scope, number)?;
     Ok(Diagnosis {
         leaves: Items::of(leaves),
         findings: found.findings,

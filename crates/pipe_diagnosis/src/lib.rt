@@ -6,8 +6,10 @@
 #![tactic(auto)]
 
 mod diagnosis;
+mod file;
 mod refusal;
 
 pub use diagnosis::{Diagnosis, diagnose, register_controls_at};
+pub use file::PipeFile;
 pub use findings::Finding;
 pub use refusal::{Refusal, Refutation};

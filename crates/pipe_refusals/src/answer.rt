@@ -12,7 +12,7 @@ ghost use Rattle.pipe_refusals.specs.Answered as spec;
 use control_check::{CheckFault, FailedRule, decide_pipe, rules_at_settings};
 use ctl_rules::{Rule, Rules};
 use hcl_types::{Design, Order};
-use pipe_diagnosis::{Refusal, Refutation, diagnose};
+use pipe_diagnosis::{PipeFile, Refusal, Refutation, diagnose};
 use pipe_motion::Settings;
 use std::alloc::Global;
 use y86_base::{Items, Memory, Variant};
@@ -35,28 +35,22 @@ fn rules_from(list: &[Rule], from: usize) -> &[Rule]
 /// Refutes the first obligation behind some that is false somewhere.
 fn refute(
     alloc: Global,
-    v: Variant,
-    d: &Design,
-    o: &Order,
-    settings: &Settings,
+    file: &PipeFile<'_>,
     rules: &Rules,
     from: usize,
     failure: FailedRule,
 ) -> Result<Refutation, Memory>
-    requires ordered { IsOrderOf pipe_rows d.now.terms o.now.ids }
-    requires rules { AreRules v d.now.terms settings.now rules.now.net rules.now.list }
-    requires atoms { AreAtoms pipe_rows d.now.terms rules.now.atoms }
+    requires ordered { IsOrderOf pipe_rows file.now.design.now.terms file.now.order.now.ids }
+    requires rules { AreRules file.now.variant file.now.design.now.terms file.now.settings.now rules.now.net rules.now.list }
+    requires atoms { AreAtoms pipe_rows file.now.design.now.terms rules.now.atoms }
     requires failure { IsRuleDecision rules.now.net (drop from rules.now.list) (Some failure) }
-    ensures refutation { IfOk result (spec.IsRefutation v d.now.terms settings.now rules.now.atoms) }
+    ensures refutation { IfOk result (spec.IsRefutation file.now.variant file.now.design.now.terms file.now.settings.now rules.now.atoms) }
     ensures rule { IfOk result (λ x. x.rule ≡ failure.rule) }
     ensures valuation { IfOk result (λ x. x.valuation ≡ failure.valuation) }
 {
     let diagnosis = diagnose(
         alloc,
-        v,
-        d,
-        o,
-        settings,
+        file,
         rules.atoms.items(),
         failure.rule,
         failure.valuation.bits.items(),
@@ -82,21 +76,18 @@ fn put(out: &mut Vec<Refutation>, refutation: Refutation) -> Result<(), Memory>
 #[tactic(auto, using(crate::proofs::Refuting::gates_from))]
 fn refute_next(
     alloc: Global,
-    v: Variant,
-    d: &Design,
-    o: &Order,
-    settings: &Settings,
+    file: &PipeFile<'_>,
     rules: &Rules,
     first: &Refutation,
     from: usize,
     others: &mut Vec<Refutation>,
 ) -> Result<usize, Memory>
-    requires ordered { IsOrderOf pipe_rows d.now.terms o.now.ids }
-    requires rules { AreRules v d.now.terms settings.now rules.now.net rules.now.list }
-    requires atoms { AreAtoms pipe_rows d.now.terms rules.now.atoms }
+    requires ordered { IsOrderOf pipe_rows file.now.design.now.terms file.now.order.now.ids }
+    requires rules { AreRules file.now.variant file.now.design.now.terms file.now.settings.now rules.now.net rules.now.list }
+    requires atoms { AreAtoms pipe_rows file.now.design.now.terms rules.now.atoms }
     requires from { from < length rules.now.list }
-    requires refuted { spec.AreRefuted v d.now.terms settings.now rules.now.atoms from (first.now ∷ others.old.items) }
-    ensures refuted { IfOk result (λ until. spec.AreRefuted v d.now.terms settings.now rules.now.atoms until (first.now ∷ others.new.items)) }
+    requires refuted { spec.AreRefuted file.now.variant file.now.design.now.terms file.now.settings.now rules.now.atoms from (first.now ∷ others.old.items) }
+    ensures refuted { IfOk result (λ until. spec.AreRefuted file.now.variant file.now.design.now.terms file.now.settings.now rules.now.atoms until (first.now ∷ others.new.items)) }
     ensures more { IfOk result (λ until. from < until) }
     ensures within { IfOk result (λ until. until ≤ length rules.now.list) }
 {
@@ -105,7 +96,7 @@ fn refute_next(
         None => Ok(list.len()),
         Some(failure) => {
             let until = failure.rule as usize;
-            let refutation = refute(alloc, v, d, o, settings, rules, from, failure)?;
+            let refutation = refute(alloc, file, rules, from, failure)?;
             put(others, refutation)?;
             Ok(until)
         }
@@ -115,26 +106,23 @@ fn refute_next(
 /// Refutes the obligations behind the first false one.
 fn refute_others(
     alloc: Global,
-    v: Variant,
-    d: &Design,
-    o: &Order,
-    settings: &Settings,
+    file: &PipeFile<'_>,
     rules: &Rules,
     first: &Refutation,
 ) -> Result<Vec<Refutation>, Memory>
-    requires ordered { IsOrderOf pipe_rows d.now.terms o.now.ids }
-    requires rules { AreRules v d.now.terms settings.now rules.now.net rules.now.list }
-    requires atoms { AreAtoms pipe_rows d.now.terms rules.now.atoms }
+    requires ordered { IsOrderOf pipe_rows file.now.design.now.terms file.now.order.now.ids }
+    requires rules { AreRules file.now.variant file.now.design.now.terms file.now.settings.now rules.now.net rules.now.list }
+    requires atoms { AreAtoms pipe_rows file.now.design.now.terms rules.now.atoms }
     requires within { first.now.rule ≤ length rules.now.list }
-    requires first { spec.AreRefuted v d.now.terms settings.now rules.now.atoms first.now.rule (first.now ∷ []) }
-    ensures { IfOk result (λ others. spec.AreRefuted v d.now.terms settings.now rules.now.atoms (length rules.now.list) (first.now ∷ others.items)) }
+    requires first { spec.AreRefuted file.now.variant file.now.design.now.terms file.now.settings.now rules.now.atoms first.now.rule (first.now ∷ []) }
+    ensures { IfOk result (λ others. spec.AreRefuted file.now.variant file.now.design.now.terms file.now.settings.now rules.now.atoms (length rules.now.list) (first.now ∷ others.items)) }
 {
     let mut others = Vec::new(alloc);
     let mut from = first.rule as usize;
     let count = rules.list.items().len();
     for _k in 0..count {
         if from < count {
-            match refute_next(alloc, v, d, o, settings, rules, first, from, &mut others) {
+            match refute_next(alloc, file, rules, first, from, &mut others) {
                 Ok(until) => from = until,
                 Err(e) => return Err(e),
             }
@@ -146,24 +134,21 @@ fn refute_others(
 /// Diagnoses a refused file.
 fn refuse(
     alloc: Global,
-    v: Variant,
-    d: &Design,
-    o: &Order,
-    settings: Settings,
+    file: &PipeFile<'_>,
     rules: Rules,
     failure: FailedRule,
 ) -> Result<Refusal, Memory>
-    requires ordered { IsOrderOf pipe_rows d.now.terms o.now.ids }
-    requires settings { AreSettings v d.now.terms settings }
-    requires rules { AreRules v d.now.terms settings rules.net rules.list }
-    requires atoms { AreAtoms pipe_rows d.now.terms rules.atoms }
+    requires ordered { IsOrderOf pipe_rows file.now.design.now.terms file.now.order.now.ids }
+    requires settings { AreSettings file.now.variant file.now.design.now.terms file.now.settings.now }
+    requires rules { AreRules file.now.variant file.now.design.now.terms file.now.settings.now rules.net rules.list }
+    requires atoms { AreAtoms pipe_rows file.now.design.now.terms rules.atoms }
     requires failure { IsRuleDecision rules.net rules.list (Some failure) }
-    ensures { IfOk result (spec.IsRefusal v d.now.terms) }
+    ensures { IfOk result (spec.IsRefusal file.now.variant file.now.design.now.terms) }
 {
-    let first = refute(alloc, v, d, o, &settings, &rules, 0, failure)?;
-    let others = refute_others(alloc, v, d, o, &settings, &rules, &first)?;
+    let first = refute(alloc, file, &rules, 0, failure)?;
+    let others = refute_others(alloc, file, &rules, &first)?;
     Ok(Refusal {
-        settings,
+        settings: *file.settings,
         atoms: rules.atoms,
         first,
         others: Items::of(others),
@@ -189,10 +174,18 @@ pub fn diagnose_pipe(
     let rules = made.rules;
     match decide_pipe(alloc, &rules.net, rules.list.items()) {
         Ok(None) => Ok(PipeAnswer::Yes(settings)),
-        Ok(Some(failure)) => match refuse(alloc, v, d, o, settings, rules, failure) {
-            Ok(refusal) => Ok(PipeAnswer::No(refusal)),
-            Err(Memory) => Err(CheckFault::Memory),
-        },
+        Ok(Some(failure)) => {
+            let file = PipeFile {
+                variant: v,
+                design: d,
+                order: o,
+                settings: &settings,
+            };
+            match refuse(alloc, &file, rules, failure) {
+                Ok(refusal) => Ok(PipeAnswer::No(refusal)),
+                Err(Memory) => Err(CheckFault::Memory),
+            }
+        }
         Err(Memory) => Err(CheckFault::Memory),
     }
 }

@@ -6,10 +6,10 @@ use crate::settings::put_settings_json;
 use crate::stages::kind_name;
 use explanations::{Path, obligation_at};
 use finding_text::{
-    CasePlace, Out, put_comparison_facts, put_finding_facts, put_mend_first, put_number,
-    put_obligation_facts, put_text, put_truth,
+    CasePlace, ExplainedFile, Out, put_comparison_facts, put_finding_facts, put_mend_first,
+    put_number, put_obligation_facts, put_text, put_truth,
 };
-use hcl_types::{NameId, Row, Term};
+use hcl_types::NameId;
 use pipe_diagnosis::{Refusal, Refutation};
 use pipe_requirements::{Lines, RegisterControlNow, StageFlowNow};
 use std::alloc::{AllocError, Global};
@@ -174,14 +174,12 @@ fn put_refutation(
 }
 
 /// The JSON of a refusal of a file for PIPE.
-pub fn put_refusal_json(
+pub fn put_refusal_json<'a>(
     alloc: Global,
     out: &mut Out,
     variant: Variant,
-    rows: &[Row],
-    terms: &[Term],
-    cases: &[CasePlace<'_>],
-    refusal: &Refusal,
+    file: &ExplainedFile<'a>,
+    refusal: &'a Refusal,
 ) -> Result<(), AllocError> {
     out.begin_object()?;
     put_text(out, "verdict", "no")?;
@@ -189,14 +187,14 @@ pub fn put_refusal_json(
     put_settings_json(out, &refusal.settings)?;
     out.key("refuted")?;
     out.begin_array()?;
-    let scene = scene_of(variant, rows, terms, refusal, &refusal.first);
-    put_refutation(alloc, out, &scene, cases, &refusal.first)?;
+    let scene = scene_of(variant, file, refusal, &refusal.first);
+    put_refutation(alloc, out, &scene, file.cases, &refusal.first)?;
     for other in refusal.others.items() {
-        let scene = scene_of(variant, rows, terms, refusal, other);
-        put_refutation(alloc, out, &scene, cases, other)?;
+        let scene = scene_of(variant, file, refusal, other);
+        put_refutation(alloc, out, &scene, file.cases, other)?;
     }
     out.end_array()?;
-    let first = first_to_mend(alloc, variant, rows, terms, refusal)?;
+    let first = first_to_mend(alloc, variant, file, refusal)?;
     put_mend_first(out, obligation_at(Path::Pipe, first))?;
     out.end_object()
 }

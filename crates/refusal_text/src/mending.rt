@@ -1,7 +1,7 @@
 //! Which false obligation to mend first.
 use crate::scene::scene_of;
-use finding_text::{first_alone, put_once, put_wrong};
-use hcl_types::{NameId, Row, Term};
+use finding_text::{ExplainedFile, first_alone, put_once, put_wrong};
+use hcl_types::NameId;
 use pipe_diagnosis::{Refusal, Refutation};
 use std::alloc::{AllocError, Global};
 use y86_base::Variant;
@@ -36,14 +36,13 @@ pub fn wrong_signals(alloc: Global, refutation: &Refutation) -> Result<Vec<NameI
 }
 
 /// The obligation to mend first: the first whose wrong signals depend on no other's.
-pub fn first_to_mend(
+pub fn first_to_mend<'a>(
     alloc: Global,
     variant: Variant,
-    rows: &[Row],
-    terms: &[Term],
-    refusal: &Refusal,
+    file: &ExplainedFile<'a>,
+    refusal: &'a Refusal,
 ) -> Result<u32, AllocError> {
-    let scene = scene_of(variant, rows, terms, refusal, &refusal.first);
+    let scene = scene_of(variant, file, refusal, &refusal.first);
     let mut all: Vec<Vec<NameId>> = Vec::new(alloc);
     all.push(wrong_signals(alloc, &refusal.first)?)?;
     for other in refusal.others.items() {

@@ -6,10 +6,10 @@ use crate::stages::put_stages;
 use dp_signals::pipe_row as name;
 use explanations::{Path, obligation_at};
 use finding_text::{
-    CasePlace, put_comparisons, put_findings, put_leaf, put_obligation, put_paragraph,
+    ExplainedFile, put_comparisons, put_findings, put_leaf, put_obligation, put_paragraph,
     put_wrong_findings,
 };
-use hcl_types::{NameId, Row, Term};
+use hcl_types::NameId;
 use motion_repairs::Repairs;
 use pipe_diagnosis::{Refusal, Refutation};
 use pipe_requirements::Wanted;
@@ -207,23 +207,22 @@ fn put_other(
 }
 
 /// Writes the other obligations that are false somewhere, and which to mend first.
-fn put_others(
+fn put_others<'a>(
     alloc: Global,
     out: &mut String,
     variant: Variant,
-    rows: &[Row],
-    terms: &[Term],
-    refusal: &Refusal,
+    file: &ExplainedFile<'a>,
+    refusal: &'a Refusal,
 ) -> Result<(), AllocError> {
     if refusal.others.items().is_empty() {
         return out.push_str("\nAll other obligations hold.\n");
     }
     out.push_str("\nAlso false somewhere, each in a situation of its own:\n\n")?;
     for other in refusal.others.items() {
-        let scene = scene_of(variant, rows, terms, refusal, other);
+        let scene = scene_of(variant, file, refusal, other);
         put_other(alloc, out, &scene, other)?;
     }
-    let first = first_to_mend(alloc, variant, rows, terms, refusal)?;
+    let first = first_to_mend(alloc, variant, file, refusal)?;
     out.push_str("\nAll other obligations hold.\nMend ")?;
     put_label(out, first)?;
     out.push_str(
@@ -247,13 +246,11 @@ pub fn put_refusal<'a>(
     alloc: Global,
     out: &mut String,
     variant: Variant,
-    rows: &'a [Row],
-    terms: &'a [Term],
-    cases: &[CasePlace<'_>],
+    file: &ExplainedFile<'a>,
     refusal: &'a Refusal,
 ) -> Result<(), AllocError> {
     let rule = refusal.first.rule;
-    let scene = scene_of(variant, rows, terms, refusal, &refusal.first);
+    let scene = scene_of(variant, file, refusal, &refusal.first);
     let motion = motion_of(&scene);
     out.push_str("no: ")?;
     put_label(out, rule)?;
@@ -266,13 +263,13 @@ pub fn put_refusal<'a>(
     put_comparisons(out, &scene.values)?;
     if rule <= 22 {
         let findings = refusal.first.diagnosis.findings.items();
-        put_findings(alloc, out, &scene.values, cases, findings)?;
+        put_findings(alloc, out, &scene.values, file.cases, findings)?;
     }
     if moves_wrongly(rule, &refusal.first) {
         put_motion(alloc, out, &scene, rule, &motion)?;
         put_repairs(out, &scene)?;
     }
-    put_others(alloc, out, variant, rows, terms, refusal)?;
+    put_others(alloc, out, variant, file, refusal)?;
     out.push_str(
         "\nA file that works may be refused, too: perhaps no program reaches this situation.\n",
     )

@@ -3,8 +3,8 @@ ghost use Rattle.std.specs.Prelude.{◌≡◌, ◌≤◌};
 
 use control_values::Scope;
 use ctl_atoms::Leaf;
-use finding_text::Values;
-use hcl_types::{NameId, Row, Term};
+use finding_text::{ExplainedFile, Values};
+use hcl_types::NameId;
 use pipe_diagnosis::{Diagnosis, Refusal, Refutation};
 use pipe_fields::BIT_COUNT;
 use pipe_motion::Settings;
@@ -22,8 +22,7 @@ pub struct Scene<'a> {
 /// The scene of a refutation.
 pub fn scene_of<'a>(
     variant: Variant,
-    rows: &'a [Row],
-    terms: &'a [Term],
+    file: &ExplainedFile<'a>,
     refusal: &'a Refusal,
     refutation: &'a Refutation,
 ) -> Scene<'a>
@@ -37,8 +36,8 @@ pub fn scene_of<'a>(
         settings: &refusal.settings,
         diagnosis: &refutation.diagnosis,
         values: Values {
-            rows,
-            terms,
+            rows: file.rows,
+            terms: file.terms,
             defined: dp_signals::pipe_row::F_PC,
             atoms: refusal.atoms.items(),
             first: BIT_COUNT as usize,

@@ -9,5 +9,7 @@ mod page;
 mod written;
 
 pub use json_page::put_outcome_json;
-pub use outcome::{Judged, Outcome, is_covered, object_outcome, outcome_status, run_outcome};
+pub use outcome::{
+    Judged, Outcome, OutcomeRequest, is_covered, object_outcome, outcome_status, run_outcome,
+};
 pub use page::put_outcome;

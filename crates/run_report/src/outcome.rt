@@ -33,6 +33,21 @@ pub enum Judged {
     Unasked,
 }
 
+/// A run under a design for PIPE and by the instructions, as it is asked for.
+#[derive(Debug, Drop)]
+pub struct OutcomeRequest {
+    /// The instruction set.
+    pub variant: Variant,
+    /// The design that PIPE has.
+    pub design: Design,
+    /// An order in which its signals can be computed.
+    pub order: Order,
+    /// The most cycles.
+    pub limit: u64,
+    /// Whether the check is asked too.
+    pub checked: bool,
+}
+
 /// What a run came to.
 #[derive(Debug, Drop)]
 pub struct Outcome {
@@ -102,35 +117,34 @@ fn machine_after(v: Variant, image: Image, steps: u64) -> Machine
     machine
 }
 
-/// Runs an image by its instructions and on PIPE under a design, side by side, for at most `limit` cycles, and asks the check too or not. Where
-/// the theorem covers the run, nothing differs.
-pub fn run_outcome(
-    alloc: Global,
-    asks: bool,
-    v: Variant,
-    design: Design,
-    order: Order,
-    image: Image,
-    limit: u64,
-) -> Result<Outcome, Memory>
-    requires limit { limit < 2 ^ 63 }
-    requires bound { IsBound pipe_rows design.terms }
-    requires order { IsOrderOf pipe_rows design.terms order.ids }
-    ensures outcome { IfOk result (IsOutcome v design.terms order.ids image limit) }
-    ensures asked { IfOk result (λ o. (asks ≡ true) ↔ (o.judged ≢ Judged.Unasked)) }
+/// Runs an image by its instructions and on PIPE under a design, side by side, and asks the check too or not. Where the theorem covers the
+/// run, nothing differs.
+pub fn run_outcome(alloc: Global, request: OutcomeRequest, image: Image) -> Result<Outcome, Memory>
+    requires limit { request.limit < 2 ^ 63 }
+    requires bound { IsBound pipe_rows request.design.terms }
+    requires order { IsOrderOf pipe_rows request.design.terms request.order.ids }
+    ensures outcome { IfOk result (IsOutcome request.variant request.design.terms request.order.ids image request.limit) }
+    ensures asked { IfOk result (λ o. (request.checked ≡ true) ↔ (o.judged ≢ Judged.Unasked)) }
     ensures covered { IfOk result (λ o. spec.is_covered o.judged o.watched ≡ true → FindsNone o.compared) }
 {
+    let OutcomeRequest {
+        variant,
+        design,
+        order,
+        limit,
+        checked,
+    } = request;
     let _size = image.size();
-    let judged = judge_if(alloc, asks, v, &design, &order)?;
+    let judged = judge_if(alloc, checked, variant, &design, &order)?;
     let Ok(watched) = image.copy(alloc) else {
         return Err(Memory);
     };
     let Ok(stepped) = image.copy(alloc) else {
         return Err(Memory);
     };
-    let compared = compare(alloc, v, design, order, image, limit)?;
-    let machine = machine_after(v, stepped, right_count(&compared));
-    let watched = watch(v, watched, limit);
+    let compared = compare(alloc, variant, design, order, image, limit)?;
+    let machine = machine_after(variant, stepped, right_count(&compared));
+    let watched = watch(variant, watched, limit);
     Ok(Outcome {
         compared,
         machine,
@@ -142,20 +156,17 @@ pub fn run_outcome(
 /// The same for the image of an object text in `size` bytes of memory.
 pub fn object_outcome(
     alloc: Global,
-    asks: bool,
-    v: Variant,
-    design: Design,
-    order: Order,
+    request: OutcomeRequest,
     object: &[u8],
     size: u64,
-    limit: u64,
 ) -> Result<Outcome, YoFault>
     requires size { IsSize size }
-    requires limit { limit < 2 ^ 63 }
-    requires bound { IsBound pipe_rows design.terms }
-    requires order { IsOrderOf pipe_rows design.terms order.ids }
-    ensures outcome { IfOk result (λ o. (image : List ℕ) × (object_of object.now size ≡ Ok image) × IsOutcome v design.terms order.ids image limit o) }
-    ensures asked { IfOk result (λ o. (asks ≡ true) ↔ (o.judged ≢ Judged.Unasked)) }
+    requires limit { request.limit < 2 ^ 63 }
+    requires bound { IsBound pipe_rows request.design.terms }
+    requires order { IsOrderOf pipe_rows request.design.terms request.order.ids }
+    ensures outcome { IfOk result (λ o. (image : List ℕ) × (object_of object.now size ≡ Ok image)
+        × IsOutcome request.variant request.design.terms request.order.ids image request.limit o) }
+    ensures asked { IfOk result (λ o. (request.checked ≡ true) ↔ (o.judged ≢ Judged.Unasked)) }
     ensures covered { IfOk result (λ o. spec.is_covered o.judged o.watched ≡ true → FindsNone o.compared) }
     ensures fault { IfErr result (λ fault. (fault ≡ out_of_memory) ⊎ (object_of object.now size ≡ Err fault)) }
 {
@@ -163,7 +174,7 @@ pub fn object_outcome(
         Ok(image) => image,
         Err(fault) => return Err(fault),
     };
-    match run_outcome(alloc, asks, v, design, order, image, limit) {
+    match run_outcome(alloc, request, image) {
         Ok(outcome) => Ok(outcome),
         Err(Memory) => Err(YoFault {
             line: 0,

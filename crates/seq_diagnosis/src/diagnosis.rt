@@ -7,13 +7,13 @@ ghost use Rattle.control_values.specs.Given.{at, field_at};
 ghost use Rattle.seq_requirements.specs.Datapaths.{rows_of, spots_of};
 ghost use Rattle.seq_diagnosis.specs.Diagnosis as spec;
 
+use crate::file::SeqFile;
 use control_values::{Scope, Situation, control_values};
 use ctl_atoms::{Atom, Leaf};
 use findings::{Finding, findings_of};
-use hcl_types::{Design, Order};
-use seq_requirements::{Datapath, bit_count, first_defined, requirements_of, spots_of, table_of};
+use seq_requirements::{bit_count, first_defined, requirements_of, spots_of, table_of};
 use std::alloc::Global;
-use y86_base::{Items, Memory, Variant};
+use y86_base::{Items, Memory};
 
 /// What is wrong at a valuation.
 #[derive(Drop)]
@@ -28,55 +28,51 @@ pub struct Diagnosis {
 #[tactic(auto, using(crate::proofs::OneWrong::sound, crate::proofs::OneWrong::near, crate::proofs::OneWrong::first_near))]
 fn leaves_at(
     alloc: Global,
-    which: Datapath,
-    d: &Design,
-    o: &Order,
+    file: &SeqFile<'_>,
     atoms: &[Atom],
     bits: &[bool],
 ) -> Result<Vec<Leaf>, Memory>
-    requires { IsOrderOf (rows_of which) d.now.terms o.now.ids }
-    ensures { IfOk result (λ leaves. AreControls (rows_of which) d.now.terms (field_at (spots_of which) bits.now) (spec.truths_at which atoms.now bits.now) (at leaves.items)) }
+    requires { IsOrderOf (rows_of file.now.which) file.now.design.now.terms file.now.order.now.ids }
+    ensures { IfOk result (λ leaves. AreControls (rows_of file.now.which) file.now.design.now.terms (field_at (spots_of file.now.which) bits.now)
+        (spec.truths_at file.now.which atoms.now bits.now) (at leaves.items)) }
 {
-    let t = table_of(alloc, which)?;
+    let t = table_of(alloc, file.which)?;
     let situation = Situation {
-        fields: spots_of(which),
+        fields: spots_of(file.which),
         atoms,
-        first: bit_count(which) as usize,
+        first: bit_count(file.which) as usize,
         bits,
     };
-    control_values(alloc, d, &t, o, &situation)
+    control_values(alloc, file.design, &t, file.order, &situation)
 }
 
 /// Diagnoses a valuation at which an obligation is false.
 #[tactic(auto, using(crate::proofs::OneWrong::first_near))]
 pub fn diagnose(
     alloc: Global,
-    which: Datapath,
-    v: Variant,
-    d: &Design,
-    o: &Order,
+    file: &SeqFile<'_>,
     atoms: &[Atom],
     number: u32,
     bits: &[bool],
 ) -> Result<Diagnosis, Memory>
-    requires ordered { IsOrderOf (rows_of which) d.now.terms o.now.ids }
-    requires atoms { AreAtoms (rows_of which) d.now.terms atoms.now }
-    requires fails { spec.Fails which v d.now.terms atoms.now number bits.now }
-    ensures diagnosis { IfOk result (spec.IsDiagnosis which v d.now.terms atoms.now number bits.now) }
+    requires ordered { IsOrderOf (rows_of file.now.which) file.now.design.now.terms file.now.order.now.ids }
+    requires atoms { AreAtoms (rows_of file.now.which) file.now.design.now.terms atoms.now }
+    requires fails { spec.Fails file.now.which file.now.variant file.now.design.now.terms atoms.now number bits.now }
+    ensures diagnosis { IfOk result (spec.IsDiagnosis file.now.which file.now.variant file.now.design.now.terms atoms.now number bits.now) }
 {
-    let leaves = leaves_at(alloc, which, d, o, atoms, bits)?;
+    let leaves = leaves_at(alloc, file, atoms, bits)?;
     let scope = Scope {
         atoms,
-        first: bit_count(which) as usize,
+        first: bit_count(file.which) as usize,
         bits,
         leaves: leaves.as_slice(),
     };
-    let all = requirements_of(alloc, which, v, bits, number)?;
+    let all = requirements_of(alloc, file.which, file.variant, bits, number)?;
     let findings = findings_of(
         alloc,
         &scope,
-        d.terms.items(),
-        first_defined(which),
+        file.design.terms.items(),
+        first_defined(file.which),
         all.as_slice(),
     )?;
     Ok(Diagnosis {

@@ -4,7 +4,9 @@
 #![tactic(auto)]
 
 mod diagnosis;
+mod file;
 mod refusal;
 
 pub use diagnosis::{Diagnosis, diagnose};
+pub use file::SeqFile;
 pub use refusal::{Refusal, Refutation};

@@ -1,10 +1,9 @@
 //! A refusal as JSON: the same facts as its page, with the names that the JSON of PIPE has.
 use crate::scene::{first_to_mend, obligation_of, values_of};
 use finding_text::{
-    CasePlace, Out, Values, put_comparison_facts, put_finding_facts, put_mend_first, put_number,
-    put_obligation_facts, put_text,
+    CasePlace, ExplainedFile, Out, Values, put_comparison_facts, put_finding_facts, put_mend_first,
+    put_number, put_obligation_facts, put_text,
 };
-use hcl_types::{Row, Term};
 use seq_diagnosis::{Refusal, Refutation};
 use seq_requirements::Datapath;
 use std::alloc::{AllocError, Global};
@@ -58,24 +57,22 @@ fn put_refutation(
 }
 
 /// The JSON of a refusal of a file for SEQ or SEQ+.
-pub fn put_seq_refusal_json(
+pub fn put_seq_refusal_json<'a>(
     alloc: Global,
     out: &mut Out,
     which: Datapath,
-    rows: &[Row],
-    terms: &[Term],
-    cases: &[CasePlace<'_>],
-    refusal: &Refusal,
+    file: &ExplainedFile<'a>,
+    refusal: &'a Refusal,
 ) -> Result<(), AllocError> {
     out.begin_object()?;
     put_text(out, "verdict", "no")?;
     out.key("refuted")?;
     out.begin_array()?;
-    let values = values_of(which, rows, terms, refusal, &refusal.first);
-    put_refutation(alloc, out, which, &values, cases, &refusal.first)?;
+    let values = values_of(which, file, refusal, &refusal.first);
+    put_refutation(alloc, out, which, &values, file.cases, &refusal.first)?;
     for other in refusal.others.items() {
-        let values = values_of(which, rows, terms, refusal, other);
-        put_refutation(alloc, out, which, &values, cases, other)?;
+        let values = values_of(which, file, refusal, other);
+        put_refutation(alloc, out, which, &values, file.cases, other)?;
     }
     out.end_array()?;
     let first = first_to_mend(alloc, &values, refusal)?;

@@ -2,10 +2,9 @@
 use crate::instruction::put_instructions;
 use crate::scene::{before, first_to_mend, obligation_of, values_of};
 use finding_text::{
-    CasePlace, Values, put_comparisons, put_findings, put_obligation, put_paragraph,
+    ExplainedFile, Values, put_comparisons, put_findings, put_obligation, put_paragraph,
     put_wrong_findings,
 };
-use hcl_types::{Row, Term};
 use seq_diagnosis::{Refusal, Refutation};
 use seq_requirements::{Datapath, line_of};
 use std::alloc::{AllocError, Global};
@@ -26,23 +25,22 @@ fn put_other(
 }
 
 /// Writes the other obligations that are false somewhere, and which to mend first.
-fn put_others(
+fn put_others<'a>(
     alloc: Global,
     out: &mut String,
     which: Datapath,
-    rows: &[Row],
-    terms: &[Term],
-    refusal: &Refusal,
+    file: &ExplainedFile<'a>,
+    refusal: &'a Refusal,
 ) -> Result<(), AllocError> {
     if refusal.others.items().is_empty() {
         return out.push_str("\nAll other obligations hold.\n");
     }
     out.push_str("\nAlso false somewhere, each in a situation of its own:\n\n")?;
     for other in refusal.others.items() {
-        let values = values_of(which, rows, terms, refusal, other);
+        let values = values_of(which, file, refusal, other);
         put_other(alloc, out, &values, other)?;
     }
-    let values = values_of(which, rows, terms, refusal, &refusal.first);
+    let values = values_of(which, file, refusal, &refusal.first);
     let first = first_to_mend(alloc, &values, refusal)?;
     write!(
         out,
@@ -51,17 +49,15 @@ fn put_others(
 }
 
 /// Writes a refusal of a file for SEQ or SEQ+.
-pub fn put_seq_refusal(
+pub fn put_seq_refusal<'a>(
     alloc: Global,
     out: &mut String,
     which: Datapath,
-    rows: &[Row],
-    terms: &[Term],
-    cases: &[CasePlace<'_>],
-    refusal: &Refusal,
+    file: &ExplainedFile<'a>,
+    refusal: &'a Refusal,
 ) -> Result<(), AllocError> {
     let rule = refusal.first.rule;
-    let values = values_of(which, rows, terms, refusal, &refusal.first);
+    let values = values_of(which, file, refusal, &refusal.first);
     write!(out, "no: S{rule} is false somewhere.\n\n")?;
     if let Some(o) = obligation_of(which, rule) {
         put_obligation(alloc, out, o)?;
@@ -77,10 +73,10 @@ pub fn put_seq_refusal(
         alloc,
         out,
         &values,
-        cases,
+        file.cases,
         refusal.first.diagnosis.findings.items(),
     )?;
-    put_others(alloc, out, which, rows, terms, refusal)?;
+    put_others(alloc, out, which, file, refusal)?;
     out.push_str(
         "\nA file that works may be refused, too: perhaps no program reaches this situation.\n",
     )

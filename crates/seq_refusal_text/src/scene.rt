@@ -4,8 +4,8 @@ ghost use Rattle.explanations.specs.declared.obligations.Path.TheVariants as pat
 ghost use Rattle.seq_requirements.specs.declared.datapath.Datapath.TheVariants as datapath;
 
 use explanations::{Obligation, Path, obligation_at};
-use finding_text::{Values, first_alone, put_wrong};
-use hcl_types::{NameId, Row, Term};
+use finding_text::{ExplainedFile, Values, first_alone, put_wrong};
+use hcl_types::NameId;
 use seq_diagnosis::{Refusal, Refutation};
 use seq_requirements::{Datapath, PreviousNow, bit_count, first_defined, previous_of};
 use std::alloc::{AllocError, Global};
@@ -29,8 +29,7 @@ pub fn obligation_of(which: Datapath, rule: u32) -> Option<&'static Obligation> 
 /// The values at the counterexample of a refutation.
 pub fn values_of<'a>(
     which: Datapath,
-    rows: &'a [Row],
-    terms: &'a [Term],
+    file: &ExplainedFile<'a>,
     refusal: &'a Refusal,
     refutation: &'a Refutation,
 ) -> Values<'a>
@@ -39,8 +38,8 @@ pub fn values_of<'a>(
     ensures atoms { result.atoms.now ≡ refusal.now.atoms }
 {
     Values {
-        rows,
-        terms,
+        rows: file.rows,
+        terms: file.terms,
         defined: first_defined(which),
         atoms: refusal.atoms.items(),
         first: bit_count(which) as usize,

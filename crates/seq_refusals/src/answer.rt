@@ -13,7 +13,7 @@ use ctl_atoms::CtlFault;
 use ctl_rules::{Rule, Rules};
 use hcl_types::{Design, Order};
 use nets::Net;
-use seq_diagnosis::{Refusal, Refutation, diagnose};
+use seq_diagnosis::{Refusal, Refutation, SeqFile, diagnose};
 use seq_obligations::seq_rules;
 use seq_plus::plus_rules;
 use seq_requirements::Datapath;
@@ -68,27 +68,21 @@ fn rule_at(list: &[Rule], k: usize) -> Rule
 /// Refutes an obligation that is false somewhere.
 fn refute(
     alloc: Global,
-    which: Datapath,
-    v: Variant,
-    d: &Design,
-    o: &Order,
+    file: &SeqFile<'_>,
     rules: &Rules,
     failure: FailedRule,
 ) -> Result<Refutation, Memory>
-    requires ordered { IsOrderOf (rows_of which) d.now.terms o.now.ids }
-    requires rules { AreRulesOf which v d.now.terms rules.now.net rules.now.list }
-    requires atoms { AreAtoms (rows_of which) d.now.terms rules.now.atoms }
+    requires ordered { IsOrderOf (rows_of file.now.which) file.now.design.now.terms file.now.order.now.ids }
+    requires rules { AreRulesOf file.now.which file.now.variant file.now.design.now.terms rules.now.net rules.now.list }
+    requires atoms { AreAtoms (rows_of file.now.which) file.now.design.now.terms rules.now.atoms }
     requires failure { IsFailure rules.now.net rules.now.list failure }
-    ensures refutation { IfOk result (spec.IsRefutation which v d.now.terms rules.now.atoms) }
+    ensures refutation { IfOk result (spec.IsRefutation file.now.which file.now.variant file.now.design.now.terms rules.now.atoms) }
     ensures rule { IfOk result (λ x. x.rule ≡ failure.rule) }
     ensures valuation { IfOk result (λ x. x.valuation ≡ failure.valuation) }
 {
     let diagnosis = diagnose(
         alloc,
-        which,
-        v,
-        d,
-        o,
+        file,
         rules.atoms.items(),
         failure.rule,
         failure.valuation.bits.items(),
@@ -113,27 +107,24 @@ fn put(out: &mut Vec<Refutation>, refutation: Refutation) -> Result<(), Memory>
 /// Refutes the obligation of the rule at a place, if it is false somewhere.
 fn refute_at(
     alloc: Global,
-    which: Datapath,
-    v: Variant,
-    d: &Design,
-    o: &Order,
+    file: &SeqFile<'_>,
     rules: &Rules,
     k: usize,
     first: &Refutation,
     others: &mut Vec<Refutation>,
 ) -> Result<(), Memory>
-    requires ordered { IsOrderOf (rows_of which) d.now.terms o.now.ids }
-    requires rules { AreRulesOf which v d.now.terms rules.now.net rules.now.list }
-    requires atoms { AreAtoms (rows_of which) d.now.terms rules.now.atoms }
+    requires ordered { IsOrderOf (rows_of file.now.which) file.now.design.now.terms file.now.order.now.ids }
+    requires rules { AreRulesOf file.now.which file.now.variant file.now.design.now.terms rules.now.net rules.now.list }
+    requires atoms { AreAtoms (rows_of file.now.which) file.now.design.now.terms rules.now.atoms }
     requires within { k < length rules.now.list }
-    requires refuted { spec.AreRefuted which v d.now.terms rules.now.atoms k (first.now ∷ others.old.items) }
-    ensures { OnOk result (spec.AreRefuted which v d.now.terms rules.now.atoms (k + 1) (first.now ∷ others.new.items)) }
+    requires refuted { spec.AreRefuted file.now.which file.now.variant file.now.design.now.terms rules.now.atoms k (first.now ∷ others.old.items) }
+    ensures { OnOk result (spec.AreRefuted file.now.which file.now.variant file.now.design.now.terms rules.now.atoms (k + 1) (first.now ∷ others.new.items)) }
 {
     let rule = rule_at(rules.list.items(), k);
     match decide_one(alloc, &rules.net, rule)? {
         None => Ok(()),
         Some(failure) => {
-            let refutation = refute(alloc, which, v, d, o, rules, failure)?;
+            let refutation = refute(alloc, file, rules, failure)?;
             put(others, refutation)?;
             Ok(())
         }
@@ -143,25 +134,22 @@ fn refute_at(
 /// Refutes the obligations behind the first false one.
 fn refute_others(
     alloc: Global,
-    which: Datapath,
-    v: Variant,
-    d: &Design,
-    o: &Order,
+    file: &SeqFile<'_>,
     rules: &Rules,
     first: &Refutation,
 ) -> Result<Vec<Refutation>, Memory>
-    requires ordered { IsOrderOf (rows_of which) d.now.terms o.now.ids }
-    requires rules { AreRulesOf which v d.now.terms rules.now.net rules.now.list }
-    requires atoms { AreAtoms (rows_of which) d.now.terms rules.now.atoms }
+    requires ordered { IsOrderOf (rows_of file.now.which) file.now.design.now.terms file.now.order.now.ids }
+    requires rules { AreRulesOf file.now.which file.now.variant file.now.design.now.terms rules.now.net rules.now.list }
+    requires atoms { AreAtoms (rows_of file.now.which) file.now.design.now.terms rules.now.atoms }
     requires within { first.now.rule ≤ length rules.now.list }
-    requires first { spec.AreRefuted which v d.now.terms rules.now.atoms first.now.rule (first.now ∷ []) }
-    ensures { IfOk result (λ others. spec.AreRefuted which v d.now.terms rules.now.atoms (length rules.now.list) (first.now ∷ others.items)) }
+    requires first { spec.AreRefuted file.now.which file.now.variant file.now.design.now.terms rules.now.atoms first.now.rule (first.now ∷ []) }
+    ensures { IfOk result (λ others. spec.AreRefuted file.now.which file.now.variant file.now.design.now.terms rules.now.atoms (length rules.now.list) (first.now ∷ others.items)) }
 {
     let mut others = Vec::new(alloc);
     let from = first.rule as usize;
     let count = rules.list.items().len();
     for k in from..count {
-        match refute_at(alloc, which, v, d, o, rules, k, first, &mut others) {
+        match refute_at(alloc, file, rules, k, first, &mut others) {
             Ok(()) => {}
             Err(e) => return Err(e),
         }
@@ -172,21 +160,18 @@ fn refute_others(
 /// Diagnoses a refused file.
 fn refuse(
     alloc: Global,
-    which: Datapath,
-    v: Variant,
-    d: &Design,
-    o: &Order,
+    file: &SeqFile<'_>,
     rules: Rules,
     failure: FailedRule,
 ) -> Result<Refusal, Memory>
-    requires ordered { IsOrderOf (rows_of which) d.now.terms o.now.ids }
-    requires rules { AreRulesOf which v d.now.terms rules.net rules.list }
-    requires atoms { AreAtoms (rows_of which) d.now.terms rules.atoms }
+    requires ordered { IsOrderOf (rows_of file.now.which) file.now.design.now.terms file.now.order.now.ids }
+    requires rules { AreRulesOf file.now.which file.now.variant file.now.design.now.terms rules.net rules.list }
+    requires atoms { AreAtoms (rows_of file.now.which) file.now.design.now.terms rules.atoms }
     requires failure { IsRuleDecision rules.net rules.list (Some failure) }
-    ensures { IfOk result (spec.IsRefusal which v d.now.terms) }
+    ensures { IfOk result (spec.IsRefusal file.now.which file.now.variant file.now.design.now.terms) }
 {
-    let first = refute(alloc, which, v, d, o, &rules, failure)?;
-    let others = refute_others(alloc, which, v, d, o, &rules, &first)?;
+    let first = refute(alloc, file, &rules, failure)?;
+    let others = refute_others(alloc, file, &rules, &first)?;
     Ok(Refusal {
         atoms: rules.atoms,
         first,
@@ -215,10 +200,18 @@ pub fn diagnose_seq(
     };
     match decide(alloc, &rules.net, rules.list.items()) {
         Ok(None) => Ok(SeqAnswer::Yes),
-        Ok(Some(failure)) => match refuse(alloc, which, v, d, o, rules, failure) {
-            Ok(refusal) => Ok(SeqAnswer::No(refusal)),
-            Err(Memory) => Err(CheckFault::Memory),
-        },
+        Ok(Some(failure)) => {
+            let file = SeqFile {
+                which,
+                variant: v,
+                design: d,
+                order: o,
+            };
+            match refuse(alloc, &file, rules, failure) {
+                Ok(refusal) => Ok(SeqAnswer::No(refusal)),
+                Err(Memory) => Err(CheckFault::Memory),
+            }
+        }
         Err(Memory) => Err(CheckFault::Memory),
     }
 }

@@ -1,4 +1,6 @@
 //! The arguments of a call.
+use crate::faulty::FaultQuestion;
+use crate::programs::ProgramQuestion;
 use crate::running::Asked;
 use clap::{Arg, ArgAction, Command, Error};
 use explanations::Path;
@@ -18,9 +20,7 @@ pub enum Call<'a> {
     /// Say whether the theorem covers the program of an object file.
     Program {
         obj: &'a str,
-        variant: Variant,
-        mem: u64,
-        limit: u64,
+        asked: ProgramQuestion,
     },
     /// Run a program under an HCL file for PIPE and by its instructions.
     Run {
@@ -31,10 +31,7 @@ pub enum Call<'a> {
     /// Report every fault of a file.
     Fault {
         file: &'a str,
-        path: Option<Path>,
-        variant: Variant,
-        mem: u64,
-        json: bool,
+        asked: FaultQuestion,
     },
     /// Explain a word, or list the words.
     Show {
@@ -224,9 +221,11 @@ pub fn call_of<'a>(alloc: Global, words: &'a [String]) -> Result<Option<Call<'a>
         }),
         "program" => Some(Call::Program {
             obj: own.get_str("obj").unwrap_or(""),
-            variant: variant_of(own.get_flag("full")),
-            mem: own.get_one::<u64>("mem").unwrap_or(8192),
-            limit: own.get_one::<u64>("limit").unwrap_or(10_000),
+            asked: ProgramQuestion {
+                variant: variant_of(own.get_flag("full")),
+                size: own.get_one::<u64>("mem").unwrap_or(8192),
+                limit: own.get_one::<u64>("limit").unwrap_or(10_000),
+            },
         }),
         "run" => Some(Call::Run {
             hcl: own.get_str("hcl").unwrap_or(""),
@@ -241,10 +240,12 @@ pub fn call_of<'a>(alloc: Global, words: &'a [String]) -> Result<Option<Call<'a>
         }),
         "fault" => Some(Call::Fault {
             file: own.get_str("file").unwrap_or(""),
-            path: asked_path(own.get_str("path")),
-            variant: variant_of(own.get_flag("full")),
-            mem: own.get_one::<u64>("mem").unwrap_or(8192),
-            json: own.get_flag("json"),
+            asked: FaultQuestion {
+                path: asked_path(own.get_str("path")),
+                variant: variant_of(own.get_flag("full")),
+                size: own.get_one::<u64>("mem").unwrap_or(8192),
+                json: own.get_flag("json"),
+            },
         }),
         "show" => Some(Call::Show {
             word: own.get_str("word"),

@@ -4,7 +4,7 @@ ghost use Rattle.y86_tell.specs.Explained.{Answers, IsOrdered};
 ghost use Rattle.pipe_refusals.specs.Answered.{is_yes};
 
 use crate::cases::case_places;
-use crate::designs::{NoDesign, Ordered, pipe_design};
+use crate::designs::{NoDesign, Ordered, explained_file, pipe_design};
 use crate::faulty::{hcl_faults_of, printed};
 use crate::stop::{Stop, unread};
 use control_check::CheckFault;
@@ -116,33 +116,32 @@ fn yes_text(
 }
 
 /// What is printed of a no.
-fn no_text(
+fn no_text<'a>(
     alloc: Global,
-    cases: &[CasePlace<'_>],
+    cases: &'a [CasePlace<'a>],
     variant: Variant,
-    ordered: &Ordered,
-    refusal: &Refusal,
+    ordered: &'a Ordered,
+    refusal: &'a Refusal,
     json: bool,
 ) -> Result<Vec<u8>, AllocError> {
-    let rows = ordered.table.rows.items();
-    let terms = ordered.design.terms.items();
+    let file = explained_file(ordered, cases);
     if json {
         let mut out = Writer::new(Vec::new(alloc));
-        put_refusal_json(alloc, &mut out, variant, rows, terms, cases, refusal)?;
+        put_refusal_json(alloc, &mut out, variant, &file, refusal)?;
         return json_text(out);
     }
     let mut out = String::new(alloc);
-    put_refusal(alloc, &mut out, variant, rows, terms, cases, refusal)?;
+    put_refusal(alloc, &mut out, variant, &file, refusal)?;
     Ok(out.into_bytes())
 }
 
 /// What is printed of an answer.
-fn answer_text(
+fn answer_text<'a>(
     alloc: Global,
-    cases: &[CasePlace<'_>],
+    cases: &'a [CasePlace<'a>],
     variant: Variant,
-    ordered: &Ordered,
-    answer: &PipeAnswer,
+    ordered: &'a Ordered,
+    answer: &'a PipeAnswer,
     json: bool,
 ) -> Result<Said, AllocError>
     ensures { IfOk result (λ said. (said.status ≡ 0) ↔ (is_yes answer.now ≡ true)) }

@@ -1,10 +1,11 @@
 //! The design of an HCL text over a table, or why there is none.
-ghost use Rattle.std.specs.Prelude.{IfOk};
+ghost use Rattle.std.specs.Prelude.{◌≡◌, IfOk};
 ghost use Rattle.hcl_types.specs.Tables.{IsSound};
 ghost use Rattle.seq_requirements.specs.Datapaths.{rows_of};
 ghost use Rattle.y86_tell.specs.Explained.{HasDesign, HasDesignOver, IsOrdered, IsOrderedOver};
 
 use dp_signals::{law_of_tables, pipe_table};
+use finding_text::{CasePlace, ExplainedFile};
 use hcl_order::{OrderFault, order};
 use hcl_read::{HclWhy, read};
 use hcl_types::{BindWhy, Design, Order, Table, bind};
@@ -18,6 +19,18 @@ pub struct Ordered {
     pub table: Table,
     pub design: Design,
     pub order: Order,
+}
+
+/// The file of a design, by what its findings are explained with.
+pub fn explained_file<'a>(ordered: &'a Ordered, cases: &'a [CasePlace<'a>]) -> ExplainedFile<'a>
+    ensures rows { result.rows.now ≡ ordered.now.table.rows }
+    ensures terms { result.terms.now ≡ ordered.now.design.terms }
+{
+    ExplainedFile {
+        rows: ordered.table.rows.items(),
+        terms: ordered.design.terms.items(),
+        cases,
+    }
 }
 
 /// Why a text has no design.

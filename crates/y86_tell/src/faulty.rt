@@ -23,6 +23,19 @@ enum Kind {
     Object,
 }
 
+/// What a call of `fault` asks, beside its file.
+#[derive(Clone, Copy, Debug)]
+pub struct FaultQuestion {
+    /// The datapath that an HCL file is for; without one, that whose names fit best.
+    pub path: Option<Path>,
+    /// The instruction set that a source is assembled for.
+    pub variant: Variant,
+    /// The bytes of memory.
+    pub size: u64,
+    /// Whether the faults are printed as JSON.
+    pub json: bool,
+}
+
 /// The most bytes of a file that is read for its faults.
 const LIMIT: u64 = 1_048_576;
 
@@ -77,20 +90,13 @@ fn datapath_of(asked: Option<Path>) -> Option<Datapath> {
 }
 
 /// The faults of a text.
-fn report_of(
-    alloc: Global,
-    kind: Kind,
-    asked: Option<Path>,
-    text: &[u8],
-    variant: Variant,
-    size: u64,
-) -> Result<Report, Memory>
-    requires { IsSize size }
+fn report_of(alloc: Global, kind: Kind, text: &[u8], asked: FaultQuestion) -> Result<Report, Memory>
+    requires { IsSize asked.size }
 {
     match kind {
-        Kind::Hcl => hcl_faults_of(alloc, text, datapath_of(asked)),
-        Kind::Assembly => assembly_report(alloc, variant, text, size),
-        Kind::Object => object_report(alloc, text, size),
+        Kind::Hcl => hcl_faults_of(alloc, text, datapath_of(asked.path)),
+        Kind::Assembly => assembly_report(alloc, asked.variant, text, asked.size),
+        Kind::Object => object_report(alloc, text, asked.size),
     }
 }
 
@@ -127,22 +133,19 @@ fn said_of(alloc: Global, file: &str, report: &Report, json: bool) -> Result<Sai
 pub fn tell_faults<F: Files>(
     alloc: Global,
     file: &str,
-    asked: Option<Path>,
-    variant: Variant,
-    size: u64,
-    json: bool,
+    asked: FaultQuestion,
     files: &mut F,
 ) -> Result<Said, Stop>
-    requires { IsSize size }
+    requires { IsSize asked.size }
 {
     let text = match files.read(alloc, file, LIMIT) {
         Ok(text) => text,
         Err(error) => return Err(unread(error)),
     };
-    let Ok(report) = report_of(alloc, kind_of(file), asked, text.as_slice(), variant, size) else {
+    let Ok(report) = report_of(alloc, kind_of(file), text.as_slice(), asked) else {
         return Err(Stop::Memory);
     };
-    match said_of(alloc, file, &report, json) {
+    match said_of(alloc, file, &report, asked.json) {
         Ok(said) => Ok(said),
         Err(_) => Err(Stop::Memory),
     }

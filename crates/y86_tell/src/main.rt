@@ -76,14 +76,9 @@ fn answer<F: Files, O: Sink>(
                 say(check_sequential(alloc, hcl, asked, files)?, out)
             }
         },
-        Call::Program {
-            obj,
-            variant,
-            mem,
-            limit,
-        } => {
-            if is_size(mem) {
-                report_program(alloc, obj, variant, mem, limit, files, out)
+        Call::Program { obj, asked } => {
+            if is_size(asked.size) {
+                report_program(alloc, obj, asked, files, out)
             } else {
                 Err(Stop::Usage(ODD_SIZE))
             }
@@ -97,18 +92,9 @@ fn answer<F: Files, O: Sink>(
             }
             say(tell_run(alloc, hcl, obj, &asked, files)?, out)
         }
-        Call::Fault {
-            file,
-            path,
-            variant,
-            mem,
-            json,
-        } => {
-            if is_size(mem) {
-                say(
-                    tell_faults(alloc, file, path, variant, mem, json, files)?,
-                    out,
-                )
+        Call::Fault { file, asked } => {
+            if is_size(asked.size) {
+                say(tell_faults(alloc, file, asked, files)?, out)
             } else {
                 Err(Stop::Usage(ODD_SIZE))
             }

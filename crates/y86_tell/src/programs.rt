@@ -11,6 +11,17 @@ use wb_io::{Files, Sink};
 use y86_base::Variant;
 use yo_object::{YoFault, YoWhy};
 
+/// What a call of `program` asks, beside its file.
+#[derive(Clone, Copy, Debug)]
+pub struct ProgramQuestion {
+    /// The instruction set.
+    pub variant: Variant,
+    /// The bytes of memory.
+    pub size: u64,
+    /// The most instructions.
+    pub limit: u64,
+}
+
 /// The most bytes that an object file has.
 pub const OBJECT_LIMIT: u64 = 1_048_576;
 
@@ -48,24 +59,28 @@ pub fn object_stop(alloc: Global, file: &str, text: &[u8], size: u64, fault: &Yo
 pub fn report_program<F: Files, O: Sink>(
     alloc: Global,
     file: &str,
-    variant: Variant,
-    size: u64,
-    limit: u64,
+    asked: ProgramQuestion,
     files: &mut F,
     out: &mut O,
 ) -> Result<u8, Stop>
-    requires { IsSize size }
+    requires { IsSize asked.size }
 {
     let text = match files.read(alloc, file, OBJECT_LIMIT) {
         Ok(text) => text,
         Err(error) => return Err(unread(error)),
     };
     if is_source(text.as_slice()) {
-        return Err(text_stop(alloc, file, text.as_slice(), size));
+        return Err(text_stop(alloc, file, text.as_slice(), asked.size));
     }
-    let watched = match watch_object(alloc, variant, text.as_slice(), size, limit) {
+    let watched = match watch_object(
+        alloc,
+        asked.variant,
+        text.as_slice(),
+        asked.size,
+        asked.limit,
+    ) {
         Ok(watched) => watched,
-        Err(fault) => return Err(object_stop(alloc, file, text.as_slice(), size, &fault)),
+        Err(fault) => return Err(object_stop(alloc, file, text.as_slice(), asked.size, &fault)),
     };
     match put_watched(watched, out) {
         Ok(()) => Ok(watched_status(watched)),

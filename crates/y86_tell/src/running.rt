@@ -12,7 +12,9 @@ use crate::stop::{Stop, unread};
 use fault_report::{Datapath, is_source};
 use hcl_types::{Row, Table};
 use json::Writer;
-use run_report::{Judged, Outcome, object_outcome, outcome_status, put_outcome, put_outcome_json};
+use run_report::{
+    Judged, Outcome, OutcomeRequest, object_outcome, outcome_status, put_outcome, put_outcome_json,
+};
 use std::alloc::{AllocError, Global};
 use wb_io::Files;
 use y86_base::Variant;
@@ -73,16 +75,14 @@ fn run_texts(alloc: Global, source: &[u8], object: &[u8], asked: &Asked) -> Resu
         design,
         order,
     } = ordered;
-    match object_outcome(
-        alloc,
-        asked.checked,
-        asked.variant,
+    let request = OutcomeRequest {
+        variant: asked.variant,
         design,
         order,
-        object,
-        asked.size,
-        asked.limit,
-    ) {
+        limit: asked.limit,
+        checked: asked.checked,
+    };
+    match object_outcome(alloc, request, object, asked.size) {
         Ok(outcome) => Ok(Run { table, outcome }),
         Err(fault) => Err(NoRun::Object(fault)),
     }

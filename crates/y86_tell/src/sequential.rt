@@ -6,7 +6,7 @@ ghost use Rattle.seq_requirements.specs.Datapaths.{rows_of};
 
 use crate::cases::case_places;
 use crate::checking::{HCL_LIMIT, Said, control_stop, fault_stop, json_text, put_yes_facts};
-use crate::designs::{Ordered, seq_design};
+use crate::designs::{Ordered, explained_file, seq_design};
 use crate::stop::{Stop, unread};
 use control_check::CheckFault;
 use fault_report::Datapath as Reported;
@@ -62,32 +62,31 @@ fn yes_text(alloc: Global, asked: Question, ordered: &Ordered) -> Result<Vec<u8>
 }
 
 /// What is printed of a no.
-fn no_text(
+fn no_text<'a>(
     alloc: Global,
     asked: Question,
-    cases: &[CasePlace<'_>],
-    ordered: &Ordered,
-    refusal: &Refusal,
+    cases: &'a [CasePlace<'a>],
+    ordered: &'a Ordered,
+    refusal: &'a Refusal,
 ) -> Result<Vec<u8>, AllocError> {
-    let rows = ordered.table.rows.items();
-    let terms = ordered.design.terms.items();
+    let file = explained_file(ordered, cases);
     if asked.json {
         let mut out = Writer::new(Vec::new(alloc));
-        put_seq_refusal_json(alloc, &mut out, asked.which, rows, terms, cases, refusal)?;
+        put_seq_refusal_json(alloc, &mut out, asked.which, &file, refusal)?;
         return json_text(out);
     }
     let mut out = String::new(alloc);
-    put_seq_refusal(alloc, &mut out, asked.which, rows, terms, cases, refusal)?;
+    put_seq_refusal(alloc, &mut out, asked.which, &file, refusal)?;
     Ok(out.into_bytes())
 }
 
 /// What is printed of an answer.
-fn answer_text(
+fn answer_text<'a>(
     alloc: Global,
     asked: Question,
-    cases: &[CasePlace<'_>],
-    ordered: &Ordered,
-    answer: &SeqAnswer,
+    cases: &'a [CasePlace<'a>],
+    ordered: &'a Ordered,
+    answer: &'a SeqAnswer,
 ) -> Result<Said, AllocError>
     ensures { IfOk result (λ said. (said.status ≡ 0) ↔ (is_yes answer.now ≡ true)) }
 {

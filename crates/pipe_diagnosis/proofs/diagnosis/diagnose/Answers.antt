@@ -1,6 +1,5 @@
 use Rattle.std.proofs.Common.{◌∙◌, ◌≤◌, sym, ap, subst, ℕ, List, map}
 use Rattle.hcl_types.specs.declared.table.Row.{Row}
-use Rattle.hcl_types.specs.declared.term.Term.{Term}
 use Rattle.hcl_types.specs.Tables.{IsSound}
 use Rattle.dp_signals.specs.PipeTable.{pipe_rows}
 use Rattle.dp_signals.proofs.Sound.{pipe_sound}
@@ -24,7 +23,7 @@ control_values-requires-clause-sound c = subst IsSound (sym c.in-Ok.ensures) pip
 
 pub returns : goal.returns
 returns c =
-    let terms = c.args.d.now.terms in
+    let terms = c.args.file.now.design.now.terms in
     let atoms = c.args.atoms.now in
     let w = c.args.bits.now in
     let α = assigned atoms bit_count w in
@@ -33,14 +32,13 @@ returns c =
     let own = subst (λ (ss : List FieldSpec). AreControls pipe_rows terms (field_at ss w) α (at ls)) c.field_specs.ensures solved in
     let cv : ℕ → Leaf = at c.of.result in
     let controls = controls_are terms w α cv (subst (λ (xs : List Leaf). AreControls pipe_rows terms (field_at field_specs w) α (at xs)) (sym c.of.ensures) own) in
-    let given = atoms_given pipe_rows terms c.args.o.now.ids atoms bit_count w c.requires.ordered c.requires.atoms in
-    let v = c.args.v in
-    let s = c.args.s.now in
+    let given = atoms_given pipe_rows terms c.args.file.now.order.now.ids atoms bit_count w c.requires.ordered c.requires.atoms in
+    let v = c.args.file.now.variant in
+    let s = c.args.file.now.settings.now in
     let i = c.args.number in
     let same = c.as_slice.ensures.value ∙ sym c.of.ensures in
     let here = c.as_slice.result.now in
     let findings = λ (le : i ≤ 22). c.in_ok-found.ensures.findings le
-    ∙ ap (λ (ts : List Term). map (finding signal.f_pc ts α (at here)) (requirements v s (fields_of w) (flow_of v s (fields_of w)) (register_controls_of α (at here)) (at here) i)) c.items.ensures
     ∙ ap (λ (xs : List Leaf). map (finding signal.f_pc terms α (at xs)) (requirements v s (fields_of w) (flow_of v s (fields_of w)) (register_controls_of α (at xs)) (at xs) i)) same in
     let false_there = c.requires.fails α cv given controls in
     record {
