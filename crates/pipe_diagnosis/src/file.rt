@@ -1,0 +1,17 @@
+//! A file for PIPE, as its obligations are asked of it.
+use hcl_types::{Design, Order};
+use pipe_motion::Settings;
+use y86_base::Variant;
+
+/// A file for PIPE, the instruction set that its obligations are asked for, and the file's settings.
+#[derive(Clone, Copy)]
+pub struct PipeFile<'a> {
+    /// The instruction set.
+    pub variant: Variant,
+    /// The definitions of the file.
+    pub design: &'a Design,
+    /// An order in which its signals can be computed.
+    pub order: &'a Order,
+    /// What the file does that another needn't.
+    pub settings: &'a Settings,
+}

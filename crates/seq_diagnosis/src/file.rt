@@ -1,0 +1,17 @@
+//! A file for SEQ or SEQ+, as its obligations are asked of it.
+use hcl_types::{Design, Order};
+use seq_requirements::Datapath;
+use y86_base::Variant;
+
+/// A file for SEQ or SEQ+, and the instruction set that its obligations are asked for.
+#[derive(Clone, Copy)]
+pub struct SeqFile<'a> {
+    /// The datapath that the file is for.
+    pub which: Datapath,
+    /// The instruction set.
+    pub variant: Variant,
+    /// The definitions of the file.
+    pub design: &'a Design,
+    /// An order in which its signals can be computed.
+    pub order: &'a Order,
+}
