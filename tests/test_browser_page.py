@@ -16,7 +16,7 @@ from helpers.browser_build import is_proved, page
 from helpers.cases import cases, same
 from helpers.designs import example
 from helpers.programs import Program
-from helpers.workbench_page import said
+from helpers.workbench_page import WIDTHS, said
 
 pytestmark = pytest.mark.xdist_group("browser page")
 STD = example("std")
@@ -159,7 +159,9 @@ def test_why_no(at):
     same(at.do("[every('#no-path .wire.bad').length, every('#no-path .wire.want').length]"), [1, 1])
     said(at, "panel-no", "e_valE is wanted", "is taken", "It reads D_icode = IRRMOVQ, d_srcA = %rax", "not a cycle of your program")
     same(at.do("every('#panel-no [data-rule]').map((it) => [it.textContent, it.ariaPressed])"), [["O10", "true"], ["O11", "false"]])
-    at.click("#panel-no [data-rule=O11]")
+    at.do("one('#panel-no [data-rule=O11]').focus()")
+    at.key("Enter")
+    same(at.do("document.activeElement.dataset.rule"), "O11")
     said(at, "verdict", "no: O11", "d_valB picks M_valE; e_valE is wanted", "Refuted too: O10")
     name, drawing = at.saved(lambda: at.click("#save-no"))
     same((name, re.findall(r"counterexample to (O\d+)", drawing)), ("O11.svg", ["O11"]))
@@ -220,7 +222,19 @@ def test_by_instructions(at):
     at.click("#tab-steps")
     said(at, "panel-steps", "differs first at instruction 3", "%rsp")
     at.click("#panel-steps [data-record]")
-    same(at.do("workbench.tab"), "run")
+    same(at.do("[workbench.tab, document.activeElement.id]"), ["run", "result"])
+
+
+def test_steps_while_writing(at):
+    """On a phone the page doesn't go from the text that is written to the instruction that differs."""
+    at.size(*WIDTHS[-1])
+    at.choose("hcls", "mistake: memory before execute")
+    at.do("el('tab-steps').click(), scrollTo(0, 0), one('#ys textarea').focus()")
+    before = at.do("scrollY")
+    at.type("#")
+    at.settle()
+    said(at, "panel-steps", "differs first")
+    same(at.do("scrollY"), before)
 
 
 # ---- faults
@@ -279,6 +293,22 @@ def test_asm_fault(row, at, programs, folder):
     lines, sentences = faults_told(programs, folder, "a.ys", text)
     same(lines, [1])
     said(at, "ys-strip", row[1], sentences[0])
+
+
+# What is below the program where its caret is in the second line.
+BELOW = "(() => { const it = one('#ys textarea'), at = it.value.indexOf('halt'); it.focus(); it.setSelectionRange(at, at); it.dispatchEvent(new Event('keyup')); return el('ys-strip').textContent; })()"
+
+
+def test_listing_beside_a_fault(at):
+    """The bytes of a line are those of the program that is there, also where the processor has a fault."""
+    at.choose("yss", "call.ys")
+    at.write("hcl", "word f_pc = ;")
+    at.write("ys", "    nop\n    halt\n")
+    same(at.do(BELOW), "call.ys, line 2: 0x001: 00")
+    at.click("#ys .gutter [data-line='2']")
+    same(at.do("[...workbench.breaks]"), [1])
+    at.write("ys", "    nop\n    halt\n    nope\n")
+    same(at.do("[...workbench.breaks].map((it) => workbench.lines.lineOf[it] ?? 0)"), [0])
 
 
 # The lines that a note lies over; and where the textarea has the caret's line, beside where it is drawn.
@@ -456,6 +486,16 @@ def test_late_verdict(held):
     held.settle()
     said(held, "verdict", "no: O10")
     said(held, "outcome", "comes out right", "Another may not.")
+    # (and not from the verdict of the text before)
+    held.do("Object.assign(holds, { round: 2, at: 0, kept: [] }), 0")
+    held.do(f"(() => {{ const it = one('#hcl textarea'); it.value = {json.dumps(STD)}; it.dispatchEvent(new Event('input', {{ bubbles: true }})); }})()")
+    held.until("holds.kept.length === 2")
+    held.do("holds.at = -1, holds.kept.find(([it]) => !/^(yes|no)/.test(it.out))[1](), 0")
+    held.until("!el('outcome').classList.contains('stale')")
+    assert "Another may not." not in held.text("outcome")
+    held.do("holds.kept.find(([it]) => /^(yes|no)/.test(it.out))[1](), 0")
+    held.settle()
+    said(held, "verdict", "Right for every program")
 
 
 def test_stopped(held):
@@ -570,8 +610,12 @@ def test_examples(at):
 # ---- files, links, pictures, paper
 
 def test_own_text(at):
+    """What is written comes back after an example, also where the browser was closed meanwhile."""
     at.write("hcl", f"{STD}\n# mine\n")
     at.choose("hcls", "no_bypassing.hcl")
+    at.until("(localStorage.getItem('y86-workbench') ?? '').includes('no_bypassing.hcl')")
+    at.begin(at.path)
+    same(at.do("el('hcls').value"), "no_bypassing.hcl")
     at.choose("hcls", "")
     assert at.source("hcl").endswith("# mine\n")
 
@@ -695,6 +739,24 @@ def test_certificate(at, programs, folder):
     same((name, text.encode()), ("std.aag", y86("aig", "std.hcl", files=files).out))
 
 
+def test_saved_late(held):
+    """What is saved is made of the text that was there as the button was pressed, and has its name."""
+    held.choose("hcls", "no_bypassing.hcl")
+    of_the_other = held.saved(lambda: held.click("#save-cert"))
+    held.choose("hcls", "std.hcl")
+    wanted = held.saved(lambda: held.click("#save-cert"))
+    assert wanted != of_the_other
+    held.do("Object.assign(holds, { round: 1, at: 0, kept: [] }), 0")
+
+    def late():
+        held.click("#save-cert")
+        held.until("holds.kept.length === 1")
+        held.do("(() => { const it = el('hcls'); holds.at = -1; it.value = 'no_bypassing.hcl'; it.dispatchEvent(new Event('change')); holds.kept[0][1](); })()")
+
+    same(held.saved(late), wanted)
+    held.settle()
+
+
 def test_print(at):
     """On paper are the cycle that is shown and the whole diagram, in parts that fit, in light colours; afterwards the page is as it was."""
     at.scheme("dark")
@@ -721,7 +783,8 @@ CLASS_ROWS = "every('#class-rows tr').map((it) => [...it.children].slice(0, 4).m
 
 def give_class(at, files):
     """Gives the folder of a class."""
-    at.click("#class")
+    if not at.do("el('dialog').open"):
+        at.click("#class")
     given = json.dumps([[name, text] for name, text in files.items()])
     at.do(f"(() => {{ const files = {given}.map(([name, text]) => {{ const it = new File([text], name.split('/').pop()); Object.defineProperty(it, 'webkitRelativePath', {{ value: name }}); return it; }});"
           " const pick = el('pick-folder'); Object.defineProperty(pick, 'files', { value: files, configurable: true }); pick.onchange(); })()")
@@ -740,6 +803,19 @@ def test_class(at):
     at.click("#class-rows tr:nth-child(2) button")
     at.settle()
     said(at, "verdict", "no: O10")
+
+
+def test_two_classes(at):
+    """A folder that is given while another one is checked takes its place; a table that was closed is made no further."""
+    many, two = ({f"{name}{number}.hcl": STD for number in range(count)} for name, count in (("a", 5), ("b", 2)))
+    give_class(at, many)
+    give_class(at, two)
+    at.until("!el('class-csv').disabled")
+    same([it[0] for it in at.do(CLASS_ROWS)], list(two))
+    give_class(at, many)
+    at.do("el('dialog').close(), el('help').click()")
+    at.do("new Promise((done) => setTimeout(done, 3000))")
+    at.do("el('dialog').close()")
 
 
 def test_class_with_iaddq(at):

@@ -8,6 +8,8 @@ import { full, isFull, load } from "./texts.mjs";
 
 const LONGEST = 65536, SECONDS = 60, HEADS = ["file", "datapath", "verdict", "obligation", "fault", "settings", "note"];
 const grader = new Engine();
+// How many tables were begun: a table ends where another begins, or where the dialog is closed.
+let begun = 0;
 
 /** Checks one text, for so many seconds at most. Gives a row of the table. */
 async function checked(name, text) {
@@ -61,14 +63,16 @@ function rowOf(row, text) {
 async function grade(files) {
   const byPath = (one, other) => pathOf(one).localeCompare(pathOf(other));
   const found = files.filter((it) => /\.hcl$/i.test(it.name)).sort(byPath);
-  const rows = [];
-  const body = by("class-rows"), said = by("class-said");
+  const rows = [], body = by("class-rows"), said = by("class-said");
+  grader.stop();
+  const mine = ++begun;
   body.replaceChildren();
   by("class-csv").disabled = true;
   for (const [at, file] of found.entries()) {
-    if (!by("dialog").open) return grader.stop();
     said.textContent = `${at} of ${found.length} files: ${pathOf(file)} …`;
-    const text = (await file.text()).replace(/\r\n?/g, "\n"), row = await checked(pathOf(file), text);
+    const text = (await file.text()).replace(/\r\n?/g, "\n");
+    const row = mine === begun && await checked(pathOf(file), text);
+    if (mine !== begun) return;
     rows.push(row);
     body.append(rowOf(row, text));
   }
@@ -145,7 +149,11 @@ export function wireClassroom() {
     grade([...pick.files]);
     pick.value = "";
   };
-  it.addEventListener("close", () => it.classList.remove("wide"));
+  it.addEventListener("close", () => {
+    it.classList.remove("wide");
+    begun++;
+    grader.stop();
+  });
   it.addEventListener("drop", (event) => {
     if (!by("class-rows")) return;
     event.preventDefault();

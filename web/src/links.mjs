@@ -64,6 +64,7 @@ export function fromBefore() {
     if (kept?.h === undefined) return false;
     put(kept);
     [by("hcls").value, by("yss").value] = kept.e ?? ["", ""];
+    Object.assign(state.own, kept.own);
     return true;
   } catch {
     return false;
@@ -73,7 +74,7 @@ export function fromBefore() {
 function keep() {
   const { hcl, ys } = chosen();
   try {
-    localStorage.setItem(KEY, JSON.stringify({ ...texts(), e: [hcl, ys] }));
+    localStorage.setItem(KEY, JSON.stringify({ ...texts(), e: [hcl, ys], own: state.own }));
   } catch {
     // (a page may have no storage)
   }

@@ -67,7 +67,7 @@ async function answer(it, path, flags) {
   noFault("ys");
   const files = { [DESIGN]: it.hcl, [OBJECT]: made.out, [BOOK]: bookDesign() };
   const ran = await ask(runner, "y86", [...COMMANDS[path], ...flags], files);
-  if (ran.status > 1) return showNoRun(it, ran);
+  if (ran.status > 1) return showNoRun(it, ran, made.out);
   const by_ = await ask(runner, "y86", ["yis", OBJECT, ...flags], files);
   const book = await ask(runner, "y86", ["psim", BOOK, OBJECT, "--trace", ...flags], files);
   const staged = await STAGED[path](path, files, flags, made.out), told = await toldOf(path, files, flags);
@@ -123,11 +123,13 @@ function showRun(run) {
   outcome();
 }
 
-function noRun(html, why, which, faults) {
-  Object.assign(state, { run: null, compared: null });
+/** Shows that there is no run; of a program that assembles there is `object`. */
+function noRun(html, why, which, faults, object = "") {
+  Object.assign(state, { run: null, compared: null, object, lines: sourceLines(object) });
   card("outcome", "", html);
   blank(why, which, faults);
   tell("run");
+  tell("breaks");
 }
 
 async function showSourceFault(it, err) {
@@ -144,11 +146,11 @@ function showNone(why) {
   noRun(`${head("no answer", "This program")}<p>The run ${escaped(why)}.</p>`, "There is no run to show.");
 }
 
-async function showNoRun(it, ran) {
+async function showNoRun(it, ran, object) {
   const faults = await faultsOf(runner, "hcl", it.hcl, ran.err);
   if (!it.isBoth()) return;
   const said = `${head("no run", "This program")}<p>It assembles; the processor has a fault, so it can’t run.</p>`;
-  noRun(said, "The processor has a fault, so there is no run to show.", "hcl", faults);
+  noRun(said, "The processor has a fault, so there is no run to show.", "hcl", faults, object);
 }
 
 function showStopped() {
@@ -242,7 +244,8 @@ function showDifferent(it) {
 }
 
 export function wireOutcome() {
-  on("stale", () => {
+  on("stale", (which) => {
+    if (which === "ys") state.object = "";
     mark("outcome", "running …", runner);
     by("shown").classList.add("stale");
     by("shown").setAttribute("aria-busy", "true");

@@ -60,7 +60,7 @@ function saysOf(rule, path, told) {
 
 /** Shows a refusal `{ rule, told, lines, path, refusals }` in the panel for it. */
 export function drawRefusal({ rule, told, lines, path, refusals }) {
-  const panel = by("panel-no"), said = saysOf(rule, path, told);
+  const panel = by("panel-no"), said = saysOf(rule, path, told), isPressed = "rule" in document.activeElement.dataset;
   if (!told) {
     panel.innerHTML = `<div class="card"><pre>${escaped(lines.join("\n"))}</pre></div>`;
     return;
@@ -75,5 +75,7 @@ export function drawRefusal({ rule, told, lines, path, refusals }) {
     + `${scene}<div class="two">`
     + `<section class="card">${head}${signals}</section><section class="card">${asks}</section></div>`;
   for (const it of panel.querySelectorAll("[data-rule]")) it.onclick = () => tell("refusal", it.dataset.rule);
+  // (the button that was pressed is a new one)
+  if (isPressed) panel.querySelector("[aria-pressed=true]")?.focus({ preventScroll: true });
   by("save-no").onclick = () => download(`${rule}.svg`, standalone(drawingOf(told, path)), "image/svg+xml");
 }

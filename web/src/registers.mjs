@@ -31,7 +31,7 @@ function show() {
   const used = usedRegisters(state.run);
   const words = Object.keys(cycle.memory).sort((one, other) => parseInt(one, 16) - parseInt(other, 16));
   const others = REGISTERS.length - used.length;
-  by("others").textContent = !others ? "" : used.length ? `${others} more: 0` : "all 0";
+  by("others").textContent = !others ? "" : used.length ? "others: 0" : "all 0";
   by("registers").innerHTML = used.map((it) => pairHTML(it, cycle.registers[it] ?? "0x0", cycle)).join("");
   const flag = (it) => `<span class="${cycle.fresh.has(it) ? "new" : ""}">${it} ${cycle.flags[it]}</span>`;
   by("flags").innerHTML = FLAGS.map(flag).join("");

@@ -48,7 +48,10 @@ function show() {
   const intro = `What each instruction does, one after another. ${said}${cut}`;
   panel.innerHTML = `<div class="card scroll"><p>${intro}</p><table class="list"><thead><tr>${HEADS}</tr></thead>`
     + `<tbody>${rows.join("")}</tbody></table></div>`;
-  panel.querySelector(".wrong")?.scrollIntoView({ block: "center" });
+  // (on a phone it is the page that scrolls, and whoever writes would lose the text)
+  if (document.activeElement.tagName !== "TEXTAREA")
+    panel.querySelector(".wrong")?.scrollIntoView({ block: "center" });
+  panel.firstElementChild.scrollLeft = 0;
 }
 
 export function wireSteps() {
@@ -60,6 +63,9 @@ export function wireSteps() {
   on("tab", (name) => name === "steps" && show());
   by("panel-steps").addEventListener("click", (event) => {
     const button = event.target.closest("[data-record]");
-    if (button) tell("goto-record", Number(button.dataset.record));
+    if (!button) return;
+    tell("goto-record", Number(button.dataset.record));
+    // (the button can't be seen any more)
+    by("result").focus({ preventScroll: true });
   });
 }
