@@ -486,16 +486,6 @@ def test_late_verdict(held):
     held.settle()
     said(held, "verdict", "no: O10")
     said(held, "outcome", "comes out right", "Another may not.")
-    # (and not from the verdict of the text before)
-    held.do("Object.assign(holds, { round: 2, at: 0, kept: [] }), 0")
-    held.do(f"(() => {{ const it = one('#hcl textarea'); it.value = {json.dumps(STD)}; it.dispatchEvent(new Event('input', {{ bubbles: true }})); }})()")
-    held.until("holds.kept.length === 2")
-    held.do("holds.at = -1, holds.kept.find(([it]) => !/^(yes|no)/.test(it.out))[1](), 0")
-    held.until("!el('outcome').classList.contains('stale')")
-    assert "Another may not." not in held.text("outcome")
-    held.do("holds.kept.find(([it]) => /^(yes|no)/.test(it.out))[1](), 0")
-    held.settle()
-    said(held, "verdict", "Right for every program")
 
 
 def test_stopped(held):
@@ -737,24 +727,6 @@ def test_certificate(at, programs, folder):
     same((name, text.encode()), ("std.crt", y86("check", "pipe", "std.hcl", "--cert", files=files).out))
     name, text = at.saved(lambda: at.click("#save-aig"))
     same((name, text.encode()), ("std.aag", y86("aig", "std.hcl", files=files).out))
-
-
-def test_saved_late(held):
-    """What is saved is made of the text that was there as the button was pressed, and has its name."""
-    held.choose("hcls", "no_bypassing.hcl")
-    of_the_other = held.saved(lambda: held.click("#save-cert"))
-    held.choose("hcls", "std.hcl")
-    wanted = held.saved(lambda: held.click("#save-cert"))
-    assert wanted != of_the_other
-    held.do("Object.assign(holds, { round: 1, at: 0, kept: [] }), 0")
-
-    def late():
-        held.click("#save-cert")
-        held.until("holds.kept.length === 1")
-        held.do("(() => { const it = el('hcls'); holds.at = -1; it.value = 'no_bypassing.hcl'; it.dispatchEvent(new Event('change')); holds.kept[0][1](); })()")
-
-    same(held.saved(late), wanted)
-    held.settle()
 
 
 def test_print(at):

@@ -51,7 +51,6 @@ function show() {
   // (on a phone it is the page that scrolls, and whoever writes would lose the text)
   if (document.activeElement.tagName !== "TEXTAREA")
     panel.querySelector(".wrong")?.scrollIntoView({ block: "center" });
-  panel.firstElementChild.scrollLeft = 0;
 }
 
 export function wireSteps() {
