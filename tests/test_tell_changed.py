@@ -103,7 +103,9 @@ def signals_agree(y86, y86_tell, text, said, refuted):
     """Whether the signals that are marked wrong could be compared, and then that they are those."""
     label, situation = refuted["obligation"]["label"], refuted["counterexample"]
     wrong = [it for it in refuted["signals"] if not it["right"]]
-    if not wrong or any(it["wanted"] is None for it in wrong):
+    names = [it["signal"] for it in refuted["signals"]]
+    # (of a signal that has to be two words at once no value is right)
+    if not wrong or any(it["wanted"] is None or names.count(it["signal"]) > 1 for it in wrong):
         return False
     bits, there = bits_at(situation), condition(situation)
 
@@ -127,6 +129,9 @@ def repairs_agree(y86, y86_tell, text, said, refuted):
     situation, compared = refuted["counterexample"], 0
     bits, there = bits_at(situation), condition(situation)
     for signal in MOVERS:
+        # (where another definition reads the signal, it would change too)
+        if len(re.findall(rf"\b{signal}\b", text)) > 1:
+            continue
         other = changed(text, **{signal: f"({there}) && !(@) || !({there}) && (@)"})
         false_there, is_repair = outputs(y86, other, bits), signal in refuted["motion"]["invert"]
         if false_there is None or is_repair == bool(false_there.intersection(MOTION)) and settings(y86_tell, other) != said["settings"]:
