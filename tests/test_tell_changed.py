@@ -170,6 +170,11 @@ def parts_of(y86, command, *files):
     return out[:at], out[at:end], out[end:]
 
 
+def status_of(ran):
+    """The status with which a run stopped."""
+    return re.search(r"Status '(\w+)'", ran[-1])[1]
+
+
 @pytest.mark.slow
 @pytest.mark.parametrize("first", range(0, COUNT, 10))
 def test_runs(first, y86, y86_tell):
@@ -182,13 +187,17 @@ def test_runs(first, y86, y86_tell):
         listing = y86("yas", "p.ys", files={"p.ys": source, "book.hcl": book, "d.hcl": text}).out
         said = json.loads(y86_tell("run", "d.hcl", "p.yo", "--json", files={"p.yo": listing}).out)
         right, _, after = parts_of(y86, "psim", "book.hcl", "p.yo")
-        same(parts_of(y86, "yis", "p.yo")[2], after)
+        _, stepped, by_steps = parts_of(y86, "yis", "p.yo")
+        same(by_steps, after)
         trace, ran, came = parts_of(y86, "psim", "d.hcl", "p.yo")
         alike = next((k for k, lines in enumerate(zip(trace, right)) if lines[0] != lines[1]), min(len(trace), len(right)))
         assert said["outcome"] == "limit" or said["instructions"] == alike, (number, said, alike)
         if said["outcome"] == "same":
             assert (trace, came) == (right, after) and f"Ran {said['cycles']} cycles, retired {said['instructions']} instructions" == ran[0], (number, said, ran)
         elif said["outcome"] == "state":
-            assert trace == right, (number, said)
+            # (a pipeline may stop before the program does; what it has retired is right)
+            assert trace == right[: len(trace)], (number, said)
+            if status_of(ran) != status_of(stepped):
+                same((said["wrong"], said["is"]), (["status"], status_of(ran)))
         elif said["outcome"] == "instruction":
             assert trace != right, (number, said)
