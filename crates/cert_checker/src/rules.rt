@@ -350,7 +350,7 @@ impl CheckerState {
         requires { spec.is_term self.now t ≡ true }
         ensures { result ≡ t }
     {
-        let _ = self.terms.len();
+        let _ = self.terms.len(); // brings the invariant of the terms
         t as u32
     }
 

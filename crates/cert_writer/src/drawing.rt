@@ -55,7 +55,7 @@ pub fn draw(
     requires order { IsVariableOrder order.now ranks.now }
     ensures { IfOk result (λ d. IsDrawn n.now order.now d.store d.dias.items) }
 {
-    let _ = order.len();
+    let _ = order.len(); // its length is a u64
     let vars = n.vars();
     let to = sources(alloc, ranks)?;
     let copy = substitute(alloc, n, vars, to.as_slice())?;

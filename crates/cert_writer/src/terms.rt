@@ -207,7 +207,7 @@ impl<'a> TermWriter<'a> {
     fn holds(&self)
         ensures { IsTermTable self.now }
     {
-        let _ = self.terms.len();
+        let _ = self.terms.len(); // brings the invariant of the terms
     }
 
     /// Whether a term is that of a variable.

@@ -68,7 +68,7 @@ pub(crate) fn put_terms(out: &mut Vec<u8>, g: &Demands, terms: &[TermDef]) -> Re
     requires wrote { IsCertificatePrefix g.now out.old.items nothing }
     ensures { OnOk result (IsCertificatePrefix g.now out.new.items (facts_with terms.now [] [])) }
 {
-    let _ = g.net.vars();
+    let _ = g.net.vars(); // brings the invariant of the net
     for i in 0..terms.len() {
         let made = terms[i];
         put_line(
@@ -90,7 +90,7 @@ pub(crate) fn put_steps(out: &mut Vec<u8>, g: &Demands, claims: &ClaimWriter) ->
     requires wrote { IsCertificatePrefix g.now out.old.items (facts_with claims.now.terms [] []) }
     ensures { OnOk result (IsCertificatePrefix g.now out.new.items (facts_with claims.now.terms claims.now.steps [])) }
 {
-    let _ = g.net.vars();
+    let _ = g.net.vars(); // brings the invariant of the net
     let steps = claims.steps();
     for i in 0..steps.len() {
         put_line(out, steps[i])?;
@@ -124,7 +124,7 @@ pub(crate) fn put_gates(
     requires wrote { IsCertificatePrefix g.now out.old.items (facts_with claims.now.terms claims.now.steps []) }
     ensures { OnOk result (IsCertificatePrefix g.now out.new.items (facts_with claims.now.terms claims.now.steps terms.now)) }
 {
-    let _ = claims.steps();
+    let _ = claims.steps(); // brings the invariant of the claims
     for i in 0..terms.len() {
         put_line(out, line_of(g.net.gate(i as u64), terms[i], by[i]))?;
     }

@@ -41,8 +41,8 @@ fn is_open(g: &Demands, order: &[u32], ranks: &[u32], drawn: &DrawnNet) -> Resul
     ensures open { IfOk result (λ b. b ≡ true → HasFalseDemand g.now) }
     ensures shut { IfOk result (λ b. b ≡ false → AreDemandsTrue g.now) }
 {
-    let _ = order.len();
-    let _ = ranks.len();
+    let _ = order.len(); // its length is a u64
+    let _ = ranks.len(); // its length is a u64
     for k in 0..g.want.items().len() {
         match counter(g, drawn, k)? {
             Some(_) => return Ok(true),

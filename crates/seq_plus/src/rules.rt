@@ -64,8 +64,7 @@ fn code_allowed(b: &mut NetBuilder, v: Variant) -> Result<u64, Memory>
     let none = below(b, P_ICODE, 1)?;
     let some = b.not(none)?;
     let known = below(b, P_ICODE, icode_count(v))?;
-    let g = b.and(some, known)?;
-    Ok(g)
+    b.and(some, known)
 }
 
 /// The rules of SEQ+.
@@ -114,18 +113,15 @@ impl RuleFamily for PlusRules {
     fn fits(&self, b: &mut NetBuilder, ctl: &Controls) -> Result<u64, Memory> {
         let code = code_allowed(b, self.variant)?;
         let rest = line_allowed(b, ctl, &PLUS_LINE, self.variant)?;
-        let g = b.and(code, rest)?;
-        Ok(g)
+        b.and(code, rest)
     }
 
     #[tactic(auto, unfolding(crate::specs::Fields::fields_of, crate::specs::Obligations::demand_at, seq_obligations::specs::Fields::line_at))]
     fn demand(&self, b: &mut NetBuilder, ctl: &Controls, number: u32) -> Result<u64, Memory> {
         if number == 16 {
-            let next = by_icode(b, ctl, self.variant, P_ICODE, &NextPc)?;
-            return Ok(next);
+            return by_icode(b, ctl, self.variant, P_ICODE, &NextPc);
         }
-        let g = shared_demand_gate(b, ctl, &PLUS, &PLUS_LINE, self.variant, number)?;
-        Ok(g)
+        shared_demand_gate(b, ctl, &PLUS, &PLUS_LINE, self.variant, number)
     }
 }
 
