@@ -2,7 +2,7 @@
 use Rattle.std.proofs.Common.{◌≡◌, ◌≢◌, ◌∙◌, ◌<◌, ◌+◌, ℕ, List, [], ◌∷◌, ◌++◌, length, take, get_or, slice_get, unwrap_or, refl, sym, ap, inl, inr, Ok, Err, append_assoc, append-nil}
 use Rattle.std.proofs.lemmas.List.{take_more}
 use Rattle.hcl_read.specs.Read.{ReadsAs}
-use Rattle.hcl_read.specs.declared.tree.File.{File}
+use Rattle.hcl_tree.specs.declared.tree.File.{File}
 use Rattle.hcl_types.specs.Binding.{bound}
 use Rattle.hcl_types.specs.Equations.{needs_of}
 use Rattle.hcl_types.specs.Tables.{needs, row_names}

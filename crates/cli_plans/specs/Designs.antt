@@ -2,7 +2,7 @@
 use Rattle.std.specs.Prelude.{◌≡◌, ◌⊎◌, ℕ, List, Ok, Err}
 use Rattle.hcl_read.specs.Read.{IsFault, ReadsAs}
 use Rattle.hcl_read.specs.declared.fault.HclFault.{HclFault}
-use Rattle.hcl_read.specs.declared.tree.File.{File}
+use Rattle.hcl_tree.specs.declared.tree.File.{File}
 use Rattle.hcl_types.specs.Binding.{bound}
 use Rattle.hcl_types.specs.Equations.{needs_of}
 use Rattle.hcl_types.specs.Tables.{IsBound, IsOrderOf, IsSound, needs, row_names}

@@ -11,7 +11,8 @@ ghost use Rattle.cli_plans.specs.Lines.{hcl_reason, object_reason};
 ghost use Rattle.yo_object.specs.ObjectText.{object_of};
 
 use crate::stop_reason::{InputFault, StopReason};
-use hcl_read::{File, HclWhy, read};
+use hcl_read::{HclWhy, read};
+use hcl_tree::File;
 use std::alloc::Global;
 use wb_io::{Files, ReadErr};
 use y86_base::{Image, Stat};

@@ -2,7 +2,7 @@
 use Rattle.std.specs.Prelude.{◌≡◌, ℕ, Bool, true, false, List, [], ◌++◌, length, Result, Ok, Err}
 use Rattle.dp_signals.specs.PipeRun.{PipeHistory}
 use Rattle.dp_signals.specs.PipeTable.{pipe_rows}
-use Rattle.hcl_read.specs.Print as hcl_text
+use Rattle.hcl_print.specs.Print as hcl_text
 use Rattle.hcl_read.specs.Read.{ReadsAs}
 use Rattle.y86_base.specs.declared.parts.Variant.{Variant}
 use Rattle.hcl_types.specs.declared.term.Term.{Term}

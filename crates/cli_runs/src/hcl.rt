@@ -4,7 +4,7 @@ ghost use Rattle.cli_runs.specs.Answers.{hcl_plan};
 ghost use Rattle.cli_plans.specs.PlanFollowing.{FollowsPlanOver};
 
 use cli_plans::{HCL_LIMIT, StopReason, read_file, read_hcl, write_answer};
-use hcl_read::print;
+use hcl_print::print;
 use std::alloc::Global;
 use wb_io::{Files, Sink};
 

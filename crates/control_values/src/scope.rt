@@ -1,6 +1,6 @@
 //! Terms at a valuation, where the control values of their names are known.
 ghost use Rattle.std.specs.Prelude.{◌≡◌, ◌≤◌, false, get_or, if◌then◌else◌, map};
-ghost use Rattle.hcl_read.specs.declared.tree.CmpOp.TheVariants.{Eq};
+ghost use Rattle.hcl_tree.specs.declared.tree.CmpOp.TheVariants.{Eq};
 ghost use Rattle.hcl_types.specs.Lists.{each, some};
 ghost use Rattle.hcl_types.specs.Terms.{branch_value, picked, value};
 ghost use Rattle.ctl_atoms.specs.declared.leaf.Leaf.TheVariants.{Number};

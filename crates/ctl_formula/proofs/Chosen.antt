@@ -3,7 +3,7 @@ use Rattle.std.proofs.Common.{◌≡◌, Bool, true, false, ◌||◌, ◌&&◌, 
 use Rattle.std.proofs.lemmas.Bool.{or_left, or_right}
 use Rattle.ctl_atoms.specs.declared.leaf.Leaf.{Leaf}
 use Rattle.ctl_formula.specs.declared.controls.Pick.{Pick}
-use Rattle.hcl_read.specs.declared.tree.CmpOp.{CmpOp}
+use Rattle.hcl_tree.specs.declared.tree.CmpOp.{CmpOp}
 use Rattle.hcl_types.specs.Lists.{some}
 use Rattle.nets.specs.Nets.{Gates, ExtendsNet}
 use Rattle.ctl_atoms.specs.Leaves.{leaf_eq, leaf_cmp, Assignment}

@@ -3,7 +3,7 @@ use Rattle.std.specs.Prelude.{ℕ, Bool, false, ◌&&◌, ◌||◌, List, [], �
 use Rattle.ctl_atoms.specs.declared.leaf.Leaf.{Leaf}
 use Rattle.ctl_atoms.specs.declared.leaf.Atom.{Atom}
 use Rattle.ctl_formula.specs.declared.controls.Pick.{Pick}
-use Rattle.hcl_read.specs.declared.tree.CmpOp.{CmpOp}
+use Rattle.hcl_tree.specs.declared.tree.CmpOp.{CmpOp}
 use Rattle.hcl_types.specs.Lists.{some, each}
 use Rattle.ctl_atoms.specs.Leaves.{leaf_eq, leaf_cmp, open_atom, is_listed, Assignment}
 use Rattle.nets.specs.Nets.{Gates, truth}

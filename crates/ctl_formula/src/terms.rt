@@ -16,7 +16,7 @@ ghost use Rattle.ctl_formula.specs.Picks.{entry_truth, entry_word};
 ghost use Rattle.ctl_atoms.specs.TermAtoms.{once, joined};
 ghost use Rattle.hcl_types.specs.Lists.{each, some};
 ghost use Rattle.hcl_types.specs.Terms.{picked, value, branch_value};
-ghost use Rattle.hcl_read.specs.declared.tree.CmpOp.TheVariants.{Eq};
+ghost use Rattle.hcl_tree.specs.declared.tree.CmpOp.TheVariants.{Eq};
 ghost use Rattle.ctl_atoms.specs.declared.leaf.Leaf.TheVariants.{Number};
 
 use crate::controls::{Entry, Pick};

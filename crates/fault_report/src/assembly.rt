@@ -10,7 +10,7 @@ use crate::fill::{Words, filled, no_words};
 use crate::hcl_binding::sort_faults;
 use crate::hcl_reading::{begins_with, is_text_of};
 use asm_faults::{LineFault, Part, faulty_lines, line_stop};
-use hcl_read::Text;
+use hcl_tree::Text;
 use std::alloc::Global;
 use y86_base::{
     Items, Keyword, Memory, Variant, after_blanks, first_line, is_decimal, is_letter, is_name_byte,

@@ -1,6 +1,6 @@
 //! Which part of a definition's body is a word where a Boolean is wanted, or a Boolean where a word is.
 use crate::hcl_binding::row_of;
-use hcl_read::{Branch, Expr, Kind};
+use hcl_tree::{Branch, Expr, Kind};
 use hcl_types::{Class, Row};
 
 /// What is of the wrong kind.

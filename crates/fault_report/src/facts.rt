@@ -2,7 +2,7 @@
 ghost use Rattle.std.specs.Prelude.{◌≡◌, ◌++◌, ◌∷◌, [], OnOk};
 ghost use Rattle.fault_report.specs.Datapaths as spec;
 
-use hcl_read::Text;
+use hcl_tree::Text;
 use hcl_types::Table;
 use std::alloc::Global;
 use y86_base::{Items, Memory};

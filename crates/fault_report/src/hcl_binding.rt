@@ -11,7 +11,7 @@ use hcl_faults::{
     token_text,
 };
 use hcl_order::{OrderFault, order};
-use hcl_read::{File, Item, Kind, Text};
+use hcl_tree::{File, Item, Kind, Text};
 use hcl_types::{BindWhy, Row, Table, bind};
 use std::alloc::Global;
 use y86_base::{Items, Memory};

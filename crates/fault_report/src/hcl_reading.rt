@@ -3,7 +3,8 @@ use crate::facts::{Fault, Related, other_place, part, put};
 use crate::fill::{Words, filled, no_words, put_bytes};
 use crate::hcl_rules::{HclRule, Test, hcl_rules};
 use hcl_faults::{Stopped, TokenAt, TokenKind as Kind, place_at, token_text};
-use hcl_read::{HclWhy, Text};
+use hcl_read::HclWhy;
+use hcl_tree::Text;
 use std::alloc::Global;
 use y86_base::{Items, Memory, number_in_base};
 

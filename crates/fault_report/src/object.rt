@@ -4,7 +4,7 @@ ghost use Rattle.y86_base.specs.Image.{IsSize};
 use crate::facts::{Fault, Report, part, put};
 use crate::fill::{filled, no_words};
 use crate::hcl_binding::{NOTHING_SAID, Saying};
-use hcl_read::Text;
+use hcl_tree::Text;
 use std::alloc::Global;
 use y86_base::{Items, Memory, Variant, first_line};
 use yas_asm::{Statement, read_line};

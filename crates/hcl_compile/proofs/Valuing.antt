@@ -1,7 +1,7 @@
 -- Operands, numbers and the values of terms.
 use Rattle.std.proofs.Common.{◌≡◌, ◌≢◌, ◌+◌, ◌-◌, ◌<◌, ◌≤◌, nat_eq, nat_lt, not, inl, inr, ℕ, Bool, true, false, if◌then◌else◌, List, [], ◌∷◌, ◌++◌, length, map, drop, get_or, refl, sym, ap, subst, ◌∙◌, arith}
 use Rattle.std.proofs.lemmas.Bool.{cases_eq, eq-eqb, ne_eqb}
-use Rattle.hcl_read.specs.declared.tree.CmpOp.TheVariants.{Eq}
+use Rattle.hcl_tree.specs.declared.tree.CmpOp.TheVariants.{Eq}
 use Rattle.hcl_types.specs.declared.term.Term.{Term}
 use Rattle.hcl_types.specs.declared.term.TermBranch.{TermBranch}
 use Rattle.hcl_types.specs.declared.term.Term.TheVariants.{Num, Name, Case}

@@ -1,7 +1,7 @@
 -- Every fault of binding: that of each item, and the signals that are missing.
 use Rattle.std.specs.Prelude.{◌≡◌, ℕ, Bool, true, false, not, ◌&&◌, List, [], ◌∷◌, ◌++◌, length, map, filter, Option, Some, None, is_some, Result, Ok, Err}
-use Rattle.hcl_read.specs.declared.tree.Item.{Item}
-use Rattle.hcl_read.specs.declared.tree.Item.TheVariants as item
+use Rattle.hcl_tree.specs.declared.tree.Item.{Item}
+use Rattle.hcl_tree.specs.declared.tree.Item.TheVariants as item
 use Rattle.hcl_types.specs.declared.table.Row.{Row}
 use Rattle.hcl_types.specs.declared.fault.BindFault.{BindFault}
 use Rattle.hcl_types.specs.declared.fault.BindWhy.{BindWhy}

@@ -2,8 +2,8 @@
 use Rattle.std.specs.Prelude.{ℕ, List, []}
 use Rattle.hcl_read.specs.declared.tokens.Token.{Token}
 use Rattle.hcl_read.specs.declared.tokens.Token.TheVariants as tokens
-use Rattle.hcl_read.specs.declared.tree.Kind.TheVariants.{Word}
-use Rattle.hcl_read.specs.declared.tree.CmpOp.TheVariants.{Eq}
+use Rattle.hcl_tree.specs.declared.tree.Kind.TheVariants.{Word}
+use Rattle.hcl_tree.specs.declared.tree.CmpOp.TheVariants.{Eq}
 use Rattle.hcl_faults.specs.declared.kinds.TokenKind.{TokenKind}
 use Rattle.hcl_faults.specs.declared.kinds.TokenKind.TheVariants as kinds
 

@@ -2,7 +2,8 @@
 ghost use Rattle.std.specs.Prelude.{◌≡◌};
 ghost use Rattle.hcl_faults.specs.Kinds as spec;
 
-use hcl_read::{CmpOp, Kind, Text, Token};
+use hcl_read::Token;
+use hcl_tree::{CmpOp, Kind, Text};
 use std::alloc::Global;
 
 /// A kind of token: what the grammar tells apart.

@@ -3,7 +3,7 @@ ghost use Rattle.std.specs.Prelude.{◌≡◌, ◌≢◌, ◌≤◌, IfOk, IfSom
 ghost use Rattle.std.specs.List.{prefix_len};
 ghost use Rattle.y86_base.specs.Cursor.{column_behind, line_behind};
 ghost use Rattle.hcl_read.specs.Read.{IsFault, ReadsAs};
-ghost use Rattle.hcl_read.specs.declared.tree.File.{File};
+ghost use Rattle.hcl_tree.specs.declared.tree.File.{File};
 ghost use Rattle.hcl_read.specs.declared.fault.HclWhy.TheVariants.{Memory as OutOfMemory};
 ghost use Rattle.hcl_faults.specs.Stops as spec;
 

@@ -6,22 +6,22 @@ use Rattle.std.proofs.lemmas.Bool.Decides.{nat_tests}
 use Rattle.y86_base.specs.Text.{begins, is_letter}
 use Rattle.y86_base.specs.Keyword.{meaning_of}
 use Rattle.std.specs.List.{AllByRecursion}
-use Rattle.hcl_read.specs.declared.tree.Kind.{Kind}
-use Rattle.hcl_read.specs.declared.tree.Kind.TheVariants.{Word, Bool as Truth}
-use Rattle.hcl_read.specs.declared.tree.CmpOp.{CmpOp}
-use Rattle.hcl_read.specs.declared.tree.CmpOp.TheVariants.{Eq, Ne, Lt, Le, Gt, Ge}
-use Rattle.hcl_read.specs.declared.tree.Branch.{Branch}
-use Rattle.hcl_read.specs.declared.tree.Expr.{Expr}
-use Rattle.hcl_read.specs.declared.tree.Expr.TheVariants as expr
-use Rattle.hcl_read.specs.declared.tree.Item.{Item}
+use Rattle.hcl_tree.specs.declared.tree.Kind.{Kind}
+use Rattle.hcl_tree.specs.declared.tree.Kind.TheVariants.{Word, Bool as Truth}
+use Rattle.hcl_tree.specs.declared.tree.CmpOp.{CmpOp}
+use Rattle.hcl_tree.specs.declared.tree.CmpOp.TheVariants.{Eq, Ne, Lt, Le, Gt, Ge}
+use Rattle.hcl_tree.specs.declared.tree.Branch.{Branch}
+use Rattle.hcl_tree.specs.declared.tree.Expr.{Expr}
+use Rattle.hcl_tree.specs.declared.tree.Expr.TheVariants as expr
+use Rattle.hcl_tree.specs.declared.tree.Item.{Item}
 use Rattle.hcl_read.specs.declared.tokens.Token.{Token}
 use Rattle.hcl_read.specs.declared.tokens.Token.TheVariants.{KeyQuote, KeySig, KeyDef, KeyIn, Ident, Quoted, Assign, Semicolon, OrOr, AndAnd, Bang, Compare, OpenParen, CloseParen, OpenBrace, OpenBracket, Comma, Colon}
 use Rattle.hcl_read.specs.Grammar.{or_of, and_of, branch, IsExpr, OrTail, IsAnd, AndTail, IsNot, IsRel, SetTail, IsPrim, IsCase, CaseTail, IsItem, IsItems, or_list, no_or, more_or, and_list, no_and, more_and, negated, plain, alone, compared, member, no_member, more_members, a_number, a_wide_number, a_name, group, case_list, guarded, no_case, more_cases, quoted, declared, defined, no_item, more_items}
 use Rattle.hcl_read.specs.Tokens.{is_quoted, tokens}
-use Rattle.hcl_read.specs.declared.tree.File.{File}
+use Rattle.hcl_tree.specs.declared.tree.File.{File}
 use Rattle.hcl_read.specs.Fault.{Accepts}
 use Rattle.hcl_read.specs.Read.{ReadsAs}
-use Rattle.hcl_read.specs.Print.{ShownTerm, shown_as, within, further, joined, operator, branches, shown, branch_text, signal_word, kind_word, item_text, printed}
+use Rattle.hcl_print.specs.Print.{ShownTerm, shown_as, within, further, joined, operator, branches, shown, branch_text, signal_word, kind_word, item_text, printed}
 use Rattle.hcl_laws.proofs.SameNames.{items_keep}
 use Rattle.hcl_laws.proofs.Said.{Said, said_as, put_within, put_further, put_joined, put_branches, said, said_branch, said_Num, said_Name, said_Not, said_And, said_Or, said_Cmp, said_In, said_Case, put_item, put_items}
 use Rattle.hcl_laws.proofs.ShownAs.{shown_Num, shown_Name, shown_Not, shown_And, shown_Or, shown_Cmp, shown_In, shown_Case, shown_branch}

@@ -1,9 +1,9 @@
 -- What is printed has the names of the text that was read.
 use Rattle.std.proofs.Common.{◌≡◌, sym, subst, ℕ, Bool, true, false, cond, List, [], ◌∷◌, map, refl, nat_lt, not-suc-le-zero}
-use Rattle.hcl_read.specs.declared.tree.Branch.{Branch}
-use Rattle.hcl_read.specs.declared.tree.Expr.{Expr}
-use Rattle.hcl_read.specs.declared.tree.Expr.TheVariants as expr
-use Rattle.hcl_read.specs.declared.tree.Item.{Item}
+use Rattle.hcl_tree.specs.declared.tree.Branch.{Branch}
+use Rattle.hcl_tree.specs.declared.tree.Expr.{Expr}
+use Rattle.hcl_tree.specs.declared.tree.Expr.TheVariants as expr
+use Rattle.hcl_tree.specs.declared.tree.Item.{Item}
 use Rattle.hcl_read.specs.declared.tokens.Token.{Token}
 use Rattle.hcl_read.specs.declared.tokens.Token.TheVariants.{KeyQuote, KeySig, KeyDef, KeyIn, Ident, Number, Quoted, Assign, Semicolon, OrOr, AndAnd, Bang, Compare, OpenParen, CloseParen, OpenBrace, CloseBrace, OpenBracket, CloseBracket, Comma, Colon}
 use Rattle.hcl_read.specs.Grammar.{or_of, and_of, IsExpr, OrTail, IsAnd, AndTail, IsNot, IsRel, SetTail, IsPrim, IsCase, CaseTail, IsItem, IsItems, or_list, no_or, more_or, and_list, no_and, more_and, negated, plain, alone, compared, member, no_member, more_members, a_number, a_wide_number, a_name, group, case_list, guarded, no_case, more_cases, quoted, declared, defined, no_item, more_items}

@@ -1,11 +1,11 @@
 -- What is shown of an expression, variant by variant.
 use Rattle.std.proofs.Common.{◌≡◌, ap, sym, ◌∙◌, ℕ, List, ◌++◌, map, codes}
-use Rattle.hcl_read.specs.declared.tree.CmpOp.{CmpOp}
-use Rattle.hcl_read.specs.declared.tree.Branch.{Branch, fold_out-Branch}
-use Rattle.hcl_read.specs.declared.tree.Expr.{Expr, Expr-F, fold-roll-Expr}
-use Rattle.hcl_read.specs.declared.tree.Expr.TheVariants.{Num, Name, Not, And, Or, Cmp, In, Case, rolls-Num, rolls-Name, rolls-Not, rolls-And, rolls-Or, rolls-Cmp, rolls-In, rolls-Case}
+use Rattle.hcl_tree.specs.declared.tree.CmpOp.{CmpOp}
+use Rattle.hcl_tree.specs.declared.tree.Branch.{Branch, fold_out-Branch}
+use Rattle.hcl_tree.specs.declared.tree.Expr.{Expr, Expr-F, fold-roll-Expr}
+use Rattle.hcl_tree.specs.declared.tree.Expr.TheVariants.{Num, Name, Not, And, Or, Cmp, In, Case, rolls-Num, rolls-Name, rolls-Not, rolls-And, rolls-Or, rolls-Cmp, rolls-In, rolls-Case}
 use Rattle.hcl_read.specs.Grammar.{branch}
-use Rattle.hcl_read.specs.Print.{ShownTerm, shown_as, within, joined, signed_decimal, operator, branches, layer, branch_layer, shown, branch_text}
+use Rattle.hcl_print.specs.Print.{ShownTerm, shown_as, within, joined, signed_decimal, operator, branches, layer, branch_layer, shown, branch_text}
 
 pub shown_Num : (n : ℕ) → shown (Num n) ≡ shown_as 4 (signed_decimal n)
 shown_Num n = ap shown (sym (rolls-Num n)) ∙ fold-roll-Expr ShownTerm (List ℕ) layer branch_layer (Expr-F.Num n)

@@ -13,12 +13,12 @@ use Rattle.y86_base.specs.Numeral.{numeral}
 use Rattle.y86_base.proofs.Runs.{behind-run, take_while-run}
 use Rattle.y86_base.proofs.Decimals.{decimal_read, below_word_small}
 use Rattle.y86_base.proofs.Numerals.{numeral_digits, numeral_value, word_has_room, all_decimal}
-use Rattle.hcl_read.specs.declared.tree.CmpOp.{CmpOp}
-use Rattle.hcl_read.specs.declared.tree.CmpOp.TheVariants.{Eq, Ne, Lt, Le, Gt, Ge}
+use Rattle.hcl_tree.specs.declared.tree.CmpOp.{CmpOp}
+use Rattle.hcl_tree.specs.declared.tree.CmpOp.TheVariants.{Eq, Ne, Lt, Le, Gt, Ge}
 use Rattle.hcl_read.specs.declared.tokens.Token.{Token}
 use Rattle.hcl_read.specs.declared.tokens.Token.TheVariants.{Number, Quoted, Assign, Semicolon, OrOr, AndAnd, Bang, Compare, OpenParen, CloseParen, OpenBrace, CloseBrace, OpenBracket, CloseBracket, Comma, Colon}
 use Rattle.hcl_read.specs.Tokens.{is_quoted, skipped, word, in_range, number_or, symbol_or_stray, is_closed, token, tokens}
-use Rattle.hcl_read.specs.Print.{operator, signed_decimal}
+use Rattle.hcl_print.specs.Print.{operator, signed_decimal}
 use Rattle.hcl_read.proofs.Items.{listed, items_ended, items_first, items_listed}
 
 -- no word or number goes on in this text

@@ -1,8 +1,8 @@
 //! Theorems about designs. Each is a function that does nothing and whose contract is the theorem.
 ghost use Rattle.std.specs.Prelude.{◌≡◌, ◌⊎◌, ℕ, List};
-ghost use Rattle.hcl_read.specs.Print.{printed};
+ghost use Rattle.hcl_print.specs.Print.{printed};
 ghost use Rattle.hcl_read.specs.Read.{ReadsAs};
-ghost use Rattle.hcl_read.specs.declared.tree.File.{File};
+ghost use Rattle.hcl_tree.specs.declared.tree.File.{File};
 ghost use Rattle.hcl_types.specs.Equations.{needs_of};
 ghost use Rattle.hcl_types.specs.Tables.{IsBound, IsOrderOf, IsSound, needs};
 ghost use Rattle.hcl_types.specs.declared.table.Row.{Row};

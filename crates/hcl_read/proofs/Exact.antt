@@ -2,8 +2,8 @@
 use Rattle.std.proofs.Common.{◌≡◌, ◌≤◌, ap, sym, subst, ◌∙◌, ℕ, suc, Bool, true, false, cond, List, [], ◌∷◌, ◌++◌, length, Result, Ok, Err, refl, arith, append-nil}
 use Rattle.std.specs.Prelude.{nat_lt, nat_le}
 use Rattle.std.proofs.lemmas.Bool.Decides.{nat_tests}
-use Rattle.hcl_read.specs.declared.tree.Item.{Item}
-use Rattle.hcl_read.specs.declared.tree.File.{File}
+use Rattle.hcl_tree.specs.declared.tree.Item.{Item}
+use Rattle.hcl_tree.specs.declared.tree.File.{File}
 use Rattle.hcl_read.specs.declared.fault.HclWhy.{HclWhy}
 use Rattle.hcl_read.specs.declared.fault.HclWhy.TheVariants as whys
 use Rattle.hcl_read.specs.declared.tokens.Token.{Token}

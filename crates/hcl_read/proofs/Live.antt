@@ -1,9 +1,9 @@
 -- Every state can be led to a file: a `0`, then what closes the brackets that are open.
 use Rattle.std.proofs.Common.{◌≤◌, sym, ℕ, List, [], ◌∷◌, ◌++◌, length, refl, inr, append-nil}
-use Rattle.hcl_read.specs.declared.tree.Expr.{Expr}
-use Rattle.hcl_read.specs.declared.tree.Expr.TheVariants as expr
-use Rattle.hcl_read.specs.declared.tree.Item.{Item}
-use Rattle.hcl_read.specs.declared.tree.Item.TheVariants as item
+use Rattle.hcl_tree.specs.declared.tree.Expr.{Expr}
+use Rattle.hcl_tree.specs.declared.tree.Expr.TheVariants as expr
+use Rattle.hcl_tree.specs.declared.tree.Item.{Item}
+use Rattle.hcl_tree.specs.declared.tree.Item.TheVariants as item
 use Rattle.hcl_read.specs.declared.tokens.Token.{Token}
 use Rattle.hcl_read.specs.declared.tokens.Token.TheVariants.{Ident, Number, Quoted, Assign, Semicolon, CloseParen, OpenBrace, CloseBrace, CloseBracket, Colon}
 use Rattle.hcl_read.specs.declared.frames.Level.{Level}

@@ -1,7 +1,7 @@
 -- The machine's words by cases.
 use Rattle.std.proofs.Common.{◌≡◌, ℕ, suc, ◌+◌, ◌-◌, ◌<◌, refl, sym, ap, ◌∙◌, arith}
-use Rattle.hcl_read.specs.declared.tree.Expr.{Expr}
-use Rattle.hcl_read.specs.declared.tree.Expr.TheVariants as expr
+use Rattle.hcl_tree.specs.declared.tree.Expr.{Expr}
+use Rattle.hcl_tree.specs.declared.tree.Expr.TheVariants as expr
 use Rattle.hcl_read.specs.Machine.{negate}
 
 pub none_negated : (nots i : ℕ) (e : Expr) → nots ≡ i → negate (nots - i) e ≡ e

@@ -3,9 +3,9 @@ use Rattle.std.proofs.Common.{◌≡◌, ◌≤◌, ap, sym, subst, ◌∙◌, �
 use Rattle.std.specs.Prelude.{nat_le}
 use Rattle.std.proofs.lemmas.Bool.Decides.{nat_tests}
 use Rattle.std.proofs.lemmas.List.{append_cancel_right}
-use Rattle.hcl_read.specs.declared.tree.Expr.{Expr}
-use Rattle.hcl_read.specs.declared.tree.Item.{Item}
-use Rattle.hcl_read.specs.declared.tree.File.{File}
+use Rattle.hcl_tree.specs.declared.tree.Expr.{Expr}
+use Rattle.hcl_tree.specs.declared.tree.Item.{Item}
+use Rattle.hcl_tree.specs.declared.tree.File.{File}
 use Rattle.hcl_read.specs.declared.fault.HclFault.{HclFault}
 use Rattle.hcl_read.specs.declared.fault.HclWhy.{HclWhy}
 use Rattle.hcl_read.specs.declared.fault.HclWhy.TheVariants as whys

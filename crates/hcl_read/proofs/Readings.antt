@@ -10,7 +10,7 @@ use Rattle.hcl_read.specs.declared.fault.HclWhy.TheVariants as whys
 use Rattle.hcl_read.specs.declared.reading.ReadStop.{ReadStop}
 use Rattle.hcl_read.specs.declared.state.ReaderState.{ReaderState}
 use Rattle.hcl_read.specs.declared.tokens.Token.{Token}
-use Rattle.hcl_read.specs.declared.tree.File.{File}
+use Rattle.hcl_tree.specs.declared.tree.File.{File}
 use Rattle.hcl_read.specs.Fault.{FaultAt, noted}
 use Rattle.hcl_read.specs.Machine.{Outcome, at_end, ended, outcome, outcome_at, start, step}
 use Rattle.hcl_read.specs.Read.{IsReadAnswer, ReadsAs, IsReadFault, bytes_from, kinds}

@@ -4,8 +4,8 @@ use Rattle.y86_base.specs.declared.number.Number.{Number as Written}
 use Rattle.y86_base.specs.Text.{begins, behind, is_blank, is_letter, is_line_feed, is_name_byte}
 use Rattle.y86_base.specs.Keyword.{keyword_at, meaning_of}
 use Rattle.y86_base.specs.Number.{decimal_at, word_within}
-use Rattle.hcl_read.specs.declared.tree.Kind.TheVariants.{Word, Bool as Truth}
-use Rattle.hcl_read.specs.declared.tree.CmpOp.TheVariants.{Eq, Ne, Lt, Le, Gt, Ge}
+use Rattle.hcl_tree.specs.declared.tree.Kind.TheVariants.{Word, Bool as Truth}
+use Rattle.hcl_tree.specs.declared.tree.CmpOp.TheVariants.{Eq, Ne, Lt, Le, Gt, Ge}
 use Rattle.hcl_read.specs.declared.tokens.Token.{Token}
 use Rattle.hcl_read.specs.declared.tokens.Token.TheVariants.{KeyQuote, KeySig, KeyDef, KeyIn, Ident, Number, Wide, Quoted, Assign, Semicolon, OrOr, AndAnd, Bang, Compare, OpenParen, CloseParen, OpenBrace, CloseBrace, OpenBracket, CloseBracket, Comma, Colon, Bad, Odd}
 

@@ -2,7 +2,7 @@
 ghost use Rattle.std.specs.Prelude.{◌≡◌};
 ghost use Rattle.hcl_read.specs.Depth.{level_behind};
 
-use crate::tree::{Branch, CmpOp, Expr};
+use hcl_tree::{Branch, CmpOp, Expr};
 use y86_base::{Boxed, Items};
 
 /// What has been read of an expression on one level of brackets: the operands of its `||` list so far, those of

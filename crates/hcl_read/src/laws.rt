@@ -6,7 +6,7 @@ ghost use Rattle.hcl_read.specs.Tokens as tokens;
 ghost use Rattle.hcl_read.specs.declared.fault.HclFault.{HclFault};
 ghost use Rattle.hcl_read.specs.declared.fault.HclWhy.{HclWhy};
 ghost use Rattle.hcl_read.specs.declared.tokens.Token.{Token};
-ghost use Rattle.hcl_read.specs.declared.tree.File.{File};
+ghost use Rattle.hcl_tree.specs.declared.tree.File.{File};
 
 /// A text of blanks, line feeds and comments has no tokens. Any other has the token that begins behind them, and
 /// then those of the text behind that token.

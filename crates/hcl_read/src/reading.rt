@@ -1,7 +1,7 @@
 //! Reads a text of HCL: the call.
 ghost use Rattle.std.specs.Prelude.{◌≡◌, ◌≤◌, ℕ, List, [], length, take, IfOk, IfErr, Ok};
 ghost use Rattle.y86_base.specs.Cursor.{column_behind, line_behind};
-ghost use Rattle.hcl_read.specs.declared.tree.File.{File};
+ghost use Rattle.hcl_tree.specs.declared.tree.File.{File};
 ghost use Rattle.hcl_read.specs.Machine as machine;
 ghost use Rattle.hcl_read.specs.Read.{IsReadAnswer, ReadsAs, IsReadFault};
 ghost use Rattle.hcl_read.specs.Tokens as tokens;
@@ -12,7 +12,7 @@ use crate::names::Names;
 use crate::scan::{after_gap, token};
 use crate::state::{ReaderState, ended, start, step};
 use crate::tokens::Token;
-use crate::tree::File;
+use hcl_tree::File;
 use std::alloc::Global;
 use y86_base::Cursor;
 

@@ -6,9 +6,9 @@ ghost use Rattle.y86_base.specs.Number.{word_within};
 ghost use Rattle.y86_base.specs.Text as text;
 ghost use Rattle.hcl_read.specs.Tokens as spec;
 
-use crate::text::Text;
+use hcl_tree::Text;
 use crate::tokens::Token;
-use crate::tree::{CmpOp, Kind};
+use hcl_tree::{CmpOp, Kind};
 use std::alloc::Global;
 use y86_base::{Memory, Number, decimal_at, is_blank, is_letter, split_name};
 

@@ -8,9 +8,9 @@ use crate::fault::HclWhy;
 use crate::frames::ExprState;
 use crate::stack::Stack;
 use crate::steps::{body_step, refusal, start_level, with_last};
-use crate::text::Text;
+use hcl_tree::Text;
 use crate::tokens::Token;
-use crate::tree::{Expr, File, Item, Kind};
+use hcl_tree::{Expr, File, Item, Kind};
 use std::alloc::Global;
 use y86_base::Items;
 

@@ -1,6 +1,6 @@
 //! The tokens of HCL.
-use crate::text::Text;
-use crate::tree::{CmpOp, Kind};
+use hcl_tree::Text;
+use hcl_tree::{CmpOp, Kind};
 
 /// A token of HCL, the smallest unit of the grammar.
 #[derive(Debug, Drop)]

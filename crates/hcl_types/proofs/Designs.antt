@@ -5,10 +5,10 @@ use Rattle.std.proofs.lemmas.List.{length-map}
 use Rattle.std.proofs.lemmas.Option.{slice_get_within, get_or_from_slice_get}
 use Rattle.std.specs.List.{AllByRecursion, position_or_len}
 use Rattle.std.specs.Cmp.Lexicographic.{pointwise, bytes_decides}
-use Rattle.hcl_read.specs.declared.tree.Kind.{Kind}
-use Rattle.hcl_read.specs.declared.tree.Item.{Item}
-use Rattle.hcl_read.specs.declared.tree.Item.TheVariants as item
-use Rattle.hcl_read.specs.declared.tree.Expr.{Expr}
+use Rattle.hcl_tree.specs.declared.tree.Kind.{Kind}
+use Rattle.hcl_tree.specs.declared.tree.Item.{Item}
+use Rattle.hcl_tree.specs.declared.tree.Item.TheVariants as item
+use Rattle.hcl_tree.specs.declared.tree.Expr.{Expr}
 use Rattle.hcl_types.specs.declared.term.Term.{Term}
 use Rattle.hcl_types.specs.declared.term.Term.TheVariants.{Num}
 use Rattle.hcl_types.specs.declared.table.Row.{Row}

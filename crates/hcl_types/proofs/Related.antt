@@ -1,8 +1,8 @@
 -- The values of a term under two meanings, where these agree.
 use Rattle.std.proofs.Common.{◌≡◌, ℕ, Bool, true, false, not, if◌then◌else◌, List, [], ◌∷◌, map, refl, ap, ◌∙◌, subst}
 use Rattle.std.specs.List.{AllByRecursion}
-use Rattle.hcl_read.specs.declared.tree.CmpOp.{CmpOp}
-use Rattle.hcl_read.specs.declared.tree.CmpOp.TheVariants.{Eq}
+use Rattle.hcl_tree.specs.declared.tree.CmpOp.{CmpOp}
+use Rattle.hcl_tree.specs.declared.tree.CmpOp.TheVariants.{Eq}
 use Rattle.hcl_types.specs.declared.term.Term.{Term}
 use Rattle.hcl_types.specs.declared.term.TermBranch.{TermBranch}
 use Rattle.hcl_types.specs.Lists.{each, some}

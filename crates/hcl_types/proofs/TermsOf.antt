@@ -3,12 +3,12 @@ use Rattle.std.proofs.Common.{◌≡◌, ℕ, ◌<◌, Bool, true, false, cond, 
 use Rattle.std.proofs.lemmas.Bool.Decides.{nat_tests}
 use Rattle.std.specs.List.{AllByRecursion, position_or_len}
 use Rattle.std.specs.Cmp.Lexicographic.{pointwise}
-use Rattle.hcl_read.specs.declared.tree.CmpOp.{CmpOp}
-use Rattle.hcl_read.specs.declared.tree.Expr.{Expr}
-use Rattle.hcl_read.specs.declared.tree.Branch.{Branch}
-use Rattle.hcl_read.specs.declared.tree.Expr.TheOpen.{Expr-F, Branch-F}
-use Rattle.hcl_read.specs.declared.tree.Expr.TheFolds.{map-Expr, map-Branch, ind-Expr, fold-roll-Expr, fold-roll-Branch}
-use Rattle.hcl_read.specs.declared.tree.Expr.TheViews.{roll-Expr, roll-Branch}
+use Rattle.hcl_tree.specs.declared.tree.CmpOp.{CmpOp}
+use Rattle.hcl_tree.specs.declared.tree.Expr.{Expr}
+use Rattle.hcl_tree.specs.declared.tree.Branch.{Branch}
+use Rattle.hcl_tree.specs.declared.tree.Expr.TheOpen.{Expr-F, Branch-F}
+use Rattle.hcl_tree.specs.declared.tree.Expr.TheFolds.{map-Expr, map-Branch, ind-Expr, fold-roll-Expr, fold-roll-Branch}
+use Rattle.hcl_tree.specs.declared.tree.Expr.TheViews.{roll-Expr, roll-Branch}
 use Rattle.hcl_types.specs.declared.term.Term.{Term}
 use Rattle.hcl_types.specs.declared.term.TermBranch.{TermBranch}
 use Rattle.hcl_types.specs.declared.term.Term.TheVariants as term

@@ -1,11 +1,11 @@
 -- The fault of an expression: a name in it that is no row.
 use Rattle.std.proofs.Common.{◌≡◌, ℕ, List, [], ◌∷◌, ◌++◌, map, Option, Some, None, Result, Ok, Err, refl, sym, subst, inl, inr}
 use Rattle.std.specs.List.{AllByRecursion}
-use Rattle.hcl_read.specs.declared.tree.Expr.{Expr}
-use Rattle.hcl_read.specs.declared.tree.Branch.{Branch}
-use Rattle.hcl_read.specs.declared.tree.Expr.TheOpen.{Expr-F, Branch-F}
-use Rattle.hcl_read.specs.declared.tree.Expr.TheFolds.{map-Expr, map-Branch, ind-Expr, fold-roll-Expr, fold-roll-Branch}
-use Rattle.hcl_read.specs.declared.tree.Expr.TheViews.{roll-Expr, roll-Branch}
+use Rattle.hcl_tree.specs.declared.tree.Expr.{Expr}
+use Rattle.hcl_tree.specs.declared.tree.Branch.{Branch}
+use Rattle.hcl_tree.specs.declared.tree.Expr.TheOpen.{Expr-F, Branch-F}
+use Rattle.hcl_tree.specs.declared.tree.Expr.TheFolds.{map-Expr, map-Branch, ind-Expr, fold-roll-Expr, fold-roll-Branch}
+use Rattle.hcl_tree.specs.declared.tree.Expr.TheViews.{roll-Expr, roll-Branch}
 use Rattle.hcl_types.specs.declared.term.Term.{Term}
 use Rattle.hcl_types.specs.declared.term.TermBranch.{TermBranch}
 use Rattle.hcl_types.specs.declared.term.Term.TheVariants as term

@@ -1,7 +1,7 @@
 -- The value of a term and the names in it, variant by variant.
 use Rattle.std.proofs.Common.{◌≡◌, ℕ, not, List, [], ◌∷◌, ◌++◌, map, sym, ap, ◌∙◌}
-use Rattle.hcl_read.specs.declared.tree.CmpOp.{CmpOp}
-use Rattle.hcl_read.specs.declared.tree.CmpOp.TheVariants.{Eq}
+use Rattle.hcl_tree.specs.declared.tree.CmpOp.{CmpOp}
+use Rattle.hcl_tree.specs.declared.tree.CmpOp.TheVariants.{Eq}
 use Rattle.hcl_types.specs.declared.term.Term.{Term}
 use Rattle.hcl_types.specs.declared.term.TermBranch.{TermBranch}
 use Rattle.hcl_types.specs.declared.term.Term.TheOpen.{Term-F}

@@ -1,9 +1,9 @@
 -- Binding as it goes: a table of terms, one place for each row, into which the items are put one after the other.
 use Rattle.std.specs.Prelude.{ℕ, Bool, true, false, if◌then◌else◌, List, [], ◌∷◌, ◌++◌, Option, None, Some, Result, Ok, Err, slice_get, slice_set, map, ◌≡◌, ◌≢◌}
-use Rattle.hcl_read.specs.declared.tree.Item.{Item}
-use Rattle.hcl_read.specs.declared.tree.Item.TheVariants as item
-use Rattle.hcl_read.specs.declared.tree.Kind.{Kind}
-use Rattle.hcl_read.specs.declared.tree.Expr.{Expr}
+use Rattle.hcl_tree.specs.declared.tree.Item.{Item}
+use Rattle.hcl_tree.specs.declared.tree.Item.TheVariants as item
+use Rattle.hcl_tree.specs.declared.tree.Kind.{Kind}
+use Rattle.hcl_tree.specs.declared.tree.Expr.{Expr}
 use Rattle.hcl_types.specs.declared.term.Term.{Term}
 use Rattle.hcl_types.specs.declared.table.Row.{Row}
 use Rattle.hcl_types.specs.declared.fault.BindWhy.TheVariants as why

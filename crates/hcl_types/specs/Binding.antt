@@ -1,14 +1,14 @@
 -- The design that a file gives over a table, or its first fault (the kinds and declarations of the HCL guide).
 use Rattle.std.specs.Prelude.{ℕ, Bool, ◌&&◌, not, nat_eq, if◌then◌else◌, List, [], ◌∷◌, ◌++◌, map, position, is_some, Option, None, Some, Result, Ok, Err, slice_get, option_and_then, ◌≡◌, ◌≢◌}
 use Rattle.std.specs.Cmp.Lexicographic.{pointwise}
-use Rattle.hcl_read.specs.declared.tree.Kind.{Kind}
-use Rattle.hcl_read.specs.declared.tree.Kind.TheVariants as kind
-use Rattle.hcl_read.specs.declared.tree.Item.{Item}
-use Rattle.hcl_read.specs.declared.tree.Item.TheVariants as item
-use Rattle.hcl_read.specs.declared.tree.Expr.{Expr}
-use Rattle.hcl_read.specs.declared.tree.Branch.{Branch}
-use Rattle.hcl_read.specs.declared.tree.Expr.TheOpen.{Expr-F, Branch-F}
-use Rattle.hcl_read.specs.declared.tree.Expr.TheFolds.{fold-Expr, fold-Branch}
+use Rattle.hcl_tree.specs.declared.tree.Kind.{Kind}
+use Rattle.hcl_tree.specs.declared.tree.Kind.TheVariants as kind
+use Rattle.hcl_tree.specs.declared.tree.Item.{Item}
+use Rattle.hcl_tree.specs.declared.tree.Item.TheVariants as item
+use Rattle.hcl_tree.specs.declared.tree.Expr.{Expr}
+use Rattle.hcl_tree.specs.declared.tree.Branch.{Branch}
+use Rattle.hcl_tree.specs.declared.tree.Expr.TheOpen.{Expr-F, Branch-F}
+use Rattle.hcl_tree.specs.declared.tree.Expr.TheFolds.{fold-Expr, fold-Branch}
 use Rattle.hcl_types.specs.declared.term.Term.{Term}
 use Rattle.hcl_types.specs.declared.term.TermBranch.{TermBranch}
 use Rattle.hcl_types.specs.declared.term.Term.TheVariants as term

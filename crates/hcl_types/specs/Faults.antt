@@ -1,12 +1,12 @@
 -- What each fault of binding says of a file and a table, in whatever order the items are looked at.
 use Rattle.std.specs.Prelude.{◌≡◌, ◌⊎◌, ℕ, true, false, is_some, List, [], ◌∷◌, ◌++◌, None, Some, Ok}
-use Rattle.hcl_read.specs.declared.tree.Kind.{Kind}
-use Rattle.hcl_read.specs.declared.tree.Item.{Item}
-use Rattle.hcl_read.specs.declared.tree.Item.TheVariants as item
-use Rattle.hcl_read.specs.declared.tree.Expr.{Expr}
-use Rattle.hcl_read.specs.declared.tree.Expr.TheOpen.{Expr-F, Branch-F}
-use Rattle.hcl_read.specs.declared.tree.Expr.TheFolds.{fold-Expr, fold-Branch}
-use Rattle.hcl_read.specs.declared.tree.Branch.{Branch}
+use Rattle.hcl_tree.specs.declared.tree.Kind.{Kind}
+use Rattle.hcl_tree.specs.declared.tree.Item.{Item}
+use Rattle.hcl_tree.specs.declared.tree.Item.TheVariants as item
+use Rattle.hcl_tree.specs.declared.tree.Expr.{Expr}
+use Rattle.hcl_tree.specs.declared.tree.Expr.TheOpen.{Expr-F, Branch-F}
+use Rattle.hcl_tree.specs.declared.tree.Expr.TheFolds.{fold-Expr, fold-Branch}
+use Rattle.hcl_tree.specs.declared.tree.Branch.{Branch}
 use Rattle.hcl_types.specs.declared.table.Row.{Row}
 use Rattle.hcl_types.specs.declared.term.Term.{Term}
 use Rattle.hcl_types.specs.declared.fault.BindWhy.{BindWhy}

@@ -13,7 +13,7 @@ use crate::kinds::{can_be, is_boolean};
 use crate::places::NameIndex;
 use crate::table::{Class, Design, Role, Row, Table};
 use crate::term::{NameId, Term};
-use hcl_read::{Expr, File, Item, Kind, Text};
+use hcl_tree::{Expr, File, Item, Kind, Text};
 use std::alloc::{AllocError, Global};
 use y86_base::Items;
 

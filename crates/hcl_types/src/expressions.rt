@@ -5,7 +5,7 @@ ghost use Rattle.hcl_types.specs.Binding.{IsBindAnswer, all_ok, branch_of, fault
 use crate::fault::{BindFault, BindWhy};
 use crate::places::NameIndex;
 use crate::term::{Term, TermBranch};
-use hcl_read::{Branch, Expr, Text};
+use hcl_tree::{Branch, Expr, Text};
 use std::alloc::Global;
 use y86_base::{Boxed, Items};
 

@@ -3,7 +3,7 @@ ghost use Rattle.std.specs.Prelude.{◌≡◌, ◌≢◌, []};
 ghost use Rattle.hcl_types.specs.Binding.{fault};
 ghost use Rattle.hcl_types.specs.declared.fault.BindWhy.TheVariants.{Memory as OutOfMemory};
 
-use hcl_read::Text;
+use hcl_tree::Text;
 use std::alloc::Global;
 use thiserror::Error;
 

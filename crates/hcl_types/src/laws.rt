@@ -6,7 +6,7 @@ ghost use Rattle.hcl_types.specs.Terms.{at, names, value, word_meaning};
 ghost use Rattle.hcl_types.specs.declared.term.Term.{Term};
 ghost use Rattle.hcl_types.specs.declared.table.Row.{Row};
 ghost use Rattle.hcl_types.specs.declared.fault.BindFault.{BindFault};
-ghost use Rattle.hcl_read.specs.declared.tree.Item.{Item};
+ghost use Rattle.hcl_tree.specs.declared.tree.Item.{Item};
 ghost use Rattle.hcl_types.specs.Binding.{bound};
 ghost use Rattle.hcl_types.specs.Faults.{IsBindFault};
 ghost use Rattle.hcl_types.specs.Tables.{IsSound};

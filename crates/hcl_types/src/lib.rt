@@ -17,7 +17,7 @@ mod value;
 pub use binding::{bind, is_defined};
 pub use eval::{Plain, SignalEval};
 pub use fault::{BindFault, BindWhy};
-pub use hcl_read::{CmpOp, Kind, Text};
+pub use hcl_tree::{CmpOp, Kind, Text};
 pub use kinds::{Kinds, kinds_of};
 pub use laws::{law_of_faults, law_of_orders, law_of_values};
 pub use names::put_names;

@@ -1,6 +1,6 @@
 //! Tables of signals: names, kinds and where values come from.
 use crate::term::{NameId, Term};
-use hcl_read::Text;
+use hcl_tree::Text;
 use y86_base::Items;
 
 /// What the values of a row are.

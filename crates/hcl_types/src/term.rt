@@ -1,5 +1,5 @@
 //! Expressions of HCL over the rows of a table.
-use hcl_read::CmpOp;
+use hcl_tree::CmpOp;
 use y86_base::{Boxed, Items};
 
 /// The position of a row of a table, from 0.

@@ -1,11 +1,11 @@
 //! The value of a term under a list of numbers, one for each row of the table.
 ghost use Rattle.std.specs.Prelude.{◌≡◌, map, if◌then◌else◌};
 ghost use Rattle.hcl_types.specs.Lists.{each, some};
-ghost use Rattle.hcl_read.specs.declared.tree.CmpOp.TheVariants.{Eq};
+ghost use Rattle.hcl_tree.specs.declared.tree.CmpOp.TheVariants.{Eq};
 ghost use Rattle.hcl_types.specs.Terms.{Interpretation, at, branch_value, compare_words, picked, signed_below, value, word_meaning};
 
 use crate::term::{Term, TermBranch};
-use hcl_read::CmpOp;
+use hcl_tree::CmpOp;
 
 /// A truth as a word: 1 or 0.
 fn truth(holds: bool) -> u64

@@ -5,7 +5,7 @@ use Rattle.std.proofs.lemmas.Bool.Decides.{nat_tests}
 use Rattle.std.proofs.lemmas.List.{drop_more}
 use Rattle.std.proofs.lemmas.Option.{none-some}
 use Rattle.std.specs.List.{AllByRecursion}
-use Rattle.hcl_read.specs.declared.tree.CmpOp.{CmpOp}
+use Rattle.hcl_tree.specs.declared.tree.CmpOp.{CmpOp}
 use Rattle.hcl_types.specs.Terms.{branch_value, names, picked, value, word_meaning}
 use Rattle.hcl_types.specs.declared.term.Term.{Term}
 use Rattle.hcl_types.specs.declared.term.Term.TheVariants.{Num, Name, Not, And, Or, Cmp, In, Case}

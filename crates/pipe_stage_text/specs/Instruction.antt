@@ -1,6 +1,6 @@
 -- The text of an instruction, as the assembler reads it (CS:APP 3e, figures 4.2 and 4.3), and the words for what is none.
 use Rattle.std.specs.Prelude.{ℕ, Bool, List, [], ◌∷◌, ◌++◌, codes, slice_index_or, not, if◌then◌else◌}
-use Rattle.hcl_read.specs.Print.{signed_decimal}
+use Rattle.y86_base.specs.Numeral.{signed_decimal}
 use Rattle.y86_base.specs.declared.parts.Variant.TheVariants.{Full}
 use Rattle.y86_isa.specs.Table.{is_instruction}
 use Rattle.pipe_stage_text.specs.Numbers.{address, register}

@@ -2,7 +2,7 @@
 -- d_valA and d_valB is mostly a case list of names.
 use Rattle.std.specs.Prelude.{◌≡◌, ℕ, ◌-◌, if◌then◌else◌, List, [], ◌∷◌, codes, slice_get, Option, Some, None, option_and_then}
 use Rattle.std.specs.Option.{option_map_or}
-use Rattle.hcl_read.specs.declared.tree.CmpOp.{CmpOp}
+use Rattle.hcl_tree.specs.declared.tree.CmpOp.{CmpOp}
 use Rattle.hcl_types.specs.Terms.{Interpretation, value, word_meaning}
 use Rattle.hcl_types.specs.declared.table.Row.{Row}
 use Rattle.hcl_types.specs.declared.term.Term.{Term}

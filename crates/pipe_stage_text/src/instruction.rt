@@ -2,9 +2,9 @@
 ghost use Rattle.std.specs.Prelude.{◌≡◌, ◌++◌, [], OnOk, slice_index_or};
 ghost use Rattle.pipe_stage_text.specs.Instruction as text;
 
-use crate::numbers::{put_address, put_register, put_signed};
+use crate::numbers::{put_address, put_register};
 use crate::stage_content::StageContent;
-use y86_base::{Memory, Variant, put};
+use y86_base::{Memory, Variant, put, put_signed};
 use y86_isa::{icode_count, row};
 
 /// The operands of an instruction, in the order in which they are written.

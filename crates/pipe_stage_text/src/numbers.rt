@@ -1,6 +1,5 @@
 //! Texts of labels and numbers.
 ghost use Rattle.std.specs.Prelude.{◌≡◌, ◌++◌, [], OnOk, slice_index_or};
-ghost use Rattle.hcl_read.specs.Print.{signed_decimal};
 ghost use Rattle.pipe_stage_text.specs.Numbers as text;
 
 use y86_base::{Memory, Numeral, Regs, Stat, put};
@@ -9,19 +8,6 @@ const NO_REGISTER: u64 = 15;
 
 /// How many functions the ALU has.
 const ALU_FUNCTIONS: u64 = 4;
-
-/// Puts a word as a signed decimal number.
-#[tactic(auto, unfolding(hcl_read::specs::Print::signed_decimal))]
-pub(crate) fn put_signed(out: &mut Vec<u8>, n: u64) -> Result<(), Memory>
-    ensures { OnOk result (out.new.items ≡ out.old.items ++ signed_decimal n) }
-{
-    if n < 1 << 63 {
-        put(out, Numeral::decimal(n).as_bytes())
-    } else {
-        put(out, b"-")?;
-        put(out, Numeral::decimal(n.wrapping_neg()).as_bytes())
-    }
-}
 
 /// Puts an address.
 #[tactic(auto, unfolding(crate::specs::Numbers::address))]

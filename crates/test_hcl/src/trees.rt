@@ -1,5 +1,7 @@
 //! The tree of each form of item and expression.
-use hcl_read::{Branch, CmpOp, Expr, File, Item, Kind, Text, print, read};
+use hcl_print::print;
+use hcl_read::read;
+use hcl_tree::{Branch, CmpOp, Expr, File, Item, Kind, Text};
 use std::test::Fail;
 use y86_base::{Boxed, Items};
 

@@ -1,6 +1,6 @@
 -- The line of the atoms: each comparison that is left open, and its truth.
 use Rattle.std.specs.Prelude.{ℕ, ◌+◌, Bool, true, false, codes, List, [], ◌∷◌, ◌++◌, get_or, slice_get, unwrap_or}
-use Rattle.hcl_read.specs.Print.{signed_decimal}
+use Rattle.y86_base.specs.Numeral.{signed_decimal}
 use Rattle.ctl_atoms.specs.declared.leaf.Atom.{Atom}
 use Rattle.ctl_atoms.specs.declared.leaf.AtomKind.{AtomKind}
 use Rattle.ctl_atoms.specs.declared.leaf.AtomKind.TheVariants.{Lt, Eq}

@@ -3,10 +3,9 @@ ghost use Rattle.std.specs.Prelude.{◌≡◌, ◌≤◌, ◌++◌, length, OnOk
 ghost use Rattle.hcl_types.specs.Tables.{row_names};
 ghost use Rattle.verdict_text.specs.Atoms.{atom_text, atoms_line, atoms_text, kind_text, leaf_text, truth_text};
 
-use crate::numbers::put_signed;
 use ctl_atoms::{Atom, AtomKind, Leaf};
 use hcl_types::Row;
-use y86_base::{Memory, put};
+use y86_base::{Memory, put, put_signed};
 
 /// Puts a leaf.
 fn put_leaf(out: &mut Vec<u8>, rows: &[Row], leaf: Leaf) -> Result<(), Memory>

@@ -2,25 +2,11 @@
 ghost use Rattle.std.specs.Prelude.{◌≡◌, ◌≤◌, ◌++◌, codes, false, get_or, OnOk};
 ghost use Rattle.y86_base.specs.Numeral.{numeral};
 ghost use Rattle.net_fields.specs.Spelling.{bit, spelt};
-ghost use Rattle.hcl_read.specs.Print.{signed_decimal};
 ghost use Rattle.verdict_text.specs.Fields.{labelled, labelled_line};
 ghost use Rattle.verdict_text.specs.Views.{IsNear, shown};
 
 use net_fields::BitRange;
 use y86_base::{Memory, Numeral, put};
-
-/// Puts a word as a signed decimal number.
-#[tactic(auto, unfolding(hcl_read::specs::Print::signed_decimal))]
-pub(crate) fn put_signed(out: &mut Vec<u8>, n: u64) -> Result<(), Memory>
-    ensures { OnOk result (out.new.items ≡ out.old.items ++ signed_decimal n) }
-{
-    if n < 1 << 63 {
-        put(out, Numeral::decimal(n).as_bytes())
-    } else {
-        put(out, b"-")?;
-        put(out, Numeral::decimal(n.wrapping_neg()).as_bytes())
-    }
-}
 
 /// A bit of a valuation as a number.
 fn bit_at(bits: &[bool], i: usize) -> u64

@@ -1,7 +1,7 @@
 -- The design of a text is one, and so is the refusal of a text without one.
 use Rattle.std.proofs.Common.{◌≡◌, ℕ, List, sym, ap, ◌∙◌, subst, inl, inr}
 use Rattle.hcl_read.specs.Read.{ReadsAs}
-use Rattle.hcl_read.specs.declared.tree.File.{File}
+use Rattle.hcl_tree.specs.declared.tree.File.{File}
 use Rattle.hcl_read.proofs.LawLemmas.{at_most_one_file}
 use Rattle.hcl_read.proofs.OneFault.{file_has_no_fault, one_fault}
 use Rattle.hcl_types.specs.Binding.{bound}

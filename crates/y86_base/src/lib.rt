@@ -24,7 +24,7 @@ pub use laws::{
     law_of_runs, law_of_statuses, law_of_words,
 };
 pub use number::{Number, decimal_at};
-pub use numeral::Numeral;
+pub use numeral::{Numeral, put_signed};
 pub use parts::{Flags, Memory, Stat, Variant};
 pub use registers::{Regs, register_names};
 pub use text::{

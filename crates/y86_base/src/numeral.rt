@@ -1,9 +1,11 @@
 //! The texts of numbers.
-ghost use Rattle.std.specs.Prelude.{◌≡◌, ◌≤◌, ◌<◌, ◌+◌, false, length, take, drop};
+ghost use Rattle.std.specs.Prelude.{◌≡◌, ◌≤◌, ◌<◌, ◌+◌, ◌++◌, OnOk, false, length, take, drop};
 ghost use Rattle.std.specs.Fmt.{digit_glyph, digits};
 ghost use Rattle.std.specs.Str.Parse.{digits_value};
-ghost use Rattle.y86_base.specs.Numeral.{numeral};
+ghost use Rattle.y86_base.specs.Numeral.{numeral, signed_decimal};
 
+use crate::parts::Memory;
+use crate::text::put;
 use std::marker::Model;
 
 /// The text of a number, in a buffer of its own: it takes no memory. Contracts see the bytes of the text.
@@ -93,5 +95,18 @@ impl Numeral {
         ensures { result.now ≡ self.now }
     {
         &self.bytes[self.start..]
+    }
+}
+
+/// Puts a word as a signed decimal number.
+#[tactic(auto, unfolding(crate::specs::Numeral::signed_decimal))]
+pub fn put_signed(out: &mut Vec<u8>, n: u64) -> Result<(), Memory>
+    ensures { OnOk result (out.new.items ≡ out.old.items ++ signed_decimal n) }
+{
+    if n < 1 << 63 {
+        put(out, Numeral::decimal(n).as_bytes())
+    } else {
+        put(out, b"-")?;
+        put(out, Numeral::decimal(n.wrapping_neg()).as_bytes())
     }
 }

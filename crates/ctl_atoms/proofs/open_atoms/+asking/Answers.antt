@@ -1,7 +1,7 @@
 use Rattle.std.proofs.Common.{◌+◌, ◌<◌, ◌∷◌, List, length, drop, map, ap, sym, ◌∙◌}
 use Rattle.std.proofs.lemmas.List.{at_drop_all}
 use Rattle.y86_base.proofs.Lists.{item_is}
-use Rattle.hcl_read.specs.declared.tree.CmpOp.TheVariants.{Eq}
+use Rattle.hcl_tree.specs.declared.tree.CmpOp.TheVariants.{Eq}
 use Rattle.hcl_types.specs.declared.term.Term.{Term}
 use Rattle.hcl_types.specs.declared.term.TermBranch.{TermBranch}
 use Rattle.ctl_atoms.specs.declared.leaf.Leaf.{Leaf}

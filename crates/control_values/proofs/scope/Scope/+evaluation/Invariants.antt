@@ -1,5 +1,5 @@
 use Rattle.std.proofs.Common.{◌≡◌, drop, map}
-use Rattle.hcl_read.specs.declared.tree.CmpOp.TheVariants.{Eq}
+use Rattle.hcl_tree.specs.declared.tree.CmpOp.TheVariants.{Eq}
 use Rattle.hcl_types.specs.Lists.{each, some}
 use Rattle.hcl_types.specs.Terms.{branch_value, picked, value}
 use Rattle.ctl_atoms.specs.declared.leaf.Leaf.TheVariants.{Number}

@@ -1,7 +1,7 @@
 use Rattle.std.proofs.Common.{◌≡◌, ◌<◌, ◌&&◌, ◌||◌, ℕ, Bool, List, [], drop, length, IsTrue, map}
 use Rattle.ctl_atoms.specs.declared.leaf.Leaf.{Leaf}
 use Rattle.ctl_atoms.specs.declared.leaf.Leaf.TheVariants.{Number}
-use Rattle.hcl_read.specs.declared.tree.CmpOp.TheVariants.{Eq}
+use Rattle.hcl_tree.specs.declared.tree.CmpOp.TheVariants.{Eq}
 use Rattle.nets.specs.Nets.{ExtendsNet, truth}
 use Rattle.ctl_atoms.specs.Leaves.{Assignment, leaf_eq, leaf_holds, leaf_cmp, leaf_meaning}
 use Rattle.ctl_formula.specs.TakenPicks.{IsOnlyTaken, at, leaf_taken}

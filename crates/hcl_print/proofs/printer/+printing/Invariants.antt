@@ -1,5 +1,5 @@
 use Rattle.std.proofs.Common.{◌≡◌, ◌++◌, map, drop, cond}
-use Rattle.hcl_read.specs.Print.{branch_text, branches, further, joined, shown}
+use Rattle.hcl_print.specs.Print.{branch_text, branches, further, joined, shown}
 use Rattle.hcl_read.proofs.printer.+printing.Given as goal
 
 abbrev pub invariant-put_branches-loop-b : goal.invariant-put_branches-loop-b

@@ -1,5 +1,5 @@
 use Rattle.std.proofs.Common.{◌≡◌, ◌++◌, drop}
-use Rattle.hcl_read.specs.Print.{printed}
+use Rattle.hcl_print.specs.Print.{printed}
 use Rattle.hcl_read.proofs.printer.print.Given as goal
 
 abbrev pub invariant-loop-item : goal.invariant-loop-item

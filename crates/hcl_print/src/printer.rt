@@ -1,23 +1,10 @@
 //! A file in its printed form.
 ghost use Rattle.std.specs.Prelude.{◌≡◌, ◌++◌, OnOk, IfOk, map, ℕ, codes};
-ghost use Rattle.hcl_read.specs.Print.{branch_text, branches, further, item_text, joined, kind_word, operator, printed, shown, signal_word, signed_decimal, within};
+ghost use Rattle.hcl_print.specs.Print.{branch_text, branches, further, item_text, joined, kind_word, operator, printed, shown, signal_word, within};
 
-use crate::tree::{Branch, CmpOp, Expr, File, Item, Kind};
+use hcl_tree::{Branch, CmpOp, Expr, File, Item, Kind};
 use std::alloc::Global;
-use y86_base::{Memory, Numeral, put};
-
-/// A word of 64 bits as a signed decimal number.
-#[tactic(auto, unfolding(crate::specs::Print::signed_decimal))]
-fn put_number(out: &mut Vec<u8>, n: u64) -> Result<(), Memory>
-    ensures { OnOk result (out.new.items ≡ out.old.items ++ signed_decimal n) }
-{
-    if n < 1 << 63 {
-        put(out, Numeral::decimal(n).as_bytes())
-    } else {
-        put(out, b"-")?;
-        put(out, Numeral::decimal(n.wrapping_neg()).as_bytes())
-    }
-}
+use y86_base::{Memory, put, put_signed};
 
 /// The text of a comparison's sign, with its blanks.
 fn operator_text(op: CmpOp) -> &'static [u8]
@@ -102,7 +89,7 @@ fn put_expr(out: &mut Vec<u8>, e: &Expr) -> Result<(), Memory>
     ensures { OnOk result (out.new.items ≡ out.old.items ++ (shown e.now).text) }
 {
     match e {
-        Expr::Num(n) => put_number(out, *n),
+        Expr::Num(n) => put_signed(out, *n),
         Expr::Name(name) => put(out, name.bytes()),
         Expr::Not(inner) => {
             put(out, b"!")?;

@@ -1,16 +1,16 @@
 -- The printed form of a file: one item a line, its expressions with parentheses just where the grammar needs them.
-use Rattle.std.specs.Prelude.{ℕ, ◌-◌, ◌^◌, nat_lt, if◌then◌else◌, List, [], ◌∷◌, ◌++◌, codes}
-use Rattle.y86_base.specs.Numeral.{numeral}
-use Rattle.hcl_read.specs.declared.tree.Kind.{Kind}
-use Rattle.hcl_read.specs.declared.tree.Kind.TheVariants.{Word, Bool}
-use Rattle.hcl_read.specs.declared.tree.CmpOp.{CmpOp}
-use Rattle.hcl_read.specs.declared.tree.CmpOp.TheVariants.{Eq, Ne, Lt, Le, Gt, Ge}
-use Rattle.hcl_read.specs.declared.tree.Expr.{Expr}
-use Rattle.hcl_read.specs.declared.tree.Expr.TheOpen.{Expr-F, Branch-F}
-use Rattle.hcl_read.specs.declared.tree.Expr.TheFolds.{fold-Expr, fold-Branch}
-use Rattle.hcl_read.specs.declared.tree.Item.{Item}
-use Rattle.hcl_read.specs.declared.tree.Item.TheVariants.{Quote, Decl, Def}
-use Rattle.hcl_read.specs.declared.tree.Branch.{Branch}
+use Rattle.std.specs.Prelude.{ℕ, nat_lt, if◌then◌else◌, List, [], ◌∷◌, ◌++◌, codes}
+use Rattle.y86_base.specs.Numeral.{signed_decimal}
+use Rattle.hcl_tree.specs.declared.tree.Kind.{Kind}
+use Rattle.hcl_tree.specs.declared.tree.Kind.TheVariants.{Word, Bool}
+use Rattle.hcl_tree.specs.declared.tree.CmpOp.{CmpOp}
+use Rattle.hcl_tree.specs.declared.tree.CmpOp.TheVariants.{Eq, Ne, Lt, Le, Gt, Ge}
+use Rattle.hcl_tree.specs.declared.tree.Expr.{Expr}
+use Rattle.hcl_tree.specs.declared.tree.Expr.TheOpen.{Expr-F, Branch-F}
+use Rattle.hcl_tree.specs.declared.tree.Expr.TheFolds.{fold-Expr, fold-Branch}
+use Rattle.hcl_tree.specs.declared.tree.Item.{Item}
+use Rattle.hcl_tree.specs.declared.tree.Item.TheVariants.{Quote, Decl, Def}
+use Rattle.hcl_tree.specs.declared.tree.Branch.{Branch}
 
 -- The text of an expression, and how tightly it holds together: 0 an `||` list, 1 an `&&` list, 2 a negation, 3 a comparison or
 -- `in`, 4 a number, a name or a case list.
@@ -34,10 +34,6 @@ further separator least (e ∷ es) = separator ++ within least e ++ further sepa
 unfoldable pub joined : List ℕ → ℕ → List ShownTerm → List ℕ
 joined separator least [] = []
 joined separator least (e ∷ es) = within least e ++ further separator least es
-
--- a word of 64 bits as a signed number, in two's complement, without leading zeros
-unfoldable pub signed_decimal : ℕ → List ℕ
-signed_decimal n = if nat_lt n (2 ^ 63) then numeral 10 1 n else codes "-" ++ numeral 10 1 (2 ^ 64 - n)
 
 abbrev pub operator : CmpOp → List ℕ
 operator Eq = codes " == "
