@@ -4,6 +4,7 @@ ghost use Rattle.yas_asm.specs.Assembly.{assembled};
 ghost use Rattle.yas_asm.specs.Outcome.{GivesOrFaults};
 ghost use Rattle.yas_asm.specs.Listing.{lines_of};
 
+use crate::check::SecondPass;
 use crate::fault::{AsmFault, AsmWhy};
 use crate::listing::Listing;
 use crate::passes::{collect_labels, emit};
@@ -26,7 +27,12 @@ pub fn assemble(alloc: Global, v: Variant, src: &[u8], size: u64) -> Result<List
     let Ok(labels) = collect_labels(alloc, v, src, size) else {
         return Err(NO_MEMORY);
     };
-    match emit(alloc, v, src, size, &labels) {
+    let pass = SecondPass {
+        variant: v,
+        size,
+        labels: &labels,
+    };
+    match emit(alloc, &pass, src) {
         Err(fault) => Err(fault),
         Ok(lines) => match Vec::from_slice(alloc, src) {
             Err(_) => Err(NO_MEMORY),

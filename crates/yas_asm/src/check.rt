@@ -76,33 +76,40 @@ fn is_past_limit(known: &Labels, label: &Option<Name>) -> bool
     }
 }
 
+/// What the second pass knows before its first line: the instruction set, the size of the memory, and the labels that the
+/// first pass collected.
+#[derive(Clone, Copy)]
+pub struct SecondPass<'a> {
+    pub variant: Variant,
+    pub size: u64,
+    pub labels: &'a Labels,
+}
+
 /// The least fault of a line of the form.
 #[tactic(auto, unfolding(crate::specs::Assembly::statement_fault))]
 pub fn statement_fault(
-    variant: Variant,
-    size: u64,
-    labels: &Labels,
+    pass: &SecondPass,
     known: &Labels,
     used: &UsedRanges,
     address: u64,
     parsed: &Parsed,
 ) -> Option<AsmWhy>
-    requires { IsSound variant parsed.now.statement }
-    ensures { result ≡ assembly.statement_fault variant size labels.now known.now used.now address parsed.now }
+    requires { IsSound pass.now.variant parsed.now.statement }
+    ensures { result ≡ assembly.statement_fault pass.now.variant pass.now.size pass.now.labels.now known.now used.now address parsed.now }
 {
-    if names_wide(labels, &parsed.statement) {
+    if names_wide(pass.labels, &parsed.statement) {
         return Some(AsmWhy::NumberTooWide);
     }
     if is_defined(known, &parsed.label) {
         return Some(AsmWhy::LabelTwice);
     }
-    if names_unknown(labels, &parsed.statement) {
+    if names_unknown(pass.labels, &parsed.statement) {
         return Some(AsmWhy::LabelUnknown);
     }
-    if place(variant, size, address, &parsed.statement).is_none() {
+    if place(pass.variant, pass.size, address, &parsed.statement).is_none() {
         return Some(AsmWhy::OutsideMemory);
     }
-    if overlaps(used, address, width_of(variant, &parsed.statement)) {
+    if overlaps(used, address, width_of(pass.variant, &parsed.statement)) {
         return Some(AsmWhy::Overlap);
     }
     if is_past_limit(known, &parsed.label) {

@@ -7,7 +7,7 @@ ghost use Rattle.yas_asm.specs.Sound.{IsSound};
 
 use crate::address::{address_after, place, width_of};
 use crate::bytes::bytes_at;
-use crate::check::statement_fault;
+use crate::check::{SecondPass, statement_fault};
 use crate::fault::{AsmFault, AsmWhy};
 use crate::grammar::read_line;
 use crate::labels::Labels;
@@ -77,26 +77,25 @@ pub fn collect_labels(
 /// Enters a line of the form into the labels and addresses of the lines before it, unless it has a fault.
 fn enter(
     alloc: Global,
-    variant: Variant,
-    size: u64,
-    table: &Labels,
+    pass: &SecondPass,
     known: &mut Labels,
     used: &mut UsedRanges,
     address: u64,
     parsed: &Parsed,
 ) -> Result<(), AsmWhy>
-    requires { IsSound variant parsed.now.statement }
-    ensures fault { StopsWith result (assembly.statement_fault variant size table.now known.old used.old address parsed.now) }
+    requires { IsSound pass.now.variant parsed.now.statement }
+    ensures fault { StopsWith result (assembly.statement_fault pass.now.variant pass.now.size pass.now.labels.now known.old used.old address parsed.now) }
     ensures known { OnOk result (known.new ≡ assembly.with_label known.old address parsed.now.label) }
-    ensures used { OnOk result (used.new ≡ used.old ++ assembly.emitted variant size address parsed.now.statement) }
+    ensures used { OnOk result (used.new ≡ used.old ++ assembly.emitted pass.now.variant pass.now.size address parsed.now.statement) }
 {
-    if let Some(why) = statement_fault(variant, size, table, known, used, address, parsed) {
+    if let Some(why) = statement_fault(pass, known, used, address, parsed) {
         return Err(why);
     }
     if define(alloc, known, address, &parsed.label).is_err() {
         return Err(AsmWhy::Memory);
     }
-    let width = width_of(variant, &parsed.statement);
+    let _size = pass.size; // brings its bound, so that no sum below wraps
+    let width = width_of(pass.variant, &parsed.statement);
     match add_range(used, address, width) {
         Ok(()) => Ok(()),
         Err(_) => Err(AsmWhy::Memory),
@@ -107,22 +106,20 @@ fn enter(
 #[tactic(auto, unfolding(crate::specs::Assembly::line_fault))]
 fn enter_read(
     alloc: Global,
-    variant: Variant,
-    size: u64,
-    table: &Labels,
+    pass: &SecondPass,
     known: &mut Labels,
     used: &mut UsedRanges,
     address: u64,
     read: &ParseResult,
 ) -> Result<(), AsmWhy>
-    requires { IfOk read.now (λ parsed. IsSound variant parsed.statement) }
-    ensures fault { StopsWith result (assembly.line_fault variant size table.now known.old used.old address read.now) }
+    requires { IfOk read.now (λ parsed. IsSound pass.now.variant parsed.statement) }
+    ensures fault { StopsWith result (assembly.line_fault pass.now.variant pass.now.size pass.now.labels.now known.old used.old address read.now) }
     ensures known { OnOk result (known.new ≡ assembly.with_label known.old address (assembly.label_of read.now)) }
-    ensures used { OnOk result (used.new ≡ used.old ++ assembly.addresses variant size address read.now) }
+    ensures used { OnOk result (used.new ≡ used.old ++ assembly.addresses pass.now.variant pass.now.size address read.now) }
 {
     match read {
         Err(why) => Err(*why),
-        Ok(parsed) => enter(alloc, variant, size, table, known, used, address, parsed),
+        Ok(parsed) => enter(alloc, pass, known, used, address, parsed),
     }
 }
 
@@ -143,17 +140,9 @@ fn shown(variant: Variant, size: u64, address: u64, parsed: &Parsed) -> Option<u
 
 /// A line in the listing.
 #[tactic(auto, unfolding(crate::specs::Assembly::listed))]
-fn listed(
-    variant: Variant,
-    size: u64,
-    table: &Labels,
-    from: u64,
-    to: u64,
-    address: u64,
-    read: &ParseResult,
-) -> Line
-    requires { IfOk read.now (λ parsed. IsSound variant parsed.statement) }
-    ensures { result ≡ assembly.listed variant size table.now from to address read.now }
+fn listed(pass: &SecondPass, from: u64, to: u64, address: u64, read: &ParseResult) -> Line
+    requires { IfOk read.now (λ parsed. IsSound pass.now.variant parsed.statement) }
+    ensures { result ≡ assembly.listed pass.now.variant pass.now.size pass.now.labels.now from to address read.now }
 {
     match read {
         Err(_) => Line {
@@ -163,8 +152,8 @@ fn listed(
             to,
         },
         Ok(parsed) => Line {
-            addr: shown(variant, size, address, parsed),
-            bytes: bytes_at(variant, table, &parsed.statement),
+            addr: shown(pass.variant, pass.size, address, parsed),
+            bytes: bytes_at(pass.variant, pass.labels, &parsed.statement),
             from,
             to,
         },
@@ -185,15 +174,9 @@ fn fault(passed: u64, why: AsmWhy) -> AsmFault
 }
 
 /// The listing of a source with its labels, or the first line with a fault.
-pub fn emit(
-    alloc: Global,
-    variant: Variant,
-    source: &[u8],
-    size: u64,
-    table: &Labels,
-) -> Result<Vec<Line>, AsmFault>
+pub fn emit(alloc: Global, pass: &SecondPass, source: &[u8]) -> Result<Vec<Line>, AsmFault>
     ensures { GivesOrFaults items_of result
-        (assembly.assembled_with variant size table.now (assembly.source_lines variant size source.now)) }
+        (assembly.assembled_with pass.now.variant pass.now.size pass.now.labels.now (assembly.source_lines pass.now.variant pass.now.size source.now)) }
 {
     let mut known = Labels::new(alloc);
     let mut used = UsedRanges::new(alloc);
@@ -203,21 +186,19 @@ pub fn emit(
     let mut passed = 0;
     let mut rest = source;
     while let Some((text, behind)) = first_line(rest) {
-        let read = read_line(variant, text);
-        match enter_read(
-            alloc, variant, size, table, &mut known, &mut used, address, &read,
-        ) {
+        let read = read_line(pass.variant, text);
+        match enter_read(alloc, pass, &mut known, &mut used, address, &read) {
             Ok(()) => {}
             Err(why) => return Err(fault(passed, why)),
         }
         let to = from + text.len() as u64;
         if listing
-            .push(listed(variant, size, table, from, to, address, &read))
+            .push(listed(pass, from, to, address, &read))
             .is_err()
         {
             return Err(fault(passed, AsmWhy::Memory));
         }
-        address = address_after(variant, size, address, &read);
+        address = address_after(pass.variant, pass.size, address, &read);
         from = to + 1;
         passed += 1;
         rest = behind;

@@ -8,7 +8,7 @@ use Rattle.yas_asm.proofs.passes.enter.Goals as goal
 pub add_range-requires-clause-fits : goal.add_range-requires-clause-fits
 add_range-requires-clause-fits c =
     let free = free_without_fault _ _ _ _ _ _ _ (sym c.statement_fault.ensures ∙ c.in_default.is) in
-    let fits = place_fits c.args.variant c.args.size c.args.address 18446744073709551615 c.args.parsed.now.statement (omega arith) (omega arith) free.inside in
+    let fits = place_fits c.args.pass.now.variant c.args.pass.now.size c.args.address 18446744073709551615 c.args.parsed.now.statement (omega arith) (omega arith) free.inside in
     omega (arith, fits, c.width_of-width.ensures)
 
 pub add_range-requires-clause-free : goal.add_range-requires-clause-free
