@@ -7,6 +7,7 @@ ghost use Rattle.pipe_motion.specs.Flow as spec;
 use crate::flow_gates::{FlowGates, RegisterControlGates, RegisterControlsGates, StageFlowGates};
 use crate::legal_flow::{flow_legal_gate, path_gate};
 use crate::motion::{fetched_flow, load_gate, move_flow};
+use crate::settings::Settings;
 use nets::{NetBuilder, choose, excludes, implies, neither, without};
 use y86_base::Memory;
 
@@ -148,17 +149,16 @@ fn next_right(
     good: u64,
     v: &FlowGates,
     next: &FlowGates,
-    je: bool,
-    rm: bool,
+    s: &Settings,
 ) -> Result<u64, Memory>
     requires controls_in { HasRegisterControls (length b.old.gates) k.now }
     requires good_in { good < length b.old.gates }
     requires flow_in { HasFlow (length b.old.gates) v.now }
     requires next_in { HasFlow (length b.old.gates) next.now }
     ensures extends { ExtendsNet b.old b.new }
-    ensures has_truth { IfOk result (λ g. IsGate b.new g (λ w. spec.next_is_right je rm (register_controls_at b.old w k.now) (truth b.old good w) (flow_at b.old w v.now) (flow_at b.old w next.now))) }
+    ensures has_truth { IfOk result (λ g. IsGate b.new g (λ w. spec.next_is_right s.now.je s.now.rm (register_controls_at b.old w k.now) (truth b.old good w) (flow_at b.old w v.now) (flow_at b.old w next.now))) }
 {
-    let lawful = flow_legal_gate(b, next, je, rm)?;
+    let lawful = flow_legal_gate(b, next, s.je, s.rm)?;
     let wrong = b.or(next.m.wrong, next.w.wrong)?;
     let none_wrong = b.not(wrong)?;
     let now = path_gate(b, v)?;
@@ -176,19 +176,18 @@ pub fn obligation_25(
     good: u64,
     facts: &StageFlowGates,
     v: &FlowGates,
-    je: bool,
-    rm: bool,
+    s: &Settings,
 ) -> Result<u64, Memory>
     requires controls_in { HasRegisterControls (length b.old.gates) k.now }
     requires good_in { good < length b.old.gates }
     requires facts_in { HasStageFlow (length b.old.gates) facts.now }
     requires flow_in { HasFlow (length b.old.gates) v.now }
     ensures extends { ExtendsNet b.old b.new }
-    ensures has_truth { IfOk result (λ g. IsGate b.new g (λ w. spec.o25 je rm (register_controls_at b.old w k.now) (truth b.old good w) (stage_flow_at b.old w facts.now) (flow_at b.old w v.now))) }
+    ensures has_truth { IfOk result (λ g. IsGate b.new g (λ w. spec.o25 s.now.je s.now.rm (register_controls_at b.old w k.now) (truth b.old good w) (stage_flow_at b.old w facts.now) (flow_at b.old w v.now))) }
 {
     let fetched = fetched_flow(b, good, facts)?;
     let next = move_flow(b, k, &fetched, v)?;
-    next_right(b, k, good, v, &next, je, rm)
+    next_right(b, k, good, v, &next, s)
 }
 
 /// Bubbles stand in E, M and W.

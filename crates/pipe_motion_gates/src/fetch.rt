@@ -351,5 +351,5 @@ pub fn obligation_25(
     let controls = register_controls_of(ctl);
     let good = fetch_good(b, ctl, v, s, y)?;
     let facts = fetched_facts(b, ctl, v, s)?;
-    pipe_motion::obligation_25(b, &controls, good, &facts, y, s.je, s.rm)
+    pipe_motion::obligation_25(b, &controls, good, &facts, y, s)
 }

@@ -12,6 +12,6 @@ returns-clause-has_truth c =
       within = made.within;
       is = λ w.
           let next = c.in_ok-next.ensures.has_truth.is w ∙ moved_flow_by _ _ _ _ _ _ (controls_kept to_1 c.args.k.now w c.requires.controls_in) (c.in_ok-fetched.ensures.has_truth.is w) (flow_kept to_1 c.args.v.now w c.requires.flow_in) in
-          made.is w ∙ next_by c.args.je c.args.rm _ _ _ _ _ _ _ _ (controls_kept to_2 c.args.k.now w c.requires.controls_in) (to_2.same _ w c.requires.good_in)
+          made.is w ∙ next_by c.args.s.now.je c.args.s.now.rm _ _ _ _ _ _ _ _ (controls_kept to_2 c.args.k.now w c.requires.controls_in) (to_2.same _ w c.requires.good_in)
           (flow_kept to_2 c.args.v.now w c.requires.flow_in) next;
     }) c.next_right.ensures.has_truth
