@@ -2,7 +2,7 @@
 ghost use Rattle.std.specs.Prelude.{◌≡◌, true, Ok, Err};
 ghost use Rattle.hcl_read.specs.Machine as machine;
 ghost use Rattle.hcl_read.specs.Steps.{Steps};
-ghost use Rattle.hcl_read.specs.declared.state.ItemState.TheVariants.{Between, WantQuote, WantSignal, WantSignalText, WantName, WantAssign, Body};
+ghost use Rattle.hcl_read.specs.declared.state.ItemState.TheVariants.{Between, WantQuote, WantSignal, WantSignalText, WantName, WantAssign};
 
 use crate::fault::HclWhy;
 use crate::frames::ExprState;
@@ -160,26 +160,8 @@ fn moved(items: Items<Item>, kind: Kind, name: Text, to: BodyMove) -> Result<Rea
     }
 }
 
-/// A token of a body.
-#[tactic(auto, unfolding(crate::specs::Machine::place_step, crate::specs::Machine::moved))]
-fn body(
-    alloc: Global,
-    items: Items<Item>,
-    kind: Kind,
-    name: Text,
-    spot: ExprState,
-    stack: Stack,
-    token: Token,
-) -> Result<ReaderState, HclWhy>
-    ensures { Steps result (machine.place_step true items (Body kind name spot stack) token) }
-{
-    match body_step(alloc, spot, stack, token) {
-        Ok(to) => moved(items, kind, name, to),
-        Err(why) => Err(why),
-    }
-}
-
 /// The state behind a token.
+#[tactic(auto, unfolding(crate::specs::Machine::place_step, crate::specs::Machine::moved))]
 pub fn step(alloc: Global, state: ReaderState, token: Token) -> Result<ReaderState, HclWhy>
     ensures { Steps result (machine.step true state token) }
 {
@@ -191,9 +173,9 @@ pub fn step(alloc: Global, state: ReaderState, token: Token) -> Result<ReaderSta
         ItemState::WantSignalText(kind, name) => signal_text(items, kind, name, token),
         ItemState::WantName(kind) => defined_name(items, kind, token),
         ItemState::WantAssign(kind, name) => assign(alloc, items, kind, name, token),
-        ItemState::Body(kind, name, spot, stack) => body(
-            alloc, items, kind, name, spot, stack, token,
-        ),
+        ItemState::Body(kind, name, spot, stack) => {
+            moved(items, kind, name, body_step(alloc, spot, stack, token)?)
+        }
     }
 }
 

@@ -4,7 +4,6 @@ ghost use Rattle.hcl_read.specs.Grammar as grammar;
 ghost use Rattle.hcl_read.specs.Machine as machine;
 ghost use Rattle.hcl_read.specs.Depth.{level_behind};
 ghost use Rattle.hcl_read.specs.Steps.{Steps};
-ghost use Rattle.hcl_read.specs.declared.frames.Frame.TheVariants.{Paren, Set, Guard, Value};
 ghost use Rattle.hcl_read.specs.declared.frames.ExprState.TheVariants.{Want};
 ghost use Rattle.hcl_read.specs.declared.state.BodyMove.TheVariants.{On};
 
@@ -170,131 +169,34 @@ fn want(alloc: Global, level: Level, stack: Stack, token: Token) -> Result<BodyM
     }
 }
 
-/// A token behind an expression in parentheses.
-#[tactic(auto, unfolding(crate::specs::Machine::close))]
-fn close_group(
-    alloc: Global,
-    e: Expr,
-    side: OperandSide,
-    level: Level,
-    stack: Stack,
-    token: Token,
-) -> Result<BodyMove, HclWhy>
-    ensures { Steps result (machine.close e (Paren side level ∷ stack) token) }
-{
-    match token {
-        Token::CloseParen => Ok(BodyMove::On(put(alloc, side, level, e)?, stack)),
-        other => Err(refusal(other)),
-    }
-}
-
-/// A token behind a member of a set.
-#[tactic(auto, unfolding(crate::specs::Machine::close))]
-fn close_member(
-    alloc: Global,
-    e: Expr,
-    left: Boxed<Expr>,
-    members: Items<Expr>,
-    level: Level,
-    stack: Stack,
-    token: Token,
-) -> Result<BodyMove, HclWhy>
-    ensures { Steps result (machine.close e (Set left members level ∷ stack) token) }
-{
-    let mut stack = stack;
-    match token {
-        Token::Comma => {
-            stack.push(Frame::Set(left, with_last(members, e)?, level))?;
-            Ok(BodyMove::On(ExprState::Want(start_level(alloc)), stack))
-        }
-        Token::CloseBrace => {
-            let set = Expr::In(left, with_last(members, e)?);
-            Ok(BodyMove::On(related(alloc, level, set)?, stack))
-        }
-        other => Err(refusal(other)),
-    }
-}
-
-/// A token behind a guard.
-#[tactic(auto, unfolding(crate::specs::Machine::close))]
-fn close_guard(
-    alloc: Global,
-    e: Expr,
-    side: OperandSide,
-    branches: Items<Branch>,
-    level: Level,
-    stack: Stack,
-    token: Token,
-) -> Result<BodyMove, HclWhy>
-    ensures { Steps result (machine.close e (Guard side branches level ∷ stack) token) }
-{
-    let mut stack = stack;
-    match token {
-        Token::Colon => {
-            stack.push(Frame::Value(side, branches, Boxed::of(alloc, e)?, level))?;
-            Ok(BodyMove::On(ExprState::Want(start_level(alloc)), stack))
-        }
-        other => Err(refusal(other)),
-    }
-}
-
-/// A token behind the value of a branch.
-#[tactic(auto, unfolding(crate::specs::Machine::close))]
-fn close_value(
-    e: Expr,
-    side: OperandSide,
-    branches: Items<Branch>,
-    guard: Boxed<Expr>,
-    level: Level,
-    stack: Stack,
-    token: Token,
-) -> Result<BodyMove, HclWhy>
-    ensures { Steps result (machine.close e (Value side branches guard level ∷ stack) token) }
-{
-    match token {
-        Token::Semicolon => {
-            let branch = Branch {
-                guard: guard.into_inner(),
-                value: e,
-            };
-            Ok(BodyMove::On(
-                ExprState::Cases(side, with_last(branches, branch)?, level),
-                stack,
-            ))
-        }
-        other => Err(refusal(other)),
-    }
-}
-
-/// A token behind a whole body.
-#[tactic(auto, unfolding(crate::specs::Machine::close))]
-fn close_body(e: Expr, token: Token) -> Result<BodyMove, HclWhy>
-    ensures { Steps result (machine.close e [] token) }
-{
-    match token {
-        Token::Semicolon => Ok(BodyMove::Ended(e)),
-        other => Err(refusal(other)),
-    }
-}
-
 /// A token behind an expression.
+#[tactic(auto, unfolding(crate::specs::Machine::close))]
 fn close(alloc: Global, e: Expr, stack: Stack, token: Token) -> Result<BodyMove, HclWhy>
     ensures { Steps result (machine.close e stack token) }
 {
     let mut stack = stack;
-    match stack.pop() {
-        None => close_body(e, token),
-        Some(Frame::Paren(side, level)) => close_group(alloc, e, side, level, stack, token),
-        Some(Frame::Set(left, members, level)) => {
-            close_member(alloc, e, left, members, level, stack, token)
+    let spot = match (stack.pop(), token) {
+        (None, Token::Semicolon) => return Ok(BodyMove::Ended(e)),
+        (Some(Frame::Paren(side, level)), Token::CloseParen) => put(alloc, side, level, e)?,
+        (Some(Frame::Set(left, members, level)), Token::Comma) => {
+            stack.push(Frame::Set(left, with_last(members, e)?, level))?;
+            ExprState::Want(start_level(alloc))
         }
-        Some(Frame::Guard(side, branches, level)) => {
-            close_guard(alloc, e, side, branches, level, stack, token)
+        (Some(Frame::Set(left, members, level)), Token::CloseBrace) => {
+            related(alloc, level, Expr::In(left, with_last(members, e)?))?
         }
-        Some(Frame::Value(side, branches, guard, level)) => {
-            close_value(e, side, branches, guard, level, stack, token)
+        (Some(Frame::Guard(side, branches, level)), Token::Colon) => {
+            stack.push(Frame::Value(side, branches, Boxed::of(alloc, e)?, level))?;
+            ExprState::Want(start_level(alloc))
         }
-    }
+        (Some(Frame::Value(side, branches, guard, level)), Token::Semicolon) => {
+            let guard = guard.into_inner();
+            let branch = Branch { guard, value: e };
+            ExprState::Cases(side, with_last(branches, branch)?, level)
+        }
+        (_, other) => return Err(refusal(other)),
+    };
+    Ok(BodyMove::On(spot, stack))
 }
 
 /// A token behind an operand of `&&`, which is the last of the first list.
