@@ -6,7 +6,7 @@ ghost use Rattle.bdd_decide.specs.Splitting.{AreTrueTo};
 use crate::least::least_in;
 use crate::pass::{PassResult, pass_in_order};
 use crate::search::{SplittingPass, SubproblemPass, UnboundedPass, search};
-use crate::subproblems::{CaseSplit, split_of};
+use crate::subproblems::{CaseSplit, Part, split_of};
 use nets::{Net, Valuation, all_variables};
 use std::alloc::Global;
 use y86_base::Memory;
@@ -55,7 +55,11 @@ pub fn decide_in_parts<P: SubproblemPass>(
     if found.place == gates.len() {
         return Ok(None);
     }
-    match least_in(alloc, net, gates[found.place], cut.bits, found.part)? {
+    let part = Part {
+        bits: cut.bits,
+        number: found.part,
+    };
+    match least_in(alloc, net, gates[found.place], part)? {
         Some(valuation) => Ok(Some(Counterexample {
             place: found.place,
             valuation,

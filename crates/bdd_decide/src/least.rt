@@ -5,7 +5,7 @@ ghost use Rattle.nets.specs.Substitution.{behind, source_truth};
 ghost use Rattle.bdd_decide.specs.Decisions.{IsAlwaysTrue, IsLeastOf};
 ghost use Rattle.bdd_decide.specs.Splitting.{AreForcedBits, IsLeastIn, IsTrueWhere, own};
 
-use crate::subproblems::sources_in;
+use crate::subproblems::{Part, sources_in};
 use bdd_core::Store;
 use nets::{Net, Replacement, Valuation, forced, substitute};
 use std::alloc::Global;
@@ -88,15 +88,14 @@ pub fn least_in(
     alloc: Global,
     net: &Net,
     gate: u64,
-    bits: u32,
-    part: u64,
+    part: Part,
 ) -> Result<Option<Valuation>, Memory>
     requires gate { gate < length net.now.gates }
-    requires bits { bits ≤ net.now.vars }
-    requires part { part < 2 ^ bits }
-    ensures { IfOk result (λ o. MatchOption o (IsTrueWhere net.now gate bits part) (λ w. IsLeastIn net.now gate bits part w.bits)) }
+    requires bits { part.bits ≤ net.now.vars }
+    requires part { part.number < 2 ^ part.bits }
+    ensures { IfOk result (λ o. MatchOption o (IsTrueWhere net.now gate part.bits part.number) (λ w. IsLeastIn net.now gate part.bits part.number w.bits)) }
 {
-    let to = sources_in(alloc, bits, part, net.vars())?;
+    let to = sources_in(alloc, part, net.vars())?;
     let copy = substitute(alloc, net, net.vars(), to.as_slice())?;
     match least_false(alloc, &copy.net, copy.gates.items()[gate as usize])? {
         Some(u) => {

@@ -1,13 +1,12 @@
 //! Which of several gates are true of every valuation.
-ghost use Rattle.std.specs.Prelude.{◌≡◌, ◌<◌, IfOk, IfSome, get_or, length};
+ghost use Rattle.std.specs.Prelude.{◌≡◌, ◌<◌, IfOk, IfSome, length};
 ghost use Rattle.bdd_decide.specs.Decisions.{AreDecided, AreGatesOfNet, IsDecided};
-ghost use Rattle.bdd_decide.specs.Splitting.{AreDiagramsOf, IsSubproblemOf};
+ghost use Rattle.bdd_decide.specs.Splitting.{AreDiagramsOf};
 
 use crate::decision::{NODES, VariableOrders, decide_in_parts};
 use crate::pass::always_true;
 use crate::reordered::reordered;
 use crate::search::SplittingPass;
-use crate::subproblems::Subproblem;
 use bdd_core::{GateDiagrams, Store};
 use nets::Net;
 use std::alloc::Global;
@@ -16,12 +15,23 @@ use y86_base::Memory;
 /// How many steps the diagrams of several gates may take together.
 const STEPS: u64 = 250_000;
 
-/// Whether a gate is true of every valuation, decided part by part.
+/// Whether a gate is true of every valuation: as its diagrams told, or, where they became more than they may, decided part by
+/// part.
 #[tactic(auto, using(crate::proofs::Deciding::one_gate, crate::proofs::Deciding::one_true, crate::proofs::Deciding::one_false))]
-fn true_in_parts(alloc: Global, net: &Net, gate: u64, how: &SplittingPass) -> Result<bool, Memory>
+fn told_or_decided(
+    alloc: Global,
+    told: Option<bool>,
+    net: &Net,
+    gate: u64,
+    how: &SplittingPass,
+) -> Result<bool, Memory>
     requires gate { gate < length net.now.gates }
+    requires told { IfSome told (IsDecided net.now gate) }
     ensures decided { IfOk result (IsDecided net.now gate) }
 {
+    if let Some(truth) = told {
+        return Ok(truth);
+    }
     match decide_in_parts(alloc, net, &[gate], how)? {
         Some(_) => Ok(false),
         None => Ok(true),
@@ -80,32 +90,6 @@ impl NetDiagrams {
     }
 }
 
-/// Whether the gate at a place is true of every valuation: by the diagrams of a copy, or, where they become more than they
-/// may, part by part.
-#[tactic(auto, using(crate::proofs::Mirrors::decided_mirrored))]
-fn truth_at(
-    alloc: Global,
-    diagrams: &mut NetDiagrams,
-    copy: &Subproblem,
-    net: &Net,
-    gates: &[u64],
-    k: usize,
-    how: &SplittingPass,
-) -> Result<bool, Memory>
-    requires gates { AreGatesOfNet net.now gates.now }
-    requires place { k < length gates.now }
-    requires stands { IsSubproblemOf net.now gates.now (length gates.now) 0 0 copy.now }
-    requires diagrams { AreDiagramsOf copy.now.net diagrams.old }
-    ensures diagrams { AreDiagramsOf copy.now.net diagrams.new }
-    ensures decided { IfOk result (IsDecided net.now (get_or gates.now k 0)) }
-{
-    let here = copy.gates.items()[k];
-    match diagrams.truth_anew(alloc, &copy.net, here)? {
-        Some(truth) => Ok(truth),
-        None => true_in_parts(alloc, net, gates[k], how),
-    }
-}
-
 /// For each of some gates whether it is true of every valuation. They share their diagrams, which have the given orders; a
 /// gate at which these become more than they may is decided part by part.
 #[tactic(auto, using(crate::proofs::Mirrors::decided_more))]
@@ -127,7 +111,8 @@ pub fn each_true(
     let mut diagrams = NetDiagrams::new(alloc, &copy.net)?;
     let mut truths: Vec<bool> = Vec::new(alloc);
     for k in 0..gates.len() {
-        let truth = truth_at(alloc, &mut diagrams, &copy, net, gates, k, &how)?;
+        let told = diagrams.truth_anew(alloc, &copy.net, copy.gates.items()[k])?;
+        let truth = told_or_decided(alloc, told, net, gates[k], &how)?;
         if truths.push(truth).is_err() {
             return Err(Memory);
         }

@@ -3,7 +3,7 @@ ghost use Rattle.std.specs.Prelude.{◌≡◌, IfOk, length};
 ghost use Rattle.bdd_decide.specs.Decisions.{AreGatesOfNet};
 ghost use Rattle.bdd_decide.specs.Splitting.{IsSubproblemOf};
 
-use crate::subproblems::{Subproblem, chosen, subproblem_of};
+use crate::subproblems::{Part, Subproblem, chosen, subproblem_of};
 use nets::{Net, cofactor};
 use std::alloc::Global;
 use y86_base::Memory;
@@ -29,5 +29,6 @@ pub fn reordered(
             });
         }
     }
-    subproblem_of(alloc, net, gates, gates.len(), 0, 0)
+    let whole = Part { bits: 0, number: 0 };
+    subproblem_of(alloc, net, gates, gates.len(), whole)
 }

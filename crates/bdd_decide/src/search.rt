@@ -5,7 +5,7 @@ ghost use Rattle.bdd_decide.specs.Splitting.{IsPass, IsSearched};
 
 use crate::pass::{PassResult, pass_in_order, run_pass};
 use crate::reordered::reordered;
-use crate::subproblems::{CaseSplit, Subproblem, forced_subproblem, split_of};
+use crate::subproblems::{CaseSplit, Part, Subproblem, forced_subproblem, split_of};
 use nets::Net;
 use std::alloc::Global;
 use y86_base::Memory;
@@ -80,24 +80,26 @@ fn search_part<P: SubproblemPass>(
     alloc: Global,
     net: &Net,
     gates: &[u64],
-    bits: u32,
-    p: u64,
+    part: Part,
     so_far: FalseGate,
     how: &P,
 ) -> Result<FalseGate, Memory>
     requires gates { AreGatesOfNet net.now gates.now }
-    requires bits { bits ≤ net.now.vars }
-    requires part { p < 2 ^ bits }
-    requires so_far { IsSearched net.now gates.now bits p so_far.place so_far.part }
-    ensures { IfOk result (λ x. IsSearched net.now gates.now bits (p + 1) x.place x.part) }
+    requires bits { part.bits ≤ net.now.vars }
+    requires part { part.number < 2 ^ part.bits }
+    requires so_far { IsSearched net.now gates.now part.bits part.number so_far.place so_far.part }
+    ensures { IfOk result (λ x. IsSearched net.now gates.now part.bits (part.number + 1) x.place x.part) }
 {
     if so_far.place == 0 {
         return Ok(so_far);
     }
-    let part = forced_subproblem(alloc, net, gates, so_far.place, bits, p)?;
-    match how.pass(alloc, &part)? {
+    let copy = forced_subproblem(alloc, net, gates, so_far.place, part)?;
+    match how.pass(alloc, &copy)? {
         PassResult::True => Ok(so_far),
-        PassResult::False(place) => Ok(FalseGate { place, part: p }),
+        PassResult::False(place) => Ok(FalseGate {
+            place,
+            part: part.number,
+        }),
         PassResult::Stopped(_) => Err(Memory),
     }
 }
@@ -121,7 +123,11 @@ pub fn search<P: SubproblemPass>(
         part: 0,
     };
     for p in 0..cut.parts {
-        so_far = search_part(alloc, net, gates, cut.bits, p, so_far, how)?;
+        let part = Part {
+            bits: cut.bits,
+            number: p,
+        };
+        so_far = search_part(alloc, net, gates, part, so_far, how)?;
     }
     Ok(so_far)
 }

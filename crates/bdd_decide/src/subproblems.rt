@@ -16,6 +16,13 @@ pub struct CaseSplit {
     pub parts: u64,
 }
 
+/// A part of the valuations: those whose first bits spell its number.
+#[derive(Clone, Copy, Debug)]
+pub struct Part {
+    pub bits: u32,
+    pub number: u64,
+}
+
 /// The cut of the valuations of so many variables. Where they are fewer than its bits, they aren't parted.
 pub fn split_of(cut: CaseSplit, vars: u32) -> CaseSplit
     requires { cut.parts ≡ 2 ^ cut.bits }
@@ -31,12 +38,12 @@ pub fn split_of(cut: CaseSplit, vars: u32) -> CaseSplit
 
 /// One of the bits of a part, the most significant one first.
 #[tactic(auto, using(crate::proofs::Bits::bit_before, crate::proofs::Bits::bit_last))]
-fn bit_of(part: u64, bits: u32, i: u32) -> bool
-    requires { i < bits }
-    ensures { result ≡ get_or (spell bits part) i false }
+fn bit_of(part: Part, i: u32) -> bool
+    requires { i < part.bits }
+    ensures { result ≡ get_or (spell part.bits part.number) i false }
 {
-    let mut rest = part;
-    let mut left = bits;
+    let mut rest = part.number;
+    let mut left = part.bits;
     while left > i + 1 {
         rest /= 2;
         left -= 1;
@@ -45,18 +52,13 @@ fn bit_of(part: u64, bits: u32, i: u32) -> bool
 }
 
 /// What stands in the places of the variables in the copy for a part.
-pub fn sources_in(
-    alloc: Global,
-    bits: u32,
-    part: u64,
-    vars: u32,
-) -> Result<Vec<Replacement>, Memory>
-    ensures { IfOk result (λ to. AreSourcesIn bits part vars to.items) }
+pub fn sources_in(alloc: Global, part: Part, vars: u32) -> Result<Vec<Replacement>, Memory>
+    ensures { IfOk result (λ to. AreSourcesIn part.bits part.number vars to.items) }
 {
     let mut to: Vec<Replacement> = Vec::new(alloc);
     for i in 0..vars {
-        let source = if i < bits {
-            Replacement::Const(bit_of(part, bits, i))
+        let source = if i < part.bits {
+            Replacement::Const(bit_of(part, i))
         } else {
             Replacement::Var(i)
         };
@@ -101,16 +103,15 @@ pub fn subproblem_of(
     net: &Net,
     gates: &[u64],
     count: usize,
-    bits: u32,
-    part: u64,
+    part: Part,
 ) -> Result<Subproblem, Memory>
     requires gates { AreGatesOfNet net.now gates.now }
     requires within { count ≤ length gates.now }
-    requires bits { bits ≤ net.now.vars }
-    requires part { part < 2 ^ bits }
-    ensures { IfOk result (IsSubproblemOf net.now gates.now count bits part) }
+    requires bits { part.bits ≤ net.now.vars }
+    requires part { part.number < 2 ^ part.bits }
+    ensures { IfOk result (IsSubproblemOf net.now gates.now count part.bits part.number) }
 {
-    let to = sources_in(alloc, bits, part, net.vars())?;
+    let to = sources_in(alloc, part, net.vars())?;
     let copy = substitute(alloc, net, net.vars(), to.as_slice())?;
     let gates = chosen(alloc, copy.gates.items(), gates, count)?;
     Ok(Subproblem {
@@ -155,15 +156,14 @@ pub fn forced_subproblem(
     net: &Net,
     gates: &[u64],
     count: usize,
-    bits: u32,
-    part: u64,
+    part: Part,
 ) -> Result<Subproblem, Memory>
     requires gates { AreGatesOfNet net.now gates.now }
     requires within { count ≤ length gates.now }
-    requires bits { bits ≤ net.now.vars }
-    requires part { part < 2 ^ bits }
-    ensures { IfOk result (IsSubproblemOf net.now gates.now count bits part) }
+    requires bits { part.bits ≤ net.now.vars }
+    requires part { part.number < 2 ^ part.bits }
+    ensures { IfOk result (IsSubproblemOf net.now gates.now count part.bits part.number) }
 {
-    let whole = subproblem_of(alloc, net, gates, count, bits, part)?;
+    let whole = subproblem_of(alloc, net, gates, count, part)?;
     with_forced(alloc, whole)
 }

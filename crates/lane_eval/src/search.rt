@@ -94,47 +94,6 @@ fn search_block(
     first_of(r.list.items(), s)
 }
 
-/// The first of so many valuations of a seed of which some rule is false, and the first such rule.
-fn search_blocks(
-    r: &Rules,
-    seed: u64,
-    count: u64,
-    bits: &mut [bool],
-    words: &mut [u64],
-    lanes: &mut [u64x8],
-    s: &mut Scratch,
-) -> Option<Found>
-    requires fields { bit_count ≤ r.now.net.vars }
-    requires gates { RulesHaveGates r.now.net r.now.list }
-    requires bits { length bits.old ≡ r.now.net.vars }
-    requires words { length words.old ≡ r.now.net.vars }
-    requires lanes { length lanes.old ≡ r.now.net.vars }
-    requires has_truth { length s.old ≡ length r.now.net.gates }
-    ensures { IsFirstFalse (holds_drawn r.now seed) r.now.list count result }
-{
-    let mut at = 0;
-    while at < count {
-        let left = count - at;
-        match search_block(r, seed.wrapping_add(at), bits, words, lanes, s) {
-            Some(found) => {
-                if found.index < left {
-                    return Some(Found {
-                        index: at + found.index,
-                        rule: found.rule,
-                    });
-                }
-                return None;
-            }
-            None => {}
-        }
-        if left <= 512 {
-            return None;
-        }
-        at += 512;
-    }
-    None
-}
-
 /// So many words, bits and vectors that are 0.
 fn zeros<T: Copy>(alloc: Global, zero: T, n: u32) -> Result<Vec<T>, Memory>
     ensures { IfOk result (λ v. length v.items ≡ n) }
@@ -161,14 +120,32 @@ pub fn first_false(alloc: Global, r: &Rules, seed: u64, count: u64) -> Result<Op
     let mut words = zeros(alloc, 0u64, n)?;
     let mut lanes = zeros(alloc, u64x8::splat(0), n)?;
     let mut s = Scratch::new(alloc, &r.net)?;
-    let found = search_blocks(
-        r,
-        seed,
-        count,
-        bits.as_mut_slice(),
-        words.as_mut_slice(),
-        lanes.as_mut_slice(),
-        &mut s,
-    );
-    Ok(found)
+    let mut at = 0;
+    while at < count {
+        let left = count - at;
+        match search_block(
+            r,
+            seed.wrapping_add(at),
+            bits.as_mut_slice(),
+            words.as_mut_slice(),
+            lanes.as_mut_slice(),
+            &mut s,
+        ) {
+            Some(found) => {
+                if found.index < left {
+                    return Ok(Some(Found {
+                        index: at + found.index,
+                        rule: found.rule,
+                    }));
+                }
+                return Ok(None);
+            }
+            None => {}
+        }
+        if left <= 512 {
+            return Ok(None);
+        }
+        at += 512;
+    }
+    Ok(None)
 }

@@ -6,7 +6,7 @@ use Rattle.ctl_rules.specs.declared.rules.Rules.{Rules}
 use Rattle.lane_eval.specs.Search.{holds_drawn}
 use Rattle.lane_eval.proofs.Earliest.{at_index, block_some, block_past}
 use Rattle.lane_eval.proofs.Seeds.{shifted_seed}
-use Rattle.lane_eval.proofs.search.search_blocks.Goals as goal
+use Rattle.lane_eval.proofs.search.first_false.Goals as goal
 
 -- the rules at a block's valuations
 same : (r : Rules) (seed at i : ℕ) (x : Rule) → holds_drawn r ((seed + at) % 2 ^ 64) i x ≡ holds_drawn r seed (at + i) x
@@ -39,6 +39,9 @@ loop-at-preserved c =
     let at : ℕ = c.loop-at.at in
     record {
       within = omega arith;
+      bits = c.loop-at.invariant.bits;
+      words = c.loop-at.invariant.words;
+      lanes = c.loop-at.invariant.lanes;
       made = c.search_block.ensures.has_truth;
       earlier = λ i h.
           at_index (holds_drawn r c.args.seed) (holds_drawn r ((c.args.seed + at) % 2 ^ 64)) r.list at (same r c.args.seed at) c.loop-at.invariant.earlier
