@@ -3,7 +3,7 @@ use Rattle.std.proofs.Common.{rules, ◌≡◌, Bool, true, false, not, ◌||◌
 use Rattle.std.proofs.lemmas.List.{at_drop_all, drop_more}
 use Rattle.std.proofs.Math.Bool.{or-false, and-true, and_comm}
 use Rattle.hcl_tree.specs.declared.tree.CmpOp.{CmpOp}
-use Rattle.hcl_types.specs.declared.term.TermBranch.{TermBranch, fold_out-TermBranch, fold-roll-TermBranch}
+use Rattle.hcl_types.specs.declared.term.TermBranch.{TermBranch, fold_out-TermBranch}
 use Rattle.hcl_types.specs.declared.term.TermBranch as bs
 use Rattle.hcl_types.specs.Terms.{layer, pair}
 use Rattle.hcl_types.specs.declared.term.Term.{Term, Term-F, fold-roll-Term}

@@ -22,7 +22,7 @@ use Rattle.ctl_atoms.specs.declared.leaf.Leaf.TheVariants.{Number}
 use Rattle.ctl_atoms.specs.declared.leaf.Atom.{Atom}
 use Rattle.ctl_atoms.specs.Leaves.{open_atom, is_listed}
 use Rattle.ctl_atoms.specs.TermAtoms as plans
-use Rattle.ctl_atoms.specs.TermAtoms.{TermAtoms, term_atoms, branch_plan, atoms_of_all, member_atoms, branch_atoms, pair_atoms, once}
+use Rattle.ctl_atoms.specs.TermAtoms.{TermAtoms, term_atoms, branch_plan, atoms_of_all, member_atoms, branch_atoms, pair_atoms}
 use Rattle.ctl_atoms.proofs.Plans.{plan_Num, plan_Name, plan_Not, plan_And, plan_Or, plan_Cmp, plan_In, plan_Case, plan_branch}
 use Rattle.ctl_formula.specs.declared.controls.Entry.{Entry}
 use Rattle.ctl_formula.specs.Picks.{entry_truth, entry_word}

@@ -69,33 +69,6 @@ impl<'a> Scope<'a> {
     }
 }
 
-/// What is known of a name of the class, by the term that defines it and what is known of other names.
-fn entry_of(
-    alloc: Global,
-    b: &mut NetBuilder,
-    entries: &[Entry],
-    atoms: &[Atom],
-    first: u32,
-    class: Class,
-    t: &Term,
-) -> Result<Entry, Memory>
-    requires open { HasScope b.old entries.now atoms.now first }
-    requires truth { is_truth class ≡ true → IsTrue (translatable entries.now atoms.now t.now).truth }
-    requires word { is_truth class ≡ false → IsTrue (translatable entries.now atoms.now t.now).word }
-    ensures extends { ExtendsNet b.old b.new }
-    ensures within { IfOk result (EntryWithin (length b.new.gates)) }
-    ensures entry { IfOk result (IsEntryOf class (defined_leaves class (translatable entries.now atoms.now t.now).leaves)) }
-    ensures is { (w : List Bool) (α : Assignment) (cv : ℕ → Leaf) → EncodesSoFar b.old entries.now atoms.now first w α cv →
-        IfOk result (λ e. EntryEncodes (at b.new w) α e (value (leaf_meaning α) cv t.now)) }
-{
-    let scope = Scope {
-        entries,
-        atoms,
-        first,
-    };
-    scope.defined_entry(alloc, b, class, t)
-}
-
 /// Puts what is known of a name behind the others.
 fn push_entry(es: &mut Vec<Entry>, e: Entry) -> Result<(), Memory>
     ensures { OnOk result (es.new.items ≡ es.old.items ++ e ∷ []) }
@@ -129,86 +102,12 @@ fn given_entries(
     Ok(es)
 }
 
-/// The term of a defined row.
-fn term_of<'a>(d: &'a Design, rows: &[Row], id: usize) -> &'a Term
-    requires row { id < length rows.now }
-    requires defined { length (tables.defined (take id rows.now)) < length d.now.terms }
-    ensures { result.now ≡ row_term rows.now d.now.terms id }
-{
-    &d.terms.items()[definitions_before(rows, id)]
-}
-
 /// Writes what is known of a name.
 fn put_entry(es: &mut Vec<Entry>, id: usize, e: Entry)
     requires { id < length es.old.items }
     ensures { es.new.items ≡ slice_set es.old.items id e }
 {
     es[id] = e;
-}
-
-/// Makes the gates of a row that is defined, where those of each name in its term are made.
-fn put_row(
-    alloc: Global,
-    d: &Design,
-    rows: &[Row],
-    id: NameId,
-    listed: &[Atom],
-    first: u32,
-    b: &mut NetBuilder,
-    es: &mut Vec<Entry>,
-) -> Result<(), Memory>
-    requires row { id < length rows.now }
-    requires bound { IsBound rows.now d.now.terms }
-    requires atoms { AreAtoms rows.now d.now.terms listed.now }
-    requires vars { first + length listed.now ≤ b.old.vars }
-    requires leaves { (leaves : ℕ → List Leaf) × IsSolution (leaf_rule rows.now d.now.terms) leaves }
-    requires filling { (places : List Place) × IsPartialEncoding rows.now d.now.terms places listed.now first b.old es.old.items }
-    requires needs { (row : Row) → slice_get rows.now id ≡ Some row → tables.is_defined row.role ≡ true →
-        AllByRecursion (λ m. m < length rows.now → IsTrue (is_filled (slice_get es.old.items m))) (names (row_term rows.now d.now.terms id)) }
-    ensures extends { ExtendsNet b.old b.new }
-    ensures filling { (places : List Place) → IsPartialEncoding rows.now d.now.terms places listed.now first b.old es.old.items →
-        OnOk result (IsPartialEncoding rows.now d.now.terms places listed.now first b.new es.new.items) }
-    ensures filled { (row : Row) → slice_get rows.now id ≡ Some row → tables.is_defined row.role ≡ true → OnOk result (IsTrue (is_filled (slice_get es.new.items id))) }
-    ensures kept { (n : ℕ) → IsTrue (is_filled (slice_get es.old.items n)) → OnOk result (IsTrue (is_filled (slice_get es.new.items n))) }
-{
-    let row = &rows[id as usize];
-    if !is_defined(&row.role) {
-        return Ok(());
-    }
-    let term = term_of(d, rows, id as usize);
-    let e = entry_of(alloc, b, es.as_slice(), listed, first, row.class, term)?;
-    put_entry(es, id as usize, e);
-    Ok(())
-}
-
-/// The gates and picks of all names, where the atoms are the variables from `first` on.
-fn told_entries(
-    alloc: Global,
-    d: &Design,
-    t: &Table,
-    o: &Order,
-    places: &[Place],
-    listed: &[Atom],
-    first: u32,
-    b: &mut NetBuilder,
-) -> Result<Vec<Entry>, Memory>
-    requires sound { IsSound t.now.rows }
-    requires bound { IsBound t.now.rows d.now.terms }
-    requires ordered { IsOrderOf t.now.rows d.now.terms o.now.ids }
-    requires places { HavePlaces t.now.rows places.now b.old.vars }
-    requires atoms { AreAtoms t.now.rows d.now.terms listed.now }
-    requires vars { first + length listed.now ≤ b.old.vars }
-    ensures extends { ExtendsNet b.old b.new }
-    ensures encodes { IfOk result (λ es. IsEncoding t.now.rows d.now.terms places.now listed.now first b.new es.items) }
-{
-    let mut es = given_entries(alloc, b, t.rows.items(), places)?;
-    for id in o.ids.items() {
-        match put_row(alloc, d, t.rows.items(), *id, listed, first, b, &mut es) {
-            Ok(()) => {}
-            Err(e) => return Err(e),
-        }
-    }
-    Ok(es)
 }
 
 /// All entries as the control values of a design.
@@ -218,34 +117,113 @@ fn finished(es: Vec<Entry>) -> Controls
     Controls::of(Items::of(es))
 }
 
-/// The same as `translate`, where the atoms are known.
-fn controls(
-    alloc: Global,
-    d: &Design,
-    t: &Table,
-    o: &Order,
-    places: &[Place],
-    listed: &[Atom],
-    b: &mut NetBuilder,
-) -> Result<Controls, Memory>
-    requires sound { IsSound t.now.rows }
-    requires bound { IsBound t.now.rows d.now.terms }
-    requires ordered { IsOrderOf t.now.rows d.now.terms o.now.ids }
-    requires places { HavePlaces t.now.rows places.now b.old.vars }
-    requires atoms { AreAtoms t.now.rows d.now.terms listed.now }
-    requires vars { length listed.now ≤ b.old.vars }
-    ensures extends { ExtendsNet b.old b.new }
-    ensures inside { IfOk result (λ ctl. IsInside b.new ctl) }
-    ensures covers { IfOk result (λ ctl. Covers t.now.rows ctl) }
-    ensures apart { IfOk result (λ ctl. AreApart ctl) }
-    ensures encodes { (w : List Bool) (α : Assignment) (field : ℕ → ℕ) (cv : ℕ → Leaf) →
-        AtomsAre listed.now (b.old.vars - length listed.now) w α → Spells places.now w field → AreControls t.now.rows d.now.terms field α cv →
-        IfOk result (λ ctl. EncodesControls b.new ctl w α cv) }
-{
-    let vars = b.vars();
-    let first = vars - listed.len() as u32;
-    let es = told_entries(alloc, d, t, o, places, listed, first, b)?;
-    Ok(finished(es))
+/// The definitions of a design, and the atoms that they compare, which are variables from `first` on.
+#[derive(Drop)]
+struct Definitions<'a> {
+    rows: &'a [Row],
+    terms: &'a [Term],
+    atoms: &'a [Atom],
+    first: u32,
+}
+
+impl<'a> Definitions<'a> {
+    /// The term of a defined row.
+    fn term(&self, id: usize) -> &'a Term
+        requires row { id < length self.now.rows.now }
+        requires defined { length (tables.defined (take id self.now.rows.now)) < length self.now.terms.now }
+        ensures { result.now ≡ row_term self.now.rows.now self.now.terms.now id }
+    {
+        &self.terms[definitions_before(self.rows, id)]
+    }
+
+    /// Makes the gates of a row that is defined, where those of each name in its term are made.
+    fn put_row(
+        &self,
+        alloc: Global,
+        id: NameId,
+        b: &mut NetBuilder,
+        es: &mut Vec<Entry>,
+    ) -> Result<(), Memory>
+        requires row { id < length self.now.rows.now }
+        requires bound { IsBound self.now.rows.now self.now.terms.now }
+        requires atoms { AreAtoms self.now.rows.now self.now.terms.now self.now.atoms.now }
+        requires vars { self.now.first + length self.now.atoms.now ≤ b.old.vars }
+        requires leaves { (leaves : ℕ → List Leaf) × IsSolution (leaf_rule self.now.rows.now self.now.terms.now) leaves }
+        requires filling { (places : List Place) × IsPartialEncoding self.now.rows.now self.now.terms.now places self.now.atoms.now self.now.first b.old es.old.items }
+        requires needs { (row : Row) → slice_get self.now.rows.now id ≡ Some row → tables.is_defined row.role ≡ true →
+            AllByRecursion (λ m. m < length self.now.rows.now → IsTrue (is_filled (slice_get es.old.items m))) (names (row_term self.now.rows.now self.now.terms.now id)) }
+        ensures extends { ExtendsNet b.old b.new }
+        ensures filling { (places : List Place) → IsPartialEncoding self.now.rows.now self.now.terms.now places self.now.atoms.now self.now.first b.old es.old.items →
+            OnOk result (IsPartialEncoding self.now.rows.now self.now.terms.now places self.now.atoms.now self.now.first b.new es.new.items) }
+        ensures filled { (row : Row) → slice_get self.now.rows.now id ≡ Some row → tables.is_defined row.role ≡ true → OnOk result (IsTrue (is_filled (slice_get es.new.items id))) }
+        ensures kept { (n : ℕ) → IsTrue (is_filled (slice_get es.old.items n)) → OnOk result (IsTrue (is_filled (slice_get es.new.items n))) }
+    {
+        let row = &self.rows[id as usize];
+        if !is_defined(&row.role) {
+            return Ok(());
+        }
+        let scope = Scope {
+            entries: es.as_slice(),
+            atoms: self.atoms,
+            first: self.first,
+        };
+        let e = scope.defined_entry(alloc, b, row.class, self.term(id as usize))?;
+        put_entry(es, id as usize, e);
+        Ok(())
+    }
+
+    /// The gates and picks of all names, row by row along the order.
+    fn told_entries(
+        &self,
+        alloc: Global,
+        o: &Order,
+        places: &[Place],
+        b: &mut NetBuilder,
+    ) -> Result<Vec<Entry>, Memory>
+        requires sound { IsSound self.now.rows.now }
+        requires bound { IsBound self.now.rows.now self.now.terms.now }
+        requires ordered { IsOrderOf self.now.rows.now self.now.terms.now o.now.ids }
+        requires places { HavePlaces self.now.rows.now places.now b.old.vars }
+        requires atoms { AreAtoms self.now.rows.now self.now.terms.now self.now.atoms.now }
+        requires vars { self.now.first + length self.now.atoms.now ≤ b.old.vars }
+        ensures extends { ExtendsNet b.old b.new }
+        ensures encodes { IfOk result (λ es. IsEncoding self.now.rows.now self.now.terms.now places.now self.now.atoms.now self.now.first b.new es.items) }
+    {
+        let mut es = given_entries(alloc, b, self.rows, places)?;
+        for id in o.ids.items() {
+            match self.put_row(alloc, *id, b, &mut es) {
+                Ok(()) => {}
+                Err(e) => return Err(e),
+            }
+        }
+        Ok(es)
+    }
+
+    /// The same as `translate`, where the atoms are known.
+    fn controls(
+        &self,
+        alloc: Global,
+        o: &Order,
+        places: &[Place],
+        b: &mut NetBuilder,
+    ) -> Result<Controls, Memory>
+        requires sound { IsSound self.now.rows.now }
+        requires bound { IsBound self.now.rows.now self.now.terms.now }
+        requires ordered { IsOrderOf self.now.rows.now self.now.terms.now o.now.ids }
+        requires places { HavePlaces self.now.rows.now places.now b.old.vars }
+        requires atoms { AreAtoms self.now.rows.now self.now.terms.now self.now.atoms.now }
+        requires vars { self.now.first + length self.now.atoms.now ≤ b.old.vars }
+        ensures extends { ExtendsNet b.old b.new }
+        ensures inside { IfOk result (λ ctl. IsInside b.new ctl) }
+        ensures covers { IfOk result (λ ctl. Covers self.now.rows.now ctl) }
+        ensures apart { IfOk result (λ ctl. AreApart ctl) }
+        ensures encodes { (w : List Bool) (α : Assignment) (field : ℕ → ℕ) (cv : ℕ → Leaf) →
+            AtomsAre self.now.atoms.now self.now.first w α → Spells places.now w field → AreControls self.now.rows.now self.now.terms.now field α cv →
+            IfOk result (λ ctl. EncodesControls b.new ctl w α cv) }
+    {
+        let es = self.told_entries(alloc, o, places, b)?;
+        Ok(finished(es))
+    }
 }
 
 /// The gates of the control values of a design's signals. Code and Truth names of the state and the hardware are the bits of
@@ -280,9 +258,17 @@ pub fn translate(
 {
     match atoms(alloc, d, t, o) {
         Err(e) => Err(e),
-        Ok(listed) => match controls(alloc, d, t, o, places, listed.as_slice(), b) {
-            Ok(ctl) => Ok(ctl),
-            Err(_) => Err(CtlFault::Memory),
-        },
+        Ok(listed) => {
+            let definitions = Definitions {
+                rows: t.rows.items(),
+                terms: d.terms.items(),
+                atoms: listed.as_slice(),
+                first: b.vars() - listed.len() as u32,
+            };
+            match definitions.controls(alloc, o, places, b) {
+                Ok(ctl) => Ok(ctl),
+                Err(_) => Err(CtlFault::Memory),
+            }
+        }
     }
 }

@@ -2,7 +2,7 @@
 ghost use Rattle.std.specs.Prelude.{◌≡◌, ◌<◌, ◌≤◌, ◌+◌, false, if◌then◌else◌, length, IfOk, IsTrue};
 ghost use Rattle.nets.specs.Nets.{ExtendsNet, truth};
 ghost use Rattle.y86_base.specs.Stat.{stat_number};
-ghost use Rattle.y86_isa.specs.Blocks.{alu_function, destination_e, fetch_status, register_number};
+ghost use Rattle.y86_isa.specs.Blocks.{alu_function, fetch_status, register_number};
 ghost use Rattle.ctl_atoms.specs.declared.leaf.Leaf.{Leaf};
 ghost use Rattle.ctl_formula.specs.Picks.{IsInside, has_picks};
 ghost use Rattle.y86_base.specs.Words.{set};
@@ -70,7 +70,7 @@ pub fn word_leaf(column: MemoryColumn, val_a: NameId, val_p: NameId) -> Option<L
 }
 
 /// The register that a column names, by the fields rA and rB.
-fn expected_register(column: RegisterColumn, r_a: BitRange, r_b: BitRange) -> ExpectedLeaf
+pub fn expected_register(column: RegisterColumn, r_a: BitRange, r_b: BitRange) -> ExpectedLeaf
     ensures { result ≡ expected_register column r_a r_b }
 {
     match column {
@@ -98,42 +98,6 @@ pub fn register_is(
     ensures has_truth { IfOk result (λ g. IsControlGate b.new ctl.now g (λ w α cv. spec.is_number cv name (register_number column (spelt w r_a.first r_a.bits) (spelt w r_b.first r_b.bits)))) }
 {
     picks_leaf(b, ctl, name, expected_register(column, r_a, r_b))
-}
-
-/// The signal is the destination of valE: the register that a column names, or none where it is conditional and the
-/// condition doesn't hold.
-pub fn destination_is(
-    b: &mut NetBuilder,
-    ctl: &Controls,
-    name: NameId,
-    conditional: bool,
-    column: RegisterColumn,
-    r_a: BitRange,
-    r_b: BitRange,
-    cnd: BitRange,
-) -> Result<u64, Memory>
-    requires inside { IsInside b.old ctl.now }
-    requires known { IsTrue (has_picks ctl.now name) }
-    requires place_a { r_a.first + r_a.bits ≤ b.old.vars }
-    requires place_b { r_b.first + r_b.bits ≤ b.old.vars }
-    requires place_cnd { cnd.first + cnd.bits ≤ b.old.vars }
-    ensures extends { ExtendsNet b.old b.new }
-    ensures has_truth { IfOk result (λ g. IsControlGate b.new ctl.now g (λ w α cv.
-        spec.is_number cv name (destination_e conditional (set (spelt w cnd.first cnd.bits)) (register_number column (spelt w r_a.first r_a.bits) (spelt w r_b.first r_b.bits))))) }
-{
-    if conditional {
-        let fails = spells(b, cnd, 0)?;
-        picks_leaf_if(
-            b,
-            ctl,
-            name,
-            fails,
-            ExpectedLeaf::This(Leaf::Number(15)),
-            expected_register(column, r_a, r_b),
-        )
-    } else {
-        register_is(b, ctl, name, column, r_a, r_b)
-    }
 }
 
 /// The signal is the function of the ALU: the ifun where the row selects by it, else addition.
@@ -194,55 +158,60 @@ pub fn status_is(
     )
 }
 
-/// The signal picks the next PC of a column, if one follows, from the signals valP, valC and valM, where a bit tells whether
-/// the condition holds.
+/// What the next PC is taken from: the signals valP, valC and valM, and the bit that tells whether the condition holds.
+#[derive(Clone, Copy, Debug, PartialEq, Eq)]
+pub struct NextPcInputs {
+    pub val_p: NameId,
+    pub val_c: NameId,
+    pub val_m: NameId,
+    pub cnd: BitRange,
+}
+
+/// The signal picks the next PC of a column, if one follows.
 pub fn next_is(
     b: &mut NetBuilder,
     ctl: &Controls,
     name: NameId,
     column: NextPcColumn,
-    val_p: NameId,
-    val_c: NameId,
-    val_m: NameId,
-    cnd: BitRange,
+    inputs: NextPcInputs,
 ) -> Result<u64, Memory>
     requires inside { IsInside b.old ctl.now }
     requires known { IsTrue (has_picks ctl.now name) }
-    requires place { cnd.first + cnd.bits ≤ b.old.vars }
+    requires place { inputs.cnd.first + inputs.cnd.bits ≤ b.old.vars }
     ensures extends { ExtendsNet b.old b.new }
-    ensures has_truth { IfOk result (λ g. IsControlGate b.new ctl.now g (λ w α cv. spec.picks_some_leaf cv name (spec.next_leaf column val_p val_c val_m (set (spelt w cnd.first cnd.bits))))) }
+    ensures has_truth { IfOk result (λ g. IsControlGate b.new ctl.now g (λ w α cv.
+        spec.picks_some_leaf cv name (spec.next_leaf column inputs.val_p inputs.val_c inputs.val_m (set (spelt w inputs.cnd.first inputs.cnd.bits))))) }
 {
     match column {
         NextPcColumn::Itself => picks_some_leaf(b, ctl, name, None),
-        NextPcColumn::Fall => picks_some_leaf(b, ctl, name, Some(Leaf::Name(val_p))),
-        NextPcColumn::Branch => jump_is(b, ctl, name, val_p, val_c, cnd),
-        NextPcColumn::Target => picks_some_leaf(b, ctl, name, Some(Leaf::Name(val_c))),
-        NextPcColumn::Loaded => picks_some_leaf(b, ctl, name, Some(Leaf::Name(val_m))),
+        NextPcColumn::Fall => picks_some_leaf(b, ctl, name, Some(Leaf::Name(inputs.val_p))),
+        NextPcColumn::Branch => jump_is(b, ctl, name, inputs),
+        NextPcColumn::Target => picks_some_leaf(b, ctl, name, Some(Leaf::Name(inputs.val_c))),
+        NextPcColumn::Loaded => picks_some_leaf(b, ctl, name, Some(Leaf::Name(inputs.val_m))),
     }
 }
 
-/// The signal picks valC where a bit is 1, valP where it is 0.
+/// The signal picks valC where the condition holds, else valP.
 fn jump_is(
     b: &mut NetBuilder,
     ctl: &Controls,
     name: NameId,
-    val_p: NameId,
-    val_c: NameId,
-    cnd: BitRange,
+    inputs: NextPcInputs,
 ) -> Result<u64, Memory>
     requires inside { IsInside b.old ctl.now }
     requires known { IsTrue (has_picks ctl.now name) }
-    requires place { cnd.first + cnd.bits ≤ b.old.vars }
+    requires place { inputs.cnd.first + inputs.cnd.bits ≤ b.old.vars }
     ensures extends { ExtendsNet b.old b.new }
-    ensures has_truth { IfOk result (λ g. IsControlGate b.new ctl.now g (λ w α cv. spec.picks_leaf cv name (if set (spelt w cnd.first cnd.bits) then Leaf.Name val_c else Leaf.Name val_p))) }
+    ensures has_truth { IfOk result (λ g. IsControlGate b.new ctl.now g (λ w α cv.
+        spec.picks_leaf cv name (if set (spelt w inputs.cnd.first inputs.cnd.bits) then Leaf.Name inputs.val_c else Leaf.Name inputs.val_p))) }
 {
-    let fails = spells(b, cnd, 0)?;
+    let fails = spells(b, inputs.cnd, 0)?;
     picks_leaf_if(
         b,
         ctl,
         name,
         fails,
-        ExpectedLeaf::This(Leaf::Name(val_p)),
-        ExpectedLeaf::This(Leaf::Name(val_c)),
+        ExpectedLeaf::This(Leaf::Name(inputs.val_p)),
+        ExpectedLeaf::This(Leaf::Name(inputs.val_c)),
     )
 }

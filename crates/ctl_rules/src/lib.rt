@@ -11,8 +11,8 @@ mod rules;
 
 pub use by_row::{RowGates, by_icode};
 pub use columns::{
-    address_leaf, destination_is, function_is, next_is, operand_leaf_a, operand_leaf_b,
-    register_is, status_is, word_leaf,
+    NextPcInputs, address_leaf, expected_register, function_is, next_is, operand_leaf_a,
+    operand_leaf_b, register_is, status_is, word_leaf,
 };
 pub use expected_leaf::{ExpectedLeaf, is_truth, picks_leaf, picks_leaf_if, picks_some_leaf};
 pub use rules::{Rule, Rules};

@@ -22,7 +22,7 @@ use crate::row::{P_VAL_C, P_VAL_M, P_VAL_P, PLUS};
 use crate::table::plus_table;
 use ctl_atoms::CtlFault;
 use ctl_formula::{Controls, Place};
-use ctl_rules::{RowGates, Rules, by_icode, next_is};
+use ctl_rules::{NextPcInputs, RowGates, Rules, by_icode, next_is};
 use hcl_types::{Design, Order, Table};
 use net_fields::below;
 use nets::NetBuilder;
@@ -50,7 +50,13 @@ impl RowGates for NextPc {
         _icode: u64,
         row: Row,
     ) -> Result<u64, Memory> {
-        next_is(b, ctl, PLUS.pc, row.next, P_VAL_P, P_VAL_C, P_VAL_M, P_CND)
+        let inputs = NextPcInputs {
+            val_p: P_VAL_P,
+            val_c: P_VAL_C,
+            val_m: P_VAL_M,
+            cnd: P_CND,
+        };
+        next_is(b, ctl, PLUS.pc, row.next, inputs)
     }
 }
 

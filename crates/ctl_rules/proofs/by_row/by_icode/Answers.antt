@@ -1,5 +1,4 @@
-use Rattle.std.proofs.Common.{◌≡◌, ℕ, ◌+◌, ◌<◌, ◌==◌, ◌||◌, ◌&&◌, not, true, Bool, List, length, refl, sym, ◌∙◌, ap, subst, arith}
-use Rattle.nets.specs.Nets.{ExtendsNet}
+use Rattle.std.proofs.Common.{◌≡◌, ◌==◌, ◌||◌, ◌&&◌, not, refl, sym, ◌∙◌, ap, subst, arith}
 use Rattle.nets.proofs.Truths.{begins_more}
 use Rattle.ctl_formula.proofs.Inside.{inside_more}
 use Rattle.y86_isa.specs.Table.{row}

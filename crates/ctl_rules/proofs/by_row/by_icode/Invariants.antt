@@ -1,4 +1,3 @@
-use Rattle.std.proofs.Common.{◌≡◌, ◌<◌, length, List, Bool}
 use Rattle.nets.specs.Nets.{ExtendsNet}
 use Rattle.y86_isa.specs.Table.{row}
 use Rattle.net_fields.specs.Spelling.{spelt}

@@ -1,5 +1,5 @@
-use Rattle.std.proofs.Common.{◌≡◌, ◌<◌, ◌||◌, ◌&&◌, length, drop, List, Bool, ap, sym, ◌∙◌, arith}
-use Rattle.nets.specs.Nets.{truth, ExtendsNet}
+use Rattle.std.proofs.Common.{◌||◌, ap, sym, ◌∙◌}
+use Rattle.nets.specs.Nets.{truth}
 use Rattle.nets.proofs.Truths.{begins_more}
 use Rattle.ctl_atoms.specs.Leaves.{leaf_eq}
 use Rattle.ctl_rules.specs.ControlGates.{leaf_expected}

@@ -1,10 +1,4 @@
-use Rattle.std.proofs.Common.{◌≡◌, sym, ◌∙◌, subst, List, Bool, length}
 use Rattle.std.proofs.lemmas.Result.{IfOk-weaker}
-use Rattle.nets.specs.Nets.{truth, Gates, IsGate, ExtendsNet}
-use Rattle.ctl_formula.specs.Picks.{some_pick, Within, IsInside, picks_of}
-use Rattle.ctl_formula.specs.declared.controls.Pick.{Pick}
-use Rattle.ctl_atoms.specs.Leaves.{leaf_eq}
-use Rattle.ctl_rules.specs.ControlGates.{leaf_expected}
 use Rattle.ctl_rules.proofs.Kept.{asked_picks}
 use Rattle.ctl_rules.proofs.expected_leaf.picks_leaf.Goals as goal
 

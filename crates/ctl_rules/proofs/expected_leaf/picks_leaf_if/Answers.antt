@@ -1,4 +1,4 @@
-use Rattle.std.proofs.Common.{◌≡◌, if◌then◌else◌, ap, sym, ◌∙◌, Bool, List}
+use Rattle.std.proofs.Common.{if◌then◌else◌, ap, ◌∙◌}
 use Rattle.std.proofs.lemmas.Result.{IfOk-weaker}
 use Rattle.nets.specs.Nets.{truth}
 use Rattle.nets.proofs.Truths.{begins_more}
