@@ -11,7 +11,7 @@ use crate::cycle::record_of;
 use crate::path::Sequential;
 use crate::values::{constants_in, solve_in};
 use dp_machines::{ClockedMachine, is_aok_stat};
-use dp_signals::constant_words;
+use dp_signals::{OrderedDesign, constant_words};
 use hcl_types::{Design, Order, SignalEval};
 use std::marker::Model;
 use y86_base::{Image, Variant};
@@ -95,10 +95,13 @@ impl<S: Sequential, C: SignalEval, const N: usize> SequentialMachine<S, C, N> {
         if !is_aok_stat(self.state.view(0).stat) {
             return None;
         }
+        let ordered = OrderedDesign {
+            design: &self.design,
+            order: &self.order,
+        };
         solve_in(
             self.variant,
-            &self.design,
-            &self.order,
+            ordered,
             &self.state,
             &mut self.evaluator,
             self.fits,
@@ -116,10 +119,13 @@ impl<S: Sequential, C: SignalEval, const N: usize> SequentialMachine<S, C, N> {
         ensures pc { PcIs S.path self.old.variant self.old.terms self.old.state result }
         ensures same { self.new ≡ self.old }
     {
+        let ordered = OrderedDesign {
+            design: &self.design,
+            order: &self.order,
+        };
         solve_in(
             self.variant,
-            &self.design,
-            &self.order,
+            ordered,
             &self.state,
             &mut self.evaluator,
             self.fits,

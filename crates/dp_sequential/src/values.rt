@@ -12,10 +12,10 @@ ghost use Rattle.dp_sequential.specs.Path.{Solves, machine_at};
 
 use crate::path::Sequential;
 use dp_signals::{
-    Hardware, SignalRows, at, cnd, dmem_error, fetch_ra, fetch_rb, fill, put_constant_words,
-    reg_val, val_c, val_e, val_m, val_p,
+    Hardware, OrderedDesign, SignalRows, at, cnd, dmem_error, fetch_ra, fetch_rb, fill,
+    put_constant_words, reg_val, val_c, val_e, val_m, val_p,
 };
-use hcl_types::{Design, NameId, Order, SignalEval};
+use hcl_types::{NameId, SignalEval};
 use std::marker::Model;
 use y86_base::Variant;
 use y86_isa::{Reading, read};
@@ -180,34 +180,25 @@ impl<'a, S: Sequential> Hardware for Units<'a, S> {
 #[inline(always)]
 pub fn solve_in<S: Sequential, C: SignalEval>(
     variant: Variant,
-    design: &Design,
-    order: &Order,
+    ordered: OrderedDesign<'_>,
     s: &S,
     c: &mut C,
     fits: bool,
     values: &mut [u64],
 )
-    requires evaluates { C.evaluates c.old design.now.terms }
+    requires evaluates { C.evaluates c.old ordered.design.now.terms }
     requires fits { IsTrue fits → Starts (C.assumes c.old) constants }
-    requires bound { IsBound S.path.table design.now.terms }
-    requires ordered { IsOrderOf S.path.table design.now.terms order.now.ids }
+    requires bound { IsBound S.path.table ordered.design.now.terms }
+    requires ordered { IsOrderOf S.path.table ordered.design.now.terms ordered.order.now.ids }
     requires constants { Starts constants values.old }
     requires size { length values.old ≡ S.path.count }
-    ensures solves { Solves S.path variant design.now.terms s.now (at values.new) }
+    ensures solves { Solves S.path variant ordered.design.now.terms s.now (at values.new) }
     ensures constants { Starts constants values.new }
     ensures size { length values.new ≡ S.path.count }
-    ensures kept { C.evaluates c.new design.now.terms }
+    ensures kept { C.evaluates c.new ordered.design.now.terms }
     ensures same { C.assumes c.new ≡ C.assumes c.old }
 {
     s.put_given(values);
     let mut hardware = Units::new(variant, s);
-    fill(
-        &mut hardware,
-        design,
-        c,
-        fits,
-        S::FIRST,
-        order.ids.items(),
-        values,
-    );
+    fill(&mut hardware, ordered, c, fits, S::FIRST, values);
 }

@@ -9,7 +9,7 @@ ghost use Rattle.pipe_fields.specs.Allowed as spec;
 ghost use Rattle.pipe_fields.specs.Layout.{bit_count, fields_of};
 ghost use Rattle.pipe_motion.specs.declared.settings.Settings.{Settings};
 ghost use Rattle.ctl_rules.specs.ControlGates.{IsControlGate};
-ghost use Rattle.pipe_obligations.specs.FileSettings.{alu_passes_target, picks_target};
+ghost use Rattle.pipe_obligations.specs.FileSettings.{alu_passes_target};
 ghost use Rattle.pipe_stage_gates.specs.Signals.{IsReady};
 
 use ctl_atoms::{Atom, Leaf};
@@ -24,37 +24,9 @@ use pipe_motion_gates::prediction_premise;
 use pipe_stage_gates::target_gate;
 use y86_base::{Memory, Variant};
 
-/// Jumps of this ifun that go back or not are predicted as taken: where one is fetched, f_predPC is f_valC. `fits` is the gate of
-/// the valuations that are allowed.
+/// Where a jump of one of the seven ifuns that goes back or not is fetched, it is predicted as taken: f_predPC is f_valC. `fits` is
+/// the gate of the valuations that are allowed.
 #[tactic(auto, using(nets::proofs::Truths::begins_more, ctl_formula::proofs::Inside::inside_more, pipe_gates::proofs::Known::known_f_predPC))]
-fn predicts(
-    b: &mut NetBuilder,
-    ctl: &Controls,
-    v: Variant,
-    atoms: &[Atom],
-    fits: u64,
-    ifun: u64,
-    back: bool,
-) -> Result<u64, Memory>
-    requires inside { IsInside b.old ctl.now }
-    requires covers { Covers pipe_rows ctl.now }
-    requires fits { IsGate b.old fits (λ w. spec.allowed v (fields_of w)) }
-    requires vars { bit_count + length atoms.now ≤ b.old.vars }
-    requires few { length atoms.now ≤ 64 }
-    ensures extends { ExtendsNet b.old b.new }
-    ensures has_truth { IfOk result (λ g. IsTruthGate b.new ctl.now atoms.now g (picks_target v atoms.now ifun back)) }
-{
-    let taken = picks_leaf(
-        b,
-        ctl,
-        signal::F_PRED_PC,
-        ExpectedLeaf::This(Leaf::Name(signal::F_VAL_C)),
-    )?;
-    let asked = prediction_premise(b, v, atoms, fits, ifun, back)?;
-    implies(b, asked, taken)
-}
-
-/// The gates of the seven ifuns.
 pub(crate) fn predictions(
     b: &mut NetBuilder,
     ctl: &Controls,
@@ -71,9 +43,16 @@ pub(crate) fn predictions(
     ensures extends { ExtendsNet b.old b.new }
     ensures has_truth { IfOk result (λ gates. ArePredictionGates v b.new ctl.now atoms.now back gates 7) }
 {
+    let taken = picks_leaf(
+        b,
+        ctl,
+        signal::F_PRED_PC,
+        ExpectedLeaf::This(Leaf::Name(signal::F_VAL_C)),
+    )?;
     let mut gates = [0; 7];
     for i in 0..7 {
-        let gate = predicts(b, ctl, v, atoms, fits, i as u64, back)?;
+        let asked = prediction_premise(b, v, atoms, fits, i as u64, back)?;
+        let gate = implies(b, asked, taken)?;
         gates[i] = gate;
     }
     Ok(gates)

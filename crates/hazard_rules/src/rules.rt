@@ -7,7 +7,7 @@ ghost use Rattle.pipe_fields.specs.Layout.{bit_count, fields_of};
 ghost use Rattle.pipe_motion.specs.Gates.{IsFlow};
 ghost use Rattle.ctl_rules.specs.declared.rules.Rule.{Rule};
 ghost use Rattle.hazard_rules.specs.Parts.{AreRuleGates};
-ghost use Rattle.pipe_gates.specs.GateTruths.{IsAtomGate, IsTruthGate};
+ghost use Rattle.pipe_gates.specs.GateTruths.{IsAtomGate};
 ghost use Rattle.pipe_motion_gates.specs.Legality as built;
 ghost use Rattle.pipe_obligations.specs.Rules as spec;
 ghost use Rattle.pipe_obligations.specs.StageFlows.{flow_of};
@@ -63,33 +63,7 @@ fn one_of(first: bool, x: u64, y: u64) -> u64
     if first { x } else { y }
 }
 
-/// The obligation of a number: its demand, where it is asked.
-fn rule_gate(
-    b: &mut NetBuilder,
-    ctl: &Controls,
-    v: Variant,
-    s: &Settings,
-    atoms: &[Atom],
-    p: &Premises,
-    number: u32,
-) -> Result<u64, Memory>
-    requires inside { IsInside b.old ctl.now }
-    requires covers { Covers pipe_rows ctl.now }
-    requires vars { bit_count + length atoms.now ≤ b.old.vars }
-    requires flow { IsFlow b.old p.now.flow (λ w. flow_of v s.now (fields_of w)) }
-    requires always_asked { IsAtomGate b.old atoms.now p.now.always (λ w α. built.premise_when v s.now atoms.now true (fields_of w) α) }
-    requires going_asked { IsAtomGate b.old atoms.now p.now.going (λ w α. built.premise_when v s.now atoms.now false (fields_of w) α) }
-    requires from { 1 ≤ number }
-    requires to { number ≤ spec.rule_count }
-    ensures extends { ExtendsNet b.old b.new }
-    ensures has_truth { IfOk result (λ g. IsTruthGate b.new ctl.now atoms.now g (spec.obligation v s.now atoms.now number)) }
-{
-    let demand = demand_gate(b, ctl, v, s, &p.flow, number)?;
-    let premise = one_of(is_always_demanded(number as u64), p.always, p.going);
-    implies(b, premise, demand)
-}
-
-/// The 27 obligations in their order.
+/// The 27 obligations in their order: of each number its demand, where it is asked.
 pub(crate) fn rules_told(
     alloc: Global,
     b: &mut NetBuilder,
@@ -110,7 +84,9 @@ pub(crate) fn rules_told(
     let mut list = Vec::new(alloc);
     for i in 0..RULE_COUNT {
         let number = i + 1;
-        let gate = rule_gate(b, ctl, v, s, atoms, &p, number)?;
+        let demand = demand_gate(b, ctl, v, s, &p.flow, number)?;
+        let premise = one_of(is_always_demanded(number as u64), p.always, p.going);
+        let gate = implies(b, premise, demand)?;
         match list.push(Rule { number, gate }) {
             Ok(()) => {}
             Err(_) => return Err(Memory),

@@ -1,5 +1,5 @@
 -- The obligations by their numbers, with their premises.
-use Rattle.std.specs.Prelude.{ℕ, ◌-◌, Bool, true, not, ◌&&◌, ◌||◌, ◌==◌, List, [], ◌∷◌, get_or}
+use Rattle.std.specs.Prelude.{ℕ, Bool, true, not, ◌&&◌, ◌||◌, ◌==◌, List, [], ◌∷◌, get_or}
 use Rattle.y86_base.specs.declared.parts.Variant.{Variant}
 use Rattle.ctl_atoms.specs.declared.leaf.Leaf.{Leaf}
 use Rattle.ctl_atoms.specs.declared.leaf.Atom.{Atom}
@@ -29,7 +29,7 @@ demands v s c y mv α cv =
     o25 v s c y mv α cv ∷ o26 v s c y mv α cv ∷ o27 v s c y mv α cv ∷ []
 
 abbrev pub demand : ℕ → Variant → Settings → Fields → Flow → RegisterControls → Assignment → (ℕ → Leaf) → Bool
-demand i v s c y mv α cv = get_or (demands v s c y mv α cv) (i - 1) true
+demand i v s c y mv α cv = get_or (true ∷ demands v s c y mv α cv) i true
 
 unfoldable pub demand_at : Variant → Settings → ℕ → Fields → Assignment → (ℕ → Leaf) → Bool
 demand_at v s i c α cv = demand i v s c (flow_of v s c) (register_controls_of α cv) α cv

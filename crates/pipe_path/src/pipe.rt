@@ -18,8 +18,8 @@ ghost use Rattle.pipe_path.specs.Pipe as spec;
 
 use dp_machines::{is_aok_stat, record_count};
 use dp_signals::{
-    CycleEnd, PipeState, PipeValues, advance, advance_loading, all_load, constant_words,
-    end_of_cycle, ending, given, put_given, retires, solve_pipe_in,
+    CycleEnd, OrderedDesign, PipeState, PipeValues, advance, advance_loading, all_load,
+    constant_words, end_of_cycle, ending, given, put_given, retires, solve_pipe_in,
 };
 use hcl_types::{Design, Order, SignalEval};
 use std::marker::Model;
@@ -174,10 +174,13 @@ impl<C: SignalEval> Pipe<C> {
         if !is_aok_stat(self.end) {
             return Cycled::Ended;
         }
+        let ordered = OrderedDesign {
+            design: &self.design,
+            order: &self.order,
+        };
         solve_pipe_in(
             self.variant,
-            &self.design,
-            &self.order,
+            ordered,
             &self.state,
             &mut self.evaluator,
             self.fits,
@@ -202,10 +205,13 @@ impl<C: SignalEval> Pipe<C> {
         if !is_aok_stat(self.end) {
             return 0;
         }
+        let ordered = OrderedDesign {
+            design: &self.design,
+            order: &self.order,
+        };
         solve_pipe_in(
             self.variant,
-            &self.design,
-            &self.order,
+            ordered,
             &self.state,
             &mut self.evaluator,
             self.fits,

@@ -1,5 +1,5 @@
 -- An obligation is met exactly where each of its requirements is.
-use Rattle.std.proofs.Common.{◌≡◌, ℕ, ◌≤◌, ◌-◌, Bool, true, false, ◌&&◌, ◌||◌, [], ◌∷◌, refl, ap, arith}
+use Rattle.std.proofs.Common.{◌≡◌, ℕ, ◌≤◌, Bool, true, false, ◌&&◌, ◌||◌, [], ◌∷◌, refl, ap, arith}
 use Rattle.y86_base.specs.declared.parts.Variant.{Variant}
 use Rattle.y86_base.specs.Words.{set}
 use Rattle.y86_isa.specs.Table.{row, no_register}
@@ -105,4 +105,8 @@ module _ (v : Variant) (s : Settings) (c : Fields) (y : Flow) (mv : RegisterCont
 
   pub by_requirements : (i : ℕ) → 1 ≤ i → i ≤ 22 → IsByRequirements v s c y mv α cv i
   unfolding requirements
-  by_requirements i ge le = says_within each_said (i - 1) (omega (arith, ge, le))
+  by_requirements i ge le = says_within (nothing ▹ each_said) i (omega (arith, le))
+    where
+      -- no obligation has number 0
+      nothing : true ≡ each (is_met α cv) []
+      nothing = refl

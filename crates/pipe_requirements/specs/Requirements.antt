@@ -1,6 +1,6 @@
 -- What the obligations 1 to 22 require at a valuation, signal by signal.
 -- An obligation is met exactly where each requirement is (`IsByRequirements`).
-use Rattle.std.specs.Prelude.{ℕ, ◌≡◌, ◌-◌, Bool, false, ◌&&◌, ◌||◌, List, [], ◌∷◌, ◌++◌, get_or, if◌then◌else◌}
+use Rattle.std.specs.Prelude.{ℕ, ◌≡◌, Bool, false, ◌&&◌, ◌||◌, List, [], ◌∷◌, ◌++◌, get_or, if◌then◌else◌}
 use Rattle.y86_base.specs.declared.parts.Variant.{Variant}
 use Rattle.y86_base.specs.Stat.{stat_number}
 use Rattle.y86_base.specs.Words.{set}
@@ -130,7 +130,7 @@ module _ (v : Variant) (s : Settings) (c : Fields) (y : Flow) (mv : RegisterCont
       required17 ∷ required18 ∷ required19 ∷ required20 ∷ required21 ∷ required22 ∷ []
 
   unfoldable pub requirements : ℕ → List Requirement
-  requirements i = get_or required (i - 1) []
+  requirements i = get_or ([] ∷ required) i []
 
 -- obligation i is met exactly where each of its requirements is
 abbrev pub IsByRequirements : Variant → Settings → Fields → Flow → RegisterControls → Assignment → (ℕ → Leaf) → ℕ → Type 0

@@ -19,8 +19,8 @@ use crate::processor::ProcessorDesign;
 use crate::stage_contents::{StageContents, fetched, first_watch, moved_watch, requested_updates};
 use dp_machines::{is_aok_stat, record_count};
 use dp_signals::{
-    CycleEnd, PipeState, PipeValues, advance, constant_words, end_of_cycle, ending, given, retires,
-    solve_pipe_in,
+    CycleEnd, OrderedDesign, PipeState, PipeValues, advance, constant_words, end_of_cycle, ending,
+    given, retires, solve_pipe_in,
 };
 use hcl_types::SignalEval;
 use std::alloc::Global;
@@ -201,10 +201,13 @@ fn cycle<C: SignalEval>(
     ensures few_retired { OnOk result (s.new.retired ≤ s.old.retired + 1) }
 {
     let mut values = given(state_of(s));
+    let ordered = OrderedDesign {
+        design: processor.design,
+        order: processor.order,
+    };
     solve_pipe_in(
         processor.variant,
-        processor.design,
-        processor.order,
+        ordered,
         state_of(s),
         evaluator,
         fits,

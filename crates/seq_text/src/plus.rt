@@ -16,7 +16,7 @@ use crate::shown::{Observer, finished, put_number};
 use crate::signals::{Sources, plus_sources, signals_at};
 use dp_machines::is_aok_stat;
 use dp_sequential::{Sequential, constants_in, solve_in};
-use dp_signals::{at, constant_words};
+use dp_signals::{OrderedDesign, at, constant_words};
 use hcl_types::SignalEval;
 use pipe_stage_text::{CycleRange, ObservedRun, ProcessorDesign, WatchRequest, is_within};
 use seq_plus::row::PLUS;
@@ -81,10 +81,13 @@ fn cycle<C: SignalEval>(
         × (s.new.text.items ≡ s.old.text.items ++ text.shown window.now number lines)) }
 {
     let mut values: [u64; PLUS_ROWS] = constants_in();
+    let ordered = OrderedDesign {
+        design: processor.design,
+        order: processor.order,
+    };
     solve_in(
         processor.variant,
-        processor.design,
-        processor.order,
+        ordered,
         &s.state,
         evaluator,
         fits,

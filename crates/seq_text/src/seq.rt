@@ -16,7 +16,7 @@ use crate::shown::{Observer, finished, put_number};
 use crate::signals::{Sources, seq_sources, signals_at};
 use dp_machines::is_aok_stat;
 use dp_sequential::{Sequential, constants_in, solve_in};
-use dp_signals::{SEQ, SEQ_ROWS, SeqState, at, constant_words, seq_row};
+use dp_signals::{OrderedDesign, SEQ, SEQ_ROWS, SeqState, at, constant_words, seq_row};
 use hcl_types::SignalEval;
 use pipe_stage_text::{CycleRange, ObservedRun, ProcessorDesign, WatchRequest, is_within};
 use std::alloc::Global;
@@ -79,10 +79,13 @@ fn cycle<C: SignalEval>(
         × (s.new.text.items ≡ s.old.text.items ++ text.shown window.now number lines)) }
 {
     let mut values: [u64; SEQ_ROWS] = constants_in();
+    let ordered = OrderedDesign {
+        design: processor.design,
+        order: processor.order,
+    };
     solve_in(
         processor.variant,
-        processor.design,
-        processor.order,
+        ordered,
         &s.state,
         evaluator,
         fits,

@@ -2,7 +2,7 @@
 ghost use Rattle.std.specs.Prelude.{◌≡◌};
 ghost use Rattle.dp_signals.specs.PipeTable.{pipe_rows};
 
-use dp_signals::{PipeState, constant_words, law_of_tables, pipe_table, solve_pipe};
+use dp_signals::{OrderedDesign, PipeState, constant_words, law_of_tables, pipe_table, solve_pipe};
 use hcl_compile::compile;
 use hcl_order::order;
 use hcl_read::read;
@@ -104,15 +104,13 @@ fn values(
     state.w.val_e = x;
     state.w.val_m = y;
     state.m.cnd = cnd;
-    let walked = solve_pipe(
-        Variant::Base,
-        &design,
-        &ids,
-        &state,
-        &mut Plain::new(&design),
-    );
+    let ordered = OrderedDesign {
+        design: &design,
+        order: &ids,
+    };
+    let walked = solve_pipe(Variant::Base, ordered, &state, &mut Plain::new(&design));
     let mut compiled = compile(rt.alloc(), &design, &ids, &constant_words())?;
-    let run = solve_pipe(Variant::Base, &design, &ids, &state, &mut compiled);
+    let run = solve_pipe(Variant::Base, ordered, &state, &mut compiled);
     Ok((walked[114], run[114]))
 }
 

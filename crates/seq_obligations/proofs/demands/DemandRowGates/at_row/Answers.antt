@@ -9,7 +9,7 @@ use Rattle.dp_signals.specs.declared.sequential_rows.SignalRows.{SignalRows}
 use Rattle.seq_obligations.specs.Fields.{Fields}
 use Rattle.seq_obligations.specs.Obligations.{shared_demand, shared_demands}
 use Rattle.seq_obligations.specs.Signals.{fields_at}
-use Rattle.seq_obligations.proofs.demands.demand.Goals as goal
+use Rattle.seq_obligations.proofs.demands.DemandRowGates.at_row.Goals as goal
 
 -- what is no rule's number asks nothing
 asked_nothing : (s : SignalRows) (r : Row) (x : Fields) (α : Assignment) (cv : ℕ → Leaf) (n : ℕ) → (1 ≤ n → 16 ≤ n) → shared_demand s n r x α cv ≡ true
@@ -20,5 +20,5 @@ asked_nothing s r x α cv (suc n) h =
 
 pub returns-in_default-clause-has_truth : goal.returns-in_default-clause-has_truth
 returns-in_default-clause-has_truth c = IfOk-weaker c.constant.result _ _
-    (λ _ made. asked_as (asked_gate made) (λ w α cv. sym (asked_nothing c.args.s.now c.args.row.now (fields_at c.args.l.now w c.args.icode) α cv c.args.number (λ ge. omega (arith, c.in_default, ge)))))
+    (λ _ made. asked_as (asked_gate made) (λ w α cv. sym (asked_nothing c.args.self.now.signals c.args.row (fields_at c.args.self.now.line w c.args.icode) α cv c.args.self.now.number (λ ge. omega (arith, c.in_default, ge)))))
     c.constant.ensures.has_truth
