@@ -11,7 +11,7 @@ use crate::moves::{of_youngest, path, youngest_stops};
 use ctl_atoms::{Leaf, same_leaf};
 use dp_signals::pipe_row as name;
 use hcl_types::NameId;
-use pipe_requirements::{Now, StageFlowNow, is_jump, is_missed, leaf_at, set, stops_by};
+use pipe_requirements::{Now, StageFlowNow, is_jump, leaf_at, other_way, set, stops_by};
 use y86_isa::{next_is_val_m, row};
 
 /// The signal picks a name.
@@ -91,6 +91,6 @@ pub fn fetched(n: &Now<'_>) -> StageFlowNow
         wrong: false,
         stops: stops_by(stat, n.l.f.stops),
         ret: next_is_val_m(row(n.v, icode).next),
-        missed: is_missed(n.v, n.s, stat, icode, ifun, n.l.f.taken, n.l.f.back),
+        missed: is_jump(n.v, stat, icode) && other_way(n.s, ifun, n.l.f.taken, n.l.f.back),
     }
 }

@@ -1,5 +1,6 @@
--- Where an obligation is false, one of its requirements isn't met. The computed control values are those of PIPE.
-use Rattle.std.proofs.Common.{◌≡◌, ℕ, ◌≤◌, Bool, true, false, not, ◌&&◌, ◌||◌, List, [], ◌∷◌, map, refl, sym, ap, ◌∙◌, subst}
+-- Where an obligation is false, one of its requirements isn't met; an obligation on motion has none. The computed control values are those of PIPE.
+use Rattle.std.proofs.Common.{◌≡◌, ℕ, ◌-◌, ◌<◌, ◌≤◌, Bool, true, false, not, ◌&&◌, ◌||◌, List, [], ◌∷◌, map, refl, sym, ap, ◌∙◌, subst, arith}
+use Rattle.std.proofs.lemmas.List.{get_or_past}
 use Rattle.y86_base.specs.declared.parts.Variant.{Variant}
 use Rattle.hcl_types.specs.declared.term.Term.{Term}
 use Rattle.hcl_types.specs.Tables.{IsOrderOf}
@@ -15,8 +16,9 @@ use Rattle.control_values.specs.Given.{assigned, field_at}
 use Rattle.control_values.proofs.AtomsGiven.{given_atoms}
 use Rattle.dp_signals.specs.PipeTable.{pipe_rows}
 use Rattle.net_fields.specs.FieldSpecs.{number_among}
-use Rattle.pipe_fields.specs.Layout.{bit_count, fields_of, number_of, field_specs}
+use Rattle.pipe_fields.specs.Layout.{Fields, bit_count, fields_of, number_of, field_specs}
 use Rattle.pipe_fields.proofs.Told.{numbers_of}
+use Rattle.pipe_motion.specs.Flow.{Flow, RegisterControls}
 use Rattle.pipe_motion.specs.declared.settings.Settings.{Settings}
 use Rattle.pipe_obligations.specs.Obligations.{register_controls_of}
 use Rattle.pipe_obligations.specs.Rules.{demand, demand_at, is_demanded, obligation}
@@ -25,8 +27,13 @@ use Rattle.pipe_obligations.specs.StageFlows.{flow_of}
 use Rattle.dp_signals.specs.PipeNames as signal
 use Rattle.findings.proofs.EachMet.{demand_false, findings_right}
 use Rattle.findings.specs.Findings.{are_right, finding}
-use Rattle.pipe_requirements.specs.Requirements.{requirements}
+use Rattle.pipe_requirements.specs.Requirements.{required, requirements}
 use Rattle.pipe_requirements.proofs.ByRequirements.{by_requirements}
+
+-- an obligation from 23 on requires nothing of a signal
+pub none_behind : (v : Variant) (s : Settings) (c : Fields) (y : Flow) (mv : RegisterControls) (cv : ℕ → Leaf) (i : ℕ) → 22 < i → [] ≡ requirements v s c y mv cv i
+unfolding requirements
+none_behind v s c y mv cv i gt = sym (get_or_past (required v s c y mv cv) (i - 1) [] (let le : 22 ≤ i - 1 = omega (arith, gt) in le))
 
 -- the number of each field is that of the valuation
 pub numbers_are : (w : List Bool) (n : ℕ) → field_at field_specs w n ≡ number_of (fields_of w) n

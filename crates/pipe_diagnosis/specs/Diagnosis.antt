@@ -27,10 +27,10 @@ pub record IsDiagnosis (v : Variant) (terms : List Term) (s : Settings) (atoms :
   pub atoms_are : AtomsAre atoms bit_count w (assigned atoms bit_count w)
   pub controls : PipeControls terms (fields_of w) (assigned atoms bit_count w) (at diagnosis.leaves)
   pub false_there : obligation v s atoms i (fields_of w) (assigned atoms bit_count w) (at diagnosis.leaves) ≡ false
-  -- an obligation from 1 to 22: a finding for each requirement
-  pub findings : i ≤ 22 → diagnosis.findings
+  -- a finding for each requirement; an obligation from 23 on has none
+  pub findings : diagnosis.findings
       ≡ map (finding signal.f_pc terms (assigned atoms bit_count w) (at diagnosis.leaves)) (requirements v s (fields_of w) (flow_of v s (fields_of w)) (register_controls_of (assigned atoms bit_count w) (at diagnosis.leaves)) (at diagnosis.leaves) i)
-  -- at least one isn't met
+  -- of an obligation from 1 to 22 at least one isn't met
   pub one_wrong : i ≤ 22 → are_right diagnosis.findings ≡ false
   -- the changes that would meet all obligations on motion
   pub repairs : AreRepairs v s (fields_of w) (flow_of v s (fields_of w)) (register_controls_of (assigned atoms bit_count w) (at diagnosis.leaves)) unread diagnosis.leaves diagnosis.repairs

@@ -86,9 +86,10 @@ pub fn register_controls_at(scope: &Scope<'_>) -> RegisterControlsNow
 }
 
 /// What an obligation requires; an obligation on motion requires nothing of a single signal.
+#[tactic(auto, using(crate::proofs::OneWrong::none_behind))]
 fn requirements_at(alloc: Global, n: &Now<'_>, number: u32) -> Result<Vec<Requirement>, Memory>
     requires { 1 ≤ number }
-    ensures { number ≤ 22 → IfOk result (λ r. r.items ≡ requirements n.now.v n.now.s.now (fields_in n.now.l.now) (as_flow n.now.y.now) (as_register_controls n.now.mv.now) (at n.now.leaves.now) number) }
+    ensures { IfOk result (λ r. r.items ≡ requirements n.now.v n.now.s.now (fields_in n.now.l.now) (as_flow n.now.y.now) (as_register_controls n.now.mv.now) (at n.now.leaves.now) number) }
 {
     if number <= 22 {
         requirements_of(alloc, n, number)
@@ -106,7 +107,7 @@ fn found_at(
 ) -> Result<FindingsAndRepairs, Memory>
     requires near { scope.now.first ≤ 1000 }
     requires first { 1 ≤ number }
-    ensures findings { number ≤ 22 → IfOk result (λ r. r.findings
+    ensures findings { IfOk result (λ r. r.findings
         ≡ map (finding signal.f_pc file.now.design.now.terms (assigned scope.now.atoms.now scope.now.first scope.now.bits.now) (at scope.now.leaves.now))
         (requirements file.now.variant file.now.settings.now (fields_of scope.now.bits.now)
         (stages.flow_of file.now.variant file.now.settings.now (fields_of scope.now.bits.now))

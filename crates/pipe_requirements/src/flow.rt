@@ -1,9 +1,10 @@
 //! The instructions in D, E, M and W, and the stall and bubble signals, as truths.
-ghost use Rattle.std.specs.Prelude.{◌≡◌, ◌≤◌};
+ghost use Rattle.std.specs.Prelude.{◌≡◌, ◌≤◌, not};
 ghost use Rattle.pipe_motion.specs.Predictions as spec_predictions;
 ghost use Rattle.pipe_motion.specs.Flow as flows;
 ghost use Rattle.pipe_obligations.specs.StageFlows as spec;
 ghost use Rattle.nets.specs.Nets.{agree};
+ghost use Rattle.y86_base.specs.Words as numbers;
 ghost use Rattle.pipe_requirements.specs.Flows.{fields_in, as_register_controls, as_stage_flow, as_flow};
 
 use crate::lines::Lines;
@@ -77,19 +78,11 @@ pub fn is_jump(v: Variant, stat: u64, icode: u64) -> bool
     stat == 1 && next_is_branch(row(v, icode).next)
 }
 
-/// A jump that takes another way than predicted.
-pub fn is_missed(
-    v: Variant,
-    s: &Settings,
-    stat: u64,
-    icode: u64,
-    ifun: u64,
-    taken: u64,
-    back: u64,
-) -> bool
-    ensures { result ≡ spec.is_missed v s.now stat icode ifun taken back }
+/// A jump's way isn't the predicted one.
+pub fn other_way(s: &Settings, ifun: u64, taken: u64, back: u64) -> bool
+    ensures { result ≡ not (agree (numbers.set taken) (spec_predictions.predicts s.now ifun (numbers.set back))) }
 {
-    is_jump(v, stat, icode) && set(taken) != predicts(s, ifun, set(back))
+    set(taken) != predicts(s, ifun, set(back))
 }
 
 /// It stops the machine.
@@ -109,19 +102,19 @@ pub fn flow_of(v: Variant, s: &Settings, l: &Lines) -> FlowNow
             l.d.kind,
             stops_by(l.d.stat, l.d.stops),
             next_is_val_m(row(v, l.d.icode).next),
-            is_missed(v, s, l.d.stat, l.d.icode, l.d.ifun, l.d.taken, l.d.back),
+            is_jump(v, l.d.stat, l.d.icode) && other_way(s, l.d.ifun, l.d.taken, l.d.back),
         ),
         e: stage_flow_by(
             l.e.kind,
             stops_by(l.e.stat, l.e.stops),
             next_is_val_m(row(v, l.e.icode).next),
-            is_missed(v, s, l.e.stat, l.e.icode, l.e.ifun, l.e.cnd, l.e.back),
+            is_jump(v, l.e.stat, l.e.icode) && other_way(s, l.e.ifun, l.e.cnd, l.e.back),
         ),
         m: stage_flow_by(
             l.m.kind,
             stops_by(l.m.stat, l.m.error),
             next_is_val_m(row(v, l.m.icode).next),
-            is_missed(v, s, l.m.stat, l.m.icode, l.m.ifun, l.m.cnd, l.m.back),
+            is_jump(v, l.m.stat, l.m.icode) && other_way(s, l.m.ifun, l.m.cnd, l.m.back),
         ),
         w: stage_flow_by(
             l.w.kind,

@@ -13,8 +13,8 @@ mod now;
 
 pub use findings::{Requirement, Wanted, is_number, leaf_at, set};
 pub use flow::{
-    FlowNow, RegisterControlNow, RegisterControlsNow, StageFlowNow, flow_of, is_jump, is_missed,
-    leaves, loads, predicts, stops_by,
+    FlowNow, RegisterControlNow, RegisterControlsNow, StageFlowNow, flow_of, is_jump, leaves,
+    loads, other_way, predicts, stops_by,
 };
 pub use laws::law_of_requirements;
 pub use lines::{DecodeLine, ExecuteLine, FetchLine, Lines, MemoryLine, WriteLine, lines_of};

@@ -8,8 +8,6 @@ ghost use Rattle.ctl_atoms.specs.declared.leaf.Leaf.TheVariants.{Name};
 ghost use Rattle.ctl_formula.specs.Picks.{IsInside, has_gate, has_picks};
 ghost use Rattle.dp_signals.specs.PipeNames as names;
 ghost use Rattle.y86_base.specs.Words.{set};
-ghost use Rattle.net_fields.specs.Spelling.{spelt};
-ghost use Rattle.pipe_gates.specs.Columns.{has};
 ghost use Rattle.pipe_stage_gates.specs.Signals.{IsReady, demand_of_row};
 ghost use Rattle.pipe_obligations.specs.StageFlows.{is_jump};
 ghost use Rattle.pipe_fields.specs.Layout.{bit_count, fields_of};
@@ -24,7 +22,7 @@ use ctl_formula::{Controls, Leaf};
 use ctl_rules::{ExpectedLeaf, by_icode, picks_leaf, picks_leaf_if};
 use dp_signals::pipe_row as signal;
 use hcl_types::NameId;
-use net_fields::{BitRange, same, spells};
+use net_fields::{same, spells};
 use nets::{NetBuilder, implies};
 use pipe_fields::places::{E_CND, E_DST_E, E_ICODE, E_SRC_A, E_STAT, M_DST_M};
 use pipe_gates::{RowTest, row_has};
@@ -78,26 +76,21 @@ pub fn obligation_14(
     demand_in_e(b, ctl, v, good, RowRule::Function)
 }
 
-/// The signal is true exactly where the gate is, and the row of the icode passes the test.
+/// The signal is true exactly where both gates are.
 pub fn truth_where(
     b: &mut NetBuilder,
     ctl: &Controls,
-    v: Variant,
-    good: u64,
-    icode: BitRange,
-    test: RowTest,
     name: NameId,
+    good: u64,
+    passed: u64,
 ) -> Result<u64, Memory>
     requires inside { IsInside b.old ctl.now }
     requires known { IsTrue (has_gate ctl.now name) }
     requires good { good < length b.old.gates }
-    requires place { icode.first + icode.bits ≤ b.old.vars }
-    requires bits { icode.bits ≡ 4 }
+    requires passed { passed < length b.old.gates }
     ensures extends { ExtendsNet b.old b.new }
-    ensures has_truth { IfOk result (λ g. IsControlGate b.new ctl.now g (λ w α cv.
-        words.is_truth α cv name (truth b.old good w && has v test (spelt w icode.first icode.bits)))) }
+    ensures has_truth { IfOk result (λ g. IsControlGate b.new ctl.now g (λ w α cv. words.is_truth α cv name (truth b.old good w && truth b.old passed w))) }
 {
-    let passed = row_has(b, v, icode, test)?;
     let want = b.and(good, passed)?;
     let told = ctl.truth(name);
     b.equal(want, told)
@@ -118,15 +111,8 @@ pub fn obligation_15(
         words.is_truth α cv names.set_cc ((truth b.old good w && (fields_of w).e.stat == 1) && (row v (fields_of w).e.icode).sets_flags))) }
 {
     let works = works(b, good)?;
-    truth_where(
-        b,
-        ctl,
-        v,
-        works,
-        E_ICODE,
-        RowTest::SetsFlags,
-        signal::SET_CC,
-    )
+    let sets = row_has(b, v, E_ICODE, RowTest::SetsFlags)?;
+    truth_where(b, ctl, signal::SET_CC, works, sets)
 }
 
 /// A good instruction carries valA, or valP in its place, on to M.

@@ -23,7 +23,7 @@ use dp_signals::pipe_row as signal;
 use net_fields::spells;
 use nets::{NetBuilder, implies};
 use pipe_fields::places::{M_ERROR, M_ICODE, M_STAT, W_DST_E, W_DST_M, W_STAT};
-use pipe_gates::RowTest;
+use pipe_gates::{RowTest, row_has};
 use y86_base::{Memory, Variant};
 
 /// Obligation 18: mem_addr is the address of a good instruction that accesses memory.
@@ -59,8 +59,10 @@ pub fn obligation_19(
         words.is_truth α cv names.mem_read (truth b.old good w && is_load (row v (fields_of w).m.icode).memory)
         && words.is_truth α cv names.mem_write (truth b.old good w && is_store (row v (fields_of w).m.icode).memory))) }
 {
-    let reads = truth_where(b, ctl, v, good, M_ICODE, RowTest::Loads, signal::MEM_READ)?;
-    let writes = truth_where(b, ctl, v, good, M_ICODE, RowTest::Stores, signal::MEM_WRITE)?;
+    let loads = row_has(b, v, M_ICODE, RowTest::Loads)?;
+    let reads = truth_where(b, ctl, signal::MEM_READ, good, loads)?;
+    let stores = row_has(b, v, M_ICODE, RowTest::Stores)?;
+    let writes = truth_where(b, ctl, signal::MEM_WRITE, good, stores)?;
     b.and(reads, writes)
 }
 

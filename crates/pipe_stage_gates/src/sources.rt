@@ -31,24 +31,14 @@ use pipe_motion::{FlowGates, Settings};
 use y86_base::{Memory, Variant};
 
 /// A word that takes the value of a source, and the leaf that it takes where no instruction in E, M or W writes the source.
+/// The gate `free` counts where that value isn't there yet: the good instruction in E loads it.
 #[derive(Clone, Copy, Debug)]
 struct Operand {
     word: NameId,
     source: NameId,
     rest: NameId,
+    free: u64,
 }
-
-const OPERAND_A: Operand = Operand {
-    word: signal::D_VAL_A,
-    source: signal::D_SRC_A,
-    rest: signal::D_RVAL_A,
-};
-
-const OPERAND_B: Operand = Operand {
-    word: signal::D_VAL_B,
-    source: signal::D_SRC_B,
-    rest: signal::D_RVAL_B,
-};
 
 /// The word takes the leaf where the source is the number of a field; elsewhere an older gate counts.
 fn from_stage(
@@ -129,14 +119,13 @@ fn takes_value(
     choose(b, in_e, taken, older)
 }
 
-/// The word takes the right value of a source; where the good instruction in E loads it, the gate `free` counts.
+/// The word takes the right value of a source; where the good instruction in E loads it, its `free` counts.
 fn takes_ready(
     b: &mut NetBuilder,
     ctl: &Controls,
     v: Variant,
     s: &Settings,
     y: &FlowGates,
-    free: u64,
     operand: Operand,
 ) -> Result<u64, Memory>
     requires inside { IsInside b.old ctl.now }
@@ -144,26 +133,25 @@ fn takes_ready(
     requires source_known { IsTrue (has_picks ctl.now operand.source) }
     requires vars { bit_count ≤ b.old.vars }
     requires flow { HasFlow (length b.old.gates) y.now }
-    requires free_in { free < length b.old.gates }
+    requires free_in { operand.free < length b.old.gates }
     ensures extends { ExtendsNet b.old b.new }
     ensures has_truth { IfOk result (λ g. IsControlGate b.new ctl.now g (λ w α cv.
-        if spec.loaded_in_e v s.now (fields_of w) (flow_at b.old w y.now) (spec.register_controls_of α cv) α cv operand.source then truth b.old free w
+        if spec.loaded_in_e v s.now (fields_of w) (flow_at b.old w y.now) (spec.register_controls_of α cv) α cv operand.source then truth b.old operand.free w
         else words.picks_leaf cv operand.word (spec.right_value v s.now (fields_of w) (flow_at b.old w y.now) (spec.register_controls_of α cv) α cv operand.source operand.rest))) }
 {
     let right = takes_value(b, ctl, v, s, y, operand)?;
     let loads = picks_leaf(b, ctl, operand.source, ExpectedLeaf::Field(E_DST_M))?;
     let loaded = b.and(y.e.good, loads)?;
-    choose(b, loaded, free, right)
+    choose(b, loaded, operand.free, right)
 }
 
-/// There is no source, or the word takes its right value, as far as it is there; where it isn't, the gate `free` counts.
+/// There is no source, or the word takes its right value, as far as it is there; where it isn't, its `free` counts.
 fn picks_right_value(
     b: &mut NetBuilder,
     ctl: &Controls,
     v: Variant,
     s: &Settings,
     y: &FlowGates,
-    free: u64,
     operand: Operand,
 ) -> Result<u64, Memory>
     requires inside { IsInside b.old ctl.now }
@@ -171,12 +159,12 @@ fn picks_right_value(
     requires source_known { IsTrue (has_picks ctl.now operand.source) }
     requires vars { bit_count ≤ b.old.vars }
     requires flow { HasFlow (length b.old.gates) y.now }
-    requires free_in { free < length b.old.gates }
+    requires free_in { operand.free < length b.old.gates }
     ensures extends { ExtendsNet b.old b.new }
     ensures has_truth { IfOk result (λ g. IsControlGate b.new ctl.now g (λ w α cv.
-        spec.picks_right_value v s.now (fields_of w) (flow_at b.old w y.now) (spec.register_controls_of α cv) α cv (truth b.old free w) operand.word operand.source operand.rest)) }
+        spec.picks_right_value v s.now (fields_of w) (flow_at b.old w y.now) (spec.register_controls_of α cv) α cv (truth b.old operand.free w) operand.word operand.source operand.rest)) }
 {
-    let ready = takes_ready(b, ctl, v, s, y, free, operand)?;
+    let ready = takes_ready(b, ctl, v, s, y, operand)?;
     let none = picks_leaf(b, ctl, operand.source, ExpectedLeaf::This(Leaf::Number(15)))?;
     b.or(none, ready)
 }
@@ -232,7 +220,13 @@ pub fn obligation_10(
     let stays = none_leaves(b, ctl, y)?;
     let next_pc = takes_next_pc(b, ctl, v)?;
     let late = stores_late(b, v, s.lf)?;
-    let right = picks_right_value(b, ctl, v, s, y, late, OPERAND_A)?;
+    let operand = Operand {
+        word: signal::D_VAL_A,
+        source: signal::D_SRC_A,
+        rest: signal::D_RVAL_A,
+        free: late,
+    };
+    let right = picks_right_value(b, ctl, v, s, y, operand)?;
     let both = b.and(next_pc, right)?;
     b.or(stays, both)
 }
@@ -254,6 +248,12 @@ pub fn obligation_11(
 {
     let stays = none_leaves(b, ctl, y)?;
     let never = b.constant(false)?;
-    let right = picks_right_value(b, ctl, v, s, y, never, OPERAND_B)?;
+    let operand = Operand {
+        word: signal::D_VAL_B,
+        source: signal::D_SRC_B,
+        rest: signal::D_RVAL_B,
+        free: never,
+    };
+    let right = picks_right_value(b, ctl, v, s, y, operand)?;
     b.or(stays, right)
 }

@@ -38,7 +38,7 @@ returns c =
     let i = c.args.number in
     let same = c.as_slice.ensures.value ∙ sym c.of.ensures in
     let here = c.as_slice.result.now in
-    let findings = λ (le : i ≤ 22). c.in_ok-found.ensures.findings le
+    let findings = c.in_ok-found.ensures.findings
     ∙ ap (λ (xs : List Leaf). map (finding signal.f_pc terms α (at xs)) (requirements v s (fields_of w) (flow_of v s (fields_of w)) (register_controls_of α (at xs)) (at xs) i)) same in
     let false_there = c.requires.fails α cv given controls in
     record {
@@ -47,7 +47,7 @@ returns c =
         controls = controls;
         false_there = false_there;
         findings = findings;
-        one_wrong = λ le. ap are_right (findings le) ∙ one_wrong v terms s atoms i w α cv c.requires.first le false_there;
+        one_wrong = λ le. ap are_right findings ∙ one_wrong v terms s atoms i w α cv c.requires.first le false_there;
         repairs = subst (λ (xs : List Leaf). AreRepairs v s (fields_of w) (flow_of v s (fields_of w)) (register_controls_of α (at xs)) unread xs c.in_ok-found.found.repairs) same c.in_ok-found.ensures.repairs;
       };
     }
