@@ -1,5 +1,5 @@
 -- The fields of a control valuation of PIPE: five lines of numbers, and the bits that spell them.
-use Rattle.std.specs.Prelude.{ℕ, ◌+◌, List, [], ◌∷◌, Bool, get_or, Option, Some, None}
+use Rattle.std.specs.Prelude.{ℕ, ◌+◌, List, [], ◌∷◌, ◌++◌, length, map, codes, Bool, get_or, Option, Some, None}
 use Rattle.dp_signals.specs.PipeNames as signal
 use Rattle.net_fields.specs.declared.field_specs.BitRange.{BitRange}
 use Rattle.net_fields.specs.declared.field_specs.FieldSpec.{FieldSpec}
@@ -80,104 +80,191 @@ pub record Fields : Type 0 where
   pub m : MemoryLine
   pub w : WriteLine
 
--- ---- as bits
+-- ---- the table of the fields
 
--- a field that is a signal, and one that no signal reads
-abbrev read_by : ℕ → ℕ → FieldSpec
-read_by bits name = record { bits = bits; name = Some name }
+-- a field: its label in texts, its bits and the row of the signal that it is, if one reads it, and its number
+pub record Field : Type 0 where
+  pub label : List ℕ
+  pub spec : FieldSpec
+  pub number : Fields → ℕ
 
-abbrev hidden : ℕ → FieldSpec
-hidden bits = record { bits = bits; name = None }
+abbrev read_by : List ℕ → ℕ → ℕ → (Fields → ℕ) → Field
+read_by label bits name number = record { label = label; spec = record { bits = bits; name = Some name }; number = number }
 
--- the table of the fields, in the order of the variables: the kinds of D, E, M and W, then the lines F, D, E, M and W
+abbrev hidden : List ℕ → ℕ → (Fields → ℕ) → Field
+hidden label bits number = record { label = label; spec = record { bits = bits; name = None }; number = number }
+
+-- in the order of the variables: the kinds of D, E, M and W, then the lines F, D, E, M and W
+abbrev pub kind_fields : List Field
+kind_fields =
+    hidden (codes "kind") 2 (λ c. c.d.kind)
+    ∷ hidden (codes "kind") 2 (λ c. c.e.kind)
+    ∷ hidden (codes "kind") 1 (λ c. c.m.kind)
+    ∷ hidden (codes "kind") 1 (λ c. c.w.kind)
+    ∷ []
+
+abbrev pub fetch_fields : List Field
+fetch_fields =
+    read_by (codes "error") 1 signal.imem_error (λ c. c.f.error)
+    ∷ read_by (codes "icode") 4 signal.imem_icode (λ c. c.f.icode)
+    ∷ read_by (codes "ifun") 4 signal.imem_ifun (λ c. c.f.ifun)
+    ∷ hidden (codes "taken") 1 (λ c. c.f.taken)
+    ∷ hidden (codes "stops") 1 (λ c. c.f.stops)
+    ∷ hidden (codes "back") 1 (λ c. c.f.back)
+    ∷ []
+
+abbrev pub decode_fields : List Field
+decode_fields =
+    read_by (codes "stat") 3 signal.D_stat (λ c. c.d.stat)
+    ∷ read_by (codes "icode") 4 signal.D_icode (λ c. c.d.icode)
+    ∷ read_by (codes "ifun") 4 signal.D_ifun (λ c. c.d.ifun)
+    ∷ read_by (codes "rA") 4 signal.D_rA (λ c. c.d.r_a)
+    ∷ read_by (codes "rB") 4 signal.D_rB (λ c. c.d.r_b)
+    ∷ hidden (codes "taken") 1 (λ c. c.d.taken)
+    ∷ hidden (codes "stops") 1 (λ c. c.d.stops)
+    ∷ hidden (codes "back") 1 (λ c. c.d.back)
+    ∷ []
+
+abbrev pub execute_fields : List Field
+execute_fields =
+    read_by (codes "stat") 3 signal.E_stat (λ c. c.e.stat)
+    ∷ read_by (codes "icode") 4 signal.E_icode (λ c. c.e.icode)
+    ∷ read_by (codes "ifun") 4 signal.E_ifun (λ c. c.e.ifun)
+    ∷ read_by (codes "dstE") 4 signal.E_dstE (λ c. c.e.dst_e)
+    ∷ read_by (codes "dstM") 4 signal.E_dstM (λ c. c.e.dst_m)
+    ∷ read_by (codes "srcA") 4 signal.E_srcA (λ c. c.e.src_a)
+    ∷ read_by (codes "srcB") 4 signal.E_srcB (λ c. c.e.src_b)
+    ∷ read_by (codes "cnd") 1 signal.e_Cnd (λ c. c.e.cnd)
+    ∷ hidden (codes "stops") 1 (λ c. c.e.stops)
+    ∷ hidden (codes "back") 1 (λ c. c.e.back)
+    ∷ []
+
+abbrev pub memory_fields : List Field
+memory_fields =
+    read_by (codes "stat") 3 signal.M_stat (λ c. c.m.stat)
+    ∷ read_by (codes "icode") 4 signal.M_icode (λ c. c.m.icode)
+    ∷ read_by (codes "ifun") 4 signal.M_ifun (λ c. c.m.ifun)
+    ∷ read_by (codes "dstE") 4 signal.M_dstE (λ c. c.m.dst_e)
+    ∷ read_by (codes "dstM") 4 signal.M_dstM (λ c. c.m.dst_m)
+    ∷ read_by (codes "cnd") 1 signal.M_Cnd (λ c. c.m.cnd)
+    ∷ read_by (codes "error") 1 signal.dmem_error (λ c. c.m.error)
+    ∷ hidden (codes "back") 1 (λ c. c.m.back)
+    ∷ []
+
+abbrev pub write_fields : List Field
+write_fields =
+    read_by (codes "stat") 3 signal.W_stat (λ c. c.w.stat)
+    ∷ read_by (codes "icode") 4 signal.W_icode (λ c. c.w.icode)
+    ∷ read_by (codes "dstE") 4 signal.W_dstE (λ c. c.w.dst_e)
+    ∷ read_by (codes "dstM") 4 signal.W_dstM (λ c. c.w.dst_m)
+    ∷ []
+
+abbrev pub all_fields : List Field
+all_fields = kind_fields ++ fetch_fields ++ decode_fields ++ execute_fields ++ memory_fields ++ write_fields
+
 abbrev pub field_specs : List FieldSpec
-field_specs =
-    hidden 2 ∷ hidden 2 ∷ hidden 1 ∷ hidden 1 ∷  -- the kinds
-    read_by 1 signal.imem_error ∷ read_by 4 signal.imem_icode ∷ read_by 4 signal.imem_ifun ∷
-    hidden 1 ∷ hidden 1 ∷ hidden 1 ∷  -- F: taken, stops, back
-    read_by 3 signal.D_stat ∷ read_by 4 signal.D_icode ∷ read_by 4 signal.D_ifun ∷ read_by 4 signal.D_rA ∷ read_by 4 signal.D_rB ∷
-    hidden 1 ∷ hidden 1 ∷ hidden 1 ∷  -- D: taken, stops, back
-    read_by 3 signal.E_stat ∷ read_by 4 signal.E_icode ∷ read_by 4 signal.E_ifun ∷ read_by 4 signal.E_dstE ∷ read_by 4 signal.E_dstM ∷
-    read_by 4 signal.E_srcA ∷ read_by 4 signal.E_srcB ∷ read_by 1 signal.e_Cnd ∷
-    hidden 1 ∷ hidden 1 ∷  -- E: stops, back
-    read_by 3 signal.M_stat ∷ read_by 4 signal.M_icode ∷ read_by 4 signal.M_ifun ∷ read_by 4 signal.M_dstE ∷ read_by 4 signal.M_dstM ∷
-    read_by 1 signal.M_Cnd ∷ read_by 1 signal.dmem_error ∷
-    hidden 1 ∷  -- M: back
-    read_by 3 signal.W_stat ∷ read_by 4 signal.W_icode ∷ read_by 4 signal.W_dstE ∷ read_by 4 signal.W_dstM ∷ []
+field_specs = map (λ (x : Field). x.spec) all_fields
 
 -- with which of them a line begins: F behind the kinds, and each of the others
 abbrev pub f_first : ℕ
-f_first = 4
+f_first = length kind_fields
 
 abbrev pub d_first : ℕ
-d_first = f_first + 6
+d_first = f_first + length fetch_fields
 
 abbrev pub e_first : ℕ
-e_first = d_first + 8
+e_first = d_first + length decode_fields
 
 abbrev pub m_first : ℕ
-m_first = e_first + 10
+m_first = e_first + length execute_fields
 
 abbrev pub w_first : ℕ
-w_first = m_first + 8
+w_first = m_first + length memory_fields
 
 -- how many they are, and how many bits they have together
 abbrev pub field_count : ℕ
-field_count = w_first + 4
+field_count = w_first + length write_fields
 
 abbrev pub bit_count : ℕ
 bit_count = 107
 
--- the fields as numbers in the order of the table, and back
+-- the fields as numbers in the order of the table, and back: a line from its first number on, behind its kind
 abbrev pub numbers : Fields → List ℕ
-numbers c =
-    c.d.kind ∷ c.e.kind ∷ c.m.kind ∷ c.w.kind ∷
-    c.f.error ∷ c.f.icode ∷ c.f.ifun ∷ c.f.taken ∷ c.f.stops ∷ c.f.back ∷
-    c.d.stat ∷ c.d.icode ∷ c.d.ifun ∷ c.d.r_a ∷ c.d.r_b ∷ c.d.taken ∷ c.d.stops ∷ c.d.back ∷
-    c.e.stat ∷ c.e.icode ∷ c.e.ifun ∷ c.e.dst_e ∷ c.e.dst_m ∷ c.e.src_a ∷ c.e.src_b ∷ c.e.cnd ∷ c.e.stops ∷ c.e.back ∷
-    c.m.stat ∷ c.m.icode ∷ c.m.ifun ∷ c.m.dst_e ∷ c.m.dst_m ∷ c.m.cnd ∷ c.m.error ∷ c.m.back ∷
-    c.w.stat ∷ c.w.icode ∷ c.w.dst_e ∷ c.w.dst_m ∷ []
+numbers c = map (λ (x : Field). x.number c) all_fields
+
+abbrev fetch_by : List ℕ → ℕ → FetchLine
+fetch_by xs at =
+    record {
+      error = get_or xs at 0;
+      icode = get_or xs (at + 1) 0;
+      ifun = get_or xs (at + 2) 0;
+      taken = get_or xs (at + 3) 0;
+      stops = get_or xs (at + 4) 0;
+      back = get_or xs (at + 5) 0;
+    }
+
+abbrev decode_by : ℕ → List ℕ → ℕ → DecodeLine
+decode_by kind xs at =
+    record {
+      kind = kind;
+      stat = get_or xs at 0;
+      icode = get_or xs (at + 1) 0;
+      ifun = get_or xs (at + 2) 0;
+      r_a = get_or xs (at + 3) 0;
+      r_b = get_or xs (at + 4) 0;
+      taken = get_or xs (at + 5) 0;
+      stops = get_or xs (at + 6) 0;
+      back = get_or xs (at + 7) 0;
+    }
+
+abbrev execute_by : ℕ → List ℕ → ℕ → ExecuteLine
+execute_by kind xs at =
+    record {
+      kind = kind;
+      stat = get_or xs at 0;
+      icode = get_or xs (at + 1) 0;
+      ifun = get_or xs (at + 2) 0;
+      dst_e = get_or xs (at + 3) 0;
+      dst_m = get_or xs (at + 4) 0;
+      src_a = get_or xs (at + 5) 0;
+      src_b = get_or xs (at + 6) 0;
+      cnd = get_or xs (at + 7) 0;
+      stops = get_or xs (at + 8) 0;
+      back = get_or xs (at + 9) 0;
+    }
+
+abbrev memory_by : ℕ → List ℕ → ℕ → MemoryLine
+memory_by kind xs at =
+    record {
+      kind = kind;
+      stat = get_or xs at 0;
+      icode = get_or xs (at + 1) 0;
+      ifun = get_or xs (at + 2) 0;
+      dst_e = get_or xs (at + 3) 0;
+      dst_m = get_or xs (at + 4) 0;
+      cnd = get_or xs (at + 5) 0;
+      error = get_or xs (at + 6) 0;
+      back = get_or xs (at + 7) 0;
+    }
+
+abbrev write_by : ℕ → List ℕ → ℕ → WriteLine
+write_by kind xs at =
+    record {
+      kind = kind;
+      stat = get_or xs at 0;
+      icode = get_or xs (at + 1) 0;
+      dst_e = get_or xs (at + 2) 0;
+      dst_m = get_or xs (at + 3) 0;
+    }
 
 abbrev pub fields_by : List ℕ → Fields
 fields_by xs =
     record {
-      f = record { error = get_or xs 4 0; icode = get_or xs 5 0; ifun = get_or xs 6 0; taken = get_or xs 7 0; stops = get_or xs 8 0; back = get_or xs 9 0 };
-      d = record {
-        kind = get_or xs 0 0;
-        stat = get_or xs 10 0;
-        icode = get_or xs 11 0;
-        ifun = get_or xs 12 0;
-        r_a = get_or xs 13 0;
-        r_b = get_or xs 14 0;
-        taken = get_or xs 15 0;
-        stops = get_or xs 16 0;
-        back = get_or xs 17 0;
-      };
-      e = record {
-        kind = get_or xs 1 0;
-        stat = get_or xs 18 0;
-        icode = get_or xs 19 0;
-        ifun = get_or xs 20 0;
-        dst_e = get_or xs 21 0;
-        dst_m = get_or xs 22 0;
-        src_a = get_or xs 23 0;
-        src_b = get_or xs 24 0;
-        cnd = get_or xs 25 0;
-        stops = get_or xs 26 0;
-        back = get_or xs 27 0;
-      };
-      m = record {
-        kind = get_or xs 2 0;
-        stat = get_or xs 28 0;
-        icode = get_or xs 29 0;
-        ifun = get_or xs 30 0;
-        dst_e = get_or xs 31 0;
-        dst_m = get_or xs 32 0;
-        cnd = get_or xs 33 0;
-        error = get_or xs 34 0;
-        back = get_or xs 35 0;
-      };
-      w = record { kind = get_or xs 3 0; stat = get_or xs 36 0; icode = get_or xs 37 0; dst_e = get_or xs 38 0; dst_m = get_or xs 39 0 };
+      f = fetch_by xs f_first;
+      d = decode_by (get_or xs 0 0) xs d_first;
+      e = execute_by (get_or xs 1 0) xs e_first;
+      m = memory_by (get_or xs 2 0) xs m_first;
+      w = write_by (get_or xs 3 0) xs w_first;
     }
 
 -- each field has a number that its bits can spell

@@ -1,12 +1,19 @@
 -- The five lines by one name, as the code goes over them.
-use Rattle.std.specs.Prelude.{ℕ, Bool, length}
+use Rattle.std.specs.Prelude.{ℕ, Bool, List, length}
 use Rattle.y86_base.specs.declared.parts.Variant.{Variant}
 use Rattle.y86_isa.specs.declared.columns.Row.{Row}
 use Rattle.y86_isa.specs.Table.{rows, row}
 use Rattle.pipe_fields.specs.declared.lines.StageLine.{StageLine}
 use Rattle.pipe_fields.specs.declared.lines.StageLine.TheVariants.{F, D, E, M, W}
 use Rattle.pipe_fields.specs.Allowed.{fetch_row_allowed, decode_row_allowed, execute_row_allowed, memory_row_allowed, write_row_allowed}
-use Rattle.pipe_fields.specs.Layout.{Fields}
+use Rattle.pipe_fields.specs.Layout.{Field, Fields, fetch_fields, decode_fields, execute_fields, memory_fields, write_fields}
+
+abbrev pub line_fields : StageLine → List Field
+line_fields F = fetch_fields
+line_fields D = decode_fields
+line_fields E = execute_fields
+line_fields M = memory_fields
+line_fields W = write_fields
 
 abbrev pub icode_in : StageLine → Fields → ℕ
 icode_in F c = c.f.icode

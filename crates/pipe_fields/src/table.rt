@@ -6,19 +6,68 @@ use crate::places as place;
 use dp_signals::pipe_row as row;
 use net_fields::{BitRange, FieldSpec, place_in};
 
-/// The field at a place: the signal of a row, or one that no signal reads.
-macro_rules! spot {
-    ($place:expr, $name:expr) => {
-        FieldSpec {
-            bits: $place.bits,
-            name: Some($name),
-        }
+/// The table of the fields, in the order of the variables: the name of each one's place, its label in texts, and the row
+/// of the signal that it is, if one reads it. The macro that is named is called with all rows.
+#[macro_export]
+macro_rules! field_table {
+    ($of_rows:ident) => {
+        $of_rows!(
+            D_KIND "kind",
+            E_KIND "kind",
+            M_KIND "kind",
+            W_KIND "kind",
+            F_ERROR "error" IMEM_ERROR,
+            F_ICODE "icode" IMEM_ICODE,
+            F_IFUN "ifun" IMEM_IFUN,
+            F_TAKEN "taken",
+            F_STOPS "stops",
+            F_BACK "back",
+            D_STAT "stat" HELD_D_STAT,
+            D_ICODE "icode" HELD_D_ICODE,
+            D_IFUN "ifun" HELD_D_IFUN,
+            D_R_A "rA" HELD_D_R_A,
+            D_R_B "rB" HELD_D_R_B,
+            D_TAKEN "taken",
+            D_STOPS "stops",
+            D_BACK "back",
+            E_STAT "stat" HELD_E_STAT,
+            E_ICODE "icode" HELD_E_ICODE,
+            E_IFUN "ifun" HELD_E_IFUN,
+            E_DST_E "dstE" HELD_E_DST_E,
+            E_DST_M "dstM" HELD_E_DST_M,
+            E_SRC_A "srcA" HELD_E_SRC_A,
+            E_SRC_B "srcB" HELD_E_SRC_B,
+            E_CND "cnd" E_CND,
+            E_STOPS "stops",
+            E_BACK "back",
+            M_STAT "stat" HELD_M_STAT,
+            M_ICODE "icode" HELD_M_ICODE,
+            M_IFUN "ifun" HELD_M_IFUN,
+            M_DST_E "dstE" HELD_M_DST_E,
+            M_DST_M "dstM" HELD_M_DST_M,
+            M_CND "cnd" HELD_M_CND,
+            M_ERROR "error" DMEM_ERROR,
+            M_BACK "back",
+            W_STAT "stat" HELD_W_STAT,
+            W_ICODE "icode" HELD_W_ICODE,
+            W_DST_E "dstE" HELD_W_DST_E,
+            W_DST_M "dstM" HELD_W_DST_M
+        )
     };
-    ($place:expr) => {
-        FieldSpec {
-            bits: $place.bits,
-            name: None,
-        }
+}
+
+macro_rules! signal_name {
+    () => {
+        None
+    };
+    ($signal:ident) => {
+        Some(row::$signal)
+    };
+}
+
+macro_rules! specs {
+    ($($place:ident $label:literal $($signal:ident)?),*) => {
+        [$(FieldSpec { bits: place::$place.bits, name: signal_name!($($signal)?) }),*]
     };
 }
 
@@ -36,49 +85,7 @@ pub const W_FIRST: usize = M_FIRST + 8;
 /// How many fields there are.
 pub const FIELD_COUNT: usize = W_FIRST + 4;
 
-/// The fields in the order of the variables.
-static SPOTS: [FieldSpec; FIELD_COUNT] = [
-    spot!(place::D_KIND),
-    spot!(place::E_KIND),
-    spot!(place::M_KIND),
-    spot!(place::W_KIND),
-    spot!(place::F_ERROR, row::IMEM_ERROR),
-    spot!(place::F_ICODE, row::IMEM_ICODE),
-    spot!(place::F_IFUN, row::IMEM_IFUN),
-    spot!(place::F_TAKEN),
-    spot!(place::F_STOPS),
-    spot!(place::F_BACK),
-    spot!(place::D_STAT, row::HELD_D_STAT),
-    spot!(place::D_ICODE, row::HELD_D_ICODE),
-    spot!(place::D_IFUN, row::HELD_D_IFUN),
-    spot!(place::D_R_A, row::HELD_D_R_A),
-    spot!(place::D_R_B, row::HELD_D_R_B),
-    spot!(place::D_TAKEN),
-    spot!(place::D_STOPS),
-    spot!(place::D_BACK),
-    spot!(place::E_STAT, row::HELD_E_STAT),
-    spot!(place::E_ICODE, row::HELD_E_ICODE),
-    spot!(place::E_IFUN, row::HELD_E_IFUN),
-    spot!(place::E_DST_E, row::HELD_E_DST_E),
-    spot!(place::E_DST_M, row::HELD_E_DST_M),
-    spot!(place::E_SRC_A, row::HELD_E_SRC_A),
-    spot!(place::E_SRC_B, row::HELD_E_SRC_B),
-    spot!(place::E_CND, row::E_CND),
-    spot!(place::E_STOPS),
-    spot!(place::E_BACK),
-    spot!(place::M_STAT, row::HELD_M_STAT),
-    spot!(place::M_ICODE, row::HELD_M_ICODE),
-    spot!(place::M_IFUN, row::HELD_M_IFUN),
-    spot!(place::M_DST_E, row::HELD_M_DST_E),
-    spot!(place::M_DST_M, row::HELD_M_DST_M),
-    spot!(place::M_CND, row::HELD_M_CND),
-    spot!(place::M_ERROR, row::DMEM_ERROR),
-    spot!(place::M_BACK),
-    spot!(place::W_STAT, row::HELD_W_STAT),
-    spot!(place::W_ICODE, row::HELD_W_ICODE),
-    spot!(place::W_DST_E, row::HELD_W_DST_E),
-    spot!(place::W_DST_M, row::HELD_W_DST_M),
-];
+static SPOTS: [FieldSpec; FIELD_COUNT] = field_table!(specs);
 
 /// The fields in the order of the variables: how many bits each has, and the row of the signal that it is.
 pub fn field_specs() -> &'static [FieldSpec]

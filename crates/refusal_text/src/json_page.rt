@@ -11,17 +11,16 @@ use finding_text::{
 };
 use hcl_types::NameId;
 use pipe_diagnosis::{Refusal, Refutation};
+use pipe_fields::StageLine;
 use pipe_requirements::{Lines, RegisterControlNow, StageFlowNow};
 use std::alloc::{AllocError, Global};
-use verdict_text::{
-    ShownNumber, decode_numbers, execute_numbers, fetch_numbers, memory_numbers, write_numbers,
-};
+use verdict_text::line_fields;
 use y86_base::Variant;
 
 /// Writes the numbers of a line.
-fn put_numbers(out: &mut Out, numbers: &[ShownNumber]) -> Result<(), AllocError> {
-    for it in numbers {
-        put_number(out, it.label, it.number)?;
+fn put_numbers(out: &mut Out, bits: &[bool], line: StageLine) -> Result<(), AllocError> {
+    for it in line_fields(line) {
+        put_number(out, it.label, it.number(bits))?;
     }
     Ok(())
 }
@@ -31,12 +30,13 @@ fn put_stage(
     out: &mut Out,
     letter: &str,
     kind: u64,
-    numbers: &[ShownNumber],
+    bits: &[bool],
+    line: StageLine,
 ) -> Result<(), AllocError> {
     out.key(letter)?;
     out.begin_object()?;
     put_text(out, "kind", kind_name(kind))?;
-    put_numbers(out, numbers)?;
+    put_numbers(out, bits, line)?;
     out.end_object()
 }
 
@@ -46,12 +46,12 @@ fn put_situation(out: &mut Out, scene: &Scene<'_>, l: &Lines) -> Result<(), Allo
     out.begin_object()?;
     out.key("F")?;
     out.begin_object()?;
-    put_numbers(out, &fetch_numbers(bits))?;
+    put_numbers(out, bits, StageLine::F)?;
     out.end_object()?;
-    put_stage(out, "D", l.d.kind, &decode_numbers(bits))?;
-    put_stage(out, "E", l.e.kind, &execute_numbers(bits))?;
-    put_stage(out, "M", l.m.kind, &memory_numbers(bits))?;
-    put_stage(out, "W", l.w.kind, &write_numbers(bits))?;
+    put_stage(out, "D", l.d.kind, bits, StageLine::D)?;
+    put_stage(out, "E", l.e.kind, bits, StageLine::E)?;
+    put_stage(out, "M", l.m.kind, bits, StageLine::M)?;
+    put_stage(out, "W", l.w.kind, bits, StageLine::W)?;
     put_comparison_facts(out, &scene.values)?;
     out.end_object()
 }

@@ -7,13 +7,18 @@ use finding_text::{
 use seq_diagnosis::{Refusal, Refutation};
 use seq_requirements::Datapath;
 use std::alloc::{AllocError, Global};
-use verdict_text::{ShownNumber, plus_numbers, previous_numbers, seq_numbers};
+use verdict_text::{ShownField, plus_fields, previous_fields, seq_fields};
 
-fn put_line(out: &mut Out, letter: &str, numbers: &[ShownNumber]) -> Result<(), AllocError> {
+fn put_line(
+    out: &mut Out,
+    letter: &str,
+    bits: &[bool],
+    fields: &[ShownField],
+) -> Result<(), AllocError> {
     out.key(letter)?;
     out.begin_object()?;
-    for it in numbers {
-        put_number(out, it.label, it.number)?;
+    for it in fields {
+        put_number(out, it.label, it.number(bits))?;
     }
     out.end_object()
 }
@@ -22,10 +27,10 @@ fn put_situation(out: &mut Out, which: Datapath, values: &Values<'_>) -> Result<
     out.key("counterexample")?;
     out.begin_object()?;
     match which {
-        Datapath::Seq => put_line(out, "S", &seq_numbers(values.bits))?,
+        Datapath::Seq => put_line(out, "S", values.bits, seq_fields())?,
         Datapath::Plus => {
-            put_line(out, "P", &previous_numbers(values.bits))?;
-            put_line(out, "S", &plus_numbers(values.bits))?;
+            put_line(out, "P", values.bits, previous_fields())?;
+            put_line(out, "S", values.bits, plus_fields())?;
         }
     }
     put_comparison_facts(out, values)?;

@@ -6,9 +6,6 @@ mod numbers;
 mod pipe;
 mod seq;
 
-pub use numbers::ShownNumber;
-pub use pipe::{
-    decode_numbers, execute_numbers, fetch_numbers, memory_numbers, pipe_acceptance, pipe_refusal,
-    write_numbers,
-};
-pub use seq::{plus_numbers, plus_refusal, previous_numbers, seq_numbers, seq_refusal};
+pub use numbers::ShownField;
+pub use pipe::{line_fields, pipe_acceptance, pipe_refusal};
+pub use seq::{plus_fields, plus_refusal, previous_fields, seq_fields, seq_refusal};

@@ -1,9 +1,9 @@
 //! Texts of labels and numbers.
-ghost use Rattle.std.specs.Prelude.{◌≡◌, ◌≤◌, ◌++◌, codes, false, get_or, OnOk};
+ghost use Rattle.std.specs.Prelude.{◌≡◌, ◌≤◌, ◌%◌, ◌^◌, ◌++◌, codes, true, false, get_or, OnOk};
 ghost use Rattle.y86_base.specs.Numeral.{numeral};
 ghost use Rattle.net_fields.specs.Spelling.{bit, spelt};
 ghost use Rattle.verdict_text.specs.Fields.{labelled, labelled_line};
-ghost use Rattle.verdict_text.specs.Views.{IsNear, shown};
+ghost use Rattle.verdict_text.specs.Views.{are_few, shown};
 
 use net_fields::BitRange;
 use y86_base::{Memory, Numeral, put};
@@ -19,62 +19,53 @@ fn bit_at(bits: &[bool], i: usize) -> u64
 }
 
 /// The number that some bits of a valuation spell, the most significant one first.
-#[tactic(auto, using(net_fields::proofs::Loops::number_none, net_fields::proofs::Loops::number_more, net_fields::proofs::Loops::number_small))]
-fn number(bits: &[bool], first: usize, count: usize) -> u64
-    requires few { count ≤ 4 }
-    requires near { first ≤ 1000 }
-    ensures { result ≡ spelt bits.now first count }
+#[tactic(auto, using(crate::proofs::Few::one_more))]
+pub(crate) fn number_at(bits: &[bool], place: BitRange) -> u64
+    ensures { result ≡ spelt bits.now place.first place.bits % 2 ^ 64 }
 {
-    let mut n = 0;
-    for k in 0..count {
-        n = 2 * n + bit_at(bits, first + k);
+    let first = place.first as usize;
+    let mut n: u64 = 0;
+    for k in 0..place.bits as usize {
+        n = n.wrapping_mul(2).wrapping_add(bit_at(bits, first + k));
     }
     n
 }
 
-/// The label of a field, and its number.
+/// A field as it is shown: its label, and its place in a valuation.
 #[derive(Clone, Copy)]
-pub struct ShownNumber {
+pub struct ShownField {
     pub label: &'static str,
-    pub number: u64,
+    pub place: BitRange,
 }
 
-/// The number of a field.
-pub(crate) fn number_at(bits: &[bool], place: BitRange) -> u64
-    requires near { IsNear place }
-    ensures { result ≡ spelt bits.now place.first place.bits }
-{
-    number(bits, place.first as usize, place.bits as usize)
-}
-
-/// A label with the number of a field.
-pub(crate) fn shown_at(label: &'static str, bits: &[bool], place: BitRange) -> ShownNumber
-    requires near { IsNear place }
-    ensures label { result.label.now ≡ label.now }
-    ensures number { result.number ≡ spelt bits.now place.first place.bits }
-{
-    ShownNumber {
-        label,
-        number: number_at(bits, place),
+impl ShownField {
+    /// The field's number at a valuation.
+    pub fn number(&self, bits: &[bool]) -> u64
+        ensures { result ≡ spelt bits.now self.now.place.first self.now.place.bits % 2 ^ 64 }
+    {
+        number_at(bits, self.place)
     }
 }
 
 /// Puts a label and its number.
-fn put_number(out: &mut Vec<u8>, it: ShownNumber) -> Result<(), Memory>
-    ensures { OnOk result (out.new.items ≡ out.old.items ++ codes " " ++ it.label.now ++ codes "=" ++ numeral 10 1 it.number) }
+#[tactic(auto, using(crate::proofs::Few::spelt_few))]
+fn put_field(out: &mut Vec<u8>, bits: &[bool], it: ShownField) -> Result<(), Memory>
+    requires few { it.place.bits ≤ 4 }
+    ensures { OnOk result (out.new.items ≡ out.old.items ++ codes " " ++ it.label.now ++ codes "=" ++ numeral 10 1 (spelt bits.now it.place.first it.place.bits)) }
 {
     put(out, b" ")?;
     put(out, it.label.as_bytes())?;
     put(out, b"=")?;
-    put(out, Numeral::decimal(it.number).as_bytes())
+    put(out, Numeral::decimal(it.number(bits)).as_bytes())
 }
 
 /// Puts labels, each with its number.
-fn put_numbers(out: &mut Vec<u8>, numbers: &[ShownNumber]) -> Result<(), Memory>
-    ensures { OnOk result (out.new.items ≡ out.old.items ++ labelled (shown numbers.now)) }
+fn put_fields(out: &mut Vec<u8>, bits: &[bool], fields: &[ShownField]) -> Result<(), Memory>
+    requires few { are_few fields.now ≡ true }
+    ensures { OnOk result (out.new.items ≡ out.old.items ++ labelled (shown bits.now fields.now)) }
 {
-    for it in numbers {
-        match put_number(out, *it) {
+    for it in fields {
+        match put_field(out, bits, *it) {
             Ok(()) => {}
             Err(_) => return Err(Memory),
         }
@@ -82,16 +73,18 @@ fn put_numbers(out: &mut Vec<u8>, numbers: &[ShownNumber]) -> Result<(), Memory>
     Ok(())
 }
 
-/// Puts a line: how it begins, and its numbers.
+/// Puts a line: how it begins, and its fields.
 #[tactic(auto, unfolding(crate::specs::Fields::labelled_line))]
 pub(crate) fn put_line(
     out: &mut Vec<u8>,
     beginning: &[u8],
-    numbers: &[ShownNumber],
+    bits: &[bool],
+    fields: &[ShownField],
 ) -> Result<(), Memory>
-    ensures { OnOk result (out.new.items ≡ out.old.items ++ labelled_line beginning.now (shown numbers.now)) }
+    requires few { are_few fields.now ≡ true }
+    ensures { OnOk result (out.new.items ≡ out.old.items ++ labelled_line beginning.now (shown bits.now fields.now)) }
 {
     put(out, beginning)?;
-    put_numbers(out, numbers)?;
+    put_fields(out, bits, fields)?;
     put(out, b"\n")
 }

@@ -1,18 +1,22 @@
 //! The texts of the verdicts on PIPE.
-ghost use Rattle.std.specs.Prelude.{◌≡◌, ◌≤◌, ◌++◌, IfOk, OnOk, length};
+ghost use Rattle.std.specs.Prelude.{◌≡◌, ◌≤◌, ◌++◌, Bool, List, true, IfOk, OnOk, length};
 ghost use Rattle.hcl_types.specs.Tables.{row_names};
+ghost use Rattle.net_fields.specs.Spelling.{spelt};
 ghost use Rattle.pipe_fields.specs.Layout.{fields_of};
 ghost use Rattle.verdict_text.specs.Fields.{labelled_line};
-ghost use Rattle.verdict_text.specs.PipeLines as spec;
-ghost use Rattle.verdict_text.specs.PipeLines.{digit, digits, kind_word, pipe_lines, pipe_no, pipe_yes};
-ghost use Rattle.verdict_text.specs.Views.{shown};
+ghost use Rattle.verdict_text.specs.PipeLines.{digit, digits, kind_word, line_numbers, pipe_lines, pipe_no, pipe_yes};
+ghost use Rattle.verdict_text.specs.Views.{are_few, shown};
 
 use crate::atoms::put_atoms;
-use crate::numbers::{ShownNumber, number_at, put_line, shown_at};
+use crate::numbers::{ShownField, number_at, put_line};
 use ctl_atoms::Atom;
 use hcl_types::Row;
+use net_fields::BitRange;
 use nets::Valuation;
-use pipe_fields::{BIT_COUNT, places as place};
+use pipe_fields::{
+    BIT_COUNT, D_FIRST, E_FIRST, F_FIRST, FIELD_COUNT, M_FIRST, StageLine, W_FIRST, field_table,
+    places as place,
+};
 use pipe_motion::Settings;
 use std::alloc::Global;
 use y86_base::{Memory, Numeral, put};
@@ -30,85 +34,27 @@ fn word_of(kind: u64) -> &'static [u8]
     }
 }
 
-/// The numbers of the line F of a valuation.
-#[tactic(auto, unfolding(crate::specs::PipeLines::fetch_numbers, pipe_fields::specs::Layout::fields_of))]
-pub fn fetch_numbers(bits: &[bool]) -> [ShownNumber; 6]
-    ensures { shown result ≡ spec.fetch_numbers (fields_of bits.now).f }
-{
-    [
-        shown_at("error", bits, place::F_ERROR),
-        shown_at("icode", bits, place::F_ICODE),
-        shown_at("ifun", bits, place::F_IFUN),
-        shown_at("taken", bits, place::F_TAKEN),
-        shown_at("stops", bits, place::F_STOPS),
-        shown_at("back", bits, place::F_BACK),
-    ]
+macro_rules! shown_fields {
+    ($($place:ident $label:literal $($signal:ident)?),*) => {
+        [$(ShownField { label: $label, place: place::$place }),*]
+    };
 }
 
-/// The numbers of the line D of a valuation.
-#[tactic(auto, unfolding(crate::specs::PipeLines::decode_numbers, pipe_fields::specs::Layout::fields_of))]
-pub fn decode_numbers(bits: &[bool]) -> [ShownNumber; 8]
-    ensures { shown result ≡ spec.decode_numbers (fields_of bits.now).d }
-{
-    [
-        shown_at("stat", bits, place::D_STAT),
-        shown_at("icode", bits, place::D_ICODE),
-        shown_at("ifun", bits, place::D_IFUN),
-        shown_at("rA", bits, place::D_R_A),
-        shown_at("rB", bits, place::D_R_B),
-        shown_at("taken", bits, place::D_TAKEN),
-        shown_at("stops", bits, place::D_STOPS),
-        shown_at("back", bits, place::D_BACK),
-    ]
-}
+static FIELDS: [ShownField; FIELD_COUNT] = field_table!(shown_fields);
 
-/// The numbers of the line E of a valuation.
-#[tactic(auto, unfolding(crate::specs::PipeLines::execute_numbers, pipe_fields::specs::Layout::fields_of))]
-pub fn execute_numbers(bits: &[bool]) -> [ShownNumber; 10]
-    ensures { shown result ≡ spec.execute_numbers (fields_of bits.now).e }
+/// The fields of a line of PIPE as they are shown, without the kind of what a stage holds.
+#[tactic(auto, unfolding(crate::specs::PipeLines::line_numbers, pipe_fields::specs::Layout::fields_of))]
+pub fn line_fields(line: StageLine) -> &'static [ShownField]
+    ensures shown { (w : List Bool) → shown w result.now ≡ line_numbers line (fields_of w) }
+    ensures few { are_few result.now ≡ true }
 {
-    [
-        shown_at("stat", bits, place::E_STAT),
-        shown_at("icode", bits, place::E_ICODE),
-        shown_at("ifun", bits, place::E_IFUN),
-        shown_at("dstE", bits, place::E_DST_E),
-        shown_at("dstM", bits, place::E_DST_M),
-        shown_at("srcA", bits, place::E_SRC_A),
-        shown_at("srcB", bits, place::E_SRC_B),
-        shown_at("cnd", bits, place::E_CND),
-        shown_at("stops", bits, place::E_STOPS),
-        shown_at("back", bits, place::E_BACK),
-    ]
-}
-
-/// The numbers of the line M of a valuation.
-#[tactic(auto, unfolding(crate::specs::PipeLines::memory_numbers, pipe_fields::specs::Layout::fields_of))]
-pub fn memory_numbers(bits: &[bool]) -> [ShownNumber; 8]
-    ensures { shown result ≡ spec.memory_numbers (fields_of bits.now).m }
-{
-    [
-        shown_at("stat", bits, place::M_STAT),
-        shown_at("icode", bits, place::M_ICODE),
-        shown_at("ifun", bits, place::M_IFUN),
-        shown_at("dstE", bits, place::M_DST_E),
-        shown_at("dstM", bits, place::M_DST_M),
-        shown_at("cnd", bits, place::M_CND),
-        shown_at("error", bits, place::M_ERROR),
-        shown_at("back", bits, place::M_BACK),
-    ]
-}
-
-/// The numbers of the line W of a valuation.
-#[tactic(auto, unfolding(crate::specs::PipeLines::write_numbers, pipe_fields::specs::Layout::fields_of))]
-pub fn write_numbers(bits: &[bool]) -> [ShownNumber; 4]
-    ensures { shown result ≡ spec.write_numbers (fields_of bits.now).w }
-{
-    [
-        shown_at("stat", bits, place::W_STAT),
-        shown_at("icode", bits, place::W_ICODE),
-        shown_at("dstE", bits, place::W_DST_E),
-        shown_at("dstM", bits, place::W_DST_M),
-    ]
+    match line {
+        StageLine::F => &FIELDS[F_FIRST..D_FIRST],
+        StageLine::D => &FIELDS[D_FIRST..E_FIRST],
+        StageLine::E => &FIELDS[E_FIRST..M_FIRST],
+        StageLine::M => &FIELDS[M_FIRST..W_FIRST],
+        StageLine::W => &FIELDS[W_FIRST..],
+    }
 }
 
 /// Puts the line of a stage that holds something of this kind.
@@ -116,13 +62,16 @@ pub fn write_numbers(bits: &[bool]) -> [ShownNumber; 4]
 fn put_stage(
     out: &mut Vec<u8>,
     letter: &[u8],
-    kind: u64,
-    numbers: &[ShownNumber],
+    bits: &[bool],
+    kind: BitRange,
+    line: StageLine,
 ) -> Result<(), Memory>
-    ensures { OnOk result (out.new.items ≡ out.old.items ++ labelled_line (letter.now ++ kind_word kind) (shown numbers.now)) }
+    requires kind { kind.bits ≤ 4 }
+    ensures { OnOk result (out.new.items ≡ out.old.items
+        ++ labelled_line (letter.now ++ kind_word (spelt bits.now kind.first kind.bits)) (line_numbers line (fields_of bits.now))) }
 {
     put(out, letter)?;
-    put_line(out, word_of(kind), numbers)
+    put_line(out, word_of(number_at(bits, kind)), bits, line_fields(line))
 }
 
 /// Puts the five lines of a valuation.
@@ -130,15 +79,11 @@ fn put_stage(
 fn put_lines(out: &mut Vec<u8>, bits: &[bool]) -> Result<(), Memory>
     ensures { OnOk result (out.new.items ≡ out.old.items ++ pipe_lines (fields_of bits.now)) }
 {
-    put_line(out, b"F", &fetch_numbers(bits))?;
-    let kind = number_at(bits, place::D_KIND);
-    put_stage(out, b"D", kind, &decode_numbers(bits))?;
-    let kind = number_at(bits, place::E_KIND);
-    put_stage(out, b"E", kind, &execute_numbers(bits))?;
-    let kind = number_at(bits, place::M_KIND);
-    put_stage(out, b"M", kind, &memory_numbers(bits))?;
-    let kind = number_at(bits, place::W_KIND);
-    put_stage(out, b"W", kind, &write_numbers(bits))
+    put_line(out, b"F", bits, line_fields(StageLine::F))?;
+    put_stage(out, b"D", bits, place::D_KIND, StageLine::D)?;
+    put_stage(out, b"E", bits, place::E_KIND, StageLine::E)?;
+    put_stage(out, b"M", bits, place::M_KIND, StageLine::M)?;
+    put_stage(out, b"W", bits, place::W_KIND, StageLine::W)
 }
 
 /// The text of a No of PIPE: the obligation that is false, the valuation at which it is, by the names of the rows of

@@ -1,61 +1,74 @@
 //! The texts of a No of SEQ and of SEQ+.
-ghost use Rattle.std.specs.Prelude.{◌≡◌, ◌≤◌, IfOk, length};
+ghost use Rattle.std.specs.Prelude.{◌≡◌, ◌≤◌, Bool, List, true, IfOk, length};
 ghost use Rattle.hcl_types.specs.Tables.{row_names};
 ghost use Rattle.seq_obligations.specs.Fields.{fields_of, line_at, number_at, p_cnd, p_icode, plus_line};
-ghost use Rattle.verdict_text.specs.SeqLine as spec;
-ghost use Rattle.verdict_text.specs.SeqLine.{plus_no, seq_no};
-ghost use Rattle.verdict_text.specs.Views.{AreNear, shown};
+ghost use Rattle.verdict_text.specs.SeqLine.{plus_no, previous_numbers, seq_no, seq_numbers};
+ghost use Rattle.verdict_text.specs.Views.{are_few, shown};
 
 use crate::atoms::put_atoms;
-use crate::numbers::{ShownNumber, put_line, shown_at};
+use crate::numbers::{ShownField, put_line};
 use ctl_atoms::Atom;
 use hcl_types::Row;
 use nets::Valuation;
-use seq_obligations::{BIT_COUNT, LINE, LineRanges, P_CND, P_ICODE, PLUS_BIT_COUNT, PLUS_LINE};
+use seq_obligations::{BIT_COUNT, LINE, P_CND, P_ICODE, PLUS_BIT_COUNT, PLUS_LINE};
 use std::alloc::Global;
 use y86_base::{Memory, Numeral, put};
 
-/// The numbers of the line S of a valuation, whose fields stand at these places.
+/// The fields of a line S that stand at these places.
+macro_rules! line_fields {
+    ($line:expr) => {
+        [
+            ShownField { label: "error", place: $line.error },
+            ShownField { label: "icode", place: $line.icode },
+            ShownField { label: "ifun", place: $line.ifun },
+            ShownField { label: "rA", place: $line.r_a },
+            ShownField { label: "rB", place: $line.r_b },
+            ShownField { label: "cnd", place: $line.cnd },
+            ShownField { label: "derror", place: $line.derror },
+        ]
+    };
+}
+
+static FIELDS: [ShownField; 7] = line_fields!(LINE);
+
+static PLUS_FIELDS: [ShownField; 7] = line_fields!(PLUS_LINE);
+
+static PREVIOUS_FIELDS: [ShownField; 2] = [
+    ShownField {
+        label: "icode",
+        place: P_ICODE,
+    },
+    ShownField {
+        label: "cnd",
+        place: P_CND,
+    },
+];
+
+/// The fields of the line S of SEQ as they are shown.
+#[tactic(auto, unfolding(crate::specs::SeqLine::seq_numbers, seq_obligations::specs::Fields::fields_of))]
+pub fn seq_fields() -> &'static [ShownField]
+    ensures shown { (w : List Bool) → shown w result.now ≡ seq_numbers (fields_of w) }
+    ensures few { are_few result.now ≡ true }
+{
+    &FIELDS
+}
+
+/// The fields of the line S of SEQ+ as they are shown.
 #[tactic(auto, unfolding(crate::specs::SeqLine::seq_numbers, seq_obligations::specs::Fields::line_at))]
-fn line_numbers(bits: &[bool], line: LineRanges) -> [ShownNumber; 7]
-    requires near { AreNear line }
-    ensures { shown result ≡ spec.seq_numbers (line_at line bits.now) }
+pub fn plus_fields() -> &'static [ShownField]
+    ensures shown { (w : List Bool) → shown w result.now ≡ seq_numbers (line_at plus_line w) }
+    ensures few { are_few result.now ≡ true }
 {
-    [
-        shown_at("error", bits, line.error),
-        shown_at("icode", bits, line.icode),
-        shown_at("ifun", bits, line.ifun),
-        shown_at("rA", bits, line.r_a),
-        shown_at("rB", bits, line.r_b),
-        shown_at("cnd", bits, line.cnd),
-        shown_at("derror", bits, line.derror),
-    ]
+    &PLUS_FIELDS
 }
 
-/// The numbers of the line S of SEQ.
-#[tactic(auto, unfolding(seq_obligations::specs::Fields::fields_of, seq_obligations::specs::Fields::line_at))]
-pub fn seq_numbers(bits: &[bool]) -> [ShownNumber; 7]
-    ensures { shown result ≡ spec.seq_numbers (fields_of bits.now) }
-{
-    line_numbers(bits, LINE)
-}
-
-/// The numbers of the line S of SEQ+.
-pub fn plus_numbers(bits: &[bool]) -> [ShownNumber; 7]
-    ensures { shown result ≡ spec.seq_numbers (line_at plus_line bits.now) }
-{
-    line_numbers(bits, PLUS_LINE)
-}
-
-/// The numbers of the line P of SEQ+.
+/// The fields of the line P of SEQ+ as they are shown.
 #[tactic(auto, unfolding(crate::specs::SeqLine::previous_numbers))]
-pub fn previous_numbers(bits: &[bool]) -> [ShownNumber; 2]
-    ensures { shown result ≡ spec.previous_numbers (number_at bits.now p_icode) (number_at bits.now p_cnd) }
+pub fn previous_fields() -> &'static [ShownField]
+    ensures shown { (w : List Bool) → shown w result.now ≡ previous_numbers (number_at w p_icode) (number_at w p_cnd) }
+    ensures few { are_few result.now ≡ true }
 {
-    [
-        shown_at("icode", bits, P_ICODE),
-        shown_at("cnd", bits, P_CND),
-    ]
+    &PREVIOUS_FIELDS
 }
 
 /// The text of a No of SEQ: the obligation that is false, the valuation at which it is, by the names of the rows of
@@ -76,7 +89,7 @@ pub fn seq_refusal(
     put(&mut out, b"no S")?;
     put(&mut out, Numeral::decimal(rule as u64).as_bytes())?;
     put(&mut out, b"\n")?;
-    put_line(&mut out, b"S", &seq_numbers(bits))?;
+    put_line(&mut out, b"S", bits, seq_fields())?;
     put_atoms(&mut out, rows, bits, BIT_COUNT as usize, atoms)?;
     Ok(out)
 }
@@ -100,8 +113,8 @@ pub fn plus_refusal(
     put(&mut out, b"no S")?;
     put(&mut out, Numeral::decimal(rule as u64).as_bytes())?;
     put(&mut out, b"\n")?;
-    put_line(&mut out, b"P", &previous_numbers(bits))?;
-    put_line(&mut out, b"S", &plus_numbers(bits))?;
+    put_line(&mut out, b"P", bits, previous_fields())?;
+    put_line(&mut out, b"S", bits, plus_fields())?;
     put_atoms(&mut out, rows, bits, PLUS_BIT_COUNT as usize, atoms)?;
     Ok(out)
 }

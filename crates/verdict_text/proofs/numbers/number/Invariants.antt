@@ -1,9 +1,0 @@
-use Rattle.std.proofs.Common.{◌≡◌, ◌<◌, ◌^◌}
-use Rattle.net_fields.specs.Spelling.{spelt}
-use Rattle.verdict_text.proofs.numbers.number.Given as goal
-
-abbrev pub invariant-loop-k : goal.invariant-loop-k
-invariant-loop-k l = record {
-  spells : l.n ≡ spelt l.bits l.first l.k;
-  small : l.n < 2 ^ l.k;
-}
