@@ -202,13 +202,18 @@ def test_witness(at, programs, folder):
     same(at.do("el('yss').value"), "abs.ys")
     assert comes_out_wrong(y86, at.source("hcl"), at.source("ys"))
     at.choose("hcls", "mistake: E_dstE in place of e_dstE")
-    at.choose("yss", "add.ys")
+    own = "    irmovq $7, %rax\n    halt\n"
+    at.write("ys", own)
     at.click("#find")
     at.until("/comes out wrong/.test(el('outcome').textContent)")
     at.settle()
     said(at, "outcome", "First wrong")
-    assert len(at.source("ys").split("\n")) < 20, "the program wasn't shortened"
-    assert comes_out_wrong(y86, at.source("hcl"), at.source("ys"))
+    drawn = at.source("ys")
+    assert len(drawn.split("\n")) < 20, "the program wasn't shortened"
+    assert comes_out_wrong(y86, at.source("hcl"), drawn)
+    for value, text in [("", own), ("found", drawn)]:
+        at.choose("yss", value)
+        same(at.source("ys"), text)
 
 
 def test_by_instructions(at):

@@ -2,7 +2,7 @@
 // the editors and nowhere else.
 import { by, dialog, escaped, later, toast } from "./dom.mjs";
 import { on, state } from "./state.mjs";
-import { chosen, editors, isFull, load } from "./texts.mjs";
+import { chosen, editors, isFull, load, mark } from "./texts.mjs";
 
 const KEY = "y86-workbench", LONGEST = 1 << 21, LONGEST_NAME = 80;
 
@@ -63,7 +63,7 @@ export function fromBefore() {
     const kept = JSON.parse(localStorage.getItem(KEY));
     if (kept?.h === undefined) return false;
     put(kept);
-    [by("hcls").value, by("yss").value] = kept.e ?? ["", ""];
+    mark(kept.e ?? ["", ""]);
     Object.assign(state.own, kept.own);
     return true;
   } catch {

@@ -6,6 +6,8 @@ export const state = {
   names: { hcl: "my.hcl", ys: "my.ys" },
   // Texts of the reader's own, kept while an example is shown.
   own: {},
+  // The program that "Find one" has drawn, with its name, or null.
+  found: null,
   // { at, kind: yes, no, fault, none; rule, told, lines, faults }
   verdict: null,
   // What run.mjs reads, or null.

@@ -8,6 +8,8 @@ import { state, tell } from "./state.mjs";
 export const editors = { hcl: new Editor(by("hcl"), "hcl", () => typed("hcl")),
   ys: new Editor(by("ys"), "ys", () => typed("ys")) };
 const CHOICES = { hcl: "hcls", ys: "yss" };
+/** The choice of a program that the page has found. */
+const FOUND = "found";
 
 export const isFull = () => by("full").checked;
 /** The option of a call that has iaddq. */
@@ -61,6 +63,26 @@ export function choose(which, name) {
   if (it.program && by("yss").value !== it.program) choose("ys", it.program);
 }
 
+function offerFound(it) {
+  state.found = it;
+  const select = by("yss");
+  if (!select.querySelector(`[value=${FOUND}]`)) select.add(new Option("the one found", FOUND), 1);
+  select.value = FOUND;
+}
+
+/** Shows a program that the page has found; the reader's own is kept. */
+export function loadFound(text, name) {
+  load("ys", text, name, false);
+  offerFound({ text, name });
+}
+
+/** Marks what is shown by the names of its examples, after a reload. */
+export function mark([hcl, ys]) {
+  by("hcls").value = hcl;
+  if (ys === FOUND) offerFound({ text: editors.ys.text, name: state.names.ys });
+  else by("yss").value = ys;
+}
+
 /** The names of the examples that are shown. */
 export const chosen = () => ({ hcl: by("hcls").value, ys: by("yss").value });
 
@@ -78,7 +100,8 @@ export function wireTexts() {
     fill(select, EXAMPLES[which]);
     select.onchange = () => {
       const own = state.own[which];
-      if (select.value) choose(which, select.value);
+      if (select.value === FOUND) loadFound(state.found.text, state.found.name);
+      else if (select.value) choose(which, select.value);
       else if (own) load(which, own.text, own.name);
     };
   }

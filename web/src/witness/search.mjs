@@ -7,7 +7,7 @@ import { lockstep } from "../lockstep.mjs";
 import { datapath } from "../names.mjs";
 import { on } from "../state.mjs";
 import { tab } from "../tabs.mjs";
-import { choose, full, isFull, load, moment } from "../texts.mjs";
+import { choose, full, isFull, loadFound, moment } from "../texts.mjs";
 import { programs, sourceOf } from "./programs.mjs";
 
 const TRIES = 1200, LIMIT = "2000", CYCLES = "10000", COMMANDS = { seq: "ssim", seqplus: "ssimp" };
@@ -98,7 +98,7 @@ async function search(path) {
       const lines = await fromDrawn(trial, say);
       if (!it.isHcl()) return;
       if (!lines) return say(`none of ${TRIES} programs comes out wrong`);
-      load("ys", HEAD + sourceOf(lines), "witness.ys");
+      loadFound(HEAD + sourceOf(lines), "witness.ys");
     }
     tab("run");
     toast(`${name || "A program"} comes out wrong`);
