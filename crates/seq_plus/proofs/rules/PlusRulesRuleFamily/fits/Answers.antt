@@ -15,7 +15,7 @@ returns-clause-has_truth c =
     let i = inside_more c.code_allowed.ensures.extends c.requires.inside in
     let code = asked_more c.line_allowed.ensures.extends i (asked_gate c.in_ok-code.ensures.has_truth) in
     IfOk-weaker c.and.result _ _ (λ g gate.
-      asked_as
-      (asked_two (λ w x y. x && y) c.and.ensures.extends (inside_more c.line_allowed.ensures.extends i) code c.in_ok-rest.ensures.has_truth gate)
-      (λ w α cv. refl))
+    asked_as
+    (asked_two (λ w x y. x && y) c.and.ensures.extends (inside_more c.line_allowed.ensures.extends i) code c.in_ok-rest.ensures.has_truth gate)
+    (λ w α cv. refl))
     c.and.ensures.has_truth
