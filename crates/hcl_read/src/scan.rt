@@ -6,9 +6,8 @@ ghost use Rattle.y86_base.specs.Number.{word_within};
 ghost use Rattle.y86_base.specs.Text as text;
 ghost use Rattle.hcl_read.specs.Tokens as spec;
 
-use hcl_tree::Text;
 use crate::tokens::Token;
-use hcl_tree::{CmpOp, Kind};
+use hcl_tree::{CmpOp, Kind, Text};
 use std::alloc::Global;
 use y86_base::{Memory, Number, decimal_at, is_blank, is_letter, split_name};
 

@@ -8,9 +8,8 @@ use crate::fault::HclWhy;
 use crate::frames::ExprState;
 use crate::stack::Stack;
 use crate::steps::{body_step, refusal, start_level, with_last};
-use hcl_tree::Text;
 use crate::tokens::Token;
-use hcl_tree::{Expr, File, Item, Kind};
+use hcl_tree::{Expr, File, Item, Kind, Text};
 use std::alloc::Global;
 use y86_base::Items;
 

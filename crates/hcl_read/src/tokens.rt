@@ -1,6 +1,5 @@
 //! The tokens of HCL.
-use hcl_tree::Text;
-use hcl_tree::{CmpOp, Kind};
+use hcl_tree::{CmpOp, Kind, Text};
 
 /// A token of HCL, the smallest unit of the grammar.
 #[derive(Debug, Drop)]
