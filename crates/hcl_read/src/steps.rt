@@ -12,7 +12,7 @@ use crate::frames::{ExprState, Frame, Level, OperandSide};
 use crate::stack::Stack;
 use crate::state::BodyMove;
 use crate::tokens::Token;
-use hcl_tree::{Branch, CmpOp, Expr};
+use hcl_tree::{Branch, Expr};
 use std::alloc::Global;
 use y86_base::{Boxed, Items, Memory};
 
