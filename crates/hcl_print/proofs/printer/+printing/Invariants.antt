@@ -1,6 +1,6 @@
 use Rattle.std.proofs.Common.{◌≡◌, ◌++◌, map, drop, cond}
 use Rattle.hcl_print.specs.Print.{branch_text, branches, further, joined, shown}
-use Rattle.hcl_read.proofs.printer.+printing.Given as goal
+use Rattle.hcl_print.proofs.printer.+printing.Given as goal
 
 abbrev pub invariant-put_branches-loop-b : goal.invariant-put_branches-loop-b
 invariant-put_branches-loop-b l = l.out.items ++ branches (map branch_text (drop l.b-index l.bs)) ≡ l.fn.out.items ++ branches (map branch_text l.bs)
