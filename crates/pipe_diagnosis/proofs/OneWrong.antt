@@ -1,22 +1,16 @@
 -- Where an obligation is false, one of its requirements isn't met; an obligation on motion has none. The computed control values are those of PIPE.
-use Rattle.std.proofs.Common.{◌≡◌, ℕ, ◌<◌, ◌≤◌, Bool, true, false, not, ◌&&◌, ◌||◌, List, [], ◌∷◌, map, refl, sym, ap, ◌∙◌, subst, arith}
+use Rattle.std.proofs.Common.{◌≡◌, ℕ, ◌<◌, ◌≤◌, Bool, false, List, [], ◌∷◌, map, sym, ap, ◌∙◌, subst, arith}
 use Rattle.std.proofs.lemmas.List.{get_or_past}
 use Rattle.y86_base.specs.declared.parts.Variant.{Variant}
 use Rattle.hcl_types.specs.declared.term.Term.{Term}
-use Rattle.hcl_types.specs.Tables.{IsOrderOf}
 use Rattle.ctl_atoms.specs.declared.leaf.Leaf.{Leaf}
 use Rattle.ctl_atoms.specs.declared.leaf.Atom.{Atom}
-use Rattle.ctl_atoms.specs.Atoms.{AreAtoms}
-use Rattle.ctl_atoms.specs.Leaves.{Assignment, AtomsAre}
-use Rattle.ctl_atoms.proofs.Listed.{apart}
-use Rattle.ctl_atoms.proofs.Solved.{leaves_exist}
-use Rattle.hcl_types.specs.Lists.{IsApart}
+use Rattle.ctl_atoms.specs.Leaves.{Assignment}
 use Rattle.ctl_formula.specs.Controls.{AreControls}
-use Rattle.control_values.specs.Given.{assigned, field_at}
-use Rattle.control_values.proofs.AtomsGiven.{given_atoms}
+use Rattle.control_values.specs.Given.{field_at}
 use Rattle.dp_signals.specs.PipeTable.{pipe_rows}
 use Rattle.net_fields.specs.FieldSpecs.{number_among}
-use Rattle.pipe_fields.specs.Layout.{Fields, bit_count, fields_of, number_of, field_specs}
+use Rattle.pipe_fields.specs.Layout.{Fields, fields_of, number_of, field_specs}
 use Rattle.pipe_fields.proofs.Told.{numbers_of}
 use Rattle.pipe_motion.specs.Flow.{Flow, RegisterControls}
 use Rattle.pipe_motion.specs.declared.settings.Settings.{Settings}
