@@ -1,22 +1,16 @@
 -- Where an obligation is false, one of its requirements isn't met; an obligation on motion has none. The computed control values are those of PIPE.
-use Rattle.std.proofs.Common.{◌≡◌, ℕ, ◌-◌, ◌<◌, ◌≤◌, Bool, true, false, not, ◌&&◌, ◌||◌, List, [], ◌∷◌, map, refl, sym, ap, ◌∙◌, subst, arith}
+use Rattle.std.proofs.Common.{◌≡◌, ℕ, ◌<◌, ◌≤◌, Bool, false, List, [], ◌∷◌, map, sym, ap, ◌∙◌, subst, arith}
 use Rattle.std.proofs.lemmas.List.{get_or_past}
 use Rattle.y86_base.specs.declared.parts.Variant.{Variant}
 use Rattle.hcl_types.specs.declared.term.Term.{Term}
-use Rattle.hcl_types.specs.Tables.{IsOrderOf}
 use Rattle.ctl_atoms.specs.declared.leaf.Leaf.{Leaf}
 use Rattle.ctl_atoms.specs.declared.leaf.Atom.{Atom}
-use Rattle.ctl_atoms.specs.Atoms.{AreAtoms}
-use Rattle.ctl_atoms.specs.Leaves.{Assignment, AtomsAre}
-use Rattle.ctl_atoms.proofs.Listed.{apart}
-use Rattle.ctl_atoms.proofs.Solved.{leaves_exist}
-use Rattle.hcl_types.specs.Lists.{IsApart}
+use Rattle.ctl_atoms.specs.Leaves.{Assignment}
 use Rattle.ctl_formula.specs.Controls.{AreControls}
-use Rattle.control_values.specs.Given.{assigned, field_at}
-use Rattle.control_values.proofs.AtomsGiven.{given_atoms}
+use Rattle.control_values.specs.Given.{field_at}
 use Rattle.dp_signals.specs.PipeTable.{pipe_rows}
 use Rattle.net_fields.specs.FieldSpecs.{number_among}
-use Rattle.pipe_fields.specs.Layout.{Fields, bit_count, fields_of, number_of, field_specs}
+use Rattle.pipe_fields.specs.Layout.{Fields, fields_of, number_of, field_specs}
 use Rattle.pipe_fields.proofs.Told.{numbers_of}
 use Rattle.pipe_motion.specs.Flow.{Flow, RegisterControls}
 use Rattle.pipe_motion.specs.declared.settings.Settings.{Settings}
@@ -33,7 +27,7 @@ use Rattle.pipe_requirements.proofs.ByRequirements.{by_requirements}
 -- an obligation from 23 on requires nothing of a signal
 pub none_behind : (v : Variant) (s : Settings) (c : Fields) (y : Flow) (mv : RegisterControls) (cv : ℕ → Leaf) (i : ℕ) → 22 < i → [] ≡ requirements v s c y mv cv i
 unfolding requirements
-none_behind v s c y mv cv i gt = sym (get_or_past (required v s c y mv cv) (i - 1) [] (let le : 22 ≤ i - 1 = omega (arith, gt) in le))
+none_behind v s c y mv cv i gt = sym (get_or_past ([] ∷ required v s c y mv cv) i [] (let le : 23 ≤ i = omega (arith, gt) in le))
 
 -- the number of each field is that of the valuation
 pub numbers_are : (w : List Bool) (n : ℕ) → field_at field_specs w n ≡ number_of (fields_of w) n

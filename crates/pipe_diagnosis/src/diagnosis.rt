@@ -1,6 +1,6 @@
 //! The findings at a valuation.
-ghost use Rattle.std.specs.Prelude.{◌≡◌, ◌≤◌, ◌++◌, ◌∷◌, [], ◌+◌, ◌-◌, IfOk, OnOk, length, map, slice_get};
-ghost use Rattle.hcl_types.specs.Tables.{IsBound, IsOrderOf};
+ghost use Rattle.std.specs.Prelude.{◌≡◌, ◌≤◌, IfOk, map};
+ghost use Rattle.hcl_types.specs.Tables.{IsOrderOf};
 ghost use Rattle.dp_signals.specs.PipeTable.{pipe_rows};
 ghost use Rattle.ctl_atoms.specs.Atoms.{AreAtoms};
 ghost use Rattle.control_values.specs.Given.{assigned, at};
@@ -9,10 +9,9 @@ ghost use Rattle.pipe_requirements.specs.Requirements.{requirements, unread};
 ghost use Rattle.pipe_requirements.specs.Flows.{fields_in, as_register_controls, as_flow};
 ghost use Rattle.dp_signals.specs.PipeNames as signal;
 ghost use Rattle.findings.specs.Findings.{finding};
-ghost use Rattle.pipe_fields.specs.Layout.{bit_count, fields_of};
+ghost use Rattle.pipe_fields.specs.Layout.{fields_of};
 ghost use Rattle.motion_repairs.specs.Pairs as pairs;
 ghost use Rattle.pipe_obligations.specs.Obligations as rule;
-ghost use Rattle.pipe_obligations.specs.FileSettings.{PipeControls};
 ghost use Rattle.pipe_obligations.specs.StageFlows as stages;
 ghost use Rattle.pipe_diagnosis.specs.Diagnosis as spec;
 

@@ -1,4 +1,4 @@
-use Rattle.std.proofs.Common.{◌∙◌, ◌≤◌, sym, ap, subst, ℕ, List, map}
+use Rattle.std.proofs.Common.{◌∙◌, sym, ap, subst, ℕ, List, map}
 use Rattle.hcl_types.specs.declared.table.Row.{Row}
 use Rattle.hcl_types.specs.Tables.{IsSound}
 use Rattle.dp_signals.specs.PipeTable.{pipe_rows}
