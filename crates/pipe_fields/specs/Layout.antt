@@ -88,6 +88,7 @@ pub record Field : Type 0 where
   pub spec : FieldSpec
   pub number : Fields → ℕ
 
+-- one that a signal is, and one that no signal reads
 abbrev read_by : List ℕ → ℕ → ℕ → (Fields → ℕ) → Field
 read_by label bits name number = record { label = label; spec = record { bits = bits; name = Some name }; number = number }
 

@@ -19,7 +19,7 @@ fn bit_at(bits: &[bool], i: usize) -> u64
 }
 
 /// The number that some bits of a valuation spell, the most significant one first.
-#[tactic(auto, using(crate::proofs::Few::one_more))]
+#[tactic(auto, using(net_fields::proofs::Loops::number_none, crate::proofs::Few::one_more))]
 pub(crate) fn number_at(bits: &[bool], place: BitRange) -> u64
     ensures { result ≡ spelt bits.now place.first place.bits % 2 ^ 64 }
 {
