@@ -19,7 +19,7 @@ pub struct Stack {
 impl Model for Stack {
     ghost use Rattle.std.specs.Prelude.{List, reverse};
     ghost use Rattle.hcl_read.specs.declared.frames.Frame.{Frame};
-    ghost use Rattle.hcl_read.specs.contracts.tree.Expr as expr;
+    ghost use Rattle.hcl_tree.specs.contracts.tree.Expr as expr;
     ghost use Rattle.std.specs.Coded.{codes};
 
     ghost Value = { List Frame };
