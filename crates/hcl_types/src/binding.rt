@@ -17,6 +17,14 @@ use hcl_tree::{Expr, File, Item, Kind, Text};
 use std::alloc::{AllocError, Global};
 use y86_base::Items;
 
+/// A definition of a file.
+#[derive(Clone, Copy)]
+struct Definition<'a> {
+    kind: Kind,
+    name: &'a Text,
+    body: &'a Expr,
+}
+
 /// Whether a signal of the kind can be of the class.
 fn fits(kind: Kind, class: Class) -> bool
     ensures { result ≡ is_of kind class }
@@ -83,13 +91,12 @@ fn define(
     places: &NameIndex,
     before: bool,
     row: &Row,
-    kind: Kind,
-    name: &Text,
-    body: &Expr,
+    definition: Definition,
 ) -> Result<Term, BindFault>
     requires { places.now ≡ row_names rows.now }
-    ensures { IsBindAnswer result (defined_as rows.now before (Some row.now) kind name.now body.now) }
+    ensures { IsBindAnswer result (defined_as rows.now before (Some row.now) definition.entry.kind definition.entry.name.now definition.entry.body.now) }
 {
+    let Definition { kind, name, body } = definition;
     if !is_defined(&row.role) {
         return Err(BindFault::of(alloc, BindWhy::Redefines, name));
     }
@@ -110,22 +117,20 @@ fn put_definition(
     rows: &[Row],
     places: &NameIndex,
     bodies: &mut Vec<Option<Term>>,
-    kind: Kind,
-    name: &Text,
-    body: &Expr,
+    definition: Definition,
 ) -> Result<(), BindFault>
     requires places { places.now ≡ row_names rows.now }
     requires whole { length bodies.old.items ≡ length rows.now }
-    ensures { steps.IsStepAnswer result bodies.new.items (steps.put_definition rows.now bodies.old.items (place places.now name.now) kind name.now body.now) }
+    ensures { steps.IsStepAnswer result bodies.new.items (steps.put_definition rows.now bodies.old.items (place places.now definition.entry.name.now) definition.entry.kind definition.entry.name.now definition.entry.body.now) }
 {
-    let Some(id) = places.find(name.bytes()) else {
-        return Err(BindFault::of(alloc, BindWhy::Unknown, name));
+    let Some(id) = places.find(definition.name.bytes()) else {
+        return Err(BindFault::of(alloc, BindWhy::Unknown, definition.name));
     };
     let before = is_taken(bodies, id);
     match rows.get(id as usize) {
-        None => Err(BindFault::of(alloc, BindWhy::Unknown, name)),
+        None => Err(BindFault::of(alloc, BindWhy::Unknown, definition.name)),
         Some(row) => {
-            let t = define(alloc, rows, places, before, row, kind, name, body)?;
+            let t = define(alloc, rows, places, before, row, definition)?;
             bodies[id as usize] = Some(t);
             Ok(())
         }
@@ -152,7 +157,8 @@ fn put_item(
             text: _,
         } => declare(alloc, rows, places, *kind, name),
         Item::Def { kind, name, body } => {
-            put_definition(alloc, rows, places, bodies, *kind, name, body)
+            let kind = *kind;
+            put_definition(alloc, rows, places, bodies, Definition { kind, name, body })
         }
     }
 }
