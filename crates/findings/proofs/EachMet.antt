@@ -1,5 +1,5 @@
 -- Lists of requirements that are met one by one, and lists of what is false.
-use Rattle.std.proofs.Common.{◌≡◌, ℕ, zero, suc, ◌<◌, Bool, true, false, not, ◌&&◌, ◌||◌, ◌==◌, List, [], ◌∷◌, ◌++◌, map, length, get_or, Option, Some, None, if◌then◌else◌, refl, sym, ap, ◌∙◌, subst, arith}
+use Rattle.std.proofs.Common.{◌≡◌, ℕ, Bool, true, false, not, ◌&&◌, ◌||◌, ◌==◌, List, [], ◌∷◌, ◌++◌, map, Option, Some, None, if◌then◌else◌, refl, sym, ap, ◌∙◌, subst, arith}
 use Rattle.std.proofs.lemmas.Bool.Decides.{nat_tests}
 use Rattle.std.proofs.lemmas.Bool.{or_parts}
 use Rattle.std.proofs.Math.Bool.{and_assoc}
@@ -31,42 +31,6 @@ two false b = refl
 pub if_both : (f : Requirement → Bool) (b x y : Bool) (xs ys : List Requirement) → x ≡ each f xs → y ≡ each f ys → (if b then x else y) ≡ each f (if b then xs else ys)
 if_both f true x y xs ys p q = p
 if_both f false x y xs ys p q = q
-
--- answers and, beside each, the requirements that are met exactly where it is true; more answers may follow
-abbrev Says : (Requirement → Bool) → List Bool → List (List Requirement) → Type 0
-Says f bs [] = Unit {0}
-Says f [] (xs ∷ xss) = ⊥
-Says f (b ∷ bs) (xs ∷ xss) = (b ≡ each f xs) × Says f bs xss
-
-pub record SaysEach (f : Requirement → Bool) (bs : List Bool) (xss : List (List Requirement)) : Type 0 where
-  pub all : Says f bs xss
-
-infixr 5 ◌▹◌
-pub ◌▹◌ : {f : Requirement → Bool} {b : Bool} {bs : List Bool} {xs : List Requirement} {xss : List (List Requirement)} → b ≡ each f xs → SaysEach f bs xss → SaysEach f (b ∷ bs) (xs ∷ xss)
-p ▹ rest = record { all = (p, rest.all) }
-
-pub all_said : {f : Requirement → Bool} {bs : List Bool} → SaysEach f bs []
-all_said = record { all = tt }
-
-within : (f : Requirement → Bool) (bs : List Bool) (xss : List (List Requirement)) → Says f bs xss → (n : ℕ) → n < length xss → get_or bs n true ≡ each f (get_or xss n [])
-within f bs [] h n lt = absurd (omega (arith, lt))
-within f [] (xs ∷ xss) h n lt = absurd h
-within f (b ∷ bs) (xs ∷ xss) h zero lt = h.0
-within f (b ∷ bs) (xs ∷ xss) h (suc n) lt = within f bs xss h.1 n (omega (arith, lt))
-
-at : (f : Requirement → Bool) (bs : List Bool) (xss : List (List Requirement)) → Says f bs xss → length bs ≡ length xss → (n : ℕ) → get_or bs n true ≡ each f (get_or xss n [])
-at f [] [] h e n = refl
-at f (b ∷ bs) [] h e n = absurd (omega (arith, e))
-at f [] (xs ∷ xss) h e n = absurd h
-at f (b ∷ bs) (xs ∷ xss) h e zero = h.0
-at f (b ∷ bs) (xs ∷ xss) h e (suc n) = at f bs xss h.1 (omega (arith, e)) n
-
-pub says_within : {f : Requirement → Bool} {bs : List Bool} {xss : List (List Requirement)} → SaysEach f bs xss → (n : ℕ) → n < length xss → get_or bs n true ≡ each f (get_or xss n [])
-says_within {f} {bs} {xss} said n lt = within f bs xss said.all n lt
-
--- where as many follow on both sides, behind them too: there is no answer, and nothing is required
-pub says_at : {f : Requirement → Bool} {bs : List Bool} {xss : List (List Requirement)} → SaysEach f bs xss → length bs ≡ length xss → (n : ℕ) → get_or bs n true ≡ each f (get_or xss n [])
-says_at {f} {bs} {xss} said e n = at f bs xss said.all e n
 
 pub guarded : (f : Requirement → Bool) (b x : Bool) (xs : List Requirement) → x ≡ each f xs → (not b || x) ≡ each f (only_if b xs)
 guarded f true x xs p = p

@@ -1,7 +1,8 @@
 -- An obligation is met exactly where each of its requirements is.
-use Rattle.std.proofs.Common.{◌≡◌, ℕ, ◌≤◌, Bool, true, false, ◌&&◌, ◌||◌, [], ◌∷◌, refl, ap, arith}
+use Rattle.std.proofs.Common.{◌≡◌, ℕ, ◌≤◌, Bool, true, false, ◌&&◌, ◌||◌, [], ◌∷◌, get_or, refl, ap, arith}
 use Rattle.y86_base.specs.declared.parts.Variant.{Variant}
 use Rattle.y86_base.specs.Words.{set}
+use Rattle.y86_base.proofs.EachBelow.{EachFrom, ◌▹◌, no_more, each_below}
 use Rattle.y86_isa.specs.Table.{row, no_register}
 use Rattle.y86_isa.specs.RowTests.{has_operand_a, stores_val_a, select_a_is_val_p, select_a_is_val_a}
 use Rattle.y86_isa.specs.Blocks.{is_load, is_store}
@@ -19,7 +20,7 @@ use Rattle.pipe_obligations.specs.Rules.{demands}
 use Rattle.dp_signals.specs.PipeNames as signal
 use Rattle.findings.specs.Requirements.{is_met, requirement_of, word, only_if, unless}
 use Rattle.findings.specs.declared.requirement.Wanted.TheVariants as wanted
-use Rattle.findings.proofs.EachMet.{SaysEach, ◌▹◌, all_said, says_within, one, two, if_both, guarded, excused, both, some_is}
+use Rattle.findings.proofs.EachMet.{one, two, if_both, guarded, excused, both, some_is}
 use Rattle.pipe_requirements.specs.Requirements.{right_word, required1, required5, required10, required11, required12, required13, required14, required16, required17, required18, required19, required21, required, requirements, IsByRequirements}
 
 four : (a b c d : Bool) → (a && (b && (c && d))) ≡ (a && (b && (c && (d && true))))
@@ -77,8 +78,13 @@ module _ (v : Variant) (s : Settings) (c : Fields) (y : Flow) (mv : RegisterCont
   at21 : rule.o21 v s c y mv α cv ≡ each (is_met α cv) (required21 v s c y mv cv)
   at21 = guarded (is_met α cv) y.w.good _ _ (four (is_number cv signal.w_dstE c.w.dst_e) (is_number cv signal.w_dstM c.w.dst_m) (picks_leaf cv signal.w_valE (Name signal.W_valE)) (picks_leaf cv signal.w_valM (Name signal.W_valM)))
 
-  each_said : SaysEach (is_met α cv) (demands v s c y mv α cv) (required v s c y mv cv)
+  IsSaid : ℕ → Type 0
+  IsSaid n = get_or (true ∷ demands v s c y mv α cv) n true ≡ each (is_met α cv) (get_or ([] ∷ required v s c y mv cv) n [])
+
+  -- no obligation has number 0
+  each_said : EachFrom IsSaid 0 23
   each_said =
+      refl ▹
       at1 ▹
       (one _) ▹
       (one _) ▹
@@ -101,12 +107,8 @@ module _ (v : Variant) (s : Settings) (c : Fields) (y : Flow) (mv : RegisterCont
       (one _) ▹
       at21 ▹
       (one _) ▹
-      all_said
+      no_more
 
   pub by_requirements : (i : ℕ) → 1 ≤ i → i ≤ 22 → IsByRequirements v s c y mv α cv i
   unfolding requirements
-  by_requirements i ge le = says_within (nothing ▹ each_said) i (omega (arith, le))
-    where
-      -- no obligation has number 0
-      nothing : true ≡ each (is_met α cv) []
-      nothing = refl
+  by_requirements i ge le = each_below IsSaid 23 each_said i (omega (arith, le))

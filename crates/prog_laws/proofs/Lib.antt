@@ -6,7 +6,6 @@ pub mod Walking
 pub mod Images
 pub mod Whole
 pub mod Behind
-pub mod EachBelow
 pub mod Drawn
 pub mod Lawful
 pub mod Witness

@@ -1,7 +1,10 @@
 -- An obligation is met exactly where each of its requirements is.
-use Rattle.std.proofs.Common.{◌≡◌, ℕ, true, ◌==◌, List, [], refl}
+use Rattle.std.proofs.Common.{◌≡◌, ◌⊎◌, inl, inr, ℕ, Bool, true, ◌==◌, List, [], ◌∷◌, get_or, refl, sym, ap, ◌∙◌}
+use Rattle.std.proofs.lemmas.Bool.{cases_lt}
+use Rattle.std.proofs.lemmas.List.{get_or_past}
 use Rattle.y86_base.specs.declared.parts.Variant.{Variant}
 use Rattle.y86_base.specs.Words.{set}
+use Rattle.y86_base.proofs.EachBelow.{EachFrom, ◌▹◌, no_more, each_below}
 use Rattle.y86_isa.specs.declared.columns.Row.{Row}
 use Rattle.y86_isa.specs.Table.{row}
 use Rattle.y86_isa.specs.RowTests.{has_operand_a}
@@ -12,7 +15,8 @@ use Rattle.ctl_atoms.specs.Leaves.{Assignment}
 use Rattle.ctl_rules.specs.ColumnDemands.{is_number, is_truth, operand_leaf_a, operand_leaf_b, address_leaf, word_leaf, next_leaf}
 use Rattle.dp_signals.specs.SeqNames as seq_row
 use Rattle.findings.specs.Requirements.{is_met}
-use Rattle.findings.proofs.EachMet.{SaysEach, ◌▹◌, all_said, says_at, one, two, if_both, guarded, excused, some_is}
+use Rattle.findings.specs.declared.requirement.Requirement.{Requirement}
+use Rattle.findings.proofs.EachMet.{one, two, if_both, guarded, excused, some_is}
 use Rattle.seq_obligations.specs.Fields as seq
 use Rattle.seq_obligations.specs.Obligations.{demand_at as seq_demand_at, faulted, shared_demand, shared_demands}
 use Rattle.dp_signals.specs.declared.sequential_rows.SignalRows.{SignalRows}
@@ -27,14 +31,24 @@ use Rattle.seq_requirements.specs.declared.datapath.Datapath.TheVariants.{Seq, P
 module _ (α : Assignment) (cv : ℕ → Leaf) where
   shared_is : (s : SignalRows) (i : ℕ) (r : Row) (c : seq.Fields) → shared_demand s i r c α cv ≡ each (is_met α cv) (shared_requirements s i r c)
   unfolding shared_requirements
-  shared_is s i r c = says_at (nothing ▹ each_said) refl i
+  shared_is s i r c = elim (cases_lt i 16) [
+      | inl lt ↦ each_below IsSaid 16 each_said i lt
+      | inr ge ↦ get_or_past answers i true ge ∙ ap (λ xs. each (is_met α cv) xs) (sym (get_or_past needs i [] ge))
+    ]
     where
-      -- no rule has number 0
-      nothing : true ≡ each (is_met α cv) []
-      nothing = refl
+      answers : List Bool
+      answers = true ∷ shared_demands s r c α cv
 
-      each_said : SaysEach (is_met α cv) (shared_demands s r c α cv) (shared_required s r c)
+      needs : List (List Requirement)
+      needs = [] ∷ shared_required s r c
+
+      IsSaid : ℕ → Type 0
+      IsSaid n = get_or answers n true ≡ each (is_met α cv) (get_or needs n [])
+
+      -- no rule has number 0
+      each_said : EachFrom IsSaid 0 16
       each_said =
+          refl ▹
           two (is_number cv s.icode c.icode) (is_number cv s.ifun c.ifun) ▹
           one _ ▹
           one _ ▹
@@ -50,7 +64,7 @@ module _ (α : Assignment) (cv : ℕ → Leaf) where
           two (is_truth α cv s.mem_read (is_load r.memory)) (is_truth α cv s.mem_write (is_store r.memory)) ▹
           some_is α cv s.mem_data (word_leaf r.memory s.val_a s.val_p) ▹
           one _ ▹
-          all_said
+          no_more
 
   pub by_requirements : (which : Datapath) (v : Variant) (xs : List ℕ) (i : ℕ) → IsByRequirements which v xs α cv i
   unfolding seq_demand_at plus_demand_at

@@ -8,3 +8,4 @@ pub mod Numerals
 pub mod Runs
 pub mod Memories
 pub mod Decimals
+pub mod EachBelow
