@@ -4,3 +4,4 @@ pub mod Icodes
 pub mod Places
 pub mod Loops
 pub mod Fitting
+pub mod EachBelow

@@ -2,7 +2,7 @@
 use Rattle.std.proofs.Common.{◌≡◌, ℕ, ◌≤◌, Bool, true, false, ◌&&◌, ◌||◌, [], ◌∷◌, get_or, refl, ap, arith}
 use Rattle.y86_base.specs.declared.parts.Variant.{Variant}
 use Rattle.y86_base.specs.Words.{set}
-use Rattle.y86_base.proofs.EachBelow.{EachFrom, ◌▹◌, no_more, each_below}
+use Rattle.net_fields.proofs.EachBelow.{EachFrom, ◌▹◌, no_more, each_below}
 use Rattle.y86_isa.specs.Table.{row, no_register}
 use Rattle.y86_isa.specs.RowTests.{has_operand_a, stores_val_a, select_a_is_val_p, select_a_is_val_a}
 use Rattle.y86_isa.specs.Blocks.{is_load, is_store}

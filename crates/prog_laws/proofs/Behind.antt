@@ -15,7 +15,7 @@ use Rattle.pipe_fields.specs.Allowed.{allowed, fetch_row_allowed, decode_row_all
 use Rattle.pipe_fields.proofs.Told.{LinesAllowed, lines_allowed}
 use Rattle.prog_gen.specs.Choices.{AreChosen, choice_allowed, stat_choice_allowed, icode_choice_allowed, ifun_choice_allowed}
 use Rattle.prog_laws.proofs.Lawful.{then_true, else_true, choose_then, choose_else}
-use Rattle.y86_base.proofs.EachBelow.{EachFrom, ◌▹◌, no_more, each_below}
+use Rattle.net_fields.proofs.EachBelow.{EachFrom, ◌▹◌, no_more, each_below}
 
 -- ---- tests that are known
 

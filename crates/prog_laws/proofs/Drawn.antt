@@ -19,7 +19,7 @@ use Rattle.prog_gen.specs.Draws.{lcg_next, lcg_output}
 use Rattle.prog_laws.specs.AllowedPrefix.{PrefixGoesOn, IsAllowedPrefix}
 use Rattle.prog_laws.proofs.Behind.{allowed_chosen}
 use Rattle.prog_gen.proofs.Chosen.{passes_more, passes_same}
-use Rattle.y86_base.proofs.EachBelow.{EachFrom, ◌▹◌, no_more, each_below}
+use Rattle.net_fields.proofs.EachBelow.{EachFrom, ◌▹◌, no_more, each_below}
 use Rattle.prog_laws.proofs.Lawful.{chosen_allowed}
 use Rattle.prog_laws.proofs.Witness.{Some_below, witness}
 

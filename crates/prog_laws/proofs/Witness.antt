@@ -17,7 +17,7 @@ use Rattle.pipe_fields.specs.Layout.{Fields, fields_by, numbers, bubble, field_c
 use Rattle.pipe_fields.specs.Allowed.{is_good_aok}
 use Rattle.prog_gen.specs.Choices.{choice_allowed, stat_choice_allowed, icode_choice_allowed, ifun_choice_allowed, width}
 use Rattle.prog_laws.proofs.Lawful.{else_true, choose_then, choose_else}
-use Rattle.y86_base.proofs.EachBelow.{EachFrom, ◌▹◌, no_more, each_below}
+use Rattle.net_fields.proofs.EachBelow.{EachFrom, ◌▹◌, no_more, each_below}
 
 -- a number below a bound that passes a test
 pub record Some_below (bound : ℕ) (may : ℕ → Bool) : Type 0 where

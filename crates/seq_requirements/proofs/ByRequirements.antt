@@ -4,7 +4,7 @@ use Rattle.std.proofs.lemmas.Bool.{cases_lt}
 use Rattle.std.proofs.lemmas.List.{get_or_past}
 use Rattle.y86_base.specs.declared.parts.Variant.{Variant}
 use Rattle.y86_base.specs.Words.{set}
-use Rattle.y86_base.proofs.EachBelow.{EachFrom, ◌▹◌, no_more, each_below}
+use Rattle.net_fields.proofs.EachBelow.{EachFrom, ◌▹◌, no_more, each_below}
 use Rattle.y86_isa.specs.declared.columns.Row.{Row}
 use Rattle.y86_isa.specs.Table.{row}
 use Rattle.y86_isa.specs.RowTests.{has_operand_a}
@@ -32,9 +32,9 @@ module _ (α : Assignment) (cv : ℕ → Leaf) where
   shared_is : (s : SignalRows) (i : ℕ) (r : Row) (c : seq.Fields) → shared_demand s i r c α cv ≡ each (is_met α cv) (shared_requirements s i r c)
   unfolding shared_requirements
   shared_is s i r c = elim (cases_lt i 16) [
-      | inl lt ↦ each_below IsSaid 16 each_said i lt
-      | inr ge ↦ get_or_past answers i true ge ∙ ap (λ xs. each (is_met α cv) xs) (sym (get_or_past needs i [] ge))
-    ]
+    | inl lt ↦ each_below IsSaid 16 each_said i lt
+    | inr ge ↦ get_or_past answers i true ge ∙ ap (λ xs. each (is_met α cv) xs) (sym (get_or_past needs i [] ge))
+  ]
     where
       answers : List Bool
       answers = true ∷ shared_demands s r c α cv

@@ -8,4 +8,3 @@ pub mod Numerals
 pub mod Runs
 pub mod Memories
 pub mod Decimals
-pub mod EachBelow
