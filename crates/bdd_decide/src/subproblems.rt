@@ -38,12 +38,12 @@ pub fn split_of(cut: CaseSplit, vars: u32) -> CaseSplit
 
 /// One of the bits of a part, the most significant one first.
 #[tactic(auto, using(crate::proofs::Bits::bit_before, crate::proofs::Bits::bit_last))]
-fn bit_of(part: Part, i: u32) -> bool
-    requires { i < part.bits }
-    ensures { result ≡ get_or (spell part.bits part.number) i false }
+fn bit_of(part: u64, bits: u32, i: u32) -> bool
+    requires { i < bits }
+    ensures { result ≡ get_or (spell bits part) i false }
 {
-    let mut rest = part.number;
-    let mut left = part.bits;
+    let mut rest = part;
+    let mut left = bits;
     while left > i + 1 {
         rest /= 2;
         left -= 1;
@@ -58,7 +58,7 @@ pub fn sources_in(alloc: Global, part: Part, vars: u32) -> Result<Vec<Replacemen
     let mut to: Vec<Replacement> = Vec::new(alloc);
     for i in 0..vars {
         let source = if i < part.bits {
-            Replacement::Const(bit_of(part, i))
+            Replacement::Const(bit_of(part.number, part.bits, i))
         } else {
             Replacement::Var(i)
         };
