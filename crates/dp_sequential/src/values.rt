@@ -192,10 +192,10 @@ pub fn solve_in<S: Sequential, C: SignalEval>(
     requires ordered { IsOrderOf S.path.table ordered.design.now.terms ordered.order.now.ids }
     requires constants { Starts constants values.old }
     requires size { length values.old ≡ S.path.count }
-    ensures solves { Solves S.path variant ordered.design.now.terms s.now (at values.new) }
+    ensures solves { Solves S.path variant ordered.entry.design.now.terms s.now (at values.new) }
     ensures constants { Starts constants values.new }
     ensures size { length values.new ≡ S.path.count }
-    ensures kept { C.evaluates c.new ordered.design.now.terms }
+    ensures kept { C.evaluates c.new ordered.entry.design.now.terms }
     ensures same { C.assumes c.new ≡ C.assumes c.old }
 {
     s.put_given(values);
