@@ -12,6 +12,6 @@ pub struct PipeFile<'a> {
     pub design: &'a Design,
     /// An order in which its signals can be computed.
     pub order: &'a Order,
-    /// What the file does that another needn't.
+    /// Its settings, which the check finds: its obligations depend on them.
     pub settings: &'a Settings,
 }
