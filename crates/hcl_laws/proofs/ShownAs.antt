@@ -5,7 +5,8 @@ use Rattle.hcl_tree.specs.declared.tree.Branch.{Branch, fold_out-Branch}
 use Rattle.hcl_tree.specs.declared.tree.Expr.{Expr, Expr-F, fold-roll-Expr}
 use Rattle.hcl_tree.specs.declared.tree.Expr.TheVariants.{Num, Name, Not, And, Or, Cmp, In, Case, rolls-Num, rolls-Name, rolls-Not, rolls-And, rolls-Or, rolls-Cmp, rolls-In, rolls-Case}
 use Rattle.hcl_read.specs.Grammar.{branch}
-use Rattle.hcl_print.specs.Print.{ShownTerm, shown_as, within, joined, signed_decimal, operator, branches, layer, branch_layer, shown, branch_text}
+use Rattle.y86_base.specs.Numeral.{signed_decimal}
+use Rattle.hcl_print.specs.Print.{ShownTerm, shown_as, within, joined, operator, branches, layer, branch_layer, shown, branch_text}
 
 pub shown_Num : (n : ℕ) → shown (Num n) ≡ shown_as 4 (signed_decimal n)
 shown_Num n = ap shown (sym (rolls-Num n)) ∙ fold-roll-Expr ShownTerm (List ℕ) layer branch_layer (Expr-F.Num n)

@@ -9,7 +9,7 @@ use Rattle.y86_base.specs.declared.number.Number.{Number as Written}
 use Rattle.y86_base.specs.Text.{begins, behind, below_word, is_blank, is_decimal, is_letter, is_line_feed, is_name_byte}
 use Rattle.y86_base.specs.Keyword.{keyword_at}
 use Rattle.y86_base.specs.Number.{IsDecimal, decimal_at, word_within}
-use Rattle.y86_base.specs.Numeral.{numeral}
+use Rattle.y86_base.specs.Numeral.{numeral, signed_decimal}
 use Rattle.y86_base.proofs.Runs.{behind-run, take_while-run}
 use Rattle.y86_base.proofs.Decimals.{decimal_read, below_word_small}
 use Rattle.y86_base.proofs.Numerals.{numeral_digits, numeral_value, word_has_room, all_decimal}
@@ -18,7 +18,7 @@ use Rattle.hcl_tree.specs.declared.tree.CmpOp.TheVariants.{Eq, Ne, Lt, Le, Gt, G
 use Rattle.hcl_read.specs.declared.tokens.Token.{Token}
 use Rattle.hcl_read.specs.declared.tokens.Token.TheVariants.{Number, Quoted, Assign, Semicolon, OrOr, AndAnd, Bang, Compare, OpenParen, CloseParen, OpenBrace, CloseBrace, OpenBracket, CloseBracket, Comma, Colon}
 use Rattle.hcl_read.specs.Tokens.{is_quoted, skipped, word, in_range, number_or, symbol_or_stray, is_closed, token, tokens}
-use Rattle.hcl_print.specs.Print.{operator, signed_decimal}
+use Rattle.hcl_print.specs.Print.{operator}
 use Rattle.hcl_read.proofs.Items.{listed, items_ended, items_first, items_listed}
 
 -- no word or number goes on in this text
